@@ -1,0 +1,11 @@
+pub mod Varints
+pub mod Texts
+pub mod Fields
+pub mod Laws
+pub mod Merging
+pub mod Numbers
+pub mod Writing
+pub mod Packed
+pub mod Running
+pub mod Headings
+pub mod RoundTrip

@@ -1,0 +1,5 @@
+use Rattle.pulsar_wire.proofs.RoundTrip.{round_trip}
+use Rattle.pulsar_wire.proofs.encoding.message.read_again.Goals as goal
+
+pub returns : goal.returns
+returns c = round_trip

@@ -1,0 +1,11 @@
+pub mod Field
+pub mod Row
+pub mod Rows
+pub mod Views
+pub mod Command
+pub mod Fits
+pub mod Refused
+pub mod Merge
+pub mod Shown
+pub mod Written
+pub mod Run

@@ -1,0 +1,5 @@
+//! The commands of the protocol, by family.
+
+pub mod base;
+pub mod connection;
+pub mod topics;

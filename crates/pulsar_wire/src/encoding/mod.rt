@@ -1,0 +1,8 @@
+//! The encoding of Protocol Buffers, as the protocol uses it.
+
+pub mod content;
+pub mod field;
+pub mod message;
+pub mod plain;
+pub mod read_error;
+pub mod sink;

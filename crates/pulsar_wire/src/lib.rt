@@ -1,0 +1,8 @@
+//! Commands of the Pulsar binary protocol as bytes, and back.
+#![tactic(auto)]
+
+pub mod commands;
+pub mod encoding;
+pub mod error;
+pub mod key;
+pub mod wire;

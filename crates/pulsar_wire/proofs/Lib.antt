@@ -9,3 +9,4 @@ pub mod Packed
 pub mod Running
 pub mod Headings
 pub mod RoundTrip
+pub mod Copies

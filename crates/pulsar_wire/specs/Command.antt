@@ -1,5 +1,5 @@
 -- A command: its kind, and at most one body.
-use Rattle.std.specs.Prelude.{ℕ, ℤ, pos, Bool, List, [], ◌∷◌, ◌++◌, Option, Some, None, ◌==◌, if◌then◌else◌}
+use Rattle.std.specs.Prelude.{ℕ, ℤ, pos, Bool, List, [], ◌∷◌, ◌++◌, Option, Some, None, ◌==◌, if◌then◌else◌, codes}
 use Rattle.std.specs.Option.{is_some}
 use Rattle.std.specs.List.{list_all}
 use Rattle.pulsar_wire.specs.Field.{◌>>=◌, Value, Field, fields}
@@ -15,6 +15,15 @@ body_row n =
     else if n == 32 then Some get_topics_of_namespace
     else if n == 33 then Some get_topics_of_namespace_response
     else None
+
+-- the name of the body with this number
+abbrev pub body_name : ℕ → List ℕ
+body_name n =
+    if n == 2 then codes "connect"
+    else if n == 3 then codes "connected"
+    else if n == 32 then codes "get_topics_of_namespace"
+    else if n == 33 then codes "get_topics_of_namespace_response"
+    else []
 
 pub record BodyValues : Type 0 where
   pub number : ℕ

@@ -1,6 +1,7 @@
 pub mod Field
 pub mod Row
 pub mod Rows
+pub mod Enumerations
 pub mod Views
 pub mod Command
 pub mod Fits

@@ -1,10 +1,10 @@
 //! Commands.
 
-ghost use Rattle.std.specs.Prelude.{◌≡◌, ◌<◌, pos, ◌++◌, length, OnOk, IsOk};
+ghost use Rattle.std.specs.Prelude.{◌≡◌, ◌<◌, pos, ◌++◌, length, OnOk, IsOk, IfOk};
 ghost use Rattle.std.specs.Option.{is_some};
 ghost use Rattle.pulsar_wire.specs.Field.{field_at};
 ghost use Rattle.pulsar_wire.specs.Run.{run};
-ghost use Rattle.pulsar_wire.specs.Command.{body_row, heading_of, heading_step, body_reading, any_body, with_kind, body_step, body_spelling, command_reading, command_spelling};
+ghost use Rattle.pulsar_wire.specs.Command.{body_row, body_name, heading_of, heading_step, body_reading, any_body, with_kind, body_step, body_spelling, command_reading, command_spelling};
 ghost use Rattle.pulsar_wire.specs.Row.{spelling};
 ghost use Rattle.pulsar_wire.specs.Merge.{none_of};
 ghost use Rattle.pulsar_wire.specs.Written.{Appends, capped};
@@ -19,9 +19,11 @@ use crate::encoding::message::{Message, put_required, write_message};
 use crate::encoding::plain::Plain;
 use crate::encoding::read_error::ReadError;
 use crate::encoding::sink::{Count, Sink};
+use crate::error::NoMemory;
 use std::alloc::{AllocError, Global};
 
-#[derive(Debug, Drop)]
+/// What a command says, by its type.
+#[derive(Debug, PartialEq, Eq, Drop)]
 pub enum Body {
     Connect(CommandConnect),
     Connected(CommandConnected),
@@ -29,7 +31,8 @@ pub enum Body {
     GetTopicsOfNamespaceResponse(CommandGetTopicsOfNamespaceResponse),
 }
 
-#[derive(Debug, Drop)]
+/// A command of the protocol. Its body decides what it is, and `kind` counts where there is none.
+#[derive(Debug, PartialEq, Eq, Drop)]
 pub struct BaseCommand {
     pub kind: i32,
     pub body: Option<Body>,
@@ -48,6 +51,32 @@ impl Body {
             Body::GetTopicsOfNamespaceResponse(_) => 33,
         }
     }
+
+    /// The name of its command in the protocol.
+    pub fn name(&self) -> &'static str
+        ensures { result.now ≡ body_name (body_values self.now).number }
+    {
+        match self {
+            Body::Connect(_) => "connect",
+            Body::Connected(_) => "connected",
+            Body::GetTopicsOfNamespace(_) => "get_topics_of_namespace",
+            Body::GetTopicsOfNamespaceResponse(_) => "get_topics_of_namespace_response",
+        }
+    }
+
+    /// A body with the same content.
+    pub fn copy(&self) -> Result<Body, NoMemory>
+        ensures { IfOk result (λ body. body_values body ≡ body_values self.now) }
+    {
+        match self {
+            Body::Connect(body) => Ok(Body::Connect(body.copy()?)),
+            Body::Connected(body) => Ok(Body::Connected(body.copy()?)),
+            Body::GetTopicsOfNamespace(body) => Ok(Body::GetTopicsOfNamespace(body.copy()?)),
+            Body::GetTopicsOfNamespaceResponse(body) => {
+                Ok(Body::GetTopicsOfNamespaceResponse(body.copy()?))
+            }
+        }
+    }
 }
 
 impl BaseCommand {
@@ -59,6 +88,20 @@ impl BaseCommand {
             kind: body.number() as i32,
             body: Some(body),
         }
+    }
+
+    /// A command with the same content.
+    pub fn copy(&self) -> Result<BaseCommand, NoMemory>
+        ensures { IfOk result (λ command. command_values command ≡ command_values self.now) }
+    {
+        let body = match &self.body {
+            Some(body) => Some(body.copy()?),
+            None => None,
+        };
+        Ok(BaseCommand {
+            kind: self.kind,
+            body,
+        })
     }
 }
 

@@ -1,7 +1,8 @@
 //! The commands that open a connection.
 
-ghost use Rattle.std.specs.Prelude.{◌≡◌, map, string_bytes};
+ghost use Rattle.std.specs.Prelude.{◌≡◌, string_bytes, codes, IfOk};
 ghost use Rattle.std.specs.Option.{option_map};
+ghost use Rattle.pulsar_wire.specs.Merge.{none_of};
 ghost use Rattle.pulsar_wire.specs.Rows.{connect, connected};
 ghost use Rattle.pulsar_wire.specs.Views.{connect_values, connected_values};
 
@@ -11,10 +12,18 @@ use crate::encoding::message::Message;
 use crate::encoding::plain::{write_optional, write_required};
 use crate::encoding::read_error::ReadError;
 use crate::encoding::sink::Sink;
+use crate::error::NoMemory;
 use std::alloc::{AllocError, Global};
 
+/// How this client names itself and its version to a broker.
+pub fn client_version(alloc: Global) -> Result<String, NoMemory>
+    ensures { IfOk result (λ s. string_bytes s ≡ codes "pulsar-rs-v6.7.2") }
+{
+    Ok(String::from_str(alloc, "pulsar-rs-v6.7.2")?)
+}
+
 /// What a client says first on a connection.
-#[derive(Debug, Drop)]
+#[derive(Clone, Debug, PartialEq, Eq, Drop)]
 pub struct CommandConnect {
     pub client_version: String,
     pub auth_data: Option<Vec<u8>>,
@@ -23,13 +32,12 @@ pub struct CommandConnect {
     pub proxy_to_broker_url: Option<String>,
 }
 
-impl Message for CommandConnect {
-    ghost shape = { connect };
-
-    ghost values = { connect_values };
-
+impl CommandConnect {
+    /// The command whose fields are absent, empty or zero.
     #[tactic(auto, unfolding(crate::specs::Views::connect_values))]
-    fn empty(alloc: Global) -> CommandConnect {
+    pub fn new(alloc: Global) -> CommandConnect
+        ensures { connect_values result ≡ none_of connect }
+    {
         CommandConnect {
             client_version: String::new(alloc),
             auth_data: None,
@@ -37,6 +45,24 @@ impl Message for CommandConnect {
             auth_method_name: None,
             proxy_to_broker_url: None,
         }
+    }
+
+    /// A command with the same content.
+    #[tactic(auto, unfolding(crate::specs::Views::connect_values))]
+    pub fn copy(&self) -> Result<CommandConnect, NoMemory>
+        ensures { IfOk result (λ m. connect_values m ≡ connect_values self.now) }
+    {
+        Ok(self.clone()?)
+    }
+}
+
+impl Message for CommandConnect {
+    ghost shape = { connect };
+
+    ghost values = { connect_values };
+
+    fn empty(alloc: Global) -> CommandConnect {
+        CommandConnect::new(alloc)
     }
 
     #[tactic(auto, unfolding(crate::specs::Merge::put, crate::specs::Views::connect_values))]
@@ -63,11 +89,33 @@ impl Message for CommandConnect {
 }
 
 /// The broker's answer to `connect`.
-#[derive(Debug, Drop)]
+#[derive(Clone, Debug, PartialEq, Eq, Drop)]
 pub struct CommandConnected {
     pub server_version: String,
     pub protocol_version: Option<i32>,
     pub max_message_size: Option<i32>,
+}
+
+impl CommandConnected {
+    /// The command whose fields are absent, empty or zero.
+    #[tactic(auto, unfolding(crate::specs::Views::connected_values))]
+    pub fn new(alloc: Global) -> CommandConnected
+        ensures { connected_values result ≡ none_of connected }
+    {
+        CommandConnected {
+            server_version: String::new(alloc),
+            protocol_version: None,
+            max_message_size: None,
+        }
+    }
+
+    /// A command with the same content.
+    #[tactic(auto, unfolding(crate::specs::Views::connected_values))]
+    pub fn copy(&self) -> Result<CommandConnected, NoMemory>
+        ensures { IfOk result (λ m. connected_values m ≡ connected_values self.now) }
+    {
+        Ok(self.clone()?)
+    }
 }
 
 impl Message for CommandConnected {
@@ -75,13 +123,8 @@ impl Message for CommandConnected {
 
     ghost values = { connected_values };
 
-    #[tactic(auto, unfolding(crate::specs::Views::connected_values))]
     fn empty(alloc: Global) -> CommandConnected {
-        CommandConnected {
-            server_version: String::new(alloc),
-            protocol_version: None,
-            max_message_size: None,
-        }
+        CommandConnected::new(alloc)
     }
 
     #[tactic(auto, unfolding(crate::specs::Merge::put, crate::specs::Views::connected_values))]

@@ -1,7 +1,9 @@
 //! The commands that ask for the topics of a namespace.
 
-ghost use Rattle.std.specs.Prelude.{◌≡◌, map, string_bytes};
+ghost use Rattle.std.specs.Prelude.{◌≡◌, map, string_bytes, IfOk};
 ghost use Rattle.std.specs.Option.{option_map};
+ghost use Rattle.pulsar_wire.specs.Enumerations.{mode_number};
+ghost use Rattle.pulsar_wire.specs.Merge.{none_of};
 ghost use Rattle.pulsar_wire.specs.Rows.{get_topics_of_namespace, get_topics_of_namespace_response};
 ghost use Rattle.pulsar_wire.specs.Views.{get_topics_of_namespace_values, get_topics_of_namespace_response_values};
 
@@ -11,13 +13,57 @@ use crate::encoding::message::Message;
 use crate::encoding::plain::{write_optional, write_repeated, write_required};
 use crate::encoding::read_error::ReadError;
 use crate::encoding::sink::Sink;
+use crate::error::NoMemory;
 use std::alloc::{AllocError, Global};
 
-#[derive(Debug, Drop)]
+/// Which topics of a namespace are asked for.
+#[derive(Clone, Copy, Debug, PartialEq, Eq)]
+pub enum Mode {
+    Persistent,
+    NonPersistent,
+    All,
+}
+
+impl From<Mode> for i32 {
+    ghost from_gives = { λ mode n. n ≡ mode_number mode };
+
+    fn from(mode: Mode) -> i32 {
+        match mode {
+            Mode::Persistent => 0,
+            Mode::NonPersistent => 1,
+            Mode::All => 2,
+        }
+    }
+}
+
+/// Asks for the topics of a namespace.
+#[derive(Clone, Debug, PartialEq, Eq, Drop)]
 pub struct CommandGetTopicsOfNamespace {
     pub request_id: u64,
     pub namespace: String,
     pub mode: Option<i32>,
+}
+
+impl CommandGetTopicsOfNamespace {
+    /// The command whose fields are absent, empty or zero.
+    #[tactic(auto, unfolding(crate::specs::Views::get_topics_of_namespace_values))]
+    pub fn new(alloc: Global) -> CommandGetTopicsOfNamespace
+        ensures { get_topics_of_namespace_values result ≡ none_of get_topics_of_namespace }
+    {
+        CommandGetTopicsOfNamespace {
+            request_id: 0,
+            namespace: String::new(alloc),
+            mode: None,
+        }
+    }
+
+    /// A command with the same content.
+    #[tactic(auto, unfolding(crate::specs::Views::get_topics_of_namespace_values))]
+    pub fn copy(&self) -> Result<CommandGetTopicsOfNamespace, NoMemory>
+        ensures { IfOk result (λ m. get_topics_of_namespace_values m ≡ get_topics_of_namespace_values self.now) }
+    {
+        Ok(self.clone()?)
+    }
 }
 
 impl Message for CommandGetTopicsOfNamespace {
@@ -25,13 +71,8 @@ impl Message for CommandGetTopicsOfNamespace {
 
     ghost values = { get_topics_of_namespace_values };
 
-    #[tactic(auto, unfolding(crate::specs::Views::get_topics_of_namespace_values))]
     fn empty(alloc: Global) -> CommandGetTopicsOfNamespace {
-        CommandGetTopicsOfNamespace {
-            request_id: 0,
-            namespace: String::new(alloc),
-            mode: None,
-        }
+        CommandGetTopicsOfNamespace::new(alloc)
     }
 
     #[tactic(auto, unfolding(crate::specs::Merge::put, crate::specs::Views::get_topics_of_namespace_values))]
@@ -53,10 +94,32 @@ impl Message for CommandGetTopicsOfNamespace {
     }
 }
 
-#[derive(Debug, Drop)]
+/// The broker's answer to `get_topics_of_namespace`.
+#[derive(Clone, Debug, PartialEq, Eq, Drop)]
 pub struct CommandGetTopicsOfNamespaceResponse {
     pub request_id: u64,
     pub topics: Vec<String>,
+}
+
+impl CommandGetTopicsOfNamespaceResponse {
+    /// The command whose fields are absent, empty or zero.
+    #[tactic(auto, unfolding(crate::specs::Views::get_topics_of_namespace_response_values))]
+    pub fn new(alloc: Global) -> CommandGetTopicsOfNamespaceResponse
+        ensures { get_topics_of_namespace_response_values result ≡ none_of get_topics_of_namespace_response }
+    {
+        CommandGetTopicsOfNamespaceResponse {
+            request_id: 0,
+            topics: Vec::new(alloc),
+        }
+    }
+
+    /// A command with the same content.
+    #[tactic(auto, using(crate::proofs::Copies::map_copied), unfolding(crate::specs::Views::get_topics_of_namespace_response_values))]
+    pub fn copy(&self) -> Result<CommandGetTopicsOfNamespaceResponse, NoMemory>
+        ensures { IfOk result (λ m. get_topics_of_namespace_response_values m ≡ get_topics_of_namespace_response_values self.now) }
+    {
+        Ok(self.clone()?)
+    }
 }
 
 impl Message for CommandGetTopicsOfNamespaceResponse {
@@ -64,12 +127,8 @@ impl Message for CommandGetTopicsOfNamespaceResponse {
 
     ghost values = { get_topics_of_namespace_response_values };
 
-    #[tactic(auto, unfolding(crate::specs::Views::get_topics_of_namespace_response_values))]
     fn empty(alloc: Global) -> CommandGetTopicsOfNamespaceResponse {
-        CommandGetTopicsOfNamespaceResponse {
-            request_id: 0,
-            topics: Vec::new(alloc),
-        }
+        CommandGetTopicsOfNamespaceResponse::new(alloc)
     }
 
     #[tactic(auto, unfolding(crate::specs::Merge::put, crate::specs::Views::get_topics_of_namespace_response_values))]

@@ -1,0 +1,5 @@
+pub mod Message
+pub mod Sized
+pub mod Frame
+pub mod Key
+pub mod Shown

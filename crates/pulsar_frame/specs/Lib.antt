@@ -3,3 +3,5 @@ pub mod Sized
 pub mod Frame
 pub mod Key
 pub mod Shown
+pub mod History
+pub mod Laws

@@ -1,0 +1,4 @@
+pub mod Sized
+pub mod Streams
+pub mod Histories
+pub mod Written

@@ -1,0 +1,7 @@
+pub mod Message
+pub mod Sized
+pub mod Frame
+pub mod Key
+pub mod Shown
+pub mod History
+pub mod Laws

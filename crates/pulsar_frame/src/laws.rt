@@ -1,0 +1,28 @@
+//! What follows from the definitions, whatever the code.
+
+ghost use Rattle.pulsar_frame.specs.Laws.{CutsFrameByFrame, CutsPiecesAsOne, StaysBad, GivesTheMessagesFed, ReadsFramesWritten};
+
+/// A stream is cut frame by frame from its front.
+pub fn cuts_frame_by_frame()
+    ensures { CutsFrameByFrame }
+{}
+
+/// What comes in two pieces is cut as one.
+pub fn cuts_pieces_as_one()
+    ensures { CutsPiecesAsOne }
+{}
+
+/// Behind a frame that is refused nothing is read.
+pub fn stays_bad()
+    ensures { StaysBad }
+{}
+
+/// Whatever the pieces, a reader gives the messages of all that was fed.
+pub fn gives_the_messages_fed()
+    ensures { GivesTheMessagesFed }
+{}
+
+/// A frame that was written is read again, whatever follows.
+pub fn reads_frames_written()
+    ensures { ReadsFramesWritten }
+{}

@@ -1,0 +1,8 @@
+//! Messages of the Pulsar binary protocol in frames, and the stream of bytes that carries them.
+#![tactic(auto)]
+
+pub mod codec;
+mod frame;
+pub mod laws;
+pub mod message;
+pub mod reader;

@@ -1,0 +1,5 @@
+pub mod Lists
+pub mod Pendings
+pub mod Rows
+pub mod Runs
+pub mod Streams

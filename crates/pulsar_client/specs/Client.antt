@@ -1,0 +1,20 @@
+-- What a client stands for.
+use Rattle.std.specs.Prelude.{◌≡◌, List, true, false}
+use Rattle.pulsar_client.specs.declared.options.ClientOptions.{ClientOptions}
+use Rattle.pulsar_client.specs.declared.pulsar.Pulsar.{Pulsar}
+use Rattle.pulsar_client.specs.Good.{Step}
+use Rattle.pulsar_client.specs.Log.{Chosen}
+use Rattle.pulsar_client.specs.Tables.{Stands}
+
+-- what the options choose
+abbrev pub chosen : ClientOptions → Chosen
+chosen options = record { first_number = options.first_number }
+
+-- a step ran out of memory
+abbrev pub HasFailed : Pulsar → Type 0
+HasFailed c = c.failed ≡ true
+
+-- a client stands for a history where its tables do, and it has not run out of memory
+pub record StandsFor (o : Chosen) (c : Pulsar) (history : List Step) : Type 0 where
+  pub stands : Stands o c.tables history
+  pub whole : c.failed ≡ false

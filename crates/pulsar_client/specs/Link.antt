@@ -1,0 +1,182 @@
+-- One link. Its history is the list of its acts, newest first; it knows nothing of other links and of calls.
+-- (Pulsar binary protocol, Connection establishment)
+use Rattle.std.specs.Prelude.{ℕ, ◌+◌, ◌^◌, nat_lt, Bool, true, false, if◌then◌else◌, List, [], ◌∷◌, ◌++◌, length, take, drop, filter, map, Option, Some, None, not}
+use Rattle.std.specs.Option.{option_to_list}
+use Rattle.pulsar_wire.specs.declared.key.RequestKey.{RequestKey}
+use Rattle.pulsar_wire.specs.declared.key.RequestKey.TheVariants.{RequestId}
+use Rattle.pulsar_frame.specs.Message.{MessageValues}
+use Rattle.pulsar_wire.specs.Command.{command_spelling}
+use Rattle.pulsar_frame.specs.Sized.{with_size}
+use Rattle.pulsar_frame.specs.Frame.{frame_bytes, cut, bad}
+use Rattle.pulsar_client.specs.declared.act.Arrival.{Arrival}
+use Rattle.pulsar_client.specs.declared.act.Arrival.TheVariants.{Message, Bad}
+use Rattle.pulsar_client.specs.declared.act.Outcome.{Outcome}
+use Rattle.pulsar_client.specs.declared.act.Outcome.TheVariants.{Replied, Disconnected}
+use Rattle.pulsar_client.specs.declared.act.Request.{Request}
+use Rattle.pulsar_client.specs.declared.act.Request.TheVariants.{Topics}
+use Rattle.pulsar_client.specs.declared.act.LinkAct.{LinkAct}
+use Rattle.pulsar_client.specs.declared.act.LinkAct.TheVariants.{Opens, Comes, Drains, Requests, Spends, Greets, Readied, Ended, Settled}
+use Rattle.pulsar_client.specs.declared.session.link.Stage.{Stage}
+use Rattle.pulsar_client.specs.declared.session.link.Stage.TheVariants.{Dialing, Handshaking, Ready, Over}
+use Rattle.pulsar_client.specs.Messages.{connect_message, topics_message, read, is_connected, is_number}
+
+-- WHAT COMES
+
+-- what comes of a stream: its messages, and behind them what is no frame
+abbrev pub arrivals : List ℕ → List Arrival
+arrivals stream = map (λ m. Message (read m)) (cut stream) ++ map Bad (option_to_list (bad stream))
+
+-- WHAT A HISTORY SAYS. It begins as the link is dialed, with the number of its first request.
+
+-- the newest of its turns says where a link stands
+abbrev pub stage : List LinkAct → Stage
+stage [] = Dialing
+stage (Greets ∷ h) = Handshaking
+stage (Readied ∷ h) = Ready
+stage (Ended closed ∷ h) = Over
+stage (_ ∷ h) = stage h
+
+abbrev pub is_dialing : Stage → Bool
+is_dialing Dialing = true
+is_dialing _ = false
+
+abbrev pub is_open : Stage → Bool
+is_open Handshaking = true
+is_open Ready = true
+is_open _ = false
+
+abbrev pub is_ready : Stage → Bool
+is_ready Ready = true
+is_ready _ = false
+
+-- the next number that is drawn for a request
+abbrev pub drawn : LinkAct → ℕ → ℕ
+drawn (Requests request ticket) id = id + 1
+drawn Spends id = id + 1
+drawn _ id = id
+
+abbrev pub next_id : ℕ → List LinkAct → ℕ
+next_id first [] = first
+next_id first (act ∷ h) = drawn act (next_id first h)
+
+-- the message of a request, with its number
+abbrev pub request_message : ℕ → Request → MessageValues
+request_message id (Topics namespace mode) = topics_message id namespace mode
+
+-- each size of its frame fits its field
+abbrev pub fits_frame : MessageValues → Bool
+fits_frame m = nat_lt (length (with_size (command_spelling m.command))) (2 ^ 32)
+
+-- the frame that an act queues, from the next number of the link
+abbrev pub frame_of : LinkAct → ℕ → Option (List ℕ)
+frame_of Greets id = Some (frame_bytes connect_message)
+frame_of (Requests request ticket) id = Some (frame_bytes (request_message id request))
+frame_of _ id = None
+
+-- how many frames were queued: the next one has this place
+abbrev pub counted : Option (List ℕ) → ℕ → ℕ
+counted None n = n
+counted (Some frame) n = n + 1
+
+abbrev pub queued : List LinkAct → ℕ
+queued [] = 0
+queued (act ∷ h) = counted (frame_of act 0) (queued h)
+
+-- The frames that are queued and not written, in order. A drain while the link is open writes the first of them, as many
+-- as it says. Nothing is left to write at a link's end.
+abbrev pub left_by : LinkAct → Stage → List (List ℕ) → List (List ℕ)
+left_by (Drains most) s frames = if is_open s then drop most frames else frames
+left_by (Ended closed) s frames = []
+left_by _ s frames = frames
+
+abbrev pub with_frame : Option (List ℕ) → List (List ℕ) → List (List ℕ)
+with_frame None frames = frames
+with_frame (Some frame) frames = frames ++ frame ∷ []
+
+abbrev pub unwritten : ℕ → List LinkAct → List (List ℕ)
+unwritten first [] = []
+unwritten first (act ∷ h) = with_frame (frame_of act (next_id first h)) (left_by act (stage h) (unwritten first h))
+
+-- the frames that a drain writes
+abbrev pub written_by : LinkAct → Stage → List (List ℕ) → List (List ℕ)
+written_by (Drains most) s frames = if is_open s then take most frames else []
+written_by _ s frames = []
+
+-- a request: its number and its place on the link, and the call that asked
+pub record Pending : Type 0 where
+  pub id : ℕ
+  pub place : ℕ
+  pub ticket : ℕ
+
+-- the number of the request that a frame of this key is about
+abbrev pub request_id : Option RequestKey → Option ℕ
+request_id (Some (RequestId id)) = Some id
+request_id _ = None
+
+-- a frame of this key bears the key of the request of this number
+abbrev pub bears : Option RequestKey → ℕ → Bool
+bears key id = is_number id (request_id key)
+
+-- what settles a request: a message that bears its key, or the end of the link
+abbrev pub settles : LinkAct → Pending → Option Outcome
+settles (Comes (Message m)) r = if bears m.key r.id then Some (Replied m) else None
+settles (Ended closed) r = Some Disconnected
+settles _ r = None
+
+-- the requests that an act leaves waiting
+abbrev pub left_waiting : LinkAct → List Pending → List Pending
+left_waiting (Comes (Message m)) rs = filter (λ r. not (bears m.key r.id)) rs
+left_waiting (Ended closed) rs = []
+left_waiting _ rs = rs
+
+abbrev pub with_request : LinkAct → ℕ → ℕ → List Pending → List Pending
+with_request (Requests request ticket) id place rs = rs ++ record { id = id; place = place; ticket = ticket } ∷ []
+with_request _ id place rs = rs
+
+-- the requests that no later act has settled, in the order of their queueing
+abbrev pub pending : ℕ → List LinkAct → List Pending
+pending first [] = []
+pending first (act ∷ h) = with_request act (next_id first h) (queued h) (left_waiting act (pending first h))
+
+-- what a rule sees of a link
+pub record Seen : Type 0 where
+  pub stage : Stage
+  pub next_id : ℕ
+  pub queued : ℕ
+  pub unwritten : List (List ℕ)
+  pub pending : List Pending
+
+abbrev pub seen : ℕ → List LinkAct → Seen
+seen first h = record { stage = stage h; next_id = next_id first h; queued = queued h; unwritten = unwritten first h; pending = pending first h }
+
+-- WHAT A LINK MAKES OF AN ACT
+
+abbrev pub disconnected : Pending → LinkAct
+disconnected r = Settled r.place r.ticket Disconnected
+
+-- the requests that an act settles, and as what
+abbrev pub settled : LinkAct → List Pending → List LinkAct
+settled (Comes (Message m)) rs = map (λ r. Settled r.place r.ticket (Replied m)) (filter (λ r. bears m.key r.id) rs)
+settled (Ended closed) rs = map disconnected rs
+settled _ rs = []
+
+-- Opening a link that dials makes it greet. The first frame makes it ready where it is `connected`, and ends it elsewhere.
+-- What is no frame ends it, too.
+abbrev pub at_opening : Stage → List LinkAct
+at_opening Dialing = Greets ∷ []
+at_opening _ = []
+
+abbrev pub at_arrival : Stage → Arrival → List LinkAct
+at_arrival Handshaking (Message m) = (if is_connected m then Readied else Ended true) ∷ []
+at_arrival Handshaking (Bad reason) = Ended true ∷ []
+at_arrival Ready (Bad reason) = Ended true ∷ []
+at_arrival _ _ = []
+
+abbrev pub turns : Stage → LinkAct → List LinkAct
+turns s Opens = at_opening s
+turns s (Comes arrival) = at_arrival s arrival
+turns s _ = []
+
+-- first it settles requests, and then it turns
+abbrev pub link_rule : Seen → LinkAct → List LinkAct
+link_rule s act = settled act s.pending ++ turns s.stage act

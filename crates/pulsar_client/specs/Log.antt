@@ -1,0 +1,228 @@
+-- The log of a run, newest entry first: the events, and the acts between them.
+-- First the readings of a log, and then what arises from an act.
+use Rattle.std.specs.Prelude.{ℕ, ◌+◌, ◌-◌, ◌^◌, ◌==◌, nat_lt, Bool, true, false, ◌&&◌, if◌then◌else◌, List, [], ◌∷◌, ◌++◌, map, Option, Some, None}
+use Rattle.std.specs.Option.{unwrap_or}
+use Rattle.std.specs.Ordering.{nat_cmp}
+use Rattle.std.specs.BTreeSet.{insert_key}
+use Rattle.pulsar_wire.specs.declared.error.IoKind.TheVariants.{Other}
+use Rattle.pulsar_frame.specs.Frame.{left}
+use Rattle.pulsar_client.specs.declared.act.Outcome.{Outcome}
+use Rattle.pulsar_client.specs.declared.act.Outcome.TheVariants as outcome
+use Rattle.pulsar_client.specs.declared.act.Request.{Request}
+use Rattle.pulsar_client.specs.declared.act.Procedure.{Procedure}
+use Rattle.pulsar_client.specs.declared.act.Procedure.TheVariants as procedure
+use Rattle.pulsar_client.specs.declared.act.Action.{Action}
+use Rattle.pulsar_client.specs.declared.act.Action.TheVariants.{Get, Ask, Answer, Finish, Rest}
+use Rattle.pulsar_client.specs.declared.act.LinkAct.{LinkAct}
+use Rattle.pulsar_client.specs.declared.act.LinkAct.TheVariants.{Opens, Comes, Drains, Requests, Spends, Readied, Ended, Settled}
+use Rattle.pulsar_client.specs.declared.act.Act.{Act}
+use Rattle.pulsar_client.specs.declared.act.Act.TheVariants.{Calls, Told, Dials, Waits, Answers, Builds, OnLink}
+use Rattle.pulsar_client.specs.declared.tables.Base.{Base}
+use Rattle.pulsar_client.specs.declared.tables.Base.TheVariants.{Nothing, Runs, Serves}
+use Rattle.pulsar_client.specs.Content as content
+use Rattle.pulsar_client.specs.Content.{Asked, Heard, Called, Opened, Bytes, Drain, Said, Failed, Exhausted}
+use Rattle.pulsar_client.specs.Link.{arrivals, fits_frame, Seen, seen, is_dialing, is_open, is_ready, request_message, link_rule}
+use Rattle.pulsar_client.specs.Plan.{next}
+
+pub data Entry : Type 0 where
+  Begins : Heard → Entry
+  Does : Act → Entry
+
+-- what a client's options say of a run: the number of the first request of each link
+pub record Chosen : Type 0 where
+  pub first_number : ℕ
+
+-- the greatest number of a counter, which is never given out
+abbrev pub spent : ℕ
+spent = 2 ^ 64 - 1
+
+-- READINGS
+
+-- a Build call has ended Ok
+abbrev pub built : List Entry → Bool
+built [] = false
+built (Does (Builds ticket) ∷ log) = true
+built (_ ∷ log) = built log
+
+-- how many calls were made; the next call has this ticket
+abbrev pub calls : List Entry → ℕ
+calls [] = 0
+calls (Does (Calls p) ∷ log) = calls log + 1
+calls (_ ∷ log) = calls log
+
+-- the procedure of a call
+abbrev pub procedure_of : ℕ → List Entry → Option Procedure
+procedure_of t [] = None
+procedure_of t (Does (Calls p) ∷ log) = if t == calls log then Some p else procedure_of t log
+procedure_of t (_ ∷ log) = procedure_of t log
+
+-- the outcomes of a call so far, oldest first
+abbrev pub outcomes_of : ℕ → List Entry → List Outcome
+outcomes_of t [] = []
+outcomes_of t (Does (Calls p) ∷ log) = if t == calls log then [] else outcomes_of t log
+outcomes_of t (Does (Told ticket outcome) ∷ log) = if t == ticket then outcomes_of t log ++ outcome ∷ [] else outcomes_of t log
+outcomes_of t (_ ∷ log) = outcomes_of t log
+
+-- how many links were started; the next link has this number
+abbrev pub links : List Entry → ℕ
+links [] = 0
+links (Does (Dials ticket) ∷ log) = links log + 1
+links (_ ∷ log) = links log
+
+-- the history of a link, newest act first: the log's part that names it
+abbrev pub of_link : ℕ → List Entry → List LinkAct
+of_link l [] = []
+of_link l (Does (Dials ticket) ∷ log) = if l == links log then [] else of_link l log
+of_link l (Does (OnLink k act) ∷ log) = if l == k then act ∷ of_link l log else of_link l log
+of_link l (_ ∷ log) = of_link l log
+
+-- what is seen of a link, where it was started
+abbrev pub seen_link : Chosen → List Entry → ℕ → Option Seen
+seen_link o log l = if nat_lt l (links log) then Some (seen o.first_number (of_link l log)) else None
+
+-- a link is in this state, if there is one
+abbrev pub is_at : (Seen → Bool) → Option Seen → Bool
+is_at test None = false
+is_at test (Some s) = test s
+
+abbrev pub dials : Option Seen → Bool
+dials s = is_at (λ s. is_dialing s.stage) s
+
+abbrev pub opens : Option Seen → Bool
+opens s = is_at (λ s. is_open s.stage) s
+
+abbrev pub readies : Option Seen → Bool
+readies s = is_at (λ s. is_ready s.stage) s
+
+-- the stream of a link: the pieces that came while it was open, joined
+abbrev pub stream : Chosen → ℕ → List Entry → List ℕ
+stream o l [] = []
+stream o l (Begins (Bytes k piece) ∷ log) = if (l == k) && opens (seen_link o log l) then stream o l log ++ piece else stream o l log
+stream o l (_ ∷ log) = stream o l log
+
+-- the bytes of a link's stream that stand behind its frames, where it was started
+abbrev pub unread_of : Chosen → List Entry → ℕ → Option (List ℕ)
+unread_of o log l = if nat_lt l (links log) then Some (left (stream o l log)) else None
+
+-- the newest turn of the address: an attempt runs, a link serves, or nothing
+abbrev pub base : List Entry → Base
+base [] = Nothing
+base (Does (Dials ticket) ∷ log) = Runs ticket
+base (Does (OnLink k Readied) ∷ log) = Serves k
+base (Does (OnLink k (Ended closed)) ∷ log) = Nothing
+base (_ ∷ log) = base log
+
+-- the calls that wait for the attempt, in the order of their tickets
+abbrev pub waiting : List Entry → List ℕ
+waiting [] = []
+waiting (Does (Waits ticket) ∷ log) = insert_key nat_cmp (waiting log) ticket
+waiting (Does (OnLink k Readied) ∷ log) = []
+waiting (Does (OnLink k (Ended closed)) ∷ log) = []
+waiting (_ ∷ log) = waiting log
+
+-- WHAT A RULE SEES
+
+pub record View : Type 0 where
+  pub calls : ℕ
+  pub links : ℕ
+  pub is_built : Bool
+  pub at_outcome : ℕ → Outcome → Action
+  pub base : Base
+  pub waiting : List ℕ
+  pub link : ℕ → Option Seen
+  pub unread : ℕ → Option (List ℕ)
+
+-- what a call does at an outcome
+abbrev pub action_at : Option Procedure → List Outcome → Outcome → Action
+action_at None outcomes o = Rest
+action_at (Some p) outcomes o = next p (outcomes ++ o ∷ [])
+
+abbrev pub view : Chosen → List Entry → View
+view o log =
+    record {
+      calls = calls log;
+      links = links log;
+      is_built = built log;
+      at_outcome = λ t outcome. action_at (procedure_of t log) (outcomes_of t log) outcome;
+      base = base log;
+      waiting = waiting log;
+      link = seen_link o log;
+      unread = unread_of o log;
+    }
+
+-- RULES
+
+-- GET the link of the address: a ready one serves at once, a running attempt is waited for, else one is started
+abbrev pub gets : Base → ℕ → List Act
+gets Nothing t = Dials t ∷ Waits t ∷ []
+gets (Runs starter) t = Waits t ∷ []
+gets (Serves link) t = Told t (outcome.GotLink link) ∷ []
+
+-- A request is asked for on a link: it is refused where the link isn't ready, where its numbers are spent, and where its
+-- frame doesn't fit, and else queued.
+abbrev pub asks : ℕ → ℕ → Request → Seen → List Act
+asks t link request s =
+    if is_ready s.stage then
+    (if s.next_id == spent then Told t outcome.Exhausted ∷ []
+    else if fits_frame (request_message s.next_id request) then OnLink link (Requests request t) ∷ []
+    else OnLink link Spends ∷ Told t outcome.Unencodable ∷ [])
+    else Told t outcome.Disconnected ∷ []
+
+abbrev pub asks_on : ℕ → ℕ → Request → Option Seen → List Act
+asks_on t link request None = Told t outcome.Disconnected ∷ []
+asks_on t link request (Some s) = asks t link request s
+
+-- an action, as acts
+abbrev pub performs : View → ℕ → Action → List Act
+performs v t Get = gets v.base t
+performs v t (Ask link request) = asks_on t link request (v.link link)
+performs v t (Answer answer) = Answers t answer ∷ []
+performs v t Finish = Builds t ∷ []
+performs v t Rest = []
+
+-- what a link makes of an act; nothing where there is no such link
+abbrev pub link_acts : ℕ → Option Seen → LinkAct → List Act
+link_acts l None act = []
+link_acts l (Some s) act = map (OnLink l) (link_rule s act)
+
+-- what arises from an act at once: it stands in front of all that is due
+abbrev pub at_once : View → Act → List Act
+at_once v (Calls p) = performs v v.calls (next p [])
+at_once v (Told t outcome) = performs v t (v.at_outcome t outcome)
+at_once v (OnLink l act) = link_acts l (v.link l) act
+at_once v _ = []
+
+-- the attempt failed: the call that started it is told why, and the others that it is canceled
+abbrev pub fails : Base → List ℕ → List Act
+fails (Runs starter) waiting = map (λ t. Told t (if t == starter then outcome.Failed Other else outcome.Canceled)) waiting
+fails _ waiting = []
+
+-- the calls that an act serves: they stand behind all that is due
+abbrev pub serves : View → Act → List Act
+serves v (OnLink l (Settled place ticket outcome)) = Told ticket outcome ∷ []
+serves v (OnLink l Readied) = map (λ t. Told t (outcome.GotLink l)) v.waiting
+serves v (OnLink l (Ended closed)) = fails v.base v.waiting
+serves v _ = []
+
+-- EVENTS
+
+-- the procedure of a call: it is refused where the client isn't built
+abbrev pub procedure_for : Bool → Asked → Procedure
+procedure_for is_built content.Build = procedure.Build
+procedure_for is_built (content.Topics namespace mode) = if is_built then procedure.Topics namespace mode else procedure.Refused
+
+-- a call is made, unless the tickets are spent
+abbrev pub calls_for : View → Asked → List Act
+calls_for v c = if v.calls == spent then Answers spent (Failed Exhausted) ∷ [] else Calls (procedure_for v.is_built c) ∷ []
+
+-- what an event brings at once. One that names no live link, or a state that the link isn't in, brings nothing.
+abbrev pub brings : View → Heard → List Act
+brings v (Called c) = calls_for v c
+brings v (Opened l) = if dials (v.link l) then OnLink l Opens ∷ [] else []
+brings v (Bytes l piece) = []
+brings v (Drain l most) = if opens (v.link l) then OnLink l (Drains most) ∷ [] else []
+
+-- the frames that a piece brings are those that its bytes complete; they come one by one
+abbrev pub frames_of : View → Heard → List Act
+frames_of v (Bytes l piece) = if opens (v.link l) then map (λ a. OnLink l (Comes a)) (arrivals (unwrap_or (v.unread l) [] ++ piece)) else []
+frames_of v _ = []

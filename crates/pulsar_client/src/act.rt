@@ -1,0 +1,106 @@
+//! What a step is made of: acts, each one thing that happens to one thing.
+
+use crate::content::{Received, Text, Verdict};
+use pulsar_wire::commands::topics::Mode;
+use pulsar_wire::error::{IoKind, Reason};
+
+/// What comes out of the bytes of a connection.
+#[derive(Drop)]
+pub enum Arrival {
+    Message(Received),
+    /// What follows is no frame. Nothing is read behind it.
+    Bad(Reason),
+}
+
+/// What a call's procedure is told.
+#[derive(Drop)]
+pub enum Outcome {
+    /// The address has this link, which is ready.
+    GotLink(u64),
+    /// The attempt that the call started failed.
+    Failed(IoKind),
+    /// The attempt that the call waited for failed.
+    Canceled,
+    /// The reply to its request came.
+    Replied(Received),
+    /// The link of its request ended, or was not ready.
+    Disconnected,
+    /// The numbers of the link's requests are spent.
+    Exhausted,
+    /// A size of its frame does not fit.
+    Unencodable,
+}
+
+/// What a call asks of the broker.
+#[derive(Drop)]
+pub enum Request {
+    Topics { namespace: Text, mode: Mode },
+}
+
+/// A call's procedure, with its words.
+#[derive(Drop)]
+pub enum Procedure {
+    Build,
+    Topics { namespace: Text, mode: Mode },
+    /// The client was not built.
+    Refused,
+}
+
+/// What a procedure does next.
+#[derive(Drop)]
+pub enum Action {
+    /// Get the ready link of the address.
+    Get,
+    /// Send a request on the link.
+    Ask { link: u64, request: Request },
+    /// End with this answer.
+    Answer(Verdict),
+    /// The client is built.
+    Finish,
+    /// Nothing.
+    Rest,
+}
+
+/// What happens to one link: first what comes to it, then what it makes of that.
+#[derive(Drop)]
+pub enum LinkAct {
+    Opens,
+    Comes(Arrival),
+    Drains(u64),
+    /// A request of this call is queued.
+    Requests {
+        request: Request,
+        ticket: u64,
+    },
+    /// A number is drawn for a request that is not queued.
+    Spends,
+    /// The link is open: the connect frame is queued.
+    Greets,
+    /// The link is ready.
+    Readied,
+    /// The link ends, and is closed where the client ends it.
+    Ended {
+        closed: bool,
+    },
+    /// A request of this call waits no longer.
+    Settled {
+        place: u64,
+        ticket: u64,
+        outcome: Outcome,
+    },
+}
+
+/// One act of a run.
+#[derive(Drop)]
+pub enum Act {
+    Calls(Procedure),
+    Told { ticket: u64, outcome: Outcome },
+    /// This call starts an attempt.
+    Dials { ticket: u64 },
+    /// This call waits for the attempt.
+    Waits { ticket: u64 },
+    Answers { ticket: u64, verdict: Verdict },
+    /// This call has built the client.
+    Builds { ticket: u64 },
+    OnLink { link: u64, act: LinkAct },
+}

@@ -1,0 +1,122 @@
+//! What owns memory inside an act. Contracts see it by its content.
+
+ghost use Rattle.std.specs.Prelude.{◌≡◌, ℕ, List, IfOk, string_bytes};
+ghost use Rattle.pulsar_frame.specs.Shown.{message_values};
+ghost use Rattle.pulsar_client.specs.Content.{Said, said};
+ghost use Rattle.pulsar_client.specs.Messages.{Reply, is_connected, read};
+
+use crate::effect::Answer;
+use pulsar_frame::message::Message;
+use pulsar_wire::commands::base::Body;
+use pulsar_wire::error::{Error, NoMemory};
+use pulsar_wire::key::RequestKey;
+use std::marker::Model;
+
+/// A text.
+#[derive(Drop)]
+pub struct Text {
+    text: String,
+}
+
+impl Model for Text {
+    ghost Value = { List ℕ };
+
+    ghost view = { λ t. string_bytes t.text };
+}
+
+impl Text {
+    pub fn new(text: String) -> Text
+        ensures { result ≡ string_bytes text }
+    {
+        Text { text }
+    }
+
+    pub fn copy(&self) -> Result<Text, NoMemory>
+        ensures { IfOk result (λ t. t ≡ self.now) }
+    {
+        let text = self.text.clone()?;
+        Ok(Text { text })
+    }
+
+    pub fn into_inner(self) -> String
+        ensures { string_bytes result ≡ self }
+    {
+        let Text { text } = self;
+        text
+    }
+}
+
+/// A message of the broker, as the client reads it.
+#[derive(Drop)]
+pub struct Received {
+    message: Message,
+}
+
+impl Model for Received {
+    ghost Value = { Reply };
+
+    ghost view = { λ r. read (message_values r.message) };
+}
+
+impl Received {
+    pub fn new(message: Message) -> Received
+        ensures { result ≡ read (message_values message) }
+    {
+        Received { message }
+    }
+
+    pub fn key(&self) -> Option<RequestKey>
+        ensures { result ≡ self.now.key }
+    {
+        self.message.request_key()
+    }
+
+    /// The broker greets.
+    pub fn is_connected(&self) -> bool
+        ensures { result ≡ is_connected self.now }
+    {
+        match &self.message.command.body {
+            Some(Body::Connected(_)) => true,
+            Some(
+                Body::Connect(_)
+                | Body::GetTopicsOfNamespace(_)
+                | Body::GetTopicsOfNamespaceResponse(_),
+            )
+            | None => false,
+        }
+    }
+
+    pub fn into_message(self) -> Message
+        ensures { read (message_values result) ≡ self }
+    {
+        let Received { message } = self;
+        message
+    }
+}
+
+/// What a call ends with.
+#[derive(Drop)]
+pub struct Verdict {
+    answer: Result<Answer, Error>,
+}
+
+impl Model for Verdict {
+    ghost Value = { Said };
+
+    ghost view = { λ v. said v.answer };
+}
+
+impl Verdict {
+    pub fn new(answer: Result<Answer, Error>) -> Verdict
+        ensures { result ≡ said answer }
+    {
+        Verdict { answer }
+    }
+
+    pub fn into_inner(self) -> Result<Answer, Error>
+        ensures { said result ≡ self }
+    {
+        let Verdict { answer } = self;
+        answer
+    }
+}

@@ -1,0 +1,57 @@
+//! What a client wants done, and tells.
+
+use pulsar_wire::error::Error;
+
+/// How the wait of a request for its reply ended.
+#[derive(Clone, Copy, Debug, PartialEq, Eq)]
+pub enum Settlement {
+    /// The first later frame of its connection that bears its key came.
+    Reply,
+    /// Its connection ended.
+    Disconnected,
+}
+
+/// What a call answers where it succeeds.
+#[derive(Debug, PartialEq, Eq, Drop)]
+pub enum Answer {
+    Done,
+    /// The names of topics, in the order of the reply.
+    Topics(Vec<String>),
+}
+
+/// One effect of a step.
+#[derive(Debug, PartialEq, Eq, Drop)]
+pub enum Effect {
+    /// Open a connection to this host and port. It is the link of this number.
+    Connect {
+        link: u64,
+        host: String,
+        port: u16,
+    },
+    /// This frame was queued on the link. Its place is its index among all frames that were queued there.
+    Queued {
+        link: u64,
+        place: u64,
+        bytes: Vec<u8>,
+    },
+    /// Write these bytes to the connection.
+    Write {
+        link: u64,
+        bytes: Vec<u8>,
+    },
+    /// Close the connection.
+    Close {
+        link: u64,
+    },
+    /// The request of this link and place waits no longer.
+    Settled {
+        link: u64,
+        place: u64,
+        outcome: Settlement,
+    },
+    /// The call of this ticket has ended.
+    Ended {
+        ticket: u64,
+        answer: Result<Answer, Error>,
+    },
+}

@@ -1,0 +1,25 @@
+//! What comes to a client.
+
+use pulsar_wire::commands::topics::Mode;
+
+/// What a user asks of the client.
+#[derive(Debug, Drop)]
+pub enum Call {
+    /// Connects to the service. Other calls are refused until a Build has ended Ok.
+    Build,
+    /// Asks for the topics of a namespace.
+    Topics { namespace: String, mode: Mode },
+}
+
+/// What happens to the client, one at a time. Connections are numbered from 0 in the order of their Connect effects.
+#[derive(Debug, Drop)]
+pub enum Event {
+    /// A call, which gets the next ticket.
+    Call(Call),
+    /// The connection is open.
+    Opened(u64),
+    /// The next bytes that came on the connection, cut anywhere.
+    Bytes(u64, Vec<u8>),
+    /// As many queued frames as this may be written to the connection.
+    Drain(u64, usize),
+}

@@ -1,0 +1,13 @@
+//! A client of Apache Pulsar as one state machine: an event goes in, its effects come out.
+#![tactic(auto)]
+
+mod act;
+mod content;
+pub mod effect;
+pub mod event;
+pub mod options;
+mod order;
+mod plans;
+pub mod pulsar;
+mod session;
+mod tables;

@@ -1,0 +1,3 @@
+//! The procedures of the calls.
+
+pub mod plan;

@@ -1,0 +1,593 @@
+//! The tables of a client, and one step of them.
+
+ghost use Rattle.std.specs.Prelude.{◌≡◌, ◌++◌, ◌∷◌, [], ℕ, List, map, length, OnOk, IfOk, if◌then◌else◌, ◌==◌, Some, None};
+ghost use Rattle.std.specs.BTreeMap.{get};
+ghost use Rattle.std.specs.Option.{option_map};
+ghost use Rattle.std.specs.Ordering.{nat_cmp};
+ghost use Rattle.pulsar_wire.specs.declared.error.IoKind.TheVariants as io_kinds;
+ghost use Rattle.pulsar_client.specs.Content.{Heard, Bytes, asked, heard, shown};
+ghost use Rattle.pulsar_client.specs.Good.{Step, effect, effect_at, put_some};
+ghost use Rattle.pulsar_client.specs.Log.{Chosen, asks_on, at_once, brings, calls_for, dials, fails, frames_of, opens, gets, link_acts, performs, procedure_for, serves};
+ghost use Rattle.pulsar_client.specs.Tables.{Begun, Follows, InStep, LinksAlone, LinksFollow, Stands, step, table_at, view_of};
+
+use crate::act::{Act, Action, Arrival, LinkAct, Outcome, Procedure, Request};
+use crate::content::{Text, Verdict};
+use crate::effect::{Answer, Effect};
+use crate::event::{Call, Event};
+use crate::options::ClientOptions;
+use crate::order::{put, put_some};
+use crate::plans::plan::{Plan, begun, told};
+use crate::session::acts::settlement;
+use crate::session::link::Link;
+use pulsar_wire::error::{ConnectionError, Error, IoKind, NoMemory};
+use std::alloc::Global;
+use std::collections::{BTreeMap, BTreeSet, VecDeque};
+
+/// The host of the service.
+const BASE_HOST: &str = "127.0.0.1";
+
+/// The port of the service.
+const BASE_PORT: u16 = 6650;
+
+/// What the newest turn of the address left: nothing, a running attempt, or a ready link.
+#[derive(Clone, Copy)]
+pub enum Base {
+    Nothing,
+    Runs { starter: u64 },
+    Serves { link: u64 },
+}
+
+/// The tables of a client.
+#[derive(Drop)]
+pub struct Tables {
+    pub alloc: Global,
+    pub first_number: u64,
+    /// A Build call has ended Ok.
+    pub built: bool,
+    /// How many tickets were drawn.
+    pub tickets: u64,
+    /// The calls that have not ended, by ticket.
+    pub calls: BTreeMap<u64, Plan>,
+    pub base: Base,
+    /// The calls that wait for the attempt.
+    pub waiting: BTreeSet<u64>,
+    pub links: Vec<Link>,
+}
+
+impl Tables {
+    pub fn new(alloc: Global, first_number: u64) -> Tables
+        ensures { Stands (record { first_number = first_number }) result [] }
+    {
+        Tables {
+            alloc,
+            first_number,
+            built: false,
+            tickets: 0,
+            calls: BTreeMap::new(alloc),
+            base: Base::Nothing,
+            waiting: BTreeSet::new(alloc),
+            links: Vec::new(alloc),
+        }
+    }
+
+    /// One event, with all that arises from it.
+    pub fn step(&mut self, event: Event) -> Result<Vec<Effect>, NoMemory>
+        ensures { IfOk result (λ out. (o : Chosen) (h : List Step) → Stands o self.old h → Stands o self.new (step event out.items ∷ h)) }
+    {
+        let mut out = Vec::new(self.alloc);
+        let mut due = VecDeque::new(self.alloc);
+        let (link, arrivals) = self.begins(event, &mut due)?;
+        self.work(&mut due, &mut out)?;
+        self.arrive(link, arrivals, &mut out)?;
+        Ok(out)
+    }
+
+    /// An event begins: what it brings at once, and the frames that it brings to a link.
+    fn begins(
+        &mut self,
+        event: Event,
+        due: &mut VecDeque<Act>,
+    ) -> Result<(u64, VecDeque<Arrival>), NoMemory>
+        ensures due { OnOk result (due.new.items ≡ due.old.items ++ brings (view_of self.old) (heard event)) }
+        ensures frames { IfOk result (λ r. map (λ a. Act.OnLink r.0 (LinkAct.Comes a)) r.1.items ≡ frames_of (view_of self.old) (heard event)) }
+        ensures tables { OnOk result (Begun (heard event) self.old self.new) }
+    {
+        let none = VecDeque::new(self.alloc);
+        match event {
+            Event::Call(call) => {
+                self.call(call, due)?;
+                Ok((0, none))
+            }
+            Event::Opened(link) => {
+                if self.dials(link) {
+                    due.push_back(Act::OnLink {
+                        link,
+                        act: LinkAct::Opens,
+                    })?;
+                }
+                Ok((0, none))
+            }
+            Event::Bytes(link, piece) => Ok((link, self.receive(link, &piece)?)),
+            Event::Drain(link, most) => {
+                if self.opens(link) {
+                    due.push_back(Act::OnLink {
+                        link,
+                        act: LinkAct::Drains(most as u64),
+                    })?;
+                }
+                Ok((0, none))
+            }
+        }
+    }
+
+    /// A call is made, unless the tickets are spent.
+    fn call(&self, call: Call, due: &mut VecDeque<Act>) -> Result<(), NoMemory>
+        ensures { OnOk result (due.new.items ≡ due.old.items ++ calls_for (view_of self.now) (asked call)) }
+    {
+        if self.tickets == u64::MAX {
+            due.push_back(Act::Answers {
+                ticket: u64::MAX,
+                verdict: Verdict::new(Err(Error::Connection(ConnectionError::Exhausted))),
+            })?;
+        } else {
+            due.push_back(Act::Calls(procedure_for(self.built, call)))?;
+        }
+        Ok(())
+    }
+
+    fn dials(&self, link: u64) -> bool
+        ensures { result ≡ dials (table_at self.now.links.items link) }
+    {
+        match self.links.get(link as usize) {
+            None => false,
+            Some(row) => row.is_dialing(),
+        }
+    }
+
+    fn opens(&self, link: u64) -> bool
+        ensures { result ≡ opens (table_at self.now.links.items link) }
+    {
+        match self.links.get(link as usize) {
+            None => false,
+            Some(row) => row.is_open(),
+        }
+    }
+
+    /// The frames that a piece completes on a link that is open.
+    fn receive(&mut self, link: u64, piece: &[u8]) -> Result<VecDeque<Arrival>, NoMemory>
+        ensures frames { IfOk result (λ found. map (λ a. Act.OnLink link (LinkAct.Comes a)) found.items ≡ frames_of (view_of self.old) (Bytes link piece.now)) }
+        ensures tables { OnOk result (Begun (Bytes link piece.now) self.old self.new) }
+    {
+        if !self.opens(link) {
+            return Ok(VecDeque::new(self.alloc));
+        }
+        let row = &mut self.links[link as usize];
+        let found = row.receive(self.alloc, piece)?;
+        Ok(found)
+    }
+
+    /// Does all that is due, and all that arises from it.
+    fn work(&mut self, due: &mut VecDeque<Act>, out: &mut Vec<Effect>) -> Result<(), NoMemory>
+        ensures { OnOk result ((o : Chosen) (e : Heard) (left : List Act) (h : List Step) → InStep o self.old due.old.items left e (map shown out.old.items) h → InStep o self.new [] left e (map shown out.new.items) h) }
+    {
+        for _ in 0..u64::MAX {
+            match due.pop_front() {
+                None => return Ok(()),
+                Some(act) => self.treat(act, due, out)?,
+            }
+        }
+        Err(NoMemory)
+    }
+
+    /// The frames come one by one, each with all that arises from it.
+    fn arrive(
+        &mut self,
+        link: u64,
+        mut arrivals: VecDeque<Arrival>,
+        out: &mut Vec<Effect>,
+    ) -> Result<(), NoMemory>
+        ensures { OnOk result ((o : Chosen) (e : Heard) (h : List Step) → InStep o self.old [] (map (λ a. Act.OnLink link (LinkAct.Comes a)) arrivals.items) e (map shown out.old.items) h → InStep o self.new [] [] e (map shown out.new.items) h) }
+    {
+        while let Some(arrival) = arrivals.pop_front() {
+            self.comes(link, arrival, out)?;
+        }
+        Ok(())
+    }
+
+    fn comes(&mut self, link: u64, arrival: Arrival, out: &mut Vec<Effect>) -> Result<(), NoMemory>
+        ensures { OnOk result ((o : Chosen) (e : Heard) (left : List Act) (h : List Step) → InStep o self.old [] (Act.OnLink link (LinkAct.Comes arrival) ∷ left) e (map shown out.old.items) h → InStep o self.new [] left e (map shown out.new.items) h) }
+    {
+        let mut due = VecDeque::new(self.alloc);
+        let act = Act::OnLink {
+            link,
+            act: LinkAct::Comes(arrival),
+        };
+        self.treat(act, &mut due, out)?;
+        self.work(&mut due, out)?;
+        Ok(())
+    }
+
+    /// One act: its effect, what arises from it, and the tables after it.
+    fn treat(
+        &mut self,
+        act: Act,
+        due: &mut VecDeque<Act>,
+        out: &mut Vec<Effect>,
+    ) -> Result<(), NoMemory>
+        ensures out { OnOk result (map shown out.new.items ≡ put_some (effect (view_of self.old) act) (map shown out.old.items)) }
+        ensures due { OnOk result (due.new.items ≡ at_once (view_of self.old) act ++ due.old.items ++ serves (view_of self.old) act) }
+        ensures tables { OnOk result (Follows act self.old self.new) }
+    {
+        match act {
+            Act::Calls(procedure) => self.begin(procedure, due),
+            Act::Told { ticket, outcome } => self.tell(ticket, outcome, due),
+            Act::Dials { ticket } => self.dial(ticket, out),
+            Act::Waits { ticket } => {
+                self.waiting.insert(ticket)?;
+                Ok(())
+            }
+            Act::Answers { ticket, verdict } => put(
+                out,
+                Effect::Ended {
+                    ticket,
+                    answer: verdict.into_inner(),
+                },
+            ),
+            Act::Builds { ticket } => {
+                self.built = true;
+                put(
+                    out,
+                    Effect::Ended {
+                        ticket,
+                        answer: Ok(Answer::Done),
+                    },
+                )
+            }
+            Act::OnLink { link, act } => self.on_link(link, act, due, out),
+        }
+    }
+
+    /// A call begins.
+    fn begin(&mut self, procedure: Procedure, due: &mut VecDeque<Act>) -> Result<(), NoMemory>
+        ensures due { OnOk result (due.new.items ≡ at_once (view_of self.old) (Act.Calls procedure) ++ due.old.items) }
+        ensures tables { OnOk result (Follows (Act.Calls procedure) self.old self.new) }
+    {
+        let ticket = self.tickets;
+        let (action, plan) = begun(procedure);
+        self.performs(ticket, action, due)?;
+        set_call(&mut self.calls, ticket, plan)?;
+        self.tickets = ticket.checked_add(1).ok_or(NoMemory)?;
+        Ok(())
+    }
+
+    /// A call is told an outcome.
+    fn tell(
+        &mut self,
+        ticket: u64,
+        outcome: Outcome,
+        due: &mut VecDeque<Act>,
+    ) -> Result<(), NoMemory>
+        ensures due { OnOk result (due.new.items ≡ at_once (view_of self.old) (Act.Told ticket outcome) ++ due.old.items) }
+        ensures tables { OnOk result (Follows (Act.Told ticket outcome) self.old self.new) }
+    {
+        let Some(plan) = self.calls.remove(&ticket) else {
+            return Ok(());
+        };
+        let (action, plan) = told(self.alloc, plan, outcome)?;
+        set_call(&mut self.calls, ticket, plan)?;
+        self.performs(ticket, action, due)
+    }
+
+    /// A call starts an attempt.
+    fn dial(&mut self, ticket: u64, out: &mut Vec<Effect>) -> Result<(), NoMemory>
+        ensures out { OnOk result (map shown out.new.items ≡ put_some (effect (view_of self.old) (Act.Dials ticket)) (map shown out.old.items)) }
+        ensures tables { OnOk result (Follows (Act.Dials ticket) self.old self.new) }
+    {
+        let host = String::from_str(self.alloc, BASE_HOST)?;
+        put(
+            out,
+            Effect::Connect {
+                link: self.links.len() as u64,
+                host,
+                port: BASE_PORT,
+            },
+        )?;
+        start_link(&mut self.links, self.alloc, self.first_number)?;
+        self.base = Base::Runs { starter: ticket };
+        Ok(())
+    }
+
+    /// A call's action, as acts.
+    fn performs(&self, ticket: u64, action: Action, due: &mut VecDeque<Act>) -> Result<(), NoMemory>
+        ensures { OnOk result (due.new.items ≡ performs (view_of self.now) ticket action ++ due.old.items) }
+    {
+        match action {
+            Action::Get => self.gets(ticket, due),
+            Action::Ask { link, request } => self.asks(ticket, link, request, due),
+            Action::Answer(verdict) => {
+                due.push_front(Act::Answers { ticket, verdict })?;
+                Ok(())
+            }
+            Action::Finish => {
+                due.push_front(Act::Builds { ticket })?;
+                Ok(())
+            }
+            Action::Rest => Ok(()),
+        }
+    }
+
+    /// The link of the address is got: a ready one serves at once, a running attempt is waited for, else one is started.
+    fn gets(&self, ticket: u64, due: &mut VecDeque<Act>) -> Result<(), NoMemory>
+        ensures { OnOk result (due.new.items ≡ gets self.now.base ticket ++ due.old.items) }
+    {
+        match self.base {
+            Base::Nothing => {
+                due.push_front(Act::Waits { ticket })?;
+                due.push_front(Act::Dials { ticket })?;
+            }
+            Base::Runs { starter: _ } => due.push_front(Act::Waits { ticket })?,
+            Base::Serves { link } => due.push_front(Act::Told {
+                ticket,
+                outcome: Outcome::GotLink(link),
+            })?,
+        }
+        Ok(())
+    }
+
+    /// A request is asked for on a link.
+    fn asks(
+        &self,
+        ticket: u64,
+        link: u64,
+        request: Request,
+        due: &mut VecDeque<Act>,
+    ) -> Result<(), NoMemory>
+        ensures { OnOk result (due.new.items ≡ asks_on ticket link request (table_at self.now.links.items link) ++ due.old.items) }
+    {
+        match self.links.get(link as usize) {
+            None => refuse(ticket, Outcome::Disconnected, due),
+            Some(row) => {
+                if !row.is_ready() {
+                    refuse(ticket, Outcome::Disconnected, due)
+                } else if row.next_id == u64::MAX {
+                    refuse(ticket, Outcome::Exhausted, due)
+                } else if request.fits(row.next_id)? {
+                    due.push_front(Act::OnLink {
+                        link,
+                        act: LinkAct::Requests { request, ticket },
+                    })?;
+                    Ok(())
+                } else {
+                    refuse(ticket, Outcome::Unencodable, due)?;
+                    due.push_front(Act::OnLink {
+                        link,
+                        act: LinkAct::Spends,
+                    })?;
+                    Ok(())
+                }
+            }
+        }
+    }
+
+    /// An act of a link: its effect, what the link makes of it, and the calls that it serves.
+    fn on_link(
+        &mut self,
+        link: u64,
+        act: LinkAct,
+        due: &mut VecDeque<Act>,
+        out: &mut Vec<Effect>,
+    ) -> Result<(), NoMemory>
+        ensures out { OnOk result (map shown out.new.items ≡ put_some (effect (view_of self.old) (Act.OnLink link act)) (map shown out.old.items)) }
+        ensures due { OnOk result (due.new.items ≡ at_once (view_of self.old) (Act.OnLink link act) ++ due.old.items ++ serves (view_of self.old) (Act.OnLink link act)) }
+        ensures tables { OnOk result (Follows (Act.OnLink link act) self.old self.new) }
+    {
+        match act {
+            LinkAct::Settled {
+                place,
+                ticket,
+                outcome,
+            } => self.settled(link, place, ticket, outcome, due, out),
+            LinkAct::Readied => self.readied(link, due, out),
+            LinkAct::Ended { closed } => self.ended(link, closed, due, out),
+            act => self.quiet(link, act, due, out),
+        }
+    }
+
+    /// A link is ready: the calls that wait for it are served.
+    fn readied(
+        &mut self,
+        link: u64,
+        due: &mut VecDeque<Act>,
+        out: &mut Vec<Effect>,
+    ) -> Result<(), NoMemory>
+        ensures out { OnOk result (map shown out.new.items ≡ put_some (effect (view_of self.old) (Act.OnLink link LinkAct.Readied)) (map shown out.old.items)) }
+        ensures due { OnOk result (due.new.items ≡ at_once (view_of self.old) (Act.OnLink link LinkAct.Readied) ++ due.old.items ++ serves (view_of self.old) (Act.OnLink link LinkAct.Readied)) }
+        ensures tables { OnOk result (Follows (Act.OnLink link LinkAct.Readied) self.old self.new) }
+    {
+        self.quiet(link, LinkAct::Readied, due, out)?;
+        tell_all(&self.waiting, link, due)?;
+        self.waiting.clear();
+        self.base = Base::Serves { link };
+        Ok(())
+    }
+
+    /// A link has ended: the calls that wait for it are served.
+    fn ended(
+        &mut self,
+        link: u64,
+        closed: bool,
+        due: &mut VecDeque<Act>,
+        out: &mut Vec<Effect>,
+    ) -> Result<(), NoMemory>
+        ensures out { OnOk result (map shown out.new.items ≡ put_some (effect (view_of self.old) (Act.OnLink link (LinkAct.Ended closed))) (map shown out.old.items)) }
+        ensures due { OnOk result (due.new.items ≡ at_once (view_of self.old) (Act.OnLink link (LinkAct.Ended closed)) ++ due.old.items ++ serves (view_of self.old) (Act.OnLink link (LinkAct.Ended closed))) }
+        ensures tables { OnOk result (Follows (Act.OnLink link (LinkAct.Ended closed)) self.old self.new) }
+    {
+        self.quiet(link, LinkAct::Ended { closed }, due, out)?;
+        self.fail_waiting(due)?;
+        self.waiting.clear();
+        self.base = Base::Nothing;
+        Ok(())
+    }
+
+    /// An act of a link by itself.
+    fn quiet(
+        &mut self,
+        link: u64,
+        act: LinkAct,
+        due: &mut VecDeque<Act>,
+        out: &mut Vec<Effect>,
+    ) -> Result<(), NoMemory>
+        ensures out { OnOk result (map shown out.new.items ≡ put_some (effect (view_of self.old) (Act.OnLink link act)) (map shown out.old.items)) }
+        ensures due { OnOk result (due.new.items ≡ at_once (view_of self.old) (Act.OnLink link act) ++ due.old.items) }
+        ensures tables { OnOk result (LinksAlone link act self.old self.new) }
+    {
+        let effect = act_on(&mut self.links, self.alloc, link, act, due)?;
+        put_some(out, effect)?;
+        Ok(())
+    }
+
+    /// A request of a link waits no longer: its call is served.
+    fn settled(
+        &mut self,
+        link: u64,
+        place: u64,
+        ticket: u64,
+        outcome: Outcome,
+        due: &mut VecDeque<Act>,
+        out: &mut Vec<Effect>,
+    ) -> Result<(), NoMemory>
+        ensures out { OnOk result (map shown out.new.items ≡ put_some (effect (view_of self.old) (Act.OnLink link (LinkAct.Settled place ticket outcome))) (map shown out.old.items)) }
+        ensures due { OnOk result (due.new.items ≡ due.old.items ++ Act.Told ticket outcome ∷ []) }
+        ensures tables { OnOk result (self.new ≡ self.old) }
+    {
+        let how = settlement(&outcome);
+        due.push_back(Act::Told { ticket, outcome })?;
+        if link as usize >= self.links.len() {
+            return Ok(());
+        }
+        put(
+            out,
+            Effect::Settled {
+                link,
+                place,
+                outcome: how,
+            },
+        )
+    }
+
+    /// The attempt failed: the call that started it is told why, and the others that it is canceled.
+    fn fail_waiting(&self, due: &mut VecDeque<Act>) -> Result<(), NoMemory>
+        ensures { OnOk result (due.new.items ≡ due.old.items ++ fails self.now.base self.now.waiting.keys) }
+    {
+        match self.base {
+            Base::Runs { starter } => fail_all(&self.waiting, starter, due),
+            Base::Nothing | Base::Serves { link: _ } => Ok(()),
+        }
+    }
+}
+
+/// The procedure of a call.
+fn procedure_for(built: bool, call: Call) -> Procedure
+    ensures { result ≡ procedure_for built (asked call) }
+{
+    match call {
+        Call::Build => Procedure::Build,
+        Call::Topics { namespace, mode } => {
+            if built {
+                Procedure::Topics {
+                    namespace: Text::new(namespace),
+                    mode,
+                }
+            } else {
+                Procedure::Refused
+            }
+        }
+    }
+}
+
+/// A call is told at once that its request is refused.
+fn refuse(ticket: u64, outcome: Outcome, due: &mut VecDeque<Act>) -> Result<(), NoMemory>
+    ensures { OnOk result (due.new.items ≡ Act.Told ticket outcome ∷ due.old.items) }
+{
+    due.push_front(Act::Told { ticket, outcome })?;
+    Ok(())
+}
+
+/// The calls that wait are told their link, behind all that is due.
+fn tell_all(tickets: &BTreeSet<u64>, link: u64, due: &mut VecDeque<Act>) -> Result<(), NoMemory>
+    ensures { OnOk result (due.new.items ≡ due.old.items ++ map (λ t. Act.Told t (Outcome.GotLink link)) tickets.now.keys) }
+{
+    for ticket in tickets {
+        due.push_back(Act::Told {
+            ticket: *ticket,
+            outcome: Outcome::GotLink(link),
+        })?;
+    }
+    Ok(())
+}
+
+fn fail_all(tickets: &BTreeSet<u64>, starter: u64, due: &mut VecDeque<Act>) -> Result<(), NoMemory>
+    ensures { OnOk result (due.new.items ≡ due.old.items ++ map (λ t. Act.Told t (if t == starter then Outcome.Failed io_kinds.Other else Outcome.Canceled)) tickets.now.keys) }
+{
+    for ticket in tickets {
+        let outcome = if *ticket == starter {
+            Outcome::Failed(IoKind::Other)
+        } else {
+            Outcome::Canceled
+        };
+        due.push_back(Act::Told {
+            ticket: *ticket,
+            outcome,
+        })?;
+    }
+    Ok(())
+}
+
+/// Where a call stands then; one that has ended is forgotten.
+fn set_call(
+    calls: &mut BTreeMap<u64, Plan>,
+    ticket: u64,
+    plan: Option<Plan>,
+) -> Result<(), NoMemory>
+    ensures { OnOk result ((t : ℕ) → get nat_cmp calls.new t ≡ (if t == ticket then plan else get nat_cmp calls.old t)) }
+{
+    match plan {
+        None => {
+            let _ = calls.remove(&ticket);
+        }
+        Some(plan) => {
+            calls.insert(ticket, plan)?;
+        }
+    }
+    Ok(())
+}
+
+/// One more link is started.
+fn start_link(links: &mut Vec<Link>, alloc: Global, first: u64) -> Result<(), NoMemory>
+    ensures { OnOk result ((ticket : ℕ) → LinksFollow first (Act.Dials ticket) links.old.items links.new.items) }
+{
+    links.push(Link::new(alloc, first))?;
+    Ok(())
+}
+
+/// What a link makes of an act, where there is such a link. The answer is the act's effect.
+fn act_on(
+    links: &mut Vec<Link>,
+    alloc: Global,
+    link: u64,
+    act: LinkAct,
+    due: &mut VecDeque<Act>,
+) -> Result<Option<Effect>, NoMemory>
+    ensures effect { IfOk result (λ e. option_map shown e ≡ effect_at link (table_at links.old.items link) act) }
+    ensures due { OnOk result (due.new.items ≡ link_acts link (table_at links.old.items link) act ++ due.old.items) }
+    ensures links { OnOk result ((first : ℕ) → LinksFollow first (Act.OnLink link act) links.old.items links.new.items) }
+{
+    let at = link as usize;
+    if at >= links.len() {
+        return Ok(None);
+    }
+    let row = &mut links[at];
+    let effect = row.act(alloc, link, act, due)?;
+    Ok(effect)
+}

@@ -1,9 +1,11 @@
 -- What follows from the definitions.
-use Rattle.std.specs.Prelude.{◌≡◌, ℕ, List, [], ◌∷◌, ◌++◌, Option, Some, None}
+use Rattle.std.specs.Prelude.{◌≡◌, ◌↔◌, true, ℕ, List, [], ◌∷◌, ◌++◌, Option, Some, None}
 use Rattle.pulsar_wire.specs.Command.{command_reading, command_spelling}
 use Rattle.pulsar_wire.specs.declared.error.Reason.{Reason}
 use Rattle.pulsar_frame.specs.Message.{MessageValues}
 use Rattle.pulsar_frame.specs.Frame.{Short, Refused, Whole, front, cut, left, bad, frame_bytes, FitsFrame}
+use Rattle.pulsar_wire.specs.declared.key.RequestKey.{RequestKey}
+use Rattle.pulsar_frame.specs.Key.{key, bears}
 use Rattle.pulsar_frame.specs.History.{Act, fed, given, Leads}
 
 -- A stream is cut frame by frame from its front, until there is less than a frame, or one that is refused.
@@ -33,3 +35,7 @@ GivesTheMessagesFed = (acts : List Act) (held : List ℕ) → Leads acts [] held
 abbrev pub ReadsFramesWritten : Type 0
 ReadsFramesWritten = (m : MessageValues) (t : List ℕ) → FitsFrame m → command_reading (command_spelling m.command) ≡ Some m.command →
     front (frame_bytes m ++ t) ≡ Whole m t
+
+-- A message bears the key that it has, and no other.
+abbrev pub BearsItsKey : Type 0
+BearsItsKey = (m : MessageValues) (k : RequestKey) → (bears m k ≡ true) ↔ (key m ≡ Some k)

@@ -1,6 +1,6 @@
 //! What follows from the definitions, whatever the code.
 
-ghost use Rattle.pulsar_frame.specs.Laws.{CutsFrameByFrame, CutsPiecesAsOne, StaysBad, GivesTheMessagesFed, ReadsFramesWritten};
+ghost use Rattle.pulsar_frame.specs.Laws.{CutsFrameByFrame, CutsPiecesAsOne, StaysBad, GivesTheMessagesFed, ReadsFramesWritten, BearsItsKey};
 
 /// A stream is cut frame by frame from its front.
 pub fn cuts_frame_by_frame()
@@ -25,4 +25,9 @@ pub fn gives_the_messages_fed()
 /// A frame that was written is read again, whatever follows.
 pub fn reads_frames_written()
     ensures { ReadsFramesWritten }
+{}
+
+/// A message bears the key that it has, and no other.
+pub fn bears_its_key()
+    ensures { BearsItsKey }
 {}

@@ -1,13 +1,13 @@
 //! What one frame carries.
 
-ghost use Rattle.std.specs.Prelude.{◌≡◌, ◌↔◌, IsTrue};
+ghost use Rattle.std.specs.Prelude.{◌≡◌, ◌↔◌, IsTrue, IfOk};
 ghost use Rattle.pulsar_frame.specs.Frame.{FitsFrame};
 ghost use Rattle.pulsar_wire.specs.Views.{body_values};
 ghost use Rattle.pulsar_frame.specs.Key.{body_key, key};
 ghost use Rattle.pulsar_frame.specs.Shown.{message_values, IsFrameOf};
 
 use pulsar_wire::commands::base::{BaseCommand, Body, command_len, encode_command};
-use pulsar_wire::error::{ConnectionError, Reason};
+use pulsar_wire::error::{ConnectionError, NoMemory, Reason};
 use pulsar_wire::key::RequestKey;
 use std::alloc::Global;
 
@@ -15,12 +15,21 @@ use std::alloc::Global;
 const MAX_COMMAND: u64 = 0xffff_fffb;
 
 /// What one frame carries.
-#[derive(Debug, Drop)]
+#[derive(Debug, PartialEq, Eq, Drop)]
 pub struct Message {
     pub command: BaseCommand,
 }
 
 impl Message {
+    /// A message with the same content.
+    pub fn copy(&self) -> Result<Message, NoMemory>
+        ensures { IfOk result (λ message. message_values message ≡ message_values self.now) }
+    {
+        Ok(Message {
+            command: self.command.copy()?,
+        })
+    }
+
     #[tactic(auto, unfolding(crate::specs::Key::key))]
     /// What tells this request apart from others, or names the request that this frame answers. There is none where the
     /// command is not about one request.

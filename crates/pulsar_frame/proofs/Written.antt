@@ -8,14 +8,8 @@ use Rattle.pulsar_wire.specs.Field.{◌>>=◌, bytes_at}
 use Rattle.pulsar_wire.specs.Command.{command_reading, command_spelling}
 use Rattle.pulsar_frame.specs.Message.{MessageValues}
 use Rattle.pulsar_frame.specs.Sized.{sized_at, with_size}
+use Rattle.pulsar_frame.proofs.Sized.{bytes_at-front}
 use Rattle.pulsar_frame.specs.Frame.{Whole, content, front, frame_bytes, FitsFrame}
-
--- the first n bytes, where x has as many
-bytes_at-front : (n : ℕ) (x t : List ℕ) → length x ≡ n → bytes_at n (x ++ t) ≡ Some (x, t)
-unfolding bytes_at
-bytes_at-front n x t e =
-    let long : ltb (length (x ++ t)) n ≡ false = le-ltb _ _ (omega (arith, length-append x t)) in
-    rw (long, take_at x t n e, drop_at x t n e) refl
 
 sized_at-behind : (n : ℕ) (x t : List ℕ) → length x ≡ n → n < 2 ^ 32 → sized_at (to_be_bytes w32 n ++ (x ++ t)) ≡ Some (x, t)
 unfolding sized_at

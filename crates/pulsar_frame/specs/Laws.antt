@@ -3,7 +3,7 @@ use Rattle.std.specs.Prelude.{◌≡◌, ◌↔◌, true, ℕ, List, [], ◌∷�
 use Rattle.pulsar_wire.specs.Command.{command_reading, command_spelling}
 use Rattle.pulsar_wire.specs.declared.error.Reason.{Reason}
 use Rattle.pulsar_frame.specs.Message.{MessageValues}
-use Rattle.pulsar_frame.specs.Frame.{Short, Refused, Whole, front, cut, left, bad, frame_bytes, FitsFrame}
+use Rattle.pulsar_frame.specs.Frame.{Short, Refused, Whole, front, StandInFront, cut, left, bad, frame_bytes, FitsFrame}
 use Rattle.pulsar_wire.specs.declared.key.RequestKey.{RequestKey}
 use Rattle.pulsar_frame.specs.Key.{key, bears}
 use Rattle.pulsar_frame.specs.History.{Act, fed, given, Leads}
@@ -14,6 +14,12 @@ CutsFrameByFrame = (s : List ℕ) →
     ((m : MessageValues) (rest : List ℕ) → front s ≡ Whole m rest → (cut s ≡ m ∷ cut rest) × (left s ≡ left rest) × (bad s ≡ bad rest))
     × (front s ≡ Short → (cut s ≡ []) × (left s ≡ s) × (bad s ≡ None))
     × ((r : Reason) → front s ≡ Refused r → (cut s ≡ []) × (left s ≡ s) × (bad s ≡ Some r))
+
+-- The messages of a stream stand in its front, and with them any others that do.
+abbrev pub CutsTheMost : Type 0
+CutsTheMost = (s : List ℕ) →
+    StandInFront (cut s) s (left s)
+    × ((ms : List MessageValues) (rest : List ℕ) → StandInFront ms s rest → cut s ≡ ms ++ cut rest)
 
 -- What comes in two pieces is cut as one.
 abbrev pub CutsPiecesAsOne : Type 0

@@ -53,8 +53,8 @@ fn read_content(alloc: Global, bytes: &[u8]) -> Result<Message, ConnectionError>
     Ok(Message { command })
 }
 
-#[tactic(auto, unfolding(crate::specs::Frame::front))]
 /// The message whose frame stands in front, and how many bytes the frame has.
+#[tactic(auto, unfolding(crate::specs::Frame::front))]
 pub(crate) fn read_frame(
     alloc: Global,
     bytes: &[u8],

@@ -30,9 +30,9 @@ impl Message {
         })
     }
 
-    #[tactic(auto, unfolding(crate::specs::Key::key))]
     /// What tells this request apart from others, or names the request that this frame answers. There is none where the
     /// command is not about one request.
+    #[tactic(auto, unfolding(crate::specs::Key::key))]
     pub fn request_key(&self) -> Option<RequestKey>
         ensures { result ≡ key (message_values self.now) }
     {
@@ -42,17 +42,17 @@ impl Message {
         }
     }
 
-    #[tactic(auto, unfolding(crate::specs::Frame::FitsFrame, crate::specs::Sized::with_size))]
     /// Each size in its frame fits a u32.
+    #[tactic(auto, unfolding(crate::specs::Frame::FitsFrame, crate::specs::Sized::with_size))]
     pub fn fits(&self) -> bool
         ensures { IsTrue result ↔ FitsFrame (message_values self.now) }
     {
         command_len(&self.command) <= MAX_COMMAND
     }
 
-    #[tactic(auto, unfolding(crate::specs::Frame::FitsFrame, crate::specs::Frame::frame_bytes, crate::specs::Sized::with_size))]
     /// Its frame. The answer is `Encoding(Frame)` exactly where a size does not fit a u32, and there is no other error
     /// but want of memory.
+    #[tactic(auto, unfolding(crate::specs::Frame::FitsFrame, crate::specs::Frame::frame_bytes, crate::specs::Sized::with_size))]
     pub fn to_frame(&self, alloc: Global) -> Result<Vec<u8>, ConnectionError>
         ensures { IsFrameOf (message_values self.now) result }
     {
@@ -69,6 +69,7 @@ impl Message {
     }
 }
 
+/// The key of a message with this body.
 #[tactic(auto, unfolding(pulsar_wire::specs::Views::get_topics_of_namespace_values, pulsar_wire::specs::Views::get_topics_of_namespace_response_values))]
 fn body_key(body: &Body) -> Option<RequestKey>
     ensures { result ≡ body_key (body_values body.now) }

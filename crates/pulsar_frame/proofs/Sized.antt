@@ -1,9 +1,9 @@
 -- Bytes behind their size: how many they are, and what comes after them.
-use Rattle.std.proofs.Common.{◌≡◌, ℕ, ◌+◌, ◌-◌, ◌<◌, ◌≤◌, Bool, true, false, ltb, List, ◌++◌, length, take, drop, Option, Some, None, refl, sym, ap, ◌∙◌, [], append_assoc, length-append, arith, inl, inr}
+use Rattle.std.proofs.Common.{◌≡◌, ℕ, ◌-◌, false, ltb, List, ◌++◌, length, take, drop, Option, Some, None, refl, sym, ap, ◌∙◌, [], append_assoc, length-append, arith, inl, inr}
 use Rattle.std.specs.Int.{w32, from_be_bytes}
 use Rattle.std.proofs.lemmas.Bool.{le-ltb, ltb-false}
 use Rattle.std.proofs.lemmas.List.{take-append-drop, length-take-le, take_at, drop_at, append-nil}
-use Rattle.pulsar_wire.specs.Field.{◌>>=◌, bytes_at}
+use Rattle.pulsar_wire.specs.Field.{bytes_at}
 use Rattle.pulsar_wire.proofs.Fields.{bind_some, chosen, some, some_is, Takes}
 use Rattle.pulsar_frame.specs.Sized.{sized_at}
 

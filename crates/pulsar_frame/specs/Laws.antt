@@ -1,6 +1,6 @@
 -- What follows from the definitions.
-use Rattle.std.specs.Prelude.{◌≡◌, ◌↔◌, true, ℕ, List, [], ◌∷◌, ◌++◌, Option, Some, None}
-use Rattle.pulsar_wire.specs.Command.{command_reading, command_spelling}
+use Rattle.std.specs.Prelude.{◌≡◌, ◌↔◌, true, ℕ, List, [], ◌∷◌, ◌++◌, Some, None}
+use Rattle.pulsar_wire.specs.Command.{CommandValues, command_reading, command_spelling}
 use Rattle.pulsar_wire.specs.declared.error.Reason.{Reason}
 use Rattle.pulsar_frame.specs.Message.{MessageValues}
 use Rattle.pulsar_frame.specs.Frame.{Short, Refused, Whole, front, StandInFront, cut, left, bad, frame_bytes, FitsFrame}
@@ -37,10 +37,10 @@ abbrev pub GivesTheMessagesFed : Type 0
 GivesTheMessagesFed = (acts : List Act) (held : List ℕ) → Leads acts [] held →
     (cut (fed acts) ≡ given acts ++ cut held) × (left (fed acts) ≡ left held) × (bad (fed acts) ≡ bad held)
 
--- A frame that was written is read again, whatever follows, where its command is read again.
+-- A frame that was written is read again, whatever follows, with the command that the bytes of its command spell.
 abbrev pub ReadsFramesWritten : Type 0
-ReadsFramesWritten = (m : MessageValues) (t : List ℕ) → FitsFrame m → command_reading (command_spelling m.command) ≡ Some m.command →
-    front (frame_bytes m ++ t) ≡ Whole m t
+ReadsFramesWritten = (m : MessageValues) (c : CommandValues) (t : List ℕ) → FitsFrame m → command_reading (command_spelling m.command) ≡ Some c →
+    front (frame_bytes m ++ t) ≡ Whole (record { command = c }) t
 
 -- A message bears the key that it has, and no other.
 abbrev pub BearsItsKey : Type 0

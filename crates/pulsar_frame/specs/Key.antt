@@ -15,7 +15,7 @@ uint64_at n (Plain m r k row) vs = uint64_at n row vs.1
 uint64_at n (Embedded m r inner row) vs = uint64_at n row vs.1
 uint64_at n (Numbers m row) vs = uint64_at n row vs.1
 
--- the field that holds the request's number, in the bodies that have one
+-- The field that holds the request's number, in the bodies that have one: get_topics_of_namespace and its response.
 abbrev pub request_id_field : ℕ → Option ℕ
 request_id_field body =
     if body == 32 then Some 1
@@ -48,6 +48,6 @@ is_key k None = false
 unfoldable pub bears : MessageValues → RequestKey → Bool
 bears m k = is_key k (key m)
 
--- the body that answers a request's body
+-- The body that answers a request's body: get_topics_of_namespace has a response of its own.
 abbrev pub answers : ℕ → Option ℕ
 answers body = if body == 32 then Some 33 else None

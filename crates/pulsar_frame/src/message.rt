@@ -11,7 +11,10 @@ use pulsar_wire::error::{ConnectionError, NoMemory, Reason};
 use pulsar_wire::key::RequestKey;
 use std::alloc::Global;
 
-/// The greatest size of a command: the total, which also counts the four bytes of this size, fits a u32 too.
+/// How many bytes a size has.
+const SIZE_LEN: u32 = 4;
+
+/// The greatest size of a command: the total, which also counts the bytes of this size, fits a u32 too.
 const MAX_COMMAND: u64 = 0xffff_fffb;
 
 /// What one frame carries.
@@ -61,8 +64,9 @@ impl Message {
             return Err(ConnectionError::Encoding(Reason::Frame));
         }
         let size = size as u32;
-        let mut frame = Vec::with_capacity(alloc, size as usize + 8)?;
-        frame.extend_from_slice(&(size + 4).to_be_bytes())?;
+        let total = size + SIZE_LEN;
+        let mut frame = Vec::with_capacity(alloc, total as usize + SIZE_LEN as usize)?;
+        frame.extend_from_slice(&total.to_be_bytes())?;
         frame.extend_from_slice(&size.to_be_bytes())?;
         encode_command(&self.command, &mut frame)?;
         Ok(frame)

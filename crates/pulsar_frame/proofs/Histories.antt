@@ -1,8 +1,8 @@
 -- What a reader gives over its history.
-use Rattle.std.proofs.Common.{◌≡◌, ℕ, List, [], ◌∷◌, ◌++◌, refl, sym, ap, ◌∙◌, append_assoc}
+use Rattle.std.proofs.Common.{◌≡◌, ℕ, List, [], ◌∷◌, ◌++◌, refl, ap, ◌∙◌, append_assoc}
 use Rattle.std.proofs.lemmas.List.{append-nil}
 use Rattle.pulsar_frame.specs.Message.{MessageValues}
-use Rattle.pulsar_frame.specs.Frame.{Whole, front, cut, left, reason_of, bad}
+use Rattle.pulsar_frame.specs.Frame.{front, cut, left, reason_of, bad}
 use Rattle.pulsar_frame.specs.History.{Act, Fed, Given, fed, given, Leads}
 use Rattle.pulsar_frame.proofs.Streams.{front-whole-append, cut-whole, left-whole}
 

@@ -2,3 +2,4 @@ pub mod Sized
 pub mod Streams
 pub mod Histories
 pub mod Written
+pub mod Keys

@@ -1,17 +1,21 @@
 -- The frames of a stream, and of a stream that goes on.
-use Rattle.std.proofs.Common.{◌≡◌, ◌≢◌, ℕ, zero, suc, ◌+◌, ◌≤◌, ◌<◌, List, [], ◌∷◌, ◌++◌, length, Option, Some, None, Result, Ok, Err, refl, sym, ap, ◌∙◌, append_assoc, length-append, arith}
+use Rattle.std.proofs.Common.{◌≡◌, ◌≢◌, ℕ, zero, suc, ◌+◌, ◌≤◌, List, [], ◌∷◌, ◌++◌, length, Option, Some, None, Result, Ok, Err, refl, sym, ap, ◌∙◌, arith}
 use Rattle.std.proofs.lemmas.List.{append-nil}
 use Rattle.pulsar_wire.specs.declared.error.Reason.{Reason}
 use Rattle.pulsar_frame.specs.Message.{MessageValues}
 use Rattle.pulsar_frame.specs.Sized.{sized_at}
-use Rattle.pulsar_frame.specs.Frame.{content, Front, Short, Refused, Whole, before, front_of, front, cut_before, cut_within, cut, left, reason_of, bad}
-use Rattle.pulsar_frame.proofs.Sized.{sized-takes}
+use Rattle.pulsar_frame.specs.Frame.{content, Front, Short, Refused, Whole, IsFrame, StandInFront, before, front_of, front, cut_before, cut_within, cut, left, reason_of, bad}
+use Rattle.pulsar_frame.proofs.Sized.{sized-takes, sized-alone}
 
 -- ---- what stands in front
 
 before-shorter : (c : Result MessageValues Reason) (x : List ℕ) (m : MessageValues) (rest : List ℕ) → before c x ≡ Whole m rest → x ≡ rest
 before-shorter (Ok n) x m rest e = cc
 before-shorter (Err r) x m rest e = absurd cc
+
+before-other : (c : Result MessageValues Reason) (x y : List ℕ) (m : MessageValues) (rest : List ℕ) → before c x ≡ Whole m rest → before c y ≡ Whole m y
+before-other (Ok n) x y m rest e = let same : n ≡ m = cc in ap (λ (k : MessageValues). Whole k y) same
+before-other (Err r) x y m rest e = absurd cc
 
 front_of-shorter : (bytes : List ℕ) (o : Option (List ℕ × List ℕ)) → sized_at bytes ≡ o → (m : MessageValues) (rest : List ℕ) → front_of o ≡ Whole m rest → length rest + 4 ≤ length bytes
 front_of-shorter bytes None sized m rest e = absurd cc
@@ -46,6 +50,18 @@ front-whole-append s t m rest e = front_of-append s t (sized_at s) (Whole m rest
 pub front-refused-append : (s t : List ℕ) (r : Reason) → front s ≡ Refused r → front (s ++ t) ≡ Refused r
 unfolding front
 front-refused-append s t r e = front_of-append s t (sized_at s) (Refused r) refl e (λ short. cc)
+
+front_of-frame : (bytes : List ℕ) (o : Option (List ℕ × List ℕ)) (m : MessageValues) (rest : List ℕ) → sized_at bytes ≡ o → front_of o ≡ Whole m rest
+    → (frame : List ℕ) × (bytes ≡ frame ++ rest) × (front_of (sized_at frame) ≡ Whole m [])
+front_of-frame bytes None m rest sized e = absurd cc
+front_of-frame bytes (Some x) m rest sized e =
+    let alone = sized-alone bytes x.0 x.1 sized in
+    (alone.0, alone.1 ∙ ap (λ (l : List ℕ). alone.0 ++ l) (before-shorter (content x.0) x.1 m rest e), rw alone.2 (before-other (content x.0) x.1 [] m rest e))
+
+-- the frame by itself
+pub front-frame : (bytes : List ℕ) (m : MessageValues) (rest : List ℕ) → front bytes ≡ Whole m rest → (frame : List ℕ) × (bytes ≡ frame ++ rest) × IsFrame frame m
+unfolding front
+front-frame bytes m rest e = front_of-frame bytes (sized_at bytes) m rest refl e
 
 -- ---- cutting
 
@@ -210,3 +226,27 @@ left-bad s t r e = rw (left-append s t) (left-refused (left s ++ t) r (front-ref
 
 pub bad-bad : (s t : List ℕ) (r : Reason) → bad s ≡ Some r → bad (s ++ t) ≡ Some r
 bad-bad s t r e = rw (bad-append s t) (bad-refused (left s ++ t) r (front-refused-append (left s) t r (front-left-refused s r e)))
+
+-- ---- the most that stands in front
+
+stand-step : (s : List ℕ) (f : Front) → front s ≡ f → ((rest : List ℕ) → length rest + 4 ≤ length s → StandInFront (cut rest) rest (left rest)) → StandInFront (cut s) s (left s)
+stand-step s Short e others = rw (cut-short s e) (sym (left-short s e))
+stand-step s (Refused r) e others = rw (cut-refused s r e) (sym (left-refused s r e))
+stand-step s (Whole m rest) e others =
+    let first = front-frame s m rest e in
+    rw (cut-whole s m rest e, left-whole s m rest e) (first.0, rest, first.1, first.2, others rest (front-shorter s m rest e))
+
+stand-within : (k : ℕ) (s : List ℕ) → length s ≤ k → StandInFront (cut s) s (left s)
+stand-within zero s le = stand-step s (front s) refl (λ rest short. absurd (omega arith))
+stand-within (suc k) s le = stand-step s (front s) refl (λ rest short. stand-within k rest (omega arith))
+
+-- the messages of a stream stand in its front
+pub cut-stand : (s : List ℕ) → StandInFront (cut s) s (left s)
+cut-stand s = stand-within (length s) s (omega arith)
+
+-- and any others that do are the first of them
+pub stand-cut : (ms : List MessageValues) (s rest : List ℕ) → StandInFront ms s rest → cut s ≡ ms ++ cut rest
+stand-cut [] s rest e = rw e refl
+stand-cut (m ∷ ms) s rest stand =
+    let first = front-whole-append stand.0 stand.1 m [] stand.3 in
+    rw stand.2 (cut-whole (stand.0 ++ stand.1) m stand.1 first ∙ ap (λ (l : List MessageValues). m ∷ l) (stand-cut ms stand.1 rest stand.4))

@@ -1,21 +1,13 @@
 -- A frame that was written is read again.
-use Rattle.std.proofs.Common.{◌≡◌, Ok, ℕ, ◌+◌, ◌^◌, ◌<◌, ◌≤◌, Bool, true, false, ltb, List, [], ◌++◌, length, take, drop, Option, Some, None, refl, sym, ap, ◌∙◌, append_assoc, length-append, arith}
-use Rattle.std.specs.Int.{w32, to_be_bytes, from_be_bytes}
-use Rattle.std.proofs.lemmas.Bool.{le-ltb}
-use Rattle.std.proofs.lemmas.List.{take_at, drop_at, append-nil}
+use Rattle.std.proofs.Common.{◌≡◌, Ok, ℕ, ◌+◌, ◌^◌, ◌<◌, List, [], ◌++◌, length, Some, refl, append_assoc, length-append, arith}
+use Rattle.std.specs.Int.{w32, to_be_bytes}
+use Rattle.std.proofs.lemmas.List.{append-nil}
 use Rattle.std.proofs.lemmas.Nat.{from_be_bytes-to_be_bytes_4}
-use Rattle.pulsar_wire.specs.Field.{◌>>=◌, bytes_at}
-use Rattle.pulsar_wire.specs.Command.{command_reading, command_spelling}
+use Rattle.pulsar_wire.specs.Command.{CommandValues, command_reading, command_spelling}
 use Rattle.pulsar_frame.specs.Message.{MessageValues}
 use Rattle.pulsar_frame.specs.Sized.{sized_at, with_size}
+use Rattle.pulsar_frame.proofs.Sized.{bytes_at-front}
 use Rattle.pulsar_frame.specs.Frame.{Whole, content, front, frame_bytes, FitsFrame}
-
--- the first n bytes, where x has as many
-bytes_at-front : (n : ℕ) (x t : List ℕ) → length x ≡ n → bytes_at n (x ++ t) ≡ Some (x, t)
-unfolding bytes_at
-bytes_at-front n x t e =
-    let long : ltb (length (x ++ t)) n ≡ false = le-ltb _ _ (omega (arith, length-append x t)) in
-    rw (long, take_at x t n e, drop_at x t n e) refl
 
 sized_at-behind : (n : ℕ) (x t : List ℕ) → length x ≡ n → n < 2 ^ 32 → sized_at (to_be_bytes w32 n ++ (x ++ t)) ≡ Some (x, t)
 unfolding sized_at
@@ -35,14 +27,14 @@ length-with_size : (x : List ℕ) → length (with_size x) ≡ 4 + length x
 unfolding with_size
 length-with_size x = length-append (to_be_bytes w32 (length x)) x
 
-content-again : (m : MessageValues) → FitsFrame m → command_reading (command_spelling m.command) ≡ Some m.command → content (with_size (command_spelling m.command)) ≡ Ok m
+content-again : (m : MessageValues) (c : CommandValues) → FitsFrame m → command_reading (command_spelling m.command) ≡ Some c → content (with_size (command_spelling m.command)) ≡ Ok (record { command = c })
 unfolding content FitsFrame
-content-again m fits again =
+content-again m c fits again =
     let short : length (command_spelling m.command) < 2 ^ 32 = omega (arith, length-with_size (command_spelling m.command)) in
     rw (sized_at-alone (command_spelling m.command) short, again) refl
 
--- A frame that was written is read again, whatever follows, where its command is.
-pub front-frame_bytes : (m : MessageValues) (t : List ℕ) → FitsFrame m → command_reading (command_spelling m.command) ≡ Some m.command → front (frame_bytes m ++ t) ≡ Whole m t
+-- a frame that was written is read again, whatever follows
+pub front-frame_bytes : (m : MessageValues) (c : CommandValues) (t : List ℕ) → FitsFrame m → command_reading (command_spelling m.command) ≡ Some c → front (frame_bytes m ++ t) ≡ Whole (record { command = c }) t
 unfolding front frame_bytes FitsFrame
-front-frame_bytes m t fits again =
-    rw (sized_at-with_size (with_size (command_spelling m.command)) t fits, content-again m fits again) refl
+front-frame_bytes m c t fits again =
+    rw (sized_at-with_size (with_size (command_spelling m.command)) t fits, content-again m c fits again) refl

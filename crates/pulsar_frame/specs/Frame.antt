@@ -1,5 +1,5 @@
 -- Frames, and the stream that they make.  (Pulsar binary protocol, Framing)
-use Rattle.std.specs.Prelude.{◌≡◌, ℕ, zero, suc, ◌^◌, ◌<◌, List, [], ◌∷◌, length, Option, Some, None, Result, Ok, Err}
+use Rattle.std.specs.Prelude.{◌≡◌, ℕ, zero, suc, ◌^◌, ◌<◌, List, [], ◌∷◌, ◌++◌, length, Option, Some, None, Result, Ok, Err}
 use Rattle.pulsar_wire.specs.Command.{command_reading, command_spelling}
 use Rattle.pulsar_wire.specs.declared.error.Reason.{Reason}
 use Rattle.pulsar_wire.specs.declared.error.Reason.TheVariants.{Frame, Command, Payload}
@@ -55,6 +55,12 @@ abbrev pub IsFrame : List ℕ → MessageValues → Type 0
 IsFrame bytes m = front bytes ≡ Whole m []
 
 -- ---- a stream
+
+-- the messages whose frames stand one behind the other in front, and what follows them
+abbrev pub StandInFront : List MessageValues → List ℕ → List ℕ → Type 0
+StandInFront [] bytes rest = bytes ≡ rest
+StandInFront (m ∷ ms) bytes rest =
+    (frame after : List ℕ) × (bytes ≡ frame ++ after) × IsFrame frame m × StandInFront ms after rest
 
 abbrev pub cut_before : (List ℕ → List MessageValues × List ℕ) → List ℕ → Front → List MessageValues × List ℕ
 cut_before more bytes (Whole m rest) = let others = more rest in (m ∷ others.0, others.1)

@@ -1,9 +1,11 @@
 -- What follows from the definitions.
-use Rattle.std.specs.Prelude.{◌≡◌, ℕ, List, [], ◌∷◌, ◌++◌, Option, Some, None}
-use Rattle.pulsar_wire.specs.Command.{command_reading, command_spelling}
+use Rattle.std.specs.Prelude.{◌≡◌, ◌↔◌, true, ℕ, List, [], ◌∷◌, ◌++◌, Some, None}
+use Rattle.pulsar_wire.specs.Command.{CommandValues, command_reading, command_spelling}
 use Rattle.pulsar_wire.specs.declared.error.Reason.{Reason}
 use Rattle.pulsar_frame.specs.Message.{MessageValues}
-use Rattle.pulsar_frame.specs.Frame.{Short, Refused, Whole, front, cut, left, bad, frame_bytes, FitsFrame}
+use Rattle.pulsar_frame.specs.Frame.{Short, Refused, Whole, front, StandInFront, cut, left, bad, frame_bytes, FitsFrame}
+use Rattle.pulsar_wire.specs.declared.key.RequestKey.{RequestKey}
+use Rattle.pulsar_frame.specs.Key.{key, bears}
 use Rattle.pulsar_frame.specs.History.{Act, fed, given, Leads}
 
 -- A stream is cut frame by frame from its front, until there is less than a frame, or one that is refused.
@@ -12,6 +14,12 @@ CutsFrameByFrame = (s : List ℕ) →
     ((m : MessageValues) (rest : List ℕ) → front s ≡ Whole m rest → (cut s ≡ m ∷ cut rest) × (left s ≡ left rest) × (bad s ≡ bad rest))
     × (front s ≡ Short → (cut s ≡ []) × (left s ≡ s) × (bad s ≡ None))
     × ((r : Reason) → front s ≡ Refused r → (cut s ≡ []) × (left s ≡ s) × (bad s ≡ Some r))
+
+-- The messages of a stream stand in its front, and with them any others that do.
+abbrev pub CutsTheMost : Type 0
+CutsTheMost = (s : List ℕ) →
+    StandInFront (cut s) s (left s)
+    × ((ms : List MessageValues) (rest : List ℕ) → StandInFront ms s rest → cut s ≡ ms ++ cut rest)
 
 -- What comes in two pieces is cut as one.
 abbrev pub CutsPiecesAsOne : Type 0
@@ -29,7 +37,11 @@ abbrev pub GivesTheMessagesFed : Type 0
 GivesTheMessagesFed = (acts : List Act) (held : List ℕ) → Leads acts [] held →
     (cut (fed acts) ≡ given acts ++ cut held) × (left (fed acts) ≡ left held) × (bad (fed acts) ≡ bad held)
 
--- A frame that was written is read again, whatever follows, where its command is read again.
+-- A frame that was written is read again, whatever follows, with the command that the bytes of its command spell.
 abbrev pub ReadsFramesWritten : Type 0
-ReadsFramesWritten = (m : MessageValues) (t : List ℕ) → FitsFrame m → command_reading (command_spelling m.command) ≡ Some m.command →
-    front (frame_bytes m ++ t) ≡ Whole m t
+ReadsFramesWritten = (m : MessageValues) (c : CommandValues) (t : List ℕ) → FitsFrame m → command_reading (command_spelling m.command) ≡ Some c →
+    front (frame_bytes m ++ t) ≡ Whole (record { command = c }) t
+
+-- A message bears the key that it has, and no other.
+abbrev pub BearsItsKey : Type 0
+BearsItsKey = (m : MessageValues) (k : RequestKey) → (bears m k ≡ true) ↔ (key m ≡ Some k)

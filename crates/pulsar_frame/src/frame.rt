@@ -7,7 +7,8 @@ ghost use Rattle.pulsar_wire.specs.Views.{command_values};
 ghost use Rattle.pulsar_wire.specs.declared.error.Reason.TheVariants as reason;
 ghost use Rattle.pulsar_frame.specs.Sized.{sized_at};
 ghost use Rattle.pulsar_frame.specs.Frame.{or_refused, content};
-ghost use Rattle.pulsar_frame.specs.Shown.{message_values, Holds, Fronts};
+ghost use Rattle.pulsar_frame.specs.Shown.{message_values};
+ghost use Rattle.pulsar_frame.specs.Read.{Holds, Fronts};
 
 use crate::message::Message;
 use pulsar_wire::commands::base::{BaseCommand, decode_command};
@@ -53,8 +54,8 @@ fn read_content(alloc: Global, bytes: &[u8]) -> Result<Message, ConnectionError>
     Ok(Message { command })
 }
 
-#[tactic(auto, unfolding(crate::specs::Frame::front))]
 /// The message whose frame stands in front, and how many bytes the frame has.
+#[tactic(auto, unfolding(crate::specs::Frame::front))]
 pub(crate) fn read_frame(
     alloc: Global,
     bytes: &[u8],

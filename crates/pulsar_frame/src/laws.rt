@@ -1,10 +1,15 @@
 //! What follows from the definitions, whatever the code.
 
-ghost use Rattle.pulsar_frame.specs.Laws.{CutsFrameByFrame, CutsPiecesAsOne, StaysBad, GivesTheMessagesFed, ReadsFramesWritten};
+ghost use Rattle.pulsar_frame.specs.Laws.{CutsFrameByFrame, CutsTheMost, CutsPiecesAsOne, StaysBad, GivesTheMessagesFed, ReadsFramesWritten, BearsItsKey};
 
 /// A stream is cut frame by frame from its front.
 pub fn cuts_frame_by_frame()
     ensures { CutsFrameByFrame }
+{}
+
+/// The messages of a stream are all that stand in its front.
+pub fn cuts_the_most()
+    ensures { CutsTheMost }
 {}
 
 /// What comes in two pieces is cut as one.
@@ -25,4 +30,9 @@ pub fn gives_the_messages_fed()
 /// A frame that was written is read again, whatever follows.
 pub fn reads_frames_written()
     ensures { ReadsFramesWritten }
+{}
+
+/// A message bears the key that it has, and no other.
+pub fn bears_its_key()
+    ensures { BearsItsKey }
 {}

@@ -6,3 +6,5 @@ mod frame;
 pub mod laws;
 pub mod message;
 pub mod reader;
+#[cfg(test)]
+mod tests;

@@ -10,7 +10,7 @@ use std::alloc::Global;
 use std::marker::Model;
 
 /// The bytes of a stream that were fed and not yet taken. Pieces may be cut anywhere.
-#[derive(Drop)]
+#[derive(Debug, Drop)]
 pub struct FrameReader {
     bytes: Vec<u8>,
     // how many bytes in front were taken

@@ -1,6 +1,5 @@
-use Rattle.std.proofs.Common.{◌≡◌, ◌-◌, ◌≤◌, length, drop, Some, refl, sym, ap, ◌∙◌, arith}
-use Rattle.pulsar_frame.specs.Sized.{sized_at}
-use Rattle.pulsar_frame.specs.Frame.{Whole, front, before}
+use Rattle.std.proofs.Common.{sym, ap, arith}
+use Rattle.pulsar_frame.specs.Frame.{Whole, front}
 use Rattle.pulsar_frame.specs.Shown.{message_values}
 use Rattle.pulsar_frame.proofs.Sized.{sized-takes, sized-rest}
 use Rattle.pulsar_frame.proofs.frame.read_frame.Goals as goal

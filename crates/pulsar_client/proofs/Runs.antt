@@ -27,7 +27,7 @@ use Rattle.pulsar_client.specs.declared.tables.Tables.{Tables}
 use Rattle.pulsar_client.specs.Content.{Heard, Called, Opened, Bytes, Drain, Shown}
 use Rattle.pulsar_client.specs.Link.{Seen, seen}
 use Rattle.pulsar_client.specs.Plan.{next}
-use Rattle.pulsar_client.specs.Log.{Chosen, Entry, Begins, Does, built, calls, procedure_of, outcomes_of, links, of_link, stream, base, waiting, action_at, opens, seen_link, unread_of, View, view, at_once, serves, brings, frames_of}
+use Rattle.pulsar_client.specs.Log.{Chosen, Entry, Begins, Does, built, calls, procedure_of, outcomes_of, links, of_link, stream, base, waiting, action_at, is_live, opens, seen_link, unread_of, View, view, at_once, serves, brings, frames_of}
 use Rattle.pulsar_client.specs.Good.{Good, Step, effect, put_some}
 use Rattle.pulsar_client.specs.Tables.{start, reader, stands, plan_action, plan_after, view_of, Reads, InStep, Stands, Begun, LinksAlone, Follows, unread_begun, after_act, built_after, tickets_after, base_after, waiting_after, call_after, links_after, link_after, unread_after, blank, table_at, unread_at, step, answered}
 
@@ -326,3 +326,42 @@ quiet-follows c c' l act r e f = record {
   waiting_is = ap (λ s. s.keys) f.waiting_same ∙ quiet-waiting act l c.waiting.keys r e;
   links_are = f.links_are;
 }
+
+-- EVENTS THAT NAME NOTHING LIVE
+
+dead-brings : (v : View) (e : Heard) → is_live v e ≡ false → brings v e ++ frames_of v e ≡ []
+dead-brings v (Called c) dead = absurd cc
+dead-brings v (Opened l) dead = rw dead refl
+dead-brings v (Bytes l piece) dead = rw dead refl
+dead-brings v (Drain l most) dead = rw dead refl
+
+dead-at : (v : View) (k l : ℕ) (piece : List ℕ) (row : Option (List ℕ)) → opens (v.link k) ≡ false → (b : Bool) → (l == k) ≡ b → row ≡ cond (b && opens (v.link l)) (option_map (λ bytes. left (bytes ++ piece)) row) row
+dead-at v k l piece row dead false h = refl
+dead-at v k l piece row dead true h =
+    let same : l ≡ k = grind (arith, nat_tests) in
+    rw (same, dead) refl
+
+dead-unread : (v : View) (e : Heard) (l : ℕ) (row : Option (List ℕ)) → is_live v e ≡ false → row ≡ unread_begun v e l row
+dead-unread v (Called c) l row dead = refl
+dead-unread v (Opened k) l row dead = refl
+dead-unread v (Bytes k piece) l row dead = dead-at v k l piece row dead (l == k) refl
+dead-unread v (Drain k most) l row dead = refl
+
+dead-begins : (c : Tables) (e : Heard) → is_live (view_of c) e ≡ false → Begun e c c
+dead-begins c e dead = record {
+  first_same = refl;
+  built_same = refl;
+  tickets_same = refl;
+  calls_same = λ t. refl;
+  base_same = refl;
+  waiting_same = refl;
+  count_same = refl;
+  links_same = λ l. refl;
+  unread_is = λ l. dead-unread (view_of c) e l (unread_at c.links.items l) dead;
+}
+
+-- such an event has no effect
+pub dead-step : {o : Chosen} {c : Tables} {h : List Step} (e : Heard) → is_live (view_of c) e ≡ false → Stands o c h → Stands o c (record { event = e; effects = [] } ∷ h)
+dead-step {o} {c} {h} e dead s =
+    let b = began e (dead-begins c e dead) s in
+    record { log = b.log; run = b.run; rests = rw (b.now_is, b.next_is) (dead-brings (view_of c) e dead); same = sym b.same; reads = b.reads }

@@ -1,10 +1,11 @@
 -- What a client stands for.
-use Rattle.std.specs.Prelude.{◌≡◌, List, true, false}
+use Rattle.std.specs.Prelude.{◌≡◌, ℕ, List, true, false}
 use Rattle.pulsar_client.specs.declared.options.ClientOptions.{ClientOptions}
 use Rattle.pulsar_client.specs.declared.pulsar.Pulsar.{Pulsar}
 use Rattle.pulsar_client.specs.Good.{Step}
-use Rattle.pulsar_client.specs.Log.{Chosen}
-use Rattle.pulsar_client.specs.Tables.{Stands}
+use Rattle.pulsar_client.specs.Content.{Heard}
+use Rattle.pulsar_client.specs.Log.{Chosen, is_live}
+use Rattle.pulsar_client.specs.Tables.{Stands, view_of}
 
 -- what the options choose
 abbrev pub chosen : ClientOptions → Chosen
@@ -18,3 +19,11 @@ HasFailed c = c.failed ≡ true
 pub record StandsFor (o : Chosen) (c : Pulsar) (history : List Step) : Type 0 where
   pub stands : Stands o c.tables history
   pub whole : c.failed ≡ false
+
+-- An event that names no live link, or a state that the link isn't in
+abbrev pub IsDead : Pulsar → Heard → Type 0
+IsDead c e = is_live (view_of c.tables) e ≡ false
+
+-- the ticket of the next call
+abbrev pub next_ticket : Pulsar → ℕ
+next_ticket c = c.tables.tickets

@@ -215,6 +215,13 @@ procedure_for is_built (content.Topics namespace mode) = if is_built then proced
 abbrev pub calls_for : View → Asked → List Act
 calls_for v c = if v.calls == spent then Answers spent (Failed Exhausted) ∷ [] else Calls (procedure_for v.is_built c) ∷ []
 
+-- an event is live where it names a live link, in a state that the link is in; a call always is
+abbrev pub is_live : View → Heard → Bool
+is_live v (Called c) = true
+is_live v (Opened l) = dials (v.link l)
+is_live v (Bytes l piece) = opens (v.link l)
+is_live v (Drain l most) = opens (v.link l)
+
 -- what an event brings at once. One that names no live link, or a state that the link isn't in, brings nothing.
 abbrev pub brings : View → Heard → List Act
 brings v (Called c) = calls_for v c

@@ -1,10 +1,11 @@
 //! The client.
 
-ghost use Rattle.std.specs.Prelude.{◌≡◌, ◌∷◌, [], List, OnOk, OnErr, IfOk, IsErr, codes, reverse, string_bytes, true};
+ghost use Rattle.std.specs.Prelude.{◌≡◌, ◌∷◌, [], List, OnErr, IfOk, IsErr, codes, map, reverse, string_bytes};
+ghost use Rattle.pulsar_client.specs.Content.{Called, asked, heard, shown};
 ghost use Rattle.pulsar_client.specs.Good.{Good, Step};
 ghost use Rattle.pulsar_client.specs.Log.{Chosen};
 ghost use Rattle.pulsar_client.specs.Tables.{answered, step};
-ghost use Rattle.pulsar_client.specs.Client.{StandsFor, HasFailed, chosen};
+ghost use Rattle.pulsar_client.specs.Client.{HasFailed, IsDead, StandsFor, chosen, next_ticket};
 
 use crate::effect::Effect;
 use crate::event::{Call, Event};
@@ -36,14 +37,57 @@ impl Pulsar {
         })
     }
 
-    /// One event, with all that arises from it. After want of memory every later step answers want of memory.
+    /// The effects of each event in turn, one list per event.
+    pub fn drive(
+        alloc: Global,
+        options: ClientOptions,
+        events: &[Event],
+    ) -> Result<Vec<Vec<Effect>>, NoMemory>
+        requires { string_bytes options.url ≡ codes "pulsar://127.0.0.1:6650" }
+        ensures { IfOk result (λ all. Good (chosen options) (reverse (answered events.now all.items))) }
+    {
+        let mut client = Pulsar::new(alloc, options)?;
+        let mut all = Vec::new(alloc);
+        for event in events {
+            all.push(client.take(event)?)?;
+        }
+        Ok(all)
+    }
+
+    /// One event, with all that arises from it. After want of memory every later step answers want of memory. An event
+    /// that names no live link, or a state that the link is not in, changes nothing and has no effect.
     pub fn step(&mut self, event: Event) -> Result<Vec<Effect>, NoMemory>
         ensures ok { IfOk result (λ out. (o : Chosen) (h : List Step) → StandsFor o self.old h → StandsFor o self.new (step event out.items ∷ h)) }
         ensures failed { OnErr result (HasFailed self.new) }
-        ensures stays { HasFailed self.old → IsErr result }
+        ensures stays { HasFailed self.old → IsErr result × HasFailed self.new }
+        ensures dead { IsDead self.old (heard event) → (self.new ≡ self.old) × IfOk result (λ out. out.items ≡ []) }
+    {
+        self.take(&event)
+    }
+
+    /// A step with this call, and its ticket.
+    pub fn submit(&mut self, call: Call) -> Result<(u64, Vec<Effect>), NoMemory>
+        ensures ok { IfOk result (λ r. (o : Chosen) (h : List Step) → StandsFor o self.old h → StandsFor o self.new (record { event = Called (asked call); effects = map shown r.1.items } ∷ h)) }
+        ensures ticket { IfOk result (λ r. r.0 ≡ next_ticket self.old) }
+        ensures failed { OnErr result (HasFailed self.new) }
+        ensures stays { HasFailed self.old → IsErr result × HasFailed self.new }
+    {
+        let ticket = self.tables.tickets;
+        let effects = self.take(&Event::Call(call))?;
+        Ok((ticket, effects))
+    }
+
+    fn take(&mut self, event: &Event) -> Result<Vec<Effect>, NoMemory>
+        ensures ok { IfOk result (λ out. (o : Chosen) (h : List Step) → StandsFor o self.old h → StandsFor o self.new (step event.now out.items ∷ h)) }
+        ensures failed { OnErr result (HasFailed self.new) }
+        ensures stays { HasFailed self.old → IsErr result × HasFailed self.new }
+        ensures dead { IsDead self.old (heard event.now) → (self.new ≡ self.old) × IfOk result (λ out. out.items ≡ []) }
     {
         if self.failed {
             return Err(NoMemory);
+        }
+        if !self.tables.is_live(event) {
+            return Ok(Vec::new(self.tables.alloc));
         }
         self.failed = true;
         let out = self.tables.step(event)?;

@@ -7,7 +7,7 @@ ghost use Rattle.std.specs.Ordering.{nat_cmp};
 ghost use Rattle.pulsar_wire.specs.declared.error.IoKind.TheVariants as io_kinds;
 ghost use Rattle.pulsar_client.specs.Content.{Heard, Bytes, asked, heard, shown};
 ghost use Rattle.pulsar_client.specs.Good.{Step, effect, effect_at, put_some};
-ghost use Rattle.pulsar_client.specs.Log.{Chosen, asks_on, at_once, brings, calls_for, dials, fails, frames_of, opens, gets, link_acts, performs, procedure_for, serves};
+ghost use Rattle.pulsar_client.specs.Log.{Chosen, asks_on, at_once, brings, calls_for, dials, fails, frames_of, opens, gets, is_live, link_acts, performs, procedure_for, serves};
 ghost use Rattle.pulsar_client.specs.Tables.{Begun, Follows, InStep, LinksAlone, LinksFollow, Stands, step, table_at, view_of};
 
 use crate::act::{Act, Action, Arrival, LinkAct, Outcome, Procedure, Request};
@@ -71,8 +71,8 @@ impl Tables {
     }
 
     /// One event, with all that arises from it.
-    pub fn step(&mut self, event: Event) -> Result<Vec<Effect>, NoMemory>
-        ensures { IfOk result (λ out. (o : Chosen) (h : List Step) → Stands o self.old h → Stands o self.new (step event out.items ∷ h)) }
+    pub fn step(&mut self, event: &Event) -> Result<Vec<Effect>, NoMemory>
+        ensures { IfOk result (λ out. (o : Chosen) (h : List Step) → Stands o self.old h → Stands o self.new (step event.now out.items ∷ h)) }
     {
         let mut out = Vec::new(self.alloc);
         let mut due = VecDeque::new(self.alloc);
@@ -82,15 +82,26 @@ impl Tables {
         Ok(out)
     }
 
+    /// An event names a live link, in a state that the link is in; a call always does.
+    pub fn is_live(&self, event: &Event) -> bool
+        ensures { result ≡ is_live (view_of self.now) (heard event.now) }
+    {
+        match event {
+            Event::Call(_) => true,
+            Event::Opened(link) => self.dials(*link),
+            Event::Bytes(link, _) | Event::Drain(link, _) => self.opens(*link),
+        }
+    }
+
     /// An event begins: what it brings at once, and the frames that it brings to a link.
     fn begins(
         &mut self,
-        event: Event,
+        event: &Event,
         due: &mut VecDeque<Act>,
     ) -> Result<(u64, VecDeque<Arrival>), NoMemory>
-        ensures due { OnOk result (due.new.items ≡ due.old.items ++ brings (view_of self.old) (heard event)) }
-        ensures frames { IfOk result (λ r. map (λ a. Act.OnLink r.0 (LinkAct.Comes a)) r.1.items ≡ frames_of (view_of self.old) (heard event)) }
-        ensures tables { OnOk result (Begun (heard event) self.old self.new) }
+        ensures due { OnOk result (due.new.items ≡ due.old.items ++ brings (view_of self.old) (heard event.now)) }
+        ensures frames { IfOk result (λ r. map (λ a. Act.OnLink r.0 (LinkAct.Comes a)) r.1.items ≡ frames_of (view_of self.old) (heard event.now)) }
+        ensures tables { OnOk result (Begun (heard event.now) self.old self.new) }
     {
         let none = VecDeque::new(self.alloc);
         match event {
@@ -99,20 +110,20 @@ impl Tables {
                 Ok((0, none))
             }
             Event::Opened(link) => {
-                if self.dials(link) {
+                if self.dials(*link) {
                     due.push_back(Act::OnLink {
-                        link,
+                        link: *link,
                         act: LinkAct::Opens,
                     })?;
                 }
                 Ok((0, none))
             }
-            Event::Bytes(link, piece) => Ok((link, self.receive(link, &piece)?)),
+            Event::Bytes(link, piece) => Ok((*link, self.receive(*link, piece)?)),
             Event::Drain(link, most) => {
-                if self.opens(link) {
+                if self.opens(*link) {
                     due.push_back(Act::OnLink {
-                        link,
-                        act: LinkAct::Drains(most as u64),
+                        link: *link,
+                        act: LinkAct::Drains(*most as u64),
                     })?;
                 }
                 Ok((0, none))
@@ -121,8 +132,8 @@ impl Tables {
     }
 
     /// A call is made, unless the tickets are spent.
-    fn call(&self, call: Call, due: &mut VecDeque<Act>) -> Result<(), NoMemory>
-        ensures { OnOk result (due.new.items ≡ due.old.items ++ calls_for (view_of self.now) (asked call)) }
+    fn call(&self, call: &Call, due: &mut VecDeque<Act>) -> Result<(), NoMemory>
+        ensures { OnOk result (due.new.items ≡ due.old.items ++ calls_for (view_of self.now) (asked call.now)) }
     {
         if self.tickets == u64::MAX {
             due.push_back(Act::Answers {
@@ -130,7 +141,7 @@ impl Tables {
                 verdict: Verdict::new(Err(Error::Connection(ConnectionError::Exhausted))),
             })?;
         } else {
-            due.push_back(Act::Calls(procedure_for(self.built, call)))?;
+            due.push_back(Act::Calls(procedure_for(self.built, call)?))?;
         }
         Ok(())
     }
@@ -488,19 +499,19 @@ impl Tables {
 }
 
 /// The procedure of a call.
-fn procedure_for(built: bool, call: Call) -> Procedure
-    ensures { result ≡ procedure_for built (asked call) }
+fn procedure_for(built: bool, call: &Call) -> Result<Procedure, NoMemory>
+    ensures { IfOk result (λ p. p ≡ procedure_for built (asked call.now)) }
 {
     match call {
-        Call::Build => Procedure::Build,
+        Call::Build => Ok(Procedure::Build),
         Call::Topics { namespace, mode } => {
             if built {
-                Procedure::Topics {
-                    namespace: Text::new(namespace),
-                    mode,
-                }
+                Ok(Procedure::Topics {
+                    namespace: Text::new(namespace.clone()?),
+                    mode: *mode,
+                })
             } else {
-                Procedure::Refused
+                Ok(Procedure::Refused)
             }
         }
     }

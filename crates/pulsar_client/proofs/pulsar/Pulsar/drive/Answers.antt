@@ -1,0 +1,24 @@
+use Rattle.std.proofs.Common.{◌≡◌, ◌<◌, length, take, arith, length-take, length-append, reverse}
+use Rattle.std.proofs.lemmas.List.{take_more}
+use Rattle.pulsar_client.specs.Client.{chosen}
+use Rattle.pulsar_client.specs.Tables.{answered}
+use Rattle.pulsar_client.proofs.Runs.{history_more}
+use Rattle.pulsar_client.proofs.pulsar.Pulsar.drive.Goals as goal
+
+pub loop-event-preserved : goal.loop-event-preserved
+loop-event-preserved c =
+    let i = c.loop-event.event-index in
+    let events = c.args.events.now in
+    let lt : i < length events = omega arith in
+    let counts : length c.loop-event.all.items ≡ length (take i events) = simp length-take (omega (arith, c.loop-event.invariant.count)) in
+    record {
+      stands =
+          rw (
+            c.in_ok-push.ensures.items,
+            take_more events i c.event-item.result lt,
+            ← c.event-item.is,
+            history_more (take i events) c.loop-event.all.items c.event-item.result c.in_ok-take.field-0 counts,
+          )
+          (c.in_ok-take.ensures.ok (chosen c.args.options) (reverse (answered (take i events) c.loop-event.all.items)) c.loop-event.invariant.stands);
+      count = rw c.in_ok-push.ensures.items (simp length-append (omega (arith, c.loop-event.invariant.count)));
+    }

@@ -6,3 +6,4 @@ pub mod Log
 pub mod Good
 pub mod Tables
 pub mod Client
+pub mod Outside

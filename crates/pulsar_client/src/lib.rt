@@ -6,6 +6,7 @@ mod content;
 pub mod effect;
 pub mod event;
 pub mod options;
+pub mod outside;
 mod order;
 mod plans;
 pub mod pulsar;

@@ -1,20 +1,9 @@
--- How one more field changes the values that were read so far.
+-- Serves the code's contracts alone: how one more field changes the values that were read so far.
 use Rattle.std.specs.Prelude.{ℕ, ℤ, List, [], ◌∷◌, ◌++◌, Option, Some, None, ◌==◌, if◌then◌else◌}
 use Rattle.std.specs.Option.{unwrap_or}
 use Rattle.pulsar_wire.specs.Field.{◌>>=◌, Value, Field, fields}
-use Rattle.pulsar_wire.specs.Row.{Kind, Rule, Required, Optional, Repeated, Row, End, Plain, Embedded, Numbers, Held, Values, Content, content, zero_of, delimited, numbers}
-
--- what no occurrence gives
-abbrev pub absent : {X : Type 0} (r : Rule) → X → Held r X
-absent Required d = d
-absent Optional d = None
-absent Repeated d = []
-
-abbrev pub none_of : (row : Row) → Values row
-none_of End = tt
-none_of (Plain n r k row) = (absent r (zero_of k), none_of row)
-none_of (Embedded n r inner row) = (absent r (none_of inner), none_of row)
-none_of (Numbers n row) = ([], none_of row)
+use Rattle.pulsar_wire.specs.Row.{Kind, Rule, Required, Optional, Repeated, Row, End, Plain, Embedded, Numbers, Held, Values, Content, content, delimited, numbers}
+pub use Rattle.pulsar_wire.specs.Row.{none_of}
 
 -- one more occurrence
 abbrev pub with_next : {X : Type 0} (r : Rule) → Held r X → X → Held r X

@@ -92,6 +92,19 @@ zero_of Int32 = pos 0
 zero_of Int64 = pos 0
 zero_of Flag = false
 
+-- what no occurrence gives
+abbrev pub absent : {X : Type 0} (r : Rule) → X → Held r X
+absent Required d = d
+absent Optional d = None
+absent Repeated d = []
+
+-- the values of a message with no field
+abbrev pub none_of : (row : Row) → Values row
+none_of End = tt
+none_of (Plain n r k row) = (absent r (zero_of k), none_of row)
+none_of (Embedded n r inner row) = (absent r (none_of inner), none_of row)
+none_of (Numbers n row) = ([], none_of row)
+
 -- f of each, where it has a value for each
 abbrev pub each : {A B : Type 0} → (A → Option B) → List A → Option (List B)
 each f [] = Some []

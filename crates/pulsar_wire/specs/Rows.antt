@@ -1,4 +1,5 @@
 -- The table of the commands: a row for each, its fields in order.  (PulsarApi.proto)
+use Rattle.std.specs.Prelude.{ℕ, List, [], ◌∷◌, codes}
 use Rattle.pulsar_wire.specs.Row.{Text, Bytes, Uint64, Int32, Row, End, ◌▹◌, required, optional, repeated}
 
 -- COMMANDS THAT OPEN A CONNECTION
@@ -16,3 +17,23 @@ get_topics_of_namespace = required 1 Uint64 ▹ required 2 Text ▹ optional 3 I
 
 abbrev pub get_topics_of_namespace_response : Row
 get_topics_of_namespace_response = required 1 Uint64 ▹ repeated 2 Text ▹ End
+
+-- THE BODIES OF A COMMAND
+
+-- a body by its number: its name in the protocol, and its fields
+pub record Known : Type 0 where
+  pub number : ℕ
+  pub name : List ℕ
+  pub row : Row
+
+abbrev pub known : ℕ → List ℕ → Row → Known
+known number name row = record { number = number; name = name; row = row }
+
+-- the bodies that are known
+abbrev pub known_bodies : List Known
+known_bodies =
+    known 2 (codes "connect") connect
+    ∷ known 3 (codes "connected") connected
+    ∷ known 32 (codes "get_topics_of_namespace") get_topics_of_namespace
+    ∷ known 33 (codes "get_topics_of_namespace_response") get_topics_of_namespace_response
+    ∷ []

@@ -5,4 +5,5 @@ pub mod commands;
 pub mod encoding;
 pub mod error;
 pub mod key;
+pub mod laws;
 pub mod wire;

@@ -12,3 +12,4 @@ pub mod RoundTrip
 pub mod Copies
 pub mod CommandTrip
 pub mod Ranges
+pub mod Unknown

@@ -40,7 +40,7 @@ abbrev pub Differ : ℕ → ℕ → Type 0
 Differ n m = (eqb n m ≡ false) × (eqb m n ≡ false)
 
 -- a number that a row does not have
-abbrev Lacks : ℕ → Row → Type 0
+abbrev pub Lacks : ℕ → Row → Type 0
 Lacks n End = Unit {0}
 Lacks n (Plain m r k row) = Differ n m × Lacks n row
 Lacks n (Embedded m r inner row) = Differ n m × Lacks n row
@@ -71,7 +71,7 @@ other_way n m false e none = refl
 pub differ : (n m : ℕ) → not (eqb n m) ≡ true → Differ n m
 differ n m e = let no = is_not (eqb n m) e in (no, other_way n m (eqb m n) refl no)
 
-lacking : (n : ℕ) (row : Row) → lacks n row ≡ true → Lacks n row
+pub lacking : (n : ℕ) (row : Row) → lacks n row ≡ true → Lacks n row
 lacking n End e = tt
 lacking n (Plain m r k row) e = let p = both (not (eqb n m)) (lacks n row) e in (differ n m p.0, lacking n row p.1)
 lacking n (Embedded m r inner row) e = let p = both (not (eqb n m)) (lacks n row) e in (differ n m p.0, lacking n row p.1)
@@ -254,7 +254,7 @@ occurrences-append-next : (b : Bool) (v : Value) (xs ys all : List Value) → al
 occurrences-append-next true v xs ys all e = ap (λ (l : List Value). v ∷ l) e
 occurrences-append-next false v xs ys all e = e
 
-occurrences-append : (n : ℕ) (fs gs : List Field) → occurrences n (fs ++ gs) ≡ occurrences n fs ++ occurrences n gs
+pub occurrences-append : (n : ℕ) (fs gs : List Field) → occurrences n (fs ++ gs) ≡ occurrences n fs ++ occurrences n gs
 occurrences-append n [] gs = refl
 occurrences-append n (f ∷ fs) gs = occurrences-append-next (eqb f.number n) f.value (occurrences n fs) (occurrences n gs) (occurrences n (fs ++ gs)) (occurrences-append n fs gs)
 

@@ -1,6 +1,6 @@
 -- What has a spelling that is read again: values that the types of the fields hold, in fewer than 2 ^ 64 bytes.
 -- (Protocol Buffers, Encoding: message structure)
-use Rattle.std.specs.Prelude.{◌≡◌, ℕ, ℤ, pos, ◌^◌, ◌<◌, ◌==◌, nat_lt, Bool, true, not, ◌&&◌, IsTrue, List, length, Option, Some, None, FitsSigned}
+use Rattle.std.specs.Prelude.{◌≡◌, ◌≢◌, ℕ, ℤ, pos, ◌^◌, ◌<◌, ◌==◌, nat_lt, Bool, true, not, ◌&&◌, IsTrue, List, length, Option, Some, None, FitsSigned}
 use Rattle.std.specs.List.{AllByRecursion}
 use Rattle.std.specs.Int.{w32, w64}
 use Rattle.std.specs.Str.{is_utf8}
@@ -49,6 +49,10 @@ is_row (Numbers n row) = is_number n && lacks n row && is_row row
 -- a row whose numbers are different
 abbrev pub IsRow : Row → Type 0
 IsRow row = IsTrue (is_row row)
+
+-- a number of no field of a command
+abbrev pub IsUnknown : ℕ → Type 0
+IsUnknown n = (n ≢ 1) × (body_row n ≡ None)
 
 -- a kind of 32 bits, or a known body whose values are in range
 abbrev pub InCommandRange : ℤ → Option BodyValues → Type 0

@@ -1,6 +1,6 @@
 //! What holds of all messages and commands. A function here has no body: its contract is the law.
 
-ghost use Rattle.pulsar_wire.specs.Laws.{MessagesReadAgain, CommandsReadAgain, SettledCommandsReadAgain, OneMeaning, OneSpelling, KnownBodiesAreRows};
+ghost use Rattle.pulsar_wire.specs.Laws.{MessagesReadAgain, CommandsReadAgain, SettledCommandsReadAgain, OneMeaning, OneSpelling, KnownBodiesAreRows, UnknownFieldsAreSkipped, UnknownBodiesAreSkipped};
 
 /// What is written is read again: in a row whose numbers are different, each value that fits is the meaning of its
 /// spelling.
@@ -31,4 +31,14 @@ pub fn one_spelling()
 /// No known body has two fields of one number.
 pub fn known_bodies_are_rows()
     ensures { KnownBodiesAreRows }
+{}
+
+/// A field that a row does not have changes nothing, wherever it stands.
+pub fn unknown_fields_are_skipped()
+    ensures { UnknownFieldsAreSkipped }
+{}
+
+/// A field of a command that is neither its kind nor a known body changes nothing, wherever it stands.
+pub fn unknown_bodies_are_skipped()
+    ensures { UnknownBodiesAreSkipped }
 {}

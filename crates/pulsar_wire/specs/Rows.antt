@@ -1,6 +1,6 @@
 -- The table of the commands: a row for each, its fields in order.  (PulsarApi.proto)
 use Rattle.std.specs.Prelude.{ℕ, List, [], ◌∷◌, codes}
-use Rattle.pulsar_wire.specs.Row.{Text, Bytes, Uint64, Int32, Row, End, ◌▹◌, required, optional, repeated}
+use Rattle.pulsar_wire.specs.Row.{Text, Bytes, Uint64, Int32, Row, End, Numbers, ◌▹◌, required, optional, repeated}
 
 -- COMMANDS THAT OPEN A CONNECTION
 
@@ -17,6 +17,11 @@ get_topics_of_namespace = required 1 Uint64 ▹ required 2 Text ▹ optional 3 I
 
 abbrev pub get_topics_of_namespace_response : Row
 get_topics_of_namespace_response = required 1 Uint64 ▹ repeated 2 Text ▹ End
+
+-- WHAT NAMES A MESSAGE
+
+abbrev pub message_id : Row
+message_id = required 1 Uint64 ▹ required 2 Uint64 ▹ optional 3 Int32 ▹ optional 4 Int32 ▹ Numbers 5 ▹ optional 6 Int32 ▹ End
 
 -- THE BODIES OF A COMMAND
 

@@ -2,12 +2,13 @@
 use Rattle.std.specs.Prelude.{map, string_bytes}
 use Rattle.std.specs.Option.{option_map}
 use Rattle.pulsar_wire.specs.Row.{Values, ◌&◌}
-use Rattle.pulsar_wire.specs.Rows.{connect, connected, get_topics_of_namespace, get_topics_of_namespace_response}
+use Rattle.pulsar_wire.specs.Rows.{message_id, connect, connected, get_topics_of_namespace, get_topics_of_namespace_response}
 use Rattle.pulsar_wire.specs.Command.{BodyValues, CommandValues}
 use Rattle.pulsar_wire.specs.declared.commands.connection.CommandConnect.{CommandConnect}
 use Rattle.pulsar_wire.specs.declared.commands.connection.CommandConnected.{CommandConnected}
 use Rattle.pulsar_wire.specs.declared.commands.topics.CommandGetTopicsOfNamespace.{CommandGetTopicsOfNamespace}
 use Rattle.pulsar_wire.specs.declared.commands.topics.CommandGetTopicsOfNamespaceResponse.{CommandGetTopicsOfNamespaceResponse}
+use Rattle.pulsar_wire.specs.declared.commands.ids.MessageIdData.{MessageIdData}
 use Rattle.pulsar_wire.specs.declared.commands.base.Body.{Body}
 use Rattle.pulsar_wire.specs.declared.commands.base.Body.TheVariants.{Connect, Connected, GetTopicsOfNamespace, GetTopicsOfNamespaceResponse}
 use Rattle.pulsar_wire.specs.declared.commands.base.BaseCommand.{BaseCommand}
@@ -23,6 +24,9 @@ get_topics_of_namespace_values m = m.request_id & string_bytes m.namespace & m.m
 
 unfoldable pub get_topics_of_namespace_response_values : CommandGetTopicsOfNamespaceResponse → Values get_topics_of_namespace_response
 get_topics_of_namespace_response_values m = m.request_id & map string_bytes m.topics.items & tt
+
+unfoldable pub message_id_values : MessageIdData → Values message_id
+message_id_values m = m.ledger_id & m.entry_id & m.partition & m.batch_index & m.ack_set.items & m.batch_size & tt
 
 abbrev pub body_values : Body → BodyValues
 body_values (Connect m) = record { number = 2; row = connect; values = connect_values m }

@@ -6,4 +6,6 @@ pub mod encoding;
 pub mod error;
 pub mod key;
 pub mod laws;
+#[cfg(test)]
+mod tests;
 pub mod wire;

@@ -16,7 +16,7 @@ use std::alloc::{AllocError, Global};
 
 /// The place of a message: its ledger, its entry, and in a batch its index. Ids are ordered by their fields, in the
 /// order written here, and an absent field comes first.
-#[derive(Clone, Debug, PartialEq, Eq, PartialOrd, Ord, Hash, Drop)]
+#[derive(Debug, PartialEq, Eq, PartialOrd, Ord, Hash, Drop)]
 pub struct MessageIdData {
     pub ledger_id: u64,
     pub entry_id: u64,
@@ -43,11 +43,26 @@ impl MessageIdData {
     }
 
     /// An id with the same content.
-    #[tactic(auto, unfolding(crate::specs::Views::message_id_values))]
     pub fn copy(&self) -> Result<MessageIdData, NoMemory>
         ensures { IfOk result (λ m. message_id_values m ≡ message_id_values self.now) }
     {
         Ok(self.clone()?)
+    }
+}
+
+impl Clone for MessageIdData {
+    ghost is_clone = { λ old new. message_id_values new ≡ message_id_values old };
+
+    #[tactic(auto, unfolding(crate::specs::Views::message_id_values))]
+    fn clone(&self) -> Result<MessageIdData, AllocError> {
+        Ok(MessageIdData {
+            ledger_id: self.ledger_id,
+            entry_id: self.entry_id,
+            partition: self.partition,
+            batch_index: self.batch_index,
+            ack_set: self.ack_set.clone()?,
+            batch_size: self.batch_size,
+        })
     }
 }
 

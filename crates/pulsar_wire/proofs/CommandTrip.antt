@@ -1,14 +1,14 @@
 -- A command that is written is read again.
-use Rattle.std.proofs.Common.{◌≡◌, ℕ, ◌<◌, ◌%◌, ◌^◌, ℤ, pos, Bool, true, false, cond, eqb, ◌&&◌, not, List, [], ◌∷◌, ◌++◌, length, Option, Some, None, eq-eqb, refl, sym, ap, subst, ◌∙◌, arith, inl, inr}
+use Rattle.std.proofs.Common.{◌≡◌, ℕ, ◌<◌, ◌%◌, ◌^◌, ℤ, pos, Bool, true, eqb, ◌&&◌, not, List, [], ◌∷◌, ◌++◌, length, Option, Some, None, eq-eqb, refl, sym, ap, ◌∙◌, arith, inl, inr}
 use Rattle.std.specs.List.{list_all}
 use Rattle.std.specs.Int.{w32, w64, cast_signed, cast_unsigned}
 use mir.Val.{SFits}
 use Rattle.std.proofs.lemmas.Bool.{eqb-true}
 use Rattle.std.proofs.lemmas.List.{append-nil}
-use Rattle.pulsar_wire.specs.Field.{◌>>=◌, Value, Delimited, Field, field_at, fields}
-use Rattle.pulsar_wire.specs.Row.{Int32, Required, Row, Values, plain_of, embedded, occurrences, reading, entry, message_entry, spelling}
+use Rattle.pulsar_wire.specs.Field.{Delimited, Field, field_at, fields}
+use Rattle.pulsar_wire.specs.Row.{Int32, Required, Row, Values, reading, entry, message_entry, spelling}
 use Rattle.pulsar_wire.specs.Rows.{Known, known_bodies}
-use Rattle.pulsar_wire.specs.Command.{BodyValues, CommandValues, row_in, body_row, bodies, only, heading, body_value, some_body, with_kind, with_body, command_reading, body_spelling, command_spelling, decided, settled}
+use Rattle.pulsar_wire.specs.Command.{BodyValues, CommandValues, row_in, body_row, heading, body_value, some_body, with_kind, command_reading, body_spelling, command_spelling, decided, settled}
 use Rattle.pulsar_wire.specs.Fits.{InRange, Fits, is_number, is_row, IsRow, InCommandRange, CommandInRange, FitsCommand}
 use Rattle.pulsar_wire.proofs.Fields.{some, some_is, chosen, fields-nil, fields-next}
 use Rattle.pulsar_wire.proofs.RoundTrip.{Differ, IsNumber, both, differ, number, short_back, short_inside, field_of, stored, entry-again, bytes_field-again, content-again, embedded-again, round_trip}

@@ -13,3 +13,4 @@ pub mod Copies
 pub mod CommandTrip
 pub mod Ranges
 pub mod Unknown
+pub mod Rereading

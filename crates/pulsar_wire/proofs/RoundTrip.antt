@@ -1,6 +1,5 @@
 -- What is written is read again.
-use Rattle.std.proofs.Common.{◌≡◌, ◌≢◌, ℕ, zero, suc, ◌+◌, ◌*◌, ◌-◌, ◌/◌, ◌%◌, ◌^◌, ◌<◌, ◌≤◌, ℤ, pos, negsuc, Bool, true, false, cond, eqb, ltb, ◌&&◌, List, [], ◌∷◌, ◌++◌, length, map, take, drop, Option, Some, None, not, eq-eqb, refl, sym, ap, subst, ◌∙◌, append_assoc, length-append, arith, inl, inr}
-use Rattle.std.specs.Option.{option_to_list}
+use Rattle.std.proofs.Common.{◌≡◌, ℕ, zero, suc, ◌+◌, ◌*◌, ◌-◌, ◌/◌, ◌%◌, ◌^◌, ◌<◌, ◌≤◌, ℤ, pos, negsuc, Bool, true, false, cond, eqb, ltb, ◌&&◌, List, [], ◌∷◌, ◌++◌, length, map, Option, Some, None, not, eq-eqb, refl, sym, ap, ◌∙◌, append_assoc, length-append, arith, inl, inr}
 use Rattle.std.specs.List.{flat_map, AllByRecursion}
 use Rattle.std.specs.Int.{w32, w64, cast_signed, cast_unsigned}
 use Rattle.std.specs.Str.{is_utf8}
@@ -12,10 +11,10 @@ use Rattle.std.proofs.Math.Seq.{take-append_seam, drop-append_seam}
 use Rattle.std.proofs.lemmas.Bool.{lt-ltb, le-ltb, cases_lt, ltb-true, eqb-true}
 use Rattle.std.proofs.lemmas.List.{append-nil}
 use Rattle.std.proofs.lemmas.List.Concat.{flat_map-cons}
-use Rattle.pulsar_wire.specs.Field.{◌>>=◌, Value, Varint, Eight, Delimited, Four, Field, varint_within, varint_at, bytes_at, value_at, field_at, fields}
-use Rattle.pulsar_wire.specs.Row.{Kind, Text, Bytes, Uint32, Uint64, Int32, Int64, Flag, Rule, Required, Optional, Repeated, Row, End, Plain, Embedded, Numbers, Held, Values, Content, content, zero_of, each, occurrences, plain, plain_of, delimited, joined, embedded, numbers, numbers_of, value, reading, varint_in, varint, with_length, flag_number, wire_type, wire, key, items, entry, message_entry, spelling}
+use Rattle.pulsar_wire.specs.Field.{◌>>=◌, Value, Varint, Delimited, Field, varint_within, varint_at, bytes_at, value_at, field_at, fields}
+use Rattle.pulsar_wire.specs.Row.{Kind, Text, Bytes, Uint32, Uint64, Int32, Int64, Flag, Rule, Required, Optional, Repeated, Row, End, Plain, Embedded, Numbers, Held, Values, Content, content, zero_of, each, occurrences, plain, delimited, joined, embedded, numbers, numbers_of, value, reading, varint_in, varint, with_length, flag_number, key, items, entry, message_entry, spelling}
 use Rattle.pulsar_wire.specs.Fits.{FitsContent, InRange, Fits, is_number, lacks, is_row, IsRow}
-use Rattle.pulsar_wire.proofs.Fields.{some, some_is, bind_assoc, fields-nil, fields-next, fields-append}
+use Rattle.pulsar_wire.proofs.Fields.{some, some_is, fields-nil, fields-next, fields-append}
 
 -- ---- what the tests and the total length say of each part
 

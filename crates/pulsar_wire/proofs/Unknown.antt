@@ -1,12 +1,12 @@
 -- Fields that no row has change nothing.
-use Rattle.std.proofs.Common.{◌≡◌, ◌≢◌, ℕ, Bool, true, false, cond, eqb, ℤ, List, [], ◌∷◌, ◌++◌, Option, Some, None, refl, sym, ap, ◌∙◌, append_assoc}
+use Rattle.std.proofs.Common.{◌≡◌, ℕ, Bool, true, false, cond, eqb, ℤ, List, [], ◌∷◌, ◌++◌, Option, Some, None, refl, sym, ap, ◌∙◌}
 use Rattle.std.specs.Option.{is_some}
 use Rattle.std.proofs.lemmas.Bool.{eqb-true, ne_eqb}
-use Rattle.pulsar_wire.specs.Field.{◌>>=◌, Value, Field, field_at, fields}
-use Rattle.pulsar_wire.specs.Row.{Int32, Required, Row, End, Plain, Embedded, Numbers, Values, plain_of, embedded, occurrences, value, reading}
-use Rattle.pulsar_wire.specs.Command.{BodyValues, CommandValues, body_row, bodies, only, heading, body_value, some_body, with_body, with_kind, command_reading}
+use Rattle.pulsar_wire.specs.Field.{◌>>=◌, Field, fields}
+use Rattle.pulsar_wire.specs.Row.{Row, End, Plain, Embedded, Numbers, occurrences, value, reading}
+use Rattle.pulsar_wire.specs.Command.{CommandValues, body_row, bodies, heading, some_body, with_body, command_reading}
 use Rattle.pulsar_wire.specs.Fits.{lacks, IsUnknown}
-use Rattle.pulsar_wire.proofs.Fields.{some, bind_assoc, fields-append}
+use Rattle.pulsar_wire.proofs.Fields.{some, fields-append}
 use Rattle.pulsar_wire.proofs.RoundTrip.{Lacks, lacking, occurrences-append}
 
 -- a field with another number is no occurrence

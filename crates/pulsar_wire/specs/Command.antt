@@ -1,5 +1,5 @@
 -- A command: its kind, and at most one body.  (Pulsar binary protocol, Simple commands; PulsarApi.proto)
-use Rattle.std.specs.Prelude.{◌≡◌, ℕ, ℤ, pos, Bool, List, [], ◌∷◌, ◌++◌, Option, Some, None, ◌==◌, if◌then◌else◌}
+use Rattle.std.specs.Prelude.{◌≡◌, ℕ, ℤ, pos, List, [], ◌∷◌, ◌++◌, Option, Some, None, ◌==◌, if◌then◌else◌}
 use Rattle.std.specs.Option.{is_some}
 use Rattle.std.specs.List.{list_all}
 use Rattle.pulsar_wire.specs.Field.{◌>>=◌, Field, fields}

@@ -1,10 +1,10 @@
 -- What has a spelling that is read again: values that the types of the fields hold, in fewer than 2 ^ 64 bytes.
 -- (Protocol Buffers, Encoding: message structure)
-use Rattle.std.specs.Prelude.{◌≡◌, ◌≢◌, ℕ, ℤ, pos, ◌^◌, ◌<◌, ◌==◌, nat_lt, Bool, true, not, ◌&&◌, IsTrue, List, length, Option, Some, None, FitsSigned}
+use Rattle.std.specs.Prelude.{◌≡◌, ◌≢◌, ℕ, ℤ, ◌^◌, ◌<◌, ◌==◌, nat_lt, Bool, true, not, ◌&&◌, IsTrue, length, Option, Some, None, FitsSigned}
 use Rattle.std.specs.List.{AllByRecursion}
 use Rattle.std.specs.Int.{w32, w64}
 use Rattle.std.specs.Str.{is_utf8}
-use Rattle.pulsar_wire.specs.Row.{Kind, Text, Bytes, Uint32, Uint64, Int32, Int64, Flag, Rule, Row, End, Plain, Embedded, Numbers, Values, Content, items, spelling}
+use Rattle.pulsar_wire.specs.Row.{Kind, Text, Bytes, Uint32, Uint64, Int32, Int64, Flag, Row, End, Plain, Embedded, Numbers, Values, Content, items, spelling}
 use Rattle.pulsar_wire.specs.Command.{BodyValues, CommandValues, body_row, command_spelling}
 
 -- a content that the type of its kind holds

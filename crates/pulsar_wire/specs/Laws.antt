@@ -1,5 +1,5 @@
 -- What holds of all messages and commands.
-use Rattle.std.specs.Prelude.{◌≡◌, ℕ, IsTrue, List, [], ◌∷◌, ◌++◌, Option, Some}
+use Rattle.std.specs.Prelude.{◌≡◌, ℕ, IsTrue, List, [], ◌∷◌, ◌++◌, Some}
 use Rattle.pulsar_wire.specs.Field.{Field, fields}
 use Rattle.pulsar_wire.specs.Row.{Row, Values, reading, spelling}
 use Rattle.pulsar_wire.specs.Command.{CommandValues, body_row, command_reading, command_spelling, settled, Spells}

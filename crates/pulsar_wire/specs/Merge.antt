@@ -1,9 +1,8 @@
 -- Serves the code's contracts alone: how one more field changes the values that were read so far.
-use Rattle.std.specs.Prelude.{ℕ, ℤ, List, [], ◌∷◌, ◌++◌, Option, Some, None, ◌==◌, if◌then◌else◌}
+use Rattle.std.specs.Prelude.{ℕ, ℤ, List, [], ◌∷◌, ◌++◌, Option, Some, ◌==◌, if◌then◌else◌}
 use Rattle.std.specs.Option.{unwrap_or}
 use Rattle.pulsar_wire.specs.Field.{◌>>=◌, Value, Field, fields}
-use Rattle.pulsar_wire.specs.Row.{Kind, Rule, Required, Optional, Repeated, Row, End, Plain, Embedded, Numbers, Held, Values, Content, content, delimited, numbers}
-pub use Rattle.pulsar_wire.specs.Row.{none_of}
+use Rattle.pulsar_wire.specs.Row.{Kind, Rule, Required, Optional, Repeated, Row, End, Plain, Embedded, Numbers, Held, Values, Content, content, delimited, numbers, none_of}
 
 -- what a plain field holds with one more occurrence
 abbrev pub with_next : {X : Type 0} (r : Rule) → Held r X → X → Held r X

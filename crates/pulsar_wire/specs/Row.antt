@@ -1,11 +1,11 @@
 -- What a message's fields mean, by its row of the table, and how a value is written.
 -- (Protocol Buffers, Encoding: message structure; proto2)
-use Rattle.std.specs.Prelude.{ℕ, zero, suc, ℤ, pos, ◌+◌, ◌-◌, ◌*◌, ◌/◌, ◌%◌, ◌^◌, Bool, true, false, List, [], ◌∷◌, ◌++◌, length, Option, Some, None, nat_lt, ◌==◌, if◌then◌else◌}
-use Rattle.std.specs.Option.{option_map, option_to_list}
+use Rattle.std.specs.Prelude.{ℕ, zero, suc, ℤ, pos, ◌+◌, ◌*◌, ◌/◌, ◌%◌, ◌^◌, Bool, true, false, List, [], ◌∷◌, ◌++◌, length, Option, Some, None, nat_lt, ◌==◌, if◌then◌else◌}
+use Rattle.std.specs.Option.{option_to_list}
 use Rattle.std.specs.List.{flat_map}
 use Rattle.std.specs.Int.{w32, w64, cast_signed, cast_unsigned}
 use Rattle.std.specs.Str.{is_utf8}
-use Rattle.pulsar_wire.specs.Field.{◌>>=◌, Value, Varint, Eight, Delimited, Four, Field, fields, varint_at}
+use Rattle.pulsar_wire.specs.Field.{◌>>=◌, Value, Varint, Delimited, Field, fields, varint_at}
 
 -- what a field holds: text is UTF-8, and a choice among numbers is an Int32
 pub data Kind : Type 0 where

@@ -1,5 +1,5 @@
 -- Serves the code's contracts alone: what its values and its answers stand for.
-use Rattle.std.specs.Prelude.{◌≡◌, ℕ, List, Option, Some, None, Result, Ok, Err}
+use Rattle.std.specs.Prelude.{◌≡◌, ℕ, Option, Some, None, Result, Ok, Err}
 use Rattle.pulsar_wire.specs.declared.encoding.field.Value.{Value as Read}
 use Rattle.pulsar_wire.specs.declared.encoding.field.Value.TheVariants as read
 use Rattle.pulsar_wire.specs.declared.encoding.read_error.ReadError.{ReadError}

@@ -1,9 +1,9 @@
 -- Serves the code's contracts alone: writing, behind what was written before.
-use Rattle.std.specs.Prelude.{◌≡◌, ℕ, ◌-◌, ◌^◌, ◌≤◌, length, min, List, [], ◌∷◌, ◌++◌}
+use Rattle.std.specs.Prelude.{◌≡◌, ℕ, ◌-◌, ◌^◌, ◌≤◌, length, min, List, ◌++◌}
 use Rattle.std.specs.Global.{Vec}
-use Rattle.std.proofs.Common.{arith, ap, sym, ◌∙◌}
+use Rattle.std.proofs.Common.{arith, ap}
 use Rattle.std.specs.List.{flat_map}
-use Rattle.pulsar_wire.specs.Row.{Kind, Int64, Rule, Row, End, Plain, Embedded, Numbers, Held, Values, entry, message_entry, items, spelling}
+use Rattle.pulsar_wire.specs.Row.{Int64, Row, End, Plain, Embedded, Numbers, Values, entry, message_entry, items, spelling}
 
 -- a count that stops at the greatest u64
 abbrev pub capped : ℕ → ℕ

@@ -1,6 +1,22 @@
-//! What holds of all messages and commands. A function here has no body: its contract is the law.
+//! What holds of all messages and commands. A function with an empty body has the law as its contract.
 
+ghost use Rattle.std.specs.Prelude.{◌≡◌, MatchResult};
 ghost use Rattle.pulsar_wire.specs.Laws.{MessagesReadAgain, CommandsReadAgain, SettledCommandsReadAgain, OneMeaning, OneSpelling, KnownBodiesAreRows, UnknownFieldsAreSkipped, UnknownBodiesAreSkipped};
+
+use crate::error::ConnectionError;
+use crate::wire::Wire;
+use std::alloc::Global;
+
+/// Writes a value and reads it again. What comes back is the value, where a command's kind is that of its body, and only
+/// memory may be wanting.
+pub fn round_trip<W: Wire>(alloc: Global, value: &W) -> Result<W, ConnectionError>
+    ensures { MatchResult result (λ again. W.seen again ≡ W.reread (W.seen value.now))
+        (λ e. e ≡ ConnectionError.NoMemory) }
+{
+    let mut bytes = Vec::new(alloc);
+    value.encode(&mut bytes)?;
+    W::decode(alloc, &bytes)
+}
 
 /// What is written is read again: in a row whose numbers are different, each value that fits is the meaning of its
 /// spelling.

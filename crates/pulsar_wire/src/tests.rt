@@ -6,7 +6,13 @@ use crate::commands::ids::MessageIdData;
 use crate::commands::topics::{
     CommandGetTopicsOfNamespace, CommandGetTopicsOfNamespaceResponse, Mode,
 };
+use crate::encoding::field::Value;
+use crate::encoding::message::{
+    put_optional, put_repeated, put_required, write_optional_message, write_repeated_messages,
+    write_required_message,
+};
 use crate::error::{ConnectionError, Reason};
+use crate::laws::round_trip;
 use crate::wire::Wire;
 use std::alloc::Global;
 use std::process::Abort;
@@ -19,18 +25,19 @@ fn is_refused(alloc: Global, bytes: &[u8]) -> bool {
     )
 }
 
-/// Decodes the bytes, and encodes the value and a copy of it to the same bytes.
+/// Decodes the bytes, which encode to themselves.
 fn both_ways(rt: &impl Abort, alloc: Global, bytes: &[u8]) -> Result<BaseCommand, Fail> {
     let command = BaseCommand::decode(alloc, bytes)?;
     let mut out = Vec::new(alloc);
     command.encode(&mut out)?;
     assert_eq!(rt; out.as_slice(), bytes);
     assert_eq!(rt; command.encoded_len(), bytes.len() as u64);
-    let copy = command.copy()?;
-    assert!(rt; copy == command);
+    assert!(rt; command.copy()? == command);
+    assert!(rt; round_trip(alloc, &command)? == command);
     Ok(command)
 }
 
+/// Decodes an id, which encodes to the canonical bytes.
 fn id_of(
     rt: &impl Abort,
     alloc: Global,
@@ -41,6 +48,7 @@ fn id_of(
     let mut out = Vec::new(alloc);
     id.copy()?.encode(&mut out)?;
     assert_eq!(rt; out.as_slice(), canonical);
+    assert!(rt; round_trip(alloc, &id)? == id);
     Ok(id)
 }
 
@@ -157,5 +165,28 @@ fn reads_ids(rt: HostRuntime) -> Result<(), Fail> {
     let empty = MessageIdData::new(alloc);
     assert!(rt; empty < id);
     assert_eq!(rt; empty.encoded_len(), 4);
+    Ok(())
+}
+
+#[test]
+fn embeds_messages(rt: HostRuntime) -> Result<(), Fail> {
+    let alloc = rt.alloc();
+    let id = Value::Delimited(b"\x08\x01\x10\x02");
+    let mut always = MessageIdData::new(alloc);
+    put_required(&mut always, alloc, id)?;
+    let mut perhaps: Option<MessageIdData> = None;
+    put_optional(&mut perhaps, alloc, id)?;
+    let mut several: Vec<MessageIdData> = Vec::new(alloc);
+    put_repeated(&mut several, alloc, id)?;
+    put_repeated(&mut several, alloc, id)?;
+    let mut out = Vec::new(alloc);
+    write_required_message(&mut out, 3, &always)?;
+    write_optional_message(&mut out, 3, &perhaps)?;
+    write_repeated_messages(&mut out, 3, &several)?;
+    let entry = b"\x1a\x04\x08\x01\x10\x02";
+    assert_eq!(rt; out.len(), 4 * entry.len());
+    for written in out.chunks(entry.len()) {
+        assert_eq!(rt; written, entry.as_slice());
+    }
     Ok(())
 }

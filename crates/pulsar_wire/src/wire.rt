@@ -12,6 +12,7 @@ use crate::encoding::message::{Message, decode, encode, encoded_len};
 use crate::error::{ConnectionError, NoMemory};
 use std::alloc::Global;
 
+/// What has a spelling in bytes: each message by its row, and a command.
 pub trait Wire: Drop {
     /// What is read and written.
     ghost Seen: { Type 0 };
@@ -36,7 +37,7 @@ pub trait Wire: Drop {
         ensures ok { OnOk result (out.new.items ≡ out.old.items ++ canonical (seen self.now)) }
         ensures again { OnOk result (meaning (canonical (seen self.now)) ≡ Some (reread (seen self.now))) };
 
-    /// The value that the bytes spell. It is Decoding exactly where they spell none.
+    /// The value that the bytes spell. It is Decoding exactly where they spell none, and NoMemory where memory runs out.
     fn decode(alloc: Global, bytes: &[u8]) -> Result<Self, ConnectionError>
         ensures { Decodes seen result (meaning bytes.now) };
 }

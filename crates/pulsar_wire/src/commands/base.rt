@@ -133,7 +133,8 @@ impl Heading {
     /// Takes one more field.
     #[tactic(auto, unfolding(crate::specs::Heading::heading_step))]
     fn put(&mut self, number: u32, value: Value<'_>) -> Result<(), ReadError>
-        ensures { Leaves result (self.new.kind, self.new.body) (heading_step (self.old.kind, self.old.body) (field number value.entry)) }
+        ensures { Leaves result (self.new.kind, self.new.body)
+            (heading_step (self.old.kind, self.old.body) (field number value.entry)) }
     {
         if number == 1 {
             self.kind = int32_of(value)?;
@@ -181,7 +182,8 @@ fn put_body<M: Message>(
     number: u32,
     value: Value<'_>,
 ) -> Result<(), ReadError>
-    ensures { Leaves result (M.values message.new) (body_step body M.shape (M.values message.old) (field number value.entry)) }
+    ensures { Leaves result (M.values message.new)
+        (body_step body M.shape (M.values message.old) (field number value.entry)) }
 {
     if number == body {
         put_required(message, alloc, value)
@@ -252,16 +254,19 @@ pub fn write_body<M: Message, S: Sink>(
 ) -> Result<(), AllocError>
     requires same { kind ≡ pos number }
     requires known { body_row number ≡ Some M.shape }
-    ensures ok { OnOk result (Appends S.Holds out.old out.new (body_spelling number (spelling M.shape (M.values body.now)))) }
+    ensures ok { OnOk result (Appends S.Holds out.old out.new
+        (body_spelling number (spelling M.shape (M.values body.now)))) }
     ensures sure { S.IsSure → IsOk result }
-    ensures fits { OnOk result (CommandInRange (with_kind (record { number = number; row = M.shape; values = M.values body.now }))) }
+    ensures fits { OnOk result (CommandInRange
+        (with_kind (record { number = number; row = M.shape; values = M.values body.now }))) }
 {
     kind.write(out, 1)?;
     write_message(out, number, body)
 }
 
 fn write_command<S: Sink>(out: &mut S, command: &BaseCommand) -> Result<(), AllocError>
-    ensures ok { OnOk result (Appends S.Holds out.old out.new (command_spelling (command_values command.now))) }
+    ensures ok { OnOk result (Appends S.Holds out.old out.new
+        (command_spelling (command_values command.now))) }
     ensures sure { S.IsSure → IsOk result }
     ensures fits { OnOk result (CommandInRange (settled (command_values command.now))) }
 {
@@ -277,7 +282,8 @@ fn write_command<S: Sink>(out: &mut S, command: &BaseCommand) -> Result<(), Allo
 /// Writes the command at the end.
 pub fn encode_command(command: &BaseCommand, out: &mut Vec<u8>) -> Result<(), AllocError>
     ensures ok { OnOk result (out.new.items ≡ out.old.items ++ command_spelling (command_values command.now)) }
-    ensures again { OnOk result (Spells (command_spelling (command_values command.now)) (settled (command_values command.now))) }
+    ensures again { OnOk result (Spells (command_spelling (command_values command.now))
+        (settled (command_values command.now))) }
 {
     write_command(out, command)
 }

@@ -60,7 +60,8 @@ impl CommandGetTopicsOfNamespace {
     /// A command with the same content.
     #[tactic(auto, unfolding(crate::specs::Views::get_topics_of_namespace_values))]
     pub fn copy(&self) -> Result<CommandGetTopicsOfNamespace, NoMemory>
-        ensures { IfOk result (λ m. get_topics_of_namespace_values m ≡ get_topics_of_namespace_values self.now) }
+        ensures { IfOk result (λ m. get_topics_of_namespace_values m
+            ≡ get_topics_of_namespace_values self.now) }
     {
         Ok(self.clone()?)
     }
@@ -107,7 +108,8 @@ impl CommandGetTopicsOfNamespaceResponse {
     /// The command whose fields are absent, empty or zero.
     #[tactic(auto, unfolding(crate::specs::Views::get_topics_of_namespace_response_values))]
     pub fn new(alloc: Global) -> CommandGetTopicsOfNamespaceResponse
-        ensures { get_topics_of_namespace_response_values result ≡ none_of get_topics_of_namespace_response }
+        ensures { get_topics_of_namespace_response_values result
+            ≡ none_of get_topics_of_namespace_response }
     {
         CommandGetTopicsOfNamespaceResponse {
             request_id: 0,
@@ -118,7 +120,8 @@ impl CommandGetTopicsOfNamespaceResponse {
     /// A command with the same content.
     #[tactic(auto, using(crate::proofs::Copies::map_copied), unfolding(crate::specs::Views::get_topics_of_namespace_response_values))]
     pub fn copy(&self) -> Result<CommandGetTopicsOfNamespaceResponse, NoMemory>
-        ensures { IfOk result (λ m. get_topics_of_namespace_response_values m ≡ get_topics_of_namespace_response_values self.now) }
+        ensures { IfOk result (λ m. get_topics_of_namespace_response_values m
+            ≡ get_topics_of_namespace_response_values self.now) }
     {
         Ok(self.clone()?)
     }

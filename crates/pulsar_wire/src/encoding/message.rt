@@ -32,9 +32,10 @@ pub trait Message: Drop {
     fn put(&mut self, alloc: Global, number: u32, value: Value<'_>) -> Result<(), ReadError>
         ensures { Leaves result (values self.new) (put shape (values self.old) (field number value.entry)) };
 
-    /// Writes its fields.
+    /// Writes its fields. What is written is in range, since its types hold it.
     fn write<S: Sink>(&self, out: &mut S) -> Result<(), AllocError>
-        ensures ok { OnOk result ((front : List ℕ) → S.Holds out.old front → S.Holds out.new (written shape (values self.now) front)) }
+        ensures ok { OnOk result ((front : List ℕ) → S.Holds out.old front
+            → S.Holds out.new (written shape (values self.now) front)) }
         ensures sure { S.IsSure → IsOk result }
         ensures fits { OnOk result (InRange shape (values self.now)) };
 
@@ -72,7 +73,8 @@ pub fn put_required<M: Message>(
     alloc: Global,
     value: Value<'_>,
 ) -> Result<(), ReadError>
-    ensures { Leaves result (M.values slot.new) (put_part Required (put M.shape) (none_of M.shape) (M.values slot.old) (shown value.entry)) }
+    ensures { Leaves result (M.values slot.new)
+        (put_part Required (put M.shape) (none_of M.shape) (M.values slot.old) (shown value.entry)) }
 {
     let Some(bytes) = delimited_of(value) else {
         return Err(ReadError::Malformed);
@@ -86,7 +88,8 @@ pub fn put_optional<M: Message>(
     alloc: Global,
     value: Value<'_>,
 ) -> Result<(), ReadError>
-    ensures { Leaves result (option_map M.values slot.new) (put_part Optional (put M.shape) (none_of M.shape) (option_map M.values slot.old) (shown value.entry)) }
+    ensures { Leaves result (option_map M.values slot.new)
+        (put_part Optional (put M.shape) (none_of M.shape) (option_map M.values slot.old) (shown value.entry)) }
 {
     let Some(bytes) = delimited_of(value) else {
         return Err(ReadError::Malformed);
@@ -108,7 +111,8 @@ pub fn put_repeated<M: Message>(
     alloc: Global,
     value: Value<'_>,
 ) -> Result<(), ReadError>
-    ensures { Leaves result (map M.values slot.new.items) (put_part Repeated (put M.shape) (none_of M.shape) (map M.values slot.old.items) (shown value.entry)) }
+    ensures { Leaves result (map M.values slot.new.items)
+        (put_part Repeated (put M.shape) (none_of M.shape) (map M.values slot.old.items) (shown value.entry)) }
 {
     let Some(bytes) = delimited_of(value) else {
         return Err(ReadError::Malformed);
@@ -133,7 +137,8 @@ pub fn encoded_len<M: Message>(message: &M) -> u64
 /// Writes the message at the end.
 pub fn encode<M: Message>(message: &M, out: &mut Vec<u8>) -> Result<(), AllocError>
     ensures ok { OnOk result (out.new.items ≡ out.old.items ++ spelling M.shape (M.values message.now)) }
-    ensures again { OnOk result (reading M.shape (spelling M.shape (M.values message.now)) ≡ Some (M.values message.now)) }
+    ensures again { OnOk result (reading M.shape (spelling M.shape (M.values message.now))
+        ≡ Some (M.values message.now)) }
 {
     message.write(out)
 }
@@ -144,7 +149,8 @@ pub fn write_message<M: Message, S: Sink>(
     number: u32,
     message: &M,
 ) -> Result<(), AllocError>
-    ensures ok { OnOk result (Appends S.Holds out.old out.new (message_entry number (spelling M.shape (M.values message.now)))) }
+    ensures ok { OnOk result (Appends S.Holds out.old out.new
+        (message_entry number (spelling M.shape (M.values message.now)))) }
     ensures sure { S.IsSure → IsOk result }
     ensures fits { OnOk result (InRange M.shape (M.values message.now)) }
 {
@@ -153,26 +159,33 @@ pub fn write_message<M: Message, S: Sink>(
     message.write(out)
 }
 
+/// Writes a field that always holds a message.
 pub fn write_required_message<M: Message, S: Sink>(
     out: &mut S,
     number: u32,
     message: &M,
 ) -> Result<(), AllocError>
-    ensures ok { OnOk result (Appends S.Holds out.old out.new (flat_map (λ x. message_entry number (spelling M.shape x)) (items Required (M.values message.now)))) }
+    ensures ok { OnOk result (Appends S.Holds out.old out.new
+        (flat_map (λ x. message_entry number (spelling M.shape x))
+        (items Required (M.values message.now)))) }
     ensures sure { S.IsSure → IsOk result }
     ensures fits { OnOk result (AllByRecursion (InRange M.shape) (items Required (M.values message.now))) }
 {
     write_message(out, number, message)
 }
 
+/// Writes a field that may hold a message.
 pub fn write_optional_message<M: Message, S: Sink>(
     out: &mut S,
     number: u32,
     message: &Option<M>,
 ) -> Result<(), AllocError>
-    ensures ok { OnOk result (Appends S.Holds out.old out.new (flat_map (λ x. message_entry number (spelling M.shape x)) (items Optional (option_map M.values message.now)))) }
+    ensures ok { OnOk result (Appends S.Holds out.old out.new
+        (flat_map (λ x. message_entry number (spelling M.shape x))
+        (items Optional (option_map M.values message.now)))) }
     ensures sure { S.IsSure → IsOk result }
-    ensures fits { OnOk result (AllByRecursion (InRange M.shape) (items Optional (option_map M.values message.now))) }
+    ensures fits { OnOk result (AllByRecursion (InRange M.shape)
+        (items Optional (option_map M.values message.now))) }
 {
     match message {
         Some(message) => write_message(out, number, message),
@@ -180,12 +193,15 @@ pub fn write_optional_message<M: Message, S: Sink>(
     }
 }
 
+/// Writes a field that holds any number of messages.
 pub fn write_repeated_messages<M: Message, S: Sink>(
     out: &mut S,
     number: u32,
     messages: &[M],
 ) -> Result<(), AllocError>
-    ensures ok { OnOk result (Appends S.Holds out.old out.new (flat_map (λ x. message_entry number (spelling M.shape x)) (items Repeated (map M.values messages.now)))) }
+    ensures ok { OnOk result (Appends S.Holds out.old out.new
+        (flat_map (λ x. message_entry number (spelling M.shape x))
+        (items Repeated (map M.values messages.now)))) }
     ensures sure { S.IsSure → IsOk result }
     ensures fits { OnOk result (AllByRecursion (InRange M.shape) (items Repeated (map M.values messages.now))) }
 {

@@ -121,26 +121,31 @@ impl Plain for bool {
     }
 }
 
+/// Writes a field that always holds a value.
 pub fn write_required<P: Plain, S: Sink>(
     out: &mut S,
     number: u32,
     value: &P,
 ) -> Result<(), AllocError>
-    ensures ok { OnOk result (Appends S.Holds out.old out.new (flat_map (entry number P.kind) (items Required (P.content_of value.now)))) }
+    ensures ok { OnOk result (Appends S.Holds out.old out.new
+        (flat_map (entry number P.kind) (items Required (P.content_of value.now)))) }
     ensures sure { S.IsSure → IsOk result }
     ensures fits { OnOk result (AllByRecursion (FitsContent P.kind) (items Required (P.content_of value.now))) }
 {
     value.write(out, number)
 }
 
+/// Writes a field that may hold a value.
 pub fn write_optional<P: Plain, S: Sink>(
     out: &mut S,
     number: u32,
     value: &Option<P>,
 ) -> Result<(), AllocError>
-    ensures ok { OnOk result (Appends S.Holds out.old out.new (flat_map (entry number P.kind) (items Optional (option_map P.content_of value.now)))) }
+    ensures ok { OnOk result (Appends S.Holds out.old out.new
+        (flat_map (entry number P.kind) (items Optional (option_map P.content_of value.now)))) }
     ensures sure { S.IsSure → IsOk result }
-    ensures fits { OnOk result (AllByRecursion (FitsContent P.kind) (items Optional (option_map P.content_of value.now))) }
+    ensures fits { OnOk result (AllByRecursion (FitsContent P.kind)
+        (items Optional (option_map P.content_of value.now))) }
 {
     match value {
         Some(value) => value.write(out, number),
@@ -148,14 +153,17 @@ pub fn write_optional<P: Plain, S: Sink>(
     }
 }
 
+/// Writes a field that holds any number of values.
 pub fn write_repeated<P: Plain, S: Sink>(
     out: &mut S,
     number: u32,
     values: &[P],
 ) -> Result<(), AllocError>
-    ensures ok { OnOk result (Appends S.Holds out.old out.new (flat_map (entry number P.kind) (items Repeated (map P.content_of values.now)))) }
+    ensures ok { OnOk result (Appends S.Holds out.old out.new
+        (flat_map (entry number P.kind) (items Repeated (map P.content_of values.now)))) }
     ensures sure { S.IsSure → IsOk result }
-    ensures fits { OnOk result (AllByRecursion (FitsContent P.kind) (items Repeated (map P.content_of values.now))) }
+    ensures fits { OnOk result (AllByRecursion (FitsContent P.kind)
+        (items Repeated (map P.content_of values.now))) }
 {
     for value in values {
         value.write(out, number)?;
@@ -163,6 +171,7 @@ pub fn write_repeated<P: Plain, S: Sink>(
     Ok(())
 }
 
+/// Writes a field that holds any number of 64-bit numbers, one by one.
 pub fn write_numbers<S: Sink>(out: &mut S, number: u32, values: &[i64]) -> Result<(), AllocError>
     ensures ok { OnOk result (Appends S.Holds out.old out.new (flat_map (entry number Int64) values.now)) }
     ensures sure { S.IsSure → IsOk result }

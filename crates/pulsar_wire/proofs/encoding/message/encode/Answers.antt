@@ -1,4 +1,4 @@
-use Rattle.std.proofs.Common.{refl, ◌∙◌, Ok, Err}
+use Rattle.std.proofs.Common.{refl, ◌∙◌}
 use Rattle.std.proofs.lemmas.Result.{on_ok_weaker}
 use Rattle.pulsar_wire.specs.Row.{spelling}
 use Rattle.pulsar_wire.proofs.Ranges.{on_ok_both, short_end}

@@ -1,4 +1,4 @@
-use Rattle.std.proofs.Common.{◌≡◌, sym, refl, ◌∙◌, ap, subst, Some, None}
+use Rattle.std.proofs.Common.{sym, refl, ◌∙◌, Some}
 use Rattle.std.specs.Option.{option_map}
 use Rattle.std.proofs.lemmas.Result.{err_from_is_err_and}
 use Rattle.pulsar_wire.specs.Row.{Values}

@@ -1,4 +1,4 @@
-use Rattle.std.proofs.Common.{◌≡◌, sym, refl, ◌∙◌, ap, Some, map, ◌++◌, ◌∷◌, []}
+use Rattle.std.proofs.Common.{sym, refl, ◌∙◌, map}
 use Rattle.std.proofs.lemmas.Result.{err_from_is_err_and}
 use Rattle.std.proofs.lemmas.List.{map_push}
 use Rattle.pulsar_wire.specs.Row.{none_of}

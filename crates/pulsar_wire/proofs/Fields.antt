@@ -1,8 +1,8 @@
 -- Lists of fields: they go on where bytes go on.
-use Rattle.std.proofs.Common.{◌≡◌, ℕ, zero, suc, ◌+◌, ◌*◌, ◌-◌, ◌%◌, ◌/◌, ◌^◌, ◌<◌, ◌≤◌, Bool, true, false, cond, ltb, eqb, List, [], ◌∷◌, ◌++◌, length, take, drop, Option, Some, None, refl, sym, ap, subst, ◌∙◌, append_assoc, length-append, arith, inl, inr, ◌⊎◌}
-use Rattle.std.proofs.lemmas.Bool.{lt-ltb, le-ltb, ltb-true, ltb-false}
-use Rattle.std.proofs.lemmas.List.{append-nil, length-drop, take-append-le, drop-append-le}
-use Rattle.pulsar_wire.specs.Field.{◌>>=◌, Value, Varint, Eight, Delimited, Four, Field, varint_within, varint_at, bytes_at, value_at, field_at, fields_within, fields}
+use Rattle.std.proofs.Common.{◌≡◌, ℕ, zero, suc, ◌+◌, ◌*◌, ◌-◌, ◌%◌, ◌/◌, ◌^◌, ◌<◌, ◌≤◌, Bool, true, false, cond, ltb, eqb, List, [], ◌∷◌, ◌++◌, length, take, drop, Option, Some, None, refl, sym, ap, ◌∙◌, length-append, arith, inl, inr, ◌⊎◌}
+use Rattle.std.proofs.lemmas.Bool.{le-ltb, ltb-false}
+use Rattle.std.proofs.lemmas.List.{length-drop, take-append-le, drop-append-le}
+use Rattle.pulsar_wire.specs.Field.{◌>>=◌, Varint, Eight, Delimited, Four, Field, varint_within, varint_at, bytes_at, value_at, field_at, fields_within, fields}
 
 -- the value of a step that has one
 pub bind_some : {A B : Type 0} (o : Option A) (f : A → Option B) (y : B) → (o >>= f) ≡ Some y → (x : A) × (o ≡ Some x) × (f x ≡ Some y)

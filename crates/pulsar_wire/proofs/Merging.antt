@@ -1,14 +1,14 @@
 -- Taking fields one by one, as a loop does.
-use Rattle.std.proofs.Common.{◌≡◌, ℕ, ◌<◌, ◌+◌, ◌≤◌, List, [], ◌∷◌, ◌++◌, length, Option, Some, None, Result, Ok, Err, refl, sym, ap, subst, ◌∙◌, arith}
+use Rattle.std.proofs.Common.{◌≡◌, ℕ, ◌<◌, List, [], ◌∷◌, ◌++◌, length, Option, Some, None, Result, Ok, Err, refl, subst, ◌∙◌}
 use Rattle.pulsar_wire.specs.Field.{◌>>=◌, Value, Field, field_at, fields}
 use Rattle.pulsar_wire.specs.declared.encoding.read_error.ReadError.{ReadError}
 use Rattle.pulsar_wire.specs.declared.encoding.read_error.ReadError.TheVariants.{Malformed, NoMemory}
-use Rattle.pulsar_wire.specs.Shown.{Refuses, Leaves, Gives}
+use Rattle.pulsar_wire.specs.Shown.{Refuses, Leaves}
 use Rattle.std.specs.Option.{unwrap_or}
 use Rattle.std.proofs.lemmas.List.{nil_from_length}
-use Rattle.pulsar_wire.specs.Row.{Row, Values, Required, Optional, Repeated, delimited, reading}
-use Rattle.pulsar_wire.specs.Merge.{none_of, with_part, put_part, steps, put, merged}
-use Rattle.pulsar_wire.proofs.Laws.{merged-reading}
+use Rattle.pulsar_wire.specs.Row.{none_of, Row, Values, Required, Optional, Repeated, delimited, reading}
+use Rattle.pulsar_wire.specs.Merge.{put_part, steps, put, merged}
+use Rattle.pulsar_wire.proofs.Folding.{merged-reading}
 use Rattle.pulsar_wire.proofs.Fields.{bind_assoc, fields-nil, fields-next, fields-stop}
 
 pub merged-end : (row : Row) (vs : Values row) → merged row vs [] ≡ Some vs

@@ -1,11 +1,11 @@
 -- Packed numbers, as a loop reads them.
-use Rattle.std.proofs.Common.{◌≡◌, ℕ, zero, suc, ◌+◌, ◌<◌, ◌≤◌, ℤ, List, [], ◌∷◌, ◌++◌, length, Option, Some, None, refl, sym, ap, ◌∙◌, append_assoc, arith}
+use Rattle.std.proofs.Common.{◌≡◌, ℕ, zero, suc, ◌<◌, ◌≤◌, ℤ, List, [], ◌∷◌, ◌++◌, length, Option, Some, None, refl, sym, ap, append_assoc, arith}
 use Rattle.std.specs.Int.{w64, cast_signed}
 use Rattle.std.proofs.lemmas.List.{append-nil, nil_from_length}
 use Rattle.pulsar_wire.specs.Field.{◌>>=◌, varint_at}
 use Rattle.pulsar_wire.specs.Row.{varints_within, varints}
 use Rattle.pulsar_wire.specs.Merge.{with_numbers}
-use Rattle.pulsar_wire.proofs.Fields.{varint-takes, bind_assoc}
+use Rattle.pulsar_wire.proofs.Fields.{varint-takes}
 
 packed-next : (k m x : ℕ) (bytes : List ℕ) (o : Option (ℕ × List ℕ)) → varint_at (x ∷ bytes) ≡ o → length bytes ≤ k → length bytes ≤ m
     → ((rest : List ℕ) → length rest ≤ k → length rest ≤ m → varints_within k rest ≡ varints_within m rest)

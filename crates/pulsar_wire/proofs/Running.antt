@@ -1,5 +1,5 @@
 -- Taking the fields of bytes one by one, as a loop does.
-use Rattle.std.proofs.Common.{◌≡◌, ℕ, ◌<◌, ◌+◌, ◌≤◌, List, [], ◌∷◌, ◌++◌, length, Option, Some, None, refl, sym, ap, ◌∙◌, arith}
+use Rattle.std.proofs.Common.{◌≡◌, ℕ, ◌<◌, List, ◌∷◌, length, Option, Some, None, refl, ◌∙◌}
 use Rattle.std.proofs.lemmas.List.{nil_from_length}
 use Rattle.pulsar_wire.specs.Field.{◌>>=◌, Field, field_at, fields}
 use Rattle.pulsar_wire.specs.Merge.{steps}

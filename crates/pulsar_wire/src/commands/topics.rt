@@ -1,9 +1,9 @@
 //! The commands that ask for the topics of a namespace.
 
-ghost use Rattle.std.specs.Prelude.{◌≡◌, map, string_bytes, IfOk};
+ghost use Rattle.std.specs.Prelude.{◌≡◌, refl, map, string_bytes, IfOk};
 ghost use Rattle.std.specs.Option.{option_map};
 ghost use Rattle.pulsar_wire.specs.Enumerations.{mode_number};
-ghost use Rattle.pulsar_wire.specs.Merge.{none_of};
+ghost use Rattle.pulsar_wire.specs.Row.{none_of};
 ghost use Rattle.pulsar_wire.specs.Rows.{get_topics_of_namespace, get_topics_of_namespace_response};
 ghost use Rattle.pulsar_wire.specs.Views.{get_topics_of_namespace_values, get_topics_of_namespace_response_values};
 
@@ -60,7 +60,8 @@ impl CommandGetTopicsOfNamespace {
     /// A command with the same content.
     #[tactic(auto, unfolding(crate::specs::Views::get_topics_of_namespace_values))]
     pub fn copy(&self) -> Result<CommandGetTopicsOfNamespace, NoMemory>
-        ensures { IfOk result (λ m. get_topics_of_namespace_values m ≡ get_topics_of_namespace_values self.now) }
+        ensures { IfOk result (λ m. get_topics_of_namespace_values m
+            ≡ get_topics_of_namespace_values self.now) }
     {
         Ok(self.clone()?)
     }
@@ -92,6 +93,8 @@ impl Message for CommandGetTopicsOfNamespace {
         write_required(out, 2, &self.namespace)?;
         write_optional(out, 3, &self.mode)
     }
+
+    ghost numbers_differ = { refl };
 }
 
 /// The broker's answer to `get_topics_of_namespace`.
@@ -105,7 +108,8 @@ impl CommandGetTopicsOfNamespaceResponse {
     /// The command whose fields are absent, empty or zero.
     #[tactic(auto, unfolding(crate::specs::Views::get_topics_of_namespace_response_values))]
     pub fn new(alloc: Global) -> CommandGetTopicsOfNamespaceResponse
-        ensures { get_topics_of_namespace_response_values result ≡ none_of get_topics_of_namespace_response }
+        ensures { get_topics_of_namespace_response_values result
+            ≡ none_of get_topics_of_namespace_response }
     {
         CommandGetTopicsOfNamespaceResponse {
             request_id: 0,
@@ -116,7 +120,8 @@ impl CommandGetTopicsOfNamespaceResponse {
     /// A command with the same content.
     #[tactic(auto, using(crate::proofs::Copies::map_copied), unfolding(crate::specs::Views::get_topics_of_namespace_response_values))]
     pub fn copy(&self) -> Result<CommandGetTopicsOfNamespaceResponse, NoMemory>
-        ensures { IfOk result (λ m. get_topics_of_namespace_response_values m ≡ get_topics_of_namespace_response_values self.now) }
+        ensures { IfOk result (λ m. get_topics_of_namespace_response_values m
+            ≡ get_topics_of_namespace_response_values self.now) }
     {
         Ok(self.clone()?)
     }
@@ -146,4 +151,6 @@ impl Message for CommandGetTopicsOfNamespaceResponse {
         write_required(out, 1, &self.request_id)?;
         write_repeated(out, 2, &self.topics)
     }
+
+    ghost numbers_differ = { refl };
 }

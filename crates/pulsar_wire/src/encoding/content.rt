@@ -24,6 +24,7 @@ pub fn text_of(alloc: Global, value: Value<'_>) -> Result<String, ReadError>
     }
 }
 
+/// Bytes, as they stand.
 pub fn bytes_of(alloc: Global, value: Value<'_>) -> Result<Vec<u8>, ReadError>
     ensures { Gives (λ v. v.items) result (content Bytes (shown value.entry)) }
 {
@@ -33,6 +34,7 @@ pub fn bytes_of(alloc: Global, value: Value<'_>) -> Result<Vec<u8>, ReadError>
     }
 }
 
+/// A number.
 pub fn uint64_of(value: Value<'_>) -> Result<u64, ReadError>
     ensures { Gives (λ n. n) result (content Uint64 (shown value.entry)) }
 {
@@ -62,6 +64,7 @@ pub fn int32_of(value: Value<'_>) -> Result<i32, ReadError>
     }
 }
 
+/// A number, with a sign.
 pub fn int64_of(value: Value<'_>) -> Result<i64, ReadError>
     ensures { Gives (λ n. n) result (content Int64 (shown value.entry)) }
 {
@@ -71,6 +74,7 @@ pub fn int64_of(value: Value<'_>) -> Result<i64, ReadError>
     }
 }
 
+/// Whether a number is not zero.
 pub fn flag_of(value: Value<'_>) -> Result<bool, ReadError>
     ensures { Gives (λ b. b) result (content Flag (shown value.entry)) }
 {
@@ -92,7 +96,8 @@ pub fn delimited_of(value: Value<'_>) -> Option<&[u8]>
 
 /// One more text of several.
 pub fn push_text(slot: &mut Vec<String>, alloc: Global, value: Value<'_>) -> Result<(), ReadError>
-    ensures { Leaves result (map string_bytes slot.new.items) (put_plain Repeated Text (map string_bytes slot.old.items) (shown value.entry)) }
+    ensures { Leaves result (map string_bytes slot.new.items)
+        (put_plain Repeated Text (map string_bytes slot.old.items) (shown value.entry)) }
 {
     let text = text_of(alloc, value)?;
     slot.push(text)?;

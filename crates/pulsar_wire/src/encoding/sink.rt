@@ -6,6 +6,7 @@ ghost use Rattle.pulsar_wire.specs.Written.{capped, Appends, vec_never_full, cap
 
 use std::alloc::AllocError;
 
+/// What takes bytes at its end.
 pub trait Sink {
     /// These bytes were written.
     ghost Holds: { Self → List ℕ → Type 0 };

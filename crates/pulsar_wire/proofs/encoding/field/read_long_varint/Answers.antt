@@ -1,6 +1,6 @@
-use Rattle.std.proofs.Common.{List, ◌≡◌, ℕ, suc, zero, ◌-◌, ◌+◌, ◌*◌, ◌^◌, ◌<◌, ◌≤◌, [], ◌∷◌, subst, refl, sym, arith}
+use Rattle.std.proofs.Common.{List, ◌≡◌, ℕ, ◌-◌, ◌+◌, ◌∷◌, arith}
 use Rattle.std.proofs.lemmas.List.{nil_from_length}
-use Rattle.pulsar_wire.proofs.Varints.{Reads, Reads-scale, Reads-last_scale, digit-fits, Reads-more, Reads-end, Reads-tenth, Reads-too_far, Reads-short, Reads-byte}
+use Rattle.pulsar_wire.proofs.Varints.{Reads, Reads-scale, digit-fits, Reads-more, Reads-end, Reads-tenth, Reads-too_far, Reads-short, Reads-byte}
 use Rattle.pulsar_wire.proofs.encoding.field.read_long_varint.Goals as goal
 
 pub returns-in_err-b : goal.returns-in_err-b

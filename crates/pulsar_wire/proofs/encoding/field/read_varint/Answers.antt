@@ -1,5 +1,5 @@
 use Rattle.std.proofs.lemmas.List.{nil_from_length}
-use Rattle.std.proofs.Common.{◌∙◌, arith, sym}
+use Rattle.std.proofs.Common.{arith}
 use Rattle.pulsar_wire.proofs.Varints.{varint-one, varint-none}
 use Rattle.pulsar_wire.proofs.encoding.field.read_varint.Goals as goal
 

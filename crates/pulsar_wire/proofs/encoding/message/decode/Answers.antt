@@ -1,4 +1,4 @@
-use Rattle.std.proofs.Common.{◌≡◌, sym, ◌∙◌, subst}
+use Rattle.std.proofs.Common.{sym, ◌∙◌}
 use Rattle.std.proofs.lemmas.Result.{err_from_is_err_and}
 use Rattle.pulsar_wire.proofs.Merging.{merged-from_none, Refuses-on}
 use Rattle.pulsar_wire.proofs.encoding.message.decode.Goals as goal

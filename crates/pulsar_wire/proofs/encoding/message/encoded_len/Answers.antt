@@ -1,5 +1,4 @@
-use Rattle.std.proofs.Common.{[], refl, ap, length, ◌∙◌}
-use Rattle.pulsar_wire.specs.Written.{capped}
+use Rattle.std.proofs.Common.{[], refl}
 use Rattle.pulsar_wire.proofs.Writing.{written-spelling}
 use Rattle.pulsar_wire.proofs.encoding.message.encoded_len.Goals as goal
 

@@ -1,4 +1,4 @@
-use Rattle.std.proofs.Common.{◌≡◌, refl, ◌∙◌, subst, List, ℕ}
+use Rattle.std.proofs.Common.{subst}
 use Rattle.std.proofs.lemmas.Result.{on_ok_weaker}
 use Rattle.pulsar_wire.specs.Row.{spelling}
 use Rattle.pulsar_wire.proofs.Writing.{written-spelling, with_count}

@@ -1,0 +1,60 @@
+//! What holds of all messages and commands. A function with an empty body has the law as its contract.
+
+ghost use Rattle.std.specs.Prelude.{◌≡◌, MatchResult};
+ghost use Rattle.pulsar_wire.specs.Laws.{MessagesReadAgain, CommandsReadAgain, SettledCommandsReadAgain, OneMeaning, OneSpelling, KnownBodiesAreRows, UnknownFieldsAreSkipped, UnknownBodiesAreSkipped};
+
+use crate::error::ConnectionError;
+use crate::wire::Wire;
+use std::alloc::Global;
+
+/// Writes a value and reads it again. What comes back is the value, where a command's kind is that of its body, and only
+/// memory may be wanting.
+pub fn round_trip<W: Wire>(alloc: Global, value: &W) -> Result<W, ConnectionError>
+    ensures { MatchResult result (λ again. W.seen again ≡ W.reread (W.seen value.now))
+        (λ e. e ≡ ConnectionError.NoMemory) }
+{
+    let mut bytes = Vec::new(alloc);
+    value.encode(&mut bytes)?;
+    W::decode(alloc, &bytes)
+}
+
+/// What is written is read again: in a row whose numbers are different, each value that fits is the meaning of its
+/// spelling.
+pub fn read_again()
+    ensures { MessagesReadAgain }
+{}
+
+/// A command that is written is read again, with the kind of its body where it has one.
+pub fn command_read_again()
+    ensures { CommandsReadAgain }
+{}
+
+/// A command whose kind is that of its body is read again as it is.
+pub fn settled_command_read_again()
+    ensures { SettledCommandsReadAgain }
+{}
+
+/// No bytes spell two commands.
+pub fn one_meaning()
+    ensures { OneMeaning }
+{}
+
+/// No two commands are written alike, but for a kind that is not that of its body.
+pub fn one_spelling()
+    ensures { OneSpelling }
+{}
+
+/// No known body has two fields of one number.
+pub fn known_bodies_are_rows()
+    ensures { KnownBodiesAreRows }
+{}
+
+/// A field that a row does not have changes nothing, wherever it stands.
+pub fn unknown_fields_are_skipped()
+    ensures { UnknownFieldsAreSkipped }
+{}
+
+/// A field of a command that is neither its kind nor a known body changes nothing, wherever it stands.
+pub fn unknown_bodies_are_skipped()
+    ensures { UnknownBodiesAreSkipped }
+{}

@@ -7,9 +7,10 @@ use Rattle.pulsar_wire.specs.Field.{◌>>=◌, Value, Field, fields}
 use Rattle.pulsar_wire.specs.Row.{Int32, Required, Row, Values, plain_of, embedded, occurrences, value, reading}
 use Rattle.pulsar_wire.specs.Merge.{steps, put, none_of, put_plain, put_part}
 use Rattle.pulsar_wire.specs.Run.{run}
-use Rattle.pulsar_wire.specs.Command.{BodyValues, CommandValues, with_kind, with_body, some_body, any_body, command_reading, body_row, bodies, only, heading, heading_of, heading_step, body_value, body_reading, body_step, next_number}
+use Rattle.pulsar_wire.specs.Command.{BodyValues, CommandValues, with_kind, with_body, some_body, command_reading, body_row, bodies, only, heading, body_value}
+use Rattle.pulsar_wire.specs.Heading.{any_body, heading_of, heading_step, body_reading, body_step, next_number}
 use Rattle.pulsar_wire.proofs.Fields.{some, bind_assoc, bind_some_id, fields-nil}
-use Rattle.pulsar_wire.proofs.Laws.{Grows, Folds, one_or_none, pair, pair-push, field-push, occurrences-push, plain-grows, embedded-grows, read_by, folds}
+use Rattle.pulsar_wire.proofs.Folding.{Grows, Folds, one_or_none, pair, pair-push, field-push, occurrences-push, plain-grows, embedded-grows, read_by, folds}
 
 -- values that are read one field after the other
 pub record Goes {X : Type 0} (val : List Field → Option X) (step : X → Field → Option X) (d : X) : Type 0 where

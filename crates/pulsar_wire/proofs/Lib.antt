@@ -1,7 +1,7 @@
 pub mod Varints
 pub mod Texts
 pub mod Fields
-pub mod Laws
+pub mod Folding
 pub mod Merging
 pub mod Numbers
 pub mod Writing
@@ -10,3 +10,6 @@ pub mod Running
 pub mod Headings
 pub mod RoundTrip
 pub mod Copies
+pub mod CommandTrip
+pub mod Ranges
+pub mod Unknown

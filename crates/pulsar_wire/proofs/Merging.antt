@@ -6,9 +6,9 @@ use Rattle.pulsar_wire.specs.declared.encoding.read_error.ReadError.TheVariants.
 use Rattle.pulsar_wire.specs.Shown.{Refuses, Leaves, Gives}
 use Rattle.std.specs.Option.{unwrap_or}
 use Rattle.std.proofs.lemmas.List.{nil_from_length}
-use Rattle.pulsar_wire.specs.Row.{Row, Values, Required, Optional, Repeated, delimited, reading}
-use Rattle.pulsar_wire.specs.Merge.{none_of, with_part, put_part, steps, put, merged}
-use Rattle.pulsar_wire.proofs.Laws.{merged-reading}
+use Rattle.pulsar_wire.specs.Row.{none_of, Row, Values, Required, Optional, Repeated, delimited, reading}
+use Rattle.pulsar_wire.specs.Merge.{with_part, put_part, steps, put, merged}
+use Rattle.pulsar_wire.proofs.Folding.{merged-reading}
 use Rattle.pulsar_wire.proofs.Fields.{bind_assoc, fields-nil, fields-next, fields-stop}
 
 pub merged-end : (row : Row) (vs : Values row) → merged row vs [] ≡ Some vs

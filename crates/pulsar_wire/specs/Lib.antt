@@ -5,8 +5,10 @@ pub mod Enumerations
 pub mod Views
 pub mod Command
 pub mod Fits
+pub mod Laws
 pub mod Refused
 pub mod Merge
 pub mod Shown
 pub mod Written
 pub mod Run
+pub mod Heading

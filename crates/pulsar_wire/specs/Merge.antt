@@ -1,22 +1,11 @@
--- How one more field changes the values that were read so far.
+-- Serves the code's contracts alone: how one more field changes the values that were read so far.
 use Rattle.std.specs.Prelude.{ℕ, ℤ, List, [], ◌∷◌, ◌++◌, Option, Some, None, ◌==◌, if◌then◌else◌}
 use Rattle.std.specs.Option.{unwrap_or}
 use Rattle.pulsar_wire.specs.Field.{◌>>=◌, Value, Field, fields}
-use Rattle.pulsar_wire.specs.Row.{Kind, Rule, Required, Optional, Repeated, Row, End, Plain, Embedded, Numbers, Held, Values, Content, content, zero_of, delimited, numbers}
+use Rattle.pulsar_wire.specs.Row.{Kind, Rule, Required, Optional, Repeated, Row, End, Plain, Embedded, Numbers, Held, Values, Content, content, delimited, numbers}
+pub use Rattle.pulsar_wire.specs.Row.{none_of}
 
--- what no occurrence gives
-abbrev pub absent : {X : Type 0} (r : Rule) → X → Held r X
-absent Required d = d
-absent Optional d = None
-absent Repeated d = []
-
-abbrev pub none_of : (row : Row) → Values row
-none_of End = tt
-none_of (Plain n r k row) = (absent r (zero_of k), none_of row)
-none_of (Embedded n r inner row) = (absent r (none_of inner), none_of row)
-none_of (Numbers n row) = ([], none_of row)
-
--- one more occurrence
+-- what a plain field holds with one more occurrence
 abbrev pub with_next : {X : Type 0} (r : Rule) → Held r X → X → Held r X
 with_next Required old x = x
 with_next Optional old x = Some x
@@ -28,13 +17,16 @@ with_part Required d grow old = grow old
 with_part Optional d grow old = grow (unwrap_or old d) >>= λ x. Some (Some x)
 with_part Repeated d grow old = grow d >>= λ x. Some (old ++ x ∷ [])
 
+-- the values after further fields
 abbrev pub steps : {X : Type 0} → (X → Field → Option X) → X → List Field → Option X
 steps step x [] = Some x
 steps step x (f ∷ fs) = step x f >>= λ y. steps step y fs
 
+-- a plain field with one more occurrence
 abbrev pub put_plain : (r : Rule) (k : Kind) → Held r (Content k) → Value → Option (Held r (Content k))
 put_plain r k old v = content k v >>= λ y. Some (with_next r old y)
 
+-- a field of messages with one more occurrence
 abbrev pub put_part : {X : Type 0} (r : Rule) → (X → Field → Option X) → X → Held r X → Value → Option (Held r X)
 put_part r step d old v = delimited v >>= λ bytes. with_part r d (λ x. fields bytes >>= λ fs. steps step x fs) old
 
@@ -42,9 +34,11 @@ put_part r step d old v = delimited v >>= λ bytes. with_part r d (λ x. fields 
 abbrev pub with_numbers : List ℤ → Option (List ℤ) → Option (List ℤ)
 with_numbers old new = new >>= λ ys. Some (old ++ ys)
 
+-- a list of numbers with one more occurrence
 abbrev pub put_numbers : List ℤ → Value → Option (List ℤ)
 put_numbers old v = with_numbers old (numbers v)
 
+-- the values of a row with one more field
 unfoldable pub put : (row : Row) → Values row → Field → Option (Values row)
 put End vs f = Some tt
 put (Plain n r k row) vs f = do

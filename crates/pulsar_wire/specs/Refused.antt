@@ -1,4 +1,4 @@
--- What an error says of the bytes that were read.
+-- Serves the code's contracts alone: what an answer of `decode` says of the bytes.
 use Rattle.std.specs.Prelude.{◌≡◌, Option, None, Result, Ok, Err, Some}
 use Rattle.pulsar_wire.specs.declared.encoding.read_error.ReadError.{ReadError}
 use Rattle.pulsar_wire.specs.declared.encoding.read_error.ReadError.TheVariants as read
@@ -13,6 +13,7 @@ abbrev pub connection_error : ReadError → ConnectionError
 connection_error read.Malformed = Decoding Message
 connection_error read.NoMemory = NoMemory
 
+-- an error of a connection, as a call of the client answers it
 abbrev pub in_connection : ConnectionError → Error
 in_connection e = Connection e
 

@@ -1,4 +1,4 @@
--- What the code's values stand for.
+-- Serves the code's contracts alone: what its values and its answers stand for.
 use Rattle.std.specs.Prelude.{◌≡◌, ℕ, List, Option, Some, None, Result, Ok, Err}
 use Rattle.pulsar_wire.specs.declared.encoding.field.Value.{Value as Read}
 use Rattle.pulsar_wire.specs.declared.encoding.field.Value.TheVariants as read
@@ -6,12 +6,14 @@ use Rattle.pulsar_wire.specs.declared.encoding.read_error.ReadError.{ReadError}
 use Rattle.pulsar_wire.specs.declared.encoding.read_error.ReadError.TheVariants.{Malformed, NoMemory}
 use Rattle.pulsar_wire.specs.Field.{Value, Varint, Eight, Delimited, Four, Field}
 
+-- the value that the code read
 abbrev pub shown : Read → Value
 shown (read.Varint n) = Varint n
 shown (read.Eight bytes) = Eight bytes.now
 shown (read.Delimited bytes) = Delimited bytes.now
 shown (read.Four bytes) = Four bytes.now
 
+-- a field of this number and value
 abbrev pub field : ℕ → Read → Field
 field n v = record { number = n; value = shown v }
 

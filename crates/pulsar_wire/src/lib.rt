@@ -5,4 +5,7 @@ pub mod commands;
 pub mod encoding;
 pub mod error;
 pub mod key;
+pub mod laws;
+#[cfg(test)]
+mod tests;
 pub mod wire;

@@ -2,7 +2,7 @@
 
 ghost use Rattle.std.specs.Prelude.{◌≡◌, ◌++◌, ℕ, List, Option, length, OnOk};
 ghost use Rattle.pulsar_wire.specs.Row.{Values, reading, spelling};
-ghost use Rattle.pulsar_wire.specs.Command.{CommandValues, command_reading, command_spelling};
+ghost use Rattle.pulsar_wire.specs.Command.{CommandValues, command_reading, command_spelling, settled};
 ghost use Rattle.pulsar_wire.specs.Views.{command_values};
 ghost use Rattle.pulsar_wire.specs.Written.{capped};
 ghost use Rattle.pulsar_wire.specs.Refused.{Decodes};
@@ -24,12 +24,17 @@ pub trait Wire: Drop {
     /// The one spelling that is written.
     ghost canonical: { Seen → List ℕ };
 
+    /// The value that is read where this one was written.
+    ghost reread: { Seen → Seen };
+
     /// How many bytes are written. It stops at the greatest u64.
     fn encoded_len(&self) -> u64
         ensures { result ≡ capped (length (canonical (seen self.now))) };
 
+    /// Writes the value at the end. The bytes that it writes spell the value again.
     fn encode(&self, out: &mut Vec<u8>) -> Result<(), NoMemory>
-        ensures { OnOk result (out.new.items ≡ out.old.items ++ canonical (seen self.now)) };
+        ensures ok { OnOk result (out.new.items ≡ out.old.items ++ canonical (seen self.now)) }
+        ensures again { OnOk result (meaning (canonical (seen self.now)) ≡ Some (reread (seen self.now))) };
 
     /// The value that the bytes spell. It is Decoding exactly where they spell none.
     fn decode(alloc: Global, bytes: &[u8]) -> Result<Self, ConnectionError>
@@ -44,6 +49,8 @@ impl<M: Message> Wire for M {
     ghost meaning = { reading M.shape };
 
     ghost canonical = { spelling M.shape };
+
+    ghost reread = { λ vs. vs };
 
     fn encoded_len(&self) -> u64 {
         encoded_len(self)
@@ -66,6 +73,8 @@ impl Wire for BaseCommand {
     ghost meaning = { command_reading };
 
     ghost canonical = { command_spelling };
+
+    ghost reread = { settled };
 
     fn encoded_len(&self) -> u64 {
         command_len(self)

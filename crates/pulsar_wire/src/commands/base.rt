@@ -4,9 +4,10 @@ ghost use Rattle.std.specs.Prelude.{◌≡◌, ◌<◌, pos, ◌++◌, length, O
 ghost use Rattle.std.specs.Option.{is_some};
 ghost use Rattle.pulsar_wire.specs.Field.{field_at};
 ghost use Rattle.pulsar_wire.specs.Run.{run};
-ghost use Rattle.pulsar_wire.specs.Command.{body_row, body_name, heading_of, heading_step, body_reading, any_body, with_kind, body_step, body_spelling, command_reading, command_spelling};
-ghost use Rattle.pulsar_wire.specs.Row.{spelling};
-ghost use Rattle.pulsar_wire.specs.Merge.{none_of};
+ghost use Rattle.pulsar_wire.specs.Command.{BodyValues, body_row, body_name, with_kind, body_spelling, command_reading, command_spelling, settled, Spells};
+ghost use Rattle.pulsar_wire.specs.Fits.{CommandInRange};
+ghost use Rattle.pulsar_wire.specs.Heading.{heading_of, heading_step, body_reading, any_body, body_step};
+ghost use Rattle.pulsar_wire.specs.Row.{Int32, entry, spelling};
 ghost use Rattle.pulsar_wire.specs.Written.{Appends, capped};
 ghost use Rattle.pulsar_wire.specs.Views.{body_values, command_values};
 ghost use Rattle.pulsar_wire.specs.Shown.{Gives, Leaves, field};
@@ -130,7 +131,7 @@ impl Heading {
     }
 
     /// Takes one more field.
-    #[tactic(auto, unfolding(crate::specs::Command::heading_step))]
+    #[tactic(auto, unfolding(crate::specs::Heading::heading_step))]
     fn put(&mut self, number: u32, value: Value<'_>) -> Result<(), ReadError>
         ensures { Leaves result (self.new.kind, self.new.body) (heading_step (self.old.kind, self.old.body) (field number value.entry)) }
     {
@@ -172,7 +173,7 @@ fn read_heading(bytes: &[u8]) -> Result<Heading, ReadError>
 }
 
 /// Takes a field into a body, if it has its number.
-#[tactic(auto, unfolding(crate::specs::Command::body_step))]
+#[tactic(auto, unfolding(crate::specs::Heading::body_step))]
 fn put_body<M: Message>(
     message: &mut M,
     alloc: Global,
@@ -206,7 +207,7 @@ pub fn body_of<M: Message>(alloc: Global, bytes: &[u8], body: u32) -> Result<M, 
 }
 
 /// The body of this number.
-#[tactic(auto, unfolding(crate::specs::Command::any_body))]
+#[tactic(auto, unfolding(crate::specs::Heading::any_body))]
 fn any_body_of(alloc: Global, bytes: &[u8], number: u32) -> Result<Body, ReadError>
     ensures { Gives body_values result (any_body number bytes.now) }
 {
@@ -231,16 +232,29 @@ pub fn decode_command(alloc: Global, bytes: &[u8]) -> Result<BaseCommand, ReadEr
     Ok(BaseCommand::new(body))
 }
 
+/// Writes a command with no body.
+#[tactic(auto, unfolding(crate::specs::Fits::CommandInRange))]
+fn write_kind<S: Sink>(out: &mut S, kind: i32) -> Result<(), AllocError>
+    ensures ok { OnOk result (Appends S.Holds out.old out.new (entry 1 Int32 kind)) }
+    ensures sure { S.IsSure → IsOk result }
+    ensures fits { OnOk result (CommandInRange (record { kind = kind; body = None })) }
+{
+    kind.write(out, 1)
+}
+
 /// Writes a command with this body.
+#[tactic(auto, unfolding(crate::specs::Fits::CommandInRange))]
 pub fn write_body<M: Message, S: Sink>(
     out: &mut S,
     kind: i32,
     number: u32,
     body: &M,
 ) -> Result<(), AllocError>
-    requires { kind ≡ pos number }
+    requires same { kind ≡ pos number }
+    requires known { body_row number ≡ Some M.shape }
     ensures ok { OnOk result (Appends S.Holds out.old out.new (body_spelling number (spelling M.shape (M.values body.now)))) }
     ensures sure { S.IsSure → IsOk result }
+    ensures fits { OnOk result (CommandInRange (with_kind (record { number = number; row = M.shape; values = M.values body.now }))) }
 {
     kind.write(out, 1)?;
     write_message(out, number, body)
@@ -249,9 +263,10 @@ pub fn write_body<M: Message, S: Sink>(
 fn write_command<S: Sink>(out: &mut S, command: &BaseCommand) -> Result<(), AllocError>
     ensures ok { OnOk result (Appends S.Holds out.old out.new (command_spelling (command_values command.now))) }
     ensures sure { S.IsSure → IsOk result }
+    ensures fits { OnOk result (CommandInRange (settled (command_values command.now))) }
 {
     match &command.body {
-        None => command.kind.write(out, 1),
+        None => write_kind(out, command.kind),
         Some(Body::Connect(body)) => write_body(out, 2, 2, body),
         Some(Body::Connected(body)) => write_body(out, 3, 3, body),
         Some(Body::GetTopicsOfNamespace(body)) => write_body(out, 32, 32, body),
@@ -261,7 +276,8 @@ fn write_command<S: Sink>(out: &mut S, command: &BaseCommand) -> Result<(), Allo
 
 /// Writes the command at the end.
 pub fn encode_command(command: &BaseCommand, out: &mut Vec<u8>) -> Result<(), AllocError>
-    ensures { OnOk result (out.new.items ≡ out.old.items ++ command_spelling (command_values command.now)) }
+    ensures ok { OnOk result (out.new.items ≡ out.old.items ++ command_spelling (command_values command.now)) }
+    ensures again { OnOk result (Spells (command_spelling (command_values command.now)) (settled (command_values command.now))) }
 {
     write_command(out, command)
 }

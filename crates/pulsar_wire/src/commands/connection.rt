@@ -1,8 +1,8 @@
 //! The commands that open a connection.
 
-ghost use Rattle.std.specs.Prelude.{◌≡◌, string_bytes, codes, IfOk};
+ghost use Rattle.std.specs.Prelude.{◌≡◌, refl, string_bytes, codes, IfOk};
 ghost use Rattle.std.specs.Option.{option_map};
-ghost use Rattle.pulsar_wire.specs.Merge.{none_of};
+ghost use Rattle.pulsar_wire.specs.Row.{none_of};
 ghost use Rattle.pulsar_wire.specs.Rows.{connect, connected};
 ghost use Rattle.pulsar_wire.specs.Views.{connect_values, connected_values};
 
@@ -86,6 +86,8 @@ impl Message for CommandConnect {
         write_optional(out, 5, &self.auth_method_name)?;
         write_optional(out, 6, &self.proxy_to_broker_url)
     }
+
+    ghost numbers_differ = { refl };
 }
 
 /// The broker's answer to `connect`.
@@ -144,4 +146,6 @@ impl Message for CommandConnected {
         write_optional(out, 2, &self.protocol_version)?;
         write_optional(out, 3, &self.max_message_size)
     }
+
+    ghost numbers_differ = { refl };
 }

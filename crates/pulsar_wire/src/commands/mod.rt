@@ -2,4 +2,5 @@
 
 pub mod base;
 pub mod connection;
+pub mod ids;
 pub mod topics;

@@ -1,9 +1,9 @@
 //! The commands that ask for the topics of a namespace.
 
-ghost use Rattle.std.specs.Prelude.{◌≡◌, map, string_bytes, IfOk};
+ghost use Rattle.std.specs.Prelude.{◌≡◌, refl, map, string_bytes, IfOk};
 ghost use Rattle.std.specs.Option.{option_map};
 ghost use Rattle.pulsar_wire.specs.Enumerations.{mode_number};
-ghost use Rattle.pulsar_wire.specs.Merge.{none_of};
+ghost use Rattle.pulsar_wire.specs.Row.{none_of};
 ghost use Rattle.pulsar_wire.specs.Rows.{get_topics_of_namespace, get_topics_of_namespace_response};
 ghost use Rattle.pulsar_wire.specs.Views.{get_topics_of_namespace_values, get_topics_of_namespace_response_values};
 
@@ -92,6 +92,8 @@ impl Message for CommandGetTopicsOfNamespace {
         write_required(out, 2, &self.namespace)?;
         write_optional(out, 3, &self.mode)
     }
+
+    ghost numbers_differ = { refl };
 }
 
 /// The broker's answer to `get_topics_of_namespace`.
@@ -146,4 +148,6 @@ impl Message for CommandGetTopicsOfNamespaceResponse {
         write_required(out, 1, &self.request_id)?;
         write_repeated(out, 2, &self.topics)
     }
+
+    ghost numbers_differ = { refl };
 }

@@ -2,10 +2,10 @@
 
 ghost use Rattle.std.specs.Prelude.{◌≡◌, ◌++◌, ℕ, List, map, length, OnOk, IsOk};
 ghost use Rattle.std.specs.Option.{option_map};
-ghost use Rattle.pulsar_wire.specs.Row.{Row, Values, Required, Optional, Repeated, items, message_entry, spelling, reading};
-ghost use Rattle.pulsar_wire.specs.Fits.{Fits, IsRow};
-ghost use Rattle.pulsar_wire.specs.Merge.{none_of, put, put_part, merged};
-ghost use Rattle.std.specs.List.{flat_map};
+ghost use Rattle.pulsar_wire.specs.Row.{Row, Values, Required, Optional, Repeated, items, message_entry, none_of, spelling, reading};
+ghost use Rattle.pulsar_wire.specs.Fits.{InRange, IsRow};
+ghost use Rattle.pulsar_wire.specs.Merge.{put, put_part, merged};
+ghost use Rattle.std.specs.List.{flat_map, AllByRecursion};
 ghost use Rattle.pulsar_wire.specs.Written.{capped, Appends, written};
 ghost use Rattle.pulsar_wire.specs.Shown.{Leaves, Gives, field, shown};
 
@@ -35,7 +35,11 @@ pub trait Message: Drop {
     /// Writes its fields.
     fn write<S: Sink>(&self, out: &mut S) -> Result<(), AllocError>
         ensures ok { OnOk result ((front : List ℕ) → S.Holds out.old front → S.Holds out.new (written shape (values self.now) front)) }
-        ensures sure { S.IsSure → IsOk result };
+        ensures sure { S.IsSure → IsOk result }
+        ensures fits { OnOk result (InRange shape (values self.now)) };
+
+    /// No two fields have one number.
+    ghost numbers_differ: { IsRow shape };
 }
 
 /// Takes the fields that the bytes spell.
@@ -128,7 +132,8 @@ pub fn encoded_len<M: Message>(message: &M) -> u64
 
 /// Writes the message at the end.
 pub fn encode<M: Message>(message: &M, out: &mut Vec<u8>) -> Result<(), AllocError>
-    ensures { OnOk result (out.new.items ≡ out.old.items ++ spelling M.shape (M.values message.now)) }
+    ensures ok { OnOk result (out.new.items ≡ out.old.items ++ spelling M.shape (M.values message.now)) }
+    ensures again { OnOk result (reading M.shape (spelling M.shape (M.values message.now)) ≡ Some (M.values message.now)) }
 {
     message.write(out)
 }
@@ -141,6 +146,7 @@ pub fn write_message<M: Message, S: Sink>(
 ) -> Result<(), AllocError>
     ensures ok { OnOk result (Appends S.Holds out.old out.new (message_entry number (spelling M.shape (M.values message.now)))) }
     ensures sure { S.IsSure → IsOk result }
+    ensures fits { OnOk result (InRange M.shape (M.values message.now)) }
 {
     let len = encoded_len(message);
     push_length(out, number, len)?;
@@ -154,6 +160,7 @@ pub fn write_required_message<M: Message, S: Sink>(
 ) -> Result<(), AllocError>
     ensures ok { OnOk result (Appends S.Holds out.old out.new (flat_map (λ x. message_entry number (spelling M.shape x)) (items Required (M.values message.now)))) }
     ensures sure { S.IsSure → IsOk result }
+    ensures fits { OnOk result (AllByRecursion (InRange M.shape) (items Required (M.values message.now))) }
 {
     write_message(out, number, message)
 }
@@ -165,6 +172,7 @@ pub fn write_optional_message<M: Message, S: Sink>(
 ) -> Result<(), AllocError>
     ensures ok { OnOk result (Appends S.Holds out.old out.new (flat_map (λ x. message_entry number (spelling M.shape x)) (items Optional (option_map M.values message.now)))) }
     ensures sure { S.IsSure → IsOk result }
+    ensures fits { OnOk result (AllByRecursion (InRange M.shape) (items Optional (option_map M.values message.now))) }
 {
     match message {
         Some(message) => write_message(out, number, message),
@@ -179,15 +187,10 @@ pub fn write_repeated_messages<M: Message, S: Sink>(
 ) -> Result<(), AllocError>
     ensures ok { OnOk result (Appends S.Holds out.old out.new (flat_map (λ x. message_entry number (spelling M.shape x)) (items Repeated (map M.values messages.now)))) }
     ensures sure { S.IsSure → IsOk result }
+    ensures fits { OnOk result (AllByRecursion (InRange M.shape) (items Repeated (map M.values messages.now))) }
 {
     for message in messages {
         write_message(out, number, message)?;
     }
     Ok(())
 }
-
-/// What is written is read again: in a row whose numbers are different, each value that fits is the meaning of its
-/// spelling.
-pub fn read_again()
-    ensures { (row : Row) (vs : Values row) → IsRow row → Fits row vs → reading row (spelling row vs) ≡ Some vs }
-{}

@@ -1,9 +1,11 @@
 //! Values that are written as they are.
 
-ghost use Rattle.std.specs.Prelude.{◌≡◌, ℕ, List, ◌++◌, ◌+◌, ◌*◌, map, length, OnOk, IsOk, string_bytes};
+ghost use Rattle.std.specs.Prelude.{◌≡◌, ℕ, List, ◌++◌, ◌+◌, ◌*◌, map, length, OnOk, IsOk, string_bytes, FitsSigned};
 ghost use Rattle.std.specs.Option.{option_map};
-ghost use Rattle.std.specs.List.{flat_map};
+ghost use Rattle.std.specs.List.{flat_map, AllByRecursion};
+ghost use Rattle.std.specs.Int.{w64};
 ghost use Rattle.pulsar_wire.specs.Row.{Kind, Text, Bytes, Uint32, Uint64, Int32, Int64, Flag, Required, Optional, Repeated, Content, items, varint, key, with_length, entry};
+ghost use Rattle.pulsar_wire.specs.Fits.{FitsContent};
 ghost use Rattle.pulsar_wire.specs.Written.{Appends};
 
 use crate::encoding::sink::{Sink, push_varint};
@@ -45,7 +47,8 @@ pub trait Plain {
     /// Writes the value behind its key.
     fn write<S: Sink>(&self, out: &mut S, number: u32) -> Result<(), AllocError>
         ensures ok { OnOk result (Appends S.Holds out.old out.new (entry number kind (content_of self.now))) }
-        ensures sure { S.IsSure → IsOk result };
+        ensures sure { S.IsSure → IsOk result }
+        ensures fits { FitsContent kind (content_of self.now) };
 }
 
 impl Plain for String {
@@ -125,6 +128,7 @@ pub fn write_required<P: Plain, S: Sink>(
 ) -> Result<(), AllocError>
     ensures ok { OnOk result (Appends S.Holds out.old out.new (flat_map (entry number P.kind) (items Required (P.content_of value.now)))) }
     ensures sure { S.IsSure → IsOk result }
+    ensures fits { OnOk result (AllByRecursion (FitsContent P.kind) (items Required (P.content_of value.now))) }
 {
     value.write(out, number)
 }
@@ -136,6 +140,7 @@ pub fn write_optional<P: Plain, S: Sink>(
 ) -> Result<(), AllocError>
     ensures ok { OnOk result (Appends S.Holds out.old out.new (flat_map (entry number P.kind) (items Optional (option_map P.content_of value.now)))) }
     ensures sure { S.IsSure → IsOk result }
+    ensures fits { OnOk result (AllByRecursion (FitsContent P.kind) (items Optional (option_map P.content_of value.now))) }
 {
     match value {
         Some(value) => value.write(out, number),
@@ -150,6 +155,7 @@ pub fn write_repeated<P: Plain, S: Sink>(
 ) -> Result<(), AllocError>
     ensures ok { OnOk result (Appends S.Holds out.old out.new (flat_map (entry number P.kind) (items Repeated (map P.content_of values.now)))) }
     ensures sure { S.IsSure → IsOk result }
+    ensures fits { OnOk result (AllByRecursion (FitsContent P.kind) (items Repeated (map P.content_of values.now))) }
 {
     for value in values {
         value.write(out, number)?;
@@ -160,6 +166,7 @@ pub fn write_repeated<P: Plain, S: Sink>(
 pub fn write_numbers<S: Sink>(out: &mut S, number: u32, values: &[i64]) -> Result<(), AllocError>
     ensures ok { OnOk result (Appends S.Holds out.old out.new (flat_map (entry number Int64) values.now)) }
     ensures sure { S.IsSure → IsOk result }
+    ensures fits { OnOk result (AllByRecursion (FitsSigned w64) values.now) }
 {
     for value in values {
         value.write(out, number)?;

@@ -1,7 +1,7 @@
 use Rattle.std.proofs.Common.{◌≡◌, length}
-use Rattle.pulsar_wire.specs.Merge.{none_of}
+use Rattle.pulsar_wire.specs.Row.{none_of}
 use Rattle.pulsar_wire.specs.Run.{run}
-use Rattle.pulsar_wire.specs.Command.{body_step}
+use Rattle.pulsar_wire.specs.Heading.{body_step}
 use Rattle.pulsar_wire.proofs.commands.base.body_of.Given as goal
 
 abbrev pub invariant-loop-rest : goal.invariant-loop-rest

@@ -3,7 +3,7 @@ use Rattle.std.proofs.lemmas.Bool.{eqb-true}
 use Rattle.std.proofs.lemmas.Bool.Decides.{nat_tests}
 use Rattle.std.proofs.lemmas.Result.{err_from_is_err_and}
 use Rattle.pulsar_wire.specs.Shown.{field}
-use Rattle.pulsar_wire.specs.Command.{heading_step}
+use Rattle.pulsar_wire.specs.Heading.{heading_step}
 use Rattle.pulsar_wire.proofs.Fields.{field-takes}
 use Rattle.pulsar_wire.proofs.Merging.{Refuses-on}
 use Rattle.pulsar_wire.proofs.Running.{run-done, run-stop, run-next, run-refused}

@@ -1,6 +1,6 @@
 use Rattle.std.proofs.Common.{◌≡◌, pos, None, length}
 use Rattle.pulsar_wire.specs.Run.{run}
-use Rattle.pulsar_wire.specs.Command.{heading_step}
+use Rattle.pulsar_wire.specs.Heading.{heading_step}
 use Rattle.pulsar_wire.proofs.commands.base.read_heading.Given as goal
 
 abbrev pub invariant-loop-rest : goal.invariant-loop-rest

@@ -2,7 +2,7 @@ use Rattle.std.proofs.Common.{◌≡◌, sym, refl, ◌∙◌, ap, subst, Some, 
 use Rattle.std.specs.Option.{option_map}
 use Rattle.std.proofs.lemmas.Result.{err_from_is_err_and}
 use Rattle.pulsar_wire.specs.Row.{Values}
-use Rattle.pulsar_wire.specs.Merge.{none_of}
+use Rattle.pulsar_wire.specs.Row.{none_of}
 use Rattle.pulsar_wire.specs.Shown.{shown}
 use Rattle.pulsar_wire.proofs.Merging.{part-optional, Leaves-map, Leaves-same, Refuses-on}
 use Rattle.pulsar_wire.proofs.encoding.message.put_optional.Goals as goal

@@ -1,7 +1,7 @@
 use Rattle.std.proofs.Common.{◌≡◌, sym, refl, ◌∙◌, ap, Some, map, ◌++◌, ◌∷◌, []}
 use Rattle.std.proofs.lemmas.Result.{err_from_is_err_and}
 use Rattle.std.proofs.lemmas.List.{map_push}
-use Rattle.pulsar_wire.specs.Merge.{none_of}
+use Rattle.pulsar_wire.specs.Row.{none_of}
 use Rattle.pulsar_wire.specs.Shown.{shown}
 use Rattle.pulsar_wire.proofs.Merging.{part-repeated, Refuses-on}
 use Rattle.pulsar_wire.proofs.encoding.message.put_repeated.Goals as goal

@@ -1,4 +1,4 @@
-use Rattle.pulsar_wire.specs.Merge.{none_of}
+use Rattle.pulsar_wire.specs.Row.{none_of}
 use Rattle.pulsar_wire.specs.Shown.{shown}
 use Rattle.pulsar_wire.proofs.Merging.{part-required, Leaves-same}
 use Rattle.pulsar_wire.proofs.encoding.message.put_required.Goals as goal

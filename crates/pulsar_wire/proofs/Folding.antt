@@ -6,8 +6,8 @@ use Rattle.std.proofs.lemmas.List.{append-nil}
 use Rattle.std.proofs.lemmas.List.Concat.{flat_map-cons}
 use Rattle.std.proofs.lemmas.Grind.{flat_map-append}
 use Rattle.pulsar_wire.specs.Field.{◌>>=◌, Value, Field, fields}
-use Rattle.pulsar_wire.specs.Row.{Kind, Rule, Required, Optional, Repeated, Row, End, Plain, Embedded, Numbers, Held, Values, Content, content, zero_of, each, last_or, last_of, occurrences, plain, delimited, joined, embedded, numbers, plain_of, numbers_of, value, reading}
-use Rattle.pulsar_wire.specs.Merge.{absent, none_of, with_next, with_part, put_plain, put_part, put_numbers, steps, put, merged}
+use Rattle.pulsar_wire.specs.Row.{absent, none_of, Kind, Rule, Required, Optional, Repeated, Row, End, Plain, Embedded, Numbers, Held, Values, Content, content, zero_of, each, last_or, last_of, occurrences, plain, delimited, joined, embedded, numbers, plain_of, numbers_of, value, reading}
+use Rattle.pulsar_wire.specs.Merge.{with_next, with_part, put_plain, put_part, put_numbers, steps, put, merged}
 use Rattle.pulsar_wire.proofs.Fields.{bind_some, bind_assoc, bind_some_id, some, some_is, fields-nil, fields-append}
 
 -- values that are read from a list of fields, one field after the other

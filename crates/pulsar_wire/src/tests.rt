@@ -1,0 +1,161 @@
+//! Commands and ids as other programs write them, byte by byte, and bytes that they refuse.
+
+use crate::commands::base::{BaseCommand, Body};
+use crate::commands::connection::{CommandConnect, CommandConnected, client_version};
+use crate::commands::ids::MessageIdData;
+use crate::commands::topics::{
+    CommandGetTopicsOfNamespace, CommandGetTopicsOfNamespaceResponse, Mode,
+};
+use crate::error::{ConnectionError, Reason};
+use crate::wire::Wire;
+use std::alloc::Global;
+use std::process::Abort;
+use std::test::Fail;
+
+fn is_refused(alloc: Global, bytes: &[u8]) -> bool {
+    matches!(
+        BaseCommand::decode(alloc, bytes),
+        Err(ConnectionError::Decoding(Reason::Message))
+    )
+}
+
+/// Decodes the bytes, and encodes the value and a copy of it to the same bytes.
+fn both_ways(rt: &impl Abort, alloc: Global, bytes: &[u8]) -> Result<BaseCommand, Fail> {
+    let command = BaseCommand::decode(alloc, bytes)?;
+    let mut out = Vec::new(alloc);
+    command.encode(&mut out)?;
+    assert_eq!(rt; out.as_slice(), bytes);
+    assert_eq!(rt; command.encoded_len(), bytes.len() as u64);
+    let copy = command.copy()?;
+    assert!(rt; copy == command);
+    Ok(command)
+}
+
+fn id_of(
+    rt: &impl Abort,
+    alloc: Global,
+    bytes: &[u8],
+    canonical: &[u8],
+) -> Result<MessageIdData, Fail> {
+    let id = MessageIdData::decode(alloc, bytes)?;
+    let mut out = Vec::new(alloc);
+    id.copy()?.encode(&mut out)?;
+    assert_eq!(rt; out.as_slice(), canonical);
+    Ok(id)
+}
+
+#[test]
+fn refuses_what_is_no_command(rt: HostRuntime) {
+    let malformed: [(&[u8], &str); 7] = [
+        (b"\x08\x02\x12\x00\x1a\x00", "two known bodies"),
+        (b"\x08\x03\x1a\x02\x0a\x00\x00", "field number 0"),
+        (b"\x08\x03\x1b", "wire type 3"),
+        (b"\x08\x03\x1a\x05\x0a\x00", "a value past the end"),
+        (
+            b"\x08\xff\xff\xff\xff\xff\xff\xff\xff\xff\x02",
+            "a tenth byte above 1",
+        ),
+        (b"\x08\x03\x1a\x03\x0a\x01\xff", "a text that is not UTF-8"),
+        (b"\x08\x03\x80\x80\x80\x80\x10\x00", "a key above u32"),
+    ];
+    for (bytes, why) in malformed {
+        assert!(rt; is_refused(rt.alloc(), bytes), "{why}");
+    }
+}
+
+#[test]
+fn skips_unknown_fields(rt: HostRuntime) -> Result<(), Fail> {
+    let command = BaseCommand::decode(rt.alloc(), b"\x88\x03\x00\x08\x02\x12\x00")?;
+    assert_eq!(rt; command.kind, 2);
+    assert!(rt; matches!(&command.body, Some(Body::Connect(_))));
+    Ok(())
+}
+
+#[test]
+fn joins_the_occurrences_of_a_body(rt: HostRuntime) -> Result<(), Fail> {
+    let alloc = rt.alloc();
+    let twice = b"\x08\x03\x1a\x02\x0a\x00\x1a\x02\x0a\x00";
+    let command = BaseCommand::decode(alloc, twice)?;
+    let empty = BaseCommand::new(Body::Connected(CommandConnected::new(alloc)));
+    assert!(rt; command == empty);
+    Ok(())
+}
+
+#[test]
+fn reads_a_connect(rt: HostRuntime) -> Result<(), Fail> {
+    let alloc = rt.alloc();
+    let bytes = b"\x08\x02\x12\x1a\x0a\x10pulsar-rs-v6.0.0\x20\x0c\x2a\x04none";
+    let command = both_ways(&rt, alloc, bytes)?;
+    let mut connect = CommandConnect::new(alloc);
+    connect.client_version = String::from_str(alloc, "pulsar-rs-v6.0.0")?;
+    connect.auth_method_name = Some(String::from_str(alloc, "none")?);
+    connect.protocol_version = Some(12);
+    assert!(rt; command == BaseCommand::new(Body::Connect(connect.copy()?)));
+    Ok(())
+}
+
+#[test]
+fn writes_a_connect(rt: HostRuntime) -> Result<(), Fail> {
+    let alloc = rt.alloc();
+    let mut connect = CommandConnect::new(alloc);
+    connect.client_version = client_version(alloc)?;
+    connect.protocol_version = Some(12);
+    let command = BaseCommand::new(Body::Connect(connect));
+    let bytes = b"\x08\x02\x12\x14\x0a\x10pulsar-rs-v6.7.2\x20\x0c";
+    assert!(rt; both_ways(&rt, alloc, bytes)? == command);
+    Ok(())
+}
+
+#[test]
+fn reads_a_connected(rt: HostRuntime) -> Result<(), Fail> {
+    let alloc = rt.alloc();
+    let command = both_ways(&rt, alloc, b"\x08\x03\x1a\x02\x0a\x00")?;
+    let connected = CommandConnected::new(alloc);
+    assert!(rt; command == BaseCommand::new(Body::Connected(connected.copy()?)));
+    Ok(())
+}
+
+#[test]
+fn asks_for_topics(rt: HostRuntime) -> Result<(), Fail> {
+    let alloc = rt.alloc();
+    let bytes = b"\x08\x20\x82\x02\x14\x08\x00\x12\x0epublic/default\x18\x02";
+    let command = both_ways(&rt, alloc, bytes)?;
+    let mut asked = CommandGetTopicsOfNamespace::new(alloc);
+    asked.namespace = String::from_str(alloc, "public/default")?;
+    asked.mode = Some(Mode::All.into());
+    assert!(rt; command == BaseCommand::new(Body::GetTopicsOfNamespace(asked.copy()?)));
+    Ok(())
+}
+
+#[test]
+fn is_told_topics(rt: HostRuntime) -> Result<(), Fail> {
+    let alloc = rt.alloc();
+    let bytes = b"\x08\x21\x8a\x02\x05\x08\x00\x12\x01a";
+    let command = both_ways(&rt, alloc, bytes)?;
+    let mut told = CommandGetTopicsOfNamespaceResponse::new(alloc);
+    told.topics.push(String::from_str(alloc, "a")?)?;
+    let body = Body::GetTopicsOfNamespaceResponse(told.copy()?);
+    assert_eq!(rt; body.name(), "get_topics_of_namespace_response");
+    assert!(rt; command == BaseCommand::new(body.copy()?));
+    Ok(())
+}
+
+#[test]
+fn reads_ids(rt: HostRuntime) -> Result<(), Fail> {
+    let alloc = rt.alloc();
+    let plain = b"\x08\x01\x10\x02";
+    let id = id_of(&rt, alloc, plain, plain)?;
+    assert_eq!(rt; (id.ledger_id, id.entry_id, id.partition), (1, 2, None));
+    let negative = b"\x08\x01\x10\x02\x18\xff\xff\xff\xff\xff\xff\xff\xff\xff\x01";
+    let id = id_of(&rt, alloc, negative, negative)?;
+    assert_eq!(rt; id.partition, Some(-1));
+    let unpacked = b"\x08\x01\x10\x02\x28\x05\x28\xff\xff\xff\xff\xff\xff\xff\xff\xff\x01";
+    let id = id_of(&rt, alloc, unpacked, unpacked)?;
+    assert_eq!(rt; id.ack_set.as_slice(), [5, -1].as_slice());
+    let packed = b"\x08\x01\x10\x02\x2a\x0b\x05\xff\xff\xff\xff\xff\xff\xff\xff\xff\x01";
+    assert!(rt; id_of(&rt, alloc, packed, unpacked)? == id);
+    let empty = MessageIdData::new(alloc);
+    assert!(rt; empty < id);
+    assert_eq!(rt; empty.encoded_len(), 4);
+    Ok(())
+}

@@ -2,6 +2,7 @@
 use Rattle.std.proofs.Common.{◌≡◌, ◌≢◌, ℕ, zero, suc, ◌+◌, ◌≤◌, List, [], ◌∷◌, ◌++◌, length, Option, Some, None, Result, Ok, Err, refl, sym, ap, ◌∙◌, arith}
 use Rattle.std.proofs.lemmas.List.{append-nil}
 use Rattle.pulsar_wire.specs.declared.error.Reason.{Reason}
+use Rattle.pulsar_wire.specs.Field.{bytes_at}
 use Rattle.pulsar_frame.specs.Message.{MessageValues}
 use Rattle.pulsar_frame.specs.Sized.{sized_at}
 use Rattle.pulsar_frame.specs.Frame.{content, Front, Short, Refused, Whole, IsFrame, StandInFront, before, front_of, front, cut_before, cut_within, cut, left, reason_of, bad}
@@ -27,6 +28,11 @@ front_of-shorter bytes (Some x) sized m rest e =
 pub front-shorter : (bytes : List ℕ) (m : MessageValues) (rest : List ℕ) → front bytes ≡ Whole m rest → length rest + 4 ≤ length bytes
 unfolding front
 front-shorter bytes m rest e = front_of-shorter bytes (sized_at bytes) refl m rest e
+
+-- there is nothing in front of no bytes
+pub front-nil : front [] ≡ Short
+unfolding front sized_at bytes_at
+front-nil = refl
 
 abbrev longer : Front → List ℕ → Front
 longer Short t = Short
@@ -133,6 +139,19 @@ left-short bytes e = ap (λ (p : List MessageValues × List ℕ). p.1) (cut_with
 pub bad-short : (bytes : List ℕ) → front bytes ≡ Short → bad bytes ≡ None
 unfolding bad
 bad-short bytes e = rw (left-short bytes e, e) refl
+
+-- where there is nothing, nothing is left
+
+pub cut-nil : cut [] ≡ []
+unfolding cut cut_within
+cut-nil = refl
+
+pub left-nil : left [] ≡ []
+unfolding left cut_within
+left-nil = refl
+
+pub bad-nil : bad [] ≡ None
+bad-nil = bad-short [] front-nil
 
 -- where a frame is refused, all is left
 

@@ -1,6 +1,6 @@
 -- Frames, and the stream that they make.  (Pulsar binary protocol, Framing)
 use Rattle.std.specs.Prelude.{◌≡◌, ℕ, zero, suc, ◌^◌, ◌<◌, List, [], ◌∷◌, ◌++◌, length, Option, Some, None, Result, Ok, Err}
-use Rattle.pulsar_wire.specs.Command.{command_reading, command_spelling}
+use Rattle.pulsar_wire.specs.Command.{command_reading, command_spelling, settled}
 use Rattle.pulsar_wire.specs.declared.error.Reason.{Reason}
 use Rattle.pulsar_wire.specs.declared.error.Reason.TheVariants.{Frame, Command, Payload}
 use Rattle.pulsar_frame.specs.Message.{MessageValues}
@@ -96,3 +96,11 @@ frame_bytes m = with_size (with_size (command_spelling m.command))
 -- each size fits its four bytes
 unfoldable pub FitsFrame : MessageValues → Type 0
 FitsFrame m = length (with_size (command_spelling m.command)) < 2 ^ 32
+
+-- the message that is read where this one was written
+abbrev pub settled_message : MessageValues → MessageValues
+settled_message m = record { command = settled m.command }
+
+-- its frame is read again, whatever follows
+abbrev pub IsReadAgain : MessageValues → Type 0
+IsReadAgain m = (t : List ℕ) → front (frame_bytes m ++ t) ≡ Whole (settled_message m) t

@@ -1,9 +1,9 @@
 -- What follows from the definitions.
 use Rattle.std.specs.Prelude.{◌≡◌, ◌↔◌, true, ℕ, List, [], ◌∷◌, ◌++◌, Some, None}
-use Rattle.pulsar_wire.specs.Command.{CommandValues, command_reading, command_spelling}
+use Rattle.pulsar_wire.specs.Fits.{CommandInRange}
 use Rattle.pulsar_wire.specs.declared.error.Reason.{Reason}
 use Rattle.pulsar_frame.specs.Message.{MessageValues}
-use Rattle.pulsar_frame.specs.Frame.{Short, Refused, Whole, front, StandInFront, cut, left, bad, frame_bytes, FitsFrame}
+use Rattle.pulsar_frame.specs.Frame.{Short, Refused, Whole, front, StandInFront, cut, left, bad, FitsFrame, IsReadAgain}
 use Rattle.pulsar_wire.specs.declared.key.RequestKey.{RequestKey}
 use Rattle.pulsar_frame.specs.Key.{key, bears}
 use Rattle.pulsar_frame.specs.History.{Act, fed, given, Leads}
@@ -37,10 +37,9 @@ abbrev pub GivesTheMessagesFed : Type 0
 GivesTheMessagesFed = (acts : List Act) (held : List ℕ) → Leads acts [] held →
     (cut (fed acts) ≡ given acts ++ cut held) × (left (fed acts) ≡ left held) × (bad (fed acts) ≡ bad held)
 
--- A frame that was written is read again, whatever follows, with the command that the bytes of its command spell.
+-- A frame that was written is read again, whatever follows.
 abbrev pub ReadsFramesWritten : Type 0
-ReadsFramesWritten = (m : MessageValues) (c : CommandValues) (t : List ℕ) → FitsFrame m → command_reading (command_spelling m.command) ≡ Some c →
-    front (frame_bytes m ++ t) ≡ Whole (record { command = c }) t
+ReadsFramesWritten = (m : MessageValues) → FitsFrame m → CommandInRange m.command → IsReadAgain m
 
 -- A message bears the key that it has, and no other.
 abbrev pub BearsItsKey : Type 0

@@ -1,5 +1,7 @@
 //! Frames at the ends of buffers.
 
+ghost use Rattle.std.specs.Prelude.{OnOk};
+ghost use Rattle.pulsar_frame.specs.Frame.{IsReadAgain};
 ghost use Rattle.pulsar_frame.specs.Shown.{message_values, Appends, Takes};
 
 use crate::frame::read_frame;
@@ -21,7 +23,8 @@ impl Codec {
         item: &Message,
         dst: &mut BytesMut,
     ) -> Result<(), ConnectionError>
-        ensures { Appends result (message_values item.now) dst.old.items dst.new.items }
+        ensures frame { Appends result (message_values item.now) dst.old.items dst.new.items }
+        ensures again { OnOk result (IsReadAgain (message_values item.now)) }
     {
         let frame = item.to_frame(alloc)?;
         dst.extend_from_slice(&frame)?;

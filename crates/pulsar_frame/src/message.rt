@@ -1,7 +1,7 @@
 //! What one frame carries.
 
-ghost use Rattle.std.specs.Prelude.{◌≡◌, ◌↔◌, IsTrue, IfOk};
-ghost use Rattle.pulsar_frame.specs.Frame.{FitsFrame};
+ghost use Rattle.std.specs.Prelude.{◌≡◌, ◌↔◌, IsTrue, IfOk, OnOk};
+ghost use Rattle.pulsar_frame.specs.Frame.{FitsFrame, IsReadAgain};
 ghost use Rattle.pulsar_wire.specs.Views.{body_values};
 ghost use Rattle.pulsar_frame.specs.Key.{body_key, key};
 ghost use Rattle.pulsar_frame.specs.Shown.{message_values, IsFrameOf};
@@ -57,7 +57,8 @@ impl Message {
     /// but want of memory.
     #[tactic(auto, unfolding(crate::specs::Frame::FitsFrame, crate::specs::Frame::frame_bytes, crate::specs::Sized::with_size))]
     pub fn to_frame(&self, alloc: Global) -> Result<Vec<u8>, ConnectionError>
-        ensures { IsFrameOf (message_values self.now) result }
+        ensures frame { IsFrameOf (message_values self.now) result }
+        ensures again { OnOk result (IsReadAgain (message_values self.now)) }
     {
         let size = command_len(&self.command);
         if size > MAX_COMMAND {

@@ -1,0 +1,6 @@
+pub mod Lines
+pub mod Numbers
+pub mod Printed
+pub mod Prints
+pub mod Readings
+pub mod Sinks

@@ -1,0 +1,77 @@
+-- Lines, as a loop finds them.
+use Rattle.std.proofs.Common.{◌≡◌, ◌==◌, ℕ, ◌+◌, ◌-◌, ◌<◌, ◌≤◌, ◌∙◌, sym, ap, List, [], ◌∷◌, ◌++◌, refl, arith, Bool, true, false, cond, Option, Some, None, nat_lt, length, take, drop, get_or, append_assoc, append-nil}
+use Rattle.std.specs.List.{All, position, position_or_len, slice_split, before_first, after_first}
+use Rattle.std.proofs.Math.Seq.{take-length}
+use Rattle.std.proofs.lemmas.Bool.{eqb-true}
+use Rattle.std.proofs.lemmas.Bool.Decides.{nat_tests}
+use Rattle.std.proofs.lemmas.List.{length-drop, length-take-le, get_or-take}
+use Rattle.std.proofs.lemmas.List.Elements.{All-append}
+use Rattle.std.proofs.lemmas.List.Sums.{fails_before_first, passes_at_first, split_at_first}
+use Rattle.std.proofs.lemmas.List.Splits.{slice_split_at, slice_split_none}
+use Rattle.std.proofs.lemmas.Option.{none-some}
+use Rattle.pulsar_cli.specs.Grammar.{lines}
+use Rattle.pulsar_cli.specs.Shown.{IsWithinLine, Splits}
+
+-- what stands behind a place
+pub behind-at : (n : ℕ) (bytes : List ℕ) → take (length bytes - n) (drop n bytes) ≡ drop n bytes
+behind-at n bytes = ap (λ k. take k (drop n bytes)) (sym (length-drop n bytes)) ∙ take-length (drop n bytes)
+
+within : (at size i : ℕ) (b : Bool) → nat_lt at size ≡ b → cond b (Some at) None ≡ Some i → (at ≡ i) × (at < size)
+within at size i true lt h = let near : at < size = grind (arith, nat_tests) in grind arith
+within at size i false lt h = absurd (none-some i h)
+
+outside : (at size : ℕ) (b : Bool) → nat_lt at size ≡ b → cond b (Some at) None ≡ None → size ≤ at
+outside at size true lt h = absurd (none-some at (sym h))
+outside at size false lt h = grind (arith, nat_tests)
+
+abbrev is_feed : ℕ → Bool
+is_feed b = b == 10
+
+within-front : (bytes : List ℕ) (n : ℕ) → n ≤ position_or_len is_feed bytes → n ≤ length bytes → IsWithinLine (take n bytes)
+within-front bytes n le within k d lt =
+    let size = length-take-le n bytes within in
+    let near : k < n = omega arith in
+    rw (get_or-take n bytes k d near) (fails_before_first is_feed bytes k d (omega arith))
+
+-- one line ends at the first line feed
+pub cut-at : (bytes : List ℕ) (i : ℕ) → position (λ b. b == 10) bytes ≡ Some i → IsWithinLine (take i bytes) × (bytes ≡ take i bytes ++ 10 ∷ drop (i + 1) bytes) × (length (drop (i + 1) bytes) < length bytes)
+cut-at bytes i h =
+    let at = within (position_or_len is_feed bytes) (length bytes) i _ refl h in
+    let feed = eqb-true _ 10 (passes_at_first is_feed bytes 0 at.1) in
+    let apart = split_at_first is_feed bytes 0 at.1 in
+    let size = length-drop (i + 1) bytes in
+    (within-front bytes i (omega arith) (omega arith), rw (sym at.0) (apart ∙ ap (λ b. before_first is_feed bytes ++ b ∷ after_first is_feed bytes) feed), omega arith)
+
+-- where there is no line feed, all bytes are within a line
+pub one-line : (bytes : List ℕ) → position (λ b. b == 10) bytes ≡ None → IsWithinLine bytes
+one-line bytes h =
+    let le = outside (position_or_len is_feed bytes) (length bytes) _ refl h in
+    λ k d lt. fails_before_first is_feed bytes k d (omega arith)
+
+-- a line that ends behind some bytes
+pub ends-line : {x p : List ℕ} {read : List (List ℕ)} (e : List ℕ) → Splits x read p → IsWithinLine e → (future : List ℕ) → lines ((x ++ (e ++ 10 ∷ [])) ++ future) ≡ read ++ (p ++ e) ∷ lines future
+ends-line {x} {p} {read} e s w future =
+    ap lines (append_assoc x (e ++ 10 ∷ []) future ∙ ap (λ (t : List ℕ). x ++ t) (append_assoc e (10 ∷ []) future))
+    ∙ s.apart (e ++ 10 ∷ future)
+    ∙ ap (λ (t : List ℕ). read ++ lines t) (sym (append_assoc p e (10 ∷ future)))
+    ∙ ap (λ (ls : List (List ℕ)). read ++ ls) (slice_split_at is_feed (p ++ e) 10 future (All-append (λ b. (b == 10) ≡ false) p e s.within w) refl)
+
+pub feed : {x p : List ℕ} {read : List (List ℕ)} (e : List ℕ) → Splits x read p → IsWithinLine e → Splits (x ++ (e ++ 10 ∷ [])) (read ++ (p ++ e) ∷ []) []
+feed {x} {p} {read} e s w =
+    record {
+      apart = λ future. ends-line e s w future ∙ sym (append_assoc read ((p ++ e) ∷ []) (lines future));
+      within = λ k d lt. absurd (omega arith);
+    }
+
+-- a line goes on
+pub goes-on : {x p : List ℕ} {read : List (List ℕ)} (e : List ℕ) → Splits x read p → IsWithinLine e → Splits (x ++ e) read (p ++ e)
+goes-on {x} {p} {read} e s w =
+    record {
+      apart = λ future. ap lines (append_assoc x e future) ∙ s.apart (e ++ future) ∙ ap (λ (t : List ℕ). read ++ lines t) (sym (append_assoc p e future));
+      within = All-append (λ b. (b == 10) ≡ false) p e s.within w;
+    }
+
+-- the last line ends with the bytes
+pub last-line : {x p : List ℕ} {read : List (List ℕ)} → Splits x read p → lines x ≡ read ++ p ∷ []
+last-line {x} {p} {read} s =
+    ap lines (sym (append-nil x)) ∙ s.apart [] ∙ ap (λ (t : List ℕ). read ++ lines t) (append-nil p) ∙ ap (λ (ls : List (List ℕ)). read ++ ls) (slice_split_none is_feed p s.within)

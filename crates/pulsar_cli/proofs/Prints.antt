@@ -1,0 +1,282 @@
+-- What a reading has printed, where it goes on and where it stops.
+use Rattle.std.proofs.Common.{inl, inr, ◌⊎◌, ◌≡◌, ℕ, ◌+◌, ◌≤◌, ◌<◌, ◌∙◌, sym, ap, List, [], ◌∷◌, ◌++◌, refl, arith, Option, Some, None, length, take, drop, subst, append_assoc, append-nil, length-append}
+use Rattle.std.specs.Prelude.{string_bytes, Result, Ok, Err, OnOk, IfErr, MatchResult}
+use Rattle.std.proofs.lemmas.List.{take-append-drop, length-drop, length-take-le}
+use Rattle.std.proofs.Math.Seq.{drop-drop, take-add, take-length}
+use Rattle.std.proofs.Math.ListN.{drop_of_length-le}
+use Rattle.pulsar_client.specs.Good.{Good, Step}
+use Rattle.pulsar_client.specs.Client.{StandsFor}
+use Rattle.pulsar_client.specs.Outside.{Rose}
+use Rattle.pulsar_client.proofs.Runs.{good}
+use Rattle.pulsar_cli.specs.Grammar.{Refused, line, lines}
+use Rattle.pulsar_cli.specs.Text.{refusal}
+use Rattle.pulsar_cli.specs.Script.{Adds, AddsFront, IsDone, IsRunOf, IsStopped, IsRefused, Limits, Ran, Taken, limit, options, text}
+use Rattle.pulsar_cli.specs.Shown.{Ends, Faults, Halts, InTurn, Prints, Reads, Refuses, Refusing, Running, read_status, status_of}
+use Rattle.pulsar_cli.specs.declared.reading.Reading.{Reading}
+use Rattle.pulsar_cli.specs.declared.stop.Stop.{Stop}
+use Rattle.pulsar_cli.specs.declared.stop.Stop.TheVariants as stop
+use Rattle.pulsar_cli.proofs.Lines.{last-line}
+use Rattle.pulsar_cli.proofs.Sinks.{adds-more, adds-nil, rose-from}
+
+pub run-of : {r : Reading} {put : List ℕ} {read : List (List ℕ)} {h : List Step} → Reads r put read h → IsRunOf read h
+run-of reads = record { good = good reads.client.stands; events = reads.events }
+
+-- text that waits is the back of the run's text
+stopped : {r : Reading} {put bytes : List ℕ} {read : List (List ℕ)} {h : List Step} {old now : Option (List ℕ)} (after : List (List ℕ)) → Reads r put read h → Adds old now put → lines bytes ≡ read ++ after → IsStopped bytes old now
+stopped {r} {put} {bytes} {read} {h} after reads adds apart =
+    record {
+      before = read;
+      after = after;
+      apart = apart;
+      history = h;
+      run = run-of reads;
+      begins = record { front = put; back = string_bytes r.out; whole = sym reads.text; adds = adds };
+    }
+
+-- a part of the text that waited was put
+stopped-front : {r : Reading} {put bytes : List ℕ} {read : List (List ℕ)} {h : List Step} {old now new : Option (List ℕ)} (after : List (List ℕ)) → Reads r put read h → Adds old now put → AddsFront now new (string_bytes r.out) → lines bytes ≡ read ++ after → IsStopped bytes old new
+stopped-front {r} {put} {bytes} {read} {h} after reads adds more apart =
+    record {
+      before = read;
+      after = after;
+      apart = apart;
+      history = h;
+      run = run-of reads;
+      begins = record {
+        front = put ++ more.front;
+        back = more.back;
+        whole = sym reads.text ∙ ap (λ (t : List ℕ). put ++ t) more.whole ∙ sym (append_assoc put more.front more.back);
+        adds = adds-more put more.front adds more.adds;
+      };
+    }
+
+-- a reading stops within the bytes
+pub prints-stopped : {r : Reading} {old now : Option (List ℕ)} {consumed : List ℕ} (future : List ℕ) → Prints r old now consumed → IsStopped (consumed ++ future) old now
+prints-stopped {r} future p = stopped (lines (r.pending.items ++ future)) p.running.reads p.adds (p.running.splits.apart future)
+
+pub prints-front : {r : Reading} {old now new : Option (List ℕ)} {consumed : List ℕ} (future : List ℕ) → Prints r old now consumed → AddsFront now new (string_bytes r.out) → IsStopped (consumed ++ future) old new
+prints-front {r} future p more = stopped-front (lines (r.pending.items ++ future)) p.running.reads p.adds more (p.running.splits.apart future)
+
+-- a turn stops by a line or by want of memory
+pub halts-piece : {r r' : Reading} {old now : Option (List ℕ)} {consumed : List ℕ} (piece future : List ℕ) (s : Stop) → Prints r old now consumed → ((s ≡ stop.Refused) ⊎ (s ≡ stop.NoMemory)) → (s ≡ stop.Refused → (put x : List ℕ) → Running r put x → Refuses r' put (x ++ piece)) → Halts s r' old now (consumed ++ (piece ++ future))
+halts-piece {r} {r'} {old} {now} {consumed} piece future stop.Refused p either refuses =
+    let bad = refuses refl p.put consumed p.running in
+    let rest = bad.apart future in
+    record {
+      put = p.put;
+      read = bad.read;
+      history = bad.history;
+      reads = bad.reads;
+      bad = bad.bad;
+      refused = bad.refused;
+      after = rest.0;
+      apart = ap lines (sym (append_assoc consumed piece future)) ∙ rest.1;
+      adds = p.adds;
+    }
+halts-piece piece future stop.NoMemory p either refuses = prints-stopped (piece ++ future) p
+halts-piece piece future stop.Source p either refuses = prints-stopped (piece ++ future) p
+halts-piece piece future stop.Sink p either refuses = prints-stopped (piece ++ future) p
+halts-piece piece future stop.TooLong p either refuses = prints-stopped (piece ++ future) p
+
+-- the last line stops it
+pub halts-line : {r r' : Reading} {old now : Option (List ℕ)} {consumed : List ℕ} (s : Stop) → Prints r old now consumed → (s ≡ stop.Refused → (line r.pending.items ≡ Refused) × (r' ≡ r)) → Halts s r' old now consumed
+halts-line {r} {r'} {old} {now} {consumed} stop.Refused p refuses =
+    let bad = refuses refl in
+    record {
+      put = p.put;
+      read = p.running.read;
+      history = p.running.history;
+      reads = rw bad.1 p.running.reads;
+      bad = r.pending.items;
+      refused = bad.0;
+      after = [];
+      apart = last-line p.running.splits;
+      adds = p.adds;
+    }
+halts-line {r} stop.NoMemory p refuses = stopped (r.pending.items ∷ []) p.running.reads p.adds (last-line p.running.splits)
+halts-line {r} stop.Source p refuses = stopped (r.pending.items ∷ []) p.running.reads p.adds (last-line p.running.splits)
+halts-line {r} stop.Sink p refuses = stopped (r.pending.items ∷ []) p.running.reads p.adds (last-line p.running.splits)
+halts-line {r} stop.TooLong p refuses = stopped (r.pending.items ∷ []) p.running.reads p.adds (last-line p.running.splits)
+
+-- the last line was read, and the sink failed
+pub halts-end : {r r' : Reading} {old now new : Option (List ℕ)} {consumed : List ℕ} {next : List Step} (p : Prints r old now consumed) → Reads r' p.put (p.running.read ++ r.pending.items ∷ []) next → AddsFront now new (string_bytes r'.out) → IsStopped consumed old new
+halts-end {r} p reads more = stopped-front [] reads p.adds more (last-line p.running.splits ∙ sym (append-nil (p.running.read ++ r.pending.items ∷ [])))
+
+-- the last line was read
+pub ends-here : {r r' : Reading} {old now new : Option (List ℕ)} {consumed : List ℕ} {next : List Step} (p : Prints r old now consumed) → Reads r' p.put (p.running.read ++ r.pending.items ∷ []) next → Adds now new (string_bytes r'.out) → Ends old new consumed
+ends-here {next = next} p reads more =
+    record {
+      history = next;
+      run = rw (last-line p.running.splits) (run-of reads);
+      adds = rw (sym reads.text) (adds-more p.put _ p.adds more);
+    }
+
+pub ran-done : {bytes : List ℕ} {left old new : Option (List ℕ)} {faultless : Type 0} → IsDone bytes left old new → Ran 0 bytes left old new faultless
+ran-done d = record { known = (omega arith, λ e. absurd (omega (arith, e))); done = λ e. d; refused = λ e. absurd (omega (arith, e)); stopped = λ le. absurd (omega (arith, le)) }
+
+pub ran-refused : {bytes : List ℕ} {left old new : Option (List ℕ)} {faultless : Type 0} → IsRefused bytes old new faultless → Ran 1 bytes left old new faultless
+ran-refused d = record { known = (omega arith, λ e. absurd (omega (arith, e))); done = λ e. absurd (omega (arith, e)); refused = λ e. d; stopped = λ le. absurd (omega (arith, le)) }
+
+pub ran-stopped : {bytes : List ℕ} {left old new : Option (List ℕ)} {faultless : Type 0} (status : ℕ) → 3 ≤ status → status ≤ 6 → IsStopped bytes old new → Ran status bytes left old new faultless
+ran-stopped status ge le d = record { known = (le, λ e. absurd (omega (arith, e, ge))); done = λ e. absurd (omega (arith, e, ge)); refused = λ e. absurd (omega (arith, e, ge)); stopped = λ le. d }
+
+-- a line isn't in the grammar, and memory runs out before its refusal
+pub refusing-stopped : {r : Reading} {old now : Option (List ℕ)} {bytes : List ℕ} → Refusing r old now bytes → IsStopped bytes old now
+refusing-stopped p = stopped (p.bad ∷ p.after) p.reads p.adds p.apart
+
+-- the text of the lines before, and the refusal
+refused-text : {r : Reading} {old now : Option (List ℕ)} {bytes : List ℕ} (r' : Reading) (p : Refusing r old now bytes) → string_bytes r'.out ≡ string_bytes r.out ++ refusal r.line → text p.history ++ refusal (length p.read + 1) ≡ p.put ++ string_bytes r'.out
+refused-text {r} r' p out =
+    ap (λ (t : List ℕ). t ++ refusal (length p.read + 1)) (sym p.reads.text)
+    ∙ append_assoc p.put (string_bytes r.out) (refusal (length p.read + 1))
+    ∙ ap (λ n. p.put ++ (string_bytes r.out ++ refusal n)) (sym p.reads.number)
+    ∙ ap (λ (t : List ℕ). p.put ++ t) (sym out)
+
+refused-here : {r : Reading} {old now new : Option (List ℕ)} {bytes : List ℕ} {faultless : Type 0} (p : Refusing r old now bytes) → (faultless → Adds old new (text p.history ++ refusal (length p.read + 1))) → AddsFront old new (text p.history ++ refusal (length p.read + 1)) → IsRefused bytes old new faultless
+refused-here p prints begins =
+    record { before = p.read; bad = p.bad; after = p.after; apart = p.apart; refused = p.refused; history = p.history; run = run-of p.reads; prints = prints; begins = begins }
+
+-- the refusal was put, or the sink failed
+pub refused-put : {r : Reading} {old now new : Option (List ℕ)} {bytes : List ℕ} {rose : Type 0} (r' : Reading) (result : Result (Unit {0}) Stop) (p : Refusing r old now bytes) → string_bytes r'.out ≡ string_bytes r.out ++ refusal r.line → OnOk result (Adds now new (string_bytes r'.out)) → IfErr result (λ s. (s ≡ stop.Sink) × AddsFront now new (string_bytes r'.out) × rose) → IsRefused bytes old new (rose → ⊥)
+refused-put {r} r' (Ok done) p out put failed =
+    let e = refused-text r' p out in
+    let adds = adds-more p.put (string_bytes r'.out) p.adds put in
+    refused-here p (λ faultless. rw e adds) (rw e (record { front = p.put ++ string_bytes r'.out; back = []; whole = sym (append-nil (p.put ++ string_bytes r'.out)); adds = adds }))
+refused-put {r} r' (Err s) p out put failed =
+    let e = refused-text r' p out in
+    let more = failed.1 in
+    refused-here p (λ faultless. absurd (faultless failed.2)) (rw e (record { front = p.put ++ more.front; back = more.back; whole = ap (λ (t : List ℕ). p.put ++ t) more.whole ∙ sym (append_assoc p.put more.front more.back); adds = adds-more p.put more.front p.adds more.adds }))
+
+pub prints-new : {r : Reading} (now : Option (List ℕ)) → Running r [] [] → Prints r now now []
+prints-new now run = record { put = []; running = run; adds = adds-nil now }
+
+-- a reading stops after n bytes
+pub stopped-at : {r : Reading} {old now : Option (List ℕ)} (n : ℕ) (bytes : List ℕ) → Prints r old now (take n bytes) → IsStopped bytes old now
+stopped-at {r} {old} {now} n bytes p = subst (λ (t : List ℕ). IsStopped t old now) (take-append-drop n bytes) (prints-stopped (drop n bytes) p)
+
+pub whole : (n : ℕ) (bytes : List ℕ) → drop n bytes ≡ [] → take n bytes ≡ bytes
+whole n bytes e = sym (append-nil (take n bytes)) ∙ ap (λ (t : List ℕ). take n bytes ++ t) (sym e) ∙ take-append-drop n bytes
+
+-- the source was read to its end
+pub done-or-halts : {left : Option (List ℕ)} (r : Reading) (old new : Option (List ℕ)) (result : Result (Unit {0}) Stop) (consumed bytes : List ℕ) → consumed ≡ bytes → left ≡ Some [] → MatchResult result (λ done. Ends old new consumed) (λ s. Halts s r old new consumed) → MatchResult result (λ done. IsDone bytes left old new) (λ s. Halts s r old new bytes)
+done-or-halts r old new (Ok done) consumed bytes e end ends = record { history = ends.history; run = subst (λ (t : List ℕ). IsRunOf (lines t) ends.history) e ends.run; end = end; prints = ends.adds }
+done-or-halts r old new (Err s) consumed bytes e end halts = subst (λ (t : List ℕ). Halts s r old new t) e halts
+
+-- a turn's faults are those of the sink
+pub turn-faults : (s : Stop) (x y a b d : ℕ) → a ≤ b → InTurn s b d → Faults s x y a d
+turn-faults stop.Refused x y a b d le in' = tt
+turn-faults stop.NoMemory x y a b d le in' = tt
+turn-faults stop.Source x y a b d le in' = absurd in'
+turn-faults stop.Sink x y a b d le in' = rose-from a b d le in'
+turn-faults stop.TooLong x y a b d le in' = absurd in'
+
+pub ends-faults : (result : Result (Unit {0}) Stop) (x y a b d : ℕ) → a ≤ b → IfErr result (λ s. InTurn s b d) → IfErr result (λ s. Faults s x y a d)
+ends-faults (Ok done) x y a b d le in' = tt
+ends-faults (Err s) x y a b d le in' = turn-faults s x y a b d le in'
+
+-- a turn isn't too long
+pub turn-status : (s : Stop) (b d : ℕ) → InTurn s b d → status_of s ≡ 6 → ⊥
+turn-status stop.Refused b d in' e = absurd (omega (arith, e))
+turn-status stop.NoMemory b d in' e = absurd (omega (arith, e))
+turn-status stop.Source b d in' e = in'
+turn-status stop.Sink b d in' e = absurd (omega (arith, e))
+turn-status stop.TooLong b d in' e = in'
+
+pub ends-status : (result : Result (Unit {0}) Stop) (b d : ℕ) → IfErr result (λ s. InTurn s b d) → read_status result ≡ 6 → ⊥
+ends-status (Ok done) b d in' e = absurd (omega (arith, e))
+ends-status (Err s) b d in' e = turn-status s b d in' e
+
+-- how many bytes were taken
+pub taken-none : (now : Option (List ℕ)) → Taken now now 0
+taken-none now bytes h = (omega arith, h)
+
+pub taken-same : {a b c : Option (List ℕ)} (n : ℕ) → Taken a b n → c ≡ b → Taken a c n
+taken-same n t e bytes h = ((t bytes h).0, e ∙ (t bytes h).1)
+
+pub taken-more : {a b c : Option (List ℕ)} (n m : ℕ) → Taken a b n → ((bytes : List ℕ) → b ≡ Some bytes → m ≤ length bytes) → ((bytes : List ℕ) → b ≡ Some bytes → c ≡ Some (drop m bytes)) → Taken a c (n + m)
+taken-more n m t within rest bytes h =
+    let at = t bytes h in
+    let le = within (drop n bytes) at.1 in
+    let size = length-drop n bytes in
+    (omega arith, rest (drop n bytes) at.1 ∙ ap (λ (t : List ℕ). Some t) (drop-drop m n bytes))
+
+pub limits-within : {old new : Option (List ℕ)} (status n : ℕ) → (status ≡ 6 → ⊥) → n ≤ limit → Taken old new n → Limits status old new
+limits-within status n no' le taken = record { count = n; taken = taken; exactly = (λ e. absurd (no' e), λ lt. absurd (omega (arith, le, lt))) }
+
+pub limits-past : {old new : Option (List ℕ)} (n : ℕ) → limit < n → Taken old new n → Limits 6 old new
+limits-past n past taken = record { count = n; taken = taken; exactly = (λ e. past, λ lt. refl) }
+
+-- a buffer that is written back keeps its size
+pub size-kept : (n : ℕ) (xs ys : List ℕ) → length ys ≡ n → length (take n (xs ++ drop (length xs) ys)) ≡ n
+size-kept n xs ys e =
+    let a = length-append xs (drop (length xs) ys) in
+    let b = length-drop (length xs) ys in
+    length-take-le n (xs ++ drop (length xs) ys) (omega arith)
+
+-- n bytes more were consumed
+pub consumes : (n m : ℕ) (bytes buf : List ℕ) → take m buf ≡ take m (drop n bytes) → take n bytes ++ take m buf ≡ take (n + m) bytes
+consumes n m bytes buf e = ap (λ (t : List ℕ). take n bytes ++ t) e ∙ sym (take-add n m bytes)
+
+-- and the rest of the bytes stands behind them
+pub consumes-all : (n m : ℕ) (bytes buf : List ℕ) → take m buf ≡ take m (drop n bytes) → take n bytes ++ (take m buf ++ drop m (drop n bytes)) ≡ bytes
+consumes-all n m bytes buf e = ap (λ (t : List ℕ). take n bytes ++ (t ++ drop m (drop n bytes))) e ∙ ap (λ (t : List ℕ). take n bytes ++ t) (take-append-drop m (drop n bytes)) ∙ take-append-drop n bytes
+
+-- a buffer of its size is written whole
+pub written : (n : ℕ) (xs ys : List ℕ) → length xs ≡ n → length ys ≡ n → take n (xs ++ drop (length xs) ys) ≡ xs
+written n xs ys x y =
+    let none : drop (length xs) ys ≡ [] = drop_of_length-le ys (omega arith) in
+    ap (λ (t : List ℕ). take n (xs ++ t)) none ∙ ap (take n) (append-nil xs) ∙ ap (λ k. take k xs) (sym x) ∙ take-length xs
+
+-- nothing was read
+pub stopped-new : (bytes : List ℕ) (now : Option (List ℕ)) → IsStopped bytes now now
+stopped-new bytes now =
+    record {
+      before = [];
+      after = lines bytes;
+      apart = refl;
+      history = [];
+      run = record { good = record { log = []; run = tt; rests = refl; same = refl }; events = refl };
+      begins = record { front = []; back = []; whole = refl; adds = adds-nil now };
+    }
+
+-- a sink that had no fault had none at the end
+pub ran-faultless : {status : ℕ} {bytes : List ℕ} {left old new : Option (List ℕ)} {f g : Type 0} → (g → f) → Ran status bytes left old new f → Ran status bytes left old new g
+ran-faultless weaker r =
+    record {
+      known = r.known;
+      done = r.done;
+      refused = λ e. let i = r.refused e in record { before = i.before; bad = i.bad; after = i.after; apart = i.apart; refused = i.refused; history = i.history; run = i.run; prints = λ h. i.prints (weaker h); begins = i.begins };
+      stopped = r.stopped;
+    }
+
+-- a status tells of its stop
+abbrev pub Told : ℕ → Stop → Type 0
+Told result s = (result ≡ status_of s) ⊎ ((s ≡ stop.Refused) × (result ≡ 3))
+
+pub told-form : (result : ℕ) (s : Stop) → Told result s → result ≡ 2 → ⊥
+told-form result stop.Refused (inl e) h = absurd (omega (arith, e, h))
+told-form result stop.NoMemory (inl e) h = absurd (omega (arith, e, h))
+told-form result stop.Source (inl e) h = absurd (omega (arith, e, h))
+told-form result stop.Sink (inl e) h = absurd (omega (arith, e, h))
+told-form result stop.TooLong (inl e) h = absurd (omega (arith, e, h))
+told-form result s (inr t) h = absurd (omega (arith, t.1, h))
+
+pub told-source : (result : ℕ) (s : Stop) (x y a b : ℕ) → Told result s → Faults s x y a b → result ≡ 4 → Rose x y
+told-source result stop.Refused x y a b (inl e) f h = absurd (omega (arith, e, h))
+told-source result stop.NoMemory x y a b (inl e) f h = absurd (omega (arith, e, h))
+told-source result stop.Source x y a b (inl e) f h = f
+told-source result stop.Sink x y a b (inl e) f h = absurd (omega (arith, e, h))
+told-source result stop.TooLong x y a b (inl e) f h = absurd (omega (arith, e, h))
+told-source result s x y a b (inr t) f h = absurd (omega (arith, t.1, h))
+
+pub told-sink : (result : ℕ) (s : Stop) (x y a b : ℕ) → Told result s → Faults s x y a b → result ≡ 5 → Rose a b × (s ≡ stop.Sink)
+told-sink result stop.Refused x y a b (inl e) f h = absurd (omega (arith, e, h))
+told-sink result stop.NoMemory x y a b (inl e) f h = absurd (omega (arith, e, h))
+told-sink result stop.Source x y a b (inl e) f h = absurd (omega (arith, e, h))
+told-sink result stop.Sink x y a b (inl e) f h = (f, refl)
+told-sink result stop.TooLong x y a b (inl e) f h = absurd (omega (arith, e, h))
+told-sink result s x y a b (inr t) f h = absurd (omega (arith, t.1, h))
+
+pub told-limits : {old new : Option (List ℕ)} (result : ℕ) (s : Stop) → Told result s → Limits (status_of s) old new → Limits result old new
+told-limits result s (inl e) l = rw e l
+told-limits result s (inr t) l = record { count = l.count; taken = l.taken; exactly = (λ e. absurd (omega (arith, t.1, e)), λ lt. absurd (omega (arith, ap status_of t.0, l.exactly.1 lt))) }

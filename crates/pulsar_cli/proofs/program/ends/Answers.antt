@@ -1,0 +1,24 @@
+use Rattle.std.proofs.Common.{rules, arith, refl, ◌≡◌, ◌++◌, ◌∙◌, sym, ap, [], ℕ, List, Err}
+use Rattle.std.specs.Prelude.{string_bytes}
+use Rattle.pulsar_cli.specs.Shown.{Prints}
+use Rattle.pulsar_cli.specs.declared.stop.Stop.TheVariants as stop
+use Rattle.pulsar_cli.proofs.Prints.{ends-here, halts-end, halts-line, halts-piece, prints-front}
+use Rattle.pulsar_cli.proofs.Sinks.{adds-more}
+use Rattle.pulsar_cli.proofs.program.ends.Goals as goal
+
+pub returns-in_err-line-clause-runs : goal.returns-in_err-line-clause-runs
+returns-in_err-line-clause-runs g c = λ old consumed p.
+    let same : c.from_residual.result ≡ Err c.in_err-line.field-0.0 = search rules in
+    rw same (halts-line c.in_err-line.field-0.0 p (λ is. c.in_err-line.ensures.refused (ap Err is)))
+
+pub returns-in_err-flush-clause-runs : goal.returns-in_err-flush-clause-runs
+returns-in_err-flush-clause-runs g c = λ old consumed p.
+    let next = c.in_ok-line.ensures.reads p.put p.running.read p.running.history p.running.reads in
+    let err = c.in_err-flush.ensures.err in
+    let same : c.from_residual-in_err-flush.result ≡ Err stop.Sink = search rules in
+    rw same (halts-end p next.1 err.1)
+
+pub returns-clause-runs : goal.returns-clause-runs
+returns-clause-runs g c = λ old consumed p.
+    let next = c.in_ok-line.ensures.reads p.put p.running.read p.running.history p.running.reads in
+    ends-here p next.1 c.in_ok-flush.ensures.ok

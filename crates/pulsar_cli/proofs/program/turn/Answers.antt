@@ -1,0 +1,28 @@
+use Rattle.std.proofs.Common.{rules, arith, refl, ◌≡◌, ◌++◌, ◌∙◌, sym, ap, [], ℕ, List, Err, append_assoc}
+use Rattle.std.specs.Prelude.{string_bytes}
+use Rattle.pulsar_cli.specs.Shown.{Prints}
+use Rattle.pulsar_cli.specs.declared.stop.Stop.TheVariants as stop
+use Rattle.pulsar_cli.proofs.Prints.{ends-here, halts-end, halts-line, halts-piece, prints-front}
+use Rattle.pulsar_cli.proofs.Sinks.{adds-more}
+use Rattle.pulsar_cli.proofs.program.turn.Goals as goal
+
+pub returns-in_err-piece-clause-runs : goal.returns-in_err-piece-clause-runs
+returns-in_err-piece-clause-runs g c = λ old consumed future p.
+    let same : c.from_residual.result ≡ Err c.in_err-piece.field-0.0 = search rules in
+    rw same (halts-piece c.args.piece.now future c.in_err-piece.field-0.0 p c.in_err-piece.ensures.stop (λ is. c.in_err-piece.ensures.refused (ap Err is)))
+
+pub returns-in_err-flush-clause-runs : goal.returns-in_err-flush-clause-runs
+returns-in_err-flush-clause-runs g c = λ old consumed future p.
+    let q : Prints c.piece.new.self old (g.K.Sink.holds c.args.sink.now) (consumed ++ c.args.piece.now) = record { put = p.put; running = c.in_ok-piece.ensures.ok p.put consumed p.running; adds = p.adds } in
+    let err = c.in_err-flush.ensures.err in
+    let same : c.from_residual-in_err-flush.result ≡ Err stop.Sink = search rules in
+    rw (same, sym (append_assoc consumed c.args.piece.now future)) (prints-front future q err.1)
+
+pub returns-clause-runs : goal.returns-clause-runs
+returns-clause-runs g c = λ old consumed future p.
+    let running = c.in_ok-piece.ensures.ok p.put consumed p.running in
+    record {
+      put = p.put ++ string_bytes c.piece.new.self.out;
+      running = c.in_ok-flush.ensures.kept p.put (consumed ++ c.args.piece.now) running;
+      adds = adds-more p.put (string_bytes c.piece.new.self.out) p.adds c.in_ok-flush.ensures.ok;
+    }

@@ -1,0 +1,114 @@
+-- For the code's contracts alone: what its values stand for.
+use Rattle.std.specs.Prelude.{◌≡◌, ◌==◌, ℕ, ◌+◌, List, [], ◌∷◌, ◌++◌, Option, Some, None, false, length, string_bytes, Result, Ok, Err}
+use Rattle.std.specs.List.{All}
+use Rattle.pulsar_cli.specs.Words.{digits_from, in_range}
+use Rattle.pulsar_cli.specs.declared.grammar.line.Line.{Line as Parsed}
+use Rattle.pulsar_cli.specs.declared.grammar.line.Line.TheVariants as parsed
+use Rattle.pulsar_cli.specs.declared.reading.Reading.{Reading}
+use Rattle.pulsar_cli.specs.declared.stop.Stop.{Stop}
+use Rattle.pulsar_cli.specs.declared.stop.Stop.TheVariants as stop
+use Rattle.pulsar_client.specs.Outside.{Rose}
+use Rattle.pulsar_client.specs.Content.{heard}
+use Rattle.pulsar_client.specs.Good.{Step}
+use Rattle.pulsar_client.specs.Client.{StandsFor}
+use Rattle.pulsar_cli.specs.Grammar.{Line, Nothing, Happens, Refused, line, lines}
+use Rattle.pulsar_cli.specs.Script.{Adds, IsRunOf, IsStopped, options, events_of, happened, text}
+
+-- what a parsed line is
+abbrev pub line_of : Parsed → Line
+line_of parsed.Nothing = Nothing
+line_of (parsed.Happens e) = Happens (heard e)
+line_of parsed.Refused = Refused
+
+-- the number of the digits that follow those that were read
+abbrev pub more_digits : Option ℕ → List ℕ → Option ℕ
+more_digits None ds = None
+more_digits (Some n) ds = in_range (digits_from n ds)
+
+-- there is no line feed
+abbrev pub IsWithinLine : List ℕ → Type 0
+IsWithinLine bytes = All (λ b. (b == 10) ≡ false) bytes
+
+-- a reading has read these lines, this is their history, and the front of its text was put
+pub record Reads (r : Reading) (put : List ℕ) (read : List (List ℕ)) (h : List Step) : Type 0 where
+  pub client : StandsFor options r.client h
+  pub events : events_of read ≡ Some (happened h)
+  pub count : r.events ≡ length h
+  pub number : r.line ≡ length read + 1
+  pub text : put ++ string_bytes r.out ≡ text h
+
+-- the lines of the bytes that were consumed, and the front of the next one
+pub record Splits (consumed : List ℕ) (read : List (List ℕ)) (pending : List ℕ) : Type 0 where
+  pub apart : (future : List ℕ) → lines (consumed ++ future) ≡ read ++ lines (pending ++ future)
+  pub within : IsWithinLine pending
+
+-- a reading has consumed these bytes
+pub record Running (r : Reading) (put consumed : List ℕ) : Type 0 where
+  pub read : List (List ℕ)
+  pub history : List Step
+  pub reads : Reads r put read history
+  pub splits : Splits consumed read r.pending.items
+
+-- a reading has come to a line that isn't in the grammar
+pub record Refuses (r : Reading) (put consumed : List ℕ) : Type 0 where
+  pub read : List (List ℕ)
+  pub history : List Step
+  pub reads : Reads r put read history
+  pub bad : List ℕ
+  pub refused : line bad ≡ Refused
+  pub apart : (future : List ℕ) → (after : List (List ℕ)) × (lines (consumed ++ future) ≡ read ++ bad ∷ after)
+
+-- a reading has consumed these bytes, and a sink has grown by the front of its text
+pub record Prints (r : Reading) (old new : Option (List ℕ)) (consumed : List ℕ) : Type 0 where
+  pub put : List ℕ
+  pub running : Running r put consumed
+  pub adds : Adds old new put
+
+-- a reading has come to a line of these bytes that isn't in the grammar, and a sink has grown by the front of its text
+pub record Refusing (r : Reading) (old new : Option (List ℕ)) (bytes : List ℕ) : Type 0 where
+  pub put : List ℕ
+  pub read : List (List ℕ)
+  pub history : List Step
+  pub reads : Reads r put read history
+  pub bad : List ℕ
+  pub refused : line bad ≡ Refused
+  pub after : List (List ℕ)
+  pub apart : lines bytes ≡ read ++ bad ∷ after
+  pub adds : Adds old new put
+
+-- what a reading that stopped has printed
+abbrev pub Halts : Stop → Reading → (old new : Option (List ℕ)) (bytes : List ℕ) → Type 0
+Halts stop.Refused r old new bytes = Refusing r old new bytes
+Halts _ r old new bytes = IsStopped bytes old new
+
+-- the faults that a stop tells of
+abbrev pub Faults : Stop → (source source' sink sink' : ℕ) → Type 0
+Faults stop.Source source source' sink sink' = Rose source source'
+Faults stop.Sink source source' sink sink' = Rose sink sink'
+Faults _ source source' sink sink' = Unit {0}
+
+-- a turn stops by a line, by want of memory or by the sink
+abbrev pub InTurn : Stop → (sink sink' : ℕ) → Type 0
+InTurn stop.Source sink sink' = ⊥
+InTurn stop.TooLong sink sink' = ⊥
+InTurn stop.Sink sink sink' = Rose sink sink'
+InTurn _ sink sink' = Unit {0}
+
+-- all lines of these bytes were read, and a sink has grown by the text of their run
+pub record Ends (old new : Option (List ℕ)) (bytes : List ℕ) : Type 0 where
+  pub history : List Step
+  pub run : IsRunOf (lines bytes) history
+  pub adds : Adds old new (text history)
+
+-- the status of a stop
+abbrev pub status_of : Stop → ℕ
+status_of stop.Refused = 1
+status_of stop.NoMemory = 3
+status_of stop.Source = 4
+status_of stop.Sink = 5
+status_of stop.TooLong = 6
+
+-- the status of a reading
+abbrev pub read_status : Result (Unit {0}) Stop → ℕ
+read_status (Ok done) = 0
+read_status (Err s) = status_of s

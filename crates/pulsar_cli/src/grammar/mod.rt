@@ -1,0 +1,4 @@
+//! The language of scripts.
+
+pub mod line;
+pub mod word;

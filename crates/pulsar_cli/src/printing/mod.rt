@@ -1,0 +1,4 @@
+//! The printed run.
+
+pub mod effect;
+pub mod word;

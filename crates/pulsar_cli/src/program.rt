@@ -1,0 +1,191 @@
+//! The top call: the words of the command line, and a script's run.
+
+ghost use Rattle.std.specs.Prelude.{◌≡◌, ◌++◌, ◌≤◌, ◌↔◌, ◌⊎◌, true, false, [], ℕ, List, Option, Some, MatchResult, OnOk, IfErr, map, string_bytes};
+ghost use Rattle.pulsar_client.specs.Outside.{Rose};
+ghost use Rattle.pulsar_cli.specs.Script.{Adds, AddsFront, IsDone, Limits, Ran, is_script};
+ghost use Rattle.pulsar_cli.specs.Shown.{read_status, Ends, Faults, Halts, InTurn, Prints, Refusing, Running, status_of};
+
+use crate::reading::Reading;
+use crate::stop::Stop;
+use pulsar_client::outside::sink::Sink;
+use pulsar_client::outside::source::Source;
+use std::alloc::Global;
+
+/// How a run ended: 0 done, 1 a line is not in the grammar, 2 the words are no form of the program, 3 want of memory, 4 the
+/// source failed, 5 the sink failed, 6 too many bytes.
+pub type Status = u8;
+
+pub const DONE: Status = 0;
+
+pub const REFUSED: Status = 1;
+
+pub const NO_FORM: Status = 2;
+
+pub const NO_MEMORY: Status = 3;
+
+pub const SOURCE_FAILED: Status = 4;
+
+pub const SINK_FAILED: Status = 5;
+
+pub const TOO_LONG: Status = 6;
+
+/// The most bytes that a script may have.
+pub const LIMIT: u64 = 268_435_456;
+
+/// How many bytes are taken from the source at a time.
+const PIECE: usize = 65_536;
+
+/// Runs the program with these words.
+pub fn run<S: Source, K: Sink>(
+    alloc: Global,
+    words: &[String],
+    source: &mut S,
+    sink: &mut K,
+) -> Status
+    ensures no_form { (result ≡ 2) ↔ (is_script (map string_bytes words.now) ≡ false) }
+    ensures nothing { result ≡ 2 → (source.new ≡ source.old) × (sink.new ≡ sink.old) }
+    ensures runs { is_script (map string_bytes words.now) ≡ true → (bytes : List ℕ) → S.left source.old ≡ Some bytes → Ran result bytes (S.left source.new) (K.holds sink.old) (K.holds sink.new) (Rose (K.faults sink.old) (K.faults sink.new) → ⊥) }
+    ensures source_failed { result ≡ 4 → Rose (S.faults source.old) (S.faults source.new) }
+    ensures sink_failed { result ≡ 5 → Rose (K.faults sink.old) (K.faults sink.new) }
+    ensures limits { is_script (map string_bytes words.now) ≡ true → Limits result (S.left source.old) (S.left source.new) }
+{
+    if is_script(words) {
+        return script(alloc, source, sink);
+    }
+    NO_FORM
+}
+
+/// The words are `script` alone.
+fn is_script(words: &[String]) -> bool
+    ensures { result ≡ is_script (map string_bytes words.now) }
+{
+    match words {
+        [word] => word.as_bytes() == "script".as_bytes(),
+        _ => false,
+    }
+}
+
+/// Reads a script from the source and prints its run to the sink.
+pub fn script<S: Source, K: Sink>(alloc: Global, source: &mut S, sink: &mut K) -> Status
+    ensures runs { (bytes : List ℕ) → S.left source.old ≡ Some bytes → Ran result bytes (S.left source.new) (K.holds sink.old) (K.holds sink.new) (Rose (K.faults sink.old) (K.faults sink.new) → ⊥) }
+    ensures form { result ≡ 2 → ⊥ }
+    ensures source_failed { result ≡ 4 → Rose (S.faults source.old) (S.faults source.new) }
+    ensures sink_failed { result ≡ 5 → Rose (K.faults sink.old) (K.faults sink.new) }
+    ensures limits { Limits result (S.left source.old) (S.left source.new) }
+{
+    let Ok(mut reading) = Reading::new(alloc) else {
+        return NO_MEMORY;
+    };
+    match read(&mut reading, source, sink) {
+        Ok(()) => DONE,
+        Err(stop) => halt(stop, &mut reading, sink),
+    }
+}
+
+/// The status of a run that stops so.
+fn halt<K: Sink>(stop: Stop, reading: &mut Reading, sink: &mut K) -> Status
+    ensures runs { (old : Option (List ℕ)) (bytes : List ℕ) (left : Option (List ℕ)) (faults : ℕ) → faults ≤ K.faults sink.old → Halts stop reading.old old (K.holds sink.old) bytes → Ran result bytes left old (K.holds sink.new) (Rose faults (K.faults sink.new) → ⊥) }
+    ensures status { (result ≡ status_of stop) ⊎ ((stop ≡ Stop.Refused) × (result ≡ 3)) }
+    ensures kept { (stop ≡ Stop.Refused → ⊥) → sink.new ≡ sink.old }
+{
+    match stop {
+        Stop::Refused => refused(reading, sink),
+        Stop::NoMemory => NO_MEMORY,
+        Stop::Source => SOURCE_FAILED,
+        Stop::Sink => SINK_FAILED,
+        Stop::TooLong => TOO_LONG,
+    }
+}
+
+/// Takes the source's bytes piece by piece, and puts the run of each before the next.
+fn read<S: Source, K: Sink>(reading: &mut Reading, source: &mut S, sink: &mut K) -> Result<(), Stop>
+    requires { Running reading.old [] [] }
+    ensures runs { (bytes : List ℕ) → S.left source.old ≡ Some bytes → MatchResult result (λ _. IsDone bytes (S.left source.new) (K.holds sink.old) (K.holds sink.new)) (λ stop. Halts stop reading.new (K.holds sink.old) (K.holds sink.new) bytes) }
+    ensures faults { IfErr result (λ stop. Faults stop (S.faults source.old) (S.faults source.new) (K.faults sink.old) (K.faults sink.new)) }
+    ensures limits { Limits (read_status result) (S.left source.old) (S.left source.new) }
+    ensures grows { K.faults sink.old ≤ K.faults sink.new }
+{
+    let Ok(mut buf) = vec![in reading.alloc; 0u8; PIECE] else {
+        return Err(Stop::NoMemory);
+    };
+    let mut left = LIMIT;
+    loop {
+        let Ok(n) = source.take(&mut buf) else {
+            return Err(Stop::Source);
+        };
+        let Some(after) = left.checked_sub(n as u64) else {
+            return Err(Stop::TooLong);
+        };
+        if n == 0 {
+            return ends(reading, sink);
+        }
+        left = after;
+        turn(reading, &buf[..n], sink)?;
+    }
+}
+
+/// The lines that end in a piece, with their text.
+fn turn<K: Sink>(reading: &mut Reading, piece: &[u8], sink: &mut K) -> Result<(), Stop>
+    ensures runs { (old : Option (List ℕ)) (consumed future : List ℕ) → Prints reading.old old (K.holds sink.old) consumed → MatchResult result (λ _. Prints reading.new old (K.holds sink.new) (consumed ++ piece.now)) (λ stop. Halts stop reading.new old (K.holds sink.new) (consumed ++ (piece.now ++ future))) }
+    ensures stop { IfErr result (λ stop. InTurn stop (K.faults sink.old) (K.faults sink.new)) }
+    ensures grows { K.faults sink.old ≤ K.faults sink.new }
+{
+    reading.piece(piece)?;
+    flush(reading, sink)?;
+    Ok(())
+}
+
+/// The source has ended, and so does the last line.
+fn ends<K: Sink>(reading: &mut Reading, sink: &mut K) -> Result<(), Stop>
+    ensures runs { (old : Option (List ℕ)) (consumed : List ℕ) → Prints reading.old old (K.holds sink.old) consumed → MatchResult result (λ _. Ends old (K.holds sink.new) consumed) (λ stop. Halts stop reading.new old (K.holds sink.new) consumed) }
+    ensures stop { IfErr result (λ stop. InTurn stop (K.faults sink.old) (K.faults sink.new)) }
+    ensures grows { K.faults sink.old ≤ K.faults sink.new }
+{
+    reading.line()?;
+    flush(reading, sink)?;
+    Ok(())
+}
+
+/// A line is not in the grammar: the text of the lines before is put, and then the refusal.
+fn refused<K: Sink>(reading: &mut Reading, sink: &mut K) -> Status
+    ensures runs { (old : Option (List ℕ)) (bytes : List ℕ) (left : Option (List ℕ)) → Refusing reading.old old (K.holds sink.old) bytes → Ran result bytes left old (K.holds sink.new) (Rose (K.faults sink.old) (K.faults sink.new) → ⊥) }
+    ensures status { (result ≡ 1) ⊎ (result ≡ 3) }
+    ensures grows { K.faults sink.old ≤ K.faults sink.new }
+{
+    let Ok(()) = reading.refuse() else {
+        return NO_MEMORY;
+    };
+    let _ = flush(reading, sink);
+    REFUSED
+}
+
+/// Puts the text that is there.
+fn flush<K: Sink>(reading: &mut Reading, sink: &mut K) -> Result<(), Stop>
+    ensures ok { OnOk result (Adds (K.holds sink.old) (K.holds sink.new) (string_bytes reading.old.out)) }
+    ensures kept { OnOk result ((put consumed : List ℕ) → Running reading.old put consumed → Running reading.new (put ++ string_bytes reading.old.out) consumed) }
+    ensures err { IfErr result (λ stop. (stop ≡ Stop.Sink) × AddsFront (K.holds sink.old) (K.holds sink.new) (string_bytes reading.old.out) × Rose (K.faults sink.old) (K.faults sink.new)) }
+    ensures grows { K.faults sink.old ≤ K.faults sink.new }
+{
+    put_all(sink, reading.out.as_bytes())?;
+    reading.out.clear();
+    Ok(())
+}
+
+/// Puts all bytes.
+fn put_all<K: Sink>(sink: &mut K, bytes: &[u8]) -> Result<(), Stop>
+    ensures ok { OnOk result (Adds (K.holds sink.old) (K.holds sink.new) bytes.now) }
+    ensures err { IfErr result (λ stop. (stop ≡ Stop.Sink) × AddsFront (K.holds sink.old) (K.holds sink.new) bytes.now × Rose (K.faults sink.old) (K.faults sink.new)) }
+    ensures grows { K.faults sink.old ≤ K.faults sink.new }
+{
+    let mut done = 0;
+    while done < bytes.len() {
+        let Ok(n) = sink.put(&bytes[done..]) else {
+            return Err(Stop::Sink);
+        };
+        if n == 0 {
+            return Err(Stop::Sink);
+        }
+        done += n;
+    }
+    Ok(())
+}

@@ -3,3 +3,5 @@ pub mod Pendings
 pub mod Rows
 pub mod Runs
 pub mod Streams
+pub mod Unique
+pub mod Local

@@ -7,3 +7,5 @@ pub mod Good
 pub mod Tables
 pub mod Client
 pub mod Outside
+pub mod Local
+pub mod Laws

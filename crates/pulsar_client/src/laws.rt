@@ -1,0 +1,13 @@
+//! What follows from the definition of a good run: each contract is a law, and its body is empty.
+
+ghost use Rattle.pulsar_client.specs.Laws.{Determined, LinksAlone};
+
+/// Options and events determine the effects of a good run.
+pub fn determined()
+    ensures { Determined }
+{}
+
+/// What names a link in a run is a run of that link by itself.
+pub fn links_alone()
+    ensures { LinksAlone }
+{}

@@ -5,3 +5,4 @@ pub mod Runs
 pub mod Streams
 pub mod Unique
 pub mod Local
+pub mod Settled

@@ -1,9 +1,18 @@
--- What follows from the definitions, in plain words.
-use Rattle.std.specs.Prelude.{◌≡◌, ℕ, nat_lt, true, List, map}
+-- What follows from the definition of a good run, in plain words.
+use Rattle.std.specs.Prelude.{◌≡◌, ℕ, ◌==◌, nat_lt, true, if◌then◌else◌, List, [], ◌∷◌, ◌++◌, map, Option, Some, None}
+use Rattle.std.specs.List.{filter_map}
+use Rattle.std.specs.Option.{option_to_list}
+use Rattle.pulsar_client.specs.declared.act.Outcome.{Outcome}
+use Rattle.pulsar_client.specs.declared.act.Request.{Request}
+use Rattle.pulsar_client.specs.declared.act.LinkAct.{LinkAct}
+use Rattle.pulsar_client.specs.declared.act.LinkAct.TheVariants.{Requests, Settled}
 use Rattle.pulsar_client.specs.Content.{Heard}
+use Rattle.pulsar_client.specs.Link.{Pending, next_id, queued, settles}
 use Rattle.pulsar_client.specs.Local.{IsLinkRun}
 use Rattle.pulsar_client.specs.Log.{Chosen, Entry, links, of_link}
-use Rattle.pulsar_client.specs.Good.{IsRun, Step, Good}
+use Rattle.pulsar_client.specs.Good.{IsRun, due, to_come, Step, Good}
+
+-- THE RUN
 
 -- the events of a history
 abbrev pub events : List Step → List Heard
@@ -16,3 +25,35 @@ Determined = (o : Chosen) (h h' : List Step) → Good o h → Good o h' → even
 -- what names a link in a run is a run of that link by itself
 abbrev pub LinksAlone : Type 0
 LinksAlone = (o : Chosen) (log : List Entry) (l : ℕ) → IsRun o log → nat_lt l (links log) ≡ true → IsLinkRun o.first_number (of_link l log)
+
+-- nothing is left to do: so it is wherever a step has ended
+abbrev pub Rests : Chosen → List Entry → Type 0
+Rests o log = due o log ++ to_come o log ≡ []
+
+-- REQUESTS
+
+-- the request that is asked after this history of a link
+abbrev pub request_at : ℕ → List LinkAct → ℕ → Pending
+request_at first_number h ticket = record { id = next_id first_number h; place = queued h; ticket = ticket }
+
+abbrev pub or_else : {A : Type 0} → Option A → Option A → Option A
+or_else None y = y
+or_else (Some x) y = Some x
+
+-- what the first of the later acts that settles a request settles it as; these are newest first
+abbrev pub outcome_in : Pending → List LinkAct → Option Outcome
+outcome_in r [] = None
+outcome_in r (act ∷ later) = or_else (outcome_in r later) (settles act r)
+
+-- what an act says that the request of a place was settled as
+abbrev pub settled_at : ℕ → LinkAct → Option Outcome
+settled_at place (Settled p ticket outcome) = if p == place then Some outcome else None
+settled_at place _ = None
+
+-- A request is settled once, by the first later frame of its link that bears its key or by the link's end, whichever comes
+-- first, and not at all where neither has come. What came before it settles nothing.
+abbrev pub SettledByFirst : Type 0
+SettledByFirst = (o : Chosen) (log : List Entry) (l : ℕ) (later older : List LinkAct) (request : Request) (ticket : ℕ) →
+    IsRun o log → nat_lt l (links log) ≡ true → Rests o log →
+    of_link l log ≡ later ++ Requests request ticket ∷ older →
+    filter_map (settled_at (queued older)) later ≡ option_to_list (outcome_in (request_at o.first_number older ticket) later)

@@ -1,6 +1,6 @@
 //! What follows from the definition of a good run: each contract is a law, and its body is empty.
 
-ghost use Rattle.pulsar_client.specs.Laws.{Determined, LinksAlone};
+ghost use Rattle.pulsar_client.specs.Laws.{Determined, LinksAlone, SettledByFirst};
 
 /// Options and events determine the effects of a good run.
 pub fn determined()
@@ -10,4 +10,9 @@ pub fn determined()
 /// What names a link in a run is a run of that link by itself.
 pub fn links_alone()
     ensures { LinksAlone }
+{}
+
+/// A request is settled once, by the first later frame of its connection that bears its key, or at its connection's end.
+pub fn settled_by_first()
+    ensures { SettledByFirst }
 {}

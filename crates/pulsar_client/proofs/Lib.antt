@@ -6,3 +6,5 @@ pub mod Streams
 pub mod Unique
 pub mod Local
 pub mod Settled
+pub mod Calls
+pub mod Once

@@ -1,15 +1,21 @@
 -- What follows from the definition of a good run, in plain words.
-use Rattle.std.specs.Prelude.{◌≡◌, ℕ, ◌==◌, nat_lt, true, if◌then◌else◌, List, [], ◌∷◌, ◌++◌, map, Option, Some, None}
+use Rattle.std.specs.Prelude.{◌≡◌, ℕ, ◌≤◌, length, ◌==◌, nat_lt, true, if◌then◌else◌, List, [], ◌∷◌, ◌++◌, map, Option, Some, None}
 use Rattle.std.specs.List.{filter_map}
 use Rattle.std.specs.Option.{option_to_list}
 use Rattle.pulsar_client.specs.declared.act.Outcome.{Outcome}
 use Rattle.pulsar_client.specs.declared.act.Request.{Request}
 use Rattle.pulsar_client.specs.declared.act.LinkAct.{LinkAct}
 use Rattle.pulsar_client.specs.declared.act.LinkAct.TheVariants.{Requests, Settled}
-use Rattle.pulsar_client.specs.Content.{Heard}
+use Rattle.pulsar_client.specs.declared.act.Procedure.{Procedure}
+use Rattle.pulsar_client.specs.declared.act.Action.{Action}
+use Rattle.pulsar_client.specs.declared.act.Action.TheVariants.{Answer, Finish}
+use Rattle.pulsar_client.specs.declared.act.Act.{Act}
+use Rattle.pulsar_client.specs.declared.act.Act.TheVariants.{Calls, Answers, Builds}
+use Rattle.pulsar_client.specs.Content.{Heard, Said, Done}
+use Rattle.pulsar_client.specs.Plan.{next}
 use Rattle.pulsar_client.specs.Link.{Pending, next_id, queued, settles}
 use Rattle.pulsar_client.specs.Local.{IsLinkRun}
-use Rattle.pulsar_client.specs.Log.{Chosen, Entry, links, of_link}
+use Rattle.pulsar_client.specs.Log.{Chosen, Entry, Begins, Does, links, of_link, calls, procedure_of, outcomes_of}
 use Rattle.pulsar_client.specs.Good.{IsRun, due, to_come, Step, Good}
 
 -- THE RUN
@@ -57,3 +63,39 @@ SettledByFirst = (o : Chosen) (log : List Entry) (l : ℕ) (later older : List L
     IsRun o log → nat_lt l (links log) ≡ true → Rests o log →
     of_link l log ≡ later ++ Requests request ticket ∷ older →
     filter_map (settled_at (queued older)) later ≡ option_to_list (outcome_in (request_at o.first_number older ticket) later)
+
+-- CALLS
+
+-- what an action answers
+abbrev pub answer_in : Action → List Said
+answer_in (Answer answer) = answer ∷ []
+answer_in Finish = Done ∷ []
+answer_in _ = []
+
+-- what a procedure answers along its outcomes, after those before
+abbrev pub said_along : Procedure → List Outcome → List Outcome → List Said
+said_along p before [] = answer_in (next p before)
+said_along p before (o ∷ os) = answer_in (next p before) ++ said_along p (before ++ o ∷ []) os
+
+-- what an act answers a call
+abbrev pub answer_of : ℕ → Act → List Said
+answer_of t (Answers ticket answer) = if t == ticket then answer ∷ [] else []
+answer_of t (Builds ticket) = if t == ticket then Done ∷ [] else []
+answer_of t _ = []
+
+-- the answers of a call since it was made, oldest first
+abbrev pub answers : ℕ → List Entry → List Said
+answers t [] = []
+answers t (Begins e ∷ log) = answers t log
+answers t (Does (Calls p) ∷ log) = if t == calls log then [] else answers t log
+answers t (Does act ∷ log) = answers t log ++ answer_of t act
+
+-- wherever a step has ended, a call has given just the answers that its procedure gives along its outcomes: none later
+abbrev pub CallsFollow : Type 0
+CallsFollow = (o : Chosen) (log : List Entry) (t : ℕ) (p : Procedure) →
+    IsRun o log → Rests o log → procedure_of t log ≡ Some p → answers t log ≡ said_along p [] (outcomes_of t log)
+
+-- a call ends at most once
+abbrev pub AnswersOnce : Type 0
+AnswersOnce = (o : Chosen) (log : List Entry) (t : ℕ) (p : Procedure) →
+    IsRun o log → Rests o log → procedure_of t log ≡ Some p → length (answers t log) ≤ 1

@@ -8,3 +8,5 @@ pub mod Local
 pub mod Settled
 pub mod Calls
 pub mod Once
+pub mod Stages
+pub mod Written

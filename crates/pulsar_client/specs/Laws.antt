@@ -13,7 +13,7 @@ use Rattle.pulsar_client.specs.declared.act.Act.{Act}
 use Rattle.pulsar_client.specs.declared.act.Act.TheVariants.{Calls, Answers, Builds}
 use Rattle.pulsar_client.specs.Content.{Heard, Said, Done}
 use Rattle.pulsar_client.specs.Plan.{next}
-use Rattle.pulsar_client.specs.Link.{Pending, next_id, queued, settles}
+use Rattle.pulsar_client.specs.Link.{Pending, next_id, queued, settles, stage, unwritten, with_frame, frame_of, written_by}
 use Rattle.pulsar_client.specs.Local.{IsLinkRun}
 use Rattle.pulsar_client.specs.Log.{Chosen, Entry, Begins, Does, links, of_link, calls, procedure_of, outcomes_of}
 use Rattle.pulsar_client.specs.Good.{IsRun, due, to_come, Step, Good}
@@ -63,6 +63,26 @@ SettledByFirst = (o : Chosen) (log : List Entry) (l : ℕ) (later older : List L
     IsRun o log → nat_lt l (links log) ≡ true → Rests o log →
     of_link l log ≡ later ++ Requests request ticket ∷ older →
     filter_map (settled_at (queued older)) later ≡ option_to_list (outcome_in (request_at o.first_number older ticket) later)
+
+-- FRAMES THAT ARE WRITTEN
+
+abbrev pub IsPrefix : {A : Type 0} → List A → List A → Type 0
+IsPrefix {A} xs ys = (rest : List A) × (xs ++ rest ≡ ys)
+
+-- the frames that were queued on a link, in order
+abbrev pub frames_queued : ℕ → List LinkAct → List (List ℕ)
+frames_queued first_number [] = []
+frames_queued first_number (act ∷ h) = with_frame (frame_of act (next_id first_number h)) (frames_queued first_number h)
+
+-- the frames that were written on it, in order
+abbrev pub frames_written : ℕ → List LinkAct → List (List ℕ)
+frames_written first_number [] = []
+frames_written first_number (act ∷ h) = frames_written first_number h ++ written_by act (stage h) (unwritten first_number h)
+
+-- the frames that are written on a link are the first of those that were queued, in their order, each once
+abbrev pub WrittenInOrder : Type 0
+WrittenInOrder = (o : Chosen) (log : List Entry) (l : ℕ) → IsRun o log → nat_lt l (links log) ≡ true →
+    IsPrefix (frames_written o.first_number (of_link l log)) (frames_queued o.first_number (of_link l log))
 
 -- CALLS
 

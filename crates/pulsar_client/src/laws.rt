@@ -1,6 +1,6 @@
 //! What follows from the definition of a good run: each contract is a law, and its body is empty.
 
-ghost use Rattle.pulsar_client.specs.Laws.{AnswersOnce, CallsFollow, Determined, LinksAlone, SettledByFirst};
+ghost use Rattle.pulsar_client.specs.Laws.{AnswersOnce, CallsFollow, Determined, LinksAlone, SettledByFirst, WrittenInOrder};
 
 /// Options and events determine the effects of a good run.
 pub fn determined()
@@ -25,4 +25,9 @@ pub fn calls_follow()
 /// A call ends at most once.
 pub fn answers_once()
     ensures { AnswersOnce }
+{}
+
+/// The frames that are written on a connection are the first of those that were queued, in their order, each once.
+pub fn written_in_order()
+    ensures { WrittenInOrder }
 {}

@@ -10,3 +10,5 @@ pub mod Calls
 pub mod Once
 pub mod Stages
 pub mod Written
+pub mod Cuts
+pub mod Traces

@@ -37,7 +37,7 @@ abbrev NoOwn : List Act → Type 0
 NoOwn [] = Unit {0}
 NoOwn (x ∷ xs) = (is_own_act x ≡ false) × NoOwn xs
 
-abbrev AllOwn : List LinkAct → Type 0
+abbrev pub AllOwn : List LinkAct → Type 0
 AllOwn [] = Unit {0}
 AllOwn (x ∷ xs) = (is_own x ≡ true) × AllOwn xs
 
@@ -121,7 +121,7 @@ turns_own s Opens = opening_own s.stage
 turns_own s (Comes a) = arrival_own s.stage a
 turns_own s _ = tt
 
-rule_own : (s : Seen) (act : LinkAct) → AllOwn (link_rule s act)
+pub rule_own : (s : Seen) (act : LinkAct) → AllOwn (link_rule s act)
 rule_own s act = AllOwn-append (settled act s.pending) (turns s.stage act) (settled_own act s.pending) (turns_own s act)
 
 told_none : (f : ℕ → Outcome) (ts : List ℕ) → NoOwn (map (λ t. Told t (f t)) ts)

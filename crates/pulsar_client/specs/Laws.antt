@@ -2,10 +2,11 @@
 use Rattle.std.specs.Prelude.{◌≡◌, ℕ, ◌≤◌, length, ◌==◌, nat_lt, true, if◌then◌else◌, List, [], ◌∷◌, ◌++◌, map, Option, Some, None}
 use Rattle.std.specs.List.{filter_map}
 use Rattle.std.specs.Option.{option_to_list}
+use Rattle.pulsar_client.specs.declared.act.Arrival.{Arrival}
 use Rattle.pulsar_client.specs.declared.act.Outcome.{Outcome}
 use Rattle.pulsar_client.specs.declared.act.Request.{Request}
 use Rattle.pulsar_client.specs.declared.act.LinkAct.{LinkAct}
-use Rattle.pulsar_client.specs.declared.act.LinkAct.TheVariants.{Requests, Settled}
+use Rattle.pulsar_client.specs.declared.act.LinkAct.TheVariants.{Comes, Requests, Settled}
 use Rattle.pulsar_client.specs.declared.act.Procedure.{Procedure}
 use Rattle.pulsar_client.specs.declared.act.Action.{Action}
 use Rattle.pulsar_client.specs.declared.act.Action.TheVariants.{Answer, Finish}
@@ -13,9 +14,9 @@ use Rattle.pulsar_client.specs.declared.act.Act.{Act}
 use Rattle.pulsar_client.specs.declared.act.Act.TheVariants.{Calls, Answers, Builds}
 use Rattle.pulsar_client.specs.Content.{Heard, Said, Done}
 use Rattle.pulsar_client.specs.Plan.{next}
-use Rattle.pulsar_client.specs.Link.{Pending, next_id, queued, settles, stage, unwritten, with_frame, frame_of, written_by}
+use Rattle.pulsar_client.specs.Link.{Pending, arrivals, next_id, queued, settles, stage, unwritten, with_frame, frame_of, written_by}
 use Rattle.pulsar_client.specs.Local.{IsLinkRun}
-use Rattle.pulsar_client.specs.Log.{Chosen, Entry, Begins, Does, links, of_link, calls, procedure_of, outcomes_of}
+use Rattle.pulsar_client.specs.Log.{Chosen, Entry, Begins, Does, links, of_link, stream, calls, procedure_of, outcomes_of}
 use Rattle.pulsar_client.specs.Good.{IsRun, due, to_come, Step, Good}
 
 -- THE RUN
@@ -63,6 +64,20 @@ SettledByFirst = (o : Chosen) (log : List Entry) (l : ℕ) (later older : List L
     IsRun o log → nat_lt l (links log) ≡ true → Rests o log →
     of_link l log ≡ later ++ Requests request ticket ∷ older →
     filter_map (settled_at (queued older)) later ≡ option_to_list (outcome_in (request_at o.first_number older ticket) later)
+
+-- FRAMES THAT COME
+
+-- what came to a link, in order
+abbrev pub came : List LinkAct → List Arrival
+came [] = []
+came (Comes arrival ∷ h) = came h ++ arrival ∷ []
+came (_ ∷ h) = came h
+
+-- what has come to a link is what the bytes of its stream are cut into: each frame whole, once and in order, however the
+-- bytes were cut into pieces
+abbrev pub FramesAreCut : Type 0
+FramesAreCut = (o : Chosen) (log : List Entry) (l : ℕ) → IsRun o log → nat_lt l (links log) ≡ true → Rests o log →
+    came (of_link l log) ≡ arrivals (stream o l log)
 
 -- FRAMES THAT ARE WRITTEN
 

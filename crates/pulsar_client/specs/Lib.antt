@@ -9,3 +9,4 @@ pub mod Client
 pub mod Outside
 pub mod Local
 pub mod Laws
+pub mod Traces

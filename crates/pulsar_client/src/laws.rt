@@ -1,6 +1,7 @@
 //! What follows from the definition of a good run: each contract is a law, and its body is empty.
 
-ghost use Rattle.pulsar_client.specs.Laws.{AnswersOnce, CallsFollow, Determined, LinksAlone, SettledByFirst, WrittenInOrder};
+ghost use Rattle.pulsar_client.specs.Laws.{AnswersOnce, CallsFollow, Determined, FramesAreCut, LinksAlone, SettledByFirst, WrittenInOrder};
+ghost use Rattle.pulsar_client.specs.Traces.{IsGood, attempt_fails, reply_comes_early, request_is_answered};
 
 /// Options and events determine the effects of a good run.
 pub fn determined()
@@ -30,4 +31,16 @@ pub fn answers_once()
 /// The frames that are written on a connection are the first of those that were queued, in their order, each once.
 pub fn written_in_order()
     ensures { WrittenInOrder }
+{}
+
+/// What comes on a connection is what the bytes of its stream are cut into, however they were cut into pieces.
+pub fn frames_are_cut()
+    ensures { FramesAreCut }
+{}
+
+/// Three small runs are good.
+pub fn small_runs_are_good()
+    ensures answered { IsGood request_is_answered }
+    ensures early { IsGood reply_comes_early }
+    ensures fails { IsGood attempt_fails }
 {}

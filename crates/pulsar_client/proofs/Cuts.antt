@@ -140,7 +140,7 @@ arrivals-append s t e =
 
 -- WHAT IS STILL TO COME
 
-abbrev is_comes : Act → Bool
+abbrev pub is_comes : Act → Bool
 is_comes (OnLink k (Comes a)) = true
 is_comes _ = false
 
@@ -148,7 +148,7 @@ abbrev NoComes : List Act → Type 0
 NoComes [] = Unit {0}
 NoComes (x ∷ xs) = (is_comes x ≡ false) × NoComes xs
 
-abbrev AllComes : List Act → Type 0
+abbrev pub AllComes : List Act → Type 0
 AllComes [] = Unit {0}
 AllComes (x ∷ xs) = (is_comes x ≡ true) × AllComes xs
 
@@ -305,15 +305,15 @@ no_stream o l (Does (OnLink k x) ∷ log) lt = no_stream o l log lt
 
 -- ALONG A LOG
 
-record Cutting (o : Chosen) (log : List Entry) : Type 0 where
+pub record Cutting (o : Chosen) (log : List Entry) : Type 0 where
   plain : NoComes (due o log)
-  all : AllComes (to_come o log)
+  pub all : AllComes (to_come o log)
   whole : (l : ℕ) → nat_lt l (links log) ≡ true → came (of_link l log) ++ coming l (to_come o log) ≡ arrivals (stream o l log)
   unborn : (l : ℕ) → nat_lt l (links log) ≡ false → coming l (to_come o log) ≡ []
   in_time : (l : ℕ) → nat_lt l (links log) ≡ true → InTime (of_link l log)
   late : (l : ℕ) → nat_lt l (links log) ≡ true → (coming l (to_come o log) ≡ []) ⊎ (is_dialing (stage (of_link l log)) ≡ false)
 
-first_act : (xs ys : List Act) (a : Act) → first (xs ++ ys) ≡ Some a → (xs ≡ a ∷ drop 1 xs) ⊎ ((xs ≡ []) × (ys ≡ a ∷ drop 1 ys))
+pub first_act : (xs ys : List Act) (a : Act) → first (xs ++ ys) ≡ Some a → (xs ≡ a ∷ drop 1 xs) ⊎ ((xs ≡ []) × (ys ≡ a ∷ drop 1 ys))
 first_act [] [] a h = absurd cc
 first_act [] (y ∷ ys) a h = inr (refl, let e : y ≡ a = cc in ap (λ t. t ∷ ys) e)
 first_act (x ∷ xs) ys a h = inl (let e : x ≡ a = cc in ap (λ t. t ∷ xs) e)
@@ -513,7 +513,7 @@ module _ (o : Chosen) (log : List Entry) (r : IsRun o log) (k : Cutting o log) (
       here l e is = rw (is, eq-eqb n n refl, is_live, pieces_here n (arrivals (left (stream o n log) ++ piece)))
           (arrivals-append (stream o n log) piece (may_go_on n (opened o log n is_live).0 (opened o log n is_live).1))
 
-cutting : (o : Chosen) (log : List Entry) → IsRun o log → Cutting o log
+pub cutting : (o : Chosen) (log : List Entry) → IsRun o log → Cutting o log
 cutting o [] r = record { plain = tt; all = tt; whole = λ l lt. absurd (none l lt); unborn = λ l lt. refl; in_time = λ l lt. tt; late = λ l lt. inl refl }
   where
     none : (l : ℕ) → nat_lt l 0 ≡ true → ⊥

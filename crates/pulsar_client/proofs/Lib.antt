@@ -12,3 +12,4 @@ pub mod Stages
 pub mod Written
 pub mod Cuts
 pub mod Traces
+pub mod Causes

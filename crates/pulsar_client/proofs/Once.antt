@@ -16,16 +16,16 @@ use Rattle.pulsar_client.specs.Laws.{answer_in, said_along, AnswersOnce}
 use Rattle.pulsar_client.proofs.Calls.{calls_follow}
 
 -- after these outcomes the procedure reads on so
-abbrev ReadsOn : Procedure → List Outcome → (List Outcome → Action) → Type 0
+abbrev pub ReadsOn : Procedure → List Outcome → (List Outcome → Action) → Type 0
 ReadsOn p b f = (ys : List Outcome) → next p (b ++ ys) ≡ f ys
 
-here : (p : Procedure) (b : List Outcome) (f : List Outcome → Action) → ReadsOn p b f → next p b ≡ f []
+pub here : (p : Procedure) (b : List Outcome) (f : List Outcome → Action) → ReadsOn p b f → next p b ≡ f []
 here p b f h = ap (next p) (sym (append-nil b)) ∙ h []
 
-on : (p : Procedure) (b : List Outcome) (f : List Outcome → Action) (o : Outcome) → ReadsOn p b f → ReadsOn p (b ++ o ∷ []) (λ ys. f (o ∷ ys))
+pub on : (p : Procedure) (b : List Outcome) (f : List Outcome → Action) (o : Outcome) → ReadsOn p b f → ReadsOn p (b ++ o ∷ []) (λ ys. f (o ∷ ys))
 on p b f o h = λ ys. ap (next p) (append_assoc b (o ∷ []) ys) ∙ h (o ∷ ys)
 
-quiet : (p : Procedure) (b : List Outcome) → ReadsOn p b (λ ys. Rest) → (os : List Outcome) → said_along p b os ≡ []
+pub quiet : (p : Procedure) (b : List Outcome) → ReadsOn p b (λ ys. Rest) → (os : List Outcome) → said_along p b os ≡ []
 quiet p b h [] = ap answer_in (here p b (λ ys. Rest) h)
 quiet p b h (o ∷ os) = ap (λ r. answer_in r ++ said_along p (b ++ o ∷ []) os) (here p b (λ ys. Rest) h) ∙ quiet p (b ++ o ∷ []) (on p b (λ ys. Rest) o h) os
 

@@ -1,22 +1,27 @@
 -- What follows from the definition of a good run, in plain words.
-use Rattle.std.specs.Prelude.{◌≡◌, ℕ, ◌≤◌, length, ◌==◌, nat_lt, true, if◌then◌else◌, List, [], ◌∷◌, ◌++◌, map, Option, Some, None}
+use Rattle.std.specs.Prelude.{◌≡◌, ℕ, ◌≤◌, length, ◌==◌, nat_lt, Bool, true, false, ◌⊎◌, if◌then◌else◌, List, [], ◌∷◌, ◌++◌, map, Option, Some, None}
+use Rattle.pulsar_wire.specs.declared.error.IoKind.TheVariants.{Other}
 use Rattle.std.specs.List.{filter_map}
 use Rattle.std.specs.Option.{option_to_list}
 use Rattle.pulsar_client.specs.declared.act.Arrival.{Arrival}
 use Rattle.pulsar_client.specs.declared.act.Outcome.{Outcome}
+use Rattle.pulsar_client.specs.declared.act.Outcome.TheVariants as outcome
 use Rattle.pulsar_client.specs.declared.act.Request.{Request}
 use Rattle.pulsar_client.specs.declared.act.LinkAct.{LinkAct}
-use Rattle.pulsar_client.specs.declared.act.LinkAct.TheVariants.{Comes, Requests, Settled}
+use Rattle.pulsar_client.specs.declared.act.LinkAct.TheVariants.{Comes, Requests, Ended, Settled}
 use Rattle.pulsar_client.specs.declared.act.Procedure.{Procedure}
+use Rattle.pulsar_client.specs.declared.act.Procedure.TheVariants.{Refused}
 use Rattle.pulsar_client.specs.declared.act.Action.{Action}
 use Rattle.pulsar_client.specs.declared.act.Action.TheVariants.{Answer, Finish}
 use Rattle.pulsar_client.specs.declared.act.Act.{Act}
-use Rattle.pulsar_client.specs.declared.act.Act.TheVariants.{Calls, Answers, Builds}
-use Rattle.pulsar_client.specs.Content.{Heard, Said, Done}
-use Rattle.pulsar_client.specs.Plan.{next}
-use Rattle.pulsar_client.specs.Link.{Pending, arrivals, next_id, queued, settles, stage, unwritten, with_frame, frame_of, written_by}
+use Rattle.pulsar_client.specs.declared.act.Act.TheVariants.{Calls, Told, Answers, Builds, OnLink}
+use Rattle.pulsar_client.specs.declared.tables.Base.TheVariants.{Runs}
+use Rattle.pulsar_client.specs.Messages.{Reply}
+use Rattle.pulsar_client.specs.Content.{Heard, Said, Done, Failed, Fault, Shutdown}
+use Rattle.pulsar_client.specs.Plan.{next, fault_of, topics_in}
+use Rattle.pulsar_client.specs.Link.{Seen, Pending, arrivals, next_id, queued, settles, stage, unwritten, with_frame, frame_of, written_by}
 use Rattle.pulsar_client.specs.Local.{IsLinkRun}
-use Rattle.pulsar_client.specs.Log.{Chosen, Entry, Begins, Does, links, of_link, stream, calls, procedure_of, outcomes_of}
+use Rattle.pulsar_client.specs.Log.{Chosen, Entry, Begins, Does, links, of_link, stream, calls, procedure_of, outcomes_of, base, seen_link, is_at, readies, spent}
 use Rattle.pulsar_client.specs.Good.{IsRun, due, to_come, Step, Good}
 
 -- THE RUN
@@ -134,3 +139,50 @@ CallsFollow = (o : Chosen) (log : List Entry) (t : ℕ) (p : Procedure) →
 abbrev pub AnswersOnce : Type 0
 AnswersOnce = (o : Chosen) (log : List Entry) (t : ℕ) (p : Procedure) →
     IsRun o log → Rests o log → procedure_of t log ≡ Some p → length (answers t log) ≤ 1
+
+-- WHY A CALL FAILS
+
+abbrev pub In : {A : Type 0} → A → List A → Type 0
+In x [] = ⊥
+In x (y ∷ ys) = (x ≡ y) ⊎ In x ys
+
+-- a call fails with Shutdown where it is refused, and else with the fault of an outcome that it was told, or of a reply
+pub data Fails (p : Procedure) (os : List Outcome) (f : Fault) : Type 0 where
+  IsRefused : p ≡ Refused → f ≡ Shutdown → Fails p os f
+  IsTold : (u : Outcome) → In u os → f ≡ fault_of u → Fails p os f
+  IsReplied : (r : Reply) → In (outcome.Replied r) os → Failed f ≡ topics_in r → Fails p os f
+
+abbrev pub FailuresAreTold : Type 0
+FailuresAreTold = (o : Chosen) (log : List Entry) (t : ℕ) (p : Procedure) (f : Fault) →
+    IsRun o log → Rests o log → procedure_of t log ≡ Some p → In (Failed f) (answers t log) → Fails p (outcomes_of t log) f
+
+-- somewhere in a log stands such an entry, behind such older ones
+abbrev pub Before : (Entry → List Entry → Type 0) → List Entry → Type 0
+Before P [] = ⊥
+Before P (e ∷ log) = P e log ⊎ Before P log
+
+-- a link ends while the attempt of this call runs
+abbrev pub AttemptEnds : ℕ → Entry → List Entry → Type 0
+AttemptEnds starter e older = (l : ℕ) × (closed : Bool) × (e ≡ Does (OnLink l (Ended closed))) × (base older ≡ Runs starter)
+
+-- a request of this call is settled so
+abbrev pub IsSettled : ℕ → Outcome → Entry → Type 0
+IsSettled t u e = (l : ℕ) × (place : ℕ) × (e ≡ Does (OnLink l (Settled place t u)))
+
+-- this call is told its link, and the link is so
+abbrev pub FindsLink : Chosen → ℕ → (Option Seen → Type 0) → Entry → List Entry → Type 0
+FindsLink o t P e older = (u : Outcome) × (l : ℕ) × (e ≡ Does (Told t u)) × P (seen_link o older l)
+
+-- Why a call is told an outcome. Failed: the attempt that it started ended. Canceled: the attempt of another call ended.
+-- Replied, Disconnected: its request was settled so, or its link was not ready. Exhausted: the link's numbers are spent.
+abbrev pub Cause : Chosen → ℕ → Outcome → Entry → List Entry → Type 0
+Cause o t (outcome.Failed kind) e older = AttemptEnds t e older × (kind ≡ Other)
+Cause o t outcome.Canceled e older = (starter : ℕ) × ((t == starter) ≡ false) × AttemptEnds starter e older
+Cause o t (outcome.Replied r) e older = IsSettled t (outcome.Replied r) e
+Cause o t outcome.Disconnected e older = IsSettled t outcome.Disconnected e ⊎ FindsLink o t (λ s. readies s ≡ false) e older
+Cause o t outcome.Exhausted e older = FindsLink o t (λ s. is_at (λ x. x.next_id == spent) s ≡ true) e older
+Cause o t _ e older = Unit {0}
+
+-- whatever a call is told has its cause before
+abbrev pub OutcomesAreCaused : Type 0
+OutcomesAreCaused = (o : Chosen) (log : List Entry) (t : ℕ) (u : Outcome) → IsRun o (Does (Told t u) ∷ log) → Before (Cause o t u) log

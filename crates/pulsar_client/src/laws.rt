@@ -1,6 +1,6 @@
 //! What follows from the definition of a good run: each contract is a law, and its body is empty.
 
-ghost use Rattle.pulsar_client.specs.Laws.{AnswersOnce, CallsFollow, Determined, FramesAreCut, LinksAlone, SettledByFirst, WrittenInOrder};
+ghost use Rattle.pulsar_client.specs.Laws.{AnswersOnce, CallsFollow, Determined, FailuresAreTold, FramesAreCut, LinksAlone, OutcomesAreCaused, SettledByFirst, WrittenInOrder};
 ghost use Rattle.pulsar_client.specs.Traces.{IsGood, attempt_fails, reply_comes_early, request_is_answered};
 
 /// Options and events determine the effects of a good run.
@@ -43,4 +43,14 @@ pub fn small_runs_are_good()
     ensures answered { IsGood request_is_answered }
     ensures early { IsGood reply_comes_early }
     ensures fails { IsGood attempt_fails }
+{}
+
+/// A call that fails was refused, or fails with the fault of an outcome that it was told, or of its reply.
+pub fn failures_are_told()
+    ensures { FailuresAreTold }
+{}
+
+/// Whatever a call is told has its cause before.
+pub fn outcomes_are_caused()
+    ensures { OutcomesAreCaused }
 {}

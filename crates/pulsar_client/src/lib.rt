@@ -13,3 +13,5 @@ mod plans;
 pub mod pulsar;
 mod session;
 mod tables;
+#[cfg(test)]
+mod tests;

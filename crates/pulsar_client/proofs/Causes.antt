@@ -26,7 +26,7 @@ use Rattle.pulsar_client.specs.Link.{Seen, Pending, bears, settled, disconnected
 use Rattle.pulsar_client.specs.Plan.{next, ended, finished, topics_answer, fault_of}
 use Rattle.pulsar_client.specs.Log.{Chosen, Entry, Begins, Does, View, view, base, waiting, seen_link, spent, at_once, serves, performs, gets, asks, asks_on, fails, link_acts, brings, procedure_for, dials, opens, outcomes_of}
 use Rattle.pulsar_client.specs.Good.{due, to_come, IsRun, first}
-use Rattle.pulsar_client.specs.Laws.{In, Fails, IsRefused, IsTold, IsReplied, FailuresAreTold, Before, Cause, OutcomesAreCaused, answer_in, said_along}
+use Rattle.pulsar_client.specs.Laws.{In, Fails, IsRefused, IsTold, IsReplied, FailuresAreTold, InThisStep, Cause, OutcomesAreCaused, answer_in, said_along}
 use Rattle.pulsar_client.proofs.Cuts.{AllComes, cutting, is_comes, first_act}
 use Rattle.pulsar_client.proofs.Calls.{calls_follow}
 use Rattle.pulsar_client.proofs.Once.{ReadsOn, here, on, quiet}
@@ -82,7 +82,7 @@ rule_settling s act = AllSettling-append (settled act s.pending) (turns s.stage 
 
 -- an act that tells a call has its cause
 abbrev IsCaused : Chosen → List Entry → Act → Type 0
-IsCaused o log (Told t u) = Before (Cause o t u) log
+IsCaused o log (Told t u) = InThisStep (Cause o t u) log
 IsCaused o log (OnLink l x) = IsSettling x
 IsCaused o log _ = Unit {0}
 
@@ -99,16 +99,16 @@ AllCaused-drop o log [] p = tt
 AllCaused-drop o log (x ∷ xs) p = p.1
 
 -- a cause stays one as the log grows
-later : (o : Chosen) (log : List Entry) (e : Entry) (x : Act) → IsCaused o log x → IsCaused o (e ∷ log) x
+later : (o : Chosen) (log : List Entry) (e x : Act) → IsCaused o log x → IsCaused o (Does e ∷ log) x
 later o log e (Told t u) p = inr p
 later o log e (OnLink l x) p = p
 later o log e _ p = tt
 
-all_later : (o : Chosen) (log : List Entry) (e : Entry) (xs : List Act) → AllCaused o log xs → AllCaused o (e ∷ log) xs
+all_later : (o : Chosen) (log : List Entry) (e : Act) (xs : List Act) → AllCaused o log xs → AllCaused o (Does e ∷ log) xs
 all_later o log e [] p = tt
 all_later o log e (x ∷ xs) p = (later o log e x p.0, all_later o log e xs p.1)
 
-gets_caused : (o : Chosen) (log : List Entry) (b : Base) (t : ℕ) (e : Entry) → AllCaused o (e ∷ log) (gets b t)
+gets_caused : (o : Chosen) (log : List Entry) (b : Base) (t : ℕ) (e : Act) → AllCaused o (Does e ∷ log) (gets b t)
 gets_caused o log Nothing t e = (tt, (tt, tt))
 gets_caused o log (Runs s) t e = (tt, tt)
 gets_caused o log (Serves l) t e = (inl tt, tt)
@@ -128,14 +128,14 @@ asks_on_caused o log t l q None u is = (inl (inr (u, l, refl, rw is refl)), tt)
 asks_on_caused o log t l q (Some s) u is = asks_caused o log t l q s u is
 
 performs_caused : (o : Chosen) (log : List Entry) (t : ℕ) (a : Action) (u : Outcome) → AllCaused o (Does (Told t u) ∷ log) (performs (view o log) t a)
-performs_caused o log t Get u = gets_caused o log (base log) t (Does (Told t u))
+performs_caused o log t Get u = gets_caused o log (base log) t (Told t u)
 performs_caused o log t (Ask l q) u = asks_on_caused o log t l q (seen_link o log l) u refl
 performs_caused o log t (Answer a) u = (tt, tt)
 performs_caused o log t Finish u = (tt, tt)
 performs_caused o log t Rest u = tt
 
 -- a call begins by getting its link, or by its answer
-begins_caused : (o : Chosen) (log : List Entry) (t : ℕ) (p : Procedure) (e : Entry) → AllCaused o (e ∷ log) (performs (view o log) t (next p []))
+begins_caused : (o : Chosen) (log : List Entry) (t : ℕ) (p : Procedure) (e : Act) → AllCaused o (Does e ∷ log) (performs (view o log) t (next p []))
 begins_caused o log t procedure.Build e = gets_caused o log (base log) t e
 begins_caused o log t (procedure.Topics n m) e = gets_caused o log (base log) t e
 begins_caused o log t procedure.Refused e = (tt, tt)
@@ -149,18 +149,18 @@ link_caused o log l None x = tt
 link_caused o log l (Some s) x = links_caused o log l (link_rule s x) (rule_settling s x)
 
 once_caused : (o : Chosen) (log : List Entry) (a : Act) → AllCaused o (Does a ∷ log) (at_once (view o log) a)
-once_caused o log (Calls p) = begins_caused o log (view o log).calls p (Does (Calls p))
+once_caused o log (Calls p) = begins_caused o log (view o log).calls p (Calls p)
 once_caused o log (Told t u) = performs_caused o log t ((view o log).at_outcome t u) u
 once_caused o log (OnLink l x) = link_caused o (Does (OnLink l x) ∷ log) l (seen_link o log l) x
 once_caused o log _ = tt
 
-got_caused : (o : Chosen) (log : List Entry) (l : ℕ) (e : Entry) (ts : List ℕ) → AllCaused o (e ∷ log) (map (λ t. Told t (outcome.GotLink l)) ts)
+got_caused : (o : Chosen) (log : List Entry) (l : ℕ) (e : Act) (ts : List ℕ) → AllCaused o (Does e ∷ log) (map (λ t. Told t (outcome.GotLink l)) ts)
 got_caused o log l e [] = tt
 got_caused o log l e (t ∷ ts) = (inl tt, got_caused o log l e ts)
 
 -- an attempt ended
 one_failed : (o : Chosen) (log : List Entry) (l starter t : ℕ) (closed b : Bool) → base log ≡ Runs starter → (t == starter) ≡ b →
-    Before (Cause o t (cond b (outcome.Failed Other) outcome.Canceled)) (Does (OnLink l (Ended closed)) ∷ log)
+    InThisStep (Cause o t (cond b (outcome.Failed Other) outcome.Canceled)) (Does (OnLink l (Ended closed)) ∷ log)
 one_failed o log l starter t closed true is same = inl ((l, closed, refl, is ∙ ap Runs (sym (eqb-true t starter same))), refl)
 one_failed o log l starter t closed false is same = inl (starter, same, (l, closed, refl, is))
 
@@ -174,7 +174,7 @@ fails_caused o log l closed (Runs starter) ts is = all_failed o log l starter cl
 fails_caused o log l closed Nothing ts is = tt
 fails_caused o log l closed (Serves k) ts is = tt
 
-settled_caused : (o : Chosen) (log : List Entry) (l place t : ℕ) (u : Outcome) → SettlesOnly u → Before (Cause o t u) (Does (OnLink l (Settled place t u)) ∷ log)
+settled_caused : (o : Chosen) (log : List Entry) (l place t : ℕ) (u : Outcome) → SettlesOnly u → InThisStep (Cause o t u) (Does (OnLink l (Settled place t u)) ∷ log)
 settled_caused o log l place t (outcome.Replied r) p = inl (l, place, refl)
 settled_caused o log l place t outcome.Disconnected p = inl (inl (l, place, refl))
 settled_caused o log l place t (outcome.GotLink k) p = absurd p
@@ -185,7 +185,7 @@ settled_caused o log l place t outcome.Exhausted p = absurd p
 
 serves_caused : (o : Chosen) (log : List Entry) (a : Act) → IsCaused o log a → AllCaused o (Does a ∷ log) (serves (view o log) a)
 serves_caused o log (OnLink l (Settled place t u)) p = (settled_caused o log l place t u p, tt)
-serves_caused o log (OnLink l Readied) p = got_caused o log l (Does (OnLink l Readied)) (waiting log)
+serves_caused o log (OnLink l Readied) p = got_caused o log l (OnLink l Readied) (waiting log)
 serves_caused o log (OnLink l (Ended closed)) p = fails_caused o log l closed (base log) (waiting log) refl
 serves_caused o log _ p = tt
 
@@ -223,7 +223,7 @@ caused o (Begins e ∷ log) r = brings_caused o (Begins e ∷ log) (view o log) 
 caused o (Does a ∷ log) r =
     let k : AllCaused o log (due o log) = caused o log r.0 in
     AllCaused-append o (Does a ∷ log) (at_once (view o log) a ++ drop 1 (due o log)) (serves (view o log) a)
-    (AllCaused-append o (Does a ∷ log) (at_once (view o log) a) (drop 1 (due o log)) (once_caused o log a) (all_later o log (Does a) (drop 1 (due o log)) (AllCaused-drop o log (due o log) k)))
+    (AllCaused-append o (Does a ∷ log) (at_once (view o log) a) (drop 1 (due o log)) (once_caused o log a) (all_later o log a (drop 1 (due o log)) (AllCaused-drop o log (due o log) k)))
     (serves_caused o log a (next_caused o log a r.0 k r.1))
 
 pub outcomes_are_caused : OutcomesAreCaused

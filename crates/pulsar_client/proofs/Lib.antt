@@ -13,3 +13,5 @@ pub mod Written
 pub mod Cuts
 pub mod Traces
 pub mod Causes
+pub mod Joined
+pub mod Doing

@@ -1,7 +1,7 @@
 -- What follows from the definition of a good run, in plain words.
 use Rattle.std.specs.Prelude.{◌≡◌, ℕ, ◌≤◌, length, ◌==◌, nat_lt, Bool, true, false, ◌⊎◌, if◌then◌else◌, List, [], ◌∷◌, ◌++◌, map, Option, Some, None}
 use Rattle.pulsar_wire.specs.declared.error.IoKind.TheVariants.{Other}
-use Rattle.std.specs.List.{filter_map}
+use Rattle.std.specs.List.{filter_map, flat_map}
 use Rattle.std.specs.Option.{option_to_list}
 use Rattle.pulsar_client.specs.declared.act.Arrival.{Arrival}
 use Rattle.pulsar_client.specs.declared.act.Outcome.{Outcome}
@@ -14,14 +14,14 @@ use Rattle.pulsar_client.specs.declared.act.Procedure.TheVariants.{Refused}
 use Rattle.pulsar_client.specs.declared.act.Action.{Action}
 use Rattle.pulsar_client.specs.declared.act.Action.TheVariants.{Answer, Finish}
 use Rattle.pulsar_client.specs.declared.act.Act.{Act}
-use Rattle.pulsar_client.specs.declared.act.Act.TheVariants.{Calls, Told, Answers, Builds, OnLink}
+use Rattle.pulsar_client.specs.declared.act.Act.TheVariants.{Calls, Told, Dials, Waits, Answers, Builds, OnLink}
 use Rattle.pulsar_client.specs.declared.tables.Base.TheVariants.{Runs}
 use Rattle.pulsar_client.specs.Messages.{Reply}
-use Rattle.pulsar_client.specs.Content.{Heard, Said, Done, Failed, Fault, Shutdown}
+use Rattle.pulsar_client.specs.Content.{Heard, Shown, Queued, Write, Said, Done, Failed, Fault, Shutdown, Exhausted}
 use Rattle.pulsar_client.specs.Plan.{next, fault_of, topics_in}
 use Rattle.pulsar_client.specs.Link.{Seen, Pending, arrivals, next_id, queued, settles, stage, unwritten, with_frame, frame_of, written_by}
 use Rattle.pulsar_client.specs.Local.{IsLinkRun}
-use Rattle.pulsar_client.specs.Log.{Chosen, Entry, Begins, Does, links, of_link, stream, calls, procedure_of, outcomes_of, base, seen_link, is_at, readies, spent}
+use Rattle.pulsar_client.specs.Log.{Chosen, Entry, Begins, Does, links, of_link, stream, calls, procedure_of, outcomes_of, base, seen_link, is_at, readies, spent, action_at, performs, view}
 use Rattle.pulsar_client.specs.Good.{IsRun, due, to_come, Step, Good}
 
 -- THE RUN
@@ -104,7 +104,35 @@ abbrev pub WrittenInOrder : Type 0
 WrittenInOrder = (o : Chosen) (log : List Entry) (l : ℕ) → IsRun o log → nat_lt l (links log) ≡ true →
     IsPrefix (frames_written o.first_number (of_link l log)) (frames_queued o.first_number (of_link l log))
 
+-- the bytes that an effect writes to a link, and those of the frame that it queues there
+abbrev pub written_on : ℕ → Shown → List ℕ
+written_on l (Write k bytes) = if l == k then bytes else []
+written_on l _ = []
+
+abbrev pub queued_on : ℕ → Shown → List ℕ
+queued_on l (Queued k place bytes) = if l == k then bytes else []
+queued_on l _ = []
+
+-- the bytes of all effects of a history, in order
+abbrev pub bytes_of : (Shown → List ℕ) → List Step → List ℕ
+bytes_of f [] = []
+bytes_of f (s ∷ h) = bytes_of f h ++ flat_map f s.effects
+
+-- the bytes that a good history writes to a connection are the first of those that it queued there, in order
+abbrev pub WritesFollow : Type 0
+WritesFollow = (o : Chosen) (h : List Step) (l : ℕ) → Good o h → IsPrefix (bytes_of (written_on l) h) (bytes_of (queued_on l) h)
+
 -- CALLS
+
+abbrev pub In : {A : Type 0} → A → List A → Type 0
+In x [] = ⊥
+In x (y ∷ ys) = (x ≡ y) ⊎ In x ys
+
+-- in the newest step of a log stands such an entry, before it such older ones
+abbrev pub InThisStep : (Entry → List Entry → Type 0) → List Entry → Type 0
+InThisStep P [] = ⊥
+InThisStep P (Begins e ∷ log) = P (Begins e) log
+InThisStep P (Does a ∷ log) = P (Does a) log ⊎ InThisStep P log
 
 -- what an action answers
 abbrev pub answer_in : Action → List Said
@@ -135,16 +163,36 @@ abbrev pub CallsFollow : Type 0
 CallsFollow = (o : Chosen) (log : List Entry) (t : ℕ) (p : Procedure) →
     IsRun o log → Rests o log → procedure_of t log ≡ Some p → answers t log ≡ said_along p [] (outcomes_of t log)
 
+-- the call that does an act
+abbrev pub caller : Act → Option ℕ
+caller (Dials ticket) = Some ticket
+caller (Waits ticket) = Some ticket
+caller (Answers ticket answer) = Some ticket
+caller (Builds ticket) = Some ticket
+caller (OnLink l (Requests request ticket)) = Some ticket
+caller _ = None
+
+-- what the procedure of a call does next, where it begins and where it is told an outcome
+abbrev pub next_at : ℕ → Entry → List Entry → Option Action
+next_at t (Does (Calls p)) older = if t == calls older then Some (next p []) else None
+next_at t (Does (Told ticket u)) older = if t == ticket then Some (action_at (procedure_of t older) (outcomes_of t older) u) else None
+next_at t _ older = None
+
+-- An act is of what the procedure does next. Where the tickets are spent a call is answered without any.
+pub data Follows (o : Chosen) (t : ℕ) (x : Act) (e : Entry) (older : List Entry) : Type 0 where
+  IsNext : (a : Action) → next_at t e older ≡ Some a → In x (performs (view o older) t a) → Follows o t x e older
+  IsSpent : (calls older == spent) ≡ true → x ≡ Answers spent (Failed Exhausted) → Follows o t x e older
+
+-- each act that a call does is what its procedure does next, in the same step
+abbrev pub ActsFollow : Type 0
+ActsFollow = (o : Chosen) (log : List Entry) (x : Act) (t : ℕ) → IsRun o (Does x ∷ log) → caller x ≡ Some t → InThisStep (Follows o t x) log
+
 -- a call ends at most once
 abbrev pub AnswersOnce : Type 0
 AnswersOnce = (o : Chosen) (log : List Entry) (t : ℕ) (p : Procedure) →
     IsRun o log → Rests o log → procedure_of t log ≡ Some p → length (answers t log) ≤ 1
 
 -- WHY A CALL FAILS
-
-abbrev pub In : {A : Type 0} → A → List A → Type 0
-In x [] = ⊥
-In x (y ∷ ys) = (x ≡ y) ⊎ In x ys
 
 -- a call fails with Shutdown where it is refused, and else with the fault of an outcome that it was told, or of a reply
 pub data Fails (p : Procedure) (os : List Outcome) (f : Fault) : Type 0 where
@@ -155,11 +203,6 @@ pub data Fails (p : Procedure) (os : List Outcome) (f : Fault) : Type 0 where
 abbrev pub FailuresAreTold : Type 0
 FailuresAreTold = (o : Chosen) (log : List Entry) (t : ℕ) (p : Procedure) (f : Fault) →
     IsRun o log → Rests o log → procedure_of t log ≡ Some p → In (Failed f) (answers t log) → Fails p (outcomes_of t log) f
-
--- somewhere in a log stands such an entry, behind such older ones
-abbrev pub Before : (Entry → List Entry → Type 0) → List Entry → Type 0
-Before P [] = ⊥
-Before P (e ∷ log) = P e log ⊎ Before P log
 
 -- a link ends while the attempt of this call runs
 abbrev pub AttemptEnds : ℕ → Entry → List Entry → Type 0
@@ -183,6 +226,6 @@ Cause o t outcome.Disconnected e older = IsSettled t outcome.Disconnected e ⊎ 
 Cause o t outcome.Exhausted e older = FindsLink o t (λ s. is_at (λ x. x.next_id == spent) s ≡ true) e older
 Cause o t _ e older = Unit {0}
 
--- whatever a call is told has its cause before
+-- whatever a call is told has its cause before, in the same step
 abbrev pub OutcomesAreCaused : Type 0
-OutcomesAreCaused = (o : Chosen) (log : List Entry) (t : ℕ) (u : Outcome) → IsRun o (Does (Told t u) ∷ log) → Before (Cause o t u) log
+OutcomesAreCaused = (o : Chosen) (log : List Entry) (t : ℕ) (u : Outcome) → IsRun o (Does (Told t u) ∷ log) → InThisStep (Cause o t u) log

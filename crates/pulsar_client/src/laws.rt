@@ -1,6 +1,6 @@
 //! What follows from the definition of a good run: each contract is a law, and its body is empty.
 
-ghost use Rattle.pulsar_client.specs.Laws.{AnswersOnce, CallsFollow, Determined, FailuresAreTold, FramesAreCut, LinksAlone, OutcomesAreCaused, SettledByFirst, WrittenInOrder};
+ghost use Rattle.pulsar_client.specs.Laws.{ActsFollow, AnswersOnce, CallsFollow, Determined, FailuresAreTold, FramesAreCut, LinksAlone, OutcomesAreCaused, SettledByFirst, WrittenInOrder, WritesFollow};
 ghost use Rattle.pulsar_client.specs.Traces.{IsGood, attempt_fails, reply_comes_early, request_is_answered};
 
 /// Options and events determine the effects of a good run.
@@ -50,7 +50,17 @@ pub fn failures_are_told()
     ensures { FailuresAreTold }
 {}
 
-/// Whatever a call is told has its cause before.
+/// Whatever a call is told has its cause before, in the same step.
 pub fn outcomes_are_caused()
     ensures { OutcomesAreCaused }
+{}
+
+/// The bytes that are written to a connection are the first of those that were queued there, in order.
+pub fn writes_follow()
+    ensures { WritesFollow }
+{}
+
+/// Each act that a call does is what its procedure does next, in the same step.
+pub fn acts_follow()
+    ensures { ActsFollow }
 {}

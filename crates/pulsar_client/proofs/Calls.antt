@@ -21,7 +21,7 @@ use Rattle.pulsar_client.specs.Link.{Seen, arrivals, link_rule, is_ready, fits_f
 use Rattle.pulsar_client.specs.Plan.{next}
 use Rattle.pulsar_client.specs.Log.{Chosen, Entry, Begins, Does, View, view, at_once, serves, performs, gets, asks, asks_on, fails, link_acts, brings, procedure_for, frames_of, seen_link, dials, opens, spent, action_at, calls, procedure_of, outcomes_of}
 use Rattle.pulsar_client.specs.Good.{due, to_come, IsRun, first, is_empty}
-use Rattle.pulsar_client.specs.Laws.{answer_in, said_along, answer_of, answers, CallsFollow}
+use Rattle.pulsar_client.specs.Laws.{answer_in, said_along, answer_of, answers, CallsFollow, CallsAreMade}
 
 -- LISTS OF ACTS
 
@@ -516,3 +516,39 @@ calls_follow o log t p r rests h =
     nothing : (xs ys : List Act) → xs ++ ys ≡ [] → xs ≡ []
     nothing [] ys e = refl
     nothing (x ∷ xs) ys e = absurd cc
+
+-- HOW A CALL IS MADE
+
+once_calls : (v : View) (a : Act) → NoCalls (at_once v a)
+once_calls v (Calls p) = (performed v v.calls (next p [])).calls_none
+once_calls v (Told t u) = (performed v t (v.at_outcome t u)).calls_none
+once_calls v (OnLink l x) = link_calls l (v.link l) x
+once_calls v _ = tt
+
+due_calls : (o : Chosen) (a : Act) (log : List Entry) → IsRun o log → NoCalls (due o (Does a ∷ log))
+due_calls o a log r =
+    NoCalls-append (at_once (view o log) a ++ drop 1 (due o log)) (serves (view o log) a)
+    (NoCalls-append (at_once (view o log) a) (drop 1 (due o log)) (once_calls (view o log) a) (CallsAlone-drop (due o log) (follows o log r).alone))
+    (told_calls (serves (view o log) a) (serves_told (view o log) a))
+
+made_first : (b : Bool) (p q : Procedure) → first (cond b (Answers spent (Failed Exhausted) ∷ []) (Calls q ∷ []) ++ []) ≡ Some (Calls p) → p ≡ q
+made_first true p q h = absurd cc
+made_first false p q h = cc
+
+one_first : (b : Bool) (p : Procedure) (l : ℕ) (x : LinkAct) → first (cond b (OnLink l x ∷ []) [] ++ []) ≡ Some (Calls p) → ⊥
+one_first true p l x h = cc
+one_first false p l x h = cc
+
+frames_first : (ys : List Act) (p : Procedure) → AllFrames ys → first ys ≡ Some (Calls p) → ⊥
+frames_first ys p all h = let f = frame_no ys (Calls p) all h in let e : Calls p ≡ OnLink f.0 f.1 = f.2 in cc
+
+pub calls_are_made : CallsAreMade
+calls_are_made o [] p r = absurd cc
+calls_are_made o (Begins (Called c) ∷ log) p r = (c, log, refl, made_first (calls log == spent) p (procedure_for (view o log).is_built c) r.1)
+calls_are_made o (Begins (Opened l) ∷ log) p r = absurd (one_first (dials ((view o log).link l)) p l Opens r.1)
+calls_are_made o (Begins (Drain l most) ∷ log) p r = absurd (one_first (opens ((view o log).link l)) p l (Drains most) r.1)
+calls_are_made o (Begins (Bytes l piece) ∷ log) p r = absurd (frames_first (frames_of (view o log) (Bytes l piece)) p (event_frames (view o log) (Bytes l piece)) r.1)
+calls_are_made o (Does a ∷ log) p r = elim (first_act (due o (Does a ∷ log)) (to_come o (Does a ∷ log)) (Calls p) r.1) [
+  | inl e ↦ (let f : true ≡ false = (subst NoCalls e (due_calls o a log r.0.0)).0 in absurd cc)
+  | inr w ↦ absurd (frames_first (to_come o (Does a ∷ log)) p (follows o (Does a ∷ log) r.0).frames w.1)
+]

@@ -17,11 +17,11 @@ use Rattle.pulsar_client.specs.declared.act.Act.{Act}
 use Rattle.pulsar_client.specs.declared.act.Act.TheVariants.{Calls, Told, Dials, Waits, Answers, Builds, OnLink}
 use Rattle.pulsar_client.specs.declared.tables.Base.TheVariants.{Runs}
 use Rattle.pulsar_client.specs.Messages.{Reply}
-use Rattle.pulsar_client.specs.Content.{Heard, Shown, Queued, Write, Said, Done, Failed, Fault, Shutdown, Exhausted}
+use Rattle.pulsar_client.specs.Content.{Asked, Heard, Called, Shown, Queued, Write, Said, Done, Failed, Fault, Shutdown, Exhausted}
 use Rattle.pulsar_client.specs.Plan.{next, fault_of, topics_in}
 use Rattle.pulsar_client.specs.Link.{Seen, Pending, arrivals, next_id, queued, settles, stage, unwritten, with_frame, frame_of, written_by}
 use Rattle.pulsar_client.specs.Local.{IsLinkRun}
-use Rattle.pulsar_client.specs.Log.{Chosen, Entry, Begins, Does, links, of_link, stream, calls, procedure_of, outcomes_of, base, seen_link, is_at, readies, spent, action_at, performs, view}
+use Rattle.pulsar_client.specs.Log.{Chosen, Entry, Begins, Does, links, of_link, stream, calls, procedure_of, outcomes_of, base, seen_link, is_at, readies, spent, action_at, performs, view, built, procedure_for}
 use Rattle.pulsar_client.specs.Good.{IsRun, due, to_come, Step, Good}
 
 -- THE RUN
@@ -133,6 +133,11 @@ abbrev pub InThisStep : (Entry → List Entry → Type 0) → List Entry → Typ
 InThisStep P [] = ⊥
 InThisStep P (Begins e ∷ log) = P (Begins e) log
 InThisStep P (Does a ∷ log) = P (Does a) log ⊎ InThisStep P log
+
+-- a call is made where the user asks for it, and is refused just where the client isn't built
+abbrev pub CallsAreMade : Type 0
+CallsAreMade = (o : Chosen) (log : List Entry) (p : Procedure) → IsRun o (Does (Calls p) ∷ log) →
+    (c : Asked) × (older : List Entry) × (log ≡ Begins (Called c) ∷ older) × (p ≡ procedure_for (built older) c)
 
 -- what an action answers
 abbrev pub answer_in : Action → List Said

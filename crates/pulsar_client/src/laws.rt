@@ -1,6 +1,6 @@
 //! What follows from the definition of a good run: each contract is a law, and its body is empty.
 
-ghost use Rattle.pulsar_client.specs.Laws.{ActsFollow, AnswersOnce, CallsFollow, Determined, FailuresAreTold, FramesAreCut, LinksAlone, OutcomesAreCaused, SettledByFirst, WrittenInOrder, WritesFollow};
+ghost use Rattle.pulsar_client.specs.Laws.{ActsFollow, AnswersOnce, CallsAreMade, CallsFollow, Determined, FailuresAreTold, FramesAreCut, LinksAlone, OutcomesAreCaused, SettledByFirst, WrittenInOrder, WritesFollow};
 ghost use Rattle.pulsar_client.specs.Traces.{IsGood, attempt_fails, reply_comes_early, request_is_answered};
 
 /// Options and events determine the effects of a good run.
@@ -63,4 +63,9 @@ pub fn writes_follow()
 /// Each act that a call does is what its procedure does next, in the same step.
 pub fn acts_follow()
     ensures { ActsFollow }
+{}
+
+/// A call is made where the user asks for it, and is refused just where the client is not built.
+pub fn calls_are_made()
+    ensures { CallsAreMade }
 {}

@@ -1,11 +1,17 @@
 //! What follows from the definition of a good run: each contract is a law, and its body is empty.
 
+ghost use Rattle.pulsar_client.specs.Client.{StoodForIsGood};
 ghost use Rattle.pulsar_client.specs.Laws.{ActsFollow, AnswersOnce, CallsAreMade, CallsFollow, Determined, FailuresAreTold, FramesAreCut, LinksAlone, OutcomesAreCaused, SettledByFirst, WrittenInOrder, WritesFollow};
 ghost use Rattle.pulsar_client.specs.Traces.{IsGood, attempt_fails, reply_comes_early, request_is_answered};
 
 /// Options and events determine the effects of a good run.
 pub fn determined()
     ensures { Determined }
+{}
+
+/// Every history that a client stands for is good.
+pub fn stood_for_is_good()
+    ensures { StoodForIsGood }
 {}
 
 /// What names a link in a run is a run of that link by itself.

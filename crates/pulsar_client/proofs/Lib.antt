@@ -3,3 +3,15 @@ pub mod Pendings
 pub mod Rows
 pub mod Runs
 pub mod Streams
+pub mod Unique
+pub mod Local
+pub mod Settled
+pub mod Calls
+pub mod Once
+pub mod Stages
+pub mod Written
+pub mod Cuts
+pub mod Traces
+pub mod Causes
+pub mod Joined
+pub mod Doing

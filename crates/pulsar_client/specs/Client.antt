@@ -2,7 +2,7 @@
 use Rattle.std.specs.Prelude.{◌≡◌, ℕ, List, true, false}
 use Rattle.pulsar_client.specs.declared.options.ClientOptions.{ClientOptions}
 use Rattle.pulsar_client.specs.declared.pulsar.Pulsar.{Pulsar}
-use Rattle.pulsar_client.specs.Good.{Step}
+use Rattle.pulsar_client.specs.Good.{Good, Step}
 use Rattle.pulsar_client.specs.Content.{Heard}
 use Rattle.pulsar_client.specs.Log.{Chosen, is_live}
 use Rattle.pulsar_client.specs.Tables.{Stands, view_of}
@@ -27,3 +27,7 @@ IsDead c e = is_live (view_of c.tables) e ≡ false
 -- the ticket of the next call
 abbrev pub next_ticket : Pulsar → ℕ
 next_ticket c = c.tables.tickets
+
+-- every history that a client stands for is good
+abbrev pub StoodForIsGood : Type 0
+StoodForIsGood = (o : Chosen) (c : Pulsar) (h : List Step) → StandsFor o c h → Good o h

@@ -7,3 +7,6 @@ pub mod Good
 pub mod Tables
 pub mod Client
 pub mod Outside
+pub mod Local
+pub mod Laws
+pub mod Traces

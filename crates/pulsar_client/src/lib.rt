@@ -5,6 +5,7 @@ mod act;
 mod content;
 pub mod effect;
 pub mod event;
+pub mod laws;
 pub mod options;
 mod order;
 pub mod outside;
@@ -12,3 +13,5 @@ mod plans;
 pub mod pulsar;
 mod session;
 mod tables;
+#[cfg(test)]
+mod tests;

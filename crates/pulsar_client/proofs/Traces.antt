@@ -1,0 +1,124 @@
+-- Three small runs are good, by computing.
+use Rattle.std.proofs.Common.{true, List, [], ◌∷◌, Some, None, refl, codes}
+use Rattle.std.specs.Str.{is_utf8, chars}
+use Rattle.std.specs.Char.{encode_utf8}
+use Rattle.pulsar_wire.specs.declared.error.IoKind.TheVariants.{Other}
+use Rattle.pulsar_wire.specs.declared.key.RequestKey.TheVariants.{RequestId}
+use Rattle.pulsar_wire.specs.declared.commands.topics.Mode.TheVariants as modes
+use Rattle.pulsar_wire.specs.Field.{bytes_at, fields, fields_within, field_at, value_at, varint_within}
+use Rattle.pulsar_wire.specs.Row.{reading, value, spelling, varint_in}
+use Rattle.pulsar_wire.specs.Command.{command_reading, some_body}
+use Rattle.pulsar_frame.specs.Sized.{sized_at, with_size}
+use Rattle.pulsar_frame.specs.Key.{key}
+use Rattle.pulsar_frame.specs.Frame.{content, front, cut_within, cut, left, bad, frame_bytes}
+use Rattle.pulsar_client.specs.declared.act.Arrival.TheVariants.{Message}
+use Rattle.pulsar_client.specs.declared.act.Outcome.TheVariants as outcome
+use Rattle.pulsar_client.specs.declared.act.Procedure.TheVariants as procedure
+use Rattle.pulsar_client.specs.declared.act.Request.TheVariants as request
+use Rattle.pulsar_client.specs.declared.act.LinkAct.TheVariants.{Opens, Comes, Drains, Requests, Greets, Readied, Ended, Settled}
+use Rattle.pulsar_client.specs.declared.act.Act.TheVariants.{Calls, Told, Dials, Waits, Answers, Builds, OnLink}
+use Rattle.pulsar_client.specs.Content.{Called, Build, Opened, Bytes, Drain, Names, Failed, Io, Canceled}
+use Rattle.pulsar_client.specs.Messages.{Reply}
+use Rattle.pulsar_client.specs.Log.{Entry, Begins, Does}
+use Rattle.pulsar_client.specs.Good.{IsRun}
+use Rattle.pulsar_client.specs.Traces.{numbered_from_zero, connected, topics_reply, asks_topics, request_is_answered, reply_comes_early, attempt_fails, IsGood}
+
+abbrev greeting : Reply
+greeting = record { body = Some 3; key = None; topics = [] }
+
+abbrev names : Reply
+names = record { body = Some 33; key = Some (RequestId 0); topics = codes "t" ∷ [] }
+
+-- a client is built
+abbrev built_log : List Entry
+built_log =
+    Does (Builds 0)
+    ∷ Does (Told 0 (outcome.GotLink 0))
+    ∷ Does (OnLink 0 Readied)
+    ∷ Does (OnLink 0 (Comes (Message greeting)))
+    ∷ Begins (Bytes 0 connected)
+    ∷ Does (OnLink 0 (Drains 8))
+    ∷ Begins (Drain 0 8)
+    ∷ Does (OnLink 0 Greets)
+    ∷ Does (OnLink 0 Opens)
+    ∷ Begins (Opened 0)
+    ∷ Does (Waits 0)
+    ∷ Does (Dials 0)
+    ∷ Does (Calls procedure.Build)
+    ∷ Begins (Called Build)
+    ∷ []
+
+built_run : IsRun numbered_from_zero built_log
+unfolding cut cut_within left bad front content frame_bytes sized_at with_size bytes_at command_reading fields fields_within field_at value_at varint_within some_body reading value spelling varint_in key is_utf8 chars encode_utf8
+built_run = ((((((((((((((tt, refl), refl), refl), refl), refl), refl), refl), refl), refl), refl), refl), refl), refl), refl)
+
+-- a request is answered
+abbrev answered_log : List Entry
+answered_log =
+    Does (Answers 1 (Names (codes "t" ∷ [])))
+    ∷ Does (Told 1 (outcome.Replied names))
+    ∷ Does (OnLink 0 (Settled 1 1 (outcome.Replied names)))
+    ∷ Does (OnLink 0 (Comes (Message names)))
+    ∷ Begins (Bytes 0 topics_reply)
+    ∷ Does (OnLink 0 (Requests (request.Topics (codes "n") modes.All) 1))
+    ∷ Does (Told 1 (outcome.GotLink 0))
+    ∷ Does (Calls (procedure.Topics (codes "n") modes.All))
+    ∷ Begins asks_topics
+    ∷ built_log
+
+answered_run : IsRun numbered_from_zero answered_log
+unfolding cut cut_within left bad front content frame_bytes sized_at with_size bytes_at command_reading fields fields_within field_at value_at varint_within some_body reading value spelling varint_in key is_utf8 chars encode_utf8
+answered_run = (((((((((built_run, refl), refl), refl), refl), refl), refl), refl), refl), refl)
+
+pub answered_good : IsGood request_is_answered
+unfolding cut cut_within left bad front content frame_bytes sized_at with_size bytes_at command_reading fields fields_within field_at value_at varint_within some_body reading value spelling varint_in key is_utf8 chars encode_utf8
+answered_good = record { log = answered_log; run = answered_run; rests = refl; same = refl }
+
+-- a reply comes before its request
+abbrev early_log : List Entry
+early_log =
+    Does (OnLink 0 (Requests (request.Topics (codes "n") modes.All) 1))
+    ∷ Does (Told 1 (outcome.GotLink 0))
+    ∷ Does (Calls (procedure.Topics (codes "n") modes.All))
+    ∷ Begins asks_topics
+    ∷ Does (OnLink 0 (Comes (Message names)))
+    ∷ Begins (Bytes 0 topics_reply)
+    ∷ built_log
+
+early_run : IsRun numbered_from_zero early_log
+unfolding cut cut_within left bad front content frame_bytes sized_at with_size bytes_at command_reading fields fields_within field_at value_at varint_within some_body reading value spelling varint_in key is_utf8 chars encode_utf8
+early_run = ((((((built_run, refl), refl), refl), refl), refl), refl)
+
+pub early_good : IsGood reply_comes_early
+unfolding cut cut_within left bad front content frame_bytes sized_at with_size bytes_at command_reading fields fields_within field_at value_at varint_within some_body reading value spelling varint_in key is_utf8 chars encode_utf8
+early_good = record { log = early_log; run = early_run; rests = refl; same = refl }
+
+-- an attempt fails
+abbrev failed_log : List Entry
+failed_log =
+    Does (Answers 1 (Failed Canceled))
+    ∷ Does (Told 1 outcome.Canceled)
+    ∷ Does (Answers 0 (Failed (Io Other)))
+    ∷ Does (Told 0 (outcome.Failed Other))
+    ∷ Does (OnLink 0 (Ended true))
+    ∷ Does (OnLink 0 (Comes (Message names)))
+    ∷ Begins (Bytes 0 topics_reply)
+    ∷ Does (OnLink 0 Greets)
+    ∷ Does (OnLink 0 Opens)
+    ∷ Begins (Opened 0)
+    ∷ Does (Waits 1)
+    ∷ Does (Calls procedure.Build)
+    ∷ Begins (Called Build)
+    ∷ Does (Waits 0)
+    ∷ Does (Dials 0)
+    ∷ Does (Calls procedure.Build)
+    ∷ Begins (Called Build)
+    ∷ []
+
+failed_run : IsRun numbered_from_zero failed_log
+unfolding cut cut_within left bad front content frame_bytes sized_at with_size bytes_at command_reading fields fields_within field_at value_at varint_within some_body reading value spelling varint_in key is_utf8 chars encode_utf8
+failed_run = (((((((((((((((((tt, refl), refl), refl), refl), refl), refl), refl), refl), refl), refl), refl), refl), refl), refl), refl), refl), refl)
+
+pub failed_good : IsGood attempt_fails
+unfolding cut cut_within left bad front content frame_bytes sized_at with_size bytes_at command_reading fields fields_within field_at value_at varint_within some_body reading value spelling varint_in key is_utf8 chars encode_utf8
+failed_good = record { log = failed_log; run = failed_run; rests = refl; same = refl }

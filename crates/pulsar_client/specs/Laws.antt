@@ -1,0 +1,236 @@
+-- What follows from the definition of a good run, in plain words.
+use Rattle.std.specs.Prelude.{◌≡◌, ℕ, ◌≤◌, length, ◌==◌, nat_lt, Bool, true, false, ◌⊎◌, if◌then◌else◌, List, [], ◌∷◌, ◌++◌, map, Option, Some, None}
+use Rattle.pulsar_wire.specs.declared.error.IoKind.TheVariants.{Other}
+use Rattle.std.specs.List.{filter_map, flat_map}
+use Rattle.std.specs.Option.{option_to_list}
+use Rattle.pulsar_client.specs.declared.act.Arrival.{Arrival}
+use Rattle.pulsar_client.specs.declared.act.Outcome.{Outcome}
+use Rattle.pulsar_client.specs.declared.act.Outcome.TheVariants as outcome
+use Rattle.pulsar_client.specs.declared.act.Request.{Request}
+use Rattle.pulsar_client.specs.declared.act.LinkAct.{LinkAct}
+use Rattle.pulsar_client.specs.declared.act.LinkAct.TheVariants.{Comes, Requests, Ended, Settled}
+use Rattle.pulsar_client.specs.declared.act.Procedure.{Procedure}
+use Rattle.pulsar_client.specs.declared.act.Procedure.TheVariants.{Refused}
+use Rattle.pulsar_client.specs.declared.act.Action.{Action}
+use Rattle.pulsar_client.specs.declared.act.Action.TheVariants.{Answer, Finish}
+use Rattle.pulsar_client.specs.declared.act.Act.{Act}
+use Rattle.pulsar_client.specs.declared.act.Act.TheVariants.{Calls, Told, Dials, Waits, Answers, Builds, OnLink}
+use Rattle.pulsar_client.specs.declared.tables.Base.TheVariants.{Runs}
+use Rattle.pulsar_client.specs.Messages.{Reply}
+use Rattle.pulsar_client.specs.Content.{Asked, Heard, Called, Shown, Queued, Write, Said, Done, Failed, Fault, Shutdown, Exhausted}
+use Rattle.pulsar_client.specs.Plan.{next, fault_of, topics_in}
+use Rattle.pulsar_client.specs.Link.{Seen, Pending, arrivals, next_id, queued, settles, stage, unwritten, with_frame, frame_of, written_by}
+use Rattle.pulsar_client.specs.Local.{IsLinkRun}
+use Rattle.pulsar_client.specs.Log.{Chosen, Entry, Begins, Does, links, of_link, stream, calls, procedure_of, outcomes_of, base, seen_link, is_at, readies, spent, action_at, performs, view, built, procedure_for}
+use Rattle.pulsar_client.specs.Good.{IsRun, due, to_come, Step, Good}
+
+-- THE RUN
+
+-- the events of a history
+abbrev pub events : List Step → List Heard
+events h = map (λ s. s.event) h
+
+-- options and events determine the effects of a good run
+abbrev pub Determined : Type 0
+Determined = (o : Chosen) (h h' : List Step) → Good o h → Good o h' → events h ≡ events h' → h ≡ h'
+
+-- what names a link in a run is a run of that link by itself
+abbrev pub LinksAlone : Type 0
+LinksAlone = (o : Chosen) (log : List Entry) (l : ℕ) → IsRun o log → nat_lt l (links log) ≡ true → IsLinkRun o.first_number (of_link l log)
+
+-- nothing is left to do: so it is wherever a step has ended
+abbrev pub Rests : Chosen → List Entry → Type 0
+Rests o log = due o log ++ to_come o log ≡ []
+
+-- REQUESTS
+
+-- the request that is asked after this history of a link
+abbrev pub request_at : ℕ → List LinkAct → ℕ → Pending
+request_at first_number h ticket = record { id = next_id first_number h; place = queued h; ticket = ticket }
+
+abbrev pub or_else : {A : Type 0} → Option A → Option A → Option A
+or_else None y = y
+or_else (Some x) y = Some x
+
+-- what the first of the later acts that settles a request settles it as; these are newest first
+abbrev pub outcome_in : Pending → List LinkAct → Option Outcome
+outcome_in r [] = None
+outcome_in r (act ∷ later) = or_else (outcome_in r later) (settles act r)
+
+-- what an act says that the request of a place was settled as
+abbrev pub settled_at : ℕ → LinkAct → Option Outcome
+settled_at place (Settled p ticket outcome) = if p == place then Some outcome else None
+settled_at place _ = None
+
+-- A request is settled once, by the first later frame of its link that bears its key or by the link's end, whichever comes
+-- first, and not at all where neither has come. What came before it settles nothing.
+abbrev pub SettledByFirst : Type 0
+SettledByFirst = (o : Chosen) (log : List Entry) (l : ℕ) (later older : List LinkAct) (request : Request) (ticket : ℕ) →
+    IsRun o log → nat_lt l (links log) ≡ true → Rests o log →
+    of_link l log ≡ later ++ Requests request ticket ∷ older →
+    filter_map (settled_at (queued older)) later ≡ option_to_list (outcome_in (request_at o.first_number older ticket) later)
+
+-- FRAMES THAT COME
+
+-- what came to a link, in order
+abbrev pub came : List LinkAct → List Arrival
+came [] = []
+came (Comes arrival ∷ h) = came h ++ arrival ∷ []
+came (_ ∷ h) = came h
+
+-- what has come to a link is what the bytes of its stream are cut into: each frame whole, once and in order, however the
+-- bytes were cut into pieces
+abbrev pub FramesAreCut : Type 0
+FramesAreCut = (o : Chosen) (log : List Entry) (l : ℕ) → IsRun o log → nat_lt l (links log) ≡ true → Rests o log →
+    came (of_link l log) ≡ arrivals (stream o l log)
+
+-- FRAMES THAT ARE WRITTEN
+
+abbrev pub IsPrefix : {A : Type 0} → List A → List A → Type 0
+IsPrefix {A} xs ys = (rest : List A) × (xs ++ rest ≡ ys)
+
+-- the frames that were queued on a link, in order
+abbrev pub frames_queued : ℕ → List LinkAct → List (List ℕ)
+frames_queued first_number [] = []
+frames_queued first_number (act ∷ h) = with_frame (frame_of act (next_id first_number h)) (frames_queued first_number h)
+
+-- the frames that were written on it, in order
+abbrev pub frames_written : ℕ → List LinkAct → List (List ℕ)
+frames_written first_number [] = []
+frames_written first_number (act ∷ h) = frames_written first_number h ++ written_by act (stage h) (unwritten first_number h)
+
+-- the frames that are written on a link are the first of those that were queued, in their order, each once
+abbrev pub WrittenInOrder : Type 0
+WrittenInOrder = (o : Chosen) (log : List Entry) (l : ℕ) → IsRun o log → nat_lt l (links log) ≡ true →
+    IsPrefix (frames_written o.first_number (of_link l log)) (frames_queued o.first_number (of_link l log))
+
+-- the bytes that an effect writes to a link, and those of the frame that it queues there
+abbrev pub written_on : ℕ → Shown → List ℕ
+written_on l (Write k bytes) = if l == k then bytes else []
+written_on l _ = []
+
+abbrev pub queued_on : ℕ → Shown → List ℕ
+queued_on l (Queued k place bytes) = if l == k then bytes else []
+queued_on l _ = []
+
+-- the bytes of all effects of a history, in order
+abbrev pub bytes_of : (Shown → List ℕ) → List Step → List ℕ
+bytes_of f [] = []
+bytes_of f (s ∷ h) = bytes_of f h ++ flat_map f s.effects
+
+-- the bytes that a good history writes to a connection are the first of those that it queued there, in order
+abbrev pub WritesFollow : Type 0
+WritesFollow = (o : Chosen) (h : List Step) (l : ℕ) → Good o h → IsPrefix (bytes_of (written_on l) h) (bytes_of (queued_on l) h)
+
+-- CALLS
+
+abbrev pub In : {A : Type 0} → A → List A → Type 0
+In x [] = ⊥
+In x (y ∷ ys) = (x ≡ y) ⊎ In x ys
+
+-- in the newest step of a log stands such an entry, before it such older ones
+abbrev pub InThisStep : (Entry → List Entry → Type 0) → List Entry → Type 0
+InThisStep P [] = ⊥
+InThisStep P (Begins e ∷ log) = P (Begins e) log
+InThisStep P (Does a ∷ log) = P (Does a) log ⊎ InThisStep P log
+
+-- a call is made where the user asks for it, and is refused just where the client isn't built
+abbrev pub CallsAreMade : Type 0
+CallsAreMade = (o : Chosen) (log : List Entry) (p : Procedure) → IsRun o (Does (Calls p) ∷ log) →
+    (c : Asked) × (older : List Entry) × (log ≡ Begins (Called c) ∷ older) × (p ≡ procedure_for (built older) c)
+
+-- what an action answers
+abbrev pub answer_in : Action → List Said
+answer_in (Answer answer) = answer ∷ []
+answer_in Finish = Done ∷ []
+answer_in _ = []
+
+-- what a procedure answers along its outcomes, after those before
+abbrev pub said_along : Procedure → List Outcome → List Outcome → List Said
+said_along p before [] = answer_in (next p before)
+said_along p before (o ∷ os) = answer_in (next p before) ++ said_along p (before ++ o ∷ []) os
+
+-- what an act answers a call
+abbrev pub answer_of : ℕ → Act → List Said
+answer_of t (Answers ticket answer) = if t == ticket then answer ∷ [] else []
+answer_of t (Builds ticket) = if t == ticket then Done ∷ [] else []
+answer_of t _ = []
+
+-- the answers of a call since it was made, oldest first
+abbrev pub answers : ℕ → List Entry → List Said
+answers t [] = []
+answers t (Begins e ∷ log) = answers t log
+answers t (Does (Calls p) ∷ log) = if t == calls log then [] else answers t log
+answers t (Does act ∷ log) = answers t log ++ answer_of t act
+
+-- wherever a step has ended, a call has given just the answers that its procedure gives along its outcomes: none later
+abbrev pub CallsFollow : Type 0
+CallsFollow = (o : Chosen) (log : List Entry) (t : ℕ) (p : Procedure) →
+    IsRun o log → Rests o log → procedure_of t log ≡ Some p → answers t log ≡ said_along p [] (outcomes_of t log)
+
+-- the call that does an act
+abbrev pub caller : Act → Option ℕ
+caller (Dials ticket) = Some ticket
+caller (Waits ticket) = Some ticket
+caller (Answers ticket answer) = Some ticket
+caller (Builds ticket) = Some ticket
+caller (OnLink l (Requests request ticket)) = Some ticket
+caller _ = None
+
+-- what the procedure of a call does next, where it begins and where it is told an outcome
+abbrev pub next_at : ℕ → Entry → List Entry → Option Action
+next_at t (Does (Calls p)) older = if t == calls older then Some (next p []) else None
+next_at t (Does (Told ticket u)) older = if t == ticket then Some (action_at (procedure_of t older) (outcomes_of t older) u) else None
+next_at t _ older = None
+
+-- An act is of what the procedure does next. Where the tickets are spent a call is answered without any.
+pub data Follows (o : Chosen) (t : ℕ) (x : Act) (e : Entry) (older : List Entry) : Type 0 where
+  IsNext : (a : Action) → next_at t e older ≡ Some a → In x (performs (view o older) t a) → Follows o t x e older
+  IsSpent : (calls older == spent) ≡ true → x ≡ Answers spent (Failed Exhausted) → Follows o t x e older
+
+-- each act that a call does is what its procedure does next, in the same step
+abbrev pub ActsFollow : Type 0
+ActsFollow = (o : Chosen) (log : List Entry) (x : Act) (t : ℕ) → IsRun o (Does x ∷ log) → caller x ≡ Some t → InThisStep (Follows o t x) log
+
+-- a call ends at most once
+abbrev pub AnswersOnce : Type 0
+AnswersOnce = (o : Chosen) (log : List Entry) (t : ℕ) (p : Procedure) →
+    IsRun o log → Rests o log → procedure_of t log ≡ Some p → length (answers t log) ≤ 1
+
+-- WHY A CALL FAILS
+
+-- a call fails with Shutdown where it is refused, and else with the fault of an outcome that it was told, or of a reply
+pub data Fails (p : Procedure) (os : List Outcome) (f : Fault) : Type 0 where
+  IsRefused : p ≡ Refused → f ≡ Shutdown → Fails p os f
+  IsTold : (u : Outcome) → In u os → f ≡ fault_of u → Fails p os f
+  IsReplied : (r : Reply) → In (outcome.Replied r) os → Failed f ≡ topics_in r → Fails p os f
+
+abbrev pub FailuresAreTold : Type 0
+FailuresAreTold = (o : Chosen) (log : List Entry) (t : ℕ) (p : Procedure) (f : Fault) →
+    IsRun o log → Rests o log → procedure_of t log ≡ Some p → In (Failed f) (answers t log) → Fails p (outcomes_of t log) f
+
+-- a link ends while the attempt of this call runs
+abbrev pub AttemptEnds : ℕ → Entry → List Entry → Type 0
+AttemptEnds starter e older = (l : ℕ) × (closed : Bool) × (e ≡ Does (OnLink l (Ended closed))) × (base older ≡ Runs starter)
+
+-- a request of this call is settled so
+abbrev pub IsSettled : ℕ → Outcome → Entry → Type 0
+IsSettled t u e = (l : ℕ) × (place : ℕ) × (e ≡ Does (OnLink l (Settled place t u)))
+
+-- this call is told its link, and the link is so
+abbrev pub FindsLink : Chosen → ℕ → (Option Seen → Type 0) → Entry → List Entry → Type 0
+FindsLink o t P e older = (u : Outcome) × (l : ℕ) × (e ≡ Does (Told t u)) × P (seen_link o older l)
+
+-- Why a call is told an outcome. Failed: the attempt that it started ended. Canceled: the attempt of another call ended.
+-- Replied, Disconnected: its request was settled so, or its link was not ready. Exhausted: the link's numbers are spent.
+abbrev pub Cause : Chosen → ℕ → Outcome → Entry → List Entry → Type 0
+Cause o t (outcome.Failed kind) e older = AttemptEnds t e older × (kind ≡ Other)
+Cause o t outcome.Canceled e older = (starter : ℕ) × ((t == starter) ≡ false) × AttemptEnds starter e older
+Cause o t (outcome.Replied r) e older = IsSettled t (outcome.Replied r) e
+Cause o t outcome.Disconnected e older = IsSettled t outcome.Disconnected e ⊎ FindsLink o t (λ s. readies s ≡ false) e older
+Cause o t outcome.Exhausted e older = FindsLink o t (λ s. is_at (λ x. x.next_id == spent) s ≡ true) e older
+Cause o t _ e older = Unit {0}
+
+-- whatever a call is told has its cause before, in the same step
+abbrev pub OutcomesAreCaused : Type 0
+OutcomesAreCaused = (o : Chosen) (log : List Entry) (t : ℕ) (u : Outcome) → IsRun o (Does (Told t u) ∷ log) → InThisStep (Cause o t u) log

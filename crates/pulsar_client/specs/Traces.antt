@@ -1,0 +1,66 @@
+-- Three small runs, by their histories, oldest step first. Each is good.
+use Rattle.std.specs.Prelude.{ℕ, List, [], ◌∷◌, ◌++◌, reverse, codes}
+use Rattle.pulsar_wire.specs.declared.error.IoKind.TheVariants.{Other}
+use Rattle.pulsar_wire.specs.declared.commands.topics.Mode.TheVariants as modes
+use Rattle.pulsar_frame.specs.Frame.{frame_bytes}
+use Rattle.pulsar_client.specs.declared.effect.Settlement.TheVariants as settlement
+use Rattle.pulsar_client.specs.Content.{Heard, Called, Build, Topics, Opened, Bytes, Drain, Shown, Connect, Queued, Write, Settles, Ends, Close, Done, Names, Failed, Io, Canceled}
+use Rattle.pulsar_client.specs.Messages.{connect_message, topics_message}
+use Rattle.pulsar_client.specs.Log.{Chosen}
+use Rattle.pulsar_client.specs.Good.{Step, Good, base_host, base_port}
+
+abbrev pub numbered_from_zero : Chosen
+numbered_from_zero = record { first_number = 0 }
+
+abbrev pub step_of : Heard → List Shown → Step
+step_of event effects = record { event = event; effects = effects }
+
+-- a frame of the broker: connected, of a server of version p
+abbrev pub connected : List ℕ
+connected = 0 ∷ 0 ∷ 0 ∷ 11 ∷ 0 ∷ 0 ∷ 0 ∷ 7 ∷ 8 ∷ 3 ∷ 26 ∷ 3 ∷ 10 ∷ 1 ∷ 112 ∷ []
+
+-- a frame of the broker: the topics of request 0, which are t alone
+abbrev pub topics_reply : List ℕ
+topics_reply = 0 ∷ 0 ∷ 0 ∷ 14 ∷ 0 ∷ 0 ∷ 0 ∷ 10 ∷ 8 ∷ 33 ∷ 138 ∷ 2 ∷ 5 ∷ 8 ∷ 0 ∷ 18 ∷ 1 ∷ 116 ∷ []
+
+abbrev pub asks_topics : Heard
+asks_topics = Called (Topics (codes "n") modes.All)
+
+-- the first steps: a call builds the client
+abbrev pub builds : List Step
+builds =
+    step_of (Called Build) (Connect 0 base_host base_port ∷ [])
+    ∷ step_of (Opened 0) (Queued 0 0 (frame_bytes connect_message) ∷ [])
+    ∷ step_of (Drain 0 8) (Write 0 (frame_bytes connect_message) ∷ [])
+    ∷ step_of (Bytes 0 connected) (Ends 0 Done ∷ [])
+    ∷ []
+
+abbrev pub asks_then : Shown
+asks_then = Queued 0 1 (frame_bytes (topics_message 0 (codes "n") modes.All))
+
+-- a request is answered by the frame that bears its key
+abbrev pub request_is_answered : List Step
+request_is_answered =
+    builds ++ (step_of asks_topics (asks_then ∷ [])
+    ∷ step_of (Bytes 0 topics_reply) (Settles 0 1 settlement.Reply ∷ Ends 1 (Names (codes "t" ∷ [])) ∷ [])
+    ∷ [])
+
+-- a reply that comes before its request settles nothing: the request waits
+abbrev pub reply_comes_early : List Step
+reply_comes_early =
+    builds ++ (step_of (Bytes 0 topics_reply) []
+    ∷ step_of asks_topics (asks_then ∷ [])
+    ∷ [])
+
+-- an attempt fails for which two calls wait: the one that started it is told why, and the other that it is canceled
+abbrev pub attempt_fails : List Step
+attempt_fails =
+    step_of (Called Build) (Connect 0 base_host base_port ∷ [])
+    ∷ step_of (Called Build) []
+    ∷ step_of (Opened 0) (Queued 0 0 (frame_bytes connect_message) ∷ [])
+    ∷ step_of (Bytes 0 topics_reply) (Ends 0 (Failed (Io Other)) ∷ Ends 1 (Failed Canceled) ∷ Close 0 ∷ [])
+    ∷ []
+
+-- oldest step first
+abbrev pub IsGood : List Step → Type 0
+IsGood history = Good numbered_from_zero (reverse history)

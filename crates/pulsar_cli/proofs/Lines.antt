@@ -1,6 +1,6 @@
 -- Lines, as a loop finds them.
-use Rattle.std.proofs.Common.{◌≡◌, ◌==◌, ℕ, ◌+◌, ◌-◌, ◌<◌, ◌≤◌, ◌∙◌, sym, ap, List, [], ◌∷◌, ◌++◌, refl, arith, Bool, true, false, cond, Option, Some, None, nat_lt, length, take, drop, get_or, append_assoc, append-nil}
-use Rattle.std.specs.List.{All, position, position_or_len, slice_split, before_first, after_first}
+use Rattle.std.proofs.Common.{◌≡◌, ◌==◌, ℕ, ◌+◌, ◌-◌, ◌<◌, ◌≤◌, ◌∙◌, sym, ap, List, [], ◌∷◌, ◌++◌, refl, arith, Bool, true, false, cond, Some, None, nat_lt, length, take, drop, append_assoc, append-nil}
+use Rattle.std.specs.List.{position, position_or_len, before_first, after_first}
 use Rattle.std.proofs.Math.Seq.{take-length}
 use Rattle.std.proofs.lemmas.Bool.{eqb-true}
 use Rattle.std.proofs.lemmas.Bool.Decides.{nat_tests}

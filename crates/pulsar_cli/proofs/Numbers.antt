@@ -1,5 +1,5 @@
 -- Decimal numbers, as a loop reads them.
-use Rattle.std.proofs.Common.{◌≡◌, sym, ℕ, ◌+◌, ◌-◌, ◌*◌, ◌^◌, ◌≤◌, ◌<◌, List, [], ◌∷◌, refl, arith, Bool, true, false, cond, Option, Some, None, nat_lt, length}
+use Rattle.std.proofs.Common.{◌≡◌, sym, ℕ, ◌+◌, ◌-◌, ◌*◌, ◌^◌, ◌≤◌, ◌<◌, List, [], ◌∷◌, refl, arith, Bool, true, false, Option, Some, None, nat_lt, length}
 use Rattle.std.specs.Option.{SomeIff}
 use Rattle.std.proofs.lemmas.Bool.Decides.{nat_tests}
 use Rattle.pulsar_cli.specs.Words.{digits_from, in_range, is_digit, number}

@@ -1,5 +1,5 @@
 -- What a reading knows of its script.
-use Rattle.std.proofs.Common.{◌≡◌, ℕ, ◌+◌, ◌∙◌, sym, ap, List, [], ◌∷◌, ◌++◌, refl, arith, Option, Some, None, length, append_assoc, append-nil, length-append}
+use Rattle.std.proofs.Common.{◌≡◌, ℕ, ◌+◌, ◌∙◌, sym, ap, List, [], ◌∷◌, ◌++◌, refl, arith, Option, Some, None, append_assoc, append-nil, length-append}
 use Rattle.std.specs.Prelude.{string_bytes}
 use Rattle.pulsar_wire.specs.Field.{◌>>=◌}
 use Rattle.pulsar_client.specs.Content.{Heard, Shown}
@@ -8,7 +8,7 @@ use Rattle.pulsar_client.specs.Good.{Step}
 use Rattle.pulsar_cli.specs.Grammar.{Line, Nothing, Happens, Refused, line, lines}
 use Rattle.pulsar_cli.specs.Script.{options, with_line, events_of, happened, text}
 use Rattle.pulsar_cli.specs.Text.{step}
-use Rattle.pulsar_cli.specs.Shown.{IsWithinLine, Reads, Refuses, Running, Splits}
+use Rattle.pulsar_cli.specs.Shown.{IsWithinLine, Reads, Refuses, Running}
 use Rattle.pulsar_cli.proofs.Lines.{ends-line, feed, goes-on}
 use Rattle.pulsar_cli.specs.declared.reading.Reading.{Reading}
 

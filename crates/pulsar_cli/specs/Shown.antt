@@ -1,5 +1,5 @@
 -- For the code's contracts alone: what its values stand for.
-use Rattle.std.specs.Prelude.{◌≡◌, ◌==◌, ℕ, ◌+◌, List, [], ◌∷◌, ◌++◌, Option, Some, None, false, length, string_bytes, Result, Ok, Err}
+use Rattle.std.specs.Prelude.{◌≡◌, ◌==◌, ℕ, ◌+◌, List, ◌∷◌, ◌++◌, Option, Some, None, false, length, string_bytes, Result, Ok, Err}
 use Rattle.std.specs.List.{All}
 use Rattle.pulsar_cli.specs.Words.{digits_from, in_range}
 use Rattle.pulsar_cli.specs.declared.grammar.line.Line.{Line as Parsed}

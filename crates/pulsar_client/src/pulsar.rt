@@ -1,6 +1,6 @@
 //! The client.
 
-ghost use Rattle.std.specs.Prelude.{◌≡◌, ◌∷◌, [], List, OnErr, IfOk, IsErr, codes, map, reverse, string_bytes};
+ghost use Rattle.std.specs.Prelude.{◌≡◌, ◌∷◌, [], List, OnErr, IfOk, IsErr, codes, length, map, reverse, string_bytes};
 ghost use Rattle.pulsar_client.specs.Content.{Called, asked, heard, shown};
 ghost use Rattle.pulsar_client.specs.Good.{Good, Step};
 ghost use Rattle.pulsar_client.specs.Log.{Chosen};
@@ -44,7 +44,8 @@ impl Pulsar {
         events: &[Event],
     ) -> Result<Vec<Vec<Effect>>, NoMemory>
         requires { string_bytes options.url ≡ codes "pulsar://127.0.0.1:6650" }
-        ensures { IfOk result (λ all. Good (chosen options) (reverse (answered events.now all.items))) }
+        ensures run { IfOk result (λ all. Good (chosen options) (reverse (answered events.now all.items))) }
+        ensures one_each { IfOk result (λ all. length all.items ≡ length events.now) }
     {
         let mut client = Pulsar::new(alloc, options)?;
         let mut all = Vec::new(alloc);

@@ -1,9 +1,6 @@
-use Rattle.std.proofs.Common.{rules, arith, refl, ◌≡◌, ◌++◌, ◌∙◌, sym, ap, [], ℕ, List, Err}
-use Rattle.std.specs.Prelude.{string_bytes}
-use Rattle.pulsar_cli.specs.Shown.{Prints}
+use Rattle.std.proofs.Common.{rules, ◌≡◌, ap, Err}
 use Rattle.pulsar_cli.specs.declared.stop.Stop.TheVariants as stop
-use Rattle.pulsar_cli.proofs.Prints.{ends-here, halts-end, halts-line, halts-piece, prints-front}
-use Rattle.pulsar_cli.proofs.Sinks.{adds-more}
+use Rattle.pulsar_cli.proofs.Prints.{ends-here, halts-end, halts-line}
 use Rattle.pulsar_cli.proofs.program.ends.Goals as goal
 
 pub returns-in_err-line-clause-runs : goal.returns-in_err-line-clause-runs

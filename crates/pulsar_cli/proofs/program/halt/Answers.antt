@@ -1,4 +1,4 @@
-use Rattle.std.proofs.Common.{◌≡◌, subst}
+use Rattle.std.proofs.Common.{subst}
 use Rattle.pulsar_cli.specs.Shown.{Halts}
 use Rattle.pulsar_cli.proofs.Prints.{ran-faultless}
 use Rattle.pulsar_cli.proofs.Sinks.{rose-from}

@@ -1,7 +1,6 @@
-use Rattle.std.proofs.Common.{rules, arith, refl, ◌≡◌, ◌+◌, ◌-◌, ◌≤◌, ◌<◌, ◌++◌, ◌∙◌, sym, ap, [], ℕ, List, length, take, drop}
+use Rattle.std.proofs.Common.{rules, arith, refl, ◌≡◌, ◌+◌, ◌≤◌, ◌<◌, sym, length, take, drop}
 use Rattle.std.proofs.Math.Seq.{take-add}
 use Rattle.std.proofs.lemmas.List.{length-drop}
-use Rattle.pulsar_client.specs.Outside.{Rose}
 use Rattle.pulsar_cli.specs.Script.{Adds}
 use Rattle.pulsar_cli.proofs.Lines.{behind-at}
 use Rattle.pulsar_cli.proofs.Sinks.{adds-front, adds-more, adds-same, rose-from}

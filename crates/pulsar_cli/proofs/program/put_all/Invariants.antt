@@ -1,4 +1,4 @@
-use Rattle.std.proofs.Common.{◌≡◌, ◌≤◌, ◌-◌, length, take}
+use Rattle.std.proofs.Common.{◌≤◌, ◌-◌, length, take}
 use Rattle.pulsar_cli.specs.Script.{Adds}
 use Rattle.pulsar_cli.proofs.program.put_all.Given as goal
 

@@ -1,4 +1,4 @@
-use Rattle.std.proofs.Common.{rules, arith, refl, ◌≡◌, ◌+◌, ◌-◌, ◌<◌, ◌≤◌, ◌++◌, ◌∙◌, sym, ap, subst, [], ℕ, List, Err, Some, length, take, drop}
+use Rattle.std.proofs.Common.{rules, arith, ◌≡◌, ◌+◌, ◌-◌, ◌<◌, ◌++◌, ◌∙◌, sym, ap, subst, [], ℕ, List, Err, Some, length, take, drop}
 use Rattle.pulsar_cli.specs.Shown.{Halts, Prints}
 use Rattle.pulsar_cli.specs.Script.{limit}
 use Rattle.pulsar_cli.proofs.Prints.{written, consumes, consumes-all, size-kept, done-or-halts, ends-faults, ends-status, limits-past, limits-within, prints-new, prints-stopped, stopped-at, taken-more, taken-same, turn-faults, turn-status, whole}

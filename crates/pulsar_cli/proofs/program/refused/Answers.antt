@@ -1,5 +1,4 @@
-use Rattle.std.proofs.Common.{rules, arith, refl, ◌≡◌, ◌++◌, ℕ, List}
-use Rattle.pulsar_cli.proofs.Prints.{ran-refused, ran-stopped, refused-put, refusing-stopped}
+use Rattle.pulsar_cli.proofs.Prints.{ran-refused, refused-put}
 use Rattle.pulsar_cli.proofs.program.refused.Goals as goal
 
 pub returns-clause-runs : goal.returns-clause-runs

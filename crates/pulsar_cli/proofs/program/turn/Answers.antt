@@ -1,8 +1,8 @@
-use Rattle.std.proofs.Common.{rules, arith, refl, ◌≡◌, ◌++◌, ◌∙◌, sym, ap, [], ℕ, List, Err, append_assoc}
+use Rattle.std.proofs.Common.{rules, ◌≡◌, ◌++◌, sym, ap, Err, append_assoc}
 use Rattle.std.specs.Prelude.{string_bytes}
 use Rattle.pulsar_cli.specs.Shown.{Prints}
 use Rattle.pulsar_cli.specs.declared.stop.Stop.TheVariants as stop
-use Rattle.pulsar_cli.proofs.Prints.{ends-here, halts-end, halts-line, halts-piece, prints-front}
+use Rattle.pulsar_cli.proofs.Prints.{halts-piece, prints-front}
 use Rattle.pulsar_cli.proofs.Sinks.{adds-more}
 use Rattle.pulsar_cli.proofs.program.turn.Goals as goal
 

@@ -1,4 +1,4 @@
-use Rattle.std.proofs.Common.{rules, arith, ◌≡◌, ◌+◌}
+use Rattle.std.proofs.Common.{rules, ◌+◌}
 use Rattle.pulsar_cli.proofs.Lines.{behind-at, cut-at, one-line}
 use Rattle.pulsar_cli.proofs.grammar.word.cut_line.Goals as goal
 

@@ -1,4 +1,4 @@
-use Rattle.std.proofs.Common.{rules, ◌≡◌}
+use Rattle.std.proofs.Common.{rules}
 use Rattle.pulsar_cli.proofs.Printed.{is-text, no-text}
 use Rattle.pulsar_cli.proofs.grammar.word.text.Goals as goal
 

@@ -1,6 +1,4 @@
-use Rattle.std.proofs.Common.{rules, tests, arith, sym, ◌≡◌, ◌+◌, ◌-◌, ◌*◌, ◌∙◌, ◌≤◌, ◌^◌, true}
-use Rattle.std.proofs.lemmas.Bool.Decides.{nat_tests}
-use Rattle.pulsar_cli.specs.Words.{is_digit}
+use Rattle.std.proofs.Common.{rules, tests, arith, sym}
 use Rattle.pulsar_cli.proofs.Numbers.{digit-checked, digit-past}
 use Rattle.pulsar_cli.proofs.grammar.word.with_digit.Goals as goal
 

@@ -1,4 +1,4 @@
-use Rattle.std.proofs.Common.{rules, ◌≡◌, ◌++◌, ◌∙◌, ap, List, ℕ}
+use Rattle.std.proofs.Common.{◌≡◌, ◌++◌, ◌∙◌, ap, List, ℕ}
 use Rattle.std.specs.Prelude.{codes, string_bytes}
 use Rattle.pulsar_client.specs.Content.{fault}
 use Rattle.pulsar_cli.specs.Text.{fault_word, fault_detail}

@@ -1,11 +1,7 @@
-use Rattle.std.proofs.Common.{rules, arith, refl, ◌≡◌, ◌+◌, ◌∷◌, ◌++◌, ◌∙◌, sym, ap, [], ℕ, List, Err, map, append_assoc}
+use Rattle.std.proofs.Common.{◌+◌, ◌∙◌, ap}
 use Rattle.std.specs.Prelude.{string_bytes}
-use Rattle.pulsar_client.specs.Content.{Shown, heard, shown}
-use Rattle.pulsar_cli.specs.Grammar.{line}
 use Rattle.pulsar_cli.specs.Shown.{line_of}
-use Rattle.pulsar_cli.specs.Script.{options}
-use Rattle.pulsar_cli.proofs.Readings.{new-running, reads-nothing, reads-same, reads-step}
-use Rattle.pulsar_cli.proofs.Lines.{ends-line, feed, goes-on, last-line}
+use Rattle.pulsar_cli.proofs.Readings.{reads-nothing, reads-step}
 use Rattle.pulsar_cli.proofs.reading.Reading.take.Goals as goal
 
 pub returns-in_ok-counts-in-Nothing-clause-reads : goal.returns-in_ok-counts-in-Nothing-clause-reads

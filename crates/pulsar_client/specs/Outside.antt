@@ -1,5 +1,5 @@
 -- What is outside: the bytes that come and go, and the faults.
-use Rattle.std.specs.Prelude.{◌≡◌, ℕ, ◌-◌, ◌^◌, ◌+◌, ◌<◌, ◌≤◌, ◌⊎◌, List, [], ◌++◌, length, take, drop, Option, Some, None}
+use Rattle.std.specs.Prelude.{◌≡◌, ℕ, ◌-◌, ◌^◌, ◌<◌, ◌≤◌, ◌⊎◌, List, [], length, take}
 
 -- a count of faults has risen; one that stands at its end counts as risen
 abbrev pub Rose : ℕ → ℕ → Type 0

@@ -13,7 +13,7 @@ use Rattle.pulsar_cli.proofs.Lines.{ends-line, feed, goes-on}
 use Rattle.pulsar_cli.specs.declared.reading.Reading.{Reading}
 
 -- the events of lines, and of those behind them
-abbrev both : Option (List Heard) → Option (List Heard) → Option (List Heard)
+abbrev pub both : Option (List Heard) → Option (List Heard) → Option (List Heard)
 both None b = None
 both (Some xs) b = b >>= λ ys. Some (xs ++ ys)
 
@@ -28,7 +28,7 @@ both-line (Happens e) None b = refl
 both-line (Happens e) (Some xs) None = refl
 both-line (Happens e) (Some xs) (Some ys) = refl
 
-events-both : (xs ys : List (List ℕ)) → events_of (xs ++ ys) ≡ both (events_of xs) (events_of ys)
+pub events-both : (xs ys : List (List ℕ)) → events_of (xs ++ ys) ≡ both (events_of xs) (events_of ys)
 events-both [] ys = both-nil (events_of ys)
 events-both (x ∷ xs) ys = ap (with_line (line x)) (events-both xs ys) ∙ both-line (line x) (events_of xs) (events_of ys)
 

@@ -3,3 +3,4 @@ pub mod Grammar
 pub mod Text
 pub mod Script
 pub mod Shown
+pub mod Written

@@ -5,6 +5,7 @@ use Rattle.pulsar_wire.specs.Field.{◌>>=◌}
 use Rattle.pulsar_client.specs.Content.{Heard}
 use Rattle.pulsar_client.specs.Log.{Chosen}
 use Rattle.pulsar_client.specs.Good.{Good, Step}
+use Rattle.pulsar_client.specs.Outside.{Rose}
 use Rattle.pulsar_cli.specs.Grammar.{Line, Nothing, Happens, Refused, line, lines}
 use Rattle.pulsar_cli.specs.Text.{step, refusal}
 
@@ -30,6 +31,10 @@ with_line Refused events = None
 abbrev pub events_of : List (List ℕ) → Option (List Heard)
 events_of [] = Some []
 events_of (l ∷ ls) = with_line (line l) (events_of ls)
+
+-- each line is in the grammar
+abbrev pub InGrammar : List ℕ → Type 0
+InGrammar bytes = (events : List Heard) × (events_of (lines bytes) ≡ Some events)
 
 -- the events of a history, oldest first; the newest step of a history is its first
 abbrev pub happened : List Step → List Heard

@@ -2,6 +2,7 @@
 #![tactic(auto)]
 
 mod grammar;
+mod laws;
 mod printing;
 mod program;
 mod reading;

@@ -1,8 +1,8 @@
 //! The top call: the words of the command line, and a script's run.
 
-ghost use Rattle.std.specs.Prelude.{◌≡◌, ◌++◌, ◌≤◌, ◌↔◌, ◌⊎◌, true, false, [], ℕ, List, Option, Some, MatchResult, OnOk, IfErr, map, string_bytes};
+ghost use Rattle.std.specs.Prelude.{◌≡◌, ◌++◌, ◌≤◌, ◌↔◌, ◌⊎◌, true, false, [], ℕ, List, Option, Some, MatchResult, OnOk, IfErr, length, map, string_bytes};
 ghost use Rattle.pulsar_client.specs.Outside.{Rose};
-ghost use Rattle.pulsar_cli.specs.Script.{Adds, AddsFront, IsDone, Limits, Ran, is_script};
+ghost use Rattle.pulsar_cli.specs.Script.{Adds, AddsFront, IsDone, InGrammar, Limits, Ran, is_script, limit};
 ghost use Rattle.pulsar_cli.specs.Shown.{read_status, Ends, Faults, Halts, InTurn, Prints, Refusing, Running, status_of};
 
 use crate::reading::Reading;
@@ -47,6 +47,7 @@ pub fn run<S: Source, K: Sink>(
     ensures runs { is_script (map string_bytes words.now) ≡ true → (bytes : List ℕ) → S.left source.old ≡ Some bytes → Ran result bytes (S.left source.new) (K.holds sink.old) (K.holds sink.new) (Rose (K.faults sink.old) (K.faults sink.new) → ⊥) }
     ensures source_failed { result ≡ 4 → Rose (S.faults source.old) (S.faults source.new) }
     ensures sink_failed { result ≡ 5 → Rose (K.faults sink.old) (K.faults sink.new) }
+    ensures complete { is_script (map string_bytes words.now) ≡ true → (bytes : List ℕ) → S.left source.old ≡ Some bytes → InGrammar bytes → length bytes ≤ limit → (Rose (S.faults source.old) (S.faults source.new) → ⊥) → (Rose (K.faults sink.old) (K.faults sink.new) → ⊥) → (result ≡ 0) ⊎ (result ≡ 3) }
     ensures limits { is_script (map string_bytes words.now) ≡ true → Limits result (S.left source.old) (S.left source.new) }
 {
     if is_script(words) {
@@ -67,6 +68,18 @@ fn is_script(words: &[String]) -> bool
 
 /// Reads a script from the source and prints its run to the sink.
 pub fn script<S: Source, K: Sink>(alloc: Global, source: &mut S, sink: &mut K) -> Status
+    ensures runs { (bytes : List ℕ) → S.left source.old ≡ Some bytes → Ran result bytes (S.left source.new) (K.holds sink.old) (K.holds sink.new) (Rose (K.faults sink.old) (K.faults sink.new) → ⊥) }
+    ensures form { result ≡ 2 → ⊥ }
+    ensures source_failed { result ≡ 4 → Rose (S.faults source.old) (S.faults source.new) }
+    ensures sink_failed { result ≡ 5 → Rose (K.faults sink.old) (K.faults sink.new) }
+    ensures limits { Limits result (S.left source.old) (S.left source.new) }
+    ensures complete { (bytes : List ℕ) → S.left source.old ≡ Some bytes → InGrammar bytes → length bytes ≤ limit → (Rose (S.faults source.old) (S.faults source.new) → ⊥) → (Rose (K.faults sink.old) (K.faults sink.new) → ⊥) → (result ≡ 0) ⊎ (result ≡ 3) }
+{
+    read_and_print(alloc, source, sink)
+}
+
+/// The same, as it is done.
+fn read_and_print<S: Source, K: Sink>(alloc: Global, source: &mut S, sink: &mut K) -> Status
     ensures runs { (bytes : List ℕ) → S.left source.old ≡ Some bytes → Ran result bytes (S.left source.new) (K.holds sink.old) (K.holds sink.new) (Rose (K.faults sink.old) (K.faults sink.new) → ⊥) }
     ensures form { result ≡ 2 → ⊥ }
     ensures source_failed { result ≡ 4 → Rose (S.faults source.old) (S.faults source.new) }

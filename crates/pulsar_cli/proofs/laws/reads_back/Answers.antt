@@ -1,0 +1,5 @@
+use Rattle.pulsar_cli.proofs.WrittenLines.{reads-back}
+use Rattle.pulsar_cli.proofs.laws.reads_back.Goals as goal
+
+pub returns : goal.returns
+returns c = reads-back

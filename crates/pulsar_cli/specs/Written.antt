@@ -1,0 +1,41 @@
+-- The line of an event, as one writes it: it reads back as that event.
+use Rattle.std.specs.Prelude.{◌≡◌, ℕ, ◌+◌, ◌^◌, ◌<◌, List, [], ◌∷◌, ◌++◌, length, codes, true}
+use Rattle.std.specs.Fmt.{decimal}
+use Rattle.std.specs.Str.{is_utf8}
+use Rattle.hex.specs.Hex.{IsBytes, encode_lower}
+use Rattle.pulsar_wire.specs.declared.commands.topics.Mode.{Mode}
+use Rattle.pulsar_wire.specs.declared.commands.topics.Mode.TheVariants.{Persistent, NonPersistent, All}
+use Rattle.pulsar_client.specs.Content.{Asked, Build, Topics, Heard, Called, Opened, Bytes, Drain}
+use Rattle.pulsar_cli.specs.Grammar.{Happens, line}
+use Rattle.pulsar_cli.specs.Text.{word}
+
+abbrev pub mode_word : Mode → List ℕ
+mode_word Persistent = codes "persistent"
+mode_word NonPersistent = codes "non-persistent"
+mode_word All = codes "all"
+
+-- the words behind `call`
+abbrev pub call_words : Asked → List ℕ
+call_words Build = codes "build"
+call_words (Topics namespace mode) = codes "topics " ++ word namespace ++ 32 ∷ mode_word mode
+
+-- numbers are decimal without leading zeros, texts are words as they are printed, bytes are hex in lower case
+abbrev pub written : Heard → List ℕ
+written (Called c) = codes "call " ++ call_words c
+written (Opened l) = codes "opened " ++ decimal l
+written (Bytes l piece) = codes "bytes " ++ decimal l ++ 32 ∷ encode_lower piece
+written (Drain l most) = codes "drain " ++ decimal l ++ 32 ∷ decimal most
+
+-- an event has a line where its numbers have 64 bits, its text is UTF-8, and it has a byte at least
+abbrev pub CanBeAsked : Asked → Type 0
+CanBeAsked Build = Unit {0}
+CanBeAsked (Topics namespace mode) = IsBytes namespace × (is_utf8 namespace ≡ true)
+
+abbrev pub CanBeWritten : Heard → Type 0
+CanBeWritten (Called c) = CanBeAsked c
+CanBeWritten (Opened l) = l < 2 ^ 64
+CanBeWritten (Bytes l piece) = (l < 2 ^ 64) × IsBytes piece × (0 < length piece)
+CanBeWritten (Drain l most) = (l < 2 ^ 64) × (most < 2 ^ 64)
+
+abbrev pub ReadsBack : Type 0
+ReadsBack = (e : Heard) → CanBeWritten e → line (written e) ≡ Happens e

@@ -48,6 +48,7 @@ Rests o log = due o log ++ to_come o log ≡ []
 abbrev pub request_at : ℕ → List LinkAct → ℕ → Pending
 request_at first_number h ticket = record { id = next_id first_number h; place = queued h; ticket = ticket }
 
+-- the first of these that is there
 abbrev pub or_else : {A : Type 0} → Option A → Option A → Option A
 or_else None y = y
 or_else (Some x) y = Some x
@@ -86,6 +87,7 @@ FramesAreCut = (o : Chosen) (log : List Entry) (l : ℕ) → IsRun o log → nat
 
 -- FRAMES THAT ARE WRITTEN
 
+-- a list begins with another
 abbrev pub IsPrefix : {A : Type 0} → List A → List A → Type 0
 IsPrefix {A} xs ys = (rest : List A) × (xs ++ rest ≡ ys)
 
@@ -124,6 +126,7 @@ WritesFollow = (o : Chosen) (h : List Step) (l : ℕ) → Good o h → IsPrefix 
 
 -- CALLS
 
+-- a list holds this
 abbrev pub In : {A : Type 0} → A → List A → Type 0
 In x [] = ⊥
 In x (y ∷ ys) = (x ≡ y) ⊎ In x ys
@@ -205,6 +208,7 @@ pub data Fails (p : Procedure) (os : List Outcome) (f : Fault) : Type 0 where
   IsTold : (u : Outcome) → In u os → f ≡ fault_of u → Fails p os f
   IsReplied : (r : Reply) → In (outcome.Replied r) os → Failed f ≡ topics_in r → Fails p os f
 
+-- wherever a step has ended, a call that has failed did so for one of these
 abbrev pub FailuresAreTold : Type 0
 FailuresAreTold = (o : Chosen) (log : List Entry) (t : ℕ) (p : Procedure) (f : Fault) →
     IsRun o log → Rests o log → procedure_of t log ≡ Some p → In (Failed f) (answers t log) → Fails p (outcomes_of t log) f

@@ -9,9 +9,11 @@ use Rattle.pulsar_client.specs.Messages.{connect_message, topics_message}
 use Rattle.pulsar_client.specs.Log.{Chosen}
 use Rattle.pulsar_client.specs.Good.{Step, Good, base_host, base_port}
 
+-- requests are numbered from 0
 abbrev pub numbered_from_zero : Chosen
 numbered_from_zero = record { first_number = 0 }
 
+-- an event with its effects
 abbrev pub step_of : Heard → List Shown → Step
 step_of event effects = record { event = event; effects = effects }
 
@@ -23,6 +25,7 @@ connected = 0 ∷ 0 ∷ 0 ∷ 11 ∷ 0 ∷ 0 ∷ 0 ∷ 7 ∷ 8 ∷ 3 ∷ 26 ∷ 
 abbrev pub topics_reply : List ℕ
 topics_reply = 0 ∷ 0 ∷ 0 ∷ 14 ∷ 0 ∷ 0 ∷ 0 ∷ 10 ∷ 8 ∷ 33 ∷ 138 ∷ 2 ∷ 5 ∷ 8 ∷ 0 ∷ 18 ∷ 1 ∷ 116 ∷ []
 
+-- a call asks for topics, and its request is queued
 abbrev pub asks_topics : Heard
 asks_topics = Called (Topics (codes "n") modes.All)
 
@@ -61,6 +64,6 @@ attempt_fails =
     ∷ step_of (Bytes 0 topics_reply) (Ends 0 (Failed (Io Other)) ∷ Ends 1 (Failed Canceled) ∷ Close 0 ∷ [])
     ∷ []
 
--- oldest step first
+-- a history, oldest step first, is good
 abbrev pub IsGood : List Step → Type 0
 IsGood history = Good numbered_from_zero (reverse history)

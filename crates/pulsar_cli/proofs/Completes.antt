@@ -1,8 +1,8 @@
 -- A script of the grammar is read whole.
-use Rattle.std.proofs.Common.{inl, inr, ◌⊎◌, ◌≡◌, ℕ, zero, suc, ◌+◌, ◌≤◌, ◌<◌, ◌∙◌, sym, ap, List, [], ◌∷◌, ◌++◌, refl, arith, Option, Some, None, length}
+use Rattle.std.proofs.Common.{inl, inr, ◌⊎◌, ◌≡◌, ℕ, zero, suc, ◌≤◌, ◌∙◌, sym, ap, List, ◌∷◌, ◌++◌, refl, arith, Option, Some, None, length}
 use Rattle.std.proofs.lemmas.Option.{none-some}
 use Rattle.pulsar_client.specs.Content.{Heard}
-use Rattle.pulsar_cli.specs.Grammar.{Refused, line, lines}
+use Rattle.pulsar_cli.specs.Grammar.{Refused, line}
 use Rattle.pulsar_cli.specs.Script.{InGrammar, Limits, Ran, events_of, limit}
 use Rattle.pulsar_cli.proofs.Readings.{both, events-both}
 

@@ -1,6 +1,6 @@
 -- A written line is read back.
-use Rattle.std.proofs.Common.{inl, inr, ◌⊎◌, ◌≡◌, ◌==◌, ℕ, ◌+◌, ◌-◌, ◌*◌, ◌/◌, ◌%◌, ◌^◌, ◌<◌, ◌≤◌, ◌∙◌, sym, ap, List, [], ◌∷◌, ◌++◌, refl, arith, Bool, true, false, Option, Some, None, Ok, nat_lt, nat_le, length, codes, append_assoc, length-append, suc}
-use Rattle.std.specs.List.{All as Each, AllPass, flat_map, slice_split}
+use Rattle.std.proofs.Common.{◌≡◌, ◌==◌, ℕ, ◌+◌, ◌-◌, ◌*◌, ◌/◌, ◌%◌, ◌^◌, ◌<◌, ◌≤◌, ◌∙◌, sym, ap, List, [], ◌∷◌, ◌++◌, refl, arith, Bool, true, false, Option, Some, None, Ok, length, codes, length-append, suc}
+use Rattle.std.specs.List.{All as Each, flat_map}
 use Rattle.std.specs.Fmt.{decimal}
 use Rattle.std.specs.Str.{bytes_eq, is_utf8}
 use Rattle.std.proofs.lemmas.Bool.Decides.{nat_tests}
@@ -10,13 +10,13 @@ use Rattle.std.proofs.lemmas.List.Splits.{slice_split_at, slice_split_none}
 use Rattle.std.proofs.lemmas.Option.{none-some}
 use Rattle.hex.specs.Hex.{IsBytes, decode_of, encode_lower, hex_digit_value, is_hex_digit}
 use Rattle.hex.proofs.HexLemmas.{decode_of-encode_lower, decode_of-ok}
-use Rattle.pulsar_cli.specs.Words.{digits_from, escaped, hex, in_range, is_digit, is_plain, number, text, unescaped, with_byte, word_bytes, words}
+use Rattle.pulsar_cli.specs.Words.{digits_from, hex, in_range, is_digit, is_plain, number, text, unescaped, word_bytes, words}
 use Rattle.pulsar_cli.specs.Text.{is_printed, printed, upper_digit, word}
 use Rattle.std.proofs.lemmas.Slice.Eq.{bytes_eq-Decides}
 use Rattle.pulsar_wire.specs.declared.commands.topics.Mode.{Mode}
 use Rattle.pulsar_wire.specs.declared.commands.topics.Mode.TheVariants.{Persistent, NonPersistent, All}
 use Rattle.pulsar_client.specs.Content.{Asked, Build, Topics, Heard, Called, Opened, Bytes, Drain}
-use Rattle.pulsar_cli.specs.Grammar.{Line, Happens, event, event_line, line, mode}
+use Rattle.pulsar_cli.specs.Grammar.{Happens, event, event_line, line, mode}
 use Rattle.pulsar_cli.specs.Written.{CanBeAsked, CanBeWritten, mode_word, written}
 use Rattle.pulsar_cli.proofs.Numbers.{all-read}
 

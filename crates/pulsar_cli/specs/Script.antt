@@ -5,7 +5,6 @@ use Rattle.pulsar_wire.specs.Field.{◌>>=◌}
 use Rattle.pulsar_client.specs.Content.{Heard}
 use Rattle.pulsar_client.specs.Log.{Chosen}
 use Rattle.pulsar_client.specs.Good.{Good, Step}
-use Rattle.pulsar_client.specs.Outside.{Rose}
 use Rattle.pulsar_cli.specs.Grammar.{Line, Nothing, Happens, Refused, line, lines}
 use Rattle.pulsar_cli.specs.Text.{step, refusal}
 

@@ -22,7 +22,7 @@ use Rattle.pulsar_client.specs.declared.act.Arrival.TheVariants.{Message, Bad}
 use Rattle.pulsar_client.specs.declared.session.link.Stage.{Stage}
 use Rattle.pulsar_client.specs.declared.session.link.Stage.TheVariants.{Dialing, Handshaking, Ready, Over}
 use Rattle.pulsar_client.specs.Messages.{is_connected}
-use Rattle.pulsar_client.specs.Link.{Seen, Pending, bears, settled, disconnected, turns, at_opening, at_arrival, link_rule, is_ready, fits_frame, request_message}
+use Rattle.pulsar_client.specs.Link.{Seen, Pending, bears_id, settled, disconnected, turns, at_opening, at_arrival, link_rule, is_ready, fits_frame, request_message}
 use Rattle.pulsar_client.specs.Plan.{next, ended, finished, topics_answer, fault_of}
 use Rattle.pulsar_client.specs.Log.{Chosen, Entry, Begins, Does, View, view, base, waiting, seen_link, spent, at_once, serves, performs, gets, asks, asks_on, fails, link_acts, brings, procedure_for, dials, opens, outcomes_of}
 use Rattle.pulsar_client.specs.Good.{due, to_come, IsRun, first}
@@ -56,7 +56,7 @@ map_settling f [] p = tt
 map_settling f (r ∷ rs) p = (p r, map_settling f rs p)
 
 settled_settling : (act : LinkAct) (rs : List Pending) → AllSettling (settled act rs)
-settled_settling (Comes (Message m)) rs = map_settling _ (filter (λ r. bears m.key r.id) rs) (λ r. tt)
+settled_settling (Comes (Message m)) rs = map_settling _ (filter (λ r. bears_id m r.id) rs) (λ r. tt)
 settled_settling (Ended closed) rs = map_settling disconnected rs (λ r. tt)
 settled_settling _ rs = tt
 

@@ -22,7 +22,7 @@ use Rattle.pulsar_client.specs.declared.session.link.Stage.{Stage}
 use Rattle.pulsar_client.specs.declared.session.link.Stage.TheVariants.{Dialing, Handshaking, Ready, Over}
 use Rattle.pulsar_client.specs.Messages.{is_connected}
 use Rattle.pulsar_client.specs.Content.{Asked, Heard, Called, Opened, Bytes, Drain, Failed, Exhausted}
-use Rattle.pulsar_client.specs.Link.{Seen, Pending, seen, arrivals, bears, link_rule, settled, disconnected, turns, at_opening, at_arrival, is_ready, fits_frame, request_message}
+use Rattle.pulsar_client.specs.Link.{Seen, Pending, seen, arrivals, bears_id, link_rule, settled, disconnected, turns, at_opening, at_arrival, is_ready, fits_frame, request_message}
 use Rattle.pulsar_client.specs.Log.{Chosen, Entry, Begins, Does, links, of_link, seen_link, View, view, at_once, serves, performs, gets, asks, asks_on, fails, link_acts, brings, calls_for, frames_of, dials, opens, spent, procedure_for}
 use Rattle.pulsar_client.specs.Good.{due, to_come, IsRun, first, is_empty}
 use Rattle.pulsar_client.specs.Local.{is_own, link_due, Fits, IsLinkRun}
@@ -100,7 +100,7 @@ map_own f [] p = tt
 map_own f (r ∷ rs) p = (p r, map_own f rs p)
 
 settled_own : (act : LinkAct) (rs : List Pending) → AllOwn (settled act rs)
-settled_own (Comes (Message m)) rs = map_own _ (filter (λ r. bears m.key r.id) rs) (λ r. refl)
+settled_own (Comes (Message m)) rs = map_own _ (filter (λ r. bears_id m r.id) rs) (λ r. refl)
 settled_own (Ended closed) rs = map_own disconnected rs (λ r. refl)
 settled_own _ rs = tt
 

@@ -7,7 +7,7 @@ use Rattle.pulsar_client.specs.declared.act.LinkAct.{LinkAct}
 use Rattle.pulsar_client.specs.declared.act.LinkAct.TheVariants.{Opens, Comes, Greets, Readied, Ended, Settled}
 use Rattle.pulsar_client.specs.declared.session.link.Stage.{Stage}
 use Rattle.pulsar_client.specs.declared.session.link.Stage.TheVariants.{Dialing, Handshaking, Ready, Over}
-use Rattle.pulsar_client.specs.Link.{Pending, stage, bears, settled, disconnected, turns, at_opening, at_arrival, pending}
+use Rattle.pulsar_client.specs.Link.{Pending, stage, bears_id, settled, disconnected, turns, at_opening, at_arrival, pending}
 use Rattle.pulsar_client.specs.Good.{first}
 use Rattle.pulsar_client.specs.Local.{is_own, link_due, Fits, IsLinkRun}
 
@@ -70,7 +70,7 @@ map_plain f [] p = tt
 map_plain f (r ∷ rs) p = (p r, map_plain f rs p)
 
 settled_plain : (act : LinkAct) (rs : List Pending) → NoTurn (settled act rs)
-settled_plain (Comes (Message m)) rs = map_plain _ (filter (λ r. bears m.key r.id) rs) (λ r. refl)
+settled_plain (Comes (Message m)) rs = map_plain _ (filter (λ r. bears_id m r.id) rs) (λ r. refl)
 settled_plain (Ended closed) rs = map_plain disconnected rs (λ r. refl)
 settled_plain _ rs = tt
 

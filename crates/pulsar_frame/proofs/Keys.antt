@@ -1,10 +1,11 @@
--- A message bears a key exactly where it is the message's own.
-use Rattle.std.proofs.Common.{◌≡◌, true, eqb, Option, Some, None, refl, ap}
+-- A message bears a key exactly where it is the message's own, or where the message closes a consumer under its number.
+use Rattle.std.proofs.Common.{◌≡◌, ◌⊎◌, inl, inr, ℕ, true, eqb, Option, Some, None, refl, sym, ap}
 use Rattle.std.proofs.lemmas.Bool.{eqb-true, eq-eqb, and_parts, and_from}
 use Rattle.pulsar_wire.specs.declared.key.RequestKey.{RequestKey}
 use Rattle.pulsar_wire.specs.declared.key.RequestKey.TheVariants.{RequestId, ProducerSend, Consumer, CloseConsumer, AuthChallenge}
 use Rattle.pulsar_frame.specs.Message.{MessageValues}
-use Rattle.pulsar_frame.specs.Key.{key, same_key, is_key, bears}
+use Rattle.pulsar_frame.specs.Key.{key, same_key, close_bears, bears_key, bears}
+use Rattle.pulsar_frame.specs.Laws.{Closes}
 
 same_key-is : (a b : RequestKey) → same_key a b ≡ true → a ≡ b
 same_key-is (RequestId a) (RequestId b) e = ap RequestId (eqb-true a b e)
@@ -25,14 +26,35 @@ same_key-own (Consumer a) = eq-eqb a a refl
 same_key-own (CloseConsumer a b) = and_from (eqb a a) (eqb b b) (eq-eqb a a refl) (eq-eqb b b refl)
 same_key-own AuthChallenge = refl
 
-is_key-is : (k : RequestKey) (own : Option RequestKey) → is_key k own ≡ true → own ≡ Some k
-is_key-is k None e = absurd cc
-is_key-is k (Some own) e = ap (λ (x : RequestKey). Some x) (same_key-is own k e)
+closes : (c r : ℕ) (k : RequestKey) → close_bears c r k ≡ true → (Some (CloseConsumer c r) ≡ Some k) ⊎ Closes (Some (CloseConsumer c r)) k
+closes c r (RequestId id) e = inr (c, r, refl, ap RequestId (sym (eqb-true r id e)))
+closes c r (CloseConsumer a b) e = inl (ap (λ (x : RequestKey). Some x) (same_key-is (CloseConsumer c r) (CloseConsumer a b) e))
+closes c r _ e = absurd cc
 
-pub bears-key : (m : MessageValues) (k : RequestKey) → bears m k ≡ true → key m ≡ Some k
-unfolding bears
-bears-key m k e = is_key-is k (key m) e
+of_same : (own k : RequestKey) → same_key own k ≡ true → (Some own ≡ Some k) ⊎ Closes (Some own) k
+of_same own k e = inl (ap (λ (x : RequestKey). Some x) (same_key-is own k e))
 
-pub key-bears : (m : MessageValues) (k : RequestKey) → key m ≡ Some k → bears m k ≡ true
-unfolding bears
-key-bears m k e = rw e (same_key-own k)
+borne : (own : Option RequestKey) (k : RequestKey) → bears_key own k ≡ true → (own ≡ Some k) ⊎ Closes own k
+borne None k e = absurd cc
+borne (Some (CloseConsumer c r)) k e = closes c r k e
+borne (Some (RequestId a)) k e = of_same (RequestId a) k e
+borne (Some (ProducerSend a b)) k e = of_same (ProducerSend a b) k e
+borne (Some (Consumer a)) k e = of_same (Consumer a) k e
+borne (Some AuthChallenge) k e = of_same AuthChallenge k e
+
+pub bears-key : (m : MessageValues) (k : RequestKey) → bears m k ≡ true → (key m ≡ Some k) ⊎ Closes (key m) k
+bears-key m k e = borne (key m) k e
+
+bears_own : (k : RequestKey) → bears_key (Some k) k ≡ true
+bears_own (RequestId a) = same_key-own (RequestId a)
+bears_own (ProducerSend a b) = same_key-own (ProducerSend a b)
+bears_own (Consumer a) = same_key-own (Consumer a)
+bears_own (CloseConsumer a b) = same_key-own (CloseConsumer a b)
+bears_own AuthChallenge = refl
+
+bearing : (own : Option RequestKey) (k : RequestKey) → (own ≡ Some k) ⊎ Closes own k → bears_key own k ≡ true
+bearing own k (inl e) = rw e (bears_own k)
+bearing own k (inr x) = rw (x.1.1.0, x.1.1.1) (eq-eqb x.1.0 x.1.0 refl)
+
+pub key-bears : (m : MessageValues) (k : RequestKey) → (key m ≡ Some k) ⊎ Closes (key m) k → bears m k ≡ true
+key-bears m k e = bearing (key m) k e

@@ -1,10 +1,11 @@
 -- What follows from the definitions.
-use Rattle.std.specs.Prelude.{◌≡◌, ◌↔◌, true, ℕ, List, [], ◌∷◌, ◌++◌, Some, None}
+use Rattle.std.specs.Prelude.{◌≡◌, ◌↔◌, ◌⊎◌, true, ℕ, List, [], ◌∷◌, ◌++◌, Option, Some, None}
 use Rattle.pulsar_wire.specs.Fits.{CommandInRange}
 use Rattle.pulsar_wire.specs.declared.error.Reason.{Reason}
 use Rattle.pulsar_frame.specs.Message.{MessageValues}
 use Rattle.pulsar_frame.specs.Frame.{Short, Refused, Whole, front, StandInFront, cut, left, bad, FitsFrame, IsReadAgain}
 use Rattle.pulsar_wire.specs.declared.key.RequestKey.{RequestKey}
+use Rattle.pulsar_wire.specs.declared.key.RequestKey.TheVariants.{RequestId, CloseConsumer}
 use Rattle.pulsar_frame.specs.Key.{key, bears}
 use Rattle.pulsar_frame.specs.History.{Act, fed, given, Leads}
 
@@ -41,6 +42,11 @@ GivesTheMessagesFed = (acts : List Act) (held : List ℕ) → Leads acts [] held
 abbrev pub ReadsFramesWritten : Type 0
 ReadsFramesWritten = (m : MessageValues) → FitsFrame m → CommandInRange m.command → IsReadAgain m
 
--- A message bears the key that it has, and no other.
+-- a key says that a consumer is closed under a number, which is that of the other key, of a request
+abbrev pub Closes : Option RequestKey → RequestKey → Type 0
+Closes own k = (c : ℕ) × (r : ℕ) × (own ≡ Some (CloseConsumer c r)) × (k ≡ RequestId r)
+
+-- A message bears the key that it has. One that closes a consumer also bears that of the request of its number, and no
+-- message bears another.
 abbrev pub BearsItsKey : Type 0
-BearsItsKey = (m : MessageValues) (k : RequestKey) → (bears m k ≡ true) ↔ (key m ≡ Some k)
+BearsItsKey = (m : MessageValues) (k : RequestKey) → (bears m k ≡ true) ↔ ((key m ≡ Some k) ⊎ Closes (key m) k)

@@ -32,7 +32,7 @@ pub fn reads_frames_written()
     ensures { ReadsFramesWritten }
 {}
 
-/// A message bears the key that it has, and no other.
+/// A message bears the key that it has. One that closes a consumer also bears that of the request of its number.
 pub fn bears_its_key()
     ensures { BearsItsKey }
 {}

@@ -1,23 +1,10 @@
--- Writing behind what was written is writing the spelling at its end.
+-- A message behind its length.
 use Rattle.std.proofs.Common.{◌≡◌, ℕ, ◌-◌, ◌^◌, ◌≤◌, List, ◌++◌, length, sym, ◌∙◌, append_assoc, length-append, arith, inl, inr}
 use Rattle.std.specs.List.{flat_map}
 use Rattle.std.proofs.lemmas.Bool.{cases_lt}
 use Rattle.std.proofs.lemmas.List.{append-nil}
 use Rattle.pulsar_wire.specs.Row.{Int64, Row, End, Plain, Embedded, Numbers, Values, entry, key, varint, message_entry, items, spelling}
-use Rattle.pulsar_wire.specs.Written.{capped, written}
-
-pub written-spelling : (row : Row) (vs : Values row) (front : List ℕ) → written row vs front ≡ front ++ spelling row vs
-unfolding written spelling
-written-spelling End vs front = sym (append-nil front)
-written-spelling (Plain n r k row) vs front =
-    let one = flat_map (entry n k) (items r vs.0) in
-    written-spelling row vs.1 (front ++ one) ∙ append_assoc front one (spelling row vs.1)
-written-spelling (Embedded n r inner row) vs front =
-    let one = flat_map (λ x. message_entry n (spelling inner x)) (items r vs.0) in
-    written-spelling row vs.1 (front ++ one) ∙ append_assoc front one (spelling row vs.1)
-written-spelling (Numbers n row) vs front =
-    let one = flat_map (entry n Int64) vs.0 in
-    written-spelling row vs.1 (front ++ one) ∙ append_assoc front one (spelling row vs.1)
+use Rattle.pulsar_wire.specs.Written.{capped}
 
 -- a length that was counted stands for the length of what follows it
 pub with_count : {S : Type 0} (Holds : S → List ℕ → Type 0) (full : (s : S) (xs ys : List ℕ) → Holds s xs → 2 ^ 64 - 1 ≤ length xs → 2 ^ 64 - 1 ≤ length ys → Holds s ys)

@@ -1,5 +1,6 @@
 pub mod Field
 pub mod Row
+pub mod At
 pub mod Rows
 pub mod Enumerations
 pub mod Views

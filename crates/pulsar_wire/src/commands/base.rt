@@ -12,7 +12,14 @@ ghost use Rattle.pulsar_wire.specs.Written.{Appends, capped};
 ghost use Rattle.pulsar_wire.specs.Views.{body_values, command_values};
 ghost use Rattle.pulsar_wire.specs.Shown.{Gives, Leaves, field};
 
-use crate::commands::connection::{CommandConnect, CommandConnected};
+use crate::commands::auth::{CommandAuthChallenge, CommandAuthResponse};
+use crate::commands::connection::{CommandConnect, CommandConnected, CommandError, CommandPing, CommandPong, CommandSuccess};
+use crate::commands::consumer::delivery::{CommandAck, CommandFlow, CommandMessage, CommandReachedEndOfTopic, CommandRedeliverUnacknowledgedMessages};
+use crate::commands::consumer::position::{CommandConsumerStats, CommandConsumerStatsResponse, CommandGetLastMessageId, CommandGetLastMessageIdResponse, CommandSeek};
+use crate::commands::consumer::subscription::{CommandActiveConsumerChange, CommandCloseConsumer, CommandSubscribe, CommandUnsubscribe};
+use crate::commands::lookup::{CommandLookupTopic, CommandLookupTopicResponse, CommandPartitionedTopicMetadata, CommandPartitionedTopicMetadataResponse};
+use crate::commands::producer::{CommandCloseProducer, CommandProducer, CommandProducerSuccess, CommandSend, CommandSendError, CommandSendReceipt};
+use crate::commands::schema::{CommandGetSchema, CommandGetSchemaResponse};
 use crate::commands::topics::{CommandGetTopicsOfNamespace, CommandGetTopicsOfNamespaceResponse};
 use crate::encoding::content::int32_of;
 use crate::encoding::field::{Value, read_field};
@@ -23,13 +30,132 @@ use crate::encoding::sink::{Count, Sink};
 use crate::error::NoMemory;
 use std::alloc::{AllocError, Global};
 
+/// The bodies: the number of each, its variant and its name. The macro that is named first is called with all of them.
+macro_rules! bodies {
+    ($each:ident $($arguments:tt)*) => {
+        $each! {
+            $($arguments)*;
+            2 Connect "connect",
+            3 Connected "connected",
+            4 Subscribe "subscribe",
+            5 Producer "producer",
+            6 Send "send",
+            7 SendReceipt "send_receipt",
+            8 SendError "send_error",
+            9 Message "message",
+            10 Ack "ack",
+            11 Flow "flow",
+            12 Unsubscribe "unsubscribe",
+            13 Success "success",
+            14 Error "error",
+            15 CloseProducer "close_producer",
+            16 CloseConsumer "close_consumer",
+            17 ProducerSuccess "producer_success",
+            18 Ping "ping",
+            19 Pong "pong",
+            20 RedeliverUnacknowledgedMessages "redeliver_unacknowledged_messages",
+            21 PartitionedTopicMetadata "partition_metadata",
+            22 PartitionedTopicMetadataResponse "partition_metadata_response",
+            23 LookupTopic "lookup_topic",
+            24 LookupTopicResponse "lookup_topic_response",
+            25 ConsumerStats "consumer_stats",
+            26 ConsumerStatsResponse "consumer_stats_response",
+            27 ReachedEndOfTopic "reached_end_of_topic",
+            28 Seek "seek",
+            29 GetLastMessageId "get_last_message_id",
+            30 GetLastMessageIdResponse "get_last_message_id_response",
+            31 ActiveConsumerChange "active_consumer_change",
+            32 GetTopicsOfNamespace "get_topics_of_namespace",
+            33 GetTopicsOfNamespaceResponse "get_topics_of_namespace_response",
+            34 GetSchema "get_schema",
+            35 GetSchemaResponse "get_schema_response",
+            36 AuthChallenge "auth_challenge",
+            37 AuthResponse "auth_response"
+        }
+    };
+}
+
+macro_rules! number_of {
+    ($body:expr; $($number:literal $variant:ident $name:literal),*) => {
+        match $body {
+            $(Body::$variant(_) => $number,)*
+        }
+    };
+}
+
+macro_rules! name_of {
+    ($body:expr; $($number:literal $variant:ident $name:literal),*) => {
+        match $body {
+            $(Body::$variant(_) => $name,)*
+        }
+    };
+}
+
+macro_rules! copy_of {
+    ($body:expr; $($number:literal $variant:ident $name:literal),*) => {
+        match $body {
+            $(Body::$variant(body) => Ok(Body::$variant(body.copy()?)),)*
+        }
+    };
+}
+
+macro_rules! read_body {
+    ($alloc:expr, $bytes:expr, $wanted:expr; $($number:literal $variant:ident $name:literal),*) => {
+        match $wanted {
+            $($number => Ok(Body::$variant(body_of($alloc, $bytes, $wanted)?)),)*
+            _ => Err(ReadError::Malformed),
+        }
+    };
+}
+
+macro_rules! write_command {
+    ($out:expr, $command:expr; $($number:literal $variant:ident $name:literal),*) => {
+        match &$command.body {
+            None => write_kind($out, $command.kind),
+            $(Some(Body::$variant(body)) => write_body($out, $number, $number, body),)*
+        }
+    };
+}
+
 /// What a command says, by its type.
 #[derive(Debug, PartialEq, Eq, Drop)]
 pub enum Body {
     Connect(CommandConnect),
     Connected(CommandConnected),
+    Subscribe(CommandSubscribe),
+    Producer(CommandProducer),
+    Send(CommandSend),
+    SendReceipt(CommandSendReceipt),
+    SendError(CommandSendError),
+    Message(CommandMessage),
+    Ack(CommandAck),
+    Flow(CommandFlow),
+    Unsubscribe(CommandUnsubscribe),
+    Success(CommandSuccess),
+    Error(CommandError),
+    CloseProducer(CommandCloseProducer),
+    CloseConsumer(CommandCloseConsumer),
+    ProducerSuccess(CommandProducerSuccess),
+    Ping(CommandPing),
+    Pong(CommandPong),
+    RedeliverUnacknowledgedMessages(CommandRedeliverUnacknowledgedMessages),
+    PartitionedTopicMetadata(CommandPartitionedTopicMetadata),
+    PartitionedTopicMetadataResponse(CommandPartitionedTopicMetadataResponse),
+    LookupTopic(CommandLookupTopic),
+    LookupTopicResponse(CommandLookupTopicResponse),
+    ConsumerStats(CommandConsumerStats),
+    ConsumerStatsResponse(CommandConsumerStatsResponse),
+    ReachedEndOfTopic(CommandReachedEndOfTopic),
+    Seek(CommandSeek),
+    GetLastMessageId(CommandGetLastMessageId),
+    GetLastMessageIdResponse(CommandGetLastMessageIdResponse),
+    ActiveConsumerChange(CommandActiveConsumerChange),
     GetTopicsOfNamespace(CommandGetTopicsOfNamespace),
     GetTopicsOfNamespaceResponse(CommandGetTopicsOfNamespaceResponse),
+    GetSchema(CommandGetSchema),
+    GetSchemaResponse(CommandGetSchemaResponse),
+    AuthChallenge(CommandAuthChallenge),
+    AuthResponse(CommandAuthResponse),
 }
 
 /// A command of the protocol. Its body decides what it is, and `kind` counts where there is none.
@@ -45,38 +171,21 @@ impl Body {
         ensures number { result ≡ (body_values self.now).number }
         ensures small { result < 64 }
     {
-        match self {
-            Body::Connect(_) => 2,
-            Body::Connected(_) => 3,
-            Body::GetTopicsOfNamespace(_) => 32,
-            Body::GetTopicsOfNamespaceResponse(_) => 33,
-        }
+        bodies!(number_of self)
     }
 
     /// The name of its command in the protocol.
     pub fn name(&self) -> &'static str
         ensures { result.now ≡ body_name (body_values self.now).number }
     {
-        match self {
-            Body::Connect(_) => "connect",
-            Body::Connected(_) => "connected",
-            Body::GetTopicsOfNamespace(_) => "get_topics_of_namespace",
-            Body::GetTopicsOfNamespaceResponse(_) => "get_topics_of_namespace_response",
-        }
+        bodies!(name_of self)
     }
 
     /// A body with the same content.
     pub fn copy(&self) -> Result<Body, NoMemory>
         ensures { IfOk result (λ body. body_values body ≡ body_values self.now) }
     {
-        match self {
-            Body::Connect(body) => Ok(Body::Connect(body.copy()?)),
-            Body::Connected(body) => Ok(Body::Connected(body.copy()?)),
-            Body::GetTopicsOfNamespace(body) => Ok(Body::GetTopicsOfNamespace(body.copy()?)),
-            Body::GetTopicsOfNamespaceResponse(body) => {
-                Ok(Body::GetTopicsOfNamespaceResponse(body.copy()?))
-            }
-        }
+        bodies!(copy_of self)
     }
 }
 
@@ -109,7 +218,7 @@ impl BaseCommand {
 fn is_body(number: u32) -> bool
     ensures { result ≡ is_some (body_row number) }
 {
-    matches!(number, 2 | 3 | 32 | 33)
+    matches!(number, 2..=37)
 }
 
 /// What stands around a body.
@@ -213,13 +322,7 @@ pub fn body_of<M: Message>(alloc: Global, bytes: &[u8], body: u32) -> Result<M, 
 fn any_body_of(alloc: Global, bytes: &[u8], number: u32) -> Result<Body, ReadError>
     ensures { Gives body_values result (any_body number bytes.now) }
 {
-    match number {
-        2 => Ok(Body::Connect(body_of(alloc, bytes, number)?)),
-        3 => Ok(Body::Connected(body_of(alloc, bytes, number)?)),
-        32 => Ok(Body::GetTopicsOfNamespace(body_of(alloc, bytes, number)?)),
-        33 => Ok(Body::GetTopicsOfNamespaceResponse(body_of(alloc, bytes, number)?)),
-        _ => Err(ReadError::Malformed),
-    }
+    bodies!(read_body alloc, bytes, number)
 }
 
 /// The command that the bytes spell.
@@ -270,13 +373,7 @@ fn write_command<S: Sink>(out: &mut S, command: &BaseCommand) -> Result<(), Allo
     ensures sure { S.IsSure → IsOk result }
     ensures fits { OnOk result (CommandInRange (settled (command_values command.now))) }
 {
-    match &command.body {
-        None => write_kind(out, command.kind),
-        Some(Body::Connect(body)) => write_body(out, 2, 2, body),
-        Some(Body::Connected(body)) => write_body(out, 3, 3, body),
-        Some(Body::GetTopicsOfNamespace(body)) => write_body(out, 32, 32, body),
-        Some(Body::GetTopicsOfNamespaceResponse(body)) => write_body(out, 33, 33, body),
-    }
+    bodies!(write_command out, command)
 }
 
 /// Writes the command at the end.

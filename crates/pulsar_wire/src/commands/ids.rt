@@ -6,9 +6,10 @@ ghost use Rattle.pulsar_wire.specs.Rows.{message_id};
 ghost use Rattle.pulsar_wire.specs.Views.{message_id_values};
 
 use crate::encoding::content::{int32_of, push_numbers, uint64_of};
+use crate::encoding::copying::copy_values;
 use crate::encoding::field::Value;
+use crate::encoding::fields::{Fields, Numbers, Optional, Required, fields};
 use crate::encoding::message::Message;
-use crate::encoding::plain::{write_numbers, write_optional, write_required};
 use crate::encoding::read_error::ReadError;
 use crate::encoding::sink::Sink;
 use crate::error::NoMemory;
@@ -46,23 +47,7 @@ impl MessageIdData {
     pub fn copy(&self) -> Result<MessageIdData, NoMemory>
         ensures { IfOk result (λ m. message_id_values m ≡ message_id_values self.now) }
     {
-        Ok(self.clone()?)
-    }
-}
-
-impl Clone for MessageIdData {
-    ghost is_clone = { λ old new. message_id_values new ≡ message_id_values old };
-
-    #[tactic(auto, unfolding(crate::specs::Views::message_id_values))]
-    fn clone(&self) -> Result<MessageIdData, AllocError> {
-        Ok(MessageIdData {
-            ledger_id: self.ledger_id,
-            entry_id: self.entry_id,
-            partition: self.partition,
-            batch_index: self.batch_index,
-            ack_set: self.ack_set.clone()?,
-            batch_size: self.batch_size,
-        })
+        Ok(self.duplicate()?)
     }
 }
 
@@ -89,14 +74,29 @@ impl Message for MessageIdData {
         Ok(())
     }
 
-    #[tactic(auto, unfolding(crate::specs::Written::written, crate::specs::Views::message_id_values))]
+    #[tactic(auto, unfolding(crate::specs::Row::spelling, crate::specs::Views::message_id_values))]
     fn write<S: Sink>(&self, out: &mut S) -> Result<(), AllocError> {
-        write_required(out, 1, &self.ledger_id)?;
-        write_required(out, 2, &self.entry_id)?;
-        write_optional(out, 3, &self.partition)?;
-        write_optional(out, 4, &self.batch_index)?;
-        write_numbers(out, 5, &self.ack_set)?;
-        write_optional(out, 6, &self.batch_size)
+        fields!(
+            Required(1, &self.ledger_id),
+            Required(2, &self.entry_id),
+            Optional(3, &self.partition),
+            Optional(4, &self.batch_index),
+            Numbers(5, &self.ack_set),
+            Optional(6, &self.batch_size)
+        )
+        .write(out)
+    }
+
+    #[tactic(auto, unfolding(crate::specs::Views::message_id_values))]
+    fn duplicate(&self) -> Result<MessageIdData, AllocError> {
+        Ok(MessageIdData {
+            ledger_id: self.ledger_id,
+            entry_id: self.entry_id,
+            partition: self.partition,
+            batch_index: self.batch_index,
+            ack_set: copy_values(&self.ack_set)?,
+            batch_size: self.batch_size,
+        })
     }
 
     ghost numbers_differ = { refl };

@@ -1,16 +1,17 @@
 //! The commands that ask for the topics of a namespace.
 
 ghost use Rattle.std.specs.Prelude.{◌≡◌, refl, map, string_bytes, IfOk};
-ghost use Rattle.std.specs.Option.{option_map};
 ghost use Rattle.pulsar_wire.specs.Enumerations.{mode_number};
 ghost use Rattle.pulsar_wire.specs.Row.{none_of};
 ghost use Rattle.pulsar_wire.specs.Rows.{get_topics_of_namespace, get_topics_of_namespace_response};
 ghost use Rattle.pulsar_wire.specs.Views.{get_topics_of_namespace_values, get_topics_of_namespace_response_values};
 
 use crate::encoding::content::{int32_of, push_text, text_of, uint64_of};
+use crate::encoding::copying::copy_values;
 use crate::encoding::field::Value;
+use crate::encoding::fields::{Fields, Optional, Repeated, Required, fields};
 use crate::encoding::message::Message;
-use crate::encoding::plain::{write_optional, write_repeated, write_required};
+use crate::encoding::plain::Plain;
 use crate::encoding::read_error::ReadError;
 use crate::encoding::sink::Sink;
 use crate::error::NoMemory;
@@ -37,10 +38,11 @@ impl From<Mode> for i32 {
 }
 
 /// Asks for the topics of a namespace.
-#[derive(Clone, Debug, PartialEq, Eq, Drop)]
+#[derive(Debug, PartialEq, Eq, Drop)]
 pub struct CommandGetTopicsOfNamespace {
     pub request_id: u64,
     pub namespace: String,
+    /// The number of a `Mode`.
     pub mode: Option<i32>,
 }
 
@@ -58,12 +60,10 @@ impl CommandGetTopicsOfNamespace {
     }
 
     /// A command with the same content.
-    #[tactic(auto, unfolding(crate::specs::Views::get_topics_of_namespace_values))]
     pub fn copy(&self) -> Result<CommandGetTopicsOfNamespace, NoMemory>
-        ensures { IfOk result (λ m. get_topics_of_namespace_values m
-            ≡ get_topics_of_namespace_values self.now) }
+        ensures { IfOk result (λ m. get_topics_of_namespace_values m ≡ get_topics_of_namespace_values self.now) }
     {
-        Ok(self.clone()?)
+        Ok(self.duplicate()?)
     }
 }
 
@@ -87,18 +87,30 @@ impl Message for CommandGetTopicsOfNamespace {
         Ok(())
     }
 
-    #[tactic(auto, unfolding(crate::specs::Written::written, crate::specs::Views::get_topics_of_namespace_values))]
+    #[tactic(auto, unfolding(crate::specs::Row::spelling, crate::specs::Views::get_topics_of_namespace_values))]
     fn write<S: Sink>(&self, out: &mut S) -> Result<(), AllocError> {
-        write_required(out, 1, &self.request_id)?;
-        write_required(out, 2, &self.namespace)?;
-        write_optional(out, 3, &self.mode)
+        fields!(
+            Required(1, &self.request_id),
+            Required(2, &self.namespace),
+            Optional(3, &self.mode)
+        )
+        .write(out)
+    }
+
+    #[tactic(auto, unfolding(crate::specs::Views::get_topics_of_namespace_values))]
+    fn duplicate(&self) -> Result<CommandGetTopicsOfNamespace, AllocError> {
+        Ok(CommandGetTopicsOfNamespace {
+            request_id: self.request_id,
+            namespace: self.namespace.copy()?,
+            mode: self.mode,
+        })
     }
 
     ghost numbers_differ = { refl };
 }
 
-/// The broker's answer to `get_topics_of_namespace`.
-#[derive(Clone, Debug, PartialEq, Eq, Drop)]
+/// The names of the topics of a namespace.
+#[derive(Debug, PartialEq, Eq, Drop)]
 pub struct CommandGetTopicsOfNamespaceResponse {
     pub request_id: u64,
     pub topics: Vec<String>,
@@ -108,8 +120,7 @@ impl CommandGetTopicsOfNamespaceResponse {
     /// The command whose fields are absent, empty or zero.
     #[tactic(auto, unfolding(crate::specs::Views::get_topics_of_namespace_response_values))]
     pub fn new(alloc: Global) -> CommandGetTopicsOfNamespaceResponse
-        ensures { get_topics_of_namespace_response_values result
-            ≡ none_of get_topics_of_namespace_response }
+        ensures { get_topics_of_namespace_response_values result ≡ none_of get_topics_of_namespace_response }
     {
         CommandGetTopicsOfNamespaceResponse {
             request_id: 0,
@@ -118,12 +129,10 @@ impl CommandGetTopicsOfNamespaceResponse {
     }
 
     /// A command with the same content.
-    #[tactic(auto, using(crate::proofs::Copies::map_copied), unfolding(crate::specs::Views::get_topics_of_namespace_response_values))]
     pub fn copy(&self) -> Result<CommandGetTopicsOfNamespaceResponse, NoMemory>
-        ensures { IfOk result (λ m. get_topics_of_namespace_response_values m
-            ≡ get_topics_of_namespace_response_values self.now) }
+        ensures { IfOk result (λ m. get_topics_of_namespace_response_values m ≡ get_topics_of_namespace_response_values self.now) }
     {
-        Ok(self.clone()?)
+        Ok(self.duplicate()?)
     }
 }
 
@@ -146,10 +155,21 @@ impl Message for CommandGetTopicsOfNamespaceResponse {
         Ok(())
     }
 
-    #[tactic(auto, unfolding(crate::specs::Written::written, crate::specs::Views::get_topics_of_namespace_response_values))]
+    #[tactic(auto, unfolding(crate::specs::Row::spelling, crate::specs::Views::get_topics_of_namespace_response_values))]
     fn write<S: Sink>(&self, out: &mut S) -> Result<(), AllocError> {
-        write_required(out, 1, &self.request_id)?;
-        write_repeated(out, 2, &self.topics)
+        fields!(
+            Required(1, &self.request_id),
+            Repeated(2, &self.topics)
+        )
+        .write(out)
+    }
+
+    #[tactic(auto, unfolding(crate::specs::Views::get_topics_of_namespace_response_values))]
+    fn duplicate(&self) -> Result<CommandGetTopicsOfNamespaceResponse, AllocError> {
+        Ok(CommandGetTopicsOfNamespaceResponse {
+            request_id: self.request_id,
+            topics: copy_values(&self.topics)?,
+        })
     }
 
     ghost numbers_differ = { refl };

@@ -1,12 +1,12 @@
 //! Messages by their rows.
 
-ghost use Rattle.std.specs.Prelude.{◌≡◌, ◌++◌, ℕ, List, map, length, OnOk, IsOk};
+ghost use Rattle.std.specs.Prelude.{◌≡◌, ◌++◌, ℕ, List, map, length, OnOk, IsOk, IfOk};
 ghost use Rattle.std.specs.Option.{option_map};
 ghost use Rattle.pulsar_wire.specs.Row.{Row, Values, Required, Optional, Repeated, items, message_entry, none_of, spelling, reading};
 ghost use Rattle.pulsar_wire.specs.Fits.{InRange, IsRow};
 ghost use Rattle.pulsar_wire.specs.Merge.{put, put_part, merged};
 ghost use Rattle.std.specs.List.{flat_map, AllByRecursion};
-ghost use Rattle.pulsar_wire.specs.Written.{capped, Appends, written};
+ghost use Rattle.pulsar_wire.specs.Written.{capped, Appends};
 ghost use Rattle.pulsar_wire.specs.Shown.{Leaves, Gives, field, shown};
 
 use crate::encoding::content::delimited_of;
@@ -34,10 +34,13 @@ pub trait Message: Drop {
 
     /// Writes its fields. What is written is in range, since its types hold it.
     fn write<S: Sink>(&self, out: &mut S) -> Result<(), AllocError>
-        ensures ok { OnOk result ((front : List ℕ) → S.Holds out.old front
-            → S.Holds out.new (written shape (values self.now) front)) }
+        ensures ok { OnOk result (Appends S.Holds out.old out.new (spelling shape (values self.now))) }
         ensures sure { S.IsSure → IsOk result }
         ensures fits { OnOk result (InRange shape (values self.now)) };
+
+    /// A message with the same content.
+    fn duplicate(&self) -> Result<Self, AllocError>
+        ensures { IfOk result (λ m. values m ≡ values self.now) };
 
     /// No two fields have one number.
     ghost numbers_differ: { IsRow shape };
@@ -159,42 +162,8 @@ pub fn write_message<M: Message, S: Sink>(
     message.write(out)
 }
 
-/// Writes a field that always holds a message.
-pub fn write_required_message<M: Message, S: Sink>(
-    out: &mut S,
-    number: u32,
-    message: &M,
-) -> Result<(), AllocError>
-    ensures ok { OnOk result (Appends S.Holds out.old out.new
-        (flat_map (λ x. message_entry number (spelling M.shape x))
-        (items Required (M.values message.now)))) }
-    ensures sure { S.IsSure → IsOk result }
-    ensures fits { OnOk result (AllByRecursion (InRange M.shape) (items Required (M.values message.now))) }
-{
-    write_message(out, number, message)
-}
-
-/// Writes a field that may hold a message.
-pub fn write_optional_message<M: Message, S: Sink>(
-    out: &mut S,
-    number: u32,
-    message: &Option<M>,
-) -> Result<(), AllocError>
-    ensures ok { OnOk result (Appends S.Holds out.old out.new
-        (flat_map (λ x. message_entry number (spelling M.shape x))
-        (items Optional (option_map M.values message.now)))) }
-    ensures sure { S.IsSure → IsOk result }
-    ensures fits { OnOk result (AllByRecursion (InRange M.shape)
-        (items Optional (option_map M.values message.now))) }
-{
-    match message {
-        Some(message) => write_message(out, number, message),
-        None => Ok(()),
-    }
-}
-
-/// Writes a field that holds any number of messages.
-pub fn write_repeated_messages<M: Message, S: Sink>(
+/// Writes the messages of a field, one by one.
+pub fn write_messages<M: Message, S: Sink>(
     out: &mut S,
     number: u32,
     messages: &[M],

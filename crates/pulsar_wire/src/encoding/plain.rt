@@ -1,12 +1,12 @@
 //! Values that are written as they are.
 
-ghost use Rattle.std.specs.Prelude.{◌≡◌, ℕ, List, ◌++◌, ◌+◌, ◌*◌, map, length, OnOk, IsOk, string_bytes, FitsSigned};
+ghost use Rattle.std.specs.Prelude.{◌≡◌, ℕ, List, ◌++◌, ◌+◌, ◌*◌, map, length, OnOk, IsOk, IfOk, Option, refl, string_bytes, FitsSigned};
 ghost use Rattle.std.specs.Option.{option_map};
 ghost use Rattle.std.specs.List.{flat_map, AllByRecursion};
 ghost use Rattle.std.specs.Int.{w64};
 ghost use Rattle.pulsar_wire.specs.Row.{Kind, Text, Bytes, Uint32, Uint64, Int32, Int64, Flag, Required, Optional, Repeated, Content, items, varint, key, with_length, entry};
 ghost use Rattle.pulsar_wire.specs.Fits.{FitsContent};
-ghost use Rattle.pulsar_wire.specs.Written.{Appends};
+ghost use Rattle.pulsar_wire.specs.Written.{Appends, held_alike};
 
 use crate::encoding::sink::{Sink, push_varint};
 use std::alloc::AllocError;
@@ -39,16 +39,25 @@ fn push_delimited<S: Sink>(out: &mut S, number: u32, bytes: &[u8]) -> Result<(),
 }
 
 /// What a plain field holds.
-pub trait Plain {
+pub trait Plain: Drop {
     ghost kind: { Kind };
 
     ghost content_of: { Self → Content kind };
+
+    /// The same of a value that may be absent.
+    ghost held: { Option Self → Option (Content kind) };
+
+    ghost held_is: { (o : Option Self) → held o ≡ option_map content_of o };
 
     /// Writes the value behind its key.
     fn write<S: Sink>(&self, out: &mut S, number: u32) -> Result<(), AllocError>
         ensures ok { OnOk result (Appends S.Holds out.old out.new (entry number kind (content_of self.now))) }
         ensures sure { S.IsSure → IsOk result }
         ensures fits { FitsContent kind (content_of self.now) };
+
+    /// A value with the same content.
+    fn copy(&self) -> Result<Self, AllocError>
+        ensures { IfOk result (λ p. content_of p ≡ content_of self.now) };
 }
 
 impl Plain for String {
@@ -56,8 +65,16 @@ impl Plain for String {
 
     ghost content_of = { string_bytes };
 
+    ghost held = { option_map string_bytes };
+
+    ghost held_is = { λ o. refl };
+
     fn write<S: Sink>(&self, out: &mut S, number: u32) -> Result<(), AllocError> {
         push_delimited(out, number, self.as_bytes())
+    }
+
+    fn copy(&self) -> Result<String, AllocError> {
+        self.clone()
     }
 }
 
@@ -66,8 +83,16 @@ impl Plain for Vec<u8> {
 
     ghost content_of = { λ v. v.items };
 
+    ghost held = { option_map (λ v. v.items) };
+
+    ghost held_is = { λ o. refl };
+
     fn write<S: Sink>(&self, out: &mut S, number: u32) -> Result<(), AllocError> {
         push_delimited(out, number, self.as_slice())
+    }
+
+    fn copy(&self) -> Result<Vec<u8>, AllocError> {
+        self.clone()
     }
 }
 
@@ -76,8 +101,16 @@ impl Plain for u32 {
 
     ghost content_of = { λ n. n };
 
+    ghost held = { λ o. o };
+
+    ghost held_is = { held_alike };
+
     fn write<S: Sink>(&self, out: &mut S, number: u32) -> Result<(), AllocError> {
         push_number(out, number, u64::from(*self))
+    }
+
+    fn copy(&self) -> Result<u32, AllocError> {
+        Ok(*self)
     }
 }
 
@@ -86,8 +119,16 @@ impl Plain for u64 {
 
     ghost content_of = { λ n. n };
 
+    ghost held = { λ o. o };
+
+    ghost held_is = { held_alike };
+
     fn write<S: Sink>(&self, out: &mut S, number: u32) -> Result<(), AllocError> {
         push_number(out, number, *self)
+    }
+
+    fn copy(&self) -> Result<u64, AllocError> {
+        Ok(*self)
     }
 }
 
@@ -96,8 +137,16 @@ impl Plain for i32 {
 
     ghost content_of = { λ n. n };
 
+    ghost held = { λ o. o };
+
+    ghost held_is = { held_alike };
+
     fn write<S: Sink>(&self, out: &mut S, number: u32) -> Result<(), AllocError> {
         push_number(out, number, i64::from(*self).cast_unsigned())
+    }
+
+    fn copy(&self) -> Result<i32, AllocError> {
+        Ok(*self)
     }
 }
 
@@ -106,8 +155,16 @@ impl Plain for i64 {
 
     ghost content_of = { λ n. n };
 
+    ghost held = { λ o. o };
+
+    ghost held_is = { held_alike };
+
     fn write<S: Sink>(&self, out: &mut S, number: u32) -> Result<(), AllocError> {
         push_number(out, number, self.cast_unsigned())
+    }
+
+    fn copy(&self) -> Result<i64, AllocError> {
+        Ok(*self)
     }
 }
 
@@ -116,45 +173,21 @@ impl Plain for bool {
 
     ghost content_of = { λ b. b };
 
+    ghost held = { λ o. o };
+
+    ghost held_is = { held_alike };
+
     fn write<S: Sink>(&self, out: &mut S, number: u32) -> Result<(), AllocError> {
         push_number(out, number, u64::from(*self))
     }
-}
 
-/// Writes a field that always holds a value.
-pub fn write_required<P: Plain, S: Sink>(
-    out: &mut S,
-    number: u32,
-    value: &P,
-) -> Result<(), AllocError>
-    ensures ok { OnOk result (Appends S.Holds out.old out.new
-        (flat_map (entry number P.kind) (items Required (P.content_of value.now)))) }
-    ensures sure { S.IsSure → IsOk result }
-    ensures fits { OnOk result (AllByRecursion (FitsContent P.kind) (items Required (P.content_of value.now))) }
-{
-    value.write(out, number)
-}
-
-/// Writes a field that may hold a value.
-pub fn write_optional<P: Plain, S: Sink>(
-    out: &mut S,
-    number: u32,
-    value: &Option<P>,
-) -> Result<(), AllocError>
-    ensures ok { OnOk result (Appends S.Holds out.old out.new
-        (flat_map (entry number P.kind) (items Optional (option_map P.content_of value.now)))) }
-    ensures sure { S.IsSure → IsOk result }
-    ensures fits { OnOk result (AllByRecursion (FitsContent P.kind)
-        (items Optional (option_map P.content_of value.now))) }
-{
-    match value {
-        Some(value) => value.write(out, number),
-        None => Ok(()),
+    fn copy(&self) -> Result<bool, AllocError> {
+        Ok(*self)
     }
 }
 
-/// Writes a field that holds any number of values.
-pub fn write_repeated<P: Plain, S: Sink>(
+/// Writes the values of a field, one by one.
+pub fn write_values<P: Plain, S: Sink>(
     out: &mut S,
     number: u32,
     values: &[P],
@@ -171,7 +204,7 @@ pub fn write_repeated<P: Plain, S: Sink>(
     Ok(())
 }
 
-/// Writes a field that holds any number of 64-bit numbers, one by one.
+/// Writes the numbers of a field, one by one.
 pub fn write_numbers<S: Sink>(out: &mut S, number: u32, values: &[i64]) -> Result<(), AllocError>
     ensures ok { OnOk result (Appends S.Holds out.old out.new (flat_map (entry number Int64) values.now)) }
     ensures sure { S.IsSure → IsOk result }

@@ -2,15 +2,8 @@
 
 use crate::commands::base::{BaseCommand, Body};
 use crate::commands::connection::{CommandConnect, CommandConnected, client_version};
+use crate::commands::consumer::delivery::CommandMessage;
 use crate::commands::ids::MessageIdData;
-use crate::commands::topics::{
-    CommandGetTopicsOfNamespace, CommandGetTopicsOfNamespaceResponse, Mode,
-};
-use crate::encoding::field::Value;
-use crate::encoding::message::{
-    put_optional, put_repeated, put_required, write_optional_message, write_repeated_messages,
-    write_required_message,
-};
 use crate::error::{ConnectionError, Reason};
 use crate::laws::round_trip;
 use crate::wire::Wire;
@@ -115,40 +108,6 @@ fn writes_a_connect(rt: HostRuntime) -> Result<(), Fail> {
 }
 
 #[test]
-fn reads_a_connected(rt: HostRuntime) -> Result<(), Fail> {
-    let alloc = rt.alloc();
-    let command = both_ways(&rt, alloc, b"\x08\x03\x1a\x02\x0a\x00")?;
-    let connected = CommandConnected::new(alloc);
-    assert!(rt; command == BaseCommand::new(Body::Connected(connected.copy()?)));
-    Ok(())
-}
-
-#[test]
-fn asks_for_topics(rt: HostRuntime) -> Result<(), Fail> {
-    let alloc = rt.alloc();
-    let bytes = b"\x08\x20\x82\x02\x14\x08\x00\x12\x0epublic/default\x18\x02";
-    let command = both_ways(&rt, alloc, bytes)?;
-    let mut asked = CommandGetTopicsOfNamespace::new(alloc);
-    asked.namespace = String::from_str(alloc, "public/default")?;
-    asked.mode = Some(Mode::All.into());
-    assert!(rt; command == BaseCommand::new(Body::GetTopicsOfNamespace(asked.copy()?)));
-    Ok(())
-}
-
-#[test]
-fn is_told_topics(rt: HostRuntime) -> Result<(), Fail> {
-    let alloc = rt.alloc();
-    let bytes = b"\x08\x21\x8a\x02\x05\x08\x00\x12\x01a";
-    let command = both_ways(&rt, alloc, bytes)?;
-    let mut told = CommandGetTopicsOfNamespaceResponse::new(alloc);
-    told.topics.push(String::from_str(alloc, "a")?)?;
-    let body = Body::GetTopicsOfNamespaceResponse(told.copy()?);
-    assert_eq!(rt; body.name(), "get_topics_of_namespace_response");
-    assert!(rt; command == BaseCommand::new(body.copy()?));
-    Ok(())
-}
-
-#[test]
 fn reads_ids(rt: HostRuntime) -> Result<(), Fail> {
     let alloc = rt.alloc();
     let plain = b"\x08\x01\x10\x02";
@@ -169,24 +128,18 @@ fn reads_ids(rt: HostRuntime) -> Result<(), Fail> {
 }
 
 #[test]
-fn embeds_messages(rt: HostRuntime) -> Result<(), Fail> {
+fn joins_the_occurrences_of_a_message(rt: HostRuntime) -> Result<(), Fail> {
     let alloc = rt.alloc();
-    let id = Value::Delimited(b"\x08\x01\x10\x02");
-    let mut always = MessageIdData::new(alloc);
-    put_required(&mut always, alloc, id)?;
-    let mut perhaps: Option<MessageIdData> = None;
-    put_optional(&mut perhaps, alloc, id)?;
-    let mut several: Vec<MessageIdData> = Vec::new(alloc);
-    put_repeated(&mut several, alloc, id)?;
-    put_repeated(&mut several, alloc, id)?;
-    let mut out = Vec::new(alloc);
-    write_required_message(&mut out, 3, &always)?;
-    write_optional_message(&mut out, 3, &perhaps)?;
-    write_repeated_messages(&mut out, 3, &several)?;
-    let entry = b"\x1a\x04\x08\x01\x10\x02";
-    assert_eq!(rt; out.len(), 4 * entry.len());
-    for written in out.chunks(entry.len()) {
-        assert_eq!(rt; written, entry.as_slice());
-    }
+    let twice = b"\x08\x05\x12\x02\x08\x01\xa0\x06\x01\x12\x02\x10\x02";
+    let message = CommandMessage::decode(alloc, twice)?;
+    assert_eq!(rt; message.consumer_id, 5);
+    assert_eq!(rt; (message.message_id.ledger_id, message.message_id.entry_id), (1, 2));
     Ok(())
+}
+
+#[test]
+fn reads_packed_numbers_that_fill_their_bytes(rt: HostRuntime) {
+    let alloc = rt.alloc();
+    let cut = MessageIdData::decode(alloc, b"\x08\x01\x10\x02\x2a\x02\x05\xff");
+    assert!(rt; matches!(cut, Err(ConnectionError::Decoding(Reason::Message))));
 }

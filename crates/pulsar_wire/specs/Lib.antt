@@ -2,6 +2,8 @@ pub mod Field
 pub mod Row
 pub mod Rows
 pub mod Enumerations
+pub mod Authentication
+pub mod Retry
 pub mod Views
 pub mod Command
 pub mod Fits

@@ -4,6 +4,9 @@
 pub mod commands;
 pub mod encoding;
 pub mod error;
+#[cfg(test)]
+mod error_tests;
+mod error_text;
 pub mod key;
 pub mod laws;
 #[cfg(test)]

@@ -2,5 +2,6 @@
 
 pub mod base;
 pub mod connection;
+pub mod enumerations;
 pub mod ids;
 pub mod topics;

@@ -2,9 +2,7 @@
 
 ghost use Rattle.std.specs.Prelude.{◌≡◌, ◌↔◌, Some};
 ghost use Rattle.pulsar_wire.specs.Enumerations.{error_number, error_of, initial_position_number, sub_type_number};
-ghost use Rattle.pulsar_wire.specs.declared.commands.enumerations.InitialPosition.TheVariants.{Latest};
 ghost use Rattle.pulsar_wire.specs.declared.commands.enumerations.ServerError.{ServerError};
-ghost use Rattle.pulsar_wire.specs.declared.commands.enumerations.SubType.TheVariants.{Exclusive};
 
 /// Why the broker refused a command.
 #[derive(Clone, Copy, Debug, PartialEq, Eq)]
@@ -110,9 +108,10 @@ pub fn server_error(i: i32) -> Option<ServerError>
 }
 
 /// How the consumers of a subscription share its messages.
-#[derive(Clone, Copy, Debug, PartialEq, Eq)]
+#[derive(Clone, Copy, Debug, PartialEq, Eq, Default)]
 pub enum SubType {
     /// There is one consumer.
+    #[default]
     Exclusive,
     /// Each message goes to one of the consumers.
     Shared,
@@ -120,14 +119,6 @@ pub enum SubType {
     Failover,
     /// The messages of a key go to the same consumer.
     KeyShared,
-}
-
-impl Default for SubType {
-    ghost is_default = { λ kind. kind ≡ Exclusive };
-
-    fn default() -> SubType {
-        SubType::Exclusive
-    }
 }
 
 impl From<SubType> for i32 {
@@ -144,20 +135,13 @@ impl From<SubType> for i32 {
 }
 
 /// Where a new subscription begins to read.
-#[derive(Clone, Copy, Debug, PartialEq, Eq)]
+#[derive(Clone, Copy, Debug, PartialEq, Eq, Default)]
 pub enum InitialPosition {
     /// Behind the last message.
+    #[default]
     Latest,
     /// At the first message.
     Earliest,
-}
-
-impl Default for InitialPosition {
-    ghost is_default = { λ position. position ≡ Latest };
-
-    fn default() -> InitialPosition {
-        InitialPosition::Latest
-    }
 }
 
 impl From<InitialPosition> for i32 {

@@ -3,6 +3,8 @@ pub mod Row
 pub mod At
 pub mod Rows
 pub mod Enumerations
+pub mod Authentication
+pub mod Retry
 pub mod Views
 pub mod Command
 pub mod Fits

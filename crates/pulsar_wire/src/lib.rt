@@ -4,6 +4,7 @@
 pub mod commands;
 pub mod encoding;
 pub mod error;
+mod error_text;
 pub mod key;
 pub mod laws;
 #[cfg(test)]

@@ -4,6 +4,7 @@ pub mod auth;
 pub mod base;
 pub mod connection;
 pub mod consumer;
+pub mod enumerations;
 pub mod ids;
 pub mod lookup;
 pub mod metadata;

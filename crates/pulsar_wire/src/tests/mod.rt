@@ -7,6 +7,7 @@ pub mod auth;
 pub mod commands;
 pub mod connection;
 pub mod delivery;
+pub mod errors;
 pub mod ids;
 pub mod lookup;
 pub mod metadata;

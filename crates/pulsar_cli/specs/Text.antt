@@ -1,7 +1,7 @@
 -- The printed run.
-use Rattle.std.specs.Prelude.{ℕ, ◌+◌, ◌/◌, ◌%◌, ◌==◌, nat_lt, nat_le, ◌&&◌, ◌||◌, Bool, if◌then◌else◌, List, [], ◌∷◌, ◌++◌, length, codes}
+use Rattle.std.specs.Prelude.{ℕ, ◌+◌, ◌/◌, ◌%◌, ◌==◌, nat_lt, nat_le, ◌&&◌, ◌||◌, Bool, if◌then◌else◌, List, [], ◌∷◌, ◌++◌, length, codes, Option, Some, None, Result, Ok, Err}
 use Rattle.std.specs.List.{flat_map}
-use Rattle.std.specs.Fmt.{decimal}
+use Rattle.std.specs.Fmt.{decimal, signed_decimal}
 use Rattle.hex.specs.Hex.{encode_lower}
 use Rattle.pulsar_wire.specs.declared.error.IoKind.{IoKind}
 use Rattle.pulsar_wire.specs.declared.error.IoKind.TheVariants.{ConnectionRefused, TimedOut, Other}
@@ -9,8 +9,14 @@ use Rattle.pulsar_wire.specs.declared.error.Reason.{Reason}
 use Rattle.pulsar_wire.specs.declared.error.Reason.TheVariants as reason
 use Rattle.pulsar_client.specs.declared.effect.Settlement.{Settlement}
 use Rattle.pulsar_client.specs.declared.effect.Settlement.TheVariants as settlement
-use Rattle.pulsar_client.specs.Content as content
-use Rattle.pulsar_client.specs.Content.{Fault, Said, Done, Names, Failed, Shown, Connect, Queued, Write, Close, Settles, Ends}
+use Rattle.pulsar_wire.specs.declared.commands.enumerations.ServerError.{ServerError}
+use Rattle.pulsar_wire.specs.Enumerations.{error_number}
+use Rattle.pulsar_wire.specs.Authentication as denial
+use Rattle.pulsar_client.specs.Failures.{Fault, Io, SlowDown, Disconnected, PulsarError, Unexpected, Decoding, Encoding, SocketAddr, UnexpectedResponse, Authentication, NotFound, Canceled, Shutdown, Exhausted, NoMemory}
+use Rattle.pulsar_client.specs.Failures.{ConsumerConnection, MissingPayload, Decompression, ChannelFull, ConsumerClosed, ConsumerBuild}
+use Rattle.pulsar_client.specs.Failures.{DiscoveryConnection, Query, TopicNotFound, DnsLookupError, DiscoveryCanceled, DiscoveryShutdown, Dummy}
+use Rattle.pulsar_client.specs.Failures.{Failure, OfConnection, OfConsumer, ProducerConnection, ProducerCustom, Compression, PartialSend, Batch, Fenced, ProducerClosed, OfDiscovery, OfAuthentication, Custom, Executor}
+use Rattle.pulsar_client.specs.Content.{Said, Done, Names, Failed, Shown, Connect, Queued, Write, Close, Settles, Ends}
 
 -- letters, digits and `-._/:` are printed as they are
 abbrev pub is_printed : ℕ → Bool
@@ -50,33 +56,71 @@ reason_word reason.Checksum = codes "checksum"
 reason_word reason.Message = codes "message"
 reason_word reason.Batch = codes "batch"
 
+-- the number of a broker's error; `~` where it has no name
+abbrev pub code : Option ServerError → List ℕ
+code None = codes "~"
+code (Some e) = signed_decimal (error_number e)
+
+-- a text that may be absent; it is then `~`
+abbrev pub word_or : Option (List ℕ) → List ℕ
+word_or None = codes "~"
+word_or (Some text) = word text
+
 -- the word of a fault, and what stands behind it
 abbrev pub fault_word : Fault → List ℕ
-fault_word (content.Io kind) = codes "io"
-fault_word content.Disconnected = codes "disconnected"
-fault_word (content.Decoding r) = codes "decoding"
-fault_word (content.Encoding r) = codes "encoding"
-fault_word (content.UnexpectedResponse body) = codes "unexpectedresponse"
-fault_word content.NotFound = codes "notfound"
-fault_word content.Canceled = codes "canceled"
-fault_word content.Shutdown = codes "shutdown"
-fault_word content.Exhausted = codes "exhausted"
-fault_word content.NoMemory = codes "nomemory"
+fault_word (Io kind) = codes "io"
+fault_word SlowDown = codes "slowdown"
+fault_word Disconnected = codes "disconnected"
+fault_word (PulsarError error text) = codes "pulsar"
+fault_word (Unexpected text) = codes "unexpected"
+fault_word (Decoding r) = codes "decoding"
+fault_word (Encoding r) = codes "encoding"
+fault_word (SocketAddr text) = codes "socketaddr"
+fault_word (UnexpectedResponse body) = codes "unexpectedresponse"
+fault_word (Authentication (denial.Custom text)) = codes "authentication.custom"
+fault_word (Authentication (denial.Retriable text)) = codes "authentication.retriable"
+fault_word NotFound = codes "notfound"
+fault_word Canceled = codes "canceled"
+fault_word Shutdown = codes "shutdown"
+fault_word Exhausted = codes "exhausted"
+fault_word NoMemory = codes "nomemory"
 
 abbrev pub fault_detail : Fault → List ℕ
-fault_detail (content.Io kind) = 32 ∷ io_kind kind
-fault_detail (content.Decoding r) = 32 ∷ reason_word r
-fault_detail (content.Encoding r) = 32 ∷ reason_word r
-fault_detail (content.UnexpectedResponse body) = 32 ∷ word body
+fault_detail (Io kind) = 32 ∷ io_kind kind
+fault_detail (PulsarError error text) = 32 ∷ code error ++ 32 ∷ word_or text
+fault_detail (Unexpected text) = 32 ∷ word text
+fault_detail (Decoding r) = 32 ∷ reason_word r
+fault_detail (Encoding r) = 32 ∷ reason_word r
+fault_detail (SocketAddr text) = 32 ∷ word text
+fault_detail (UnexpectedResponse body) = 32 ∷ word body
+fault_detail (Authentication (denial.Custom text)) = 32 ∷ word text
+fault_detail (Authentication (denial.Retriable text)) = 32 ∷ word text
 fault_detail _ = []
 
 abbrev pub fault : Fault → List ℕ
-fault f = codes "connection." ++ fault_word f ++ fault_detail f
+fault f = fault_word f ++ fault_detail f
 
+-- the first word of an error
+abbrev pub producer_word : ProducerError → List ℕ
+producer_word (producer.Connection e) = codes "producer.connection." ++ fault_word (content.fault e)
+producer_word (producer.Custom text) = codes "producer.custom"
+producer_word (producer.Io kind) = codes "producer.io"
+producer_word (producer.PartialSend' shape sent) = codes "producer.partial"
+producer_word (producer.Batch' p e) = codes "producer.batch"
+producer_word producer.Fenced = codes "producer.fenced"
+producer_word producer.Closed = codes "producer.closed"
+
+abbrev pub consumer_word : ConsumerError → List ℕ
+consumer_word (consumer.Connection e) = codes "consumer.connection." ++ fault_word (content.fault e)
+consumer_word (consumer.MissingPayload text) = codes "consumer.missingpayload"
+consumer_word (consumer.Io kind) = codes "consumer.io"
+consumer_word consumer.ChannelFull = codes "consumer.channelfull"
+consumer_word consumer.Closed = codes "consumer.closed"
+consumer_word consumer.BuildError = codes "consumer.build"
 abbrev pub answer : Said → List ℕ
 answer Done = codes "ok done"
 answer (Names names) = codes "ok topics " ++ decimal (length names) ++ flat_map (λ name. 32 ∷ word name) names
-answer (Failed f) = codes "err " ++ fault f
+answer (Failed f) = codes "err " ++ failure f
 
 abbrev pub settled_as : Settlement → List ℕ
 settled_as settlement.Reply = codes "reply"

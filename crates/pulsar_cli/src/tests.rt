@@ -358,6 +358,49 @@ fn calls_fail_with_words(rt: HostRuntime) -> Result<(), Fail> {
     )
 }
 
+#[test]
+fn a_request_is_settled_by_its_number(rt: HostRuntime) -> Result<(), Fail> {
+    let alloc = rt.alloc();
+    for (frame, answer) in [
+        // an error without a text, and one whose code has no name
+        ("0000000e0000000a080e72060800100b1a00", "connection.pulsar 11 %"),
+        ("000000110000000d080e72090800101a1a036f6f66", "connection.pulsar ~ oof"),
+        // a consumer is closed under the request's number
+        ("0000000d00000009081082010408051000", "connection.unexpectedresponse close_consumer"),
+    ] {
+        prints(
+            &rt,
+            alloc,
+            &[READY, ASK, "bytes 0 ", frame, "\n"],
+            DONE,
+            &[IS_READY, IS_ASKED, "event 5\nsettled 0 1 reply\nended 1 err ", answer, "\n"],
+        )?;
+    }
+    Ok(())
+}
+
+#[test]
+fn other_frames_settle_nothing(rt: HostRuntime) -> Result<(), Fail> {
+    let alloc = rt.alloc();
+    for frame in [
+        // a connect of an older client
+        "000000220000001e0802121a0a1070756c7361722d72732d76362e302e30200c2a046e6f6e65",
+        // a command of no known body, a pong, and an error for another request
+        "0000000600000002080d",
+        "000000090000000508139a0100",
+        "0000000e0000000a080e72060801100b1a00",
+    ] {
+        prints(
+            &rt,
+            alloc,
+            &[READY, ASK, "bytes 0 ", frame, "\n"],
+            DONE,
+            &[IS_READY, IS_ASKED, "event 5\n"],
+        )?;
+    }
+    Ok(())
+}
+
 /// Two calls whose words need escapes, and their frames.
 const ASKS: &str = "call topics %c3%BC/%25 persistent\ncall topics % non-persistent\n";
 

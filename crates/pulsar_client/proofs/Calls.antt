@@ -16,9 +16,10 @@ use Rattle.pulsar_client.specs.declared.act.Act.{Act}
 use Rattle.pulsar_client.specs.declared.act.Act.TheVariants.{Calls, Told, Dials, Waits, Answers, Builds, OnLink}
 use Rattle.pulsar_client.specs.declared.tables.Base.{Base}
 use Rattle.pulsar_client.specs.declared.tables.Base.TheVariants.{Nothing, Runs, Serves}
-use Rattle.pulsar_client.specs.Content.{Heard, Called, Opened, Bytes, Drain, Said, Failed, Exhausted}
+use Rattle.pulsar_client.specs.Content.{Heard, Called, Opened, Bytes, Drain, Said}
+use Rattle.pulsar_client.specs.Failures.{Exhausted}
 use Rattle.pulsar_client.specs.Link.{Seen, arrivals, link_rule, is_ready, fits_frame, request_message}
-use Rattle.pulsar_client.specs.Plan.{next}
+use Rattle.pulsar_client.specs.Plan.{failed, next}
 use Rattle.pulsar_client.specs.Log.{Chosen, Entry, Begins, Does, View, view, at_once, serves, performs, gets, asks, asks_on, fails, link_acts, brings, procedure_for, frames_of, seen_link, dials, opens, spent, action_at, calls, procedure_of, outcomes_of}
 use Rattle.pulsar_client.specs.Good.{due, to_come, IsRun, first, is_empty}
 use Rattle.pulsar_client.specs.Laws.{answer_in, said_along, answer_of, answers, CallsFollow, CallsAreMade}
@@ -197,7 +198,7 @@ one_alone : (b : Bool) (a : Act) → CallsAlone (cond b (a ∷ []) [])
 one_alone true a = (λ h. refl, tt)
 one_alone false a = tt
 
-calls_for_alone : (b : Bool) (p : Procedure) → CallsAlone (cond b (Answers spent (Failed Exhausted) ∷ []) (Calls p ∷ []))
+calls_for_alone : (b : Bool) (p : Procedure) → CallsAlone (cond b (Answers spent (failed Exhausted) ∷ []) (Calls p ∷ []))
 calls_for_alone true p = (λ h. refl, tt)
 calls_for_alone false p = (λ h. refl, tt)
 
@@ -211,7 +212,7 @@ one_plain : (b : Bool) (a : Act) → is_told a ≡ false → NoneTold (cond b (a
 one_plain true a h = (h, tt)
 one_plain false a h = tt
 
-calls_for_plain : (b : Bool) (p : Procedure) → NoneTold (cond b (Answers spent (Failed Exhausted) ∷ []) (Calls p ∷ []))
+calls_for_plain : (b : Bool) (p : Procedure) → NoneTold (cond b (Answers spent (failed Exhausted) ∷ []) (Calls p ∷ []))
 calls_for_plain true p = (refl, tt)
 calls_for_plain false p = (refl, tt)
 
@@ -226,7 +227,7 @@ one_among : (t k : ℕ) (b : Bool) (x : LinkAct) → among t (cond b (OnLink k x
 one_among t k true x = refl
 one_among t k false x = refl
 
-calls_for_among : (t : ℕ) (b : Bool) (p : Procedure) → (t == spent) ≡ false → among t (cond b (Answers spent (Failed Exhausted) ∷ []) (Calls p ∷ [])) ≡ []
+calls_for_among : (t : ℕ) (b : Bool) (p : Procedure) → (t == spent) ≡ false → among t (cond b (Answers spent (failed Exhausted) ∷ []) (Calls p ∷ [])) ≡ []
 calls_for_among t true p h = rw h refl
 calls_for_among t false p h = refl
 
@@ -251,7 +252,7 @@ below n s le ne = grind (arith, nat_tests)
 not_last : (t n s : ℕ) → t < n → n ≤ s → (t == s) ≡ false
 not_last t n s lt le = grind (arith, nat_tests)
 
-calls_for_room : (n : ℕ) (b : Bool) (p : Procedure) → n ≤ spent → (n == spent) ≡ b → HasRoom n (cond b (Answers spent (Failed Exhausted) ∷ []) (Calls p ∷ []))
+calls_for_room : (n : ℕ) (b : Bool) (p : Procedure) → n ≤ spent → (n == spent) ≡ b → HasRoom n (cond b (Answers spent (failed Exhausted) ∷ []) (Calls p ∷ []))
 calls_for_room n true p le e = λ h. let f : false ≡ true = h in absurd cc
 calls_for_room n false p le e = λ h. below n spent le e
 
@@ -531,7 +532,7 @@ due_calls o a log r =
     (NoCalls-append (at_once (view o log) a) (drop 1 (due o log)) (once_calls (view o log) a) (CallsAlone-drop (due o log) (follows o log r).alone))
     (told_calls (serves (view o log) a) (serves_told (view o log) a))
 
-made_first : (b : Bool) (p q : Procedure) → first (cond b (Answers spent (Failed Exhausted) ∷ []) (Calls q ∷ []) ++ []) ≡ Some (Calls p) → p ≡ q
+made_first : (b : Bool) (p q : Procedure) → first (cond b (Answers spent (failed Exhausted) ∷ []) (Calls q ∷ []) ++ []) ≡ Some (Calls p) → p ≡ q
 made_first true p q h = absurd cc
 made_first false p q h = cc
 

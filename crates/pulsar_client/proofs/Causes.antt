@@ -16,14 +16,15 @@ use Rattle.pulsar_client.specs.declared.act.Act.{Act}
 use Rattle.pulsar_client.specs.declared.act.Act.TheVariants.{Calls, Told, Answers, OnLink}
 use Rattle.pulsar_client.specs.declared.tables.Base.{Base}
 use Rattle.pulsar_client.specs.declared.tables.Base.TheVariants.{Nothing, Runs, Serves}
-use Rattle.pulsar_client.specs.Content.{Heard, Called, Opened, Bytes, Drain, Said, Done, Failed, Fault, Exhausted, Shutdown}
+use Rattle.pulsar_client.specs.Content.{Heard, Called, Opened, Bytes, Drain, Said, Done, Failed}
+use Rattle.pulsar_client.specs.Failures.{Failure, OfConnection, Exhausted, Shutdown}
 use Rattle.pulsar_client.specs.declared.act.Arrival.{Arrival}
 use Rattle.pulsar_client.specs.declared.act.Arrival.TheVariants.{Message, Bad}
 use Rattle.pulsar_client.specs.declared.session.link.Stage.{Stage}
 use Rattle.pulsar_client.specs.declared.session.link.Stage.TheVariants.{Dialing, Handshaking, Ready, Over}
 use Rattle.pulsar_client.specs.Messages.{is_connected}
 use Rattle.pulsar_client.specs.Link.{Seen, Pending, bears_id, settled, disconnected, turns, at_opening, at_arrival, link_rule, is_ready, fits_frame, request_message}
-use Rattle.pulsar_client.specs.Plan.{next, ended, finished, topics_answer, fault_of}
+use Rattle.pulsar_client.specs.Plan.{failed, next, ended, finished, topics_answer, fault_of}
 use Rattle.pulsar_client.specs.Log.{Chosen, Entry, Begins, Does, View, view, base, waiting, seen_link, spent, at_once, serves, performs, gets, asks, asks_on, fails, link_acts, brings, procedure_for, dials, opens, outcomes_of}
 use Rattle.pulsar_client.specs.Good.{due, to_come, IsRun, first}
 use Rattle.pulsar_client.specs.Laws.{In, Fails, IsRefused, IsTold, IsReplied, FailuresAreTold, InThisStep, Cause, OutcomesAreCaused, answer_in, said_along}
@@ -193,7 +194,7 @@ one_caused : (o : Chosen) (log : List Entry) (b : Bool) (a : Act) → IsCaused o
 one_caused o log true a p = (p, tt)
 one_caused o log false a p = tt
 
-calls_for_caused : (o : Chosen) (log : List Entry) (b : Bool) (p : Procedure) → AllCaused o log (cond b (Answers spent (Failed Exhausted) ∷ []) (Calls p ∷ []))
+calls_for_caused : (o : Chosen) (log : List Entry) (b : Bool) (p : Procedure) → AllCaused o log (cond b (Answers spent (failed Exhausted) ∷ []) (Calls p ∷ []))
 calls_for_caused o log true p = (tt, tt)
 calls_for_caused o log false p = (tt, tt)
 
@@ -240,18 +241,18 @@ done_is p b h [] = ap answer_in (here p b finished h)
 done_is p b h (o ∷ os) = rw (here p b finished h, quiet p (b ++ o ∷ []) (on p b finished o h) os) refl
 
 -- the one answer is a failure of this fault
-only_failure : (f g : Fault) → In (Failed f) (Failed g ∷ []) → f ≡ g
+only_failure : (f g : Failure) → In (Failed f) (Failed g ∷ []) → f ≡ g
 only_failure f g (inl e) = cc
 only_failure f g (inr x) = absurd x
 
-told_first : (p : Procedure) (u : Outcome) (os : List Outcome) (f : Fault) → ReadsOn p (u ∷ []) (ended (Failed (fault_of u))) → In (Failed f) (said_along p (u ∷ []) os) → Fails p (u ∷ os) f
-told_first p u os f h i = IsTold u (inl refl) (only_failure f (fault_of u) (subst (In (Failed f)) (ends_is p (u ∷ []) (Failed (fault_of u)) h os) i))
+told_first : (p : Procedure) (u : Outcome) (os : List Outcome) (f : Failure) → ReadsOn p (u ∷ []) (ended (failed (fault_of u))) → In (Failed f) (said_along p (u ∷ []) os) → Fails p (u ∷ os) f
+told_first p u os f h i = IsTold u (inl refl) (only_failure f (OfConnection (fault_of u)) (subst (In (Failed f)) (ends_is p (u ∷ []) (failed (fault_of u)) h os) i))
 
-no_failure : (f : Fault) → In (Failed f) (Done ∷ []) → ⊥
+no_failure : (f : Failure) → In (Failed f) (Done ∷ []) → ⊥
 no_failure f (inl e) = cc
 no_failure f (inr x) = x
 
-build_fails : (os : List Outcome) (f : Fault) → In (Failed f) (said_along procedure.Build [] os) → Fails procedure.Build os f
+build_fails : (os : List Outcome) (f : Failure) → In (Failed f) (said_along procedure.Build [] os) → Fails procedure.Build os f
 build_fails [] f i = absurd i
 build_fails (outcome.GotLink l ∷ os) f i =
     absurd (no_failure f (subst (In (Failed f)) (done_is procedure.Build (outcome.GotLink l ∷ []) (λ ys. refl) os) i))
@@ -263,17 +264,17 @@ build_fails (outcome.Exhausted ∷ os) f i = told_first procedure.Build outcome.
 build_fails (outcome.Unencodable ∷ os) f i = told_first procedure.Build outcome.Unencodable os f (λ ys. refl) i
 
 -- the answer to the request
-asked_fails : (n : List ℕ) (m : Mode) (l : ℕ) (u : Outcome) (os : List Outcome) (f : Fault) → In (Failed f) (topics_answer u ∷ []) → Fails (procedure.Topics n m) (outcome.GotLink l ∷ u ∷ os) f
+asked_fails : (n : List ℕ) (m : Mode) (l : ℕ) (u : Outcome) (os : List Outcome) (f : Failure) → In (Failed f) (topics_answer u ∷ []) → Fails (procedure.Topics n m) (outcome.GotLink l ∷ u ∷ os) f
 asked_fails n m l (outcome.Replied r) os f (inl e) = IsReplied r (inr (inl refl)) e
 asked_fails n m l (outcome.Replied r) os f (inr x) = absurd x
-asked_fails n m l (outcome.Failed k) os f i = IsTold (outcome.Failed k) (inr (inl refl)) (only_failure f (fault_of (outcome.Failed k)) i)
-asked_fails n m l outcome.Canceled os f i = IsTold outcome.Canceled (inr (inl refl)) (only_failure f (fault_of outcome.Canceled) i)
-asked_fails n m l outcome.Disconnected os f i = IsTold outcome.Disconnected (inr (inl refl)) (only_failure f (fault_of outcome.Disconnected) i)
-asked_fails n m l outcome.Exhausted os f i = IsTold outcome.Exhausted (inr (inl refl)) (only_failure f (fault_of outcome.Exhausted) i)
-asked_fails n m l outcome.Unencodable os f i = IsTold outcome.Unencodable (inr (inl refl)) (only_failure f (fault_of outcome.Unencodable) i)
-asked_fails n m l (outcome.GotLink k) os f i = IsTold (outcome.GotLink k) (inr (inl refl)) (only_failure f (fault_of (outcome.GotLink k)) i)
+asked_fails n m l (outcome.Failed k) os f i = IsTold (outcome.Failed k) (inr (inl refl)) (only_failure f (OfConnection (fault_of (outcome.Failed k))) i)
+asked_fails n m l outcome.Canceled os f i = IsTold outcome.Canceled (inr (inl refl)) (only_failure f (OfConnection (fault_of outcome.Canceled)) i)
+asked_fails n m l outcome.Disconnected os f i = IsTold outcome.Disconnected (inr (inl refl)) (only_failure f (OfConnection (fault_of outcome.Disconnected)) i)
+asked_fails n m l outcome.Exhausted os f i = IsTold outcome.Exhausted (inr (inl refl)) (only_failure f (OfConnection (fault_of outcome.Exhausted)) i)
+asked_fails n m l outcome.Unencodable os f i = IsTold outcome.Unencodable (inr (inl refl)) (only_failure f (OfConnection (fault_of outcome.Unencodable)) i)
+asked_fails n m l (outcome.GotLink k) os f i = IsTold (outcome.GotLink k) (inr (inl refl)) (only_failure f (OfConnection (fault_of (outcome.GotLink k))) i)
 
-topics_fails : (n : List ℕ) (m : Mode) (os : List Outcome) (f : Fault) → In (Failed f) (said_along (procedure.Topics n m) [] os) → Fails (procedure.Topics n m) os f
+topics_fails : (n : List ℕ) (m : Mode) (os : List Outcome) (f : Failure) → In (Failed f) (said_along (procedure.Topics n m) [] os) → Fails (procedure.Topics n m) os f
 topics_fails n m [] f i = absurd i
 topics_fails n m (outcome.GotLink l ∷ []) f i = absurd i
 topics_fails n m (outcome.GotLink l ∷ u ∷ os) f i =
@@ -285,10 +286,10 @@ topics_fails n m (outcome.Disconnected ∷ os) f i = told_first (procedure.Topic
 topics_fails n m (outcome.Exhausted ∷ os) f i = told_first (procedure.Topics n m) outcome.Exhausted os f (λ ys. refl) i
 topics_fails n m (outcome.Unencodable ∷ os) f i = told_first (procedure.Topics n m) outcome.Unencodable os f (λ ys. refl) i
 
-refused_fails : (os : List Outcome) (f : Fault) → In (Failed f) (said_along procedure.Refused [] os) → Fails procedure.Refused os f
-refused_fails os f i = IsRefused refl (only_failure f Shutdown (subst (In (Failed f)) (ends_is procedure.Refused [] (Failed Shutdown) (λ ys. refl) os) i))
+refused_fails : (os : List Outcome) (f : Failure) → In (Failed f) (said_along procedure.Refused [] os) → Fails procedure.Refused os f
+refused_fails os f i = IsRefused refl (only_failure f (OfConnection Shutdown) (subst (In (Failed f)) (ends_is procedure.Refused [] (failed Shutdown) (λ ys. refl) os) i))
 
-said_fails : (p : Procedure) (os : List Outcome) (f : Fault) → In (Failed f) (said_along p [] os) → Fails p os f
+said_fails : (p : Procedure) (os : List Outcome) (f : Failure) → In (Failed f) (said_along p [] os) → Fails p os f
 said_fails procedure.Build os f i = build_fails os f i
 said_fails (procedure.Topics n m) os f i = topics_fails n m os f i
 said_fails procedure.Refused os f i = refused_fails os f i

@@ -25,10 +25,11 @@ use Rattle.pulsar_client.specs.declared.tables.Base.TheVariants.{Nothing, Runs, 
 use Rattle.pulsar_client.specs.declared.session.link.Stage.{Stage}
 use Rattle.pulsar_client.specs.declared.session.link.Stage.TheVariants.{Dialing, Handshaking, Ready, Over}
 use Rattle.pulsar_client.specs.Messages.{read}
-use Rattle.pulsar_client.specs.Content.{Heard, Called, Opened, Bytes, Drain, Failed, Exhausted}
+use Rattle.pulsar_client.specs.Content.{Heard, Called, Opened, Bytes, Drain}
+use Rattle.pulsar_client.specs.Failures.{Exhausted}
 use Rattle.pulsar_client.specs.Link.{Seen, seen, stage, is_dialing, is_open, arrivals, link_rule, at_arrival, is_ready, fits_frame, request_message}
 use Rattle.pulsar_client.specs.Log.{Chosen, Entry, Begins, Does, links, of_link, seen_link, stream, opens, dials, View, view, at_once, serves, performs, gets, asks, asks_on, fails, link_acts, brings, procedure_for, frames_of, spent}
-use Rattle.pulsar_client.specs.Plan.{next}
+use Rattle.pulsar_client.specs.Plan.{failed, next}
 use Rattle.pulsar_client.specs.Good.{due, to_come, IsRun, first, is_empty}
 use Rattle.pulsar_client.specs.Local.{is_own, link_due, Fits, IsLinkRun}
 use Rattle.pulsar_client.specs.Laws.{came, FramesAreCut}
@@ -237,7 +238,7 @@ one_plain : (b : Bool) (a : Act) → is_comes a ≡ false → NoComes (cond b (a
 one_plain true a h = (h, tt)
 one_plain false a h = tt
 
-calls_for_plain : (b : Bool) (p : Procedure) → NoComes (cond b (Answers spent (Failed Exhausted) ∷ []) (Calls p ∷ []))
+calls_for_plain : (b : Bool) (p : Procedure) → NoComes (cond b (Answers spent (failed Exhausted) ∷ []) (Calls p ∷ []))
 calls_for_plain true p = (refl, tt)
 calls_for_plain false p = (refl, tt)
 

@@ -13,9 +13,10 @@ use Rattle.pulsar_client.specs.declared.act.Act.{Act}
 use Rattle.pulsar_client.specs.declared.act.Act.TheVariants.{Calls, Told, Answers, OnLink}
 use Rattle.pulsar_client.specs.declared.tables.Base.{Base}
 use Rattle.pulsar_client.specs.declared.tables.Base.TheVariants.{Nothing, Runs, Serves}
-use Rattle.pulsar_client.specs.Content.{Heard, Called, Opened, Bytes, Drain, Failed, Exhausted}
+use Rattle.pulsar_client.specs.Content.{Heard, Called, Opened, Bytes, Drain}
+use Rattle.pulsar_client.specs.Failures.{Exhausted}
 use Rattle.pulsar_client.specs.Link.{Seen, link_rule, is_ready, fits_frame, request_message}
-use Rattle.pulsar_client.specs.Plan.{next}
+use Rattle.pulsar_client.specs.Plan.{failed, next}
 use Rattle.pulsar_client.specs.Log.{Chosen, Entry, Begins, Does, View, view, calls, procedure_of, outcomes_of, action_at, spent, at_once, serves, performs, gets, asks, asks_on, fails, link_acts, brings, procedure_for, dials, opens}
 use Rattle.pulsar_client.specs.Good.{due, to_come, IsRun, first}
 use Rattle.pulsar_client.specs.Local.{is_own}
@@ -140,7 +141,7 @@ one_none : (b : Bool) (a : Act) → caller a ≡ None → NoCaller (cond b (a �
 one_none true a h = (h, tt)
 one_none false a h = tt
 
-call_done : (o : Chosen) (log : List Entry) (e : Heard) (b : Bool) (p : Procedure) → (calls log == spent) ≡ b → AllDone o (Begins e ∷ log) (cond b (Answers spent (Failed Exhausted) ∷ []) (Calls p ∷ []))
+call_done : (o : Chosen) (log : List Entry) (e : Heard) (b : Bool) (p : Procedure) → (calls log == spent) ≡ b → AllDone o (Begins e ∷ log) (cond b (Answers spent (failed Exhausted) ∷ []) (Calls p ∷ []))
 call_done o log e true p is = (λ t h. IsSpent is refl, tt)
 call_done o log e false p is = (λ t h. absurd cc, tt)
 

@@ -21,7 +21,9 @@ use Rattle.pulsar_client.specs.declared.tables.Base.TheVariants.{Nothing, Runs, 
 use Rattle.pulsar_client.specs.declared.session.link.Stage.{Stage}
 use Rattle.pulsar_client.specs.declared.session.link.Stage.TheVariants.{Dialing, Handshaking, Ready, Over}
 use Rattle.pulsar_client.specs.Messages.{is_connected}
-use Rattle.pulsar_client.specs.Content.{Asked, Heard, Called, Opened, Bytes, Drain, Failed, Exhausted}
+use Rattle.pulsar_client.specs.Plan.{failed}
+use Rattle.pulsar_client.specs.Content.{Asked, Heard, Called, Opened, Bytes, Drain}
+use Rattle.pulsar_client.specs.Failures.{Exhausted}
 use Rattle.pulsar_client.specs.Link.{Seen, Pending, seen, arrivals, bears_id, link_rule, settled, disconnected, turns, at_opening, at_arrival, is_ready, fits_frame, request_message}
 use Rattle.pulsar_client.specs.Log.{Chosen, Entry, Begins, Does, links, of_link, seen_link, View, view, at_once, serves, performs, gets, asks, asks_on, fails, link_acts, brings, calls_for, frames_of, dials, opens, spent, procedure_for}
 use Rattle.pulsar_client.specs.Good.{due, to_come, IsRun, first, is_empty}
@@ -174,7 +176,7 @@ one_none false a h = tt
 
 calls_none : (v : View) (c : Asked) → NoOwn (calls_for v c)
 calls_none v c =
-    elim (v.calls == spent) as (λ b. NoOwn (cond b (Answers spent (Failed Exhausted) ∷ []) (Calls (procedure_for v.is_built c) ∷ [])))
+    elim (v.calls == spent) as (λ b. NoOwn (cond b (Answers spent (failed Exhausted) ∷ []) (Calls (procedure_for v.is_built c) ∷ [])))
     [ true ↦ (refl, tt) | false ↦ (refl, tt) ]
 
 brings_none : (v : View) (e : Heard) → NoOwn (brings v e)

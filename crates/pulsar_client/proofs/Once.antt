@@ -9,8 +9,9 @@ use Rattle.pulsar_client.specs.declared.act.Procedure.{Procedure}
 use Rattle.pulsar_client.specs.declared.act.Procedure.TheVariants as procedure
 use Rattle.pulsar_client.specs.declared.act.Action.{Action}
 use Rattle.pulsar_client.specs.declared.act.Action.TheVariants.{Rest}
-use Rattle.pulsar_client.specs.Content.{Said, Failed, Shutdown}
-use Rattle.pulsar_client.specs.Plan.{next, ended, finished, building, topics, topics_asked, topics_replied, topics_answer, fault_of}
+use Rattle.pulsar_client.specs.Content.{Said}
+use Rattle.pulsar_client.specs.Failures.{Shutdown}
+use Rattle.pulsar_client.specs.Plan.{failed, next, ended, finished, building, topics, topics_asked, topics_replied, topics_answer, fault_of}
 use Rattle.pulsar_client.specs.Log.{outcomes_of}
 use Rattle.pulsar_client.specs.Laws.{answer_in, said_along, AnswersOnce}
 use Rattle.pulsar_client.proofs.Calls.{calls_follow}
@@ -49,27 +50,27 @@ asks_once p b l q h (o ∷ os) = rw (here p b (topics_asked l q) h) (ends_once p
 builds_once : (p : Procedure) (b : List Outcome) → ReadsOn p b building → (os : List Outcome) → length (said_along p b os) ≤ 1
 builds_once p b h [] = rw (here p b building h) (omega arith)
 builds_once p b h ((outcome.GotLink l) ∷ os) = rw (here p b building h) (done_once p (b ++ outcome.GotLink l ∷ []) (on p b building (outcome.GotLink l) h) os)
-builds_once p b h ((outcome.Failed k) ∷ os) = rw (here p b building h) (ends_once p (b ++ (outcome.Failed k) ∷ []) (Failed (fault_of (outcome.Failed k))) (on p b building (outcome.Failed k) h) os)
-builds_once p b h (outcome.Canceled ∷ os) = rw (here p b building h) (ends_once p (b ++ outcome.Canceled ∷ []) (Failed (fault_of outcome.Canceled)) (on p b building outcome.Canceled h) os)
-builds_once p b h ((outcome.Replied r) ∷ os) = rw (here p b building h) (ends_once p (b ++ (outcome.Replied r) ∷ []) (Failed (fault_of (outcome.Replied r))) (on p b building (outcome.Replied r) h) os)
-builds_once p b h (outcome.Disconnected ∷ os) = rw (here p b building h) (ends_once p (b ++ outcome.Disconnected ∷ []) (Failed (fault_of outcome.Disconnected)) (on p b building outcome.Disconnected h) os)
-builds_once p b h (outcome.Exhausted ∷ os) = rw (here p b building h) (ends_once p (b ++ outcome.Exhausted ∷ []) (Failed (fault_of outcome.Exhausted)) (on p b building outcome.Exhausted h) os)
-builds_once p b h (outcome.Unencodable ∷ os) = rw (here p b building h) (ends_once p (b ++ outcome.Unencodable ∷ []) (Failed (fault_of outcome.Unencodable)) (on p b building outcome.Unencodable h) os)
+builds_once p b h ((outcome.Failed k) ∷ os) = rw (here p b building h) (ends_once p (b ++ (outcome.Failed k) ∷ []) (failed (fault_of (outcome.Failed k))) (on p b building (outcome.Failed k) h) os)
+builds_once p b h (outcome.Canceled ∷ os) = rw (here p b building h) (ends_once p (b ++ outcome.Canceled ∷ []) (failed (fault_of outcome.Canceled)) (on p b building outcome.Canceled h) os)
+builds_once p b h ((outcome.Replied r) ∷ os) = rw (here p b building h) (ends_once p (b ++ (outcome.Replied r) ∷ []) (failed (fault_of (outcome.Replied r))) (on p b building (outcome.Replied r) h) os)
+builds_once p b h (outcome.Disconnected ∷ os) = rw (here p b building h) (ends_once p (b ++ outcome.Disconnected ∷ []) (failed (fault_of outcome.Disconnected)) (on p b building outcome.Disconnected h) os)
+builds_once p b h (outcome.Exhausted ∷ os) = rw (here p b building h) (ends_once p (b ++ outcome.Exhausted ∷ []) (failed (fault_of outcome.Exhausted)) (on p b building outcome.Exhausted h) os)
+builds_once p b h (outcome.Unencodable ∷ os) = rw (here p b building h) (ends_once p (b ++ outcome.Unencodable ∷ []) (failed (fault_of outcome.Unencodable)) (on p b building outcome.Unencodable h) os)
 
 topics_once : (p : Procedure) (b : List Outcome) (n : List ℕ) (m : Mode) → ReadsOn p b (topics n m) → (os : List Outcome) → length (said_along p b os) ≤ 1
 topics_once p b n m h [] = rw (here p b (topics n m) h) (omega arith)
 topics_once p b n m h ((outcome.GotLink l) ∷ os) = rw (here p b (topics n m) h) (asks_once p (b ++ outcome.GotLink l ∷ []) l (request.Topics n m) (on p b (topics n m) (outcome.GotLink l) h) os)
-topics_once p b n m h ((outcome.Failed k) ∷ os) = rw (here p b (topics n m) h) (ends_once p (b ++ (outcome.Failed k) ∷ []) (Failed (fault_of (outcome.Failed k))) (on p b (topics n m) (outcome.Failed k) h) os)
-topics_once p b n m h (outcome.Canceled ∷ os) = rw (here p b (topics n m) h) (ends_once p (b ++ outcome.Canceled ∷ []) (Failed (fault_of outcome.Canceled)) (on p b (topics n m) outcome.Canceled h) os)
-topics_once p b n m h ((outcome.Replied r) ∷ os) = rw (here p b (topics n m) h) (ends_once p (b ++ (outcome.Replied r) ∷ []) (Failed (fault_of (outcome.Replied r))) (on p b (topics n m) (outcome.Replied r) h) os)
-topics_once p b n m h (outcome.Disconnected ∷ os) = rw (here p b (topics n m) h) (ends_once p (b ++ outcome.Disconnected ∷ []) (Failed (fault_of outcome.Disconnected)) (on p b (topics n m) outcome.Disconnected h) os)
-topics_once p b n m h (outcome.Exhausted ∷ os) = rw (here p b (topics n m) h) (ends_once p (b ++ outcome.Exhausted ∷ []) (Failed (fault_of outcome.Exhausted)) (on p b (topics n m) outcome.Exhausted h) os)
-topics_once p b n m h (outcome.Unencodable ∷ os) = rw (here p b (topics n m) h) (ends_once p (b ++ outcome.Unencodable ∷ []) (Failed (fault_of outcome.Unencodable)) (on p b (topics n m) outcome.Unencodable h) os)
+topics_once p b n m h ((outcome.Failed k) ∷ os) = rw (here p b (topics n m) h) (ends_once p (b ++ (outcome.Failed k) ∷ []) (failed (fault_of (outcome.Failed k))) (on p b (topics n m) (outcome.Failed k) h) os)
+topics_once p b n m h (outcome.Canceled ∷ os) = rw (here p b (topics n m) h) (ends_once p (b ++ outcome.Canceled ∷ []) (failed (fault_of outcome.Canceled)) (on p b (topics n m) outcome.Canceled h) os)
+topics_once p b n m h ((outcome.Replied r) ∷ os) = rw (here p b (topics n m) h) (ends_once p (b ++ (outcome.Replied r) ∷ []) (failed (fault_of (outcome.Replied r))) (on p b (topics n m) (outcome.Replied r) h) os)
+topics_once p b n m h (outcome.Disconnected ∷ os) = rw (here p b (topics n m) h) (ends_once p (b ++ outcome.Disconnected ∷ []) (failed (fault_of outcome.Disconnected)) (on p b (topics n m) outcome.Disconnected h) os)
+topics_once p b n m h (outcome.Exhausted ∷ os) = rw (here p b (topics n m) h) (ends_once p (b ++ outcome.Exhausted ∷ []) (failed (fault_of outcome.Exhausted)) (on p b (topics n m) outcome.Exhausted h) os)
+topics_once p b n m h (outcome.Unencodable ∷ os) = rw (here p b (topics n m) h) (ends_once p (b ++ outcome.Unencodable ∷ []) (failed (fault_of outcome.Unencodable)) (on p b (topics n m) outcome.Unencodable h) os)
 
 said_once : (p : Procedure) (os : List Outcome) → length (said_along p [] os) ≤ 1
 said_once procedure.Build os = builds_once procedure.Build [] (λ ys. refl) os
 said_once (procedure.Topics n m) os = topics_once (procedure.Topics n m) [] n m (λ ys. refl) os
-said_once procedure.Refused os = ends_once procedure.Refused [] (Failed Shutdown) (λ ys. refl) os
+said_once procedure.Refused os = ends_once procedure.Refused [] (failed Shutdown) (λ ys. refl) os
 
 pub answers_once : AnswersOnce
 answers_once o log t p r rests h = subst (λ x. length x ≤ 1) (sym (calls_follow o log t p r rests h)) (said_once p (outcomes_of t log))

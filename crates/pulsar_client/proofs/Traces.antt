@@ -17,17 +17,23 @@ use Rattle.pulsar_client.specs.declared.act.Procedure.TheVariants as procedure
 use Rattle.pulsar_client.specs.declared.act.Request.TheVariants as request
 use Rattle.pulsar_client.specs.declared.act.LinkAct.TheVariants.{Opens, Comes, Drains, Requests, Greets, Readied, Ended, Settled}
 use Rattle.pulsar_client.specs.declared.act.Act.TheVariants.{Calls, Told, Dials, Waits, Answers, Builds, OnLink}
-use Rattle.pulsar_client.specs.Content.{Called, Build, Opened, Bytes, Drain, Names, Failed, Io, Canceled}
-use Rattle.pulsar_client.specs.Messages.{Reply}
+use Rattle.pulsar_client.specs.Plan.{failed}
+use Rattle.pulsar_client.specs.Content.{Called, Build, Opened, Bytes, Drain, Names}
+use Rattle.pulsar_client.specs.Failures.{Io, Canceled}
+use Rattle.pulsar_frame.specs.Message.{MessageValues}
+use Rattle.pulsar_wire.specs.Command.{with_kind}
+use Rattle.pulsar_wire.specs.Row.{◌&◌}
+use Rattle.pulsar_wire.specs.Rows.{get_topics_of_namespace_response}
+use Rattle.pulsar_wire.specs.Rows as rows
 use Rattle.pulsar_client.specs.Log.{Entry, Begins, Does}
 use Rattle.pulsar_client.specs.Good.{IsRun}
 use Rattle.pulsar_client.specs.Traces.{numbered_from_zero, connected, topics_reply, asks_topics, request_is_answered, reply_comes_early, attempt_fails, IsGood}
 
-abbrev greeting : Reply
-greeting = record { body = Some 3; key = None; topics = [] }
+abbrev greeting : MessageValues
+greeting = record { command = with_kind (record { number = 3; row = rows.connected; values = codes "p" & None & None & tt }) }
 
-abbrev names : Reply
-names = record { body = Some 33; key = Some (RequestId 0); topics = codes "t" ∷ [] }
+abbrev names : MessageValues
+names = record { command = with_kind (record { number = 33; row = get_topics_of_namespace_response; values = 0 & (codes "t" ∷ []) & tt }) }
 
 -- a client is built
 abbrev built_log : List Entry
@@ -96,9 +102,9 @@ early_good = record { log = early_log; run = early_run; rests = refl; same = ref
 -- an attempt fails
 abbrev failed_log : List Entry
 failed_log =
-    Does (Answers 1 (Failed Canceled))
+    Does (Answers 1 (failed Canceled))
     ∷ Does (Told 1 outcome.Canceled)
-    ∷ Does (Answers 0 (Failed (Io Other)))
+    ∷ Does (Answers 0 (failed (Io Other)))
     ∷ Does (Told 0 (outcome.Failed Other))
     ∷ Does (OnLink 0 (Ended true))
     ∷ Does (OnLink 0 (Comes (Message names)))

@@ -1,12 +1,8 @@
 -- Events, effects and answers by their content: a text is the list of its bytes, a vector the list of its items.
 use Rattle.std.specs.Prelude.{ℕ, List, map, string_bytes, Result, Ok, Err}
 use Rattle.pulsar_wire.specs.declared.commands.topics.Mode.{Mode}
-use Rattle.pulsar_wire.specs.declared.error.IoKind.{IoKind}
-use Rattle.pulsar_wire.specs.declared.error.Reason.{Reason}
-use Rattle.pulsar_wire.specs.declared.error.ConnectionError.{ConnectionError}
-use Rattle.pulsar_wire.specs.declared.error.ConnectionError.TheVariants as connection
 use Rattle.pulsar_wire.specs.declared.error.Error.{Error}
-use Rattle.pulsar_wire.specs.declared.error.Error.TheVariants as error
+use Rattle.pulsar_client.specs.Failures.{Failure, failure}
 use Rattle.pulsar_client.specs.declared.event.Call.{Call}
 use Rattle.pulsar_client.specs.declared.event.Call.TheVariants as call
 use Rattle.pulsar_client.specs.declared.event.Event.{Event}
@@ -29,24 +25,11 @@ pub data Heard : Type 0 where
   Bytes : (link : ℕ) (piece : List ℕ) → Heard
   Drain : (link most : ℕ) → Heard
 
--- why a connection, or what is asked on it, failed
-pub data Fault : Type 0 where
-  Io : IoKind → Fault
-  Disconnected : Fault
-  Decoding : Reason → Fault
-  Encoding : Reason → Fault
-  UnexpectedResponse : (body : List ℕ) → Fault
-  NotFound : Fault
-  Canceled : Fault
-  Shutdown : Fault
-  Exhausted : Fault
-  NoMemory : Fault
-
 -- what a call ends with
 pub data Said : Type 0 where
   Done : Said
   Names : List (List ℕ) → Said
-  Failed : Fault → Said
+  Failed : Failure → Said
 
 -- what the client wants done, and tells
 pub data Shown : Type 0 where
@@ -67,28 +50,13 @@ heard (event.Opened l) = Opened l
 heard (event.Bytes l piece) = Bytes l piece.items
 heard (event.Drain l most) = Drain l most
 
-abbrev pub fault : ConnectionError → Fault
-fault (connection.Io kind) = Io kind
-fault connection.Disconnected = Disconnected
-fault (connection.Decoding reason) = Decoding reason
-fault (connection.Encoding reason) = Encoding reason
-fault (connection.UnexpectedResponse body) = UnexpectedResponse (string_bytes body)
-fault connection.NotFound = NotFound
-fault connection.Canceled = Canceled
-fault connection.Shutdown = Shutdown
-fault connection.Exhausted = Exhausted
-fault connection.NoMemory = NoMemory
-
-abbrev pub failed : Error → Said
-failed (error.Connection e) = Failed (fault e)
-
 abbrev pub answered : Answer → Said
 answered answer.Done = Done
 answered (answer.Topics names) = Names (map string_bytes names.items)
 
 abbrev pub said : Result Answer Error → Said
 said (Ok a) = answered a
-said (Err e) = failed e
+said (Err e) = Failed (failure e)
 
 abbrev pub shown : Effect → Shown
 shown (effect.Connect l host port) = Connect l (string_bytes host) port

@@ -16,9 +16,10 @@ use Rattle.pulsar_client.specs.declared.act.Action.TheVariants.{Answer, Finish}
 use Rattle.pulsar_client.specs.declared.act.Act.{Act}
 use Rattle.pulsar_client.specs.declared.act.Act.TheVariants.{Calls, Told, Dials, Waits, Answers, Builds, OnLink}
 use Rattle.pulsar_client.specs.declared.tables.Base.TheVariants.{Runs}
-use Rattle.pulsar_client.specs.Messages.{Reply}
-use Rattle.pulsar_client.specs.Content.{Asked, Heard, Called, Shown, Queued, Write, Said, Done, Failed, Fault, Shutdown, Exhausted}
-use Rattle.pulsar_client.specs.Plan.{next, fault_of, topics_in}
+use Rattle.pulsar_client.specs.Content.{Asked, Heard, Called, Shown, Queued, Write, Said, Done, Failed}
+use Rattle.pulsar_frame.specs.Message.{MessageValues}
+use Rattle.pulsar_client.specs.Failures.{Failure, OfConnection, Shutdown, Exhausted}
+use Rattle.pulsar_client.specs.Plan.{failed, next, fault_of, topics_in}
 use Rattle.pulsar_client.specs.Link.{Seen, Pending, arrivals, next_id, queued, settles, stage, unwritten, with_frame, frame_of, written_by}
 use Rattle.pulsar_client.specs.Local.{IsLinkRun}
 use Rattle.pulsar_client.specs.Log.{Chosen, Entry, Begins, Does, links, of_link, stream, calls, procedure_of, outcomes_of, base, seen_link, is_at, readies, spent, action_at, performs, view, built, procedure_for}
@@ -189,7 +190,7 @@ next_at t _ older = None
 -- An act is of what the procedure does next. Where the tickets are spent a call is answered without any.
 pub data Follows (o : Chosen) (t : ℕ) (x : Act) (e : Entry) (older : List Entry) : Type 0 where
   IsNext : (a : Action) → next_at t e older ≡ Some a → In x (performs (view o older) t a) → Follows o t x e older
-  IsSpent : (calls older == spent) ≡ true → x ≡ Answers spent (Failed Exhausted) → Follows o t x e older
+  IsSpent : (calls older == spent) ≡ true → x ≡ Answers spent (failed Exhausted) → Follows o t x e older
 
 -- each act that a call does is what its procedure does next, in the same step
 abbrev pub ActsFollow : Type 0
@@ -203,14 +204,14 @@ AnswersOnce = (o : Chosen) (log : List Entry) (t : ℕ) (p : Procedure) →
 -- WHY A CALL FAILS
 
 -- a call fails with Shutdown where it is refused, and else with the fault of an outcome that it was told, or of a reply
-pub data Fails (p : Procedure) (os : List Outcome) (f : Fault) : Type 0 where
-  IsRefused : p ≡ Refused → f ≡ Shutdown → Fails p os f
-  IsTold : (u : Outcome) → In u os → f ≡ fault_of u → Fails p os f
-  IsReplied : (r : Reply) → In (outcome.Replied r) os → Failed f ≡ topics_in r → Fails p os f
+pub data Fails (p : Procedure) (os : List Outcome) (f : Failure) : Type 0 where
+  IsRefused : p ≡ Refused → f ≡ OfConnection Shutdown → Fails p os f
+  IsTold : (u : Outcome) → In u os → f ≡ OfConnection (fault_of u) → Fails p os f
+  IsReplied : (m : MessageValues) → In (outcome.Replied m) os → Failed f ≡ topics_in m.command.body → Fails p os f
 
 -- wherever a step has ended, a call that has failed did so for one of these
 abbrev pub FailuresAreTold : Type 0
-FailuresAreTold = (o : Chosen) (log : List Entry) (t : ℕ) (p : Procedure) (f : Fault) →
+FailuresAreTold = (o : Chosen) (log : List Entry) (t : ℕ) (p : Procedure) (f : Failure) →
     IsRun o log → Rests o log → procedure_of t log ≡ Some p → In (Failed f) (answers t log) → Fails p (outcomes_of t log) f
 
 -- a link ends while the attempt of this call runs

@@ -1,3 +1,4 @@
+pub mod Failures
 pub mod Content
 pub mod Messages
 pub mod Link

@@ -20,9 +20,10 @@ use Rattle.pulsar_client.specs.declared.act.Act.TheVariants.{Calls, Told, Dials,
 use Rattle.pulsar_client.specs.declared.tables.Base.{Base}
 use Rattle.pulsar_client.specs.declared.tables.Base.TheVariants.{Nothing, Runs, Serves}
 use Rattle.pulsar_client.specs.Content as content
-use Rattle.pulsar_client.specs.Content.{Asked, Heard, Called, Opened, Bytes, Drain, Said, Failed, Exhausted}
+use Rattle.pulsar_client.specs.Content.{Asked, Heard, Called, Opened, Bytes, Drain, Said}
+use Rattle.pulsar_client.specs.Failures.{Exhausted}
 use Rattle.pulsar_client.specs.Link.{arrivals, fits_frame, Seen, seen, is_dialing, is_open, is_ready, request_message, link_rule}
-use Rattle.pulsar_client.specs.Plan.{next}
+use Rattle.pulsar_client.specs.Plan.{failed, next}
 
 pub data Entry : Type 0 where
   Begins : Heard → Entry
@@ -213,7 +214,7 @@ procedure_for is_built (content.Topics namespace mode) = if is_built then proced
 
 -- a call is made, unless the tickets are spent
 abbrev pub calls_for : View → Asked → List Act
-calls_for v c = if v.calls == spent then Answers spent (Failed Exhausted) ∷ [] else Calls (procedure_for v.is_built c) ∷ []
+calls_for v c = if v.calls == spent then Answers spent (failed Exhausted) ∷ [] else Calls (procedure_for v.is_built c) ∷ []
 
 -- an event is live where it names a live link, in a state that the link is in; a call always is
 abbrev pub is_live : View → Heard → Bool

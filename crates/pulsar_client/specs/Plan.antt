@@ -1,5 +1,8 @@
 -- The procedures of the calls, each a reader of its outcomes, oldest first: after each outcome it says what comes next.
-use Rattle.std.specs.Prelude.{ℕ, List, [], ◌∷◌, Option, Some, None, codes, if◌then◌else◌}
+use Rattle.std.specs.Prelude.{ℕ, Bool, false, List, [], ◌∷◌, Option, Some, None, codes, ◌==◌, if◌then◌else◌}
+use Rattle.pulsar_wire.specs.Field.{◌>>=◌}
+use Rattle.pulsar_wire.specs.At.{int32_at, text_at, texts_at}
+use Rattle.pulsar_wire.specs.Enumerations.{error_of}
 use Rattle.pulsar_wire.specs.Command.{BodyValues, body_name}
 use Rattle.pulsar_wire.specs.declared.commands.topics.Mode.{Mode}
 use Rattle.pulsar_wire.specs.declared.error.Reason.TheVariants as reason
@@ -11,13 +14,10 @@ use Rattle.pulsar_client.specs.declared.act.Request.{Request}
 use Rattle.pulsar_client.specs.declared.act.Request.TheVariants as request
 use Rattle.pulsar_client.specs.declared.act.Action.{Action}
 use Rattle.pulsar_client.specs.declared.act.Action.TheVariants.{Get, Ask, Answer, Finish, Rest}
-use Rattle.pulsar_client.specs.Content.{Fault, Io, Disconnected, Encoding, UnexpectedResponse, Canceled, Shutdown, Exhausted, Said, Names, Failed}
-use Rattle.pulsar_client.specs.Messages.{Reply, is_number, topics_of}
-
--- the name of a message's body
-abbrev pub name_of : Option ℕ → List ℕ
-name_of None = codes "none"
-name_of (Some n) = body_name n
+use Rattle.pulsar_frame.specs.Key.{answers}
+use Rattle.pulsar_client.specs.Failures.{Fault, Io, Disconnected, PulsarError, Encoding, UnexpectedResponse, Canceled, Shutdown, Exhausted, OfConnection}
+use Rattle.pulsar_client.specs.Content.{Said, Names, Failed}
+use Rattle.pulsar_client.specs.Messages.{is_number}
 
 -- why a call fails at an outcome
 abbrev pub fault_of : Outcome → Fault
@@ -26,6 +26,9 @@ fault_of outcome.Canceled = Canceled
 fault_of outcome.Exhausted = Exhausted
 fault_of outcome.Unencodable = Encoding reason.Frame
 fault_of _ = Disconnected
+
+abbrev pub failed : Fault → Said
+failed f = Failed (OfConnection f)
 
 -- the end: nothing comes after the answer
 abbrev pub ended : Said → List Outcome → Action
@@ -41,21 +44,36 @@ finished (o ∷ os) = Rest
 abbrev pub building : List Outcome → Action
 building [] = Get
 building (outcome.GotLink link ∷ os) = finished os
-building (o ∷ os) = ended (Failed (fault_of o)) os
+building (o ∷ os) = ended (failed (fault_of o)) os
 
 -- TOPICS: GET the link of the address, and ask on it
 
--- the answer that a reply gives: the topics, or the name of a body that wasn't expected
-abbrev pub topics_in : Reply → Said
-topics_in r = if is_number 33 r.body then Names r.topics else Failed (UnexpectedResponse (name_of r.body))
+-- why a body fails a call that expects another one: the broker's error with its text, or the name of the body
+abbrev pub refused : BodyValues → Fault
+refused b =
+    if b.number == 14 then PulsarError (int32_at 2 b.row b.values >>= error_of) (text_at 3 b.row b.values)
+    else UnexpectedResponse (body_name b.number)
 
--- the same, of the body itself
-abbrev pub topics_of_body : BodyValues → Said
-topics_of_body b = topics_in (record { body = Some b.number; key = None; topics = topics_of (Some b) })
+abbrev pub refusal : Option BodyValues → Said
+refusal None = failed (UnexpectedResponse (codes "none"))
+refusal (Some b) = failed (refused b)
+
+-- a body is the answer that the body of a request expects
+abbrev pub is_answer : ℕ → Option BodyValues → Bool
+is_answer request None = false
+is_answer request (Some b) = is_number b.number (answers request)
+
+abbrev pub names_in : Option BodyValues → List (List ℕ)
+names_in None = []
+names_in (Some b) = texts_at 2 b.row b.values
+
+-- the answer that a reply's body gives: the topics, or why there are none
+abbrev pub topics_in : Option BodyValues → Said
+topics_in body = if is_answer 32 body then Names (names_in body) else refusal body
 
 abbrev pub topics_answer : Outcome → Said
-topics_answer (outcome.Replied r) = topics_in r
-topics_answer o = Failed (fault_of o)
+topics_answer (outcome.Replied m) = topics_in m.command.body
+topics_answer o = failed (fault_of o)
 
 abbrev pub topics_replied : List Outcome → Action
 topics_replied [] = Rest
@@ -68,10 +86,10 @@ topics_asked link words (o ∷ os) = topics_replied (o ∷ os)
 abbrev pub topics : List ℕ → Mode → List Outcome → Action
 topics namespace mode [] = Get
 topics namespace mode (outcome.GotLink link ∷ os) = topics_asked link (request.Topics namespace mode) os
-topics namespace mode (o ∷ os) = ended (Failed (fault_of o)) os
+topics namespace mode (o ∷ os) = ended (failed (fault_of o)) os
 
 -- the next action of a procedure
 abbrev pub next : Procedure → List Outcome → Action
 next procedure.Build os = building os
 next (procedure.Topics namespace mode) os = topics namespace mode os
-next procedure.Refused os = ended (Failed Shutdown) os
+next procedure.Refused os = ended (failed Shutdown) os

@@ -6,6 +6,8 @@ use Rattle.std.specs.BTreeSet.{insert_key}
 use Rattle.std.specs.Option.{option_map}
 use Rattle.std.specs.List.{list_all}
 use Rattle.std.specs.Global.{Vec}
+use Rattle.pulsar_wire.specs.declared.key.RequestKey.{RequestKey}
+use Rattle.pulsar_wire.specs.declared.key.RequestKey.TheVariants.{RequestId, CloseConsumer}
 use Rattle.pulsar_client.specs.declared.event.Event.{Event}
 use Rattle.pulsar_client.specs.declared.effect.Effect.{Effect}
 use Rattle.pulsar_client.specs.declared.act.Outcome.{Outcome}
@@ -29,7 +31,7 @@ use Rattle.pulsar_client.specs.declared.tables.Base.TheVariants.{Nothing, Runs, 
 use Rattle.pulsar_client.specs.declared.tables.Tables.{Tables}
 use Rattle.pulsar_client.specs.Content.{Heard, Bytes, Shown, heard, shown}
 use Rattle.pulsar_client.specs.Link.{Seen, Pending, drawn, frame_of, counted, left_by, left_waiting, with_frame, with_request}
-use Rattle.pulsar_client.specs.Messages.{Reply}
+use Rattle.pulsar_frame.specs.Message.{MessageValues}
 use Rattle.pulsar_client.specs.Plan.{building, topics, topics_replied}
 use Rattle.pulsar_client.specs.Log.{Chosen, Entry, built, calls, procedure_of, outcomes_of, links, base, waiting, seen_link, unread_of, View, opens}
 use Rattle.pulsar_frame.specs.Frame.{left}
@@ -40,7 +42,13 @@ use Rattle.pulsar_client.specs.Good.{rank, is_before, IsRun, Step, steps, due, t
 abbrev pub waiting_at : ℕ × Waiter → Pending
 waiting_at e = record { id = e.0; place = e.1.place; ticket = e.1.ticket }
 
-abbrev pub replied_to : Reply → Waiter → LinkAct
+-- the number of the request that a frame of this key may answer
+abbrev pub request_id : Option RequestKey → Option ℕ
+request_id (Some (RequestId id)) = Some id
+request_id (Some (CloseConsumer consumer id)) = Some id
+request_id _ = None
+
+abbrev pub replied_to : MessageValues → Waiter → LinkAct
 replied_to m w = Settled w.place w.ticket (outcome.Replied m)
 
 abbrev pub contents : List (Vec ℕ) → List (List ℕ)

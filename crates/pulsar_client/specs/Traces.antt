@@ -4,7 +4,8 @@ use Rattle.pulsar_wire.specs.declared.error.IoKind.TheVariants.{Other}
 use Rattle.pulsar_wire.specs.declared.commands.topics.Mode.TheVariants as modes
 use Rattle.pulsar_frame.specs.Frame.{frame_bytes}
 use Rattle.pulsar_client.specs.declared.effect.Settlement.TheVariants as settlement
-use Rattle.pulsar_client.specs.Content.{Heard, Called, Build, Topics, Opened, Bytes, Drain, Shown, Connect, Queued, Write, Settles, Ends, Close, Done, Names, Failed, Io, Canceled}
+use Rattle.pulsar_client.specs.Content.{Heard, Called, Build, Topics, Opened, Bytes, Drain, Shown, Connect, Queued, Write, Settles, Ends, Close, Done, Names}
+use Rattle.pulsar_client.specs.Failures.{Io, Canceled}
 use Rattle.pulsar_client.specs.Messages.{connect_message, topics_message}
 use Rattle.pulsar_client.specs.Log.{Chosen}
 use Rattle.pulsar_client.specs.Good.{Step, Good, base_host, base_port}
@@ -61,7 +62,7 @@ attempt_fails =
     step_of (Called Build) (Connect 0 base_host base_port ∷ [])
     ∷ step_of (Called Build) []
     ∷ step_of (Opened 0) (Queued 0 0 (frame_bytes connect_message) ∷ [])
-    ∷ step_of (Bytes 0 topics_reply) (Ends 0 (Failed (Io Other)) ∷ Ends 1 (Failed Canceled) ∷ Close 0 ∷ [])
+    ∷ step_of (Bytes 0 topics_reply) (Ends 0 (failed (Io Other)) ∷ Ends 1 (failed Canceled) ∷ Close 0 ∷ [])
     ∷ []
 
 -- a history, oldest step first, is good

@@ -3,11 +3,12 @@
 ghost use Rattle.std.specs.Prelude.{◌≡◌, ℕ, List, IfOk, string_bytes};
 ghost use Rattle.pulsar_frame.specs.Shown.{message_values};
 ghost use Rattle.pulsar_client.specs.Content.{Said, said};
-ghost use Rattle.pulsar_client.specs.Messages.{Reply, is_connected, read};
+ghost use Rattle.pulsar_frame.specs.Key.{key};
+ghost use Rattle.pulsar_frame.specs.Message.{MessageValues};
+ghost use Rattle.pulsar_client.specs.Messages.{is_connected};
 
 use crate::effect::Answer;
 use pulsar_frame::message::Message;
-use pulsar_wire::commands::base::Body;
 use pulsar_wire::error::{Error, NoMemory};
 use pulsar_wire::key::RequestKey;
 use std::marker::Model;
@@ -53,20 +54,20 @@ pub struct Received {
 }
 
 impl Model for Received {
-    ghost Value = { Reply };
+    ghost Value = { MessageValues };
 
-    ghost view = { λ r. read (message_values r.message) };
+    ghost view = { λ r. message_values r.message };
 }
 
 impl Received {
     pub fn new(message: Message) -> Received
-        ensures { result ≡ read (message_values message) }
+        ensures { result ≡ message_values message }
     {
         Received { message }
     }
 
     pub fn key(&self) -> Option<RequestKey>
-        ensures { result ≡ self.now.key }
+        ensures { result ≡ key self.now }
     {
         self.message.request_key()
     }
@@ -76,18 +77,13 @@ impl Received {
         ensures { result ≡ is_connected self.now }
     {
         match &self.message.command.body {
-            Some(Body::Connected(_)) => true,
-            Some(
-                Body::Connect(_)
-                | Body::GetTopicsOfNamespace(_)
-                | Body::GetTopicsOfNamespaceResponse(_),
-            )
-            | None => false,
+            Some(body) => body.number() == 3,
+            None => false,
         }
     }
 
     pub fn into_message(self) -> Message
-        ensures { read (message_values result) ≡ self }
+        ensures { message_values result ≡ self }
     {
         let Received { message } = self;
         message

@@ -1,11 +1,15 @@
 //! What holds of all messages and commands. A function with an empty body has the law as its contract.
 
 ghost use Rattle.std.specs.Prelude.{◌≡◌, MatchResult};
+ghost use Rattle.pulsar_wire.specs.Ids.{id_order};
+ghost use Rattle.pulsar_wire.specs.Views.{message_id_values};
 ghost use Rattle.pulsar_wire.specs.Laws.{MessagesReadAgain, CommandsReadAgain, SettledCommandsReadAgain, OneMeaning, OneSpelling, KnownBodiesAreRows, UnknownFieldsAreSkipped, UnknownBodiesAreSkipped};
 
+use crate::commands::ids::MessageIdData;
 use crate::error::ConnectionError;
 use crate::wire::Wire;
 use std::alloc::Global;
+use std::cmp::Ordering;
 
 /// Writes a value and reads it again. What comes back is the value, where a command's kind is that of its body, and only
 /// memory may be wanting.
@@ -58,3 +62,11 @@ pub fn unknown_fields_are_skipped()
 pub fn unknown_bodies_are_skipped()
     ensures { UnknownBodiesAreSkipped }
 {}
+
+/// Ids are ordered by their six fields.
+#[tactic(auto, unfolding(crate::specs::Views::message_id_values))]
+pub fn ids_are_ordered(a: &MessageIdData, b: &MessageIdData) -> Ordering
+    ensures { result ≡ id_order (message_id_values a.now) (message_id_values b.now) }
+{
+    a.cmp(b)
+}

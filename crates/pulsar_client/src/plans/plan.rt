@@ -1,16 +1,19 @@
 //! The procedures of the calls, as machines over their outcomes.
 
 ghost use Rattle.std.specs.Prelude.{◌≡◌, [], ◌∷◌, Some, IfOk};
+ghost use Rattle.std.specs.Option.{option_map};
 ghost use Rattle.pulsar_wire.specs.Views.{body_values};
-ghost use Rattle.pulsar_client.specs.Content.{Failed, UnexpectedResponse, fault};
-ghost use Rattle.pulsar_client.specs.Plan.{next, fault_of, building, topics, topics_answer, topics_in, topics_of_body};
+ghost use Rattle.pulsar_client.specs.Failures.{UnexpectedResponse, fault};
+ghost use Rattle.pulsar_client.specs.Plan.{next, failed, fault_of, building, refused, refusal, topics, topics_answer, topics_in};
 ghost use Rattle.pulsar_client.specs.Tables.{start, plan_action, plan_after};
 
 use crate::act::{Action, Outcome, Procedure, Request};
 use crate::content::{Received, Text, Verdict};
 use crate::effect::Answer;
 use pulsar_wire::commands::base::Body;
-use pulsar_wire::commands::topics::Mode;
+use pulsar_wire::commands::connection::CommandError;
+use pulsar_wire::commands::enumerations::server_error;
+use pulsar_wire::commands::topics::{CommandGetTopicsOfNamespaceResponse, Mode};
 use pulsar_wire::error::{ConnectionError, Error, NoMemory, Reason};
 use std::alloc::Global;
 
@@ -81,44 +84,63 @@ fn topics_answer(alloc: Global, outcome: Outcome) -> Result<Verdict, NoMemory>
 {
     match outcome {
         Outcome::Replied(reply) => topics_in(alloc, reply),
-        outcome => Ok(Verdict::new(Err(Error::Connection(error_of(&outcome))))),
+        outcome => Ok(failure(error_of(&outcome))),
     }
 }
 
-/// The topics of a reply, or the name of a body that wasn't expected.
+/// The topics of a reply, or why it has none.
 fn topics_in(alloc: Global, reply: Received) -> Result<Verdict, NoMemory>
-    ensures { IfOk result (λ v. v ≡ topics_in reply) }
+    ensures { IfOk result (λ v. v ≡ topics_in reply.command.body) }
 {
     let message = reply.into_message();
     match message.command.body {
-        Some(body) => topics_of(alloc, body),
-        None => unexpected(alloc, "none"),
+        Some(Body::GetTopicsOfNamespaceResponse(body)) => Ok(topics_of(body)),
+        body => Ok(failure(refusal(alloc, body)?)),
     }
 }
 
 #[tactic(auto, unfolding(pulsar_wire::specs::Views::get_topics_of_namespace_response_values))]
-fn topics_of(alloc: Global, body: Body) -> Result<Verdict, NoMemory>
-    ensures { IfOk result (λ v. v ≡ topics_of_body (body_values body)) }
+fn topics_of(body: CommandGetTopicsOfNamespaceResponse) -> Verdict
+    ensures { result ≡ topics_in (Some (body_values (Body.GetTopicsOfNamespaceResponse body))) }
+{
+    Verdict::new(Ok(Answer::Topics(body.topics)))
+}
+
+/// Why a body fails a call that expects another one: the broker's error, or the name of the body.
+fn refusal(alloc: Global, body: Option<Body>) -> Result<ConnectionError, NoMemory>
+    ensures { IfOk result (λ e. failed (fault e) ≡ refusal (option_map body_values body)) }
 {
     match body {
-        Body::GetTopicsOfNamespaceResponse(body) => {
-            Ok(Verdict::new(Ok(Answer::Topics(body.topics))))
-        }
-        body => unexpected(alloc, body.name()),
+        Some(Body::Error(error)) => Ok(told_error(error)),
+        Some(body) => unexpected(alloc, body.name()),
+        None => unexpected(alloc, "none"),
     }
 }
 
-fn unexpected(alloc: Global, name: &str) -> Result<Verdict, NoMemory>
-    ensures { IfOk result (λ v. v ≡ Failed (UnexpectedResponse name.now)) }
+#[tactic(auto, unfolding(pulsar_wire::specs::Views::error_values))]
+fn told_error(error: CommandError) -> ConnectionError
+    ensures { fault result ≡ refused (body_values (Body.Error error)) }
 {
-    let name = String::from_str(alloc, name)?;
-    Ok(Verdict::new(Err(Error::Connection(ConnectionError::UnexpectedResponse(name)))))
+    ConnectionError::PulsarError(server_error(error.error), Some(error.message))
+}
+
+fn unexpected(alloc: Global, name: &str) -> Result<ConnectionError, NoMemory>
+    ensures { IfOk result (λ e. fault e ≡ UnexpectedResponse name.now) }
+{
+    Ok(ConnectionError::UnexpectedResponse(String::from_str(alloc, name)?))
+}
+
+/// The end of a call that failed.
+fn failure(error: ConnectionError) -> Verdict
+    ensures { result ≡ failed (fault error) }
+{
+    Verdict::new(Err(Error::Connection(error)))
 }
 
 fn failing(error: ConnectionError) -> Action
-    ensures { result ≡ Action.Answer (Failed (fault error)) }
+    ensures { result ≡ Action.Answer (failed (fault error)) }
 {
-    Action::Answer(Verdict::new(Err(Error::Connection(error))))
+    Action::Answer(failure(error))
 }
 
 /// Why a call fails at an outcome.

@@ -13,12 +13,28 @@ ghost use Rattle.pulsar_wire.specs.Views.{body_values, command_values};
 ghost use Rattle.pulsar_wire.specs.Shown.{Gives, Leaves, field};
 
 use crate::commands::auth::{CommandAuthChallenge, CommandAuthResponse};
-use crate::commands::connection::{CommandConnect, CommandConnected, CommandError, CommandPing, CommandPong, CommandSuccess};
-use crate::commands::consumer::delivery::{CommandAck, CommandFlow, CommandMessage, CommandReachedEndOfTopic, CommandRedeliverUnacknowledgedMessages};
-use crate::commands::consumer::position::{CommandConsumerStats, CommandConsumerStatsResponse, CommandGetLastMessageId, CommandGetLastMessageIdResponse, CommandSeek};
-use crate::commands::consumer::subscription::{CommandActiveConsumerChange, CommandCloseConsumer, CommandSubscribe, CommandUnsubscribe};
-use crate::commands::lookup::{CommandLookupTopic, CommandLookupTopicResponse, CommandPartitionedTopicMetadata, CommandPartitionedTopicMetadataResponse};
-use crate::commands::producer::{CommandCloseProducer, CommandProducer, CommandProducerSuccess, CommandSend, CommandSendError, CommandSendReceipt};
+use crate::commands::connection::{
+    CommandConnect, CommandConnected, CommandError, CommandPing, CommandPong, CommandSuccess,
+};
+use crate::commands::consumer::delivery::{
+    CommandAck, CommandFlow, CommandMessage, CommandReachedEndOfTopic,
+    CommandRedeliverUnacknowledgedMessages,
+};
+use crate::commands::consumer::position::{
+    CommandConsumerStats, CommandConsumerStatsResponse, CommandGetLastMessageId,
+    CommandGetLastMessageIdResponse, CommandSeek,
+};
+use crate::commands::consumer::subscription::{
+    CommandActiveConsumerChange, CommandCloseConsumer, CommandSubscribe, CommandUnsubscribe,
+};
+use crate::commands::lookup::{
+    CommandLookupTopic, CommandLookupTopicResponse, CommandPartitionedTopicMetadata,
+    CommandPartitionedTopicMetadataResponse,
+};
+use crate::commands::producer::{
+    CommandCloseProducer, CommandProducer, CommandProducerSuccess, CommandSend, CommandSendError,
+    CommandSendReceipt,
+};
 use crate::commands::schema::{CommandGetSchema, CommandGetSchemaResponse};
 use crate::commands::topics::{CommandGetTopicsOfNamespace, CommandGetTopicsOfNamespaceResponse};
 use crate::encoding::content::int32_of;

@@ -65,11 +65,7 @@ impl Message for CommandPartitionedTopicMetadata {
 
     #[tactic(auto, unfolding(crate::specs::Row::spelling, crate::specs::Views::partition_metadata_values))]
     fn write<S: Sink>(&self, out: &mut S) -> Result<(), AllocError> {
-        fields!(
-            Required(1, &self.topic),
-            Required(2, &self.request_id)
-        )
-        .write(out)
+        fields!(Required(1, &self.topic), Required(2, &self.request_id)).write(out)
     }
 
     #[tactic(auto, unfolding(crate::specs::Views::partition_metadata_values))]

@@ -6,7 +6,9 @@ ghost use Rattle.pulsar_wire.specs.Row.{none_of};
 ghost use Rattle.pulsar_wire.specs.Rows.{key_value, encryption_keys, message_metadata, single_message_metadata};
 ghost use Rattle.pulsar_wire.specs.Views.{key_value_values, encryption_keys_values, message_metadata_values, single_message_metadata_values};
 
-use crate::encoding::content::{bytes_of, int32_of, int64_of, push_text, text_of, uint32_of, uint64_of};
+use crate::encoding::content::{
+    bytes_of, int32_of, int64_of, push_text, text_of, uint32_of, uint64_of,
+};
 use crate::encoding::copying::{copy_messages, copy_optional, copy_values};
 use crate::encoding::field::Value;
 use crate::encoding::fields::{Fields, Optional, Repeated, RepeatedMessages, Required, fields};
@@ -65,11 +67,7 @@ impl Message for KeyValue {
 
     #[tactic(auto, unfolding(crate::specs::Row::spelling, crate::specs::Views::key_value_values))]
     fn write<S: Sink>(&self, out: &mut S) -> Result<(), AllocError> {
-        fields!(
-            Required(1, &self.key),
-            Required(2, &self.value)
-        )
-        .write(out)
+        fields!(Required(1, &self.key), Required(2, &self.value)).write(out)
     }
 
     #[tactic(auto, unfolding(crate::specs::Views::key_value_values))]

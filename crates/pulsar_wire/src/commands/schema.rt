@@ -10,7 +10,9 @@ use crate::commands::metadata::KeyValue;
 use crate::encoding::content::{bytes_of, int32_of, text_of, uint64_of};
 use crate::encoding::copying::{copy_message, copy_messages, copy_optional};
 use crate::encoding::field::Value;
-use crate::encoding::fields::{Fields, Optional, OptionalMessage, RepeatedMessages, Required, fields};
+use crate::encoding::fields::{
+    Fields, Optional, OptionalMessage, RepeatedMessages, Required, fields,
+};
 use crate::encoding::message::{Message, put_optional, put_repeated};
 use crate::encoding::plain::Plain;
 use crate::encoding::read_error::ReadError;

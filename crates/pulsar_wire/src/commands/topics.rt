@@ -157,11 +157,7 @@ impl Message for CommandGetTopicsOfNamespaceResponse {
 
     #[tactic(auto, unfolding(crate::specs::Row::spelling, crate::specs::Views::get_topics_of_namespace_response_values))]
     fn write<S: Sink>(&self, out: &mut S) -> Result<(), AllocError> {
-        fields!(
-            Required(1, &self.request_id),
-            Repeated(2, &self.topics)
-        )
-        .write(out)
+        fields!(Required(1, &self.request_id), Repeated(2, &self.topics)).write(out)
     }
 
     #[tactic(auto, unfolding(crate::specs::Views::get_topics_of_namespace_response_values))]

@@ -33,6 +33,7 @@ macro_rules! fields {
     () => { () };
     ($first:expr $(, $other:expr)*) => { ($first, fields!($($other),*)) };
 }
+
 pub(crate) use fields;
 
 impl Fields for () {

@@ -18,7 +18,12 @@ pub fn auth_data(alloc: Global) -> Result<AuthData, NoMemory> {
 fn writes_auth_data(rt: HostRuntime) -> Result<(), Fail> {
     let alloc = rt.alloc();
     let full = auth_data(alloc)?;
-    is_written(&rt, alloc, &full, b"\x0a\x10auth_method_name\x12\x04\x00\x02\x80\xff")?;
+    is_written(
+        &rt,
+        alloc,
+        &full,
+        b"\x0a\x10auth_method_name\x12\x04\x00\x02\x80\xff",
+    )?;
     assert!(rt; full.copy()? == full);
     is_written(&rt, alloc, &AuthData::new(), b"")
 }
@@ -31,10 +36,18 @@ fn writes_auth_challenge(rt: HostRuntime) -> Result<(), Fail> {
         challenge: Some(auth_data(alloc)?),
         protocol_version: Some(-3),
     };
-    let written = b"\x0a\x0eserver_version\x12\x18\x0a\x10auth_method_name\x12\x04\x00\x02\x80\xff\x18\xfd\xff\xff\xff\xff\xff\xff\xff\xff\x01";
+    let written =
+        b"\x0a\x0eserver_version\x12\x18\x0a\x10auth_method_name\x12\x04\x00\x02\x80\xff\x18\xfd\xff\xff\xff\xff\xff\xff\xff\xff\x01";
     is_written(&rt, alloc, &full, written)?;
     is_written(&rt, alloc, &CommandAuthChallenge::new(), b"")?;
-    is_command(&rt, alloc, Body::AuthChallenge(full), "auth_challenge", b"\x08$\xa2\x025", written)
+    is_command(
+        &rt,
+        alloc,
+        Body::AuthChallenge(full),
+        "auth_challenge",
+        b"\x08$\xa2\x025",
+        written,
+    )
 }
 
 #[test]
@@ -45,8 +58,16 @@ fn writes_auth_response(rt: HostRuntime) -> Result<(), Fail> {
         response: Some(auth_data(alloc)?),
         protocol_version: Some(-3),
     };
-    let written = b"\x0a\x0eclient_version\x12\x18\x0a\x10auth_method_name\x12\x04\x00\x02\x80\xff\x18\xfd\xff\xff\xff\xff\xff\xff\xff\xff\x01";
+    let written =
+        b"\x0a\x0eclient_version\x12\x18\x0a\x10auth_method_name\x12\x04\x00\x02\x80\xff\x18\xfd\xff\xff\xff\xff\xff\xff\xff\xff\x01";
     is_written(&rt, alloc, &full, written)?;
     is_written(&rt, alloc, &CommandAuthResponse::new(), b"")?;
-    is_command(&rt, alloc, Body::AuthResponse(full), "auth_response", b"\x08%\xaa\x025", written)
+    is_command(
+        &rt,
+        alloc,
+        Body::AuthResponse(full),
+        "auth_response",
+        b"\x08%\xaa\x025",
+        written,
+    )
 }

@@ -133,7 +133,10 @@ fn joins_the_occurrences_of_a_message(rt: HostRuntime) -> Result<(), Fail> {
     let twice = b"\x08\x05\x12\x02\x08\x01\xa0\x06\x01\x12\x02\x10\x02";
     let message = CommandMessage::decode(alloc, twice)?;
     assert_eq!(rt; message.consumer_id, 5);
-    assert_eq!(rt; (message.message_id.ledger_id, message.message_id.entry_id), (1, 2));
+    assert_eq!(rt;
+        (message.message_id.ledger_id, message.message_id.entry_id),
+        (1, 2)
+    );
     Ok(())
 }
 

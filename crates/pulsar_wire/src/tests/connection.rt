@@ -1,7 +1,9 @@
 //! The commands that open a connection and keep it, and the answers that say no more than that, against the bytes of another implementation.
 
 use crate::commands::base::Body;
-use crate::commands::connection::{CommandConnect, CommandConnected, CommandError, CommandPing, CommandPong, CommandSuccess};
+use crate::commands::connection::{
+    CommandConnect, CommandConnected, CommandError, CommandPing, CommandPong, CommandSuccess,
+};
 use crate::tests::schema::schema;
 use crate::tests::written::{bytes, is_command, is_written, text};
 use std::test::Fail;
@@ -16,10 +18,18 @@ fn writes_connect(rt: HostRuntime) -> Result<(), Fail> {
         auth_method_name: Some(text(alloc, "auth_method_name")?),
         proxy_to_broker_url: Some(text(alloc, "proxy_to_broker_url")?),
     };
-    let written = b"\x0a\x0eclient_version\x1a\x04\x00\x03\x80\xff \x90\x03*\x10auth_method_name2\x13proxy_to_broker_url";
+    let written =
+        b"\x0a\x0eclient_version\x1a\x04\x00\x03\x80\xff \x90\x03*\x10auth_method_name2\x13proxy_to_broker_url";
     is_written(&rt, alloc, &full, written)?;
     is_written(&rt, alloc, &CommandConnect::new(alloc), b"\x0a\x00")?;
-    is_command(&rt, alloc, Body::Connect(full), "connect", b"\x08\x02\x12@", written)
+    is_command(
+        &rt,
+        alloc,
+        Body::Connect(full),
+        "connect",
+        b"\x08\x02\x12@",
+        written,
+    )
 }
 
 #[test]
@@ -33,7 +43,14 @@ fn writes_connected(rt: HostRuntime) -> Result<(), Fail> {
     let written = b"\x0a\x0eserver_version\x10\xc8\x01\x18\xfd\xff\xff\xff\xff\xff\xff\xff\xff\x01";
     is_written(&rt, alloc, &full, written)?;
     is_written(&rt, alloc, &CommandConnected::new(alloc), b"\x0a\x00")?;
-    is_command(&rt, alloc, Body::Connected(full), "connected", b"\x08\x03\x1a\x1e", written)
+    is_command(
+        &rt,
+        alloc,
+        Body::Connected(full),
+        "connected",
+        b"\x08\x03\x1a\x1e",
+        written,
+    )
 }
 
 #[test]
@@ -43,7 +60,14 @@ fn writes_ping(rt: HostRuntime) -> Result<(), Fail> {
     let written = b"";
     is_written(&rt, alloc, &full, written)?;
     is_written(&rt, alloc, &CommandPing::new(), b"")?;
-    is_command(&rt, alloc, Body::Ping(full), "ping", b"\x08\x12\x92\x01\x00", written)
+    is_command(
+        &rt,
+        alloc,
+        Body::Ping(full),
+        "ping",
+        b"\x08\x12\x92\x01\x00",
+        written,
+    )
 }
 
 #[test]
@@ -53,7 +77,14 @@ fn writes_pong(rt: HostRuntime) -> Result<(), Fail> {
     let written = b"";
     is_written(&rt, alloc, &full, written)?;
     is_written(&rt, alloc, &CommandPong::new(), b"")?;
-    is_command(&rt, alloc, Body::Pong(full), "pong", b"\x08\x13\x9a\x01\x00", written)
+    is_command(
+        &rt,
+        alloc,
+        Body::Pong(full),
+        "pong",
+        b"\x08\x13\x9a\x01\x00",
+        written,
+    )
 }
 
 #[test]
@@ -63,10 +94,18 @@ fn writes_success(rt: HostRuntime) -> Result<(), Fail> {
         request_id: 301,
         schema: Some(schema(alloc)?),
     };
-    let written = b"\x08\xad\x02\x12#\x0a\x04name\x1a\x04\x00\x03\x80\xff \x90\x03*\x0c\x0a\x03key\x12\x05value*\x04\x0a\x00\x12\x00";
+    let written =
+        b"\x08\xad\x02\x12#\x0a\x04name\x1a\x04\x00\x03\x80\xff \x90\x03*\x0c\x0a\x03key\x12\x05value*\x04\x0a\x00\x12\x00";
     is_written(&rt, alloc, &full, written)?;
     is_written(&rt, alloc, &CommandSuccess::new(), b"\x08\x00")?;
-    is_command(&rt, alloc, Body::Success(full), "success", b"\x08\x0dj(", written)
+    is_command(
+        &rt,
+        alloc,
+        Body::Success(full),
+        "success",
+        b"\x08\x0dj(",
+        written,
+    )
 }
 
 #[test]
@@ -79,6 +118,18 @@ fn writes_error(rt: HostRuntime) -> Result<(), Fail> {
     };
     let written = b"\x08\xad\x02\x10\xc8\x01\x1a\x07message";
     is_written(&rt, alloc, &full, written)?;
-    is_written(&rt, alloc, &CommandError::new(alloc), b"\x08\x00\x10\x00\x1a\x00")?;
-    is_command(&rt, alloc, Body::Error(full), "error", b"\x08\x0er\x0f", written)
+    is_written(
+        &rt,
+        alloc,
+        &CommandError::new(alloc),
+        b"\x08\x00\x10\x00\x1a\x00",
+    )?;
+    is_command(
+        &rt,
+        alloc,
+        Body::Error(full),
+        "error",
+        b"\x08\x0er\x0f",
+        written,
+    )
 }

@@ -21,7 +21,12 @@ pub fn message_id(alloc: Global) -> Result<MessageIdData, NoMemory> {
 fn writes_message_id(rt: HostRuntime) -> Result<(), Fail> {
     let alloc = rt.alloc();
     let full = message_id(alloc)?;
-    is_written(&rt, alloc, &full, b"\x08\xad\x02\x10\xae\x02\x18\xfd\xff\xff\xff\xff\xff\xff\xff\xff\x01 \x90\x03(\x05(\xff\xff\xff\xff\xff\xff\xff\xff\xff\x010\xd8\x04")?;
+    is_written(
+        &rt,
+        alloc,
+        &full,
+        b"\x08\xad\x02\x10\xae\x02\x18\xfd\xff\xff\xff\xff\xff\xff\xff\xff\x01 \x90\x03(\x05(\xff\xff\xff\xff\xff\xff\xff\xff\xff\x010\xd8\x04",
+    )?;
     assert!(rt; full.copy()? == full);
     is_written(&rt, alloc, &MessageIdData::new(alloc), b"\x08\x00\x10\x00")
 }

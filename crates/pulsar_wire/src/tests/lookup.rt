@@ -1,7 +1,10 @@
 //! The commands that ask how many partitions a topic has, and which broker serves it, against the bytes of another implementation.
 
 use crate::commands::base::Body;
-use crate::commands::lookup::{CommandLookupTopic, CommandLookupTopicResponse, CommandPartitionedTopicMetadata, CommandPartitionedTopicMetadataResponse};
+use crate::commands::lookup::{
+    CommandLookupTopic, CommandLookupTopicResponse, CommandPartitionedTopicMetadata,
+    CommandPartitionedTopicMetadataResponse,
+};
 use crate::tests::written::{is_command, is_written, text};
 use std::test::Fail;
 
@@ -14,8 +17,20 @@ fn writes_partition_metadata(rt: HostRuntime) -> Result<(), Fail> {
     };
     let written = b"\x0a\x05topic\x10\xae\x02";
     is_written(&rt, alloc, &full, written)?;
-    is_written(&rt, alloc, &CommandPartitionedTopicMetadata::new(alloc), b"\x0a\x00\x10\x00")?;
-    is_command(&rt, alloc, Body::PartitionedTopicMetadata(full), "partition_metadata", b"\x08\x15\xaa\x01\x0a", written)
+    is_written(
+        &rt,
+        alloc,
+        &CommandPartitionedTopicMetadata::new(alloc),
+        b"\x0a\x00\x10\x00",
+    )?;
+    is_command(
+        &rt,
+        alloc,
+        Body::PartitionedTopicMetadata(full),
+        "partition_metadata",
+        b"\x08\x15\xaa\x01\x0a",
+        written,
+    )
 }
 
 #[test]
@@ -28,10 +43,23 @@ fn writes_partition_metadata_response(rt: HostRuntime) -> Result<(), Fail> {
         error: Some(400),
         message: Some(text(alloc, "message")?),
     };
-    let written = b"\x08\xff\xff\xff\xff\x0f\x10\xae\x02\x18\xfd\xff\xff\xff\xff\xff\xff\xff\xff\x01 \x90\x03*\x07message";
+    let written =
+        b"\x08\xff\xff\xff\xff\x0f\x10\xae\x02\x18\xfd\xff\xff\xff\xff\xff\xff\xff\xff\x01 \x90\x03*\x07message";
     is_written(&rt, alloc, &full, written)?;
-    is_written(&rt, alloc, &CommandPartitionedTopicMetadataResponse::new(), b"\x10\x00")?;
-    is_command(&rt, alloc, Body::PartitionedTopicMetadataResponse(full), "partition_metadata_response", b"\x08\x16\xb2\x01 ", written)
+    is_written(
+        &rt,
+        alloc,
+        &CommandPartitionedTopicMetadataResponse::new(),
+        b"\x10\x00",
+    )?;
+    is_command(
+        &rt,
+        alloc,
+        Body::PartitionedTopicMetadataResponse(full),
+        "partition_metadata_response",
+        b"\x08\x16\xb2\x01 ",
+        written,
+    )
 }
 
 #[test]
@@ -44,8 +72,20 @@ fn writes_lookup_topic(rt: HostRuntime) -> Result<(), Fail> {
     };
     let written = b"\x0a\x05topic\x10\xae\x02\x18\x01";
     is_written(&rt, alloc, &full, written)?;
-    is_written(&rt, alloc, &CommandLookupTopic::new(alloc), b"\x0a\x00\x10\x00")?;
-    is_command(&rt, alloc, Body::LookupTopic(full), "lookup_topic", b"\x08\x17\xba\x01\x0c", written)
+    is_written(
+        &rt,
+        alloc,
+        &CommandLookupTopic::new(alloc),
+        b"\x0a\x00\x10\x00",
+    )?;
+    is_command(
+        &rt,
+        alloc,
+        Body::LookupTopic(full),
+        "lookup_topic",
+        b"\x08\x17\xba\x01\x0c",
+        written,
+    )
 }
 
 #[test]
@@ -61,8 +101,16 @@ fn writes_lookup_topic_response(rt: HostRuntime) -> Result<(), Fail> {
         message: Some(text(alloc, "message")?),
         proxy_through_service_url: Some(true),
     };
-    let written = b"\x0a\x12broker_service_url\x12\x16broker_service_url_tls\x18\xfd\xff\xff\xff\xff\xff\xff\xff\xff\x01 \xb0\x02(\x010\xd8\x04:\x07message@\x01";
+    let written =
+        b"\x0a\x12broker_service_url\x12\x16broker_service_url_tls\x18\xfd\xff\xff\xff\xff\xff\xff\xff\xff\x01 \xb0\x02(\x010\xd8\x04:\x07message@\x01";
     is_written(&rt, alloc, &full, written)?;
     is_written(&rt, alloc, &CommandLookupTopicResponse::new(), b" \x00")?;
-    is_command(&rt, alloc, Body::LookupTopicResponse(full), "lookup_topic_response", b"\x08\x18\xc2\x01J", written)
+    is_command(
+        &rt,
+        alloc,
+        Body::LookupTopicResponse(full),
+        "lookup_topic_response",
+        b"\x08\x18\xc2\x01J",
+        written,
+    )
 }

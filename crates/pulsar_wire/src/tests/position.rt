@@ -1,7 +1,10 @@
 //! The commands that ask where a subscription stands, and move it, against the bytes of another implementation.
 
 use crate::commands::base::Body;
-use crate::commands::consumer::position::{CommandConsumerStats, CommandConsumerStatsResponse, CommandGetLastMessageId, CommandGetLastMessageIdResponse, CommandSeek};
+use crate::commands::consumer::position::{
+    CommandConsumerStats, CommandConsumerStatsResponse, CommandGetLastMessageId,
+    CommandGetLastMessageIdResponse, CommandSeek,
+};
 use crate::tests::ids::message_id;
 use crate::tests::written::{is_command, is_written, text};
 use std::test::Fail;
@@ -15,10 +18,18 @@ fn writes_seek(rt: HostRuntime) -> Result<(), Fail> {
         message_id: Some(message_id(alloc)?),
         message_publish_time: Some(u64::MAX - 3),
     };
-    let written = b"\x08\xad\x02\x10\xae\x02\x1a$\x08\xad\x02\x10\xae\x02\x18\xfd\xff\xff\xff\xff\xff\xff\xff\xff\x01 \x90\x03(\x05(\xff\xff\xff\xff\xff\xff\xff\xff\xff\x010\xd8\x04 \xfc\xff\xff\xff\xff\xff\xff\xff\xff\x01";
+    let written =
+        b"\x08\xad\x02\x10\xae\x02\x1a$\x08\xad\x02\x10\xae\x02\x18\xfd\xff\xff\xff\xff\xff\xff\xff\xff\x01 \x90\x03(\x05(\xff\xff\xff\xff\xff\xff\xff\xff\xff\x010\xd8\x04 \xfc\xff\xff\xff\xff\xff\xff\xff\xff\x01";
     is_written(&rt, alloc, &full, written)?;
     is_written(&rt, alloc, &CommandSeek::new(), b"\x08\x00\x10\x00")?;
-    is_command(&rt, alloc, Body::Seek(full), "seek", b"\x08\x1c\xe2\x017", written)
+    is_command(
+        &rt,
+        alloc,
+        Body::Seek(full),
+        "seek",
+        b"\x08\x1c\xe2\x017",
+        written,
+    )
 }
 
 #[test]
@@ -30,8 +41,20 @@ fn writes_get_last_message_id(rt: HostRuntime) -> Result<(), Fail> {
     };
     let written = b"\x08\xad\x02\x10\xae\x02";
     is_written(&rt, alloc, &full, written)?;
-    is_written(&rt, alloc, &CommandGetLastMessageId::new(), b"\x08\x00\x10\x00")?;
-    is_command(&rt, alloc, Body::GetLastMessageId(full), "get_last_message_id", b"\x08\x1d\xea\x01\x06", written)
+    is_written(
+        &rt,
+        alloc,
+        &CommandGetLastMessageId::new(),
+        b"\x08\x00\x10\x00",
+    )?;
+    is_command(
+        &rt,
+        alloc,
+        Body::GetLastMessageId(full),
+        "get_last_message_id",
+        b"\x08\x1d\xea\x01\x06",
+        written,
+    )
 }
 
 #[test]
@@ -41,10 +64,23 @@ fn writes_get_last_message_id_response(rt: HostRuntime) -> Result<(), Fail> {
         last_message_id: message_id(alloc)?,
         request_id: 302,
     };
-    let written = b"\x0a$\x08\xad\x02\x10\xae\x02\x18\xfd\xff\xff\xff\xff\xff\xff\xff\xff\x01 \x90\x03(\x05(\xff\xff\xff\xff\xff\xff\xff\xff\xff\x010\xd8\x04\x10\xae\x02";
+    let written =
+        b"\x0a$\x08\xad\x02\x10\xae\x02\x18\xfd\xff\xff\xff\xff\xff\xff\xff\xff\x01 \x90\x03(\x05(\xff\xff\xff\xff\xff\xff\xff\xff\xff\x010\xd8\x04\x10\xae\x02";
     is_written(&rt, alloc, &full, written)?;
-    is_written(&rt, alloc, &CommandGetLastMessageIdResponse::new(alloc), b"\x0a\x04\x08\x00\x10\x00\x10\x00")?;
-    is_command(&rt, alloc, Body::GetLastMessageIdResponse(full), "get_last_message_id_response", b"\x08\x1e\xf2\x01)", written)
+    is_written(
+        &rt,
+        alloc,
+        &CommandGetLastMessageIdResponse::new(alloc),
+        b"\x0a\x04\x08\x00\x10\x00\x10\x00",
+    )?;
+    is_command(
+        &rt,
+        alloc,
+        Body::GetLastMessageIdResponse(full),
+        "get_last_message_id_response",
+        b"\x08\x1e\xf2\x01)",
+        written,
+    )
 }
 
 #[test]
@@ -57,7 +93,14 @@ fn writes_consumer_stats(rt: HostRuntime) -> Result<(), Fail> {
     let written = b"\x08\xad\x02 \xb0\x02";
     is_written(&rt, alloc, &full, written)?;
     is_written(&rt, alloc, &CommandConsumerStats::new(), b"\x08\x00 \x00")?;
-    is_command(&rt, alloc, Body::ConsumerStats(full), "consumer_stats", b"\x08\x19\xca\x01\x06", written)
+    is_command(
+        &rt,
+        alloc,
+        Body::ConsumerStats(full),
+        "consumer_stats",
+        b"\x08\x19\xca\x01\x06",
+        written,
+    )
 }
 
 #[test]
@@ -76,8 +119,21 @@ fn writes_consumer_stats_response(rt: HostRuntime) -> Result<(), Fail> {
         kind: Some(text(alloc, "kind")?),
         msg_backlog: Some(u64::MAX - 14),
     };
-    let written = b"\x08\xad\x02\x10\xc8\x01\x1a\x0derror_message:\x0dconsumer_name@\xf8\xff\xff\xff\xff\xff\xff\xff\xff\x01H\xf7\xff\xff\xff\xff\xff\xff\xff\xff\x01P\x01Z\x07addressb\x0fconnected_sincej\x04kindx\xf1\xff\xff\xff\xff\xff\xff\xff\xff\x01";
+    let written =
+        b"\x08\xad\x02\x10\xc8\x01\x1a\x0derror_message:\x0dconsumer_name@\xf8\xff\xff\xff\xff\xff\xff\xff\xff\x01H\xf7\xff\xff\xff\xff\xff\xff\xff\xff\x01P\x01Z\x07addressb\x0fconnected_sincej\x04kindx\xf1\xff\xff\xff\xff\xff\xff\xff\xff\x01";
     is_written(&rt, alloc, &full, written)?;
-    is_written(&rt, alloc, &CommandConsumerStatsResponse::new(), b"\x08\x00")?;
-    is_command(&rt, alloc, Body::ConsumerStatsResponse(full), "consumer_stats_response", b"\x08\x1a\xd2\x01g", written)
+    is_written(
+        &rt,
+        alloc,
+        &CommandConsumerStatsResponse::new(),
+        b"\x08\x00",
+    )?;
+    is_command(
+        &rt,
+        alloc,
+        Body::ConsumerStatsResponse(full),
+        "consumer_stats_response",
+        b"\x08\x1a\xd2\x01g",
+        written,
+    )
 }

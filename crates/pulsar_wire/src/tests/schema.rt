@@ -22,7 +22,12 @@ pub fn schema(alloc: Global) -> Result<Schema, NoMemory> {
 fn writes_schema(rt: HostRuntime) -> Result<(), Fail> {
     let alloc = rt.alloc();
     let full = schema(alloc)?;
-    is_written(&rt, alloc, &full, b"\x0a\x04name\x1a\x04\x00\x03\x80\xff \x90\x03*\x0c\x0a\x03key\x12\x05value*\x04\x0a\x00\x12\x00")?;
+    is_written(
+        &rt,
+        alloc,
+        &full,
+        b"\x0a\x04name\x1a\x04\x00\x03\x80\xff \x90\x03*\x0c\x0a\x03key\x12\x05value*\x04\x0a\x00\x12\x00",
+    )?;
     assert!(rt; full.copy()? == full);
     is_written(&rt, alloc, &Schema::new(alloc), b"\x0a\x00\x1a\x00 \x00")
 }
@@ -37,8 +42,20 @@ fn writes_get_schema(rt: HostRuntime) -> Result<(), Fail> {
     };
     let written = b"\x08\xad\x02\x12\x05topic\x1a\x04\x00\x03\x80\xff";
     is_written(&rt, alloc, &full, written)?;
-    is_written(&rt, alloc, &CommandGetSchema::new(alloc), b"\x08\x00\x12\x00")?;
-    is_command(&rt, alloc, Body::GetSchema(full), "get_schema", b"\x08\x22\x92\x02\x10", written)
+    is_written(
+        &rt,
+        alloc,
+        &CommandGetSchema::new(alloc),
+        b"\x08\x00\x12\x00",
+    )?;
+    is_command(
+        &rt,
+        alloc,
+        Body::GetSchema(full),
+        "get_schema",
+        b"\x08\x22\x92\x02\x10",
+        written,
+    )
 }
 
 #[test]
@@ -51,8 +68,16 @@ fn writes_get_schema_response(rt: HostRuntime) -> Result<(), Fail> {
         schema: Some(schema(alloc)?),
         schema_version: Some(bytes(alloc, b"\x00\x05\x80\xff")?),
     };
-    let written = b"\x08\xad\x02\x10\xc8\x01\x1a\x0derror_message\x22#\x0a\x04name\x1a\x04\x00\x03\x80\xff \x90\x03*\x0c\x0a\x03key\x12\x05value*\x04\x0a\x00\x12\x00*\x04\x00\x05\x80\xff";
+    let written =
+        b"\x08\xad\x02\x10\xc8\x01\x1a\x0derror_message\x22#\x0a\x04name\x1a\x04\x00\x03\x80\xff \x90\x03*\x0c\x0a\x03key\x12\x05value*\x04\x0a\x00\x12\x00*\x04\x00\x05\x80\xff";
     is_written(&rt, alloc, &full, written)?;
     is_written(&rt, alloc, &CommandGetSchemaResponse::new(), b"\x08\x00")?;
-    is_command(&rt, alloc, Body::GetSchemaResponse(full), "get_schema_response", b"\x08#\x9a\x02@", written)
+    is_command(
+        &rt,
+        alloc,
+        Body::GetSchemaResponse(full),
+        "get_schema_response",
+        b"\x08#\x9a\x02@",
+        written,
+    )
 }

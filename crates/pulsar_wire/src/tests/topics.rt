@@ -15,8 +15,20 @@ fn writes_get_topics_of_namespace(rt: HostRuntime) -> Result<(), Fail> {
     };
     let written = b"\x08\xad\x02\x12\x09namespace\x18\xfd\xff\xff\xff\xff\xff\xff\xff\xff\x01";
     is_written(&rt, alloc, &full, written)?;
-    is_written(&rt, alloc, &CommandGetTopicsOfNamespace::new(alloc), b"\x08\x00\x12\x00")?;
-    is_command(&rt, alloc, Body::GetTopicsOfNamespace(full), "get_topics_of_namespace", b"\x08 \x82\x02\x19", written)
+    is_written(
+        &rt,
+        alloc,
+        &CommandGetTopicsOfNamespace::new(alloc),
+        b"\x08\x00\x12\x00",
+    )?;
+    is_command(
+        &rt,
+        alloc,
+        Body::GetTopicsOfNamespace(full),
+        "get_topics_of_namespace",
+        b"\x08 \x82\x02\x19",
+        written,
+    )
 }
 
 #[test]
@@ -28,6 +40,18 @@ fn writes_get_topics_of_namespace_response(rt: HostRuntime) -> Result<(), Fail> 
     };
     let written = b"\x08\xad\x02\x12\x01a\x12\x02bc";
     is_written(&rt, alloc, &full, written)?;
-    is_written(&rt, alloc, &CommandGetTopicsOfNamespaceResponse::new(alloc), b"\x08\x00")?;
-    is_command(&rt, alloc, Body::GetTopicsOfNamespaceResponse(full), "get_topics_of_namespace_response", b"\x08!\x8a\x02\x0a", written)
+    is_written(
+        &rt,
+        alloc,
+        &CommandGetTopicsOfNamespaceResponse::new(alloc),
+        b"\x08\x00",
+    )?;
+    is_command(
+        &rt,
+        alloc,
+        Body::GetTopicsOfNamespaceResponse(full),
+        "get_topics_of_namespace_response",
+        b"\x08!\x8a\x02\x0a",
+        written,
+    )
 }

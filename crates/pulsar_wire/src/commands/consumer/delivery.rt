@@ -9,7 +9,9 @@ use crate::commands::ids::MessageIdData;
 use crate::encoding::content::{int32_of, push_numbers, uint32_of, uint64_of};
 use crate::encoding::copying::{copy_messages, copy_values};
 use crate::encoding::field::Value;
-use crate::encoding::fields::{Fields, Numbers, Optional, RepeatedMessages, Required, RequiredMessage, fields};
+use crate::encoding::fields::{
+    Fields, Numbers, Optional, RepeatedMessages, Required, RequiredMessage, fields,
+};
 use crate::encoding::message::{Message, put_repeated, put_required};
 use crate::encoding::read_error::ReadError;
 use crate::encoding::sink::Sink;
@@ -310,9 +312,7 @@ impl CommandReachedEndOfTopic {
     pub fn new() -> CommandReachedEndOfTopic
         ensures { reached_end_of_topic_values result ≡ none_of reached_end_of_topic }
     {
-        CommandReachedEndOfTopic {
-            consumer_id: 0,
-        }
+        CommandReachedEndOfTopic { consumer_id: 0 }
     }
 
     /// A command with the same content.
@@ -343,10 +343,7 @@ impl Message for CommandReachedEndOfTopic {
 
     #[tactic(auto, unfolding(crate::specs::Row::spelling, crate::specs::Views::reached_end_of_topic_values))]
     fn write<S: Sink>(&self, out: &mut S) -> Result<(), AllocError> {
-        fields!(
-            Required(1, &self.consumer_id)
-        )
-        .write(out)
+        fields!(Required(1, &self.consumer_id)).write(out)
     }
 
     #[tactic(auto, unfolding(crate::specs::Views::reached_end_of_topic_values))]

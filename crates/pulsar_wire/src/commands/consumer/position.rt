@@ -10,7 +10,9 @@ use crate::commands::ids::MessageIdData;
 use crate::encoding::content::{flag_of, int32_of, text_of, uint64_of};
 use crate::encoding::copying::{copy_message, copy_optional};
 use crate::encoding::field::Value;
-use crate::encoding::fields::{Fields, Optional, OptionalMessage, Required, RequiredMessage, fields};
+use crate::encoding::fields::{
+    Fields, Optional, OptionalMessage, Required, RequiredMessage, fields,
+};
 use crate::encoding::message::{Message, put_optional, put_required};
 use crate::encoding::read_error::ReadError;
 use crate::encoding::sink::Sink;

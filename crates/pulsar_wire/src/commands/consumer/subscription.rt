@@ -12,7 +12,9 @@ use crate::commands::schema::Schema;
 use crate::encoding::content::{flag_of, int32_of, text_of, uint64_of};
 use crate::encoding::copying::{copy_message, copy_messages, copy_optional};
 use crate::encoding::field::Value;
-use crate::encoding::fields::{Fields, Optional, OptionalMessage, RepeatedMessages, Required, fields};
+use crate::encoding::fields::{
+    Fields, Optional, OptionalMessage, RepeatedMessages, Required, fields,
+};
 use crate::encoding::message::{Message, put_optional, put_repeated};
 use crate::encoding::plain::Plain;
 use crate::encoding::read_error::ReadError;
@@ -323,11 +325,7 @@ impl Message for CommandActiveConsumerChange {
 
     #[tactic(auto, unfolding(crate::specs::Row::spelling, crate::specs::Views::active_consumer_change_values))]
     fn write<S: Sink>(&self, out: &mut S) -> Result<(), AllocError> {
-        fields!(
-            Required(1, &self.consumer_id),
-            Optional(2, &self.is_active)
-        )
-        .write(out)
+        fields!(Required(1, &self.consumer_id), Optional(2, &self.is_active)).write(out)
     }
 
     #[tactic(auto, unfolding(crate::specs::Views::active_consumer_change_values))]

@@ -54,7 +54,7 @@ bears_own AuthChallenge = refl
 
 bearing : (own : Option RequestKey) (k : RequestKey) → (own ≡ Some k) ⊎ Closes own k → bears_key own k ≡ true
 bearing own k (inl e) = rw e (bears_own k)
-bearing own k (inr x) = rw (x.1.1.0, x.1.1.1) (eq-eqb x.1.0 x.1.0 refl)
+bearing own k (inr (c, r, e, f)) = rw (e, f) (eq-eqb r r refl)
 
 pub key-bears : (m : MessageValues) (k : RequestKey) → (key m ≡ Some k) ⊎ Closes (key m) k → bears m k ≡ true
 key-bears m k e = bearing (key m) k e

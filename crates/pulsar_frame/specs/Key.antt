@@ -27,37 +27,37 @@ keyed body fields = record { body = body; fields = fields }
 -- the bodies that have a key
 abbrev pub keyed_bodies : List Keyed
 keyed_bodies =
-    keyed 4 (RequestNumber 5)               -- subscribe
-    ∷ keyed 5 (RequestNumber 3)             -- producer
-    ∷ keyed 6 (SendNumbers 1 2)             -- send
-    ∷ keyed 7 (SendNumbers 1 2)             -- send_receipt
-    ∷ keyed 8 (SendNumbers 1 2)             -- send_error
-    ∷ keyed 9 (ConsumerNumber 1)            -- message
-    ∷ keyed 10 (ConsumerNumber 1)           -- ack
-    ∷ keyed 11 (ConsumerNumber 1)           -- flow
-    ∷ keyed 12 (RequestNumber 2)            -- unsubscribe
-    ∷ keyed 13 (RequestNumber 1)            -- success
-    ∷ keyed 14 (RequestNumber 1)            -- error
-    ∷ keyed 15 (RequestNumber 2)            -- close_producer
-    ∷ keyed 16 (CloseNumbers 1 2)           -- close_consumer
-    ∷ keyed 17 (RequestNumber 1)            -- producer_success
-    ∷ keyed 20 (ConsumerNumber 1)           -- redeliver_unacknowledged_messages
-    ∷ keyed 21 (RequestNumber 2)            -- partition_metadata
-    ∷ keyed 22 (RequestNumber 2)            -- partition_metadata_response
-    ∷ keyed 23 (RequestNumber 2)            -- lookup_topic
-    ∷ keyed 24 (RequestNumber 4)            -- lookup_topic_response
-    ∷ keyed 25 (RequestNumber 1)            -- consumer_stats
-    ∷ keyed 26 (RequestNumber 1)            -- consumer_stats_response
-    ∷ keyed 27 (ConsumerNumber 1)           -- reached_end_of_topic
-    ∷ keyed 28 (RequestNumber 2)            -- seek
-    ∷ keyed 29 (RequestNumber 2)            -- get_last_message_id
-    ∷ keyed 30 (RequestNumber 2)            -- get_last_message_id_response
-    ∷ keyed 31 (ConsumerNumber 1)           -- active_consumer_change
-    ∷ keyed 32 (RequestNumber 1)            -- get_topics_of_namespace
-    ∷ keyed 33 (RequestNumber 1)            -- get_topics_of_namespace_response
-    ∷ keyed 34 (RequestNumber 1)            -- get_schema
-    ∷ keyed 35 (RequestNumber 1)            -- get_schema_response
-    ∷ keyed 36 NoNumber                     -- auth_challenge
+    keyed 4 (RequestNumber 5)  -- subscribe
+    ∷ keyed 5 (RequestNumber 3)  -- producer
+    ∷ keyed 6 (SendNumbers 1 2)  -- send
+    ∷ keyed 7 (SendNumbers 1 2)  -- send_receipt
+    ∷ keyed 8 (SendNumbers 1 2)  -- send_error
+    ∷ keyed 9 (ConsumerNumber 1)  -- message
+    ∷ keyed 10 (ConsumerNumber 1)  -- ack
+    ∷ keyed 11 (ConsumerNumber 1)  -- flow
+    ∷ keyed 12 (RequestNumber 2)  -- unsubscribe
+    ∷ keyed 13 (RequestNumber 1)  -- success
+    ∷ keyed 14 (RequestNumber 1)  -- error
+    ∷ keyed 15 (RequestNumber 2)  -- close_producer
+    ∷ keyed 16 (CloseNumbers 1 2)  -- close_consumer
+    ∷ keyed 17 (RequestNumber 1)  -- producer_success
+    ∷ keyed 20 (ConsumerNumber 1)  -- redeliver_unacknowledged_messages
+    ∷ keyed 21 (RequestNumber 2)  -- partition_metadata
+    ∷ keyed 22 (RequestNumber 2)  -- partition_metadata_response
+    ∷ keyed 23 (RequestNumber 2)  -- lookup_topic
+    ∷ keyed 24 (RequestNumber 4)  -- lookup_topic_response
+    ∷ keyed 25 (RequestNumber 1)  -- consumer_stats
+    ∷ keyed 26 (RequestNumber 1)  -- consumer_stats_response
+    ∷ keyed 27 (ConsumerNumber 1)  -- reached_end_of_topic
+    ∷ keyed 28 (RequestNumber 2)  -- seek
+    ∷ keyed 29 (RequestNumber 2)  -- get_last_message_id
+    ∷ keyed 30 (RequestNumber 2)  -- get_last_message_id_response
+    ∷ keyed 31 (ConsumerNumber 1)  -- active_consumer_change
+    ∷ keyed 32 (RequestNumber 1)  -- get_topics_of_namespace
+    ∷ keyed 33 (RequestNumber 1)  -- get_topics_of_namespace_response
+    ∷ keyed 34 (RequestNumber 1)  -- get_schema
+    ∷ keyed 35 (RequestNumber 1)  -- get_schema_response
+    ∷ keyed 36 NoNumber  -- auth_challenge
     ∷ []
 
 abbrev pub fields_in : ℕ → List Keyed → Option KeyFields

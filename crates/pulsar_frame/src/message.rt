@@ -113,7 +113,11 @@ fn body_key(body: &Body) -> Option<RequestKey>
         Body::GetSchema(body) => numbered(body.request_id),
         Body::GetSchemaResponse(body) => numbered(body.request_id),
         Body::AuthChallenge(_) => Some(RequestKey::AuthChallenge),
-        Body::Connect(_) | Body::Connected(_) | Body::Ping(_) | Body::Pong(_) | Body::AuthResponse(_) => None,
+        Body::Connect(_)
+        | Body::Connected(_)
+        | Body::Ping(_)
+        | Body::Pong(_)
+        | Body::AuthResponse(_) => None,
     }
 }
 

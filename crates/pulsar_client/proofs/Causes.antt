@@ -57,7 +57,7 @@ map_settling f [] p = tt
 map_settling f (r ∷ rs) p = (p r, map_settling f rs p)
 
 settled_settling : (act : LinkAct) (rs : List Pending) → AllSettling (settled act rs)
-settled_settling (Comes (Message m)) rs = map_settling _ (filter (λ r. bears_id m r.id) rs) (λ r. tt)
+settled_settling (Comes (Message m)) rs = map_settling _ (filter (λ r. bears_id m.key r.id) rs) (λ r. tt)
 settled_settling (Ended closed) rs = map_settling disconnected rs (λ r. tt)
 settled_settling _ rs = tt
 

@@ -102,7 +102,7 @@ map_own f [] p = tt
 map_own f (r ∷ rs) p = (p r, map_own f rs p)
 
 settled_own : (act : LinkAct) (rs : List Pending) → AllOwn (settled act rs)
-settled_own (Comes (Message m)) rs = map_own _ (filter (λ r. bears_id m r.id) rs) (λ r. refl)
+settled_own (Comes (Message m)) rs = map_own _ (filter (λ r. bears_id m.key r.id) rs) (λ r. refl)
 settled_own (Ended closed) rs = map_own disconnected rs (λ r. refl)
 settled_own _ rs = tt
 

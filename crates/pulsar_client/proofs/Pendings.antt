@@ -14,10 +14,9 @@ use Rattle.pulsar_client.specs.declared.session.link.Waiter.{Waiter}
 use Rattle.pulsar_client.specs.declared.act.Arrival.TheVariants.{Message}
 use Rattle.pulsar_wire.specs.declared.key.RequestKey.{RequestKey}
 use Rattle.pulsar_wire.specs.declared.key.RequestKey.TheVariants.{RequestId, ProducerSend, Consumer, CloseConsumer, AuthChallenge}
-use Rattle.pulsar_frame.specs.Message.{MessageValues}
-use Rattle.pulsar_frame.specs.Key.{key, bears_key}
+use Rattle.pulsar_frame.specs.Key.{bears_key}
 use Rattle.pulsar_client.specs.Link.{Pending, left_waiting, settled}
-use Rattle.pulsar_client.specs.Messages.{is_number}
+use Rattle.pulsar_client.specs.Messages.{Reply, is_number}
 use Rattle.pulsar_client.specs.Tables.{replied_to, waiting_at, request_id}
 
 pub is_at-eqb : (k x : ℕ) → is_at (nat_cmp k) x ≡ (k == x)
@@ -44,10 +43,10 @@ pub none-left : (k : ℕ) (es : List (ℕ × Waiter)) → lookup (is_at (nat_cmp
 none-left k [] h = refl
 none-left k (e ∷ es) h = left-next k e es (k == e.0) refl (is_at-eqb k e.0) h (none-left k es)
 
-abbrev replied : MessageValues → Pending → LinkAct
+abbrev replied : Reply → Pending → LinkAct
 replied m r = Settled r.place r.ticket (Replied m)
 
-found-next : (m : MessageValues) (k : ℕ) (e : ℕ × Waiter) (es : List (ℕ × Waiter)) (b : Bool) → (k == e.0) ≡ b → is_at (nat_cmp k) e.0 ≡ (k == e.0)
+found-next : (m : Reply) (k : ℕ) (e : ℕ × Waiter) (es : List (ℕ × Waiter)) (b : Bool) → (k == e.0) ≡ b → is_at (nat_cmp k) e.0 ≡ (k == e.0)
     → lookup (is_at (nat_cmp k)) (remove_entry (is_at (nat_cmp k)) (e ∷ es)) ≡ None
     → (lookup (is_at (nat_cmp k)) (remove_entry (is_at (nat_cmp k)) es) ≡ None
     → map (replied m) (filter (λ r. k == r.id) (map waiting_at es)) ≡ option_to_list (option_map (replied_to m) (lookup (is_at (nat_cmp k)) es)))
@@ -56,7 +55,7 @@ found-next m k e es true h same none more = let rest = rw (same, h) at none in r
 found-next m k e es false h same none more = let rest = rw (same, h, same, h) at none in rw (same, h) (more rest)
 
 -- where one waits at the most, it is the one that is looked up
-pub found : (m : MessageValues) (k : ℕ) (es : List (ℕ × Waiter)) → lookup (is_at (nat_cmp k)) (remove_entry (is_at (nat_cmp k)) es) ≡ None
+pub found : (m : Reply) (k : ℕ) (es : List (ℕ × Waiter)) → lookup (is_at (nat_cmp k)) (remove_entry (is_at (nat_cmp k)) es) ≡ None
     → map (replied m) (filter (λ r. k == r.id) (map waiting_at es)) ≡ option_to_list (option_map (replied_to m) (lookup (is_at (nat_cmp k)) es))
 found m k [] none = refl
 found m k (e ∷ es) none = found-next m k e es (k == e.0) refl (is_at-eqb k e.0) none (found m k es)
@@ -102,7 +101,7 @@ inserted k (e ∷ es) w fresh = inserted-next k e es w (first-below k e es fresh
 
 -- ---- a message that comes
 
-some-found : (m : MessageValues) (k : ℕ) (key : Option ℕ) (es : List (ℕ × Waiter)) → key ≡ Some k → lookup (is_at (nat_cmp k)) (remove_entry (is_at (nat_cmp k)) es) ≡ None
+some-found : (m : Reply) (k : ℕ) (key : Option ℕ) (es : List (ℕ × Waiter)) → key ≡ Some k → lookup (is_at (nat_cmp k)) (remove_entry (is_at (nat_cmp k)) es) ≡ None
     → map (replied m) (filter (λ r. is_number r.id key) (map waiting_at es)) ≡ option_to_list (option_map (replied_to m) (lookup (is_at (nat_cmp k)) es))
 some-found m k key es is none = rw is (found m k es none)
 
@@ -135,22 +134,22 @@ others (Some (Consumer c)) rs = refl
 others (Some (CloseConsumer c id)) rs = refl
 others (Some AuthChallenge) rs = refl
 
-pub message-settles : (m : MessageValues) (k : ℕ) (es : List (ℕ × Waiter)) (w : Option Waiter) → request_id (key m) ≡ Some k → w ≡ lookup (is_at (nat_cmp k)) es → lookup (is_at (nat_cmp k)) (remove_entry (is_at (nat_cmp k)) es) ≡ None
+pub message-settles : (m : Reply) (k : ℕ) (es : List (ℕ × Waiter)) (w : Option Waiter) → request_id m.key ≡ Some k → w ≡ lookup (is_at (nat_cmp k)) es → lookup (is_at (nat_cmp k)) (remove_entry (is_at (nat_cmp k)) es) ≡ None
     → option_to_list (option_map (replied_to m) w) ≡ settled (Comes (Message m)) (map waiting_at es)
-message-settles m k es w is got none = rw got (sym (ap (map (replied m)) (numbered (key m) (map waiting_at es)) ∙ some-found m k (request_id (key m)) es is none))
+message-settles m k es w is got none = rw got (sym (ap (map (replied m)) (numbered m.key (map waiting_at es)) ∙ some-found m k (request_id m.key) es is none))
 
-pub message-leaves : (m : MessageValues) (k : ℕ) (es new : List (ℕ × Waiter)) → request_id (key m) ≡ Some k → new ≡ remove_entry (is_at (nat_cmp k)) es → lookup (is_at (nat_cmp k)) new ≡ None
+pub message-leaves : (m : Reply) (k : ℕ) (es new : List (ℕ × Waiter)) → request_id m.key ≡ Some k → new ≡ remove_entry (is_at (nat_cmp k)) es → lookup (is_at (nat_cmp k)) new ≡ None
     → map waiting_at new ≡ left_waiting (Comes (Message m)) (map waiting_at es)
-message-leaves m k es new is removed none = rw removed (sym (others (key m) (map waiting_at es) ∙ some-rest k (request_id (key m)) es is (rw removed at none)))
+message-leaves m k es new is removed none = rw removed (sym (others m.key (map waiting_at es) ∙ some-rest k (request_id m.key) es is (rw removed at none)))
 
-no-key : (m : MessageValues) (key : Option ℕ) (rs : List Pending) → key ≡ None → map (replied m) (filter (λ r. is_number r.id key) rs) ≡ []
+no-key : (m : Reply) (key : Option ℕ) (rs : List Pending) → key ≡ None → map (replied m) (filter (λ r. is_number r.id key) rs) ≡ []
 no-key m key rs is = rw (is, filter-none rs) refl
 
 no-key-left : (key : Option ℕ) (rs : List Pending) → key ≡ None → filter (λ r. not (is_number r.id key)) rs ≡ rs
 no-key-left key rs is = rw is (filter-all rs)
 
-pub message-settles-none : (m : MessageValues) (rs : List Pending) → request_id (key m) ≡ None → [] ≡ settled (Comes (Message m)) rs
-message-settles-none m rs is = sym (ap (map (replied m)) (numbered (key m) rs) ∙ no-key m (request_id (key m)) rs is)
+pub message-settles-none : (m : Reply) (rs : List Pending) → request_id m.key ≡ None → [] ≡ settled (Comes (Message m)) rs
+message-settles-none m rs is = sym (ap (map (replied m)) (numbered m.key rs) ∙ no-key m (request_id m.key) rs is)
 
-pub message-leaves-all : (m : MessageValues) (rs : List Pending) → request_id (key m) ≡ None → rs ≡ left_waiting (Comes (Message m)) rs
-message-leaves-all m rs is = sym (others (key m) rs ∙ no-key-left (request_id (key m)) rs is)
+pub message-leaves-all : (m : Reply) (rs : List Pending) → request_id m.key ≡ None → rs ≡ left_waiting (Comes (Message m)) rs
+message-leaves-all m rs is = sym (others m.key rs ∙ no-key-left (request_id m.key) rs is)

@@ -14,8 +14,7 @@ use Rattle.pulsar_client.specs.declared.act.LinkAct.{LinkAct}
 use Rattle.pulsar_client.specs.declared.act.LinkAct.TheVariants.{Opens, Comes, Drains, Requests, Spends, Greets, Readied, Ended, Settled}
 use Rattle.pulsar_client.specs.declared.session.link.Stage.{Stage}
 use Rattle.pulsar_client.specs.declared.session.link.Stage.TheVariants.{Dialing, Handshaking, Ready, Over}
-use Rattle.pulsar_frame.specs.Message.{MessageValues}
-use Rattle.pulsar_client.specs.Messages.{is_connected}
+use Rattle.pulsar_client.specs.Messages.{Reply, is_connected}
 use Rattle.pulsar_client.specs.Link.{Pending, seen, stage, bears_id, link_rule, settled, settles, disconnected, turns, at_opening, at_arrival, pending, queued, next_id, left_waiting, with_request}
 use Rattle.pulsar_client.specs.Good.{first}
 use Rattle.pulsar_client.specs.Local.{is_own, link_due, Fits, IsLinkRun}
@@ -35,7 +34,7 @@ abbrev asked : LinkAct → ℕ → ℕ → List Pending
 asked (Requests request ticket) place id = record { id = id; place = place; ticket = ticket } ∷ []
 asked _ place id = []
 
-replied_cases : (m : MessageValues) (r : Pending) (F : List Pending) (G : List LinkAct) (b : Bool) → bears_id m r.id ≡ b → map (λ x. Settled x.place x.ticket (Replied m)) F ≡ G →
+replied_cases : (m : Reply) (r : Pending) (F : List Pending) (G : List LinkAct) (b : Bool) → bears_id m.key r.id ≡ b → map (λ x. Settled x.place x.ticket (Replied m)) F ≡ G →
     map (λ x. Settled x.place x.ticket (Replied m)) (cond b (r ∷ F) F) ≡ cons_option (settled_as r (cond b (Some (Replied m)) None)) G
 replied_cases m r F G true e h = ap (λ t. Settled r.place r.ticket (Replied m) ∷ t) h
 replied_cases m r F G false e h = h
@@ -47,7 +46,7 @@ quiet act (r ∷ rs) h = rw (h r) (quiet act rs h)
 settled_is : (act : LinkAct) (rs : List Pending) → settled act rs ≡ filter_map (settled_by act) rs
 settled_is (Comes (Message m)) [] = refl
 settled_is (Comes (Message m)) (r ∷ rs) =
-    replied_cases m r (filter (λ x. bears_id m x.id) rs) (filter_map (settled_by (Comes (Message m))) rs) (bears_id m r.id) refl (settled_is (Comes (Message m)) rs)
+    replied_cases m r (filter (λ x. bears_id m.key x.id) rs) (filter_map (settled_by (Comes (Message m))) rs) (bears_id m.key r.id) refl (settled_is (Comes (Message m)) rs)
 settled_is (Ended closed) [] = refl
 settled_is (Ended closed) (r ∷ rs) = ap (λ t. disconnected r ∷ t) (settled_is (Ended closed) rs)
 settled_is Opens rs = sym (quiet Opens rs (λ r. refl))
@@ -59,7 +58,7 @@ settled_is Greets rs = sym (quiet Greets rs (λ r. refl))
 settled_is Readied rs = sym (quiet Readied rs (λ r. refl))
 settled_is (Settled p t o) rs = sym (quiet (Settled p t o) rs (λ r. refl))
 
-kept_cases : (m : MessageValues) (r : Pending) (F G : List Pending) (b : Bool) → F ≡ G →
+kept_cases : (m : Reply) (r : Pending) (F G : List Pending) (b : Bool) → F ≡ G →
     cond (not b) (r ∷ F) F ≡ cond (is_none (cond b (Some (Replied m)) None)) (r ∷ G) G
 kept_cases m r F G true h = h
 kept_cases m r F G false h = ap (λ t. r ∷ t) h
@@ -71,7 +70,7 @@ all_left act (r ∷ rs) h = rw (h r) (ap (λ t. r ∷ t) (all_left act rs h))
 left_is : (act : LinkAct) (rs : List Pending) → left_waiting act rs ≡ filter (λ r. is_none (settles act r)) rs
 left_is (Comes (Message m)) [] = refl
 left_is (Comes (Message m)) (r ∷ rs) =
-    kept_cases m r (filter (λ x. not (bears_id m x.id)) rs) (filter (λ x. is_none (settles (Comes (Message m)) x)) rs) (bears_id m r.id) (left_is (Comes (Message m)) rs)
+    kept_cases m r (filter (λ x. not (bears_id m.key x.id)) rs) (filter (λ x. is_none (settles (Comes (Message m)) x)) rs) (bears_id m.key r.id) (left_is (Comes (Message m)) rs)
 left_is (Ended closed) [] = refl
 left_is (Ended closed) (r ∷ rs) = left_is (Ended closed) rs
 left_is Opens rs = sym (all_left Opens rs (λ r. refl))

@@ -70,7 +70,7 @@ map_plain f [] p = tt
 map_plain f (r ∷ rs) p = (p r, map_plain f rs p)
 
 settled_plain : (act : LinkAct) (rs : List Pending) → NoTurn (settled act rs)
-settled_plain (Comes (Message m)) rs = map_plain _ (filter (λ r. bears_id m r.id) rs) (λ r. refl)
+settled_plain (Comes (Message m)) rs = map_plain _ (filter (λ r. bears_id m.key r.id) rs) (λ r. refl)
 settled_plain (Ended closed) rs = map_plain disconnected rs (λ r. refl)
 settled_plain _ rs = tt
 

@@ -8,14 +8,15 @@ use Rattle.pulsar_frame.specs.Shown.{message_values}
 use Rattle.pulsar_frame.proofs.Streams.{front-shorter, cut-whole, left-whole, bad-whole, cut-short, left-short, bad-short, cut-refused, left-refused, bad-refused}
 use Rattle.pulsar_client.specs.declared.act.Arrival.{Arrival}
 use Rattle.pulsar_client.specs.declared.act.Arrival.TheVariants.{Message, Bad}
+use Rattle.pulsar_client.specs.Messages.{read}
 use Rattle.pulsar_client.specs.Link.{arrivals}
 
 pub message-shorter : (old new : List ℕ) (m : frames.Message) → front old ≡ Whole (message_values m) new → length new < length old
 message-shorter old new m e = let shorter = front-shorter old (message_values m) new e in omega arith
 
-pub message-arrives : (found all : List Arrival) (old : List ℕ) (new : List ℕ) (m : frames.Message) → front old ≡ Whole (message_values m) new → found ++ arrivals old ≡ all → (found ++ Message (message_values m) ∷ []) ++ arrivals new ≡ all
+pub message-arrives : (found all : List Arrival) (old : List ℕ) (new : List ℕ) (m : frames.Message) → front old ≡ Whole (message_values m) new → found ++ arrivals old ≡ all → (found ++ Message (read (message_values m)) ∷ []) ++ arrivals new ≡ all
 message-arrives found all old new m e inv =
-    append_assoc found (Message (message_values m) ∷ []) (arrivals new) ∙ sym (rw (cut-whole old (message_values m) new e, bad-whole old (message_values m) new e) at (sym inv))
+    append_assoc found (Message (read (message_values m)) ∷ []) (arrivals new) ∙ sym (rw (cut-whole old (message_values m) new e, bad-whole old (message_values m) new e) at (sym inv))
 
 pub message-rest : (old new all : List ℕ) (m : frames.Message) → front old ≡ Whole (message_values m) new → left old ≡ left all → left new ≡ left all
 message-rest old new all m e inv = sym (left-whole old (message_values m) new e) ∙ inv

@@ -20,20 +20,16 @@ use Rattle.pulsar_client.specs.declared.act.Act.TheVariants.{Calls, Told, Dials,
 use Rattle.pulsar_client.specs.Plan.{failed}
 use Rattle.pulsar_client.specs.Content.{Called, Build, Opened, Bytes, Drain, Names}
 use Rattle.pulsar_client.specs.Failures.{Io, Canceled}
-use Rattle.pulsar_frame.specs.Message.{MessageValues}
-use Rattle.pulsar_wire.specs.Command.{with_kind}
-use Rattle.pulsar_wire.specs.Row.{◌&◌}
-use Rattle.pulsar_wire.specs.Rows.{get_topics_of_namespace_response}
-use Rattle.pulsar_wire.specs.Rows as rows
+use Rattle.pulsar_client.specs.Messages.{Reply}
 use Rattle.pulsar_client.specs.Log.{Entry, Begins, Does}
 use Rattle.pulsar_client.specs.Good.{IsRun}
 use Rattle.pulsar_client.specs.Traces.{numbered_from_zero, connected, topics_reply, asks_topics, request_is_answered, reply_comes_early, attempt_fails, IsGood}
 
-abbrev greeting : MessageValues
-greeting = record { command = with_kind (record { number = 3; row = rows.connected; values = codes "p" & None & None & tt }) }
+abbrev greeting : Reply
+greeting = record { body = Some 3; key = None; error = None; text = None; topics = [] }
 
-abbrev names : MessageValues
-names = record { command = with_kind (record { number = 33; row = get_topics_of_namespace_response; values = 0 & (codes "t" ∷ []) & tt }) }
+abbrev names : Reply
+names = record { body = Some 33; key = Some (RequestId 0); error = None; text = None; topics = codes "t" ∷ [] }
 
 -- a client is built
 abbrev built_log : List Entry

@@ -17,7 +17,7 @@ use Rattle.pulsar_client.specs.declared.act.Act.{Act}
 use Rattle.pulsar_client.specs.declared.act.Act.TheVariants.{Calls, Told, Dials, Waits, Answers, Builds, OnLink}
 use Rattle.pulsar_client.specs.declared.tables.Base.TheVariants.{Runs}
 use Rattle.pulsar_client.specs.Content.{Asked, Heard, Called, Shown, Queued, Write, Said, Done, Failed}
-use Rattle.pulsar_frame.specs.Message.{MessageValues}
+use Rattle.pulsar_client.specs.Messages.{Reply}
 use Rattle.pulsar_client.specs.Failures.{Failure, OfConnection, Shutdown, Exhausted}
 use Rattle.pulsar_client.specs.Plan.{failed, next, fault_of, topics_in}
 use Rattle.pulsar_client.specs.Link.{Seen, Pending, arrivals, next_id, queued, settles, stage, unwritten, with_frame, frame_of, written_by}
@@ -207,7 +207,7 @@ AnswersOnce = (o : Chosen) (log : List Entry) (t : ℕ) (p : Procedure) →
 pub data Fails (p : Procedure) (os : List Outcome) (f : Failure) : Type 0 where
   IsRefused : p ≡ Refused → f ≡ OfConnection Shutdown → Fails p os f
   IsTold : (u : Outcome) → In u os → f ≡ OfConnection (fault_of u) → Fails p os f
-  IsReplied : (m : MessageValues) → In (outcome.Replied m) os → Failed f ≡ topics_in m.command.body → Fails p os f
+  IsReplied : (r : Reply) → In (outcome.Replied r) os → Failed f ≡ topics_in r → Fails p os f
 
 -- wherever a step has ended, a call that has failed did so for one of these
 abbrev pub FailuresAreTold : Type 0

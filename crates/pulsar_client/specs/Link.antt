@@ -2,10 +2,11 @@
 -- (Pulsar binary protocol, Connection establishment)
 use Rattle.std.specs.Prelude.{ℕ, ◌+◌, ◌^◌, nat_lt, Bool, true, false, if◌then◌else◌, List, [], ◌∷◌, ◌++◌, length, take, drop, filter, map, Option, Some, None, not}
 use Rattle.std.specs.Option.{option_to_list}
+use Rattle.pulsar_wire.specs.declared.key.RequestKey.{RequestKey}
 use Rattle.pulsar_wire.specs.declared.key.RequestKey.TheVariants.{RequestId}
 use Rattle.pulsar_frame.specs.Message.{MessageValues}
 use Rattle.pulsar_wire.specs.Command.{command_spelling}
-use Rattle.pulsar_frame.specs.Key.{bears}
+use Rattle.pulsar_frame.specs.Key.{bears_key}
 use Rattle.pulsar_frame.specs.Sized.{with_size}
 use Rattle.pulsar_frame.specs.Frame.{frame_bytes, cut, bad}
 use Rattle.pulsar_client.specs.declared.act.Arrival.{Arrival}
@@ -18,13 +19,13 @@ use Rattle.pulsar_client.specs.declared.act.LinkAct.{LinkAct}
 use Rattle.pulsar_client.specs.declared.act.LinkAct.TheVariants.{Opens, Comes, Drains, Requests, Spends, Greets, Readied, Ended, Settled}
 use Rattle.pulsar_client.specs.declared.session.link.Stage.{Stage}
 use Rattle.pulsar_client.specs.declared.session.link.Stage.TheVariants.{Dialing, Handshaking, Ready, Over}
-use Rattle.pulsar_client.specs.Messages.{connect_message, topics_message, is_connected}
+use Rattle.pulsar_client.specs.Messages.{connect_message, topics_message, read, is_connected}
 
 -- WHAT COMES
 
 -- what comes of a stream: its messages, and behind them what is no frame
 abbrev pub arrivals : List ℕ → List Arrival
-arrivals stream = map Message (cut stream) ++ map Bad (option_to_list (bad stream))
+arrivals stream = map (λ m. Message (read m)) (cut stream) ++ map Bad (option_to_list (bad stream))
 
 -- WHAT A HISTORY SAYS. It begins as the link is dialed, with the number of its first request.
 
@@ -108,19 +109,19 @@ pub record Pending : Type 0 where
   pub place : ℕ
   pub ticket : ℕ
 
--- a message bears the key of the request of this number
-abbrev pub bears_id : MessageValues → ℕ → Bool
-bears_id m id = bears m (RequestId id)
+-- a message of this key bears the key of the request of this number
+abbrev pub bears_id : Option RequestKey → ℕ → Bool
+bears_id key id = bears_key key (RequestId id)
 
 -- what settles a request: a message that bears its key, or the end of the link
 abbrev pub settles : LinkAct → Pending → Option Outcome
-settles (Comes (Message m)) r = if bears_id m r.id then Some (Replied m) else None
+settles (Comes (Message m)) r = if bears_id m.key r.id then Some (Replied m) else None
 settles (Ended closed) r = Some Disconnected
 settles _ r = None
 
 -- the requests that an act leaves waiting
 abbrev pub left_waiting : LinkAct → List Pending → List Pending
-left_waiting (Comes (Message m)) rs = filter (λ r. not (bears_id m r.id)) rs
+left_waiting (Comes (Message m)) rs = filter (λ r. not (bears_id m.key r.id)) rs
 left_waiting (Ended closed) rs = []
 left_waiting _ rs = rs
 
@@ -151,7 +152,7 @@ disconnected r = Settled r.place r.ticket Disconnected
 
 -- the requests that an act settles, and as what
 abbrev pub settled : LinkAct → List Pending → List LinkAct
-settled (Comes (Message m)) rs = map (λ r. Settled r.place r.ticket (Replied m)) (filter (λ r. bears_id m r.id) rs)
+settled (Comes (Message m)) rs = map (λ r. Settled r.place r.ticket (Replied m)) (filter (λ r. bears_id m.key r.id) rs)
 settled (Ended closed) rs = map disconnected rs
 settled _ rs = []
 

@@ -1,7 +1,6 @@
 -- The procedures of the calls, each a reader of its outcomes, oldest first: after each outcome it says what comes next.
 use Rattle.std.specs.Prelude.{ℕ, Bool, false, List, [], ◌∷◌, Option, Some, None, codes, ◌==◌, if◌then◌else◌}
 use Rattle.pulsar_wire.specs.Field.{◌>>=◌}
-use Rattle.pulsar_wire.specs.At.{int32_at, text_at, texts_at}
 use Rattle.pulsar_wire.specs.Enumerations.{error_of}
 use Rattle.pulsar_wire.specs.Command.{BodyValues, body_name}
 use Rattle.pulsar_wire.specs.declared.commands.topics.Mode.{Mode}
@@ -17,7 +16,7 @@ use Rattle.pulsar_client.specs.declared.act.Action.TheVariants.{Get, Ask, Answer
 use Rattle.pulsar_frame.specs.Key.{answers}
 use Rattle.pulsar_client.specs.Failures.{Fault, Io, Disconnected, PulsarError, Encoding, UnexpectedResponse, Canceled, Shutdown, Exhausted, OfConnection}
 use Rattle.pulsar_client.specs.Content.{Said, Names, Failed}
-use Rattle.pulsar_client.specs.Messages.{is_number}
+use Rattle.pulsar_client.specs.Messages.{Reply, read_body, is_number}
 
 -- why a call fails at an outcome
 abbrev pub fault_of : Outcome → Fault
@@ -48,31 +47,26 @@ building (o ∷ os) = ended (failed (fault_of o)) os
 
 -- TOPICS: GET the link of the address, and ask on it
 
--- why a body fails a call that expects another one: the broker's error with its text, or the name of the body
-abbrev pub refused : BodyValues → Fault
-refused b =
-    if b.number == 14 then PulsarError (int32_at 2 b.row b.values >>= error_of) (text_at 3 b.row b.values)
-    else UnexpectedResponse (body_name b.number)
-
-abbrev pub refusal : Option BodyValues → Said
-refusal None = failed (UnexpectedResponse (codes "none"))
-refusal (Some b) = failed (refused b)
+-- why a reply fails a call that expects another body: the broker's error with its text, or the name of the body
+abbrev pub refused : Reply → Option ℕ → Fault
+refused r None = UnexpectedResponse (codes "none")
+refused r (Some n) = if n == 14 then PulsarError (r.error >>= error_of) r.text else UnexpectedResponse (body_name n)
 
 -- a body is the answer that the body of a request expects
-abbrev pub is_answer : ℕ → Option BodyValues → Bool
+abbrev pub is_answer : ℕ → Option ℕ → Bool
 is_answer request None = false
-is_answer request (Some b) = is_number b.number (answers request)
+is_answer request (Some n) = is_number n (answers request)
 
-abbrev pub names_in : Option BodyValues → List (List ℕ)
-names_in None = []
-names_in (Some b) = texts_at 2 b.row b.values
+-- the answer that a reply gives: the topics, or why there are none
+abbrev pub topics_in : Reply → Said
+topics_in r = if is_answer 32 r.body then Names r.topics else failed (refused r r.body)
 
--- the answer that a reply's body gives: the topics, or why there are none
-abbrev pub topics_in : Option BodyValues → Said
-topics_in body = if is_answer 32 body then Names (names_in body) else refusal body
+-- the same, of the reply's body itself
+abbrev pub topics_of_body : Option BodyValues → Said
+topics_of_body body = topics_in (read_body None body)
 
 abbrev pub topics_answer : Outcome → Said
-topics_answer (outcome.Replied m) = topics_in m.command.body
+topics_answer (outcome.Replied r) = topics_in r
 topics_answer o = failed (fault_of o)
 
 abbrev pub topics_replied : List Outcome → Action

@@ -31,7 +31,7 @@ use Rattle.pulsar_client.specs.declared.tables.Base.TheVariants.{Nothing, Runs, 
 use Rattle.pulsar_client.specs.declared.tables.Tables.{Tables}
 use Rattle.pulsar_client.specs.Content.{Heard, Bytes, Shown, heard, shown}
 use Rattle.pulsar_client.specs.Link.{Seen, Pending, drawn, frame_of, counted, left_by, left_waiting, with_frame, with_request}
-use Rattle.pulsar_frame.specs.Message.{MessageValues}
+use Rattle.pulsar_client.specs.Messages.{Reply}
 use Rattle.pulsar_client.specs.Plan.{building, topics, topics_replied}
 use Rattle.pulsar_client.specs.Log.{Chosen, Entry, built, calls, procedure_of, outcomes_of, links, base, waiting, seen_link, unread_of, View, opens}
 use Rattle.pulsar_frame.specs.Frame.{left}
@@ -48,7 +48,7 @@ request_id (Some (RequestId id)) = Some id
 request_id (Some (CloseConsumer consumer id)) = Some id
 request_id _ = None
 
-abbrev pub replied_to : MessageValues → Waiter → LinkAct
+abbrev pub replied_to : Reply → Waiter → LinkAct
 replied_to m w = Settled w.place w.ticket (outcome.Replied m)
 
 abbrev pub contents : List (Vec ℕ) → List (List ℕ)

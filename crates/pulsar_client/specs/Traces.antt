@@ -6,6 +6,7 @@ use Rattle.pulsar_frame.specs.Frame.{frame_bytes}
 use Rattle.pulsar_client.specs.declared.effect.Settlement.TheVariants as settlement
 use Rattle.pulsar_client.specs.Content.{Heard, Called, Build, Topics, Opened, Bytes, Drain, Shown, Connect, Queued, Write, Settles, Ends, Close, Done, Names}
 use Rattle.pulsar_client.specs.Failures.{Io, Canceled}
+use Rattle.pulsar_client.specs.Plan.{failed}
 use Rattle.pulsar_client.specs.Messages.{connect_message, topics_message}
 use Rattle.pulsar_client.specs.Log.{Chosen}
 use Rattle.pulsar_client.specs.Good.{Step, Good, base_host, base_port}

@@ -3,9 +3,9 @@
 ghost use Rattle.std.specs.Prelude.{◌≡◌, ℕ, List, IfOk, string_bytes};
 ghost use Rattle.pulsar_frame.specs.Shown.{message_values};
 ghost use Rattle.pulsar_client.specs.Content.{Said, said};
-ghost use Rattle.pulsar_frame.specs.Key.{key};
-ghost use Rattle.pulsar_frame.specs.Message.{MessageValues};
-ghost use Rattle.pulsar_client.specs.Messages.{is_connected};
+ghost use Rattle.pulsar_client.specs.Messages.{Reply, is_connected, read};
+ghost use Rattle.pulsar_wire.specs.contracts.error.Error as errors;
+ghost use Rattle.std.specs.Coded.{codes};
 
 use crate::effect::Answer;
 use pulsar_frame::message::Message;
@@ -54,20 +54,20 @@ pub struct Received {
 }
 
 impl Model for Received {
-    ghost Value = { MessageValues };
+    ghost Value = { Reply };
 
-    ghost view = { λ r. message_values r.message };
+    ghost view = { λ r. read (message_values r.message) };
 }
 
 impl Received {
     pub fn new(message: Message) -> Received
-        ensures { result ≡ message_values message }
+        ensures { result ≡ read (message_values message) }
     {
         Received { message }
     }
 
     pub fn key(&self) -> Option<RequestKey>
-        ensures { result ≡ key self.now }
+        ensures { result ≡ self.now.key }
     {
         self.message.request_key()
     }
@@ -83,7 +83,7 @@ impl Received {
     }
 
     pub fn into_message(self) -> Message
-        ensures { message_values result ≡ self }
+        ensures { read (message_values result) ≡ self }
     {
         let Received { message } = self;
         message
@@ -98,6 +98,8 @@ pub struct Verdict {
 
 impl Model for Verdict {
     ghost Value = { Said };
+
+    ghost coded = { Prim.hlevel (codes, errors.the_row.coded) };
 
     ghost view = { λ v. said v.answer };
 }

@@ -1,10 +1,9 @@
 //! The procedures of the calls, as machines over their outcomes.
 
 ghost use Rattle.std.specs.Prelude.{◌≡◌, [], ◌∷◌, Some, IfOk};
-ghost use Rattle.std.specs.Option.{option_map};
 ghost use Rattle.pulsar_wire.specs.Views.{body_values};
 ghost use Rattle.pulsar_client.specs.Failures.{UnexpectedResponse, fault};
-ghost use Rattle.pulsar_client.specs.Plan.{next, failed, fault_of, building, refused, refusal, topics, topics_answer, topics_in};
+ghost use Rattle.pulsar_client.specs.Plan.{next, failed, fault_of, building, topics, topics_answer, topics_in, topics_of_body};
 ghost use Rattle.pulsar_client.specs.Tables.{start, plan_action, plan_after};
 
 use crate::act::{Action, Outcome, Procedure, Request};
@@ -90,38 +89,38 @@ fn topics_answer(alloc: Global, outcome: Outcome) -> Result<Verdict, NoMemory>
 
 /// The topics of a reply, or why it has none.
 fn topics_in(alloc: Global, reply: Received) -> Result<Verdict, NoMemory>
-    ensures { IfOk result (λ v. v ≡ topics_in reply.command.body) }
+    ensures { IfOk result (λ v. v ≡ topics_in reply) }
 {
     let message = reply.into_message();
     match message.command.body {
-        Some(Body::GetTopicsOfNamespaceResponse(body)) => Ok(topics_of(body)),
-        body => Ok(failure(refusal(alloc, body)?)),
+        Some(body) => topics_of_body(alloc, body),
+        None => Ok(failure(unexpected(alloc, "none")?)),
+    }
+}
+
+fn topics_of_body(alloc: Global, body: Body) -> Result<Verdict, NoMemory>
+    ensures { IfOk result (λ v. v ≡ topics_of_body (Some (body_values body))) }
+{
+    match body {
+        Body::GetTopicsOfNamespaceResponse(body) => Ok(topics_of(body)),
+        Body::Error(body) => Ok(failure(told_error(body))),
+        body => Ok(failure(unexpected(alloc, body.name())?)),
     }
 }
 
 #[tactic(auto, unfolding(pulsar_wire::specs::Views::get_topics_of_namespace_response_values))]
 fn topics_of(body: CommandGetTopicsOfNamespaceResponse) -> Verdict
-    ensures { result ≡ topics_in (Some (body_values (Body.GetTopicsOfNamespaceResponse body))) }
+    ensures { result ≡ topics_of_body (Some (body_values (Body.GetTopicsOfNamespaceResponse body))) }
 {
     Verdict::new(Ok(Answer::Topics(body.topics)))
 }
 
-/// Why a body fails a call that expects another one: the broker's error, or the name of the body.
-fn refusal(alloc: Global, body: Option<Body>) -> Result<ConnectionError, NoMemory>
-    ensures { IfOk result (λ e. failed (fault e) ≡ refusal (option_map body_values body)) }
-{
-    match body {
-        Some(Body::Error(error)) => Ok(told_error(error)),
-        Some(body) => unexpected(alloc, body.name()),
-        None => unexpected(alloc, "none"),
-    }
-}
-
+/// The error that the broker tells.
 #[tactic(auto, unfolding(pulsar_wire::specs::Views::error_values))]
-fn told_error(error: CommandError) -> ConnectionError
-    ensures { fault result ≡ refused (body_values (Body.Error error)) }
+fn told_error(body: CommandError) -> ConnectionError
+    ensures { failed (fault result) ≡ topics_of_body (Some (body_values (Body.Error body))) }
 {
-    ConnectionError::PulsarError(server_error(error.error), Some(error.message))
+    ConnectionError::PulsarError(server_error(body.error), Some(body.message))
 }
 
 fn unexpected(alloc: Global, name: &str) -> Result<ConnectionError, NoMemory>

@@ -6,8 +6,7 @@ ghost use Rattle.std.specs.List.{flat_map};
 ghost use Rattle.std.specs.Option.{option_map, option_to_list};
 ghost use Rattle.std.specs.Ordering.{nat_cmp};
 ghost use Rattle.pulsar_frame.specs.Frame.{frame_bytes, left};
-ghost use Rattle.pulsar_frame.specs.Key.{key};
-ghost use Rattle.pulsar_frame.specs.Message.{MessageValues};
+ghost use Rattle.pulsar_client.specs.Messages.{Reply};
 ghost use Rattle.pulsar_frame.specs.Shown.{message_values};
 ghost use Rattle.pulsar_client.specs.Content.{shown};
 ghost use Rattle.pulsar_client.specs.Good.{link_effect, queues, settlement_of};
@@ -99,8 +98,8 @@ fn request_id(key: Option<RequestKey>) -> Option<u64>
 
 /// The request of this number waits no longer.
 fn take_waiter(pending: &mut BTreeMap<u64, Waiter>, id: Option<u64>) -> Option<Waiter>
-    ensures settled { (m : MessageValues) → request_id (key m) ≡ id → option_to_list (option_map (replied_to m) result) ≡ settled (LinkAct.Comes (Arrival.Message m)) (map waiting_at pending.old.entries) }
-    ensures left { (m : MessageValues) → request_id (key m) ≡ id → map waiting_at pending.new.entries ≡ left_waiting (LinkAct.Comes (Arrival.Message m)) (map waiting_at pending.old.entries) }
+    ensures settled { (m : Reply) → request_id m.key ≡ id → option_to_list (option_map (replied_to m) result) ≡ settled (LinkAct.Comes (Arrival.Message m)) (map waiting_at pending.old.entries) }
+    ensures left { (m : Reply) → request_id m.key ≡ id → map waiting_at pending.new.entries ≡ left_waiting (LinkAct.Comes (Arrival.Message m)) (map waiting_at pending.old.entries) }
     ensures others { (k : ℕ) → get nat_cmp pending.old k ≡ None → get nat_cmp pending.new k ≡ None }
 {
     match id {

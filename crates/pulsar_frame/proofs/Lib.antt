@@ -3,3 +3,5 @@ pub mod Streams
 pub mod Histories
 pub mod Written
 pub mod Keys
+pub mod Crc
+pub mod Changes

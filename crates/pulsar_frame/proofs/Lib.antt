@@ -5,3 +5,4 @@ pub mod Written
 pub mod Keys
 pub mod Crc
 pub mod Changes
+pub mod Folding

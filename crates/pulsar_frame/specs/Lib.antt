@@ -7,3 +7,4 @@ pub mod Read
 pub mod History
 pub mod Laws
 pub mod Checksum
+pub mod Residue

@@ -7,12 +7,12 @@ ghost use Rattle.pulsar_frame.specs.Checksum.{after_bits};
 macro_rules! span {
     (@ [$($x:expr),*]) => { [$($x),*] };
     (@ [$($x:expr),*] $b:expr $(, $rest:expr)*) => { span!(@ [$($x,)* $($x ^ $b),*] $($rest),*) };
-    ($($b:expr),*) => { span!(@ [0] $($b),*) };
+    ([$($b:expr),*]) => { span!(@ [0] $($b),*) };
 }
 
 // Row k has each byte 8 * (k + 1) bits on, made from what the byte's eight bits come to.
 static TABLES: [[u32; 256]; 16] = [
-    span!(
+    span!([
         0xf26b_8303,
         0xe13b_70f7,
         0xc79a_971f,
@@ -21,8 +21,8 @@ static TABLES: [[u32; 256]; 16] = [
         0x20bd_8ede,
         0x417b_1dbc,
         0x82f6_3b78
-    ),
-    span!(
+    ]),
+    span!([
         0x13a2_9877,
         0x2745_30ee,
         0x4e8a_61dc,
@@ -31,8 +31,8 @@ static TABLES: [[u32; 256]; 16] = [
         0x7f8b_e302,
         0xff17_c604,
         0xfbc3_faf9
-    ),
-    span!(
+    ]),
+    span!([
         0xa541_927e,
         0x4f6f_520d,
         0x9ede_a41a,
@@ -41,8 +41,8 @@ static TABLES: [[u32; 256]; 16] = [
         0xe144_fb14,
         0xc765_80d9,
         0x8b27_7743
-    ),
-    span!(
+    ]),
+    span!([
         0xdd45_aab8,
         0xbf67_2381,
         0x7b22_31f3,
@@ -51,8 +51,8 @@ static TABLES: [[u32; 256]; 16] = [
         0xd725_148b,
         0xaba6_5fe7,
         0x52a0_c93f
-    ),
-    span!(
+    ]),
+    span!([
         0x3811_6fac,
         0x7022_df58,
         0xe045_beb0,
@@ -61,8 +61,8 @@ static TABLES: [[u32; 256]; 16] = [
         0x1ba8_b557,
         0x3751_6aae,
         0x6ea2_d55c
-    ),
-    span!(
+    ]),
+    span!([
         0xef30_6b19,
         0xdb8c_a0c3,
         0xb2f5_3777,
@@ -71,8 +71,8 @@ static TABLES: [[u32; 256]; 16] = [
         0x85f4_168d,
         0x0e04_5beb,
         0x1c08_b7d6
-    ),
-    span!(
+    ]),
+    span!([
         0x6803_2cc8,
         0xd006_5990,
         0xa5e0_c5d1,
@@ -81,8 +81,8 @@ static TABLES: [[u32; 256]; 16] = [
         0x3d5b_83bd,
         0x7ab7_077a,
         0xf56e_0ef4
-    ),
-    span!(
+    ]),
+    span!([
         0x493c_7d27,
         0x9278_fa4e,
         0x211d_826d,
@@ -91,8 +91,8 @@ static TABLES: [[u32; 256]; 16] = [
         0x0d00_6599,
         0x1a00_cb32,
         0x3401_9664
-    ),
-    span!(
+    ]),
+    span!([
         0xf43e_d648,
         0xed91_da61,
         0xdecf_c233,
@@ -101,8 +101,8 @@ static TABLES: [[u32; 256]; 16] = [
         0xea17_27be,
         0xd1c2_398d,
         0xa668_05eb
-    ),
-    span!(
+    ]),
+    span!([
         0xcb56_7ba5,
         0x9340_81bb,
         0x236d_7587,
@@ -111,8 +111,8 @@ static TABLES: [[u32; 256]; 16] = [
         0x1e87_dac9,
         0x3d0f_b592,
         0x7a1f_6b24
-    ),
-    span!(
+    ]),
+    span!([
         0x9771_f7c1,
         0x2b0f_9973,
         0x561f_32e6,
@@ -121,8 +121,8 @@ static TABLES: [[u32; 256]; 16] = [
         0xbb21_7ad2,
         0x73ae_8355,
         0xe75d_06aa
-    ),
-    span!(
+    ]),
+    span!([
         0x3171_d430,
         0x62e3_a860,
         0xc5c7_50c0,
@@ -131,8 +131,8 @@ static TABLES: [[u32; 256]; 16] = [
         0x3253_b026,
         0x64a7_604c,
         0xc94e_c098
-    ),
-    span!(
+    ]),
+    span!([
         0x30d2_3865,
         0x61a4_70ca,
         0xc348_e194,
@@ -141,8 +141,8 @@ static TABLES: [[u32; 256]; 16] = [
         0x062e_3a86,
         0x0c5c_750c,
         0x18b8_ea18
-    ),
-    span!(
+    ]),
+    span!([
         0x5407_5546,
         0xa80e_aa8c,
         0x55f1_23e9,
@@ -151,8 +151,8 @@ static TABLES: [[u32; 256]; 16] = [
         0xa451_f2aa,
         0x4d4f_93a5,
         0x9a9f_274a
-    ),
-    span!(
+    ]),
+    span!([
         0x678e_fd01,
         0xcf1d_fa02,
         0x9bd7_82f5,
@@ -161,8 +161,8 @@ static TABLES: [[u32; 256]; 16] = [
         0xc90d_cc6c,
         0x97f7_ee29,
         0x2a03_aaa3
-    ),
-    span!(
+    ]),
+    span!([
         0xf20c_0dfe,
         0xe1f4_6d0d,
         0xc604_aceb,
@@ -171,7 +171,7 @@ static TABLES: [[u32; 256]; 16] = [
         0x2c4c_517e,
         0x5898_a2fc,
         0xb131_45f8
-    ),
+    ]),
 ];
 
 /// A byte, 8 * (k + 1) bits on.

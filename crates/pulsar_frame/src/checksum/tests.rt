@@ -72,9 +72,9 @@ fn a_long_buffer(rt: HostRuntime) -> Result<(), Fail> {
 }
 
 #[test]
-fn pieces_are_one(rt: HostRuntime) -> Result<(), Fail> {
-    let bytes = noise(rt.alloc(), 60)?;
-    let whole = crc32c(&bytes);
+fn pieces_of_any_length(rt: HostRuntime) -> Result<(), Fail> {
+    let bytes = noise(rt.alloc(), 2_200)?;
+    let whole = bit_by_bit(&bytes);
     for (i, _) in bytes.iter().enumerate() {
         let (front, back) = bytes.split_at(i);
         let mut checksum = Checksum::new();

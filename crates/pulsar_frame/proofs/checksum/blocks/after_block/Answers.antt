@@ -1,5 +1,5 @@
 use Rattle.pulsar_frame.proofs.Crc.{block_in}
-use Rattle.pulsar_frame.proofs.checksum.after_block.Goals as goal
+use Rattle.pulsar_frame.proofs.checksum.blocks.after_block.Goals as goal
 
 pub returns : goal.returns
 returns c =

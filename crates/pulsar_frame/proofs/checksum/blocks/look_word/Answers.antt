@@ -1,5 +1,5 @@
 use Rattle.pulsar_frame.proofs.Crc.{word_out}
-use Rattle.pulsar_frame.proofs.checksum.look_word.Goals as goal
+use Rattle.pulsar_frame.proofs.checksum.blocks.look_word.Goals as goal
 
 pub returns : goal.returns
 returns c =

@@ -1,6 +1,6 @@
 use Rattle.std.proofs.Common.{◌≡◌, drop, length}
 use Rattle.pulsar_frame.specs.Checksum.{after}
-use Rattle.pulsar_frame.proofs.checksum.after_all.Given as goal
+use Rattle.pulsar_frame.proofs.checksum.blocks.after_blocks.Given as goal
 
 -- the rest of the way is the whole way
 abbrev pub invariant-loop-block : goal.invariant-loop-block

@@ -3,3 +3,6 @@ pub mod Streams
 pub mod Histories
 pub mod Written
 pub mod Keys
+pub mod Crc
+pub mod Changes
+pub mod Folding

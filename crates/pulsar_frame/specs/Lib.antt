@@ -6,3 +6,5 @@ pub mod Shown
 pub mod Read
 pub mod History
 pub mod Laws
+pub mod Checksum
+pub mod Residue

@@ -1,6 +1,7 @@
 //! Messages of the Pulsar binary protocol in frames, and the stream of bytes that carries them.
 #![tactic(auto)]
 
+pub mod checksum;
 pub mod codec;
 mod frame;
 pub mod laws;

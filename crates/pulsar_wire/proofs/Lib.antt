@@ -8,6 +8,7 @@ pub mod Writing
 pub mod Packed
 pub mod Running
 pub mod Headings
+pub mod Ids
 pub mod RoundTrip
 pub mod Copies
 pub mod CommandTrip

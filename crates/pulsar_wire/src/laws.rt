@@ -1,6 +1,7 @@
 //! What holds of all messages and commands. A function with an empty body has the law as its contract.
 
 ghost use Rattle.std.specs.Prelude.{◌≡◌, MatchResult};
+ghost use Rattle.std.specs.Bool.{Decides};
 ghost use Rattle.pulsar_wire.specs.Ids.{id_order};
 ghost use Rattle.pulsar_wire.specs.Views.{message_id_values};
 ghost use Rattle.pulsar_wire.specs.Laws.{MessagesReadAgain, CommandsReadAgain, SettledCommandsReadAgain, OneMeaning, OneSpelling, KnownBodiesAreRows, UnknownFieldsAreSkipped, UnknownBodiesAreSkipped};
@@ -62,6 +63,13 @@ pub fn unknown_fields_are_skipped()
 pub fn unknown_bodies_are_skipped()
     ensures { UnknownBodiesAreSkipped }
 {}
+
+/// Ids are equal where their six fields are.
+pub fn ids_are_equal(a: &MessageIdData, b: &MessageIdData) -> bool
+    ensures { Decides result (message_id_values a.now ≡ message_id_values b.now) }
+{
+    a == b
+}
 
 /// Ids are ordered by their six fields.
 #[tactic(auto, unfolding(crate::specs::Views::message_id_values))]

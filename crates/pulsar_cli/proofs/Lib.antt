@@ -1,4 +1,5 @@
 pub mod Completes
+pub mod Errors
 pub mod Lines
 pub mod Numbers
 pub mod Printed

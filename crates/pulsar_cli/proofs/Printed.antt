@@ -31,7 +31,3 @@ plain-byte found b after h p = rw (h, p) (behind-byte found b (unescaped after))
 -- an escaped byte, behind those that were found
 pub escaped-byte : (found : List ℕ) (b byte : ℕ) (bytes after : List ℕ) → (b == 37) ≡ true → escaped bytes ≡ with_byte byte (unescaped after) → behind (found ++ byte ∷ []) (unescaped after) ≡ behind found (unescaped (b ∷ bytes))
 escaped-byte found b byte bytes after h e = rw (h, e) (behind-byte found byte (unescaped after))
-
--- three parts, put one by one
-pub three-parts : (out a b c end : List ℕ) → end ≡ ((out ++ a) ++ b) ++ c → end ≡ out ++ (a ++ (b ++ c))
-three-parts out a b c end e = e ∙ append_assoc (out ++ a) b c ∙ append_assoc out a (b ++ c)

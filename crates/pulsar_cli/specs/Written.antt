@@ -7,7 +7,7 @@ use Rattle.pulsar_wire.specs.declared.commands.topics.Mode.{Mode}
 use Rattle.pulsar_wire.specs.declared.commands.topics.Mode.TheVariants.{Persistent, NonPersistent, All}
 use Rattle.pulsar_client.specs.Content.{Asked, Build, Topics, Heard, Called, Opened, Bytes, Drain}
 use Rattle.pulsar_cli.specs.Grammar.{Happens, line}
-use Rattle.pulsar_cli.specs.Text.{word}
+use Rattle.pulsar_cli.specs.WordText.{word}
 
 abbrev pub mode_word : Mode → List ℕ
 mode_word Persistent = codes "persistent"

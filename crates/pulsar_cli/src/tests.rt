@@ -363,17 +363,32 @@ fn a_request_is_settled_by_its_number(rt: HostRuntime) -> Result<(), Fail> {
     let alloc = rt.alloc();
     for (frame, answer) in [
         // an error without a text, and one whose code has no name
-        ("0000000e0000000a080e72060800100b1a00", "connection.pulsar 11 %"),
-        ("000000110000000d080e72090800101a1a036f6f66", "connection.pulsar ~ oof"),
+        (
+            "0000000e0000000a080e72060800100b1a00",
+            "connection.pulsar 11 %",
+        ),
+        (
+            "000000110000000d080e72090800101a1a036f6f66",
+            "connection.pulsar ~ oof",
+        ),
         // a consumer is closed under the request's number
-        ("0000000d00000009081082010408051000", "connection.unexpectedresponse close_consumer"),
+        (
+            "0000000d00000009081082010408051000",
+            "connection.unexpectedresponse close_consumer",
+        ),
     ] {
         prints(
             &rt,
             alloc,
             &[READY, ASK, "bytes 0 ", frame, "\n"],
             DONE,
-            &[IS_READY, IS_ASKED, "event 5\nsettled 0 1 reply\nended 1 err ", answer, "\n"],
+            &[
+                IS_READY,
+                IS_ASKED,
+                "event 5\nsettled 0 1 reply\nended 1 err ",
+                answer,
+                "\n",
+            ],
         )?;
     }
     Ok(())

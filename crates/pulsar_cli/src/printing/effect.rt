@@ -1,12 +1,13 @@
 //! The lines of a step.
 
 ghost use Rattle.std.specs.Prelude.{◌≡◌, ◌∷◌, ◌++◌, OnOk, map, string_bytes};
-ghost use Rattle.pulsar_client.specs.Content.{Names, fault, said, shown};
+ghost use Rattle.pulsar_client.specs.Content.{Names, said, shown};
 ghost use Rattle.pulsar_cli.specs.Text as printed;
 
+use crate::printing::error::push_error;
 use crate::printing::word::{push_hex, push_word};
 use pulsar_client::effect::{Answer, Effect, Settlement};
-use pulsar_wire::error::{ConnectionError, Error, IoKind, Reason};
+use pulsar_wire::error::Error;
 use std::alloc::AllocError;
 
 /// A step: the number of its event, and its effects.
@@ -64,15 +65,16 @@ fn settled_as(outcome: Settlement) -> &'static str
     }
 }
 
+#[tactic(auto, using(crate::proofs::Errors::failure_text))]
 fn push_answer(out: &mut String, answer: &Result<Answer, Error>) -> Result<(), AllocError>
     ensures { OnOk result (string_bytes out.new ≡ string_bytes out.old ++ printed.answer (said answer.now)) }
 {
     match answer {
         Ok(Answer::Done) => out.push_str("ok done")?,
         Ok(Answer::Topics(names)) => push_names(out, names)?,
-        Err(Error::Connection(error)) => {
+        Err(error) => {
             out.push_str("err ")?;
-            push_fault(out, error)?;
+            push_error(out, error)?;
         }
     }
     Ok(())
@@ -88,84 +90,6 @@ fn push_names(out: &mut String, names: &[String]) -> Result<(), AllocError>
         push_word(out, name.as_bytes())?;
     }
     Ok(())
-}
-
-fn push_fault(out: &mut String, error: &ConnectionError) -> Result<(), AllocError>
-    ensures { OnOk result (string_bytes out.new ≡ string_bytes out.old ++ printed.fault (fault error.now)) }
-{
-    out.push_str("connection.")?;
-    out.push_str(fault_word(error))?;
-    push_detail(out, error)?;
-    Ok(())
-}
-
-/// The word of an error.
-fn fault_word(error: &ConnectionError) -> &'static str
-    ensures { result.now ≡ printed.fault_word (fault error.now) }
-{
-    match error {
-        ConnectionError::Io(_) => "io",
-        ConnectionError::Disconnected => "disconnected",
-        ConnectionError::Decoding(_) => "decoding",
-        ConnectionError::Encoding(_) => "encoding",
-        ConnectionError::UnexpectedResponse(_) => "unexpectedresponse",
-        ConnectionError::NotFound => "notfound",
-        ConnectionError::Canceled => "canceled",
-        ConnectionError::Shutdown => "shutdown",
-        ConnectionError::Exhausted => "exhausted",
-        ConnectionError::NoMemory => "nomemory",
-    }
-}
-
-/// What stands behind the word of an error.
-fn push_detail(out: &mut String, error: &ConnectionError) -> Result<(), AllocError>
-    ensures { OnOk result (string_bytes out.new ≡ string_bytes out.old ++ printed.fault_detail (fault error.now)) }
-{
-    match error {
-        ConnectionError::Io(kind) => push_behind(out, io_kind(*kind))?,
-        ConnectionError::Decoding(reason) => push_behind(out, reason_word(*reason))?,
-        ConnectionError::Encoding(reason) => push_behind(out, reason_word(*reason))?,
-        ConnectionError::UnexpectedResponse(body) => {
-            out.push(' ')?;
-            push_word(out, body.as_bytes())?;
-        }
-        _ => {}
-    }
-    Ok(())
-}
-
-/// A blank and a word of our own.
-fn push_behind(out: &mut String, text: &str) -> Result<(), AllocError>
-    ensures { OnOk result (string_bytes out.new ≡ string_bytes out.old ++ 32 ∷ text.now) }
-{
-    out.push(' ')?;
-    out.push_str(text)?;
-    Ok(())
-}
-
-fn io_kind(kind: IoKind) -> &'static str
-    ensures { result.now ≡ printed.io_kind kind }
-{
-    match kind {
-        IoKind::ConnectionRefused => "refused",
-        IoKind::TimedOut => "timedout",
-        IoKind::Other => "other",
-    }
-}
-
-fn reason_word(reason: Reason) -> &'static str
-    ensures { result.now ≡ printed.reason_word reason }
-{
-    match reason {
-        Reason::Frame => "frame",
-        Reason::Command => "command",
-        Reason::Payload => "payload",
-        Reason::Magic => "magic",
-        Reason::Metadata => "metadata",
-        Reason::Checksum => "checksum",
-        Reason::Message => "message",
-        Reason::Batch => "batch",
-    }
 }
 
 /// The refusal of a line.

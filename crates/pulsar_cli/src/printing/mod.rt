@@ -1,4 +1,7 @@
 //! The printed run.
 
 pub mod effect;
+pub mod error;
+#[cfg(test)]
+mod tests;
 pub mod word;

@@ -1,7 +1,7 @@
 //! Printed words and bytes.
 
 ghost use Rattle.std.specs.Prelude.{◌≡◌, ◌∷◌, ◌<◌, ◌++◌, OnOk, string_bytes};
-ghost use Rattle.pulsar_cli.specs.Text.{hex, is_printed, printed, upper_digit, word};
+ghost use Rattle.pulsar_cli.specs.WordText.{hex, is_printed, printed, upper_digit, word};
 
 use std::alloc::AllocError;
 

@@ -2,7 +2,7 @@ use Rattle.std.proofs.Common.{◌≡◌, ◌++◌, ◌∷◌, take, map, length}
 use Rattle.std.specs.Prelude.{string_bytes, codes}
 use Rattle.std.specs.Fmt.{decimal}
 use Rattle.std.specs.List.{flat_map}
-use Rattle.pulsar_cli.specs.Text.{word}
+use Rattle.pulsar_cli.specs.WordText.{word}
 use Rattle.pulsar_cli.proofs.printing.effect.push_names.Given as goal
 
 abbrev pub invariant-loop-name : goal.invariant-loop-name

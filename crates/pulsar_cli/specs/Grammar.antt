@@ -6,10 +6,6 @@ use Rattle.pulsar_wire.specs.Field.{◌>>=◌}
 use Rattle.pulsar_wire.specs.declared.commands.topics.Mode.{Mode}
 use Rattle.pulsar_wire.specs.declared.commands.topics.Mode.TheVariants.{Persistent, NonPersistent, All}
 use Rattle.pulsar_client.specs.Content.{Asked, Build, Topics, Heard, Called, Opened, Bytes, Drain}
-use Rattle.pulsar_cli.specs.declared.grammar.line.Verb.{Verb}
-use Rattle.pulsar_cli.specs.declared.grammar.line.Verb.TheVariants as verb
-use Rattle.pulsar_cli.specs.declared.grammar.line.Asks.{Asks}
-use Rattle.pulsar_cli.specs.declared.grammar.line.Asks.TheVariants as ask
 use Rattle.pulsar_cli.specs.Words.{words, number, text, hex}
 
 abbrev pub mode : List ℕ → Option Mode
@@ -19,53 +15,61 @@ mode word =
     else if bytes_eq word (codes "all") then Some All
     else None
 
--- the first word of an event line
-abbrev pub verb_of : List ℕ → Option Verb
-verb_of word =
-    if bytes_eq word (codes "call") then Some verb.Call
-    else if bytes_eq word (codes "opened") then Some verb.Opened
-    else if bytes_eq word (codes "bytes") then Some verb.Bytes
-    else if bytes_eq word (codes "drain") then Some verb.Drain
-    else None
+-- call build
+abbrev pub build : List (List ℕ) → Option Asked
+build [] = Some Build
+build _ = None
 
--- the word behind `call`
-abbrev pub asks_of : List ℕ → Option Asks
-asks_of word =
-    if bytes_eq word (codes "build") then Some ask.Build
-    else if bytes_eq word (codes "topics") then Some ask.Topics
-    else None
-
--- call build · call topics NAMESPACE MODE
-abbrev pub call_of : Option Asks → List (List ℕ) → Option Asked
-call_of (Some ask.Build) [] = Some Build
-call_of (Some ask.Topics) (n ∷ m ∷ []) = do
+-- call topics NAMESPACE MODE
+abbrev pub topics : List (List ℕ) → Option Asked
+topics (n ∷ m ∷ []) = do
   namespace ← text n
   mode ← mode m
   Some (Topics namespace mode)
-call_of _ _ = None
+topics _ = None
 
+-- what stands behind `call`
 abbrev pub call : List (List ℕ) → Option Asked
 call [] = None
-call (w ∷ ws) = call_of (asks_of w) ws
+call (w ∷ ws) =
+    if bytes_eq w (codes "build") then build ws
+    else if bytes_eq w (codes "topics") then topics ws
+    else None
 
--- opened LINK · bytes LINK HEX · drain LINK NUMBER · call ..
-abbrev pub event_of : Option Verb → List (List ℕ) → Option Heard
-event_of (Some verb.Call) ws = call ws >>= λ c. Some (Called c)
-event_of (Some verb.Opened) (l ∷ []) = number l >>= λ link. Some (Opened link)
-event_of (Some verb.Bytes) (l ∷ p ∷ []) = do
+-- call ..
+abbrev pub called : List (List ℕ) → Option Heard
+called ws = call ws >>= λ c. Some (Called c)
+
+-- opened LINK
+abbrev pub opened : List (List ℕ) → Option Heard
+opened (l ∷ []) = number l >>= λ link. Some (Opened link)
+opened _ = None
+
+-- bytes LINK HEX
+abbrev pub bytes : List (List ℕ) → Option Heard
+bytes (l ∷ p ∷ []) = do
   link ← number l
   piece ← hex p
   Some (Bytes link piece)
-event_of (Some verb.Drain) (l ∷ n ∷ []) = do
+bytes _ = None
+
+-- drain LINK NUMBER
+abbrev pub drain : List (List ℕ) → Option Heard
+drain (l ∷ n ∷ []) = do
   link ← number l
   most ← number n
   Some (Drain link most)
-event_of _ _ = None
+drain _ = None
 
 -- an event line
 abbrev pub event : List (List ℕ) → Option Heard
 event [] = None
-event (w ∷ ws) = event_of (verb_of w) ws
+event (w ∷ ws) =
+    if bytes_eq w (codes "call") then called ws
+    else if bytes_eq w (codes "opened") then opened ws
+    else if bytes_eq w (codes "bytes") then bytes ws
+    else if bytes_eq w (codes "drain") then drain ws
+    else None
 
 -- what a line is: nothing, an event, or not of the grammar
 pub data Line : Type 0 where

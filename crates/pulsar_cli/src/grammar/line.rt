@@ -1,10 +1,10 @@
 //! The lines of a script, and the events that they are.
 
-ghost use Rattle.std.specs.Prelude.{◌≡◌, ◌∷◌, [], Some, IfOk, map};
+ghost use Rattle.std.specs.Prelude.{◌≡◌, IfOk, map};
 ghost use Rattle.std.specs.Option.{option_map};
 ghost use Rattle.std.specs.Str.{bytes_eq};
 ghost use Rattle.pulsar_client.specs.Content.{asked, heard};
-ghost use Rattle.pulsar_cli.specs.Grammar.{asks_of, call, call_of, event, event_of, line, mode, verb_of};
+ghost use Rattle.pulsar_cli.specs.Grammar.{build, bytes, call, called, drain, event, line, mode, opened, topics};
 ghost use Rattle.pulsar_cli.specs.Shown.{line_of};
 
 use crate::grammar::word::{hex_bytes, number, text, words};
@@ -12,22 +12,6 @@ use pulsar_client::event::{Call, Event};
 use pulsar_wire::commands::topics::Mode;
 use pulsar_wire::error::NoMemory;
 use std::alloc::Global;
-
-/// The first word of an event line.
-#[derive(Clone, Copy)]
-enum Verb {
-    Call,
-    Opened,
-    Bytes,
-    Drain,
-}
-
-/// The word behind `call`.
-#[derive(Clone, Copy)]
-enum Asks {
-    Build,
-    Topics,
-}
 
 /// What a line is.
 #[derive(Drop)]
@@ -60,23 +44,22 @@ fn event(alloc: Global, words: &[&[u8]]) -> Result<Option<Event>, NoMemory>
     let Some((word, rest)) = words.split_first() else {
         return Ok(None);
     };
-    event_of(alloc, verb_of(word), rest)
-}
-
-fn event_of(alloc: Global, verb: Option<Verb>, words: &[&[u8]]) -> Result<Option<Event>, NoMemory>
-    ensures { IfOk result (λ e. option_map heard e ≡ event_of verb (map (λ w. w.now) words.now)) }
-{
-    match (verb, words) {
-        (Some(Verb::Call), words) => call_event(alloc, words),
-        (Some(Verb::Opened), [link]) => Ok(opened_event(link)),
-        (Some(Verb::Bytes), [link, piece]) => bytes_event(alloc, link, piece),
-        (Some(Verb::Drain), [link, most]) => Ok(drain_event(link, most)),
-        _ => Ok(None),
+    if is(word, "call") {
+        called(alloc, rest)
+    } else if is(word, "opened") {
+        Ok(opened(rest))
+    } else if is(word, "bytes") {
+        bytes(alloc, rest)
+    } else if is(word, "drain") {
+        Ok(drain(rest))
+    } else {
+        Ok(None)
     }
 }
 
-fn call_event(alloc: Global, words: &[&[u8]]) -> Result<Option<Event>, NoMemory>
-    ensures { IfOk result (λ e. option_map heard e ≡ event_of (Some Verb.Call) (map (λ w. w.now) words.now)) }
+/// `call ..`
+fn called(alloc: Global, words: &[&[u8]]) -> Result<Option<Event>, NoMemory>
+    ensures { IfOk result (λ e. option_map heard e ≡ called (map (λ w. w.now) words.now)) }
 {
     match call(alloc, words)? {
         Some(call) => Ok(Some(Event::Call(call))),
@@ -84,15 +67,23 @@ fn call_event(alloc: Global, words: &[&[u8]]) -> Result<Option<Event>, NoMemory>
     }
 }
 
-fn opened_event(link: &[u8]) -> Option<Event>
-    ensures { option_map heard result ≡ event_of (Some Verb.Opened) (link.now ∷ []) }
+/// `opened LINK`
+fn opened(words: &[&[u8]]) -> Option<Event>
+    ensures { option_map heard result ≡ opened (map (λ w. w.now) words.now) }
 {
+    let [link] = words else {
+        return None;
+    };
     Some(Event::Opened(number(link)?))
 }
 
-fn bytes_event(alloc: Global, link: &[u8], piece: &[u8]) -> Result<Option<Event>, NoMemory>
-    ensures { IfOk result (λ e. option_map heard e ≡ event_of (Some Verb.Bytes) (link.now ∷ piece.now ∷ [])) }
+/// `bytes LINK HEX`
+fn bytes(alloc: Global, words: &[&[u8]]) -> Result<Option<Event>, NoMemory>
+    ensures { IfOk result (λ e. option_map heard e ≡ bytes (map (λ w. w.now) words.now)) }
 {
+    let [link, piece] = words else {
+        return Ok(None);
+    };
     let Some(link) = number(link) else {
         return Ok(None);
     };
@@ -102,68 +93,51 @@ fn bytes_event(alloc: Global, link: &[u8], piece: &[u8]) -> Result<Option<Event>
     Ok(Some(Event::Bytes(link, piece)))
 }
 
-fn drain_event(link: &[u8], most: &[u8]) -> Option<Event>
-    ensures { option_map heard result ≡ event_of (Some Verb.Drain) (link.now ∷ most.now ∷ []) }
+/// `drain LINK NUMBER`
+fn drain(words: &[&[u8]]) -> Option<Event>
+    ensures { option_map heard result ≡ drain (map (λ w. w.now) words.now) }
 {
+    let [link, most] = words else {
+        return None;
+    };
     let link = number(link)?;
     let most = number(most)?;
     Some(Event::Drain(link, most as usize))
 }
 
-/// The words behind `call`.
+/// What stands behind `call`.
 fn call(alloc: Global, words: &[&[u8]]) -> Result<Option<Call>, NoMemory>
     ensures { IfOk result (λ c. option_map asked c ≡ call (map (λ w. w.now) words.now)) }
 {
     let Some((word, rest)) = words.split_first() else {
         return Ok(None);
     };
-    match (asks_of(word), rest) {
-        (Some(Asks::Build), []) => Ok(Some(Call::Build)),
-        (Some(Asks::Topics), [namespace, mode]) => topics_call(alloc, namespace, mode),
-        _ => Ok(None),
-    }
-}
-
-/// The word is this text.
-fn is(word: &[u8], text: &str) -> bool
-    ensures { result ≡ bytes_eq word.now text.now }
-{
-    word == text.as_bytes()
-}
-
-/// The first word of an event line.
-fn verb_of(word: &[u8]) -> Option<Verb>
-    ensures { result ≡ verb_of word.now }
-{
-    if is(word, "call") {
-        Some(Verb::Call)
-    } else if is(word, "opened") {
-        Some(Verb::Opened)
-    } else if is(word, "bytes") {
-        Some(Verb::Bytes)
-    } else if is(word, "drain") {
-        Some(Verb::Drain)
-    } else {
-        None
-    }
-}
-
-/// The word behind `call`.
-fn asks_of(word: &[u8]) -> Option<Asks>
-    ensures { result ≡ asks_of word.now }
-{
     if is(word, "build") {
-        Some(Asks::Build)
+        Ok(build(rest))
     } else if is(word, "topics") {
-        Some(Asks::Topics)
+        topics(alloc, rest)
     } else {
-        None
+        Ok(None)
     }
 }
 
-fn topics_call(alloc: Global, namespace: &[u8], word: &[u8]) -> Result<Option<Call>, NoMemory>
-    ensures { IfOk result (λ c. option_map asked c ≡ call_of (Some Asks.Topics) (namespace.now ∷ word.now ∷ [])) }
+/// `call build`
+fn build(words: &[&[u8]]) -> Option<Call>
+    ensures { option_map asked result ≡ build (map (λ w. w.now) words.now) }
 {
+    match words {
+        [] => Some(Call::Build),
+        _ => None,
+    }
+}
+
+/// `call topics NAMESPACE MODE`
+fn topics(alloc: Global, words: &[&[u8]]) -> Result<Option<Call>, NoMemory>
+    ensures { IfOk result (λ c. option_map asked c ≡ topics (map (λ w. w.now) words.now)) }
+{
+    let [namespace, word] = words else {
+        return Ok(None);
+    };
     let Some(namespace) = text(alloc, namespace)? else {
         return Ok(None);
     };
@@ -171,6 +145,13 @@ fn topics_call(alloc: Global, namespace: &[u8], word: &[u8]) -> Result<Option<Ca
         return Ok(None);
     };
     Ok(Some(Call::Topics { namespace, mode }))
+}
+
+/// The word is this text.
+fn is(word: &[u8], text: &str) -> bool
+    ensures { result ≡ bytes_eq word.now text.now }
+{
+    word == text.as_bytes()
 }
 
 fn mode(word: &[u8]) -> Option<Mode>

@@ -1,6 +1,6 @@
 //! Where bytes go to.
 
-ghost use Rattle.std.specs.Prelude.{◌≡◌, ◌≤◌, ◌<◌, ◌++◌, ℕ, List, Option, Some, IfOk, OnErr, length, take};
+ghost use Rattle.std.specs.Prelude.{◌≡◌, ◌≤◌, ◌<◌, ◌++◌, [], ℕ, List, Option, Some, IfOk, OnErr, length, take};
 ghost use Rattle.pulsar_client.specs.Outside.{Rose};
 
 use crate::outside::Failed;
@@ -33,7 +33,11 @@ pub struct MemorySink {
 }
 
 impl MemorySink {
-    pub fn new(alloc: Global) -> MemorySink {
+    /// It holds nothing.
+    pub fn new(alloc: Global) -> MemorySink
+        ensures holds { ⟦<MemorySink as Sink>⟧.holds result ≡ Some [] }
+        ensures faults { ⟦<MemorySink as Sink>⟧.faults result ≡ 0 }
+    {
         MemorySink {
             bytes: Vec::new(alloc),
             faults: 0,
@@ -41,7 +45,9 @@ impl MemorySink {
     }
 
     /// What it holds.
-    pub fn bytes(&self) -> &[u8] {
+    pub fn bytes(&self) -> &[u8]
+        ensures { ⟦<MemorySink as Sink>⟧.holds self.now ≡ Some result.now }
+    {
         &self.bytes
     }
 }
@@ -73,8 +79,11 @@ pub struct FailingSink {
 }
 
 impl FailingSink {
-    /// It fails at these calls, and takes `most` bytes at a time at the most.
-    pub fn new(alloc: Global, fails: Vec<u64>, most: usize) -> FailingSink {
+    /// It holds nothing, fails at these calls, and takes `most` bytes at a time at the most.
+    pub fn new(alloc: Global, fails: Vec<u64>, most: usize) -> FailingSink
+        ensures holds { ⟦<FailingSink as Sink>⟧.holds result ≡ Some [] }
+        ensures faults { ⟦<FailingSink as Sink>⟧.faults result ≡ 0 }
+    {
         FailingSink {
             bytes: Vec::new(alloc),
             fails,
@@ -85,7 +94,9 @@ impl FailingSink {
     }
 
     /// What it holds.
-    pub fn bytes(&self) -> &[u8] {
+    pub fn bytes(&self) -> &[u8]
+        ensures { ⟦<FailingSink as Sink>⟧.holds self.now ≡ Some result.now }
+    {
         &self.bytes
     }
 }

@@ -42,6 +42,7 @@ impl Model for MemorySource {
 }
 
 impl MemorySource {
+    /// It has these bytes left.
     pub fn new(bytes: Vec<u8>) -> MemorySource
         ensures { result ≡ bytes.items }
     {
@@ -81,7 +82,11 @@ pub struct FailingSource {
 }
 
 impl FailingSource {
-    pub fn new(bytes: Vec<u8>, fails: Vec<u64>) -> FailingSource {
+    /// It has these bytes left, and fails at these calls.
+    pub fn new(bytes: Vec<u8>, fails: Vec<u64>) -> FailingSource
+        ensures left { ⟦<FailingSource as Source>⟧.left result ≡ Some bytes.items }
+        ensures faults { ⟦<FailingSource as Source>⟧.faults result ≡ 0 }
+    {
         FailingSource {
             source: MemorySource::new(bytes),
             fails,

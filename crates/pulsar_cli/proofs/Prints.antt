@@ -124,8 +124,8 @@ pub refusing-stopped : {r : Reading} {old now : Option (List ℕ)} {bytes : List
 refusing-stopped p = stopped (p.bad ∷ p.after) p.reads p.adds p.apart
 
 -- the text of the lines before, and the refusal
-refused-text : {r : Reading} {old now : Option (List ℕ)} {bytes : List ℕ} (r' : Reading) (p : Refusing r old now bytes) → string_bytes r'.out ≡ string_bytes r.out ++ refusal r.line → text p.history ++ refusal (length p.read + 1) ≡ p.put ++ string_bytes r'.out
-refused-text {r} r' p out =
+refused-text : {r : Reading} {old now : Option (List ℕ)} {bytes : List ℕ} (held : List ℕ) (p : Refusing r old now bytes) → held ≡ string_bytes r.out ++ refusal r.line → text p.history ++ refusal (length p.read + 1) ≡ p.put ++ held
+refused-text {r} held p out =
     ap (λ (t : List ℕ). t ++ refusal (length p.read + 1)) (sym p.reads.text)
     ∙ append_assoc p.put (string_bytes r.out) (refusal (length p.read + 1))
     ∙ ap (λ n. p.put ++ (string_bytes r.out ++ refusal n)) (sym p.reads.number)
@@ -136,13 +136,13 @@ refused-here p prints begins =
     record { before = p.read; bad = p.bad; after = p.after; apart = p.apart; refused = p.refused; history = p.history; run = run-of p.reads; prints = prints; begins = begins }
 
 -- the refusal was put, or the sink failed
-pub refused-put : {r : Reading} {old now new : Option (List ℕ)} {bytes : List ℕ} {rose : Type 0} (r' : Reading) (result : Result (Unit {0}) Stop) (p : Refusing r old now bytes) → string_bytes r'.out ≡ string_bytes r.out ++ refusal r.line → OnOk result (Adds now new (string_bytes r'.out)) → IfErr result (λ s. (s ≡ stop.Sink) × AddsFront now new (string_bytes r'.out) × rose) → IsRefused bytes old new (rose → ⊥)
-refused-put {r} r' (Ok done) p out put failed =
-    let e = refused-text r' p out in
-    let adds = adds-more p.put (string_bytes r'.out) p.adds put in
-    refused-here p (λ faultless. rw e adds) (rw e (record { front = p.put ++ string_bytes r'.out; back = []; whole = sym (append-nil (p.put ++ string_bytes r'.out)); adds = adds }))
-refused-put {r} r' (Err s) p out put failed =
-    let e = refused-text r' p out in
+pub refused-put : {r : Reading} {old now new : Option (List ℕ)} {bytes : List ℕ} {rose : Type 0} (held : List ℕ) (result : Result (Unit {0}) Stop) (p : Refusing r old now bytes) → held ≡ string_bytes r.out ++ refusal r.line → OnOk result (Adds now new held) → IfErr result (λ s. (s ≡ stop.Sink) × AddsFront now new held × rose) → IsRefused bytes old new (rose → ⊥)
+refused-put {r} held (Ok done) p out put failed =
+    let e = refused-text held p out in
+    let adds = adds-more p.put held p.adds put in
+    refused-here p (λ faultless. rw e adds) (rw e (record { front = p.put ++ held; back = []; whole = sym (append-nil (p.put ++ held)); adds = adds }))
+refused-put {r} held (Err s) p out put failed =
+    let e = refused-text held p out in
     let more = failed.1 in
     refused-here p (λ faultless. absurd (faultless failed.2)) (rw e (record { front = p.put ++ more.front; back = more.back; whole = ap (λ (t : List ℕ). p.put ++ t) more.whole ∙ sym (append_assoc p.put more.front more.back); adds = adds-more p.put more.front p.adds more.adds }))
 

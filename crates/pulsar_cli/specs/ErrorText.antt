@@ -160,7 +160,7 @@ outcome (Err e) = codes " err:" ++ first_word e
 abbrev pub outcomes : List (Result ℕ Error) → List ℕ
 outcomes all = 32 ∷ decimal (length all) ++ flat_map outcome all
 
--- behind the first word; an error that holds an error has the whole text of that one
+-- Behind the first word: an error that holds an error has the whole text of that one. `items` is the row of outcomes as a list.
 abbrev mutual
   pub producer_detail : ProducerError → List ℕ
   producer_detail (producer.Connection e) = fault_detail (fault e)

@@ -5,6 +5,7 @@ ghost use Rattle.pulsar_client.specs.Outside.{Rose};
 ghost use Rattle.pulsar_cli.specs.Script.{Adds, AddsFront, IsDone, InGrammar, Limits, Ran, is_script, limit};
 ghost use Rattle.pulsar_cli.specs.Shown.{read_status, Ends, Faults, Halts, InTurn, Prints, Refusing, Running, status_of};
 
+use crate::printing::effect::push_refusal;
 use crate::reading::Reading;
 use crate::stop::Stop;
 use pulsar_client::outside::sink::Sink;
@@ -165,7 +166,7 @@ fn refused<K: Sink>(reading: &mut Reading, sink: &mut K) -> Status
     ensures status { (result ≡ 1) ⊎ (result ≡ 3) }
     ensures grows { K.faults sink.old ≤ K.faults sink.new }
 {
-    let Ok(()) = reading.refuse() else {
+    let Ok(()) = push_refusal(&mut reading.out, reading.line) else {
         return NO_MEMORY;
     };
     let _ = flush(reading, sink);

@@ -7,11 +7,11 @@ ghost use Rattle.pulsar_client.specs.Good.{Step};
 ghost use Rattle.pulsar_cli.specs.Grammar.{Refused, line as meaning};
 ghost use Rattle.pulsar_cli.specs.Script.{options};
 ghost use Rattle.pulsar_cli.specs.Shown.{Reads, Refuses, Running, line_of};
-ghost use Rattle.pulsar_cli.specs.Text.{refusal, step};
+ghost use Rattle.pulsar_cli.specs.Text.{step};
 
 use crate::grammar::line::{Line, parse};
 use crate::grammar::word::cut_line;
-use crate::printing::effect::{push_refusal, push_step};
+use crate::printing::effect::push_step;
 use crate::stop::Stop;
 use pulsar_client::event::Event;
 use pulsar_client::options::ClientOptions;
@@ -145,16 +145,6 @@ impl Reading {
         };
         self.events = next(self.events)?;
         Ok(())
-    }
-
-    /// The refusal of the line that comes.
-    pub fn refuse(&mut self) -> Result<(), Stop>
-        ensures { OnOk result (string_bytes self.new.out ≡ string_bytes self.old.out ++ refusal self.old.line) }
-    {
-        match push_refusal(&mut self.out, self.line) {
-            Ok(()) => Ok(()),
-            Err(_) => Err(Stop::NoMemory),
-        }
     }
 }
 

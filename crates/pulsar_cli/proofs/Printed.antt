@@ -1,5 +1,5 @@
 -- Plain facts on words and their printing.
-use Rattle.std.proofs.Common.{◌==◌, Bool, true, false, if◌then◌else◌, ◌≡◌, ℕ, ◌∙◌, ap, List, [], ◌∷◌, ◌++◌, refl, Option, Some, None, append_assoc}
+use Rattle.std.proofs.Common.{◌==◌, Bool, true, false, if◌then◌else◌, ◌≡◌, ℕ, ap, List, [], ◌∷◌, ◌++◌, refl, Option, Some, None, append_assoc}
 use Rattle.pulsar_wire.specs.Field.{◌>>=◌}
 use Rattle.std.specs.Str.{IsUtf8, is_utf8}
 use Rattle.std.proofs.lemmas.Str.{IsUtf8-from_is_utf8, is_utf8-from_IsUtf8}

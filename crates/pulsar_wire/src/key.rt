@@ -1,5 +1,9 @@
 //! What tells the requests of a connection apart.
 
+ghost use Rattle.std.specs.Prelude.{◌≡◌, Ok};
+
+use crate::error::NoMemory;
+
 /// What a request and its answer have in common. Keys are ordered by their kind, in the order written here, and then
 /// by their numbers.
 #[derive(Clone, Copy, Debug, PartialEq, Eq, PartialOrd, Ord)]
@@ -9,4 +13,13 @@ pub enum RequestKey {
     Consumer { consumer_id: u64 },
     CloseConsumer { consumer_id: u64, request_id: u64 },
     AuthChallenge,
+}
+
+impl RequestKey {
+    /// The same key.
+    pub fn copy(&self) -> Result<RequestKey, NoMemory>
+        ensures { result ≡ Ok self.now }
+    {
+        Ok(*self)
+    }
 }

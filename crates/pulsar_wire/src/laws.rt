@@ -2,12 +2,13 @@
 
 ghost use Rattle.std.specs.Prelude.{◌≡◌, MatchResult};
 ghost use Rattle.std.specs.Bool.{Decides};
-ghost use Rattle.pulsar_wire.specs.Ids.{id_order};
+ghost use Rattle.pulsar_wire.specs.Ids.{id_order, key_order};
 ghost use Rattle.pulsar_wire.specs.Views.{message_id_values};
 ghost use Rattle.pulsar_wire.specs.Laws.{MessagesReadAgain, CommandsReadAgain, SettledCommandsReadAgain, OneMeaning, OneSpelling, KnownBodiesAreRows, UnknownFieldsAreSkipped, UnknownBodiesAreSkipped};
 
 use crate::commands::ids::MessageIdData;
 use crate::error::ConnectionError;
+use crate::key::RequestKey;
 use crate::wire::Wire;
 use std::alloc::Global;
 use std::cmp::Ordering;
@@ -75,6 +76,13 @@ pub fn ids_are_equal(a: &MessageIdData, b: &MessageIdData) -> bool
 #[tactic(auto, unfolding(crate::specs::Views::message_id_values))]
 pub fn ids_are_ordered(a: &MessageIdData, b: &MessageIdData) -> Ordering
     ensures { result ≡ id_order (message_id_values a.now) (message_id_values b.now) }
+{
+    a.cmp(b)
+}
+
+/// Keys are ordered by their kind, and then by their numbers.
+pub fn keys_are_ordered(a: &RequestKey, b: &RequestKey) -> Ordering
+    ensures { result ≡ key_order a.now b.now }
 {
     a.cmp(b)
 }

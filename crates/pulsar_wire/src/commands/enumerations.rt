@@ -1,8 +1,10 @@
 //! The choices of the protocol that commands carry as a number.
 
-ghost use Rattle.std.specs.Prelude.{◌≡◌, ◌↔◌, Some};
+ghost use Rattle.std.specs.Prelude.{◌≡◌, ◌↔◌, Ok, Some};
 ghost use Rattle.pulsar_wire.specs.Enumerations.{error_number, error_of, initial_position_number, sub_type_number};
 ghost use Rattle.pulsar_wire.specs.declared.commands.enumerations.ServerError.{ServerError};
+
+use crate::error::NoMemory;
 
 /// Why the broker refused a command.
 #[derive(Clone, Copy, Debug, PartialEq, Eq)]
@@ -142,6 +144,15 @@ pub enum InitialPosition {
     Latest,
     /// At the first message.
     Earliest,
+}
+
+impl InitialPosition {
+    /// The same position.
+    pub fn copy(&self) -> Result<InitialPosition, NoMemory>
+        ensures { result ≡ Ok self.now }
+    {
+        Ok(*self)
+    }
 }
 
 impl From<InitialPosition> for i32 {

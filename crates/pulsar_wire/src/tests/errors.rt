@@ -6,6 +6,7 @@ use crate::error::{
     AuthenticationError, ConnectionError, ConsumerError, Error, IoKind, NoMemory, ProducerError,
     Reason, ServiceDiscoveryError,
 };
+use crate::key::RequestKey;
 use std::alloc::{AllocError, Global};
 use std::fmt::Display;
 use std::process::Abort;
@@ -85,7 +86,14 @@ fn choices_have_numbers(rt: HostRuntime) {
     assert_eq!(rt; i32::from(SubType::Shared), 1);
     assert_eq!(rt; i32::from(SubType::Failover), 2);
     assert_eq!(rt; i32::from(SubType::KeyShared), 3);
-    assert_eq!(rt; InitialPosition::default(), InitialPosition::Latest);
+    assert_eq!(rt;
+        InitialPosition::default().copy(),
+        Ok(InitialPosition::Latest)
+    );
+    assert_eq!(rt;
+        RequestKey::AuthChallenge.copy(),
+        Ok(RequestKey::AuthChallenge)
+    );
     assert_eq!(rt; i32::from(InitialPosition::Latest), 0);
     assert_eq!(rt; i32::from(InitialPosition::Earliest), 1);
 }

@@ -1,4 +1,4 @@
-use Rattle.std.proofs.Common.{rules, arith, ◌≡◌, ◌%◌, ◌∙◌}
+use Rattle.std.proofs.Common.{arith, ◌∙◌}
 use Rattle.pulsar_speed.proofs.Blocks.{block_read, nothing_held}
 use Rattle.pulsar_speed.specs.Samples.{AreFrames}
 use Rattle.pulsar_speed.proofs.decoding.decode.Goals as goal

@@ -6,3 +6,4 @@ pub mod Keys
 pub mod Crc
 pub mod Changes
 pub mod Folding
+pub mod Batches

@@ -8,3 +8,4 @@ pub mod History
 pub mod Laws
 pub mod Checksum
 pub mod Residue
+pub mod Batch

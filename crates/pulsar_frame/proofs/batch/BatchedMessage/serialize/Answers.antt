@@ -1,0 +1,18 @@
+use Rattle.std.proofs.Common.{◌≡◌, length, arith}
+use Rattle.pulsar_wire.specs.Row.{spelling}
+use Rattle.pulsar_wire.specs.Rows.{single_message_metadata}
+use Rattle.pulsar_frame.specs.Batch.{FitsSize, FitsPayload, entry_values}
+use Rattle.pulsar_frame.proofs.Batches.{entry-written}
+use Rattle.pulsar_frame.proofs.batch.BatchedMessage.serialize.Goals as goal
+
+pub returns : goal.returns
+returns c =
+    let entry = entry_values c.args.self.now in
+    let fits : FitsSize entry = omega (arith, c.encoded_len.ensures, c.in-Ok.ensures) in
+    let small : FitsPayload entry = omega (arith, c.if-len-gt-MAX_PAYLOAD.false) in
+    let size : c.in-Ok.size ≡ length (spelling single_message_metadata entry.metadata) = omega (arith, c.encoded_len.ensures, c.in-Ok.ensures) in
+    let whole =
+    entry-written entry c.in-Ok.size c.new-entry.result.items _ c.extend_from_slice.new.self.items c.encode.new.out.items _ c.extend_from_slice-2.new.self.items _ c.args.w.now.items _
+    size c.new-entry.ensures.items c.to_be_bytes.ensures c.in_ok-extend_from_slice.ensures.items c.in_ok-encode.ensures.ok c.deref.ensures.value
+    c.in_ok-extend_from_slice-2.ensures.items c.deref-2.ensures.value c.in_ok-extend_from_slice-3.ensures.items in
+    (fits, small, whole)

@@ -1,0 +1,117 @@
+//! Batches: several messages in one payload.
+
+ghost use Rattle.std.specs.Prelude.{◌≡◌, map};
+ghost use Rattle.std.specs.Option.{option_map};
+ghost use Rattle.pulsar_wire.specs.Field.{bytes_at};
+ghost use Rattle.pulsar_wire.specs.Shown.{Gives};
+ghost use Rattle.pulsar_frame.specs.Batch.{AppendsEntry, ReadsEntries, entries, entry_at, entry_values, payload_at};
+ghost use Rattle.pulsar_frame.specs.Sized.{sized_at};
+
+use pulsar_wire::commands::metadata::SingleMessageMetadata;
+use pulsar_wire::encoding::message::{decode, encode, encoded_len};
+use pulsar_wire::encoding::read_error::ReadError;
+use pulsar_wire::error::{ConnectionError, Reason};
+use std::alloc::Global;
+
+/// The greatest size of a payload: an i32 says it.
+const MAX_PAYLOAD: usize = 0x7fff_ffff;
+
+/// One message of a batch.
+#[derive(Debug, PartialEq, Eq, Drop)]
+pub struct BatchedMessage {
+    pub metadata: SingleMessageMetadata,
+    pub payload: Vec<u8>,
+}
+
+impl BatchedMessage {
+    /// Writes its entry behind what `w` has, with the metadata as it is: whoever fills it sets `payload_size` to the
+    /// size of the payload. The answer is `Encoding(Frame)` exactly where the size of the metadata does not fit a u32,
+    /// and else `Encoding(Batch)` exactly where that of the payload does not fit an i32, and there is no other error but
+    /// want of memory. In these `w` stays as it was.
+    pub fn serialize(&self, w: &mut Vec<u8>) -> Result<(), ConnectionError>
+        ensures { AppendsEntry result (entry_values self.now) w.old.items w.new.items }
+    {
+        let Ok(size) = u32::try_from(encoded_len(&self.metadata)) else {
+            return Err(ConnectionError::Encoding(Reason::Frame));
+        };
+        if self.payload.len() > MAX_PAYLOAD {
+            return Err(ConnectionError::Encoding(Reason::Batch));
+        }
+        let mut entry = Vec::new(*w.allocator());
+        entry.extend_from_slice(&size.to_be_bytes())?;
+        encode(&self.metadata, &mut entry)?;
+        entry.extend_from_slice(&self.payload)?;
+        w.extend_from_slice(&entry)?;
+        Ok(())
+    }
+}
+
+/// The first `count` entries of a payload. It is `Decoding(Batch)` exactly where one of them is cut, broken or of negative
+/// size, and there is no other error but want of memory. What follows them is not looked at.
+pub fn parse_batched_message(
+    alloc: Global,
+    count: u32,
+    payload: &[u8],
+) -> Result<Vec<BatchedMessage>, ConnectionError>
+    ensures { ReadsEntries result (entries count payload.now) }
+{
+    match read_entries(alloc, count, payload) {
+        Ok(entries) => Ok(entries),
+        Err(ReadError::Malformed) => Err(ConnectionError::Decoding(Reason::Batch)),
+        Err(ReadError::NoMemory) => Err(ConnectionError::NoMemory),
+    }
+}
+
+fn read_entries(alloc: Global, count: u32, payload: &[u8]) -> Result<Vec<BatchedMessage>, ReadError>
+    ensures { Gives (λ ms. map entry_values ms.items) result (entries count payload.now) }
+{
+    // the count is from outside: memory is taken as entries come
+    let mut entries = Vec::new(alloc);
+    let mut rest = payload;
+    for _ in 0..count {
+        let (entry, after) = read_entry(alloc, rest)?;
+        entries.push(entry)?;
+        rest = after;
+    }
+    Ok(entries)
+}
+
+/// The entry in front, and the bytes after it.
+#[tactic(auto, unfolding(crate::specs::Batch::entry_at, pulsar_wire::specs::Views::single_message_metadata_values))]
+fn read_entry(alloc: Global, bytes: &[u8]) -> Result<(BatchedMessage, &[u8]), ReadError>
+    ensures { Gives (λ x. (entry_values x.0, x.1.now)) result (entry_at bytes.now) }
+{
+    let Some((metadata, rest)) = split_sized(bytes) else {
+        return Err(ReadError::Malformed);
+    };
+    let metadata: SingleMessageMetadata = decode(alloc, metadata)?;
+    let Some((payload, rest)) = split_payload(metadata.payload_size, rest) else {
+        return Err(ReadError::Malformed);
+    };
+    let payload = payload.to_vec(alloc)?;
+    Ok((BatchedMessage { metadata, payload }, rest))
+}
+
+/// The bytes that the size in front counts, and the bytes after them.
+#[tactic(auto, unfolding(crate::specs::Sized::sized_at, pulsar_wire::specs::Field::bytes_at))]
+fn split_sized(bytes: &[u8]) -> Option<(&[u8], &[u8])>
+    ensures { option_map (λ x. (x.0.now, x.1.now)) result ≡ sized_at bytes.now }
+{
+    let (size, rest) = bytes.split_first_chunk()?;
+    split_bytes(u32::from_be_bytes(*size) as usize, rest)
+}
+
+/// The bytes of a payload of this size, and the bytes after them.
+#[tactic(auto, unfolding(crate::specs::Batch::payload_at))]
+fn split_payload(size: i32, bytes: &[u8]) -> Option<(&[u8], &[u8])>
+    ensures { option_map (λ x. (x.0.now, x.1.now)) result ≡ payload_at size bytes.now }
+{
+    split_bytes(usize::try_from(size).ok()?, bytes)
+}
+
+#[tactic(auto, unfolding(pulsar_wire::specs::Field::bytes_at))]
+fn split_bytes(len: usize, bytes: &[u8]) -> Option<(&[u8], &[u8])>
+    ensures { option_map (λ x. (x.0.now, x.1.now)) result ≡ bytes_at len bytes.now }
+{
+    bytes.split_at_checked(len)
+}

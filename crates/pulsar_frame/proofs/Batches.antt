@@ -1,15 +1,18 @@
 -- The entries of a batch, one by one.
-use Rattle.std.proofs.Common.{◌≡◌, ℕ, suc, List, [], ◌∷◌, ◌++◌, length, Option, Some, None, refl, sym, ap, ◌∙◌, append_assoc}
-use Rattle.std.proofs.lemmas.List.{append-nil}
+use Rattle.std.proofs.Common.{◌≡◌, ℕ, zero, suc, ℤ, pos, List, [], ◌∷◌, ◌++◌, length, Option, Some, None, refl, sym, ap, ◌∙◌, append_assoc, arith}
+use Rattle.std.specs.List.{flat_map, AllByRecursion}
 use Rattle.std.specs.Int.{w32, to_be_bytes}
-use Rattle.pulsar_wire.specs.Row.{spelling}
-use Rattle.pulsar_wire.specs.Rows.{single_message_metadata}
+use Rattle.std.proofs.lemmas.List.{append-nil}
+use Rattle.pulsar_wire.specs.At.{int32_at}
 use Rattle.pulsar_wire.specs.Field.{◌>>=◌}
-use Rattle.pulsar_frame.specs.Batch.{EntryValues, entry_at, entries, entry_bytes}
-use Rattle.pulsar_frame.specs.Sized.{with_size}
-
-abbrev some : {A : Type 0} → A → Option A
-some x = Some x
+use Rattle.pulsar_wire.specs.Row.{Values, reading, spelling}
+use Rattle.pulsar_wire.specs.Rows.{message_id, message_metadata, single_message_metadata}
+use Rattle.pulsar_wire.proofs.Fields.{bind_some, some, some_is}
+use Rattle.pulsar_wire.proofs.RoundTrip.{round_trip}
+use Rattle.pulsar_frame.specs.Batch.{EntryValues, PayloadValues, Item, batch_count, batch_items, payload_at, entry_at, entries, item, items_from, entry_bytes, batch_bytes, IsSound}
+use Rattle.pulsar_frame.specs.Sized.{sized_at, with_size}
+use Rattle.pulsar_frame.proofs.Sized.{bytes_at-front}
+use Rattle.pulsar_frame.proofs.Written.{sized_at-with_size}
 
 -- entries that were read, and those that follow
 abbrev pub with_done : List EntryValues → Option (List EntryValues) → Option (List EntryValues)
@@ -53,3 +56,77 @@ pub entry-written : (e : EntryValues) (size : ℕ) (none head sized described pa
 unfolding entry_bytes with_size
 entry-written e size none head sized described payload whole copy old new counted empty spelled first then paid all copied put =
     rw (put, copied, all, paid, then, first, empty, spelled, counted) refl
+
+-- ---- what was written is read
+
+entry_at-parts : (bytes described rest payload after : List ℕ) (vs : Values single_message_metadata) (z : ℤ) → sized_at bytes ≡ Some (described, rest) → reading single_message_metadata described ≡ Some vs
+    → int32_at 3 single_message_metadata vs ≡ Some z → payload_at z rest ≡ Some (payload, after) → entry_at bytes ≡ Some (record { metadata = vs; payload = payload }, after)
+unfolding entry_at
+entry_at-parts bytes described rest payload after vs z sized read says paid =
+    let size : vs.1.1.0 ≡ z = some_is _ _ says in
+    rw (sized, read, size, paid) refl
+
+payload_at-front : (x t : List ℕ) → payload_at (pos (length x)) (x ++ t) ≡ Some (x, t)
+unfolding payload_at
+payload_at-front x t = bytes_at-front (length x) x t refl
+
+-- an entry is read again, whatever follows
+pub entry-again : (e : EntryValues) (t : List ℕ) → IsSound e → entry_at (entry_bytes e ++ t) ≡ Some (e, t)
+unfolding entry_bytes
+entry-again e t sound =
+    let again : reading single_message_metadata (spelling single_message_metadata e.metadata) ≡ Some e.metadata =
+    round_trip single_message_metadata e.metadata refl (sound.0, omega (arith, sound.1)) in
+    rw append_assoc (entry_at-parts _ _ (e.payload ++ t) e.payload t e.metadata (pos (length e.payload)) (sized_at-with_size (spelling single_message_metadata e.metadata) (e.payload ++ t) sound.1) again sound.2 (payload_at-front e.payload t))
+
+batch-first : (e : EntryValues) (es : List EntryValues) (t : List ℕ) → IsSound e → entries (length es) (flat_map entry_bytes es ++ t) ≡ Some es
+    → entries (suc (length es)) ((entry_bytes e ++ flat_map entry_bytes es) ++ t) ≡ Some (e ∷ es)
+batch-first e es t sound others =
+    rw append_assoc (entries-first (length es) (entry_bytes e ++ (flat_map entry_bytes es ++ t)) (flat_map entry_bytes es ++ t) e (entry-again e (flat_map entry_bytes es ++ t) sound) ∙ ap (with_done (e ∷ [])) others)
+
+entries-zero : (bytes : List ℕ) → entries 0 bytes ≡ Some []
+unfolding entries
+entries-zero bytes = refl
+
+-- entries are read again, whatever follows
+pub batch-again : (es : List EntryValues) (t : List ℕ) → AllByRecursion IsSound es → entries (length es) (batch_bytes es ++ t) ≡ Some es
+unfolding batch_bytes
+batch-again [] t sound = entries-zero t
+batch-again (e ∷ es) t sound = batch-first e es t sound.0 (batch-again es t sound.1)
+
+-- ---- the messages of a batch
+
+-- one message is made
+pub items-next : (id : Values message_id) (m : Values message_metadata) (done new : List Item) (y : Item) (e : EntryValues) (left rest : List EntryValues) (n k : ℕ) (all : List Item)
+    → new ≡ done ++ (y ∷ []) → y ≡ item n id m e → left ≡ e ∷ rest → k ≡ suc n → done ++ items_from n id m left ≡ all → new ++ items_from k id m rest ≡ all
+unfolding items_from
+items-next id m done new y e left rest n k all pushed made first counted before =
+    rw (pushed, made, counted) (append_assoc done (item n id m e ∷ []) (items_from (suc n) id m rest) ∙ rw first at before)
+
+-- none is left to be made
+pub items-done : (id : Values message_id) (m : Values message_metadata) (done : List Item) (left : List EntryValues) (n : ℕ) (all : List Item)
+    → left ≡ [] → done ++ items_from n id m left ≡ all → done ≡ all
+unfolding items_from
+items-done id m done left n all none before = sym (append-nil done) ∙ rw none at before
+
+-- so many entries are read as are asked for
+pub entries-length : (n : ℕ) (bytes : List ℕ) (es : List EntryValues) → entries n bytes ≡ Some es → length es ≡ n
+unfolding entries
+entries-length zero bytes es e = ap length (sym (some_is [] es e))
+entries-length (suc n) bytes es e =
+    let first = bind_some (entry_at bytes) _ es e in
+    let others = bind_some (entries n first.0.1) _ es first.2 in
+    rw (← some_is _ _ others.2) (ap suc (entries-length n first.0.1 others.0 others.1))
+
+-- what a payload holds, step by step
+
+pub batch_items-uncounted : (id : Values message_id) (p : PayloadValues) → batch_count p.metadata ≡ None → batch_items id p ≡ None
+unfolding batch_items
+batch_items-uncounted id p none = rw none refl
+
+pub batch_items-refused : (id : Values message_id) (p : PayloadValues) (n : ℕ) → batch_count p.metadata ≡ Some n → entries n p.bytes ≡ None → batch_items id p ≡ None
+unfolding batch_items
+batch_items-refused id p n count none = rw (count, none) refl
+
+pub batch_items-read : (id : Values message_id) (p : PayloadValues) (n : ℕ) (es : List EntryValues) → batch_count p.metadata ≡ Some n → entries n p.bytes ≡ Some es → batch_items id p ≡ Some (items_from 0 id p.metadata es)
+unfolding batch_items
+batch_items-read id p n es count read = rw (count, read) refl

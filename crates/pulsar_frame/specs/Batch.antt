@@ -1,11 +1,13 @@
 -- Batches: several messages in one payload.  (Pulsar binary protocol, Batch messages)
-use Rattle.std.specs.Prelude.{◌≡◌, ℕ, zero, suc, ℤ, pos, negsuc, ◌^◌, ◌<◌, List, [], ◌∷◌, ◌++◌, length, Option, Some, None, Result, Ok, Err, map}
-use Rattle.std.specs.Global.{Vec}
+use Rattle.std.specs.Prelude.{◌≡◌, ℕ, zero, suc, ℤ, pos, negsuc, ◌^◌, ◌<◌, List, [], ◌∷◌, ◌++◌, length, Option, Some, None, Result, Ok, Err}
+use Rattle.std.specs.List.{flat_map, AllByRecursion}
 use Rattle.pulsar_wire.specs.Field.{◌>>=◌, bytes_at}
-use Rattle.pulsar_wire.specs.Row.{Values, reading, spelling}
+use Rattle.pulsar_wire.specs.Row.{Values, ◌&◌, reading, spelling}
+use Rattle.pulsar_wire.specs.Fits.{InRange}
+use Rattle.pulsar_wire.specs.declared.commands.ids.MessageIdData.{MessageIdData}
 use Rattle.pulsar_wire.specs.At.{int32_at}
-use Rattle.pulsar_wire.specs.Rows.{message_metadata, single_message_metadata}
-use Rattle.pulsar_wire.specs.Views.{message_metadata_values, single_message_metadata_values}
+use Rattle.pulsar_wire.specs.Rows.{key_value, message_id, message_metadata, single_message_metadata}
+use Rattle.pulsar_wire.specs.Views.{message_id_values, message_metadata_values, single_message_metadata_values}
 use Rattle.pulsar_wire.specs.declared.error.ConnectionError.{ConnectionError}
 use Rattle.pulsar_wire.specs.declared.error.ConnectionError.TheVariants.{Decoding, Encoding, NoMemory}
 use Rattle.pulsar_wire.specs.declared.error.Reason.TheVariants.{Frame, Batch}
@@ -54,12 +56,75 @@ entries (suc n) bytes = do
   others ← entries n first.1
   Some (first.0 ∷ others)
 
--- A call reads the entries of a batch, or Decoding says that they are not there. Memory may run out.
-abbrev pub ReadsEntries : Result (Vec BatchedMessage) ConnectionError → Option (List EntryValues) → Type 0
-ReadsEntries (Ok ms) reading = reading ≡ Some (map entry_values ms.items)
-ReadsEntries (Err (Decoding Batch)) reading = reading ≡ None
-ReadsEntries (Err NoMemory) reading = Unit {0}
-ReadsEntries (Err _) reading = ⊥
+-- A call reads what a batch holds, seen by view, or Decoding says that it is broken. Memory may run out.
+abbrev pub ReadsBatch : {X Y : Type 0} → (X → Y) → Result X ConnectionError → Option Y → Type 0
+ReadsBatch view (Ok x) reading = reading ≡ Some (view x)
+ReadsBatch view (Err (Decoding Batch)) reading = reading ≡ None
+ReadsBatch view (Err NoMemory) reading = Unit {0}
+ReadsBatch view (Err _) reading = ⊥
+
+-- ---- the messages of a batch
+
+-- a message by itself: its id, and its payload
+abbrev pub Item : Type 0
+Item = Values message_id × PayloadValues
+
+abbrev pub item_values : MessageIdData × Payload → Item
+item_values x = (message_id_values x.0, payload_values x.1)
+
+-- field 11 of a frame's metadata
+abbrev pub num_messages_in_batch : Values message_metadata → Option ℤ
+num_messages_in_batch m = m.1.1.1.1.1.1.1.1.1.0
+
+-- fields 1, 2, 5 and 7 of an entry's metadata
+
+abbrev pub properties : Values single_message_metadata → List (Values key_value)
+properties e = e.0
+
+abbrev pub partition_key : Values single_message_metadata → Option (List ℕ)
+partition_key e = e.1.0
+
+abbrev pub event_time : Values single_message_metadata → Option ℕ
+event_time e = e.1.1.1.0
+
+abbrev pub ordering_key : Values single_message_metadata → Option (List ℕ)
+ordering_key e = e.1.1.1.1.0
+
+-- how many entries a payload has, where its metadata says so
+abbrev pub count_of : Option ℤ → Option ℕ
+count_of (Some (pos n)) = Some n
+count_of _ = None
+
+abbrev pub batch_count : Values message_metadata → Option ℕ
+batch_count m = count_of (num_messages_in_batch m)
+
+-- an id with this index
+abbrev pub with_index : ℕ → Values message_id → Values message_id
+with_index i id = id.0 & id.1.0 & id.1.1.0 & Some (pos i) & id.1.1.1.1
+
+-- The metadata of a frame, with what an entry says in place of its own: properties, partition key, event time and ordering
+-- key, also where the entry has none.
+abbrev pub of_entry : Values message_metadata → Values single_message_metadata → Values message_metadata
+of_entry m e =
+    m.0 & m.1.0 & m.1.1.0 & properties e & m.1.1.1.1.0 & partition_key e & m.1.1.1.1.1.1.0 & m.1.1.1.1.1.1.1.0 & m.1.1.1.1.1.1.1.1.0 & m.1.1.1.1.1.1.1.1.1.0
+    & event_time e & m.1.1.1.1.1.1.1.1.1.1.1.0 & m.1.1.1.1.1.1.1.1.1.1.1.1.0 & m.1.1.1.1.1.1.1.1.1.1.1.1.1.0 & m.1.1.1.1.1.1.1.1.1.1.1.1.1.1.0
+    & ordering_key e & m.1.1.1.1.1.1.1.1.1.1.1.1.1.1.1.1
+
+-- the message of an entry
+abbrev pub item : ℕ → Values message_id → Values message_metadata → EntryValues → Item
+item i id m e = (with_index i id, record { metadata = of_entry m e.metadata; bytes = e.payload })
+
+-- the messages of entries, whose indexes count up from i
+unfoldable pub items_from : ℕ → Values message_id → Values message_metadata → List EntryValues → List Item
+items_from i id m [] = []
+items_from i id m (e ∷ es) = item i id m e ∷ items_from (suc i) id m es
+
+-- The messages of a payload that is a batch, in order.
+unfoldable pub batch_items : Values message_id → PayloadValues → Option (List Item)
+batch_items id p = do
+  count ← batch_count p.metadata
+  es ← entries count p.bytes
+  Some (items_from 0 id p.metadata es)
 
 -- ---- writing
 
@@ -82,3 +147,21 @@ AppendsEntry (Err (Encoding Frame)) e old new = (¬ FitsSize e) × (new ≡ old)
 AppendsEntry (Err (Encoding Batch)) e old new = FitsSize e × (¬ FitsPayload e) × (new ≡ old)
 AppendsEntry (Err NoMemory) e old new = new ≡ old
 AppendsEntry (Err _) e old new = ⊥
+
+-- ---- what was written is read
+
+-- the bytes of a batch
+unfoldable pub batch_bytes : List EntryValues → List ℕ
+batch_bytes es = flat_map entry_bytes es
+
+-- its metadata says the size of its payload
+abbrev pub SaysItsSize : EntryValues → Type 0
+SaysItsSize e = int32_at 3 single_message_metadata e.metadata ≡ Some (pos (length e.payload))
+
+-- an entry that can be written
+abbrev pub IsSound : EntryValues → Type 0
+IsSound e = InRange single_message_metadata e.metadata × FitsSize e × SaysItsSize e
+
+-- The bytes of a batch, read with its count, give its entries unchanged and in order, whatever follows.
+abbrev pub BatchesReadBack : Type 0
+BatchesReadBack = (es : List EntryValues) (t : List ℕ) → AllByRecursion IsSound es → entries (length es) (batch_bytes es ++ t) ≡ Some es

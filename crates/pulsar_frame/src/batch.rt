@@ -4,8 +4,13 @@ ghost use Rattle.std.specs.Prelude.{◌≡◌, map};
 ghost use Rattle.std.specs.Option.{option_map};
 ghost use Rattle.pulsar_wire.specs.Field.{bytes_at};
 ghost use Rattle.pulsar_wire.specs.Shown.{Gives};
-ghost use Rattle.pulsar_frame.specs.Batch.{AppendsEntry, ReadsEntries, entries, entry_at, entry_values, payload_at};
+ghost use Rattle.pulsar_frame.specs.Batch.{AppendsEntry, ReadsBatch, entries, entry_at, entry_values, payload_at};
 ghost use Rattle.pulsar_frame.specs.Sized.{sized_at};
+
+pub mod iterator;
+pub mod laws;
+#[cfg(test)]
+mod tests;
 
 use pulsar_wire::commands::metadata::SingleMessageMetadata;
 use pulsar_wire::encoding::message::{decode, encode, encoded_len};
@@ -53,7 +58,7 @@ pub fn parse_batched_message(
     count: u32,
     payload: &[u8],
 ) -> Result<Vec<BatchedMessage>, ConnectionError>
-    ensures { ReadsEntries result (entries count payload.now) }
+    ensures { ReadsBatch (λ ms. map entry_values ms.items) result (entries count payload.now) }
 {
     match read_entries(alloc, count, payload) {
         Ok(entries) => Ok(entries),

@@ -9,10 +9,10 @@ use Rattle.pulsar_wire.specs.Row.{Values, reading, spelling}
 use Rattle.pulsar_wire.specs.Rows.{message_id, message_metadata, single_message_metadata}
 use Rattle.pulsar_wire.proofs.Fields.{bind_some, some, some_is}
 use Rattle.pulsar_wire.proofs.RoundTrip.{round_trip}
-use Rattle.pulsar_frame.specs.Batch.{EntryValues, PayloadValues, Item, batch_count, batch_items, payload_at, entry_at, entries, item, items_from, entry_bytes, batch_bytes, IsSound}
+use Rattle.pulsar_frame.specs.Batch.{EntryValues, Item, batch_count, batch_items, payload_of_size, entry_at, entries, item, items_from, entry_bytes, batch_bytes, IsSound}
+use Rattle.pulsar_frame.specs.Payload.{PayloadValues}
 use Rattle.pulsar_frame.specs.Sized.{sized_at, with_size}
-use Rattle.pulsar_frame.proofs.Sized.{bytes_at-front}
-use Rattle.pulsar_frame.proofs.Written.{sized_at-with_size}
+use Rattle.pulsar_frame.proofs.Splits.{bytes_at-front, sized_at-with_size}
 
 -- entries that were read, and those that follow
 abbrev pub with_done : List EntryValues → Option (List EntryValues) → Option (List EntryValues)
@@ -49,26 +49,25 @@ entries-done done n bytes e = rw e (ap (λ (l : List EntryValues). some l) (appe
 -- ---- writing
 
 -- an entry, put together piece by piece
-pub entry-written : (e : EntryValues) (size : ℕ) (none head sized described payload whole copy old new : List ℕ)
-    → size ≡ length (spelling single_message_metadata e.metadata) → none ≡ [] → head ≡ to_be_bytes w32 size → sized ≡ none ++ head
-    → described ≡ sized ++ spelling single_message_metadata e.metadata → payload ≡ e.payload → whole ≡ described ++ payload
+pub entry-written : (e : EntryValues) (none described payload whole copy old new : List ℕ)
+    → none ≡ [] → described ≡ none ++ with_size (spelling single_message_metadata e.metadata) → payload ≡ e.payload → whole ≡ described ++ payload
     → copy ≡ whole → new ≡ old ++ copy → new ≡ old ++ entry_bytes e
-unfolding entry_bytes with_size
-entry-written e size none head sized described payload whole copy old new counted empty spelled first then paid all copied put =
-    rw (put, copied, all, paid, then, first, empty, spelled, counted) refl
+unfolding entry_bytes
+entry-written e none described payload whole copy old new empty spelled paid all copied put =
+    rw (put, copied, all, paid, spelled, empty) refl
 
 -- ---- what was written is read
 
 entry_at-parts : (bytes described rest payload after : List ℕ) (vs : Values single_message_metadata) (z : ℤ) → sized_at bytes ≡ Some (described, rest) → reading single_message_metadata described ≡ Some vs
-    → int32_at 3 single_message_metadata vs ≡ Some z → payload_at z rest ≡ Some (payload, after) → entry_at bytes ≡ Some (record { metadata = vs; payload = payload }, after)
+    → int32_at 3 single_message_metadata vs ≡ Some z → payload_of_size z rest ≡ Some (payload, after) → entry_at bytes ≡ Some (record { metadata = vs; payload = payload }, after)
 unfolding entry_at
 entry_at-parts bytes described rest payload after vs z sized read says paid =
     let size : vs.1.1.0 ≡ z = some_is _ _ says in
     rw (sized, read, size, paid) refl
 
-payload_at-front : (x t : List ℕ) → payload_at (pos (length x)) (x ++ t) ≡ Some (x, t)
-unfolding payload_at
-payload_at-front x t = bytes_at-front (length x) x t refl
+payload_of_size-front : (x t : List ℕ) → payload_of_size (pos (length x)) (x ++ t) ≡ Some (x, t)
+unfolding payload_of_size
+payload_of_size-front x t = bytes_at-front (length x) x t refl
 
 -- an entry is read again, whatever follows
 pub entry-again : (e : EntryValues) (t : List ℕ) → IsSound e → entry_at (entry_bytes e ++ t) ≡ Some (e, t)
@@ -76,7 +75,7 @@ unfolding entry_bytes
 entry-again e t sound =
     let again : reading single_message_metadata (spelling single_message_metadata e.metadata) ≡ Some e.metadata =
     round_trip single_message_metadata e.metadata refl (sound.0, omega (arith, sound.1)) in
-    rw append_assoc (entry_at-parts _ _ (e.payload ++ t) e.payload t e.metadata (pos (length e.payload)) (sized_at-with_size (spelling single_message_metadata e.metadata) (e.payload ++ t) sound.1) again sound.2 (payload_at-front e.payload t))
+    rw append_assoc (entry_at-parts _ _ (e.payload ++ t) e.payload t e.metadata (pos (length e.payload)) (sized_at-with_size (spelling single_message_metadata e.metadata) (e.payload ++ t) sound.1) again sound.2 (payload_of_size-front e.payload t))
 
 batch-first : (e : EntryValues) (es : List EntryValues) (t : List ℕ) → IsSound e → entries (length es) (flat_map entry_bytes es ++ t) ≡ Some es
     → entries (suc (length es)) ((entry_bytes e ++ flat_map entry_bytes es) ++ t) ≡ Some (e ∷ es)

@@ -36,6 +36,11 @@ after-lt : (s : ℕ) (bytes : List ℕ) → s < 2 ^ 32 → AreBytes bytes → af
 after-lt s [] h l = h
 after-lt s (b ∷ bytes) h l = after-lt (after_byte s b) bytes (after_byte-lt s b h (l 0 0 (omega arith))) (rest_of b bytes l)
 
+-- a checksum of bytes has 32 bits
+pub crc32c-lt : (bytes : List ℕ) → AreBytes bytes → crc32c bytes < 2 ^ 32
+unfolding crc32c
+crc32c-lt bytes h = xor_lt 32 (after start bytes) 0xffffffff (after-lt start bytes (omega arith) h) (omega arith)
+
 -- ---- nothing is lost
 
 same_from_xor : (a b : ℕ) → bit_xor a b ≡ 0 → a ≡ b

@@ -1,6 +1,7 @@
-pub mod Sized
+pub mod Splits
 pub mod Streams
 pub mod Histories
+pub mod Payloads
 pub mod Written
 pub mod Keys
 pub mod Crc

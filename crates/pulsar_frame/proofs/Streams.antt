@@ -6,7 +6,7 @@ use Rattle.pulsar_wire.specs.Field.{bytes_at}
 use Rattle.pulsar_frame.specs.Message.{MessageValues}
 use Rattle.pulsar_frame.specs.Sized.{sized_at}
 use Rattle.pulsar_frame.specs.Frame.{content, Front, Short, Refused, Whole, IsFrame, StandInFront, before, front_of, front, cut_before, cut_within, cut, left, reason_of, bad}
-use Rattle.pulsar_frame.proofs.Sized.{sized-takes, sized-alone}
+use Rattle.pulsar_frame.proofs.Splits.{sized-takes, sized-alone}
 
 -- ---- what stands in front
 

@@ -12,21 +12,14 @@ use Rattle.pulsar_wire.specs.declared.error.ConnectionError.{ConnectionError}
 use Rattle.pulsar_wire.specs.declared.error.ConnectionError.TheVariants.{Decoding, Encoding, NoMemory}
 use Rattle.pulsar_wire.specs.declared.error.Reason.TheVariants.{Frame, Batch}
 use Rattle.pulsar_frame.specs.Sized.{sized_at, with_size}
+use Rattle.pulsar_frame.specs.Payload.{PayloadValues, payload_values}
 use Rattle.pulsar_frame.specs.declared.payload.Payload.{Payload}
 use Rattle.pulsar_frame.specs.declared.batch.BatchedMessage.{BatchedMessage}
-
--- a payload, and what a frame says of it
-pub record PayloadValues : Type 0 where
-  pub metadata : Values message_metadata
-  pub bytes : List ℕ
 
 -- an entry of a batch: what it says of its payload, and its payload
 pub record EntryValues : Type 0 where
   pub metadata : Values single_message_metadata
   pub payload : List ℕ
-
-abbrev pub payload_values : Payload → PayloadValues
-payload_values p = record { metadata = message_metadata_values p.metadata; bytes = p.bytes.items }
 
 abbrev pub entry_values : BatchedMessage → EntryValues
 entry_values m = record { metadata = single_message_metadata_values m.metadata; payload = m.payload.items }
@@ -34,9 +27,9 @@ entry_values m = record { metadata = single_message_metadata_values m.metadata; 
 -- ---- reading
 
 -- the next z bytes, and the bytes after them
-unfoldable pub payload_at : ℤ → List ℕ → Option (List ℕ × List ℕ)
-payload_at (pos n) bytes = bytes_at n bytes
-payload_at (negsuc n) bytes = None
+unfoldable pub payload_of_size : ℤ → List ℕ → Option (List ℕ × List ℕ)
+payload_of_size (pos n) bytes = bytes_at n bytes
+payload_of_size (negsuc n) bytes = None
 
 -- The entry in front, and the bytes after it: the size of its metadata, the metadata, and as many bytes as this says in
 -- its field 3, payload_size.
@@ -45,7 +38,7 @@ entry_at bytes = do
   parts ← sized_at bytes
   metadata ← reading single_message_metadata parts.0
   size ← int32_at 3 single_message_metadata metadata
-  payload ← payload_at size parts.1
+  payload ← payload_of_size size parts.1
   Some (record { metadata = metadata; payload = payload.0 }, payload.1)
 
 -- So many entries, one behind the other. What follows them is not looked at.

@@ -2,35 +2,22 @@
 use Rattle.std.specs.Prelude.{◌≡◌, ℕ, zero, suc, ◌^◌, ◌<◌, List, [], ◌∷◌, ◌++◌, length, Option, Some, None, Result, Ok, Err}
 use Rattle.pulsar_wire.specs.Command.{command_reading, command_spelling, settled}
 use Rattle.pulsar_wire.specs.declared.error.Reason.{Reason}
-use Rattle.pulsar_wire.specs.declared.error.Reason.TheVariants.{Frame, Command, Payload}
+use Rattle.pulsar_wire.specs.declared.error.Reason.TheVariants.{Frame, Command}
 use Rattle.pulsar_frame.specs.Message.{MessageValues}
+use Rattle.pulsar_frame.specs.Payload.{bytes_behind, payload_behind}
+use Rattle.pulsar_frame.specs.Refusal.{◌>>=◌, or_refused}
 use Rattle.pulsar_frame.specs.Sized.{sized_at, with_size}
 
 -- ---- reading
 
--- what is refused stays refused, so the first reason stands
-infixl 10 ◌>>=◌
-abbrev pub ◌>>=◌ : {A B : Type 0} → Result A Reason → (A → Result B Reason) → Result B Reason
-(Ok x) >>= f = f x
-(Err r) >>= f = Err r
-
--- where there is nothing, this is the reason
-abbrev pub or_refused : {A : Type 0} → Reason → Option A → Result A Reason
-or_refused r (Some x) = Ok x
-or_refused r None = Err r
-
--- nothing may stand behind the command
-abbrev pub no_payload : List ℕ → Result (Unit {0}) Reason
-no_payload [] = Ok tt
-no_payload (b ∷ bytes) = Err Payload
-
--- The message of a frame, from what stands behind the frame's total: the size of the command, and the command.
+-- The message of a frame, from what stands behind the frame's total: the size of the command, the command, and a payload
+-- where anything follows. It is refused by the first reason that holds, in this order.
 unfoldable pub content : List ℕ → Result MessageValues Reason
 content bytes = do
   parts ← or_refused Frame (sized_at bytes)
   command ← or_refused Command (command_reading parts.0)
-  payload ← no_payload parts.1
-  Ok (record { command = command })
+  payload ← payload_behind parts.1
+  Ok (record { command = command; payload = payload })
 
 -- what stands in front of a stream: less than a frame, a frame that is refused, or a frame's message and what follows
 pub data Front : Type 0 where
@@ -89,17 +76,21 @@ bad bytes = reason_of (front (left bytes))
 
 -- ---- writing
 
+-- what the total of a message's frame counts: the command behind its size, and the payload
+unfoldable pub counted_bytes : MessageValues → List ℕ
+counted_bytes m = with_size (command_spelling m.command) ++ bytes_behind m.payload
+
 -- the one frame of a message that is written
 unfoldable pub frame_bytes : MessageValues → List ℕ
-frame_bytes m = with_size (with_size (command_spelling m.command))
+frame_bytes m = with_size (counted_bytes m)
 
--- each size fits its four bytes
+-- The total fits its four bytes. The other sizes are smaller.
 unfoldable pub FitsFrame : MessageValues → Type 0
-FitsFrame m = length (with_size (command_spelling m.command)) < 2 ^ 32
+FitsFrame m = length (counted_bytes m) < 2 ^ 32
 
 -- the message that is read where this one was written
 abbrev pub settled_message : MessageValues → MessageValues
-settled_message m = record { command = settled m.command }
+settled_message m = record { command = settled m.command; payload = m.payload }
 
 -- its frame is read again, whatever follows
 abbrev pub IsReadAgain : MessageValues → Type 0

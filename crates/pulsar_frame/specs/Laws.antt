@@ -3,6 +3,7 @@ use Rattle.std.specs.Prelude.{◌≡◌, ◌↔◌, ◌⊎◌, true, ℕ, List, 
 use Rattle.pulsar_wire.specs.Fits.{CommandInRange}
 use Rattle.pulsar_wire.specs.declared.error.Reason.{Reason}
 use Rattle.pulsar_frame.specs.Message.{MessageValues}
+use Rattle.pulsar_frame.specs.Payload.{PayloadInRange}
 use Rattle.pulsar_frame.specs.Frame.{Short, Refused, Whole, front, StandInFront, cut, left, bad, FitsFrame, IsReadAgain}
 use Rattle.pulsar_wire.specs.declared.key.RequestKey.{RequestKey}
 use Rattle.pulsar_wire.specs.declared.key.RequestKey.TheVariants.{RequestId, CloseConsumer}
@@ -40,7 +41,7 @@ GivesTheMessagesFed = (acts : List Act) (held : List ℕ) → Leads acts [] held
 
 -- A frame that was written is read again, whatever follows.
 abbrev pub ReadsFramesWritten : Type 0
-ReadsFramesWritten = (m : MessageValues) → FitsFrame m → CommandInRange m.command → IsReadAgain m
+ReadsFramesWritten = (m : MessageValues) → FitsFrame m → CommandInRange m.command → PayloadInRange m.payload → IsReadAgain m
 
 -- a key says that a consumer is closed under a number, which is that of the other key, of a request
 abbrev pub Closes : Option RequestKey → RequestKey → Type 0

@@ -1,5 +1,8 @@
-pub mod Message
+pub mod Refusal
 pub mod Sized
+pub mod Tail
+pub mod Payload
+pub mod Message
 pub mod Frame
 pub mod Key
 pub mod Shown

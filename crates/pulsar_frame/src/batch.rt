@@ -2,18 +2,17 @@
 
 ghost use Rattle.std.specs.Prelude.{◌≡◌, map};
 ghost use Rattle.std.specs.Option.{option_map};
-ghost use Rattle.pulsar_wire.specs.Field.{bytes_at};
 ghost use Rattle.pulsar_wire.specs.Shown.{Gives};
-ghost use Rattle.pulsar_frame.specs.Batch.{AppendsEntry, ReadsBatch, entries, entry_at, entry_values, payload_at};
-ghost use Rattle.pulsar_frame.specs.Sized.{sized_at};
+ghost use Rattle.pulsar_frame.specs.Batch.{AppendsEntry, ReadsBatch, entries, entry_at, entry_values, payload_of_size};
 
 pub mod iterator;
 pub mod laws;
 #[cfg(test)]
 mod tests;
 
+use crate::sized::{split_bytes, split_sized, write_sized};
 use pulsar_wire::commands::metadata::SingleMessageMetadata;
-use pulsar_wire::encoding::message::{decode, encode, encoded_len};
+use pulsar_wire::encoding::message::{decode, encoded_len};
 use pulsar_wire::encoding::read_error::ReadError;
 use pulsar_wire::error::{ConnectionError, Reason};
 use std::alloc::Global;
@@ -43,8 +42,7 @@ impl BatchedMessage {
             return Err(ConnectionError::Encoding(Reason::Batch));
         }
         let mut entry = Vec::new(*w.allocator());
-        entry.extend_from_slice(&size.to_be_bytes())?;
-        encode(&self.metadata, &mut entry)?;
+        write_sized(size, &self.metadata, &mut entry)?;
         entry.extend_from_slice(&self.payload)?;
         w.extend_from_slice(&entry)?;
         Ok(())
@@ -97,26 +95,10 @@ fn read_entry(alloc: Global, bytes: &[u8]) -> Result<(BatchedMessage, &[u8]), Re
     Ok((BatchedMessage { metadata, payload }, rest))
 }
 
-/// The bytes that the size in front counts, and the bytes after them.
-#[tactic(auto, unfolding(crate::specs::Sized::sized_at, pulsar_wire::specs::Field::bytes_at))]
-fn split_sized(bytes: &[u8]) -> Option<(&[u8], &[u8])>
-    ensures { option_map (λ x. (x.0.now, x.1.now)) result ≡ sized_at bytes.now }
-{
-    let (size, rest) = bytes.split_first_chunk()?;
-    split_bytes(u32::from_be_bytes(*size) as usize, rest)
-}
-
 /// The bytes of a payload of this size, and the bytes after them.
-#[tactic(auto, unfolding(crate::specs::Batch::payload_at))]
+#[tactic(auto, unfolding(crate::specs::Batch::payload_of_size))]
 fn split_payload(size: i32, bytes: &[u8]) -> Option<(&[u8], &[u8])>
-    ensures { option_map (λ x. (x.0.now, x.1.now)) result ≡ payload_at size bytes.now }
+    ensures { option_map (λ x. (x.0.now, x.1.now)) result ≡ payload_of_size size bytes.now }
 {
     split_bytes(usize::try_from(size).ok()?, bytes)
-}
-
-#[tactic(auto, unfolding(pulsar_wire::specs::Field::bytes_at))]
-fn split_bytes(len: usize, bytes: &[u8]) -> Option<(&[u8], &[u8])>
-    ensures { option_map (λ x. (x.0.now, x.1.now)) result ≡ bytes_at len bytes.now }
-{
-    bytes.split_at_checked(len)
 }

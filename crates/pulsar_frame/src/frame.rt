@@ -1,33 +1,20 @@
 //! Frames as they stand in front of bytes.
 
-ghost use Rattle.std.specs.Prelude.{◌≡◌};
-ghost use Rattle.std.specs.Option.{option_map};
 ghost use Rattle.pulsar_wire.specs.Command.{command_reading};
 ghost use Rattle.pulsar_wire.specs.Views.{command_values};
 ghost use Rattle.pulsar_wire.specs.declared.error.Reason.TheVariants as reason;
-ghost use Rattle.pulsar_frame.specs.Sized.{sized_at};
-ghost use Rattle.pulsar_frame.specs.Frame.{or_refused, content};
+ghost use Rattle.pulsar_frame.specs.Frame.{content};
+ghost use Rattle.pulsar_frame.specs.Refusal.{or_refused};
 ghost use Rattle.pulsar_frame.specs.Shown.{message_values};
 ghost use Rattle.pulsar_frame.specs.Read.{Holds, Fronts};
 
 use crate::message::Message;
+use crate::payload::read_behind;
+use crate::sized::split_sized;
 use pulsar_wire::commands::base::{BaseCommand, decode_command};
 use pulsar_wire::encoding::read_error::ReadError;
 use pulsar_wire::error::{ConnectionError, Reason};
 use std::alloc::Global;
-
-/// The bytes that the size in front counts, and the bytes after them.
-#[tactic(auto, unfolding(crate::specs::Sized::sized_at, pulsar_wire::specs::Field::bytes_at))]
-fn split_sized(bytes: &[u8]) -> Option<(&[u8], &[u8])>
-    ensures { option_map (λ x. (x.0.now, x.1.now)) result ≡ sized_at bytes.now }
-{
-    let (size, rest) = bytes.split_first_chunk()?;
-    let size = u32::from_be_bytes(*size) as usize;
-    if rest.len() < size {
-        return None;
-    }
-    Some(rest.split_at(size))
-}
 
 fn read_command(alloc: Global, bytes: &[u8]) -> Result<BaseCommand, ConnectionError>
     ensures { Holds command_values result (or_refused reason.Command (command_reading bytes.now)) }
@@ -48,10 +35,8 @@ fn read_content(alloc: Global, bytes: &[u8]) -> Result<Message, ConnectionError>
         return Err(ConnectionError::Decoding(Reason::Frame));
     };
     let command = read_command(alloc, command)?;
-    if !tail.is_empty() {
-        return Err(ConnectionError::Decoding(Reason::Payload));
-    }
-    Ok(Message { command })
+    let payload = read_behind(alloc, tail)?;
+    Ok(Message { command, payload })
 }
 
 /// The message whose frame stands in front, and how many bytes the frame has.

@@ -9,5 +9,6 @@ pub mod laws;
 pub mod message;
 pub mod payload;
 pub mod reader;
+mod sized;
 #[cfg(test)]
 mod tests;

@@ -1,29 +1,41 @@
 //! What one frame carries.
 
-ghost use Rattle.std.specs.Prelude.{◌≡◌, ◌↔◌, IsTrue, IfOk, OnOk, Some};
-ghost use Rattle.pulsar_frame.specs.Frame.{FitsFrame, IsReadAgain};
+ghost use Rattle.std.specs.Prelude.{◌≡◌, ◌↔◌, ◌^◌, ◌<◌, ◌++◌, length, IsTrue, IfOk, IfSome, IfNone, OnOk, Some};
+ghost use Rattle.std.specs.Option.{option_map};
+ghost use Rattle.pulsar_wire.specs.Command.{command_spelling};
+ghost use Rattle.pulsar_frame.specs.Frame.{FitsFrame, IsReadAgain, counted_bytes};
+ghost use Rattle.pulsar_frame.specs.Payload.{bytes_behind, payload_values};
+ghost use Rattle.pulsar_frame.specs.Read.{IsReadBehind, described_bytes};
 ghost use Rattle.pulsar_wire.specs.Rows.{producer_success};
 ghost use Rattle.pulsar_wire.specs.Views.{body_values, producer_success_values};
 ghost use Rattle.pulsar_wire.specs.declared.key.RequestKey.TheVariants as keys;
 ghost use Rattle.pulsar_frame.specs.Key.{body_key, key};
 ghost use Rattle.pulsar_frame.specs.Shown.{message_values, IsFrameOf};
 
+use crate::payload::{Payload, PayloadSizes};
 use pulsar_wire::commands::base::{BaseCommand, Body, command_len, encode_command};
 use pulsar_wire::commands::producer::CommandProducerSuccess;
 use pulsar_wire::error::{ConnectionError, NoMemory, Reason};
 use pulsar_wire::key::RequestKey;
-use std::alloc::Global;
+use std::alloc::{AllocError, Global};
 
 /// How many bytes a size has.
 const SIZE_LEN: u32 = 4;
-
-/// The greatest size of a command: the total, which also counts the bytes of this size, fits a u32 too.
-const MAX_COMMAND: u64 = 0xffff_fffb;
 
 /// What one frame carries.
 #[derive(Debug, PartialEq, Eq, Drop)]
 pub struct Message {
     pub command: BaseCommand,
+    pub payload: Option<Payload>,
+}
+
+/// The sizes that stand in a frame.
+#[derive(Clone, Copy)]
+struct Sizes {
+    total: u32,
+    command: u32,
+    /// That of the metadata, and 0 where there is no payload.
+    metadata: u32,
 }
 
 impl Message {
@@ -31,8 +43,13 @@ impl Message {
     pub fn copy(&self) -> Result<Message, NoMemory>
         ensures { IfOk result (λ message. message_values message ≡ message_values self.now) }
     {
+        let payload = match &self.payload {
+            Some(payload) => Some(payload.copy()?),
+            None => None,
+        };
         Ok(Message {
             command: self.command.copy()?,
+            payload,
         })
     }
 
@@ -49,31 +66,78 @@ impl Message {
     }
 
     /// Each size in its frame fits a u32.
-    #[tactic(auto, unfolding(crate::specs::Frame::FitsFrame, crate::specs::Sized::with_size))]
+    #[tactic(auto, unfolding(crate::specs::Frame::FitsFrame))]
     pub fn fits(&self) -> bool
         ensures { IsTrue result ↔ FitsFrame (message_values self.now) }
     {
-        command_len(&self.command) <= MAX_COMMAND
+        match self.sizes() {
+            Some(_) => true,
+            None => false,
+        }
     }
 
     /// Its frame. The answer is `Encoding(Frame)` exactly where a size does not fit a u32, and there is no other error
     /// but want of memory.
-    #[tactic(auto, unfolding(crate::specs::Frame::FitsFrame, crate::specs::Frame::frame_bytes, crate::specs::Sized::with_size))]
+    #[tactic(auto, unfolding(crate::specs::Frame::FitsFrame, crate::specs::Frame::frame_bytes, crate::specs::Frame::counted_bytes, crate::specs::Sized::with_size))]
     pub fn to_frame(&self, alloc: Global) -> Result<Vec<u8>, ConnectionError>
         ensures frame { IsFrameOf (message_values self.now) result }
         ensures again { OnOk result (IsReadAgain (message_values self.now)) }
     {
-        let size = command_len(&self.command);
-        if size > MAX_COMMAND {
+        let Some(sizes) = self.sizes() else {
             return Err(ConnectionError::Encoding(Reason::Frame));
-        }
-        let size = size as u32;
-        let total = size + SIZE_LEN;
-        let mut frame = Vec::with_capacity(alloc, total as usize + SIZE_LEN as usize)?;
-        frame.extend_from_slice(&total.to_be_bytes())?;
-        frame.extend_from_slice(&size.to_be_bytes())?;
+        };
+        let mut frame = Vec::with_capacity(alloc, sizes.total as usize + SIZE_LEN as usize)?;
+        frame.extend_from_slice(&sizes.total.to_be_bytes())?;
+        frame.extend_from_slice(&sizes.command.to_be_bytes())?;
         encode_command(&self.command, &mut frame)?;
+        write_behind(&self.payload, sizes.metadata, &mut frame)?;
         Ok(frame)
+    }
+
+    /// The sizes of its frame, where each fits a u32.
+    #[tactic(auto, unfolding(crate::specs::Frame::FitsFrame, crate::specs::Frame::counted_bytes, crate::specs::Sized::with_size))]
+    fn sizes(&self) -> Option<Sizes>
+        ensures total { IfSome result (λ s. s.total ≡ length (counted_bytes (message_values self.now))) }
+        ensures command { IfSome result (λ s. s.command ≡ length (command_spelling (message_values self.now).command)) }
+        ensures metadata { IfSome result (λ s. s.metadata ≡ length (described_bytes (message_values self.now).payload)) }
+        ensures none { IfNone result (¬ FitsFrame (message_values self.now)) }
+    {
+        let command = u32::try_from(command_len(&self.command)).ok()?;
+        let behind = sizes_behind(&self.payload)?;
+        let total = u64::from(SIZE_LEN) + u64::from(command) + behind.total;
+        Some(Sizes {
+            total: u32::try_from(total).ok()?,
+            command,
+            metadata: behind.metadata,
+        })
+    }
+}
+
+/// The sizes of what stands behind a command.
+fn sizes_behind(payload: &Option<Payload>) -> Option<PayloadSizes>
+    ensures metadata { IfSome result (λ s. s.metadata ≡ length (described_bytes (option_map payload_values payload.now))) }
+    ensures total { IfSome result (λ s. s.total ≡ length (bytes_behind (option_map payload_values payload.now))) }
+    ensures small { IfSome result (λ s. s.total < 2 ^ 34) }
+    ensures none { IfNone result (¬ (length (bytes_behind (option_map payload_values payload.now)) < 2 ^ 32)) }
+{
+    match payload {
+        Some(payload) => payload.sizes(),
+        None => Some(PayloadSizes {
+            metadata: 0,
+            total: 0,
+        }),
+    }
+}
+
+/// Writes what stands behind a command, with its metadata of this size.
+fn write_behind(payload: &Option<Payload>, size: u32, out: &mut Vec<u8>) -> Result<(), AllocError>
+    requires { size ≡ length (described_bytes (option_map payload_values payload.now)) }
+    ensures ok { OnOk result (out.new.items ≡ out.old.items ++ bytes_behind (option_map payload_values payload.now)) }
+    ensures again { OnOk result (IsReadBehind (option_map payload_values payload.now)) }
+{
+    match payload {
+        Some(payload) => payload.write(size, out),
+        None => Ok(()),
     }
 }
 

@@ -1,10 +1,30 @@
 //! What a message of a topic carries.
 
-ghost use Rattle.std.specs.Prelude.{◌≡◌, IfOk};
-ghost use Rattle.pulsar_frame.specs.Batch.{payload_values};
+ghost use Rattle.std.specs.Prelude.{◌≡◌, ◌++◌, ◌+◌, ◌^◌, ◌<◌, length, IfOk, IfSome, IfNone, OnOk, Some};
+ghost use Rattle.std.specs.Option.{option_map};
+ghost use Rattle.pulsar_wire.specs.Row.{reading, spelling};
+ghost use Rattle.pulsar_wire.specs.Rows.{message_metadata};
+ghost use Rattle.pulsar_wire.specs.Views.{message_metadata_values};
+ghost use Rattle.pulsar_wire.specs.declared.error.Reason.TheVariants as reason;
+ghost use Rattle.pulsar_frame.specs.Checksum.{crc32c};
+ghost use Rattle.pulsar_frame.specs.Payload.{covered_bytes, payload_at, payload_behind, payload_bytes, payload_values};
+ghost use Rattle.pulsar_frame.specs.Read.{Holds, tail_seen};
+ghost use Rattle.pulsar_frame.specs.Refusal.{or_refused};
+ghost use Rattle.pulsar_frame.specs.Tail.{tail_at};
 
+use crate::checksum::{Checksum, crc32c};
+use crate::sized::{split_bytes, split_sized, write_sized};
 use pulsar_wire::commands::metadata::MessageMetadata;
-use pulsar_wire::error::NoMemory;
+use pulsar_wire::encoding::message::{decode, encoded_len};
+use pulsar_wire::encoding::read_error::ReadError;
+use pulsar_wire::error::{ConnectionError, NoMemory, Reason};
+use std::alloc::{AllocError, Global};
+
+/// What a payload begins with.
+const MAGIC: u16 = 0x0e01;
+
+/// How many bytes stand in front of the metadata: the magic number, the checksum and the size.
+const HEAD_LEN: u64 = 10;
 
 /// What a frame says of its payload.
 pub type Metadata = MessageMetadata;
@@ -16,6 +36,25 @@ pub struct Payload {
     pub bytes: Vec<u8>,
 }
 
+/// What stands behind a command, where anything does.
+#[derive(Clone, Copy)]
+pub(crate) struct Tail<'a> {
+    pub(crate) magic: u16,
+    pub(crate) checksum: u32,
+    /// What the checksum is of.
+    pub(crate) covered: &'a [u8],
+    pub(crate) metadata: &'a [u8],
+    pub(crate) payload: &'a [u8],
+}
+
+/// The sizes of a payload.
+#[derive(Clone, Copy)]
+pub(crate) struct PayloadSizes {
+    pub(crate) metadata: u32,
+    /// All that stands behind the command.
+    pub(crate) total: u64,
+}
+
 impl Payload {
     /// A payload with the same content.
     pub fn copy(&self) -> Result<Payload, NoMemory>
@@ -25,5 +64,104 @@ impl Payload {
             metadata: self.metadata.copy()?,
             bytes: self.bytes.clone()?,
         })
+    }
+
+    /// Its sizes, where each of them fits a u32 by itself.
+    #[tactic(auto, unfolding(crate::specs::Payload::payload_bytes, crate::specs::Payload::covered_bytes, crate::specs::Sized::with_size))]
+    pub(crate) fn sizes(&self) -> Option<PayloadSizes>
+        ensures metadata { IfSome result (λ s. s.metadata ≡ length (spelling message_metadata (payload_values self.now).metadata)) }
+        ensures total { IfSome result (λ s. s.total ≡ length (payload_bytes (payload_values self.now))) }
+        ensures small { IfSome result (λ s. s.total < 2 ^ 34) }
+        ensures none { IfNone result (¬ (length (payload_bytes (payload_values self.now)) < 2 ^ 32)) }
+    {
+        let metadata = u32::try_from(encoded_len(&self.metadata)).ok()?;
+        let bytes = u32::try_from(self.bytes.len()).ok()?;
+        Some(PayloadSizes {
+            metadata,
+            total: HEAD_LEN + u64::from(metadata) + u64::from(bytes),
+        })
+    }
+
+    /// Writes it behind a command, with its metadata of this size.
+    #[tactic(auto, unfolding(crate::specs::Payload::payload_bytes, crate::specs::Payload::covered_bytes))]
+    pub(crate) fn write(&self, size: u32, out: &mut Vec<u8>) -> Result<(), AllocError>
+        requires { size ≡ length (spelling message_metadata (payload_values self.now).metadata) }
+        ensures ok { OnOk result (out.new.items ≡ out.old.items ++ payload_bytes (payload_values self.now)) }
+        ensures again { OnOk result (reading message_metadata (spelling message_metadata (payload_values self.now).metadata) ≡ Some (payload_values self.now).metadata) }
+        ensures sum { OnOk result (crc32c (covered_bytes (payload_values self.now)) < 2 ^ 32) }
+    {
+        let mut described = Vec::new(*out.allocator());
+        write_sized(size, &self.metadata, &mut described)?;
+        let checksum = checksum_of(&described, &self.bytes);
+        out.extend_from_slice(&MAGIC.to_be_bytes())?;
+        out.extend_from_slice(&checksum.to_be_bytes())?;
+        out.extend_from_slice(&described)?;
+        out.extend_from_slice(&self.bytes)?;
+        Ok(())
+    }
+}
+
+/// The checksum of the metadata behind its size, and the payload.
+#[tactic(auto, unfolding(crate::specs::Checksum::crc32c))]
+fn checksum_of(described: &[u8], payload: &[u8]) -> u32
+    ensures { result ≡ crc32c (described.now ++ payload.now) }
+{
+    let mut checksum = Checksum::new();
+    checksum.update(described);
+    checksum.update(payload);
+    checksum.value()
+}
+
+/// The payload behind a command, if anything stands there.
+pub(crate) fn read_behind(alloc: Global, bytes: &[u8]) -> Result<Option<Payload>, ConnectionError>
+    ensures { Holds (option_map payload_values) result (payload_behind bytes.now) }
+{
+    if bytes.is_empty() {
+        return Ok(None);
+    }
+    Ok(Some(read_payload(alloc, bytes)?))
+}
+
+#[tactic(auto, unfolding(crate::specs::Payload::payload_at))]
+fn read_payload(alloc: Global, bytes: &[u8]) -> Result<Payload, ConnectionError>
+    ensures { Holds payload_values result (payload_at bytes.now) }
+{
+    let Some(tail) = split_tail(bytes) else {
+        return Err(ConnectionError::Decoding(Reason::Payload));
+    };
+    if tail.magic != MAGIC {
+        return Err(ConnectionError::Decoding(Reason::Magic));
+    }
+    let metadata = read_metadata(alloc, tail.metadata)?;
+    if tail.checksum != crc32c(tail.covered) {
+        return Err(ConnectionError::Decoding(Reason::Checksum));
+    }
+    let bytes = tail.payload.to_vec(alloc)?;
+    Ok(Payload { metadata, bytes })
+}
+
+#[tactic(auto, unfolding(crate::specs::Tail::tail_at, pulsar_wire::specs::Field::bytes_at))]
+fn split_tail(bytes: &[u8]) -> Option<Tail<'_>>
+    ensures { option_map tail_seen result ≡ tail_at bytes.now }
+{
+    let (magic, rest) = bytes.split_first_chunk()?;
+    let (checksum, covered) = rest.split_first_chunk()?;
+    let (metadata, payload) = split_sized(covered)?;
+    Some(Tail {
+        magic: u16::from_be_bytes(*magic),
+        checksum: u32::from_be_bytes(*checksum),
+        covered,
+        metadata,
+        payload,
+    })
+}
+
+fn read_metadata(alloc: Global, bytes: &[u8]) -> Result<Metadata, ConnectionError>
+    ensures { Holds message_metadata_values result (or_refused reason.Metadata (reading message_metadata bytes.now)) }
+{
+    match decode(alloc, bytes) {
+        Ok(metadata) => Ok(metadata),
+        Err(ReadError::Malformed) => Err(ConnectionError::Decoding(Reason::Metadata)),
+        Err(ReadError::NoMemory) => Err(ConnectionError::NoMemory),
     }
 }

@@ -3,7 +3,8 @@
 ghost use Rattle.std.specs.Prelude.{◌≡◌, ◌^◌, ◌<◌, length, map, IfOk, IfSome};
 ghost use Rattle.pulsar_wire.specs.Shown.{Gives};
 ghost use Rattle.pulsar_wire.specs.Views.{message_id_values, message_metadata_values, single_message_metadata_values};
-ghost use Rattle.pulsar_frame.specs.Batch.{ReadsBatch, batch_count, batch_items, entry_values, item, item_values, items_from, of_entry, payload_values, with_index};
+ghost use Rattle.pulsar_frame.specs.Batch.{ReadsBatch, batch_count, batch_items, entry_values, item, item_values, items_from, of_entry, with_index};
+ghost use Rattle.pulsar_frame.specs.Payload.{payload_values};
 
 use crate::batch::{BatchedMessage, read_entries};
 use crate::payload::{Metadata, Payload};

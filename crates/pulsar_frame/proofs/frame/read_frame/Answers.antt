@@ -1,7 +1,7 @@
 use Rattle.std.proofs.Common.{sym, ap, arith}
 use Rattle.pulsar_frame.specs.Frame.{Whole, front}
 use Rattle.pulsar_frame.specs.Shown.{message_values}
-use Rattle.pulsar_frame.proofs.Sized.{sized-takes, sized-rest}
+use Rattle.pulsar_frame.proofs.Splits.{sized-takes, sized-rest}
 use Rattle.pulsar_frame.proofs.frame.read_frame.Goals as goal
 
 pub overflow_sub-result : goal.overflow_sub-result

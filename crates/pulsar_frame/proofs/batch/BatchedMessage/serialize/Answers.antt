@@ -12,7 +12,7 @@ returns c =
     let small : FitsPayload entry = omega (arith, c.if-len-gt-MAX_PAYLOAD.false) in
     let size : c.in-Ok.size ≡ length (spelling single_message_metadata entry.metadata) = omega (arith, c.encoded_len.ensures, c.in-Ok.ensures) in
     let whole =
-    entry-written entry c.in-Ok.size c.new-entry.result.items _ c.extend_from_slice.new.self.items c.encode.new.out.items _ c.extend_from_slice-2.new.self.items _ c.args.w.now.items _
-    size c.new-entry.ensures.items c.to_be_bytes.ensures c.in_ok-extend_from_slice.ensures.items c.in_ok-encode.ensures.ok c.deref.ensures.value
-    c.in_ok-extend_from_slice-2.ensures.items c.deref-2.ensures.value c.in_ok-extend_from_slice-3.ensures.items in
+    entry-written entry c.new-entry.result.items c.write_sized.new.out.items _ c.extend_from_slice.new.self.items _ c.args.w.now.items _
+    c.new-entry.ensures.items c.in_ok-write_sized.ensures.ok c.deref.ensures.value
+    c.in_ok-extend_from_slice.ensures.items c.deref-2.ensures.value c.in_ok-extend_from_slice-2.ensures.items in
     (fits, small, whole)

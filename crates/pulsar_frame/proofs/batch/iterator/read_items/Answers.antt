@@ -4,7 +4,8 @@ use Rattle.std.proofs.lemmas.Result.{err_from_is_err_and}
 use Rattle.pulsar_wire.proofs.Merging.{Refuses-on}
 use Rattle.pulsar_wire.specs.Views.{message_id_values}
 use Rattle.pulsar_wire.proofs.Fields.{some}
-use Rattle.pulsar_frame.specs.Batch.{entries, entry_values, payload_values}
+use Rattle.pulsar_frame.specs.Batch.{entries, entry_values}
+use Rattle.pulsar_frame.specs.Payload.{payload_values}
 use Rattle.pulsar_frame.proofs.Batches.{entries-length, batch_items-uncounted, batch_items-refused, batch_items-read}
 use Rattle.pulsar_frame.proofs.batch.iterator.read_items.Goals as goal
 

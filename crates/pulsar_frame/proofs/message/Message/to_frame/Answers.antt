@@ -1,12 +1,11 @@
-use Rattle.std.proofs.Common.{rules}
+use Rattle.std.proofs.Common.{arith}
 use Rattle.pulsar_frame.specs.Frame.{FitsFrame}
-use Rattle.pulsar_frame.specs.Sized.{with_size}
 use Rattle.pulsar_frame.specs.Shown.{message_values}
 use Rattle.pulsar_frame.proofs.Written.{written_again}
 use Rattle.pulsar_frame.proofs.message.Message.to_frame.Goals as goal
 
 pub returns-clause-again : goal.returns-clause-again
-unfolding FitsFrame with_size
+unfolding FitsFrame
 returns-clause-again c =
-    let fits : FitsFrame (message_values c.args.self.now) = search rules in
-    written_again (message_values c.args.self.now) fits c.in_ok-encode_command.ensures.again
+    let fits : FitsFrame (message_values c.args.self.now) = omega (arith, c.in-Some.ensures.total) in
+    written_again (message_values c.args.self.now) fits c.in_ok-encode_command.ensures.again c.in_ok-write_behind.ensures.again

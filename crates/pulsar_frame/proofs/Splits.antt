@@ -1,11 +1,12 @@
 -- Bytes behind their size: how many they are, and what comes after them.
-use Rattle.std.proofs.Common.{◌≡◌, ℕ, ◌-◌, false, ltb, List, ◌++◌, length, take, drop, Option, Some, None, refl, sym, ap, ◌∙◌, [], append_assoc, length-append, arith, inl, inr}
-use Rattle.std.specs.Int.{w32, from_be_bytes}
+use Rattle.std.proofs.Common.{◌≡◌, ℕ, ◌+◌, ◌-◌, ◌^◌, ◌<◌, false, ltb, List, ◌++◌, length, take, drop, Option, Some, None, refl, sym, ap, ◌∙◌, [], append_assoc, length-append, arith, inl, inr}
+use Rattle.std.specs.Int.{w32, from_be_bytes, to_be_bytes}
 use Rattle.std.proofs.lemmas.Bool.{le-ltb, ltb-false}
 use Rattle.std.proofs.lemmas.List.{take-append-drop, length-take-le, take_at, drop_at, append-nil}
 use Rattle.pulsar_wire.specs.Field.{bytes_at}
 use Rattle.pulsar_wire.proofs.Fields.{bind_some, chosen, some, some_is, Takes}
-use Rattle.pulsar_frame.specs.Sized.{sized_at}
+use Rattle.std.proofs.lemmas.Nat.{from_be_bytes-to_be_bytes_4}
+use Rattle.pulsar_frame.specs.Sized.{sized_at, with_size}
 
 abbrev size_then : List ℕ × List ℕ → Option (List ℕ × List ℕ)
 size_then size = bytes_at (from_be_bytes w32 size.0) size.1
@@ -77,3 +78,17 @@ pub sized-alone : (bytes x rest : List ℕ) → sized_at bytes ≡ Some (x, rest
 sized-alone bytes x rest e =
     let p = parts bytes x rest e in
     (p.size ++ x, p.whole, rw (append-nil x) at (sized_at-parts p.size x [] p.four p.counted))
+
+sized_at-behind : (n : ℕ) (x t : List ℕ) → length x ≡ n → n < 2 ^ 32 → sized_at (to_be_bytes w32 n ++ (x ++ t)) ≡ Some (x, t)
+unfolding sized_at
+sized_at-behind n x t e fits =
+    rw (bytes_at-front 4 (to_be_bytes w32 n) (x ++ t) refl, from_be_bytes-to_be_bytes_4 n fits) (bytes_at-front n x t e)
+
+-- bytes behind their size are read again
+pub sized_at-with_size : (x t : List ℕ) → length x < 2 ^ 32 → sized_at (with_size x ++ t) ≡ Some (x, t)
+unfolding with_size
+sized_at-with_size x t fits = rw append_assoc (sized_at-behind (length x) x t refl fits)
+
+pub length-with_size : (x : List ℕ) → length (with_size x) ≡ 4 + length x
+unfolding with_size
+length-with_size x = length-append (to_be_bytes w32 (length x)) x

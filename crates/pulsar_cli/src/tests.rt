@@ -404,6 +404,9 @@ fn other_frames_settle_nothing(rt: HostRuntime) -> Result<(), Fail> {
         "0000000600000002080d",
         "000000090000000508139a0100",
         "0000000e0000000a080e72060801100b1a00",
+        // a send with its payload, and a message for a consumer that is not there
+        "0000003d0000000808063204080010080e01428354b5000000190a0e7374616e64616c6f6e652d302d33100818bec0fc84d22c68656c6c6f2d70756c7361722d38",
+        "000000220000000c08094a0808091204080110020e010683296e000000070a0170100018006d",
     ] {
         prints(
             &rt,
@@ -411,6 +414,29 @@ fn other_frames_settle_nothing(rt: HostRuntime) -> Result<(), Fail> {
             &[READY, ASK, "bytes 0 ", frame, "\n"],
             DONE,
             &[IS_READY, IS_ASKED, "event 5\n"],
+        )?;
+    }
+    Ok(())
+}
+
+#[test]
+fn a_broken_payload_ends_the_link(rt: HostRuntime) -> Result<(), Fail> {
+    let alloc = rt.alloc();
+    for frame in [
+        // another magic number, another checksum
+        "0000003d0000000808063204080010080e02428354b5000000190a0e7374616e64616c6f6e652d302d33100818bec0fc84d22c68656c6c6f2d70756c7361722d38",
+        "0000003d0000000808063204080010080e01428354b4000000190a0e7374616e64616c6f6e652d302d33100818bec0fc84d22c68656c6c6f2d70756c7361722d38",
+    ] {
+        prints(
+            &rt,
+            alloc,
+            &[READY, ASK, "bytes 0 ", frame, "\n"],
+            DONE,
+            &[
+                IS_READY,
+                IS_ASKED,
+                "event 5\nsettled 0 1 disconnected\nended 1 err connection.disconnected\nclose 0\n",
+            ],
         )?;
     }
     Ok(())

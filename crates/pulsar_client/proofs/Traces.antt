@@ -10,7 +10,7 @@ use Rattle.pulsar_wire.specs.Row.{reading, value, spelling, varint_in}
 use Rattle.pulsar_wire.specs.Command.{command_reading, some_body}
 use Rattle.pulsar_frame.specs.Sized.{sized_at, with_size}
 use Rattle.pulsar_frame.specs.Key.{key}
-use Rattle.pulsar_frame.specs.Frame.{content, front, cut_within, cut, left, bad, frame_bytes}
+use Rattle.pulsar_frame.specs.Frame.{content, counted_bytes, front, cut_within, cut, left, bad, frame_bytes}
 use Rattle.pulsar_client.specs.declared.act.Arrival.TheVariants.{Message}
 use Rattle.pulsar_client.specs.declared.act.Outcome.TheVariants as outcome
 use Rattle.pulsar_client.specs.declared.act.Procedure.TheVariants as procedure
@@ -51,7 +51,7 @@ built_log =
     ∷ []
 
 built_run : IsRun numbered_from_zero built_log
-unfolding cut cut_within left bad front content frame_bytes sized_at with_size bytes_at command_reading fields fields_within field_at value_at varint_within some_body reading value spelling varint_in key is_utf8 chars encode_utf8
+unfolding cut cut_within left bad front content counted_bytes frame_bytes sized_at with_size bytes_at command_reading fields fields_within field_at value_at varint_within some_body reading value spelling varint_in key is_utf8 chars encode_utf8
 built_run = ((((((((((((((tt, refl), refl), refl), refl), refl), refl), refl), refl), refl), refl), refl), refl), refl), refl)
 
 -- a request is answered
@@ -69,11 +69,11 @@ answered_log =
     ∷ built_log
 
 answered_run : IsRun numbered_from_zero answered_log
-unfolding cut cut_within left bad front content frame_bytes sized_at with_size bytes_at command_reading fields fields_within field_at value_at varint_within some_body reading value spelling varint_in key is_utf8 chars encode_utf8
+unfolding cut cut_within left bad front content counted_bytes frame_bytes sized_at with_size bytes_at command_reading fields fields_within field_at value_at varint_within some_body reading value spelling varint_in key is_utf8 chars encode_utf8
 answered_run = (((((((((built_run, refl), refl), refl), refl), refl), refl), refl), refl), refl)
 
 pub answered_good : IsGood request_is_answered
-unfolding cut cut_within left bad front content frame_bytes sized_at with_size bytes_at command_reading fields fields_within field_at value_at varint_within some_body reading value spelling varint_in key is_utf8 chars encode_utf8
+unfolding cut cut_within left bad front content counted_bytes frame_bytes sized_at with_size bytes_at command_reading fields fields_within field_at value_at varint_within some_body reading value spelling varint_in key is_utf8 chars encode_utf8
 answered_good = record { log = answered_log; run = answered_run; rests = refl; same = refl }
 
 -- a reply comes before its request
@@ -88,11 +88,11 @@ early_log =
     ∷ built_log
 
 early_run : IsRun numbered_from_zero early_log
-unfolding cut cut_within left bad front content frame_bytes sized_at with_size bytes_at command_reading fields fields_within field_at value_at varint_within some_body reading value spelling varint_in key is_utf8 chars encode_utf8
+unfolding cut cut_within left bad front content counted_bytes frame_bytes sized_at with_size bytes_at command_reading fields fields_within field_at value_at varint_within some_body reading value spelling varint_in key is_utf8 chars encode_utf8
 early_run = ((((((built_run, refl), refl), refl), refl), refl), refl)
 
 pub early_good : IsGood reply_comes_early
-unfolding cut cut_within left bad front content frame_bytes sized_at with_size bytes_at command_reading fields fields_within field_at value_at varint_within some_body reading value spelling varint_in key is_utf8 chars encode_utf8
+unfolding cut cut_within left bad front content counted_bytes frame_bytes sized_at with_size bytes_at command_reading fields fields_within field_at value_at varint_within some_body reading value spelling varint_in key is_utf8 chars encode_utf8
 early_good = record { log = early_log; run = early_run; rests = refl; same = refl }
 
 -- an attempt fails
@@ -118,9 +118,9 @@ failed_log =
     ∷ []
 
 failed_run : IsRun numbered_from_zero failed_log
-unfolding cut cut_within left bad front content frame_bytes sized_at with_size bytes_at command_reading fields fields_within field_at value_at varint_within some_body reading value spelling varint_in key is_utf8 chars encode_utf8
+unfolding cut cut_within left bad front content counted_bytes frame_bytes sized_at with_size bytes_at command_reading fields fields_within field_at value_at varint_within some_body reading value spelling varint_in key is_utf8 chars encode_utf8
 failed_run = (((((((((((((((((tt, refl), refl), refl), refl), refl), refl), refl), refl), refl), refl), refl), refl), refl), refl), refl), refl), refl)
 
 pub failed_good : IsGood attempt_fails
-unfolding cut cut_within left bad front content frame_bytes sized_at with_size bytes_at command_reading fields fields_within field_at value_at varint_within some_body reading value spelling varint_in key is_utf8 chars encode_utf8
+unfolding cut cut_within left bad front content counted_bytes frame_bytes sized_at with_size bytes_at command_reading fields fields_within field_at value_at varint_within some_body reading value spelling varint_in key is_utf8 chars encode_utf8
 failed_good = record { log = failed_log; run = failed_run; rests = refl; same = refl }

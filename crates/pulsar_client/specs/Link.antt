@@ -5,10 +5,8 @@ use Rattle.std.specs.Option.{option_to_list}
 use Rattle.pulsar_wire.specs.declared.key.RequestKey.{RequestKey}
 use Rattle.pulsar_wire.specs.declared.key.RequestKey.TheVariants.{RequestId}
 use Rattle.pulsar_frame.specs.Message.{MessageValues}
-use Rattle.pulsar_wire.specs.Command.{command_spelling}
 use Rattle.pulsar_frame.specs.Key.{bears_key}
-use Rattle.pulsar_frame.specs.Sized.{with_size}
-use Rattle.pulsar_frame.specs.Frame.{frame_bytes, cut, bad}
+use Rattle.pulsar_frame.specs.Frame.{counted_bytes, frame_bytes, cut, bad}
 use Rattle.pulsar_client.specs.declared.act.Arrival.{Arrival}
 use Rattle.pulsar_client.specs.declared.act.Arrival.TheVariants.{Message, Bad}
 use Rattle.pulsar_client.specs.declared.act.Outcome.{Outcome}
@@ -64,9 +62,9 @@ next_id first (act ∷ h) = drawn act (next_id first h)
 abbrev pub request_message : ℕ → Request → MessageValues
 request_message id (Topics namespace mode) = topics_message id namespace mode
 
--- each size of its frame fits its field
+-- each size of its frame fits its field: the total does, and the others are smaller
 abbrev pub fits_frame : MessageValues → Bool
-fits_frame m = nat_lt (length (with_size (command_spelling m.command))) (2 ^ 32)
+fits_frame m = nat_lt (length (counted_bytes m)) (2 ^ 32)
 
 -- the frame that an act queues, from the next number of the link
 abbrev pub frame_of : LinkAct → ℕ → Option (List ℕ)

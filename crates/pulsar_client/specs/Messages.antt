@@ -17,13 +17,17 @@ client_version = codes "pulsar-rs-v6.7.2"
 abbrev pub protocol_version : ℤ
 protocol_version = pos 12
 
+-- a message that carries no payload
+abbrev pub bare : BodyValues → MessageValues
+bare body = record { command = with_kind body; payload = None }
+
 -- what a client says first on a link
 abbrev pub connect_message : MessageValues
-connect_message = record { command = with_kind (record { number = 2; row = connect; values = client_version & None & Some protocol_version & None & None & tt }) }
+connect_message = bare (record { number = 2; row = connect; values = client_version & None & Some protocol_version & None & None & tt })
 
 -- asks for the topics of a namespace
 abbrev pub topics_message : ℕ → List ℕ → Mode → MessageValues
-topics_message id namespace mode = record { command = with_kind (record { number = 32; row = get_topics_of_namespace; values = id & namespace & Some (mode_number mode) & tt }) }
+topics_message id namespace mode = bare (record { number = 32; row = get_topics_of_namespace; values = id & namespace & Some (mode_number mode) & tt })
 
 -- WHAT IS READ
 

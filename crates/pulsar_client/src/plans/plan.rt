@@ -9,6 +9,7 @@ ghost use Rattle.pulsar_client.specs.Tables.{start, plan_action, plan_after};
 use crate::act::{Action, Outcome, Procedure, Request};
 use crate::content::{Received, Text, Verdict};
 use crate::effect::Answer;
+use pulsar_frame::message::Message;
 use pulsar_wire::commands::base::Body;
 use pulsar_wire::commands::connection::CommandError;
 use pulsar_wire::commands::enumerations::server_error;
@@ -91,8 +92,11 @@ fn topics_answer(alloc: Global, outcome: Outcome) -> Result<Verdict, NoMemory>
 fn topics_in(alloc: Global, reply: Received) -> Result<Verdict, NoMemory>
     ensures { IfOk result (λ v. v ≡ topics_in reply) }
 {
-    let message = reply.into_message();
-    match message.command.body {
+    let Message {
+        command,
+        payload: _,
+    } = reply.into_message();
+    match command.body {
         Some(body) => topics_of_body(alloc, body),
         None => Ok(failure(unexpected(alloc, "none")?)),
     }

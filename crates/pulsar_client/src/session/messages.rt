@@ -3,7 +3,8 @@
 ghost use Rattle.std.specs.Prelude.{◌≡◌, IfOk, string_bytes};
 ghost use Rattle.pulsar_frame.specs.Shown.{message_values};
 ghost use Rattle.pulsar_client.specs.Link.{fits_frame, request_message};
-ghost use Rattle.pulsar_client.specs.Messages.{connect_message, topics_message};
+ghost use Rattle.pulsar_wire.specs.Views.{body_values};
+ghost use Rattle.pulsar_client.specs.Messages.{bare, connect_message, topics_message};
 
 use crate::act::Request;
 use pulsar_frame::message::Message;
@@ -28,9 +29,7 @@ pub fn connect(alloc: Global) -> Result<Message, NoMemory>
         auth_method_name: None,
         proxy_to_broker_url: None,
     };
-    Ok(Message {
-        command: BaseCommand::new(Body::Connect(body)),
-    })
+    Ok(bare(Body::Connect(body)))
 }
 
 /// Asks for the topics of a namespace.
@@ -43,8 +42,16 @@ pub fn get_topics_of_namespace(request_id: u64, namespace: String, mode: Mode) -
         namespace,
         mode: Some(mode.into()),
     };
+    bare(Body::GetTopicsOfNamespace(body))
+}
+
+/// A message that carries no payload.
+fn bare(body: Body) -> Message
+    ensures { message_values result ≡ bare (body_values body) }
+{
     Message {
-        command: BaseCommand::new(Body::GetTopicsOfNamespace(body)),
+        command: BaseCommand::new(body),
+        payload: None,
     }
 }
 

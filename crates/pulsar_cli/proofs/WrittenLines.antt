@@ -15,7 +15,7 @@ use Rattle.pulsar_cli.specs.WordText.{is_printed, printed, upper_digit, word}
 use Rattle.std.proofs.lemmas.Slice.Eq.{bytes_eq-Decides}
 use Rattle.pulsar_wire.specs.declared.commands.topics.Mode.{Mode}
 use Rattle.pulsar_wire.specs.declared.commands.topics.Mode.TheVariants.{Persistent, NonPersistent, All}
-use Rattle.pulsar_client.specs.Content.{Asked, Build, Topics, Heard, Called, Opened, Bytes, Drain}
+use Rattle.pulsar_client.specs.Content.{Asked, Build, Topics, Heard, Called, Opened, FailedToOpen, Bytes, Lost, Drain}
 use Rattle.pulsar_cli.specs.Grammar.{Happens, event, event_line, line, mode}
 use Rattle.pulsar_cli.specs.Written.{CanBeAsked, CanBeWritten, mode_word, written}
 use Rattle.pulsar_cli.proofs.Numbers.{all-read}
@@ -221,6 +221,11 @@ pub reads-back : (e : Heard) → CanBeWritten e → line (written e) ≡ Happens
 reads-back (Called c) can = asked-read c can
 reads-back (Opened l) can =
     ap (λ (ws : List (List ℕ)). event_line (event ws)) (one-number (codes "opened") l can) ∙ rw (number-decimal l can) refl
+reads-back (Lost l) can =
+    ap (λ (ws : List (List ℕ)). event_line (event ws)) (one-number (codes "lost") l can) ∙ rw (number-decimal l can) refl
+reads-back (FailedToOpen l kind) can =
+    ap (λ (ws : List (List ℕ)). event_line (event ws)) (two-words (codes "failed") (decimal l) (codes "other") (decimal-within l can.0) refl)
+    ∙ rw (number-decimal l can.0, can.1) refl
 reads-back (Bytes l piece) can =
     ap (λ (ws : List (List ℕ)). event_line (event ws)) (two-words (codes "bytes") (decimal l) (encode_lower piece) (decimal-within l can.0) (one-word (encode_lower piece) (hex-within piece can.1)))
     ∙ rw (number-decimal l can.0, hex-encoded piece can.1 can.2) refl

@@ -5,7 +5,9 @@ use Rattle.std.specs.Str.{bytes_eq}
 use Rattle.pulsar_wire.specs.Field.{◌>>=◌}
 use Rattle.pulsar_wire.specs.declared.commands.topics.Mode.{Mode}
 use Rattle.pulsar_wire.specs.declared.commands.topics.Mode.TheVariants.{Persistent, NonPersistent, All}
-use Rattle.pulsar_client.specs.Content.{Asked, Build, Topics, Heard, Called, Opened, Bytes, Drain}
+use Rattle.pulsar_wire.specs.declared.error.IoKind.{IoKind}
+use Rattle.pulsar_wire.specs.declared.error.IoKind.TheVariants.{Other}
+use Rattle.pulsar_client.specs.Content.{Asked, Build, Topics, Heard, Called, Opened, FailedToOpen, Bytes, Lost, Drain}
 use Rattle.pulsar_cli.specs.Words.{words, number, text, hex}
 
 abbrev pub mode : List ℕ → Option Mode
@@ -45,6 +47,23 @@ abbrev pub opened : List (List ℕ) → Option Heard
 opened (l ∷ []) = number l >>= λ link. Some (Opened link)
 opened _ = None
 
+-- why a connection could not be opened
+abbrev pub kind : List ℕ → Option IoKind
+kind word = if bytes_eq word (codes "other") then Some Other else None
+
+-- failed LINK KIND
+abbrev pub failed : List (List ℕ) → Option Heard
+failed (l ∷ k ∷ []) = do
+  link ← number l
+  kind ← kind k
+  Some (FailedToOpen link kind)
+failed _ = None
+
+-- lost LINK
+abbrev pub lost : List (List ℕ) → Option Heard
+lost (l ∷ []) = number l >>= λ link. Some (Lost link)
+lost _ = None
+
 -- bytes LINK HEX
 abbrev pub bytes : List (List ℕ) → Option Heard
 bytes (l ∷ p ∷ []) = do
@@ -67,7 +86,9 @@ event [] = None
 event (w ∷ ws) =
     if bytes_eq w (codes "call") then called ws
     else if bytes_eq w (codes "opened") then opened ws
+    else if bytes_eq w (codes "failed") then failed ws
     else if bytes_eq w (codes "bytes") then bytes ws
+    else if bytes_eq w (codes "lost") then lost ws
     else if bytes_eq w (codes "drain") then drain ws
     else None
 

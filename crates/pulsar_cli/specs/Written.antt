@@ -5,7 +5,8 @@ use Rattle.std.specs.Str.{is_utf8}
 use Rattle.hex.specs.Hex.{IsBytes, encode_lower}
 use Rattle.pulsar_wire.specs.declared.commands.topics.Mode.{Mode}
 use Rattle.pulsar_wire.specs.declared.commands.topics.Mode.TheVariants.{Persistent, NonPersistent, All}
-use Rattle.pulsar_client.specs.Content.{Asked, Build, Topics, Heard, Called, Opened, Bytes, Drain}
+use Rattle.pulsar_wire.specs.declared.error.IoKind.TheVariants.{Other}
+use Rattle.pulsar_client.specs.Content.{Asked, Build, Topics, Heard, Called, Opened, FailedToOpen, Bytes, Lost, Drain}
 use Rattle.pulsar_cli.specs.Grammar.{Happens, line}
 use Rattle.pulsar_cli.specs.WordText.{word}
 
@@ -23,10 +24,13 @@ call_words (Topics namespace mode) = codes "topics " ++ word namespace ++ 32 ∷
 abbrev pub written : Heard → List ℕ
 written (Called c) = codes "call " ++ call_words c
 written (Opened l) = codes "opened " ++ decimal l
+written (FailedToOpen l kind) = codes "failed " ++ decimal l ++ 32 ∷ codes "other"
 written (Bytes l piece) = codes "bytes " ++ decimal l ++ 32 ∷ encode_lower piece
+written (Lost l) = codes "lost " ++ decimal l
 written (Drain l most) = codes "drain " ++ decimal l ++ 32 ∷ decimal most
 
--- an event has a line where its numbers have 64 bits, its text is UTF-8, and it has a byte at least
+-- an event has a line where its numbers have 64 bits, its text is UTF-8, it has a byte at least, and a connection was not
+-- opened for another reason than those that have a name of their own
 abbrev pub CanBeAsked : Asked → Type 0
 CanBeAsked Build = Unit {0}
 CanBeAsked (Topics namespace mode) = IsBytes namespace × (is_utf8 namespace ≡ true)
@@ -34,7 +38,9 @@ CanBeAsked (Topics namespace mode) = IsBytes namespace × (is_utf8 namespace ≡
 abbrev pub CanBeWritten : Heard → Type 0
 CanBeWritten (Called c) = CanBeAsked c
 CanBeWritten (Opened l) = l < 2 ^ 64
+CanBeWritten (FailedToOpen l kind) = (l < 2 ^ 64) × (kind ≡ Other)
 CanBeWritten (Bytes l piece) = (l < 2 ^ 64) × IsBytes piece × (0 < length piece)
+CanBeWritten (Lost l) = l < 2 ^ 64
 CanBeWritten (Drain l most) = (l < 2 ^ 64) × (most < 2 ^ 64)
 
 abbrev pub ReadsBack : Type 0

@@ -177,19 +177,21 @@ fn what_is_not_live_has_no_effect(rt: HostRuntime) -> Result<(), Fail> {
     prints(
         &rt,
         alloc,
-        &["opened 7\ndrain 3 1\nbytes 9 00\n"],
+        &["opened 7\ndrain 3 1\nbytes 9 00\nfailed 2 other\nlost 1\n"],
         DONE,
-        &["event 0\nevent 1\nevent 2\n"],
+        &["event 0\nevent 1\nevent 2\nevent 3\nevent 4\n"],
     )?;
     prints(
         &rt,
         alloc,
-        &["call build\ndrain 0 1\nbytes 0 00\nopened 0\nbytes 0 0000000a0000000608031a020a00\n"],
+        &[
+            "call build\ndrain 0 1\nbytes 0 00\nlost 0\nopened 0\nfailed 0 other\nbytes 0 0000000a0000000608031a020a00\n",
+        ],
         DONE,
         &[
-            "event 0\nconnect 0 127.0.0.1 6650\nevent 1\nevent 2\nevent 3\n",
+            "event 0\nconnect 0 127.0.0.1 6650\nevent 1\nevent 2\nevent 3\nevent 4\n",
             "queued 0 0 0000001c00000018080212140a1070756c7361722d72732d76362e372e32200c\n",
-            "event 4\nended 0 ok done\n",
+            "event 5\nevent 6\nended 0 ok done\n",
         ],
     )?;
     prints(
@@ -235,6 +237,8 @@ fn lines_are_of_the_grammar(rt: HostRuntime) -> Result<(), Fail> {
         ("bytes 00 aBcD09fF\n", "event 0\n"),
         ("drain 1 18446744073709551615\n", "event 0\n"),
         ("drain 18446744073709551615 0\n", "event 0\n"),
+        ("failed 18446744073709551615 other\n", "event 0\n"),
+        ("lost 18446744073709551615", "event 0\n"),
         ("call build", "event 0\nconnect 0 127.0.0.1 6650\n"),
         ("call topics % non-persistent", shutdown),
         ("call topics %C3%bc%00 persistent\n", shutdown),
@@ -275,6 +279,12 @@ fn other_lines_are_refused(rt: HostRuntime) -> Result<(), Fail> {
         "drain 1",
         "drain 1 18446744073709551616",
         "drain 1 1 1",
+        "failed 0",
+        "failed 0 some",
+        "failed other 0",
+        "failed 0 other 0",
+        "lost",
+        "lost 0 0",
         "call",
         "call frob",
         "call build x",
@@ -302,6 +312,55 @@ fn other_lines_are_refused(rt: HostRuntime) -> Result<(), Fail> {
         }
     }
     Ok(())
+}
+
+#[test]
+fn connections_fail_and_are_lost(rt: HostRuntime) -> Result<(), Fail> {
+    let alloc = rt.alloc();
+    // not opened; lost while it is new; lost with a request; lost and started again, with two callers
+    prints(
+        &rt,
+        alloc,
+        &["call build\nfailed 0 other\nopened 0\nlost 0\n"],
+        DONE,
+        &[
+            "event 0\nconnect 0 127.0.0.1 6650\nevent 1\nended 0 err connection.io other\n",
+            "event 2\nevent 3\n",
+        ],
+    )?;
+    prints(
+        &rt,
+        alloc,
+        &["call build\nopened 0\nlost 0\ndrain 0 1\n"],
+        DONE,
+        &[
+            "event 0\nconnect 0 127.0.0.1 6650\nevent 1\n",
+            "queued 0 0 0000001c00000018080212140a1070756c7361722d72732d76362e372e32200c\n",
+            "event 2\nended 0 err connection.io other\nevent 3\n",
+        ],
+    )?;
+    prints(
+        &rt,
+        alloc,
+        &[READY, ASK, "lost 0\n", COMES],
+        DONE,
+        &[
+            IS_READY,
+            IS_ASKED,
+            "event 5\nsettled 0 1 disconnected\nended 1 err connection.disconnected\nevent 6\n",
+        ],
+    )?;
+    prints(
+        &rt,
+        alloc,
+        &[READY, "lost 0\n", ASK, ASK, "failed 1 other\n"],
+        DONE,
+        &[
+            IS_READY,
+            "event 4\nevent 5\nconnect 1 127.0.0.1 6650\nevent 6\nevent 7\n",
+            "ended 1 err connection.io other\nended 2 err connection.canceled\n",
+        ],
+    )
 }
 
 #[test]

@@ -3,6 +3,7 @@ use Rattle.std.proofs.Common.{◌≡◌, ℕ, ◌+◌, ◌<◌, ◌≤◌, ◌�
 use Rattle.std.specs.Option.{unwrap_or}
 use Rattle.std.proofs.lemmas.Bool.{cases_Bool, eqb-true, eq-eqb}
 use Rattle.std.proofs.lemmas.Bool.Decides.{nat_tests}
+use Rattle.pulsar_wire.specs.declared.error.IoKind.{IoKind}
 use Rattle.pulsar_client.specs.declared.act.Arrival.{Arrival}
 use Rattle.pulsar_client.specs.declared.act.Outcome.{Outcome}
 use Rattle.pulsar_client.specs.declared.act.Outcome.TheVariants as outcome
@@ -11,14 +12,14 @@ use Rattle.pulsar_client.specs.declared.act.Procedure.{Procedure}
 use Rattle.pulsar_client.specs.declared.act.Action.{Action}
 use Rattle.pulsar_client.specs.declared.act.Action.TheVariants.{Get, Ask, Answer, Finish, Rest}
 use Rattle.pulsar_client.specs.declared.act.LinkAct.{LinkAct}
-use Rattle.pulsar_client.specs.declared.act.LinkAct.TheVariants.{Opens, Comes, Drains, Requests, Spends, Readied, Ended, Settled}
+use Rattle.pulsar_client.specs.declared.act.LinkAct.TheVariants.{Opens, Comes, Drains, Requests, Spends, Readied, Ended, Settled, Fails, Loses}
 use Rattle.pulsar_client.specs.declared.act.Act.{Act}
 use Rattle.pulsar_client.specs.declared.act.Act.TheVariants.{Calls, Told, Dials, Waits, Answers, Builds, OnLink}
 use Rattle.pulsar_client.specs.declared.tables.Base.{Base}
 use Rattle.pulsar_client.specs.declared.tables.Base.TheVariants.{Nothing, Runs, Serves}
-use Rattle.pulsar_client.specs.Content.{Heard, Called, Opened, Bytes, Drain, Said}
+use Rattle.pulsar_client.specs.Content.{Heard, Called, Opened, Bytes, Drain, Said, FailedToOpen, Lost}
 use Rattle.pulsar_client.specs.Failures.{Exhausted}
-use Rattle.pulsar_client.specs.Link.{Seen, arrivals, link_rule, is_ready, fits_frame, request_message}
+use Rattle.pulsar_client.specs.Link.{Seen, arrivals, link_rule, is_ready, fits_frame, request_message, kind_of}
 use Rattle.pulsar_client.specs.Plan.{failed, next}
 use Rattle.pulsar_client.specs.Log.{Chosen, Entry, Begins, Does, View, view, at_once, serves, performs, gets, asks, asks_on, fails, link_acts, brings, procedure_for, frames_of, seen_link, dials, opens, spent, action_at, calls, procedure_of, outcomes_of}
 use Rattle.pulsar_client.specs.Good.{due, to_come, IsRun, first, is_empty}
@@ -137,15 +138,15 @@ map_told : (f : ℕ → Outcome) (ts : List ℕ) → AllTold (map (λ t. Told t 
 map_told f [] = tt
 map_told f (t ∷ ts) = (refl, map_told f ts)
 
-fails_told : (b : Base) (ts : List ℕ) → AllTold (fails b ts)
-fails_told (Runs s) ts = map_told _ ts
-fails_told Nothing ts = tt
-fails_told (Serves l) ts = tt
+fails_told : (b : Base) (kind : IoKind) (ts : List ℕ) → AllTold (fails b kind ts)
+fails_told (Runs s) kind ts = map_told _ ts
+fails_told Nothing kind ts = tt
+fails_told (Serves l) kind ts = tt
 
 serves_told : (v : View) (a : Act) → AllTold (serves v a)
 serves_told v (OnLink l (Settled place t o)) = (refl, tt)
 serves_told v (OnLink l Readied) = map_told _ v.waiting
-serves_told v (OnLink l (Ended closed)) = fails_told v.base v.waiting
+serves_told v (OnLink l (Ended end)) = fails_told v.base (kind_of end) v.waiting
 serves_told v _ = tt
 
 told_calls : (xs : List Act) → AllTold xs → NoCalls xs
@@ -205,8 +206,10 @@ calls_for_alone false p = (λ h. refl, tt)
 brings_alone : (v : View) (e : Heard) → CallsAlone (brings v e)
 brings_alone v (Called c) = calls_for_alone (v.calls == spent) (procedure_for v.is_built c)
 brings_alone v (Opened l) = one_alone (dials (v.link l)) (OnLink l Opens)
+brings_alone v (FailedToOpen l kind) = one_alone (dials (v.link l)) (OnLink l (Fails kind))
 brings_alone v (Bytes l piece) = tt
 brings_alone v (Drain l most) = one_alone (opens (v.link l)) (OnLink l (Drains most))
+brings_alone v (Lost l) = one_alone (opens (v.link l)) (OnLink l Loses)
 
 one_plain : (b : Bool) (a : Act) → is_told a ≡ false → NoneTold (cond b (a ∷ []) [])
 one_plain true a h = (h, tt)
@@ -219,8 +222,10 @@ calls_for_plain false p = (refl, tt)
 brings_plain : (v : View) (e : Heard) → NoneTold (brings v e)
 brings_plain v (Called c) = calls_for_plain (v.calls == spent) (procedure_for v.is_built c)
 brings_plain v (Opened l) = one_plain (dials (v.link l)) (OnLink l Opens) refl
+brings_plain v (FailedToOpen l kind) = one_plain (dials (v.link l)) (OnLink l (Fails kind)) refl
 brings_plain v (Bytes l piece) = tt
 brings_plain v (Drain l most) = one_plain (opens (v.link l)) (OnLink l (Drains most)) refl
+brings_plain v (Lost l) = one_plain (opens (v.link l)) (OnLink l Loses) refl
 
 -- only the ticket behind the last is answered at once
 one_among : (t k : ℕ) (b : Bool) (x : LinkAct) → among t (cond b (OnLink k x ∷ []) []) ≡ []
@@ -234,8 +239,10 @@ calls_for_among t false p h = refl
 brings_among : (t : ℕ) (v : View) (e : Heard) → (t == spent) ≡ false → among t (brings v e) ≡ []
 brings_among t v (Called c) h = calls_for_among t (v.calls == spent) (procedure_for v.is_built c) h
 brings_among t v (Opened l) h = one_among t l (dials (v.link l)) Opens
+brings_among t v (FailedToOpen l kind) h = one_among t l (dials (v.link l)) (Fails kind)
 brings_among t v (Bytes l piece) h = refl
 brings_among t v (Drain l most) h = one_among t l (opens (v.link l)) (Drains most)
+brings_among t v (Lost l) h = one_among t l (opens (v.link l)) Loses
 
 -- a call is due only where there is a ticket left
 abbrev HasRoom : ℕ → List Act → Type 0
@@ -263,8 +270,10 @@ one_room n k false x = tt
 brings_room : (v : View) (e : Heard) → v.calls ≤ spent → HasRoom v.calls (brings v e)
 brings_room v (Called c) le = calls_for_room v.calls (v.calls == spent) (procedure_for v.is_built c) le refl
 brings_room v (Opened l) le = one_room v.calls l (dials (v.link l)) Opens
+brings_room v (FailedToOpen l kind) le = one_room v.calls l (dials (v.link l)) (Fails kind)
 brings_room v (Bytes l piece) le = tt
 brings_room v (Drain l most) le = one_room v.calls l (opens (v.link l)) (Drains most)
+brings_room v (Lost l) le = one_room v.calls l (opens (v.link l)) Loses
 
 -- a call that was made has a ticket below the next
 made_cases : (t n : ℕ) (c p : Procedure) (r : Option Procedure) (b : Bool) → (t == n) ≡ b → (r ≡ Some p → t < n) → cond b (Some c) r ≡ Some p → t < n + 1
@@ -547,7 +556,9 @@ pub calls_are_made : CallsAreMade
 calls_are_made o [] p r = absurd cc
 calls_are_made o (Begins (Called c) ∷ log) p r = (c, log, refl, made_first (calls log == spent) p (procedure_for (view o log).is_built c) r.1)
 calls_are_made o (Begins (Opened l) ∷ log) p r = absurd (one_first (dials ((view o log).link l)) p l Opens r.1)
+calls_are_made o (Begins (FailedToOpen l kind) ∷ log) p r = absurd (one_first (dials ((view o log).link l)) p l (Fails kind) r.1)
 calls_are_made o (Begins (Drain l most) ∷ log) p r = absurd (one_first (opens ((view o log).link l)) p l (Drains most) r.1)
+calls_are_made o (Begins (Lost l) ∷ log) p r = absurd (one_first (opens ((view o log).link l)) p l Loses r.1)
 calls_are_made o (Begins (Bytes l piece) ∷ log) p r = absurd (frames_first (frames_of (view o log) (Bytes l piece)) p (event_frames (view o log) (Bytes l piece)) r.1)
 calls_are_made o (Does a ∷ log) p r = elim (first_act (due o (Does a ∷ log)) (to_come o (Does a ∷ log)) (Calls p) r.1) [
   | inl e ↦ (let f : true ≡ false = (subst NoCalls e (due_calls o a log r.0.0)).0 in absurd cc)

@@ -2,7 +2,9 @@
 use Rattle.std.proofs.Common.{◌≡◌, ℕ, ◌∙◌, sym, ap, subst, List, [], ◌∷◌, ◌++◌, refl, map, filter, drop, Bool, true, false, cond, if◌then◌else◌, Option, Some, None, inl, inr, ◌==◌}
 use Rattle.std.proofs.lemmas.Bool.{cases_Bool, eqb-true}
 use Rattle.pulsar_wire.specs.declared.commands.topics.Mode.{Mode}
-use Rattle.pulsar_wire.specs.declared.error.IoKind.TheVariants.{Other}
+use Rattle.pulsar_wire.specs.declared.error.IoKind.{IoKind}
+use Rattle.pulsar_client.specs.declared.act.End.TheVariants.{Refused}
+use Rattle.pulsar_client.specs.declared.act.End.{End}
 use Rattle.pulsar_client.specs.declared.act.Outcome.{Outcome}
 use Rattle.pulsar_client.specs.declared.act.Outcome.TheVariants as outcome
 use Rattle.pulsar_client.specs.declared.act.Request.{Request}
@@ -11,19 +13,19 @@ use Rattle.pulsar_client.specs.declared.act.Procedure.TheVariants as procedure
 use Rattle.pulsar_client.specs.declared.act.Action.{Action}
 use Rattle.pulsar_client.specs.declared.act.Action.TheVariants.{Get, Ask, Answer, Finish, Rest}
 use Rattle.pulsar_client.specs.declared.act.LinkAct.{LinkAct}
-use Rattle.pulsar_client.specs.declared.act.LinkAct.TheVariants.{Opens, Comes, Drains, Requests, Spends, Readied, Ended, Settled}
+use Rattle.pulsar_client.specs.declared.act.LinkAct.TheVariants.{Opens, Comes, Drains, Requests, Spends, Readied, Ended, Settled, Fails, Loses}
 use Rattle.pulsar_client.specs.declared.act.Act.{Act}
 use Rattle.pulsar_client.specs.declared.act.Act.TheVariants.{Calls, Told, Answers, OnLink}
 use Rattle.pulsar_client.specs.declared.tables.Base.{Base}
 use Rattle.pulsar_client.specs.declared.tables.Base.TheVariants.{Nothing, Runs, Serves}
-use Rattle.pulsar_client.specs.Content.{Heard, Called, Opened, Bytes, Drain, Said, Done, Failed}
+use Rattle.pulsar_client.specs.Content.{Heard, Called, Opened, Bytes, Drain, Said, Done, Failed, FailedToOpen, Lost}
 use Rattle.pulsar_client.specs.Failures.{Failure, OfConnection, Exhausted, Shutdown}
 use Rattle.pulsar_client.specs.declared.act.Arrival.{Arrival}
 use Rattle.pulsar_client.specs.declared.act.Arrival.TheVariants.{Message, Bad}
 use Rattle.pulsar_client.specs.declared.session.link.Stage.{Stage}
 use Rattle.pulsar_client.specs.declared.session.link.Stage.TheVariants.{Dialing, Handshaking, Ready, Over}
 use Rattle.pulsar_client.specs.Messages.{is_connected}
-use Rattle.pulsar_client.specs.Link.{Seen, Pending, bears_id, settled, disconnected, turns, at_opening, at_arrival, link_rule, is_ready, fits_frame, request_message}
+use Rattle.pulsar_client.specs.Link.{Seen, Pending, bears_id, settled, disconnected, turns, at_opening, at_arrival, link_rule, is_ready, fits_frame, request_message, kind_of, at_failure, at_loss}
 use Rattle.pulsar_client.specs.Plan.{failed, next, ended, finished, topics_answer, fault_of}
 use Rattle.pulsar_client.specs.Log.{Chosen, Entry, Begins, Does, View, view, base, waiting, seen_link, spent, at_once, serves, performs, gets, asks, asks_on, fails, link_acts, brings, procedure_for, dials, opens, outcomes_of}
 use Rattle.pulsar_client.specs.Good.{due, to_come, IsRun, first}
@@ -58,11 +60,11 @@ map_settling f (r ∷ rs) p = (p r, map_settling f rs p)
 
 settled_settling : (act : LinkAct) (rs : List Pending) → AllSettling (settled act rs)
 settled_settling (Comes (Message m)) rs = map_settling _ (filter (λ r. bears_id m.key r.id) rs) (λ r. tt)
-settled_settling (Ended closed) rs = map_settling disconnected rs (λ r. tt)
+settled_settling (Ended end) rs = map_settling disconnected rs (λ r. tt)
 settled_settling _ rs = tt
 
 arrival_settling : (s : Stage) (a : Arrival) → AllSettling (at_arrival s a)
-arrival_settling Handshaking (Message m) = elim (is_connected m) as (λ b. AllSettling (cond b Readied (Ended true) ∷ [])) [ true ↦ (tt, tt) | false ↦ (tt, tt) ]
+arrival_settling Handshaking (Message m) = elim (is_connected m) as (λ b. AllSettling (cond b Readied (Ended Refused) ∷ [])) [ true ↦ (tt, tt) | false ↦ (tt, tt) ]
 arrival_settling Handshaking (Bad r) = (tt, tt)
 arrival_settling Ready (Bad r) = (tt, tt)
 arrival_settling Ready (Message m) = tt
@@ -73,8 +75,20 @@ opening_settling : (s : Stage) → AllSettling (at_opening s)
 opening_settling Dialing = (tt, tt)
 opening_settling _ = tt
 
+failure_settling : (s : Stage) (kind : IoKind) → AllSettling (at_failure s kind)
+failure_settling Dialing kind = (tt, tt)
+failure_settling _ kind = tt
+
+loss_settling : (s : Stage) → AllSettling (at_loss s)
+loss_settling Dialing = tt
+loss_settling Handshaking = (tt, tt)
+loss_settling Ready = (tt, tt)
+loss_settling Over = tt
+
 turns_settling : (s : Stage) (act : LinkAct) → AllSettling (turns s act)
 turns_settling s Opens = opening_settling s
+turns_settling s (Fails kind) = failure_settling s kind
+turns_settling s Loses = loss_settling s
 turns_settling s (Comes a) = arrival_settling s a
 turns_settling s _ = tt
 
@@ -160,20 +174,20 @@ got_caused o log l e [] = tt
 got_caused o log l e (t ∷ ts) = (inl tt, got_caused o log l e ts)
 
 -- an attempt ended
-one_failed : (o : Chosen) (log : List Entry) (l starter t : ℕ) (closed b : Bool) → base log ≡ Runs starter → (t == starter) ≡ b →
-    InThisStep (Cause o t (cond b (outcome.Failed Other) outcome.Canceled)) (Does (OnLink l (Ended closed)) ∷ log)
-one_failed o log l starter t closed true is same = inl ((l, closed, refl, is ∙ ap Runs (sym (eqb-true t starter same))), refl)
-one_failed o log l starter t closed false is same = inl (starter, same, (l, closed, refl, is))
+one_failed : (o : Chosen) (log : List Entry) (l starter t : ℕ) (end : End) (b : Bool) → base log ≡ Runs starter → (t == starter) ≡ b →
+    InThisStep (Cause o t (cond b (outcome.Failed (kind_of end)) outcome.Canceled)) (Does (OnLink l (Ended end)) ∷ log)
+one_failed o log l starter t end true is same = inl (end, (l, refl, is ∙ ap Runs (sym (eqb-true t starter same))), refl)
+one_failed o log l starter t end false is same = inl (starter, end, same, (l, refl, is))
 
-all_failed : (o : Chosen) (log : List Entry) (l starter : ℕ) (closed : Bool) (ts : List ℕ) → base log ≡ Runs starter →
-    AllCaused o (Does (OnLink l (Ended closed)) ∷ log) (map (λ t. Told t (if t == starter then outcome.Failed Other else outcome.Canceled)) ts)
-all_failed o log l starter closed [] is = tt
-all_failed o log l starter closed (t ∷ ts) is = (one_failed o log l starter t closed (t == starter) is refl, all_failed o log l starter closed ts is)
+all_failed : (o : Chosen) (log : List Entry) (l starter : ℕ) (end : End) (ts : List ℕ) → base log ≡ Runs starter →
+    AllCaused o (Does (OnLink l (Ended end)) ∷ log) (map (λ t. Told t (if t == starter then outcome.Failed (kind_of end) else outcome.Canceled)) ts)
+all_failed o log l starter end [] is = tt
+all_failed o log l starter end (t ∷ ts) is = (one_failed o log l starter t end (t == starter) is refl, all_failed o log l starter end ts is)
 
-fails_caused : (o : Chosen) (log : List Entry) (l : ℕ) (closed : Bool) (b : Base) (ts : List ℕ) → base log ≡ b → AllCaused o (Does (OnLink l (Ended closed)) ∷ log) (fails b ts)
-fails_caused o log l closed (Runs starter) ts is = all_failed o log l starter closed ts is
-fails_caused o log l closed Nothing ts is = tt
-fails_caused o log l closed (Serves k) ts is = tt
+fails_caused : (o : Chosen) (log : List Entry) (l : ℕ) (end : End) (b : Base) (ts : List ℕ) → base log ≡ b → AllCaused o (Does (OnLink l (Ended end)) ∷ log) (fails b (kind_of end) ts)
+fails_caused o log l end (Runs starter) ts is = all_failed o log l starter end ts is
+fails_caused o log l end Nothing ts is = tt
+fails_caused o log l end (Serves k) ts is = tt
 
 settled_caused : (o : Chosen) (log : List Entry) (l place t : ℕ) (u : Outcome) → SettlesOnly u → InThisStep (Cause o t u) (Does (OnLink l (Settled place t u)) ∷ log)
 settled_caused o log l place t (outcome.Replied r) p = inl (l, place, refl)
@@ -187,7 +201,7 @@ settled_caused o log l place t outcome.Exhausted p = absurd p
 serves_caused : (o : Chosen) (log : List Entry) (a : Act) → IsCaused o log a → AllCaused o (Does a ∷ log) (serves (view o log) a)
 serves_caused o log (OnLink l (Settled place t u)) p = (settled_caused o log l place t u p, tt)
 serves_caused o log (OnLink l Readied) p = got_caused o log l (OnLink l Readied) (waiting log)
-serves_caused o log (OnLink l (Ended closed)) p = fails_caused o log l closed (base log) (waiting log) refl
+serves_caused o log (OnLink l (Ended end)) p = fails_caused o log l end (base log) (waiting log) refl
 serves_caused o log _ p = tt
 
 one_caused : (o : Chosen) (log : List Entry) (b : Bool) (a : Act) → IsCaused o log a → AllCaused o log (cond b (a ∷ []) [])
@@ -201,8 +215,10 @@ calls_for_caused o log false p = (tt, tt)
 brings_caused : (o : Chosen) (log : List Entry) (v : View) (e : Heard) → AllCaused o log (brings v e)
 brings_caused o log v (Called c) = calls_for_caused o log (v.calls == spent) (procedure_for v.is_built c)
 brings_caused o log v (Opened l) = one_caused o log (dials (v.link l)) (OnLink l Opens) tt
+brings_caused o log v (FailedToOpen l kind) = one_caused o log (dials (v.link l)) (OnLink l (Fails kind)) tt
 brings_caused o log v (Bytes l piece) = tt
 brings_caused o log v (Drain l most) = one_caused o log (opens (v.link l)) (OnLink l (Drains most)) tt
+brings_caused o log v (Lost l) = one_caused o log (opens (v.link l)) (OnLink l Loses) tt
 
 comes_caused : (o : Chosen) (log : List Entry) (a : Act) → is_comes a ≡ true → IsCaused o log a
 comes_caused o log (OnLink l (Comes x)) h = tt

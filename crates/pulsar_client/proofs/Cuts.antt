@@ -8,6 +8,7 @@ use Rattle.std.proofs.lemmas.Bool.Decides.{nat_tests}
 use Rattle.pulsar_wire.specs.declared.error.Reason.{Reason}
 use Rattle.pulsar_frame.specs.Frame.{cut, left, bad}
 use Rattle.pulsar_frame.proofs.Streams.{cut-append, bad-append, cut-nil, bad-nil}
+use Rattle.pulsar_wire.specs.declared.error.IoKind.{IoKind}
 use Rattle.pulsar_client.specs.declared.act.Arrival.{Arrival}
 use Rattle.pulsar_client.specs.declared.act.Arrival.TheVariants.{Message, Bad}
 use Rattle.pulsar_client.specs.declared.act.Outcome.{Outcome}
@@ -17,7 +18,7 @@ use Rattle.pulsar_client.specs.declared.act.Procedure.{Procedure}
 use Rattle.pulsar_client.specs.declared.act.Action.{Action}
 use Rattle.pulsar_client.specs.declared.act.Action.TheVariants.{Get, Ask, Answer, Finish, Rest}
 use Rattle.pulsar_client.specs.declared.act.LinkAct.{LinkAct}
-use Rattle.pulsar_client.specs.declared.act.LinkAct.TheVariants.{Opens, Comes, Drains, Requests, Spends, Greets, Readied, Ended, Settled}
+use Rattle.pulsar_client.specs.declared.act.LinkAct.TheVariants.{Opens, Comes, Drains, Requests, Spends, Greets, Readied, Ended, Settled, Fails, Loses}
 use Rattle.pulsar_client.specs.declared.act.Act.{Act}
 use Rattle.pulsar_client.specs.declared.act.Act.TheVariants.{Calls, Told, Dials, Waits, Answers, Builds, OnLink}
 use Rattle.pulsar_client.specs.declared.tables.Base.{Base}
@@ -25,9 +26,9 @@ use Rattle.pulsar_client.specs.declared.tables.Base.TheVariants.{Nothing, Runs, 
 use Rattle.pulsar_client.specs.declared.session.link.Stage.{Stage}
 use Rattle.pulsar_client.specs.declared.session.link.Stage.TheVariants.{Dialing, Handshaking, Ready, Over}
 use Rattle.pulsar_client.specs.Messages.{read}
-use Rattle.pulsar_client.specs.Content.{Heard, Called, Opened, Bytes, Drain}
+use Rattle.pulsar_client.specs.Content.{Heard, Called, Opened, Bytes, Drain, FailedToOpen, Lost}
 use Rattle.pulsar_client.specs.Failures.{Exhausted}
-use Rattle.pulsar_client.specs.Link.{Seen, seen, stage, is_dialing, is_open, arrivals, link_rule, at_arrival, is_ready, fits_frame, request_message}
+use Rattle.pulsar_client.specs.Link.{Seen, seen, stage, is_dialing, is_open, arrivals, link_rule, at_arrival, is_ready, fits_frame, request_message, kind_of}
 use Rattle.pulsar_client.specs.Log.{Chosen, Entry, Begins, Does, links, of_link, seen_link, stream, opens, dials, View, view, at_once, serves, performs, gets, asks, asks_on, fails, link_acts, brings, procedure_for, frames_of, spent}
 use Rattle.pulsar_client.specs.Plan.{failed, next}
 use Rattle.pulsar_client.specs.Good.{due, to_come, IsRun, first, is_empty}
@@ -43,7 +44,7 @@ is_bad (Bad r) = true
 is_bad (Message m) = false
 
 abbrev is_end : LinkAct → Bool
-is_end (Ended closed) = true
+is_end (Ended end) = true
 is_end _ = false
 
 -- what is no frame has come
@@ -69,7 +70,7 @@ any_front : {A : Type 0} (f : A → Bool) (x : A) (xs : List A) → list_any f (
 any_front f x xs h = elim (cases_Bool (f x)) [ inl e ↦ inl e | inr e ↦ inr (rw e at h) ]
 
 ended_over : (act : LinkAct) (h : List LinkAct) → is_end act ≡ true → is_over (stage (act ∷ h)) ≡ true
-ended_over (Ended closed) h e = refl
+ended_over (Ended end) h e = refl
 ended_over _ h e = absurd cc
 
 ends_on : (n : ℕ) (act : LinkAct) (h : List LinkAct) → IsLinkRun n h → Fits n act h → Ends n h → Ends n (act ∷ h)
@@ -96,9 +97,11 @@ bad_ends n (Opens ∷ h) r p b = ends_on n Opens h r.0 r.1 (bad_ends n h r.0 p b
 bad_ends n (Drains most ∷ h) r p b = ends_on n (Drains most) h r.0 r.1 (bad_ends n h r.0 p b)
 bad_ends n (Requests q t ∷ h) r p b = ends_on n (Requests q t) h r.0 r.1 (bad_ends n h r.0 p b)
 bad_ends n (Spends ∷ h) r p b = ends_on n Spends h r.0 r.1 (bad_ends n h r.0 p b)
+bad_ends n (Loses ∷ h) r p b = ends_on n Loses h r.0 r.1 (bad_ends n h r.0 p b)
+bad_ends n ((Fails kind) ∷ h) r p b = ends_on n (Fails kind) h r.0 r.1 (bad_ends n h r.0 p b)
 bad_ends n (Greets ∷ h) r p b = ends_on n Greets h r.0 r.1 (bad_ends n h r.0 p b)
 bad_ends n (Readied ∷ h) r p b = ends_on n Readied h r.0 r.1 (bad_ends n h r.0 p b)
-bad_ends n (Ended closed ∷ h) r p b = ends_on n (Ended closed) h r.0 r.1 (bad_ends n h r.0 p b)
+bad_ends n (Ended end ∷ h) r p b = ends_on n (Ended end) h r.0 r.1 (bad_ends n h r.0 p b)
 bad_ends n (Settled place t o ∷ h) r p b = ends_on n (Settled place t o) h r.0 r.1 (bad_ends n h r.0 p b)
 
 ends_rest : (n : ℕ) (h : List LinkAct) → link_due n h ≡ [] → Ends n h → is_over (stage h) ≡ true
@@ -120,9 +123,11 @@ has_is (Opens ∷ h) = has_is h
 has_is (Drains most ∷ h) = has_is h
 has_is (Requests q t ∷ h) = has_is h
 has_is (Spends ∷ h) = has_is h
+has_is (Loses ∷ h) = has_is h
+has_is ((Fails kind) ∷ h) = has_is h
 has_is (Greets ∷ h) = has_is h
 has_is (Readied ∷ h) = has_is h
-has_is (Ended closed ∷ h) = has_is h
+has_is (Ended end ∷ h) = has_is h
 has_is (Settled place t o ∷ h) = has_is h
 
 -- STREAMS
@@ -176,15 +181,15 @@ told_plain : (f : ℕ → Outcome) (ts : List ℕ) → NoComes (map (λ t. Told 
 told_plain f [] = tt
 told_plain f (t ∷ ts) = (refl, told_plain f ts)
 
-fails_plain : (b : Base) (ts : List ℕ) → NoComes (fails b ts)
-fails_plain (Runs s) ts = told_plain _ ts
-fails_plain Nothing ts = tt
-fails_plain (Serves l) ts = tt
+fails_plain : (b : Base) (kind : IoKind) (ts : List ℕ) → NoComes (fails b kind ts)
+fails_plain (Runs s) kind ts = told_plain _ ts
+fails_plain Nothing kind ts = tt
+fails_plain (Serves l) kind ts = tt
 
 serves_plain : (v : View) (a : Act) → NoComes (serves v a)
 serves_plain v (OnLink l (Settled place t o)) = (refl, tt)
 serves_plain v (OnLink l Readied) = told_plain _ v.waiting
-serves_plain v (OnLink l (Ended closed)) = fails_plain v.base v.waiting
+serves_plain v (OnLink l (Ended end)) = fails_plain v.base (kind_of end) v.waiting
 serves_plain v _ = tt
 
 gets_plain : (b : Base) (t : ℕ) → NoComes (gets b t)
@@ -245,8 +250,10 @@ calls_for_plain false p = (refl, tt)
 brings_plain : (v : View) (e : Heard) → NoComes (brings v e)
 brings_plain v (Called c) = calls_for_plain (v.calls == spent) (procedure_for v.is_built c)
 brings_plain v (Opened l) = one_plain (dials (v.link l)) (OnLink l Opens) refl
+brings_plain v (FailedToOpen l kind) = one_plain (dials (v.link l)) (OnLink l (Fails kind)) refl
 brings_plain v (Bytes l piece) = tt
 brings_plain v (Drain l most) = one_plain (opens (v.link l)) (OnLink l (Drains most)) refl
+brings_plain v (Lost l) = one_plain (opens (v.link l)) (OnLink l Loses) refl
 
 -- the frames of a piece
 abbrev pieces : ℕ → List Arrival → List Act
@@ -295,7 +302,9 @@ no_stream o l [] lt = refl
 no_stream o l (Begins (Bytes k piece) ∷ log) lt = stream_cases o l k piece (stream o l log) log lt (no_stream o l log lt)
 no_stream o l (Begins (Called c) ∷ log) lt = no_stream o l log lt
 no_stream o l (Begins (Opened k) ∷ log) lt = no_stream o l log lt
+no_stream o l (Begins (FailedToOpen k kind) ∷ log) lt = no_stream o l log lt
 no_stream o l (Begins (Drain k most) ∷ log) lt = no_stream o l log lt
+no_stream o l (Begins (Lost k) ∷ log) lt = no_stream o l log lt
 no_stream o l (Does (Dials t) ∷ log) lt = no_stream o l log (before_more l (links log) lt)
 no_stream o l (Does (Calls p) ∷ log) lt = no_stream o l log lt
 no_stream o l (Does (Told t u) ∷ log) lt = no_stream o l log lt
@@ -376,7 +385,7 @@ late_same : (b : Bool) (x : LinkAct) (h : List LinkAct) → is_dialing (stage h)
 late_same false x h p = p
 late_same true Greets h p = refl
 late_same true Readied h p = refl
-late_same true (Ended closed) h p = refl
+late_same true (Ended end) h p = refl
 late_same true _ h p = p
 
 link_quiet : (o : Chosen) (log : List Entry) (n : ℕ) (x : LinkAct) → Cutting o log → first (due o log ++ to_come o log) ≡ Some (OnLink n x) → is_comes (OnLink n x) ≡ false → is_comes (OnLink 0 x) ≡ false →
@@ -521,7 +530,9 @@ cutting o [] r = record { plain = tt; all = tt; whole = λ l lt. absurd (none l 
     none l lt = grind (arith, nat_tests)
 cutting o (Begins (Called c) ∷ log) r = nothing_on o log r.0 (cutting o log r.0) r.1 (Called c) refl (λ l lt. refl)
 cutting o (Begins (Opened n) ∷ log) r = nothing_on o log r.0 (cutting o log r.0) r.1 (Opened n) refl (λ l lt. refl)
+cutting o (Begins (FailedToOpen n kind) ∷ log) r = nothing_on o log r.0 (cutting o log r.0) r.1 (FailedToOpen n kind) refl (λ l lt. refl)
 cutting o (Begins (Drain n most) ∷ log) r = nothing_on o log r.0 (cutting o log r.0) r.1 (Drain n most) refl (λ l lt. refl)
+cutting o (Begins (Lost n) ∷ log) r = nothing_on o log r.0 (cutting o log r.0) r.1 (Lost n) refl (λ l lt. refl)
 cutting o (Begins (Bytes n piece) ∷ log) r = elim (cases_Bool (opens (seen_link o log n))) [
   | inl is_live ↦ bytes_on o log r.0 (cutting o log r.0) r.1 n piece is_live
   | inr shut ↦ nothing_on o log r.0 (cutting o log r.0) r.1 (Bytes n piece) (rw shut refl) (λ l lt. shut_same l shut)
@@ -540,9 +551,11 @@ cutting o (Does (OnLink n Opens) ∷ log) r = link_quiet o log n Opens (cutting 
 cutting o (Does (OnLink n (Drains most)) ∷ log) r = link_quiet o log n (Drains most) (cutting o log r.0) r.1 refl refl
 cutting o (Does (OnLink n (Requests q t)) ∷ log) r = link_quiet o log n (Requests q t) (cutting o log r.0) r.1 refl refl
 cutting o (Does (OnLink n Spends) ∷ log) r = link_quiet o log n Spends (cutting o log r.0) r.1 refl refl
+cutting o (Does (OnLink n Loses) ∷ log) r = link_quiet o log n Loses (cutting o log r.0) r.1 refl refl
+cutting o (Does (OnLink n (Fails kind)) ∷ log) r = link_quiet o log n (Fails kind) (cutting o log r.0) r.1 refl refl
 cutting o (Does (OnLink n Greets) ∷ log) r = link_quiet o log n Greets (cutting o log r.0) r.1 refl refl
 cutting o (Does (OnLink n Readied) ∷ log) r = link_quiet o log n Readied (cutting o log r.0) r.1 refl refl
-cutting o (Does (OnLink n (Ended closed)) ∷ log) r = link_quiet o log n (Ended closed) (cutting o log r.0) r.1 refl refl
+cutting o (Does (OnLink n (Ended end)) ∷ log) r = link_quiet o log n (Ended end) (cutting o log r.0) r.1 refl refl
 cutting o (Does (OnLink n (Settled p t u)) ∷ log) r = link_quiet o log n (Settled p t u) (cutting o log r.0) r.1 refl refl
 
 pub frames_are_cut : FramesAreCut

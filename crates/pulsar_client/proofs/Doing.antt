@@ -1,6 +1,7 @@
 -- What a call does is what its procedure does next.
 use Rattle.std.proofs.Common.{◌≡◌, ℕ, ◌∙◌, sym, subst, List, [], ◌∷◌, ◌++◌, refl, map, drop, Bool, true, false, cond, Option, Some, None, ◌⊎◌, inl, inr, ◌==◌}
 use Rattle.std.proofs.lemmas.Bool.{eq-eqb}
+use Rattle.pulsar_wire.specs.declared.error.IoKind.{IoKind}
 use Rattle.pulsar_client.specs.declared.act.Outcome.{Outcome}
 use Rattle.pulsar_client.specs.declared.act.Outcome.TheVariants as outcome
 use Rattle.pulsar_client.specs.declared.act.Request.{Request}
@@ -8,14 +9,14 @@ use Rattle.pulsar_client.specs.declared.act.Procedure.{Procedure}
 use Rattle.pulsar_client.specs.declared.act.Action.{Action}
 use Rattle.pulsar_client.specs.declared.act.Action.TheVariants.{Get, Ask, Answer, Finish, Rest}
 use Rattle.pulsar_client.specs.declared.act.LinkAct.{LinkAct}
-use Rattle.pulsar_client.specs.declared.act.LinkAct.TheVariants.{Opens, Comes, Drains, Requests, Spends, Readied, Ended, Settled}
+use Rattle.pulsar_client.specs.declared.act.LinkAct.TheVariants.{Opens, Comes, Drains, Requests, Spends, Readied, Ended, Settled, Fails, Loses}
 use Rattle.pulsar_client.specs.declared.act.Act.{Act}
 use Rattle.pulsar_client.specs.declared.act.Act.TheVariants.{Calls, Told, Answers, OnLink}
 use Rattle.pulsar_client.specs.declared.tables.Base.{Base}
 use Rattle.pulsar_client.specs.declared.tables.Base.TheVariants.{Nothing, Runs, Serves}
-use Rattle.pulsar_client.specs.Content.{Heard, Called, Opened, Bytes, Drain}
+use Rattle.pulsar_client.specs.Content.{Heard, Called, Opened, Bytes, Drain, FailedToOpen, Lost}
 use Rattle.pulsar_client.specs.Failures.{Exhausted}
-use Rattle.pulsar_client.specs.Link.{Seen, link_rule, is_ready, fits_frame, request_message}
+use Rattle.pulsar_client.specs.Link.{Seen, link_rule, is_ready, fits_frame, request_message, kind_of}
 use Rattle.pulsar_client.specs.Plan.{failed, next}
 use Rattle.pulsar_client.specs.Log.{Chosen, Entry, Begins, Does, View, view, calls, procedure_of, outcomes_of, action_at, spent, at_once, serves, performs, gets, asks, asks_on, fails, link_acts, brings, procedure_for, dials, opens}
 use Rattle.pulsar_client.specs.Good.{due, to_come, IsRun, first}
@@ -117,15 +118,15 @@ told_none : (f : ℕ → Outcome) (ts : List ℕ) → NoCaller (map (λ t. Told 
 told_none f [] = tt
 told_none f (t ∷ ts) = (refl, told_none f ts)
 
-fails_none : (b : Base) (ts : List ℕ) → NoCaller (fails b ts)
-fails_none (Runs s) ts = told_none _ ts
-fails_none Nothing ts = tt
-fails_none (Serves l) ts = tt
+fails_none : (b : Base) (kind : IoKind) (ts : List ℕ) → NoCaller (fails b kind ts)
+fails_none (Runs s) kind ts = told_none _ ts
+fails_none Nothing kind ts = tt
+fails_none (Serves l) kind ts = tt
 
 serves_none : (v : View) (a : Act) → NoCaller (serves v a)
 serves_none v (OnLink l (Settled place t u)) = (refl, tt)
 serves_none v (OnLink l Readied) = told_none _ v.waiting
-serves_none v (OnLink l (Ended closed)) = fails_none v.base v.waiting
+serves_none v (OnLink l (Ended end)) = fails_none v.base (kind_of end) v.waiting
 serves_none v _ = tt
 
 once_done : (o : Chosen) (log : List Entry) (a : Act) → AllDone o (Does a ∷ log) (at_once (view o log) a)
@@ -148,8 +149,10 @@ call_done o log e false p is = (λ t h. absurd cc, tt)
 brings_done : (o : Chosen) (log : List Entry) (e : Heard) → AllDone o (Begins e ∷ log) (brings (view o log) e)
 brings_done o log (Called c) = call_done o log (Called c) (calls log == spent) (procedure_for (view o log).is_built c) refl
 brings_done o log (Opened l) = none_done o (Begins (Opened l) ∷ log) _ (one_none (dials ((view o log).link l)) (OnLink l Opens) refl)
+brings_done o log (FailedToOpen l kind) = none_done o (Begins (FailedToOpen l kind) ∷ log) _ (one_none (dials ((view o log).link l)) (OnLink l (Fails kind)) refl)
 brings_done o log (Bytes l piece) = tt
 brings_done o log (Drain l most) = none_done o (Begins (Drain l most) ∷ log) _ (one_none (opens ((view o log).link l)) (OnLink l (Drains most)) refl)
+brings_done o log (Lost l) = none_done o (Begins (Lost l) ∷ log) _ (one_none (opens ((view o log).link l)) (OnLink l Loses) refl)
 
 comes_done : (o : Chosen) (log : List Entry) (a : Act) → is_comes a ≡ true → IsDone o log a
 comes_done o log (OnLink l (Comes x)) h = λ t e. absurd cc

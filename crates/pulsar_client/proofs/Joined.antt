@@ -4,8 +4,9 @@ use Rattle.std.specs.List.{flat_map, list_all}
 use Rattle.std.proofs.lemmas.Grind.{flat_map-append}
 use Rattle.std.proofs.lemmas.Bool.{cases_Bool, eqb-true, eq-eqb}
 use Rattle.std.proofs.lemmas.Bool.Decides.{nat_tests}
+use Rattle.pulsar_client.specs.declared.act.End.TheVariants.{Failed, Lost, Refused}
 use Rattle.pulsar_client.specs.declared.act.LinkAct.{LinkAct}
-use Rattle.pulsar_client.specs.declared.act.LinkAct.TheVariants.{Opens, Comes, Drains, Requests, Spends, Greets, Readied, Ended, Settled}
+use Rattle.pulsar_client.specs.declared.act.LinkAct.TheVariants.{Opens, Comes, Drains, Requests, Spends, Greets, Readied, Ended, Settled, Fails, Loses}
 use Rattle.pulsar_client.specs.declared.act.Act.{Act}
 use Rattle.pulsar_client.specs.declared.act.Act.TheVariants.{Calls, Told, Dials, Waits, Answers, Builds, OnLink}
 use Rattle.pulsar_frame.specs.Frame.{frame_bytes}
@@ -194,12 +195,15 @@ act_says : (n l : ℕ) (act : LinkAct) (h : List LinkAct) (s : Step) (st : List 
 act_says n l (Drains most) h s st p = writes_say n l most h (written_by (Drains most) (stage h) (unwritten n h)) s st refl p
 act_says n l Greets h s st p = let q = frame_says n l h (frame_bytes connect_message) s st p in record { written = q.0; asked = q.1; below = q.2 }
 act_says n l (Requests r t) h s st p = let q = frame_says n l h (frame_bytes (request_message (next_id n h) r)) s st p in record { written = q.0; asked = q.1; below = q.2 }
-act_says n l (Ended true) h s st p = quiet_says n l h (Ended true ∷ h) (Some (Close l)) (s ∷ st) p (refl, refl, λ m. tt) (same_flat (frames_written n h)) refl refl
-act_says n l (Ended false) h s st p = quiet_says n l h (Ended false ∷ h) None (s ∷ st) p tt (same_flat (frames_written n h)) refl refl
+act_says n l (Ended Refused) h s st p = quiet_says n l h (Ended Refused ∷ h) (Some (Close l)) (s ∷ st) p (refl, refl, λ m. tt) (same_flat (frames_written n h)) refl refl
+act_says n l (Ended Lost) h s st p = quiet_says n l h (Ended Lost ∷ h) None (s ∷ st) p tt (same_flat (frames_written n h)) refl refl
+act_says n l (Ended (Failed kind)) h s st p = quiet_says n l h (Ended (Failed kind) ∷ h) None (s ∷ st) p tt (same_flat (frames_written n h)) refl refl
 act_says n l (Settled place t u) h s st p = quiet_says n l h (Settled place t u ∷ h) (Some (Settles l place (settlement_of u))) (s ∷ st) p (refl, refl, λ m. tt) (same_flat (frames_written n h)) refl refl
 act_says n l Opens h s st p = quiet_says n l h (Opens ∷ h) None (s ∷ st) p tt (same_flat (frames_written n h)) refl refl
 act_says n l (Comes a) h s st p = quiet_says n l h (Comes a ∷ h) None (s ∷ st) p tt (same_flat (frames_written n h)) refl refl
 act_says n l Spends h s st p = quiet_says n l h (Spends ∷ h) None (s ∷ st) p tt (same_flat (frames_written n h)) refl refl
+act_says n l Loses h s st p = quiet_says n l h (Loses ∷ h) None (s ∷ st) p tt (same_flat (frames_written n h)) refl refl
+act_says n l (Fails kind) h s st p = quiet_says n l h ((Fails kind) ∷ h) None (s ∷ st) p tt (same_flat (frames_written n h)) refl refl
 act_says n l Readied h s st p = quiet_says n l h (Readied ∷ h) None (s ∷ st) p tt (same_flat (frames_written n h)) refl refl
 
 -- an act of another link
@@ -213,14 +217,17 @@ queues_other l k place (Some frame) ne = (refl, rw ne refl, λ n h. let f : true
 
 effect_other : (l k : ℕ) (s : Seen) (act : LinkAct) → (l == k) ≡ false → IsQuiet l (link_effect k s act)
 effect_other l k s (Drains most) ne = writes_other l k (written_by (Drains most) s.stage s.unwritten) ne
-effect_other l k s (Ended true) ne = (refl, refl, λ n. tt)
-effect_other l k s (Ended false) ne = tt
+effect_other l k s (Ended Refused) ne = (refl, refl, λ n. tt)
+effect_other l k s (Ended Lost) ne = tt
+effect_other l k s (Ended (Failed kind)) ne = tt
 effect_other l k s (Settled place t u) ne = (refl, refl, λ n. tt)
 effect_other l k s Greets ne = queues_other l k s.queued (frame_of Greets s.next_id) ne
 effect_other l k s (Requests r t) ne = queues_other l k s.queued (frame_of (Requests r t) s.next_id) ne
 effect_other l k s Opens ne = tt
 effect_other l k s (Comes a) ne = tt
 effect_other l k s Spends ne = tt
+effect_other l k s Loses ne = tt
+effect_other l k s (Fails kind) ne = tt
 effect_other l k s Readied ne = tt
 
 at_other : (l k : ℕ) (s : Option Seen) (act : LinkAct) → (l == k) ≡ false → IsQuiet l (effect_at k s act)

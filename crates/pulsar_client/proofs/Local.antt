@@ -5,6 +5,8 @@ use Rattle.std.specs.List.{filter_map, cons_option}
 use Rattle.std.proofs.lemmas.List.Elements.{filter_map-append}
 use Rattle.std.proofs.lemmas.Bool.{cases_Bool, eqb-true, eq-eqb}
 use Rattle.std.proofs.lemmas.Bool.Decides.{nat_tests}
+use Rattle.pulsar_wire.specs.declared.error.IoKind.{IoKind}
+use Rattle.pulsar_client.specs.declared.act.End.TheVariants.{Refused}
 use Rattle.pulsar_client.specs.declared.act.Arrival.{Arrival}
 use Rattle.pulsar_client.specs.declared.act.Arrival.TheVariants.{Message, Bad}
 use Rattle.pulsar_client.specs.declared.act.Outcome.{Outcome}
@@ -13,7 +15,7 @@ use Rattle.pulsar_client.specs.declared.act.Request.{Request}
 use Rattle.pulsar_client.specs.declared.act.Action.{Action}
 use Rattle.pulsar_client.specs.declared.act.Action.TheVariants.{Get, Ask, Answer, Finish, Rest}
 use Rattle.pulsar_client.specs.declared.act.LinkAct.{LinkAct}
-use Rattle.pulsar_client.specs.declared.act.LinkAct.TheVariants.{Opens, Comes, Drains, Requests, Spends, Readied, Ended, Settled}
+use Rattle.pulsar_client.specs.declared.act.LinkAct.TheVariants.{Opens, Comes, Drains, Requests, Spends, Readied, Ended, Settled, Fails, Loses}
 use Rattle.pulsar_client.specs.declared.act.Act.{Act}
 use Rattle.pulsar_client.specs.declared.act.Act.TheVariants.{Calls, Told, Dials, Waits, Answers, Builds, OnLink}
 use Rattle.pulsar_client.specs.declared.tables.Base.{Base}
@@ -22,9 +24,9 @@ use Rattle.pulsar_client.specs.declared.session.link.Stage.{Stage}
 use Rattle.pulsar_client.specs.declared.session.link.Stage.TheVariants.{Dialing, Handshaking, Ready, Over}
 use Rattle.pulsar_client.specs.Messages.{is_connected}
 use Rattle.pulsar_client.specs.Plan.{failed}
-use Rattle.pulsar_client.specs.Content.{Asked, Heard, Called, Opened, Bytes, Drain}
+use Rattle.pulsar_client.specs.Content.{Asked, Heard, Called, Opened, Bytes, Drain, FailedToOpen, Lost}
 use Rattle.pulsar_client.specs.Failures.{Exhausted}
-use Rattle.pulsar_client.specs.Link.{Seen, Pending, seen, arrivals, bears_id, link_rule, settled, disconnected, turns, at_opening, at_arrival, is_ready, fits_frame, request_message}
+use Rattle.pulsar_client.specs.Link.{Seen, Pending, seen, arrivals, bears_id, link_rule, settled, disconnected, turns, at_opening, at_arrival, is_ready, fits_frame, request_message, kind_of, at_failure, at_loss}
 use Rattle.pulsar_client.specs.Log.{Chosen, Entry, Begins, Does, links, of_link, seen_link, View, view, at_once, serves, performs, gets, asks, asks_on, fails, link_acts, brings, calls_for, frames_of, dials, opens, spent, procedure_for}
 use Rattle.pulsar_client.specs.Good.{due, to_come, IsRun, first, is_empty}
 use Rattle.pulsar_client.specs.Local.{is_own, link_due, Fits, IsLinkRun}
@@ -103,11 +105,11 @@ map_own f (r ∷ rs) p = (p r, map_own f rs p)
 
 settled_own : (act : LinkAct) (rs : List Pending) → AllOwn (settled act rs)
 settled_own (Comes (Message m)) rs = map_own _ (filter (λ r. bears_id m.key r.id) rs) (λ r. refl)
-settled_own (Ended closed) rs = map_own disconnected rs (λ r. refl)
+settled_own (Ended end) rs = map_own disconnected rs (λ r. refl)
 settled_own _ rs = tt
 
 arrival_own : (s : Stage) (a : Arrival) → AllOwn (at_arrival s a)
-arrival_own Handshaking (Message m) = elim (is_connected m) as (λ b. AllOwn (cond b Readied (Ended true) ∷ [])) [ true ↦ (refl, tt) | false ↦ (refl, tt) ]
+arrival_own Handshaking (Message m) = elim (is_connected m) as (λ b. AllOwn (cond b Readied (Ended Refused) ∷ [])) [ true ↦ (refl, tt) | false ↦ (refl, tt) ]
 arrival_own Handshaking (Bad r) = (refl, tt)
 arrival_own Ready (Bad r) = (refl, tt)
 arrival_own Ready (Message m) = tt
@@ -118,8 +120,20 @@ opening_own : (s : Stage) → AllOwn (at_opening s)
 opening_own Dialing = (refl, tt)
 opening_own _ = tt
 
+failure_own : (s : Stage) (kind : IoKind) → AllOwn (at_failure s kind)
+failure_own Dialing kind = (refl, tt)
+failure_own _ kind = tt
+
+loss_own : (s : Stage) → AllOwn (at_loss s)
+loss_own Dialing = tt
+loss_own Handshaking = (refl, tt)
+loss_own Ready = (refl, tt)
+loss_own Over = tt
+
 turns_own : (s : Seen) (act : LinkAct) → AllOwn (turns s.stage act)
 turns_own s Opens = opening_own s.stage
+turns_own s (Fails kind) = failure_own s.stage kind
+turns_own s Loses = loss_own s.stage
 turns_own s (Comes a) = arrival_own s.stage a
 turns_own s _ = tt
 
@@ -130,15 +144,15 @@ told_none : (f : ℕ → Outcome) (ts : List ℕ) → NoOwn (map (λ t. Told t (
 told_none f [] = tt
 told_none f (t ∷ ts) = (refl, told_none f ts)
 
-fails_none : (b : Base) (ts : List ℕ) → NoOwn (fails b ts)
-fails_none (Runs s) ts = told_none _ ts
-fails_none Nothing ts = tt
-fails_none (Serves l) ts = tt
+fails_none : (b : Base) (kind : IoKind) (ts : List ℕ) → NoOwn (fails b kind ts)
+fails_none (Runs s) kind ts = told_none _ ts
+fails_none Nothing kind ts = tt
+fails_none (Serves l) kind ts = tt
 
 serves_none : (v : View) (a : Act) → NoOwn (serves v a)
 serves_none v (OnLink l (Settled place t o)) = (refl, tt)
 serves_none v (OnLink l Readied) = told_none _ v.waiting
-serves_none v (OnLink l (Ended closed)) = fails_none v.base v.waiting
+serves_none v (OnLink l (Ended end)) = fails_none v.base (kind_of end) v.waiting
 serves_none v _ = tt
 
 gets_none : (b : Base) (t : ℕ) → NoOwn (gets b t)
@@ -182,8 +196,10 @@ calls_none v c =
 brings_none : (v : View) (e : Heard) → NoOwn (brings v e)
 brings_none v (Called c) = calls_none v c
 brings_none v (Opened l) = one_none (dials (v.link l)) (OnLink l Opens) refl
+brings_none v (FailedToOpen l kind) = one_none (dials (v.link l)) (OnLink l (Fails kind)) refl
 brings_none v (Bytes l piece) = tt
 brings_none v (Drain l most) = one_none (opens (v.link l)) (OnLink l (Drains most)) refl
+brings_none v (Lost l) = one_none (opens (v.link l)) (OnLink l Loses) refl
 
 comes_none : (l : ℕ) (as' : List Arrival) → NoOwn (map (λ a. OnLink l (Comes a)) as')
 comes_none l [] = tt

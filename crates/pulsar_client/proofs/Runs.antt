@@ -9,6 +9,7 @@ use Rattle.std.proofs.lemmas.Bool.Decides.{nat_tests}
 use Rattle.std.proofs.lemmas.Grind.{common_steps}
 use Rattle.pulsar_frame.specs.Frame.{left, cut_within}
 use Rattle.pulsar_frame.proofs.Streams.{left-append}
+use Rattle.pulsar_client.specs.declared.act.End.{End}
 use Rattle.pulsar_client.specs.declared.event.Event.{Event}
 use Rattle.pulsar_client.specs.declared.effect.Effect.{Effect}
 use Rattle.pulsar_client.specs.declared.act.Arrival.{Arrival}
@@ -24,7 +25,7 @@ use Rattle.pulsar_client.specs.declared.plans.plan.Plan.{Plan}
 use Rattle.pulsar_client.specs.declared.plans.plan.Plan.TheVariants as plan
 use Rattle.pulsar_client.specs.declared.tables.Base.{Base}
 use Rattle.pulsar_client.specs.declared.tables.Tables.{Tables}
-use Rattle.pulsar_client.specs.Content.{Heard, Called, Opened, Bytes, Drain, Shown}
+use Rattle.pulsar_client.specs.Content.{Heard, Called, Opened, Bytes, Drain, Shown, FailedToOpen, Lost}
 use Rattle.pulsar_client.specs.Link.{Seen, seen}
 use Rattle.pulsar_client.specs.Plan.{next}
 use Rattle.pulsar_client.specs.Log.{Chosen, Entry, Begins, Does, built, calls, procedure_of, outcomes_of, links, of_link, stream, base, waiting, action_at, is_live, opens, seen_link, unread_of, View, view, at_once, serves, brings, frames_of}
@@ -89,7 +90,7 @@ view_same {o} {c} {log} r = λ i. record {
 seen_after : (first : ℕ) (a : LinkAct) (h : List LinkAct) → after_act a (seen first h) ≡ seen first (a ∷ h)
 seen_after first Greets h = refl
 seen_after first Readied h = refl
-seen_after first (Ended closed) h = refl
+seen_after first (Ended end) h = refl
 seen_after first _ h = refl
 
 built_step : (a : Act) (log : List Entry) → built_after a (built log) ≡ built (Does a ∷ log)
@@ -103,14 +104,14 @@ tickets_step _ log = refl
 base_step : (a : Act) (log : List Entry) → base_after a (base log) ≡ base (Does a ∷ log)
 base_step (Dials t) log = refl
 base_step (OnLink k Readied) log = refl
-base_step (OnLink k (Ended closed)) log = refl
+base_step (OnLink k (Ended end)) log = refl
 base_step (OnLink k _) log = refl
 base_step _ log = refl
 
 waiting_step : (a : Act) (log : List Entry) → waiting_after a (waiting log) ≡ waiting (Does a ∷ log)
 waiting_step (Waits t) log = refl
 waiting_step (OnLink k Readied) log = refl
-waiting_step (OnLink k (Ended closed)) log = refl
+waiting_step (OnLink k (Ended end)) log = refl
 waiting_step (OnLink k _) log = refl
 waiting_step _ log = refl
 
@@ -155,7 +156,9 @@ stream-none o l [] h = refl
 stream-none o l (Begins (Bytes k piece) ∷ log) h = begun-none o l k (links log) piece (stream o l log) (seen_link o log l) h (rw h refl) (stream-none o l log h)
 stream-none o l (Begins (Called c) ∷ log) h = stream-none o l log h
 stream-none o l (Begins (Opened k) ∷ log) h = stream-none o l log h
+stream-none o l (Begins (FailedToOpen k kind) ∷ log) h = stream-none o l log h
 stream-none o l (Begins (Drain k n) ∷ log) h = stream-none o l log h
+stream-none o l (Begins (Lost k) ∷ log) h = stream-none o l log h
 stream-none o l (Does (Dials t) ∷ log) h = let older : nat_lt l (links log) ≡ false = grind (arith, nat_tests) in stream-none o l log older
 stream-none o l (Does _ ∷ log) h = stream-none o l log h
 
@@ -249,7 +252,9 @@ unread_begins : (o : Chosen) (e : Heard) (l : ℕ) (log : List Entry) → unread
 unread_begins o (Bytes k piece) l log = begins-at o l k piece log
 unread_begins o (Called c) l log = refl
 unread_begins o (Opened k) l log = refl
+unread_begins o (FailedToOpen k kind) l log = refl
 unread_begins o (Drain k n) l log = refl
+unread_begins o (Lost k) l log = refl
 
 -- an event begins where nothing is left to do
 pub began : {o : Chosen} {c c' : Tables} {h : List Step} (e : Heard) → Begun e c c' → Stands o c h →
@@ -300,23 +305,23 @@ last-arrival l arrived none s = rw (nil_from_length arrived none) at s
 
 -- ACTS OF LINKS THAT SERVE NOBODY
 
-pub quiet-base : (act : LinkAct) (l : ℕ) (b : Base) → (act ≡ Readied → ⊥) → ((closed : Bool) → act ≡ Ended closed → ⊥) → b ≡ base_after (OnLink l act) b
+pub quiet-base : (act : LinkAct) (l : ℕ) (b : Base) → (act ≡ Readied → ⊥) → ((end : End) → act ≡ Ended end → ⊥) → b ≡ base_after (OnLink l act) b
 quiet-base Readied l b r e = absurd (r refl)
-quiet-base (Ended closed) l b r e = absurd (e closed refl)
+quiet-base (Ended end) l b r e = absurd (e end refl)
 quiet-base _ l b r e = refl
 
-pub quiet-waiting : (act : LinkAct) (l : ℕ) (ws : List ℕ) → (act ≡ Readied → ⊥) → ((closed : Bool) → act ≡ Ended closed → ⊥) → ws ≡ waiting_after (OnLink l act) ws
+pub quiet-waiting : (act : LinkAct) (l : ℕ) (ws : List ℕ) → (act ≡ Readied → ⊥) → ((end : End) → act ≡ Ended end → ⊥) → ws ≡ waiting_after (OnLink l act) ws
 quiet-waiting Readied l ws r e = absurd (r refl)
-quiet-waiting (Ended closed) l ws r e = absurd (e closed refl)
+quiet-waiting (Ended end) l ws r e = absurd (e end refl)
 quiet-waiting _ l ws r e = refl
 
-pub quiet-serves : (v : View) (act : LinkAct) (l : ℕ) → ((place ticket : ℕ) (o : Outcome) → act ≡ Settled place ticket o → ⊥) → (act ≡ Readied → ⊥) → ((closed : Bool) → act ≡ Ended closed → ⊥) → serves v (OnLink l act) ≡ []
+pub quiet-serves : (v : View) (act : LinkAct) (l : ℕ) → ((place ticket : ℕ) (o : Outcome) → act ≡ Settled place ticket o → ⊥) → (act ≡ Readied → ⊥) → ((end : End) → act ≡ Ended end → ⊥) → serves v (OnLink l act) ≡ []
 quiet-serves v (Settled place ticket o) l s r e = absurd (s place ticket o refl)
 quiet-serves v Readied l s r e = absurd (r refl)
-quiet-serves v (Ended closed) l s r e = absurd (e closed refl)
+quiet-serves v (Ended end) l s r e = absurd (e end refl)
 quiet-serves v _ l s r e = refl
 
-pub quiet-follows : (c c' : Tables) (l : ℕ) (act : LinkAct) → (act ≡ Readied → ⊥) → ((closed : Bool) → act ≡ Ended closed → ⊥) → LinksAlone l act c c' → Follows (OnLink l act) c c'
+pub quiet-follows : (c c' : Tables) (l : ℕ) (act : LinkAct) → (act ≡ Readied → ⊥) → ((end : End) → act ≡ Ended end → ⊥) → LinksAlone l act c c' → Follows (OnLink l act) c c'
 quiet-follows c c' l act r e f = record {
   first_same = f.first_same;
   built_is = f.built_same;
@@ -332,8 +337,10 @@ quiet-follows c c' l act r e f = record {
 dead-brings : (v : View) (e : Heard) → is_live v e ≡ false → brings v e ++ frames_of v e ≡ []
 dead-brings v (Called c) dead = absurd cc
 dead-brings v (Opened l) dead = rw dead refl
+dead-brings v (FailedToOpen l kind) dead = rw dead refl
 dead-brings v (Bytes l piece) dead = rw dead refl
 dead-brings v (Drain l most) dead = rw dead refl
+dead-brings v (Lost l) dead = rw dead refl
 
 dead-at : (v : View) (k l : ℕ) (piece : List ℕ) (row : Option (List ℕ)) → opens (v.link k) ≡ false → (b : Bool) → (l == k) ≡ b → row ≡ cond (b && opens (v.link l)) (option_map (λ bytes. left (bytes ++ piece)) row) row
 dead-at v k l piece row dead false h = refl
@@ -344,8 +351,10 @@ dead-at v k l piece row dead true h =
 dead-unread : (v : View) (e : Heard) (l : ℕ) (row : Option (List ℕ)) → is_live v e ≡ false → row ≡ unread_begun v e l row
 dead-unread v (Called c) l row dead = refl
 dead-unread v (Opened k) l row dead = refl
+dead-unread v (FailedToOpen k kind) l row dead = refl
 dead-unread v (Bytes k piece) l row dead = dead-at v k l piece row dead (l == k) refl
 dead-unread v (Drain k most) l row dead = refl
+dead-unread v (Lost k) l row dead = refl
 
 dead-begins : (c : Tables) (e : Heard) → is_live (view_of c) e ≡ false → Begun e c c
 dead-begins c e dead = record {

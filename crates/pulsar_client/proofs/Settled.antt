@@ -5,17 +5,18 @@ use Rattle.std.specs.Option.{option_to_list}
 use Rattle.std.proofs.lemmas.List.Elements.{filter_map-append, filter-append}
 use Rattle.std.proofs.lemmas.Bool.{cases_Bool, eq-eqb}
 use Rattle.std.proofs.lemmas.Bool.Decides.{nat_tests}
+use Rattle.pulsar_client.specs.declared.act.End.TheVariants.{Refused}
 use Rattle.pulsar_client.specs.declared.act.Arrival.{Arrival}
 use Rattle.pulsar_client.specs.declared.act.Arrival.TheVariants.{Message, Bad}
 use Rattle.pulsar_client.specs.declared.act.Outcome.{Outcome}
 use Rattle.pulsar_client.specs.declared.act.Outcome.TheVariants.{Replied}
 use Rattle.pulsar_client.specs.declared.act.Request.{Request}
 use Rattle.pulsar_client.specs.declared.act.LinkAct.{LinkAct}
-use Rattle.pulsar_client.specs.declared.act.LinkAct.TheVariants.{Opens, Comes, Drains, Requests, Spends, Greets, Readied, Ended, Settled}
+use Rattle.pulsar_client.specs.declared.act.LinkAct.TheVariants.{Opens, Comes, Drains, Requests, Spends, Greets, Readied, Ended, Settled, Fails, Loses}
 use Rattle.pulsar_client.specs.declared.session.link.Stage.{Stage}
 use Rattle.pulsar_client.specs.declared.session.link.Stage.TheVariants.{Dialing, Handshaking, Ready, Over}
 use Rattle.pulsar_client.specs.Messages.{Reply, is_connected}
-use Rattle.pulsar_client.specs.Link.{Pending, seen, stage, bears_id, link_rule, settled, settles, disconnected, turns, at_opening, at_arrival, pending, queued, next_id, left_waiting, with_request}
+use Rattle.pulsar_client.specs.Link.{Pending, seen, stage, bears_id, link_rule, settled, settles, disconnected, turns, at_opening, at_arrival, pending, queued, next_id, left_waiting, with_request, at_failure, at_loss}
 use Rattle.pulsar_client.specs.Good.{first}
 use Rattle.pulsar_client.specs.Local.{is_own, link_due, Fits, IsLinkRun}
 use Rattle.pulsar_client.specs.Laws.{outcome_in, or_else, settled_at, request_at, SettledByFirst}
@@ -47,13 +48,15 @@ settled_is : (act : LinkAct) (rs : List Pending) → settled act rs ≡ filter_m
 settled_is (Comes (Message m)) [] = refl
 settled_is (Comes (Message m)) (r ∷ rs) =
     replied_cases m r (filter (λ x. bears_id m.key x.id) rs) (filter_map (settled_by (Comes (Message m))) rs) (bears_id m.key r.id) refl (settled_is (Comes (Message m)) rs)
-settled_is (Ended closed) [] = refl
-settled_is (Ended closed) (r ∷ rs) = ap (λ t. disconnected r ∷ t) (settled_is (Ended closed) rs)
+settled_is (Ended end) [] = refl
+settled_is (Ended end) (r ∷ rs) = ap (λ t. disconnected r ∷ t) (settled_is (Ended end) rs)
 settled_is Opens rs = sym (quiet Opens rs (λ r. refl))
 settled_is (Comes (Bad e)) rs = sym (quiet (Comes (Bad e)) rs (λ r. refl))
 settled_is (Drains most) rs = sym (quiet (Drains most) rs (λ r. refl))
 settled_is (Requests q t) rs = sym (quiet (Requests q t) rs (λ r. refl))
 settled_is Spends rs = sym (quiet Spends rs (λ r. refl))
+settled_is Loses rs = sym (quiet Loses rs (λ r. refl))
+settled_is (Fails kind) rs = sym (quiet (Fails kind) rs (λ r. refl))
 settled_is Greets rs = sym (quiet Greets rs (λ r. refl))
 settled_is Readied rs = sym (quiet Readied rs (λ r. refl))
 settled_is (Settled p t o) rs = sym (quiet (Settled p t o) rs (λ r. refl))
@@ -71,13 +74,15 @@ left_is : (act : LinkAct) (rs : List Pending) → left_waiting act rs ≡ filter
 left_is (Comes (Message m)) [] = refl
 left_is (Comes (Message m)) (r ∷ rs) =
     kept_cases m r (filter (λ x. not (bears_id m.key x.id)) rs) (filter (λ x. is_none (settles (Comes (Message m)) x)) rs) (bears_id m.key r.id) (left_is (Comes (Message m)) rs)
-left_is (Ended closed) [] = refl
-left_is (Ended closed) (r ∷ rs) = left_is (Ended closed) rs
+left_is (Ended end) [] = refl
+left_is (Ended end) (r ∷ rs) = left_is (Ended end) rs
 left_is Opens rs = sym (all_left Opens rs (λ r. refl))
 left_is (Comes (Bad e)) rs = sym (all_left (Comes (Bad e)) rs (λ r. refl))
 left_is (Drains most) rs = sym (all_left (Drains most) rs (λ r. refl))
 left_is (Requests q t) rs = sym (all_left (Requests q t) rs (λ r. refl))
 left_is Spends rs = sym (all_left Spends rs (λ r. refl))
+left_is Loses rs = sym (all_left Loses rs (λ r. refl))
+left_is (Fails kind) rs = sym (all_left (Fails kind) rs (λ r. refl))
 left_is Greets rs = sym (all_left Greets rs (λ r. refl))
 left_is Readied rs = sym (all_left Readied rs (λ r. refl))
 left_is (Settled p t o) rs = sym (all_left (Settled p t o) rs (λ r. refl))
@@ -88,9 +93,11 @@ with_is Opens id place rs = sym (append-nil rs)
 with_is (Comes a) id place rs = sym (append-nil rs)
 with_is (Drains most) id place rs = sym (append-nil rs)
 with_is Spends id place rs = sym (append-nil rs)
+with_is Loses id place rs = sym (append-nil rs)
+with_is (Fails kind) id place rs = sym (append-nil rs)
 with_is Greets id place rs = sym (append-nil rs)
 with_is Readied id place rs = sym (append-nil rs)
-with_is (Ended closed) id place rs = sym (append-nil rs)
+with_is (Ended end) id place rs = sym (append-nil rs)
 with_is (Settled p t o) id place rs = sym (append-nil rs)
 
 pending_is : (first_number : ℕ) (act : LinkAct) (h : List LinkAct) →
@@ -171,10 +178,22 @@ turns_none p s Opens = opening s
     opening : (t : Stage) → filter_map (settled_at p) (at_opening t) ≡ []
     opening Dialing = refl
     opening _ = refl
+turns_none p s (Fails kind) = failure s
+  where
+    failure : (t : Stage) → filter_map (settled_at p) (at_failure t kind) ≡ []
+    failure Dialing = refl
+    failure _ = refl
+turns_none p s Loses = loss s
+  where
+    loss : (t : Stage) → filter_map (settled_at p) (at_loss t) ≡ []
+    loss Dialing = refl
+    loss Handshaking = refl
+    loss Ready = refl
+    loss Over = refl
 turns_none p s (Comes a) = arrival s a
   where
     arrival : (t : Stage) (a : Arrival) → filter_map (settled_at p) (at_arrival t a) ≡ []
-    arrival Handshaking (Message m) = elim (is_connected m) as (λ b. filter_map (settled_at p) (cond b Readied (Ended true) ∷ []) ≡ []) [ true ↦ refl | false ↦ refl ]
+    arrival Handshaking (Message m) = elim (is_connected m) as (λ b. filter_map (settled_at p) (cond b Readied (Ended Refused) ∷ []) ≡ []) [ true ↦ refl | false ↦ refl ]
     arrival Handshaking (Bad r) = refl
     arrival Ready (Bad r) = refl
     arrival Ready (Message m) = refl

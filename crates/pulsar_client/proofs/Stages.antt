@@ -1,20 +1,21 @@
 -- How a link turns along a run of it: one turn at a time, and none after its end.
 use Rattle.std.proofs.Common.{◌≡◌, ℕ, ◌∙◌, sym, ap, subst, List, [], ◌∷◌, ◌++◌, refl, map, filter, drop, Bool, true, false, Some, inl, inr}
 use Rattle.std.proofs.lemmas.Bool.{cases_Bool}
+use Rattle.pulsar_wire.specs.declared.error.IoKind.{IoKind}
 use Rattle.pulsar_client.specs.declared.act.Arrival.{Arrival}
 use Rattle.pulsar_client.specs.declared.act.Arrival.TheVariants.{Message, Bad}
 use Rattle.pulsar_client.specs.declared.act.LinkAct.{LinkAct}
-use Rattle.pulsar_client.specs.declared.act.LinkAct.TheVariants.{Opens, Comes, Greets, Readied, Ended, Settled}
+use Rattle.pulsar_client.specs.declared.act.LinkAct.TheVariants.{Opens, Comes, Greets, Readied, Ended, Settled, Fails, Loses}
 use Rattle.pulsar_client.specs.declared.session.link.Stage.{Stage}
 use Rattle.pulsar_client.specs.declared.session.link.Stage.TheVariants.{Dialing, Handshaking, Ready, Over}
-use Rattle.pulsar_client.specs.Link.{Pending, stage, bears_id, settled, disconnected, turns, at_opening, at_arrival, pending}
+use Rattle.pulsar_client.specs.Link.{Pending, stage, bears_id, settled, disconnected, turns, at_opening, at_arrival, pending, at_failure, at_loss}
 use Rattle.pulsar_client.specs.Good.{first}
 use Rattle.pulsar_client.specs.Local.{is_own, link_due, Fits, IsLinkRun}
 
 abbrev pub is_turn : LinkAct → Bool
 is_turn Greets = true
 is_turn Readied = true
-is_turn (Ended closed) = true
+is_turn (Ended end) = true
 is_turn _ = false
 
 -- a turn that opens the link further
@@ -71,7 +72,7 @@ map_plain f (r ∷ rs) p = (p r, map_plain f rs p)
 
 settled_plain : (act : LinkAct) (rs : List Pending) → NoTurn (settled act rs)
 settled_plain (Comes (Message m)) rs = map_plain _ (filter (λ r. bears_id m.key r.id) rs) (λ r. refl)
-settled_plain (Ended closed) rs = map_plain disconnected rs (λ r. refl)
+settled_plain (Ended end) rs = map_plain disconnected rs (λ r. refl)
 settled_plain _ rs = tt
 
 arrival_one : (s : Stage) (a : Arrival) → OneTurn (at_arrival s a)
@@ -86,8 +87,20 @@ opening_one : (s : Stage) → OneTurn (at_opening s)
 opening_one Dialing = (λ h. refl, tt)
 opening_one _ = tt
 
+failure_one : (s : Stage) (kind : IoKind) → OneTurn (at_failure s kind)
+failure_one Dialing kind = (λ h. refl, tt)
+failure_one _ kind = tt
+
+loss_one : (s : Stage) → OneTurn (at_loss s)
+loss_one Dialing = tt
+loss_one Handshaking = (λ h. refl, tt)
+loss_one Ready = (λ h. refl, tt)
+loss_one Over = tt
+
 turns_one : (s : Stage) (act : LinkAct) → OneTurn (turns s act)
 turns_one s Opens = opening_one s
+turns_one s (Fails kind) = failure_one s kind
+turns_one s Loses = loss_one s
 turns_one s (Comes a) = arrival_one s a
 turns_one s _ = tt
 
@@ -103,7 +116,7 @@ over_none Ready act h = absurd cc
 own_none : (s : Stage) (act : LinkAct) → is_own act ≡ true → turns s act ≡ []
 own_none s Greets h = refl
 own_none s Readied h = refl
-own_none s (Ended closed) h = refl
+own_none s (Ended end) h = refl
 own_none s (Settled p t o) h = refl
 own_none s _ h = absurd cc
 
@@ -115,7 +128,7 @@ front_is (y ∷ ys) x h = let e : y ≡ x = cc in ap (λ t. t ∷ ys) e
 stays_over : (act : LinkAct) (h : List LinkAct) → opens_up act ≡ false → is_over (stage h) ≡ true → is_over (stage (act ∷ h)) ≡ true
 stays_over Greets h p q = absurd cc
 stays_over Readied h p q = absurd cc
-stays_over (Ended closed) h p q = refl
+stays_over (Ended end) h p q = refl
 stays_over _ h p q = q
 
 other_quiet : (act : LinkAct) → is_own act ≡ false → opens_up act ≡ false
@@ -127,7 +140,7 @@ other_quiet _ h = refl
 over_by : (act : LinkAct) (h : List LinkAct) → is_turn act ≡ false → is_over (stage (act ∷ h)) ≡ is_over (stage h)
 over_by Greets h p = absurd cc
 over_by Readied h p = absurd cc
-over_by (Ended closed) h p = absurd cc
+over_by (Ended end) h p = absurd cc
 over_by _ h p = refl
 
 pub record Turning (n : ℕ) (h : List LinkAct) : Type 0 where
@@ -170,7 +183,7 @@ module _ (n : ℕ) (act : LinkAct) (h : List LinkAct) (k : Turning n h) (fits : 
       owned : (act : LinkAct) → is_turn act ≡ true → is_own act ≡ true
       owned Greets h = refl
       owned Readied h = refl
-      owned (Ended closed) h = refl
+      owned (Ended end) h = refl
       owned _ h = absurd cc
 
   rest_quiet : is_over (stage (act ∷ h)) ≡ true → Quiet (drop 1 (link_due n h))
@@ -188,7 +201,7 @@ module _ (n : ℕ) (act : LinkAct) (h : List LinkAct) (k : Turning n h) (fits : 
       owned : (act : LinkAct) → is_turn act ≡ true → is_own act ≡ true
       owned Greets h = refl
       owned Readied h = refl
-      owned (Ended closed) h = refl
+      owned (Ended end) h = refl
       owned _ h = absurd cc
 
   pub turning_on : Turning n (act ∷ h)

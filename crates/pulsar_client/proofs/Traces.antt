@@ -11,6 +11,7 @@ use Rattle.pulsar_wire.specs.Command.{command_reading, some_body}
 use Rattle.pulsar_frame.specs.Sized.{sized_at, with_size}
 use Rattle.pulsar_frame.specs.Key.{key}
 use Rattle.pulsar_frame.specs.Frame.{content, counted_bytes, front, cut_within, cut, left, bad, frame_bytes}
+use Rattle.pulsar_client.specs.declared.act.End.TheVariants.{Refused}
 use Rattle.pulsar_client.specs.declared.act.Arrival.TheVariants.{Message}
 use Rattle.pulsar_client.specs.declared.act.Outcome.TheVariants as outcome
 use Rattle.pulsar_client.specs.declared.act.Procedure.TheVariants as procedure
@@ -102,7 +103,7 @@ failed_log =
     ∷ Does (Told 1 outcome.Canceled)
     ∷ Does (Answers 0 (failed (Io Other)))
     ∷ Does (Told 0 (outcome.Failed Other))
-    ∷ Does (OnLink 0 (Ended true))
+    ∷ Does (OnLink 0 (Ended Refused))
     ∷ Does (OnLink 0 (Comes (Message names)))
     ∷ Begins (Bytes 0 topics_reply)
     ∷ Does (OnLink 0 Greets)

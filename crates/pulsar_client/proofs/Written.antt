@@ -2,7 +2,7 @@
 use Rattle.std.proofs.Common.{◌≡◌, ℕ, zero, suc, ◌∙◌, sym, ap, subst, List, [], ◌∷◌, ◌++◌, refl, take, drop, Bool, true, false, cond, Option, Some, None, inl, inr, append_assoc, append-nil}
 use Rattle.std.proofs.lemmas.Bool.{cases_Bool}
 use Rattle.pulsar_client.specs.declared.act.LinkAct.{LinkAct}
-use Rattle.pulsar_client.specs.declared.act.LinkAct.TheVariants.{Opens, Comes, Drains, Requests, Spends, Greets, Readied, Ended, Settled}
+use Rattle.pulsar_client.specs.declared.act.LinkAct.TheVariants.{Opens, Comes, Drains, Requests, Spends, Greets, Readied, Ended, Settled, Fails, Loses}
 use Rattle.pulsar_client.specs.declared.session.link.Stage.{Stage}
 use Rattle.pulsar_client.specs.declared.session.link.Stage.TheVariants.{Dialing, Handshaking, Ready, Over}
 use Rattle.pulsar_client.specs.Link.{stage, is_open, next_id, unwritten, with_frame, frame_of, written_by}
@@ -45,7 +45,7 @@ whole : (n : ℕ) (h : List LinkAct) → frames_written n h ++ unwritten n h ≡
 whole n h e = record { prefix = (unwritten n h, e); live = λ x. e }
 
 live_on : (n : ℕ) (act : LinkAct) (h : List LinkAct) → frames_written n h ++ unwritten n h ≡ frames_queued n h → Lines n (act ∷ h)
-live_on n (Ended closed) h e = record {
+live_on n (Ended end) h e = record {
   prefix = (unwritten n h, ap (λ t. t ++ unwritten n h) (append-nil (frames_written n h)) ∙ e);
   live = λ x. absurd cc;
 }
@@ -53,6 +53,8 @@ live_on n (Drains most) h e = whole n (Drains most ∷ h) (drained (is_open (sta
 live_on n Opens h e = whole n (Opens ∷ h) (kept None (frames_written n h) (unwritten n h) (frames_queued n h) e)
 live_on n (Comes a) h e = whole n (Comes a ∷ h) (kept None (frames_written n h) (unwritten n h) (frames_queued n h) e)
 live_on n Spends h e = whole n (Spends ∷ h) (kept None (frames_written n h) (unwritten n h) (frames_queued n h) e)
+live_on n Loses h e = whole n (Loses ∷ h) (kept None (frames_written n h) (unwritten n h) (frames_queued n h) e)
+live_on n (Fails kind) h e = whole n ((Fails kind) ∷ h) (kept None (frames_written n h) (unwritten n h) (frames_queued n h) e)
 live_on n Readied h e = whole n (Readied ∷ h) (kept None (frames_written n h) (unwritten n h) (frames_queued n h) e)
 live_on n (Settled p t u) h e = whole n (Settled p t u ∷ h) (kept None (frames_written n h) (unwritten n h) (frames_queued n h) e)
 live_on n Greets h e = whole n (Greets ∷ h) (kept (frame_of Greets (next_id n h)) (frames_written n h) (unwritten n h) (frames_queued n h) e)

@@ -2,6 +2,7 @@
 use Rattle.std.specs.Prelude.{ℕ, List, map, string_bytes, Result, Ok, Err}
 use Rattle.pulsar_wire.specs.declared.commands.topics.Mode.{Mode}
 use Rattle.pulsar_wire.specs.declared.error.Error.{Error}
+use Rattle.pulsar_wire.specs.declared.error.IoKind.{IoKind}
 use Rattle.pulsar_client.specs.Failures.{Failure, failure}
 use Rattle.pulsar_client.specs.declared.event.Call.{Call}
 use Rattle.pulsar_client.specs.declared.event.Call.TheVariants as call
@@ -22,7 +23,9 @@ pub data Asked : Type 0 where
 pub data Heard : Type 0 where
   Called : Asked → Heard
   Opened : (link : ℕ) → Heard
+  FailedToOpen : (link : ℕ) (kind : IoKind) → Heard
   Bytes : (link : ℕ) (piece : List ℕ) → Heard
+  Lost : (link : ℕ) → Heard
   Drain : (link most : ℕ) → Heard
 
 -- what a call ends with
@@ -47,7 +50,9 @@ asked (call.Topics namespace mode) = Topics (string_bytes namespace) mode
 abbrev pub heard : Event → Heard
 heard (event.Call c) = Called (asked c)
 heard (event.Opened l) = Opened l
+heard (event.Failed l kind) = FailedToOpen l kind
 heard (event.Bytes l piece) = Bytes l piece.items
+heard (event.Lost l) = Lost l
 heard (event.Drain l most) = Drain l most
 
 abbrev pub answered : Answer → Said

@@ -10,7 +10,7 @@ use Rattle.pulsar_client.specs.declared.act.LinkAct.TheVariants.{Drains, Ended, 
 use Rattle.pulsar_client.specs.declared.act.Act.{Act}
 use Rattle.pulsar_client.specs.declared.act.Act.TheVariants.{Dials, Answers, Builds, OnLink}
 use Rattle.pulsar_client.specs.Content.{Heard, Done, Shown, Connect, Queued, Write, Settles, Ends, Close}
-use Rattle.pulsar_client.specs.Link.{Seen, frame_of, written_by}
+use Rattle.pulsar_client.specs.Link.{Seen, frame_of, is_closed, written_by}
 use Rattle.pulsar_client.specs.Log.{Chosen, Entry, Begins, Does, at_once, serves, View, view, brings, frames_of}
 
 -- the acts that are due after a log, in their order: what arises at once stands in front, the calls that are served behind
@@ -64,7 +64,7 @@ queues l place (Some frame) = Some (Queued l place frame)
 
 abbrev pub link_effect : ℕ → Seen → LinkAct → Option Shown
 link_effect l s (Drains most) = writes l (written_by (Drains most) s.stage s.unwritten)
-link_effect l s (Ended closed) = if closed then Some (Close l) else None
+link_effect l s (Ended end) = if is_closed end then Some (Close l) else None
 link_effect l s (Settled place ticket outcome) = Some (Settles l place (settlement_of outcome))
 link_effect l s act = queues l s.queued (frame_of act s.next_id)
 

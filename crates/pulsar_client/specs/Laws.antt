@@ -1,12 +1,12 @@
 -- What follows from the definition of a good run, in plain words.
 use Rattle.std.specs.Prelude.{◌≡◌, ℕ, ◌≤◌, length, ◌==◌, nat_lt, Bool, true, false, ◌⊎◌, if◌then◌else◌, List, [], ◌∷◌, ◌++◌, map, Option, Some, None}
-use Rattle.pulsar_wire.specs.declared.error.IoKind.TheVariants.{Other}
 use Rattle.std.specs.List.{filter_map, flat_map}
 use Rattle.std.specs.Option.{option_to_list}
 use Rattle.pulsar_client.specs.declared.act.Arrival.{Arrival}
 use Rattle.pulsar_client.specs.declared.act.Outcome.{Outcome}
 use Rattle.pulsar_client.specs.declared.act.Outcome.TheVariants as outcome
 use Rattle.pulsar_client.specs.declared.act.Request.{Request}
+use Rattle.pulsar_client.specs.declared.act.End.{End}
 use Rattle.pulsar_client.specs.declared.act.LinkAct.{LinkAct}
 use Rattle.pulsar_client.specs.declared.act.LinkAct.TheVariants.{Comes, Requests, Ended, Settled}
 use Rattle.pulsar_client.specs.declared.act.Procedure.{Procedure}
@@ -20,7 +20,7 @@ use Rattle.pulsar_client.specs.Content.{Asked, Heard, Called, Shown, Queued, Wri
 use Rattle.pulsar_client.specs.Messages.{Reply}
 use Rattle.pulsar_client.specs.Failures.{Failure, OfConnection, Shutdown, Exhausted}
 use Rattle.pulsar_client.specs.Plan.{failed, next, fault_of, topics_in}
-use Rattle.pulsar_client.specs.Link.{Seen, Pending, arrivals, next_id, queued, settles, stage, unwritten, with_frame, frame_of, written_by}
+use Rattle.pulsar_client.specs.Link.{Seen, Pending, arrivals, kind_of, next_id, queued, settles, stage, unwritten, with_frame, frame_of, written_by}
 use Rattle.pulsar_client.specs.Local.{IsLinkRun}
 use Rattle.pulsar_client.specs.Log.{Chosen, Entry, Begins, Does, links, of_link, stream, calls, procedure_of, outcomes_of, base, seen_link, is_at, readies, spent, action_at, performs, view, built, procedure_for}
 use Rattle.pulsar_client.specs.Good.{IsRun, due, to_come, Step, Good}
@@ -214,9 +214,9 @@ abbrev pub FailuresAreTold : Type 0
 FailuresAreTold = (o : Chosen) (log : List Entry) (t : ℕ) (p : Procedure) (f : Failure) →
     IsRun o log → Rests o log → procedure_of t log ≡ Some p → In (Failed f) (answers t log) → Fails p (outcomes_of t log) f
 
--- a link ends while the attempt of this call runs
-abbrev pub AttemptEnds : ℕ → Entry → List Entry → Type 0
-AttemptEnds starter e older = (l : ℕ) × (closed : Bool) × (e ≡ Does (OnLink l (Ended closed))) × (base older ≡ Runs starter)
+-- a link ends so while the attempt of this call runs
+abbrev pub AttemptEnds : ℕ → End → Entry → List Entry → Type 0
+AttemptEnds starter end e older = (l : ℕ) × (e ≡ Does (OnLink l (Ended end))) × (base older ≡ Runs starter)
 
 -- a request of this call is settled so
 abbrev pub IsSettled : ℕ → Outcome → Entry → Type 0
@@ -226,11 +226,11 @@ IsSettled t u e = (l : ℕ) × (place : ℕ) × (e ≡ Does (OnLink l (Settled p
 abbrev pub FindsLink : Chosen → ℕ → (Option Seen → Type 0) → Entry → List Entry → Type 0
 FindsLink o t P e older = (u : Outcome) × (l : ℕ) × (e ≡ Does (Told t u)) × P (seen_link o older l)
 
--- Why a call is told an outcome. Failed: the attempt that it started ended. Canceled: the attempt of another call ended.
+-- Why a call is told an outcome. Failed: the attempt that it started ended, so. Canceled: the attempt of another call ended.
 -- Replied, Disconnected: its request was settled so, or its link was not ready. Exhausted: the link's numbers are spent.
 abbrev pub Cause : Chosen → ℕ → Outcome → Entry → List Entry → Type 0
-Cause o t (outcome.Failed kind) e older = AttemptEnds t e older × (kind ≡ Other)
-Cause o t outcome.Canceled e older = (starter : ℕ) × ((t == starter) ≡ false) × AttemptEnds starter e older
+Cause o t (outcome.Failed kind) e older = (end : End) × AttemptEnds t end e older × (kind ≡ kind_of end)
+Cause o t outcome.Canceled e older = (starter : ℕ) × (end : End) × ((t == starter) ≡ false) × AttemptEnds starter end e older
 Cause o t (outcome.Replied r) e older = IsSettled t (outcome.Replied r) e
 Cause o t outcome.Disconnected e older = IsSettled t outcome.Disconnected e ⊎ FindsLink o t (λ s. readies s ≡ false) e older
 Cause o t outcome.Exhausted e older = FindsLink o t (λ s. is_at (λ x. x.next_id == spent) s ≡ true) e older

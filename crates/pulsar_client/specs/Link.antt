@@ -2,6 +2,8 @@
 -- (Pulsar binary protocol, Connection establishment)
 use Rattle.std.specs.Prelude.{ℕ, ◌+◌, ◌^◌, nat_lt, Bool, true, false, if◌then◌else◌, List, [], ◌∷◌, ◌++◌, length, take, drop, filter, map, Option, Some, None, not}
 use Rattle.std.specs.Option.{option_to_list}
+use Rattle.pulsar_wire.specs.declared.error.IoKind.{IoKind}
+use Rattle.pulsar_wire.specs.declared.error.IoKind.TheVariants as io_kinds
 use Rattle.pulsar_wire.specs.declared.key.RequestKey.{RequestKey}
 use Rattle.pulsar_wire.specs.declared.key.RequestKey.TheVariants.{RequestId}
 use Rattle.pulsar_frame.specs.Message.{MessageValues}
@@ -13,8 +15,10 @@ use Rattle.pulsar_client.specs.declared.act.Outcome.{Outcome}
 use Rattle.pulsar_client.specs.declared.act.Outcome.TheVariants.{Replied, Disconnected}
 use Rattle.pulsar_client.specs.declared.act.Request.{Request}
 use Rattle.pulsar_client.specs.declared.act.Request.TheVariants.{Topics}
+use Rattle.pulsar_client.specs.declared.act.End.{End}
+use Rattle.pulsar_client.specs.declared.act.End.TheVariants.{Failed, Lost, Refused}
 use Rattle.pulsar_client.specs.declared.act.LinkAct.{LinkAct}
-use Rattle.pulsar_client.specs.declared.act.LinkAct.TheVariants.{Opens, Comes, Drains, Requests, Spends, Greets, Readied, Ended, Settled}
+use Rattle.pulsar_client.specs.declared.act.LinkAct.TheVariants.{Opens, Fails, Loses, Comes, Drains, Requests, Spends, Greets, Readied, Ended, Settled}
 use Rattle.pulsar_client.specs.declared.session.link.Stage.{Stage}
 use Rattle.pulsar_client.specs.declared.session.link.Stage.TheVariants.{Dialing, Handshaking, Ready, Over}
 use Rattle.pulsar_client.specs.Messages.{connect_message, topics_message, read, is_connected}
@@ -32,7 +36,7 @@ abbrev pub stage : List LinkAct → Stage
 stage [] = Dialing
 stage (Greets ∷ h) = Handshaking
 stage (Readied ∷ h) = Ready
-stage (Ended closed ∷ h) = Over
+stage (Ended end ∷ h) = Over
 stage (_ ∷ h) = stage h
 
 abbrev pub is_dialing : Stage → Bool
@@ -85,7 +89,7 @@ queued (act ∷ h) = counted (frame_of act 0) (queued h)
 -- as it says. Nothing is left to write at a link's end.
 abbrev pub left_by : LinkAct → Stage → List (List ℕ) → List (List ℕ)
 left_by (Drains most) s frames = if is_open s then drop most frames else frames
-left_by (Ended closed) s frames = []
+left_by (Ended end) s frames = []
 left_by _ s frames = frames
 
 abbrev pub with_frame : Option (List ℕ) → List (List ℕ) → List (List ℕ)
@@ -114,13 +118,13 @@ bears_id key id = bears_key key (RequestId id)
 -- what settles a request: a message that bears its key, or the end of the link
 abbrev pub settles : LinkAct → Pending → Option Outcome
 settles (Comes (Message m)) r = if bears_id m.key r.id then Some (Replied m) else None
-settles (Ended closed) r = Some Disconnected
+settles (Ended end) r = Some Disconnected
 settles _ r = None
 
 -- the requests that an act leaves waiting
 abbrev pub left_waiting : LinkAct → List Pending → List Pending
 left_waiting (Comes (Message m)) rs = filter (λ r. not (bears_id m.key r.id)) rs
-left_waiting (Ended closed) rs = []
+left_waiting (Ended end) rs = []
 left_waiting _ rs = rs
 
 abbrev pub with_request : LinkAct → ℕ → ℕ → List Pending → List Pending
@@ -143,6 +147,16 @@ pub record Seen : Type 0 where
 abbrev pub seen : ℕ → List LinkAct → Seen
 seen first h = record { stage = stage h; next_id = next_id first h; queued = queued h; unwritten = unwritten first h; pending = pending first h }
 
+-- what a link that ended so is told to have failed with, where nobody had used it yet
+abbrev pub kind_of : End → IoKind
+kind_of (Failed kind) = kind
+kind_of _ = io_kinds.Other
+
+-- the client closes a link that it ends by itself
+abbrev pub is_closed : End → Bool
+is_closed Refused = true
+is_closed _ = false
+
 -- WHAT A LINK MAKES OF AN ACT
 
 abbrev pub disconnected : Pending → LinkAct
@@ -151,7 +165,7 @@ disconnected r = Settled r.place r.ticket Disconnected
 -- the requests that an act settles, and as what
 abbrev pub settled : LinkAct → List Pending → List LinkAct
 settled (Comes (Message m)) rs = map (λ r. Settled r.place r.ticket (Replied m)) (filter (λ r. bears_id m.key r.id) rs)
-settled (Ended closed) rs = map disconnected rs
+settled (Ended end) rs = map disconnected rs
 settled _ rs = []
 
 -- Opening a link that dials makes it greet. The first frame makes it ready where it is `connected`, and ends it elsewhere.
@@ -160,14 +174,24 @@ abbrev pub at_opening : Stage → List LinkAct
 at_opening Dialing = Greets ∷ []
 at_opening _ = []
 
+-- A link that dials ends where its connection cannot be opened, and an open one where it is lost.
+abbrev pub at_failure : Stage → IoKind → List LinkAct
+at_failure Dialing kind = Ended (Failed kind) ∷ []
+at_failure _ kind = []
+
+abbrev pub at_loss : Stage → List LinkAct
+at_loss s = if is_open s then Ended Lost ∷ [] else []
+
 abbrev pub at_arrival : Stage → Arrival → List LinkAct
-at_arrival Handshaking (Message m) = (if is_connected m then Readied else Ended true) ∷ []
-at_arrival Handshaking (Bad reason) = Ended true ∷ []
-at_arrival Ready (Bad reason) = Ended true ∷ []
+at_arrival Handshaking (Message m) = (if is_connected m then Readied else Ended Refused) ∷ []
+at_arrival Handshaking (Bad reason) = Ended Refused ∷ []
+at_arrival Ready (Bad reason) = Ended Refused ∷ []
 at_arrival _ _ = []
 
 abbrev pub turns : Stage → LinkAct → List LinkAct
 turns s Opens = at_opening s
+turns s (Fails kind) = at_failure s kind
+turns s Loses = at_loss s
 turns s (Comes arrival) = at_arrival s arrival
 turns s _ = []
 

@@ -9,7 +9,7 @@ use Rattle.pulsar_client.specs.Good.{first}
 abbrev pub is_own : LinkAct → Bool
 is_own Greets = true
 is_own Readied = true
-is_own (Ended closed) = true
+is_own (Ended end) = true
 is_own (Settled place ticket outcome) = true
 is_own _ = false
 

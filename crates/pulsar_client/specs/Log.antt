@@ -4,7 +4,7 @@ use Rattle.std.specs.Prelude.{ℕ, ◌+◌, ◌-◌, ◌^◌, ◌==◌, nat_lt, 
 use Rattle.std.specs.Option.{unwrap_or}
 use Rattle.std.specs.Ordering.{nat_cmp}
 use Rattle.std.specs.BTreeSet.{insert_key}
-use Rattle.pulsar_wire.specs.declared.error.IoKind.TheVariants.{Other}
+use Rattle.pulsar_wire.specs.declared.error.IoKind.{IoKind}
 use Rattle.pulsar_frame.specs.Frame.{left}
 use Rattle.pulsar_client.specs.declared.act.Outcome.{Outcome}
 use Rattle.pulsar_client.specs.declared.act.Outcome.TheVariants as outcome
@@ -14,15 +14,15 @@ use Rattle.pulsar_client.specs.declared.act.Procedure.TheVariants as procedure
 use Rattle.pulsar_client.specs.declared.act.Action.{Action}
 use Rattle.pulsar_client.specs.declared.act.Action.TheVariants.{Get, Ask, Answer, Finish, Rest}
 use Rattle.pulsar_client.specs.declared.act.LinkAct.{LinkAct}
-use Rattle.pulsar_client.specs.declared.act.LinkAct.TheVariants.{Opens, Comes, Drains, Requests, Spends, Readied, Ended, Settled}
+use Rattle.pulsar_client.specs.declared.act.LinkAct.TheVariants.{Opens, Fails, Loses, Comes, Drains, Requests, Spends, Readied, Ended, Settled}
 use Rattle.pulsar_client.specs.declared.act.Act.{Act}
 use Rattle.pulsar_client.specs.declared.act.Act.TheVariants.{Calls, Told, Dials, Waits, Answers, Builds, OnLink}
 use Rattle.pulsar_client.specs.declared.tables.Base.{Base}
 use Rattle.pulsar_client.specs.declared.tables.Base.TheVariants.{Nothing, Runs, Serves}
 use Rattle.pulsar_client.specs.Content as content
-use Rattle.pulsar_client.specs.Content.{Asked, Heard, Called, Opened, Bytes, Drain, Said}
+use Rattle.pulsar_client.specs.Content.{Asked, Heard, Called, Opened, FailedToOpen, Bytes, Lost, Drain, Said}
 use Rattle.pulsar_client.specs.Failures.{Exhausted}
-use Rattle.pulsar_client.specs.Link.{arrivals, fits_frame, Seen, seen, is_dialing, is_open, is_ready, request_message, link_rule}
+use Rattle.pulsar_client.specs.Link.{arrivals, fits_frame, Seen, seen, is_dialing, is_open, is_ready, kind_of, request_message, link_rule}
 use Rattle.pulsar_client.specs.Plan.{failed, next}
 
 pub data Entry : Type 0 where
@@ -110,7 +110,7 @@ abbrev pub base : List Entry → Base
 base [] = Nothing
 base (Does (Dials ticket) ∷ log) = Runs ticket
 base (Does (OnLink k Readied) ∷ log) = Serves k
-base (Does (OnLink k (Ended closed)) ∷ log) = Nothing
+base (Does (OnLink k (Ended end)) ∷ log) = Nothing
 base (_ ∷ log) = base log
 
 -- the calls that wait for the attempt, in the order of their tickets
@@ -118,7 +118,7 @@ abbrev pub waiting : List Entry → List ℕ
 waiting [] = []
 waiting (Does (Waits ticket) ∷ log) = insert_key nat_cmp (waiting log) ticket
 waiting (Does (OnLink k Readied) ∷ log) = []
-waiting (Does (OnLink k (Ended closed)) ∷ log) = []
+waiting (Does (OnLink k (Ended end)) ∷ log) = []
 waiting (_ ∷ log) = waiting log
 
 -- WHAT A RULE SEES
@@ -194,15 +194,15 @@ at_once v (OnLink l act) = link_acts l (v.link l) act
 at_once v _ = []
 
 -- the attempt failed: the call that started it is told why, and the others that it is canceled
-abbrev pub fails : Base → List ℕ → List Act
-fails (Runs starter) waiting = map (λ t. Told t (if t == starter then outcome.Failed Other else outcome.Canceled)) waiting
-fails _ waiting = []
+abbrev pub fails : Base → IoKind → List ℕ → List Act
+fails (Runs starter) kind waiting = map (λ t. Told t (if t == starter then outcome.Failed kind else outcome.Canceled)) waiting
+fails _ kind waiting = []
 
 -- the calls that an act serves: they stand behind all that is due
 abbrev pub serves : View → Act → List Act
 serves v (OnLink l (Settled place ticket outcome)) = Told ticket outcome ∷ []
 serves v (OnLink l Readied) = map (λ t. Told t (outcome.GotLink l)) v.waiting
-serves v (OnLink l (Ended closed)) = fails v.base v.waiting
+serves v (OnLink l (Ended end)) = fails v.base (kind_of end) v.waiting
 serves v _ = []
 
 -- EVENTS
@@ -220,14 +220,18 @@ calls_for v c = if v.calls == spent then Answers spent (failed Exhausted) ∷ []
 abbrev pub is_live : View → Heard → Bool
 is_live v (Called c) = true
 is_live v (Opened l) = dials (v.link l)
+is_live v (FailedToOpen l kind) = dials (v.link l)
 is_live v (Bytes l piece) = opens (v.link l)
+is_live v (Lost l) = opens (v.link l)
 is_live v (Drain l most) = opens (v.link l)
 
 -- what an event brings at once. One that names no live link, or a state that the link isn't in, brings nothing.
 abbrev pub brings : View → Heard → List Act
 brings v (Called c) = calls_for v c
 brings v (Opened l) = if dials (v.link l) then OnLink l Opens ∷ [] else []
+brings v (FailedToOpen l kind) = if dials (v.link l) then OnLink l (Fails kind) ∷ [] else []
 brings v (Bytes l piece) = []
+brings v (Lost l) = if opens (v.link l) then OnLink l Loses ∷ [] else []
 brings v (Drain l most) = if opens (v.link l) then OnLink l (Drains most) ∷ [] else []
 
 -- the frames that a piece brings are those that its bytes complete; they come one by one

@@ -82,7 +82,7 @@ unread_at rows l = option_map (λ row. row.reader) (slice_get rows l)
 abbrev pub stage_after : LinkAct → Stage → Stage
 stage_after Greets s = Handshaking
 stage_after Readied s = Ready
-stage_after (Ended closed) s = Over
+stage_after (Ended end) s = Over
 stage_after _ s = s
 
 abbrev pub after_act : LinkAct → Seen → Seen
@@ -199,13 +199,13 @@ tickets_after _ n = n
 abbrev pub base_after : Act → Base → Base
 base_after (Dials ticket) b = Runs ticket
 base_after (OnLink k Readied) b = Serves k
-base_after (OnLink k (Ended closed)) b = Nothing
+base_after (OnLink k (Ended end)) b = Nothing
 base_after _ b = b
 
 abbrev pub waiting_after : Act → List ℕ → List ℕ
 waiting_after (Waits ticket) ws = insert_key nat_cmp ws ticket
 waiting_after (OnLink k Readied) ws = []
-waiting_after (OnLink k (Ended closed)) ws = []
+waiting_after (OnLink k (Ended end)) ws = []
 waiting_after _ ws = ws
 
 abbrev pub call_after : Act → ℕ → ℕ → Option Plan → Option Plan

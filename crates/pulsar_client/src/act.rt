@@ -61,10 +61,50 @@ pub enum Action {
     Rest,
 }
 
+/// Why a link ended.
+#[derive(Clone, Copy)]
+pub enum End {
+    /// Its connection could not be opened.
+    Failed(IoKind),
+    /// Its connection was lost.
+    Lost,
+    /// What came on it was no frame, or not the one that must come first.
+    Refused,
+}
+
+impl End {
+    ghost use Rattle.std.specs.Prelude.{◌≡◌};
+    ghost use Rattle.pulsar_client.specs.Link.{is_closed, kind_of};
+
+    /// What an attempt that ended so failed with.
+    pub fn kind(self) -> IoKind
+        ensures { result ≡ kind_of self }
+    {
+        match self {
+            End::Failed(kind) => kind,
+            End::Lost | End::Refused => IoKind::Other,
+        }
+    }
+
+    /// The client closes the connection by itself.
+    pub fn is_closed(self) -> bool
+        ensures { result ≡ is_closed self }
+    {
+        match self {
+            End::Refused => true,
+            End::Failed(_) | End::Lost => false,
+        }
+    }
+}
+
 /// What happens to one link: first what comes to it, then what it makes of that.
 #[derive(Drop)]
 pub enum LinkAct {
     Opens,
+    /// Its connection cannot be opened.
+    Fails(IoKind),
+    /// Its connection is lost.
+    Loses,
     Comes(Arrival),
     Drains(u64),
     /// A request of this call is queued.
@@ -78,10 +118,8 @@ pub enum LinkAct {
     Greets,
     /// The link is ready.
     Readied,
-    /// The link ends, and is closed where the client ends it.
-    Ended {
-        closed: bool,
-    },
+    /// The link ends.
+    Ended(End),
     /// A request of this call waits no longer.
     Settled {
         place: u64,

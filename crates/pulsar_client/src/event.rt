@@ -1,6 +1,7 @@
 //! What comes to a client.
 
 use pulsar_wire::commands::topics::Mode;
+use pulsar_wire::error::IoKind;
 
 /// What a user asks of the client.
 #[derive(Debug, Drop)]
@@ -18,8 +19,12 @@ pub enum Event {
     Call(Call),
     /// The connection is open.
     Opened(u64),
+    /// The connection could not be opened.
+    Failed(u64, IoKind),
     /// The next bytes that came on the connection, cut anywhere.
     Bytes(u64, Vec<u8>),
+    /// The connection was lost: nothing comes on it any more, and nothing can be written.
+    Lost(u64),
     /// As many queued frames as this may be written to the connection.
     Drain(u64, usize),
 }

@@ -4,13 +4,12 @@ ghost use Rattle.std.specs.Prelude.{◌≡◌, ◌++◌, ◌∷◌, [], ℕ, Lis
 ghost use Rattle.std.specs.BTreeMap.{get};
 ghost use Rattle.std.specs.Option.{option_map};
 ghost use Rattle.std.specs.Ordering.{nat_cmp};
-ghost use Rattle.pulsar_wire.specs.declared.error.IoKind.TheVariants as io_kinds;
 ghost use Rattle.pulsar_client.specs.Content.{Heard, Bytes, asked, heard, shown};
 ghost use Rattle.pulsar_client.specs.Good.{Step, effect, effect_at, put_some};
 ghost use Rattle.pulsar_client.specs.Log.{Chosen, asks_on, at_once, brings, calls_for, dials, fails, frames_of, opens, gets, is_live, link_acts, performs, procedure_for, serves};
 ghost use Rattle.pulsar_client.specs.Tables.{Begun, Follows, InStep, LinksAlone, LinksFollow, Stands, step, table_at, view_of};
 
-use crate::act::{Act, Action, Arrival, LinkAct, Outcome, Procedure, Request};
+use crate::act::{Act, Action, Arrival, End, LinkAct, Outcome, Procedure, Request};
 use crate::content::{Text, Verdict};
 use crate::effect::{Answer, Effect};
 use crate::event::{Call, Event};
@@ -88,8 +87,8 @@ impl Tables {
     {
         match event {
             Event::Call(_) => true,
-            Event::Opened(link) => self.dials(*link),
-            Event::Bytes(link, _) | Event::Drain(link, _) => self.opens(*link),
+            Event::Opened(link) | Event::Failed(link, _) => self.dials(*link),
+            Event::Bytes(link, _) | Event::Lost(link) | Event::Drain(link, _) => self.opens(*link),
         }
     }
 
@@ -110,22 +109,20 @@ impl Tables {
                 Ok((0, none))
             }
             Event::Opened(link) => {
-                if self.dials(*link) {
-                    due.push_back(Act::OnLink {
-                        link: *link,
-                        act: LinkAct::Opens,
-                    })?;
-                }
+                bring(self.dials(*link), *link, LinkAct::Opens, due)?;
+                Ok((0, none))
+            }
+            Event::Failed(link, kind) => {
+                bring(self.dials(*link), *link, LinkAct::Fails(*kind), due)?;
                 Ok((0, none))
             }
             Event::Bytes(link, piece) => Ok((*link, self.receive(*link, piece)?)),
+            Event::Lost(link) => {
+                bring(self.opens(*link), *link, LinkAct::Loses, due)?;
+                Ok((0, none))
+            }
             Event::Drain(link, most) => {
-                if self.opens(*link) {
-                    due.push_back(Act::OnLink {
-                        link: *link,
-                        act: LinkAct::Drains(*most as u64),
-                    })?;
-                }
+                bring(self.opens(*link), *link, LinkAct::Drains(*most as u64), due)?;
                 Ok((0, none))
             }
         }
@@ -399,7 +396,7 @@ impl Tables {
                 outcome,
             } => self.settled(link, place, ticket, outcome, due, out),
             LinkAct::Readied => self.readied(link, due, out),
-            LinkAct::Ended { closed } => self.ended(link, closed, due, out),
+            LinkAct::Ended(end) => self.ended(link, end, due, out),
             act => self.quiet(link, act, due, out),
         }
     }
@@ -426,16 +423,16 @@ impl Tables {
     fn ended(
         &mut self,
         link: u64,
-        closed: bool,
+        end: End,
         due: &mut VecDeque<Act>,
         out: &mut Vec<Effect>,
     ) -> Result<(), NoMemory>
-        ensures out { OnOk result (map shown out.new.items ≡ put_some (effect (view_of self.old) (Act.OnLink link (LinkAct.Ended closed))) (map shown out.old.items)) }
-        ensures due { OnOk result (due.new.items ≡ at_once (view_of self.old) (Act.OnLink link (LinkAct.Ended closed)) ++ due.old.items ++ serves (view_of self.old) (Act.OnLink link (LinkAct.Ended closed))) }
-        ensures tables { OnOk result (Follows (Act.OnLink link (LinkAct.Ended closed)) self.old self.new) }
+        ensures out { OnOk result (map shown out.new.items ≡ put_some (effect (view_of self.old) (Act.OnLink link (LinkAct.Ended end))) (map shown out.old.items)) }
+        ensures due { OnOk result (due.new.items ≡ at_once (view_of self.old) (Act.OnLink link (LinkAct.Ended end)) ++ due.old.items ++ serves (view_of self.old) (Act.OnLink link (LinkAct.Ended end))) }
+        ensures tables { OnOk result (Follows (Act.OnLink link (LinkAct.Ended end)) self.old self.new) }
     {
-        self.quiet(link, LinkAct::Ended { closed }, due, out)?;
-        self.fail_waiting(due)?;
+        self.quiet(link, LinkAct::Ended(end), due, out)?;
+        self.fail_waiting(end.kind(), due)?;
         self.waiting.clear();
         self.base = Base::Nothing;
         Ok(())
@@ -488,14 +485,24 @@ impl Tables {
     }
 
     /// The attempt failed: the call that started it is told why, and the others that it is canceled.
-    fn fail_waiting(&self, due: &mut VecDeque<Act>) -> Result<(), NoMemory>
-        ensures { OnOk result (due.new.items ≡ due.old.items ++ fails self.now.base self.now.waiting.keys) }
+    fn fail_waiting(&self, kind: IoKind, due: &mut VecDeque<Act>) -> Result<(), NoMemory>
+        ensures { OnOk result (due.new.items ≡ due.old.items ++ fails self.now.base kind self.now.waiting.keys) }
     {
         match self.base {
-            Base::Runs { starter } => fail_all(&self.waiting, starter, due),
+            Base::Runs { starter } => fail_all(&self.waiting, starter, kind, due),
             Base::Nothing | Base::Serves { link: _ } => Ok(()),
         }
     }
+}
+
+/// An act of a link is due, where the link is live.
+fn bring(is_live: bool, link: u64, act: LinkAct, due: &mut VecDeque<Act>) -> Result<(), NoMemory>
+    ensures { OnOk result (due.new.items ≡ due.old.items ++ (if is_live then Act.OnLink link act ∷ [] else [])) }
+{
+    if is_live {
+        due.push_back(Act::OnLink { link, act })?;
+    }
+    Ok(())
 }
 
 /// The procedure of a call.
@@ -538,12 +545,17 @@ fn tell_all(tickets: &BTreeSet<u64>, link: u64, due: &mut VecDeque<Act>) -> Resu
     Ok(())
 }
 
-fn fail_all(tickets: &BTreeSet<u64>, starter: u64, due: &mut VecDeque<Act>) -> Result<(), NoMemory>
-    ensures { OnOk result (due.new.items ≡ due.old.items ++ map (λ t. Act.Told t (if t == starter then Outcome.Failed io_kinds.Other else Outcome.Canceled)) tickets.now.keys) }
+fn fail_all(
+    tickets: &BTreeSet<u64>,
+    starter: u64,
+    kind: IoKind,
+    due: &mut VecDeque<Act>,
+) -> Result<(), NoMemory>
+    ensures { OnOk result (due.new.items ≡ due.old.items ++ map (λ t. Act.Told t (if t == starter then Outcome.Failed kind else Outcome.Canceled)) tickets.now.keys) }
 {
     for ticket in tickets {
         let outcome = if *ticket == starter {
-            Outcome::Failed(IoKind::Other)
+            Outcome::Failed(kind)
         } else {
             Outcome::Canceled
         };

@@ -4,13 +4,13 @@ ghost use Rattle.std.specs.Prelude.{◌≡◌, IfOk, map};
 ghost use Rattle.std.specs.Option.{option_map};
 ghost use Rattle.std.specs.Str.{bytes_eq};
 ghost use Rattle.pulsar_client.specs.Content.{asked, heard};
-ghost use Rattle.pulsar_cli.specs.Grammar.{build, bytes, call, called, drain, event, line, mode, opened, topics};
+ghost use Rattle.pulsar_cli.specs.Grammar.{build, bytes, call, called, drain, event, failed, kind, line, lost, mode, opened, topics};
 ghost use Rattle.pulsar_cli.specs.Shown.{line_of};
 
 use crate::grammar::word::{hex_bytes, number, text, words};
 use pulsar_client::event::{Call, Event};
 use pulsar_wire::commands::topics::Mode;
-use pulsar_wire::error::NoMemory;
+use pulsar_wire::error::{IoKind, NoMemory};
 use std::alloc::Global;
 
 /// What a line is.
@@ -48,8 +48,12 @@ fn event(alloc: Global, words: &[&[u8]]) -> Result<Option<Event>, NoMemory>
         called(alloc, rest)
     } else if is(word, "opened") {
         Ok(opened(rest))
+    } else if is(word, "failed") {
+        Ok(failed(rest))
     } else if is(word, "bytes") {
         bytes(alloc, rest)
+    } else if is(word, "lost") {
+        Ok(lost(rest))
     } else if is(word, "drain") {
         Ok(drain(rest))
     } else {
@@ -75,6 +79,39 @@ fn opened(words: &[&[u8]]) -> Option<Event>
         return None;
     };
     Some(Event::Opened(number(link)?))
+}
+
+/// `failed LINK KIND`
+fn failed(words: &[&[u8]]) -> Option<Event>
+    ensures { option_map heard result ≡ failed (map (λ w. w.now) words.now) }
+{
+    let [link, word] = words else {
+        return None;
+    };
+    let link = number(link)?;
+    let kind = kind(word)?;
+    Some(Event::Failed(link, kind))
+}
+
+/// Why a connection could not be opened.
+fn kind(word: &[u8]) -> Option<IoKind>
+    ensures { result ≡ kind word.now }
+{
+    if is(word, "other") {
+        Some(IoKind::Other)
+    } else {
+        None
+    }
+}
+
+/// `lost LINK`
+fn lost(words: &[&[u8]]) -> Option<Event>
+    ensures { option_map heard result ≡ lost (map (λ w. w.now) words.now) }
+{
+    let [link] = words else {
+        return None;
+    };
+    Some(Event::Lost(number(link)?))
 }
 
 /// `bytes LINK HEX`

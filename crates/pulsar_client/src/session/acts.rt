@@ -10,17 +10,17 @@ ghost use Rattle.pulsar_client.specs.Messages.{Reply};
 ghost use Rattle.pulsar_frame.specs.Shown.{message_values};
 ghost use Rattle.pulsar_client.specs.Content.{shown};
 ghost use Rattle.pulsar_client.specs.Good.{link_effect, queues, settlement_of};
-ghost use Rattle.pulsar_client.specs.Link.{arrivals, at_arrival, at_opening, disconnected, left_waiting, link_rule, settled};
+ghost use Rattle.pulsar_client.specs.Link.{arrivals, at_arrival, at_failure, at_loss, at_opening, disconnected, left_waiting, link_rule, settled};
 ghost use Rattle.pulsar_client.specs.Tables.{KeepsFrames, after_act, replied_to, request_id, blank, contents, table, waiting_at};
 
-use crate::act::{Act, Arrival, LinkAct, Outcome, Request};
+use crate::act::{Act, Arrival, End, LinkAct, Outcome, Request};
 use crate::content::Received;
 use crate::effect::{Effect, Settlement};
 use crate::session::link::{Link, Stage, Waiter};
 use crate::session::messages;
 use pulsar_frame::message::Message;
 use pulsar_frame::reader::FrameReader;
-use pulsar_wire::error::{ConnectionError, NoMemory};
+use pulsar_wire::error::{ConnectionError, IoKind, NoMemory};
 use pulsar_wire::key::RequestKey;
 use std::alloc::Global;
 use std::collections::{BTreeMap, VecDeque};
@@ -200,6 +200,14 @@ impl Link {
                 self.opens(link, due)?;
                 Ok(None)
             }
+            LinkAct::Fails(kind) => {
+                self.fails(link, kind, due)?;
+                Ok(None)
+            }
+            LinkAct::Loses => {
+                self.loses(link, due)?;
+                Ok(None)
+            }
             LinkAct::Comes(arrival) => {
                 self.comes(link, arrival, due)?;
                 Ok(None)
@@ -219,11 +227,11 @@ impl Link {
                 self.stage = Stage::Ready;
                 Ok(None)
             }
-            LinkAct::Ended { closed } => {
+            LinkAct::Ended(end) => {
                 disconnect_all(&mut self.pending, link, due)?;
                 self.unwritten.clear();
                 self.stage = Stage::Over;
-                Ok(if closed {
+                Ok(if end.is_closed() {
                     Some(Effect::Close { link })
                 } else {
                     None
@@ -253,6 +261,30 @@ impl Link {
         Ok(())
     }
 
+    fn fails(&self, link: u64, kind: IoKind, due: &mut VecDeque<Act>) -> Result<(), NoMemory>
+        ensures { OnOk result (due.new.items ≡ map (Act.OnLink link) (at_failure self.now.stage kind) ++ due.old.items) }
+    {
+        if self.is_dialing() {
+            due.push_front(Act::OnLink {
+                link,
+                act: LinkAct::Ended(End::Failed(kind)),
+            })?;
+        }
+        Ok(())
+    }
+
+    fn loses(&self, link: u64, due: &mut VecDeque<Act>) -> Result<(), NoMemory>
+        ensures { OnOk result (due.new.items ≡ map (Act.OnLink link) (at_loss self.now.stage) ++ due.old.items) }
+    {
+        if self.is_open() {
+            due.push_front(Act::OnLink {
+                link,
+                act: LinkAct::Ended(End::Lost),
+            })?;
+        }
+        Ok(())
+    }
+
     fn comes(
         &mut self,
         link: u64,
@@ -268,7 +300,7 @@ impl Link {
                 if self.is_open() {
                     due.push_front(Act::OnLink {
                         link,
-                        act: LinkAct::Ended { closed: true },
+                        act: LinkAct::Ended(End::Refused),
                     })?;
                 }
             }
@@ -296,7 +328,7 @@ impl Link {
                 let act = if message.is_connected() {
                     LinkAct::Readied
                 } else {
-                    LinkAct::Ended { closed: true }
+                    LinkAct::Ended(End::Refused)
                 };
                 due.push_front(Act::OnLink { link, act })?;
             }

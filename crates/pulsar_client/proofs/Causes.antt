@@ -13,7 +13,8 @@ use Rattle.pulsar_client.specs.declared.act.Procedure.TheVariants as procedure
 use Rattle.pulsar_client.specs.declared.act.Action.{Action}
 use Rattle.pulsar_client.specs.declared.act.Action.TheVariants.{Get, Ask, Answer, Finish, Rest}
 use Rattle.pulsar_client.specs.declared.act.LinkAct.{LinkAct}
-use Rattle.pulsar_client.specs.declared.act.LinkAct.TheVariants.{Opens, Comes, Drains, Requests, Spends, Readied, Ended, Settled, Fails, Loses}
+use Rattle.pulsar_client.specs.declared.act.LinkAct.TheVariants as link_act
+use Rattle.pulsar_client.specs.declared.act.LinkAct.TheVariants.{Opens, Comes, Drains, Requests, Spends, Readied, Ended, Settled, Loses}
 use Rattle.pulsar_client.specs.declared.act.Act.{Act}
 use Rattle.pulsar_client.specs.declared.act.Act.TheVariants.{Calls, Told, Answers, OnLink}
 use Rattle.pulsar_client.specs.declared.tables.Base.{Base}
@@ -87,7 +88,7 @@ loss_settling Over = tt
 
 turns_settling : (s : Stage) (act : LinkAct) → AllSettling (turns s act)
 turns_settling s Opens = opening_settling s
-turns_settling s (Fails kind) = failure_settling s kind
+turns_settling s (link_act.Fails kind) = failure_settling s kind
 turns_settling s Loses = loss_settling s
 turns_settling s (Comes a) = arrival_settling s a
 turns_settling s _ = tt
@@ -215,7 +216,7 @@ calls_for_caused o log false p = (tt, tt)
 brings_caused : (o : Chosen) (log : List Entry) (v : View) (e : Heard) → AllCaused o log (brings v e)
 brings_caused o log v (Called c) = calls_for_caused o log (v.calls == spent) (procedure_for v.is_built c)
 brings_caused o log v (Opened l) = one_caused o log (dials (v.link l)) (OnLink l Opens) tt
-brings_caused o log v (FailedToOpen l kind) = one_caused o log (dials (v.link l)) (OnLink l (Fails kind)) tt
+brings_caused o log v (FailedToOpen l kind) = one_caused o log (dials (v.link l)) (OnLink l (link_act.Fails kind)) tt
 brings_caused o log v (Bytes l piece) = tt
 brings_caused o log v (Drain l most) = one_caused o log (opens (v.link l)) (OnLink l (Drains most)) tt
 brings_caused o log v (Lost l) = one_caused o log (opens (v.link l)) (OnLink l Loses) tt

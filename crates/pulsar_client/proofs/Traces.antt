@@ -1,5 +1,5 @@
 -- Three small runs are good, by computing.
-use Rattle.std.proofs.Common.{true, List, [], ◌∷◌, Some, None, refl, codes}
+use Rattle.std.proofs.Common.{List, [], ◌∷◌, Some, None, refl, codes}
 use Rattle.std.specs.Str.{is_utf8, chars}
 use Rattle.std.specs.Char.{encode_utf8}
 use Rattle.pulsar_wire.specs.declared.error.IoKind.TheVariants.{Other}

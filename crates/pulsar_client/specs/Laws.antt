@@ -1,5 +1,5 @@
 -- What follows from the definition of a good run, in plain words.
-use Rattle.std.specs.Prelude.{◌≡◌, ℕ, ◌≤◌, length, ◌==◌, nat_lt, Bool, true, false, ◌⊎◌, if◌then◌else◌, List, [], ◌∷◌, ◌++◌, map, Option, Some, None}
+use Rattle.std.specs.Prelude.{◌≡◌, ℕ, ◌≤◌, length, ◌==◌, nat_lt, true, false, ◌⊎◌, if◌then◌else◌, List, [], ◌∷◌, ◌++◌, map, Option, Some, None}
 use Rattle.std.specs.List.{filter_map, flat_map}
 use Rattle.std.specs.Option.{option_to_list}
 use Rattle.pulsar_client.specs.declared.act.Arrival.{Arrival}
@@ -19,7 +19,7 @@ use Rattle.pulsar_client.specs.declared.tables.Base.TheVariants.{Runs}
 use Rattle.pulsar_client.specs.Content.{Asked, Heard, Called, Shown, Queued, Write, Said, Done, Failed}
 use Rattle.pulsar_client.specs.Messages.{Reply}
 use Rattle.pulsar_client.specs.Failures.{Failure, OfConnection, Shutdown, Exhausted}
-use Rattle.pulsar_client.specs.Plan.{failed, next, fault_of, topics_in}
+use Rattle.pulsar_client.specs.Plan.{failed, next, fault_of, topics_told}
 use Rattle.pulsar_client.specs.Link.{Seen, Pending, arrivals, kind_of, next_id, queued, settles, stage, unwritten, with_frame, frame_of, written_by}
 use Rattle.pulsar_client.specs.Local.{IsLinkRun}
 use Rattle.pulsar_client.specs.Log.{Chosen, Entry, Begins, Does, links, of_link, stream, calls, procedure_of, outcomes_of, base, seen_link, is_at, readies, spent, action_at, performs, view, built, procedure_for}
@@ -207,7 +207,7 @@ AnswersOnce = (o : Chosen) (log : List Entry) (t : ℕ) (p : Procedure) →
 pub data Fails (p : Procedure) (os : List Outcome) (f : Failure) : Type 0 where
   IsRefused : p ≡ Refused → f ≡ OfConnection Shutdown → Fails p os f
   IsTold : (u : Outcome) → In u os → f ≡ OfConnection (fault_of u) → Fails p os f
-  IsReplied : (r : Reply) → In (outcome.Replied r) os → Failed f ≡ topics_in r → Fails p os f
+  IsReplied : (r : Reply) → In (outcome.Replied r) os → Failed f ≡ topics_told r → Fails p os f
 
 -- wherever a step has ended, a call that has failed did so for one of these
 abbrev pub FailuresAreTold : Type 0

@@ -58,15 +58,15 @@ is_answer request None = false
 is_answer request (Some n) = is_number n (answers request)
 
 -- the answer that a reply gives: the topics, or why there are none
-abbrev pub topics_in : Reply → Said
-topics_in r = if is_answer 32 r.body then Names r.topics else failed (refused r r.body)
+abbrev pub topics_told : Reply → Said
+topics_told r = if is_answer 32 r.body then Names r.topics else failed (refused r r.body)
 
 -- the same, of the reply's body itself
 abbrev pub topics_of_body : Option BodyValues → Said
-topics_of_body body = topics_in (read_body None body)
+topics_of_body body = topics_told (read_body None body)
 
 abbrev pub topics_answer : Outcome → Said
-topics_answer (outcome.Replied r) = topics_in r
+topics_answer (outcome.Replied r) = topics_told r
 topics_answer o = failed (fault_of o)
 
 abbrev pub topics_replied : List Outcome → Action

@@ -3,7 +3,7 @@
 ghost use Rattle.std.specs.Prelude.{◌≡◌, [], ◌∷◌, Some, IfOk};
 ghost use Rattle.pulsar_wire.specs.Views.{body_values};
 ghost use Rattle.pulsar_client.specs.Failures.{UnexpectedResponse, fault};
-ghost use Rattle.pulsar_client.specs.Plan.{next, failed, fault_of, building, topics, topics_answer, topics_in, topics_of_body};
+ghost use Rattle.pulsar_client.specs.Plan.{next, failed, fault_of, building, topics, topics_answer, topics_told, topics_of_body};
 ghost use Rattle.pulsar_client.specs.Tables.{start, plan_action, plan_after};
 
 use crate::act::{Action, Outcome, Procedure, Request};
@@ -83,14 +83,14 @@ fn topics_answer(alloc: Global, outcome: Outcome) -> Result<Verdict, NoMemory>
     ensures { IfOk result (λ v. v ≡ topics_answer outcome) }
 {
     match outcome {
-        Outcome::Replied(reply) => topics_in(alloc, reply),
+        Outcome::Replied(reply) => topics_told(alloc, reply),
         outcome => Ok(failure(error_of(&outcome))),
     }
 }
 
 /// The topics of a reply, or why it has none.
-fn topics_in(alloc: Global, reply: Received) -> Result<Verdict, NoMemory>
-    ensures { IfOk result (λ v. v ≡ topics_in reply) }
+fn topics_told(alloc: Global, reply: Received) -> Result<Verdict, NoMemory>
+    ensures { IfOk result (λ v. v ≡ topics_told reply) }
 {
     let Message {
         command,

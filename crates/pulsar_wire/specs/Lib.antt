@@ -15,4 +15,4 @@ pub mod Merge
 pub mod Shown
 pub mod Written
 pub mod Run
-pub mod Heading
+pub mod CommandMerge

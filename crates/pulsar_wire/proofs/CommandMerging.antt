@@ -9,8 +9,8 @@ use Rattle.pulsar_wire.specs.Row.{Int32, Required, Row, Values, none_of, plain_o
 use Rattle.pulsar_wire.specs.Merge.{steps, put, put_plain, put_part}
 use Rattle.pulsar_wire.specs.Run.{run}
 use Rattle.pulsar_wire.specs.Command.{BodyValues, CommandValues, with_kind, with_body, some_body, settled, command_reading, body_row, bodies, only, heading, body_value}
-use Rattle.pulsar_wire.specs.CommandMerge.{empty_body, grown, body_for, joined_body, command_step}
-use Rattle.pulsar_wire.proofs.Fields.{some, bind_assoc, bind_some_id}
+use Rattle.pulsar_wire.specs.CommandMerge.{empty_body, grown, joined_body, command_step}
+use Rattle.pulsar_wire.proofs.Fields.{bind_assoc, bind_some_id}
 use Rattle.pulsar_wire.proofs.Folding.{one_or_none, none-after, pair, field-push, occurrences-push, plain-grows, embedded-grows, read_by, folds}
 use Rattle.pulsar_wire.proofs.Unknown.{other, body-skip}
 

@@ -1,5 +1,5 @@
 -- Serves the code's contracts alone: how one more field changes the command that was read so far.
-use Rattle.std.specs.Prelude.{ℕ, ℤ, Option, Some, None, ◌==◌, if◌then◌else◌}
+use Rattle.std.specs.Prelude.{ℕ, Option, Some, None, ◌==◌, if◌then◌else◌}
 use Rattle.std.specs.Option.{is_some}
 use Rattle.pulsar_wire.specs.Field.{◌>>=◌, Value, Field}
 use Rattle.pulsar_wire.specs.Row.{Int32, Required, none_of}

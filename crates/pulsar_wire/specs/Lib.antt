@@ -8,7 +8,7 @@ pub mod Retry
 pub mod Views
 pub mod Command
 pub mod Fits
-pub mod Ids
+pub mod Orders
 pub mod Laws
 pub mod Refused
 pub mod Merge

@@ -54,12 +54,7 @@ pub fn is_written<W: Wire + Debug + PartialEq>(
     Ok(())
 }
 
-/// Whether a command's copy is equal to it.
-pub fn is_copied(command: &BaseCommand) -> Result<bool, NoMemory> {
-    Ok(command.copy()? == *command)
-}
-
-/// The same of a value that is taken, so that a caller that stops has none to let go.
+/// The value is written so, and is let go: a caller that stops has none to let go.
 pub fn writes<W: Wire + Debug + PartialEq + Drop>(
     rt: &impl Abort,
     alloc: Global,
@@ -67,6 +62,28 @@ pub fn writes<W: Wire + Debug + PartialEq + Drop>(
     bytes: &[u8],
 ) -> Result<(), Fail> {
     is_written(rt, alloc, &value, bytes)
+}
+
+/// The value is written so, and is handed back: a caller that stops has none to let go.
+pub fn written<W: Wire + Debug + PartialEq + Drop>(
+    rt: &impl Abort,
+    alloc: Global,
+    value: W,
+    bytes: &[u8],
+) -> Result<W, Fail> {
+    is_written(rt, alloc, &value, bytes)?;
+    Ok(value)
+}
+
+/// Whether two values are equal. It takes both, so that the caller has none to let go.
+pub fn are_equal<T: PartialEq + Drop>(first: T, second: T) -> bool {
+    first == second
+}
+
+/// Whether a command's copy is equal to it.
+pub fn is_copied(command: BaseCommand) -> Result<bool, NoMemory> {
+    let copy = command.copy()?;
+    Ok(are_equal(copy, command))
 }
 
 /// The command with this body has this name, and is written as the bytes of its head and of its body.
@@ -79,10 +96,9 @@ pub fn is_command(
     bytes: &[u8],
 ) -> Result<(), Fail> {
     assert_eq!(rt; body.name(), name);
-    let command = BaseCommand::new(body);
     let mut whole = Vec::from_slice(alloc, head)?;
     whole.extend_from_slice(bytes)?;
-    is_written(rt, alloc, &command, &whole)?;
-    assert!(rt; is_copied(&command)?);
+    let command = written(rt, alloc, BaseCommand::new(body), &whole)?;
+    assert!(rt; is_copied(command)?);
     Ok(())
 }

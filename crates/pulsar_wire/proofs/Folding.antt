@@ -82,7 +82,7 @@ pub field-push : {H : Type 0} (read : List Value → Option H) (grow : H → Val
 field-push read grow none g true vs v = g.push vs v
 field-push read grow none g false vs v = ap read (append-nil vs) ∙ sym (bind_some_id (read vs))
 
-none-after : {H X : Type 0} (a : Option H) → (a >>= λ x. nothing {A = X}) ≡ nothing {A = X}
+pub none-after : {H X : Type 0} (a : Option H) → (a >>= λ x. nothing {A = X}) ≡ nothing {A = X}
 none-after None = refl
 none-after (Some x) = refl
 

@@ -7,7 +7,7 @@ pub mod Numbers
 pub mod Writing
 pub mod Packed
 pub mod Running
-pub mod Headings
+pub mod CommandMerging
 pub mod Ids
 pub mod RoundTrip
 pub mod Copies

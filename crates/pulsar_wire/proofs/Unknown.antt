@@ -51,11 +51,11 @@ heading-skip : (before : List Field) (f : Field) (after : List Field) → IsUnkn
 heading-skip before f after unknown = rw (occurrences-skip 1 before f after (ne_eqb f.number 1 unknown.0), bodies-skip before f after unknown.1) refl
 
 -- a known body has another number
-other : (f n : ℕ) (row : Row) (b : Bool) → eqb f n ≡ b → body_row f ≡ None → body_row n ≡ Some row → b ≡ false
+pub other : (f n : ℕ) (row : Row) (b : Bool) → eqb f n ≡ b → body_row f ≡ None → body_row n ≡ Some row → b ≡ false
 other f n row true e none has = absurd (let same = eqb-true f n e in let both = sym none ∙ (ap body_row same ∙ has) in cc)
 other f n row false e none has = refl
 
-body-skip : (n : ℕ) (before : List Field) (f : Field) (after : List Field) → body_row f.number ≡ None → (o : Option Row) → body_row n ≡ o → some_body n (before ++ f ∷ after) ≡ some_body n (before ++ after)
+pub body-skip : (n : ℕ) (before : List Field) (f : Field) (after : List Field) → body_row f.number ≡ None → (o : Option Row) → body_row n ≡ o → some_body n (before ++ f ∷ after) ≡ some_body n (before ++ after)
 unfolding some_body
 body-skip n before f after unknown None e = rw e refl
 body-skip n before f after unknown (Some row) e = rw (e, occurrences-skip n before f after (other f.number n row (eqb f.number n) refl unknown e)) refl

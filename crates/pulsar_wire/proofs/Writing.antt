@@ -1,9 +1,7 @@
 -- A message behind its length.
-use Rattle.std.proofs.Common.{◌≡◌, ℕ, ◌-◌, ◌^◌, ◌≤◌, List, ◌++◌, length, sym, ◌∙◌, append_assoc, length-append, arith, inl, inr}
-use Rattle.std.specs.List.{flat_map}
+use Rattle.std.proofs.Common.{◌≡◌, ℕ, ◌-◌, ◌^◌, ◌≤◌, List, ◌++◌, length, append_assoc, length-append, arith, inl, inr}
 use Rattle.std.proofs.lemmas.Bool.{cases_lt}
-use Rattle.std.proofs.lemmas.List.{append-nil}
-use Rattle.pulsar_wire.specs.Row.{Int64, Row, End, Plain, Embedded, Numbers, Values, entry, key, varint, message_entry, items, spelling}
+use Rattle.pulsar_wire.specs.Row.{key, varint, message_entry}
 use Rattle.pulsar_wire.specs.Written.{capped}
 
 -- a length that was counted stands for the length of what follows it

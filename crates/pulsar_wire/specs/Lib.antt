@@ -8,11 +8,11 @@ pub mod Retry
 pub mod Views
 pub mod Command
 pub mod Fits
-pub mod Ids
+pub mod Orders
 pub mod Laws
 pub mod Refused
 pub mod Merge
 pub mod Shown
 pub mod Written
 pub mod Run
-pub mod Heading
+pub mod CommandMerge

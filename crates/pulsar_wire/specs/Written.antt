@@ -3,8 +3,6 @@ use Rattle.std.specs.Prelude.{◌≡◌, ℕ, ◌-◌, ◌^◌, ◌≤◌, lengt
 use Rattle.std.specs.Option.{option_map}
 use Rattle.std.specs.Global.{Vec}
 use Rattle.std.proofs.Common.{arith, ap}
-use Rattle.std.specs.List.{flat_map}
-use Rattle.pulsar_wire.specs.Row.{Int64, Row, End, Plain, Embedded, Numbers, Values, entry, message_entry, items, spelling}
 
 -- a count that stops at the greatest u64
 abbrev pub capped : ℕ → ℕ

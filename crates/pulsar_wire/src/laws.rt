@@ -2,7 +2,7 @@
 
 ghost use Rattle.std.specs.Prelude.{◌≡◌, MatchResult};
 ghost use Rattle.std.specs.Bool.{Decides};
-ghost use Rattle.pulsar_wire.specs.Ids.{id_order, key_order};
+ghost use Rattle.pulsar_wire.specs.Orders.{id_order, key_order};
 ghost use Rattle.pulsar_wire.specs.Views.{message_id_values};
 ghost use Rattle.pulsar_wire.specs.Laws.{MessagesReadAgain, CommandsReadAgain, SettledCommandsReadAgain, OneMeaning, OneSpelling, KnownBodiesAreRows, UnknownFieldsAreSkipped, UnknownBodiesAreSkipped};
 

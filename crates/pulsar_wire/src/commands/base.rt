@@ -1,16 +1,16 @@
 //! Commands.
 
-ghost use Rattle.std.specs.Prelude.{◌≡◌, ◌<◌, pos, ◌++◌, length, OnOk, IsOk, IfOk};
-ghost use Rattle.std.specs.Option.{is_some};
+ghost use Rattle.std.specs.Prelude.{◌≡◌, ℕ, ◌<◌, pos, ◌++◌, length, OnOk, IsOk, IfOk};
+ghost use Rattle.std.specs.Option.{is_some, option_map};
 ghost use Rattle.pulsar_wire.specs.Field.{field_at};
 ghost use Rattle.pulsar_wire.specs.Run.{run};
 ghost use Rattle.pulsar_wire.specs.Command.{BodyValues, body_row, body_name, with_kind, body_spelling, command_reading, command_spelling, settled, Spells};
 ghost use Rattle.pulsar_wire.specs.Fits.{CommandInRange};
-ghost use Rattle.pulsar_wire.specs.Heading.{heading_of, heading_step, body_reading, any_body, body_step};
+ghost use Rattle.pulsar_wire.specs.CommandMerge.{empty_body, grown, joined_body, command_step};
 ghost use Rattle.pulsar_wire.specs.Row.{Int32, entry, spelling};
 ghost use Rattle.pulsar_wire.specs.Written.{Appends, capped};
 ghost use Rattle.pulsar_wire.specs.Views.{body_values, command_values};
-ghost use Rattle.pulsar_wire.specs.Shown.{Gives, Leaves, field};
+ghost use Rattle.pulsar_wire.specs.Shown.{Gives, Leaves, shown, field};
 
 use crate::commands::auth::{CommandAuthChallenge, CommandAuthResponse};
 use crate::commands::connection::{
@@ -115,11 +115,19 @@ macro_rules! copy_of {
     };
 }
 
-macro_rules! read_body {
-    ($alloc:expr, $bytes:expr, $wanted:expr; $($number:literal $variant:ident $name:literal),*) => {
+macro_rules! empty_of {
+    ($alloc:expr, $wanted:expr; $($number:literal $variant:ident $name:literal),*) => {
         match $wanted {
-            $($number => Ok(Body::$variant(body_of($alloc, $bytes, $wanted)?)),)*
-            _ => Err(ReadError::Malformed),
+            $($number => Some(Body::$variant(Message::empty($alloc))),)*
+            _ => None,
+        }
+    };
+}
+
+macro_rules! put_part {
+    ($body:expr, $alloc:expr, $value:expr; $($number:literal $variant:ident $name:literal),*) => {
+        match $body {
+            $(Body::$variant(body) => join_part(body, $alloc, $value),)*
         }
     };
 }
@@ -197,6 +205,21 @@ impl Body {
         bodies!(name_of self)
     }
 
+    /// The body of this number with no field, if it is known.
+    #[tactic(auto, unfolding(crate::specs::CommandMerge::empty_body))]
+    fn empty(alloc: Global, number: u32) -> Option<Body>
+        ensures { option_map body_values result ≡ empty_body number }
+    {
+        bodies!(empty_of alloc, number)
+    }
+
+    /// Takes one more part.
+    fn put_part(&mut self, alloc: Global, value: Value<'_>) -> Result<(), ReadError>
+        ensures { Leaves result (body_values self.new) (grown (body_values self.old) (shown value.entry)) }
+    {
+        bodies!(put_part self, alloc, value)
+    }
+
     /// A body with the same content.
     pub fn copy(&self) -> Result<Body, NoMemory>
         ensures { IfOk result (λ body. body_values body ≡ body_values self.now) }
@@ -213,6 +236,28 @@ impl BaseCommand {
         BaseCommand {
             kind: body.number() as i32,
             body: Some(body),
+        }
+    }
+
+    /// Takes one more field.
+    #[tactic(auto, unfolding(crate::specs::CommandMerge::command_step))]
+    fn put(&mut self, alloc: Global, number: u32, value: Value<'_>) -> Result<(), ReadError>
+        ensures { Leaves result (command_values self.new) (command_step (command_values self.old) (field number value.entry)) }
+    {
+        if number == 1 {
+            self.kind = int32_of(value)?;
+        } else if is_body(number) {
+            join_body(&mut self.body, alloc, number, value)?;
+        }
+        Ok(())
+    }
+
+    /// Lets the body decide the kind.
+    fn settle(&mut self)
+        ensures { command_values self.new ≡ settled (command_values self.old) }
+    {
+        if let Some(body) = &self.body {
+            self.kind = body.number() as i32;
         }
     }
 
@@ -237,120 +282,65 @@ fn is_body(number: u32) -> bool
     matches!(number, 2..=37)
 }
 
-/// What stands around a body.
-#[derive(Clone, Copy)]
-struct Heading {
-    kind: i32,
-    body: Option<u32>,
-}
-
-impl Heading {
-    /// The command with no body.
-    fn alone(self) -> BaseCommand
-        ensures { command_values result ≡ record { kind = self.kind; body = None } }
-    {
-        BaseCommand {
-            kind: self.kind,
-            body: None,
-        }
-    }
-
-    /// Takes one more field.
-    #[tactic(auto, unfolding(crate::specs::Heading::heading_step))]
-    fn put(&mut self, number: u32, value: Value<'_>) -> Result<(), ReadError>
-        ensures { Leaves result (self.new.kind, self.new.body)
-            (heading_step (self.old.kind, self.old.body) (field number value.entry)) }
-    {
-        if number == 1 {
-            self.kind = int32_of(value)?;
-            return Ok(());
-        }
-        if !is_body(number) {
-            return Ok(());
-        }
-        match self.body {
-            None => {
-                self.body = Some(number);
-                Ok(())
-            }
-            Some(n) if n == number => Ok(()),
-            Some(_) => Err(ReadError::Malformed),
-        }
-    }
-}
-
-/// The kind, and the number of the body.
-fn read_heading(bytes: &[u8]) -> Result<Heading, ReadError>
-    ensures { Gives (λ h. (h.kind, h.body)) result (heading_of bytes.now) }
+/// Joins a part to the message of a body.
+#[tactic(auto, unfolding(crate::specs::CommandMerge::grown))]
+fn join_part<M: Message>(message: &mut M, alloc: Global, value: Value<'_>) -> Result<(), ReadError>
+    ensures { (number : ℕ) → Leaves result (record { number = number; row = M.shape; values = M.values message.new })
+        (grown (record { number = number; row = M.shape; values = M.values message.old }) (shown value.entry)) }
 {
-    let mut heading = Heading {
-        kind: 0,
-        body: None,
-    };
-    let mut rest = bytes;
-    while !rest.is_empty() {
-        let Some((number, value, after)) = read_field(rest) else {
-            return Err(ReadError::Malformed);
-        };
-        heading.put(number, value)?;
-        rest = after;
-    }
-    Ok(heading)
+    put_required(message, alloc, value)
 }
 
-/// Takes a field into a body, if it has its number.
-#[tactic(auto, unfolding(crate::specs::Heading::body_step))]
-fn put_body<M: Message>(
-    message: &mut M,
+/// Joins a part to the body of this number, which begins with the first.
+#[tactic(auto, unfolding(crate::specs::CommandMerge::joined_body))]
+fn join_body(
+    slot: &mut Option<Body>,
     alloc: Global,
-    body: u32,
     number: u32,
     value: Value<'_>,
 ) -> Result<(), ReadError>
-    ensures { Leaves result (M.values message.new)
-        (body_step body M.shape (M.values message.old) (field number value.entry)) }
+    ensures { Leaves result (option_map body_values slot.new)
+        (joined_body number (option_map body_values slot.old) (shown value.entry)) }
 {
-    if number == body {
-        put_required(message, alloc, value)
-    } else {
-        Ok(())
+    match slot {
+        Some(body) if body.number() == number => body.put_part(alloc, value),
+        Some(_) => Err(ReadError::Malformed),
+        None => {
+            *slot = Body::empty(alloc, number);
+            match slot {
+                Some(body) => body.put_part(alloc, value),
+                None => Err(ReadError::Malformed),
+            }
+        }
     }
 }
 
-/// The body of this number.
-pub fn body_of<M: Message>(alloc: Global, bytes: &[u8], body: u32) -> Result<M, ReadError>
-    ensures { Gives M.values result (body_reading body M.shape bytes.now) }
+/// Takes the fields that the bytes spell.
+fn merge_command(command: &mut BaseCommand, alloc: Global, bytes: &[u8]) -> Result<(), ReadError>
+    ensures { Leaves result (command_values command.new) (run command_step (command_values command.old) bytes.now) }
 {
-    let mut message = M::empty(alloc);
     let mut rest = bytes;
     while !rest.is_empty() {
         let Some((number, value, after)) = read_field(rest) else {
             return Err(ReadError::Malformed);
         };
-        put_body(&mut message, alloc, body, number, value)?;
+        command.put(alloc, number, value)?;
         rest = after;
     }
-    Ok(message)
-}
-
-/// The body of this number.
-#[tactic(auto, unfolding(crate::specs::Heading::any_body))]
-fn any_body_of(alloc: Global, bytes: &[u8], number: u32) -> Result<Body, ReadError>
-    ensures { Gives body_values result (any_body number bytes.now) }
-{
-    bodies!(read_body alloc, bytes, number)
+    Ok(())
 }
 
 /// The command that the bytes spell.
 pub fn decode_command(alloc: Global, bytes: &[u8]) -> Result<BaseCommand, ReadError>
     ensures { Gives command_values result (command_reading bytes.now) }
 {
-    let heading = read_heading(bytes)?;
-    let Some(number) = heading.body else {
-        return Ok(heading.alone());
+    let mut command = BaseCommand {
+        kind: 0,
+        body: None,
     };
-    let body = any_body_of(alloc, bytes, number)?;
-    Ok(BaseCommand::new(body))
+    merge_command(&mut command, alloc, bytes)?;
+    command.settle();
+    Ok(command)
 }
 
 /// Writes a command with no body.

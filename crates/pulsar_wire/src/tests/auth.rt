@@ -3,7 +3,7 @@
 use crate::commands::auth::{AuthData, CommandAuthChallenge, CommandAuthResponse};
 use crate::commands::base::Body;
 use crate::error::NoMemory;
-use crate::tests::written::{bytes, is_command, is_written, text};
+use crate::tests::written::{bytes, is_command, is_written, text, writes};
 use std::alloc::Global;
 use std::test::Fail;
 
@@ -17,6 +17,7 @@ pub fn auth_data(alloc: Global) -> Result<AuthData, NoMemory> {
 #[test]
 fn writes_auth_data(rt: HostRuntime) -> Result<(), Fail> {
     let alloc = rt.alloc();
+    writes(&rt, alloc, AuthData::new(), b"")?;
     let full = auth_data(alloc)?;
     is_written(
         &rt,
@@ -25,12 +26,13 @@ fn writes_auth_data(rt: HostRuntime) -> Result<(), Fail> {
         b"\x0a\x10auth_method_name\x12\x04\x00\x02\x80\xff",
     )?;
     assert!(rt; full.copy()? == full);
-    is_written(&rt, alloc, &AuthData::new(), b"")
+    Ok(())
 }
 
 #[test]
 fn writes_auth_challenge(rt: HostRuntime) -> Result<(), Fail> {
     let alloc = rt.alloc();
+    writes(&rt, alloc, CommandAuthChallenge::new(), b"")?;
     let full = CommandAuthChallenge {
         server_version: Some(text(alloc, "server_version")?),
         challenge: Some(auth_data(alloc)?),
@@ -39,7 +41,6 @@ fn writes_auth_challenge(rt: HostRuntime) -> Result<(), Fail> {
     let written =
         b"\x0a\x0eserver_version\x12\x18\x0a\x10auth_method_name\x12\x04\x00\x02\x80\xff\x18\xfd\xff\xff\xff\xff\xff\xff\xff\xff\x01";
     is_written(&rt, alloc, &full, written)?;
-    is_written(&rt, alloc, &CommandAuthChallenge::new(), b"")?;
     is_command(
         &rt,
         alloc,
@@ -53,6 +54,7 @@ fn writes_auth_challenge(rt: HostRuntime) -> Result<(), Fail> {
 #[test]
 fn writes_auth_response(rt: HostRuntime) -> Result<(), Fail> {
     let alloc = rt.alloc();
+    writes(&rt, alloc, CommandAuthResponse::new(), b"")?;
     let full = CommandAuthResponse {
         client_version: Some(text(alloc, "client_version")?),
         response: Some(auth_data(alloc)?),
@@ -61,7 +63,6 @@ fn writes_auth_response(rt: HostRuntime) -> Result<(), Fail> {
     let written =
         b"\x0a\x0eclient_version\x12\x18\x0a\x10auth_method_name\x12\x04\x00\x02\x80\xff\x18\xfd\xff\xff\xff\xff\xff\xff\xff\xff\x01";
     is_written(&rt, alloc, &full, written)?;
-    is_written(&rt, alloc, &CommandAuthResponse::new(), b"")?;
     is_command(
         &rt,
         alloc,

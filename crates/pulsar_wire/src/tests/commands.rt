@@ -6,6 +6,7 @@ use crate::commands::consumer::delivery::CommandMessage;
 use crate::commands::ids::MessageIdData;
 use crate::error::{ConnectionError, Reason};
 use crate::laws::round_trip;
+use crate::tests::written::{is_copied, is_read, text};
 use crate::wire::Wire;
 use std::alloc::Global;
 use std::process::Abort;
@@ -18,16 +19,34 @@ fn is_refused(alloc: Global, bytes: &[u8]) -> bool {
     )
 }
 
-/// Decodes the bytes, which encode to themselves.
-fn both_ways(rt: &impl Abort, alloc: Global, bytes: &[u8]) -> Result<BaseCommand, Fail> {
-    let command = BaseCommand::decode(alloc, bytes)?;
+/// The bytes and the value stand for each other. The value is handed back.
+fn both_ways<W: Wire + PartialEq + Drop>(
+    rt: &impl Abort,
+    alloc: Global,
+    bytes: &[u8],
+    value: W,
+) -> Result<W, Fail> {
     let mut out = Vec::new(alloc);
-    command.encode(&mut out)?;
+    value.encode(&mut out)?;
     assert_eq!(rt; out.as_slice(), bytes);
-    assert_eq!(rt; command.encoded_len(), bytes.len() as u64);
-    assert!(rt; command.copy()? == command);
-    assert!(rt; round_trip(alloc, &command)? == command);
-    Ok(command)
+    assert_eq!(rt; value.encoded_len(), bytes.len() as u64);
+    assert!(rt; is_read(alloc, &value, bytes)?);
+    assert!(rt; comes_back(alloc, &value)?);
+    Ok(value)
+}
+
+/// Whether the bytes are read as this value, which is let go.
+fn reads<W: Wire + PartialEq + Drop>(
+    alloc: Global,
+    value: W,
+    bytes: &[u8],
+) -> Result<bool, ConnectionError> {
+    is_read(alloc, &value, bytes)
+}
+
+/// Whether a value is the same when it was written and read again.
+fn comes_back<W: Wire + PartialEq>(alloc: Global, value: &W) -> Result<bool, ConnectionError> {
+    Ok(round_trip(alloc, value)? == *value)
 }
 
 /// Decodes an id, which encodes to the canonical bytes.
@@ -41,7 +60,7 @@ fn id_of(
     let mut out = Vec::new(alloc);
     id.copy()?.encode(&mut out)?;
     assert_eq!(rt; out.as_slice(), canonical);
-    assert!(rt; round_trip(alloc, &id)? == id);
+    assert!(rt; comes_back(alloc, &id)?);
     Ok(id)
 }
 
@@ -64,46 +83,65 @@ fn refuses_what_is_no_command(rt: HostRuntime) {
     }
 }
 
+/// Whether a command says connect, by its kind and its body.
+fn is_connect(command: &BaseCommand) -> bool {
+    command.kind == 2 && matches!(&command.body, Some(Body::Connect(_)))
+}
+
+/// The same of a command that is let go.
+fn says_connect(command: BaseCommand) -> bool {
+    is_connect(&command)
+}
+
 #[test]
 fn skips_unknown_fields(rt: HostRuntime) -> Result<(), Fail> {
     let command = BaseCommand::decode(rt.alloc(), b"\x88\x03\x00\x08\x02\x12\x00")?;
-    assert_eq!(rt; command.kind, 2);
-    assert!(rt; matches!(&command.body, Some(Body::Connect(_))));
+    assert!(rt; says_connect(command));
     Ok(())
+}
+
+/// A command that says connected, with nothing in it.
+fn connected(alloc: Global) -> BaseCommand {
+    BaseCommand::new(Body::Connected(CommandConnected::new(alloc)))
 }
 
 #[test]
 fn joins_the_occurrences_of_a_body(rt: HostRuntime) -> Result<(), Fail> {
     let alloc = rt.alloc();
     let twice = b"\x08\x03\x1a\x02\x0a\x00\x1a\x02\x0a\x00";
-    let command = BaseCommand::decode(alloc, twice)?;
-    let empty = BaseCommand::new(Body::Connected(CommandConnected::new(alloc)));
-    assert!(rt; command == empty);
+    assert!(rt; reads(alloc, connected(alloc), twice)?);
     Ok(())
+}
+
+/// A command that says connect, by a client that names itself so.
+fn connect(version: String, auth_method_name: Option<String>) -> BaseCommand {
+    BaseCommand::new(Body::Connect(CommandConnect {
+        client_version: version,
+        auth_data: None,
+        protocol_version: Some(12),
+        auth_method_name,
+        proxy_to_broker_url: None,
+    }))
 }
 
 #[test]
 fn reads_a_connect(rt: HostRuntime) -> Result<(), Fail> {
     let alloc = rt.alloc();
     let bytes = b"\x08\x02\x12\x1a\x0a\x10pulsar-rs-v6.0.0\x20\x0c\x2a\x04none";
-    let command = both_ways(&rt, alloc, bytes)?;
-    let mut connect = CommandConnect::new(alloc);
-    connect.client_version = String::from_str(alloc, "pulsar-rs-v6.0.0")?;
-    connect.auth_method_name = Some(String::from_str(alloc, "none")?);
-    connect.protocol_version = Some(12);
-    assert!(rt; command == BaseCommand::new(Body::Connect(connect.copy()?)));
+    let version = text(alloc, "pulsar-rs-v6.0.0")?;
+    let method = text(alloc, "none")?;
+    let command = both_ways(&rt, alloc, bytes, connect(version, Some(method)))?;
+    assert!(rt; is_copied(command)?);
     Ok(())
 }
 
 #[test]
 fn writes_a_connect(rt: HostRuntime) -> Result<(), Fail> {
     let alloc = rt.alloc();
-    let mut connect = CommandConnect::new(alloc);
-    connect.client_version = client_version(alloc)?;
-    connect.protocol_version = Some(12);
-    let command = BaseCommand::new(Body::Connect(connect));
     let bytes = b"\x08\x02\x12\x14\x0a\x10pulsar-rs-v6.7.2\x20\x0c";
-    assert!(rt; both_ways(&rt, alloc, bytes)? == command);
+    let version = client_version(alloc)?;
+    let command = both_ways(&rt, alloc, bytes, connect(version, None))?;
+    assert!(rt; is_copied(command)?);
     Ok(())
 }
 

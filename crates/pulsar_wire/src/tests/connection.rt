@@ -5,12 +5,13 @@ use crate::commands::connection::{
     CommandConnect, CommandConnected, CommandError, CommandPing, CommandPong, CommandSuccess,
 };
 use crate::tests::schema::schema;
-use crate::tests::written::{bytes, is_command, is_written, text};
+use crate::tests::written::{bytes, is_command, is_written, text, writes};
 use std::test::Fail;
 
 #[test]
 fn writes_connect(rt: HostRuntime) -> Result<(), Fail> {
     let alloc = rt.alloc();
+    writes(&rt, alloc, CommandConnect::new(alloc), b"\x0a\x00")?;
     let full = CommandConnect {
         client_version: text(alloc, "client_version")?,
         auth_data: Some(bytes(alloc, b"\x00\x03\x80\xff")?),
@@ -21,7 +22,6 @@ fn writes_connect(rt: HostRuntime) -> Result<(), Fail> {
     let written =
         b"\x0a\x0eclient_version\x1a\x04\x00\x03\x80\xff \x90\x03*\x10auth_method_name2\x13proxy_to_broker_url";
     is_written(&rt, alloc, &full, written)?;
-    is_written(&rt, alloc, &CommandConnect::new(alloc), b"\x0a\x00")?;
     is_command(
         &rt,
         alloc,
@@ -35,6 +35,7 @@ fn writes_connect(rt: HostRuntime) -> Result<(), Fail> {
 #[test]
 fn writes_connected(rt: HostRuntime) -> Result<(), Fail> {
     let alloc = rt.alloc();
+    writes(&rt, alloc, CommandConnected::new(alloc), b"\x0a\x00")?;
     let full = CommandConnected {
         server_version: text(alloc, "server_version")?,
         protocol_version: Some(200),
@@ -42,7 +43,6 @@ fn writes_connected(rt: HostRuntime) -> Result<(), Fail> {
     };
     let written = b"\x0a\x0eserver_version\x10\xc8\x01\x18\xfd\xff\xff\xff\xff\xff\xff\xff\xff\x01";
     is_written(&rt, alloc, &full, written)?;
-    is_written(&rt, alloc, &CommandConnected::new(alloc), b"\x0a\x00")?;
     is_command(
         &rt,
         alloc,
@@ -56,10 +56,10 @@ fn writes_connected(rt: HostRuntime) -> Result<(), Fail> {
 #[test]
 fn writes_ping(rt: HostRuntime) -> Result<(), Fail> {
     let alloc = rt.alloc();
+    writes(&rt, alloc, CommandPing::new(), b"")?;
     let full = CommandPing;
     let written = b"";
     is_written(&rt, alloc, &full, written)?;
-    is_written(&rt, alloc, &CommandPing::new(), b"")?;
     is_command(
         &rt,
         alloc,
@@ -73,10 +73,10 @@ fn writes_ping(rt: HostRuntime) -> Result<(), Fail> {
 #[test]
 fn writes_pong(rt: HostRuntime) -> Result<(), Fail> {
     let alloc = rt.alloc();
+    writes(&rt, alloc, CommandPong::new(), b"")?;
     let full = CommandPong;
     let written = b"";
     is_written(&rt, alloc, &full, written)?;
-    is_written(&rt, alloc, &CommandPong::new(), b"")?;
     is_command(
         &rt,
         alloc,
@@ -90,6 +90,7 @@ fn writes_pong(rt: HostRuntime) -> Result<(), Fail> {
 #[test]
 fn writes_success(rt: HostRuntime) -> Result<(), Fail> {
     let alloc = rt.alloc();
+    writes(&rt, alloc, CommandSuccess::new(), b"\x08\x00")?;
     let full = CommandSuccess {
         request_id: 301,
         schema: Some(schema(alloc)?),
@@ -97,7 +98,6 @@ fn writes_success(rt: HostRuntime) -> Result<(), Fail> {
     let written =
         b"\x08\xad\x02\x12#\x0a\x04name\x1a\x04\x00\x03\x80\xff \x90\x03*\x0c\x0a\x03key\x12\x05value*\x04\x0a\x00\x12\x00";
     is_written(&rt, alloc, &full, written)?;
-    is_written(&rt, alloc, &CommandSuccess::new(), b"\x08\x00")?;
     is_command(
         &rt,
         alloc,
@@ -111,6 +111,12 @@ fn writes_success(rt: HostRuntime) -> Result<(), Fail> {
 #[test]
 fn writes_error(rt: HostRuntime) -> Result<(), Fail> {
     let alloc = rt.alloc();
+    writes(
+        &rt,
+        alloc,
+        CommandError::new(alloc),
+        b"\x08\x00\x10\x00\x1a\x00",
+    )?;
     let full = CommandError {
         request_id: 301,
         error: 200,
@@ -118,12 +124,6 @@ fn writes_error(rt: HostRuntime) -> Result<(), Fail> {
     };
     let written = b"\x08\xad\x02\x10\xc8\x01\x1a\x07message";
     is_written(&rt, alloc, &full, written)?;
-    is_written(
-        &rt,
-        alloc,
-        &CommandError::new(alloc),
-        b"\x08\x00\x10\x00\x1a\x00",
-    )?;
     is_command(
         &rt,
         alloc,

@@ -2,7 +2,7 @@
 
 use crate::commands::ids::MessageIdData;
 use crate::error::NoMemory;
-use crate::tests::written::{is_written, two};
+use crate::tests::written::{is_written, two, writes};
 use std::alloc::Global;
 use std::test::Fail;
 
@@ -20,6 +20,7 @@ pub fn message_id(alloc: Global) -> Result<MessageIdData, NoMemory> {
 #[test]
 fn writes_message_id(rt: HostRuntime) -> Result<(), Fail> {
     let alloc = rt.alloc();
+    writes(&rt, alloc, MessageIdData::new(alloc), b"\x08\x00\x10\x00")?;
     let full = message_id(alloc)?;
     is_written(
         &rt,
@@ -28,5 +29,5 @@ fn writes_message_id(rt: HostRuntime) -> Result<(), Fail> {
         b"\x08\xad\x02\x10\xae\x02\x18\xfd\xff\xff\xff\xff\xff\xff\xff\xff\x01 \x90\x03(\x05(\xff\xff\xff\xff\xff\xff\xff\xff\xff\x010\xd8\x04",
     )?;
     assert!(rt; full.copy()? == full);
-    is_written(&rt, alloc, &MessageIdData::new(alloc), b"\x08\x00\x10\x00")
+    Ok(())
 }

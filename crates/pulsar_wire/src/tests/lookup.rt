@@ -5,24 +5,24 @@ use crate::commands::lookup::{
     CommandLookupTopic, CommandLookupTopicResponse, CommandPartitionedTopicMetadata,
     CommandPartitionedTopicMetadataResponse,
 };
-use crate::tests::written::{is_command, is_written, text};
+use crate::tests::written::{is_command, is_written, text, writes};
 use std::test::Fail;
 
 #[test]
 fn writes_partition_metadata(rt: HostRuntime) -> Result<(), Fail> {
     let alloc = rt.alloc();
+    writes(
+        &rt,
+        alloc,
+        CommandPartitionedTopicMetadata::new(alloc),
+        b"\x0a\x00\x10\x00",
+    )?;
     let full = CommandPartitionedTopicMetadata {
         topic: text(alloc, "topic")?,
         request_id: 302,
     };
     let written = b"\x0a\x05topic\x10\xae\x02";
     is_written(&rt, alloc, &full, written)?;
-    is_written(
-        &rt,
-        alloc,
-        &CommandPartitionedTopicMetadata::new(alloc),
-        b"\x0a\x00\x10\x00",
-    )?;
     is_command(
         &rt,
         alloc,
@@ -36,6 +36,12 @@ fn writes_partition_metadata(rt: HostRuntime) -> Result<(), Fail> {
 #[test]
 fn writes_partition_metadata_response(rt: HostRuntime) -> Result<(), Fail> {
     let alloc = rt.alloc();
+    writes(
+        &rt,
+        alloc,
+        CommandPartitionedTopicMetadataResponse::new(),
+        b"\x10\x00",
+    )?;
     let full = CommandPartitionedTopicMetadataResponse {
         partitions: Some(u32::MAX),
         request_id: 302,
@@ -46,12 +52,6 @@ fn writes_partition_metadata_response(rt: HostRuntime) -> Result<(), Fail> {
     let written =
         b"\x08\xff\xff\xff\xff\x0f\x10\xae\x02\x18\xfd\xff\xff\xff\xff\xff\xff\xff\xff\x01 \x90\x03*\x07message";
     is_written(&rt, alloc, &full, written)?;
-    is_written(
-        &rt,
-        alloc,
-        &CommandPartitionedTopicMetadataResponse::new(),
-        b"\x10\x00",
-    )?;
     is_command(
         &rt,
         alloc,
@@ -65,6 +65,12 @@ fn writes_partition_metadata_response(rt: HostRuntime) -> Result<(), Fail> {
 #[test]
 fn writes_lookup_topic(rt: HostRuntime) -> Result<(), Fail> {
     let alloc = rt.alloc();
+    writes(
+        &rt,
+        alloc,
+        CommandLookupTopic::new(alloc),
+        b"\x0a\x00\x10\x00",
+    )?;
     let full = CommandLookupTopic {
         topic: text(alloc, "topic")?,
         request_id: 302,
@@ -72,12 +78,6 @@ fn writes_lookup_topic(rt: HostRuntime) -> Result<(), Fail> {
     };
     let written = b"\x0a\x05topic\x10\xae\x02\x18\x01";
     is_written(&rt, alloc, &full, written)?;
-    is_written(
-        &rt,
-        alloc,
-        &CommandLookupTopic::new(alloc),
-        b"\x0a\x00\x10\x00",
-    )?;
     is_command(
         &rt,
         alloc,
@@ -91,6 +91,7 @@ fn writes_lookup_topic(rt: HostRuntime) -> Result<(), Fail> {
 #[test]
 fn writes_lookup_topic_response(rt: HostRuntime) -> Result<(), Fail> {
     let alloc = rt.alloc();
+    writes(&rt, alloc, CommandLookupTopicResponse::new(), b" \x00")?;
     let full = CommandLookupTopicResponse {
         broker_service_url: Some(text(alloc, "broker_service_url")?),
         broker_service_url_tls: Some(text(alloc, "broker_service_url_tls")?),
@@ -104,7 +105,6 @@ fn writes_lookup_topic_response(rt: HostRuntime) -> Result<(), Fail> {
     let written =
         b"\x0a\x12broker_service_url\x12\x16broker_service_url_tls\x18\xfd\xff\xff\xff\xff\xff\xff\xff\xff\x01 \xb0\x02(\x010\xd8\x04:\x07message@\x01";
     is_written(&rt, alloc, &full, written)?;
-    is_written(&rt, alloc, &CommandLookupTopicResponse::new(), b" \x00")?;
     is_command(
         &rt,
         alloc,

@@ -6,12 +6,13 @@ use crate::commands::consumer::position::{
     CommandGetLastMessageIdResponse, CommandSeek,
 };
 use crate::tests::ids::message_id;
-use crate::tests::written::{is_command, is_written, text};
+use crate::tests::written::{is_command, is_written, text, writes};
 use std::test::Fail;
 
 #[test]
 fn writes_seek(rt: HostRuntime) -> Result<(), Fail> {
     let alloc = rt.alloc();
+    writes(&rt, alloc, CommandSeek::new(), b"\x08\x00\x10\x00")?;
     let full = CommandSeek {
         consumer_id: 301,
         request_id: 302,
@@ -21,7 +22,6 @@ fn writes_seek(rt: HostRuntime) -> Result<(), Fail> {
     let written =
         b"\x08\xad\x02\x10\xae\x02\x1a$\x08\xad\x02\x10\xae\x02\x18\xfd\xff\xff\xff\xff\xff\xff\xff\xff\x01 \x90\x03(\x05(\xff\xff\xff\xff\xff\xff\xff\xff\xff\x010\xd8\x04 \xfc\xff\xff\xff\xff\xff\xff\xff\xff\x01";
     is_written(&rt, alloc, &full, written)?;
-    is_written(&rt, alloc, &CommandSeek::new(), b"\x08\x00\x10\x00")?;
     is_command(
         &rt,
         alloc,
@@ -35,18 +35,18 @@ fn writes_seek(rt: HostRuntime) -> Result<(), Fail> {
 #[test]
 fn writes_get_last_message_id(rt: HostRuntime) -> Result<(), Fail> {
     let alloc = rt.alloc();
+    writes(
+        &rt,
+        alloc,
+        CommandGetLastMessageId::new(),
+        b"\x08\x00\x10\x00",
+    )?;
     let full = CommandGetLastMessageId {
         consumer_id: 301,
         request_id: 302,
     };
     let written = b"\x08\xad\x02\x10\xae\x02";
     is_written(&rt, alloc, &full, written)?;
-    is_written(
-        &rt,
-        alloc,
-        &CommandGetLastMessageId::new(),
-        b"\x08\x00\x10\x00",
-    )?;
     is_command(
         &rt,
         alloc,
@@ -60,6 +60,12 @@ fn writes_get_last_message_id(rt: HostRuntime) -> Result<(), Fail> {
 #[test]
 fn writes_get_last_message_id_response(rt: HostRuntime) -> Result<(), Fail> {
     let alloc = rt.alloc();
+    writes(
+        &rt,
+        alloc,
+        CommandGetLastMessageIdResponse::new(alloc),
+        b"\x0a\x04\x08\x00\x10\x00\x10\x00",
+    )?;
     let full = CommandGetLastMessageIdResponse {
         last_message_id: message_id(alloc)?,
         request_id: 302,
@@ -67,12 +73,6 @@ fn writes_get_last_message_id_response(rt: HostRuntime) -> Result<(), Fail> {
     let written =
         b"\x0a$\x08\xad\x02\x10\xae\x02\x18\xfd\xff\xff\xff\xff\xff\xff\xff\xff\x01 \x90\x03(\x05(\xff\xff\xff\xff\xff\xff\xff\xff\xff\x010\xd8\x04\x10\xae\x02";
     is_written(&rt, alloc, &full, written)?;
-    is_written(
-        &rt,
-        alloc,
-        &CommandGetLastMessageIdResponse::new(alloc),
-        b"\x0a\x04\x08\x00\x10\x00\x10\x00",
-    )?;
     is_command(
         &rt,
         alloc,
@@ -86,13 +86,13 @@ fn writes_get_last_message_id_response(rt: HostRuntime) -> Result<(), Fail> {
 #[test]
 fn writes_consumer_stats(rt: HostRuntime) -> Result<(), Fail> {
     let alloc = rt.alloc();
+    writes(&rt, alloc, CommandConsumerStats::new(), b"\x08\x00 \x00")?;
     let full = CommandConsumerStats {
         request_id: 301,
         consumer_id: 304,
     };
     let written = b"\x08\xad\x02 \xb0\x02";
     is_written(&rt, alloc, &full, written)?;
-    is_written(&rt, alloc, &CommandConsumerStats::new(), b"\x08\x00 \x00")?;
     is_command(
         &rt,
         alloc,
@@ -106,6 +106,7 @@ fn writes_consumer_stats(rt: HostRuntime) -> Result<(), Fail> {
 #[test]
 fn writes_consumer_stats_response(rt: HostRuntime) -> Result<(), Fail> {
     let alloc = rt.alloc();
+    writes(&rt, alloc, CommandConsumerStatsResponse::new(), b"\x08\x00")?;
     let full = CommandConsumerStatsResponse {
         request_id: 301,
         error_code: Some(200),
@@ -122,12 +123,6 @@ fn writes_consumer_stats_response(rt: HostRuntime) -> Result<(), Fail> {
     let written =
         b"\x08\xad\x02\x10\xc8\x01\x1a\x0derror_message:\x0dconsumer_name@\xf8\xff\xff\xff\xff\xff\xff\xff\xff\x01H\xf7\xff\xff\xff\xff\xff\xff\xff\xff\x01P\x01Z\x07addressb\x0fconnected_sincej\x04kindx\xf1\xff\xff\xff\xff\xff\xff\xff\xff\x01";
     is_written(&rt, alloc, &full, written)?;
-    is_written(
-        &rt,
-        alloc,
-        &CommandConsumerStatsResponse::new(),
-        b"\x08\x00",
-    )?;
     is_command(
         &rt,
         alloc,

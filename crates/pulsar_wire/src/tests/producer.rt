@@ -6,16 +6,16 @@ use crate::commands::producer::{
     CommandCloseProducer, CommandProducer, CommandProducerSuccess, CommandSend, CommandSendError,
     CommandSendReceipt,
 };
+use crate::error::NoMemory;
 use crate::tests::ids::message_id;
 use crate::tests::metadata::key_value;
 use crate::tests::schema::schema;
-use crate::tests::written::{bytes, is_command, is_written, text, two};
+use crate::tests::written::{bytes, is_command, is_written, text, two, writes};
+use std::alloc::Global;
 use std::test::Fail;
 
-#[test]
-fn writes_producer(rt: HostRuntime) -> Result<(), Fail> {
-    let alloc = rt.alloc();
-    let full = CommandProducer {
+fn producer(alloc: Global) -> Result<CommandProducer, NoMemory> {
+    Ok(CommandProducer {
         topic: text(alloc, "topic")?,
         producer_id: 302,
         request_id: 303,
@@ -24,16 +24,22 @@ fn writes_producer(rt: HostRuntime) -> Result<(), Fail> {
         metadata: two(alloc, key_value(alloc)?, KeyValue::new(alloc))?,
         schema: Some(schema(alloc)?),
         producer_access_mode: Some(1000),
-    };
+    })
+}
+
+#[test]
+fn writes_producer(rt: HostRuntime) -> Result<(), Fail> {
+    let alloc = rt.alloc();
+    writes(
+        &rt,
+        alloc,
+        CommandProducer::new(alloc),
+        b"\x0a\x00\x10\x00\x18\x00",
+    )?;
+    let full = producer(alloc)?;
     let written =
         b"\x0a\x05topic\x10\xae\x02\x18\xaf\x02\x22\x0dproducer_name(\x012\x0c\x0a\x03key\x12\x05value2\x04\x0a\x00\x12\x00:#\x0a\x04name\x1a\x04\x00\x03\x80\xff \x90\x03*\x0c\x0a\x03key\x12\x05value*\x04\x0a\x00\x12\x00P\xe8\x07";
     is_written(&rt, alloc, &full, written)?;
-    is_written(
-        &rt,
-        alloc,
-        &CommandProducer::new(alloc),
-        b"\x0a\x00\x10\x00\x18\x00",
-    )?;
     is_command(
         &rt,
         alloc,
@@ -47,6 +53,12 @@ fn writes_producer(rt: HostRuntime) -> Result<(), Fail> {
 #[test]
 fn writes_producer_success(rt: HostRuntime) -> Result<(), Fail> {
     let alloc = rt.alloc();
+    writes(
+        &rt,
+        alloc,
+        CommandProducerSuccess::new(alloc),
+        b"\x08\x00\x12\x00",
+    )?;
     let full = CommandProducerSuccess {
         request_id: 301,
         producer_name: text(alloc, "producer_name")?,
@@ -58,12 +70,6 @@ fn writes_producer_success(rt: HostRuntime) -> Result<(), Fail> {
     let written =
         b"\x08\xad\x02\x12\x0dproducer_name\x18\xfd\xff\xff\xff\xff\xdf\xff\xff\xff\x01\x22\x04\x00\x04\x80\xff(\xfb\xff\xff\xff\xff\xff\xff\xff\xff\x010\x01";
     is_written(&rt, alloc, &full, written)?;
-    is_written(
-        &rt,
-        alloc,
-        &CommandProducerSuccess::new(alloc),
-        b"\x08\x00\x12\x00",
-    )?;
     is_command(
         &rt,
         alloc,
@@ -77,6 +83,7 @@ fn writes_producer_success(rt: HostRuntime) -> Result<(), Fail> {
 #[test]
 fn writes_send(rt: HostRuntime) -> Result<(), Fail> {
     let alloc = rt.alloc();
+    writes(&rt, alloc, CommandSend::new(), b"\x08\x00\x10\x00")?;
     let full = CommandSend {
         producer_id: 301,
         sequence_id: 302,
@@ -84,7 +91,6 @@ fn writes_send(rt: HostRuntime) -> Result<(), Fail> {
     };
     let written = b"\x08\xad\x02\x10\xae\x02\x18\xfd\xff\xff\xff\xff\xff\xff\xff\xff\x01";
     is_written(&rt, alloc, &full, written)?;
-    is_written(&rt, alloc, &CommandSend::new(), b"\x08\x00\x10\x00")?;
     is_command(
         &rt,
         alloc,
@@ -98,6 +104,7 @@ fn writes_send(rt: HostRuntime) -> Result<(), Fail> {
 #[test]
 fn writes_send_receipt(rt: HostRuntime) -> Result<(), Fail> {
     let alloc = rt.alloc();
+    writes(&rt, alloc, CommandSendReceipt::new(), b"\x08\x00\x10\x00")?;
     let full = CommandSendReceipt {
         producer_id: 301,
         sequence_id: 302,
@@ -107,7 +114,6 @@ fn writes_send_receipt(rt: HostRuntime) -> Result<(), Fail> {
     let written =
         b"\x08\xad\x02\x10\xae\x02\x1a$\x08\xad\x02\x10\xae\x02\x18\xfd\xff\xff\xff\xff\xff\xff\xff\xff\x01 \x90\x03(\x05(\xff\xff\xff\xff\xff\xff\xff\xff\xff\x010\xd8\x04 \xfc\xff\xff\xff\xff\xff\xff\xff\xff\x01";
     is_written(&rt, alloc, &full, written)?;
-    is_written(&rt, alloc, &CommandSendReceipt::new(), b"\x08\x00\x10\x00")?;
     is_command(
         &rt,
         alloc,
@@ -121,6 +127,12 @@ fn writes_send_receipt(rt: HostRuntime) -> Result<(), Fail> {
 #[test]
 fn writes_send_error(rt: HostRuntime) -> Result<(), Fail> {
     let alloc = rt.alloc();
+    writes(
+        &rt,
+        alloc,
+        CommandSendError::new(alloc),
+        b"\x08\x00\x10\x00\x18\x00\x22\x00",
+    )?;
     let full = CommandSendError {
         producer_id: 301,
         sequence_id: 302,
@@ -130,12 +142,6 @@ fn writes_send_error(rt: HostRuntime) -> Result<(), Fail> {
     let written =
         b"\x08\xad\x02\x10\xae\x02\x18\xfd\xff\xff\xff\xff\xff\xff\xff\xff\x01\x22\x07message";
     is_written(&rt, alloc, &full, written)?;
-    is_written(
-        &rt,
-        alloc,
-        &CommandSendError::new(alloc),
-        b"\x08\x00\x10\x00\x18\x00\x22\x00",
-    )?;
     is_command(
         &rt,
         alloc,
@@ -149,18 +155,13 @@ fn writes_send_error(rt: HostRuntime) -> Result<(), Fail> {
 #[test]
 fn writes_close_producer(rt: HostRuntime) -> Result<(), Fail> {
     let alloc = rt.alloc();
+    writes(&rt, alloc, CommandCloseProducer::new(), b"\x08\x00\x10\x00")?;
     let full = CommandCloseProducer {
         producer_id: 301,
         request_id: 302,
     };
     let written = b"\x08\xad\x02\x10\xae\x02";
     is_written(&rt, alloc, &full, written)?;
-    is_written(
-        &rt,
-        alloc,
-        &CommandCloseProducer::new(),
-        b"\x08\x00\x10\x00",
-    )?;
     is_command(
         &rt,
         alloc,

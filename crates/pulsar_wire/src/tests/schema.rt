@@ -5,7 +5,7 @@ use crate::commands::metadata::KeyValue;
 use crate::commands::schema::{CommandGetSchema, CommandGetSchemaResponse, Schema};
 use crate::error::NoMemory;
 use crate::tests::metadata::key_value;
-use crate::tests::written::{bytes, is_command, is_written, text, two};
+use crate::tests::written::{bytes, is_command, is_written, text, two, writes};
 use std::alloc::Global;
 use std::test::Fail;
 
@@ -21,6 +21,7 @@ pub fn schema(alloc: Global) -> Result<Schema, NoMemory> {
 #[test]
 fn writes_schema(rt: HostRuntime) -> Result<(), Fail> {
     let alloc = rt.alloc();
+    writes(&rt, alloc, Schema::new(alloc), b"\x0a\x00\x1a\x00 \x00")?;
     let full = schema(alloc)?;
     is_written(
         &rt,
@@ -29,12 +30,18 @@ fn writes_schema(rt: HostRuntime) -> Result<(), Fail> {
         b"\x0a\x04name\x1a\x04\x00\x03\x80\xff \x90\x03*\x0c\x0a\x03key\x12\x05value*\x04\x0a\x00\x12\x00",
     )?;
     assert!(rt; full.copy()? == full);
-    is_written(&rt, alloc, &Schema::new(alloc), b"\x0a\x00\x1a\x00 \x00")
+    Ok(())
 }
 
 #[test]
 fn writes_get_schema(rt: HostRuntime) -> Result<(), Fail> {
     let alloc = rt.alloc();
+    writes(
+        &rt,
+        alloc,
+        CommandGetSchema::new(alloc),
+        b"\x08\x00\x12\x00",
+    )?;
     let full = CommandGetSchema {
         request_id: 301,
         topic: text(alloc, "topic")?,
@@ -42,12 +49,6 @@ fn writes_get_schema(rt: HostRuntime) -> Result<(), Fail> {
     };
     let written = b"\x08\xad\x02\x12\x05topic\x1a\x04\x00\x03\x80\xff";
     is_written(&rt, alloc, &full, written)?;
-    is_written(
-        &rt,
-        alloc,
-        &CommandGetSchema::new(alloc),
-        b"\x08\x00\x12\x00",
-    )?;
     is_command(
         &rt,
         alloc,
@@ -61,6 +62,7 @@ fn writes_get_schema(rt: HostRuntime) -> Result<(), Fail> {
 #[test]
 fn writes_get_schema_response(rt: HostRuntime) -> Result<(), Fail> {
     let alloc = rt.alloc();
+    writes(&rt, alloc, CommandGetSchemaResponse::new(), b"\x08\x00")?;
     let full = CommandGetSchemaResponse {
         request_id: 301,
         error_code: Some(200),
@@ -71,7 +73,6 @@ fn writes_get_schema_response(rt: HostRuntime) -> Result<(), Fail> {
     let written =
         b"\x08\xad\x02\x10\xc8\x01\x1a\x0derror_message\x22#\x0a\x04name\x1a\x04\x00\x03\x80\xff \x90\x03*\x0c\x0a\x03key\x12\x05value*\x04\x0a\x00\x12\x00*\x04\x00\x05\x80\xff";
     is_written(&rt, alloc, &full, written)?;
-    is_written(&rt, alloc, &CommandGetSchemaResponse::new(), b"\x08\x00")?;
     is_command(
         &rt,
         alloc,

@@ -5,16 +5,16 @@ use crate::commands::consumer::subscription::{
     CommandActiveConsumerChange, CommandCloseConsumer, CommandSubscribe, CommandUnsubscribe,
 };
 use crate::commands::metadata::KeyValue;
+use crate::error::NoMemory;
 use crate::tests::ids::message_id;
 use crate::tests::metadata::key_value;
 use crate::tests::schema::schema;
-use crate::tests::written::{is_command, is_written, text, two};
+use crate::tests::written::{is_command, is_written, text, two, writes};
+use std::alloc::Global;
 use std::test::Fail;
 
-#[test]
-fn writes_subscribe(rt: HostRuntime) -> Result<(), Fail> {
-    let alloc = rt.alloc();
-    let full = CommandSubscribe {
+fn subscribe(alloc: Global) -> Result<CommandSubscribe, NoMemory> {
+    Ok(CommandSubscribe {
         topic: text(alloc, "topic")?,
         subscription: text(alloc, "subscription")?,
         sub_type: -3,
@@ -28,16 +28,22 @@ fn writes_subscribe(rt: HostRuntime) -> Result<(), Fail> {
         read_compacted: Some(true),
         schema: Some(schema(alloc)?),
         initial_position: Some(-13),
-    };
+    })
+}
+
+#[test]
+fn writes_subscribe(rt: HostRuntime) -> Result<(), Fail> {
+    let alloc = rt.alloc();
+    writes(
+        &rt,
+        alloc,
+        CommandSubscribe::new(alloc),
+        b"\x0a\x00\x12\x00\x18\x00 \x00(\x00",
+    )?;
+    let full = subscribe(alloc)?;
     let written =
         b"\x0a\x05topic\x12\x0csubscription\x18\xfd\xff\xff\xff\xff\xff\xff\xff\xff\x01 \xb0\x02(\xb1\x022\x0dconsumer_name8\xf9\xff\xff\xff\xff\xff\xff\xff\xff\x01@\x01J$\x08\xad\x02\x10\xae\x02\x18\xfd\xff\xff\xff\xff\xff\xff\xff\xff\x01 \x90\x03(\x05(\xff\xff\xff\xff\xff\xff\xff\xff\xff\x010\xd8\x04R\x0c\x0a\x03key\x12\x05valueR\x04\x0a\x00\x12\x00X\x01b#\x0a\x04name\x1a\x04\x00\x03\x80\xff \x90\x03*\x0c\x0a\x03key\x12\x05value*\x04\x0a\x00\x12\x00h\xf3\xff\xff\xff\xff\xff\xff\xff\xff\x01";
     is_written(&rt, alloc, &full, written)?;
-    is_written(
-        &rt,
-        alloc,
-        &CommandSubscribe::new(alloc),
-        b"\x0a\x00\x12\x00\x18\x00 \x00(\x00",
-    )?;
     is_command(
         &rt,
         alloc,
@@ -51,13 +57,13 @@ fn writes_subscribe(rt: HostRuntime) -> Result<(), Fail> {
 #[test]
 fn writes_unsubscribe(rt: HostRuntime) -> Result<(), Fail> {
     let alloc = rt.alloc();
+    writes(&rt, alloc, CommandUnsubscribe::new(), b"\x08\x00\x10\x00")?;
     let full = CommandUnsubscribe {
         consumer_id: 301,
         request_id: 302,
     };
     let written = b"\x08\xad\x02\x10\xae\x02";
     is_written(&rt, alloc, &full, written)?;
-    is_written(&rt, alloc, &CommandUnsubscribe::new(), b"\x08\x00\x10\x00")?;
     is_command(
         &rt,
         alloc,
@@ -71,18 +77,13 @@ fn writes_unsubscribe(rt: HostRuntime) -> Result<(), Fail> {
 #[test]
 fn writes_close_consumer(rt: HostRuntime) -> Result<(), Fail> {
     let alloc = rt.alloc();
+    writes(&rt, alloc, CommandCloseConsumer::new(), b"\x08\x00\x10\x00")?;
     let full = CommandCloseConsumer {
         consumer_id: 301,
         request_id: 302,
     };
     let written = b"\x08\xad\x02\x10\xae\x02";
     is_written(&rt, alloc, &full, written)?;
-    is_written(
-        &rt,
-        alloc,
-        &CommandCloseConsumer::new(),
-        b"\x08\x00\x10\x00",
-    )?;
     is_command(
         &rt,
         alloc,
@@ -96,13 +97,13 @@ fn writes_close_consumer(rt: HostRuntime) -> Result<(), Fail> {
 #[test]
 fn writes_active_consumer_change(rt: HostRuntime) -> Result<(), Fail> {
     let alloc = rt.alloc();
+    writes(&rt, alloc, CommandActiveConsumerChange::new(), b"\x08\x00")?;
     let full = CommandActiveConsumerChange {
         consumer_id: 301,
         is_active: Some(true),
     };
     let written = b"\x08\xad\x02\x10\x01";
     is_written(&rt, alloc, &full, written)?;
-    is_written(&rt, alloc, &CommandActiveConsumerChange::new(), b"\x08\x00")?;
     is_command(
         &rt,
         alloc,

@@ -2,12 +2,18 @@
 
 use crate::commands::base::Body;
 use crate::commands::topics::{CommandGetTopicsOfNamespace, CommandGetTopicsOfNamespaceResponse};
-use crate::tests::written::{is_command, is_written, text, two};
+use crate::tests::written::{is_command, is_written, text, two, writes};
 use std::test::Fail;
 
 #[test]
 fn writes_get_topics_of_namespace(rt: HostRuntime) -> Result<(), Fail> {
     let alloc = rt.alloc();
+    writes(
+        &rt,
+        alloc,
+        CommandGetTopicsOfNamespace::new(alloc),
+        b"\x08\x00\x12\x00",
+    )?;
     let full = CommandGetTopicsOfNamespace {
         request_id: 301,
         namespace: text(alloc, "namespace")?,
@@ -15,12 +21,6 @@ fn writes_get_topics_of_namespace(rt: HostRuntime) -> Result<(), Fail> {
     };
     let written = b"\x08\xad\x02\x12\x09namespace\x18\xfd\xff\xff\xff\xff\xff\xff\xff\xff\x01";
     is_written(&rt, alloc, &full, written)?;
-    is_written(
-        &rt,
-        alloc,
-        &CommandGetTopicsOfNamespace::new(alloc),
-        b"\x08\x00\x12\x00",
-    )?;
     is_command(
         &rt,
         alloc,
@@ -34,18 +34,18 @@ fn writes_get_topics_of_namespace(rt: HostRuntime) -> Result<(), Fail> {
 #[test]
 fn writes_get_topics_of_namespace_response(rt: HostRuntime) -> Result<(), Fail> {
     let alloc = rt.alloc();
+    writes(
+        &rt,
+        alloc,
+        CommandGetTopicsOfNamespaceResponse::new(alloc),
+        b"\x08\x00",
+    )?;
     let full = CommandGetTopicsOfNamespaceResponse {
         request_id: 301,
         topics: two(alloc, text(alloc, "a")?, text(alloc, "bc")?)?,
     };
     let written = b"\x08\xad\x02\x12\x01a\x12\x02bc";
     is_written(&rt, alloc, &full, written)?;
-    is_written(
-        &rt,
-        alloc,
-        &CommandGetTopicsOfNamespaceResponse::new(alloc),
-        b"\x08\x00",
-    )?;
     is_command(
         &rt,
         alloc,

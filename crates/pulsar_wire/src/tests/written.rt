@@ -1,7 +1,7 @@
 //! What the tests of all messages share.
 
 use crate::commands::base::{BaseCommand, Body};
-use crate::error::NoMemory;
+use crate::error::{ConnectionError, NoMemory};
 use crate::wire::Wire;
 use std::alloc::Global;
 use std::fmt::Debug;
@@ -26,6 +26,15 @@ pub fn two<T: Drop>(alloc: Global, first: T, second: T) -> Result<Vec<T>, NoMemo
 /// Fields of number 2000, one of each wire type that is skipped.
 const UNKNOWN: &[u8] = b"\x80\x7d\x05\x81\x7d12345678\x82\x7d\x02ab\x85\x7d1234";
 
+/// Whether the bytes are read as this value.
+pub fn is_read<W: Wire + PartialEq>(
+    alloc: Global,
+    value: &W,
+    bytes: &[u8],
+) -> Result<bool, ConnectionError> {
+    Ok(W::decode(alloc, bytes)? == *value)
+}
+
 /// The value is written so, and read from these bytes, also where unknown fields stand around them.
 pub fn is_written<W: Wire + Debug + PartialEq>(
     rt: &impl Abort,
@@ -37,12 +46,44 @@ pub fn is_written<W: Wire + Debug + PartialEq>(
     value.encode(&mut out)?;
     assert_eq!(rt; out.as_slice(), bytes);
     assert_eq!(rt; value.encoded_len(), bytes.len() as u64);
-    assert!(rt; W::decode(alloc, bytes)? == *value);
+    assert!(rt; is_read(alloc, value, bytes)?);
     let mut among = Vec::from_slice(alloc, UNKNOWN)?;
     among.extend_from_slice(bytes)?;
     among.extend_from_slice(UNKNOWN)?;
-    assert!(rt; W::decode(alloc, &among)? == *value);
+    assert!(rt; is_read(alloc, value, &among)?);
     Ok(())
+}
+
+/// The value is written so, and is let go: a caller that stops has none to let go.
+pub fn writes<W: Wire + Debug + PartialEq + Drop>(
+    rt: &impl Abort,
+    alloc: Global,
+    value: W,
+    bytes: &[u8],
+) -> Result<(), Fail> {
+    is_written(rt, alloc, &value, bytes)
+}
+
+/// The value is written so, and is handed back: a caller that stops has none to let go.
+pub fn written<W: Wire + Debug + PartialEq + Drop>(
+    rt: &impl Abort,
+    alloc: Global,
+    value: W,
+    bytes: &[u8],
+) -> Result<W, Fail> {
+    is_written(rt, alloc, &value, bytes)?;
+    Ok(value)
+}
+
+/// Whether two values are equal. It takes both, so that the caller has none to let go.
+pub fn are_equal<T: PartialEq + Drop>(first: T, second: T) -> bool {
+    first == second
+}
+
+/// Whether a command's copy is equal to it.
+pub fn is_copied(command: BaseCommand) -> Result<bool, NoMemory> {
+    let copy = command.copy()?;
+    Ok(are_equal(copy, command))
 }
 
 /// The command with this body has this name, and is written as the bytes of its head and of its body.
@@ -55,10 +96,9 @@ pub fn is_command(
     bytes: &[u8],
 ) -> Result<(), Fail> {
     assert_eq!(rt; body.name(), name);
-    let command = BaseCommand::new(body);
     let mut whole = Vec::from_slice(alloc, head)?;
     whole.extend_from_slice(bytes)?;
-    is_written(rt, alloc, &command, &whole)?;
-    assert!(rt; command.copy()? == command);
+    let command = written(rt, alloc, BaseCommand::new(body), &whole)?;
+    assert!(rt; is_copied(command)?);
     Ok(())
 }

@@ -1,5 +1,5 @@
--- The order of ids: by ledger, entry, partition, index in a batch, acknowledged entries and size of the batch. An absent
--- field comes first, and of two lists that agree the shorter one.
+-- The orders of ids and of request keys. Ids: by ledger, entry, partition, index in a batch, acknowledged entries and size
+-- of the batch. An absent field comes first, and of two lists that agree the shorter one.
 use Rattle.std.specs.Prelude.{ℕ}
 use Rattle.std.specs.declared.cmp.Ordering.{Ordering}
 use Rattle.std.specs.Ordering.{nat_cmp, int_cmp, ordering_then}
@@ -15,6 +15,7 @@ infixl 5 ◌then◌
 abbrev pub ◌then◌ : Ordering → Ordering → Ordering
 a then b = ordering_then a b
 
+-- ids: the first field that differs decides
 abbrev pub id_order : Values message_id → Values message_id → Ordering
 id_order a b =
     nat_cmp a.0 b.0

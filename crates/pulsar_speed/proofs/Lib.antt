@@ -1,1 +1,3 @@
 mod Blocks
+mod Repeats
+mod Same

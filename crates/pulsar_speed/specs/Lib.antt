@@ -1,2 +1,2 @@
-pub mod Tallies
 pub mod Samples
+pub mod Tallies

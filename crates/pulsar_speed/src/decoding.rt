@@ -2,8 +2,9 @@
 
 ghost use Rattle.std.specs.Prelude.{◌≡◌, ◌+◌, ◌++◌, length, IfOk, OnOk};
 ghost use Rattle.pulsar_frame.specs.Frame.{cut, left};
-ghost use Rattle.pulsar_speed.specs.Tallies.{Counts, CountsOne};
 ghost use Rattle.pulsar_frame.specs.Shown.{message_values};
+ghost use Rattle.pulsar_speed.specs.Samples.{blocks_of};
+ghost use Rattle.pulsar_speed.specs.Tallies.{number_in, frames_tally, Counts, CountsOne};
 
 use crate::sample::{BLOCK, Sample};
 use crate::tally::Tally;
@@ -17,7 +18,7 @@ pub const PIECE: usize = 65_536;
 
 /// Reads so many frames, block by block.
 pub fn decode(alloc: Global, sample: Sample, count: u64) -> Result<Tally, ConnectionError>
-    ensures { IfOk result (λ tally. tally.frames ≡ count) }
+    ensures { IfOk result (λ tally. tally ≡ frames_tally (blocks_of sample count)) }
 {
     let mut reader = FrameReader::new(alloc);
     let mut tally = Tally::new();
@@ -66,7 +67,7 @@ fn take_frames(reader: &mut FrameReader, tally: &mut Tally) -> Result<(), Connec
 
 /// Counts a message, and lets it go.
 fn count_given(tally: &mut Tally, message: Message) -> Result<(), ConnectionError>
-    ensures { OnOk result (CountsOne tally.old tally.new (message_values message)) }
+    ensures { OnOk result (CountsOne tally.old tally.new (number_in (message_values message))) }
 {
-    tally.count(&message)
+    tally.count_message(&message)
 }

@@ -2,21 +2,22 @@
 
 use crate::sample::Sample;
 
-/// What is done with the frames.
+/// What is done, again and again.
 #[derive(Clone, Copy)]
 pub enum Work {
     /// Frames are read from pieces of a stream.
-    Decode,
+    Decode(Sample),
     /// Frames are written.
-    Encode,
+    Encode(Sample),
     /// A command alone is read and written, without a frame.
-    Command,
+    Command(Sample),
+    /// The checksum of a buffer is taken.
+    Checksum,
 }
 
 #[derive(Clone, Copy)]
 pub struct Job {
     pub work: Work,
-    pub sample: Sample,
     /// How many times.
     pub count: u64,
 }
@@ -24,19 +25,32 @@ pub struct Job {
 impl Work {
     pub fn name(self) -> &'static str {
         match self {
-            Work::Decode => "decode",
-            Work::Encode => "encode",
-            Work::Command => "command",
+            Work::Decode(_) => "decode",
+            Work::Encode(_) => "encode",
+            Work::Command(_) => "command",
+            Work::Checksum => "checksum",
         }
     }
 
-    fn of(word: &str) -> Option<Work> {
-        if word == "decode" {
-            Some(Work::Decode)
-        } else if word == "encode" {
-            Some(Work::Encode)
-        } else if word == "command" {
-            Some(Work::Command)
+    /// What it is done with.
+    pub fn subject(self) -> &'static str {
+        match self {
+            Work::Decode(sample) | Work::Encode(sample) | Work::Command(sample) => sample.name(),
+            Work::Checksum => "buffer",
+        }
+    }
+
+    fn of(name: &str, subject: &str) -> Option<Work> {
+        if name == "checksum" && subject == "buffer" {
+            return Some(Work::Checksum);
+        }
+        let sample = Sample::of(subject)?;
+        if name == "decode" {
+            Some(Work::Decode(sample))
+        } else if name == "encode" {
+            Some(Work::Encode(sample))
+        } else if name == "command" {
+            Some(Work::Command(sample))
         } else {
             None
         }
@@ -46,7 +60,7 @@ impl Work {
 impl Job {
     /// What the words ask for, if they are the three words of a job.
     pub fn of(words: &[String]) -> Option<Job> {
-        let [work, sample, count] = words else {
+        let [name, subject, count] = words else {
             return None;
         };
         let count = match count.as_str().parse::<u64>() {
@@ -54,8 +68,7 @@ impl Job {
             Err(_) => return None,
         };
         Some(Job {
-            work: Work::of(work.as_str())?,
-            sample: Sample::of(sample.as_str())?,
+            work: Work::of(name.as_str(), subject.as_str())?,
             count,
         })
     }

@@ -1,6 +1,7 @@
-//! The program `pulsar_speed`: reads and writes frames, as many as it is told, for a clock outside.
+//! The program `pulsar_speed`: reads and writes frames, or takes checksums, as many as it is told, for a clock outside.
 #![tactic(auto)]
 
+mod checksums;
 mod decoding;
 mod encoding;
 mod job;
@@ -26,7 +27,8 @@ const REFUSED: Status = 4;
 
 const NOT_WRITTEN: Status = 5;
 
-const USAGE: &str = "usage: pulsar_speed decode|encode|command receipt|message NUMBER";
+const USAGE: &str =
+    "usage: pulsar_speed decode|encode|command receipt|message|payload NUMBER, or checksum buffer NUMBER";
 
 /// The words behind the program's name.
 fn arguments(rt: &HostRuntime, alloc: Global) -> io::Result<Vec<String>> {
@@ -39,9 +41,10 @@ fn arguments(rt: &HostRuntime, alloc: Global) -> io::Result<Vec<String>> {
 
 fn done(alloc: Global, job: Job) -> Result<Tally, ConnectionError> {
     match job.work {
-        Work::Decode => decoding::decode(alloc, job.sample, job.count),
-        Work::Encode => encoding::encode(alloc, job.sample, job.count),
-        Work::Command => encoding::command(alloc, job.sample, job.count),
+        Work::Decode(sample) => decoding::decode(alloc, sample, job.count),
+        Work::Encode(sample) => encoding::encode(alloc, sample, job.count),
+        Work::Command(sample) => encoding::command(alloc, sample, job.count),
+        Work::Checksum => checksums::checksum(alloc, job.count),
     }
 }
 
@@ -62,9 +65,9 @@ fn run(rt: &HostRuntime, words: &[String]) -> Result<(), Status> {
         Ok(tally) => tally,
         Err(e) => return Err(status_of(&e)),
     };
-    let (work, sample, count) = (job.work.name(), job.sample.name(), job.count);
-    let Tally { frames, bytes, sum } = tally;
-    match println!(rt; "{work} {sample} {count} frames {frames} bytes {bytes} sum {sum}") {
+    let (name, subject, times) = (job.work.name(), job.work.subject(), job.count);
+    let Tally { count, bytes, sum } = tally;
+    match println!(rt; "{name} {subject} {times} count {count} bytes {bytes} sum {sum}") {
         Ok(()) => Ok(()),
         Err(_) => Err(NOT_WRITTEN),
     }

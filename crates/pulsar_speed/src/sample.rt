@@ -1,20 +1,23 @@
 //! The messages that are read and written.
 
 ghost use Rattle.std.specs.Prelude.{◌≡◌, ◌≤◌, IfOk};
+ghost use Rattle.std.specs.Option.{option_map};
+ghost use Rattle.pulsar_frame.specs.Payload.{payload_values};
 ghost use Rattle.pulsar_frame.specs.Shown.{message_values};
-ghost use Rattle.pulsar_wire.specs.Views.{body_values, message_id_values};
+ghost use Rattle.pulsar_wire.specs.Views.{body_values, message_id_values, message_metadata_values};
 ghost use Rattle.pulsar_speed.specs.declared.sample.Sample.TheVariants as samples;
-ghost use Rattle.pulsar_speed.specs.Samples.{id, sample_body, sample_message, frames_of, AreFrames};
+ghost use Rattle.pulsar_speed.specs.Samples.{id, sample_body, sample_metadata, sample_payload, sample_message, first_of, sevens, AreFrames};
 
 use bytes::BytesMut;
 use pulsar_frame::codec::Codec;
 use pulsar_frame::message::Message;
+use pulsar_frame::payload::{Metadata, Payload};
 use pulsar_wire::commands::base::{BaseCommand, Body};
 use pulsar_wire::commands::consumer::delivery::CommandMessage;
 use pulsar_wire::commands::ids::MessageIdData;
 use pulsar_wire::commands::producer::CommandSendReceipt;
-use pulsar_wire::error::ConnectionError;
-use std::alloc::Global;
+use pulsar_wire::error::{ConnectionError, NoMemory};
+use std::alloc::{AllocError, Global};
 
 /// The number of the first message.
 pub const FIRST: u64 = 2;
@@ -25,8 +28,12 @@ pub const BLOCK: u64 = 4096;
 /// A kind of message.
 #[derive(Clone, Copy)]
 pub enum Sample {
+    /// What a broker answers where a message was sent.
     Receipt,
+    /// What a broker delivers, without a payload.
     Message,
+    /// The same, with a payload of 1,024 bytes.
+    Payload,
 }
 
 impl Sample {
@@ -34,6 +41,7 @@ impl Sample {
         match self {
             Sample::Receipt => "receipt",
             Sample::Message => "message",
+            Sample::Payload => "payload",
         }
     }
 
@@ -42,6 +50,8 @@ impl Sample {
             Some(Sample::Receipt)
         } else if word == "message" {
             Some(Sample::Message)
+        } else if word == "payload" {
+            Some(Sample::Payload)
         } else {
             None
         }
@@ -49,30 +59,55 @@ impl Sample {
 
     /// The message of this kind with a number.
     #[tactic(auto, unfolding(crate::specs::Samples::sample_message))]
-    pub fn message(self, alloc: Global, number: u64) -> Message
-        ensures { message_values result ≡ sample_message self number }
+    pub fn message(self, alloc: Global, number: u64) -> Result<Message, NoMemory>
+        ensures { IfOk result (λ message. message_values message ≡ sample_message self number) }
     {
-        let body = match self {
-            Sample::Receipt => receipt(alloc, number),
-            Sample::Message => delivery(alloc, number),
-        };
-        Message {
-            command: BaseCommand::new(body),
-        }
+        Ok(Message {
+            command: BaseCommand::new(self.body(alloc, number)),
+            payload: self.payload(alloc, number)?,
+        })
     }
 
     /// The frames of the first messages of this kind, one behind the other.
     pub fn frames(self, alloc: Global, count: u64) -> Result<BytesMut, ConnectionError>
         requires { count ≤ 4096 }
-        ensures frames { IfOk result (λ bytes. bytes.items ≡ frames_of self count) }
-        ensures whole { IfOk result (λ bytes. AreFrames count bytes.items) }
+        ensures { IfOk result (λ bytes. AreFrames (first_of self count) bytes.items) }
     {
         let mut bytes = BytesMut::new(alloc);
         for i in 0..count {
-            Codec.encode(alloc, &self.message(alloc, FIRST + i), &mut bytes)?;
+            Codec.encode(alloc, &self.message(alloc, FIRST + i)?, &mut bytes)?;
         }
         Ok(bytes)
     }
+
+    fn body(self, alloc: Global, number: u64) -> Body
+        ensures { body_values result ≡ sample_body self number }
+    {
+        match self {
+            Sample::Receipt => receipt(alloc, number),
+            Sample::Message | Sample::Payload => delivery(alloc, number),
+        }
+    }
+
+    fn payload(self, alloc: Global, number: u64) -> Result<Option<Payload>, NoMemory>
+        ensures { IfOk result (λ payload. option_map payload_values payload ≡ sample_payload self number) }
+    {
+        match self {
+            Sample::Payload => Ok(Some(Payload {
+                metadata: metadata(alloc, number)?,
+                bytes: sevens(alloc, 1024)?,
+            })),
+            Sample::Receipt | Sample::Message => Ok(None),
+        }
+    }
+}
+
+/// The byte 7, so many times.
+#[tactic(auto, unfolding(crate::specs::Samples::sevens))]
+pub fn sevens(alloc: Global, count: usize) -> Result<Vec<u8>, AllocError>
+    ensures { IfOk result (λ bytes. bytes.items ≡ sevens count) }
+{
+    Ok(vec![in alloc; 7; count]?)
 }
 
 /// The id of an entry of ledger 1.
@@ -112,4 +147,16 @@ fn delivery(alloc: Global, entry_id: u64) -> Body
         redelivery_count: Some(0),
         ack_set: Vec::new(alloc),
     })
+}
+
+/// What is said of the payload of a message.
+#[tactic(auto, unfolding(pulsar_wire::specs::Views::message_metadata_values))]
+fn metadata(alloc: Global, sequence_id: u64) -> Result<Metadata, NoMemory>
+    ensures { IfOk result (λ metadata. message_metadata_values metadata ≡ sample_metadata sequence_id) }
+{
+    let mut metadata = Metadata::new(alloc);
+    metadata.producer_name = String::from_str(alloc, "speed")?;
+    metadata.sequence_id = sequence_id;
+    metadata.publish_time = 1_700_000_000_000;
+    Ok(metadata)
 }

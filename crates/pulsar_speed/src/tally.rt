@@ -10,10 +10,10 @@ use pulsar_frame::message::Message;
 use pulsar_wire::error::ConnectionError;
 use pulsar_wire::key::RequestKey;
 
-/// How many frames there were, how many bytes they had, and the sum of a number of each.
+/// How many there were, how many bytes they had, and the sum of a number of each.
 #[derive(Clone, Copy)]
 pub struct Tally {
-    pub frames: u64,
+    pub count: u64,
     pub bytes: u64,
     pub sum: u64,
 }
@@ -21,21 +21,28 @@ pub struct Tally {
 impl Tally {
     /// Nothing was counted yet.
     pub fn new() -> Tally
-        ensures { result ≡ record { frames = 0; bytes = 0; sum = 0 } }
+        ensures { result ≡ record { count = 0; bytes = 0; sum = 0 } }
     {
         Tally {
-            frames: 0,
+            count: 0,
             bytes: 0,
             sum: 0,
         }
     }
 
-    /// One more frame, with the last number of its key. It is Exhausted where a count is at its end.
-    pub fn count(&mut self, message: &Message) -> Result<(), ConnectionError>
-        ensures { OnOk result (CountsOne self.old self.new (message_values message.now)) }
+    /// One more message, with the last number of its key. It is Exhausted where a count is at its end.
+    pub fn count_message(&mut self, message: &Message) -> Result<(), ConnectionError>
+        ensures { OnOk result (CountsOne self.old self.new (number_in (message_values message.now))) }
     {
-        self.frames = added(self.frames, 1)?;
-        self.sum = added(self.sum, number_in(message))?;
+        self.count_one(number_in(message))
+    }
+
+    /// One more, with its number. It is Exhausted where a count is at its end.
+    pub fn count_one(&mut self, number: u64) -> Result<(), ConnectionError>
+        ensures { OnOk result (CountsOne self.old self.new number) }
+    {
+        self.count = added(self.count, 1)?;
+        self.sum = added(self.sum, number)?;
         Ok(())
     }
 

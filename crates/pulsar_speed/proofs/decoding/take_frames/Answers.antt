@@ -19,7 +19,7 @@ loop-message-preserved c =
     let one = c.in_ok-count_given.ensures in
     record {
       rest = sym t.after ∙ c.loop-message.invariant.rest;
-      frames = omega (arith, t.frames, one.0, c.loop-message.invariant.frames);
+      count = omega (arith, t.frames, one.0, c.loop-message.invariant.count);
       sum = omega (arith, t.numbers, one.1, c.loop-message.invariant.sum);
       bytes = one.2 ∙ c.loop-message.invariant.bytes;
     }
@@ -33,4 +33,4 @@ pub returns-clause-counts : goal.returns-clause-counts
 returns-clause-counts c =
     let e : (front c.loop-message.reader ≡ Short) × (c.next.new.self ≡ c.loop-message.reader) = search rules in
     let none = short_has_none _ e.0 in
-    (omega (arith, none.0, c.loop-message.invariant.frames), omega (arith, none.1, c.loop-message.invariant.sum))
+    (omega (arith, none.0, c.loop-message.invariant.count), omega (arith, none.1, c.loop-message.invariant.sum))

@@ -227,16 +227,7 @@ impl Link {
                 self.stage = Stage::Ready;
                 Ok(None)
             }
-            LinkAct::Ended(end) => {
-                disconnect_all(&mut self.pending, link, due)?;
-                self.unwritten.clear();
-                self.stage = Stage::Over;
-                Ok(if end.is_closed() {
-                    Some(Effect::Close { link })
-                } else {
-                    None
-                })
-            }
+            LinkAct::Ended(end) => self.ends(link, end, due),
             LinkAct::Settled {
                 place,
                 ticket: _,
@@ -259,6 +250,27 @@ impl Link {
             })?;
         }
         Ok(())
+    }
+
+    fn ends(
+        &mut self,
+        link: u64,
+        end: End,
+        due: &mut VecDeque<Act>,
+    ) -> Result<Option<Effect>, NoMemory>
+        ensures effect { IfOk result (λ e. option_map shown e ≡ link_effect link (table self.old) (LinkAct.Ended end)) }
+        ensures due { OnOk result (due.new.items ≡ map (Act.OnLink link) (link_rule (table self.old) (LinkAct.Ended end)) ++ due.old.items) }
+        ensures table { OnOk result (table self.new ≡ after_act (LinkAct.Ended end) (table self.old)) }
+        ensures unread { OnOk result (self.new.reader ≡ self.old.reader) }
+    {
+        disconnect_all(&mut self.pending, link, due)?;
+        self.unwritten.clear();
+        self.stage = Stage::Over;
+        Ok(if end.is_closed() {
+            Some(Effect::Close { link })
+        } else {
+            None
+        })
     }
 
     fn fails(&self, link: u64, kind: IoKind, due: &mut VecDeque<Act>) -> Result<(), NoMemory>

@@ -4,7 +4,7 @@ use crate::commands::base::{BaseCommand, Body};
 use crate::commands::connection::{CommandConnect, CommandConnected, client_version};
 use crate::commands::consumer::delivery::CommandMessage;
 use crate::commands::ids::MessageIdData;
-use crate::error::{ConnectionError, Reason};
+use crate::error::{ConnectionError, NoMemory, Reason};
 use crate::laws::round_trip;
 use crate::tests::written::{is_copied, is_read, text};
 use crate::wire::Wire;
@@ -100,6 +100,11 @@ fn skips_unknown_fields(rt: HostRuntime) -> Result<(), Fail> {
     Ok(())
 }
 
+/// Whether a command's copy is equal to it. The command is let go.
+fn copies(command: BaseCommand) -> Result<bool, NoMemory> {
+    is_copied(&command)
+}
+
 /// A command that says connected, with nothing in it.
 fn connected(alloc: Global) -> BaseCommand {
     BaseCommand::new(Body::Connected(CommandConnected::new(alloc)))
@@ -131,7 +136,7 @@ fn reads_a_connect(rt: HostRuntime) -> Result<(), Fail> {
     let version = text(alloc, "pulsar-rs-v6.0.0")?;
     let method = text(alloc, "none")?;
     let command = both_ways(&rt, alloc, bytes, connect(version, Some(method)))?;
-    assert!(rt; is_copied(command)?);
+    assert!(rt; copies(command)?);
     Ok(())
 }
 
@@ -141,7 +146,7 @@ fn writes_a_connect(rt: HostRuntime) -> Result<(), Fail> {
     let bytes = b"\x08\x02\x12\x14\x0a\x10pulsar-rs-v6.7.2\x20\x0c";
     let version = client_version(alloc)?;
     let command = both_ways(&rt, alloc, bytes, connect(version, None))?;
-    assert!(rt; is_copied(command)?);
+    assert!(rt; copies(command)?);
     Ok(())
 }
 

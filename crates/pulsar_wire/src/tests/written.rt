@@ -64,26 +64,15 @@ pub fn writes<W: Wire + Debug + PartialEq + Drop>(
     is_written(rt, alloc, &value, bytes)
 }
 
-/// The value is written so, and is handed back: a caller that stops has none to let go.
-pub fn written<W: Wire + Debug + PartialEq + Drop>(
-    rt: &impl Abort,
-    alloc: Global,
-    value: W,
-    bytes: &[u8],
-) -> Result<W, Fail> {
-    is_written(rt, alloc, &value, bytes)?;
-    Ok(value)
-}
-
-/// Whether two values are equal. It takes both, so that the caller has none to let go.
-pub fn are_equal<T: PartialEq + Drop>(first: T, second: T) -> bool {
-    first == second
+/// Whether a value, which is let go, is equal to another.
+fn is_equal<T: PartialEq + Drop>(made: T, wanted: &T) -> bool {
+    made == *wanted
 }
 
 /// Whether a command's copy is equal to it.
-pub fn is_copied(command: BaseCommand) -> Result<bool, NoMemory> {
+pub fn is_copied(command: &BaseCommand) -> Result<bool, NoMemory> {
     let copy = command.copy()?;
-    Ok(are_equal(copy, command))
+    Ok(is_equal(copy, command))
 }
 
 /// The command with this body has this name, and is written as the bytes of its head and of its body.
@@ -96,9 +85,10 @@ pub fn is_command(
     bytes: &[u8],
 ) -> Result<(), Fail> {
     assert_eq!(rt; body.name(), name);
+    let command = BaseCommand::new(body);
     let mut whole = Vec::from_slice(alloc, head)?;
     whole.extend_from_slice(bytes)?;
-    let command = written(rt, alloc, BaseCommand::new(body), &whole)?;
-    assert!(rt; is_copied(command)?);
+    is_written(rt, alloc, &command, &whole)?;
+    assert!(rt; is_copied(&command)?);
     Ok(())
 }

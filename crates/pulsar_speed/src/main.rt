@@ -1,6 +1,9 @@
 //! The program `pulsar_speed`: reads and writes frames, or takes checksums, as many as it is told, for a clock outside.
 #![tactic(auto)]
 
+ghost use Rattle.std.specs.Prelude.{◌≡◌, IfOk};
+ghost use Rattle.pulsar_speed.specs.Jobs.{job_tally};
+
 mod checksums;
 mod decoding;
 mod encoding;
@@ -39,7 +42,9 @@ fn arguments(rt: &HostRuntime, alloc: Global) -> io::Result<Vec<String>> {
     Ok(words)
 }
 
-fn done(alloc: Global, job: Job) -> Result<Tally, ConnectionError> {
+fn done(alloc: Global, job: Job) -> Result<Tally, ConnectionError>
+    ensures { IfOk result (λ tally. tally ≡ job_tally job) }
+{
     match job.work {
         Work::Decode(sample) => decoding::decode(alloc, sample, job.count),
         Work::Encode(sample) => encoding::encode(alloc, sample, job.count),

@@ -122,6 +122,8 @@ pub(crate) fn read_behind(alloc: Global, bytes: &[u8]) -> Result<Option<Payload>
     Ok(Some(read_payload(alloc, bytes)?))
 }
 
+// by itself, so that a frame without a payload does not pay for its locals
+#[inline(never)]
 #[tactic(auto, unfolding(crate::specs::Payload::payload_at))]
 fn read_payload(alloc: Global, bytes: &[u8]) -> Result<Payload, ConnectionError>
     ensures { Holds payload_values result (payload_at bytes.now) }

@@ -3,13 +3,11 @@ use Rattle.std.specs.Prelude.{◌≡◌, ℕ, ◌^◌, ◌<◌, ◌≤◌, List,
 use Rattle.pulsar_wire.specs.declared.error.ConnectionError.{ConnectionError}
 use Rattle.pulsar_wire.specs.declared.error.ConnectionError.TheVariants.{Decoding, NoMemory}
 use Rattle.pulsar_wire.specs.declared.error.Reason.{Reason}
-use Rattle.pulsar_frame.specs.declared.message.Message.{Message}
-use Rattle.pulsar_frame.specs.Frame.{Short, Refused, Whole, front}
+use Rattle.pulsar_frame.specs.Sized.{sized_at}
 use Rattle.pulsar_wire.specs.Row.{reading, spelling}
 use Rattle.pulsar_wire.specs.Rows.{message_metadata}
 use Rattle.pulsar_frame.specs.Checksum.{crc32c}
 use Rattle.pulsar_frame.specs.Payload.{PayloadValues, covered_bytes}
-use Rattle.pulsar_frame.specs.Shown.{message_values}
 use Rattle.pulsar_frame.specs.Tail.{Tail}
 use Rattle.pulsar_frame.specs.declared.payload.Tail.{Tail as Split}
 
@@ -20,13 +18,10 @@ Holds view (Err (Decoding r)) reading = reading ≡ Err r
 Holds view (Err NoMemory) reading = Unit {0}
 Holds view (Err _) reading = ⊥
 
--- what stands in front of bytes, with the length of the frame
-abbrev pub Fronts : Result (Option (Message × ℕ)) ConnectionError → List ℕ → Type 0
-Fronts (Ok (Some x)) bytes = (front bytes ≡ Whole (message_values x.0) (drop x.1 bytes)) × (x.1 ≤ length bytes)
-Fronts (Ok None) bytes = front bytes ≡ Short
-Fronts (Err (Decoding r)) bytes = front bytes ≡ Refused r
-Fronts (Err NoMemory) bytes = Unit {0}
-Fronts (Err _) bytes = ⊥
+-- what the total in front of bytes counts, with the length of the frame
+abbrev pub SplitsFrame : Option (List ℕ × ℕ) → List ℕ → Type 0
+SplitsFrame (Some x) bytes = (sized_at bytes ≡ Some (x.0, drop x.1 bytes)) × (x.1 ≤ length bytes)
+SplitsFrame None bytes = sized_at bytes ≡ None
 
 -- what stands behind a command, as the code has cut it
 abbrev pub tail_seen : Split → Tail

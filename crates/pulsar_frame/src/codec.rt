@@ -4,7 +4,7 @@ ghost use Rattle.std.specs.Prelude.{OnOk};
 ghost use Rattle.pulsar_frame.specs.Frame.{IsReadAgain};
 ghost use Rattle.pulsar_frame.specs.Shown.{message_values, Appends, Takes};
 
-use crate::frame::read_frame;
+use crate::frame::{read_content, split_frame};
 use crate::message::Message;
 use bytes::BytesMut;
 use pulsar_wire::error::ConnectionError;
@@ -34,6 +34,7 @@ impl Codec {
     /// Takes the frame that stands in front of `src`, and no byte more. The answer is `None` exactly where no whole
     /// frame stands there, and `Decoding` with the first reason that holds exactly where a whole one is refused. In these,
     /// and where memory ran out, no byte is taken.
+    #[tactic(auto, unfolding(crate::specs::Frame::front))]
     pub fn decode(
         &mut self,
         alloc: Global,
@@ -41,9 +42,10 @@ impl Codec {
     ) -> Result<Option<Message>, ConnectionError>
         ensures { Takes result src.old.items src.new.items }
     {
-        let Some((message, len)) = read_frame(alloc, src.as_slice())? else {
+        let Some((content, len)) = split_frame(src.as_slice()) else {
             return Ok(None);
         };
+        let message = read_content(alloc, content)?;
         src.advance(len);
         Ok(Some(message))
     }

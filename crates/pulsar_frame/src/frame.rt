@@ -1,12 +1,13 @@
 //! Frames as they stand in front of bytes.
 
+ghost use Rattle.std.specs.Option.{option_map};
 ghost use Rattle.pulsar_wire.specs.Command.{command_reading};
 ghost use Rattle.pulsar_wire.specs.Views.{command_values};
 ghost use Rattle.pulsar_wire.specs.declared.error.Reason.TheVariants as reason;
 ghost use Rattle.pulsar_frame.specs.Frame.{content};
 ghost use Rattle.pulsar_frame.specs.Refusal.{or_refused};
 ghost use Rattle.pulsar_frame.specs.Shown.{message_values};
-ghost use Rattle.pulsar_frame.specs.Read.{Holds, Fronts};
+ghost use Rattle.pulsar_frame.specs.Read.{Holds, SplitsFrame};
 
 use crate::message::Message;
 use crate::payload::read_behind;
@@ -28,7 +29,7 @@ fn read_command(alloc: Global, bytes: &[u8]) -> Result<BaseCommand, ConnectionEr
 
 /// The message of a frame, from what stands behind the frame's total.
 #[tactic(auto, unfolding(crate::specs::Frame::content))]
-fn read_content(alloc: Global, bytes: &[u8]) -> Result<Message, ConnectionError>
+pub(crate) fn read_content(alloc: Global, bytes: &[u8]) -> Result<Message, ConnectionError>
     ensures { Holds message_values result (content bytes.now) }
 {
     let Some((command, tail)) = split_sized(bytes) else {
@@ -39,17 +40,10 @@ fn read_content(alloc: Global, bytes: &[u8]) -> Result<Message, ConnectionError>
     Ok(Message { command, payload })
 }
 
-/// The message whose frame stands in front, and how many bytes the frame has.
-#[tactic(auto, unfolding(crate::specs::Frame::front))]
-pub(crate) fn read_frame(
-    alloc: Global,
-    bytes: &[u8],
-) -> Result<Option<(Message, usize)>, ConnectionError>
-    ensures { Fronts result bytes.now }
+/// What stands behind the total of the frame in front, and how many bytes the frame has.
+pub(crate) fn split_frame(bytes: &[u8]) -> Option<(&[u8], usize)>
+    ensures { SplitsFrame (option_map (λ x. (x.0.now, x.1)) result) bytes.now }
 {
-    let Some((content, rest)) = split_sized(bytes) else {
-        return Ok(None);
-    };
-    let message = read_content(alloc, content)?;
-    Ok(Some((message, bytes.len() - rest.len())))
+    let (content, rest) = split_sized(bytes)?;
+    Some((content, bytes.len() - rest.len()))
 }

@@ -3,7 +3,7 @@
 ghost use Rattle.std.specs.Prelude.{◌≡◌, [], ◌++◌, OnOk, OnErr};
 ghost use Rattle.pulsar_frame.specs.Shown.{Takes};
 
-use crate::frame::read_frame;
+use crate::frame::{read_content, split_frame};
 use crate::message::Message;
 use pulsar_wire::error::{ConnectionError, NoMemory};
 use std::alloc::Global;
@@ -51,13 +51,15 @@ impl FrameReader {
     /// Takes the frame that stands in front, and no byte more. The answer is `None` exactly where no whole frame stands
     /// there, and `Decoding` with the first reason that holds exactly where a whole one is refused: so it stays, whatever
     /// is fed. In these, and where memory ran out, no byte is taken.
+    #[tactic(auto, unfolding(crate::specs::Frame::front))]
     pub fn next(&mut self) -> Result<Option<Message>, ConnectionError>
         ensures { Takes result self.old self.new }
     {
         let alloc = *self.bytes.allocator();
-        let Some((message, len)) = read_frame(alloc, &self.bytes[self.taken..])? else {
+        let Some((content, len)) = split_frame(&self.bytes[self.taken..]) else {
             return Ok(None);
         };
+        let message = read_content(alloc, content)?;
         self.taken += len;
         Ok(Some(message))
     }

@@ -1,19 +1,17 @@
 -- A payload that was written is read again.
-use Rattle.std.proofs.Common.{◌≡◌, ◌≢◌, ℕ, ◌+◌, ◌^◌, ◌<◌, List, [], ◌∷◌, ◌++◌, append_assoc, length, Option, Some, None, Result, Ok, Err, refl, sym, ap, ◌∙◌, length-append, eq-eqb, arith}
+use Rattle.std.proofs.Common.{◌≡◌, ◌≢◌, ℕ, ◌+◌, ◌^◌, ◌<◌, List, [], ◌∷◌, ◌++◌, length, Option, Some, None, Ok, refl, length-append, eq-eqb, arith}
 use Rattle.std.specs.Int.{w16, w32, to_be_bytes}
 use Rattle.std.proofs.lemmas.Nat.{from_be_bytes-to_be_bytes_2, from_be_bytes-to_be_bytes_4}
 use Rattle.pulsar_wire.specs.Field.{bytes_at}
 use Rattle.pulsar_wire.specs.Row.{Values, reading, spelling}
 use Rattle.pulsar_wire.specs.Rows.{message_metadata}
-use Rattle.pulsar_wire.specs.declared.error.Reason.{Reason}
 use Rattle.pulsar_wire.proofs.RoundTrip.{round_trip}
-use Rattle.pulsar_frame.specs.Checksum.{AreBytes, crc32c, start, turned, after}
+use Rattle.pulsar_frame.specs.Checksum.{crc32c}
 use Rattle.pulsar_frame.specs.Payload.{PayloadValues, PayloadInRange, magic_number, payload_at, payload_behind, covered_bytes, payload_bytes, bytes_behind}
 use Rattle.pulsar_frame.specs.Read.{described_bytes, IsReadBehind}
-use Rattle.pulsar_frame.specs.Refusal.{◌>>=◌}
 use Rattle.pulsar_frame.specs.Sized.{sized_at, with_size}
 use Rattle.pulsar_frame.specs.Tail.{Tail, tail_at}
-use Rattle.pulsar_frame.proofs.Changes.{after-append, crc32c-lt}
+use Rattle.pulsar_frame.proofs.Changes.{crc32c-lt}
 use Rattle.pulsar_frame.proofs.Splits.{bytes_at-front, length-with_size, sized_at-with_size}
 
 abbrev tail_of : (magic checksum : ℕ) (covered metadata payload : List ℕ) → Option Tail

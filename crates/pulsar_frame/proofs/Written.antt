@@ -1,5 +1,5 @@
 -- A frame that was written is read again.
-use Rattle.std.proofs.Common.{◌≡◌, Ok, ℕ, ◌+◌, ◌^◌, ◌<◌, List, [], ◌++◌, length, Some, refl, length-append, arith}
+use Rattle.std.proofs.Common.{◌≡◌, Ok, ℕ, ◌+◌, ◌^◌, ◌<◌, List, ◌++◌, length, Some, refl, length-append, arith}
 use Rattle.pulsar_wire.specs.Command.{CommandValues, command_reading, command_spelling, settled, Spells}
 use Rattle.pulsar_wire.specs.Fits.{CommandInRange}
 use Rattle.pulsar_wire.proofs.CommandTrip.{command_trip}

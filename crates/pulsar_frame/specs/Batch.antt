@@ -7,7 +7,7 @@ use Rattle.pulsar_wire.specs.Fits.{InRange}
 use Rattle.pulsar_wire.specs.declared.commands.ids.MessageIdData.{MessageIdData}
 use Rattle.pulsar_wire.specs.At.{int32_at}
 use Rattle.pulsar_wire.specs.Rows.{key_value, message_id, message_metadata, single_message_metadata}
-use Rattle.pulsar_wire.specs.Views.{message_id_values, message_metadata_values, single_message_metadata_values}
+use Rattle.pulsar_wire.specs.Views.{message_id_values, single_message_metadata_values}
 use Rattle.pulsar_wire.specs.declared.error.ConnectionError.{ConnectionError}
 use Rattle.pulsar_wire.specs.declared.error.ConnectionError.TheVariants.{Decoding, Encoding, NoMemory}
 use Rattle.pulsar_wire.specs.declared.error.Reason.TheVariants.{Frame, Batch}

@@ -1,5 +1,5 @@
 -- What tells requests apart, and which frame answers which.  (Pulsar binary protocol)
-use Rattle.std.specs.Prelude.{◌≡◌, ℕ, Bool, true, false, List, [], ◌∷◌, Option, Some, None, ◌==◌, ◌&&◌, ◌||◌, if◌then◌else◌}
+use Rattle.std.specs.Prelude.{ℕ, Bool, true, false, List, [], ◌∷◌, Option, Some, None, ◌==◌, ◌&&◌, ◌||◌, if◌then◌else◌}
 use Rattle.pulsar_wire.specs.Field.{◌>>=◌}
 use Rattle.pulsar_wire.specs.Row.{Row, Values}
 use Rattle.pulsar_wire.specs.At.{uint64_at, flag_at}

@@ -10,7 +10,7 @@ ghost use Rattle.pulsar_frame.specs.Shown.{message_values};
 ghost use Rattle.pulsar_frame.specs.Read.{Holds, SplitsFrame};
 
 use crate::message::Message;
-use crate::payload::read_behind;
+use crate::payload::read_payload;
 use crate::sized::split_sized;
 use pulsar_wire::commands::base::{BaseCommand, decode_command};
 use pulsar_wire::encoding::read_error::ReadError;
@@ -36,8 +36,18 @@ pub(crate) fn read_content(alloc: Global, bytes: &[u8]) -> Result<Message, Conne
         return Err(ConnectionError::Decoding(Reason::Frame));
     };
     let command = read_command(alloc, command)?;
-    let payload = read_behind(alloc, tail)?;
-    Ok(Message { command, payload })
+    // nothing is moved for a payload that is not there
+    if tail.is_empty() {
+        return Ok(Message {
+            command,
+            payload: None,
+        });
+    }
+    let payload = read_payload(alloc, tail)?;
+    Ok(Message {
+        command,
+        payload: Some(payload),
+    })
 }
 
 /// What stands behind the total of the frame in front, and how many bytes the frame has.

@@ -7,7 +7,7 @@ ghost use Rattle.pulsar_wire.specs.Rows.{message_metadata};
 ghost use Rattle.pulsar_wire.specs.Views.{message_metadata_values};
 ghost use Rattle.pulsar_wire.specs.declared.error.Reason.TheVariants as reason;
 ghost use Rattle.pulsar_frame.specs.Checksum.{crc32c};
-ghost use Rattle.pulsar_frame.specs.Payload.{covered_bytes, payload_at, payload_behind, payload_bytes, payload_values};
+ghost use Rattle.pulsar_frame.specs.Payload.{covered_bytes, payload_at, payload_bytes, payload_values};
 ghost use Rattle.pulsar_frame.specs.Read.{Holds, tail_seen};
 ghost use Rattle.pulsar_frame.specs.Refusal.{or_refused};
 ghost use Rattle.pulsar_frame.specs.Tail.{tail_at};
@@ -112,20 +112,11 @@ fn checksum_of(described: &[u8], payload: &[u8]) -> u32
     checksum.value()
 }
 
-/// The payload behind a command, if anything stands there.
-pub(crate) fn read_behind(alloc: Global, bytes: &[u8]) -> Result<Option<Payload>, ConnectionError>
-    ensures { Holds (option_map payload_values) result (payload_behind bytes.now) }
-{
-    if bytes.is_empty() {
-        return Ok(None);
-    }
-    Ok(Some(read_payload(alloc, bytes)?))
-}
-
+/// The payload that stands behind a command.
 // by itself, so that a frame without a payload does not pay for its locals
 #[inline(never)]
 #[tactic(auto, unfolding(crate::specs::Payload::payload_at))]
-fn read_payload(alloc: Global, bytes: &[u8]) -> Result<Payload, ConnectionError>
+pub(crate) fn read_payload(alloc: Global, bytes: &[u8]) -> Result<Payload, ConnectionError>
     ensures { Holds payload_values result (payload_at bytes.now) }
 {
     let Some(tail) = split_tail(bytes) else {

@@ -1,4 +1,4 @@
-use Rattle.std.proofs.Common.{ap, sym, ◌∙◌}
+use Rattle.std.proofs.Common.{ap, sym}
 use Rattle.pulsar_frame.specs.Checksum.{crc32c, start, turned}
 use Rattle.pulsar_frame.proofs.Changes.{after-append}
 use Rattle.pulsar_frame.proofs.payload.checksum_of.Goals as goal

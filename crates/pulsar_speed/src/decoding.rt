@@ -59,10 +59,14 @@ fn take_frames(reader: &mut FrameReader, tally: &mut Tally) -> Result<(), Connec
     ensures counts { OnOk result (Counts tally.old tally.new (cut reader.old)) }
     ensures bytes { OnOk result (tally.new.bytes ≡ tally.old.bytes) }
 {
-    while let Some(message) = reader.next()? {
-        count_given(tally, message)?;
+    // a match moves a message once, where ? would twice
+    loop {
+        match reader.next() {
+            Ok(Some(message)) => count_given(tally, message)?,
+            Ok(None) => return Ok(()),
+            Err(e) => return Err(e),
+        }
     }
-    Ok(())
 }
 
 /// Counts a message, and lets it go.

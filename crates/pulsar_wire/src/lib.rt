@@ -7,6 +7,4 @@ pub mod error;
 mod error_text;
 pub mod key;
 pub mod laws;
-#[cfg(test)]
-mod tests;
 pub mod wire;

@@ -1,12 +1,12 @@
 //! The texts of errors, their numbers, and what each is wrapped in.
 
-use crate::commands::enumerations::{InitialPosition, ServerError, SubType, server_error};
-use crate::encoding::read_error::ReadError;
-use crate::error::{
+use pulsar_wire::commands::enumerations::{InitialPosition, ServerError, SubType, server_error};
+use pulsar_wire::encoding::read_error::ReadError;
+use pulsar_wire::error::{
     AuthenticationError, ConnectionError, ConsumerError, Error, IoKind, NoMemory, ProducerError,
     Reason, ServiceDiscoveryError,
 };
-use crate::key::RequestKey;
+use pulsar_wire::key::RequestKey;
 use std::alloc::{AllocError, Global};
 use std::fmt::Display;
 use std::process::Abort;

@@ -1,8 +1,8 @@
 //! The commands that ask for the topics of a namespace, against the bytes of another implementation.
 
-use crate::commands::base::Body;
-use crate::commands::topics::{CommandGetTopicsOfNamespace, CommandGetTopicsOfNamespaceResponse};
-use crate::tests::written::{is_command, is_written, text, two, writes};
+use pulsar_wire::commands::base::Body;
+use pulsar_wire::commands::topics::{CommandGetTopicsOfNamespace, CommandGetTopicsOfNamespaceResponse};
+use crate::written::{is_command, is_written, text, two, writes};
 use std::test::Fail;
 
 #[test]

@@ -1,8 +1,8 @@
 //! What the tests of all messages share.
 
-use crate::commands::base::{BaseCommand, Body};
-use crate::error::{ConnectionError, NoMemory};
-use crate::wire::Wire;
+use pulsar_wire::commands::base::{BaseCommand, Body};
+use pulsar_wire::error::{ConnectionError, NoMemory};
+use pulsar_wire::wire::Wire;
 use std::alloc::Global;
 use std::fmt::Debug;
 use std::process::Abort;

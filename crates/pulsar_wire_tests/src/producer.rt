@@ -1,16 +1,16 @@
 //! The commands of producers, against the bytes of another implementation.
 
-use crate::commands::base::Body;
-use crate::commands::metadata::KeyValue;
-use crate::commands::producer::{
+use pulsar_wire::commands::base::Body;
+use pulsar_wire::commands::metadata::KeyValue;
+use pulsar_wire::commands::producer::{
     CommandCloseProducer, CommandProducer, CommandProducerSuccess, CommandSend, CommandSendError,
     CommandSendReceipt,
 };
-use crate::error::NoMemory;
-use crate::tests::ids::message_id;
-use crate::tests::metadata::key_value;
-use crate::tests::schema::schema;
-use crate::tests::written::{bytes, is_command, is_written, text, two, writes};
+use pulsar_wire::error::NoMemory;
+use crate::ids::message_id;
+use crate::metadata::key_value;
+use crate::schema::schema;
+use crate::written::{bytes, is_command, is_written, text, two, writes};
 use std::alloc::Global;
 use std::test::Fail;
 

@@ -1,5 +1,5 @@
 -- A call's answers are those of its procedure along its outcomes.
-use Rattle.std.proofs.Common.{◌≡◌, ℕ, ◌+◌, ◌<◌, ◌≤◌, ◌∙◌, sym, ap, subst, List, [], ◌∷◌, ◌++◌, refl, arith, map, drop, Bool, true, false, cond, Option, Some, None, ◌⊎◌, inl, inr, ◌==◌, append_assoc, append-nil}
+use Rattle.std.proofs.Common.{◌≡◌, ℕ, ◌+◌, ◌<◌, ◌≤◌, ◌∙◌, sym, ap, subst, List, [], ◌∷◌, ◌++◌, refl, arith, map, drop, Bool, true, false, ◌&&◌, cond, Option, Some, None, ◌⊎◌, inl, inr, ◌==◌, append_assoc, append-nil}
 use Rattle.std.specs.Option.{unwrap_or}
 use Rattle.std.proofs.lemmas.Bool.{cases_Bool, eqb-true, eq-eqb}
 use Rattle.std.proofs.lemmas.Bool.Decides.{nat_tests}
@@ -7,6 +7,7 @@ use Rattle.pulsar_wire.specs.declared.error.IoKind.{IoKind}
 use Rattle.pulsar_client.specs.declared.act.Arrival.{Arrival}
 use Rattle.pulsar_client.specs.declared.act.Outcome.{Outcome}
 use Rattle.pulsar_client.specs.declared.act.Outcome.TheVariants as outcome
+use Rattle.pulsar_client.specs.declared.act.Awaited.{Awaited}
 use Rattle.pulsar_client.specs.declared.act.Request.{Request}
 use Rattle.pulsar_client.specs.declared.act.Procedure.{Procedure}
 use Rattle.pulsar_client.specs.declared.act.Action.{Action}
@@ -19,9 +20,9 @@ use Rattle.pulsar_client.specs.declared.tables.Base.{Base}
 use Rattle.pulsar_client.specs.declared.tables.Base.TheVariants.{Nothing, Runs, Serves}
 use Rattle.pulsar_client.specs.Content.{Heard, Called, Opened, Bytes, Drain, Said, FailedToOpen, Lost}
 use Rattle.pulsar_client.specs.Failures.{Exhausted}
-use Rattle.pulsar_client.specs.Link.{Seen, arrivals, link_rule, is_ready, fits_frame, request_message, kind_of}
+use Rattle.pulsar_client.specs.Link.{Seen, arrivals, link_rule, is_ready, fits_frame, awaited, is_numbered, request_message, kind_of}
 use Rattle.pulsar_client.specs.Plan.{failed, next}
-use Rattle.pulsar_client.specs.Log.{Chosen, Entry, Begins, Does, View, view, at_once, serves, performs, gets, asks, asks_on, fails, link_acts, brings, procedure_for, frames_of, seen_link, dials, opens, spent, action_at, calls, procedure_of, outcomes_of}
+use Rattle.pulsar_client.specs.Log.{Chosen, Entry, Begins, Does, View, view, at_once, serves, performs, gets, asks, asks_on, fails, link_acts, brings, procedure_for, frames_of, seen_link, dials, goes_on, opens, spends, spent, action_at, calls, procedure_of, outcomes_of}
 use Rattle.pulsar_client.specs.Good.{due, to_come, IsRun, first, is_empty}
 use Rattle.pulsar_client.specs.Laws.{answer_in, said_along, answer_of, answers, CallsFollow, CallsAreMade}
 
@@ -171,18 +172,32 @@ gets_performed Nothing t = record { last = (λ h. let f : false ≡ true = h in 
 gets_performed (Runs s) t = record { last = (λ h. tt, tt); calls_none = (refl, tt); said_here = refl; said_else = λ k h. refl }
 gets_performed (Serves l) t = record { last = (λ h. tt, tt); calls_none = (refl, tt); said_here = refl; said_else = λ k h. refl }
 
+told_performed : (t l : ℕ) (q : Request) (u : Outcome) → Performed t (Ask l q) (Told t u ∷ [])
+told_performed t l q u = record { last = (λ h. tt, tt); calls_none = (refl, tt); said_here = refl; said_else = λ k h. refl }
+
+-- an act of the link, and then what the call is told
+link_performed : (t l : ℕ) (q : Request) (x : LinkAct) (xs : List Act) → Performed t (Ask l q) xs → Performed t (Ask l q) (OnLink l x ∷ xs)
+link_performed t l q x xs p = record { last = (λ h. let f : false ≡ true = h in absurd cc, p.last); calls_none = (refl, p.calls_none); said_here = p.said_here; said_else = p.said_else }
+
+goes_on_performed : (t l : ℕ) (q : Request) (x : Option Awaited) → Performed t (Ask l q) (goes_on t x)
+goes_on_performed t l q None = told_performed t l q outcome.Queued
+goes_on_performed t l q (Some x) = record { last = tt; calls_none = tt; said_here = refl; said_else = λ k h. refl }
+
+spends_performed : (t l : ℕ) (q : Request) (b : Bool) → Performed t (Ask l q) (spends l b ++ Told t outcome.Unencodable ∷ [])
+spends_performed t l q true = link_performed t l q Spends (Told t outcome.Unencodable ∷ []) (told_performed t l q outcome.Unencodable)
+spends_performed t l q false = told_performed t l q outcome.Unencodable
+
 asks_performed : (t l : ℕ) (q : Request) (s : Seen) → Performed t (Ask l q) (asks t l q s)
-asks_performed t l q s =
-    elim (is_ready s.stage) as (λ b. Performed t (Ask l q) (cond b (cond (s.next_id == spent) (Told t outcome.Exhausted ∷ []) (cond (fits_frame (request_message s.next_id q)) (OnLink l (Requests q t) ∷ []) (OnLink l Spends ∷ Told t outcome.Unencodable ∷ []))) (Told t outcome.Disconnected ∷ []))) [
-      | true ↦ elim (s.next_id == spent) as (λ b. Performed t (Ask l q) (cond b (Told t outcome.Exhausted ∷ []) (cond (fits_frame (request_message s.next_id q)) (OnLink l (Requests q t) ∷ []) (OnLink l Spends ∷ Told t outcome.Unencodable ∷ [])))) [
-        | true ↦ record { last = (λ h. tt, tt); calls_none = (refl, tt); said_here = refl; said_else = λ k h. refl }
-        | false ↦ elim (fits_frame (request_message s.next_id q)) as (λ b. Performed t (Ask l q) (cond b (OnLink l (Requests q t) ∷ []) (OnLink l Spends ∷ Told t outcome.Unencodable ∷ []))) [
-          | true ↦ record { last = (λ h. tt, tt); calls_none = (refl, tt); said_here = refl; said_else = λ k h. refl }
-          | false ↦ record { last = (λ h. let f : false ≡ true = h in absurd cc, (λ h. tt, tt)); calls_none = (refl, (refl, tt)); said_here = refl; said_else = λ k h. refl }
-        ]
-      ]
-      | false ↦ record { last = (λ h. tt, tt); calls_none = (refl, tt); said_here = refl; said_else = λ k h. refl }
-    ]
+asks_performed t l q s = elim (cases_Bool (is_ready s.stage)) [
+  | inr shut ↦ rw shut (told_performed t l q outcome.Disconnected)
+  | inl ready ↦ rw ready (elim (cases_Bool (is_numbered q && (s.next_id == spent))) [
+    | inl e ↦ rw e (told_performed t l q outcome.Exhausted)
+    | inr e ↦ rw e (elim (cases_Bool (fits_frame (request_message s.next_id q))) [
+      | inl f ↦ rw f (link_performed t l q (Requests q t) (goes_on t (awaited s.next_id q)) (goes_on_performed t l q (awaited s.next_id q)))
+      | inr f ↦ rw f (spends_performed t l q (is_numbered q))
+    ])
+  ])
+]
 
 asks_on_performed : (t l : ℕ) (q : Request) (s : Option Seen) → Performed t (Ask l q) (asks_on t l q s)
 asks_on_performed t l q None = record { last = (λ h. tt, tt); calls_none = (refl, tt); said_here = refl; said_else = λ k h. refl }
@@ -204,7 +219,7 @@ calls_for_alone true p = (λ h. refl, tt)
 calls_for_alone false p = (λ h. refl, tt)
 
 brings_alone : (v : View) (e : Heard) → CallsAlone (brings v e)
-brings_alone v (Called c) = calls_for_alone (v.calls == spent) (procedure_for v.is_built c)
+brings_alone v (Called c) = calls_for_alone (v.calls == spent) (procedure_for v.is_built v.now c)
 brings_alone v (Opened l) = one_alone (dials (v.link l)) (OnLink l Opens)
 brings_alone v (FailedToOpen l kind) = one_alone (dials (v.link l)) (OnLink l (Fails kind))
 brings_alone v (Bytes l piece) = tt
@@ -220,7 +235,7 @@ calls_for_plain true p = (refl, tt)
 calls_for_plain false p = (refl, tt)
 
 brings_plain : (v : View) (e : Heard) → NoneTold (brings v e)
-brings_plain v (Called c) = calls_for_plain (v.calls == spent) (procedure_for v.is_built c)
+brings_plain v (Called c) = calls_for_plain (v.calls == spent) (procedure_for v.is_built v.now c)
 brings_plain v (Opened l) = one_plain (dials (v.link l)) (OnLink l Opens) refl
 brings_plain v (FailedToOpen l kind) = one_plain (dials (v.link l)) (OnLink l (Fails kind)) refl
 brings_plain v (Bytes l piece) = tt
@@ -237,7 +252,7 @@ calls_for_among t true p h = rw h refl
 calls_for_among t false p h = refl
 
 brings_among : (t : ℕ) (v : View) (e : Heard) → (t == spent) ≡ false → among t (brings v e) ≡ []
-brings_among t v (Called c) h = calls_for_among t (v.calls == spent) (procedure_for v.is_built c) h
+brings_among t v (Called c) h = calls_for_among t (v.calls == spent) (procedure_for v.is_built v.now c) h
 brings_among t v (Opened l) h = one_among t l (dials (v.link l)) Opens
 brings_among t v (FailedToOpen l kind) h = one_among t l (dials (v.link l)) (Fails kind)
 brings_among t v (Bytes l piece) h = refl
@@ -268,7 +283,7 @@ one_room n k true x = λ h. let f : false ≡ true = h in absurd cc
 one_room n k false x = tt
 
 brings_room : (v : View) (e : Heard) → v.calls ≤ spent → HasRoom v.calls (brings v e)
-brings_room v (Called c) le = calls_for_room v.calls (v.calls == spent) (procedure_for v.is_built c) le refl
+brings_room v (Called c) le = calls_for_room v.calls (v.calls == spent) (procedure_for v.is_built v.now c) le refl
 brings_room v (Opened l) le = one_room v.calls l (dials (v.link l)) Opens
 brings_room v (FailedToOpen l kind) le = one_room v.calls l (dials (v.link l)) (Fails kind)
 brings_room v (Bytes l piece) le = tt
@@ -554,7 +569,7 @@ frames_first ys p all h = let f = frame_no ys (Calls p) all h in let e : Calls p
 
 pub calls_are_made : CallsAreMade
 calls_are_made o [] p r = absurd cc
-calls_are_made o (Begins (Called c) ∷ log) p r = (c, log, refl, made_first (calls log == spent) p (procedure_for (view o log).is_built c) r.1)
+calls_are_made o (Begins (Called c) ∷ log) p r = (c, log, refl, made_first (calls log == spent) p (procedure_for (view o log).is_built o.now c) r.1)
 calls_are_made o (Begins (Opened l) ∷ log) p r = absurd (one_first (dials ((view o log).link l)) p l Opens r.1)
 calls_are_made o (Begins (FailedToOpen l kind) ∷ log) p r = absurd (one_first (dials ((view o log).link l)) p l (Fails kind) r.1)
 calls_are_made o (Begins (Drain l most) ∷ log) p r = absurd (one_first (opens ((view o log).link l)) p l (Drains most) r.1)

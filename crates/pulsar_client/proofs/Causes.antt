@@ -1,12 +1,13 @@
 -- Why a call is told an outcome, and why it fails.
-use Rattle.std.proofs.Common.{◌≡◌, ℕ, ◌∙◌, sym, ap, subst, List, [], ◌∷◌, ◌++◌, refl, map, filter, drop, Bool, true, false, cond, if◌then◌else◌, Option, Some, None, inl, inr, ◌==◌}
-use Rattle.std.proofs.lemmas.Bool.{cases_Bool, eqb-true}
+use Rattle.std.proofs.Common.{◌≡◌, ℕ, ◌∙◌, sym, ap, subst, List, [], ◌∷◌, ◌++◌, refl, map, filter, drop, Bool, true, false, ◌&&◌, cond, if◌then◌else◌, Option, Some, None, inl, inr, ◌==◌}
+use Rattle.std.proofs.lemmas.Bool.{cases_Bool, eqb-true, eq-eqb}
 use Rattle.pulsar_wire.specs.declared.commands.topics.Mode.{Mode}
 use Rattle.pulsar_wire.specs.declared.error.IoKind.{IoKind}
 use Rattle.pulsar_client.specs.declared.act.End.TheVariants.{Refused}
 use Rattle.pulsar_client.specs.declared.act.End.{End}
 use Rattle.pulsar_client.specs.declared.act.Outcome.{Outcome}
 use Rattle.pulsar_client.specs.declared.act.Outcome.TheVariants as outcome
+use Rattle.pulsar_client.specs.declared.act.Awaited.{Awaited}
 use Rattle.pulsar_client.specs.declared.act.Request.{Request}
 use Rattle.pulsar_client.specs.declared.act.Procedure.{Procedure}
 use Rattle.pulsar_client.specs.declared.act.Procedure.TheVariants as procedure
@@ -26,11 +27,11 @@ use Rattle.pulsar_client.specs.declared.act.Arrival.TheVariants.{Message, Bad}
 use Rattle.pulsar_client.specs.declared.session.link.Stage.{Stage}
 use Rattle.pulsar_client.specs.declared.session.link.Stage.TheVariants.{Dialing, Handshaking, Ready, Over}
 use Rattle.pulsar_client.specs.Messages.{is_connected}
-use Rattle.pulsar_client.specs.Link.{Seen, Pending, bears_id, settled, disconnected, turns, at_opening, at_arrival, link_rule, is_ready, fits_frame, request_message, kind_of, at_failure, at_loss}
-use Rattle.pulsar_client.specs.Plan.{failed, next, ended, finished, topics_answer, fault_of}
-use Rattle.pulsar_client.specs.Log.{Chosen, Entry, Begins, Does, View, view, base, waiting, seen_link, spent, at_once, serves, performs, gets, asks, asks_on, fails, link_acts, brings, procedure_for, dials, opens, outcomes_of}
+use Rattle.pulsar_client.specs.Link.{Seen, Pending, ends_wait, settled, disconnected, turns, at_opening, at_arrival, link_rule, is_ready, fits_frame, awaited, is_numbered, request_message, kind_of, at_failure, at_loss}
+use Rattle.pulsar_client.specs.Plan.{failed, next, ended, finished, raw_answer, request_number, topics_answer, fault_of}
+use Rattle.pulsar_client.specs.Log.{Chosen, Entry, Begins, Does, View, view, base, waiting, seen_link, spent, at_once, serves, performs, gets, asks, asks_on, fails, link_acts, brings, procedure_for, dials, goes_on, opens, calls, spends, outcomes_of}
 use Rattle.pulsar_client.specs.Good.{due, to_come, IsRun, first}
-use Rattle.pulsar_client.specs.Laws.{In, Fails, IsRefused, IsTold, IsReplied, FailuresAreTold, InThisStep, Cause, OutcomesAreCaused, answer_in, said_along}
+use Rattle.pulsar_client.specs.Laws.{In, Fails, IsRefused, IsTold, IsReplied, FailuresAreTold, InThisStep, Cause, OutcomesAreCaused, answer_in, next_at, said_along}
 use Rattle.pulsar_client.proofs.Cuts.{AllComes, cutting, is_comes, first_act}
 use Rattle.pulsar_client.proofs.Calls.{calls_follow}
 use Rattle.pulsar_client.proofs.Once.{ReadsOn, here, on, quiet}
@@ -60,7 +61,7 @@ map_settling f [] p = tt
 map_settling f (r ∷ rs) p = (p r, map_settling f rs p)
 
 settled_settling : (act : LinkAct) (rs : List Pending) → AllSettling (settled act rs)
-settled_settling (Comes (Message m)) rs = map_settling _ (filter (λ r. bears_id m.key r.id) rs) (λ r. tt)
+settled_settling (Comes (Message m)) rs = map_settling _ (filter (λ r. ends_wait m.key r.awaits) rs) (λ r. tt)
 settled_settling (Ended end) rs = map_settling disconnected rs (λ r. tt)
 settled_settling _ rs = tt
 
@@ -129,32 +130,40 @@ gets_caused o log Nothing t e = (tt, (tt, tt))
 gets_caused o log (Runs s) t e = (tt, tt)
 gets_caused o log (Serves l) t e = (inl tt, tt)
 
-asks_caused : (o : Chosen) (log : List Entry) (t l : ℕ) (q : Request) (s : Seen) (u : Outcome) → seen_link o log l ≡ Some s → AllCaused o (Does (Told t u) ∷ log) (asks t l q s)
-asks_caused o log t l q s u is = elim (cases_Bool (is_ready s.stage)) [
-  | inr shut ↦ rw shut (inl (inr (u, l, refl, rw (is, shut) refl)), tt)
-  | inl ready ↦ rw ready (elim (cases_Bool (s.next_id == spent)) [
-    | inl e ↦ rw e (inl (u, l, refl, rw (is, e) refl), tt)
-    | inr e ↦ rw e (elim (fits_frame (request_message s.next_id q)) as (λ b. AllCaused o (Does (Told t u) ∷ log) (cond b (OnLink l (Requests q t) ∷ []) (OnLink l Spends ∷ Told t outcome.Unencodable ∷ [])))
-        [ true ↦ (tt, tt) | false ↦ (tt, (inl tt, tt)) ])
+goes_on_caused : (o : Chosen) (log : List Entry) (t : ℕ) (x : Option Awaited) (e : Act) → Cause o t outcome.Queued (Does e) log → AllCaused o (Does e ∷ log) (goes_on t x)
+goes_on_caused o log t None e c = (inl c, tt)
+goes_on_caused o log t (Some x) e c = tt
+
+spends_caused : (o : Chosen) (log : List Entry) (t l : ℕ) (b : Bool) (e : Act) → AllCaused o (Does e ∷ log) (spends l b ++ Told t outcome.Unencodable ∷ [])
+spends_caused o log t l true e = (tt, (inl tt, tt))
+spends_caused o log t l false e = (inl tt, tt)
+
+both_true : (a b : Bool) → (a && b) ≡ true → b ≡ true
+both_true true b h = h
+both_true false b h = absurd cc
+
+asks_caused : (o : Chosen) (log : List Entry) (t l : ℕ) (q : Request) (s : Seen) (e : Act) → next_at t (Does e) log ≡ Some (Ask l q) → seen_link o log l ≡ Some s → AllCaused o (Does e ∷ log) (asks t l q s)
+asks_caused o log t l q s e asks is = elim (cases_Bool (is_ready s.stage)) [
+  | inr shut ↦ rw shut (inl (inr (l, q, asks, rw (is, shut) refl)), tt)
+  | inl ready ↦ rw ready (elim (cases_Bool (is_numbered q && (s.next_id == spent))) [
+    | inl h ↦ (let no = both_true (is_numbered q) (s.next_id == spent) h in rw h (inl (l, q, asks, rw (is, no) refl), tt))
+    | inr h ↦ rw h (elim (cases_Bool (fits_frame (request_message s.next_id q))) [
+      | inl f ↦ rw f (tt, goes_on_caused o log t (awaited s.next_id q) e (l, q, asks, rw (is, ready) refl))
+      | inr f ↦ rw f (spends_caused o log t l (is_numbered q) e)
+    ])
   ])
 ]
 
-asks_on_caused : (o : Chosen) (log : List Entry) (t l : ℕ) (q : Request) (s : Option Seen) (u : Outcome) → seen_link o log l ≡ s → AllCaused o (Does (Told t u) ∷ log) (asks_on t l q s)
-asks_on_caused o log t l q None u is = (inl (inr (u, l, refl, rw is refl)), tt)
-asks_on_caused o log t l q (Some s) u is = asks_caused o log t l q s u is
+asks_on_caused : (o : Chosen) (log : List Entry) (t l : ℕ) (q : Request) (s : Option Seen) (e : Act) → next_at t (Does e) log ≡ Some (Ask l q) → seen_link o log l ≡ s → AllCaused o (Does e ∷ log) (asks_on t l q s)
+asks_on_caused o log t l q None e asks is = (inl (inr (l, q, asks, rw is refl)), tt)
+asks_on_caused o log t l q (Some s) e asks is = asks_caused o log t l q s e asks is
 
-performs_caused : (o : Chosen) (log : List Entry) (t : ℕ) (a : Action) (u : Outcome) → AllCaused o (Does (Told t u) ∷ log) (performs (view o log) t a)
-performs_caused o log t Get u = gets_caused o log (base log) t (Told t u)
-performs_caused o log t (Ask l q) u = asks_on_caused o log t l q (seen_link o log l) u refl
-performs_caused o log t (Answer a) u = (tt, tt)
-performs_caused o log t Finish u = (tt, tt)
-performs_caused o log t Rest u = tt
-
--- a call begins by getting its link, or by its answer
-begins_caused : (o : Chosen) (log : List Entry) (t : ℕ) (p : Procedure) (e : Act) → AllCaused o (Does e ∷ log) (performs (view o log) t (next p []))
-begins_caused o log t procedure.Build e = gets_caused o log (base log) t e
-begins_caused o log t (procedure.Topics n m) e = gets_caused o log (base log) t e
-begins_caused o log t procedure.Refused e = (tt, tt)
+performs_caused : (o : Chosen) (log : List Entry) (t : ℕ) (a : Action) (e : Act) → next_at t (Does e) log ≡ Some a → AllCaused o (Does e ∷ log) (performs (view o log) t a)
+performs_caused o log t Get e is = gets_caused o log (base log) t e
+performs_caused o log t (Ask l q) e is = asks_on_caused o log t l q (seen_link o log l) e is refl
+performs_caused o log t (Answer a) e is = (tt, tt)
+performs_caused o log t Finish e is = (tt, tt)
+performs_caused o log t Rest e is = tt
 
 links_caused : (o : Chosen) (log : List Entry) (l : ℕ) (xs : List LinkAct) → AllSettling xs → AllCaused o log (map (OnLink l) xs)
 links_caused o log l [] p = tt
@@ -165,8 +174,8 @@ link_caused o log l None x = tt
 link_caused o log l (Some s) x = links_caused o log l (link_rule s x) (rule_settling s x)
 
 once_caused : (o : Chosen) (log : List Entry) (a : Act) → AllCaused o (Does a ∷ log) (at_once (view o log) a)
-once_caused o log (Calls p) = begins_caused o log (view o log).calls p (Calls p)
-once_caused o log (Told t u) = performs_caused o log t ((view o log).at_outcome t u) u
+once_caused o log (Calls p) = performs_caused o log (calls log) (next p []) (Calls p) (rw (eq-eqb (calls log) (calls log) refl) refl)
+once_caused o log (Told t u) = performs_caused o log t ((view o log).at_outcome t u) (Told t u) (rw (eq-eqb t t refl) refl)
 once_caused o log (OnLink l x) = link_caused o (Does (OnLink l x) ∷ log) l (seen_link o log l) x
 once_caused o log _ = tt
 
@@ -198,6 +207,7 @@ settled_caused o log l place t outcome.Unencodable p = absurd p
 settled_caused o log l place t (outcome.Failed k) p = absurd p
 settled_caused o log l place t outcome.Canceled p = absurd p
 settled_caused o log l place t outcome.Exhausted p = absurd p
+settled_caused o log l place t outcome.Queued p = absurd p
 
 serves_caused : (o : Chosen) (log : List Entry) (a : Act) → IsCaused o log a → AllCaused o (Does a ∷ log) (serves (view o log) a)
 serves_caused o log (OnLink l (Settled place t u)) p = (settled_caused o log l place t u p, tt)
@@ -214,7 +224,7 @@ calls_for_caused o log true p = (tt, tt)
 calls_for_caused o log false p = (tt, tt)
 
 brings_caused : (o : Chosen) (log : List Entry) (v : View) (e : Heard) → AllCaused o log (brings v e)
-brings_caused o log v (Called c) = calls_for_caused o log (v.calls == spent) (procedure_for v.is_built c)
+brings_caused o log v (Called c) = calls_for_caused o log (v.calls == spent) (procedure_for v.is_built v.now c)
 brings_caused o log v (Opened l) = one_caused o log (dials (v.link l)) (OnLink l Opens) tt
 brings_caused o log v (FailedToOpen l kind) = one_caused o log (dials (v.link l)) (OnLink l (link_act.Fails kind)) tt
 brings_caused o log v (Bytes l piece) = tt
@@ -279,6 +289,7 @@ build_fails ((outcome.Replied r) ∷ os) f i = told_first procedure.Build (outco
 build_fails (outcome.Disconnected ∷ os) f i = told_first procedure.Build outcome.Disconnected os f (λ ys. refl) i
 build_fails (outcome.Exhausted ∷ os) f i = told_first procedure.Build outcome.Exhausted os f (λ ys. refl) i
 build_fails (outcome.Unencodable ∷ os) f i = told_first procedure.Build outcome.Unencodable os f (λ ys. refl) i
+build_fails (outcome.Queued ∷ os) f i = told_first procedure.Build outcome.Queued os f (λ ys. refl) i
 
 -- the answer to the request
 asked_fails : (n : List ℕ) (m : Mode) (l : ℕ) (u : Outcome) (os : List Outcome) (f : Failure) → In (Failed f) (topics_answer u ∷ []) → Fails (procedure.Topics n m) (outcome.GotLink l ∷ u ∷ os) f
@@ -289,6 +300,7 @@ asked_fails n m l outcome.Canceled os f i = IsTold outcome.Canceled (inr (inl re
 asked_fails n m l outcome.Disconnected os f i = IsTold outcome.Disconnected (inr (inl refl)) (only_failure f (OfConnection (fault_of outcome.Disconnected)) i)
 asked_fails n m l outcome.Exhausted os f i = IsTold outcome.Exhausted (inr (inl refl)) (only_failure f (OfConnection (fault_of outcome.Exhausted)) i)
 asked_fails n m l outcome.Unencodable os f i = IsTold outcome.Unencodable (inr (inl refl)) (only_failure f (OfConnection (fault_of outcome.Unencodable)) i)
+asked_fails n m l outcome.Queued os f i = IsTold outcome.Queued (inr (inl refl)) (only_failure f (OfConnection (fault_of outcome.Queued)) i)
 asked_fails n m l (outcome.GotLink k) os f i = IsTold (outcome.GotLink k) (inr (inl refl)) (only_failure f (OfConnection (fault_of (outcome.GotLink k))) i)
 
 topics_fails : (n : List ℕ) (m : Mode) (os : List Outcome) (f : Failure) → In (Failed f) (said_along (procedure.Topics n m) [] os) → Fails (procedure.Topics n m) os f
@@ -302,13 +314,31 @@ topics_fails n m ((outcome.Replied r) ∷ os) f i = told_first (procedure.Topics
 topics_fails n m (outcome.Disconnected ∷ os) f i = told_first (procedure.Topics n m) outcome.Disconnected os f (λ ys. refl) i
 topics_fails n m (outcome.Exhausted ∷ os) f i = told_first (procedure.Topics n m) outcome.Exhausted os f (λ ys. refl) i
 topics_fails n m (outcome.Unencodable ∷ os) f i = told_first (procedure.Topics n m) outcome.Unencodable os f (λ ys. refl) i
+topics_fails n m (outcome.Queued ∷ os) f i = told_first (procedure.Topics n m) outcome.Queued os f (λ ys. refl) i
 
 refused_fails : (os : List Outcome) (f : Failure) → In (Failed f) (said_along procedure.Refused [] os) → Fails procedure.Refused os f
 refused_fails os f i = IsRefused refl (only_failure f (OfConnection Shutdown) (subst (In (Failed f)) (ends_is procedure.Refused [] (failed Shutdown) (λ ys. refl) os) i))
 
+-- the answer to a raw call
+raw_answer_fails : (l : ℕ) (q : Request) (u : Outcome) (os : List Outcome) (f : Failure) → In (Failed f) (raw_answer (request_number q) u ∷ []) → Fails (procedure.Raw l q) (u ∷ os) f
+raw_answer_fails l q (outcome.Replied r) os f (inl e) = IsReplied r (inl refl) e
+raw_answer_fails l q (outcome.Replied r) os f (inr x) = absurd x
+raw_answer_fails l q outcome.Queued os f i = absurd (no_failure f i)
+raw_answer_fails l q (outcome.Failed k) os f i = IsTold (outcome.Failed k) (inl refl) (only_failure f (OfConnection (fault_of (outcome.Failed k))) i)
+raw_answer_fails l q outcome.Canceled os f i = IsTold outcome.Canceled (inl refl) (only_failure f (OfConnection (fault_of outcome.Canceled)) i)
+raw_answer_fails l q outcome.Disconnected os f i = IsTold outcome.Disconnected (inl refl) (only_failure f (OfConnection (fault_of outcome.Disconnected)) i)
+raw_answer_fails l q outcome.Exhausted os f i = IsTold outcome.Exhausted (inl refl) (only_failure f (OfConnection (fault_of outcome.Exhausted)) i)
+raw_answer_fails l q outcome.Unencodable os f i = IsTold outcome.Unencodable (inl refl) (only_failure f (OfConnection (fault_of outcome.Unencodable)) i)
+raw_answer_fails l q (outcome.GotLink k) os f i = IsTold (outcome.GotLink k) (inl refl) (only_failure f (OfConnection (fault_of (outcome.GotLink k))) i)
+
+raw_fails : (l : ℕ) (q : Request) (os : List Outcome) (f : Failure) → In (Failed f) (said_along (procedure.Raw l q) [] os) → Fails (procedure.Raw l q) os f
+raw_fails l q [] f i = absurd i
+raw_fails l q (u ∷ os) f i = raw_answer_fails l q u os f (subst (In (Failed f)) (ends_is (procedure.Raw l q) (u ∷ []) (raw_answer (request_number q) u) (λ ys. refl) os) i)
+
 said_fails : (p : Procedure) (os : List Outcome) (f : Failure) → In (Failed f) (said_along p [] os) → Fails p os f
 said_fails procedure.Build os f i = build_fails os f i
 said_fails (procedure.Topics n m) os f i = topics_fails n m os f i
+said_fails (procedure.Raw l q) os f i = raw_fails l q os f i
 said_fails procedure.Refused os f i = refused_fails os f i
 
 pub failures_are_told : FailuresAreTold

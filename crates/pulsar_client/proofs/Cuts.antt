@@ -13,6 +13,7 @@ use Rattle.pulsar_client.specs.declared.act.Arrival.{Arrival}
 use Rattle.pulsar_client.specs.declared.act.Arrival.TheVariants.{Message, Bad}
 use Rattle.pulsar_client.specs.declared.act.Outcome.{Outcome}
 use Rattle.pulsar_client.specs.declared.act.Outcome.TheVariants as outcome
+use Rattle.pulsar_client.specs.declared.act.Awaited.{Awaited}
 use Rattle.pulsar_client.specs.declared.act.Request.{Request}
 use Rattle.pulsar_client.specs.declared.act.Procedure.{Procedure}
 use Rattle.pulsar_client.specs.declared.act.Action.{Action}
@@ -28,8 +29,8 @@ use Rattle.pulsar_client.specs.declared.session.link.Stage.TheVariants.{Dialing,
 use Rattle.pulsar_client.specs.Messages.{read}
 use Rattle.pulsar_client.specs.Content.{Heard, Called, Opened, Bytes, Drain, FailedToOpen, Lost}
 use Rattle.pulsar_client.specs.Failures.{Exhausted}
-use Rattle.pulsar_client.specs.Link.{Seen, seen, stage, is_dialing, is_open, arrivals, link_rule, at_arrival, is_ready, fits_frame, request_message, kind_of}
-use Rattle.pulsar_client.specs.Log.{Chosen, Entry, Begins, Does, links, of_link, seen_link, stream, opens, dials, View, view, at_once, serves, performs, gets, asks, asks_on, fails, link_acts, brings, procedure_for, frames_of, spent}
+use Rattle.pulsar_client.specs.Link.{Seen, seen, stage, is_dialing, is_open, arrivals, link_rule, at_arrival, is_ready, fits_frame, awaited, is_numbered, request_message, kind_of}
+use Rattle.pulsar_client.specs.Log.{Chosen, Entry, Begins, Does, links, of_link, seen_link, stream, opens, dials, View, view, at_once, serves, performs, gets, asks, asks_on, fails, link_acts, brings, procedure_for, frames_of, goes_on, spends, spent}
 use Rattle.pulsar_client.specs.Plan.{failed, next}
 use Rattle.pulsar_client.specs.Good.{due, to_come, IsRun, first, is_empty}
 use Rattle.pulsar_client.specs.Local.{is_own, link_due, Fits, IsLinkRun}
@@ -197,18 +198,25 @@ gets_plain Nothing t = (refl, (refl, tt))
 gets_plain (Runs s) t = (refl, tt)
 gets_plain (Serves l) t = (refl, tt)
 
+goes_on_plain : (t : ℕ) (x : Option Awaited) → NoComes (goes_on t x)
+goes_on_plain t None = (refl, tt)
+goes_on_plain t (Some x) = tt
+
+spends_plain : (t l : ℕ) (b : Bool) → NoComes (spends l b ++ Told t outcome.Unencodable ∷ [])
+spends_plain t l true = (refl, (refl, tt))
+spends_plain t l false = (refl, tt)
+
 asks_plain : (t l : ℕ) (q : Request) (s : Seen) → NoComes (asks t l q s)
-asks_plain t l q s =
-    elim (is_ready s.stage) as (λ b. NoComes (cond b (cond (s.next_id == spent) (Told t outcome.Exhausted ∷ []) (cond (fits_frame (request_message s.next_id q)) (OnLink l (Requests q t) ∷ []) (OnLink l Spends ∷ Told t outcome.Unencodable ∷ []))) (Told t outcome.Disconnected ∷ []))) [
-      | true ↦ elim (s.next_id == spent) as (λ b. NoComes (cond b (Told t outcome.Exhausted ∷ []) (cond (fits_frame (request_message s.next_id q)) (OnLink l (Requests q t) ∷ []) (OnLink l Spends ∷ Told t outcome.Unencodable ∷ [])))) [
-        | true ↦ (refl, tt)
-        | false ↦ elim (fits_frame (request_message s.next_id q)) as (λ b. NoComes (cond b (OnLink l (Requests q t) ∷ []) (OnLink l Spends ∷ Told t outcome.Unencodable ∷ []))) [
-          | true ↦ (refl, tt)
-          | false ↦ (refl, (refl, tt))
-        ]
-      ]
-      | false ↦ (refl, tt)
-    ]
+asks_plain t l q s = elim (cases_Bool (is_ready s.stage)) [
+  | inr shut ↦ rw shut (refl, tt)
+  | inl ready ↦ rw ready (elim (cases_Bool (is_numbered q && (s.next_id == spent))) [
+    | inl e ↦ rw e (refl, tt)
+    | inr e ↦ rw e (elim (cases_Bool (fits_frame (request_message s.next_id q))) [
+      | inl f ↦ rw f (refl, goes_on_plain t (awaited s.next_id q))
+      | inr f ↦ rw f (spends_plain t l (is_numbered q))
+    ])
+  ])
+]
 
 asks_on_plain : (t l : ℕ) (q : Request) (s : Option Seen) → NoComes (asks_on t l q s)
 asks_on_plain t l q None = (refl, tt)
@@ -248,7 +256,7 @@ calls_for_plain true p = (refl, tt)
 calls_for_plain false p = (refl, tt)
 
 brings_plain : (v : View) (e : Heard) → NoComes (brings v e)
-brings_plain v (Called c) = calls_for_plain (v.calls == spent) (procedure_for v.is_built c)
+brings_plain v (Called c) = calls_for_plain (v.calls == spent) (procedure_for v.is_built v.now c)
 brings_plain v (Opened l) = one_plain (dials (v.link l)) (OnLink l Opens) refl
 brings_plain v (FailedToOpen l kind) = one_plain (dials (v.link l)) (OnLink l (Fails kind)) refl
 brings_plain v (Bytes l piece) = tt

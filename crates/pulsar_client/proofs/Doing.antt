@@ -1,9 +1,10 @@
 -- What a call does is what its procedure does next.
-use Rattle.std.proofs.Common.{◌≡◌, ℕ, ◌∙◌, sym, subst, List, [], ◌∷◌, ◌++◌, refl, map, drop, Bool, true, false, cond, Option, Some, None, ◌⊎◌, inl, inr, ◌==◌}
-use Rattle.std.proofs.lemmas.Bool.{eq-eqb}
+use Rattle.std.proofs.Common.{◌≡◌, ℕ, ◌∙◌, sym, subst, List, [], ◌∷◌, ◌++◌, refl, map, drop, Bool, true, false, ◌&&◌, cond, Option, Some, None, ◌⊎◌, inl, inr, ◌==◌}
+use Rattle.std.proofs.lemmas.Bool.{cases_Bool, eq-eqb}
 use Rattle.pulsar_wire.specs.declared.error.IoKind.{IoKind}
 use Rattle.pulsar_client.specs.declared.act.Outcome.{Outcome}
 use Rattle.pulsar_client.specs.declared.act.Outcome.TheVariants as outcome
+use Rattle.pulsar_client.specs.declared.act.Awaited.{Awaited}
 use Rattle.pulsar_client.specs.declared.act.Request.{Request}
 use Rattle.pulsar_client.specs.declared.act.Procedure.{Procedure}
 use Rattle.pulsar_client.specs.declared.act.Action.{Action}
@@ -16,9 +17,9 @@ use Rattle.pulsar_client.specs.declared.tables.Base.{Base}
 use Rattle.pulsar_client.specs.declared.tables.Base.TheVariants.{Nothing, Runs, Serves}
 use Rattle.pulsar_client.specs.Content.{Heard, Called, Opened, Bytes, Drain, FailedToOpen, Lost}
 use Rattle.pulsar_client.specs.Failures.{Exhausted}
-use Rattle.pulsar_client.specs.Link.{Seen, link_rule, is_ready, fits_frame, request_message, kind_of}
+use Rattle.pulsar_client.specs.Link.{Seen, link_rule, is_ready, fits_frame, awaited, is_numbered, request_message, kind_of}
 use Rattle.pulsar_client.specs.Plan.{failed, next}
-use Rattle.pulsar_client.specs.Log.{Chosen, Entry, Begins, Does, View, view, calls, procedure_of, outcomes_of, action_at, spent, at_once, serves, performs, gets, asks, asks_on, fails, link_acts, brings, procedure_for, dials, opens}
+use Rattle.pulsar_client.specs.Log.{Chosen, Entry, Begins, Does, View, view, calls, procedure_of, outcomes_of, action_at, spent, at_once, serves, performs, gets, asks, asks_on, fails, link_acts, brings, procedure_for, dials, goes_on, opens, spends}
 use Rattle.pulsar_client.specs.Good.{due, to_come, IsRun, first}
 use Rattle.pulsar_client.specs.Local.{is_own}
 use Rattle.pulsar_client.specs.Laws.{In, InThisStep, caller, next_at, Follows, IsNext, IsSpent, ActsFollow}
@@ -35,18 +36,25 @@ gets_by Nothing t = (inr refl, (inr refl, tt))
 gets_by (Runs s) t = (inr refl, tt)
 gets_by (Serves l) t = (inl refl, tt)
 
+goes_on_by : (t : ℕ) (x : Option Awaited) → AllBy t (goes_on t x)
+goes_on_by t None = (inl refl, tt)
+goes_on_by t (Some x) = tt
+
+spends_by : (t l : ℕ) (b : Bool) → AllBy t (spends l b ++ Told t outcome.Unencodable ∷ [])
+spends_by t l true = (inl refl, (inl refl, tt))
+spends_by t l false = (inl refl, tt)
+
 asks_by : (t l : ℕ) (q : Request) (s : Seen) → AllBy t (asks t l q s)
-asks_by t l q s =
-    elim (is_ready s.stage) as (λ b. AllBy t (cond b (cond (s.next_id == spent) (Told t outcome.Exhausted ∷ []) (cond (fits_frame (request_message s.next_id q)) (OnLink l (Requests q t) ∷ []) (OnLink l Spends ∷ Told t outcome.Unencodable ∷ []))) (Told t outcome.Disconnected ∷ []))) [
-      | true ↦ elim (s.next_id == spent) as (λ b. AllBy t (cond b (Told t outcome.Exhausted ∷ []) (cond (fits_frame (request_message s.next_id q)) (OnLink l (Requests q t) ∷ []) (OnLink l Spends ∷ Told t outcome.Unencodable ∷ [])))) [
-        | true ↦ (inl refl, tt)
-        | false ↦ elim (fits_frame (request_message s.next_id q)) as (λ b. AllBy t (cond b (OnLink l (Requests q t) ∷ []) (OnLink l Spends ∷ Told t outcome.Unencodable ∷ []))) [
-          | true ↦ (inr refl, tt)
-          | false ↦ (inl refl, (inl refl, tt))
-        ]
-      ]
-      | false ↦ (inl refl, tt)
-    ]
+asks_by t l q s = elim (cases_Bool (is_ready s.stage)) [
+  | inr shut ↦ rw shut (inl refl, tt)
+  | inl ready ↦ rw ready (elim (cases_Bool (is_numbered q && (s.next_id == spent))) [
+    | inl e ↦ rw e (inl refl, tt)
+    | inr e ↦ rw e (elim (cases_Bool (fits_frame (request_message s.next_id q))) [
+      | inl f ↦ rw f (inr refl, goes_on_by t (awaited s.next_id q))
+      | inr f ↦ rw f (spends_by t l (is_numbered q))
+    ])
+  ])
+]
 
 asks_on_by : (t l : ℕ) (q : Request) (s : Option Seen) → AllBy t (asks_on t l q s)
 asks_on_by t l q None = (inl refl, tt)
@@ -147,7 +155,7 @@ call_done o log e true p is = (λ t h. IsSpent is refl, tt)
 call_done o log e false p is = (λ t h. absurd cc, tt)
 
 brings_done : (o : Chosen) (log : List Entry) (e : Heard) → AllDone o (Begins e ∷ log) (brings (view o log) e)
-brings_done o log (Called c) = call_done o log (Called c) (calls log == spent) (procedure_for (view o log).is_built c) refl
+brings_done o log (Called c) = call_done o log (Called c) (calls log == spent) (procedure_for (view o log).is_built o.now c) refl
 brings_done o log (Opened l) = none_done o (Begins (Opened l) ∷ log) _ (one_none (dials ((view o log).link l)) (OnLink l Opens) refl)
 brings_done o log (FailedToOpen l kind) = none_done o (Begins (FailedToOpen l kind) ∷ log) _ (one_none (dials ((view o log).link l)) (OnLink l (Fails kind)) refl)
 brings_done o log (Bytes l piece) = tt

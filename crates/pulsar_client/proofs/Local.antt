@@ -1,5 +1,5 @@
 -- The part of a run that names a link is a run of that link.
-use Rattle.std.proofs.Common.{◌≡◌, ℕ, ◌+◌, ◌∙◌, sym, ap, subst, List, [], ◌∷◌, ◌++◌, refl, arith, map, filter, drop, Bool, true, false, cond, Option, Some, None, ◌⊎◌, inl, inr, nat_lt, ◌==◌, append-nil}
+use Rattle.std.proofs.Common.{◌≡◌, ℕ, ◌+◌, ◌∙◌, sym, ap, subst, List, [], ◌∷◌, ◌++◌, refl, arith, map, filter, drop, Bool, true, false, ◌&&◌, cond, Option, Some, None, ◌⊎◌, inl, inr, nat_lt, ◌==◌, append-nil}
 use Rattle.std.specs.Option.{unwrap_or}
 use Rattle.std.specs.List.{filter_map, cons_option}
 use Rattle.std.proofs.lemmas.List.Elements.{filter_map-append}
@@ -11,6 +11,7 @@ use Rattle.pulsar_client.specs.declared.act.Arrival.{Arrival}
 use Rattle.pulsar_client.specs.declared.act.Arrival.TheVariants.{Message, Bad}
 use Rattle.pulsar_client.specs.declared.act.Outcome.{Outcome}
 use Rattle.pulsar_client.specs.declared.act.Outcome.TheVariants as outcome
+use Rattle.pulsar_client.specs.declared.act.Awaited.{Awaited}
 use Rattle.pulsar_client.specs.declared.act.Request.{Request}
 use Rattle.pulsar_client.specs.declared.act.Action.{Action}
 use Rattle.pulsar_client.specs.declared.act.Action.TheVariants.{Get, Ask, Answer, Finish, Rest}
@@ -26,8 +27,8 @@ use Rattle.pulsar_client.specs.Messages.{is_connected}
 use Rattle.pulsar_client.specs.Plan.{failed}
 use Rattle.pulsar_client.specs.Content.{Asked, Heard, Called, Opened, Bytes, Drain, FailedToOpen, Lost}
 use Rattle.pulsar_client.specs.Failures.{Exhausted}
-use Rattle.pulsar_client.specs.Link.{Seen, Pending, seen, arrivals, bears_id, link_rule, settled, disconnected, turns, at_opening, at_arrival, is_ready, fits_frame, request_message, kind_of, at_failure, at_loss}
-use Rattle.pulsar_client.specs.Log.{Chosen, Entry, Begins, Does, links, of_link, seen_link, View, view, at_once, serves, performs, gets, asks, asks_on, fails, link_acts, brings, calls_for, frames_of, dials, opens, spent, procedure_for}
+use Rattle.pulsar_client.specs.Link.{Seen, Pending, seen, arrivals, ends_wait, link_rule, settled, disconnected, turns, at_opening, at_arrival, is_ready, fits_frame, awaited, is_numbered, request_message, kind_of, at_failure, at_loss}
+use Rattle.pulsar_client.specs.Log.{Chosen, Entry, Begins, Does, links, of_link, seen_link, View, view, at_once, serves, performs, gets, asks, asks_on, fails, link_acts, brings, calls_for, frames_of, dials, goes_on, opens, spends, spent, procedure_for}
 use Rattle.pulsar_client.specs.Good.{due, to_come, IsRun, first, is_empty}
 use Rattle.pulsar_client.specs.Local.{is_own, link_due, Fits, IsLinkRun}
 
@@ -104,7 +105,7 @@ map_own f [] p = tt
 map_own f (r ∷ rs) p = (p r, map_own f rs p)
 
 settled_own : (act : LinkAct) (rs : List Pending) → AllOwn (settled act rs)
-settled_own (Comes (Message m)) rs = map_own _ (filter (λ r. bears_id m.key r.id) rs) (λ r. refl)
+settled_own (Comes (Message m)) rs = map_own _ (filter (λ r. ends_wait m.key r.awaits) rs) (λ r. refl)
 settled_own (Ended end) rs = map_own disconnected rs (λ r. refl)
 settled_own _ rs = tt
 
@@ -160,18 +161,25 @@ gets_none Nothing t = (refl, (refl, tt))
 gets_none (Runs s) t = (refl, tt)
 gets_none (Serves l) t = (refl, tt)
 
+goes_on_none : (t : ℕ) (x : Option Awaited) → NoOwn (goes_on t x)
+goes_on_none t None = (refl, tt)
+goes_on_none t (Some x) = tt
+
+spends_none : (t l : ℕ) (b : Bool) → NoOwn (spends l b ++ Told t outcome.Unencodable ∷ [])
+spends_none t l true = (refl, (refl, tt))
+spends_none t l false = (refl, tt)
+
 asks_none : (t l : ℕ) (r : Request) (s : Seen) → NoOwn (asks t l r s)
-asks_none t l r s =
-    elim (is_ready s.stage) as (λ b. NoOwn (cond b (cond (s.next_id == spent) (Told t outcome.Exhausted ∷ []) (cond (fits_frame (request_message s.next_id r)) (OnLink l (Requests r t) ∷ []) (OnLink l Spends ∷ Told t outcome.Unencodable ∷ []))) (Told t outcome.Disconnected ∷ []))) [
-      | true ↦ elim (s.next_id == spent) as (λ b. NoOwn (cond b (Told t outcome.Exhausted ∷ []) (cond (fits_frame (request_message s.next_id r)) (OnLink l (Requests r t) ∷ []) (OnLink l Spends ∷ Told t outcome.Unencodable ∷ [])))) [
-        | true ↦ (refl, tt)
-        | false ↦ elim (fits_frame (request_message s.next_id r)) as (λ b. NoOwn (cond b (OnLink l (Requests r t) ∷ []) (OnLink l Spends ∷ Told t outcome.Unencodable ∷ []))) [
-          | true ↦ (refl, tt)
-          | false ↦ (refl, (refl, tt))
-        ]
-      ]
-      | false ↦ (refl, tt)
-    ]
+asks_none t l r s = elim (cases_Bool (is_ready s.stage)) [
+  | inr shut ↦ rw shut (refl, tt)
+  | inl ready ↦ rw ready (elim (cases_Bool (is_numbered r && (s.next_id == spent))) [
+    | inl e ↦ rw e (refl, tt)
+    | inr e ↦ rw e (elim (cases_Bool (fits_frame (request_message s.next_id r))) [
+      | inl f ↦ rw f (refl, goes_on_none t (awaited s.next_id r))
+      | inr f ↦ rw f (spends_none t l (is_numbered r))
+    ])
+  ])
+]
 
 asks_on_none : (t l : ℕ) (r : Request) (s : Option Seen) → NoOwn (asks_on t l r s)
 asks_on_none t l r None = (refl, tt)
@@ -190,7 +198,7 @@ one_none false a h = tt
 
 calls_none : (v : View) (c : Asked) → NoOwn (calls_for v c)
 calls_none v c =
-    elim (v.calls == spent) as (λ b. NoOwn (cond b (Answers spent (failed Exhausted) ∷ []) (Calls (procedure_for v.is_built c) ∷ [])))
+    elim (v.calls == spent) as (λ b. NoOwn (cond b (Answers spent (failed Exhausted) ∷ []) (Calls (procedure_for v.is_built v.now c) ∷ [])))
     [ true ↦ (refl, tt) | false ↦ (refl, tt) ]
 
 brings_none : (v : View) (e : Heard) → NoOwn (brings v e)

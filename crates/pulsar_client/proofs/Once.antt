@@ -11,7 +11,7 @@ use Rattle.pulsar_client.specs.declared.act.Action.{Action}
 use Rattle.pulsar_client.specs.declared.act.Action.TheVariants.{Rest}
 use Rattle.pulsar_client.specs.Content.{Said}
 use Rattle.pulsar_client.specs.Failures.{Shutdown}
-use Rattle.pulsar_client.specs.Plan.{failed, next, ended, finished, building, topics, topics_asked, topics_replied, topics_answer, fault_of}
+use Rattle.pulsar_client.specs.Plan.{failed, next, ended, finished, building, raw_answer, request_number, topics, topics_asked, topics_replied, topics_answer, fault_of}
 use Rattle.pulsar_client.specs.Log.{outcomes_of}
 use Rattle.pulsar_client.specs.Laws.{answer_in, said_along, AnswersOnce}
 use Rattle.pulsar_client.proofs.Calls.{calls_follow}
@@ -56,6 +56,7 @@ builds_once p b h ((outcome.Replied r) ∷ os) = rw (here p b building h) (ends_
 builds_once p b h (outcome.Disconnected ∷ os) = rw (here p b building h) (ends_once p (b ++ outcome.Disconnected ∷ []) (failed (fault_of outcome.Disconnected)) (on p b building outcome.Disconnected h) os)
 builds_once p b h (outcome.Exhausted ∷ os) = rw (here p b building h) (ends_once p (b ++ outcome.Exhausted ∷ []) (failed (fault_of outcome.Exhausted)) (on p b building outcome.Exhausted h) os)
 builds_once p b h (outcome.Unencodable ∷ os) = rw (here p b building h) (ends_once p (b ++ outcome.Unencodable ∷ []) (failed (fault_of outcome.Unencodable)) (on p b building outcome.Unencodable h) os)
+builds_once p b h (outcome.Queued ∷ os) = rw (here p b building h) (ends_once p (b ++ outcome.Queued ∷ []) (failed (fault_of outcome.Queued)) (on p b building outcome.Queued h) os)
 
 topics_once : (p : Procedure) (b : List Outcome) (n : List ℕ) (m : Mode) → ReadsOn p b (topics n m) → (os : List Outcome) → length (said_along p b os) ≤ 1
 topics_once p b n m h [] = rw (here p b (topics n m) h) (omega arith)
@@ -66,10 +67,16 @@ topics_once p b n m h ((outcome.Replied r) ∷ os) = rw (here p b (topics n m) h
 topics_once p b n m h (outcome.Disconnected ∷ os) = rw (here p b (topics n m) h) (ends_once p (b ++ outcome.Disconnected ∷ []) (failed (fault_of outcome.Disconnected)) (on p b (topics n m) outcome.Disconnected h) os)
 topics_once p b n m h (outcome.Exhausted ∷ os) = rw (here p b (topics n m) h) (ends_once p (b ++ outcome.Exhausted ∷ []) (failed (fault_of outcome.Exhausted)) (on p b (topics n m) outcome.Exhausted h) os)
 topics_once p b n m h (outcome.Unencodable ∷ os) = rw (here p b (topics n m) h) (ends_once p (b ++ outcome.Unencodable ∷ []) (failed (fault_of outcome.Unencodable)) (on p b (topics n m) outcome.Unencodable h) os)
+topics_once p b n m h (outcome.Queued ∷ os) = rw (here p b (topics n m) h) (ends_once p (b ++ outcome.Queued ∷ []) (failed (fault_of outcome.Queued)) (on p b (topics n m) outcome.Queued h) os)
+
+raw_once : (l : ℕ) (q : Request) (os : List Outcome) → length (said_along (procedure.Raw l q) [] os) ≤ 1
+raw_once l q [] = omega arith
+raw_once l q (o ∷ os) = ends_once (procedure.Raw l q) (o ∷ []) (raw_answer (request_number q) o) (λ ys. refl) os
 
 said_once : (p : Procedure) (os : List Outcome) → length (said_along p [] os) ≤ 1
 said_once procedure.Build os = builds_once procedure.Build [] (λ ys. refl) os
 said_once (procedure.Topics n m) os = topics_once (procedure.Topics n m) [] n m (λ ys. refl) os
+said_once (procedure.Raw l q) os = raw_once l q os
 said_once procedure.Refused os = ends_once procedure.Refused [] (failed Shutdown) (λ ys. refl) os
 
 pub answers_once : AnswersOnce

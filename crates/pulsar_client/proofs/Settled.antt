@@ -10,13 +10,14 @@ use Rattle.pulsar_client.specs.declared.act.Arrival.{Arrival}
 use Rattle.pulsar_client.specs.declared.act.Arrival.TheVariants.{Message, Bad}
 use Rattle.pulsar_client.specs.declared.act.Outcome.{Outcome}
 use Rattle.pulsar_client.specs.declared.act.Outcome.TheVariants.{Replied}
+use Rattle.pulsar_client.specs.declared.act.Awaited.{Awaited}
 use Rattle.pulsar_client.specs.declared.act.Request.{Request}
 use Rattle.pulsar_client.specs.declared.act.LinkAct.{LinkAct}
 use Rattle.pulsar_client.specs.declared.act.LinkAct.TheVariants.{Opens, Comes, Drains, Requests, Spends, Greets, Readied, Ended, Settled, Fails, Loses}
 use Rattle.pulsar_client.specs.declared.session.link.Stage.{Stage}
 use Rattle.pulsar_client.specs.declared.session.link.Stage.TheVariants.{Dialing, Handshaking, Ready, Over}
 use Rattle.pulsar_client.specs.Messages.{Reply, is_connected}
-use Rattle.pulsar_client.specs.Link.{Pending, seen, stage, bears_id, link_rule, settled, settles, disconnected, turns, at_opening, at_arrival, pending, queued, next_id, left_waiting, with_request, at_failure, at_loss}
+use Rattle.pulsar_client.specs.Link.{Pending, seen, stage, ends_wait, link_rule, settled, settles, disconnected, turns, at_opening, at_arrival, pending, queued, next_id, awaited, left_waiting, waits_for, with_request, at_failure, at_loss}
 use Rattle.pulsar_client.specs.Good.{first}
 use Rattle.pulsar_client.specs.Local.{is_own, link_due, Fits, IsLinkRun}
 use Rattle.pulsar_client.specs.Laws.{outcome_in, or_else, settled_at, request_at, SettledByFirst}
@@ -32,10 +33,10 @@ settled_by act r = settled_as r (settles act r)
 
 -- the request that an act asks
 abbrev asked : LinkAct → ℕ → ℕ → List Pending
-asked (Requests request ticket) place id = record { id = id; place = place; ticket = ticket } ∷ []
+asked (Requests request ticket) place id = waits_for (awaited id request) place ticket
 asked _ place id = []
 
-replied_cases : (m : Reply) (r : Pending) (F : List Pending) (G : List LinkAct) (b : Bool) → bears_id m.key r.id ≡ b → map (λ x. Settled x.place x.ticket (Replied m)) F ≡ G →
+replied_cases : (m : Reply) (r : Pending) (F : List Pending) (G : List LinkAct) (b : Bool) → ends_wait m.key r.awaits ≡ b → map (λ x. Settled x.place x.ticket (Replied m)) F ≡ G →
     map (λ x. Settled x.place x.ticket (Replied m)) (cond b (r ∷ F) F) ≡ cons_option (settled_as r (cond b (Some (Replied m)) None)) G
 replied_cases m r F G true e h = ap (λ t. Settled r.place r.ticket (Replied m) ∷ t) h
 replied_cases m r F G false e h = h
@@ -47,7 +48,7 @@ quiet act (r ∷ rs) h = rw (h r) (quiet act rs h)
 settled_is : (act : LinkAct) (rs : List Pending) → settled act rs ≡ filter_map (settled_by act) rs
 settled_is (Comes (Message m)) [] = refl
 settled_is (Comes (Message m)) (r ∷ rs) =
-    replied_cases m r (filter (λ x. bears_id m.key x.id) rs) (filter_map (settled_by (Comes (Message m))) rs) (bears_id m.key r.id) refl (settled_is (Comes (Message m)) rs)
+    replied_cases m r (filter (λ x. ends_wait m.key x.awaits) rs) (filter_map (settled_by (Comes (Message m))) rs) (ends_wait m.key r.awaits) refl (settled_is (Comes (Message m)) rs)
 settled_is (Ended end) [] = refl
 settled_is (Ended end) (r ∷ rs) = ap (λ t. disconnected r ∷ t) (settled_is (Ended end) rs)
 settled_is Opens rs = sym (quiet Opens rs (λ r. refl))
@@ -73,7 +74,7 @@ all_left act (r ∷ rs) h = rw (h r) (ap (λ t. r ∷ t) (all_left act rs h))
 left_is : (act : LinkAct) (rs : List Pending) → left_waiting act rs ≡ filter (λ r. is_none (settles act r)) rs
 left_is (Comes (Message m)) [] = refl
 left_is (Comes (Message m)) (r ∷ rs) =
-    kept_cases m r (filter (λ x. not (bears_id m.key x.id)) rs) (filter (λ x. is_none (settles (Comes (Message m)) x)) rs) (bears_id m.key r.id) (left_is (Comes (Message m)) rs)
+    kept_cases m r (filter (λ x. not (ends_wait m.key x.awaits)) rs) (filter (λ x. is_none (settles (Comes (Message m)) x)) rs) (ends_wait m.key r.awaits) (left_is (Comes (Message m)) rs)
 left_is (Ended end) [] = refl
 left_is (Ended end) (r ∷ rs) = left_is (Ended end) rs
 left_is Opens rs = sym (all_left Opens rs (λ r. refl))
@@ -130,8 +131,12 @@ filters_swap f g (x ∷ xs) = swap_cases f g x (filter g xs) (filter f xs) (f x)
 not_at : (n p : ℕ) → n + 1 ≤ p → (n == p) ≡ false
 not_at n p le = grind (arith, nat_tests)
 
+only_waits : (x : Option Awaited) (p place t : ℕ) → (place == p) ≡ false → only p (waits_for x place t) ≡ []
+only_waits None p place t h = refl
+only_waits (Some a) p place t h = rw h refl
+
 asked_none : (id : ℕ) (act : LinkAct) (h : List LinkAct) (p : ℕ) → queued (act ∷ h) ≤ p → only p (asked act (queued h) id) ≡ []
-asked_none id (Requests q t) h p le = rw (not_at (queued h) p le) refl
+asked_none id (Requests q t) h p le = only_waits (awaited id q) p (queued h) t (not_at (queued h) p le)
 asked_none id _ h p le = refl
 
 queued_grows : (act : LinkAct) (h : List LinkAct) → queued h ≤ queued (act ∷ h)
@@ -241,7 +246,7 @@ record Watched (n p : ℕ) (r : Pending) (later h : List LinkAct) : Type 0 where
   done : filter_map (settled_at p) later ++ filter_map (settled_at p) (link_due n h) ≡ option_to_list (outcome_in r later)
 
 asked_other : (id : ℕ) (act : LinkAct) (h : List LinkAct) (p : ℕ) → p < queued h → only p (asked act (queued h) id) ≡ []
-asked_other id (Requests q t) h p lt = let e : (queued h == p) ≡ false = grind (arith, nat_tests) in rw e refl
+asked_other id (Requests q t) h p lt = let e : (queued h == p) ≡ false = grind (arith, nat_tests) in only_waits (awaited id q) p (queued h) t e
 asked_other id _ h p lt = refl
 
 other_settles_none : (p : ℕ) (act : LinkAct) → is_own act ≡ false → settled_at p act ≡ None
@@ -307,17 +312,21 @@ module _ (n p : ℕ) (r : Pending) (later h : List LinkAct) (act : LinkAct) (w :
         done = ap (λ t. filter_map (settled_at p) (act ∷ later) ++ t) (filter_map-append (settled_at p) (link_rule (seen n h) act) (drop 1 (link_due n h))) ∙ done_on;
       }
 
-watched : (n : ℕ) (older later : List LinkAct) (q : Request) (t : ℕ) → IsLinkRun n (later ++ Requests q t ∷ older) →
-    Watched n (queued older) (request_at n older t) later (later ++ Requests q t ∷ older)
-watched n older [] q t run =
+abbrev request_of : ℕ → List LinkAct → Awaited → ℕ → Pending
+request_of n older x t = record { awaits = x; place = queued older; ticket = t }
+
+watched : (n : ℕ) (older later : List LinkAct) (q : Request) (t : ℕ) (x : Awaited) → awaited (next_id n older) q ≡ Some x → IsLinkRun n (later ++ Requests q t ∷ older) →
+    Watched n (queued older) (request_of n older x t) later (later ++ Requests q t ∷ older)
+watched n older [] q t x waits run =
     let none : only (queued older) (pending n older) ≡ [] = none_to_come n older (queued older) (omega arith) in
     let rests : link_due n older ≡ [] = run.1.other refl in
     record {
       placed = omega arith;
       left =
           ap (only (queued older)) (pending_is n (Requests q t) older)
-          ∙ filter-append (at_place (queued older)) (filter (λ r. is_none (settles (Requests q t) r)) (pending n older)) (request_at n older t ∷ [])
-          ∙ ap (λ x. x ++ only (queued older) (request_at n older t ∷ [])) (filters_swap (at_place (queued older)) (λ r. is_none (settles (Requests q t) r)) (pending n older) ∙ ap (filter (λ r. is_none (settles (Requests q t) r))) none)
+          ∙ filter-append (at_place (queued older)) (filter (λ r. is_none (settles (Requests q t) r)) (pending n older)) (waits_for (awaited (next_id n older) q) (queued older) t)
+          ∙ ap (λ y. only (queued older) (filter (λ r. is_none (settles (Requests q t) r)) (pending n older)) ++ only (queued older) (waits_for y (queued older) t)) waits
+          ∙ ap (λ y. y ++ only (queued older) (request_of n older x t ∷ [])) (filters_swap (at_place (queued older)) (λ r. is_none (settles (Requests q t) r)) (pending n older) ∙ ap (filter (λ r. is_none (settles (Requests q t) r))) none)
           ∙ (rw (eq-eqb (queued older) (queued older) refl) refl);
       done =
           filter_map-append (settled_at (queued older)) (link_rule (seen n older) (Requests q t)) (drop 1 (link_due n older))
@@ -326,15 +335,80 @@ watched n older [] q t run =
           ∙ rule_settles n (queued older) older (Requests q t)
           ∙ ap (filter_map (settles (Requests q t))) none;
     }
-watched n older (act ∷ later) q t run =
-    watched_on n (queued older) (request_at n older t) later (later ++ Requests q t ∷ older) act (watched n older later q t run.0) run.1
+watched n older (act ∷ later) q t x waits run =
+    watched_on n (queued older) (request_of n older x t) later (later ++ Requests q t ∷ older) act (watched n older later q t x waits run.0) run.1
+
+-- A FRAME WITHOUT AN ANSWER
+
+record Unwatched (n p : ℕ) (later h : List LinkAct) : Type 0 where
+  placed : p < queued h
+  left : only p (pending n h) ≡ []
+  done : filter_map (settled_at p) later ++ filter_map (settled_at p) (link_due n h) ≡ []
+
+step_none : (A D R : List Outcome) (v : Option Outcome) → R ≡ [] → A ++ cons_option v D ≡ [] → cons_option v A ++ (R ++ D) ≡ []
+step_none A D R None e h = rw e h
+step_none [] D R (Some v) e h = absurd cc
+step_none (x ∷ A) D R (Some v) e h = absurd cc
+
+module _ (n p : ℕ) (later h : List LinkAct) (act : LinkAct) (w : Unwatched n p later h) (fits : Fits n act h) where
+  none_ruled : filter_map (settled_at p) (link_rule (seen n h) act) ≡ []
+  none_ruled = rule_settles n p h act ∙ ap (filter_map (settles act)) w.left
+
+  none_done : filter_map (settled_at p) later ++ cons_option (settled_at p act) (filter_map (settled_at p) (drop 1 (link_due n h))) ≡ []
+  none_done = elim (cases_Bool (is_own act)) [
+    | inl own ↦ subst (λ d. filter_map (settled_at p) later ++ filter_map (settled_at p) d ≡ []) (front_of (link_due n h) act (fits.own own)) w.done
+    | inr other ↦ (let none : link_due n h ≡ [] = fits.other other in rw (other_settles_none p act other, none) (rw none at w.done))
+  ]
+
+  unwatched_on : Unwatched n p (act ∷ later) (act ∷ h)
+  unwatched_on =
+      let lt : p < queued h = w.placed in
+      let grows : queued h ≤ queued (act ∷ h) = queued_grows act h in
+      record {
+        placed = omega arith;
+        left = only_on n act h p (asked_other (next_id n h) act h p lt) ∙ ap (filter (λ x. is_none (settles act x))) w.left;
+        done =
+            ap (λ t. filter_map (settled_at p) (act ∷ later) ++ t) (filter_map-append (settled_at p) (link_rule (seen n h) act) (drop 1 (link_due n h)))
+            ∙ step_none (filter_map (settled_at p) later) (filter_map (settled_at p) (drop 1 (link_due n h))) (filter_map (settled_at p) (link_rule (seen n h) act)) (settled_at p act) none_ruled none_done;
+      }
+
+unwatched : (n : ℕ) (older later : List LinkAct) (q : Request) (t : ℕ) → awaited (next_id n older) q ≡ None → IsLinkRun n (later ++ Requests q t ∷ older) →
+    Unwatched n (queued older) later (later ++ Requests q t ∷ older)
+unwatched n older [] q t waits run =
+    let none : only (queued older) (pending n older) ≡ [] = none_to_come n older (queued older) (omega arith) in
+    let rests : link_due n older ≡ [] = run.1.other refl in
+    record {
+      placed = omega arith;
+      left = only_on n (Requests q t) older (queued older) (rw waits refl) ∙ ap (filter (λ x. is_none (settles (Requests q t) x))) none;
+      done =
+          filter_map-append (settled_at (queued older)) (link_rule (seen n older) (Requests q t)) (drop 1 (link_due n older))
+          ∙ ap (λ x. filter_map (settled_at (queued older)) (link_rule (seen n older) (Requests q t)) ++ filter_map (settled_at (queued older)) (drop 1 x)) rests
+          ∙ append-nil (filter_map (settled_at (queued older)) (link_rule (seen n older) (Requests q t)))
+          ∙ rule_settles n (queued older) older (Requests q t)
+          ∙ ap (filter_map (settles (Requests q t))) none;
+    }
+unwatched n older (act ∷ later) q t waits run =
+    unwatched_on n (queued older) later (later ++ Requests q t ∷ older) act (unwatched n older later q t waits run.0) run.1
+
+one_outcome : (o : Option Outcome) → option_to_list o ≡ cons_option o []
+one_outcome None = refl
+one_outcome (Some x) = refl
 
 pub settled_by_first : SettledByFirst
-settled_by_first o log l later older q t r lt rests is =
-    let n : ℕ = o.first_number in
-    let run : IsLinkRun n (later ++ Requests q t ∷ older) = subst (IsLinkRun n) is (link_runs o log l r lt) in
-    let empty : link_due n (later ++ Requests q t ∷ older) ≡ [] = ap (link_due n) (sym is) ∙ link_rests o log l r lt rests in
-    let w : Watched n (queued older) (request_at n older t) later (later ++ Requests q t ∷ older) = watched n older later q t run in
-    sym (append-nil (filter_map (settled_at (queued older)) later))
-    ∙ ap (λ x. filter_map (settled_at (queued older)) later ++ filter_map (settled_at (queued older)) x) (sym empty)
-    ∙ w.done
+settled_by_first o log l later older q t r lt rests is = by (awaited (next_id n older) q) refl
+  where
+    n : ℕ
+    n = o.first_number
+
+    run : IsLinkRun n (later ++ Requests q t ∷ older)
+    run = subst (IsLinkRun n) is (link_runs o log l r lt)
+
+    empty : link_due n (later ++ Requests q t ∷ older) ≡ []
+    empty = ap (link_due n) (sym is) ∙ link_rests o log l r lt rests
+
+    behind : filter_map (settled_at (queued older)) later ≡ filter_map (settled_at (queued older)) later ++ filter_map (settled_at (queued older)) (link_due n (later ++ Requests q t ∷ older))
+    behind = sym (append-nil (filter_map (settled_at (queued older)) later)) ∙ ap (λ x. filter_map (settled_at (queued older)) later ++ filter_map (settled_at (queued older)) x) (sym empty)
+
+    by : (x : Option Awaited) → awaited (next_id n older) q ≡ x → filter_map (settled_at (queued older)) later ≡ filter_map (λ r. outcome_in r later) (request_at n older q t)
+    by None waits = behind ∙ (unwatched n older later q t waits run).done ∙ sym (rw waits refl)
+    by (Some x) waits = behind ∙ (watched n older later q t x waits run).done ∙ one_outcome (outcome_in (request_of n older x t) later) ∙ sym (rw waits refl)

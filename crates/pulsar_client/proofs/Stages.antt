@@ -8,7 +8,7 @@ use Rattle.pulsar_client.specs.declared.act.LinkAct.{LinkAct}
 use Rattle.pulsar_client.specs.declared.act.LinkAct.TheVariants.{Opens, Comes, Greets, Readied, Ended, Settled, Fails, Loses}
 use Rattle.pulsar_client.specs.declared.session.link.Stage.{Stage}
 use Rattle.pulsar_client.specs.declared.session.link.Stage.TheVariants.{Dialing, Handshaking, Ready, Over}
-use Rattle.pulsar_client.specs.Link.{Pending, stage, bears_id, settled, disconnected, turns, at_opening, at_arrival, pending, at_failure, at_loss}
+use Rattle.pulsar_client.specs.Link.{Pending, stage, ends_wait, settled, disconnected, turns, at_opening, at_arrival, pending, at_failure, at_loss}
 use Rattle.pulsar_client.specs.Good.{first}
 use Rattle.pulsar_client.specs.Local.{is_own, link_due, Fits, IsLinkRun}
 
@@ -71,7 +71,7 @@ map_plain f [] p = tt
 map_plain f (r ∷ rs) p = (p r, map_plain f rs p)
 
 settled_plain : (act : LinkAct) (rs : List Pending) → NoTurn (settled act rs)
-settled_plain (Comes (Message m)) rs = map_plain _ (filter (λ r. bears_id m.key r.id) rs) (λ r. refl)
+settled_plain (Comes (Message m)) rs = map_plain _ (filter (λ r. ends_wait m.key r.awaits) rs) (λ r. refl)
 settled_plain (Ended end) rs = map_plain disconnected rs (λ r. refl)
 settled_plain _ rs = tt
 

@@ -27,10 +27,10 @@ use Rattle.pulsar_client.specs.Good.{IsRun}
 use Rattle.pulsar_client.specs.Traces.{numbered_from_zero, connected, topics_reply, asks_topics, request_is_answered, reply_comes_early, attempt_fails, IsGood}
 
 abbrev greeting : Reply
-greeting = record { body = Some 3; key = None; error = None; text = None; topics = [] }
+greeting = record { body = Some 3; bytes = 10 ∷ 1 ∷ 112 ∷ []; key = None; error = None; text = None; topics = [] }
 
 abbrev names : Reply
-names = record { body = Some 33; key = Some (RequestId 0); error = None; text = None; topics = codes "t" ∷ [] }
+names = record { body = Some 33; bytes = 8 ∷ 0 ∷ 18 ∷ 1 ∷ 116 ∷ []; key = Some (RequestId 0); error = None; text = None; topics = codes "t" ∷ [] }
 
 -- a client is built
 abbrev built_log : List Entry

@@ -9,7 +9,7 @@ use Rattle.pulsar_client.specs.Tables.{Stands, view_of}
 
 -- what the options choose
 abbrev pub chosen : ClientOptions → Chosen
-chosen options = record { first_number = options.first_number }
+chosen options = record { first_number = options.first_number; now = options.now }
 
 -- a step ran out of memory
 abbrev pub HasFailed : Pulsar → Type 0

@@ -1,9 +1,14 @@
 -- Events, effects and answers by their content: a text is the list of its bytes, a vector the list of its items.
 use Rattle.std.specs.Prelude.{ℕ, List, map, string_bytes, Result, Ok, Err}
+use Rattle.pulsar_wire.specs.Row.{spelling}
+use Rattle.pulsar_wire.specs.Rows.{send_receipt}
+use Rattle.pulsar_wire.specs.Views.{body_values, send_receipt_values}
 use Rattle.pulsar_wire.specs.declared.commands.topics.Mode.{Mode}
 use Rattle.pulsar_wire.specs.declared.error.Error.{Error}
 use Rattle.pulsar_wire.specs.declared.error.IoKind.{IoKind}
 use Rattle.pulsar_client.specs.Failures.{Failure, failure}
+use Rattle.pulsar_client.specs.Messages.{body_bytes}
+use Rattle.pulsar_client.specs.RawCall.{Words, words}
 use Rattle.pulsar_client.specs.declared.event.Call.{Call}
 use Rattle.pulsar_client.specs.declared.event.Call.TheVariants as call
 use Rattle.pulsar_client.specs.declared.event.Event.{Event}
@@ -18,6 +23,7 @@ use Rattle.pulsar_client.specs.declared.effect.Settlement.{Settlement}
 pub data Asked : Type 0 where
   Build : Asked
   Topics : (namespace : List ℕ) (mode : Mode) → Asked
+  Raw : (link : ℕ) (words : Words) → Asked
 
 -- what happens to the client
 pub data Heard : Type 0 where
@@ -28,10 +34,12 @@ pub data Heard : Type 0 where
   Lost : (link : ℕ) → Heard
   Drain : (link most : ℕ) → Heard
 
--- what a call ends with
+-- what a call ends with: bodies of the broker by their bytes
 pub data Said : Type 0 where
   Done : Said
   Names : List (List ℕ) → Said
+  Receipt : List ℕ → Said
+  Replies : List (List ℕ) → Said
   Failed : Failure → Said
 
 -- what the client wants done, and tells
@@ -46,6 +54,7 @@ pub data Shown : Type 0 where
 abbrev pub asked : Call → Asked
 asked call.Build = Build
 asked (call.Topics namespace mode) = Topics (string_bytes namespace) mode
+asked (call.Raw link c) = Raw link (words c)
 
 abbrev pub heard : Event → Heard
 heard (event.Call c) = Called (asked c)
@@ -58,6 +67,8 @@ heard (event.Drain l most) = Drain l most
 abbrev pub answered : Answer → Said
 answered answer.Done = Done
 answered (answer.Topics names) = Names (map string_bytes names.items)
+answered (answer.Receipt receipt) = Receipt (spelling send_receipt (send_receipt_values receipt))
+answered (answer.Replies bodies) = Replies (map (λ b. body_bytes (body_values b)) bodies.items)
 
 abbrev pub said : Result Answer Error → Said
 said (Ok a) = answered a

@@ -1,7 +1,6 @@
 -- What follows from the definition of a good run, in plain words.
 use Rattle.std.specs.Prelude.{◌≡◌, ℕ, ◌≤◌, length, ◌==◌, nat_lt, true, false, ◌⊎◌, if◌then◌else◌, List, [], ◌∷◌, ◌++◌, map, Option, Some, None}
 use Rattle.std.specs.List.{filter_map, flat_map}
-use Rattle.std.specs.Option.{option_to_list}
 use Rattle.pulsar_client.specs.declared.act.Arrival.{Arrival}
 use Rattle.pulsar_client.specs.declared.act.Outcome.{Outcome}
 use Rattle.pulsar_client.specs.declared.act.Outcome.TheVariants as outcome
@@ -10,17 +9,17 @@ use Rattle.pulsar_client.specs.declared.act.End.{End}
 use Rattle.pulsar_client.specs.declared.act.LinkAct.{LinkAct}
 use Rattle.pulsar_client.specs.declared.act.LinkAct.TheVariants.{Comes, Requests, Ended, Settled}
 use Rattle.pulsar_client.specs.declared.act.Procedure.{Procedure}
-use Rattle.pulsar_client.specs.declared.act.Procedure.TheVariants.{Refused}
+use Rattle.pulsar_client.specs.declared.act.Procedure.TheVariants.{Raw, Refused}
 use Rattle.pulsar_client.specs.declared.act.Action.{Action}
-use Rattle.pulsar_client.specs.declared.act.Action.TheVariants.{Answer, Finish}
+use Rattle.pulsar_client.specs.declared.act.Action.TheVariants.{Ask, Answer, Finish}
 use Rattle.pulsar_client.specs.declared.act.Act.{Act}
 use Rattle.pulsar_client.specs.declared.act.Act.TheVariants.{Calls, Told, Dials, Waits, Answers, Builds, OnLink}
 use Rattle.pulsar_client.specs.declared.tables.Base.TheVariants.{Runs}
 use Rattle.pulsar_client.specs.Content.{Asked, Heard, Called, Shown, Queued, Write, Said, Done, Failed}
 use Rattle.pulsar_client.specs.Messages.{Reply}
 use Rattle.pulsar_client.specs.Failures.{Failure, OfConnection, Shutdown, Exhausted}
-use Rattle.pulsar_client.specs.Plan.{failed, next, fault_of, topics_told}
-use Rattle.pulsar_client.specs.Link.{Seen, Pending, arrivals, kind_of, next_id, queued, settles, stage, unwritten, with_frame, frame_of, written_by}
+use Rattle.pulsar_client.specs.Plan.{failed, next, fault_of, topics_told, raw_told, request_number}
+use Rattle.pulsar_client.specs.Link.{Seen, Pending, arrivals, awaited, kind_of, next_id, queued, settles, stage, unwritten, waits_for, with_frame, frame_of, written_by}
 use Rattle.pulsar_client.specs.Local.{IsLinkRun}
 use Rattle.pulsar_client.specs.Log.{Chosen, Entry, Begins, Does, links, of_link, stream, calls, procedure_of, outcomes_of, base, seen_link, is_at, readies, spent, action_at, performs, view, built, procedure_for}
 use Rattle.pulsar_client.specs.Good.{IsRun, due, to_come, Step, Good}
@@ -45,9 +44,9 @@ Rests o log = due o log ++ to_come o log ≡ []
 
 -- REQUESTS
 
--- the request that is asked after this history of a link
-abbrev pub request_at : ℕ → List LinkAct → ℕ → Pending
-request_at first_number h ticket = record { id = next_id first_number h; place = queued h; ticket = ticket }
+-- the request that is asked after this history of a link, where it waits for an answer
+abbrev pub request_at : ℕ → List LinkAct → Request → ℕ → List Pending
+request_at first_number h request ticket = waits_for (awaited (next_id first_number h) request) (queued h) ticket
 
 -- the first of these that is there
 abbrev pub or_else : {A : Type 0} → Option A → Option A → Option A
@@ -65,12 +64,12 @@ settled_at place (Settled p ticket outcome) = if p == place then Some outcome el
 settled_at place _ = None
 
 -- A request is settled once, by the first later frame of its link that bears its key or by the link's end, whichever comes
--- first, and not at all where neither has come. What came before it settles nothing.
+-- first, and not at all where neither has come or where its frame has no answer. What came before it settles nothing.
 abbrev pub SettledByFirst : Type 0
 SettledByFirst = (o : Chosen) (log : List Entry) (l : ℕ) (later older : List LinkAct) (request : Request) (ticket : ℕ) →
     IsRun o log → nat_lt l (links log) ≡ true → Rests o log →
     of_link l log ≡ later ++ Requests request ticket ∷ older →
-    filter_map (settled_at (queued older)) later ≡ option_to_list (outcome_in (request_at o.first_number older ticket) later)
+    filter_map (settled_at (queued older)) later ≡ filter_map (λ r. outcome_in r later) (request_at o.first_number older request ticket)
 
 -- FRAMES THAT COME
 
@@ -141,7 +140,7 @@ InThisStep P (Does a ∷ log) = P (Does a) log ⊎ InThisStep P log
 -- a call is made where the user asks for it, and is refused just where the client isn't built
 abbrev pub CallsAreMade : Type 0
 CallsAreMade = (o : Chosen) (log : List Entry) (p : Procedure) → IsRun o (Does (Calls p) ∷ log) →
-    (c : Asked) × (older : List Entry) × (log ≡ Begins (Called c) ∷ older) × (p ≡ procedure_for (built older) c)
+    (c : Asked) × (older : List Entry) × (log ≡ Begins (Called c) ∷ older) × (p ≡ procedure_for (built older) o.now c)
 
 -- what an action answers
 abbrev pub answer_in : Action → List Said
@@ -203,11 +202,16 @@ AnswersOnce = (o : Chosen) (log : List Entry) (t : ℕ) (p : Procedure) →
 
 -- WHY A CALL FAILS
 
+-- what a reply answers to a call
+abbrev pub told_by : Procedure → Reply → Said
+told_by (Raw link request) r = raw_told (request_number request) r
+told_by _ r = topics_told r
+
 -- a call fails with Shutdown where it is refused, and else with the fault of an outcome that it was told, or of a reply
 pub data Fails (p : Procedure) (os : List Outcome) (f : Failure) : Type 0 where
   IsRefused : p ≡ Refused → f ≡ OfConnection Shutdown → Fails p os f
   IsTold : (u : Outcome) → In u os → f ≡ OfConnection (fault_of u) → Fails p os f
-  IsReplied : (r : Reply) → In (outcome.Replied r) os → Failed f ≡ topics_told r → Fails p os f
+  IsReplied : (r : Reply) → In (outcome.Replied r) os → Failed f ≡ told_by p r → Fails p os f
 
 -- wherever a step has ended, a call that has failed did so for one of these
 abbrev pub FailuresAreTold : Type 0
@@ -222,18 +226,20 @@ AttemptEnds starter end e older = (l : ℕ) × (e ≡ Does (OnLink l (Ended end)
 abbrev pub IsSettled : ℕ → Outcome → Entry → Type 0
 IsSettled t u e = (l : ℕ) × (place : ℕ) × (e ≡ Does (OnLink l (Settled place t u)))
 
--- this call is told its link, and the link is so
-abbrev pub FindsLink : Chosen → ℕ → (Option Seen → Type 0) → Entry → List Entry → Type 0
-FindsLink o t P e older = (u : Outcome) × (l : ℕ) × (e ≡ Does (Told t u)) × P (seen_link o older l)
+-- this call asks on a link, and the link is so
+abbrev pub AsksOn : Chosen → ℕ → (Option Seen → Type 0) → Entry → List Entry → Type 0
+AsksOn o t P e older = (l : ℕ) × (request : Request) × (next_at t e older ≡ Some (Ask l request)) × P (seen_link o older l)
 
 -- Why a call is told an outcome. Failed: the attempt that it started ended, so. Canceled: the attempt of another call ended.
 -- Replied, Disconnected: its request was settled so, or its link was not ready. Exhausted: the link's numbers are spent.
+-- Queued: its link was ready.
 abbrev pub Cause : Chosen → ℕ → Outcome → Entry → List Entry → Type 0
 Cause o t (outcome.Failed kind) e older = (end : End) × AttemptEnds t end e older × (kind ≡ kind_of end)
 Cause o t outcome.Canceled e older = (starter : ℕ) × (end : End) × ((t == starter) ≡ false) × AttemptEnds starter end e older
 Cause o t (outcome.Replied r) e older = IsSettled t (outcome.Replied r) e
-Cause o t outcome.Disconnected e older = IsSettled t outcome.Disconnected e ⊎ FindsLink o t (λ s. readies s ≡ false) e older
-Cause o t outcome.Exhausted e older = FindsLink o t (λ s. is_at (λ x. x.next_id == spent) s ≡ true) e older
+Cause o t outcome.Disconnected e older = IsSettled t outcome.Disconnected e ⊎ AsksOn o t (λ s. readies s ≡ false) e older
+Cause o t outcome.Exhausted e older = AsksOn o t (λ s. is_at (λ x. x.next_id == spent) s ≡ true) e older
+Cause o t outcome.Queued e older = AsksOn o t (λ s. readies s ≡ true) e older
 Cause o t _ e older = Unit {0}
 
 -- whatever a call is told has its cause before, in the same step

@@ -1,7 +1,9 @@
 pub mod Failures
+pub mod RawCall
 pub mod Content
 pub mod Messages
 pub mod Link
+pub mod Waiting
 pub mod Plan
 pub mod Log
 pub mod Good

@@ -1,11 +1,11 @@
 -- One link. Its history is the list of its acts, newest first; it knows nothing of other links and of calls.
 -- (Pulsar binary protocol, Connection establishment)
 use Rattle.std.specs.Prelude.{ℕ, ◌+◌, ◌^◌, nat_lt, Bool, true, false, if◌then◌else◌, List, [], ◌∷◌, ◌++◌, length, take, drop, filter, map, Option, Some, None, not}
-use Rattle.std.specs.Option.{option_to_list}
+use Rattle.std.specs.Option.{is_none, option_to_list}
 use Rattle.pulsar_wire.specs.declared.error.IoKind.{IoKind}
 use Rattle.pulsar_wire.specs.declared.error.IoKind.TheVariants as io_kinds
 use Rattle.pulsar_wire.specs.declared.key.RequestKey.{RequestKey}
-use Rattle.pulsar_wire.specs.declared.key.RequestKey.TheVariants.{RequestId}
+use Rattle.pulsar_wire.specs.declared.key.RequestKey.TheVariants.{RequestId, ProducerSend}
 use Rattle.pulsar_frame.specs.Message.{MessageValues}
 use Rattle.pulsar_frame.specs.Key.{bears_key}
 use Rattle.pulsar_frame.specs.Frame.{counted_bytes, frame_bytes, cut, bad}
@@ -14,14 +14,16 @@ use Rattle.pulsar_client.specs.declared.act.Arrival.TheVariants.{Message, Bad}
 use Rattle.pulsar_client.specs.declared.act.Outcome.{Outcome}
 use Rattle.pulsar_client.specs.declared.act.Outcome.TheVariants.{Replied, Disconnected}
 use Rattle.pulsar_client.specs.declared.act.Request.{Request}
-use Rattle.pulsar_client.specs.declared.act.Request.TheVariants.{Topics}
+use Rattle.pulsar_client.specs.declared.act.Request.TheVariants.{Topics, Raw}
+use Rattle.pulsar_client.specs.declared.act.Awaited.{Awaited}
 use Rattle.pulsar_client.specs.declared.act.End.{End}
 use Rattle.pulsar_client.specs.declared.act.End.TheVariants.{Failed, Lost, Refused}
 use Rattle.pulsar_client.specs.declared.act.LinkAct.{LinkAct}
 use Rattle.pulsar_client.specs.declared.act.LinkAct.TheVariants.{Opens, Fails, Loses, Comes, Drains, Requests, Spends, Greets, Readied, Ended, Settled}
 use Rattle.pulsar_client.specs.declared.session.link.Stage.{Stage}
 use Rattle.pulsar_client.specs.declared.session.link.Stage.TheVariants.{Dialing, Handshaking, Ready, Over}
-use Rattle.pulsar_client.specs.Messages.{connect_message, topics_message, read, is_connected}
+use Rattle.pulsar_client.specs.RawCall.{Words, Send, Flow, Ack}
+use Rattle.pulsar_client.specs.Messages.{connect_message, topics_message, raw_message, read, is_connected}
 
 -- WHAT COMES
 
@@ -52,9 +54,32 @@ abbrev pub is_ready : Stage → Bool
 is_ready Ready = true
 is_ready _ = false
 
+-- What a request waits for: the frame that names its number, and for a message that is sent the one that names its producer
+-- and its number there. A frame that grants permits or acknowledges has no answer.
+abbrev pub numbered : ℕ → Awaited
+numbered id = record { producer = None; number = id }
+
+abbrev pub raw_awaited : ℕ → Words → Option Awaited
+raw_awaited id (Send producer name sequence m waits) = Some (record { producer = Some producer; number = sequence })
+raw_awaited id (Flow consumer permits) = None
+raw_awaited id (Ack consumer ids cumulative) = None
+raw_awaited id _ = Some (numbered id)
+
+abbrev pub awaited : ℕ → Request → Option Awaited
+awaited id (Topics namespace mode) = Some (numbered id)
+awaited id (Raw now words) = raw_awaited id words
+
+-- a request draws a number of its link where it is answered by that
+abbrev pub draws : Option Awaited → Bool
+draws None = false
+draws (Some awaited) = is_none awaited.producer
+
+abbrev pub is_numbered : Request → Bool
+is_numbered request = draws (awaited 0 request)
+
 -- the next number that is drawn for a request
 abbrev pub drawn : LinkAct → ℕ → ℕ
-drawn (Requests request ticket) id = id + 1
+drawn (Requests request ticket) id = if is_numbered request then id + 1 else id
 drawn Spends id = id + 1
 drawn _ id = id
 
@@ -65,6 +90,7 @@ next_id first (act ∷ h) = drawn act (next_id first h)
 -- the message of a request, with its number
 abbrev pub request_message : ℕ → Request → MessageValues
 request_message id (Topics namespace mode) = topics_message id namespace mode
+request_message id (Raw now words) = raw_message id now words
 
 -- each size of its frame fits its field: the total does, and the others are smaller
 abbrev pub fits_frame : MessageValues → Bool
@@ -105,30 +131,43 @@ abbrev pub written_by : LinkAct → Stage → List (List ℕ) → List (List ℕ
 written_by (Drains most) s frames = if is_open s then take most frames else []
 written_by _ s frames = []
 
--- a request: its number and its place on the link, and the call that asked
+-- a request: what it waits for, its place on the link, and the call that asked
 pub record Pending : Type 0 where
-  pub id : ℕ
+  pub awaits : Awaited
   pub place : ℕ
   pub ticket : ℕ
 
--- a message of this key bears the key of the request of this number
-abbrev pub bears_id : Option RequestKey → ℕ → Bool
-bears_id key id = bears_key key (RequestId id)
+-- the key that an answer bears
+abbrev pub key_with : (producer : Option ℕ) (number : ℕ) → RequestKey
+key_with None number = RequestId number
+key_with (Some producer) number = ProducerSend producer number
+
+abbrev pub key_of : Awaited → RequestKey
+key_of awaited = key_with awaited.producer awaited.number
+
+-- a message of this key is what a request waits for
+abbrev pub ends_wait : Option RequestKey → Awaited → Bool
+ends_wait key awaited = bears_key key (key_of awaited)
 
 -- what settles a request: a message that bears its key, or the end of the link
 abbrev pub settles : LinkAct → Pending → Option Outcome
-settles (Comes (Message m)) r = if bears_id m.key r.id then Some (Replied m) else None
+settles (Comes (Message m)) r = if ends_wait m.key r.awaits then Some (Replied m) else None
 settles (Ended end) r = Some Disconnected
 settles _ r = None
 
 -- the requests that an act leaves waiting
 abbrev pub left_waiting : LinkAct → List Pending → List Pending
-left_waiting (Comes (Message m)) rs = filter (λ r. not (bears_id m.key r.id)) rs
+left_waiting (Comes (Message m)) rs = filter (λ r. not (ends_wait m.key r.awaits)) rs
 left_waiting (Ended end) rs = []
 left_waiting _ rs = rs
 
+-- the request of a frame that is queued, where it waits for an answer
+abbrev pub waits_for : Option Awaited → ℕ → ℕ → List Pending
+waits_for None place ticket = []
+waits_for (Some awaited) place ticket = record { awaits = awaited; place = place; ticket = ticket } ∷ []
+
 abbrev pub with_request : LinkAct → ℕ → ℕ → List Pending → List Pending
-with_request (Requests request ticket) id place rs = rs ++ record { id = id; place = place; ticket = ticket } ∷ []
+with_request (Requests request ticket) id place rs = rs ++ waits_for (awaited id request) place ticket
 with_request _ id place rs = rs
 
 -- the requests that no later act has settled, in the order of their queueing
@@ -164,7 +203,7 @@ disconnected r = Settled r.place r.ticket Disconnected
 
 -- the requests that an act settles, and as what
 abbrev pub settled : LinkAct → List Pending → List LinkAct
-settled (Comes (Message m)) rs = map (λ r. Settled r.place r.ticket (Replied m)) (filter (λ r. bears_id m.key r.id) rs)
+settled (Comes (Message m)) rs = map (λ r. Settled r.place r.ticket (Replied m)) (filter (λ r. ends_wait m.key r.awaits) rs)
 settled (Ended end) rs = map disconnected rs
 settled _ rs = []
 

@@ -8,7 +8,9 @@ use Rattle.pulsar_wire.specs.declared.error.IoKind.{IoKind}
 use Rattle.pulsar_frame.specs.Frame.{left}
 use Rattle.pulsar_client.specs.declared.act.Outcome.{Outcome}
 use Rattle.pulsar_client.specs.declared.act.Outcome.TheVariants as outcome
+use Rattle.pulsar_client.specs.declared.act.Awaited.{Awaited}
 use Rattle.pulsar_client.specs.declared.act.Request.{Request}
+use Rattle.pulsar_client.specs.declared.act.Request.TheVariants as request
 use Rattle.pulsar_client.specs.declared.act.Procedure.{Procedure}
 use Rattle.pulsar_client.specs.declared.act.Procedure.TheVariants as procedure
 use Rattle.pulsar_client.specs.declared.act.Action.{Action}
@@ -22,16 +24,17 @@ use Rattle.pulsar_client.specs.declared.tables.Base.TheVariants.{Nothing, Runs, 
 use Rattle.pulsar_client.specs.Content as content
 use Rattle.pulsar_client.specs.Content.{Asked, Heard, Called, Opened, FailedToOpen, Bytes, Lost, Drain, Said}
 use Rattle.pulsar_client.specs.Failures.{Exhausted}
-use Rattle.pulsar_client.specs.Link.{arrivals, fits_frame, Seen, seen, is_dialing, is_open, is_ready, kind_of, request_message, link_rule}
+use Rattle.pulsar_client.specs.Link.{arrivals, fits_frame, Seen, seen, is_dialing, is_open, is_ready, kind_of, awaited, is_numbered, request_message, link_rule}
 use Rattle.pulsar_client.specs.Plan.{failed, next}
 
 pub data Entry : Type 0 where
   Begins : Heard → Entry
   Does : Act → Entry
 
--- what a client's options say of a run: the number of the first request of each link
+-- what a client's options say of a run: the number of the first request of each link, and the clock
 pub record Chosen : Type 0 where
   pub first_number : ℕ
+  pub now : ℕ
 
 -- the greatest number of a counter, which is never given out
 abbrev pub spent : ℕ
@@ -124,6 +127,7 @@ waiting (_ ∷ log) = waiting log
 -- WHAT A RULE SEES
 
 pub record View : Type 0 where
+  pub now : ℕ
   pub calls : ℕ
   pub links : ℕ
   pub is_built : Bool
@@ -141,6 +145,7 @@ action_at (Some p) outcomes o = next p (outcomes ++ o ∷ [])
 abbrev pub view : Chosen → List Entry → View
 view o log =
     record {
+      now = o.now;
       calls = calls log;
       links = links log;
       is_built = built log;
@@ -159,14 +164,23 @@ gets Nothing t = Dials t ∷ Waits t ∷ []
 gets (Runs starter) t = Waits t ∷ []
 gets (Serves link) t = Told t (outcome.GotLink link) ∷ []
 
--- A request is asked for on a link: it is refused where the link isn't ready, where its numbers are spent, and where its
--- frame doesn't fit, and else queued.
+-- a call whose frame has no answer goes on once it is queued
+abbrev pub goes_on : ℕ → Option Awaited → List Act
+goes_on t None = Told t outcome.Queued ∷ []
+goes_on t (Some awaited) = []
+
+-- the number of a request that is not queued is spent
+abbrev pub spends : ℕ → Bool → List Act
+spends link numbered = if numbered then OnLink link Spends ∷ [] else []
+
+-- A request is asked for on a link: it is refused where the link isn't ready, where it needs a number and these are spent,
+-- and where its frame doesn't fit, and else queued.
 abbrev pub asks : ℕ → ℕ → Request → Seen → List Act
 asks t link request s =
     if is_ready s.stage then
-    (if s.next_id == spent then Told t outcome.Exhausted ∷ []
-    else if fits_frame (request_message s.next_id request) then OnLink link (Requests request t) ∷ []
-    else OnLink link Spends ∷ Told t outcome.Unencodable ∷ [])
+    (if is_numbered request && (s.next_id == spent) then Told t outcome.Exhausted ∷ []
+    else if fits_frame (request_message s.next_id request) then OnLink link (Requests request t) ∷ goes_on t (awaited s.next_id request)
+    else spends link (is_numbered request) ++ Told t outcome.Unencodable ∷ [])
     else Told t outcome.Disconnected ∷ []
 
 abbrev pub asks_on : ℕ → ℕ → Request → Option Seen → List Act
@@ -207,14 +221,15 @@ serves v _ = []
 
 -- EVENTS
 
--- the procedure of a call: it is refused where the client isn't built
-abbrev pub procedure_for : Bool → Asked → Procedure
-procedure_for is_built content.Build = procedure.Build
-procedure_for is_built (content.Topics namespace mode) = if is_built then procedure.Topics namespace mode else procedure.Refused
+-- the procedure of a call, at this moment: it is refused where the client isn't built
+abbrev pub procedure_for : Bool → (now : ℕ) → Asked → Procedure
+procedure_for is_built now content.Build = procedure.Build
+procedure_for is_built now (content.Topics namespace mode) = if is_built then procedure.Topics namespace mode else procedure.Refused
+procedure_for is_built now (content.Raw link words) = if is_built then procedure.Raw link (request.Raw now words) else procedure.Refused
 
 -- a call is made, unless the tickets are spent
 abbrev pub calls_for : View → Asked → List Act
-calls_for v c = if v.calls == spent then Answers spent (failed Exhausted) ∷ [] else Calls (procedure_for v.is_built c) ∷ []
+calls_for v c = if v.calls == spent then Answers spent (failed Exhausted) ∷ [] else Calls (procedure_for v.is_built v.now c) ∷ []
 
 -- an event is live where it names a live link, in a state that the link is in; a call always is
 abbrev pub is_live : View → Heard → Bool

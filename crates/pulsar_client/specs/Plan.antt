@@ -15,8 +15,8 @@ use Rattle.pulsar_client.specs.declared.act.Action.{Action}
 use Rattle.pulsar_client.specs.declared.act.Action.TheVariants.{Get, Ask, Answer, Finish, Rest}
 use Rattle.pulsar_frame.specs.Key.{answers}
 use Rattle.pulsar_client.specs.Failures.{Fault, Io, Disconnected, PulsarError, Encoding, UnexpectedResponse, Canceled, Shutdown, Exhausted, OfConnection}
-use Rattle.pulsar_client.specs.Content.{Said, Names, Failed}
-use Rattle.pulsar_client.specs.Messages.{Reply, read_body, is_number}
+use Rattle.pulsar_client.specs.Content.{Said, Done, Names, Receipt, Replies, Failed}
+use Rattle.pulsar_client.specs.Messages.{Reply, body_of, read_body, is_number}
 
 -- why a call fails at an outcome
 abbrev pub fault_of : Outcome → Fault
@@ -82,8 +82,41 @@ topics namespace mode [] = Get
 topics namespace mode (outcome.GotLink link ∷ os) = topics_asked link (request.Topics namespace mode) os
 topics namespace mode (o ∷ os) = ended (failed (fault_of o)) os
 
+-- RAW CALLS: ask on the link, and answer the reply, or nothing where the frame has none
+
+-- what the answer to a request is told as: a receipt, or its body as it is
+abbrev pub accepted : Reply → Said
+accepted r = if is_number 7 r.body then Receipt r.bytes else Replies (r.bytes ∷ [])
+
+-- the answer that a reply gives to the request with the body of this number
+abbrev pub raw_told : (request : ℕ) → Reply → Said
+raw_told request r = if is_answer request r.body then accepted r else failed (refused r r.body)
+
+-- the same, of the reply's body itself
+abbrev pub raw_of_body : (request : ℕ) → Option BodyValues → Said
+raw_of_body request body = raw_told request (read_body None body)
+
+abbrev pub raw_answer : (request : ℕ) → Outcome → Said
+raw_answer request (outcome.Replied r) = raw_told request r
+raw_answer request outcome.Queued = Done
+raw_answer request o = failed (fault_of o)
+
+-- the number of the body that a request writes
+abbrev pub request_number : Request → ℕ
+request_number (request.Topics namespace mode) = 32
+request_number (request.Raw now words) = (body_of 0 words).number
+
+abbrev pub raw_asked : (request : ℕ) → List Outcome → Action
+raw_asked request [] = Rest
+raw_asked request (o ∷ os) = ended (raw_answer request o) os
+
+abbrev pub raw : ℕ → Request → List Outcome → Action
+raw link words [] = Ask link words
+raw link words (o ∷ os) = raw_asked (request_number words) (o ∷ os)
+
 -- the next action of a procedure
 abbrev pub next : Procedure → List Outcome → Action
 next procedure.Build os = building os
 next (procedure.Topics namespace mode) os = topics namespace mode os
+next (procedure.Raw link words) os = raw link words os
 next procedure.Refused os = ended (failed Shutdown) os

@@ -6,8 +6,6 @@ use Rattle.std.specs.BTreeSet.{insert_key}
 use Rattle.std.specs.Option.{option_map}
 use Rattle.std.specs.List.{list_all}
 use Rattle.std.specs.Global.{Vec}
-use Rattle.pulsar_wire.specs.declared.key.RequestKey.{RequestKey}
-use Rattle.pulsar_wire.specs.declared.key.RequestKey.TheVariants.{RequestId, CloseConsumer}
 use Rattle.pulsar_client.specs.declared.event.Event.{Event}
 use Rattle.pulsar_client.specs.declared.effect.Effect.{Effect}
 use Rattle.pulsar_client.specs.declared.act.Outcome.{Outcome}
@@ -23,7 +21,6 @@ use Rattle.pulsar_client.specs.declared.act.Act.TheVariants.{Calls, Told, Dials,
 use Rattle.pulsar_client.specs.declared.plans.plan.Plan.{Plan}
 use Rattle.pulsar_client.specs.declared.plans.plan.Plan.TheVariants as plan
 use Rattle.pulsar_client.specs.declared.session.link.Link.{Link}
-use Rattle.pulsar_client.specs.declared.session.link.Waiter.{Waiter}
 use Rattle.pulsar_client.specs.declared.session.link.Stage.{Stage}
 use Rattle.pulsar_client.specs.declared.session.link.Stage.TheVariants.{Dialing, Handshaking, Ready, Over}
 use Rattle.pulsar_client.specs.declared.tables.Base.{Base}
@@ -32,24 +29,15 @@ use Rattle.pulsar_client.specs.declared.tables.Tables.{Tables}
 use Rattle.pulsar_client.specs.Content.{Heard, Bytes, Shown, heard, shown}
 use Rattle.pulsar_client.specs.Link.{Seen, Pending, drawn, frame_of, counted, left_by, left_waiting, with_frame, with_request}
 use Rattle.pulsar_client.specs.Messages.{Reply}
-use Rattle.pulsar_client.specs.Plan.{building, topics, topics_replied}
+use Rattle.pulsar_client.specs.Plan.{building, topics, topics_replied, request_number, raw_asked}
 use Rattle.pulsar_client.specs.Log.{Chosen, Entry, built, calls, procedure_of, outcomes_of, links, base, waiting, seen_link, unread_of, View, opens}
 use Rattle.pulsar_frame.specs.Frame.{left}
 use Rattle.pulsar_client.specs.Good.{rank, is_before, IsRun, Step, steps, due, to_come}
 
 -- LINKS
 
-abbrev pub waiting_at : ℕ × Waiter → Pending
-waiting_at e = record { id = e.0; place = e.1.place; ticket = e.1.ticket }
-
--- the number of the request that a frame of this key may answer
-abbrev pub request_id : Option RequestKey → Option ℕ
-request_id (Some (RequestId id)) = Some id
-request_id (Some (CloseConsumer consumer id)) = Some id
-request_id _ = None
-
-abbrev pub replied_to : Reply → Waiter → LinkAct
-replied_to m w = Settled w.place w.ticket (outcome.Replied m)
+abbrev pub replied : Reply → Pending → LinkAct
+replied m r = Settled r.place r.ticket (outcome.Replied m)
 
 abbrev pub contents : List (Vec ℕ) → List (List ℕ)
 contents frames = map (λ frame. frame.items) frames
@@ -62,7 +50,7 @@ table l =
       next_id = l.next_id;
       queued = l.queued;
       unwritten = contents l.unwritten.items;
-      pending = map waiting_at l.pending.entries;
+      pending = l.pending;
     }
 
 -- the same but for requests
@@ -101,6 +89,7 @@ after_act act s =
 abbrev pub start : Procedure → Option Plan
 start procedure.Build = Some plan.Building
 start (procedure.Topics namespace mode) = Some (plan.Asking namespace mode)
+start (procedure.Raw link words) = Some (plan.Raw (request_number words))
 start procedure.Refused = None
 
 abbrev pub asking_after : Outcome → Option Plan
@@ -122,6 +111,7 @@ reader None os = Rest
 reader (Some plan.Building) os = building os
 reader (Some (plan.Asking namespace mode)) os = topics namespace mode os
 reader (Some plan.Asked) os = topics_replied os
+reader (Some (plan.Raw words)) os = raw_asked words os
 
 abbrev pub plan_action : Option Plan → Outcome → Action
 plan_action row o = reader row (o ∷ [])
@@ -132,6 +122,7 @@ plan_action row o = reader row (o ∷ [])
 abbrev pub view_of : Tables → View
 view_of c =
     record {
+      now = c.now;
       calls = c.tickets;
       links = length c.links.items;
       is_built = c.built;
@@ -145,6 +136,7 @@ view_of c =
 -- the tables are those of the log
 pub record Reads (o : Chosen) (c : Tables) (log : List Entry) : Type 0 where
   pub first_is : c.first_number ≡ o.first_number
+  pub now_is : c.now ≡ o.now
   pub built_is : c.built ≡ built log
   pub tickets_is : c.tickets ≡ calls log
   pub calls_are : (t : ℕ) → get nat_cmp c.calls t ≡ stands (procedure_of t log) (outcomes_of t log)
@@ -178,6 +170,7 @@ unread_begun v _ l row = row
 
 pub record Begun (e : Heard) (old new : Tables) : Type 0 where
   pub first_same : new.first_number ≡ old.first_number
+  pub now_same : new.now ≡ old.now
   pub built_same : new.built ≡ old.built
   pub tickets_same : new.tickets ≡ old.tickets
   pub calls_same : (t : ℕ) → get nat_cmp new.calls t ≡ get nat_cmp old.calls t
@@ -237,6 +230,7 @@ pub record LinksFollow (first : ℕ) (act : Act) (old new : List Link) : Type 0 
 -- nothing but the links' table follows an act
 pub record LinksAlone (l : ℕ) (act : LinkAct) (old new : Tables) : Type 0 where
   pub first_same : new.first_number ≡ old.first_number
+  pub now_same : new.now ≡ old.now
   pub built_same : new.built ≡ old.built
   pub tickets_same : new.tickets ≡ old.tickets
   pub calls_same : new.calls ≡ old.calls
@@ -247,6 +241,7 @@ pub record LinksAlone (l : ℕ) (act : LinkAct) (old new : Tables) : Type 0 wher
 -- the client's tables after an act
 pub record Follows (act : Act) (old new : Tables) : Type 0 where
   pub first_same : new.first_number ≡ old.first_number
+  pub now_same : new.now ≡ old.now
   pub built_is : new.built ≡ built_after act old.built
   pub tickets_is : new.tickets ≡ tickets_after act old.tickets
   pub calls_are : (t : ℕ) → get nat_cmp new.calls t ≡ call_after act old.tickets t (get nat_cmp old.calls t)

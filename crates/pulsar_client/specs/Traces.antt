@@ -11,9 +11,9 @@ use Rattle.pulsar_client.specs.Messages.{connect_message, topics_message}
 use Rattle.pulsar_client.specs.Log.{Chosen}
 use Rattle.pulsar_client.specs.Good.{Step, Good, base_host, base_port}
 
--- requests are numbered from 0
+-- requests are numbered from 0, at moment 0
 abbrev pub numbered_from_zero : Chosen
-numbered_from_zero = record { first_number = 0 }
+numbered_from_zero = record { first_number = 0; now = 0 }
 
 -- an event with its effects
 abbrev pub step_of : Heard → List Shown → Step

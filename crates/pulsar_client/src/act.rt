@@ -1,6 +1,6 @@
 //! What a step is made of: acts, each one thing that happens to one thing.
 
-use crate::content::{Received, Text, Verdict};
+use crate::content::{RawRequest, Received, Text, Verdict};
 use pulsar_wire::commands::topics::Mode;
 use pulsar_wire::error::{IoKind, Reason};
 
@@ -29,12 +29,29 @@ pub enum Outcome {
     Exhausted,
     /// A size of its frame does not fit.
     Unencodable,
+    /// Its frame, which has no answer, is queued.
+    Queued,
+}
+
+/// What a request waits for: the answer to the request of this number, or to the message of this number of a producer.
+#[derive(Clone, Copy, PartialEq, Eq, PartialOrd, Ord)]
+pub struct Awaited {
+    pub producer: Option<u64>,
+    pub number: u64,
 }
 
 /// What a call asks of the broker.
 #[derive(Drop)]
 pub enum Request {
-    Topics { namespace: Text, mode: Mode },
+    Topics {
+        namespace: Text,
+        mode: Mode,
+    },
+    /// These words, at this moment in milliseconds since 1970.
+    Raw {
+        now: u64,
+        words: RawRequest,
+    },
 }
 
 /// A call's procedure, with its words.
@@ -42,6 +59,8 @@ pub enum Request {
 pub enum Procedure {
     Build,
     Topics { namespace: Text, mode: Mode },
+    /// A request on this link.
+    Raw { link: u64, request: Request },
     /// The client was not built.
     Refused,
 }
@@ -107,7 +126,7 @@ pub enum LinkAct {
     Loses,
     Comes(Arrival),
     Drains(u64),
-    /// A request of this call is queued.
+    /// A frame of this call is queued. Where an answer is awaited, the call waits for it.
     Requests {
         request: Request,
         ticket: u64,

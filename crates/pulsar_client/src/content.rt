@@ -4,10 +4,12 @@ ghost use Rattle.std.specs.Prelude.{◌≡◌, ℕ, List, IfOk, string_bytes};
 ghost use Rattle.pulsar_frame.specs.Shown.{message_values};
 ghost use Rattle.pulsar_client.specs.Content.{Said, said};
 ghost use Rattle.pulsar_client.specs.Messages.{Reply, is_connected, read};
+ghost use Rattle.pulsar_client.specs.RawCall.{Words, words};
 ghost use Rattle.pulsar_wire.specs.contracts.error.Error as errors;
 ghost use Rattle.std.specs.Coded.{codes};
 
 use crate::effect::Answer;
+use crate::raw_call::RawCall;
 use pulsar_frame::message::Message;
 use pulsar_wire::error::{Error, NoMemory};
 use pulsar_wire::key::RequestKey;
@@ -47,6 +49,46 @@ impl Text {
     }
 }
 
+/// What is asked of a link.
+#[derive(Drop)]
+pub struct RawRequest {
+    call: RawCall,
+}
+
+impl Model for RawRequest {
+    ghost Value = { Words };
+
+    ghost view = { λ r. words r.call };
+}
+
+impl RawRequest {
+    pub fn new(call: RawCall) -> RawRequest
+        ensures { result ≡ words call }
+    {
+        RawRequest { call }
+    }
+
+    pub fn copy(&self) -> Result<RawRequest, NoMemory>
+        ensures { IfOk result (λ r. r ≡ self.now) }
+    {
+        let call = self.call.copy()?;
+        Ok(RawRequest { call })
+    }
+
+    pub fn call(&self) -> &RawCall
+        ensures { words result.now ≡ self.now }
+    {
+        &self.call
+    }
+
+    pub fn into_inner(self) -> RawCall
+        ensures { words result ≡ self }
+    {
+        let RawRequest { call } = self;
+        call
+    }
+}
+
 /// A message of the broker, as the client reads it.
 #[derive(Drop)]
 pub struct Received {
@@ -80,6 +122,14 @@ impl Received {
             Some(body) => body.number() == 3,
             None => false,
         }
+    }
+
+    /// A message that reads the same.
+    pub fn copy(&self) -> Result<Received, NoMemory>
+        ensures { IfOk result (λ r. r ≡ self.now) }
+    {
+        let message = self.message.copy()?;
+        Ok(Received { message })
     }
 
     pub fn into_message(self) -> Message

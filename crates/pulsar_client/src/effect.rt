@@ -1,5 +1,7 @@
 //! What a client wants done, and tells.
 
+use pulsar_wire::commands::base::Body;
+use pulsar_wire::commands::producer::CommandSendReceipt;
 use pulsar_wire::error::Error;
 
 /// How the wait of a request for its reply ended.
@@ -17,6 +19,10 @@ pub enum Answer {
     Done,
     /// The names of topics, in the order of the reply.
     Topics(Vec<String>),
+    /// The receipt of a message that was sent.
+    Receipt(CommandSendReceipt),
+    /// What the broker replied to a raw call.
+    Replies(Vec<Body>),
 }
 
 /// One effect of a step.

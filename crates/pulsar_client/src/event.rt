@@ -1,5 +1,6 @@
 //! What comes to a client.
 
+use crate::raw_call::RawCall;
 use pulsar_wire::commands::topics::Mode;
 use pulsar_wire::error::IoKind;
 
@@ -10,6 +11,8 @@ pub enum Call {
     Build,
     /// Asks for the topics of a namespace.
     Topics { namespace: String, mode: Mode },
+    /// Asks on this connection by itself.
+    Raw { link: u64, call: RawCall },
 }
 
 /// What happens to the client, one at a time. Connections are numbered from 0 in the order of their Connect effects.

@@ -11,6 +11,7 @@ mod order;
 pub mod outside;
 mod plans;
 pub mod pulsar;
+pub mod raw_call;
 mod session;
 mod tables;
 #[cfg(test)]

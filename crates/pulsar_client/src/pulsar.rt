@@ -29,7 +29,7 @@ impl Pulsar {
         requires { string_bytes options.url ≡ codes "pulsar://127.0.0.1:6650" }
         ensures { IfOk result (λ c. StandsFor (chosen options) c []) }
     {
-        let tables = Tables::new(alloc, options.first_number);
+        let tables = Tables::new(alloc, options.first_number, options.now);
         Ok(Pulsar {
             options,
             tables,

@@ -6,11 +6,12 @@ ghost use Rattle.std.specs.Option.{option_map};
 ghost use Rattle.std.specs.Ordering.{nat_cmp};
 ghost use Rattle.pulsar_client.specs.Content.{Heard, Bytes, asked, heard, shown};
 ghost use Rattle.pulsar_client.specs.Good.{Step, effect, effect_at, put_some};
-ghost use Rattle.pulsar_client.specs.Log.{Chosen, asks_on, at_once, brings, calls_for, dials, fails, frames_of, opens, gets, is_live, link_acts, performs, procedure_for, serves};
+ghost use Rattle.pulsar_client.specs.Link.{awaited};
+ghost use Rattle.pulsar_client.specs.Log.{Chosen, asks_on, at_once, brings, calls_for, dials, fails, frames_of, goes_on, opens, gets, is_live, link_acts, performs, procedure_for, serves, spends};
 ghost use Rattle.pulsar_client.specs.Tables.{Begun, Follows, InStep, LinksAlone, LinksFollow, Stands, step, table_at, view_of};
 
 use crate::act::{Act, Action, Arrival, End, LinkAct, Outcome, Procedure, Request};
-use crate::content::{Text, Verdict};
+use crate::content::{RawRequest, Text, Verdict};
 use crate::effect::{Answer, Effect};
 use crate::event::{Call, Event};
 use crate::options::ClientOptions;
@@ -41,6 +42,8 @@ pub enum Base {
 pub struct Tables {
     pub alloc: Global,
     pub first_number: u64,
+    /// The clock, in milliseconds since 1970.
+    pub now: u64,
     /// A Build call has ended Ok.
     pub built: bool,
     /// How many tickets were drawn.
@@ -54,12 +57,13 @@ pub struct Tables {
 }
 
 impl Tables {
-    pub fn new(alloc: Global, first_number: u64) -> Tables
-        ensures { Stands (record { first_number = first_number }) result [] }
+    pub fn new(alloc: Global, first_number: u64, now: u64) -> Tables
+        ensures { Stands (record { first_number = first_number; now = now }) result [] }
     {
         Tables {
             alloc,
             first_number,
+            now,
             built: false,
             tickets: 0,
             calls: BTreeMap::new(alloc),
@@ -138,7 +142,7 @@ impl Tables {
                 verdict: Verdict::new(Err(Error::Connection(ConnectionError::Exhausted))),
             })?;
         } else {
-            due.push_back(Act::Calls(procedure_for(self.built, call)?))?;
+            due.push_back(Act::Calls(procedure_for(self.built, self.now, call)?))?;
         }
         Ok(())
     }
@@ -357,21 +361,13 @@ impl Tables {
             Some(row) => {
                 if !row.is_ready() {
                     refuse(ticket, Outcome::Disconnected, due)
-                } else if row.next_id == u64::MAX {
+                } else if request.is_numbered() && row.next_id == u64::MAX {
                     refuse(ticket, Outcome::Exhausted, due)
-                } else if request.fits(row.next_id)? {
-                    due.push_front(Act::OnLink {
-                        link,
-                        act: LinkAct::Requests { request, ticket },
-                    })?;
-                    Ok(())
+                } else if request.fits(self.alloc, row.next_id)? {
+                    queue(ticket, link, request, due)
                 } else {
                     refuse(ticket, Outcome::Unencodable, due)?;
-                    due.push_front(Act::OnLink {
-                        link,
-                        act: LinkAct::Spends,
-                    })?;
-                    Ok(())
+                    spend(link, request.is_numbered(), due)
                 }
             }
         }
@@ -506,8 +502,8 @@ fn bring(is_live: bool, link: u64, act: LinkAct, due: &mut VecDeque<Act>) -> Res
 }
 
 /// The procedure of a call.
-fn procedure_for(built: bool, call: &Call) -> Result<Procedure, NoMemory>
-    ensures { IfOk result (λ p. p ≡ procedure_for built (asked call.now)) }
+fn procedure_for(built: bool, now: u64, call: &Call) -> Result<Procedure, NoMemory>
+    ensures { IfOk result (λ p. p ≡ procedure_for built now (asked call.now)) }
 {
     match call {
         Call::Build => Ok(Procedure::Build),
@@ -521,6 +517,19 @@ fn procedure_for(built: bool, call: &Call) -> Result<Procedure, NoMemory>
                 Ok(Procedure::Refused)
             }
         }
+        Call::Raw { link, call } => {
+            if built {
+                Ok(Procedure::Raw {
+                    link: *link,
+                    request: Request::Raw {
+                        now,
+                        words: RawRequest::new(call.copy()?),
+                    },
+                })
+            } else {
+                Ok(Procedure::Refused)
+            }
+        }
     }
 }
 
@@ -529,6 +538,41 @@ fn refuse(ticket: u64, outcome: Outcome, due: &mut VecDeque<Act>) -> Result<(), 
     ensures { OnOk result (due.new.items ≡ Act.Told ticket outcome ∷ due.old.items) }
 {
     due.push_front(Act::Told { ticket, outcome })?;
+    Ok(())
+}
+
+/// A frame of a call is queued. Where it has no answer, the call goes on.
+fn queue(
+    ticket: u64,
+    link: u64,
+    request: Request,
+    due: &mut VecDeque<Act>,
+) -> Result<(), NoMemory>
+    ensures { OnOk result ((id : ℕ) → due.new.items ≡ (Act.OnLink link (LinkAct.Requests request ticket) ∷ goes_on ticket (awaited id request)) ++ due.old.items) }
+{
+    if !request.is_answered() {
+        due.push_front(Act::Told {
+            ticket,
+            outcome: Outcome::Queued,
+        })?;
+    }
+    due.push_front(Act::OnLink {
+        link,
+        act: LinkAct::Requests { request, ticket },
+    })?;
+    Ok(())
+}
+
+/// The number of a request that is not queued is spent.
+fn spend(link: u64, is_numbered: bool, due: &mut VecDeque<Act>) -> Result<(), NoMemory>
+    ensures { OnOk result (due.new.items ≡ spends link is_numbered ++ due.old.items) }
+{
+    if is_numbered {
+        due.push_front(Act::OnLink {
+            link,
+            act: LinkAct::Spends,
+        })?;
+    }
     Ok(())
 }
 

@@ -26,6 +26,7 @@ fn options(alloc: Global) -> Result<ClientOptions, NoMemory>
 {
     Ok(ClientOptions {
         url: String::from_str(alloc, "pulsar://127.0.0.1:6650")?,
+        now: 0,
         first_number: 0,
     })
 }

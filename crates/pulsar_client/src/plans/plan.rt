@@ -1,9 +1,11 @@
 //! The procedures of the calls, as machines over their outcomes.
 
-ghost use Rattle.std.specs.Prelude.{◌≡◌, [], ◌∷◌, Some, IfOk};
+ghost use Rattle.std.specs.Prelude.{◌≡◌, [], ◌∷◌, None, Some, IfOk};
 ghost use Rattle.pulsar_wire.specs.Views.{body_values};
 ghost use Rattle.pulsar_client.specs.Failures.{UnexpectedResponse, fault};
-ghost use Rattle.pulsar_client.specs.Plan.{next, failed, fault_of, building, topics, topics_answer, topics_told, topics_of_body};
+ghost use Rattle.pulsar_client.specs.Messages.{read_body};
+ghost use Rattle.pulsar_frame.specs.Key.{answers};
+ghost use Rattle.pulsar_client.specs.Plan.{next, accepted, failed, fault_of, building, raw_answer, raw_of_body, raw_told, refused, topics, topics_answer, topics_told, topics_of_body};
 ghost use Rattle.pulsar_client.specs.Tables.{start, plan_action, plan_after};
 
 use crate::act::{Action, Outcome, Procedure, Request};
@@ -26,6 +28,8 @@ pub enum Plan {
     Asking { namespace: Text, mode: Mode },
     /// It waits for the topics.
     Asked,
+    /// It waits for the answer to a request with the body of this number.
+    Raw(u32),
 }
 
 /// What a call does first, and where it stands then.
@@ -37,6 +41,10 @@ pub fn begun(procedure: Procedure) -> (Action, Option<Plan>)
         Procedure::Build => (Action::Get, Some(Plan::Building)),
         Procedure::Topics { namespace, mode } => {
             (Action::Get, Some(Plan::Asking { namespace, mode }))
+        }
+        Procedure::Raw { link, request } => {
+            let number = request.number();
+            (Action::Ask { link, request }, Some(Plan::Raw(number)))
         }
         Procedure::Refused => (failing(ConnectionError::Shutdown), None),
     }
@@ -51,6 +59,7 @@ pub fn told(alloc: Global, plan: Plan, outcome: Outcome) -> Result<(Action, Opti
         Plan::Building => Ok((building(outcome), None)),
         Plan::Asking { namespace, mode } => Ok(asking(namespace, mode, outcome)),
         Plan::Asked => Ok((Action::Answer(topics_answer(alloc, outcome)?), None)),
+        Plan::Raw(request) => Ok((Action::Answer(raw_answer(alloc, request, outcome)?), None)),
     }
 }
 
@@ -119,6 +128,81 @@ fn topics_of(body: CommandGetTopicsOfNamespaceResponse) -> Verdict
     Verdict::new(Ok(Answer::Topics(body.topics)))
 }
 
+fn raw_answer(alloc: Global, request: u32, outcome: Outcome) -> Result<Verdict, NoMemory>
+    ensures { IfOk result (λ v. v ≡ raw_answer request outcome) }
+{
+    match outcome {
+        Outcome::Replied(reply) => raw_told(alloc, request, reply),
+        Outcome::Queued => Ok(Verdict::new(Ok(Answer::Done))),
+        outcome => Ok(failure(error_of(&outcome))),
+    }
+}
+
+/// What a reply answers to the request with the body of this number.
+fn raw_told(alloc: Global, request: u32, reply: Received) -> Result<Verdict, NoMemory>
+    ensures { IfOk result (λ v. v ≡ raw_told request reply) }
+{
+    let Message {
+        command,
+        payload: _,
+    } = reply.into_message();
+    match command.body {
+        Some(body) => raw_of_body(alloc, request, body),
+        None => Ok(failure(unexpected(alloc, "none")?)),
+    }
+}
+
+fn raw_of_body(alloc: Global, request: u32, body: Body) -> Result<Verdict, NoMemory>
+    ensures { IfOk result (λ v. v ≡ raw_of_body request (Some (body_values body))) }
+{
+    match answer_of(request) {
+        Some(answer) if answer == body.number() => accepted(alloc, body),
+        _ => refused(alloc, body),
+    }
+}
+
+/// Why a body that answers no raw call fails it.
+fn refused(alloc: Global, body: Body) -> Result<Verdict, NoMemory>
+    ensures { IfOk result (λ v. v ≡ failed (refused (read_body None (Some (body_values body))) (Some (body_values body).number))) }
+{
+    match body {
+        Body::Error(body) => Ok(failure(told_error(body))),
+        body => Ok(failure(unexpected(alloc, body.name())?)),
+    }
+}
+
+/// The body that answers a raw call, as it is told.
+fn accepted(alloc: Global, body: Body) -> Result<Verdict, NoMemory>
+    ensures { IfOk result (λ v. v ≡ accepted (read_body None (Some (body_values body)))) }
+{
+    match body {
+        Body::SendReceipt(receipt) => Ok(Verdict::new(Ok(Answer::Receipt(receipt)))),
+        body => {
+            let mut bodies = Vec::new(alloc);
+            bodies.push(body)?;
+            Ok(Verdict::new(Ok(Answer::Replies(bodies))))
+        }
+    }
+}
+
+/// The number of the body that answers the body of this number.
+fn answer_of(request: u32) -> Option<u32>
+    ensures { result ≡ answers request }
+{
+    match request {
+        6 => Some(7),
+        5 => Some(17),
+        4 | 12 | 15 | 16 | 28 => Some(13),
+        21 => Some(22),
+        23 => Some(24),
+        25 => Some(26),
+        29 => Some(30),
+        32 => Some(33),
+        34 => Some(35),
+        _ => None,
+    }
+}
+
 /// The error that the broker tells.
 #[tactic(auto, unfolding(pulsar_wire::specs::Views::error_values))]
 fn told_error(body: CommandError) -> ConnectionError
@@ -155,8 +239,9 @@ fn error_of(outcome: &Outcome) -> ConnectionError
         Outcome::Canceled => ConnectionError::Canceled,
         Outcome::Exhausted => ConnectionError::Exhausted,
         Outcome::Unencodable => ConnectionError::Encoding(Reason::Frame),
-        Outcome::GotLink(_) | Outcome::Replied(_) | Outcome::Disconnected => {
-            ConnectionError::Disconnected
-        }
+        Outcome::GotLink(_)
+        | Outcome::Replied(_)
+        | Outcome::Disconnected
+        | Outcome::Queued => ConnectionError::Disconnected,
     }
 }

@@ -1,29 +1,28 @@
 //! What a link makes of an act.
 
 ghost use Rattle.std.specs.Prelude.{◌≡◌, ◌≤◌, ◌∷◌, ◌+◌, [], ◌++◌, ℕ, None, Some, OnOk, IfOk, map, take, drop};
-ghost use Rattle.std.specs.BTreeMap.{get};
 ghost use Rattle.std.specs.List.{flat_map};
-ghost use Rattle.std.specs.Option.{option_map, option_to_list};
-ghost use Rattle.std.specs.Ordering.{nat_cmp};
+ghost use Rattle.std.specs.Option.{option_map};
 ghost use Rattle.pulsar_frame.specs.Frame.{frame_bytes, left};
-ghost use Rattle.pulsar_client.specs.Messages.{Reply};
 ghost use Rattle.pulsar_frame.specs.Shown.{message_values};
 ghost use Rattle.pulsar_client.specs.Content.{shown};
 ghost use Rattle.pulsar_client.specs.Good.{link_effect, queues, settlement_of};
-ghost use Rattle.pulsar_client.specs.Link.{arrivals, at_arrival, at_failure, at_loss, at_opening, disconnected, left_waiting, link_rule, settled};
-ghost use Rattle.pulsar_client.specs.Tables.{KeepsFrames, after_act, replied_to, request_id, blank, contents, table, waiting_at};
+ghost use Rattle.pulsar_client.specs.Link.{arrivals, at_arrival, at_failure, at_loss, at_opening, disconnected, draws, left_waiting, link_rule, settled, waits_for};
+ghost use Rattle.pulsar_client.specs.Tables.{KeepsFrames, after_act, replied, blank, contents, table};
+ghost use Rattle.pulsar_client.specs.Waiting.{pending_at, pending_of};
 
-use crate::act::{Act, Arrival, End, LinkAct, Outcome, Request};
+use crate::act::{Act, Arrival, Awaited, End, LinkAct, Outcome, Request};
 use crate::content::Received;
 use crate::effect::{Effect, Settlement};
-use crate::session::link::{Link, Stage, Waiter};
+use crate::session::link::{Link, Stage};
 use crate::session::messages;
+use crate::session::waiting::{Waiter, Waiting, awaited_by};
 use pulsar_frame::message::Message;
 use pulsar_frame::reader::FrameReader;
 use pulsar_wire::error::{ConnectionError, IoKind, NoMemory};
-use pulsar_wire::key::RequestKey;
 use std::alloc::Global;
 use std::collections::{BTreeMap, VecDeque};
+use std::mem::replace;
 
 impl Link {
     pub fn new(alloc: Global, first: u64) -> Link
@@ -35,7 +34,7 @@ impl Link {
             next_id: first,
             queued: 0,
             unwritten: VecDeque::new(alloc),
-            pending: BTreeMap::new(alloc),
+            pending: Waiting::new(alloc),
             reader: FrameReader::new(alloc),
         }
     }
@@ -80,61 +79,47 @@ fn frame_of(alloc: Global, message: &Message) -> Result<Vec<u8>, NoMemory>
     }
 }
 
-/// The number of the request that a frame of this key may answer.
-fn request_id(key: Option<RequestKey>) -> Option<u64>
-    ensures { result ≡ request_id key }
+fn reply(link: u64, waiter: Waiter, message: Received) -> Act
+    ensures { result ≡ Act.OnLink link (replied message (pending_of waiter)) }
 {
-    match key {
-        Some(RequestKey::RequestId(id)) => Some(id),
-        Some(RequestKey::CloseConsumer { request_id, .. }) => Some(request_id),
-        Some(
-            RequestKey::ProducerSend { .. }
-            | RequestKey::Consumer { .. }
-            | RequestKey::AuthChallenge,
-        )
-        | None => None,
-    }
-}
-
-/// The request of this number waits no longer.
-fn take_waiter(pending: &mut BTreeMap<u64, Waiter>, id: Option<u64>) -> Option<Waiter>
-    ensures settled { (m : Reply) → request_id m.key ≡ id → option_to_list (option_map (replied_to m) result) ≡ settled (LinkAct.Comes (Arrival.Message m)) (map waiting_at pending.old.entries) }
-    ensures left { (m : Reply) → request_id m.key ≡ id → map waiting_at pending.new.entries ≡ left_waiting (LinkAct.Comes (Arrival.Message m)) (map waiting_at pending.old.entries) }
-    ensures others { (k : ℕ) → get nat_cmp pending.old k ≡ None → get nat_cmp pending.new k ≡ None }
-{
-    match id {
-        Some(id) => pending.remove(&id),
-        None => None,
-    }
-}
-
-/// The request that a message answers waits no longer.
-fn settle(pending: &mut BTreeMap<u64, Waiter>, message: Received) -> Option<LinkAct>
-    ensures settled { option_to_list result ≡ settled (LinkAct.Comes (Arrival.Message message)) (map waiting_at pending.old.entries) }
-    ensures left { map waiting_at pending.new.entries ≡ left_waiting (LinkAct.Comes (Arrival.Message message)) (map waiting_at pending.old.entries) }
-    ensures others { (k : ℕ) → get nat_cmp pending.old k ≡ None → get nat_cmp pending.new k ≡ None }
-{
-    match take_waiter(pending, request_id(message.key())) {
-        Some(waiter) => Some(LinkAct::Settled {
+    Act::OnLink {
+        link,
+        act: LinkAct::Settled {
             place: waiter.place,
             ticket: waiter.ticket,
             outcome: Outcome::Replied(message),
-        }),
-        None => None,
+        },
     }
 }
 
-/// All requests that wait are disconnected, in front of all that is due.
+/// Requests are settled with this reply, in front of all that is due.
+fn reply_all(
+    link: u64,
+    mut waiters: VecDeque<Waiter>,
+    message: Received,
+    due: &mut VecDeque<Act>,
+) -> Result<(), NoMemory>
+    ensures { OnOk result (due.new.items ≡ map (Act.OnLink link) (map (replied message) (map pending_of waiters.items)) ++ due.old.items) }
+{
+    let Some(first) = waiters.pop_front() else {
+        return Ok(());
+    };
+    while let Some(waiter) = waiters.pop_back() {
+        due.push_front(reply(link, waiter, message.copy()?))?;
+    }
+    due.push_front(reply(link, first, message))?;
+    Ok(())
+}
+
+/// Requests are disconnected, in front of all that is due.
 fn disconnect_all(
-    pending: &mut BTreeMap<u64, Waiter>,
+    mut waiters: BTreeMap<u64, Waiter>,
     link: u64,
     due: &mut VecDeque<Act>,
 ) -> Result<(), NoMemory>
-    ensures due { OnOk result (due.new.items ≡ map (Act.OnLink link) (map disconnected (map waiting_at pending.old.entries)) ++ due.old.items) }
-    ensures none { OnOk result (pending.new.entries ≡ []) }
-    ensures others { (id : ℕ) → get nat_cmp pending.old id ≡ None → get nat_cmp pending.new id ≡ None }
+    ensures { OnOk result (due.new.items ≡ map (Act.OnLink link) (map disconnected (map pending_at waiters.entries)) ++ due.old.items) }
 {
-    while let Some((_, waiter)) = pending.pop_last() {
+    while let Some((_, waiter)) = waiters.pop_last() {
         due.push_front(Act::OnLink {
             link,
             act: LinkAct::Settled {
@@ -209,7 +194,7 @@ impl Link {
                 Ok(None)
             }
             LinkAct::Comes(arrival) => {
-                self.comes(link, arrival, due)?;
+                self.comes(alloc, link, arrival, due)?;
                 Ok(None)
             }
             LinkAct::Drains(most) => self.drains(alloc, link, most),
@@ -227,7 +212,7 @@ impl Link {
                 self.stage = Stage::Ready;
                 Ok(None)
             }
-            LinkAct::Ended(end) => self.ends(link, end, due),
+            LinkAct::Ended(end) => self.ends(alloc, link, end, due),
             LinkAct::Settled {
                 place,
                 ticket: _,
@@ -254,6 +239,7 @@ impl Link {
 
     fn ends(
         &mut self,
+        alloc: Global,
         link: u64,
         end: End,
         due: &mut VecDeque<Act>,
@@ -263,7 +249,8 @@ impl Link {
         ensures table { OnOk result (table self.new ≡ after_act (LinkAct.Ended end) (table self.old)) }
         ensures unread { OnOk result (self.new.reader ≡ self.old.reader) }
     {
-        disconnect_all(&mut self.pending, link, due)?;
+        let waiting = replace(&mut self.pending, Waiting::new(alloc));
+        disconnect_all(waiting.into_waiters(), link, due)?;
         self.unwritten.clear();
         self.stage = Stage::Over;
         Ok(if end.is_closed() {
@@ -299,6 +286,7 @@ impl Link {
 
     fn comes(
         &mut self,
+        alloc: Global,
         link: u64,
         arrival: Arrival,
         due: &mut VecDeque<Act>,
@@ -318,12 +306,32 @@ impl Link {
             }
             Arrival::Message(message) => {
                 self.greeted(link, &message, due)?;
-                if let Some(act) = settle(&mut self.pending, message) {
-                    due.push_front(Act::OnLink { link, act })?;
-                }
+                self.settle(alloc, link, message, due)?;
             }
         }
         Ok(())
+    }
+
+    /// The requests that a message answers wait no longer.
+    fn settle(
+        &mut self,
+        alloc: Global,
+        link: u64,
+        message: Received,
+        due: &mut VecDeque<Act>,
+    ) -> Result<(), NoMemory>
+        ensures due { OnOk result (due.new.items ≡ map (Act.OnLink link) (settled (LinkAct.Comes (Arrival.Message message)) self.old.pending) ++ due.old.items) }
+        ensures pending { OnOk result (self.new.pending ≡ left_waiting (LinkAct.Comes (Arrival.Message message)) self.old.pending) }
+        ensures next { OnOk result (self.new.next_id ≡ self.old.next_id) }
+        ensures others { OnOk result (KeepsFrames self.old self.new) }
+    {
+        let Some(awaited) = awaited_by(message.key()) else {
+            return Ok(());
+        };
+        let waiting = replace(&mut self.pending, Waiting::new(alloc));
+        let (settled, left) = waiting.settle(alloc, awaited)?;
+        self.pending = left;
+        reply_all(link, settled, message, due)
     }
 
     /// The first message makes the link ready, or ends it.
@@ -372,26 +380,31 @@ impl Link {
         ensures table { OnOk result (table self.new ≡ after_act (LinkAct.Requests request ticket) (table self.old)) }
         ensures unread { OnOk result (self.new.reader ≡ self.old.reader) }
     {
-        let id = self.next_id;
-        let frame = frame_of(alloc, &request.into_message(id))?;
-        let waiter = Waiter {
-            place: self.queued,
-            ticket,
-        };
-        self.waits(id, waiter)?;
+        let awaited = request.awaited(self.next_id);
+        let message = request.into_message(alloc, self.next_id)?;
+        let frame = frame_of(alloc, &message)?;
+        if let Some(awaits) = awaited {
+            self.waits(alloc, awaits, ticket)?;
+        }
         self.queues(link, frame)
     }
 
-    /// A request waits under the next number.
-    fn waits(&mut self, id: u64, waiter: Waiter) -> Result<(), NoMemory>
-        requires { id ≡ self.old.next_id }
-        ensures pending { OnOk result (map waiting_at self.new.pending.entries ≡ map waiting_at self.old.pending.entries ++ waiting_at (id, waiter) ∷ []) }
-        ensures next { OnOk result (self.new.next_id ≡ self.old.next_id + 1) }
+    /// A request that is queued at the next place waits, and draws a number of the link where it is answered by that.
+    fn waits(&mut self, alloc: Global, awaits: Awaited, ticket: u64) -> Result<(), NoMemory>
+        ensures pending { OnOk result (self.new.pending ≡ self.old.pending ++ waits_for (Some awaits) self.old.queued ticket) }
+        ensures next { OnOk result (self.new.next_id ≡ (if draws (Some awaits) then self.old.next_id + 1 else self.old.next_id)) }
         ensures others { OnOk result (KeepsFrames self.old self.new) }
     {
-        let next = id.checked_add(1).ok_or(NoMemory)?;
-        self.next_id = next;
-        self.pending.insert(id, waiter)?;
+        let waiter = Waiter {
+            awaits,
+            place: self.queued,
+            ticket,
+        };
+        let waiting = replace(&mut self.pending, Waiting::new(alloc));
+        self.pending = waiting.with(alloc, waiter)?;
+        if awaits.producer.is_none() {
+            self.next_id = self.next_id.checked_add(1).ok_or(NoMemory)?;
+        }
         Ok(())
     }
 
@@ -420,6 +433,7 @@ pub fn settlement(outcome: &Outcome) -> Settlement
         | Outcome::Canceled
         | Outcome::Disconnected
         | Outcome::Exhausted
-        | Outcome::Unencodable => Settlement::Disconnected,
+        | Outcome::Unencodable
+        | Outcome::Queued => Settlement::Disconnected,
     }
 }

@@ -1,12 +1,11 @@
 //! One link.
 
-ghost use Rattle.std.specs.Prelude.{◌≡◌, ◌≤◌, ℕ, None};
-ghost use Rattle.std.specs.BTreeMap.{get};
-ghost use Rattle.std.specs.Ordering.{nat_cmp};
+ghost use Rattle.std.specs.Prelude.{◌≡◌};
 ghost use Rattle.pulsar_client.specs.Link.{is_dialing, is_open, is_ready};
 
+use crate::session::waiting::Waiting;
 use pulsar_frame::reader::FrameReader;
-use std::collections::{BTreeMap, VecDeque};
+use std::collections::VecDeque;
 
 /// Where a link stands.
 #[derive(Clone, Copy, PartialEq, Eq)]
@@ -15,13 +14,6 @@ pub enum Stage {
     Handshaking,
     Ready,
     Over,
-}
-
-/// A request that waits for its reply.
-#[derive(Clone, Copy)]
-pub struct Waiter {
-    pub place: u64,
-    pub ticket: u64,
 }
 
 /// One link.
@@ -34,10 +26,9 @@ pub struct Link {
     pub queued: u64,
     /// The frames that are queued and not written.
     pub unwritten: VecDeque<Vec<u8>>,
-    /// The requests that wait, by their number.
-    pub pending: BTreeMap<u64, Waiter>,
+    /// The requests that wait for an answer.
+    pub pending: Waiting,
     pub reader: FrameReader,
-    ghost fresh: { (id : ℕ) → next_id ≤ id → get nat_cmp pending id ≡ None },
 }
 
 impl Link {

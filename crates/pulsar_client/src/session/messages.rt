@@ -1,18 +1,32 @@
 //! The messages that the client writes.
 
-ghost use Rattle.std.specs.Prelude.{◌≡◌, IfOk, string_bytes};
+ghost use Rattle.std.specs.Prelude.{◌≡◌, ℕ, Bool, IfOk, map, string_bytes};
+ghost use Rattle.std.specs.Option.{is_some, option_map};
+ghost use Rattle.pulsar_wire.specs.Views.{body_values, key_value_values};
+ghost use Rattle.pulsar_frame.specs.Payload.{payload_values};
 ghost use Rattle.pulsar_frame.specs.Shown.{message_values};
-ghost use Rattle.pulsar_client.specs.Link.{fits_frame, request_message};
-ghost use Rattle.pulsar_wire.specs.Views.{body_values};
-ghost use Rattle.pulsar_client.specs.Messages.{bare, connect_message, topics_message};
+ghost use Rattle.pulsar_client.specs.RawCall.{Ack, CloseConsumer, CloseProducer, CreateProducer, Flow, Send, Subscribe, id_of, outgoing, property};
+ghost use Rattle.pulsar_client.specs.Link.{awaited, fits_frame, is_numbered, numbered, raw_awaited, request_message};
+ghost use Rattle.pulsar_client.specs.Messages.{bare, body_of, connect_message, metadata_of, property_values, raw_message, topics_message};
+ghost use Rattle.pulsar_client.specs.Plan.{request_number};
 
-use crate::act::Request;
+use crate::act::{Awaited, Request};
+use crate::content::RawRequest;
+use crate::raw_call::{ProducerMessage, RawCall};
 use pulsar_frame::message::Message;
+use pulsar_frame::payload::Payload;
 use pulsar_wire::commands::base::{BaseCommand, Body};
 use pulsar_wire::commands::connection::{CommandConnect, client_version};
+use pulsar_wire::commands::consumer::delivery::{CommandAck, CommandFlow};
+use pulsar_wire::commands::consumer::subscription::{CommandCloseConsumer, CommandSubscribe};
+use pulsar_wire::commands::enumerations::{InitialPosition, SubType};
+use pulsar_wire::commands::ids::MessageIdData;
+use pulsar_wire::commands::metadata::{KeyValue, MessageMetadata};
+use pulsar_wire::commands::producer::{CommandCloseProducer, CommandProducer, CommandSend};
 use pulsar_wire::commands::topics::{CommandGetTopicsOfNamespace, Mode};
 use pulsar_wire::error::NoMemory;
 use std::alloc::Global;
+use std::collections::BTreeMap;
 
 /// The version of the protocol that the client speaks.
 const PROTOCOL_VERSION: i32 = 12;
@@ -45,6 +59,183 @@ pub fn get_topics_of_namespace(request_id: u64, namespace: String, mode: Mode) -
     bare(Body::GetTopicsOfNamespace(body))
 }
 
+/// Makes a producer on a topic.
+#[tactic(auto, unfolding(pulsar_wire::specs::Views::producer_values))]
+pub fn create_producer(
+    alloc: Global,
+    topic: String,
+    producer_name: Option<String>,
+    producer_id: u64,
+    request_id: u64,
+) -> Message
+    ensures { message_values result ≡ bare (body_of request_id (CreateProducer (string_bytes topic) producer_id (option_map string_bytes producer_name))) }
+{
+    let body = CommandProducer {
+        topic,
+        producer_id,
+        request_id,
+        producer_name,
+        encrypted: None,
+        metadata: Vec::new(alloc),
+        schema: None,
+        producer_access_mode: None,
+    };
+    bare(Body::Producer(body))
+}
+
+/// Sends a message, which is neither compressed nor a batch. `publish_time` is in milliseconds since 1970.
+#[tactic(auto, unfolding(pulsar_wire::specs::Views::send_values))]
+pub fn send(
+    alloc: Global,
+    producer_id: u64,
+    producer_name: String,
+    sequence_id: u64,
+    message: ProducerMessage,
+    publish_time: u64,
+) -> Result<Message, NoMemory>
+    ensures { IfOk result (λ m. (id : ℕ) (waits : Bool) → message_values m ≡ raw_message id publish_time (Send producer_id (string_bytes producer_name) sequence_id (outgoing message) waits)) }
+{
+    let body = CommandSend {
+        producer_id,
+        sequence_id,
+        num_messages: None,
+    };
+    let payload = payload(alloc, producer_name, sequence_id, message, publish_time)?;
+    Ok(Message {
+        command: BaseCommand::new(Body::Send(body)),
+        payload: Some(payload),
+    })
+}
+
+/// A message behind what is said of it.
+#[tactic(auto, unfolding(pulsar_wire::specs::Views::message_metadata_values))]
+fn payload(
+    alloc: Global,
+    producer_name: String,
+    sequence_id: u64,
+    message: ProducerMessage,
+    publish_time: u64,
+) -> Result<Payload, NoMemory>
+    ensures { IfOk result (λ p. payload_values p ≡ record { metadata = metadata_of publish_time (string_bytes producer_name) sequence_id (outgoing message); bytes = (outgoing message).payload }) }
+{
+    let metadata = MessageMetadata {
+        producer_name,
+        sequence_id,
+        publish_time,
+        properties: properties(alloc, message.properties)?,
+        replicated_from: None,
+        partition_key: message.partition_key,
+        replicate_to: message.replicate_to,
+        compression: None,
+        uncompressed_size: None,
+        num_messages_in_batch: None,
+        event_time: message.event_time,
+        encryption_keys: Vec::new(alloc),
+        encryption_algo: None,
+        encryption_param: None,
+        schema_version: message.schema_version,
+        ordering_key: message.ordering_key,
+        deliver_at_time: message.deliver_at_time,
+    };
+    Ok(Payload {
+        metadata,
+        bytes: message.payload,
+    })
+}
+
+/// The properties in key order.
+fn properties(
+    alloc: Global,
+    properties: BTreeMap<String, String>,
+) -> Result<Vec<KeyValue>, NoMemory>
+    ensures { IfOk result (λ kvs. map key_value_values kvs.items ≡ map property_values (map property properties.entries)) }
+{
+    let mut pairs = Vec::new(alloc);
+    for (key, value) in properties {
+        pairs.push(KeyValue { key, value })?;
+    }
+    Ok(pairs)
+}
+
+/// Ends a producer.
+#[tactic(auto, unfolding(pulsar_wire::specs::Views::close_producer_values))]
+pub fn close_producer(producer_id: u64, request_id: u64) -> Message
+    ensures { message_values result ≡ bare (body_of request_id (CloseProducer producer_id)) }
+{
+    let body = CommandCloseProducer {
+        producer_id,
+        request_id,
+    };
+    bare(Body::CloseProducer(body))
+}
+
+/// Makes a consumer on a subscription of a topic, which begins at the latest message.
+#[tactic(auto, unfolding(pulsar_wire::specs::Views::subscribe_values))]
+pub fn subscribe(
+    alloc: Global,
+    topic: String,
+    subscription: String,
+    sub_type: SubType,
+    consumer_id: u64,
+    request_id: u64,
+) -> Message
+    ensures { message_values result ≡ bare (body_of request_id (Subscribe (string_bytes topic) (string_bytes subscription) sub_type consumer_id)) }
+{
+    let body = CommandSubscribe {
+        topic,
+        subscription,
+        sub_type: sub_type.into(),
+        consumer_id,
+        request_id,
+        consumer_name: None,
+        priority_level: None,
+        durable: None,
+        start_message_id: None,
+        metadata: Vec::new(alloc),
+        read_compacted: Some(false),
+        schema: None,
+        initial_position: Some(InitialPosition::Latest.into()),
+    };
+    bare(Body::Subscribe(body))
+}
+
+/// Allows the broker to deliver as many messages more.
+#[tactic(auto, unfolding(pulsar_wire::specs::Views::flow_values))]
+pub fn flow(consumer_id: u64, permits: u32) -> Message
+    ensures { (id : ℕ) → message_values result ≡ bare (body_of id (Flow consumer_id permits)) }
+{
+    let body = CommandFlow {
+        consumer_id,
+        message_permits: permits,
+    };
+    bare(Body::Flow(body))
+}
+
+/// Acknowledges these messages, or all up to the one.
+#[tactic(auto, unfolding(pulsar_wire::specs::Views::ack_values))]
+pub fn ack(consumer_id: u64, ids: Vec<MessageIdData>, cumulative: bool) -> Message
+    ensures { (id : ℕ) → message_values result ≡ bare (body_of id (Ack consumer_id (map id_of ids.items) cumulative)) }
+{
+    let body = CommandAck {
+        consumer_id,
+        ack_type: if cumulative { 1 } else { 0 },
+        message_id: ids,
+    };
+    bare(Body::Ack(body))
+}
+
+/// Ends a consumer.
+#[tactic(auto, unfolding(pulsar_wire::specs::Views::close_consumer_values))]
+pub fn close_consumer(consumer_id: u64, request_id: u64) -> Message
+    ensures { message_values result ≡ bare (body_of request_id (CloseConsumer consumer_id)) }
+{
+    let body = CommandCloseConsumer {
+        consumer_id,
+        request_id,
+    };
+    bare(Body::CloseConsumer(body))
+}
+
 /// A message that carries no payload.
 fn bare(body: Body) -> Message
     ensures { message_values result ≡ bare (body_values body) }
@@ -63,15 +254,109 @@ pub fn fits(message: &Message) -> bool
     message.fits()
 }
 
+impl RawRequest {
+    /// The message that asks, with the number of the request where it has one.
+    pub fn into_message(self, alloc: Global, id: u64, now: u64) -> Result<Message, NoMemory>
+        ensures { IfOk result (λ m. message_values m ≡ raw_message id now self) }
+    {
+        match self.into_inner() {
+            RawCall::CreateProducer {
+                topic,
+                producer_id,
+                name,
+            } => Ok(create_producer(alloc, topic, name, producer_id, id)),
+            RawCall::Send {
+                producer_id,
+                name,
+                sequence_id,
+                message,
+                block: _,
+            } => send(alloc, producer_id, name, sequence_id, message, now),
+            RawCall::CloseProducer { producer_id } => Ok(close_producer(producer_id, id)),
+            RawCall::Subscribe {
+                topic,
+                subscription,
+                sub_type,
+                consumer_id,
+            } => Ok(subscribe(
+                alloc,
+                topic,
+                subscription,
+                sub_type,
+                consumer_id,
+                id,
+            )),
+            RawCall::SendFlow {
+                consumer_id,
+                permits,
+            } => Ok(flow(consumer_id, permits)),
+            RawCall::SendAck {
+                consumer_id,
+                ids,
+                cumulative,
+            } => Ok(ack(consumer_id, ids, cumulative)),
+            RawCall::CloseConsumer { consumer_id } => Ok(close_consumer(consumer_id, id)),
+        }
+    }
+
+    /// What its call waits for.
+    pub fn awaited(&self, id: u64) -> Option<Awaited>
+        ensures { result ≡ raw_awaited id self.now }
+    {
+        match self.call() {
+            RawCall::Send {
+                producer_id,
+                sequence_id,
+                ..
+            } => Some(Awaited {
+                producer: Some(*producer_id),
+                number: *sequence_id,
+            }),
+            RawCall::SendFlow { .. } | RawCall::SendAck { .. } => None,
+            RawCall::CreateProducer { .. }
+            | RawCall::CloseProducer { .. }
+            | RawCall::Subscribe { .. }
+            | RawCall::CloseConsumer { .. } => Some(numbered(id)),
+        }
+    }
+
+    /// The number of its body.
+    pub fn number(&self) -> u32
+        ensures { result ≡ (body_of 0 self.now).number }
+    {
+        match self.call() {
+            RawCall::CreateProducer { .. } => 5,
+            RawCall::Send { .. } => 6,
+            RawCall::CloseProducer { .. } => 15,
+            RawCall::Subscribe { .. } => 4,
+            RawCall::SendFlow { .. } => 11,
+            RawCall::SendAck { .. } => 10,
+            RawCall::CloseConsumer { .. } => 16,
+        }
+    }
+}
+
+fn numbered(id: u64) -> Awaited
+    ensures { result ≡ numbered id }
+{
+    Awaited {
+        producer: None,
+        number: id,
+    }
+}
+
 impl Request {
     /// The message of the request, with its number.
-    pub fn into_message(self, id: u64) -> Message
-        ensures { message_values result ≡ request_message id self }
+    pub fn into_message(self, alloc: Global, id: u64) -> Result<Message, NoMemory>
+        ensures { IfOk result (λ m. message_values m ≡ request_message id self) }
     {
         match self {
-            Request::Topics { namespace, mode } => {
-                get_topics_of_namespace(id, namespace.into_inner(), mode)
-            }
+            Request::Topics { namespace, mode } => Ok(get_topics_of_namespace(
+                id,
+                namespace.into_inner(),
+                mode,
+            )),
+            Request::Raw { now, words } => words.into_message(alloc, id, now),
         }
     }
 
@@ -84,14 +369,58 @@ impl Request {
                 namespace: namespace.copy()?,
                 mode: *mode,
             }),
+            Request::Raw { now, words } => Ok(Request::Raw {
+                now: *now,
+                words: words.copy()?,
+            }),
         }
     }
 
     /// Each size of its frame fits its field.
-    pub fn fits(&self, id: u64) -> Result<bool, NoMemory>
+    pub fn fits(&self, alloc: Global, id: u64) -> Result<bool, NoMemory>
         ensures { IfOk result (λ b. b ≡ fits_frame (request_message id self.now)) }
     {
-        let message = self.copy()?.into_message(id);
+        let message = self.copy()?.into_message(alloc, id)?;
         Ok(fits(&message))
+    }
+
+    /// What its call waits for.
+    pub fn awaited(&self, id: u64) -> Option<Awaited>
+        ensures { result ≡ awaited id self.now }
+    {
+        match self {
+            Request::Topics { .. } => Some(numbered(id)),
+            Request::Raw { now: _, words } => words.awaited(id),
+        }
+    }
+
+    /// It has an answer.
+    pub fn is_answered(&self) -> bool
+        ensures { (id : ℕ) → result ≡ is_some (awaited id self.now) }
+    {
+        match self.awaited(0) {
+            Some(_) => true,
+            None => false,
+        }
+    }
+
+    /// It draws a number of its link.
+    pub fn is_numbered(&self) -> bool
+        ensures { result ≡ is_numbered self.now }
+    {
+        match self.awaited(0) {
+            Some(awaited) => awaited.producer.is_none(),
+            None => false,
+        }
+    }
+
+    /// The number of its body.
+    pub fn number(&self) -> u32
+        ensures { result ≡ request_number self.now }
+    {
+        match self {
+            Request::Topics { .. } => 32,
+            Request::Raw { now: _, words } => words.number(),
+        }
     }
 }

@@ -3,3 +3,4 @@
 pub mod acts;
 pub mod link;
 pub mod messages;
+pub mod waiting;

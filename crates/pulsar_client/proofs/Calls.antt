@@ -18,10 +18,11 @@ use Rattle.pulsar_client.specs.declared.act.Act.TheVariants.{Calls, Told, Dials,
 use Rattle.pulsar_client.specs.declared.tables.Base.{Base}
 use Rattle.pulsar_client.specs.declared.tables.Base.TheVariants.{Nothing, Runs, Serves}
 use Rattle.pulsar_client.specs.Content.{Heard, Called, Opened, Bytes, Drain, Said, FailedToOpen, Lost}
+use Rattle.pulsar_client.specs.Address.{Address}
 use Rattle.pulsar_client.specs.Failures.{Exhausted}
 use Rattle.pulsar_client.specs.Link.{Seen, arrivals, link_rule, is_ready, fits_frame, request_message, kind_of}
 use Rattle.pulsar_client.specs.Plan.{failed, next}
-use Rattle.pulsar_client.specs.Log.{Chosen, Entry, Begins, Does, View, view, at_once, serves, performs, gets, asks, asks_on, fails, link_acts, brings, procedure_for, frames_of, seen_link, dials, opens, spent, action_at, calls, procedure_of, outcomes_of}
+use Rattle.pulsar_client.specs.Log.{Chosen, Entry, Begins, Does, View, view, at_once, serves, performs, gets, gets_from, asks, asks_on, fails, link_acts, brings, procedure_for, frames_of, seen_link, dials, opens, spent, action_at, calls, procedure_of, outcomes_of}
 use Rattle.pulsar_client.specs.Good.{due, to_come, IsRun, first, is_empty}
 use Rattle.pulsar_client.specs.Laws.{answer_in, said_along, answer_of, answers, CallsFollow, CallsAreMade}
 
@@ -171,6 +172,10 @@ gets_performed Nothing t = record { last = (λ h. let f : false ≡ true = h in 
 gets_performed (Runs s) t = record { last = (λ h. tt, tt); calls_none = (refl, tt); said_here = refl; said_else = λ k h. refl }
 gets_performed (Serves l) t = record { last = (λ h. tt, tt); calls_none = (refl, tt); said_here = refl; said_else = λ k h. refl }
 
+gets_from_performed : (a : Option Address) (b : Base) (t : ℕ) → Performed t Get (gets_from a b t)
+gets_from_performed None b t = record { last = (λ h. tt, tt); calls_none = (refl, tt); said_here = refl; said_else = λ k h. refl }
+gets_from_performed (Some address) b t = gets_performed b t
+
 asks_performed : (t l : ℕ) (q : Request) (s : Seen) → Performed t (Ask l q) (asks t l q s)
 asks_performed t l q s =
     elim (is_ready s.stage) as (λ b. Performed t (Ask l q) (cond b (cond (s.next_id == spent) (Told t outcome.Exhausted ∷ []) (cond (fits_frame (request_message s.next_id q)) (OnLink l (Requests q t) ∷ []) (OnLink l Spends ∷ Told t outcome.Unencodable ∷ []))) (Told t outcome.Disconnected ∷ []))) [
@@ -189,7 +194,7 @@ asks_on_performed t l q None = record { last = (λ h. tt, tt); calls_none = (ref
 asks_on_performed t l q (Some s) = asks_performed t l q s
 
 performed : (v : View) (t : ℕ) (a : Action) → Performed t a (performs v t a)
-performed v t Get = gets_performed v.base t
+performed v t Get = gets_from_performed v.address v.base t
 performed v t (Ask l q) = asks_on_performed t l q (v.link l)
 performed v t (Answer u) = record { last = (λ h. tt, tt); calls_none = (refl, tt); said_here = rw (eq-eqb t t refl) refl; said_else = λ k h. rw h refl }
 performed v t Finish = record { last = (λ h. tt, tt); calls_none = (refl, tt); said_here = rw (eq-eqb t t refl) refl; said_else = λ k h. rw h refl }

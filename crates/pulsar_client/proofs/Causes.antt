@@ -20,6 +20,7 @@ use Rattle.pulsar_client.specs.declared.act.Act.TheVariants.{Calls, Told, Answer
 use Rattle.pulsar_client.specs.declared.tables.Base.{Base}
 use Rattle.pulsar_client.specs.declared.tables.Base.TheVariants.{Nothing, Runs, Serves}
 use Rattle.pulsar_client.specs.Content.{Heard, Called, Opened, Bytes, Drain, Said, Done, Failed, FailedToOpen, Lost}
+use Rattle.pulsar_client.specs.Address.{Address}
 use Rattle.pulsar_client.specs.Failures.{Failure, OfConnection, Exhausted, Shutdown}
 use Rattle.pulsar_client.specs.declared.act.Arrival.{Arrival}
 use Rattle.pulsar_client.specs.declared.act.Arrival.TheVariants.{Message, Bad}
@@ -28,7 +29,7 @@ use Rattle.pulsar_client.specs.declared.session.link.Stage.TheVariants.{Dialing,
 use Rattle.pulsar_client.specs.Messages.{is_connected}
 use Rattle.pulsar_client.specs.Link.{Seen, Pending, bears_id, settled, disconnected, turns, at_opening, at_arrival, link_rule, is_ready, fits_frame, request_message, kind_of, at_failure, at_loss}
 use Rattle.pulsar_client.specs.Plan.{failed, next, ended, finished, topics_answer, fault_of}
-use Rattle.pulsar_client.specs.Log.{Chosen, Entry, Begins, Does, View, view, base, waiting, seen_link, spent, at_once, serves, performs, gets, asks, asks_on, fails, link_acts, brings, procedure_for, dials, opens, outcomes_of}
+use Rattle.pulsar_client.specs.Log.{Chosen, Entry, Begins, Does, View, view, base, waiting, seen_link, spent, at_once, serves, performs, gets, gets_from, asks, asks_on, fails, link_acts, brings, procedure_for, dials, opens, outcomes_of}
 use Rattle.pulsar_client.specs.Good.{due, to_come, IsRun, first}
 use Rattle.pulsar_client.specs.Laws.{In, Fails, IsRefused, IsTold, IsReplied, FailuresAreTold, InThisStep, Cause, OutcomesAreCaused, answer_in, said_along}
 use Rattle.pulsar_client.proofs.Cuts.{AllComes, cutting, is_comes, first_act}
@@ -129,6 +130,10 @@ gets_caused o log Nothing t e = (tt, (tt, tt))
 gets_caused o log (Runs s) t e = (tt, tt)
 gets_caused o log (Serves l) t e = (inl tt, tt)
 
+gets_from_caused : (o : Chosen) (log : List Entry) (a : Option Address) (b : Base) (t : ℕ) (e : Act) → o.address ≡ a → AllCaused o (Does e ∷ log) (gets_from a b t)
+gets_from_caused o log None b t e is = (inl is, tt)
+gets_from_caused o log (Some address) b t e is = gets_caused o log b t e
+
 asks_caused : (o : Chosen) (log : List Entry) (t l : ℕ) (q : Request) (s : Seen) (u : Outcome) → seen_link o log l ≡ Some s → AllCaused o (Does (Told t u) ∷ log) (asks t l q s)
 asks_caused o log t l q s u is = elim (cases_Bool (is_ready s.stage)) [
   | inr shut ↦ rw shut (inl (inr (u, l, refl, rw (is, shut) refl)), tt)
@@ -144,7 +149,7 @@ asks_on_caused o log t l q None u is = (inl (inr (u, l, refl, rw is refl)), tt)
 asks_on_caused o log t l q (Some s) u is = asks_caused o log t l q s u is
 
 performs_caused : (o : Chosen) (log : List Entry) (t : ℕ) (a : Action) (u : Outcome) → AllCaused o (Does (Told t u) ∷ log) (performs (view o log) t a)
-performs_caused o log t Get u = gets_caused o log (base log) t (Told t u)
+performs_caused o log t Get u = gets_from_caused o log o.address (base log) t (Told t u) refl
 performs_caused o log t (Ask l q) u = asks_on_caused o log t l q (seen_link o log l) u refl
 performs_caused o log t (Answer a) u = (tt, tt)
 performs_caused o log t Finish u = (tt, tt)
@@ -152,8 +157,8 @@ performs_caused o log t Rest u = tt
 
 -- a call begins by getting its link, or by its answer
 begins_caused : (o : Chosen) (log : List Entry) (t : ℕ) (p : Procedure) (e : Act) → AllCaused o (Does e ∷ log) (performs (view o log) t (next p []))
-begins_caused o log t procedure.Build e = gets_caused o log (base log) t e
-begins_caused o log t (procedure.Topics n m) e = gets_caused o log (base log) t e
+begins_caused o log t procedure.Build e = gets_from_caused o log o.address (base log) t e refl
+begins_caused o log t (procedure.Topics n m) e = gets_from_caused o log o.address (base log) t e refl
 begins_caused o log t procedure.Refused e = (tt, tt)
 
 links_caused : (o : Chosen) (log : List Entry) (l : ℕ) (xs : List LinkAct) → AllSettling xs → AllCaused o log (map (OnLink l) xs)
@@ -195,6 +200,7 @@ settled_caused o log l place t (outcome.Replied r) p = inl (l, place, refl)
 settled_caused o log l place t outcome.Disconnected p = inl (inl (l, place, refl))
 settled_caused o log l place t (outcome.GotLink k) p = absurd p
 settled_caused o log l place t outcome.Unencodable p = absurd p
+settled_caused o log l place t outcome.NotFound p = absurd p
 settled_caused o log l place t (outcome.Failed k) p = absurd p
 settled_caused o log l place t outcome.Canceled p = absurd p
 settled_caused o log l place t outcome.Exhausted p = absurd p
@@ -279,6 +285,7 @@ build_fails ((outcome.Replied r) ∷ os) f i = told_first procedure.Build (outco
 build_fails (outcome.Disconnected ∷ os) f i = told_first procedure.Build outcome.Disconnected os f (λ ys. refl) i
 build_fails (outcome.Exhausted ∷ os) f i = told_first procedure.Build outcome.Exhausted os f (λ ys. refl) i
 build_fails (outcome.Unencodable ∷ os) f i = told_first procedure.Build outcome.Unencodable os f (λ ys. refl) i
+build_fails (outcome.NotFound ∷ os) f i = told_first procedure.Build outcome.NotFound os f (λ ys. refl) i
 
 -- the answer to the request
 asked_fails : (n : List ℕ) (m : Mode) (l : ℕ) (u : Outcome) (os : List Outcome) (f : Failure) → In (Failed f) (topics_answer u ∷ []) → Fails (procedure.Topics n m) (outcome.GotLink l ∷ u ∷ os) f
@@ -289,6 +296,7 @@ asked_fails n m l outcome.Canceled os f i = IsTold outcome.Canceled (inr (inl re
 asked_fails n m l outcome.Disconnected os f i = IsTold outcome.Disconnected (inr (inl refl)) (only_failure f (OfConnection (fault_of outcome.Disconnected)) i)
 asked_fails n m l outcome.Exhausted os f i = IsTold outcome.Exhausted (inr (inl refl)) (only_failure f (OfConnection (fault_of outcome.Exhausted)) i)
 asked_fails n m l outcome.Unencodable os f i = IsTold outcome.Unencodable (inr (inl refl)) (only_failure f (OfConnection (fault_of outcome.Unencodable)) i)
+asked_fails n m l outcome.NotFound os f i = IsTold outcome.NotFound (inr (inl refl)) (only_failure f (OfConnection (fault_of outcome.NotFound)) i)
 asked_fails n m l (outcome.GotLink k) os f i = IsTold (outcome.GotLink k) (inr (inl refl)) (only_failure f (OfConnection (fault_of (outcome.GotLink k))) i)
 
 topics_fails : (n : List ℕ) (m : Mode) (os : List Outcome) (f : Failure) → In (Failed f) (said_along (procedure.Topics n m) [] os) → Fails (procedure.Topics n m) os f
@@ -302,6 +310,7 @@ topics_fails n m ((outcome.Replied r) ∷ os) f i = told_first (procedure.Topics
 topics_fails n m (outcome.Disconnected ∷ os) f i = told_first (procedure.Topics n m) outcome.Disconnected os f (λ ys. refl) i
 topics_fails n m (outcome.Exhausted ∷ os) f i = told_first (procedure.Topics n m) outcome.Exhausted os f (λ ys. refl) i
 topics_fails n m (outcome.Unencodable ∷ os) f i = told_first (procedure.Topics n m) outcome.Unencodable os f (λ ys. refl) i
+topics_fails n m (outcome.NotFound ∷ os) f i = told_first (procedure.Topics n m) outcome.NotFound os f (λ ys. refl) i
 
 refused_fails : (os : List Outcome) (f : Failure) → In (Failed f) (said_along procedure.Refused [] os) → Fails procedure.Refused os f
 refused_fails os f i = IsRefused refl (only_failure f (OfConnection Shutdown) (subst (In (Failed f)) (ends_is procedure.Refused [] (failed Shutdown) (λ ys. refl) os) i))

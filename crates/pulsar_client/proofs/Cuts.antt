@@ -27,9 +27,10 @@ use Rattle.pulsar_client.specs.declared.session.link.Stage.{Stage}
 use Rattle.pulsar_client.specs.declared.session.link.Stage.TheVariants.{Dialing, Handshaking, Ready, Over}
 use Rattle.pulsar_client.specs.Messages.{read}
 use Rattle.pulsar_client.specs.Content.{Heard, Called, Opened, Bytes, Drain, FailedToOpen, Lost}
+use Rattle.pulsar_client.specs.Address.{Address}
 use Rattle.pulsar_client.specs.Failures.{Exhausted}
 use Rattle.pulsar_client.specs.Link.{Seen, seen, stage, is_dialing, is_open, arrivals, link_rule, at_arrival, is_ready, fits_frame, request_message, kind_of}
-use Rattle.pulsar_client.specs.Log.{Chosen, Entry, Begins, Does, links, of_link, seen_link, stream, opens, dials, View, view, at_once, serves, performs, gets, asks, asks_on, fails, link_acts, brings, procedure_for, frames_of, spent}
+use Rattle.pulsar_client.specs.Log.{Chosen, Entry, Begins, Does, links, of_link, seen_link, stream, opens, dials, View, view, at_once, serves, performs, gets, gets_from, asks, asks_on, fails, link_acts, brings, procedure_for, frames_of, spent}
 use Rattle.pulsar_client.specs.Plan.{failed, next}
 use Rattle.pulsar_client.specs.Good.{due, to_come, IsRun, first, is_empty}
 use Rattle.pulsar_client.specs.Local.{is_own, link_due, Fits, IsLinkRun}
@@ -197,6 +198,10 @@ gets_plain Nothing t = (refl, (refl, tt))
 gets_plain (Runs s) t = (refl, tt)
 gets_plain (Serves l) t = (refl, tt)
 
+gets_from_plain : (a : Option Address) (b : Base) (t : ℕ) → NoComes (gets_from a b t)
+gets_from_plain None b t = (refl, tt)
+gets_from_plain (Some address) b t = gets_plain b t
+
 asks_plain : (t l : ℕ) (q : Request) (s : Seen) → NoComes (asks t l q s)
 asks_plain t l q s =
     elim (is_ready s.stage) as (λ b. NoComes (cond b (cond (s.next_id == spent) (Told t outcome.Exhausted ∷ []) (cond (fits_frame (request_message s.next_id q)) (OnLink l (Requests q t) ∷ []) (OnLink l Spends ∷ Told t outcome.Unencodable ∷ []))) (Told t outcome.Disconnected ∷ []))) [
@@ -215,7 +220,7 @@ asks_on_plain t l q None = (refl, tt)
 asks_on_plain t l q (Some s) = asks_plain t l q s
 
 performs_plain : (v : View) (t : ℕ) (a : Action) → NoComes (performs v t a)
-performs_plain v t Get = gets_plain v.base t
+performs_plain v t Get = gets_from_plain v.address v.base t
 performs_plain v t (Ask l q) = asks_on_plain t l q (v.link l)
 performs_plain v t (Answer a) = (refl, tt)
 performs_plain v t Finish = (refl, tt)

@@ -1,4 +1,5 @@
 pub mod Failures
+pub mod Address
 pub mod Content
 pub mod Messages
 pub mod Link

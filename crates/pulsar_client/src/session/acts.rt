@@ -420,6 +420,7 @@ pub fn settlement(outcome: &Outcome) -> Settlement
         | Outcome::Canceled
         | Outcome::Disconnected
         | Outcome::Exhausted
-        | Outcome::Unencodable => Settlement::Disconnected,
+        | Outcome::Unencodable
+        | Outcome::NotFound => Settlement::Disconnected,
     }
 }

@@ -19,10 +19,11 @@ use Rattle.pulsar_client.specs.declared.act.Act.TheVariants.{Calls, Told, Dials,
 use Rattle.pulsar_client.specs.declared.tables.Base.{Base}
 use Rattle.pulsar_client.specs.declared.tables.Base.TheVariants.{Nothing, Runs, Serves}
 use Rattle.pulsar_client.specs.Content.{Heard, Called, Opened, Bytes, Drain, Said, FailedToOpen, Lost}
+use Rattle.pulsar_client.specs.Address.{Address}
 use Rattle.pulsar_client.specs.Failures.{Exhausted}
 use Rattle.pulsar_client.specs.Link.{Seen, arrivals, link_rule, is_ready, fits_frame, awaited, is_numbered, request_message, kind_of}
 use Rattle.pulsar_client.specs.Plan.{failed, next}
-use Rattle.pulsar_client.specs.Log.{Chosen, Entry, Begins, Does, View, view, at_once, serves, performs, gets, asks, asks_on, fails, link_acts, brings, procedure_for, frames_of, seen_link, dials, goes_on, opens, spends, spent, action_at, calls, procedure_of, outcomes_of}
+use Rattle.pulsar_client.specs.Log.{Chosen, Entry, Begins, Does, View, view, at_once, serves, performs, gets, asks, asks_on, fails, link_acts, brings, procedure_for, frames_of, seen_link, dials, goes_on, opens, spends, spent, action_at, calls, procedure_of, outcomes_of, gets_from}
 use Rattle.pulsar_client.specs.Good.{due, to_come, IsRun, first, is_empty}
 use Rattle.pulsar_client.specs.Laws.{answer_in, said_along, answer_of, answers, CallsFollow, CallsAreMade}
 
@@ -187,6 +188,10 @@ spends_performed : (t l : ℕ) (q : Request) (b : Bool) → Performed t (Ask l q
 spends_performed t l q true = link_performed t l q Spends (Told t outcome.Unencodable ∷ []) (told_performed t l q outcome.Unencodable)
 spends_performed t l q false = told_performed t l q outcome.Unencodable
 
+gets_from_performed : (a : Option Address) (b : Base) (t : ℕ) → Performed t Get (gets_from a b t)
+gets_from_performed None b t = record { last = (λ h. tt, tt); calls_none = (refl, tt); said_here = refl; said_else = λ k h. refl }
+gets_from_performed (Some address) b t = gets_performed b t
+
 asks_performed : (t l : ℕ) (q : Request) (s : Seen) → Performed t (Ask l q) (asks t l q s)
 asks_performed t l q s = elim (cases_Bool (is_ready s.stage)) [
   | inr shut ↦ rw shut (told_performed t l q outcome.Disconnected)
@@ -204,7 +209,7 @@ asks_on_performed t l q None = record { last = (λ h. tt, tt); calls_none = (ref
 asks_on_performed t l q (Some s) = asks_performed t l q s
 
 performed : (v : View) (t : ℕ) (a : Action) → Performed t a (performs v t a)
-performed v t Get = gets_performed v.base t
+performed v t Get = gets_from_performed v.address v.base t
 performed v t (Ask l q) = asks_on_performed t l q (v.link l)
 performed v t (Answer u) = record { last = (λ h. tt, tt); calls_none = (refl, tt); said_here = rw (eq-eqb t t refl) refl; said_else = λ k h. rw h refl }
 performed v t Finish = record { last = (λ h. tt, tt); calls_none = (refl, tt); said_here = rw (eq-eqb t t refl) refl; said_else = λ k h. rw h refl }

@@ -21,15 +21,16 @@ use Rattle.pulsar_client.specs.declared.act.Act.TheVariants.{Calls, Told, Answer
 use Rattle.pulsar_client.specs.declared.tables.Base.{Base}
 use Rattle.pulsar_client.specs.declared.tables.Base.TheVariants.{Nothing, Runs, Serves}
 use Rattle.pulsar_client.specs.Content.{Heard, Called, Opened, Bytes, Drain, Said, Done, Failed, FailedToOpen, Lost}
+use Rattle.pulsar_client.specs.Address.{Address}
 use Rattle.pulsar_client.specs.Failures.{Failure, OfConnection, Exhausted, Shutdown}
 use Rattle.pulsar_client.specs.declared.act.Arrival.{Arrival}
 use Rattle.pulsar_client.specs.declared.act.Arrival.TheVariants.{Message, Bad}
 use Rattle.pulsar_client.specs.declared.session.link.Stage.{Stage}
 use Rattle.pulsar_client.specs.declared.session.link.Stage.TheVariants.{Dialing, Handshaking, Ready, Over}
 use Rattle.pulsar_client.specs.Messages.{is_connected}
-use Rattle.pulsar_client.specs.Link.{Seen, Pending, ends_wait, settled, disconnected, turns, at_opening, at_arrival, link_rule, is_ready, fits_frame, awaited, is_numbered, request_message, kind_of, at_failure, at_loss}
+use Rattle.pulsar_client.specs.Link.{Seen, Pending, ends_wait, settled, disconnected, turns, at_opening, at_arrival, link_rule, is_ready, fits_frame, awaited, is_numbered, request_message, kind_of, at_failure, at_loss, bears_id}
+use Rattle.pulsar_client.specs.Log.{Chosen, Entry, Begins, Does, View, view, base, waiting, seen_link, spent, at_once, serves, performs, gets, asks, asks_on, fails, link_acts, brings, procedure_for, dials, goes_on, opens, calls, spends, outcomes_of, gets_from}
 use Rattle.pulsar_client.specs.Plan.{failed, next, ended, finished, raw_answer, request_number, topics_answer, fault_of}
-use Rattle.pulsar_client.specs.Log.{Chosen, Entry, Begins, Does, View, view, base, waiting, seen_link, spent, at_once, serves, performs, gets, asks, asks_on, fails, link_acts, brings, procedure_for, dials, goes_on, opens, calls, spends, outcomes_of}
 use Rattle.pulsar_client.specs.Good.{due, to_come, IsRun, first}
 use Rattle.pulsar_client.specs.Laws.{In, Fails, IsRefused, IsTold, IsReplied, FailuresAreTold, InThisStep, Cause, OutcomesAreCaused, answer_in, next_at, said_along}
 use Rattle.pulsar_client.proofs.Cuts.{AllComes, cutting, is_comes, first_act}
@@ -130,6 +131,10 @@ gets_caused o log Nothing t e = (tt, (tt, tt))
 gets_caused o log (Runs s) t e = (tt, tt)
 gets_caused o log (Serves l) t e = (inl tt, tt)
 
+gets_from_caused : (o : Chosen) (log : List Entry) (a : Option Address) (b : Base) (t : ℕ) (e : Act) → o.address ≡ a → AllCaused o (Does e ∷ log) (gets_from a b t)
+gets_from_caused o log None b t e is = (inl is, tt)
+gets_from_caused o log (Some address) b t e is = gets_caused o log b t e
+
 goes_on_caused : (o : Chosen) (log : List Entry) (t : ℕ) (x : Option Awaited) (e : Act) → Cause o t outcome.Queued (Does e) log → AllCaused o (Does e ∷ log) (goes_on t x)
 goes_on_caused o log t None e c = (inl c, tt)
 goes_on_caused o log t (Some x) e c = tt
@@ -159,7 +164,7 @@ asks_on_caused o log t l q None e asks is = (inl (inr (l, q, asks, rw is refl)),
 asks_on_caused o log t l q (Some s) e asks is = asks_caused o log t l q s e asks is
 
 performs_caused : (o : Chosen) (log : List Entry) (t : ℕ) (a : Action) (e : Act) → next_at t (Does e) log ≡ Some a → AllCaused o (Does e ∷ log) (performs (view o log) t a)
-performs_caused o log t Get e is = gets_caused o log (base log) t e
+performs_caused o log t Get e is = gets_from_caused o log o.address (base log) t e refl
 performs_caused o log t (Ask l q) e is = asks_on_caused o log t l q (seen_link o log l) e is refl
 performs_caused o log t (Answer a) e is = (tt, tt)
 performs_caused o log t Finish e is = (tt, tt)
@@ -204,6 +209,7 @@ settled_caused o log l place t (outcome.Replied r) p = inl (l, place, refl)
 settled_caused o log l place t outcome.Disconnected p = inl (inl (l, place, refl))
 settled_caused o log l place t (outcome.GotLink k) p = absurd p
 settled_caused o log l place t outcome.Unencodable p = absurd p
+settled_caused o log l place t outcome.NotFound p = absurd p
 settled_caused o log l place t (outcome.Failed k) p = absurd p
 settled_caused o log l place t outcome.Canceled p = absurd p
 settled_caused o log l place t outcome.Exhausted p = absurd p
@@ -290,6 +296,7 @@ build_fails (outcome.Disconnected ∷ os) f i = told_first procedure.Build outco
 build_fails (outcome.Exhausted ∷ os) f i = told_first procedure.Build outcome.Exhausted os f (λ ys. refl) i
 build_fails (outcome.Unencodable ∷ os) f i = told_first procedure.Build outcome.Unencodable os f (λ ys. refl) i
 build_fails (outcome.Queued ∷ os) f i = told_first procedure.Build outcome.Queued os f (λ ys. refl) i
+build_fails (outcome.NotFound ∷ os) f i = told_first procedure.Build outcome.NotFound os f (λ ys. refl) i
 
 -- the answer to the request
 asked_fails : (n : List ℕ) (m : Mode) (l : ℕ) (u : Outcome) (os : List Outcome) (f : Failure) → In (Failed f) (topics_answer u ∷ []) → Fails (procedure.Topics n m) (outcome.GotLink l ∷ u ∷ os) f
@@ -301,6 +308,7 @@ asked_fails n m l outcome.Disconnected os f i = IsTold outcome.Disconnected (inr
 asked_fails n m l outcome.Exhausted os f i = IsTold outcome.Exhausted (inr (inl refl)) (only_failure f (OfConnection (fault_of outcome.Exhausted)) i)
 asked_fails n m l outcome.Unencodable os f i = IsTold outcome.Unencodable (inr (inl refl)) (only_failure f (OfConnection (fault_of outcome.Unencodable)) i)
 asked_fails n m l outcome.Queued os f i = IsTold outcome.Queued (inr (inl refl)) (only_failure f (OfConnection (fault_of outcome.Queued)) i)
+asked_fails n m l outcome.NotFound os f i = IsTold outcome.NotFound (inr (inl refl)) (only_failure f (OfConnection (fault_of outcome.NotFound)) i)
 asked_fails n m l (outcome.GotLink k) os f i = IsTold (outcome.GotLink k) (inr (inl refl)) (only_failure f (OfConnection (fault_of (outcome.GotLink k))) i)
 
 topics_fails : (n : List ℕ) (m : Mode) (os : List Outcome) (f : Failure) → In (Failed f) (said_along (procedure.Topics n m) [] os) → Fails (procedure.Topics n m) os f
@@ -315,6 +323,7 @@ topics_fails n m (outcome.Disconnected ∷ os) f i = told_first (procedure.Topic
 topics_fails n m (outcome.Exhausted ∷ os) f i = told_first (procedure.Topics n m) outcome.Exhausted os f (λ ys. refl) i
 topics_fails n m (outcome.Unencodable ∷ os) f i = told_first (procedure.Topics n m) outcome.Unencodable os f (λ ys. refl) i
 topics_fails n m (outcome.Queued ∷ os) f i = told_first (procedure.Topics n m) outcome.Queued os f (λ ys. refl) i
+topics_fails n m (outcome.NotFound ∷ os) f i = told_first (procedure.Topics n m) outcome.NotFound os f (λ ys. refl) i
 
 refused_fails : (os : List Outcome) (f : Failure) → In (Failed f) (said_along procedure.Refused [] os) → Fails procedure.Refused os f
 refused_fails os f i = IsRefused refl (only_failure f (OfConnection Shutdown) (subst (In (Failed f)) (ends_is procedure.Refused [] (failed Shutdown) (λ ys. refl) os) i))

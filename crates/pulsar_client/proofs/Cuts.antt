@@ -28,9 +28,10 @@ use Rattle.pulsar_client.specs.declared.session.link.Stage.{Stage}
 use Rattle.pulsar_client.specs.declared.session.link.Stage.TheVariants.{Dialing, Handshaking, Ready, Over}
 use Rattle.pulsar_client.specs.Messages.{read}
 use Rattle.pulsar_client.specs.Content.{Heard, Called, Opened, Bytes, Drain, FailedToOpen, Lost}
+use Rattle.pulsar_client.specs.Address.{Address}
 use Rattle.pulsar_client.specs.Failures.{Exhausted}
 use Rattle.pulsar_client.specs.Link.{Seen, seen, stage, is_dialing, is_open, arrivals, link_rule, at_arrival, is_ready, fits_frame, awaited, is_numbered, request_message, kind_of}
-use Rattle.pulsar_client.specs.Log.{Chosen, Entry, Begins, Does, links, of_link, seen_link, stream, opens, dials, View, view, at_once, serves, performs, gets, asks, asks_on, fails, link_acts, brings, procedure_for, frames_of, goes_on, spends, spent}
+use Rattle.pulsar_client.specs.Log.{Chosen, Entry, Begins, Does, links, of_link, seen_link, stream, opens, dials, View, view, at_once, serves, performs, gets, asks, asks_on, fails, link_acts, brings, procedure_for, frames_of, goes_on, spends, spent, gets_from}
 use Rattle.pulsar_client.specs.Plan.{failed, next}
 use Rattle.pulsar_client.specs.Good.{due, to_come, IsRun, first, is_empty}
 use Rattle.pulsar_client.specs.Local.{is_own, link_due, Fits, IsLinkRun}
@@ -206,6 +207,10 @@ spends_plain : (t l : ℕ) (b : Bool) → NoComes (spends l b ++ Told t outcome.
 spends_plain t l true = (refl, (refl, tt))
 spends_plain t l false = (refl, tt)
 
+gets_from_plain : (a : Option Address) (b : Base) (t : ℕ) → NoComes (gets_from a b t)
+gets_from_plain None b t = (refl, tt)
+gets_from_plain (Some address) b t = gets_plain b t
+
 asks_plain : (t l : ℕ) (q : Request) (s : Seen) → NoComes (asks t l q s)
 asks_plain t l q s = elim (cases_Bool (is_ready s.stage)) [
   | inr shut ↦ rw shut (refl, tt)
@@ -223,7 +228,7 @@ asks_on_plain t l q None = (refl, tt)
 asks_on_plain t l q (Some s) = asks_plain t l q s
 
 performs_plain : (v : View) (t : ℕ) (a : Action) → NoComes (performs v t a)
-performs_plain v t Get = gets_plain v.base t
+performs_plain v t Get = gets_from_plain v.address v.base t
 performs_plain v t (Ask l q) = asks_on_plain t l q (v.link l)
 performs_plain v t (Answer a) = (refl, tt)
 performs_plain v t Finish = (refl, tt)

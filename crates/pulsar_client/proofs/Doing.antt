@@ -16,10 +16,11 @@ use Rattle.pulsar_client.specs.declared.act.Act.TheVariants.{Calls, Told, Answer
 use Rattle.pulsar_client.specs.declared.tables.Base.{Base}
 use Rattle.pulsar_client.specs.declared.tables.Base.TheVariants.{Nothing, Runs, Serves}
 use Rattle.pulsar_client.specs.Content.{Heard, Called, Opened, Bytes, Drain, FailedToOpen, Lost}
+use Rattle.pulsar_client.specs.Address.{Address}
 use Rattle.pulsar_client.specs.Failures.{Exhausted}
 use Rattle.pulsar_client.specs.Link.{Seen, link_rule, is_ready, fits_frame, awaited, is_numbered, request_message, kind_of}
 use Rattle.pulsar_client.specs.Plan.{failed, next}
-use Rattle.pulsar_client.specs.Log.{Chosen, Entry, Begins, Does, View, view, calls, procedure_of, outcomes_of, action_at, spent, at_once, serves, performs, gets, asks, asks_on, fails, link_acts, brings, procedure_for, dials, goes_on, opens, spends}
+use Rattle.pulsar_client.specs.Log.{Chosen, Entry, Begins, Does, View, view, calls, procedure_of, outcomes_of, action_at, spent, at_once, serves, performs, gets, asks, asks_on, fails, link_acts, brings, procedure_for, dials, goes_on, opens, spends, gets_from}
 use Rattle.pulsar_client.specs.Good.{due, to_come, IsRun, first}
 use Rattle.pulsar_client.specs.Local.{is_own}
 use Rattle.pulsar_client.specs.Laws.{In, InThisStep, caller, next_at, Follows, IsNext, IsSpent, ActsFollow}
@@ -44,6 +45,10 @@ spends_by : (t l : ℕ) (b : Bool) → AllBy t (spends l b ++ Told t outcome.Une
 spends_by t l true = (inl refl, (inl refl, tt))
 spends_by t l false = (inl refl, tt)
 
+gets_from_by : (a : Option Address) (b : Base) (t : ℕ) → AllBy t (gets_from a b t)
+gets_from_by None b t = (inl refl, tt)
+gets_from_by (Some address) b t = gets_by b t
+
 asks_by : (t l : ℕ) (q : Request) (s : Seen) → AllBy t (asks t l q s)
 asks_by t l q s = elim (cases_Bool (is_ready s.stage)) [
   | inr shut ↦ rw shut (inl refl, tt)
@@ -61,7 +66,7 @@ asks_on_by t l q None = (inl refl, tt)
 asks_on_by t l q (Some s) = asks_by t l q s
 
 performs_by : (v : View) (t : ℕ) (a : Action) → AllBy t (performs v t a)
-performs_by v t Get = gets_by v.base t
+performs_by v t Get = gets_from_by v.address v.base t
 performs_by v t (Ask l q) = asks_on_by t l q (v.link l)
 performs_by v t (Answer a) = (inr refl, tt)
 performs_by v t Finish = (inr refl, tt)

@@ -14,7 +14,8 @@ use Rattle.pulsar_client.specs.Messages.{connect_message}
 use Rattle.pulsar_client.specs.Content.{Shown, Connect, Queued, Write, Settles, Ends, Close}
 use Rattle.pulsar_client.specs.Link.{Seen, seen, stage, request_message, next_id, queued, unwritten, frame_of, written_by}
 use Rattle.pulsar_client.specs.Log.{Chosen, Entry, Begins, Does, links, of_link, seen_link, view}
-use Rattle.pulsar_client.specs.Good.{due, to_come, first, IsRun, Step, steps, join, put, is_before, is_below_all, rank, effect, effect_at, link_effect, settlement_of, writes, queues}
+use Rattle.pulsar_client.specs.Address.{Address}
+use Rattle.pulsar_client.specs.Good.{due, to_come, first, IsRun, Step, steps, join, put, is_before, is_below_all, rank, effect, effect_at, link_effect, settlement_of, connects, writes, queues}
 use Rattle.pulsar_client.specs.Laws.{frames_queued, frames_written, IsPrefix, written_on, queued_on, bytes_of, WritesFollow}
 use Rattle.pulsar_client.proofs.Written.{written_in_order}
 
@@ -278,6 +279,10 @@ not_below l n h = grind (arith, nat_tests)
 now_below : (l n : ℕ) → (l == n) ≡ true → nat_lt l (n + 1) ≡ true
 now_below l n h = grind (arith, nat_tests)
 
+connects_quiet : (l n : ℕ) (a : Option Address) → IsQuiet l (connects n a)
+connects_quiet l n None = tt
+connects_quiet l n (Some address) = (refl, refl, λ n. tt)
+
 dials_hist : (l t : ℕ) (log : List Entry) → hist l log ≡ hist l (Does (Dials t) ∷ log)
 dials_hist l t log = elim (cases_Bool (l == links log)) [
   | inl e ↦ rw (e, not_below l (links log) e, now_below l (links log) e) refl
@@ -316,7 +321,7 @@ says o l (Does (Told t u) ∷ log) r = still_says o l (Told t u) log (says o l l
 says o l (Does (Waits t) ∷ log) r = still_says o l (Waits t) log (says o l log r.0) tt refl
 says o l (Does (Answers t a) ∷ log) r = still_says o l (Answers t a) log (says o l log r.0) (refl, refl, λ n. tt) refl
 says o l (Does (Builds t) ∷ log) r = still_says o l (Builds t) log (says o l log r.0) (refl, refl, λ n. tt) refl
-says o l (Does (Dials t) ∷ log) r = still_says o l (Dials t) log (says o l log r.0) (refl, refl, λ n. tt) (dials_hist l t log)
+says o l (Does (Dials t) ∷ log) r = still_says o l (Dials t) log (says o l log r.0) (connects_quiet l (links log) o.address) (dials_hist l t log)
 says o l (Does (OnLink k act) ∷ log) r = link_says o l k act log r (says o l log r.0)
 
 -- THE LAW

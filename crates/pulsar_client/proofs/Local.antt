@@ -26,9 +26,10 @@ use Rattle.pulsar_client.specs.declared.session.link.Stage.TheVariants.{Dialing,
 use Rattle.pulsar_client.specs.Messages.{is_connected}
 use Rattle.pulsar_client.specs.Plan.{failed}
 use Rattle.pulsar_client.specs.Content.{Asked, Heard, Called, Opened, Bytes, Drain, FailedToOpen, Lost}
+use Rattle.pulsar_client.specs.Address.{Address}
 use Rattle.pulsar_client.specs.Failures.{Exhausted}
-use Rattle.pulsar_client.specs.Link.{Seen, Pending, seen, arrivals, ends_wait, link_rule, settled, disconnected, turns, at_opening, at_arrival, is_ready, fits_frame, awaited, is_numbered, request_message, kind_of, at_failure, at_loss}
-use Rattle.pulsar_client.specs.Log.{Chosen, Entry, Begins, Does, links, of_link, seen_link, View, view, at_once, serves, performs, gets, asks, asks_on, fails, link_acts, brings, calls_for, frames_of, dials, goes_on, opens, spends, spent, procedure_for}
+use Rattle.pulsar_client.specs.Link.{Seen, Pending, seen, arrivals, ends_wait, link_rule, settled, disconnected, turns, at_opening, at_arrival, is_ready, fits_frame, awaited, is_numbered, request_message, kind_of, at_failure, at_loss, bears_id}
+use Rattle.pulsar_client.specs.Log.{Chosen, Entry, Begins, Does, links, of_link, seen_link, View, view, at_once, serves, performs, gets, asks, asks_on, fails, link_acts, brings, calls_for, frames_of, dials, goes_on, opens, spends, spent, procedure_for, gets_from}
 use Rattle.pulsar_client.specs.Good.{due, to_come, IsRun, first, is_empty}
 use Rattle.pulsar_client.specs.Local.{is_own, link_due, Fits, IsLinkRun}
 
@@ -169,6 +170,10 @@ spends_none : (t l : ℕ) (b : Bool) → NoOwn (spends l b ++ Told t outcome.Une
 spends_none t l true = (refl, (refl, tt))
 spends_none t l false = (refl, tt)
 
+gets_from_none : (a : Option Address) (b : Base) (t : ℕ) → NoOwn (gets_from a b t)
+gets_from_none None b t = (refl, tt)
+gets_from_none (Some address) b t = gets_none b t
+
 asks_none : (t l : ℕ) (r : Request) (s : Seen) → NoOwn (asks t l r s)
 asks_none t l r s = elim (cases_Bool (is_ready s.stage)) [
   | inr shut ↦ rw shut (refl, tt)
@@ -186,7 +191,7 @@ asks_on_none t l r None = (refl, tt)
 asks_on_none t l r (Some s) = asks_none t l r s
 
 performs_none : (v : View) (t : ℕ) (a : Action) → NoOwn (performs v t a)
-performs_none v t Get = gets_none v.base t
+performs_none v t Get = gets_from_none v.address v.base t
 performs_none v t (Ask l r) = asks_on_none t l r (v.link l)
 performs_none v t (Answer a) = (refl, tt)
 performs_none v t Finish = (refl, tt)

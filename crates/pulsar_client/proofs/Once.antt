@@ -57,6 +57,7 @@ builds_once p b h (outcome.Disconnected ∷ os) = rw (here p b building h) (ends
 builds_once p b h (outcome.Exhausted ∷ os) = rw (here p b building h) (ends_once p (b ++ outcome.Exhausted ∷ []) (failed (fault_of outcome.Exhausted)) (on p b building outcome.Exhausted h) os)
 builds_once p b h (outcome.Unencodable ∷ os) = rw (here p b building h) (ends_once p (b ++ outcome.Unencodable ∷ []) (failed (fault_of outcome.Unencodable)) (on p b building outcome.Unencodable h) os)
 builds_once p b h (outcome.Queued ∷ os) = rw (here p b building h) (ends_once p (b ++ outcome.Queued ∷ []) (failed (fault_of outcome.Queued)) (on p b building outcome.Queued h) os)
+builds_once p b h (outcome.NotFound ∷ os) = rw (here p b building h) (ends_once p (b ++ outcome.NotFound ∷ []) (failed (fault_of outcome.NotFound)) (on p b building outcome.NotFound h) os)
 
 topics_once : (p : Procedure) (b : List Outcome) (n : List ℕ) (m : Mode) → ReadsOn p b (topics n m) → (os : List Outcome) → length (said_along p b os) ≤ 1
 topics_once p b n m h [] = rw (here p b (topics n m) h) (omega arith)
@@ -67,6 +68,7 @@ topics_once p b n m h ((outcome.Replied r) ∷ os) = rw (here p b (topics n m) h
 topics_once p b n m h (outcome.Disconnected ∷ os) = rw (here p b (topics n m) h) (ends_once p (b ++ outcome.Disconnected ∷ []) (failed (fault_of outcome.Disconnected)) (on p b (topics n m) outcome.Disconnected h) os)
 topics_once p b n m h (outcome.Exhausted ∷ os) = rw (here p b (topics n m) h) (ends_once p (b ++ outcome.Exhausted ∷ []) (failed (fault_of outcome.Exhausted)) (on p b (topics n m) outcome.Exhausted h) os)
 topics_once p b n m h (outcome.Unencodable ∷ os) = rw (here p b (topics n m) h) (ends_once p (b ++ outcome.Unencodable ∷ []) (failed (fault_of outcome.Unencodable)) (on p b (topics n m) outcome.Unencodable h) os)
+topics_once p b n m h (outcome.NotFound ∷ os) = rw (here p b (topics n m) h) (ends_once p (b ++ outcome.NotFound ∷ []) (failed (fault_of outcome.NotFound)) (on p b (topics n m) outcome.NotFound h) os)
 topics_once p b n m h (outcome.Queued ∷ os) = rw (here p b (topics n m) h) (ends_once p (b ++ outcome.Queued ∷ []) (failed (fault_of outcome.Queued)) (on p b (topics n m) outcome.Queued h) os)
 
 raw_once : (l : ℕ) (q : Request) (os : List Outcome) → length (said_along (procedure.Raw l q) [] os) ≤ 1

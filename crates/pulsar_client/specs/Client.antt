@@ -1,7 +1,8 @@
 -- What a client stands for.
-use Rattle.std.specs.Prelude.{◌≡◌, ℕ, List, true, false}
+use Rattle.std.specs.Prelude.{◌≡◌, ℕ, List, true, false, string_bytes}
 use Rattle.pulsar_client.specs.declared.options.ClientOptions.{ClientOptions}
 use Rattle.pulsar_client.specs.declared.pulsar.Pulsar.{Pulsar}
+use Rattle.pulsar_client.specs.Address.{address_of}
 use Rattle.pulsar_client.specs.Good.{Good, Step}
 use Rattle.pulsar_client.specs.Content.{Heard}
 use Rattle.pulsar_client.specs.Log.{Chosen, is_live}
@@ -9,7 +10,7 @@ use Rattle.pulsar_client.specs.Tables.{Stands, view_of}
 
 -- what the options choose
 abbrev pub chosen : ClientOptions → Chosen
-chosen options = record { first_number = options.first_number; now = options.now }
+chosen options = record { first_number = options.first_number; now = options.now; address = address_of (string_bytes options.url) }
 
 -- a step ran out of memory
 abbrev pub HasFailed : Pulsar → Type 0

@@ -1,5 +1,5 @@
 -- A good run.
-use Rattle.std.specs.Prelude.{◌≡◌, ℕ, ◌==◌, nat_lt, Bool, true, false, if◌then◌else◌, List, [], ◌∷◌, ◌++◌, codes, Option, Some, None, drop}
+use Rattle.std.specs.Prelude.{◌≡◌, ℕ, ◌==◌, nat_lt, Bool, true, false, if◌then◌else◌, List, [], ◌∷◌, ◌++◌, Option, Some, None, drop}
 use Rattle.std.specs.List.{flat_map, list_all}
 use Rattle.pulsar_client.specs.declared.act.Outcome.{Outcome}
 use Rattle.pulsar_client.specs.declared.act.Outcome.TheVariants as outcome
@@ -10,6 +10,7 @@ use Rattle.pulsar_client.specs.declared.act.LinkAct.TheVariants.{Drains, Ended, 
 use Rattle.pulsar_client.specs.declared.act.Act.{Act}
 use Rattle.pulsar_client.specs.declared.act.Act.TheVariants.{Dials, Answers, Builds, OnLink}
 use Rattle.pulsar_client.specs.Content.{Heard, Done, Shown, Connect, Queued, Write, Settles, Ends, Close}
+use Rattle.pulsar_client.specs.Address.{Address}
 use Rattle.pulsar_client.specs.Link.{Seen, frame_of, is_closed, written_by}
 use Rattle.pulsar_client.specs.Log.{Chosen, Entry, Begins, Does, at_once, serves, View, view, brings, frames_of}
 
@@ -41,13 +42,6 @@ IsRun o (Does a ∷ log) = IsRun o log × (first (due o log ++ to_come o log) �
 
 -- EFFECTS
 
--- the address of the service
-abbrev pub base_host : List ℕ
-base_host = codes "127.0.0.1"
-
-abbrev pub base_port : ℕ
-base_port = 6650
-
 abbrev pub settlement_of : Outcome → Settlement
 settlement_of (outcome.Replied message) = settlement.Reply
 settlement_of _ = settlement.Disconnected
@@ -72,9 +66,14 @@ abbrev pub effect_at : ℕ → Option Seen → LinkAct → Option Shown
 effect_at l None act = None
 effect_at l (Some s) act = link_effect l s act
 
+-- an attempt asks for a connection to the address
+abbrev pub connects : ℕ → Option Address → Option Shown
+connects l None = None
+connects l (Some address) = Some (Connect l address.host address.port)
+
 -- the effect of an act
 abbrev pub effect : View → Act → Option Shown
-effect v (Dials ticket) = Some (Connect v.links base_host base_port)
+effect v (Dials ticket) = connects v.links v.address
 effect v (Answers ticket answer) = Some (Ends ticket answer)
 effect v (Builds ticket) = Some (Ends ticket Done)
 effect v (OnLink l act) = effect_at l (v.link l) act

@@ -233,6 +233,7 @@ AsksOn o t P e older = (l : ℕ) × (request : Request) × (next_at t e older �
 -- Why a call is told an outcome. Failed: the attempt that it started ended, so. Canceled: the attempt of another call ended.
 -- Replied, Disconnected: its request was settled so, or its link was not ready. Exhausted: the link's numbers are spent.
 -- Queued: its link was ready.
+-- NotFound: the options have no address.
 abbrev pub Cause : Chosen → ℕ → Outcome → Entry → List Entry → Type 0
 Cause o t (outcome.Failed kind) e older = (end : End) × AttemptEnds t end e older × (kind ≡ kind_of end)
 Cause o t outcome.Canceled e older = (starter : ℕ) × (end : End) × ((t == starter) ≡ false) × AttemptEnds starter end e older
@@ -240,6 +241,7 @@ Cause o t (outcome.Replied r) e older = IsSettled t (outcome.Replied r) e
 Cause o t outcome.Disconnected e older = IsSettled t outcome.Disconnected e ⊎ AsksOn o t (λ s. readies s ≡ false) e older
 Cause o t outcome.Exhausted e older = AsksOn o t (λ s. is_at (λ x. x.next_id == spent) s ≡ true) e older
 Cause o t outcome.Queued e older = AsksOn o t (λ s. readies s ≡ true) e older
+Cause o t outcome.NotFound e older = o.address ≡ None
 Cause o t _ e older = Unit {0}
 
 -- whatever a call is told has its cause before, in the same step

@@ -23,6 +23,7 @@ use Rattle.pulsar_client.specs.declared.tables.Base.{Base}
 use Rattle.pulsar_client.specs.declared.tables.Base.TheVariants.{Nothing, Runs, Serves}
 use Rattle.pulsar_client.specs.Content as content
 use Rattle.pulsar_client.specs.Content.{Asked, Heard, Called, Opened, FailedToOpen, Bytes, Lost, Drain, Said}
+use Rattle.pulsar_client.specs.Address.{Address}
 use Rattle.pulsar_client.specs.Failures.{Exhausted}
 use Rattle.pulsar_client.specs.Link.{arrivals, fits_frame, Seen, seen, is_dialing, is_open, is_ready, kind_of, awaited, is_numbered, request_message, link_rule}
 use Rattle.pulsar_client.specs.Plan.{failed, next}
@@ -31,10 +32,12 @@ pub data Entry : Type 0 where
   Begins : Heard → Entry
   Does : Act → Entry
 
--- what a client's options say of a run: the number of the first request of each link, and the clock
+-- what a client's options say of a run: the number of the first request of each link, the time of its start in milliseconds
+-- since 1970, and the address of the service, where their URL has one
 pub record Chosen : Type 0 where
   pub first_number : ℕ
   pub now : ℕ
+  pub address : Option Address
 
 -- the greatest number of a counter, which is never given out
 abbrev pub spent : ℕ
@@ -132,6 +135,7 @@ pub record View : Type 0 where
   pub links : ℕ
   pub is_built : Bool
   pub at_outcome : ℕ → Outcome → Action
+  pub address : Option Address
   pub base : Base
   pub waiting : List ℕ
   pub link : ℕ → Option Seen
@@ -150,6 +154,7 @@ view o log =
       links = links log;
       is_built = built log;
       at_outcome = λ t outcome. action_at (procedure_of t log) (outcomes_of t log) outcome;
+      address = o.address;
       base = base log;
       waiting = waiting log;
       link = seen_link o log;
@@ -163,6 +168,11 @@ abbrev pub gets : Base → ℕ → List Act
 gets Nothing t = Dials t ∷ Waits t ∷ []
 gets (Runs starter) t = Waits t ∷ []
 gets (Serves link) t = Told t (outcome.GotLink link) ∷ []
+
+-- there is no link to get where the options have no address
+abbrev pub gets_from : Option Address → Base → ℕ → List Act
+gets_from None base t = Told t outcome.NotFound ∷ []
+gets_from (Some address) base t = gets base t
 
 -- a call whose frame has no answer goes on once it is queued
 abbrev pub goes_on : ℕ → Option Awaited → List Act
@@ -189,7 +199,7 @@ asks_on t link request (Some s) = asks t link request s
 
 -- an action, as acts
 abbrev pub performs : View → ℕ → Action → List Act
-performs v t Get = gets v.base t
+performs v t Get = gets_from v.address v.base t
 performs v t (Ask link request) = asks_on t link request (v.link link)
 performs v t (Answer answer) = Answers t answer ∷ []
 performs v t Finish = Builds t ∷ []

@@ -14,8 +14,8 @@ use Rattle.pulsar_client.specs.declared.act.Request.TheVariants as request
 use Rattle.pulsar_client.specs.declared.act.Action.{Action}
 use Rattle.pulsar_client.specs.declared.act.Action.TheVariants.{Get, Ask, Answer, Finish, Rest}
 use Rattle.pulsar_frame.specs.Key.{answers}
-use Rattle.pulsar_client.specs.Failures.{Fault, Io, Disconnected, PulsarError, Encoding, UnexpectedResponse, Canceled, Shutdown, Exhausted, OfConnection}
 use Rattle.pulsar_client.specs.Content.{Said, Done, Names, Receipt, Replies, Failed}
+use Rattle.pulsar_client.specs.Failures.{Fault, Io, Disconnected, PulsarError, Encoding, UnexpectedResponse, Canceled, Shutdown, Exhausted, OfConnection, NotFound}
 use Rattle.pulsar_client.specs.Messages.{Reply, body_of, read_body, is_number}
 
 -- why a call fails at an outcome
@@ -23,6 +23,7 @@ abbrev pub fault_of : Outcome → Fault
 fault_of (outcome.Failed kind) = Io kind
 fault_of outcome.Canceled = Canceled
 fault_of outcome.Exhausted = Exhausted
+fault_of outcome.NotFound = NotFound
 fault_of outcome.Unencodable = Encoding reason.Frame
 fault_of _ = Disconnected
 

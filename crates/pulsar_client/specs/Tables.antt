@@ -122,11 +122,12 @@ plan_action row o = reader row (o ∷ [])
 abbrev pub view_of : Tables → View
 view_of c =
     record {
-      now = c.now;
+      now = c.time;
       calls = c.tickets;
       links = length c.links.items;
       is_built = c.built;
       at_outcome = λ t. plan_action (get nat_cmp c.calls t);
+      address = c.address;
       base = c.base;
       waiting = c.waiting.keys;
       link = table_at c.links.items;
@@ -136,7 +137,8 @@ view_of c =
 -- the tables are those of the log
 pub record Reads (o : Chosen) (c : Tables) (log : List Entry) : Type 0 where
   pub first_is : c.first_number ≡ o.first_number
-  pub now_is : c.now ≡ o.now
+  pub time_is : c.time ≡ o.now
+  pub address_is : c.address ≡ o.address
   pub built_is : c.built ≡ built log
   pub tickets_is : c.tickets ≡ calls log
   pub calls_are : (t : ℕ) → get nat_cmp c.calls t ≡ stands (procedure_of t log) (outcomes_of t log)
@@ -170,7 +172,8 @@ unread_begun v _ l row = row
 
 pub record Begun (e : Heard) (old new : Tables) : Type 0 where
   pub first_same : new.first_number ≡ old.first_number
-  pub now_same : new.now ≡ old.now
+  pub time_same : new.time ≡ old.time
+  pub address_same : new.address ≡ old.address
   pub built_same : new.built ≡ old.built
   pub tickets_same : new.tickets ≡ old.tickets
   pub calls_same : (t : ℕ) → get nat_cmp new.calls t ≡ get nat_cmp old.calls t
@@ -230,7 +233,8 @@ pub record LinksFollow (first : ℕ) (act : Act) (old new : List Link) : Type 0 
 -- nothing but the links' table follows an act
 pub record LinksAlone (l : ℕ) (act : LinkAct) (old new : Tables) : Type 0 where
   pub first_same : new.first_number ≡ old.first_number
-  pub now_same : new.now ≡ old.now
+  pub time_same : new.time ≡ old.time
+  pub address_same : new.address ≡ old.address
   pub built_same : new.built ≡ old.built
   pub tickets_same : new.tickets ≡ old.tickets
   pub calls_same : new.calls ≡ old.calls
@@ -241,7 +245,8 @@ pub record LinksAlone (l : ℕ) (act : LinkAct) (old new : Tables) : Type 0 wher
 -- the client's tables after an act
 pub record Follows (act : Act) (old new : Tables) : Type 0 where
   pub first_same : new.first_number ≡ old.first_number
-  pub now_same : new.now ≡ old.now
+  pub time_same : new.time ≡ old.time
+  pub address_same : new.address ≡ old.address
   pub built_is : new.built ≡ built_after act old.built
   pub tickets_is : new.tickets ≡ tickets_after act old.tickets
   pub calls_are : (t : ℕ) → get nat_cmp new.calls t ≡ call_after act old.tickets t (get nat_cmp old.calls t)

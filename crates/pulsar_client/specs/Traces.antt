@@ -1,5 +1,5 @@
 -- Three small runs, by their histories, oldest step first. Each is good.
-use Rattle.std.specs.Prelude.{ℕ, List, [], ◌∷◌, ◌++◌, reverse, codes}
+use Rattle.std.specs.Prelude.{ℕ, List, [], ◌∷◌, ◌++◌, reverse, codes, Some}
 use Rattle.pulsar_wire.specs.declared.error.IoKind.TheVariants.{Other}
 use Rattle.pulsar_wire.specs.declared.commands.topics.Mode.TheVariants as modes
 use Rattle.pulsar_frame.specs.Frame.{frame_bytes}
@@ -9,11 +9,18 @@ use Rattle.pulsar_client.specs.Failures.{Io, Canceled}
 use Rattle.pulsar_client.specs.Plan.{failed}
 use Rattle.pulsar_client.specs.Messages.{connect_message, topics_message}
 use Rattle.pulsar_client.specs.Log.{Chosen}
-use Rattle.pulsar_client.specs.Good.{Step, Good, base_host, base_port}
+use Rattle.pulsar_client.specs.Good.{Step, Good}
+
+-- the host and the port of the service
+abbrev pub local_host : List ℕ
+local_host = codes "127.0.0.1"
+
+abbrev pub local_port : ℕ
+local_port = 6650
 
 -- requests are numbered from 0, at moment 0
 abbrev pub numbered_from_zero : Chosen
-numbered_from_zero = record { first_number = 0; now = 0 }
+numbered_from_zero = record { first_number = 0; now = 0; address = Some (record { host = local_host; port = local_port }) }
 
 -- an event with its effects
 abbrev pub step_of : Heard → List Shown → Step
@@ -34,7 +41,7 @@ asks_topics = Called (Topics (codes "n") modes.All)
 -- the first steps: a call builds the client
 abbrev pub builds : List Step
 builds =
-    step_of (Called Build) (Connect 0 base_host base_port ∷ [])
+    step_of (Called Build) (Connect 0 local_host local_port ∷ [])
     ∷ step_of (Opened 0) (Queued 0 0 (frame_bytes connect_message) ∷ [])
     ∷ step_of (Drain 0 8) (Write 0 (frame_bytes connect_message) ∷ [])
     ∷ step_of (Bytes 0 connected) (Ends 0 Done ∷ [])
@@ -60,7 +67,7 @@ reply_comes_early =
 -- an attempt fails for which two calls wait: the one that started it is told why, and the other that it is canceled
 abbrev pub attempt_fails : List Step
 attempt_fails =
-    step_of (Called Build) (Connect 0 base_host base_port ∷ [])
+    step_of (Called Build) (Connect 0 local_host local_port ∷ [])
     ∷ step_of (Called Build) []
     ∷ step_of (Opened 0) (Queued 0 0 (frame_bytes connect_message) ∷ [])
     ∷ step_of (Bytes 0 topics_reply) (Ends 0 (failed (Io Other)) ∷ Ends 1 (failed Canceled) ∷ Close 0 ∷ [])

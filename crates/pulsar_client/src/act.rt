@@ -29,6 +29,8 @@ pub enum Outcome {
     Exhausted,
     /// A size of its frame does not fit.
     Unencodable,
+    /// The options have no address.
+    NotFound,
     /// Its frame, which has no answer, is queued.
     Queued,
 }

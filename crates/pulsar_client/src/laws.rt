@@ -1,5 +1,6 @@
 //! What follows from the definition of a good run: each contract is a law, and its body is empty.
 
+ghost use Rattle.pulsar_client.specs.Address.{KnownAddresses};
 ghost use Rattle.pulsar_client.specs.Client.{StoodForIsGood};
 ghost use Rattle.pulsar_client.specs.Laws.{ActsFollow, AnswersOnce, CallsAreMade, CallsFollow, Determined, FailuresAreTold, FramesAreCut, LinksAlone, OutcomesAreCaused, SettledByFirst, WrittenInOrder, WritesFollow};
 ghost use Rattle.pulsar_client.specs.Traces.{IsGood, attempt_fails, reply_comes_early, request_is_answered};
@@ -74,4 +75,9 @@ pub fn acts_follow()
 /// A call is made where the user asks for it, and is refused just where the client is not built.
 pub fn calls_are_made()
     ensures { CallsAreMade }
+{}
+
+/// Some texts have known addresses.
+pub fn addresses_are_known()
+    ensures { KnownAddresses }
 {}

@@ -2,6 +2,7 @@
 #![tactic(auto)]
 
 mod act;
+mod address;
 mod content;
 pub mod effect;
 pub mod event;

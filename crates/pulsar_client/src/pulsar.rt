@@ -1,12 +1,13 @@
 //! The client.
 
-ghost use Rattle.std.specs.Prelude.{◌≡◌, ◌∷◌, [], List, OnErr, IfOk, IsErr, codes, length, map, reverse, string_bytes};
+ghost use Rattle.std.specs.Prelude.{◌≡◌, ◌∷◌, [], List, OnErr, IfOk, IsErr, length, map, reverse};
 ghost use Rattle.pulsar_client.specs.Content.{Called, asked, heard, shown};
 ghost use Rattle.pulsar_client.specs.Good.{Good, Step};
 ghost use Rattle.pulsar_client.specs.Log.{Chosen};
 ghost use Rattle.pulsar_client.specs.Tables.{answered, step};
 ghost use Rattle.pulsar_client.specs.Client.{HasFailed, IsDead, StandsFor, chosen, next_ticket};
 
+use crate::address::Address;
 use crate::effect::Effect;
 use crate::event::{Call, Event};
 use crate::options::ClientOptions;
@@ -24,12 +25,12 @@ pub struct Pulsar {
 }
 
 impl Pulsar {
-    /// A client to which nothing has happened.
+    /// A client to which nothing has happened. A URL that is too long to be read counts as want of memory.
     pub fn new(alloc: Global, options: ClientOptions) -> Result<Pulsar, NoMemory>
-        requires { string_bytes options.url ≡ codes "pulsar://127.0.0.1:6650" }
         ensures { IfOk result (λ c. StandsFor (chosen options) c []) }
     {
-        let tables = Tables::new(alloc, options.first_number, options.now);
+        let address = Address::of(alloc, &options.url)?;
+        let tables = Tables::new(alloc, options.first_number, options.now, address);
         Ok(Pulsar {
             options,
             tables,
@@ -43,7 +44,6 @@ impl Pulsar {
         options: ClientOptions,
         events: &[Event],
     ) -> Result<Vec<Vec<Effect>>, NoMemory>
-        requires { string_bytes options.url ≡ codes "pulsar://127.0.0.1:6650" }
         ensures run { IfOk result (λ all. Good (chosen options) (reverse (answered events.now all.items))) }
         ensures one_each { IfOk result (λ all. length all.items ≡ length events.now) }
     {

@@ -5,12 +5,13 @@ ghost use Rattle.std.specs.BTreeMap.{get};
 ghost use Rattle.std.specs.Option.{option_map};
 ghost use Rattle.std.specs.Ordering.{nat_cmp};
 ghost use Rattle.pulsar_client.specs.Content.{Heard, Bytes, asked, heard, shown};
-ghost use Rattle.pulsar_client.specs.Good.{Step, effect, effect_at, put_some};
+ghost use Rattle.pulsar_client.specs.Good.{Step, connects, effect, effect_at, put_some};
 ghost use Rattle.pulsar_client.specs.Link.{awaited};
-ghost use Rattle.pulsar_client.specs.Log.{Chosen, asks_on, at_once, brings, calls_for, dials, fails, frames_of, goes_on, opens, gets, is_live, link_acts, performs, procedure_for, serves, spends};
+ghost use Rattle.pulsar_client.specs.Log.{Chosen, asks_on, at_once, brings, calls_for, dials, fails, frames_of, goes_on, opens, gets, gets_from, is_live, link_acts, performs, procedure_for, serves, spends};
 ghost use Rattle.pulsar_client.specs.Tables.{Begun, Follows, InStep, LinksAlone, LinksFollow, Stands, step, table_at, view_of};
 
 use crate::act::{Act, Action, Arrival, End, LinkAct, Outcome, Procedure, Request};
+use crate::address::Address;
 use crate::content::{RawRequest, Text, Verdict};
 use crate::effect::{Answer, Effect};
 use crate::event::{Call, Event};
@@ -22,12 +23,6 @@ use crate::session::link::Link;
 use pulsar_wire::error::{ConnectionError, Error, IoKind, NoMemory};
 use std::alloc::Global;
 use std::collections::{BTreeMap, BTreeSet, VecDeque};
-
-/// The host of the service.
-const BASE_HOST: &str = "127.0.0.1";
-
-/// The port of the service.
-const BASE_PORT: u16 = 6650;
 
 /// What the newest turn of the address left: nothing, a running attempt, or a ready link.
 #[derive(Clone, Copy)]
@@ -42,8 +37,10 @@ pub enum Base {
 pub struct Tables {
     pub alloc: Global,
     pub first_number: u64,
-    /// The clock, in milliseconds since 1970.
-    pub now: u64,
+    /// The time at which the client was made, in milliseconds since 1970.
+    pub time: u64,
+    /// The address of the service, where the options have one.
+    pub address: Option<Address>,
     /// A Build call has ended Ok.
     pub built: bool,
     /// How many tickets were drawn.
@@ -57,13 +54,14 @@ pub struct Tables {
 }
 
 impl Tables {
-    pub fn new(alloc: Global, first_number: u64, now: u64) -> Tables
-        ensures { Stands (record { first_number = first_number; now = now }) result [] }
+    pub fn new(alloc: Global, first_number: u64, time: u64, address: Option<Address>) -> Tables
+        ensures { Stands (record { first_number = first_number; now = time; address = address }) result [] }
     {
         Tables {
             alloc,
             first_number,
-            now,
+            time,
+            address,
             built: false,
             tickets: 0,
             calls: BTreeMap::new(alloc),
@@ -142,7 +140,7 @@ impl Tables {
                 verdict: Verdict::new(Err(Error::Connection(ConnectionError::Exhausted))),
             })?;
         } else {
-            due.push_back(Act::Calls(procedure_for(self.built, self.now, call)?))?;
+            due.push_back(Act::Calls(procedure_for(self.built, self.time, call)?))?;
         }
         Ok(())
     }
@@ -295,18 +293,20 @@ impl Tables {
         ensures out { OnOk result (map shown out.new.items ≡ put_some (effect (view_of self.old) (Act.Dials ticket)) (map shown out.old.items)) }
         ensures tables { OnOk result (Follows (Act.Dials ticket) self.old self.new) }
     {
-        let host = String::from_str(self.alloc, BASE_HOST)?;
-        put(
-            out,
-            Effect::Connect {
-                link: self.links.len() as u64,
-                host,
-                port: BASE_PORT,
-            },
-        )?;
+        self.connect(out)?;
         start_link(&mut self.links, self.alloc, self.first_number)?;
         self.base = Base::Runs { starter: ticket };
         Ok(())
+    }
+
+    /// A connection is asked for, which is the next link.
+    fn connect(&self, out: &mut Vec<Effect>) -> Result<(), NoMemory>
+        ensures { OnOk result (map shown out.new.items ≡ put_some (connects (length self.now.links.items) self.now.address) (map shown out.old.items)) }
+    {
+        match &self.address {
+            None => Ok(()),
+            Some(address) => put(out, address.connect(self.links.len() as u64)?),
+        }
     }
 
     /// A call's action, as acts.
@@ -314,7 +314,7 @@ impl Tables {
         ensures { OnOk result (due.new.items ≡ performs (view_of self.now) ticket action ++ due.old.items) }
     {
         match action {
-            Action::Get => self.gets(ticket, due),
+            Action::Get => self.gets_from(ticket, due),
             Action::Ask { link, request } => self.asks(ticket, link, request, due),
             Action::Answer(verdict) => {
                 due.push_front(Act::Answers { ticket, verdict })?;
@@ -325,6 +325,16 @@ impl Tables {
                 Ok(())
             }
             Action::Rest => Ok(()),
+        }
+    }
+
+    /// The link of the address is got, where the options have an address.
+    fn gets_from(&self, ticket: u64, due: &mut VecDeque<Act>) -> Result<(), NoMemory>
+        ensures { OnOk result (due.new.items ≡ gets_from self.now.address self.now.base ticket ++ due.old.items) }
+    {
+        match &self.address {
+            None => refuse(ticket, Outcome::NotFound, due),
+            Some(_) => self.gets(ticket, due),
         }
     }
 
@@ -502,8 +512,8 @@ fn bring(is_live: bool, link: u64, act: LinkAct, due: &mut VecDeque<Act>) -> Res
 }
 
 /// The procedure of a call.
-fn procedure_for(built: bool, now: u64, call: &Call) -> Result<Procedure, NoMemory>
-    ensures { IfOk result (λ p. p ≡ procedure_for built now (asked call.now)) }
+fn procedure_for(built: bool, time: u64, call: &Call) -> Result<Procedure, NoMemory>
+    ensures { IfOk result (λ p. p ≡ procedure_for built time (asked call.now)) }
 {
     match call {
         Call::Build => Ok(Procedure::Build),
@@ -522,7 +532,7 @@ fn procedure_for(built: bool, now: u64, call: &Call) -> Result<Procedure, NoMemo
                 Ok(Procedure::Raw {
                     link: *link,
                     request: Request::Raw {
-                        now,
+                        now: time,
                         words: RawRequest::new(call.copy()?),
                     },
                 })

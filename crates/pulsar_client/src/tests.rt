@@ -1,7 +1,5 @@
 //! Each public call, where there is memory.
 
-ghost use Rattle.std.specs.Prelude.{◌≡◌, IfOk, codes, string_bytes};
-
 use crate::effect::{Answer, Effect, Settlement};
 use crate::event::{Call, Event};
 use crate::options::ClientOptions;
@@ -21,9 +19,7 @@ const TOPICS: &[u8] =
 
 const REPLY: &[u8] = b"\x00\x00\x00\x0e\x00\x00\x00\x0a\x08\x21\x8a\x02\x05\x08\x00\x12\x01a";
 
-fn options(alloc: Global) -> Result<ClientOptions, NoMemory>
-    ensures { IfOk result (λ o. string_bytes o.url ≡ codes "pulsar://127.0.0.1:6650") }
-{
+fn options(alloc: Global) -> Result<ClientOptions, NoMemory> {
     Ok(ClientOptions {
         url: String::from_str(alloc, "pulsar://127.0.0.1:6650")?,
         now: 0,
@@ -97,6 +93,69 @@ fn a_request_is_answered(rt: HostRuntime) -> Result<(), Fail> {
         })
     );
     assert_eq!(rt; effects.pop(), None);
+    Ok(())
+}
+
+/// The effect of a Build by a client with this URL.
+fn built_at(alloc: Global, url: &str) -> Result<Option<Effect>, NoMemory> {
+    let options = ClientOptions {
+        url: String::from_str(alloc, url)?,
+        now: 0,
+        first_number: 0,
+    };
+    let mut client = Pulsar::new(alloc, options)?;
+    let (_, mut effects) = client.submit(Call::Build)?;
+    Ok(effects.pop())
+}
+
+#[test]
+fn the_address_is_that_of_the_url(rt: HostRuntime) -> Result<(), Fail> {
+    let alloc = rt.alloc();
+    for (url, host, port) in [
+        ("pulsar://127.0.0.1:6650", "127.0.0.1", 6650),
+        ("pulsar://h", "h", 6650),
+        ("pulsar://h:", "h", 6650),
+        ("PULSAR://broker.example:7/a?b#c", "broker.example", 7),
+        ("pulsar://u:p@h:0", "h", 0),
+        ("pulsar://[::1]:65535", "[::1]", 65535),
+    ] {
+        assert_eq!(rt;
+            built_at(alloc, url)?,
+            Some(Effect::Connect {
+                link: 0,
+                host: String::from_str(alloc, host)?,
+                port
+            }),
+            "{url}"
+        );
+    }
+    for url in [
+        "",
+        "h",
+        "h:6650",
+        "pulsar:",
+        "pulsar:h",
+        "pulsar:/h",
+        "pulsar://",
+        "pulsar:///h",
+        "pulsar://:7",
+        "pulsar://h:65536",
+        "pulsar://h:a",
+        "pulsar://h i",
+        "pulsar://[::1",
+        "pulsar+ssl://h",
+        "http://h:6650",
+        "pulsars://h",
+    ] {
+        assert_eq!(rt;
+            built_at(alloc, url)?,
+            Some(Effect::Ended {
+                ticket: 0,
+                answer: Err(Error::Connection(ConnectionError::NotFound))
+            }),
+            "{url}"
+        );
+    }
     Ok(())
 }
 

@@ -238,6 +238,7 @@ fn error_of(outcome: &Outcome) -> ConnectionError
         Outcome::Failed(kind) => ConnectionError::Io(*kind),
         Outcome::Canceled => ConnectionError::Canceled,
         Outcome::Exhausted => ConnectionError::Exhausted,
+        Outcome::NotFound => ConnectionError::NotFound,
         Outcome::Unencodable => ConnectionError::Encoding(Reason::Frame),
         Outcome::GotLink(_)
         | Outcome::Replied(_)

@@ -435,5 +435,6 @@ pub fn settlement(outcome: &Outcome) -> Settlement
         | Outcome::Exhausted
         | Outcome::Unencodable
         | Outcome::Queued => Settlement::Disconnected,
+        | Outcome::NotFound => Settlement::Disconnected,
     }
 }

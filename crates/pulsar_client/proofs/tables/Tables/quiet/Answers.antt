@@ -4,6 +4,8 @@ use Rattle.pulsar_client.proofs.tables.Tables.quiet.Goals as goal
 pub returns-clause-tables : goal.returns-clause-tables
 returns-clause-tables c = record {
   first_same = refl;
+  time_same = refl;
+  address_same = refl;
   built_same = refl;
   tickets_same = refl;
   calls_same = refl;

@@ -11,6 +11,8 @@ returns-clause-tables c =
     let lt : c.args.link < length c.args.self.now.links.items = open-within c.args.self.now.links.items c.args.link is_open in
     record {
       first_same = refl;
+      time_same = refl;
+      address_same = refl;
       built_same = refl;
       tickets_same = refl;
       calls_same = λ t. refl;

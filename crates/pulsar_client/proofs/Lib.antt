@@ -1,5 +1,6 @@
 pub mod Lists
 pub mod Pendings
+pub mod Words
 pub mod Rows
 pub mod Runs
 pub mod Streams

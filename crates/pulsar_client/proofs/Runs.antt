@@ -16,7 +16,7 @@ use Rattle.pulsar_client.specs.declared.act.Arrival.{Arrival}
 use Rattle.pulsar_client.specs.declared.act.Outcome.{Outcome}
 use Rattle.pulsar_client.specs.declared.act.Outcome.TheVariants.{GotLink}
 use Rattle.pulsar_client.specs.declared.act.Procedure.{Procedure}
-use Rattle.pulsar_client.specs.declared.act.Procedure.TheVariants.{Build, Topics, Refused}
+use Rattle.pulsar_client.specs.declared.act.Procedure.TheVariants.{Build, Topics, Raw, Refused}
 use Rattle.pulsar_client.specs.declared.act.LinkAct.{LinkAct}
 use Rattle.pulsar_client.specs.declared.act.LinkAct.TheVariants.{Comes, Greets, Readied, Ended, Settled}
 use Rattle.pulsar_client.specs.declared.act.Act.{Act}
@@ -47,6 +47,8 @@ read_on (Some (plan.Asking n m)) _ o [] = refl
 read_on (Some (plan.Asking n m)) _ o (y ∷ ys) = refl
 read_on (Some plan.Asked) x o [] = refl
 read_on (Some plan.Asked) x o (y ∷ ys) = refl
+read_on (Some (plan.Raw n)) x o [] = refl
+read_on (Some (plan.Raw n)) x o (y ∷ ys) = refl
 
 read_all : (row : Option Plan) (outs : List Outcome) (o : Outcome) → plan_action (fold plan_after row outs) o ≡ reader row (outs ++ o ∷ [])
 read_all row [] o = refl
@@ -55,6 +57,8 @@ read_all row (x ∷ xs) o = read_all (plan_after row x) xs o ∙ sym (read_on ro
 start_reads : (p : Procedure) (o : Outcome) (os : List Outcome) → reader (start p) (os ++ o ∷ []) ≡ next p (os ++ o ∷ [])
 start_reads Build o os = refl
 start_reads (Topics n m) o os = refl
+start_reads (Raw l q) o [] = refl
+start_reads (Raw l q) o (x ∷ xs) = refl
 start_reads Refused o [] = refl
 start_reads Refused o (x ∷ xs) = refl
 
@@ -75,6 +79,7 @@ plan_after_is (Some p) outs o = fold_more (start p) outs o
 
 pub view_same : {o : Chosen} {c : Tables} {log : List Entry} → Reads o c log → view_of c ≡ view o log
 view_same {o} {c} {log} r = λ i. record {
+  now = r.time_is i;
   calls = r.tickets_is i;
   links = r.count_is i;
   is_built = r.built_is i;

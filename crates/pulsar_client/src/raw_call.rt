@@ -185,6 +185,7 @@ fn copy_id(id: &MessageIdData) -> Result<MessageIdData, NoMemory>
     Ok(id.copy()?)
 }
 
+#[tactic(auto, using(crate::proofs::Words::properties_copied))]
 fn copy_properties(
     properties: &BTreeMap<String, String>,
 ) -> Result<BTreeMap<String, String>, NoMemory>

@@ -116,8 +116,7 @@ fn topics_of_body(alloc: Global, body: Body) -> Result<Verdict, NoMemory>
 {
     match body {
         Body::GetTopicsOfNamespaceResponse(body) => Ok(topics_of(body)),
-        Body::Error(body) => Ok(failure(told_error(body))),
-        body => Ok(failure(unexpected(alloc, body.name())?)),
+        body => refused(alloc, body),
     }
 }
 
@@ -161,7 +160,7 @@ fn raw_of_body(alloc: Global, request: u32, body: Body) -> Result<Verdict, NoMem
     }
 }
 
-/// Why a body that answers no raw call fails it.
+/// Why a body that is not the answer fails a call.
 fn refused(alloc: Global, body: Body) -> Result<Verdict, NoMemory>
     ensures { IfOk result (λ v. v ≡ failed (refused (read_body None (Some (body_values body))) (Some (body_values body).number))) }
 {
@@ -206,7 +205,7 @@ fn answer_of(request: u32) -> Option<u32>
 /// The error that the broker tells.
 #[tactic(auto, unfolding(pulsar_wire::specs::Views::error_values))]
 fn told_error(body: CommandError) -> ConnectionError
-    ensures { failed (fault result) ≡ topics_of_body (Some (body_values (Body.Error body))) }
+    ensures { fault result ≡ refused (read_body None (Some (body_values (Body.Error body)))) (Some 14) }
 {
     ConnectionError::PulsarError(server_error(body.error), Some(body.message))
 }

@@ -1,6 +1,6 @@
 //! What a link makes of an act.
 
-ghost use Rattle.std.specs.Prelude.{◌≡◌, ◌≤◌, ◌∷◌, ◌+◌, [], ◌++◌, ℕ, None, Some, OnOk, IfOk, map, take, drop};
+ghost use Rattle.std.specs.Prelude.{◌≡◌, ◌≤◌, ◌∷◌, ◌+◌, [], ◌++◌, ℕ, None, Some, OnOk, IfOk, map, take, drop, if◌then◌else◌};
 ghost use Rattle.std.specs.List.{flat_map};
 ghost use Rattle.std.specs.Option.{option_map};
 ghost use Rattle.pulsar_frame.specs.Frame.{frame_bytes, left};
@@ -16,7 +16,7 @@ use crate::content::Received;
 use crate::effect::{Effect, Settlement};
 use crate::session::link::{Link, Stage};
 use crate::session::messages;
-use crate::session::waiting::{Waiter, Waiting, awaited_by};
+use crate::session::waiting::{Waiter, Waiting};
 use pulsar_frame::message::Message;
 use pulsar_frame::reader::FrameReader;
 use pulsar_wire::error::{ConnectionError, IoKind, NoMemory};
@@ -325,11 +325,8 @@ impl Link {
         ensures next { OnOk result (self.new.next_id ≡ self.old.next_id) }
         ensures others { OnOk result (KeepsFrames self.old self.new) }
     {
-        let Some(awaited) = awaited_by(message.key()) else {
-            return Ok(());
-        };
         let waiting = replace(&mut self.pending, Waiting::new(alloc));
-        let (settled, left) = waiting.settle(alloc, awaited)?;
+        let (settled, left) = waiting.settle(alloc, message.key())?;
         self.pending = left;
         reply_all(link, settled, message, due)
     }
@@ -383,18 +380,25 @@ impl Link {
         let awaited = request.awaited(self.next_id);
         let message = request.into_message(alloc, self.next_id)?;
         let frame = frame_of(alloc, &message)?;
-        if let Some(awaits) = awaited {
-            self.waits(alloc, awaits, ticket)?;
-        }
+        self.waits(alloc, awaited, ticket)?;
         self.queues(link, frame)
     }
 
-    /// A request that is queued at the next place waits, and draws a number of the link where it is answered by that.
-    fn waits(&mut self, alloc: Global, awaits: Awaited, ticket: u64) -> Result<(), NoMemory>
-        ensures pending { OnOk result (self.new.pending ≡ self.old.pending ++ waits_for (Some awaits) self.old.queued ticket) }
-        ensures next { OnOk result (self.new.next_id ≡ (if draws (Some awaits) then self.old.next_id + 1 else self.old.next_id)) }
+    /// A request that is queued at the next place waits for its answer, and draws a number of the link where it is answered
+    /// by that.
+    fn waits(
+        &mut self,
+        alloc: Global,
+        awaited: Option<Awaited>,
+        ticket: u64,
+    ) -> Result<(), NoMemory>
+        ensures pending { OnOk result (self.new.pending ≡ self.old.pending ++ waits_for awaited self.old.queued ticket) }
+        ensures next { OnOk result (self.new.next_id ≡ (if draws awaited then self.old.next_id + 1 else self.old.next_id)) }
         ensures others { OnOk result (KeepsFrames self.old self.new) }
     {
+        let Some(awaits) = awaited else {
+            return Ok(());
+        };
         let waiter = Waiter {
             awaits,
             place: self.queued,

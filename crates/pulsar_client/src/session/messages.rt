@@ -7,7 +7,7 @@ ghost use Rattle.pulsar_frame.specs.Payload.{payload_values};
 ghost use Rattle.pulsar_frame.specs.Shown.{message_values};
 ghost use Rattle.pulsar_client.specs.RawCall.{Ack, CloseConsumer, CloseProducer, CreateProducer, Flow, Send, Subscribe, id_of, outgoing, property};
 ghost use Rattle.pulsar_client.specs.Link.{awaited, fits_frame, is_numbered, numbered, raw_awaited, request_message};
-ghost use Rattle.pulsar_client.specs.Messages.{bare, body_of, connect_message, metadata_of, property_values, raw_message, topics_message};
+ghost use Rattle.pulsar_client.specs.Messages.{ack_type, bare, body_of, connect_message, metadata_of, property_values, raw_message, topics_message};
 ghost use Rattle.pulsar_client.specs.Plan.{request_number};
 
 use crate::act::{Awaited, Request};
@@ -144,6 +144,7 @@ fn payload(
 }
 
 /// The properties in key order.
+#[tactic(auto, unfolding(pulsar_wire::specs::Views::key_value_values))]
 fn properties(
     alloc: Global,
     properties: BTreeMap<String, String>,
@@ -212,16 +213,23 @@ pub fn flow(consumer_id: u64, permits: u32) -> Message
 }
 
 /// Acknowledges these messages, or all up to the one.
-#[tactic(auto, unfolding(pulsar_wire::specs::Views::ack_values))]
+#[tactic(auto, using(crate::proofs::Words::ids_values), unfolding(pulsar_wire::specs::Views::ack_values))]
 pub fn ack(consumer_id: u64, ids: Vec<MessageIdData>, cumulative: bool) -> Message
     ensures { (id : ℕ) → message_values result ≡ bare (body_of id (Ack consumer_id (map id_of ids.items) cumulative)) }
 {
     let body = CommandAck {
         consumer_id,
-        ack_type: if cumulative { 1 } else { 0 },
+        ack_type: ack_type(cumulative),
         message_id: ids,
     };
     bare(Body::Ack(body))
+}
+
+/// The type of an ack: each message by itself, or all up to the one.
+fn ack_type(cumulative: bool) -> i32
+    ensures { result ≡ ack_type cumulative }
+{
+    if cumulative { 1 } else { 0 }
 }
 
 /// Ends a consumer.

@@ -1,6 +1,7 @@
 //! The requests of a link that wait for an answer.
 
-ghost use Rattle.std.specs.Prelude.{◌≡◌, ◌++◌, ◌∷◌, [], IfOk, map};
+ghost use Rattle.std.specs.Prelude.{◌≡◌, ◌++◌, ◌∷◌, [], IfOk, filter, map, not};
+ghost use Rattle.pulsar_client.specs.Link.{ends_wait};
 ghost use Rattle.pulsar_client.specs.Waiting.{Taken, awaited_by, found, numbers_of, others, pending_at, pending_of};
 
 use crate::act::Awaited;
@@ -82,8 +83,26 @@ impl Waiting {
         })
     }
 
-    /// Those that wait for this wait no longer. The answer has them, and all others.
+    /// Those that a frame of this key answers wait no longer. The answer has them, and all others.
     pub fn settle(
+        self,
+        alloc: Global,
+        key: Option<RequestKey>,
+    ) -> Result<(VecDeque<Waiter>, Waiting), NoMemory>
+        ensures settled { IfOk result (λ r. map pending_of r.0.items ≡ filter (λ p. ends_wait key p.awaits) self) }
+        ensures left { IfOk result (λ r. r.1 ≡ filter (λ p. not (ends_wait key p.awaits)) self) }
+    {
+        match awaited_by(key) {
+            Some(awaited) => {
+                let (settled, left) = self.take(alloc, awaited)?;
+                Ok((settled, left))
+            }
+            None => Ok((VecDeque::new(alloc), self)),
+        }
+    }
+
+    /// Those that wait for this, and all others.
+    fn take(
         self,
         alloc: Global,
         awaited: Awaited,
@@ -140,7 +159,7 @@ fn take_all(
 }
 
 /// What is answered by a frame of this key.
-pub fn awaited_by(key: Option<RequestKey>) -> Option<Awaited>
+fn awaited_by(key: Option<RequestKey>) -> Option<Awaited>
     ensures { result ≡ awaited_by key }
 {
     match key {

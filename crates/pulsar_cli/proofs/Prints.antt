@@ -1,24 +1,31 @@
 -- What a reading has printed, where it goes on and where it stops.
-use Rattle.std.proofs.Common.{inl, inr, ◌⊎◌, ◌≡◌, ℕ, ◌+◌, ◌≤◌, ◌<◌, ◌∙◌, sym, ap, List, [], ◌∷◌, ◌++◌, refl, arith, Option, Some, length, take, drop, subst, append_assoc, append-nil, length-append}
+use Rattle.std.proofs.Common.{inl, inr, ◌⊎◌, ◌≡◌, ℕ, ◌+◌, ◌≤◌, ◌<◌, ◌∙◌, sym, ap, List, [], ◌∷◌, ◌++◌, refl, arith, Option, Some, None, length, take, drop, subst, append_assoc, append-nil, length-append}
 use Rattle.std.specs.Prelude.{string_bytes, Result, Ok, Err, OnOk, IfErr, MatchResult}
 use Rattle.std.proofs.lemmas.List.{take-append-drop, length-drop, length-take-le}
 use Rattle.std.proofs.Math.Seq.{drop-drop, take-add, take-length}
 use Rattle.std.proofs.Math.ListN.{drop_of_length-le}
-use Rattle.pulsar_client.specs.Good.{Step}
+use Rattle.pulsar_client.specs.Good.{Good, Step}
+use Rattle.pulsar_client.specs.Log.{Chosen}
+use Rattle.pulsar_client.specs.declared.pulsar.Pulsar.{Pulsar}
 use Rattle.pulsar_client.specs.Outside.{Rose}
 use Rattle.pulsar_client.proofs.Runs.{good}
-use Rattle.pulsar_cli.specs.Grammar.{Refused, line, lines}
+use Rattle.pulsar_cli.specs.Grammar.{lines}
 use Rattle.pulsar_cli.specs.Text.{refusal}
-use Rattle.pulsar_cli.specs.Script.{Adds, AddsFront, IsDone, IsRunOf, IsStopped, IsRefused, Limits, Ran, Taken, limit, text}
-use Rattle.pulsar_cli.specs.Shown.{Ends, Faults, Halts, InTurn, Prints, Reads, Refuses, Refusing, Running, read_status, status_of}
+use Rattle.pulsar_cli.specs.Script.{Adds, AddsFront, IsDone, IsRunOf, IsStopped, IsRefused, Limits, Ran, Taken, blank, limit, options, script_of, text}
+use Rattle.pulsar_cli.specs.Shown.{Ends, Faults, Halts, InTurn, IsClient, Prints, Reads, Refuses, Refusing, Running, read_status, said, status_of}
 use Rattle.pulsar_cli.specs.declared.reading.Reading.{Reading}
 use Rattle.pulsar_cli.specs.declared.stop.Stop.{Stop}
 use Rattle.pulsar_cli.specs.declared.stop.Stop.TheVariants as stop
 use Rattle.pulsar_cli.proofs.Lines.{last-line}
 use Rattle.pulsar_cli.proofs.Sinks.{adds-more, adds-nil, rose-from}
 
+-- a client's history is good
+client-good : (o : Chosen) (c : Option Pulsar) (h : List Step) → IsClient o c h → Good o h
+client-good o None h is = rw is (record { log = []; run = tt; rests = refl; same = refl })
+client-good o (Some c) h is = good is.0.stands
+
 pub run-of : {r : Reading} {put : List ℕ} {read : List (List ℕ)} {h : List Step} → Reads r put read h → IsRunOf read h
-run-of reads = record { good = good reads.client.stands; events = reads.events }
+run-of {r} {put} {read} {h} reads = record { script = said r h; is = reads.script; events = refl; good = client-good (options (said r h)) r.client h reads.client }
 
 -- text that waits is the back of the run's text
 stopped : {r : Reading} {put bytes : List ℕ} {read : List (List ℕ)} {h : List Step} {old now : Option (List ℕ)} (after : List (List ℕ)) → Reads r put read h → Adds old now put → lines bytes ≡ read ++ after → IsStopped bytes old now
@@ -78,16 +85,16 @@ halts-piece piece future stop.Sink p either refuses = prints-stopped (piece ++ f
 halts-piece piece future stop.TooLong p either refuses = prints-stopped (piece ++ future) p
 
 -- the last line stops it
-pub halts-line : {r r' : Reading} {old now : Option (List ℕ)} {consumed : List ℕ} (s : Stop) → Prints r old now consumed → (s ≡ stop.Refused → (line r.pending.items ≡ Refused) × (r' ≡ r)) → Halts s r' old now consumed
+pub halts-line : {r r' : Reading} {old now : Option (List ℕ)} {consumed : List ℕ} (s : Stop) → Prints r old now consumed → (s ≡ stop.Refused → (r' ≡ r) × ((put : List ℕ) (read : List (List ℕ)) (h : List Step) → Reads r put read h → script_of (read ++ r.pending.items ∷ []) ≡ None)) → Halts s r' old now consumed
 halts-line {r} {r'} {old} {now} {consumed} stop.Refused p refuses =
     let bad = refuses refl in
     record {
       put = p.put;
       read = p.running.read;
       history = p.running.history;
-      reads = rw bad.1 p.running.reads;
+      reads = rw bad.0 p.running.reads;
       bad = r.pending.items;
-      refused = bad.0;
+      refused = bad.1 p.put p.running.read p.running.history p.running.reads;
       after = [];
       apart = last-line p.running.splits;
       adds = p.adds;
@@ -234,7 +241,7 @@ stopped-new bytes now =
       after = lines bytes;
       apart = refl;
       history = [];
-      run = record { good = record { log = []; run = tt; rests = refl; same = refl }; events = refl };
+      run = record { script = blank; is = refl; events = refl; good = record { log = []; run = tt; rests = refl; same = refl } };
       begins = record { front = []; back = []; whole = refl; adds = adds-nil now };
     }
 

@@ -1,81 +1,128 @@
 -- What a reading knows of its script.
-use Rattle.std.proofs.Common.{◌≡◌, ℕ, ◌+◌, ◌∙◌, sym, ap, List, [], ◌∷◌, ◌++◌, refl, arith, Option, Some, None, append_assoc, append-nil, length-append}
-use Rattle.std.specs.Prelude.{string_bytes}
+use Rattle.std.proofs.Common.{◌≡◌, ℕ, ◌+◌, ◌∙◌, sym, ap, subst, List, [], ◌∷◌, ◌++◌, refl, arith, true, false, Option, Some, None, length, append_assoc, length-append}
+use Rattle.std.specs.Prelude.{codes, is_some, string_bytes, Result, Ok, Err, IfOk}
 use Rattle.pulsar_wire.specs.Field.{◌>>=◌}
 use Rattle.pulsar_client.specs.Content.{Heard, Shown}
 use Rattle.pulsar_client.specs.Client.{StandsFor}
-use Rattle.pulsar_client.specs.Good.{Step}
-use Rattle.pulsar_cli.specs.Grammar.{Line, Nothing, Happens, Refused, line, lines}
-use Rattle.pulsar_cli.specs.Script.{options, with_line, events_of, happened, text}
+use Rattle.pulsar_client.specs.Good.{Step, is_empty}
+use Rattle.pulsar_client.specs.Log.{Chosen}
+use Rattle.pulsar_client.specs.declared.pulsar.Pulsar.{Pulsar}
+use Rattle.pulsar_cli.specs.Grammar.{Setting, Line, Nothing, Sets, Happens, line, lines}
+use Rattle.pulsar_cli.specs.Script.{Script, blank, options, sets, with_line, script_from, script_of, happened, text}
 use Rattle.pulsar_cli.specs.Text.{step}
-use Rattle.pulsar_cli.specs.Shown.{IsWithinLine, Reads, Refuses, Running}
+use Rattle.pulsar_cli.specs.Shown.{IsClient, IsWithinLine, KeepsOptions, KeepsText, Reads, Refuses, Running, said}
 use Rattle.pulsar_cli.proofs.Lines.{ends-line, feed, goes-on}
 use Rattle.pulsar_cli.specs.declared.reading.Reading.{Reading}
+use Rattle.pulsar_cli.specs.declared.stop.Stop.{Stop}
 
--- the events of lines, and of those behind them
-abbrev pub both : Option (List Heard) → Option (List Heard) → Option (List Heard)
-both None b = None
-both (Some xs) b = b >>= λ ys. Some (xs ++ ys)
+-- the script of lines, and of those behind them
+joined : (o : Option Script) (xs ys : List (List ℕ)) → ((s : Script) → script_from s (xs ++ ys) ≡ (script_from s xs >>= λ t. script_from t ys)) →
+    (o >>= λ s. script_from s (xs ++ ys)) ≡ ((o >>= λ s. script_from s xs) >>= λ t. script_from t ys)
+joined None xs ys h = refl
+joined (Some s) xs ys h = h s
 
-both-nil : (b : Option (List Heard)) → b ≡ both (Some []) b
-both-nil None = refl
-both-nil (Some ys) = refl
+pub script-more : (xs ys : List (List ℕ)) (s : Script) → script_from s (xs ++ ys) ≡ (script_from s xs >>= λ t. script_from t ys)
+script-more [] ys s = refl
+script-more (x ∷ xs) ys s = joined (with_line (line x) s) xs ys (script-more xs ys)
 
-both-line : (k : Line) (a b : Option (List Heard)) → with_line k (both a b) ≡ both (with_line k a) b
-both-line Nothing a b = refl
-both-line Refused a b = refl
-both-line (Happens e) None b = refl
-both-line (Happens e) (Some xs) None = refl
-both-line (Happens e) (Some xs) (Some ys) = refl
+itself : (o : Option Script) → (o >>= λ s. Some s) ≡ o
+itself None = refl
+itself (Some s) = refl
 
-pub events-both : (xs ys : List (List ℕ)) → events_of (xs ++ ys) ≡ both (events_of xs) (events_of ys)
-events-both [] ys = both-nil (events_of ys)
-events-both (x ∷ xs) ys = ap (with_line (line x)) (events-both xs ys) ∙ both-line (line x) (events_of xs) (events_of ys)
+-- one more line
+script-next : (read : List (List ℕ)) (l : List ℕ) {s : Script} → script_of read ≡ Some s → script_of (read ++ l ∷ []) ≡ with_line (line l) s
+script-next read l {s} h = script-more read (l ∷ []) blank ∙ ap (λ (o : Option Script). o >>= λ t. script_from t (l ∷ [])) h ∙ itself (with_line (line l) s)
 
-pub events-more : (read : List (List ℕ)) (l : List ℕ) {es fs : List Heard} → events_of read ≡ Some es → events_of (l ∷ []) ≡ Some fs → events_of (read ++ l ∷ []) ≡ Some (es ++ fs)
-events-more read l {es} {fs} h g = events-both read (l ∷ []) ∙ rw (h, g) refl
+-- one more line of this meaning
+pub script-line : {r : Reading} {put : List ℕ} {read : List (List ℕ)} {h : List Step} (bytes : List ℕ) (k : Line) → Reads r put read h → line bytes ≡ k → script_of (read ++ bytes ∷ []) ≡ with_line k (said r h)
+script-line {r} {put} {read} {h} bytes k a is = script-next read bytes a.script ∙ ap (λ l. with_line l (said r h)) is
 
-nothing-line : (l : List ℕ) → line l ≡ Nothing → events_of (l ∷ []) ≡ Some []
-nothing-line l h = rw h refl
+-- where something has happened there is a client, and an event
+some-event : (es : List Heard) (e : Heard) → is_empty (es ++ e ∷ []) ≡ false
+some-event [] e = refl
+some-event (x ∷ xs) e = refl
 
-event-line : (l : List ℕ) (e : Heard) → line l ≡ Happens e → events_of (l ∷ []) ≡ Some (e ∷ [])
-event-line l e h = rw h refl
+happened-some : (h : List Step) → is_empty h ≡ false → is_empty (happened h) ≡ false
+happened-some [] e = absurd cc
+happened-some (s ∷ h) e = some-event (happened h) s.event
+
+some-client : (o : Chosen) (c : Option Pulsar) (h : List Step) → IsClient o c h → is_some c ≡ true → is_empty h ≡ false
+some-client o None h is e = absurd cc
+some-client o (Some c) h is e = is.1
+
+pub no-client : (o : Chosen) (c : Option Pulsar) (h : List Step) → IsClient o c h → c ≡ None → h ≡ []
+no-client o None h is e = is
+no-client o (Some c) h is e = absurd cc
+
+-- the client that goes on, and the one that is made
+pub goes-on-with : (o : Chosen) (c : Option Pulsar) (p : Pulsar) (h : List Step) → c ≡ Some p → IsClient o c h → StandsFor o p h
+goes-on-with o c p h e is = (subst (λ k. IsClient o k h) e is).0
+
+pub begins-with : (o : Chosen) (made : Result Pulsar Stop) (c : Option Pulsar) → c ≡ None → IfOk made (λ p. StandsFor o p []) → IfOk made (λ p. (h : List Step) → IsClient o c h → StandsFor o p h)
+begins-with o (Ok p) c none stands = λ h is. subst (λ t. StandsFor o p t) (sym (no-client o c h is none)) stands
+begins-with o (Err s) c none stands = tt
+
+pub said-same : {r r' : Reading} (h : List Step) → KeepsOptions r r' → said r' h ≡ said r h
+said-same h same = rw (same.url, same.time) refl
+
+late : (setting : Setting) (s : Script) → is_empty s.events ≡ false → with_line (Sets setting) s ≡ None
+late setting s h = rw h refl
+
+-- a setting behind an event is refused
+pub refuses-set : {r : Reading} {put : List ℕ} {read : List (List ℕ)} {h : List Step} (bytes : List ℕ) (setting : Setting) → Reads r put read h → line bytes ≡ Sets setting → is_some r.client ≡ true → script_of (read ++ bytes ∷ []) ≡ None
+refuses-set {r} {put} {read} {h} bytes setting a is made =
+    script-line bytes (Sets setting) a is ∙ late setting (said r h) (happened-some h (some-client (options (said r h)) r.client h a.client made))
+
+-- the number of the next line
+next-number : {n m : ℕ} (read : List (List ℕ)) (bytes : List ℕ) → m ≡ n + 1 → n ≡ length read + 1 → m ≡ length (read ++ bytes ∷ []) + 1
+next-number read bytes next is = next ∙ ap (λ n. n + 1) is ∙ ap (λ n. n + 1) (sym (length-append read (bytes ∷ [])))
 
 -- a line is nothing
-pub reads-nothing : {r r' : Reading} {put : List ℕ} {read : List (List ℕ)} {h : List Step} (bytes : List ℕ) → Reads r put read h → line bytes ≡ Nothing → r'.client ≡ r.client → r'.out ≡ r.out → r'.events ≡ r.events → r'.line ≡ r.line + 1 → Reads r' put (read ++ bytes ∷ []) h
-reads-nothing {r} {r'} {put} {read} {h} bytes a is client out events number =
+pub reads-nothing : {r r' : Reading} {put : List ℕ} {read : List (List ℕ)} {h : List Step} (bytes : List ℕ) → Reads r put read h → line bytes ≡ Nothing → r'.client ≡ r.client → KeepsOptions r r' → KeepsText r r' → r'.line ≡ r.line + 1 → Reads r' put (read ++ bytes ∷ []) h
+reads-nothing {r} {r'} {put} {read} {h} bytes a is client chosen kept number =
     record {
-      client = rw client a.client;
-      events = events-more read bytes a.events (nothing-line bytes is) ∙ ap (λ (es : List Heard). Some es) (append-nil (happened h));
-      count = events ∙ a.count;
-      number = number ∙ ap (λ n. n + 1) a.number ∙ ap (λ n. n + 1) (sym (length-append read (bytes ∷ [])));
-      text = rw out a.text;
+      script = script-line bytes Nothing a is ∙ rw (chosen.url, chosen.time) refl;
+      client = rw (chosen.url, chosen.time, client) a.client;
+      count = kept.events ∙ a.count;
+      number = next-number read bytes number a.number;
+      text = rw kept.out a.text;
+    }
+
+-- a line is a setting, before anything has happened
+pub reads-set : {r r' : Reading} {put : List ℕ} {read : List (List ℕ)} (bytes : List ℕ) (setting : Setting) → Reads r put read [] → line bytes ≡ Sets setting → r'.client ≡ None → said r' [] ≡ sets setting (said r []) → KeepsText r r' → r'.line ≡ r.line + 1 → Reads r' put (read ++ bytes ∷ []) []
+reads-set {r} {r'} {put} {read} bytes setting a is client chosen kept number =
+    record {
+      script = script-line bytes (Sets setting) a is ∙ ap (λ s. Some s) (sym chosen);
+      client = rw client refl;
+      count = kept.events ∙ a.count;
+      number = next-number read bytes number a.number;
+      text = rw kept.out a.text;
     }
 
 -- a line is an event
-pub reads-step : {r r' : Reading} {put : List ℕ} {read : List (List ℕ)} {h : List Step} {e : Heard} {effects : List Shown} (bytes : List ℕ) → Reads r put read h → line bytes ≡ Happens e → StandsFor options r'.client (record { event = e; effects = effects } ∷ h) → string_bytes r'.out ≡ string_bytes r.out ++ step r.events effects → r'.events ≡ r.events + 1 → r'.line ≡ r.line + 1 → Reads r' put (read ++ bytes ∷ []) (record { event = e; effects = effects } ∷ h)
-reads-step {r} {r'} {put} {read} {h} {e} {effects} bytes a is stands out events number =
+pub reads-step : {r r' : Reading} {put : List ℕ} {read : List (List ℕ)} {h : List Step} {e : Heard} {effects : List Shown} (bytes : List ℕ) → Reads r put read h → line bytes ≡ Happens e → IsClient (options (said r [])) r'.client (record { event = e; effects = effects } ∷ h) → KeepsOptions r r' → string_bytes r'.out ≡ string_bytes r.out ++ step r.events effects → r'.events ≡ r.events + 1 → r'.line ≡ r.line + 1 → Reads r' put (read ++ bytes ∷ []) (record { event = e; effects = effects } ∷ h)
+reads-step {r} {r'} {put} {read} {h} {e} {effects} bytes a is client chosen out events number =
     record {
-      client = stands;
-      events = events-more read bytes a.events (event-line bytes e is);
+      script = script-line bytes (Happens e) a is ∙ rw (chosen.url, chosen.time) refl;
+      client = rw (chosen.url, chosen.time) client;
       count = events ∙ ap (λ n. n + 1) a.count ∙ omega arith;
-      number = number ∙ ap (λ n. n + 1) a.number ∙ ap (λ n. n + 1) (sym (length-append read (bytes ∷ [])));
+      number = next-number read bytes number a.number;
       text = ap (λ (t : List ℕ). put ++ t) out ∙ sym (append_assoc put (string_bytes r.out) (step r.events effects)) ∙ ap (λ (t : List ℕ). t ++ step r.events effects) a.text ∙ ap (λ n. text h ++ step n effects) a.count;
     }
 
 -- nothing is read yet
-pub new-running : (r : Reading) → StandsFor options r.client [] → r.events ≡ 0 → r.line ≡ 1 → string_bytes r.out ≡ [] → r.pending.items ≡ [] → Running r [] []
-new-running r client events number out pending =
+pub new-running : (r : Reading) → r.client ≡ None → string_bytes r.url ≡ codes "pulsar://127.0.0.1:6650" → r.time ≡ 0 → r.events ≡ 0 → r.line ≡ 1 → string_bytes r.out ≡ [] → r.pending.items ≡ [] → Running r [] []
+new-running r client url time events number out pending =
     record {
       read = [];
       history = [];
-      reads = record { client = client; events = refl; count = events; number = number; text = out };
+      reads = record { script = rw (url, time) refl; client = rw client refl; count = events; number = number; text = out };
       splits = rw pending (record { apart = λ future. refl; within = λ k d lt. absurd (omega arith) });
     }
 
 -- the bytes of its line aside
-pub reads-same : {r r' : Reading} {put : List ℕ} {read : List (List ℕ)} {h : List Step} → Reads r put read h → r'.client ≡ r.client → r'.out ≡ r.out → r'.events ≡ r.events → r'.line ≡ r.line → Reads r' put read h
-reads-same a client out events number = record { client = rw client a.client; events = a.events; count = events ∙ a.count; number = number ∙ a.number; text = rw out a.text }
+pub reads-same : {r r' : Reading} {put : List ℕ} {read : List (List ℕ)} {h : List Step} → Reads r put read h → r'.client ≡ r.client → KeepsOptions r r' → KeepsText r r' → r'.line ≡ r.line → Reads r' put read h
+reads-same a client chosen kept number = record { script = a.script ∙ rw (chosen.url, chosen.time) refl; client = rw (chosen.url, chosen.time, client) a.client; count = kept.events ∙ a.count; number = number ∙ a.number; text = rw kept.out a.text }
 
 -- a line has ended
 pub line-read : {r r' : Reading} {put x : List ℕ} (e bytes : List ℕ) (run : Running r put x) → IsWithinLine e → bytes ≡ r.pending.items ++ e → (next : List Step) → Reads r' put (run.read ++ bytes ∷ []) next → r'.pending.items ≡ [] → Running r' put (x ++ (e ++ 10 ∷ []))
@@ -88,7 +135,7 @@ runs-on e total run w reads pending whole =
     record { read = run.read; history = run.history; reads = reads; splits = rw (pending, sym whole) (goes-on e run.splits w) }
 
 -- a line that has ended isn't in the grammar
-pub refuses-here : {r r' : Reading} {put x : List ℕ} (e bytes after total : List ℕ) (run : Running r put x) → IsWithinLine e → bytes ≡ r.pending.items ++ e → Reads r' put run.read run.history → line bytes ≡ Refused → (x ++ (e ++ 10 ∷ [])) ++ after ≡ total → Refuses r' put total
+pub refuses-here : {r r' : Reading} {put x : List ℕ} (e bytes after total : List ℕ) (run : Running r put x) → IsWithinLine e → bytes ≡ r.pending.items ++ e → Reads r' put run.read run.history → script_of (run.read ++ bytes ∷ []) ≡ None → (x ++ (e ++ 10 ∷ [])) ++ after ≡ total → Refuses r' put total
 refuses-here {r} {r'} {put} {x} e bytes after total run w is reads bad whole =
     record {
       read = run.read;

@@ -1,4 +1,4 @@
--- The lines of a script, and the events that they are.
+-- The lines of a script: the settings and the events that they are.
 use Rattle.std.specs.Prelude.{ℕ, ◌==◌, if◌then◌else◌, List, [], ◌∷◌, Option, Some, None, codes}
 use Rattle.std.specs.List.{slice_split}
 use Rattle.std.specs.Str.{bytes_eq}
@@ -92,20 +92,51 @@ event (w ∷ ws) =
     else if bytes_eq w (codes "drain") then drain ws
     else None
 
--- what a line is: nothing, an event, or not of the grammar
+-- an option of the client: the URL of the service, or the time of the client's start, in milliseconds since 1970
+pub data Setting : Type 0 where
+  Url : (text : List ℕ) → Setting
+  Now : (time : ℕ) → Setting
+
+-- set url TEXT
+abbrev pub url : List ℕ → Option Setting
+url word = text word >>= λ t. Some (Url t)
+
+-- set now NUMBER
+abbrev pub time : List ℕ → Option Setting
+time word = number word >>= λ n. Some (Now n)
+
+-- what stands behind `set`
+abbrev pub set : List (List ℕ) → Option Setting
+set (w ∷ v ∷ []) =
+    if bytes_eq w (codes "url") then url v
+    else if bytes_eq w (codes "now") then time v
+    else None
+set _ = None
+
+-- what a line is: nothing, a setting, an event, or not of the grammar
 pub data Line : Type 0 where
   Nothing : Line
+  Sets : Setting → Line
   Happens : Heard → Line
   Refused : Line
+
+abbrev pub set_line : Option Setting → Line
+set_line None = Refused
+set_line (Some s) = Sets s
 
 abbrev pub event_line : Option Heard → Line
 event_line None = Refused
 event_line (Some e) = Happens e
 
+-- a line of these words
+abbrev pub words_line : List (List ℕ) → Line
+words_line [] = Refused
+words_line (w ∷ ws) = if bytes_eq w (codes "set") then set_line (set ws) else event_line (event (w ∷ ws))
+
 -- an empty line and a comment are nothing
 abbrev pub line : List ℕ → Line
 line [] = Nothing
-line (b ∷ bs) = if b == 35 then Nothing else event_line (event (words (b ∷ bs)))
+line (b ∷ bs) = if b == 35 then Nothing else words_line (words (b ∷ bs))
 
 -- the lines of a script end with a line feed, which may be missing at its end
 abbrev pub lines : List ℕ → List (List ℕ)

@@ -1,11 +1,12 @@
 -- The run of a script.
 use Rattle.std.specs.Str.{bytes_eq}
-use Rattle.std.specs.Prelude.{◌≡◌, Bool, false, codes, ℕ, ◌+◌, ◌<◌, ◌≤◌, ◌↔◌, List, [], ◌∷◌, ◌++◌, length, drop, Option, Some, None}
+use Rattle.std.specs.Prelude.{◌≡◌, Bool, false, if◌then◌else◌, codes, ℕ, ◌+◌, ◌<◌, ◌≤◌, ◌↔◌, List, [], ◌∷◌, ◌++◌, length, drop, Option, Some, None}
 use Rattle.pulsar_wire.specs.Field.{◌>>=◌}
+use Rattle.pulsar_client.specs.Address.{address_of}
 use Rattle.pulsar_client.specs.Content.{Heard}
 use Rattle.pulsar_client.specs.Log.{Chosen}
-use Rattle.pulsar_client.specs.Good.{Good, Step}
-use Rattle.pulsar_cli.specs.Grammar.{Line, Nothing, Happens, Refused, line, lines}
+use Rattle.pulsar_client.specs.Good.{Good, Step, is_empty}
+use Rattle.pulsar_cli.specs.Grammar.{Setting, Url, Now, Line, Nothing, Sets, Happens, Refused, line, lines}
 use Rattle.pulsar_cli.specs.Text.{step, refusal}
 
 -- the words are `script` alone
@@ -17,23 +18,43 @@ is_script _ = false
 abbrev pub limit : ℕ
 limit = 268435456
 
--- the client of a script has the options of its words alone
-abbrev pub options : Chosen
-options = record { first_number = 0 }
+-- what a script says: the options of its client, and its events
+pub record Script : Type 0 where
+  pub url : List ℕ
+  pub now : ℕ
+  pub events : List Heard
 
--- the events of lines; there are none where a line isn't in the grammar
-abbrev pub with_line : Line → Option (List Heard) → Option (List Heard)
-with_line Nothing events = events
-with_line (Happens e) events = events >>= λ es. Some (e ∷ es)
-with_line Refused events = None
+-- a script that says nothing
+abbrev pub blank : Script
+blank = record { url = codes "pulsar://127.0.0.1:6650"; now = 0; events = [] }
 
-abbrev pub events_of : List (List ℕ) → Option (List Heard)
-events_of [] = Some []
-events_of (l ∷ ls) = with_line (line l) (events_of ls)
+-- the client of a script has the options of its `set` lines
+abbrev pub options : Script → Chosen
+options s = record { first_number = 0; now = s.now; address = address_of s.url }
 
--- each line is in the grammar
+-- an option that is set again has the later value
+abbrev pub sets : Setting → Script → Script
+sets (Url text) s = record s { url = text }
+sets (Now time) s = record s { now = time }
+
+-- one more line; there is no script where it isn't in the grammar, or is a `set` line behind an event
+abbrev pub with_line : Line → Script → Option Script
+with_line Nothing s = Some s
+with_line (Sets setting) s = if is_empty s.events then Some (sets setting s) else None
+with_line (Happens e) s = Some (record s { events = s.events ++ e ∷ [] })
+with_line Refused s = None
+
+-- the script of lines, behind what was said before
+abbrev pub script_from : Script → List (List ℕ) → Option Script
+script_from s [] = Some s
+script_from s (l ∷ ls) = with_line (line l) s >>= λ next. script_from next ls
+
+abbrev pub script_of : List (List ℕ) → Option Script
+script_of ls = script_from blank ls
+
+-- the lines are in the grammar
 abbrev pub InGrammar : List ℕ → Type 0
-InGrammar bytes = (events : List Heard) × (events_of (lines bytes) ≡ Some events)
+InGrammar bytes = (script : Script) × (script_of (lines bytes) ≡ Some script)
 
 -- the events of a history, oldest first; the newest step of a history is its first
 abbrev pub happened : List Step → List Heard
@@ -47,8 +68,10 @@ text (s ∷ h) = text h ++ step (length h) s.effects
 
 -- a history is the run of these lines
 pub record IsRunOf (ls : List (List ℕ)) (h : List Step) : Type 0 where
-  pub good : Good options h
-  pub events : events_of ls ≡ Some (happened h)
+  pub script : Script
+  pub is : script_of ls ≡ Some script
+  pub events : script.events ≡ happened h
+  pub good : Good (options script) h
 
 -- what a sink holds has grown by these bytes
 abbrev pub Adds : Option (List ℕ) → Option (List ℕ) → List ℕ → Type 0
@@ -61,21 +84,21 @@ pub record AddsFront (old new : Option (List ℕ)) (t : List ℕ) : Type 0 where
   pub whole : t ≡ front ++ back
   pub adds : Adds old new front
 
--- Status 0: the source was read to its end, each line is in the grammar, and the text of the run was printed.
+-- Status 0: the source was read to its end, its lines are in the grammar, and the text of the run was printed.
 pub record IsDone (bytes : List ℕ) (left old new : Option (List ℕ)) : Type 0 where
   pub history : List Step
   pub run : IsRunOf (lines bytes) history
   pub end : left ≡ Some []
   pub prints : Adds old new (text history)
 
--- Status 1: a line isn't in the grammar. The run of the lines before was printed, and the refusal behind it, as far as the
--- sink took them.
+-- Status 1: with a line the lines aren't in the grammar any more. The run of the lines before was printed, and the refusal
+-- behind it, as far as the sink took them.
 pub record IsRefused (bytes : List ℕ) (old new : Option (List ℕ)) (faultless : Type 0) : Type 0 where
   pub before : List (List ℕ)
   pub bad : List ℕ
   pub after : List (List ℕ)
   pub apart : lines bytes ≡ before ++ bad ∷ after
-  pub refused : line bad ≡ Refused
+  pub refused : script_of (before ++ bad ∷ []) ≡ None
   pub history : List Step
   pub run : IsRunOf before history
   pub prints : faultless → Adds old new (text history ++ refusal (length before + 1))

@@ -1,22 +1,31 @@
 -- For the code's contracts alone: what its values stand for.
-use Rattle.std.specs.Prelude.{◌≡◌, ◌==◌, ℕ, ◌+◌, List, ◌∷◌, ◌++◌, Option, Some, None, false, length, string_bytes, Result, Ok, Err}
+use Rattle.std.specs.Prelude.{◌≡◌, ◌==◌, ℕ, ◌+◌, List, [], ◌∷◌, ◌++◌, Option, Some, None, false, length, string_bytes, Result, Ok, Err}
 use Rattle.std.specs.List.{All}
 use Rattle.pulsar_cli.specs.Words.{digits_from, in_range}
 use Rattle.pulsar_cli.specs.declared.grammar.line.Line.{Line as Parsed}
 use Rattle.pulsar_cli.specs.declared.grammar.line.Line.TheVariants as parsed
+use Rattle.pulsar_cli.specs.declared.grammar.line.Setting.{Setting as ParsedSetting}
+use Rattle.pulsar_cli.specs.declared.grammar.line.Setting.TheVariants as setting
+use Rattle.pulsar_client.specs.declared.pulsar.Pulsar.{Pulsar}
 use Rattle.pulsar_cli.specs.declared.reading.Reading.{Reading}
 use Rattle.pulsar_cli.specs.declared.stop.Stop.{Stop}
 use Rattle.pulsar_cli.specs.declared.stop.Stop.TheVariants as stop
 use Rattle.pulsar_client.specs.Outside.{Rose}
 use Rattle.pulsar_client.specs.Content.{heard}
-use Rattle.pulsar_client.specs.Good.{Step}
+use Rattle.pulsar_client.specs.Good.{Step, is_empty}
 use Rattle.pulsar_client.specs.Client.{StandsFor}
-use Rattle.pulsar_cli.specs.Grammar.{Line, Nothing, Happens, Refused, line, lines}
-use Rattle.pulsar_cli.specs.Script.{Adds, IsRunOf, IsStopped, options, events_of, happened, text}
+use Rattle.pulsar_client.specs.Log.{Chosen}
+use Rattle.pulsar_cli.specs.Grammar.{Setting, Url, Now, Line, Nothing, Sets, Happens, Refused, lines}
+use Rattle.pulsar_cli.specs.Script.{Script, Adds, IsRunOf, IsStopped, options, script_of, happened, text}
 
 -- what a parsed line is
+abbrev pub setting_of : ParsedSetting → Setting
+setting_of (setting.Url text) = Url (string_bytes text)
+setting_of (setting.Now time) = Now time
+
 abbrev pub line_of : Parsed → Line
 line_of parsed.Nothing = Nothing
+line_of (parsed.Sets s) = Sets (setting_of s)
 line_of (parsed.Happens e) = Happens (heard e)
 line_of parsed.Refused = Refused
 
@@ -29,13 +38,32 @@ more_digits (Some n) ds = in_range (digits_from n ds)
 abbrev pub IsWithinLine : List ℕ → Type 0
 IsWithinLine bytes = All (λ b. (b == 10) ≡ false) bytes
 
+-- what a reading with this history says of its script
+abbrev pub said : Reading → List Step → Script
+said r h = record { url = string_bytes r.url; now = r.time; events = happened h }
+
+-- the client of a history: there is none where nothing has happened yet
+abbrev pub IsClient : Chosen → Option Pulsar → List Step → Type 0
+IsClient o None h = h ≡ []
+IsClient o (Some c) h = StandsFor o c h × (is_empty h ≡ false)
+
 -- a reading has read these lines, this is their history, and the front of its text was put
 pub record Reads (r : Reading) (put : List ℕ) (read : List (List ℕ)) (h : List Step) : Type 0 where
-  pub client : StandsFor options r.client h
-  pub events : events_of read ≡ Some (happened h)
+  pub script : script_of read ≡ Some (said r h)
+  pub client : IsClient (options (said r h)) r.client h
   pub count : r.events ≡ length h
   pub number : r.line ≡ length read + 1
   pub text : put ++ string_bytes r.out ≡ text h
+
+-- the same options of the client
+pub record KeepsOptions (old new : Reading) : Type 0 where
+  pub url : new.url ≡ old.url
+  pub time : new.time ≡ old.time
+
+-- the same text and the same count of events
+pub record KeepsText (old new : Reading) : Type 0 where
+  pub out : new.out ≡ old.out
+  pub events : new.events ≡ old.events
 
 -- the lines of the bytes that were consumed, and the front of the next one
 pub record Splits (consumed : List ℕ) (read : List (List ℕ)) (pending : List ℕ) : Type 0 where
@@ -49,13 +77,13 @@ pub record Running (r : Reading) (put consumed : List ℕ) : Type 0 where
   pub reads : Reads r put read history
   pub splits : Splits consumed read r.pending.items
 
--- a reading has come to a line that isn't in the grammar
+-- a reading has come to a line with which its lines aren't in the grammar any more
 pub record Refuses (r : Reading) (put consumed : List ℕ) : Type 0 where
   pub read : List (List ℕ)
   pub history : List Step
   pub reads : Reads r put read history
   pub bad : List ℕ
-  pub refused : line bad ≡ Refused
+  pub refused : script_of (read ++ bad ∷ []) ≡ None
   pub apart : (future : List ℕ) → (after : List (List ℕ)) × (lines (consumed ++ future) ≡ read ++ bad ∷ after)
 
 -- a reading has consumed these bytes, and a sink has grown by the front of its text
@@ -64,14 +92,14 @@ pub record Prints (r : Reading) (old new : Option (List ℕ)) (consumed : List �
   pub running : Running r put consumed
   pub adds : Adds old new put
 
--- a reading has come to a line of these bytes that isn't in the grammar, and a sink has grown by the front of its text
+-- a reading has come to such a line of these bytes, and a sink has grown by the front of its text
 pub record Refusing (r : Reading) (old new : Option (List ℕ)) (bytes : List ℕ) : Type 0 where
   pub put : List ℕ
   pub read : List (List ℕ)
   pub history : List Step
   pub reads : Reads r put read history
   pub bad : List ℕ
-  pub refused : line bad ≡ Refused
+  pub refused : script_of (read ++ bad ∷ []) ≡ None
   pub after : List (List ℕ)
   pub apart : lines bytes ≡ read ++ bad ∷ after
   pub adds : Adds old new put

@@ -1,4 +1,4 @@
--- The line of an event, as one writes it: it reads back as that event.
+-- The line of a setting or an event, as one writes it: it reads back as that setting or event.
 use Rattle.std.specs.Prelude.{◌≡◌, ℕ, ◌^◌, ◌<◌, List, ◌∷◌, ◌++◌, length, codes, true}
 use Rattle.std.specs.Fmt.{decimal}
 use Rattle.std.specs.Str.{is_utf8}
@@ -7,7 +7,7 @@ use Rattle.pulsar_wire.specs.declared.commands.topics.Mode.{Mode}
 use Rattle.pulsar_wire.specs.declared.commands.topics.Mode.TheVariants.{Persistent, NonPersistent, All}
 use Rattle.pulsar_wire.specs.declared.error.IoKind.TheVariants.{Other}
 use Rattle.pulsar_client.specs.Content.{Asked, Build, Topics, Heard, Called, Opened, FailedToOpen, Bytes, Lost, Drain}
-use Rattle.pulsar_cli.specs.Grammar.{Happens, line}
+use Rattle.pulsar_cli.specs.Grammar.{Setting, Url, Now, Sets, Happens, line}
 use Rattle.pulsar_cli.specs.WordText.{word}
 
 abbrev pub mode_word : Mode → List ℕ
@@ -42,6 +42,18 @@ CanBeWritten (FailedToOpen l kind) = (l < 2 ^ 64) × (kind ≡ Other)
 CanBeWritten (Bytes l piece) = (l < 2 ^ 64) × IsBytes piece × (0 < length piece)
 CanBeWritten (Lost l) = l < 2 ^ 64
 CanBeWritten (Drain l most) = (l < 2 ^ 64) × (most < 2 ^ 64)
+
+abbrev pub written_setting : Setting → List ℕ
+written_setting (Url text) = codes "set url " ++ word text
+written_setting (Now time) = codes "set now " ++ decimal time
+
+-- a setting has a line where its text is UTF-8, and its number has 64 bits
+abbrev pub CanBeSet : Setting → Type 0
+CanBeSet (Url text) = IsBytes text × (is_utf8 text ≡ true)
+CanBeSet (Now time) = time < 2 ^ 64
+
+abbrev pub SetsReadBack : Type 0
+SetsReadBack = (s : Setting) → CanBeSet s → line (written_setting s) ≡ Sets s
 
 abbrev pub ReadsBack : Type 0
 ReadsBack = (e : Heard) → CanBeWritten e → line (written e) ≡ Happens e

@@ -1,15 +1,16 @@
 //! A script that is being read, and its run.
 
-ghost use Rattle.std.specs.Prelude.{◌≡◌, ◌⊎◌, ◌+◌, ◌∷◌, ◌++◌, [], ℕ, List, Err, IfErr, IfOk, OnOk, string_bytes};
+ghost use Rattle.std.specs.Prelude.{◌≡◌, ◌⊎◌, ◌+◌, ◌∷◌, ◌++◌, [], ℕ, List, None, Err, IfErr, IfOk, OnOk, is_some, string_bytes, true};
+ghost use Rattle.pulsar_client.specs.Address.{address_of};
 ghost use Rattle.pulsar_client.specs.Client.{StandsFor};
 ghost use Rattle.pulsar_client.specs.Content.{Shown, heard};
 ghost use Rattle.pulsar_client.specs.Good.{Step};
-ghost use Rattle.pulsar_cli.specs.Grammar.{Refused, line as meaning};
-ghost use Rattle.pulsar_cli.specs.Script.{options};
-ghost use Rattle.pulsar_cli.specs.Shown.{Reads, Refuses, Running, line_of};
+ghost use Rattle.pulsar_cli.specs.Grammar.{line as meaning};
+ghost use Rattle.pulsar_cli.specs.Script.{options, script_of, sets};
+ghost use Rattle.pulsar_cli.specs.Shown.{IsClient, KeepsOptions, KeepsText, Reads, Refuses, Running, line_of, said, setting_of};
 ghost use Rattle.pulsar_cli.specs.Text.{step};
 
-use crate::grammar::line::{Line, parse};
+use crate::grammar::line::{Line, Setting, parse};
 use crate::grammar::word::cut_line;
 use crate::printing::effect::push_step;
 use crate::stop::Stop;
@@ -23,7 +24,11 @@ use std::alloc::Global;
 #[derive(Drop)]
 pub struct Reading {
     pub alloc: Global,
-    pub client: Pulsar,
+    // the options of the client
+    pub url: String,
+    pub time: u64,
+    // it is made where the first event comes
+    pub client: Option<Pulsar>,
     // the front of a line whose end has not come
     pub pending: Vec<u8>,
     // text that is not yet put
@@ -40,16 +45,11 @@ impl Reading {
         ensures { IfOk result (λ r. Running r [] []) }
     {
         let url = String::from_str(alloc, "pulsar://127.0.0.1:6650")?;
-        let client = Pulsar::new(
-            alloc,
-            ClientOptions {
-                url,
-                first_number: 0,
-            },
-        )?;
         Ok(Reading {
             alloc,
-            client,
+            url,
+            time: 0,
+            client: None,
             pending: Vec::new(alloc),
             out: String::new(alloc),
             events: 0,
@@ -90,7 +90,7 @@ impl Reading {
         ensures ok { OnOk result (self.new.pending.items ≡ []) }
         ensures reads { OnOk result ((put : List ℕ) (read : List (List ℕ)) (h : List Step) → Reads self.old put read h → (next : List Step) × Reads self.new put (read ++ self.old.pending.items ∷ []) next) }
         ensures stop { IfErr result (λ stop. (stop ≡ Stop.Refused) ⊎ (stop ≡ Stop.NoMemory)) }
-        ensures refused { result ≡ Err Stop.Refused → (meaning self.old.pending.items ≡ Refused) × (self.new ≡ self.old) }
+        ensures refused { result ≡ Err Stop.Refused → (self.new ≡ self.old) × ((put : List ℕ) (read : List (List ℕ)) (h : List Step) → Reads self.old put read h → script_of (read ++ self.old.pending.items ∷ []) ≡ None) }
     {
         let Ok(line) = parse(self.alloc, &self.pending) else {
             return Err(Stop::NoMemory);
@@ -100,14 +100,19 @@ impl Reading {
         Ok(())
     }
 
-    /// A line is nothing, or a step, or not of the grammar.
+    /// A line is nothing, or a setting, or a step, or not of the grammar.
     fn take(&mut self, line: Line) -> Result<(), Stop>
         ensures reads { OnOk result ((put : List ℕ) (read : List (List ℕ)) (h : List Step) (bytes : List ℕ) → Reads self.old put read h → meaning bytes ≡ line_of line → (next : List Step) × Reads self.new put (read ++ bytes ∷ []) next) }
         ensures stop { IfErr result (λ stop. (stop ≡ Stop.Refused) ⊎ (stop ≡ Stop.NoMemory)) }
-        ensures refused { result ≡ Err Stop.Refused → (line_of line ≡ Refused) × (self.new ≡ self.old) }
+        ensures refused { result ≡ Err Stop.Refused → (self.new ≡ self.old) × ((put : List ℕ) (read : List (List ℕ)) (h : List Step) (bytes : List ℕ) → Reads self.old put read h → meaning bytes ≡ line_of line → script_of (read ++ bytes ∷ []) ≡ None) }
     {
         match line {
             Line::Nothing => {
+                self.counts()?;
+                Ok(())
+            }
+            Line::Sets(setting) => {
+                self.set(setting)?;
                 self.counts()?;
                 Ok(())
             }
@@ -123,28 +128,85 @@ impl Reading {
     /// The next line comes.
     fn counts(&mut self) -> Result<(), Stop>
         ensures ok { OnOk result (self.new.line ≡ self.old.line + 1) }
-        ensures kept { OnOk result ((self.new.client ≡ self.old.client) × (self.new.out ≡ self.old.out) × (self.new.events ≡ self.old.events)) }
+        ensures client { OnOk result (self.new.client ≡ self.old.client) }
+        ensures options { OnOk result (KeepsOptions self.old self.new) }
+        ensures text { OnOk result (KeepsText self.old self.new) }
         ensures err { IfErr result (λ stop. stop ≡ Stop.NoMemory) }
     {
         self.line = next(self.line)?;
         Ok(())
     }
 
+    /// An option is chosen. It is refused where the client has been made.
+    fn set(&mut self, setting: Setting) -> Result<(), Stop>
+        ensures ok { OnOk result (said self.new [] ≡ sets (setting_of setting) (said self.old [])) }
+        ensures unmade { OnOk result (self.old.client ≡ None) }
+        ensures client { OnOk result (self.new.client ≡ self.old.client) }
+        ensures text { OnOk result (KeepsText self.old self.new) }
+        ensures line { OnOk result (self.new.line ≡ self.old.line) }
+        ensures refused { IfErr result (λ stop. (stop ≡ Stop.Refused) × (self.new ≡ self.old) × (is_some self.old.client ≡ true)) }
+    {
+        if let Some(_) = &self.client {
+            return Err(Stop::Refused);
+        }
+        match setting {
+            Setting::Url(url) => self.url = url,
+            Setting::Now(time) => self.time = time,
+        }
+        Ok(())
+    }
+
     /// An event, and the text of its step.
     fn step(&mut self, event: Event) -> Result<(), Stop>
-        ensures kept { OnOk result ((self.new.pending ≡ self.old.pending) × (self.new.line ≡ self.old.line)) }
+        ensures options { OnOk result (KeepsOptions self.old self.new) }
+        ensures line { OnOk result (self.new.line ≡ self.old.line) }
         ensures events { OnOk result (self.new.events ≡ self.old.events + 1) }
-        ensures history { OnOk result ((h : List Step) → StandsFor options self.old.client h → (effects : List Shown) × StandsFor options self.new.client (record { event = heard event; effects = effects } ∷ h) × (string_bytes self.new.out ≡ string_bytes self.old.out ++ step self.old.events effects)) }
+        ensures history { OnOk result ((h : List Step) → IsClient (options (said self.old [])) self.old.client h → (effects : List Shown) × IsClient (options (said self.old [])) self.new.client (record { event = heard event; effects = effects } ∷ h) × (string_bytes self.new.out ≡ string_bytes self.old.out ++ step self.old.events effects)) }
         ensures err { IfErr result (λ stop. stop ≡ Stop.NoMemory) }
     {
-        let Ok(effects) = self.client.step(event) else {
+        let mut client = self.started()?;
+        let Ok(effects) = client.step(event) else {
             return Err(Stop::NoMemory);
         };
+        self.client = Some(client);
         let Ok(()) = push_step(&mut self.out, self.events, &effects) else {
             return Err(Stop::NoMemory);
         };
         self.events = next(self.events)?;
         Ok(())
+    }
+
+    /// The client, taken out; it is made where the first event comes.
+    fn started(&mut self) -> Result<Pulsar, Stop>
+        ensures client { IfOk result (λ c. (h : List Step) → IsClient (options (said self.old [])) self.old.client h → StandsFor (options (said self.old [])) c h) }
+        ensures options { OnOk result (KeepsOptions self.old self.new) }
+        ensures text { OnOk result (KeepsText self.old self.new) }
+        ensures line { OnOk result (self.new.line ≡ self.old.line) }
+        ensures err { IfErr result (λ stop. stop ≡ Stop.NoMemory) }
+    {
+        match self.client.take() {
+            Some(client) => Ok(client),
+            None => made(self.alloc, &self.url, self.time),
+        }
+    }
+}
+
+/// A client with these options, to which nothing has happened.
+fn made(alloc: Global, url: &str, time: u64) -> Result<Pulsar, Stop>
+    ensures ok { IfOk result (λ c. StandsFor (record { first_number = 0; now = time; address = address_of url.now }) c []) }
+    ensures err { IfErr result (λ stop. stop ≡ Stop.NoMemory) }
+{
+    let Ok(url) = String::from_str(alloc, url) else {
+        return Err(Stop::NoMemory);
+    };
+    let options = ClientOptions {
+        url,
+        now: time,
+        first_number: 0,
+    };
+    match Pulsar::new(alloc, options) {
+        Ok(client) => Ok(client),
+        Err(_) => Err(Stop::NoMemory),
     }
 }
 

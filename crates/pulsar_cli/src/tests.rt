@@ -1,8 +1,7 @@
 //! Scripts with the text that they print. The texts are worked by hand from the protocol, and no run's output.
 
-ghost use Rattle.std.specs.Prelude.{◌≡◌, IfOk, codes, string_bytes};
-
 mod lines;
+mod settings;
 
 use crate::printing::effect::push_step;
 use crate::program::{DONE, NO_FORM, REFUSED, SINK_FAILED, SOURCE_FAILED, Status, run, script};
@@ -55,11 +54,12 @@ fn joined(alloc: Global, parts: &[&str]) -> Result<String, AllocError> {
     Ok(text)
 }
 
-fn options(alloc: Global, first_number: u64) -> Result<ClientOptions, AllocError>
-    ensures { IfOk result (λ o. string_bytes o.url ≡ codes "pulsar://127.0.0.1:6650") }
-{
-    let url = String::from_str(alloc, "pulsar://127.0.0.1:6650")?;
-    Ok(ClientOptions { url, first_number })
+fn options(alloc: Global, first_number: u64) -> Result<ClientOptions, AllocError> {
+    Ok(ClientOptions {
+        url: String::from_str(alloc, "pulsar://127.0.0.1:6650")?,
+        now: 0,
+        first_number,
+    })
 }
 
 fn source_of(alloc: Global, script: &str) -> Result<MemorySource, AllocError> {

@@ -1,11 +1,11 @@
-//! The lines of a script, and the events that they are.
+//! The lines of a script: the settings and the events that they are.
 
 ghost use Rattle.std.specs.Prelude.{◌≡◌, IfOk, map};
 ghost use Rattle.std.specs.Option.{option_map};
 ghost use Rattle.std.specs.Str.{bytes_eq};
 ghost use Rattle.pulsar_client.specs.Content.{asked, heard};
-ghost use Rattle.pulsar_cli.specs.Grammar.{build, bytes, call, called, drain, event, failed, kind, line, lost, mode, opened, topics};
-ghost use Rattle.pulsar_cli.specs.Shown.{line_of};
+ghost use Rattle.pulsar_cli.specs.Grammar.{build, bytes, call, called, drain, event, failed, kind, line, lost, mode, opened, set, time, topics, url, words_line};
+ghost use Rattle.pulsar_cli.specs.Shown.{line_of, setting_of};
 
 use crate::grammar::word::{hex_bytes, number, text, words};
 use pulsar_client::event::{Call, Event};
@@ -13,11 +13,21 @@ use pulsar_wire::commands::topics::Mode;
 use pulsar_wire::error::{IoKind, NoMemory};
 use std::alloc::Global;
 
+/// An option of the client.
+#[derive(Drop)]
+pub enum Setting {
+    /// The URL of the service.
+    Url(String),
+    /// The time of the client's start, in milliseconds since 1970.
+    Now(u64),
+}
+
 /// What a line is.
 #[derive(Drop)]
 pub enum Line {
     /// An empty line or a comment.
     Nothing,
+    Sets(Setting),
     Happens(Event),
     /// It is not of the grammar.
     Refused,
@@ -31,10 +41,59 @@ pub fn parse(alloc: Global, bytes: &[u8]) -> Result<Line, NoMemory>
         return Ok(Line::Nothing);
     }
     let words = words(alloc, bytes)?;
-    match event(alloc, &words)? {
+    words_line(alloc, &words)
+}
+
+/// What a line of these words is.
+fn words_line(alloc: Global, words: &[&[u8]]) -> Result<Line, NoMemory>
+    ensures { IfOk result (λ l. line_of l ≡ words_line (map (λ w. w.now) words.now)) }
+{
+    let Some((word, rest)) = words.split_first() else {
+        return Ok(Line::Refused);
+    };
+    if is(word, "set") {
+        return match set(alloc, rest)? {
+            Some(setting) => Ok(Line::Sets(setting)),
+            None => Ok(Line::Refused),
+        };
+    }
+    match event(alloc, words)? {
         Some(event) => Ok(Line::Happens(event)),
         None => Ok(Line::Refused),
     }
+}
+
+/// What stands behind `set`.
+fn set(alloc: Global, words: &[&[u8]]) -> Result<Option<Setting>, NoMemory>
+    ensures { IfOk result (λ s. option_map setting_of s ≡ set (map (λ w. w.now) words.now)) }
+{
+    let [option, value] = words else {
+        return Ok(None);
+    };
+    if is(option, "url") {
+        url(alloc, value)
+    } else if is(option, "now") {
+        Ok(time(value))
+    } else {
+        Ok(None)
+    }
+}
+
+/// `set url TEXT`
+fn url(alloc: Global, word: &[u8]) -> Result<Option<Setting>, NoMemory>
+    ensures { IfOk result (λ s. option_map setting_of s ≡ url word.now) }
+{
+    match text(alloc, word)? {
+        Some(text) => Ok(Some(Setting::Url(text))),
+        None => Ok(None),
+    }
+}
+
+/// `set now NUMBER`
+fn time(word: &[u8]) -> Option<Setting>
+    ensures { option_map setting_of result ≡ time word.now }
+{
+    Some(Setting::Now(number(word)?))
 }
 
 /// The event of a line's words.

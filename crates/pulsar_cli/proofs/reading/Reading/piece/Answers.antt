@@ -12,7 +12,7 @@ returns-in_err-line-clause-refused c = λ is put consumed run.
     let same : c.line.result ≡ Err stop.Refused = search rules in
     let bad = c.in_err-line.ensures.refused (sym c.in_err-line.was ∙ same) in
     let reads = c.in_ok-more.ensures.kept put inv.2.read inv.2.history inv.2.reads in
-    refuses-here e c.more.new.self.pending.items after (consumed ++ c.args.piece.now) inv.2 c.in-Some.ensures.0 c.in_ok-more.ensures.ok (rw bad.1 reads) bad.0 (behind-line inv.0 e c.loop-end.rest.now after (consumed ++ c.args.piece.now) c.in-Some.ensures.1 inv.1)
+    refuses-here e c.more.new.self.pending.items after (consumed ++ c.args.piece.now) inv.2 c.in-Some.ensures.0 c.in_ok-more.ensures.ok (rw bad.0 reads) (bad.1 put inv.2.read inv.2.history reads) (behind-line inv.0 e c.loop-end.rest.now after (consumed ++ c.args.piece.now) c.in-Some.ensures.1 inv.1)
 
 pub loop-end-preserved : goal.loop-end-preserved
 loop-end-preserved c = λ put consumed run.

@@ -1,17 +1,42 @@
-use Rattle.std.proofs.Common.{◌+◌, ◌∙◌, ap}
+use Rattle.std.proofs.Common.{◌+◌, ◌∙◌, ap, refl, subst, []}
 use Rattle.std.specs.Prelude.{string_bytes}
-use Rattle.pulsar_cli.specs.Shown.{line_of}
-use Rattle.pulsar_cli.proofs.Readings.{reads-nothing, reads-step}
+use Rattle.pulsar_cli.specs.Grammar.{Refused}
+use Rattle.pulsar_cli.specs.Script.{options}
+use Rattle.pulsar_cli.specs.Shown.{Reads, line_of, said, setting_of}
+use Rattle.pulsar_cli.proofs.Readings.{no-client, reads-nothing, reads-set, reads-step, refuses-set, said-same, script-line}
 use Rattle.pulsar_cli.proofs.reading.Reading.take.Goals as goal
+
+pub returns-in_err-set-in-Sets-clause-refused : goal.returns-in_err-set-in-Sets-clause-refused
+returns-in_err-set-in-Sets-clause-refused c = λ e.
+    let refused = c.in_err-set-in-Sets.ensures.refused in
+    (refused.1, λ put read h bytes a is. refuses-set bytes (setting_of c.in-Sets.setting) a (is ∙ ap line_of c.in-Sets.is) refused.2)
 
 pub returns-in_ok-counts-in-Nothing-clause-reads : goal.returns-in_ok-counts-in-Nothing-clause-reads
 returns-in_ok-counts-in-Nothing-clause-reads c = λ put read h bytes a is.
-    let kept = c.in_ok-counts-in-Nothing.ensures.kept in
-    (h, reads-nothing bytes a (is ∙ ap line_of c.in-Nothing.is) kept.0 kept.1 kept.2 c.in_ok-counts-in-Nothing.ensures.ok)
+    let next = c.in_ok-counts-in-Nothing.ensures in
+    (h, reads-nothing bytes a (is ∙ ap line_of c.in-Nothing.is) next.client next.options next.text next.ok)
+
+pub returns-in_ok-counts-in-Sets-clause-reads : goal.returns-in_ok-counts-in-Sets-clause-reads
+returns-in_ok-counts-in-Sets-clause-reads c = λ put read h bytes a is.
+    let set = c.in_ok-set-in-Sets.ensures in
+    let next = c.in_ok-counts-in-Sets.ensures in
+    let none = no-client (options (said c.args.self.now h)) c.args.self.now.client h a.client set.unmade in (
+      [],
+      reads-set bytes (setting_of c.in-Sets.setting) (subst (λ t. Reads c.args.self.now put read t) none a) (is ∙ ap line_of c.in-Sets.is)
+          (next.client ∙ set.client ∙ set.unmade) (said-same [] next.options ∙ set.ok)
+          (record { out = next.text.out ∙ set.text.out; events = next.text.events ∙ set.text.events }) (next.ok ∙ ap (λ n. n + 1) set.line),
+    )
 
 pub returns-in_ok-counts-in-Happens-clause-reads : goal.returns-in_ok-counts-in-Happens-clause-reads
 returns-in_ok-counts-in-Happens-clause-reads c = λ put read h bytes a is.
-    let s = c.in_ok-step-in-Happens.ensures.history h a.client in
-    let kept = c.in_ok-counts-in-Happens.ensures.kept in
-    let number = c.in_ok-counts-in-Happens.ensures.ok ∙ ap (λ n. n + 1) c.in_ok-step-in-Happens.ensures.kept.1 in
-    (_, reads-step bytes a (is ∙ ap line_of c.in-Happens.is) (rw kept.0 s.1) (ap string_bytes kept.1 ∙ s.2) (kept.2 ∙ c.in_ok-step-in-Happens.ensures.events) number)
+    let step = c.in_ok-step-in-Happens.ensures in
+    let next = c.in_ok-counts-in-Happens.ensures in
+    let done = step.history h a.client in (
+      _,
+      reads-step bytes a (is ∙ ap line_of c.in-Happens.is) (rw next.client done.1)
+          (record { url = next.options.url ∙ step.options.url; time = next.options.time ∙ step.options.time })
+          (ap string_bytes next.text.out ∙ done.2) (next.text.events ∙ step.events) (next.ok ∙ ap (λ n. n + 1) step.line),
+    )
+
+pub returns-in-Refused-clause-refused : goal.returns-in-Refused-clause-refused
+returns-in-Refused-clause-refused c = λ e. (refl, λ put read h bytes a is. script-line bytes Refused a (is ∙ ap line_of c.in-Refused.is))

@@ -1,0 +1,5 @@
+use Rattle.pulsar_cli.proofs.WrittenLines.{sets-read-back}
+use Rattle.pulsar_cli.proofs.laws.sets_read_back.Goals as goal
+
+pub returns : goal.returns
+returns c = sets-read-back

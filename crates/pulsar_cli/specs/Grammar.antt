@@ -7,8 +7,9 @@ use Rattle.pulsar_wire.specs.declared.commands.topics.Mode.{Mode}
 use Rattle.pulsar_wire.specs.declared.commands.topics.Mode.TheVariants.{Persistent, NonPersistent, All}
 use Rattle.pulsar_wire.specs.declared.error.IoKind.{IoKind}
 use Rattle.pulsar_wire.specs.declared.error.IoKind.TheVariants.{Other}
-use Rattle.pulsar_client.specs.Content.{Asked, Build, Topics, Heard, Called, Opened, FailedToOpen, Bytes, Lost, Drain}
+use Rattle.pulsar_client.specs.Content.{Asked, Build, Topics, Raw, Heard, Called, Opened, FailedToOpen, Bytes, Lost, Drain}
 use Rattle.pulsar_cli.specs.Words.{words, number, text, hex}
+use Rattle.pulsar_cli.specs.RawLines.{raw_call}
 
 abbrev pub mode : List ℕ → Option Mode
 mode word =
@@ -30,12 +31,21 @@ topics (n ∷ m ∷ []) = do
   Some (Topics namespace mode)
 topics _ = None
 
+-- call link LINK ..
+abbrev pub on_link : List (List ℕ) → Option Asked
+on_link [] = None
+on_link (l ∷ ws) = do
+  link ← number l
+  words ← raw_call ws
+  Some (Raw link words)
+
 -- what stands behind `call`
 abbrev pub call : List (List ℕ) → Option Asked
 call [] = None
 call (w ∷ ws) =
     if bytes_eq w (codes "build") then build ws
     else if bytes_eq w (codes "topics") then topics ws
+    else if bytes_eq w (codes "link") then on_link ws
     else None
 
 -- call ..

@@ -1,4 +1,6 @@
 pub mod Words
+pub mod MessageWords
+pub mod RawLines
 pub mod Grammar
 pub mod WordText
 pub mod ErrorText

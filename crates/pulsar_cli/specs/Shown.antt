@@ -2,6 +2,9 @@
 use Rattle.std.specs.Prelude.{◌≡◌, ◌==◌, ℕ, ◌+◌, List, [], ◌∷◌, ◌++◌, Option, Some, None, false, length, string_bytes, Result, Ok, Err}
 use Rattle.std.specs.List.{All}
 use Rattle.pulsar_cli.specs.Words.{digits_from, in_range}
+use Rattle.pulsar_client.specs.RawCall.{outgoing}
+use Rattle.pulsar_cli.specs.MessageWords.{Draft}
+use Rattle.pulsar_cli.specs.declared.grammar.message.Draft.{Draft as ParsedDraft}
 use Rattle.pulsar_cli.specs.declared.grammar.line.Line.{Line as Parsed}
 use Rattle.pulsar_cli.specs.declared.grammar.line.Line.TheVariants as parsed
 use Rattle.pulsar_cli.specs.declared.grammar.line.Setting.{Setting as ParsedSetting}
@@ -17,6 +20,10 @@ use Rattle.pulsar_client.specs.Client.{StandsFor}
 use Rattle.pulsar_client.specs.Log.{Chosen}
 use Rattle.pulsar_cli.specs.Grammar.{Setting, Url, Now, Line, Nothing, Sets, Happens, Refused, lines}
 use Rattle.pulsar_cli.specs.Script.{Script, Adds, IsRunOf, IsStopped, options, script_of, happened, text}
+
+-- what the words of a message so far say
+abbrev pub draft_of : ParsedDraft → Draft
+draft_of d = record { message = outgoing d.message; has_data = d.has_data }
 
 -- what a parsed line is
 abbrev pub setting_of : ParsedSetting → Setting

@@ -4,13 +4,15 @@ use Rattle.std.specs.List.{flat_map}
 use Rattle.std.specs.Fmt.{decimal}
 use Rattle.pulsar_client.specs.declared.effect.Settlement.{Settlement}
 use Rattle.pulsar_client.specs.declared.effect.Settlement.TheVariants as settlement
-use Rattle.pulsar_client.specs.Content.{Said, Done, Names, Failed, Shown, Connect, Queued, Write, Close, Settles, Ends}
+use Rattle.pulsar_client.specs.Content.{Said, Done, Names, Receipt, Replies, Failed, Shown, Connect, Queued, Write, Close, Settles, Ends}
 use Rattle.pulsar_cli.specs.WordText.{hex, word}
 use Rattle.pulsar_cli.specs.ErrorText.{failure}
 
 abbrev pub answer : Said → List ℕ
 answer Done = codes "ok done"
 answer (Names names) = codes "ok topics " ++ decimal (length names) ++ flat_map (λ name. 32 ∷ word name) names
+answer (Receipt bytes) = codes "ok receipt " ++ hex bytes
+answer (Replies bodies) = codes "ok replies " ++ decimal (length bodies) ++ flat_map (λ bytes. 32 ∷ hex bytes) bodies
 answer (Failed f) = codes "err " ++ failure f
 
 abbrev pub settled_as : Settlement → List ℕ

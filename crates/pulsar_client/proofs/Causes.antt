@@ -28,7 +28,7 @@ use Rattle.pulsar_client.specs.declared.act.Arrival.TheVariants.{Message, Bad}
 use Rattle.pulsar_client.specs.declared.session.link.Stage.{Stage}
 use Rattle.pulsar_client.specs.declared.session.link.Stage.TheVariants.{Dialing, Handshaking, Ready, Over}
 use Rattle.pulsar_client.specs.Messages.{is_connected}
-use Rattle.pulsar_client.specs.Link.{Seen, Pending, ends_wait, settled, disconnected, turns, at_opening, at_arrival, link_rule, is_ready, fits_frame, awaited, is_numbered, request_message, kind_of, at_failure, at_loss, bears_id}
+use Rattle.pulsar_client.specs.Link.{Seen, Pending, ends_wait, settled, disconnected, turns, at_opening, at_arrival, link_rule, is_ready, fits_frame, awaited, is_numbered, request_message, kind_of, at_failure, at_loss}
 use Rattle.pulsar_client.specs.Log.{Chosen, Entry, Begins, Does, View, view, base, waiting, seen_link, spent, at_once, serves, performs, gets, asks, asks_on, fails, link_acts, brings, procedure_for, dials, goes_on, opens, calls, spends, outcomes_of, gets_from}
 use Rattle.pulsar_client.specs.Plan.{failed, next, ended, finished, raw_answer, request_number, topics_answer, fault_of}
 use Rattle.pulsar_client.specs.Good.{due, to_come, IsRun, first}
@@ -338,6 +338,7 @@ raw_answer_fails l q outcome.Canceled os f i = IsTold outcome.Canceled (inl refl
 raw_answer_fails l q outcome.Disconnected os f i = IsTold outcome.Disconnected (inl refl) (only_failure f (OfConnection (fault_of outcome.Disconnected)) i)
 raw_answer_fails l q outcome.Exhausted os f i = IsTold outcome.Exhausted (inl refl) (only_failure f (OfConnection (fault_of outcome.Exhausted)) i)
 raw_answer_fails l q outcome.Unencodable os f i = IsTold outcome.Unencodable (inl refl) (only_failure f (OfConnection (fault_of outcome.Unencodable)) i)
+raw_answer_fails l q outcome.NotFound os f i = IsTold outcome.NotFound (inl refl) (only_failure f (OfConnection (fault_of outcome.NotFound)) i)
 raw_answer_fails l q (outcome.GotLink k) os f i = IsTold (outcome.GotLink k) (inl refl) (only_failure f (OfConnection (fault_of (outcome.GotLink k))) i)
 
 raw_fails : (l : ℕ) (q : Request) (os : List Outcome) (f : Failure) → In (Failed f) (said_along (procedure.Raw l q) [] os) → Fails (procedure.Raw l q) os f

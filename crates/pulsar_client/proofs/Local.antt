@@ -28,7 +28,7 @@ use Rattle.pulsar_client.specs.Plan.{failed}
 use Rattle.pulsar_client.specs.Content.{Asked, Heard, Called, Opened, Bytes, Drain, FailedToOpen, Lost}
 use Rattle.pulsar_client.specs.Address.{Address}
 use Rattle.pulsar_client.specs.Failures.{Exhausted}
-use Rattle.pulsar_client.specs.Link.{Seen, Pending, seen, arrivals, ends_wait, link_rule, settled, disconnected, turns, at_opening, at_arrival, is_ready, fits_frame, awaited, is_numbered, request_message, kind_of, at_failure, at_loss, bears_id}
+use Rattle.pulsar_client.specs.Link.{Seen, Pending, seen, arrivals, ends_wait, link_rule, settled, disconnected, turns, at_opening, at_arrival, is_ready, fits_frame, awaited, is_numbered, request_message, kind_of, at_failure, at_loss}
 use Rattle.pulsar_client.specs.Log.{Chosen, Entry, Begins, Does, links, of_link, seen_link, View, view, at_once, serves, performs, gets, asks, asks_on, fails, link_acts, brings, calls_for, frames_of, dials, goes_on, opens, spends, spent, procedure_for, gets_from}
 use Rattle.pulsar_client.specs.Good.{due, to_come, IsRun, first, is_empty}
 use Rattle.pulsar_client.specs.Local.{is_own, link_due, Fits, IsLinkRun}

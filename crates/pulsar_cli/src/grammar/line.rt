@@ -2,12 +2,12 @@
 
 ghost use Rattle.std.specs.Prelude.{◌≡◌, IfOk, map};
 ghost use Rattle.std.specs.Option.{option_map};
-ghost use Rattle.std.specs.Str.{bytes_eq};
 ghost use Rattle.pulsar_client.specs.Content.{asked, heard};
-ghost use Rattle.pulsar_cli.specs.Grammar.{build, bytes, call, called, drain, event, failed, kind, line, lost, mode, opened, set, time, topics, url, words_line};
+ghost use Rattle.pulsar_cli.specs.Grammar.{build, bytes, call, called, drain, event, failed, kind, line, lost, mode, on_link, opened, set, time, topics, url, words_line};
 ghost use Rattle.pulsar_cli.specs.Shown.{line_of, setting_of};
 
-use crate::grammar::word::{hex_bytes, number, text, words};
+use crate::grammar::raw::raw_call;
+use crate::grammar::word::{hex_bytes, is, number, text, words};
 use pulsar_client::event::{Call, Event};
 use pulsar_wire::commands::topics::Mode;
 use pulsar_wire::error::{IoKind, NoMemory};
@@ -212,6 +212,8 @@ fn call(alloc: Global, words: &[&[u8]]) -> Result<Option<Call>, NoMemory>
         Ok(build(rest))
     } else if is(word, "topics") {
         topics(alloc, rest)
+    } else if is(word, "link") {
+        on_link(alloc, rest)
     } else {
         Ok(None)
     }
@@ -243,11 +245,20 @@ fn topics(alloc: Global, words: &[&[u8]]) -> Result<Option<Call>, NoMemory>
     Ok(Some(Call::Topics { namespace, mode }))
 }
 
-/// The word is this text.
-fn is(word: &[u8], text: &str) -> bool
-    ensures { result ≡ bytes_eq word.now text.now }
+/// `call link LINK ..`
+fn on_link(alloc: Global, words: &[&[u8]]) -> Result<Option<Call>, NoMemory>
+    ensures { IfOk result (λ c. option_map asked c ≡ on_link (map (λ w. w.now) words.now)) }
 {
-    word == text.as_bytes()
+    let Some((link, rest)) = words.split_first() else {
+        return Ok(None);
+    };
+    let Some(link) = number(link) else {
+        return Ok(None);
+    };
+    match raw_call(alloc, rest)? {
+        Some(call) => Ok(Some(Call::Raw { link, call })),
+        None => Ok(None),
+    }
 }
 
 fn mode(word: &[u8]) -> Option<Mode>

@@ -1,4 +1,6 @@
 //! The language of scripts.
 
 pub mod line;
+pub mod message;
+pub mod raw;
 pub mod word;

@@ -33,6 +33,13 @@ fn find(bytes: &[u8], byte: u8) -> Option<usize>
     bytes.iter().position(|b| *b == byte)
 }
 
+/// The word is this text.
+pub fn is(word: &[u8], text: &str) -> bool
+    ensures { result ≡ bytes_eq word.now text.now }
+{
+    word == text.as_bytes()
+}
+
 /// A number: one or more decimal digits, in the range of 64 bits.
 pub fn number(word: &[u8]) -> Option<u64>
     ensures { result ≡ number word.now }
@@ -73,7 +80,7 @@ pub fn text(alloc: Global, word: &[u8]) -> Result<Option<String>, NoMemory>
 }
 
 /// The bytes that a word stands for.
-fn word_bytes(alloc: Global, word: &[u8]) -> Result<Option<Vec<u8>>, NoMemory>
+pub fn word_bytes(alloc: Global, word: &[u8]) -> Result<Option<Vec<u8>>, NoMemory>
     ensures { IfOk result (λ bytes. option_map (λ v. v.items) bytes ≡ word_bytes word.now) }
 {
     if word.is_empty() {

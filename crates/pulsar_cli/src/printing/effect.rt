@@ -1,12 +1,20 @@
 //! The lines of a step.
 
 ghost use Rattle.std.specs.Prelude.{◌≡◌, ◌∷◌, ◌++◌, OnOk, map, string_bytes};
-ghost use Rattle.pulsar_client.specs.Content.{Names, said, shown};
+ghost use Rattle.pulsar_wire.specs.Row.{spelling};
+ghost use Rattle.pulsar_wire.specs.Rows.{send_receipt};
+ghost use Rattle.pulsar_wire.specs.Views.{body_values, send_receipt_values};
+ghost use Rattle.pulsar_client.specs.Content.{Names, Receipt, Replies, said, shown};
+ghost use Rattle.pulsar_client.specs.Messages.{body_bytes};
 ghost use Rattle.pulsar_cli.specs.Text as printed;
 
+use crate::printing::body::encode_body;
 use crate::printing::error::push_error;
 use crate::printing::word::{push_hex, push_word};
 use pulsar_client::effect::{Answer, Effect, Settlement};
+use pulsar_wire::commands::base::Body;
+use pulsar_wire::commands::producer::CommandSendReceipt;
+use pulsar_wire::encoding::message::encode;
 use pulsar_wire::error::Error;
 use std::alloc::AllocError;
 
@@ -72,6 +80,8 @@ fn push_answer(out: &mut String, answer: &Result<Answer, Error>) -> Result<(), A
     match answer {
         Ok(Answer::Done) => out.push_str("ok done")?,
         Ok(Answer::Topics(names)) => push_names(out, names)?,
+        Ok(Answer::Receipt(receipt)) => push_receipt(out, receipt)?,
+        Ok(Answer::Replies(bodies)) => push_replies(out, bodies)?,
         Err(error) => {
             out.push_str("err ")?;
             push_error(out, error)?;
@@ -90,6 +100,35 @@ fn push_names(out: &mut String, names: &[String]) -> Result<(), AllocError>
         push_word(out, name.as_bytes())?;
     }
     Ok(())
+}
+
+fn push_receipt(out: &mut String, receipt: &CommandSendReceipt) -> Result<(), AllocError>
+    ensures { OnOk result (string_bytes out.new ≡ string_bytes out.old ++ printed.answer (Receipt (spelling send_receipt (send_receipt_values receipt.now)))) }
+{
+    let mut bytes = Vec::new(*out.allocator());
+    encode(receipt, &mut bytes)?;
+    out.push_str("ok receipt ")?;
+    push_hex(out, &bytes)
+}
+
+fn push_replies(out: &mut String, bodies: &[Body]) -> Result<(), AllocError>
+    ensures { OnOk result (string_bytes out.new ≡ string_bytes out.old ++ printed.answer (Replies (map (λ b. body_bytes (body_values b)) bodies.now))) }
+{
+    let count = bodies.len();
+    write!(out, "ok replies {count}")?;
+    for body in bodies {
+        out.push(' ')?;
+        push_body(out, body)?;
+    }
+    Ok(())
+}
+
+fn push_body(out: &mut String, body: &Body) -> Result<(), AllocError>
+    ensures { OnOk result (string_bytes out.new ≡ string_bytes out.old ++ printed.hex (body_bytes (body_values body.now))) }
+{
+    let mut bytes = Vec::new(*out.allocator());
+    encode_body(body, &mut bytes)?;
+    push_hex(out, &bytes)
 }
 
 /// The refusal of a line.

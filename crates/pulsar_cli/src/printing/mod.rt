@@ -1,5 +1,6 @@
 //! The printed run.
 
+pub mod body;
 pub mod effect;
 pub mod error;
 #[cfg(test)]

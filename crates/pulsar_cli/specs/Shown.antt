@@ -18,7 +18,7 @@ use Rattle.pulsar_client.specs.Log.{Chosen}
 use Rattle.pulsar_cli.specs.Grammar.{Setting, Url, Now, Line, Nothing, Sets, Happens, Refused, lines}
 use Rattle.pulsar_cli.specs.Script.{Script, Adds, IsRunOf, IsStopped, options, script_of, happened, text}
 
--- what a parsed line is
+-- what a parsed setting is, and a parsed line
 abbrev pub setting_of : ParsedSetting → Setting
 setting_of (setting.Url text) = Url (string_bytes text)
 setting_of (setting.Now time) = Now time

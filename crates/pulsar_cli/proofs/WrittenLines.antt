@@ -15,7 +15,7 @@ use Rattle.pulsar_cli.specs.WordText.{is_printed, printed, upper_digit, word}
 use Rattle.std.proofs.lemmas.Slice.Eq.{bytes_eq-Decides}
 use Rattle.pulsar_wire.specs.declared.commands.topics.Mode.{Mode}
 use Rattle.pulsar_wire.specs.declared.commands.topics.Mode.TheVariants.{Persistent, NonPersistent, All}
-use Rattle.pulsar_client.specs.Content.{Asked, Build, Topics, Heard, Called, Opened, FailedToOpen, Bytes, Lost, Drain}
+use Rattle.pulsar_client.specs.Content.{Asked, Build, Topics, Raw, Heard, Called, Opened, FailedToOpen, Bytes, Lost, Drain}
 use Rattle.pulsar_cli.specs.Grammar.{Setting, Url, Now, Sets, Happens, line, mode, words_line}
 use Rattle.pulsar_cli.specs.Written.{CanBeAsked, CanBeSet, CanBeWritten, mode_word, written, written_setting}
 use Rattle.pulsar_cli.proofs.Numbers.{all-read}
@@ -216,6 +216,7 @@ asked-read Build can = refl
 asked-read (Topics namespace m) can =
     ap (λ (ws : List (List ℕ)). words_line (codes "call" ∷ ws)) (two-words (codes "topics") (word namespace) (mode_word m) (word-within namespace can.0) (mode-within m))
     ∙ topics-read namespace m can.0 can.1
+asked-read (Raw link words) can = absurd can
 
 pub reads-back : (e : Heard) → CanBeWritten e → line (written e) ≡ Happens e
 reads-back (Called c) can = asked-read c can

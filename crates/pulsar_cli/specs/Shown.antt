@@ -25,7 +25,7 @@ use Rattle.pulsar_cli.specs.Script.{Script, Adds, IsRunOf, IsStopped, options, s
 abbrev pub draft_of : ParsedDraft → Draft
 draft_of d = record { message = outgoing d.message; has_data = d.has_data }
 
--- what a parsed line is
+-- what a parsed setting is, and a parsed line
 abbrev pub setting_of : ParsedSetting → Setting
 setting_of (setting.Url text) = Url (string_bytes text)
 setting_of (setting.Now time) = Now time

@@ -6,7 +6,7 @@ use Rattle.hex.specs.Hex.{IsBytes, encode_lower}
 use Rattle.pulsar_wire.specs.declared.commands.topics.Mode.{Mode}
 use Rattle.pulsar_wire.specs.declared.commands.topics.Mode.TheVariants.{Persistent, NonPersistent, All}
 use Rattle.pulsar_wire.specs.declared.error.IoKind.TheVariants.{Other}
-use Rattle.pulsar_client.specs.Content.{Asked, Build, Topics, Heard, Called, Opened, FailedToOpen, Bytes, Lost, Drain}
+use Rattle.pulsar_client.specs.Content.{Asked, Build, Topics, Raw, Heard, Called, Opened, FailedToOpen, Bytes, Lost, Drain}
 use Rattle.pulsar_cli.specs.Grammar.{Setting, Url, Now, Sets, Happens, line}
 use Rattle.pulsar_cli.specs.WordText.{word}
 
@@ -19,6 +19,7 @@ mode_word All = codes "all"
 abbrev pub call_words : Asked → List ℕ
 call_words Build = codes "build"
 call_words (Topics namespace mode) = codes "topics " ++ word namespace ++ 32 ∷ mode_word mode
+call_words (Raw link words) = codes "link " ++ decimal link
 
 -- numbers are decimal without leading zeros, texts are words as they are printed, bytes are hex in lower case
 abbrev pub written : Heard → List ℕ
@@ -29,11 +30,13 @@ written (Bytes l piece) = codes "bytes " ++ decimal l ++ 32 ∷ encode_lower pie
 written (Lost l) = codes "lost " ++ decimal l
 written (Drain l most) = codes "drain " ++ decimal l ++ 32 ∷ decimal most
 
--- an event has a line where its numbers have 64 bits, its text is UTF-8, it has a byte at least, and a connection was not
--- opened for another reason than those that have a name of their own
+-- An event has a line where its numbers have 64 bits, its text is UTF-8, it has a byte at least, and a connection was not
+-- opened for another reason than those that have a name of their own. What is asked of one connection has many forms, and
+-- isn't written here.
 abbrev pub CanBeAsked : Asked → Type 0
 CanBeAsked Build = Unit {0}
 CanBeAsked (Topics namespace mode) = IsBytes namespace × (is_utf8 namespace ≡ true)
+CanBeAsked (Raw link words) = ⊥
 
 abbrev pub CanBeWritten : Heard → Type 0
 CanBeWritten (Called c) = CanBeAsked c

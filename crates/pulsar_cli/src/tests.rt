@@ -1,6 +1,7 @@
 //! Scripts with the text that they print. The texts are worked by hand from the protocol, and no run's output.
 
 mod lines;
+mod raw;
 mod settings;
 
 use crate::printing::effect::push_step;

@@ -43,4 +43,4 @@ pub record KnownAddresses : Type 0 where
   pub in_brackets : address_of (codes "pulsar://[::1]:7") ≡ at (codes "[::1]") 7
   pub other_scheme : address_of (codes "pulsar+ssl://h") ≡ None
   pub no_host : address_of (codes "pulsar://") ≡ None
-  pub no_url : address_of (codes "h:x y") ≡ None
+  pub no_url : address_of (codes "x") ≡ None

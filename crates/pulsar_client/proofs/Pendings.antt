@@ -11,7 +11,6 @@ use Rattle.std.proofs.lemmas.Map.Views.{tells_apart}
 use Rattle.std.specs.Cmp.{IsTotalOrder}
 use Rattle.std.specs.Cmp.Lexicographic.{options_total}
 use Rattle.std.specs.Option.{option_cmp}
-use Rattle.std.specs.declared.cmp.Ordering.TheVariants.{Equal}
 use Rattle.std.specs.Ordering.{nat_cmp}
 use Rattle.std.specs.BTreeMap.{is_at, insert_entry}
 use Rattle.std.specs.Map.{lookup, remove_entry}
@@ -128,7 +127,7 @@ module _ (a : Awaited) (n : ℕ) (rest : List ℕ) (e : ℕ × Waiter) (es : Ent
       other : (b : Awaited) → is_at (awaited_cmp a) b ≡ false → is_at (awaited_cmp b) e.1.awaits ≡ false
       other b f = elim (cases_Bool (is_at (awaited_cmp b) e.1.awaits)) [
         | inl y ↦ (let is : a ≡ b = same_is a e.1.awaits t ∙ sym (same_is b e.1.awaits y) in
-                   let no : true ≡ false = sym (same_refl a) ∙ ap (λ x. is_at (awaited_cmp a) x) is ∙ f in absurd cc)
+            let no : true ≡ false = sym (same_refl a) ∙ ap (λ x. is_at (awaited_cmp a) x) is ∙ f in absurd cc)
         | inr y ↦ y
       ]
 
@@ -193,8 +192,9 @@ module _ (a : Awaited) (old now new : Entries) (taken : List Waiter) (n : ℕ) (
 pub all_taken : (a : Awaited) (old new : Entries) (taken : List Waiter) → Taken a old new taken [] →
     (map pending_of taken ≡ found a (map pending_at old)) × (map pending_at new ≡ others a (map pending_at old))
 all_taken a old new taken t = (
-    sym (append-nil (map pending_of taken)) ∙ ap (λ x. map pending_of taken ++ x) (sym (none_found new t.left_are)) ∙ t.taken_are,
-    sym (all_others new t.left_are) ∙ t.others_are)
+  sym (append-nil (map pending_of taken)) ∙ ap (λ x. map pending_of taken ++ x) (sym (none_found new t.left_are)) ∙ t.taken_are,
+  sym (all_others new t.left_are) ∙ t.others_are,
+)
   where
     none_found : (es : Entries) → numbers_of a es ≡ [] → found a (map pending_at es) ≡ []
     none_found [] h = refl

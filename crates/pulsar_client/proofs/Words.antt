@@ -1,7 +1,7 @@
 -- The words of raw calls, copied and as the fields of messages.
-use Rattle.std.proofs.Common.{◌≡◌, List, [], ◌∷◌, refl, ap, map, string_bytes, String}
+use Rattle.std.proofs.Common.{◌≡◌, List, [], ◌∷◌, refl, map, string_bytes, String}
 use Rattle.std.specs.List.{AllZip}
-use Rattle.pulsar_wire.specs.Views.{key_value_values, message_id_values}
+use Rattle.pulsar_wire.specs.Views.{message_id_values}
 use Rattle.pulsar_wire.specs.declared.commands.ids.MessageIdData.{MessageIdData}
 use Rattle.pulsar_client.specs.Messages.{id_values}
 use Rattle.pulsar_client.specs.RawCall.{id_of, property}

@@ -45,15 +45,9 @@ pub struct Awaited {
 /// What a call asks of the broker.
 #[derive(Drop)]
 pub enum Request {
-    Topics {
-        namespace: Text,
-        mode: Mode,
-    },
+    Topics { namespace: Text, mode: Mode },
     /// These words, at this moment in milliseconds since 1970.
-    Raw {
-        now: u64,
-        words: RawRequest,
-    },
+    Raw { now: u64, words: RawRequest },
 }
 
 /// A call's procedure, with its words.

@@ -552,12 +552,7 @@ fn refuse(ticket: u64, outcome: Outcome, due: &mut VecDeque<Act>) -> Result<(), 
 }
 
 /// A frame of a call is queued. Where it has no answer, the call goes on.
-fn queue(
-    ticket: u64,
-    link: u64,
-    request: Request,
-    due: &mut VecDeque<Act>,
-) -> Result<(), NoMemory>
+fn queue(ticket: u64, link: u64, request: Request, due: &mut VecDeque<Act>) -> Result<(), NoMemory>
     ensures { OnOk result ((id : ℕ) → due.new.items ≡ (Act.OnLink link (LinkAct.Requests request ticket) ∷ goes_on ticket (awaited id request)) ++ due.old.items) }
 {
     if !request.is_answered() {

@@ -1,9 +1,9 @@
 //! The commands by which a broker asks for a credential again, against the bytes of another implementation.
 
+use crate::written::{bytes, is_command, is_written, text, writes};
 use pulsar_wire::commands::auth::{AuthData, CommandAuthChallenge, CommandAuthResponse};
 use pulsar_wire::commands::base::Body;
 use pulsar_wire::error::NoMemory;
-use crate::written::{bytes, is_command, is_written, text, writes};
 use std::alloc::Global;
 use std::test::Fail;
 

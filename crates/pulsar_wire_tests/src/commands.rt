@@ -1,12 +1,12 @@
 //! Commands and ids as other programs write them, byte by byte, and bytes that they refuse.
 
+use crate::written::{is_copied, is_read, text};
 use pulsar_wire::commands::base::{BaseCommand, Body};
 use pulsar_wire::commands::connection::{CommandConnect, CommandConnected, client_version};
 use pulsar_wire::commands::consumer::delivery::CommandMessage;
 use pulsar_wire::commands::ids::MessageIdData;
 use pulsar_wire::error::{ConnectionError, NoMemory, Reason};
 use pulsar_wire::laws::round_trip;
-use crate::written::{is_copied, is_read, text};
 use pulsar_wire::wire::Wire;
 use std::alloc::Global;
 use std::process::Abort;

@@ -1,11 +1,11 @@
 //! The commands that open a connection and keep it, and the answers that say no more than that, against the bytes of another implementation.
 
+use crate::schema::schema;
+use crate::written::{bytes, is_command, is_written, text, writes};
 use pulsar_wire::commands::base::Body;
 use pulsar_wire::commands::connection::{
     CommandConnect, CommandConnected, CommandError, CommandPing, CommandPong, CommandSuccess,
 };
-use crate::schema::schema;
-use crate::written::{bytes, is_command, is_written, text, writes};
 use std::test::Fail;
 
 #[test]

@@ -1,13 +1,13 @@
 //! The commands that bring messages to a consumer, and those by which it asks for them and acknowledges them, against the bytes of another implementation.
 
+use crate::ids::message_id;
+use crate::written::{is_command, is_written, two, writes};
 use pulsar_wire::commands::base::Body;
 use pulsar_wire::commands::consumer::delivery::{
     CommandAck, CommandFlow, CommandMessage, CommandReachedEndOfTopic,
     CommandRedeliverUnacknowledgedMessages,
 };
 use pulsar_wire::commands::ids::MessageIdData;
-use crate::ids::message_id;
-use crate::written::{is_command, is_written, two, writes};
 use std::test::Fail;
 
 #[test]

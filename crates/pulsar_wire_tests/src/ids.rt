@@ -1,8 +1,8 @@
 //! What names a message of a topic, against the bytes of another implementation.
 
+use crate::written::{is_written, two, writes};
 use pulsar_wire::commands::ids::MessageIdData;
 use pulsar_wire::error::NoMemory;
-use crate::written::{is_written, two, writes};
 use std::alloc::Global;
 use std::test::Fail;
 

@@ -2,6 +2,7 @@
 //!
 //! The bytes were made by Google's Protocol Buffers for Python, 4.21.12, from the table of the fields: of each message the
 //! value with all its fields, and the value whose required fields are zero or empty.
+#![tactic(auto)]
 
 #[cfg(test)]
 mod auth;

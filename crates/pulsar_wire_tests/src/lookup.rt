@@ -1,11 +1,11 @@
 //! The commands that ask how many partitions a topic has, and which broker serves it, against the bytes of another implementation.
 
+use crate::written::{is_command, is_written, text, writes};
 use pulsar_wire::commands::base::Body;
 use pulsar_wire::commands::lookup::{
     CommandLookupTopic, CommandLookupTopicResponse, CommandPartitionedTopicMetadata,
     CommandPartitionedTopicMetadataResponse,
 };
-use crate::written::{is_command, is_written, text, writes};
 use std::test::Fail;
 
 #[test]

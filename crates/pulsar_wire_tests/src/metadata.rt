@@ -1,8 +1,10 @@
 //! What stands in front of a payload, against the bytes of another implementation.
 
-use pulsar_wire::commands::metadata::{EncryptionKeys, KeyValue, MessageMetadata, SingleMessageMetadata};
-use pulsar_wire::error::NoMemory;
 use crate::written::{bytes, is_written, text, two, writes};
+use pulsar_wire::commands::metadata::{
+    EncryptionKeys, KeyValue, MessageMetadata, SingleMessageMetadata,
+};
+use pulsar_wire::error::NoMemory;
 use std::alloc::Global;
 use std::test::Fail;
 

@@ -1,12 +1,12 @@
 //! The commands that ask where a subscription stands, and move it, against the bytes of another implementation.
 
+use crate::ids::message_id;
+use crate::written::{is_command, is_written, text, writes};
 use pulsar_wire::commands::base::Body;
 use pulsar_wire::commands::consumer::position::{
     CommandConsumerStats, CommandConsumerStatsResponse, CommandGetLastMessageId,
     CommandGetLastMessageIdResponse, CommandSeek,
 };
-use crate::ids::message_id;
-use crate::written::{is_command, is_written, text, writes};
 use std::test::Fail;
 
 #[test]

@@ -1,5 +1,9 @@
 //! The commands of producers, against the bytes of another implementation.
 
+use crate::ids::message_id;
+use crate::metadata::key_value;
+use crate::schema::schema;
+use crate::written::{bytes, is_command, is_written, text, two, writes};
 use pulsar_wire::commands::base::Body;
 use pulsar_wire::commands::metadata::KeyValue;
 use pulsar_wire::commands::producer::{
@@ -7,10 +11,6 @@ use pulsar_wire::commands::producer::{
     CommandSendReceipt,
 };
 use pulsar_wire::error::NoMemory;
-use crate::ids::message_id;
-use crate::metadata::key_value;
-use crate::schema::schema;
-use crate::written::{bytes, is_command, is_written, text, two, writes};
 use std::alloc::Global;
 use std::test::Fail;
 

@@ -1,11 +1,11 @@
 //! Schemas, and the commands that ask for them, against the bytes of another implementation.
 
+use crate::metadata::key_value;
+use crate::written::{bytes, is_command, is_written, text, two, writes};
 use pulsar_wire::commands::base::Body;
 use pulsar_wire::commands::metadata::KeyValue;
 use pulsar_wire::commands::schema::{CommandGetSchema, CommandGetSchemaResponse, Schema};
 use pulsar_wire::error::NoMemory;
-use crate::metadata::key_value;
-use crate::written::{bytes, is_command, is_written, text, two, writes};
 use std::alloc::Global;
 use std::test::Fail;
 

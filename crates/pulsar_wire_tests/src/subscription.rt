@@ -1,15 +1,15 @@
 //! The commands that begin and end a subscription, against the bytes of another implementation.
 
+use crate::ids::message_id;
+use crate::metadata::key_value;
+use crate::schema::schema;
+use crate::written::{is_command, is_written, text, two, writes};
 use pulsar_wire::commands::base::Body;
 use pulsar_wire::commands::consumer::subscription::{
     CommandActiveConsumerChange, CommandCloseConsumer, CommandSubscribe, CommandUnsubscribe,
 };
 use pulsar_wire::commands::metadata::KeyValue;
 use pulsar_wire::error::NoMemory;
-use crate::ids::message_id;
-use crate::metadata::key_value;
-use crate::schema::schema;
-use crate::written::{is_command, is_written, text, two, writes};
 use std::alloc::Global;
 use std::test::Fail;
 

@@ -1,8 +1,10 @@
 //! The commands that ask for the topics of a namespace, against the bytes of another implementation.
 
-use pulsar_wire::commands::base::Body;
-use pulsar_wire::commands::topics::{CommandGetTopicsOfNamespace, CommandGetTopicsOfNamespaceResponse};
 use crate::written::{is_command, is_written, text, two, writes};
+use pulsar_wire::commands::base::Body;
+use pulsar_wire::commands::topics::{
+    CommandGetTopicsOfNamespace, CommandGetTopicsOfNamespaceResponse,
+};
 use std::test::Fail;
 
 #[test]

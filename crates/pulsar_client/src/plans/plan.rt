@@ -239,9 +239,7 @@ fn error_of(outcome: &Outcome) -> ConnectionError
         Outcome::Exhausted => ConnectionError::Exhausted,
         Outcome::NotFound => ConnectionError::NotFound,
         Outcome::Unencodable => ConnectionError::Encoding(Reason::Frame),
-        Outcome::GotLink(_)
-        | Outcome::Replied(_)
-        | Outcome::Disconnected
-        | Outcome::Queued => ConnectionError::Disconnected,
+        Outcome::GotLink(_) | Outcome::Replied(_) | Outcome::Disconnected | Outcome::Queued =>
+            ConnectionError::Disconnected,
     }
 }

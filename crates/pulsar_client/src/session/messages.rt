@@ -286,14 +286,7 @@ impl RawRequest {
                 subscription,
                 sub_type,
                 consumer_id,
-            } => Ok(subscribe(
-                alloc,
-                topic,
-                subscription,
-                sub_type,
-                consumer_id,
-                id,
-            )),
+            } => Ok(subscribe(alloc, topic, subscription, sub_type, consumer_id, id)),
             RawCall::SendFlow {
                 consumer_id,
                 permits,

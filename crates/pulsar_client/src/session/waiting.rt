@@ -102,11 +102,7 @@ impl Waiting {
     }
 
     /// Those that wait for this, and all others.
-    fn take(
-        self,
-        alloc: Global,
-        awaited: Awaited,
-    ) -> Result<(VecDeque<Waiter>, Waiting), NoMemory>
+    fn take(self, alloc: Global, awaited: Awaited) -> Result<(VecDeque<Waiter>, Waiting), NoMemory>
         ensures settled { IfOk result (λ r. map pending_of r.0.items ≡ found awaited self) }
         ensures left { IfOk result (λ r. r.1 ≡ others awaited self) }
     {
@@ -164,16 +160,21 @@ fn awaited_by(key: Option<RequestKey>) -> Option<Awaited>
 {
     match key {
         Some(RequestKey::RequestId(number))
-        | Some(RequestKey::CloseConsumer {
-            request_id: number, ..
-        }) => Some(Awaited {
+        | Some(
+            RequestKey::CloseConsumer {
+                request_id: number,
+                ..
+            },
+        ) => Some(Awaited {
             producer: None,
             number,
         }),
-        Some(RequestKey::ProducerSend {
-            producer_id,
-            sequence_id,
-        }) => Some(Awaited {
+        Some(
+            RequestKey::ProducerSend {
+                producer_id,
+                sequence_id,
+            },
+        ) => Some(Awaited {
             producer: Some(producer_id),
             number: sequence_id,
         }),

@@ -1,4 +1,4 @@
-use Rattle.std.proofs.Common.{◌≡◌, ◌∙◌, false, Some, None, ◌==◌, refl, sym}
+use Rattle.std.proofs.Common.{◌≡◌, false, Some, None, ◌==◌, refl}
 use Rattle.pulsar_wire.specs.Views.{body_values}
 use Rattle.pulsar_wire.specs.Command.{BodyValues}
 use Rattle.pulsar_wire.specs.declared.commands.base.Body.{Body}

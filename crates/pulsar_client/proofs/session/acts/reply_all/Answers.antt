@@ -20,7 +20,7 @@ moved l m ws w due =
 pub loop-waiter-preserved : goal.loop-waiter-preserved
 loop-waiter-preserved c =
     ap (λ due. map (OnLink c.args.link) (map (replied c.args.message) (map pending_of c.pop_back.new.self.items)) ++ due)
-      (c.in_ok-push_front.ensures.items ∙ ap (λ x. x ∷ c.loop-waiter.due.items) (c.reply.ensures ∙ ap (λ m. OnLink c.args.link (replied m (pending_of c.in-Some-pop_back.waiter))) c.in_ok-copy.ensures))
+    (c.in_ok-push_front.ensures.items ∙ ap (λ x. x ∷ c.loop-waiter.due.items) (c.reply.ensures ∙ ap (λ m. OnLink c.args.link (replied m (pending_of c.in-Some-pop_back.waiter))) c.in_ok-copy.ensures))
     ∙ sym (moved c.args.link c.args.message c.pop_back.new.self.items c.in-Some-pop_back.waiter c.loop-waiter.due.items)
     ∙ ap (λ ws. map (OnLink c.args.link) (map (replied c.args.message) (map pending_of ws)) ++ c.loop-waiter.due.items) (sym c.in-Some-pop_back.ensures.items)
     ∙ c.loop-waiter.invariant

@@ -1,4 +1,4 @@
-use Rattle.std.proofs.Common.{◌≡◌, ◌∙◌, sym, ap, map}
+use Rattle.std.proofs.Common.{◌∙◌, sym, ap, map}
 use Rattle.pulsar_client.specs.Waiting.{pending_of}
 use Rattle.pulsar_client.proofs.Pendings.{found_by, others_by, none_found_by, all_others_by}
 use Rattle.pulsar_client.proofs.session.waiting.Waiting.settle.Goals as goal

@@ -1,6 +1,6 @@
-use Rattle.std.proofs.Common.{◌≡◌, ◌∙◌, sym, ap, refl, ℕ, [], ◌∷◌, map, Some, None, cond}
+use Rattle.std.proofs.Common.{◌≡◌, ◌∙◌, sym, ap, refl, []}
 use Rattle.std.specs.BTreeMap.{get, is_at}
-use Rattle.pulsar_client.specs.Waiting.{Taken, awaited_cmp, found, listed, numbers_of, others, pending_at, pending_of}
+use Rattle.pulsar_client.specs.Waiting.{Taken, awaited_cmp, found, listed, numbers_of, others}
 use Rattle.pulsar_client.proofs.Pendings.{all_taken, index_left}
 use Rattle.pulsar_client.proofs.session.waiting.Waiting.take.Goals as goal
 use Rattle.pulsar_client.proofs.session.waiting.Waiting.take.Goals.{in-Some, in-None}

@@ -1,5 +1,4 @@
-use Rattle.std.proofs.Common.{◌≡◌, ◌∙◌, ◌++◌, sym, ap, refl, ℕ, [], ◌∷◌, map, Some, None, arith, ◌==◌, false, cond}
-use Rattle.std.proofs.lemmas.Bool.Decides.{nat_tests}
+use Rattle.std.proofs.Common.{◌≡◌, ◌∙◌, ◌++◌, sym, ap, refl, [], ◌∷◌, map, Some, arith, cond}
 use Rattle.std.proofs.lemmas.List.{map-append}
 use Rattle.std.specs.BTreeMap.{get, is_at}
 use Rattle.std.specs.Ordering.{nat_cmp}

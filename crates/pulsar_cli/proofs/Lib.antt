@@ -7,3 +7,4 @@ pub mod Prints
 pub mod Readings
 pub mod Sinks
 pub mod WrittenLines
+pub mod Folds

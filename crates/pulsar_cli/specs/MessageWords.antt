@@ -1,12 +1,12 @@
 -- The words of a message that is sent, `NAME=VALUE` each: what they say of it.
-use Rattle.std.specs.Prelude.{ℕ, ℤ, pos, neg_ℤ, ◌^◌, ◌==◌, nat_lt, nat_le, Bool, true, false, if◌then◌else◌, List, [], ◌∷◌, ◌++◌, Option, Some, None, codes}
+use Rattle.std.specs.Prelude.{ℕ, ℤ, pos, neg_ℤ, ◌+◌, ◌^◌, ◌==◌, nat_lt, nat_le, Bool, true, false, if◌then◌else◌, List, [], ◌∷◌, ◌++◌, take, drop, position, Option, Some, None, codes}
 use Rattle.std.specs.BTreeMap.{insert_entry}
 use Rattle.std.specs.Cmp.Lexicographic.{slice_cmp}
 use Rattle.std.specs.Option.{is_some}
 use Rattle.std.specs.Ordering.{nat_cmp}
 use Rattle.std.specs.Str.{bytes_eq}
 use Rattle.pulsar_wire.specs.Field.{◌>>=◌}
-use Rattle.pulsar_client.specs.RawCall.{Outgoing}
+use Rattle.pulsar_client.specs.RawCall.{Outgoing, silent}
 use Rattle.pulsar_cli.specs.Words.{number, text, word_bytes}
 
 -- what the words so far say: each part stands once, but for properties and clusters
@@ -15,25 +15,11 @@ pub record Draft : Type 0 where
   pub has_data : Bool
 
 abbrev pub blank : Draft
-blank =
-    record {
-      message = record {
-        payload = [];
-        properties = [];
-        partition_key = None;
-        ordering_key = None;
-        replicate_to = [];
-        event_time = None;
-        schema_version = None;
-        deliver_at = None;
-      };
-      has_data = false;
-    }
+blank = record { message = silent; has_data = false }
 
 -- what stands in front of the first `=`, and behind it
 abbrev pub cut : List ℕ → Option (List ℕ × List ℕ)
-cut [] = None
-cut (b ∷ bs) = if b == 61 then Some ([], bs) else cut bs >>= λ p. Some (b ∷ p.0, p.1)
+cut word = position (λ b. b == 61) word >>= λ at. Some (take at word, drop (at + 1) word)
 
 -- a number that may have a sign
 abbrev pub plus : ℕ → Option ℤ
@@ -76,6 +62,34 @@ abbrev pub with_property : Draft → List ℕ → List ℕ → Draft
 with_property d name value =
     record d { message = record d.message { properties = insert_entry (slice_cmp nat_cmp) d.message.properties name value } }
 
+-- data=WORD
+abbrev pub payload : Draft → List ℕ → Option Draft
+payload d word = unless d.has_data (word_bytes word >>= λ b. Some (with_data d b))
+
+-- pk=TEXT
+abbrev pub partition_key : Draft → List ℕ → Option Draft
+partition_key d word = unless (is_some d.message.partition_key) (text word >>= λ t. Some (with_partition_key d t))
+
+-- ok=WORD
+abbrev pub ordering_key : Draft → List ℕ → Option Draft
+ordering_key d word = unless (is_some d.message.ordering_key) (word_bytes word >>= λ b. Some (with_ordering_key d b))
+
+-- et=NUMBER
+abbrev pub event_time : Draft → List ℕ → Option Draft
+event_time d word = unless (is_some d.message.event_time) (number word >>= λ n. Some (with_event_time d n))
+
+-- sv=WORD
+abbrev pub schema_version : Draft → List ℕ → Option Draft
+schema_version d word = unless (is_some d.message.schema_version) (word_bytes word >>= λ b. Some (with_schema_version d b))
+
+-- at=NUMBER
+abbrev pub delivery : Draft → List ℕ → Option Draft
+delivery d word = unless (is_some d.message.deliver_at) (signed word >>= λ n. Some (with_delivery d n))
+
+-- rep=TEXT
+abbrev pub cluster : Draft → List ℕ → Option Draft
+cluster d word = text word >>= λ t. Some (with_cluster d t)
+
 -- prop=NAME=VALUE
 abbrev pub property : Draft → List ℕ → Option Draft
 property d word = do
@@ -87,18 +101,22 @@ property d word = do
 -- a word of the message
 abbrev pub part : Draft → (name value : List ℕ) → Option Draft
 part d name value =
-    if bytes_eq name (codes "data") then unless d.has_data (word_bytes value >>= λ b. Some (with_data d b))
-    else if bytes_eq name (codes "pk") then unless (is_some d.message.partition_key) (text value >>= λ t. Some (with_partition_key d t))
-    else if bytes_eq name (codes "ok") then unless (is_some d.message.ordering_key) (word_bytes value >>= λ b. Some (with_ordering_key d b))
-    else if bytes_eq name (codes "et") then unless (is_some d.message.event_time) (number value >>= λ n. Some (with_event_time d n))
-    else if bytes_eq name (codes "sv") then unless (is_some d.message.schema_version) (word_bytes value >>= λ b. Some (with_schema_version d b))
-    else if bytes_eq name (codes "at") then unless (is_some d.message.deliver_at) (signed value >>= λ n. Some (with_delivery d n))
-    else if bytes_eq name (codes "rep") then text value >>= λ t. Some (with_cluster d t)
+    if bytes_eq name (codes "data") then payload d value
+    else if bytes_eq name (codes "pk") then partition_key d value
+    else if bytes_eq name (codes "ok") then ordering_key d value
+    else if bytes_eq name (codes "et") then event_time d value
+    else if bytes_eq name (codes "sv") then schema_version d value
+    else if bytes_eq name (codes "at") then delivery d value
+    else if bytes_eq name (codes "rep") then cluster d value
     else if bytes_eq name (codes "prop") then property d value
     else None
 
 abbrev pub one : Draft → List ℕ → Option Draft
 one d word = cut word >>= λ p. part d p.0 p.1
+
+-- a word more, unless one was refused
+abbrev pub with_word : Option Draft → List ℕ → Option Draft
+with_word draft word = draft >>= λ d. one d word
 
 abbrev pub all : Draft → List (List ℕ) → Option Draft
 all d [] = Some d

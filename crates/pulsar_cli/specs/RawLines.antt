@@ -1,5 +1,5 @@
 -- What stands behind `call link LINK`: what is asked of one connection.
-use Rattle.std.specs.Prelude.{ℕ, ◌^◌, nat_lt, Bool, true, false, if◌then◌else◌, List, [], ◌∷◌, Option, Some, None, codes}
+use Rattle.std.specs.Prelude.{ℕ, ◌^◌, nat_lt, Bool, true, false, if◌then◌else◌, List, [], ◌∷◌, ◌++◌, Option, Some, None, codes}
 use Rattle.std.specs.Str.{bytes_eq}
 use Rattle.pulsar_wire.specs.Field.{◌>>=◌}
 use Rattle.pulsar_wire.specs.Row.{Values, each, reading}
@@ -55,6 +55,10 @@ id word = do
   values ← reading message_id bytes
   Some (id_in values)
 
+-- an id more, unless one was refused
+abbrev pub with_id : Option (List Id) → List ℕ → Option (List Id)
+with_id ids word = ids >>= λ is. id word >>= λ i. Some (is ++ i ∷ [])
+
 -- all up to the message, or each by itself
 abbrev pub cumulative : List ℕ → Option Bool
 cumulative word =
@@ -63,13 +67,17 @@ cumulative word =
     else None
 
 -- producer TOPIC NUMBER NAME
-abbrev pub create_producer : List (List ℕ) → Option Words
-create_producer (t ∷ p ∷ n ∷ []) = do
+abbrev pub producer_on : (topic : List ℕ) → List (List ℕ) → Option Words
+producer_on t (p ∷ n ∷ []) = do
   topic ← text t
   producer ← number p
   name ← name n
   Some (raw.CreateProducer topic producer name)
-create_producer _ = None
+producer_on t _ = None
+
+abbrev pub create_producer : List (List ℕ) → Option Words
+create_producer [] = None
+create_producer (t ∷ ws) = producer_on t ws
 
 -- send NUMBER NAME NUMBER BOOL MESSAGE
 abbrev pub send : List (List ℕ) → Option Words

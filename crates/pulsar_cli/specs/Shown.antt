@@ -1,8 +1,9 @@
 -- For the code's contracts alone: what its values stand for.
-use Rattle.std.specs.Prelude.{◌≡◌, ◌==◌, ℕ, ◌+◌, List, [], ◌∷◌, ◌++◌, Option, Some, None, false, length, string_bytes, Result, Ok, Err}
+use Rattle.std.specs.Prelude.{◌≡◌, ◌==◌, ℕ, ◌+◌, List, [], ◌∷◌, ◌++◌, Option, Some, None, false, length, map, string_bytes, Vec, Result, Ok, Err}
 use Rattle.std.specs.List.{All}
 use Rattle.pulsar_cli.specs.Words.{digits_from, in_range}
-use Rattle.pulsar_client.specs.RawCall.{outgoing}
+use Rattle.pulsar_wire.specs.declared.commands.ids.MessageIdData.{MessageIdData}
+use Rattle.pulsar_client.specs.RawCall.{Id, id_of, outgoing}
 use Rattle.pulsar_cli.specs.MessageWords.{Draft}
 use Rattle.pulsar_cli.specs.declared.grammar.message.Draft.{Draft as ParsedDraft}
 use Rattle.pulsar_cli.specs.declared.grammar.line.Line.{Line as Parsed}
@@ -20,6 +21,10 @@ use Rattle.pulsar_client.specs.Client.{StandsFor}
 use Rattle.pulsar_client.specs.Log.{Chosen}
 use Rattle.pulsar_cli.specs.Grammar.{Setting, Url, Now, Line, Nothing, Sets, Happens, Refused, lines}
 use Rattle.pulsar_cli.specs.Script.{Script, Adds, IsRunOf, IsStopped, options, script_of, happened, text}
+
+-- the ids of a list
+abbrev pub ids_of : {Z : Type 0} → Vec MessageIdData Z → List Id
+ids_of ids = map id_of ids.items
 
 -- what the words of a message so far say
 abbrev pub draft_of : ParsedDraft → Draft

@@ -1,5 +1,5 @@
 -- What is asked of one link, by its content: a text is the list of its bytes, a map the list of its entries in key order.
-use Rattle.std.specs.Prelude.{ℕ, ℤ, Bool, List, map, Option, String, string_bytes}
+use Rattle.std.specs.Prelude.{ℕ, ℤ, Bool, List, [], map, Option, None, String, string_bytes}
 use Rattle.std.specs.Option.{option_map}
 use Rattle.pulsar_wire.specs.declared.commands.enumerations.SubType.{SubType}
 use Rattle.pulsar_wire.specs.declared.commands.ids.MessageIdData.{MessageIdData}
@@ -17,6 +17,20 @@ pub record Outgoing : Type 0 where
   pub event_time : Option ℕ
   pub schema_version : Option (List ℕ)
   pub deliver_at : Option ℤ
+
+-- one that says nothing
+abbrev pub silent : Outgoing
+silent =
+    record {
+      payload = [];
+      properties = [];
+      partition_key = None;
+      ordering_key = None;
+      replicate_to = [];
+      event_time = None;
+      schema_version = None;
+      deliver_at = None;
+    }
 
 -- the place of a message in a topic
 pub record Id : Type 0 where

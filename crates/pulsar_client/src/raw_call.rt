@@ -1,7 +1,7 @@
 //! What a user asks of one connection.
 
 ghost use Rattle.std.specs.Prelude.{◌≡◌, IfOk, map};
-ghost use Rattle.pulsar_client.specs.RawCall.{id_of, outgoing, property, words};
+ghost use Rattle.pulsar_client.specs.RawCall.{id_of, outgoing, property, silent, words};
 
 use pulsar_wire::commands::enumerations::SubType;
 use pulsar_wire::commands::ids::MessageIdData;
@@ -73,7 +73,9 @@ pub enum RawCall {
 
 impl ProducerMessage {
     /// A message that says nothing.
-    pub fn new(alloc: Global) -> ProducerMessage {
+    pub fn new(alloc: Global) -> ProducerMessage
+        ensures { outgoing result ≡ silent }
+    {
         ProducerMessage {
             payload: Vec::new(alloc),
             properties: BTreeMap::new(alloc),

@@ -1,14 +1,12 @@
 //! The words of a message that is sent.
 
-ghost use Rattle.std.specs.Prelude.{◌≡◌, IfOk, Some, map};
-ghost use Rattle.std.specs.Option.{is_some, option_map};
-ghost use Rattle.pulsar_wire.specs.Field.{◌>>=◌};
+ghost use Rattle.std.specs.Prelude.{◌≡◌, IfOk, map, string_bytes};
+ghost use Rattle.std.specs.Option.{option_map};
 ghost use Rattle.pulsar_client.specs.RawCall.{outgoing};
-ghost use Rattle.pulsar_cli.specs.MessageWords.{all, blank, cut, message, minus, one, part, plus, property, signed, unless, with_cluster, with_data, with_delivery, with_event_time, with_ordering_key, with_partition_key, with_property, with_schema_version};
+ghost use Rattle.pulsar_cli.specs.MessageWords.{all, blank, cluster, cut, delivery, event_time, message, minus, one, ordering_key, part, partition_key, payload, plus, property, schema_version, signed, with_property, with_word};
 ghost use Rattle.pulsar_cli.specs.Shown.{draft_of};
-ghost use Rattle.pulsar_cli.specs.Words.{number, text, word_bytes};
 
-use crate::grammar::word::{is, number, text, word_bytes};
+use crate::grammar::word::{find, is, number, text, word_bytes};
 use pulsar_client::raw_call::ProducerMessage;
 use pulsar_wire::error::NoMemory;
 use std::alloc::Global;
@@ -24,18 +22,46 @@ pub struct Draft {
 pub fn message(alloc: Global, words: &[&[u8]]) -> Result<Option<ProducerMessage>, NoMemory>
     ensures { IfOk result (λ m. option_map outgoing m ≡ message (map (λ w. w.now) words.now)) }
 {
-    let mut draft = blank(alloc);
-    for word in words {
-        match one(alloc, draft, word)? {
-            Some(more) => draft = more,
-            None => return Ok(None),
-        }
+    match all(alloc, words)? {
+        Some(draft) => Ok(Some(draft.into_message())),
+        None => Ok(None),
     }
-    let Draft {
-        message,
-        has_data: _,
-    } = draft;
-    Ok(Some(message))
+}
+
+/// What all words say.
+fn all(alloc: Global, words: &[&[u8]]) -> Result<Option<Draft>, NoMemory>
+    ensures { IfOk result (λ d. option_map draft_of d ≡ all blank (map (λ w. w.now) words.now)) }
+{
+    let mut draft = Some(blank(alloc));
+    for word in words {
+        draft = more(alloc, draft, word)?;
+    }
+    Ok(draft)
+}
+
+/// A word more, unless one was refused.
+fn more(alloc: Global, draft: Option<Draft>, word: &[u8]) -> Result<Option<Draft>, NoMemory>
+    ensures { IfOk result (λ d. option_map draft_of d ≡ with_word (option_map draft_of draft) word.now) }
+{
+    match draft {
+        Some(draft) => {
+            let draft = one(alloc, draft, word)?;
+            Ok(draft)
+        }
+        None => Ok(None),
+    }
+}
+
+impl Draft {
+    fn into_message(self) -> ProducerMessage
+        ensures { outgoing result ≡ (draft_of self).message }
+    {
+        let Draft {
+            message,
+            has_data: _,
+        } = self;
+        message
+    }
 }
 
 fn blank(alloc: Global) -> Draft
@@ -61,7 +87,7 @@ fn part(alloc: Global, draft: Draft, name: &[u8], value: &[u8]) -> Result<Option
     ensures { IfOk result (λ d. option_map draft_of d ≡ part (draft_of draft) name.now value.now) }
 {
     if is(name, "data") {
-        data(alloc, draft, value)
+        payload(alloc, draft, value)
     } else if is(name, "pk") {
         partition_key(alloc, draft, value)
     } else if is(name, "ok") {
@@ -82,8 +108,8 @@ fn part(alloc: Global, draft: Draft, name: &[u8], value: &[u8]) -> Result<Option
 }
 
 /// `data=WORD`
-fn data(alloc: Global, draft: Draft, word: &[u8]) -> Result<Option<Draft>, NoMemory>
-    ensures { IfOk result (λ d. option_map draft_of d ≡ unless (draft_of draft).has_data (word_bytes word.now >>= λ x. Some (with_data (draft_of draft) x))) }
+fn payload(alloc: Global, draft: Draft, word: &[u8]) -> Result<Option<Draft>, NoMemory>
+    ensures { IfOk result (λ d. option_map draft_of d ≡ payload (draft_of draft) word.now) }
 {
     if draft.has_data {
         return Ok(None);
@@ -91,18 +117,15 @@ fn data(alloc: Global, draft: Draft, word: &[u8]) -> Result<Option<Draft>, NoMem
     let Some(value) = word_bytes(alloc, word)? else {
         return Ok(None);
     };
-    Ok(Some(Draft {
-        message: ProducerMessage {
-            payload: value,
-            ..draft.message
-        },
-        has_data: true,
-    }))
+    let mut draft = draft;
+    draft.message.payload = value;
+    draft.has_data = true;
+    Ok(Some(draft))
 }
 
 /// `pk=TEXT`
 fn partition_key(alloc: Global, draft: Draft, word: &[u8]) -> Result<Option<Draft>, NoMemory>
-    ensures { IfOk result (λ d. option_map draft_of d ≡ unless (is_some (draft_of draft).message.partition_key) (text word.now >>= λ x. Some (with_partition_key (draft_of draft) x))) }
+    ensures { IfOk result (λ d. option_map draft_of d ≡ partition_key (draft_of draft) word.now) }
 {
     if draft.message.partition_key.is_some() {
         return Ok(None);
@@ -110,18 +133,14 @@ fn partition_key(alloc: Global, draft: Draft, word: &[u8]) -> Result<Option<Draf
     let Some(value) = text(alloc, word)? else {
         return Ok(None);
     };
-    Ok(Some(Draft {
-        message: ProducerMessage {
-            partition_key: Some(value),
-            ..draft.message
-        },
-        ..draft
-    }))
+    let mut draft = draft;
+    draft.message.partition_key = Some(value);
+    Ok(Some(draft))
 }
 
 /// `ok=WORD`
 fn ordering_key(alloc: Global, draft: Draft, word: &[u8]) -> Result<Option<Draft>, NoMemory>
-    ensures { IfOk result (λ d. option_map draft_of d ≡ unless (is_some (draft_of draft).message.ordering_key) (word_bytes word.now >>= λ x. Some (with_ordering_key (draft_of draft) x))) }
+    ensures { IfOk result (λ d. option_map draft_of d ≡ ordering_key (draft_of draft) word.now) }
 {
     if draft.message.ordering_key.is_some() {
         return Ok(None);
@@ -129,35 +148,27 @@ fn ordering_key(alloc: Global, draft: Draft, word: &[u8]) -> Result<Option<Draft
     let Some(value) = word_bytes(alloc, word)? else {
         return Ok(None);
     };
-    Ok(Some(Draft {
-        message: ProducerMessage {
-            ordering_key: Some(value),
-            ..draft.message
-        },
-        ..draft
-    }))
+    let mut draft = draft;
+    draft.message.ordering_key = Some(value);
+    Ok(Some(draft))
 }
 
 /// `et=NUMBER`
 fn event_time(draft: Draft, word: &[u8]) -> Option<Draft>
-    ensures { option_map draft_of result ≡ unless (is_some (draft_of draft).message.event_time) (number word.now >>= λ x. Some (with_event_time (draft_of draft) x)) }
+    ensures { option_map draft_of result ≡ event_time (draft_of draft) word.now }
 {
     if draft.message.event_time.is_some() {
         return None;
     }
     let value = number(word)?;
-    Some(Draft {
-        message: ProducerMessage {
-            event_time: Some(value),
-            ..draft.message
-        },
-        ..draft
-    })
+    let mut draft = draft;
+    draft.message.event_time = Some(value);
+    Some(draft)
 }
 
 /// `sv=WORD`
 fn schema_version(alloc: Global, draft: Draft, word: &[u8]) -> Result<Option<Draft>, NoMemory>
-    ensures { IfOk result (λ d. option_map draft_of d ≡ unless (is_some (draft_of draft).message.schema_version) (word_bytes word.now >>= λ x. Some (with_schema_version (draft_of draft) x))) }
+    ensures { IfOk result (λ d. option_map draft_of d ≡ schema_version (draft_of draft) word.now) }
 {
     if draft.message.schema_version.is_some() {
         return Ok(None);
@@ -165,35 +176,27 @@ fn schema_version(alloc: Global, draft: Draft, word: &[u8]) -> Result<Option<Dra
     let Some(value) = word_bytes(alloc, word)? else {
         return Ok(None);
     };
-    Ok(Some(Draft {
-        message: ProducerMessage {
-            schema_version: Some(value),
-            ..draft.message
-        },
-        ..draft
-    }))
+    let mut draft = draft;
+    draft.message.schema_version = Some(value);
+    Ok(Some(draft))
 }
 
 /// `at=NUMBER`
 fn delivery(draft: Draft, word: &[u8]) -> Option<Draft>
-    ensures { option_map draft_of result ≡ unless (is_some (draft_of draft).message.deliver_at) (signed word.now >>= λ x. Some (with_delivery (draft_of draft) x)) }
+    ensures { option_map draft_of result ≡ delivery (draft_of draft) word.now }
 {
     if draft.message.deliver_at_time.is_some() {
         return None;
     }
     let value = signed(word)?;
-    Some(Draft {
-        message: ProducerMessage {
-            deliver_at_time: Some(value),
-            ..draft.message
-        },
-        ..draft
-    })
+    let mut draft = draft;
+    draft.message.deliver_at_time = Some(value);
+    Some(draft)
 }
 
 /// `rep=TEXT`
 fn cluster(alloc: Global, draft: Draft, word: &[u8]) -> Result<Option<Draft>, NoMemory>
-    ensures { IfOk result (λ d. option_map draft_of d ≡ (text word.now >>= λ x. Some (with_cluster (draft_of draft) x))) }
+    ensures { IfOk result (λ d. option_map draft_of d ≡ cluster (draft_of draft) word.now) }
 {
     let Some(cluster) = text(alloc, word)? else {
         return Ok(None);
@@ -216,16 +219,25 @@ fn property(alloc: Global, draft: Draft, word: &[u8]) -> Result<Option<Draft>, N
     let Some(value) = text(alloc, value)? else {
         return Ok(None);
     };
+    Ok(Some(with_property(draft, name, value)?))
+}
+
+/// A property goes to the place of its name.
+fn with_property(draft: Draft, name: String, value: String) -> Result<Draft, NoMemory>
+    ensures { IfOk result (λ d. draft_of d ≡ with_property (draft_of draft) (string_bytes name) (string_bytes value)) }
+{
     let mut draft = draft;
     draft.message.properties.insert(name, value)?;
-    Ok(Some(draft))
+    Ok(draft)
 }
 
 /// What stands in front of the first `=`, and behind it.
 fn cut(word: &[u8]) -> Option<(&[u8], &[u8])>
     ensures { option_map (λ p. (p.0.now, p.1.now)) result ≡ cut word.now }
 {
-    let at = word.iter().position(|b| *b == b'=')?;
+    let Some(at) = find(word, b'=') else {
+        return None;
+    };
     Some((&word[..at], &word[at + 1..]))
 }
 

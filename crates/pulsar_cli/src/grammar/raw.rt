@@ -3,8 +3,9 @@
 ghost use Rattle.std.specs.Prelude.{◌≡◌, IfOk, map, string_bytes};
 ghost use Rattle.std.specs.Option.{option_map};
 ghost use Rattle.pulsar_wire.specs.Row.{each};
-ghost use Rattle.pulsar_client.specs.RawCall.{id_of, words};
-ghost use Rattle.pulsar_cli.specs.RawLines.{ack, close_consumer, close_producer, create_producer, cumulative, flag, flow, id, id_bytes, name, raw_call, send, small_number, sub_type, subscribe};
+ghost use Rattle.pulsar_cli.specs.Shown.{ids_of};
+ghost use Rattle.pulsar_client.specs.RawCall.{id_of, words as said};
+ghost use Rattle.pulsar_cli.specs.RawLines.{ack, close_consumer, close_producer, create_producer, cumulative, flag, flow, id, id_bytes, name, producer_on, raw_call, send, small_number, sub_type, subscribe, with_id};
 
 use crate::grammar::message::message;
 use crate::grammar::word::{hex_bytes, is, number, text};
@@ -18,7 +19,7 @@ use std::alloc::Global;
 
 /// What stands behind `call link LINK`.
 pub fn raw_call(alloc: Global, words: &[&[u8]]) -> Result<Option<RawCall>, NoMemory>
-    ensures { IfOk result (λ c. option_map words c ≡ raw_call (map (λ w. w.now) words.now)) }
+    ensures { IfOk result (λ c. option_map said c ≡ raw_call (map (λ w. w.now) words.now)) }
 {
     let Some((word, rest)) = words.split_first() else {
         return Ok(None);
@@ -44,9 +45,18 @@ pub fn raw_call(alloc: Global, words: &[&[u8]]) -> Result<Option<RawCall>, NoMem
 
 /// `producer TOPIC NUMBER NAME`
 fn create_producer(alloc: Global, words: &[&[u8]]) -> Result<Option<RawCall>, NoMemory>
-    ensures { IfOk result (λ c. option_map words c ≡ create_producer (map (λ w. w.now) words.now)) }
+    ensures { IfOk result (λ c. option_map said c ≡ create_producer (map (λ w. w.now) words.now)) }
 {
-    let [topic, producer_id, word] = words else {
+    let Some((topic, rest)) = words.split_first() else {
+        return Ok(None);
+    };
+    producer_on(alloc, topic, rest)
+}
+
+fn producer_on(alloc: Global, topic: &[u8], words: &[&[u8]]) -> Result<Option<RawCall>, NoMemory>
+    ensures { IfOk result (λ c. option_map said c ≡ producer_on topic.now (map (λ w. w.now) words.now)) }
+{
+    let [producer_id, word] = words else {
         return Ok(None);
     };
     let Some(topic) = text(alloc, topic)? else {
@@ -67,7 +77,7 @@ fn create_producer(alloc: Global, words: &[&[u8]]) -> Result<Option<RawCall>, No
 
 /// `send NUMBER NAME NUMBER BOOL MESSAGE`
 fn send(alloc: Global, words: &[&[u8]]) -> Result<Option<RawCall>, NoMemory>
-    ensures { IfOk result (λ c. option_map words c ≡ send (map (λ w. w.now) words.now)) }
+    ensures { IfOk result (λ c. option_map said c ≡ send (map (λ w. w.now) words.now)) }
 {
     let [producer_id, name, sequence_id, block, rest @ ..] = words else {
         return Ok(None);
@@ -98,7 +108,7 @@ fn send(alloc: Global, words: &[&[u8]]) -> Result<Option<RawCall>, NoMemory>
 
 /// `close-producer NUMBER`
 fn close_producer(words: &[&[u8]]) -> Option<RawCall>
-    ensures { option_map words result ≡ close_producer (map (λ w. w.now) words.now) }
+    ensures { option_map said result ≡ close_producer (map (λ w. w.now) words.now) }
 {
     let [producer_id] = words else {
         return None;
@@ -109,7 +119,7 @@ fn close_producer(words: &[&[u8]]) -> Option<RawCall>
 
 /// `subscribe TOPIC SUBSCRIPTION TYPE NUMBER`
 fn subscribe(alloc: Global, words: &[&[u8]]) -> Result<Option<RawCall>, NoMemory>
-    ensures { IfOk result (λ c. option_map words c ≡ subscribe (map (λ w. w.now) words.now)) }
+    ensures { IfOk result (λ c. option_map said c ≡ subscribe (map (λ w. w.now) words.now)) }
 {
     let [topic, subscription, kind, consumer_id] = words else {
         return Ok(None);
@@ -136,7 +146,7 @@ fn subscribe(alloc: Global, words: &[&[u8]]) -> Result<Option<RawCall>, NoMemory
 
 /// `flow NUMBER NUMBER`
 fn flow(words: &[&[u8]]) -> Option<RawCall>
-    ensures { option_map words result ≡ flow (map (λ w. w.now) words.now) }
+    ensures { option_map said result ≡ flow (map (λ w. w.now) words.now) }
 {
     let [consumer_id, permits] = words else {
         return None;
@@ -151,7 +161,7 @@ fn flow(words: &[&[u8]]) -> Option<RawCall>
 
 /// `ack NUMBER TYPE ID..`
 fn ack(alloc: Global, words: &[&[u8]]) -> Result<Option<RawCall>, NoMemory>
-    ensures { IfOk result (λ c. option_map words c ≡ ack (map (λ w. w.now) words.now)) }
+    ensures { IfOk result (λ c. option_map said c ≡ ack (map (λ w. w.now) words.now)) }
 {
     let [consumer_id, kind, rest @ ..] = words else {
         return Ok(None);
@@ -174,7 +184,7 @@ fn ack(alloc: Global, words: &[&[u8]]) -> Result<Option<RawCall>, NoMemory>
 
 /// `close-consumer NUMBER`
 fn close_consumer(words: &[&[u8]]) -> Option<RawCall>
-    ensures { option_map words result ≡ close_consumer (map (λ w. w.now) words.now) }
+    ensures { option_map said result ≡ close_consumer (map (λ w. w.now) words.now) }
 {
     let [consumer_id] = words else {
         return None;
@@ -246,15 +256,30 @@ fn cumulative(word: &[u8]) -> Option<bool>
 }
 
 fn ids(alloc: Global, words: &[&[u8]]) -> Result<Option<Vec<MessageIdData>>, NoMemory>
-    ensures { IfOk result (λ ids. option_map (λ v. map id_of v.items) ids ≡ each id (map (λ w. w.now) words.now)) }
+    ensures { IfOk result (λ ids. option_map ids_of ids ≡ each id (map (λ w. w.now) words.now)) }
 {
-    let mut ids = Vec::with_capacity(alloc, words.len())?;
+    let mut ids = Some(Vec::with_capacity(alloc, words.len())?);
     for word in words {
-        match id(alloc, word)? {
-            Some(id) => ids.push(id)?,
-            None => return Ok(None),
-        }
+        ids = more(alloc, ids, word)?;
     }
+    Ok(ids)
+}
+
+/// An id more, unless one was refused.
+fn more(
+    alloc: Global,
+    ids: Option<Vec<MessageIdData>>,
+    word: &[u8],
+) -> Result<Option<Vec<MessageIdData>>, NoMemory>
+    ensures { IfOk result (λ more. option_map ids_of more ≡ with_id (option_map ids_of ids) word.now) }
+{
+    let Some(mut ids) = ids else {
+        return Ok(None);
+    };
+    let Some(id) = id(alloc, word)? else {
+        return Ok(None);
+    };
+    ids.push(id)?;
     Ok(Some(ids))
 }
 

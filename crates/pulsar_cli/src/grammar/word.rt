@@ -27,7 +27,7 @@ pub fn cut_line(bytes: &[u8]) -> Option<(&[u8], &[u8])>
 }
 
 /// The place of the first such byte.
-fn find(bytes: &[u8], byte: u8) -> Option<usize>
+pub fn find(bytes: &[u8], byte: u8) -> Option<usize>
     ensures { result ≡ position (λ b. b == byte) bytes.now }
 {
     bytes.iter().position(|b| *b == byte)

@@ -7,6 +7,7 @@ ghost use Rattle.pulsar_wire.specs.Views.{body_values, send_receipt_values};
 ghost use Rattle.pulsar_client.specs.Content.{Names, Receipt, Replies, said, shown};
 ghost use Rattle.pulsar_client.specs.Messages.{body_bytes};
 ghost use Rattle.pulsar_cli.specs.Text as printed;
+ghost use Rattle.pulsar_cli.specs.WordText.{hex};
 
 use crate::printing::body::encode_body;
 use crate::printing::error::push_error;
@@ -124,7 +125,7 @@ fn push_replies(out: &mut String, bodies: &[Body]) -> Result<(), AllocError>
 }
 
 fn push_body(out: &mut String, body: &Body) -> Result<(), AllocError>
-    ensures { OnOk result (string_bytes out.new ≡ string_bytes out.old ++ printed.hex (body_bytes (body_values body.now))) }
+    ensures { OnOk result (string_bytes out.new ≡ string_bytes out.old ++ hex (body_bytes (body_values body.now))) }
 {
     let mut bytes = Vec::new(*out.allocator());
     encode_body(body, &mut bytes)?;

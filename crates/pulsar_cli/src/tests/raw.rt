@@ -57,11 +57,11 @@ fn producers_and_consumers_are_made(rt: HostRuntime) -> Result<(), Fail> {
         ),
         (
             "call link 0 close-producer 7\nbytes 0 0000000a00000006080d6a020800\n",
-            "event 4\nqueued 0 1 0000000d00000009080f7a0408071000\nevent 5\nsettled 0 1 reply\nended 1 ok replies 1 0800\n",
+            "event 4\nqueued 0 1 0000000c00000008080f7a0408071000\nevent 5\nsettled 0 1 reply\nended 1 ok replies 1 0800\n",
         ),
         (
             "call link 0 close-consumer 7\nbytes 0 0000000a00000006080d6a020800\n",
-            "event 4\nqueued 0 1 0000000e0000000a081082010408071000\nevent 5\nsettled 0 1 reply\nended 1 ok replies 1 0800\n",
+            "event 4\nqueued 0 1 0000000d00000009081082010408071000\nevent 5\nsettled 0 1 reply\nended 1 ok replies 1 0800\n",
         ),
         (
             "call link 0 ack 0 cumulative %\n",

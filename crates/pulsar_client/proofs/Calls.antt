@@ -1,6 +1,6 @@
 -- A call's answers are those of its procedure along its outcomes.
 use Rattle.std.proofs.Common.{◌≡◌, ℕ, ◌+◌, ◌<◌, ◌≤◌, ◌∙◌, sym, ap, subst, List, [], ◌∷◌, ◌++◌, refl, arith, map, drop, Bool, true, false, ◌&&◌, cond, Option, Some, None, ◌⊎◌, inl, inr, ◌==◌, append_assoc, append-nil}
-use Rattle.std.specs.Option.{unwrap_or}
+use Rattle.std.specs.Option.{is_some, unwrap_or}
 use Rattle.std.proofs.lemmas.Bool.{cases_Bool, eqb-true, eq-eqb}
 use Rattle.std.proofs.lemmas.Bool.Decides.{nat_tests}
 use Rattle.pulsar_wire.specs.declared.error.IoKind.{IoKind}
@@ -15,10 +15,10 @@ use Rattle.pulsar_client.specs.declared.act.Action.TheVariants.{Get, Ask, Answer
 use Rattle.pulsar_client.specs.declared.act.LinkAct.{LinkAct}
 use Rattle.pulsar_client.specs.declared.act.LinkAct.TheVariants.{Opens, Comes, Drains, Requests, Spends, Readied, Ended, Settled, Fails, Loses}
 use Rattle.pulsar_client.specs.declared.act.Act.{Act}
-use Rattle.pulsar_client.specs.declared.act.Act.TheVariants.{Calls, Told, Dials, Waits, Answers, Builds, OnLink}
+use Rattle.pulsar_client.specs.declared.act.Act.TheVariants.{Calls, Told, Dials, Waits, Answers, Builds, OnLink, Polls}
 use Rattle.pulsar_client.specs.declared.tables.Base.{Base}
 use Rattle.pulsar_client.specs.declared.tables.Base.TheVariants.{Nothing, Runs, Serves}
-use Rattle.pulsar_client.specs.Content.{Heard, Called, Opened, Bytes, Drain, Said, FailedToOpen, Lost}
+use Rattle.pulsar_client.specs.Content.{Heard, Called, Opened, Bytes, Drain, Poll, Said, FailedToOpen, Lost}
 use Rattle.pulsar_client.specs.Address.{Address}
 use Rattle.pulsar_client.specs.Failures.{Exhausted}
 use Rattle.pulsar_client.specs.Link.{Seen, arrivals, link_rule, is_ready, fits_frame, awaited, is_numbered, request_message, kind_of}
@@ -109,6 +109,7 @@ told_among t (Waits k ∷ xs) p = let f : false ≡ true = p.0 in absurd cc
 told_among t (Answers k a ∷ xs) p = let f : false ≡ true = p.0 in absurd cc
 told_among t (Builds k ∷ xs) p = let f : false ≡ true = p.0 in absurd cc
 told_among t (OnLink k x ∷ xs) p = let f : false ≡ true = p.0 in absurd cc
+told_among t (Polls k ∷ xs) p = let f : false ≡ true = p.0 in absurd cc
 
 -- WHAT ARISES
 
@@ -160,6 +161,7 @@ told_calls (Waits k ∷ xs) p = (refl, told_calls xs p.1)
 told_calls (Answers k a ∷ xs) p = (refl, told_calls xs p.1)
 told_calls (Builds k ∷ xs) p = (refl, told_calls xs p.1)
 told_calls (OnLink k x ∷ xs) p = (refl, told_calls xs p.1)
+told_calls (Polls k ∷ xs) p = (refl, told_calls xs p.1)
 
 -- an action performed
 record Performed (t : ℕ) (a : Action) (xs : List Act) : Type 0 where
@@ -230,6 +232,7 @@ brings_alone v (FailedToOpen l kind) = one_alone (dials (v.link l)) (OnLink l (F
 brings_alone v (Bytes l piece) = tt
 brings_alone v (Drain l most) = one_alone (opens (v.link l)) (OnLink l (Drains most))
 brings_alone v (Lost l) = one_alone (opens (v.link l)) (OnLink l Loses)
+brings_alone v (Poll t) = one_alone (is_some (v.consumer t)) (Polls t)
 
 one_plain : (b : Bool) (a : Act) → is_told a ≡ false → NoneTold (cond b (a ∷ []) [])
 one_plain true a h = (h, tt)
@@ -246,11 +249,16 @@ brings_plain v (FailedToOpen l kind) = one_plain (dials (v.link l)) (OnLink l (F
 brings_plain v (Bytes l piece) = tt
 brings_plain v (Drain l most) = one_plain (opens (v.link l)) (OnLink l (Drains most)) refl
 brings_plain v (Lost l) = one_plain (opens (v.link l)) (OnLink l Loses) refl
+brings_plain v (Poll t) = one_plain (is_some (v.consumer t)) (Polls t) refl
 
 -- only the ticket behind the last is answered at once
 one_among : (t k : ℕ) (b : Bool) (x : LinkAct) → among t (cond b (OnLink k x ∷ []) []) ≡ []
 one_among t k true x = refl
 one_among t k false x = refl
+
+poll_among : (t k : ℕ) (b : Bool) → among t (cond b (Polls k ∷ []) []) ≡ []
+poll_among t k true = refl
+poll_among t k false = refl
 
 calls_for_among : (t : ℕ) (b : Bool) (p : Procedure) → (t == spent) ≡ false → among t (cond b (Answers spent (failed Exhausted) ∷ []) (Calls p ∷ [])) ≡ []
 calls_for_among t true p h = rw h refl
@@ -263,6 +271,7 @@ brings_among t v (FailedToOpen l kind) h = one_among t l (dials (v.link l)) (Fai
 brings_among t v (Bytes l piece) h = refl
 brings_among t v (Drain l most) h = one_among t l (opens (v.link l)) (Drains most)
 brings_among t v (Lost l) h = one_among t l (opens (v.link l)) Loses
+brings_among t v (Poll k) h = poll_among t k (is_some (v.consumer k))
 
 -- a call is due only where there is a ticket left
 abbrev HasRoom : ℕ → List Act → Type 0
@@ -287,6 +296,10 @@ one_room : (n k : ℕ) (b : Bool) (x : LinkAct) → HasRoom n (cond b (OnLink k 
 one_room n k true x = λ h. let f : false ≡ true = h in absurd cc
 one_room n k false x = tt
 
+poll_room : (n k : ℕ) (b : Bool) → HasRoom n (cond b (Polls k ∷ []) [])
+poll_room n k true = λ h. let f : false ≡ true = h in absurd cc
+poll_room n k false = tt
+
 brings_room : (v : View) (e : Heard) → v.calls ≤ spent → HasRoom v.calls (brings v e)
 brings_room v (Called c) le = calls_for_room v.calls (v.calls == spent) (procedure_for v.is_built v.now c) le refl
 brings_room v (Opened l) le = one_room v.calls l (dials (v.link l)) Opens
@@ -294,6 +307,7 @@ brings_room v (FailedToOpen l kind) le = one_room v.calls l (dials (v.link l)) (
 brings_room v (Bytes l piece) le = tt
 brings_room v (Drain l most) le = one_room v.calls l (opens (v.link l)) (Drains most)
 brings_room v (Lost l) le = one_room v.calls l (opens (v.link l)) Loses
+brings_room v (Poll t) le = poll_room v.calls t (is_some (v.consumer t))
 
 -- a call that was made has a ticket below the next
 made_cases : (t n : ℕ) (c p : Procedure) (r : Option Procedure) (b : Bool) → (t == n) ≡ b → (r ≡ Some p → t < n) → cond b (Some c) r ≡ Some p → t < n + 1
@@ -310,6 +324,7 @@ made t p (Does (Waits k) ∷ log) h = made t p log h
 made t p (Does (Answers k u) ∷ log) h = made t p log h
 made t p (Does (Builds k) ∷ log) h = made t p log h
 made t p (Does (OnLink k x) ∷ log) h = made t p log h
+made t p (Does (Polls k) ∷ log) h = made t p log h
 
 NoneTold-last : (xs : List Act) → NoneTold xs → TellsLast xs
 NoneTold-last [] p = tt
@@ -340,6 +355,7 @@ AllFrames-drop (Dials k ∷ xs) p = absurd p
 AllFrames-drop (Waits k ∷ xs) p = absurd p
 AllFrames-drop (Answers k a ∷ xs) p = absurd p
 AllFrames-drop (Builds k ∷ xs) p = absurd p
+AllFrames-drop (Polls k ∷ xs) p = absurd p
 
 -- ALONG A LOG
 
@@ -380,6 +396,7 @@ frame_no (Dials k ∷ ys) a p h = absurd p
 frame_no (Waits k ∷ ys) a p h = absurd p
 frame_no (Answers k u ∷ ys) a p h = absurd p
 frame_no (Builds k ∷ ys) a p h = absurd p
+frame_no (Polls k ∷ ys) a p h = absurd p
 
 module _ (o : Chosen) (log : List Entry) (a : Act) (k : Follows o log) (fits : first (due o log ++ to_come o log) ≡ Some a) where
   -- the act is taken from what was due
@@ -534,6 +551,7 @@ follows o (Does (Dials t) ∷ log) r = simple_on o log (Dials t) (follows o log 
 follows o (Does (Waits t) ∷ log) r = simple_on o log (Waits t) (follows o log r.0) r.1 tt tt (λ t. refl) (λ t. refl) (λ t. refl) (λ t. refl) refl
 follows o (Does (Answers t u) ∷ log) r = simple_on o log (Answers t u) (follows o log r.0) r.1 tt tt (λ t. refl) (λ t. refl) (λ t. refl) (λ t. refl) refl
 follows o (Does (Builds t) ∷ log) r = simple_on o log (Builds t) (follows o log r.0) r.1 tt tt (λ t. refl) (λ t. refl) (λ t. refl) (λ t. refl) refl
+follows o (Does (Polls t) ∷ log) r = simple_on o log (Polls t) (follows o log r.0) r.1 tt tt (λ t. refl) (λ t. refl) (λ t. refl) (λ t. refl) refl
 follows o (Does (OnLink n x) ∷ log) r =
     simple_on o log (OnLink n x) (follows o log r.0) r.1 (link_plain n (seen_link o log n) x) (link_calls n (seen_link o log n) x) (λ t. link_among t n (seen_link o log n) x) (λ t. refl) (λ t. refl) (λ t. refl) refl
 
@@ -569,6 +587,10 @@ one_first : (b : Bool) (p : Procedure) (l : ℕ) (x : LinkAct) → first (cond b
 one_first true p l x h = cc
 one_first false p l x h = cc
 
+poll_first : (b : Bool) (p : Procedure) (t : ℕ) → first (cond b (Polls t ∷ []) [] ++ []) ≡ Some (Calls p) → ⊥
+poll_first true p t h = cc
+poll_first false p t h = cc
+
 frames_first : (ys : List Act) (p : Procedure) → AllFrames ys → first ys ≡ Some (Calls p) → ⊥
 frames_first ys p all h = let f = frame_no ys (Calls p) all h in let e : Calls p ≡ OnLink f.0 f.1 = f.2 in cc
 
@@ -579,6 +601,7 @@ calls_are_made o (Begins (Opened l) ∷ log) p r = absurd (one_first (dials ((vi
 calls_are_made o (Begins (FailedToOpen l kind) ∷ log) p r = absurd (one_first (dials ((view o log).link l)) p l (Fails kind) r.1)
 calls_are_made o (Begins (Drain l most) ∷ log) p r = absurd (one_first (opens ((view o log).link l)) p l (Drains most) r.1)
 calls_are_made o (Begins (Lost l) ∷ log) p r = absurd (one_first (opens ((view o log).link l)) p l Loses r.1)
+calls_are_made o (Begins (Poll t) ∷ log) p r = absurd (poll_first (is_some ((view o log).consumer t)) p t r.1)
 calls_are_made o (Begins (Bytes l piece) ∷ log) p r = absurd (frames_first (frames_of (view o log) (Bytes l piece)) p (event_frames (view o log) (Bytes l piece)) r.1)
 calls_are_made o (Does a ∷ log) p r = elim (first_act (due o (Does a ∷ log)) (to_come o (Does a ∷ log)) (Calls p) r.1) [
   | inl e ↦ (let f : true ≡ false = (subst NoCalls e (due_calls o a log r.0.0)).0 in absurd cc)

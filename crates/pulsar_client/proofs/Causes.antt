@@ -1,5 +1,6 @@
 -- Why a call is told an outcome, and why it fails.
 use Rattle.std.proofs.Common.{◌≡◌, ℕ, ◌∙◌, sym, ap, subst, List, [], ◌∷◌, ◌++◌, refl, map, filter, drop, Bool, true, false, ◌&&◌, cond, if◌then◌else◌, Option, Some, None, inl, inr, ◌==◌}
+use Rattle.std.specs.Option.{is_some}
 use Rattle.std.proofs.lemmas.Bool.{cases_Bool, eqb-true, eq-eqb}
 use Rattle.pulsar_wire.specs.declared.commands.topics.Mode.{Mode}
 use Rattle.pulsar_wire.specs.declared.error.IoKind.{IoKind}
@@ -17,10 +18,10 @@ use Rattle.pulsar_client.specs.declared.act.LinkAct.{LinkAct}
 use Rattle.pulsar_client.specs.declared.act.LinkAct.TheVariants as link_act
 use Rattle.pulsar_client.specs.declared.act.LinkAct.TheVariants.{Opens, Comes, Drains, Requests, Spends, Readied, Ended, Settled, Loses}
 use Rattle.pulsar_client.specs.declared.act.Act.{Act}
-use Rattle.pulsar_client.specs.declared.act.Act.TheVariants.{Calls, Told, Answers, OnLink}
+use Rattle.pulsar_client.specs.declared.act.Act.TheVariants.{Calls, Told, Answers, OnLink, Polls}
 use Rattle.pulsar_client.specs.declared.tables.Base.{Base}
 use Rattle.pulsar_client.specs.declared.tables.Base.TheVariants.{Nothing, Runs, Serves}
-use Rattle.pulsar_client.specs.Content.{Heard, Called, Opened, Bytes, Drain, Said, Done, Failed, FailedToOpen, Lost}
+use Rattle.pulsar_client.specs.Content.{Heard, Called, Opened, Bytes, Drain, Poll, Said, Done, Failed, FailedToOpen, Lost}
 use Rattle.pulsar_client.specs.Address.{Address}
 use Rattle.pulsar_client.specs.Failures.{Failure, OfConnection, Exhausted, Shutdown}
 use Rattle.pulsar_client.specs.declared.act.Arrival.{Arrival}
@@ -236,6 +237,7 @@ brings_caused o log v (FailedToOpen l kind) = one_caused o log (dials (v.link l)
 brings_caused o log v (Bytes l piece) = tt
 brings_caused o log v (Drain l most) = one_caused o log (opens (v.link l)) (OnLink l (Drains most)) tt
 brings_caused o log v (Lost l) = one_caused o log (opens (v.link l)) (OnLink l Loses) tt
+brings_caused o log v (Poll t) = one_caused o log (is_some (v.consumer t)) (Polls t) tt
 
 comes_caused : (o : Chosen) (log : List Entry) (a : Act) → is_comes a ≡ true → IsCaused o log a
 comes_caused o log (OnLink l (Comes x)) h = tt

@@ -1,7 +1,7 @@
 -- The frames that come on a link are those that its stream is cut into.
 use Rattle.std.proofs.Common.{◌≡◌, ℕ, ◌+◌, ◌∙◌, sym, ap, subst, List, [], ◌∷◌, ◌++◌, refl, arith, map, drop, Bool, true, false, ◌&&◌, ◌||◌, cond, Option, Some, None, ◌⊎◌, inl, inr, ◌==◌, nat_lt, append_assoc, append-nil}
 use Rattle.std.specs.List.{filter_map, list_any, cons_option}
-use Rattle.std.specs.Option.{option_to_list}
+use Rattle.std.specs.Option.{is_some, option_to_list}
 use Rattle.std.proofs.lemmas.List.{map-append}
 use Rattle.std.proofs.lemmas.Bool.{cases_Bool, eqb-true, eq-eqb}
 use Rattle.std.proofs.lemmas.Bool.Decides.{nat_tests}
@@ -21,13 +21,13 @@ use Rattle.pulsar_client.specs.declared.act.Action.TheVariants.{Get, Ask, Answer
 use Rattle.pulsar_client.specs.declared.act.LinkAct.{LinkAct}
 use Rattle.pulsar_client.specs.declared.act.LinkAct.TheVariants.{Opens, Comes, Drains, Requests, Spends, Greets, Readied, Ended, Settled, Fails, Loses}
 use Rattle.pulsar_client.specs.declared.act.Act.{Act}
-use Rattle.pulsar_client.specs.declared.act.Act.TheVariants.{Calls, Told, Dials, Waits, Answers, Builds, OnLink}
+use Rattle.pulsar_client.specs.declared.act.Act.TheVariants.{Calls, Told, Dials, Waits, Answers, Builds, OnLink, Polls}
 use Rattle.pulsar_client.specs.declared.tables.Base.{Base}
 use Rattle.pulsar_client.specs.declared.tables.Base.TheVariants.{Nothing, Runs, Serves}
 use Rattle.pulsar_client.specs.declared.session.link.Stage.{Stage}
 use Rattle.pulsar_client.specs.declared.session.link.Stage.TheVariants.{Dialing, Handshaking, Ready, Over}
 use Rattle.pulsar_client.specs.Messages.{read}
-use Rattle.pulsar_client.specs.Content.{Heard, Called, Opened, Bytes, Drain, FailedToOpen, Lost}
+use Rattle.pulsar_client.specs.Content.{Heard, Called, Opened, Bytes, Drain, Poll, FailedToOpen, Lost}
 use Rattle.pulsar_client.specs.Address.{Address}
 use Rattle.pulsar_client.specs.Failures.{Exhausted}
 use Rattle.pulsar_client.specs.Link.{Seen, seen, stage, is_dialing, is_open, arrivals, link_rule, at_arrival, is_ready, fits_frame, awaited, is_numbered, request_message, kind_of}
@@ -267,6 +267,7 @@ brings_plain v (FailedToOpen l kind) = one_plain (dials (v.link l)) (OnLink l (F
 brings_plain v (Bytes l piece) = tt
 brings_plain v (Drain l most) = one_plain (opens (v.link l)) (OnLink l (Drains most)) refl
 brings_plain v (Lost l) = one_plain (opens (v.link l)) (OnLink l Loses) refl
+brings_plain v (Poll t) = one_plain (is_some (v.consumer t)) (Polls t) refl
 
 -- the frames of a piece
 abbrev pieces : ℕ → List Arrival → List Act
@@ -318,6 +319,7 @@ no_stream o l (Begins (Opened k) ∷ log) lt = no_stream o l log lt
 no_stream o l (Begins (FailedToOpen k kind) ∷ log) lt = no_stream o l log lt
 no_stream o l (Begins (Drain k most) ∷ log) lt = no_stream o l log lt
 no_stream o l (Begins (Lost k) ∷ log) lt = no_stream o l log lt
+no_stream o l (Begins (Poll t) ∷ log) lt = no_stream o l log lt
 no_stream o l (Does (Dials t) ∷ log) lt = no_stream o l log (before_more l (links log) lt)
 no_stream o l (Does (Calls p) ∷ log) lt = no_stream o l log lt
 no_stream o l (Does (Told t u) ∷ log) lt = no_stream o l log lt
@@ -325,6 +327,7 @@ no_stream o l (Does (Waits t) ∷ log) lt = no_stream o l log lt
 no_stream o l (Does (Answers t u) ∷ log) lt = no_stream o l log lt
 no_stream o l (Does (Builds t) ∷ log) lt = no_stream o l log lt
 no_stream o l (Does (OnLink k x) ∷ log) lt = no_stream o l log lt
+no_stream o l (Does (Polls t) ∷ log) lt = no_stream o l log lt
 
 -- ALONG A LOG
 
@@ -546,6 +549,7 @@ cutting o (Begins (Opened n) ∷ log) r = nothing_on o log r.0 (cutting o log r.
 cutting o (Begins (FailedToOpen n kind) ∷ log) r = nothing_on o log r.0 (cutting o log r.0) r.1 (FailedToOpen n kind) refl (λ l lt. refl)
 cutting o (Begins (Drain n most) ∷ log) r = nothing_on o log r.0 (cutting o log r.0) r.1 (Drain n most) refl (λ l lt. refl)
 cutting o (Begins (Lost n) ∷ log) r = nothing_on o log r.0 (cutting o log r.0) r.1 (Lost n) refl (λ l lt. refl)
+cutting o (Begins (Poll t) ∷ log) r = nothing_on o log r.0 (cutting o log r.0) r.1 (Poll t) refl (λ l lt. refl)
 cutting o (Begins (Bytes n piece) ∷ log) r = elim (cases_Bool (opens (seen_link o log n))) [
   | inl is_live ↦ bytes_on o log r.0 (cutting o log r.0) r.1 n piece is_live
   | inr shut ↦ nothing_on o log r.0 (cutting o log r.0) r.1 (Bytes n piece) (rw shut refl) (λ l lt. shut_same l shut)
@@ -558,6 +562,7 @@ cutting o (Does (Told t u) ∷ log) r = still_plain o log (Told t u) (cutting o 
 cutting o (Does (Waits t) ∷ log) r = still_plain o log (Waits t) (cutting o log r.0) r.1 refl refl (λ l. refl)
 cutting o (Does (Answers t u) ∷ log) r = still_plain o log (Answers t u) (cutting o log r.0) r.1 refl refl (λ l. refl)
 cutting o (Does (Builds t) ∷ log) r = still_plain o log (Builds t) (cutting o log r.0) r.1 refl refl (λ l. refl)
+cutting o (Does (Polls t) ∷ log) r = still_plain o log (Polls t) (cutting o log r.0) r.1 refl refl (λ l. refl)
 cutting o (Does (Dials t) ∷ log) r = dials_on o log t (cutting o log r.0) r.1
 cutting o (Does (OnLink n (Comes x)) ∷ log) r = comes_on o log n x (cutting o log r.0) r.1
 cutting o (Does (OnLink n Opens) ∷ log) r = link_quiet o log n Opens (cutting o log r.0) r.1 refl refl

@@ -1,5 +1,6 @@
 -- What a call does is what its procedure does next.
 use Rattle.std.proofs.Common.{◌≡◌, ℕ, ◌∙◌, sym, subst, List, [], ◌∷◌, ◌++◌, refl, map, drop, Bool, true, false, ◌&&◌, cond, Option, Some, None, ◌⊎◌, inl, inr, ◌==◌}
+use Rattle.std.specs.Option.{is_some}
 use Rattle.std.proofs.lemmas.Bool.{cases_Bool, eq-eqb}
 use Rattle.pulsar_wire.specs.declared.error.IoKind.{IoKind}
 use Rattle.pulsar_client.specs.declared.act.Outcome.{Outcome}
@@ -12,10 +13,10 @@ use Rattle.pulsar_client.specs.declared.act.Action.TheVariants.{Get, Ask, Answer
 use Rattle.pulsar_client.specs.declared.act.LinkAct.{LinkAct}
 use Rattle.pulsar_client.specs.declared.act.LinkAct.TheVariants.{Opens, Comes, Drains, Requests, Readied, Ended, Settled, Fails, Loses}
 use Rattle.pulsar_client.specs.declared.act.Act.{Act}
-use Rattle.pulsar_client.specs.declared.act.Act.TheVariants.{Calls, Told, Answers, OnLink}
+use Rattle.pulsar_client.specs.declared.act.Act.TheVariants.{Calls, Told, Answers, OnLink, Polls}
 use Rattle.pulsar_client.specs.declared.tables.Base.{Base}
 use Rattle.pulsar_client.specs.declared.tables.Base.TheVariants.{Nothing, Runs, Serves}
-use Rattle.pulsar_client.specs.Content.{Heard, Called, Opened, Bytes, Drain, FailedToOpen, Lost}
+use Rattle.pulsar_client.specs.Content.{Heard, Called, Opened, Bytes, Drain, Poll, FailedToOpen, Lost}
 use Rattle.pulsar_client.specs.Address.{Address}
 use Rattle.pulsar_client.specs.Failures.{Exhausted}
 use Rattle.pulsar_client.specs.Link.{Seen, link_rule, is_ready, fits_frame, awaited, is_numbered, request_message, kind_of}
@@ -166,6 +167,7 @@ brings_done o log (FailedToOpen l kind) = none_done o (Begins (FailedToOpen l ki
 brings_done o log (Bytes l piece) = tt
 brings_done o log (Drain l most) = none_done o (Begins (Drain l most) ∷ log) _ (one_none (opens ((view o log).link l)) (OnLink l (Drains most)) refl)
 brings_done o log (Lost l) = none_done o (Begins (Lost l) ∷ log) _ (one_none (opens ((view o log).link l)) (OnLink l Loses) refl)
+brings_done o log (Poll t) = none_done o (Begins (Poll t) ∷ log) _ (one_none (is_some ((view o log).consumer t)) (Polls t) refl)
 
 comes_done : (o : Chosen) (log : List Entry) (a : Act) → is_comes a ≡ true → IsDone o log a
 comes_done o log (OnLink l (Comes x)) h = λ t e. absurd cc

@@ -1,6 +1,7 @@
 -- What the effects of a history write to a link is what they queued there, in order.
 use Rattle.std.proofs.Common.{◌≡◌, ℕ, ◌+◌, ◌<◌, ◌∙◌, sym, ap, subst, List, [], ◌∷◌, ◌++◌, refl, arith, Bool, true, false, cond, Option, Some, None, inl, inr, ◌==◌, nat_lt, append_assoc, append-nil}
 use Rattle.std.specs.List.{flat_map, list_all}
+use Rattle.std.specs.Option.{option_map}
 use Rattle.std.proofs.lemmas.Grind.{flat_map-append}
 use Rattle.std.proofs.lemmas.Bool.{cases_Bool, eqb-true, eq-eqb}
 use Rattle.std.proofs.lemmas.Bool.Decides.{nat_tests}
@@ -8,12 +9,14 @@ use Rattle.pulsar_client.specs.declared.act.End.TheVariants.{Failed, Lost, Refus
 use Rattle.pulsar_client.specs.declared.act.LinkAct.{LinkAct}
 use Rattle.pulsar_client.specs.declared.act.LinkAct.TheVariants.{Opens, Comes, Drains, Requests, Spends, Greets, Readied, Ended, Settled, Fails, Loses}
 use Rattle.pulsar_client.specs.declared.act.Act.{Act}
-use Rattle.pulsar_client.specs.declared.act.Act.TheVariants.{Calls, Told, Dials, Waits, Answers, Builds, OnLink}
+use Rattle.pulsar_client.specs.declared.act.Act.TheVariants.{Calls, Told, Dials, Waits, Answers, Builds, OnLink, Polls}
 use Rattle.pulsar_frame.specs.Frame.{frame_bytes}
 use Rattle.pulsar_client.specs.Messages.{connect_message}
-use Rattle.pulsar_client.specs.Content.{Shown, Connect, Queued, Write, Settles, Ends, Close}
+use Rattle.pulsar_client.specs.Content.{Shown, Connect, Queued, Write, Settles, Ends, Close, Hands, Faults, FindsNothing, FindsEnd}
+use Rattle.pulsar_client.specs.Items.{Item, Given, Faulty}
+use Rattle.pulsar_client.specs.Subscriptions.{Subscription, polled, polled_from}
 use Rattle.pulsar_client.specs.Link.{Seen, seen, stage, request_message, next_id, queued, unwritten, frame_of, written_by}
-use Rattle.pulsar_client.specs.Log.{Chosen, Entry, Begins, Does, links, of_link, seen_link, view}
+use Rattle.pulsar_client.specs.Log.{Chosen, Entry, Begins, Does, links, of_link, seen_link, subscription, view}
 use Rattle.pulsar_client.specs.Address.{Address}
 use Rattle.pulsar_client.specs.Good.{due, to_come, first, IsRun, Step, steps, join, put, is_before, is_below_all, rank, effect, effect_at, link_effect, settlement_of, connects, writes, queues}
 use Rattle.pulsar_client.specs.Laws.{frames_queued, frames_written, IsPrefix, written_on, queued_on, bytes_of, WritesFollow}
@@ -82,6 +85,10 @@ one_more l n (Settles k place u) p = tt
 one_more l n (Ends t a) p = tt
 one_more l n (Connect k host port) p = tt
 one_more l n (Close k) p = tt
+one_more l n (Hands t topic id metadata payload) p = tt
+one_more l n (Faults t fault) p = tt
+one_more l n (FindsNothing t) p = tt
+one_more l n (FindsEnd t) p = tt
 
 below_more : (l n : ℕ) (ys : List Shown) → Below l n ys → Below l (n + 1) ys
 below_more l n [] p = tt
@@ -100,6 +107,10 @@ write_front l bytes (Settles k place u ∷ ys) = (λ h. refl, write_front l byte
 write_front l bytes (Ends t a ∷ ys) = (λ h. refl, write_front l bytes ys)
 write_front l bytes (Connect k host port ∷ ys) = (λ h. refl, write_front l bytes ys)
 write_front l bytes (Close k ∷ ys) = (λ h. refl, write_front l bytes ys)
+write_front l bytes (Hands t topic id metadata payload ∷ ys) = (λ h. refl, write_front l bytes ys)
+write_front l bytes (Faults t fault ∷ ys) = (λ h. refl, write_front l bytes ys)
+write_front l bytes (FindsNothing t ∷ ys) = (λ h. refl, write_front l bytes ys)
+write_front l bytes (FindsEnd t ∷ ys) = (λ h. refl, write_front l bytes ys)
 
 queue_cases : (l k n place : ℕ) (bytes : List ℕ) (b : Bool) → (b ≡ true → place < n) → cond b (nat_lt n place) (nat_lt l k) ≡ true → cond b bytes [] ≡ []
 queue_cases l k n place bytes true p h = let lt : place < n = p refl in absurd (no lt h)
@@ -116,6 +127,10 @@ queue_front l n bytes (Settles k place u ∷ ys) p = (λ h. refl, queue_front l 
 queue_front l n bytes (Ends t a ∷ ys) p = (λ h. refl, queue_front l n bytes ys p.1)
 queue_front l n bytes (Connect k host port ∷ ys) p = (λ h. refl, queue_front l n bytes ys p.1)
 queue_front l n bytes (Close k ∷ ys) p = (λ h. refl, queue_front l n bytes ys p.1)
+queue_front l n bytes (Hands t topic id metadata payload ∷ ys) p = (λ h. refl, queue_front l n bytes ys p.1)
+queue_front l n bytes (Faults t fault ∷ ys) p = (λ h. refl, queue_front l n bytes ys p.1)
+queue_front l n bytes (FindsNothing t ∷ ys) p = (λ h. refl, queue_front l n bytes ys p.1)
+queue_front l n bytes (FindsEnd t ∷ ys) p = (λ h. refl, queue_front l n bytes ys p.1)
 
 -- A LINK AND THE STEPS
 
@@ -283,6 +298,17 @@ connects_quiet : (l n : ℕ) (a : Option Address) → IsQuiet l (connects n a)
 connects_quiet l n None = tt
 connects_quiet l n (Some address) = (refl, refl, λ n. tt)
 
+-- what a poll gives
+item_quiet : (l t : ℕ) (topic : List ℕ) (is_live : Bool) (items : List Item) → IsQuiet l (Some (polled_from t topic is_live items))
+item_quiet l t topic is_live (Given id metadata payload ∷ items) = (refl, refl, λ n. tt)
+item_quiet l t topic is_live (Faulty f ∷ items) = (refl, refl, λ n. tt)
+item_quiet l t topic true [] = (refl, refl, λ n. tt)
+item_quiet l t topic false [] = (refl, refl, λ n. tt)
+
+poll_quiet : (l t : ℕ) (s : Option Subscription) → IsQuiet l (option_map (polled t) s)
+poll_quiet l t None = tt
+poll_quiet l t (Some s) = item_quiet l t s.topic s.is_live s.unread
+
 dials_hist : (l t : ℕ) (log : List Entry) → hist l log ≡ hist l (Does (Dials t) ∷ log)
 dials_hist l t log = elim (cases_Bool (l == links log)) [
   | inl e ↦ rw (e, not_below l (links log) e, now_below l (links log) e) refl
@@ -322,6 +348,7 @@ says o l (Does (Waits t) ∷ log) r = still_says o l (Waits t) log (says o l log
 says o l (Does (Answers t a) ∷ log) r = still_says o l (Answers t a) log (says o l log r.0) (refl, refl, λ n. tt) refl
 says o l (Does (Builds t) ∷ log) r = still_says o l (Builds t) log (says o l log r.0) (refl, refl, λ n. tt) refl
 says o l (Does (Dials t) ∷ log) r = still_says o l (Dials t) log (says o l log r.0) (connects_quiet l (links log) o.address) (dials_hist l t log)
+says o l (Does (Polls t) ∷ log) r = still_says o l (Polls t) log (says o l log r.0) (poll_quiet l t (subscription o t log)) refl
 says o l (Does (OnLink k act) ∷ log) r = link_says o l k act log r (says o l log r.0)
 
 -- THE LAW

@@ -2,6 +2,8 @@ pub mod Lists
 pub mod Pendings
 pub mod Words
 pub mod Rows
+pub mod Given
+pub mod Deliveries
 pub mod Runs
 pub mod Streams
 pub mod Unique
@@ -16,3 +18,4 @@ pub mod Traces
 pub mod Causes
 pub mod Joined
 pub mod Doing
+pub mod Polls

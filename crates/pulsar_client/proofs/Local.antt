@@ -1,6 +1,6 @@
 -- The part of a run that names a link is a run of that link.
 use Rattle.std.proofs.Common.{◌≡◌, ℕ, ◌+◌, ◌∙◌, sym, ap, subst, List, [], ◌∷◌, ◌++◌, refl, arith, map, filter, drop, Bool, true, false, ◌&&◌, cond, Option, Some, None, ◌⊎◌, inl, inr, nat_lt, ◌==◌, append-nil}
-use Rattle.std.specs.Option.{unwrap_or}
+use Rattle.std.specs.Option.{is_some, unwrap_or}
 use Rattle.std.specs.List.{filter_map, cons_option}
 use Rattle.std.proofs.lemmas.List.Elements.{filter_map-append}
 use Rattle.std.proofs.lemmas.Bool.{cases_Bool, eqb-true, eq-eqb}
@@ -18,14 +18,14 @@ use Rattle.pulsar_client.specs.declared.act.Action.TheVariants.{Get, Ask, Answer
 use Rattle.pulsar_client.specs.declared.act.LinkAct.{LinkAct}
 use Rattle.pulsar_client.specs.declared.act.LinkAct.TheVariants.{Opens, Comes, Drains, Readied, Ended, Settled, Fails, Loses}
 use Rattle.pulsar_client.specs.declared.act.Act.{Act}
-use Rattle.pulsar_client.specs.declared.act.Act.TheVariants.{Calls, Told, Dials, Waits, Answers, Builds, OnLink}
+use Rattle.pulsar_client.specs.declared.act.Act.TheVariants.{Calls, Told, Dials, Waits, Answers, Builds, OnLink, Polls}
 use Rattle.pulsar_client.specs.declared.tables.Base.{Base}
 use Rattle.pulsar_client.specs.declared.tables.Base.TheVariants.{Nothing, Runs, Serves}
 use Rattle.pulsar_client.specs.declared.session.link.Stage.{Stage}
 use Rattle.pulsar_client.specs.declared.session.link.Stage.TheVariants.{Dialing, Handshaking, Ready, Over}
 use Rattle.pulsar_client.specs.Messages.{is_connected}
 use Rattle.pulsar_client.specs.Plan.{failed}
-use Rattle.pulsar_client.specs.Content.{Asked, Heard, Called, Opened, Bytes, Drain, FailedToOpen, Lost}
+use Rattle.pulsar_client.specs.Content.{Asked, Heard, Called, Opened, Bytes, Drain, Poll, FailedToOpen, Lost}
 use Rattle.pulsar_client.specs.Address.{Address}
 use Rattle.pulsar_client.specs.Failures.{Exhausted}
 use Rattle.pulsar_client.specs.Link.{Seen, Pending, seen, arrivals, ends_wait, link_rule, settled, disconnected, turns, at_opening, at_arrival, is_ready, fits_frame, awaited, is_numbered, request_message, kind_of, at_failure, at_loss}
@@ -84,6 +84,7 @@ none_among l (Dials t ∷ xs) p = none_among l xs p.1
 none_among l (Waits t ∷ xs) p = none_among l xs p.1
 none_among l (Answers t a ∷ xs) p = none_among l xs p.1
 none_among l (Builds t ∷ xs) p = none_among l xs p.1
+none_among l (Polls t ∷ xs) p = none_among l xs p.1
 none_among l (OnLink k x ∷ xs) p =
     rw p.0 (elim (l == k) as (λ b. cons_option (cond b None None) (own_among l xs) ≡ []) [ true ↦ none_among l xs p.1 | false ↦ none_among l xs p.1 ])
 
@@ -213,6 +214,7 @@ brings_none v (FailedToOpen l kind) = one_none (dials (v.link l)) (OnLink l (Fai
 brings_none v (Bytes l piece) = tt
 brings_none v (Drain l most) = one_none (opens (v.link l)) (OnLink l (Drains most)) refl
 brings_none v (Lost l) = one_none (opens (v.link l)) (OnLink l Loses) refl
+brings_none v (Poll t) = one_none (is_some (v.consumer t)) (Polls t) refl
 
 comes_none : (l : ℕ) (as' : List Arrival) → NoOwn (map (λ a. OnLink l (Comes a)) as')
 comes_none l [] = tt
@@ -407,6 +409,7 @@ keeps o (Does (Dials t) ∷ log) r = dials_on o log t (keeps o log r.0) r.1
 keeps o (Does (Waits t) ∷ log) r = plain_on o log (Waits t) (keeps o log r.0) r.1 refl tt refl (λ l. refl)
 keeps o (Does (Answers t u) ∷ log) r = plain_on o log (Answers t u) (keeps o log r.0) r.1 refl tt refl (λ l. refl)
 keeps o (Does (Builds t) ∷ log) r = plain_on o log (Builds t) (keeps o log r.0) r.1 refl tt refl (λ l. refl)
+keeps o (Does (Polls t) ∷ log) r = plain_on o log (Polls t) (keeps o log r.0) r.1 refl tt refl (λ l. refl)
 keeps o (Does (OnLink n x) ∷ log) r = link_on o log n x (keeps o log r.0) r.1
 
 pub link_runs : (o : Chosen) (log : List Entry) (l : ℕ) → IsRun o log → nat_lt l (links log) ≡ true → IsLinkRun o.first_number (of_link l log)

@@ -1,5 +1,5 @@
 -- The requests that wait on a link: those that wait for the same are found by their numbers.
-use Rattle.std.proofs.Common.{◌≡◌, ℕ, ◌≤◌, ◌<◌, ◌∙◌, sym, ap, List, [], ◌∷◌, ◌++◌, refl, arith, map, filter, Bool, true, false, not, cond, ◌==◌, ◌&&◌, nat_lt, nat_le, Option, Some, None, inl, inr, append_assoc, append-nil, subst}
+use Rattle.std.proofs.Common.{length, suc, ◌≡◌, ℕ, ◌≤◌, ◌<◌, ◌∙◌, sym, ap, List, [], ◌∷◌, ◌++◌, refl, arith, map, filter, Bool, true, false, not, cond, ◌==◌, ◌&&◌, nat_lt, nat_le, Option, Some, None, inl, inr, append_assoc, append-nil, subst}
 use Rattle.std.proofs.lemmas.Bool.{cases_Bool, eq-eqb}
 use Rattle.std.proofs.lemmas.Bool.Decides.{nat_tests}
 use Rattle.std.proofs.lemmas.Cmp.{nat_cmp_total, on_total, then_total, eq_by_cmp_equiv}
@@ -21,6 +21,7 @@ use Rattle.pulsar_wire.specs.declared.key.RequestKey.{RequestKey}
 use Rattle.pulsar_wire.specs.declared.key.RequestKey.TheVariants.{RequestId, ProducerSend, Consumer, CloseConsumer, AuthChallenge}
 use Rattle.pulsar_frame.specs.Key.{bears_key}
 use Rattle.pulsar_client.specs.Link.{Pending, ends_wait, key_with}
+use Rattle.pulsar_client.specs.Subscriptions.{settles_one}
 use Rattle.pulsar_client.specs.Waiting.{awaited_by, awaited_cmp, found, listed, numbers_of, others, pending_at, pending_of, waits_for_it, Taken}
 
 -- WHAT IS WAITED FOR
@@ -286,6 +287,31 @@ all_others_by key [] is = refl
 all_others_by key (p ∷ ps) is =
     let e : ends_wait key p.awaits ≡ false = ends_is key p ∙ ap (λ x. is_answered_by x p) is in
     rw e (ap (λ t. p ∷ t) (all_others_by key ps is))
+
+-- whether a frame of this key answers one
+
+pub nobody_by : (key : Option RequestKey) (ps : List Pending) → awaited_by key ≡ None → settles_one key ps ≡ false
+nobody_by key [] is = refl
+nobody_by key (p ∷ ps) is =
+    let e : ends_wait key p.awaits ≡ false = ends_is key p ∙ ap (λ x. is_answered_by x p) is in
+    rw e (nobody_by key ps is)
+
+abbrev pub has_any : List ℕ → Bool
+has_any [] = false
+has_any (n ∷ ns) = true
+
+pub has_some : (n : ℕ) (ns : List ℕ) → n ≡ length ns → not (n == 0) ≡ has_any ns
+has_some n [] h = rw h refl
+has_some n (x ∷ xs) h =
+    let some : (suc (length xs) == 0) ≡ false = grind (arith, nat_tests) in
+    rw (h, some) refl
+
+pub somebody_by : (key : Option RequestKey) (a : Awaited) (es : Entries) → awaited_by key ≡ Some a → settles_one key (map pending_at es) ≡ has_any (numbers_of a es)
+somebody_by key a [] is = refl
+somebody_by key a (e ∷ es) is =
+    let same : ends_wait key e.1.awaits ≡ is_at (awaited_cmp a) e.1.awaits = ends_is key (pending_at e) ∙ ap (λ x. is_answered_by x (pending_at e)) is in
+    elim (cases_Bool (is_at (awaited_cmp a) e.1.awaits))
+    [ inl y ↦ rw (y, same ∙ y) refl | inr y ↦ rw (y, same ∙ y) (somebody_by key a es is) ]
 
 -- a number above the next one is free
 pub fresh_on : (n next : ℕ) (now before : Option Waiter) (w : Waiter) → now ≡ cond (is_at (nat_cmp next) n) (Some w) before → before ≡ None → next < n → now ≡ None

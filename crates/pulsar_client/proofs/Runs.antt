@@ -14,23 +14,28 @@ use Rattle.pulsar_client.specs.declared.event.Event.{Event}
 use Rattle.pulsar_client.specs.declared.effect.Effect.{Effect}
 use Rattle.pulsar_client.specs.declared.act.Arrival.{Arrival}
 use Rattle.pulsar_client.specs.declared.act.Outcome.{Outcome}
-use Rattle.pulsar_client.specs.declared.act.Outcome.TheVariants.{GotLink}
+use Rattle.pulsar_client.specs.declared.act.Outcome.TheVariants.{GotLink, Replied}
+use Rattle.pulsar_client.specs.declared.act.Request.{Request}
+use Rattle.pulsar_client.specs.declared.act.Request.TheVariants as request
 use Rattle.pulsar_client.specs.declared.act.Procedure.{Procedure}
 use Rattle.pulsar_client.specs.declared.act.Procedure.TheVariants.{Build, Topics, Raw, Refused}
 use Rattle.pulsar_client.specs.declared.act.LinkAct.{LinkAct}
 use Rattle.pulsar_client.specs.declared.act.LinkAct.TheVariants.{Comes, Greets, Readied, Ended, Settled}
 use Rattle.pulsar_client.specs.declared.act.Act.{Act}
-use Rattle.pulsar_client.specs.declared.act.Act.TheVariants.{Calls, Told, Dials, Waits, Builds, OnLink}
+use Rattle.pulsar_client.specs.declared.act.Act.TheVariants.{Calls, Told, Dials, Waits, Builds, OnLink, Polls}
 use Rattle.pulsar_client.specs.declared.plans.plan.Plan.{Plan}
 use Rattle.pulsar_client.specs.declared.plans.plan.Plan.TheVariants as plan
 use Rattle.pulsar_client.specs.declared.tables.Base.{Base}
 use Rattle.pulsar_client.specs.declared.tables.Tables.{Tables}
-use Rattle.pulsar_client.specs.Content.{Heard, Called, Opened, Bytes, Drain, Shown, FailedToOpen, Lost}
+use Rattle.pulsar_client.specs.Content.{Heard, Called, Opened, Bytes, Drain, Poll, Shown, FailedToOpen, Lost}
 use Rattle.pulsar_client.specs.Link.{Seen, seen}
-use Rattle.pulsar_client.specs.Plan.{next}
-use Rattle.pulsar_client.specs.Log.{Chosen, Entry, Begins, Does, built, calls, procedure_of, outcomes_of, links, of_link, stream, base, waiting, action_at, is_live, opens, seen_link, unread_of, View, view, at_once, serves, brings, frames_of}
+use Rattle.pulsar_client.specs.Plan.{next, raw_asked, request_number}
+use Rattle.pulsar_client.specs.RawCall.{CreateProducer, Send, CloseProducer, Subscribe, Flow, Ack, CloseConsumer}
+use Rattle.pulsar_client.specs.Subscribers.{subscription_at}
+use Rattle.pulsar_client.specs.Subscriptions.{made_by, waiting_on}
+use Rattle.pulsar_client.specs.Log.{Chosen, Entry, Begins, Does, built, calls, procedure_of, outcomes_of, links, of_link, stream, base, waiting, action_at, is_live, opens, seen_link, subscription, unread_of, View, view, at_once, serves, brings, frames_of}
 use Rattle.pulsar_client.specs.Good.{Good, Step, effect, put_some}
-use Rattle.pulsar_client.specs.Tables.{start, reader, stands, plan_action, plan_after, view_of, Reads, InStep, Stands, Begun, LinksAlone, Follows, unread_begun, after_act, built_after, tickets_after, base_after, waiting_after, call_after, links_after, link_after, unread_after, blank, table_at, unread_at, step, answered}
+use Rattle.pulsar_client.specs.Tables.{start, raw_start, reader, stands, plan_action, plan_after, plan_makes, consumer_after, made_in, waiting_in, view_of, Reads, InStep, Stands, Begun, LinksAlone, Follows, unread_begun, after_act, built_after, tickets_after, base_after, waiting_after, call_after, links_after, link_after, unread_after, blank, table_at, unread_at, step, answered}
 
 -- PLANS
 
@@ -49,16 +54,28 @@ read_on (Some plan.Asked) x o [] = refl
 read_on (Some plan.Asked) x o (y ∷ ys) = refl
 read_on (Some (plan.Raw n)) x o [] = refl
 read_on (Some (plan.Raw n)) x o (y ∷ ys) = refl
+read_on (Some (plan.Subscribing l n t)) x o [] = refl
+read_on (Some (plan.Subscribing l n t)) x o (y ∷ ys) = refl
 
 read_all : (row : Option Plan) (outs : List Outcome) (o : Outcome) → plan_action (fold plan_after row outs) o ≡ reader row (outs ++ o ∷ [])
 read_all row [] o = refl
 read_all row (x ∷ xs) o = read_all (plan_after row x) xs o ∙ sym (read_on row x o xs)
 
+raw_reads : (l : ℕ) (q : Request) (o : Outcome) (os : List Outcome) → reader (Some (raw_start l q)) (o ∷ os) ≡ raw_asked (request_number q) (o ∷ os)
+raw_reads l (request.Raw now (Subscribe topic name kind number)) o os = refl
+raw_reads l (request.Raw now (CreateProducer topic n name)) o os = refl
+raw_reads l (request.Raw now (Send n name s m waits)) o os = refl
+raw_reads l (request.Raw now (CloseProducer n)) o os = refl
+raw_reads l (request.Raw now (Flow n permits)) o os = refl
+raw_reads l (request.Raw now (Ack n ids c)) o os = refl
+raw_reads l (request.Raw now (CloseConsumer n)) o os = refl
+raw_reads l (request.Topics namespace mode) o os = refl
+
 start_reads : (p : Procedure) (o : Outcome) (os : List Outcome) → reader (start p) (os ++ o ∷ []) ≡ next p (os ++ o ∷ [])
 start_reads Build o os = refl
 start_reads (Topics n m) o os = refl
-start_reads (Raw l q) o [] = refl
-start_reads (Raw l q) o (x ∷ xs) = refl
+start_reads (Raw l q) o [] = raw_reads l q o []
+start_reads (Raw l q) o (x ∷ xs) = raw_reads l q x (xs ++ o ∷ [])
 start_reads Refused o [] = refl
 start_reads Refused o (x ∷ xs) = refl
 
@@ -75,6 +92,60 @@ pub plan_after_is : (p : Option Procedure) (outs : List Outcome) (o : Outcome) �
 plan_after_is None outs o = refl
 plan_after_is (Some p) outs o = fold_more (start p) outs o
 
+-- CONSUMERS THAT CALLS MAKE
+
+-- a call that has ended makes none
+ended_stays : (os : List Outcome) → fold plan_after None os ≡ None
+ended_stays [] = refl
+ended_stays (o ∷ os) = ended_stays os
+
+-- a call makes one only by what its first outcome is
+makes_once : (row : Option Plan) (x : Outcome) (xs : List Outcome) (o : Outcome) → plan_makes (fold plan_after (plan_after row x) xs) o ≡ None
+makes_once (Some (plan.Asking n m)) (GotLink l) [] (Replied r) = refl
+makes_once (Some (plan.Asking n m)) (GotLink l) [] o = refl
+makes_once (Some (plan.Asking n m)) (GotLink l) (y ∷ ys) o = ap (λ row. plan_makes row o) (ended_stays ys)
+makes_once (Some (plan.Asking n m)) _ xs o = ap (λ row. plan_makes row o) (ended_stays xs)
+makes_once None x xs o = ap (λ row. plan_makes row o) (ended_stays xs)
+makes_once (Some plan.Building) x xs o = ap (λ row. plan_makes row o) (ended_stays xs)
+makes_once (Some plan.Asked) x xs o = ap (λ row. plan_makes row o) (ended_stays xs)
+makes_once (Some (plan.Raw n)) x xs o = ap (λ row. plan_makes row o) (ended_stays xs)
+makes_once (Some (plan.Subscribing l n t)) x xs o = ap (λ row. plan_makes row o) (ended_stays xs)
+
+raw_makes : (l : ℕ) (q : Request) (o : Outcome) → plan_makes (Some (raw_start l q)) o ≡ made_by (Some (Raw l q)) [] o
+raw_makes l (request.Raw now (Subscribe topic name kind number)) (Replied r) = refl
+raw_makes l (request.Raw now (Subscribe topic name kind number)) _ = refl
+raw_makes l (request.Raw now (CreateProducer topic n name)) o = refl
+raw_makes l (request.Raw now (Send n name s m waits)) o = refl
+raw_makes l (request.Raw now (CloseProducer n)) o = refl
+raw_makes l (request.Raw now (Flow n permits)) o = refl
+raw_makes l (request.Raw now (Ack n ids c)) o = refl
+raw_makes l (request.Raw now (CloseConsumer n)) o = refl
+raw_makes l (request.Topics namespace mode) o = refl
+
+later_makes : (p : Option Procedure) (x : Outcome) (xs : List Outcome) (o : Outcome) → None ≡ made_by p (x ∷ xs) o
+later_makes None x xs o = refl
+later_makes (Some Build) x xs o = refl
+later_makes (Some (Topics n m)) x xs o = refl
+later_makes (Some Refused) x xs o = refl
+later_makes (Some (Raw l (request.Topics n m))) x xs o = refl
+later_makes (Some (Raw l (request.Raw now (Subscribe topic name kind number)))) x xs o = refl
+later_makes (Some (Raw l (request.Raw now (CreateProducer topic n name)))) x xs o = refl
+later_makes (Some (Raw l (request.Raw now (Send n name s m waits)))) x xs o = refl
+later_makes (Some (Raw l (request.Raw now (CloseProducer n)))) x xs o = refl
+later_makes (Some (Raw l (request.Raw now (Flow n permits)))) x xs o = refl
+later_makes (Some (Raw l (request.Raw now (Ack n ids c)))) x xs o = refl
+later_makes (Some (Raw l (request.Raw now (CloseConsumer n)))) x xs o = refl
+
+-- the table's word for a call is enough to say what consumer it makes
+plan_makes_is : (p : Option Procedure) (outs : List Outcome) (o : Outcome) → plan_makes (stands p outs) o ≡ made_by p outs o
+plan_makes_is None [] o = refl
+plan_makes_is None (x ∷ xs) o = refl
+plan_makes_is (Some Build) [] o = refl
+plan_makes_is (Some (Topics n m)) [] o = refl
+plan_makes_is (Some Refused) [] o = refl
+plan_makes_is (Some (Raw l q)) [] o = raw_makes l q o
+plan_makes_is (Some p) (x ∷ xs) o = makes_once (start p) x xs o ∙ later_makes (Some p) x xs o
+
 -- THE VIEW
 
 pub view_same : {o : Chosen} {c : Tables} {log : List Entry} → Reads o c log → view_of c ≡ view o log
@@ -89,6 +160,7 @@ view_same {o} {c} {log} r = λ i. record {
   waiting = r.waiting_is i;
   link = λ l. r.links_are l i;
   unread = λ l. r.unread_are l i;
+  consumer = λ t. r.consumers_are t i;
 }
 
 -- ONE MORE ACT, table by table
@@ -165,6 +237,7 @@ stream-none o l (Begins (Opened k) ∷ log) h = stream-none o l log h
 stream-none o l (Begins (FailedToOpen k kind) ∷ log) h = stream-none o l log h
 stream-none o l (Begins (Drain k n) ∷ log) h = stream-none o l log h
 stream-none o l (Begins (Lost k) ∷ log) h = stream-none o l log h
+stream-none o l (Begins (Poll t) ∷ log) h = stream-none o l log h
 stream-none o l (Does (Dials t) ∷ log) h = let older : nat_lt l (links log) ≡ false = grind (arith, nat_tests) in stream-none o l log older
 stream-none o l (Does _ ∷ log) h = stream-none o l log h
 
@@ -186,6 +259,13 @@ unread_step : (o : Chosen) (a : Act) (l : ℕ) (log : List Entry) → unread_aft
 unread_step o (Dials t) l log = unread-dialed l (links log) (stream o l log) (stream-none o l log)
 unread_step o _ l log = refl
 
+consumer_step : (o : Chosen) (a : Act) (t : ℕ) (log : List Entry) →
+    consumer_after (λ l. waiting_on (seen_link o log l)) (λ k u. made_by (procedure_of k log) (outcomes_of k log) u) a t (subscription o t log) ≡ subscription o t (Does a ∷ log)
+consumer_step o (Told k u) t log = refl
+consumer_step o (OnLink l act) t log = refl
+consumer_step o (Polls k) t log = refl
+consumer_step o _ t log = refl
+
 -- the tables of one more act read the log with it
 pub reads_on : {o : Chosen} {c c' : Tables} {log : List Entry} (a : Act) → Reads o c log → Follows a c c' → Reads o c' (Does a ∷ log)
 reads_on {o} {c} {c'} {log} a r f = record {
@@ -200,7 +280,16 @@ reads_on {o} {c} {c'} {log} a r f = record {
   count_is = f.links_are.count ∙ ap (links_after a) r.count_is ∙ count_step a log;
   links_are = λ l. f.links_are.rows l ∙ ap (λ n. link_after c.first_number a n l (table_at c.links.items l)) r.count_is ∙ ap (λ n. link_after n a (links log) l (table_at c.links.items l)) r.first_is ∙ ap (link_after o.first_number a (links log) l) (r.links_are l) ∙ link_step o a l log;
   unread_are = λ l. f.links_are.unread l ∙ ap (λ n. unread_after a n l (unread_at c.links.items l)) r.count_is ∙ ap (unread_after a (links log) l) (r.unread_are l) ∙ unread_step o a l log;
+  consumers_are = λ t. f.consumers_are t ∙ ap (λ w. consumer_after w (made_in c) a t (subscription_at c.subscribers t)) waiting_same
+      ∙ ap (λ m. consumer_after (λ l. waiting_on (seen_link o log l)) m a t (subscription_at c.subscribers t)) made_same
+      ∙ ap (consumer_after (λ l. waiting_on (seen_link o log l)) (λ k u. made_by (procedure_of k log) (outcomes_of k log) u) a t) (r.consumers_are t) ∙ consumer_step o a t log;
 }
+  where
+    waiting_same : waiting_in c ≡ (λ l. waiting_on (seen_link o log l))
+    waiting_same = λ i l. waiting_on (r.links_are l i)
+
+    made_same : made_in c ≡ (λ k u. made_by (procedure_of k log) (outcomes_of k log) u)
+    made_same = λ i k u. (ap (λ row. plan_makes row u) (r.calls_are k) ∙ plan_makes_is (procedure_of k log) (outcomes_of k log) u) i
 
 -- ONE MORE ACT, in a step
 
@@ -263,6 +352,7 @@ unread_begins o (Opened k) l log = refl
 unread_begins o (FailedToOpen k kind) l log = refl
 unread_begins o (Drain k n) l log = refl
 unread_begins o (Lost k) l log = refl
+unread_begins o (Poll t) l log = refl
 
 -- an event begins where nothing is left to do
 pub began : {o : Chosen} {c c' : Tables} {h : List Step} (e : Heard) → Begun e c c' → Stands o c h →
@@ -284,6 +374,7 @@ began {o} {c} {c'} {h} e b s = record {
     waiting_is = b.waiting_same ∙ s.reads.waiting_is;
     count_is = b.count_same ∙ s.reads.count_is;
     links_are = λ l. b.links_same l ∙ s.reads.links_are l;
+    consumers_are = λ t. b.consumers_same t ∙ s.reads.consumers_are t;
     unread_are = λ l. b.unread_is l ∙ ap (λ v. unread_begun v e l (unread_at c.links.items l)) (view_same s.reads) ∙ ap (unread_begun (view o s.log) e l) (s.reads.unread_are l) ∙ unread_begins o e l s.log;
   };
 }
@@ -342,6 +433,7 @@ quiet-follows c c' l act r e f = record {
   base_is = f.base_same ∙ quiet-base act l c.base r e;
   waiting_is = ap (λ s. s.keys) f.waiting_same ∙ quiet-waiting act l c.waiting.keys r e;
   links_are = f.links_are;
+  consumers_are = f.consumers_are;
 }
 
 -- EVENTS THAT NAME NOTHING LIVE
@@ -353,6 +445,7 @@ dead-brings v (FailedToOpen l kind) dead = rw dead refl
 dead-brings v (Bytes l piece) dead = rw dead refl
 dead-brings v (Drain l most) dead = rw dead refl
 dead-brings v (Lost l) dead = rw dead refl
+dead-brings v (Poll t) dead = rw dead refl
 
 dead-at : (v : View) (k l : ℕ) (piece : List ℕ) (row : Option (List ℕ)) → opens (v.link k) ≡ false → (b : Bool) → (l == k) ≡ b → row ≡ cond (b && opens (v.link l)) (option_map (λ bytes. left (bytes ++ piece)) row) row
 dead-at v k l piece row dead false h = refl
@@ -367,6 +460,7 @@ dead-unread v (FailedToOpen k kind) l row dead = refl
 dead-unread v (Bytes k piece) l row dead = dead-at v k l piece row dead (l == k) refl
 dead-unread v (Drain k most) l row dead = refl
 dead-unread v (Lost k) l row dead = refl
+dead-unread v (Poll t) l row dead = refl
 
 dead-begins : (c : Tables) (e : Heard) → is_live (view_of c) e ≡ false → Begun e c c
 dead-begins c e dead = record {
@@ -381,6 +475,7 @@ dead-begins c e dead = record {
   count_same = refl;
   links_same = λ l. refl;
   unread_is = λ l. dead-unread (view_of c) e l (unread_at c.links.items l) dead;
+  consumers_same = λ t. refl;
 }
 
 -- such an event has no effect

@@ -21,7 +21,7 @@ pub record StandsFor (o : Chosen) (c : Pulsar) (history : List Step) : Type 0 wh
   pub stands : Stands o c.tables history
   pub whole : c.failed ≡ false
 
--- An event that names no live link, or a state that the link isn't in
+-- An event that names no live link, a state that the link isn't in, or no consumer
 abbrev pub IsDead : Pulsar → Heard → Type 0
 IsDead c e = is_live (view_of c.tables) e ≡ false
 

@@ -1,8 +1,8 @@
 -- Events, effects and answers by their content: a text is the list of its bytes, a vector the list of its items.
 use Rattle.std.specs.Prelude.{ℕ, List, map, string_bytes, Result, Ok, Err}
 use Rattle.pulsar_wire.specs.Row.{spelling}
-use Rattle.pulsar_wire.specs.Rows.{send_receipt}
-use Rattle.pulsar_wire.specs.Views.{body_values, send_receipt_values}
+use Rattle.pulsar_wire.specs.Rows.{message_id, message_metadata, send_receipt}
+use Rattle.pulsar_wire.specs.Views.{body_values, message_id_values, message_metadata_values, send_receipt_values}
 use Rattle.pulsar_wire.specs.declared.commands.topics.Mode.{Mode}
 use Rattle.pulsar_wire.specs.declared.error.Error.{Error}
 use Rattle.pulsar_wire.specs.declared.error.IoKind.{IoKind}
@@ -18,6 +18,7 @@ use Rattle.pulsar_client.specs.declared.effect.Answer.TheVariants as answer
 use Rattle.pulsar_client.specs.declared.effect.Effect.{Effect}
 use Rattle.pulsar_client.specs.declared.effect.Effect.TheVariants as effect
 use Rattle.pulsar_client.specs.declared.effect.Settlement.{Settlement}
+use Rattle.pulsar_client.specs.declared.effect.Handed.{Handed}
 
 -- what a user asks
 pub data Asked : Type 0 where
@@ -33,6 +34,7 @@ pub data Heard : Type 0 where
   Bytes : (link : ℕ) (piece : List ℕ) → Heard
   Lost : (link : ℕ) → Heard
   Drain : (link most : ℕ) → Heard
+  Poll : (ticket : ℕ) → Heard
 
 -- what a call ends with: bodies of the broker by their bytes
 pub data Said : Type 0 where
@@ -42,7 +44,8 @@ pub data Said : Type 0 where
   Replies : List (List ℕ) → Said
   Failed : Failure → Said
 
--- what the client wants done, and tells
+-- What the client wants done, and tells. A poll hands a message with its id and what is said of it as they are written, or
+-- tells why there is none; it finds nothing where none is there yet, and the end where none will come.
 pub data Shown : Type 0 where
   Connect : (link : ℕ) (host : List ℕ) (port : ℕ) → Shown
   Queued : (link place : ℕ) (bytes : List ℕ) → Shown
@@ -50,6 +53,10 @@ pub data Shown : Type 0 where
   Close : (link : ℕ) → Shown
   Settles : (link place : ℕ) (outcome : Settlement) → Shown
   Ends : (ticket : ℕ) (answer : Said) → Shown
+  Hands : (ticket : ℕ) (topic id metadata payload : List ℕ) → Shown
+  Faults : (ticket : ℕ) (fault : Failure) → Shown
+  FindsNothing : (ticket : ℕ) → Shown
+  FindsEnd : (ticket : ℕ) → Shown
 
 abbrev pub asked : Call → Asked
 asked call.Build = Build
@@ -63,6 +70,7 @@ heard (event.Failed l kind) = FailedToOpen l kind
 heard (event.Bytes l piece) = Bytes l piece.items
 heard (event.Lost l) = Lost l
 heard (event.Drain l most) = Drain l most
+heard (event.Poll ticket) = Poll ticket
 
 abbrev pub answered : Answer → Said
 answered answer.Done = Done
@@ -74,6 +82,13 @@ abbrev pub said : Result Answer Error → Said
 said (Ok a) = answered a
 said (Err e) = Failed (failure e)
 
+-- what a poll hands
+abbrev pub hands : ℕ → Result Handed Error → Shown
+hands ticket (Ok h) =
+    Hands ticket (string_bytes h.topic) (spelling message_id (message_id_values h.id))
+    (spelling message_metadata (message_metadata_values h.payload.metadata)) h.payload.bytes.items
+hands ticket (Err e) = Faults ticket (failure e)
+
 abbrev pub shown : Effect → Shown
 shown (effect.Connect l host port) = Connect l (string_bytes host) port
 shown (effect.Queued l place bytes) = Queued l place bytes.items
@@ -81,3 +96,6 @@ shown (effect.Write l bytes) = Write l bytes.items
 shown (effect.Close l) = Close l
 shown (effect.Settled l place outcome) = Settles l place outcome
 shown (effect.Ended ticket answer) = Ends ticket (said answer)
+shown (effect.Item ticket item) = hands ticket item
+shown (effect.Empty ticket) = FindsNothing ticket
+shown (effect.End ticket) = FindsEnd ticket

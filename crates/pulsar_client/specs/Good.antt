@@ -1,6 +1,7 @@
 -- A good run.
 use Rattle.std.specs.Prelude.{◌≡◌, ℕ, ◌==◌, nat_lt, Bool, true, false, if◌then◌else◌, List, [], ◌∷◌, ◌++◌, Option, Some, None, drop}
 use Rattle.std.specs.List.{flat_map, list_all}
+use Rattle.std.specs.Option.{option_map}
 use Rattle.pulsar_client.specs.declared.act.Outcome.{Outcome}
 use Rattle.pulsar_client.specs.declared.act.Outcome.TheVariants as outcome
 use Rattle.pulsar_client.specs.declared.effect.Settlement.{Settlement}
@@ -8,8 +9,9 @@ use Rattle.pulsar_client.specs.declared.effect.Settlement.TheVariants as settlem
 use Rattle.pulsar_client.specs.declared.act.LinkAct.{LinkAct}
 use Rattle.pulsar_client.specs.declared.act.LinkAct.TheVariants.{Drains, Ended, Settled}
 use Rattle.pulsar_client.specs.declared.act.Act.{Act}
-use Rattle.pulsar_client.specs.declared.act.Act.TheVariants.{Dials, Answers, Builds, OnLink}
-use Rattle.pulsar_client.specs.Content.{Heard, Done, Shown, Connect, Queued, Write, Settles, Ends, Close}
+use Rattle.pulsar_client.specs.declared.act.Act.TheVariants.{Dials, Answers, Builds, OnLink, Polls}
+use Rattle.pulsar_client.specs.Content.{Heard, Done, Shown, Connect, Queued, Write, Settles, Ends, Close, Hands, Faults, FindsNothing, FindsEnd}
+use Rattle.pulsar_client.specs.Subscriptions.{polled}
 use Rattle.pulsar_client.specs.Address.{Address}
 use Rattle.pulsar_client.specs.Link.{Seen, frame_of, is_closed, written_by}
 use Rattle.pulsar_client.specs.Log.{Chosen, Entry, Begins, Does, at_once, serves, View, view, brings, frames_of}
@@ -77,6 +79,7 @@ effect v (Dials ticket) = connects v.links v.address
 effect v (Answers ticket answer) = Some (Ends ticket answer)
 effect v (Builds ticket) = Some (Ends ticket Done)
 effect v (OnLink l act) = effect_at l (v.link l) act
+effect v (Polls ticket) = option_map (polled ticket) (v.consumer ticket)
 effect v _ = None
 
 -- the order of a step's effects: their kind, then their link or ticket, then their place
@@ -87,6 +90,10 @@ rank (Ends ticket answer) = (2, ticket, 0)
 rank (Connect l host port) = (3, l, 0)
 rank (Queued l place bytes) = (4, l, place)
 rank (Close l) = (5, l, 0)
+rank (Hands ticket topic id metadata payload) = (0, ticket, 0)
+rank (Faults ticket fault) = (0, ticket, 0)
+rank (FindsNothing ticket) = (0, ticket, 0)
+rank (FindsEnd ticket) = (0, ticket, 0)
 
 abbrev pub is_before : ℕ × ℕ × ℕ → ℕ × ℕ × ℕ → Bool
 is_before a b =

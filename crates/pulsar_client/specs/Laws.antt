@@ -1,7 +1,8 @@
 -- What follows from the definition of a good run, in plain words.
-use Rattle.std.specs.Prelude.{◌≡◌, ℕ, ◌≤◌, length, ◌==◌, nat_lt, true, false, ◌⊎◌, if◌then◌else◌, List, [], ◌∷◌, ◌++◌, map, Option, Some, None}
+use Rattle.std.specs.Prelude.{◌≡◌, ℕ, ◌≤◌, length, ◌==◌, ◌&&◌, nat_lt, true, false, ◌⊎◌, if◌then◌else◌, List, [], ◌∷◌, ◌++◌, map, Option, Some, None}
 use Rattle.std.specs.List.{filter_map, flat_map}
 use Rattle.pulsar_client.specs.declared.act.Arrival.{Arrival}
+use Rattle.pulsar_client.specs.declared.act.Arrival.TheVariants.{Message}
 use Rattle.pulsar_client.specs.declared.act.Outcome.{Outcome}
 use Rattle.pulsar_client.specs.declared.act.Outcome.TheVariants as outcome
 use Rattle.pulsar_client.specs.declared.act.Request.{Request}
@@ -13,16 +14,18 @@ use Rattle.pulsar_client.specs.declared.act.Procedure.TheVariants.{Raw, Refused}
 use Rattle.pulsar_client.specs.declared.act.Action.{Action}
 use Rattle.pulsar_client.specs.declared.act.Action.TheVariants.{Ask, Answer, Finish}
 use Rattle.pulsar_client.specs.declared.act.Act.{Act}
-use Rattle.pulsar_client.specs.declared.act.Act.TheVariants.{Calls, Told, Dials, Waits, Answers, Builds, OnLink}
+use Rattle.pulsar_client.specs.declared.act.Act.TheVariants.{Calls, Told, Dials, Waits, Answers, Builds, OnLink, Polls}
 use Rattle.pulsar_client.specs.declared.tables.Base.TheVariants.{Runs}
-use Rattle.pulsar_client.specs.Content.{Asked, Heard, Called, Shown, Queued, Write, Said, Done, Failed}
+use Rattle.pulsar_client.specs.Content.{Asked, Heard, Called, Poll, Shown, Queued, Write, Hands, Faults, Said, Done, Failed}
+use Rattle.pulsar_client.specs.Items.{Item, Given, Faulty}
+use Rattle.pulsar_client.specs.Subscriptions.{Subscription, brings_message, polled}
 use Rattle.pulsar_client.specs.Messages.{Reply}
 use Rattle.pulsar_client.specs.Failures.{Failure, OfConnection, Shutdown, Exhausted}
 use Rattle.pulsar_client.specs.Plan.{failed, next, fault_of, topics_told, raw_told, request_number}
 use Rattle.pulsar_client.specs.Link.{Seen, Pending, arrivals, awaited, kind_of, next_id, queued, settles, stage, unwritten, waits_for, with_frame, frame_of, written_by}
 use Rattle.pulsar_client.specs.Local.{IsLinkRun}
-use Rattle.pulsar_client.specs.Log.{Chosen, Entry, Begins, Does, links, of_link, stream, calls, procedure_of, outcomes_of, base, seen_link, is_at, readies, spent, action_at, performs, view, built, procedure_for}
-use Rattle.pulsar_client.specs.Good.{IsRun, due, to_come, Step, Good}
+use Rattle.pulsar_client.specs.Log.{Chosen, Entry, Begins, Does, links, of_link, stream, calls, procedure_of, outcomes_of, base, seen_link, is_at, readies, spent, action_at, performs, view, built, procedure_for, subscription}
+use Rattle.pulsar_client.specs.Good.{IsRun, due, to_come, Step, steps, Good}
 
 -- THE RUN
 
@@ -199,6 +202,43 @@ ActsFollow = (o : Chosen) (log : List Entry) (x : Act) (t : ℕ) → IsRun o (Do
 abbrev pub AnswersOnce : Type 0
 AnswersOnce = (o : Chosen) (log : List Entry) (t : ℕ) (p : Procedure) →
     IsRun o log → Rests o log → procedure_of t log ≡ Some p → length (answers t log) ≤ 1
+
+-- CONSUMERS
+
+-- what an act of a link brings to a consumer: the items of a message that bears its number on its link while it hears
+abbrev pub brought : ℕ → LinkAct → Option Subscription → List Item
+brought l (Comes (Message m)) (Some s) = if (s.link == l) && s.is_live && brings_message m s.number then m.items else []
+brought l act s = []
+
+-- the items that have come to the consumer of a ticket, in order
+abbrev pub items_come : Chosen → ℕ → List Entry → List Item
+items_come o t [] = []
+items_come o t (Does (OnLink l act) ∷ log) = items_come o t log ++ brought l act (subscription o t log)
+items_come o t (_ ∷ log) = items_come o t log
+
+-- the item that an effect gives to a poll of a ticket
+abbrev pub given_by : ℕ → Shown → List Item
+given_by t (Hands ticket topic id metadata payload) = if t == ticket then Given id metadata payload ∷ [] else []
+given_by t (Faults ticket fault) = if t == ticket then Faulty fault ∷ [] else []
+given_by t _ = []
+
+-- those that the effects of a history give, in order
+abbrev pub items_given : ℕ → List Step → List Item
+items_given t [] = []
+items_given t (s ∷ h) = items_given t h ++ flat_map (given_by t) s.effects
+
+-- The polls of a consumer give the items that have come to it, in order, each once and without gap: behind what they gave
+-- stands what it has not given yet.
+abbrev pub PollsFollow : Type 0
+PollsFollow = (o : Chosen) (log : List Entry) (t : ℕ) (s : Subscription) →
+    IsRun o log → subscription o t log ≡ Some s → items_given t (steps o log) ++ s.unread ≡ items_come o t log
+
+-- A consumer is polled where the user asks for it. The one effect of that step is its first item, and where it has none the
+-- end, once it hears no more, and else that there is nothing yet.
+abbrev pub PollsAreAnswered : Type 0
+PollsAreAnswered = (o : Chosen) (log : List Entry) (t : ℕ) → IsRun o (Does (Polls t) ∷ log) →
+    (older : List Entry) × (s : Subscription) × (log ≡ Begins (Poll t) ∷ older) × (subscription o t older ≡ Some s)
+    × (steps o (Does (Polls t) ∷ log) ≡ record { event = Poll t; effects = polled t s ∷ [] } ∷ steps o older)
 
 -- WHY A CALL FAILS
 

@@ -2,12 +2,15 @@ pub mod Failures
 pub mod Address
 pub mod RawCall
 pub mod Content
+pub mod Items
 pub mod Messages
 pub mod Link
 pub mod Waiting
 pub mod Plan
+pub mod Subscriptions
 pub mod Log
 pub mod Good
+pub mod Subscribers
 pub mod Tables
 pub mod Client
 pub mod Outside

@@ -1,7 +1,7 @@
 -- The log of a run, newest entry first: the events, and the acts between them.
 -- First the readings of a log, and then what arises from an act.
 use Rattle.std.specs.Prelude.{ℕ, ◌+◌, ◌-◌, ◌^◌, ◌==◌, nat_lt, Bool, true, false, ◌&&◌, if◌then◌else◌, List, [], ◌∷◌, ◌++◌, map, Option, Some, None}
-use Rattle.std.specs.Option.{unwrap_or}
+use Rattle.std.specs.Option.{is_some, option_map, unwrap_or}
 use Rattle.std.specs.Ordering.{nat_cmp}
 use Rattle.std.specs.BTreeSet.{insert_key}
 use Rattle.pulsar_wire.specs.declared.error.IoKind.{IoKind}
@@ -18,15 +18,16 @@ use Rattle.pulsar_client.specs.declared.act.Action.TheVariants.{Get, Ask, Answer
 use Rattle.pulsar_client.specs.declared.act.LinkAct.{LinkAct}
 use Rattle.pulsar_client.specs.declared.act.LinkAct.TheVariants.{Opens, Fails, Loses, Comes, Drains, Requests, Spends, Readied, Ended, Settled}
 use Rattle.pulsar_client.specs.declared.act.Act.{Act}
-use Rattle.pulsar_client.specs.declared.act.Act.TheVariants.{Calls, Told, Dials, Waits, Answers, Builds, OnLink}
+use Rattle.pulsar_client.specs.declared.act.Act.TheVariants.{Calls, Told, Dials, Waits, Answers, Builds, OnLink, Polls}
 use Rattle.pulsar_client.specs.declared.tables.Base.{Base}
 use Rattle.pulsar_client.specs.declared.tables.Base.TheVariants.{Nothing, Runs, Serves}
 use Rattle.pulsar_client.specs.Content as content
-use Rattle.pulsar_client.specs.Content.{Asked, Heard, Called, Opened, FailedToOpen, Bytes, Lost, Drain, Said}
+use Rattle.pulsar_client.specs.Content.{Asked, Heard, Called, Opened, FailedToOpen, Bytes, Lost, Drain, Poll, Said}
 use Rattle.pulsar_client.specs.Address.{Address}
 use Rattle.pulsar_client.specs.Failures.{Exhausted}
 use Rattle.pulsar_client.specs.Link.{arrivals, fits_frame, Seen, seen, is_dialing, is_open, is_ready, kind_of, awaited, is_numbered, request_message, link_rule}
 use Rattle.pulsar_client.specs.Plan.{failed, next}
+use Rattle.pulsar_client.specs.Subscriptions.{Subscription, after_link_act, after_poll, made_by, waiting_on}
 
 pub data Entry : Type 0 where
   Begins : Heard → Entry
@@ -127,6 +128,20 @@ waiting (Does (OnLink k Readied) ∷ log) = []
 waiting (Does (OnLink k (Ended end)) ∷ log) = []
 waiting (_ ∷ log) = waiting log
 
+-- the newer of two, where there is one
+abbrev pub or_new : {A : Type 0} → Option A → Option A → Option A
+or_new (Some new) old = Some new
+or_new None old = old
+
+-- the raw consumer that the call of a ticket made, if it made one
+abbrev pub subscription : Chosen → ℕ → List Entry → Option Subscription
+subscription o t [] = None
+subscription o t (Does (Told ticket outcome) ∷ log) =
+    if t == ticket then or_new (made_by (procedure_of t log) (outcomes_of t log) outcome) (subscription o t log) else subscription o t log
+subscription o t (Does (OnLink l act) ∷ log) = option_map (after_link_act l act (waiting_on (seen_link o log l))) (subscription o t log)
+subscription o t (Does (Polls ticket) ∷ log) = if t == ticket then option_map after_poll (subscription o t log) else subscription o t log
+subscription o t (_ ∷ log) = subscription o t log
+
 -- WHAT A RULE SEES
 
 pub record View : Type 0 where
@@ -140,6 +155,7 @@ pub record View : Type 0 where
   pub waiting : List ℕ
   pub link : ℕ → Option Seen
   pub unread : ℕ → Option (List ℕ)
+  pub consumer : ℕ → Option Subscription
 
 -- what a call does at an outcome
 abbrev pub action_at : Option Procedure → List Outcome → Outcome → Action
@@ -159,6 +175,7 @@ view o log =
       waiting = waiting log;
       link = seen_link o log;
       unread = unread_of o log;
+      consumer = λ t. subscription o t log;
     }
 
 -- RULES
@@ -241,7 +258,7 @@ procedure_for is_built now (content.Raw link words) = if is_built then procedure
 abbrev pub calls_for : View → Asked → List Act
 calls_for v c = if v.calls == spent then Answers spent (failed Exhausted) ∷ [] else Calls (procedure_for v.is_built v.now c) ∷ []
 
--- an event is live where it names a live link, in a state that the link is in; a call always is
+-- an event is live where it names a live link, in a state that the link is in, or a consumer; a call always is
 abbrev pub is_live : View → Heard → Bool
 is_live v (Called c) = true
 is_live v (Opened l) = dials (v.link l)
@@ -249,8 +266,9 @@ is_live v (FailedToOpen l kind) = dials (v.link l)
 is_live v (Bytes l piece) = opens (v.link l)
 is_live v (Lost l) = opens (v.link l)
 is_live v (Drain l most) = opens (v.link l)
+is_live v (Poll t) = is_some (v.consumer t)
 
--- what an event brings at once. One that names no live link, or a state that the link isn't in, brings nothing.
+-- what an event brings at once. One that names no live link, a state that the link isn't in, or no consumer, brings nothing.
 abbrev pub brings : View → Heard → List Act
 brings v (Called c) = calls_for v c
 brings v (Opened l) = if dials (v.link l) then OnLink l Opens ∷ [] else []
@@ -258,6 +276,7 @@ brings v (FailedToOpen l kind) = if dials (v.link l) then OnLink l (Fails kind) 
 brings v (Bytes l piece) = []
 brings v (Lost l) = if opens (v.link l) then OnLink l Loses ∷ [] else []
 brings v (Drain l most) = if opens (v.link l) then OnLink l (Drains most) ∷ [] else []
+brings v (Poll t) = if is_some (v.consumer t) then Polls t ∷ [] else []
 
 -- the frames that a piece brings are those that its bytes complete; they come one by one
 abbrev pub frames_of : View → Heard → List Act

@@ -10,6 +10,7 @@ use Rattle.pulsar_wire.specs.Enumerations.{mode_number, sub_type_number}
 use Rattle.pulsar_frame.specs.Message.{MessageValues}
 use Rattle.pulsar_frame.specs.Payload.{PayloadValues}
 use Rattle.pulsar_frame.specs.Key.{key}
+use Rattle.pulsar_client.specs.Items.{Item, items_in}
 use Rattle.pulsar_client.specs.RawCall.{Outgoing, Id, Words, CreateProducer, Send, CloseProducer, Subscribe, Flow, Ack, CloseConsumer}
 
 -- the version that the client tells, and that of the protocol
@@ -79,7 +80,7 @@ raw_message id now words = record { command = with_kind (body_of id words); payl
 -- WHAT IS READ
 
 -- What the client reads in a message of the broker: the number of its body, the body's bytes, its key, the number and the
--- text of the error that it tells, and the topics that it names.
+-- text of the error that it tells, the topics that it names, and what it gives to a consumer.
 pub record Reply : Type 0 where
   pub body : Option ℕ
   pub bytes : List ℕ
@@ -87,6 +88,7 @@ pub record Reply : Type 0 where
   pub error : Option ℤ
   pub text : Option (List ℕ)
   pub topics : List (List ℕ)
+  pub items : List Item
 
 abbrev pub body_number : Option BodyValues → Option ℕ
 body_number None = None
@@ -115,11 +117,20 @@ topics_in None = []
 topics_in (Some b) = if b.number == 33 then texts_at 2 b.row b.values else []
 
 -- what is read of a body
-abbrev pub read_body : Option RequestKey → Option BodyValues → Reply
-read_body k body = record { body = body_number body; bytes = bytes_in body; key = k; error = error_in body; text = text_in body; topics = topics_in body }
+abbrev pub read_body : Option RequestKey → List Item → Option BodyValues → Reply
+read_body k items body =
+    record {
+      body = body_number body;
+      bytes = bytes_in body;
+      key = k;
+      error = error_in body;
+      text = text_in body;
+      topics = topics_in body;
+      items = items;
+    }
 
 abbrev pub read : MessageValues → Reply
-read m = read_body (key m) m.command.body
+read m = read_body (key m) (items_in m) m.command.body
 
 abbrev pub is_number : ℕ → Option ℕ → Bool
 is_number n None = false

@@ -64,7 +64,7 @@ topics_told r = if is_answer 32 r.body then Names r.topics else failed (refused 
 
 -- the same, of the reply's body itself
 abbrev pub topics_of_body : Option BodyValues → Said
-topics_of_body body = topics_told (read_body None body)
+topics_of_body body = topics_told (read_body None [] body)
 
 abbrev pub topics_answer : Outcome → Said
 topics_answer (outcome.Replied r) = topics_told r
@@ -95,7 +95,7 @@ raw_told request r = if is_answer request r.body then accepted r else failed (re
 
 -- the same, of the reply's body itself
 abbrev pub raw_of_body : (request : ℕ) → Option BodyValues → Said
-raw_of_body request body = raw_told request (read_body None body)
+raw_of_body request body = raw_told request (read_body None [] body)
 
 abbrev pub raw_answer : (request : ℕ) → Outcome → Said
 raw_answer request (outcome.Replied r) = raw_told request r

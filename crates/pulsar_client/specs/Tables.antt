@@ -14,10 +14,12 @@ use Rattle.pulsar_client.specs.declared.act.Procedure.{Procedure}
 use Rattle.pulsar_client.specs.declared.act.Procedure.TheVariants as procedure
 use Rattle.pulsar_client.specs.declared.act.Action.{Action}
 use Rattle.pulsar_client.specs.declared.act.Action.TheVariants.{Rest}
+use Rattle.pulsar_client.specs.declared.act.Request.{Request}
+use Rattle.pulsar_client.specs.declared.act.Request.TheVariants as request
 use Rattle.pulsar_client.specs.declared.act.LinkAct.{LinkAct}
 use Rattle.pulsar_client.specs.declared.act.LinkAct.TheVariants.{Greets, Readied, Ended, Settled}
 use Rattle.pulsar_client.specs.declared.act.Act.{Act}
-use Rattle.pulsar_client.specs.declared.act.Act.TheVariants.{Calls, Told, Dials, Waits, Builds, OnLink}
+use Rattle.pulsar_client.specs.declared.act.Act.TheVariants.{Calls, Told, Dials, Waits, Builds, OnLink, Polls}
 use Rattle.pulsar_client.specs.declared.plans.plan.Plan.{Plan}
 use Rattle.pulsar_client.specs.declared.plans.plan.Plan.TheVariants as plan
 use Rattle.pulsar_client.specs.declared.session.link.Link.{Link}
@@ -29,8 +31,11 @@ use Rattle.pulsar_client.specs.declared.tables.Tables.{Tables}
 use Rattle.pulsar_client.specs.Content.{Heard, Bytes, Shown, heard, shown}
 use Rattle.pulsar_client.specs.Link.{Seen, Pending, drawn, frame_of, counted, left_by, left_waiting, with_frame, with_request}
 use Rattle.pulsar_client.specs.Messages.{Reply}
-use Rattle.pulsar_client.specs.Plan.{building, topics, topics_replied, request_number, raw_asked}
-use Rattle.pulsar_client.specs.Log.{Chosen, Entry, built, calls, procedure_of, outcomes_of, links, base, waiting, seen_link, unread_of, View, opens}
+use Rattle.pulsar_client.specs.Plan.{building, is_answer, topics, topics_replied, request_number, raw_asked}
+use Rattle.pulsar_client.specs.RawCall.{Subscribe}
+use Rattle.pulsar_client.specs.Subscriptions.{Subscription, after_link_act, after_poll, fresh, waiting_on}
+use Rattle.pulsar_client.specs.Subscribers.{subscription_at}
+use Rattle.pulsar_client.specs.Log.{Chosen, Entry, built, calls, procedure_of, outcomes_of, links, base, waiting, seen_link, unread_of, or_new, subscription, View, opens}
 use Rattle.pulsar_frame.specs.Frame.{left}
 use Rattle.pulsar_client.specs.Good.{rank, is_before, IsRun, Step, steps, due, to_come}
 
@@ -86,10 +91,14 @@ after_act act s =
 -- CALLS
 
 -- where a call stands in the table: at first, and after one more outcome
+abbrev pub raw_start : ℕ → Request → Plan
+raw_start link (request.Raw now (Subscribe topic name kind number)) = plan.Subscribing link number topic
+raw_start link words = plan.Raw (request_number words)
+
 abbrev pub start : Procedure → Option Plan
 start procedure.Build = Some plan.Building
 start (procedure.Topics namespace mode) = Some (plan.Asking namespace mode)
-start (procedure.Raw link words) = Some (plan.Raw (request_number words))
+start (procedure.Raw link words) = Some (raw_start link words)
 start procedure.Refused = None
 
 abbrev pub asking_after : Outcome → Option Plan
@@ -112,9 +121,15 @@ reader (Some plan.Building) os = building os
 reader (Some (plan.Asking namespace mode)) os = topics namespace mode os
 reader (Some plan.Asked) os = topics_replied os
 reader (Some (plan.Raw words)) os = raw_asked words os
+reader (Some (plan.Subscribing link number topic)) os = raw_asked 4 os
 
 abbrev pub plan_action : Option Plan → Outcome → Action
 plan_action row o = reader row (o ∷ [])
+
+-- the consumer that a call makes at an outcome, if it makes one
+abbrev pub plan_makes : Option Plan → Outcome → Option Subscription
+plan_makes (Some (plan.Subscribing link number topic)) (outcome.Replied r) = if is_answer 4 r.body then Some (fresh link number topic) else None
+plan_makes row o = None
 
 -- THE CLIENT
 
@@ -132,6 +147,7 @@ view_of c =
       waiting = c.waiting.keys;
       link = table_at c.links.items;
       unread = unread_at c.links.items;
+      consumer = subscription_at c.subscribers;
     }
 
 -- the tables are those of the log
@@ -147,6 +163,7 @@ pub record Reads (o : Chosen) (c : Tables) (log : List Entry) : Type 0 where
   pub count_is : length c.links.items ≡ links log
   pub links_are : (l : ℕ) → table_at c.links.items l ≡ seen_link o log l
   pub unread_are : (l : ℕ) → unread_at c.links.items l ≡ unread_of o log l
+  pub consumers_are : (t : ℕ) → subscription_at c.subscribers t ≡ subscription o t log
 
 -- the tables stand for a history: of a run that they are of, in which nothing is left to do
 pub record Stands (o : Chosen) (c : Tables) (history : List Step) : Type 0 where
@@ -182,6 +199,7 @@ pub record Begun (e : Heard) (old new : Tables) : Type 0 where
   pub count_same : length new.links.items ≡ length old.links.items
   pub links_same : (l : ℕ) → table_at new.links.items l ≡ table_at old.links.items l
   pub unread_is : (l : ℕ) → unread_at new.links.items l ≡ unread_begun (view_of old) e l (unread_at old.links.items l)
+  pub consumers_same : (t : ℕ) → subscription_at new.subscribers t ≡ subscription_at old.subscribers t
 
 -- the tables after an act, each by itself
 abbrev pub built_after : Act → Bool → Bool
@@ -225,12 +243,26 @@ abbrev pub unread_after : Act → ℕ → ℕ → Option (List ℕ) → Option (
 unread_after (Dials ticket) n l row = if l == n then Some [] else row
 unread_after _ n l row = row
 
+-- a consumer after an act, from the requests that wait on each link, and what each call makes at an outcome
+abbrev pub consumer_after : (ℕ → List Pending) → (ℕ → Outcome → Option Subscription) → Act → ℕ → Option Subscription → Option Subscription
+consumer_after waiting makes (Told ticket outcome) t row = if t == ticket then or_new (makes t outcome) row else row
+consumer_after waiting makes (OnLink l act) t row = option_map (after_link_act l act (waiting l)) row
+consumer_after waiting makes (Polls ticket) t row = if t == ticket then option_map after_poll row else row
+consumer_after waiting makes _ t row = row
+
+-- the same from the tables
+abbrev pub waiting_in : Tables → ℕ → List Pending
+waiting_in c l = waiting_on (table_at c.links.items l)
+
+abbrev pub made_in : Tables → ℕ → Outcome → Option Subscription
+made_in c t outcome = plan_makes (get nat_cmp c.calls t) outcome
+
 pub record LinksFollow (first : ℕ) (act : Act) (old new : List Link) : Type 0 where
   pub count : length new ≡ links_after act (length old)
   pub rows : (l : ℕ) → table_at new l ≡ link_after first act (length old) l (table_at old l)
   pub unread : (l : ℕ) → unread_at new l ≡ unread_after act (length old) l (unread_at old l)
 
--- nothing but the links' table follows an act
+-- nothing but the links' table and the consumers' follows an act
 pub record LinksAlone (l : ℕ) (act : LinkAct) (old new : Tables) : Type 0 where
   pub first_same : new.first_number ≡ old.first_number
   pub time_same : new.time ≡ old.time
@@ -241,6 +273,7 @@ pub record LinksAlone (l : ℕ) (act : LinkAct) (old new : Tables) : Type 0 wher
   pub base_same : new.base ≡ old.base
   pub waiting_same : new.waiting ≡ old.waiting
   pub links_are : LinksFollow old.first_number (OnLink l act) old.links.items new.links.items
+  pub consumers_are : (t : ℕ) → subscription_at new.subscribers t ≡ option_map (after_link_act l act (waiting_in old l)) (subscription_at old.subscribers t)
 
 -- the client's tables after an act
 pub record Follows (act : Act) (old new : Tables) : Type 0 where
@@ -253,6 +286,7 @@ pub record Follows (act : Act) (old new : Tables) : Type 0 where
   pub base_is : new.base ≡ base_after act old.base
   pub waiting_is : new.waiting.keys ≡ waiting_after act old.waiting.keys
   pub links_are : LinksFollow old.first_number act old.links.items new.links.items
+  pub consumers_are : (t : ℕ) → subscription_at new.subscribers t ≡ consumer_after (waiting_in old) (made_in old) act t (subscription_at old.subscribers t)
 
 -- a step of a history
 abbrev pub step : Event → List Effect → Step

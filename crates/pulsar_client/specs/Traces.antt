@@ -1,13 +1,15 @@
--- Three small runs, by their histories, oldest step first. Each is good.
+-- Four small runs, by their histories, oldest step first. Each is good.
 use Rattle.std.specs.Prelude.{ℕ, List, [], ◌∷◌, ◌++◌, reverse, codes, Some}
 use Rattle.pulsar_wire.specs.declared.error.IoKind.TheVariants.{Other}
 use Rattle.pulsar_wire.specs.declared.commands.topics.Mode.TheVariants as modes
+use Rattle.pulsar_wire.specs.declared.commands.enumerations.SubType.TheVariants.{Exclusive}
 use Rattle.pulsar_frame.specs.Frame.{frame_bytes}
 use Rattle.pulsar_client.specs.declared.effect.Settlement.TheVariants as settlement
-use Rattle.pulsar_client.specs.Content.{Heard, Called, Build, Topics, Opened, Bytes, Drain, Shown, Connect, Queued, Write, Settles, Ends, Close, Done, Names}
+use Rattle.pulsar_client.specs.Content.{Heard, Called, Build, Topics, Raw, Opened, Bytes, Drain, Poll, Shown, Connect, Queued, Write, Settles, Ends, Close, Hands, FindsNothing, Done, Names, Replies}
 use Rattle.pulsar_client.specs.Failures.{Io, Canceled}
 use Rattle.pulsar_client.specs.Plan.{failed}
-use Rattle.pulsar_client.specs.Messages.{connect_message, topics_message}
+use Rattle.pulsar_client.specs.RawCall.{Words, Subscribe}
+use Rattle.pulsar_client.specs.Messages.{connect_message, raw_message, topics_message}
 use Rattle.pulsar_client.specs.Log.{Chosen}
 use Rattle.pulsar_client.specs.Good.{Step, Good}
 
@@ -72,6 +74,35 @@ attempt_fails =
     ∷ step_of (Opened 0) (Queued 0 0 (frame_bytes connect_message) ∷ [])
     ∷ step_of (Bytes 0 topics_reply) (Ends 0 (failed (Io Other)) ∷ Ends 1 (failed Canceled) ∷ Close 0 ∷ [])
     ∷ []
+
+-- what subscribes to topic t, as consumer 0
+abbrev pub subscribes : Words
+subscribes = Subscribe (codes "t") (codes "s") Exclusive 0
+
+-- a frame of the broker: success, for request 0
+abbrev pub success : List ℕ
+success = 0 ∷ 0 ∷ 0 ∷ 10 ∷ 0 ∷ 0 ∷ 0 ∷ 6 ∷ 8 ∷ 13 ∷ 106 ∷ 2 ∷ 8 ∷ 0 ∷ []
+
+-- what is said of a message: its producer, its number there and the time of its sending
+abbrev pub metadata : List ℕ
+metadata = 10 ∷ 14 ∷ (codes "standalone-0-3" ++ 16 ∷ 8 ∷ 24 ∷ 190 ∷ 192 ∷ 252 ∷ 132 ∷ 210 ∷ 44 ∷ [])
+
+-- a frame of the broker: the message of ledger 1 and entry 2, for consumer 0
+abbrev pub message_frame : List ℕ
+message_frame =
+    0 ∷ 0 ∷ 0 ∷ 65 ∷ 0 ∷ 0 ∷ 0 ∷ 12 ∷ 8 ∷ 9 ∷ 74 ∷ 8 ∷ 8 ∷ 0 ∷ 18 ∷ 4
+    ∷ 8 ∷ 1 ∷ 16 ∷ 2 ∷ 14 ∷ 1 ∷ 66 ∷ 131 ∷ 84 ∷ 181 ∷ 0 ∷ 0 ∷ 0 ∷ 25
+    ∷ (metadata ++ codes "hello-pulsar-8")
+
+-- a message comes to a consumer, and its polls give it once
+abbrev pub consumer_is_polled : List Step
+consumer_is_polled =
+    builds ++ (step_of (Called (Raw 0 subscribes)) (Queued 0 1 (frame_bytes (raw_message 0 0 subscribes)) ∷ [])
+    ∷ step_of (Bytes 0 success) (Settles 0 1 settlement.Reply ∷ Ends 1 (Replies ((8 ∷ 0 ∷ []) ∷ [])) ∷ [])
+    ∷ step_of (Bytes 0 message_frame) []
+    ∷ step_of (Poll 1) (Hands 1 (codes "t") (8 ∷ 1 ∷ 16 ∷ 2 ∷ []) metadata (codes "hello-pulsar-8") ∷ [])
+    ∷ step_of (Poll 1) (FindsNothing 1 ∷ [])
+    ∷ [])
 
 -- a history, oldest step first, is good
 abbrev pub IsGood : List Step → Type 0

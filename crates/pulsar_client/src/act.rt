@@ -156,4 +156,6 @@ pub enum Act {
     /// This call has built the client.
     Builds { ticket: u64 },
     OnLink { link: u64, act: LinkAct },
+    /// The consumer of this ticket is polled.
+    Polls { ticket: u64 },
 }

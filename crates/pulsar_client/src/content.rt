@@ -1,18 +1,20 @@
 //! What owns memory inside an act. Contracts see it by its content.
 
-ghost use Rattle.std.specs.Prelude.{◌≡◌, ℕ, List, IfOk, string_bytes};
+ghost use Rattle.std.specs.Prelude.{◌≡◌, ◌++◌, ℕ, List, IfOk, OnOk, map, string_bytes};
 ghost use Rattle.pulsar_frame.specs.Shown.{message_values};
-ghost use Rattle.pulsar_client.specs.Content.{Said, said};
-ghost use Rattle.pulsar_client.specs.Messages.{Reply, is_connected, read};
+ghost use Rattle.pulsar_client.specs.Content.{said};
+ghost use Rattle.pulsar_client.specs.Messages.{Reply, is_connected, is_number, read};
+ghost use Rattle.pulsar_client.specs.Subscribers.{item_of};
 ghost use Rattle.pulsar_client.specs.RawCall.{Words, words};
-ghost use Rattle.pulsar_wire.specs.contracts.error.Error as errors;
-ghost use Rattle.std.specs.Coded.{codes};
 
+use crate::consumers::items::give_with;
+use crate::consumers::subscriber::Unread;
 use crate::effect::Answer;
 use crate::raw_call::RawCall;
 use pulsar_frame::message::Message;
 use pulsar_wire::error::{Error, NoMemory};
 use pulsar_wire::key::RequestKey;
+use std::collections::VecDeque;
 use std::marker::Model;
 
 /// A text.
@@ -22,6 +24,8 @@ pub struct Text {
 }
 
 impl Model for Text {
+    ghost use Rattle.std.specs.Prelude.{ℕ, List, string_bytes};
+
     ghost Value = { List ℕ };
 
     ghost view = { λ t. string_bytes t.text };
@@ -56,6 +60,8 @@ pub struct RawRequest {
 }
 
 impl Model for RawRequest {
+    ghost use Rattle.pulsar_client.specs.RawCall.{Words, words};
+
     ghost Value = { Words };
 
     ghost view = { λ r. words r.call };
@@ -96,7 +102,14 @@ pub struct Received {
 }
 
 impl Model for Received {
+    ghost use Rattle.pulsar_frame.specs.Shown.{message_values};
+    ghost use Rattle.pulsar_client.specs.Messages.{Reply, read};
+    ghost use Rattle.pulsar_wire.specs.contracts.error.Error as errors;
+    ghost use Rattle.std.specs.Coded.{codes};
+
     ghost Value = { Reply };
+
+    ghost coded = { Prim.hlevel (codes, errors.the_row.coded) };
 
     ghost view = { λ r. read (message_values r.message) };
 }
@@ -118,9 +131,26 @@ impl Received {
     pub fn is_connected(&self) -> bool
         ensures { result ≡ is_connected self.now }
     {
+        self.is(3)
+    }
+
+    /// Its body has this number.
+    pub fn is(&self, number: u32) -> bool
+        ensures { result ≡ is_number number self.now.body }
+    {
         match &self.message.command.body {
-            Some(body) => body.number() == 3,
+            Some(body) => body.number() == number,
             None => false,
+        }
+    }
+
+    /// What it gives to a consumer is put behind what is there.
+    pub fn give(&self, unread: &mut VecDeque<Unread>) -> Result<(), NoMemory>
+        ensures { OnOk result (map item_of unread.new.items ≡ map item_of unread.old.items ++ self.now.items) }
+    {
+        match &self.message.command.body {
+            Some(body) => give_with(unread, &self.message.payload, body),
+            None => Ok(()),
         }
     }
 
@@ -147,6 +177,10 @@ pub struct Verdict {
 }
 
 impl Model for Verdict {
+    ghost use Rattle.pulsar_client.specs.Content.{Said, said};
+    ghost use Rattle.pulsar_wire.specs.contracts.error.Error as errors;
+    ghost use Rattle.std.specs.Coded.{codes};
+
     ghost Value = { Said };
 
     ghost coded = { Prim.hlevel (codes, errors.the_row.coded) };

@@ -1,6 +1,8 @@
 //! What a client wants done, and tells.
 
+use pulsar_frame::payload::Payload;
 use pulsar_wire::commands::base::Body;
+use pulsar_wire::commands::ids::MessageIdData;
 use pulsar_wire::commands::producer::CommandSendReceipt;
 use pulsar_wire::error::Error;
 
@@ -23,6 +25,15 @@ pub enum Answer {
     Receipt(CommandSendReceipt),
     /// What the broker replied to a raw call.
     Replies(Vec<Body>),
+}
+
+/// A message that a consumer is given.
+#[derive(Debug, PartialEq, Eq, Drop)]
+pub struct Handed {
+    /// The name of the topic, as the consumer was made with it.
+    pub topic: String,
+    pub id: MessageIdData,
+    pub payload: Payload,
 }
 
 /// One effect of a step.
@@ -59,5 +70,18 @@ pub enum Effect {
     Ended {
         ticket: u64,
         answer: Result<Answer, Error>,
+    },
+    /// The consumer of this ticket gives its next item.
+    Item {
+        ticket: u64,
+        item: Result<Handed, Error>,
+    },
+    /// The consumer of this ticket has no item yet.
+    Empty {
+        ticket: u64,
+    },
+    /// The consumer of this ticket has no item, and none will come.
+    End {
+        ticket: u64,
     },
 }

@@ -30,4 +30,6 @@ pub enum Event {
     Lost(u64),
     /// As many queued frames as this may be written to the connection.
     Drain(u64, usize),
+    /// The raw consumer that the call of this ticket made is asked for an item.
+    Poll(u64),
 }

@@ -2,8 +2,8 @@
 
 ghost use Rattle.pulsar_client.specs.Address.{KnownAddresses};
 ghost use Rattle.pulsar_client.specs.Client.{StoodForIsGood};
-ghost use Rattle.pulsar_client.specs.Laws.{ActsFollow, AnswersOnce, CallsAreMade, CallsFollow, Determined, FailuresAreTold, FramesAreCut, LinksAlone, OutcomesAreCaused, SettledByFirst, WrittenInOrder, WritesFollow};
-ghost use Rattle.pulsar_client.specs.Traces.{IsGood, attempt_fails, reply_comes_early, request_is_answered};
+ghost use Rattle.pulsar_client.specs.Laws.{ActsFollow, AnswersOnce, CallsAreMade, CallsFollow, Determined, FailuresAreTold, FramesAreCut, LinksAlone, OutcomesAreCaused, PollsAreAnswered, PollsFollow, SettledByFirst, WrittenInOrder, WritesFollow};
+ghost use Rattle.pulsar_client.specs.Traces.{IsGood, attempt_fails, consumer_is_polled, reply_comes_early, request_is_answered};
 
 /// Options and events determine the effects of a good run.
 pub fn determined()
@@ -45,11 +45,12 @@ pub fn frames_are_cut()
     ensures { FramesAreCut }
 {}
 
-/// Three small runs are good.
+/// Four small runs are good.
 pub fn small_runs_are_good()
     ensures answered { IsGood request_is_answered }
     ensures early { IsGood reply_comes_early }
     ensures fails { IsGood attempt_fails }
+    ensures polled { IsGood consumer_is_polled }
 {}
 
 /// A call that fails was refused, or fails with the fault of an outcome that it was told, or of its reply.
@@ -65,6 +66,17 @@ pub fn outcomes_are_caused()
 /// The bytes that are written to a connection are the first of those that were queued there, in order.
 pub fn writes_follow()
     ensures { WritesFollow }
+{}
+
+/// The polls of a consumer give the items that have come to it, in order, each once and without gap.
+pub fn polls_follow()
+    ensures { PollsFollow }
+{}
+
+/// A consumer is polled where the user asks for it, and gives its first item, the end where it hears no more, and else
+/// nothing.
+pub fn polls_are_answered()
+    ensures { PollsAreAnswered }
 {}
 
 /// Each act that a call does is what its procedure does next, in the same step.

@@ -32,6 +32,9 @@ fn rank(effect: &Effect) -> (u64, u64, u64)
             bytes: _,
         } => (4, *link, *place),
         Effect::Close { link } => (5, *link, 0),
+        Effect::Item { ticket, item: _ } | Effect::Empty { ticket } | Effect::End { ticket } => (
+            0, *ticket, 0,
+        ),
     }
 }
 

@@ -56,7 +56,7 @@ impl Pulsar {
     }
 
     /// One event, with all that arises from it. After want of memory every later step answers want of memory. An event
-    /// that names no live link, or a state that the link is not in, changes nothing and has no effect.
+    /// that names no live link, a state that the link is not in, or no consumer, changes nothing and has no effect.
     pub fn step(&mut self, event: Event) -> Result<Vec<Effect>, NoMemory>
         ensures ok { IfOk result (λ out. (o : Chosen) (h : List Step) → StandsFor o self.old h → StandsFor o self.new (step event out.items ∷ h)) }
         ensures failed { OnErr result (HasFailed self.new) }

@@ -8,16 +8,18 @@ ghost use Rattle.pulsar_client.specs.Content.{Heard, Bytes, asked, heard, shown}
 ghost use Rattle.pulsar_client.specs.Good.{Step, connects, effect, effect_at, put_some};
 ghost use Rattle.pulsar_client.specs.Link.{awaited};
 ghost use Rattle.pulsar_client.specs.Log.{Chosen, asks_on, at_once, brings, calls_for, dials, fails, frames_of, goes_on, opens, gets, gets_from, is_live, link_acts, performs, procedure_for, serves, spends};
-ghost use Rattle.pulsar_client.specs.Tables.{Begun, Follows, InStep, LinksAlone, LinksFollow, Stands, step, table_at, view_of};
+ghost use Rattle.pulsar_client.specs.Subscribers.{answered_by};
+ghost use Rattle.pulsar_client.specs.Tables.{Begun, Follows, InStep, LinksAlone, LinksFollow, Stands, step, table_at, view_of, waiting_in};
 
 use crate::act::{Act, Action, Arrival, End, LinkAct, Outcome, Procedure, Request};
 use crate::address::Address;
+use crate::consumers::subscribers::Subscribers;
 use crate::content::{RawRequest, Text, Verdict};
 use crate::effect::{Answer, Effect};
 use crate::event::{Call, Event};
 use crate::options::ClientOptions;
 use crate::order::{put, put_some};
-use crate::plans::plan::{Plan, begun, told};
+use crate::plans::plan::{Plan, begun, made, told};
 use crate::session::acts::settlement;
 use crate::session::link::Link;
 use pulsar_wire::error::{ConnectionError, Error, IoKind, NoMemory};
@@ -51,6 +53,7 @@ pub struct Tables {
     /// The calls that wait for the attempt.
     pub waiting: BTreeSet<u64>,
     pub links: Vec<Link>,
+    pub subscribers: Subscribers,
 }
 
 impl Tables {
@@ -68,6 +71,7 @@ impl Tables {
             base: Base::Nothing,
             waiting: BTreeSet::new(alloc),
             links: Vec::new(alloc),
+            subscribers: Subscribers::new(alloc),
         }
     }
 
@@ -83,7 +87,7 @@ impl Tables {
         Ok(out)
     }
 
-    /// An event names a live link, in a state that the link is in; a call always does.
+    /// An event names a live link, in a state that the link is in, or a consumer; a call always is live.
     pub fn is_live(&self, event: &Event) -> bool
         ensures { result ≡ is_live (view_of self.now) (heard event.now) }
     {
@@ -91,6 +95,7 @@ impl Tables {
             Event::Call(_) => true,
             Event::Opened(link) | Event::Failed(link, _) => self.dials(*link),
             Event::Bytes(link, _) | Event::Lost(link) | Event::Drain(link, _) => self.opens(*link),
+            Event::Poll(ticket) => self.subscribers.has(*ticket),
         }
     }
 
@@ -125,6 +130,12 @@ impl Tables {
             }
             Event::Drain(link, most) => {
                 bring(self.opens(*link), *link, LinkAct::Drains(*most as u64), due)?;
+                Ok((0, none))
+            }
+            Event::Poll(ticket) => {
+                if self.subscribers.has(*ticket) {
+                    due.push_back(Act::Polls { ticket: *ticket })?;
+                }
                 Ok((0, none))
             }
         }
@@ -254,6 +265,10 @@ impl Tables {
                 )
             }
             Act::OnLink { link, act } => self.on_link(link, act, due, out),
+            Act::Polls { ticket } => {
+                let effect = self.subscribers.poll(ticket)?;
+                put_some(out, effect)
+            }
         }
     }
 
@@ -263,7 +278,7 @@ impl Tables {
         ensures tables { OnOk result (Follows (Act.Calls procedure) self.old self.new) }
     {
         let ticket = self.tickets;
-        let (action, plan) = begun(procedure);
+        let (action, plan) = begun(procedure)?;
         self.performs(ticket, action, due)?;
         set_call(&mut self.calls, ticket, plan)?;
         self.tickets = ticket.checked_add(1).ok_or(NoMemory)?;
@@ -283,8 +298,12 @@ impl Tables {
         let Some(plan) = self.calls.remove(&ticket) else {
             return Ok(());
         };
+        let made = made(self.alloc, &plan, &outcome)?;
         let (action, plan) = told(self.alloc, plan, outcome)?;
         set_call(&mut self.calls, ticket, plan)?;
+        if let Some(subscriber) = made {
+            self.subscribers.join(self.alloc, ticket, subscriber)?;
+        }
         self.performs(ticket, action, due)
     }
 
@@ -456,9 +475,24 @@ impl Tables {
         ensures due { OnOk result (due.new.items ≡ at_once (view_of self.old) (Act.OnLink link act) ++ due.old.items) }
         ensures tables { OnOk result (LinksAlone link act self.old self.new) }
     {
+        let is_answer = self.is_answer(link, &act);
+        self.subscribers.hear(link, &act, is_answer)?;
         let effect = act_on(&mut self.links, self.alloc, link, act, due)?;
         put_some(out, effect)?;
         Ok(())
+    }
+
+    /// An act of a link is a frame that answers a request.
+    fn is_answer(&self, link: u64, act: &LinkAct) -> bool
+        ensures { result ≡ answered_by act.now (waiting_in self.now link) }
+    {
+        match act {
+            LinkAct::Comes(Arrival::Message(message)) => match self.links.get(link as usize) {
+                Some(row) => row.pending.is_awaited(message.key()),
+                None => false,
+            },
+            _ => false,
+        }
     }
 
     /// A request of a link waits no longer: its call is served.

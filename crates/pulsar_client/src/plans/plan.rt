@@ -1,16 +1,20 @@
 //! The procedures of the calls, as machines over their outcomes.
 
-ghost use Rattle.std.specs.Prelude.{◌≡◌, [], ◌∷◌, None, Some, IfOk};
+ghost use Rattle.std.specs.Prelude.{◌≡◌, ℕ, [], ◌∷◌, None, Some, IfOk};
+ghost use Rattle.std.specs.Option.{option_map};
 ghost use Rattle.pulsar_wire.specs.Views.{body_values};
 ghost use Rattle.pulsar_client.specs.Failures.{UnexpectedResponse, fault};
 ghost use Rattle.pulsar_client.specs.Messages.{read_body};
 ghost use Rattle.pulsar_frame.specs.Key.{answers};
-ghost use Rattle.pulsar_client.specs.Plan.{next, accepted, failed, fault_of, building, raw_answer, raw_of_body, raw_told, refused, topics, topics_answer, topics_told, topics_of_body};
-ghost use Rattle.pulsar_client.specs.Tables.{start, plan_action, plan_after};
+ghost use Rattle.pulsar_client.specs.Plan.{next, accepted, failed, fault_of, building, is_answer, raw_answer, raw_of_body, raw_told, refused, topics, topics_answer, topics_told, topics_of_body};
+ghost use Rattle.pulsar_client.specs.Subscribers.{fresh_in};
+ghost use Rattle.pulsar_client.specs.Tables.{start, plan_action, plan_after, plan_makes, raw_start};
 
 use crate::act::{Action, Outcome, Procedure, Request};
-use crate::content::{Received, Text, Verdict};
+use crate::consumers::subscriber::Subscriber;
+use crate::content::{RawRequest, Received, Text, Verdict};
 use crate::effect::Answer;
+use crate::raw_call::RawCall;
 use pulsar_frame::message::Message;
 use pulsar_wire::commands::base::Body;
 use pulsar_wire::commands::connection::CommandError;
@@ -30,23 +34,80 @@ pub enum Plan {
     Asked,
     /// It waits for the answer to a request with the body of this number.
     Raw(u32),
+    /// It waits for the success of a subscribe, which makes a consumer of this number on this link.
+    Subscribing { link: u64, number: u64, topic: Text },
 }
 
 /// What a call does first, and where it stands then.
-pub fn begun(procedure: Procedure) -> (Action, Option<Plan>)
-    ensures action { result.0 ≡ next procedure [] }
-    ensures plan { result.1 ≡ start procedure }
+pub fn begun(procedure: Procedure) -> Result<(Action, Option<Plan>), NoMemory>
+    ensures action { IfOk result (λ r. r.0 ≡ next procedure []) }
+    ensures plan { IfOk result (λ r. r.1 ≡ start procedure) }
 {
     match procedure {
-        Procedure::Build => (Action::Get, Some(Plan::Building)),
+        Procedure::Build => Ok((Action::Get, Some(Plan::Building))),
         Procedure::Topics { namespace, mode } => {
-            (Action::Get, Some(Plan::Asking { namespace, mode }))
+            Ok((Action::Get, Some(Plan::Asking { namespace, mode })))
         }
         Procedure::Raw { link, request } => {
-            let number = request.number();
-            (Action::Ask { link, request }, Some(Plan::Raw(number)))
+            let plan = raw_start(link, &request)?;
+            Ok((Action::Ask { link, request }, Some(plan)))
         }
-        Procedure::Refused => (failing(ConnectionError::Shutdown), None),
+        Procedure::Refused => Ok((failing(ConnectionError::Shutdown), None)),
+    }
+}
+
+/// Where a call stands that asks on this link.
+fn raw_start(link: u64, request: &Request) -> Result<Plan, NoMemory>
+    ensures { IfOk result (λ plan. plan ≡ raw_start link request.now) }
+{
+    match request {
+        Request::Raw { now: _, words } => words_start(link, words),
+        Request::Topics { .. } => Ok(Plan::Raw(request.number())),
+    }
+}
+
+fn words_start(link: u64, words: &RawRequest) -> Result<Plan, NoMemory>
+    ensures { IfOk result (λ plan. (now : ℕ) → plan ≡ raw_start link (Request.Raw now words.now)) }
+{
+    match words.call() {
+        RawCall::Subscribe {
+            topic,
+            subscription: _,
+            sub_type: _,
+            consumer_id,
+        } => Ok(Plan::Subscribing {
+            link,
+            number: *consumer_id,
+            topic: Text::new(topic.clone()?),
+        }),
+        _ => Ok(Plan::Raw(words.number())),
+    }
+}
+
+/// The consumer that a call makes at an outcome, if it makes one.
+pub fn made(alloc: Global, plan: &Plan, outcome: &Outcome) -> Result<Option<Subscriber>, NoMemory>
+    ensures { IfOk result (λ made. option_map fresh_in made ≡ plan_makes (Some plan.now) outcome.now) }
+{
+    match (plan, outcome) {
+        (
+            Plan::Subscribing {
+                link,
+                number,
+                topic,
+            },
+            Outcome::Replied(reply),
+        ) if is_answer(4, reply) => Ok(Some(Subscriber::new(alloc, *link, *number, topic.copy()?))),
+        _ => Ok(None),
+    }
+}
+
+/// A reply has the body that answers the body of this number.
+fn is_answer(request: u32, reply: &Received) -> bool
+    ensures { result ≡ is_answer request reply.now.body }
+{
+    match answer_of(request) {
+        Some(answer) => reply.is(answer),
+        None => false,
     }
 }
 
@@ -60,6 +121,7 @@ pub fn told(alloc: Global, plan: Plan, outcome: Outcome) -> Result<(Action, Opti
         Plan::Asking { namespace, mode } => Ok(asking(namespace, mode, outcome)),
         Plan::Asked => Ok((Action::Answer(topics_answer(alloc, outcome)?), None)),
         Plan::Raw(request) => Ok((Action::Answer(raw_answer(alloc, request, outcome)?), None)),
+        Plan::Subscribing { .. } => Ok((Action::Answer(raw_answer(alloc, 4, outcome)?), None)),
     }
 }
 
@@ -162,7 +224,7 @@ fn raw_of_body(alloc: Global, request: u32, body: Body) -> Result<Verdict, NoMem
 
 /// Why a body that is not the answer fails a call.
 fn refused(alloc: Global, body: Body) -> Result<Verdict, NoMemory>
-    ensures { IfOk result (λ v. v ≡ failed (refused (read_body None (Some (body_values body))) (Some (body_values body).number))) }
+    ensures { IfOk result (λ v. v ≡ failed (refused (read_body None [] (Some (body_values body))) (Some (body_values body).number))) }
 {
     match body {
         Body::Error(body) => Ok(failure(told_error(body))),
@@ -172,7 +234,7 @@ fn refused(alloc: Global, body: Body) -> Result<Verdict, NoMemory>
 
 /// The body that answers a raw call, as it is told.
 fn accepted(alloc: Global, body: Body) -> Result<Verdict, NoMemory>
-    ensures { IfOk result (λ v. v ≡ accepted (read_body None (Some (body_values body)))) }
+    ensures { IfOk result (λ v. v ≡ accepted (read_body None [] (Some (body_values body)))) }
 {
     match body {
         Body::SendReceipt(receipt) => Ok(Verdict::new(Ok(Answer::Receipt(receipt)))),
@@ -205,7 +267,7 @@ fn answer_of(request: u32) -> Option<u32>
 /// The error that the broker tells.
 #[tactic(auto, unfolding(pulsar_wire::specs::Views::error_values))]
 fn told_error(body: CommandError) -> ConnectionError
-    ensures { fault result ≡ refused (read_body None (Some (body_values (Body.Error body)))) (Some 14) }
+    ensures { fault result ≡ refused (read_body None [] (Some (body_values (Body.Error body)))) (Some 14) }
 {
     ConnectionError::PulsarError(server_error(body.error), Some(body.message))
 }

@@ -9,6 +9,7 @@ ghost use Rattle.pulsar_client.specs.RawCall.{Ack, CloseConsumer, CloseProducer,
 ghost use Rattle.pulsar_client.specs.Link.{awaited, fits_frame, is_numbered, numbered, raw_awaited, request_message};
 ghost use Rattle.pulsar_client.specs.Messages.{ack_type, bare, body_of, connect_message, metadata_of, property_values, raw_message, topics_message};
 ghost use Rattle.pulsar_client.specs.Plan.{request_number};
+ghost use Rattle.pulsar_client.specs.Subscribers.{closed_by};
 
 use crate::act::{Awaited, Request};
 use crate::content::RawRequest;
@@ -321,6 +322,16 @@ impl RawRequest {
         }
     }
 
+    /// The number of the consumer that it closes, if it closes one.
+    pub fn closed_consumer(&self) -> Option<u64>
+        ensures { (now : ℕ) → result ≡ closed_by (Request.Raw now self.now) }
+    {
+        match self.call() {
+            RawCall::CloseConsumer { consumer_id } => Some(*consumer_id),
+            _ => None,
+        }
+    }
+
     /// The number of its body.
     pub fn number(&self) -> u32
         ensures { result ≡ (body_of 0 self.now).number }
@@ -402,6 +413,16 @@ impl Request {
         match self.awaited(0) {
             Some(_) => true,
             None => false,
+        }
+    }
+
+    /// The number of the consumer that it closes, if it closes one.
+    pub fn closed_consumer(&self) -> Option<u64>
+        ensures { result ≡ closed_by self.now }
+    {
+        match self {
+            Request::Topics { .. } => None,
+            Request::Raw { now: _, words } => words.closed_consumer(),
         }
     }
 

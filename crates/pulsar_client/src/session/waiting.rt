@@ -2,6 +2,7 @@
 
 ghost use Rattle.std.specs.Prelude.{◌≡◌, ◌++◌, ◌∷◌, [], IfOk, filter, map, not};
 ghost use Rattle.pulsar_client.specs.Link.{ends_wait};
+ghost use Rattle.pulsar_client.specs.Subscriptions.{settles_one};
 ghost use Rattle.pulsar_client.specs.Waiting.{Taken, awaited_by, found, numbers_of, others, pending_at, pending_of};
 
 use crate::act::Awaited;
@@ -98,6 +99,19 @@ impl Waiting {
                 Ok((settled, left))
             }
             None => Ok((VecDeque::new(alloc), self)),
+        }
+    }
+
+    /// A frame of this key answers one of them.
+    pub fn is_awaited(&self, key: Option<RequestKey>) -> bool
+        ensures { result ≡ settles_one key self.now }
+    {
+        match awaited_by(key) {
+            Some(awaited) => match self.index.get(&awaited) {
+                Some(numbers) => !numbers.is_empty(),
+                None => false,
+            },
+            None => false,
         }
     }
 

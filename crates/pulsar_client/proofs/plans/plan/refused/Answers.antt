@@ -1,4 +1,4 @@
-use Rattle.std.proofs.Common.{rules, ◌≡◌, ◌∙◌, false, Some, None, ◌==◌, ap, refl}
+use Rattle.std.proofs.Common.{rules, ◌≡◌, [], ◌∙◌, false, Some, None, ◌==◌, ap, refl}
 use Rattle.pulsar_wire.specs.Views.{body_values}
 use Rattle.pulsar_wire.specs.Command.{BodyValues, body_name}
 use Rattle.pulsar_wire.specs.declared.commands.base.Body.{Body}
@@ -9,7 +9,7 @@ use Rattle.pulsar_client.specs.Messages.{read_body}
 use Rattle.pulsar_client.specs.Plan.{failed, refused}
 use Rattle.pulsar_client.proofs.plans.plan.refused.Goals as goal
 
-unexpected : (b : BodyValues) → (b.number == 14) ≡ false → UnexpectedResponse (body_name b.number) ≡ refused (read_body None (Some b)) (Some b.number)
+unexpected : (b : BodyValues) → (b.number == 14) ≡ false → UnexpectedResponse (body_name b.number) ≡ refused (read_body None [] (Some b)) (Some b.number)
 unexpected b error = rw error refl
 
 not-error : (b : Body) → ((x : CommandError) → b ≡ Error x → ⊥) → ((body_values b).number == 14) ≡ false

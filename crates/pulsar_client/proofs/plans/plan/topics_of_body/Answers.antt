@@ -1,4 +1,4 @@
-use Rattle.std.proofs.Common.{◌≡◌, false, Some, None, ◌==◌, refl}
+use Rattle.std.proofs.Common.{◌≡◌, [], false, Some, None, ◌==◌, refl}
 use Rattle.pulsar_wire.specs.Views.{body_values}
 use Rattle.pulsar_wire.specs.Command.{BodyValues}
 use Rattle.pulsar_wire.specs.declared.commands.base.Body.{Body}
@@ -12,7 +12,7 @@ not-topics : (b : Body) → ((x : CommandGetTopicsOfNamespaceResponse) → b ≡
 not-topics (GetTopicsOfNamespaceResponse x) h = absurd (h x refl)
 not-topics _ h = refl
 
-no-topics : (b : BodyValues) → (33 == b.number) ≡ false → failed (refused (read_body None (Some b)) (Some b.number)) ≡ topics_of_body (Some b)
+no-topics : (b : BodyValues) → (33 == b.number) ≡ false → failed (refused (read_body None [] (Some b)) (Some b.number)) ≡ topics_of_body (Some b)
 no-topics b other = rw other refl
 
 pub returns-in-GetTopicsOfNamespaceResponse : goal.returns-in-GetTopicsOfNamespaceResponse

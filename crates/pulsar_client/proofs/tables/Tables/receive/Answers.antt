@@ -20,5 +20,6 @@ returns-clause-tables c =
       waiting_same = refl;
       count_same = length-set c.args.self.now.links.items c.args.link c.receive.new.self;
       links_same = table-fed c.args.self.now.links.items c.args.link c.index_mut-row.result.now c.receive.new.self lt c.index_mut-row.ensures.value c.in_ok-found.ensures.table;
+      consumers_same = λ t. refl;
       unread_is = opened-fed c.args.self.now.links.items c.args.link c.index_mut-row.result.now c.receive.new.self c.args.piece.now lt c.index_mut-row.ensures.value c.in_ok-found.ensures.unread is_open;
     }

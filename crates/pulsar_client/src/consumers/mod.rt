@@ -1,0 +1,3 @@
+pub mod items;
+pub mod subscriber;
+pub mod subscribers;

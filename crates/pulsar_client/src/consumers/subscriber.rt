@@ -1,0 +1,69 @@
+//! One raw consumer.
+
+ghost use Rattle.std.specs.Prelude.{◌≡◌, IfOk};
+ghost use Rattle.pulsar_client.specs.Content.{shown};
+ghost use Rattle.pulsar_client.specs.Subscribers.{fresh_in, item_of};
+ghost use Rattle.pulsar_client.specs.Subscriptions.{fresh, polled_item};
+
+use crate::content::Text;
+use crate::effect::{Effect, Handed};
+use pulsar_frame::payload::Payload;
+use pulsar_wire::commands::ids::MessageIdData;
+use pulsar_wire::error::{Error, NoMemory};
+use std::alloc::Global;
+use std::collections::VecDeque;
+
+/// What a consumer has not given yet: a message, or why there is none.
+#[derive(Drop)]
+pub enum Unread {
+    Message { id: MessageIdData, payload: Payload },
+    Failure(Error),
+}
+
+/// A raw consumer.
+#[derive(Drop)]
+pub struct Subscriber {
+    /// The link that its messages come on.
+    pub link: u64,
+    /// The number that they bear.
+    pub number: u64,
+    /// The name of its topic.
+    pub topic: Text,
+    /// The items that it has not given, in order.
+    pub unread: VecDeque<Unread>,
+}
+
+impl Subscriber {
+    /// One that has heard nothing.
+    pub fn new(alloc: Global, link: u64, number: u64, topic: Text) -> Subscriber
+        ensures { fresh_in result ≡ fresh link number topic }
+    {
+        Subscriber {
+            link,
+            number,
+            topic,
+            unread: VecDeque::new(alloc),
+        }
+    }
+}
+
+impl Unread {
+    /// The effect of a poll that finds it.
+    pub fn into_effect(self, ticket: u64, topic: &Text) -> Result<Effect, NoMemory>
+        ensures { IfOk result (λ e. shown e ≡ polled_item ticket topic.now (item_of self)) }
+    {
+        match self {
+            Unread::Message { id, payload } => {
+                let topic = topic.copy()?.into_inner();
+                Ok(Effect::Item {
+                    ticket,
+                    item: Ok(Handed { topic, id, payload }),
+                })
+            }
+            Unread::Failure(error) => Ok(Effect::Item {
+                ticket,
+                item: Err(error),
+            }),
+        }
+    }
+}

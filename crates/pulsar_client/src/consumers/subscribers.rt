@@ -1,0 +1,221 @@
+//! The raw consumers of a client.
+
+ghost use Rattle.std.specs.Prelude.{◌≡◌, ◌==◌, ◌&&◌, ◌||◌, ◌++◌, [], ℕ, Bool, List, None, Some, IfOk, OnOk, if◌then◌else◌, map};
+ghost use Rattle.std.specs.BTreeMap.{get};
+ghost use Rattle.std.specs.BTreeSet.{insert_key};
+ghost use Rattle.std.specs.Option.{is_some, option_map};
+ghost use Rattle.std.specs.Ordering.{nat_cmp};
+ghost use Rattle.pulsar_client.specs.Content.{shown};
+ghost use Rattle.pulsar_client.specs.Link.{Pending};
+ghost use Rattle.pulsar_client.specs.Subscribers.{answered_by, fresh_in, given_at, is_listed, kept_at, live_at, subscription_at, with_items};
+ghost use Rattle.pulsar_client.specs.Subscriptions.{after_link_act, after_poll, polled, settles_one};
+
+use crate::act::{Arrival, LinkAct, Request};
+use crate::consumers::subscriber::Subscriber;
+use crate::content::Received;
+use crate::effect::Effect;
+use pulsar_wire::error::NoMemory;
+use pulsar_wire::key::RequestKey;
+use std::alloc::Global;
+use std::collections::{BTreeMap, BTreeSet};
+
+/// The raw consumers of a client. Those that a frame is for are found without a look at the others.
+#[derive(Drop)]
+pub struct Subscribers {
+    /// All of them, by the ticket of the call that made each.
+    pub rows: BTreeMap<u64, Subscriber>,
+    /// The tickets of those that hear, by link and number.
+    pub live: BTreeMap<u64, BTreeMap<u64, BTreeSet<u64>>>,
+}
+
+impl Subscribers {
+    pub fn new(alloc: Global) -> Subscribers
+        ensures { (t : ℕ) → subscription_at result t ≡ None }
+    {
+        Subscribers {
+            rows: BTreeMap::new(alloc),
+            live: BTreeMap::new(alloc),
+        }
+    }
+
+    /// There is a consumer of this ticket.
+    pub fn has(&self, ticket: u64) -> bool
+        ensures { result ≡ is_some (subscription_at self.now ticket) }
+    {
+        self.rows.contains_key(&ticket)
+    }
+
+    /// One more consumer, which hears.
+    pub fn join(&mut self, alloc: Global, ticket: u64, row: Subscriber) -> Result<(), NoMemory>
+        ensures { OnOk result ((t : ℕ) → subscription_at self.new t ≡ (if t == ticket then Some (fresh_in row) else subscription_at self.old t)) }
+    {
+        list(&mut self.live, alloc, row.link, row.number, ticket)?;
+        self.rows.insert(ticket, row)?;
+        Ok(())
+    }
+
+    /// What a consumer gives to a poll, if there is one.
+    pub fn poll(&mut self, ticket: u64) -> Result<Option<Effect>, NoMemory>
+        ensures effect { IfOk result (λ e. option_map shown e ≡ option_map (polled ticket) (subscription_at self.old ticket)) }
+        ensures rows { OnOk result ((t : ℕ) → subscription_at self.new t ≡ (if t == ticket then option_map after_poll (subscription_at self.old t) else subscription_at self.old t)) }
+    {
+        let Some(mut row) = self.rows.remove(&ticket) else {
+            return Ok(None);
+        };
+        let effect = match row.unread.pop_front() {
+            Some(unread) => unread.into_effect(ticket, &row.topic)?,
+            None if is_live(&self.live, ticket, row.link, row.number) => Effect::Empty { ticket },
+            None => Effect::End { ticket },
+        };
+        self.rows.insert(ticket, row)?;
+        Ok(Some(effect))
+    }
+
+    /// The consumers of a link hear an act of it. Whether it is a frame that answers a request is told.
+    pub fn hear(&mut self, link: u64, act: &LinkAct, is_answer: bool) -> Result<(), NoMemory>
+        ensures { OnOk result ((waiting : List Pending) → is_answer ≡ answered_by act.now waiting → (t : ℕ) → subscription_at self.new t ≡ option_map (after_link_act link act.now waiting) (subscription_at self.old t)) }
+    {
+        match act {
+            LinkAct::Comes(Arrival::Message(message)) => self.hear_frame(link, message, is_answer),
+            LinkAct::Requests { request, .. } => self.hear_request(link, request),
+            LinkAct::Ended(_) => {
+                self.live.remove(&link);
+                Ok(())
+            }
+            _ => Ok(()),
+        }
+    }
+
+    fn hear_frame(&mut self, link: u64, message: &Received, is_answer: bool) -> Result<(), NoMemory>
+        ensures { OnOk result ((waiting : List Pending) → is_answer ≡ settles_one message.now.key waiting → (t : ℕ) → subscription_at self.new t ≡ option_map (after_link_act link (LinkAct.Comes (Arrival.Message message.now)) waiting) (subscription_at self.old t)) }
+    {
+        match message.key() {
+            Some(RequestKey::Consumer { consumer_id }) => {
+                if message.is(9) {
+                    self.give(link, consumer_id, message)
+                } else if message.is(27) {
+                    self.close(link, consumer_id)
+                } else {
+                    Ok(())
+                }
+            }
+            Some(RequestKey::CloseConsumer { consumer_id, .. }) if !is_answer => {
+                self.close(link, consumer_id)
+            }
+            _ => Ok(()),
+        }
+    }
+
+    /// The consumers of a number on a link end where their close is asked for.
+    fn hear_request(&mut self, link: u64, request: &Request) -> Result<(), NoMemory>
+        ensures { OnOk result ((waiting : List Pending) (ticket t : ℕ) → subscription_at self.new t ≡ option_map (after_link_act link (LinkAct.Requests request.now ticket) waiting) (subscription_at self.old t)) }
+    {
+        match request.closed_consumer() {
+            Some(number) => self.close(link, number),
+            None => Ok(()),
+        }
+    }
+
+    /// What a message gives is put behind the items of each consumer of this number on the link.
+    fn give(&mut self, link: u64, number: u64, message: &Received) -> Result<(), NoMemory>
+        ensures live { OnOk result (self.new.live ≡ self.old.live) }
+        ensures rows { OnOk result ((t : ℕ) → kept_at self.new.rows t ≡ given_at (live_at self.old.live link number) link number message.now.items t (kept_at self.old.rows t)) }
+    {
+        let Some(numbers) = self.live.get(&link) else {
+            return Ok(());
+        };
+        let Some(tickets) = numbers.get(&number) else {
+            return Ok(());
+        };
+        give_all(&mut self.rows, tickets, link, number, message)
+    }
+
+    /// The consumers of this number on the link hear no more.
+    fn close(&mut self, link: u64, number: u64) -> Result<(), NoMemory>
+        ensures rows { OnOk result (self.new.rows ≡ self.old.rows) }
+        ensures live { OnOk result ((k m : ℕ) → live_at self.new.live k m ≡ (if (k == link) && (m == number) then [] else live_at self.old.live k m)) }
+    {
+        let Some(mut numbers) = self.live.remove(&link) else {
+            return Ok(());
+        };
+        numbers.remove(&number);
+        self.live.insert(link, numbers)?;
+        Ok(())
+    }
+}
+
+/// A consumer of this number on the link hears.
+fn is_live(
+    live: &BTreeMap<u64, BTreeMap<u64, BTreeSet<u64>>>,
+    ticket: u64,
+    link: u64,
+    number: u64,
+) -> bool
+    ensures { result ≡ is_listed ticket (live_at live.now link number) }
+{
+    let Some(numbers) = live.get(&link) else {
+        return false;
+    };
+    let Some(tickets) = numbers.get(&number) else {
+        return false;
+    };
+    tickets.contains(&ticket)
+}
+
+/// A ticket is listed under a number of a link.
+fn list(
+    live: &mut BTreeMap<u64, BTreeMap<u64, BTreeSet<u64>>>,
+    alloc: Global,
+    link: u64,
+    number: u64,
+    ticket: u64,
+) -> Result<(), NoMemory>
+    ensures { OnOk result ((k m : ℕ) → live_at live.new k m ≡ (if (k == link) && (m == number) then insert_key nat_cmp (live_at live.old k m) ticket else live_at live.old k m)) }
+{
+    let mut numbers = match live.remove(&link) {
+        Some(numbers) => numbers,
+        None => BTreeMap::new(alloc),
+    };
+    let mut tickets = match numbers.remove(&number) {
+        Some(tickets) => tickets,
+        None => BTreeSet::new(alloc),
+    };
+    tickets.insert(ticket)?;
+    numbers.insert(number, tickets)?;
+    live.insert(link, numbers)?;
+    Ok(())
+}
+
+fn give_all(
+    rows: &mut BTreeMap<u64, Subscriber>,
+    tickets: &BTreeSet<u64>,
+    link: u64,
+    number: u64,
+    message: &Received,
+) -> Result<(), NoMemory>
+    ensures { OnOk result ((t : ℕ) → kept_at rows.new t ≡ given_at tickets.now.keys link number message.now.items t (kept_at rows.old t)) }
+{
+    for ticket in tickets {
+        give_one(rows, *ticket, link, number, message)?;
+    }
+    Ok(())
+}
+
+fn give_one(
+    rows: &mut BTreeMap<u64, Subscriber>,
+    ticket: u64,
+    link: u64,
+    number: u64,
+    message: &Received,
+) -> Result<(), NoMemory>
+    ensures { OnOk result ((t : ℕ) → kept_at rows.new t ≡ (if t == ticket then option_map (with_items link number message.now.items) (kept_at rows.old t) else kept_at rows.old t)) }
+{
+    let Some(mut row) = rows.remove(&ticket) else {
+        return Ok(());
+    };
+    if row.link == link && row.number == number {
+        message.give(&mut row.unread)?;
+    }
+    rows.insert(ticket, row)?;
+    Ok(())
+}

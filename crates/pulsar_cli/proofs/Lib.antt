@@ -7,4 +7,6 @@ pub mod Prints
 pub mod Readings
 pub mod Sinks
 pub mod WrittenLines
+pub mod WrittenRaw
+pub mod ReadBack
 pub mod Folds

@@ -1,5 +1,5 @@
--- A written line is read back.
-use Rattle.std.proofs.Common.{◌≡◌, ◌==◌, ℕ, ◌+◌, ◌-◌, ◌*◌, ◌/◌, ◌%◌, ◌^◌, ◌<◌, ◌≤◌, ◌∙◌, sym, ap, List, [], ◌∷◌, ◌++◌, refl, arith, Bool, true, false, Option, Some, None, Ok, length, codes, length-append, suc}
+-- A written word is read back.
+use Rattle.std.proofs.Common.{◌≡◌, ◌==◌, ℕ, ◌+◌, ◌-◌, ◌*◌, ◌/◌, ◌%◌, ◌^◌, ◌<◌, ◌≤◌, ◌∙◌, sym, ap, List, [], ◌∷◌, ◌++◌, refl, arith, Bool, true, false, Option, Some, None, Ok, length, length-append, suc}
 use Rattle.std.specs.List.{All as Each, flat_map}
 use Rattle.std.specs.Fmt.{decimal}
 use Rattle.std.specs.Str.{bytes_eq, is_utf8}
@@ -13,11 +13,6 @@ use Rattle.hex.proofs.HexLemmas.{decode_of-encode_lower, decode_of-ok}
 use Rattle.pulsar_cli.specs.Words.{digits_from, hex, in_range, is_digit, is_plain, number, text, unescaped, word_bytes, words}
 use Rattle.pulsar_cli.specs.WordText.{is_printed, printed, upper_digit, word}
 use Rattle.std.proofs.lemmas.Slice.Eq.{bytes_eq-Decides}
-use Rattle.pulsar_wire.specs.declared.commands.topics.Mode.{Mode}
-use Rattle.pulsar_wire.specs.declared.commands.topics.Mode.TheVariants.{Persistent, NonPersistent, All}
-use Rattle.pulsar_client.specs.Content.{Asked, Build, Topics, Raw, Heard, Called, Opened, FailedToOpen, Bytes, Lost, Drain}
-use Rattle.pulsar_cli.specs.Grammar.{Setting, Url, Now, Sets, Happens, line, mode, words_line}
-use Rattle.pulsar_cli.specs.Written.{CanBeAsked, CanBeSet, CanBeWritten, mode_word, written, written_setting}
 use Rattle.pulsar_cli.proofs.Numbers.{all-read}
 
 -- no blank is in a word
@@ -30,7 +25,7 @@ one-word w h = slice_split_none (λ b. b == 32) w h
 pub first-word : (w rest : List ℕ) → IsWithinWord w → words (w ++ 32 ∷ rest) ≡ w ∷ words rest
 first-word w rest h = slice_split_at (λ b. b == 32) w 32 rest h refl
 
-single : (b : ℕ) → (b == 32) ≡ false → IsWithinWord (b ∷ [])
+pub single : (b : ℕ) → (b == 32) ≡ false → IsWithinWord (b ∷ [])
 single b h k d lt = let zero' : k ≡ 0 = omega (arith, lt) in rw zero' h
 
 -- NUMBERS
@@ -39,13 +34,13 @@ abbrev value-or : {A : Type 0} → A → Option A → A
 value-or a None = a
 value-or a (Some x) = x
 
-same-some : {A : Type 0} (a b : A) → Some a ≡ Some b → a ≡ b
+pub same-some : {A : Type 0} (a b : A) → Some a ≡ Some b → a ≡ b
 same-some a b h = ap (value-or a) h
 
 step-on : (k d : ℕ) (ds : List ℕ) → is_digit d ≡ true → digits_from k (d ∷ ds) ≡ digits_from (10 * k + (d - 48)) ds
 step-on k d ds h = rw h refl
 
-step-off : (k d : ℕ) (ds : List ℕ) → is_digit d ≡ false → digits_from k (d ∷ ds) ≡ None
+pub step-off : (k d : ℕ) (ds : List ℕ) → is_digit d ≡ false → digits_from k (d ∷ ds) ≡ None
 step-off k d ds h = rw h refl
 
 digits-append-or : (k x : ℕ) (xs : List ℕ) (d m : ℕ) (b : Bool) → is_digit x ≡ b → ((j : ℕ) → digits_from j xs ≡ Some m → digits_from j (xs ++ d ∷ []) ≡ digits_from m (d ∷ [])) → digits_from k (x ∷ xs) ≡ Some m → digits_from k (x ∷ (xs ++ d ∷ [])) ≡ digits_from m (d ∷ [])
@@ -189,55 +184,3 @@ word-bytes (b ∷ bs) is = bytes-of-word (flat_map printed (b ∷ bs)) (b ∷ bs
 
 pub text-word : (bytes : List ℕ) → IsBytes bytes → is_utf8 bytes ≡ true → text (word bytes) ≡ Some bytes
 text-word bytes is utf8 = rw (word-bytes bytes is, utf8) refl
-
--- LINES
-
-mode-within : (m : Mode) → words (mode_word m) ≡ mode_word m ∷ []
-mode-within Persistent = refl
-mode-within NonPersistent = refl
-mode-within All = refl
-
-mode-reads : (m : Mode) → mode (mode_word m) ≡ Some m
-mode-reads Persistent = refl
-mode-reads NonPersistent = refl
-mode-reads All = refl
-
-one-number : (first : List ℕ) (n : ℕ) → n < 2 ^ 64 → first ∷ words (decimal n) ≡ first ∷ decimal n ∷ []
-one-number first n lt = ap (λ (ws : List (List ℕ)). first ∷ ws) (one-word (decimal n) (decimal-within n lt))
-
-two-words : (first w v : List ℕ) → IsWithinWord w → words v ≡ v ∷ [] → first ∷ words (w ++ 32 ∷ v) ≡ first ∷ w ∷ v ∷ []
-two-words first w v within one = ap (λ (ws : List (List ℕ)). first ∷ ws) (first-word w v within ∙ ap (λ (ws : List (List ℕ)). w ∷ ws) one)
-
-topics-read : (namespace : List ℕ) (m : Mode) → IsBytes namespace → is_utf8 namespace ≡ true → words_line (codes "call" ∷ codes "topics" ∷ word namespace ∷ mode_word m ∷ []) ≡ Happens (Called (Topics namespace m))
-topics-read namespace m is utf8 = rw (text-word namespace is utf8, mode-reads m) refl
-
-pub asked-read : (c : Asked) → CanBeAsked c → line (written (Called c)) ≡ Happens (Called c)
-asked-read Build can = refl
-asked-read (Topics namespace m) can =
-    ap (λ (ws : List (List ℕ)). words_line (codes "call" ∷ ws)) (two-words (codes "topics") (word namespace) (mode_word m) (word-within namespace can.0) (mode-within m))
-    ∙ topics-read namespace m can.0 can.1
-asked-read (Raw link words) can = absurd can
-
-pub reads-back : (e : Heard) → CanBeWritten e → line (written e) ≡ Happens e
-reads-back (Called c) can = asked-read c can
-reads-back (Opened l) can =
-    ap (λ (ws : List (List ℕ)). words_line ws) (one-number (codes "opened") l can) ∙ rw (number-decimal l can) refl
-reads-back (Lost l) can =
-    ap (λ (ws : List (List ℕ)). words_line ws) (one-number (codes "lost") l can) ∙ rw (number-decimal l can) refl
-reads-back (FailedToOpen l kind) can =
-    ap (λ (ws : List (List ℕ)). words_line ws) (two-words (codes "failed") (decimal l) (codes "other") (decimal-within l can.0) refl)
-    ∙ rw (number-decimal l can.0, can.1) refl
-reads-back (Bytes l piece) can =
-    ap (λ (ws : List (List ℕ)). words_line ws) (two-words (codes "bytes") (decimal l) (encode_lower piece) (decimal-within l can.0) (one-word (encode_lower piece) (hex-within piece can.1)))
-    ∙ rw (number-decimal l can.0, hex-encoded piece can.1 can.2) refl
-reads-back (Drain l most) can =
-    ap (λ (ws : List (List ℕ)). words_line ws) (two-words (codes "drain") (decimal l) (decimal most) (decimal-within l can.0) (one-word (decimal most) (decimal-within most can.1)))
-    ∙ rw (number-decimal l can.0, number-decimal most can.1) refl
-
-pub sets-read-back : (s : Setting) → CanBeSet s → line (written_setting s) ≡ Sets s
-sets-read-back (Url text) can =
-    ap (λ (ws : List (List ℕ)). words_line (codes "set" ∷ codes "url" ∷ ws)) (one-word (word text) (word-within text can.0))
-    ∙ rw (text-word text can.0 can.1) refl
-sets-read-back (Now time) can =
-    ap (λ (ws : List (List ℕ)). words_line (codes "set" ∷ codes "now" ∷ ws)) (one-word (decimal time) (decimal-within time can))
-    ∙ rw (number-decimal time can) refl

@@ -7,7 +7,7 @@ use Rattle.pulsar_wire.specs.declared.commands.topics.Mode.{Mode}
 use Rattle.pulsar_wire.specs.declared.commands.topics.Mode.TheVariants.{Persistent, NonPersistent, All}
 use Rattle.pulsar_wire.specs.declared.error.IoKind.{IoKind}
 use Rattle.pulsar_wire.specs.declared.error.IoKind.TheVariants.{Other}
-use Rattle.pulsar_client.specs.Content.{Asked, Build, Topics, Raw, Heard, Called, Opened, FailedToOpen, Bytes, Lost, Drain}
+use Rattle.pulsar_client.specs.Content.{Asked, Build, Topics, Raw, Heard, Called, Opened, FailedToOpen, Bytes, Lost, Drain, Poll}
 use Rattle.pulsar_cli.specs.Words.{words, number, text, hex}
 use Rattle.pulsar_cli.specs.RawLines.{raw_call}
 
@@ -90,6 +90,11 @@ drain (l ∷ n ∷ []) = do
   Some (Drain link most)
 drain _ = None
 
+-- poll TICKET
+abbrev pub poll : List (List ℕ) → Option Heard
+poll (t ∷ []) = number t >>= λ ticket. Some (Poll ticket)
+poll _ = None
+
 -- an event line
 abbrev pub event : List (List ℕ) → Option Heard
 event [] = None
@@ -100,6 +105,7 @@ event (w ∷ ws) =
     else if bytes_eq w (codes "bytes") then bytes ws
     else if bytes_eq w (codes "lost") then lost ws
     else if bytes_eq w (codes "drain") then drain ws
+    else if bytes_eq w (codes "poll") then poll ws
     else None
 
 -- an option of the client: the URL of the service, or the time of the client's start, in milliseconds since 1970

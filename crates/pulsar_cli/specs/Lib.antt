@@ -7,4 +7,5 @@ pub mod ErrorText
 pub mod Text
 pub mod Script
 pub mod Shown
+pub mod WrittenRaw
 pub mod Written

@@ -4,7 +4,7 @@ use Rattle.std.specs.List.{flat_map}
 use Rattle.std.specs.Fmt.{decimal}
 use Rattle.pulsar_client.specs.declared.effect.Settlement.{Settlement}
 use Rattle.pulsar_client.specs.declared.effect.Settlement.TheVariants as settlement
-use Rattle.pulsar_client.specs.Content.{Said, Done, Names, Receipt, Replies, Failed, Shown, Connect, Queued, Write, Close, Settles, Ends}
+use Rattle.pulsar_client.specs.Content.{Said, Done, Names, Receipt, Replies, Failed, Shown, Connect, Queued, Write, Close, Settles, Ends, Hands, Faults, FindsNothing, FindsEnd}
 use Rattle.pulsar_cli.specs.WordText.{hex, word}
 use Rattle.pulsar_cli.specs.ErrorText.{failure}
 
@@ -26,6 +26,11 @@ effect (Ends ticket a) = codes "ended " ++ decimal ticket ++ codes " " ++ answer
 effect (Connect l host port) = codes "connect " ++ decimal l ++ codes " " ++ word host ++ codes " " ++ decimal port
 effect (Queued l place bytes) = codes "queued " ++ decimal l ++ codes " " ++ decimal place ++ codes " " ++ hex bytes
 effect (Close l) = codes "close " ++ decimal l
+effect (Hands ticket topic id metadata payload) =
+    codes "item " ++ decimal ticket ++ codes " " ++ word topic ++ codes " " ++ hex id ++ codes " " ++ hex metadata ++ codes " " ++ word payload
+effect (Faults ticket fault) = codes "fault " ++ decimal ticket ++ codes " " ++ failure fault
+effect (FindsNothing ticket) = codes "empty " ++ decimal ticket
+effect (FindsEnd ticket) = codes "end " ++ decimal ticket
 
 -- a line ends with a line feed
 abbrev pub line : List ℕ → List ℕ

@@ -1,6 +1,7 @@
 //! Scripts with the text that they print. The texts are worked by hand from the protocol, and no run's output.
 
 mod lines;
+mod polls;
 mod raw;
 mod settings;
 

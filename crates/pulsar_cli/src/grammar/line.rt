@@ -3,7 +3,7 @@
 ghost use Rattle.std.specs.Prelude.{◌≡◌, IfOk, map};
 ghost use Rattle.std.specs.Option.{option_map};
 ghost use Rattle.pulsar_client.specs.Content.{asked, heard};
-ghost use Rattle.pulsar_cli.specs.Grammar.{build, bytes, call, called, drain, event, failed, kind, line, lost, mode, on_link, opened, set, time, topics, url, words_line};
+ghost use Rattle.pulsar_cli.specs.Grammar.{build, bytes, call, called, drain, event, failed, kind, line, lost, mode, on_link, opened, poll, set, time, topics, url, words_line};
 ghost use Rattle.pulsar_cli.specs.Shown.{line_of, setting_of};
 
 use crate::grammar::raw::raw_call;
@@ -115,6 +115,8 @@ fn event(alloc: Global, words: &[&[u8]]) -> Result<Option<Event>, NoMemory>
         Ok(lost(rest))
     } else if is(word, "drain") {
         Ok(drain(rest))
+    } else if is(word, "poll") {
+        Ok(poll(rest))
     } else {
         Ok(None)
     }
@@ -199,6 +201,16 @@ fn drain(words: &[&[u8]]) -> Option<Event>
     let link = number(link)?;
     let most = number(most)?;
     Some(Event::Drain(link, most as usize))
+}
+
+/// `poll TICKET`
+fn poll(words: &[&[u8]]) -> Option<Event>
+    ensures { option_map heard result ≡ poll (map (λ w. w.now) words.now) }
+{
+    let [ticket] = words else {
+        return None;
+    };
+    Some(Event::Poll(number(ticket)?))
 }
 
 /// What stands behind `call`.

@@ -1,10 +1,10 @@
 //! The lines of a step.
 
-ghost use Rattle.std.specs.Prelude.{◌≡◌, ◌∷◌, ◌++◌, OnOk, map, string_bytes};
+ghost use Rattle.std.specs.Prelude.{◌≡◌, ◌∷◌, ◌++◌, Ok, OnOk, map, string_bytes};
 ghost use Rattle.pulsar_wire.specs.Row.{spelling};
 ghost use Rattle.pulsar_wire.specs.Rows.{send_receipt};
 ghost use Rattle.pulsar_wire.specs.Views.{body_values, send_receipt_values};
-ghost use Rattle.pulsar_client.specs.Content.{Names, Receipt, Replies, said, shown};
+ghost use Rattle.pulsar_client.specs.Content.{Names, Receipt, Replies, hands, said, shown};
 ghost use Rattle.pulsar_client.specs.Messages.{body_bytes};
 ghost use Rattle.pulsar_cli.specs.Text as printed;
 ghost use Rattle.pulsar_cli.specs.WordText.{hex};
@@ -12,7 +12,7 @@ ghost use Rattle.pulsar_cli.specs.WordText.{hex};
 use crate::printing::body::encode_body;
 use crate::printing::error::push_error;
 use crate::printing::word::{push_hex, push_word};
-use pulsar_client::effect::{Answer, Effect, Settlement};
+use pulsar_client::effect::{Answer, Effect, Handed, Settlement};
 use pulsar_wire::commands::base::Body;
 use pulsar_wire::commands::producer::CommandSendReceipt;
 use pulsar_wire::encoding::message::encode;
@@ -61,6 +61,9 @@ fn push_effect(out: &mut String, effect: &Effect) -> Result<(), AllocError>
             push_hex(out, bytes)?;
         }
         Effect::Close { link } => write!(out, "close {link}")?,
+        Effect::Item { ticket, item } => push_item(out, *ticket, item)?,
+        Effect::Empty { ticket } => write!(out, "empty {ticket}")?,
+        Effect::End { ticket } => write!(out, "end {ticket}")?,
     }
     Ok(())
 }
@@ -130,6 +133,40 @@ fn push_body(out: &mut String, body: &Body) -> Result<(), AllocError>
     let mut bytes = Vec::new(*out.allocator());
     encode_body(body, &mut bytes)?;
     push_hex(out, &bytes)
+}
+
+/// What a poll gives: a message, or why there is none.
+#[tactic(auto, using(crate::proofs::Errors::failure_text))]
+fn push_item(out: &mut String, ticket: u64, item: &Result<Handed, Error>) -> Result<(), AllocError>
+    ensures { OnOk result (string_bytes out.new ≡ string_bytes out.old ++ printed.effect (hands ticket item.now)) }
+{
+    match item {
+        Ok(handed) => push_handed(out, ticket, handed)?,
+        Err(error) => {
+            write!(out, "fault {ticket} ")?;
+            push_error(out, error)?;
+        }
+    }
+    Ok(())
+}
+
+/// A message that a poll hands. Its id and its metadata are printed as they are encoded.
+fn push_handed(out: &mut String, ticket: u64, handed: &Handed) -> Result<(), AllocError>
+    ensures { OnOk result (string_bytes out.new ≡ string_bytes out.old ++ printed.effect (hands ticket (Ok handed.now))) }
+{
+    let alloc = *out.allocator();
+    let mut id = Vec::new(alloc);
+    encode(&handed.id, &mut id)?;
+    let mut metadata = Vec::new(alloc);
+    encode(&handed.payload.metadata, &mut metadata)?;
+    write!(out, "item {ticket} ")?;
+    push_word(out, handed.topic.as_bytes())?;
+    out.push(' ')?;
+    push_hex(out, &id)?;
+    out.push(' ')?;
+    push_hex(out, &metadata)?;
+    out.push(' ')?;
+    push_word(out, &handed.payload.bytes)
 }
 
 /// The refusal of a line.

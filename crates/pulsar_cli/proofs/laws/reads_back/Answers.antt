@@ -1,4 +1,4 @@
-use Rattle.pulsar_cli.proofs.WrittenLines.{reads-back}
+use Rattle.pulsar_cli.proofs.ReadBack.{reads-back}
 use Rattle.pulsar_cli.proofs.laws.reads_back.Goals as goal
 
 pub returns : goal.returns

@@ -1,4 +1,4 @@
-use Rattle.pulsar_cli.proofs.WrittenLines.{sets-read-back}
+use Rattle.pulsar_cli.proofs.ReadBack.{sets-read-back}
 use Rattle.pulsar_cli.proofs.laws.sets_read_back.Goals as goal
 
 pub returns : goal.returns

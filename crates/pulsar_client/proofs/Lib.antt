@@ -19,3 +19,4 @@ pub mod Causes
 pub mod Joined
 pub mod Doing
 pub mod Polls
+pub mod Hearing

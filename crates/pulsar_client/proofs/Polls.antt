@@ -1,6 +1,6 @@
 -- A consumer is polled where the user asks for it, and its polls give what has come to it, in order.
 use Rattle.std.proofs.Common.{◌≡◌, ℕ, ◌+◌, ◌∙◌, sym, ap, subst, List, [], ◌∷◌, ◌++◌, refl, arith, map, drop, Bool, true, false, ◌&&◌, cond, Option, Some, None, inl, inr, nat_lt, ◌==◌, append_assoc, append-nil}
-use Rattle.std.specs.Option.{is_some, option_map, unwrap_or}
+use Rattle.std.specs.Option.{is_some, option_map, option_or, unwrap_or}
 use Rattle.std.specs.List.{flat_map}
 use Rattle.std.proofs.lemmas.Bool.{cases_Bool, eqb-true}
 use Rattle.std.proofs.lemmas.Bool.Decides.{nat_tests}
@@ -33,7 +33,7 @@ use Rattle.pulsar_client.specs.RawCall.{CreateProducer, Send, CloseProducer, Sub
 use Rattle.pulsar_client.specs.Subscriptions.{Subscription, after_frame, after_link_act, after_own, after_poll, brings_message, ended, fresh, made_by, polled, polled_from, waiting_on}
 use Rattle.pulsar_client.specs.Link.{Seen, Pending, arrivals, link_rule, is_ready, fits_frame, awaited, frame_of, is_numbered, request_message, kind_of, written_by}
 use Rattle.pulsar_client.specs.Plan.{failed, next, is_answer}
-use Rattle.pulsar_client.specs.Log.{Chosen, Entry, Begins, Does, View, view, at_once, serves, performs, gets, asks, asks_on, fails, link_acts, brings, procedure_for, frames_of, seen_link, dials, goes_on, opens, or_new, spends, spent, calls, procedure_of, outcomes_of, subscription, gets_from}
+use Rattle.pulsar_client.specs.Log.{Chosen, Entry, Begins, Does, View, view, at_once, serves, performs, gets, asks, asks_on, fails, link_acts, brings, procedure_for, frames_of, seen_link, dials, goes_on, opens, spends, spent, calls, procedure_of, outcomes_of, subscription, gets_from}
 use Rattle.pulsar_client.specs.Good.{due, to_come, IsRun, first, is_empty, Step, steps, join, put, put_some, is_below_all, effect, effect_at, link_effect, connects, writes, queues}
 use Rattle.pulsar_client.specs.Laws.{brought, given_by, items_come, items_given, PollsFollow, PollsAreAnswered}
 
@@ -286,7 +286,7 @@ at_none t l (Some s) act = link_none t l s act
 -- HOW A CONSUMER IS MADE
 
 -- it is made only before a call has had an outcome, and then it has no items
-abbrev Makes : List Outcome → Option Subscription → Type 0
+abbrev pub Makes : List Outcome → Option Subscription → Type 0
 Makes os None = Unit {0}
 Makes os (Some s) = (os ≡ []) × (s.unread ≡ [])
 
@@ -295,7 +295,7 @@ subscribes l n topic true = (refl, refl)
 subscribes l n topic false = tt
 
 -- a call makes it so, whatever its procedure
-makes : (p : Option Procedure) (os : List Outcome) (u : Outcome) → Makes os (made_by p os u)
+pub makes : (p : Option Procedure) (os : List Outcome) (u : Outcome) → Makes os (made_by p os u)
 makes None os u = tt
 makes (Some procedure.Build) os u = tt
 makes (Some (procedure.Topics n m)) os u = tt
@@ -336,15 +336,15 @@ no_procedure t (Does (Polls k) ∷ log) h = no_procedure t log h
 -- ALONG A LOG
 
 -- what was given and what is left is what came; where there is no consumer nothing came
-abbrev Gives : Option Subscription → List Item → List Item → Type 0
+abbrev pub Gives : Option Subscription → List Item → List Item → Type 0
 Gives None given come = (given ≡ []) × (come ≡ [])
 Gives (Some s) given come = given ++ s.unread ≡ come
 
 -- a call that is not made yet has no consumer, nor has one without outcomes
-record Hears (o : Chosen) (t : ℕ) (log : List Entry) : Type 0 where
-  unmade : nat_lt t (calls log) ≡ false → subscription o t log ≡ None
-  silent : outcomes_of t log ≡ [] → subscription o t log ≡ None
-  same : Gives (subscription o t log) (items_given t (steps o log)) (items_come o t log)
+pub record Hears (o : Chosen) (t : ℕ) (log : List Entry) : Type 0 where
+  pub unmade : nat_lt t (calls log) ≡ false → subscription o t log ≡ None
+  pub silent : outcomes_of t log ≡ [] → subscription o t log ≡ None
+  pub same : Gives (subscription o t log) (items_given t (steps o log)) (items_come o t log)
 
 -- an act that changes no consumer
 still : (o : Chosen) (t : ℕ) (a : Act) (log : List Entry) → Hears o t log → GivesNone t (effect (view o log) a) →
@@ -365,7 +365,7 @@ calls_on o t p log h = record {
 }
 
 -- a call is told an outcome
-told_unmade : (b : Bool) (p : Option Procedure) (os : List Outcome) (u : Outcome) (c : Option Subscription) → p ≡ None → c ≡ None → cond b (or_new (made_by p os u) c) c ≡ None
+told_unmade : (b : Bool) (p : Option Procedure) (os : List Outcome) (u : Outcome) (c : Option Subscription) → p ≡ None → c ≡ None → cond b (option_or (made_by p os u) c) c ≡ None
 told_unmade true p os u c e none = rw (e, none) refl
 told_unmade false p os u c e none = none
 
@@ -373,17 +373,17 @@ not_nil : (os : List Outcome) (u : Outcome) → os ++ u ∷ [] ≡ [] → ⊥
 not_nil [] u h = cc
 not_nil (x ∷ xs) u h = cc
 
-told_silent : (b : Bool) (os : List Outcome) (u : Outcome) (n c : Option Subscription) → (os ≡ [] → c ≡ None) → cond b (os ++ u ∷ []) os ≡ [] → cond b (or_new n c) c ≡ None
+told_silent : (b : Bool) (os : List Outcome) (u : Outcome) (n c : Option Subscription) → (os ≡ [] → c ≡ None) → cond b (os ++ u ∷ []) os ≡ [] → cond b (option_or n c) c ≡ None
 told_silent true os u n c none h = absurd (not_nil os u h)
 told_silent false os u n c none h = none h
 
-made_gives : (n c : Option Subscription) (os : List Outcome) (given come : List Item) → Makes os n → (os ≡ [] → c ≡ None) → Gives c given come → Gives (or_new n c) given come
+made_gives : (n c : Option Subscription) (os : List Outcome) (given come : List Item) → Makes os n → (os ≡ [] → c ≡ None) → Gives c given come → Gives (option_or n c) given come
 made_gives None c os given come m none g = g
 made_gives (Some s) c os given come m none g =
     let nothing : Gives None given come = subst (λ x. Gives x given come) (none m.0) g in
     ap (λ x. x ++ s.unread) nothing.0 ∙ m.1 ∙ sym nothing.1
 
-told_gives : (b : Bool) (n c : Option Subscription) (os : List Outcome) (given come : List Item) → Makes os n → (os ≡ [] → c ≡ None) → Gives c given come → Gives (cond b (or_new n c) c) given come
+told_gives : (b : Bool) (n c : Option Subscription) (os : List Outcome) (given come : List Item) → Makes os n → (os ≡ [] → c ≡ None) → Gives c given come → Gives (cond b (option_or n c) c) given come
 told_gives true n c os given come m none g = made_gives n c os given come m none g
 told_gives false n c os given come m none g = g
 
@@ -507,7 +507,7 @@ polls_on o t k log r h =
     }
 
 -- so it is along a run
-hears : (o : Chosen) (t : ℕ) (log : List Entry) → IsRun o log → Hears o t log
+pub hears : (o : Chosen) (t : ℕ) (log : List Entry) → IsRun o log → Hears o t log
 hears o t [] r = record { unmade = λ lt. refl; silent = λ e. refl; same = (refl, refl) }
 hears o t (Begins e ∷ log) r =
     let h : Hears o t log = hears o t log r.0 in

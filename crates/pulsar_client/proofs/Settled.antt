@@ -1,7 +1,7 @@
 -- A request is settled by the first later act that settles it.
 use Rattle.std.proofs.Common.{◌≡◌, ℕ, ◌+◌, ◌<◌, ◌≤◌, ◌∙◌, sym, ap, subst, List, [], ◌∷◌, ◌++◌, refl, arith, map, filter, drop, Bool, true, false, not, cond, Option, Some, None, inl, inr, ◌==◌, append-nil, is_none}
 use Rattle.std.specs.List.{filter_map, cons_option}
-use Rattle.std.specs.Option.{option_to_list}
+use Rattle.std.specs.Option.{option_or, option_to_list}
 use Rattle.std.proofs.lemmas.List.Elements.{filter_map-append, filter-append}
 use Rattle.std.proofs.lemmas.Bool.{cases_Bool, eq-eqb}
 use Rattle.std.proofs.lemmas.Bool.Decides.{nat_tests}
@@ -20,7 +20,7 @@ use Rattle.pulsar_client.specs.Messages.{Reply, is_connected}
 use Rattle.pulsar_client.specs.Link.{Pending, seen, stage, ends_wait, link_rule, settled, settles, disconnected, turns, at_opening, at_arrival, pending, queued, next_id, awaited, left_waiting, waits_for, with_request, at_failure, at_loss}
 use Rattle.pulsar_client.specs.Good.{first}
 use Rattle.pulsar_client.specs.Local.{is_own, link_due, Fits, IsLinkRun}
-use Rattle.pulsar_client.specs.Laws.{outcome_in, or_else, settled_at, request_at, SettledByFirst}
+use Rattle.pulsar_client.specs.Laws.{outcome_in, settled_at, request_at, SettledByFirst}
 use Rattle.pulsar_client.proofs.Local.{link_runs, link_rests}
 
 -- what an act settles a request as
@@ -222,7 +222,7 @@ still r None = r ∷ []
 still r (Some o) = []
 
 still_step : (r : Pending) (o v : Option Outcome) (act : LinkAct) → settles act r ≡ v →
-    filter (λ x. is_none (settles act x)) (still r o) ≡ still r (or_else o v)
+    filter (λ x. is_none (settles act x)) (still r o) ≡ still r (option_or o v)
 still_step r (Some o) v act e = refl
 still_step r None None act e = rw e refl
 still_step r None (Some w) act e = rw e refl
@@ -258,13 +258,13 @@ cons_some None = refl
 cons_some (Some y) = refl
 
 join_step : (A B R : List Outcome) (r : Pending) (act : LinkAct) (O : Option Outcome) →
-    A ++ B ≡ option_to_list O → R ≡ filter_map (settles act) (still r O) → A ++ (R ++ B) ≡ option_to_list (or_else O (settles act r))
+    A ++ B ≡ option_to_list O → R ≡ filter_map (settles act) (still r O) → A ++ (R ++ B) ≡ option_to_list (option_or O (settles act r))
 join_step A B R r act (Some o) h e = rw e h
 join_step A B R r act None h e =
     rw (e, (joined_none A B h).0, (joined_none A B h).1) (append-nil (cons_option (settles act r) []) ∙ cons_some (settles act r))
 
 move_step : (A B R : List Outcome) (v : Outcome) (r : Pending) (act : LinkAct) (O : Option Outcome) →
-    A ++ v ∷ B ≡ option_to_list O → R ≡ filter_map (settles act) (still r O) → (v ∷ A) ++ (R ++ B) ≡ option_to_list (or_else O (settles act r))
+    A ++ v ∷ B ≡ option_to_list O → R ≡ filter_map (settles act) (still r O) → (v ∷ A) ++ (R ++ B) ≡ option_to_list (option_or O (settles act r))
 move_step A B R v r act (Some o) h e =
     let n : A ≡ [] = (moved A v B (Some o) h).0 in
     let k : B ≡ [] = (moved A v B (Some o) h).1 in
@@ -285,7 +285,7 @@ module _ (n p : ℕ) (r : Pending) (later h : List LinkAct) (act : LinkAct) (w :
   ruled = rule_settles n p h act ∙ ap (filter_map (settles act)) w.left
 
   done_on : filter_map (settled_at p) (act ∷ later) ++ (filter_map (settled_at p) (link_rule (seen n h) act) ++ filter_map (settled_at p) (drop 1 (link_due n h)))
-      ≡ option_to_list (or_else (outcome_in r later) (settles act r))
+      ≡ option_to_list (option_or (outcome_in r later) (settles act r))
   done_on = elim (cases_Bool (is_own act))
       [ inl own ↦ by_own (settled_at p act) refl (w_done own) | inr other ↦ rw (other_settles_none p act other) (join_step _ _ _ r act (outcome_in r later) (rest other) ruled) ]
     where
@@ -298,7 +298,7 @@ module _ (n p : ℕ) (r : Pending) (later h : List LinkAct) (act : LinkAct) (w :
       by_own : (v : Option Outcome) → settled_at p act ≡ v →
           filter_map (settled_at p) later ++ cons_option (settled_at p act) (filter_map (settled_at p) (drop 1 (link_due n h))) ≡ option_to_list (outcome_in r later) →
           cons_option (settled_at p act) (filter_map (settled_at p) later) ++ (filter_map (settled_at p) (link_rule (seen n h) act) ++ filter_map (settled_at p) (drop 1 (link_due n h)))
-          ≡ option_to_list (or_else (outcome_in r later) (settles act r))
+          ≡ option_to_list (option_or (outcome_in r later) (settles act r))
       by_own None e d = rw e (join_step _ _ _ r act (outcome_in r later) (rw e at d) ruled)
       by_own (Some v) e d = rw e (move_step _ _ _ v r act (outcome_in r later) (rw e at d) ruled)
 

@@ -1,11 +1,13 @@
 -- What follows from the definition of a good run, in plain words.
-use Rattle.std.specs.Prelude.{◌≡◌, ℕ, ◌≤◌, length, ◌==◌, ◌&&◌, nat_lt, true, false, ◌⊎◌, if◌then◌else◌, List, [], ◌∷◌, ◌++◌, map, Option, Some, None}
+use Rattle.std.specs.Prelude.{◌≡◌, ℕ, ◌≤◌, length, ◌==◌, ◌&&◌, ◌||◌, not, nat_lt, Bool, true, false, ◌⊎◌, if◌then◌else◌, List, [], ◌∷◌, ◌++◌, map, Option, Some, None}
 use Rattle.std.specs.List.{filter_map, flat_map}
+use Rattle.std.specs.Option.{option_or}
 use Rattle.pulsar_client.specs.declared.act.Arrival.{Arrival}
 use Rattle.pulsar_client.specs.declared.act.Arrival.TheVariants.{Message}
 use Rattle.pulsar_client.specs.declared.act.Outcome.{Outcome}
 use Rattle.pulsar_client.specs.declared.act.Outcome.TheVariants as outcome
 use Rattle.pulsar_client.specs.declared.act.Request.{Request}
+use Rattle.pulsar_client.specs.declared.act.Request.TheVariants as request
 use Rattle.pulsar_client.specs.declared.act.End.{End}
 use Rattle.pulsar_client.specs.declared.act.LinkAct.{LinkAct}
 use Rattle.pulsar_client.specs.declared.act.LinkAct.TheVariants.{Comes, Requests, Ended, Settled}
@@ -18,7 +20,8 @@ use Rattle.pulsar_client.specs.declared.act.Act.TheVariants.{Calls, Told, Dials,
 use Rattle.pulsar_client.specs.declared.tables.Base.TheVariants.{Runs}
 use Rattle.pulsar_client.specs.Content.{Asked, Heard, Called, Poll, Shown, Queued, Write, Hands, Faults, Said, Done, Failed}
 use Rattle.pulsar_client.specs.Items.{Item, Given, Faulty}
-use Rattle.pulsar_client.specs.Subscriptions.{Subscription, brings_message, polled}
+use Rattle.pulsar_client.specs.RawCall.{CloseConsumer}
+use Rattle.pulsar_client.specs.Subscriptions.{Subscription, brings_message, is_last, polled, waiting_on}
 use Rattle.pulsar_client.specs.Messages.{Reply}
 use Rattle.pulsar_client.specs.Failures.{Failure, OfConnection, Shutdown, Exhausted}
 use Rattle.pulsar_client.specs.Plan.{failed, next, fault_of, topics_told, raw_told, request_number}
@@ -51,15 +54,10 @@ Rests o log = due o log ++ to_come o log ≡ []
 abbrev pub request_at : ℕ → List LinkAct → Request → ℕ → List Pending
 request_at first_number h request ticket = waits_for (awaited (next_id first_number h) request) (queued h) ticket
 
--- the first of these that is there
-abbrev pub or_else : {A : Type 0} → Option A → Option A → Option A
-or_else None y = y
-or_else (Some x) y = Some x
-
 -- what the first of the later acts that settles a request settles it as; these are newest first
 abbrev pub outcome_in : Pending → List LinkAct → Option Outcome
 outcome_in r [] = None
-outcome_in r (act ∷ later) = or_else (outcome_in r later) (settles act r)
+outcome_in r (act ∷ later) = option_or (outcome_in r later) (settles act r)
 
 -- what an act says that the request of a place was settled as
 abbrev pub settled_at : ℕ → LinkAct → Option Outcome
@@ -204,6 +202,32 @@ AnswersOnce = (o : Chosen) (log : List Entry) (t : ℕ) (p : Procedure) →
     IsRun o log → Rests o log → procedure_of t log ≡ Some p → length (answers t log) ≤ 1
 
 -- CONSUMERS
+
+-- A consumer ends with an act of its link: a frame that ends its topic, or by which the broker closes it, while these requests
+-- wait; the asking for its own close; the end of the link.
+abbrev pub is_end : List Pending → (number : ℕ) → LinkAct → Bool
+is_end waiting number (Comes (Message m)) = is_last m waiting number
+is_end waiting number (Requests (request.Raw now (CloseConsumer closed)) ticket) = closed == number
+is_end waiting number (Ended end) = true
+is_end waiting number _ = false
+
+-- an end of the consumer of this number on this link stands in the later part of a log
+abbrev pub has_end : Chosen → (link number : ℕ) → (later older : List Entry) → Bool
+has_end o link number [] older = false
+has_end o link number (Does (OnLink l act) ∷ later) older =
+    has_end o link number later older || ((link == l) && is_end (waiting_on (seen_link o (later ++ older) l)) number act)
+has_end o link number (_ ∷ later) older = has_end o link number later older
+
+-- this consumer, whether it hears or not, and whatever it has not given yet
+abbrev pub Remains : Subscription → (is_live : Bool) → Option Subscription → Type 0
+Remains s is_live later =
+    (unread : List Item) × (later ≡ Some (record { link = s.link; number = s.number; topic = s.topic; is_live = is_live; unread = unread }))
+
+-- a consumer remains what it is, and hears up to the first of its ends, and never again
+abbrev pub ConsumersHearToTheirEnd : Type 0
+ConsumersHearToTheirEnd = (o : Chosen) (later older : List Entry) (t : ℕ) (s : Subscription) →
+    IsRun o (later ++ older) → subscription o t older ≡ Some s →
+    Remains s (s.is_live && not (has_end o s.link s.number later older)) (subscription o t (later ++ older))
 
 -- what an act of a link brings to a consumer: the items of a message that bears its number on its link while it hears
 abbrev pub brought : ℕ → LinkAct → Option Subscription → List Item

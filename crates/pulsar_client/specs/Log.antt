@@ -1,7 +1,7 @@
 -- The log of a run, newest entry first: the events, and the acts between them.
 -- First the readings of a log, and then what arises from an act.
 use Rattle.std.specs.Prelude.{ℕ, ◌+◌, ◌-◌, ◌^◌, ◌==◌, nat_lt, Bool, true, false, ◌&&◌, if◌then◌else◌, List, [], ◌∷◌, ◌++◌, map, Option, Some, None}
-use Rattle.std.specs.Option.{is_some, option_map, unwrap_or}
+use Rattle.std.specs.Option.{is_some, option_map, option_or, unwrap_or}
 use Rattle.std.specs.Ordering.{nat_cmp}
 use Rattle.std.specs.BTreeSet.{insert_key}
 use Rattle.pulsar_wire.specs.declared.error.IoKind.{IoKind}
@@ -128,16 +128,11 @@ waiting (Does (OnLink k Readied) ∷ log) = []
 waiting (Does (OnLink k (Ended end)) ∷ log) = []
 waiting (_ ∷ log) = waiting log
 
--- the newer of two, where there is one
-abbrev pub or_new : {A : Type 0} → Option A → Option A → Option A
-or_new (Some new) old = Some new
-or_new None old = old
-
 -- the raw consumer that the call of a ticket made, if it made one
 abbrev pub subscription : Chosen → ℕ → List Entry → Option Subscription
 subscription o t [] = None
 subscription o t (Does (Told ticket outcome) ∷ log) =
-    if t == ticket then or_new (made_by (procedure_of t log) (outcomes_of t log) outcome) (subscription o t log) else subscription o t log
+    if t == ticket then option_or (made_by (procedure_of t log) (outcomes_of t log) outcome) (subscription o t log) else subscription o t log
 subscription o t (Does (OnLink l act) ∷ log) = option_map (after_link_act l act (waiting_on (seen_link o log l))) (subscription o t log)
 subscription o t (Does (Polls ticket) ∷ log) = if t == ticket then option_map after_poll (subscription o t log) else subscription o t log
 subscription o t (_ ∷ log) = subscription o t log

@@ -3,7 +3,7 @@ use Rattle.std.specs.Prelude.{◌≡◌, ℕ, suc, ◌+◌, ◌==◌, ◌&&◌, 
 use Rattle.std.specs.Ordering.{nat_cmp}
 use Rattle.std.specs.BTreeMap.{get}
 use Rattle.std.specs.BTreeSet.{insert_key}
-use Rattle.std.specs.Option.{option_map}
+use Rattle.std.specs.Option.{option_map, option_or}
 use Rattle.std.specs.List.{list_all}
 use Rattle.std.specs.Global.{Vec}
 use Rattle.pulsar_client.specs.declared.event.Event.{Event}
@@ -35,7 +35,7 @@ use Rattle.pulsar_client.specs.Plan.{building, is_answer, topics, topics_replied
 use Rattle.pulsar_client.specs.RawCall.{Subscribe}
 use Rattle.pulsar_client.specs.Subscriptions.{Subscription, after_link_act, after_poll, fresh, waiting_on}
 use Rattle.pulsar_client.specs.Subscribers.{subscription_at}
-use Rattle.pulsar_client.specs.Log.{Chosen, Entry, built, calls, procedure_of, outcomes_of, links, base, waiting, seen_link, unread_of, or_new, subscription, View, opens}
+use Rattle.pulsar_client.specs.Log.{Chosen, Entry, built, calls, procedure_of, outcomes_of, links, base, waiting, seen_link, unread_of, subscription, View, opens}
 use Rattle.pulsar_frame.specs.Frame.{left}
 use Rattle.pulsar_client.specs.Good.{rank, is_before, IsRun, Step, steps, due, to_come}
 
@@ -245,7 +245,7 @@ unread_after _ n l row = row
 
 -- a consumer after an act, from the requests that wait on each link, and what each call makes at an outcome
 abbrev pub consumer_after : (ℕ → List Pending) → (ℕ → Outcome → Option Subscription) → Act → ℕ → Option Subscription → Option Subscription
-consumer_after waiting makes (Told ticket outcome) t row = if t == ticket then or_new (makes t outcome) row else row
+consumer_after waiting makes (Told ticket outcome) t row = if t == ticket then option_or (makes t outcome) row else row
 consumer_after waiting makes (OnLink l act) t row = option_map (after_link_act l act (waiting l)) row
 consumer_after waiting makes (Polls ticket) t row = if t == ticket then option_map after_poll row else row
 consumer_after waiting makes _ t row = row

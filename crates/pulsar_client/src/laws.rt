@@ -2,7 +2,7 @@
 
 ghost use Rattle.pulsar_client.specs.Address.{KnownAddresses};
 ghost use Rattle.pulsar_client.specs.Client.{StoodForIsGood};
-ghost use Rattle.pulsar_client.specs.Laws.{ActsFollow, AnswersOnce, CallsAreMade, CallsFollow, Determined, FailuresAreTold, FramesAreCut, LinksAlone, OutcomesAreCaused, PollsAreAnswered, PollsFollow, SettledByFirst, WrittenInOrder, WritesFollow};
+ghost use Rattle.pulsar_client.specs.Laws.{ActsFollow, AnswersOnce, CallsAreMade, CallsFollow, ConsumersHearToTheirEnd, Determined, FailuresAreTold, FramesAreCut, LinksAlone, OutcomesAreCaused, PollsAreAnswered, PollsFollow, SettledByFirst, WrittenInOrder, WritesFollow};
 ghost use Rattle.pulsar_client.specs.Traces.{IsGood, attempt_fails, consumer_is_polled, reply_comes_early, request_is_answered};
 
 /// Options and events determine the effects of a good run.
@@ -66,6 +66,11 @@ pub fn outcomes_are_caused()
 /// The bytes that are written to a connection are the first of those that were queued there, in order.
 pub fn writes_follow()
     ensures { WritesFollow }
+{}
+
+/// A consumer remains what it is, and hears up to the first of its ends, and never again.
+pub fn consumers_hear_to_their_end()
+    ensures { ConsumersHearToTheirEnd }
 {}
 
 /// The polls of a consumer give the items that have come to it, in order, each once and without gap.

@@ -87,7 +87,7 @@ impl Tables {
         Ok(out)
     }
 
-    /// An event names a live link, in a state that the link is in, or a consumer; a call always is live.
+    /// An event names a live link, in a state that the link is in, or a consumer; a call always does.
     pub fn is_live(&self, event: &Event) -> bool
         ensures { result ≡ is_live (view_of self.now) (heard event.now) }
     {

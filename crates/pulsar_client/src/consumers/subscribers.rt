@@ -1,13 +1,12 @@
 //! The raw consumers of a client.
 
-ghost use Rattle.std.specs.Prelude.{◌≡◌, ◌==◌, ◌&&◌, ◌||◌, ◌++◌, [], ℕ, Bool, List, None, Some, IfOk, OnOk, if◌then◌else◌, map};
-ghost use Rattle.std.specs.BTreeMap.{get};
+ghost use Rattle.std.specs.Prelude.{◌≡◌, ◌==◌, ◌&&◌, [], ℕ, List, None, Some, IfOk, OnOk, if◌then◌else◌};
 ghost use Rattle.std.specs.BTreeSet.{insert_key};
-ghost use Rattle.std.specs.Option.{is_some, option_map};
+ghost use Rattle.std.specs.Option.{is_some, option_copied, option_map};
 ghost use Rattle.std.specs.Ordering.{nat_cmp};
 ghost use Rattle.pulsar_client.specs.Content.{shown};
 ghost use Rattle.pulsar_client.specs.Link.{Pending};
-ghost use Rattle.pulsar_client.specs.Subscribers.{answered_by, fresh_in, given_at, is_listed, kept_at, live_at, subscription_at, with_items};
+ghost use Rattle.pulsar_client.specs.Subscribers.{answered_by, fresh_in, given_at, is_listed, kept_at, live_at, subscription_at, tickets_of, with_items};
 ghost use Rattle.pulsar_client.specs.Subscriptions.{after_link_act, after_poll, polled, settles_one};
 
 use crate::act::{Arrival, LinkAct, Request};
@@ -121,10 +120,7 @@ impl Subscribers {
         ensures live { OnOk result (self.new.live ≡ self.old.live) }
         ensures rows { OnOk result ((t : ℕ) → kept_at self.new.rows t ≡ given_at (live_at self.old.live link number) link number message.now.items t (kept_at self.old.rows t)) }
     {
-        let Some(numbers) = self.live.get(&link) else {
-            return Ok(());
-        };
-        let Some(tickets) = numbers.get(&number) else {
+        let Some(tickets) = listed(&self.live, link, number) else {
             return Ok(());
         };
         give_all(&mut self.rows, tickets, link, number, message)
@@ -144,6 +140,17 @@ impl Subscribers {
     }
 }
 
+/// The tickets of those of this number on the link that hear, if any ever did.
+fn listed(
+    live: &BTreeMap<u64, BTreeMap<u64, BTreeSet<u64>>>,
+    link: u64,
+    number: u64,
+) -> Option<&BTreeSet<u64>>
+    ensures { tickets_of (option_copied result) ≡ live_at live.now link number }
+{
+    live.get(&link)?.get(&number)
+}
+
 /// A consumer of this number on the link hears.
 fn is_live(
     live: &BTreeMap<u64, BTreeMap<u64, BTreeSet<u64>>>,
@@ -153,13 +160,10 @@ fn is_live(
 ) -> bool
     ensures { result ≡ is_listed ticket (live_at live.now link number) }
 {
-    let Some(numbers) = live.get(&link) else {
-        return false;
-    };
-    let Some(tickets) = numbers.get(&number) else {
-        return false;
-    };
-    tickets.contains(&ticket)
+    match listed(live, link, number) {
+        Some(tickets) => tickets.contains(&ticket),
+        None => false,
+    }
 }
 
 /// A ticket is listed under a number of a link.

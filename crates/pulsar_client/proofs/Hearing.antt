@@ -12,8 +12,7 @@ use Rattle.pulsar_client.specs.Items.{Item}
 use Rattle.pulsar_client.specs.RawCall.{CreateProducer, Send, CloseProducer, Subscribe, Flow, Ack, CloseConsumer}
 use Rattle.pulsar_client.specs.Subscriptions.{Subscription, after_frame, after_link_act, after_own, after_poll, ended, made_by, waiting_on}
 use Rattle.pulsar_client.specs.Link.{Pending}
-use Rattle.pulsar_client.specs.Log.{Chosen, Entry, Begins, Does, seen_link, procedure_of, outcomes_of, subscription}
-use Rattle.pulsar_client.specs.Good.{IsRun}
+use Rattle.pulsar_client.specs.Log.{Entry, Begins, Does, seen_link, procedure_of, outcomes_of, subscription}
 use Rattle.pulsar_client.specs.Laws.{is_end, has_end, Remains, ConsumersHearToTheirEnd}
 use Rattle.pulsar_client.proofs.Polls.{Makes, makes, hears}
 

@@ -203,8 +203,8 @@ AnswersOnce = (o : Chosen) (log : List Entry) (t : ℕ) (p : Procedure) →
 
 -- CONSUMERS
 
--- A consumer ends with an act of its link: a frame that ends its topic, or by which the broker closes it, while these requests
--- wait; the asking for its own close; the end of the link.
+-- A consumer ends with an act of its link: a frame that ends its topic; a close by the broker that answers none of the requests
+-- that wait; the asking for its own close; the end of the link.
 abbrev pub is_end : List Pending → (number : ℕ) → LinkAct → Bool
 is_end waiting number (Comes (Message m)) = is_last m waiting number
 is_end waiting number (Requests (request.Raw now (CloseConsumer closed)) ticket) = closed == number

@@ -16,5 +16,3 @@ pub mod pulsar;
 pub mod raw_call;
 mod session;
 mod tables;
-#[cfg(test)]
-mod tests;

@@ -10,5 +10,3 @@ pub mod message;
 pub mod payload;
 pub mod reader;
 mod sized;
-#[cfg(test)]
-mod tests;

@@ -1,9 +1,9 @@
 //! Each public call, where there is memory.
 
-use crate::effect::{Answer, Effect, Settlement};
-use crate::event::{Call, Event};
-use crate::options::ClientOptions;
-use crate::pulsar::Pulsar;
+use pulsar_client::effect::{Answer, Effect, Settlement};
+use pulsar_client::event::{Call, Event};
+use pulsar_client::options::ClientOptions;
+use pulsar_client::pulsar::Pulsar;
 use pulsar_wire::commands::topics::Mode;
 use pulsar_wire::error::{ConnectionError, Error, IoKind, NoMemory};
 use std::alloc::Global;

@@ -1,9 +1,9 @@
 //! Frames that other programs wrote, whole, cut and broken.
 
-use crate::codec::Codec;
-use crate::message::Message;
-use crate::reader::FrameReader;
 use bytes::BytesMut;
+use pulsar_frame::codec::Codec;
+use pulsar_frame::message::Message;
+use pulsar_frame::reader::FrameReader;
 use pulsar_wire::error::{ConnectionError, Reason};
 use pulsar_wire::key::RequestKey;
 use std::alloc::Global;

@@ -7,6 +7,7 @@ ghost use Rattle.pulsar_client.specs.Messages.{Reply, is_connected, is_number, r
 ghost use Rattle.pulsar_client.specs.Subscribers.{item_of};
 ghost use Rattle.pulsar_client.specs.RawCall.{Words, words};
 
+use crate::bodies;
 use crate::consumers::items::give_with;
 use crate::consumers::subscriber::Unread;
 use crate::effect::Answer;
@@ -131,7 +132,7 @@ impl Received {
     pub fn is_connected(&self) -> bool
         ensures { result ≡ is_connected self.now }
     {
-        self.is(3)
+        self.is(bodies::CONNECTED)
     }
 
     /// Its body has this number.

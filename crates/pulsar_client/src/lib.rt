@@ -3,6 +3,7 @@
 
 mod act;
 mod address;
+mod bodies;
 mod consumers;
 mod content;
 pub mod effect;

@@ -13,7 +13,7 @@ ghost use Rattle.pulsar_frame.specs.Refusal.{or_refused};
 ghost use Rattle.pulsar_frame.specs.Tail.{tail_at};
 
 use crate::checksum::{Checksum, crc32c};
-use crate::sized::{split_bytes, split_sized, write_sized};
+use crate::sized::{split_sized, write_sized};
 use pulsar_wire::commands::metadata::MessageMetadata;
 use pulsar_wire::encoding::message::{decode, encoded_len};
 use pulsar_wire::encoding::read_error::ReadError;

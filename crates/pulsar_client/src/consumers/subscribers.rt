@@ -10,6 +10,7 @@ ghost use Rattle.pulsar_client.specs.Subscribers.{answered_by, fresh_in, given_a
 ghost use Rattle.pulsar_client.specs.Subscriptions.{after_link_act, after_poll, polled, settles_one};
 
 use crate::act::{Arrival, LinkAct, Request};
+use crate::bodies;
 use crate::consumers::subscriber::Subscriber;
 use crate::content::Received;
 use crate::effect::Effect;
@@ -90,9 +91,9 @@ impl Subscribers {
     {
         match message.key() {
             Some(RequestKey::Consumer { consumer_id }) => {
-                if message.is(9) {
+                if message.is(bodies::MESSAGE) {
                     self.give(link, consumer_id, message)
-                } else if message.is(27) {
+                } else if message.is(bodies::REACHED_END_OF_TOPIC) {
                     self.close(link, consumer_id)
                 } else {
                     Ok(())

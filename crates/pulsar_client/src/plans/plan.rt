@@ -11,6 +11,7 @@ ghost use Rattle.pulsar_client.specs.Subscribers.{fresh_in};
 ghost use Rattle.pulsar_client.specs.Tables.{start, plan_action, plan_after, plan_makes, raw_start};
 
 use crate::act::{Action, Outcome, Procedure, Request};
+use crate::bodies;
 use crate::consumers::subscriber::Subscriber;
 use crate::content::{RawRequest, Received, Text, Verdict};
 use crate::effect::Answer;
@@ -96,7 +97,12 @@ pub fn made(alloc: Global, plan: &Plan, outcome: &Outcome) -> Result<Option<Subs
                 topic,
             },
             Outcome::Replied(reply),
-        ) if is_answer(4, reply) => Ok(Some(Subscriber::new(alloc, *link, *number, topic.copy()?))),
+        ) if is_answer(bodies::SUBSCRIBE, reply) => Ok(Some(Subscriber::new(
+            alloc,
+            *link,
+            *number,
+            topic.copy()?,
+        ))),
         _ => Ok(None),
     }
 }
@@ -121,7 +127,10 @@ pub fn told(alloc: Global, plan: Plan, outcome: Outcome) -> Result<(Action, Opti
         Plan::Asking { namespace, mode } => Ok(asking(namespace, mode, outcome)),
         Plan::Asked => Ok((Action::Answer(topics_answer(alloc, outcome)?), None)),
         Plan::Raw(request) => Ok((Action::Answer(raw_answer(alloc, request, outcome)?), None)),
-        Plan::Subscribing { .. } => Ok((Action::Answer(raw_answer(alloc, 4, outcome)?), None)),
+        Plan::Subscribing { .. } => Ok((
+            Action::Answer(raw_answer(alloc, bodies::SUBSCRIBE, outcome)?),
+            None,
+        )),
     }
 }
 
@@ -251,15 +260,19 @@ fn answer_of(request: u32) -> Option<u32>
     ensures { result ≡ answers request }
 {
     match request {
-        6 => Some(7),
-        5 => Some(17),
-        4 | 12 | 15 | 16 | 28 => Some(13),
-        21 => Some(22),
-        23 => Some(24),
-        25 => Some(26),
-        29 => Some(30),
-        32 => Some(33),
-        34 => Some(35),
+        bodies::SEND => Some(bodies::SEND_RECEIPT),
+        bodies::PRODUCER => Some(bodies::PRODUCER_SUCCESS),
+        bodies::SUBSCRIBE
+        | bodies::UNSUBSCRIBE
+        | bodies::CLOSE_PRODUCER
+        | bodies::CLOSE_CONSUMER
+        | bodies::SEEK => Some(bodies::SUCCESS),
+        bodies::PARTITION_METADATA => Some(bodies::PARTITION_METADATA_RESPONSE),
+        bodies::LOOKUP_TOPIC => Some(bodies::LOOKUP_TOPIC_RESPONSE),
+        bodies::CONSUMER_STATS => Some(bodies::CONSUMER_STATS_RESPONSE),
+        bodies::GET_LAST_MESSAGE_ID => Some(bodies::GET_LAST_MESSAGE_ID_RESPONSE),
+        bodies::GET_TOPICS_OF_NAMESPACE => Some(bodies::GET_TOPICS_OF_NAMESPACE_RESPONSE),
+        bodies::GET_SCHEMA => Some(bodies::GET_SCHEMA_RESPONSE),
         _ => None,
     }
 }

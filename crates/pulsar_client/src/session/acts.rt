@@ -437,8 +437,8 @@ pub fn settlement(outcome: &Outcome) -> Settlement
         | Outcome::Canceled
         | Outcome::Disconnected
         | Outcome::Exhausted
+        | Outcome::NotFound
         | Outcome::Unencodable
         | Outcome::Queued => Settlement::Disconnected,
-        | Outcome::NotFound => Settlement::Disconnected,
     }
 }

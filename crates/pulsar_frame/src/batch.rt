@@ -7,8 +7,6 @@ ghost use Rattle.pulsar_frame.specs.Batch.{AppendsEntry, ReadsBatch, entries, en
 
 pub mod iterator;
 pub mod laws;
-#[cfg(test)]
-mod tests;
 
 use crate::sized::{split_bytes, split_sized, write_sized};
 use pulsar_wire::commands::metadata::SingleMessageMetadata;

@@ -7,8 +7,6 @@ mod blocks;
 mod folding;
 pub mod laws;
 mod tables;
-#[cfg(test)]
-mod tests;
 
 use crate::checksum::folding::after_all;
 use std::marker::Model;

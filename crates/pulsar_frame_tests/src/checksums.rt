@@ -1,6 +1,6 @@
 //! Checksums of RFC 3720, B.4, and the definition's own program beside the tables.
 
-use crate::checksum::{Checksum, crc32c};
+use pulsar_frame::checksum::{Checksum, crc32c};
 use std::alloc::Global;
 use std::test::Fail;
 

@@ -1,8 +1,8 @@
 //! Batches that were put together by hand.
 
-use crate::batch::iterator::BatchedMessageIterator;
-use crate::batch::{BatchedMessage, parse_batched_message};
-use crate::payload::{Metadata, Payload};
+use pulsar_frame::batch::iterator::BatchedMessageIterator;
+use pulsar_frame::batch::{BatchedMessage, parse_batched_message};
+use pulsar_frame::payload::{Metadata, Payload};
 use pulsar_wire::commands::ids::MessageIdData;
 use pulsar_wire::commands::metadata::SingleMessageMetadata;
 use pulsar_wire::error::{ConnectionError, Reason};

@@ -1,4 +1,4 @@
-//! What no clause of the client says: that each public call answers where there is memory, and which URLs have an address.
+//! That each public call of the client answers where there is memory, which no clause says, and URLs beside their addresses.
 #![tactic(auto)]
 
 #[cfg(test)]

@@ -1,5 +1,5 @@
-//! What no clause of frames says: frames that other programs wrote, known checksums, and that each call answers where there
-//! is memory.
+//! That each public call of frames answers where there is memory, which no clause says, and values from outside beside the
+//! definitions: frames that other programs wrote, batches put together by hand, known checksums.
 #![tactic(auto)]
 
 #[cfg(test)]

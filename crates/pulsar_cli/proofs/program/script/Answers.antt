@@ -1,5 +1,7 @@
-use Rattle.pulsar_cli.proofs.Completes.{completes}
+use Rattle.std.proofs.Common.{refl, ap}
+use Rattle.pulsar_cli.specs.Script.{seen}
+use Rattle.pulsar_cli.proofs.Gives.{ran-done, ran-halted, ran-new}
 use Rattle.pulsar_cli.proofs.program.script.Goals as goal
 
-pub returns-clause-complete : goal.returns-clause-complete
-returns-clause-complete g c = λ bytes h is le a b. completes c.read_and_print.result h is le (c.read_and_print.ensures.runs bytes h) c.read_and_print.ensures.limits c.read_and_print.ensures.source_failed c.read_and_print.ensures.sink_failed a b
+pub returns-in_default : goal.returns-in_default
+returns-in_default g c = ran-new _ _ refl refl

@@ -17,7 +17,7 @@ use crate::stop::Stop;
 use pulsar_client::event::Event;
 use pulsar_client::options::ClientOptions;
 use pulsar_client::pulsar::Pulsar;
-use pulsar_wire::error::NoMemory;
+use pulsar_wire::NoMemory;
 use std::alloc::Global;
 
 /// A script that is being read.

@@ -2,10 +2,9 @@
 
 use pulsar_cli::push_step;
 use pulsar_client::effect::Effect;
-use pulsar_wire::commands::enumerations::ServerError;
-use pulsar_wire::error::{
+use pulsar_wire::{
     AuthenticationError, ConnectionError, ConsumerError, Error, IoKind, ProducerError, Reason,
-    ServiceDiscoveryError,
+    ServerError, ServiceDiscoveryError,
 };
 use std::alloc::{AllocError, Global};
 use std::process::Abort;

@@ -8,7 +8,7 @@ ghost use Rattle.pulsar_cli.specs.Shown.{draft_of};
 
 use crate::grammar::word::{find, is, number, text, word_bytes};
 use pulsar_client::raw_call::ProducerMessage;
-use pulsar_wire::error::NoMemory;
+use pulsar_wire::NoMemory;
 use std::alloc::Global;
 
 /// What the words so far say.

@@ -8,7 +8,7 @@ ghost use Rattle.pulsar_cli.specs.Words.{digits_from, escaped, hex, in_range, is
 ghost use Rattle.pulsar_cli.specs.Shown.{IsWithinLine, more_digits};
 
 use hex::FromHexError;
-use pulsar_wire::error::NoMemory;
+use pulsar_wire::NoMemory;
 use std::alloc::{AllocError, Global};
 
 /// The words of a line, with one blank between.

@@ -9,14 +9,11 @@ ghost use Rattle.pulsar_client.specs.Messages.{body_bytes};
 ghost use Rattle.pulsar_cli.specs.Text as printed;
 ghost use Rattle.pulsar_cli.specs.WordText.{hex};
 
-use crate::printing::body::encode_body;
 use crate::printing::error::push_error;
 use crate::printing::word::{push_hex, push_word};
 use pulsar_client::effect::{Answer, Effect, Handed, Settlement};
-use pulsar_wire::commands::base::Body;
-use pulsar_wire::commands::producer::CommandSendReceipt;
 use pulsar_wire::encoding::message::encode;
-use pulsar_wire::error::Error;
+use pulsar_wire::{Body, CommandSendReceipt, Error};
 use std::alloc::AllocError;
 
 /// A step: the number of its event, and its effects.
@@ -131,7 +128,7 @@ fn push_body(out: &mut String, body: &Body) -> Result<(), AllocError>
     ensures { OnOk result (string_bytes out.new ≡ string_bytes out.old ++ hex (body_bytes (body_values body.now))) }
 {
     let mut bytes = Vec::new(*out.allocator());
-    encode_body(body, &mut bytes)?;
+    body.encode(&mut bytes)?;
     push_hex(out, &bytes)
 }
 

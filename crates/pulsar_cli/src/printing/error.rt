@@ -8,10 +8,9 @@ ghost use Rattle.pulsar_cli.specs.ErrorText as printed;
 ghost use Rattle.pulsar_cli.specs.WordText.{word};
 
 use crate::printing::word::push_word;
-use pulsar_wire::commands::enumerations::ServerError;
-use pulsar_wire::error::{
+use pulsar_wire::{
     AuthenticationError, ConnectionError, ConsumerError, Error, IoKind, ProducerError, Reason,
-    ServiceDiscoveryError,
+    ServerError, ServiceDiscoveryError,
 };
 use std::alloc::AllocError;
 

@@ -3,7 +3,6 @@ use Rattle.std.proofs.Common.{inl, inr, ◌⊎◌, ◌≡◌, ℕ, ◌+◌, ◌�
 use Rattle.std.specs.Prelude.{◌↔◌, Result, Ok, Err, OnOk, IfErr, MatchResult}
 use Rattle.std.proofs.lemmas.List.{take-append-drop}
 use Rattle.std.proofs.lemmas.Option.{none-some}
-use Rattle.std.proofs.Math.Option.{some-injective}
 use Rattle.std.proofs.Math.Seq.{drop-append_seam, drop-length}
 use Rattle.pulsar_client.specs.Outside.{Rose, Takes}
 use Rattle.pulsar_cli.specs.Script.{Given, HasFault, IsDone, Printed, Ran, Seen, limit}
@@ -30,14 +29,21 @@ gave-more bytes buf n g takes rest all h =
     let parts : at.0 ≡ take n buf ++ drop n at.0 = sym (take-append-drop n at.0) ∙ ap (λ (t : List ℕ). t ++ drop n at.0) (sym (takes at.0 at.2).bytes) in
     (drop n at.0, at.1 ∙ ap (λ (t : List ℕ). bytes ++ t) parts ∙ sym (append_assoc bytes (take n buf) (drop n at.0)), rest at.0 at.2)
 
+abbrev content_or : List ℕ → Option (List ℕ) → List ℕ
+content_or bytes None = bytes
+content_or bytes (Some content) = content
+
+some-same : (a b : List ℕ) → Some a ≡ Some b → a ≡ b
+some-same a b h = ap (content_or a) h
+
 -- what is left behind the bytes that were taken
 left-behind : (old new : Option (List ℕ)) (bytes : List ℕ) → Gave old new bytes → (rest : List ℕ) × ((all : List ℕ) → old ≡ Some all → (all ≡ bytes ++ rest) × (new ≡ Some rest))
 left-behind None new bytes g = ([], λ all h. absurd (none-some all h))
 left-behind (Some x) new bytes g =
-    let at = g x refl in (at.0, λ all h. (sym (some-injective x all h) ∙ at.1, at.2))
+    let at = g x refl in (at.0, λ all h. (sym (some-same x all h) ∙ at.1, at.2))
 
 -- the source is left within what it has
-pub given : (source : Seen) (bytes : List ℕ) → Gave source.before source.after bytes → Given source
+abbrev pub given : (source : Seen) (bytes : List ℕ) → Gave source.before source.after bytes → Given source
 given source bytes g =
     let behind = left-behind source.before source.after bytes g in
     let size = length-append bytes behind.0 in
@@ -50,13 +56,13 @@ given source bytes g =
     }
 
 -- the source was read to its end
-pub given-whole : (source : Seen) (bytes : List ℕ) → Gave source.before source.after bytes → ((all : List ℕ) → source.before ≡ Some all → source.after ≡ Some []) → Given source
+abbrev pub given-whole : (source : Seen) (bytes : List ℕ) → Gave source.before source.after bytes → ((all : List ℕ) → source.before ≡ Some all → source.after ≡ Some []) → Given source
 given-whole source bytes g end =
     record {
       bytes = bytes;
       count = length bytes;
       within = omega arith;
-      had = λ all h. let at = g all h in at.1 ∙ ap (λ (t : List ℕ). bytes ++ t) (some-injective at.0 [] (sym at.2 ∙ end all h)) ∙ append-nil bytes;
+      had = λ all h. let at = g all h in at.1 ∙ ap (λ (t : List ℕ). bytes ++ t) (some-same at.0 [] (sym at.2 ∙ end all h)) ∙ append-nil bytes;
       has = λ all h. end all h ∙ ap (λ (t : List ℕ). Some t) (sym (drop-length bytes));
     }
 
@@ -143,7 +149,7 @@ told-source result stop.TooLong x y a b (inl e) f h = absurd (omega (arith, e, h
 told-source result s x y a b (inr t) f h = absurd (omega (arith, t.1, h))
 
 -- the stops are apart
-IsRefusal : Stop → Type 0
+abbrev IsRefusal : Stop → Type 0
 IsRefusal stop.Refused = Unit {0}
 IsRefusal _ = ⊥
 

@@ -12,8 +12,8 @@ use pulsar_client::outside::sink::Sink;
 use pulsar_client::outside::source::Source;
 use std::alloc::Global;
 
-/// How a run ended: 0 done, 1 a line is not in the grammar, 2 the words are no form of the program, 3 want of memory, 4 the
-/// source failed, 5 the sink failed, 6 too many bytes.
+/// How a run ended: 0 done, 1 a line is not in the grammar, 2 the words are no form of the program, 3 want of memory, 4
+/// the source failed, 5 the sink failed, 6 too many bytes.
 pub type Status = u8;
 
 pub const DONE: Status = 0;

@@ -1,14 +1,13 @@
 //! A script that is being read, and its run.
 
-ghost use Rattle.std.specs.Prelude.{◌≡◌, ◌⊎◌, ◌+◌, ◌∷◌, ◌++◌, [], ℕ, List, None, Err, IfErr, IfOk, OnOk, is_some, string_bytes, true};
+ghost use Rattle.std.specs.Prelude.{◌≡◌, ◌⊎◌, ◌+◌, ◌++◌, [], ℕ, List, None, Err, IfErr, IfOk, OnOk, is_some, true};
 ghost use Rattle.pulsar_client.specs.Address.{address_of};
 ghost use Rattle.pulsar_client.specs.Client.{StandsFor};
-ghost use Rattle.pulsar_client.specs.Content.{Shown, heard};
+ghost use Rattle.pulsar_client.specs.Content.{heard};
 ghost use Rattle.pulsar_client.specs.Good.{Step};
 ghost use Rattle.pulsar_cli.specs.Grammar.{line as meaning};
-ghost use Rattle.pulsar_cli.specs.Script.{options, script_of, sets};
-ghost use Rattle.pulsar_cli.specs.Shown.{IsClient, KeepsOptions, KeepsText, Reads, Refuses, Running, line_of, said, setting_of};
-ghost use Rattle.pulsar_cli.specs.Text.{step};
+ghost use Rattle.pulsar_cli.specs.Script.{options, sets};
+ghost use Rattle.pulsar_cli.specs.Shown.{IsClient, IsNoScriptWith, KeepsOptions, KeepsReading, KeepsText, ReadsMore, Refuses, Running, Steps, line_of, said, setting_of};
 
 use crate::grammar::line::{Line, Setting, parse};
 use crate::grammar::word::cut_line;
@@ -109,7 +108,8 @@ impl Reading {
             → ReadsMore self.old self.new bytes) }
         ensures stop { IfErr result (λ stop. (stop ≡ Stop.Refused) ⊎ (stop ≡ Stop.NoMemory)) }
         ensures refused { result ≡ Err Stop.Refused
-            → (self.new ≡ self.old) × ((bytes : List ℕ) → meaning bytes ≡ line_of line → IsNoScriptWith self.old bytes) }
+            → (self.new ≡ self.old) × ((bytes : List ℕ)
+            → meaning bytes ≡ line_of line → IsNoScriptWith self.old bytes) }
     {
         match line {
             Line::Nothing => {

@@ -250,7 +250,8 @@ fn push_broker_error(
     code: Option<ServerError>,
     text: &Option<String>,
 ) -> Result<(), AllocError>
-    ensures { OnOk result (string_bytes out.new ≡ string_bytes out.old ++ printed.broker_error code (option_map string_bytes text.now)) }
+    ensures { OnOk result (string_bytes out.new ≡ string_bytes out.old
+        ++ printed.broker_error code (option_map string_bytes text.now)) }
 {
     out.push(' ')?;
     push_code(out, code)?;

@@ -10,12 +10,12 @@ use Rattle.pulsar_cli.proofs.program.read.Goals as goal
 
 pub returns-in_default-clause-has_read : goal.returns-in_default-clause-has_read
 returns-in_default-clause-has_read g c =
-    read-halts stop.NoMemory _ _ [] (gave-none _) (λ rest. prints-stopped rest (prints-new _ c.requires)) tt (λ e. absurd (omega (arith, e)), λ lt. absurd (omega (arith, lt)))
+    read-halts stop.NoMemory {r = c.args.reading.now} _ _ [] (gave-none _) (λ rest. prints-stopped rest (prints-new _ c.requires)) tt (λ e. absurd (omega (arith, e)), λ lt. absurd (omega (arith, lt)))
 
 pub returns-in_default-take-clause-has_read : goal.returns-in_default-take-clause-has_read
 returns-in_default-take-clause-has_read g c =
     let inv = c.loop-n.invariant in
-    read-halts stop.Source _ _ inv.bytes (gave-same inv.bytes inv.gave c.in_default-take.ensures.kept) (λ rest. prints-stopped rest inv.prints) (rose-from _ _ _ inv.sources c.in_default-take.ensures.rises) (λ e. absurd (omega (arith, e)), λ lt. absurd (omega (arith, lt, inv.count, inv.within)))
+    read-halts stop.Source {r = c.loop-n.reading} _ _ inv.bytes (gave-same inv.bytes inv.gave c.in_default-take.ensures.kept) (λ rest. prints-stopped rest inv.prints) (rose-from _ _ _ inv.sources c.in_default-take.ensures.rises) (λ e. absurd (omega (arith, e)), λ lt. absurd (omega (arith, lt, inv.count, inv.within)))
 
 pub returns-in_default-checked_sub-clause-has_read : goal.returns-in_default-checked_sub-clause-has_read
 returns-in_default-checked_sub-clause-has_read g c =
@@ -26,7 +26,7 @@ returns-in_default-checked_sub-clause-has_read g c =
     let same : length buf ≡ length c.deref_mut.result.now = c.take.auto.buf in
     let size : length (take n buf) ≡ n = length-take-le n buf (omega (arith, same, c.in-Ok-take.ensures.within)) in
     let both = length-append inv.bytes (take n buf) in
-    read-halts stop.TooLong _ _ (inv.bytes ++ take n buf) (gave-more inv.bytes buf n inv.gave c.in-Ok-take.ensures.taken c.in-Ok-take.ensures.rest) (λ rest. rw (append_assoc inv.bytes (take n buf) rest) (prints-stopped (take n buf ++ rest) inv.prints)) tt (λ e. omega (arith, past, inv.count, inv.within), λ lt. refl)
+    read-halts stop.TooLong {r = c.loop-n.reading} _ _ (inv.bytes ++ take n buf) (gave-more inv.bytes buf n inv.gave c.in-Ok-take.ensures.taken c.in-Ok-take.ensures.rest) (λ rest. rw (append_assoc inv.bytes (take n buf) rest) (prints-stopped (take n buf ++ rest) inv.prints)) tt (λ e. omega (arith, past, inv.count, inv.within), λ lt. refl)
 
 pub returns-then-n-eq0-clause-has_read : goal.returns-then-n-eq0-clause-has_read
 returns-then-n-eq0-clause-has_read g c =
@@ -79,4 +79,4 @@ returns-in_err-turn-clause-has_read g c =
     let both = length-append inv.bytes (take n buf) in
     let halts : (rest : List ℕ) → Halts c.in_err-turn.field-0.0 c.turn.new.reading (g.K.Sink.holds c.args.sink.now) (g.K.Sink.holds c.turn.new.sink) ((inv.bytes ++ take n buf) ++ rest) = λ rest. rw (append_assoc inv.bytes (take n buf) rest, sym is) (c.in_err-turn.ensures.runs _ inv.bytes rest inv.prints) in
     rw err
-    (read-halts s _ _ (inv.bytes ++ take n buf) (gave-more inv.bytes buf n inv.gave c.in-Ok-take.ensures.taken c.in-Ok-take.ensures.rest) halts (turn-faults s _ _ (g.K.Sink.faults c.args.sink.now) (g.K.Sink.faults c.loop-n.sink) (g.K.Sink.faults c.turn.new.sink) inv.sinks c.in_err-turn.ensures.stop) (λ e. absurd (turn-status s _ _ c.in_err-turn.ensures.stop e), λ lt. absurd (omega (arith, lt, inv.within, inv.count, c.in-Some.ensures))))
+    (read-halts s {r = c.turn.new.reading} _ _ (inv.bytes ++ take n buf) (gave-more inv.bytes buf n inv.gave c.in-Ok-take.ensures.taken c.in-Ok-take.ensures.rest) halts (turn-faults s _ _ (g.K.Sink.faults c.args.sink.now) (g.K.Sink.faults c.loop-n.sink) (g.K.Sink.faults c.turn.new.sink) inv.sinks c.in_err-turn.ensures.stop) (λ e. absurd (turn-status s _ _ c.in_err-turn.ensures.stop e), λ lt. absurd (omega (arith, lt, inv.within, inv.count, c.in-Some.ensures))))

@@ -33,11 +33,11 @@ abbrev content_or : List ℕ → Option (List ℕ) → List ℕ
 content_or bytes None = bytes
 content_or bytes (Some content) = content
 
-some-same : (a b : List ℕ) → Some a ≡ Some b → a ≡ b
+pub some-same : (a b : List ℕ) → Some a ≡ Some b → a ≡ b
 some-same a b h = ap (content_or a) h
 
 -- what is left behind the bytes that were taken
-left-behind : (old new : Option (List ℕ)) (bytes : List ℕ) → Gave old new bytes → (rest : List ℕ) × ((all : List ℕ) → old ≡ Some all → (all ≡ bytes ++ rest) × (new ≡ Some rest))
+pub left-behind : (old new : Option (List ℕ)) (bytes : List ℕ) → Gave old new bytes → (rest : List ℕ) × ((all : List ℕ) → old ≡ Some all → (all ≡ bytes ++ rest) × (new ≡ Some rest))
 left-behind None new bytes g = ([], λ all h. absurd (none-some all h))
 left-behind (Some x) new bytes g =
     let at = g x refl in (at.0, λ all h. (sym (some-same x all h) ∙ at.1, at.2))

@@ -6,7 +6,7 @@ pub returns-in_default : goal.returns-in_default
 returns-in_default g c = ran-new _ _ refl refl
 
 pub returns-in-Ok-read : goal.returns-in-Ok-read
-returns-in-Ok-read g c = ran-done c.in-Ok.ensures.has_read
+returns-in-Ok-read g c = ran-done c.in-Ok-read.ensures.has_read
 
 pub returns : goal.returns
 returns g c =

@@ -3,6 +3,4 @@
 pub mod body;
 pub mod effect;
 pub mod error;
-#[cfg(test)]
-mod tests;
 pub mod word;

@@ -1,0 +1,15 @@
+//! Scripts: what stands on the lines of one, the run of a client that it describes, and the text of that run.
+#![tactic(auto)]
+
+mod grammar;
+pub mod laws;
+mod printing;
+mod program;
+mod reading;
+mod standard;
+mod stop;
+
+pub use crate::program::{
+    DONE, NO_FORM, NO_MEMORY, REFUSED, SINK_FAILED, SOURCE_FAILED, Status, TOO_LONG, run, script,
+};
+pub use crate::standard::{StandardInput, StandardOutput};

@@ -67,21 +67,10 @@ item_values x = (message_id_values x.0, payload_values x.1)
 
 -- field 11 of a frame's metadata
 abbrev pub num_messages_in_batch : Values message_metadata → Option ℤ
-num_messages_in_batch m = m.1.1.1.1.1.1.1.1.1.0
-
--- fields 1, 2, 5 and 7 of an entry's metadata
-
-abbrev pub properties : Values single_message_metadata → List (Values key_value)
-properties e = e.0
-
-abbrev pub partition_key : Values single_message_metadata → Option (List ℕ)
-partition_key e = e.1.0
-
-abbrev pub event_time : Values single_message_metadata → Option ℕ
-event_time e = e.1.1.1.0
-
-abbrev pub ordering_key : Values single_message_metadata → Option (List ℕ)
-ordering_key e = e.1.1.1.1.0
+num_messages_in_batch m =
+    let (producer_name, sequence_id, publish_time, properties, replicated_from, partition_key, replicate_to, compression,
+      uncompressed_size, num_messages_in_batch, others) = m in
+    num_messages_in_batch
 
 -- how many entries a payload has, where its metadata says so
 abbrev pub count_of : Option ℤ → Option ℕ
@@ -93,15 +82,21 @@ batch_count m = count_of (num_messages_in_batch m)
 
 -- an id with this index
 abbrev pub with_index : ℕ → Values message_id → Values message_id
-with_index i id = id.0 & id.1.0 & id.1.1.0 & Some (pos i) & id.1.1.1.1
+with_index i id =
+    let (ledger_id, entry_id, partition, batch_index, others) = id in
+    ledger_id & entry_id & partition & Some (pos i) & others
 
 -- The metadata of a frame, with what an entry says in place of its own: properties, partition key, event time and ordering
 -- key, also where the entry has none.
 abbrev pub of_entry : Values message_metadata → Values single_message_metadata → Values message_metadata
 of_entry m e =
-    m.0 & m.1.0 & m.1.1.0 & properties e & m.1.1.1.1.0 & partition_key e & m.1.1.1.1.1.1.0 & m.1.1.1.1.1.1.1.0 & m.1.1.1.1.1.1.1.1.0 & m.1.1.1.1.1.1.1.1.1.0
-    & event_time e & m.1.1.1.1.1.1.1.1.1.1.1.0 & m.1.1.1.1.1.1.1.1.1.1.1.1.0 & m.1.1.1.1.1.1.1.1.1.1.1.1.1.0 & m.1.1.1.1.1.1.1.1.1.1.1.1.1.1.0
-    & ordering_key e & m.1.1.1.1.1.1.1.1.1.1.1.1.1.1.1.1
+    let (producer_name, sequence_id, publish_time, own_properties, replicated_from, own_partition_key, replicate_to,
+      compression, uncompressed_size, num_messages_in_batch, own_event_time, encryption_keys, encryption_algo,
+      encryption_param, schema_version, own_ordering_key, deliver_at_time, end) = m in
+    let (properties, partition_key, payload_size, event_time, ordering_key, end) = e in
+    producer_name & sequence_id & publish_time & properties & replicated_from & partition_key & replicate_to
+    & compression & uncompressed_size & num_messages_in_batch & event_time & encryption_keys & encryption_algo
+    & encryption_param & schema_version & ordering_key & deliver_at_time & end
 
 -- the message of an entry
 abbrev pub item : ℕ → Values message_id → Values message_metadata → EntryValues → Item
@@ -155,6 +150,11 @@ SaysItsSize e = int32_at 3 single_message_metadata e.metadata ≡ Some (pos (len
 abbrev pub IsSound : EntryValues → Type 0
 IsSound e = InRange single_message_metadata e.metadata × FitsSize e × SaysItsSize e
 
+-- its bytes are read again, whatever follows
+abbrev pub ReadsBack : EntryValues → Type 0
+ReadsBack e = (t : List ℕ) → entry_at (entry_bytes e ++ t) ≡ Some (e, t)
+
 -- The bytes of a batch, read with its count, give its entries unchanged and in order, whatever follows.
 abbrev pub BatchesReadBack : Type 0
-BatchesReadBack = (es : List EntryValues) (t : List ℕ) → AllByRecursion IsSound es → entries (length es) (batch_bytes es ++ t) ≡ Some es
+BatchesReadBack = (es : List EntryValues) (t : List ℕ) → AllByRecursion IsSound es
+    → entries (length es) (batch_bytes es ++ t) ≡ Some es

@@ -12,6 +12,7 @@ use Rattle.pulsar_frame.specs.Refusal.{◌>>=◌, or_refused, refused_unless}
 use Rattle.pulsar_frame.specs.Sized.{with_size}
 use Rattle.pulsar_frame.specs.Tail.{tail_at}
 use Rattle.pulsar_frame.specs.declared.payload.Payload.{Payload}
+use Rattle.pulsar_frame.specs.declared.payload.PayloadParts.{PayloadParts}
 
 -- a payload, and what a frame says of it
 pub record PayloadValues : Type 0 where
@@ -20,6 +21,10 @@ pub record PayloadValues : Type 0 where
 
 abbrev pub payload_values : Payload → PayloadValues
 payload_values p = record { metadata = message_metadata_values p.metadata; bytes = p.bytes.items }
+
+-- the payload that these are the parts of
+abbrev pub parts_values : PayloadParts → PayloadValues
+parts_values p = record { metadata = message_metadata_values p.metadata.now; bytes = p.bytes.now }
 
 -- what a payload begins with
 abbrev pub magic_number : ℕ

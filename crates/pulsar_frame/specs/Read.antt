@@ -1,5 +1,7 @@
 -- For the code's own contracts: what is read on the way to a message.
 use Rattle.std.specs.Prelude.{◌≡◌, ℕ, ◌^◌, ◌<◌, ◌≤◌, List, [], length, drop, Option, Some, None, Result, Ok, Err}
+use Rattle.pulsar_wire.specs.declared.encoding.read_error.ReadError.{ReadError}
+use Rattle.pulsar_wire.specs.declared.encoding.read_error.ReadError.TheVariants as read
 use Rattle.pulsar_wire.specs.declared.error.ConnectionError.{ConnectionError}
 use Rattle.pulsar_wire.specs.declared.error.ConnectionError.TheVariants.{Decoding, NoMemory}
 use Rattle.pulsar_wire.specs.declared.error.Reason.{Reason}
@@ -17,6 +19,11 @@ Holds view (Ok x) reading = reading ≡ Ok (view x)
 Holds view (Err (Decoding r)) reading = reading ≡ Err r
 Holds view (Err NoMemory) reading = Unit {0}
 Holds view (Err _) reading = ⊥
+
+-- what a caller is told of bytes that are refused for this reason, unless memory ran out
+abbrev pub refusal : Reason → ReadError → ConnectionError
+refusal r read.Malformed = Decoding r
+refusal r read.NoMemory = NoMemory
 
 -- what the total in front of bytes counts, with the length of the frame
 abbrev pub SplitsFrame : Option (List ℕ × ℕ) → List ℕ → Type 0

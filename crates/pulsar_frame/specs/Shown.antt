@@ -6,13 +6,19 @@ use Rattle.pulsar_wire.specs.Views.{command_values}
 use Rattle.pulsar_wire.specs.declared.error.ConnectionError.{ConnectionError}
 use Rattle.pulsar_wire.specs.declared.error.ConnectionError.TheVariants.{Decoding, Encoding, NoMemory}
 use Rattle.pulsar_wire.specs.declared.error.Reason.TheVariants.{Frame}
+use Rattle.pulsar_wire.specs.declared.commands.base.BaseCommand.{BaseCommand}
 use Rattle.pulsar_frame.specs.declared.message.Message.{Message}
+use Rattle.pulsar_frame.specs.declared.payload.PayloadParts.{PayloadParts}
 use Rattle.pulsar_frame.specs.Message.{MessageValues}
-use Rattle.pulsar_frame.specs.Payload.{payload_values}
+use Rattle.pulsar_frame.specs.Payload.{parts_values, payload_values}
 use Rattle.pulsar_frame.specs.Frame.{Short, Refused, Whole, front, frame_bytes, FitsFrame}
 
 abbrev pub message_values : Message → MessageValues
 message_values m = record { command = command_values m.command; payload = option_map payload_values m.payload }
+
+-- the message of this command and this payload, whose bytes are borrowed
+abbrev pub message_of : BaseCommand → Option PayloadParts → MessageValues
+message_of command payload = record { command = command_values command; payload = option_map parts_values payload }
 
 -- A call takes a frame from the front of a stream: it has its message, and what follows stays. Elsewhere all stays: nothing is
 -- answered where there is less than a frame, a frame that is refused has its reason, and memory may run out.

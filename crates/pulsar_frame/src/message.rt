@@ -3,16 +3,17 @@
 ghost use Rattle.std.specs.Prelude.{◌≡◌, ◌↔◌, ◌^◌, ◌<◌, ◌++◌, length, IsTrue, IfOk, IfSome, IfNone, OnOk, Some};
 ghost use Rattle.std.specs.Option.{option_map};
 ghost use Rattle.pulsar_wire.specs.Command.{command_spelling};
-ghost use Rattle.pulsar_frame.specs.Frame.{FitsFrame, IsReadAgain, counted_bytes};
+ghost use Rattle.pulsar_frame.specs.Frame.{FitsFrame, IsReadAgain, counted_bytes, frame_bytes};
 ghost use Rattle.pulsar_frame.specs.Payload.{bytes_behind, payload_values};
 ghost use Rattle.pulsar_frame.specs.Read.{IsReadBehind, described_bytes};
 ghost use Rattle.pulsar_wire.specs.Rows.{producer_success};
 ghost use Rattle.pulsar_wire.specs.Views.{body_values, producer_success_values};
 ghost use Rattle.pulsar_wire.specs.declared.key.RequestKey.TheVariants as keys;
 ghost use Rattle.pulsar_frame.specs.Key.{body_key, key};
-ghost use Rattle.pulsar_frame.specs.Shown.{message_values, IsFrameOf};
+ghost use Rattle.pulsar_frame.specs.Shown.{message_of, message_values, IsFrameOf};
+ghost use Rattle.pulsar_wire.specs.Written.{capped};
 
-use crate::payload::{Payload, PayloadSizes};
+use crate::payload::{Payload, PayloadParts, PayloadSizes};
 use pulsar_wire::commands::base::{BaseCommand, Body, command_len, encode_command};
 use pulsar_wire::commands::producer::CommandProducerSuccess;
 use pulsar_wire::error::{ConnectionError, NoMemory, Reason};
@@ -76,9 +77,19 @@ impl Message {
         }
     }
 
+    /// How many bytes its frame has. It stops at the greatest u64.
+    pub fn frame_len(&self) -> u64
+        ensures { result ≡ capped (length (frame_bytes (message_values self.now))) }
+    {
+        match &self.payload {
+            Some(payload) => frame_len(&self.command, Some(payload.parts())),
+            None => frame_len(&self.command, None),
+        }
+    }
+
     /// Its frame. The answer is `Encoding(Frame)` exactly where a size does not fit a u32, and there is no other error
     /// but want of memory.
-    #[tactic(auto, unfolding(crate::specs::Frame::FitsFrame, crate::specs::Frame::frame_bytes, crate::specs::Frame::counted_bytes, crate::specs::Sized::with_size))]
+    #[tactic(auto, unfolding(crate::specs::Frame::frame_bytes, crate::specs::Frame::counted_bytes, crate::specs::Frame::FitsFrame, crate::specs::Sized::with_size))]
     pub fn to_frame(&self, alloc: Global) -> Result<Vec<u8>, ConnectionError>
         ensures frame { IsFrameOf (message_values self.now) result }
         ensures again { OnOk result (IsReadAgain (message_values self.now)) }
@@ -111,6 +122,21 @@ impl Message {
             metadata: behind.metadata,
         })
     }
+}
+
+/// How many bytes the frame has of a message with this command and this payload, so that no payload is copied to ask for
+/// it. It stops at the greatest u64. A message fits exactly where this is below 2^32 + 4, since its total counts no more
+/// than a u32 holds.
+pub fn frame_len(command: &BaseCommand, payload: Option<PayloadParts<'_>>) -> u64
+    ensures { result ≡ capped (length (frame_bytes (message_of command.now payload))) }
+{
+    let behind = match payload {
+        Some(payload) => payload.len(),
+        None => 0,
+    };
+    u64::from(2 * SIZE_LEN)
+        .saturating_add(command_len(command))
+        .saturating_add(behind)
 }
 
 /// The sizes of what stands behind a command.

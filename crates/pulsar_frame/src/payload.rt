@@ -7,16 +7,17 @@ ghost use Rattle.pulsar_wire.specs.Rows.{message_metadata};
 ghost use Rattle.pulsar_wire.specs.Views.{message_metadata_values};
 ghost use Rattle.pulsar_wire.specs.declared.error.Reason.TheVariants as reason;
 ghost use Rattle.pulsar_frame.specs.Checksum.{crc32c};
-ghost use Rattle.pulsar_frame.specs.Payload.{covered_bytes, payload_at, payload_bytes, payload_values};
+ghost use Rattle.pulsar_frame.specs.Payload.{covered_bytes, parts_values, payload_at, payload_bytes, payload_values};
 ghost use Rattle.pulsar_frame.specs.Read.{Holds, tail_seen};
+ghost use Rattle.pulsar_wire.specs.Written.{capped};
 ghost use Rattle.pulsar_frame.specs.Refusal.{or_refused};
 ghost use Rattle.pulsar_frame.specs.Tail.{tail_at};
 
 use crate::checksum::{Checksum, crc32c};
+use crate::refused::refusal;
 use crate::sized::{split_sized, write_sized};
 use pulsar_wire::commands::metadata::MessageMetadata;
 use pulsar_wire::encoding::message::{decode, encoded_len};
-use pulsar_wire::encoding::read_error::ReadError;
 use pulsar_wire::error::{ConnectionError, NoMemory, Reason};
 use std::alloc::{AllocError, Global};
 
@@ -34,6 +35,25 @@ pub type Metadata = MessageMetadata;
 pub struct Payload {
     pub metadata: Metadata,
     pub bytes: Vec<u8>,
+}
+
+/// A payload that is not made yet: what is said of it, and its bytes, which are borrowed.
+#[derive(Clone, Copy)]
+pub struct PayloadParts<'a> {
+    pub metadata: &'a Metadata,
+    pub bytes: &'a [u8],
+}
+
+impl PayloadParts<'_> {
+    /// How many bytes stand behind the command. It stops at the greatest u64.
+    #[tactic(auto, using(crate::proofs::Payloads::length-payload_bytes))]
+    pub(crate) fn len(&self) -> u64
+        ensures { result ≡ capped (length (payload_bytes (parts_values self.now))) }
+    {
+        HEAD_LEN
+            .saturating_add(encoded_len(self.metadata))
+            .saturating_add(self.bytes.len() as u64)
+    }
 }
 
 /// What stands behind a command, where anything does.
@@ -56,6 +76,16 @@ pub(crate) struct PayloadSizes {
 }
 
 impl Payload {
+    /// Its parts.
+    pub fn parts(&self) -> PayloadParts<'_>
+        ensures { parts_values result ≡ payload_values self.now }
+    {
+        PayloadParts {
+            metadata: &self.metadata,
+            bytes: &self.bytes,
+        }
+    }
+
     /// A payload with the same content.
     pub fn copy(&self) -> Result<Payload, NoMemory>
         ensures { IfOk result (λ payload. payload_values payload ≡ payload_values self.now) }
@@ -149,12 +179,12 @@ fn split_tail(bytes: &[u8]) -> Option<Tail<'_>>
     })
 }
 
+#[tactic(auto, using(crate::proofs::Refusals::holds_refused))]
 fn read_metadata(alloc: Global, bytes: &[u8]) -> Result<Metadata, ConnectionError>
     ensures { Holds message_metadata_values result (or_refused reason.Metadata (reading message_metadata bytes.now)) }
 {
     match decode(alloc, bytes) {
         Ok(metadata) => Ok(metadata),
-        Err(ReadError::Malformed) => Err(ConnectionError::Decoding(Reason::Metadata)),
-        Err(ReadError::NoMemory) => Err(ConnectionError::NoMemory),
+        Err(e) => Err(refusal(Reason::Metadata, e)),
     }
 }

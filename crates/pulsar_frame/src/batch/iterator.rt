@@ -8,6 +8,7 @@ ghost use Rattle.pulsar_frame.specs.Payload.{payload_values};
 
 use crate::batch::{BatchedMessage, read_entries};
 use crate::payload::{Metadata, Payload};
+use crate::refused::refusal;
 use pulsar_wire::commands::ids::MessageIdData;
 use pulsar_wire::commands::metadata::{MessageMetadata, SingleMessageMetadata};
 use pulsar_wire::encoding::copying::{copy_messages, copy_optional, copy_values};
@@ -38,6 +39,7 @@ impl BatchedMessageIterator {
     /// The messages of the batch that came under this id. Each has the id with its index, and the metadata of the payload
     /// with what its entry says in place of it. It is `Decoding(Batch)` exactly where the metadata does not say how many
     /// entries there are, or they are not there, and there is no other error but want of memory.
+    #[tactic(auto, using(crate::proofs::Refusals::batch_refused))]
     pub fn new(message_id: MessageIdData, payload: Payload) -> Result<Self, ConnectionError>
         ensures { ReadsBatch (λ items. items) result (batch_items (message_id_values message_id) (payload_values payload)) }
     {
@@ -45,8 +47,7 @@ impl BatchedMessageIterator {
             Ok(items) => Ok(BatchedMessageIterator {
                 items: items.into_iter(),
             }),
-            Err(ReadError::Malformed) => Err(ConnectionError::Decoding(Reason::Batch)),
-            Err(ReadError::NoMemory) => Err(ConnectionError::NoMemory),
+            Err(e) => Err(refusal(Reason::Batch, e)),
         }
     }
 }

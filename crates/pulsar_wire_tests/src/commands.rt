@@ -107,7 +107,7 @@ fn copies(command: BaseCommand) -> Result<bool, NoMemory> {
 
 /// A command that says connected, with nothing in it.
 fn connected(alloc: Global) -> BaseCommand {
-    BaseCommand::new(Body::Connected(CommandConnected::new(alloc)))
+    BaseCommand::with_body(Body::Connected(CommandConnected::new(alloc)))
 }
 
 #[test]
@@ -120,7 +120,7 @@ fn joins_the_occurrences_of_a_body(rt: HostRuntime) -> Result<(), Fail> {
 
 /// A command that says connect, by a client that names itself so.
 fn connect(version: String, auth_method_name: Option<String>) -> BaseCommand {
-    BaseCommand::new(Body::Connect(CommandConnect {
+    BaseCommand::with_body(Body::Connect(CommandConnect {
         client_version: version,
         auth_data: None,
         protocol_version: Some(12),

@@ -85,7 +85,7 @@ pub fn is_command(
     bytes: &[u8],
 ) -> Result<(), Fail> {
     assert_eq!(rt; body.name(), name);
-    let command = BaseCommand::new(body);
+    let command = BaseCommand::with_body(body);
     let mut whole = Vec::from_slice(alloc, head)?;
     whole.extend_from_slice(bytes)?;
     is_written(rt, alloc, &command, &whole)?;

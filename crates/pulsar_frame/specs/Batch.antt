@@ -1,13 +1,15 @@
 -- Batches: several messages in one payload.  (Pulsar binary protocol, Batch messages)
-use Rattle.std.specs.Prelude.{◌≡◌, ℕ, zero, suc, ℤ, pos, negsuc, ◌^◌, ◌<◌, List, [], ◌∷◌, ◌++◌, length, Option, Some, None, Result, Ok, Err}
+use Rattle.std.specs.Prelude.{◌≡◌, ℕ, zero, suc, ℤ, pos, negsuc, ◌^◌, ◌<◌, List, [], ◌∷◌, ◌++◌, length, map, Option, Some, None, Result, Ok, Err}
 use Rattle.std.specs.List.{flat_map, AllByRecursion}
 use Rattle.pulsar_wire.specs.Field.{◌>>=◌, bytes_at}
 use Rattle.pulsar_wire.specs.Row.{Values, ◌&◌, reading, spelling}
 use Rattle.pulsar_wire.specs.Fits.{InRange}
 use Rattle.pulsar_wire.specs.declared.commands.ids.MessageIdData.{MessageIdData}
+use Rattle.pulsar_wire.specs.declared.commands.metadata.MessageMetadata.{MessageMetadata}
+use Rattle.pulsar_wire.specs.declared.commands.metadata.SingleMessageMetadata.{SingleMessageMetadata}
 use Rattle.pulsar_wire.specs.At.{int32_at}
 use Rattle.pulsar_wire.specs.Rows.{key_value, message_id, message_metadata, single_message_metadata}
-use Rattle.pulsar_wire.specs.Views.{message_id_values, single_message_metadata_values}
+use Rattle.pulsar_wire.specs.Views.{message_id_values, message_metadata_values, single_message_metadata_values}
 use Rattle.pulsar_wire.specs.declared.error.ConnectionError.{ConnectionError}
 use Rattle.pulsar_wire.specs.declared.error.ConnectionError.TheVariants.{Decoding, Encoding, NoMemory}
 use Rattle.pulsar_wire.specs.declared.error.Reason.TheVariants.{Frame, Batch}
@@ -68,8 +70,19 @@ item_values x = (message_id_values x.0, payload_values x.1)
 -- field 11 of a frame's metadata
 abbrev pub num_messages_in_batch : Values message_metadata → Option ℤ
 num_messages_in_batch m =
-    let (producer_name, sequence_id, publish_time, properties, replicated_from, partition_key, replicate_to, compression,
-      uncompressed_size, num_messages_in_batch, others) = m in
+    let (
+      producer_name,
+      sequence_id,
+      publish_time,
+      properties,
+      replicated_from,
+      partition_key,
+      replicate_to,
+      compression,
+      uncompressed_size,
+      num_messages_in_batch,
+      others,
+    ) = m in
     num_messages_in_batch
 
 -- how many entries a payload has, where its metadata says so
@@ -86,13 +99,30 @@ with_index i id =
     let (ledger_id, entry_id, partition, batch_index, others) = id in
     ledger_id & entry_id & partition & Some (pos i) & others
 
--- The metadata of a frame, with what an entry says in place of its own: properties, partition key, event time and ordering
--- key, also where the entry has none.
+-- The metadata of a frame, with what an entry says in place of its own: properties, partition key, event time and
+-- ordering key, also where the entry has none.
 abbrev pub of_entry : Values message_metadata → Values single_message_metadata → Values message_metadata
 of_entry m e =
-    let (producer_name, sequence_id, publish_time, own_properties, replicated_from, own_partition_key, replicate_to,
-      compression, uncompressed_size, num_messages_in_batch, own_event_time, encryption_keys, encryption_algo,
-      encryption_param, schema_version, own_ordering_key, deliver_at_time, end) = m in
+    let (
+      producer_name,
+      sequence_id,
+      publish_time,
+      own_properties,
+      replicated_from,
+      own_partition_key,
+      replicate_to,
+      compression,
+      uncompressed_size,
+      num_messages_in_batch,
+      own_event_time,
+      encryption_keys,
+      encryption_algo,
+      encryption_param,
+      schema_version,
+      own_ordering_key,
+      deliver_at_time,
+      end,
+    ) = m in
     let (properties, partition_key, payload_size, event_time, ordering_key, end) = e in
     producer_name & sequence_id & publish_time & properties & replicated_from & partition_key & replicate_to
     & compression & uncompressed_size & num_messages_in_batch & event_time & encryption_keys & encryption_algo
@@ -113,6 +143,22 @@ batch_items id p = do
   count ← batch_count p.metadata
   es ← entries count p.bytes
   Some (items_from 0 id p.metadata es)
+
+-- the messages of this payload, under this id
+abbrev pub items_under : MessageIdData → Payload → Option (List Item)
+items_under id p = batch_items (message_id_values id) (payload_values p)
+
+-- the message of this entry, and the messages of these entries
+abbrev pub item_made : ℕ → MessageIdData → MessageMetadata → BatchedMessage → Item
+item_made i id m e = item i (message_id_values id) (message_metadata_values m) (entry_values e)
+
+abbrev pub items_made : MessageIdData → MessageMetadata → List BatchedMessage → List Item
+items_made id m es = items_from 0 (message_id_values id) (message_metadata_values m) (map entry_values es)
+
+-- the metadata of a message is that of its frame, with what its entry says
+abbrev pub IsDescribed : MessageMetadata → SingleMessageMetadata → MessageMetadata → Type 0
+IsDescribed m e made =
+    message_metadata_values made ≡ of_entry (message_metadata_values m) (single_message_metadata_values e)
 
 -- ---- writing
 

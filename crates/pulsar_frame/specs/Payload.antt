@@ -32,8 +32,8 @@ magic_number = 0x0e01
 
 -- ---- reading
 
--- The payload of these bytes. They are refused by the first of these that holds: they are fewer than they say, they have
--- another magic number, the metadata isn't a MessageMetadata, the checksum differs.
+-- The payload of these bytes. They are refused by the first of these that holds: they are fewer than they say, they
+-- have another magic number, the metadata isn't a MessageMetadata, the checksum differs.
 unfoldable pub payload_at : List ℕ → Result PayloadValues Reason
 payload_at bytes = do
   tail ← or_refused reason.Payload (tail_at bytes)

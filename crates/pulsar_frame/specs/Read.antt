@@ -5,8 +5,8 @@ use Rattle.pulsar_wire.specs.declared.encoding.read_error.ReadError.TheVariants 
 use Rattle.pulsar_wire.specs.declared.error.ConnectionError.{ConnectionError}
 use Rattle.pulsar_wire.specs.declared.error.ConnectionError.TheVariants.{Decoding, NoMemory}
 use Rattle.pulsar_wire.specs.declared.error.Reason.{Reason}
-use Rattle.pulsar_frame.specs.Sized.{sized_at}
-use Rattle.pulsar_wire.specs.Row.{reading, spelling}
+use Rattle.pulsar_frame.specs.Sized.{IsSpelledBack, sized_at}
+use Rattle.pulsar_wire.specs.Row.{spelling}
 use Rattle.pulsar_wire.specs.Rows.{message_metadata}
 use Rattle.pulsar_frame.specs.Checksum.{crc32c}
 use Rattle.pulsar_frame.specs.Payload.{PayloadValues, covered_bytes}
@@ -32,14 +32,24 @@ SplitsFrame None bytes = sized_at bytes ≡ None
 
 -- what stands behind a command, as the code has cut it
 abbrev pub tail_seen : Split → Tail
-tail_seen t = record { magic = t.magic; checksum = t.checksum; covered = t.covered.now; metadata = t.metadata.now; payload = t.payload.now }
+tail_seen t =
+    record {
+      magic = t.magic;
+      checksum = t.checksum;
+      covered = t.covered.now;
+      metadata = t.metadata.now;
+      payload = t.payload.now;
+    }
 
 -- the metadata of a payload, where there is one
 abbrev pub described_bytes : Option PayloadValues → List ℕ
 described_bytes None = []
 described_bytes (Some p) = spelling message_metadata p.metadata
 
+abbrev pub described_len : Option PayloadValues → ℕ
+described_len p = length (described_bytes p)
+
 -- what was written of a payload is read again: its metadata, and its checksum
 abbrev pub IsReadBehind : Option PayloadValues → Type 0
 IsReadBehind None = Unit {0}
-IsReadBehind (Some p) = (reading message_metadata (spelling message_metadata p.metadata) ≡ Some p.metadata) × (crc32c (covered_bytes p) < 2 ^ 32)
+IsReadBehind (Some p) = IsSpelledBack message_metadata p.metadata × (crc32c (covered_bytes p) < 2 ^ 32)

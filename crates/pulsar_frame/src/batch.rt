@@ -28,9 +28,9 @@ pub struct BatchedMessage {
 
 impl BatchedMessage {
     /// Writes its entry behind what `w` has, with the metadata as it is: whoever fills it sets `payload_size` to the
-    /// size of the payload, and then it is read again, whatever follows. The answer is `Encoding(Frame)` exactly where the size of the metadata does not fit a u32,
-    /// and else `Encoding(Batch)` exactly where that of the payload does not fit an i32, and there is no other error but
-    /// want of memory. In these `w` stays as it was.
+    /// size of the payload, and then the entry is read again, whatever follows. The answer is `Encoding(Frame)` exactly
+    /// where the size of the metadata does not fit a u32, and else `Encoding(Batch)` exactly where that of the payload
+    /// does not fit an i32, and there is no other error but want of memory. In these `w` stays as it was.
     pub fn serialize(&self, w: &mut Vec<u8>) -> Result<(), ConnectionError>
         ensures entry { AppendsEntry result (entry_values self.now) w.old.items w.new.items }
         ensures again { OnOk result (SaysItsSize (entry_values self.now) → ReadsBack (entry_values self.now)) }
@@ -49,8 +49,8 @@ impl BatchedMessage {
     }
 }
 
-/// The first `count` entries of a payload. It is `Decoding(Batch)` exactly where one of them is cut, broken or of negative
-/// size, and there is no other error but want of memory. What follows them is not looked at.
+/// The first `count` entries of a payload. It is `Decoding(Batch)` exactly where one of them is cut, broken or of
+/// negative size, and there is no other error but want of memory. What follows them is not looked at.
 #[tactic(auto, using(crate::proofs::Refusals::batch_refused))]
 pub fn parse_batched_message(
     alloc: Global,

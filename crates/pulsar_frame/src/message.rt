@@ -5,11 +5,10 @@ ghost use Rattle.std.specs.Option.{option_map};
 ghost use Rattle.pulsar_wire.specs.Command.{command_spelling};
 ghost use Rattle.pulsar_frame.specs.Frame.{FitsFrame, IsReadAgain, counted_bytes, frame_bytes};
 ghost use Rattle.pulsar_frame.specs.Payload.{bytes_behind, payload_values};
-ghost use Rattle.pulsar_frame.specs.Read.{IsReadBehind, described_bytes};
-ghost use Rattle.pulsar_wire.specs.Rows.{producer_success};
-ghost use Rattle.pulsar_wire.specs.Views.{body_values, producer_success_values};
+ghost use Rattle.pulsar_frame.specs.Read.{IsReadBehind, described_len};
+ghost use Rattle.pulsar_wire.specs.Views.{body_values};
 ghost use Rattle.pulsar_wire.specs.declared.key.RequestKey.TheVariants as keys;
-ghost use Rattle.pulsar_frame.specs.Key.{body_key, key};
+ghost use Rattle.pulsar_frame.specs.Key.{body_key, key, success_of};
 ghost use Rattle.pulsar_frame.specs.Shown.{message_of, message_values, IsFrameOf};
 ghost use Rattle.pulsar_wire.specs.Written.{capped};
 
@@ -110,7 +109,7 @@ impl Message {
     fn sizes(&self) -> Option<Sizes>
         ensures total { IfSome result (λ s. s.total ≡ length (counted_bytes (message_values self.now))) }
         ensures command { IfSome result (λ s. s.command ≡ length (command_spelling (message_values self.now).command)) }
-        ensures metadata { IfSome result (λ s. s.metadata ≡ length (described_bytes (message_values self.now).payload)) }
+        ensures metadata { IfSome result (λ s. s.metadata ≡ described_len (message_values self.now).payload) }
         ensures none { IfNone result (¬ FitsFrame (message_values self.now)) }
     {
         let command = u32::try_from(command_len(&self.command)).ok()?;
@@ -124,9 +123,9 @@ impl Message {
     }
 }
 
-/// How many bytes the frame has of a message with this command and this payload, so that no payload is copied to ask for
-/// it. It stops at the greatest u64. A message fits exactly where this is below 2^32 + 4, since its total counts no more
-/// than a u32 holds.
+/// How many bytes the frame has of a message with this command and this payload: nothing is copied to ask for it. It
+/// stops at the greatest u64. The message fits exactly where this is below 2^32 + 4, since the total in front has four
+/// bytes, and counts all that follow.
 pub fn frame_len(command: &BaseCommand, payload: Option<PayloadParts<'_>>) -> u64
     ensures { result ≡ capped (length (frame_bytes (message_of command.now payload))) }
 {
@@ -141,7 +140,7 @@ pub fn frame_len(command: &BaseCommand, payload: Option<PayloadParts<'_>>) -> u6
 
 /// The sizes of what stands behind a command.
 fn sizes_behind(payload: &Option<Payload>) -> Option<PayloadSizes>
-    ensures metadata { IfSome result (λ s. s.metadata ≡ length (described_bytes (option_map payload_values payload.now))) }
+    ensures metadata { IfSome result (λ s. s.metadata ≡ described_len (option_map payload_values payload.now)) }
     ensures total { IfSome result (λ s. s.total ≡ length (bytes_behind (option_map payload_values payload.now))) }
     ensures small { IfSome result (λ s. s.total < 2 ^ 34) }
     ensures none { IfNone result (¬ (length (bytes_behind (option_map payload_values payload.now)) < 2 ^ 32)) }
@@ -157,7 +156,7 @@ fn sizes_behind(payload: &Option<Payload>) -> Option<PayloadSizes>
 
 /// Writes what stands behind a command, with its metadata of this size.
 fn write_behind(payload: &Option<Payload>, size: u32, out: &mut Vec<u8>) -> Result<(), AllocError>
-    requires { size ≡ length (described_bytes (option_map payload_values payload.now)) }
+    requires { size ≡ described_len (option_map payload_values payload.now) }
     ensures ok { OnOk result (out.new.items ≡ out.old.items ++ bytes_behind (option_map payload_values payload.now)) }
     ensures again { OnOk result (IsReadBehind (option_map payload_values payload.now)) }
 {
@@ -244,7 +243,7 @@ fn of_close(consumer_id: u64, request_id: u64) -> Option<RequestKey>
 /// A producer that is not ready yet is no answer: another one follows.
 #[tactic(auto, unfolding(pulsar_wire::specs::Views::producer_success_values))]
 fn ready_key(body: &CommandProducerSuccess) -> Option<RequestKey>
-    ensures { result ≡ body_key (record { number = 17; row = producer_success; values = producer_success_values body.now }) }
+    ensures { result ≡ body_key (success_of body.now) }
 {
     match body.producer_ready {
         Some(false) => None,

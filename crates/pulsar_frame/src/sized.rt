@@ -1,9 +1,9 @@
 //! Bytes behind their size, which has four bytes, the highest first.
 
-ghost use Rattle.std.specs.Prelude.{◌≡◌, ◌++◌, length, OnOk, Some};
+ghost use Rattle.std.specs.Prelude.{◌≡◌, ◌++◌, length, OnOk};
 ghost use Rattle.std.specs.Option.{option_map};
-ghost use Rattle.pulsar_wire.specs.Row.{reading, spelling};
-ghost use Rattle.pulsar_frame.specs.Sized.{sized_at, with_size};
+ghost use Rattle.pulsar_wire.specs.Row.{spelling};
+ghost use Rattle.pulsar_frame.specs.Sized.{IsSpelledBack, sized_at, with_size};
 
 use pulsar_wire::encoding::message::{Message, encode};
 use std::alloc::AllocError;
@@ -26,7 +26,7 @@ pub(crate) fn write_sized<M: Message>(
 ) -> Result<(), AllocError>
     requires { size ≡ length (spelling M.shape (M.values message.now)) }
     ensures ok { OnOk result (out.new.items ≡ out.old.items ++ with_size (spelling M.shape (M.values message.now))) }
-    ensures again { OnOk result (reading M.shape (spelling M.shape (M.values message.now)) ≡ Some (M.values message.now)) }
+    ensures again { OnOk result (IsSpelledBack M.shape (M.values message.now)) }
 {
     out.extend_from_slice(&size.to_be_bytes())?;
     encode(message, out)

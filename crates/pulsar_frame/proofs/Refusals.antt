@@ -1,5 +1,5 @@
 -- What a caller is told of bytes that are refused.
-use Rattle.std.proofs.Common.{◌≡◌, Option, None, Result, Err, refl}
+use Rattle.std.proofs.Common.{◌≡◌, Option, Err, refl}
 use Rattle.pulsar_wire.specs.Shown.{Refuses}
 use Rattle.pulsar_wire.specs.declared.encoding.read_error.ReadError.{ReadError}
 use Rattle.pulsar_wire.specs.declared.encoding.read_error.ReadError.TheVariants.{Malformed, NoMemory}

@@ -2,13 +2,13 @@
 use Rattle.std.specs.Prelude.{◌≡◌, ℕ, zero, suc, ℤ, pos, negsuc, ◌^◌, ◌<◌, List, [], ◌∷◌, ◌++◌, length, map, Option, Some, None, Result, Ok, Err}
 use Rattle.std.specs.List.{flat_map, AllByRecursion}
 use Rattle.pulsar_wire.specs.Field.{◌>>=◌, bytes_at}
-use Rattle.pulsar_wire.specs.Row.{Values, ◌&◌, reading, spelling}
+use Rattle.pulsar_wire.specs.Row.{Values, reading, spelling}
 use Rattle.pulsar_wire.specs.Fits.{InRange}
 use Rattle.pulsar_wire.specs.declared.commands.ids.MessageIdData.{MessageIdData}
 use Rattle.pulsar_wire.specs.declared.commands.metadata.MessageMetadata.{MessageMetadata}
 use Rattle.pulsar_wire.specs.declared.commands.metadata.SingleMessageMetadata.{SingleMessageMetadata}
 use Rattle.pulsar_wire.specs.At.{int32_at}
-use Rattle.pulsar_wire.specs.Rows.{key_value, message_id, message_metadata, single_message_metadata}
+use Rattle.pulsar_wire.specs.Rows.{message_id, message_metadata, single_message_metadata}
 use Rattle.pulsar_wire.specs.Views.{message_id_values, message_metadata_values, single_message_metadata_values}
 use Rattle.pulsar_wire.specs.declared.error.ConnectionError.{ConnectionError}
 use Rattle.pulsar_wire.specs.declared.error.ConnectionError.TheVariants.{Decoding, Encoding, NoMemory}
@@ -67,23 +67,17 @@ Item = Values message_id × PayloadValues
 abbrev pub item_values : MessageIdData × Payload → Item
 item_values x = (message_id_values x.0, payload_values x.1)
 
+-- the first of a message's fields, and the others
+infixr 4 ◌▸◌
+pattern abbrev pub ◌▸◌ : {A B : Type 0} → A → B → A × B
+field ▸ others = (field, others)
+
 -- field 11 of a frame's metadata
 abbrev pub num_messages_in_batch : Values message_metadata → Option ℤ
-num_messages_in_batch m =
-    let (
-      producer_name,
-      sequence_id,
-      publish_time,
-      properties,
-      replicated_from,
-      partition_key,
-      replicate_to,
-      compression,
-      uncompressed_size,
-      num_messages_in_batch,
-      others,
-    ) = m in
-    num_messages_in_batch
+num_messages_in_batch
+    (producer_name ▸ sequence_id ▸ publish_time ▸ properties ▸ replicated_from ▸ partition_key ▸ replicate_to
+    ▸ compression ▸ uncompressed_size ▸ num_messages ▸ others) =
+    num_messages
 
 -- how many entries a payload has, where its metadata says so
 abbrev pub count_of : Option ℤ → Option ℕ
@@ -95,38 +89,20 @@ batch_count m = count_of (num_messages_in_batch m)
 
 -- an id with this index
 abbrev pub with_index : ℕ → Values message_id → Values message_id
-with_index i id =
-    let (ledger_id, entry_id, partition, batch_index, others) = id in
-    ledger_id & entry_id & partition & Some (pos i) & others
+with_index i (ledger_id ▸ entry_id ▸ partition ▸ batch_index ▸ others) =
+    ledger_id ▸ entry_id ▸ partition ▸ Some (pos i) ▸ others
 
 -- The metadata of a frame, with what an entry says in place of its own: properties, partition key, event time and
 -- ordering key, also where the entry has none.
 abbrev pub of_entry : Values message_metadata → Values single_message_metadata → Values message_metadata
-of_entry m e =
-    let (
-      producer_name,
-      sequence_id,
-      publish_time,
-      own_properties,
-      replicated_from,
-      own_partition_key,
-      replicate_to,
-      compression,
-      uncompressed_size,
-      num_messages_in_batch,
-      own_event_time,
-      encryption_keys,
-      encryption_algo,
-      encryption_param,
-      schema_version,
-      own_ordering_key,
-      deliver_at_time,
-      end,
-    ) = m in
-    let (properties, partition_key, payload_size, event_time, ordering_key, end) = e in
-    producer_name & sequence_id & publish_time & properties & replicated_from & partition_key & replicate_to
-    & compression & uncompressed_size & num_messages_in_batch & event_time & encryption_keys & encryption_algo
-    & encryption_param & schema_version & ordering_key & deliver_at_time & end
+of_entry
+    (producer_name ▸ sequence_id ▸ publish_time ▸ own_properties ▸ replicated_from ▸ own_partition_key ▸ replicate_to
+    ▸ compression ▸ uncompressed_size ▸ num_messages ▸ own_event_time ▸ encryption_keys ▸ encryption_algo
+    ▸ encryption_param ▸ schema_version ▸ own_ordering_key ▸ others)
+    (properties ▸ partition_key ▸ payload_size ▸ event_time ▸ ordering_key ▸ end) =
+    producer_name ▸ sequence_id ▸ publish_time ▸ properties ▸ replicated_from ▸ partition_key ▸ replicate_to
+    ▸ compression ▸ uncompressed_size ▸ num_messages ▸ event_time ▸ encryption_keys ▸ encryption_algo
+    ▸ encryption_param ▸ schema_version ▸ ordering_key ▸ others
 
 -- the message of an entry
 abbrev pub item : ℕ → Values message_id → Values message_metadata → EntryValues → Item

@@ -4,7 +4,7 @@ ghost use Rattle.std.specs.Prelude.{◌≡◌, ◌↔◌, ◌^◌, ◌<◌, ◌+
 ghost use Rattle.std.specs.Option.{option_map};
 ghost use Rattle.pulsar_wire.specs.Command.{command_spelling};
 ghost use Rattle.pulsar_frame.specs.Frame.{FitsFrame, IsReadAgain, counted_bytes, frame_bytes};
-ghost use Rattle.pulsar_frame.specs.Payload.{bytes_behind, payload_values};
+ghost use Rattle.pulsar_frame.specs.Payload.{bytes_behind, parts_values, payload_values};
 ghost use Rattle.pulsar_frame.specs.Read.{IsReadBehind, described_len};
 ghost use Rattle.pulsar_wire.specs.Views.{body_values};
 ghost use Rattle.pulsar_wire.specs.declared.key.RequestKey.TheVariants as keys;
@@ -21,6 +21,9 @@ use std::alloc::{AllocError, Global};
 
 /// How many bytes a size has.
 const SIZE_LEN: u32 = 4;
+
+/// How many bytes the two sizes have that stand in front of a command.
+const SIZES_LEN: u64 = 8;
 
 /// What one frame carries.
 #[derive(Debug, PartialEq, Eq, Drop)]
@@ -127,15 +130,21 @@ impl Message {
 /// stops at the greatest u64. The message fits exactly where this is below 2^32 + 4, since the total in front has four
 /// bytes, and counts all that follow.
 pub fn frame_len(command: &BaseCommand, payload: Option<PayloadParts<'_>>) -> u64
-    ensures { result ≡ capped (length (frame_bytes (message_of command.now payload))) }
+    ensures { result ≡ capped (length (frame_bytes (message_of command.now payload.entry))) }
 {
-    let behind = match payload {
+    SIZES_LEN
+        .saturating_add(command_len(command))
+        .saturating_add(len_behind(payload))
+}
+
+/// How many bytes stand behind a command. It stops at the greatest u64.
+fn len_behind(payload: Option<PayloadParts<'_>>) -> u64
+    ensures { result ≡ capped (length (bytes_behind (option_map parts_values payload.entry))) }
+{
+    match payload {
         Some(payload) => payload.len(),
         None => 0,
-    };
-    u64::from(2 * SIZE_LEN)
-        .saturating_add(command_len(command))
-        .saturating_add(behind)
+    }
 }
 
 /// The sizes of what stands behind a command.

@@ -38,7 +38,6 @@ impl BatchedMessageIterator {
     /// The messages of the batch that came under this id. Each has the id with its index, and the metadata of the
     /// payload with what its entry says in place of it. It is `Decoding(Batch)` exactly where the metadata does not say
     /// how many entries there are, or they are not there, and there is no other error but want of memory.
-    #[tactic(auto, using(crate::proofs::Refusals::batch_refused))]
     pub fn new(message_id: MessageIdData, payload: Payload) -> Result<Self, ConnectionError>
         ensures { ReadsBatch (λ items. items) result (items_under message_id payload) }
     {

@@ -1,6 +1,4 @@
-use Rattle.std.proofs.Common.{◌≡◌, length, arith}
-use Rattle.pulsar_wire.specs.Row.{spelling}
-use Rattle.pulsar_wire.specs.Rows.{single_message_metadata}
+use Rattle.std.proofs.Common.{arith}
 use Rattle.pulsar_frame.specs.Batch.{FitsSize, FitsPayload, entry_values}
 use Rattle.pulsar_frame.proofs.Batches.{entry-written, reads_back}
 use Rattle.pulsar_frame.proofs.batch.BatchedMessage.serialize.Goals as goal

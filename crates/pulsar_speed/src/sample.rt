@@ -63,7 +63,7 @@ impl Sample {
         ensures { IfOk result (λ message. message_values message ≡ sample_message self number) }
     {
         Ok(Message {
-            command: BaseCommand::new(self.body(alloc, number)),
+            command: BaseCommand::with_body(self.body(alloc, number)),
             payload: self.payload(alloc, number)?,
         })
     }

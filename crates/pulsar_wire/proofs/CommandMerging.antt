@@ -223,3 +223,7 @@ all-settled (Some fs) = open-settled fs (plain_of Required Int32 (occurrences 1 
 pub command-run : (bytes : List ℕ) → (run command_step (record { kind = pos 0; body = None }) bytes >>= λ c. Some (settled c)) ≡ command_reading bytes
 unfolding command_reading
 command-run bytes = ap (λ (o : Option CommandValues). o >>= λ c. Some (settled c)) (run-goes open_command command_step (record { kind = pos 0; body = None }) command-goes bytes) ∙ all-settled (fields bytes)
+
+-- the same from a command that says as little
+pub command-run_from : (start : CommandValues) (bytes : List ℕ) → start ≡ record { kind = pos 0; body = None } → (run command_step start bytes >>= λ c. Some (settled c)) ≡ command_reading bytes
+command-run_from start bytes empty = rw empty (command-run bytes)

@@ -87,6 +87,10 @@ Spells bytes c = command_reading bytes ≡ Some c
 
 -- ---- writing
 
+-- a body as it is written, without the command round it
+abbrev pub body_bytes : BodyValues → List ℕ
+body_bytes b = spelling b.row b.values
+
 -- a body behind its kind
 abbrev pub body_spelling : ℕ → List ℕ → List ℕ
 body_spelling n bytes = entry 1 Int32 (pos n) ++ message_entry n bytes
@@ -94,7 +98,7 @@ body_spelling n bytes = entry 1 Int32 (pos n) ++ message_entry n bytes
 -- the kind, which is that of the body where there is one, and the body
 abbrev pub spelling_of : ℤ → Option BodyValues → List ℕ
 spelling_of kind None = entry 1 Int32 kind
-spelling_of kind (Some b) = body_spelling b.number (spelling b.row b.values)
+spelling_of kind (Some b) = body_spelling b.number (body_bytes b)
 
 -- the one spelling of a command that is written
 abbrev pub command_spelling : CommandValues → List ℕ

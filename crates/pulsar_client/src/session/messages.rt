@@ -103,7 +103,7 @@ pub fn send(
     };
     let payload = payload(alloc, producer_name, sequence_id, message, publish_time)?;
     Ok(Message {
-        command: BaseCommand::new(Body::Send(body)),
+        command: BaseCommand::with_body(Body::Send(body)),
         payload: Some(payload),
     })
 }
@@ -250,7 +250,7 @@ fn bare(body: Body) -> Message
     ensures { message_values result ≡ bare (body_values body) }
 {
     Message {
-        command: BaseCommand::new(body),
+        command: BaseCommand::with_body(body),
         payload: None,
     }
 }

@@ -1,17 +1,19 @@
 //! Commands.
 
-ghost use Rattle.std.specs.Prelude.{◌≡◌, ℕ, ◌<◌, pos, ◌++◌, length, OnOk, IsOk, IfOk};
+ghost use Rattle.std.specs.Prelude.{◌≡◌, ◌≢◌, ℕ, ◌<◌, pos, [], ◌++◌, None, length, OnOk, IsOk, IfOk, IfErr};
 ghost use Rattle.std.specs.Option.{is_some, option_map};
 ghost use Rattle.pulsar_wire.specs.Field.{field_at};
 ghost use Rattle.pulsar_wire.specs.Run.{run};
-ghost use Rattle.pulsar_wire.specs.Command.{BodyValues, body_row, body_name, with_kind, body_spelling, command_reading, command_spelling, settled, Spells};
+ghost use Rattle.pulsar_wire.specs.Command.{BodyValues, body_row, body_name, body_bytes, with_kind, body_spelling, command_reading, command_spelling, settled, Spells};
 ghost use Rattle.pulsar_wire.specs.Fits.{CommandInRange};
 ghost use Rattle.pulsar_wire.specs.CommandMerge.{empty_body, grown, joined_body, command_step};
 ghost use Rattle.pulsar_wire.specs.Row.{Int32, entry, spelling};
 ghost use Rattle.pulsar_wire.specs.Written.{Appends, capped};
 ghost use Rattle.pulsar_wire.specs.Views.{body_values, command_values};
+ghost use Rattle.pulsar_wire.specs.declared.commands.base.Body.TheVariants as body;
 ghost use Rattle.pulsar_wire.specs.Shown.{Gives, Leaves, shown, field};
 
+use crate::bodies;
 use crate::commands::auth::{CommandAuthChallenge, CommandAuthResponse};
 use crate::commands::connection::{
     CommandConnect, CommandConnected, CommandError, CommandPing, CommandPong, CommandSuccess,
@@ -39,68 +41,69 @@ use crate::commands::schema::{CommandGetSchema, CommandGetSchemaResponse};
 use crate::commands::topics::{CommandGetTopicsOfNamespace, CommandGetTopicsOfNamespaceResponse};
 use crate::encoding::content::int32_of;
 use crate::encoding::field::{Value, read_field};
-use crate::encoding::message::{Message, put_required, write_message};
+use crate::encoding::message::{Message, encode, put_required, write_message};
 use crate::encoding::plain::Plain;
 use crate::encoding::read_error::ReadError;
 use crate::encoding::sink::{Count, Sink};
 use crate::error::NoMemory;
 use std::alloc::{AllocError, Global};
 
-/// The bodies: the number of each, its variant and its name. The macro that is named first is called with all of them.
-macro_rules! bodies {
+/// All bodies: the constant of each one's number, its variant and its name. The macro that is named first is called with
+/// all of them.
+macro_rules! all_bodies {
     ($each:ident $($arguments:tt)*) => {
         $each! {
             $($arguments)*;
-            2 Connect "connect",
-            3 Connected "connected",
-            4 Subscribe "subscribe",
-            5 Producer "producer",
-            6 Send "send",
-            7 SendReceipt "send_receipt",
-            8 SendError "send_error",
-            9 Message "message",
-            10 Ack "ack",
-            11 Flow "flow",
-            12 Unsubscribe "unsubscribe",
-            13 Success "success",
-            14 Error "error",
-            15 CloseProducer "close_producer",
-            16 CloseConsumer "close_consumer",
-            17 ProducerSuccess "producer_success",
-            18 Ping "ping",
-            19 Pong "pong",
-            20 RedeliverUnacknowledgedMessages "redeliver_unacknowledged_messages",
-            21 PartitionedTopicMetadata "partition_metadata",
-            22 PartitionedTopicMetadataResponse "partition_metadata_response",
-            23 LookupTopic "lookup_topic",
-            24 LookupTopicResponse "lookup_topic_response",
-            25 ConsumerStats "consumer_stats",
-            26 ConsumerStatsResponse "consumer_stats_response",
-            27 ReachedEndOfTopic "reached_end_of_topic",
-            28 Seek "seek",
-            29 GetLastMessageId "get_last_message_id",
-            30 GetLastMessageIdResponse "get_last_message_id_response",
-            31 ActiveConsumerChange "active_consumer_change",
-            32 GetTopicsOfNamespace "get_topics_of_namespace",
-            33 GetTopicsOfNamespaceResponse "get_topics_of_namespace_response",
-            34 GetSchema "get_schema",
-            35 GetSchemaResponse "get_schema_response",
-            36 AuthChallenge "auth_challenge",
-            37 AuthResponse "auth_response"
+            CONNECT Connect "connect",
+            CONNECTED Connected "connected",
+            SUBSCRIBE Subscribe "subscribe",
+            PRODUCER Producer "producer",
+            SEND Send "send",
+            SEND_RECEIPT SendReceipt "send_receipt",
+            SEND_ERROR SendError "send_error",
+            MESSAGE Message "message",
+            ACK Ack "ack",
+            FLOW Flow "flow",
+            UNSUBSCRIBE Unsubscribe "unsubscribe",
+            SUCCESS Success "success",
+            ERROR Error "error",
+            CLOSE_PRODUCER CloseProducer "close_producer",
+            CLOSE_CONSUMER CloseConsumer "close_consumer",
+            PRODUCER_SUCCESS ProducerSuccess "producer_success",
+            PING Ping "ping",
+            PONG Pong "pong",
+            REDELIVER_UNACKNOWLEDGED_MESSAGES RedeliverUnacknowledgedMessages "redeliver_unacknowledged_messages",
+            PARTITION_METADATA PartitionedTopicMetadata "partition_metadata",
+            PARTITION_METADATA_RESPONSE PartitionedTopicMetadataResponse "partition_metadata_response",
+            LOOKUP_TOPIC LookupTopic "lookup_topic",
+            LOOKUP_TOPIC_RESPONSE LookupTopicResponse "lookup_topic_response",
+            CONSUMER_STATS ConsumerStats "consumer_stats",
+            CONSUMER_STATS_RESPONSE ConsumerStatsResponse "consumer_stats_response",
+            REACHED_END_OF_TOPIC ReachedEndOfTopic "reached_end_of_topic",
+            SEEK Seek "seek",
+            GET_LAST_MESSAGE_ID GetLastMessageId "get_last_message_id",
+            GET_LAST_MESSAGE_ID_RESPONSE GetLastMessageIdResponse "get_last_message_id_response",
+            ACTIVE_CONSUMER_CHANGE ActiveConsumerChange "active_consumer_change",
+            GET_TOPICS_OF_NAMESPACE GetTopicsOfNamespace "get_topics_of_namespace",
+            GET_TOPICS_OF_NAMESPACE_RESPONSE GetTopicsOfNamespaceResponse "get_topics_of_namespace_response",
+            GET_SCHEMA GetSchema "get_schema",
+            GET_SCHEMA_RESPONSE GetSchemaResponse "get_schema_response",
+            AUTH_CHALLENGE AuthChallenge "auth_challenge",
+            AUTH_RESPONSE AuthResponse "auth_response"
         }
     };
 }
 
 macro_rules! number_of {
-    ($body:expr; $($number:literal $variant:ident $name:literal),*) => {
+    ($body:expr; $($number:ident $variant:ident $name:literal),*) => {
         match $body {
-            $(Body::$variant(_) => $number,)*
+            $(Body::$variant(_) => bodies::$number,)*
         }
     };
 }
 
 macro_rules! name_of {
-    ($body:expr; $($number:literal $variant:ident $name:literal),*) => {
+    ($body:expr; $($number:ident $variant:ident $name:literal),*) => {
         match $body {
             $(Body::$variant(_) => $name,)*
         }
@@ -108,7 +111,7 @@ macro_rules! name_of {
 }
 
 macro_rules! copy_of {
-    ($body:expr; $($number:literal $variant:ident $name:literal),*) => {
+    ($body:expr; $($number:ident $variant:ident $name:literal),*) => {
         match $body {
             $(Body::$variant(body) => Ok(Body::$variant(body.copy()?)),)*
         }
@@ -116,16 +119,24 @@ macro_rules! copy_of {
 }
 
 macro_rules! empty_of {
-    ($alloc:expr, $wanted:expr; $($number:literal $variant:ident $name:literal),*) => {
+    ($alloc:expr, $wanted:expr; $($number:ident $variant:ident $name:literal),*) => {
         match $wanted {
-            $($number => Some(Body::$variant(Message::empty($alloc))),)*
+            $(bodies::$number => Some(Body::$variant(Message::empty($alloc))),)*
             _ => None,
         }
     };
 }
 
+macro_rules! encode_any {
+    ($body:expr, $out:expr; $($number:ident $variant:ident $name:literal),*) => {
+        match $body {
+            $(Body::$variant(body) => encode(body, $out),)*
+        }
+    };
+}
+
 macro_rules! put_part {
-    ($body:expr, $alloc:expr, $value:expr; $($number:literal $variant:ident $name:literal),*) => {
+    ($body:expr, $alloc:expr, $value:expr; $($number:ident $variant:ident $name:literal),*) => {
         match $body {
             $(Body::$variant(body) => join_part(body, $alloc, $value),)*
         }
@@ -133,10 +144,10 @@ macro_rules! put_part {
 }
 
 macro_rules! write_command {
-    ($out:expr, $command:expr; $($number:literal $variant:ident $name:literal),*) => {
+    ($out:expr, $command:expr; $($number:ident $variant:ident $name:literal),*) => {
         match &$command.body {
             None => write_kind($out, $command.kind),
-            $(Some(Body::$variant(body)) => write_body($out, $number, $number, body),)*
+            $(Some(Body::$variant(body)) => write_body($out, bodies::$number, body),)*
         }
     };
 }
@@ -195,14 +206,14 @@ impl Body {
         ensures number { result ≡ (body_values self.now).number }
         ensures small { result < 64 }
     {
-        bodies!(number_of self)
+        all_bodies!(number_of self)
     }
 
     /// The name of its command in the protocol.
     pub fn name(&self) -> &'static str
         ensures { result.now ≡ body_name (body_values self.now).number }
     {
-        bodies!(name_of self)
+        all_bodies!(name_of self)
     }
 
     /// The body of this number with no field, if it is known.
@@ -210,27 +221,57 @@ impl Body {
     fn empty(alloc: Global, number: u32) -> Option<Body>
         ensures { option_map body_values result ≡ empty_body number }
     {
-        bodies!(empty_of alloc, number)
+        all_bodies!(empty_of alloc, number)
     }
 
     /// Takes one more part.
     fn put_part(&mut self, alloc: Global, value: Value<'_>) -> Result<(), ReadError>
         ensures { Leaves result (body_values self.new) (grown (body_values self.old) (shown value.entry)) }
     {
-        bodies!(put_part self, alloc, value)
+        all_bodies!(put_part self, alloc, value)
     }
 
     /// A body with the same content.
     pub fn copy(&self) -> Result<Body, NoMemory>
         ensures { IfOk result (λ body. body_values body ≡ body_values self.now) }
     {
-        bodies!(copy_of self)
+        all_bodies!(copy_of self)
+    }
+
+    /// Writes the message that the body is at the end, without the command round it.
+    pub fn encode(&self, out: &mut Vec<u8>) -> Result<(), AllocError>
+        ensures { OnOk result (out.new.items ≡ out.old.items ++ body_bytes (body_values self.now)) }
+    {
+        all_bodies!(encode_any self, out)
+    }
+
+    /// The error, where the body is one. Any other body is given back.
+    pub fn into_error(self) -> Result<CommandError, Body>
+        ensures error { IfOk result (λ error. self ≡ body.Error error) }
+        ensures other { IfErr result (λ other. (other ≡ self) × ((body_values self).number ≢ 14)) }
+    {
+        match self {
+            Body::Error(error) => Ok(error),
+            other => Err(other),
+        }
     }
 }
 
 impl BaseCommand {
+    /// The command with no body, and a kind of zero: what an empty list of bytes spells.
+    #[tactic(auto, unfolding(crate::specs::Command::command_reading, crate::specs::Field::fields, crate::specs::Field::fields_within))]
+    pub fn new() -> BaseCommand
+        ensures empty { command_values result ≡ record { kind = pos 0; body = None } }
+        ensures spelled { Spells [] (command_values result) }
+    {
+        BaseCommand {
+            kind: 0,
+            body: None,
+        }
+    }
+
     /// The command with this body, whose kind is that of the body.
-    pub fn new(body: Body) -> BaseCommand
+    pub fn with_body(body: Body) -> BaseCommand
         ensures { command_values result ≡ with_kind (body_values body) }
     {
         BaseCommand {
@@ -279,7 +320,7 @@ impl BaseCommand {
 fn is_body(number: u32) -> bool
     ensures { result ≡ is_some (body_row number) }
 {
-    matches!(number, 2..=37)
+    matches!(number, bodies::CONNECT..=bodies::AUTH_RESPONSE)
 }
 
 /// Joins a part to the message of a body.
@@ -334,10 +375,7 @@ fn merge_command(command: &mut BaseCommand, alloc: Global, bytes: &[u8]) -> Resu
 pub fn decode_command(alloc: Global, bytes: &[u8]) -> Result<BaseCommand, ReadError>
     ensures { Gives command_values result (command_reading bytes.now) }
 {
-    let mut command = BaseCommand {
-        kind: 0,
-        body: None,
-    };
+    let mut command = BaseCommand::new();
     merge_command(&mut command, alloc, bytes)?;
     command.settle();
     Ok(command)
@@ -353,15 +391,10 @@ fn write_kind<S: Sink>(out: &mut S, kind: i32) -> Result<(), AllocError>
     kind.write(out, 1)
 }
 
-/// Writes a command with this body.
+/// Writes a command with the body of this number.
 #[tactic(auto, unfolding(crate::specs::Fits::CommandInRange))]
-pub fn write_body<M: Message, S: Sink>(
-    out: &mut S,
-    kind: i32,
-    number: u32,
-    body: &M,
-) -> Result<(), AllocError>
-    requires same { kind ≡ pos number }
+fn write_body<M: Message, S: Sink>(out: &mut S, number: u32, body: &M) -> Result<(), AllocError>
+    requires small { number < 64 }
     requires known { body_row number ≡ Some M.shape }
     ensures ok { OnOk result (Appends S.Holds out.old out.new
         (body_spelling number (spelling M.shape (M.values body.now)))) }
@@ -369,7 +402,7 @@ pub fn write_body<M: Message, S: Sink>(
     ensures fits { OnOk result (CommandInRange
         (with_kind (record { number = number; row = M.shape; values = M.values body.now }))) }
 {
-    kind.write(out, 1)?;
+    (number as i32).write(out, 1)?;
     write_message(out, number, body)
 }
 
@@ -379,7 +412,7 @@ fn write_command<S: Sink>(out: &mut S, command: &BaseCommand) -> Result<(), Allo
     ensures sure { S.IsSure → IsOk result }
     ensures fits { OnOk result (CommandInRange (settled (command_values command.now))) }
 {
-    bodies!(write_command out, command)
+    all_bodies!(write_command out, command)
 }
 
 /// Writes the command at the end.

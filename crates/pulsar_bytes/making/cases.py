@@ -96,7 +96,7 @@ def add(value, field, values, last):
 
 
 def pieces(value):
-    """The bytes of each field that stands there, in the order of the numbers. An element of a repeated one is a piece."""
+    """The bytes of each field that stands there, in the order of the numbers. Each element of a repeated one is a piece."""
     found = []
     for field, held in value.ListFields():
         for part in held if field.label == field.LABEL_REPEATED else [held]:
@@ -164,6 +164,9 @@ def write_wrong_types(sheet, kind, made):
 
 def write_numbers(sheet):
     """How numbers are read."""
+    sheet.note("numbers: the second entry of ledger 1, without a partition and with one that is negative")
+    for digits in ("08011002", "0801100218" + "ff" * 9 + "01"):
+        sheet.reads("MessageIdData", bytes.fromhex(digits))
     sheet.note("numbers: a long spelling, and ten bytes of which the last is 1")
     for digits in ("8800", "88808080808080808000", "88ffffffffffffffff01"):
         sheet.reads("MessageIdData", b"\x08" + bytes.fromhex(digits))
@@ -174,7 +177,7 @@ def write_numbers(sheet):
         sheet.reads("active_consumer_change", b"\x10" + bytes.fromhex(digits))
     for digits in ("02", "8000", "80808080808080808001"):
         sheet.reads("active_consumer_change", b"\x10" + bytes.fromhex(digits))
-    sheet.note("numbers: refused where the tenth byte is above 1, where there are eleven, and where the last is missing")
+    sheet.note("numbers, refused: a tenth byte above 1, eleven bytes, and where the last is missing")
     for digits in ("ff" * 9 + "02", "80" * 9 + "02", "80" * 10 + "00", "80", "", "ff" * 9):
         sheet.refuses("MessageIdData", b"\x08" + bytes.fromhex(digits))
     sheet.note("numbers: a list of them, one by one, packed, both, packed with none, and packed with a long spelling")
@@ -217,7 +220,7 @@ def write_keys(sheet):
     for digits in ("817d 31323334353637", "857d 313233", "827d 02 61", "807d", "827d", "827d" + "ff" * 9 + "01"):
         sheet.refuses("get_schema", bytes.fromhex(digits))
     sheet.note("texts: what is UTF-8, and what is not: cut, too long, a surrogate, above the greatest")
-    for digits in ("c3bc", "e282ac", "f09f9880", "f09f9a80", "00"):
+    for digits in ("c3bc", "e282ac", "f09f9880", "00"):
         sheet.reads("get_schema", delimited(2, bytes.fromhex(digits)))
     for digits in ("c3", "e282", "f09f98", "80", "c080", "e08080", "eda080", "f4908080", "fe", "6162ff"):
         sheet.refuses("get_schema", delimited(2, bytes.fromhex(digits)))
@@ -299,7 +302,7 @@ def write_commands(sheet):
 
 
 def write_refused_commands(sheet):
-    sheet.note("commands, refused: two bodies, number 0, wire type 3, past the end, a tenth byte above 1, no UTF-8, a great key")
+    sheet.note("commands, refused: two bodies, number 0, wire type 3, past the end, a great number, no UTF-8, a great key")
     for digits in (
         "0802 1200 1a00",
         "0803 1a020a00 00",

@@ -186,6 +186,16 @@ def write_refused(sheet):
         wrong[-1] ^= 1 if at == 22 else 0
         sheet.refuses("frame", bytes(wrong), reason="metadata" if at == 26 else "checksum")
     sheet.refuses("frame", SEND[:-1] + b"9" + CONNECTED, reason="checksum")
+    sheet.note("frames, refused: the same of a command that has a type alone")
+    for words, reason in (
+        ("00000007 00000002 0812 00", "payload"),
+        ("0000000f 00000002 0812 0e02 428354b5 000000", "payload"),
+        ("00000010 00000002 0812 0e01 428354b5 00000001", "payload"),
+        ("00000011 00000002 0812 0e02 428354b5 00000001 0a", "magic"),
+        ("00000011 00000002 0812 0e01 428354b5 00000001 0a", "metadata"),
+        ("00000010 00000002 0812 0e01 428354b5 00000000", "checksum"),
+    ):
+        sheet.refuses("frame", bytes.fromhex(words), reason=reason)
 
 
 def write_order_of_refusals(sheet):

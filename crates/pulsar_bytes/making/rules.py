@@ -1,5 +1,7 @@
-"""The rules by which bytes are refused, and how frames and batches are cut. Google's parser allows more than these rules:
-groups, known fields with another wire type, a tenth byte above 1, two bodies of a command, text that is not UTF-8."""
+"""The rules by which bytes are refused, and how frames and batches are cut.
+
+Google's parser allows more than these rules: groups, known fields with another wire type, a tenth byte above 1, two bodies of
+a command, text that is not UTF-8."""
 
 import struct
 
@@ -109,8 +111,9 @@ def number_at(data, at):
 
 
 def cut_frame(data, command, metadata):
-    """The frame in front: its command, what stands behind it (None, or metadata and payload), and its size. None where no
-    whole frame stands there."""
+    """The frame in front: its command, what stands behind it (None, or metadata and payload), and its size.
+
+    None where no whole frame stands there."""
     if len(data) < 4 or len(data) < number_at(data, 0) + 4:
         return None
     total = number_at(data, 0)

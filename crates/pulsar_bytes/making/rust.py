@@ -59,7 +59,7 @@ def struct(name, fields):
 
 
 def held(value, field):
-    """What a struct holds of a field: a list, an Option, or the value itself, which is zero or empty where it is missing."""
+    """What a struct holds of a field: a list, an Option, or the value itself. One that is missing is zero or empty."""
     if field.label == field.LABEL_REPEATED:
         return listed(getattr(value, field.name))
     if field.label == field.LABEL_OPTIONAL:

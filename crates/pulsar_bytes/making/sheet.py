@@ -59,9 +59,19 @@ class Sheet:
             return self.items(*data)
         if kind == "crc32c":
             return [f"sum {rules.checksum(*data):08x}"]
-        made = self.proto.BaseCommand if kind == "command" else self.messages[kind]
-        value = read(made, *data)
+        if kind == "command":
+            return self.command(*data)
+        value = read(self.messages[kind], *data)
         return ["value " + rust.message(value), "bytes " + digits(written(value))]
+
+    def command(self, data):
+        value = read(self.proto.BaseCommand, data)
+        lines = ["value " + rust.command(value), "bytes " + digits(written(value))]
+        body = rust.body_of(value)
+        if body is None:
+            return lines
+        alone = written(getattr(value, body.name))
+        return lines + [f"{rust.field_name(body)} {digits(alone)}"]
 
     def frame(self, data):
         cut = self.cut(data)

@@ -8,9 +8,7 @@ use pulsar_frame::batch::{BatchedMessage, parse_batched_message};
 use pulsar_frame::codec::Codec;
 use pulsar_frame::message::Message;
 use pulsar_frame::payload::Payload;
-use pulsar_wire::commands::base::Body;
-use pulsar_wire::commands::ids::MessageIdData;
-use pulsar_wire::error::ConnectionError;
+use pulsar_wire::{Body, ConnectionError, MessageIdData};
 use std::alloc::Global;
 
 /// Prints the entries of a batch, and how they are written.

@@ -1,13 +1,11 @@
 //! Commands.
 
-use crate::printing::{print_refusal, print_written};
+use crate::printing::{print_bytes, print_refusal, print_written};
 use crate::stop::Stop;
-use pulsar_wire::commands::base::BaseCommand;
-use pulsar_wire::error::ConnectionError;
-use pulsar_wire::wire::Wire;
+use pulsar_wire::{BaseCommand, Body, ConnectionError, Wire};
 use std::alloc::Global;
 
-/// Prints the command that bytes spell, and how it is written.
+/// Prints the command that bytes spell, how it is written, and its body by itself.
 pub fn print_command(rt: &impl Print, alloc: Global, bytes: &[u8]) -> Result<(), Stop> {
     print_read(rt, alloc, BaseCommand::decode(alloc, bytes))
 }
@@ -28,5 +26,20 @@ fn print_copy(rt: &impl Print, alloc: Global, command: &BaseCommand) -> Result<(
 }
 
 fn print_copied(rt: &impl Print, alloc: Global, copy: BaseCommand) -> Result<(), Stop> {
-    print_written(rt, alloc, &copy)
+    print_whole(rt, alloc, &copy)
+}
+
+fn print_whole(rt: &impl Print, alloc: Global, command: &BaseCommand) -> Result<(), Stop> {
+    print_written(rt, alloc, command)?;
+    match &command.body {
+        Some(body) => print_body(rt, alloc, body),
+        None => Ok(()),
+    }
+}
+
+/// The name of a body, and its bytes without the command round it.
+fn print_body(rt: &impl Print, alloc: Global, body: &Body) -> Result<(), Stop> {
+    let mut bytes = Vec::new(alloc);
+    body.encode(&mut bytes)?;
+    print_bytes(rt, alloc, body.name(), &bytes)
 }

@@ -6,7 +6,7 @@ use bytes::BytesMut;
 use pulsar_frame::codec::Codec;
 use pulsar_frame::message::Message;
 use pulsar_frame::reader::FrameReader;
-use pulsar_wire::error::ConnectionError;
+use pulsar_wire::ConnectionError;
 use std::alloc::Global;
 
 /// What may stand in front of bytes.

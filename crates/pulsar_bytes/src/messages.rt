@@ -2,39 +2,20 @@
 
 use crate::printing::{print_refusal, print_written};
 use crate::stop::Stop;
-use pulsar_wire::commands::auth::{AuthData, CommandAuthChallenge, CommandAuthResponse};
-use pulsar_wire::commands::connection::{
-    CommandConnect, CommandConnected, CommandError, CommandPing, CommandPong, CommandSuccess,
-};
-use pulsar_wire::commands::consumer::delivery::{
-    CommandAck, CommandFlow, CommandMessage, CommandReachedEndOfTopic,
-    CommandRedeliverUnacknowledgedMessages,
-};
-use pulsar_wire::commands::consumer::position::{
-    CommandConsumerStats, CommandConsumerStatsResponse, CommandGetLastMessageId,
-    CommandGetLastMessageIdResponse, CommandSeek,
-};
-use pulsar_wire::commands::consumer::subscription::{
-    CommandActiveConsumerChange, CommandCloseConsumer, CommandSubscribe, CommandUnsubscribe,
-};
-use pulsar_wire::commands::ids::MessageIdData;
-use pulsar_wire::commands::lookup::{
-    CommandLookupTopic, CommandLookupTopicResponse, CommandPartitionedTopicMetadata,
-    CommandPartitionedTopicMetadataResponse,
-};
-use pulsar_wire::commands::metadata::{
-    EncryptionKeys, KeyValue, MessageMetadata, SingleMessageMetadata,
-};
-use pulsar_wire::commands::producer::{
-    CommandCloseProducer, CommandProducer, CommandProducerSuccess, CommandSend, CommandSendError,
-    CommandSendReceipt,
-};
-use pulsar_wire::commands::schema::{CommandGetSchema, CommandGetSchemaResponse, Schema};
-use pulsar_wire::commands::topics::{
-    CommandGetTopicsOfNamespace, CommandGetTopicsOfNamespaceResponse,
-};
 use pulsar_wire::encoding::message::Message;
-use pulsar_wire::wire::Wire;
+use pulsar_wire::{
+    AuthData, CommandAck, CommandActiveConsumerChange, CommandAuthChallenge, CommandAuthResponse,
+    CommandCloseConsumer, CommandCloseProducer, CommandConnect, CommandConnected,
+    CommandConsumerStats, CommandConsumerStatsResponse, CommandError, CommandFlow,
+    CommandGetLastMessageId, CommandGetLastMessageIdResponse, CommandGetSchema,
+    CommandGetSchemaResponse, CommandGetTopicsOfNamespace, CommandGetTopicsOfNamespaceResponse,
+    CommandLookupTopic, CommandLookupTopicResponse, CommandMessage,
+    CommandPartitionedTopicMetadata, CommandPartitionedTopicMetadataResponse, CommandPing,
+    CommandPong, CommandProducer, CommandProducerSuccess, CommandReachedEndOfTopic,
+    CommandRedeliverUnacknowledgedMessages, CommandSeek, CommandSend, CommandSendError,
+    CommandSendReceipt, CommandSubscribe, CommandSuccess, CommandUnsubscribe, EncryptionKeys,
+    KeyValue, MessageIdData, MessageMetadata, Schema, SingleMessageMetadata, Wire,
+};
 use std::alloc::Global;
 use std::fmt::Debug;
 

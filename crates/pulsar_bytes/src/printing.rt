@@ -2,8 +2,7 @@
 
 use crate::stop::Stop;
 use pulsar_frame::checksum::crc32c;
-use pulsar_wire::error::ConnectionError;
-use pulsar_wire::wire::Wire;
+use pulsar_wire::{ConnectionError, Wire};
 use std::alloc::Global;
 use std::fmt::Debug;
 

@@ -1,7 +1,7 @@
 //! Why a run stopped.
 
 use hex::FromHexError;
-use pulsar_wire::error::{ConnectionError, NoMemory};
+use pulsar_wire::{ConnectionError, NoMemory};
 use std::alloc::AllocError;
 use std::io;
 

@@ -10,7 +10,7 @@ ghost use Rattle.pulsar_wire.specs.Views.{body_values};
 ghost use Rattle.pulsar_wire.specs.declared.key.RequestKey.TheVariants as keys;
 ghost use Rattle.pulsar_frame.specs.Key.{body_key, key, success_of};
 ghost use Rattle.pulsar_frame.specs.Shown.{message_of, message_values, IsFrameOf};
-ghost use Rattle.pulsar_wire.specs.Written.{capped};
+ghost use Rattle.pulsar_wire.specs.Sink.{capped};
 
 use crate::payload::{Payload, PayloadParts, PayloadSizes};
 use pulsar_wire::commands::base::{BaseCommand, Body, command_len, encode_command};

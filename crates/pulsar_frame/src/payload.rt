@@ -9,7 +9,7 @@ ghost use Rattle.pulsar_wire.specs.declared.error.Reason.TheVariants as reason;
 ghost use Rattle.pulsar_frame.specs.Checksum.{crc32c};
 ghost use Rattle.pulsar_frame.specs.Payload.{parts_values, payload_at, payload_bytes, payload_values};
 ghost use Rattle.pulsar_frame.specs.Read.{Holds, IsReadBehind, described_len, tail_seen};
-ghost use Rattle.pulsar_wire.specs.Written.{capped};
+ghost use Rattle.pulsar_wire.specs.Sink.{capped};
 ghost use Rattle.pulsar_frame.specs.Refusal.{or_refused};
 ghost use Rattle.pulsar_frame.specs.Tail.{tail_at};
 

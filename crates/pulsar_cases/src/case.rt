@@ -16,15 +16,15 @@ pub struct Case {
 }
 
 impl Case {
-    /// The case of this name, whose status stands in a file where `has_status` says so.
+    /// The case of this name. Its status stands in a file, or is 0.
     pub fn read(rt: &HostRuntime, folder: &str, name: &str, has_status: bool) -> io::Result<Case> {
-        let script = file(rt, folder, name, "script")?;
-        let text = file(rt, folder, name, "stdout")?;
         let status = if has_status {
             number(&file(rt, folder, name, "status")?)?
         } else {
             0
         };
+        let script = file(rt, folder, name, "script")?;
+        let text = file(rt, folder, name, "stdout")?;
         Ok(Case {
             script,
             text,
@@ -38,7 +38,6 @@ fn file(rt: &HostRuntime, folder: &str, name: &str, kind: &str) -> io::Result<Ve
     fs::read(rt, path.as_str())
 }
 
-/// A status, and nothing but a line feed behind it.
 fn number(text: &[u8]) -> io::Result<Status> {
     let number = match str::from_utf8(text) {
         Ok(text) => text.trim().parse::<u8>().ok(),
@@ -57,10 +56,21 @@ pub struct Way {
     pub fails: Fails,
 }
 
+impl Way {
+    /// A source that gives so many bytes at a time.
+    pub fn in_pieces(piece: usize) -> Way {
+        Way {
+            piece,
+            most: usize::MAX,
+            fails: Fails::Never,
+        }
+    }
+}
+
 /// Which call fails, counted from 0.
-#[derive(Clone, Copy, PartialEq, Eq)]
+#[derive(Clone, Copy)]
 pub enum Fails {
-    None,
+    Never,
     Source(u64),
     Sink(u64),
 }
@@ -80,16 +90,25 @@ impl Ran {
 
 /// Runs a script in this way.
 pub fn run_script(alloc: Global, lines: &[u8], way: Way) -> Result<Ran, AllocError> {
-    let mut in_source = Vec::new(alloc);
-    let mut in_sink = Vec::new(alloc);
-    match way.fails {
-        Fails::None => {}
-        Fails::Source(call) => in_source.push(call)?,
-        Fails::Sink(call) => in_sink.push(call)?,
-    }
-    let source = FailingSource::new(lines.to_vec(alloc)?, in_source);
-    let mut source = Pieces::new(source, way.piece);
-    let mut sink = FailingSink::new(alloc, in_sink, way.most);
+    let mut source = source_of(alloc, lines, way)?;
+    let mut sink = sink_of(alloc, way)?;
     let status = script(alloc, &mut source, &mut sink);
     Ok(Ran { status, sink })
+}
+
+fn source_of(alloc: Global, lines: &[u8], way: Way) -> Result<Pieces, AllocError> {
+    let mut fails = Vec::new(alloc);
+    if let Fails::Source(call) = way.fails {
+        fails.push(call)?;
+    }
+    let source = FailingSource::new(lines.to_vec(alloc)?, fails);
+    Ok(Pieces::new(source, way.piece))
+}
+
+fn sink_of(alloc: Global, way: Way) -> Result<FailingSink, AllocError> {
+    let mut fails = Vec::new(alloc);
+    if let Fails::Sink(call) = way.fails {
+        fails.push(call)?;
+    }
+    Ok(FailingSink::new(alloc, fails, way.most))
 }

@@ -1,6 +1,6 @@
 //! What a run has printed, beside what it should print.
 
-use crate::case::Ran;
+use crate::case::{Case, Ran};
 use pulsar_cli::Status;
 use std::io;
 
@@ -11,8 +11,17 @@ pub struct Wanted<'a> {
     pub status: Status,
 }
 
-/// Whether the run is as wanted; where it is not, a line is printed that says so.
-pub fn is_as_wanted(rt: &HostRuntime, run: &str, ran: &Ran, wanted: &Wanted) -> io::Result<bool> {
+impl<'a> Wanted<'a> {
+    pub fn of(case: &'a Case) -> Wanted<'a> {
+        Wanted {
+            text: &case.text,
+            status: case.status,
+        }
+    }
+}
+
+/// Whether the run is as wanted. Where it is not, lines are printed that say so.
+pub fn is_as_wanted(rt: &HostRuntime, run: &str, ran: &Ran, wanted: Wanted) -> io::Result<bool> {
     if ran.status == wanted.status && ran.text() == wanted.text {
         return Ok(true);
     }

@@ -1,7 +1,7 @@
-//! Runs the scripts of the folder that it stands in, and says which of them print another text than they should.
+//! Runs the scripts of the folders where it stands, and says which of them print another text than they should.
 //!
-//! Each folder has cases: `NAME.script` with the text `NAME.stdout` that its run prints, and the status `NAME.status` with
-//! which it ends, 0 where there is no such file. A file `NAME.lines` has lines of which none is in the grammar of scripts.
+//! A folder has cases: `NAME.script` with the text `NAME.stdout` that its run prints, and the status `NAME.status` with which
+//! it ends, 0 where there is no such file. Each line of a file `NAME.lines` is a case by itself: it is not in the grammar.
 //! The scripts of the folder `faults` are also run with faults of the source and of the sink.
 #![tactic(auto)]
 
@@ -11,14 +11,16 @@ mod faults;
 mod folder;
 mod lines;
 mod pieces;
+mod tally;
 
-use crate::folder::{Tally, names, run_folder};
+use crate::folder::{names, run_folder};
+use crate::tally::Tally;
 use std::process::ExitCode;
 use std::{fs, io};
 
 fn main(rt: HostRuntime) -> ExitCode {
-    match all(&rt) {
-        Ok(0) => ExitCode::SUCCESS,
+    match run_all(&rt) {
+        Ok(tally) if tally.differ == 0 => ExitCode::SUCCESS,
         Ok(_) => ExitCode::from(1),
         Err(error) => {
             let _ = eprintln!(rt; "the cases cannot be run: {error}");
@@ -27,17 +29,16 @@ fn main(rt: HostRuntime) -> ExitCode {
     }
 }
 
-/// Runs all folders, and answers how many of their cases differ.
-fn all(rt: &HostRuntime) -> io::Result<u64> {
+/// Runs all folders.
+fn run_all(rt: &HostRuntime) -> io::Result<Tally> {
     let mut sum = Tally::default();
     for name in names(rt, ".")? {
-        if !fs::metadata(rt, &name)?.is_dir() {
-            continue;
+        if fs::metadata(rt, &name)?.is_dir() {
+            let tally = run_folder(rt, &name)?;
+            println!(rt; "{name}: {tally}")?;
+            sum.add(tally);
         }
-        let tally = run_folder(rt, &name)?;
-        println!(rt; "{name}: {tally}")?;
-        sum.add(tally);
     }
     println!(rt; "all: {sum}")?;
-    Ok(sum.wrong)
+    Ok(sum)
 }

@@ -10,3 +10,4 @@ pub mod WrittenLines
 pub mod WrittenRaw
 pub mod ReadBack
 pub mod Folds
+pub mod Gives

@@ -1,6 +1,6 @@
 -- What a reading has printed, where it goes on and where it stops.
 use Rattle.std.proofs.Common.{inl, inr, ◌⊎◌, ◌≡◌, ℕ, ◌+◌, ◌≤◌, ◌<◌, ◌∙◌, sym, ap, List, [], ◌∷◌, ◌++◌, refl, arith, Option, Some, None, length, take, drop, subst, append_assoc, append-nil, length-append}
-use Rattle.std.specs.Prelude.{string_bytes, Result, Ok, Err, OnOk, IfErr, MatchResult}
+use Rattle.std.specs.Prelude.{string_bytes, Result, Ok, Err, OnOk, OnErr, IfErr, MatchResult}
 use Rattle.std.proofs.lemmas.List.{take-append-drop, length-drop, length-take-le}
 use Rattle.std.proofs.Math.Seq.{drop-drop, take-add, take-length}
 use Rattle.std.proofs.Math.ListN.{drop_of_length-le}
@@ -11,8 +11,8 @@ use Rattle.pulsar_client.specs.Outside.{Rose}
 use Rattle.pulsar_client.proofs.Runs.{good}
 use Rattle.pulsar_cli.specs.Grammar.{lines}
 use Rattle.pulsar_cli.specs.Text.{refusal}
-use Rattle.pulsar_cli.specs.Script.{Adds, AddsFront, IsDone, IsRunOf, IsStopped, IsRefused, Limits, Ran, Taken, blank, limit, options, script_of, text}
-use Rattle.pulsar_cli.specs.Shown.{Ends, Faults, Halts, InTurn, IsClient, Prints, Reads, Refuses, Refusing, Running, read_status, said, status_of}
+use Rattle.pulsar_cli.specs.Script.{Adds, AddsFront, IsDone, IsRunOf, IsStopped, IsRefused, Printed, blank, options, script_of, text}
+use Rattle.pulsar_cli.specs.Shown.{Faults, Halts, InTurn, IsClient, Prints, Reads, Refuses, Refusing, Running, Told, read_status, said, status_of}
 use Rattle.pulsar_cli.specs.declared.reading.Reading.{Reading}
 use Rattle.pulsar_cli.specs.declared.stop.Stop.{Stop}
 use Rattle.pulsar_cli.specs.declared.stop.Stop.TheVariants as stop
@@ -109,22 +109,22 @@ pub halts-end : {r r' : Reading} {old now new : Option (List ℕ)} {consumed : L
 halts-end {r} p reads more = stopped-front [] reads p.adds more (last-line p.running.splits ∙ sym (append-nil (p.running.read ++ r.pending.items ∷ [])))
 
 -- the last line was read
-pub ends-here : {r r' : Reading} {old now new : Option (List ℕ)} {consumed : List ℕ} {next : List Step} (p : Prints r old now consumed) → Reads r' p.put (p.running.read ++ r.pending.items ∷ []) next → Adds now new (string_bytes r'.out) → Ends old new consumed
+pub ends-here : {r r' : Reading} {old now new : Option (List ℕ)} {consumed : List ℕ} {next : List Step} (p : Prints r old now consumed) → Reads r' p.put (p.running.read ++ r.pending.items ∷ []) next → Adds now new (string_bytes r'.out) → IsDone consumed old new
 ends-here {next = next} p reads more =
     record {
       history = next;
       run = rw (last-line p.running.splits) (run-of reads);
-      adds = rw (sym reads.text) (adds-more p.put _ p.adds more);
+      prints = rw (sym reads.text) (adds-more p.put _ p.adds more);
     }
 
-pub ran-done : {bytes : List ℕ} {left old new : Option (List ℕ)} {faultless : Type 0} → IsDone bytes left old new → Ran 0 bytes left old new faultless
-ran-done d = record { known = (omega arith, λ e. absurd (omega (arith, e))); done = λ e. d; refused = λ e. absurd (omega (arith, e)); stopped = λ le. absurd (omega (arith, le)) }
+pub printed-done : {bytes : List ℕ} {old new : Option (List ℕ)} {faultless : Type 0} → IsDone bytes old new → Printed 0 bytes old new faultless
+printed-done d = record { done = λ e. d; refused = λ e. absurd (omega (arith, e)); stopped = λ le. absurd (omega (arith, le)) }
 
-pub ran-refused : {bytes : List ℕ} {left old new : Option (List ℕ)} {faultless : Type 0} → IsRefused bytes old new faultless → Ran 1 bytes left old new faultless
-ran-refused d = record { known = (omega arith, λ e. absurd (omega (arith, e))); done = λ e. absurd (omega (arith, e)); refused = λ e. d; stopped = λ le. absurd (omega (arith, le)) }
+pub printed-refused : {bytes : List ℕ} {old new : Option (List ℕ)} {faultless : Type 0} → IsRefused bytes old new faultless → Printed 1 bytes old new faultless
+printed-refused d = record { done = λ e. absurd (omega (arith, e)); refused = λ e. d; stopped = λ le. absurd (omega (arith, le)) }
 
-pub ran-stopped : {bytes : List ℕ} {left old new : Option (List ℕ)} {faultless : Type 0} (status : ℕ) → 3 ≤ status → status ≤ 6 → IsStopped bytes old new → Ran status bytes left old new faultless
-ran-stopped status ge le d = record { known = (le, λ e. absurd (omega (arith, e, ge))); done = λ e. absurd (omega (arith, e, ge)); refused = λ e. absurd (omega (arith, e, ge)); stopped = λ le. d }
+pub printed-stopped : {bytes : List ℕ} {old new : Option (List ℕ)} {faultless : Type 0} (status : ℕ) → 3 ≤ status → IsStopped bytes old new → Printed status bytes old new faultless
+printed-stopped status ge d = record { done = λ e. absurd (omega (arith, e, ge)); refused = λ e. absurd (omega (arith, e, ge)); stopped = λ le. d }
 
 -- a line isn't in the grammar, and memory runs out before its refusal
 pub refusing-stopped : {r : Reading} {old now : Option (List ℕ)} {bytes : List ℕ} → Refusing r old now bytes → IsStopped bytes old now
@@ -143,30 +143,17 @@ refused-here p prints begins =
     record { before = p.read; bad = p.bad; after = p.after; apart = p.apart; refused = p.refused; history = p.history; run = run-of p.reads; prints = prints; begins = begins }
 
 -- the refusal was put, or the sink failed
-pub refused-put : {r : Reading} {old now new : Option (List ℕ)} {bytes : List ℕ} {rose : Type 0} (held : List ℕ) (result : Result (Unit {0}) Stop) (p : Refusing r old now bytes) → held ≡ string_bytes r.out ++ refusal r.line → OnOk result (Adds now new held) → IfErr result (λ s. (s ≡ stop.Sink) × AddsFront now new held × rose) → IsRefused bytes old new (rose → ⊥)
-refused-put {r} held (Ok done) p out put failed =
+pub refused-put : {r : Reading} {old now new : Option (List ℕ)} {bytes : List ℕ} {rose : Type 0} (held : List ℕ) (result : Result (Unit {0}) Stop) (p : Refusing r old now bytes) → held ≡ string_bytes r.out ++ refusal r.line → OnOk result (Adds now new held) → OnErr result (AddsFront now new held) → OnErr result rose → IsRefused bytes old new (rose → ⊥)
+refused-put {r} held (Ok done) p out put more rises =
     let e = refused-text held p out in
     let adds = adds-more p.put held p.adds put in
     refused-here p (λ faultless. rw e adds) (rw e (record { front = p.put ++ held; back = []; whole = sym (append-nil (p.put ++ held)); adds = adds }))
-refused-put {r} held (Err s) p out put failed =
+refused-put {r} held (Err s) p out put more rises =
     let e = refused-text held p out in
-    let more = failed.1 in
-    refused-here p (λ faultless. absurd (faultless failed.2)) (rw e (record { front = p.put ++ more.front; back = more.back; whole = ap (λ (t : List ℕ). p.put ++ t) more.whole ∙ sym (append_assoc p.put more.front more.back); adds = adds-more p.put more.front p.adds more.adds }))
+    refused-here p (λ faultless. absurd (faultless rises)) (rw e (record { front = p.put ++ more.front; back = more.back; whole = ap (λ (t : List ℕ). p.put ++ t) more.whole ∙ sym (append_assoc p.put more.front more.back); adds = adds-more p.put more.front p.adds more.adds }))
 
 pub prints-new : {r : Reading} (now : Option (List ℕ)) → Running r [] [] → Prints r now now []
 prints-new now run = record { put = []; running = run; adds = adds-nil now }
-
--- a reading stops after n bytes
-pub stopped-at : {r : Reading} {old now : Option (List ℕ)} (n : ℕ) (bytes : List ℕ) → Prints r old now (take n bytes) → IsStopped bytes old now
-stopped-at {r} {old} {now} n bytes p = subst (λ (t : List ℕ). IsStopped t old now) (take-append-drop n bytes) (prints-stopped (drop n bytes) p)
-
-pub whole : (n : ℕ) (bytes : List ℕ) → drop n bytes ≡ [] → take n bytes ≡ bytes
-whole n bytes e = sym (append-nil (take n bytes)) ∙ ap (λ (t : List ℕ). take n bytes ++ t) (sym e) ∙ take-append-drop n bytes
-
--- the source was read to its end
-pub done-or-halts : {left : Option (List ℕ)} (r : Reading) (old new : Option (List ℕ)) (result : Result (Unit {0}) Stop) (consumed bytes : List ℕ) → consumed ≡ bytes → left ≡ Some [] → MatchResult result (λ done. Ends old new consumed) (λ s. Halts s r old new consumed) → MatchResult result (λ done. IsDone bytes left old new) (λ s. Halts s r old new bytes)
-done-or-halts r old new (Ok done) consumed bytes e end ends = record { history = ends.history; run = subst (λ (t : List ℕ). IsRunOf (lines t) ends.history) e ends.run; end = end; prints = ends.adds }
-done-or-halts r old new (Err s) consumed bytes e end halts = subst (λ (t : List ℕ). Halts s r old new t) e halts
 
 -- a turn's faults are those of the sink
 pub turn-faults : (s : Stop) (x y a b d : ℕ) → a ≤ b → InTurn s b d → Faults s x y a d
@@ -192,40 +179,12 @@ pub ends-status : (result : Result (Unit {0}) Stop) (b d : ℕ) → IfErr result
 ends-status (Ok done) b d in' e = absurd (omega (arith, e))
 ends-status (Err s) b d in' e = turn-status s b d in' e
 
--- how many bytes were taken
-pub taken-none : (now : Option (List ℕ)) → Taken now now 0
-taken-none now bytes h = (omega arith, h)
-
-pub taken-same : {a b c : Option (List ℕ)} (n : ℕ) → Taken a b n → c ≡ b → Taken a c n
-taken-same n t e bytes h = ((t bytes h).0, e ∙ (t bytes h).1)
-
-pub taken-more : {a b c : Option (List ℕ)} (n m : ℕ) → Taken a b n → ((bytes : List ℕ) → b ≡ Some bytes → m ≤ length bytes) → ((bytes : List ℕ) → b ≡ Some bytes → c ≡ Some (drop m bytes)) → Taken a c (n + m)
-taken-more n m t within rest bytes h =
-    let at = t bytes h in
-    let le = within (drop n bytes) at.1 in
-    let size = length-drop n bytes in
-    (omega arith, rest (drop n bytes) at.1 ∙ ap (λ (t : List ℕ). Some t) (drop-drop m n bytes))
-
-pub limits-within : {old new : Option (List ℕ)} (status n : ℕ) → (status ≡ 6 → ⊥) → n ≤ limit → Taken old new n → Limits status old new
-limits-within status n no' le taken = record { count = n; taken = taken; exactly = (λ e. absurd (no' e), λ lt. absurd (omega (arith, le, lt))) }
-
-pub limits-past : {old new : Option (List ℕ)} (n : ℕ) → limit < n → Taken old new n → Limits 6 old new
-limits-past n past taken = record { count = n; taken = taken; exactly = (λ e. past, λ lt. refl) }
-
 -- a buffer that is written back keeps its size
 pub size-kept : (n : ℕ) (xs ys : List ℕ) → length ys ≡ n → length (take n (xs ++ drop (length xs) ys)) ≡ n
 size-kept n xs ys e =
     let a = length-append xs (drop (length xs) ys) in
     let b = length-drop (length xs) ys in
     length-take-le n (xs ++ drop (length xs) ys) (omega arith)
-
--- n bytes more were consumed
-pub consumes : (n m : ℕ) (bytes buf : List ℕ) → take m buf ≡ take m (drop n bytes) → take n bytes ++ take m buf ≡ take (n + m) bytes
-consumes n m bytes buf e = ap (λ (t : List ℕ). take n bytes ++ t) e ∙ sym (take-add n m bytes)
-
--- and the rest of the bytes stands behind them
-pub consumes-all : (n m : ℕ) (bytes buf : List ℕ) → take m buf ≡ take m (drop n bytes) → take n bytes ++ (take m buf ++ drop m (drop n bytes)) ≡ bytes
-consumes-all n m bytes buf e = ap (λ (t : List ℕ). take n bytes ++ (t ++ drop m (drop n bytes))) e ∙ ap (λ (t : List ℕ). take n bytes ++ t) (take-append-drop m (drop n bytes)) ∙ take-append-drop n bytes
 
 -- a buffer of its size is written whole
 pub written : (n : ℕ) (xs ys : List ℕ) → length xs ≡ n → length ys ≡ n → take n (xs ++ drop (length xs) ys) ≡ xs
@@ -246,43 +205,10 @@ stopped-new bytes now =
     }
 
 -- a sink that had no fault had none at the end
-pub ran-faultless : {status : ℕ} {bytes : List ℕ} {left old new : Option (List ℕ)} {f g : Type 0} → (g → f) → Ran status bytes left old new f → Ran status bytes left old new g
-ran-faultless weaker r =
+pub printed-faultless : {status : ℕ} {bytes : List ℕ} {old new : Option (List ℕ)} {f g : Type 0} → (g → f) → Printed status bytes old new f → Printed status bytes old new g
+printed-faultless weaker r =
     record {
-      known = r.known;
       done = r.done;
       refused = λ e. let i = r.refused e in record { before = i.before; bad = i.bad; after = i.after; apart = i.apart; refused = i.refused; history = i.history; run = i.run; prints = λ h. i.prints (weaker h); begins = i.begins };
       stopped = r.stopped;
     }
-
--- a status tells of its stop
-abbrev pub Told : ℕ → Stop → Type 0
-Told result s = (result ≡ status_of s) ⊎ ((s ≡ stop.Refused) × (result ≡ 3))
-
-pub told-form : (result : ℕ) (s : Stop) → Told result s → result ≡ 2 → ⊥
-told-form result stop.Refused (inl e) h = absurd (omega (arith, e, h))
-told-form result stop.NoMemory (inl e) h = absurd (omega (arith, e, h))
-told-form result stop.Source (inl e) h = absurd (omega (arith, e, h))
-told-form result stop.Sink (inl e) h = absurd (omega (arith, e, h))
-told-form result stop.TooLong (inl e) h = absurd (omega (arith, e, h))
-told-form result s (inr t) h = absurd (omega (arith, t.1, h))
-
-pub told-source : (result : ℕ) (s : Stop) (x y a b : ℕ) → Told result s → Faults s x y a b → result ≡ 4 → Rose x y
-told-source result stop.Refused x y a b (inl e) f h = absurd (omega (arith, e, h))
-told-source result stop.NoMemory x y a b (inl e) f h = absurd (omega (arith, e, h))
-told-source result stop.Source x y a b (inl e) f h = f
-told-source result stop.Sink x y a b (inl e) f h = absurd (omega (arith, e, h))
-told-source result stop.TooLong x y a b (inl e) f h = absurd (omega (arith, e, h))
-told-source result s x y a b (inr t) f h = absurd (omega (arith, t.1, h))
-
-pub told-sink : (result : ℕ) (s : Stop) (x y a b : ℕ) → Told result s → Faults s x y a b → result ≡ 5 → Rose a b × (s ≡ stop.Sink)
-told-sink result stop.Refused x y a b (inl e) f h = absurd (omega (arith, e, h))
-told-sink result stop.NoMemory x y a b (inl e) f h = absurd (omega (arith, e, h))
-told-sink result stop.Source x y a b (inl e) f h = absurd (omega (arith, e, h))
-told-sink result stop.Sink x y a b (inl e) f h = (f, refl)
-told-sink result stop.TooLong x y a b (inl e) f h = absurd (omega (arith, e, h))
-told-sink result s x y a b (inr t) f h = absurd (omega (arith, t.1, h))
-
-pub told-limits : {old new : Option (List ℕ)} (result : ℕ) (s : Stop) → Told result s → Limits (status_of s) old new → Limits result old new
-told-limits result s (inl e) l = rw e l
-told-limits result s (inr t) l = record { count = l.count; taken = l.taken; exactly = (λ e. absurd (omega (arith, t.1, e)), λ lt. absurd (omega (arith, ap status_of t.0, l.exactly.1 lt))) }

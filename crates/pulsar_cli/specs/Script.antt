@@ -1,10 +1,11 @@
 -- The run of a script.
 use Rattle.std.specs.Str.{bytes_eq}
-use Rattle.std.specs.Prelude.{◌≡◌, Bool, false, if◌then◌else◌, codes, ℕ, ◌+◌, ◌<◌, ◌≤◌, ◌↔◌, List, [], ◌∷◌, ◌++◌, length, drop, Option, Some, None}
+use Rattle.std.specs.Prelude.{◌≡◌, ◌⊎◌, Bool, false, if◌then◌else◌, codes, ℕ, ◌+◌, ◌<◌, ◌≤◌, ◌↔◌, List, [], ◌∷◌, ◌++◌, length, drop, Option, Some, None}
 use Rattle.pulsar_wire.specs.Field.{◌>>=◌}
 use Rattle.pulsar_client.specs.Address.{address_of}
 use Rattle.pulsar_client.specs.Content.{Heard}
 use Rattle.pulsar_client.specs.Log.{Chosen}
+use Rattle.pulsar_client.specs.Outside.{Rose}
 use Rattle.pulsar_client.specs.Good.{Good, Step, is_empty}
 use Rattle.pulsar_cli.specs.Grammar.{Setting, Url, Now, Line, Nothing, Sets, Happens, Refused, line, lines}
 use Rattle.pulsar_cli.specs.Text.{step, refusal}
@@ -73,6 +74,29 @@ pub record IsRunOf (ls : List (List ℕ)) (h : List Step) : Type 0 where
   pub events : script.events ≡ happened h
   pub good : Good (options script) h
 
+-- What is seen of a source, or of a sink: what it has left, or holds, before and after, where it tells that, and how many
+-- faults it has counted.
+pub record Seen : Type 0 where
+  pub before : Option (List ℕ)
+  pub after : Option (List ℕ)
+  pub faults_before : ℕ
+  pub faults_after : ℕ
+
+abbrev pub seen : {A : Type 0} → (A → Option (List ℕ)) → (A → ℕ) → A → A → Seen
+seen content faults old new =
+    record { before = content old; after = content new; faults_before = faults old; faults_after = faults new }
+
+abbrev pub HasFault : Seen → Type 0
+HasFault s = Rose s.faults_before s.faults_after
+
+-- What a source had to give, and how many bytes of it were taken. One that tells its content says both.
+pub record Given (source : Seen) : Type 0 where
+  pub bytes : List ℕ
+  pub count : ℕ
+  pub within : count ≤ length bytes
+  pub had : (all : List ℕ) → source.before ≡ Some all → all ≡ bytes
+  pub has : (all : List ℕ) → source.before ≡ Some all → source.after ≡ Some (drop count bytes)
+
 -- what a sink holds has grown by these bytes
 abbrev pub Adds : Option (List ℕ) → Option (List ℕ) → List ℕ → Type 0
 Adds old new t = (held : List ℕ) → old ≡ Some held → new ≡ Some (held ++ t)
@@ -84,11 +108,10 @@ pub record AddsFront (old new : Option (List ℕ)) (t : List ℕ) : Type 0 where
   pub whole : t ≡ front ++ back
   pub adds : Adds old new front
 
--- Status 0: the source was read to its end, its lines are in the grammar, and the text of the run was printed.
-pub record IsDone (bytes : List ℕ) (left old new : Option (List ℕ)) : Type 0 where
+-- Status 0: the lines are in the grammar, and the text of their run was printed.
+pub record IsDone (bytes : List ℕ) (old new : Option (List ℕ)) : Type 0 where
   pub history : List Step
   pub run : IsRunOf (lines bytes) history
-  pub end : left ≡ Some []
   pub prints : Adds old new (text history)
 
 -- Status 1: with a line the lines aren't in the grammar any more. The run of the lines before was printed, and the refusal
@@ -113,19 +136,32 @@ pub record IsStopped (bytes : List ℕ) (old new : Option (List ℕ)) : Type 0 w
   pub run : IsRunOf before history
   pub begins : AddsFront old new (text history)
 
--- how a script's run ended, by its status
-pub record Ran (status : ℕ) (bytes : List ℕ) (left old new : Option (List ℕ)) (faultless : Type 0) : Type 0 where
-  pub known : (status ≤ 6) × (status ≡ 2 → ⊥)
-  pub done : status ≡ 0 → IsDone bytes left old new
+-- what was printed of a script of these bytes, by the status with which its run ended
+pub record Printed (status : ℕ) (bytes : List ℕ) (old new : Option (List ℕ)) (faultless : Type 0) : Type 0 where
+  pub done : status ≡ 0 → IsDone bytes old new
   pub refused : status ≡ 1 → IsRefused bytes old new faultless
   pub stopped : 3 ≤ status → IsStopped bytes old new
 
--- n bytes were taken from a source
-abbrev pub Taken : Option (List ℕ) → Option (List ℕ) → ℕ → Type 0
-Taken old new n = (bytes : List ℕ) → old ≡ Some bytes → (n ≤ length bytes) × (new ≡ Some (drop n bytes))
+-- How a script's run ended: with status 0 its source was read to the end, and with status 6 and no other one more bytes than
+-- the limit were taken.
+pub record Ran (status : ℕ) (source sink : Seen) : Type 0 where
+  pub known : (status ≤ 6) × (status ≡ 2 → ⊥)
+  pub given : Given source
+  pub printed : Printed status given.bytes sink.before sink.after (HasFault sink → ⊥)
+  pub whole : status ≡ 0 → given.count ≡ length given.bytes
+  pub source_failed : status ≡ 4 → HasFault source
+  pub sink_failed : status ≡ 5 → HasFault sink
+  pub limits : (status ≡ 6) ↔ (limit < given.count)
 
--- status 6 says that more bytes than the limit were taken, and each other one that no more were
-pub record Limits (status : ℕ) (old new : Option (List ℕ)) : Type 0 where
-  pub count : ℕ
-  pub taken : Taken old new count
-  pub exactly : (status ≡ 6) ↔ (limit < count)
+-- a script is run to its end only where it is in the grammar, and refused only where it isn't
+abbrev pub Decides : Type 0
+Decides =
+    (status : ℕ) (source sink : Seen) (ran : Ran status source sink)
+    → (status ≡ 0 → InGrammar ran.given.bytes) × (status ≡ 1 → InGrammar ran.given.bytes → ⊥)
+
+-- a script in the grammar and within the limit is run to its end, unless memory runs out or there is a fault
+abbrev pub Completes : Type 0
+Completes =
+    (status : ℕ) (source sink : Seen) (ran : Ran status source sink)
+    → InGrammar ran.given.bytes → length ran.given.bytes ≤ limit
+    → (HasFault source → ⊥) → (HasFault sink → ⊥) → (status ≡ 0) ⊎ (status ≡ 3)

@@ -1,5 +1,5 @@
 -- For the code's contracts alone: what its values stand for.
-use Rattle.std.specs.Prelude.{◌≡◌, ◌==◌, ℕ, ◌+◌, List, [], ◌∷◌, ◌++◌, Option, Some, None, false, length, map, string_bytes, Vec, Result, Ok, Err}
+use Rattle.std.specs.Prelude.{◌≡◌, ◌⊎◌, ◌↔◌, ◌<◌, ◌==◌, ℕ, ◌+◌, List, [], ◌∷◌, ◌++◌, Option, Some, None, false, length, map, string_bytes, Vec, Result, Ok, Err, OnOk, IfErr}
 use Rattle.std.specs.List.{All}
 use Rattle.pulsar_cli.specs.Words.{digits_from, in_range}
 use Rattle.pulsar_wire.specs.declared.commands.ids.MessageIdData.{MessageIdData}
@@ -15,12 +15,13 @@ use Rattle.pulsar_cli.specs.declared.reading.Reading.{Reading}
 use Rattle.pulsar_cli.specs.declared.stop.Stop.{Stop}
 use Rattle.pulsar_cli.specs.declared.stop.Stop.TheVariants as stop
 use Rattle.pulsar_client.specs.Outside.{Rose}
-use Rattle.pulsar_client.specs.Content.{heard}
+use Rattle.pulsar_client.specs.Content.{Heard, Shown, heard}
 use Rattle.pulsar_client.specs.Good.{Step, is_empty}
 use Rattle.pulsar_client.specs.Client.{StandsFor}
 use Rattle.pulsar_client.specs.Log.{Chosen}
 use Rattle.pulsar_cli.specs.Grammar.{Setting, Url, Now, Line, Nothing, Sets, Happens, Refused, lines}
-use Rattle.pulsar_cli.specs.Script.{Script, Adds, IsRunOf, IsStopped, options, script_of, happened, text}
+use Rattle.pulsar_cli.specs.Text.{step}
+use Rattle.pulsar_cli.specs.Script.{Script, Adds, Given, IsDone, IsRunOf, IsStopped, Seen, limit, options, script_of, happened, text}
 
 -- the ids of a list
 abbrev pub ids_of : {Z : Type 0} → Vec MessageIdData Z → List Id
@@ -76,6 +77,29 @@ pub record KeepsOptions (old new : Reading) : Type 0 where
 pub record KeepsText (old new : Reading) : Type 0 where
   pub out : new.out ≡ old.out
   pub events : new.events ≡ old.events
+
+-- the same lines read
+abbrev pub KeepsReading : Reading → Reading → Type 0
+KeepsReading old new = (put : List ℕ) (read : List (List ℕ)) (h : List Step) → Reads old put read h → Reads new put read h
+
+-- this line was read more
+abbrev pub ReadsMore : Reading → Reading → List ℕ → Type 0
+ReadsMore old new line =
+    (put : List ℕ) (read : List (List ℕ)) (h : List Step) → Reads old put read h
+    → (next : List Step) × Reads new put (read ++ line ∷ []) next
+
+-- with this line the lines aren't in the grammar any more
+abbrev pub IsNoScriptWith : Reading → List ℕ → Type 0
+IsNoScriptWith r line =
+    (put : List ℕ) (read : List (List ℕ)) (h : List Step) → Reads r put read h → script_of (read ++ line ∷ []) ≡ None
+
+-- the client has gone on by a step of this event, whose text waits
+abbrev pub Steps : Reading → Reading → Heard → Type 0
+Steps old new event =
+    (h : List Step) → IsClient (options (said old [])) old.client h
+    → (effects : List Shown)
+    × IsClient (options (said old [])) new.client (record { event = event; effects = effects } ∷ h)
+    × (string_bytes new.out ≡ string_bytes old.out ++ step old.events effects)
 
 -- the lines of the bytes that were consumed, and the front of the next one
 pub record Splits (consumed : List ℕ) (read : List (List ℕ)) (pending : List ℕ) : Type 0 where
@@ -134,12 +158,6 @@ InTurn stop.TooLong sink sink' = ⊥
 InTurn stop.Sink sink sink' = Rose sink sink'
 InTurn _ sink sink' = Unit {0}
 
--- all lines of these bytes were read, and a sink has grown by the text of their run
-pub record Ends (old new : Option (List ℕ)) (bytes : List ℕ) : Type 0 where
-  pub history : List Step
-  pub run : IsRunOf (lines bytes) history
-  pub adds : Adds old new (text history)
-
 -- the status of a stop
 abbrev pub status_of : Stop → ℕ
 status_of stop.Refused = 1
@@ -152,3 +170,15 @@ status_of stop.TooLong = 6
 abbrev pub read_status : Result (Unit {0}) Stop → ℕ
 read_status (Ok done) = 0
 read_status (Err s) = status_of s
+
+-- a status tells of its stop
+abbrev pub Told : ℕ → Stop → Type 0
+Told status s = (status ≡ status_of s) ⊎ ((s ≡ stop.Refused) × (status ≡ 3))
+
+-- how the reading of a source ended
+pub record HasRead (result : Result (Unit {0}) Stop) (r : Reading) (source sink : Seen) : Type 0 where
+  pub given : Given source
+  pub done : OnOk result (IsDone given.bytes sink.before sink.after × (given.count ≡ length given.bytes))
+  pub halts : IfErr result (λ s. Halts s r sink.before sink.after given.bytes)
+  pub faults : IfErr result (λ s. Faults s source.faults_before source.faults_after sink.faults_before sink.faults_after)
+  pub limits : (read_status result ≡ 6) ↔ (limit < given.count)

@@ -9,6 +9,7 @@ mod reading;
 mod standard;
 mod stop;
 
+pub use crate::printing::effect::push_step;
 pub use crate::program::{
     DONE, NO_FORM, NO_MEMORY, REFUSED, SINK_FAILED, SOURCE_FAILED, Status, TOO_LONG, run, script,
 };

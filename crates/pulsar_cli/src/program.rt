@@ -1,9 +1,9 @@
 //! The top call: the words of the command line, and a script's run.
 
-ghost use Rattle.std.specs.Prelude.{◌≡◌, ◌++◌, ◌≤◌, ◌↔◌, ◌⊎◌, true, false, [], ℕ, List, Option, Some, MatchResult, OnOk, IfErr, length, map, string_bytes};
+ghost use Rattle.std.specs.Prelude.{◌≡◌, ◌++◌, ◌≤◌, ◌↔◌, ◌⊎◌, false, [], ℕ, List, Option, MatchResult, OnErr, OnOk, IfErr, map, string_bytes};
 ghost use Rattle.pulsar_client.specs.Outside.{Rose};
-ghost use Rattle.pulsar_cli.specs.Script.{Adds, AddsFront, IsDone, InGrammar, Limits, Ran, is_script, limit};
-ghost use Rattle.pulsar_cli.specs.Shown.{read_status, Ends, Faults, Halts, InTurn, Prints, Refusing, Running, status_of};
+ghost use Rattle.pulsar_cli.specs.Script.{Adds, AddsFront, IsDone, Printed, Ran, is_script, seen};
+ghost use Rattle.pulsar_cli.specs.Shown.{HasRead, Halts, InTurn, Prints, Refusing, Running, Told};
 
 use crate::printing::effect::push_refusal;
 use crate::reading::Reading;
@@ -12,8 +12,8 @@ use pulsar_client::outside::sink::Sink;
 use pulsar_client::outside::source::Source;
 use std::alloc::Global;
 
-/// How a run ended: 0 done, 1 a line is not in the grammar, 2 the words are no form of the program, 3 want of memory, 4 the
-/// source failed, 5 the sink failed, 6 too many bytes.
+/// How a run ended: 0 done, 1 a line is not in the grammar, 2 the words are no form of the program, 3 want of memory, 4
+/// the source failed, 5 the sink failed, 6 too many bytes.
 pub type Status = u8;
 
 pub const DONE: Status = 0;
@@ -45,11 +45,9 @@ pub fn run<S: Source, K: Sink>(
 ) -> Status
     ensures no_form { (result ≡ 2) ↔ (is_script (map string_bytes words.now) ≡ false) }
     ensures nothing { result ≡ 2 → (source.new ≡ source.old) × (sink.new ≡ sink.old) }
-    ensures runs { is_script (map string_bytes words.now) ≡ true → (bytes : List ℕ) → S.left source.old ≡ Some bytes → Ran result bytes (S.left source.new) (K.holds sink.old) (K.holds sink.new) (Rose (K.faults sink.old) (K.faults sink.new) → ⊥) }
-    ensures source_failed { result ≡ 4 → Rose (S.faults source.old) (S.faults source.new) }
-    ensures sink_failed { result ≡ 5 → Rose (K.faults sink.old) (K.faults sink.new) }
-    ensures complete { is_script (map string_bytes words.now) ≡ true → (bytes : List ℕ) → S.left source.old ≡ Some bytes → InGrammar bytes → length bytes ≤ limit → (Rose (S.faults source.old) (S.faults source.new) → ⊥) → (Rose (K.faults sink.old) (K.faults sink.new) → ⊥) → (result ≡ 0) ⊎ (result ≡ 3) }
-    ensures limits { is_script (map string_bytes words.now) ≡ true → Limits result (S.left source.old) (S.left source.new) }
+    ensures status { result ≤ 6 }
+    ensures runs { (result ≡ 2 → ⊥)
+        → Ran result (seen S.left S.faults source.old source.new) (seen K.holds K.faults sink.old sink.new) }
 {
     if is_script(words) {
         return script(alloc, source, sink);
@@ -69,23 +67,7 @@ fn is_script(words: &[String]) -> bool
 
 /// Reads a script from the source and prints its run to the sink.
 pub fn script<S: Source, K: Sink>(alloc: Global, source: &mut S, sink: &mut K) -> Status
-    ensures runs { (bytes : List ℕ) → S.left source.old ≡ Some bytes → Ran result bytes (S.left source.new) (K.holds sink.old) (K.holds sink.new) (Rose (K.faults sink.old) (K.faults sink.new) → ⊥) }
-    ensures form { result ≡ 2 → ⊥ }
-    ensures source_failed { result ≡ 4 → Rose (S.faults source.old) (S.faults source.new) }
-    ensures sink_failed { result ≡ 5 → Rose (K.faults sink.old) (K.faults sink.new) }
-    ensures limits { Limits result (S.left source.old) (S.left source.new) }
-    ensures complete { (bytes : List ℕ) → S.left source.old ≡ Some bytes → InGrammar bytes → length bytes ≤ limit → (Rose (S.faults source.old) (S.faults source.new) → ⊥) → (Rose (K.faults sink.old) (K.faults sink.new) → ⊥) → (result ≡ 0) ⊎ (result ≡ 3) }
-{
-    read_and_print(alloc, source, sink)
-}
-
-/// The same, as it is done.
-fn read_and_print<S: Source, K: Sink>(alloc: Global, source: &mut S, sink: &mut K) -> Status
-    ensures runs { (bytes : List ℕ) → S.left source.old ≡ Some bytes → Ran result bytes (S.left source.new) (K.holds sink.old) (K.holds sink.new) (Rose (K.faults sink.old) (K.faults sink.new) → ⊥) }
-    ensures form { result ≡ 2 → ⊥ }
-    ensures source_failed { result ≡ 4 → Rose (S.faults source.old) (S.faults source.new) }
-    ensures sink_failed { result ≡ 5 → Rose (K.faults sink.old) (K.faults sink.new) }
-    ensures limits { Limits result (S.left source.old) (S.left source.new) }
+    ensures { Ran result (seen S.left S.faults source.old source.new) (seen K.holds K.faults sink.old sink.new) }
 {
     let Ok(mut reading) = Reading::new(alloc) else {
         return NO_MEMORY;
@@ -98,8 +80,10 @@ fn read_and_print<S: Source, K: Sink>(alloc: Global, source: &mut S, sink: &mut 
 
 /// The status of a run that stops so.
 fn halt<K: Sink>(stop: Stop, reading: &mut Reading, sink: &mut K) -> Status
-    ensures runs { (old : Option (List ℕ)) (bytes : List ℕ) (left : Option (List ℕ)) (faults : ℕ) → faults ≤ K.faults sink.old → Halts stop reading.old old (K.holds sink.old) bytes → Ran result bytes left old (K.holds sink.new) (Rose faults (K.faults sink.new) → ⊥) }
-    ensures status { (result ≡ status_of stop) ⊎ ((stop ≡ Stop.Refused) × (result ≡ 3)) }
+    ensures told { Told result stop }
+    ensures runs { (old : Option (List ℕ)) (bytes : List ℕ) (faults : ℕ) → faults ≤ K.faults sink.old
+        → Halts stop reading.old old (K.holds sink.old) bytes
+        → Printed result bytes old (K.holds sink.new) (Rose faults (K.faults sink.new) → ⊥) }
     ensures kept { (stop ≡ Stop.Refused → ⊥) → sink.new ≡ sink.old }
 {
     match stop {
@@ -114,9 +98,8 @@ fn halt<K: Sink>(stop: Stop, reading: &mut Reading, sink: &mut K) -> Status
 /// Takes the source's bytes piece by piece, and puts the run of each before the next.
 fn read<S: Source, K: Sink>(reading: &mut Reading, source: &mut S, sink: &mut K) -> Result<(), Stop>
     requires { Running reading.old [] [] }
-    ensures runs { (bytes : List ℕ) → S.left source.old ≡ Some bytes → MatchResult result (λ _. IsDone bytes (S.left source.new) (K.holds sink.old) (K.holds sink.new)) (λ stop. Halts stop reading.new (K.holds sink.old) (K.holds sink.new) bytes) }
-    ensures faults { IfErr result (λ stop. Faults stop (S.faults source.old) (S.faults source.new) (K.faults sink.old) (K.faults sink.new)) }
-    ensures limits { Limits (read_status result) (S.left source.old) (S.left source.new) }
+    ensures has_read { HasRead result reading.new
+        (seen S.left S.faults source.old source.new) (seen K.holds K.faults sink.old sink.new) }
     ensures grows { K.faults sink.old ≤ K.faults sink.new }
 {
     let Ok(mut buf) = vec![in reading.alloc; 0u8; PIECE] else {
@@ -140,7 +123,10 @@ fn read<S: Source, K: Sink>(reading: &mut Reading, source: &mut S, sink: &mut K)
 
 /// The lines that end in a piece, with their text.
 fn turn<K: Sink>(reading: &mut Reading, piece: &[u8], sink: &mut K) -> Result<(), Stop>
-    ensures runs { (old : Option (List ℕ)) (consumed future : List ℕ) → Prints reading.old old (K.holds sink.old) consumed → MatchResult result (λ _. Prints reading.new old (K.holds sink.new) (consumed ++ piece.now)) (λ stop. Halts stop reading.new old (K.holds sink.new) (consumed ++ (piece.now ++ future))) }
+    ensures runs { (old : Option (List ℕ)) (consumed future : List ℕ)
+        → Prints reading.old old (K.holds sink.old) consumed
+        → MatchResult result (λ _. Prints reading.new old (K.holds sink.new) (consumed ++ piece.now))
+        (λ stop. Halts stop reading.new old (K.holds sink.new) (consumed ++ (piece.now ++ future))) }
     ensures stop { IfErr result (λ stop. InTurn stop (K.faults sink.old) (K.faults sink.new)) }
     ensures grows { K.faults sink.old ≤ K.faults sink.new }
 {
@@ -151,7 +137,10 @@ fn turn<K: Sink>(reading: &mut Reading, piece: &[u8], sink: &mut K) -> Result<()
 
 /// The source has ended, and so does the last line.
 fn ends<K: Sink>(reading: &mut Reading, sink: &mut K) -> Result<(), Stop>
-    ensures runs { (old : Option (List ℕ)) (consumed : List ℕ) → Prints reading.old old (K.holds sink.old) consumed → MatchResult result (λ _. Ends old (K.holds sink.new) consumed) (λ stop. Halts stop reading.new old (K.holds sink.new) consumed) }
+    ensures runs { (old : Option (List ℕ)) (consumed : List ℕ)
+        → Prints reading.old old (K.holds sink.old) consumed
+        → MatchResult result (λ _. IsDone consumed old (K.holds sink.new))
+        (λ stop. Halts stop reading.new old (K.holds sink.new) consumed) }
     ensures stop { IfErr result (λ stop. InTurn stop (K.faults sink.old) (K.faults sink.new)) }
     ensures grows { K.faults sink.old ≤ K.faults sink.new }
 {
@@ -162,7 +151,8 @@ fn ends<K: Sink>(reading: &mut Reading, sink: &mut K) -> Result<(), Stop>
 
 /// A line is not in the grammar: the text of the lines before is put, and then the refusal.
 fn refused<K: Sink>(reading: &mut Reading, sink: &mut K) -> Status
-    ensures runs { (old : Option (List ℕ)) (bytes : List ℕ) (left : Option (List ℕ)) → Refusing reading.old old (K.holds sink.old) bytes → Ran result bytes left old (K.holds sink.new) (Rose (K.faults sink.old) (K.faults sink.new) → ⊥) }
+    ensures runs { (old : Option (List ℕ)) (bytes : List ℕ) → Refusing reading.old old (K.holds sink.old) bytes
+        → Printed result bytes old (K.holds sink.new) (Rose (K.faults sink.old) (K.faults sink.new) → ⊥) }
     ensures status { (result ≡ 1) ⊎ (result ≡ 3) }
     ensures grows { K.faults sink.old ≤ K.faults sink.new }
 {
@@ -176,8 +166,11 @@ fn refused<K: Sink>(reading: &mut Reading, sink: &mut K) -> Status
 /// Puts the text that is there.
 fn flush<K: Sink>(reading: &mut Reading, sink: &mut K) -> Result<(), Stop>
     ensures ok { OnOk result (Adds (K.holds sink.old) (K.holds sink.new) (string_bytes reading.old.out)) }
-    ensures kept { OnOk result ((put consumed : List ℕ) → Running reading.old put consumed → Running reading.new (put ++ string_bytes reading.old.out) consumed) }
-    ensures err { IfErr result (λ stop. (stop ≡ Stop.Sink) × AddsFront (K.holds sink.old) (K.holds sink.new) (string_bytes reading.old.out) × Rose (K.faults sink.old) (K.faults sink.new)) }
+    ensures kept { OnOk result ((put consumed : List ℕ) → Running reading.old put consumed
+        → Running reading.new (put ++ string_bytes reading.old.out) consumed) }
+    ensures stop { IfErr result (λ stop. stop ≡ Stop.Sink) }
+    ensures front { OnErr result (AddsFront (K.holds sink.old) (K.holds sink.new) (string_bytes reading.old.out)) }
+    ensures rises { OnErr result (Rose (K.faults sink.old) (K.faults sink.new)) }
     ensures grows { K.faults sink.old ≤ K.faults sink.new }
 {
     put_all(sink, reading.out.as_bytes())?;
@@ -188,7 +181,9 @@ fn flush<K: Sink>(reading: &mut Reading, sink: &mut K) -> Result<(), Stop>
 /// Puts all bytes.
 fn put_all<K: Sink>(sink: &mut K, bytes: &[u8]) -> Result<(), Stop>
     ensures ok { OnOk result (Adds (K.holds sink.old) (K.holds sink.new) bytes.now) }
-    ensures err { IfErr result (λ stop. (stop ≡ Stop.Sink) × AddsFront (K.holds sink.old) (K.holds sink.new) bytes.now × Rose (K.faults sink.old) (K.faults sink.new)) }
+    ensures stop { IfErr result (λ stop. stop ≡ Stop.Sink) }
+    ensures front { OnErr result (AddsFront (K.holds sink.old) (K.holds sink.new) bytes.now) }
+    ensures rises { OnErr result (Rose (K.faults sink.old) (K.faults sink.new)) }
     ensures grows { K.faults sink.old ≤ K.faults sink.new }
 {
     let mut done = 0;

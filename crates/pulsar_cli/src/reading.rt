@@ -1,14 +1,13 @@
 //! A script that is being read, and its run.
 
-ghost use Rattle.std.specs.Prelude.{◌≡◌, ◌⊎◌, ◌+◌, ◌∷◌, ◌++◌, [], ℕ, List, None, Err, IfErr, IfOk, OnOk, is_some, string_bytes, true};
+ghost use Rattle.std.specs.Prelude.{◌≡◌, ◌⊎◌, ◌+◌, ◌++◌, [], ℕ, List, None, Err, IfErr, IfOk, OnOk, is_some, true};
 ghost use Rattle.pulsar_client.specs.Address.{address_of};
 ghost use Rattle.pulsar_client.specs.Client.{StandsFor};
-ghost use Rattle.pulsar_client.specs.Content.{Shown, heard};
+ghost use Rattle.pulsar_client.specs.Content.{heard};
 ghost use Rattle.pulsar_client.specs.Good.{Step};
 ghost use Rattle.pulsar_cli.specs.Grammar.{line as meaning};
-ghost use Rattle.pulsar_cli.specs.Script.{options, script_of, sets};
-ghost use Rattle.pulsar_cli.specs.Shown.{IsClient, KeepsOptions, KeepsText, Reads, Refuses, Running, line_of, said, setting_of};
-ghost use Rattle.pulsar_cli.specs.Text.{step};
+ghost use Rattle.pulsar_cli.specs.Script.{options, sets};
+ghost use Rattle.pulsar_cli.specs.Shown.{IsClient, IsNoScriptWith, KeepsOptions, KeepsReading, KeepsText, ReadsMore, Refuses, Running, Steps, line_of, said, setting_of};
 
 use crate::grammar::line::{Line, Setting, parse};
 use crate::grammar::word::cut_line;
@@ -17,7 +16,7 @@ use crate::stop::Stop;
 use pulsar_client::event::Event;
 use pulsar_client::options::ClientOptions;
 use pulsar_client::pulsar::Pulsar;
-use pulsar_wire::error::NoMemory;
+use pulsar_wire::NoMemory;
 use std::alloc::Global;
 
 /// A script that is being read.
@@ -59,9 +58,11 @@ impl Reading {
 
     /// The lines that end in a piece, and the front of the next.
     pub fn piece(&mut self, piece: &[u8]) -> Result<(), Stop>
-        ensures ok { OnOk result ((put consumed : List ℕ) → Running self.old put consumed → Running self.new put (consumed ++ piece.now)) }
+        ensures ok { OnOk result ((put consumed : List ℕ) → Running self.old put consumed
+            → Running self.new put (consumed ++ piece.now)) }
         ensures stop { IfErr result (λ stop. (stop ≡ Stop.Refused) ⊎ (stop ≡ Stop.NoMemory)) }
-        ensures refused { result ≡ Err Stop.Refused → (put consumed : List ℕ) → Running self.old put consumed → Refuses self.new put (consumed ++ piece.now) }
+        ensures refused { result ≡ Err Stop.Refused → (put consumed : List ℕ) → Running self.old put consumed
+            → Refuses self.new put (consumed ++ piece.now) }
     {
         let mut rest = piece;
         while let Some((end, after)) = cut_line(rest) {
@@ -76,7 +77,7 @@ impl Reading {
     /// The bytes of a line go on.
     fn more(&mut self, bytes: &[u8]) -> Result<(), Stop>
         ensures ok { OnOk result (self.new.pending.items ≡ self.old.pending.items ++ bytes.now) }
-        ensures kept { OnOk result ((put : List ℕ) (read : List (List ℕ)) (h : List Step) → Reads self.old put read h → Reads self.new put read h) }
+        ensures kept { OnOk result (KeepsReading self.old self.new) }
         ensures err { IfErr result (λ stop. stop ≡ Stop.NoMemory) }
     {
         match self.pending.extend_from_slice(bytes) {
@@ -88,9 +89,10 @@ impl Reading {
     /// A line has ended.
     pub fn line(&mut self) -> Result<(), Stop>
         ensures ok { OnOk result (self.new.pending.items ≡ []) }
-        ensures reads { OnOk result ((put : List ℕ) (read : List (List ℕ)) (h : List Step) → Reads self.old put read h → (next : List Step) × Reads self.new put (read ++ self.old.pending.items ∷ []) next) }
+        ensures reads { OnOk result (ReadsMore self.old self.new self.old.pending.items) }
         ensures stop { IfErr result (λ stop. (stop ≡ Stop.Refused) ⊎ (stop ≡ Stop.NoMemory)) }
-        ensures refused { result ≡ Err Stop.Refused → (self.new ≡ self.old) × ((put : List ℕ) (read : List (List ℕ)) (h : List Step) → Reads self.old put read h → script_of (read ++ self.old.pending.items ∷ []) ≡ None) }
+        ensures refused { result ≡ Err Stop.Refused
+            → (self.new ≡ self.old) × IsNoScriptWith self.old self.old.pending.items }
     {
         let Ok(line) = parse(self.alloc, &self.pending) else {
             return Err(Stop::NoMemory);
@@ -102,9 +104,12 @@ impl Reading {
 
     /// A line is nothing, or a setting, or a step, or not of the grammar.
     fn take(&mut self, line: Line) -> Result<(), Stop>
-        ensures reads { OnOk result ((put : List ℕ) (read : List (List ℕ)) (h : List Step) (bytes : List ℕ) → Reads self.old put read h → meaning bytes ≡ line_of line → (next : List Step) × Reads self.new put (read ++ bytes ∷ []) next) }
+        ensures reads { OnOk result ((bytes : List ℕ) → meaning bytes ≡ line_of line
+            → ReadsMore self.old self.new bytes) }
         ensures stop { IfErr result (λ stop. (stop ≡ Stop.Refused) ⊎ (stop ≡ Stop.NoMemory)) }
-        ensures refused { result ≡ Err Stop.Refused → (self.new ≡ self.old) × ((put : List ℕ) (read : List (List ℕ)) (h : List Step) (bytes : List ℕ) → Reads self.old put read h → meaning bytes ≡ line_of line → script_of (read ++ bytes ∷ []) ≡ None) }
+        ensures refused { result ≡ Err Stop.Refused
+            → (self.new ≡ self.old) × ((bytes : List ℕ)
+            → meaning bytes ≡ line_of line → IsNoScriptWith self.old bytes) }
     {
         match line {
             Line::Nothing => {
@@ -144,7 +149,8 @@ impl Reading {
         ensures client { OnOk result (self.new.client ≡ self.old.client) }
         ensures text { OnOk result (KeepsText self.old self.new) }
         ensures line { OnOk result (self.new.line ≡ self.old.line) }
-        ensures refused { IfErr result (λ stop. (stop ≡ Stop.Refused) × (self.new ≡ self.old) × (is_some self.old.client ≡ true)) }
+        ensures refused { IfErr result (λ stop. (stop ≡ Stop.Refused) × (self.new ≡ self.old)
+            × (is_some self.old.client ≡ true)) }
     {
         if let Some(_) = &self.client {
             return Err(Stop::Refused);
@@ -161,7 +167,7 @@ impl Reading {
         ensures options { OnOk result (KeepsOptions self.old self.new) }
         ensures line { OnOk result (self.new.line ≡ self.old.line) }
         ensures events { OnOk result (self.new.events ≡ self.old.events + 1) }
-        ensures history { OnOk result ((h : List Step) → IsClient (options (said self.old [])) self.old.client h → (effects : List Shown) × IsClient (options (said self.old [])) self.new.client (record { event = heard event; effects = effects } ∷ h) × (string_bytes self.new.out ≡ string_bytes self.old.out ++ step self.old.events effects)) }
+        ensures history { OnOk result (Steps self.old self.new (heard event)) }
         ensures err { IfErr result (λ stop. stop ≡ Stop.NoMemory) }
     {
         let mut client = self.started()?;
@@ -178,7 +184,8 @@ impl Reading {
 
     /// The client, taken out; it is made where the first event comes.
     fn started(&mut self) -> Result<Pulsar, Stop>
-        ensures client { IfOk result (λ c. (h : List Step) → IsClient (options (said self.old [])) self.old.client h → StandsFor (options (said self.old [])) c h) }
+        ensures client { IfOk result (λ c. (h : List Step) → IsClient (options (said self.old [])) self.old.client h
+            → StandsFor (options (said self.old [])) c h) }
         ensures options { OnOk result (KeepsOptions self.old self.new) }
         ensures text { OnOk result (KeepsText self.old self.new) }
         ensures line { OnOk result (self.new.line ≡ self.old.line) }
@@ -193,7 +200,8 @@ impl Reading {
 
 /// A client with these options, to which nothing has happened.
 fn made(alloc: Global, url: &str, time: u64) -> Result<Pulsar, Stop>
-    ensures ok { IfOk result (λ c. StandsFor (record { first_number = 0; now = time; address = address_of url.now }) c []) }
+    ensures ok { IfOk result (λ c.
+        StandsFor (record { first_number = 0; now = time; address = address_of url.now }) c []) }
     ensures err { IfErr result (λ stop. stop ≡ Stop.NoMemory) }
 {
     let Ok(url) = String::from_str(alloc, url) else {

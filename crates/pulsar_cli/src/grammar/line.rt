@@ -9,8 +9,7 @@ ghost use Rattle.pulsar_cli.specs.Shown.{line_of, setting_of};
 use crate::grammar::raw::raw_call;
 use crate::grammar::word::{hex_bytes, is, number, text, words};
 use pulsar_client::event::{Call, Event};
-use pulsar_wire::commands::topics::Mode;
-use pulsar_wire::error::{IoKind, NoMemory};
+use pulsar_wire::{IoKind, Mode, NoMemory};
 use std::alloc::Global;
 
 /// An option of the client.

@@ -8,7 +8,7 @@ ghost use Rattle.pulsar_cli.specs.Shown.{draft_of};
 
 use crate::grammar::word::{find, is, number, text, word_bytes};
 use pulsar_client::raw_call::ProducerMessage;
-use pulsar_wire::error::NoMemory;
+use pulsar_wire::NoMemory;
 use std::alloc::Global;
 
 /// What the words so far say.
@@ -224,7 +224,8 @@ fn property(alloc: Global, draft: Draft, word: &[u8]) -> Result<Option<Draft>, N
 
 /// A property goes to the place of its name.
 fn with_property(draft: Draft, name: String, value: String) -> Result<Draft, NoMemory>
-    ensures { IfOk result (λ d. draft_of d ≡ with_property (draft_of draft) (string_bytes name) (string_bytes value)) }
+    ensures { IfOk result (λ d. draft_of d
+        ≡ with_property (draft_of draft) (string_bytes name) (string_bytes value)) }
 {
     let mut draft = draft;
     draft.message.properties.insert(name, value)?;

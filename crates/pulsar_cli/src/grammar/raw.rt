@@ -10,11 +10,9 @@ ghost use Rattle.pulsar_cli.specs.RawLines.{ack, close_consumer, close_producer,
 use crate::grammar::message::message;
 use crate::grammar::word::{hex_bytes, is, number, text};
 use pulsar_client::raw_call::RawCall;
-use pulsar_wire::commands::enumerations::SubType;
-use pulsar_wire::commands::ids::MessageIdData;
 use pulsar_wire::encoding::message::decode;
 use pulsar_wire::encoding::read_error::ReadError;
-use pulsar_wire::error::NoMemory;
+use pulsar_wire::{MessageIdData, NoMemory, SubType};
 use std::alloc::Global;
 
 /// What stands behind `call link LINK`.

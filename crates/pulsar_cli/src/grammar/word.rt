@@ -8,7 +8,7 @@ ghost use Rattle.pulsar_cli.specs.Words.{digits_from, escaped, hex, in_range, is
 ghost use Rattle.pulsar_cli.specs.Shown.{IsWithinLine, more_digits};
 
 use hex::FromHexError;
-use pulsar_wire::error::NoMemory;
+use pulsar_wire::NoMemory;
 use std::alloc::{AllocError, Global};
 
 /// The words of a line, with one blank between.
@@ -20,7 +20,8 @@ pub fn words<'a>(alloc: Global, line: &'a [u8]) -> Result<Vec<&'a [u8]>, AllocEr
 
 /// The bytes in front of the first line feed, and those behind it.
 pub fn cut_line(bytes: &[u8]) -> Option<(&[u8], &[u8])>
-    ensures { MatchOption result (IsWithinLine bytes.now) (λ p. IsWithinLine p.0.now × (bytes.now ≡ p.0.now ++ 10 ∷ p.1.now) × (length p.1.now < length bytes.now)) }
+    ensures { MatchOption result (IsWithinLine bytes.now) (λ p. IsWithinLine p.0.now
+        × (bytes.now ≡ p.0.now ++ 10 ∷ p.1.now) × (length p.1.now < length bytes.now)) }
 {
     let at = find(bytes, b'\n')?;
     Some((&bytes[..at], &bytes[at + 1..]))
@@ -123,7 +124,8 @@ fn unescaped(alloc: Global, word: &[u8]) -> Result<Option<Vec<u8>>, NoMemory>
 
 /// The byte of two hex digits, and what follows them.
 fn escaped(bytes: &[u8]) -> Option<(u8, &[u8])>
-    ensures { MatchOption result (escaped bytes.now ≡ None) (λ p. (escaped bytes.now ≡ with_byte p.0 (unescaped p.1.now)) × (length p.1.now < length bytes.now)) }
+    ensures { MatchOption result (escaped bytes.now ≡ None) (λ p.
+        (escaped bytes.now ≡ with_byte p.0 (unescaped p.1.now)) × (length p.1.now < length bytes.now)) }
 {
     let (high, rest) = bytes.split_first()?;
     let (low, rest) = rest.split_first()?;

@@ -9,19 +9,17 @@ ghost use Rattle.pulsar_client.specs.Messages.{body_bytes};
 ghost use Rattle.pulsar_cli.specs.Text as printed;
 ghost use Rattle.pulsar_cli.specs.WordText.{hex};
 
-use crate::printing::body::encode_body;
 use crate::printing::error::push_error;
 use crate::printing::word::{push_hex, push_word};
 use pulsar_client::effect::{Answer, Effect, Handed, Settlement};
-use pulsar_wire::commands::base::Body;
-use pulsar_wire::commands::producer::CommandSendReceipt;
 use pulsar_wire::encoding::message::encode;
-use pulsar_wire::error::Error;
+use pulsar_wire::{Body, CommandSendReceipt, Error};
 use std::alloc::AllocError;
 
 /// A step: the number of its event, and its effects.
 pub fn push_step(out: &mut String, event: u64, effects: &[Effect]) -> Result<(), AllocError>
-    ensures { OnOk result (string_bytes out.new ≡ string_bytes out.old ++ printed.step event (map shown effects.now)) }
+    ensures { OnOk result (string_bytes out.new ≡ string_bytes out.old
+        ++ printed.step event (map shown effects.now)) }
 {
     write!(out, "event {event}\n")?;
     for effect in effects {
@@ -95,7 +93,8 @@ fn push_answer(out: &mut String, answer: &Result<Answer, Error>) -> Result<(), A
 }
 
 fn push_names(out: &mut String, names: &[String]) -> Result<(), AllocError>
-    ensures { OnOk result (string_bytes out.new ≡ string_bytes out.old ++ printed.answer (Names (map string_bytes names.now))) }
+    ensures { OnOk result (string_bytes out.new ≡ string_bytes out.old
+        ++ printed.answer (Names (map string_bytes names.now))) }
 {
     let count = names.len();
     write!(out, "ok topics {count}")?;
@@ -107,7 +106,8 @@ fn push_names(out: &mut String, names: &[String]) -> Result<(), AllocError>
 }
 
 fn push_receipt(out: &mut String, receipt: &CommandSendReceipt) -> Result<(), AllocError>
-    ensures { OnOk result (string_bytes out.new ≡ string_bytes out.old ++ printed.answer (Receipt (spelling send_receipt (send_receipt_values receipt.now)))) }
+    ensures { OnOk result (string_bytes out.new ≡ string_bytes out.old
+        ++ printed.answer (Receipt (spelling send_receipt (send_receipt_values receipt.now)))) }
 {
     let mut bytes = Vec::new(*out.allocator());
     encode(receipt, &mut bytes)?;
@@ -116,7 +116,8 @@ fn push_receipt(out: &mut String, receipt: &CommandSendReceipt) -> Result<(), Al
 }
 
 fn push_replies(out: &mut String, bodies: &[Body]) -> Result<(), AllocError>
-    ensures { OnOk result (string_bytes out.new ≡ string_bytes out.old ++ printed.answer (Replies (map (λ b. body_bytes (body_values b)) bodies.now))) }
+    ensures { OnOk result (string_bytes out.new ≡ string_bytes out.old
+        ++ printed.answer (Replies (map (λ b. body_bytes (body_values b)) bodies.now))) }
 {
     let count = bodies.len();
     write!(out, "ok replies {count}")?;
@@ -131,7 +132,7 @@ fn push_body(out: &mut String, body: &Body) -> Result<(), AllocError>
     ensures { OnOk result (string_bytes out.new ≡ string_bytes out.old ++ hex (body_bytes (body_values body.now))) }
 {
     let mut bytes = Vec::new(*out.allocator());
-    encode_body(body, &mut bytes)?;
+    body.encode(&mut bytes)?;
     push_hex(out, &bytes)
 }
 
@@ -152,7 +153,8 @@ fn push_item(out: &mut String, ticket: u64, item: &Result<Handed, Error>) -> Res
 
 /// A message that a poll hands. Its id and its metadata are printed as they are encoded.
 fn push_handed(out: &mut String, ticket: u64, handed: &Handed) -> Result<(), AllocError>
-    ensures { OnOk result (string_bytes out.new ≡ string_bytes out.old ++ printed.effect (hands ticket (Ok handed.now))) }
+    ensures { OnOk result (string_bytes out.new ≡ string_bytes out.old
+        ++ printed.effect (hands ticket (Ok handed.now))) }
 {
     let alloc = *out.allocator();
     let mut id = Vec::new(alloc);

@@ -8,10 +8,9 @@ ghost use Rattle.pulsar_cli.specs.ErrorText as printed;
 ghost use Rattle.pulsar_cli.specs.WordText.{word};
 
 use crate::printing::word::push_word;
-use pulsar_wire::commands::enumerations::ServerError;
-use pulsar_wire::error::{
+use pulsar_wire::{
     AuthenticationError, ConnectionError, ConsumerError, Error, IoKind, ProducerError, Reason,
-    ServiceDiscoveryError,
+    ServerError, ServiceDiscoveryError,
 };
 use std::alloc::AllocError;
 
@@ -251,7 +250,8 @@ fn push_broker_error(
     code: Option<ServerError>,
     text: &Option<String>,
 ) -> Result<(), AllocError>
-    ensures { OnOk result (string_bytes out.new ≡ string_bytes out.old ++ printed.broker_error code (option_map string_bytes text.now)) }
+    ensures { OnOk result (string_bytes out.new ≡ string_bytes out.old
+        ++ printed.broker_error code (option_map string_bytes text.now)) }
 {
     out.push(' ')?;
     push_code(out, code)?;

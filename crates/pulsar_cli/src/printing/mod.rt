@@ -1,6 +1,5 @@
 //! The printed run.
 
-pub mod body;
 pub mod effect;
 pub mod error;
 pub mod word;

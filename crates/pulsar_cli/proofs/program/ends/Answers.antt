@@ -11,9 +11,8 @@ returns-in_err-line-clause-runs g c = λ old consumed p.
 pub returns-in_err-flush-clause-runs : goal.returns-in_err-flush-clause-runs
 returns-in_err-flush-clause-runs g c = λ old consumed p.
     let next = c.in_ok-line.ensures.reads p.put p.running.read p.running.history p.running.reads in
-    let err = c.in_err-flush.ensures.err in
     let same : c.from_residual-in_err-flush.result ≡ Err stop.Sink = search rules in
-    rw same (halts-end p next.1 err.1)
+    rw same (halts-end p next.1 c.in_err-flush.ensures.front)
 
 pub returns-clause-runs : goal.returns-clause-runs
 returns-clause-runs g c = λ old consumed p.

@@ -1,88 +1,82 @@
-use Rattle.std.proofs.Common.{rules, arith, ◌≡◌, ◌+◌, ◌-◌, ◌<◌, ◌++◌, ◌∙◌, sym, ap, subst, [], ℕ, List, Err, Some, length, take, drop}
+use Rattle.std.proofs.Common.{rules, arith, ◌≡◌, ◌+◌, ◌-◌, ◌<◌, ◌≤◌, ◌++◌, ◌∙◌, refl, sym, ap, subst, [], ℕ, List, Err, Some, length, take, drop, append_assoc, append-nil, length-append}
+use Rattle.std.proofs.lemmas.List.{length-take-le}
 use Rattle.pulsar_cli.specs.Shown.{Halts, Prints}
-use Rattle.pulsar_cli.specs.Script.{limit}
-use Rattle.pulsar_cli.proofs.Prints.{written, consumes, consumes-all, size-kept, done-or-halts, ends-faults, ends-status, limits-past, limits-within, prints-new, prints-stopped, stopped-at, taken-more, taken-same, turn-faults, turn-status, whole}
+use Rattle.pulsar_cli.specs.Script.{IsStopped, limit}
+use Rattle.pulsar_cli.specs.declared.stop.Stop.TheVariants as stop
+use Rattle.pulsar_cli.proofs.Gives.{Gave, gave-more, gave-none, gave-same, read-ends, read-halts}
+use Rattle.pulsar_cli.proofs.Prints.{ends-faults, ends-status, prints-new, prints-stopped, size-kept, turn-faults, turn-status, written}
 use Rattle.pulsar_cli.proofs.Sinks.{rose-from}
 use Rattle.pulsar_cli.proofs.program.read.Goals as goal
 
-pub returns-in_default-clause-runs : goal.returns-in_default-clause-runs
-returns-in_default-clause-runs g c = λ bytes h. prints-stopped bytes (prints-new _ c.requires)
+pub returns-in_default-clause-has_read : goal.returns-in_default-clause-has_read
+returns-in_default-clause-has_read g c =
+    read-halts stop.NoMemory {r = c.args.reading.now} _ _ [] (gave-none _) (λ rest. prints-stopped rest (prints-new _ c.requires)) tt (λ e. absurd (omega (arith, e)), λ lt. absurd (omega (arith, lt)))
 
-pub returns-in_default-take-clause-runs : goal.returns-in_default-take-clause-runs
-returns-in_default-take-clause-runs g c = λ bytes h. stopped-at (limit - c.loop-n.left) bytes (c.loop-n.invariant.runs bytes h)
+pub returns-in_default-take-clause-has_read : goal.returns-in_default-take-clause-has_read
+returns-in_default-take-clause-has_read g c =
+    let inv = c.loop-n.invariant in
+    read-halts stop.Source {r = c.loop-n.reading} _ _ inv.bytes (gave-same inv.bytes inv.gave c.in_default-take.ensures.kept) (λ rest. prints-stopped rest inv.prints) (rose-from _ _ _ inv.sources c.in_default-take.ensures.rises) (λ e. absurd (omega (arith, e)), λ lt. absurd (omega (arith, lt, inv.count, inv.within)))
 
-pub returns-in_default-take-clause-faults : goal.returns-in_default-take-clause-faults
-returns-in_default-take-clause-faults g c = rose-from _ _ _ c.loop-n.invariant.sources c.in_default-take.ensures.rises
+pub returns-in_default-checked_sub-clause-has_read : goal.returns-in_default-checked_sub-clause-has_read
+returns-in_default-checked_sub-clause-has_read g c =
+    let inv = c.loop-n.invariant in
+    let n = c.in-Ok-take.n in
+    let buf = c.take.new.buf in
+    let past : c.loop-n.left < n = omega (arith, c.in_default-checked_sub.ensures) in
+    let same : length buf ≡ length c.deref_mut.result.now = c.take.auto.buf in
+    let size : length (take n buf) ≡ n = length-take-le n buf (omega (arith, same, c.in-Ok-take.ensures.within)) in
+    let both = length-append inv.bytes (take n buf) in
+    read-halts stop.TooLong {r = c.loop-n.reading} _ _ (inv.bytes ++ take n buf) (gave-more inv.bytes buf n inv.gave c.in-Ok-take.ensures.taken c.in-Ok-take.ensures.rest) (λ rest. rw (append_assoc inv.bytes (take n buf) rest) (prints-stopped (take n buf ++ rest) inv.prints)) tt (λ e. omega (arith, past, inv.count, inv.within), λ lt. refl)
 
-pub returns-in_default-take-clause-limits : goal.returns-in_default-take-clause-limits
-returns-in_default-take-clause-limits g c = limits-within 4 (limit - c.loop-n.left) (λ e. absurd (omega (arith, e))) (omega arith) (taken-same (limit - c.loop-n.left) c.loop-n.invariant.taken c.in_default-take.ensures.kept)
-
-pub returns-in_default-checked_sub-clause-runs : goal.returns-in_default-checked_sub-clause-runs
-returns-in_default-checked_sub-clause-runs g c = λ bytes h. stopped-at (limit - c.loop-n.left) bytes (c.loop-n.invariant.runs bytes h)
-
-pub returns-in_default-checked_sub-clause-limits : goal.returns-in_default-checked_sub-clause-limits
-returns-in_default-checked_sub-clause-limits g c =
-    let past : c.loop-n.left < c.in-Ok-take.n = omega (arith, c.in_default-checked_sub.ensures) in
-    limits-past (limit - c.loop-n.left + c.in-Ok-take.n) (omega (arith, c.loop-n.invariant.within)) (taken-more (limit - c.loop-n.left) c.in-Ok-take.n c.loop-n.invariant.taken (λ bytes h. (c.in-Ok-take.ensures.taken bytes h).within) c.in-Ok-take.ensures.rest)
-
-pub returns-then-n-eq0-clause-runs : goal.returns-then-n-eq0-clause-runs
-returns-then-n-eq0-clause-runs g c = λ bytes h.
-    let n = limit - c.loop-n.left in
-    let at = c.loop-n.invariant.taken bytes h in
-    let takes = c.in-Ok-take.ensures.taken (drop n bytes) at.1 in
-    let size = c.take.auto.buf in
-    let items : length c.deref_mut.result.now ≡ 65536 = ap (λ (t : List ℕ). length t) c.deref_mut.ensures.value ∙ c.loop-n.invariant.size in
-    let nothing : drop n bytes ≡ [] = takes.end c.if-n-eq0.true (omega (arith, size, items)) in
-    let left = c.in-Ok-take.ensures.rest (drop n bytes) at.1 in
-    done-or-halts _ _ _ c.ends.result (take n bytes) bytes (whole n bytes nothing) (left ∙ ap (λ k. Some (drop k (drop n bytes))) c.if-n-eq0.true ∙ ap (λ (t : List ℕ). Some t) nothing) (c.ends.ensures.runs _ (take n bytes) (c.loop-n.invariant.runs bytes h))
-
-pub returns-then-n-eq0-clause-faults : goal.returns-then-n-eq0-clause-faults
-returns-then-n-eq0-clause-faults g c = ends-faults c.ends.result _ _ _ _ _ c.loop-n.invariant.sinks c.ends.ensures.stop
-
-pub returns-then-n-eq0-clause-limits : goal.returns-then-n-eq0-clause-limits
-returns-then-n-eq0-clause-limits g c =
-    let taken = taken-more (limit - c.loop-n.left) c.in-Ok-take.n c.loop-n.invariant.taken (λ bytes h. (c.in-Ok-take.ensures.taken bytes h).within) c.in-Ok-take.ensures.rest in
-    limits-within _ (limit - c.loop-n.left + c.in-Ok-take.n) (ends-status c.ends.result _ _ c.ends.ensures.stop) (omega (arith, c.loop-n.invariant.within, c.if-n-eq0.true)) taken
+pub returns-then-n-eq0-clause-has_read : goal.returns-then-n-eq0-clause-has_read
+returns-then-n-eq0-clause-has_read g c =
+    let inv = c.loop-n.invariant in
+    let n = c.in-Ok-take.n in
+    let buf = c.take.new.buf in
+    let same : length buf ≡ length c.deref_mut.result.now = c.take.auto.buf in
+    let items : length c.deref_mut.result.now ≡ 65536 = ap (λ (t : List ℕ). length t) c.deref_mut.ensures.value ∙ inv.size in
+    let none : inv.bytes ++ take n buf ≡ inv.bytes = ap (λ k. inv.bytes ++ take k buf) c.if-n-eq0.true ∙ append-nil inv.bytes in
+    let gave : Gave (g.S.Source.left c.args.source.now) (g.S.Source.left c.take.new.self) inv.bytes = subst (λ t. Gave (g.S.Source.left c.args.source.now) (g.S.Source.left c.take.new.self) t) none (gave-more inv.bytes buf n inv.gave c.in-Ok-take.ensures.taken c.in-Ok-take.ensures.rest) in
+    read-ends c.ends.result _ _ inv.bytes gave
+    (λ all h.
+    let at = inv.gave all h in
+    let nothing : at.0 ≡ [] = (c.in-Ok-take.ensures.taken at.0 at.2).end c.if-n-eq0.true (omega (arith, same, items)) in
+    c.in-Ok-take.ensures.rest at.0 at.2 ∙ ap (λ k. Some (drop k at.0)) c.if-n-eq0.true ∙ ap (λ (t : List ℕ). Some t) nothing)
+    (omega (arith, inv.count, inv.within)) (c.ends.ensures.runs _ inv.bytes inv.prints) (ends-faults c.ends.result _ _ _ _ _ inv.sinks c.ends.ensures.stop) (ends-status c.ends.result _ _ c.ends.ensures.stop)
 
 pub loop-n-preserved : goal.loop-n-preserved
 loop-n-preserved g c =
-    let n = limit - c.loop-n.left in
-    let m = c.in-Ok-take.n in
-    let e : limit - c.in-Some.after ≡ n + m = omega (arith, c.loop-n.invariant.within, c.in-Some.ensures) in
+    let inv = c.loop-n.invariant in
+    let n = c.in-Ok-take.n in
+    let buf = c.take.new.buf in
+    let same : length buf ≡ length c.deref_mut.result.now = c.take.auto.buf in
+    let sized : length buf ≡ c.loop-n.buf.len = same ∙ ap (λ (t : List ℕ). length t) c.deref_mut.ensures.value ∙ sym c.loop-n.buf.ok.0 in
+    let is : c.deref.result.now ≡ buf = c.deref.ensures.value ∙ written c.loop-n.buf.len buf c.loop-n.buf.items sized (sym c.loop-n.buf.ok.0) in
+    let size : length (take n buf) ≡ n = length-take-le n buf (omega (arith, same, c.in-Ok-take.ensures.within)) in
+    let both = length-append inv.bytes (take n buf) in
     record {
-      within = omega (arith, c.loop-n.invariant.within, c.in-Some.ensures);
-      size = size-kept c.loop-n.buf.len c.take.new.buf c.loop-n.buf.items (sym c.loop-n.buf.ok.0) ∙ c.loop-n.buf.ok.0 ∙ c.loop-n.invariant.size;
-      taken = rw e (taken-more n m c.loop-n.invariant.taken (λ bytes h. (c.in-Ok-take.ensures.taken bytes h).within) c.in-Ok-take.ensures.rest);
-      sources = omega (arith, c.loop-n.invariant.sources, c.in-Ok-take.ensures.grows);
-      sinks = omega (arith, c.loop-n.invariant.sinks, c.in_ok-turn.ensures.grows);
-      runs = λ bytes h.
-          let takes = c.in-Ok-take.ensures.taken (drop n bytes) (c.loop-n.invariant.taken bytes h).1 in
-          let sized : length c.take.new.buf ≡ c.loop-n.buf.len = c.take.auto.buf ∙ ap (λ (t : List ℕ). length t) c.deref_mut.ensures.value ∙ sym c.loop-n.buf.ok.0 in
-          let buf : c.deref.result.now ≡ c.take.new.buf = c.deref.ensures.value ∙ written c.loop-n.buf.len c.take.new.buf c.loop-n.buf.items sized (sym c.loop-n.buf.ok.0) in
-          let bytes' : take m c.deref.result.now ≡ take m (drop n bytes) = ap (take m) buf ∙ takes.bytes in
-          let p : Prints c.turn.new.reading (g.K.Sink.holds c.args.sink.now) (g.K.Sink.holds c.turn.new.sink) (take n bytes ++ take m c.deref.result.now) = c.in_ok-turn.ensures.runs _ (take n bytes) [] (c.loop-n.invariant.runs bytes h) in
-          rw (e, sym (consumes n m bytes c.deref.result.now bytes')) p;
+      within = omega (arith, inv.within, c.in-Some.ensures);
+      size = size-kept c.loop-n.buf.len buf c.loop-n.buf.items (sym c.loop-n.buf.ok.0) ∙ c.loop-n.buf.ok.0 ∙ inv.size;
+      bytes = inv.bytes ++ take n buf;
+      count = omega (arith, inv.within, inv.count, c.in-Some.ensures);
+      gave = gave-more inv.bytes buf n inv.gave c.in-Ok-take.ensures.taken c.in-Ok-take.ensures.rest;
+      prints = rw (sym is) (c.in_ok-turn.ensures.runs _ inv.bytes [] inv.prints);
+      sources = omega (arith, inv.sources, c.in-Ok-take.ensures.grows);
+      sinks = omega (arith, inv.sinks, c.in_ok-turn.ensures.grows);
     }
 
-pub returns-in_err-turn-clause-runs : goal.returns-in_err-turn-clause-runs
-returns-in_err-turn-clause-runs g c = λ bytes h.
-    let n = limit - c.loop-n.left in
-    let m = c.in-Ok-take.n in
-    let takes = c.in-Ok-take.ensures.taken (drop n bytes) (c.loop-n.invariant.taken bytes h).1 in
-    let same : c.from_residual.result ≡ Err c.in_err-turn.field-0.0 = search rules in
-    let sized : length c.take.new.buf ≡ c.loop-n.buf.len = c.take.auto.buf ∙ ap (λ (t : List ℕ). length t) c.deref_mut.ensures.value ∙ sym c.loop-n.buf.ok.0 in
-    let buf : c.deref.result.now ≡ c.take.new.buf = c.deref.ensures.value ∙ written c.loop-n.buf.len c.take.new.buf c.loop-n.buf.items sized (sym c.loop-n.buf.ok.0) in
-    let bytes' : take m c.deref.result.now ≡ take m (drop n bytes) = ap (take m) buf ∙ takes.bytes in
-    let halts : Halts c.in_err-turn.field-0.0 c.turn.new.reading (g.K.Sink.holds c.args.sink.now) (g.K.Sink.holds c.turn.new.sink) (take n bytes ++ (take m c.deref.result.now ++ drop m (drop n bytes))) = c.in_err-turn.ensures.runs _ (take n bytes) (drop m (drop n bytes)) (c.loop-n.invariant.runs bytes h) in
-    rw same (subst (λ (t : List ℕ). Halts c.in_err-turn.field-0.0 c.turn.new.reading (g.K.Sink.holds c.args.sink.now) (g.K.Sink.holds c.turn.new.sink) t) (consumes-all n m bytes c.deref.result.now bytes') halts)
-
-pub returns-in_err-turn-clause-faults : goal.returns-in_err-turn-clause-faults
-returns-in_err-turn-clause-faults g c =
-    let same : c.from_residual.result ≡ Err c.in_err-turn.field-0.0 = search rules in
-    rw same (turn-faults c.in_err-turn.field-0.0 _ _ (g.K.Sink.faults c.args.sink.now) (g.K.Sink.faults c.loop-n.sink) (g.K.Sink.faults c.turn.new.sink) c.loop-n.invariant.sinks c.in_err-turn.ensures.stop)
-
-pub returns-in_err-turn-clause-limits : goal.returns-in_err-turn-clause-limits
-returns-in_err-turn-clause-limits g c =
-    let same : c.from_residual.result ≡ Err c.in_err-turn.field-0.0 = search rules in
-    let taken = taken-more (limit - c.loop-n.left) c.in-Ok-take.n c.loop-n.invariant.taken (λ bytes h. (c.in-Ok-take.ensures.taken bytes h).within) c.in-Ok-take.ensures.rest in
-    rw same (limits-within _ (limit - c.loop-n.left + c.in-Ok-take.n) (turn-status c.in_err-turn.field-0.0 _ _ c.in_err-turn.ensures.stop) (omega (arith, c.loop-n.invariant.within, c.in-Some.ensures)) taken)
+pub returns-in_err-turn-clause-has_read : goal.returns-in_err-turn-clause-has_read
+returns-in_err-turn-clause-has_read g c =
+    let inv = c.loop-n.invariant in
+    let n = c.in-Ok-take.n in
+    let buf = c.take.new.buf in
+    let s = c.in_err-turn.field-0.0 in
+    let err : c.from_residual.result ≡ Err c.in_err-turn.field-0.0 = search rules in
+    let same : length buf ≡ length c.deref_mut.result.now = c.take.auto.buf in
+    let sized : length buf ≡ c.loop-n.buf.len = same ∙ ap (λ (t : List ℕ). length t) c.deref_mut.ensures.value ∙ sym c.loop-n.buf.ok.0 in
+    let is : c.deref.result.now ≡ buf = c.deref.ensures.value ∙ written c.loop-n.buf.len buf c.loop-n.buf.items sized (sym c.loop-n.buf.ok.0) in
+    let size : length (take n buf) ≡ n = length-take-le n buf (omega (arith, same, c.in-Ok-take.ensures.within)) in
+    let both = length-append inv.bytes (take n buf) in
+    let halts : (rest : List ℕ) → Halts c.in_err-turn.field-0.0 c.turn.new.reading (g.K.Sink.holds c.args.sink.now) (g.K.Sink.holds c.turn.new.sink) ((inv.bytes ++ take n buf) ++ rest) = λ rest. rw (append_assoc inv.bytes (take n buf) rest, sym is) (c.in_err-turn.ensures.runs _ inv.bytes rest inv.prints) in
+    rw err
+    (read-halts s {r = c.turn.new.reading} _ _ (inv.bytes ++ take n buf) (gave-more inv.bytes buf n inv.gave c.in-Ok-take.ensures.taken c.in-Ok-take.ensures.rest) halts (turn-faults s _ _ (g.K.Sink.faults c.args.sink.now) (g.K.Sink.faults c.loop-n.sink) (g.K.Sink.faults c.turn.new.sink) inv.sinks c.in_err-turn.ensures.stop) (λ e. absurd (turn-status s _ _ c.in_err-turn.ensures.stop e), λ lt. absurd (omega (arith, lt, inv.within, inv.count, c.in-Some.ensures))))

@@ -14,9 +14,8 @@ returns-in_err-piece-clause-runs g c = λ old consumed future p.
 pub returns-in_err-flush-clause-runs : goal.returns-in_err-flush-clause-runs
 returns-in_err-flush-clause-runs g c = λ old consumed future p.
     let q : Prints c.piece.new.self old (g.K.Sink.holds c.args.sink.now) (consumed ++ c.args.piece.now) = record { put = p.put; running = c.in_ok-piece.ensures.ok p.put consumed p.running; adds = p.adds } in
-    let err = c.in_err-flush.ensures.err in
     let same : c.from_residual-in_err-flush.result ≡ Err stop.Sink = search rules in
-    rw (same, sym (append_assoc consumed c.args.piece.now future)) (prints-front future q err.1)
+    rw (same, sym (append_assoc consumed c.args.piece.now future)) (prints-front future q c.in_err-flush.ensures.front)
 
 pub returns-clause-runs : goal.returns-clause-runs
 returns-clause-runs g c = λ old consumed future p.

@@ -9,15 +9,15 @@ use Rattle.pulsar_cli.proofs.reading.Reading.take.Goals as goal
 pub returns-in_err-set-in-Sets-clause-refused : goal.returns-in_err-set-in-Sets-clause-refused
 returns-in_err-set-in-Sets-clause-refused c = λ e.
     let refused = c.in_err-set-in-Sets.ensures.refused in
-    (refused.1, λ put read h bytes a is. refuses-set bytes (setting_of c.in-Sets.setting) a (is ∙ ap line_of c.in-Sets.is) refused.2)
+    (refused.1, λ bytes is put read h a. refuses-set bytes (setting_of c.in-Sets.setting) a (is ∙ ap line_of c.in-Sets.is) refused.2)
 
 pub returns-in_ok-counts-in-Nothing-clause-reads : goal.returns-in_ok-counts-in-Nothing-clause-reads
-returns-in_ok-counts-in-Nothing-clause-reads c = λ put read h bytes a is.
+returns-in_ok-counts-in-Nothing-clause-reads c = λ bytes is put read h a.
     let next = c.in_ok-counts-in-Nothing.ensures in
     (h, reads-nothing bytes a (is ∙ ap line_of c.in-Nothing.is) next.client next.options next.text next.ok)
 
 pub returns-in_ok-counts-in-Sets-clause-reads : goal.returns-in_ok-counts-in-Sets-clause-reads
-returns-in_ok-counts-in-Sets-clause-reads c = λ put read h bytes a is.
+returns-in_ok-counts-in-Sets-clause-reads c = λ bytes is put read h a.
     let set = c.in_ok-set-in-Sets.ensures in
     let next = c.in_ok-counts-in-Sets.ensures in
     let none = no-client (options (said c.args.self.now h)) c.args.self.now.client h a.client set.unmade in (
@@ -28,7 +28,7 @@ returns-in_ok-counts-in-Sets-clause-reads c = λ put read h bytes a is.
     )
 
 pub returns-in_ok-counts-in-Happens-clause-reads : goal.returns-in_ok-counts-in-Happens-clause-reads
-returns-in_ok-counts-in-Happens-clause-reads c = λ put read h bytes a is.
+returns-in_ok-counts-in-Happens-clause-reads c = λ bytes is put read h a.
     let step = c.in_ok-step-in-Happens.ensures in
     let next = c.in_ok-counts-in-Happens.ensures in
     let done = step.history h a.client in (
@@ -39,4 +39,4 @@ returns-in_ok-counts-in-Happens-clause-reads c = λ put read h bytes a is.
     )
 
 pub returns-in-Refused-clause-refused : goal.returns-in-Refused-clause-refused
-returns-in-Refused-clause-refused c = λ e. (refl, λ put read h bytes a is. script-line bytes Refused a (is ∙ ap line_of c.in-Refused.is))
+returns-in-Refused-clause-refused c = λ e. (refl, λ bytes is put read h a. script-line bytes Refused a (is ∙ ap line_of c.in-Refused.is))

@@ -1,12 +1,13 @@
 //! Batches.
 
+use crate::frames::Front;
+use crate::lending::lend;
 use crate::printing::{print_bytes, print_refusal, print_value};
 use crate::stop::Stop;
 use bytes::BytesMut;
 use pulsar_frame::batch::iterator::BatchedMessageIterator;
 use pulsar_frame::batch::{BatchedMessage, parse_batched_message};
 use pulsar_frame::codec::Codec;
-use pulsar_frame::message::Message;
 use pulsar_frame::payload::Payload;
 use pulsar_wire::{Body, ConnectionError, MessageIdData};
 use std::alloc::Global;
@@ -31,14 +32,13 @@ fn print_entries(rt: &impl Print, alloc: Global, entries: &[BatchedMessage]) -> 
 /// Prints the messages of the batch that a frame delivers.
 pub fn print_items(rt: &impl Print, alloc: Global, bytes: &[u8]) -> Result<(), Stop> {
     let mut src = BytesMut::copy_from_slice(alloc, bytes)?;
-    print_delivered(rt, Codec.decode(alloc, &mut src))
+    lend(Codec.decode(alloc, &mut src), |front| {
+        print_delivered(rt, front)
+    })
 }
 
-fn print_delivered(
-    rt: &impl Print,
-    read: Result<Option<Message>, ConnectionError>,
-) -> Result<(), Stop> {
-    let Ok(Some(message)) = &read else {
+fn print_delivered(rt: &impl Print, front: &Front) -> Result<(), Stop> {
+    let Ok(Some(message)) = front else {
         return Err(Stop::NoForm);
     };
     match (&message.command.body, &message.payload) {

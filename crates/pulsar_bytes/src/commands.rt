@@ -1,32 +1,38 @@
 //! Commands.
 
+use crate::lending::lend;
 use crate::printing::{print_bytes, print_refusal, print_written};
 use crate::stop::Stop;
-use pulsar_wire::{BaseCommand, Body, ConnectionError, Wire};
+use pulsar_wire::{BaseCommand, Body, ConnectionError, NoMemory, Wire};
 use std::alloc::Global;
 
 /// Prints the command that bytes spell, how it is written, and its body by itself.
 pub fn print_command(rt: &impl Print, alloc: Global, bytes: &[u8]) -> Result<(), Stop> {
-    print_read(rt, alloc, BaseCommand::decode(alloc, bytes))
+    lend(BaseCommand::decode(alloc, bytes), |read| {
+        print_read(rt, alloc, read)
+    })
 }
 
 fn print_read(
     rt: &impl Print,
     alloc: Global,
-    read: Result<BaseCommand, ConnectionError>,
+    read: &Result<BaseCommand, ConnectionError>,
 ) -> Result<(), Stop> {
-    match &read {
-        Ok(command) => print_copy(rt, alloc, command),
+    match read {
+        Ok(command) => lend(command.copy(), |copy| print_copy(rt, alloc, copy)),
         Err(e) => print_refusal(rt, e),
     }
 }
 
-fn print_copy(rt: &impl Print, alloc: Global, command: &BaseCommand) -> Result<(), Stop> {
-    print_copied(rt, alloc, command.copy()?)
-}
-
-fn print_copied(rt: &impl Print, alloc: Global, copy: BaseCommand) -> Result<(), Stop> {
-    print_whole(rt, alloc, &copy)
+fn print_copy(
+    rt: &impl Print,
+    alloc: Global,
+    copy: &Result<BaseCommand, NoMemory>,
+) -> Result<(), Stop> {
+    match copy {
+        Ok(command) => print_whole(rt, alloc, command),
+        Err(NoMemory) => Err(Stop::NoMemory),
+    }
 }
 
 fn print_whole(rt: &impl Print, alloc: Global, command: &BaseCommand) -> Result<(), Stop> {

@@ -4,6 +4,7 @@
 mod batches;
 mod commands;
 mod frames;
+mod lending;
 mod line;
 mod messages;
 mod printing;

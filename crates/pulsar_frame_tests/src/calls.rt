@@ -4,13 +4,19 @@ use bytes::BytesMut;
 use pulsar_frame::checksum::crc32c;
 use pulsar_frame::codec::Codec;
 use pulsar_frame::message::Message;
-use pulsar_wire::commands::base::Body;
-use pulsar_wire::error::ConnectionError;
+use pulsar_wire::{Body, ConnectionError};
 use std::alloc::Global;
 use std::test::Fail;
 
 const CONNECT: &[u8] =
     b"\x00\x00\x00\x22\x00\x00\x00\x1e\x08\x02\x12\x1a\x0a\x10pulsar-rs-v6.0.0\x20\x0c\x2a\x04none";
+
+/// Whether the value, which is let go, is so.
+fn is<T: Drop, F: FnOnce(&T) -> bool>(value: T, so: F) -> bool
+    requires { F.IsAlwaysCallable so }
+{
+    so(&value)
+}
 
 /// Whether it says connect, by that client, with no credential.
 fn says_connect(message: &Message) -> bool {
@@ -36,12 +42,16 @@ fn is_the_frame(alloc: Global, read: &Result<Option<Message>, ConnectionError>) 
     }
 }
 
+/// Whether the bytes are its frame, and no more.
+fn reads(alloc: Global, src: &mut BytesMut) -> bool {
+    is(Codec.decode(alloc, src), |read| is_the_frame(alloc, read)) && src.as_slice().is_empty()
+}
+
 #[test]
 fn the_frame_of_an_older_client(rt: HostRuntime) -> Result<(), Fail> {
     let alloc = rt.alloc();
     let mut src = BytesMut::copy_from_slice(alloc, CONNECT)?;
-    assert!(rt; is_the_frame(alloc, &Codec.decode(alloc, &mut src)));
-    assert!(rt; src.as_slice().is_empty());
+    assert!(rt; reads(alloc, &mut src));
     Ok(())
 }
 

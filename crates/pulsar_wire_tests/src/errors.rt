@@ -1,10 +1,8 @@
 //! The texts of errors, and the numbers of choices.
 
-use pulsar_wire::commands::enumerations::{InitialPosition, ServerError, SubType, server_error};
-use pulsar_wire::commands::topics::Mode;
-use pulsar_wire::error::{
-    AuthenticationError, ConnectionError, ConsumerError, Error, IoKind, NoMemory, ProducerError,
-    Reason, ServiceDiscoveryError,
+use pulsar_wire::{
+    AuthenticationError, ConnectionError, ConsumerError, Error, InitialPosition, IoKind, Mode,
+    NoMemory, ProducerError, Reason, ServerError, ServiceDiscoveryError, SubType, server_error,
 };
 use std::alloc::{AllocError, Global};
 use std::fmt::Display;

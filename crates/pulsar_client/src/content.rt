@@ -7,12 +7,12 @@ ghost use Rattle.pulsar_client.specs.Messages.{Reply, is_connected, is_number, r
 ghost use Rattle.pulsar_client.specs.Subscribers.{item_of};
 ghost use Rattle.pulsar_client.specs.RawCall.{Words, words};
 
-use crate::bodies;
 use crate::consumers::items::give_with;
 use crate::consumers::subscriber::Unread;
 use crate::effect::Answer;
 use crate::raw_call::RawCall;
 use pulsar_frame::message::Message;
+use pulsar_wire::bodies;
 use pulsar_wire::error::{Error, NoMemory};
 use pulsar_wire::key::RequestKey;
 use std::collections::VecDeque;

@@ -3,7 +3,6 @@
 
 mod act;
 mod address;
-mod bodies;
 mod consumers;
 mod content;
 pub mod effect;
@@ -17,3 +16,12 @@ pub mod pulsar;
 pub mod raw_call;
 mod session;
 mod tables;
+
+pub use crate::effect::{Answer, Effect, Handed, Settlement};
+pub use crate::event::{Call, Event};
+pub use crate::options::ClientOptions;
+pub use crate::outside::Failed;
+pub use crate::outside::sink::{FailingSink, MemorySink, Sink};
+pub use crate::outside::source::{FailingSource, MemorySource, Source};
+pub use crate::pulsar::Pulsar;
+pub use crate::raw_call::{ProducerMessage, RawCall};

@@ -1,10 +1,5 @@
-//! That each public call of frames answers where there is memory, which no clause says, and values from outside beside the
-//! definitions: frames that other programs wrote, batches put together by hand, known checksums.
+//! Single calls of frames, beside what they must answer.
 #![tactic(auto)]
 
 #[cfg(test)]
-mod batches;
-#[cfg(test)]
-mod checksums;
-#[cfg(test)]
-mod frames;
+mod calls;

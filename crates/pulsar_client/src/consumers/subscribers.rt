@@ -10,10 +10,10 @@ ghost use Rattle.pulsar_client.specs.Subscribers.{answered_by, fresh_in, given_a
 ghost use Rattle.pulsar_client.specs.Subscriptions.{after_link_act, after_poll, polled, settles_one};
 
 use crate::act::{Arrival, LinkAct, Request};
-use crate::bodies;
 use crate::consumers::subscriber::Subscriber;
 use crate::content::Received;
 use crate::effect::Effect;
+use pulsar_wire::bodies;
 use pulsar_wire::error::NoMemory;
 use pulsar_wire::key::RequestKey;
 use std::alloc::Global;

@@ -11,12 +11,12 @@ ghost use Rattle.pulsar_client.specs.Subscribers.{fresh_in};
 ghost use Rattle.pulsar_client.specs.Tables.{start, plan_action, plan_after, plan_makes, raw_start};
 
 use crate::act::{Action, Outcome, Procedure, Request};
-use crate::bodies;
 use crate::consumers::subscriber::Subscriber;
 use crate::content::{RawRequest, Received, Text, Verdict};
 use crate::effect::Answer;
 use crate::raw_call::RawCall;
 use pulsar_frame::message::Message;
+use pulsar_wire::bodies;
 use pulsar_wire::commands::base::Body;
 use pulsar_wire::commands::connection::CommandError;
 use pulsar_wire::commands::enumerations::server_error;

@@ -8,7 +8,7 @@ use Rattle.pulsar_wire.specs.Row.{Values, reading, spelling}
 use Rattle.pulsar_wire.specs.Rows.{message_id, message_metadata, single_message_metadata}
 use Rattle.pulsar_wire.proofs.Fields.{bind_some, some, some_is}
 use Rattle.pulsar_wire.proofs.RoundTrip.{round_trip}
-use Rattle.pulsar_frame.specs.Batch.{EntryValues, Item, batch_count, batch_items, payload_of_size, entry_at, entries, item, items_from, entry_bytes, batch_bytes, IsSound}
+use Rattle.pulsar_frame.specs.Batch.{EntryValues, Item, batch_count, batch_items, payload_of_size, entry_at, entries, item, items_from, entry_bytes, batch_bytes, FitsSize, SaysItsSize, IsSound, ReadsBack}
 use Rattle.pulsar_frame.specs.Payload.{PayloadValues}
 use Rattle.pulsar_frame.specs.Sized.{sized_at, with_size}
 use Rattle.pulsar_frame.proofs.Splits.{bytes_at-front, sized_at-with_size}
@@ -68,18 +68,20 @@ payload_of_size-front : (x t : List ℕ) → payload_of_size (pos (length x)) (x
 unfolding payload_of_size
 payload_of_size-front x t = bytes_at-front (length x) x t refl
 
--- an entry is read again, whatever follows
-pub entry-again : (e : EntryValues) (t : List ℕ) → IsSound e → entry_at (entry_bytes e ++ t) ≡ Some (e, t)
+-- an entry whose metadata is read again is read again, whatever follows
+pub reads_back : (e : EntryValues) → FitsSize e → reading single_message_metadata (spelling single_message_metadata e.metadata) ≡ Some e.metadata → SaysItsSize e → ReadsBack e
 unfolding entry_bytes
-entry-again e t sound =
-    let again : reading single_message_metadata (spelling single_message_metadata e.metadata) ≡ Some e.metadata =
-    round_trip single_message_metadata e.metadata refl (sound.0, omega (arith, sound.1)) in
-    rw append_assoc (entry_at-parts _ _ (e.payload ++ t) e.payload t e.metadata (pos (length e.payload)) (sized_at-with_size (spelling single_message_metadata e.metadata) (e.payload ++ t) sound.1) again sound.2 (payload_of_size-front e.payload t))
+reads_back e fits again says t =
+    rw append_assoc (entry_at-parts _ _ (e.payload ++ t) e.payload t e.metadata (pos (length e.payload)) (sized_at-with_size (spelling single_message_metadata e.metadata) (e.payload ++ t) fits) again says (payload_of_size-front e.payload t))
+
+-- an entry in range is read again
+entry-again : (e : EntryValues) → IsSound e → ReadsBack e
+entry-again e sound = reads_back e sound.1 (round_trip single_message_metadata e.metadata refl (sound.0, omega (arith, sound.1))) sound.2
 
 batch-first : (e : EntryValues) (es : List EntryValues) (t : List ℕ) → IsSound e → entries (length es) (flat_map entry_bytes es ++ t) ≡ Some es
     → entries (suc (length es)) ((entry_bytes e ++ flat_map entry_bytes es) ++ t) ≡ Some (e ∷ es)
 batch-first e es t sound others =
-    rw append_assoc (entries-first (length es) (entry_bytes e ++ (flat_map entry_bytes es ++ t)) (flat_map entry_bytes es ++ t) e (entry-again e (flat_map entry_bytes es ++ t) sound) ∙ ap (with_done (e ∷ [])) others)
+    rw append_assoc (entries-first (length es) (entry_bytes e ++ (flat_map entry_bytes es ++ t)) (flat_map entry_bytes es ++ t) e (entry-again e sound (flat_map entry_bytes es ++ t)) ∙ ap (with_done (e ∷ [])) others)
 
 entries-zero : (bytes : List ℕ) → entries 0 bytes ≡ Some []
 unfolding entries

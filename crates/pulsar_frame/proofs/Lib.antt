@@ -8,3 +8,4 @@ pub mod Crc
 pub mod Changes
 pub mod Folding
 pub mod Batches
+pub mod Refusals

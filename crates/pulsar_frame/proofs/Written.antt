@@ -16,6 +16,10 @@ unfolding counted_bytes
 length-counted_bytes m =
     omega (arith, length-append (with_size (command_spelling m.command)) (bytes_behind m.payload), length-with_size (command_spelling m.command))
 
+pub length-frame_bytes : (m : MessageValues) → length (frame_bytes m) ≡ 8 + length (command_spelling m.command) + length (bytes_behind m.payload)
+unfolding frame_bytes
+length-frame_bytes m = omega (arith, length-with_size (counted_bytes m), length-counted_bytes m)
+
 short_command : (m : MessageValues) → FitsFrame m → length (command_spelling m.command) < 2 ^ 32
 unfolding FitsFrame
 short_command m fits = omega (arith, length-counted_bytes m)

@@ -1,13 +1,15 @@
 -- Batches: several messages in one payload.  (Pulsar binary protocol, Batch messages)
-use Rattle.std.specs.Prelude.{◌≡◌, ℕ, zero, suc, ℤ, pos, negsuc, ◌^◌, ◌<◌, List, [], ◌∷◌, ◌++◌, length, Option, Some, None, Result, Ok, Err}
+use Rattle.std.specs.Prelude.{◌≡◌, ℕ, zero, suc, ℤ, pos, negsuc, ◌^◌, ◌<◌, List, [], ◌∷◌, ◌++◌, length, map, Option, Some, None, Result, Ok, Err}
 use Rattle.std.specs.List.{flat_map, AllByRecursion}
 use Rattle.pulsar_wire.specs.Field.{◌>>=◌, bytes_at}
-use Rattle.pulsar_wire.specs.Row.{Values, ◌&◌, reading, spelling}
+use Rattle.pulsar_wire.specs.Row.{Values, reading, spelling}
 use Rattle.pulsar_wire.specs.Fits.{InRange}
 use Rattle.pulsar_wire.specs.declared.commands.ids.MessageIdData.{MessageIdData}
+use Rattle.pulsar_wire.specs.declared.commands.metadata.MessageMetadata.{MessageMetadata}
+use Rattle.pulsar_wire.specs.declared.commands.metadata.SingleMessageMetadata.{SingleMessageMetadata}
 use Rattle.pulsar_wire.specs.At.{int32_at}
-use Rattle.pulsar_wire.specs.Rows.{key_value, message_id, message_metadata, single_message_metadata}
-use Rattle.pulsar_wire.specs.Views.{message_id_values, single_message_metadata_values}
+use Rattle.pulsar_wire.specs.Rows.{message_id, message_metadata, single_message_metadata}
+use Rattle.pulsar_wire.specs.Views.{message_id_values, message_metadata_values, single_message_metadata_values}
 use Rattle.pulsar_wire.specs.declared.error.ConnectionError.{ConnectionError}
 use Rattle.pulsar_wire.specs.declared.error.ConnectionError.TheVariants.{Decoding, Encoding, NoMemory}
 use Rattle.pulsar_wire.specs.declared.error.Reason.TheVariants.{Frame, Batch}
@@ -65,23 +67,17 @@ Item = Values message_id × PayloadValues
 abbrev pub item_values : MessageIdData × Payload → Item
 item_values x = (message_id_values x.0, payload_values x.1)
 
+-- the first of a message's fields, and the others
+infixr 4 ◌▸◌
+pattern abbrev pub ◌▸◌ : {A B : Type 0} → A → B → A × B
+field ▸ others = (field, others)
+
 -- field 11 of a frame's metadata
 abbrev pub num_messages_in_batch : Values message_metadata → Option ℤ
-num_messages_in_batch m = m.1.1.1.1.1.1.1.1.1.0
-
--- fields 1, 2, 5 and 7 of an entry's metadata
-
-abbrev pub properties : Values single_message_metadata → List (Values key_value)
-properties e = e.0
-
-abbrev pub partition_key : Values single_message_metadata → Option (List ℕ)
-partition_key e = e.1.0
-
-abbrev pub event_time : Values single_message_metadata → Option ℕ
-event_time e = e.1.1.1.0
-
-abbrev pub ordering_key : Values single_message_metadata → Option (List ℕ)
-ordering_key e = e.1.1.1.1.0
+num_messages_in_batch
+    (producer_name ▸ sequence_id ▸ publish_time ▸ properties ▸ replicated_from ▸ partition_key ▸ replicate_to
+    ▸ compression ▸ uncompressed_size ▸ num_messages ▸ others) =
+    num_messages
 
 -- how many entries a payload has, where its metadata says so
 abbrev pub count_of : Option ℤ → Option ℕ
@@ -93,15 +89,20 @@ batch_count m = count_of (num_messages_in_batch m)
 
 -- an id with this index
 abbrev pub with_index : ℕ → Values message_id → Values message_id
-with_index i id = id.0 & id.1.0 & id.1.1.0 & Some (pos i) & id.1.1.1.1
+with_index i (ledger_id ▸ entry_id ▸ partition ▸ batch_index ▸ others) =
+    ledger_id ▸ entry_id ▸ partition ▸ Some (pos i) ▸ others
 
--- The metadata of a frame, with what an entry says in place of its own: properties, partition key, event time and ordering
--- key, also where the entry has none.
+-- The metadata of a frame, with what an entry says in place of its own: properties, partition key, event time and
+-- ordering key, also where the entry has none.
 abbrev pub of_entry : Values message_metadata → Values single_message_metadata → Values message_metadata
-of_entry m e =
-    m.0 & m.1.0 & m.1.1.0 & properties e & m.1.1.1.1.0 & partition_key e & m.1.1.1.1.1.1.0 & m.1.1.1.1.1.1.1.0 & m.1.1.1.1.1.1.1.1.0 & m.1.1.1.1.1.1.1.1.1.0
-    & event_time e & m.1.1.1.1.1.1.1.1.1.1.1.0 & m.1.1.1.1.1.1.1.1.1.1.1.1.0 & m.1.1.1.1.1.1.1.1.1.1.1.1.1.0 & m.1.1.1.1.1.1.1.1.1.1.1.1.1.1.0
-    & ordering_key e & m.1.1.1.1.1.1.1.1.1.1.1.1.1.1.1.1
+of_entry
+    (producer_name ▸ sequence_id ▸ publish_time ▸ own_properties ▸ replicated_from ▸ own_partition_key ▸ replicate_to
+    ▸ compression ▸ uncompressed_size ▸ num_messages ▸ own_event_time ▸ encryption_keys ▸ encryption_algo
+    ▸ encryption_param ▸ schema_version ▸ own_ordering_key ▸ others)
+    (properties ▸ partition_key ▸ payload_size ▸ event_time ▸ ordering_key ▸ end) =
+    producer_name ▸ sequence_id ▸ publish_time ▸ properties ▸ replicated_from ▸ partition_key ▸ replicate_to
+    ▸ compression ▸ uncompressed_size ▸ num_messages ▸ event_time ▸ encryption_keys ▸ encryption_algo
+    ▸ encryption_param ▸ schema_version ▸ ordering_key ▸ others
 
 -- the message of an entry
 abbrev pub item : ℕ → Values message_id → Values message_metadata → EntryValues → Item
@@ -118,6 +119,22 @@ batch_items id p = do
   count ← batch_count p.metadata
   es ← entries count p.bytes
   Some (items_from 0 id p.metadata es)
+
+-- the messages of this payload, under this id
+abbrev pub items_under : MessageIdData → Payload → Option (List Item)
+items_under id p = batch_items (message_id_values id) (payload_values p)
+
+-- the message of this entry, and the messages of these entries
+abbrev pub item_made : ℕ → MessageIdData → MessageMetadata → BatchedMessage → Item
+item_made i id m e = item i (message_id_values id) (message_metadata_values m) (entry_values e)
+
+abbrev pub items_made : MessageIdData → MessageMetadata → List BatchedMessage → List Item
+items_made id m es = items_from 0 (message_id_values id) (message_metadata_values m) (map entry_values es)
+
+-- the metadata of a message is that of its frame, with what its entry says
+abbrev pub IsDescribed : MessageMetadata → SingleMessageMetadata → MessageMetadata → Type 0
+IsDescribed m e made =
+    message_metadata_values made ≡ of_entry (message_metadata_values m) (single_message_metadata_values e)
 
 -- ---- writing
 
@@ -155,6 +172,11 @@ SaysItsSize e = int32_at 3 single_message_metadata e.metadata ≡ Some (pos (len
 abbrev pub IsSound : EntryValues → Type 0
 IsSound e = InRange single_message_metadata e.metadata × FitsSize e × SaysItsSize e
 
+-- its bytes are read again, whatever follows
+abbrev pub ReadsBack : EntryValues → Type 0
+ReadsBack e = (t : List ℕ) → entry_at (entry_bytes e ++ t) ≡ Some (e, t)
+
 -- The bytes of a batch, read with its count, give its entries unchanged and in order, whatever follows.
 abbrev pub BatchesReadBack : Type 0
-BatchesReadBack = (es : List EntryValues) (t : List ℕ) → AllByRecursion IsSound es → entries (length es) (batch_bytes es ++ t) ≡ Some es
+BatchesReadBack = (es : List EntryValues) (t : List ℕ) → AllByRecursion IsSound es
+    → entries (length es) (batch_bytes es ++ t) ≡ Some es

@@ -2,8 +2,8 @@
 use Rattle.std.specs.Prelude.{◌≡◌, ℕ, zero, suc, ◌/◌, ◌%◌, ◌<◌, ◌≤◌, ◌==◌, List, [], ◌∷◌, ◌++◌, length, replicate, reverse, if◌then◌else◌, bit_xor}
 use Rattle.std.specs.List.{All, range_with_len}
 
--- The polynomial without its highest power, which is what falls out of 32 bits. Each power stands one bit below the power
--- before it, so the lowest bit of a state is its highest power.
+-- The polynomial without its highest power, which is what falls out of 32 bits. Each power stands one bit below the
+-- power before it, so the lowest bit of a state is its highest power.
 abbrev pub polynomial : ℕ
 polynomial = 0x82f63b78
 

@@ -10,8 +10,8 @@ use Rattle.pulsar_frame.specs.Sized.{sized_at, with_size}
 
 -- ---- reading
 
--- The message of a frame, from what stands behind the frame's total: the size of the command, the command, and a payload
--- where anything follows. It is refused by the first reason that holds, in this order.
+-- The message of a frame, from what stands behind the frame's total: the size of the command, the command, and a
+-- payload where anything follows. It is refused by the first reason that holds, in this order.
 unfoldable pub content : List ℕ → Result MessageValues Reason
 content bytes = do
   parts ← or_refused Frame (sized_at bytes)

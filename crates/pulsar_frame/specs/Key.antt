@@ -4,6 +4,9 @@ use Rattle.pulsar_wire.specs.Field.{◌>>=◌}
 use Rattle.pulsar_wire.specs.Row.{Row, Values}
 use Rattle.pulsar_wire.specs.At.{uint64_at, flag_at}
 use Rattle.pulsar_wire.specs.Command.{BodyValues}
+use Rattle.pulsar_wire.specs.Rows.{producer_success}
+use Rattle.pulsar_wire.specs.Views.{producer_success_values}
+use Rattle.pulsar_wire.specs.declared.commands.producer.CommandProducerSuccess.{CommandProducerSuccess}
 use Rattle.pulsar_wire.specs.declared.key.RequestKey.{RequestKey}
 use Rattle.pulsar_wire.specs.declared.key.RequestKey.TheVariants.{RequestId, ProducerSend, Consumer, CloseConsumer, AuthChallenge}
 use Rattle.pulsar_frame.specs.Message.{MessageValues}
@@ -84,6 +87,10 @@ is_false _ = false
 abbrev pub is_unready : BodyValues → Bool
 is_unready b = (b.number == 17) && is_false (flag_at 6 b.row b.values)
 
+-- the body of a producer_success
+abbrev pub success_of : CommandProducerSuccess → BodyValues
+success_of s = record { number = 17; row = producer_success; values = producer_success_values s }
+
 abbrev pub body_key : BodyValues → Option RequestKey
 body_key b = if is_unready b then None else key_fields b.number >>= λ k. key_from k b.row b.values
 
@@ -115,8 +122,8 @@ bears m k = bears_key (key m) k
 
 -- WHICH BODY ANSWERS WHICH
 
--- The answer that a request's body expects, if any: send_receipt for send, producer_success for producer, success for subscribe,
--- unsubscribe, close_producer, close_consumer and seek, and a response of their own for the others.
+-- The answer that a request's body expects, if any: send_receipt for send, producer_success for producer, success for
+-- subscribe, unsubscribe, close_producer, close_consumer and seek, and a response of their own for the others.
 abbrev pub answers : ℕ → Option ℕ
 answers body =
     if body == 6 then Some 7

@@ -13,7 +13,8 @@ use Rattle.pulsar_frame.specs.History.{Act, fed, given, Leads}
 -- A stream is cut frame by frame from its front, until there is less than a frame, or one that is refused.
 abbrev pub CutsFrameByFrame : Type 0
 CutsFrameByFrame = (s : List ℕ) →
-    ((m : MessageValues) (rest : List ℕ) → front s ≡ Whole m rest → (cut s ≡ m ∷ cut rest) × (left s ≡ left rest) × (bad s ≡ bad rest))
+    ((m : MessageValues) (rest : List ℕ) → front s ≡ Whole m rest
+    → (cut s ≡ m ∷ cut rest) × (left s ≡ left rest) × (bad s ≡ bad rest))
     × (front s ≡ Short → (cut s ≡ []) × (left s ≡ s) × (bad s ≡ None))
     × ((r : Reason) → front s ≡ Refused r → (cut s ≡ []) × (left s ≡ s) × (bad s ≡ Some r))
 
@@ -26,22 +27,25 @@ CutsTheMost = (s : List ℕ) →
 -- What comes in two pieces is cut as one.
 abbrev pub CutsPiecesAsOne : Type 0
 CutsPiecesAsOne = (s t : List ℕ) →
-    (cut (s ++ t) ≡ cut s ++ cut (left s ++ t)) × (left (s ++ t) ≡ left (left s ++ t)) × (bad (s ++ t) ≡ bad (left s ++ t))
+    (cut (s ++ t) ≡ cut s ++ cut (left s ++ t))
+    × (left (s ++ t) ≡ left (left s ++ t))
+    × (bad (s ++ t) ≡ bad (left s ++ t))
 
 -- Behind a frame that is refused nothing is read, and the reason stays.
 abbrev pub StaysBad : Type 0
 StaysBad = (s t : List ℕ) (r : Reason) → bad s ≡ Some r →
     (cut (s ++ t) ≡ cut s) × (left (s ++ t) ≡ left s ++ t) × (bad (s ++ t) ≡ Some r)
 
--- Whatever the pieces, a reader gives the messages of all that was fed, in order: those that it still has to give are the
--- messages of what it holds, and what it will refuse is what all that was fed is refused for.
+-- Whatever the pieces, a reader gives the messages of all that was fed, in order: those that it still has to give are
+-- the messages of what it holds, and what it will refuse is what all that was fed is refused for.
 abbrev pub GivesTheMessagesFed : Type 0
 GivesTheMessagesFed = (acts : List Act) (held : List ℕ) → Leads acts [] held →
     (cut (fed acts) ≡ given acts ++ cut held) × (left (fed acts) ≡ left held) × (bad (fed acts) ≡ bad held)
 
 -- A frame that was written is read again, whatever follows.
 abbrev pub ReadsFramesWritten : Type 0
-ReadsFramesWritten = (m : MessageValues) → FitsFrame m → CommandInRange m.command → PayloadInRange m.payload → IsReadAgain m
+ReadsFramesWritten = (m : MessageValues) →
+    FitsFrame m → CommandInRange m.command → PayloadInRange m.payload → IsReadAgain m
 
 -- a key says that a consumer is closed under a number, which is that of the other key, of a request
 abbrev pub Closes : Option RequestKey → RequestKey → Type 0

@@ -12,6 +12,7 @@ use Rattle.pulsar_frame.specs.Refusal.{◌>>=◌, or_refused, refused_unless}
 use Rattle.pulsar_frame.specs.Sized.{with_size}
 use Rattle.pulsar_frame.specs.Tail.{tail_at}
 use Rattle.pulsar_frame.specs.declared.payload.Payload.{Payload}
+use Rattle.pulsar_frame.specs.declared.payload.PayloadParts.{PayloadParts}
 
 -- a payload, and what a frame says of it
 pub record PayloadValues : Type 0 where
@@ -21,14 +22,18 @@ pub record PayloadValues : Type 0 where
 abbrev pub payload_values : Payload → PayloadValues
 payload_values p = record { metadata = message_metadata_values p.metadata; bytes = p.bytes.items }
 
+-- the payload that these are the parts of
+abbrev pub parts_values : PayloadParts → PayloadValues
+parts_values p = record { metadata = message_metadata_values p.metadata.now; bytes = p.bytes.now }
+
 -- what a payload begins with
 abbrev pub magic_number : ℕ
 magic_number = 0x0e01
 
 -- ---- reading
 
--- The payload of these bytes. They are refused by the first of these that holds: they are fewer than they say, they have
--- another magic number, the metadata isn't a MessageMetadata, the checksum differs.
+-- The payload of these bytes. They are refused by the first of these that holds: they are fewer than they say, they
+-- have another magic number, the metadata isn't a MessageMetadata, the checksum differs.
 unfoldable pub payload_at : List ℕ → Result PayloadValues Reason
 payload_at bytes = do
   tail ← or_refused reason.Payload (tail_at bytes)

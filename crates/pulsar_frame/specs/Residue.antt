@@ -4,4 +4,5 @@ use Rattle.pulsar_frame.specs.Checksum.{after}
 
 unfoldable pub residue : List ℕ → ℕ
 residue window =
-    bit_xor (bit_xor (bit_xor (bit_xor (after 0 (take 209 window)) (after 0 (take 144 window))) (after 0 (take 54 window))) (after 0 (take 39 window))) (after 0 (take 14 window))
+    let state_of : ℕ → ℕ = λ n. after 0 (take n window) in
+    bit_xor (bit_xor (bit_xor (bit_xor (state_of 209) (state_of 144)) (state_of 54)) (state_of 39)) (state_of 14)

@@ -1,14 +1,15 @@
 //! Batches: several messages in one payload.
 
-ghost use Rattle.std.specs.Prelude.{◌≡◌, map};
+ghost use Rattle.std.specs.Prelude.{◌≡◌, map, OnOk};
 ghost use Rattle.std.specs.Option.{option_map};
 ghost use Rattle.pulsar_wire.specs.Shown.{Gives};
-ghost use Rattle.pulsar_frame.specs.Batch.{AppendsEntry, ReadsBatch, entries, entry_at, entry_values, payload_of_size};
+ghost use Rattle.pulsar_frame.specs.Batch.{AppendsEntry, ReadsBack, ReadsBatch, SaysItsSize, entries, entry_at, entry_values, payload_of_size};
 
 pub mod iterator;
 pub mod laws;
 
-use crate::sized::{split_bytes, split_sized, write_sized};
+use crate::refused::refusal;
+use crate::sized::{split_sized, write_sized};
 use pulsar_wire::commands::metadata::SingleMessageMetadata;
 use pulsar_wire::encoding::message::{decode, encoded_len};
 use pulsar_wire::encoding::read_error::ReadError;
@@ -27,11 +28,12 @@ pub struct BatchedMessage {
 
 impl BatchedMessage {
     /// Writes its entry behind what `w` has, with the metadata as it is: whoever fills it sets `payload_size` to the
-    /// size of the payload. The answer is `Encoding(Frame)` exactly where the size of the metadata does not fit a u32,
-    /// and else `Encoding(Batch)` exactly where that of the payload does not fit an i32, and there is no other error but
-    /// want of memory. In these `w` stays as it was.
+    /// size of the payload, and then the entry is read again, whatever follows. The answer is `Encoding(Frame)` exactly
+    /// where the size of the metadata does not fit a u32, and else `Encoding(Batch)` exactly where that of the payload
+    /// does not fit an i32, and there is no other error but want of memory. In these `w` stays as it was.
     pub fn serialize(&self, w: &mut Vec<u8>) -> Result<(), ConnectionError>
-        ensures { AppendsEntry result (entry_values self.now) w.old.items w.new.items }
+        ensures entry { AppendsEntry result (entry_values self.now) w.old.items w.new.items }
+        ensures again { OnOk result (SaysItsSize (entry_values self.now) → ReadsBack (entry_values self.now)) }
     {
         let Ok(size) = u32::try_from(encoded_len(&self.metadata)) else {
             return Err(ConnectionError::Encoding(Reason::Frame));
@@ -47,8 +49,9 @@ impl BatchedMessage {
     }
 }
 
-/// The first `count` entries of a payload. It is `Decoding(Batch)` exactly where one of them is cut, broken or of negative
-/// size, and there is no other error but want of memory. What follows them is not looked at.
+/// The first `count` entries of a payload. It is `Decoding(Batch)` exactly where one of them is cut, broken or of
+/// negative size, and there is no other error but want of memory. What follows them is not looked at.
+#[tactic(auto, using(crate::proofs::Refusals::batch_refused))]
 pub fn parse_batched_message(
     alloc: Global,
     count: u32,
@@ -58,8 +61,7 @@ pub fn parse_batched_message(
 {
     match read_entries(alloc, count, payload) {
         Ok(entries) => Ok(entries),
-        Err(ReadError::Malformed) => Err(ConnectionError::Decoding(Reason::Batch)),
-        Err(ReadError::NoMemory) => Err(ConnectionError::NoMemory),
+        Err(e) => Err(refusal(Reason::Batch, e)),
     }
 }
 
@@ -94,9 +96,9 @@ fn read_entry(alloc: Global, bytes: &[u8]) -> Result<(BatchedMessage, &[u8]), Re
 }
 
 /// The bytes of a payload of this size, and the bytes after them.
-#[tactic(auto, unfolding(crate::specs::Batch::payload_of_size))]
+#[tactic(auto, unfolding(crate::specs::Batch::payload_of_size, pulsar_wire::specs::Field::bytes_at))]
 fn split_payload(size: i32, bytes: &[u8]) -> Option<(&[u8], &[u8])>
     ensures { option_map (λ x. (x.0.now, x.1.now)) result ≡ payload_of_size size bytes.now }
 {
-    split_bytes(usize::try_from(size).ok()?, bytes)
+    bytes.split_at_checked(usize::try_from(size).ok()?)
 }

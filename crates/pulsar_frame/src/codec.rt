@@ -32,8 +32,8 @@ impl Codec {
     }
 
     /// Takes the frame that stands in front of `src`, and no byte more. The answer is `None` exactly where no whole
-    /// frame stands there, and `Decoding` with the first reason that holds exactly where a whole one is refused. In these,
-    /// and where memory ran out, no byte is taken.
+    /// frame stands there, and `Decoding` with the first reason that holds exactly where a whole one is refused. In
+    /// these, and where memory ran out, no byte is taken.
     #[tactic(auto, unfolding(crate::specs::Frame::front))]
     pub fn decode(
         &mut self,

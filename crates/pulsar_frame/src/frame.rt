@@ -11,19 +11,19 @@ ghost use Rattle.pulsar_frame.specs.Read.{Holds, SplitsFrame};
 
 use crate::message::Message;
 use crate::payload::read_payload;
+use crate::refused::refusal;
 use crate::sized::split_sized;
 use pulsar_wire::commands::base::{BaseCommand, decode_command};
-use pulsar_wire::encoding::read_error::ReadError;
 use pulsar_wire::error::{ConnectionError, Reason};
 use std::alloc::Global;
 
+#[tactic(auto, using(crate::proofs::Refusals::holds_refused))]
 fn read_command(alloc: Global, bytes: &[u8]) -> Result<BaseCommand, ConnectionError>
     ensures { Holds command_values result (or_refused reason.Command (command_reading bytes.now)) }
 {
     match decode_command(alloc, bytes) {
         Ok(command) => Ok(command),
-        Err(ReadError::Malformed) => Err(ConnectionError::Decoding(Reason::Command)),
-        Err(ReadError::NoMemory) => Err(ConnectionError::NoMemory),
+        Err(e) => Err(refusal(Reason::Command, e)),
     }
 }
 

@@ -9,4 +9,13 @@ pub mod laws;
 pub mod message;
 pub mod payload;
 pub mod reader;
+mod refused;
 mod sized;
+
+pub use batch::iterator::BatchedMessageIterator;
+pub use batch::{BatchedMessage, parse_batched_message};
+pub use checksum::{Checksum, crc32c};
+pub use codec::Codec;
+pub use message::{Message, frame_len};
+pub use payload::{Metadata, Payload, PayloadParts};
+pub use reader::FrameReader;

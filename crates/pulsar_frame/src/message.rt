@@ -3,16 +3,16 @@
 ghost use Rattle.std.specs.Prelude.{◌≡◌, ◌↔◌, ◌^◌, ◌<◌, ◌++◌, length, IsTrue, IfOk, IfSome, IfNone, OnOk, Some};
 ghost use Rattle.std.specs.Option.{option_map};
 ghost use Rattle.pulsar_wire.specs.Command.{command_spelling};
-ghost use Rattle.pulsar_frame.specs.Frame.{FitsFrame, IsReadAgain, counted_bytes};
-ghost use Rattle.pulsar_frame.specs.Payload.{bytes_behind, payload_values};
-ghost use Rattle.pulsar_frame.specs.Read.{IsReadBehind, described_bytes};
-ghost use Rattle.pulsar_wire.specs.Rows.{producer_success};
-ghost use Rattle.pulsar_wire.specs.Views.{body_values, producer_success_values};
+ghost use Rattle.pulsar_frame.specs.Frame.{FitsFrame, IsReadAgain, counted_bytes, frame_bytes};
+ghost use Rattle.pulsar_frame.specs.Payload.{bytes_behind, parts_values, payload_values};
+ghost use Rattle.pulsar_frame.specs.Read.{IsReadBehind, described_len};
+ghost use Rattle.pulsar_wire.specs.Views.{body_values};
 ghost use Rattle.pulsar_wire.specs.declared.key.RequestKey.TheVariants as keys;
-ghost use Rattle.pulsar_frame.specs.Key.{body_key, key};
-ghost use Rattle.pulsar_frame.specs.Shown.{message_values, IsFrameOf};
+ghost use Rattle.pulsar_frame.specs.Key.{body_key, key, success_of};
+ghost use Rattle.pulsar_frame.specs.Shown.{message_of, message_values, IsFrameOf};
+ghost use Rattle.pulsar_wire.specs.Sink.{capped};
 
-use crate::payload::{Payload, PayloadSizes};
+use crate::payload::{Payload, PayloadParts, PayloadSizes};
 use pulsar_wire::commands::base::{BaseCommand, Body, command_len, encode_command};
 use pulsar_wire::commands::producer::CommandProducerSuccess;
 use pulsar_wire::error::{ConnectionError, NoMemory, Reason};
@@ -21,6 +21,9 @@ use std::alloc::{AllocError, Global};
 
 /// How many bytes a size has.
 const SIZE_LEN: u32 = 4;
+
+/// How many bytes the two sizes have that stand in front of a command.
+const SIZES_LEN: u64 = 8;
 
 /// What one frame carries.
 #[derive(Debug, PartialEq, Eq, Drop)]
@@ -76,9 +79,19 @@ impl Message {
         }
     }
 
+    /// How many bytes its frame has. It stops at the greatest u64.
+    pub fn frame_len(&self) -> u64
+        ensures { result ≡ capped (length (frame_bytes (message_values self.now))) }
+    {
+        match &self.payload {
+            Some(payload) => frame_len(&self.command, Some(payload.parts())),
+            None => frame_len(&self.command, None),
+        }
+    }
+
     /// Its frame. The answer is `Encoding(Frame)` exactly where a size does not fit a u32, and there is no other error
     /// but want of memory.
-    #[tactic(auto, unfolding(crate::specs::Frame::FitsFrame, crate::specs::Frame::frame_bytes, crate::specs::Frame::counted_bytes, crate::specs::Sized::with_size))]
+    #[tactic(auto, unfolding(crate::specs::Frame::frame_bytes, crate::specs::Frame::counted_bytes, crate::specs::Frame::FitsFrame, crate::specs::Sized::with_size))]
     pub fn to_frame(&self, alloc: Global) -> Result<Vec<u8>, ConnectionError>
         ensures frame { IsFrameOf (message_values self.now) result }
         ensures again { OnOk result (IsReadAgain (message_values self.now)) }
@@ -99,7 +112,7 @@ impl Message {
     fn sizes(&self) -> Option<Sizes>
         ensures total { IfSome result (λ s. s.total ≡ length (counted_bytes (message_values self.now))) }
         ensures command { IfSome result (λ s. s.command ≡ length (command_spelling (message_values self.now).command)) }
-        ensures metadata { IfSome result (λ s. s.metadata ≡ length (described_bytes (message_values self.now).payload)) }
+        ensures metadata { IfSome result (λ s. s.metadata ≡ described_len (message_values self.now).payload) }
         ensures none { IfNone result (¬ FitsFrame (message_values self.now)) }
     {
         let command = u32::try_from(command_len(&self.command)).ok()?;
@@ -113,9 +126,30 @@ impl Message {
     }
 }
 
+/// How many bytes the frame has of a message with this command and this payload: nothing is copied to ask for it. It
+/// stops at the greatest u64. The message fits exactly where this is below 2^32 + 4, since the total in front has four
+/// bytes, and counts all that follow.
+pub fn frame_len(command: &BaseCommand, payload: Option<PayloadParts<'_>>) -> u64
+    ensures { result ≡ capped (length (frame_bytes (message_of command.now payload.entry))) }
+{
+    SIZES_LEN
+        .saturating_add(command_len(command))
+        .saturating_add(len_behind(payload))
+}
+
+/// How many bytes stand behind a command. It stops at the greatest u64.
+fn len_behind(payload: Option<PayloadParts<'_>>) -> u64
+    ensures { result ≡ capped (length (bytes_behind (option_map parts_values payload.entry))) }
+{
+    match payload {
+        Some(payload) => payload.len(),
+        None => 0,
+    }
+}
+
 /// The sizes of what stands behind a command.
 fn sizes_behind(payload: &Option<Payload>) -> Option<PayloadSizes>
-    ensures metadata { IfSome result (λ s. s.metadata ≡ length (described_bytes (option_map payload_values payload.now))) }
+    ensures metadata { IfSome result (λ s. s.metadata ≡ described_len (option_map payload_values payload.now)) }
     ensures total { IfSome result (λ s. s.total ≡ length (bytes_behind (option_map payload_values payload.now))) }
     ensures small { IfSome result (λ s. s.total < 2 ^ 34) }
     ensures none { IfNone result (¬ (length (bytes_behind (option_map payload_values payload.now)) < 2 ^ 32)) }
@@ -131,7 +165,7 @@ fn sizes_behind(payload: &Option<Payload>) -> Option<PayloadSizes>
 
 /// Writes what stands behind a command, with its metadata of this size.
 fn write_behind(payload: &Option<Payload>, size: u32, out: &mut Vec<u8>) -> Result<(), AllocError>
-    requires { size ≡ length (described_bytes (option_map payload_values payload.now)) }
+    requires { size ≡ described_len (option_map payload_values payload.now) }
     ensures ok { OnOk result (out.new.items ≡ out.old.items ++ bytes_behind (option_map payload_values payload.now)) }
     ensures again { OnOk result (IsReadBehind (option_map payload_values payload.now)) }
 {
@@ -218,7 +252,7 @@ fn of_close(consumer_id: u64, request_id: u64) -> Option<RequestKey>
 /// A producer that is not ready yet is no answer: another one follows.
 #[tactic(auto, unfolding(pulsar_wire::specs::Views::producer_success_values))]
 fn ready_key(body: &CommandProducerSuccess) -> Option<RequestKey>
-    ensures { result ≡ body_key (record { number = 17; row = producer_success; values = producer_success_values body.now }) }
+    ensures { result ≡ body_key (success_of body.now) }
 {
     match body.producer_ready {
         Some(false) => None,

@@ -2,21 +2,22 @@
 
 ghost use Rattle.std.specs.Prelude.{◌≡◌, ◌++◌, ◌+◌, ◌^◌, ◌<◌, length, IfOk, IfSome, IfNone, OnOk, Some};
 ghost use Rattle.std.specs.Option.{option_map};
-ghost use Rattle.pulsar_wire.specs.Row.{reading, spelling};
+ghost use Rattle.pulsar_wire.specs.Row.{reading};
 ghost use Rattle.pulsar_wire.specs.Rows.{message_metadata};
 ghost use Rattle.pulsar_wire.specs.Views.{message_metadata_values};
 ghost use Rattle.pulsar_wire.specs.declared.error.Reason.TheVariants as reason;
 ghost use Rattle.pulsar_frame.specs.Checksum.{crc32c};
-ghost use Rattle.pulsar_frame.specs.Payload.{covered_bytes, payload_at, payload_bytes, payload_values};
-ghost use Rattle.pulsar_frame.specs.Read.{Holds, tail_seen};
+ghost use Rattle.pulsar_frame.specs.Payload.{parts_values, payload_at, payload_bytes, payload_values};
+ghost use Rattle.pulsar_frame.specs.Read.{Holds, IsReadBehind, described_len, tail_seen};
+ghost use Rattle.pulsar_wire.specs.Sink.{capped};
 ghost use Rattle.pulsar_frame.specs.Refusal.{or_refused};
 ghost use Rattle.pulsar_frame.specs.Tail.{tail_at};
 
 use crate::checksum::{Checksum, crc32c};
+use crate::refused::refusal;
 use crate::sized::{split_sized, write_sized};
 use pulsar_wire::commands::metadata::MessageMetadata;
 use pulsar_wire::encoding::message::{decode, encoded_len};
-use pulsar_wire::encoding::read_error::ReadError;
 use pulsar_wire::error::{ConnectionError, NoMemory, Reason};
 use std::alloc::{AllocError, Global};
 
@@ -34,6 +35,24 @@ pub type Metadata = MessageMetadata;
 pub struct Payload {
     pub metadata: Metadata,
     pub bytes: Vec<u8>,
+}
+
+/// A payload that is not made yet: what is said of it, and its bytes, which are borrowed.
+#[derive(Clone, Copy)]
+pub struct PayloadParts<'a> {
+    pub metadata: &'a Metadata,
+    pub bytes: &'a [u8],
+}
+
+impl PayloadParts<'_> {
+    /// How many bytes stand behind the command. It stops at the greatest u64.
+    pub(crate) fn len(&self) -> u64
+        ensures { result ≡ capped (length (payload_bytes (parts_values self.now))) }
+    {
+        HEAD_LEN
+            .saturating_add(encoded_len(self.metadata))
+            .saturating_add(self.bytes.len() as u64)
+    }
 }
 
 /// What stands behind a command, where anything does.
@@ -56,6 +75,16 @@ pub(crate) struct PayloadSizes {
 }
 
 impl Payload {
+    /// Its parts.
+    pub fn parts(&self) -> PayloadParts<'_>
+        ensures { parts_values result ≡ payload_values self.now }
+    {
+        PayloadParts {
+            metadata: &self.metadata,
+            bytes: &self.bytes,
+        }
+    }
+
     /// A payload with the same content.
     pub fn copy(&self) -> Result<Payload, NoMemory>
         ensures { IfOk result (λ payload. payload_values payload ≡ payload_values self.now) }
@@ -69,7 +98,7 @@ impl Payload {
     /// Its sizes, where each of them fits a u32 by itself.
     #[tactic(auto, unfolding(crate::specs::Payload::payload_bytes, crate::specs::Payload::covered_bytes, crate::specs::Sized::with_size))]
     pub(crate) fn sizes(&self) -> Option<PayloadSizes>
-        ensures metadata { IfSome result (λ s. s.metadata ≡ length (spelling message_metadata (payload_values self.now).metadata)) }
+        ensures metadata { IfSome result (λ s. s.metadata ≡ described_len (Some (payload_values self.now))) }
         ensures total { IfSome result (λ s. s.total ≡ length (payload_bytes (payload_values self.now))) }
         ensures small { IfSome result (λ s. s.total < 2 ^ 34) }
         ensures none { IfNone result (¬ (length (payload_bytes (payload_values self.now)) < 2 ^ 32)) }
@@ -85,10 +114,9 @@ impl Payload {
     /// Writes it behind a command, with its metadata of this size.
     #[tactic(auto, unfolding(crate::specs::Payload::payload_bytes, crate::specs::Payload::covered_bytes))]
     pub(crate) fn write(&self, size: u32, out: &mut Vec<u8>) -> Result<(), AllocError>
-        requires { size ≡ length (spelling message_metadata (payload_values self.now).metadata) }
+        requires { size ≡ described_len (Some (payload_values self.now)) }
         ensures ok { OnOk result (out.new.items ≡ out.old.items ++ payload_bytes (payload_values self.now)) }
-        ensures again { OnOk result (reading message_metadata (spelling message_metadata (payload_values self.now).metadata) ≡ Some (payload_values self.now).metadata) }
-        ensures sum { OnOk result (crc32c (covered_bytes (payload_values self.now)) < 2 ^ 32) }
+        ensures again { OnOk result (IsReadBehind (Some (payload_values self.now))) }
     {
         let mut described = Vec::new(*out.allocator());
         write_sized(size, &self.metadata, &mut described)?;
@@ -149,12 +177,12 @@ fn split_tail(bytes: &[u8]) -> Option<Tail<'_>>
     })
 }
 
+#[tactic(auto, using(crate::proofs::Refusals::holds_refused))]
 fn read_metadata(alloc: Global, bytes: &[u8]) -> Result<Metadata, ConnectionError>
     ensures { Holds message_metadata_values result (or_refused reason.Metadata (reading message_metadata bytes.now)) }
 {
     match decode(alloc, bytes) {
         Ok(metadata) => Ok(metadata),
-        Err(ReadError::Malformed) => Err(ConnectionError::Decoding(Reason::Metadata)),
-        Err(ReadError::NoMemory) => Err(ConnectionError::NoMemory),
+        Err(e) => Err(refusal(Reason::Metadata, e)),
     }
 }

@@ -49,8 +49,8 @@ impl FrameReader {
     }
 
     /// Takes the frame that stands in front, and no byte more. The answer is `None` exactly where no whole frame stands
-    /// there, and `Decoding` with the first reason that holds exactly where a whole one is refused: so it stays, whatever
-    /// is fed. In these, and where memory ran out, no byte is taken.
+    /// there, and `Decoding` with the first reason that holds exactly where a whole one is refused: so it stays,
+    /// whatever is fed. In these, and where memory ran out, no byte is taken.
     #[tactic(auto, unfolding(crate::specs::Frame::front))]
     pub fn next(&mut self) -> Result<Option<Message>, ConnectionError>
         ensures { Takes result self.old self.new }

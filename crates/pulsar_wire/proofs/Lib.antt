@@ -15,3 +15,4 @@ pub mod CommandTrip
 pub mod Ranges
 pub mod Unknown
 pub mod Rereading
+pub mod CommandEquality

@@ -2,7 +2,7 @@
 use Rattle.std.proofs.Common.{◌≡◌, ℕ, ◌-◌, ◌^◌, ◌≤◌, List, ◌++◌, length, append_assoc, length-append, arith, inl, inr}
 use Rattle.std.proofs.lemmas.Bool.{cases_lt}
 use Rattle.pulsar_wire.specs.Row.{key, varint, message_entry}
-use Rattle.pulsar_wire.specs.Written.{capped}
+use Rattle.pulsar_wire.specs.Sink.{capped}
 
 -- a length that was counted stands for the length of what follows it
 pub with_count : {S : Type 0} (Holds : S → List ℕ → Type 0) (full : (s : S) (xs ys : List ℕ) → Holds s xs → 2 ^ 64 - 1 ≤ length xs → 2 ^ 64 - 1 ≤ length ys → Holds s ys)

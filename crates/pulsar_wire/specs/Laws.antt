@@ -17,10 +17,6 @@ CommandsReadAgain = (c : CommandValues) → FitsCommand c → Spells (command_sp
 abbrev pub SettledCommandsReadAgain : Type 0
 SettledCommandsReadAgain = (c : CommandValues) → FitsCommand c → settled c ≡ c → Spells (command_spelling c) c
 
--- No bytes spell two commands.
-abbrev pub OneMeaning : Type 0
-OneMeaning = (bytes : List ℕ) (c d : CommandValues) → Spells bytes c → Spells bytes d → c ≡ d
-
 -- No two commands are written alike, but for a kind that is not that of its body.
 abbrev pub OneSpelling : Type 0
 OneSpelling = (c d : CommandValues) → FitsCommand c → FitsCommand d → command_spelling c ≡ command_spelling d → settled c ≡ settled d

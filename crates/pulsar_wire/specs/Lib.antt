@@ -11,8 +11,10 @@ pub mod Fits
 pub mod Orders
 pub mod Laws
 pub mod Refused
-pub mod Merge
 pub mod Shown
+pub mod Merge
+pub mod Sink
 pub mod Written
+pub mod Equality
 pub mod Run
 pub mod CommandMerge

@@ -1,4 +1,5 @@
--- Serves the code's contracts alone: how one more field changes the values that were read so far.
+-- One more field: how it changes the values that were read so far. The last occurrence of a plain field counts, and the
+-- occurrences of a message are joined.  (Protocol Buffers, Encoding: last one wins, packed repeated fields)
 use Rattle.std.specs.Prelude.{ℕ, ℤ, List, [], ◌∷◌, ◌++◌, Option, Some, ◌==◌, if◌then◌else◌}
 use Rattle.std.specs.Option.{unwrap_or}
 use Rattle.pulsar_wire.specs.Field.{◌>>=◌, Value, Field, fields}

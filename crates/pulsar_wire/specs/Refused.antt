@@ -1,4 +1,5 @@
--- Serves the code's contracts alone: what an answer of `decode` says of the bytes.
+-- What an answer of `decode` says of the bytes, and the error that a caller is told.
+-- (Protocol Buffers, Encoding: message structure)
 use Rattle.std.specs.Prelude.{◌≡◌, Option, None, Result, Ok, Err, Some}
 use Rattle.pulsar_wire.specs.declared.encoding.read_error.ReadError.{ReadError}
 use Rattle.pulsar_wire.specs.declared.encoding.read_error.ReadError.TheVariants as read

@@ -1,4 +1,5 @@
--- Serves the code's contracts alone: what its values and its answers stand for.
+-- What the values that were read stand for, and what the answers of the functions that read say of the bytes.
+-- (Protocol Buffers, Encoding: message structure)
 use Rattle.std.specs.Prelude.{◌≡◌, ℕ, Option, Some, None, Result, Ok, Err}
 use Rattle.pulsar_wire.specs.declared.encoding.field.Value.{Value as Read}
 use Rattle.pulsar_wire.specs.declared.encoding.field.Value.TheVariants as read

@@ -1,16 +1,9 @@
--- Serves the code's contracts alone: writing, behind what was written before.
-use Rattle.std.specs.Prelude.{◌≡◌, ℕ, ◌-◌, ◌^◌, ◌≤◌, length, min, List, ◌++◌, Option, Some, None, refl}
+-- Serves the code's contracts alone: where a length is at its end, and where there is no value.
+use Rattle.std.specs.Prelude.{◌≡◌, ℕ, ◌-◌, ◌^◌, ◌≤◌, length, List, Option, Some, None, refl}
 use Rattle.std.specs.Option.{option_map}
 use Rattle.std.specs.Global.{Vec}
 use Rattle.std.proofs.Common.{arith, ap}
-
--- a count that stops at the greatest u64
-abbrev pub capped : ℕ → ℕ
-capped n = min n (2 ^ 64 - 1)
-
--- what a sink holds goes on with these bytes
-abbrev pub Appends : {S : Type 0} → (S → List ℕ → Type 0) → S → S → List ℕ → Type 0
-Appends Holds old new bytes = (front : List ℕ) → Holds old front → Holds new (front ++ bytes)
+use Rattle.pulsar_wire.specs.Sink.{capped}
 
 -- no list in memory is as long
 pub vec_never_full : (v : Vec ℕ) (xs ys : List ℕ) → v.items ≡ xs → 2 ^ 64 - 1 ≤ length xs → 2 ^ 64 - 1 ≤ length ys → v.items ≡ ys

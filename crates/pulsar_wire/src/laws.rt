@@ -1,17 +1,19 @@
 //! What holds of all messages and commands. A function with an empty body has the law as its contract.
 
-ghost use Rattle.std.specs.Prelude.{◌≡◌, MatchResult};
-ghost use Rattle.std.specs.Bool.{Decides};
+ghost use Rattle.std.specs.Prelude.{◌≡◌, ◌↔◌, IsTrue, MatchResult};
 ghost use Rattle.pulsar_wire.specs.Orders.{id_order, key_order};
-ghost use Rattle.pulsar_wire.specs.Views.{message_id_values};
-ghost use Rattle.pulsar_wire.specs.Laws.{MessagesReadAgain, CommandsReadAgain, SettledCommandsReadAgain, OneMeaning, OneSpelling, KnownBodiesAreRows, UnknownFieldsAreSkipped, UnknownBodiesAreSkipped};
+ghost use Rattle.pulsar_wire.specs.Views.{body_values, command_values, message_id_values};
+ghost use Rattle.pulsar_wire.specs.Laws.{MessagesReadAgain, CommandsReadAgain, SettledCommandsReadAgain, OneSpelling, KnownBodiesAreRows, UnknownFieldsAreSkipped, UnknownBodiesAreSkipped};
 
+use crate::commands::base::{BaseCommand, Body};
 use crate::commands::ids::MessageIdData;
+use crate::encoding::message::Message;
 use crate::error::ConnectionError;
 use crate::key::RequestKey;
 use crate::wire::Wire;
 use std::alloc::Global;
 use std::cmp::Ordering;
+use std::hash::{Hash, Hasher};
 
 /// Writes a value and reads it again. What comes back is the value, where a command's kind is that of its body, and only
 /// memory may be wanting.
@@ -40,11 +42,6 @@ pub fn settled_command_read_again()
     ensures { SettledCommandsReadAgain }
 {}
 
-/// No bytes spell two commands.
-pub fn one_meaning()
-    ensures { OneMeaning }
-{}
-
 /// No two commands are written alike, but for a kind that is not that of its body.
 pub fn one_spelling()
     ensures { OneSpelling }
@@ -65,11 +62,45 @@ pub fn unknown_bodies_are_skipped()
     ensures { UnknownBodiesAreSkipped }
 {}
 
-/// Ids are equal where their six fields are.
-pub fn ids_are_equal(a: &MessageIdData, b: &MessageIdData) -> bool
-    ensures { Decides result (message_id_values a.now ≡ message_id_values b.now) }
+/// Messages, and commands by themselves, are equal exactly where all their fields are.
+pub fn messages_are_equal<M: Message>(a: &M, b: &M) -> bool
+    ensures { IsTrue result ↔ (M.values a.now ≡ M.values b.now) }
 {
     a == b
+}
+
+/// Bodies are equal exactly where their commands and all fields of these are.
+pub fn bodies_are_equal(a: &Body, b: &Body) -> bool
+    ensures { IsTrue result ↔ (body_values a.now ≡ body_values b.now) }
+{
+    a == b
+}
+
+/// Commands are equal exactly where their kinds and their bodies are.
+pub fn commands_are_equal(a: &BaseCommand, b: &BaseCommand) -> bool
+    ensures { IsTrue result ↔ (command_values a.now ≡ command_values b.now) }
+{
+    a == b
+}
+
+/// Ids are equal exactly where their six fields are.
+pub fn ids_are_equal(a: &MessageIdData, b: &MessageIdData) -> bool
+    ensures { IsTrue result ↔ (message_id_values a.now ≡ message_id_values b.now) }
+{
+    a == b
+}
+
+/// Ids whose six fields are equal have one hash, whichever hasher takes them.
+pub fn ids_hash_alike<H: Hasher>(
+    a: &MessageIdData,
+    b: &MessageIdData,
+    first: &mut H,
+    second: &mut H,
+)
+    ensures { message_id_values a.now ≡ message_id_values b.now → first.old ≡ second.old → first.new ≡ second.new }
+{
+    a.hash(first);
+    b.hash(second);
 }
 
 /// Ids are ordered by their six fields.
@@ -85,4 +116,11 @@ pub fn keys_are_ordered(a: &RequestKey, b: &RequestKey) -> Ordering
     ensures { result ≡ key_order a.now b.now }
 {
     a.cmp(b)
+}
+
+/// Keys are equal exactly where their kinds and their numbers are.
+pub fn keys_are_equal(a: &RequestKey, b: &RequestKey) -> bool
+    ensures { IsTrue result ↔ (a.now ≡ b.now) }
+{
+    a == b
 }

@@ -4,7 +4,7 @@ ghost use Rattle.std.specs.Prelude.{◌≡◌, ◌++◌, ℕ, List, Option, leng
 ghost use Rattle.pulsar_wire.specs.Row.{Values, reading, spelling};
 ghost use Rattle.pulsar_wire.specs.Command.{CommandValues, command_reading, command_spelling, settled};
 ghost use Rattle.pulsar_wire.specs.Views.{command_values};
-ghost use Rattle.pulsar_wire.specs.Written.{capped};
+ghost use Rattle.pulsar_wire.specs.Sink.{capped};
 ghost use Rattle.pulsar_wire.specs.Refused.{Decodes};
 
 use crate::commands::base::{BaseCommand, command_len, decode_command, encode_command};

@@ -2,12 +2,12 @@
 
 ghost use Rattle.std.specs.Prelude.{◌≡◌, ◌^◌, ◌<◌, length, map, IfOk, IfSome};
 ghost use Rattle.pulsar_wire.specs.Shown.{Gives};
-ghost use Rattle.pulsar_wire.specs.Views.{message_id_values, message_metadata_values, single_message_metadata_values};
-ghost use Rattle.pulsar_frame.specs.Batch.{ReadsBatch, batch_count, batch_items, entry_values, item, item_values, items_from, of_entry, with_index};
-ghost use Rattle.pulsar_frame.specs.Payload.{payload_values};
+ghost use Rattle.pulsar_wire.specs.Views.{message_id_values, message_metadata_values};
+ghost use Rattle.pulsar_frame.specs.Batch.{IsDescribed, ReadsBatch, batch_count, item_made, item_values, items_made, items_under, with_index};
 
 use crate::batch::{BatchedMessage, read_entries};
 use crate::payload::{Metadata, Payload};
+use crate::refused::refusal;
 use pulsar_wire::commands::ids::MessageIdData;
 use pulsar_wire::commands::metadata::{MessageMetadata, SingleMessageMetadata};
 use pulsar_wire::encoding::copying::{copy_messages, copy_optional, copy_values};
@@ -35,18 +35,17 @@ impl Model for BatchedMessageIterator {
 }
 
 impl BatchedMessageIterator {
-    /// The messages of the batch that came under this id. Each has the id with its index, and the metadata of the payload
-    /// with what its entry says in place of it. It is `Decoding(Batch)` exactly where the metadata does not say how many
-    /// entries there are, or they are not there, and there is no other error but want of memory.
+    /// The messages of the batch that came under this id. Each has the id with its index, and the metadata of the
+    /// payload with what its entry says in place of it. It is `Decoding(Batch)` exactly where the metadata does not say
+    /// how many entries there are, or they are not there, and there is no other error but want of memory.
     pub fn new(message_id: MessageIdData, payload: Payload) -> Result<Self, ConnectionError>
-        ensures { ReadsBatch (λ items. items) result (batch_items (message_id_values message_id) (payload_values payload)) }
+        ensures { ReadsBatch (λ items. items) result (items_under message_id payload) }
     {
         match read_items(&message_id, &payload) {
             Ok(items) => Ok(BatchedMessageIterator {
                 items: items.into_iter(),
             }),
-            Err(ReadError::Malformed) => Err(ConnectionError::Decoding(Reason::Batch)),
-            Err(ReadError::NoMemory) => Err(ConnectionError::NoMemory),
+            Err(e) => Err(refusal(Reason::Batch, e)),
         }
     }
 }
@@ -70,7 +69,7 @@ fn read_items(
     message_id: &MessageIdData,
     payload: &Payload,
 ) -> Result<Vec<(MessageIdData, Payload)>, ReadError>
-    ensures { Gives (λ items. map item_values items.items) result (batch_items (message_id_values message_id.now) (payload_values payload.now)) }
+    ensures { Gives (λ items. map item_values items.items) result (items_under message_id.now payload.now) }
 {
     let Some(count) = message_count(&payload.metadata) else {
         return Err(ReadError::Malformed);
@@ -94,7 +93,7 @@ fn make_items(
     entries: Vec<BatchedMessage>,
 ) -> Result<Vec<(MessageIdData, Payload)>, AllocError>
     requires { length entries.items < 2 ^ 31 }
-    ensures { IfOk result (λ items. map item_values items.items ≡ items_from 0 (message_id_values message_id.now) (message_metadata_values metadata.now) (map entry_values entries.items)) }
+    ensures { IfOk result (λ items. map item_values items.items ≡ items_made message_id.now metadata.now entries.items) }
 {
     let mut items = Vec::with_capacity(*entries.allocator(), entries.len())?;
     for entry in entries {
@@ -112,7 +111,7 @@ fn make_item(
     entry: BatchedMessage,
 ) -> Result<(MessageIdData, Payload), AllocError>
     requires { index < 2 ^ 31 }
-    ensures { IfOk result (λ x. item_values x ≡ item index (message_id_values message_id.now) (message_metadata_values metadata.now) (entry_values entry)) }
+    ensures { IfOk result (λ x. item_values x ≡ item_made index message_id.now metadata.now entry) }
 {
     let message_id = indexed(message_id, index)?;
     let metadata = described(metadata, entry.metadata)?;
@@ -144,7 +143,7 @@ fn indexed(message_id: &MessageIdData, index: usize) -> Result<MessageIdData, Al
 /// The metadata, with what an entry says in place of its own.
 #[tactic(auto, unfolding(pulsar_wire::specs::Views::message_metadata_values, pulsar_wire::specs::Views::single_message_metadata_values))]
 fn described(metadata: &Metadata, entry: SingleMessageMetadata) -> Result<Metadata, AllocError>
-    ensures { IfOk result (λ m. message_metadata_values m ≡ of_entry (message_metadata_values metadata.now) (single_message_metadata_values entry)) }
+    ensures { IfOk result (IsDescribed metadata.now entry) }
 {
     Ok(MessageMetadata {
         producer_name: metadata.producer_name.copy()?,

@@ -5,6 +5,7 @@ ghost use Rattle.std.specs.Option.{option_map};
 ghost use Rattle.pulsar_wire.specs.Row.{none_of};
 ghost use Rattle.pulsar_wire.specs.Rows.{auth_data, auth_challenge, auth_response};
 ghost use Rattle.pulsar_wire.specs.Views.{auth_data_values, auth_challenge_values, auth_response_values};
+ghost use Rattle.pulsar_wire.specs.Equality.{auth_data_equality, auth_challenge_equality, auth_response_equality};
 
 use crate::encoding::content::{bytes_of, int32_of, text_of};
 use crate::encoding::copying::{copy_message, copy_optional};
@@ -80,6 +81,8 @@ impl Message for AuthData {
     }
 
     ghost numbers_differ = { refl };
+
+    ghost equality = { auth_data_equality };
 }
 
 /// The broker asks for a credential.
@@ -151,6 +154,8 @@ impl Message for CommandAuthChallenge {
     }
 
     ghost numbers_differ = { refl };
+
+    ghost equality = { auth_challenge_equality };
 }
 
 /// The answer to `auth_challenge`.
@@ -222,4 +227,6 @@ impl Message for CommandAuthResponse {
     }
 
     ghost numbers_differ = { refl };
+
+    ghost equality = { auth_response_equality };
 }

@@ -8,7 +8,7 @@ ghost use Rattle.pulsar_wire.specs.Command.{BodyValues, body_row, body_name, bod
 ghost use Rattle.pulsar_wire.specs.Fits.{CommandInRange};
 ghost use Rattle.pulsar_wire.specs.CommandMerge.{empty_body, grown, joined_body, command_step};
 ghost use Rattle.pulsar_wire.specs.Row.{Int32, entry, spelling};
-ghost use Rattle.pulsar_wire.specs.Written.{Appends, capped};
+ghost use Rattle.pulsar_wire.specs.Sink.{Appends, capped};
 ghost use Rattle.pulsar_wire.specs.Views.{body_values, command_values};
 ghost use Rattle.pulsar_wire.specs.declared.commands.base.Body.TheVariants as body;
 ghost use Rattle.pulsar_wire.specs.Shown.{Gives, Leaves, shown, field};

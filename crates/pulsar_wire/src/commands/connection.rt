@@ -5,6 +5,7 @@ ghost use Rattle.std.specs.Option.{option_map};
 ghost use Rattle.pulsar_wire.specs.Row.{none_of};
 ghost use Rattle.pulsar_wire.specs.Rows.{connect, connected, ping, pong, success, error};
 ghost use Rattle.pulsar_wire.specs.Views.{connect_values, connected_values, ping_values, pong_values, success_values, error_values, schema_values};
+ghost use Rattle.pulsar_wire.specs.Equality.{connect_equality, connected_equality, ping_equality, pong_equality, success_equality, error_equality};
 
 use crate::commands::schema::Schema;
 use crate::encoding::content::{bytes_of, int32_of, text_of, uint64_of};
@@ -105,6 +106,8 @@ impl Message for CommandConnect {
     }
 
     ghost numbers_differ = { refl };
+
+    ghost equality = { connect_equality };
 }
 
 /// The broker's answer to `connect`.
@@ -177,6 +180,8 @@ impl Message for CommandConnected {
     }
 
     ghost numbers_differ = { refl };
+
+    ghost equality = { connected_equality };
 }
 
 /// Asks the other side whether it is there.
@@ -225,6 +230,8 @@ impl Message for CommandPing {
     }
 
     ghost numbers_differ = { refl };
+
+    ghost equality = { ping_equality };
 }
 
 /// The answer to `ping`.
@@ -273,6 +280,8 @@ impl Message for CommandPong {
     }
 
     ghost numbers_differ = { refl };
+
+    ghost equality = { pong_equality };
 }
 
 /// A request was done.
@@ -339,6 +348,8 @@ impl Message for CommandSuccess {
     }
 
     ghost numbers_differ = { refl };
+
+    ghost equality = { success_equality };
 }
 
 /// A request failed.
@@ -411,4 +422,6 @@ impl Message for CommandError {
     }
 
     ghost numbers_differ = { refl };
+
+    ghost equality = { error_equality };
 }

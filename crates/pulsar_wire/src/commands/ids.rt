@@ -4,6 +4,7 @@ ghost use Rattle.std.specs.Prelude.{◌≡◌, refl, IfOk};
 ghost use Rattle.pulsar_wire.specs.Row.{none_of};
 ghost use Rattle.pulsar_wire.specs.Rows.{message_id};
 ghost use Rattle.pulsar_wire.specs.Views.{message_id_values};
+ghost use Rattle.pulsar_wire.specs.Equality.{message_id_equality};
 
 use crate::encoding::content::{int32_of, push_numbers, uint64_of};
 use crate::encoding::copying::copy_values;
@@ -100,4 +101,6 @@ impl Message for MessageIdData {
     }
 
     ghost numbers_differ = { refl };
+
+    ghost equality = { message_id_equality };
 }

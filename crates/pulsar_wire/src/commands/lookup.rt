@@ -5,6 +5,7 @@ ghost use Rattle.std.specs.Option.{option_map};
 ghost use Rattle.pulsar_wire.specs.Row.{none_of};
 ghost use Rattle.pulsar_wire.specs.Rows.{partition_metadata, partition_metadata_response, lookup_topic, lookup_topic_response};
 ghost use Rattle.pulsar_wire.specs.Views.{partition_metadata_values, partition_metadata_response_values, lookup_topic_values, lookup_topic_response_values};
+ghost use Rattle.pulsar_wire.specs.Equality.{partition_metadata_equality, partition_metadata_response_equality, lookup_topic_equality, lookup_topic_response_equality};
 
 use crate::encoding::content::{flag_of, int32_of, text_of, uint32_of, uint64_of};
 use crate::encoding::copying::copy_optional;
@@ -77,6 +78,8 @@ impl Message for CommandPartitionedTopicMetadata {
     }
 
     ghost numbers_differ = { refl };
+
+    ghost equality = { partition_metadata_equality };
 }
 
 /// How many partitions a topic has: 0 where it is not partitioned.
@@ -160,6 +163,8 @@ impl Message for CommandPartitionedTopicMetadataResponse {
     }
 
     ghost numbers_differ = { refl };
+
+    ghost equality = { partition_metadata_response_equality };
 }
 
 /// Asks which broker serves a topic.
@@ -231,6 +236,8 @@ impl Message for CommandLookupTopic {
     }
 
     ghost numbers_differ = { refl };
+
+    ghost equality = { lookup_topic_equality };
 }
 
 /// Which broker serves a topic, or which one to ask.
@@ -329,4 +336,6 @@ impl Message for CommandLookupTopicResponse {
     }
 
     ghost numbers_differ = { refl };
+
+    ghost equality = { lookup_topic_response_equality };
 }

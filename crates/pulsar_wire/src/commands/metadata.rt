@@ -5,6 +5,7 @@ ghost use Rattle.std.specs.Option.{option_map};
 ghost use Rattle.pulsar_wire.specs.Row.{none_of};
 ghost use Rattle.pulsar_wire.specs.Rows.{key_value, encryption_keys, message_metadata, single_message_metadata};
 ghost use Rattle.pulsar_wire.specs.Views.{key_value_values, encryption_keys_values, message_metadata_values, single_message_metadata_values};
+ghost use Rattle.pulsar_wire.specs.Equality.{key_value_equality, encryption_keys_equality, message_metadata_equality, single_message_metadata_equality};
 
 use crate::encoding::content::{
     bytes_of, int32_of, int64_of, push_text, text_of, uint32_of, uint64_of,
@@ -79,6 +80,8 @@ impl Message for KeyValue {
     }
 
     ghost numbers_differ = { refl };
+
+    ghost equality = { key_value_equality };
 }
 
 /// A key that is needed to decrypt a payload, itself encrypted.
@@ -150,6 +153,8 @@ impl Message for EncryptionKeys {
     }
 
     ghost numbers_differ = { refl };
+
+    ghost equality = { encryption_keys_equality };
 }
 
 /// What a frame says of its payload.
@@ -297,6 +302,8 @@ impl Message for MessageMetadata {
     }
 
     ghost numbers_differ = { refl };
+
+    ghost equality = { message_metadata_equality };
 }
 
 /// What an entry of a batch says of its payload.
@@ -380,4 +387,6 @@ impl Message for SingleMessageMetadata {
     }
 
     ghost numbers_differ = { refl };
+
+    ghost equality = { single_message_metadata_equality };
 }

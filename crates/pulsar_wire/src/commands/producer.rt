@@ -5,6 +5,7 @@ ghost use Rattle.std.specs.Option.{option_map};
 ghost use Rattle.pulsar_wire.specs.Row.{none_of};
 ghost use Rattle.pulsar_wire.specs.Rows.{producer, producer_success, send, send_receipt, send_error, close_producer};
 ghost use Rattle.pulsar_wire.specs.Views.{producer_values, producer_success_values, send_values, send_receipt_values, send_error_values, close_producer_values, key_value_values, schema_values, message_id_values};
+ghost use Rattle.pulsar_wire.specs.Equality.{producer_equality, producer_success_equality, send_equality, send_receipt_equality, send_error_equality, close_producer_equality};
 
 use crate::commands::ids::MessageIdData;
 use crate::commands::metadata::KeyValue;
@@ -116,6 +117,8 @@ impl Message for CommandProducer {
     }
 
     ghost numbers_differ = { refl };
+
+    ghost equality = { producer_equality };
 }
 
 /// A producer was made, under this name. It may not be ready to send yet.
@@ -204,6 +207,8 @@ impl Message for CommandProducerSuccess {
     }
 
     ghost numbers_differ = { refl };
+
+    ghost equality = { producer_success_equality };
 }
 
 /// A message of a producer. Its payload stands behind the command.
@@ -276,6 +281,8 @@ impl Message for CommandSend {
     }
 
     ghost numbers_differ = { refl };
+
+    ghost equality = { send_equality };
 }
 
 /// A message of a producer is stored.
@@ -353,6 +360,8 @@ impl Message for CommandSendReceipt {
     }
 
     ghost numbers_differ = { refl };
+
+    ghost equality = { send_receipt_equality };
 }
 
 /// A message of a producer is refused.
@@ -430,6 +439,8 @@ impl Message for CommandSendError {
     }
 
     ghost numbers_differ = { refl };
+
+    ghost equality = { send_error_equality };
 }
 
 /// Ends a producer. The broker says it, too.
@@ -496,4 +507,6 @@ impl Message for CommandCloseProducer {
     }
 
     ghost numbers_differ = { refl };
+
+    ghost equality = { close_producer_equality };
 }

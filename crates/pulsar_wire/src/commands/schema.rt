@@ -5,6 +5,7 @@ ghost use Rattle.std.specs.Option.{option_map};
 ghost use Rattle.pulsar_wire.specs.Row.{none_of};
 ghost use Rattle.pulsar_wire.specs.Rows.{schema, get_schema, get_schema_response};
 ghost use Rattle.pulsar_wire.specs.Views.{schema_values, get_schema_values, get_schema_response_values, key_value_values};
+ghost use Rattle.pulsar_wire.specs.Equality.{schema_equality, get_schema_equality, get_schema_response_equality};
 
 use crate::commands::metadata::KeyValue;
 use crate::encoding::content::{bytes_of, int32_of, text_of, uint64_of};
@@ -94,6 +95,8 @@ impl Message for Schema {
     }
 
     ghost numbers_differ = { refl };
+
+    ghost equality = { schema_equality };
 }
 
 /// Asks for the schema of a topic.
@@ -165,6 +168,8 @@ impl Message for CommandGetSchema {
     }
 
     ghost numbers_differ = { refl };
+
+    ghost equality = { get_schema_equality };
 }
 
 /// The schema of a topic, and its version.
@@ -247,4 +252,6 @@ impl Message for CommandGetSchemaResponse {
     }
 
     ghost numbers_differ = { refl };
+
+    ghost equality = { get_schema_response_equality };
 }

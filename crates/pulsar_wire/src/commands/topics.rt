@@ -5,6 +5,7 @@ ghost use Rattle.pulsar_wire.specs.Enumerations.{mode_number};
 ghost use Rattle.pulsar_wire.specs.Row.{none_of};
 ghost use Rattle.pulsar_wire.specs.Rows.{get_topics_of_namespace, get_topics_of_namespace_response};
 ghost use Rattle.pulsar_wire.specs.Views.{get_topics_of_namespace_values, get_topics_of_namespace_response_values};
+ghost use Rattle.pulsar_wire.specs.Equality.{get_topics_of_namespace_equality, get_topics_of_namespace_response_equality};
 
 use crate::encoding::content::{int32_of, push_text, text_of, uint64_of};
 use crate::encoding::copying::copy_values;
@@ -107,6 +108,8 @@ impl Message for CommandGetTopicsOfNamespace {
     }
 
     ghost numbers_differ = { refl };
+
+    ghost equality = { get_topics_of_namespace_equality };
 }
 
 /// The names of the topics of a namespace.
@@ -169,4 +172,6 @@ impl Message for CommandGetTopicsOfNamespaceResponse {
     }
 
     ghost numbers_differ = { refl };
+
+    ghost equality = { get_topics_of_namespace_response_equality };
 }

@@ -7,7 +7,7 @@ ghost use Rattle.std.specs.Int.{w64};
 ghost use Rattle.pulsar_wire.specs.Row as row;
 ghost use Rattle.pulsar_wire.specs.Row.{Int64, entry, items, message_entry, spelling};
 ghost use Rattle.pulsar_wire.specs.Fits.{FitsContent, InRange};
-ghost use Rattle.pulsar_wire.specs.Written.{Appends};
+ghost use Rattle.pulsar_wire.specs.Sink.{Appends};
 
 use crate::encoding::message::{Message, write_message, write_messages};
 use crate::encoding::plain::{Plain, write_numbers, write_values};

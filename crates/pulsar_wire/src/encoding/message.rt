@@ -1,12 +1,12 @@
 //! Messages by their rows.
 
-ghost use Rattle.std.specs.Prelude.{◌≡◌, ◌++◌, ℕ, List, map, length, OnOk, IsOk, IfOk};
+ghost use Rattle.std.specs.Prelude.{◌≡◌, ◌↔◌, IsTrue, ◌++◌, ℕ, List, map, length, OnOk, IsOk, IfOk};
 ghost use Rattle.std.specs.Option.{option_map};
 ghost use Rattle.pulsar_wire.specs.Row.{Row, Values, Required, Optional, Repeated, items, message_entry, none_of, spelling, reading};
 ghost use Rattle.pulsar_wire.specs.Fits.{InRange, IsRow};
 ghost use Rattle.pulsar_wire.specs.Merge.{put, put_part, merged};
 ghost use Rattle.std.specs.List.{flat_map, AllByRecursion};
-ghost use Rattle.pulsar_wire.specs.Written.{capped, Appends};
+ghost use Rattle.pulsar_wire.specs.Sink.{capped, Appends};
 ghost use Rattle.pulsar_wire.specs.Shown.{Leaves, Gives, field, shown};
 
 use crate::encoding::content::delimited_of;
@@ -17,7 +17,7 @@ use crate::encoding::sink::{Count, Sink};
 use std::alloc::{AllocError, Global};
 
 /// A message with a row of its own.
-pub trait Message: Drop {
+pub trait Message: Drop + PartialEq {
     /// Its fields.
     ghost shape: { Row };
 
@@ -44,6 +44,9 @@ pub trait Message: Drop {
 
     /// No two fields have one number.
     ghost numbers_differ: { IsRow shape };
+
+    /// Two messages are equal exactly where the values of all their fields are.
+    ghost equality: { (a b : Self) → IsTrue (Self.eq a b) ↔ (values a ≡ values b) };
 }
 
 /// Takes the fields that the bytes spell.

@@ -6,7 +6,8 @@ ghost use Rattle.std.specs.List.{flat_map, AllByRecursion};
 ghost use Rattle.std.specs.Int.{w64};
 ghost use Rattle.pulsar_wire.specs.Row.{Kind, Text, Bytes, Uint32, Uint64, Int32, Int64, Flag, Required, Optional, Repeated, Content, items, varint, key, with_length, entry};
 ghost use Rattle.pulsar_wire.specs.Fits.{FitsContent};
-ghost use Rattle.pulsar_wire.specs.Written.{Appends, held_alike};
+ghost use Rattle.pulsar_wire.specs.Sink.{Appends};
+ghost use Rattle.pulsar_wire.specs.Written.{held_alike};
 
 use crate::encoding::sink::{Sink, push_varint};
 use std::alloc::AllocError;

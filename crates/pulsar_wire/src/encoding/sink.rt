@@ -2,7 +2,8 @@
 
 ghost use Rattle.std.specs.Prelude.{◌≡◌, ℕ, List, [], ◌∷◌, ◌++◌, length, OnOk, IsOk, ◌-◌, ◌^◌, ◌≤◌, min};
 ghost use Rattle.pulsar_wire.specs.Row.{varint};
-ghost use Rattle.pulsar_wire.specs.Written.{capped, Appends, vec_never_full, capped_alike};
+ghost use Rattle.pulsar_wire.specs.Sink.{capped, Appends};
+ghost use Rattle.pulsar_wire.specs.Written.{vec_never_full, capped_alike};
 
 use std::alloc::AllocError;
 

@@ -4,6 +4,7 @@ ghost use Rattle.std.specs.Prelude.{◌≡◌, refl, map, IfOk};
 ghost use Rattle.pulsar_wire.specs.Row.{none_of};
 ghost use Rattle.pulsar_wire.specs.Rows.{message, ack, flow, redeliver_unacknowledged_messages, reached_end_of_topic};
 ghost use Rattle.pulsar_wire.specs.Views.{message_values, ack_values, flow_values, redeliver_unacknowledged_messages_values, reached_end_of_topic_values, message_id_values};
+ghost use Rattle.pulsar_wire.specs.Equality.{message_equality, ack_equality, flow_equality, redeliver_unacknowledged_messages_equality, reached_end_of_topic_equality};
 
 use crate::commands::ids::MessageIdData;
 use crate::encoding::content::{int32_of, push_numbers, uint32_of, uint64_of};
@@ -93,6 +94,8 @@ impl Message for CommandMessage {
     }
 
     ghost numbers_differ = { refl };
+
+    ghost equality = { message_equality };
 }
 
 /// Acknowledges messages: each one, or all up to one.
@@ -165,6 +168,8 @@ impl Message for CommandAck {
     }
 
     ghost numbers_differ = { refl };
+
+    ghost equality = { ack_equality };
 }
 
 /// Asks for this many further messages.
@@ -232,6 +237,8 @@ impl Message for CommandFlow {
     }
 
     ghost numbers_differ = { refl };
+
+    ghost equality = { flow_equality };
 }
 
 /// Asks for these messages again, or for all that are not acknowledged.
@@ -298,6 +305,8 @@ impl Message for CommandRedeliverUnacknowledgedMessages {
     }
 
     ghost numbers_differ = { refl };
+
+    ghost equality = { redeliver_unacknowledged_messages_equality };
 }
 
 /// A topic that has ended has no further messages for a consumer.
@@ -354,4 +363,6 @@ impl Message for CommandReachedEndOfTopic {
     }
 
     ghost numbers_differ = { refl };
+
+    ghost equality = { reached_end_of_topic_equality };
 }

@@ -5,6 +5,7 @@ ghost use Rattle.std.specs.Option.{option_map};
 ghost use Rattle.pulsar_wire.specs.Row.{none_of};
 ghost use Rattle.pulsar_wire.specs.Rows.{seek, get_last_message_id, get_last_message_id_response, consumer_stats, consumer_stats_response};
 ghost use Rattle.pulsar_wire.specs.Views.{seek_values, get_last_message_id_values, get_last_message_id_response_values, consumer_stats_values, consumer_stats_response_values, message_id_values};
+ghost use Rattle.pulsar_wire.specs.Equality.{seek_equality, get_last_message_id_equality, get_last_message_id_response_equality, consumer_stats_equality, consumer_stats_response_equality};
 
 use crate::commands::ids::MessageIdData;
 use crate::encoding::content::{flag_of, int32_of, text_of, uint64_of};
@@ -94,6 +95,8 @@ impl Message for CommandSeek {
     }
 
     ghost numbers_differ = { refl };
+
+    ghost equality = { seek_equality };
 }
 
 /// Asks for the id of the last message of a topic.
@@ -160,6 +163,8 @@ impl Message for CommandGetLastMessageId {
     }
 
     ghost numbers_differ = { refl };
+
+    ghost equality = { get_last_message_id_equality };
 }
 
 /// The id of the last message of a topic.
@@ -226,6 +231,8 @@ impl Message for CommandGetLastMessageIdResponse {
     }
 
     ghost numbers_differ = { refl };
+
+    ghost equality = { get_last_message_id_response_equality };
 }
 
 /// Asks what the broker counts of a consumer.
@@ -292,6 +299,8 @@ impl Message for CommandConsumerStats {
     }
 
     ghost numbers_differ = { refl };
+
+    ghost equality = { consumer_stats_equality };
 }
 
 /// What the broker counts of a consumer.
@@ -404,4 +413,6 @@ impl Message for CommandConsumerStatsResponse {
     }
 
     ghost numbers_differ = { refl };
+
+    ghost equality = { consumer_stats_response_equality };
 }

@@ -5,6 +5,7 @@ ghost use Rattle.std.specs.Option.{option_map};
 ghost use Rattle.pulsar_wire.specs.Row.{none_of};
 ghost use Rattle.pulsar_wire.specs.Rows.{subscribe, unsubscribe, close_consumer, active_consumer_change};
 ghost use Rattle.pulsar_wire.specs.Views.{subscribe_values, unsubscribe_values, close_consumer_values, active_consumer_change_values, message_id_values, key_value_values, schema_values};
+ghost use Rattle.pulsar_wire.specs.Equality.{subscribe_equality, unsubscribe_equality, close_consumer_equality, active_consumer_change_equality};
 
 use crate::commands::ids::MessageIdData;
 use crate::commands::metadata::KeyValue;
@@ -143,6 +144,8 @@ impl Message for CommandSubscribe {
     }
 
     ghost numbers_differ = { refl };
+
+    ghost equality = { subscribe_equality };
 }
 
 /// Ends a consumer's subscription.
@@ -209,6 +212,8 @@ impl Message for CommandUnsubscribe {
     }
 
     ghost numbers_differ = { refl };
+
+    ghost equality = { unsubscribe_equality };
 }
 
 /// Ends a consumer. The broker says it, too.
@@ -275,6 +280,8 @@ impl Message for CommandCloseConsumer {
     }
 
     ghost numbers_differ = { refl };
+
+    ghost equality = { close_consumer_equality };
 }
 
 /// Whether a consumer is the one that a failover subscription serves.
@@ -337,4 +344,6 @@ impl Message for CommandActiveConsumerChange {
     }
 
     ghost numbers_differ = { refl };
+
+    ghost equality = { active_consumer_change_equality };
 }

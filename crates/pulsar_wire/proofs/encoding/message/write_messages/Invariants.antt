@@ -2,7 +2,7 @@ use Rattle.std.proofs.Common.{map, take}
 use Rattle.std.specs.List.{flat_map, AllByRecursion}
 use Rattle.pulsar_wire.specs.Fits.{InRange}
 use Rattle.pulsar_wire.specs.Row.{message_entry, spelling}
-use Rattle.pulsar_wire.specs.Written.{Appends}
+use Rattle.pulsar_wire.specs.Sink.{Appends}
 use Rattle.pulsar_wire.proofs.encoding.message.write_messages.Given as goal
 
 abbrev pub invariant-loop-message : goal.invariant-loop-message

@@ -2,7 +2,7 @@ use Rattle.std.proofs.Common.{map, take}
 use Rattle.std.specs.List.{flat_map, AllByRecursion}
 use Rattle.pulsar_wire.specs.Fits.{FitsContent}
 use Rattle.pulsar_wire.specs.Row.{entry}
-use Rattle.pulsar_wire.specs.Written.{Appends}
+use Rattle.pulsar_wire.specs.Sink.{Appends}
 use Rattle.pulsar_wire.proofs.encoding.plain.write_values.Given as goal
 
 abbrev pub invariant-loop-value : goal.invariant-loop-value

@@ -1,0 +1,6 @@
+use Rattle.std.proofs.Common.{sym, ◌∙◌}
+use Rattle.pulsar_wire.proofs.CommandEquality.{command_equality}
+use Rattle.pulsar_wire.proofs.laws.commands_are_equal.Goals as goal
+
+pub returns : goal.returns
+returns c = let d = command_equality c.args.a.now c.args.b.now in (λ e. d.0 (sym c.eq.ensures ∙ e), λ e. c.eq.ensures ∙ d.1 e)

@@ -5,10 +5,7 @@ use crate::lending::lend;
 use crate::printing::{print_bytes, print_refusal, print_value};
 use crate::stop::Stop;
 use bytes::BytesMut;
-use pulsar_frame::batch::iterator::BatchedMessageIterator;
-use pulsar_frame::batch::{BatchedMessage, parse_batched_message};
-use pulsar_frame::codec::Codec;
-use pulsar_frame::payload::Payload;
+use pulsar_frame::{BatchedMessage, BatchedMessageIterator, Codec, Payload, parse_batched_message};
 use pulsar_wire::{Body, ConnectionError, MessageIdData};
 use std::alloc::Global;
 

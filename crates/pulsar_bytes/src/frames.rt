@@ -4,9 +4,7 @@ use crate::lending::lend;
 use crate::printing::{print_bytes, print_refusal, print_value};
 use crate::stop::Stop;
 use bytes::BytesMut;
-use pulsar_frame::codec::Codec;
-use pulsar_frame::message::Message;
-use pulsar_frame::reader::FrameReader;
+use pulsar_frame::{Codec, FrameReader, Message};
 use pulsar_wire::{ConnectionError, NoMemory};
 use std::alloc::Global;
 

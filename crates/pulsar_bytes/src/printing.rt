@@ -1,7 +1,7 @@
 //! The lines that are printed.
 
 use crate::stop::Stop;
-use pulsar_frame::checksum::crc32c;
+use pulsar_frame::crc32c;
 use pulsar_wire::{ConnectionError, Wire};
 use std::alloc::Global;
 use std::fmt::Debug;

@@ -1,116 +1,154 @@
-//! Each public call, where there is memory.
+//! Calls that no script makes, where there is memory, and URLs beside their addresses.
 
-use pulsar_client::effect::{Answer, Effect, Settlement};
+use pulsar_client::effect::Effect;
 use pulsar_client::event::{Call, Event};
 use pulsar_client::options::ClientOptions;
 use pulsar_client::pulsar::Pulsar;
-use pulsar_wire::commands::topics::Mode;
-use pulsar_wire::error::{ConnectionError, Error, IoKind, NoMemory};
+use pulsar_wire::{ConnectionError, Error, NoMemory};
 use std::alloc::Global;
 use std::test::Fail;
 
-const CONNECT: &[u8] =
-    b"\x00\x00\x00\x1c\x00\x00\x00\x18\x08\x02\x12\x14\x0a\x10pulsar-rs-v6.7.2\x20\x0c";
-
-const CONNECTED: &[u8] = b"\x00\x00\x00\x0a\x00\x00\x00\x06\x08\x03\x1a\x02\x0a\x00";
-
-const TOPICS: &[u8] =
-    b"\x00\x00\x00\x1d\x00\x00\x00\x19\x08\x20\x82\x02\x14\x08\x00\x12\x0epublic/default\x18\x02";
-
+/// An answer to a request, where a connected command must come.
 const REPLY: &[u8] = b"\x00\x00\x00\x0e\x00\x00\x00\x0a\x08\x21\x8a\x02\x05\x08\x00\x12\x01a";
 
-fn options(alloc: Global) -> Result<ClientOptions, NoMemory> {
+fn options(alloc: Global, url: &str) -> Result<ClientOptions, NoMemory> {
     Ok(ClientOptions {
-        url: String::from_str(alloc, "pulsar://127.0.0.1:6650")?,
-        now: 0,
-        first_number: 0,
-    })
-}
-
-fn bytes(alloc: Global, piece: &[u8]) -> Result<Vec<u8>, NoMemory> {
-    let mut all = Vec::new(alloc);
-    all.extend_from_slice(piece)?;
-    Ok(all)
-}
-
-fn topics(alloc: Global) -> Result<Call, NoMemory> {
-    Ok(Call::Topics {
-        namespace: String::from_str(alloc, "public/default")?,
-        mode: Mode::All,
-    })
-}
-
-#[test]
-fn a_request_is_answered(rt: HostRuntime) -> Result<(), Fail> {
-    let alloc = rt.alloc();
-    let mut client = Pulsar::new(alloc, options(alloc)?)?;
-    let (ticket, effects) = client.submit(Call::Build)?;
-    assert_eq!(rt; ticket, 0);
-    assert_eq!(rt; effects.len(), 1);
-    let _ = client.step(Event::Opened(0))?;
-    let mut effects = client.step(Event::Drain(0, 1))?;
-    assert_eq!(rt;
-        effects.pop(),
-        Some(Effect::Write {
-            link: 0,
-            bytes: bytes(alloc, CONNECT)?
-        })
-    );
-    let mut effects = client.step(Event::Bytes(0, bytes(alloc, CONNECTED)?))?;
-    assert_eq!(rt;
-        effects.pop(),
-        Some(Effect::Ended {
-            ticket: 0,
-            answer: Ok(Answer::Done)
-        })
-    );
-    let (ticket, mut effects) = client.submit(topics(alloc)?)?;
-    assert_eq!(rt; ticket, 1);
-    assert_eq!(rt;
-        effects.pop(),
-        Some(Effect::Queued {
-            link: 0,
-            place: 1,
-            bytes: bytes(alloc, TOPICS)?
-        })
-    );
-    let mut effects = client.step(Event::Bytes(0, bytes(alloc, REPLY)?))?;
-    let mut names = Vec::new(alloc);
-    names.push(String::from_str(alloc, "a")?)?;
-    assert_eq!(rt;
-        effects.pop(),
-        Some(Effect::Ended {
-            ticket: 1,
-            answer: Ok(Answer::Topics(names))
-        })
-    );
-    assert_eq!(rt;
-        effects.pop(),
-        Some(Effect::Settled {
-            link: 0,
-            place: 1,
-            outcome: Settlement::Reply
-        })
-    );
-    assert_eq!(rt; effects.pop(), None);
-    Ok(())
-}
-
-/// The effect of a Build by a client with this URL.
-fn built_at(alloc: Global, url: &str) -> Result<Option<Effect>, NoMemory> {
-    let options = ClientOptions {
         url: String::from_str(alloc, url)?,
         now: 0,
         first_number: 0,
-    };
-    let mut client = Pulsar::new(alloc, options)?;
-    let (_, mut effects) = client.submit(Call::Build)?;
-    Ok(effects.pop())
+    })
+}
+
+/// Lends the value, and lets it go.
+fn lend<T: Drop, R, F: FnOnce(&mut T) -> R>(value: T, f: F) -> R
+    requires { F.IsAlwaysCallable f }
+{
+    let mut value = value;
+    f(&mut value)
+}
+
+/// The ticket of a Build, and how many effects it has.
+fn built(client: &mut Result<Pulsar, NoMemory>) -> Result<(u64, usize), NoMemory> {
+    match client {
+        Ok(client) => {
+            let (ticket, effects) = client.submit(Call::Build)?;
+            Ok((ticket, effects.len()))
+        }
+        Err(NoMemory) => Err(NoMemory),
+    }
+}
+
+/// The same of two Builds by one client.
+fn both_built(
+    client: &mut Result<Pulsar, NoMemory>,
+) -> Result<((u64, usize), (u64, usize)), NoMemory> {
+    Ok((built(client)?, built(client)?))
+}
+
+#[test]
+fn calls_get_tickets(rt: HostRuntime) -> Result<(), Fail> {
+    let alloc = rt.alloc();
+    let options = options(alloc, "pulsar://127.0.0.1:6650")?;
+    let seen = lend(Pulsar::new(alloc, options), |client| both_built(client))?;
+    assert!(rt; seen == ((0, 1), (1, 0)));
+    Ok(())
+}
+
+/// Two Builds, an attempt that goes well, and a frame that ends it.
+fn events(alloc: Global) -> Result<Vec<Event>, NoMemory> {
+    let mut events = Vec::new(alloc);
+    events.push(Event::Call(Call::Build))?;
+    events.push(Event::Call(Call::Build))?;
+    events.push(Event::Opened(0))?;
+    events.push(Event::Bytes(0, REPLY.to_vec(alloc)?))?;
+    Ok(events)
+}
+
+/// Whether there are so many effects of each event.
+fn are_all(steps: &Result<Vec<Vec<Effect>>, NoMemory>) -> bool {
+    match steps {
+        Ok(steps) => match steps.as_slice() {
+            [first, second, opened, last] => {
+                first.len() == 1 && second.is_empty() && opened.len() == 1 && last.len() == 3
+            }
+            _ => false,
+        },
+        Err(NoMemory) => false,
+    }
+}
+
+#[test]
+fn events_are_taken_together(rt: HostRuntime) -> Result<(), Fail> {
+    let alloc = rt.alloc();
+    let options = options(alloc, "pulsar://127.0.0.1:6650")?;
+    let events = events(alloc)?;
+    let driven = lend(
+        Pulsar::drive(alloc, options, &events),
+        |steps| are_all(steps),
+    );
+    assert!(rt; driven);
+    Ok(())
+}
+
+/// Whether the effects of a Build by this client are so.
+fn build_is<F: FnOnce(&[Effect]) -> bool>(
+    client: &mut Result<Pulsar, NoMemory>,
+    is_so: F,
+) -> Result<bool, NoMemory>
+    requires { F.IsAlwaysCallable is_so }
+{
+    match client {
+        Ok(client) => {
+            let (_, effects) = client.submit(Call::Build)?;
+            Ok(is_so(&effects))
+        }
+        Err(NoMemory) => Err(NoMemory),
+    }
+}
+
+fn is_connect(effects: &[Effect], host: &str, port: u16) -> bool {
+    match effects {
+        [
+            Effect::Connect {
+                link: 0,
+                host: to,
+                port: at,
+            },
+        ] => to.as_str() == host && *at == port,
+        _ => false,
+    }
+}
+
+fn is_not_found(effects: &[Effect]) -> bool {
+    match effects {
+        [
+            Effect::Ended {
+                ticket: 0,
+                answer: Err(Error::Connection(e)),
+            },
+        ] => { matches!(e, ConnectionError::NotFound) }
+        _ => false,
+    }
+}
+
+/// Whether a client with this URL connects to this host and port.
+fn connects(alloc: Global, url: &str, host: &str, port: u16) -> Result<bool, NoMemory> {
+    let options = options(alloc, url)?;
+    lend(Pulsar::new(alloc, options), |client| {
+        build_is(client, |effects| is_connect(effects, host, port))
+    })
+}
+
+/// Whether a client with this URL finds no address.
+fn finds_none(alloc: Global, url: &str) -> Result<bool, NoMemory> {
+    let options = options(alloc, url)?;
+    lend(Pulsar::new(alloc, options), |client| {
+        build_is(client, |effects| is_not_found(effects))
+    })
 }
 
 #[test]
 fn the_address_is_that_of_the_url(rt: HostRuntime) -> Result<(), Fail> {
-    let alloc = rt.alloc();
     for (url, host, port) in [
         ("pulsar://127.0.0.1:6650", "127.0.0.1", 6650),
         ("pulsar://h", "h", 6650),
@@ -119,16 +157,13 @@ fn the_address_is_that_of_the_url(rt: HostRuntime) -> Result<(), Fail> {
         ("pulsar://u:p@h:0", "h", 0),
         ("pulsar://[::1]:65535", "[::1]", 65535),
     ] {
-        assert_eq!(rt;
-            built_at(alloc, url)?,
-            Some(Effect::Connect {
-                link: 0,
-                host: String::from_str(alloc, host)?,
-                port
-            }),
-            "{url}"
-        );
+        assert!(rt; connects(rt.alloc(), url, host, port)?, "{url}");
     }
+    Ok(())
+}
+
+#[test]
+fn other_urls_have_no_address(rt: HostRuntime) -> Result<(), Fail> {
     for url in [
         "",
         "h",
@@ -147,46 +182,7 @@ fn the_address_is_that_of_the_url(rt: HostRuntime) -> Result<(), Fail> {
         "http://h:6650",
         "pulsars://h",
     ] {
-        assert_eq!(rt;
-            built_at(alloc, url)?,
-            Some(Effect::Ended {
-                ticket: 0,
-                answer: Err(Error::Connection(ConnectionError::NotFound))
-            }),
-            "{url}"
-        );
+        assert!(rt; finds_none(rt.alloc(), url)?, "{url}");
     }
-    Ok(())
-}
-
-#[test]
-fn an_attempt_fails(rt: HostRuntime) -> Result<(), Fail> {
-    let alloc = rt.alloc();
-    let mut events = Vec::new(alloc);
-    events.push(Event::Call(Call::Build))?;
-    events.push(Event::Call(Call::Build))?;
-    events.push(Event::Opened(0))?;
-    events.push(Event::Bytes(0, bytes(alloc, REPLY)?))?;
-    let mut all = Pulsar::drive(alloc, options(alloc)?, &events)?;
-    assert_eq!(rt; all.len(), 4);
-    let mut effects = all.pop().ok_or("no step")?;
-    assert_eq!(rt; effects.pop(), Some(Effect::Close { link: 0 }));
-    let canceled = Err(Error::Connection(ConnectionError::Canceled));
-    assert_eq!(rt;
-        effects.pop(),
-        Some(Effect::Ended {
-            ticket: 1,
-            answer: canceled
-        })
-    );
-    let failed = Err(Error::Connection(ConnectionError::Io(IoKind::Other)));
-    assert_eq!(rt;
-        effects.pop(),
-        Some(Effect::Ended {
-            ticket: 0,
-            answer: failed
-        })
-    );
-    assert_eq!(rt; effects.pop(), None);
     Ok(())
 }

@@ -1,4 +1,5 @@
-//! That each public call of the client answers where there is memory, which no clause says, and URLs beside their addresses.
+//! That the calls of the client that no script makes answer where there is memory, which no clause says, and URLs beside
+//! their addresses.
 #![tactic(auto)]
 
 #[cfg(test)]

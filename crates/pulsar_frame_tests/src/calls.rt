@@ -1,9 +1,7 @@
 //! Known checksums, and the frame of an older client.
 
 use bytes::BytesMut;
-use pulsar_frame::checksum::crc32c;
-use pulsar_frame::codec::Codec;
-use pulsar_frame::message::Message;
+use pulsar_frame::{Codec, Message, crc32c};
 use pulsar_wire::{Body, ConnectionError};
 use std::alloc::Global;
 use std::test::Fail;

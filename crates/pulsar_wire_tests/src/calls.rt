@@ -130,10 +130,20 @@ fn there_is_memory(rt: HostRuntime) -> Result<(), Fail> {
     let alloc = rt.alloc();
     assert_eq!(rt; client_version(alloc)?.as_str(), "pulsar-rs-v6.7.2");
     assert!(rt; round_trip(alloc, &id(alloc, None)).is_ok());
-    assert!(rt; AuthData::new().copy().is_ok());
+    Ok(())
+}
+
+#[test]
+fn parts_of_a_payload_are_copied(rt: HostRuntime) {
+    let alloc = rt.alloc();
     assert!(rt; KeyValue::new(alloc).copy().is_ok());
     assert!(rt; EncryptionKeys::new(alloc).copy().is_ok());
     assert!(rt; SingleMessageMetadata::new(alloc).copy().is_ok());
+}
+
+#[test]
+fn parts_of_commands_are_copied(rt: HostRuntime) {
+    let alloc = rt.alloc();
+    assert!(rt; AuthData::new().copy().is_ok());
     assert!(rt; Schema::new(alloc).copy().is_ok());
-    Ok(())
 }

@@ -61,16 +61,21 @@ fn refused(error: Option<ServerError>) -> ConnectionError {
     ConnectionError::PulsarError(error, None)
 }
 
+/// The broker's error of this number has this name.
+fn is_named(rt: &impl Abort, alloc: Global, number: i32, name: &str) -> Result<(), AllocError> {
+    let text = format!(in alloc; "Server error (Some({name})): ")?;
+    has_text(rt, alloc, refused(server_error(number)), text.as_str());
+    assert_eq!(rt; server_error(number).map(i32::from), Some(number));
+    Ok(())
+}
+
 #[test]
 fn server_errors_have_numbers(rt: HostRuntime) -> Result<(), Fail> {
-    let alloc = rt.alloc();
     assert_eq!(rt; server_error(-1), None);
     assert_eq!(rt; server_error(26), None);
     let mut number = 0;
-    for name in NAMES {
-        let text = format!(in alloc; "Server error (Some({name})): ")?;
-        has_text(&rt, alloc, refused(server_error(number)), text.as_str());
-        assert_eq!(rt; server_error(number).map(i32::from), Some(number));
+    for name in &NAMES {
+        is_named(&rt, rt.alloc(), number, name)?;
         number += 1;
     }
     Ok(())

@@ -1,0 +1,4 @@
+pub mod Orders
+pub mod Unique
+pub mod Effects
+pub mod Steps

@@ -1,0 +1,37 @@
+-- What follows from the definition of a good run, whatever the rules are.
+use Rattle.std.specs.Prelude.{◌≡◌, Bool, List, [], ◌∷◌, ◌++◌}
+use Rattle.std.specs.Cmp.{IsStrictWeakOrder}
+use Rattle.std.specs.List.{filter}
+use Rattle.pulsar_run.specs.Order.{AllInOrder, Arranges, InOrder, arranged}
+use Rattle.pulsar_run.specs.Run.{Entry, Good, IsRun, Rules, Step, agenda, events, steps, steps_done}
+
+-- options and events determine the effects of a good run
+abbrev pub Determined : (O H V A N P E : Type 0) → Type 0
+Determined O H V A N P E = (r : Rules O H V A N P E) (o : O) (h h' : List (Step H E)) →
+    Good r o h → Good r o h' → events h ≡ events h' → h ≡ h'
+
+-- what was a run before its newest entries is a run
+abbrev pub OlderIsRun : (O H V A N P E : Type 0) → Type 0
+OlderIsRun O H V A N P E = (r : Rules O H V A N P E) (o : O) (newer older : List (Entry H A)) →
+    IsRun r o (newer ++ older) → IsRun r o older
+
+-- steps with the same events, where the effects of each are those of its like, in order
+abbrev pub ArrangeSteps : {H E : Type 0} → (E → E → Bool) → List (Step H E) → List (Step H E) → Type 0
+ArrangeSteps below [] [] = Unit {0}
+ArrangeSteps below (s ∷ ss) (t ∷ ts) = (s.event ≡ t.event) × Arranges below s.effects t.effects × ArrangeSteps below ss ts
+ArrangeSteps below _ _ = ⊥
+
+-- the effects of each step stand in order, and they are just those of its acts, each once
+abbrev pub EffectsArranged : (O H V A N P E : Type 0) → Type 0
+EffectsArranged O H V A N P E = (r : Rules O H V A N P E) (o : O) (log : List (Entry H A)) →
+    IsStrictWeakOrder r.effect_below → ArrangeSteps r.effect_below (steps_done r o log) (steps r o log)
+
+-- those that pass a test, and are in order already, stay as they are
+abbrev pub KindsInOrder : (E : Type 0) → Type 0
+KindsInOrder E = (below : E → E → Bool) (test : E → Bool) (xs : List E) →
+    IsStrictWeakOrder below → InOrder below (filter test xs) → filter test (arranged below xs) ≡ filter test xs
+
+-- the present cause serves by rank, and so do the causes that wait
+abbrev pub CausesInOrder : (O H V A N P E : Type 0) → Type 0
+CausesInOrder O H V A N P E = (r : Rules O H V A N P E) (o : O) (log : List (Entry H A)) →
+    IsStrictWeakOrder r.below → InOrder r.below (agenda r o log).here × AllInOrder r.below (agenda r o log).behind

@@ -12,6 +12,10 @@ pub const SEND_RECEIPT: u32 = 7;
 
 pub const MESSAGE: u32 = 9;
 
+pub const ACK: u32 = 10;
+
+pub const FLOW: u32 = 11;
+
 pub const UNSUBSCRIBE: u32 = 12;
 
 pub const SUCCESS: u32 = 13;

@@ -3,12 +3,15 @@
 
 mod act;
 mod address;
+mod agenda;
+mod base;
 mod bodies;
 mod consumers;
 mod content;
 pub mod effect;
 pub mod event;
 pub mod laws;
+mod links;
 pub mod options;
 mod order;
 pub mod outside;
@@ -17,3 +20,4 @@ pub mod pulsar;
 pub mod raw_call;
 mod session;
 mod tables;
+mod who;

@@ -2,3 +2,4 @@ pub mod Orders
 pub mod Unique
 pub mod Effects
 pub mod Steps
+pub mod Arising

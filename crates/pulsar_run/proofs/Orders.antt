@@ -1,5 +1,5 @@
 -- What is put by rank stands in order, each once, and those of equal rank as they came.
-use Rattle.std.proofs.Common.{◌≡◌, ◌⊎◌, ℕ, suc, ◌+◌, ◌<◌, ◌∙◌, sym, ap, subst, List, [], ◌∷◌, ◌++◌, refl, arith, length, Bool, true, false, cond, ◌&&◌, not, inl, inr, append-nil, append_assoc, get_or}
+use Rattle.std.proofs.Common.{◌≡◌, ◌⊎◌, ℕ, suc, ◌+◌, ◌<◌, ◌∙◌, sym, ap, subst, List, [], ◌∷◌, ◌++◌, refl, arith, length, map, Bool, true, false, cond, ◌&&◌, not, inl, inr, append-nil, append_assoc, get_or}
 use Rattle.std.proofs.lemmas.Bool.{cases_Bool}
 use Rattle.std.specs.Cmp.{IsStrictWeakOrder}
 use Rattle.std.specs.List.{filter}
@@ -249,3 +249,18 @@ module _ {A : Type 0} (below : A → A → Bool) (o : IsStrictWeakOrder below) w
 
 pub kinds_in_order_lem : (E : Type 0) → KindsInOrder E
 kinds_in_order_lem E below test xs o k = arranged_filter below o test xs k
+
+-- a list is in the order of what its elements are seen as
+module _ {A B : Type 0} (f : A → B) (below : B → B → Bool) where
+  put_map : (x : A) (ys : List A) → map f (put (λ a b. below (f a) (f b)) x ys) ≡ put below (f x) (map f ys)
+  put_map x [] = refl
+  put_map x (y ∷ ys) =
+      elim (below (f x) (f y)) as (λ b. map f (cond b (x ∷ y ∷ ys) (y ∷ put (λ a b. below (f a) (f b)) x ys)) ≡ cond b (f x ∷ f y ∷ map f ys) (f y ∷ put below (f x) (map f ys)))
+      [ true ↦ refl | false ↦ ap (λ zs. f y ∷ zs) (put_map x ys) ]
+
+  put_all_map : (xs ys : List A) → map f (put_all (λ a b. below (f a) (f b)) xs ys) ≡ put_all below (map f xs) (map f ys)
+  put_all_map [] ys = refl
+  put_all_map (x ∷ xs) ys = put_all_map xs (put (λ a b. below (f a) (f b)) x ys) ∙ ap (put_all below (map f xs)) (put_map x ys)
+
+  pub arranged_map : (xs : List A) → map f (arranged (λ a b. below (f a) (f b)) xs) ≡ arranged below (map f xs)
+  arranged_map xs = put_all_map xs []

@@ -1,7 +1,7 @@
 //! What follows from the definition of a good run, whatever the rules are: each contract is a law, and its body is empty.
 //! The types are those of the rules: options, events, what is seen, acts, notices, parts of events and effects.
 
-ghost use Rattle.pulsar_run.specs.Laws.{CausesInOrder, Determined, EffectsArranged, KindsInOrder, OlderIsRun};
+ghost use Rattle.pulsar_run.specs.Laws.{ActsArise, CausesInOrder, Determined, EffectsArranged, KindsInOrder, OlderIsRun};
 
 /// Options and events determine the effects of a good run.
 pub fn determined<O, H, V, A, N, P, E>()
@@ -27,4 +27,9 @@ pub fn kinds_in_order<E>()
 /// A cause serves those whom it still has to serve in the order of their ranks, and so do the causes behind it.
 pub fn causes_in_order<O, H, V, A, N, P, E>()
     ensures { CausesInOrder O H V A N P E }
+{}
+
+/// Whatever is done has arisen before, in the same step: from an event, as a part of it, or from an act.
+pub fn acts_arise<O, H, V, A, N, P, E>()
+    ensures { ActsArise O H V A N P E }
 {}

@@ -15,7 +15,7 @@ use Rattle.std.specs.Ordering.{nat_cmp}
 use Rattle.std.specs.BTreeMap.{is_at, insert_entry}
 use Rattle.std.specs.Map.{lookup, remove_entry}
 use Rattle.std.specs.declared.collections.VecDeque.{VecDeque}
-use Rattle.pulsar_client.specs.declared.act.Awaited.{Awaited}
+use Rattle.pulsar_client.specs.declared.session.waiting.Awaited.{Awaited}
 use Rattle.pulsar_client.specs.declared.session.waiting.Waiter.{Waiter}
 use Rattle.pulsar_wire.specs.declared.key.RequestKey.{RequestKey}
 use Rattle.pulsar_wire.specs.declared.key.RequestKey.TheVariants.{RequestId, ProducerSend, Consumer, CloseConsumer, AuthChallenge}
@@ -248,7 +248,7 @@ is_answered_by (Some a) p = waits_for_it a p
 ends_is : (key : Option RequestKey) (p : Pending) → ends_wait key p.awaits ≡ is_answered_by (awaited_by key) p
 ends_is key p = by key p.awaits.producer p.awaits.number
   where
-    by : (key : Option RequestKey) (producer : Option ℕ) (number : ℕ) → bears_key key (key_with producer number) ≡ is_answered_by (awaited_by key) (record { awaits = record { producer = producer; number = number }; place = p.place; ticket = p.ticket })
+    by : (key : Option RequestKey) (producer : Option ℕ) (number : ℕ) → bears_key key (key_with producer number) ≡ is_answered_by (awaited_by key) (record { awaits = record { producer = producer; number = number }; place = p.place })
     by None None n = refl
     by None (Some q) n = refl
     by (Some (RequestId id)) None n = sym (is_at-eqb id n)

@@ -1,12 +1,12 @@
 -- What a client stands for.
-use Rattle.std.specs.Prelude.{◌≡◌, ℕ, List, true, false, string_bytes}
+use Rattle.std.specs.Prelude.{◌≡◌, true, false, List, string_bytes}
 use Rattle.pulsar_client.specs.declared.options.ClientOptions.{ClientOptions}
 use Rattle.pulsar_client.specs.declared.pulsar.Pulsar.{Pulsar}
 use Rattle.pulsar_client.specs.Address.{address_of}
-use Rattle.pulsar_client.specs.Good.{Good, Step}
 use Rattle.pulsar_client.specs.Content.{Heard}
-use Rattle.pulsar_client.specs.Log.{Chosen, is_live}
-use Rattle.pulsar_client.specs.Tables.{Stands, view_of}
+use Rattle.pulsar_client.specs.Run.{Good, Step, view}
+use Rattle.pulsar_client.specs.Tables.{Stands}
+use Rattle.pulsar_client.specs.View.{Chosen, is_live}
 
 -- what the options choose
 abbrev pub chosen : ClientOptions → Chosen
@@ -21,13 +21,9 @@ pub record StandsFor (o : Chosen) (c : Pulsar) (history : List Step) : Type 0 wh
   pub stands : Stands o c.tables history
   pub whole : c.failed ≡ false
 
--- An event that names no live link, a state that the link isn't in, or no consumer
+-- the event names no live link, no state that the link is in, or no consumer, after any run of a history that the client stands for
 abbrev pub IsDead : Pulsar → Heard → Type 0
-IsDead c e = is_live (view_of c.tables) e ≡ false
-
--- the ticket of the next call
-abbrev pub next_ticket : Pulsar → ℕ
-next_ticket c = c.tables.tickets
+IsDead c e = (o : Chosen) × (h : List Step) × StandsFor o c h × ((g : Good o h) → is_live (view o g.log) e ≡ false)
 
 -- every history that a client stands for is good
 abbrev pub StoodForIsGood : Type 0

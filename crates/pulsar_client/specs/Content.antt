@@ -7,7 +7,7 @@ use Rattle.pulsar_wire.specs.declared.commands.topics.Mode.{Mode}
 use Rattle.pulsar_wire.specs.declared.error.Error.{Error}
 use Rattle.pulsar_wire.specs.declared.error.IoKind.{IoKind}
 use Rattle.pulsar_client.specs.Failures.{Failure, failure}
-use Rattle.pulsar_client.specs.Messages.{body_bytes}
+use Rattle.pulsar_client.specs.Messages.{Written, written}
 use Rattle.pulsar_client.specs.RawCall.{Words, words}
 use Rattle.pulsar_client.specs.declared.event.Call.{Call}
 use Rattle.pulsar_client.specs.declared.event.Call.TheVariants as call
@@ -36,12 +36,12 @@ pub data Heard : Type 0 where
   Drain : (link most : ℕ) → Heard
   Poll : (ticket : ℕ) → Heard
 
--- what a call ends with: bodies of the broker by their bytes
+-- what a call ends with: a receipt by its bytes, and other bodies of the broker by their numbers and their bytes
 pub data Said : Type 0 where
   Done : Said
   Names : List (List ℕ) → Said
   Receipt : List ℕ → Said
-  Replies : List (List ℕ) → Said
+  Replies : List Written → Said
   Failed : Failure → Said
 
 -- What the client wants done, and tells. A poll hands a message with its id and what is said of it as they are written, or
@@ -76,7 +76,7 @@ abbrev pub answered : Answer → Said
 answered answer.Done = Done
 answered (answer.Topics names) = Names (map string_bytes names.items)
 answered (answer.Receipt receipt) = Receipt (spelling send_receipt (send_receipt_values receipt))
-answered (answer.Replies bodies) = Replies (map (λ b. body_bytes (body_values b)) bodies.items)
+answered (answer.Replies bodies) = Replies (map (λ b. written (body_values b)) bodies.items)
 
 abbrev pub said : Result Answer Error → Said
 said (Ok a) = answered a

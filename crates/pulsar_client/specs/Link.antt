@@ -1,45 +1,52 @@
--- One link. Its history is the list of its acts, newest first; it knows nothing of other links and of calls.
--- (Pulsar binary protocol, Connection establishment)
-use Rattle.std.specs.Prelude.{ℕ, ◌+◌, ◌^◌, nat_lt, Bool, true, false, if◌then◌else◌, List, [], ◌∷◌, ◌++◌, length, take, drop, filter, map, Option, Some, None, not}
-use Rattle.std.specs.Option.{is_none, option_to_list}
-use Rattle.pulsar_wire.specs.declared.error.IoKind.{IoKind}
-use Rattle.pulsar_wire.specs.declared.error.IoKind.TheVariants as io_kinds
+-- One link, as a passive object: what comes to it, what is asked of it, what it gives, and what is seen of it afterwards. It knows
+-- places on itself. It knows nothing of other links, nor of those that ask.  (Pulsar binary protocol, Connection establishment)
+use Rattle.std.specs.Prelude.{ℕ, ◌+◌, ◌-◌, ◌^◌, ◌==◌, Bool, true, false, ◌&&◌, not, if◌then◌else◌, List, [], ◌∷◌, ◌++◌, take, drop, filter, map, Option, Some, None}
+use Rattle.std.specs.List.{flat_map}
+use Rattle.std.specs.Option.{option_to_list}
 use Rattle.pulsar_wire.specs.declared.key.RequestKey.{RequestKey}
 use Rattle.pulsar_wire.specs.declared.key.RequestKey.TheVariants.{RequestId, ProducerSend}
 use Rattle.pulsar_frame.specs.Message.{MessageValues}
 use Rattle.pulsar_frame.specs.Key.{bears_key}
-use Rattle.pulsar_frame.specs.Frame.{counted_bytes, frame_bytes, cut, bad}
+use Rattle.pulsar_frame.specs.Frame.{bad, cut, frame_bytes, left}
 use Rattle.pulsar_client.specs.declared.act.Arrival.{Arrival}
 use Rattle.pulsar_client.specs.declared.act.Arrival.TheVariants.{Message, Bad}
-use Rattle.pulsar_client.specs.declared.act.Outcome.{Outcome}
-use Rattle.pulsar_client.specs.declared.act.Outcome.TheVariants.{Replied, Disconnected}
-use Rattle.pulsar_client.specs.declared.act.Request.{Request}
-use Rattle.pulsar_client.specs.declared.act.Request.TheVariants.{Topics, Raw}
-use Rattle.pulsar_client.specs.declared.act.Awaited.{Awaited}
-use Rattle.pulsar_client.specs.declared.act.End.{End}
-use Rattle.pulsar_client.specs.declared.act.End.TheVariants.{Failed, Lost, Refused}
 use Rattle.pulsar_client.specs.declared.act.LinkAct.{LinkAct}
-use Rattle.pulsar_client.specs.declared.act.LinkAct.TheVariants.{Opens, Fails, Loses, Comes, Drains, Requests, Spends, Greets, Readied, Ended, Settled}
+use Rattle.pulsar_client.specs.declared.act.LinkAct.TheVariants.{Opens, Fails, Loses, Comes, Drains}
+use Rattle.pulsar_client.specs.declared.session.given.Admission.{Admission}
+use Rattle.pulsar_client.specs.declared.session.given.Admission.TheVariants.{Queued, Disconnected, Exhausted, Unencodable}
+use Rattle.pulsar_client.specs.declared.session.given.Change.{Change}
+use Rattle.pulsar_client.specs.declared.session.given.Change.TheVariants.{Remains, Opened, Readied, Ended}
+use Rattle.pulsar_client.specs.declared.session.given.End.{End}
+use Rattle.pulsar_client.specs.declared.session.given.End.TheVariants.{Failed, Lost, Refused}
+use Rattle.pulsar_client.specs.declared.session.given.Settled.TheVariants.{Reply}
+use Rattle.pulsar_client.specs.declared.session.given.Settled.TheVariants as settled
+use Rattle.pulsar_client.specs.declared.session.given.Word.{Word}
 use Rattle.pulsar_client.specs.declared.session.link.Stage.{Stage}
 use Rattle.pulsar_client.specs.declared.session.link.Stage.TheVariants.{Dialing, Handshaking, Ready, Over}
-use Rattle.pulsar_client.specs.RawCall.{Words, Send, Flow, Ack}
-use Rattle.pulsar_client.specs.Messages.{connect_message, topics_message, raw_message, read, is_connected}
+use Rattle.pulsar_client.specs.declared.session.waiting.Awaited.{Awaited}
+use Rattle.pulsar_client.specs.Messages.{connect_message, is_connected, read}
+use Rattle.pulsar_client.specs.Request.{Request, awaited, fits_frame, is_numbered, request_message}
 
--- WHAT COMES
+-- WHAT IS SEEN OF IT
 
--- what comes of a stream: its messages, and behind them what is no frame
-abbrev pub arrivals : List ℕ → List Arrival
-arrivals stream = map (λ m. Message (read m)) (cut stream) ++ map Bad (option_to_list (bad stream))
+-- a request that waits: what for, and the place of its frame
+pub record Pending : Type 0 where
+  pub awaits : Awaited
+  pub place : ℕ
 
--- WHAT A HISTORY SAYS. It begins as the link is dialed, with the number of its first request.
+-- Where it stands; the number of the next request; how many frames were queued, and those of them that are not written; the requests
+-- that wait, in the order of their places; the bytes that came and are no whole frame yet.
+pub record Seen : Type 0 where
+  pub stage : Stage
+  pub next_id : ℕ
+  pub queued : ℕ
+  pub unwritten : List (List ℕ)
+  pub pending : List Pending
+  pub unread : List ℕ
 
--- the newest of its turns says where a link stands
-abbrev pub stage : List LinkAct → Stage
-stage [] = Dialing
-stage (Greets ∷ h) = Handshaking
-stage (Readied ∷ h) = Ready
-stage (Ended end ∷ h) = Over
-stage (_ ∷ h) = stage h
+-- as it is dialed
+abbrev pub dialed : (first_number : ℕ) → Seen
+dialed first_number = record { stage = Dialing; next_id = first_number; queued = 0; unwritten = []; pending = []; unread = [] }
 
 abbrev pub is_dialing : Stage → Bool
 is_dialing Dialing = true
@@ -54,88 +61,50 @@ abbrev pub is_ready : Stage → Bool
 is_ready Ready = true
 is_ready _ = false
 
--- What a request waits for: the frame that names its number, and for a message that is sent the one that names its producer
--- and its number there. A frame that grants permits or acknowledges has no answer.
-abbrev pub numbered : ℕ → Awaited
-numbered id = record { producer = None; number = id }
+abbrev pub is_over : Stage → Bool
+is_over Over = true
+is_over _ = false
 
-abbrev pub raw_awaited : ℕ → Words → Option Awaited
-raw_awaited id (Send producer name sequence m waits) = Some (record { producer = Some producer; number = sequence })
-raw_awaited id (Flow consumer permits) = None
-raw_awaited id (Ack consumer ids cumulative) = None
-raw_awaited id _ = Some (numbered id)
+-- BYTES
 
-abbrev pub awaited : ℕ → Request → Option Awaited
-awaited id (Topics namespace mode) = Some (numbered id)
-awaited id (Raw now words) = raw_awaited id words
+-- what comes of a stream: its messages, and behind them what is no frame
+abbrev pub arrivals : List ℕ → List Arrival
+arrivals stream = map (λ m. Message (read m)) (cut stream) ++ map Bad (option_to_list (bad stream))
 
--- a request draws a number of its link where it is answered by that
-abbrev pub draws : Option Awaited → Bool
-draws None = false
-draws (Some awaited) = is_none awaited.producer
+-- a piece is read while the link is open: what it completes comes to the link, frame by frame, and what is left behind that stays
+abbrev pub fed : (piece : List ℕ) → Seen → Seen
+fed piece s = if is_open s.stage then record s { unread = left (s.unread ++ piece) } else s
 
-abbrev pub is_numbered : Request → Bool
-is_numbered request = draws (awaited 0 request)
+-- WHAT BECOMES OF IT
 
--- the next number that is drawn for a request
-abbrev pub drawn : LinkAct → ℕ → ℕ
-drawn (Requests request ticket) id = if is_numbered request then id + 1 else id
-drawn Spends id = id + 1
-drawn _ id = id
+-- the first frame makes it ready where it is `connected`, and ends it elsewhere; what is no frame ends it
+abbrev pub at_arrival : Stage → Arrival → Change
+at_arrival Handshaking (Message m) = if is_connected m then Readied else Ended Refused
+at_arrival Handshaking (Bad reason) = Ended Refused
+at_arrival Ready (Bad reason) = Ended Refused
+at_arrival _ _ = Remains
 
-abbrev pub next_id : ℕ → List LinkAct → ℕ
-next_id first [] = first
-next_id first (act ∷ h) = drawn act (next_id first h)
+-- one that dials is opened, or ends where its connection cannot be opened; an open one ends where it is lost
+abbrev pub change : LinkAct → Stage → Change
+change Opens s = if is_dialing s then Opened else Remains
+change (Fails kind) s = if is_dialing s then Ended (Failed kind) else Remains
+change Loses s = if is_open s then Ended Lost else Remains
+change (Comes arrival) s = at_arrival s arrival
+change (Drains most) s = Remains
 
--- the message of a request, with its number
-abbrev pub request_message : ℕ → Request → MessageValues
-request_message id (Topics namespace mode) = topics_message id namespace mode
-request_message id (Raw now words) = raw_message id now words
+abbrev pub is_ended : Change → Bool
+is_ended Remains = false
+is_ended Opened = false
+is_ended Readied = false
+is_ended (Ended end) = true
 
--- each size of its frame fits its field: the total does, and the others are smaller
-abbrev pub fits_frame : MessageValues → Bool
-fits_frame m = nat_lt (length (counted_bytes m)) (2 ^ 32)
+abbrev pub is_opened : Change → Bool
+is_opened Remains = false
+is_opened Opened = true
+is_opened Readied = false
+is_opened (Ended end) = false
 
--- the frame that an act queues, from the next number of the link
-abbrev pub frame_of : LinkAct → ℕ → Option (List ℕ)
-frame_of Greets id = Some (frame_bytes connect_message)
-frame_of (Requests request ticket) id = Some (frame_bytes (request_message id request))
-frame_of _ id = None
-
--- how many frames were queued: the next one has this place
-abbrev pub counted : Option (List ℕ) → ℕ → ℕ
-counted None n = n
-counted (Some frame) n = n + 1
-
-abbrev pub queued : List LinkAct → ℕ
-queued [] = 0
-queued (act ∷ h) = counted (frame_of act 0) (queued h)
-
--- The frames that are queued and not written, in order. A drain while the link is open writes the first of them, as many
--- as it says. Nothing is left to write at a link's end.
-abbrev pub left_by : LinkAct → Stage → List (List ℕ) → List (List ℕ)
-left_by (Drains most) s frames = if is_open s then drop most frames else frames
-left_by (Ended end) s frames = []
-left_by _ s frames = frames
-
-abbrev pub with_frame : Option (List ℕ) → List (List ℕ) → List (List ℕ)
-with_frame None frames = frames
-with_frame (Some frame) frames = frames ++ frame ∷ []
-
-abbrev pub unwritten : ℕ → List LinkAct → List (List ℕ)
-unwritten first [] = []
-unwritten first (act ∷ h) = with_frame (frame_of act (next_id first h)) (left_by act (stage h) (unwritten first h))
-
--- the frames that a drain writes
-abbrev pub written_by : LinkAct → Stage → List (List ℕ) → List (List ℕ)
-written_by (Drains most) s frames = if is_open s then take most frames else []
-written_by _ s frames = []
-
--- a request: what it waits for, its place on the link, and the call that asked
-pub record Pending : Type 0 where
-  pub awaits : Awaited
-  pub place : ℕ
-  pub ticket : ℕ
+-- REQUESTS
 
 -- the key that an answer bears
 abbrev pub key_with : (producer : Option ℕ) (number : ℕ) → RequestKey
@@ -149,91 +118,155 @@ key_of awaited = key_with awaited.producer awaited.number
 abbrev pub ends_wait : Option RequestKey → Awaited → Bool
 ends_wait key awaited = bears_key key (key_of awaited)
 
--- what settles a request: a message that bears its key, or the end of the link
-abbrev pub settles : LinkAct → Pending → Option Outcome
-settles (Comes (Message m)) r = if ends_wait m.key r.awaits then Some (Replied m) else None
-settles (Ended end) r = Some Disconnected
-settles _ r = None
+-- an act answers a request: a message that bears its key
+abbrev pub is_answered_by : LinkAct → Pending → Bool
+is_answered_by (Comes (Message m)) r = ends_wait m.key r.awaits
+is_answered_by _ r = false
 
--- the requests that an act leaves waiting
+-- the requests that an act answers
+abbrev pub answered : LinkAct → List Pending → List Word
+answered (Comes (Message m)) rs = map (λ r. record { place = r.place; settled = Reply m }) (filter (λ r. ends_wait m.key r.awaits) rs)
+answered _ rs = []
+
+-- and those that it leaves waiting, which wait for nothing any more at the link's end
 abbrev pub left_waiting : LinkAct → List Pending → List Pending
 left_waiting (Comes (Message m)) rs = filter (λ r. not (ends_wait m.key r.awaits)) rs
-left_waiting (Ended end) rs = []
 left_waiting _ rs = rs
 
--- the request of a frame that is queued, where it waits for an answer
-abbrev pub waits_for : Option Awaited → ℕ → ℕ → List Pending
-waits_for None place ticket = []
-waits_for (Some awaited) place ticket = record { awaits = awaited; place = place; ticket = ticket } ∷ []
+abbrev pub disconnected : Pending → Word
+disconnected r = record { place = r.place; settled = settled.Disconnected }
 
-abbrev pub with_request : LinkAct → ℕ → ℕ → List Pending → List Pending
-with_request (Requests request ticket) id place rs = rs ++ waits_for (awaited id request) place ticket
-with_request _ id place rs = rs
+abbrev pub dropped : Change → List Pending → List Word
+dropped change rs = if is_ended change then map disconnected rs else []
 
--- the requests that no later act has settled, in the order of their queueing
-abbrev pub pending : ℕ → List LinkAct → List Pending
-pending first [] = []
-pending first (act ∷ h) = with_request act (next_id first h) (queued h) (left_waiting act (pending first h))
+-- What becomes of a request that is asked for: it is refused where the link isn't ready, where it needs a number and these are
+-- spent, and where its frame doesn't fit, and else queued. The greatest number is never drawn.
+abbrev pub spent : ℕ
+spent = 2 ^ 64 - 1
 
--- what a rule sees of a link
-pub record Seen : Type 0 where
-  pub stage : Stage
-  pub next_id : ℕ
-  pub queued : ℕ
-  pub unwritten : List (List ℕ)
-  pub pending : List Pending
+abbrev pub fitting : (now : ℕ) → Request → Seen → Admission
+fitting now request s = if fits_frame (request_message s.next_id now request) then Queued else Unencodable
 
-abbrev pub seen : ℕ → List LinkAct → Seen
-seen first h = record { stage = stage h; next_id = next_id first h; queued = queued h; unwritten = unwritten first h; pending = pending first h }
+abbrev pub admitted : (now : ℕ) → Request → Seen → Admission
+admitted now request s =
+    if is_ready s.stage then (if is_numbered request && (s.next_id == spent) then Exhausted else fitting now request s)
+    else Disconnected
 
--- what a link that ended so is told to have failed with, where nobody had used it yet
-abbrev pub kind_of : End → IoKind
-kind_of (Failed kind) = kind
-kind_of _ = io_kinds.Other
+-- a number is drawn for it, unless the link isn't ready or has none
+abbrev pub draws_at : Admission → Bool
+draws_at Queued = true
+draws_at Unencodable = true
+draws_at Disconnected = false
+draws_at Exhausted = false
 
--- the client closes a link that it ends by itself
-abbrev pub is_closed : End → Bool
-is_closed Refused = true
-is_closed _ = false
+abbrev pub is_queued : Admission → Bool
+is_queued Queued = true
+is_queued Disconnected = false
+is_queued Exhausted = false
+is_queued Unencodable = false
 
--- WHAT A LINK MAKES OF AN ACT
+-- WHAT IT GIVES
 
-abbrev pub disconnected : Pending → LinkAct
-disconnected r = Settled r.place r.ticket Disconnected
+-- a frame that is queued, and its place: its index among all frames that were queued there
+pub record Frame : Type 0 where
+  pub place : ℕ
+  pub bytes : List ℕ
+
+abbrev pub framed : ℕ → MessageValues → Frame
+framed place m = record { place = place; bytes = frame_bytes m }
 
 -- the requests that an act settles, and as what
-abbrev pub settled : LinkAct → List Pending → List LinkAct
-settled (Comes (Message m)) rs = map (λ r. Settled r.place r.ticket (Replied m)) (filter (λ r. ends_wait m.key r.awaits) rs)
-settled (Ended end) rs = map disconnected rs
-settled _ rs = []
+abbrev pub words : LinkAct → Seen → List Word
+words act s = answered act s.pending ++ dropped (change act s.stage) (left_waiting act s.pending)
 
--- Opening a link that dials makes it greet. The first frame makes it ready where it is `connected`, and ends it elsewhere.
--- What is no frame ends it, too.
-abbrev pub at_opening : Stage → List LinkAct
-at_opening Dialing = Greets ∷ []
-at_opening _ = []
+-- an opened link greets
+abbrev pub greeting : Change → ℕ → Option Frame
+greeting change place = if is_opened change then Some (framed place connect_message) else None
 
--- A link that dials ends where its connection cannot be opened, and an open one where it is lost.
-abbrev pub at_failure : Stage → IoKind → List LinkAct
-at_failure Dialing kind = Ended (Failed kind) ∷ []
-at_failure _ kind = []
+-- the frames that a drain writes: as many as it says, of those that are queued and not written
+abbrev pub written_by : LinkAct → Stage → List (List ℕ) → List (List ℕ)
+written_by (Drains most) s frames = if is_open s then take most frames else []
+written_by _ s frames = []
 
-abbrev pub at_loss : Stage → List LinkAct
-at_loss s = if is_open s then Ended Lost ∷ [] else []
+abbrev pub left_by : LinkAct → Stage → List (List ℕ) → List (List ℕ)
+left_by (Drains most) s frames = if is_open s then drop most frames else frames
+left_by _ s frames = frames
 
-abbrev pub at_arrival : Stage → Arrival → List LinkAct
-at_arrival Handshaking (Message m) = (if is_connected m then Readied else Ended Refused) ∷ []
-at_arrival Handshaking (Bad reason) = Ended Refused ∷ []
-at_arrival Ready (Bad reason) = Ended Refused ∷ []
-at_arrival _ _ = []
+-- they are written in one piece, where there are any
+abbrev pub piece_of : List (List ℕ) → Option (List ℕ)
+piece_of [] = None
+piece_of (frame ∷ frames) = Some (flat_map (λ bytes. bytes) (frame ∷ frames))
 
-abbrev pub turns : Stage → LinkAct → List LinkAct
-turns s Opens = at_opening s
-turns s (Fails kind) = at_failure s kind
-turns s Loses = at_loss s
-turns s (Comes arrival) = at_arrival s arrival
-turns s _ = []
+-- all that an act gives
+pub record Given : Type 0 where
+  pub change : Change
+  pub words : List Word
+  pub frame : Option Frame
+  pub piece : Option (List ℕ)
 
--- first it settles requests, and then it turns
-abbrev pub link_rule : Seen → LinkAct → List LinkAct
-link_rule s act = settled act s.pending ++ turns s.stage act
+abbrev pub gives : LinkAct → Seen → Given
+gives act s =
+    record {
+      change = change act s.stage;
+      words = words act s;
+      frame = greeting (change act s.stage) s.queued;
+      piece = piece_of (written_by act s.stage s.unwritten);
+    }
+
+-- the frame of a request that is asked for
+abbrev pub frame_at : Admission → (now : ℕ) → Request → Seen → Option Frame
+frame_at admission now request s = if is_queued admission then Some (framed s.queued (request_message s.next_id now request)) else None
+
+abbrev pub frame_asked : (now : ℕ) → Request → Seen → Option Frame
+frame_asked now request s = frame_at (admitted now request s) now request s
+
+-- AFTER
+
+abbrev pub stage_after : Change → Stage → Stage
+stage_after Remains s = s
+stage_after Opened s = Handshaking
+stage_after Readied s = Ready
+stage_after (Ended end) s = Over
+
+abbrev pub count_after : Option Frame → ℕ → ℕ
+count_after None n = n
+count_after (Some frame) n = n + 1
+
+abbrev pub with_frame : Option Frame → List (List ℕ) → List (List ℕ)
+with_frame None frames = frames
+with_frame (Some frame) frames = frames ++ frame.bytes ∷ []
+
+-- nothing is left at its end
+abbrev pub kept : {A : Type 0} → Change → List A → List A
+kept change xs = if is_ended change then [] else xs
+
+abbrev pub after : LinkAct → Seen → Seen
+after act s =
+    record {
+      stage = stage_after (change act s.stage) s.stage;
+      next_id = s.next_id;
+      queued = count_after (greeting (change act s.stage) s.queued) s.queued;
+      unwritten = kept (change act s.stage) (with_frame (greeting (change act s.stage) s.queued) (left_by act s.stage s.unwritten));
+      pending = kept (change act s.stage) (left_waiting act s.pending);
+      unread = kept (change act s.stage) s.unread;
+    }
+
+-- the request of a frame that is queued at this place, where it has an answer
+abbrev pub waits_for : Option Awaited → ℕ → List Pending
+waits_for None place = []
+waits_for (Some awaited) place = record { awaits = awaited; place = place } ∷ []
+
+abbrev pub asked_for : (now : ℕ) → Request → Admission → Seen → Seen
+asked_for now request admission s =
+    record {
+      stage = s.stage;
+      next_id = if draws_at admission && is_numbered request then s.next_id + 1 else s.next_id;
+      queued = count_after (frame_at admission now request s) s.queued;
+      unwritten = with_frame (frame_at admission now request s) s.unwritten;
+      pending = s.pending ++ (if is_queued admission then waits_for (awaited s.next_id request) s.queued else []);
+      unread = s.unread;
+    }
+
+-- after a request is asked for
+abbrev pub after_ask : (now : ℕ) → Request → Seen → Seen
+after_ask now request s = asked_for now request (admitted now request s) s

@@ -1,4 +1,5 @@
 -- The messages that the client writes, and what it reads in those of the broker.  (Pulsar binary protocol, Simple commands)
+use Rattle.std.specs.Option.{option_map}
 use Rattle.std.specs.Prelude.{ℕ, ℤ, pos, Bool, false, List, [], map, Option, Some, None, codes, ◌==◌, if◌then◌else◌}
 use Rattle.pulsar_wire.specs.At.{int32_at, text_at, texts_at}
 use Rattle.pulsar_wire.specs.Row.{Values, spelling, ◌&◌}
@@ -79,28 +80,26 @@ raw_message id now words = record { command = with_kind (body_of id words); payl
 
 -- WHAT IS READ
 
--- What the client reads in a message of the broker: the number of its body, the body's bytes, its key, the number and the
--- text of the error that it tells, the topics that it names, and what it gives to a consumer.
-pub record Reply : Type 0 where
-  pub body : Option ℕ
+-- a body by its number, as it is written
+pub record Written : Type 0 where
+  pub number : ℕ
   pub bytes : List ℕ
+
+-- What the client reads in a message of the broker: its body, its key, the number and the text of the error that it tells, the
+-- topics that it names, and what it gives to a consumer.
+pub record Reply : Type 0 where
+  pub body : Option Written
   pub key : Option RequestKey
   pub error : Option ℤ
   pub text : Option (List ℕ)
   pub topics : List (List ℕ)
   pub items : List Item
 
-abbrev pub body_number : Option BodyValues → Option ℕ
-body_number None = None
-body_number (Some b) = Some b.number
-
--- a body as it is written
 abbrev pub body_bytes : BodyValues → List ℕ
 body_bytes b = spelling b.row b.values
 
-abbrev pub bytes_in : Option BodyValues → List ℕ
-bytes_in None = []
-bytes_in (Some b) = body_bytes b
+abbrev pub written : BodyValues → Written
+written b = record { number = b.number; bytes = body_bytes b }
 
 -- the error that an error command tells, and its text
 abbrev pub error_in : Option BodyValues → Option ℤ
@@ -120,8 +119,7 @@ topics_in (Some b) = if b.number == 33 then texts_at 2 b.row b.values else []
 abbrev pub read_body : Option RequestKey → List Item → Option BodyValues → Reply
 read_body k items body =
     record {
-      body = body_number body;
-      bytes = bytes_in body;
+      body = option_map written body;
       key = k;
       error = error_in body;
       text = text_in body;
@@ -132,9 +130,9 @@ read_body k items body =
 abbrev pub read : MessageValues → Reply
 read m = read_body (key m) (items_in m) m.command.body
 
-abbrev pub is_number : ℕ → Option ℕ → Bool
+abbrev pub is_number : ℕ → Option Written → Bool
 is_number n None = false
-is_number n (Some m) = m == n
+is_number n (Some b) = b.number == n
 
 -- the broker greets
 abbrev pub is_connected : Reply → Bool

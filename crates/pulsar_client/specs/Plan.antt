@@ -1,123 +1,118 @@
--- The procedures of the calls, each a reader of its outcomes, oldest first: after each outcome it says what comes next.
+-- Plans: machines over outcomes. Each state says what came before; an outcome leads to the next state, with what is done there, or gives
+-- a verdict.
 use Rattle.std.specs.Prelude.{ℕ, Bool, false, List, [], ◌∷◌, Option, Some, None, codes, ◌==◌, if◌then◌else◌}
 use Rattle.pulsar_wire.specs.Field.{◌>>=◌}
 use Rattle.pulsar_wire.specs.Enumerations.{error_of}
-use Rattle.pulsar_wire.specs.Command.{BodyValues, body_name}
-use Rattle.pulsar_wire.specs.declared.commands.topics.Mode.{Mode}
+use Rattle.pulsar_wire.specs.Command.{body_name}
 use Rattle.pulsar_wire.specs.declared.error.Reason.TheVariants as reason
+use Rattle.pulsar_frame.specs.Key.{answers}
+use Rattle.pulsar_client.specs.declared.act.Action.{Action}
+use Rattle.pulsar_client.specs.declared.act.Action.TheVariants.{Get, Ask, Rest}
+use Rattle.pulsar_client.specs.declared.act.Makes.{Makes}
+use Rattle.pulsar_client.specs.declared.act.Makes.TheVariants.{Nothing, Client, Consumer}
 use Rattle.pulsar_client.specs.declared.act.Outcome.{Outcome}
 use Rattle.pulsar_client.specs.declared.act.Outcome.TheVariants as outcome
+use Rattle.pulsar_client.specs.declared.act.Outcome.TheVariants.{GotLink, Queued, Replied}
+use Rattle.pulsar_client.specs.declared.act.Place.{Place}
+use Rattle.pulsar_client.specs.declared.act.Place.TheVariants.{Base, Link}
 use Rattle.pulsar_client.specs.declared.act.Procedure.{Procedure}
 use Rattle.pulsar_client.specs.declared.act.Procedure.TheVariants as procedure
-use Rattle.pulsar_client.specs.declared.act.Request.{Request}
-use Rattle.pulsar_client.specs.declared.act.Request.TheVariants as request
-use Rattle.pulsar_client.specs.declared.act.Action.{Action}
-use Rattle.pulsar_client.specs.declared.act.Action.TheVariants.{Get, Ask, Answer, Finish, Rest}
-use Rattle.pulsar_frame.specs.Key.{answers}
+use Rattle.pulsar_client.specs.declared.act.Verdict.{Verdict}
+use Rattle.pulsar_client.specs.declared.plans.plan.Plan.{Plan}
+use Rattle.pulsar_client.specs.declared.plans.plan.Plan.TheVariants.{Building, Getting, Asking, Awaiting}
+use Rattle.pulsar_client.specs.declared.plans.plan.Turn.{Turn}
+use Rattle.pulsar_client.specs.declared.plans.plan.Turn.TheVariants.{Stays, Gives}
+use Rattle.pulsar_client.specs.declared.plans.plan.Wanted.{Wanted}
 use Rattle.pulsar_client.specs.Content.{Said, Done, Names, Receipt, Replies, Failed}
 use Rattle.pulsar_client.specs.Failures.{Fault, Io, Disconnected, PulsarError, Encoding, UnexpectedResponse, Canceled, Shutdown, Exhausted, OfConnection, NotFound}
-use Rattle.pulsar_client.specs.Messages.{Reply, body_of, read_body, is_number}
+use Rattle.pulsar_client.specs.Messages.{Reply, Written, is_number}
+use Rattle.pulsar_client.specs.RawCall.{Subscribe}
+use Rattle.pulsar_client.specs.Request.{Request, Raw, is_answered, request_number}
 
--- why a call fails at an outcome
-abbrev pub fault_of : Outcome → Fault
-fault_of (outcome.Failed kind) = Io kind
-fault_of outcome.Canceled = Canceled
-fault_of outcome.Exhausted = Exhausted
-fault_of outcome.NotFound = NotFound
-fault_of outcome.Unencodable = Encoding reason.Frame
-fault_of _ = Disconnected
+-- WHAT A REPLY SAYS
+
+-- a body is this one, or the answer that the body of a request expects
+abbrev pub is_some_number : Option ℕ → Option Written → Bool
+is_some_number None body = false
+is_some_number (Some n) body = is_number n body
+
+abbrev pub is_answer : (request : ℕ) → Option Written → Bool
+is_answer request body = is_some_number (answers request) body
+
+-- the answer that a reply gives, by the number of its body: topics, a receipt, or its body as it is
+abbrev pub answer_with : Reply → Option Written → Said
+answer_with r None = Replies []
+answer_with r (Some body) = if body.number == 33 then Names r.topics else if body.number == 7 then Receipt body.bytes else Replies (body ∷ [])
+
+-- why a reply fails a call that expects another body: the broker's error with its text, or the name of the body
+abbrev pub refused : Reply → Option Written → Fault
+refused r None = UnexpectedResponse (codes "none")
+refused r (Some body) = if body.number == 14 then PulsarError (r.error >>= error_of) r.text else UnexpectedResponse (body_name body.number)
 
 abbrev pub failed : Fault → Said
 failed f = Failed (OfConnection f)
 
--- the end: nothing comes after the answer
-abbrev pub ended : Said → List Outcome → Action
-ended answer [] = Answer answer
-ended answer (o ∷ os) = Rest
+-- what a reply says to the request with the body of this number
+abbrev pub reply_says : (request : ℕ) → Reply → Said
+reply_says request r = if is_answer request r.body then answer_with r r.body else failed (refused r r.body)
 
-abbrev pub finished : List Outcome → Action
-finished [] = Finish
-finished (o ∷ os) = Rest
+-- THE VERDICTS
 
--- BUILD: GET the link of the address, then done
+abbrev pub verdict : Makes → Said → Verdict
+verdict makes said = record { makes = makes; said = said }
 
-abbrev pub building : List Outcome → Action
-building [] = Get
-building (outcome.GotLink link ∷ os) = finished os
-building (o ∷ os) = ended (failed (fault_of o)) os
+abbrev pub fails : Fault → Verdict
+fails f = verdict Nothing (failed f)
 
--- TOPICS: GET the link of the address, and ask on it
+-- Why a plan fails at an outcome. One that a plan doesn't wait for is the loss of what it waits for.
+abbrev pub fault_of : Outcome → Fault
+fault_of (GotLink link) = Disconnected
+fault_of outcome.NotFound = NotFound
+fault_of (outcome.Failed kind) = Io kind
+fault_of outcome.Canceled = Canceled
+fault_of Queued = Disconnected
+fault_of outcome.Exhausted = Exhausted
+fault_of outcome.Unencodable = Encoding reason.Frame
+fault_of (Replied r) = Disconnected
+fault_of outcome.Disconnected = Disconnected
 
--- why a reply fails a call that expects another body: the broker's error with its text, or the name of the body
-abbrev pub refused : Reply → Option ℕ → Fault
-refused r None = UnexpectedResponse (codes "none")
-refused r (Some n) = if n == 14 then PulsarError (r.error >>= error_of) r.text else UnexpectedResponse (body_name n)
+-- GET OR TAKE A LINK, ASK, AND ANSWER
 
--- a body is the answer that the body of a request expects
-abbrev pub is_answer : ℕ → Option ℕ → Bool
-is_answer request None = false
-is_answer request (Some n) = is_number n (answers request)
+-- what a request with a success leaves behind: a subscribe makes a consumer
+abbrev pub makes : (link : ℕ) → Request → Makes
+makes link (Raw (Subscribe topic name kind number)) = Consumer link number topic
+makes link _ = Nothing
 
--- the answer that a reply gives: the topics, or why there are none
-abbrev pub topics_told : Reply → Said
-topics_told r = if is_answer 32 r.body then Names r.topics else failed (refused r r.body)
+-- what is known of a request that is asked for
+abbrev pub wanted : (link : ℕ) → Request → Wanted
+wanted link request = record { number = request_number request; makes = makes link request }
 
--- the same, of the reply's body itself
-abbrev pub topics_of_body : Option BodyValues → Said
-topics_of_body body = topics_told (read_body None [] body)
+abbrev pub asks : (link : ℕ) → Request → Turn Plan Verdict
+asks link request = Stays (Asking (wanted link request)) (Ask link request)
 
-abbrev pub topics_answer : Outcome → Said
-topics_answer (outcome.Replied r) = topics_told r
-topics_answer o = failed (fault_of o)
+-- it is queued: its reply is waited for, where it has one
+abbrev pub waits : Wanted → Turn Plan Verdict
+waits w = if is_answered w.number then Stays (Awaiting w) Rest else Gives (verdict Nothing Done)
 
-abbrev pub topics_replied : List Outcome → Action
-topics_replied [] = Rest
-topics_replied (o ∷ os) = ended (topics_answer o) os
+abbrev pub replied : Wanted → Reply → Verdict
+replied w r = verdict (if is_answer w.number r.body then w.makes else Nothing) (reply_says w.number r)
 
-abbrev pub topics_asked : ℕ → Request → List Outcome → Action
-topics_asked link words [] = Ask link words
-topics_asked link words (o ∷ os) = topics_replied (o ∷ os)
+-- ALL PLANS
 
-abbrev pub topics : List ℕ → Mode → List Outcome → Action
-topics namespace mode [] = Get
-topics namespace mode (outcome.GotLink link ∷ os) = topics_asked link (request.Topics namespace mode) os
-topics namespace mode (o ∷ os) = ended (failed (fault_of o)) os
+-- where a procedure begins
+abbrev pub begins : Procedure → Turn Plan Verdict
+begins procedure.Build = Stays Building Get
+begins (procedure.Ask Base request) = Stays (Getting request) Get
+begins (procedure.Ask (Link link) request) = asks link request
+begins procedure.Refuse = Gives (fails Shutdown)
 
--- RAW CALLS: ask on the link, and answer the reply, or nothing where the frame has none
-
--- what the answer to a request is told as: a receipt, or its body as it is
-abbrev pub accepted : Reply → Said
-accepted r = if is_number 7 r.body then Receipt r.bytes else Replies (r.bytes ∷ [])
-
--- the answer that a reply gives to the request with the body of this number
-abbrev pub raw_told : (request : ℕ) → Reply → Said
-raw_told request r = if is_answer request r.body then accepted r else failed (refused r r.body)
-
--- the same, of the reply's body itself
-abbrev pub raw_of_body : (request : ℕ) → Option BodyValues → Said
-raw_of_body request body = raw_told request (read_body None [] body)
-
-abbrev pub raw_answer : (request : ℕ) → Outcome → Said
-raw_answer request (outcome.Replied r) = raw_told request r
-raw_answer request outcome.Queued = Done
-raw_answer request o = failed (fault_of o)
-
--- the number of the body that a request writes
-abbrev pub request_number : Request → ℕ
-request_number (request.Topics namespace mode) = 32
-request_number (request.Raw now words) = (body_of 0 words).number
-
-abbrev pub raw_asked : (request : ℕ) → List Outcome → Action
-raw_asked request [] = Rest
-raw_asked request (o ∷ os) = ended (raw_answer request o) os
-
-abbrev pub raw : ℕ → Request → List Outcome → Action
-raw link words [] = Ask link words
-raw link words (o ∷ os) = raw_asked (request_number words) (o ∷ os)
-
--- the next action of a procedure
-abbrev pub next : Procedure → List Outcome → Action
-next procedure.Build os = building os
-next (procedure.Topics namespace mode) os = topics namespace mode os
-next (procedure.Raw link words) os = raw link words os
-next procedure.Refused os = ended (failed Shutdown) os
+-- what an outcome makes of it
+abbrev pub told : Plan → Outcome → Turn Plan Verdict
+told Building (GotLink link) = Gives (verdict Client Done)
+told Building o = Gives (fails (fault_of o))
+told (Getting request) (GotLink link) = asks link request
+told (Getting request) o = Gives (fails (fault_of o))
+told (Asking w) Queued = waits w
+told (Asking w) o = Gives (fails (fault_of o))
+told (Awaiting w) (Replied r) = Gives (replied w r)
+told (Awaiting w) o = Gives (fails (fault_of o))

@@ -10,8 +10,6 @@ use Rattle.pulsar_frame.specs.Payload.{payload_values}
 use Rattle.pulsar_client.specs.declared.act.Arrival.TheVariants as arrival
 use Rattle.pulsar_client.specs.declared.act.LinkAct.{LinkAct}
 use Rattle.pulsar_client.specs.declared.act.LinkAct.TheVariants.{Comes}
-use Rattle.pulsar_client.specs.declared.act.Request.{Request}
-use Rattle.pulsar_client.specs.declared.act.Request.TheVariants as request
 use Rattle.pulsar_client.specs.declared.consumers.subscriber.Subscriber.{Subscriber}
 use Rattle.pulsar_client.specs.declared.consumers.subscriber.Unread.{Unread}
 use Rattle.pulsar_client.specs.declared.consumers.subscriber.Unread.TheVariants.{Message, Failure}
@@ -19,8 +17,8 @@ use Rattle.pulsar_client.specs.declared.consumers.subscribers.Subscribers.{Subsc
 use Rattle.pulsar_client.specs.Failures.{failure}
 use Rattle.pulsar_client.specs.Items.{Item, Faulty, given}
 use Rattle.pulsar_client.specs.Link.{Pending}
-use Rattle.pulsar_client.specs.RawCall.{CloseConsumer}
 use Rattle.pulsar_client.specs.Subscriptions.{Subscription, settles_one}
+use Rattle.pulsar_client.specs.View.{Seat}
 
 abbrev pub item_of : Unread → Item
 item_of (Message id payload) = given (message_id_values id, payload_values payload)
@@ -65,12 +63,12 @@ with_items link number items s =
 abbrev pub given_at : List ℕ → (link number : ℕ) → List Item → ℕ → Option Subscription → Option Subscription
 given_at tickets link number items t row = if is_listed t tickets then option_map (with_items link number items) row else row
 
--- the consumer that a request closes, by its number
-abbrev pub closed_by : Request → Option ℕ
-closed_by (request.Raw now (CloseConsumer number)) = Some number
-closed_by _ = None
-
 -- an act is a frame that answers one of these requests
 abbrev pub answered_by : LinkAct → List Pending → Bool
 answered_by (Comes (arrival.Message m)) waiting = settles_one m.key waiting
 answered_by _ waiting = false
+
+-- the requests that wait on a link, where it is live
+abbrev pub waiting_on : Option Seat → List Pending
+waiting_on None = []
+waiting_on (Some seat) = seat.seen.pending

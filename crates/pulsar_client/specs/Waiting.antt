@@ -9,16 +9,17 @@ use Rattle.std.specs.Map.{lookup}
 use Rattle.std.specs.declared.collections.VecDeque.{VecDeque}
 use Rattle.pulsar_wire.specs.declared.key.RequestKey.{RequestKey}
 use Rattle.pulsar_wire.specs.declared.key.RequestKey.TheVariants.{RequestId, ProducerSend, CloseConsumer}
-use Rattle.pulsar_client.specs.declared.act.Awaited.{Awaited}
+use Rattle.pulsar_client.specs.declared.session.waiting.Awaited.{Awaited}
 use Rattle.pulsar_client.specs.declared.session.waiting.Waiter.{Waiter}
 use Rattle.pulsar_client.specs.declared.session.waiting.Waiting.TheInside.{Inside}
-use Rattle.pulsar_client.specs.Link.{Pending, numbered}
+use Rattle.pulsar_client.specs.Link.{Pending}
+use Rattle.pulsar_client.specs.Request.{numbered}
 
 abbrev pub awaited_cmp : Awaited → Awaited → Ordering
 awaited_cmp a b = ordering_then (option_cmp nat_cmp a.producer b.producer) (nat_cmp a.number b.number)
 
 abbrev pub pending_of : Waiter → Pending
-pending_of w = record { awaits = w.awaits; place = w.place; ticket = w.ticket }
+pending_of w = record { awaits = w.awaits; place = w.place }
 
 abbrev pub pending_at : ℕ × Waiter → Pending
 pending_at e = pending_of e.1

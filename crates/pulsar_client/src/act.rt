@@ -1,8 +1,92 @@
-//! What a step is made of: acts, each one thing that happens to one thing.
+//! What a step is made of: acts, each one thing that happens. There are six kinds of act, and all that is special to a kind of
+//! call, thing or event stands one level below them.
 
-use crate::content::{RawRequest, Received, Text, Verdict};
-use pulsar_wire::commands::topics::Mode;
+use crate::content::{Asking, Received, Request, Said, Text};
 use pulsar_wire::error::{IoKind, Reason};
+
+/// One that has a plan. The order of ranks is that in which one cause serves them.
+#[derive(Clone, Copy)]
+pub enum Who {
+    /// The call of this ticket.
+    Call(u64),
+}
+
+/// What a plan is told.
+#[derive(Drop)]
+pub enum Outcome {
+    /// The address has this link, which is ready.
+    GotLink(u64),
+    /// The options have no address.
+    NotFound,
+    /// The attempt that it started failed.
+    Failed(IoKind),
+    /// The attempt that it waited for failed.
+    Canceled,
+    /// Its frame is queued.
+    Queued,
+    /// The numbers of the link's requests are spent.
+    Exhausted,
+    /// A size of its frame does not fit.
+    Unencodable,
+    /// The reply to its request came.
+    Replied(Received),
+    /// The link of its request ended, or was not ready.
+    Disconnected,
+}
+
+/// One is told an outcome.
+#[derive(Drop)]
+pub struct Notice {
+    pub who: Who,
+    pub outcome: Outcome,
+}
+
+/// Where a request is asked for.
+#[derive(Clone, Copy)]
+pub enum Place {
+    /// At the link of the address of the service.
+    Base,
+    /// On this link.
+    Link(u64),
+}
+
+/// A procedure, with its words.
+#[derive(Drop)]
+pub enum Procedure {
+    Build,
+    /// Get or take the link of a place, ask there, and answer the reply.
+    Ask { place: Place, request: Request },
+    /// The client was not built.
+    Refuse,
+}
+
+/// What a plan does next. Each is followed by one outcome, and Rest by any.
+#[derive(Drop)]
+pub enum Action {
+    /// Get the ready link of the address.
+    Get,
+    /// Ask for a request on the link.
+    Ask { link: u64, request: Request },
+    /// Nothing.
+    Rest,
+}
+
+/// What a call that succeeds leaves behind.
+#[derive(Drop)]
+pub enum Makes {
+    Nothing,
+    /// The client is built.
+    Client,
+    /// A raw consumer, whose messages bear this number on this link.
+    Consumer { link: u64, number: u64, topic: Text },
+}
+
+/// What a plan gives at its end.
+#[derive(Drop)]
+pub struct Verdict {
+    pub makes: Makes,
+    pub said: Said,
+}
 
 /// What comes out of the bytes of a connection.
 #[derive(Drop)]
@@ -12,107 +96,7 @@ pub enum Arrival {
     Bad(Reason),
 }
 
-/// What a call's procedure is told.
-#[derive(Drop)]
-pub enum Outcome {
-    /// The address has this link, which is ready.
-    GotLink(u64),
-    /// The attempt that the call started failed.
-    Failed(IoKind),
-    /// The attempt that the call waited for failed.
-    Canceled,
-    /// The reply to its request came.
-    Replied(Received),
-    /// The link of its request ended, or was not ready.
-    Disconnected,
-    /// The numbers of the link's requests are spent.
-    Exhausted,
-    /// A size of its frame does not fit.
-    Unencodable,
-    /// The options have no address.
-    NotFound,
-    /// Its frame, which has no answer, is queued.
-    Queued,
-}
-
-/// What a request waits for: the answer to the request of this number, or to the message of this number of a producer.
-#[derive(Clone, Copy, PartialEq, Eq, PartialOrd, Ord)]
-pub struct Awaited {
-    pub producer: Option<u64>,
-    pub number: u64,
-}
-
-/// What a call asks of the broker.
-#[derive(Drop)]
-pub enum Request {
-    Topics { namespace: Text, mode: Mode },
-    /// These words, at this moment in milliseconds since 1970.
-    Raw { now: u64, words: RawRequest },
-}
-
-/// A call's procedure, with its words.
-#[derive(Drop)]
-pub enum Procedure {
-    Build,
-    Topics { namespace: Text, mode: Mode },
-    /// A request on this link.
-    Raw { link: u64, request: Request },
-    /// The client was not built.
-    Refused,
-}
-
-/// What a procedure does next.
-#[derive(Drop)]
-pub enum Action {
-    /// Get the ready link of the address.
-    Get,
-    /// Send a request on the link.
-    Ask { link: u64, request: Request },
-    /// End with this answer.
-    Answer(Verdict),
-    /// The client is built.
-    Finish,
-    /// Nothing.
-    Rest,
-}
-
-/// Why a link ended.
-#[derive(Clone, Copy)]
-pub enum End {
-    /// Its connection could not be opened.
-    Failed(IoKind),
-    /// Its connection was lost.
-    Lost,
-    /// What came on it was no frame, or not the one that must come first.
-    Refused,
-}
-
-impl End {
-    ghost use Rattle.std.specs.Prelude.{◌≡◌};
-    ghost use Rattle.pulsar_client.specs.Link.{is_closed, kind_of};
-
-    /// What an attempt that ended so failed with.
-    pub fn kind(self) -> IoKind
-        ensures { result ≡ kind_of self }
-    {
-        match self {
-            End::Failed(kind) => kind,
-            End::Lost | End::Refused => IoKind::Other,
-        }
-    }
-
-    /// The client closes the connection by itself.
-    pub fn is_closed(self) -> bool
-        ensures { result ≡ is_closed self }
-    {
-        match self {
-            End::Refused => true,
-            End::Failed(_) | End::Lost => false,
-        }
-    }
-}
-
-/// What happens to one link: first what comes to it, then what it makes of that.
+/// What comes to a link.
 #[derive(Drop)]
 pub enum LinkAct {
     Opens,
@@ -121,41 +105,31 @@ pub enum LinkAct {
     /// Its connection is lost.
     Loses,
     Comes(Arrival),
+    /// As many frames as this may be written.
     Drains(u64),
-    /// A frame of this call is queued. Where an answer is awaited, the call waits for it.
-    Requests {
-        request: Request,
-        ticket: u64,
-    },
-    /// A number is drawn for a request that is not queued.
-    Spends,
-    /// The link is open: the connect frame is queued.
-    Greets,
-    /// The link is ready.
-    Readied,
-    /// The link ends.
-    Ended(End),
-    /// A request of this call waits no longer.
-    Settled {
-        place: u64,
-        ticket: u64,
-        outcome: Outcome,
-    },
+}
+
+/// What an event brings. Each part comes where nothing is left of the one before.
+#[derive(Drop)]
+pub enum Part {
+    Calls(Asking),
+    ToLink { link: u64, act: LinkAct },
+    /// The consumer of this ticket is polled.
+    Polls(u64),
 }
 
 /// One act of a run.
 #[derive(Drop)]
 pub enum Act {
-    Calls(Procedure),
-    Told { ticket: u64, outcome: Outcome },
-    /// This call starts an attempt.
-    Dials { ticket: u64 },
-    /// This call waits for the attempt.
-    Waits { ticket: u64 },
-    Answers { ticket: u64, verdict: Verdict },
-    /// This call has built the client.
-    Builds { ticket: u64 },
-    OnLink { link: u64, act: LinkAct },
-    /// The consumer of this ticket is polled.
-    Polls { ticket: u64 },
+    Comes(Part),
+    /// A plan begins.
+    Starts { who: Who, procedure: Procedure },
+    /// A plan is told an outcome.
+    Told(Notice),
+    /// A plan does one thing.
+    Does { who: Who, action: Action },
+    /// A plan ends.
+    Answers { who: Who, verdict: Verdict },
+    /// An attempt begins, which this one started.
+    Dials { starter: Who },
 }

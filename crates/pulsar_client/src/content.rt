@@ -1,20 +1,24 @@
-//! What owns memory inside an act. Contracts see it by its content.
+//! What owns memory inside an act. It is boxed, so that acts are small. Contracts see it by its content.
 
 ghost use Rattle.std.specs.Prelude.{◌≡◌, ◌++◌, ℕ, List, IfOk, OnOk, map, string_bytes};
 ghost use Rattle.pulsar_frame.specs.Shown.{message_values};
-ghost use Rattle.pulsar_client.specs.Content.{said};
+ghost use Rattle.pulsar_client.specs.Content as content;
+ghost use Rattle.pulsar_client.specs.Content.{asked, said};
 ghost use Rattle.pulsar_client.specs.Messages.{Reply, is_connected, is_number, read};
+ghost use Rattle.pulsar_client.specs.Request.{request_of};
 ghost use Rattle.pulsar_client.specs.Subscribers.{item_of};
-ghost use Rattle.pulsar_client.specs.RawCall.{Words, words};
 
 use crate::consumers::items::give_with;
 use crate::consumers::subscriber::Unread;
 use crate::effect::Answer;
+use crate::event::Call;
 use crate::raw_call::RawCall;
 use pulsar_frame::message::Message;
 use pulsar_wire::bodies;
+use pulsar_wire::commands::topics::Mode;
 use pulsar_wire::error::{Error, NoMemory};
 use pulsar_wire::key::RequestKey;
+use std::alloc::Global;
 use std::collections::VecDeque;
 use std::marker::Model;
 
@@ -54,52 +58,84 @@ impl Text {
     }
 }
 
+/// What a user asks of the client.
+#[derive(Drop)]
+pub struct Asking {
+    call: Box<Call>,
+}
+
+impl Model for Asking {
+    ghost use Rattle.pulsar_client.specs.Content.{Asked, asked};
+
+    ghost Value = { Asked };
+
+    ghost view = { λ a. asked a.call.value };
+}
+
+impl Asking {
+    pub fn new(alloc: Global, call: Call) -> Result<Asking, NoMemory>
+        ensures { IfOk result (λ a. a ≡ asked call) }
+    {
+        let call = Box::new(alloc, call)?;
+        Ok(Asking { call })
+    }
+
+    pub fn into_inner(self) -> Call
+        ensures { asked result ≡ self }
+    {
+        let Asking { call } = self;
+        Box::into_inner(call)
+    }
+}
+
 /// What is asked of a link.
 #[derive(Drop)]
-pub struct RawRequest {
-    call: RawCall,
+pub enum Question {
+    Topics { namespace: String, mode: Mode },
+    Raw(RawCall),
 }
 
-impl Model for RawRequest {
-    ghost use Rattle.pulsar_client.specs.RawCall.{Words, words};
-
-    ghost Value = { Words };
-
-    ghost view = { λ r. words r.call };
+/// The same in a box.
+#[derive(Drop)]
+pub struct Request {
+    question: Box<Question>,
 }
 
-impl RawRequest {
-    pub fn new(call: RawCall) -> RawRequest
-        ensures { result ≡ words call }
+impl Model for Request {
+    ghost use Rattle.pulsar_client.specs.Request as meaning;
+    ghost use Rattle.pulsar_client.specs.Request.{request_of};
+
+    ghost Value = { meaning.Request };
+
+    ghost view = { λ r. request_of r.question.value };
+}
+
+impl Request {
+    pub fn new(alloc: Global, question: Question) -> Result<Request, NoMemory>
+        ensures { IfOk result (λ r. r ≡ request_of question) }
     {
-        RawRequest { call }
+        let question = Box::new(alloc, question)?;
+        Ok(Request { question })
     }
 
-    pub fn copy(&self) -> Result<RawRequest, NoMemory>
-        ensures { IfOk result (λ r. r ≡ self.now) }
+    pub fn question(&self) -> &Question
+        ensures { request_of result.now ≡ self.now }
     {
-        let call = self.call.copy()?;
-        Ok(RawRequest { call })
+        &self.question
     }
 
-    pub fn call(&self) -> &RawCall
-        ensures { words result.now ≡ self.now }
+    pub fn into_inner(self) -> Question
+        ensures { request_of result ≡ self }
     {
-        &self.call
-    }
-
-    pub fn into_inner(self) -> RawCall
-        ensures { words result ≡ self }
-    {
-        let RawRequest { call } = self;
-        call
+        let Request { question } = self;
+        Box::into_inner(question)
     }
 }
 
 /// A message of the broker, as the client reads it.
 #[derive(Drop)]
 pub struct Received {
-    message: Message,
+    message: Box<Message>,
 }
 
 impl Model for Received {
@@ -112,14 +148,15 @@ impl Model for Received {
 
     ghost coded = { Prim.hlevel (codes, errors.the_row.coded) };
 
-    ghost view = { λ r. read (message_values r.message) };
+    ghost view = { λ r. read (message_values r.message.value) };
 }
 
 impl Received {
-    pub fn new(message: Message) -> Received
-        ensures { result ≡ read (message_values message) }
+    pub fn new(alloc: Global, message: Message) -> Result<Received, NoMemory>
+        ensures { IfOk result (λ r. r ≡ read (message_values message)) }
     {
-        Received { message }
+        let message = Box::new(alloc, message)?;
+        Ok(Received { message })
     }
 
     pub fn key(&self) -> Option<RequestKey>
@@ -156,10 +193,10 @@ impl Received {
     }
 
     /// A message that reads the same.
-    pub fn copy(&self) -> Result<Received, NoMemory>
+    pub fn copy(&self, alloc: Global) -> Result<Received, NoMemory>
         ensures { IfOk result (λ r. r ≡ self.now) }
     {
-        let message = self.message.copy()?;
+        let message = Box::new(alloc, self.message.copy()?)?;
         Ok(Received { message })
     }
 
@@ -167,39 +204,41 @@ impl Received {
         ensures { read (message_values result) ≡ self }
     {
         let Received { message } = self;
-        message
+        Box::into_inner(message)
     }
 }
 
 /// What a call ends with.
 #[derive(Drop)]
-pub struct Verdict {
-    answer: Result<Answer, Error>,
+pub struct Said {
+    answer: Box<Result<Answer, Error>>,
 }
 
-impl Model for Verdict {
-    ghost use Rattle.pulsar_client.specs.Content.{Said, said};
+impl Model for Said {
+    ghost use Rattle.pulsar_client.specs.Content as content;
+    ghost use Rattle.pulsar_client.specs.Content.{said};
     ghost use Rattle.pulsar_wire.specs.contracts.error.Error as errors;
     ghost use Rattle.std.specs.Coded.{codes};
 
-    ghost Value = { Said };
+    ghost Value = { content.Said };
 
     ghost coded = { Prim.hlevel (codes, errors.the_row.coded) };
 
-    ghost view = { λ v. said v.answer };
+    ghost view = { λ s. said s.answer.value };
 }
 
-impl Verdict {
-    pub fn new(answer: Result<Answer, Error>) -> Verdict
-        ensures { result ≡ said answer }
+impl Said {
+    pub fn new(alloc: Global, answer: Result<Answer, Error>) -> Result<Said, NoMemory>
+        ensures { IfOk result (λ s. s ≡ said answer) }
     {
-        Verdict { answer }
+        let answer = Box::new(alloc, answer)?;
+        Ok(Said { answer })
     }
 
     pub fn into_inner(self) -> Result<Answer, Error>
         ensures { said result ≡ self }
     {
-        let Verdict { answer } = self;
-        answer
+        let Said { answer } = self;
+        Box::into_inner(answer)
     }
 }

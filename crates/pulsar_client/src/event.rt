@@ -1,8 +1,11 @@
 //! What comes to a client.
 
+ghost use Rattle.std.specs.Prelude.{◌≡◌, IfOk};
+ghost use Rattle.pulsar_client.specs.Content.{asked, heard};
+
 use crate::raw_call::RawCall;
 use pulsar_wire::commands::topics::Mode;
-use pulsar_wire::error::IoKind;
+use pulsar_wire::error::{IoKind, NoMemory};
 
 /// What a user asks of the client.
 #[derive(Debug, Drop)]
@@ -32,4 +35,40 @@ pub enum Event {
     Drain(u64, usize),
     /// The raw consumer that the call of this ticket made is asked for an item.
     Poll(u64),
+}
+
+impl Call {
+    /// A call with the same content.
+    pub fn copy(&self) -> Result<Call, NoMemory>
+        ensures { IfOk result (λ c. asked c ≡ asked self.now) }
+    {
+        match self {
+            Call::Build => Ok(Call::Build),
+            Call::Topics { namespace, mode } => Ok(Call::Topics {
+                namespace: namespace.clone()?,
+                mode: *mode,
+            }),
+            Call::Raw { link, call } => Ok(Call::Raw {
+                link: *link,
+                call: call.copy()?,
+            }),
+        }
+    }
+}
+
+impl Event {
+    /// An event with the same content.
+    pub fn copy(&self) -> Result<Event, NoMemory>
+        ensures { IfOk result (λ e. heard e ≡ heard self.now) }
+    {
+        match self {
+            Event::Call(call) => Ok(Event::Call(call.copy()?)),
+            Event::Opened(link) => Ok(Event::Opened(*link)),
+            Event::Failed(link, kind) => Ok(Event::Failed(*link, *kind)),
+            Event::Bytes(link, piece) => Ok(Event::Bytes(*link, piece.clone()?)),
+            Event::Lost(link) => Ok(Event::Lost(*link)),
+            Event::Drain(link, most) => Ok(Event::Drain(*link, *most)),
+            Event::Poll(ticket) => Ok(Event::Poll(*ticket)),
+        }
+    }
 }

@@ -2,8 +2,7 @@
 
 ghost use Rattle.pulsar_client.specs.Address.{KnownAddresses};
 ghost use Rattle.pulsar_client.specs.Client.{StoodForIsGood};
-ghost use Rattle.pulsar_client.specs.Laws.{ActsFollow, AnswersOnce, CallsAreMade, CallsFollow, ConsumersHearToTheirEnd, Determined, FailuresAreTold, FramesAreCut, LinksAlone, OutcomesAreCaused, PollsAreAnswered, PollsFollow, SettledByFirst, WrittenInOrder, WritesFollow};
-ghost use Rattle.pulsar_client.specs.Traces.{IsGood, attempt_fails, consumer_is_polled, reply_comes_early, request_is_answered};
+ghost use Rattle.pulsar_client.specs.Laws.{AnswersOnce, BuiltIs, CallsAreMade, CausesInOrder, ConsumersHearToTheirEnd, Determined, EffectsArranged, EndsOnce, FailuresAreTold, FramesAreCut, LinksAlone, OutcomesAreCaused, PlansFollow, PollsAreAnswered, PollsFollow, SeriesIsNewest, ServedByTicket, SettledByFirst, TicketsCount, WritesFollow, WrittenInOrder};
 
 /// Options and events determine the effects of a good run.
 pub fn determined()
@@ -15,42 +14,50 @@ pub fn stood_for_is_good()
     ensures { StoodForIsGood }
 {}
 
-/// What names a link in a run is a run of that link by itself.
-pub fn links_alone()
-    ensures { LinksAlone }
+/// The effects of each step stand in their order, and are just those of its acts, each once.
+pub fn effects_arranged()
+    ensures { EffectsArranged }
 {}
 
-/// A request is settled once, by the first later frame of its connection that bears its key, or at its connection's end.
-pub fn settled_by_first()
-    ensures { SettledByFirst }
+/// A cause serves those whom it still has to serve by rank, calls by ticket, and so do the causes that wait.
+pub fn causes_in_order()
+    ensures { CausesInOrder }
 {}
 
-/// A call has given just the answers that its procedure gives along its outcomes, in the step of each.
-pub fn calls_follow()
-    ensures { CallsFollow }
+/// A cause serves three calls by their tickets.
+pub fn served_by_ticket()
+    ensures { ServedByTicket }
 {}
 
-/// A call ends at most once.
+/// A call is made where the user asks for it, and is refused just where the client is not built.
+pub fn calls_are_made()
+    ensures { CallsAreMade }
+{}
+
+/// The ticket of the next call is the count of the calls so far.
+pub fn tickets_count()
+    ensures { TicketsCount }
+{}
+
+/// At the end of each step, each of those who have plans has done just what its plan gives along the outcomes that it was
+/// told, each in the step of its outcome.
+pub fn plans_follow()
+    ensures { PlansFollow }
+{}
+
+/// A plan gives one verdict, and does nothing after it.
 pub fn answers_once()
     ensures { AnswersOnce }
 {}
 
-/// The frames that are written on a connection are the first of those that were queued, in their order, each once.
-pub fn written_in_order()
-    ensures { WrittenInOrder }
+/// A call begins at most once, and ends at most once.
+pub fn ends_once()
+    ensures { EndsOnce }
 {}
 
-/// What comes on a connection is what the bytes of its stream are cut into, however they were cut into pieces.
-pub fn frames_are_cut()
-    ensures { FramesAreCut }
-{}
-
-/// Four small runs are good.
-pub fn small_runs_are_good()
-    ensures answered { IsGood request_is_answered }
-    ensures early { IsGood reply_comes_early }
-    ensures fails { IsGood attempt_fails }
-    ensures polled { IsGood consumer_is_polled }
+/// Whatever a call is told has its cause before, in the same step.
+pub fn outcomes_are_caused()
+    ensures { OutcomesAreCaused }
 {}
 
 /// A call that fails was refused, or fails with the fault of an outcome that it was told, or of its reply.
@@ -58,9 +65,34 @@ pub fn failures_are_told()
     ensures { FailuresAreTold }
 {}
 
-/// Whatever a call is told has its cause before, in the same step.
-pub fn outcomes_are_caused()
-    ensures { OutcomesAreCaused }
+/// The client is built where a Build has ended Ok.
+pub fn built_is()
+    ensures { BuiltIs }
+{}
+
+/// What runs for the address is what its newest turn left.
+pub fn series_is_newest()
+    ensures { SeriesIsNewest }
+{}
+
+/// A link that has not ended is what was done to it made of it, and nothing else.
+pub fn links_alone()
+    ensures { LinksAlone }
+{}
+
+/// A request is settled once, by the first later frame of its link that bears its key, or at the link's end.
+pub fn settled_by_first()
+    ensures { SettledByFirst }
+{}
+
+/// What comes on a connection is what the bytes of its stream are cut into, however they were cut into pieces.
+pub fn frames_are_cut()
+    ensures { FramesAreCut }
+{}
+
+/// The frames that are written on a link are the first of those that were queued, in their order, each once.
+pub fn written_in_order()
+    ensures { WrittenInOrder }
 {}
 
 /// The bytes that are written to a connection are the first of those that were queued there, in order.
@@ -82,16 +114,6 @@ pub fn polls_follow()
 /// nothing.
 pub fn polls_are_answered()
     ensures { PollsAreAnswered }
-{}
-
-/// Each act that a call does is what its procedure does next, in the same step.
-pub fn acts_follow()
-    ensures { ActsFollow }
-{}
-
-/// A call is made where the user asks for it, and is refused just where the client is not built.
-pub fn calls_are_made()
-    ensures { CallsAreMade }
 {}
 
 /// Some texts have known addresses.

@@ -3,11 +3,14 @@
 
 mod act;
 mod address;
+mod agenda;
+mod base;
 mod consumers;
 mod content;
 pub mod effect;
 pub mod event;
 pub mod laws;
+mod links;
 pub mod options;
 mod order;
 pub mod outside;
@@ -16,6 +19,7 @@ pub mod pulsar;
 pub mod raw_call;
 mod session;
 mod tables;
+mod who;
 
 pub use crate::effect::{Answer, Effect, Handed, Settlement};
 pub use crate::event::{Call, Event};

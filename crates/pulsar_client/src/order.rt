@@ -1,17 +1,16 @@
 //! The order of the effects of a step.
 
-ghost use Rattle.std.specs.Prelude.{◌≡◌, ◌≤◌, OnOk, map, length};
-ghost use Rattle.std.specs.Option.{option_map};
+ghost use Rattle.std.specs.Prelude.{◌≡◌, OnOk, map};
+ghost use Rattle.pulsar_run.specs.Order.{arranged};
 ghost use Rattle.pulsar_client.specs.Content.{shown};
-ghost use Rattle.pulsar_client.specs.Good.{rank, is_before, put, put_some};
-ghost use Rattle.pulsar_client.specs.Tables.{place_in};
+ghost use Rattle.pulsar_client.specs.Effects.{effect_below, effect_rank};
 
 use crate::effect::Effect;
 use pulsar_wire::error::NoMemory;
 
 /// The rank of an effect in its step: its kind, then its link or ticket, then its place.
-fn rank(effect: &Effect) -> (u64, u64, u64)
-    ensures { result ≡ rank (shown effect.now) }
+fn effect_rank(effect: &Effect) -> (u64, u64, u64)
+    ensures { result ≡ effect_rank (shown effect.now) }
 {
     match effect {
         Effect::Write { link, bytes: _ } => (0, *link, 0),
@@ -38,46 +37,10 @@ fn rank(effect: &Effect) -> (u64, u64, u64)
     }
 }
 
-fn is_before(a: (u64, u64, u64), b: (u64, u64, u64)) -> bool
-    ensures { result ≡ is_before a b }
+/// Puts effects into their order. Those of equal rank stay as they stand.
+pub fn arrange(out: &mut Vec<Effect>) -> Result<(), NoMemory>
+    ensures { OnOk result (map shown out.new.items ≡ arranged effect_below (map shown out.old.items)) }
 {
-    if a.0 == b.0 {
-        if a.1 == b.1 { a.2 < b.2 } else { a.1 < b.1 }
-    } else {
-        a.0 < b.0
-    }
-}
-
-/// How many effects stand in front of one of this rank.
-fn place_of(out: &[Effect], key: (u64, u64, u64)) -> usize
-    ensures place { result ≡ place_in key out.now }
-    ensures bound { result ≤ length out.now }
-{
-    let mut at = out.len();
-    while at > 0 {
-        if !is_before(key, rank(&out[at - 1])) {
-            return at;
-        }
-        at -= 1;
-    }
-    0
-}
-
-/// Puts an effect into its place. It is sought from the end, where it nearly always belongs.
-pub fn put(out: &mut Vec<Effect>, effect: Effect) -> Result<(), NoMemory>
-    ensures { OnOk result (map shown out.new.items ≡ put (shown effect) (map shown out.old.items)) }
-{
-    let at = place_of(out, rank(&effect));
-    out.insert(at, effect)?;
+    out.sort_by_key(effect_rank)?;
     Ok(())
-}
-
-/// Puts an effect into its place, if there is one.
-pub fn put_some(out: &mut Vec<Effect>, effect: Option<Effect>) -> Result<(), NoMemory>
-    ensures { OnOk result (map shown out.new.items ≡ put_some (option_map shown effect) (map shown out.old.items)) }
-{
-    match effect {
-        Some(effect) => put(out, effect),
-        None => Ok(()),
-    }
 }

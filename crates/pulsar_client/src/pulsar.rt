@@ -2,10 +2,10 @@
 
 ghost use Rattle.std.specs.Prelude.{◌≡◌, ◌∷◌, [], List, OnErr, IfOk, IsErr, length, map, reverse};
 ghost use Rattle.pulsar_client.specs.Content.{Called, asked, heard, shown};
-ghost use Rattle.pulsar_client.specs.Good.{Good, Step};
-ghost use Rattle.pulsar_client.specs.Log.{Chosen};
+ghost use Rattle.pulsar_client.specs.Run.{Good, Step, calls_in};
+ghost use Rattle.pulsar_client.specs.View.{Chosen};
 ghost use Rattle.pulsar_client.specs.Tables.{answered, step};
-ghost use Rattle.pulsar_client.specs.Client.{HasFailed, IsDead, StandsFor, chosen, next_ticket};
+ghost use Rattle.pulsar_client.specs.Client.{HasFailed, IsDead, StandsFor, chosen};
 
 use crate::address::Address;
 use crate::effect::Effect;
@@ -50,7 +50,7 @@ impl Pulsar {
         let mut client = Pulsar::new(alloc, options)?;
         let mut all = Vec::new(alloc);
         for event in events {
-            all.push(client.take(event)?)?;
+            all.push(client.take(event.copy()?)?)?;
         }
         Ok(all)
     }
@@ -63,31 +63,31 @@ impl Pulsar {
         ensures stays { HasFailed self.old → IsErr result × HasFailed self.new }
         ensures dead { IsDead self.old (heard event) → (self.new ≡ self.old) × IfOk result (λ out. out.items ≡ []) }
     {
-        self.take(&event)
+        self.take(event)
     }
 
     /// A step with this call, and its ticket.
     pub fn submit(&mut self, call: Call) -> Result<(u64, Vec<Effect>), NoMemory>
         ensures ok { IfOk result (λ r. (o : Chosen) (h : List Step) → StandsFor o self.old h → StandsFor o self.new (record { event = Called (asked call); effects = map shown r.1.items } ∷ h)) }
-        ensures ticket { IfOk result (λ r. r.0 ≡ next_ticket self.old) }
+        ensures ticket { IfOk result (λ r. (o : Chosen) (h : List Step) → StandsFor o self.old h → r.0 ≡ calls_in h) }
         ensures failed { OnErr result (HasFailed self.new) }
         ensures stays { HasFailed self.old → IsErr result × HasFailed self.new }
     {
         let ticket = self.tables.tickets;
-        let effects = self.take(&Event::Call(call))?;
+        let effects = self.take(Event::Call(call))?;
         Ok((ticket, effects))
     }
 
-    fn take(&mut self, event: &Event) -> Result<Vec<Effect>, NoMemory>
-        ensures ok { IfOk result (λ out. (o : Chosen) (h : List Step) → StandsFor o self.old h → StandsFor o self.new (step event.now out.items ∷ h)) }
+    fn take(&mut self, event: Event) -> Result<Vec<Effect>, NoMemory>
+        ensures ok { IfOk result (λ out. (o : Chosen) (h : List Step) → StandsFor o self.old h → StandsFor o self.new (step event out.items ∷ h)) }
         ensures failed { OnErr result (HasFailed self.new) }
         ensures stays { HasFailed self.old → IsErr result × HasFailed self.new }
-        ensures dead { IsDead self.old (heard event.now) → (self.new ≡ self.old) × IfOk result (λ out. out.items ≡ []) }
+        ensures dead { IsDead self.old (heard event) → (self.new ≡ self.old) × IfOk result (λ out. out.items ≡ []) }
     {
         if self.failed {
             return Err(NoMemory);
         }
-        if !self.tables.is_live(event) {
+        if !self.tables.is_live(&event) {
             return Ok(Vec::new(self.tables.alloc));
         }
         self.failed = true;

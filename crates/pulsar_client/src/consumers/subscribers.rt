@@ -7,12 +7,13 @@ ghost use Rattle.std.specs.Ordering.{nat_cmp};
 ghost use Rattle.pulsar_client.specs.Content.{shown};
 ghost use Rattle.pulsar_client.specs.Link.{Pending};
 ghost use Rattle.pulsar_client.specs.Subscribers.{answered_by, fresh_in, given_at, is_listed, kept_at, live_at, subscription_at, tickets_of, with_items};
-ghost use Rattle.pulsar_client.specs.Subscriptions.{after_link_act, after_poll, polled, settles_one};
+ghost use Rattle.pulsar_client.specs.Subscriptions.{after_poll, closed_at, ends_with, hears, polled, settles_one};
 
-use crate::act::{Arrival, LinkAct, Request};
+use crate::act::{Arrival, LinkAct};
 use crate::consumers::subscriber::Subscriber;
 use crate::content::Received;
 use crate::effect::Effect;
+use crate::session::given::{Admission, Change};
 use pulsar_wire::bodies;
 use pulsar_wire::error::NoMemory;
 use pulsar_wire::key::RequestKey;
@@ -71,23 +72,42 @@ impl Subscribers {
         Ok(Some(effect))
     }
 
-    /// The consumers of a link hear an act of it. Whether it is a frame that answers a request is told.
+    /// The consumers of a link hear what comes to it. Whether it is a frame that answers a request is told.
     pub fn hear(&mut self, link: u64, act: &LinkAct, is_answer: bool) -> Result<(), NoMemory>
-        ensures { OnOk result ((waiting : List Pending) → is_answer ≡ answered_by act.now waiting → (t : ℕ) → subscription_at self.new t ≡ option_map (after_link_act link act.now waiting) (subscription_at self.old t)) }
+        ensures { OnOk result ((waiting : List Pending) → is_answer ≡ answered_by act.now waiting → (t : ℕ) → subscription_at self.new t ≡ option_map (hears link act.now waiting) (subscription_at self.old t)) }
     {
         match act {
             LinkAct::Comes(Arrival::Message(message)) => self.hear_frame(link, message, is_answer),
-            LinkAct::Requests { request, .. } => self.hear_request(link, request),
-            LinkAct::Ended(_) => {
-                self.live.remove(&link);
-                Ok(())
-            }
+            _ => Ok(()),
+        }
+    }
+
+    /// The consumers of a link end with it.
+    pub fn end(&mut self, link: u64, change: Change)
+        ensures { (t : ℕ) → subscription_at self.new t ≡ option_map (ends_with link change) (subscription_at self.old t) }
+    {
+        if change.is_ended() {
+            self.live.remove(&link);
+        }
+    }
+
+    /// The consumers of this number on a link end where their close is asked for.
+    pub fn close_asked(
+        &mut self,
+        link: u64,
+        number: Option<u64>,
+        admission: Admission,
+    ) -> Result<(), NoMemory>
+        ensures { OnOk result ((t : ℕ) → subscription_at self.new t ≡ option_map (closed_at link number admission) (subscription_at self.old t)) }
+    {
+        match number {
+            Some(number) if admission.is_queued() => self.close(link, number),
             _ => Ok(()),
         }
     }
 
     fn hear_frame(&mut self, link: u64, message: &Received, is_answer: bool) -> Result<(), NoMemory>
-        ensures { OnOk result ((waiting : List Pending) → is_answer ≡ settles_one message.now.key waiting → (t : ℕ) → subscription_at self.new t ≡ option_map (after_link_act link (LinkAct.Comes (Arrival.Message message.now)) waiting) (subscription_at self.old t)) }
+        ensures { OnOk result ((waiting : List Pending) → is_answer ≡ settles_one message.now.key waiting → (t : ℕ) → subscription_at self.new t ≡ option_map (hears link (LinkAct.Comes (Arrival.Message message.now)) waiting) (subscription_at self.old t)) }
     {
         match message.key() {
             Some(RequestKey::Consumer { consumer_id }) => {
@@ -103,16 +123,6 @@ impl Subscribers {
                 self.close(link, consumer_id)
             }
             _ => Ok(()),
-        }
-    }
-
-    /// The consumers of a number on a link end where their close is asked for.
-    fn hear_request(&mut self, link: u64, request: &Request) -> Result<(), NoMemory>
-        ensures { OnOk result ((waiting : List Pending) (ticket t : ℕ) → subscription_at self.new t ≡ option_map (after_link_act link (LinkAct.Requests request.now ticket) waiting) (subscription_at self.old t)) }
-    {
-        match request.closed_consumer() {
-            Some(number) => self.close(link, number),
-            None => Ok(()),
         }
     }
 

@@ -1,3 +1,5 @@
-//! The procedures of the calls.
+//! The plans of those that have them.
 
+pub mod answers;
 pub mod plan;
+pub mod table;

@@ -1,6 +1,7 @@
 //! One link: what the client writes on it, and what it makes of what comes.
 
-pub mod acts;
+pub mod given;
 pub mod link;
 pub mod messages;
+pub mod request;
 pub mod waiting;

@@ -5,12 +5,18 @@ ghost use Rattle.pulsar_client.specs.Link.{ends_wait};
 ghost use Rattle.pulsar_client.specs.Subscriptions.{settles_one};
 ghost use Rattle.pulsar_client.specs.Waiting.{Taken, awaited_by, found, numbers_of, others, pending_at, pending_of};
 
-use crate::act::Awaited;
 use pulsar_wire::error::NoMemory;
 use pulsar_wire::key::RequestKey;
 use std::alloc::Global;
 use std::collections::{BTreeMap, VecDeque};
 use std::marker::Model;
+
+/// What a request waits for: the answer to the request of this number, or to the message of this number of a producer.
+#[derive(Clone, Copy, PartialEq, Eq, PartialOrd, Ord)]
+pub struct Awaited {
+    pub producer: Option<u64>,
+    pub number: u64,
+}
 
 /// A request that waits.
 #[derive(Clone, Copy)]
@@ -18,8 +24,6 @@ pub struct Waiter {
     pub awaits: Awaited,
     /// The place of its frame on the link.
     pub place: u64,
-    /// The call that asked.
-    pub ticket: u64,
 }
 
 /// The requests that wait on a link, in the order of their queueing. Those that a frame answers are found without a look

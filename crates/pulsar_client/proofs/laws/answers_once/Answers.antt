@@ -1,5 +1,5 @@
-use Rattle.pulsar_client.proofs.Once.{answers_once}
+use Rattle.pulsar_client.proofs.Follow.{answers_once_lem}
 use Rattle.pulsar_client.proofs.laws.answers_once.Goals as goal
 
 pub returns : goal.returns
-returns c = answers_once
+returns c = λ turn os. answers_once_lem turn os

@@ -2,7 +2,7 @@ use Rattle.std.proofs.Common.{◌≡◌, ◌<◌, length, take, arith, length-ta
 use Rattle.std.proofs.lemmas.List.{take_more}
 use Rattle.pulsar_client.specs.Client.{chosen}
 use Rattle.pulsar_client.specs.Tables.{answered}
-use Rattle.pulsar_client.proofs.Runs.{history_more}
+use Rattle.pulsar_client.proofs.Steps.{history_more}
 use Rattle.pulsar_client.proofs.pulsar.Pulsar.drive.Goals as goal
 
 pub loop-event-preserved : goal.loop-event-preserved

@@ -1,5 +1,5 @@
 use Rattle.std.proofs.Common.{◌≡◌, length}
-use Rattle.pulsar_client.specs.declared.act.Awaited.{Awaited}
+use Rattle.pulsar_client.specs.declared.session.waiting.Awaited.{Awaited}
 use Rattle.pulsar_client.specs.Waiting.{Taken, numbers_of}
 use Rattle.pulsar_client.proofs.session.waiting.take_all.Given as goal
 

@@ -1,7 +1,13 @@
-use Rattle.pulsar_client.proofs.Runs.{treated_due}
+use Rattle.std.proofs.Common.{◌∙◌, ap, sym, refl}
+use Rattle.pulsar_run.proofs.Steps.{ended, treated}
+use Rattle.pulsar_client.specs.Run.{goes_on}
+use Rattle.pulsar_client.specs.Tables.{view_of}
 use Rattle.pulsar_client.proofs.tables.Tables.work.Goals as goal
 
 pub loop-preserved : goal.loop-preserved
-loop-preserved c = λ o e left h s.
-    treated_due (rw c.in-Some.ensures.items at (c.loop.invariant o e left h s))
-    c.in_ok-treat-in-Some.ensures.tables c.in_ok-treat-in-Some.ensures.due c.in_ok-treat-in-Some.ensures.out
+loop-preserved c = λ o e h s.
+    treated (c.loop.invariant o e h s) (sym c.in-Some.ensures.first) c.in_ok-treat-in-Some.ensures.out
+    (c.in_ok-treat-in-Some.ensures.left ∙ ap (goes_on (view_of c.loop.self) _) c.in-Some.ensures.rest) c.in_ok-treat-in-Some.ensures.sees
+
+pub returns-in-None : goal.returns-in-None
+returns-in-None c = λ o e h s. ended (c.loop.invariant o e h s) (sym c.in-None.ensures.first) refl

@@ -1,0 +1,38 @@
+-- Steps of a client's history. Nothing here knows what kinds of event, act and thing there are.
+use Rattle.std.proofs.Common.{◌≡◌, ℕ, ◌∙◌, sym, ap, List, [], ◌∷◌, ◌++◌, refl, arith, length, None, reverse, Bool, true, false, cond, map}
+use Rattle.std.proofs.lemmas.List.{reverse-append}
+use Rattle.std.specs.Global.{Vec}
+use Rattle.pulsar_run.specs.Run.{Begins, in_order, only}
+use Rattle.pulsar_client.specs.declared.act.Part.{Part}
+use Rattle.pulsar_client.specs.declared.effect.Effect.{Effect}
+use Rattle.pulsar_client.specs.declared.event.Event.{Event}
+use Rattle.pulsar_client.specs.declared.tables.Tables.{Tables}
+use Rattle.pulsar_client.specs.Content.{Heard, heard, shown}
+use Rattle.pulsar_client.specs.Effects.{effect_below}
+use Rattle.pulsar_client.specs.Rules.{brings}
+use Rattle.pulsar_client.specs.Run.{Step, first, steps}
+use Rattle.pulsar_client.specs.Tables.{Stands, answered, step, view_of}
+use Rattle.pulsar_client.specs.View.{Chosen, View, begun_live, is_live}
+
+answered_more : (es : List Event) (xs : List (Vec Effect)) (e : Event) (x : Vec Effect) → length xs ≡ length es →
+    answered (es ++ e ∷ []) (xs ++ x ∷ []) ≡ answered es xs ++ step e x.items ∷ []
+answered_more [] [] e x h = refl
+answered_more [] (y ∷ ys) e x h = absurd (omega (arith, h))
+answered_more (d ∷ es) [] e x h = absurd (omega (arith, h))
+answered_more (d ∷ es) (y ∷ ys) e x h = ap (λ t. step d y.items ∷ t) (answered_more es ys e x (omega (arith, h)))
+
+pub history_more : (es : List Event) (xs : List (Vec Effect)) (e : Event) (x : Vec Effect) → length xs ≡ length es →
+    reverse (answered (es ++ e ∷ []) (xs ++ x ∷ [])) ≡ step e x.items ∷ reverse (answered es xs)
+history_more es xs e x h = rw (answered_more es xs e x h) (simp reverse-append)
+
+-- an event that isn't live changes nothing, and nothing is left to do
+pub dead_step : {o : Chosen} (c : Tables) {h : List Step} (e : Heard) → is_live (view_of c) e ≡ false → Stands o c h → Stands o c (record { event = e; effects = [] } ∷ h)
+dead_step {o} c {h} e dead s =
+    let dead_there = ap (λ v. is_live v e) (sym s.sees) ∙ dead in
+    record {
+      log = Begins e ∷ s.log;
+      run = (s.run, s.rests);
+      rests = ap (λ b. first (only (cond b (brings _ e) []))) dead_there;
+      same = ap (λ x. record { event = e; effects = [] } ∷ x) s.same;
+      sees = s.sees ∙ sym (ap (λ b. cond b (begun_live e _) _) dead_there);
+    }

@@ -1,5 +1,0 @@
-use Rattle.pulsar_client.proofs.Polls.{polls_follow}
-use Rattle.pulsar_client.proofs.laws.polls_follow.Goals as goal
-
-pub returns : goal.returns
-returns c = polls_follow

@@ -1,0 +1,27 @@
+use Rattle.std.proofs.Common.{rules, ◌≡◌, [], ◌∙◌, false, Some, None, ◌==◌, ap, refl}
+use Rattle.pulsar_wire.specs.Views.{body_values}
+use Rattle.pulsar_wire.specs.Command.{BodyValues, body_name}
+use Rattle.pulsar_wire.specs.declared.commands.base.Body.{Body}
+use Rattle.pulsar_wire.specs.declared.commands.base.Body.TheVariants.{Error}
+use Rattle.pulsar_wire.specs.declared.commands.connection.CommandError.{CommandError}
+use Rattle.pulsar_client.specs.Failures.{UnexpectedResponse, fault}
+use Rattle.pulsar_client.specs.Messages.{read_body, written}
+use Rattle.pulsar_client.specs.Plan.{refused}
+use Rattle.pulsar_client.proofs.plans.answers.refused.Goals as goal
+
+unexpected : (b : BodyValues) → (b.number == 14) ≡ false → UnexpectedResponse (body_name b.number) ≡ refused (read_body None [] (Some b)) (Some (written b))
+unexpected b error = rw error refl
+
+not-error : (b : Body) → ((x : CommandError) → b ≡ Error x → ⊥) → ((body_values b).number == 14) ≡ false
+not-error (Error x) h = absurd (h x refl)
+not-error _ h = refl
+
+pub returns-in-Error : goal.returns-in-Error
+returns-in-Error c = rw c.in-Error.is c.told_error.ensures
+
+pub returns-in_ok-unexpected-in_default : goal.returns-in_ok-unexpected-in_default
+returns-in_ok-unexpected-in_default c =
+    let error = not-error c.args.body c.in_default.not-Error in
+    let name : c.name.result.now ≡ body_name (body_values c.args.body).number = search rules in
+    let told : fault c.in_ok-unexpected-in_default.field-0 ≡ UnexpectedResponse c.name.result.now = search rules in
+    told ∙ ap UnexpectedResponse name ∙ unexpected (body_values c.args.body) error

@@ -1,0 +1,107 @@
+-- The effects of an act, and the order of those of a step.
+use Rattle.std.specs.Prelude.{ℕ, ◌==◌, nat_lt, Bool, true, false, if◌then◌else◌, List, [], ◌∷◌, ◌++◌, map, Option, Some, None}
+use Rattle.std.specs.Option.{option_map, option_to_list}
+use Rattle.pulsar_client.specs.declared.act.Act.{Act}
+use Rattle.pulsar_client.specs.declared.act.Act.TheVariants.{Comes, Does, Answers, Dials}
+use Rattle.pulsar_client.specs.declared.act.Action.TheVariants.{Ask}
+use Rattle.pulsar_client.specs.declared.act.LinkAct.{LinkAct}
+use Rattle.pulsar_client.specs.declared.act.Part.TheVariants.{ToLink, Polls}
+use Rattle.pulsar_client.specs.declared.act.Who.{Who}
+use Rattle.pulsar_client.specs.declared.act.Who.TheVariants.{Call}
+use Rattle.pulsar_client.specs.declared.effect.Settlement.{Settlement}
+use Rattle.pulsar_client.specs.declared.effect.Settlement.TheVariants as settlement
+use Rattle.pulsar_client.specs.declared.session.given.Change.{Change}
+use Rattle.pulsar_client.specs.declared.session.given.Change.TheVariants.{Remains, Opened, Readied, Ended}
+use Rattle.pulsar_client.specs.declared.session.given.End.{End}
+use Rattle.pulsar_client.specs.declared.session.given.End.TheVariants.{Failed, Lost, Refused}
+use Rattle.pulsar_client.specs.declared.session.given.Settled.{Settled}
+use Rattle.pulsar_client.specs.declared.session.given.Settled.TheVariants as settled
+use Rattle.pulsar_client.specs.declared.session.given.Word.{Word}
+use Rattle.pulsar_client.specs.Address.{Address}
+use Rattle.pulsar_client.specs.Content.{Said, Shown, Connect, Queued, Write, Settles, Ends, Close, Hands, Faults, FindsNothing, FindsEnd}
+use Rattle.pulsar_client.specs.Link.{Frame, Given, frame_asked, gives}
+use Rattle.pulsar_client.specs.Request.{Request}
+use Rattle.pulsar_client.specs.Subscriptions.{polled}
+use Rattle.pulsar_client.specs.View.{Seat, View}
+
+-- LINKS
+
+abbrev pub write : ℕ → List ℕ → Shown
+write l bytes = Write l bytes
+
+abbrev pub settlement_of : Settled → Settlement
+settlement_of (settled.Reply m) = settlement.Reply
+settlement_of settled.Disconnected = settlement.Disconnected
+
+abbrev pub settles : ℕ → Word → Shown
+settles l w = Settles l w.place (settlement_of w.settled)
+
+abbrev pub queues : ℕ → Frame → Shown
+queues l frame = Queued l frame.place frame.bytes
+
+-- the client closes a link that it ends by itself
+abbrev pub is_closed : End → Bool
+is_closed (Failed kind) = false
+is_closed Lost = false
+is_closed Refused = true
+
+abbrev pub closes : ℕ → Change → List Shown
+closes l Remains = []
+closes l Opened = []
+closes l Readied = []
+closes l (Ended end) = if is_closed end then Close l ∷ [] else []
+
+-- what is shown of all that a link gives
+abbrev pub given : ℕ → Given → List Shown
+given l g =
+    option_to_list (option_map (write l) g.piece) ++ (map (settles l) g.words ++ (option_to_list (option_map (queues l) g.frame) ++ closes l g.change))
+
+abbrev pub given_at : ℕ → LinkAct → Option Seat → List Shown
+given_at l x None = []
+given_at l x (Some seat) = given l (gives x seat.seen)
+
+abbrev pub asked_at : ℕ → (now : ℕ) → Request → Option Seat → List Shown
+asked_at l now request None = []
+asked_at l now request (Some seat) = option_to_list (option_map (queues l) (frame_asked now request seat.seen))
+
+-- CALLS, THE ADDRESS AND CONSUMERS
+
+abbrev pub ends : Who → Said → List Shown
+ends (Call ticket) said = Ends ticket said ∷ []
+
+-- an attempt asks for a connection to the address
+abbrev pub connects : ℕ → Option Address → List Shown
+connects l None = []
+connects l (Some address) = Connect l address.host address.port ∷ []
+
+-- ALL
+
+abbrev pub effects : View → Act → List Shown
+effects v (Comes (ToLink l x)) = given_at l x (v.links.live l)
+effects v (Comes (Polls ticket)) = option_to_list (option_map (polled ticket) (v.consumers ticket))
+effects v (Does who (Ask l request)) = asked_at l v.now request (v.links.live l)
+effects v (Answers who verdict) = ends who verdict.said
+effects v (Dials starter) = connects v.links.started v.chosen.address
+effects v _ = []
+
+-- THEIR ORDER
+
+-- their kind, then their link or ticket, then their place
+abbrev pub effect_rank : Shown → ℕ × ℕ × ℕ
+effect_rank (Write l bytes) = (0, l, 0)
+effect_rank (Settles l place outcome) = (1, l, place)
+effect_rank (Ends ticket answer) = (2, ticket, 0)
+effect_rank (Connect l host port) = (3, l, 0)
+effect_rank (Queued l place bytes) = (4, l, place)
+effect_rank (Close l) = (5, l, 0)
+effect_rank (Hands ticket topic id metadata payload) = (0, ticket, 0)
+effect_rank (Faults ticket fault) = (0, ticket, 0)
+effect_rank (FindsNothing ticket) = (0, ticket, 0)
+effect_rank (FindsEnd ticket) = (0, ticket, 0)
+
+abbrev pub is_before3 : ℕ × ℕ × ℕ → ℕ × ℕ × ℕ → Bool
+is_before3 a b =
+    if a.0 == b.0 then (if a.1 == b.1 then nat_lt a.2 b.2 else nat_lt a.1 b.1) else nat_lt a.0 b.0
+
+abbrev pub effect_below : Shown → Shown → Bool
+effect_below a b = is_before3 (effect_rank a) (effect_rank b)

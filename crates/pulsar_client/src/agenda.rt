@@ -1,0 +1,111 @@
+//! What is left to do in a step.
+
+ghost use Rattle.std.specs.Prelude.{◌≡◌, ◌++◌, ◌∷◌, [], map, IfOk, OnOk};
+ghost use Rattle.pulsar_run.specs.Order.{arranged};
+ghost use Rattle.pulsar_run.specs.Run.{only};
+ghost use Rattle.pulsar_client.specs.Rules.{below, opens};
+ghost use Rattle.pulsar_client.specs.Run.{first, first_of, rest, rest_of};
+ghost use Rattle.pulsar_client.specs.Tables.{agenda_of};
+
+use crate::act::{Act, Notice, Part};
+use crate::who::rank;
+use pulsar_wire::error::NoMemory;
+use std::alloc::Global;
+use std::collections::VecDeque;
+
+/// What arose at once, whom the present cause still serves, the causes that wait, and the parts that the event still brings.
+#[derive(Drop)]
+pub struct Tasks {
+    pub alloc: Global,
+    pub now: VecDeque<Act>,
+    pub here: VecDeque<Notice>,
+    pub behind: VecDeque<VecDeque<Notice>>,
+    pub parts: VecDeque<Part>,
+}
+
+impl Tasks {
+    pub fn new(alloc: Global, parts: VecDeque<Part>) -> Tasks
+        ensures { agenda_of result ≡ only parts.items }
+    {
+        Tasks {
+            alloc,
+            now: VecDeque::new(alloc),
+            here: VecDeque::new(alloc),
+            behind: VecDeque::new(alloc),
+            parts,
+        }
+    }
+
+    /// Takes what is first.
+    pub fn next(&mut self) -> Option<Act>
+        ensures first { result ≡ first (agenda_of self.old) }
+        ensures rest { agenda_of self.new ≡ rest (agenda_of self.old) }
+    {
+        if let Some(act) = self.now.pop_front() {
+            return Some(act);
+        }
+        self.turn_to_next();
+        match self.here.pop_front() {
+            Some(notice) => Some(Act::Told(notice)),
+            None => match self.parts.pop_front() {
+                Some(part) => Some(Act::Comes(part)),
+                None => None,
+            },
+        }
+    }
+
+    /// The next cause that serves one is the present one.
+    fn turn_to_next(&mut self)
+        ensures now { self.new.now ≡ self.old.now }
+        ensures parts { self.new.parts ≡ self.old.parts }
+        ensures first { first_of [] self.new.here.items (map (λ c. c.items) self.new.behind.items) self.new.parts.items ≡ first_of [] self.old.here.items (map (λ c. c.items) self.old.behind.items) self.old.parts.items }
+        ensures rest { rest_of [] self.new.here.items (map (λ c. c.items) self.new.behind.items) self.new.parts.items ≡ rest_of [] self.old.here.items (map (λ c. c.items) self.old.behind.items) self.old.parts.items }
+        ensures none { self.new.here.items ≡ [] → self.new.behind.items ≡ [] }
+    {
+        while self.here.is_empty() {
+            match self.behind.pop_front() {
+                Some(cause) => self.here = cause,
+                None => return,
+            }
+        }
+    }
+
+    /// This is done before all else.
+    pub fn put(&mut self, act: Act) -> Result<(), NoMemory>
+        ensures { OnOk result (agenda_of self.new ≡ record (agenda_of self.old) { now = act ∷ self.old.now.items }) }
+    {
+        self.now.push_front(act)?;
+        Ok(())
+    }
+
+    /// All whom an act serves are one cause, if there are any.
+    pub fn open(&mut self, notices: Vec<Notice>) -> Result<(), NoMemory>
+        ensures { OnOk result (agenda_of self.new ≡ record (agenda_of self.old) { behind = (agenda_of self.old).behind ++ map (arranged below) (opens notices.items) }) }
+    {
+        if notices.is_empty() {
+            return Ok(());
+        }
+        let cause = ranked(self.alloc, notices)?;
+        self.behind.push_back(cause)?;
+        Ok(())
+    }
+}
+
+/// Those whom a cause serves, by rank.
+fn ranked(alloc: Global, mut notices: Vec<Notice>) -> Result<VecDeque<Notice>, NoMemory>
+    ensures { IfOk result (λ cause. cause.items ≡ arranged below notices.items) }
+{
+    sort(&mut notices)?;
+    let mut cause = VecDeque::new(alloc);
+    for notice in notices {
+        cause.push_back(notice)?;
+    }
+    Ok(cause)
+}
+
+fn sort(notices: &mut Vec<Notice>) -> Result<(), NoMemory>
+    ensures { OnOk result (notices.new.items ≡ arranged below notices.old.items) }
+{
+    notices.sort_by_key(|n| rank(n.who))?;
+    Ok(())
+}

@@ -1,0 +1,22 @@
+//! The order of those that have plans.
+
+ghost use Rattle.std.specs.Prelude.{◌≡◌};
+ghost use Rattle.pulsar_client.specs.Who.{is_same, rank};
+
+use crate::act::Who;
+
+/// Their kind, and their number.
+pub fn rank(who: Who) -> (u64, u64)
+    ensures { result ≡ rank who }
+{
+    match who {
+        Who::Call(ticket) => (0, ticket),
+    }
+}
+
+pub fn is_same(a: Who, b: Who) -> bool
+    ensures { result ≡ is_same a b }
+{
+    let (x, y) = (rank(a), rank(b));
+    x.0 == y.0 && x.1 == y.1
+}

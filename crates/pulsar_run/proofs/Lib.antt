@@ -1,0 +1,5 @@
+pub mod Orders
+pub mod Unique
+pub mod Effects
+pub mod Steps
+pub mod Arising

@@ -1,0 +1,4 @@
+pub mod Order
+pub mod Run
+pub mod Standing
+pub mod Laws

@@ -1,0 +1,133 @@
+-- A good run, over any rules.
+use Rattle.std.specs.Prelude.{◌≡◌, Bool, List, [], ◌∷◌, ◌++◌, Option, Some, None, drop, map}
+use Rattle.pulsar_run.specs.Order.{put_all, arranged}
+
+-- The rules of a run. An event is heard: it sets what is seen, and it brings parts, one after the other. An act changes what is
+-- seen, and has effects. What arises from it comes at once, or is told to some: to those who join them whom the present cause
+-- still serves, and to those whom each cause of its own serves.
+--     O options, H events, V what is seen, A acts, N notices to those who are served, P parts of events, E effects
+pub record Rules (O H V A N P E : Type 0) : Type 0 where
+  -- what is seen at first, as an event begins, and after an act
+  pub new : O → V
+  pub begun : H → V → V
+  pub after : A → V → V
+  -- what an event brings, from what is seen before it
+  pub parts : V → H → List P
+  -- what arises from an act, and its effects, from what is seen before it
+  pub at_once : V → A → List A
+  pub joins : V → A → List N
+  pub causes : V → A → List (List N)
+  pub effects : V → A → List E
+  -- the act of a notice, and that of a part
+  pub told : N → A
+  pub comes : P → A
+  -- the order in which a cause serves, and that of the effects of a step
+  pub below : N → N → Bool
+  pub effect_below : E → E → Bool
+
+-- the log of a run, newest entry first: the events, and the acts between them
+pub data Entry (H A : Type 0) : Type 0 where
+  Begins : H → Entry H A
+  Then : A → Entry H A
+
+-- what is seen after a log
+abbrev pub view : {O H V A N P E : Type 0} → Rules O H V A N P E → O → List (Entry H A) → V
+view r o [] = r.new o
+view r o (Begins e ∷ log) = r.begun e (view r o log)
+view r o (Then a ∷ log) = r.after a (view r o log)
+
+-- WHAT IS LEFT TO DO
+
+-- What arose at once, first; then those whom the present cause still serves; then the causes that wait; then the parts that the
+-- event still brings.
+pub record Agenda (A N P : Type 0) : Type 0 where
+  pub now : List A
+  pub here : List N
+  pub behind : List (List N)
+  pub parts : List P
+
+-- as an event begins
+abbrev pub only : {A N P : Type 0} → List P → Agenda A N P
+only parts = record { now = []; here = []; behind = []; parts = parts }
+
+abbrev pub first_of : {O H V A N P E : Type 0} → Rules O H V A N P E → List A → List N → List (List N) → List P → Option A
+first_of r (a ∷ now) here behind parts = Some a
+first_of r [] (n ∷ here) behind parts = Some (r.told n)
+first_of r [] [] (cause ∷ behind) parts = first_of r [] cause behind parts
+first_of r [] [] [] (part ∷ parts) = Some (r.comes part)
+first_of r [] [] [] [] = None
+
+abbrev pub rest_of : {A N P : Type 0} → List A → List N → List (List N) → List P → Agenda A N P
+rest_of (a ∷ now) here behind parts = record { now = now; here = here; behind = behind; parts = parts }
+rest_of [] (n ∷ here) behind parts = record { now = []; here = here; behind = behind; parts = parts }
+rest_of [] [] (cause ∷ behind) parts = rest_of [] cause behind parts
+rest_of [] [] [] parts = only (drop 1 parts)
+
+-- the act that is first, and what is left behind it
+abbrev pub first : {O H V A N P E : Type 0} → Rules O H V A N P E → Agenda A N P → Option A
+first r g = first_of r g.now g.here g.behind g.parts
+
+abbrev pub rest : {A N P : Type 0} → Agenda A N P → Agenda A N P
+rest g = rest_of g.now g.here g.behind g.parts
+
+-- what arises from an act takes its place: a cause of its own stands behind those that wait
+abbrev pub goes_on : {O H V A N P E : Type 0} → Rules O H V A N P E → V → A → Agenda A N P → Agenda A N P
+goes_on r v a g =
+    record {
+      now = r.at_once v a ++ g.now;
+      here = put_all r.below (r.joins v a) g.here;
+      behind = g.behind ++ map (arranged r.below) (r.causes v a);
+      parts = g.parts;
+    }
+
+-- what is left to do after a log
+abbrev pub agenda : {O H V A N P E : Type 0} → Rules O H V A N P E → O → List (Entry H A) → Agenda A N P
+agenda r o [] = only []
+agenda r o (Begins e ∷ log) = only (r.parts (view r o log) e)
+agenda r o (Then a ∷ log) = goes_on r (view r o log) a (rest (agenda r o log))
+
+-- each act is the first that is left to do, and an event begins where nothing is left
+abbrev pub IsRun : {O H V A N P E : Type 0} → Rules O H V A N P E → O → List (Entry H A) → Type 0
+IsRun r o [] = Unit {0}
+IsRun r o (Begins e ∷ log) = IsRun r o log × (first r (agenda r o log) ≡ None)
+IsRun r o (Then a ∷ log) = IsRun r o log × (first r (agenda r o log) ≡ Some a)
+
+-- nothing is left to do: so it is wherever a step has ended
+abbrev pub Rests : {O H V A N P E : Type 0} → Rules O H V A N P E → O → List (Entry H A) → Type 0
+Rests r o log = first r (agenda r o log) ≡ None
+
+-- HISTORIES
+
+-- an event with its effects
+pub record Step (H E : Type 0) : Type 0 where
+  pub event : H
+  pub effects : List E
+
+-- further effects in the newest step
+abbrev pub with_effects : {H E : Type 0} → List E → List (Step H E) → List (Step H E)
+with_effects xs [] = []
+with_effects xs (s ∷ steps) = record { event = s.event; effects = s.effects ++ xs } ∷ steps
+
+-- the steps of a log, newest first: each event with the effects of the acts up to the next, in the order of these acts
+abbrev pub steps_done : {O H V A N P E : Type 0} → Rules O H V A N P E → O → List (Entry H A) → List (Step H E)
+steps_done r o [] = []
+steps_done r o (Begins e ∷ log) = record { event = e; effects = [] } ∷ steps_done r o log
+steps_done r o (Then a ∷ log) = with_effects (r.effects (view r o log) a) (steps_done r o log)
+
+-- the same, with the effects of each step in their order
+abbrev pub in_order : {H E : Type 0} → (E → E → Bool) → Step H E → Step H E
+in_order below s = record { event = s.event; effects = arranged below s.effects }
+
+abbrev pub steps : {O H V A N P E : Type 0} → Rules O H V A N P E → O → List (Entry H A) → List (Step H E)
+steps r o log = map (in_order r.effect_below) (steps_done r o log)
+
+-- a history, newest step first, is good where it is that of a run in which nothing is left to do
+pub record Good {O H V A N P E : Type 0} (r : Rules O H V A N P E) (o : O) (history : List (Step H E)) : Type 0 where
+  pub log : List (Entry H A)
+  pub run : IsRun r o log
+  pub rests : Rests r o log
+  pub same : history ≡ steps r o log
+
+-- its events
+abbrev pub events : {H E : Type 0} → List (Step H E) → List H
+events h = map (λ s. s.event) h

@@ -13,3 +13,6 @@ pub mod Caused
 pub mod Alone
 pub mod Sorting
 pub mod Writing
+pub mod SettledFirst
+pub mod Made
+pub mod Cuts

@@ -15,4 +15,3 @@ pub mod Sorting
 pub mod Writing
 pub mod SettledFirst
 pub mod Made
-pub mod Cuts

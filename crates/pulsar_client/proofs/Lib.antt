@@ -15,3 +15,5 @@ pub mod Sorting
 pub mod Writing
 pub mod SettledFirst
 pub mod Made
+pub mod Cuts
+pub mod Written

@@ -17,3 +17,5 @@ pub mod SettledFirst
 pub mod Made
 pub mod Cuts
 pub mod Written
+pub mod Once
+pub mod Failures

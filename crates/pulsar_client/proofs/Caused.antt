@@ -1,6 +1,5 @@
 -- Whatever one is told has its cause before, in the same step.
 use Rattle.std.proofs.Common.{◌≡◌, ◌⊎◌, inl, inr, ◌∙◌, sym, ap, subst, ℕ, List, [], ◌∷◌, ◌++◌, refl, map, Bool, true, false, cond, Option, Some, None, ◌==◌}
-use Rattle.std.proofs.lemmas.Bool.{cases_Bool}
 use Rattle.std.specs.List.{filter_map}
 use Rattle.pulsar_run.specs.Laws.{Arises, In, InOne, InThisStep}
 use Rattle.pulsar_run.proofs.Arising.{acts_arise_lem}
@@ -31,15 +30,15 @@ use Rattle.pulsar_client.specs.declared.session.given.Settled.{Settled}
 use Rattle.pulsar_client.specs.declared.session.given.Settled.TheVariants as settled
 use Rattle.pulsar_client.specs.declared.session.given.Word.{Word}
 use Rattle.pulsar_client.specs.Address.{Address}
-use Rattle.pulsar_client.specs.Content.{Asked, Heard}
+use Rattle.pulsar_client.specs.Content.{Asked}
 use Rattle.pulsar_client.specs.Failures.{Exhausted}
 use Rattle.pulsar_client.specs.Laws.{Cause, OutcomesAreCaused}
 use Rattle.pulsar_client.specs.Link.{spent, words}
 use Rattle.pulsar_client.specs.Plan.{begins, fails}
 use Rattle.pulsar_client.specs.Request.{Request}
 use Rattle.pulsar_client.specs.Rules.{at_once, called, caused, causes, does, failed, failed_at, follows, follows_some, gets, heard_at, heard_by, kind_of, notice, opens, parts, procedure_for, served, settled_as, told_at}
-use Rattle.pulsar_client.specs.Run.{Entry, Begins, Then, IsRun, rules, view}
-use Rattle.pulsar_client.specs.View.{Base, Chosen, Seat, View, admitted_at, begun_live, is_live, told_some, turned}
+use Rattle.pulsar_client.specs.Run.{Entry, Begins, Then, rules, view}
+use Rattle.pulsar_client.specs.View.{Chosen, Seat, admitted_at, begun_live, is_live, told_some, turned}
 use Rattle.pulsar_client.specs.Who.{is_same}
 
 step_map : (P Q : Entry → List Entry → Type 0) → ((e : Entry) (older : List Entry) → P e older → Q e older) → (log : List Entry) → InThisStep P log → InThisStep Q log

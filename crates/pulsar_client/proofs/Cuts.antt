@@ -26,14 +26,14 @@ use Rattle.pulsar_client.specs.declared.session.link.Stage.{Stage}
 use Rattle.pulsar_client.specs.declared.session.link.Stage.TheVariants.{Dialing, Handshaking, Ready, Over}
 use Rattle.pulsar_client.specs.Content.{Heard, Called, Opened, FailedToOpen, Bytes, Lost, Drain, Poll}
 use Rattle.pulsar_client.specs.Laws.{FramesAreCut, came, stream}
-use Rattle.pulsar_client.specs.Link.{Seen, after as link_after, arrivals, at_arrival, change, dialed, fed, is_dialing, is_open, is_over, kept, stage_after}
+use Rattle.pulsar_client.specs.Link.{Seen, arrivals, at_arrival, change, dialed, fed, is_dialing, is_open, is_over, kept, stage_after}
 use Rattle.pulsar_client.specs.Messages.{read}
 use Rattle.pulsar_client.specs.Request.{Request}
 use Rattle.pulsar_client.specs.Rules.{brings, frames, parts, unread_of}
 use Rattle.pulsar_client.specs.Run.{Entry, Begins, Then, IsRun, agenda, first, rules, view}
-use Rattle.pulsar_client.specs.View.{Chosen, Seat, View, askers_told, begun_live, is_at, is_live, live_after, live_begun, seat_asked, seat_fed, took, took_some, unless_over}
+use Rattle.pulsar_client.specs.View.{Chosen, Seat, View, begun_live, is_at, is_live, live_begun, seat_asked, seat_fed, took_some, unless_over}
 use Rattle.pulsar_client.proofs.Alone.{kept_seen, no_some, some_is}
-use Rattle.pulsar_client.proofs.Made.{is_part, now_no_part, other_first, part_first}
+use Rattle.pulsar_client.proofs.Made.{now_no_part, other_first, part_first}
 
 -- STREAMS
 

@@ -1,6 +1,5 @@
 -- A call fails with what it was told.
-use Rattle.std.proofs.Common.{◌≡◌, ◌⊎◌, inl, inr, ◌∙◌, sym, ap, subst, ℕ, List, [], ◌∷◌, ◌++◌, refl, Bool, true, false, cond, Option, Some, None}
-use Rattle.std.proofs.lemmas.Bool.{cases_Bool}
+use Rattle.std.proofs.Common.{◌≡◌, inl, inr, ap, subst, ℕ, List, [], ◌∷◌, refl, Bool, true, false, cond, Some}
 use Rattle.pulsar_run.specs.Laws.{In}
 use Rattle.pulsar_client.specs.declared.act.Action.{Action}
 use Rattle.pulsar_client.specs.declared.act.Action.TheVariants.{Get, Ask, Rest}
@@ -11,15 +10,12 @@ use Rattle.pulsar_client.specs.declared.act.Outcome.TheVariants.{GotLink, Queued
 use Rattle.pulsar_client.specs.declared.act.Place.TheVariants.{Base, Link}
 use Rattle.pulsar_client.specs.declared.act.Procedure.{Procedure}
 use Rattle.pulsar_client.specs.declared.act.Procedure.TheVariants as procedure
-use Rattle.pulsar_client.specs.declared.act.Verdict.{Verdict}
-use Rattle.pulsar_client.specs.declared.plans.plan.Plan.{Plan}
 use Rattle.pulsar_client.specs.declared.plans.plan.Plan.TheVariants.{Building, Getting, Asking, Awaiting}
-use Rattle.pulsar_client.specs.declared.plans.plan.Turn.{Turn}
 use Rattle.pulsar_client.specs.declared.plans.plan.Turn.TheVariants.{Stays, Gives}
 use Rattle.pulsar_client.specs.declared.plans.plan.Wanted.{Wanted}
 use Rattle.pulsar_client.specs.Content.{Said, Done, Failed}
 use Rattle.pulsar_client.specs.Failures.{Failure, OfConnection, Shutdown}
-use Rattle.pulsar_client.specs.Laws.{Deed, Acted, Answered, FailsSo, IsRefused, IsTold, IsReplied, FailuresAreTold, acted, course, deeds, number_in, outcomes}
+use Rattle.pulsar_client.specs.Laws.{Deed, Acted, Answered, FailsSo, IsRefused, IsTold, IsReplied, FailuresAreTold, course, number_in, outcomes}
 use Rattle.pulsar_client.specs.Plan.{asks, begins, fails, fault_of, told, verdict, waits, wanted}
 use Rattle.pulsar_client.specs.Request.{Request, is_answered, request_number}
 use Rattle.pulsar_client.proofs.Follow.{plans_follow_lem}

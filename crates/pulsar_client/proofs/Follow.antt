@@ -1,5 +1,5 @@
 -- Plans follow their outcomes. Of kinds of part and action two lemmas know: `comes_plain` and `performs_plain`.
-use Rattle.std.proofs.Common.{◌≡◌, ℕ, ◌∙◌, sym, ap, subst, List, [], ◌∷◌, ◌++◌, refl, arith, drop, Bool, true, false, cond, Option, Some, None, ◌⊎◌, inl, inr, ◌==◌, ◌&&◌, append-nil, append_assoc}
+use Rattle.std.proofs.Common.{◌≡◌, ℕ, ◌∙◌, sym, ap, subst, List, [], ◌∷◌, ◌++◌, refl, arith, drop, Bool, true, false, cond, Option, Some, None, ◌⊎◌, inl, inr, ◌==◌, append-nil, append_assoc}
 use Rattle.std.proofs.lemmas.Bool.{cases_Bool, eqb-true}
 use Rattle.pulsar_run.specs.Run.{first_of, rest, rest_of}
 use Rattle.pulsar_client.specs.declared.act.Act.{Act}
@@ -9,7 +9,7 @@ use Rattle.pulsar_client.specs.declared.act.Action.TheVariants.{Get, Ask, Rest}
 use Rattle.pulsar_client.specs.declared.act.Notice.{Notice}
 use Rattle.pulsar_client.specs.declared.act.Outcome.{Outcome}
 use Rattle.pulsar_client.specs.declared.act.Part.{Part}
-use Rattle.pulsar_client.specs.declared.act.Part.TheVariants.{Calls, ToLink, Polls}
+use Rattle.pulsar_client.specs.declared.act.Part.TheVariants.{Calls}
 use Rattle.pulsar_client.specs.declared.act.Procedure.{Procedure}
 use Rattle.pulsar_client.specs.declared.act.Verdict.{Verdict}
 use Rattle.pulsar_client.specs.declared.act.Who.{Who}
@@ -22,7 +22,7 @@ use Rattle.pulsar_client.specs.declared.plans.plan.Turn.TheVariants.{Stays, Give
 use Rattle.pulsar_client.specs.Address.{Address}
 use Rattle.pulsar_client.specs.Content.{Asked, Heard}
 use Rattle.pulsar_client.specs.Failures.{Exhausted}
-use Rattle.pulsar_client.specs.Laws.{AnswersOnce, Deed, Acted, Answered, PlansFollow, acted, course, deed_of, deeds, outcomes, started, verdicts_in}
+use Rattle.pulsar_client.specs.Laws.{AnswersOnce, Deed, Answered, PlansFollow, acted, course, deed_of, deeds, outcomes, started, verdicts_in}
 use Rattle.pulsar_client.specs.Link.{spent}
 use Rattle.pulsar_client.specs.Plan.{begins, fails, told}
 use Rattle.pulsar_client.specs.Rules.{at_once, called, does, follows, follows_some, gets, performs, procedure_for}

@@ -1,7 +1,6 @@
 -- A part of a call or of a poll is alone in its event, and a call is made where the user asks for it.
 use Rattle.std.proofs.Common.{◌≡◌, ◌⊎◌, inl, inr, ◌∙◌, sym, ap, subst, ℕ, List, [], ◌∷◌, ◌++◌, refl, map, drop, Bool, true, false, cond, ◌==◌, Option, Some, None, append-nil}
 use Rattle.std.proofs.lemmas.Bool.{cases_Bool, eqb-true}
-use Rattle.std.specs.Option.{is_some}
 use Rattle.pulsar_run.specs.Run.{first_of, rest, rest_of}
 use Rattle.pulsar_client.specs.declared.act.Act.{Act}
 use Rattle.pulsar_client.specs.declared.act.Act.TheVariants.{Comes, Starts, Told, Does, Answers, Dials}
@@ -27,7 +26,7 @@ use Rattle.pulsar_client.specs.Failures.{Exhausted}
 use Rattle.pulsar_client.specs.Laws.{CallsAreMade, started}
 use Rattle.pulsar_client.specs.Link.{arrivals, spent}
 use Rattle.pulsar_client.specs.Plan.{begins, fails}
-use Rattle.pulsar_client.specs.Rules.{at_once, brings, called, does, follows, follows_some, frames, gets, parts, performs, procedure_for, unread_of}
+use Rattle.pulsar_client.specs.Rules.{at_once, brings, called, does, follows, follows_some, gets, parts, performs, procedure_for, unread_of}
 use Rattle.pulsar_client.specs.Run.{Entry, Begins, Then, IsRun, agenda, first, rules, view}
 use Rattle.pulsar_client.specs.View.{Chosen, View, begun, begun_live, is_live, told_some}
 use Rattle.pulsar_client.specs.Who.{is_same}

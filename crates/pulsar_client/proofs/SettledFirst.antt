@@ -8,16 +8,14 @@ use Rattle.std.proofs.lemmas.Bool.Decides.{nat_tests}
 use Rattle.pulsar_client.specs.declared.act.Arrival.TheVariants.{Message, Bad}
 use Rattle.pulsar_client.specs.declared.act.LinkAct.{LinkAct}
 use Rattle.pulsar_client.specs.declared.act.LinkAct.TheVariants.{Opens, Fails, Loses, Comes, Drains}
-use Rattle.pulsar_client.specs.declared.session.given.Admission.{Admission}
 use Rattle.pulsar_client.specs.declared.session.given.Admission.TheVariants as admission
-use Rattle.pulsar_client.specs.declared.session.given.Change.{Change}
 use Rattle.pulsar_client.specs.declared.session.given.Settled.{Settled}
 use Rattle.pulsar_client.specs.declared.session.given.Settled.TheVariants.{Reply, Disconnected}
 use Rattle.pulsar_client.specs.declared.session.given.Word.{Word}
 use Rattle.pulsar_client.specs.declared.session.waiting.Awaited.{Awaited}
 use Rattle.pulsar_frame.specs.Frame as frame
 use Rattle.pulsar_client.specs.Laws.{Borne, Fed, Took, WasAsked, SettledByFirst, after_borne, answers, ends, first_along, said_along, said_of, seen_after, words_of}
-use Rattle.pulsar_client.specs.Link.{Frame, Pending, Seen, admitted, after, after_ask, answered, change, count_after, disconnected, dropped, ends_wait, fed, frame_asked, greeting, is_ended, is_open, is_queued, kept, left_waiting, waits_for, words}
+use Rattle.pulsar_client.specs.Link.{Frame, Pending, Seen, admitted, after, after_ask, answered, change, count_after, disconnected, dropped, ends_wait, fed, frame_asked, greeting, is_ended, is_open, is_queued, left_waiting, waits_for, words}
 use Rattle.pulsar_client.specs.Messages as messages
 use Rattle.pulsar_client.specs.Request.{Request, awaited}
 

@@ -1,5 +1,5 @@
 -- The bytes that are written to a connection are the first of those that were queued there.
-use Rattle.std.proofs.Common.{◌≡◌, ◌⊎◌, inl, inr, ◌∙◌, sym, ap, subst, ℕ, ◌+◌, ◌<◌, List, [], ◌∷◌, ◌++◌, refl, arith, map, Bool, true, false, cond, Option, Some, None, ◌==◌, nat_lt, append_assoc, append-nil}
+use Rattle.std.proofs.Common.{◌≡◌, inl, inr, ◌∙◌, sym, ap, subst, ℕ, ◌+◌, ◌<◌, List, [], ◌∷◌, ◌++◌, refl, arith, map, Bool, true, false, cond, Option, Some, None, ◌==◌, nat_lt, append_assoc, append-nil}
 use Rattle.std.proofs.lemmas.Bool.{cases_Bool, eqb-true, eq-eqb}
 use Rattle.std.proofs.lemmas.Bool.Decides.{nat_tests}
 use Rattle.std.proofs.lemmas.Grind.{common_steps, flat_map-append}
@@ -18,19 +18,18 @@ use Rattle.pulsar_client.specs.declared.act.Who.{Who}
 use Rattle.pulsar_client.specs.declared.act.Who.TheVariants.{Call}
 use Rattle.pulsar_client.specs.declared.session.given.Change.{Change}
 use Rattle.pulsar_client.specs.declared.session.given.Change.TheVariants.{Remains, Opened as Turns, Readied, Ended}
-use Rattle.pulsar_client.specs.declared.session.given.End.{End}
 use Rattle.pulsar_client.specs.declared.session.given.End.TheVariants as end
 use Rattle.pulsar_client.specs.declared.session.given.Word.{Word}
 use Rattle.pulsar_client.specs.declared.session.link.Stage.{Stage}
 use Rattle.pulsar_client.specs.Address.{Address}
-use Rattle.pulsar_client.specs.Content.{Heard, Called, Opened, FailedToOpen, Bytes, Lost, Drain, Poll, Said, Shown, Connect, Queued, Write, Close, Settles, Ends, Hands, Faults, FindsNothing, FindsEnd}
+use Rattle.pulsar_client.specs.Content.{Heard, Called, Opened, FailedToOpen, Bytes, Lost, Drain, Poll, Said, Shown, Queued, Write}
 use Rattle.pulsar_client.specs.Effects.{asked_at, closes, connects, effect_below, effects, ends, given, given_at, is_before3, queues, settles, write}
 use Rattle.pulsar_client.specs.Items.{Item, Given as Handed, Faulty}
 use Rattle.pulsar_client.specs.Laws.{IsPrefix, WritesFollow, bytes_of as bytes_along, queued_on, written_on}
 use Rattle.pulsar_frame.specs.Frame as frame
-use Rattle.pulsar_client.specs.Link.{Frame, Given, Seen, admitted, after as link_after, change, count_after, dialed, fed, frame_asked, gives, greeting, is_open, is_opened, is_over, is_queued, kept, left_by, piece_of, stage_after, with_frame, written_by}
+use Rattle.pulsar_client.specs.Link.{Frame, Given, Seen, admitted, change, count_after, dialed, fed, frame_asked, gives, greeting, is_open, is_opened, is_over, is_queued, kept, left_by, piece_of, stage_after, with_frame, written_by}
 use Rattle.pulsar_client.specs.Request.{Request}
-use Rattle.pulsar_client.specs.Run.{Entry, Begins, Then, IsRun, Step, agenda, first, rules, steps, view}
+use Rattle.pulsar_client.specs.Run.{Entry, Begins, Then, IsRun, Step, rules, view}
 use Rattle.pulsar_client.specs.Subscriptions.{Subscription, polled, polled_from}
 use Rattle.pulsar_client.specs.View.{Chosen, Seat, View, begun_live, is_live, live_begun, seat_asked, seat_fed, took, took_some}
 use Rattle.pulsar_client.proofs.Alone.{kept_seen, no_some, some_is}

@@ -14,3 +14,6 @@ pub mod Alone
 pub mod Sorting
 pub mod Writing
 pub mod Traces
+pub mod Hearing
+pub mod Made
+pub mod Polls

@@ -16,13 +16,13 @@ use Rattle.pulsar_client.specs.Run.{Entry, Begins, Then, view}
 use Rattle.pulsar_client.specs.View.{Chosen, Seat, View, askers_told, begun_live, is_at, is_live, live_begun, seat_asked, seat_fed, took, took_some, unless_over}
 use Rattle.pulsar_client.proofs.Caused.{chosen_same}
 
-some_is : {A : Type 0} {x y : A} → Some x ≡ Some y → x ≡ y
+pub some_is : {A : Type 0} {x y : A} → Some x ≡ Some y → x ≡ y
 some_is {A} {x} {y} h = cc
 
-no_some : {A : Type 0} {x : A} → None ≡ Some x → ⊥
+pub no_some : {A : Type 0} {x : A} → None ≡ Some x → ⊥
 no_some {A} {x} h = cc
 
-kept_seen : (r seat : Seat) → unless_over r ≡ Some seat → r.seen ≡ seat.seen
+pub kept_seen : (r seat : Seat) → unless_over r ≡ Some seat → r.seen ≡ seat.seen
 kept_seen r seat h = split (is_over r.seen.stage) h
   where
     split : (b : Bool) → cond b None (Some r) ≡ Some seat → r.seen ≡ seat.seen

@@ -17,3 +17,6 @@ pub mod Traces
 pub mod Hearing
 pub mod Made
 pub mod Polls
+pub mod SettledFirst
+pub mod Cuts
+pub mod Written

@@ -15,15 +15,15 @@ use Rattle.pulsar_frame.specs.Frame as frame
 use Rattle.pulsar_client.specs.Link.{Frame, Seen, change, fed, frame_asked, greeting, is_open, is_over, is_ready, kept, left_by, stage_after, with_frame, written_by}
 use Rattle.pulsar_client.specs.Request.{Request}
 
-abbrev bytes_of : Option Frame → List (List ℕ)
+abbrev pub bytes_of : Option Frame → List (List ℕ)
 bytes_of f = option_to_list (option_map (λ (x : Frame). x.bytes) f)
 
-with_is : (f : Option Frame) (frames : List (List ℕ)) → with_frame f frames ≡ frames ++ bytes_of f
+pub with_is : (f : Option Frame) (frames : List (List ℕ)) → with_frame f frames ≡ frames ++ bytes_of f
 with_is None frames = sym (append-nil frames)
 with_is (Some f) frames = refl
 
 -- a drain cuts what is left in two
-cut_is : (x : LinkAct) (s : Stage) (frames : List (List ℕ)) → written_by x s frames ++ left_by x s frames ≡ frames
+pub cut_is : (x : LinkAct) (s : Stage) (frames : List (List ℕ)) → written_by x s frames ++ left_by x s frames ≡ frames
 cut_is (Drains most) s frames =
     elim (is_open s) as (λ b. cond b (take most frames) [] ++ cond b (drop most frames) frames ≡ frames) [ true ↦ take-append-drop most frames | false ↦ refl ]
 cut_is Opens s frames = refl

@@ -22,13 +22,14 @@ use Rattle.pulsar_client.specs.declared.plans.plan.Turn.TheVariants.{Stays, Give
 use Rattle.pulsar_client.specs.Address.{Address}
 use Rattle.pulsar_client.specs.Content.{Asked, Heard}
 use Rattle.pulsar_client.specs.Failures.{Exhausted}
-use Rattle.pulsar_client.specs.Laws.{AnswersOnce, Deed, Acted, Answered, IsTicketed, PlansFollow, acted, course, deed_of, deeds, outcomes, started, verdicts_in}
+use Rattle.pulsar_client.specs.Laws.{AnswersOnce, Deed, Acted, Answered, PlansFollow, acted, course, deed_of, deeds, outcomes, started, verdicts_in}
 use Rattle.pulsar_client.specs.Link.{spent}
 use Rattle.pulsar_client.specs.Plan.{begins, fails, told}
 use Rattle.pulsar_client.specs.Rules.{at_once, called, does, follows, follows_some, gets, performs, procedure_for}
 use Rattle.pulsar_client.specs.Run.{Entry, Begins, Then, IsRun, Agenda, agenda, first, rules, view}
 use Rattle.pulsar_client.specs.View.{Chosen, View, begun, begun_live, is_live, stays, stays_some, told_some}
 use Rattle.pulsar_client.specs.Who.{is_same, rank}
+use Rattle.pulsar_client.proofs.Made.{IsTicketed, ticketed}
 
 -- WHO
 
@@ -325,8 +326,9 @@ follows_run o (Then (Answers w a) ∷ log) r = simple_on o log (Answers w a) (fo
 follows_run o (Then (Dials w) ∷ log) r = simple_on o log (Dials w) (follows_run o log r.0) r.1 tt (λ u t. refl) (λ u. refl) (λ u. refl) (λ u. refl) (λ u. refl)
 
 pub plans_follow_lem : PlansFollow
-plans_follow_lem o log w p t r rests h =
+plans_follow_lem o log w p r rests h =
     let k : Follows o log = follows_run o log r in
+    let t : IsTicketed w = ticketed o log w p r h in
     sym (append-nil (deeds w log)) ∙ ap (λ ds. deeds w log ++ ds) (sym (ap (due_deeds w) (none (agenda o log).now (agenda o log).here (agenda o log).behind (agenda o log).parts rests))) ∙ k.each w p t h
   where
     none : (now : List Act) (here : List Notice) (behind : List (List Notice)) (parts : List Part) → first_of rules now here behind parts ≡ None → now ≡ []

@@ -20,3 +20,5 @@ pub mod Polls
 pub mod SettledFirst
 pub mod Cuts
 pub mod Written
+pub mod Once
+pub mod Failures

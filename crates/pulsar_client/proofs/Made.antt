@@ -1,6 +1,6 @@
 -- A part of a call or of a poll is alone in its event, and a call is made where the user asks for it.
 use Rattle.std.proofs.Common.{◌≡◌, ◌⊎◌, inl, inr, ◌∙◌, sym, ap, subst, ℕ, List, [], ◌∷◌, ◌++◌, refl, map, drop, Bool, true, false, cond, ◌==◌, Option, Some, None, append-nil}
-use Rattle.std.proofs.lemmas.Bool.{cases_Bool}
+use Rattle.std.proofs.lemmas.Bool.{cases_Bool, eqb-true}
 use Rattle.std.specs.Option.{is_some}
 use Rattle.pulsar_run.specs.Run.{first_of, rest, rest_of}
 use Rattle.pulsar_client.specs.declared.act.Act.{Act}
@@ -24,12 +24,13 @@ use Rattle.pulsar_client.specs.declared.plans.plan.Turn.TheVariants.{Stays, Give
 use Rattle.pulsar_client.specs.Address.{Address}
 use Rattle.pulsar_client.specs.Content.{Asked, Heard, Called, Opened, FailedToOpen, Bytes, Lost, Drain, Poll}
 use Rattle.pulsar_client.specs.Failures.{Exhausted}
-use Rattle.pulsar_client.specs.Laws.{CallsAreMade}
+use Rattle.pulsar_client.specs.Laws.{CallsAreMade, started}
 use Rattle.pulsar_client.specs.Link.{arrivals, spent}
 use Rattle.pulsar_client.specs.Plan.{begins, fails}
 use Rattle.pulsar_client.specs.Rules.{at_once, brings, called, does, follows, follows_some, frames, gets, parts, performs, procedure_for, unread_of}
 use Rattle.pulsar_client.specs.Run.{Entry, Begins, Then, IsRun, agenda, first, rules, view}
 use Rattle.pulsar_client.specs.View.{Chosen, View, begun, begun_live, is_live, told_some}
+use Rattle.pulsar_client.specs.Who.{is_same}
 
 -- WHAT ARISES AT ONCE IS NO PART
 
@@ -380,3 +381,27 @@ calls_are_made_lem o log t p run =
     let m = is_made o log (Call t) p run in
     let e : t ≡ (view o m.older).calls.drawn = (let f = m.ticket in cc) in
     (m.asked, m.older, m.is_there, e, m.procedure)
+
+-- THE GREATEST TICKET
+
+-- it is the ticket of all calls for which none is left, and begins no call
+abbrev pub IsTicketed : Who → Type 0
+IsTicketed w = is_same w (Call spent) ≡ false
+
+ticket_below : (w who : Who) (n : ℕ) → who ≡ Call n → (n == spent) ≡ false → is_same w who ≡ true → IsTicketed w
+ticket_below (Call t) who n e low h =
+    let same : (t == n) ≡ true = subst (λ u. is_same (Call t) u ≡ true) e h in
+    ap (λ k. k == spent) (eqb-true t n same) ∙ low
+
+pub ticketed : (o : Chosen) (log : List Entry) (w : Who) (p : Procedure) → IsRun o log → started w log ≡ Some p → IsTicketed w
+ticketed o [] w p run h = absurd cc
+ticketed o (Begins e ∷ log) w p run h = ticketed o log w p run.0 h
+ticketed o (Then (Starts who q) ∷ log) w p run h = elim (cases_Bool (is_same w who)) [
+  | inl e ↦ (let m = is_made o log who q run in ticket_below w who (view o m.older).calls.drawn m.ticket m.below_spent e)
+  | inr e ↦ ticketed o log w p run.0 (rw e at h)
+]
+ticketed o (Then (Comes part) ∷ log) w p run h = ticketed o log w p run.0 h
+ticketed o (Then (Told n) ∷ log) w p run h = ticketed o log w p run.0 h
+ticketed o (Then (Does who action) ∷ log) w p run h = ticketed o log w p run.0 h
+ticketed o (Then (Answers who verdict) ∷ log) w p run h = ticketed o log w p run.0 h
+ticketed o (Then (Dials starter) ∷ log) w p run h = ticketed o log w p run.0 h

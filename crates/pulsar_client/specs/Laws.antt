@@ -114,15 +114,11 @@ course (Gives verdict) os = Answered verdict ∷ []
 course (Stays plan action) [] = acted action
 course (Stays plan action) (o ∷ os) = acted action ++ course (told plan o) os
 
--- the ticket of all calls for which none is left: its call never begins
-abbrev pub IsTicketed : Who → Type 0
-IsTicketed w = is_same w (Call spent) ≡ false
-
 -- Wherever nothing is left to do, that is at the end of each step, each of those who have plans has done what its plan gives along
 -- its outcomes: each action, and the verdict, in the step of its outcome, none more and none less.
 abbrev pub PlansFollow : Type 0
 PlansFollow = (o : Chosen) (log : List Entry) (w : Who) (p : Procedure) →
-    IsTicketed w → IsRun o log → Rests o log → started w log ≡ Some p → deeds w log ≡ course (begins p) (outcomes w log)
+    IsRun o log → Rests o log → started w log ≡ Some p → deeds w log ≡ course (begins p) (outcomes w log)
 
 -- a plan gives one verdict, and does nothing after it
 abbrev pub verdicts_in : List Deed → ℕ
@@ -147,9 +143,10 @@ counted f [] = 0
 counted f (Begins e ∷ log) = counted f log
 counted f (Then a ∷ log) = counted f log + f a
 
--- The call of a ticket begins at most once, and ends at most once. The greatest ticket is that of all calls for which none is left.
+-- The call of a ticket begins at most once, and ends at most once. The greatest ticket begins no call: it stands for all calls for which
+-- none is left, and each of these ends at once.
 abbrev pub EndsOnce : Type 0
-EndsOnce = (o : Chosen) (log : List Entry) (t : ℕ) → IsRun o log → t < spent → (counted (start_of t) log ≤ 1) × (counted (end_of t) log ≤ 1)
+EndsOnce = (o : Chosen) (log : List Entry) (t : ℕ) → IsRun o log → (counted (start_of t) log ≤ 1) × (t < spent → counted (end_of t) log ≤ 1)
 
 -- WHY A CALL IS TOLD AN OUTCOME
 
@@ -210,7 +207,7 @@ pub data FailsSo (p : Procedure) (os : List Outcome) (f : Failure) : Type 0 wher
 
 abbrev pub FailuresAreTold : Type 0
 FailuresAreTold = (o : Chosen) (log : List Entry) (w : Who) (p : Procedure) (m : Makes) (f : Failure) →
-    IsTicketed w → IsRun o log → Rests o log → started w log ≡ Some p → In (Answered (record { makes = m; said = Failed f })) (deeds w log) → FailsSo p (outcomes w log) f
+    IsRun o log → Rests o log → started w log ≡ Some p → In (Answered (record { makes = m; said = Failed f })) (deeds w log) → FailsSo p (outcomes w log) f
 
 -- THE CLIENT AND THE ADDRESS
 

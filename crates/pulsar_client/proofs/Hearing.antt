@@ -67,7 +67,7 @@ unmade o t (Then (Dials starter) ∷ log) h = unmade o t log (none_left (counted
 pub none_before : EndsOnce → (o : Chosen) (t : ℕ) (log : List Entry) (who : Who) (verdict : Verdict) → t < spent → IsRun o (Then (Answers who verdict) ∷ log) →
     is_same (Call t) who ≡ true → (view o log).consumers t ≡ None
 none_before once o t log who verdict lt run e =
-    let k : counted (end_of t) log + cond (is_same (Call t) who) 1 0 ≤ 1 = (once o (Then (Answers who verdict) ∷ log) t run lt).1 in
+    let k : counted (end_of t) log + cond (is_same (Call t) who) 1 0 ≤ 1 = (once o (Then (Answers who verdict) ∷ log) t run).1 lt in
     let j : counted (end_of t) log + 1 ≤ 1 = subst (λ b. counted (end_of t) log + cond b 1 0 ≤ 1) e k in
     unmade o t log (omega (arith, j))
 

@@ -12,7 +12,7 @@ use Rattle.std.specs.Fmt.{decimal}
 use Rattle.std.specs.List.{flat_map}
 use Rattle.pulsar_wire.specs.Views.{body_values}
 use Rattle.pulsar_wire.specs.declared.commands.base.Body.{Body}
-use Rattle.pulsar_client.specs.Messages.{body_bytes}
+use Rattle.pulsar_client.specs.Messages.{body_bytes, written}
 use Rattle.pulsar_cli.specs.WordText.{hex}
 use Rattle.pulsar_client.specs.RawCall.{Id, property}
 use Rattle.pulsar_cli.specs.MessageWords.{Draft, all, one, with_word}
@@ -82,17 +82,17 @@ property_inserted k v (e ∷ es) = inserted-next k v e es (by_text k e.0) refl (
 
 -- a body more is printed
 pub replies_more : (out0 out new : List ℕ) (n : ℕ) (bs : List Body) (b : Body) →
-    out ≡ out0 ++ (codes "ok replies " ++ decimal n ++ flat_map (λ bytes. 32 ∷ hex bytes) (map (λ b. body_bytes (body_values b)) bs)) →
+    out ≡ out0 ++ (codes "ok replies " ++ decimal n ++ flat_map (λ body. 32 ∷ hex body.bytes) (map (λ b. written (body_values b)) bs)) →
     new ≡ (out ++ 32 ∷ []) ++ hex (body_bytes (body_values b)) →
-    new ≡ out0 ++ (codes "ok replies " ++ decimal n ++ flat_map (λ bytes. 32 ∷ hex bytes) (map (λ b. body_bytes (body_values b)) (bs ++ b ∷ [])))
+    new ≡ out0 ++ (codes "ok replies " ++ decimal n ++ flat_map (λ body. 32 ∷ hex body.bytes) (map (λ b. written (body_values b)) (bs ++ b ∷ [])))
 replies_more out0 out new n bs b so is =
     is ∙ ap (λ t. (t ++ 32 ∷ []) ++ hex (body_bytes (body_values b))) so
-    ∙ append_assoc (out0 ++ (codes "ok replies " ++ decimal n ++ flat_map (λ bytes. 32 ∷ hex bytes) (map (λ b. body_bytes (body_values b)) bs))) (32 ∷ []) (hex (body_bytes (body_values b)))
-    ∙ append_assoc out0 (codes "ok replies " ++ decimal n ++ flat_map (λ bytes. 32 ∷ hex bytes) (map (λ b. body_bytes (body_values b)) bs)) (32 ∷ hex (body_bytes (body_values b)))
-    ∙ ap (λ t. out0 ++ t) (append_assoc (codes "ok replies ") (decimal n ++ flat_map (λ bytes. 32 ∷ hex bytes) (map (λ b. body_bytes (body_values b)) bs)) (32 ∷ hex (body_bytes (body_values b)))
-    ∙ ap (λ t. codes "ok replies " ++ t) (append_assoc (decimal n) (flat_map (λ bytes. 32 ∷ hex bytes) (map (λ b. body_bytes (body_values b)) bs)) (32 ∷ hex (body_bytes (body_values b)))
+    ∙ append_assoc (out0 ++ (codes "ok replies " ++ decimal n ++ flat_map (λ body. 32 ∷ hex body.bytes) (map (λ b. written (body_values b)) bs))) (32 ∷ []) (hex (body_bytes (body_values b)))
+    ∙ append_assoc out0 (codes "ok replies " ++ decimal n ++ flat_map (λ body. 32 ∷ hex body.bytes) (map (λ b. written (body_values b)) bs)) (32 ∷ hex (body_bytes (body_values b)))
+    ∙ ap (λ t. out0 ++ t) (append_assoc (codes "ok replies ") (decimal n ++ flat_map (λ body. 32 ∷ hex body.bytes) (map (λ b. written (body_values b)) bs)) (32 ∷ hex (body_bytes (body_values b)))
+    ∙ ap (λ t. codes "ok replies " ++ t) (append_assoc (decimal n) (flat_map (λ body. 32 ∷ hex body.bytes) (map (λ b. written (body_values b)) bs)) (32 ∷ hex (body_bytes (body_values b)))
     ∙ ap (λ t. decimal n ++ t) (sym (listed bs))))
   where
-    listed : (bs : List Body) → flat_map (λ bytes. 32 ∷ hex bytes) (map (λ b. body_bytes (body_values b)) (bs ++ b ∷ [])) ≡ flat_map (λ bytes. 32 ∷ hex bytes) (map (λ b. body_bytes (body_values b)) bs) ++ 32 ∷ hex (body_bytes (body_values b))
+    listed : (bs : List Body) → flat_map (λ body. 32 ∷ hex body.bytes) (map (λ b. written (body_values b)) (bs ++ b ∷ [])) ≡ flat_map (λ body. 32 ∷ hex body.bytes) (map (λ b. written (body_values b)) bs) ++ 32 ∷ hex (body_bytes (body_values b))
     listed [] = append-nil (32 ∷ hex (body_bytes (body_values b)))
-    listed (x ∷ xs) = ap (λ t. (32 ∷ hex (body_bytes (body_values x))) ++ t) (listed xs) ∙ sym (append_assoc (32 ∷ hex (body_bytes (body_values x))) (flat_map (λ bytes. 32 ∷ hex bytes) (map (λ b. body_bytes (body_values b)) xs)) (32 ∷ hex (body_bytes (body_values b))))
+    listed (x ∷ xs) = ap (λ t. (32 ∷ hex (body_bytes (body_values x))) ++ t) (listed xs) ∙ sym (append_assoc (32 ∷ hex (body_bytes (body_values x))) (flat_map (λ body. 32 ∷ hex body.bytes) (map (λ b. written (body_values b)) xs)) (32 ∷ hex (body_bytes (body_values b))))

@@ -4,11 +4,10 @@ use Rattle.std.specs.Prelude.{string_bytes, Result, Ok, Err, OnOk, OnErr, IfErr,
 use Rattle.std.proofs.lemmas.List.{take-append-drop, length-drop, length-take-le}
 use Rattle.std.proofs.Math.Seq.{drop-drop, take-add, take-length}
 use Rattle.std.proofs.Math.ListN.{drop_of_length-le}
-use Rattle.pulsar_client.specs.Good.{Good, Step}
-use Rattle.pulsar_client.specs.Log.{Chosen}
+use Rattle.pulsar_client.specs.Run.{Good, Step}
+use Rattle.pulsar_client.specs.View.{Chosen}
 use Rattle.pulsar_client.specs.declared.pulsar.Pulsar.{Pulsar}
 use Rattle.pulsar_client.specs.Outside.{Rose}
-use Rattle.pulsar_client.proofs.Runs.{good}
 use Rattle.pulsar_cli.specs.Grammar.{lines}
 use Rattle.pulsar_cli.specs.Text.{refusal}
 use Rattle.pulsar_cli.specs.Script.{Adds, AddsFront, IsDone, IsRunOf, IsStopped, IsRefused, Printed, blank, options, script_of, text}
@@ -22,7 +21,7 @@ use Rattle.pulsar_cli.proofs.Sinks.{adds-more, adds-nil, rose-from}
 -- a client's history is good
 client-good : (o : Chosen) (c : Option Pulsar) (h : List Step) → IsClient o c h → Good o h
 client-good o None h is = rw is (record { log = []; run = tt; rests = refl; same = refl })
-client-good o (Some c) h is = good is.0.stands
+client-good o (Some c) h is = let s = is.0.stands in record { log = s.log; run = s.run; rests = s.rests; same = s.same }
 
 pub run-of : {r : Reading} {put : List ℕ} {read : List (List ℕ)} {h : List Step} → Reads r put read h → IsRunOf read h
 run-of {r} {put} {read} {h} reads = record { script = said r h; is = reads.script; events = refl; good = client-good (options (said r h)) r.client h reads.client }

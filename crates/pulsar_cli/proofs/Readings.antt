@@ -4,8 +4,8 @@ use Rattle.std.specs.Prelude.{codes, is_some, string_bytes, Result, Ok, Err, IfO
 use Rattle.pulsar_wire.specs.Field.{◌>>=◌}
 use Rattle.pulsar_client.specs.Content.{Heard, Shown}
 use Rattle.pulsar_client.specs.Client.{StandsFor}
-use Rattle.pulsar_client.specs.Good.{Step, is_empty}
-use Rattle.pulsar_client.specs.Log.{Chosen}
+use Rattle.pulsar_client.specs.Run.{Step, is_empty}
+use Rattle.pulsar_client.specs.View.{Chosen}
 use Rattle.pulsar_client.specs.declared.pulsar.Pulsar.{Pulsar}
 use Rattle.pulsar_cli.specs.Grammar.{Setting, Line, Nothing, Sets, Happens, line, lines}
 use Rattle.pulsar_cli.specs.Script.{Script, blank, options, sets, with_line, script_from, script_of, happened, text}

@@ -4,9 +4,9 @@ use Rattle.std.specs.Prelude.{◌≡◌, ◌⊎◌, Bool, false, if◌then◌els
 use Rattle.pulsar_wire.specs.Field.{◌>>=◌}
 use Rattle.pulsar_client.specs.Address.{address_of}
 use Rattle.pulsar_client.specs.Content.{Heard}
-use Rattle.pulsar_client.specs.Log.{Chosen}
+use Rattle.pulsar_client.specs.View.{Chosen}
 use Rattle.pulsar_client.specs.Outside.{Rose}
-use Rattle.pulsar_client.specs.Good.{Good, Step, is_empty}
+use Rattle.pulsar_client.specs.Run.{Good, Step, is_empty}
 use Rattle.pulsar_cli.specs.Grammar.{Setting, Url, Now, Line, Nothing, Sets, Happens, Refused, line, lines}
 use Rattle.pulsar_cli.specs.Text.{step, refusal}
 

@@ -16,9 +16,9 @@ use Rattle.pulsar_cli.specs.declared.stop.Stop.{Stop}
 use Rattle.pulsar_cli.specs.declared.stop.Stop.TheVariants as stop
 use Rattle.pulsar_client.specs.Outside.{Rose}
 use Rattle.pulsar_client.specs.Content.{Heard, Shown, heard}
-use Rattle.pulsar_client.specs.Good.{Step, is_empty}
+use Rattle.pulsar_client.specs.Run.{Step, is_empty}
 use Rattle.pulsar_client.specs.Client.{StandsFor}
-use Rattle.pulsar_client.specs.Log.{Chosen}
+use Rattle.pulsar_client.specs.View.{Chosen}
 use Rattle.pulsar_cli.specs.Grammar.{Setting, Url, Now, Line, Nothing, Sets, Happens, Refused, lines}
 use Rattle.pulsar_cli.specs.Text.{step}
 use Rattle.pulsar_cli.specs.Script.{Script, Adds, Given, IsDone, IsRunOf, IsStopped, Seen, limit, options, script_of, happened, text}

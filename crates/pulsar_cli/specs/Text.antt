@@ -12,7 +12,7 @@ abbrev pub answer : Said → List ℕ
 answer Done = codes "ok done"
 answer (Names names) = codes "ok topics " ++ decimal (length names) ++ flat_map (λ name. 32 ∷ word name) names
 answer (Receipt bytes) = codes "ok receipt " ++ hex bytes
-answer (Replies bodies) = codes "ok replies " ++ decimal (length bodies) ++ flat_map (λ bytes. 32 ∷ hex bytes) bodies
+answer (Replies bodies) = codes "ok replies " ++ decimal (length bodies) ++ flat_map (λ body. 32 ∷ hex body.bytes) bodies
 answer (Failed f) = codes "err " ++ failure f
 
 abbrev pub settled_as : Settlement → List ℕ

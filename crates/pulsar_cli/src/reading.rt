@@ -4,7 +4,7 @@ ghost use Rattle.std.specs.Prelude.{◌≡◌, ◌⊎◌, ◌+◌, ◌++◌, [],
 ghost use Rattle.pulsar_client.specs.Address.{address_of};
 ghost use Rattle.pulsar_client.specs.Client.{StandsFor};
 ghost use Rattle.pulsar_client.specs.Content.{heard};
-ghost use Rattle.pulsar_client.specs.Good.{Step};
+ghost use Rattle.pulsar_client.specs.Run.{Step};
 ghost use Rattle.pulsar_cli.specs.Grammar.{line as meaning};
 ghost use Rattle.pulsar_cli.specs.Script.{options, sets};
 ghost use Rattle.pulsar_cli.specs.Shown.{IsClient, IsNoScriptWith, KeepsOptions, KeepsReading, KeepsText, ReadsMore, Refuses, Running, Steps, line_of, said, setting_of};

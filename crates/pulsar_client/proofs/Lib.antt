@@ -13,8 +13,11 @@ pub mod Caused
 pub mod Alone
 pub mod Sorting
 pub mod Writing
-pub mod SettledFirst
+pub mod Traces
+pub mod Hearing
 pub mod Made
+pub mod Polls
+pub mod SettledFirst
 pub mod Cuts
 pub mod Written
 pub mod Once

@@ -18,4 +18,5 @@ pub mod Subscribers
 pub mod Tables
 pub mod Client
 pub mod Laws
+pub mod Traces
 pub mod Outside

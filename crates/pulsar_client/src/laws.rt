@@ -3,6 +3,7 @@
 ghost use Rattle.pulsar_client.specs.Address.{KnownAddresses};
 ghost use Rattle.pulsar_client.specs.Client.{StoodForIsGood};
 ghost use Rattle.pulsar_client.specs.Laws.{AnswersOnce, BuiltIs, CallsAreMade, CausesInOrder, ConsumersHearToTheirEnd, Determined, EffectsArranged, EndsOnce, FailuresAreTold, FramesAreCut, LinksAlone, OutcomesAreCaused, PlansFollow, PollsAreAnswered, PollsFollow, SeriesIsNewest, ServedByTicket, SettledByFirst, TicketsCount, WritesFollow, WrittenInOrder};
+ghost use Rattle.pulsar_client.specs.Traces.{IsGood, attempt_fails, consumer_is_polled, reply_comes_early, request_is_answered};
 
 /// Options and events determine the effects of a good run.
 pub fn determined()
@@ -119,4 +120,12 @@ pub fn polls_are_answered()
 /// Some texts have known addresses.
 pub fn addresses_are_known()
     ensures { KnownAddresses }
+{}
+
+/// Four small runs are good.
+pub fn small_runs_are_good()
+    ensures answered { IsGood request_is_answered }
+    ensures early { IsGood reply_comes_early }
+    ensures fails { IsGood attempt_fails }
+    ensures polled { IsGood consumer_is_polled }
 {}

@@ -5,7 +5,7 @@ ghost use Rattle.pulsar_wire.specs.Row.{spelling};
 ghost use Rattle.pulsar_wire.specs.Rows.{send_receipt};
 ghost use Rattle.pulsar_wire.specs.Views.{body_values, send_receipt_values};
 ghost use Rattle.pulsar_client.specs.Content.{Names, Receipt, Replies, hands, said, shown};
-ghost use Rattle.pulsar_client.specs.Messages.{body_bytes};
+ghost use Rattle.pulsar_client.specs.Messages.{body_bytes, written};
 ghost use Rattle.pulsar_cli.specs.Text as printed;
 ghost use Rattle.pulsar_cli.specs.WordText.{hex};
 
@@ -117,7 +117,7 @@ fn push_receipt(out: &mut String, receipt: &CommandSendReceipt) -> Result<(), Al
 
 fn push_replies(out: &mut String, bodies: &[Body]) -> Result<(), AllocError>
     ensures { OnOk result (string_bytes out.new ≡ string_bytes out.old
-        ++ printed.answer (Replies (map (λ b. body_bytes (body_values b)) bodies.now))) }
+        ++ printed.answer (Replies (map (λ b. written (body_values b)) bodies.now))) }
 {
     let count = bodies.len();
     write!(out, "ok replies {count}")?;

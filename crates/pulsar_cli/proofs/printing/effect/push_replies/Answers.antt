@@ -3,7 +3,7 @@ use Rattle.std.specs.Prelude.{string_bytes, codes}
 use Rattle.std.specs.Fmt.{decimal}
 use Rattle.std.specs.List.{flat_map}
 use Rattle.pulsar_wire.specs.Views.{body_values}
-use Rattle.pulsar_client.specs.Messages.{body_bytes}
+use Rattle.pulsar_client.specs.Messages.{body_bytes, written}
 use Rattle.pulsar_cli.specs.WordText.{hex}
 use Rattle.pulsar_cli.proofs.Folds.{replies_more, take_more}
 use Rattle.pulsar_cli.proofs.printing.effect.push_replies.Goals as goal
@@ -18,4 +18,4 @@ loop-body-preserved c =
     let more : take k bs ++ b ∷ [] ≡ take (k + 1) bs = ap (λ x. take k bs ++ x ∷ []) c.body-item.is ∙ take_more bs k b within in
     replies_more (string_bytes c.args.out.now) (string_bytes c.loop-body.out) _ (length bs) (take k bs) b c.loop-body.invariant
     (c.in_ok-push_body.ensures ∙ ap (λ t. t ++ hex (body_bytes (body_values b))) c.in_ok-push.ensures.bytes)
-    ∙ ap (λ bs. string_bytes c.args.out.now ++ (codes "ok replies " ++ decimal (length c.args.bodies.now) ++ flat_map (λ bytes. 32 ∷ hex bytes) (map (λ b. body_bytes (body_values b)) bs))) more
+    ∙ ap (λ bs. string_bytes c.args.out.now ++ (codes "ok replies " ++ decimal (length c.args.bodies.now) ++ flat_map (λ body. 32 ∷ hex body.bytes) (map (λ b. written (body_values b)) bs))) more

@@ -3,9 +3,9 @@ use Rattle.std.specs.Prelude.{string_bytes, codes}
 use Rattle.std.specs.Fmt.{decimal}
 use Rattle.std.specs.List.{flat_map}
 use Rattle.pulsar_wire.specs.Views.{body_values}
-use Rattle.pulsar_client.specs.Messages.{body_bytes}
+use Rattle.pulsar_client.specs.Messages.{written}
 use Rattle.pulsar_cli.specs.WordText.{hex}
 use Rattle.pulsar_cli.proofs.printing.effect.push_replies.Given as goal
 
 abbrev pub invariant-loop-body : goal.invariant-loop-body
-invariant-loop-body l = string_bytes l.out ≡ string_bytes l.fn.out ++ (codes "ok replies " ++ decimal (length l.bodies) ++ flat_map (λ bytes. 32 ∷ hex bytes) (map (λ b. body_bytes (body_values b)) (take l.body-index l.bodies)))
+invariant-loop-body l = string_bytes l.out ≡ string_bytes l.fn.out ++ (codes "ok replies " ++ decimal (length l.bodies) ++ flat_map (λ body. 32 ∷ hex body.bytes) (map (λ b. written (body_values b)) (take l.body-index l.bodies)))

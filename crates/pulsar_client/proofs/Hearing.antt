@@ -24,6 +24,7 @@ use Rattle.pulsar_client.specs.Subscribers.{waiting_on}
 use Rattle.pulsar_client.specs.Subscriptions.{Subscription, after_frame, after_poll, closes_it, ended, ends_with, hears, is_last}
 use Rattle.pulsar_client.specs.View.{Chosen, Seat, View, admitted_at, begun, begun_live, hears_ask, hears_some, is_live, made, turned}
 use Rattle.pulsar_client.specs.Who.{is_same}
+use Rattle.pulsar_client.proofs.Ticketed.{older_ticket}
 
 -- WHO MAKES A CONSUMER
 
@@ -183,37 +184,42 @@ polled_on s is_live false c w = w
 same_on : (s : Subscription) (has : Bool) (c : Option Subscription) → Remains s (s.is_live && not has) c → Remains s (s.is_live && not (has || false)) c
 same_on s has c w = subst (λ b. Remains s b c) (or_false s.is_live has) w
 
-pub consumers_hear_lem : EndsOnce → ConsumersHearToTheirEnd
-consumers_hear_lem once o [] older t s lt r e = subst (Remains s (s.is_live && true)) (sym e) (at_first s)
-consumers_hear_lem once o (Begins x ∷ later) older t s lt r e =
+hears_on : EndsOnce → (o : Chosen) (later older : List Entry) (t : ℕ) (s : Subscription) → t < spent → IsRun o (later ++ older) → (view o older).consumers t ≡ Some s →
+    Remains s (s.is_live && not (has_end o s later older)) ((view o (later ++ older)).consumers t)
+hears_on once o [] older t s lt r e = subst (Remains s (s.is_live && true)) (sym e) (at_first s)
+hears_on once o (Begins x ∷ later) older t s lt r e =
     same_on s (has_end o s later older) ((view o (Begins x ∷ (later ++ older))).consumers t)
-    (subst (Remains s (s.is_live && not (has_end o s later older))) (sym (begun_consumers x (view o (later ++ older)) t)) (consumers_hear_lem once o later older t s lt r.0 e))
-consumers_hear_lem once o (Then (Comes (ToLink l x)) ∷ later) older t s lt r e =
+    (subst (Remains s (s.is_live && not (has_end o s later older))) (sym (begun_consumers x (view o (later ++ older)) t)) (hears_on once o later older t s lt r.0 e))
+hears_on once o (Then (Comes (ToLink l x)) ∷ later) older t s lt r e =
     let row : Option Seat = (view o (later ++ older)).links.live l in
     changed s s.is_live (has_end o s later older) (ends_at o s (Then (Comes (ToLink l x))) (later ++ older)) (hears_some l x row) ((view o (later ++ older)).consumers t)
     (λ items b. some_linked l x row s.link s.number s.topic items b)
-    (consumers_hear_lem once o later older t s lt r.0 e)
-consumers_hear_lem once o (Then (Does who (Ask l request)) ∷ later) older t s lt r e =
+    (hears_on once o later older t s lt r.0 e)
+hears_on once o (Then (Does who (Ask l request)) ∷ later) older t s lt r e =
     let v : View = view o (later ++ older) in
     changed s s.is_live (has_end o s later older) (ends_at o s (Then (Does who (Ask l request))) (later ++ older)) (hears_ask l v.now request (v.links.live l)) (v.consumers t)
     (λ items b. asked s.link s.number s.topic items (s.link == l) (is_queued (admitted_at v.now request (v.links.live l)) && closes_it (closed_consumer request) s.number) b)
-    (consumers_hear_lem once o later older t s lt r.0 e)
-consumers_hear_lem once o (Then (Answers who verdict) ∷ later) older t s lt r e =
+    (hears_on once o later older t s lt r.0 e)
+hears_on once o (Then (Answers who verdict) ∷ later) older t s lt r e =
     made_on s (s.is_live && not (has_end o s later older || false)) who verdict.makes t ((view o (later ++ older)).consumers t)
     (none_before once o t (later ++ older) who verdict lt r)
-    (same_on s (has_end o s later older) ((view o (later ++ older)).consumers t) (consumers_hear_lem once o later older t s lt r.0 e))
-consumers_hear_lem once o (Then (Comes (Polls k)) ∷ later) older t s lt r e =
+    (same_on s (has_end o s later older) ((view o (later ++ older)).consumers t) (hears_on once o later older t s lt r.0 e))
+hears_on once o (Then (Comes (Polls k)) ∷ later) older t s lt r e =
     polled_on s (s.is_live && not (has_end o s later older || false)) (t == k) ((view o (later ++ older)).consumers t)
-    (same_on s (has_end o s later older) ((view o (later ++ older)).consumers t) (consumers_hear_lem once o later older t s lt r.0 e))
-consumers_hear_lem once o (Then (Comes (Calls asked)) ∷ later) older t s lt r e =
-    same_on s (has_end o s later older) ((view o (later ++ older)).consumers t) (consumers_hear_lem once o later older t s lt r.0 e)
-consumers_hear_lem once o (Then (Does who Get) ∷ later) older t s lt r e =
-    same_on s (has_end o s later older) ((view o (later ++ older)).consumers t) (consumers_hear_lem once o later older t s lt r.0 e)
-consumers_hear_lem once o (Then (Does who Rest) ∷ later) older t s lt r e =
-    same_on s (has_end o s later older) ((view o (later ++ older)).consumers t) (consumers_hear_lem once o later older t s lt r.0 e)
-consumers_hear_lem once o (Then (Starts who p) ∷ later) older t s lt r e =
-    same_on s (has_end o s later older) ((view o (later ++ older)).consumers t) (consumers_hear_lem once o later older t s lt r.0 e)
-consumers_hear_lem once o (Then (Told n) ∷ later) older t s lt r e =
-    same_on s (has_end o s later older) ((view o (later ++ older)).consumers t) (consumers_hear_lem once o later older t s lt r.0 e)
-consumers_hear_lem once o (Then (Dials starter) ∷ later) older t s lt r e =
-    same_on s (has_end o s later older) ((view o (later ++ older)).consumers t) (consumers_hear_lem once o later older t s lt r.0 e)
+    (same_on s (has_end o s later older) ((view o (later ++ older)).consumers t) (hears_on once o later older t s lt r.0 e))
+hears_on once o (Then (Comes (Calls asked)) ∷ later) older t s lt r e =
+    same_on s (has_end o s later older) ((view o (later ++ older)).consumers t) (hears_on once o later older t s lt r.0 e)
+hears_on once o (Then (Does who Get) ∷ later) older t s lt r e =
+    same_on s (has_end o s later older) ((view o (later ++ older)).consumers t) (hears_on once o later older t s lt r.0 e)
+hears_on once o (Then (Does who Rest) ∷ later) older t s lt r e =
+    same_on s (has_end o s later older) ((view o (later ++ older)).consumers t) (hears_on once o later older t s lt r.0 e)
+hears_on once o (Then (Starts who p) ∷ later) older t s lt r e =
+    same_on s (has_end o s later older) ((view o (later ++ older)).consumers t) (hears_on once o later older t s lt r.0 e)
+hears_on once o (Then (Told n) ∷ later) older t s lt r e =
+    same_on s (has_end o s later older) ((view o (later ++ older)).consumers t) (hears_on once o later older t s lt r.0 e)
+hears_on once o (Then (Dials starter) ∷ later) older t s lt r e =
+    same_on s (has_end o s later older) ((view o (later ++ older)).consumers t) (hears_on once o later older t s lt r.0 e)
+
+pub consumers_hear_lem : EndsOnce → ConsumersHearToTheirEnd
+consumers_hear_lem once o later older t s r e =
+    hears_on once o later older t s (older_ticket o later older t s r e) r e

@@ -22,3 +22,4 @@ pub mod Cuts
 pub mod Written
 pub mod Once
 pub mod Failures
+pub mod Ticketed

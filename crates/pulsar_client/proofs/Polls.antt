@@ -39,6 +39,7 @@ use Rattle.pulsar_client.specs.Who.{is_same}
 use Rattle.pulsar_client.proofs.Hearing.{begun_consumers, none_before}
 use Rattle.pulsar_client.proofs.Instances.{effect_order}
 use Rattle.pulsar_client.proofs.Made.{poll_comes}
+use Rattle.pulsar_client.proofs.Ticketed.{consumer_ticket}
 
 -- A POLL IS ANSWERED
 
@@ -353,4 +354,4 @@ follows once o t (Then (Dials starter) ∷ log) lt r =
     on o t (Dials starter) log (dials_none t (view o log).links.started (view o log).chosen.address) (follows once o t log lt r.0)
 
 pub polls_follow_lem : EndsOnce → PollsFollow
-polls_follow_lem once o log t s lt r e = subst (λ c. Gives c (items_given t (steps o log)) (items_come o t log)) e (follows once o t log lt r)
+polls_follow_lem once o log t s r e = subst (λ c. Gives c (items_given t (steps o log)) (items_come o t log)) e (follows once o t log (consumer_ticket o log t s r e) r)

@@ -227,3 +227,11 @@ tickets o (Then a ∷ log) run = next_tickets o log (tickets o log run.0) a run.
 
 pub consumer_ticket : (o : Chosen) (log : List Entry) (t : ℕ) (s : Subscription) → IsRun o log → (view o log).consumers t ≡ Some s → t < spent
 consumer_ticket o log t s run h = (tickets o log run).consumers t s h
+
+older_run : (o : Chosen) (later older : List Entry) → IsRun o (later ++ older) → IsRun o older
+older_run o [] older run = run
+older_run o (Begins e ∷ later) older run = older_run o later older run.0
+older_run o (Then a ∷ later) older run = older_run o later older run.0
+
+pub older_ticket : (o : Chosen) (later older : List Entry) (t : ℕ) (s : Subscription) → IsRun o (later ++ older) → (view o older).consumers t ≡ Some s → t < spent
+older_ticket o later older t s run h = consumer_ticket o older t s (older_run o later older run) h

@@ -393,7 +393,7 @@ Remains s is_live later =
 -- a consumer remains what it is, and hears up to the first of its ends, and never again
 abbrev pub ConsumersHearToTheirEnd : Type 0
 ConsumersHearToTheirEnd = (o : Chosen) (later older : List Entry) (t : ℕ) (s : Subscription) →
-    t < spent → IsRun o (later ++ older) → (view o older).consumers t ≡ Some s →
+    IsRun o (later ++ older) → (view o older).consumers t ≡ Some s →
     Remains s (s.is_live && not (has_end o s later older)) ((view o (later ++ older)).consumers t)
 
 -- what comes to a link brings to a consumer: the items of a message that bears its number on its link while it hears
@@ -423,7 +423,7 @@ items_given t (s ∷ h) = items_given t h ++ flat_map (given_by t) s.effects
 -- stands what it has not given yet.
 abbrev pub PollsFollow : Type 0
 PollsFollow = (o : Chosen) (log : List Entry) (t : ℕ) (s : Subscription) →
-    t < spent → IsRun o log → (view o log).consumers t ≡ Some s → items_given t (steps o log) ++ s.unread ≡ items_come o t log
+    IsRun o log → (view o log).consumers t ≡ Some s → items_given t (steps o log) ++ s.unread ≡ items_come o t log
 
 -- A consumer is polled where the user asks for it. The one effect of that step is its first item, and where it has none the
 -- end, once it hears no more, and else that there is nothing yet.

@@ -1,5 +1,5 @@
 -- A consumer has the ticket of a call that began, so never the greatest.
-use Rattle.std.proofs.Common.{◌≡◌, ◌∙◌, sym, ap, subst, ℕ, ◌+◌, ◌<◌, ◌≤◌, List, [], ◌∷◌, ◌++◌, refl, arith, Bool, true, false, cond, ◌==◌, Option, Some, None, inl, inr}
+use Rattle.std.proofs.Common.{◌≡◌, ◌∙◌, sym, ap, subst, ℕ, ◌<◌, ◌≤◌, List, [], ◌∷◌, ◌++◌, refl, arith, Bool, true, false, cond, ◌==◌, Option, Some, None, inl, inr}
 use Rattle.std.proofs.lemmas.Bool.{cases_Bool, eqb-true}
 use Rattle.std.proofs.lemmas.Bool.Decides.{nat_tests}
 use Rattle.std.specs.Option.{option_map}
@@ -24,13 +24,12 @@ use Rattle.pulsar_client.specs.declared.plans.plan.Turn.{Turn}
 use Rattle.pulsar_client.specs.declared.plans.plan.Turn.TheVariants.{Stays, Gives}
 use Rattle.pulsar_client.specs.Address.{Address}
 use Rattle.pulsar_client.specs.Content.{Asked, Heard}
-use Rattle.pulsar_client.specs.Failures.{Exhausted}
 use Rattle.pulsar_client.specs.Link.{spent}
-use Rattle.pulsar_client.specs.Plan.{begins, fails, told}
-use Rattle.pulsar_client.specs.Rules.{at_once, called, does, follows, follows_some, gets, performs, procedure_for}
+use Rattle.pulsar_client.specs.Plan.{begins, told}
+use Rattle.pulsar_client.specs.Rules.{at_once, called, does, follows, follows_some, gets, performs}
 use Rattle.pulsar_client.specs.Run.{Entry, Begins, Then, IsRun, agenda, first, rules, view}
 use Rattle.pulsar_client.specs.Subscriptions.{Subscription}
-use Rattle.pulsar_client.specs.View.{Chosen, View, begun, begun_live, consumer_after, is_live, made, stand_after, stays, stays_some, told_some}
+use Rattle.pulsar_client.specs.View.{Chosen, View, begun, begun_live, consumer_after, is_live, made, stand_after, stays_some, told_some}
 use Rattle.pulsar_client.specs.Who.{is_same}
 use Rattle.pulsar_client.proofs.Alone.{no_some}
 

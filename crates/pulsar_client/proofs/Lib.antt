@@ -13,3 +13,4 @@ pub mod Caused
 pub mod Alone
 pub mod Sorting
 pub mod Writing
+pub mod Counting

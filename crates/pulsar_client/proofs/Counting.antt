@@ -1,5 +1,5 @@
 -- The tickets that are drawn are the calls of the history.
-use Rattle.std.proofs.Common.{◌≡◌, ◌∙◌, ℕ, ◌+◌, ◌==◌, sym, ap, List, [], ◌∷◌, ◌++◌, refl, map, Some, None, Bool, true, false, cond}
+use Rattle.std.proofs.Common.{◌≡◌, ◌∙◌, ℕ, ◌+◌, ◌==◌, sym, ap, List, [], ◌∷◌, ◌++◌, refl, map, Option, Some, None, Bool, true, false, cond, inl, inr}
 use Rattle.std.proofs.lemmas.Bool.{cases_Bool, eqb-true}
 use Rattle.pulsar_run.specs.Run.{in_order, with_effects}
 use Rattle.pulsar_client.specs.declared.act.Act.{Act}
@@ -37,7 +37,7 @@ use Rattle.pulsar_client.specs.View.{Chosen, View, begun, begun_live, drawn_afte
 
 abbrev acts_drawn : List Act → ℕ → ℕ
 acts_drawn [] n = n
-acts_drawn (a ∷ as) n = acts_drawn as (drawn_after a n)
+acts_drawn (a ∷ xs) n = acts_drawn xs (drawn_after a n)
 
 abbrev parts_drawn : List Part → ℕ → ℕ
 parts_drawn [] n = n
@@ -45,44 +45,44 @@ parts_drawn (p ∷ ps) n = parts_drawn ps (drawn_after (Comes p) n)
 
 -- what arises at once draws none
 
-called_none : (k : ℕ) (b : Bool) (asked : Asked) (as : List Act) (n : ℕ) → acts_drawn (called k b asked ++ as) n ≡ acts_drawn as n
-called_none k b asked as n =
-    elim (k == spent) as (λ c. acts_drawn (cond c (Answers (Call spent) (fails Exhausted) ∷ []) (Starts (Call k) (procedure_for b asked) ∷ []) ++ as) n ≡ acts_drawn as n)
+called_none : (k : ℕ) (b : Bool) (asked : Asked) (xs : List Act) (n : ℕ) → acts_drawn (called k b asked ++ xs) n ≡ acts_drawn xs n
+called_none k b asked xs n =
+    elim (k == spent) as (λ c. acts_drawn (cond c (Answers (Call spent) (fails Exhausted) ∷ []) (Starts (Call k) (procedure_for b asked) ∷ []) ++ xs) n ≡ acts_drawn xs n)
     [ true ↦ refl | false ↦ refl ]
 
-does_none : (who : Who) (action : Action) (as : List Act) (n : ℕ) → acts_drawn (does who action ++ as) n ≡ acts_drawn as n
-does_none who Rest as n = refl
-does_none who Get as n = refl
-does_none who (Ask l request) as n = refl
+does_none : (who : Who) (action : Action) (xs : List Act) (n : ℕ) → acts_drawn (does who action ++ xs) n ≡ acts_drawn xs n
+does_none who Rest xs n = refl
+does_none who Get xs n = refl
+does_none who (Ask l request) xs n = refl
 
-follows_none : (who : Who) (turn : Turn Plan Verdict) (as : List Act) (n : ℕ) → acts_drawn (follows who turn ++ as) n ≡ acts_drawn as n
-follows_none who (Stays plan action) as n = does_none who action as n
-follows_none who (Gives verdict) as n = refl
+follows_none : (who : Who) (turn : Turn Plan Verdict) (xs : List Act) (n : ℕ) → acts_drawn (follows who turn ++ xs) n ≡ acts_drawn xs n
+follows_none who (Stays plan action) xs n = does_none who action xs n
+follows_none who (Gives verdict) xs n = refl
 
-told_none : (v : View) (m : Notice) (as : List Act) (n : ℕ) → acts_drawn (at_once v (Told m) ++ as) n ≡ acts_drawn as n
-told_none v m as n = elim (told_some (v.stand m.who) m.outcome) as (λ t. acts_drawn (follows_some m.who t ++ as) n ≡ acts_drawn as n)
-    [ None ↦ refl | Some turn ↦ follows_none m.who turn as n ]
+told_none : (v : View) (m : Notice) (xs : List Act) (n : ℕ) → acts_drawn (at_once v (Told m) ++ xs) n ≡ acts_drawn xs n
+told_none v m xs n = elim (told_some (v.stand m.who) m.outcome) as (λ t. acts_drawn (follows_some m.who t ++ xs) n ≡ acts_drawn xs n)
+    [ None ↦ refl | Some turn ↦ follows_none m.who turn xs n ]
 
-gets_none : (who : Who) (address : Option Address) (s : Series) (as : List Act) (n : ℕ) → acts_drawn (gets who address s ++ as) n ≡ acts_drawn as n
-gets_none who None s as n = refl
-gets_none who (Some address) Nobody as n = refl
-gets_none who (Some address) (Runs starter) as n = refl
-gets_none who (Some address) (Serves l) as n = refl
+gets_none : (who : Who) (address : Option Address) (s : Series) (xs : List Act) (n : ℕ) → acts_drawn (gets who address s ++ xs) n ≡ acts_drawn xs n
+gets_none who None s xs n = refl
+gets_none who (Some address) Nobody xs n = refl
+gets_none who (Some address) (Runs starter) xs n = refl
+gets_none who (Some address) (Serves l) xs n = refl
 
-performs_none : (v : View) (who : Who) (action : Action) (as : List Act) (n : ℕ) → acts_drawn (performs v who action ++ as) n ≡ acts_drawn as n
-performs_none v who Get as n = gets_none who v.chosen.address v.base.series as n
-performs_none v who (Ask l request) as n = refl
-performs_none v who Rest as n = refl
+performs_none : (v : View) (who : Who) (action : Action) (xs : List Act) (n : ℕ) → acts_drawn (performs v who action ++ xs) n ≡ acts_drawn xs n
+performs_none v who Get xs n = gets_none who v.chosen.address v.base.series xs n
+performs_none v who (Ask l request) xs n = refl
+performs_none v who Rest xs n = refl
 
-once_none : (v : View) (a : Act) (as : List Act) (n : ℕ) → acts_drawn (at_once v a ++ as) n ≡ acts_drawn as n
-once_none v (Comes (part.Calls asked)) as n = called_none v.calls.drawn v.calls.is_built asked as n
-once_none v (Comes (ToLink l x)) as n = refl
-once_none v (Comes (part.Polls t)) as n = refl
-once_none v (Starts who p) as n = follows_none who (begins p) as n
-once_none v (Told m) as n = told_none v m as n
-once_none v (Does who action) as n = performs_none v who action as n
-once_none v (Answers who verdict) as n = refl
-once_none v (Dials starter) as n = refl
+once_none : (v : View) (a : Act) (xs : List Act) (n : ℕ) → acts_drawn (at_once v a ++ xs) n ≡ acts_drawn xs n
+once_none v (Comes (part.Calls asked)) xs n = called_none v.calls.drawn v.calls.is_built asked xs n
+once_none v (Comes (ToLink l x)) xs n = refl
+once_none v (Comes (part.Polls t)) xs n = refl
+once_none v (Starts who p) xs n = follows_none who (begins p) xs n
+once_none v (Told m) xs n = told_none v m xs n
+once_none v (Does who action) xs n = performs_none v who action xs n
+once_none v (Answers who verdict) xs n = refl
+once_none v (Dials starter) xs n = refl
 
 -- what is first has drawn
 moved : (now : List Act) (here : List Notice) (behind : List (List Notice)) (ps : List Part) (a : Act) (n : ℕ) → first_of now here behind ps ≡ Some a →
@@ -106,9 +106,9 @@ rested [] [] [] [] n h = refl
 begun_drawn : (e : Heard) (v : View) → (begun e v).calls.drawn ≡ v.calls.drawn
 begun_drawn e v = elim (is_live v e) as (λ b. (cond b (begun_live e v) v).calls.drawn ≡ v.calls.drawn) [ true ↦ refl | false ↦ refl ]
 
-frames_none : (l : ℕ) (as : List Arrival) (n : ℕ) → parts_drawn (map (λ a. ToLink l (link.Comes a)) as) n ≡ n
+frames_none : (l : ℕ) (xs : List Arrival) (n : ℕ) → parts_drawn (map (λ a. ToLink l (link.Comes a)) xs) n ≡ n
 frames_none l [] n = refl
-frames_none l (a ∷ as) n = frames_none l as n
+frames_none l (a ∷ xs) n = frames_none l xs n
 
 -- one more call, if it is one
 abbrev one_more : Bool → ℕ → ℕ
@@ -158,5 +158,5 @@ tickets_count_lem o log run rests =
     sym (rested g.now g.here g.behind g.parts (view o log).calls.drawn rests) ∙ counted o log run
 
 -- the tickets of tables are the calls of a history that they stand for
-pub ticket_is : {o : Chosen} {c : Tables} {h : List Step} → Stands o c h → c.tickets ≡ calls_in h
-ticket_is {o} s = ap (λ v. v.calls.drawn) s.sees ∙ tickets_count_lem o s.log s.run s.rests ∙ ap calls_in (sym s.same)
+pub ticket_is : (c : Tables) {o : Chosen} {h : List Step} → Stands o c h → c.tickets ≡ calls_in h
+ticket_is c {o} {h} s = ap (λ v. v.calls.drawn) s.sees ∙ tickets_count_lem o s.log s.run s.rests ∙ ap calls_in (sym s.same)

@@ -23,3 +23,4 @@ pub mod Written
 pub mod Once
 pub mod Failures
 pub mod Ticketed
+pub mod Counting

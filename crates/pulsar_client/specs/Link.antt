@@ -50,20 +50,27 @@ dialed first_number = record { stage = Dialing; next_id = first_number; queued =
 
 abbrev pub is_dialing : Stage → Bool
 is_dialing Dialing = true
-is_dialing _ = false
+is_dialing Handshaking = false
+is_dialing Ready = false
+is_dialing Over = false
 
 abbrev pub is_open : Stage → Bool
+is_open Dialing = false
 is_open Handshaking = true
 is_open Ready = true
-is_open _ = false
+is_open Over = false
 
 abbrev pub is_ready : Stage → Bool
+is_ready Dialing = false
+is_ready Handshaking = false
 is_ready Ready = true
-is_ready _ = false
+is_ready Over = false
 
 abbrev pub is_over : Stage → Bool
+is_over Dialing = false
+is_over Handshaking = false
+is_over Ready = false
 is_over Over = true
-is_over _ = false
 
 -- BYTES
 
@@ -81,8 +88,10 @@ fed piece s = if is_open s.stage then record s { unread = left (s.unread ++ piec
 abbrev pub at_arrival : Stage → Arrival → Change
 at_arrival Handshaking (Message m) = if is_connected m then Readied else Ended Refused
 at_arrival Handshaking (Bad reason) = Ended Refused
+at_arrival Ready (Message m) = Remains
 at_arrival Ready (Bad reason) = Ended Refused
-at_arrival _ _ = Remains
+at_arrival Dialing arrival = Remains
+at_arrival Over arrival = Remains
 
 -- one that dials is opened, or ends where its connection cannot be opened; an open one ends where it is lost
 abbrev pub change : LinkAct → Stage → Change
@@ -121,17 +130,29 @@ ends_wait key awaited = bears_key key (key_of awaited)
 -- an act answers a request: a message that bears its key
 abbrev pub is_answered_by : LinkAct → Pending → Bool
 is_answered_by (Comes (Message m)) r = ends_wait m.key r.awaits
-is_answered_by _ r = false
+is_answered_by (Comes (Bad reason)) r = false
+is_answered_by Opens r = false
+is_answered_by (Fails kind) r = false
+is_answered_by Loses r = false
+is_answered_by (Drains most) r = false
 
 -- the requests that an act answers
 abbrev pub answered : LinkAct → List Pending → List Word
 answered (Comes (Message m)) rs = map (λ r. record { place = r.place; settled = Reply m }) (filter (λ r. ends_wait m.key r.awaits) rs)
-answered _ rs = []
+answered (Comes (Bad reason)) rs = []
+answered Opens rs = []
+answered (Fails kind) rs = []
+answered Loses rs = []
+answered (Drains most) rs = []
 
 -- and those that it leaves waiting, which wait for nothing any more at the link's end
 abbrev pub left_waiting : LinkAct → List Pending → List Pending
 left_waiting (Comes (Message m)) rs = filter (λ r. not (ends_wait m.key r.awaits)) rs
-left_waiting _ rs = rs
+left_waiting (Comes (Bad reason)) rs = rs
+left_waiting Opens rs = rs
+left_waiting (Fails kind) rs = rs
+left_waiting Loses rs = rs
+left_waiting (Drains most) rs = rs
 
 abbrev pub disconnected : Pending → Word
 disconnected r = record { place = r.place; settled = settled.Disconnected }
@@ -186,11 +207,17 @@ greeting change place = if is_opened change then Some (framed place connect_mess
 -- the frames that a drain writes: as many as it says, of those that are queued and not written
 abbrev pub written_by : LinkAct → Stage → List (List ℕ) → List (List ℕ)
 written_by (Drains most) s frames = if is_open s then take most frames else []
-written_by _ s frames = []
+written_by Opens s frames = []
+written_by (Fails kind) s frames = []
+written_by Loses s frames = []
+written_by (Comes arrival) s frames = []
 
 abbrev pub left_by : LinkAct → Stage → List (List ℕ) → List (List ℕ)
 left_by (Drains most) s frames = if is_open s then drop most frames else frames
-left_by _ s frames = frames
+left_by Opens s frames = frames
+left_by (Fails kind) s frames = frames
+left_by Loses s frames = frames
+left_by (Comes arrival) s frames = frames
 
 -- they are written in one piece, where there are any
 abbrev pub piece_of : List (List ℕ) → Option (List ℕ)

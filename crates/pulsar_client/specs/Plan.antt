@@ -26,8 +26,8 @@ use Rattle.pulsar_client.specs.declared.plans.plan.Wanted.{Wanted}
 use Rattle.pulsar_client.specs.Content.{Said, Done, Names, Receipt, Replies, Failed}
 use Rattle.pulsar_client.specs.Failures.{Fault, Io, Disconnected, PulsarError, Encoding, UnexpectedResponse, Canceled, Shutdown, Exhausted, OfConnection, NotFound}
 use Rattle.pulsar_client.specs.Messages.{Reply, Written, is_number}
-use Rattle.pulsar_client.specs.RawCall.{Subscribe}
-use Rattle.pulsar_client.specs.Request.{Request, Raw, is_answered, request_number}
+use Rattle.pulsar_client.specs.RawCall.{Words, CreateProducer, Send, CloseProducer, Subscribe, Flow, Ack, CloseConsumer}
+use Rattle.pulsar_client.specs.Request.{Request, Topics, Raw, is_answered, request_number}
 
 -- WHAT A REPLY SAYS
 
@@ -79,9 +79,18 @@ fault_of outcome.Disconnected = Disconnected
 -- GET OR TAKE A LINK, ASK, AND ANSWER
 
 -- what a request with a success leaves behind: a subscribe makes a consumer
+abbrev pub raw_makes : (link : ℕ) → Words → Makes
+raw_makes link (CreateProducer topic producer name) = Nothing
+raw_makes link (Send producer name sequence m waits) = Nothing
+raw_makes link (CloseProducer producer) = Nothing
+raw_makes link (Subscribe topic subscription kind consumer) = Consumer link consumer topic
+raw_makes link (Flow consumer permits) = Nothing
+raw_makes link (Ack consumer ids cumulative) = Nothing
+raw_makes link (CloseConsumer consumer) = Nothing
+
 abbrev pub makes : (link : ℕ) → Request → Makes
-makes link (Raw (Subscribe topic name kind number)) = Consumer link number topic
-makes link _ = Nothing
+makes link (Topics namespace mode) = Nothing
+makes link (Raw words) = raw_makes link words
 
 -- what is known of a request that is asked for
 abbrev pub wanted : (link : ℕ) → Request → Wanted

@@ -9,7 +9,7 @@ use Rattle.pulsar_client.specs.declared.content.Question.{Question}
 use Rattle.pulsar_client.specs.declared.content.Question.TheVariants as question
 use Rattle.pulsar_client.specs.declared.session.waiting.Awaited.{Awaited}
 use Rattle.pulsar_client.specs.Messages.{body_of, raw_message, topics_message}
-use Rattle.pulsar_client.specs.RawCall.{Words, Send, Flow, Ack, CloseConsumer, words}
+use Rattle.pulsar_client.specs.RawCall.{Words, CreateProducer, Send, CloseProducer, Subscribe, Flow, Ack, CloseConsumer, words}
 
 pub data Request : Type 0 where
   Topics : (namespace : List ℕ) (mode : Mode) → Request
@@ -24,7 +24,10 @@ abbrev pub raw_awaited : ℕ → Words → Option Awaited
 raw_awaited id (Send producer name sequence m waits) = Some (record { producer = Some producer; number = sequence })
 raw_awaited id (Flow consumer permits) = None
 raw_awaited id (Ack consumer ids cumulative) = None
-raw_awaited id _ = Some (numbered id)
+raw_awaited id (CreateProducer topic producer name) = Some (numbered id)
+raw_awaited id (CloseProducer producer) = Some (numbered id)
+raw_awaited id (Subscribe topic subscription kind consumer) = Some (numbered id)
+raw_awaited id (CloseConsumer consumer) = Some (numbered id)
 
 abbrev pub awaited : ℕ → Request → Option Awaited
 awaited id (Topics namespace mode) = Some (numbered id)
@@ -53,9 +56,18 @@ abbrev pub is_answered : (request : ℕ) → Bool
 is_answered request = is_some (answers request)
 
 -- the consumer that it closes, by its number
+abbrev pub closed_by : Words → Option ℕ
+closed_by (CreateProducer topic producer name) = None
+closed_by (Send producer name sequence m waits) = None
+closed_by (CloseProducer producer) = None
+closed_by (Subscribe topic subscription kind consumer) = None
+closed_by (Flow consumer permits) = None
+closed_by (Ack consumer ids cumulative) = None
+closed_by (CloseConsumer consumer) = Some consumer
+
 abbrev pub closed_consumer : Request → Option ℕ
-closed_consumer (Raw (CloseConsumer number)) = Some number
-closed_consumer _ = None
+closed_consumer (Topics namespace mode) = None
+closed_consumer (Raw words) = closed_by words
 
 -- each size of its frame fits its field: the total does, and the others are smaller
 abbrev pub fits_frame : MessageValues → Bool

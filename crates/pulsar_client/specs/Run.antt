@@ -6,7 +6,7 @@ use Rattle.pulsar_client.specs.declared.act.Act.{Act}
 use Rattle.pulsar_client.specs.declared.act.Act.TheVariants.{Comes, Told}
 use Rattle.pulsar_client.specs.declared.act.Notice.{Notice}
 use Rattle.pulsar_client.specs.declared.act.Part.{Part}
-use Rattle.pulsar_client.specs.Content.{Heard, Called, Shown}
+use Rattle.pulsar_client.specs.Content.{Heard, Called, Opened, FailedToOpen, Bytes, Lost, Drain, Poll, Shown}
 use Rattle.pulsar_client.specs.Link.{spent}
 use Rattle.pulsar_client.specs.Effects.{effects, effect_below}
 use Rattle.pulsar_client.specs.Rules.{at_once, below, causes, joins, parts}
@@ -74,7 +74,12 @@ Good o h = run.Good rules o h
 -- how many events of a history are calls; the greatest number is never drawn, and stands for the calls beyond it
 abbrev pub is_call : Heard → Bool
 is_call (Called asked) = true
-is_call _ = false
+is_call (Opened l) = false
+is_call (FailedToOpen l kind) = false
+is_call (Bytes l piece) = false
+is_call (Lost l) = false
+is_call (Drain l most) = false
+is_call (Poll ticket) = false
 
 abbrev pub calls_in : List Step → ℕ
 calls_in [] = 0

@@ -9,7 +9,7 @@ use Rattle.pulsar_wire.specs.Views.{message_id_values}
 use Rattle.pulsar_frame.specs.Payload.{payload_values}
 use Rattle.pulsar_client.specs.declared.act.Arrival.TheVariants as arrival
 use Rattle.pulsar_client.specs.declared.act.LinkAct.{LinkAct}
-use Rattle.pulsar_client.specs.declared.act.LinkAct.TheVariants.{Comes}
+use Rattle.pulsar_client.specs.declared.act.LinkAct.TheVariants.{Opens, Fails, Loses, Comes, Drains}
 use Rattle.pulsar_client.specs.declared.consumers.subscriber.Subscriber.{Subscriber}
 use Rattle.pulsar_client.specs.declared.consumers.subscriber.Unread.{Unread}
 use Rattle.pulsar_client.specs.declared.consumers.subscriber.Unread.TheVariants.{Message, Failure}
@@ -66,7 +66,11 @@ given_at tickets link number items t row = if is_listed t tickets then option_ma
 -- an act is a frame that answers one of these requests
 abbrev pub answered_by : LinkAct → List Pending → Bool
 answered_by (Comes (arrival.Message m)) waiting = settles_one m.key waiting
-answered_by _ waiting = false
+answered_by (Comes (arrival.Bad reason)) waiting = false
+answered_by Opens waiting = false
+answered_by (Fails kind) waiting = false
+answered_by Loses waiting = false
+answered_by (Drains most) waiting = false
 
 -- the requests that wait on a link, where it is live
 abbrev pub waiting_on : Option Seat → List Pending

@@ -3,9 +3,9 @@ use Rattle.std.specs.Prelude.{ℕ, Bool, true, false, List, [], ◌∷◌, ◌++
 use Rattle.std.specs.List.{list_any}
 use Rattle.pulsar_wire.specs.declared.key.RequestKey.{RequestKey}
 use Rattle.pulsar_wire.specs.declared.key.RequestKey.TheVariants as key
-use Rattle.pulsar_client.specs.declared.act.Arrival.TheVariants.{Message}
+use Rattle.pulsar_client.specs.declared.act.Arrival.TheVariants.{Message, Bad}
 use Rattle.pulsar_client.specs.declared.act.LinkAct.{LinkAct}
-use Rattle.pulsar_client.specs.declared.act.LinkAct.TheVariants.{Comes}
+use Rattle.pulsar_client.specs.declared.act.LinkAct.TheVariants.{Opens, Fails, Loses, Comes, Drains}
 use Rattle.pulsar_client.specs.Content.{Shown, Hands, Faults, FindsNothing, FindsEnd}
 use Rattle.pulsar_client.specs.Items.{Item, Given, Faulty}
 use Rattle.pulsar_client.specs.declared.session.given.Admission.{Admission}
@@ -31,12 +31,20 @@ fresh link number topic = record { link = link; number = number; topic = topic; 
 -- a frame that bears this number of a consumer
 abbrev pub names : Option RequestKey → ℕ → Bool
 names (Some (key.Consumer c)) number = c == number
-names _ number = false
+names (Some (key.RequestId r)) number = false
+names (Some (key.ProducerSend p s)) number = false
+names (Some (key.CloseConsumer c r)) number = false
+names (Some key.AuthChallenge) number = false
+names None number = false
 
 -- a frame that closes the consumer of this number
 abbrev pub closes : Option RequestKey → ℕ → Bool
 closes (Some (key.CloseConsumer c r)) number = c == number
-closes _ number = false
+closes (Some (key.RequestId r)) number = false
+closes (Some (key.ProducerSend p s)) number = false
+closes (Some (key.Consumer c)) number = false
+closes (Some key.AuthChallenge) number = false
+closes None number = false
 
 -- a message of the broker for a consumer of this number
 abbrev pub brings_message : Reply → ℕ → Bool
@@ -67,7 +75,11 @@ after_frame m waiting s =
 -- a live consumer after what comes to its link
 abbrev pub after_own : LinkAct → List Pending → Subscription → Subscription
 after_own (Comes (Message m)) waiting s = after_frame m waiting s
-after_own _ waiting s = s
+after_own (Comes (Bad reason)) waiting s = s
+after_own Opens waiting s = s
+after_own (Fails kind) waiting s = s
+after_own Loses waiting s = s
+after_own (Drains most) waiting s = s
 
 -- a consumer after what comes to a link, on which these requests wait
 abbrev pub hears : (link : ℕ) → LinkAct → List Pending → Subscription → Subscription

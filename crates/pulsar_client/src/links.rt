@@ -99,7 +99,11 @@ impl Links {
                 Some(row) => row.link.pending.is_awaited(message.key()),
                 None => false,
             },
-            _ => false,
+            LinkAct::Comes(Arrival::Bad(_))
+            | LinkAct::Opens
+            | LinkAct::Fails(_)
+            | LinkAct::Loses
+            | LinkAct::Drains(_) => false,
         }
     }
 

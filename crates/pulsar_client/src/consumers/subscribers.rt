@@ -78,7 +78,11 @@ impl Subscribers {
     {
         match act {
             LinkAct::Comes(Arrival::Message(message)) => self.hear_frame(link, message, is_answer),
-            _ => Ok(()),
+            LinkAct::Comes(Arrival::Bad(_))
+            | LinkAct::Opens
+            | LinkAct::Fails(_)
+            | LinkAct::Loses
+            | LinkAct::Drains(_) => Ok(()),
         }
     }
 

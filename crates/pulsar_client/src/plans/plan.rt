@@ -2,8 +2,9 @@
 
 ghost use Rattle.std.specs.Prelude.{◌≡◌, IfOk};
 ghost use Rattle.pulsar_client.specs.Failures.{fault};
-ghost use Rattle.pulsar_client.specs.Plan.{asks, begins, fails, fault_of, makes, replied, told, verdict, waits, wanted};
+ghost use Rattle.pulsar_client.specs.Plan.{asks, begins, fails, fault_of, makes, raw_makes, replied, told, verdict, waits, wanted};
 ghost use Rattle.pulsar_client.specs.Content.{Done};
+ghost use Rattle.pulsar_client.specs.RawCall.{words};
 
 use crate::act::{Action, Makes, Outcome, Place, Procedure, Verdict};
 use crate::content::{Question, Received, Request, Said, Text};
@@ -94,18 +95,30 @@ fn makes(link: u64, request: &Request) -> Result<Makes, NoMemory>
     ensures { IfOk result (λ m. m ≡ makes link request.now) }
 {
     match request.question() {
-        Question::Raw(
-            RawCall::Subscribe {
-                topic,
-                consumer_id,
-                ..
-            },
-        ) => Ok(Makes::Consumer {
+        Question::Topics { .. } => Ok(Makes::Nothing),
+        Question::Raw(call) => raw_makes(link, call),
+    }
+}
+
+fn raw_makes(link: u64, call: &RawCall) -> Result<Makes, NoMemory>
+    ensures { IfOk result (λ m. m ≡ raw_makes link (words call.now)) }
+{
+    match call {
+        RawCall::Subscribe {
+            topic,
+            consumer_id,
+            ..
+        } => Ok(Makes::Consumer {
             link,
             number: *consumer_id,
             topic: Text::new(topic.clone()?),
         }),
-        _ => Ok(Makes::Nothing),
+        RawCall::CreateProducer { .. }
+        | RawCall::Send { .. }
+        | RawCall::CloseProducer { .. }
+        | RawCall::SendFlow { .. }
+        | RawCall::SendAck { .. }
+        | RawCall::CloseConsumer { .. } => Ok(Makes::Nothing),
     }
 }
 

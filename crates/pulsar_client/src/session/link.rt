@@ -245,7 +245,11 @@ impl Link {
             LinkAct::Drains(most) if self.stage.is_open() => {
                 take_frames(alloc, &mut self.unwritten, *most)
             }
-            _ => Ok(None),
+            LinkAct::Opens
+            | LinkAct::Fails(_)
+            | LinkAct::Loses
+            | LinkAct::Comes(_)
+            | LinkAct::Drains(_) => Ok(None),
         }
     }
 
@@ -261,7 +265,11 @@ impl Link {
                 self.pending = left;
                 replies(alloc, settled, message)
             }
-            _ => Ok(VecDeque::new(alloc)),
+            LinkAct::Comes(Arrival::Bad(_))
+            | LinkAct::Opens
+            | LinkAct::Fails(_)
+            | LinkAct::Loses
+            | LinkAct::Drains(_) => Ok(VecDeque::new(alloc)),
         }
     }
 

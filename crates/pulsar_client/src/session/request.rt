@@ -4,7 +4,7 @@ ghost use Rattle.std.specs.Prelude.{◌≡◌, ℕ, IfOk};
 ghost use Rattle.pulsar_frame.specs.Shown.{message_values};
 ghost use Rattle.pulsar_client.specs.Messages.{body_of, raw_message};
 ghost use Rattle.pulsar_client.specs.RawCall.{words};
-ghost use Rattle.pulsar_client.specs.Request.{Raw, awaited, closed_consumer, is_numbered, numbered, raw_awaited, request_message, request_number};
+ghost use Rattle.pulsar_client.specs.Request.{awaited, closed_by, closed_consumer, is_numbered, numbered, raw_awaited, request_message, request_number};
 
 use crate::content::{Question, Request};
 use crate::raw_call::RawCall;
@@ -149,10 +149,15 @@ fn raw_number(call: &RawCall) -> u32
 }
 
 fn raw_closed(call: &RawCall) -> Option<u64>
-    ensures { result ≡ closed_consumer (Raw (words call.now)) }
+    ensures { result ≡ closed_by (words call.now) }
 {
     match call {
         RawCall::CloseConsumer { consumer_id } => Some(*consumer_id),
-        _ => None,
+        RawCall::CreateProducer { .. }
+        | RawCall::Send { .. }
+        | RawCall::CloseProducer { .. }
+        | RawCall::Subscribe { .. }
+        | RawCall::SendFlow { .. }
+        | RawCall::SendAck { .. } => None,
     }
 }

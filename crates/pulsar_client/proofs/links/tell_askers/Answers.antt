@@ -9,5 +9,5 @@ use Rattle.pulsar_client.proofs.links.tell_askers.Goals as goal
 pub loop-word-preserved : goal.loop-word-preserved
 loop-word-preserved c =
     c.in_ok-tell_asker.ensures
-    ∙ ap (λ ns. ns ++ option_to_list (heard_by (get nat_cmp c.args.askers.now) _)) c.loop-word.invariant
-    ∙ sym (filter_map_end (heard_by (get nat_cmp c.args.askers.now)) c.loop-word.yielded _)
+    ∙ ap (λ ns. ns ++ option_to_list (heard_by (get nat_cmp c.args.askers.now) c.in-Some.word)) c.loop-word.invariant
+    ∙ sym (filter_map_end (heard_by (get nat_cmp c.args.askers.now)) c.loop-word.yielded c.in-Some.word)

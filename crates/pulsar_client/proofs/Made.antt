@@ -30,6 +30,7 @@ use Rattle.pulsar_client.specs.Rules.{at_once, brings, called, does, follows, fo
 use Rattle.pulsar_client.specs.Run.{Entry, Begins, Then, IsRun, agenda, first, rules, view}
 use Rattle.pulsar_client.specs.View.{Chosen, View, begun, begun_live, is_live, told_some}
 use Rattle.pulsar_client.specs.Who.{is_same}
+use Rattle.pulsar_client.proofs.Ticketed.{start_ticket}
 
 -- WHAT ARISES AT ONCE IS NO PART
 
@@ -379,7 +380,7 @@ pub calls_are_made_lem : CallsAreMade
 calls_are_made_lem o log t p run =
     let m = is_made o log (Call t) p run in
     let e : t ≡ (view o m.older).calls.drawn = (let f = m.ticket in cc) in
-    (m.asked, m.older, m.is_there, e, m.procedure)
+    (m.asked, m.older, m.is_there, e, start_ticket o log t p run, m.procedure)
 
 -- THE GREATEST TICKET
 

@@ -1,4 +1,4 @@
--- A consumer has the ticket of a call that began, so never the greatest.
+-- A call that begins has never the greatest ticket, and a consumer has that of a call that began.
 use Rattle.std.proofs.Common.{◌≡◌, ◌∙◌, sym, ap, subst, ℕ, ◌<◌, ◌≤◌, List, [], ◌∷◌, ◌++◌, refl, arith, Bool, true, false, cond, ◌==◌, Option, Some, None, inl, inr}
 use Rattle.std.proofs.lemmas.Bool.{cases_Bool, eqb-true}
 use Rattle.std.proofs.lemmas.Bool.Decides.{nat_tests}
@@ -14,6 +14,7 @@ use Rattle.pulsar_client.specs.declared.act.Notice.{Notice}
 use Rattle.pulsar_client.specs.declared.act.Outcome.{Outcome}
 use Rattle.pulsar_client.specs.declared.act.Part.{Part}
 use Rattle.pulsar_client.specs.declared.act.Part.TheVariants.{Calls, ToLink, Polls}
+use Rattle.pulsar_client.specs.declared.act.Procedure.{Procedure}
 use Rattle.pulsar_client.specs.declared.act.Verdict.{Verdict}
 use Rattle.pulsar_client.specs.declared.act.Who.{Who}
 use Rattle.pulsar_client.specs.declared.act.Who.TheVariants.{Call}
@@ -234,3 +235,6 @@ older_run o (Then a ∷ later) older run = older_run o later older run.0
 
 pub older_ticket : (o : Chosen) (later older : List Entry) (t : ℕ) (s : Subscription) → IsRun o (later ++ older) → (view o older).consumers t ≡ Some s → t < spent
 older_ticket o later older t s run h = consumer_ticket o older t s (older_run o later older run) h
+
+pub start_ticket : (o : Chosen) (log : List Entry) (t : ℕ) (p : Procedure) → IsRun o (Then (Starts (Call t) p) ∷ log) → t < spent
+start_ticket o log t p run = due_first (agenda o log).now (agenda o log).here (agenda o log).behind (agenda o log).parts (Starts (Call t) p) (tickets o log run.0).due run.1

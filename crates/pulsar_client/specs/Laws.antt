@@ -70,11 +70,12 @@ CausesInOrder = (o : Chosen) (log : List Entry) → InOrder below (agenda o log)
 
 -- CALLS
 
--- a call is made where the user asks for it, with the next ticket, and is refused just where the client isn't built
+-- a call is made where the user asks for it, with the next ticket, which is never the greatest, and is refused just where the client
+-- isn't built
 abbrev pub CallsAreMade : Type 0
 CallsAreMade = (o : Chosen) (log : List Entry) (t : ℕ) (p : Procedure) → IsRun o (Then (Starts (Call t) p) ∷ log) →
     (asked : Asked) × (older : List Entry) × (log ≡ Then (Comes (Calls asked)) ∷ Begins (Called asked) ∷ older)
-    × (t ≡ (view o older).calls.drawn) × (p ≡ procedure_for (view o older).calls.is_built asked)
+    × (t ≡ (view o older).calls.drawn) × (t < spent) × (p ≡ procedure_for (view o older).calls.is_built asked)
 
 -- the newest procedure that one of them started, and the outcomes that it was told since then, oldest first
 abbrev pub started : Who → List Entry → Option Procedure

@@ -1,6 +1,6 @@
 //! The links of a client, and who asked on each.
 
-ghost use Rattle.std.specs.Prelude.{◌≡◌, ◌==◌, ◌+◌, ◌++◌, [], ℕ, IfOk, OnOk, Some, None, map, true, if◌then◌else◌};
+ghost use Rattle.std.specs.Prelude.{◌≡◌, ◌==◌, ◌&&◌, ◌+◌, ◌++◌, [], ℕ, IfOk, OnOk, Some, None, map, true, if◌then◌else◌};
 ghost use Rattle.std.specs.BTreeMap.{get};
 ghost use Rattle.std.specs.List.{filter_map, list_any};
 ghost use Rattle.std.specs.Ordering.{nat_cmp};
@@ -125,9 +125,8 @@ impl Links {
             return Ok((Change::Remains, Vec::new(alloc)));
         };
         let (change, notices) = row.take(alloc, link, act, out)?;
-        if change.is_ended() {
-            self.live.remove(&link);
-        }
+        let is_over = row.link.stage.is_over();
+        forget_over(&mut self.live, link, is_over);
         Ok((change, notices))
     }
 
@@ -205,6 +204,15 @@ impl Row {
         }
         queue(out, link, frame)?;
         Ok(admission)
+    }
+}
+
+/// A link is forgotten where it is over.
+fn forget_over(live: &mut BTreeMap<u64, Row>, link: u64, is_over: bool)
+    ensures { (l : ℕ) → get nat_cmp live.new l ≡ (if is_over && (l == link) then None else get nat_cmp live.old l) }
+{
+    if is_over {
+        live.remove(&link);
     }
 }
 

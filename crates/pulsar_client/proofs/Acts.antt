@@ -1,5 +1,5 @@
 -- What an act makes of what is seen and of what is left to do, where it makes little.
-use Rattle.std.proofs.Common.{◌≡◌, ◌∙◌, sym, ap, ℕ, List, [], ◌∷◌, ◌++◌, refl, map, append-nil, Bool, true, false, cond, ◌==◌, Option, Some, None, inl, inr}
+use Rattle.std.proofs.Common.{◌≡◌, ◌∙◌, sym, ap, ℕ, List, [], ◌∷◌, ◌++◌, refl, map, append-nil, Bool, true, false, cond, ◌==◌, Option, Some, None, inl, inr, Result, Ok, Err, OnOk}
 use Rattle.std.proofs.lemmas.Bool.{cases_Bool, eqb-true}
 use Rattle.std.specs.Option.{is_none, is_some, option_map}
 use Rattle.pulsar_client.specs.declared.act.Act.{Act}
@@ -73,3 +73,7 @@ took_there x live l k = elim (cases_Bool (k == l)) [
   | inl e ↦ ap (λ r. cond (k == l) (took_some x r) (live k)) (ap live (sym (eqb-true k l e)))
   | inr e ↦ rw e refl
 ]
+
+pub on_ok : {A B P : Type 0} (r : Result A B) → P → OnOk r P
+on_ok (Ok x) p = p
+on_ok (Err e) p = tt

@@ -1,7 +1,7 @@
 -- The tickets that are drawn are the calls of the history.
 use Rattle.std.proofs.Common.{◌≡◌, ◌∙◌, ℕ, ◌+◌, ◌==◌, sym, ap, List, [], ◌∷◌, ◌++◌, refl, map, Option, Some, None, Bool, true, false, cond, inl, inr}
 use Rattle.std.proofs.lemmas.Bool.{cases_Bool, eqb-true}
-use Rattle.pulsar_run.specs.Run.{in_order, with_effects}
+use Rattle.pulsar_run.specs.Run.{in_order, steps_done, with_effects}
 use Rattle.pulsar_client.specs.declared.act.Act.{Act}
 use Rattle.pulsar_client.specs.declared.act.Act.TheVariants.{Comes, Starts, Told, Does, Answers, Dials}
 use Rattle.pulsar_client.specs.declared.act.Action.{Action}
@@ -29,7 +29,7 @@ use Rattle.pulsar_client.specs.Laws.{TicketsCount}
 use Rattle.pulsar_client.specs.Link.{arrivals, spent}
 use Rattle.pulsar_client.specs.Plan.{begins, fails}
 use Rattle.pulsar_client.specs.Rules.{at_once, brings, called, does, follows, follows_some, gets, parts, performs, procedure_for, unread_of}
-use Rattle.pulsar_client.specs.Run.{Entry, Begins, Then, Agenda, IsRun, Step, agenda, calls_in, first_of, is_call, rest, rest_of, steps, view}
+use Rattle.pulsar_client.specs.Run.{Entry, Begins, Then, Agenda, IsRun, Step, agenda, calls_in, first_of, is_call, rest, rest_of, rules, steps, view}
 use Rattle.pulsar_client.specs.Tables.{Stands}
 use Rattle.pulsar_client.specs.View.{Chosen, View, begun, begun_live, drawn_after, is_live, told_some}
 
@@ -150,7 +150,7 @@ counted o (Then a ∷ log) (run, first_is) =
     ap (parts_drawn (rest g).parts) (once_none v a (rest g).now (drawn_after a v.calls.drawn))
     ∙ moved g.now g.here g.behind g.parts a v.calls.drawn first_is
     ∙ counted o log run
-    ∙ sym (calls_same (effects v a) _)
+    ∙ sym (calls_same (effects v a) (steps_done rules o log))
 
 pub tickets_count_lem : TicketsCount
 tickets_count_lem o log run rests =

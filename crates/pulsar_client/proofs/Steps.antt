@@ -46,5 +46,5 @@ dead_step {o} c {h} e dead s =
 
 pub not_live : (c : Pulsar) (e : Heard) → IsDead c e → is_live (view_of c.tables) e ≡ false
 not_live c e d =
-    let s = d.1.1.0.stands in
-    ap (λ v. is_live v e) s.sees ∙ d.1.1.1 (record { log = s.log; run = s.run; rests = s.rests; same = s.same })
+    let s = d.2.stands in
+    ap (λ v. is_live v e) s.sees ∙ d.3 (record { log = s.log; run = s.run; rests = s.rests; same = s.same })

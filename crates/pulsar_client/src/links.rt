@@ -178,7 +178,7 @@ impl Row {
         close(out, link, change)?;
         let places = places_of(alloc, &words)?;
         let notices = tell_askers(alloc, &self.askers, words)?;
-        forget(&mut self.askers, &places);
+        forget(&mut self.askers, places);
         Ok((change, notices))
     }
 
@@ -260,11 +260,11 @@ fn places_of(alloc: Global, words: &VecDeque<Word>) -> Result<Vec<u64>, NoMemory
 }
 
 /// Those of these places are no askers any more.
-fn forget(askers: &mut BTreeMap<u64, Who>, places: &[u64])
-    ensures { (place : ℕ) → get nat_cmp askers.new place ≡ (if list_any (λ p. p == place) places.now then None else get nat_cmp askers.old place) }
+fn forget(askers: &mut BTreeMap<u64, Who>, places: Vec<u64>)
+    ensures { (place : ℕ) → get nat_cmp askers.new place ≡ (if list_any (λ p. p == place) places.items then None else get nat_cmp askers.old place) }
 {
     for place in places {
-        askers.remove(place);
+        askers.remove(&place);
     }
 }
 

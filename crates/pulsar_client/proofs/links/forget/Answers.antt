@@ -1,6 +1,5 @@
-use Rattle.std.proofs.Common.{◌≡◌, ◌∙◌, ap, sym, ℕ, ◌==◌, ◌<◌, ◌||◌, List, [], ◌∷◌, Bool, true, false, cond, Option, None, arith, refl, take, length}
-use Rattle.std.proofs.lemmas.List.{take_more}
-use Rattle.std.specs.BTreeMap.{get, is_at}
+use Rattle.std.proofs.Common.{◌≡◌, ◌∙◌, ap, sym, ◌==◌, ◌||◌, Bool, true, false, cond, Option, None, refl}
+use Rattle.std.specs.BTreeMap.{get}
 use Rattle.std.specs.List.{list_any}
 use Rattle.std.specs.Ordering.{nat_cmp}
 use Rattle.pulsar_client.specs.declared.act.Who.{Who}
@@ -16,13 +15,10 @@ more false false row = refl
 
 pub loop-place-preserved : goal.loop-place-preserved
 loop-place-preserved c = λ place.
-    let places = c.args.places.now in
-    let i = c.loop-place.place-index in
-    let lt : i < length places = omega arith in
-    let last = c.place-item.result in
-    c.remove.ensures.updates place
+    let seen = c.loop-place.yielded in
+    let last = c.in-Some.place in
+    c.remove.ensures.updates.0 place
     ∙ ap (λ b. cond b None (get nat_cmp c.loop-place.askers place)) (is_at-eqb last place)
     ∙ ap (cond (last == place) None) (c.loop-place.invariant place)
-    ∙ more (last == place) (list_any (λ p. p == place) (take i places)) (get nat_cmp c.args.askers.now place)
-    ∙ ap (λ b. cond b None (get nat_cmp c.args.askers.now place)) (sym (any_end (λ p. p == place) (take i places) last))
-    ∙ ap (λ ps. cond (list_any (λ p. p == place) ps) None (get nat_cmp c.args.askers.now place)) (sym (take_more i places last lt c.place-item.is))
+    ∙ more (last == place) (list_any (λ p. p == place) seen) (get nat_cmp c.args.askers.now place)
+    ∙ ap (λ b. cond b None (get nat_cmp c.args.askers.now place)) (sym (any_end (λ p. p == place) seen last))

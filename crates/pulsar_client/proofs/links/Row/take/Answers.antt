@@ -10,6 +10,6 @@ pub returns-clause-askers : goal.returns-clause-askers
 returns-clause-askers c = λ place.
     c.forget.ensures place
     ∙ ap (λ b. cond b None (get nat_cmp c.args.self.now.askers place)) (
-    ap (list_any (λ p. p == place)) c.in_ok-places_of.ensures
-    ∙ any_map (λ w. w.place) (λ p. p == place) c.in_ok-take.field-0.words.items
-    ∙ ap (λ g. is_told g.words place) c.in_ok-take.ensures.given)
+    ap (list_any (λ p. p == place)) c.in_ok-places.ensures
+    ∙ any_map (λ w. w.place) (λ p. p == place) c.in_ok-change.words.items
+    ∙ ap (λ g. is_told g.words place) c.in_ok-change.ensures.given)

@@ -8,7 +8,7 @@ returns-clause-ok c = λ o h s. record { stands = c.in_ok-out.ensures o h s.stan
 
 pub returns-then-not-is_live-clause-ok : goal.returns-then-not-is_live-clause-ok
 returns-then-not-is_live-clause-ok c = λ o h s. record {
-  stands = rw c.new.ensures.items (dead_step _ (heard c.args.event) (sym c.is_live.ensures ∙ c.if-not-is_live.true) s.stands);
+  stands = rw c.new.ensures.items (dead_step c.args.self.now.tables (heard c.args.event) (sym c.is_live.ensures ∙ c.if-not-is_live.true) s.stands);
   whole = s.whole;
 }
 

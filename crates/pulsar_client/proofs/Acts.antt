@@ -1,7 +1,7 @@
 -- What an act makes of what is seen and of what is left to do, where it makes little.
 use Rattle.std.proofs.Common.{◌≡◌, ◌∙◌, sym, ap, ℕ, List, [], ◌∷◌, ◌++◌, refl, map, append-nil, Bool, true, false, cond, ◌==◌, Option, Some, None, inl, inr, Result, Ok, Err, OnOk}
 use Rattle.std.proofs.lemmas.Bool.{cases_Bool, eqb-true}
-use Rattle.std.specs.Option.{is_none, is_some, option_map}
+use Rattle.std.specs.Option.{is_some, option_map}
 use Rattle.pulsar_client.specs.declared.act.Act.{Act}
 use Rattle.pulsar_client.specs.declared.act.Act.TheVariants.{Comes}
 use Rattle.pulsar_client.specs.declared.act.LinkAct.{LinkAct}
@@ -63,16 +63,9 @@ heard_on l x None row h = absurd cc
 heard_on l x (Some seat) None h = refl
 heard_on l x (Some seat) (Some s) h = refl
 
-pub some_from : {A B : Type 0} (f : A → B) (row : Option A) → is_none (option_map f row) ≡ false → is_some row ≡ true
+pub some_from : {A B : Type 0} (f : A → B) (row : Option A) → is_some (option_map f row) ≡ true → is_some row ≡ true
 some_from f None h = absurd cc
 some_from f (Some x) h = refl
-
--- what it makes of its own row
-pub took_there : (x : LinkAct) (live : ℕ → Option Seat) (l k : ℕ) → cond (k == l) (took_some x (live l)) (live k) ≡ cond (k == l) (took_some x (live k)) (live k)
-took_there x live l k = elim (cases_Bool (k == l)) [
-  | inl e ↦ ap (λ r. cond (k == l) (took_some x r) (live k)) (ap live (sym (eqb-true k l e)))
-  | inr e ↦ rw e refl
-]
 
 pub on_ok : {A B P : Type 0} (r : Result A B) → P → OnOk r P
 on_ok (Ok x) p = p

@@ -11,5 +11,5 @@ returns-clause-askers c = λ place.
     c.forget.ensures place
     ∙ ap (λ b. cond b None (get nat_cmp c.args.self.now.askers place)) (
     ap (list_any (λ p. p == place)) c.in_ok-places.ensures
-    ∙ any_map (λ w. w.place) (λ p. p == place) c.in_ok-change.words.items
+    ∙ any_map (λ w. w.place) (λ p. p == place) c.in_ok-change.field-0.words.items
     ∙ ap (λ g. is_told g.words place) c.in_ok-change.ensures.given)

@@ -1,5 +1,5 @@
 -- What an act makes of what is seen and of what is left to do, where it makes little.
-use Rattle.std.proofs.Common.{◌≡◌, ◌∙◌, sym, ap, ℕ, List, [], ◌∷◌, ◌++◌, refl, map, append-nil, Bool, true, false, cond, ◌==◌, Option, Some, None}
+use Rattle.std.proofs.Common.{◌≡◌, ◌∙◌, sym, ap, ℕ, List, [], ◌∷◌, ◌++◌, refl, map, append-nil, Bool, true, false, cond, ◌==◌, Option, Some, None, inl, inr, Result, Ok, Err, OnOk}
 use Rattle.std.proofs.lemmas.Bool.{cases_Bool, eqb-true}
 use Rattle.std.specs.Option.{is_some, option_map}
 use Rattle.pulsar_client.specs.declared.act.Act.{Act}
@@ -7,7 +7,8 @@ use Rattle.pulsar_client.specs.declared.act.Act.TheVariants.{Comes}
 use Rattle.pulsar_client.specs.declared.act.LinkAct.{LinkAct}
 use Rattle.pulsar_client.specs.declared.act.Part.TheVariants.{ToLink}
 use Rattle.pulsar_client.specs.Run.{Agenda, goes_on}
-use Rattle.pulsar_client.specs.Rules.{caused, heard_at, opens, served}
+use Rattle.pulsar_run.specs.Order.{arranged}
+use Rattle.pulsar_client.specs.Rules.{below, caused, heard_at, opens, served}
 use Rattle.pulsar_client.specs.Subscribers.{waiting_on}
 use Rattle.pulsar_client.specs.Subscriptions.{Subscription, ends_with, hears}
 use Rattle.pulsar_client.specs.View.{Base, Seat, View, after, base_turned, hears_some, took_some, turned}
@@ -50,12 +51,9 @@ dead_view v l x h = λ i. record {
 }
 
 pub dead_left : (v : View) (l : ℕ) (x : LinkAct) (g : Agenda) → v.links.live l ≡ None → g ≡ goes_on v (Comes (ToLink l x)) g
-dead_left v l x g h = sym (same_left g) ∙ (λ i. record {
-  now = g.now;
-  here = g.here;
-  behind = g.behind ++ map _ (caused l x v.base (h (~ i)));
-  parts = g.parts;
-})
+dead_left v l x g h =
+    sym (same_left g)
+    ∙ ap (λ r. record { now = g.now; here = g.here; behind = g.behind ++ map (arranged below) (caused l x v.base r); parts = g.parts }) (sym h)
 
 -- A LIVE ONE
 
@@ -64,3 +62,11 @@ pub heard_on : (l : ℕ) (x : LinkAct) (r : Option Seat) (row : Option Subscript
 heard_on l x None row h = absurd cc
 heard_on l x (Some seat) None h = refl
 heard_on l x (Some seat) (Some s) h = refl
+
+pub some_from : {A B : Type 0} (f : A → B) (row : Option A) → is_some (option_map f row) ≡ true → is_some row ≡ true
+some_from f None h = absurd cc
+some_from f (Some x) h = refl
+
+pub on_ok : {A B P : Type 0} (r : Result A B) → P → OnOk r P
+on_ok (Ok x) p = p
+on_ok (Err e) p = tt

@@ -1,5 +1,5 @@
 -- What std's sorts by a key give.
-use Rattle.std.proofs.Common.{◌≡◌, ◌∙◌, sym, ap, subst, ℕ, List, map, Bool, true, false, cond, refl, arith, nat_lt, ◌==◌}
+use Rattle.std.proofs.Common.{◌≡◌, ◌∙◌, sym, ap, subst, ℕ, List, map, Bool, true, false, cond, refl, arith, nat_lt, ◌==◌, inl, inr}
 use Rattle.std.proofs.lemmas.Bool.{cases_Bool}
 use Rattle.std.proofs.lemmas.Bool.Decides.{nat_tests}
 use Rattle.std.proofs.lemmas.Grind.{common_steps}
@@ -22,7 +22,7 @@ abbrev cmp2 : ℕ × ℕ → ℕ × ℕ → Ordering
 cmp2 x y = ordering_then (nat_cmp x.0 y.0) (nat_cmp x.1 y.1)
 
 abbrev cmp3 : ℕ × ℕ × ℕ → ℕ × ℕ × ℕ → Ordering
-cmp3 x y = ordering_then (nat_cmp x.0 y.0) (ordering_then (nat_cmp x.1 y.1) (nat_cmp x.2 y.2))
+cmp3 x y = ordering_then (ordering_then (nat_cmp x.0 y.0) (nat_cmp x.1 y.1)) (nat_cmp x.2 y.2)
 
 lt1 : (a b : ℕ) → is_lt (nat_cmp a b) ≡ nat_lt a b
 lt1 a b = elim (nat_lt a b) as (λ t. is_lt (cond t Less (cond (a == b) Equal Greater)) ≡ t) [ true ↦ refl | false ↦ other (a == b) ]
@@ -41,9 +41,15 @@ lt_then a c o b h = elim (cases_Bool (nat_lt a c)) [
 lt2 : (x y : ℕ × ℕ) → is_lt (cmp2 x y) ≡ is_before x y
 lt2 x y = lt_then x.0 y.0 (nat_cmp x.1 y.1) (nat_lt x.1 y.1) (lt1 x.1 y.1)
 
+then_same : (a b c : Ordering) → ordering_then (ordering_then a b) c ≡ ordering_then a (ordering_then b c)
+then_same Less b c = refl
+then_same Equal b c = refl
+then_same Greater b c = refl
+
 lt3 : (x y : ℕ × ℕ × ℕ) → is_lt (cmp3 x y) ≡ is_before3 x y
 lt3 x y =
-    lt_then x.0 y.0 (ordering_then (nat_cmp x.1 y.1) (nat_cmp x.2 y.2)) (cond (x.1 == y.1) (nat_lt x.2 y.2) (nat_lt x.1 y.1))
+    ap is_lt (then_same (nat_cmp x.0 y.0) (nat_cmp x.1 y.1) (nat_cmp x.2 y.2))
+    ∙ lt_then x.0 y.0 (ordering_then (nat_cmp x.1 y.1) (nat_cmp x.2 y.2)) (cond (x.1 == y.1) (nat_lt x.2 y.2) (nat_lt x.1 y.1))
     (lt_then x.1 y.1 (nat_cmp x.2 y.2) (nat_lt x.2 y.2) (lt1 x.2 y.2))
 
 notices_lt : (λ (x y : Notice). is_lt (cmp2 (rank x.who) (rank y.who))) ≡ below

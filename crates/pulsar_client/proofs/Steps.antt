@@ -6,11 +6,13 @@ use Rattle.pulsar_run.specs.Run.{Begins, in_order, only}
 use Rattle.pulsar_client.specs.declared.act.Part.{Part}
 use Rattle.pulsar_client.specs.declared.effect.Effect.{Effect}
 use Rattle.pulsar_client.specs.declared.event.Event.{Event}
+use Rattle.pulsar_client.specs.declared.pulsar.Pulsar.{Pulsar}
 use Rattle.pulsar_client.specs.declared.tables.Tables.{Tables}
+use Rattle.pulsar_client.specs.Client.{IsDead}
 use Rattle.pulsar_client.specs.Content.{Heard, heard, shown}
 use Rattle.pulsar_client.specs.Effects.{effect_below}
 use Rattle.pulsar_client.specs.Rules.{brings}
-use Rattle.pulsar_client.specs.Run.{Step, first, steps}
+use Rattle.pulsar_client.specs.Run.{Step, first, steps, view}
 use Rattle.pulsar_client.specs.Tables.{Stands, answered, step, view_of}
 use Rattle.pulsar_client.specs.View.{Chosen, View, begun_live, is_live}
 
@@ -21,6 +23,10 @@ answered_more [] (y ∷ ys) e x h = absurd (omega (arith, h))
 answered_more (d ∷ es) [] e x h = absurd (omega (arith, h))
 answered_more (d ∷ es) (y ∷ ys) e x h = ap (λ t. step d y.items ∷ t) (answered_more es ys e x (omega (arith, h)))
 
+-- an event with the same content makes the same step
+pub same_step : (d e : Event) (x : List Effect) → heard d ≡ heard e → step d x ≡ step e x
+same_step d e x h = ap (λ t. record { event = t; effects = map shown x }) h
+
 pub history_more : (es : List Event) (xs : List (Vec Effect)) (e : Event) (x : Vec Effect) → length xs ≡ length es →
     reverse (answered (es ++ e ∷ []) (xs ++ x ∷ [])) ≡ step e x.items ∷ reverse (answered es xs)
 history_more es xs e x h = rw (answered_more es xs e x h) (simp reverse-append)
@@ -28,11 +34,17 @@ history_more es xs e x h = rw (answered_more es xs e x h) (simp reverse-append)
 -- an event that isn't live changes nothing, and nothing is left to do
 pub dead_step : {o : Chosen} (c : Tables) {h : List Step} (e : Heard) → is_live (view_of c) e ≡ false → Stands o c h → Stands o c (record { event = e; effects = [] } ∷ h)
 dead_step {o} c {h} e dead s =
-    let dead_there = ap (λ v. is_live v e) (sym s.sees) ∙ dead in
+    let v = view o s.log in
+    let dead_there : is_live v e ≡ false = ap (λ x. is_live x e) (sym s.sees) ∙ dead in
     record {
       log = Begins e ∷ s.log;
       run = (s.run, s.rests);
-      rests = ap (λ b. first (only (cond b (brings _ e) []))) dead_there;
+      rests = ap (λ b. first (only (cond b (brings v e) []))) dead_there;
       same = ap (λ x. record { event = e; effects = [] } ∷ x) s.same;
-      sees = s.sees ∙ sym (ap (λ b. cond b (begun_live e _) _) dead_there);
+      sees = s.sees ∙ sym (ap (λ b. cond b (begun_live e v) v) dead_there);
     }
+
+pub not_live : (c : Pulsar) (e : Heard) → IsDead c e → is_live (view_of c.tables) e ≡ false
+not_live c e d =
+    let s = d.2.stands in
+    ap (λ v. is_live v e) s.sees ∙ d.3 (record { log = s.log; run = s.run; rests = s.rests; same = s.same })

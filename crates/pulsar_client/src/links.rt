@@ -1,6 +1,6 @@
 //! The links of a client, and who asked on each.
 
-ghost use Rattle.std.specs.Prelude.{◌≡◌, ◌==◌, ◌+◌, ◌++◌, [], ℕ, IfOk, OnOk, Some, None, map, true, if◌then◌else◌};
+ghost use Rattle.std.specs.Prelude.{◌≡◌, ◌==◌, ◌&&◌, ◌+◌, ◌++◌, [], ℕ, IfOk, OnOk, Some, None, map, true, if◌then◌else◌};
 ghost use Rattle.std.specs.BTreeMap.{get};
 ghost use Rattle.std.specs.List.{filter_map, list_any};
 ghost use Rattle.std.specs.Ordering.{nat_cmp};
@@ -125,9 +125,8 @@ impl Links {
             return Ok((Change::Remains, Vec::new(alloc)));
         };
         let (change, notices) = row.take(alloc, link, act, out)?;
-        if change.is_ended() {
-            self.live.remove(&link);
-        }
+        let is_over = row.link.stage.is_over();
+        forget_over(&mut self.live, link, is_over);
         Ok((change, notices))
     }
 
@@ -179,7 +178,7 @@ impl Row {
         close(out, link, change)?;
         let places = places_of(alloc, &words)?;
         let notices = tell_askers(alloc, &self.askers, words)?;
-        forget(&mut self.askers, &places);
+        forget(&mut self.askers, places);
         Ok((change, notices))
     }
 
@@ -205,6 +204,15 @@ impl Row {
         }
         queue(out, link, frame)?;
         Ok(admission)
+    }
+}
+
+/// A link is forgotten where it is over.
+fn forget_over(live: &mut BTreeMap<u64, Row>, link: u64, is_over: bool)
+    ensures { (l : ℕ) → get nat_cmp live.new l ≡ (if is_over && (l == link) then None else get nat_cmp live.old l) }
+{
+    if is_over {
+        live.remove(&link);
     }
 }
 
@@ -252,11 +260,11 @@ fn places_of(alloc: Global, words: &VecDeque<Word>) -> Result<Vec<u64>, NoMemory
 }
 
 /// Those of these places are no askers any more.
-fn forget(askers: &mut BTreeMap<u64, Who>, places: &[u64])
-    ensures { (place : ℕ) → get nat_cmp askers.new place ≡ (if list_any (λ p. p == place) places.now then None else get nat_cmp askers.old place) }
+fn forget(askers: &mut BTreeMap<u64, Who>, places: Vec<u64>)
+    ensures { (place : ℕ) → get nat_cmp askers.new place ≡ (if list_any (λ p. p == place) places.items then None else get nat_cmp askers.old place) }
 {
     for place in places {
-        askers.remove(place);
+        askers.remove(&place);
     }
 }
 

@@ -1,9 +1,9 @@
 //! One raw consumer.
 
-ghost use Rattle.std.specs.Prelude.{◌≡◌, IfOk};
+ghost use Rattle.std.specs.Prelude.{◌≡◌, IfOk, OnOk, map};
 ghost use Rattle.pulsar_client.specs.Content.{shown};
 ghost use Rattle.pulsar_client.specs.Subscribers.{fresh_in, item_of};
-ghost use Rattle.pulsar_client.specs.Subscriptions.{fresh, polled_item};
+ghost use Rattle.pulsar_client.specs.Subscriptions.{after_poll, fresh, polled_from, polled_item};
 
 use crate::content::Text;
 use crate::effect::{Effect, Handed};
@@ -43,6 +43,18 @@ impl Subscriber {
             number,
             topic,
             unread: VecDeque::new(alloc),
+        }
+    }
+
+    /// What it gives to a poll: its first item, and where there is none the end, once it hears no more.
+    pub fn poll(&mut self, ticket: u64, is_live: bool) -> Result<Effect, NoMemory>
+        ensures effect { IfOk result (λ e. shown e ≡ polled_from ticket self.old.topic is_live (map item_of self.old.unread.items)) }
+        ensures left { OnOk result (fresh_in self.new ≡ after_poll (fresh_in self.old)) }
+    {
+        match self.unread.pop_front() {
+            Some(unread) => unread.into_effect(ticket, &self.topic),
+            None if is_live => Ok(Effect::Empty { ticket }),
+            None => Ok(Effect::End { ticket }),
         }
     }
 }

@@ -60,16 +60,11 @@ impl Subscribers {
         ensures effect { IfOk result (λ e. option_map shown e ≡ option_map (polled ticket) (subscription_at self.old ticket)) }
         ensures rows { OnOk result ((t : ℕ) → subscription_at self.new t ≡ (if t == ticket then option_map after_poll (subscription_at self.old t) else subscription_at self.old t)) }
     {
-        let Some(mut row) = self.rows.remove(&ticket) else {
+        let Some(row) = self.rows.get_mut(&ticket) else {
             return Ok(None);
         };
-        let effect = match row.unread.pop_front() {
-            Some(unread) => unread.into_effect(ticket, &row.topic)?,
-            None if is_live(&self.live, ticket, row.link, row.number) => Effect::Empty { ticket },
-            None => Effect::End { ticket },
-        };
-        self.rows.insert(ticket, row)?;
-        Ok(Some(effect))
+        let is_live = is_live(&self.live, ticket, row.link, row.number);
+        Ok(Some(row.poll(ticket, is_live)?))
     }
 
     /// The consumers of a link hear what comes to it. Whether it is a frame that answers a request is told.

@@ -1,6 +1,6 @@
 //! What replies say to those who asked.
 
-ghost use Rattle.std.specs.Prelude.{◌≡◌, ℕ, [], ◌∷◌, None, Some, IfOk, if◌then◌else◌};
+ghost use Rattle.std.specs.Prelude.{◌≡◌, ℕ, codes, [], ◌∷◌, None, Some, IfOk, if◌then◌else◌};
 ghost use Rattle.pulsar_wire.specs.Views.{body_values};
 ghost use Rattle.pulsar_frame.specs.Key.{answers};
 ghost use Rattle.pulsar_client.specs.Failures.{UnexpectedResponse, fault};
@@ -68,17 +68,36 @@ pub fn said(alloc: Global, request: u32, reply: Received) -> Result<Said, NoMemo
     } = reply.into_message();
     match command.body {
         Some(body) => body_says(alloc, request, body),
-        None => failed(alloc, unexpected(alloc, "none")?),
+        None => no_body(alloc),
+    }
+}
+
+/// The body of this number expects this answer.
+fn expects(request: u32, body: &Body) -> bool
+    ensures { result ≡ is_answer request (Some (written (body_values body.now))) }
+{
+    match answer_of(request) {
+        Some(answer) => answer == body.number(),
+        None => false,
     }
 }
 
 fn body_says(alloc: Global, request: u32, body: Body) -> Result<Said, NoMemory>
     ensures { IfOk result (λ s. s ≡ reply_says request (read_body None [] (Some (body_values body)))) }
 {
-    match answer_of(request) {
-        Some(answer) if answer == body.number() => accepted(alloc, body),
-        _ => failed(alloc, refused(alloc, body)?),
+    if expects(request, &body) {
+        return accepted(alloc, body);
     }
+    let error = refused(alloc, body)?;
+    failed(alloc, error)
+}
+
+/// What a reply without a body says.
+fn no_body(alloc: Global) -> Result<Said, NoMemory>
+    ensures { IfOk result (λ s. s ≡ failed (UnexpectedResponse (codes "none"))) }
+{
+    let error = unexpected(alloc, "none")?;
+    failed(alloc, error)
 }
 
 /// The topics that a body names.

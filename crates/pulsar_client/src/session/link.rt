@@ -5,7 +5,7 @@ ghost use Rattle.std.specs.List.{flat_map};
 ghost use Rattle.std.specs.Option.{option_map};
 ghost use Rattle.pulsar_frame.specs.Frame.{frame_bytes, left};
 ghost use Rattle.pulsar_frame.specs.Shown.{message_values};
-ghost use Rattle.pulsar_client.specs.Link.{admitted, after, after_ask, answered, arrivals, asked_for, at_arrival, change, count_after, dialed, disconnected, fed, fitting, frame_asked, frame_at, framed, gives, greeting, is_dialing, is_open, is_ready, kept, left_by, left_waiting, piece_of, stage_after, waits_for, with_frame, words, written_by};
+ghost use Rattle.pulsar_client.specs.Link.{admitted, after, after_ask, answered, arrivals, asked_for, at_arrival, change, count_after, dialed, disconnected, fed, fitting, frame_asked, frame_at, framed, gives, greeting, is_dialing, is_open, is_over, is_ready, kept, left_by, left_waiting, piece_of, stage_after, waits_for, with_frame, words, written_by};
 ghost use Rattle.pulsar_client.specs.Messages.{connect_message};
 ghost use Rattle.pulsar_client.specs.Tables.{contents, frame_of, given_of, seen_of};
 ghost use Rattle.pulsar_client.specs.Waiting.{pending_at, pending_of};
@@ -72,6 +72,15 @@ impl Stage {
         match self {
             Stage::Ready => true,
             Stage::Dialing | Stage::Handshaking | Stage::Over => false,
+        }
+    }
+
+    pub fn is_over(self) -> bool
+        ensures { result ≡ is_over self }
+    {
+        match self {
+            Stage::Over => true,
+            Stage::Dialing | Stage::Handshaking | Stage::Ready => false,
         }
     }
 
@@ -229,8 +238,8 @@ impl Link {
     {
         match change {
             Change::Opened => {
-                let frame = frame_of(alloc, &messages::connect(alloc)?)?;
-                Ok(Some(self.queue(frame)?))
+                let frame = self.queue(connect_frame(alloc)?)?;
+                Ok(Some(frame))
             }
             Change::Remains | Change::Readied | Change::Ended(_) => Ok(None),
         }
@@ -322,6 +331,14 @@ fn take_arrivals(alloc: Global, reader: &mut FrameReader) -> Result<VecDeque<Arr
     }
 }
 
+/// What a client says first on a link.
+fn connect_frame(alloc: Global) -> Result<Vec<u8>, NoMemory>
+    ensures { IfOk result (λ frame. frame.items ≡ frame_bytes connect_message) }
+{
+    let message = messages::connect(alloc)?;
+    frame_of(alloc, &message)
+}
+
 /// The frame of a message that fits. Another has none.
 fn frame_of(alloc: Global, message: &Message) -> Result<Vec<u8>, NoMemory>
     ensures { IfOk result (λ frame. frame.items ≡ frame_bytes (message_values message.now)) }
@@ -341,6 +358,21 @@ fn word(waiter: Waiter, message: Received) -> Word
     }
 }
 
+/// Each of these requests is settled with a copy of this reply.
+fn copies(
+    alloc: Global,
+    waiters: VecDeque<Waiter>,
+    message: &Received,
+    words: &mut VecDeque<Word>,
+) -> Result<(), NoMemory>
+    ensures { OnOk result (words.new.items ≡ words.old.items ++ map (λ r. record { place = r.place; settled = Settled.Reply message.now }) (map pending_of waiters.items)) }
+{
+    for waiter in waiters {
+        words.push_back(word(waiter, message.copy(alloc)?))?;
+    }
+    Ok(())
+}
+
 /// Requests are settled with this reply.
 fn replies(
     alloc: Global,
@@ -353,9 +385,7 @@ fn replies(
     let Some(last) = waiters.pop_back() else {
         return Ok(words);
     };
-    while let Some(waiter) = waiters.pop_front() {
-        words.push_back(word(waiter, message.copy(alloc)?))?;
-    }
+    copies(alloc, waiters, &message, &mut words)?;
     words.push_back(word(last, message))?;
     Ok(words)
 }

@@ -1,4 +1,4 @@
-use Rattle.std.proofs.Common.{rules, ◌≡◌, [], ◌∙◌, false, Some, None, ◌==◌, ap, refl}
+use Rattle.std.proofs.Common.{rules, ◌≡◌, [], ◌∙◌, false, Some, None, ◌==◌, ap, refl, subst, IfOk}
 use Rattle.pulsar_wire.specs.Views.{body_values}
 use Rattle.pulsar_wire.specs.Command.{BodyValues, body_name}
 use Rattle.pulsar_wire.specs.declared.commands.base.Body.{Body}
@@ -19,9 +19,8 @@ not-error _ h = refl
 pub returns-in-Error : goal.returns-in-Error
 returns-in-Error c = rw c.in-Error.is c.told_error.ensures
 
-pub returns-in_ok-unexpected-in_default : goal.returns-in_ok-unexpected-in_default
-returns-in_ok-unexpected-in_default c =
+pub returns-in_default : goal.returns-in_default
+returns-in_default c =
     let error = not-error c.args.body c.in_default.not-Error in
     let name : c.name.result.now ≡ body_name (body_values c.args.body).number = search rules in
-    let told : fault c.in_ok-unexpected-in_default.field-0 ≡ UnexpectedResponse c.name.result.now = search rules in
-    told ∙ ap UnexpectedResponse name ∙ unexpected (body_values c.args.body) error
+    subst (λ f. IfOk c.unexpected.result (λ e. fault e ≡ f)) (ap UnexpectedResponse name ∙ unexpected (body_values c.args.body) error) c.unexpected.ensures

@@ -1,8 +1,8 @@
-use Rattle.std.proofs.Common.{◌≡◌, ◌<◌, length, take, arith, length-take, length-append, reverse}
+use Rattle.std.proofs.Common.{◌≡◌, ◌<◌, length, take, arith, length-take, length-append, reverse, subst, ◌∷◌}
 use Rattle.std.proofs.lemmas.List.{take_more}
-use Rattle.pulsar_client.specs.Client.{chosen}
+use Rattle.pulsar_client.specs.Client.{StandsFor, chosen}
 use Rattle.pulsar_client.specs.Tables.{answered}
-use Rattle.pulsar_client.proofs.Steps.{history_more}
+use Rattle.pulsar_client.proofs.Steps.{history_more, same_step}
 use Rattle.pulsar_client.proofs.pulsar.Pulsar.drive.Goals as goal
 
 pub loop-event-preserved : goal.loop-event-preserved
@@ -19,6 +19,8 @@ loop-event-preserved c =
             ← c.event-item.is,
             history_more (take i events) c.loop-event.all.items c.event-item.result c.in_ok-take.field-0 counts,
           )
-          (c.in_ok-take.ensures.ok (chosen c.args.options) (reverse (answered (take i events) c.loop-event.all.items)) c.loop-event.invariant.stands);
+          (subst (λ x. StandsFor (chosen c.args.options) c.take.new.self (x ∷ reverse (answered (take i events) c.loop-event.all.items)))
+          (same_step c.in_ok-copy.field-0 c.event-item.result c.in_ok-take.field-0.items c.in_ok-copy.ensures)
+          (c.in_ok-take.ensures.ok (chosen c.args.options) (reverse (answered (take i events) c.loop-event.all.items)) c.loop-event.invariant.stands));
       count = rw c.in_ok-push.ensures.items (simp length-append (omega (arith, c.loop-event.invariant.count)));
     }

@@ -6,7 +6,7 @@ loop-message-smaller c = message-shorter c.loop-message.reader c.next.new.self c
 
 pub loop-message-preserved : goal.loop-message-preserved
 loop-message-preserved c = record {
-  found = rw (c.in_ok-push_back-in-Ok-Some.ensures.items, c.in_ok-new.ensures) (message-arrives _ _ _ _ c.in-Ok-Some.message (rw c.in-Ok-Some.field-0-is at c.in-Ok-Some.ensures) c.loop-message.invariant.found);
+  found = rw (c.in_ok-push_back-in-Ok-Some.ensures.items, c.in_ok-new-in-Ok-Some.ensures) (message-arrives _ _ _ _ c.in-Ok-Some.message (rw c.in-Ok-Some.field-0-is at c.in-Ok-Some.ensures) c.loop-message.invariant.found);
   rest = message-rest _ _ _ c.in-Ok-Some.message (rw c.in-Ok-Some.field-0-is at c.in-Ok-Some.ensures) c.loop-message.invariant.rest;
 }
 
@@ -19,7 +19,7 @@ returns-in-Ok-None-clause-unread c = let short = rw c.in-Ok-None.field-0-is at c
 pub returns-in-Err-Decoding-clause-arrived : goal.returns-in-Err-Decoding-clause-arrived
 returns-in-Err-Decoding-clause-arrived c =
     let bad = rw c.in-Err-Decoding.field-0-is at c.in-Err-Decoding.ensures in
-    rw c.in_ok-push_back-in-Err-Decoding.ensures.items (bad-arrivals _ _ _ c.in-Err-Decoding.reason bad.0 c.loop-message.invariant.found)
+    rw (c.in_ok-push_back-in-Err-Decoding.ensures.items, c.in-Err-Decoding.field-0-is) (bad-arrivals _ _ _ c.in-Err-Decoding.reason bad.0 c.loop-message.invariant.found)
 
 pub returns-in-Err-Decoding-clause-unread : goal.returns-in-Err-Decoding-clause-unread
 returns-in-Err-Decoding-clause-unread c =

@@ -16,7 +16,7 @@ use Rattle.pulsar_client.specs.declared.act.Who.{Who}
 use Rattle.pulsar_client.specs.declared.act.Who.TheVariants.{Call}
 use Rattle.pulsar_client.specs.Content.{Heard}
 use Rattle.pulsar_client.specs.Items.{Item}
-use Rattle.pulsar_client.specs.Laws.{ConsumersHearToTheirEnd, EndsOnce, Remains, counted, end_of, ends_at, has_end, last_frame}
+use Rattle.pulsar_client.specs.Laws.{ConsumersHearToTheirEnd, Remains, counted, end_of, ends_at, has_end, last_frame}
 use Rattle.pulsar_client.specs.Link.{change, is_ended, is_queued, spent}
 use Rattle.pulsar_client.specs.Request.{Request, closed_consumer}
 use Rattle.pulsar_client.specs.Run.{Entry, Begins, Then, IsRun, view}
@@ -24,6 +24,7 @@ use Rattle.pulsar_client.specs.Subscribers.{waiting_on}
 use Rattle.pulsar_client.specs.Subscriptions.{Subscription, after_frame, after_poll, closes_it, ended, ends_with, hears, is_last}
 use Rattle.pulsar_client.specs.View.{Chosen, Seat, View, admitted_at, begun, begun_live, hears_ask, hears_some, is_live, made, turned}
 use Rattle.pulsar_client.specs.Who.{is_same}
+use Rattle.pulsar_client.proofs.Once.{ends_once_lem}
 
 -- WHO MAKES A CONSUMER
 
@@ -64,10 +65,10 @@ unmade o t (Then (Told n) ∷ log) h = unmade o t log (none_left (counted (end_o
 unmade o t (Then (Dials starter) ∷ log) h = unmade o t log (none_left (counted (end_of t) log) 0 h)
 
 -- so where a call ends it has none: it ends once
-pub none_before : EndsOnce → (o : Chosen) (t : ℕ) (log : List Entry) (who : Who) (verdict : Verdict) → t < spent → IsRun o (Then (Answers who verdict) ∷ log) →
+pub none_before : (o : Chosen) (t : ℕ) (log : List Entry) (who : Who) (verdict : Verdict) → t < spent → IsRun o (Then (Answers who verdict) ∷ log) →
     is_same (Call t) who ≡ true → (view o log).consumers t ≡ None
-none_before once o t log who verdict lt run e =
-    let k : counted (end_of t) log + cond (is_same (Call t) who) 1 0 ≤ 1 = (once o (Then (Answers who verdict) ∷ log) t run).1 lt in
+none_before o t log who verdict lt run e =
+    let k : counted (end_of t) log + cond (is_same (Call t) who) 1 0 ≤ 1 = (ends_once_lem o (Then (Answers who verdict) ∷ log) t run).1 lt in
     let j : counted (end_of t) log + 1 ≤ 1 = subst (λ b. counted (end_of t) log + cond b 1 0 ≤ 1) e k in
     unmade o t log (omega (arith, j))
 
@@ -183,37 +184,37 @@ polled_on s is_live false c w = w
 same_on : (s : Subscription) (has : Bool) (c : Option Subscription) → Remains s (s.is_live && not has) c → Remains s (s.is_live && not (has || false)) c
 same_on s has c w = subst (λ b. Remains s b c) (or_false s.is_live has) w
 
-pub consumers_hear_lem : EndsOnce → ConsumersHearToTheirEnd
-consumers_hear_lem once o [] older t s lt r e = subst (Remains s (s.is_live && true)) (sym e) (at_first s)
-consumers_hear_lem once o (Begins x ∷ later) older t s lt r e =
+pub consumers_hear_lem : ConsumersHearToTheirEnd
+consumers_hear_lem o [] older t s lt r e = subst (Remains s (s.is_live && true)) (sym e) (at_first s)
+consumers_hear_lem o (Begins x ∷ later) older t s lt r e =
     same_on s (has_end o s later older) ((view o (Begins x ∷ (later ++ older))).consumers t)
-    (subst (Remains s (s.is_live && not (has_end o s later older))) (sym (begun_consumers x (view o (later ++ older)) t)) (consumers_hear_lem once o later older t s lt r.0 e))
-consumers_hear_lem once o (Then (Comes (ToLink l x)) ∷ later) older t s lt r e =
+    (subst (Remains s (s.is_live && not (has_end o s later older))) (sym (begun_consumers x (view o (later ++ older)) t)) (consumers_hear_lem o later older t s lt r.0 e))
+consumers_hear_lem o (Then (Comes (ToLink l x)) ∷ later) older t s lt r e =
     let row : Option Seat = (view o (later ++ older)).links.live l in
     changed s s.is_live (has_end o s later older) (ends_at o s (Then (Comes (ToLink l x))) (later ++ older)) (hears_some l x row) ((view o (later ++ older)).consumers t)
     (λ items b. some_linked l x row s.link s.number s.topic items b)
-    (consumers_hear_lem once o later older t s lt r.0 e)
-consumers_hear_lem once o (Then (Does who (Ask l request)) ∷ later) older t s lt r e =
+    (consumers_hear_lem o later older t s lt r.0 e)
+consumers_hear_lem o (Then (Does who (Ask l request)) ∷ later) older t s lt r e =
     let v : View = view o (later ++ older) in
     changed s s.is_live (has_end o s later older) (ends_at o s (Then (Does who (Ask l request))) (later ++ older)) (hears_ask l v.now request (v.links.live l)) (v.consumers t)
     (λ items b. asked s.link s.number s.topic items (s.link == l) (is_queued (admitted_at v.now request (v.links.live l)) && closes_it (closed_consumer request) s.number) b)
-    (consumers_hear_lem once o later older t s lt r.0 e)
-consumers_hear_lem once o (Then (Answers who verdict) ∷ later) older t s lt r e =
+    (consumers_hear_lem o later older t s lt r.0 e)
+consumers_hear_lem o (Then (Answers who verdict) ∷ later) older t s lt r e =
     made_on s (s.is_live && not (has_end o s later older || false)) who verdict.makes t ((view o (later ++ older)).consumers t)
-    (none_before once o t (later ++ older) who verdict lt r)
-    (same_on s (has_end o s later older) ((view o (later ++ older)).consumers t) (consumers_hear_lem once o later older t s lt r.0 e))
-consumers_hear_lem once o (Then (Comes (Polls k)) ∷ later) older t s lt r e =
+    (none_before o t (later ++ older) who verdict lt r)
+    (same_on s (has_end o s later older) ((view o (later ++ older)).consumers t) (consumers_hear_lem o later older t s lt r.0 e))
+consumers_hear_lem o (Then (Comes (Polls k)) ∷ later) older t s lt r e =
     polled_on s (s.is_live && not (has_end o s later older || false)) (t == k) ((view o (later ++ older)).consumers t)
-    (same_on s (has_end o s later older) ((view o (later ++ older)).consumers t) (consumers_hear_lem once o later older t s lt r.0 e))
-consumers_hear_lem once o (Then (Comes (Calls asked)) ∷ later) older t s lt r e =
-    same_on s (has_end o s later older) ((view o (later ++ older)).consumers t) (consumers_hear_lem once o later older t s lt r.0 e)
-consumers_hear_lem once o (Then (Does who Get) ∷ later) older t s lt r e =
-    same_on s (has_end o s later older) ((view o (later ++ older)).consumers t) (consumers_hear_lem once o later older t s lt r.0 e)
-consumers_hear_lem once o (Then (Does who Rest) ∷ later) older t s lt r e =
-    same_on s (has_end o s later older) ((view o (later ++ older)).consumers t) (consumers_hear_lem once o later older t s lt r.0 e)
-consumers_hear_lem once o (Then (Starts who p) ∷ later) older t s lt r e =
-    same_on s (has_end o s later older) ((view o (later ++ older)).consumers t) (consumers_hear_lem once o later older t s lt r.0 e)
-consumers_hear_lem once o (Then (Told n) ∷ later) older t s lt r e =
-    same_on s (has_end o s later older) ((view o (later ++ older)).consumers t) (consumers_hear_lem once o later older t s lt r.0 e)
-consumers_hear_lem once o (Then (Dials starter) ∷ later) older t s lt r e =
-    same_on s (has_end o s later older) ((view o (later ++ older)).consumers t) (consumers_hear_lem once o later older t s lt r.0 e)
+    (same_on s (has_end o s later older) ((view o (later ++ older)).consumers t) (consumers_hear_lem o later older t s lt r.0 e))
+consumers_hear_lem o (Then (Comes (Calls asked)) ∷ later) older t s lt r e =
+    same_on s (has_end o s later older) ((view o (later ++ older)).consumers t) (consumers_hear_lem o later older t s lt r.0 e)
+consumers_hear_lem o (Then (Does who Get) ∷ later) older t s lt r e =
+    same_on s (has_end o s later older) ((view o (later ++ older)).consumers t) (consumers_hear_lem o later older t s lt r.0 e)
+consumers_hear_lem o (Then (Does who Rest) ∷ later) older t s lt r e =
+    same_on s (has_end o s later older) ((view o (later ++ older)).consumers t) (consumers_hear_lem o later older t s lt r.0 e)
+consumers_hear_lem o (Then (Starts who p) ∷ later) older t s lt r e =
+    same_on s (has_end o s later older) ((view o (later ++ older)).consumers t) (consumers_hear_lem o later older t s lt r.0 e)
+consumers_hear_lem o (Then (Told n) ∷ later) older t s lt r e =
+    same_on s (has_end o s later older) ((view o (later ++ older)).consumers t) (consumers_hear_lem o later older t s lt r.0 e)
+consumers_hear_lem o (Then (Dials starter) ∷ later) older t s lt r e =
+    same_on s (has_end o s later older) ((view o (later ++ older)).consumers t) (consumers_hear_lem o later older t s lt r.0 e)

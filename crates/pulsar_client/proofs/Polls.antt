@@ -27,7 +27,7 @@ use Rattle.pulsar_client.specs.Address.{Address}
 use Rattle.pulsar_client.specs.Content.{Heard, Poll, Said, Shown, Connect, Queued, Write, Close, Settles, Ends, Hands, Faults, FindsNothing, FindsEnd}
 use Rattle.pulsar_client.specs.Effects.{asked_at, closes, connects, effect_below, effect_rank, effects, ends, given_at, is_before3, is_closed, queues, settles, write}
 use Rattle.pulsar_client.specs.Items.{Item, Given, Faulty}
-use Rattle.pulsar_client.specs.Laws.{EndsOnce, PollsAreAnswered, PollsFollow, brought, given_by, items_come, items_given}
+use Rattle.pulsar_client.specs.Laws.{PollsAreAnswered, PollsFollow, brought, given_by, items_come, items_given}
 use Rattle.pulsar_client.specs.Link.{Frame, change, frame_asked, gives, is_ended, is_queued, spent}
 use Rattle.pulsar_client.specs.Messages.{Reply}
 use Rattle.pulsar_client.specs.Request.{Request, closed_consumer}
@@ -331,26 +331,26 @@ begins_on o t e log g =
     subst (λ c. Gives c (items_given t (steps o log) ++ []) (items_come o t log)) (sym (begun_consumers e (view o log) t))
     (subst (λ x. Gives ((view o log).consumers t) x (items_come o t log)) (sym (append-nil (items_given t (steps o log)))) g)
 
-follows : EndsOnce → (o : Chosen) (t : ℕ) (log : List Entry) → t < spent → IsRun o log → Follows o t log
-follows once o t [] lt r = (refl, refl)
-follows once o t (Begins e ∷ log) lt r = begins_on o t e log (follows once o t log lt r.0)
-follows once o t (Then (Comes (ToLink l x)) ∷ log) lt r =
+follows : (o : Chosen) (t : ℕ) (log : List Entry) → t < spent → IsRun o log → Follows o t log
+follows o t [] lt r = (refl, refl)
+follows o t (Begins e ∷ log) lt r = begins_on o t e log (follows o t log lt r.0)
+follows o t (Then (Comes (ToLink l x)) ∷ log) lt r =
     on o t (Comes (ToLink l x)) log (link_none t l x ((view o log).links.live l))
-    (link_gives l x ((view o log).links.live l) ((view o log).consumers t) (items_given t (steps o log)) (items_come o t log) (follows once o t log lt r.0))
-follows once o t (Then (Comes (Polls k)) ∷ log) lt r = polls_on o t k log r (follows once o t log lt r.0)
-follows once o t (Then (Comes (Calls asked)) ∷ log) lt r = on o t (Comes (Calls asked)) log tt (follows once o t log lt r.0)
-follows once o t (Then (Does who (Ask l request)) ∷ log) lt r =
+    (link_gives l x ((view o log).links.live l) ((view o log).consumers t) (items_given t (steps o log)) (items_come o t log) (follows o t log lt r.0))
+follows o t (Then (Comes (Polls k)) ∷ log) lt r = polls_on o t k log r (follows o t log lt r.0)
+follows o t (Then (Comes (Calls asked)) ∷ log) lt r = on o t (Comes (Calls asked)) log tt (follows o t log lt r.0)
+follows o t (Then (Does who (Ask l request)) ∷ log) lt r =
     on o t (Does who (Ask l request)) log (asks_none t l (view o log).now request ((view o log).links.live l))
-    (asks_gives l (view o log).now request ((view o log).links.live l) ((view o log).consumers t) (items_given t (steps o log)) (items_come o t log) (follows once o t log lt r.0))
-follows once o t (Then (Does who Get) ∷ log) lt r = on o t (Does who Get) log tt (follows once o t log lt r.0)
-follows once o t (Then (Does who Rest) ∷ log) lt r = on o t (Does who Rest) log tt (follows once o t log lt r.0)
-follows once o t (Then (Starts who p) ∷ log) lt r = on o t (Starts who p) log tt (follows once o t log lt r.0)
-follows once o t (Then (Told n) ∷ log) lt r = on o t (Told n) log tt (follows once o t log lt r.0)
-follows once o t (Then (Answers who verdict) ∷ log) lt r =
+    (asks_gives l (view o log).now request ((view o log).links.live l) ((view o log).consumers t) (items_given t (steps o log)) (items_come o t log) (follows o t log lt r.0))
+follows o t (Then (Does who Get) ∷ log) lt r = on o t (Does who Get) log tt (follows o t log lt r.0)
+follows o t (Then (Does who Rest) ∷ log) lt r = on o t (Does who Rest) log tt (follows o t log lt r.0)
+follows o t (Then (Starts who p) ∷ log) lt r = on o t (Starts who p) log tt (follows o t log lt r.0)
+follows o t (Then (Told n) ∷ log) lt r = on o t (Told n) log tt (follows o t log lt r.0)
+follows o t (Then (Answers who verdict) ∷ log) lt r =
     on o t (Answers who verdict) log (ends_none t who verdict.said)
-    (made_gives t who verdict.makes ((view o log).consumers t) (items_given t (steps o log)) (items_come o t log) (none_before once o t log who verdict lt r) (follows once o t log lt r.0))
-follows once o t (Then (Dials starter) ∷ log) lt r =
-    on o t (Dials starter) log (dials_none t (view o log).links.started (view o log).chosen.address) (follows once o t log lt r.0)
+    (made_gives t who verdict.makes ((view o log).consumers t) (items_given t (steps o log)) (items_come o t log) (none_before o t log who verdict lt r) (follows o t log lt r.0))
+follows o t (Then (Dials starter) ∷ log) lt r =
+    on o t (Dials starter) log (dials_none t (view o log).links.started (view o log).chosen.address) (follows o t log lt r.0)
 
-pub polls_follow_lem : EndsOnce → PollsFollow
-polls_follow_lem once o log t s lt r e = subst (λ c. Gives c (items_given t (steps o log)) (items_come o t log)) e (follows once o t log lt r)
+pub polls_follow_lem : PollsFollow
+polls_follow_lem o log t s lt r e = subst (λ c. Gives c (items_given t (steps o log)) (items_come o t log)) e (follows o t log lt r)

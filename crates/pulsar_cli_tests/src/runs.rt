@@ -1,8 +1,7 @@
 //! Words, faults, and a long script.
 
 use pulsar_cli::{DONE, NO_FORM, REFUSED, SINK_FAILED, SOURCE_FAILED, Status, run, script};
-use pulsar_client::outside::sink::{FailingSink, MemorySink};
-use pulsar_client::outside::source::{FailingSource, MemorySource};
+use pulsar_client::{FailingSink, FailingSource, MemorySink, MemorySource};
 use std::alloc::{AllocError, Global};
 use std::process::Abort;
 use std::test::Fail;

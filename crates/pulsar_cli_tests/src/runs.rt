@@ -36,16 +36,12 @@ fn ends(
 #[test]
 fn words_are_a_form_or_none(rt: HostRuntime) -> Result<(), Fail> {
     let alloc = rt.alloc();
-    for words in [
-        [].as_slice(),
-        [""].as_slice(),
-        ["demo"].as_slice(),
-        ["Script"].as_slice(),
-        ["scripts"].as_slice(),
-        ["script", "x"].as_slice(),
-    ] {
-        ends(&rt, alloc, words, NO_FORM, b"")?;
-    }
+    ends(&rt, alloc, &[], NO_FORM, b"")?;
+    ends(&rt, alloc, &[""], NO_FORM, b"")?;
+    ends(&rt, alloc, &["demo"], NO_FORM, b"")?;
+    ends(&rt, alloc, &["Script"], NO_FORM, b"")?;
+    ends(&rt, alloc, &["scripts"], NO_FORM, b"")?;
+    ends(&rt, alloc, &["script", "x"], NO_FORM, b"")?;
     ends(&rt, alloc, &["script"], DONE, IS_DIALING)
 }
 

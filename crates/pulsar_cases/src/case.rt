@@ -2,8 +2,7 @@
 
 use crate::pieces::Pieces;
 use pulsar_cli::{Status, script};
-use pulsar_client::outside::sink::FailingSink;
-use pulsar_client::outside::source::FailingSource;
+use pulsar_client::{FailingSink, FailingSource};
 use std::alloc::{AllocError, Global};
 use std::{fs, io};
 

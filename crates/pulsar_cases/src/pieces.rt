@@ -2,8 +2,7 @@
 
 ghost use Rattle.std.specs.Prelude.{None};
 
-use pulsar_client::outside::Failed;
-use pulsar_client::outside::source::{FailingSource, Source};
+use pulsar_client::{Failed, FailingSource, Source};
 
 /// A source that gives few bytes at a time. It tells no content.
 #[derive(Drop)]

@@ -8,8 +8,7 @@ ghost use Rattle.pulsar_cli.specs.Shown.{HasRead, Halts, InTurn, Prints, Refusin
 use crate::printing::effect::push_refusal;
 use crate::reading::Reading;
 use crate::stop::Stop;
-use pulsar_client::outside::sink::Sink;
-use pulsar_client::outside::source::Source;
+use pulsar_client::{Sink, Source};
 use std::alloc::Global;
 
 /// How a run ended: 0 done, 1 a line is not in the grammar, 2 the words are no form of the program, 3 want of memory, 4

@@ -13,9 +13,7 @@ use crate::grammar::line::{Line, Setting, parse};
 use crate::grammar::word::cut_line;
 use crate::printing::effect::push_step;
 use crate::stop::Stop;
-use pulsar_client::event::Event;
-use pulsar_client::options::ClientOptions;
-use pulsar_client::pulsar::Pulsar;
+use pulsar_client::{ClientOptions, Event, Pulsar};
 use pulsar_wire::NoMemory;
 use std::alloc::Global;
 

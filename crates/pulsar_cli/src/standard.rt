@@ -2,9 +2,7 @@
 
 ghost use Rattle.std.specs.Prelude.{None};
 
-use pulsar_client::outside::Failed;
-use pulsar_client::outside::sink::Sink;
-use pulsar_client::outside::source::Source;
+use pulsar_client::{Failed, Sink, Source};
 use std::io::{Read, Write};
 
 /// Standard input.

@@ -1,7 +1,7 @@
 //! The texts of errors that no script reaches, by the table of their forms.
 
 use pulsar_cli::push_step;
-use pulsar_client::effect::Effect;
+use pulsar_client::Effect;
 use pulsar_wire::{
     AuthenticationError, ConnectionError, ConsumerError, Error, IoKind, ProducerError, Reason,
     ServerError, ServiceDiscoveryError,

@@ -1,8 +1,7 @@
 //! Words, faults, and a long script.
 
 use pulsar_cli::{DONE, NO_FORM, REFUSED, SINK_FAILED, SOURCE_FAILED, Status, run, script};
-use pulsar_client::outside::sink::{FailingSink, MemorySink};
-use pulsar_client::outside::source::{FailingSource, MemorySource};
+use pulsar_client::{FailingSink, FailingSource, MemorySink, MemorySource};
 use std::alloc::{AllocError, Global};
 use std::process::Abort;
 use std::test::Fail;
@@ -37,16 +36,12 @@ fn ends(
 #[test]
 fn words_are_a_form_or_none(rt: HostRuntime) -> Result<(), Fail> {
     let alloc = rt.alloc();
-    for words in [
-        [].as_slice(),
-        [""].as_slice(),
-        ["demo"].as_slice(),
-        ["Script"].as_slice(),
-        ["scripts"].as_slice(),
-        ["script", "x"].as_slice(),
-    ] {
-        ends(&rt, alloc, words, NO_FORM, b"")?;
-    }
+    ends(&rt, alloc, &[], NO_FORM, b"")?;
+    ends(&rt, alloc, &[""], NO_FORM, b"")?;
+    ends(&rt, alloc, &["demo"], NO_FORM, b"")?;
+    ends(&rt, alloc, &["Script"], NO_FORM, b"")?;
+    ends(&rt, alloc, &["scripts"], NO_FORM, b"")?;
+    ends(&rt, alloc, &["script", "x"], NO_FORM, b"")?;
     ends(&rt, alloc, &["script"], DONE, IS_DIALING)
 }
 

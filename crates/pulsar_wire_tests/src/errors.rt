@@ -73,10 +73,8 @@ fn is_named(rt: &impl Abort, alloc: Global, number: i32, name: &str) -> Result<(
 fn server_errors_have_numbers(rt: HostRuntime) -> Result<(), Fail> {
     assert_eq!(rt; server_error(-1), None);
     assert_eq!(rt; server_error(26), None);
-    let mut number = 0;
-    for name in &NAMES {
+    for (number, name) in (0..26).zip(NAMES) {
         is_named(&rt, rt.alloc(), number, name)?;
-        number += 1;
     }
     Ok(())
 }

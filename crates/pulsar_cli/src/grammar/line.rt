@@ -8,7 +8,7 @@ ghost use Rattle.pulsar_cli.specs.Shown.{line_of, setting_of};
 
 use crate::grammar::raw::raw_call;
 use crate::grammar::word::{hex_bytes, is, number, text, words};
-use pulsar_client::event::{Call, Event};
+use pulsar_client::{Call, Event};
 use pulsar_wire::{IoKind, Mode, NoMemory};
 use std::alloc::Global;
 

@@ -7,7 +7,7 @@ ghost use Rattle.pulsar_cli.specs.MessageWords.{all, blank, cluster, cut, delive
 ghost use Rattle.pulsar_cli.specs.Shown.{draft_of};
 
 use crate::grammar::word::{find, is, number, text, word_bytes};
-use pulsar_client::raw_call::ProducerMessage;
+use pulsar_client::ProducerMessage;
 use pulsar_wire::NoMemory;
 use std::alloc::Global;
 

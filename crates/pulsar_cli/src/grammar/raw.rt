@@ -9,7 +9,7 @@ ghost use Rattle.pulsar_cli.specs.RawLines.{ack, close_consumer, close_producer,
 
 use crate::grammar::message::message;
 use crate::grammar::word::{hex_bytes, is, number, text};
-use pulsar_client::raw_call::RawCall;
+use pulsar_client::RawCall;
 use pulsar_wire::encoding::message::decode;
 use pulsar_wire::encoding::read_error::ReadError;
 use pulsar_wire::{MessageIdData, NoMemory, SubType};

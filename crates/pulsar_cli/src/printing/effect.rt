@@ -11,7 +11,7 @@ ghost use Rattle.pulsar_cli.specs.WordText.{hex};
 
 use crate::printing::error::push_error;
 use crate::printing::word::{push_hex, push_word};
-use pulsar_client::effect::{Answer, Effect, Handed, Settlement};
+use pulsar_client::{Answer, Effect, Handed, Settlement};
 use pulsar_wire::encoding::message::encode;
 use pulsar_wire::{Body, CommandSendReceipt, Error};
 use std::alloc::AllocError;

@@ -2,7 +2,6 @@
 use Rattle.std.proofs.Common.{◌≡◌, ◌≤◌, ◌<◌, ℕ, ◌+◌, ◌∙◌, sym, ap, subst, List, [], ◌∷◌, ◌++◌, refl, arith, drop, Bool, true, false, ◌&&◌, ◌||◌, not, cond, Option, Some, None, inl, inr, ◌==◌}
 use Rattle.std.proofs.lemmas.Bool.{cases_Bool}
 use Rattle.std.specs.Option.{is_some, option_map}
-use Rattle.pulsar_client.specs.declared.act.Act.{Act}
 use Rattle.pulsar_client.specs.declared.act.Act.TheVariants.{Comes, Starts, Told, Does, Answers, Dials}
 use Rattle.pulsar_client.specs.declared.act.Action.TheVariants.{Get, Ask, Rest}
 use Rattle.pulsar_client.specs.declared.act.Arrival.TheVariants.{Message, Bad}
@@ -18,7 +17,7 @@ use Rattle.pulsar_client.specs.Content.{Heard}
 use Rattle.pulsar_client.specs.Items.{Item}
 use Rattle.pulsar_client.specs.Laws.{ConsumersHearToTheirEnd, Remains, counted, end_of, ends_at, has_end, last_frame}
 use Rattle.pulsar_client.specs.Link.{change, is_ended, is_queued, spent}
-use Rattle.pulsar_client.specs.Request.{Request, closed_consumer}
+use Rattle.pulsar_client.specs.Request.{closed_consumer}
 use Rattle.pulsar_client.specs.Run.{Entry, Begins, Then, IsRun, view}
 use Rattle.pulsar_client.specs.Subscribers.{waiting_on}
 use Rattle.pulsar_client.specs.Subscriptions.{Subscription, after_frame, after_poll, closes_it, ended, ends_with, hears, is_last}

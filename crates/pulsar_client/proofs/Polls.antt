@@ -1,5 +1,5 @@
 -- A consumer is polled where the user asks for it, and its polls give what has come to it, in order.
-use Rattle.std.proofs.Common.{◌≡◌, ◌<◌, ℕ, ◌∙◌, sym, ap, subst, List, [], ◌∷◌, ◌++◌, refl, arith, map, drop, Bool, true, false, ◌&&◌, not, cond, Option, Some, None, inl, inr, nat_lt, ◌==◌, append_assoc, append-nil}
+use Rattle.std.proofs.Common.{◌≡◌, ◌<◌, ℕ, ◌∙◌, sym, ap, subst, List, [], ◌∷◌, ◌++◌, refl, arith, map, drop, Bool, true, false, ◌&&◌, not, cond, Option, Some, None, inl, inr, ◌==◌, append_assoc, append-nil}
 use Rattle.std.proofs.lemmas.Bool.{cases_Bool, eqb-true}
 use Rattle.std.proofs.lemmas.Bool.Decides.{nat_tests}
 use Rattle.std.proofs.lemmas.Grind.{common_steps}
@@ -21,7 +21,6 @@ use Rattle.pulsar_client.specs.declared.act.Who.{Who}
 use Rattle.pulsar_client.specs.declared.act.Who.TheVariants.{Call}
 use Rattle.pulsar_client.specs.declared.session.given.Change.{Change}
 use Rattle.pulsar_client.specs.declared.session.given.Change.TheVariants.{Remains, Opened, Readied, Ended}
-use Rattle.pulsar_client.specs.declared.session.given.End.{End}
 use Rattle.pulsar_client.specs.declared.session.given.Word.{Word}
 use Rattle.pulsar_client.specs.Address.{Address}
 use Rattle.pulsar_client.specs.Content.{Heard, Poll, Said, Shown, Connect, Queued, Write, Close, Settles, Ends, Hands, Faults, FindsNothing, FindsEnd}
@@ -31,10 +30,9 @@ use Rattle.pulsar_client.specs.Laws.{PollsAreAnswered, PollsFollow, brought, giv
 use Rattle.pulsar_client.specs.Link.{Frame, change, frame_asked, gives, is_ended, is_queued, spent}
 use Rattle.pulsar_client.specs.Messages.{Reply}
 use Rattle.pulsar_client.specs.Request.{Request, closed_consumer}
-use Rattle.pulsar_client.specs.Rules.{brings, parts}
 use Rattle.pulsar_client.specs.Run.{Entry, Begins, Then, IsRun, Step, first_of, is_empty, rules, steps, view}
-use Rattle.pulsar_client.specs.Subscriptions.{Subscription, after_frame, after_own, after_poll, brings_message, closes_it, ended, ends_with, hears, polled, polled_from}
-use Rattle.pulsar_client.specs.View.{Chosen, Seat, View, admitted_at, begun, begun_live, hears_ask, hears_some, is_live, made}
+use Rattle.pulsar_client.specs.Subscriptions.{Subscription, after_frame, after_poll, brings_message, closes_it, ended, hears, polled, polled_from}
+use Rattle.pulsar_client.specs.View.{Chosen, Seat, admitted_at, hears_ask, hears_some, made}
 use Rattle.pulsar_client.specs.Who.{is_same}
 use Rattle.pulsar_client.proofs.Hearing.{begun_consumers, none_before}
 use Rattle.pulsar_client.proofs.Instances.{effect_order}
@@ -58,7 +56,7 @@ polls_are_answered_lem o log t run =
       k.1,
       w.1,
       ap (λ l. steps o (Then (Comes (Polls t)) ∷ l)) k.1
-      ∙ ap (λ row. record { event = Poll t; effects = arranged effect_below (option_to_list (option_map (polled t) row)) } ∷ steps o k.0) is_there,
+          ∙ ap (λ row. record { event = Poll t; effects = arranged effect_below (option_to_list (option_map (polled t) row)) } ∷ steps o k.0) is_there,
     )
 
 -- WHAT A STEP GIVES

@@ -14,7 +14,6 @@ use Rattle.pulsar_frame.specs.Sized.{sized_at, with_size}
 use Rattle.pulsar_frame.specs.Tail.{tail_at}
 use Rattle.pulsar_frame.specs.Key.{key}
 use Rattle.pulsar_frame.specs.Frame.{content, counted_bytes, front, cut_within, cut, left, bad, frame_bytes}
-use Rattle.pulsar_client.specs.declared.act.Act.{Act}
 use Rattle.pulsar_client.specs.declared.act.Act.TheVariants.{Comes, Starts, Told, Does, Answers, Dials}
 use Rattle.pulsar_client.specs.declared.act.Action.TheVariants.{Get, Ask}
 use Rattle.pulsar_client.specs.declared.act.Arrival.TheVariants.{Message}

@@ -1,7 +1,7 @@
 -- The text of an error: its first word, and what stands behind it.
 use Rattle.std.specs.Prelude.{ℕ, ◌+◌, List, [], ◌∷◌, ◌++◌, codes, Option, Some, None}
 use Rattle.std.specs.Fmt.{decimal, signed_decimal}
-use Rattle.pulsar_wire.specs.Authentication.{Denial, Custom, Retriable, denial}
+use Rattle.pulsar_wire.specs.Authentication.{Denial, Custom, Retriable}
 use Rattle.pulsar_wire.specs.Enumerations.{error_number}
 use Rattle.pulsar_wire.specs.declared.commands.enumerations.ServerError.{ServerError}
 use Rattle.pulsar_wire.specs.declared.error.IoKind.{IoKind}

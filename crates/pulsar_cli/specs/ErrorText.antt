@@ -1,24 +1,19 @@
 -- The text of an error: its first word, and what stands behind it.
-use Rattle.std.specs.Prelude.{ℕ, List, [], ◌∷◌, ◌++◌, length, codes, string_bytes, Option, Some, None, Result, Ok, Err}
-use Rattle.std.specs.List.{flat_map}
-use Rattle.std.specs.Option.{option_map}
+use Rattle.std.specs.Prelude.{ℕ, ◌+◌, List, [], ◌∷◌, ◌++◌, codes, Option, Some, None}
 use Rattle.std.specs.Fmt.{decimal, signed_decimal}
-use Rattle.pulsar_wire.specs.Authentication.{Denial, Custom, Retriable, denial}
+use Rattle.pulsar_wire.specs.Authentication.{Denial, Custom, Retriable}
 use Rattle.pulsar_wire.specs.Enumerations.{error_number}
 use Rattle.pulsar_wire.specs.declared.commands.enumerations.ServerError.{ServerError}
 use Rattle.pulsar_wire.specs.declared.error.IoKind.{IoKind}
 use Rattle.pulsar_wire.specs.declared.error.IoKind.TheVariants as io
 use Rattle.pulsar_wire.specs.declared.error.Reason.{Reason}
 use Rattle.pulsar_wire.specs.declared.error.Reason.TheVariants as reason
-use Rattle.pulsar_wire.specs.declared.error.ConsumerError.{ConsumerError}
-use Rattle.pulsar_wire.specs.declared.error.ConsumerError.TheVariants as consumer
-use Rattle.pulsar_wire.specs.declared.error.ServiceDiscoveryError.{ServiceDiscoveryError}
-use Rattle.pulsar_wire.specs.declared.error.ServiceDiscoveryError.TheVariants as discovery
-use Rattle.pulsar_wire.specs.declared.error.ProducerError.{ProducerError, items-the_row-ProducerError-PartialSend-0-2 as items}
-use Rattle.pulsar_wire.specs.declared.error.ProducerError.TheVariants as producer
-use Rattle.pulsar_wire.specs.declared.error.Error.{Error}
-use Rattle.pulsar_wire.specs.declared.error.Error.TheVariants as errors
-use Rattle.pulsar_client.specs.Failures.{Fault, Io, SlowDown, Disconnected, PulsarError, Unexpected, Decoding, Encoding, SocketAddr, UnexpectedResponse, Authentication, NotFound, Canceled, Shutdown, Exhausted, NoMemory, Failure, OfConnection, Other, fault}
+use Rattle.pulsar_client.specs.Failures.{Fault, Io, SlowDown, Disconnected, PulsarError, Unexpected, Decoding, Encoding, SocketAddr, UnexpectedResponse, Authentication, NotFound, Canceled, Shutdown, Exhausted, NoMemory}
+use Rattle.pulsar_client.specs.Failures.{ConsumerFault, ConsumerConnection, MissingPayload, ConsumerIo, ChannelFull, ConsumerClosed, ConsumerBuild}
+use Rattle.pulsar_client.specs.Failures.{DiscoveryFault, DiscoveryConnection, Query, DiscoveryNotFound, DnsLookup, DiscoveryCanceled, DiscoveryShutdown, Dummy}
+use Rattle.pulsar_client.specs.Failures.{ProducerFault, ProducerConnection, ProducerCustom, ProducerIo, Fenced, ProducerClosed}
+use Rattle.pulsar_client.specs.Failures as failures
+use Rattle.pulsar_client.specs.Failures.{Failure, OfConnection, OfConsumer, OfProducer, OfBatch, OfPartialSend, OfDiscovery, OfAuthentication, Executor, Sent, NoMore, Went, Failed}
 use Rattle.pulsar_cli.specs.WordText.{word}
 
 abbrev pub io_kind : IoKind → List ℕ
@@ -88,100 +83,99 @@ fault_detail (Authentication d) = denial_detail d
 fault_detail _ = []
 
 -- an error of a consumer
-abbrev pub consumer_word : ConsumerError → List ℕ
-consumer_word (consumer.Connection e) = fault_word (fault e)
-consumer_word (consumer.MissingPayload text) = codes "missingpayload"
-consumer_word (consumer.Io kind) = codes "io"
-consumer_word consumer.ChannelFull = codes "channelfull"
-consumer_word consumer.Closed = codes "closed"
-consumer_word consumer.BuildError = codes "build"
+abbrev pub consumer_word : ConsumerFault → List ℕ
+consumer_word (ConsumerConnection f) = fault_word f
+consumer_word (MissingPayload text) = codes "missingpayload"
+consumer_word (ConsumerIo kind) = codes "io"
+consumer_word ChannelFull = codes "channelfull"
+consumer_word ConsumerClosed = codes "closed"
+consumer_word ConsumerBuild = codes "build"
 
-abbrev pub consumer_detail : ConsumerError → List ℕ
-consumer_detail (consumer.Connection e) = fault_detail (fault e)
-consumer_detail (consumer.MissingPayload text) = 32 ∷ word (string_bytes text)
-consumer_detail (consumer.Io kind) = 32 ∷ io_kind kind
+abbrev pub consumer_detail : ConsumerFault → List ℕ
+consumer_detail (ConsumerConnection f) = fault_detail f
+consumer_detail (MissingPayload text) = 32 ∷ word text
+consumer_detail (ConsumerIo kind) = 32 ∷ io_kind kind
 consumer_detail _ = []
 
 -- an error of the search for a topic's broker
-abbrev pub discovery_word : ServiceDiscoveryError → List ℕ
-discovery_word (discovery.Connection e) = fault_word (fault e)
-discovery_word (discovery.Query e text) = codes "query"
-discovery_word discovery.NotFound = codes "notfound"
-discovery_word discovery.DnsLookupError = codes "dnslookuperror"
-discovery_word discovery.Canceled = codes "canceled"
-discovery_word discovery.Shutdown = codes "shutdown"
-discovery_word discovery.Dummy = codes "dummy"
+abbrev pub discovery_word : DiscoveryFault → List ℕ
+discovery_word (DiscoveryConnection f) = fault_word f
+discovery_word (Query e text) = codes "query"
+discovery_word DiscoveryNotFound = codes "notfound"
+discovery_word DnsLookup = codes "dnslookuperror"
+discovery_word DiscoveryCanceled = codes "canceled"
+discovery_word DiscoveryShutdown = codes "shutdown"
+discovery_word Dummy = codes "dummy"
 
-abbrev pub discovery_detail : ServiceDiscoveryError → List ℕ
-discovery_detail (discovery.Connection e) = fault_detail (fault e)
-discovery_detail (discovery.Query e text) = broker_error e (option_map string_bytes text)
+abbrev pub discovery_detail : DiscoveryFault → List ℕ
+discovery_detail (DiscoveryConnection f) = fault_detail f
+discovery_detail (Query e text) = broker_error e text
 discovery_detail _ = []
 
 -- an error of a producer
-abbrev pub producer_word : ProducerError → List ℕ
-producer_word (producer.Connection e) = fault_word (fault e)
-producer_word (producer.Custom text) = codes "custom"
-producer_word (producer.Io kind) = codes "io"
-producer_word (producer.PartialSend' shape all) = codes "partial"
-producer_word (producer.Batch' p e) = codes "batch"
-producer_word producer.Fenced = codes "fenced"
-producer_word producer.Closed = codes "closed"
+abbrev pub producer_word : ProducerFault → List ℕ
+producer_word (ProducerConnection f) = fault_word f
+producer_word (ProducerCustom text) = codes "custom"
+producer_word (ProducerIo kind) = codes "io"
+producer_word Fenced = codes "fenced"
+producer_word ProducerClosed = codes "closed"
+
+abbrev pub producer_detail : ProducerFault → List ℕ
+producer_detail (ProducerConnection f) = fault_detail f
+producer_detail (ProducerCustom text) = 32 ∷ word text
+producer_detail (ProducerIo kind) = 32 ∷ io_kind kind
+producer_detail _ = []
 
 -- the first word of an error: a family, and a word in it
-abbrev pub family : Error → List ℕ
-family (errors.Connection e) = codes "connection."
-family (errors.Consumer (consumer.Connection e)) = codes "consumer.connection."
-family (errors.Consumer e) = codes "consumer."
-family (errors.Producer (producer.Connection e)) = codes "producer.connection."
-family (errors.Producer e) = codes "producer."
-family (errors.ServiceDiscovery (discovery.Connection e)) = codes "discovery.connection."
-family (errors.ServiceDiscovery e) = codes "discovery."
-family (errors.Authentication e) = codes "authentication."
+abbrev pub family : Failure → List ℕ
+family (OfConnection f) = codes "connection."
+family (OfConsumer (ConsumerConnection f)) = codes "consumer.connection."
+family (OfConsumer f) = codes "consumer."
+family (OfProducer (ProducerConnection f)) = codes "producer.connection."
+family (OfProducer f) = codes "producer."
+family (OfBatch f) = codes "producer."
+family (OfPartialSend s) = codes "producer."
+family (OfDiscovery (DiscoveryConnection f)) = codes "discovery.connection."
+family (OfDiscovery f) = codes "discovery."
+family (OfAuthentication d) = codes "authentication."
 family _ = []
 
-abbrev pub word_in_family : Error → List ℕ
-word_in_family (errors.Connection e) = fault_word (fault e)
-word_in_family (errors.Consumer e) = consumer_word e
-word_in_family (errors.Producer e) = producer_word e
-word_in_family (errors.ServiceDiscovery e) = discovery_word e
-word_in_family (errors.Authentication e) = denial_word (denial e)
-word_in_family (errors.Custom text) = codes "custom"
-word_in_family errors.Executor = codes "executor"
+abbrev pub word_in_family : Failure → List ℕ
+word_in_family (OfConnection f) = fault_word f
+word_in_family (OfConsumer f) = consumer_word f
+word_in_family (OfProducer f) = producer_word f
+word_in_family (OfBatch f) = codes "batch"
+word_in_family (OfPartialSend s) = codes "partial"
+word_in_family (OfDiscovery f) = discovery_word f
+word_in_family (OfAuthentication d) = denial_word d
+word_in_family (failures.Custom text) = codes "custom"
+word_in_family Executor = codes "executor"
 
-abbrev pub first_word : Error → List ℕ
-first_word e = family e ++ word_in_family e
+abbrev pub first_word : Failure → List ℕ
+first_word f = family f ++ word_in_family f
 
--- what became of a message that was sent with others: its ticket, or the first word of its error
-abbrev pub outcome : Result ℕ Error → List ℕ
-outcome (Ok ticket) = codes " ok:" ++ decimal ticket
-outcome (Err e) = codes " err:" ++ first_word e
+-- what became of messages that were sent together: of each its ticket, or the first word of its error
+abbrev pub outcomes : Sent → List ℕ
+outcomes NoMore = []
+outcomes (Went ticket more) = codes " ok:" ++ decimal ticket ++ outcomes more
+outcomes (Failed f more) = codes " err:" ++ first_word f ++ outcomes more
 
--- how many they were, and what became of each
-abbrev pub outcomes : List (Result ℕ Error) → List ℕ
-outcomes all = 32 ∷ decimal (length all) ++ flat_map outcome all
+abbrev pub count : Sent → ℕ
+count NoMore = 0
+count (Went ticket more) = count more + 1
+count (Failed f more) = count more + 1
 
--- Behind the first word: an error that holds an error has the whole text of that one. `items` is the row of outcomes as a list.
-abbrev mutual
-  pub producer_detail : ProducerError → List ℕ
-  producer_detail (producer.Connection e) = fault_detail (fault e)
-  producer_detail (producer.Custom text) = 32 ∷ word (string_bytes text)
-  producer_detail (producer.Io kind) = 32 ∷ io_kind kind
-  producer_detail (producer.PartialSend' shape all) = outcomes (items _ all)
-  producer_detail (producer.Batch' p e) = 32 ∷ first_word e ++ detail e
-  producer_detail _ = []
-
-  pub detail : Error → List ℕ
-  detail (errors.Connection e) = fault_detail (fault e)
-  detail (errors.Consumer e) = consumer_detail e
-  detail (errors.Producer e) = producer_detail e
-  detail (errors.ServiceDiscovery e) = discovery_detail e
-  detail (errors.Authentication e) = denial_detail (denial e)
-  detail (errors.Custom text) = 32 ∷ word (string_bytes text)
-  detail errors.Executor = []
-
-abbrev pub text : Error → List ℕ
-text e = first_word e ++ detail e
+-- behind the first word: an error that holds an error has the whole text of that one
+abbrev pub detail : Failure → List ℕ
+detail (OfConnection f) = fault_detail f
+detail (OfConsumer f) = consumer_detail f
+detail (OfProducer f) = producer_detail f
+detail (OfBatch f) = 32 ∷ first_word f ++ detail f
+detail (OfPartialSend s) = 32 ∷ decimal (count s) ++ outcomes s
+detail (OfDiscovery f) = discovery_detail f
+detail (OfAuthentication d) = denial_detail d
+detail (failures.Custom text) = 32 ∷ word text
+detail Executor = []
 
 abbrev pub failure : Failure → List ℕ
-failure (OfConnection f) = (codes "connection." ++ fault_word f) ++ fault_detail f
-failure (Other e) = text e
+failure f = first_word f ++ detail f

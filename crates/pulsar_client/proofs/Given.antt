@@ -5,13 +5,11 @@ use Rattle.pulsar_wire.specs.Rows.{message_metadata}
 use Rattle.pulsar_wire.specs.Views.{message_id_values, message_metadata_values}
 use Rattle.pulsar_wire.specs.declared.commands.ids.MessageIdData.{MessageIdData}
 use Rattle.pulsar_wire.specs.declared.commands.metadata.MessageMetadata.{MessageMetadata}
-use Rattle.pulsar_wire.specs.declared.error.IoKind.TheVariants as io
-use Rattle.pulsar_wire.specs.declared.error.ConsumerError.TheVariants as consumer
-use Rattle.pulsar_wire.specs.declared.error.Error.TheVariants as error
+use Rattle.pulsar_wire.specs.declared.error.IoKind.TheVariants.{Other}
 use Rattle.pulsar_frame.specs.Batch.{batch_items, num_messages_in_batch}
 use Rattle.pulsar_frame.specs.Payload.{payload_values}
 use Rattle.pulsar_frame.specs.declared.payload.Payload.{Payload}
-use Rattle.pulsar_client.specs.Failures.{Other}
+use Rattle.pulsar_client.specs.Failures.{OfConsumer, ConsumerIo}
 use Rattle.pulsar_client.specs.Items.{Item, Faulty, counted, given, int32_in, is_compressed, items_of, opened}
 use Rattle.pulsar_client.specs.Subscribers.{item_of}
 use Rattle.pulsar_client.specs.declared.consumers.subscriber.Unread.{Unread}
@@ -30,7 +28,7 @@ count_is m = refl
 
 -- the fault of a payload that is compressed
 abbrev pub unreadable : Item
-unreadable = Faulty (Other (error.Consumer (consumer.Io io.Other)))
+unreadable = Faulty (OfConsumer (ConsumerIo Other))
 
 module _ (id : MessageIdData) (p : Payload) where
   by_kind : items_of (message_id_values id) (payload_values p) ≡ cond (is_compressed p.metadata.compression) (unreadable ∷ []) (counted p.metadata.num_messages_in_batch (message_id_values id) (payload_values p))

@@ -6,14 +6,12 @@ use Rattle.pulsar_wire.specs.Rows.{message_id, message_metadata}
 use Rattle.pulsar_wire.specs.At.{uint64_at}
 use Rattle.pulsar_wire.specs.Command.{BodyValues}
 use Rattle.pulsar_wire.specs.declared.error.Reason.TheVariants as reason
-use Rattle.pulsar_wire.specs.declared.error.IoKind.TheVariants as io
-use Rattle.pulsar_wire.specs.declared.error.ConsumerError.TheVariants as consumer
-use Rattle.pulsar_wire.specs.declared.error.Error.TheVariants as error
+use Rattle.pulsar_wire.specs.declared.error.IoKind.TheVariants.{Other}
 use Rattle.pulsar_frame.specs.Batch as batch
 use Rattle.pulsar_frame.specs.Batch.{batch_items, num_messages_in_batch}
 use Rattle.pulsar_frame.specs.Message.{MessageValues}
 use Rattle.pulsar_frame.specs.Payload.{PayloadValues}
-use Rattle.pulsar_client.specs.Failures.{Failure, OfConnection, Other, Decoding}
+use Rattle.pulsar_client.specs.Failures.{Failure, OfConnection, OfConsumer, ConsumerIo, Decoding}
 
 -- what a consumer is given: a message, with its id and what is said of it as they are written, or why there is none
 pub data Item : Type 0 where
@@ -86,7 +84,7 @@ counted (Some n) id p = opened (batch_items id p)
 -- what a payload gives: one fault where it is compressed
 abbrev pub items_of : Values message_id → PayloadValues → List Item
 items_of id p =
-    if is_compressed (int32_in 8 message_metadata p.metadata) then Faulty (Other (error.Consumer (consumer.Io io.Other))) ∷ []
+    if is_compressed (int32_in 8 message_metadata p.metadata) then Faulty (OfConsumer (ConsumerIo Other)) ∷ []
     else counted (num_messages_in_batch p.metadata) id p
 
 -- a message without a payload gives nothing

@@ -1,4 +1,5 @@
 pub mod Failures
+pub mod FailureCode
 pub mod Address
 pub mod RawCall
 pub mod Content

@@ -141,12 +141,12 @@ pub struct Received {
 impl Model for Received {
     ghost use Rattle.pulsar_frame.specs.Shown.{message_values};
     ghost use Rattle.pulsar_client.specs.Messages.{Reply, read};
-    ghost use Rattle.pulsar_wire.specs.contracts.error.Error as errors;
+    ghost use Rattle.pulsar_client.specs.FailureCode.{failure_code};
     ghost use Rattle.std.specs.Coded.{codes};
 
     ghost Value = { Reply };
 
-    ghost coded = { Prim.hlevel (codes, errors.the_row.coded) };
+    ghost coded = { Prim.hlevel (codes, failure_code (Prim.hlevel codes)) };
 
     ghost view = { λ r. read (message_values r.message.value) };
 }
@@ -217,12 +217,12 @@ pub struct Said {
 impl Model for Said {
     ghost use Rattle.pulsar_client.specs.Content as content;
     ghost use Rattle.pulsar_client.specs.Content.{said};
-    ghost use Rattle.pulsar_wire.specs.contracts.error.Error as errors;
+    ghost use Rattle.pulsar_client.specs.FailureCode.{failure_code};
     ghost use Rattle.std.specs.Coded.{codes};
 
     ghost Value = { content.Said };
 
-    ghost coded = { Prim.hlevel (codes, errors.the_row.coded) };
+    ghost coded = { Prim.hlevel (codes, failure_code (Prim.hlevel codes)) };
 
     ghost view = { λ s. said s.answer.value };
 }

@@ -75,7 +75,6 @@ fn settled_as(outcome: Settlement) -> &'static str
     }
 }
 
-#[tactic(auto, using(crate::proofs::Errors::failure_text))]
 fn push_answer(out: &mut String, answer: &Result<Answer, Error>) -> Result<(), AllocError>
     ensures { OnOk result (string_bytes out.new ≡ string_bytes out.old ++ printed.answer (said answer.now)) }
 {
@@ -137,7 +136,6 @@ fn push_body(out: &mut String, body: &Body) -> Result<(), AllocError>
 }
 
 /// What a poll gives: a message, or why there is none.
-#[tactic(auto, using(crate::proofs::Errors::failure_text))]
 fn push_item(out: &mut String, ticket: u64, item: &Result<Handed, Error>) -> Result<(), AllocError>
     ensures { OnOk result (string_bytes out.new ≡ string_bytes out.old ++ printed.effect (hands ticket item.now)) }
 {

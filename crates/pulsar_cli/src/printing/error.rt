@@ -3,7 +3,7 @@
 ghost use Rattle.std.specs.Prelude.{◌≡◌, ◌∷◌, ◌++◌, OnOk, string_bytes};
 ghost use Rattle.std.specs.Option.{option_map};
 ghost use Rattle.pulsar_wire.specs.Authentication.{denial};
-ghost use Rattle.pulsar_client.specs.Failures.{fault};
+ghost use Rattle.pulsar_client.specs.Failures.{OfConsumer, OfDiscovery, OfPartialSend, consumer_fault, discovery_fault, failure, fault, of_producer, sent as what_became};
 ghost use Rattle.pulsar_cli.specs.ErrorText as printed;
 ghost use Rattle.pulsar_cli.specs.WordText.{word};
 
@@ -17,7 +17,7 @@ use std::alloc::AllocError;
 /// An error: its first word, and what stands behind it.
 #[cycle(text)]
 pub fn push_error(out: &mut String, error: &Error) -> Result<(), AllocError>
-    ensures { OnOk result (string_bytes out.new ≡ string_bytes out.old ++ printed.text error.now) }
+    ensures { OnOk result (string_bytes out.new ≡ string_bytes out.old ++ printed.failure (failure error.now)) }
 {
     push_first_word(out, error)?;
     push_detail(out, error)?;
@@ -26,7 +26,7 @@ pub fn push_error(out: &mut String, error: &Error) -> Result<(), AllocError>
 
 /// The first word of an error.
 fn push_first_word(out: &mut String, error: &Error) -> Result<(), AllocError>
-    ensures { OnOk result (string_bytes out.new ≡ string_bytes out.old ++ printed.first_word error.now) }
+    ensures { OnOk result (string_bytes out.new ≡ string_bytes out.old ++ printed.first_word (failure error.now)) }
 {
     out.push_str(family(error))?;
     out.push_str(word_in_family(error))?;
@@ -35,24 +35,62 @@ fn push_first_word(out: &mut String, error: &Error) -> Result<(), AllocError>
 
 /// The family of an error, in front of its word.
 fn family(error: &Error) -> &'static str
-    ensures { result.now ≡ printed.family error.now }
+    ensures { result.now ≡ printed.family (failure error.now) }
 {
     match error {
         Error::Connection(_) => "connection.",
-        Error::Consumer(ConsumerError::Connection(_)) => "consumer.connection.",
-        Error::Consumer(_) => "consumer.",
-        Error::Producer(ProducerError::Connection(_)) => "producer.connection.",
-        Error::Producer(_) => "producer.",
-        Error::ServiceDiscovery(ServiceDiscoveryError::Connection(_)) => "discovery.connection.",
-        Error::ServiceDiscovery(_) => "discovery.",
+        Error::Consumer(e) => consumer_family(e),
+        Error::Producer(e) => producer_family(e),
+        Error::ServiceDiscovery(e) => discovery_family(e),
         Error::Authentication(_) => "authentication.",
         Error::Custom(_) | Error::Executor => "",
     }
 }
 
+fn consumer_family(error: &ConsumerError) -> &'static str
+    ensures { result.now ≡ printed.family (OfConsumer (consumer_fault error.now)) }
+{
+    match error {
+        ConsumerError::Connection(_) => "consumer.connection.",
+        ConsumerError::MissingPayload(_)
+        | ConsumerError::Io(_)
+        | ConsumerError::ChannelFull
+        | ConsumerError::Closed
+        | ConsumerError::BuildError => "consumer.",
+    }
+}
+
+fn producer_family(error: &ProducerError) -> &'static str
+    ensures { result.now ≡ printed.family (of_producer error.now) }
+{
+    match error {
+        ProducerError::Connection(_) => "producer.connection.",
+        ProducerError::Custom(_)
+        | ProducerError::Io(_)
+        | ProducerError::PartialSend(_)
+        | ProducerError::Batch(_)
+        | ProducerError::Fenced
+        | ProducerError::Closed => "producer.",
+    }
+}
+
+fn discovery_family(error: &ServiceDiscoveryError) -> &'static str
+    ensures { result.now ≡ printed.family (OfDiscovery (discovery_fault error.now)) }
+{
+    match error {
+        ServiceDiscoveryError::Connection(_) => "discovery.connection.",
+        ServiceDiscoveryError::Query(_, _)
+        | ServiceDiscoveryError::NotFound
+        | ServiceDiscoveryError::DnsLookupError
+        | ServiceDiscoveryError::Canceled
+        | ServiceDiscoveryError::Shutdown
+        | ServiceDiscoveryError::Dummy => "discovery.",
+    }
+}
+
 /// The word of an error in its family.
 fn word_in_family(error: &Error) -> &'static str
-    ensures { result.now ≡ printed.word_in_family error.now }
+    ensures { result.now ≡ printed.word_in_family (failure error.now) }
 {
     match error {
         Error::Connection(e) => fault_word(e),
@@ -91,7 +129,7 @@ fn fault_word(error: &ConnectionError) -> &'static str
 }
 
 fn consumer_word(error: &ConsumerError) -> &'static str
-    ensures { result.now ≡ printed.consumer_word error.now }
+    ensures { result.now ≡ printed.consumer_word (consumer_fault error.now) }
 {
     match error {
         ConsumerError::Connection(e) => fault_word(e),
@@ -104,7 +142,7 @@ fn consumer_word(error: &ConsumerError) -> &'static str
 }
 
 fn producer_word(error: &ProducerError) -> &'static str
-    ensures { result.now ≡ printed.producer_word error.now }
+    ensures { result.now ≡ printed.word_in_family (of_producer error.now) }
 {
     match error {
         ProducerError::Connection(e) => fault_word(e),
@@ -118,7 +156,7 @@ fn producer_word(error: &ProducerError) -> &'static str
 }
 
 fn discovery_word(error: &ServiceDiscoveryError) -> &'static str
-    ensures { result.now ≡ printed.discovery_word error.now }
+    ensures { result.now ≡ printed.discovery_word (discovery_fault error.now) }
 {
     match error {
         ServiceDiscoveryError::Connection(e) => fault_word(e),
@@ -143,7 +181,7 @@ fn denial_word(error: &AuthenticationError) -> &'static str
 /// What stands behind the first word of an error.
 #[cycle(text)]
 fn push_detail(out: &mut String, error: &Error) -> Result<(), AllocError>
-    ensures { OnOk result (string_bytes out.new ≡ string_bytes out.old ++ printed.detail error.now) }
+    ensures { OnOk result (string_bytes out.new ≡ string_bytes out.old ++ printed.detail (failure error.now)) }
 {
     match error {
         Error::Connection(e) => push_fault_detail(out, e)?,
@@ -175,7 +213,7 @@ fn push_fault_detail(out: &mut String, error: &ConnectionError) -> Result<(), Al
 }
 
 fn push_consumer_detail(out: &mut String, error: &ConsumerError) -> Result<(), AllocError>
-    ensures { OnOk result (string_bytes out.new ≡ string_bytes out.old ++ printed.consumer_detail error.now) }
+    ensures { OnOk result (string_bytes out.new ≡ string_bytes out.old ++ printed.consumer_detail (consumer_fault error.now)) }
 {
     match error {
         ConsumerError::Connection(e) => push_fault_detail(out, e)?,
@@ -187,8 +225,9 @@ fn push_consumer_detail(out: &mut String, error: &ConsumerError) -> Result<(), A
 }
 
 #[cycle(text)]
+#[tactic(auto, using(crate::proofs::Errors::sent_row))]
 fn push_producer_detail(out: &mut String, error: &ProducerError) -> Result<(), AllocError>
-    ensures { OnOk result (string_bytes out.new ≡ string_bytes out.old ++ printed.producer_detail error.now) }
+    ensures { OnOk result (string_bytes out.new ≡ string_bytes out.old ++ printed.detail (of_producer error.now)) }
 {
     match error {
         ProducerError::Connection(e) => push_fault_detail(out, e)?,
@@ -205,8 +244,9 @@ fn push_producer_detail(out: &mut String, error: &ProducerError) -> Result<(), A
 }
 
 /// The count of the messages of a batch, and the outcome of each.
+#[tactic(auto, using(crate::proofs::Errors::outcomes_more, crate::proofs::Errors::count_sent))]
 fn push_outcomes(out: &mut String, sent: &[Result<u64, Error>]) -> Result<(), AllocError>
-    ensures { OnOk result (string_bytes out.new ≡ string_bytes out.old ++ printed.outcomes sent.now) }
+    ensures { OnOk result (string_bytes out.new ≡ string_bytes out.old ++ printed.detail (OfPartialSend (what_became sent.now))) }
 {
     let count = sent.len();
     write!(out, " {count}")?;
@@ -223,7 +263,7 @@ fn push_outcomes(out: &mut String, sent: &[Result<u64, Error>]) -> Result<(), Al
 }
 
 fn push_discovery_detail(out: &mut String, error: &ServiceDiscoveryError) -> Result<(), AllocError>
-    ensures { OnOk result (string_bytes out.new ≡ string_bytes out.old ++ printed.discovery_detail error.now) }
+    ensures { OnOk result (string_bytes out.new ≡ string_bytes out.old ++ printed.discovery_detail (discovery_fault error.now)) }
 {
     match error {
         ServiceDiscoveryError::Connection(e) => push_fault_detail(out, e)?,

@@ -128,9 +128,9 @@ fn accepted(alloc: Global, body: Body) -> Result<Said, NoMemory>
 fn refused(alloc: Global, body: Body) -> Result<ConnectionError, NoMemory>
     ensures { IfOk result (λ e. fault e ≡ refused (read_body None [] (Some (body_values body))) (Some (written (body_values body)))) }
 {
-    match body {
-        Body::Error(body) => Ok(told_error(body)),
-        body => unexpected(alloc, body.name()),
+    match body.into_error() {
+        Ok(error) => Ok(told_error(error)),
+        Err(other) => unexpected(alloc, other.name()),
     }
 }
 

@@ -17,6 +17,7 @@ use crate::session::messages;
 use crate::session::waiting::{Awaited, Waiter, Waiting};
 use pulsar_frame::message::Message;
 use pulsar_frame::reader::FrameReader;
+use pulsar_wire::commands::connection::client_version;
 use pulsar_wire::error::{ConnectionError, NoMemory};
 use std::alloc::Global;
 use std::collections::{BTreeMap, VecDeque};
@@ -335,8 +336,8 @@ fn take_arrivals(alloc: Global, reader: &mut FrameReader) -> Result<VecDeque<Arr
 fn connect_frame(alloc: Global) -> Result<Vec<u8>, NoMemory>
     ensures { IfOk result (λ frame. frame.items ≡ frame_bytes connect_message) }
 {
-    let message = messages::connect(alloc)?;
-    frame_of(alloc, &message)
+    let version = client_version(alloc)?;
+    frame_of(alloc, &messages::connect(version))
 }
 
 /// The frame of a message that fits. Another has none.

@@ -7,13 +7,13 @@ ghost use Rattle.pulsar_frame.specs.Payload.{payload_values};
 ghost use Rattle.pulsar_frame.specs.Shown.{message_values};
 ghost use Rattle.pulsar_client.specs.RawCall.{Ack, CloseConsumer, CloseProducer, CreateProducer, Flow, Send, Subscribe, id_of, outgoing, property};
 ghost use Rattle.pulsar_client.specs.Request.{fits_frame};
-ghost use Rattle.pulsar_client.specs.Messages.{ack_type, bare, body_of, connect_message, metadata_of, property_values, raw_message, topics_message};
+ghost use Rattle.pulsar_client.specs.Messages.{ack_type, bare, body_of, client_version, connect_message, metadata_of, property_values, raw_message, topics_message};
 
 use crate::raw_call::ProducerMessage;
 use pulsar_frame::message::Message;
 use pulsar_frame::payload::Payload;
 use pulsar_wire::commands::base::{BaseCommand, Body};
-use pulsar_wire::commands::connection::{CommandConnect, client_version};
+use pulsar_wire::commands::connection::CommandConnect;
 use pulsar_wire::commands::consumer::delivery::{CommandAck, CommandFlow};
 use pulsar_wire::commands::consumer::subscription::{CommandCloseConsumer, CommandSubscribe};
 use pulsar_wire::commands::enumerations::{InitialPosition, SubType};
@@ -28,19 +28,19 @@ use std::collections::BTreeMap;
 /// The version of the protocol that the client speaks.
 const PROTOCOL_VERSION: i32 = 12;
 
-/// What a client says first on a link.
+/// What the client of this version says first on a link.
 #[tactic(auto, unfolding(pulsar_wire::specs::Views::connect_values))]
-pub fn connect(alloc: Global) -> Result<Message, NoMemory>
-    ensures { IfOk result (λ m. message_values m ≡ connect_message) }
+pub fn connect(version: String) -> Message
+    ensures { string_bytes version ≡ client_version → message_values result ≡ connect_message }
 {
     let body = CommandConnect {
-        client_version: client_version(alloc)?,
+        client_version: version,
         auth_data: None,
         protocol_version: Some(PROTOCOL_VERSION),
         auth_method_name: None,
         proxy_to_broker_url: None,
     };
-    Ok(bare(Body::Connect(body)))
+    bare(Body::Connect(body))
 }
 
 /// Asks for the topics of a namespace.

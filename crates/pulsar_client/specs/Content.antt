@@ -1,4 +1,8 @@
 -- Events, effects and answers by their content: a text is the list of its bytes, a vector the list of its items.
+--
+-- A link is an attempt to connect, and the connection that comes of it. Links are numbered from 0, in the order of the effects Connect.
+-- The place of a frame is its index among all frames that were queued on its link. A ticket is the number of a call: calls are counted
+-- from 0. A raw consumer has the ticket of the call that made it.
 use Rattle.std.specs.Prelude.{ℕ, List, map, string_bytes, Result, Ok, Err}
 use Rattle.pulsar_wire.specs.Row.{spelling}
 use Rattle.pulsar_wire.specs.Rows.{message_id, message_metadata, send_receipt}
@@ -44,8 +48,8 @@ pub data Said : Type 0 where
   Replies : List Written → Said
   Failed : Failure → Said
 
--- What the client wants done, and tells. A poll hands a message with its id and what is said of it as they are written, or
--- tells why there is none; it finds nothing where none is there yet, and the end where none will come.
+-- What the client wants done, and tells. A poll hands a message with its id and its metadata as they are written, or tells why there is
+-- none; it finds nothing where none is there yet, and the end where none will come.
 pub data Shown : Type 0 where
   Connect : (link : ℕ) (host : List ℕ) (port : ℕ) → Shown
   Queued : (link place : ℕ) (bytes : List ℕ) → Shown

@@ -13,7 +13,7 @@ use Rattle.pulsar_frame.specs.Message.{MessageValues}
 use Rattle.pulsar_frame.specs.Payload.{PayloadValues}
 use Rattle.pulsar_client.specs.Failures.{Failure, OfConnection, OfConsumer, ConsumerIo, Decoding}
 
--- what a consumer is given: a message, with its id and what is said of it as they are written, or why there is none
+-- what a consumer is given: a message, with its id and its metadata as they are written, or why there is none
 pub data Item : Type 0 where
   Given : (id metadata payload : List ℕ) → Item
   Faulty : Failure → Item

@@ -77,7 +77,7 @@ CallsAreMade = (o : Chosen) (log : List Entry) (t : ℕ) (p : Procedure) → IsR
     (asked : Asked) × (older : List Entry) × (log ≡ Then (Comes (Calls asked)) ∷ Begins (Called asked) ∷ older)
     × (t ≡ (view o older).calls.drawn) × (t < spent) × (p ≡ procedure_for (view o older).calls.is_built asked)
 
--- the newest procedure that one of them started, and the outcomes that it was told since then, oldest first
+-- the newest procedure that one who has a plan started, and the outcomes that it was told since then, oldest first
 abbrev pub started : Who → List Entry → Option Procedure
 started w [] = None
 started w (Then (Starts who p) ∷ log) = if is_same w who then Some p else started w log
@@ -151,7 +151,7 @@ EndsOnce = (o : Chosen) (log : List Entry) (t : ℕ) → IsRun o log → (counte
 
 -- WHY A CALL IS TOLD AN OUTCOME
 
--- one gets the link of the address, and its series is so
+-- An entry of the log, with the older ones before it, is such: one gets the link of the address, and what is seen there is so.
 abbrev pub Gets : Chosen → Who → (View → Type 0) → Entry → List Entry → Type 0
 Gets o who P e older = (e ≡ Then (Does who Get)) × P (view o older)
 
@@ -221,7 +221,7 @@ built (_ ∷ log) = built log
 abbrev pub BuiltIs : Type 0
 BuiltIs = (o : Chosen) (log : List Entry) → (view o log).calls.is_built ≡ built log
 
--- the newest turn of the address: an attempt began, or a link became ready or ended
+-- what runs for the address, by the newest of these: an attempt began, a link became ready, a link ended
 abbrev pub turn_of : (link : ℕ) → Change → Series → Series
 turn_of l change.Remains s = s
 turn_of l change.Opened s = s
@@ -268,7 +268,7 @@ abbrev pub LinksAlone : Type 0
 LinksAlone = (o : Chosen) (log : List Entry) (l : ℕ) (seat : Seat) → (view o log).links.live l ≡ Some seat →
     seat.seen ≡ seen_after o.first_number (borne o l log)
 
--- what is said of a place, oldest first: of these on top of older ones
+-- how the request of a place is settled at each of these things that are done to a link, oldest first, where the older ones came before
 abbrev pub words_of : Borne → Seen → List Word
 words_of (Fed piece) s = []
 words_of (Took x) s = words x s
@@ -291,7 +291,7 @@ abbrev pub ends : Borne → Seen → Option Settled
 ends (Took x) s = if is_ended (change_of x s.stage) then Some settled.Disconnected else None
 ends _ s = None
 
--- the first of the later ones that settles it
+-- how the first of the later ones that settles a request does so
 abbrev pub first_along : (first_number : ℕ) → Pending → List Borne → List Borne → Option Settled
 first_along first r [] older = None
 first_along first r (b ∷ later) older = option_or (first_along first r later older) (option_or (answers b r) (ends b (seen_after first (later ++ older))))
@@ -435,7 +435,7 @@ PollsAreAnswered = (o : Chosen) (log : List Entry) (t : ℕ) → IsRun o (Then (
 
 -- TICKETS
 
--- a cause serves calls by their tickets, in whatever order they come
+-- a cause serves calls by their tickets, in whatever order their requests end
 abbrev pub disconnects : ℕ → Notice
 disconnects t = record { who = Call t; outcome = outcome.Disconnected }
 

@@ -1,5 +1,6 @@
--- One link, as a passive object: what comes to it, what is asked of it, what it gives, and what is seen of it afterwards. It knows
--- places on itself. It knows nothing of other links, nor of those that ask.  (Pulsar binary protocol, Connection establishment)
+-- One link by itself: what comes to it, what is asked of it, what it gives, and what is seen of it afterwards. It names a request by the
+-- place of its frame: the index among all frames that were queued on it. It knows nothing of other links, nor of those who ask.
+-- (Pulsar binary protocol, Connection establishment)
 use Rattle.std.specs.Prelude.{ℕ, ◌+◌, ◌-◌, ◌^◌, ◌==◌, Bool, true, false, ◌&&◌, not, if◌then◌else◌, List, [], ◌∷◌, ◌++◌, take, drop, filter, map, Option, Some, None}
 use Rattle.std.specs.List.{flat_map}
 use Rattle.std.specs.Option.{option_to_list}
@@ -78,13 +79,14 @@ is_over Over = true
 abbrev pub arrivals : List ℕ → List Arrival
 arrivals stream = map (λ m. Message (read m)) (cut stream) ++ map Bad (option_to_list (bad stream))
 
--- a piece is read while the link is open: what it completes comes to the link, frame by frame, and what is left behind that stays
+-- A piece of bytes is read while the link is open. The frames that it completes come to the link one by one, each as an act; the bytes
+-- behind them stay.
 abbrev pub fed : (piece : List ℕ) → Seen → Seen
 fed piece s = if is_open s.stage then record s { unread = left (s.unread ++ piece) } else s
 
 -- WHAT BECOMES OF IT
 
--- the first frame makes it ready where it is `connected`, and ends it elsewhere; what is no frame ends it
+-- the first frame makes it ready where it is `connected`, and ends it where it is another one; what is no frame ends it
 abbrev pub at_arrival : Stage → Arrival → Change
 at_arrival Handshaking (Message m) = if is_connected m then Readied else Ended Refused
 at_arrival Handshaking (Bad reason) = Ended Refused
@@ -136,7 +138,7 @@ is_answered_by (Fails kind) r = false
 is_answered_by Loses r = false
 is_answered_by (Drains most) r = false
 
--- the requests that an act answers
+-- the requests that an act answers: a word says how the request of a place is settled
 abbrev pub answered : LinkAct → List Pending → List Word
 answered (Comes (Message m)) rs = map (λ r. record { place = r.place; settled = Reply m }) (filter (λ r. ends_wait m.key r.awaits) rs)
 answered (Comes (Bad reason)) rs = []
@@ -145,7 +147,7 @@ answered (Fails kind) rs = []
 answered Loses rs = []
 answered (Drains most) rs = []
 
--- and those that it leaves waiting, which wait for nothing any more at the link's end
+-- the requests that it leaves waiting; where it ends the link these are disconnected
 abbrev pub left_waiting : LinkAct → List Pending → List Pending
 left_waiting (Comes (Message m)) rs = filter (λ r. not (ends_wait m.key r.awaits)) rs
 left_waiting (Comes (Bad reason)) rs = rs
@@ -196,11 +198,11 @@ pub record Frame : Type 0 where
 abbrev pub framed : ℕ → MessageValues → Frame
 framed place m = record { place = place; bytes = frame_bytes m }
 
--- the requests that an act settles, and as what
+-- the requests that an act settles, and how
 abbrev pub words : LinkAct → Seen → List Word
 words act s = answered act s.pending ++ dropped (change act s.stage) (left_waiting act s.pending)
 
--- an opened link greets
+-- a link that is opened queues its connect frame
 abbrev pub greeting : Change → ℕ → Option Frame
 greeting change place = if is_opened change then Some (framed place connect_message) else None
 

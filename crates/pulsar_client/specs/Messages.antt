@@ -25,7 +25,7 @@ protocol_version = pos 12
 abbrev pub bare : BodyValues → MessageValues
 bare body = record { command = with_kind body; payload = None }
 
--- what a client says first on a link
+-- what a client says first on a link  (Pulsar binary protocol, Connection establishment)
 abbrev pub connect_message : MessageValues
 connect_message = bare (record { number = 2; row = connect; values = client_version & None & Some protocol_version & None & None & tt })
 
@@ -134,6 +134,6 @@ abbrev pub is_number : ℕ → Option Written → Bool
 is_number n None = false
 is_number n (Some b) = b.number == n
 
--- the broker greets
+-- the broker says `connected`
 abbrev pub is_connected : Reply → Bool
 is_connected r = is_number 3 r.body

@@ -1,5 +1,6 @@
--- Plans: machines over outcomes. Each state says what came before; an outcome leads to the next state, with what is done there, or gives
--- a verdict.
+-- Plans. A procedure is what is to be done for a call, and a plan is where it stands: a state of a machine. It is told outcomes, one after
+-- the other. Each leads to the next state, with the action that is done there, or gives the verdict: the answer, and what the call leaves
+-- behind.  (Pulsar binary protocol, Producer; Consumer: what answers a request)
 use Rattle.std.specs.Prelude.{ℕ, Bool, false, List, [], ◌∷◌, Option, Some, None, codes, ◌==◌, if◌then◌else◌}
 use Rattle.pulsar_wire.specs.Field.{◌>>=◌}
 use Rattle.pulsar_wire.specs.Enumerations.{error_of}
@@ -64,7 +65,7 @@ verdict makes said = record { makes = makes; said = said }
 abbrev pub fails : Fault → Verdict
 fails f = verdict Nothing (failed f)
 
--- Why a plan fails at an outcome. One that a plan doesn't wait for is the loss of what it waits for.
+-- Why a plan fails at an outcome. An outcome that it doesn't wait for counts as the loss of what it waits for.
 abbrev pub fault_of : Outcome → Fault
 fault_of (GotLink link) = Disconnected
 fault_of outcome.NotFound = NotFound
@@ -108,14 +109,14 @@ replied w r = verdict (if is_answer w.number r.body then w.makes else Nothing) (
 
 -- ALL PLANS
 
--- where a procedure begins
+-- where the plan of a procedure begins
 abbrev pub begins : Procedure → Turn Plan Verdict
 begins procedure.Build = Stays Building Get
 begins (procedure.Ask Base request) = Stays (Getting request) Get
 begins (procedure.Ask (Link link) request) = asks link request
 begins procedure.Refuse = Gives (fails Shutdown)
 
--- what an outcome makes of it
+-- what an outcome makes of a plan
 abbrev pub told : Plan → Outcome → Turn Plan Verdict
 told Building (GotLink link) = Gives (verdict Client Done)
 told Building o = Gives (fails (fault_of o))

@@ -1,4 +1,5 @@
--- What is asked of one link, by its content: a text is the list of its bytes, a map the list of its entries in key order.
+-- Raw calls, that is what a user asks of one link by itself, by their content: a text is the list of its bytes, a map the list of its
+-- entries in key order.  (Pulsar binary protocol, Producer; Consumer)
 use Rattle.std.specs.Prelude.{ℕ, ℤ, Bool, List, [], map, Option, None, String, string_bytes}
 use Rattle.std.specs.Option.{option_map}
 use Rattle.pulsar_wire.specs.declared.commands.enumerations.SubType.{SubType}
@@ -7,7 +8,7 @@ use Rattle.pulsar_client.specs.declared.raw_call.ProducerMessage.{ProducerMessag
 use Rattle.pulsar_client.specs.declared.raw_call.RawCall.{RawCall}
 use Rattle.pulsar_client.specs.declared.raw_call.RawCall.TheVariants as raw
 
--- what a producer sends
+-- a message as a producer sends it: its payload, and what is said of it
 pub record Outgoing : Type 0 where
   pub payload : List ℕ
   pub properties : List (List ℕ × List ℕ)
@@ -32,7 +33,7 @@ silent =
       deliver_at = None;
     }
 
--- the place of a message in a topic
+-- the id of a message: where the broker keeps it, and for one of a batch its index there
 pub record Id : Type 0 where
   pub ledger : ℕ
   pub entry : ℕ
@@ -41,7 +42,8 @@ pub record Id : Type 0 where
   pub acknowledged : List ℤ
   pub size : Option ℤ
 
--- a producer or a consumer is named by the number that the client gave it
+-- What is asked. A producer or a consumer is named by the number that the user gives it. A message that is sent may wait for room, or
+-- not; yet there always is some.
 pub data Words : Type 0 where
   CreateProducer : (topic : List ℕ) (producer : ℕ) (name : Option (List ℕ)) → Words
   Send : (producer : ℕ) (name : List ℕ) (sequence : ℕ) (message : Outgoing) (waits : Bool) → Words

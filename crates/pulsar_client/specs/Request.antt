@@ -11,6 +11,7 @@ use Rattle.pulsar_client.specs.declared.session.waiting.Awaited.{Awaited}
 use Rattle.pulsar_client.specs.Messages.{body_of, raw_message, topics_message}
 use Rattle.pulsar_client.specs.RawCall.{Words, CreateProducer, Send, CloseProducer, Subscribe, Flow, Ack, CloseConsumer, words}
 
+-- the topics of a namespace, or what a raw call asks
 pub data Request : Type 0 where
   Topics : (namespace : List ℕ) (mode : Mode) → Request
   Raw : Words → Request
@@ -51,7 +52,7 @@ abbrev pub request_number : Request → ℕ
 request_number (Topics namespace mode) = 32
 request_number (Raw words) = (body_of 0 words).number
 
--- a request with the body of this number has an answer
+-- a request with the body of this number has an answer, as the table of pulsar_frame says
 abbrev pub is_answered : (request : ℕ) → Bool
 is_answered request = is_some (answers request)
 

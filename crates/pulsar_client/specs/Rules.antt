@@ -73,6 +73,7 @@ parts v e = if is_live v e then brings v e else []
 
 -- AT ONCE
 
+-- a plan does its action, unless it rests
 abbrev pub does : Who → Action → List Act
 does who Rest = []
 does who action = Does who action ∷ []
@@ -135,10 +136,11 @@ at_once v _ = []
 
 -- AMONG THOSE WHOM THE PRESENT CAUSE STILL SERVES
 
--- calls by ticket
+-- the order in which a cause serves: calls by ticket
 abbrev pub below : Notice → Notice → Bool
 below a b = is_before (rank a.who) (rank b.who)
 
+-- nobody joins yet
 abbrev pub joins : View → Act → List Notice
 joins v a = []
 
@@ -148,7 +150,7 @@ abbrev pub settled_as : Settled → Outcome
 settled_as (settled.Reply m) = outcome.Replied m
 settled_as settled.Disconnected = outcome.Disconnected
 
--- the notice of a word to the one who asked
+-- the notice of how a request is settled, to the one who asked for it
 abbrev pub heard_by : (ℕ → Option Who) → Word → Option Notice
 heard_by askers w = option_map (λ who. notice who (settled_as w.settled)) (askers w.place)
 
@@ -171,7 +173,7 @@ failed_at Nobody end ws = []
 failed_at (Runs starter) end ws = map (failed starter end) ws
 failed_at (Serves link) end ws = []
 
--- those who wait for the link of the address
+-- those who wait for the link of the address are served as it becomes ready or ends
 abbrev pub served : ℕ → Change → Base → List Notice
 served l Remains b = []
 served l Opened b = []

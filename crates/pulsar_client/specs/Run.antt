@@ -29,6 +29,7 @@ rules =
       effect_below = effect_below;
     }
 
+-- what is defined of a run over any rules, at these
 abbrev pub Entry : Type 0
 Entry = run.Entry Heard Act
 

@@ -1,4 +1,5 @@
--- Raw consumers: what each hears, and what its polls give.  (Pulsar binary protocol, Consumer)
+-- Raw consumers: each is made by a raw call to subscribe that succeeds. What it hears, and what its polls give.
+-- (Pulsar binary protocol, Consumer)
 use Rattle.std.specs.Prelude.{ℕ, Bool, true, false, List, [], ◌∷◌, ◌++◌, drop, Option, Some, None, ◌==◌, ◌&&◌, ◌||◌, not, if◌then◌else◌}
 use Rattle.std.specs.List.{list_any}
 use Rattle.pulsar_wire.specs.declared.key.RequestKey.{RequestKey}
@@ -85,11 +86,11 @@ after_own (Drains most) waiting s = s
 abbrev pub hears : (link : ℕ) → LinkAct → List Pending → Subscription → Subscription
 hears l act waiting s = if (s.link == l) && s.is_live then after_own act waiting s else s
 
--- it ends with its link
+-- it hears no more from the end of its link on
 abbrev pub ends_with : (link : ℕ) → Change → Subscription → Subscription
 ends_with l change s = if is_ended change && ((s.link == l) && s.is_live) then ended s else s
 
--- it ends where its own close is asked for: where that is queued
+-- nor from where its own close is asked for, and queued
 abbrev pub closes_it : Option ℕ → ℕ → Bool
 closes_it None number = false
 closes_it (Some closed) number = closed == number

@@ -1,4 +1,4 @@
--- What is seen of a run, and what an act makes of it: one small function a field.
+-- What is seen of a run, and what an act makes of it: one small function for each field.
 use Rattle.std.specs.Prelude.{ℕ, ◌+◌, ◌==◌, Bool, true, false, if◌then◌else◌, List, [], ◌∷◌, ◌++◌, Option, Some, None}
 use Rattle.std.specs.List.{list_any}
 use Rattle.std.specs.Option.{is_some, option_map}
@@ -46,7 +46,7 @@ pub record Tickets : Type 0 where
   pub drawn : ℕ
   pub is_built : Bool
 
--- a link that has not ended, and who asked for the frames of its places that are to be told something
+-- a link that has not ended; and for each place whose request waits, who asked for it and is to be told
 pub record Seat : Type 0 where
   pub seen : Seen
   pub askers : ℕ → Option Who
@@ -61,7 +61,7 @@ pub record Base : Type 0 where
   pub series : Series
   pub waiting : List Who
 
--- all: the options, the clock, where each plan stands, and the things
+-- all: the options, the clock, where each plan stands, the calls, the links, the address, and the raw consumers by ticket
 pub record View : Type 0 where
   pub chosen : Chosen
   pub now : ℕ
@@ -86,7 +86,7 @@ new o =
 
 -- EVENTS
 
--- what is seen of a live link
+-- a link that has not ended is at such a stage
 abbrev pub is_at : (Stage → Bool) → Option Seat → Bool
 is_at test None = false
 is_at test (Some seat) = test seat.seen.stage
@@ -207,11 +207,12 @@ links_after first now a links =
 
 -- THE ADDRESS
 
--- what an act makes of a link, where it makes something of one
+-- what becomes of a link by what comes to it; nothing becomes of one that has ended
 abbrev pub turned : LinkAct → Option Seat → Change
 turned x None = Remains
 turned x (Some seat) = change x seat.seen.stage
 
+-- a link that becomes ready serves those who wait for the address, and all who get it later; where a link ends nobody serves it
 abbrev pub base_turned : (link : ℕ) → Change → Base → Base
 base_turned l Remains b = b
 base_turned l Opened b = b

@@ -1,5 +1,5 @@
--- The requests that wait on a link, as the code keeps them: each under a number of its own, and an index of these numbers by
--- what is waited for.
+-- For the code's contracts alone: the requests that wait on a link, as the code keeps them: each under a number of its own, and an index of
+-- these numbers by what is waited for.
 use Rattle.std.specs.Prelude.{◌≡◌, ℕ, ◌≤◌, List, [], ◌++◌, map, filter, not, Bool, false, Option, Some, None}
 use Rattle.std.specs.declared.cmp.Ordering.{Ordering}
 use Rattle.std.specs.Ordering.{nat_cmp, ordering_then}

@@ -1,4 +1,4 @@
--- Those that have plans.
+-- Those that have plans, and the order in which a cause serves them.
 use Rattle.std.specs.Prelude.{ℕ, ◌==◌, nat_lt, Bool, ◌&&◌, if◌then◌else◌}
 use Rattle.pulsar_client.specs.declared.act.Who.{Who}
 use Rattle.pulsar_client.specs.declared.act.Who.TheVariants.{Call}

@@ -4,7 +4,7 @@
 use crate::content::{Asking, Received, Request, Said, Text};
 use pulsar_wire::error::{IoKind, Reason};
 
-/// One that has a plan. The order of ranks is that in which one cause serves them.
+/// One that has a plan. A cause serves them in the order of their ranks.
 #[derive(Clone, Copy)]
 pub enum Who {
     /// The call of this ticket.
@@ -50,17 +50,18 @@ pub enum Place {
     Link(u64),
 }
 
-/// A procedure, with its words.
+/// What is to be done for a call.
 #[derive(Drop)]
 pub enum Procedure {
+    /// Get the link of the address: then the client is built.
     Build,
     /// Get or take the link of a place, ask there, and answer the reply.
     Ask { place: Place, request: Request },
-    /// The client was not built.
+    /// Fail, since the client is not built.
     Refuse,
 }
 
-/// What a plan does next. Each is followed by one outcome, and Rest by any.
+/// What a plan does next. Then it waits for an outcome.
 #[derive(Drop)]
 pub enum Action {
     /// Get the ready link of the address.
@@ -121,6 +122,7 @@ pub enum Part {
 /// One act of a run.
 #[derive(Drop)]
 pub enum Act {
+    /// A part of the event comes.
     Comes(Part),
     /// A plan begins.
     Starts { who: Who, procedure: Procedure },
@@ -130,6 +132,6 @@ pub enum Act {
     Does { who: Who, action: Action },
     /// A plan ends.
     Answers { who: Who, verdict: Verdict },
-    /// An attempt begins, which this one started.
+    /// An attempt to connect to the address of the service begins, which this one started.
     Dials { starter: Who },
 }

@@ -12,7 +12,7 @@ use crate::who::is_same;
 use pulsar_wire::error::NoMemory;
 use std::alloc::Global;
 
-/// What the newest turn of the address left: nobody serves it, an attempt runs that this one started, or a link serves.
+/// What runs for the address: nobody serves it, an attempt to connect runs that this one started, or a ready link serves.
 #[derive(Clone, Copy)]
 pub enum Series {
     Nobody,
@@ -56,7 +56,7 @@ impl Base {
         }
     }
 
-    /// What becomes of a link turns the address.
+    /// What becomes of a link says what runs for the address from then on.
     pub fn turn(&mut self, link: u64, change: Change)
         ensures { base_of self.new ≡ base_turned link change (base_of self.old) }
     {

@@ -165,7 +165,7 @@ impl Received {
         self.message.request_key()
     }
 
-    /// The broker greets.
+    /// The broker says `connected`.
     pub fn is_connected(&self) -> bool
         ensures { result ≡ is_connected self.now }
     {

@@ -15,7 +15,7 @@ abbrev pub OlderIsRun : (O H V A N P E : Type 0) → Type 0
 OlderIsRun O H V A N P E = (r : Rules O H V A N P E) (o : O) (newer older : List (Entry H A)) →
     IsRun r o (newer ++ older) → IsRun r o older
 
--- steps with the same events, where the effects of each are those of its like, in order
+-- the second steps are the first ones with the effects of each in order
 abbrev pub ArrangeSteps : {H E : Type 0} → (E → E → Bool) → List (Step H E) → List (Step H E) → Type 0
 ArrangeSteps below [] [] = Unit {0}
 ArrangeSteps below (s ∷ ss) (t ∷ ts) = (s.event ≡ t.event) × Arranges below s.effects t.effects × ArrangeSteps below ss ts
@@ -26,7 +26,7 @@ abbrev pub EffectsArranged : (O H V A N P E : Type 0) → Type 0
 EffectsArranged O H V A N P E = (r : Rules O H V A N P E) (o : O) (log : List (Entry H A)) →
     IsStrictWeakOrder r.effect_below → ArrangeSteps r.effect_below (steps_done r o log) (steps r o log)
 
--- those that pass a test, and are in order already, stay as they are
+-- where those of a list that pass a test stand in order already, they stand so when the whole list is put in order
 abbrev pub KindsInOrder : (E : Type 0) → Type 0
 KindsInOrder E = (below : E → E → Bool) (test : E → Bool) (xs : List E) →
     IsStrictWeakOrder below → InOrder below (filter test xs) → filter test (arranged below xs) ≡ filter test xs
@@ -36,7 +36,7 @@ abbrev pub CausesInOrder : (O H V A N P E : Type 0) → Type 0
 CausesInOrder O H V A N P E = (r : Rules O H V A N P E) (o : O) (log : List (Entry H A)) →
     IsStrictWeakOrder r.below → InOrder r.below (agenda r o log).here × AllInOrder r.below (agenda r o log).behind
 
--- a list holds this, or one of some lists does
+-- a list holds this; one of some lists holds it
 abbrev pub In : {A : Type 0} → A → List A → Type 0
 In x [] = ⊥
 In x (y ∷ ys) = (x ≡ y) ⊎ In x ys
@@ -45,7 +45,7 @@ abbrev pub InOne : {A : Type 0} → A → List (List A) → Type 0
 InOne x [] = ⊥
 InOne x (ys ∷ yss) = In x ys ⊎ InOne x yss
 
--- in the newest step of a log stands such an entry, before it such older ones
+-- the newest step of a log has an entry that is so, with the entries before it
 abbrev pub InThisStep : {H A : Type 0} → (Entry H A → List (Entry H A) → Type 0) → List (Entry H A) → Type 0
 InThisStep P [] = ⊥
 InThisStep P (Begins e ∷ log) = P (Begins e) log

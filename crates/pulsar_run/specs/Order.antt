@@ -7,11 +7,12 @@ abbrev pub put : {A : Type 0} → (A → A → Bool) → A → List A → List A
 put below x [] = x ∷ []
 put below x (y ∷ ys) = if below x y then x ∷ y ∷ ys else y ∷ put below x ys
 
--- each in turn
+-- each of the first list is put, one after the other
 abbrev pub put_all : {A : Type 0} → (A → A → Bool) → List A → List A → List A
 put_all below [] ys = ys
 put_all below (x ∷ xs) ys = put_all below xs (put below x ys)
 
+-- so a list is put in order, from none on
 abbrev pub arranged : {A : Type 0} → (A → A → Bool) → List A → List A
 arranged below xs = put_all below xs []
 
@@ -25,12 +26,12 @@ abbrev pub InOrder : {A : Type 0} → (A → A → Bool) → List A → Type 0
 InOrder below [] = Unit {0}
 InOrder below (x ∷ xs) = NoneBelow below x xs × InOrder below xs
 
--- each list does so
+-- each list is so
 abbrev pub AllInOrder : {A : Type 0} → (A → A → Bool) → List (List A) → Type 0
 AllInOrder below [] = Unit {0}
 AllInOrder below (xs ∷ xss) = InOrder below xs × AllInOrder below xss
 
--- A list has the elements of another, each once, in order. Those of equal rank stand as they did.
+-- The second list has the elements of the first, each once, in order. Those of equal rank stand as they did.
 pub record Arranges {A : Type 0} (below : A → A → Bool) (xs ys : List A) : Type 0 where
   pub in_order : InOrder below ys
   pub same : IsPermutation xs ys

@@ -1,11 +1,15 @@
 -- A good run, over any rules.
+--
+-- A run is a list of events and acts. An event comes from outside, and brings parts. Each part comes as an act, one after the other. An act
+-- changes what is seen, has effects, and gives rise to further acts, at once or by notices. A notice tells something to one of those who
+-- take part, and that it is told is an act again. All whom an act has something to tell together are a cause: it serves them by rank,
+-- and the next cause waits until it has served them all.
 use Rattle.std.specs.Prelude.{◌≡◌, Bool, List, [], ◌∷◌, ◌++◌, Option, Some, None, drop, map}
 use Rattle.pulsar_run.specs.Order.{put_all, arranged}
 
--- The rules of a run. An event is heard: it sets what is seen, and it brings parts, one after the other. An act changes what is
--- seen, and has effects. What arises from it comes at once, or is told to some: to those who join them whom the present cause
--- still serves, and to those whom each cause of its own serves.
---     O options, H events, V what is seen, A acts, N notices to those who are served, P parts of events, E effects
+-- The rules of a run. They look at the options and at what is seen, and at nothing else. What arises from an act comes at once; or it is
+-- told to some who join those whom the present cause still serves, or to those whom each new cause serves.
+--     O options, H events, V what is seen, A acts, N notices, P parts of events, E effects
 pub record Rules (O H V A N P E : Type 0) : Type 0 where
   -- what is seen at first, as an event begins, and after an act
   pub new : O → V
@@ -46,10 +50,11 @@ pub record Agenda (A N P : Type 0) : Type 0 where
   pub behind : List (List N)
   pub parts : List P
 
--- as an event begins
+-- as an event begins, its parts are all that is left
 abbrev pub only : {A N P : Type 0} → List P → Agenda A N P
 only parts = record { now = []; here = []; behind = []; parts = parts }
 
+-- the act that is first in these lists
 abbrev pub first_of : {O H V A N P E : Type 0} → Rules O H V A N P E → List A → List N → List (List N) → List P → Option A
 first_of r (a ∷ now) here behind parts = Some a
 first_of r [] (n ∷ here) behind parts = Some (r.told n)
@@ -57,20 +62,22 @@ first_of r [] [] (cause ∷ behind) parts = first_of r [] cause behind parts
 first_of r [] [] [] (part ∷ parts) = Some (r.comes part)
 first_of r [] [] [] [] = None
 
+-- what is left behind it
 abbrev pub rest_of : {A N P : Type 0} → List A → List N → List (List N) → List P → Agenda A N P
 rest_of (a ∷ now) here behind parts = record { now = now; here = here; behind = behind; parts = parts }
 rest_of [] (n ∷ here) behind parts = record { now = []; here = here; behind = behind; parts = parts }
 rest_of [] [] (cause ∷ behind) parts = rest_of [] cause behind parts
 rest_of [] [] [] parts = only (drop 1 parts)
 
--- the act that is first, and what is left behind it
+-- the same of an agenda
 abbrev pub first : {O H V A N P E : Type 0} → Rules O H V A N P E → Agenda A N P → Option A
 first r g = first_of r g.now g.here g.behind g.parts
 
 abbrev pub rest : {A N P : Type 0} → Agenda A N P → Agenda A N P
 rest g = rest_of g.now g.here g.behind g.parts
 
--- what arises from an act takes its place: a cause of its own stands behind those that wait
+-- What arises from an act takes its place: what comes at once, in front of all; those who join, by rank among those whom the present cause
+-- still serves; and each new cause, by rank in itself, behind the causes that wait.
 abbrev pub goes_on : {O H V A N P E : Type 0} → Rules O H V A N P E → V → A → Agenda A N P → Agenda A N P
 goes_on r v a g =
     record {
@@ -114,10 +121,11 @@ steps_done r o [] = []
 steps_done r o (Begins e ∷ log) = record { event = e; effects = [] } ∷ steps_done r o log
 steps_done r o (Then a ∷ log) = with_effects (r.effects (view r o log) a) (steps_done r o log)
 
--- the same, with the effects of each step in their order
+-- a step with its effects in their order
 abbrev pub in_order : {H E : Type 0} → (E → E → Bool) → Step H E → Step H E
 in_order below s = record { event = s.event; effects = arranged below s.effects }
 
+-- the steps of a log, with the effects of each in their order
 abbrev pub steps : {O H V A N P E : Type 0} → Rules O H V A N P E → O → List (Entry H A) → List (Step H E)
 steps r o log = map (in_order r.effect_below) (steps_done r o log)
 

@@ -1,8 +1,8 @@
--- For the code's contracts alone: what is seen of tables stands for a history, at the end of a step and inside one.
+-- For the code's contracts alone: what is seen of the code's tables stands for a history, at the end of a step and inside one.
 use Rattle.std.specs.Prelude.{◌≡◌, List, ◌∷◌, map}
 use Rattle.pulsar_run.specs.Run.{Agenda, Entry, IsRun, Rests, Rules, Step, agenda, in_order, steps, steps_done, view}
 
--- it is what is seen after a run in which nothing is left to do, whose steps are this history
+-- v is what is seen after a run in which nothing is left to do, whose steps are this history
 pub record Stands {O H V A N P E : Type 0} (r : Rules O H V A N P E) (o : O) (v : V) (history : List (Step H E)) : Type 0 where
   pub log : List (Entry H A)
   pub run : IsRun r o log
@@ -10,7 +10,7 @@ pub record Stands {O H V A N P E : Type 0} (r : Rules O H V A N P E) (o : O) (v 
   pub same : history ≡ steps r o log
   pub sees : v ≡ view r o log
 
--- it is what is seen after a run in which this is left to do, and these were the effects of the newest step so far
+-- v is what is seen after a run in which g is left to do, and out were the effects of the newest step so far
 pub record InStep {O H V A N P E : Type 0} (r : Rules O H V A N P E) (o : O) (v : V) (g : Agenda A N P) (event : H) (out : List E)
     (history : List (Step H E)) : Type 0 where
   pub log : List (Entry H A)

@@ -14,7 +14,7 @@ use crate::raw_call::RawCall;
 use pulsar_wire::error::{ConnectionError, Error, NoMemory, Reason};
 use std::alloc::Global;
 
-/// A plan goes on, and does this, or gives what it was for.
+/// A plan stays, in this state, and does this action, or it ends and gives its verdict.
 #[derive(Drop)]
 pub enum Turn<S, A> {
     Stays(S, Action),

@@ -19,9 +19,9 @@ pub enum End {
 #[derive(Clone, Copy)]
 pub enum Change {
     Remains,
-    /// It is open, and greets.
+    /// It is open, and its connect frame is queued.
     Opened,
-    /// The broker has greeted: it is ready.
+    /// The broker has said `connected`: it is ready.
     Readied,
     Ended(End),
 }
@@ -47,7 +47,7 @@ pub enum Settled {
     Disconnected,
 }
 
-/// The request of this place is settled so.
+/// How the request of this place is settled.
 #[derive(Drop)]
 pub struct Word {
     pub place: u64,

@@ -26,9 +26,13 @@ use std::mem::replace;
 /// Where a link stands.
 #[derive(Clone, Copy, PartialEq, Eq)]
 pub enum Stage {
+    /// Its connection is not open yet.
     Dialing,
+    /// Its connection is open, and the broker has not said `connected` yet.
     Handshaking,
+    /// The broker has said `connected`.
     Ready,
+    /// It has ended.
     Over,
 }
 
@@ -232,7 +236,7 @@ impl Link {
         }
     }
 
-    /// A link that is opened greets.
+    /// A link that is opened queues its connect frame.
     fn greets(&mut self, alloc: Global, change: Change) -> Result<Option<Frame>, NoMemory>
         ensures frame { IfOk result (λ f. option_map frame_of f ≡ greeting change self.old.queued) }
         ensures seen { OnOk result (seen_of self.new ≡ record (seen_of self.old) { queued = count_after (greeting change self.old.queued) self.old.queued; unwritten = with_frame (greeting change self.old.queued) (seen_of self.old).unwritten }) }

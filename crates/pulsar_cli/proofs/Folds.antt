@@ -12,9 +12,9 @@ use Rattle.std.specs.Fmt.{decimal}
 use Rattle.std.specs.List.{flat_map}
 use Rattle.pulsar_wire.specs.Views.{body_values}
 use Rattle.pulsar_wire.specs.declared.commands.base.Body.{Body}
-use Rattle.pulsar_client.specs.Messages.{body_bytes, written}
+use Rattle.pulsar_link.specs.Messages.{body_bytes, written}
 use Rattle.pulsar_cli.specs.WordText.{hex}
-use Rattle.pulsar_client.specs.RawCall.{Id, property}
+use Rattle.pulsar_link.specs.RawCall.{Id, property}
 use Rattle.pulsar_cli.specs.MessageWords.{Draft, all, one, with_word}
 use Rattle.pulsar_cli.specs.RawLines.{id, with_id}
 

@@ -6,7 +6,7 @@ use Rattle.hex.specs.Hex.{IsBytes, encode_lower}
 use Rattle.pulsar_wire.specs.declared.commands.topics.Mode.{Mode}
 use Rattle.pulsar_wire.specs.declared.commands.topics.Mode.TheVariants.{Persistent, NonPersistent, All}
 use Rattle.pulsar_client.specs.Content.{Asked, Build, Topics, Raw, Heard, Called, Opened, FailedToOpen, Bytes, Lost, Drain, Poll}
-use Rattle.pulsar_client.specs.RawCall.{Words}
+use Rattle.pulsar_link.specs.RawCall.{Words}
 use Rattle.pulsar_cli.specs.Words.{words}
 use Rattle.pulsar_cli.specs.WordText.{word}
 use Rattle.pulsar_cli.specs.Grammar.{Setting, Url, Now, Sets, Happens, line, mode, words_line}

@@ -26,8 +26,8 @@ use Rattle.pulsar_wire.specs.Rows.{message_id}
 use Rattle.pulsar_wire.specs.declared.commands.enumerations.SubType.{SubType}
 use Rattle.pulsar_wire.specs.declared.commands.enumerations.SubType.TheVariants.{Exclusive, Shared, Failover, KeyShared}
 use Rattle.pulsar_wire.proofs.RoundTrip.{round_trip}
-use Rattle.pulsar_client.specs.Messages.{id_values}
-use Rattle.pulsar_client.specs.RawCall.{Id, Outgoing, Words, CreateProducer, Send, CloseProducer, Subscribe, Flow, Ack, CloseConsumer}
+use Rattle.pulsar_link.specs.Messages.{id_values}
+use Rattle.pulsar_link.specs.RawCall.{Id, Outgoing, Words, CreateProducer, Send, CloseProducer, Subscribe, Flow, Ack, CloseConsumer}
 use Rattle.pulsar_cli.specs.Words.{hex, in_range, is_digit, number, words}
 use Rattle.pulsar_cli.specs.WordText.{is_printed, printed, upper_digit, word}
 use Rattle.pulsar_cli.specs.MessageWords.{Draft, all, blank, cut, message, minus, one, plus, signed, with_cluster, with_data, with_property}

@@ -6,7 +6,7 @@ use Rattle.std.specs.Option.{is_some}
 use Rattle.std.specs.Ordering.{nat_cmp}
 use Rattle.std.specs.Str.{bytes_eq}
 use Rattle.pulsar_wire.specs.Field.{◌>>=◌}
-use Rattle.pulsar_client.specs.RawCall.{Outgoing, silent}
+use Rattle.pulsar_link.specs.RawCall.{Outgoing, silent}
 use Rattle.pulsar_cli.specs.Words.{number, text, word_bytes}
 
 -- what the words so far say: each part stands once, but for properties and clusters

@@ -6,8 +6,8 @@ use Rattle.pulsar_wire.specs.Row.{Values, each, reading}
 use Rattle.pulsar_wire.specs.Rows.{message_id}
 use Rattle.pulsar_wire.specs.declared.commands.enumerations.SubType.{SubType}
 use Rattle.pulsar_wire.specs.declared.commands.enumerations.SubType.TheVariants.{Exclusive, Shared, Failover, KeyShared}
-use Rattle.pulsar_client.specs.RawCall as raw
-use Rattle.pulsar_client.specs.RawCall.{Id, Words}
+use Rattle.pulsar_link.specs.RawCall as raw
+use Rattle.pulsar_link.specs.RawCall.{Id, Words}
 use Rattle.pulsar_cli.specs.Words.{hex, number, text}
 use Rattle.pulsar_cli.specs.MessageWords.{message}
 

@@ -3,7 +3,7 @@ use Rattle.std.specs.Prelude.{◌≡◌, ◌⊎◌, ◌↔◌, ◌<◌, ◌==◌
 use Rattle.std.specs.List.{All}
 use Rattle.pulsar_cli.specs.Words.{digits_from, in_range}
 use Rattle.pulsar_wire.specs.declared.commands.ids.MessageIdData.{MessageIdData}
-use Rattle.pulsar_client.specs.RawCall.{Id, id_of, outgoing}
+use Rattle.pulsar_link.specs.RawCall.{Id, id_of, outgoing}
 use Rattle.pulsar_cli.specs.MessageWords.{Draft}
 use Rattle.pulsar_cli.specs.declared.grammar.message.Draft.{Draft as ParsedDraft}
 use Rattle.pulsar_cli.specs.declared.grammar.line.Line.{Line as Parsed}

@@ -13,8 +13,8 @@ use Rattle.pulsar_wire.specs.Row.{spelling}
 use Rattle.pulsar_wire.specs.Rows.{message_id}
 use Rattle.pulsar_wire.specs.declared.commands.enumerations.SubType.{SubType}
 use Rattle.pulsar_wire.specs.declared.commands.enumerations.SubType.TheVariants.{Exclusive, Shared, Failover, KeyShared}
-use Rattle.pulsar_client.specs.Messages.{id_values}
-use Rattle.pulsar_client.specs.RawCall.{Id, Outgoing, Words, CreateProducer, Send, CloseProducer, Subscribe, Flow, Ack, CloseConsumer}
+use Rattle.pulsar_link.specs.Messages.{id_values}
+use Rattle.pulsar_link.specs.RawCall.{Id, Outgoing, Words, CreateProducer, Send, CloseProducer, Subscribe, Flow, Ack, CloseConsumer}
 use Rattle.pulsar_cli.specs.WordText.{word}
 
 -- WORDS

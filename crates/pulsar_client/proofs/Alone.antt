@@ -4,13 +4,13 @@ use Rattle.std.proofs.lemmas.Bool.{cases_Bool, eqb-true}
 use Rattle.std.specs.Option.{option_map}
 use Rattle.pulsar_client.specs.declared.act.Act.TheVariants.{Comes, Starts, Told, Does, Answers, Dials}
 use Rattle.pulsar_client.specs.declared.act.Action.TheVariants.{Get, Ask, Rest}
-use Rattle.pulsar_client.specs.declared.act.LinkAct.{LinkAct}
+use Rattle.pulsar_link.specs.declared.act.LinkAct.{LinkAct}
 use Rattle.pulsar_client.specs.declared.act.Part.TheVariants.{Calls, ToLink, Polls}
 use Rattle.pulsar_client.specs.declared.act.Who.{Who}
 use Rattle.pulsar_client.specs.Content.{Heard, Called, Opened, FailedToOpen, Bytes, Lost, Drain, Poll}
 use Rattle.pulsar_client.specs.Laws.{Borne, LinksAlone, borne, seen_after}
-use Rattle.pulsar_client.specs.Link.{after as link_after, after_ask, dialed, fed, is_open, is_over}
-use Rattle.pulsar_client.specs.Request.{Request}
+use Rattle.pulsar_link.specs.Link.{after as link_after, after_ask, dialed, fed, is_open, is_over}
+use Rattle.pulsar_link.specs.Request.{Request}
 use Rattle.pulsar_client.specs.Run.{Entry, Begins, Then, view}
 use Rattle.pulsar_client.specs.View.{Chosen, Seat, begun_live, is_at, is_live, live_begun, seat_asked, seat_fed, took_some, unless_over}
 use Rattle.pulsar_client.proofs.Caused.{chosen_same}

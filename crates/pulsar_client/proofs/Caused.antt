@@ -7,7 +7,7 @@ use Rattle.pulsar_client.specs.declared.act.Act.{Act}
 use Rattle.pulsar_client.specs.declared.act.Act.TheVariants.{Comes, Starts, Told, Does, Answers, Dials}
 use Rattle.pulsar_client.specs.declared.act.Action.{Action}
 use Rattle.pulsar_client.specs.declared.act.Action.TheVariants.{Get, Ask, Rest}
-use Rattle.pulsar_client.specs.declared.act.LinkAct.{LinkAct}
+use Rattle.pulsar_link.specs.declared.act.LinkAct.{LinkAct}
 use Rattle.pulsar_client.specs.declared.act.Notice.{Notice}
 use Rattle.pulsar_client.specs.declared.act.Outcome.{Outcome}
 use Rattle.pulsar_client.specs.declared.act.Outcome.TheVariants as outcome
@@ -21,22 +21,23 @@ use Rattle.pulsar_client.specs.declared.base.Series.TheVariants.{Nobody, Runs, S
 use Rattle.pulsar_client.specs.declared.plans.plan.Plan.{Plan}
 use Rattle.pulsar_client.specs.declared.plans.plan.Turn.{Turn}
 use Rattle.pulsar_client.specs.declared.plans.plan.Turn.TheVariants.{Stays, Gives}
-use Rattle.pulsar_client.specs.declared.session.given.Admission.{Admission}
-use Rattle.pulsar_client.specs.declared.session.given.Admission.TheVariants as admission
-use Rattle.pulsar_client.specs.declared.session.given.Change.{Change}
-use Rattle.pulsar_client.specs.declared.session.given.Change.TheVariants.{Remains, Opened, Readied, Ended}
-use Rattle.pulsar_client.specs.declared.session.given.End.{End}
-use Rattle.pulsar_client.specs.declared.session.given.Settled.{Settled}
-use Rattle.pulsar_client.specs.declared.session.given.Settled.TheVariants as settled
-use Rattle.pulsar_client.specs.declared.session.given.Word.{Word}
+use Rattle.pulsar_link.specs.declared.given.Admission.{Admission}
+use Rattle.pulsar_link.specs.declared.given.Admission.TheVariants as admission
+use Rattle.pulsar_link.specs.declared.given.Change.{Change}
+use Rattle.pulsar_link.specs.declared.given.Change.TheVariants.{Remains, Opened, Readied, Ended}
+use Rattle.pulsar_link.specs.declared.given.End.{End}
+use Rattle.pulsar_link.specs.declared.given.Settled.{Settled}
+use Rattle.pulsar_link.specs.declared.given.Settled.TheVariants as settled
+use Rattle.pulsar_link.specs.declared.given.Word.{Word}
 use Rattle.pulsar_client.specs.Address.{Address}
 use Rattle.pulsar_client.specs.Content.{Asked}
-use Rattle.pulsar_client.specs.Failures.{Exhausted}
+use Rattle.pulsar_link.specs.Failures.{Exhausted}
 use Rattle.pulsar_client.specs.Laws.{Cause, OutcomesAreCaused}
-use Rattle.pulsar_client.specs.Link.{spent, words}
+use Rattle.pulsar_link.specs.Link.{spent, words}
 use Rattle.pulsar_client.specs.Plan.{begins, fails}
-use Rattle.pulsar_client.specs.Request.{Request}
-use Rattle.pulsar_client.specs.Rules.{at_once, called, caused, causes, does, failed, failed_at, follows, follows_some, gets, heard_at, heard_by, kind_of, notice, opens, parts, procedure_for, served, settled_as, told_at}
+use Rattle.pulsar_link.specs.Request.{Request}
+use Rattle.pulsar_client.specs.Rules.{at_once, called, caused, causes, does, failed, failed_at, follows, follows_some, gets, heard_at, heard_by, notice, opens, parts, procedure_for, served, settled_as, told_at}
+use Rattle.pulsar_link.specs.Link.{kind_of}
 use Rattle.pulsar_client.specs.Run.{Entry, Begins, Then, rules, view}
 use Rattle.pulsar_client.specs.View.{Chosen, Seat, admitted_at, begun_live, is_live, told_some, turned}
 use Rattle.pulsar_client.specs.Who.{is_same}

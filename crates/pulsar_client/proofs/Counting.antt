@@ -6,8 +6,8 @@ use Rattle.pulsar_client.specs.declared.act.Act.{Act}
 use Rattle.pulsar_client.specs.declared.act.Act.TheVariants.{Comes, Starts, Told, Does, Answers, Dials}
 use Rattle.pulsar_client.specs.declared.act.Action.{Action}
 use Rattle.pulsar_client.specs.declared.act.Action.TheVariants.{Get, Ask, Rest}
-use Rattle.pulsar_client.specs.declared.act.Arrival.{Arrival}
-use Rattle.pulsar_client.specs.declared.act.LinkAct.TheVariants as link
+use Rattle.pulsar_link.specs.declared.act.Arrival.{Arrival}
+use Rattle.pulsar_link.specs.declared.act.LinkAct.TheVariants as link
 use Rattle.pulsar_client.specs.declared.act.Notice.{Notice}
 use Rattle.pulsar_client.specs.declared.act.Part.{Part}
 use Rattle.pulsar_client.specs.declared.act.Part.TheVariants.{ToLink}
@@ -24,9 +24,9 @@ use Rattle.pulsar_client.specs.declared.tables.Tables.{Tables}
 use Rattle.pulsar_client.specs.Address.{Address}
 use Rattle.pulsar_client.specs.Content.{Asked, Heard, Shown, Called, Opened, FailedToOpen, Bytes, Lost, Drain, Poll}
 use Rattle.pulsar_client.specs.Effects.{effect_below, effects}
-use Rattle.pulsar_client.specs.Failures.{Exhausted}
+use Rattle.pulsar_link.specs.Failures.{Exhausted}
 use Rattle.pulsar_client.specs.Laws.{TicketsCount}
-use Rattle.pulsar_client.specs.Link.{arrivals, spent}
+use Rattle.pulsar_link.specs.Link.{arrivals, spent}
 use Rattle.pulsar_client.specs.Plan.{begins, fails}
 use Rattle.pulsar_client.specs.Rules.{at_once, brings, called, does, follows, follows_some, gets, parts, performs, procedure_for, unread_of}
 use Rattle.pulsar_client.specs.Run.{Entry, Begins, Then, Agenda, IsRun, Step, agenda, calls_in, first_of, is_call, rest, rest_of, rules, steps, view}

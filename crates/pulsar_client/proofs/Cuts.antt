@@ -12,23 +12,23 @@ use Rattle.pulsar_run.specs.Run.{first_of, rest}
 use Rattle.pulsar_client.specs.declared.act.Act.{Act}
 use Rattle.pulsar_client.specs.declared.act.Act.TheVariants.{Comes, Starts, Told, Does, Answers, Dials}
 use Rattle.pulsar_client.specs.declared.act.Action.TheVariants.{Get, Ask, Rest}
-use Rattle.pulsar_client.specs.declared.act.Arrival.{Arrival}
-use Rattle.pulsar_client.specs.declared.act.Arrival.TheVariants.{Message, Bad}
-use Rattle.pulsar_client.specs.declared.act.LinkAct.{LinkAct}
-use Rattle.pulsar_client.specs.declared.act.LinkAct.TheVariants as link
+use Rattle.pulsar_link.specs.declared.act.Arrival.{Arrival}
+use Rattle.pulsar_link.specs.declared.act.Arrival.TheVariants.{Message, Bad}
+use Rattle.pulsar_link.specs.declared.act.LinkAct.{LinkAct}
+use Rattle.pulsar_link.specs.declared.act.LinkAct.TheVariants as link
 use Rattle.pulsar_client.specs.declared.act.Notice.{Notice}
 use Rattle.pulsar_client.specs.declared.act.Part.{Part}
 use Rattle.pulsar_client.specs.declared.act.Part.TheVariants.{Calls, ToLink, Polls}
 use Rattle.pulsar_client.specs.declared.act.Who.{Who}
-use Rattle.pulsar_client.specs.declared.session.given.Change.{Change}
-use Rattle.pulsar_client.specs.declared.session.given.Change.TheVariants.{Remains, Opened as Turns, Readied, Ended}
-use Rattle.pulsar_client.specs.declared.session.link.Stage.{Stage}
-use Rattle.pulsar_client.specs.declared.session.link.Stage.TheVariants.{Dialing, Handshaking, Ready, Over}
+use Rattle.pulsar_link.specs.declared.given.Change.{Change}
+use Rattle.pulsar_link.specs.declared.given.Change.TheVariants.{Remains, Opened as Turns, Readied, Ended}
+use Rattle.pulsar_link.specs.declared.link.Stage.{Stage}
+use Rattle.pulsar_link.specs.declared.link.Stage.TheVariants.{Dialing, Handshaking, Ready, Over}
 use Rattle.pulsar_client.specs.Content.{Heard, Called, Opened, FailedToOpen, Bytes, Lost, Drain, Poll}
 use Rattle.pulsar_client.specs.Laws.{FramesAreCut, came, stream}
-use Rattle.pulsar_client.specs.Link.{Seen, arrivals, at_arrival, change, dialed, fed, is_dialing, is_open, is_over, kept, stage_after}
-use Rattle.pulsar_client.specs.Messages.{read}
-use Rattle.pulsar_client.specs.Request.{Request}
+use Rattle.pulsar_link.specs.Link.{Seen, arrivals, at_arrival, change, dialed, fed, is_dialing, is_open, is_over, kept, stage_after}
+use Rattle.pulsar_link.specs.Messages.{read}
+use Rattle.pulsar_link.specs.Request.{Request}
 use Rattle.pulsar_client.specs.Rules.{brings, frames, parts, unread_of}
 use Rattle.pulsar_client.specs.Run.{Entry, Begins, Then, IsRun, agenda, first, rules, view}
 use Rattle.pulsar_client.specs.View.{Chosen, Seat, View, begun_live, is_at, is_live, live_begun, seat_asked, seat_fed, took_some, unless_over}

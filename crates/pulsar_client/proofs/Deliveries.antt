@@ -11,11 +11,11 @@ use Rattle.std.specs.List.Sorted.{IsStrictlySortedBy}
 use Rattle.std.specs.Ordering.{nat_cmp}
 use Rattle.std.specs.declared.cmp.Ordering.TheVariants.{Less}
 use Rattle.std.specs.Option.{option_map}
-use Rattle.pulsar_client.specs.Items.{Item}
+use Rattle.pulsar_link.specs.Items.{Item}
 use Rattle.pulsar_client.specs.declared.consumers.subscriber.Subscriber.{Subscriber}
 use Rattle.pulsar_client.specs.Subscribers.{fresh_in, given_at, is_listed, live_at, seen_in, with_items}
 use Rattle.pulsar_client.specs.Subscriptions.{Subscription}
-use Rattle.pulsar_client.proofs.Pendings.{is_at-eqb}
+use Rattle.pulsar_link.proofs.Pendings.{is_at-eqb}
 
 abbrev Live : Type 0
 Live = BTreeMap ℕ (BTreeMap ℕ (BTreeSet ℕ))

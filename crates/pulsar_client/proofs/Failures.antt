@@ -14,10 +14,10 @@ use Rattle.pulsar_client.specs.declared.plans.plan.Plan.TheVariants.{Building, G
 use Rattle.pulsar_client.specs.declared.plans.plan.Turn.TheVariants.{Stays, Gives}
 use Rattle.pulsar_client.specs.declared.plans.plan.Wanted.{Wanted}
 use Rattle.pulsar_client.specs.Content.{Said, Done, Failed}
-use Rattle.pulsar_client.specs.Failures.{Failure, OfConnection, Shutdown}
+use Rattle.pulsar_link.specs.Failures.{Failure, OfConnection, Shutdown}
 use Rattle.pulsar_client.specs.Laws.{Deed, Acted, Answered, FailsSo, IsRefused, IsTold, IsReplied, FailuresAreTold, course, number_in, outcomes}
 use Rattle.pulsar_client.specs.Plan.{asks, begins, fails, fault_of, told, verdict, waits, wanted}
-use Rattle.pulsar_client.specs.Request.{Request, is_answered, request_number}
+use Rattle.pulsar_link.specs.Request.{Request, is_answered, request_number}
 use Rattle.pulsar_client.proofs.Follow.{plans_follow_lem}
 
 abbrev said_in : Deed → Said

@@ -21,9 +21,9 @@ use Rattle.pulsar_client.specs.declared.plans.plan.Turn.{Turn}
 use Rattle.pulsar_client.specs.declared.plans.plan.Turn.TheVariants.{Stays, Gives}
 use Rattle.pulsar_client.specs.Address.{Address}
 use Rattle.pulsar_client.specs.Content.{Asked, Heard}
-use Rattle.pulsar_client.specs.Failures.{Exhausted}
+use Rattle.pulsar_link.specs.Failures.{Exhausted}
 use Rattle.pulsar_client.specs.Laws.{AnswersOnce, Deed, Answered, PlansFollow, acted, course, deed_of, deeds, outcomes, started, verdicts_in}
-use Rattle.pulsar_client.specs.Link.{spent}
+use Rattle.pulsar_link.specs.Link.{spent}
 use Rattle.pulsar_client.specs.Plan.{begins, fails, told}
 use Rattle.pulsar_client.specs.Rules.{at_once, called, does, follows, follows_some, gets, performs, procedure_for}
 use Rattle.pulsar_client.specs.Run.{Entry, Begins, Then, IsRun, Agenda, agenda, first, rules, view}

@@ -4,9 +4,9 @@ use Rattle.std.proofs.lemmas.Bool.{cases_Bool}
 use Rattle.std.specs.Option.{is_some, option_map}
 use Rattle.pulsar_client.specs.declared.act.Act.TheVariants.{Comes, Starts, Told, Does, Answers, Dials}
 use Rattle.pulsar_client.specs.declared.act.Action.TheVariants.{Get, Ask, Rest}
-use Rattle.pulsar_client.specs.declared.act.Arrival.TheVariants.{Message, Bad}
-use Rattle.pulsar_client.specs.declared.act.LinkAct.{LinkAct}
-use Rattle.pulsar_client.specs.declared.act.LinkAct.TheVariants as link
+use Rattle.pulsar_link.specs.declared.act.Arrival.TheVariants.{Message, Bad}
+use Rattle.pulsar_link.specs.declared.act.LinkAct.{LinkAct}
+use Rattle.pulsar_link.specs.declared.act.LinkAct.TheVariants as link
 use Rattle.pulsar_client.specs.declared.act.Makes.{Makes}
 use Rattle.pulsar_client.specs.declared.act.Makes.TheVariants.{Nothing, Client, Consumer}
 use Rattle.pulsar_client.specs.declared.act.Part.TheVariants.{Calls, ToLink, Polls}
@@ -14,14 +14,13 @@ use Rattle.pulsar_client.specs.declared.act.Verdict.{Verdict}
 use Rattle.pulsar_client.specs.declared.act.Who.{Who}
 use Rattle.pulsar_client.specs.declared.act.Who.TheVariants.{Call}
 use Rattle.pulsar_client.specs.Content.{Heard}
-use Rattle.pulsar_client.specs.Items.{Item}
+use Rattle.pulsar_link.specs.Items.{Item}
 use Rattle.pulsar_client.specs.Laws.{ConsumersHearToTheirEnd, EndsOnce, Remains, counted, end_of, ends_at, has_end, last_frame}
-use Rattle.pulsar_client.specs.Link.{change, is_ended, is_queued, spent}
-use Rattle.pulsar_client.specs.Request.{closed_consumer}
+use Rattle.pulsar_link.specs.Link.{change, is_ended, is_queued, spent}
+use Rattle.pulsar_link.specs.Request.{closed_consumer}
 use Rattle.pulsar_client.specs.Run.{Entry, Begins, Then, IsRun, view}
-use Rattle.pulsar_client.specs.Subscribers.{waiting_on}
 use Rattle.pulsar_client.specs.Subscriptions.{Subscription, after_frame, after_poll, closes_it, ended, ends_with, hears, is_last}
-use Rattle.pulsar_client.specs.View.{Chosen, Seat, View, admitted_at, begun, begun_live, hears_ask, hears_some, is_live, made, turned}
+use Rattle.pulsar_client.specs.View.{Chosen, Seat, View, admitted_at, begun, begun_live, hears_ask, hears_some, is_live, made, turned, waiting_on}
 use Rattle.pulsar_client.specs.Who.{is_same}
 use Rattle.pulsar_client.proofs.Ticketed.{older_ticket}
 

@@ -1,9 +1,5 @@
-pub mod Words
-pub mod Given
 pub mod Lists
-pub mod Pendings
 pub mod Deliveries
-pub mod Streams
 pub mod Steps
 pub mod Acts
 pub mod Instances

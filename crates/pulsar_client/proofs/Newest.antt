@@ -3,8 +3,8 @@ use Rattle.std.proofs.Common.{◌≡◌, ◌∙◌, ℕ, ap, [], ◌∷◌, refl
 use Rattle.pulsar_client.specs.declared.act.Act.TheVariants.{Comes, Starts, Told, Does, Answers, Dials}
 use Rattle.pulsar_client.specs.declared.act.Action.TheVariants.{Get, Ask, Rest}
 use Rattle.pulsar_client.specs.declared.act.Part.TheVariants.{Calls, ToLink, Polls}
-use Rattle.pulsar_client.specs.declared.session.given.Change.{Change}
-use Rattle.pulsar_client.specs.declared.session.given.Change.TheVariants.{Remains, Opened, Readied, Ended}
+use Rattle.pulsar_link.specs.declared.given.Change.{Change}
+use Rattle.pulsar_link.specs.declared.given.Change.TheVariants.{Remains, Opened, Readied, Ended}
 use Rattle.pulsar_client.specs.Content.{Heard}
 use Rattle.pulsar_client.specs.Laws.{BuiltIs, SeriesIsNewest, built, newest_turn, turn_of}
 use Rattle.pulsar_client.specs.Run.{Entry, Begins, Then, view}

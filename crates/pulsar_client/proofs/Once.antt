@@ -23,7 +23,7 @@ use Rattle.pulsar_client.specs.declared.plans.plan.Turn.TheVariants.{Stays, Give
 use Rattle.pulsar_client.specs.Address.{Address}
 use Rattle.pulsar_client.specs.Content.{Asked, Heard}
 use Rattle.pulsar_client.specs.Laws.{EndsOnce, counted, end_of, start_of}
-use Rattle.pulsar_client.specs.Link.{spent}
+use Rattle.pulsar_link.specs.Link.{spent}
 use Rattle.pulsar_client.specs.Plan.{begins, told}
 use Rattle.pulsar_client.specs.Rules.{at_once, called, does, follows, follows_some, gets, performs}
 use Rattle.pulsar_client.specs.Run.{Entry, Begins, Then, IsRun, agenda, first, view}

@@ -11,25 +11,26 @@ use Rattle.pulsar_run.proofs.Orders.{kinds_in_order_lem}
 use Rattle.pulsar_client.specs.declared.act.Act.{Act}
 use Rattle.pulsar_client.specs.declared.act.Act.TheVariants.{Comes, Starts, Told, Does, Answers, Dials}
 use Rattle.pulsar_client.specs.declared.act.Action.TheVariants.{Get, Ask, Rest}
-use Rattle.pulsar_client.specs.declared.act.Arrival.TheVariants.{Message, Bad}
-use Rattle.pulsar_client.specs.declared.act.LinkAct.{LinkAct}
-use Rattle.pulsar_client.specs.declared.act.LinkAct.TheVariants as link
+use Rattle.pulsar_link.specs.declared.act.Arrival.TheVariants.{Message, Bad}
+use Rattle.pulsar_link.specs.declared.act.LinkAct.{LinkAct}
+use Rattle.pulsar_link.specs.declared.act.LinkAct.TheVariants as link
 use Rattle.pulsar_client.specs.declared.act.Makes.{Makes}
 use Rattle.pulsar_client.specs.declared.act.Makes.TheVariants.{Nothing, Client, Consumer}
 use Rattle.pulsar_client.specs.declared.act.Part.TheVariants.{Calls, ToLink, Polls}
 use Rattle.pulsar_client.specs.declared.act.Who.{Who}
 use Rattle.pulsar_client.specs.declared.act.Who.TheVariants.{Call}
-use Rattle.pulsar_client.specs.declared.session.given.Change.{Change}
-use Rattle.pulsar_client.specs.declared.session.given.Change.TheVariants.{Remains, Opened, Readied, Ended}
-use Rattle.pulsar_client.specs.declared.session.given.Word.{Word}
+use Rattle.pulsar_link.specs.declared.given.Change.{Change}
+use Rattle.pulsar_link.specs.declared.given.Change.TheVariants.{Remains, Opened, Readied, Ended}
+use Rattle.pulsar_link.specs.declared.given.Word.{Word}
 use Rattle.pulsar_client.specs.Address.{Address}
 use Rattle.pulsar_client.specs.Content.{Heard, Poll, Said, Shown, Connect, Queued, Write, Close, Settles, Ends, Hands, Faults, FindsNothing, FindsEnd}
-use Rattle.pulsar_client.specs.Effects.{asked_at, closes, connects, effect_below, effect_rank, effects, ends, given_at, is_before3, is_closed, queues, settles, write}
-use Rattle.pulsar_client.specs.Items.{Item, Given, Faulty}
+use Rattle.pulsar_client.specs.Effects.{asked_at, closes, connects, effect_below, effect_rank, effects, ends, given_at, is_before3, queues, settles, write}
+use Rattle.pulsar_link.specs.Link.{is_closed}
+use Rattle.pulsar_link.specs.Items.{Item, Given, Faulty}
 use Rattle.pulsar_client.specs.Laws.{EndsOnce, PollsAreAnswered, PollsFollow, brought, given_by, items_come, items_given}
-use Rattle.pulsar_client.specs.Link.{Frame, change, frame_asked, gives, is_ended, is_queued, spent}
-use Rattle.pulsar_client.specs.Messages.{Reply}
-use Rattle.pulsar_client.specs.Request.{Request, closed_consumer}
+use Rattle.pulsar_link.specs.Link.{Frame, change, frame_asked, gives, is_ended, is_queued, spent}
+use Rattle.pulsar_link.specs.Messages.{Reply}
+use Rattle.pulsar_link.specs.Request.{Request, closed_consumer}
 use Rattle.pulsar_client.specs.Run.{Entry, Begins, Then, IsRun, Step, first_of, is_empty, rules, steps, view}
 use Rattle.pulsar_client.specs.Subscriptions.{Subscription, after_frame, after_poll, brings_message, closes_it, ended, hears, polled, polled_from}
 use Rattle.pulsar_client.specs.View.{Chosen, Seat, admitted_at, hears_ask, hears_some, is_live, made}

@@ -5,19 +5,19 @@ use Rattle.std.specs.Option.{option_or, option_to_list}
 use Rattle.std.proofs.lemmas.List.Elements.{filter_map-append, filter-append}
 use Rattle.std.proofs.lemmas.Bool.{cases_Bool, eq-eqb}
 use Rattle.std.proofs.lemmas.Bool.Decides.{nat_tests}
-use Rattle.pulsar_client.specs.declared.act.Arrival.TheVariants.{Message, Bad}
-use Rattle.pulsar_client.specs.declared.act.LinkAct.{LinkAct}
-use Rattle.pulsar_client.specs.declared.act.LinkAct.TheVariants.{Opens, Fails, Loses, Comes, Drains}
-use Rattle.pulsar_client.specs.declared.session.given.Admission.TheVariants as admission
-use Rattle.pulsar_client.specs.declared.session.given.Settled.{Settled}
-use Rattle.pulsar_client.specs.declared.session.given.Settled.TheVariants.{Reply, Disconnected}
-use Rattle.pulsar_client.specs.declared.session.given.Word.{Word}
-use Rattle.pulsar_client.specs.declared.session.waiting.Awaited.{Awaited}
+use Rattle.pulsar_link.specs.declared.act.Arrival.TheVariants.{Message, Bad}
+use Rattle.pulsar_link.specs.declared.act.LinkAct.{LinkAct}
+use Rattle.pulsar_link.specs.declared.act.LinkAct.TheVariants.{Opens, Fails, Loses, Comes, Drains}
+use Rattle.pulsar_link.specs.declared.given.Admission.TheVariants as admission
+use Rattle.pulsar_link.specs.declared.given.Settled.{Settled}
+use Rattle.pulsar_link.specs.declared.given.Settled.TheVariants.{Reply, Disconnected}
+use Rattle.pulsar_link.specs.declared.given.Word.{Word}
+use Rattle.pulsar_link.specs.declared.waiting.Awaited.{Awaited}
 use Rattle.pulsar_frame.specs.Frame as frame
 use Rattle.pulsar_client.specs.Laws.{Borne, Fed, Took, WasAsked, SettledByFirst, after_borne, answers, ends, first_along, said_along, said_of, seen_after, words_of}
-use Rattle.pulsar_client.specs.Link.{Frame, Pending, Seen, admitted, after, after_ask, answered, change, count_after, disconnected, dropped, ends_wait, fed, frame_asked, greeting, is_ended, is_open, is_queued, left_waiting, waits_for, words}
-use Rattle.pulsar_client.specs.Messages as messages
-use Rattle.pulsar_client.specs.Request.{Request, awaited}
+use Rattle.pulsar_link.specs.Link.{Frame, Pending, Seen, admitted, after, after_ask, answered, change, count_after, disconnected, dropped, ends_wait, fed, frame_asked, greeting, is_ended, is_open, is_queued, left_waiting, waits_for, words}
+use Rattle.pulsar_link.specs.Messages as messages
+use Rattle.pulsar_link.specs.Request.{Request, awaited}
 
 -- the pending requests of one place
 abbrev at_place : ℕ → Pending → Bool

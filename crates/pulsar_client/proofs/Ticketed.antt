@@ -25,7 +25,7 @@ use Rattle.pulsar_client.specs.declared.plans.plan.Turn.{Turn}
 use Rattle.pulsar_client.specs.declared.plans.plan.Turn.TheVariants.{Stays, Gives}
 use Rattle.pulsar_client.specs.Address.{Address}
 use Rattle.pulsar_client.specs.Content.{Asked, Heard}
-use Rattle.pulsar_client.specs.Link.{spent}
+use Rattle.pulsar_link.specs.Link.{spent}
 use Rattle.pulsar_client.specs.Plan.{begins, told}
 use Rattle.pulsar_client.specs.Rules.{at_once, called, does, follows, follows_some, gets, performs}
 use Rattle.pulsar_client.specs.Run.{Entry, Begins, Then, IsRun, agenda, first, rules, view}

@@ -16,8 +16,8 @@ use Rattle.pulsar_frame.specs.Key.{key}
 use Rattle.pulsar_frame.specs.Frame.{content, counted_bytes, front, cut_within, cut, left, bad, frame_bytes}
 use Rattle.pulsar_client.specs.declared.act.Act.TheVariants.{Comes, Starts, Told, Does, Answers, Dials}
 use Rattle.pulsar_client.specs.declared.act.Action.TheVariants.{Get, Ask}
-use Rattle.pulsar_client.specs.declared.act.Arrival.TheVariants.{Message}
-use Rattle.pulsar_client.specs.declared.act.LinkAct.TheVariants as link
+use Rattle.pulsar_link.specs.declared.act.Arrival.TheVariants.{Message}
+use Rattle.pulsar_link.specs.declared.act.LinkAct.TheVariants as link
 use Rattle.pulsar_client.specs.declared.act.Makes.TheVariants.{Nothing, Client}
 use Rattle.pulsar_client.specs.declared.act.Makes.TheVariants as makes
 use Rattle.pulsar_client.specs.declared.act.Outcome.{Outcome}
@@ -27,11 +27,11 @@ use Rattle.pulsar_client.specs.declared.act.Place.TheVariants as place
 use Rattle.pulsar_client.specs.declared.act.Procedure.TheVariants as procedure
 use Rattle.pulsar_client.specs.declared.act.Who.TheVariants.{Call}
 use Rattle.pulsar_client.specs.Content.{Called, Build, Topics, Raw, Opened, Bytes, Drain, Poll, Done, Names, Replies}
-use Rattle.pulsar_client.specs.Failures.{Io, Canceled}
-use Rattle.pulsar_client.specs.Items.{Given}
-use Rattle.pulsar_client.specs.Messages.{Reply}
+use Rattle.pulsar_link.specs.Failures.{Io, Canceled}
+use Rattle.pulsar_link.specs.Items.{Given}
+use Rattle.pulsar_link.specs.Messages.{Reply}
 use Rattle.pulsar_client.specs.Plan.{fails, verdict}
-use Rattle.pulsar_client.specs.Request as request
+use Rattle.pulsar_link.specs.Request as request
 use Rattle.pulsar_client.specs.Rules.{notice}
 use Rattle.pulsar_client.specs.Run.{Entry, Begins, Then, IsRun}
 use Rattle.pulsar_client.specs.Traces.{numbered_from_zero, connected, topics_reply, asks_topics, request_is_answered, reply_comes_early, attempt_fails, subscribes, success, metadata, message_frame, consumer_is_polled, IsGood}

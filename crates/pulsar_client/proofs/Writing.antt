@@ -3,16 +3,16 @@ use Rattle.std.proofs.Common.{◌≡◌, inl, inr, ◌∙◌, sym, ap, ℕ, List
 use Rattle.std.proofs.lemmas.Bool.{cases_Bool}
 use Rattle.std.proofs.lemmas.List.{take-append-drop}
 use Rattle.std.specs.Option.{option_map, option_to_list}
-use Rattle.pulsar_client.specs.declared.act.LinkAct.{LinkAct}
-use Rattle.pulsar_client.specs.declared.act.LinkAct.TheVariants.{Opens, Fails, Loses, Comes, Drains}
-use Rattle.pulsar_client.specs.declared.session.given.Change.{Change}
-use Rattle.pulsar_client.specs.declared.session.given.Change.TheVariants.{Remains, Opened, Readied, Ended}
-use Rattle.pulsar_client.specs.declared.session.link.Stage.{Stage}
-use Rattle.pulsar_client.specs.declared.session.link.Stage.TheVariants.{Dialing, Handshaking, Ready, Over}
+use Rattle.pulsar_link.specs.declared.act.LinkAct.{LinkAct}
+use Rattle.pulsar_link.specs.declared.act.LinkAct.TheVariants.{Opens, Fails, Loses, Comes, Drains}
+use Rattle.pulsar_link.specs.declared.given.Change.{Change}
+use Rattle.pulsar_link.specs.declared.given.Change.TheVariants.{Remains, Opened, Readied, Ended}
+use Rattle.pulsar_link.specs.declared.link.Stage.{Stage}
+use Rattle.pulsar_link.specs.declared.link.Stage.TheVariants.{Dialing, Handshaking, Ready, Over}
 use Rattle.pulsar_client.specs.Laws.{Borne, Fed, Took, WasAsked, WrittenInOrder, frames_queued, frames_written, seen_after}
 use Rattle.pulsar_frame.specs.Frame as frame
-use Rattle.pulsar_client.specs.Link.{Frame, Seen, change, fed, frame_asked, greeting, is_open, is_over, kept, left_by, stage_after, with_frame, written_by}
-use Rattle.pulsar_client.specs.Request.{Request}
+use Rattle.pulsar_link.specs.Link.{Frame, Seen, change, fed, frame_asked, greeting, is_open, is_over, kept, left_by, stage_after, with_frame, written_by}
+use Rattle.pulsar_link.specs.Request.{Request}
 
 abbrev pub bytes_of : Option Frame → List (List ℕ)
 bytes_of f = option_to_list (option_map (λ (x : Frame). x.bytes) f)

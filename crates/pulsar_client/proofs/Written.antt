@@ -12,23 +12,23 @@ use Rattle.pulsar_run.proofs.Orders.{kinds_in_order_lem}
 use Rattle.pulsar_client.specs.declared.act.Act.{Act}
 use Rattle.pulsar_client.specs.declared.act.Act.TheVariants.{Comes, Starts, Told, Does, Answers, Dials}
 use Rattle.pulsar_client.specs.declared.act.Action.TheVariants.{Get, Ask, Rest}
-use Rattle.pulsar_client.specs.declared.act.LinkAct.{LinkAct}
+use Rattle.pulsar_link.specs.declared.act.LinkAct.{LinkAct}
 use Rattle.pulsar_client.specs.declared.act.Part.TheVariants.{Calls, ToLink, Polls}
 use Rattle.pulsar_client.specs.declared.act.Who.{Who}
 use Rattle.pulsar_client.specs.declared.act.Who.TheVariants.{Call}
-use Rattle.pulsar_client.specs.declared.session.given.Change.{Change}
-use Rattle.pulsar_client.specs.declared.session.given.Change.TheVariants.{Remains, Opened as Turns, Readied, Ended}
-use Rattle.pulsar_client.specs.declared.session.given.End.TheVariants as end
-use Rattle.pulsar_client.specs.declared.session.given.Word.{Word}
-use Rattle.pulsar_client.specs.declared.session.link.Stage.{Stage}
+use Rattle.pulsar_link.specs.declared.given.Change.{Change}
+use Rattle.pulsar_link.specs.declared.given.Change.TheVariants.{Remains, Opened as Turns, Readied, Ended}
+use Rattle.pulsar_link.specs.declared.given.End.TheVariants as end
+use Rattle.pulsar_link.specs.declared.given.Word.{Word}
+use Rattle.pulsar_link.specs.declared.link.Stage.{Stage}
 use Rattle.pulsar_client.specs.Address.{Address}
 use Rattle.pulsar_client.specs.Content.{Heard, Called, Opened, FailedToOpen, Bytes, Lost, Drain, Poll, Said, Shown, Queued, Write}
 use Rattle.pulsar_client.specs.Effects.{asked_at, closes, connects, effect_below, effects, ends, given, given_at, is_before3, queues, settles, write}
-use Rattle.pulsar_client.specs.Items.{Item, Given as Handed, Faulty}
+use Rattle.pulsar_link.specs.Items.{Item, Given as Handed, Faulty}
 use Rattle.pulsar_client.specs.Laws.{IsPrefix, WritesFollow, bytes_of as bytes_along, queued_on, written_on}
 use Rattle.pulsar_frame.specs.Frame as frame
-use Rattle.pulsar_client.specs.Link.{Frame, Given, Seen, admitted, change, count_after, dialed, fed, frame_asked, gives, greeting, is_open, is_opened, is_over, is_queued, kept, left_by, piece_of, stage_after, with_frame, written_by}
-use Rattle.pulsar_client.specs.Request.{Request}
+use Rattle.pulsar_link.specs.Link.{Frame, Given, Seen, admitted, change, count_after, dialed, fed, frame_asked, gives, greeting, is_open, is_opened, is_over, is_queued, kept, left_by, piece_of, stage_after, with_frame, written_by}
+use Rattle.pulsar_link.specs.Request.{Request}
 use Rattle.pulsar_client.specs.Run.{Entry, Begins, Then, IsRun, Step, rules, view}
 use Rattle.pulsar_client.specs.Subscriptions.{Subscription, polled, polled_from}
 use Rattle.pulsar_client.specs.View.{Chosen, Seat, View, begun_live, is_live, live_begun, seat_asked, seat_fed, took, took_some}

@@ -10,9 +10,9 @@ use Rattle.pulsar_wire.specs.Views.{body_values, message_id_values, message_meta
 use Rattle.pulsar_wire.specs.declared.commands.topics.Mode.{Mode}
 use Rattle.pulsar_wire.specs.declared.error.Error.{Error}
 use Rattle.pulsar_wire.specs.declared.error.IoKind.{IoKind}
-use Rattle.pulsar_client.specs.Failures.{Failure, failure}
-use Rattle.pulsar_client.specs.Messages.{Written, written}
-use Rattle.pulsar_client.specs.RawCall.{Words, words}
+use Rattle.pulsar_link.specs.Failures.{Failure, failure}
+use Rattle.pulsar_link.specs.Messages.{Written, written}
+use Rattle.pulsar_link.specs.RawCall.{Words, words}
 use Rattle.pulsar_client.specs.declared.event.Call.{Call}
 use Rattle.pulsar_client.specs.declared.event.Call.TheVariants as call
 use Rattle.pulsar_client.specs.declared.event.Event.{Event}

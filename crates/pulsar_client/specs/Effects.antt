@@ -4,23 +4,21 @@ use Rattle.std.specs.Option.{option_map, option_to_list}
 use Rattle.pulsar_client.specs.declared.act.Act.{Act}
 use Rattle.pulsar_client.specs.declared.act.Act.TheVariants.{Comes, Does, Answers, Dials}
 use Rattle.pulsar_client.specs.declared.act.Action.TheVariants.{Ask}
-use Rattle.pulsar_client.specs.declared.act.LinkAct.{LinkAct}
+use Rattle.pulsar_link.specs.declared.act.LinkAct.{LinkAct}
 use Rattle.pulsar_client.specs.declared.act.Part.TheVariants.{ToLink, Polls}
 use Rattle.pulsar_client.specs.declared.act.Who.{Who}
 use Rattle.pulsar_client.specs.declared.act.Who.TheVariants.{Call}
 use Rattle.pulsar_client.specs.declared.effect.Settlement.{Settlement}
 use Rattle.pulsar_client.specs.declared.effect.Settlement.TheVariants as settlement
-use Rattle.pulsar_client.specs.declared.session.given.Change.{Change}
-use Rattle.pulsar_client.specs.declared.session.given.Change.TheVariants.{Remains, Opened, Readied, Ended}
-use Rattle.pulsar_client.specs.declared.session.given.End.{End}
-use Rattle.pulsar_client.specs.declared.session.given.End.TheVariants.{Failed, Lost, Refused}
-use Rattle.pulsar_client.specs.declared.session.given.Settled.{Settled}
-use Rattle.pulsar_client.specs.declared.session.given.Settled.TheVariants as settled
-use Rattle.pulsar_client.specs.declared.session.given.Word.{Word}
+use Rattle.pulsar_link.specs.declared.given.Change.{Change}
+use Rattle.pulsar_link.specs.declared.given.Change.TheVariants.{Remains, Opened, Readied, Ended}
+use Rattle.pulsar_link.specs.declared.given.Settled.{Settled}
+use Rattle.pulsar_link.specs.declared.given.Settled.TheVariants as settled
+use Rattle.pulsar_link.specs.declared.given.Word.{Word}
 use Rattle.pulsar_client.specs.Address.{Address}
 use Rattle.pulsar_client.specs.Content.{Said, Shown, Connect, Queued, Write, Settles, Ends, Close, Hands, Faults, FindsNothing, FindsEnd}
-use Rattle.pulsar_client.specs.Link.{Frame, Given, frame_asked, gives}
-use Rattle.pulsar_client.specs.Request.{Request}
+use Rattle.pulsar_link.specs.Link.{Frame, Given, frame_asked, gives, is_closed}
+use Rattle.pulsar_link.specs.Request.{Request}
 use Rattle.pulsar_client.specs.Subscriptions.{polled}
 use Rattle.pulsar_client.specs.View.{Seat, View}
 
@@ -38,12 +36,6 @@ settles l w = Settles l w.place (settlement_of w.settled)
 
 abbrev pub queues : ℕ → Frame → Shown
 queues l frame = Queued l frame.place frame.bytes
-
--- the client closes a link that it ends by itself
-abbrev pub is_closed : End → Bool
-is_closed (Failed kind) = false
-is_closed Lost = false
-is_closed Refused = true
 
 abbrev pub closes : ℕ → Change → List Shown
 closes l Remains = []

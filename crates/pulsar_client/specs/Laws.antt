@@ -10,11 +10,11 @@ use Rattle.pulsar_client.specs.declared.act.Act.{Act}
 use Rattle.pulsar_client.specs.declared.act.Act.TheVariants.{Comes, Starts, Told, Does, Answers, Dials}
 use Rattle.pulsar_client.specs.declared.act.Action.{Action}
 use Rattle.pulsar_client.specs.declared.act.Action.TheVariants.{Get, Ask, Rest}
-use Rattle.pulsar_client.specs.declared.act.Arrival.{Arrival}
-use Rattle.pulsar_client.specs.declared.act.Arrival.TheVariants as arrival
+use Rattle.pulsar_link.specs.declared.act.Arrival.{Arrival}
+use Rattle.pulsar_link.specs.declared.act.Arrival.TheVariants as arrival
 use Rattle.pulsar_client.specs.declared.act.Notice.{Notice}
-use Rattle.pulsar_client.specs.declared.act.LinkAct.{LinkAct}
-use Rattle.pulsar_client.specs.declared.act.LinkAct.TheVariants as link
+use Rattle.pulsar_link.specs.declared.act.LinkAct.{LinkAct}
+use Rattle.pulsar_link.specs.declared.act.LinkAct.TheVariants as link
 use Rattle.pulsar_client.specs.declared.act.Makes.{Makes}
 use Rattle.pulsar_client.specs.declared.act.Makes.TheVariants as makes
 use Rattle.pulsar_client.specs.declared.act.Outcome.{Outcome}
@@ -31,27 +31,27 @@ use Rattle.pulsar_client.specs.declared.base.Series.TheVariants.{Nobody, Runs, S
 use Rattle.pulsar_client.specs.declared.plans.plan.Plan.{Plan}
 use Rattle.pulsar_client.specs.declared.plans.plan.Turn.{Turn}
 use Rattle.pulsar_client.specs.declared.plans.plan.Turn.TheVariants.{Stays, Gives}
-use Rattle.pulsar_client.specs.declared.session.given.Admission.{Admission}
-use Rattle.pulsar_client.specs.declared.session.given.Admission.TheVariants as admission
-use Rattle.pulsar_client.specs.declared.session.given.Change.{Change}
-use Rattle.pulsar_client.specs.declared.session.given.Change.TheVariants as change
-use Rattle.pulsar_client.specs.declared.session.given.End.{End}
-use Rattle.pulsar_client.specs.declared.session.given.Settled.{Settled}
-use Rattle.pulsar_client.specs.declared.session.given.Settled.TheVariants as settled
-use Rattle.pulsar_client.specs.declared.session.given.Word.{Word}
+use Rattle.pulsar_link.specs.declared.given.Admission.{Admission}
+use Rattle.pulsar_link.specs.declared.given.Admission.TheVariants as admission
+use Rattle.pulsar_link.specs.declared.given.Change.{Change}
+use Rattle.pulsar_link.specs.declared.given.Change.TheVariants as change
+use Rattle.pulsar_link.specs.declared.given.End.{End}
+use Rattle.pulsar_link.specs.declared.given.Settled.{Settled}
+use Rattle.pulsar_link.specs.declared.given.Settled.TheVariants as settled
+use Rattle.pulsar_link.specs.declared.given.Word.{Word}
 use Rattle.pulsar_client.specs.Content.{Asked, Heard, Called, Bytes, Poll, Shown, Queued, Write, Hands, Faults, Failed}
-use Rattle.pulsar_client.specs.Failures.{Failure, OfConnection, Shutdown}
-use Rattle.pulsar_client.specs.Items.{Item, Given, Faulty}
-use Rattle.pulsar_client.specs.Link.{Frame, Pending, Seen, admitted, after as link_after, after_ask, arrivals, change as change_of, dialed, ends_wait, fed, frame_asked, gives, is_ended, is_open, is_queued, spent, waits_for, words, written_by}
-use Rattle.pulsar_client.specs.Messages.{Reply}
+use Rattle.pulsar_link.specs.Failures.{Failure, OfConnection, Shutdown}
+use Rattle.pulsar_link.specs.Items.{Item, Given, Faulty}
+use Rattle.pulsar_link.specs.Link.{Frame, Pending, Seen, admitted, after as link_after, after_ask, arrivals, change as change_of, dialed, ends_wait, fed, frame_asked, gives, is_ended, is_open, is_queued, spent, waits_for, words, written_by}
+use Rattle.pulsar_link.specs.Messages.{Reply}
 use Rattle.pulsar_client.specs.Plan.{begins, fault_of, reply_says, told}
-use Rattle.pulsar_client.specs.Request.{Request, awaited, closed_consumer, request_number}
-use Rattle.pulsar_client.specs.Rules.{below, kind_of, procedure_for}
+use Rattle.pulsar_link.specs.Request.{Request, awaited, closed_consumer, request_number}
+use Rattle.pulsar_client.specs.Rules.{below, procedure_for}
+use Rattle.pulsar_link.specs.Link.{kind_of}
 use Rattle.pulsar_client.specs.Run.{Entry, Begins, Then, Good, IsRun, Rests, Step, agenda, calls_in, rules, steps, view}
 use Rattle.pulsar_client.specs.Effects.{effect_below}
-use Rattle.pulsar_client.specs.Subscribers.{waiting_on}
 use Rattle.pulsar_client.specs.Subscriptions.{Subscription, brings_message, closes_it, is_last, polled}
-use Rattle.pulsar_client.specs.View.{Chosen, Seat, View, admitted_at, builds, is_at, turned}
+use Rattle.pulsar_client.specs.View.{Chosen, Seat, View, admitted_at, builds, is_at, turned, waiting_on}
 use Rattle.pulsar_client.specs.Who.{is_same}
 
 -- THE RUN

@@ -1,13 +1,5 @@
-pub mod Failures
-pub mod FailureCode
 pub mod Address
-pub mod RawCall
 pub mod Content
-pub mod Items
-pub mod Messages
-pub mod Request
-pub mod Link
-pub mod Waiting
 pub mod Plan
 pub mod Subscriptions
 pub mod Who

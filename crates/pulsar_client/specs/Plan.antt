@@ -25,10 +25,10 @@ use Rattle.pulsar_client.specs.declared.plans.plan.Turn.{Turn}
 use Rattle.pulsar_client.specs.declared.plans.plan.Turn.TheVariants.{Stays, Gives}
 use Rattle.pulsar_client.specs.declared.plans.plan.Wanted.{Wanted}
 use Rattle.pulsar_client.specs.Content.{Said, Done, Names, Receipt, Replies, Failed}
-use Rattle.pulsar_client.specs.Failures.{Fault, Io, Disconnected, PulsarError, Encoding, UnexpectedResponse, Canceled, Shutdown, Exhausted, OfConnection, NotFound}
-use Rattle.pulsar_client.specs.Messages.{Reply, Written, is_number}
-use Rattle.pulsar_client.specs.RawCall.{Words, CreateProducer, Send, CloseProducer, Subscribe, Flow, Ack, CloseConsumer}
-use Rattle.pulsar_client.specs.Request.{Request, Topics, Raw, is_answered, request_number}
+use Rattle.pulsar_link.specs.Failures.{Fault, Io, Disconnected, PulsarError, Encoding, UnexpectedResponse, Canceled, Shutdown, Exhausted, OfConnection, NotFound}
+use Rattle.pulsar_link.specs.Messages.{Reply, Written, is_number}
+use Rattle.pulsar_link.specs.RawCall.{Words, CreateProducer, Send, CloseProducer, Subscribe, Flow, Ack, CloseConsumer}
+use Rattle.pulsar_link.specs.Request.{Request, Topics, Raw, is_answered, request_number}
 
 -- WHAT A REPLY SAYS
 

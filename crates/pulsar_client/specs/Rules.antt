@@ -3,14 +3,12 @@
 use Rattle.std.specs.Prelude.{ℕ, ◌==◌, Bool, if◌then◌else◌, List, [], ◌∷◌, ◌++◌, map, Option, Some, None}
 use Rattle.std.specs.List.{filter_map}
 use Rattle.std.specs.Option.{option_map}
-use Rattle.pulsar_wire.specs.declared.error.IoKind.{IoKind}
-use Rattle.pulsar_wire.specs.declared.error.IoKind.TheVariants as io_kind
 use Rattle.pulsar_client.specs.declared.act.Act.{Act}
 use Rattle.pulsar_client.specs.declared.act.Act.TheVariants.{Comes, Starts, Told, Does, Answers, Dials}
 use Rattle.pulsar_client.specs.declared.act.Action.{Action}
 use Rattle.pulsar_client.specs.declared.act.Action.TheVariants.{Get, Ask, Rest}
-use Rattle.pulsar_client.specs.declared.act.LinkAct.{LinkAct}
-use Rattle.pulsar_client.specs.declared.act.LinkAct.TheVariants as link
+use Rattle.pulsar_link.specs.declared.act.LinkAct.{LinkAct}
+use Rattle.pulsar_link.specs.declared.act.LinkAct.TheVariants as link
 use Rattle.pulsar_client.specs.declared.act.Notice.{Notice}
 use Rattle.pulsar_client.specs.declared.act.Outcome.{Outcome}
 use Rattle.pulsar_client.specs.declared.act.Outcome.TheVariants as outcome
@@ -27,23 +25,22 @@ use Rattle.pulsar_client.specs.declared.base.Series.TheVariants.{Nobody, Runs, S
 use Rattle.pulsar_client.specs.declared.plans.plan.Plan.{Plan}
 use Rattle.pulsar_client.specs.declared.plans.plan.Turn.{Turn}
 use Rattle.pulsar_client.specs.declared.plans.plan.Turn.TheVariants.{Stays, Gives}
-use Rattle.pulsar_client.specs.declared.session.given.Admission.{Admission}
-use Rattle.pulsar_client.specs.declared.session.given.Admission.TheVariants as admission
-use Rattle.pulsar_client.specs.declared.session.given.Change.{Change}
-use Rattle.pulsar_client.specs.declared.session.given.Change.TheVariants.{Remains, Opened, Readied, Ended}
-use Rattle.pulsar_client.specs.declared.session.given.End.{End}
-use Rattle.pulsar_client.specs.declared.session.given.End.TheVariants.{Failed, Lost, Refused}
-use Rattle.pulsar_client.specs.declared.session.given.Settled.{Settled}
-use Rattle.pulsar_client.specs.declared.session.given.Settled.TheVariants as settled
-use Rattle.pulsar_client.specs.declared.session.given.Word.{Word}
+use Rattle.pulsar_link.specs.declared.given.Admission.{Admission}
+use Rattle.pulsar_link.specs.declared.given.Admission.TheVariants as admission
+use Rattle.pulsar_link.specs.declared.given.Change.{Change}
+use Rattle.pulsar_link.specs.declared.given.Change.TheVariants.{Remains, Opened, Readied, Ended}
+use Rattle.pulsar_link.specs.declared.given.End.{End}
+use Rattle.pulsar_link.specs.declared.given.Settled.{Settled}
+use Rattle.pulsar_link.specs.declared.given.Settled.TheVariants as settled
+use Rattle.pulsar_link.specs.declared.given.Word.{Word}
 use Rattle.pulsar_client.specs.Address.{Address}
 use Rattle.pulsar_client.specs.Content as content
 use Rattle.pulsar_client.specs.Content.{Asked, Heard, Called, Opened as Open, FailedToOpen, Bytes, Lost as Loses, Drain, Poll}
-use Rattle.pulsar_client.specs.Failures.{Exhausted}
-use Rattle.pulsar_client.specs.Link.{arrivals, spent, words}
+use Rattle.pulsar_link.specs.Failures.{Exhausted}
+use Rattle.pulsar_link.specs.Link.{arrivals, kind_of, spent, words}
 use Rattle.pulsar_client.specs.Plan.{begins, fails}
-use Rattle.pulsar_client.specs.Request as request
-use Rattle.pulsar_client.specs.Request.{Request}
+use Rattle.pulsar_link.specs.Request as request
+use Rattle.pulsar_link.specs.Request.{Request}
 use Rattle.pulsar_client.specs.View.{Base, Seat, View, admitted_at, is_live, told_some, turned}
 use Rattle.pulsar_client.specs.Who.{is_before, is_same, rank}
 
@@ -157,12 +154,6 @@ heard_by askers w = option_map (λ who. notice who (settled_as w.settled)) (aske
 abbrev pub heard_at : LinkAct → Option Seat → List Notice
 heard_at x None = []
 heard_at x (Some seat) = filter_map (heard_by seat.askers) (words x seat.seen)
-
--- why an attempt failed that ended so
-abbrev pub kind_of : End → IoKind
-kind_of (Failed kind) = kind
-kind_of Lost = io_kind.Other
-kind_of Refused = io_kind.Other
 
 -- the attempt failed: the one that started it is told why, and the others that it is canceled
 abbrev pub failed : Who → End → Who → Notice

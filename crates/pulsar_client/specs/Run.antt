@@ -7,7 +7,7 @@ use Rattle.pulsar_client.specs.declared.act.Act.TheVariants.{Comes, Told}
 use Rattle.pulsar_client.specs.declared.act.Notice.{Notice}
 use Rattle.pulsar_client.specs.declared.act.Part.{Part}
 use Rattle.pulsar_client.specs.Content.{Heard, Called, Opened, FailedToOpen, Bytes, Lost, Drain, Poll, Shown}
-use Rattle.pulsar_client.specs.Link.{spent}
+use Rattle.pulsar_link.specs.Link.{spent}
 use Rattle.pulsar_client.specs.Effects.{effects, effect_below}
 use Rattle.pulsar_client.specs.Rules.{at_once, below, causes, joins, parts}
 use Rattle.pulsar_client.specs.View.{Chosen, View, after, begun, new}

@@ -5,24 +5,15 @@ use Rattle.std.specs.BTreeSet.{BTreeSet}
 use Rattle.std.specs.List.{list_any}
 use Rattle.std.specs.Option.{option_map}
 use Rattle.std.specs.Ordering.{nat_cmp}
-use Rattle.pulsar_wire.specs.Views.{message_id_values}
-use Rattle.pulsar_frame.specs.Payload.{payload_values}
-use Rattle.pulsar_client.specs.declared.act.Arrival.TheVariants as arrival
-use Rattle.pulsar_client.specs.declared.act.LinkAct.{LinkAct}
-use Rattle.pulsar_client.specs.declared.act.LinkAct.TheVariants.{Opens, Fails, Loses, Comes, Drains}
+use Rattle.pulsar_link.specs.declared.act.Arrival.TheVariants as arrival
+use Rattle.pulsar_link.specs.declared.act.LinkAct.{LinkAct}
+use Rattle.pulsar_link.specs.declared.act.LinkAct.TheVariants.{Opens, Fails, Loses, Comes, Drains}
 use Rattle.pulsar_client.specs.declared.consumers.subscriber.Subscriber.{Subscriber}
-use Rattle.pulsar_client.specs.declared.consumers.subscriber.Unread.{Unread}
-use Rattle.pulsar_client.specs.declared.consumers.subscriber.Unread.TheVariants.{Message, Failure}
 use Rattle.pulsar_client.specs.declared.consumers.subscribers.Subscribers.{Subscribers}
-use Rattle.pulsar_client.specs.Failures.{failure}
-use Rattle.pulsar_client.specs.Items.{Item, Faulty, given}
-use Rattle.pulsar_client.specs.Link.{Pending}
-use Rattle.pulsar_client.specs.Subscriptions.{Subscription, settles_one}
-use Rattle.pulsar_client.specs.View.{Seat}
-
-abbrev pub item_of : Unread → Item
-item_of (Message id payload) = given (message_id_values id, payload_values payload)
-item_of (Failure e) = Faulty (failure e)
+use Rattle.pulsar_link.specs.Held.{item_of}
+use Rattle.pulsar_link.specs.Items.{Item}
+use Rattle.pulsar_link.specs.Link.{Pending, settles_one}
+use Rattle.pulsar_client.specs.Subscriptions.{Subscription}
 
 -- a consumer, which hears
 abbrev pub fresh_in : Subscriber → Subscription
@@ -71,8 +62,3 @@ answered_by Opens waiting = false
 answered_by (Fails kind) waiting = false
 answered_by Loses waiting = false
 answered_by (Drains most) waiting = false
-
--- the requests that wait on a link, where it is live
-abbrev pub waiting_on : Option Seat → List Pending
-waiting_on None = []
-waiting_on (Some seat) = seat.seen.pending

@@ -4,15 +4,15 @@ use Rattle.std.specs.Prelude.{ℕ, Bool, true, false, List, [], ◌∷◌, ◌++
 use Rattle.std.specs.List.{list_any}
 use Rattle.pulsar_wire.specs.declared.key.RequestKey.{RequestKey}
 use Rattle.pulsar_wire.specs.declared.key.RequestKey.TheVariants as key
-use Rattle.pulsar_client.specs.declared.act.Arrival.TheVariants.{Message, Bad}
-use Rattle.pulsar_client.specs.declared.act.LinkAct.{LinkAct}
-use Rattle.pulsar_client.specs.declared.act.LinkAct.TheVariants.{Opens, Fails, Loses, Comes, Drains}
+use Rattle.pulsar_link.specs.declared.act.Arrival.TheVariants.{Message, Bad}
+use Rattle.pulsar_link.specs.declared.act.LinkAct.{LinkAct}
+use Rattle.pulsar_link.specs.declared.act.LinkAct.TheVariants.{Opens, Fails, Loses, Comes, Drains}
 use Rattle.pulsar_client.specs.Content.{Shown, Hands, Faults, FindsNothing, FindsEnd}
-use Rattle.pulsar_client.specs.Items.{Item, Given, Faulty}
-use Rattle.pulsar_client.specs.declared.session.given.Admission.{Admission}
-use Rattle.pulsar_client.specs.declared.session.given.Change.{Change}
-use Rattle.pulsar_client.specs.Link.{Pending, ends_wait, is_ended, is_queued}
-use Rattle.pulsar_client.specs.Messages.{Reply, is_number}
+use Rattle.pulsar_link.specs.Items.{Item, Given, Faulty}
+use Rattle.pulsar_link.specs.declared.given.Admission.{Admission}
+use Rattle.pulsar_link.specs.declared.given.Change.{Change}
+use Rattle.pulsar_link.specs.Link.{settles_one, Pending, ends_wait, is_ended, is_queued}
+use Rattle.pulsar_link.specs.Messages.{Reply, is_number}
 
 -- A raw consumer: the link and the number that its messages bear, the name of its topic, whether it still hears, and the
 -- items that it has not given yet, in order.
@@ -54,10 +54,6 @@ brings_message m number = is_number 9 m.body && names m.key number
 -- the topic of the consumer of this number has come to its end
 abbrev pub brings_end : Reply → ℕ → Bool
 brings_end m number = is_number 27 m.body && names m.key number
-
--- a frame that answers a request of its link
-abbrev pub settles_one : Option RequestKey → List Pending → Bool
-settles_one key waiting = list_any (λ p. ends_wait key p.awaits) waiting
 
 -- The consumer hears no more from the end of its topic on, or from where the broker closes it: by a frame that answers no
 -- request.

@@ -15,43 +15,12 @@ use Rattle.pulsar_client.specs.declared.links.Links as links
 use Rattle.pulsar_client.specs.declared.links.Row.{Row}
 use Rattle.pulsar_client.specs.declared.plans.plan.Plan.{Plan}
 use Rattle.pulsar_client.specs.declared.plans.table.Plans.{Plans}
-use Rattle.pulsar_client.specs.declared.session.given.Given as given
-use Rattle.pulsar_client.specs.declared.session.given.Frame as frame
-use Rattle.pulsar_client.specs.declared.session.link.Link.{Link}
 use Rattle.pulsar_client.specs.declared.tables.Tables.{Tables}
 use Rattle.pulsar_client.specs.Content.{Heard, Shown, heard, shown}
-use Rattle.pulsar_client.specs.Link.{Frame, Given, Seen}
+use Rattle.pulsar_link.specs.Held.{seen_of}
 use Rattle.pulsar_client.specs.Run.{Agenda, Step, rules}
 use Rattle.pulsar_client.specs.Subscribers.{subscription_at}
 use Rattle.pulsar_client.specs.View.{Base, Chosen, Links, Seat, View}
-
--- A LINK
-
-abbrev pub contents : List (Vec ℕ) → List (List ℕ)
-contents frames = map (λ frame. frame.items) frames
-
-abbrev pub seen_of : Link → Seen
-seen_of l =
-    record {
-      stage = l.stage;
-      next_id = l.next_id;
-      queued = l.queued;
-      unwritten = contents l.unwritten.items;
-      pending = l.pending;
-      unread = l.reader;
-    }
-
-abbrev pub frame_of : frame.Frame → Frame
-frame_of f = record { place = f.place; bytes = f.bytes.items }
-
-abbrev pub given_of : given.Given → Given
-given_of g =
-    record {
-      change = g.change;
-      words = g.words.items;
-      frame = option_map frame_of g.frame;
-      piece = option_map (λ piece. piece.items) g.piece;
-    }
 
 -- THE THINGS
 

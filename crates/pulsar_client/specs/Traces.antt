@@ -6,10 +6,10 @@ use Rattle.pulsar_wire.specs.declared.commands.enumerations.SubType.TheVariants.
 use Rattle.pulsar_frame.specs.Frame.{frame_bytes}
 use Rattle.pulsar_client.specs.declared.effect.Settlement.TheVariants as settlement
 use Rattle.pulsar_client.specs.Content.{Heard, Called, Build, Topics, Raw, Opened, Bytes, Drain, Poll, Shown, Connect, Queued, Write, Settles, Ends, Close, Hands, FindsNothing, Done, Names, Replies}
-use Rattle.pulsar_client.specs.Failures.{Io, Canceled}
+use Rattle.pulsar_link.specs.Failures.{Io, Canceled}
 use Rattle.pulsar_client.specs.Plan.{failed}
-use Rattle.pulsar_client.specs.RawCall.{Words, Subscribe}
-use Rattle.pulsar_client.specs.Messages.{connect_message, raw_message, topics_message}
+use Rattle.pulsar_link.specs.RawCall.{Words, Subscribe}
+use Rattle.pulsar_link.specs.Messages.{connect_message, raw_message, topics_message}
 use Rattle.pulsar_client.specs.Run.{Good, Step}
 use Rattle.pulsar_client.specs.View.{Chosen}
 

@@ -5,7 +5,7 @@ use Rattle.std.specs.Option.{is_some, option_map}
 use Rattle.pulsar_client.specs.declared.act.Act.{Act}
 use Rattle.pulsar_client.specs.declared.act.Act.TheVariants.{Comes, Starts, Told, Does, Answers, Dials}
 use Rattle.pulsar_client.specs.declared.act.Action.TheVariants.{Get, Ask}
-use Rattle.pulsar_client.specs.declared.act.LinkAct.{LinkAct}
+use Rattle.pulsar_link.specs.declared.act.LinkAct.{LinkAct}
 use Rattle.pulsar_client.specs.declared.act.Makes.{Makes}
 use Rattle.pulsar_client.specs.declared.act.Makes.TheVariants.{Nothing, Client, Consumer}
 use Rattle.pulsar_client.specs.declared.act.Outcome.{Outcome}
@@ -18,17 +18,17 @@ use Rattle.pulsar_client.specs.declared.base.Series.TheVariants.{Nobody, Runs, S
 use Rattle.pulsar_client.specs.declared.plans.plan.Plan.{Plan}
 use Rattle.pulsar_client.specs.declared.plans.plan.Turn.{Turn}
 use Rattle.pulsar_client.specs.declared.plans.plan.Turn.TheVariants.{Stays, Gives}
-use Rattle.pulsar_client.specs.declared.session.given.Admission.{Admission}
-use Rattle.pulsar_client.specs.declared.session.given.Admission.TheVariants.{Disconnected}
-use Rattle.pulsar_client.specs.declared.session.given.Change.{Change}
-use Rattle.pulsar_client.specs.declared.session.given.Change.TheVariants.{Remains, Opened, Readied, Ended}
-use Rattle.pulsar_client.specs.declared.session.given.Word.{Word}
-use Rattle.pulsar_client.specs.declared.session.link.Stage.{Stage}
+use Rattle.pulsar_link.specs.declared.given.Admission.{Admission}
+use Rattle.pulsar_link.specs.declared.given.Admission.TheVariants.{Disconnected}
+use Rattle.pulsar_link.specs.declared.given.Change.{Change}
+use Rattle.pulsar_link.specs.declared.given.Change.TheVariants.{Remains, Opened, Readied, Ended}
+use Rattle.pulsar_link.specs.declared.given.Word.{Word}
+use Rattle.pulsar_link.specs.declared.link.Stage.{Stage}
 use Rattle.pulsar_client.specs.Address.{Address}
 use Rattle.pulsar_client.specs.Content.{Heard, Called, Opened as Open, FailedToOpen, Bytes, Lost, Drain, Poll}
-use Rattle.pulsar_client.specs.Link.{Seen, after as link_after, after_ask, admitted, change, dialed, fed, is_dialing, is_open, is_over, is_queued, spent, words}
+use Rattle.pulsar_link.specs.Link.{Pending, Seen, after as link_after, after_ask, admitted, change, dialed, fed, is_dialing, is_open, is_over, is_queued, spent, words}
 use Rattle.pulsar_client.specs.Plan.{begins, told}
-use Rattle.pulsar_client.specs.Request.{Request, closed_consumer, is_answered, request_number}
+use Rattle.pulsar_link.specs.Request.{Request, closed_consumer, is_answered, request_number}
 use Rattle.pulsar_client.specs.Subscriptions.{Subscription, after_poll, closed_at, ends_with, fresh, hears}
 use Rattle.pulsar_client.specs.Who.{is_same}
 
@@ -160,6 +160,11 @@ calls_after a c = record { drawn = drawn_after a c.drawn; is_built = built_after
 -- a link is forgotten where it has ended
 abbrev pub unless_over : Seat → Option Seat
 unless_over seat = if is_over seat.seen.stage then None else Some seat
+
+-- the requests that wait on a link, where it is live
+abbrev pub waiting_on : Option Seat → List Pending
+waiting_on None = []
+waiting_on (Some seat) = seat.seen.pending
 
 -- those whose last word is said are no askers any more
 abbrev pub is_told : List Word → ℕ → Bool

@@ -1,8 +1,10 @@
 //! What a step is made of: acts, each one thing that happens. There are six kinds of act, and all that is special to a kind of
 //! call, thing or event stands one level below them.
 
-use crate::content::{Asking, Received, Request, Said, Text};
-use pulsar_wire::error::{IoKind, Reason};
+use crate::content::{Asking, Said};
+use pulsar_link::act::LinkAct;
+use pulsar_link::content::{Received, Request, Text};
+use pulsar_wire::error::IoKind;
 
 /// One that has a plan. A cause serves them in the order of their ranks.
 #[derive(Clone, Copy)]
@@ -87,27 +89,6 @@ pub enum Makes {
 pub struct Verdict {
     pub makes: Makes,
     pub said: Said,
-}
-
-/// What comes out of the bytes of a connection.
-#[derive(Drop)]
-pub enum Arrival {
-    Message(Received),
-    /// What follows is no frame. Nothing is read behind it.
-    Bad(Reason),
-}
-
-/// What comes to a link.
-#[derive(Drop)]
-pub enum LinkAct {
-    Opens,
-    /// Its connection cannot be opened.
-    Fails(IoKind),
-    /// Its connection is lost.
-    Loses,
-    Comes(Arrival),
-    /// As many frames as this may be written.
-    Drains(u64),
 }
 
 /// What an event brings. Each part comes where nothing is left of the one before.

@@ -3,7 +3,7 @@
 ghost use Rattle.std.specs.Prelude.{◌≡◌, IfOk};
 ghost use Rattle.pulsar_client.specs.Content.{asked, heard};
 
-use crate::raw_call::RawCall;
+use pulsar_link::raw_call::RawCall;
 use pulsar_wire::commands::topics::Mode;
 use pulsar_wire::error::{IoKind, NoMemory};
 

@@ -16,8 +16,6 @@ mod order;
 pub mod outside;
 mod plans;
 pub mod pulsar;
-pub mod raw_call;
-mod session;
 mod tables;
 mod who;
 
@@ -28,4 +26,4 @@ pub use crate::outside::Failed;
 pub use crate::outside::sink::{FailingSink, MemorySink, Sink};
 pub use crate::outside::source::{FailingSource, MemorySource, Source};
 pub use crate::pulsar::Pulsar;
-pub use crate::raw_call::{ProducerMessage, RawCall};
+pub use pulsar_link::raw_call::{ProducerMessage, RawCall};

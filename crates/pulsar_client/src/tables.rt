@@ -4,7 +4,7 @@ ghost use Rattle.std.specs.Prelude.{◌≡◌, ◌++◌, ◌∷◌, [], ℕ, Lis
 ghost use Rattle.pulsar_run.specs.Order.{arranged};
 ghost use Rattle.pulsar_client.specs.Content.{Heard, heard, shown};
 ghost use Rattle.pulsar_client.specs.Effects.{effect_below, effects};
-ghost use Rattle.pulsar_client.specs.Request.{request_of};
+ghost use Rattle.pulsar_link.specs.Request.{request_of};
 ghost use Rattle.pulsar_client.specs.Rules.{does, follows, notice, parts, procedure_for, told_at};
 ghost use Rattle.pulsar_client.specs.Run.{Agenda, Step, goes_on};
 ghost use Rattle.pulsar_client.specs.Subscribers.{subscription_at};
@@ -13,22 +13,22 @@ ghost use Rattle.pulsar_client.specs.View.{Chosen, after, begun, builds, is_live
 ghost use Rattle.pulsar_client.specs.Who.{is_same};
 ghost use Rattle.pulsar_client.specs.declared.act.Who.{Who as Meant};
 
-use crate::act::{
-    Act, Action, Arrival, LinkAct, Makes, Notice, Outcome, Part, Place, Procedure, Verdict, Who,
-};
+use crate::act::{Act, Action, Makes, Notice, Outcome, Part, Place, Procedure, Verdict, Who};
+use pulsar_link::act::{Arrival, LinkAct};
 use crate::address::Address;
 use crate::agenda::Tasks;
 use crate::base::{Base, Series};
 use crate::consumers::subscriber::Subscriber;
 use crate::consumers::subscribers::Subscribers;
-use crate::content::{Asking, Question, Request};
+use crate::content::Asking;
+use pulsar_link::content::{Question, Request};
 use crate::effect::Effect;
 use crate::event::{Call, Event};
 use crate::links::Links;
 use crate::order::arrange;
 use crate::plans::plan::{Plan, Turn, begins, failure, told};
 use crate::plans::table::Plans;
-use crate::session::given::{Admission, Change};
+use pulsar_link::given::{Admission, Change};
 use pulsar_wire::error::{ConnectionError, NoMemory};
 use std::alloc::Global;
 use std::collections::VecDeque;

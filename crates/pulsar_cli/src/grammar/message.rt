@@ -2,7 +2,7 @@
 
 ghost use Rattle.std.specs.Prelude.{◌≡◌, IfOk, map, string_bytes};
 ghost use Rattle.std.specs.Option.{option_map};
-ghost use Rattle.pulsar_client.specs.RawCall.{outgoing};
+ghost use Rattle.pulsar_link.specs.RawCall.{outgoing};
 ghost use Rattle.pulsar_cli.specs.MessageWords.{all, blank, cluster, cut, delivery, event_time, message, minus, one, ordering_key, part, partition_key, payload, plus, property, schema_version, signed, with_property, with_word};
 ghost use Rattle.pulsar_cli.specs.Shown.{draft_of};
 

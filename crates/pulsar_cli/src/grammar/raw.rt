@@ -4,7 +4,7 @@ ghost use Rattle.std.specs.Prelude.{◌≡◌, IfOk, map, string_bytes};
 ghost use Rattle.std.specs.Option.{option_map};
 ghost use Rattle.pulsar_wire.specs.Row.{each};
 ghost use Rattle.pulsar_cli.specs.Shown.{ids_of};
-ghost use Rattle.pulsar_client.specs.RawCall.{id_of, words as said};
+ghost use Rattle.pulsar_link.specs.RawCall.{id_of, words as said};
 ghost use Rattle.pulsar_cli.specs.RawLines.{ack, close_consumer, close_producer, create_producer, cumulative, flag, flow, id, id_bytes, name, producer_on, raw_call, send, small_number, sub_type, subscribe, with_id};
 
 use crate::grammar::message::message;

@@ -5,7 +5,7 @@ ghost use Rattle.pulsar_wire.specs.Row.{spelling};
 ghost use Rattle.pulsar_wire.specs.Rows.{send_receipt};
 ghost use Rattle.pulsar_wire.specs.Views.{body_values, send_receipt_values};
 ghost use Rattle.pulsar_client.specs.Content.{Connect, Ends, Names, Queued, Receipt, Replies, Settles, Write, hands, said, shown};
-ghost use Rattle.pulsar_client.specs.Messages.{body_bytes, written};
+ghost use Rattle.pulsar_link.specs.Messages.{body_bytes, written};
 ghost use Rattle.pulsar_cli.specs.Text as printed;
 ghost use Rattle.pulsar_cli.specs.WordText.{hex};
 

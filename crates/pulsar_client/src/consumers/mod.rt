@@ -1,3 +1,2 @@
-pub mod items;
 pub mod subscriber;
 pub mod subscribers;

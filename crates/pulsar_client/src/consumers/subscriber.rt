@@ -2,23 +2,16 @@
 
 ghost use Rattle.std.specs.Prelude.{◌≡◌, IfOk, OnOk, map};
 ghost use Rattle.pulsar_client.specs.Content.{shown};
-ghost use Rattle.pulsar_client.specs.Subscribers.{fresh_in, item_of};
+ghost use Rattle.pulsar_client.specs.Subscribers.{fresh_in};
+ghost use Rattle.pulsar_link.specs.Held.{item_of};
 ghost use Rattle.pulsar_client.specs.Subscriptions.{after_poll, fresh, polled_from, polled_item};
 
-use crate::content::Text;
+use pulsar_link::content::Text;
 use crate::effect::{Effect, Handed};
-use pulsar_frame::payload::Payload;
-use pulsar_wire::commands::ids::MessageIdData;
-use pulsar_wire::error::{Error, NoMemory};
+use pulsar_link::items::Unread;
+use pulsar_wire::error::NoMemory;
 use std::alloc::Global;
 use std::collections::VecDeque;
-
-/// What a consumer has not given yet: a message, or why there is none.
-#[derive(Drop)]
-pub enum Unread {
-    Message { id: MessageIdData, payload: Payload },
-    Failure(Error),
-}
 
 /// A raw consumer.
 #[derive(Drop)]
@@ -52,30 +45,28 @@ impl Subscriber {
         ensures left { OnOk result (fresh_in self.new ≡ after_poll (fresh_in self.old)) }
     {
         match self.unread.pop_front() {
-            Some(unread) => unread.into_effect(ticket, &self.topic),
+            Some(unread) => effect_of(unread, ticket, &self.topic),
             None if is_live => Ok(Effect::Empty { ticket }),
             None => Ok(Effect::End { ticket }),
         }
     }
 }
 
-impl Unread {
-    /// The effect of a poll that finds it.
-    pub fn into_effect(self, ticket: u64, topic: &Text) -> Result<Effect, NoMemory>
-        ensures { IfOk result (λ e. shown e ≡ polled_item ticket topic.now (item_of self)) }
-    {
-        match self {
-            Unread::Message { id, payload } => {
-                let topic = topic.copy()?.into_inner();
-                Ok(Effect::Item {
-                    ticket,
-                    item: Ok(Handed { topic, id, payload }),
-                })
-            }
-            Unread::Failure(error) => Ok(Effect::Item {
+/// The effect of a poll that finds it.
+fn effect_of(unread: Unread, ticket: u64, topic: &Text) -> Result<Effect, NoMemory>
+    ensures { IfOk result (λ e. shown e ≡ polled_item ticket topic.now (item_of unread)) }
+{
+    match unread {
+        Unread::Message { id, payload } => {
+            let topic = topic.copy()?.into_inner();
+            Ok(Effect::Item {
                 ticket,
-                item: Err(error),
-            }),
+                item: Ok(Handed { topic, id, payload }),
+            })
         }
+        Unread::Failure(error) => Ok(Effect::Item {
+            ticket,
+            item: Err(error),
+        }),
     }
 }

@@ -3,12 +3,13 @@
 ghost use Rattle.std.specs.Prelude.{◌≡◌, ℕ, codes, [], ◌∷◌, None, Some, IfOk, if◌then◌else◌};
 ghost use Rattle.pulsar_wire.specs.Views.{body_values};
 ghost use Rattle.pulsar_frame.specs.Key.{answers};
-ghost use Rattle.pulsar_client.specs.Failures.{UnexpectedResponse, fault};
-ghost use Rattle.pulsar_client.specs.Messages.{read_body, written};
+ghost use Rattle.pulsar_link.specs.Failures.{UnexpectedResponse, fault};
+ghost use Rattle.pulsar_link.specs.Messages.{read_body, written};
 ghost use Rattle.pulsar_client.specs.Plan.{answer_with, failed, is_answer, refused, reply_says};
-ghost use Rattle.pulsar_client.specs.Request.{is_answered};
+ghost use Rattle.pulsar_link.specs.Request.{is_answered};
 
-use crate::content::{Received, Said};
+use crate::content::Said;
+use pulsar_link::content::Received;
 use crate::effect::Answer;
 use pulsar_frame::message::Message;
 use pulsar_wire::bodies;
@@ -88,7 +89,7 @@ fn body_says(alloc: Global, request: u32, body: Body) -> Result<Said, NoMemory>
     if expects(request, &body) {
         return accepted(alloc, body);
     }
-    let error = refused(alloc, body)?;
+    let error = refused(alloc, &body)?;
     failed(alloc, error)
 }
 
@@ -125,21 +126,22 @@ fn accepted(alloc: Global, body: Body) -> Result<Said, NoMemory>
 }
 
 /// Why a body that is not the answer fails a call.
-fn refused(alloc: Global, body: Body) -> Result<ConnectionError, NoMemory>
-    ensures { IfOk result (λ e. fault e ≡ refused (read_body None [] (Some (body_values body))) (Some (written (body_values body)))) }
+fn refused(alloc: Global, body: &Body) -> Result<ConnectionError, NoMemory>
+    ensures { IfOk result (λ e. fault e ≡ refused (read_body None [] (Some (body_values body.now))) (Some (written (body_values body.now)))) }
 {
-    match body.into_error() {
-        Ok(error) => Ok(told_error(error)),
-        Err(other) => unexpected(alloc, other.name()),
+    match body {
+        Body::Error(error) => told_error(error),
+        other => unexpected(alloc, other.name()),
     }
 }
 
 /// The error that the broker tells.
 #[tactic(auto, unfolding(pulsar_wire::specs::Views::error_values))]
-fn told_error(body: CommandError) -> ConnectionError
-    ensures { fault result ≡ refused (read_body None [] (Some (body_values (Body.Error body)))) (Some (written (body_values (Body.Error body)))) }
+fn told_error(body: &CommandError) -> Result<ConnectionError, NoMemory>
+    ensures { IfOk result (λ e. fault e ≡ refused (read_body None [] (Some (body_values (Body.Error body.now)))) (Some (written (body_values (Body.Error body.now))))) }
 {
-    ConnectionError::PulsarError(server_error(body.error), Some(body.message))
+    let text = body.message.clone()?;
+    Ok(ConnectionError::PulsarError(server_error(body.error), Some(text)))
 }
 
 fn unexpected(alloc: Global, name: &str) -> Result<ConnectionError, NoMemory>

@@ -1,16 +1,17 @@
 //! Plans, as machines over their outcomes.
 
 ghost use Rattle.std.specs.Prelude.{◌≡◌, IfOk};
-ghost use Rattle.pulsar_client.specs.Failures.{fault};
+ghost use Rattle.pulsar_link.specs.Failures.{fault};
 ghost use Rattle.pulsar_client.specs.Plan.{asks, begins, fails, fault_of, makes, raw_makes, replied, told, verdict, waits, wanted};
 ghost use Rattle.pulsar_client.specs.Content.{Done};
-ghost use Rattle.pulsar_client.specs.RawCall.{words};
+ghost use Rattle.pulsar_link.specs.RawCall.{words};
 
 use crate::act::{Action, Makes, Outcome, Place, Procedure, Verdict};
-use crate::content::{Question, Received, Request, Said, Text};
+use crate::content::Said;
+use pulsar_link::content::{Question, Received, Request, Text};
 use crate::effect::Answer;
 use crate::plans::answers;
-use crate::raw_call::RawCall;
+use pulsar_link::raw_call::RawCall;
 use pulsar_wire::error::{ConnectionError, Error, NoMemory, Reason};
 use std::alloc::Global;
 

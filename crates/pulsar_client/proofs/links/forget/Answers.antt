@@ -4,7 +4,7 @@ use Rattle.std.specs.List.{list_any}
 use Rattle.std.specs.Ordering.{nat_cmp}
 use Rattle.pulsar_client.specs.declared.act.Who.{Who}
 use Rattle.pulsar_client.proofs.Lists.{any_end}
-use Rattle.pulsar_client.proofs.Pendings.{is_at-eqb}
+use Rattle.pulsar_link.proofs.Pendings.{is_at-eqb}
 use Rattle.pulsar_client.proofs.links.forget.Goals as goal
 
 more : (a b : Bool) (row : Option Who) → cond a None (cond b None row) ≡ cond (b || a) None row

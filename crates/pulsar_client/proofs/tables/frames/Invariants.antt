@@ -1,5 +1,5 @@
 use Rattle.std.proofs.Common.{◌≡◌, map}
-use Rattle.pulsar_client.specs.declared.act.LinkAct.TheVariants.{Comes}
+use Rattle.pulsar_link.specs.declared.act.LinkAct.TheVariants.{Comes}
 use Rattle.pulsar_client.specs.declared.act.Part.TheVariants.{ToLink}
 use Rattle.pulsar_client.proofs.tables.frames.Given as goal
 

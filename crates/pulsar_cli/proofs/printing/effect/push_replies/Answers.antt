@@ -3,7 +3,7 @@ use Rattle.std.specs.Prelude.{string_bytes, codes}
 use Rattle.std.specs.Fmt.{decimal}
 use Rattle.std.specs.List.{flat_map}
 use Rattle.pulsar_wire.specs.Views.{body_values}
-use Rattle.pulsar_client.specs.Messages.{body_bytes, written}
+use Rattle.pulsar_link.specs.Messages.{body_bytes, written}
 use Rattle.pulsar_cli.specs.WordText.{hex}
 use Rattle.pulsar_cli.proofs.Folds.{replies_more, take_more}
 use Rattle.pulsar_cli.proofs.printing.effect.push_replies.Goals as goal

@@ -2,8 +2,8 @@ use Rattle.std.proofs.Common.{◌≡◌, ◌∙◌, ap, sym, subst, ℕ, cond, c
 use Rattle.std.specs.Option.{option_map}
 use Rattle.pulsar_wire.specs.Views.{body_values}
 use Rattle.pulsar_frame.specs.Key.{answers}
-use Rattle.pulsar_client.specs.Failures.{UnexpectedResponse}
-use Rattle.pulsar_client.specs.Messages.{Reply, written}
+use Rattle.pulsar_link.specs.Failures.{UnexpectedResponse}
+use Rattle.pulsar_link.specs.Messages.{Reply, written}
 use Rattle.pulsar_client.specs.Plan.{answer_with, failed, is_answer, is_some_number, refused, reply_says}
 use Rattle.pulsar_client.proofs.plans.answers.said.Goals as goal
 

@@ -1,9 +1,8 @@
 use Rattle.std.proofs.Common.{◌≡◌, ◌∙◌, ap, sym, true, not}
 use Rattle.std.specs.Option.{is_some, option_map}
-use Rattle.pulsar_client.specs.Subscribers.{waiting_on}
 use Rattle.pulsar_client.specs.Subscriptions.{ends_with, hears}
 use Rattle.pulsar_client.specs.Tables.{view_of}
-use Rattle.pulsar_client.specs.View.{base_turned}
+use Rattle.pulsar_client.specs.View.{base_turned, waiting_on}
 use Rattle.pulsar_client.proofs.Acts.{heard_on, on_ok, some_from}
 use Rattle.pulsar_client.proofs.tables.Tables.to_link.Goals as goal
 

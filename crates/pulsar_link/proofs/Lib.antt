@@ -1,0 +1,4 @@
+pub mod Words
+pub mod Yields
+pub mod Pendings
+pub mod Streams

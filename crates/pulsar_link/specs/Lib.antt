@@ -1,0 +1,9 @@
+pub mod Failures
+pub mod FailureCode
+pub mod RawCall
+pub mod Items
+pub mod Messages
+pub mod Request
+pub mod Link
+pub mod Waiting
+pub mod Held

@@ -1,0 +1,175 @@
+//! What owns memory on its way to a link and from it. It is boxed, so that what carries it is small. Contracts see it by its
+//! content.
+
+ghost use Rattle.std.specs.Prelude.{◌≡◌, ◌++◌, ℕ, List, IfOk, OnOk, map, string_bytes};
+ghost use Rattle.pulsar_frame.specs.Shown.{message_values};
+ghost use Rattle.pulsar_link.specs.Messages.{Reply, is_connected, is_number, read};
+ghost use Rattle.pulsar_link.specs.Request.{request_of};
+ghost use Rattle.pulsar_link.specs.Held.{item_of};
+
+use crate::items::{Unread, give_with};
+use crate::raw_call::RawCall;
+use pulsar_frame::message::Message;
+use pulsar_wire::bodies;
+use pulsar_wire::commands::topics::Mode;
+use pulsar_wire::error::NoMemory;
+use pulsar_wire::key::RequestKey;
+use std::alloc::Global;
+use std::collections::VecDeque;
+use std::marker::Model;
+
+/// A text.
+#[derive(Drop)]
+pub struct Text {
+    text: String,
+}
+
+impl Model for Text {
+    ghost use Rattle.std.specs.Prelude.{ℕ, List, string_bytes};
+
+    ghost Value = { List ℕ };
+
+    ghost view = { λ t. string_bytes t.text };
+}
+
+impl Text {
+    pub fn new(text: String) -> Text
+        ensures { result ≡ string_bytes text }
+    {
+        Text { text }
+    }
+
+    pub fn copy(&self) -> Result<Text, NoMemory>
+        ensures { IfOk result (λ t. t ≡ self.now) }
+    {
+        let text = self.text.clone()?;
+        Ok(Text { text })
+    }
+
+    pub fn into_inner(self) -> String
+        ensures { string_bytes result ≡ self }
+    {
+        let Text { text } = self;
+        text
+    }
+}
+
+/// What is asked of a link.
+#[derive(Drop)]
+pub enum Question {
+    Topics { namespace: String, mode: Mode },
+    Raw(RawCall),
+}
+
+/// The same in a box.
+#[derive(Drop)]
+pub struct Request {
+    question: Box<Question>,
+}
+
+impl Model for Request {
+    ghost use Rattle.pulsar_link.specs.Request as meaning;
+    ghost use Rattle.pulsar_link.specs.Request.{request_of};
+
+    ghost Value = { meaning.Request };
+
+    ghost view = { λ r. request_of r.question.value };
+}
+
+impl Request {
+    pub fn new(alloc: Global, question: Question) -> Result<Request, NoMemory>
+        ensures { IfOk result (λ r. r ≡ request_of question) }
+    {
+        let question = Box::new(alloc, question)?;
+        Ok(Request { question })
+    }
+
+    pub fn question(&self) -> &Question
+        ensures { request_of result.now ≡ self.now }
+    {
+        &self.question
+    }
+
+    pub fn into_inner(self) -> Question
+        ensures { request_of result ≡ self }
+    {
+        let Request { question } = self;
+        Box::into_inner(question)
+    }
+}
+
+/// A message of the broker, as the client reads it.
+#[derive(Drop)]
+pub struct Received {
+    message: Box<Message>,
+}
+
+impl Model for Received {
+    ghost use Rattle.pulsar_frame.specs.Shown.{message_values};
+    ghost use Rattle.pulsar_link.specs.Messages.{Reply, read};
+    ghost use Rattle.pulsar_link.specs.FailureCode.{failure_code};
+    ghost use Rattle.std.specs.Coded.{codes};
+
+    ghost Value = { Reply };
+
+    ghost coded = { Prim.hlevel (codes, failure_code (Prim.hlevel codes)) };
+
+    ghost view = { λ r. read (message_values r.message.value) };
+}
+
+impl Received {
+    pub fn new(alloc: Global, message: Message) -> Result<Received, NoMemory>
+        ensures { IfOk result (λ r. r ≡ read (message_values message)) }
+    {
+        let message = Box::new(alloc, message)?;
+        Ok(Received { message })
+    }
+
+    pub fn key(&self) -> Option<RequestKey>
+        ensures { result ≡ self.now.key }
+    {
+        self.message.request_key()
+    }
+
+    /// The broker says `connected`.
+    pub fn is_connected(&self) -> bool
+        ensures { result ≡ is_connected self.now }
+    {
+        self.is(bodies::CONNECTED)
+    }
+
+    /// Its body has this number.
+    pub fn is(&self, number: u32) -> bool
+        ensures { result ≡ is_number number self.now.body }
+    {
+        match &self.message.command.body {
+            Some(body) => body.number() == number,
+            None => false,
+        }
+    }
+
+    /// What it gives to a consumer is put behind what is there.
+    pub fn give(&self, unread: &mut VecDeque<Unread>) -> Result<(), NoMemory>
+        ensures { OnOk result (map item_of unread.new.items ≡ map item_of unread.old.items ++ self.now.items) }
+    {
+        match &self.message.command.body {
+            Some(body) => give_with(unread, &self.message.payload, body),
+            None => Ok(()),
+        }
+    }
+
+    /// A message that reads the same.
+    pub fn copy(&self, alloc: Global) -> Result<Received, NoMemory>
+        ensures { IfOk result (λ r. r ≡ self.now) }
+    {
+        let message = Box::new(alloc, self.message.copy()?)?;
+        Ok(Received { message })
+    }
+
+    pub fn into_message(self) -> Message
+        ensures { read (message_values result) ≡ self }
+    {
+        let Received { message } = self;
+        Box::into_inner(message)
+    }
+}

@@ -7,8 +7,8 @@ ghost use Rattle.pulsar_client.specs.View.{base_turned, waits_for};
 
 use crate::act::{Notice, Outcome, Who};
 use crate::address::Address;
-use pulsar_link::given::{Change, End};
 use crate::who::is_same;
+use pulsar_link::given::{Change, End};
 use pulsar_wire::error::NoMemory;
 use std::alloc::Global;
 

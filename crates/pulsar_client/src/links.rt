@@ -15,10 +15,10 @@ ghost use Rattle.pulsar_link.specs.Held.{frame_of, seen_of};
 ghost use Rattle.pulsar_client.specs.View.{admitted_at, askers_told, is_at, seat_asked, seat_fed, took_some, turned, waiting_on};
 
 use crate::act::{Notice, Outcome, Who};
-use pulsar_link::act::{Arrival, LinkAct};
-use pulsar_link::content::Request;
 use crate::effect::{Effect, Settlement};
 use crate::plans::answers::is_answered;
+use pulsar_link::act::{Arrival, LinkAct};
+use pulsar_link::content::Request;
 use pulsar_link::given::{Admission, Change, Frame, Given, Settled, Word};
 use pulsar_link::link::{Link, Stage};
 use pulsar_wire::error::NoMemory;

@@ -6,8 +6,8 @@ ghost use Rattle.pulsar_client.specs.Subscribers.{fresh_in};
 ghost use Rattle.pulsar_link.specs.Held.{item_of};
 ghost use Rattle.pulsar_client.specs.Subscriptions.{after_poll, fresh, polled_from, polled_item};
 
-use pulsar_link::content::Text;
 use crate::effect::{Effect, Handed};
+use pulsar_link::content::Text;
 use pulsar_link::items::Unread;
 use pulsar_wire::error::NoMemory;
 use std::alloc::Global;

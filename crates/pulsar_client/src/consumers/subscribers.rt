@@ -10,10 +10,10 @@ ghost use Rattle.pulsar_client.specs.Subscribers.{answered_by, fresh_in, given_a
 ghost use Rattle.pulsar_client.specs.Subscriptions.{after_poll, closed_at, ends_with, hears, polled};
 ghost use Rattle.pulsar_link.specs.Link.{settles_one};
 
-use pulsar_link::act::{Arrival, LinkAct};
 use crate::consumers::subscriber::Subscriber;
-use pulsar_link::content::Received;
 use crate::effect::Effect;
+use pulsar_link::act::{Arrival, LinkAct};
+use pulsar_link::content::Received;
 use pulsar_link::given::{Admission, Change};
 use pulsar_wire::bodies;
 use pulsar_wire::error::NoMemory;

@@ -9,9 +9,9 @@ ghost use Rattle.pulsar_client.specs.Plan.{answer_with, failed, is_answer, refus
 ghost use Rattle.pulsar_link.specs.Request.{is_answered};
 
 use crate::content::Said;
-use pulsar_link::content::Received;
 use crate::effect::Answer;
 use pulsar_frame::message::Message;
+use pulsar_link::content::Received;
 use pulsar_wire::bodies;
 use pulsar_wire::commands::base::Body;
 use pulsar_wire::commands::connection::CommandError;

@@ -8,9 +8,9 @@ ghost use Rattle.pulsar_link.specs.RawCall.{words};
 
 use crate::act::{Action, Makes, Outcome, Place, Procedure, Verdict};
 use crate::content::Said;
-use pulsar_link::content::{Question, Received, Request, Text};
 use crate::effect::Answer;
 use crate::plans::answers;
+use pulsar_link::content::{Question, Received, Request, Text};
 use pulsar_link::raw_call::RawCall;
 use pulsar_wire::error::{ConnectionError, Error, NoMemory, Reason};
 use std::alloc::Global;

@@ -28,6 +28,7 @@ use Rattle.pulsar_client.specs.Content.{Said, Done, Names, Receipt, Replies, Fai
 use Rattle.pulsar_link.specs.Failures.{Fault, Io, Disconnected, PulsarError, Encoding, UnexpectedResponse, Canceled, Shutdown, Exhausted, OfConnection, NotFound}
 use Rattle.pulsar_link.specs.Messages.{Reply, Written, is_number}
 use Rattle.pulsar_link.specs.RawCall.{Words, CreateProducer, Send, CloseProducer, Subscribe, Flow, Ack, CloseConsumer}
+use Rattle.pulsar_link.specs.Refusals.{refused}
 use Rattle.pulsar_link.specs.Request.{Request, Topics, Raw, is_answered, request_number}
 
 -- WHAT A REPLY SAYS
@@ -44,11 +45,6 @@ is_answer request body = is_some_number (answers request) body
 abbrev pub answer_with : Reply → Option Written → Said
 answer_with r None = Replies []
 answer_with r (Some body) = if body.number == 33 then Names r.topics else if body.number == 7 then Receipt body.bytes else Replies (body ∷ [])
-
--- why a reply fails a call that expects another body: the broker's error with its text, or the name of the body
-abbrev pub refused : Reply → Option Written → Fault
-refused r None = UnexpectedResponse (codes "none")
-refused r (Some body) = if body.number == 14 then PulsarError (r.error >>= error_of) r.text else UnexpectedResponse (body_name body.number)
 
 abbrev pub failed : Fault → Said
 failed f = Failed (OfConnection f)

@@ -3,6 +3,7 @@ pub mod FailureCode
 pub mod RawCall
 pub mod Items
 pub mod Messages
+pub mod Refusals
 pub mod Request
 pub mod Link
 pub mod Waiting

@@ -4,15 +4,18 @@
 ghost use Rattle.std.specs.Prelude.{◌≡◌, ◌++◌, ℕ, List, IfOk, OnOk, map, string_bytes};
 ghost use Rattle.pulsar_frame.specs.Shown.{message_values};
 ghost use Rattle.pulsar_link.specs.Messages.{Reply, is_connected, is_number, read};
+ghost use Rattle.pulsar_link.specs.Failures.{fault};
+ghost use Rattle.pulsar_link.specs.Refusals.{refused};
 ghost use Rattle.pulsar_link.specs.Request.{request_of};
 ghost use Rattle.pulsar_link.specs.Held.{item_of};
 
 use crate::items::{Unread, give_with};
 use crate::raw_call::RawCall;
+use crate::refusal::{refused, unexpected};
 use pulsar_frame::message::Message;
 use pulsar_wire::bodies;
 use pulsar_wire::commands::topics::Mode;
-use pulsar_wire::error::NoMemory;
+use pulsar_wire::error::{ConnectionError, NoMemory};
 use pulsar_wire::key::RequestKey;
 use std::alloc::Global;
 use std::collections::VecDeque;
@@ -69,6 +72,8 @@ pub struct Request {
 
 impl Model for Request {
     ghost use Rattle.pulsar_link.specs.Request as meaning;
+    ghost use Rattle.pulsar_link.specs.Failures.{fault};
+    ghost use Rattle.pulsar_link.specs.Refusals.{refused};
     ghost use Rattle.pulsar_link.specs.Request.{request_of};
 
     ghost Value = { meaning.Request };
@@ -155,6 +160,16 @@ impl Received {
         match &self.message.command.body {
             Some(body) => give_with(unread, &self.message.payload, body),
             None => Ok(()),
+        }
+    }
+
+    /// Why it fails a request that expects another body.
+    pub fn refusal(&self, alloc: Global) -> Result<ConnectionError, NoMemory>
+        ensures { IfOk result (λ e. fault e ≡ refused self.now self.now.body) }
+    {
+        match &self.message.command.body {
+            Some(body) => refused(alloc, body),
+            None => unexpected(alloc, "none"),
         }
     }
 

@@ -8,6 +8,7 @@ pub mod items;
 pub mod link;
 pub mod messages;
 pub mod raw_call;
+pub mod refusal;
 pub mod request;
 pub mod waiting;
 

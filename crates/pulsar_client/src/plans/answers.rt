@@ -1,11 +1,10 @@
 //! What replies say to those who asked.
 
-ghost use Rattle.std.specs.Prelude.{◌≡◌, ℕ, codes, [], ◌∷◌, None, Some, IfOk, if◌then◌else◌};
+ghost use Rattle.std.specs.Prelude.{◌≡◌, ℕ, [], ◌∷◌, None, Some, IfOk, if◌then◌else◌};
 ghost use Rattle.pulsar_wire.specs.Views.{body_values};
 ghost use Rattle.pulsar_frame.specs.Key.{answers};
-ghost use Rattle.pulsar_link.specs.Failures.{UnexpectedResponse, fault};
 ghost use Rattle.pulsar_link.specs.Messages.{read_body, written};
-ghost use Rattle.pulsar_client.specs.Plan.{answer_with, failed, is_answer, refused, reply_says};
+ghost use Rattle.pulsar_client.specs.Plan.{answer_with, is_answer, reply_says};
 ghost use Rattle.pulsar_link.specs.Request.{is_answered};
 
 use crate::content::Said;
@@ -14,10 +13,8 @@ use pulsar_frame::message::Message;
 use pulsar_link::content::Received;
 use pulsar_wire::bodies;
 use pulsar_wire::commands::base::Body;
-use pulsar_wire::commands::connection::CommandError;
-use pulsar_wire::commands::enumerations::server_error;
 use pulsar_wire::commands::topics::CommandGetTopicsOfNamespaceResponse;
-use pulsar_wire::error::{ConnectionError, Error, NoMemory};
+use pulsar_wire::error::{Error, NoMemory};
 use std::alloc::Global;
 
 /// The number of the body that answers the body of this number.
@@ -63,42 +60,25 @@ pub fn is_answer(request: u32, reply: &Received) -> bool
 pub fn said(alloc: Global, request: u32, reply: Received) -> Result<Said, NoMemory>
     ensures { IfOk result (λ s. s ≡ reply_says request reply) }
 {
+    if is_answer(request, &reply) {
+        return accepted(alloc, reply);
+    }
+    let error = reply.refusal(alloc)?;
+    Said::new(alloc, Err(Error::Connection(error)))
+}
+
+/// The answer that a reply gives.
+fn accepted(alloc: Global, reply: Received) -> Result<Said, NoMemory>
+    ensures { IfOk result (λ s. s ≡ answer_with reply reply.body) }
+{
     let Message {
         command,
         payload: _,
     } = reply.into_message();
     match command.body {
-        Some(body) => body_says(alloc, request, body),
-        None => no_body(alloc),
+        Some(body) => answer(alloc, body),
+        None => Said::new(alloc, Ok(Answer::Replies(Vec::new(alloc)))),
     }
-}
-
-/// The body of this number expects this answer.
-fn expects(request: u32, body: &Body) -> bool
-    ensures { result ≡ is_answer request (Some (written (body_values body.now))) }
-{
-    match answer_of(request) {
-        Some(answer) => answer == body.number(),
-        None => false,
-    }
-}
-
-fn body_says(alloc: Global, request: u32, body: Body) -> Result<Said, NoMemory>
-    ensures { IfOk result (λ s. s ≡ reply_says request (read_body None [] (Some (body_values body)))) }
-{
-    if expects(request, &body) {
-        return accepted(alloc, body);
-    }
-    let error = refused(alloc, &body)?;
-    failed(alloc, error)
-}
-
-/// What a reply without a body says.
-fn no_body(alloc: Global) -> Result<Said, NoMemory>
-    ensures { IfOk result (λ s. s ≡ failed (UnexpectedResponse (codes "none"))) }
-{
-    let error = unexpected(alloc, "none")?;
-    failed(alloc, error)
 }
 
 /// The topics that a body names.
@@ -111,7 +91,7 @@ fn names(alloc: Global, body: CommandGetTopicsOfNamespaceResponse) -> Result<Sai
 }
 
 /// The answer that a body gives.
-fn accepted(alloc: Global, body: Body) -> Result<Said, NoMemory>
+fn answer(alloc: Global, body: Body) -> Result<Said, NoMemory>
     ensures { IfOk result (λ s. s ≡ answer_with (read_body None [] (Some (body_values body))) (Some (written (body_values body)))) }
 {
     match body {
@@ -123,35 +103,4 @@ fn accepted(alloc: Global, body: Body) -> Result<Said, NoMemory>
             Said::new(alloc, Ok(Answer::Replies(bodies)))
         }
     }
-}
-
-/// Why a body that is not the answer fails a call.
-fn refused(alloc: Global, body: &Body) -> Result<ConnectionError, NoMemory>
-    ensures { IfOk result (λ e. fault e ≡ refused (read_body None [] (Some (body_values body.now))) (Some (written (body_values body.now)))) }
-{
-    match body {
-        Body::Error(error) => told_error(error),
-        other => unexpected(alloc, other.name()),
-    }
-}
-
-/// The error that the broker tells.
-#[tactic(auto, unfolding(pulsar_wire::specs::Views::error_values))]
-fn told_error(body: &CommandError) -> Result<ConnectionError, NoMemory>
-    ensures { IfOk result (λ e. fault e ≡ refused (read_body None [] (Some (body_values (Body.Error body.now)))) (Some (written (body_values (Body.Error body.now))))) }
-{
-    let text = body.message.clone()?;
-    Ok(ConnectionError::PulsarError(server_error(body.error), Some(text)))
-}
-
-fn unexpected(alloc: Global, name: &str) -> Result<ConnectionError, NoMemory>
-    ensures { IfOk result (λ e. fault e ≡ UnexpectedResponse name.now) }
-{
-    Ok(ConnectionError::UnexpectedResponse(String::from_str(alloc, name)?))
-}
-
-fn failed(alloc: Global, error: ConnectionError) -> Result<Said, NoMemory>
-    ensures { IfOk result (λ s. s ≡ failed (fault error)) }
-{
-    Said::new(alloc, Err(Error::Connection(error)))
 }

@@ -6,8 +6,8 @@ use Rattle.pulsar_wire.specs.declared.commands.base.Body.TheVariants.{Error}
 use Rattle.pulsar_wire.specs.declared.commands.connection.CommandError.{CommandError}
 use Rattle.pulsar_link.specs.Failures.{UnexpectedResponse, fault}
 use Rattle.pulsar_link.specs.Messages.{read_body, written}
-use Rattle.pulsar_client.specs.Plan.{refused}
-use Rattle.pulsar_client.proofs.plans.answers.refused.Goals as goal
+use Rattle.pulsar_link.specs.Refusals.{refused}
+use Rattle.pulsar_link.proofs.refusal.refused.Goals as goal
 
 unexpected : (b : BodyValues) → (b.number == 14) ≡ false → UnexpectedResponse (body_name b.number) ≡ refused (read_body None [] (Some b)) (Some (written b))
 unexpected b error = rw error refl
@@ -21,6 +21,6 @@ returns-in-Error c = rw c.in-Error.is c.told_error.ensures
 
 pub returns-in_default : goal.returns-in_default
 returns-in_default c =
-    let error = not-error c.args.body c.in_default.not-Error in
-    let name : c.name.result.now ≡ body_name (body_values c.args.body).number = search rules in
-    subst (λ f. IfOk c.unexpected.result (λ e. fault e ≡ f)) (ap UnexpectedResponse name ∙ unexpected (body_values c.args.body) error) c.unexpected.ensures
+    let error = not-error c.args.body.now c.in_default.not-Error in
+    let name : c.name.result.now ≡ body_name (body_values c.args.body.now).number = search rules in
+    subst (λ f. IfOk c.unexpected.result (λ e. fault e ≡ f)) (ap UnexpectedResponse name ∙ unexpected (body_values c.args.body.now) error) c.unexpected.ensures

@@ -39,11 +39,7 @@ dead_row x live l k h = elim (cases_Bool (k == l)) [
 ]
 
 pub dead_view : (v : View) (l : ℕ) (x : LinkAct) → v.links.live l ≡ None → after (Comes (ToLink l x)) v ≡ v
-dead_view v l x h = λ i. record {
-  chosen = v.chosen;
-  now = v.now;
-  stand = v.stand;
-  calls = v.calls;
+dead_view v l x h = λ i. record v {
   links = record { started = v.links.started; live = λ k. dead_row x v.links.live l k h i };
   base = base_turned l (turned x (h i)) v.base;
   consumers = λ t. (ap (λ r. option_map (hears_some l x r) (v.consumers t)) h ∙ same_row (v.consumers t)) i;

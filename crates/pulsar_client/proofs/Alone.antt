@@ -2,12 +2,12 @@
 use Rattle.std.proofs.Common.{◌≡◌, ◌∙◌, sym, ap, ℕ, List, [], ◌∷◌, refl, Bool, true, false, cond, ◌==◌, Option, Some, None, inl, inr}
 use Rattle.std.proofs.lemmas.Bool.{cases_Bool, eqb-true}
 use Rattle.std.specs.Option.{option_map}
-use Rattle.pulsar_client.specs.declared.act.Act.TheVariants.{Comes, Starts, Told, Does, Answers, Dials}
-use Rattle.pulsar_client.specs.declared.act.Action.TheVariants.{Get, Ask, Rest}
+use Rattle.pulsar_client.specs.declared.act.Act.TheVariants.{Comes, Does, Dials}
+use Rattle.pulsar_client.specs.declared.act.Action.TheVariants.{Ask}
 use Rattle.pulsar_link.specs.declared.act.LinkAct.{LinkAct}
-use Rattle.pulsar_client.specs.declared.act.Part.TheVariants.{Calls, ToLink, Polls}
+use Rattle.pulsar_client.specs.declared.act.Part.TheVariants.{ToLink}
 use Rattle.pulsar_client.specs.declared.act.Who.{Who}
-use Rattle.pulsar_client.specs.Content.{Heard, Called, Opened, FailedToOpen, Bytes, Lost, Drain, Poll}
+use Rattle.pulsar_client.specs.Content.{Heard, Bytes}
 use Rattle.pulsar_client.specs.Laws.{Borne, LinksAlone, borne, seen_after}
 use Rattle.pulsar_link.specs.Link.{after as link_after, after_ask, dialed, fed, is_open, is_over}
 use Rattle.pulsar_link.specs.Request.{Request}
@@ -103,22 +103,11 @@ module _ (o : Chosen) where
   alone : (log : List Entry) (l : ℕ) → Alone log l
   alone [] l = λ seat h. absurd (no_some h)
   alone (Begins (Bytes k piece) ∷ log) l = read_on log k l piece (alone log l)
-  alone (Begins (Called asked) ∷ log) l = same_on log l (Called asked) refl refl (alone log l)
-  alone (Begins (Opened k) ∷ log) l = same_on log l (Opened k) refl refl (alone log l)
-  alone (Begins (FailedToOpen k kind) ∷ log) l = same_on log l (FailedToOpen k kind) refl refl (alone log l)
-  alone (Begins (Lost k) ∷ log) l = same_on log l (Lost k) refl refl (alone log l)
-  alone (Begins (Drain k most) ∷ log) l = same_on log l (Drain k most) refl refl (alone log l)
-  alone (Begins (Poll t) ∷ log) l = same_on log l (Poll t) refl refl (alone log l)
+  alone (Begins e ∷ log) l = same_on log l e refl refl (alone log l)
   alone (Then (Comes (ToLink k x)) ∷ log) l = took_by log k l x (alone log l)
-  alone (Then (Comes (Calls asked)) ∷ log) l = alone log l
-  alone (Then (Comes (Polls t)) ∷ log) l = alone log l
   alone (Then (Does who (Ask k request)) ∷ log) l = asked_by log k l who request (alone log l)
-  alone (Then (Does who Get) ∷ log) l = alone log l
-  alone (Then (Does who Rest) ∷ log) l = alone log l
   alone (Then (Dials starter) ∷ log) l = dialed_by log l starter (alone log l)
-  alone (Then (Starts who p) ∷ log) l = alone log l
-  alone (Then (Told n) ∷ log) l = alone log l
-  alone (Then (Answers who verdict) ∷ log) l = alone log l
+  alone (Then _ ∷ log) l = alone log l
 
 pub links_alone_lem : LinksAlone
 links_alone_lem o log l seat h = alone o log l seat h

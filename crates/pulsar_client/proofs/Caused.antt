@@ -12,7 +12,7 @@ use Rattle.pulsar_client.specs.declared.act.Notice.{Notice}
 use Rattle.pulsar_client.specs.declared.act.Outcome.{Outcome}
 use Rattle.pulsar_client.specs.declared.act.Outcome.TheVariants as outcome
 use Rattle.pulsar_client.specs.declared.act.Part.{Part}
-use Rattle.pulsar_client.specs.declared.act.Part.TheVariants.{Calls, ToLink, Polls}
+use Rattle.pulsar_client.specs.declared.act.Part.TheVariants.{Calls, ToLink}
 use Rattle.pulsar_client.specs.declared.act.Verdict.{Verdict}
 use Rattle.pulsar_client.specs.declared.act.Who.{Who}
 use Rattle.pulsar_client.specs.declared.act.Who.TheVariants.{Call}
@@ -142,15 +142,11 @@ module _ (o : Chosen) (who : Who) (u : Outcome) (older : List Entry) where
 
   once_caused : (b : Act) → In (Told it) (at_once (view o older) b) → Cause o who u (Then b) older
   once_caused (Comes (Calls asked)) h = absurd (no_called it (view o older).calls.drawn (view o older).calls.is_built asked h)
-  once_caused (Comes (ToLink l x)) h = absurd h
-  once_caused (Comes (Polls t)) h = absurd h
   once_caused (Starts w p) h = absurd (no_follows it w (begins p) h)
   once_caused (Told n) h = absurd (no_follows_some it n.who (told_some ((view o older).stand n.who) n.outcome) h)
   once_caused (Does w Get) h = gets_caused w (view o older).chosen.address (view o older).base.series (ap (λ c. c.address) (chosen_same o older)) refl h
   once_caused (Does w (Ask l request)) h = asks_caused w l request h
-  once_caused (Does w Rest) h = absurd h
-  once_caused (Answers w verdict) h = absurd h
-  once_caused (Dials starter) h = absurd h
+  once_caused _ h = absurd h
 
   -- WHAT COMES TO A LINK
 
@@ -228,14 +224,8 @@ module _ (o : Chosen) (who : Who) (u : Outcome) (older : List Entry) where
       ]
 
   cause_caused : (b : Act) → InOne (Told it) (map (map Told) (causes (view o older) b)) → Cause o who u (Then b) older
-  cause_caused (Comes (Calls asked)) h = absurd h
   cause_caused (Comes (ToLink l x)) h = to_link_caused l x h
-  cause_caused (Comes (Polls t)) h = absurd h
-  cause_caused (Starts w p) h = absurd h
-  cause_caused (Told n) h = absurd h
-  cause_caused (Does w a) h = absurd h
-  cause_caused (Answers w verdict) h = absurd h
-  cause_caused (Dials starter) h = absurd h
+  cause_caused _ h = absurd h
 
   is_caused : (e : Entry) → Arises rules o (Told it) e older → Cause o who u e older
   is_caused (Begins e) h = absurd (no_comes it (parts (view o older) e) h)

@@ -3,7 +3,7 @@ use Rattle.std.proofs.Common.{◌≡◌, ◌∙◌, ℕ, ◌+◌, ◌==◌, sym,
 use Rattle.std.proofs.lemmas.Bool.{cases_Bool, eqb-true}
 use Rattle.pulsar_run.specs.Run.{in_order, steps_done, with_effects}
 use Rattle.pulsar_client.specs.declared.act.Act.{Act}
-use Rattle.pulsar_client.specs.declared.act.Act.TheVariants.{Comes, Starts, Told, Does, Answers, Dials}
+use Rattle.pulsar_client.specs.declared.act.Act.TheVariants.{Comes, Starts, Told, Does, Answers}
 use Rattle.pulsar_client.specs.declared.act.Action.{Action}
 use Rattle.pulsar_client.specs.declared.act.Action.TheVariants.{Get, Ask, Rest}
 use Rattle.pulsar_link.specs.declared.act.Arrival.{Arrival}
@@ -22,14 +22,14 @@ use Rattle.pulsar_client.specs.declared.plans.plan.Turn.{Turn}
 use Rattle.pulsar_client.specs.declared.plans.plan.Turn.TheVariants.{Stays, Gives}
 use Rattle.pulsar_client.specs.declared.tables.Tables.{Tables}
 use Rattle.pulsar_client.specs.Address.{Address}
-use Rattle.pulsar_client.specs.Content.{Asked, Heard, Shown, Called, Opened, FailedToOpen, Bytes, Lost, Drain, Poll}
+use Rattle.pulsar_client.specs.Content.{Asked, Heard, Shown, Called, Bytes}
 use Rattle.pulsar_client.specs.Effects.{effect_below, effects}
 use Rattle.pulsar_link.specs.Failures.{Exhausted}
 use Rattle.pulsar_client.specs.Laws.{TicketsCount}
 use Rattle.pulsar_link.specs.Link.{arrivals, spent}
 use Rattle.pulsar_client.specs.Plan.{begins, fails}
 use Rattle.pulsar_client.specs.Rules.{at_once, brings, called, does, follows, follows_some, gets, parts, performs, procedure_for, unread_of}
-use Rattle.pulsar_client.specs.Run.{Entry, Begins, Then, Agenda, IsRun, Step, agenda, calls_in, first_of, is_call, rest, rest_of, rules, steps, view}
+use Rattle.pulsar_client.specs.Run.{Entry, Begins, Then, IsRun, Step, agenda, calls_in, first_of, is_call, rest, rest_of, rules, steps, view}
 use Rattle.pulsar_client.specs.Tables.{Stands}
 use Rattle.pulsar_client.specs.View.{Chosen, View, begun, begun_live, drawn_after, is_live, told_some}
 
@@ -76,13 +76,10 @@ performs_none v who Rest xs n = refl
 
 once_none : (v : View) (a : Act) (xs : List Act) (n : ℕ) → acts_drawn (at_once v a ++ xs) n ≡ acts_drawn xs n
 once_none v (Comes (part.Calls asked)) xs n = called_none v.calls.drawn v.calls.is_built asked xs n
-once_none v (Comes (ToLink l x)) xs n = refl
-once_none v (Comes (part.Polls t)) xs n = refl
 once_none v (Starts who p) xs n = follows_none who (begins p) xs n
 once_none v (Told m) xs n = told_none v m xs n
 once_none v (Does who action) xs n = performs_none v who action xs n
-once_none v (Answers who verdict) xs n = refl
-once_none v (Dials starter) xs n = refl
+once_none v _ xs n = refl
 
 -- what is first has drawn
 moved : (now : List Act) (here : List Notice) (behind : List (List Notice)) (ps : List Part) (a : Act) (n : ℕ) → first_of now here behind ps ≡ Some a →
@@ -122,15 +119,10 @@ drawn_one n = elim (cases_Bool (n == spent)) [
 
 event_drawn : (v : View) (e : Heard) (n : ℕ) → parts_drawn (parts v e) n ≡ one_more (is_call e) n
 event_drawn v (Called asked) n = drawn_one n
-event_drawn v (Opened l) n = elim (is_live v (Opened l)) as (λ b. parts_drawn (cond b (brings v (Opened l)) []) n ≡ n) [ true ↦ refl | false ↦ refl ]
-event_drawn v (FailedToOpen l kind) n =
-    elim (is_live v (FailedToOpen l kind)) as (λ b. parts_drawn (cond b (brings v (FailedToOpen l kind)) []) n ≡ n) [ true ↦ refl | false ↦ refl ]
 event_drawn v (Bytes l piece) n =
     elim (is_live v (Bytes l piece)) as (λ b. parts_drawn (cond b (brings v (Bytes l piece)) []) n ≡ n)
     [ true ↦ frames_none l (arrivals (unread_of (v.links.live l) ++ piece)) n | false ↦ refl ]
-event_drawn v (Lost l) n = elim (is_live v (Lost l)) as (λ b. parts_drawn (cond b (brings v (Lost l)) []) n ≡ n) [ true ↦ refl | false ↦ refl ]
-event_drawn v (Drain l most) n = elim (is_live v (Drain l most)) as (λ b. parts_drawn (cond b (brings v (Drain l most)) []) n ≡ n) [ true ↦ refl | false ↦ refl ]
-event_drawn v (Poll t) n = elim (is_live v (Poll t)) as (λ b. parts_drawn (cond b (brings v (Poll t)) []) n ≡ n) [ true ↦ refl | false ↦ refl ]
+event_drawn v e n = elim (is_live v e) as (λ b. parts_drawn (cond b (brings v e) []) n ≡ n) [ true ↦ refl | false ↦ refl ]
 
 -- ALL
 

@@ -11,20 +11,20 @@ use Rattle.pulsar_frame.proofs.Streams.{cut-append, bad-append, left-append, cut
 use Rattle.pulsar_run.specs.Run.{first_of, rest}
 use Rattle.pulsar_client.specs.declared.act.Act.{Act}
 use Rattle.pulsar_client.specs.declared.act.Act.TheVariants.{Comes, Starts, Told, Does, Answers, Dials}
-use Rattle.pulsar_client.specs.declared.act.Action.TheVariants.{Get, Ask, Rest}
+use Rattle.pulsar_client.specs.declared.act.Action.TheVariants.{Ask}
 use Rattle.pulsar_link.specs.declared.act.Arrival.{Arrival}
 use Rattle.pulsar_link.specs.declared.act.Arrival.TheVariants.{Message, Bad}
 use Rattle.pulsar_link.specs.declared.act.LinkAct.{LinkAct}
 use Rattle.pulsar_link.specs.declared.act.LinkAct.TheVariants as link
 use Rattle.pulsar_client.specs.declared.act.Notice.{Notice}
 use Rattle.pulsar_client.specs.declared.act.Part.{Part}
-use Rattle.pulsar_client.specs.declared.act.Part.TheVariants.{Calls, ToLink, Polls}
+use Rattle.pulsar_client.specs.declared.act.Part.TheVariants.{ToLink}
 use Rattle.pulsar_client.specs.declared.act.Who.{Who}
 use Rattle.pulsar_link.specs.declared.given.Change.{Change}
 use Rattle.pulsar_link.specs.declared.given.Change.TheVariants.{Remains, Opened as Turns, Readied, Ended}
 use Rattle.pulsar_link.specs.declared.link.Stage.{Stage}
 use Rattle.pulsar_link.specs.declared.link.Stage.TheVariants.{Dialing, Handshaking, Ready, Over}
-use Rattle.pulsar_client.specs.Content.{Heard, Called, Opened, FailedToOpen, Bytes, Lost, Drain, Poll}
+use Rattle.pulsar_client.specs.Content.{Heard, Bytes}
 use Rattle.pulsar_client.specs.Laws.{FramesAreCut, came, stream}
 use Rattle.pulsar_link.specs.Link.{Seen, arrivals, at_arrival, change, dialed, fed, is_dialing, is_open, is_over, kept, stage_after}
 use Rattle.pulsar_link.specs.Messages.{read}
@@ -447,30 +447,16 @@ cutting o [] r = record {
   unheard = λ l lt. refl;
   silent = λ l lt. refl;
 }
-cutting o (Begins (Called asked) ∷ log) r = plain_on o log (cutting o log r.0) r.1 (Called asked) (λ l. refl) (λ l. refl) refl
-cutting o (Begins (Opened m) ∷ log) r = plain_on o log (cutting o log r.0) r.1 (Opened m) (λ l. refl) (λ l. refl) refl
-cutting o (Begins (FailedToOpen m kind) ∷ log) r = plain_on o log (cutting o log r.0) r.1 (FailedToOpen m kind) (λ l. refl) (λ l. refl) refl
-cutting o (Begins (Lost m) ∷ log) r = plain_on o log (cutting o log r.0) r.1 (Lost m) (λ l. refl) (λ l. refl) refl
-cutting o (Begins (Drain m most) ∷ log) r = plain_on o log (cutting o log r.0) r.1 (Drain m most) (λ l. refl) (λ l. refl) refl
-cutting o (Begins (Poll t) ∷ log) r = plain_on o log (cutting o log r.0) r.1 (Poll t) (λ l. refl) (λ l. refl) refl
 cutting o (Begins (Bytes m piece) ∷ log) r = elim (cases_Bool (is_at is_open ((view o log).links.live m))) [
   | inl live ↦ bytes_on o log (cutting o log r.0) r.1 m piece live
   | inr shut ↦ shut_on o log (cutting o log r.0) r.1 m piece shut
 ]
+cutting o (Begins e ∷ log) r = plain_on o log (cutting o log r.0) r.1 e (λ l. refl) (λ l. refl) refl
 cutting o (Then (Comes (ToLink m (link.Comes x))) ∷ log) r = comes_on o log (cutting o log r.0) m x r.1
-cutting o (Then (Comes (ToLink m link.Opens)) ∷ log) r = quiet_on o log (cutting o log r.0) (Comes (ToLink m link.Opens)) r.1 (took_by o log (cutting o log r.0) m link.Opens) (λ l. refl) refl
-cutting o (Then (Comes (ToLink m (link.Fails kind))) ∷ log) r = quiet_on o log (cutting o log r.0) (Comes (ToLink m (link.Fails kind))) r.1 (took_by o log (cutting o log r.0) m (link.Fails kind)) (λ l. refl) refl
-cutting o (Then (Comes (ToLink m link.Loses)) ∷ log) r = quiet_on o log (cutting o log r.0) (Comes (ToLink m link.Loses)) r.1 (took_by o log (cutting o log r.0) m link.Loses) (λ l. refl) refl
-cutting o (Then (Comes (ToLink m (link.Drains most))) ∷ log) r = quiet_on o log (cutting o log r.0) (Comes (ToLink m (link.Drains most))) r.1 (took_by o log (cutting o log r.0) m (link.Drains most)) (λ l. refl) refl
-cutting o (Then (Comes (Calls asked)) ∷ log) r = quiet_on o log (cutting o log r.0) (Comes (Calls asked)) r.1 (λ l. from_same ((view o log).links.live l)) (λ l. refl) refl
-cutting o (Then (Comes (Polls t)) ∷ log) r = quiet_on o log (cutting o log r.0) (Comes (Polls t)) r.1 (λ l. from_same ((view o log).links.live l)) (λ l. refl) refl
-cutting o (Then (Starts who p) ∷ log) r = quiet_on o log (cutting o log r.0) (Starts who p) r.1 (λ l. from_same ((view o log).links.live l)) (λ l. refl) refl
-cutting o (Then (Told n) ∷ log) r = quiet_on o log (cutting o log r.0) (Told n) r.1 (λ l. from_same ((view o log).links.live l)) (λ l. refl) refl
+cutting o (Then (Comes (ToLink m x)) ∷ log) r = quiet_on o log (cutting o log r.0) (Comes (ToLink m x)) r.1 (took_by o log (cutting o log r.0) m x) (λ l. refl) refl
 cutting o (Then (Does who (Ask m request)) ∷ log) r = quiet_on o log (cutting o log r.0) (Does who (Ask m request)) r.1 (asked_by o log (cutting o log r.0) m who (view o log).now request) (λ l. refl) refl
-cutting o (Then (Does who Get) ∷ log) r = quiet_on o log (cutting o log r.0) (Does who Get) r.1 (λ l. from_same ((view o log).links.live l)) (λ l. refl) refl
-cutting o (Then (Does who Rest) ∷ log) r = quiet_on o log (cutting o log r.0) (Does who Rest) r.1 (λ l. from_same ((view o log).links.live l)) (λ l. refl) refl
-cutting o (Then (Answers who verdict) ∷ log) r = quiet_on o log (cutting o log r.0) (Answers who verdict) r.1 (λ l. from_same ((view o log).links.live l)) (λ l. refl) refl
 cutting o (Then (Dials starter) ∷ log) r = dials_on o log (cutting o log r.0) starter r.1
+cutting o (Then a ∷ log) r = quiet_on o log (cutting o log r.0) a r.1 (λ l. from_same ((view o log).links.live l)) (λ l. refl) refl
 
 pub frames_are_cut_lem : FramesAreCut
 frames_are_cut_lem o log l run rests =

@@ -2,14 +2,14 @@
 use Rattle.std.proofs.Common.{◌≡◌, ◌≤◌, ◌<◌, ℕ, ◌+◌, ◌∙◌, sym, ap, subst, List, [], ◌∷◌, ◌++◌, refl, arith, drop, Bool, true, false, ◌&&◌, ◌||◌, not, cond, Option, Some, None, inl, inr, ◌==◌}
 use Rattle.std.proofs.lemmas.Bool.{cases_Bool}
 use Rattle.std.specs.Option.{is_some, option_map}
-use Rattle.pulsar_client.specs.declared.act.Act.TheVariants.{Comes, Starts, Told, Does, Answers, Dials}
-use Rattle.pulsar_client.specs.declared.act.Action.TheVariants.{Get, Ask, Rest}
+use Rattle.pulsar_client.specs.declared.act.Act.TheVariants.{Comes, Does, Answers}
+use Rattle.pulsar_client.specs.declared.act.Action.TheVariants.{Ask}
 use Rattle.pulsar_link.specs.declared.act.Arrival.TheVariants.{Message, Bad}
 use Rattle.pulsar_link.specs.declared.act.LinkAct.{LinkAct}
 use Rattle.pulsar_link.specs.declared.act.LinkAct.TheVariants as link
 use Rattle.pulsar_client.specs.declared.act.Makes.{Makes}
 use Rattle.pulsar_client.specs.declared.act.Makes.TheVariants.{Nothing, Client, Consumer}
-use Rattle.pulsar_client.specs.declared.act.Part.TheVariants.{Calls, ToLink, Polls}
+use Rattle.pulsar_client.specs.declared.act.Part.TheVariants.{ToLink, Polls}
 use Rattle.pulsar_client.specs.declared.act.Verdict.{Verdict}
 use Rattle.pulsar_client.specs.declared.act.Who.{Who}
 use Rattle.pulsar_client.specs.declared.act.Who.TheVariants.{Call}
@@ -53,14 +53,9 @@ unmade o t (Then (Answers who verdict) ∷ log) h =
 unmade o t (Then (Comes (ToLink l x)) ∷ log) h =
     ap (option_map (hears_some l x ((view o log).links.live l))) (unmade o t log (none_left (counted (end_of t) log) 0 h))
 unmade o t (Then (Comes (Polls k)) ∷ log) h = polled_none (t == k) ((view o log).consumers t) (unmade o t log (none_left (counted (end_of t) log) 0 h))
-unmade o t (Then (Comes (Calls asked)) ∷ log) h = unmade o t log (none_left (counted (end_of t) log) 0 h)
 unmade o t (Then (Does who (Ask l request)) ∷ log) h =
     ap (option_map (hears_ask l (view o log).now request ((view o log).links.live l))) (unmade o t log (none_left (counted (end_of t) log) 0 h))
-unmade o t (Then (Does who Get) ∷ log) h = unmade o t log (none_left (counted (end_of t) log) 0 h)
-unmade o t (Then (Does who Rest) ∷ log) h = unmade o t log (none_left (counted (end_of t) log) 0 h)
-unmade o t (Then (Starts who p) ∷ log) h = unmade o t log (none_left (counted (end_of t) log) 0 h)
-unmade o t (Then (Told n) ∷ log) h = unmade o t log (none_left (counted (end_of t) log) 0 h)
-unmade o t (Then (Dials starter) ∷ log) h = unmade o t log (none_left (counted (end_of t) log) 0 h)
+unmade o t (Then _ ∷ log) h = unmade o t log (none_left (counted (end_of t) log) 0 h)
 
 -- so where a call ends it has none: it ends once
 pub none_before : EndsOnce → (o : Chosen) (t : ℕ) (log : List Entry) (who : Who) (verdict : Verdict) → t < spent → IsRun o (Then (Answers who verdict) ∷ log) →
@@ -205,17 +200,7 @@ hears_on once o (Then (Answers who verdict) ∷ later) older t s lt r e =
 hears_on once o (Then (Comes (Polls k)) ∷ later) older t s lt r e =
     polled_on s (s.is_live && not (has_end o s later older || false)) (t == k) ((view o (later ++ older)).consumers t)
     (same_on s (has_end o s later older) ((view o (later ++ older)).consumers t) (hears_on once o later older t s lt r.0 e))
-hears_on once o (Then (Comes (Calls asked)) ∷ later) older t s lt r e =
-    same_on s (has_end o s later older) ((view o (later ++ older)).consumers t) (hears_on once o later older t s lt r.0 e)
-hears_on once o (Then (Does who Get) ∷ later) older t s lt r e =
-    same_on s (has_end o s later older) ((view o (later ++ older)).consumers t) (hears_on once o later older t s lt r.0 e)
-hears_on once o (Then (Does who Rest) ∷ later) older t s lt r e =
-    same_on s (has_end o s later older) ((view o (later ++ older)).consumers t) (hears_on once o later older t s lt r.0 e)
-hears_on once o (Then (Starts who p) ∷ later) older t s lt r e =
-    same_on s (has_end o s later older) ((view o (later ++ older)).consumers t) (hears_on once o later older t s lt r.0 e)
-hears_on once o (Then (Told n) ∷ later) older t s lt r e =
-    same_on s (has_end o s later older) ((view o (later ++ older)).consumers t) (hears_on once o later older t s lt r.0 e)
-hears_on once o (Then (Dials starter) ∷ later) older t s lt r e =
+hears_on once o (Then _ ∷ later) older t s lt r e =
     same_on s (has_end o s later older) ((view o (later ++ older)).consumers t) (hears_on once o later older t s lt r.0 e)
 
 pub consumers_hear_lem : EndsOnce → ConsumersHearToTheirEnd

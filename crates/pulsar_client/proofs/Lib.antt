@@ -10,6 +10,7 @@ pub mod Alone
 pub mod Sorting
 pub mod Writing
 pub mod Traces
+pub mod Plain
 pub mod Hearing
 pub mod Made
 pub mod Polls

@@ -21,7 +21,7 @@ use Rattle.pulsar_client.specs.declared.plans.plan.Plan.{Plan}
 use Rattle.pulsar_client.specs.declared.plans.plan.Turn.{Turn}
 use Rattle.pulsar_client.specs.declared.plans.plan.Turn.TheVariants.{Stays, Gives}
 use Rattle.pulsar_client.specs.Address.{Address}
-use Rattle.pulsar_client.specs.Content.{Asked, Heard, Called, Opened, FailedToOpen, Bytes, Lost, Drain, Poll}
+use Rattle.pulsar_client.specs.Content.{Asked, Heard, Called, Bytes, Poll}
 use Rattle.pulsar_link.specs.Failures.{Exhausted}
 use Rattle.pulsar_client.specs.Laws.{CallsAreMade, started}
 use Rattle.pulsar_link.specs.Link.{arrivals, spent}
@@ -76,13 +76,10 @@ performs_no_part v who Rest = tt
 
 at_once_no_part : (v : View) (a : Act) → NoParts (at_once v a)
 at_once_no_part v (Comes (Calls asked)) = called_no_part v.calls.drawn v.calls.is_built asked
-at_once_no_part v (Comes (ToLink l x)) = tt
-at_once_no_part v (Comes (Polls t)) = tt
 at_once_no_part v (Starts who p) = follows_no_part who (begins p)
 at_once_no_part v (Told n) = some_no_part n.who (told_some (v.stand n.who) n.outcome)
 at_once_no_part v (Does who action) = performs_no_part v who action
-at_once_no_part v (Answers who verdict) = tt
-at_once_no_part v (Dials starter) = tt
+at_once_no_part v _ = tt
 
 rest_no_part : (now : List Act) (here : List Notice) (behind : List (List Notice)) (ps : List Part) → NoParts now → NoParts (rest_of now here behind ps).now
 rest_no_part (a ∷ now) here behind ps k = k.1
@@ -126,7 +123,7 @@ other_first [] [] [] [] a k h = absurd cc
 abbrev is_single : Part → Bool
 is_single (Calls asked) = true
 is_single (Polls t) = true
-is_single (ToLink l x) = false
+is_single _ = false
 
 abbrev NoSingle : List Part → Type 0
 NoSingle [] = Unit {0}
@@ -136,7 +133,7 @@ NoSingle (p ∷ ps) = (is_single p ≡ false) × NoSingle ps
 abbrev pub IsPartOf : Part → Heard → Type 0
 IsPartOf (Calls asked) e = e ≡ Called asked
 IsPartOf (Polls t) e = e ≡ Poll t
-IsPartOf (ToLink l x) e = ⊥
+IsPartOf _ e = ⊥
 
 record OneOf (ps : List Part) (e : Heard) : Type 0 where
   part : Part
@@ -149,12 +146,9 @@ frames_many l (x ∷ xs) = (refl, frames_many l xs)
 
 brings_one : (v : View) (e : Heard) → NoSingle (brings v e) ⊎ OneOf (brings v e) e
 brings_one v (Called asked) = inr (record { part = Calls asked; is_it = refl; of_it = refl })
-brings_one v (Opened l) = inl (refl, tt)
-brings_one v (FailedToOpen l kind) = inl (refl, tt)
-brings_one v (Bytes l piece) = inl (frames_many l (arrivals (unread_of (v.links.live l) ++ piece)))
-brings_one v (Lost l) = inl (refl, tt)
-brings_one v (Drain l most) = inl (refl, tt)
 brings_one v (Poll t) = inr (record { part = Polls t; is_it = refl; of_it = refl })
+brings_one v (Bytes l piece) = inl (frames_many l (arrivals (unread_of (v.links.live l) ++ piece)))
+brings_one v _ = inl (refl, tt)
 
 parts_one : (v : View) (e : Heard) → NoSingle (parts v e) ⊎ OneOf (parts v e) e
 parts_one v e = elim (is_live v e) as (λ b. NoSingle (cond b (brings v e) []) ⊎ OneOf (cond b (brings v e) []) e) [ true ↦ brings_one v e | false ↦ inl tt ]
@@ -308,13 +302,10 @@ module _ (o : Chosen) (log : List Entry) (before : NoStarts (agenda o log).now �
             ap (λ xs. called (view o log).calls.drawn (view o log).calls.is_built asked ++ xs) k.no_more
             ∙ append-nil (called (view o log).calls.drawn (view o log).calls.is_built asked);
       })
-  starts_on (Comes (ToLink l x)) fits = inl (quiet_starts (Comes (ToLink l x)) tt)
-  starts_on (Comes (Polls t)) fits = inl (quiet_starts (Comes (Polls t)) tt)
   starts_on (Starts who p) fits = inl (quiet_starts (Starts who p) (follows_no_start who (begins p)))
   starts_on (Told n) fits = inl (quiet_starts (Told n) (some_no_start n.who (told_some ((view o log).stand n.who) n.outcome)))
   starts_on (Does who action) fits = inl (quiet_starts (Does who action) (performs_no_start (view o log) who action))
-  starts_on (Answers who verdict) fits = inl (quiet_starts (Answers who verdict) tt)
-  starts_on (Dials starter) fits = inl (quiet_starts (Dials starter) tt)
+  starts_on a fits = inl (quiet_starts a tt)
 
 starts_come : (o : Chosen) (log : List Entry) → IsRun o log → NoStarts (agenda o log).now ⊎ JustCame o log
 starts_come o [] run = inl tt

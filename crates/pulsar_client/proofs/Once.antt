@@ -5,12 +5,12 @@ use Rattle.std.proofs.lemmas.Bool.{cases_Bool}
 use Rattle.std.proofs.lemmas.Bool.Decides.{nat_tests}
 use Rattle.pulsar_run.specs.Run.{rest}
 use Rattle.pulsar_client.specs.declared.act.Act.{Act}
-use Rattle.pulsar_client.specs.declared.act.Act.TheVariants.{Comes, Starts, Told, Does, Answers, Dials}
+use Rattle.pulsar_client.specs.declared.act.Act.TheVariants.{Comes, Starts, Told, Does, Answers}
 use Rattle.pulsar_client.specs.declared.act.Action.{Action}
 use Rattle.pulsar_client.specs.declared.act.Action.TheVariants.{Get, Ask, Rest}
 use Rattle.pulsar_client.specs.declared.act.Notice.{Notice}
 use Rattle.pulsar_client.specs.declared.act.Outcome.{Outcome}
-use Rattle.pulsar_client.specs.declared.act.Part.TheVariants.{Calls, ToLink, Polls}
+use Rattle.pulsar_client.specs.declared.act.Part.TheVariants.{Calls}
 use Rattle.pulsar_client.specs.declared.act.Procedure.{Procedure}
 use Rattle.pulsar_client.specs.declared.act.Verdict.{Verdict}
 use Rattle.pulsar_client.specs.declared.act.Who.{Who}
@@ -241,13 +241,10 @@ few_run : (o : Chosen) (log : List Entry) (t : ℕ) → IsRun o log → Few o lo
 few_run o [] t r = record { begun = (let z : 0 ≤ drawn t 0 = omega arith in z); ended = λ lt. (let z : 0 ≤ drawn t 0 = omega arith in z) }
 few_run o (Begins e ∷ log) t r = begins_on o log e t (few_run o log t r.0)
 few_run o (Then (Comes (Calls asked)) ∷ log) t r = calls_on o log asked t (few_run o log t r.0) r.1
-few_run o (Then (Comes (ToLink l x)) ∷ log) t r = simple_on o log (Comes (ToLink l x)) t (few_run o log t r.0) r.1 refl refl refl refl
-few_run o (Then (Comes (Polls u)) ∷ log) t r = simple_on o log (Comes (Polls u)) t (few_run o log t r.0) r.1 refl refl refl refl
 few_run o (Then (Starts who p) ∷ log) t r = starts_on o log who p t (few_run o log t r.0) r.1
 few_run o (Then (Told n) ∷ log) t r = told_on o log n t (few_run o log t r.0) r.1
 few_run o (Then (Does w a) ∷ log) t r = simple_on o log (Does w a) t (few_run o log t r.0) r.1 (performs_start t (view o log) w a) (performs_end t (view o log) w a) refl refl
-few_run o (Then (Answers w a) ∷ log) t r = simple_on o log (Answers w a) t (few_run o log t r.0) r.1 refl refl refl refl
-few_run o (Then (Dials w) ∷ log) t r = simple_on o log (Dials w) t (few_run o log t r.0) r.1 refl refl refl refl
+few_run o (Then a ∷ log) t r = simple_on o log a t (few_run o log t r.0) r.1 refl refl refl refl
 
 one_at_most : (b : Bool) (x y : ℕ) → x + y ≤ cond b 1 0 → x ≤ 1
 one_at_most true x y h = omega (arith, h)

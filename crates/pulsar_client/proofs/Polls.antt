@@ -9,22 +9,21 @@ use Rattle.pulsar_run.specs.Order.{InOrder, NoneBelow, arranged}
 use Rattle.pulsar_run.specs.Run.{in_order, steps_done, with_effects}
 use Rattle.pulsar_run.proofs.Orders.{kinds_in_order_lem}
 use Rattle.pulsar_client.specs.declared.act.Act.{Act}
-use Rattle.pulsar_client.specs.declared.act.Act.TheVariants.{Comes, Starts, Told, Does, Answers, Dials}
-use Rattle.pulsar_client.specs.declared.act.Action.TheVariants.{Get, Ask, Rest}
+use Rattle.pulsar_client.specs.declared.act.Act.TheVariants.{Comes, Does, Answers}
+use Rattle.pulsar_client.specs.declared.act.Action.TheVariants.{Ask}
 use Rattle.pulsar_link.specs.declared.act.Arrival.TheVariants.{Message, Bad}
 use Rattle.pulsar_link.specs.declared.act.LinkAct.{LinkAct}
 use Rattle.pulsar_link.specs.declared.act.LinkAct.TheVariants as link
 use Rattle.pulsar_client.specs.declared.act.Makes.{Makes}
 use Rattle.pulsar_client.specs.declared.act.Makes.TheVariants.{Nothing, Client, Consumer}
-use Rattle.pulsar_client.specs.declared.act.Part.TheVariants.{Calls, ToLink, Polls}
+use Rattle.pulsar_client.specs.declared.act.Part.TheVariants.{ToLink, Polls}
 use Rattle.pulsar_client.specs.declared.act.Who.{Who}
 use Rattle.pulsar_client.specs.declared.act.Who.TheVariants.{Call}
 use Rattle.pulsar_link.specs.declared.given.Change.{Change}
 use Rattle.pulsar_link.specs.declared.given.Change.TheVariants.{Remains, Opened, Readied, Ended}
 use Rattle.pulsar_link.specs.declared.given.Word.{Word}
-use Rattle.pulsar_client.specs.Address.{Address}
-use Rattle.pulsar_client.specs.Content.{Heard, Poll, Said, Shown, Connect, Queued, Write, Close, Settles, Ends, Hands, Faults, FindsNothing, FindsEnd}
-use Rattle.pulsar_client.specs.Effects.{asked_at, closes, connects, effect_below, effect_rank, effects, ends, given_at, is_before3, queues, settles, write}
+use Rattle.pulsar_client.specs.Content.{Heard, Poll, Shown, Close, Hands, Faults}
+use Rattle.pulsar_client.specs.Effects.{asked_at, closes, effect_below, effect_rank, effects, given_at, is_before3, queues, settles, write}
 use Rattle.pulsar_link.specs.Link.{is_closed}
 use Rattle.pulsar_link.specs.Items.{Item, Given, Faulty}
 use Rattle.pulsar_client.specs.Laws.{EndsOnce, PollsAreAnswered, PollsFollow, brought, given_by, items_come, items_given}
@@ -38,6 +37,7 @@ use Rattle.pulsar_client.specs.Who.{is_same}
 use Rattle.pulsar_client.proofs.Hearing.{begun_consumers, none_before}
 use Rattle.pulsar_client.proofs.Instances.{effect_order}
 use Rattle.pulsar_client.proofs.Made.{poll_comes}
+use Rattle.pulsar_client.proofs.Plain.{ArePlain, effects_plain, is_plain}
 use Rattle.pulsar_client.proofs.Ticketed.{consumer_ticket}
 
 -- A POLL IS ANSWERED
@@ -80,14 +80,7 @@ ranks t (Faults ticket fault) h = elim (cases_Bool (t == ticket)) [
   | inl e ↦ ap (λ n. (0, n, 0)) (sym (eqb-true t ticket e))
   | inr e ↦ (let f : false ≡ true = rw e at h in absurd cc)
 ]
-ranks t (FindsNothing ticket) h = absurd cc
-ranks t (FindsEnd ticket) h = absurd cc
-ranks t (Write l bytes) h = absurd cc
-ranks t (Settles l place outcome) h = absurd cc
-ranks t (Ends ticket answer) h = absurd cc
-ranks t (Connect l host port) h = absurd cc
-ranks t (Queued l place bytes) h = absurd cc
-ranks t (Close l) h = absurd cc
+ranks t _ h = absurd cc
 
 irreflexive : (a b c : ℕ) → is_before3 (a, b, c) (a, b, c) ≡ false
 irreflexive a b c = grind (arith, nat_tests, common_steps)
@@ -197,12 +190,14 @@ asks_none : (t l now : ℕ) (request : Request) (row : Option Seat) → NoItems 
 asks_none t l now request None = tt
 asks_none t l now request (Some seat) = queues_none t l (frame_asked now request seat.seen)
 
-ends_none : (t : ℕ) (who : Who) (said : Said) → NoItems t (ends who said)
-ends_none t (Call k) said = (refl, tt)
+plain_gives : (t : ℕ) (x : Shown) → is_plain x ≡ true → given_by t x ≡ []
+plain_gives t (Hands ticket topic id metadata payload) h = absurd cc
+plain_gives t (Faults ticket fault) h = absurd cc
+plain_gives t _ h = refl
 
-dials_none : (t l : ℕ) (address : Option Address) → NoItems t (connects l address)
-dials_none t l None = tt
-dials_none t l (Some address) = (refl, tt)
+plain_none : (t : ℕ) (xs : List Shown) → ArePlain xs → NoItems t xs
+plain_none t [] k = tt
+plain_none t (x ∷ xs) k = (plain_gives t x k.0, plain_none t xs k.1)
 
 -- WHAT IS LEFT UNREAD
 
@@ -338,19 +333,13 @@ follows once o t (Then (Comes (ToLink l x)) ∷ log) lt r =
     on o t (Comes (ToLink l x)) log (link_none t l x ((view o log).links.live l))
     (link_gives l x ((view o log).links.live l) ((view o log).consumers t) (items_given t (steps o log)) (items_come o t log) (follows once o t log lt r.0))
 follows once o t (Then (Comes (Polls k)) ∷ log) lt r = polls_on o t k log r (follows once o t log lt r.0)
-follows once o t (Then (Comes (Calls asked)) ∷ log) lt r = on o t (Comes (Calls asked)) log tt (follows once o t log lt r.0)
 follows once o t (Then (Does who (Ask l request)) ∷ log) lt r =
     on o t (Does who (Ask l request)) log (asks_none t l (view o log).now request ((view o log).links.live l))
     (asks_gives l (view o log).now request ((view o log).links.live l) ((view o log).consumers t) (items_given t (steps o log)) (items_come o t log) (follows once o t log lt r.0))
-follows once o t (Then (Does who Get) ∷ log) lt r = on o t (Does who Get) log tt (follows once o t log lt r.0)
-follows once o t (Then (Does who Rest) ∷ log) lt r = on o t (Does who Rest) log tt (follows once o t log lt r.0)
-follows once o t (Then (Starts who p) ∷ log) lt r = on o t (Starts who p) log tt (follows once o t log lt r.0)
-follows once o t (Then (Told n) ∷ log) lt r = on o t (Told n) log tt (follows once o t log lt r.0)
 follows once o t (Then (Answers who verdict) ∷ log) lt r =
-    on o t (Answers who verdict) log (ends_none t who verdict.said)
+    on o t (Answers who verdict) log (plain_none t (effects (view o log) (Answers who verdict)) (effects_plain (view o log) (Answers who verdict) refl))
     (made_gives t who verdict.makes ((view o log).consumers t) (items_given t (steps o log)) (items_come o t log) (none_before once o t log who verdict lt r) (follows once o t log lt r.0))
-follows once o t (Then (Dials starter) ∷ log) lt r =
-    on o t (Dials starter) log (dials_none t (view o log).links.started (view o log).chosen.address) (follows once o t log lt r.0)
+follows once o t (Then a ∷ log) lt r = on o t a log (plain_none t (effects (view o log) a) (effects_plain (view o log) a refl)) (follows once o t log lt r.0)
 
 pub polls_follow_lem : EndsOnce → PollsFollow
 polls_follow_lem once o log t s r e = subst (λ c. Gives c (items_given t (steps o log)) (items_come o t log)) e (follows once o t log (consumer_ticket o log t s r e) r)

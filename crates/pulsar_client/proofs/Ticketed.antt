@@ -136,13 +136,7 @@ module _ (o : Chosen) (log : List Entry) (k : Tickets o log) where
     | inl e ↦ rw e k.drawn
     | inr e ↦ (let lt : (view o log).calls.drawn < spent = one_less (view o log).calls.drawn k.drawn e in rw e (omega (arith, lt)))
   ]
-  next_drawn (Comes (ToLink l x)) = k.drawn
-  next_drawn (Comes (Polls t)) = k.drawn
-  next_drawn (Starts who p) = k.drawn
-  next_drawn (Told n) = k.drawn
-  next_drawn (Does who action) = k.drawn
-  next_drawn (Answers who verdict) = k.drawn
-  next_drawn (Dials starter) = k.drawn
+  next_drawn _ = k.drawn
 
   next_stands : (a : Act) → IsDue a → (w : Who) (plan : Plan) → stand_after a w ((view o log).stand w) ≡ Some plan → Began w
   next_stands (Starts who p) is_due w plan h = elim (cases_Bool (is_same w who)) [
@@ -160,13 +154,10 @@ module _ (o : Chosen) (log : List Entry) (k : Tickets o log) where
 
   arises : (a : Act) → IsDue a → AreDue (at_once (view o log) a)
   arises (Comes (Calls asked)) is_due = called_due (view o log).calls.drawn (view o log).calls.is_built asked k.drawn
-  arises (Comes (ToLink l x)) is_due = tt
-  arises (Comes (Polls t)) is_due = tt
   arises (Starts who p) is_due = follows_due who (begins p) is_due
   arises (Told n) is_due = some_due n.who ((view o log).stand n.who) n.outcome (λ plan h. k.stands n.who plan h)
   arises (Does who action) is_due = performs_due (view o log) who action
-  arises (Answers who verdict) is_due = tt
-  arises (Dials starter) is_due = tt
+  arises _ is_due = tt
 
   from_made : (who : Who) (makes : Makes) → MakesSo who makes → (t : ℕ) (s : Subscription) → made who makes t ((view o log).consumers t) ≡ Some s → t < spent
   from_made who Nothing is_due t s h = k.consumers t s h
@@ -185,14 +176,9 @@ module _ (o : Chosen) (log : List Entry) (k : Tickets o log) where
     | inl e ↦ from_map _ t s (rw e at h)
     | inr e ↦ k.consumers t s (rw e at h)
   ]
-  next_consumers (Comes (Calls asked)) is_due t s h = k.consumers t s h
   next_consumers (Does who (Ask l request)) is_due t s h = from_map _ t s h
-  next_consumers (Does who Get) is_due t s h = k.consumers t s h
-  next_consumers (Does who Rest) is_due t s h = k.consumers t s h
   next_consumers (Answers who verdict) is_due t s h = from_made who verdict.makes is_due t s h
-  next_consumers (Starts who p) is_due t s h = k.consumers t s h
-  next_consumers (Told n) is_due t s h = k.consumers t s h
-  next_consumers (Dials starter) is_due t s h = k.consumers t s h
+  next_consumers _ is_due t s h = k.consumers t s h
 
   next_tickets : (a : Act) → first (agenda o log) ≡ Some a → Tickets o (Then a ∷ log)
   next_tickets a fits =

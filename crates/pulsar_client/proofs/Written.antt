@@ -10,20 +10,18 @@ use Rattle.pulsar_run.specs.Order.{InOrder, NoneBelow}
 use Rattle.pulsar_run.specs.Run.{in_order, steps_done, with_effects}
 use Rattle.pulsar_run.proofs.Orders.{kinds_in_order_lem}
 use Rattle.pulsar_client.specs.declared.act.Act.{Act}
-use Rattle.pulsar_client.specs.declared.act.Act.TheVariants.{Comes, Starts, Told, Does, Answers, Dials}
-use Rattle.pulsar_client.specs.declared.act.Action.TheVariants.{Get, Ask, Rest}
+use Rattle.pulsar_client.specs.declared.act.Act.TheVariants.{Comes, Does, Dials}
+use Rattle.pulsar_client.specs.declared.act.Action.TheVariants.{Ask}
 use Rattle.pulsar_link.specs.declared.act.LinkAct.{LinkAct}
-use Rattle.pulsar_client.specs.declared.act.Part.TheVariants.{Calls, ToLink, Polls}
+use Rattle.pulsar_client.specs.declared.act.Part.TheVariants.{ToLink, Polls}
 use Rattle.pulsar_client.specs.declared.act.Who.{Who}
-use Rattle.pulsar_client.specs.declared.act.Who.TheVariants.{Call}
 use Rattle.pulsar_link.specs.declared.given.Change.{Change}
 use Rattle.pulsar_link.specs.declared.given.Change.TheVariants.{Remains, Opened as Turns, Readied, Ended}
 use Rattle.pulsar_link.specs.declared.given.End.TheVariants as end
 use Rattle.pulsar_link.specs.declared.given.Word.{Word}
 use Rattle.pulsar_link.specs.declared.link.Stage.{Stage}
-use Rattle.pulsar_client.specs.Address.{Address}
-use Rattle.pulsar_client.specs.Content.{Heard, Called, Opened, FailedToOpen, Bytes, Lost, Drain, Poll, Said, Shown, Queued, Write}
-use Rattle.pulsar_client.specs.Effects.{asked_at, closes, connects, effect_below, effects, ends, given, given_at, is_before3, queues, settles, write}
+use Rattle.pulsar_client.specs.Content.{Heard, Bytes, Shown, Queued, Write}
+use Rattle.pulsar_client.specs.Effects.{asked_at, closes, connects, effect_below, effects, given, given_at, is_before3, queues, settles, write}
 use Rattle.pulsar_link.specs.Items.{Item, Given as Handed, Faulty}
 use Rattle.pulsar_client.specs.Laws.{IsPrefix, WritesFollow, bytes_of as bytes_along, queued_on, written_on}
 use Rattle.pulsar_frame.specs.Frame as frame
@@ -35,6 +33,7 @@ use Rattle.pulsar_client.specs.View.{Chosen, Seat, View, begun_live, is_live, li
 use Rattle.pulsar_client.proofs.Alone.{kept_seen, no_some, some_is}
 use Rattle.pulsar_client.proofs.Cuts.{not_over}
 use Rattle.pulsar_client.proofs.Instances.{effect_order}
+use Rattle.pulsar_client.proofs.Plain.{ArePlain, effects_plain}
 use Rattle.pulsar_client.proofs.Writing.{bytes_of, cut_is, with_is}
 
 abbrev flat : List (List ℕ) → List ℕ
@@ -251,12 +250,11 @@ polls_show l t (Some s) = by s.is_live s.unread
     by true [] = record { writes = refl; queued = refl }
     by false [] = record { writes = refl; queued = refl }
 
-ends_show : (l : ℕ) (who : Who) (said : Said) → Shows l (ends who said) [] None
-ends_show l (Call t) said = record { writes = refl; queued = refl }
-
-connects_show : (l k : ℕ) (address : Option Address) → Shows l (connects k address) [] None
-connects_show l k None = nil_shows l
-connects_show l k (Some address) = record { writes = refl; queued = refl }
+plain_show : (l : ℕ) (xs : List Shown) → ArePlain xs → Shows l xs [] None
+plain_show l [] k = nil_shows l
+plain_show l (Write j bytes ∷ xs) k = (let f : false ≡ true = k.0 in absurd cc)
+plain_show l (Queued j place bytes ∷ xs) k = (let f : false ≡ true = k.0 in absurd cc)
+plain_show l (x ∷ xs) k = let r = plain_show l xs k.1 in record { writes = r.writes; queued = r.queued }
 
 -- ONE LINK
 
@@ -477,7 +475,7 @@ module _ (o : Chosen) (log : List Entry) (w : Writes o log) (k : InAStep o log) 
       let v : View = view o log in
       let zs : List Shown = connects n v.chosen.address in
       let new : Option Seat = Some (record { seen = dialed v.chosen.first_number; askers = λ place. None }) in
-      let done : Wrote l n (row l) (with_effects zs (steps_done rules o log)) = mute_on l zs (connects_show l n v.chosen.address) in
+      let done : Wrote l n (row l) (with_effects zs (steps_done rules o log)) = mute_on l zs (plain_show l zs (effects_plain v (Dials starter) refl)) in
       elim (cases_Bool (l == n)) [
         | inl e ↦ subst (λ b. Wrote l (n + 1) (cond b new (row l)) (with_effects zs (steps_done rules o log))) (sym e)
             (fresh_link l n v.chosen.first_number (row l) (with_effects zs (steps_done rules o log)) e done)
@@ -519,12 +517,7 @@ live_on : (l n : ℕ) (row : Option Seat) (e : Heard) (ss : List Step) → Wrote
 live_on l n row (Bytes m piece) ss k =
     elim (l == m) as (λ b. Wrote l n (cond b (option_map (seat_fed piece) row) row) (record { event = Bytes m piece; effects = [] } ∷ ss))
     [ true ↦ fed_begun l n piece row (Bytes m piece) ss k | false ↦ same_begun l n row (Bytes m piece) ss k ]
-live_on l n row (Called asked) ss k = same_begun l n row (Called asked) ss k
-live_on l n row (Opened m) ss k = same_begun l n row (Opened m) ss k
-live_on l n row (FailedToOpen m kind) ss k = same_begun l n row (FailedToOpen m kind) ss k
-live_on l n row (Lost m) ss k = same_begun l n row (Lost m) ss k
-live_on l n row (Drain m most) ss k = same_begun l n row (Drain m most) ss k
-live_on l n row (Poll t) ss k = same_begun l n row (Poll t) ss k
+live_on l n row e ss k = same_begun l n row e ss k
 
 begins_on : (o : Chosen) (log : List Entry) (e : Heard) → Writes o log → Writes o (Begins e ∷ log)
 begins_on o log e w l =
@@ -548,16 +541,12 @@ writes o [] run = λ l. record {
 }
 writes o (Begins e ∷ log) run = begins_on o log e (writes o log run.0)
 writes o (Then (Comes (ToLink m x)) ∷ log) run = to_link_on o log (writes o log run.0) (in_a_step o (Comes (ToLink m x)) log run) m x
-writes o (Then (Comes (Calls asked)) ∷ log) run = λ l. mute_on o log (writes o log run.0) (in_a_step o (Comes (Calls asked)) log run) l [] (nil_shows l)
 writes o (Then (Comes (Polls t)) ∷ log) run =
     λ l. mute_on o log (writes o log run.0) (in_a_step o (Comes (Polls t)) log run) l (option_to_list (option_map (polled t) ((view o log).consumers t))) (polls_show l t ((view o log).consumers t))
-writes o (Then (Starts who p) ∷ log) run = λ l. mute_on o log (writes o log run.0) (in_a_step o (Starts who p) log run) l [] (nil_shows l)
-writes o (Then (Told n) ∷ log) run = λ l. mute_on o log (writes o log run.0) (in_a_step o (Told n) log run) l [] (nil_shows l)
 writes o (Then (Does who (Ask m request)) ∷ log) run = asks_on o log (writes o log run.0) (in_a_step o (Does who (Ask m request)) log run) who m request
-writes o (Then (Does who Get) ∷ log) run = λ l. mute_on o log (writes o log run.0) (in_a_step o (Does who Get) log run) l [] (nil_shows l)
-writes o (Then (Does who Rest) ∷ log) run = λ l. mute_on o log (writes o log run.0) (in_a_step o (Does who Rest) log run) l [] (nil_shows l)
-writes o (Then (Answers who verdict) ∷ log) run = λ l. mute_on o log (writes o log run.0) (in_a_step o (Answers who verdict) log run) l (ends who verdict.said) (ends_show l who verdict.said)
 writes o (Then (Dials starter) ∷ log) run = dials_on o log (writes o log run.0) (in_a_step o (Dials starter) log run) starter
+writes o (Then a ∷ log) run =
+    λ l. mute_on o log (writes o log run.0) (in_a_step o a log run) l (effects (view o log) a) (plain_show l (effects (view o log) a) (effects_plain (view o log) a refl))
 
 pub writes_follow_lem : WritesFollow
 writes_follow_lem o h l good =

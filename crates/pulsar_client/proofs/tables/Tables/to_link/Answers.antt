@@ -14,11 +14,7 @@ returns-clause-sees c =
     let row = v.links.live l in
     let some : is_some row ≡ true =
     some_from (λ s. s.seen.stage) row (ap is_some (sym c.stage.ensures) ∙ c.is_none.ensures ∙ ap not c.if-is_none.false) in
-    on_ok c.open.result (λ i. record {
-      chosen = v.chosen;
-      now = v.now;
-      stand = v.stand;
-      calls = v.calls;
+    on_ok c.open.result (λ i. record v {
       links = record { started = c.in_ok-change.ensures.started i; live = λ k. c.in_ok-change.ensures.live k i };
       base = (c.turn.ensures ∙ ap (λ ch. base_turned l ch v.base) c.in_ok-change.ensures.change) i;
       consumers = λ t. (

@@ -1,16 +1,15 @@
 -- What an act makes of what is seen and of what is left to do, where it makes little.
-use Rattle.std.proofs.Common.{◌≡◌, ◌∙◌, sym, ap, ℕ, List, [], ◌∷◌, ◌++◌, refl, map, append-nil, Bool, true, false, cond, ◌==◌, Option, Some, None, inl, inr, Result, Ok, Err, OnOk}
+use Rattle.std.proofs.Common.{◌≡◌, ◌∙◌, sym, ap, ℕ, [], ◌++◌, refl, map, append-nil, true, cond, ◌==◌, Option, Some, None, inl, inr, Result, Ok, Err, OnOk}
 use Rattle.std.proofs.lemmas.Bool.{cases_Bool, eqb-true}
 use Rattle.std.specs.Option.{is_some, option_map}
-use Rattle.pulsar_client.specs.declared.act.Act.{Act}
 use Rattle.pulsar_client.specs.declared.act.Act.TheVariants.{Comes}
 use Rattle.pulsar_link.specs.declared.act.LinkAct.{LinkAct}
 use Rattle.pulsar_client.specs.declared.act.Part.TheVariants.{ToLink}
 use Rattle.pulsar_client.specs.Run.{Agenda, goes_on}
 use Rattle.pulsar_run.specs.Order.{arranged}
-use Rattle.pulsar_client.specs.Rules.{below, caused, heard_at, opens, served}
+use Rattle.pulsar_client.specs.Rules.{below, caused}
 use Rattle.pulsar_client.specs.Subscriptions.{Subscription, ends_with, hears}
-use Rattle.pulsar_client.specs.View.{Base, Seat, View, after, base_turned, hears_some, took_some, turned, waiting_on}
+use Rattle.pulsar_client.specs.View.{Seat, View, after, base_turned, hears_some, took_some, turned, waiting_on}
 
 -- WHERE NOTHING ARISES
 

@@ -1,5 +1,5 @@
 -- What follows from the definition of a good run, in plain words.
-use Rattle.std.specs.Prelude.{◌≡◌, ◌⊎◌, ℕ, ◌+◌, ◌≤◌, ◌<◌, ◌==◌, ◌&&◌, ◌||◌, not, Bool, true, false, if◌then◌else◌, List, [], ◌∷◌, ◌++◌, map, length, Option, Some, None}
+use Rattle.std.specs.Prelude.{◌≡◌, ◌⊎◌, ℕ, ◌+◌, ◌≤◌, ◌<◌, ◌==◌, ◌&&◌, ◌||◌, not, Bool, true, false, if◌then◌else◌, List, [], ◌∷◌, ◌++◌, Option, Some, None}
 use Rattle.std.specs.List.{filter_map, flat_map}
 use Rattle.std.specs.Option.{is_some, option_map, option_or, option_to_list}
 use Rattle.pulsar_run.specs.Laws as run
@@ -16,7 +16,6 @@ use Rattle.pulsar_client.specs.declared.act.Notice.{Notice}
 use Rattle.pulsar_link.specs.declared.act.LinkAct.{LinkAct}
 use Rattle.pulsar_link.specs.declared.act.LinkAct.TheVariants as link
 use Rattle.pulsar_client.specs.declared.act.Makes.{Makes}
-use Rattle.pulsar_client.specs.declared.act.Makes.TheVariants as makes
 use Rattle.pulsar_client.specs.declared.act.Outcome.{Outcome}
 use Rattle.pulsar_client.specs.declared.act.Outcome.TheVariants as outcome
 use Rattle.pulsar_client.specs.declared.act.Part.TheVariants.{Calls, ToLink, Polls}
@@ -39,7 +38,7 @@ use Rattle.pulsar_link.specs.declared.given.End.{End}
 use Rattle.pulsar_link.specs.declared.given.Settled.{Settled}
 use Rattle.pulsar_link.specs.declared.given.Settled.TheVariants as settled
 use Rattle.pulsar_link.specs.declared.given.Word.{Word}
-use Rattle.pulsar_client.specs.Content.{Asked, Heard, Called, Bytes, Poll, Shown, Queued, Write, Hands, Faults, Failed}
+use Rattle.pulsar_client.specs.Content.{Asked, Called, Bytes, Poll, Shown, Queued, Write, Hands, Faults, Failed}
 use Rattle.pulsar_link.specs.Failures.{Failure, OfConnection, Shutdown}
 use Rattle.pulsar_link.specs.Items.{Item, Given, Faulty}
 use Rattle.pulsar_link.specs.Link.{Frame, Pending, Seen, admitted, after as link_after, after_ask, arrivals, change as change_of, dialed, ends_wait, fed, frame_asked, gives, is_ended, is_open, is_queued, spent, waits_for, words, written_by}

@@ -1,20 +1,15 @@
 -- Plans. A procedure is what is to be done for a call, and a plan is where it stands: a state of a machine. It is told outcomes, one after
 -- the other. Each leads to the next state, with the action that is done there, or gives the verdict: the answer, and what the call leaves
 -- behind.  (Pulsar binary protocol, Producer; Consumer: what answers a request)
-use Rattle.std.specs.Prelude.{ℕ, Bool, false, List, [], ◌∷◌, Option, Some, None, codes, ◌==◌, if◌then◌else◌}
-use Rattle.pulsar_wire.specs.Field.{◌>>=◌}
-use Rattle.pulsar_wire.specs.Enumerations.{error_of}
-use Rattle.pulsar_wire.specs.Command.{body_name}
+use Rattle.std.specs.Prelude.{ℕ, Bool, false, [], ◌∷◌, Option, Some, None, ◌==◌, if◌then◌else◌}
 use Rattle.pulsar_wire.specs.declared.error.Reason.TheVariants as reason
 use Rattle.pulsar_frame.specs.Key.{answers}
-use Rattle.pulsar_client.specs.declared.act.Action.{Action}
 use Rattle.pulsar_client.specs.declared.act.Action.TheVariants.{Get, Ask, Rest}
 use Rattle.pulsar_client.specs.declared.act.Makes.{Makes}
 use Rattle.pulsar_client.specs.declared.act.Makes.TheVariants.{Nothing, Client, Consumer}
 use Rattle.pulsar_client.specs.declared.act.Outcome.{Outcome}
 use Rattle.pulsar_client.specs.declared.act.Outcome.TheVariants as outcome
 use Rattle.pulsar_client.specs.declared.act.Outcome.TheVariants.{GotLink, Queued, Replied}
-use Rattle.pulsar_client.specs.declared.act.Place.{Place}
 use Rattle.pulsar_client.specs.declared.act.Place.TheVariants.{Base, Link}
 use Rattle.pulsar_client.specs.declared.act.Procedure.{Procedure}
 use Rattle.pulsar_client.specs.declared.act.Procedure.TheVariants as procedure
@@ -25,7 +20,7 @@ use Rattle.pulsar_client.specs.declared.plans.plan.Turn.{Turn}
 use Rattle.pulsar_client.specs.declared.plans.plan.Turn.TheVariants.{Stays, Gives}
 use Rattle.pulsar_client.specs.declared.plans.plan.Wanted.{Wanted}
 use Rattle.pulsar_client.specs.Content.{Said, Done, Names, Receipt, Replies, Failed}
-use Rattle.pulsar_link.specs.Failures.{Fault, Io, Disconnected, PulsarError, Encoding, UnexpectedResponse, Canceled, Shutdown, Exhausted, OfConnection, NotFound}
+use Rattle.pulsar_link.specs.Failures.{Fault, Io, Disconnected, Encoding, Canceled, Shutdown, Exhausted, OfConnection, NotFound}
 use Rattle.pulsar_link.specs.Messages.{Reply, Written, is_number}
 use Rattle.pulsar_link.specs.RawCall.{Words, CreateProducer, Send, CloseProducer, Subscribe, Flow, Ack, CloseConsumer}
 use Rattle.pulsar_link.specs.Refusals.{refused}

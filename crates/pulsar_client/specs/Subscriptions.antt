@@ -1,7 +1,6 @@
 -- Raw consumers: each is made by a raw call to subscribe that succeeds. What it hears, and what its polls give.
 -- (Pulsar binary protocol, Consumer)
 use Rattle.std.specs.Prelude.{ℕ, Bool, true, false, List, [], ◌∷◌, ◌++◌, drop, Option, Some, None, ◌==◌, ◌&&◌, ◌||◌, not, if◌then◌else◌}
-use Rattle.std.specs.List.{list_any}
 use Rattle.pulsar_wire.specs.declared.key.RequestKey.{RequestKey}
 use Rattle.pulsar_wire.specs.declared.key.RequestKey.TheVariants as key
 use Rattle.pulsar_link.specs.declared.act.Arrival.TheVariants.{Message, Bad}
@@ -11,7 +10,7 @@ use Rattle.pulsar_client.specs.Content.{Shown, Hands, Faults, FindsNothing, Find
 use Rattle.pulsar_link.specs.Items.{Item, Given, Faulty}
 use Rattle.pulsar_link.specs.declared.given.Admission.{Admission}
 use Rattle.pulsar_link.specs.declared.given.Change.{Change}
-use Rattle.pulsar_link.specs.Link.{settles_one, Pending, ends_wait, is_ended, is_queued}
+use Rattle.pulsar_link.specs.Link.{settles_one, Pending, is_ended, is_queued}
 use Rattle.pulsar_link.specs.Messages.{Reply, is_number}
 
 -- A raw consumer: the link and the number that its messages bear, the name of its topic, whether it still hears, and the

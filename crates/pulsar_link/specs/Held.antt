@@ -1,5 +1,5 @@
 -- For the code's contracts alone: what is seen of a link, of what it gives, and of an item, as the code keeps them.
-use Rattle.std.specs.Prelude.{ℕ, List, map, Option}
+use Rattle.std.specs.Prelude.{ℕ, List, map}
 use Rattle.std.specs.Global.{Vec}
 use Rattle.std.specs.Option.{option_map}
 use Rattle.pulsar_wire.specs.Views.{message_id_values}

@@ -1,4 +1,4 @@
-use Rattle.std.proofs.Common.{◌≡◌, ◌∙◌, ap, ℕ, Bool, IfOk, Ok, Err, Result, string_bytes}
+use Rattle.std.proofs.Common.{◌≡◌, ℕ, Bool, IfOk, Ok, Err, Result, string_bytes}
 use Rattle.pulsar_frame.specs.declared.message.Message.{Message}
 use Rattle.pulsar_frame.specs.Shown.{message_values}
 use Rattle.pulsar_link.specs.RawCall.{Words, Send, outgoing}

@@ -7,7 +7,6 @@ use Rattle.std.proofs.Math.ListN.{drop_of_length-le}
 use Rattle.pulsar_client.specs.Run.{Good, Step}
 use Rattle.pulsar_client.specs.View.{Chosen}
 use Rattle.pulsar_client.specs.declared.pulsar.Pulsar.{Pulsar}
-use Rattle.pulsar_client.specs.Outside.{Rose}
 use Rattle.pulsar_cli.specs.Grammar.{lines}
 use Rattle.pulsar_cli.specs.Text.{refusal}
 use Rattle.pulsar_cli.specs.Script.{Adds, AddsFront, IsDone, IsRunOf, IsStopped, IsRefused, Printed, blank, options, script_of, text}

@@ -1,12 +1,12 @@
 -- What a source gives, what is read of it, and how a script's run ends.
-use Rattle.std.proofs.Common.{inl, inr, ◌⊎◌, ◌≡◌, ℕ, ◌+◌, ◌≤◌, ◌<◌, ◌∙◌, sym, ap, List, [], ◌∷◌, ◌++◌, refl, arith, Option, Some, None, length, take, drop, subst, append_assoc, append-nil, length-append}
-use Rattle.std.specs.Prelude.{◌↔◌, Result, Ok, Err, OnOk, IfErr, MatchResult}
+use Rattle.std.proofs.Common.{inl, inr, ◌≡◌, ℕ, ◌≤◌, ◌<◌, ◌∙◌, sym, ap, List, [], ◌++◌, refl, arith, Option, Some, None, length, take, drop, subst, append_assoc, append-nil, length-append}
+use Rattle.std.specs.Prelude.{◌↔◌, Result, Ok, Err, IfErr, MatchResult}
 use Rattle.std.proofs.lemmas.List.{take-append-drop}
 use Rattle.std.proofs.lemmas.Option.{none-some}
 use Rattle.std.proofs.Math.Seq.{drop-append_seam, drop-length}
 use Rattle.pulsar_client.specs.Outside.{Rose, Takes}
 use Rattle.pulsar_cli.specs.Script.{Given, HasFault, IsDone, Printed, Ran, Seen, limit}
-use Rattle.pulsar_cli.specs.Shown.{Faults, Halts, HasRead, InTurn, Told, read_status, status_of}
+use Rattle.pulsar_cli.specs.Shown.{Faults, Halts, HasRead, Told, read_status, status_of}
 use Rattle.pulsar_cli.specs.declared.reading.Reading.{Reading}
 use Rattle.pulsar_cli.specs.declared.stop.Stop.{Stop}
 use Rattle.pulsar_cli.specs.declared.stop.Stop.TheVariants as stop

@@ -1,18 +1,17 @@
 -- What a reading has printed, where it goes on and where it stops.
-use Rattle.std.proofs.Common.{inl, inr, ◌⊎◌, ◌≡◌, ℕ, ◌+◌, ◌≤◌, ◌<◌, ◌∙◌, sym, ap, List, [], ◌∷◌, ◌++◌, refl, arith, Option, Some, None, length, take, drop, subst, append_assoc, append-nil, length-append}
-use Rattle.std.specs.Prelude.{string_bytes, Result, Ok, Err, OnOk, OnErr, IfErr, MatchResult}
-use Rattle.std.proofs.lemmas.List.{take-append-drop, length-drop, length-take-le}
-use Rattle.std.proofs.Math.Seq.{drop-drop, take-add, take-length}
+use Rattle.std.proofs.Common.{◌⊎◌, ◌≡◌, ℕ, ◌+◌, ◌≤◌, ◌∙◌, sym, ap, List, [], ◌∷◌, ◌++◌, refl, arith, Option, Some, None, length, take, drop, append_assoc, append-nil, length-append}
+use Rattle.std.specs.Prelude.{string_bytes, Result, Ok, Err, OnOk, OnErr, IfErr}
+use Rattle.std.proofs.lemmas.List.{length-drop, length-take-le}
+use Rattle.std.proofs.Math.Seq.{take-length}
 use Rattle.std.proofs.Math.ListN.{drop_of_length-le}
 use Rattle.pulsar_client.specs.Good.{Good, Step}
 use Rattle.pulsar_client.specs.Log.{Chosen}
 use Rattle.pulsar_client.specs.declared.pulsar.Pulsar.{Pulsar}
-use Rattle.pulsar_client.specs.Outside.{Rose}
 use Rattle.pulsar_client.proofs.Runs.{good}
 use Rattle.pulsar_cli.specs.Grammar.{lines}
 use Rattle.pulsar_cli.specs.Text.{refusal}
 use Rattle.pulsar_cli.specs.Script.{Adds, AddsFront, IsDone, IsRunOf, IsStopped, IsRefused, Printed, blank, options, script_of, text}
-use Rattle.pulsar_cli.specs.Shown.{Faults, Halts, InTurn, IsClient, Prints, Reads, Refuses, Refusing, Running, Told, read_status, said, status_of}
+use Rattle.pulsar_cli.specs.Shown.{Faults, Halts, InTurn, IsClient, Prints, Reads, Refuses, Refusing, Running, read_status, said, status_of}
 use Rattle.pulsar_cli.specs.declared.reading.Reading.{Reading}
 use Rattle.pulsar_cli.specs.declared.stop.Stop.{Stop}
 use Rattle.pulsar_cli.specs.declared.stop.Stop.TheVariants as stop

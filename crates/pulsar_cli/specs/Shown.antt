@@ -21,7 +21,7 @@ use Rattle.pulsar_client.specs.Client.{StandsFor}
 use Rattle.pulsar_client.specs.Log.{Chosen}
 use Rattle.pulsar_cli.specs.Grammar.{Setting, Url, Now, Line, Nothing, Sets, Happens, Refused, lines}
 use Rattle.pulsar_cli.specs.Text.{step}
-use Rattle.pulsar_cli.specs.Script.{Script, Adds, Given, IsDone, IsRunOf, IsStopped, Seen, limit, options, script_of, happened, text}
+use Rattle.pulsar_cli.specs.Script.{Script, Adds, Given, IsDone, IsStopped, Seen, limit, options, script_of, happened, text}
 
 -- the ids of a list
 abbrev pub ids_of : {Z : Type 0} → Vec MessageIdData Z → List Id

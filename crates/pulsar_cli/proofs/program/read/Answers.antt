@@ -1,7 +1,6 @@
-use Rattle.std.proofs.Common.{rules, arith, ◌≡◌, ◌+◌, ◌-◌, ◌<◌, ◌≤◌, ◌++◌, ◌∙◌, refl, sym, ap, subst, [], ℕ, List, Err, Some, length, take, drop, append_assoc, append-nil, length-append}
+use Rattle.std.proofs.Common.{rules, arith, ◌≡◌, ◌<◌, ◌++◌, ◌∙◌, refl, sym, ap, subst, [], ℕ, List, Err, Some, length, take, drop, append_assoc, append-nil, length-append}
 use Rattle.std.proofs.lemmas.List.{length-take-le}
-use Rattle.pulsar_cli.specs.Shown.{Halts, Prints}
-use Rattle.pulsar_cli.specs.Script.{IsStopped, limit}
+use Rattle.pulsar_cli.specs.Shown.{Halts}
 use Rattle.pulsar_cli.specs.declared.stop.Stop.TheVariants as stop
 use Rattle.pulsar_cli.proofs.Gives.{Gave, gave-more, gave-none, gave-same, read-ends, read-halts}
 use Rattle.pulsar_cli.proofs.Prints.{ends-faults, ends-status, prints-new, prints-stopped, size-kept, turn-faults, turn-status, written}

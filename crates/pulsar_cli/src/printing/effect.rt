@@ -4,7 +4,7 @@ ghost use Rattle.std.specs.Prelude.{◌≡◌, ◌∷◌, ◌++◌, Ok, OnOk, ma
 ghost use Rattle.pulsar_wire.specs.Row.{spelling};
 ghost use Rattle.pulsar_wire.specs.Rows.{send_receipt};
 ghost use Rattle.pulsar_wire.specs.Views.{body_values, send_receipt_values};
-ghost use Rattle.pulsar_client.specs.Content.{Names, Receipt, Replies, hands, said, shown};
+ghost use Rattle.pulsar_client.specs.Content.{Connect, Ends, Names, Queued, Receipt, Replies, Settles, Write, hands, said, shown};
 ghost use Rattle.pulsar_client.specs.Messages.{body_bytes};
 ghost use Rattle.pulsar_cli.specs.Text as printed;
 ghost use Rattle.pulsar_cli.specs.WordText.{hex};
@@ -33,37 +33,70 @@ fn push_effect(out: &mut String, effect: &Effect) -> Result<(), AllocError>
     ensures { OnOk result (string_bytes out.new ≡ string_bytes out.old ++ printed.effect (shown effect.now)) }
 {
     match effect {
-        Effect::Write { link, bytes } => {
-            write!(out, "write {link} ")?;
-            push_hex(out, bytes)?;
-        }
+        Effect::Write { link, bytes } => push_write(out, *link, bytes)?,
         Effect::Settled {
             link,
             place,
             outcome,
-        } => {
-            write!(out, "settled {link} {place} ")?;
-            out.push_str(settled_as(*outcome))?;
-        }
-        Effect::Ended { ticket, answer } => {
-            write!(out, "ended {ticket} ")?;
-            push_answer(out, answer)?;
-        }
-        Effect::Connect { link, host, port } => {
-            write!(out, "connect {link} ")?;
-            push_word(out, host.as_bytes())?;
-            write!(out, " {port}")?;
-        }
-        Effect::Queued { link, place, bytes } => {
-            write!(out, "queued {link} {place} ")?;
-            push_hex(out, bytes)?;
-        }
+        } => push_settled(out, *link, *place, *outcome)?,
+        Effect::Ended { ticket, answer } => push_ended(out, *ticket, answer)?,
+        Effect::Connect { link, host, port } => push_connect(out, *link, host, *port)?,
+        Effect::Queued { link, place, bytes } => push_queued(out, *link, *place, bytes)?,
         Effect::Close { link } => write!(out, "close {link}")?,
         Effect::Item { ticket, item } => push_item(out, *ticket, item)?,
         Effect::Empty { ticket } => write!(out, "empty {ticket}")?,
         Effect::End { ticket } => write!(out, "end {ticket}")?,
     }
     Ok(())
+}
+
+fn push_write(out: &mut String, link: u64, bytes: &[u8]) -> Result<(), AllocError>
+    ensures { OnOk result (string_bytes out.new ≡ string_bytes out.old ++ printed.effect (Write link bytes.now)) }
+{
+    write!(out, "write {link} ")?;
+    push_hex(out, bytes)
+}
+
+fn push_settled(
+    out: &mut String,
+    link: u64,
+    place: u64,
+    outcome: Settlement,
+) -> Result<(), AllocError>
+    ensures { OnOk result (string_bytes out.new ≡ string_bytes out.old
+        ++ printed.effect (Settles link place outcome)) }
+{
+    write!(out, "settled {link} {place} ")?;
+    out.push_str(settled_as(outcome))
+}
+
+fn push_ended(
+    out: &mut String,
+    ticket: u64,
+    answer: &Result<Answer, Error>,
+) -> Result<(), AllocError>
+    ensures { OnOk result (string_bytes out.new ≡ string_bytes out.old
+        ++ printed.effect (Ends ticket (said answer.now))) }
+{
+    write!(out, "ended {ticket} ")?;
+    push_answer(out, answer)
+}
+
+fn push_connect(out: &mut String, link: u64, host: &str, port: u16) -> Result<(), AllocError>
+    ensures { OnOk result (string_bytes out.new ≡ string_bytes out.old
+        ++ printed.effect (Connect link host.now port)) }
+{
+    write!(out, "connect {link} ")?;
+    push_word(out, host.as_bytes())?;
+    write!(out, " {port}")
+}
+
+fn push_queued(out: &mut String, link: u64, place: u64, bytes: &[u8]) -> Result<(), AllocError>
+    ensures { OnOk result (string_bytes out.new ≡ string_bytes out.old
+        ++ printed.effect (Queued link place bytes.now)) }
+{
+    write!(out, "queued {link} {place} ")?;
+    push_hex(out, bytes)
 }
 
 fn settled_as(outcome: Settlement) -> &'static str

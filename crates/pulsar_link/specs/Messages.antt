@@ -73,8 +73,8 @@ body_of id (CloseConsumer consumer) = record { number = 16; row = close_consumer
 -- a message that is sent carries its payload
 abbrev pub payload_of : (now : ℕ) → Words → Option PayloadValues
 payload_of now (Send p name sequence m waits) = Some (record { metadata = metadata_of now name sequence m; bytes = m.payload })
-payload_of now (CreateProducer topic producer name) = None
-payload_of now (CloseProducer producer) = None
+payload_of now (CreateProducer topic p name) = None
+payload_of now (CloseProducer p) = None
 payload_of now (Subscribe topic subscription kind consumer) = None
 payload_of now (Flow consumer permits) = None
 payload_of now (Ack consumer ids cumulative) = None

@@ -1,5 +1,6 @@
--- What is asked of one connection: a row for each request, and three that no user makes (a pong, the answer to a challenge, the
--- close of a consumer whose answer nobody waits for). A producer or a consumer is named by the number that its owner gave it.
+-- What is asked of one connection: a row for each request of a user, and for what a connection or a client asks for by itself
+-- (a pong, the answer to a challenge, the close of a consumer whose answer no call waits for). A producer or a consumer is named
+-- by the number that its owner gave it.
 use Rattle.std.specs.Prelude.{ℕ, Bool, true, false, List, Option, if◌then◌else◌}
 use Rattle.pulsar_wire.specs.Row.{Values}
 use Rattle.pulsar_wire.specs.Rows as rows

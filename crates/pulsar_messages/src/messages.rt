@@ -165,7 +165,13 @@ pub fn send(
         num_messages: message.num_messages_in_batch,
     };
     let name = String::from_str(alloc, name)?;
-    let (metadata, payload) = described(alloc, name, sequence_id, message, publish_time)?;
+    let (metadata, payload) = metadata_and_payload(
+        alloc,
+        name,
+        sequence_id,
+        message,
+        publish_time,
+    )?;
     Ok(MessageParts {
         command: BaseCommand::with_body(Body::Send(body)),
         metadata,
@@ -175,7 +181,7 @@ pub fn send(
 
 /// What is said of a message, and its payload.
 #[tactic(auto, unfolding(pulsar_wire::specs::Views::message_metadata_values))]
-fn described(
+fn metadata_and_payload(
     alloc: Global,
     producer_name: String,
     sequence_id: u64,

@@ -6,7 +6,7 @@ use pulsar_messages::{
 };
 use pulsar_wire::commands::enumerations::{InitialPosition, SubType};
 use pulsar_wire::commands::topics::Mode;
-use pulsar_wire::{BaseCommand, EncryptionKeys, KeyValue, MessageIdData, NoMemory, Schema, Wire};
+use pulsar_wire::{EncryptionKeys, KeyValue, MessageIdData, NoMemory, Schema, Wire};
 use std::alloc::Global;
 use std::collections::BTreeMap;
 use std::test::Fail;
@@ -17,22 +17,29 @@ fn has<W: Wire>(alloc: Global, value: &W, bytes: &[u8]) -> bool {
     value.encode(&mut out).is_ok() && out.as_slice() == bytes
 }
 
-/// Whether a command was made, and is written as these bytes.
-fn is_written(alloc: Global, command: Result<BaseCommand, NoMemory>, bytes: &[u8]) -> bool {
-    match &command {
-        Ok(command) => has(alloc, command, bytes),
+/// Whether a value was made, and is written as these bytes.
+fn is_written<W: Wire + Drop>(alloc: Global, value: Result<W, NoMemory>, bytes: &[u8]) -> bool {
+    match &value {
+        Ok(value) => has(alloc, value, bytes),
         Err(NoMemory) => false,
     }
+}
+
+/// Whether the value, which is let go, is so.
+fn is<T: Drop, F: FnOnce(&T) -> bool>(value: T, so: F) -> bool
+    requires { F.IsAlwaysCallable so }
+{
+    so(&value)
 }
 
 /// Whether a message was made with this command, this metadata, and the payload of all messages here.
 fn is_sent(
     alloc: Global,
-    parts: Result<MessageParts, NoMemory>,
+    parts: &Result<MessageParts, NoMemory>,
     command: &[u8],
     metadata: &[u8],
 ) -> bool {
-    match &parts {
+    match parts {
         Ok(parts) => {
             has(alloc, &parts.command, command)
                 && has(alloc, &parts.metadata, metadata)
@@ -196,6 +203,11 @@ fn a_consumer_is_made(rt: HostRuntime) -> Result<(), Fail> {
 
 fn message(alloc: Global) -> Result<Message, NoMemory> {
     let mut message = Message::new(alloc);
+    fill(alloc, &mut message)?;
+    message.copy()
+}
+
+fn fill(alloc: Global, message: &mut Message) -> Result<(), NoMemory> {
     message.payload.extend_from_slice(b"abc")?;
     message.properties = properties(alloc)?;
     message.partition_key = Some(String::from_str(alloc, "pk")?);
@@ -205,19 +217,24 @@ fn message(alloc: Global) -> Result<Message, NoMemory> {
     message.event_time = Some(40);
     message.schema_version = Some(b"v1".to_vec(alloc)?);
     message.deliver_at_time = Some(-5);
-    message.copy()
+    Ok(())
 }
 
 /// The message as a batch of two, with each further field.
 fn batch(alloc: Global) -> Result<ProducerMessage, NoMemory> {
     let mut batch = ProducerMessage::from(message(alloc)?);
+    fill_more(alloc, &mut batch)?;
+    batch.copy()
+}
+
+fn fill_more(alloc: Global, batch: &mut ProducerMessage) -> Result<(), NoMemory> {
     batch.compression = Some(1);
     batch.uncompressed_size = Some(20);
     batch.num_messages_in_batch = Some(2);
     batch.encryption_keys.push(key(alloc)?)?;
     batch.encryption_algo = Some(String::from_str(alloc, "al")?);
     batch.encryption_param = Some(b"pa".to_vec(alloc)?);
-    batch.copy()
+    Ok(())
 }
 
 fn key(alloc: Global) -> Result<EncryptionKeys, NoMemory> {
@@ -235,7 +252,8 @@ fn a_message_is_sent(rt: HostRuntime) -> Result<(), Fail> {
     let parts = messages::send(alloc, 3, "n", 9, message, 50);
     let metadata =
         b"\x0a\x01n\x10\x09\x182\x22\x06\x0a\x01a\x12\x011\x22\x06\x0a\x01b\x12\x0122\x02pk:\x01c:\x01d`(\x82\x01\x02v1\x92\x01\x02ok\x98\x01\xfb\xff\xff\xff\xff\xff\xff\xff\xff\x01";
-    assert!(rt; is_sent(alloc, parts, b"\x08\x062\x04\x08\x03\x10\x09", metadata));
+    let command = b"\x08\x062\x04\x08\x03\x10\x09";
+    assert!(rt; is(parts, |parts| is_sent(alloc, parts, command, metadata)));
     Ok(())
 }
 
@@ -245,13 +263,7 @@ fn a_batch_is_sent(rt: HostRuntime) -> Result<(), Fail> {
     let parts = messages::send(alloc, 3, "n", 9, batch(alloc)?, 50);
     let metadata =
         b"\x0a\x01n\x10\x09\x182\x22\x06\x0a\x01a\x12\x011\x22\x06\x0a\x01b\x12\x0122\x02pk:\x01c:\x01d@\x01H\x14X\x02`(j\x0e\x0a\x01k\x12\x01v\x1a\x06\x0a\x01x\x12\x01yr\x02alz\x02pa\x82\x01\x02v1\x92\x01\x02ok\x98\x01\xfb\xff\xff\xff\xff\xff\xff\xff\xff\x01";
-    assert!(rt;
-        is_sent(
-            alloc,
-            parts,
-            b"\x08\x062\x06\x08\x03\x10\x09\x18\x02",
-            metadata
-        )
-    );
+    let command = b"\x08\x062\x06\x08\x03\x10\x09\x18\x02";
+    assert!(rt; is(parts, |parts| is_sent(alloc, parts, command, metadata)));
     Ok(())
 }

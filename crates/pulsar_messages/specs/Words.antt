@@ -19,7 +19,8 @@ pub data Words : Type 0 where
   CreateProducer : (topic : List ℕ) (producer : ℕ) (name : Option (List ℕ)) (options : ProducerOptionsValues) → Words
   Send : (producer : ℕ) (name : List ℕ) (sequence : ℕ) (message : ProducerMessageValues) (block : Bool) → Words
   CloseProducer : (producer : ℕ) → Words
-  Subscribe : (topic subscription : List ℕ) (sub_type : SubType) (consumer : ℕ) (name : Option (List ℕ)) (options : ConsumerOptionsValues) → Words
+  Subscribe : (topic subscription : List ℕ) (sub_type : SubType) (consumer : ℕ) (name : Option (List ℕ))
+      (options : ConsumerOptionsValues) → Words
   SendFlow : (consumer permits : ℕ) → Words
   SendAck : (consumer : ℕ) (ids : List (Values rows.message_id)) (cumulative : Bool) → Words
   SendRedeliver : (consumer : ℕ) (ids : List (Values rows.message_id)) → Words

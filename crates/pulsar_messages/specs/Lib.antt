@@ -1,0 +1,5 @@
+pub mod Content
+pub mod Words
+pub mod Messages
+pub mod Murmur
+pub mod Laws

@@ -1,5 +1,5 @@
 -- The messages that a client writes.  (Pulsar binary protocol, Simple commands; PulsarApi.proto)
-use Rattle.std.specs.Prelude.{ℕ, ℤ, pos, Bool, false, List, [], map, Option, Some, None, codes, unwrap_or, if◌then◌else◌}
+use Rattle.std.specs.Prelude.{ℕ, ℤ, pos, Bool, false, List, map, Option, Some, None, codes, unwrap_or, if◌then◌else◌}
 use Rattle.std.specs.Option.{option_map}
 use Rattle.pulsar_wire.specs.Row.{Row, Values, ◌&◌}
 use Rattle.pulsar_wire.specs.Rows as rows

@@ -1,4 +1,4 @@
-use Rattle.std.proofs.Common.{◌≡◌, ℕ, length}
+use Rattle.std.proofs.Common.{◌≡◌, length}
 use Rattle.pulsar_messages.specs.Murmur.{with_bytes}
 use Rattle.pulsar_messages.proofs.murmur.murmur3.Given as goal
 

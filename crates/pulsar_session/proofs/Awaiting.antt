@@ -58,7 +58,7 @@ answered_with : (pong : Bool) (k : Option RequestKey) (a : Awaited) → (pong �
 answered_with true k a h = by_pong k a (h refl)
 answered_with false k a h = by_key_is k a
 
-pong_key : (m : MessageValues) (body : Option BodyValues) → m.command.body ≡ body → is 19 m ≡ true → key m ≡ None
+pub pong_key : (m : MessageValues) (body : Option BodyValues) → m.command.body ≡ body → is 19 m ≡ true → key m ≡ None
 unfolding key
 pong_key m None e h = absurd (let no = rw e at h in cc)
 pong_key m (Some b) e h = rw e (unkeyed b (rw e at h))

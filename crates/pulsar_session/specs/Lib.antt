@@ -4,3 +4,4 @@ pub mod FailureCode
 pub mod Link
 pub mod Greeting
 pub mod Kept
+pub mod Laws

@@ -1,6 +1,6 @@
 //! One connection, as its users see it.
 
-ghost use Rattle.std.specs.Prelude.{◌≡◌, Some, None, IfOk, OnOk, map, string_bytes, option_copied};
+ghost use Rattle.std.specs.Prelude.{◌≡◌, Some, None, false, IfOk, OnOk, map, string_bytes, option_copied};
 ghost use Rattle.std.specs.List.{flat_map};
 ghost use Rattle.std.specs.Option.{is_none, option_map};
 ghost use Rattle.pulsar_wire.specs.Views.{message_id_values};

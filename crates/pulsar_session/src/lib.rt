@@ -4,6 +4,7 @@
 pub mod connection;
 mod frames;
 mod incoming;
+pub mod laws;
 mod link;
 pub mod messages;
 pub mod states;

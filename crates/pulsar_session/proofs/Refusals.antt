@@ -34,7 +34,7 @@ refused_exactly now words v = by (is_ready v.stage) (is_numbered words && is_spe
 
     by : (ready spent : Bool) → refusal (answer_of (cond ready (cond spent (Err error.Exhausted) (Ok v.next_number)) (Err error.Disconnected)) now words (ticked now v))
         ≡ cond (not ready) (Some error.Disconnected)
-          (cond spent (Some error.Exhausted) (cond (not (has_room v) && not waits) (Some error.SlowDown) (cond (not (fits m)) (Some (error.Encoding reason.Frame)) None)))
+        (cond spent (Some error.Exhausted) (cond (not (has_room v) && not waits) (Some error.SlowDown) (cond (not (fits m)) (Some (error.Encoding reason.Frame)) None)))
     by false spent = refl
     by true true = refl
     by true false = placed (has_room d) waits (fits m) (frame_bytes m) d

@@ -14,8 +14,9 @@ ghost use Rattle.pulsar_session.specs.Link.{Asks, Closes, Drains, Feeds, Opens, 
 use crate::frames::{command_frame, message_frame};
 use crate::link::{Link, Setup};
 use crate::states::{Arrived, Asked};
-use pulsar_messages::messages as builders;
-use pulsar_messages::{Authentication, ConsumerOptions, ProducerMessage, ProducerOptions};
+use pulsar_messages::{
+    Authentication, ConsumerOptions, ProducerMessage, ProducerOptions, messages as builders,
+};
 use pulsar_requests::{Awaited, Claim};
 use pulsar_wire::commands::enumerations::SubType;
 use pulsar_wire::commands::ids::MessageIdData;
@@ -222,15 +223,23 @@ impl Connection {
     {
         self.link.tell(now);
         self.link.draw(false)?;
-        let frame = message_frame(self.link.alloc, builders::send(self.link.alloc, producer_id, name, sequence_id, message, now))?;
-        self.link.ask(frame, receipt_of(producer_id, sequence_id), block)
+        let frame = message_frame(
+            self.link.alloc,
+            builders::send(
+                self.link.alloc,
+                producer_id,
+                name,
+                sequence_id,
+                message,
+                now,
+            ),
+        )?;
+        self.link
+            .ask(frame, receipt_of(producer_id, sequence_id), block)
     }
 
     /// Asks for a pong.
-    pub fn send_ping(
-        &mut self,
-        now: u64,
-    ) -> Result<Asked, ConnectionError>
+    pub fn send_ping(&mut self, now: u64) -> Result<Asked, ConnectionError>
         ensures answer { OnAnswer result (result ≡ asked now SendPing self.old) }
         ensures seen { OnAnswer result (self.new ≡ after (Asks now SendPing) self.old) }
     {
@@ -252,7 +261,10 @@ impl Connection {
     {
         self.link.tell(now);
         let number = self.link.draw(true)?;
-        let frame = command_frame(self.link.alloc, builders::lookup_topic(self.link.alloc, topic, authoritative, number))?;
+        let frame = command_frame(
+            self.link.alloc,
+            builders::lookup_topic(self.link.alloc, topic, authoritative, number),
+        )?;
         self.link.ask(frame, reply_to(number, false), true)
     }
 
@@ -267,7 +279,10 @@ impl Connection {
     {
         self.link.tell(now);
         let number = self.link.draw(true)?;
-        let frame = command_frame(self.link.alloc, builders::lookup_partitioned_topic(self.link.alloc, topic, number))?;
+        let frame = command_frame(
+            self.link.alloc,
+            builders::lookup_partitioned_topic(self.link.alloc, topic, number),
+        )?;
         self.link.ask(frame, reply_to(number, false), true)
     }
 
@@ -282,7 +297,10 @@ impl Connection {
     {
         self.link.tell(now);
         let number = self.link.draw(true)?;
-        let frame = command_frame(self.link.alloc, builders::consumer_stats(number, consumer_id))?;
+        let frame = command_frame(
+            self.link.alloc,
+            builders::consumer_stats(number, consumer_id),
+        )?;
         self.link.ask(frame, reply_to(number, false), true)
     }
 
@@ -297,7 +315,10 @@ impl Connection {
     {
         self.link.tell(now);
         let number = self.link.draw(true)?;
-        let frame = command_frame(self.link.alloc, builders::get_last_message_id(consumer_id, number))?;
+        let frame = command_frame(
+            self.link.alloc,
+            builders::get_last_message_id(consumer_id, number),
+        )?;
         self.link.ask(frame, reply_to(number, false), true)
     }
 
@@ -315,7 +336,10 @@ impl Connection {
     {
         self.link.tell(now);
         let number = self.link.draw(true)?;
-        let frame = command_frame(self.link.alloc, builders::create_producer(self.link.alloc, topic, name, producer_id, number, options))?;
+        let frame = command_frame(
+            self.link.alloc,
+            builders::create_producer(self.link.alloc, topic, name, producer_id, number, options),
+        )?;
         self.link.ask(frame, reply_to(number, true), true)
     }
 
@@ -331,22 +355,24 @@ impl Connection {
     {
         self.link.tell(now);
         let number = self.link.draw(true)?;
-        let frame = command_frame(self.link.alloc, builders::get_topics_of_namespace(self.link.alloc, number, namespace, mode))?;
+        let frame = command_frame(
+            self.link.alloc,
+            builders::get_topics_of_namespace(self.link.alloc, number, namespace, mode),
+        )?;
         self.link.ask(frame, reply_to(number, false), true)
     }
 
     /// Ends a producer.
-    pub fn close_producer(
-        &mut self,
-        now: u64,
-        producer_id: u64,
-    ) -> Result<Asked, ConnectionError>
+    pub fn close_producer(&mut self, now: u64, producer_id: u64) -> Result<Asked, ConnectionError>
         ensures answer { OnAnswer result (result ≡ asked now (CloseProducer producer_id) self.old) }
         ensures seen { OnAnswer result (self.new ≡ after (Asks now (CloseProducer producer_id)) self.old) }
     {
         self.link.tell(now);
         let number = self.link.draw(true)?;
-        let frame = command_frame(self.link.alloc, builders::close_producer(producer_id, number))?;
+        let frame = command_frame(
+            self.link.alloc,
+            builders::close_producer(producer_id, number),
+        )?;
         self.link.ask(frame, reply_to(number, false), true)
     }
 
@@ -366,7 +392,19 @@ impl Connection {
     {
         self.link.tell(now);
         let number = self.link.draw(true)?;
-        let frame = command_frame(self.link.alloc, builders::subscribe(self.link.alloc, topic, subscription, sub_type, consumer_id, number, name, options))?;
+        let frame = command_frame(
+            self.link.alloc,
+            builders::subscribe(
+                self.link.alloc,
+                topic,
+                subscription,
+                sub_type,
+                consumer_id,
+                number,
+                name,
+                options,
+            ),
+        )?;
         self.link.ask(frame, reply_to(number, false), true)
     }
 
@@ -415,22 +453,24 @@ impl Connection {
     {
         self.link.tell(now);
         self.link.draw(false)?;
-        let frame = command_frame(self.link.alloc, builders::redeliver_unacknowleged_messages(consumer_id, ids))?;
+        let frame = command_frame(
+            self.link.alloc,
+            builders::redeliver_unacknowleged_messages(consumer_id, ids),
+        )?;
         self.link.ask(frame, None, true)
     }
 
     /// Ends a consumer.
-    pub fn close_consumer(
-        &mut self,
-        now: u64,
-        consumer_id: u64,
-    ) -> Result<Asked, ConnectionError>
+    pub fn close_consumer(&mut self, now: u64, consumer_id: u64) -> Result<Asked, ConnectionError>
         ensures answer { OnAnswer result (result ≡ asked now (CloseConsumer consumer_id) self.old) }
         ensures seen { OnAnswer result (self.new ≡ after (Asks now (CloseConsumer consumer_id)) self.old) }
     {
         self.link.tell(now);
         let number = self.link.draw(true)?;
-        let frame = command_frame(self.link.alloc, builders::close_consumer(consumer_id, number))?;
+        let frame = command_frame(
+            self.link.alloc,
+            builders::close_consumer(consumer_id, number),
+        )?;
         self.link.ask(frame, reply_to(number, false), true)
     }
 
@@ -445,7 +485,10 @@ impl Connection {
     {
         self.link.tell(now);
         let number = self.link.draw(true)?;
-        let frame = command_frame(self.link.alloc, builders::close_consumer(consumer_id, number))?;
+        let frame = command_frame(
+            self.link.alloc,
+            builders::close_consumer(consumer_id, number),
+        )?;
         self.link.ask(frame, None, true)
     }
 
@@ -462,16 +505,15 @@ impl Connection {
     {
         self.link.tell(now);
         let number = self.link.draw(true)?;
-        let frame = command_frame(self.link.alloc, builders::seek(consumer_id, number, id, time))?;
+        let frame = command_frame(
+            self.link.alloc,
+            builders::seek(consumer_id, number, id, time),
+        )?;
         self.link.ask(frame, reply_to(number, false), true)
     }
 
     /// Ends a subscription.
-    pub fn unsubscribe(
-        &mut self,
-        now: u64,
-        consumer_id: u64,
-    ) -> Result<Asked, ConnectionError>
+    pub fn unsubscribe(&mut self, now: u64, consumer_id: u64) -> Result<Asked, ConnectionError>
         ensures answer { OnAnswer result (result ≡ asked now (Unsubscribe consumer_id) self.old) }
         ensures seen { OnAnswer result (self.new ≡ after (Asks now (Unsubscribe consumer_id)) self.old) }
     {
@@ -508,7 +550,10 @@ impl Connection {
     {
         self.link.tell(now);
         let number = self.link.draw(true)?;
-        let frame = command_frame(self.link.alloc, builders::get_schema(self.link.alloc, number, topic, version))?;
+        let frame = command_frame(
+            self.link.alloc,
+            builders::get_schema(self.link.alloc, number, topic, version),
+        )?;
         self.link.ask(frame, reply_to(number, false), true)
     }
 }

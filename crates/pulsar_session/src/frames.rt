@@ -98,6 +98,13 @@ fn frame_of(alloc: Global, message: &Message) -> Result<Option<Vec<u8>>, NoMemor
     }
 }
 
+/// The same, and the message is done with.
+fn frame_of_owned(alloc: Global, message: Message) -> Result<Option<Vec<u8>>, NoMemory>
+    ensures { IfOk result (λ f. option_map (λ v. v.items) f ≡ frame_for (message_values message)) }
+{
+    frame_of(alloc, &message)
+}
+
 /// The frame of a command that was made, without a payload.
 pub fn command_frame(
     alloc: Global,
@@ -111,8 +118,7 @@ pub fn command_frame(
                 command,
                 payload: None,
             };
-            let frame = frame_of(alloc, &message)?;
-            Ok(frame)
+            frame_of_owned(alloc, message)
         }
         Err(_) => Err(NoMemory),
     }
@@ -127,11 +133,7 @@ pub fn message_frame(
         ≡ frame_for (record { command = command_values p.command; payload = Some (payload_values_of (payload_content p)) }))) }
 {
     match parts {
-        Ok(parts) => {
-            let message = whole(parts);
-            let frame = frame_of(alloc, &message)?;
-            Ok(frame)
-        }
+        Ok(parts) => frame_of_owned(alloc, whole(parts)),
         Err(_) => Err(NoMemory),
     }
 }

@@ -17,8 +17,7 @@ use crate::frames::{Arrival, Next, awaited_by, command_frame, is, unasked, unrea
 use crate::incoming::{First, Incoming};
 use crate::states::{Asked, Stage};
 use pulsar_frame::message::Message;
-use pulsar_messages::messages as builders;
-use pulsar_messages::Authentication;
+use pulsar_messages::{Authentication, messages as builders};
 use pulsar_requests::requests::moment;
 use pulsar_requests::{Claim, Requests};
 use pulsar_wire::bodies;

@@ -11,8 +11,9 @@ ghost use Rattle.pulsar_session.specs.Link.{bare, message_of};
 
 use crate::frames::whole;
 use pulsar_frame::message::Message;
-use pulsar_messages::messages as builders;
-use pulsar_messages::{Authentication, ConsumerOptions, ProducerMessage, ProducerOptions};
+use pulsar_messages::{
+    Authentication, ConsumerOptions, ProducerMessage, ProducerOptions, messages as builders,
+};
 use pulsar_wire::commands::base::BaseCommand;
 use pulsar_wire::commands::enumerations::SubType;
 use pulsar_wire::commands::ids::MessageIdData;
@@ -32,16 +33,14 @@ pub fn connect(
 }
 
 /// Asks for a pong.
-pub fn ping(
-) -> Result<Message, NoMemory>
+pub fn ping() -> Result<Message, NoMemory>
     ensures { IfOk result (λ m. (id now : ℕ) → message_values m ≡ message_of id now SendPing) }
 {
     without_payload(builders::ping())
 }
 
 /// Answers a ping.
-pub fn pong(
-) -> Result<Message, NoMemory>
+pub fn pong() -> Result<Message, NoMemory>
     ensures { IfOk result (λ m. (id now : ℕ) → message_values m ≡ message_of id now SendPong) }
 {
     without_payload(builders::pong())
@@ -109,50 +108,35 @@ pub fn lookup_partitioned_topic(
 }
 
 /// Asks how a consumer fares.
-pub fn consumer_stats(
-    request_id: u64,
-    consumer_id: u64,
-) -> Result<Message, NoMemory>
+pub fn consumer_stats(request_id: u64, consumer_id: u64) -> Result<Message, NoMemory>
     ensures { IfOk result (λ m. (now : ℕ) → message_values m ≡ message_of request_id now (GetConsumerStats consumer_id)) }
 {
     without_payload(builders::consumer_stats(request_id, consumer_id))
 }
 
 /// Asks for the last message of a topic.
-pub fn get_last_message_id(
-    consumer_id: u64,
-    request_id: u64,
-) -> Result<Message, NoMemory>
+pub fn get_last_message_id(consumer_id: u64, request_id: u64) -> Result<Message, NoMemory>
     ensures { IfOk result (λ m. (now : ℕ) → message_values m ≡ message_of request_id now (GetLastMessageId consumer_id)) }
 {
     without_payload(builders::get_last_message_id(consumer_id, request_id))
 }
 
 /// Ends a consumer.
-pub fn close_consumer(
-    consumer_id: u64,
-    request_id: u64,
-) -> Result<Message, NoMemory>
+pub fn close_consumer(consumer_id: u64, request_id: u64) -> Result<Message, NoMemory>
     ensures { IfOk result (λ m. (now : ℕ) → message_values m ≡ message_of request_id now (CloseConsumer consumer_id)) }
 {
     without_payload(builders::close_consumer(consumer_id, request_id))
 }
 
 /// Ends a subscription.
-pub fn unsubscribe(
-    consumer_id: u64,
-    request_id: u64,
-) -> Result<Message, NoMemory>
+pub fn unsubscribe(consumer_id: u64, request_id: u64) -> Result<Message, NoMemory>
     ensures { IfOk result (λ m. (now : ℕ) → message_values m ≡ message_of request_id now (Unsubscribe consumer_id)) }
 {
     without_payload(builders::unsubscribe(consumer_id, request_id))
 }
 
 /// Ends a producer.
-pub fn close_producer(
-    producer_id: u64,
-    request_id: u64,
-) -> Result<Message, NoMemory>
+pub fn close_producer(producer_id: u64, request_id: u64) -> Result<Message, NoMemory>
     ensures { IfOk result (λ m. (now : ℕ) → message_values m ≡ message_of request_id now (CloseProducer producer_id)) }
 {
     without_payload(builders::close_producer(producer_id, request_id))
@@ -171,25 +155,27 @@ pub fn subscribe(
 ) -> Result<Message, NoMemory>
     ensures { IfOk result (λ m. (now : ℕ) → message_values m ≡ message_of request_id now (Subscribe topic.now subscription.now sub_type consumer_id (option_copied name.entry) (consumer_options_values options.now))) }
 {
-    without_payload(builders::subscribe(alloc, topic, subscription, sub_type, consumer_id, request_id, name, options))
+    without_payload(builders::subscribe(
+        alloc,
+        topic,
+        subscription,
+        sub_type,
+        consumer_id,
+        request_id,
+        name,
+        options,
+    ))
 }
 
 /// Allows the broker to deliver as many messages more.
-pub fn flow(
-    consumer_id: u64,
-    permits: u32,
-) -> Result<Message, NoMemory>
+pub fn flow(consumer_id: u64, permits: u32) -> Result<Message, NoMemory>
     ensures { IfOk result (λ m. (id now : ℕ) → message_values m ≡ message_of id now (SendFlow consumer_id permits)) }
 {
     without_payload(builders::flow(consumer_id, permits))
 }
 
 /// Acknowledges these messages, or all up to each of them.
-pub fn ack(
-    consumer_id: u64,
-    ids: Vec<MessageIdData>,
-    cumulative: bool,
-) -> Result<Message, NoMemory>
+pub fn ack(consumer_id: u64, ids: Vec<MessageIdData>, cumulative: bool) -> Result<Message, NoMemory>
     ensures { IfOk result (λ m. (id now : ℕ) → message_values m ≡ message_of id now (SendAck consumer_id (map message_id_values ids.items) cumulative)) }
 {
     without_payload(builders::ack(consumer_id, ids, cumulative))
@@ -218,9 +204,7 @@ pub fn seek(
 }
 
 /// Answers a challenge of the broker.
-pub fn auth_challenge(
-    auth: Authentication,
-) -> Result<Message, NoMemory>
+pub fn auth_challenge(auth: Authentication) -> Result<Message, NoMemory>
     ensures { IfOk result (λ m. (id now : ℕ) → message_values m ≡ message_of id now (AuthChallenge (authentication_values auth))) }
 {
     without_payload(builders::auth_challenge(auth))

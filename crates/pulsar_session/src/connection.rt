@@ -218,8 +218,12 @@ impl Connection {
         message: ProducerMessage,
         block: bool,
     ) -> Result<Asked, ConnectionError>
-        ensures answer { OnAnswer result (result ≡ asked now (Send producer_id name.now sequence_id (producer_message_values message) block) self.old) }
-        ensures seen { OnAnswer result (self.new ≡ after (Asks now (Send producer_id name.now sequence_id (producer_message_values message) block)) self.old) }
+        ensures answer { OnAnswer result (result ≡ asked now
+            (Send producer_id name.now sequence_id (producer_message_values message) block)
+            self.old) }
+        ensures seen { OnAnswer result (self.new ≡ after (Asks now
+            (Send producer_id name.now sequence_id (producer_message_values message) block))
+            self.old) }
     {
         self.link.tell(now);
         self.link.draw(false)?;
@@ -331,8 +335,12 @@ impl Connection {
         name: Option<&str>,
         options: &ProducerOptions,
     ) -> Result<Asked, ConnectionError>
-        ensures answer { OnAnswer result (result ≡ asked now (CreateProducer topic.now producer_id (option_copied name.entry) (producer_options_values options.now)) self.old) }
-        ensures seen { OnAnswer result (self.new ≡ after (Asks now (CreateProducer topic.now producer_id (option_copied name.entry) (producer_options_values options.now))) self.old) }
+        ensures answer { OnAnswer result (result ≡ asked now
+            (CreateProducer topic.now producer_id (option_copied name.entry) (producer_options_values options.now))
+            self.old) }
+        ensures seen { OnAnswer result (self.new ≡ after (Asks now
+            (CreateProducer topic.now producer_id (option_copied name.entry) (producer_options_values options.now)))
+            self.old) }
     {
         self.link.tell(now);
         let number = self.link.draw(true)?;
@@ -350,8 +358,12 @@ impl Connection {
         namespace: &str,
         mode: Mode,
     ) -> Result<Asked, ConnectionError>
-        ensures answer { OnAnswer result (result ≡ asked now (GetTopicsOfNamespace namespace.now mode) self.old) }
-        ensures seen { OnAnswer result (self.new ≡ after (Asks now (GetTopicsOfNamespace namespace.now mode)) self.old) }
+        ensures answer { OnAnswer result (result ≡ asked now
+            (GetTopicsOfNamespace namespace.now mode)
+            self.old) }
+        ensures seen { OnAnswer result (self.new ≡ after (Asks now
+            (GetTopicsOfNamespace namespace.now mode))
+            self.old) }
     {
         self.link.tell(now);
         let number = self.link.draw(true)?;
@@ -387,8 +399,12 @@ impl Connection {
         name: Option<&str>,
         options: &ConsumerOptions,
     ) -> Result<Asked, ConnectionError>
-        ensures answer { OnAnswer result (result ≡ asked now (Subscribe topic.now subscription.now sub_type consumer_id (option_copied name.entry) (consumer_options_values options.now)) self.old) }
-        ensures seen { OnAnswer result (self.new ≡ after (Asks now (Subscribe topic.now subscription.now sub_type consumer_id (option_copied name.entry) (consumer_options_values options.now))) self.old) }
+        ensures answer { OnAnswer result (result ≡ asked now
+            (Subscribe topic.now subscription.now sub_type consumer_id (option_copied name.entry) (consumer_options_values options.now))
+            self.old) }
+        ensures seen { OnAnswer result (self.new ≡ after (Asks now
+            (Subscribe topic.now subscription.now sub_type consumer_id (option_copied name.entry) (consumer_options_values options.now)))
+            self.old) }
     {
         self.link.tell(now);
         let number = self.link.draw(true)?;
@@ -432,8 +448,12 @@ impl Connection {
         ids: Vec<MessageIdData>,
         cumulative: bool,
     ) -> Result<Asked, ConnectionError>
-        ensures answer { OnAnswer result (result ≡ asked now (SendAck consumer_id (map message_id_values ids.items) cumulative) self.old) }
-        ensures seen { OnAnswer result (self.new ≡ after (Asks now (SendAck consumer_id (map message_id_values ids.items) cumulative)) self.old) }
+        ensures answer { OnAnswer result (result ≡ asked now
+            (SendAck consumer_id (map message_id_values ids.items) cumulative)
+            self.old) }
+        ensures seen { OnAnswer result (self.new ≡ after (Asks now
+            (SendAck consumer_id (map message_id_values ids.items) cumulative))
+            self.old) }
     {
         self.link.tell(now);
         self.link.draw(false)?;
@@ -448,8 +468,12 @@ impl Connection {
         consumer_id: u64,
         ids: Vec<MessageIdData>,
     ) -> Result<Asked, ConnectionError>
-        ensures answer { OnAnswer result (result ≡ asked now (SendRedeliver consumer_id (map message_id_values ids.items)) self.old) }
-        ensures seen { OnAnswer result (self.new ≡ after (Asks now (SendRedeliver consumer_id (map message_id_values ids.items))) self.old) }
+        ensures answer { OnAnswer result (result ≡ asked now
+            (SendRedeliver consumer_id (map message_id_values ids.items))
+            self.old) }
+        ensures seen { OnAnswer result (self.new ≡ after (Asks now
+            (SendRedeliver consumer_id (map message_id_values ids.items)))
+            self.old) }
     {
         self.link.tell(now);
         self.link.draw(false)?;
@@ -500,8 +524,12 @@ impl Connection {
         id: Option<MessageIdData>,
         time: Option<u64>,
     ) -> Result<Asked, ConnectionError>
-        ensures answer { OnAnswer result (result ≡ asked now (Seek consumer_id (option_map message_id_values id) time) self.old) }
-        ensures seen { OnAnswer result (self.new ≡ after (Asks now (Seek consumer_id (option_map message_id_values id) time)) self.old) }
+        ensures answer { OnAnswer result (result ≡ asked now
+            (Seek consumer_id (option_map message_id_values id) time)
+            self.old) }
+        ensures seen { OnAnswer result (self.new ≡ after (Asks now
+            (Seek consumer_id (option_map message_id_values id) time))
+            self.old) }
     {
         self.link.tell(now);
         let number = self.link.draw(true)?;
@@ -529,8 +557,12 @@ impl Connection {
         now: u64,
         auth: Authentication,
     ) -> Result<Asked, ConnectionError>
-        ensures answer { OnAnswer result (result ≡ asked now (AuthChallenge (authentication_values auth)) self.old) }
-        ensures seen { OnAnswer result (self.new ≡ after (Asks now (AuthChallenge (authentication_values auth))) self.old) }
+        ensures answer { OnAnswer result (result ≡ asked now
+            (AuthChallenge (authentication_values auth))
+            self.old) }
+        ensures seen { OnAnswer result (self.new ≡ after (Asks now
+            (AuthChallenge (authentication_values auth)))
+            self.old) }
     {
         self.link.tell(now);
         self.link.draw(false)?;
@@ -545,8 +577,12 @@ impl Connection {
         topic: &str,
         version: Option<&[u8]>,
     ) -> Result<Asked, ConnectionError>
-        ensures answer { OnAnswer result (result ≡ asked now (GetSchema topic.now (option_copied version.entry)) self.old) }
-        ensures seen { OnAnswer result (self.new ≡ after (Asks now (GetSchema topic.now (option_copied version.entry))) self.old) }
+        ensures answer { OnAnswer result (result ≡ asked now
+            (GetSchema topic.now (option_copied version.entry))
+            self.old) }
+        ensures seen { OnAnswer result (self.new ≡ after (Asks now
+            (GetSchema topic.now (option_copied version.entry)))
+            self.old) }
     {
         self.link.tell(now);
         let number = self.link.draw(true)?;

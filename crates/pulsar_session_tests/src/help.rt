@@ -1,0 +1,128 @@
+//! What the tests make of a connection.
+
+use crate::frames::CONNECTED;
+use pulsar_frame::Message;
+use pulsar_session::{Arrived, Asked, Authentication, Connection};
+use pulsar_wire::{ConnectionError, MessageIdData, NoMemory};
+use std::alloc::Global;
+use url::Url;
+use uuid::Uuid;
+
+/// What arrives, without its message.
+#[derive(Clone, Copy, PartialEq, Eq)]
+pub enum Comes {
+    Nothing,
+    Ready,
+    /// So many requests are settled, the last of this place.
+    Settled(usize, u64),
+    ForConsumer(u64),
+    Challenge,
+    Dropped,
+    Bad,
+}
+
+pub fn made(
+    alloc: Global,
+    outbound: usize,
+    first_number: u64,
+    auth: Option<Authentication>,
+) -> Result<Connection, NoMemory> {
+    let Ok(url) = Url::parse(alloc, "pulsar://127.0.0.1:6650") else {
+        return Err(NoMemory);
+    };
+    let id = Uuid::nil();
+    Connection::new(
+        alloc,
+        id,
+        url,
+        auth,
+        None,
+        10000,
+        30000,
+        outbound,
+        first_number,
+        0,
+    )
+}
+
+/// A connection that is ready, and whose frames are written.
+pub fn ready(
+    alloc: Global,
+    outbound: usize,
+    first_number: u64,
+    auth: Option<Authentication>,
+) -> Result<Connection, NoMemory> {
+    let mut link = made(alloc, outbound, first_number, auth)?;
+    link.opened(0)?;
+    link.drain(1, 0)?;
+    next_of(&mut link, CONNECTED, 0)?;
+    Ok(link)
+}
+
+/// What arrives first of a piece.
+pub fn next_of(link: &mut Connection, piece: &[u8], now: u64) -> Result<Comes, NoMemory> {
+    link.feed(piece)?;
+    match link.next(now) {
+        Ok(arrived) => Ok(seen(&arrived)),
+        Err(NoMemory) => Err(NoMemory),
+    }
+}
+
+fn seen(arrived: &Option<Arrived>) -> Comes {
+    match arrived {
+        None => Comes::Nothing,
+        Some(Arrived::Ready) => Comes::Ready,
+        Some(Arrived::Settled { places, .. }) => {
+            Comes::Settled(places.len(), places.last().copied().unwrap_or(0))
+        }
+        Some(Arrived::ForConsumer { consumer, .. }) => Comes::ForConsumer(*consumer),
+        Some(Arrived::Challenge) => Comes::Challenge,
+        Some(Arrived::Dropped) => Comes::Dropped,
+        Some(Arrived::Bad(_)) => Comes::Bad,
+    }
+}
+
+/// A call was asked for so, and the frame of its place is this.
+pub fn is_asked(
+    link: &Connection,
+    asked: Result<Asked, ConnectionError>,
+    place: u64,
+    frame: &[u8],
+) -> bool {
+    is_at(asked, Asked::Queued(place)) && link.frame(place) == Some(frame)
+}
+
+pub fn is_at(asked: Result<Asked, ConnectionError>, place: Asked) -> bool {
+    match asked {
+        Ok(asked) => asked == place,
+        Err(_) => false,
+    }
+}
+
+/// The frame of a message that was made.
+pub fn frame(alloc: Global, message: Result<Message, NoMemory>) -> Result<Vec<u8>, NoMemory> {
+    match &message {
+        Ok(message) => match message.to_frame(alloc) {
+            Ok(frame) => Ok(frame),
+            Err(_) => Err(NoMemory),
+        },
+        Err(NoMemory) => Err(NoMemory),
+    }
+}
+
+pub fn credential(alloc: Global) -> Result<Authentication, NoMemory> {
+    Ok(Authentication {
+        name: String::from_str(alloc, "test_auth")?,
+        auth_data: b"test_auth_data".to_vec(alloc)?,
+    })
+}
+
+/// The id 1:2 alone.
+pub fn ids(alloc: Global) -> Result<Vec<MessageIdData>, NoMemory> {
+    let mut id = MessageIdData::new(alloc);
+    id.ledger_id = 1;
+    id.entry_id = 2;
+    let mut ids = Vec::new(alloc);
+    ids.push(id)?;
+    Ok(ids)
+}

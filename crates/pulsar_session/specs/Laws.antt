@@ -31,7 +31,8 @@ StandsFor v s h = v ≡ seen s h
 
 -- so it is from the beginning, and after each act
 abbrev pub HistoryGoesOn : Type 0
-HistoryGoesOn = (s : Setup) → StandsFor (fresh s) s [] × ((act : Act) (h : List Act) (v : Seen) → StandsFor v s h → StandsFor (after act v) s (act ∷ h))
+HistoryGoesOn = (s : Setup) → StandsFor (fresh s) s []
+    × ((act : Act) (h : List Act) (v : Seen) → StandsFor v s h → StandsFor (after act v) s (act ∷ h))
 
 -- REQUESTS ARE SETTLED ONCE
 
@@ -288,6 +289,11 @@ is_there (Whole m rest) = true
 abbrev pub TakenBeforeOrAfter : Type 0
 TakenBeforeOrAfter = (now : ℕ) (b : List ℕ) (v : Seen) → is_there (front v.unread) ≡ true →
     (came (after (Feeds b) v) ≡ came v) × (after (Takes now) (after (Feeds b) v) ≡ after (Feeds b) (after (Takes now) v))
+
+-- What is bad stays in front: it is told again, whatever is fed behind it, and nothing more is read.
+abbrev pub BadStays : Type 0
+BadStays = (now : ℕ) (fault : Fault) (v : Seen) → came v ≡ Bad fault →
+    (after (Takes now) v ≡ ticked now v) × ((b : List ℕ) → came (after (Feeds b) v) ≡ Bad fault)
 
 -- the bytes that an act feeds, and the messages that it takes
 abbrev pub fed_in : Act → Seen → List ℕ

@@ -26,12 +26,12 @@ pub fn made(
     outbound: usize,
     first_number: u64,
     auth: Option<Authentication>,
-) -> Result<Connection, NoMemory> {
+) -> Result<Box<Connection>, NoMemory> {
     let Ok(url) = Url::parse(alloc, "pulsar://127.0.0.1:6650") else {
         return Err(NoMemory);
     };
     let id = Uuid::nil();
-    Connection::new(
+    match Connection::new(
         alloc,
         id,
         url,
@@ -42,7 +42,10 @@ pub fn made(
         outbound,
         first_number,
         0,
-    )
+    ) {
+        Ok(link) => Ok(Box::new(alloc, link)?),
+        Err(NoMemory) => Err(NoMemory),
+    }
 }
 
 /// A connection that is ready, and whose frames are written.
@@ -51,7 +54,7 @@ pub fn ready(
     outbound: usize,
     first_number: u64,
     auth: Option<Authentication>,
-) -> Result<Connection, NoMemory> {
+) -> Result<Box<Connection>, NoMemory> {
     let mut link = made(alloc, outbound, first_number, auth)?;
     link.opened(0)?;
     link.drain(1, 0)?;

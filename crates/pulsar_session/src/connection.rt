@@ -8,10 +8,10 @@ ghost use Rattle.pulsar_messages.specs.Content.{authentication_values, consumer_
 ghost use Rattle.pulsar_messages.specs.Words.{AuthChallenge, CloseConsumer, CloseConsumerUnawaited, CloseProducer, CreateProducer, GetConsumerStats, GetLastMessageId, GetSchema, GetTopicsOfNamespace, LookupPartitionedTopic, LookupTopic, Seek, Send, SendAck, SendFlow, SendPing, SendRedeliver, Subscribe, Unsubscribe};
 ghost use Rattle.pulsar_requests.specs.Waits.{is_overdue};
 ghost use Rattle.pulsar_session.specs.Failures.{fault};
-ghost use Rattle.pulsar_session.specs.Kept.{OnAnswer, came_of};
+ghost use Rattle.pulsar_session.specs.Kept.{OnAnswer, arrives, came_of};
 ghost use Rattle.pulsar_session.specs.Link.{Asks, Closes, Drains, Feeds, Opens, Takes, after, asked, came, due, ends, frame_at, fresh, written};
 
-use crate::frames::{command_frame, message_frame};
+use crate::frames::{Arrival, command_frame, message_frame};
 use crate::link::{Link, Setup};
 use crate::states::{Arrived, Asked};
 use pulsar_messages::{
@@ -153,11 +153,20 @@ impl Connection {
         ensures came { IfOk result (λ a. came_of a ≡ came self.old) }
         ensures seen { OnOk result (self.new ≡ after (Takes now) self.old) }
     {
-        self.link.tell(now);
-        match self.link.next()? {
+        match self.next_boxed(now)? {
             Some(arrival) => Ok(Some(arrival.into_arrived())),
             None => Ok(None),
         }
+    }
+
+    /// The same, with its message in a box: less is moved.
+    pub fn next_boxed(&mut self, now: u64) -> Result<Option<Arrival>, NoMemory>
+        ensures came { IfOk result (λ a. arrives a ≡ came self.old) }
+        ensures seen { OnOk result (self.new ≡ after (Takes now) self.old) }
+    {
+        self.link.tell(now);
+        let arrival = self.link.next()?;
+        Ok(arrival)
     }
 
     /// The bytes of the first frames that are not written, at most so many. Then the line moves up.
@@ -198,8 +207,8 @@ impl Connection {
         self.link.requests.is_overdue(place, now)
     }
 
-    /// The connection ends with this cause. The answer has the places of the requests that waited. One that has ended stays as
-    /// it is.
+    /// The connection ends with this cause. The answer has the places of the requests that waited. Its frames are let go: the
+    /// bytes of one that is queued are read before. One that has ended stays as it is.
     pub fn close(&mut self, cause: ConnectionError) -> Result<Vec<u64>, NoMemory>
         ensures places { IfOk result (λ ps. ps.items ≡ ends self.old) }
         ensures seen { OnOk result (self.new ≡ after (Closes (fault cause)) self.old) }

@@ -11,6 +11,7 @@ pub mod received;
 pub mod states;
 
 pub use connection::{Connection, ConnectionSender, SharedError};
+pub use frames::Arrival;
 pub use pulsar_messages::{
     Authentication, ConsumerOptions, Message, ProducerMessage, ProducerOptions, RoutingPolicy,
 };

@@ -2,7 +2,7 @@
 
 use crate::frames::CONNECTED;
 use pulsar_frame::Message;
-use pulsar_session::{Arrived, Asked, Authentication, Connection};
+use pulsar_session::{Arrival, Arrived, Asked, Authentication, Connection};
 use pulsar_wire::{ConnectionError, MessageIdData, NoMemory};
 use std::alloc::Global;
 use url::Url;
@@ -65,24 +65,28 @@ pub fn ready(
 /// What arrives first of a piece.
 pub fn next_of(link: &mut Connection, piece: &[u8], now: u64) -> Result<Comes, NoMemory> {
     link.feed(piece)?;
-    match link.next(now) {
-        Ok(arrived) => Ok(seen(&arrived)),
-        Err(NoMemory) => Err(NoMemory),
+    match link.next_boxed(now)? {
+        Some(arrival) => Ok(seen(&arrival)),
+        None => Ok(Comes::Nothing),
     }
 }
 
-fn seen(arrived: &Option<Arrived>) -> Comes {
-    match arrived {
-        None => Comes::Nothing,
-        Some(Arrived::Ready) => Comes::Ready,
-        Some(Arrived::Settled { places, .. }) => {
+fn seen(arrival: &Arrival) -> Comes {
+    match arrival {
+        Arrival::Ready => Comes::Ready,
+        Arrival::Settled { places, .. } => {
             Comes::Settled(places.len(), places.last().copied().unwrap_or(0))
         }
-        Some(Arrived::ForConsumer { consumer, .. }) => Comes::ForConsumer(*consumer),
-        Some(Arrived::Challenge) => Comes::Challenge,
-        Some(Arrived::Dropped) => Comes::Dropped,
-        Some(Arrived::Bad(_)) => Comes::Bad,
+        Arrival::ForConsumer { consumer, .. } => Comes::ForConsumer(*consumer),
+        Arrival::Challenge => Comes::Challenge,
+        Arrival::Dropped => Comes::Dropped,
+        Arrival::Bad(_) => Comes::Bad,
     }
+}
+
+/// The connection is ready by what came.
+pub fn becomes_ready(link: &mut Connection) -> bool {
+    matches!(&link.next(0), Ok(Some(Arrived::Ready)))
 }
 
 /// A call was asked for so, and the frame of its place is this.
@@ -104,12 +108,16 @@ pub fn is_at(asked: Result<Asked, ConnectionError>, place: Asked) -> bool {
 
 /// The frame of a message that was made.
 pub fn frame(alloc: Global, message: Result<Message, NoMemory>) -> Result<Vec<u8>, NoMemory> {
-    match &message {
-        Ok(message) => match message.to_frame(alloc) {
-            Ok(frame) => Ok(frame),
-            Err(_) => Err(NoMemory),
-        },
+    match message {
+        Ok(message) => frame_of(alloc, Box::new(alloc, message)?),
         Err(NoMemory) => Err(NoMemory),
+    }
+}
+
+fn frame_of(alloc: Global, message: Box<Message>) -> Result<Vec<u8>, NoMemory> {
+    match message.to_frame(alloc) {
+        Ok(frame) => Ok(frame),
+        Err(_) => Err(NoMemory),
     }
 }
 

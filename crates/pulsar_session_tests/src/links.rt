@@ -1,7 +1,7 @@
 //! One connection from its opening on.
 
 use crate::frames::*;
-use crate::help::{Comes, credential, is_asked, is_at, made, next_of, ready};
+use crate::help::{Comes, becomes_ready, credential, is_asked, is_at, made, next_of, ready};
 use pulsar_session::{Asked, Connection, ProducerMessage, ProducerOptions};
 use pulsar_wire::commands::topics::Mode;
 use pulsar_wire::{ConnectionError, IoKind};
@@ -19,7 +19,8 @@ fn a_connection_opens(rt: HostRuntime) -> Result<(), Fail> {
     assert!(rt; link.drain(5, 0)?.is_empty());
     let (first, rest) = CONNECTED.split_at(7);
     assert!(rt; next_of(&mut link, first, 0)? == Comes::Nothing);
-    assert!(rt; next_of(&mut link, rest, 0)? == Comes::Ready);
+    link.feed(rest)?;
+    assert!(rt; becomes_ready(&mut link));
     assert!(rt; link.is_valid() && link.error().is_none() && !link.due(20000));
     assert!(rt; link.id().is_nil() && link.url().as_str() == "pulsar://127.0.0.1:6650");
     Ok(())

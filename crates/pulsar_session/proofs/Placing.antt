@@ -1,8 +1,8 @@
 -- The frame of a place.
-use Rattle.std.proofs.Common.{◌≡◌, ◌∙◌, sym, ap, subst, refl, ℕ, zero, suc, ◌+◌, ◌-◌, ◌≤◌, ◌<◌, nat_lt, Bool, true, false, cond, List, [], ◌∷◌, ◌++◌, length, Option, Some, None, arith, length-append}
+use Rattle.std.proofs.Common.{◌≡◌, ◌∙◌, sym, ap, refl, ℕ, zero, suc, ◌-◌, ◌≤◌, nat_lt, Bool, true, false, cond, List, [], ◌∷◌, ◌++◌, length, None, arith, length-append}
 use Rattle.std.proofs.lemmas.Bool.Decides.{nat_tests}
 use Rattle.std.specs.Prelude.{slice_get}
-use Rattle.pulsar_session.specs.Link.{Act, Seen, Setup, frame_at, is_over, seen}
+use Rattle.pulsar_session.specs.Link.{Seen, frame_at, seen}
 use Rattle.pulsar_session.specs.Laws.{FrameOfPlace, frames_queued, frames_written}
 use Rattle.pulsar_session.proofs.Settled.{places_count, written_in_order}
 

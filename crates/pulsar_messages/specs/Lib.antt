@@ -1,0 +1,4 @@
+pub mod Content
+pub mod Words
+pub mod Messages
+pub mod Murmur

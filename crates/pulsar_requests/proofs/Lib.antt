@@ -1,0 +1,3 @@
+pub mod Awaiting
+pub mod Pendings
+pub mod Timed

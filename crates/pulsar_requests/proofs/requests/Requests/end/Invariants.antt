@@ -1,0 +1,7 @@
+use Rattle.std.proofs.Common.{◌≡◌, map}
+use Rattle.pulsar_requests.specs.Kept.{all_pending}
+use Rattle.pulsar_requests.specs.Waits.{places}
+use Rattle.pulsar_requests.proofs.requests.Requests.end.Given as goal
+
+abbrev pub invariant-loop-place : goal.invariant-loop-place
+invariant-loop-place l = l.places.items ≡ places (all_pending l.yielded)

@@ -1,0 +1,13 @@
+use Rattle.std.proofs.Common.{◌∙◌, ap, None, false}
+use Rattle.std.specs.Option.{option_map}
+use Rattle.pulsar_messages.specs.Messages.{command_of}
+use Rattle.pulsar_messages.specs.Words.{SendPong}
+use Rattle.pulsar_session.specs.Kept.{table}
+use Rattle.pulsar_session.specs.Link.{bare, frame_for, put_frame}
+use Rattle.pulsar_session.proofs.Asking.{surely_made}
+use Rattle.pulsar_session.proofs.link.Link.pong.Goals as goal
+
+pub returns : goal.returns
+returns c =
+    c.in_ok-put.ensures
+    ∙ ap (λ f. put_frame f false None (table c.args.self.now)) (surely_made (λ w. frame_for (bare w)) c.pong.result (option_map (λ v. v.items) c.in_ok-frame.frame) (command_of 0 SendPong) (c.pong.ensures 0) c.in_ok-frame.ensures)

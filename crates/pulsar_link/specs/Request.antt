@@ -1,5 +1,5 @@
 -- What is known of a request from its words.  (Pulsar binary protocol, Simple commands)
-use Rattle.std.specs.Prelude.{ℕ, Bool, List, Option, Some, None}
+use Rattle.std.specs.Prelude.{ℕ, Bool, Option, Some, None, ◌==◌, if◌then◌else◌}
 use Rattle.std.specs.Option.{is_some}
 use Rattle.pulsar_frame.specs.Key.{answers}
 use Rattle.pulsar_messages.specs.Messages.{body_of}
@@ -10,9 +10,12 @@ use Rattle.pulsar_link.specs.declared.content.Subscribed.{Subscribed}
 abbrev pub request_number : Words → ℕ
 request_number words = (body_of 0 words).number
 
--- a request with the body of this number has an answer, as the table of pulsar_frame says
+-- the body that answers the body of this number: a pong a ping, and the others as the table of pulsar_frame says
+abbrev pub answer_of : (request : ℕ) → Option ℕ
+answer_of request = if request == 18 then Some 19 else answers request
+
 abbrev pub is_answered : (request : ℕ) → Bool
-is_answered request = is_some (answers request)
+is_answered request = is_some (answer_of request)
 
 -- the consumer that it closes, by its number
 abbrev pub closed_consumer : Words → Option ℕ

@@ -9,14 +9,18 @@ use Rattle.pulsar_session.specs.declared.states.Stage.{Stage}
 use Rattle.pulsar_session.specs.declared.states.Stage.TheVariants.{Dialing, Handshaking, Ready, Over}
 use Rattle.pulsar_session.specs.Failures.{Fault, Io, Disconnected}
 use Rattle.pulsar_session.specs.Link as session
-use Rattle.pulsar_session.specs.Link.{Act, Opens as OpensIt, Takes, Drains as DrainsIt, Closes, Came, Nothing, Readied, Settles, Gives, Challenged, Dropped, Bad, Seen, came, due, ends, frame_at, written}
+use Rattle.pulsar_session.specs.Link.{Act, Takes, Closes, Came, Seen, came, due, ends, frame_at, written}
+use Rattle.pulsar_link.specs.Messages.{read}
+use Rattle.pulsar_client.specs.declared.act.Arrival.{Arrival}
+use Rattle.pulsar_client.specs.declared.act.Arrival.TheVariants.{Nothing, Readied, Settles, Gives, Passes, Bad}
 use Rattle.pulsar_client.specs.declared.act.End.{End}
 use Rattle.pulsar_client.specs.declared.act.End.TheVariants.{Unopened, Lost, Overdue, Broken, Stops}
 use Rattle.pulsar_client.specs.declared.act.LinkAct.{LinkAct}
 use Rattle.pulsar_client.specs.declared.act.LinkAct.TheVariants.{Opens, Reads, Drains, Ends}
 use Rattle.pulsar_client.specs.declared.effect.Settlement.{Settlement}
 use Rattle.pulsar_client.specs.declared.effect.Settlement.TheVariants as settlement
-use Rattle.pulsar_client.specs.Content.{Shown, Queued, Write, Settles as Settled, Close}
+use Rattle.pulsar_client.specs.Content as content
+use Rattle.pulsar_client.specs.Content.{Shown, Queued, Write, Close}
 
 -- THE CALL OF THE CONNECTION
 
@@ -36,9 +40,9 @@ closed_by (Broken cause) now s = Some cause
 closed_by Stops now s = Some Disconnected
 
 abbrev pub call_of : LinkAct → (now : ℕ) → Seen → Option Act
-call_of Opens now s = Some (OpensIt now)
+call_of Opens now s = Some (session.Opens now)
 call_of Reads now s = Some (Takes now)
-call_of (Drains most) now s = Some (DrainsIt most now)
+call_of (Drains most) now s = Some (session.Drains most now)
 call_of (Ends end) now s = option_map Closes (closed_by end now s)
 
 abbrev pub called : Option Act → Seen → Seen
@@ -49,21 +53,33 @@ called (Some act) s = session.after act s
 abbrev pub after : LinkAct → (now : ℕ) → Seen → Seen
 after x now s = called (call_of x now s) s
 
--- WHAT IT SETTLES: places, each with how its request is settled
+-- WHAT CAME: what the frame in front is to the client
 
-abbrev pub replied : ℕ → ℕ × Settlement
-replied place = (place, settlement.Reply)
+abbrev pub arrives : Came → Arrival
+arrives session.Nothing = Nothing
+arrives session.Readied = Readied
+arrives (session.Settles places reply) = Settles
+arrives (session.Gives consumer reply) = Gives consumer (read reply)
+arrives session.Challenged = Passes
+arrives session.Dropped = Passes
+arrives (session.Bad cause) = Bad cause
 
-abbrev pub settled_in : Came → List (ℕ × Settlement)
-settled_in Nothing = []
-settled_in Readied = []
-settled_in (Settles places reply) = map replied places
-settled_in (Gives consumer reply) = []
-settled_in Challenged = []
-settled_in Dropped = []
-settled_in (Bad cause) = []
+abbrev pub arrival : Seen → Arrival
+arrival s = arrives (came s)
 
--- at a deadline those that are overdue time out, but for those that were asked for since the moment came
+-- the places of the requests that it settles
+abbrev pub settled_in : Came → List ℕ
+settled_in session.Nothing = []
+settled_in session.Readied = []
+settled_in (session.Settles places reply) = places
+settled_in (session.Gives consumer reply) = []
+settled_in session.Challenged = []
+settled_in session.Dropped = []
+settled_in (session.Bad cause) = []
+
+-- AN END
+
+-- at a deadline those requests time out that are overdue, but for those that were asked for since the moment came; all others are lost
 abbrev pub times_out : End → (now : ℕ) → Seen → (place : ℕ) → Bool
 times_out (Unopened kind) now s place = false
 times_out Lost now s place = false
@@ -74,19 +90,13 @@ times_out Stops now s place = false
 abbrev pub lost_so : (is_timed_out : Bool) → Settlement
 lost_so is_timed_out = if is_timed_out then settlement.TimedOut else settlement.Disconnected
 
-abbrev pub lost : End → (now : ℕ) → Seen → ℕ → ℕ × Settlement
-lost end now s place = (place, lost_so (times_out end now s place))
-
--- where a link ends, all that wait on it
-abbrev pub ended_places : Option Fault → Seen → List ℕ
-ended_places None s = []
-ended_places (Some cause) s = ends s
-
-abbrev pub settled : LinkAct → (now : ℕ) → Seen → List (ℕ × Settlement)
-settled Opens now s = []
-settled Reads now s = settled_in (came s)
-settled (Drains most) now s = []
-settled (Ends end) now s = map (lost end now s) (ended_places (closed_by end now s) s)
+-- the client closes the connection itself, unless it never was open or is lost
+abbrev pub is_own_end : End → Bool
+is_own_end (Unopened kind) = false
+is_own_end Lost = false
+is_own_end (Overdue below) = true
+is_own_end (Broken cause) = true
+is_own_end Stops = true
 
 -- FRAMES
 
@@ -103,10 +113,6 @@ new_places s s' = places_from s.waits.queued (s'.waits.queued - s.waits.queued)
 abbrev pub line_places : Seen → List ℕ
 line_places s = places_from s.waits.queued (length s.line)
 
-abbrev pub dropped_places : Option Fault → Seen → List ℕ
-dropped_places None s = []
-dropped_places (Some cause) s = line_places s
-
 -- WHAT BECOMES OF A LINK
 
 pub data Change : Type 0 where
@@ -114,13 +120,12 @@ pub data Change : Type 0 where
   Becomes : Change
   IsOver : Change
 
-abbrev pub change_in : Came → Change
+abbrev pub change_in : Arrival → Change
 change_in Nothing = Remains
 change_in Readied = Becomes
-change_in (Settles places reply) = Remains
+change_in Settles = Remains
 change_in (Gives consumer reply) = Remains
-change_in Challenged = Remains
-change_in Dropped = Remains
+change_in Passes = Remains
 change_in (Bad cause) = Remains
 
 abbrev pub change_at : Option Fault → Change
@@ -129,49 +134,39 @@ change_at (Some cause) = IsOver
 
 abbrev pub change : LinkAct → (now : ℕ) → Seen → Change
 change Opens now s = Remains
-change Reads now s = change_in (came s)
+change Reads now s = change_in (arrival s)
 change (Drains most) now s = Remains
 change (Ends end) now s = change_at (closed_by end now s)
 
 -- EFFECTS
 
--- the bytes of the frames that are written are joined
-abbrev pub write : ℕ → List ℕ → List Shown
-write l [] = []
-write l (b ∷ bytes) = Write l (b ∷ bytes) ∷ []
-
-abbrev pub writes : ℕ → LinkAct → Seen → List Shown
-writes l Opens s = []
-writes l Reads s = []
-writes l (Drains most) s = write l (flat_map (λ f. f) (written most s))
-writes l (Ends end) s = []
-
-abbrev pub settles : ℕ → ℕ × Settlement → Shown
-settles l p = Settled l p.0 p.1
+abbrev pub settles : ℕ → Settlement → ℕ → Shown
+settles l how place = content.Settles l place how
 
 abbrev pub queues_at : ℕ → Seen → ℕ → Option Shown
 queues_at l s place = option_map (Queued l place) (frame_at place s)
 
+-- the frames that were queued between
 abbrev pub queues : ℕ → (before after : Seen) → List Shown
 queues l s s' = filter_map (queues_at l s') (new_places s s')
 
--- the client closes the connection itself, unless it never was open or is lost
-abbrev pub is_own_end : End → Bool
-is_own_end (Unopened kind) = false
-is_own_end Lost = false
-is_own_end (Overdue below) = true
-is_own_end (Broken cause) = true
-is_own_end Stops = true
+-- the bytes of the frames that are written, joined
+abbrev pub write : ℕ → List ℕ → List Shown
+write l [] = []
+write l (b ∷ bytes) = Write l (b ∷ bytes) ∷ []
 
-abbrev pub closes_by : ℕ → End → Option Fault → List Shown
-closes_by l end None = []
-closes_by l end (Some cause) = if is_own_end end then Close l ∷ [] else []
+abbrev pub close : ℕ → (is_own : Bool) → List Shown
+close l is_own = if is_own then Close l ∷ [] else []
 
-abbrev pub closes : ℕ → LinkAct → (now : ℕ) → Seen → List Shown
-closes l Opens now s = []
-closes l Reads now s = []
-closes l (Drains most) now s = []
-closes l (Ends end) now s = closes_by l end (closed_by end now s)
+abbrev pub lost : ℕ → End → (now : ℕ) → Seen → ℕ → Shown
+lost l end now s place = settles l (lost_so (times_out end now s place)) place
+
+abbrev pub ended : ℕ → End → (now : ℕ) → Option Fault → Seen → List Shown
+ended l end now None s = []
+ended l end now (Some cause) s = map (lost l end now s) (ends s) ++ close l (is_own_end end)
 
 abbrev pub effects : ℕ → LinkAct → (now : ℕ) → Seen → List Shown
-effects l x now s = writes l x s ++ (map (settles l) (settled x now s) ++ (queues l s (after x now s) ++ closes l x now s))
+effects l Opens now s = queues l s (after Opens now s)
+effects l Reads now s = map (settles l settlement.Reply) (settled_in (came s)) ++ queues l s (after Reads now s)
+effects l (Drains most) now s = write l (flat_map (λ f. f) (written most s)) ++ queues l s (after (Drains most) now s)
+effects l (Ends end) now s = ended l end now (closed_by end now s) s

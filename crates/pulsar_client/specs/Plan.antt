@@ -2,15 +2,13 @@
 -- the other. Each leads to the next state, with the action that is done there, or gives the verdict: the answer, and what the call leaves
 -- behind.  (Pulsar binary protocol, Producer; Consumer; Keep alive: what answers a request)
 use Rattle.std.specs.Prelude.{ℕ, Bool, List, [], ◌∷◌, Option, Some, None, codes, ◌==◌, if◌then◌else◌, string_bytes}
-use Rattle.std.specs.Option.{is_some}
 use Rattle.pulsar_wire.specs.declared.error.IoKind.TheVariants as io_kind
-use Rattle.pulsar_frame.specs.Key.{answers}
 use Rattle.pulsar_messages.specs.Words.{Words}
 use Rattle.pulsar_session.specs.Failures.{Failure, Fault, Io, Disconnected, Canceled, Shutdown, OfConnection, NotFound, Custom}
 use Rattle.pulsar_link.specs.declared.content.Subscribed.{Subscribed}
 use Rattle.pulsar_link.specs.Messages.{Reply, Written, is_number}
 use Rattle.pulsar_link.specs.Refusals.{refused}
-use Rattle.pulsar_link.specs.Request.{request_number, subscribed}
+use Rattle.pulsar_link.specs.Request.{answer_of, is_answered, request_number, subscribed}
 use Rattle.pulsar_client.specs.declared.act.Action.{Action}
 use Rattle.pulsar_client.specs.declared.act.Action.TheVariants.{Get, Ask, StopAll, Rest}
 use Rattle.pulsar_client.specs.declared.act.Makes.{Makes}
@@ -36,19 +34,13 @@ use Rattle.pulsar_client.specs.Content.{Said, Done, Names, Receipt, Replies, Fai
 
 -- WHAT A REPLY SAYS
 
--- the body that the body of a request expects, by their numbers: a ping expects a pong
-abbrev pub expected : (request : ℕ) → Option ℕ
-expected request = if request == 18 then Some 19 else answers request
-
-abbrev pub has_reply : (request : ℕ) → Bool
-has_reply request = is_some (expected request)
-
+-- the body of a reply is the one that the body of a request expects, by their numbers
 abbrev pub is_some_number : Option ℕ → Option Written → Bool
 is_some_number None body = false
 is_some_number (Some n) body = is_number n body
 
 abbrev pub is_answer : (request : ℕ) → Option Written → Bool
-is_answer request body = is_some_number (expected request) body
+is_answer request body = is_some_number (answer_of request) body
 
 -- topics by their names, where that is what is asked for, and else by the body that tells them
 abbrev pub topics_said : Says → Reply → Written → Said
@@ -114,11 +106,11 @@ asks link request s = Stays (Asking (wanted link request s)) (Ask link request)
 
 -- its frame is queued: its reply is waited for, where it has one
 abbrev pub waits : Wanted → Turn Plan Verdict
-waits w = if has_reply w.number then Stays (Awaiting w) Rest else Gives (verdict Nothing Done)
+waits w = if is_answered w.number then Stays (Awaiting w) Rest else Gives (verdict Nothing Done)
 
 -- its frame stands in the line: that it is queued is waited for, where it has a reply
 abbrev pub stands : Wanted → Turn Plan Verdict
-stands w = if has_reply w.number then Stays (Asking w) Rest else Gives (verdict Nothing Done)
+stands w = if is_answered w.number then Stays (Asking w) Rest else Gives (verdict Nothing Done)
 
 abbrev pub replied : Wanted → Reply → Verdict
 replied w r = verdict (if is_answer w.number r.body then w.makes else Nothing) (reply_says w.says w.number r)

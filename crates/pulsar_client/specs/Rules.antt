@@ -11,12 +11,15 @@ use Rattle.pulsar_messages.specs.Words.{Words}
 use Rattle.pulsar_session.specs.declared.states.Asked.{Asked}
 use Rattle.pulsar_session.specs.declared.states.Asked.TheVariants as asked
 use Rattle.pulsar_session.specs.Failures.{Fault, Exhausted, fault}
-use Rattle.pulsar_session.specs.Link.{Came, Nothing, Readied, Settles, Gives as GivesTo, Challenged, Dropped, Bad, Seen, came, due, ends, is_spent}
+use Rattle.pulsar_session.specs.Link as session
+use Rattle.pulsar_session.specs.Link.{Came, Seen, came, due, ends, is_spent}
 use Rattle.pulsar_link.specs.Messages.{read}
 use Rattle.pulsar_client.specs.declared.act.Act.{Act}
 use Rattle.pulsar_client.specs.declared.act.Act.TheVariants.{Comes, Starts, Told, Does, Answers, Dials}
 use Rattle.pulsar_client.specs.declared.act.Action.{Action}
 use Rattle.pulsar_client.specs.declared.act.Action.TheVariants.{Get, Ask, StopAll, Rest}
+use Rattle.pulsar_client.specs.declared.act.Arrival.{Arrival}
+use Rattle.pulsar_client.specs.declared.act.Arrival.TheVariants.{Nothing, Readied, Settles, Gives as GivesTo, Passes, Bad}
 use Rattle.pulsar_client.specs.declared.act.End.{End}
 use Rattle.pulsar_client.specs.declared.act.End.TheVariants.{Unopened, Lost, Overdue, Broken, Stops}
 use Rattle.pulsar_client.specs.declared.act.LinkAct.{LinkAct}
@@ -43,7 +46,7 @@ use Rattle.pulsar_client.specs.declared.plans.plan.Turn.TheVariants.{Stays, Give
 use Rattle.pulsar_client.specs.Address.{Address}
 use Rattle.pulsar_client.specs.Content as content
 use Rattle.pulsar_client.specs.Content.{Asked as Asking, Heard, Called, Opened, FailedToOpen, Bytes, Lost as Loses, Drain, Ticked, Poll}
-use Rattle.pulsar_client.specs.Links.{closed_by, dropped_places, ended_places, new_places, times_out}
+use Rattle.pulsar_client.specs.Links.{Change, Remains, Becomes, IsOver, arrival, change_in, closed_by, line_places, new_places, times_out}
 use Rattle.pulsar_client.specs.Links as links
 use Rattle.pulsar_client.specs.Plan.{begins, fails}
 use Rattle.pulsar_client.specs.View.{Base, Chosen, Links, Seat, Tickets, View, answer_at, is_live, told_some}
@@ -147,18 +150,17 @@ performs v who StopAll = stops who v.links
 performs v who Rest = []
 
 -- a link on which something bad came ends with that
-abbrev pub breaks_at : ℕ → Came → List Act
+abbrev pub breaks_at : ℕ → Arrival → List Act
 breaks_at l Nothing = []
 breaks_at l Readied = []
-breaks_at l (Settles places reply) = []
+breaks_at l Settles = []
 breaks_at l (GivesTo consumer reply) = []
-breaks_at l Challenged = []
-breaks_at l Dropped = []
+breaks_at l Passes = []
 breaks_at l (Bad cause) = Comes (ToLink l (Ends (Broken cause))) ∷ []
 
 abbrev pub breaks : ℕ → Option Seat → List Act
 breaks l None = []
-breaks l (Some seat) = breaks_at l (came seat.seen)
+breaks l (Some seat) = breaks_at l (arrival seat.seen)
 
 abbrev pub at_once : View → Act → List Act
 at_once v (Comes (Calls asked)) = called v.chosen v.calls asked
@@ -171,18 +173,17 @@ at_once v _ = []
 -- FURTHER PARTS
 
 -- behind each frame that came, and all that arises from it, the next is read
-abbrev pub reads_on : ℕ → Came → List Part
+abbrev pub reads_on : ℕ → Arrival → List Part
 reads_on l Nothing = []
 reads_on l Readied = ToLink l Reads ∷ []
-reads_on l (Settles places reply) = ToLink l Reads ∷ []
+reads_on l Settles = ToLink l Reads ∷ []
 reads_on l (GivesTo consumer reply) = ToLink l Reads ∷ []
-reads_on l Challenged = ToLink l Reads ∷ []
-reads_on l Dropped = ToLink l Reads ∷ []
+reads_on l Passes = ToLink l Reads ∷ []
 reads_on l (Bad cause) = []
 
 abbrev pub reads_at : ℕ → Option Seat → List Part
 reads_at l None = []
-reads_at l (Some seat) = reads_on l (came seat.seen)
+reads_at l (Some seat) = reads_on l (arrival seat.seen)
 
 abbrev pub further : View → Act → List Part
 further v (Comes (ToLink l Reads)) = reads_at l (v.links.live l)
@@ -204,15 +205,21 @@ joins v a = []
 abbrev pub tells_asker : (ℕ → Outcome) → (ℕ → Option Who) → ℕ → Option Notice
 tells_asker says askers place = option_map (λ who. notice who (says place)) (askers place)
 
--- those whose requests a frame settles, or who wait for the address as its link becomes ready
-abbrev pub read_by : ℕ → Came → (ℕ → Option Who) → Base → List Notice
-read_by l Nothing askers b = []
-read_by l Readied askers b = map (λ who. notice who (outcome.GotLink l)) b.waiting
-read_by l (Settles places reply) askers b = filter_map (tells_asker (λ place. outcome.Replied (read reply)) askers) places
-read_by l (GivesTo consumer reply) askers b = []
-read_by l Challenged askers b = []
-read_by l Dropped askers b = []
-read_by l (Bad cause) askers b = []
+-- those whose requests a frame settles
+abbrev pub answered_by : Came → (ℕ → Option Who) → List Notice
+answered_by session.Nothing askers = []
+answered_by session.Readied askers = []
+answered_by (session.Settles places reply) askers = filter_map (tells_asker (λ place. outcome.Replied (read reply)) askers) places
+answered_by (session.Gives consumer reply) askers = []
+answered_by session.Challenged askers = []
+answered_by session.Dropped askers = []
+answered_by (session.Bad cause) askers = []
+
+-- those who wait for the address, as its link becomes ready
+abbrev pub served_by : ℕ → Change → List Who → List Notice
+served_by l Remains ws = []
+served_by l Becomes ws = map (λ who. notice who (outcome.GotLink l)) ws
+served_by l IsOver ws = []
 
 -- what those are told whose requests end with a link: that they timed out, or are lost
 abbrev pub lost_so : (is_timed_out : Bool) → Outcome
@@ -254,7 +261,7 @@ abbrev pub ended_with : End → (now : ℕ) → Option Fault → Seen → (ℕ �
 ended_with end now None s askers b = []
 ended_with end now (Some cause) s askers b =
     filter_map (tells_asker (lost end now s) askers) (ends s)
-    ++ (filter_map (tells_asker (λ place. dropped end) askers) (links.line_places s) ++ failed_at end b.series b.waiting)
+    ++ (filter_map (tells_asker (λ place. dropped end) askers) (line_places s) ++ failed_at end b.series b.waiting)
 
 -- those whom one act serves are one cause, if there are any
 abbrev pub opens : List Notice → List (List Notice)
@@ -267,7 +274,7 @@ moves askers place = option_map (λ n. n ∷ []) (tells_asker (λ p. outcome.Que
 
 abbrev pub caused : ℕ → LinkAct → (now : ℕ) → Seat → Base → List (List Notice)
 caused l link.Opens now seat b = []
-caused l Reads now seat b = opens (read_by l (came seat.seen) seat.askers b)
+caused l Reads now seat b = opens (answered_by (came seat.seen) seat.askers ++ served_by l (change_in (arrival seat.seen)) b.waiting)
 caused l (Drains most) now seat b = filter_map (moves seat.askers) (new_places seat.seen (links.after (Drains most) now seat.seen))
 caused l (Ends end) now seat b = opens (ended_with end now (closed_by end now seat.seen) seat.seen seat.askers b)
 

@@ -1,16 +1,16 @@
 -- Raw consumers: each is made by a raw call to subscribe that succeeds. What it hears, and what its polls give.
 -- (Pulsar binary protocol, Consumer)
-use Rattle.std.specs.Prelude.{ℕ, Bool, true, false, List, [], ◌∷◌, ◌++◌, drop, Option, Some, None, Result, Ok, Err, ◌==◌, ◌&&◌, ◌||◌, not, if◌then◌else◌}
-use Rattle.pulsar_wire.specs.declared.error.ConnectionError.{ConnectionError}
-use Rattle.pulsar_session.specs.declared.states.Asked.{Asked}
+use Rattle.std.specs.Prelude.{ℕ, Bool, true, false, List, [], ◌∷◌, ◌++◌, drop, Option, Some, None, ◌==◌, ◌&&◌, ◌||◌, not, if◌then◌else◌}
 use Rattle.pulsar_session.specs.Failures.{Fault}
-use Rattle.pulsar_session.specs.Link.{Came, Nothing, Readied, Settles, Gives, Challenged, Dropped, Bad, Seen, came}
+use Rattle.pulsar_session.specs.Link.{Seen}
 use Rattle.pulsar_link.specs.Items.{Item, Given, Faulty}
-use Rattle.pulsar_link.specs.Messages.{Reply, is_number, read}
+use Rattle.pulsar_link.specs.Messages.{Reply, is_number}
+use Rattle.pulsar_client.specs.declared.act.Arrival.{Arrival}
+use Rattle.pulsar_client.specs.declared.act.Arrival.TheVariants.{Nothing, Readied, Settles, Gives, Passes, Bad}
 use Rattle.pulsar_client.specs.declared.act.LinkAct.{LinkAct}
 use Rattle.pulsar_client.specs.declared.act.LinkAct.TheVariants.{Opens, Reads, Drains, Ends}
 use Rattle.pulsar_client.specs.Content.{Shown, Hands, Faults, FindsNothing, FindsEnd}
-use Rattle.pulsar_client.specs.Links.{closed_by}
+use Rattle.pulsar_client.specs.Links.{arrival, closed_by}
 
 -- A raw consumer: the link and the number that its messages bear, the name of its topic, whether it still hears, and the
 -- items that it has not given yet, in order.
@@ -40,13 +40,12 @@ abbrev pub after_frame : Reply → Subscription → Subscription
 after_frame r s = record s { is_live = not (is_last r); unread = s.unread ++ r.items }
 
 -- after what comes to its link; a close of the broker that answers a request is for that
-abbrev pub after_came : Came → Subscription → Subscription
+abbrev pub after_came : Arrival → Subscription → Subscription
 after_came Nothing s = s
 after_came Readied s = s
-after_came (Settles places reply) s = s
-after_came (Gives consumer reply) s = if consumer == s.number then after_frame (read reply) s else s
-after_came Challenged s = s
-after_came Dropped s = s
+after_came Settles s = s
+after_came (Gives consumer reply) s = if consumer == s.number then after_frame reply s else s
+after_came Passes s = s
 after_came (Bad cause) s = s
 
 -- it hears no more from the end of its link on
@@ -56,7 +55,7 @@ after_end (Some cause) s = ended s
 
 abbrev pub after_own : LinkAct → (now : ℕ) → Seen → Subscription → Subscription
 after_own Opens now v s = s
-after_own Reads now v s = after_came (came v) s
+after_own Reads now v s = after_came (arrival v) s
 after_own (Drains most) now v s = s
 after_own (Ends end) now v s = after_end (closed_by end now v) s
 
@@ -72,9 +71,8 @@ abbrev pub closes_it : Option ℕ → ℕ → Bool
 closes_it None number = false
 closes_it (Some closed) number = closed == number
 
-abbrev pub closed_at : (link : ℕ) → Option ℕ → Result Asked ConnectionError → Subscription → Subscription
-closed_at l closed (Ok asked) s = if closes_it closed s.number && is_heard_on l s then ended s else s
-closed_at l closed (Err e) s = s
+abbrev pub closed_at : (link : ℕ) → Option ℕ → (is_asked : Bool) → Subscription → Subscription
+closed_at l closed is_asked s = if is_asked && (closes_it closed s.number && is_heard_on l s) then ended s else s
 
 -- POLLS
 

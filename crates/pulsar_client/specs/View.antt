@@ -11,13 +11,15 @@ use Rattle.pulsar_session.specs.declared.states.Asked.{Asked}
 use Rattle.pulsar_session.specs.declared.states.Asked.TheVariants as asked
 use Rattle.pulsar_session.specs.declared.states.Stage.{Stage}
 use Rattle.pulsar_session.specs.declared.states.Stage.TheVariants.{Dialing}
+use Rattle.pulsar_session.specs.Failures.{Fault}
 use Rattle.pulsar_session.specs.Link as session
-use Rattle.pulsar_session.specs.Link.{Asks, Feeds, Seen, Setup, is_open, is_over, is_spent}
-use Rattle.pulsar_link.specs.Request.{closed_consumer, request_number}
+use Rattle.pulsar_session.specs.Link.{Asks, Feeds, Seen, Setup, came, is_open, is_spent}
+use Rattle.pulsar_link.specs.Request.{closed_consumer, is_answered, request_number}
 use Rattle.pulsar_client.specs.declared.act.Act.{Act}
 use Rattle.pulsar_client.specs.declared.act.Act.TheVariants.{Comes, Starts, Told, Does, Answers, Dials}
 use Rattle.pulsar_client.specs.declared.act.Action.TheVariants.{Get, Ask, StopAll}
 use Rattle.pulsar_client.specs.declared.act.LinkAct.{LinkAct}
+use Rattle.pulsar_client.specs.declared.act.LinkAct.TheVariants.{Opens, Reads, Drains, Ends}
 use Rattle.pulsar_client.specs.declared.act.Makes.{Makes}
 use Rattle.pulsar_client.specs.declared.act.Makes.TheVariants.{Nothing, Client, Consumer}
 use Rattle.pulsar_client.specs.declared.act.Outcome.{Outcome}
@@ -25,7 +27,6 @@ use Rattle.pulsar_client.specs.declared.act.Part.TheVariants.{Calls, ToLink, Pol
 use Rattle.pulsar_client.specs.declared.act.Verdict.{Verdict}
 use Rattle.pulsar_client.specs.declared.act.Who.{Who}
 use Rattle.pulsar_client.specs.declared.act.Who.TheVariants.{Call}
-use Rattle.pulsar_client.specs.declared.effect.Settlement.{Settlement}
 use Rattle.pulsar_client.specs.declared.base.Series.{Series}
 use Rattle.pulsar_client.specs.declared.base.Series.TheVariants.{Nobody, Runs, Serves}
 use Rattle.pulsar_client.specs.declared.plans.plan.Plan.{Plan}
@@ -33,9 +34,9 @@ use Rattle.pulsar_client.specs.declared.plans.plan.Turn.{Turn}
 use Rattle.pulsar_client.specs.declared.plans.plan.Turn.TheVariants.{Stays, Gives}
 use Rattle.pulsar_client.specs.Address.{Address}
 use Rattle.pulsar_client.specs.Content.{Heard, Called, Opened, FailedToOpen, Bytes, Lost, Drain, Ticked, Poll}
-use Rattle.pulsar_client.specs.Links.{Change, Remains, Becomes, IsOver, change, settled}
+use Rattle.pulsar_client.specs.Links.{Change, Remains, Becomes, IsOver, change, closed_by, settled_in}
 use Rattle.pulsar_client.specs.Links as links
-use Rattle.pulsar_client.specs.Plan.{begins, has_reply, told}
+use Rattle.pulsar_client.specs.Plan.{begins, told}
 use Rattle.pulsar_client.specs.Subscriptions.{Subscription, after_poll, closed_at, fresh, hears}
 use Rattle.pulsar_client.specs.Who.{is_same}
 
@@ -210,19 +211,20 @@ seat_dialed s = record { seen = session.fresh s; askers = λ place. None }
 abbrev pub dialed : Chosen → (now : ℕ) → Option Seat
 dialed o now = option_map (λ address. seat_dialed (setup o now address)) o.address
 
--- a link is forgotten where it has ended
-abbrev pub unless_over : Seat → Option Seat
-unless_over seat = if is_over seat.seen.stage then None else Some seat
-
 -- those whose requests are settled are no askers any more
-abbrev pub is_settled : List (ℕ × Settlement) → ℕ → Bool
-is_settled ps place = list_any (λ p. p.0 == place) ps
+abbrev pub askers_left : (settled : List ℕ) → (ℕ → Option Who) → ℕ → Option Who
+askers_left settled askers place = if list_any (λ p. p == place) settled then None else askers place
 
-abbrev pub askers_left : List (ℕ × Settlement) → (ℕ → Option Who) → ℕ → Option Who
-askers_left ps askers place = if is_settled ps place then None else askers place
+-- a link is forgotten where it ends
+abbrev pub took_end : Option Fault → Seat → Option Seat
+took_end None seat = Some seat
+took_end (Some cause) seat = None
 
 abbrev pub took : LinkAct → (now : ℕ) → Seat → Option Seat
-took x now seat = unless_over (record { seen = links.after x now seat.seen; askers = askers_left (settled x now seat.seen) seat.askers })
+took Opens now seat = Some (record { seen = links.after Opens now seat.seen; askers = seat.askers })
+took Reads now seat = Some (record { seen = links.after Reads now seat.seen; askers = askers_left (settled_in (came seat.seen)) seat.askers })
+took (Drains most) now seat = Some (record { seen = links.after (Drains most) now seat.seen; askers = seat.askers })
+took (Ends end) now seat = took_end (closed_by end now seat.seen) seat
 
 abbrev pub took_some : LinkAct → (now : ℕ) → Option Seat → Option Seat
 took_some x now None = None
@@ -233,20 +235,25 @@ abbrev pub answer_at : (now : ℕ) → Words → Option Seat → Result Asked Co
 answer_at now request None = Err error.Disconnected
 answer_at now request (Some seat) = session.asked now request seat.seen
 
--- who asks for a frame that has a reply is the asker of its place
-abbrev pub asker_of : (has_reply : Bool) → Who → (place : ℕ) → (ℕ → Option Who) → ℕ → Option Who
-asker_of has_reply who place askers p = if has_reply then (if p == place then Some who else askers p) else askers p
+-- it is asked for, be it queued or in the line
+abbrev pub is_asked : Result Asked ConnectionError → Bool
+is_asked (Ok asked) = true
+is_asked (Err e) = false
 
-abbrev pub askers_after : (has_reply : Bool) → Who → Result Asked ConnectionError → (ℕ → Option Who) → ℕ → Option Who
-askers_after has_reply who (Ok (asked.Queued place)) askers p = asker_of has_reply who place askers p
-askers_after has_reply who (Ok (asked.Waiting place)) askers p = asker_of has_reply who place askers p
-askers_after has_reply who (Err e) askers p = askers p
+-- who asks for a frame that has a reply is the asker of its place
+abbrev pub asker_of : (is_asker : Bool) → Who → (place : ℕ) → (ℕ → Option Who) → ℕ → Option Who
+asker_of is_asker who place askers p = if is_asker then (if p == place then Some who else askers p) else askers p
+
+abbrev pub askers_after : (is_asker : Bool) → Who → Result Asked ConnectionError → (ℕ → Option Who) → ℕ → Option Who
+askers_after is_asker who (Ok (asked.Queued place)) askers p = asker_of is_asker who place askers p
+askers_after is_asker who (Ok (asked.Waiting place)) askers p = asker_of is_asker who place askers p
+askers_after is_asker who (Err e) askers p = askers p
 
 abbrev pub seat_asked : Who → (now : ℕ) → Words → Seat → Seat
 seat_asked who now request seat =
     record {
       seen = session.after (Asks now request) seat.seen;
-      askers = askers_after (has_reply (request_number request)) who (session.asked now request seat.seen) seat.askers;
+      askers = askers_after (is_answered (request_number request)) who (session.asked now request seat.seen) seat.askers;
     }
 
 abbrev pub live_after : Chosen → (now started : ℕ) → Act → ℕ → Option Seat → Option Seat
@@ -297,7 +304,7 @@ hears_some l x now (Some seat) s = hears l x now seat.seen s
 
 -- and where their own close is asked for
 abbrev pub hears_ask : (link now : ℕ) → Words → Option Seat → Subscription → Subscription
-hears_ask l now request row s = closed_at l (closed_consumer request) (answer_at now request row) s
+hears_ask l now request row s = closed_at l (closed_consumer request) (is_asked (answer_at now request row)) s
 
 -- the consumer that a verdict makes has the ticket of its call
 abbrev pub made : Who → Makes → ℕ → Option Subscription → Option Subscription

@@ -148,6 +148,23 @@ pub enum LinkAct {
     Ends(End),
 }
 
+/// What the next frame of a link is.
+#[derive(Drop)]
+pub enum Arrival {
+    /// There is none.
+    Nothing,
+    /// It was the first: the link is ready.
+    Readied,
+    /// It settles requests.
+    Settles,
+    /// It is for the consumers of this number.
+    Gives { consumer: u64, reply: Received },
+    /// Nobody is told of it.
+    Passes,
+    /// It is bad: the link is to end with this cause.
+    Bad(Cause),
+}
+
 /// What an event brings. Each part comes where nothing is left of the one before.
 #[derive(Drop)]
 pub enum Part {

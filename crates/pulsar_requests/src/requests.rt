@@ -299,6 +299,17 @@ impl Requests {
         self.waiters.is_empty()
     }
 
+    /// The places of those that wait.
+    pub fn places(&self) -> Result<Vec<u64>, NoMemory>
+        ensures { IfOk result (λ ps. ps.items ≡ places self.now.waiting) }
+    {
+        let mut places = Vec::new(self.alloc);
+        for (place, _) in &self.waiters {
+            places.push(*place)?;
+        }
+        Ok(places)
+    }
+
     /// A request is due.
     pub fn any_due(&self, now: u64) -> bool
         ensures { result ≡ any_due now self.now }

@@ -191,6 +191,13 @@ impl Connection {
         self.link.stage
     }
 
+    /// The places of the requests that wait.
+    pub fn waiting(&self) -> Result<Vec<u64>, NoMemory>
+        ensures { IfOk result (λ ps. ps.items ≡ ends self.now) }
+    {
+        self.link.waiting()
+    }
+
     /// No request of it waits for an answer.
     pub fn is_idle(&self) -> bool
         ensures { result ≡ is_empty self.now.waits.waiting }

@@ -424,6 +424,16 @@ impl Link {
         }
     }
 
+    /// The places of those that wait, and would wait no longer if it ended.
+    pub fn waiting(&self) -> Result<Vec<u64>, NoMemory>
+        ensures { IfOk result (λ ps. ps.items ≡ ends (table self.now)) }
+    {
+        match self.stage {
+            Stage::Over => Ok(Vec::new(self.alloc)),
+            Stage::Dialing | Stage::Handshaking | Stage::Ready => self.requests.places(),
+        }
+    }
+
     /// It was dialed for too long.
     fn is_late(&self, now: u64) -> bool
         ensures { result ≡ is_late now (table self.now) }

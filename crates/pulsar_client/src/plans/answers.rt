@@ -5,7 +5,8 @@ ghost use Rattle.pulsar_wire.specs.Views.{body_values};
 ghost use Rattle.pulsar_frame.specs.Key.{answers};
 ghost use Rattle.pulsar_link.specs.Messages.{read_body, written};
 ghost use Rattle.pulsar_client.specs.Content.{Replies};
-ghost use Rattle.pulsar_client.specs.Plan.{answer_with, expected, has_reply, is_answer, reply_says};
+ghost use Rattle.pulsar_client.specs.Plan.{answer_with, is_answer, reply_says};
+ghost use Rattle.pulsar_link.specs.Request.{answer_of, is_answered};
 
 use crate::act::Says;
 use crate::content::Said;
@@ -18,8 +19,18 @@ use pulsar_wire::commands::topics::CommandGetTopicsOfNamespaceResponse;
 use pulsar_wire::error::{Error, NoMemory};
 use std::alloc::Global;
 
-/// The number of the body that answers the body of this number.
+/// The number of the body that answers the body of this number: a pong a ping.
 fn answer_of(request: u32) -> Option<u32>
+    ensures { result ≡ answer_of request }
+{
+    match request {
+        bodies::PING => Some(bodies::PONG),
+        request => reply_of(request),
+    }
+}
+
+/// The same for all but a ping.
+fn reply_of(request: u32) -> Option<u32>
     ensures { result ≡ answers request }
 {
     match request {
@@ -40,28 +51,18 @@ fn answer_of(request: u32) -> Option<u32>
     }
 }
 
-/// The number of the body that the body of this number expects: a ping expects a pong.
-fn expected(request: u32) -> Option<u32>
-    ensures { result ≡ expected request }
-{
-    match request {
-        bodies::PING => Some(bodies::PONG),
-        request => answer_of(request),
-    }
-}
-
 /// A request with the body of this number has a reply.
-pub fn has_reply(request: u32) -> bool
-    ensures { result ≡ has_reply request }
+pub fn is_answered(request: u32) -> bool
+    ensures { result ≡ is_answered request }
 {
-    expected(request).is_some()
+    answer_of(request).is_some()
 }
 
 /// A reply has the body that answers the body of this number.
 pub fn is_answer(request: u32, reply: &Received) -> bool
     ensures { result ≡ is_answer request reply.now.body }
 {
-    match expected(request) {
+    match answer_of(request) {
         Some(answer) => reply.is(answer),
         None => false,
     }

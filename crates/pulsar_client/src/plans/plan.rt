@@ -122,7 +122,7 @@ fn makes(link: u64, subscribed: Option<Subscribed>) -> Makes
 fn waits(alloc: Global, wanted: Wanted) -> Result<Turn<Plan, Verdict>, NoMemory>
     ensures { IfOk result (λ turn. turn ≡ waits wanted) }
 {
-    if answers::has_reply(wanted.number) {
+    if answers::is_answered(wanted.number) {
         Ok(Turn::Stays(Plan::Awaiting(wanted), Action::Rest))
     } else {
         done(alloc, Makes::Nothing)
@@ -133,7 +133,7 @@ fn waits(alloc: Global, wanted: Wanted) -> Result<Turn<Plan, Verdict>, NoMemory>
 fn stands(alloc: Global, wanted: Wanted) -> Result<Turn<Plan, Verdict>, NoMemory>
     ensures { IfOk result (λ turn. turn ≡ stands wanted) }
 {
-    if answers::has_reply(wanted.number) {
+    if answers::is_answered(wanted.number) {
         Ok(Turn::Stays(Plan::Asking(wanted), Action::Rest))
     } else {
         done(alloc, Makes::Nothing)

@@ -8,6 +8,7 @@ ghost use Rattle.std.specs.BTreeSet.{contains, insert_key};
 ghost use Rattle.pulsar_wire.specs.Sink.{capped};
 ghost use Rattle.pulsar_requests.specs.Awaited.{is_same};
 ghost use Rattle.pulsar_requests.specs.Kept.{AreTimed, Taken, excuses, places_of};
+ghost use Rattle.pulsar_requests.specs.Soonest.{due_at};
 ghost use Rattle.pulsar_requests.specs.Waits.{Waits, answered_by, any_due, ended, found, is_excused, is_listed, is_overdue, later_of, named, places, told, with_next, without};
 
 use crate::awaited::{Awaited, Claim};
@@ -302,6 +303,19 @@ impl Requests {
                 None => false,
             },
             None => false,
+        }
+    }
+
+    /// The first moment at which one of those that wait is due.
+    pub fn due_at(&self) -> Option<u64>
+        ensures { result ≡ due_at self.now }
+    {
+        match self.timed.first() {
+            Some(place) => match self.waiters.get(place) {
+                Some(waiter) => Some(waiter.deadline),
+                None => None,
+            },
+            None => None,
         }
     }
 

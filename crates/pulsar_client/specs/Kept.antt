@@ -4,7 +4,7 @@ use Rattle.std.specs.BTreeMap.{BTreeMap, get}
 use Rattle.std.specs.Global.{Vec}
 use Rattle.std.specs.Option.{is_none, option_map}
 use Rattle.std.specs.Ordering.{nat_cmp}
-use Rattle.pulsar_requests.specs.Waits.{has_come}
+use Rattle.pulsar_requests.specs.Soonest.{has_come}
 use Rattle.pulsar_session.specs.Failures.{Fault}
 use Rattle.pulsar_session.specs.Link.{Seen, came, due}
 use Rattle.pulsar_client.specs.declared.act.Arrival.{Arrival}

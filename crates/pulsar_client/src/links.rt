@@ -5,7 +5,7 @@ ghost use Rattle.std.specs.Option.{option_map};
 ghost use Rattle.pulsar_client.specs.Content.{shown};
 ghost use Rattle.pulsar_client.specs.Effects.{asked_at, given_at};
 ghost use Rattle.pulsar_client.specs.Kept.{answered_on, arrival_at, change_of, ended_on, is_due, live_in, moved_on, notices_of};
-ghost use Rattle.pulsar_requests.specs.Waits.{has_come};
+ghost use Rattle.pulsar_requests.specs.Soonest.{has_come};
 ghost use Rattle.pulsar_client.specs.Rules.{due_part, over_links, stop_act, told_at};
 ghost use Rattle.pulsar_client.specs.View.{answer_at, has_ended, is_asked, is_busy, seat_asked, seat_of_fresh, seat_fed, took_some, turned};
 

@@ -1,4 +1,5 @@
 pub mod Lists
+pub mod Places
 pub mod Deliveries
 pub mod Steps
 pub mod Sorting

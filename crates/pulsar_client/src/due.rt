@@ -1,8 +1,9 @@
 //! When links are due.
 
-ghost use Rattle.std.specs.Prelude.{◌≡◌, ◌==◌, ℕ, None, IfOk, OnOk, if◌then◌else◌};
+ghost use Rattle.std.specs.Prelude.{◌≡◌, ◌==◌, ◌&&◌, ◌||◌, ℕ, true, false, None, IfOk, OnOk, if◌then◌else◌};
 ghost use Rattle.std.specs.BTreeSet.{contains};
 ghost use Rattle.std.specs.Ordering.{nat_cmp};
+ghost use Rattle.pulsar_client.specs.Due.{is_listed};
 ghost use Rattle.pulsar_requests.specs.Soonest.{has_come};
 
 use pulsar_wire::error::NoMemory;
@@ -72,11 +73,9 @@ impl DueMoments {
     }
 }
 
-fn unlist(
-    links: &mut BTreeMap<u64, BTreeSet<u64>>,
-    moment: u64,
-    link: u64,
-) -> Result<(), NoMemory> {
+fn unlist(links: &mut BTreeMap<u64, BTreeSet<u64>>, moment: u64, link: u64) -> Result<(), NoMemory>
+    ensures { OnOk result ((m l : ℕ) → is_listed links.new m l ≡ (if (m == moment) && (l == link) then false else is_listed links.old m l)) }
+{
     let Some(mut others) = links.remove(&moment) else {
         return Ok(());
     };
@@ -92,7 +91,9 @@ fn list(
     alloc: Global,
     moment: u64,
     link: u64,
-) -> Result<(), NoMemory> {
+) -> Result<(), NoMemory>
+    ensures { OnOk result ((m l : ℕ) → is_listed links.new m l ≡ (if (m == moment) && (l == link) then true else is_listed links.old m l)) }
+{
     let mut others = match links.remove(&moment) {
         Some(others) => others,
         None => BTreeSet::new(alloc),
@@ -102,7 +103,9 @@ fn list(
     Ok(())
 }
 
-fn add_all(found: &mut BTreeSet<u64>, links: &BTreeSet<u64>) -> Result<(), NoMemory> {
+fn add_all(found: &mut BTreeSet<u64>, links: &BTreeSet<u64>) -> Result<(), NoMemory>
+    ensures { OnOk result ((l : ℕ) → contains nat_cmp found.new l ≡ (contains nat_cmp found.old l || contains nat_cmp links.now l)) }
+{
     for link in links {
         found.insert(*link)?;
     }

@@ -4,10 +4,10 @@ ghost use Rattle.std.specs.Prelude.{◌≡◌, ◌==◌, ◌+◌, ◌++◌, ℕ,
 ghost use Rattle.std.specs.Option.{option_map};
 ghost use Rattle.pulsar_client.specs.Content.{shown};
 ghost use Rattle.pulsar_client.specs.Effects.{asked_at, given_at};
-ghost use Rattle.pulsar_client.specs.Kept.{answered_on, arrival_at, change_of, ended_on, is_due, live_in, moved_on, notices_of};
+ghost use Rattle.pulsar_client.specs.Kept.{IsEnd, is_due, live_in};
 ghost use Rattle.pulsar_requests.specs.Soonest.{has_come};
-ghost use Rattle.pulsar_client.specs.Rules.{due_part, over_links, stop_act, told_at};
-ghost use Rattle.pulsar_client.specs.View.{answer_at, has_ended, is_asked, is_busy, seat_asked, seat_of_fresh, seat_fed, took_some, turned};
+ghost use Rattle.pulsar_client.specs.Rules.{answered_on, due_part, moved_on, on_link, over_links, stop_act, told_at};
+ghost use Rattle.pulsar_client.specs.View.{answer_at, arrival_at, has_ended, is_asked, is_busy, seat_asked, seat_of_fresh, seat_fed, took_some};
 
 use crate::act::{Act, Arrival, End, LinkAct, Notice, Outcome, Part, Who};
 use crate::content::Cause;
@@ -118,24 +118,18 @@ impl Links {
 
     /// The ends of the links that are due, in their order.
     pub fn due_parts(&self, now: u64) -> Result<VecDeque<Part>, NoMemory>
-        ensures { IfOk result (λ ps. ps.items ≡ over_links (due_part now) self.now.live self.now.started) }
+        ensures { IfOk result (λ ps. ps.items ≡ over_links (due_part now) self.now) }
     {
         let mut parts = VecDeque::new(self.alloc);
         for link in self.due.come(now)? {
-            if let Some(row) = self.live.get(&link) {
-                let below = row.connection.queued();
-                parts.push_back(Part::ToLink {
-                    link,
-                    act: LinkAct::Ends(End::Overdue { below }),
-                })?;
-            }
+            end_due(&mut parts, &self.live, now, link)?;
         }
         Ok(parts)
     }
 
     /// The ends of all links, in their order.
     pub fn stop_acts(&self) -> Result<VecDeque<Act>, NoMemory>
-        ensures { IfOk result (λ acts. acts.items ≡ over_links stop_act self.now.live self.now.started) }
+        ensures { IfOk result (λ acts. acts.items ≡ over_links stop_act self.now) }
     {
         let mut acts = VecDeque::new(self.alloc);
         for (link, _) in &self.live {
@@ -210,8 +204,7 @@ impl Links {
         out: &mut Vec<Effect>,
     ) -> Result<Option<Vec<Notice>>, NoMemory>
         ensures out { OnOk result (map shown out.new.items ≡ map shown out.old.items ++ given_at link (LinkAct.Ends end.now) now (self.old.live link)) }
-        ensures change { IfOk result (λ r. change_of r ≡ turned (LinkAct.Ends end.now) now (self.old.live link)) }
-        ensures notices { IfOk result (λ r. notices_of r ≡ ended_on end.now now (self.old.live link)) }
+        ensures end { IfOk result (λ r. IsEnd r end.now now (self.old.live link)) }
         ensures started { OnOk result (self.new.started ≡ self.old.started) }
         ensures live { OnOk result ((l : ℕ) → self.new.live l ≡ (if l == link then took_some (LinkAct.Ends end.now) now (self.old.live l) else self.old.live l)) }
     {
@@ -249,6 +242,28 @@ impl Links {
         let answer = row.ask(self.alloc, now, who, link, request, out)?;
         keep(&self.live, &mut self.due, link)?;
         Ok(answer)
+    }
+}
+
+/// A link that is due ends.
+fn end_due(
+    parts: &mut VecDeque<Part>,
+    live: &BTreeMap<u64, Row>,
+    now: u64,
+    link: u64,
+) -> Result<(), NoMemory>
+    ensures { OnOk result (parts.new.items ≡ parts.old.items ++ on_link (due_part now) (live_in live.now) link) }
+{
+    match live.get(&link) {
+        Some(row) if row.connection.due(now) => {
+            let below = row.connection.queued();
+            parts.push_back(Part::ToLink {
+                link,
+                act: LinkAct::Ends(End::Overdue { below }),
+            })?;
+            Ok(())
+        }
+        _ => Ok(()),
     }
 }
 

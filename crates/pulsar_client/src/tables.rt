@@ -9,7 +9,8 @@ ghost use Rattle.pulsar_link.specs.RawCall.{words_of};
 ghost use Rattle.pulsar_client.specs.Links.{change_in};
 ghost use Rattle.pulsar_client.specs.Rules.{breaks_at, builds_with, does, follows, notice, parts, procedure_for, reads_on, served_by, unless_refused};
 ghost use Rattle.pulsar_client.specs.Run.{Agenda, Step, goes_on};
-ghost use Rattle.pulsar_client.specs.Subscribers.{hears_arrival, subscription_at};
+ghost use Rattle.pulsar_client.specs.Subscribers.{subscription_at};
+ghost use Rattle.pulsar_client.specs.Subscriptions.{hears};
 ghost use Rattle.pulsar_client.specs.Tables.{InStep, Stands, agenda_of, base_of, chosen_of, stand_of, step, view_of};
 ghost use Rattle.pulsar_client.specs.View.{Chosen, after, base_turned, begun, builds, is_live, made, stays};
 ghost use Rattle.pulsar_client.specs.Who.{is_same};
@@ -249,8 +250,8 @@ impl Tables {
     /// The frame that was read is for consumers, or the link ends by it.
     fn arrives(&mut self, link: u64, arrival: Arrival, tasks: &mut Tasks) -> Result<(), NoMemory>
         ensures left { OnOk result (agenda_of tasks.new ≡ record (agenda_of tasks.old) { now = breaks_at link arrival ++ tasks.old.now.items }) }
-        ensures heard { OnOk result ((t : ℕ) → subscription_at self.new.subscribers t ≡ option_map (hears_arrival link arrival) (subscription_at self.old.subscribers t)) }
-        ensures others { OnOk result (self.new ≡ record self.old { subscribers = self.new.subscribers }) }
+        ensures heard { OnOk result ((t : ℕ) → subscription_at self.new.subscribers t ≡ option_map (hears link arrival) (subscription_at self.old.subscribers t)) }
+        ensures sees { OnOk result (view_of self.new ≡ record (view_of self.old) { consumers = subscription_at self.new.subscribers }) }
     {
         match arrival {
             Arrival::Bad(cause) => tasks.put(Act::Comes(Part::ToLink {

@@ -3,7 +3,7 @@
 ghost use Rattle.std.specs.Prelude.{◌≡◌, ◌==◌, ◌&&◌, ◌||◌, ℕ, true, false, None, IfOk, OnOk, if◌then◌else◌};
 ghost use Rattle.std.specs.BTreeSet.{contains};
 ghost use Rattle.std.specs.Ordering.{nat_cmp};
-ghost use Rattle.pulsar_client.specs.Due.{is_listed};
+ghost use Rattle.pulsar_client.specs.Due.{is_listed, moment_at};
 ghost use Rattle.pulsar_requests.specs.Soonest.{has_come};
 
 use pulsar_wire::error::NoMemory;
@@ -22,12 +22,13 @@ pub struct DueMoments {
 }
 
 impl Model for DueMoments {
-    ghost use Rattle.std.specs.Prelude.{ℕ, Option};
-    ghost use Rattle.pulsar_client.specs.Due.{IsWhole, moment_of};
+    ghost use Rattle.std.specs.Prelude.{ℕ, List};
+    ghost use Rattle.pulsar_client.specs.Due.{IsWhole};
 
-    ghost Value = { ℕ → Option ℕ };
+    // the links with their moments
+    ghost Value = { List (ℕ × ℕ) };
 
-    ghost view = { moment_of };
+    ghost view = { λ i. i.moments.entries };
 
     ghost invariant = { IsWhole };
 }
@@ -35,7 +36,7 @@ impl Model for DueMoments {
 impl DueMoments {
     /// No link is due at any moment.
     pub fn new(alloc: Global) -> DueMoments
-        ensures { (l : ℕ) → result l ≡ None }
+        ensures { (l : ℕ) → moment_at result l ≡ None }
     {
         DueMoments {
             alloc,
@@ -46,7 +47,7 @@ impl DueMoments {
 
     /// A link is due next at this moment, or at none.
     pub fn set(&mut self, link: u64, moment: Option<u64>) -> Result<(), NoMemory>
-        ensures { OnOk result ((l : ℕ) → self.new l ≡ (if l == link then moment else self.old l)) }
+        ensures { OnOk result ((l : ℕ) → moment_at self.new l ≡ (if l == link then moment else moment_at self.old l)) }
     {
         if self.moments.get(&link).copied() == moment {
             return Ok(());
@@ -63,7 +64,7 @@ impl DueMoments {
 
     /// The links that are due by now, in their order.
     pub fn come(&self, now: u64) -> Result<BTreeSet<u64>, NoMemory>
-        ensures { IfOk result (λ found. (l : ℕ) → contains nat_cmp found l ≡ has_come now (self.now l)) }
+        ensures { IfOk result (λ found. (l : ℕ) → contains nat_cmp found l ≡ has_come now (moment_at self.now l)) }
     {
         let mut found = BTreeSet::new(self.alloc);
         for (_, links) in self.links.range(..=now) {

@@ -27,12 +27,12 @@ pub struct Settings {
     pub outbound: usize,
     pub first_number: u64,
     /// The time at which the client was made, in milliseconds since 1970.
-    pub now: u64,
+    pub start: u64,
 }
 
 impl Settings {
     pub fn new(alloc: Global, options: &ClientOptions) -> Result<Settings, NoMemory>
-        ensures { IfOk result (λ s. chosen_of s ≡ chosen options.now) }
+        ensures { IfOk result (λ s. chosen_of s ≡ chosen options.entry.now) }
     {
         Ok(Settings {
             address: Address::of(alloc, &options.url)?,
@@ -41,7 +41,7 @@ impl Settings {
             operation_timeout: options.operation_retry.operation_timeout,
             outbound: options.outbound_channel_size,
             first_number: options.first_number,
-            now: options.now,
+            start: options.now,
         })
     }
 

@@ -45,7 +45,7 @@ pub struct Tables {
     pub alloc: Global,
     pub settings: Settings,
     /// The clock, in milliseconds since 1970.
-    pub now: u64,
+    pub clock: u64,
     /// A Build call has ended Ok.
     pub is_built: bool,
     /// A Stop call has ended every link.
@@ -62,11 +62,11 @@ impl Tables {
     pub fn new(alloc: Global, settings: Settings) -> Tables
         ensures { Stands (chosen_of settings) result [] }
     {
-        let now = settings.now;
+        let clock = settings.start;
         Tables {
             alloc,
             settings,
-            now,
+            clock,
             is_built: false,
             is_stopped: false,
             tickets: 0,
@@ -93,7 +93,7 @@ impl Tables {
                     Some(Stage::Handshaking | Stage::Ready)
                 )
             }
-            Event::Tick(now) => self.now <= *now,
+            Event::Tick(now) => self.clock <= *now,
             Event::Poll(ticket) => self.subscribers.has(*ticket),
         }
     }
@@ -128,7 +128,7 @@ impl Tables {
             Event::Lost(link) => ends(self.alloc, link, End::Lost),
             Event::Drain(link, most) => to_link(self.alloc, link, LinkAct::Drains(most)),
             Event::Tick(now) => {
-                self.now = now;
+                self.clock = now;
                 self.links.due_parts(now)
             }
             Event::Poll(ticket) => one(self.alloc, Part::Polls(ticket)),
@@ -231,7 +231,7 @@ impl Tables {
         ensures out { OnOk result (map shown out.new.items ≡ map shown out.old.items ++ effects (view_of self.old) (Act.Comes (Part.ToLink link LinkAct.Opens))) }
         ensures sees { OnOk result (view_of self.new ≡ after (Act.Comes (Part.ToLink link LinkAct.Opens)) (view_of self.old)) }
     {
-        self.links.open(self.now, link, out)
+        self.links.open(self.clock, link, out)
     }
 
     /// The next frame of a link is read.
@@ -240,7 +240,7 @@ impl Tables {
         ensures left { OnOk result (agenda_of tasks.new ≡ goes_on (view_of self.old) (Act.Comes (Part.ToLink link LinkAct.Reads)) (agenda_of tasks.old)) }
         ensures sees { OnOk result (view_of self.new ≡ after (Act.Comes (Part.ToLink link LinkAct.Reads)) (view_of self.old)) }
     {
-        let (arrival, mut notices) = self.links.read(self.now, link, out)?;
+        let (arrival, mut notices) = self.links.read(self.clock, link, out)?;
         welcome(&mut self.base, link, &arrival, &mut notices)?;
         read_on(link, &arrival, tasks)?;
         self.arrives(link, arrival, tasks)?;
@@ -274,7 +274,7 @@ impl Tables {
         ensures left { OnOk result (agenda_of tasks.new ≡ goes_on (view_of self.old) (Act.Comes (Part.ToLink link (LinkAct.Drains most))) (agenda_of tasks.old)) }
         ensures sees { OnOk result (view_of self.new ≡ after (Act.Comes (Part.ToLink link (LinkAct.Drains most))) (view_of self.old)) }
     {
-        let notices = self.links.drain(self.now, link, most, out)?;
+        let notices = self.links.drain(self.clock, link, most, out)?;
         tasks.open_each(notices)
     }
 
@@ -290,7 +290,7 @@ impl Tables {
         ensures left { OnOk result (agenda_of tasks.new ≡ goes_on (view_of self.old) (Act.Comes (Part.ToLink link (LinkAct.Ends end))) (agenda_of tasks.old)) }
         ensures sees { OnOk result (view_of self.new ≡ after (Act.Comes (Part.ToLink link (LinkAct.Ends end))) (view_of self.old)) }
     {
-        let Some(mut notices) = self.links.end(self.now, link, &end, out)? else {
+        let Some(mut notices) = self.links.end(self.clock, link, &end, out)? else {
             return Ok(());
         };
         self.subscribers.end(link);
@@ -381,7 +381,7 @@ impl Tables {
         ensures sees { OnOk result (view_of self.new ≡ after (Act.Does who (Action.Ask link request)) (view_of self.old)) }
     {
         let closed = request.closed_consumer();
-        let (is_asked, outcome) = self.links.ask(self.now, who, link, request, out)?;
+        let (is_asked, outcome) = self.links.ask(self.clock, who, link, request, out)?;
         self.subscribers.close_asked(link, closed, is_asked)?;
         tell(who, outcome, tasks)
     }
@@ -420,8 +420,8 @@ impl Tables {
     {
         let connection = match &self.settings.address {
             Some(address) => {
-                out.push(address.connect(self.links.started())?)?;
-                Some(self.settings.connection(self.alloc, self.now, address)?)
+                out.push(address.connect(self.links.started)?)?;
+                Some(self.settings.connection(self.alloc, self.clock, address)?)
             }
             None => None,
         };

@@ -24,5 +24,8 @@ is_moment m None = false
 is_moment m (Some moment) = moment == m
 
 -- each link is listed at its moment, and at no other
-pub record IsWhole (i : Inside) : Type 0 where
-  pub listed : (m l : ℕ) → is_listed i.links m l ≡ is_moment m (moment_at i.moments.entries l)
+abbrev pub AreListed : List (ℕ × ℕ) → BTreeMap ℕ (BTreeSet ℕ) → Type 0
+AreListed moments links = (m l : ℕ) → is_listed links m l ≡ is_moment m (moment_at moments l)
+
+abbrev pub IsWhole : Inside → Type 0
+IsWhole i = AreListed i.moments.entries i.links

@@ -1,9 +1,9 @@
 //! When links are due.
 
-ghost use Rattle.std.specs.Prelude.{◌≡◌, ◌==◌, ◌&&◌, ◌||◌, ℕ, true, false, None, IfOk, OnOk, if◌then◌else◌};
+ghost use Rattle.std.specs.Prelude.{◌≡◌, ◌==◌, ◌&&◌, ◌||◌, ℕ, true, false, Some, None, IfOk, OnOk, if◌then◌else◌};
 ghost use Rattle.std.specs.BTreeSet.{contains};
 ghost use Rattle.std.specs.Ordering.{nat_cmp};
-ghost use Rattle.pulsar_client.specs.Due.{is_listed, moment_at};
+ghost use Rattle.pulsar_client.specs.Due.{AreListed, is_listed, moment_at};
 ghost use Rattle.pulsar_requests.specs.Soonest.{has_come};
 
 use pulsar_wire::error::NoMemory;
@@ -49,17 +49,11 @@ impl DueMoments {
     pub fn set(&mut self, link: u64, moment: Option<u64>) -> Result<(), NoMemory>
         ensures { OnOk result ((l : ℕ) → moment_at self.new l ≡ (if l == link then moment else moment_at self.old l)) }
     {
-        if self.moments.get(&link).copied() == moment {
-            return Ok(());
+        forget(&mut self.moments, &mut self.links, link)?;
+        match moment {
+            Some(moment) => note(&mut self.moments, &mut self.links, self.alloc, link, moment),
+            None => Ok(()),
         }
-        if let Some(old) = self.moments.remove(&link) {
-            unlist(&mut self.links, old, link)?;
-        }
-        if let Some(moment) = moment {
-            list(&mut self.links, self.alloc, moment, link)?;
-            self.moments.insert(link, moment)?;
-        }
-        Ok(())
     }
 
     /// The links that are due by now, in their order.
@@ -72,6 +66,37 @@ impl DueMoments {
         }
         Ok(found)
     }
+}
+
+/// A link is due at no moment.
+fn forget(
+    moments: &mut BTreeMap<u64, u64>,
+    links: &mut BTreeMap<u64, BTreeSet<u64>>,
+    link: u64,
+) -> Result<(), NoMemory>
+    ensures moments { OnOk result ((l : ℕ) → moment_at moments.new.entries l ≡ (if l == link then None else moment_at moments.old.entries l)) }
+    ensures listed { OnOk result (AreListed moments.old.entries links.old → AreListed moments.new.entries links.new) }
+{
+    match moments.remove(&link) {
+        Some(moment) => unlist(links, moment, link),
+        None => Ok(()),
+    }
+}
+
+/// A link that was due at no moment is due at this one.
+fn note(
+    moments: &mut BTreeMap<u64, u64>,
+    links: &mut BTreeMap<u64, BTreeSet<u64>>,
+    alloc: Global,
+    link: u64,
+    moment: u64,
+) -> Result<(), NoMemory>
+    ensures moments { OnOk result ((l : ℕ) → moment_at moments.new.entries l ≡ (if l == link then Some moment else moment_at moments.old.entries l)) }
+    ensures listed { OnOk result (moment_at moments.old.entries link ≡ None → AreListed moments.old.entries links.old → AreListed moments.new.entries links.new) }
+{
+    list(links, alloc, moment, link)?;
+    moments.insert(link, moment)?;
+    Ok(())
 }
 
 fn unlist(links: &mut BTreeMap<u64, BTreeSet<u64>>, moment: u64, link: u64) -> Result<(), NoMemory>

@@ -102,7 +102,7 @@ impl Links {
 
     /// The ends of the links that are due, in their order.
     pub fn due_parts(&self, now: u64) -> Result<VecDeque<Part>, NoMemory>
-        ensures { IfOk result (λ ps. ps.items ≡ over_links (due_part now) self.now) }
+        ensures { IfOk result (λ ps. ps.items ≡ over_links (due_part now) (links_in self.now.started self.now.live)) }
     {
         let mut parts = VecDeque::new(self.alloc);
         for link in self.due.come(now)? {
@@ -113,7 +113,7 @@ impl Links {
 
     /// The ends of all links, in their order.
     pub fn stop_acts(&self) -> Result<VecDeque<Act>, NoMemory>
-        ensures { IfOk result (λ acts. acts.items ≡ over_links stop_act self.now) }
+        ensures { IfOk result (λ acts. acts.items ≡ over_links stop_act (links_in self.now.started self.now.live)) }
     {
         let mut acts = VecDeque::new(self.alloc);
         for (link, _) in &self.live {

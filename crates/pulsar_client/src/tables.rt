@@ -418,13 +418,8 @@ impl Tables {
         ensures out { OnOk result (map shown out.new.items ≡ map shown out.old.items ++ effects (view_of self.old) (Act.Dials starter)) }
         ensures sees { OnOk result (view_of self.new ≡ after (Act.Dials starter) (view_of self.old)) }
     {
-        let connection = match &self.settings.address {
-            Some(address) => {
-                out.push(address.connect(self.links.started)?)?;
-                Some(self.settings.connection(self.alloc, self.clock, address)?)
-            }
-            None => None,
-        };
+        let link = self.links.started;
+        let connection = self.settings.dial(self.alloc, self.clock, link, out)?;
         self.links.start(connection)?;
         self.base.series = Series::Runs { starter };
         Ok(())

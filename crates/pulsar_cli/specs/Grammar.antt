@@ -126,7 +126,7 @@ url _ = None
 
 -- set auth TEXT WORD
 abbrev pub auth : List (List ℕ) → Option Setting
-auth (n ∷ d ∷ []) = credential n d >>= λ c. Some (Auth c)
+auth (n ∷ s ∷ []) = credential n s >>= λ c. Some (Auth c)
 auth _ = None
 
 -- an option that is a number

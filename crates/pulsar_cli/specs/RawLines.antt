@@ -23,10 +23,10 @@ abbrev pub with_id : Option (List (Values message_id)) → List ℕ → Option (
 with_id ids word = ids >>= λ is. id word >>= λ i. Some (is ++ i ∷ [])
 
 -- a credential: its method, and what it shows
-abbrev pub credential : (name data : List ℕ) → Option AuthenticationValues
-credential n d = do
+abbrev pub credential : (name shown : List ℕ) → Option AuthenticationValues
+credential n s = do
   name ← text n
-  shown ← word_bytes d
+  shown ← word_bytes s
   Some (record { name = name; auth_data = shown })
 
 -- OF THE BROKER
@@ -38,7 +38,7 @@ ping _ = None
 
 -- auth TEXT WORD
 abbrev pub auth : List (List ℕ) → Option Words
-auth (n ∷ d ∷ []) = credential n d >>= λ c. Some (raw.AuthChallenge c)
+auth (n ∷ s ∷ []) = credential n s >>= λ c. Some (raw.AuthChallenge c)
 auth _ = None
 
 -- lookup TOPIC BOOL

@@ -110,10 +110,10 @@ fn ping(words: &[&[u8]]) -> Option<RawCall>
 fn auth(alloc: Global, words: &[&[u8]]) -> Result<Option<RawCall>, NoMemory>
     ensures { IfOk result (λ c. option_map words_of c ≡ auth (map (λ w. w.now) words.now)) }
 {
-    let [name, data] = words else {
+    let [name, shown] = words else {
         return Ok(None);
     };
-    match credential(alloc, name, data)? {
+    match credential(alloc, name, shown)? {
         Some(auth) => Ok(Some(RawCall::AuthChallenge { auth })),
         None => Ok(None),
     }
@@ -412,14 +412,14 @@ fn close_consumer(words: &[&[u8]]) -> Option<RawCall>
 pub fn credential(
     alloc: Global,
     name: &[u8],
-    data: &[u8],
+    shown: &[u8],
 ) -> Result<Option<Authentication>, NoMemory>
-    ensures { IfOk result (λ a. option_map authentication_values a ≡ credential name.now data.now) }
+    ensures { IfOk result (λ a. option_map authentication_values a ≡ credential name.now shown.now) }
 {
     let Some(name) = text(alloc, name)? else {
         return Ok(None);
     };
-    let Some(auth_data) = word_bytes(alloc, data)? else {
+    let Some(auth_data) = word_bytes(alloc, shown)? else {
         return Ok(None);
     };
     Ok(Some(Authentication { name, auth_data }))

@@ -63,10 +63,10 @@ fn url(alloc: Global, words: &[&[u8]]) -> Result<Option<Setting>, NoMemory>
 fn auth(alloc: Global, words: &[&[u8]]) -> Result<Option<Setting>, NoMemory>
     ensures { IfOk result (λ s. option_map setting_of s ≡ auth (map (λ w. w.now) words.now)) }
 {
-    let [name, data] = words else {
+    let [name, shown] = words else {
         return Ok(None);
     };
-    match credential(alloc, name, data)? {
+    match credential(alloc, name, shown)? {
         Some(credential) => Ok(Some(Setting::Auth(credential))),
         None => Ok(None),
     }

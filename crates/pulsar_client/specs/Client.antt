@@ -2,6 +2,8 @@
 use Rattle.std.specs.Prelude.{◌≡◌, true, false, List, string_bytes}
 use Rattle.pulsar_client.specs.declared.options.ClientOptions.{ClientOptions}
 use Rattle.pulsar_client.specs.declared.pulsar.Pulsar.{Pulsar}
+use Rattle.std.specs.Option.{option_map}
+use Rattle.pulsar_messages.specs.Content.{authentication_values}
 use Rattle.pulsar_client.specs.Address.{address_of}
 use Rattle.pulsar_client.specs.Content.{Heard}
 use Rattle.pulsar_client.specs.Run.{Good, Step, view}
@@ -10,7 +12,16 @@ use Rattle.pulsar_client.specs.View.{Chosen, is_live}
 
 -- what the options choose
 abbrev pub chosen : ClientOptions → Chosen
-chosen options = record { first_number = options.first_number; now = options.now; address = address_of (string_bytes options.url) }
+chosen options =
+    record {
+      address = address_of (string_bytes options.url);
+      auth = option_map authentication_values options.auth;
+      connection_timeout = options.connection_retry.connection_timeout;
+      operation_timeout = options.operation_retry.operation_timeout;
+      outbound = options.outbound_channel_size;
+      first_number = options.first_number;
+      now = options.now;
+    }
 
 -- a step ran out of memory
 abbrev pub HasFailed : Pulsar → Type 0

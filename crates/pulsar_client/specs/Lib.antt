@@ -1,6 +1,7 @@
 pub mod Address
 pub mod Content
 pub mod Plan
+pub mod Links
 pub mod Subscriptions
 pub mod Who
 pub mod View

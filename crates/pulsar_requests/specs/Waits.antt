@@ -1,5 +1,5 @@
 -- The requests of a connection that wait for an answer, and when they are due.  (Pulsar binary protocol, Simple commands)
-use Rattle.std.specs.Prelude.{ℕ, ◌+◌, nat_lt, nat_le, ◌==◌, ◌&&◌, not, Bool, false, if◌then◌else◌, List, [], ◌∷◌, ◌++◌, map, filter, Option, Some, None}
+use Rattle.std.specs.Prelude.{ℕ, ◌+◌, nat_lt, nat_le, ◌==◌, ◌&&◌, not, Bool, true, false, if◌then◌else◌, List, [], ◌∷◌, ◌++◌, map, filter, Option, Some, None}
 use Rattle.std.specs.List.{list_any}
 use Rattle.std.specs.Ordering.{nat_cmp}
 use Rattle.std.specs.BTreeMap.{is_at}
@@ -46,6 +46,10 @@ waits_for (Some c) w = request_of w.queued w c ∷ []
 abbrev pub with_next : Option Claim → Waits → Waits
 with_next c w = record w { queued = w.queued + 1; waiting = w.waiting ++ waits_for c w }
 
+abbrev pub is_empty : List Pending → Bool
+is_empty [] = true
+is_empty (p ∷ ps) = false
+
 -- the requests that wait for one thing, and the others
 abbrev pub found : Option Awaited → List Pending → List Pending
 found a ps = filter (λ p. is_one a p.awaits) ps
@@ -89,6 +93,11 @@ is_due now excused p = nat_le p.deadline now && not (is_excused excused p.create
 
 abbrev pub any_due : ℕ → Waits → Bool
 any_due now w = list_any (is_due now w.excused) w.waiting
+
+-- a moment has come
+abbrev pub has_come : (now : ℕ) → Option ℕ → Bool
+has_come now None = false
+has_come now (Some moment) = nat_le moment now
 
 abbrev pub request_at : ℕ → List Pending → Option Pending
 request_at place [] = None

@@ -8,7 +8,7 @@ ghost use Rattle.std.specs.BTreeSet.{contains, insert_key};
 ghost use Rattle.pulsar_wire.specs.Sink.{capped};
 ghost use Rattle.pulsar_requests.specs.Awaited.{is_same};
 ghost use Rattle.pulsar_requests.specs.Kept.{AreTimed, Taken, excuses, places_of};
-ghost use Rattle.pulsar_requests.specs.Waits.{Waits, answered_by, any_due, ended, found, is_excused, is_listed, is_overdue, later_of, named, places, told, with_next, without};
+ghost use Rattle.pulsar_requests.specs.Waits.{Waits, answered_by, any_due, ended, found, has_come, is_empty, is_excused, is_listed, is_overdue, later_of, named, places, told, with_next, without};
 
 use crate::awaited::{Awaited, Claim};
 use pulsar_wire::error::NoMemory;
@@ -292,16 +292,45 @@ impl Requests {
         Ok((places, left))
     }
 
-    /// A request is due. The first that is not excused decides, since no deadline is before an earlier one.
+    /// Nobody waits.
+    pub fn is_empty(&self) -> bool
+        ensures { result ≡ is_empty self.now.waiting }
+    {
+        self.waiters.is_empty()
+    }
+
+    /// The places of those that wait.
+    pub fn places(&self) -> Result<Vec<u64>, NoMemory>
+        ensures { IfOk result (λ ps. ps.items ≡ places self.now.waiting) }
+    {
+        let mut places = Vec::new(self.alloc);
+        for (place, _) in &self.waiters {
+            places.push(*place)?;
+        }
+        Ok(places)
+    }
+
+    /// A request is due.
     pub fn any_due(&self, now: u64) -> bool
         ensures { result ≡ any_due now self.now }
     {
+        match self.due_at() {
+            Some(moment) => moment <= now,
+            None => false,
+        }
+    }
+
+    /// When a request is due for the first time. The first that is not excused decides, since no deadline is before an earlier
+    /// one.
+    pub fn due_at(&self) -> Option<u64>
+        ensures { (now : ℕ) → any_due now self.now ≡ has_come now result }
+    {
         match self.timed.first() {
             Some(place) => match self.waiters.get(place) {
-                Some(waiter) => waiter.deadline <= now,
-                None => false,
+                Some(waiter) => Some(waiter.deadline),
+                None => None,
             },
-            None => false,
+            None => None,
         }
     }
 

@@ -1,13 +1,13 @@
 //! What a connection keeps, and what it does.
 
-ghost use Rattle.std.specs.Prelude.{◌≡◌, ◌++◌, Some, None, Bool, true, false, IfOk, OnOk, OnErr, option_copied, string_bytes, filter, take, drop, if◌then◌else◌};
+ghost use Rattle.std.specs.Prelude.{◌≡◌, ℕ, ◌++◌, Some, None, Bool, true, false, IfOk, OnOk, OnErr, option_copied, string_bytes, filter, take, drop, if◌then◌else◌};
 ghost use Rattle.std.specs.List.{flat_map};
 ghost use Rattle.std.specs.Option.{option_map};
 ghost use Rattle.pulsar_frame.specs.Shown.{message_values};
 ghost use Rattle.pulsar_frame.specs.Frame.{front};
 ghost use Rattle.pulsar_messages.specs.Content.{authentication_values};
 ghost use Rattle.pulsar_messages.specs.Messages.{connect_command};
-ghost use Rattle.pulsar_requests.specs.Waits.{places};
+ghost use Rattle.pulsar_requests.specs.Waits.{has_come, places};
 ghost use Rattle.pulsar_session.specs.Answers.{answers};
 ghost use Rattle.pulsar_session.specs.Failures.{fault};
 ghost use Rattle.pulsar_session.specs.Kept.{OnAnswer, arrival_of, arrives, contents, setup_of, table};
@@ -409,6 +409,28 @@ impl Link {
             Stage::Ready => self.requests.any_due(now),
             Stage::Over => false,
             Stage::Dialing | Stage::Handshaking => self.is_late(now),
+        }
+    }
+
+    pub fn due_at(&self) -> Option<u64>
+        ensures { (now : ℕ) → due now (table self.now) ≡ has_come now result }
+    {
+        match self.stage {
+            Stage::Ready => self.requests.due_at(),
+            Stage::Over => None,
+            Stage::Dialing | Stage::Handshaking => {
+                Some(moment(self.setup.made, self.setup.connection_timeout))
+            }
+        }
+    }
+
+    /// The places of those that wait, and would wait no longer if it ended.
+    pub fn waiting(&self) -> Result<Vec<u64>, NoMemory>
+        ensures { IfOk result (λ ps. ps.items ≡ ends (table self.now)) }
+    {
+        match self.stage {
+            Stage::Over => Ok(Vec::new(self.alloc)),
+            Stage::Dialing | Stage::Handshaking | Stage::Ready => self.requests.places(),
         }
     }
 

@@ -5,7 +5,7 @@ use Rattle.hex.specs.Hex.{encode_lower}
 use Rattle.pulsar_wire.specs.declared.commands.topics.Mode.{Mode}
 use Rattle.pulsar_wire.specs.declared.commands.topics.Mode.TheVariants.{Persistent, NonPersistent, All}
 use Rattle.pulsar_messages.specs.Words.{Words}
-use Rattle.pulsar_client.specs.Content.{Asked, Build, Stop, Topics, Raw, Heard, Called, Opened, FailedToOpen, Bytes, Lost, Drain, Tick, Poll}
+use Rattle.pulsar_client.specs.Content.{Asked, Build, Stop, Topics, Raw, Heard, Called, Opened, FailedToOpen, Bytes, Lost, Drain, Ticked, Poll}
 use Rattle.pulsar_cli.specs.Words.{words}
 use Rattle.pulsar_cli.specs.WordText.{word}
 use Rattle.pulsar_cli.specs.Grammar.{Setting, Url, Auth, Outbound, Timeout, ConnectionTimeout, First, Now, Sets, Happens, line, words_line}
@@ -56,7 +56,7 @@ reads-back (Bytes l piece) can =
 reads-back (Drain l most) can =
     ap (λ (ws : List (List ℕ)). words_line ws) (two-words (codes "drain") (decimal l) (decimal most) (decimal-within l can.0) (one-word (decimal most) (decimal-within most can.1)))
     ∙ rw (number-decimal l can.0, number-decimal most can.1) refl
-reads-back (Tick now) can =
+reads-back (Ticked now) can =
     ap (λ (ws : List (List ℕ)). words_line ws) (one-number (codes "tick") now can) ∙ rw (number-decimal now can) refl
 reads-back (Poll ticket) can =
     ap (λ (ws : List (List ℕ)). words_line ws) (one-number (codes "poll") ticket can) ∙ rw (number-decimal ticket can) refl

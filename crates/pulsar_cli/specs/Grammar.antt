@@ -4,7 +4,7 @@ use Rattle.std.specs.List.{slice_split}
 use Rattle.std.specs.Str.{bytes_eq}
 use Rattle.pulsar_wire.specs.Field.{◌>>=◌}
 use Rattle.pulsar_messages.specs.Content.{AuthenticationValues}
-use Rattle.pulsar_client.specs.Content.{Asked, Build, Stop, Topics, Raw, Heard, Called, Opened, FailedToOpen, Bytes, Lost, Drain, Tick, Poll}
+use Rattle.pulsar_client.specs.Content.{Asked, Build, Stop, Topics, Raw, Heard, Called, Opened, FailedToOpen, Bytes, Lost, Drain, Ticked, Poll}
 use Rattle.pulsar_cli.specs.Words.{words, number, text, hex}
 use Rattle.pulsar_cli.specs.Choices.{kind, mode}
 use Rattle.pulsar_cli.specs.RawLines.{credential, raw_call}
@@ -85,7 +85,7 @@ drain _ = None
 
 -- tick NUMBER
 abbrev pub tick : List (List ℕ) → Option Heard
-tick (n ∷ []) = number n >>= λ now. Some (Tick now)
+tick (n ∷ []) = number n >>= λ now. Some (Ticked now)
 tick _ = None
 
 -- poll TICKET

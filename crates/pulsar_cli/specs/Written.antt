@@ -3,7 +3,7 @@ use Rattle.std.specs.Prelude.{◌≡◌, ℕ, ◌<◌, List, ◌∷◌, ◌++◌
 use Rattle.std.specs.Fmt.{decimal}
 use Rattle.hex.specs.Hex.{IsBytes, encode_lower}
 use Rattle.pulsar_wire.specs.declared.error.IoKind.TheVariants.{Other}
-use Rattle.pulsar_client.specs.Content.{Asked, Build, Stop, Topics, Raw, Heard, Called, Opened, FailedToOpen, Bytes, Lost, Drain, Tick, Poll}
+use Rattle.pulsar_client.specs.Content.{Asked, Build, Stop, Topics, Raw, Heard, Called, Opened, FailedToOpen, Bytes, Lost, Drain, Ticked, Poll}
 use Rattle.pulsar_cli.specs.Grammar.{Setting, Url, Auth, Outbound, Timeout, ConnectionTimeout, First, Now, Sets, Happens, line}
 use Rattle.pulsar_cli.specs.WordText.{word}
 use Rattle.pulsar_cli.specs.WrittenRaw.{CanBeSaid, IsCredential, IsNumber, IsText, behind_blanks, credential_words, mode_word, raw_words}
@@ -23,7 +23,7 @@ written (FailedToOpen l kind) = codes "failed " ++ decimal l ++ 32 ∷ codes "ot
 written (Bytes l piece) = codes "bytes " ++ decimal l ++ 32 ∷ encode_lower piece
 written (Lost l) = codes "lost " ++ decimal l
 written (Drain l most) = codes "drain " ++ decimal l ++ 32 ∷ decimal most
-written (Tick now) = codes "tick " ++ decimal now
+written (Ticked now) = codes "tick " ++ decimal now
 written (Poll ticket) = codes "poll " ++ decimal ticket
 
 -- An event has a line where its numbers have 64 bits, its text is UTF-8, it has a byte at least, what is asked of one
@@ -42,7 +42,7 @@ CanBeWritten (FailedToOpen l kind) = IsNumber l × (kind ≡ Other)
 CanBeWritten (Bytes l piece) = IsNumber l × IsBytes piece × (0 < length piece)
 CanBeWritten (Lost l) = IsNumber l
 CanBeWritten (Drain l most) = IsNumber l × IsNumber most
-CanBeWritten (Tick now) = IsNumber now
+CanBeWritten (Ticked now) = IsNumber now
 CanBeWritten (Poll ticket) = IsNumber ticket
 
 abbrev pub written_setting : Setting → List ℕ

@@ -22,8 +22,14 @@ pub fn defaults(alloc: Global) -> Result<ClientOptions, NoMemory>
     Ok(ClientOptions {
         url,
         auth: None,
-        connection_retry: ConnectionRetryOptions::default(),
-        operation_retry: OperationRetryOptions::default(),
+        connection_retry: ConnectionRetryOptions {
+            connection_timeout: 10_000,
+            ..ConnectionRetryOptions::default()
+        },
+        operation_retry: OperationRetryOptions {
+            operation_timeout: 30_000,
+            ..OperationRetryOptions::default()
+        },
         outbound_channel_size: 100,
         seed: 0,
         now: 0,
@@ -48,7 +54,7 @@ pub fn choose(options: &mut ClientOptions, setting: Setting)
 
 /// The same options.
 pub fn copied(options: &ClientOptions) -> Result<ClientOptions, NoMemory>
-    ensures { IfOk result (λ o. chosen o ≡ chosen options.now) }
+    ensures { IfOk result (λ o. chosen o ≡ chosen options.entry.now) }
 {
     Ok(ClientOptions {
         url: options.url.clone()?,

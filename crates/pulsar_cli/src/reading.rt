@@ -194,7 +194,7 @@ impl Reading {
 
 /// A client with these options, to which nothing has happened.
 fn made(alloc: Global, options: &ClientOptions) -> Result<Pulsar, Stop>
-    ensures ok { IfOk result (λ c. StandsFor (chosen options.now) c []) }
+    ensures ok { IfOk result (λ c. StandsFor (chosen options.entry.now) c []) }
     ensures err { IfErr result (λ stop. stop ≡ Stop.NoMemory) }
 {
     let Ok(options) = copied(options) else {

@@ -15,7 +15,7 @@ use Rattle.pulsar_link.specs.Items.{Item}
 use Rattle.pulsar_client.specs.declared.consumers.subscriber.Subscriber.{Subscriber}
 use Rattle.pulsar_client.specs.Subscribers.{fresh_in, given_at, is_listed, live_at, seen_in, with_items}
 use Rattle.pulsar_client.specs.Subscriptions.{Subscription}
-use Rattle.pulsar_link.proofs.Pendings.{is_at-eqb}
+use Rattle.pulsar_requests.proofs.Awaiting.{is_at-eqb}
 
 abbrev Live : Type 0
 Live = BTreeMap ℕ (BTreeMap ℕ (BTreeSet ℕ))

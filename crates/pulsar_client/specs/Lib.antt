@@ -9,8 +9,8 @@ pub mod Rules
 pub mod Effects
 pub mod Run
 pub mod Subscribers
+pub mod Due
+pub mod Kept
 pub mod Tables
 pub mod Client
-pub mod Laws
-pub mod Traces
 pub mod Outside

@@ -107,12 +107,12 @@ abbrev pub unless_refused : Bool → Procedure → Procedure
 unless_refused may p = if may then p else procedure.Refuse refusal.Shutdown
 
 -- a client is not built where no frame would ever have room
-abbrev pub builds : Chosen → Procedure
-builds o = if o.outbound == 0 then procedure.Refuse refusal.NoOutbound else procedure.Build
+abbrev pub builds_with : (outbound : ℕ) → Procedure
+builds_with outbound = if outbound == 0 then procedure.Refuse refusal.NoOutbound else procedure.Build
 
 -- the procedure of a call
 abbrev pub procedure_for : Chosen → Tickets → Asking → Procedure
-procedure_for o c content.Build = unless_refused (not c.is_stopped) (builds o)
+procedure_for o c content.Build = unless_refused (not c.is_stopped) (builds_with o.outbound)
 procedure_for o c content.Stop = unless_refused (is_open c) procedure.Stop
 procedure_for o c (content.Topics namespace mode) =
     unless_refused (is_open c) (procedure.Ask place.Base (words.GetTopicsOfNamespace namespace mode) says.Names)
@@ -256,26 +256,33 @@ failed_at end Nobody ws = []
 failed_at end (Runs starter) ws = map (failed end starter) ws
 failed_at end (Serves link) ws = []
 
--- all whom the end of a link serves
+-- all who asked on a link that ends
+abbrev pub ended_places : End → (now : ℕ) → Seen → (ℕ → Option Who) → List Notice
+ended_places end now s askers =
+    filter_map (tells_asker (lost end now s) askers) (ends s) ++ filter_map (tells_asker (λ place. dropped end) askers) (line_places s)
+
+-- all whom its end serves
 abbrev pub ended_with : End → (now : ℕ) → Option Fault → Seen → (ℕ → Option Who) → Base → List Notice
 ended_with end now None s askers b = []
-ended_with end now (Some cause) s askers b =
-    filter_map (tells_asker (lost end now s) askers) (ends s)
-    ++ (filter_map (tells_asker (λ place. dropped end) askers) (line_places s) ++ failed_at end b.series b.waiting)
+ended_with end now (Some cause) s askers b = ended_places end now s askers ++ failed_at end b.series b.waiting
 
 -- those whom one act serves are one cause, if there are any
 abbrev pub opens : List Notice → List (List Notice)
 opens [] = []
 opens (n ∷ ns) = (n ∷ ns) ∷ []
 
--- each frame that moves up is a cause by itself, in their order
-abbrev pub moves : (ℕ → Option Who) → ℕ → Option (List Notice)
-moves askers place = option_map (λ n. n ∷ []) (tells_asker (λ p. outcome.Queued) askers place)
+-- those whose frames moved up from the line, in their order
+abbrev pub moved_up : (ℕ → Option Who) → (before after : Seen) → List Notice
+moved_up askers s s' = filter_map (tells_asker (λ place. outcome.Queued) askers) (new_places s s')
+
+-- each is a cause by itself
+abbrev pub alone : Notice → List Notice
+alone n = n ∷ []
 
 abbrev pub caused : ℕ → LinkAct → (now : ℕ) → Seat → Base → List (List Notice)
 caused l link.Opens now seat b = []
 caused l Reads now seat b = opens (answered_by (came seat.seen) seat.askers ++ served_by l (change_in (arrival seat.seen)) b.waiting)
-caused l (Drains most) now seat b = filter_map (moves seat.askers) (new_places seat.seen (links.after (Drains most) now seat.seen))
+caused l (Drains most) now seat b = map alone (moved_up seat.askers seat.seen (links.after (Drains most) now seat.seen))
 caused l (Ends end) now seat b = opens (ended_with end now (closed_by end now seat.seen) seat.seen seat.askers b)
 
 abbrev pub causes_at : ℕ → LinkAct → (now : ℕ) → Option Seat → Base → List (List Notice)

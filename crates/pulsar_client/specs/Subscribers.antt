@@ -5,15 +5,12 @@ use Rattle.std.specs.BTreeSet.{BTreeSet}
 use Rattle.std.specs.List.{list_any}
 use Rattle.std.specs.Option.{option_map}
 use Rattle.std.specs.Ordering.{nat_cmp}
-use Rattle.pulsar_link.specs.declared.act.Arrival.TheVariants as arrival
-use Rattle.pulsar_link.specs.declared.act.LinkAct.{LinkAct}
-use Rattle.pulsar_link.specs.declared.act.LinkAct.TheVariants.{Opens, Fails, Loses, Comes, Drains}
+use Rattle.pulsar_client.specs.declared.act.Arrival.{Arrival}
 use Rattle.pulsar_client.specs.declared.consumers.subscriber.Subscriber.{Subscriber}
 use Rattle.pulsar_client.specs.declared.consumers.subscribers.Subscribers.{Subscribers}
 use Rattle.pulsar_link.specs.Held.{item_of}
 use Rattle.pulsar_link.specs.Items.{Item}
-use Rattle.pulsar_link.specs.Link.{Pending, settles_one}
-use Rattle.pulsar_client.specs.Subscriptions.{Subscription}
+use Rattle.pulsar_client.specs.Subscriptions.{Subscription, after_came, ended, is_heard_on}
 
 -- a consumer, which hears
 abbrev pub fresh_in : Subscriber → Subscription
@@ -54,11 +51,9 @@ with_items link number items s =
 abbrev pub given_at : List ℕ → (link number : ℕ) → List Item → ℕ → Option Subscription → Option Subscription
 given_at tickets link number items t row = if is_listed t tickets then option_map (with_items link number items) row else row
 
--- an act is a frame that answers one of these requests
-abbrev pub answered_by : LinkAct → List Pending → Bool
-answered_by (Comes (arrival.Message m)) waiting = settles_one m.key waiting
-answered_by (Comes (arrival.Bad reason)) waiting = false
-answered_by Opens waiting = false
-answered_by (Fails kind) waiting = false
-answered_by Loses waiting = false
-answered_by (Drains most) waiting = false
+-- what the consumers of a link hear by a frame, and by its end
+abbrev pub hears_arrival : ℕ → Arrival → Subscription → Subscription
+hears_arrival l a s = if is_heard_on l s then after_came a s else s
+
+abbrev pub ended_on : ℕ → Subscription → Subscription
+ended_on l s = if is_heard_on l s then ended s else s

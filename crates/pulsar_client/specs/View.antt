@@ -1,12 +1,13 @@
 -- What is seen of a run, and what an act makes of it: one small function for each field.
-use Rattle.std.specs.Prelude.{ℕ, zero, suc, ◌+◌, ◌==◌, nat_le, Bool, true, false, if◌then◌else◌, List, [], ◌∷◌, ◌++◌, map, Option, Some, None, Result, Ok, Err}
+use Rattle.std.specs.Prelude.{ℕ, zero, suc, ◌+◌, ◌==◌, nat_le, nat_lt, ◌&&◌, not, Bool, true, false, if◌then◌else◌, List, [], ◌∷◌, ◌++◌, map, Option, Some, None, Result, Ok, Err}
 use Rattle.std.specs.List.{list_any}
-use Rattle.std.specs.Option.{is_some, option_map}
+use Rattle.std.specs.Option.{is_none, is_some, option_map}
 use Rattle.uuid.specs.Parts.{zero_bytes}
 use Rattle.pulsar_wire.specs.declared.error.ConnectionError.{ConnectionError}
 use Rattle.pulsar_wire.specs.declared.error.ConnectionError.TheVariants as error
 use Rattle.pulsar_messages.specs.Content.{AuthenticationValues}
 use Rattle.pulsar_messages.specs.Words.{Words}
+use Rattle.pulsar_requests.specs.Waits.{is_empty}
 use Rattle.pulsar_session.specs.declared.states.Asked.{Asked}
 use Rattle.pulsar_session.specs.declared.states.Asked.TheVariants as asked
 use Rattle.pulsar_session.specs.declared.states.Stage.{Stage}
@@ -205,11 +206,11 @@ setup o now address =
       made = now;
     }
 
-abbrev pub seat_dialed : Setup → Seat
-seat_dialed s = record { seen = session.fresh s; askers = λ place. None }
+abbrev pub seat_of_fresh : Seen → Seat
+seat_of_fresh seen = record { seen = seen; askers = λ place. None }
 
 abbrev pub dialed : Chosen → (now : ℕ) → Option Seat
-dialed o now = option_map (λ address. seat_dialed (setup o now address)) o.address
+dialed o now = option_map (λ address. seat_of_fresh (session.fresh (setup o now address))) o.address
 
 -- those whose requests are settled are no askers any more
 abbrev pub askers_left : (settled : List ℕ) → (ℕ → Option Who) → ℕ → Option Who
@@ -230,6 +231,15 @@ abbrev pub took_some : LinkAct → (now : ℕ) → Option Seat → Option Seat
 took_some x now None = None
 took_some x now (Some seat) = took x now seat
 
+-- a link was started, and has ended
+abbrev pub has_ended : ℕ → Links → Bool
+has_ended l ls = nat_lt l ls.started && is_none (ls.live l)
+
+-- a request waits on a link that has not ended
+abbrev pub is_busy : Option Seat → Bool
+is_busy None = false
+is_busy (Some seat) = not (is_empty seat.seen.waits.waiting)
+
 -- what becomes of a request that is asked for on a link: it is refused where there is no such link
 abbrev pub answer_at : (now : ℕ) → Words → Option Seat → Result Asked ConnectionError
 answer_at now request None = Err error.Disconnected
@@ -240,20 +250,22 @@ abbrev pub is_asked : Result Asked ConnectionError → Bool
 is_asked (Ok asked) = true
 is_asked (Err e) = false
 
--- who asks for a frame that has a reply is the asker of its place
-abbrev pub asker_of : (is_asker : Bool) → Who → (place : ℕ) → (ℕ → Option Who) → ℕ → Option Who
-asker_of is_asker who place askers p = if is_asker then (if p == place then Some who else askers p) else askers p
+-- the place of its frame
+abbrev pub place_of : Result Asked ConnectionError → Option ℕ
+place_of (Ok (asked.Queued place)) = Some place
+place_of (Ok (asked.Waiting place)) = Some place
+place_of (Err e) = None
 
-abbrev pub askers_after : (is_asker : Bool) → Who → Result Asked ConnectionError → (ℕ → Option Who) → ℕ → Option Who
-askers_after is_asker who (Ok (asked.Queued place)) askers p = asker_of is_asker who place askers p
-askers_after is_asker who (Ok (asked.Waiting place)) askers p = asker_of is_asker who place askers p
-askers_after is_asker who (Err e) askers p = askers p
+-- who asks for a frame that has a reply is the asker of its place
+abbrev pub asker_at : (is_asker : Bool) → Who → (place : Option ℕ) → (ℕ → Option Who) → ℕ → Option Who
+asker_at is_asker who None askers p = askers p
+asker_at is_asker who (Some place) askers p = if is_asker then (if p == place then Some who else askers p) else askers p
 
 abbrev pub seat_asked : Who → (now : ℕ) → Words → Seat → Seat
 seat_asked who now request seat =
     record {
       seen = session.after (Asks now request) seat.seen;
-      askers = askers_after (is_answered (request_number request)) who (session.asked now request seat.seen) seat.askers;
+      askers = asker_at (is_answered (request_number request)) who (place_of (session.asked now request seat.seen)) seat.askers;
     }
 
 abbrev pub live_after : Chosen → (now started : ℕ) → Act → ℕ → Option Seat → Option Seat

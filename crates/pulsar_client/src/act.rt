@@ -143,7 +143,7 @@ pub enum LinkAct {
     /// The next frame of what came is read.
     Reads,
     /// So many queued frames may be written.
-    Drains(u64),
+    Drains(usize),
     /// It ends.
     Ends(End),
 }

@@ -3,7 +3,7 @@
 ghost use Rattle.std.specs.Prelude.{◌≡◌, ◌==◌, ℕ, None, IfOk, OnOk, if◌then◌else◌};
 ghost use Rattle.std.specs.BTreeSet.{contains};
 ghost use Rattle.std.specs.Ordering.{nat_cmp};
-ghost use Rattle.pulsar_requests.specs.Waits.{has_come};
+ghost use Rattle.pulsar_requests.specs.Soonest.{has_come};
 
 use pulsar_wire::error::NoMemory;
 use std::alloc::Global;

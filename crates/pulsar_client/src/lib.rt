@@ -7,15 +7,17 @@ mod agenda;
 mod base;
 mod consumers;
 mod content;
+mod due;
 pub mod effect;
 pub mod event;
-pub mod laws;
 mod links;
 pub mod options;
 mod order;
 pub mod outside;
 mod plans;
 pub mod pulsar;
+mod row;
+mod settings;
 mod tables;
 mod who;
 

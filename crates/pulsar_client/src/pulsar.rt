@@ -7,11 +7,12 @@ ghost use Rattle.pulsar_client.specs.View.{Chosen};
 ghost use Rattle.pulsar_client.specs.Tables.{answered, step};
 ghost use Rattle.pulsar_client.specs.Client.{HasFailed, IsDead, StandsFor, chosen};
 
-use crate::address::Address;
 use crate::effect::Effect;
 use crate::event::{Call, Event};
 use crate::options::ClientOptions;
+use crate::settings::Settings;
 use crate::tables::Tables;
+use pulsar_session::states::Stage;
 use pulsar_wire::error::NoMemory;
 use std::alloc::Global;
 
@@ -29,8 +30,8 @@ impl Pulsar {
     pub fn new(alloc: Global, options: ClientOptions) -> Result<Pulsar, NoMemory>
         ensures { IfOk result (λ c. StandsFor (chosen options) c []) }
     {
-        let address = Address::of(alloc, &options.url)?;
-        let tables = Tables::new(alloc, options.first_number, options.now, address);
+        let settings = Settings::new(alloc, &options)?;
+        let tables = Tables::new(alloc, settings);
         Ok(Pulsar {
             options,
             tables,
@@ -76,6 +77,30 @@ impl Pulsar {
         let ticket = self.tables.tickets;
         let effects = self.take(Event::Call(call))?;
         Ok((ticket, effects))
+    }
+
+    /// The options that it was made with.
+    pub fn options(&self) -> &ClientOptions
+        ensures { result.now ≡ self.now.options }
+    {
+        &self.options
+    }
+
+    /// A link of this number has ended. It takes no memory.
+    pub fn link_ended(&self, link: u64) -> bool {
+        self.tables.links.has_ended(link)
+    }
+
+    /// A link of this number is open, and something waits for it: it is not ready yet, or a request of it waits for a reply, or
+    /// a raw consumer on it hears. It takes no memory.
+    pub fn link_waits(&self, link: u64) -> bool {
+        match self.tables.links.stage(link) {
+            Some(Stage::Handshaking) => true,
+            Some(Stage::Ready) => {
+                self.tables.links.is_busy(link) || self.tables.subscribers.hears_on(link)
+            }
+            Some(Stage::Dialing | Stage::Over) | None => false,
+        }
     }
 
     fn take(&mut self, event: Event) -> Result<Vec<Effect>, NoMemory>

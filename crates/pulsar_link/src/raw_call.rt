@@ -1,6 +1,9 @@
 //! What a user asks of one connection.
 
-ghost use Rattle.std.specs.Prelude.{◌≡◌, IfOk};
+ghost use Rattle.std.specs.Prelude.{◌≡◌, IfOk, string_bytes};
+ghost use Rattle.std.specs.Option.{option_map};
+ghost use Rattle.pulsar_messages.specs.Content.{consumer_options_values, producer_message_values, producer_options_values};
+ghost use Rattle.pulsar_messages.specs.Words.{CreateProducer, Send, Subscribe};
 ghost use Rattle.pulsar_link.specs.RawCall.{words_of};
 ghost use Rattle.pulsar_link.specs.Request.{closed_consumer, request_number, subscribed};
 
@@ -121,13 +124,7 @@ impl RawCall {
                 sequence_id,
                 message,
                 block,
-            } => Ok(RawCall::Send {
-                producer_id: *producer_id,
-                name: name.clone()?,
-                sequence_id: *sequence_id,
-                message: message.copy()?,
-                block: *block,
-            }),
+            } => copy_send(*producer_id, name, *sequence_id, message, *block),
             RawCall::SendPing => Ok(RawCall::SendPing),
             RawCall::LookupTopic {
                 topic,
@@ -150,12 +147,7 @@ impl RawCall {
                 producer_id,
                 name,
                 options,
-            } => Ok(RawCall::CreateProducer {
-                topic: topic.clone()?,
-                producer_id: *producer_id,
-                name: copy_optional(name)?,
-                options: options.copy()?,
-            }),
+            } => copy_create_producer(topic, *producer_id, name, options),
             RawCall::GetTopicsOfNamespace { namespace, mode } => Ok(
                 RawCall::GetTopicsOfNamespace {
                     namespace: namespace.clone()?,
@@ -172,14 +164,7 @@ impl RawCall {
                 consumer_id,
                 name,
                 options,
-            } => Ok(RawCall::Subscribe {
-                topic: topic.clone()?,
-                subscription: subscription.clone()?,
-                sub_type: *sub_type,
-                consumer_id: *consumer_id,
-                name: copy_optional(name)?,
-                options: options.copy()?,
-            }),
+            } => copy_subscribe(topic, subscription, *sub_type, *consumer_id, name, options),
             RawCall::SendFlow {
                 consumer_id,
                 permits,
@@ -275,4 +260,58 @@ impl RawCall {
             _ => Ok(None),
         }
     }
+}
+
+fn copy_send(
+    producer_id: u64,
+    name: &String,
+    sequence_id: u64,
+    message: &ProducerMessage,
+    block: bool,
+) -> Result<RawCall, NoMemory>
+    ensures { IfOk result (λ c. words_of c ≡ Send producer_id (string_bytes name.now) sequence_id (producer_message_values message.now) block) }
+{
+    Ok(RawCall::Send {
+        producer_id,
+        name: name.clone()?,
+        sequence_id,
+        message: message.copy()?,
+        block,
+    })
+}
+
+fn copy_create_producer(
+    topic: &String,
+    producer_id: u64,
+    name: &Option<String>,
+    options: &ProducerOptions,
+) -> Result<RawCall, NoMemory>
+    ensures { IfOk result (λ c. words_of c ≡ CreateProducer (string_bytes topic.now) producer_id (option_map string_bytes name.now) (producer_options_values options.now)) }
+{
+    Ok(RawCall::CreateProducer {
+        topic: topic.clone()?,
+        producer_id,
+        name: copy_optional(name)?,
+        options: options.copy()?,
+    })
+}
+
+fn copy_subscribe(
+    topic: &String,
+    subscription: &String,
+    sub_type: SubType,
+    consumer_id: u64,
+    name: &Option<String>,
+    options: &ConsumerOptions,
+) -> Result<RawCall, NoMemory>
+    ensures { IfOk result (λ c. words_of c ≡ Subscribe (string_bytes topic.now) (string_bytes subscription.now) sub_type consumer_id (option_map string_bytes name.now) (consumer_options_values options.now)) }
+{
+    Ok(RawCall::Subscribe {
+        topic: topic.clone()?,
+        subscription: subscription.clone()?,
+        sub_type,
+        consumer_id,
+        name: copy_optional(name)?,
+        options: options.copy()?,
+    })
 }

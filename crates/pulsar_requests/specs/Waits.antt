@@ -94,11 +94,6 @@ is_due now excused p = nat_le p.deadline now && not (is_excused excused p.create
 abbrev pub any_due : ℕ → Waits → Bool
 any_due now w = list_any (is_due now w.excused) w.waiting
 
--- a moment has come
-abbrev pub has_come : (now : ℕ) → Option ℕ → Bool
-has_come now None = false
-has_come now (Some moment) = nat_le moment now
-
 abbrev pub request_at : ℕ → List Pending → Option Pending
 request_at place [] = None
 request_at place (p ∷ ps) = if p.place == place then Some p else request_at place ps

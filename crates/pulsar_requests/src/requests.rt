@@ -8,7 +8,8 @@ ghost use Rattle.std.specs.BTreeSet.{contains, insert_key};
 ghost use Rattle.pulsar_wire.specs.Sink.{capped};
 ghost use Rattle.pulsar_requests.specs.Awaited.{is_same};
 ghost use Rattle.pulsar_requests.specs.Kept.{AreTimed, Taken, excuses, places_of};
-ghost use Rattle.pulsar_requests.specs.Waits.{Waits, answered_by, any_due, ended, found, has_come, is_empty, is_excused, is_listed, is_overdue, later_of, named, places, told, with_next, without};
+ghost use Rattle.pulsar_requests.specs.Soonest.{due_at};
+ghost use Rattle.pulsar_requests.specs.Waits.{Waits, answered_by, any_due, ended, found, is_empty, is_excused, is_listed, is_overdue, later_of, named, places, told, with_next, without};
 
 use crate::awaited::{Awaited, Claim};
 use pulsar_wire::error::NoMemory;
@@ -310,20 +311,22 @@ impl Requests {
         Ok(places)
     }
 
-    /// A request is due.
+    /// A request is due. The first that is not excused decides, since no deadline is before an earlier one.
     pub fn any_due(&self, now: u64) -> bool
         ensures { result ≡ any_due now self.now }
     {
-        match self.due_at() {
-            Some(moment) => moment <= now,
+        match self.timed.first() {
+            Some(place) => match self.waiters.get(place) {
+                Some(waiter) => waiter.deadline <= now,
+                None => false,
+            },
             None => false,
         }
     }
 
-    /// When a request is due for the first time. The first that is not excused decides, since no deadline is before an earlier
-    /// one.
+    /// The first moment at which one of those that wait is due.
     pub fn due_at(&self) -> Option<u64>
-        ensures { (now : ℕ) → any_due now self.now ≡ has_come now result }
+        ensures { result ≡ due_at self.now }
     {
         match self.timed.first() {
             Some(place) => match self.waiters.get(place) {

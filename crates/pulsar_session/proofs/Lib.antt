@@ -16,3 +16,4 @@ pub mod Steps
 pub mod Still
 pub mod Streams
 pub mod Told
+pub mod Soonest

@@ -6,10 +6,12 @@ ghost use Rattle.std.specs.Option.{is_none, option_map};
 ghost use Rattle.pulsar_wire.specs.Views.{message_id_values};
 ghost use Rattle.pulsar_messages.specs.Content.{authentication_values, consumer_options_values, producer_message_values, producer_options_values};
 ghost use Rattle.pulsar_messages.specs.Words.{AuthChallenge, CloseConsumer, CloseConsumerUnawaited, CloseProducer, CreateProducer, GetConsumerStats, GetLastMessageId, GetSchema, GetTopicsOfNamespace, LookupPartitionedTopic, LookupTopic, Seek, Send, SendAck, SendFlow, SendPing, SendRedeliver, Subscribe, Unsubscribe};
-ghost use Rattle.pulsar_requests.specs.Waits.{has_come, is_empty, is_overdue};
+ghost use Rattle.pulsar_requests.specs.Soonest.{has_come};
+ghost use Rattle.pulsar_requests.specs.Waits.{is_empty, is_overdue};
 ghost use Rattle.pulsar_session.specs.Failures.{fault};
 ghost use Rattle.pulsar_session.specs.Kept.{OnAnswer, came_of};
 ghost use Rattle.pulsar_session.specs.Link.{Asks, Closes, Drains, Feeds, Opens, Takes, after, asked, came, due, ends, frame_at, fresh, written};
+ghost use Rattle.pulsar_session.specs.Soonest.{due_at};
 
 use crate::frames::{command_frame, message_frame};
 use crate::link::{Link, Setup};
@@ -177,9 +179,10 @@ impl Connection {
         self.link.due(now)
     }
 
-    /// When it is to be closed, unless what it waits for comes before.
+    /// The first moment at which it is due as it stands now, if there is one.
     pub fn due_at(&self) -> Option<u64>
-        ensures { (now : ℕ) → due now self.now ≡ has_come now result }
+        ensures moment { result ≡ due_at self.now }
+        ensures due { (now : ℕ) → due now self.now ≡ has_come now result }
     {
         self.link.due_at()
     }

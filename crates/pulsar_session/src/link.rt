@@ -1,17 +1,18 @@
 //! What a connection keeps, and what it does.
 
-ghost use Rattle.std.specs.Prelude.{◌≡◌, ℕ, ◌++◌, Some, None, Bool, true, false, IfOk, OnOk, OnErr, option_copied, string_bytes, filter, take, drop, if◌then◌else◌};
+ghost use Rattle.std.specs.Prelude.{◌≡◌, ◌++◌, Some, None, Bool, true, false, IfOk, OnOk, OnErr, option_copied, string_bytes, filter, take, drop, if◌then◌else◌};
 ghost use Rattle.std.specs.List.{flat_map};
 ghost use Rattle.std.specs.Option.{option_map};
 ghost use Rattle.pulsar_frame.specs.Shown.{message_values};
 ghost use Rattle.pulsar_frame.specs.Frame.{front};
 ghost use Rattle.pulsar_messages.specs.Content.{authentication_values};
 ghost use Rattle.pulsar_messages.specs.Messages.{connect_command};
-ghost use Rattle.pulsar_requests.specs.Waits.{has_come, places};
+ghost use Rattle.pulsar_requests.specs.Waits.{places};
 ghost use Rattle.pulsar_session.specs.Answers.{answers};
 ghost use Rattle.pulsar_session.specs.Failures.{fault};
 ghost use Rattle.pulsar_session.specs.Kept.{OnAnswer, arrival_of, arrives, contents, setup_of, table};
 ghost use Rattle.pulsar_session.specs.Link.{answered_to, asks_for, bare, came, came_by, came_in, challenged, closes, drawn, due, ends, feeds, frame_at, frame_for, fresh, greets_with, has_room, is_late, is_open, is_over, is_ready, moved_up, named_by, number_for, opens_in, place_of, put_frame, pongs, put_in, queue, reacts, received, responds, settled_by, taken_in, ticked, written};
+ghost use Rattle.pulsar_session.specs.Soonest.{due_at};
 
 use crate::frames::{Arrival, Next, awaited_by, command_frame, is, unasked, unready};
 use crate::incoming::{First, Incoming};
@@ -413,7 +414,7 @@ impl Link {
     }
 
     pub fn due_at(&self) -> Option<u64>
-        ensures { (now : ℕ) → due now (table self.now) ≡ has_come now result }
+        ensures { result ≡ due_at (table self.now) }
     {
         match self.stage {
             Stage::Ready => self.requests.due_at(),

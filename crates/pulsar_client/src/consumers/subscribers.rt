@@ -5,19 +5,15 @@ ghost use Rattle.std.specs.BTreeSet.{insert_key};
 ghost use Rattle.std.specs.Option.{is_some, option_copied, option_map};
 ghost use Rattle.std.specs.Ordering.{nat_cmp};
 ghost use Rattle.pulsar_client.specs.Content.{shown};
-ghost use Rattle.pulsar_link.specs.Link.{Pending};
-ghost use Rattle.pulsar_client.specs.Subscribers.{answered_by, fresh_in, given_at, is_listed, kept_at, live_at, subscription_at, tickets_of, with_items};
-ghost use Rattle.pulsar_client.specs.Subscriptions.{after_poll, closed_at, ends_with, hears, polled};
-ghost use Rattle.pulsar_link.specs.Link.{settles_one};
+ghost use Rattle.pulsar_client.specs.Subscribers.{ended_on, fresh_in, given_at, hears_arrival, is_listed, kept_at, live_at, subscription_at, tickets_of, with_items};
+ghost use Rattle.pulsar_client.specs.Subscriptions.{after_poll, closed_at, is_last, polled};
 
+use crate::act::Arrival;
 use crate::consumers::subscriber::Subscriber;
 use crate::effect::Effect;
-use pulsar_link::act::{Arrival, LinkAct};
 use pulsar_link::content::Received;
-use pulsar_link::given::{Admission, Change};
 use pulsar_wire::bodies;
 use pulsar_wire::error::NoMemory;
-use pulsar_wire::key::RequestKey;
 use std::alloc::Global;
 use std::collections::{BTreeMap, BTreeSet};
 
@@ -68,27 +64,30 @@ impl Subscribers {
         Ok(Some(row.poll(ticket, is_live)?))
     }
 
-    /// The consumers of a link hear what comes to it. Whether it is a frame that answers a request is told.
-    pub fn hear(&mut self, link: u64, act: &LinkAct, is_answer: bool) -> Result<(), NoMemory>
-        ensures { OnOk result ((waiting : List Pending) → is_answer ≡ answered_by act.now waiting → (t : ℕ) → subscription_at self.new t ≡ option_map (hears link act.now waiting) (subscription_at self.old t)) }
+    /// A live consumer is of this link. It takes no memory.
+    pub fn hears_on(&self, link: u64) -> bool {
+        self.live.contains_key(&link)
+    }
+
+    /// The consumers of a link hear what comes to it.
+    pub fn hear(&mut self, link: u64, arrival: Arrival) -> Result<(), NoMemory>
+        ensures { OnOk result ((t : ℕ) → subscription_at self.new t ≡ option_map (hears_arrival link arrival) (subscription_at self.old t)) }
     {
-        match act {
-            LinkAct::Comes(Arrival::Message(message)) => self.hear_frame(link, message, is_answer),
-            LinkAct::Comes(Arrival::Bad(_))
-            | LinkAct::Opens
-            | LinkAct::Fails(_)
-            | LinkAct::Loses
-            | LinkAct::Drains(_) => Ok(()),
+        match arrival {
+            Arrival::Gives { consumer, reply } => self.hear_frame(link, consumer, &reply),
+            Arrival::Nothing
+            | Arrival::Readied
+            | Arrival::Settles
+            | Arrival::Passes
+            | Arrival::Bad(_) => Ok(()),
         }
     }
 
     /// The consumers of a link end with it.
-    pub fn end(&mut self, link: u64, change: Change)
-        ensures { (t : ℕ) → subscription_at self.new t ≡ option_map (ends_with link change) (subscription_at self.old t) }
+    pub fn end(&mut self, link: u64)
+        ensures { (t : ℕ) → subscription_at self.new t ≡ option_map (ended_on link) (subscription_at self.old t) }
     {
-        if change.is_ended() {
-            self.live.remove(&link);
-        }
+        self.live.remove(&link);
     }
 
     /// The consumers of this number on a link end where their close is asked for.
@@ -96,34 +95,25 @@ impl Subscribers {
         &mut self,
         link: u64,
         number: Option<u64>,
-        admission: Admission,
+        is_asked: bool,
     ) -> Result<(), NoMemory>
-        ensures { OnOk result ((t : ℕ) → subscription_at self.new t ≡ option_map (closed_at link number admission) (subscription_at self.old t)) }
+        ensures { OnOk result ((t : ℕ) → subscription_at self.new t ≡ option_map (closed_at link number is_asked) (subscription_at self.old t)) }
     {
         match number {
-            Some(number) if admission.is_queued() => self.close(link, number),
+            Some(number) if is_asked => self.close(link, number),
             _ => Ok(()),
         }
     }
 
-    fn hear_frame(&mut self, link: u64, message: &Received, is_answer: bool) -> Result<(), NoMemory>
-        ensures { OnOk result ((waiting : List Pending) → is_answer ≡ settles_one message.now.key waiting → (t : ℕ) → subscription_at self.new t ≡ option_map (hears link (LinkAct.Comes (Arrival.Message message.now)) waiting) (subscription_at self.old t)) }
+    /// The consumers of this number on the link hear a frame for them.
+    fn hear_frame(&mut self, link: u64, number: u64, reply: &Received) -> Result<(), NoMemory>
+        ensures { OnOk result ((t : ℕ) → subscription_at self.new t ≡ option_map (hears_arrival link (Arrival.Gives number reply.now)) (subscription_at self.old t)) }
     {
-        match message.key() {
-            Some(RequestKey::Consumer { consumer_id }) => {
-                if message.is(bodies::MESSAGE) {
-                    self.give(link, consumer_id, message)
-                } else if message.is(bodies::REACHED_END_OF_TOPIC) {
-                    self.close(link, consumer_id)
-                } else {
-                    Ok(())
-                }
-            }
-            Some(RequestKey::CloseConsumer { consumer_id, .. }) if !is_answer => {
-                self.close(link, consumer_id)
-            }
-            _ => Ok(()),
+        self.give(link, number, reply)?;
+        if is_last(reply) {
+            self.close(link, number)?;
         }
+        Ok(())
     }
 
     /// What a message gives is put behind the items of each consumer of this number on the link.
@@ -146,12 +136,21 @@ impl Subscribers {
             return Ok(());
         };
         numbers.remove(&number);
-        self.live.insert(link, numbers)?;
+        if !numbers.is_empty() {
+            self.live.insert(link, numbers)?;
+        }
         Ok(())
     }
 }
 
-/// The tickets of those of this number on the link that hear, if any ever did.
+/// The end of a topic, or the close of the broker.
+fn is_last(reply: &Received) -> bool
+    ensures { result ≡ is_last reply.now }
+{
+    reply.is(bodies::REACHED_END_OF_TOPIC) || reply.is(bodies::CLOSE_CONSUMER)
+}
+
+/// The tickets of those of this number on the link that hear, if any do.
 fn listed(
     live: &BTreeMap<u64, BTreeMap<u64, BTreeSet<u64>>>,
     link: u64,

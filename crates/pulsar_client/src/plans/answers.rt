@@ -69,12 +69,7 @@ pub fn is_answer(request: u32, reply: &Received) -> bool
 }
 
 /// What a reply says to the request with the body of this number.
-pub fn said(
-    alloc: Global,
-    says: Says,
-    request: u32,
-    reply: Received,
-) -> Result<Said, NoMemory>
+pub fn said(alloc: Global, says: Says, request: u32, reply: Received) -> Result<Said, NoMemory>
     ensures { IfOk result (λ s. s ≡ reply_says says request reply) }
 {
     if is_answer(request, &reply) {

@@ -178,10 +178,7 @@ fn refusal_error(alloc: Global, refusal: Refusal) -> Result<Error, NoMemory>
 {
     match refusal {
         Refusal::Shutdown => Ok(Error::Connection(ConnectionError::Shutdown)),
-        Refusal::NoOutbound => Ok(Error::Custom(String::from_str(
-            alloc,
-            "outbound size is 0",
-        )?)),
+        Refusal::NoOutbound => Ok(Error::Custom(String::from_str(alloc, "outbound size is 0")?)),
     }
 }
 

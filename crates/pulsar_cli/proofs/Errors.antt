@@ -1,5 +1,5 @@
 -- Printed errors: of messages that were sent together.
-use Rattle.std.proofs.Common.{◌≡◌, ◌∙◌, ℕ, ◌+◌, sym, ap, refl, arith, List, [], ◌∷◌, ◌++◌, length, append_assoc, append-nil, codes}
+use Rattle.std.proofs.Common.{◌≡◌, ◌∙◌, ℕ, sym, ap, refl, arith, List, [], ◌∷◌, ◌++◌, length, append_assoc, append-nil, codes}
 use Rattle.std.specs.Prelude.{Result, Ok, Err}
 use Rattle.std.specs.Fmt.{decimal}
 use Rattle.pulsar_wire.specs.declared.error.Error.{Error}

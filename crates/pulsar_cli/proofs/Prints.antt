@@ -8,7 +8,6 @@ use Rattle.pulsar_client.specs.Run.{Good, Step}
 use Rattle.pulsar_client.specs.Client.{chosen}
 use Rattle.pulsar_client.specs.View.{Chosen}
 use Rattle.pulsar_client.specs.declared.pulsar.Pulsar.{Pulsar}
-use Rattle.pulsar_client.specs.Outside.{Rose}
 use Rattle.pulsar_cli.specs.Grammar.{lines}
 use Rattle.pulsar_cli.specs.Text.{refusal}
 use Rattle.pulsar_cli.specs.Script.{Adds, AddsFront, IsDone, IsRunOf, IsStopped, IsRefused, Printed, blank, script_of, text}

@@ -1,6 +1,6 @@
 -- What a reading knows of its script.
 use Rattle.std.proofs.Common.{◌≡◌, ℕ, ◌+◌, ◌∙◌, sym, ap, subst, List, [], ◌∷◌, ◌++◌, refl, arith, true, false, Option, Some, None, length, append_assoc, length-append}
-use Rattle.std.specs.Prelude.{codes, is_some, string_bytes, Result, Ok, Err, IfOk}
+use Rattle.std.specs.Prelude.{is_some, string_bytes, Result, Ok, Err, IfOk}
 use Rattle.pulsar_wire.specs.Field.{◌>>=◌}
 use Rattle.pulsar_client.specs.Content.{Heard, Shown}
 use Rattle.pulsar_client.specs.Client.{StandsFor, chosen}

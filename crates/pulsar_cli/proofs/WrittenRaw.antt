@@ -20,7 +20,7 @@ use Rattle.std.proofs.Math.Nat.{pow-succ'}
 use Rattle.std.proofs.Math.Seq.{take-append_seam, drop-append-add}
 use Rattle.hex.specs.Hex.{IsBytes}
 use Rattle.pulsar_wire.specs.Field.{◌>>=◌}
-use Rattle.pulsar_wire.specs.Fits.{Fits, FitsContent, InRange}
+use Rattle.pulsar_wire.specs.Fits.{FitsContent, InRange}
 use Rattle.pulsar_wire.specs.Row.{Kind, Text, Bytes, Uint32, Uint64, Int32, Int64, Flag, Row, End, Plain, Embedded, Numbers, Values, Content, each, entry, items, reading, spelling, varint, varint_in, wire, wire_type}
 use Rattle.pulsar_wire.specs.Rows.{message_id}
 use Rattle.pulsar_wire.specs.declared.commands.enumerations.SubType.{SubType}

@@ -8,9 +8,7 @@ ghost use Rattle.pulsar_cli.specs.Parsed.{setting_of};
 ghost use Rattle.pulsar_cli.specs.Script.{chooses, defaults};
 
 use crate::grammar::setting::Setting;
-use pulsar_client::{
-    Authentication, ClientOptions, ConnectionRetryOptions, OperationRetryOptions,
-};
+use pulsar_client::{Authentication, ClientOptions, ConnectionRetryOptions, OperationRetryOptions};
 use pulsar_wire::NoMemory;
 use std::alloc::Global;
 

@@ -11,8 +11,8 @@ ghost use Rattle.pulsar_cli.specs.Shown.{IsClient, IsNoScriptWith, KeepsOptions,
 
 use crate::grammar::line::{Line, parse};
 use crate::grammar::setting::Setting;
-use crate::options::{choose, copied, defaults};
 use crate::grammar::word::cut_line;
+use crate::options::{choose, copied, defaults};
 use crate::printing::effect::push_step;
 use crate::stop::Stop;
 use pulsar_client::{ClientOptions, Event, Pulsar};

@@ -47,11 +47,7 @@ pub fn raw_call(alloc: Global, words: &[&[u8]]) -> Result<Option<RawCall>, NoMem
 }
 
 /// A word that belongs to a producer, or to a consumer, and what follows it.
-fn member_call(
-    alloc: Global,
-    word: &[u8],
-    words: &[&[u8]],
-) -> Result<Option<RawCall>, NoMemory>
+fn member_call(alloc: Global, word: &[u8], words: &[&[u8]]) -> Result<Option<RawCall>, NoMemory>
     ensures { IfOk result (λ c. option_map words_of c ≡ member_call word.now (map (λ w. w.now) words.now)) }
 {
     if is(word, "producer") {
@@ -66,11 +62,7 @@ fn member_call(
 }
 
 /// A word that belongs to a consumer, and what follows it.
-fn consumer_call(
-    alloc: Global,
-    word: &[u8],
-    words: &[&[u8]],
-) -> Result<Option<RawCall>, NoMemory>
+fn consumer_call(alloc: Global, word: &[u8], words: &[&[u8]]) -> Result<Option<RawCall>, NoMemory>
     ensures { IfOk result (λ c. option_map words_of c ≡ consumer_call word.now (map (λ w. w.now) words.now)) }
 {
     if is(word, "subscribe") {

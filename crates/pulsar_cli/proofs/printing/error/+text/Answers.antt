@@ -1,4 +1,4 @@
-use Rattle.std.proofs.Common.{◌≡◌, ◌∙◌, ◌++◌, sym, ap}
+use Rattle.std.proofs.Common.{◌∙◌, ◌++◌, sym, ap}
 use Rattle.std.specs.Prelude.{string_bytes}
 use Rattle.pulsar_session.specs.Failures.{OfPartialSend, of_producer, sent}
 use Rattle.pulsar_cli.specs.ErrorText as printed

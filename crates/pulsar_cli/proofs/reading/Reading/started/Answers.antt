@@ -1,4 +1,4 @@
-use Rattle.std.proofs.Common.{rules, ◌≡◌, [], Some, None}
+use Rattle.std.proofs.Common.{rules, ◌≡◌, Some, None}
 use Rattle.pulsar_client.specs.Client.{chosen}
 use Rattle.pulsar_cli.proofs.Readings.{begins-with, goes-on-with}
 use Rattle.pulsar_cli.proofs.reading.Reading.started.Goals as goal

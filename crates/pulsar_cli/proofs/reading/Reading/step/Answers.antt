@@ -1,4 +1,4 @@
-use Rattle.std.proofs.Common.{refl, sym, [], map}
+use Rattle.std.proofs.Common.{refl, sym, map}
 use Rattle.pulsar_client.specs.Content.{shown}
 use Rattle.pulsar_client.specs.Client.{chosen}
 use Rattle.pulsar_cli.proofs.reading.Reading.step.Goals as goal

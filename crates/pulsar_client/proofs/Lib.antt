@@ -1,5 +1,6 @@
 pub mod Lists
 pub mod Places
+pub mod Moments
 pub mod Deliveries
 pub mod Steps
 pub mod Sorting

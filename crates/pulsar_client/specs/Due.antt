@@ -1,12 +1,14 @@
 -- For the code's contracts alone: when links are due, as the code keeps it.
-use Rattle.std.specs.Prelude.{◌≡◌, ℕ, ◌==◌, Bool, false, Option, Some, None}
-use Rattle.std.specs.BTreeMap.{BTreeMap, get}
+use Rattle.std.specs.Prelude.{◌≡◌, ℕ, ◌==◌, Bool, false, List, Option, Some, None}
+use Rattle.std.specs.BTreeMap.{BTreeMap, get, is_at}
 use Rattle.std.specs.BTreeSet.{BTreeSet, contains}
+use Rattle.std.specs.Map.{lookup}
 use Rattle.std.specs.Ordering.{nat_cmp}
 use Rattle.pulsar_client.specs.declared.due.DueMoments.TheInside.{Inside}
 
-abbrev pub moment_of : Inside → ℕ → Option ℕ
-moment_of i l = get nat_cmp i.moments l
+-- the moment of a link
+abbrev pub moment_at : List (ℕ × ℕ) → ℕ → Option ℕ
+moment_at moments l = lookup (is_at (nat_cmp l)) moments
 
 -- a link is listed at a moment
 abbrev pub is_in : ℕ → Option (BTreeSet ℕ) → Bool
@@ -22,5 +24,8 @@ is_moment m None = false
 is_moment m (Some moment) = moment == m
 
 -- each link is listed at its moment, and at no other
-pub record IsWhole (i : Inside) : Type 0 where
-  pub listed : (m l : ℕ) → is_listed i.links m l ≡ is_moment m (moment_of i l)
+abbrev pub AreListed : List (ℕ × ℕ) → BTreeMap ℕ (BTreeSet ℕ) → Type 0
+AreListed moments links = (m l : ℕ) → is_listed links m l ≡ is_moment m (moment_at moments l)
+
+abbrev pub IsWhole : Inside → Type 0
+IsWhole i = AreListed i.moments.entries i.links

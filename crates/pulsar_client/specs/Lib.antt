@@ -14,3 +14,4 @@ pub mod Kept
 pub mod Tables
 pub mod Client
 pub mod Outside
+pub mod Laws

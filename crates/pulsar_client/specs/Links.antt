@@ -100,18 +100,18 @@ is_own_end Stops = true
 
 -- FRAMES
 
--- so many places from one on
-abbrev pub places_from : (first count : ℕ) → List ℕ
-places_from first zero = []
-places_from first (suc n) = first ∷ places_from (suc first) n
+-- so many numbers from one on
+abbrev pub numbers_from : (first count : ℕ) → List ℕ
+numbers_from first zero = []
+numbers_from first (suc n) = first ∷ numbers_from (suc first) n
 
 -- the places of the frames that were queued between
 abbrev pub new_places : (before after : Seen) → List ℕ
-new_places s s' = places_from s.waits.queued (s'.waits.queued - s.waits.queued)
+new_places s s' = numbers_from s.waits.queued (s'.waits.queued - s.waits.queued)
 
 -- those of the frames that stand in the line
 abbrev pub line_places : Seen → List ℕ
-line_places s = places_from s.waits.queued (length s.line)
+line_places s = numbers_from s.waits.queued (length s.line)
 
 -- WHAT BECOMES OF A LINK
 
@@ -131,12 +131,6 @@ change_in (Bad cause) = Remains
 abbrev pub change_at : Option Fault → Change
 change_at None = Remains
 change_at (Some cause) = IsOver
-
-abbrev pub change : LinkAct → (now : ℕ) → Seen → Change
-change Opens now s = Remains
-change Reads now s = change_in (arrival s)
-change (Drains most) now s = Remains
-change (Ends end) now s = change_at (closed_by end now s)
 
 -- EFFECTS
 

@@ -1,7 +1,7 @@
 -- Plans. A procedure is what is to be done for a call, and a plan is where it stands: a state of a machine. It is told outcomes, one after
 -- the other. Each leads to the next state, with the action that is done there, or gives the verdict: the answer, and what the call leaves
 -- behind.  (Pulsar binary protocol, Producer; Consumer; Keep alive: what answers a request)
-use Rattle.std.specs.Prelude.{ℕ, Bool, List, [], ◌∷◌, Option, Some, None, codes, ◌==◌, if◌then◌else◌, string_bytes}
+use Rattle.std.specs.Prelude.{ℕ, Bool, false, List, [], ◌∷◌, Option, Some, None, codes, ◌==◌, if◌then◌else◌, string_bytes}
 use Rattle.pulsar_wire.specs.declared.error.IoKind.TheVariants as io_kind
 use Rattle.pulsar_messages.specs.Words.{Words}
 use Rattle.pulsar_session.specs.Failures.{Failure, Fault, Io, Disconnected, Canceled, Shutdown, OfConnection, NotFound, Custom}

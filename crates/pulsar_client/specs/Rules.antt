@@ -1,6 +1,6 @@
 -- What an event brings, and what arises from an act: at once, as further parts, among those whom the present cause still serves, or as
 -- causes of their own.
-use Rattle.std.specs.Prelude.{ℕ, zero, suc, nat_lt, Bool, ◌&&◌, ◌||◌, not, ◌==◌, if◌then◌else◌, List, [], ◌∷◌, ◌++◌, map, Option, Some, None, Result, Ok, Err}
+use Rattle.std.specs.Prelude.{ℕ, nat_lt, Bool, ◌&&◌, ◌||◌, not, ◌==◌, if◌then◌else◌, List, [], ◌∷◌, ◌++◌, map, Option, Some, None, Result, Ok, Err}
 use Rattle.std.specs.List.{filter_map, flat_map}
 use Rattle.std.specs.Option.{option_map, option_to_list}
 use Rattle.pulsar_wire.specs.declared.error.ConnectionError.{ConnectionError}
@@ -46,18 +46,20 @@ use Rattle.pulsar_client.specs.declared.plans.plan.Turn.TheVariants.{Stays, Give
 use Rattle.pulsar_client.specs.Address.{Address}
 use Rattle.pulsar_client.specs.Content as content
 use Rattle.pulsar_client.specs.Content.{Asked as Asking, Heard, Called, Opened, FailedToOpen, Bytes, Lost as Loses, Drain, Ticked, Poll}
-use Rattle.pulsar_client.specs.Links.{Change, Remains, Becomes, IsOver, arrival, change_in, closed_by, line_places, new_places, times_out}
+use Rattle.pulsar_client.specs.Links.{Change, Remains, Becomes, IsOver, change_in, closed_by, line_places, new_places, numbers_from, times_out}
 use Rattle.pulsar_client.specs.Links as links
 use Rattle.pulsar_client.specs.Plan.{begins, fails}
-use Rattle.pulsar_client.specs.View.{Base, Chosen, Links, Seat, Tickets, View, answer_at, is_live, told_some}
+use Rattle.pulsar_client.specs.View.{Base, Chosen, Links, Seat, Tickets, View, answer_at, arrival_at, closing, is_live, told_some}
 use Rattle.pulsar_client.specs.Who.{is_before, is_same, rank}
 
 -- EVENTS
 
 -- what each live link gives, link by link in their order
-abbrev pub over_links : {A : Type 0} → (ℕ → Seat → List A) → (ℕ → Option Seat) → (count : ℕ) → List A
-over_links f live zero = []
-over_links f live (suc l) = over_links f live l ++ flat_map (f l) (option_to_list (live l))
+abbrev pub on_link : {A : Type 0} → (ℕ → Seat → List A) → (ℕ → Option Seat) → ℕ → List A
+on_link f live l = flat_map (f l) (option_to_list (live l))
+
+abbrev pub over_links : {A : Type 0} → (ℕ → Seat → List A) → Links → List A
+over_links f ls = flat_map (on_link f ls.live) (numbers_from 0 ls.started)
 
 -- a link that is due ends, and the requests that it has queued so far may time out
 abbrev pub due_part : (now link : ℕ) → Seat → List Part
@@ -70,7 +72,7 @@ brings v (FailedToOpen l kind) = ToLink l (Ends (Unopened kind)) ∷ []
 brings v (Bytes l piece) = ToLink l Reads ∷ []
 brings v (Loses l) = ToLink l (Ends Lost) ∷ []
 brings v (Drain l most) = ToLink l (Drains most) ∷ []
-brings v (Ticked now) = over_links (due_part now) v.links.live v.links.started
+brings v (Ticked now) = over_links (due_part now) v.links
 brings v (Poll ticket) = Polls ticket ∷ []
 
 -- an event that isn't live brings nothing
@@ -141,7 +143,7 @@ abbrev pub stop_act : ℕ → Seat → List Act
 stop_act l seat = Comes (ToLink l (Ends Stops)) ∷ []
 
 abbrev pub stops : Who → Links → List Act
-stops who ls = over_links stop_act ls.live ls.started ++ tells who outcome.Stopped
+stops who ls = over_links stop_act ls ++ tells who outcome.Stopped
 
 abbrev pub performs : View → Who → Action → List Act
 performs v who Get = gets who v.chosen.address v.base.series
@@ -158,13 +160,9 @@ breaks_at l (GivesTo consumer reply) = []
 breaks_at l Passes = []
 breaks_at l (Bad cause) = Comes (ToLink l (Ends (Broken cause))) ∷ []
 
-abbrev pub breaks : ℕ → Option Seat → List Act
-breaks l None = []
-breaks l (Some seat) = breaks_at l (arrival seat.seen)
-
 abbrev pub at_once : View → Act → List Act
 at_once v (Comes (Calls asked)) = called v.chosen v.calls asked
-at_once v (Comes (ToLink l Reads)) = breaks l (v.links.live l)
+at_once v (Comes (ToLink l Reads)) = breaks_at l (arrival_at (v.links.live l))
 at_once v (Starts who p) = follows who (begins p)
 at_once v (Told n) = follows_some n.who (told_some (v.stand n.who) n.outcome)
 at_once v (Does who action) = performs v who action
@@ -181,12 +179,8 @@ reads_on l (GivesTo consumer reply) = ToLink l Reads ∷ []
 reads_on l Passes = ToLink l Reads ∷ []
 reads_on l (Bad cause) = []
 
-abbrev pub reads_at : ℕ → Option Seat → List Part
-reads_at l None = []
-reads_at l (Some seat) = reads_on l (arrival seat.seen)
-
 abbrev pub further : View → Act → List Part
-further v (Comes (ToLink l Reads)) = reads_at l (v.links.live l)
+further v (Comes (ToLink l Reads)) = reads_on l (arrival_at (v.links.live l))
 further v _ = []
 
 -- AMONG THOSE WHOM THE PRESENT CAUSE STILL SERVES
@@ -214,6 +208,10 @@ answered_by (session.Gives consumer reply) askers = []
 answered_by session.Challenged askers = []
 answered_by session.Dropped askers = []
 answered_by (session.Bad cause) askers = []
+
+abbrev pub answered_on : Option Seat → List Notice
+answered_on None = []
+answered_on (Some seat) = answered_by (came seat.seen) seat.askers
 
 -- those who wait for the address, as its link becomes ready
 abbrev pub served_by : ℕ → Change → List Who → List Notice
@@ -261,10 +259,18 @@ abbrev pub ended_places : End → (now : ℕ) → Seen → (ℕ → Option Who) 
 ended_places end now s askers =
     filter_map (tells_asker (lost end now s) askers) (ends s) ++ filter_map (tells_asker (λ place. dropped end) askers) (line_places s)
 
--- all whom its end serves
-abbrev pub ended_with : End → (now : ℕ) → Option Fault → Seen → (ℕ → Option Who) → Base → List Notice
-ended_with end now None s askers b = []
-ended_with end now (Some cause) s askers b = ended_places end now s askers ++ failed_at end b.series b.waiting
+abbrev pub ended_by : End → (now : ℕ) → Option Fault → Seat → List Notice
+ended_by end now None seat = []
+ended_by end now (Some cause) seat = ended_places end now seat.seen seat.askers
+
+abbrev pub ended_on : End → (now : ℕ) → Option Seat → List Notice
+ended_on end now None = []
+ended_on end now (Some seat) = ended_by end now (closed_by end now seat.seen) seat
+
+-- and all who wait for the address
+abbrev pub failed_by : End → Option Fault → Base → List Notice
+failed_by end None b = []
+failed_by end (Some cause) b = failed_at end b.series b.waiting
 
 -- those whom one act serves are one cause, if there are any
 abbrev pub opens : List Notice → List (List Notice)
@@ -275,20 +281,20 @@ opens (n ∷ ns) = (n ∷ ns) ∷ []
 abbrev pub moved_up : (ℕ → Option Who) → (before after : Seen) → List Notice
 moved_up askers s s' = filter_map (tells_asker (λ place. outcome.Queued) askers) (new_places s s')
 
+abbrev pub moved_on : (most now : ℕ) → Option Seat → List Notice
+moved_on most now None = []
+moved_on most now (Some seat) = moved_up seat.askers seat.seen (links.after (Drains most) now seat.seen)
+
 -- each is a cause by itself
 abbrev pub alone : Notice → List Notice
 alone n = n ∷ []
 
-abbrev pub caused : ℕ → LinkAct → (now : ℕ) → Seat → Base → List (List Notice)
-caused l link.Opens now seat b = []
-caused l Reads now seat b = opens (answered_by (came seat.seen) seat.askers ++ served_by l (change_in (arrival seat.seen)) b.waiting)
-caused l (Drains most) now seat b = map alone (moved_up seat.askers seat.seen (links.after (Drains most) now seat.seen))
-caused l (Ends end) now seat b = opens (ended_with end now (closed_by end now seat.seen) seat.seen seat.askers b)
-
-abbrev pub causes_at : ℕ → LinkAct → (now : ℕ) → Option Seat → Base → List (List Notice)
-causes_at l x now None b = []
-causes_at l x now (Some seat) b = caused l x now seat b
+abbrev pub caused : ℕ → LinkAct → (now : ℕ) → Option Seat → Base → List (List Notice)
+caused l link.Opens now row b = []
+caused l Reads now row b = opens (answered_on row ++ served_by l (change_in (arrival_at row)) b.waiting)
+caused l (Drains most) now row b = map alone (moved_on most now row)
+caused l (Ends end) now row b = opens (ended_on end now row ++ failed_by end (closing end now row) b)
 
 abbrev pub causes : View → Act → List (List Notice)
-causes v (Comes (ToLink l x)) = causes_at l x v.now (v.links.live l) v.base
+causes v (Comes (ToLink l x)) = caused l x v.now (v.links.live l) v.base
 causes v _ = []

@@ -5,12 +5,11 @@ use Rattle.std.specs.BTreeSet.{BTreeSet}
 use Rattle.std.specs.List.{list_any}
 use Rattle.std.specs.Option.{option_map}
 use Rattle.std.specs.Ordering.{nat_cmp}
-use Rattle.pulsar_client.specs.declared.act.Arrival.{Arrival}
 use Rattle.pulsar_client.specs.declared.consumers.subscriber.Subscriber.{Subscriber}
 use Rattle.pulsar_client.specs.declared.consumers.subscribers.Subscribers.{Subscribers}
 use Rattle.pulsar_link.specs.Held.{item_of}
 use Rattle.pulsar_link.specs.Items.{Item}
-use Rattle.pulsar_client.specs.Subscriptions.{Subscription, after_came, ended, is_heard_on}
+use Rattle.pulsar_client.specs.Subscriptions.{Subscription}
 
 -- a consumer, which hears
 abbrev pub fresh_in : Subscriber → Subscription
@@ -50,10 +49,3 @@ with_items link number items s =
 -- the same for those of these tickets
 abbrev pub given_at : List ℕ → (link number : ℕ) → List Item → ℕ → Option Subscription → Option Subscription
 given_at tickets link number items t row = if is_listed t tickets then option_map (with_items link number items) row else row
-
--- what the consumers of a link hear by a frame, and by its end
-abbrev pub hears_arrival : ℕ → Arrival → Subscription → Subscription
-hears_arrival l a s = if is_heard_on l s then after_came a s else s
-
-abbrev pub ended_on : ℕ → Subscription → Subscription
-ended_on l s = if is_heard_on l s then ended s else s

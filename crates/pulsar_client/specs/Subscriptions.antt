@@ -1,16 +1,13 @@
 -- Raw consumers: each is made by a raw call to subscribe that succeeds. What it hears, and what its polls give.
 -- (Pulsar binary protocol, Consumer)
 use Rattle.std.specs.Prelude.{ℕ, Bool, true, false, List, [], ◌∷◌, ◌++◌, drop, Option, Some, None, ◌==◌, ◌&&◌, ◌||◌, not, if◌then◌else◌}
+use Rattle.std.specs.Option.{option_map}
 use Rattle.pulsar_session.specs.Failures.{Fault}
-use Rattle.pulsar_session.specs.Link.{Seen}
 use Rattle.pulsar_link.specs.Items.{Item, Given, Faulty}
 use Rattle.pulsar_link.specs.Messages.{Reply, is_number}
 use Rattle.pulsar_client.specs.declared.act.Arrival.{Arrival}
 use Rattle.pulsar_client.specs.declared.act.Arrival.TheVariants.{Nothing, Readied, Settles, Gives, Passes, Bad}
-use Rattle.pulsar_client.specs.declared.act.LinkAct.{LinkAct}
-use Rattle.pulsar_client.specs.declared.act.LinkAct.TheVariants.{Opens, Reads, Drains, Ends}
 use Rattle.pulsar_client.specs.Content.{Shown, Hands, Faults, FindsNothing, FindsEnd}
-use Rattle.pulsar_client.specs.Links.{arrival, closed_by}
 
 -- A raw consumer: the link and the number that its messages bear, the name of its topic, whether it still hears, and the
 -- items that it has not given yet, in order.
@@ -39,7 +36,7 @@ is_last r = is_number 27 r.body || is_number 16 r.body
 abbrev pub after_frame : Reply → Subscription → Subscription
 after_frame r s = record s { is_live = not (is_last r); unread = s.unread ++ r.items }
 
--- after what comes to its link; a close of the broker that answers a request is for that
+-- after the next frame of its link; a close of the broker that answers a request is for that
 abbrev pub after_came : Arrival → Subscription → Subscription
 after_came Nothing s = s
 after_came Readied s = s
@@ -48,23 +45,20 @@ after_came (Gives consumer reply) s = if consumer == s.number then after_frame r
 after_came Passes s = s
 after_came (Bad cause) s = s
 
--- it hears no more from the end of its link on
-abbrev pub after_end : Option Fault → Subscription → Subscription
-after_end None s = s
-after_end (Some cause) s = ended s
-
-abbrev pub after_own : LinkAct → (now : ℕ) → Seen → Subscription → Subscription
-after_own Opens now v s = s
-after_own Reads now v s = after_came (arrival v) s
-after_own (Drains most) now v s = s
-after_own (Ends end) now v s = after_end (closed_by end now v) s
-
 -- it is of this link, and hears
 abbrev pub is_heard_on : ℕ → Subscription → Bool
 is_heard_on l s = (s.link == l) && s.is_live
 
-abbrev pub hears : (link : ℕ) → LinkAct → (now : ℕ) → Seen → Subscription → Subscription
-hears l x now v s = if is_heard_on l s then after_own x now v s else s
+abbrev pub hears : (link : ℕ) → Arrival → Subscription → Subscription
+hears l a s = if is_heard_on l s then after_came a s else s
+
+-- it hears no more from the end of its link on
+abbrev pub ended_on : (link : ℕ) → Subscription → Subscription
+ended_on l s = if is_heard_on l s then ended s else s
+
+abbrev pub ended_at : (link : ℕ) → Option Fault → Option Subscription → Option Subscription
+ended_at l None row = row
+ended_at l (Some cause) row = option_map (ended_on l) row
 
 -- nor from where its own close is asked for, whether that is queued or stands in the line
 abbrev pub closes_it : Option ℕ → ℕ → Bool

@@ -18,6 +18,7 @@ use Rattle.pulsar_client.specs.declared.settings.Settings.{Settings}
 use Rattle.pulsar_client.specs.declared.tables.Tables.{Tables}
 use Rattle.pulsar_client.specs.Content.{Heard, Shown, heard, shown}
 use Rattle.pulsar_client.specs.Run.{Agenda, Step, rules}
+use Rattle.pulsar_client.specs.Kept.{links_in}
 use Rattle.pulsar_client.specs.Subscribers.{subscription_at}
 use Rattle.pulsar_client.specs.View.{Base, Chosen, View}
 
@@ -32,7 +33,7 @@ chosen_of s =
       operation_timeout = s.operation_timeout;
       outbound = s.outbound;
       first_number = s.first_number;
-      now = s.now;
+      now = s.start;
     }
 
 abbrev pub base_of : base.Base → Base
@@ -45,10 +46,10 @@ abbrev pub view_of : Tables → View
 view_of c =
     record {
       chosen = chosen_of c.settings;
-      now = c.now;
+      now = c.clock;
       stand = stand_of c.plans;
       calls = record { drawn = c.tickets; is_built = c.is_built; is_stopped = c.is_stopped };
-      links = c.links;
+      links = links_in c.links.started c.links.live;
       base = base_of c.base;
       consumers = subscription_at c.subscribers;
     }

@@ -19,6 +19,9 @@ use Rattle.pulsar_link.specs.Request.{closed_consumer, is_answered, request_numb
 use Rattle.pulsar_client.specs.declared.act.Act.{Act}
 use Rattle.pulsar_client.specs.declared.act.Act.TheVariants.{Comes, Starts, Told, Does, Answers, Dials}
 use Rattle.pulsar_client.specs.declared.act.Action.TheVariants.{Get, Ask, StopAll}
+use Rattle.pulsar_client.specs.declared.act.Arrival.{Arrival}
+use Rattle.pulsar_client.specs.declared.act.Arrival.TheVariants as arrivals
+use Rattle.pulsar_client.specs.declared.act.End.{End}
 use Rattle.pulsar_client.specs.declared.act.LinkAct.{LinkAct}
 use Rattle.pulsar_client.specs.declared.act.LinkAct.TheVariants.{Opens, Reads, Drains, Ends}
 use Rattle.pulsar_client.specs.declared.act.Makes.{Makes}
@@ -35,10 +38,10 @@ use Rattle.pulsar_client.specs.declared.plans.plan.Turn.{Turn}
 use Rattle.pulsar_client.specs.declared.plans.plan.Turn.TheVariants.{Stays, Gives}
 use Rattle.pulsar_client.specs.Address.{Address}
 use Rattle.pulsar_client.specs.Content.{Heard, Called, Opened, FailedToOpen, Bytes, Lost, Drain, Ticked, Poll}
-use Rattle.pulsar_client.specs.Links.{Change, Remains, Becomes, IsOver, change, closed_by, settled_in}
+use Rattle.pulsar_client.specs.Links.{Change, Remains, Becomes, IsOver, arrival, change_at, change_in, closed_by, settled_in}
 use Rattle.pulsar_client.specs.Links as links
 use Rattle.pulsar_client.specs.Plan.{begins, told}
-use Rattle.pulsar_client.specs.Subscriptions.{Subscription, after_poll, closed_at, fresh, hears}
+use Rattle.pulsar_client.specs.Subscriptions.{Subscription, after_poll, closed_at, ended_at, fresh, hears}
 use Rattle.pulsar_client.specs.Who.{is_same}
 
 -- What a client's options say of a run: the address of the service, where their URL has one; the credential; how long an attempt and a
@@ -212,6 +215,15 @@ seat_of_fresh seen = record { seen = seen; askers = λ place. None }
 abbrev pub dialed : Chosen → (now : ℕ) → Option Seat
 dialed o now = option_map (λ address. seat_of_fresh (session.fresh (setup o now address))) o.address
 
+-- what the frame in front of a link is, and why an end closes it: nothing comes to one that has ended
+abbrev pub arrival_at : Option Seat → Arrival
+arrival_at None = arrivals.Nothing
+arrival_at (Some seat) = arrival seat.seen
+
+abbrev pub closing : End → (now : ℕ) → Option Seat → Option Fault
+closing end now None = None
+closing end now (Some seat) = closed_by end now seat.seen
+
 -- those whose requests are settled are no askers any more
 abbrev pub askers_left : (settled : List ℕ) → (ℕ → Option Who) → ℕ → Option Who
 askers_left settled askers place = if list_any (λ p. p == place) settled then None else askers place
@@ -283,11 +295,6 @@ links_after o now a ls = record { started = started_after a ls.started; live = �
 
 -- THE ADDRESS
 
--- what becomes of a link by what comes to it; nothing becomes of one that has ended
-abbrev pub turned : LinkAct → (now : ℕ) → Option Seat → Change
-turned x now None = Remains
-turned x now (Some seat) = change x now seat.seen
-
 -- a link that becomes ready serves those who wait for the address, and all who get it later; where a link ends nobody serves it
 abbrev pub base_turned : (link : ℕ) → Change → Base → Base
 base_turned l Remains b = b
@@ -302,19 +309,15 @@ waits_for (Some address) Nobody who ws = ws ++ who ∷ []
 waits_for (Some address) (Runs starter) who ws = ws ++ who ∷ []
 
 abbrev pub base_after : Option Address → (now : ℕ) → (ℕ → Option Seat) → Act → Base → Base
-base_after address now live (Comes (ToLink l x)) b = base_turned l (turned x now (live l)) b
+base_after address now live (Comes (ToLink l Reads)) b = base_turned l (change_in (arrival_at (live l))) b
+base_after address now live (Comes (ToLink l (Ends end))) b = base_turned l (change_at (closing end now (live l))) b
 base_after address now live (Does who Get) b = record { series = b.series; waiting = waits_for address b.series who b.waiting }
 base_after address now live (Dials starter) b = record { series = Runs starter; waiting = b.waiting }
 base_after address now live _ b = b
 
 -- CONSUMERS
 
--- they hear what comes to a live link
-abbrev pub hears_some : ℕ → LinkAct → (now : ℕ) → Option Seat → Subscription → Subscription
-hears_some l x now None s = s
-hears_some l x now (Some seat) s = hears l x now seat.seen s
-
--- and where their own close is asked for
+-- they hear the frames of their link, and its end, and where their own close is asked for
 abbrev pub hears_ask : (link now : ℕ) → Words → Option Seat → Subscription → Subscription
 hears_ask l now request row s = closed_at l (closed_consumer request) (is_asked (answer_at now request row)) s
 
@@ -325,7 +328,8 @@ made who Client t row = row
 made who (Consumer link number topic) t row = if is_same (Call t) who then Some (fresh link number topic) else row
 
 abbrev pub consumer_after : (now : ℕ) → (ℕ → Option Seat) → Act → ℕ → Option Subscription → Option Subscription
-consumer_after now live (Comes (ToLink l x)) t row = option_map (hears_some l x now (live l)) row
+consumer_after now live (Comes (ToLink l Reads)) t row = option_map (hears l (arrival_at (live l))) row
+consumer_after now live (Comes (ToLink l (Ends end))) t row = ended_at l (closing end now (live l)) row
 consumer_after now live (Comes (Polls ticket)) t row = if t == ticket then option_map after_poll row else row
 consumer_after now live (Does who (Ask l request)) t row = option_map (hears_ask l now request (live l)) row
 consumer_after now live (Answers who verdict) t row = made who verdict.makes t row

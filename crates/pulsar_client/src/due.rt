@@ -1,8 +1,9 @@
 //! When links are due.
 
-ghost use Rattle.std.specs.Prelude.{◌≡◌, ◌==◌, ℕ, None, IfOk, OnOk, if◌then◌else◌};
+ghost use Rattle.std.specs.Prelude.{◌≡◌, ◌==◌, ◌&&◌, ◌||◌, ℕ, true, false, Some, None, IfOk, OnOk, if◌then◌else◌};
 ghost use Rattle.std.specs.BTreeSet.{contains};
 ghost use Rattle.std.specs.Ordering.{nat_cmp};
+ghost use Rattle.pulsar_client.specs.Due.{AreListed, is_listed, moment_at};
 ghost use Rattle.pulsar_requests.specs.Soonest.{has_come};
 
 use pulsar_wire::error::NoMemory;
@@ -21,12 +22,13 @@ pub struct DueMoments {
 }
 
 impl Model for DueMoments {
-    ghost use Rattle.std.specs.Prelude.{ℕ, Option};
-    ghost use Rattle.pulsar_client.specs.Due.{IsWhole, moment_of};
+    ghost use Rattle.std.specs.Prelude.{ℕ, List};
+    ghost use Rattle.pulsar_client.specs.Due.{IsWhole};
 
-    ghost Value = { ℕ → Option ℕ };
+    // the links with their moments
+    ghost Value = { List (ℕ × ℕ) };
 
-    ghost view = { moment_of };
+    ghost view = { λ i. i.moments.entries };
 
     ghost invariant = { IsWhole };
 }
@@ -34,7 +36,7 @@ impl Model for DueMoments {
 impl DueMoments {
     /// No link is due at any moment.
     pub fn new(alloc: Global) -> DueMoments
-        ensures { (l : ℕ) → result l ≡ None }
+        ensures { (l : ℕ) → moment_at result l ≡ None }
     {
         DueMoments {
             alloc,
@@ -45,24 +47,18 @@ impl DueMoments {
 
     /// A link is due next at this moment, or at none.
     pub fn set(&mut self, link: u64, moment: Option<u64>) -> Result<(), NoMemory>
-        ensures { OnOk result ((l : ℕ) → self.new l ≡ (if l == link then moment else self.old l)) }
+        ensures { OnOk result ((l : ℕ) → moment_at self.new l ≡ (if l == link then moment else moment_at self.old l)) }
     {
-        if self.moments.get(&link).copied() == moment {
-            return Ok(());
+        forget(&mut self.moments, &mut self.links, link)?;
+        match moment {
+            Some(moment) => note(&mut self.moments, &mut self.links, self.alloc, link, moment),
+            None => Ok(()),
         }
-        if let Some(old) = self.moments.remove(&link) {
-            unlist(&mut self.links, old, link)?;
-        }
-        if let Some(moment) = moment {
-            list(&mut self.links, self.alloc, moment, link)?;
-            self.moments.insert(link, moment)?;
-        }
-        Ok(())
     }
 
     /// The links that are due by now, in their order.
     pub fn come(&self, now: u64) -> Result<BTreeSet<u64>, NoMemory>
-        ensures { IfOk result (λ found. (l : ℕ) → contains nat_cmp found l ≡ has_come now (self.now l)) }
+        ensures { IfOk result (λ found. (l : ℕ) → contains nat_cmp found l ≡ has_come now (moment_at self.now l)) }
     {
         let mut found = BTreeSet::new(self.alloc);
         for (_, links) in self.links.range(..=now) {
@@ -72,11 +68,40 @@ impl DueMoments {
     }
 }
 
-fn unlist(
+/// A link is due at no moment.
+fn forget(
+    moments: &mut BTreeMap<u64, u64>,
     links: &mut BTreeMap<u64, BTreeSet<u64>>,
-    moment: u64,
     link: u64,
-) -> Result<(), NoMemory> {
+) -> Result<(), NoMemory>
+    ensures moments { OnOk result ((l : ℕ) → moment_at moments.new.entries l ≡ (if l == link then None else moment_at moments.old.entries l)) }
+    ensures listed { OnOk result (AreListed moments.old.entries links.old → AreListed moments.new.entries links.new) }
+{
+    match moments.remove(&link) {
+        Some(moment) => unlist(links, moment, link),
+        None => Ok(()),
+    }
+}
+
+/// A link that was due at no moment is due at this one.
+fn note(
+    moments: &mut BTreeMap<u64, u64>,
+    links: &mut BTreeMap<u64, BTreeSet<u64>>,
+    alloc: Global,
+    link: u64,
+    moment: u64,
+) -> Result<(), NoMemory>
+    ensures moments { OnOk result ((l : ℕ) → moment_at moments.new.entries l ≡ (if l == link then Some moment else moment_at moments.old.entries l)) }
+    ensures listed { OnOk result (moment_at moments.old.entries link ≡ None → AreListed moments.old.entries links.old → AreListed moments.new.entries links.new) }
+{
+    list(links, alloc, moment, link)?;
+    moments.insert(link, moment)?;
+    Ok(())
+}
+
+fn unlist(links: &mut BTreeMap<u64, BTreeSet<u64>>, moment: u64, link: u64) -> Result<(), NoMemory>
+    ensures { OnOk result ((m l : ℕ) → is_listed links.new m l ≡ (if (m == moment) && (l == link) then false else is_listed links.old m l)) }
+{
     let Some(mut others) = links.remove(&moment) else {
         return Ok(());
     };
@@ -92,7 +117,9 @@ fn list(
     alloc: Global,
     moment: u64,
     link: u64,
-) -> Result<(), NoMemory> {
+) -> Result<(), NoMemory>
+    ensures { OnOk result ((m l : ℕ) → is_listed links.new m l ≡ (if (m == moment) && (l == link) then true else is_listed links.old m l)) }
+{
     let mut others = match links.remove(&moment) {
         Some(others) => others,
         None => BTreeSet::new(alloc),
@@ -102,7 +129,9 @@ fn list(
     Ok(())
 }
 
-fn add_all(found: &mut BTreeSet<u64>, links: &BTreeSet<u64>) -> Result<(), NoMemory> {
+fn add_all(found: &mut BTreeSet<u64>, links: &BTreeSet<u64>) -> Result<(), NoMemory>
+    ensures { OnOk result ((l : ℕ) → contains nat_cmp found.new l ≡ (contains nat_cmp found.old l || contains nat_cmp links.now l)) }
+{
     for link in links {
         found.insert(*link)?;
     }

@@ -4,10 +4,11 @@ ghost use Rattle.std.specs.Prelude.{◌≡◌, ◌==◌, ◌+◌, ◌++◌, ℕ,
 ghost use Rattle.std.specs.Option.{option_map};
 ghost use Rattle.pulsar_client.specs.Content.{shown};
 ghost use Rattle.pulsar_client.specs.Effects.{asked_at, given_at};
-ghost use Rattle.pulsar_client.specs.Kept.{answered_on, arrival_at, change_of, ended_on, is_due, live_in, moved_on, notices_of};
+ghost use Rattle.pulsar_client.specs.Due.{moment_at};
+ghost use Rattle.pulsar_client.specs.Kept.{AreStarted, AreTimed, IsEnd, is_due, links_in, live_in};
 ghost use Rattle.pulsar_requests.specs.Soonest.{has_come};
-ghost use Rattle.pulsar_client.specs.Rules.{due_part, over_links, stop_act, told_at};
-ghost use Rattle.pulsar_client.specs.View.{answer_at, has_ended, is_asked, is_busy, seat_asked, seat_of_fresh, seat_fed, took_some, turned};
+ghost use Rattle.pulsar_client.specs.Rules.{answered_on, due_part, moved_on, on_link, over_links, stop_act, told_at};
+ghost use Rattle.pulsar_client.specs.View.{answer_at, arrival_at, has_ended, is_asked, is_busy, seat_asked, seat_of_fresh, seat_fed, took_some};
 
 use crate::act::{Act, Arrival, End, LinkAct, Notice, Outcome, Part, Who};
 use crate::content::Cause;
@@ -20,33 +21,23 @@ use pulsar_session::states::Stage;
 use pulsar_wire::error::{ConnectionError, NoMemory};
 use std::alloc::Global;
 use std::collections::{BTreeMap, VecDeque};
-use std::marker::Model;
 
 /// How many links were started, and those of them that have not ended, by number.
 #[derive(Drop)]
 pub struct Links {
-    alloc: Global,
-    started: u64,
-    live: BTreeMap<u64, Row>,
-    // when each live link is due
-    due: DueMoments,
-}
-
-impl Model for Links {
-    ghost use Rattle.pulsar_client.specs.Kept.{IsTimed, links_of};
-    ghost use Rattle.pulsar_client.specs.View as view;
-
-    ghost Value = { view.Links };
-
-    ghost view = { links_of };
-
-    ghost invariant = { IsTimed };
+    pub alloc: Global,
+    pub started: u64,
+    pub live: BTreeMap<u64, Row>,
+    /// When each live link is due.
+    pub due: DueMoments,
+    ghost timed: { AreTimed due live },
+    ghost fresh: { AreStarted started live },
 }
 
 impl Links {
     pub fn new(alloc: Global) -> Links
         ensures started { result.started ≡ 0 }
-        ensures live { (l : ℕ) → result.live l ≡ None }
+        ensures live { (l : ℕ) → live_in result.live l ≡ None }
     {
         Links {
             alloc,
@@ -56,16 +47,9 @@ impl Links {
         }
     }
 
-    /// How many were started.
-    pub fn started(&self) -> u64
-        ensures { result ≡ self.now.started }
-    {
-        self.started
-    }
-
     /// Where a link stands that has not ended.
     pub fn stage(&self, link: u64) -> Option<Stage>
-        ensures { result ≡ option_map (λ seat. seat.seen.stage) (self.now.live link) }
+        ensures { result ≡ option_map (λ seat. seat.seen.stage) (live_in self.now.live link) }
     {
         match self.live.get(&link) {
             Some(row) => Some(row.connection.stage()),
@@ -75,14 +59,14 @@ impl Links {
 
     /// A link of this number was started, and has ended.
     pub fn has_ended(&self, link: u64) -> bool
-        ensures { result ≡ has_ended link self.now }
+        ensures { result ≡ has_ended link (links_in self.now.started self.now.live) }
     {
         link < self.started && !self.live.contains_key(&link)
     }
 
     /// A request waits on a link that has not ended.
     pub fn is_busy(&self, link: u64) -> bool
-        ensures { result ≡ is_busy (self.now.live link) }
+        ensures { result ≡ is_busy (live_in self.now.live link) }
     {
         match self.live.get(&link) {
             Some(row) => !row.connection.is_idle(),
@@ -93,7 +77,7 @@ impl Links {
     /// One more link is started, which is dialed where there is an address.
     pub fn start(&mut self, connection: Option<Connection>) -> Result<(), NoMemory>
         ensures started { OnOk result (self.new.started ≡ self.old.started + 1) }
-        ensures live { OnOk result ((l : ℕ) → self.new.live l ≡ (if l == self.old.started then option_map seat_of_fresh connection else self.old.live l)) }
+        ensures live { OnOk result ((l : ℕ) → live_in self.new.live l ≡ (if l == self.old.started then option_map seat_of_fresh connection else live_in self.old.live l)) }
     {
         let link = self.started;
         self.started = link.checked_add(1).ok_or(NoMemory)?;
@@ -108,7 +92,7 @@ impl Links {
     /// A piece is fed to an open link.
     pub fn feed(&mut self, link: u64, piece: &[u8]) -> Result<(), NoMemory>
         ensures started { OnOk result (self.new.started ≡ self.old.started) }
-        ensures live { OnOk result ((l : ℕ) → self.new.live l ≡ (if l == link then option_map (seat_fed piece.now) (self.old.live l) else self.old.live l)) }
+        ensures live { OnOk result ((l : ℕ) → live_in self.new.live l ≡ (if l == link then option_map (seat_fed piece.now) (live_in self.old.live l) else live_in self.old.live l)) }
     {
         if let Some(row) = self.live.get_mut(&link) {
             row.connection.feed(piece)?;
@@ -118,24 +102,18 @@ impl Links {
 
     /// The ends of the links that are due, in their order.
     pub fn due_parts(&self, now: u64) -> Result<VecDeque<Part>, NoMemory>
-        ensures { IfOk result (λ ps. ps.items ≡ over_links (due_part now) self.now.live self.now.started) }
+        ensures { IfOk result (λ ps. ps.items ≡ over_links (due_part now) (links_in self.now.started self.now.live)) }
     {
         let mut parts = VecDeque::new(self.alloc);
         for link in self.due.come(now)? {
-            if let Some(row) = self.live.get(&link) {
-                let below = row.connection.queued();
-                parts.push_back(Part::ToLink {
-                    link,
-                    act: LinkAct::Ends(End::Overdue { below }),
-                })?;
-            }
+            end_due(&mut parts, &self.live, now, link)?;
         }
         Ok(parts)
     }
 
     /// The ends of all links, in their order.
     pub fn stop_acts(&self) -> Result<VecDeque<Act>, NoMemory>
-        ensures { IfOk result (λ acts. acts.items ≡ over_links stop_act self.now.live self.now.started) }
+        ensures { IfOk result (λ acts. acts.items ≡ over_links stop_act (links_in self.now.started self.now.live)) }
     {
         let mut acts = VecDeque::new(self.alloc);
         for (link, _) in &self.live {
@@ -149,9 +127,9 @@ impl Links {
 
     /// A link is open.
     pub fn open(&mut self, now: u64, link: u64, out: &mut Vec<Effect>) -> Result<(), NoMemory>
-        ensures out { OnOk result (map shown out.new.items ≡ map shown out.old.items ++ given_at link LinkAct.Opens now (self.old.live link)) }
+        ensures out { OnOk result (map shown out.new.items ≡ map shown out.old.items ++ given_at link LinkAct.Opens now (live_in self.old.live link)) }
         ensures started { OnOk result (self.new.started ≡ self.old.started) }
-        ensures live { OnOk result ((l : ℕ) → self.new.live l ≡ (if l == link then took_some LinkAct.Opens now (self.old.live l) else self.old.live l)) }
+        ensures live { OnOk result ((l : ℕ) → live_in self.new.live l ≡ (if l == link then took_some LinkAct.Opens now (live_in self.old.live l) else live_in self.old.live l)) }
     {
         if let Some(row) = self.live.get_mut(&link) {
             row.open(now, link, out)?;
@@ -166,11 +144,11 @@ impl Links {
         link: u64,
         out: &mut Vec<Effect>,
     ) -> Result<(Arrival, Vec<Notice>), NoMemory>
-        ensures out { OnOk result (map shown out.new.items ≡ map shown out.old.items ++ given_at link LinkAct.Reads now (self.old.live link)) }
-        ensures arrival { IfOk result (λ r. r.0 ≡ arrival_at (self.old.live link)) }
-        ensures notices { IfOk result (λ r. r.1.items ≡ answered_on (self.old.live link)) }
+        ensures out { OnOk result (map shown out.new.items ≡ map shown out.old.items ++ given_at link LinkAct.Reads now (live_in self.old.live link)) }
+        ensures arrival { IfOk result (λ r. r.0 ≡ arrival_at (live_in self.old.live link)) }
+        ensures notices { IfOk result (λ r. r.1.items ≡ answered_on (live_in self.old.live link)) }
         ensures started { OnOk result (self.new.started ≡ self.old.started) }
-        ensures live { OnOk result ((l : ℕ) → self.new.live l ≡ (if l == link then took_some LinkAct.Reads now (self.old.live l) else self.old.live l)) }
+        ensures live { OnOk result ((l : ℕ) → live_in self.new.live l ≡ (if l == link then took_some LinkAct.Reads now (live_in self.old.live l) else live_in self.old.live l)) }
     {
         let Some(row) = self.live.get_mut(&link) else {
             return Ok((Arrival::Nothing, Vec::new(self.alloc)));
@@ -188,10 +166,10 @@ impl Links {
         most: usize,
         out: &mut Vec<Effect>,
     ) -> Result<Vec<Notice>, NoMemory>
-        ensures out { OnOk result (map shown out.new.items ≡ map shown out.old.items ++ given_at link (LinkAct.Drains most) now (self.old.live link)) }
-        ensures notices { IfOk result (λ ns. ns.items ≡ moved_on most now (self.old.live link)) }
+        ensures out { OnOk result (map shown out.new.items ≡ map shown out.old.items ++ given_at link (LinkAct.Drains most) now (live_in self.old.live link)) }
+        ensures notices { IfOk result (λ ns. ns.items ≡ moved_on most now (live_in self.old.live link)) }
         ensures started { OnOk result (self.new.started ≡ self.old.started) }
-        ensures live { OnOk result ((l : ℕ) → self.new.live l ≡ (if l == link then took_some (LinkAct.Drains most) now (self.old.live l) else self.old.live l)) }
+        ensures live { OnOk result ((l : ℕ) → live_in self.new.live l ≡ (if l == link then took_some (LinkAct.Drains most) now (live_in self.old.live l) else live_in self.old.live l)) }
     {
         let Some(row) = self.live.get_mut(&link) else {
             return Ok(Vec::new(self.alloc));
@@ -209,11 +187,10 @@ impl Links {
         end: &End,
         out: &mut Vec<Effect>,
     ) -> Result<Option<Vec<Notice>>, NoMemory>
-        ensures out { OnOk result (map shown out.new.items ≡ map shown out.old.items ++ given_at link (LinkAct.Ends end.now) now (self.old.live link)) }
-        ensures change { IfOk result (λ r. change_of r ≡ turned (LinkAct.Ends end.now) now (self.old.live link)) }
-        ensures notices { IfOk result (λ r. notices_of r ≡ ended_on end.now now (self.old.live link)) }
+        ensures out { OnOk result (map shown out.new.items ≡ map shown out.old.items ++ given_at link (LinkAct.Ends end.now) now (live_in self.old.live link)) }
+        ensures end { IfOk result (λ r. IsEnd r end.now now (live_in self.old.live link)) }
         ensures started { OnOk result (self.new.started ≡ self.old.started) }
-        ensures live { OnOk result ((l : ℕ) → self.new.live l ≡ (if l == link then took_some (LinkAct.Ends end.now) now (self.old.live l) else self.old.live l)) }
+        ensures live { OnOk result ((l : ℕ) → live_in self.new.live l ≡ (if l == link then took_some (LinkAct.Ends end.now) now (live_in self.old.live l) else live_in self.old.live l)) }
     {
         let Some(row) = self.live.get(&link) else {
             return Ok(None);
@@ -236,11 +213,11 @@ impl Links {
         request: Request,
         out: &mut Vec<Effect>,
     ) -> Result<(bool, Outcome), NoMemory>
-        ensures out { OnOk result (map shown out.new.items ≡ map shown out.old.items ++ asked_at link now request (self.old.live link)) }
-        ensures asked { IfOk result (λ r. r.0 ≡ is_asked (answer_at now request (self.old.live link))) }
-        ensures told { IfOk result (λ r. r.1 ≡ told_at (answer_at now request (self.old.live link))) }
+        ensures out { OnOk result (map shown out.new.items ≡ map shown out.old.items ++ asked_at link now request (live_in self.old.live link)) }
+        ensures asked { IfOk result (λ r. r.0 ≡ is_asked (answer_at now request (live_in self.old.live link))) }
+        ensures told { IfOk result (λ r. r.1 ≡ told_at (answer_at now request (live_in self.old.live link))) }
         ensures started { OnOk result (self.new.started ≡ self.old.started) }
-        ensures live { OnOk result ((l : ℕ) → self.new.live l ≡ (if l == link then option_map (seat_asked who now request) (self.old.live l) else self.old.live l)) }
+        ensures live { OnOk result ((l : ℕ) → live_in self.new.live l ≡ (if l == link then option_map (seat_asked who now request) (live_in self.old.live l) else live_in self.old.live l)) }
     {
         let Some(row) = self.live.get_mut(&link) else {
             let cause = Cause::new(self.alloc, ConnectionError::Disconnected)?;
@@ -252,10 +229,32 @@ impl Links {
     }
 }
 
+/// A link that is due ends.
+fn end_due(
+    parts: &mut VecDeque<Part>,
+    live: &BTreeMap<u64, Row>,
+    now: u64,
+    link: u64,
+) -> Result<(), NoMemory>
+    ensures { OnOk result (parts.new.items ≡ parts.old.items ++ on_link (due_part now) (live_in live.now) link) }
+{
+    match live.get(&link) {
+        Some(row) if row.connection.due(now) => {
+            let below = row.connection.queued();
+            parts.push_back(Part::ToLink {
+                link,
+                act: LinkAct::Ends(End::Overdue { below }),
+            })?;
+            Ok(())
+        }
+        _ => Ok(()),
+    }
+}
+
 /// When a link is due is kept.
 fn keep(live: &BTreeMap<u64, Row>, due: &mut DueMoments, link: u64) -> Result<(), NoMemory>
-    ensures timed { OnOk result ((now : ℕ) → has_come now (due.new link) ≡ is_due now (live_in live.now link)) }
-    ensures others { OnOk result ((l : ℕ) → (l == link) ≡ false → due.new l ≡ due.old l) }
+    ensures timed { OnOk result ((now : ℕ) → has_come now (moment_at due.new link) ≡ is_due now (live_in live.now link)) }
+    ensures others { OnOk result ((l : ℕ) → (l == link) ≡ false → moment_at due.new l ≡ moment_at due.old l) }
 {
     let moment = match live.get(&link) {
         Some(row) => row.connection.due_at(),

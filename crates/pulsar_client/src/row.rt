@@ -1,6 +1,6 @@
 //! One link of a client.
 
-ghost use Rattle.std.specs.Prelude.{◌≡◌, ◌==◌, ◌-◌, ◌++◌, [], ℕ, IfOk, OnOk, Some, None, map, if◌then◌else◌};
+ghost use Rattle.std.specs.Prelude.{◌≡◌, ◌==◌, ◌-◌, ◌++◌, ◌∷◌, [], ℕ, false, IfOk, OnOk, Some, None, map, if◌then◌else◌};
 ghost use Rattle.std.specs.BTreeMap.{get};
 ghost use Rattle.std.specs.List.{filter_map, list_any};
 ghost use Rattle.std.specs.Option.{is_some, option_to_list};
@@ -8,7 +8,7 @@ ghost use Rattle.std.specs.Ordering.{nat_cmp};
 ghost use Rattle.pulsar_session.specs.Kept.{came_of};
 ghost use Rattle.pulsar_session.specs.Link.{Asks, after as after_call, asked, came, ends, is_memory};
 ghost use Rattle.pulsar_client.specs.Content.{shown};
-ghost use Rattle.pulsar_client.specs.Links.{after, arrival, arrives, close, closed_by, effects, is_own_end, line_places, lost, new_places, places_from, queues, queues_at, settled_in, settles, times_out, write};
+ghost use Rattle.pulsar_client.specs.Links.{after, arrival, arrives, close, closed_by, effects, is_own_end, line_places, lost, new_places, numbers_from, queues, queues_at, settled_in, settles, times_out, write};
 ghost use Rattle.pulsar_client.specs.Links as links;
 ghost use Rattle.pulsar_client.specs.Rules as rules;
 ghost use Rattle.pulsar_client.specs.Rules.{answered_by, dropped, ended_places, moved_up, tells_asker, told_at};
@@ -338,7 +338,7 @@ fn tell_queued(
     first: u64,
     end: u64,
 ) -> Result<Vec<Notice>, NoMemory>
-    ensures { IfOk result (λ ns. ns.items ≡ filter_map (tells_asker (λ place. Outcome.Queued) (get nat_cmp askers.now)) (places_from first (end - first))) }
+    ensures { IfOk result (λ ns. ns.items ≡ filter_map (tells_asker (λ place. Outcome.Queued) (get nat_cmp askers.now)) (numbers_from first (end - first))) }
 {
     let mut notices = Vec::new(alloc);
     for place in first..end {
@@ -355,7 +355,7 @@ fn drop_all(
     first: u64,
     count: u64,
 ) -> Result<(), NoMemory>
-    ensures { OnOk result (notices.new.items ≡ notices.old.items ++ filter_map (tells_asker (λ place. dropped end.now) (get nat_cmp askers.now)) (places_from first count)) }
+    ensures { OnOk result (notices.new.items ≡ notices.old.items ++ filter_map (tells_asker (λ place. dropped end.now) (get nat_cmp askers.now)) (numbers_from first count)) }
 {
     let Some(after) = first.checked_add(count) else {
         return Err(NoMemory);
@@ -397,7 +397,7 @@ fn queue(
     first: u64,
     connection: &Connection,
 ) -> Result<(), NoMemory>
-    ensures { OnOk result (map shown out.new.items ≡ map shown out.old.items ++ filter_map (queues_at link connection.now) (places_from first (connection.now.waits.queued - first))) }
+    ensures { OnOk result (map shown out.new.items ≡ map shown out.old.items ++ filter_map (queues_at link connection.now) (numbers_from first (connection.now.waits.queued - first))) }
 {
     for place in first..connection.queued() {
         queue_one(out, link, place, connection)?;

@@ -1,14 +1,16 @@
 //! What the options of a client say of its run.
 
-ghost use Rattle.std.specs.Prelude.{◌≡◌, IfOk};
+ghost use Rattle.std.specs.Prelude.{◌≡◌, ◌++◌, IfOk, OnOk, map};
 ghost use Rattle.std.specs.Option.{option_map};
 ghost use Rattle.pulsar_messages.specs.Content.{authentication_values};
 ghost use Rattle.pulsar_client.specs.Client.{chosen};
 ghost use Rattle.pulsar_client.specs.Tables.{chosen_of};
-ghost use Rattle.pulsar_client.specs.View as meaning;
-ghost use Rattle.pulsar_session.specs.Link.{fresh};
+ghost use Rattle.pulsar_client.specs.Content.{shown};
+ghost use Rattle.pulsar_client.specs.Effects.{connects};
+ghost use Rattle.pulsar_client.specs.View.{dialed, seat_of_fresh};
 
 use crate::address::Address;
+use crate::effect::Effect;
 use crate::options::ClientOptions;
 use pulsar_messages::Authentication;
 use pulsar_session::Connection;
@@ -27,12 +29,12 @@ pub struct Settings {
     pub outbound: usize,
     pub first_number: u64,
     /// The time at which the client was made, in milliseconds since 1970.
-    pub now: u64,
+    pub start: u64,
 }
 
 impl Settings {
     pub fn new(alloc: Global, options: &ClientOptions) -> Result<Settings, NoMemory>
-        ensures { IfOk result (λ s. chosen_of s ≡ chosen options.now) }
+        ensures { IfOk result (λ s. chosen_of s ≡ chosen options.entry.now) }
     {
         Ok(Settings {
             address: Address::of(alloc, &options.url)?,
@@ -41,20 +43,26 @@ impl Settings {
             operation_timeout: options.operation_retry.operation_timeout,
             outbound: options.outbound_channel_size,
             first_number: options.first_number,
-            now: options.now,
+            start: options.now,
         })
     }
 
-    /// A connection to an address that is dialed now.
-    pub fn connection(
+    /// The connection to the address that is dialed now, where there is one, and what asks for it.
+    pub fn dial(
         &self,
         alloc: Global,
         now: u64,
-        address: &Address,
-    ) -> Result<Connection, NoMemory>
-        ensures { IfOk result (λ c. c ≡ fresh (meaning.setup (chosen_of self.now) now address.now)) }
+        link: u64,
+        out: &mut Vec<Effect>,
+    ) -> Result<Option<Connection>, NoMemory>
+        ensures out { OnOk result (map shown out.new.items ≡ map shown out.old.items ++ connects link (chosen_of self.now).address) }
+        ensures connection { IfOk result (λ c. option_map seat_of_fresh c ≡ dialed (chosen_of self.now) now) }
     {
-        Connection::new(
+        let Some(address) = &self.address else {
+            return Ok(None);
+        };
+        out.push(address.connect(link)?)?;
+        let connection = Connection::new(
             alloc,
             Uuid::nil(),
             address.url()?,
@@ -65,7 +73,8 @@ impl Settings {
             self.outbound,
             self.first_number,
             now,
-        )
+        )?;
+        Ok(Some(connection))
     }
 }
 

@@ -9,7 +9,8 @@ ghost use Rattle.pulsar_link.specs.RawCall.{words_of};
 ghost use Rattle.pulsar_client.specs.Links.{change_in};
 ghost use Rattle.pulsar_client.specs.Rules.{breaks_at, builds_with, does, follows, notice, parts, procedure_for, reads_on, served_by, unless_refused};
 ghost use Rattle.pulsar_client.specs.Run.{Agenda, Step, goes_on};
-ghost use Rattle.pulsar_client.specs.Subscribers.{hears_arrival, subscription_at};
+ghost use Rattle.pulsar_client.specs.Subscribers.{subscription_at};
+ghost use Rattle.pulsar_client.specs.Subscriptions.{hears};
 ghost use Rattle.pulsar_client.specs.Tables.{InStep, Stands, agenda_of, base_of, chosen_of, stand_of, step, view_of};
 ghost use Rattle.pulsar_client.specs.View.{Chosen, after, base_turned, begun, builds, is_live, made, stays};
 ghost use Rattle.pulsar_client.specs.Who.{is_same};
@@ -44,7 +45,7 @@ pub struct Tables {
     pub alloc: Global,
     pub settings: Settings,
     /// The clock, in milliseconds since 1970.
-    pub now: u64,
+    pub clock: u64,
     /// A Build call has ended Ok.
     pub is_built: bool,
     /// A Stop call has ended every link.
@@ -61,11 +62,11 @@ impl Tables {
     pub fn new(alloc: Global, settings: Settings) -> Tables
         ensures { Stands (chosen_of settings) result [] }
     {
-        let now = settings.now;
+        let clock = settings.start;
         Tables {
             alloc,
             settings,
-            now,
+            clock,
             is_built: false,
             is_stopped: false,
             tickets: 0,
@@ -92,7 +93,7 @@ impl Tables {
                     Some(Stage::Handshaking | Stage::Ready)
                 )
             }
-            Event::Tick(now) => self.now <= *now,
+            Event::Tick(now) => self.clock <= *now,
             Event::Poll(ticket) => self.subscribers.has(*ticket),
         }
     }
@@ -127,7 +128,7 @@ impl Tables {
             Event::Lost(link) => ends(self.alloc, link, End::Lost),
             Event::Drain(link, most) => to_link(self.alloc, link, LinkAct::Drains(most)),
             Event::Tick(now) => {
-                self.now = now;
+                self.clock = now;
                 self.links.due_parts(now)
             }
             Event::Poll(ticket) => one(self.alloc, Part::Polls(ticket)),
@@ -230,7 +231,7 @@ impl Tables {
         ensures out { OnOk result (map shown out.new.items ≡ map shown out.old.items ++ effects (view_of self.old) (Act.Comes (Part.ToLink link LinkAct.Opens))) }
         ensures sees { OnOk result (view_of self.new ≡ after (Act.Comes (Part.ToLink link LinkAct.Opens)) (view_of self.old)) }
     {
-        self.links.open(self.now, link, out)
+        self.links.open(self.clock, link, out)
     }
 
     /// The next frame of a link is read.
@@ -239,7 +240,7 @@ impl Tables {
         ensures left { OnOk result (agenda_of tasks.new ≡ goes_on (view_of self.old) (Act.Comes (Part.ToLink link LinkAct.Reads)) (agenda_of tasks.old)) }
         ensures sees { OnOk result (view_of self.new ≡ after (Act.Comes (Part.ToLink link LinkAct.Reads)) (view_of self.old)) }
     {
-        let (arrival, mut notices) = self.links.read(self.now, link, out)?;
+        let (arrival, mut notices) = self.links.read(self.clock, link, out)?;
         welcome(&mut self.base, link, &arrival, &mut notices)?;
         read_on(link, &arrival, tasks)?;
         self.arrives(link, arrival, tasks)?;
@@ -249,8 +250,8 @@ impl Tables {
     /// The frame that was read is for consumers, or the link ends by it.
     fn arrives(&mut self, link: u64, arrival: Arrival, tasks: &mut Tasks) -> Result<(), NoMemory>
         ensures left { OnOk result (agenda_of tasks.new ≡ record (agenda_of tasks.old) { now = breaks_at link arrival ++ tasks.old.now.items }) }
-        ensures heard { OnOk result ((t : ℕ) → subscription_at self.new.subscribers t ≡ option_map (hears_arrival link arrival) (subscription_at self.old.subscribers t)) }
-        ensures others { OnOk result (self.new ≡ record self.old { subscribers = self.new.subscribers }) }
+        ensures heard { OnOk result ((t : ℕ) → subscription_at self.new.subscribers t ≡ option_map (hears link arrival) (subscription_at self.old.subscribers t)) }
+        ensures sees { OnOk result (view_of self.new ≡ record (view_of self.old) { consumers = subscription_at self.new.subscribers }) }
     {
         match arrival {
             Arrival::Bad(cause) => tasks.put(Act::Comes(Part::ToLink {
@@ -273,7 +274,7 @@ impl Tables {
         ensures left { OnOk result (agenda_of tasks.new ≡ goes_on (view_of self.old) (Act.Comes (Part.ToLink link (LinkAct.Drains most))) (agenda_of tasks.old)) }
         ensures sees { OnOk result (view_of self.new ≡ after (Act.Comes (Part.ToLink link (LinkAct.Drains most))) (view_of self.old)) }
     {
-        let notices = self.links.drain(self.now, link, most, out)?;
+        let notices = self.links.drain(self.clock, link, most, out)?;
         tasks.open_each(notices)
     }
 
@@ -289,7 +290,7 @@ impl Tables {
         ensures left { OnOk result (agenda_of tasks.new ≡ goes_on (view_of self.old) (Act.Comes (Part.ToLink link (LinkAct.Ends end))) (agenda_of tasks.old)) }
         ensures sees { OnOk result (view_of self.new ≡ after (Act.Comes (Part.ToLink link (LinkAct.Ends end))) (view_of self.old)) }
     {
-        let Some(mut notices) = self.links.end(self.now, link, &end, out)? else {
+        let Some(mut notices) = self.links.end(self.clock, link, &end, out)? else {
             return Ok(());
         };
         self.subscribers.end(link);
@@ -380,7 +381,7 @@ impl Tables {
         ensures sees { OnOk result (view_of self.new ≡ after (Act.Does who (Action.Ask link request)) (view_of self.old)) }
     {
         let closed = request.closed_consumer();
-        let (is_asked, outcome) = self.links.ask(self.now, who, link, request, out)?;
+        let (is_asked, outcome) = self.links.ask(self.clock, who, link, request, out)?;
         self.subscribers.close_asked(link, closed, is_asked)?;
         tell(who, outcome, tasks)
     }
@@ -417,13 +418,8 @@ impl Tables {
         ensures out { OnOk result (map shown out.new.items ≡ map shown out.old.items ++ effects (view_of self.old) (Act.Dials starter)) }
         ensures sees { OnOk result (view_of self.new ≡ after (Act.Dials starter) (view_of self.old)) }
     {
-        let connection = match &self.settings.address {
-            Some(address) => {
-                out.push(address.connect(self.links.started())?)?;
-                Some(self.settings.connection(self.alloc, self.now, address)?)
-            }
-            None => None,
-        };
+        let link = self.links.started;
+        let connection = self.settings.dial(self.alloc, self.clock, link, out)?;
         self.links.start(connection)?;
         self.base.series = Series::Runs { starter };
         Ok(())

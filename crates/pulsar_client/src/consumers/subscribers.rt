@@ -5,8 +5,8 @@ ghost use Rattle.std.specs.BTreeSet.{insert_key};
 ghost use Rattle.std.specs.Option.{is_some, option_copied, option_map};
 ghost use Rattle.std.specs.Ordering.{nat_cmp};
 ghost use Rattle.pulsar_client.specs.Content.{shown};
-ghost use Rattle.pulsar_client.specs.Subscribers.{ended_on, fresh_in, given_at, hears_arrival, is_listed, kept_at, live_at, subscription_at, tickets_of, with_items};
-ghost use Rattle.pulsar_client.specs.Subscriptions.{after_poll, closed_at, is_last, polled};
+ghost use Rattle.pulsar_client.specs.Subscribers.{fresh_in, given_at, is_listed, kept_at, live_at, subscription_at, tickets_of, with_items};
+ghost use Rattle.pulsar_client.specs.Subscriptions.{after_poll, closed_at, ended_on, hears, is_last, polled};
 
 use crate::act::Arrival;
 use crate::consumers::subscriber::Subscriber;
@@ -71,7 +71,7 @@ impl Subscribers {
 
     /// The consumers of a link hear what comes to it.
     pub fn hear(&mut self, link: u64, arrival: Arrival) -> Result<(), NoMemory>
-        ensures { OnOk result ((t : ℕ) → subscription_at self.new t ≡ option_map (hears_arrival link arrival) (subscription_at self.old t)) }
+        ensures { OnOk result ((t : ℕ) → subscription_at self.new t ≡ option_map (hears link arrival) (subscription_at self.old t)) }
     {
         match arrival {
             Arrival::Gives { consumer, reply } => self.hear_frame(link, consumer, &reply),
@@ -107,7 +107,7 @@ impl Subscribers {
 
     /// The consumers of this number on the link hear a frame for them.
     fn hear_frame(&mut self, link: u64, number: u64, reply: &Received) -> Result<(), NoMemory>
-        ensures { OnOk result ((t : ℕ) → subscription_at self.new t ≡ option_map (hears_arrival link (Arrival.Gives number reply.now)) (subscription_at self.old t)) }
+        ensures { OnOk result ((t : ℕ) → subscription_at self.new t ≡ option_map (hears link (Arrival.Gives number reply.now)) (subscription_at self.old t)) }
     {
         self.give(link, number, reply)?;
         if is_last(reply) {

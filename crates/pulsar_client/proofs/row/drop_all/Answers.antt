@@ -3,7 +3,7 @@ use Rattle.std.specs.BTreeMap.{get}
 use Rattle.std.specs.List.{filter_map}
 use Rattle.std.specs.Option.{option_to_list}
 use Rattle.std.specs.Ordering.{nat_cmp}
-use Rattle.pulsar_client.specs.Links.{places_from}
+use Rattle.pulsar_client.specs.Links.{numbers_from}
 use Rattle.pulsar_client.specs.Rules.{dropped, tells_asker}
 use Rattle.pulsar_client.proofs.Places.{next_place}
 use Rattle.pulsar_client.proofs.row.drop_all.Goals as goal
@@ -16,10 +16,10 @@ loop-place-preserved c =
     let i = c.loop-place.place in
     c.in_ok-tell_asker.ensures
     ∙ ap (λ ns. ns ++ option_to_list (f i)) c.loop-place.invariant
-    ∙ append_assoc before (filter_map f (places_from first (i - first))) (option_to_list (f i))
+    ∙ append_assoc before (filter_map f (numbers_from first (i - first))) (option_to_list (f i))
     ∙ ap (λ ns. before ++ ns) (sym (next_place f first i c.loop-place.auto.place))
 
 pub returns : goal.returns
 returns c =
     c.loop-place.invariant
-    ∙ ap (λ n. c.args.notices.now.items ++ filter_map (tells_asker (λ place. dropped c.args.end.now) (get nat_cmp c.args.askers.now)) (places_from c.args.first n)) (omega arith)
+    ∙ ap (λ n. c.args.notices.now.items ++ filter_map (tells_asker (λ place. dropped c.args.end.now) (get nat_cmp c.args.askers.now)) (numbers_from c.args.first n)) (omega arith)

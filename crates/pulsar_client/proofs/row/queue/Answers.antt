@@ -2,7 +2,7 @@ use Rattle.std.proofs.Common.{◌≡◌, ◌∙◌, ◌-◌, ap, sym, ◌++◌, 
 use Rattle.std.specs.List.{filter_map}
 use Rattle.std.specs.Option.{option_to_list}
 use Rattle.pulsar_client.specs.Content.{shown}
-use Rattle.pulsar_client.specs.Links.{places_from, queues_at}
+use Rattle.pulsar_client.specs.Links.{numbers_from, queues_at}
 use Rattle.pulsar_client.proofs.Places.{next_place}
 use Rattle.pulsar_client.proofs.row.queue.Goals as goal
 
@@ -14,10 +14,10 @@ loop-place-preserved c =
     let i = c.loop-place.place in
     c.in_ok-queue_one.ensures
     ∙ ap (λ es. es ++ option_to_list (f i)) c.loop-place.invariant
-    ∙ append_assoc before (filter_map f (places_from first (i - first))) (option_to_list (f i))
+    ∙ append_assoc before (filter_map f (numbers_from first (i - first))) (option_to_list (f i))
     ∙ ap (λ es. before ++ es) (sym (next_place f first i c.loop-place.auto.place))
 
 pub returns : goal.returns
 returns c =
     c.loop-place.invariant
-    ∙ ap (λ n. map shown c.args.out.now.items ++ filter_map (queues_at c.args.link c.args.connection.now) (places_from c.args.first n)) (omega arith)
+    ∙ ap (λ n. map shown c.args.out.now.items ++ filter_map (queues_at c.args.link c.args.connection.now) (numbers_from c.args.first n)) (omega arith)

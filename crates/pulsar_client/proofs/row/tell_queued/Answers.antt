@@ -4,7 +4,7 @@ use Rattle.std.specs.List.{filter_map}
 use Rattle.std.specs.Option.{option_to_list}
 use Rattle.std.specs.Ordering.{nat_cmp}
 use Rattle.pulsar_client.specs.declared.act.Outcome.TheVariants.{Queued}
-use Rattle.pulsar_client.specs.Links.{places_from}
+use Rattle.pulsar_client.specs.Links.{numbers_from}
 use Rattle.pulsar_client.specs.Rules.{tells_asker}
 use Rattle.pulsar_client.proofs.Places.{next_place}
 use Rattle.pulsar_client.proofs.row.tell_queued.Goals as goal
@@ -19,4 +19,4 @@ loop-place-preserved c =
 pub returns : goal.returns
 returns c =
     c.loop-place.invariant
-    ∙ ap (λ n. filter_map (tells_asker (λ place. Queued) (get nat_cmp c.args.askers.now)) (places_from c.args.first n)) (omega arith)
+    ∙ ap (λ n. filter_map (tells_asker (λ place. Queued) (get nat_cmp c.args.askers.now)) (numbers_from c.args.first n)) (omega arith)

@@ -1,0 +1,415 @@
+-- What follows from the definition of a good run, in plain words.
+use Rattle.std.specs.Prelude.{◌≡◌, ◌⊎◌, ℕ, ◌+◌, ◌≤◌, ◌==◌, ◌&&◌, ◌||◌, not, Bool, true, false, if◌then◌else◌, List, [], ◌∷◌, ◌++◌, map, Option, Some, None, Result, Ok, Err}
+use Rattle.std.specs.List.{flat_map}
+use Rattle.std.specs.Option.{is_some, option_map, option_to_list}
+use Rattle.pulsar_run.specs.Laws as run
+use Rattle.pulsar_run.specs.Laws.{In, InThisStep}
+use Rattle.pulsar_run.specs.Order.{AllInOrder, InOrder, arranged}
+use Rattle.pulsar_run.specs.Run.{events, steps_done}
+use Rattle.pulsar_wire.specs.declared.error.ConnectionError.{ConnectionError}
+use Rattle.pulsar_frame.specs.Message.{MessageValues}
+use Rattle.pulsar_messages.specs.Words.{Words}
+use Rattle.pulsar_session.specs.declared.states.Asked.{Asked as Placed}
+use Rattle.pulsar_session.specs.declared.states.Asked.TheVariants as placed
+use Rattle.pulsar_session.specs.Failures.{Failure, Fault, OfConnection, fault}
+use Rattle.pulsar_session.specs.Link as session
+use Rattle.pulsar_session.specs.Link.{Act as Act', Asks, Feeds, Setup, came, ends, is_spent}
+use Rattle.pulsar_link.specs.Items.{Item, Given, Faulty}
+use Rattle.pulsar_link.specs.Messages.{Reply, read}
+use Rattle.pulsar_link.specs.Request.{closed_consumer, request_number}
+use Rattle.pulsar_client.specs.declared.act.Act.{Act}
+use Rattle.pulsar_client.specs.declared.act.Act.TheVariants.{Comes, Starts, Told, Does, Answers, Dials}
+use Rattle.pulsar_client.specs.declared.act.Action.{Action}
+use Rattle.pulsar_client.specs.declared.act.Action.TheVariants.{Get, Ask, StopAll, Rest}
+use Rattle.pulsar_client.specs.declared.act.Arrival.{Arrival}
+use Rattle.pulsar_client.specs.declared.act.Arrival.TheVariants.{Nothing, Readied, Settles, Gives, Passes, Bad}
+use Rattle.pulsar_client.specs.declared.act.End.{End}
+use Rattle.pulsar_client.specs.declared.act.LinkAct.{LinkAct}
+use Rattle.pulsar_client.specs.declared.act.LinkAct.TheVariants.{Reads, Drains, Ends}
+use Rattle.pulsar_client.specs.declared.act.Makes.{Makes}
+use Rattle.pulsar_client.specs.declared.act.Notice.{Notice}
+use Rattle.pulsar_client.specs.declared.act.Outcome.{Outcome}
+use Rattle.pulsar_client.specs.declared.act.Outcome.TheVariants as outcome
+use Rattle.pulsar_client.specs.declared.act.Part.TheVariants.{Calls, ToLink, Polls}
+use Rattle.pulsar_client.specs.declared.act.Procedure.{Procedure}
+use Rattle.pulsar_client.specs.declared.act.Procedure.TheVariants as procedure
+use Rattle.pulsar_client.specs.declared.act.Refusal.{Refusal}
+use Rattle.pulsar_client.specs.declared.act.Says.{Says}
+use Rattle.pulsar_client.specs.declared.act.Verdict.{Verdict}
+use Rattle.pulsar_client.specs.declared.act.Who.{Who}
+use Rattle.pulsar_client.specs.declared.act.Who.TheVariants.{Call}
+use Rattle.pulsar_client.specs.declared.base.Series.{Series}
+use Rattle.pulsar_client.specs.declared.base.Series.TheVariants.{Nobody, Runs, Serves}
+use Rattle.pulsar_client.specs.declared.plans.plan.Plan.{Plan}
+use Rattle.pulsar_client.specs.declared.plans.plan.Turn.{Turn}
+use Rattle.pulsar_client.specs.declared.plans.plan.Turn.TheVariants as turn
+use Rattle.pulsar_client.specs.Content.{Asked, Heard, Called, Bytes, Poll, Shown, Queued, Write, Hands, Faults, Failed}
+use Rattle.pulsar_client.specs.Effects.{effect_below}
+use Rattle.pulsar_client.specs.Links as links
+use Rattle.pulsar_client.specs.Links.{Change, Remains, Becomes, IsOver, call_of, change_at, change_in, closed_by, line_places, new_places}
+use Rattle.pulsar_client.specs.Plan.{begins, failure_of, fault_of, reply_says, told}
+use Rattle.pulsar_client.specs.Rules.{below, dropped, fails_so, lost, procedure_for}
+use Rattle.pulsar_client.specs.Run.{Entry, Begins, Then, Good, IsRun, Rests, Step, agenda, calls_in, rules, steps, view}
+use Rattle.pulsar_client.specs.Subscriptions.{Subscription, closes_it, is_heard_on, is_last, polled}
+use Rattle.pulsar_client.specs.View.{Chosen, Seat, View, answer_at, arrival_at, builds, closing, is_asked, setup}
+use Rattle.pulsar_client.specs.Who.{is_same}
+
+-- THE RUN
+
+-- options and events determine the effects of a good run
+abbrev pub Determined : Type 0
+Determined = (o : Chosen) (h h' : List Step) → Good o h → Good o h' → events h ≡ events h' → h ≡ h'
+
+-- the effects of each step stand in order, and they are just those of its acts, each once
+abbrev pub EffectsArranged : Type 0
+EffectsArranged = (o : Chosen) (log : List Entry) → run.ArrangeSteps effect_below (steps_done rules o log) (steps o log)
+
+-- the present cause serves by rank, and so do the causes that wait: calls by ticket
+abbrev pub CausesInOrder : Type 0
+CausesInOrder = (o : Chosen) (log : List Entry) → InOrder below (agenda o log).here × AllInOrder below (agenda o log).behind
+
+-- CALLS
+
+-- a call is made where the user asks for it, with the next ticket, which is never the greatest, by the procedure for it
+abbrev pub CallsAreMade : Type 0
+CallsAreMade = (o : Chosen) (log : List Entry) (t : ℕ) (p : Procedure) → IsRun o (Then (Starts (Call t) p) ∷ log) →
+    (asked : Asked) × (older : List Entry) × (log ≡ Then (Comes (Calls asked)) ∷ Begins (Called asked) ∷ older)
+    × (t ≡ (view o older).calls.drawn) × (is_spent t ≡ false) × (p ≡ procedure_for o (view o older).calls asked)
+
+-- the newest procedure that one who has a plan started, and the outcomes that it was told since then, oldest first
+abbrev pub started : Who → List Entry → Option Procedure
+started w [] = None
+started w (Then (Starts who p) ∷ log) = if is_same w who then Some p else started w log
+started w (_ ∷ log) = started w log
+
+abbrev pub outcomes : Who → List Entry → List Outcome
+outcomes w [] = []
+outcomes w (Then (Starts who p) ∷ log) = if is_same w who then [] else outcomes w log
+outcomes w (Then (Told n) ∷ log) = if is_same w n.who then outcomes w log ++ n.outcome ∷ [] else outcomes w log
+outcomes w (_ ∷ log) = outcomes w log
+
+-- what it did since then: its actions, and its verdict
+pub data Deed : Type 0 where
+  Acted : Action → Deed
+  Answered : Verdict → Deed
+
+abbrev pub deed_of : Who → Act → List Deed
+deed_of w (Does who action) = if is_same w who then Acted action ∷ [] else []
+deed_of w (Answers who verdict) = if is_same w who then Answered verdict ∷ [] else []
+deed_of w _ = []
+
+abbrev pub deeds : Who → List Entry → List Deed
+deeds w [] = []
+deeds w (Begins e ∷ log) = deeds w log
+deeds w (Then (Starts who p) ∷ log) = if is_same w who then [] else deeds w log
+deeds w (Then a ∷ log) = deeds w log ++ deed_of w a
+
+-- what its plan gives along these outcomes
+abbrev pub acted : Action → List Deed
+acted Rest = []
+acted action = Acted action ∷ []
+
+abbrev pub course : Turn Plan Verdict → List Outcome → List Deed
+course (turn.Gives verdict) os = Answered verdict ∷ []
+course (turn.Stays plan action) [] = acted action
+course (turn.Stays plan action) (o ∷ os) = acted action ++ course (told plan o) os
+
+-- Wherever nothing is left to do, that is at the end of each step, each of those who have plans has done what its plan gives along
+-- its outcomes: each action, and the verdict, in the step of its outcome, none more and none less.
+abbrev pub PlansFollow : Type 0
+PlansFollow = (o : Chosen) (log : List Entry) (w : Who) (p : Procedure) →
+    IsRun o log → Rests o log → started w log ≡ Some p → deeds w log ≡ course (begins p) (outcomes w log)
+
+-- a plan gives one verdict, and does nothing after it
+abbrev pub verdicts_in : List Deed → ℕ
+verdicts_in [] = 0
+verdicts_in (Acted action ∷ ds) = verdicts_in ds
+verdicts_in (Answered verdict ∷ ds) = verdicts_in ds + 1
+
+abbrev pub AnswersOnce : Type 0
+AnswersOnce = (turn : Turn Plan Verdict) (os : List Outcome) → verdicts_in (course turn os) ≤ 1
+
+-- how often a call began, and how often it ended
+abbrev pub start_of : ℕ → Act → ℕ
+start_of t (Starts who p) = if is_same (Call t) who then 1 else 0
+start_of t _ = 0
+
+abbrev pub end_of : ℕ → Act → ℕ
+end_of t (Answers who verdict) = if is_same (Call t) who then 1 else 0
+end_of t _ = 0
+
+abbrev pub counted : (Act → ℕ) → List Entry → ℕ
+counted f [] = 0
+counted f (Begins e ∷ log) = counted f log
+counted f (Then a ∷ log) = counted f log + f a
+
+-- The call of a ticket begins at most once, and ends at most once. The greatest ticket begins no call: it stands for all calls for which
+-- none is left, and each of these ends at once.
+abbrev pub EndsOnce : Type 0
+EndsOnce = (o : Chosen) (log : List Entry) (t : ℕ) → IsRun o log → (counted (start_of t) log ≤ 1) × (is_spent t ≡ false → counted (end_of t) log ≤ 1)
+
+-- WHY A CALL IS TOLD AN OUTCOME
+
+-- An entry of the log, with the older ones before it, is such: one gets the link of the address, and what is seen there is so.
+abbrev pub Gets : Chosen → Who → (View → Type 0) → Entry → List Entry → Type 0
+Gets o who P e older = (e ≡ Then (Does who Get)) × P (view o older)
+
+-- one asks for a request on a link, and this is answered
+abbrev pub AsksSo : Chosen → Who → (Result Placed ConnectionError → Type 0) → Entry → List Entry → Type 0
+AsksSo o who P e older =
+    (l : ℕ) × (request : Words) × (e ≡ Then (Does who (Ask l request))) × P (answer_at (view o older).now request ((view o older).links.live l))
+
+-- a link becomes ready, while this one waits for the address
+abbrev pub BecomesReady : Chosen → Who → (link : ℕ) → Entry → List Entry → Type 0
+BecomesReady o who l e older =
+    (e ≡ Then (Comes (ToLink l Reads))) × (arrival_at ((view o older).links.live l) ≡ Readied) × In who (view o older).base.waiting
+
+-- a link ends, and what is seen of it there is so
+abbrev pub EndsSo : Chosen → (End → View → Seat → Type 0) → Entry → List Entry → Type 0
+EndsSo o P e older =
+    (l : ℕ) × (end : End) × (cause : Fault) × (seat : Seat) × (e ≡ Then (Comes (ToLink l (Ends end)))) × ((view o older).links.live l ≡ Some seat)
+    × (closed_by end (view o older).now seat.seen ≡ Some cause) × P end (view o older) seat
+
+-- an attempt ends for which this one waits: whether it started it, and what it is told
+abbrev pub AttemptEnds : Chosen → Who → Outcome → Entry → List Entry → Type 0
+AttemptEnds o who u e older =
+    EndsSo o (λ end v seat. (starter : Who) × (v.base.series ≡ Runs starter) × In who v.base.waiting × (u ≡ fails_so end (is_same who starter))) e older
+
+-- a request that this one asked for ends with its link, and this is told
+abbrev pub RequestEnds : Chosen → Who → Outcome → Entry → List Entry → Type 0
+RequestEnds o who u e older =
+    EndsSo o (λ end v seat. (place : ℕ) × In place (ends seat.seen) × (seat.askers place ≡ Some who) × (u ≡ lost end v.now seat.seen place)) e older
+
+-- and a frame of it that stands in the line
+abbrev pub LineEnds : Chosen → Who → Outcome → Entry → List Entry → Type 0
+LineEnds o who u e older =
+    EndsSo o (λ end v seat. (place : ℕ) × In place (line_places seat.seen) × (seat.askers place ≡ Some who) × (u ≡ dropped end)) e older
+
+-- a frame that this one asked for moves up from the line
+abbrev pub MovesUp : Chosen → Who → Entry → List Entry → Type 0
+MovesUp o who e older =
+    (l most place : ℕ) × (seat : Seat) × (e ≡ Then (Comes (ToLink l (Drains most)))) × ((view o older).links.live l ≡ Some seat)
+    × In place (new_places seat.seen (links.after (Drains most) (view o older).now seat.seen)) × (seat.askers place ≡ Some who)
+
+-- a request that this one asked for is settled by this reply
+abbrev pub IsReplied : Chosen → Who → Reply → Entry → List Entry → Type 0
+IsReplied o who r e older =
+    (l : ℕ) × (seat : Seat) × (places : List ℕ) × (m : MessageValues) × (place : ℕ) × (e ≡ Then (Comes (ToLink l Reads)))
+    × ((view o older).links.live l ≡ Some seat) × (came seat.seen ≡ session.Settles places m) × In place places × (seat.askers place ≡ Some who)
+    × (r ≡ read m)
+
+-- this one stops the client
+abbrev pub StopsAll : Who → Entry → Type 0
+StopsAll who e = e ≡ Then (Does who StopAll)
+
+-- GotLink: it got the link of the address, which serves, or that became ready while it waited. NotFound: the options have no address.
+-- Failed, Canceled: the attempt that it waited for ended, which it or another started. Queued: it asked, and its frame was queued at
+-- once or moved up. InLine, Refused: it asked, and the link said so. Replied: its request was answered. TimedOut, Disconnected,
+-- Stopped: its request, its frame in the line or the attempt that it waited for ended so; or it stopped the client.
+abbrev pub Cause : Chosen → Who → Outcome → Entry → List Entry → Type 0
+Cause o who (outcome.GotLink link) e older = Gets o who (λ v. (v.base.series ≡ Serves link)) e older ⊎ BecomesReady o who link e older
+Cause o who outcome.NotFound e older = Gets o who (λ v. (o.address ≡ None)) e older
+Cause o who (outcome.Failed kind) e older = AttemptEnds o who (outcome.Failed kind) e older
+Cause o who outcome.Canceled e older = AttemptEnds o who outcome.Canceled e older
+Cause o who outcome.Queued e older = AsksSo o who (λ a. (place : ℕ) × (a ≡ Ok (placed.Queued place))) e older ⊎ MovesUp o who e older
+Cause o who outcome.InLine e older = AsksSo o who (λ a. (place : ℕ) × (a ≡ Ok (placed.Waiting place))) e older
+Cause o who (outcome.Refused cause) e older = AsksSo o who (λ a. (x : ConnectionError) × (a ≡ Err x) × (fault x ≡ cause)) e older
+Cause o who (outcome.Replied r) e older = IsReplied o who r e older
+Cause o who outcome.TimedOut e older = RequestEnds o who outcome.TimedOut e older
+Cause o who outcome.Disconnected e older = RequestEnds o who outcome.Disconnected e older ⊎ LineEnds o who outcome.Disconnected e older
+Cause o who outcome.Stopped e older =
+    StopsAll who e ⊎ (LineEnds o who outcome.Stopped e older ⊎ AttemptEnds o who outcome.Stopped e older)
+
+-- whatever one is told has its cause before, in the same step
+abbrev pub OutcomesAreCaused : Type 0
+OutcomesAreCaused = (o : Chosen) (log : List Entry) (who : Who) (u : Outcome) →
+    IsRun o (Then (Told (record { who = who; outcome = u })) ∷ log) → InThisStep (Cause o who u) log
+
+-- the number of the body of a procedure's request
+abbrev pub number_in : Procedure → Option ℕ
+number_in procedure.Build = None
+number_in procedure.Stop = None
+number_in (procedure.Ask place request s) = Some (request_number request)
+number_in (procedure.Refuse r) = None
+
+-- a call fails where it is refused, and else with the fault of an outcome that it was told, or of a reply to its request
+pub data FailsSo (p : Procedure) (os : List Outcome) (f : Failure) : Type 0 where
+  IsRefused : (r : Refusal) → p ≡ procedure.Refuse r → f ≡ failure_of r → FailsSo p os f
+  IsTold : (u : Outcome) → In u os → f ≡ OfConnection (fault_of u) → FailsSo p os f
+  IsAnswered : (r : Reply) (number : ℕ) (s : Says) → In (outcome.Replied r) os → number_in p ≡ Some number → Failed f ≡ reply_says s number r → FailsSo p os f
+
+abbrev pub FailuresAreTold : Type 0
+FailuresAreTold = (o : Chosen) (log : List Entry) (w : Who) (p : Procedure) (m : Makes) (f : Failure) →
+    IsRun o log → Rests o log → started w log ≡ Some p → In (Answered (record { makes = m; said = Failed f })) (deeds w log) → FailsSo p (outcomes w log) f
+
+-- THE CLIENT AND THE ADDRESS
+
+-- a Build has ended Ok
+abbrev pub built : List Entry → Bool
+built [] = false
+built (Then (Answers who verdict) ∷ log) = builds verdict.makes (built log)
+built (_ ∷ log) = built log
+
+abbrev pub BuiltIs : Type 0
+BuiltIs = (o : Chosen) (log : List Entry) → (view o log).calls.is_built ≡ built log
+
+-- what runs for the address, by the newest of these: an attempt began, a link became ready, a link ended
+abbrev pub turn_of : (link : ℕ) → Change → Series → Series
+turn_of l Remains s = s
+turn_of l Becomes s = Serves l
+turn_of l IsOver s = Nobody
+
+abbrev pub newest_turn : Chosen → List Entry → Series
+newest_turn o [] = Nobody
+newest_turn o (Then (Dials starter) ∷ log) = Runs starter
+newest_turn o (Then (Comes (ToLink l Reads)) ∷ log) = turn_of l (change_in (arrival_at ((view o log).links.live l))) (newest_turn o log)
+newest_turn o (Then (Comes (ToLink l (Ends end))) ∷ log) =
+    turn_of l (change_at (closing end (view o log).now ((view o log).links.live l))) (newest_turn o log)
+newest_turn o (_ ∷ log) = newest_turn o log
+
+abbrev pub SeriesIsNewest : Type 0
+SeriesIsNewest = (o : Chosen) (log : List Entry) → (view o log).base.series ≡ newest_turn o log
+
+-- LINKS
+
+-- the call of its connection, where something comes to a link that has not ended
+abbrev pub call_at : LinkAct → (now : ℕ) → Option Seat → List Act'
+call_at x now None = []
+call_at x now (Some seat) = option_to_list (call_of x now seat.seen)
+
+-- the calls of the connection of a link since it was dialed, newest first
+abbrev pub calls_of : Chosen → ℕ → List Entry → List Act'
+calls_of o l [] = []
+calls_of o l (Begins (Bytes k piece) ∷ log) = if l == k then Feeds piece ∷ calls_of o l log else calls_of o l log
+calls_of o l (Then (Comes (ToLink k x)) ∷ log) =
+    if l == k then call_at x (view o log).now ((view o log).links.live l) ++ calls_of o l log else calls_of o l log
+calls_of o l (Then (Does who (Ask k request)) ∷ log) = if l == k then Asks (view o log).now request ∷ calls_of o l log else calls_of o l log
+calls_of o l (Then (Dials starter) ∷ log) = if l == (view o log).links.started then [] else calls_of o l log
+calls_of o l (_ ∷ log) = calls_of o l log
+
+-- what it was dialed with
+abbrev pub dialed_with : Chosen → ℕ → List Entry → Option Setup
+dialed_with o l [] = None
+dialed_with o l (Then (Dials starter) ∷ log) =
+    if l == (view o log).links.started then option_map (setup o (view o log).now) o.address else dialed_with o l log
+dialed_with o l (_ ∷ log) = dialed_with o l log
+
+-- A link that has not ended is what the calls of its connection made of it, and nothing else. So all that holds of a connection over
+-- any acts holds of it: its requests are settled by the first later frame that bears their key, what is written is the first of what
+-- was queued, the line moves up in order, and what was read is what its bytes are cut into.
+abbrev pub LinksAlone : Type 0
+LinksAlone = (o : Chosen) (log : List Entry) (l : ℕ) (seat : Seat) → (view o log).links.live l ≡ Some seat →
+    (s : Setup) × (dialed_with o l log ≡ Some s) × (seat.seen ≡ session.seen s (calls_of o l log))
+
+-- a list begins with another
+abbrev pub IsPrefix : {A : Type 0} → List A → List A → Type 0
+IsPrefix {A} xs ys = (rest : List A) × (xs ++ rest ≡ ys)
+
+-- the bytes that an effect writes to a link, and those of the frame that it queues there
+abbrev pub written_on : ℕ → Shown → List ℕ
+written_on l (Write k bytes) = if l == k then bytes else []
+written_on l _ = []
+
+abbrev pub queued_on : ℕ → Shown → List ℕ
+queued_on l (Queued k place bytes) = if l == k then bytes else []
+queued_on l _ = []
+
+-- the bytes of all effects of a history, in order
+abbrev pub bytes_of : (Shown → List ℕ) → List Step → List ℕ
+bytes_of f [] = []
+bytes_of f (s ∷ h) = bytes_of f h ++ flat_map f s.effects
+
+-- the bytes that a good history writes to a connection are the first of those that it queued there, in order
+abbrev pub WritesFollow : Type 0
+WritesFollow = (o : Chosen) (h : List Step) (l : ℕ) → Good o h → IsPrefix (bytes_of (written_on l) h) (bytes_of (queued_on l) h)
+
+-- CONSUMERS
+
+-- A consumer ends at an entry: by a frame of its link for it that ends its topic or is the close of the broker; where its own close is
+-- asked for; with its link.
+abbrev pub last_arrival : Arrival → (number : ℕ) → Bool
+last_arrival Nothing number = false
+last_arrival Readied number = false
+last_arrival Settles number = false
+last_arrival (Gives consumer reply) number = (consumer == number) && is_last reply
+last_arrival Passes number = false
+last_arrival (Bad cause) number = false
+
+abbrev pub ends_at : Chosen → Subscription → Entry → List Entry → Bool
+ends_at o s (Then (Comes (ToLink l Reads))) older = (s.link == l) && last_arrival (arrival_at ((view o older).links.live l)) s.number
+ends_at o s (Then (Comes (ToLink l (Ends end)))) older = (s.link == l) && is_some (closing end (view o older).now ((view o older).links.live l))
+ends_at o s (Then (Does who (Ask l request))) older =
+    (s.link == l) && (is_asked (answer_at (view o older).now request ((view o older).links.live l)) && closes_it (closed_consumer request) s.number)
+ends_at o s _ older = false
+
+abbrev pub has_end : Chosen → Subscription → (later older : List Entry) → Bool
+has_end o s [] older = false
+has_end o s (e ∷ later) older = has_end o s later older || ends_at o s e (later ++ older)
+
+-- this consumer, whether it hears or not, and whatever it has not given yet
+abbrev pub Remains : Subscription → (is_live : Bool) → Option Subscription → Type 0
+Remains s is_live later =
+    (unread : List Item) × (later ≡ Some (record { link = s.link; number = s.number; topic = s.topic; is_live = is_live; unread = unread }))
+
+-- a consumer remains what it is, and hears up to the first of its ends, and never again
+abbrev pub ConsumersHearToTheirEnd : Type 0
+ConsumersHearToTheirEnd = (o : Chosen) (later older : List Entry) (t : ℕ) (s : Subscription) →
+    IsRun o (later ++ older) → (view o older).consumers t ≡ Some s →
+    Remains s (s.is_live && not (has_end o s later older)) ((view o (later ++ older)).consumers t)
+
+-- what comes to a link brings to a consumer: the items of a frame for it on its link while it hears
+abbrev pub brought_by : Arrival → (number : ℕ) → List Item
+brought_by Nothing number = []
+brought_by Readied number = []
+brought_by Settles number = []
+brought_by (Gives consumer reply) number = if consumer == number then reply.items else []
+brought_by Passes number = []
+brought_by (Bad cause) number = []
+
+abbrev pub brought : ℕ → Arrival → Option Subscription → List Item
+brought l a None = []
+brought l a (Some s) = if is_heard_on l s then brought_by a s.number else []
+
+-- the items that have come to the consumer of a ticket, in order
+abbrev pub items_come : Chosen → ℕ → List Entry → List Item
+items_come o t [] = []
+items_come o t (Then (Comes (ToLink l Reads)) ∷ log) =
+    items_come o t log ++ brought l (arrival_at ((view o log).links.live l)) ((view o log).consumers t)
+items_come o t (_ ∷ log) = items_come o t log
+
+-- the item that an effect gives to a poll of a ticket
+abbrev pub given_by : ℕ → Shown → List Item
+given_by t (Hands ticket topic id metadata payload) = if t == ticket then Given id metadata payload ∷ [] else []
+given_by t (Faults ticket fault) = if t == ticket then Faulty fault ∷ [] else []
+given_by t _ = []
+
+-- those that the effects of a history give, in order
+abbrev pub items_given : ℕ → List Step → List Item
+items_given t [] = []
+items_given t (s ∷ h) = items_given t h ++ flat_map (given_by t) s.effects
+
+-- The polls of a consumer give the items that have come to it, in order, each once and without gap: behind what they gave
+-- stands what it has not given yet.
+abbrev pub PollsFollow : Type 0
+PollsFollow = (o : Chosen) (log : List Entry) (t : ℕ) (s : Subscription) →
+    IsRun o log → (view o log).consumers t ≡ Some s → items_given t (steps o log) ++ s.unread ≡ items_come o t log
+
+-- A consumer is polled where the user asks for it. The one effect of that step is its first item, and where it has none the
+-- end, once it hears no more, and else that there is nothing yet.
+abbrev pub PollsAreAnswered : Type 0
+PollsAreAnswered = (o : Chosen) (log : List Entry) (t : ℕ) → IsRun o (Then (Comes (Polls t)) ∷ log) →
+    (older : List Entry) × (s : Subscription) × (log ≡ Begins (Poll t) ∷ older) × ((view o older).consumers t ≡ Some s)
+    × (steps o (Then (Comes (Polls t)) ∷ log) ≡ record { event = Poll t; effects = polled t s ∷ [] } ∷ steps o older)
+
+-- TICKETS
+
+-- a cause serves calls by their tickets, in whatever order their requests end
+abbrev pub disconnects : ℕ → Notice
+disconnects t = record { who = Call t; outcome = outcome.Disconnected }
+
+abbrev pub ServedByTicket : Type 0
+ServedByTicket = arranged below (disconnects 3 ∷ disconnects 1 ∷ disconnects 2 ∷ []) ≡ disconnects 1 ∷ disconnects 2 ∷ disconnects 3 ∷ []
+
+-- the ticket of the next call is the count of the calls so far, in whatever run a history is that of
+abbrev pub TicketsCount : Type 0
+TicketsCount = (o : Chosen) (log : List Entry) → IsRun o log → Rests o log → (view o log).calls.drawn ≡ calls_in (steps o log)

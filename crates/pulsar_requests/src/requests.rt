@@ -8,8 +8,8 @@ ghost use Rattle.std.specs.BTreeSet.{contains, insert_key};
 ghost use Rattle.pulsar_wire.specs.Sink.{capped};
 ghost use Rattle.pulsar_requests.specs.Awaited.{is_same};
 ghost use Rattle.pulsar_requests.specs.Kept.{AreTimed, Taken, excuses, places_of};
-ghost use Rattle.pulsar_requests.specs.Soonest.{due_at};
 ghost use Rattle.pulsar_requests.specs.Waits.{Waits, answered_by, any_due, ended, found, is_excused, is_listed, is_overdue, later_of, named, places, told, with_next, without};
+ghost use Rattle.pulsar_requests.specs.Soonest.{due_at};
 
 use crate::awaited::{Awaited, Claim};
 use pulsar_wire::error::NoMemory;

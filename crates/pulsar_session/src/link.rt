@@ -10,9 +10,9 @@ ghost use Rattle.pulsar_messages.specs.Messages.{connect_command};
 ghost use Rattle.pulsar_requests.specs.Waits.{places};
 ghost use Rattle.pulsar_session.specs.Answers.{answers};
 ghost use Rattle.pulsar_session.specs.Failures.{fault};
+ghost use Rattle.pulsar_session.specs.Soonest.{due_at};
 ghost use Rattle.pulsar_session.specs.Kept.{OnAnswer, arrival_of, arrives, contents, setup_of, table};
 ghost use Rattle.pulsar_session.specs.Link.{answered_to, asks_for, bare, came, came_by, came_in, challenged, closes, drawn, due, ends, feeds, frame_at, frame_for, fresh, greets_with, has_room, is_late, is_open, is_over, is_ready, moved_up, named_by, number_for, opens_in, place_of, put_frame, pongs, put_in, queue, reacts, received, responds, settled_by, taken_in, ticked, written};
-ghost use Rattle.pulsar_session.specs.Soonest.{due_at};
 
 use crate::frames::{Arrival, Next, awaited_by, command_frame, is, unasked, unready};
 use crate::incoming::{First, Incoming};

@@ -3,7 +3,10 @@ use Rattle.std.proofs.Common.{◌≡◌, List, [], ◌∷◌, refl, map, string_
 use Rattle.std.specs.List.{AllZip}
 use Rattle.pulsar_messages.specs.Content.{property}
 
-pub properties_copied : {Z : Type 0} (xs ys : List (String Z × String Z)) → AllZip (λ p q. (string_bytes q.0 ≡ string_bytes p.0) × (string_bytes q.1 ≡ string_bytes p.1)) xs ys → map property ys ≡ map property xs
+-- entries whose keys and values have the same bytes are the same properties
+pub properties_copied : {Z : Type 0} (xs ys : List (String Z × String Z))
+    → AllZip (λ p q. (string_bytes q.0 ≡ string_bytes p.0) × (string_bytes q.1 ≡ string_bytes p.1)) xs ys
+    → map property ys ≡ map property xs
 properties_copied [] [] h = refl
 properties_copied [] (y ∷ ys) h = absurd h
 properties_copied (x ∷ xs) [] h = absurd h

@@ -1,6 +1,6 @@
 -- What a user gives to the calls of a connection, by its content: a text is the list of its bytes, a map the list of its entries
 -- in key order.
-use Rattle.std.specs.Prelude.{ℕ, ℤ, Bool, false, List, [], map, Option, None, String, string_bytes}
+use Rattle.std.specs.Prelude.{ℕ, ℤ, ◌==◌, Bool, false, List, [], map, Option, None, String, string_bytes, if◌then◌else◌}
 use Rattle.std.specs.Option.{option_map}
 use Rattle.pulsar_wire.specs.Row.{Values}
 use Rattle.pulsar_wire.specs.Rows as rows
@@ -189,3 +189,7 @@ empty_consumer_options =
       receiver_queue_size = None;
       initial_position = Latest;
     }
+
+-- how many messages a consumer holds where it is asked to hold so many
+abbrev pub queue_size : (asked : ℕ) → ℕ
+queue_size asked = if asked == 0 then 1000 else asked

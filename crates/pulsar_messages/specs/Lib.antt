@@ -2,3 +2,4 @@ pub mod Content
 pub mod Words
 pub mod Messages
 pub mod Murmur
+pub mod Laws

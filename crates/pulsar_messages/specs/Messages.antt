@@ -38,13 +38,15 @@ connect_of auth proxy =
     client_version & option_map (λ a. a.auth_data) auth & Some protocol_version & option_map (λ a. a.name) auth & proxy & tt
 
 -- makes a producer  (PulsarApi.proto, CommandProducer)
-abbrev pub producer_of : (id : ℕ) (topic : List ℕ) (producer : ℕ) (name : Option (List ℕ)) → ProducerOptionsValues → Values rows.producer
+abbrev pub producer_of : (id : ℕ) (topic : List ℕ) (producer : ℕ) (name : Option (List ℕ))
+    → ProducerOptionsValues → Values rows.producer
 producer_of id topic producer name o =
     topic & producer & id & name & o.encrypted & properties_values o.metadata & o.schema & o.access_mode & tt
 
 -- makes a consumer on a subscription, which says whether it reads a compacted topic, and where it begins
 -- (PulsarApi.proto, CommandSubscribe)
-abbrev pub subscribe_of : (id : ℕ) (topic subscription : List ℕ) (sub_type : ℤ) (consumer : ℕ) (name : Option (List ℕ)) → ConsumerOptionsValues → Values rows.subscribe
+abbrev pub subscribe_of : (id : ℕ) (topic subscription : List ℕ) (sub_type : ℤ) (consumer : ℕ) (name : Option (List ℕ))
+    → ConsumerOptionsValues → Values rows.subscribe
 subscribe_of id topic subscription sub_type consumer name o =
     topic & subscription & sub_type & consumer & id & name & o.priority_level & o.durable & o.start_message_id
     & properties_values o.metadata & Some (unwrap_or o.read_compacted false) & o.schema

@@ -1,6 +1,6 @@
 -- The hash of a key: MurmurHash3 for x86 with 32 bits and the seed 0. Its sums and products wrap.
--- (A. Appleby, MurmurHash3_x86_32)
-use Rattle.std.specs.Prelude.{ℕ, ◌+◌, ◌*◌, ◌/◌, ◌%◌, ◌^◌, List, [], ◌∷◌, ◌++◌, length, bit_xor}
+-- (A. Appleby, SMHasher: MurmurHash3_x86_32)
+use Rattle.std.specs.Prelude.{◌≡◌, ℕ, ◌+◌, ◌*◌, ◌/◌, ◌%◌, ◌^◌, List, [], ◌∷◌, ◌++◌, length, bit_xor, codes}
 use Rattle.std.specs.Int.{w32, from_le_bytes, rotate_left}
 
 abbrev pub wrapping_mul : ℕ → ℕ → ℕ
@@ -39,3 +39,10 @@ finished hash =
 
 unfoldable pub murmur3 : (bytes : List ℕ) → ℕ
 murmur3 bytes = finished (bit_xor (with_bytes 0 bytes) (length bytes % 2 ^ 32))
+
+-- texts whose hash is published
+abbrev pub GivesKnownValues : Type 0
+GivesKnownValues =
+    (murmur3 [] ≡ 0) × (murmur3 (codes "test") ≡ 0xba6bd213) × (murmur3 (codes "hello") ≡ 0x248bfa47)
+    × (murmur3 (codes "Hello, world!") ≡ 0xc0363e43)
+    × (murmur3 (codes "The quick brown fox jumps over the lazy dog") ≡ 0x2e4ff723)

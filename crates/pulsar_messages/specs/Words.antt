@@ -1,5 +1,6 @@
--- What is asked of one connection: a row for each request, and three that no user makes (a pong, the answer to a challenge, the
--- close of a consumer whose answer nobody waits for). A producer or a consumer is named by the number that its owner gave it.
+-- What is asked of one connection: a row for each request of a user, and for what a connection or a client asks for by itself
+-- (a pong, the answer to a challenge, the close of a consumer whose answer no call waits for). A producer or a consumer is named
+-- by the number that its owner gave it.
 use Rattle.std.specs.Prelude.{ℕ, Bool, true, false, List, Option, if◌then◌else◌}
 use Rattle.pulsar_wire.specs.Row.{Values}
 use Rattle.pulsar_wire.specs.Rows as rows
@@ -18,7 +19,8 @@ pub data Words : Type 0 where
   CreateProducer : (topic : List ℕ) (producer : ℕ) (name : Option (List ℕ)) (options : ProducerOptionsValues) → Words
   Send : (producer : ℕ) (name : List ℕ) (sequence : ℕ) (message : ProducerMessageValues) (block : Bool) → Words
   CloseProducer : (producer : ℕ) → Words
-  Subscribe : (topic subscription : List ℕ) (sub_type : SubType) (consumer : ℕ) (name : Option (List ℕ)) (options : ConsumerOptionsValues) → Words
+  Subscribe : (topic subscription : List ℕ) (sub_type : SubType) (consumer : ℕ) (name : Option (List ℕ))
+      (options : ConsumerOptionsValues) → Words
   SendFlow : (consumer permits : ℕ) → Words
   SendAck : (consumer : ℕ) (ids : List (Values rows.message_id)) (cumulative : Bool) → Words
   SendRedeliver : (consumer : ℕ) (ids : List (Values rows.message_id)) → Words

@@ -1,8 +1,8 @@
 //! How a consumer is made, and how many messages it holds.
 
-ghost use Rattle.std.specs.Prelude.{◌≡◌, ◌==◌, IfOk, Some, map, if◌then◌else◌};
+ghost use Rattle.std.specs.Prelude.{◌≡◌, IfOk, Some, map};
 ghost use Rattle.pulsar_wire.specs.Views.{message_id_values, schema_values};
-ghost use Rattle.pulsar_messages.specs.Content.{consumer_options_values, empty_consumer_options, property};
+ghost use Rattle.pulsar_messages.specs.Content.{consumer_options_values, empty_consumer_options, property, queue_size};
 
 use crate::properties::copy_properties;
 use pulsar_wire::commands::enumerations::InitialPosition;
@@ -72,7 +72,8 @@ impl ConsumerOptions {
 
     /// The broker serves consumers of a lower level first.
     pub fn with_priority_level(mut self, level: i32) -> Self
-        ensures { consumer_options_values result ≡ record (consumer_options_values self) { priority_level = Some level } }
+        ensures { consumer_options_values result
+            ≡ record (consumer_options_values self) { priority_level = Some level } }
     {
         self.priority_level = Some(level);
         self
@@ -80,7 +81,8 @@ impl ConsumerOptions {
 
     /// Whether the broker keeps the place of the subscription.
     pub fn durable(mut self, durable: bool) -> Self
-        ensures { consumer_options_values result ≡ record (consumer_options_values self) { durable = Some durable } }
+        ensures { consumer_options_values result
+            ≡ record (consumer_options_values self) { durable = Some durable } }
     {
         self.durable = Some(durable);
         self
@@ -88,7 +90,8 @@ impl ConsumerOptions {
 
     /// The message that a new subscription begins at.
     pub fn starting_on_message(mut self, id: MessageIdData) -> Self
-        ensures { consumer_options_values result ≡ record (consumer_options_values self) { start_message_id = Some (message_id_values id) } }
+        ensures { consumer_options_values result
+            ≡ record (consumer_options_values self) { start_message_id = Some (message_id_values id) } }
     {
         self.start_message_id = Some(id);
         self
@@ -96,7 +99,8 @@ impl ConsumerOptions {
 
     /// What the broker keeps with the consumer, in place of what was said before.
     pub fn with_metadata(mut self, metadata: BTreeMap<String, String>) -> Self
-        ensures { consumer_options_values result ≡ record (consumer_options_values self) { metadata = map property metadata.entries } }
+        ensures { consumer_options_values result
+            ≡ record (consumer_options_values self) { metadata = map property metadata.entries } }
     {
         self.metadata = metadata;
         self
@@ -104,7 +108,8 @@ impl ConsumerOptions {
 
     /// Whether it reads of each key only what was sent last.
     pub fn read_compacted(mut self, read_compacted: bool) -> Self
-        ensures { consumer_options_values result ≡ record (consumer_options_values self) { read_compacted = Some read_compacted } }
+        ensures { consumer_options_values result
+            ≡ record (consumer_options_values self) { read_compacted = Some read_compacted } }
     {
         self.read_compacted = Some(read_compacted);
         self
@@ -112,7 +117,8 @@ impl ConsumerOptions {
 
     /// What its messages are made of.
     pub fn with_schema(mut self, schema: Schema) -> Self
-        ensures { consumer_options_values result ≡ record (consumer_options_values self) { schema = Some (schema_values schema) } }
+        ensures { consumer_options_values result
+            ≡ record (consumer_options_values self) { schema = Some (schema_values schema) } }
     {
         self.schema = Some(schema);
         self
@@ -120,7 +126,8 @@ impl ConsumerOptions {
 
     /// Where a new subscription begins.
     pub fn with_initial_position(mut self, position: InitialPosition) -> Self
-        ensures { consumer_options_values result ≡ record (consumer_options_values self) { initial_position = position } }
+        ensures { consumer_options_values result
+            ≡ record (consumer_options_values self) { initial_position = position } }
     {
         self.initial_position = position;
         self
@@ -128,7 +135,8 @@ impl ConsumerOptions {
 
     /// How many messages it holds that were not read yet; 1000 where this is 0.
     pub fn with_receiver_queue_size(mut self, size: u32) -> Self
-        ensures { consumer_options_values result ≡ record (consumer_options_values self) { receiver_queue_size = Some (if size == 0 then 1000 else size) } }
+        ensures { consumer_options_values result
+            ≡ record (consumer_options_values self) { receiver_queue_size = Some (queue_size size) } }
     {
         self.receiver_queue_size = Some(if size == 0 { DEFAULT_QUEUE_SIZE } else { size });
         self

@@ -3,6 +3,7 @@
 
 pub mod authentication;
 pub mod consumer_options;
+pub mod laws;
 pub mod messages;
 mod murmur;
 pub mod producer_message;

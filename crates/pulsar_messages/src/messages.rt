@@ -53,7 +53,8 @@ pub fn connect(
     auth: Option<Authentication>,
     proxy: Option<&str>,
 ) -> Result<BaseCommand, NoMemory>
-    ensures { IfOk result (λ c. command_values c ≡ connect_command (option_map authentication_values auth) (option_copied proxy.entry)) }
+    ensures { IfOk result (λ c. command_values c
+        ≡ connect_command (option_map authentication_values auth) (option_copied proxy.entry)) }
 {
     let (auth_method_name, auth_data) = match auth {
         Some(auth) => (Some(auth.name), Some(auth.auth_data)),
@@ -95,7 +96,9 @@ pub fn create_producer(
     request_id: u64,
     options: &ProducerOptions,
 ) -> Result<BaseCommand, NoMemory>
-    ensures { IfOk result (λ c. command_values c ≡ command_of request_id (CreateProducer topic.now producer_id (option_copied name.entry) (producer_options_values options.now))) }
+    ensures { IfOk result (λ c. command_values c
+        ≡ command_of request_id (CreateProducer topic.now producer_id (option_copied name.entry)
+        (producer_options_values options.now))) }
 {
     let body = CommandProducer {
         topic: String::from_str(alloc, topic)?,
@@ -118,7 +121,8 @@ pub fn get_topics_of_namespace(
     namespace: &str,
     mode: Mode,
 ) -> Result<BaseCommand, NoMemory>
-    ensures { IfOk result (λ c. command_values c ≡ command_of request_id (GetTopicsOfNamespace namespace.now mode)) }
+    ensures { IfOk result (λ c. command_values c
+        ≡ command_of request_id (GetTopicsOfNamespace namespace.now mode)) }
 {
     let body = CommandGetTopicsOfNamespace {
         request_id,
@@ -136,7 +140,8 @@ pub fn get_schema(
     topic: &str,
     version: Option<&[u8]>,
 ) -> Result<BaseCommand, NoMemory>
-    ensures { IfOk result (λ c. command_values c ≡ command_of request_id (GetSchema topic.now (option_copied version.entry))) }
+    ensures { IfOk result (λ c. command_values c
+        ≡ command_of request_id (GetSchema topic.now (option_copied version.entry))) }
 {
     let body = CommandGetSchema {
         request_id,
@@ -156,8 +161,10 @@ pub fn send(
     message: ProducerMessage,
     publish_time: u64,
 ) -> Result<MessageParts, NoMemory>
-    ensures command { IfOk result (λ p. (id : ℕ) (block : Bool) → command_values p.command ≡ command_of id (Send producer_id name.now sequence_id (producer_message_values message) block)) }
-    ensures payload { IfOk result (λ p. payload_content p ≡ sent_payload publish_time name.now sequence_id (producer_message_values message)) }
+    ensures command { IfOk result (λ p. (id : ℕ) (block : Bool) → command_values p.command
+        ≡ command_of id (Send producer_id name.now sequence_id (producer_message_values message) block)) }
+    ensures payload { IfOk result (λ p. payload_content p
+        ≡ sent_payload publish_time name.now sequence_id (producer_message_values message)) }
 {
     let body = CommandSend {
         producer_id,
@@ -165,7 +172,13 @@ pub fn send(
         num_messages: message.num_messages_in_batch,
     };
     let name = String::from_str(alloc, name)?;
-    let (metadata, payload) = described(alloc, name, sequence_id, message, publish_time)?;
+    let (metadata, payload) = metadata_and_payload(
+        alloc,
+        name,
+        sequence_id,
+        message,
+        publish_time,
+    )?;
     Ok(MessageParts {
         command: BaseCommand::with_body(Body::Send(body)),
         metadata,
@@ -175,14 +188,15 @@ pub fn send(
 
 /// What is said of a message, and its payload.
 #[tactic(auto, unfolding(pulsar_wire::specs::Views::message_metadata_values))]
-fn described(
+fn metadata_and_payload(
     alloc: Global,
     producer_name: String,
     sequence_id: u64,
     message: ProducerMessage,
     publish_time: u64,
 ) -> Result<(MessageMetadata, Vec<u8>), NoMemory>
-    ensures metadata { IfOk result (λ p. message_metadata_values p.0 ≡ metadata_of publish_time (string_bytes producer_name) sequence_id (producer_message_values message)) }
+    ensures metadata { IfOk result (λ p. message_metadata_values p.0
+        ≡ metadata_of publish_time (string_bytes producer_name) sequence_id (producer_message_values message)) }
     ensures payload { IfOk result (λ p. p.1.items ≡ message.payload.items) }
 {
     let metadata = MessageMetadata {
@@ -215,7 +229,8 @@ pub fn lookup_topic(
     authoritative: bool,
     request_id: u64,
 ) -> Result<BaseCommand, NoMemory>
-    ensures { IfOk result (λ c. command_values c ≡ command_of request_id (LookupTopic topic.now authoritative)) }
+    ensures { IfOk result (λ c. command_values c
+        ≡ command_of request_id (LookupTopic topic.now authoritative)) }
 {
     let body = CommandLookupTopic {
         topic: String::from_str(alloc, topic)?,
@@ -232,7 +247,8 @@ pub fn lookup_partitioned_topic(
     topic: &str,
     request_id: u64,
 ) -> Result<BaseCommand, NoMemory>
-    ensures { IfOk result (λ c. command_values c ≡ command_of request_id (LookupPartitionedTopic topic.now)) }
+    ensures { IfOk result (λ c. command_values c
+        ≡ command_of request_id (LookupPartitionedTopic topic.now)) }
 {
     let body = CommandPartitionedTopicMetadata {
         topic: String::from_str(alloc, topic)?,
@@ -244,7 +260,8 @@ pub fn lookup_partitioned_topic(
 /// Asks what the broker counts of a consumer. It takes no memory.
 #[tactic(auto, unfolding(pulsar_wire::specs::Views::consumer_stats_values))]
 pub fn consumer_stats(request_id: u64, consumer_id: u64) -> Result<BaseCommand, NoMemory>
-    ensures { IsOkAnd result (λ c. command_values c ≡ command_of request_id (GetConsumerStats consumer_id)) }
+    ensures { IsOkAnd result (λ c. command_values c
+        ≡ command_of request_id (GetConsumerStats consumer_id)) }
 {
     let body = CommandConsumerStats {
         request_id,
@@ -256,7 +273,8 @@ pub fn consumer_stats(request_id: u64, consumer_id: u64) -> Result<BaseCommand, 
 /// Asks for the id of the last message of a consumer's topic. It takes no memory.
 #[tactic(auto, unfolding(pulsar_wire::specs::Views::get_last_message_id_values))]
 pub fn get_last_message_id(consumer_id: u64, request_id: u64) -> Result<BaseCommand, NoMemory>
-    ensures { IsOkAnd result (λ c. command_values c ≡ command_of request_id (GetLastMessageId consumer_id)) }
+    ensures { IsOkAnd result (λ c. command_values c
+        ≡ command_of request_id (GetLastMessageId consumer_id)) }
 {
     let body = CommandGetLastMessageId {
         consumer_id,
@@ -268,8 +286,10 @@ pub fn get_last_message_id(consumer_id: u64, request_id: u64) -> Result<BaseComm
 /// Ends a consumer. It takes no memory.
 #[tactic(auto, unfolding(pulsar_wire::specs::Views::close_consumer_values))]
 pub fn close_consumer(consumer_id: u64, request_id: u64) -> Result<BaseCommand, NoMemory>
-    ensures awaited { IsOkAnd result (λ c. command_values c ≡ command_of request_id (CloseConsumer consumer_id)) }
-    ensures unawaited { IsOkAnd result (λ c. command_values c ≡ command_of request_id (CloseConsumerUnawaited consumer_id)) }
+    ensures awaited { IsOkAnd result (λ c. command_values c
+        ≡ command_of request_id (CloseConsumer consumer_id)) }
+    ensures unawaited { IsOkAnd result (λ c. command_values c
+        ≡ command_of request_id (CloseConsumerUnawaited consumer_id)) }
 {
     let body = CommandCloseConsumer {
         consumer_id,
@@ -293,7 +313,8 @@ pub fn unsubscribe(consumer_id: u64, request_id: u64) -> Result<BaseCommand, NoM
 /// Ends a producer. It takes no memory.
 #[tactic(auto, unfolding(pulsar_wire::specs::Views::close_producer_values))]
 pub fn close_producer(producer_id: u64, request_id: u64) -> Result<BaseCommand, NoMemory>
-    ensures { IsOkAnd result (λ c. command_values c ≡ command_of request_id (CloseProducer producer_id)) }
+    ensures { IsOkAnd result (λ c. command_values c
+        ≡ command_of request_id (CloseProducer producer_id)) }
 {
     let body = CommandCloseProducer {
         producer_id,
@@ -314,7 +335,9 @@ pub fn subscribe(
     name: Option<&str>,
     options: &ConsumerOptions,
 ) -> Result<BaseCommand, NoMemory>
-    ensures { IfOk result (λ c. command_values c ≡ command_of request_id (Subscribe topic.now subscription.now sub_type consumer_id (option_copied name.entry) (consumer_options_values options.now))) }
+    ensures { IfOk result (λ c. command_values c
+        ≡ command_of request_id (Subscribe topic.now subscription.now sub_type consumer_id (option_copied name.entry)
+        (consumer_options_values options.now))) }
 {
     let body = CommandSubscribe {
         topic: String::from_str(alloc, topic)?,
@@ -337,7 +360,8 @@ pub fn subscribe(
 /// Allows the broker to deliver as many messages more. It takes no memory.
 #[tactic(auto, unfolding(pulsar_wire::specs::Views::flow_values))]
 pub fn flow(consumer_id: u64, permits: u32) -> Result<BaseCommand, NoMemory>
-    ensures { (id : ℕ) → IsOkAnd result (λ c. command_values c ≡ command_of id (SendFlow consumer_id permits)) }
+    ensures { (id : ℕ) → IsOkAnd result (λ c. command_values c
+        ≡ command_of id (SendFlow consumer_id permits)) }
 {
     let body = CommandFlow {
         consumer_id,
@@ -353,7 +377,8 @@ pub fn ack(
     ids: Vec<MessageIdData>,
     cumulative: bool,
 ) -> Result<BaseCommand, NoMemory>
-    ensures { (id : ℕ) → IsOkAnd result (λ c. command_values c ≡ command_of id (SendAck consumer_id (map message_id_values ids.items) cumulative)) }
+    ensures { (id : ℕ) → IsOkAnd result (λ c. command_values c
+        ≡ command_of id (SendAck consumer_id (map message_id_values ids.items) cumulative)) }
 {
     let body = CommandAck {
         consumer_id,
@@ -376,7 +401,8 @@ pub fn redeliver_unacknowleged_messages(
     consumer_id: u64,
     ids: Vec<MessageIdData>,
 ) -> Result<BaseCommand, NoMemory>
-    ensures { (id : ℕ) → IsOkAnd result (λ c. command_values c ≡ command_of id (SendRedeliver consumer_id (map message_id_values ids.items))) }
+    ensures { (id : ℕ) → IsOkAnd result (λ c. command_values c
+        ≡ command_of id (SendRedeliver consumer_id (map message_id_values ids.items))) }
 {
     let body = CommandRedeliverUnacknowledgedMessages {
         consumer_id,
@@ -394,7 +420,8 @@ pub fn seek(
     id: Option<MessageIdData>,
     time: Option<u64>,
 ) -> Result<BaseCommand, NoMemory>
-    ensures { IsOkAnd result (λ c. command_values c ≡ command_of request_id (Seek consumer_id (option_map message_id_values id) time)) }
+    ensures { IsOkAnd result (λ c. command_values c
+        ≡ command_of request_id (Seek consumer_id (option_map message_id_values id) time)) }
 {
     let body = CommandSeek {
         consumer_id,
@@ -408,7 +435,8 @@ pub fn seek(
 /// Answers a challenge with a credential. It takes no memory.
 #[tactic(auto, unfolding(pulsar_wire::specs::Views::auth_response_values, pulsar_wire::specs::Views::auth_data_values))]
 pub fn auth_challenge(auth: Authentication) -> Result<BaseCommand, NoMemory>
-    ensures { (id : ℕ) → IsOkAnd result (λ c. command_values c ≡ command_of id (AuthChallenge (authentication_values auth))) }
+    ensures { (id : ℕ) → IsOkAnd result (λ c. command_values c
+        ≡ command_of id (AuthChallenge (authentication_values auth))) }
 {
     let body = CommandAuthResponse {
         client_version: None,

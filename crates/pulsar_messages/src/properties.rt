@@ -16,7 +16,8 @@ pub(crate) fn into_properties(
     alloc: Global,
     properties: BTreeMap<String, String>,
 ) -> Result<Vec<KeyValue>, NoMemory>
-    ensures { IfOk result (λ pairs. map key_value_values pairs.items ≡ properties_values (map property properties.entries)) }
+    ensures { IfOk result (λ pairs. map key_value_values pairs.items
+        ≡ properties_values (map property properties.entries)) }
 {
     let mut pairs = Vec::new(alloc);
     for (key, value) in properties {
@@ -30,7 +31,8 @@ pub(crate) fn properties_of(
     alloc: Global,
     properties: &BTreeMap<String, String>,
 ) -> Result<Vec<KeyValue>, NoMemory>
-    ensures { IfOk result (λ pairs. map key_value_values pairs.items ≡ properties_values (map property properties.now.entries)) }
+    ensures { IfOk result (λ pairs. map key_value_values pairs.items
+        ≡ properties_values (map property properties.now.entries)) }
 {
     into_properties(alloc, copy_properties(properties)?)
 }

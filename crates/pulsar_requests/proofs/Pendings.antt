@@ -1,8 +1,7 @@
 -- The requests that wait on a link: those that wait for the same are found by their places.
-use Rattle.std.proofs.Common.{◌+◌, length, suc, ◌≡◌, ℕ, ◌≤◌, ◌<◌, ◌∙◌, sym, ap, List, [], ◌∷◌, ◌++◌, refl, arith, map, filter, Bool, true, false, not, cond, ◌==◌, ◌&&◌, nat_lt, nat_le, Option, Some, None, inl, inr, append_assoc, append-nil, subst}
+use Rattle.std.proofs.Common.{◌+◌, length, suc, ◌≡◌, ℕ, ◌≤◌, ◌<◌, ◌∙◌, sym, ap, List, [], ◌∷◌, ◌++◌, refl, arith, map, filter, Bool, true, false, not, cond, ◌==◌, nat_lt, nat_le, Option, Some, None, inl, inr, append-nil, subst}
 use Rattle.std.proofs.lemmas.Bool.{cases_Bool, eq-eqb}
 use Rattle.std.proofs.lemmas.Bool.Decides.{nat_tests}
-use Rattle.std.proofs.lemmas.Grind.{common_steps}
 use Rattle.std.proofs.lemmas.List.{map-append}
 use Rattle.std.proofs.lemmas.List.Elements.{filter-append}
 use Rattle.std.specs.List.{list_any}
@@ -12,7 +11,7 @@ use Rattle.std.specs.Map.{lookup, remove_entry}
 use Rattle.std.specs.Global.{Vec}
 use Rattle.pulsar_requests.specs.declared.awaited.Awaited.{Awaited}
 use Rattle.pulsar_requests.specs.declared.requests.Waiter.{Waiter}
-use Rattle.pulsar_requests.specs.Awaited.{awaited_cmp, is_same}
+use Rattle.pulsar_requests.specs.Awaited.{is_same}
 use Rattle.pulsar_wire.specs.Sink.{capped}
 use Rattle.pulsar_requests.specs.Waits.{Pending, found, is_due, is_excused, later_of, others, places, request_at}
 use Rattle.pulsar_requests.specs.Kept.{AllFrom, AllUpTo, Ascends, Taken, all_pending, listed, pending_at, places_of}

@@ -1,5 +1,5 @@
 -- The requests that wait, as the code keeps them: each under its place, and an index of the places by what is waited for.
-use Rattle.std.specs.Prelude.{◌≡◌, ℕ, ◌+◌, ◌≤◌, ◌&&◌, not, Bool, false, List, [], ◌∷◌, map, filter, Option, Some, None}
+use Rattle.std.specs.Prelude.{◌≡◌, ℕ, ◌+◌, ◌≤◌, ◌==◌, ◌&&◌, ◌||◌, not, Bool, false, List, [], ◌∷◌, map, filter, Option, Some, None}
 use Rattle.std.specs.Ordering.{nat_cmp}
 use Rattle.std.specs.BTreeMap.{BTreeMap, IsOrdered, get, is_at}
 use Rattle.std.specs.BTreeSet.{BTreeSet, contains}
@@ -59,6 +59,15 @@ is_timed excused (Some w) = not (is_excused excused w.creates w.awaits)
 abbrev pub excuses : ℕ → Option Waiter → Bool
 excuses n None = false
 excuses n (Some w) = w.creates && is_same (Reply n) w.awaits
+
+-- this place is timed too, or not
+abbrev pub IsTimedToo : (place : ℕ) (timed : Bool) → BTreeSet ℕ → BTreeSet ℕ → Type 0
+IsTimedToo place timed old new = (n : ℕ) → contains nat_cmp new n ≡ (contains nat_cmp old n || ((place == n) && timed))
+
+-- those at some places that make a producer under this number are timed no longer
+abbrev pub AreUntimed : (at : ℕ → Bool) (number : ℕ) → BTreeMap ℕ Waiter → BTreeSet ℕ → BTreeSet ℕ → Type 0
+AreUntimed at number waiters old new =
+    (n : ℕ) → contains nat_cmp new n ≡ (contains nat_cmp old n && not (at n && excuses number (get nat_cmp waiters n)))
 
 -- the timed places are those of the waiters that are not excused
 abbrev pub AreTimed : List ℕ → BTreeSet ℕ → BTreeMap ℕ Waiter → Type 0

@@ -7,7 +7,7 @@ ghost use Rattle.std.specs.BTreeMap as maps;
 ghost use Rattle.std.specs.BTreeSet.{contains, insert_key};
 ghost use Rattle.pulsar_wire.specs.Sink.{capped};
 ghost use Rattle.pulsar_requests.specs.Awaited.{is_same};
-ghost use Rattle.pulsar_requests.specs.Kept.{AreTimed, Taken, excuses, places_of};
+ghost use Rattle.pulsar_requests.specs.Kept.{AreTimed, AreUntimed, IsTimedToo, Taken, excuses, is_timed, places_of};
 ghost use Rattle.pulsar_requests.specs.Soonest.{due_at};
 ghost use Rattle.pulsar_requests.specs.Waits.{Waits, answered_by, any_due, ended, found, is_empty, is_excused, is_listed, is_overdue, later_of, named, places, told, with_next, without};
 
@@ -384,7 +384,7 @@ fn time(
     place: u64,
     waiter: Waiter,
 ) -> Result<(), NoMemory>
-    ensures { OnOk result ((n : ℕ) → contains nat_cmp timed.new n ≡ (contains nat_cmp timed.old n || ((place == n) && not (is_excused excused.now.keys waiter.creates waiter.awaits)))) }
+    ensures { OnOk result (IsTimedToo place (is_timed excused.now.keys (Some waiter)) timed.old timed.new) }
 {
     if !is_excused(excused, &waiter) {
         timed.insert(place)?;
@@ -394,7 +394,8 @@ fn time(
 
 /// Takes those out that wait at these places.
 fn take_all(waiters: &mut BTreeMap<u64, Waiter>, timed: &mut BTreeSet<u64>, places: &Vec<u64>)
-    ensures waiters { (a : Awaited) → places_of a waiters.old.entries ≡ places.now.items → Taken a waiters.old.entries waiters.new.entries [] }
+    ensures waiters { (a : Awaited) → places_of a waiters.old.entries ≡ places.now.items
+        → Taken a waiters.old.entries waiters.new.entries [] }
     ensures ordered { maps.IsOrdered nat_cmp waiters.old → maps.IsOrdered nat_cmp waiters.new }
     ensures timed { (excused : List ℕ) → AreTimed excused timed.old waiters.old → AreTimed excused timed.new waiters.new }
 {
@@ -422,7 +423,7 @@ fn untime(
     number: u64,
     places: &Vec<u64>,
 )
-    ensures { (n : ℕ) → contains nat_cmp timed.new n ≡ (contains nat_cmp timed.old n && not (list_any (λ p. p == n) places.now.items && excuses number (maps.get nat_cmp waiters.now n))) }
+    ensures { AreUntimed (λ n. list_any (λ p. p == n) places.now.items) number waiters.now timed.old timed.new }
 {
     for place in places {
         untime_at(timed, waiters, number, *place);
@@ -430,7 +431,7 @@ fn untime(
 }
 
 fn untime_at(timed: &mut BTreeSet<u64>, waiters: &BTreeMap<u64, Waiter>, number: u64, place: u64)
-    ensures { (n : ℕ) → contains nat_cmp timed.new n ≡ (contains nat_cmp timed.old n && not ((place == n) && excuses number (maps.get nat_cmp waiters.now n))) }
+    ensures { AreUntimed (λ n. place == n) number waiters.now timed.old timed.new }
 {
     if let Some(waiter) = waiters.get(&place)
         && waiter.creates

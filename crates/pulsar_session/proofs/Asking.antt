@@ -1,5 +1,5 @@
 -- A request call: a number is drawn, a frame is made, and it is asked for.
-use Rattle.std.proofs.Common.{◌≡◌, ◌∙◌, sym, ap, ℕ, List, Bool, true, false, Option, Some, Result, Ok, Err}
+use Rattle.std.proofs.Common.{◌≡◌, ◌∙◌, sym, ap, ℕ, List, Bool, false, Option, Some, Result, Ok, Err}
 use Rattle.std.specs.Prelude.{IfOk, IsOkAnd}
 use Rattle.pulsar_wire.specs.Command.{CommandValues}
 use Rattle.pulsar_wire.specs.Views.{command_values}

@@ -1,5 +1,5 @@
 -- A message answers what its key says.
-use Rattle.std.proofs.Common.{◌≡◌, ℕ, ◌∙◌, sym, ap, List, [], ◌∷◌, refl, arith, filter, Bool, true, false, not, cond, ◌==◌, ◌&&◌, Option, Some, None, inl, inr}
+use Rattle.std.proofs.Common.{◌≡◌, ℕ, sym, ap, List, [], ◌∷◌, refl, arith, filter, Bool, true, false, not, cond, ◌==◌, ◌&&◌, Option, Some, None, inl, inr}
 use Rattle.std.proofs.lemmas.Bool.{cases_Bool}
 use Rattle.std.proofs.lemmas.Bool.Decides.{nat_tests}
 use Rattle.std.proofs.lemmas.Grind.{common_steps}

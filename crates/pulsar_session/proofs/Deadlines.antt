@@ -1,21 +1,18 @@
 -- What waits, and when it is due.
-use Rattle.std.proofs.Common.{◌≡◌, ◌∙◌, sym, ap, subst, refl, ℕ, ◌+◌, ◌≤◌, ◌<◌, ◌==◌, ◌||◌, ◌&&◌, Bool, true, false, not, cond, List, [], ◌∷◌, ◌++◌, Option, Some, None, Result, Ok, Err, arith}
+use Rattle.std.proofs.Common.{◌≡◌, ◌∙◌, sym, ap, subst, refl, ℕ, ◌+◌, ◌≤◌, ◌<◌, ◌==◌, ◌||◌, ◌&&◌, Bool, true, false, cond, List, [], ◌∷◌, ◌++◌, Option, Some, None, Result, Ok, Err, arith}
 use Rattle.std.proofs.lemmas.Bool.Decides.{nat_tests}
 use Rattle.std.specs.List.{list_any}
 use Rattle.std.specs.Option.{is_none, option_map}
 use Rattle.pulsar_wire.specs.declared.error.ConnectionError.{ConnectionError}
 use Rattle.pulsar_wire.specs.declared.error.ConnectionError.TheVariants as error
 use Rattle.pulsar_requests.specs.declared.awaited.Claim.{Claim}
-use Rattle.pulsar_session.specs.declared.states.Asked.{Asked}
-use Rattle.pulsar_session.specs.declared.states.Asked.TheVariants.{Queued, Waiting}
-use Rattle.pulsar_session.specs.declared.states.Stage.{Stage}
-use Rattle.pulsar_session.specs.declared.states.Stage.TheVariants.{Ready}
-use Rattle.pulsar_session.specs.Link.{Act, Asks, Request, Seen, Setup, after_of, answer_of, asked, asked_for, asks_for, can_wait, claim, drawn, due_in, frame_for, has_room, is_ready, is_spent, number_for, place_in, place_of, put_frame, put_in, request, seen, ticked}
+use Rattle.pulsar_session.specs.declared.states.Asked.TheVariants.{Queued}
+use Rattle.pulsar_session.specs.Link.{Seen, after_of, answer_of, can_wait, claim, drawn, due_in, frame_for, has_room, is_ready, is_spent, number_for, place_in, place_of, put_frame, put_in, request, seen, ticked}
 use Rattle.pulsar_requests.specs.Waits.{Pending, Waits, is_due, is_overdue, is_some_due, request_at, request_of, waits_for}
 use Rattle.pulsar_messages.specs.Words.{Words, is_numbered, when_full}
 use Rattle.pulsar_session.specs.Laws.{DueIsOverdue, Outcome, QueuedWaits, WaitsUntilSettled, outcome, told_of}
 use Rattle.pulsar_session.proofs.Settled.{Stands, rising, stands_at}
-use Rattle.pulsar_session.proofs.Steps.{Rises, absent_below}
+use Rattle.pulsar_session.proofs.Steps.{Rises}
 
 -- UNTIL IT IS SETTLED
 

@@ -1,5 +1,5 @@
 -- The end of a connection, and its cause.
-use Rattle.std.proofs.Common.{◌≡◌, ◌∙◌, sym, ap, refl, ℕ, ◌++◌, ◌&&◌, not, Bool, true, false, cond, List, [], ◌∷◌, drop, Some, Err, Ok}
+use Rattle.std.proofs.Common.{◌≡◌, ◌∙◌, sym, ap, refl, ℕ, ◌++◌, ◌&&◌, Bool, true, false, cond, List, [], ◌∷◌, drop, Some, Err, Ok}
 use Rattle.std.specs.Option.{is_none}
 use Rattle.pulsar_frame.specs.Frame.{Front, Short, Refused, Whole, front}
 use Rattle.pulsar_wire.specs.declared.error.ConnectionError.TheVariants as error
@@ -8,9 +8,9 @@ use Rattle.pulsar_requests.specs.Waits.{ended, places}
 use Rattle.pulsar_session.specs.declared.states.Stage.{Stage}
 use Rattle.pulsar_session.specs.declared.states.Stage.TheVariants.{Dialing, Handshaking, Ready, Over}
 use Rattle.pulsar_session.specs.Answers.{is}
-use Rattle.pulsar_session.specs.Link.{Act, Opens, Feeds, Takes, Asks, Drains, Closes, Seen, Setup, after, after_of, answered_to, closes, drains, feeds, greeted, is_open, is_over, is_ready, is_spent, moved_up, number_for, opens_in, seen, settled_by, taken_in, ticked}
+use Rattle.pulsar_session.specs.Link.{Act, Opens, Feeds, Takes, Asks, Drains, Closes, Seen, after, after_of, answered_to, greeted, is_open, is_over, is_ready, is_spent, moved_up, number_for, opens_in, seen, settled_by, taken_in, ticked}
 use Rattle.pulsar_session.specs.Laws.{CauseAtEnd, EndedStays}
-use Rattle.pulsar_session.proofs.Still.{Still, asked_of, moving, opening, unless}
+use Rattle.pulsar_session.proofs.Still.{asked_of, moving, opening, unless}
 
 -- each act of one that has ended does nothing but tell its clock
 pub ended_stays : EndedStays

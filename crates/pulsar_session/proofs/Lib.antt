@@ -3,6 +3,7 @@ pub mod Awaiting
 pub mod Claims
 pub mod Deadlines
 pub mod Ends
+pub mod Placing
 pub mod Leaving
 pub mod Lines
 pub mod Moving

@@ -9,13 +9,12 @@ use Rattle.pulsar_requests.specs.declared.awaited.Claim.{Claim}
 use Rattle.pulsar_session.specs.declared.states.Stage.{Stage}
 use Rattle.pulsar_session.specs.declared.states.Stage.TheVariants.{Dialing, Handshaking, Ready, Over}
 use Rattle.pulsar_session.specs.Answers.{is}
-use Rattle.pulsar_session.specs.Failures.{Fault}
 use Rattle.pulsar_messages.specs.Messages.{connect_command}
-use Rattle.pulsar_session.specs.Link.{Act, Asks, Closes, Drains, Feeds, Opens, Request, Seen, Setup, Standing, Takes, after, after_of, answered_to, asks_for, bare, can_wait, challenged, drawn, frame_for, greeted, greeted_by, greets_with, has_room, is_open, is_over, is_ready, is_spent, moved_up, named_by, number_for, opens_in, pongs, put_frame, put_in, queue, reacts, reacts_unless, request, responds, seen, settled_by, taken_in, ticked, unready_in}
+use Rattle.pulsar_session.specs.Link.{Act, Asks, Closes, Drains, Feeds, Opens, Request, Seen, Setup, Standing, Takes, after, after_of, answered_to, asks_for, bare, can_wait, challenged, drawn, frame_for, greeted, greets_with, has_room, is_open, is_over, is_ready, is_spent, moved_up, named_by, number_for, opens_in, pongs, put_frame, put_in, queue, reacts, reacts_unless, request, responds, seen, settled_by, taken_in, ticked, unready_in}
 use Rattle.pulsar_requests.specs.Waits.{ended, places}
 use Rattle.pulsar_messages.specs.Content.{AuthenticationValues}
-use Rattle.pulsar_messages.specs.Words.{Words, is_numbered, when_full}
-use Rattle.pulsar_session.specs.Laws.{AskedInOrder, IsInLine, IsPrefix, frames_asked, frames_queued, left_in, queued_in, standing_frames}
+use Rattle.pulsar_messages.specs.Words.{Words, is_numbered}
+use Rattle.pulsar_session.specs.Laws.{AskedInOrder, IsInLine, frames_queued, left_in, queued_in, standing_frames}
 use Rattle.pulsar_session.proofs.Others.{none_stands_beside_room}
 use Rattle.pulsar_session.proofs.Pieces.{asks_for_apart, unless_stage}
 use Rattle.pulsar_session.proofs.Settled.{drop_before, drop_taken, new_frames}

@@ -1,5 +1,5 @@
 -- A create request that was named is due at no moment.
-use Rattle.std.proofs.Common.{◌≡◌, ◌∙◌, sym, ap, subst, refl, ℕ, ◌<◌, ◌==◌, ◌||◌, ◌&&◌, nat_le, ◌⊎◌, Bool, true, false, not, cond, List, [], ◌∷◌, ◌++◌, filter, drop, Option, Some, None, inl, inr, arith}
+use Rattle.std.proofs.Common.{◌≡◌, ◌∙◌, sym, ap, refl, ℕ, ◌<◌, ◌==◌, ◌||◌, ◌&&◌, nat_le, ◌⊎◌, Bool, true, false, not, cond, List, [], ◌∷◌, ◌++◌, filter, drop, Option, Some, None, inl, inr, arith}
 use Rattle.std.proofs.lemmas.Bool.{cases_Bool, eq-eqb}
 use Rattle.std.proofs.lemmas.Bool.Decides.{nat_tests}
 use Rattle.std.specs.List.{list_any}
@@ -18,7 +18,7 @@ use Rattle.pulsar_messages.specs.Words.{is_numbered}
 use Rattle.pulsar_requests.specs.declared.awaited.Awaited.{Awaited}
 use Rattle.pulsar_requests.specs.declared.awaited.Awaited.TheVariants.{Pong, Reply, Receipt}
 use Rattle.pulsar_requests.specs.Awaited.{is_one, is_same}
-use Rattle.pulsar_requests.specs.Waits.{Pending, Waits, ended, is_due, is_listed, is_overdue, is_some_due, places, request_at, without}
+use Rattle.pulsar_requests.specs.Waits.{Pending, ended, is_listed, is_overdue, is_some_due, places, request_at, without}
 use Rattle.pulsar_requests.proofs.Awaiting.{is_at-eqb, same_refl}
 use Rattle.pulsar_session.specs.declared.states.Stage.{Stage}
 use Rattle.pulsar_session.specs.declared.states.Stage.TheVariants.{Dialing, Handshaking, Ready, Over}

@@ -1,9 +1,7 @@
 -- Frames in order, numbers, pings, pieces, refusals and the line.
-use Rattle.std.proofs.Common.{◌≡◌, ◌∙◌, sym, ap, subst, refl, ℕ, suc, ◌+◌, ◌^◌, ◌≤◌, ◌<◌, ◌==◌, nat_lt, Bool, true, false, not, cond, List, [], ◌∷◌, ◌++◌, length, filter, map, drop, take, Option, Some, None, inl, inr, Result, Ok, Err, arith, append_assoc, append-nil, length-append}
-use Rattle.std.proofs.lemmas.List.Folds.{list_any-append}
+use Rattle.std.proofs.Common.{◌≡◌, ◌∙◌, sym, ap, subst, refl, ℕ, ◌+◌, ◌<◌, ◌==◌, nat_lt, Bool, true, false, not, cond, List, [], ◌∷◌, ◌++◌, length, filter, drop, Option, Some, None, inl, inr, Result, Ok, Err, arith, append_assoc, length-append}
 use Rattle.std.proofs.lemmas.Bool.{cases_Bool}
 use Rattle.std.proofs.lemmas.Bool.Decides.{nat_tests}
-use Rattle.std.proofs.lemmas.Grind.{common_steps}
 use Rattle.std.specs.List.{list_any}
 use Rattle.pulsar_wire.specs.declared.error.ConnectionError.{ConnectionError}
 use Rattle.pulsar_wire.specs.declared.error.ConnectionError.TheVariants as error
@@ -13,7 +11,6 @@ use Rattle.pulsar_wire.specs.Command.{BodyValues}
 use Rattle.pulsar_frame.specs.Message.{MessageValues}
 use Rattle.pulsar_frame.specs.Key.{key}
 use Rattle.pulsar_frame.specs.Frame.{Front, Short, Refused, Whole, front}
-use Rattle.pulsar_frame.proofs.Streams.{front-whole-append}
 use Rattle.pulsar_requests.specs.declared.awaited.Awaited.{Awaited}
 use Rattle.pulsar_requests.specs.declared.awaited.Awaited.TheVariants.{Pong, Reply, Receipt}
 use Rattle.pulsar_requests.specs.declared.awaited.Claim.{Claim}
@@ -21,14 +18,14 @@ use Rattle.pulsar_session.specs.declared.states.Stage.{Stage}
 use Rattle.pulsar_session.specs.declared.states.Stage.TheVariants.{Dialing, Handshaking, Ready, Over}
 use Rattle.pulsar_requests.specs.Awaited.{is_same}
 use Rattle.pulsar_session.specs.Answers.{answers, answers_by, is, is_number}
-use Rattle.pulsar_session.specs.Link.{Act, Asks, Closes, Drains, Feeds, Opens, Request, Seen, Setup, Standing, Takes, after, after_of, answer_of, answered_to, asked, asks_for, bare, came, came_by, came_in, can_wait, challenged, claim, drawn, feeds, frame_for, greeted, greeted_by, greets_with, has_room, is_open, is_over, is_ready, is_spent, message_of, moved_up, named_by, number_for, opens_in, place_in, place_of, pongs, put_frame, put_in, queue, reacts, reacts_unless, received, request, responds, seen, settled_by, taken_in, takes, ticked, unready_in, written}
+use Rattle.pulsar_session.specs.Link.{Act, Asks, Closes, Drains, Feeds, Opens, Request, Seen, Standing, Takes, after, after_of, answer_of, answered_to, asks_for, bare, came, came_by, came_in, can_wait, challenged, claim, drawn, feeds, frame_for, greeted, greets_with, has_room, is_open, is_over, message_of, moved_up, named_by, number_for, opens_in, place_in, place_of, pongs, put_frame, put_in, queue, reacts, reacts_unless, received, request, responds, seen, settled_by, taken_in, ticked, unready_in}
 use Rattle.pulsar_messages.specs.Messages.{connect_command}
 use Rattle.pulsar_requests.specs.Waits.{Pending, ended, places}
 use Rattle.pulsar_messages.specs.Content.{AuthenticationValues}
 use Rattle.pulsar_messages.specs.Words.{Words, SendPing, SendPong, AuthChallenge, LookupTopic, LookupPartitionedTopic, GetTopicsOfNamespace, GetSchema, CreateProducer, Send, CloseProducer, Subscribe, SendFlow, SendAck, SendRedeliver, Seek, GetLastMessageId, GetConsumerStats, Unsubscribe, CloseConsumer, CloseConsumerUnawaited, is_numbered, when_full}
 use Rattle.pulsar_requests.proofs.Awaiting.{is_at-eqb}
 use Rattle.pulsar_session.proofs.Awaiting.{pong_key}
-use Rattle.pulsar_session.specs.Laws.{CutInTwo, IsInLine, NoneStandsBesideRoom, PongSettlesPings, SlowDownChangesNothing, Unclaimed, UnclaimedSettlesNothing, bears_number}
+use Rattle.pulsar_session.specs.Laws.{CutInTwo, IsInLine, NoneStandsBesideRoom, PongSettlesPings, SlowDownChangesNothing, UnclaimedSettlesNothing, bears_number}
 
 -- PIECES
 

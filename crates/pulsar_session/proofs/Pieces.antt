@@ -1,16 +1,20 @@
 -- A frame that is there is the same whatever is fed behind it.
 use Rattle.std.proofs.Common.{◌≡◌, ◌∙◌, sym, ap, refl, ℕ, Bool, true, false, cond, List, [], ◌∷◌, ◌++◌, Option, Some, None}
+use Rattle.pulsar_wire.specs.declared.key.RequestKey.{RequestKey}
+use Rattle.pulsar_wire.specs.declared.key.RequestKey.TheVariants as keys
 use Rattle.pulsar_frame.specs.Message.{MessageValues}
+use Rattle.pulsar_frame.specs.Key.{key}
 use Rattle.pulsar_frame.specs.Frame.{Front, Short, Refused, Whole, front}
 use Rattle.pulsar_frame.proofs.Streams.{front-refused-append, front-whole-append}
 use Rattle.pulsar_requests.specs.declared.awaited.Claim.{Claim}
 use Rattle.pulsar_session.specs.declared.states.Stage.{Stage}
 use Rattle.pulsar_session.specs.declared.states.Stage.TheVariants.{Dialing, Handshaking, Ready, Over}
 use Rattle.pulsar_session.specs.Answers.{is}
-use Rattle.pulsar_session.specs.Link.{Feeds, Request, Seen, Takes, after, answered_to, asks_for, came, came_by, came_in, can_wait, challenged, feeds, frame_for, greeted, greeted_by, has_room, is_open, named_by, pongs, put_frame, put_in, reacts, reacts_unless, received, responds, settled_by, taken_in, takes, ticked, unready_in}
+use Rattle.pulsar_session.specs.Link.{Bad, Challenged, Request, Seen, Takes, after, answered_to, asks_for, came, came_by, came_in, can_wait, challenged, feeds, for_consumer, frame_for, greeted, greeted_by, has_room, is_open, named_by, pongs, put_frame, put_in, reacts, reacts_unless, responds, settled_by, taken_in, ticked, unready_in}
 use Rattle.pulsar_requests.specs.Waits.{places}
 use Rattle.pulsar_messages.specs.Content.{AuthenticationValues}
-use Rattle.pulsar_session.specs.Laws.{TakenBeforeOrAfter, is_there}
+use Rattle.pulsar_session.specs.Failures.{Fault}
+use Rattle.pulsar_session.specs.Laws.{BadStays, TakenBeforeOrAfter, is_there}
 
 -- other bytes wait to be taken
 abbrev with : List ℕ → Seen → Seen
@@ -159,3 +163,37 @@ taken_before_or_after now b v t = by (is_open v.stage) refl
         let shut = fed_shut b v v.stage refl o in
         let still = taken_shut now v.stage (front v.unread) v o in
         (ap came shut, ap (after (Takes now)) shut ∙ still ∙ sym (fed_shut b (ticked now v) v.stage refl o) ∙ ap (feeds b) (sym still))
+
+-- WHAT IS BAD
+
+greeted_bad : (fault : Fault) (b : Bool) (rest : List ℕ) (u : Seen) → greeted_by b ≡ Bad fault → greeted b rest u ≡ u
+greeted_bad fault true rest u h = absurd cc
+greeted_bad fault false rest u h = refl
+
+never_bad : (fault : Fault) (m : MessageValues) (c : Bool) (k : Option RequestKey) → cond c Challenged (for_consumer k m) ≡ Bad fault → ⊥
+never_bad fault m true k h = cc
+never_bad fault m false None h = cc
+never_bad fault m false (Some (keys.RequestId n)) h = cc
+never_bad fault m false (Some (keys.ProducerSend p s)) h = cc
+never_bad fault m false (Some (keys.Consumer c)) h = cc
+never_bad fault m false (Some (keys.CloseConsumer c n)) h = cc
+never_bad fault m false (Some keys.AuthChallenge) h = cc
+
+never_bad_by : (fault : Fault) (ps : List ℕ) (m : MessageValues) → came_by ps m ≡ Bad fault → ⊥
+never_bad_by fault [] m h = never_bad fault m (is 36 m) (key m) h
+never_bad_by fault (p ∷ ps) m h = cc
+
+bad_in : (fault : Fault) (stage : Stage) (f : Front) (v u : Seen) → came_in stage f v ≡ Bad fault → (taken_in stage f u ≡ u) × (is_there f ≡ true)
+bad_in fault Dialing f v u h = absurd cc
+bad_in fault Handshaking Short v u h = absurd cc
+bad_in fault Handshaking (Refused r) v u h = (refl, refl)
+bad_in fault Handshaking (Whole m rest) v u h = (greeted_bad fault (is 3 m) rest u h, refl)
+bad_in fault Ready Short v u h = absurd cc
+bad_in fault Ready (Refused r) v u h = (refl, refl)
+bad_in fault Ready (Whole m rest) v u h = absurd (never_bad_by fault (places (settled_by m v)) m h)
+bad_in fault Over f v u h = absurd cc
+
+pub bad_stays : BadStays
+bad_stays now fault v h =
+    let x = bad_in fault v.stage (front v.unread) v (ticked now v) h in
+    (x.0, λ b. (taken_before_or_after 0 b v x.1).0 ∙ h)

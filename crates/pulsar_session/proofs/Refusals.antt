@@ -1,10 +1,10 @@
 -- Each refusal comes exactly where its words hold.
-use Rattle.std.proofs.Common.{◌≡◌, ◌∙◌, ap, refl, ℕ, ◌&&◌, not, Bool, true, false, cond, List, Option, Some, None, Ok, Err}
+use Rattle.std.proofs.Common.{◌≡◌, ◌∙◌, ap, refl, ℕ, ◌&&◌, not, Bool, true, false, cond, List, Some, None, Ok, Err}
 use Rattle.pulsar_wire.specs.declared.error.ConnectionError.TheVariants as error
 use Rattle.pulsar_wire.specs.declared.error.Reason.TheVariants as reason
 use Rattle.pulsar_frame.specs.Message.{MessageValues}
 use Rattle.pulsar_frame.specs.Frame.{frame_bytes}
-use Rattle.pulsar_messages.specs.Words.{Words, is_numbered, when_full}
+use Rattle.pulsar_messages.specs.Words.{is_numbered, when_full}
 use Rattle.pulsar_session.specs.Link.{Seen, answer_of, can_wait, drawn, fits, has_room, is_ready, is_spent, message_of, place_in, ticked}
 use Rattle.pulsar_session.specs.Laws.{RefusedExactly, refusal}
 

@@ -1,7 +1,5 @@
 -- A request is settled once.
-use Rattle.std.proofs.Common.{◌≡◌, ◌∙◌, sym, ap, subst, refl, ℕ, ◌+◌, ◌≤◌, ◌<◌, ◌==◌, Bool, true, false, not, cond, List, [], ◌∷◌, ◌++◌, filter, map, length, drop, take, zero, suc, Option, Some, None, arith, append-nil, append_assoc, length-append}
-use Rattle.std.proofs.lemmas.Bool.Decides.{nat_tests}
-use Rattle.std.specs.List.{list_any}
+use Rattle.std.proofs.Common.{◌≡◌, ◌∙◌, sym, ap, subst, refl, ℕ, ◌≤◌, ◌<◌, Bool, true, false, not, cond, List, [], ◌∷◌, ◌++◌, filter, length, drop, take, zero, suc, Option, Some, None, arith, append-nil, append_assoc, length-append}
 use Rattle.std.specs.Option.{is_some, option_or, option_to_list}
 use Rattle.pulsar_wire.specs.declared.error.ConnectionError.{ConnectionError}
 use Rattle.pulsar_wire.specs.declared.key.RequestKey.{RequestKey}
@@ -15,8 +13,8 @@ use Rattle.pulsar_session.specs.declared.states.Stage.TheVariants.{Dialing, Hand
 use Rattle.pulsar_session.specs.Answers.{answers, is}
 use Rattle.pulsar_session.specs.Failures.{Fault}
 use Rattle.pulsar_messages.specs.Messages.{connect_command}
-use Rattle.pulsar_messages.specs.Words.{Words, is_numbered, when_full}
-use Rattle.pulsar_session.specs.Link.{Act, Asks, Came, Closes, Drains, Feeds, Opens, Seen, Setup, Takes, after, after_of, answered_to, asks_for, bare, came, came_by, came_in, closes, drains, drawn, ends, feeds, for_consumer, fresh, greeted, greeted_by, is_open, is_over, moved_up, number_for, opens_in, received, request, seen, settled_by, taken_in, ticked, unasked}
+use Rattle.pulsar_messages.specs.Words.{Words, is_numbered}
+use Rattle.pulsar_session.specs.Link.{Act, Asks, Closes, Drains, Feeds, Opens, Seen, Setup, Takes, after, after_of, answered_to, asks_for, bare, came_by, came_in, closes, drains, drawn, feeds, greeted, greeted_by, is_open, is_over, moved_up, number_for, opens_in, received, request, seen, settled_by, taken_in, ticked, unasked}
 use Rattle.pulsar_requests.specs.Waits.{Pending, ended, places, request_at}
 use Rattle.pulsar_session.specs.Laws.{Outcome, Replied, Ended, SettledByFirst, PlacesCount, WrittenInOrder, answered_in, frames_queued, frames_written, is_named, left_in, outcome, queued_in, settles, told_by, told_in, told_of, written_in}
 use Rattle.pulsar_session.proofs.Steps.{Moves, Rises, absent_append, absent_filter, asks_for_moves, found_filter, greets_moves, is_named_at, moved_up_moves, moves_same, moves_then, place_below, rises_append, rises_filter, rises_le, unless_moves}

@@ -1,17 +1,13 @@
 -- What one act does to what is seen.
-use Rattle.std.proofs.Common.{◌≡◌, ◌∙◌, sym, ap, subst, refl, ℕ, ◌+◌, ◌≤◌, ◌<◌, ◌==◌, Bool, true, false, not, cond, List, [], ◌∷◌, ◌++◌, length, filter, map, drop, take, Option, Some, None, inl, inr, arith, append_assoc, append-nil, length-append}
-use Rattle.std.proofs.lemmas.Bool.{cases_Bool}
+use Rattle.std.proofs.Common.{◌≡◌, ◌∙◌, sym, ap, subst, refl, ℕ, ◌+◌, ◌≤◌, ◌<◌, ◌==◌, Bool, true, false, cond, List, [], ◌∷◌, ◌++◌, length, filter, Option, Some, None, arith, append_assoc, append-nil, length-append}
 use Rattle.std.proofs.lemmas.Bool.Decides.{nat_tests}
 use Rattle.std.specs.List.{list_any}
 use Rattle.std.specs.Option.{is_some}
 use Rattle.pulsar_frame.specs.Message.{MessageValues}
-use Rattle.pulsar_frame.specs.Frame.{Front, Short, Refused, Whole, front}
 use Rattle.pulsar_requests.specs.declared.awaited.Claim.{Claim}
-use Rattle.pulsar_session.specs.declared.states.Stage.{Stage}
-use Rattle.pulsar_session.specs.declared.states.Stage.TheVariants.{Dialing, Handshaking, Ready, Over}
-use Rattle.pulsar_session.specs.Answers.{answers, is}
-use Rattle.pulsar_session.specs.Link.{Request, Seen, Standing, answered_to, asks_for, can_wait, challenged, frame_for, greets, greets_with, has_room, is_over, moved_up, named_by, pongs, put_frame, put_in, queue, reacts, reacts_unless, received, responds, settled_by, unready_in}
-use Rattle.pulsar_requests.specs.Waits.{Pending, named, places, request_at, waits_for}
+use Rattle.pulsar_session.specs.Answers.{is}
+use Rattle.pulsar_session.specs.Link.{Request, Seen, Standing, asks_for, can_wait, challenged, frame_for, greets, greets_with, has_room, is_over, moved_up, named_by, pongs, put_frame, put_in, queue, reacts, reacts_unless, responds, unready_in}
+use Rattle.pulsar_requests.specs.Waits.{Pending, places, request_at, waits_for}
 use Rattle.pulsar_messages.specs.Content.{AuthenticationValues}
 
 -- PLACES

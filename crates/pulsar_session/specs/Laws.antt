@@ -1,5 +1,5 @@
 -- What follows of every history of a connection, in plain words. `h` has its acts, newest first, and `later` those behind them.
-use Rattle.std.specs.Prelude.{◌≡◌, ℕ, ◌+◌, ◌<◌, ◌≤◌, ◌==◌, ◌&&◌, not, Bool, true, false, if◌then◌else◌, zero, suc, List, [], ◌∷◌, ◌++◌, length, drop, filter, map, Option, Some, None, Result, Ok, Err}
+use Rattle.std.specs.Prelude.{◌≡◌, ℕ, ◌+◌, ◌<◌, ◌≤◌, nat_lt, ◌==◌, ◌&&◌, not, Bool, true, false, if◌then◌else◌, zero, suc, List, [], ◌∷◌, ◌++◌, length, drop, filter, map, Option, Some, None, Result, Ok, Err, slice_get}
 use Rattle.std.specs.List.{list_any}
 use Rattle.std.specs.Option.{is_none, option_map, option_or, option_to_list}
 use Rattle.pulsar_wire.specs.declared.error.ConnectionError.{ConnectionError}
@@ -21,7 +21,18 @@ use Rattle.pulsar_session.specs.declared.states.Stage.{Stage}
 use Rattle.pulsar_session.specs.declared.states.Stage.TheVariants.{Dialing, Handshaking, Ready, Over}
 use Rattle.pulsar_session.specs.Answers.{answers, is}
 use Rattle.pulsar_session.specs.Failures.{Fault}
-use Rattle.pulsar_session.specs.Link.{Act, Opens, Feeds, Takes, Asks, Drains, Closes, Came, Nothing, Readied, Settles, Gives, Challenged, Dropped, Bad, Seen, Setup, Standing, after, asked, came, came_by, can_wait, claim, drawn, due, ends, fits, has_room, is_open, is_over, is_ready, is_spent, message_of, seen, settled_by, ticked, unready_in, written}
+use Rattle.pulsar_session.specs.Link.{Act, Opens, Feeds, Takes, Asks, Drains, Closes, Came, Nothing, Readied, Settles, Gives, Challenged, Dropped, Bad, Seen, Setup, Standing, after, asked, came, came_by, can_wait, claim, drawn, due, ends, fits, frame_at, fresh, has_room, is_open, is_over, is_ready, is_spent, message_of, seen, settled_by, ticked, unready_in, written}
+
+-- HISTORIES
+
+-- what is seen of a connection is that of this history
+abbrev pub StandsFor : Seen → Setup → List Act → Type 0
+StandsFor v s h = v ≡ seen s h
+
+-- so it is from the beginning, and after each act
+abbrev pub HistoryGoesOn : Type 0
+HistoryGoesOn = (s : Setup) → StandsFor (fresh s) s []
+    × ((act : Act) (h : List Act) (v : Seen) → StandsFor v s h → StandsFor (after act v) s (act ∷ h))
 
 -- REQUESTS ARE SETTLED ONCE
 
@@ -176,6 +187,11 @@ WrittenInOrder = (s : Setup) (h : List Act) → is_over (seen s h).stage ≡ fal
 abbrev pub PlacesCount : Type 0
 PlacesCount = (s : Setup) (h : List Act) → is_over (seen s h).stage ≡ false → length (frames_queued s h) ≡ (seen s h).waits.queued
 
+-- The frame of a place is the one that was queued there, until it is written.
+abbrev pub FrameOfPlace : Type 0
+FrameOfPlace = (s : Setup) (h : List Act) (place : ℕ) → is_over (seen s h).stage ≡ false →
+    frame_at place (seen s h) ≡ (if nat_lt place (length (frames_written s h)) then None else slice_get (frames_queued s h) place)
+
 -- a list begins with another
 abbrev pub IsPrefix : {A : Type 0} → List A → List A → Type 0
 IsPrefix {A} xs ys = (rest : List A) × (xs ++ rest ≡ ys)
@@ -273,6 +289,11 @@ is_there (Whole m rest) = true
 abbrev pub TakenBeforeOrAfter : Type 0
 TakenBeforeOrAfter = (now : ℕ) (b : List ℕ) (v : Seen) → is_there (front v.unread) ≡ true →
     (came (after (Feeds b) v) ≡ came v) × (after (Takes now) (after (Feeds b) v) ≡ after (Feeds b) (after (Takes now) v))
+
+-- What is bad stays in front: it is told again, whatever is fed behind it, and nothing more is read.
+abbrev pub BadStays : Type 0
+BadStays = (now : ℕ) (fault : Fault) (v : Seen) → came v ≡ Bad fault →
+    (after (Takes now) v ≡ ticked now v) × ((b : List ℕ) → came (after (Feeds b) v) ≡ Bad fault)
 
 -- the bytes that an act feeds, and the messages that it takes
 abbrev pub fed_in : Act → Seen → List ℕ

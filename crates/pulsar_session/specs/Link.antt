@@ -1,6 +1,6 @@
 -- One connection: what is done to it, what is seen of it, and what it answers. It knows places on itself, and no calls.
 -- (Pulsar binary protocol, Connection establishment, Keep alive, Simple commands)
-use Rattle.std.specs.Prelude.{ℕ, ◌+◌, ◌-◌, ◌^◌, nat_lt, nat_le, ◌==◌, ◌&&◌, not, Bool, true, false, if◌then◌else◌, List, [], ◌∷◌, ◌++◌, length, take, drop, filter, map, Option, Some, None, Result, Ok, Err, slice_get}
+use Rattle.std.specs.Prelude.{ℕ, ◌+◌, ◌-◌, ◌^◌, nat_lt, nat_le, ◌==◌, ◌&&◌, not, Bool, true, false, if◌then◌else◌, List, [], ◌∷◌, ◌++◌, length, take, drop, filter, Option, Some, None, Result, Ok, Err, slice_get}
 use Rattle.std.specs.Option.{option_map}
 use Rattle.url.specs.Parts.{Parts}
 use Rattle.pulsar_wire.specs.Sink.{capped}
@@ -172,6 +172,9 @@ payload_values_of p = record { metadata = p.metadata; bytes = p.bytes }
 abbrev pub bare : CommandValues → MessageValues
 bare command = record { command = command; payload = None }
 
+abbrev pub whole : CommandValues → PayloadContent → MessageValues
+whole command payload = record { command = command; payload = Some (payload_values_of payload) }
+
 abbrev pub message_of : (id now : ℕ) → Words → MessageValues
 message_of id now words = record { command = command_of id words; payload = option_map payload_values_of (payload_of now words) }
 
@@ -312,12 +315,15 @@ abbrev pub answered_to : MessageValues → Waits → Waits
 answered_to m w =
     record w { waiting = filter (λ p. not (answers m p.awaits)) w.waiting; excused = without (awaited_by (is 19 m) (key m)) w.excused }
 
+abbrev pub answered : MessageValues → Seen → Seen
+answered m v = record v { waits = answered_to m v.waits }
+
 abbrev pub reacts_unless : List ℕ → MessageValues → Seen → Seen
 reacts_unless [] m v = reacts m v
 reacts_unless (p ∷ ps) m v = v
 
 abbrev pub received : MessageValues → Seen → Seen
-received m v = reacts_unless (places (settled_by m v)) m (record v { waits = answered_to m v.waits })
+received m v = reacts_unless (places (settled_by m v)) m (answered m v)
 
 -- another first frame than `connected` stays in front, and so does what is no frame
 abbrev pub greeted : (connected : Bool) → List ℕ → Seen → Seen
@@ -347,8 +353,11 @@ greets_with (Some frame) v = queue frame None v
 abbrev pub greets : MessageValues → Seen → Seen
 greets m v = greets_with (frame_for m) v
 
+abbrev pub greeting : Setup → MessageValues
+greeting s = bare (connect_command s.auth s.proxy)
+
 abbrev pub opens_in : Stage → Seen → Seen
-opens_in Dialing v = greets (bare (connect_command v.setup.auth v.setup.proxy)) (record v { stage = Handshaking })
+opens_in Dialing v = greets (greeting v.setup) (record v { stage = Handshaking })
 opens_in Handshaking v = v
 opens_in Ready v = v
 opens_in Over v = v
@@ -363,9 +372,11 @@ feeds piece v = if is_open v.stage then record v { unread = v.unread ++ piece } 
 abbrev pub written : ℕ → Seen → List (List ℕ)
 written most v = if is_open v.stage then take most v.unwritten else []
 
+abbrev pub drained : (most : ℕ) → Seen → Seen
+drained most v = if is_open v.stage then moved_up v.line (record v { unwritten = drop most v.unwritten }) else v
+
 abbrev pub drains : (most now : ℕ) → Seen → Seen
-drains most now v =
-    if is_open v.stage then moved_up v.line (record (ticked now v) { unwritten = drop most v.unwritten }) else ticked now v
+drains most now v = drained most (ticked now v)
 
 -- the places of those that wait no longer where the link ends
 abbrev pub ends : Seen → List ℕ

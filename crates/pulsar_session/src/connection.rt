@@ -9,11 +9,11 @@ ghost use Rattle.pulsar_messages.specs.Words.{AuthChallenge, CloseConsumer, Clos
 ghost use Rattle.pulsar_requests.specs.Soonest.{has_come};
 ghost use Rattle.pulsar_requests.specs.Waits.{is_empty, is_overdue};
 ghost use Rattle.pulsar_session.specs.Failures.{fault};
-ghost use Rattle.pulsar_session.specs.Kept.{OnAnswer, came_of};
+ghost use Rattle.pulsar_session.specs.Kept.{OnAnswer, arrives, came_of};
 ghost use Rattle.pulsar_session.specs.Link.{Asks, Closes, Drains, Feeds, Opens, Takes, after, asked, came, due, ends, frame_at, fresh, written};
 ghost use Rattle.pulsar_session.specs.Soonest.{due_at};
 
-use crate::frames::{command_frame, message_frame};
+use crate::frames::{Arrival, command_frame, message_frame};
 use crate::link::{Link, Setup};
 use crate::states::{Arrived, Asked, Stage};
 use pulsar_messages::{
@@ -155,11 +155,20 @@ impl Connection {
         ensures came { IfOk result (λ a. came_of a ≡ came self.old) }
         ensures seen { OnOk result (self.new ≡ after (Takes now) self.old) }
     {
-        self.link.tell(now);
-        match self.link.next()? {
+        match self.next_boxed(now)? {
             Some(arrival) => Ok(Some(arrival.into_arrived())),
             None => Ok(None),
         }
+    }
+
+    /// The same, with its message in a box: less is moved.
+    pub fn next_boxed(&mut self, now: u64) -> Result<Option<Arrival>, NoMemory>
+        ensures came { IfOk result (λ a. arrives a ≡ came self.old) }
+        ensures seen { OnOk result (self.new ≡ after (Takes now) self.old) }
+    {
+        self.link.tell(now);
+        let arrival = self.link.next()?;
+        Ok(arrival)
     }
 
     /// The bytes of the first frames that are not written, at most so many. Then the line moves up.
@@ -236,8 +245,8 @@ impl Connection {
         self.link.requests.is_overdue(place, now)
     }
 
-    /// The connection ends with this cause. The answer has the places of the requests that waited. One that has ended stays as
-    /// it is.
+    /// The connection ends with this cause. The answer has the places of the requests that waited. Its frames are let go: the
+    /// bytes of one that is queued are read before. One that has ended stays as it is.
     pub fn close(&mut self, cause: ConnectionError) -> Result<Vec<u64>, NoMemory>
         ensures places { IfOk result (λ ps. ps.items ≡ ends self.old) }
         ensures seen { OnOk result (self.new ≡ after (Closes (fault cause)) self.old) }
@@ -256,8 +265,12 @@ impl Connection {
         message: ProducerMessage,
         block: bool,
     ) -> Result<Asked, ConnectionError>
-        ensures answer { OnAnswer result (result ≡ asked now (Send producer_id name.now sequence_id (producer_message_values message) block) self.old) }
-        ensures seen { OnAnswer result (self.new ≡ after (Asks now (Send producer_id name.now sequence_id (producer_message_values message) block)) self.old) }
+        ensures answer { OnAnswer result (result ≡ asked now
+            (Send producer_id name.now sequence_id (producer_message_values message) block)
+            self.old) }
+        ensures seen { OnAnswer result (self.new ≡ after (Asks now
+            (Send producer_id name.now sequence_id (producer_message_values message) block))
+            self.old) }
     {
         self.link.tell(now);
         self.link.draw(false)?;
@@ -369,8 +382,12 @@ impl Connection {
         name: Option<&str>,
         options: &ProducerOptions,
     ) -> Result<Asked, ConnectionError>
-        ensures answer { OnAnswer result (result ≡ asked now (CreateProducer topic.now producer_id (option_copied name.entry) (producer_options_values options.now)) self.old) }
-        ensures seen { OnAnswer result (self.new ≡ after (Asks now (CreateProducer topic.now producer_id (option_copied name.entry) (producer_options_values options.now))) self.old) }
+        ensures answer { OnAnswer result (result ≡ asked now
+            (CreateProducer topic.now producer_id (option_copied name.entry) (producer_options_values options.now))
+            self.old) }
+        ensures seen { OnAnswer result (self.new ≡ after (Asks now
+            (CreateProducer topic.now producer_id (option_copied name.entry) (producer_options_values options.now)))
+            self.old) }
     {
         self.link.tell(now);
         let number = self.link.draw(true)?;
@@ -388,8 +405,12 @@ impl Connection {
         namespace: &str,
         mode: Mode,
     ) -> Result<Asked, ConnectionError>
-        ensures answer { OnAnswer result (result ≡ asked now (GetTopicsOfNamespace namespace.now mode) self.old) }
-        ensures seen { OnAnswer result (self.new ≡ after (Asks now (GetTopicsOfNamespace namespace.now mode)) self.old) }
+        ensures answer { OnAnswer result (result ≡ asked now
+            (GetTopicsOfNamespace namespace.now mode)
+            self.old) }
+        ensures seen { OnAnswer result (self.new ≡ after (Asks now
+            (GetTopicsOfNamespace namespace.now mode))
+            self.old) }
     {
         self.link.tell(now);
         let number = self.link.draw(true)?;
@@ -425,8 +446,12 @@ impl Connection {
         name: Option<&str>,
         options: &ConsumerOptions,
     ) -> Result<Asked, ConnectionError>
-        ensures answer { OnAnswer result (result ≡ asked now (Subscribe topic.now subscription.now sub_type consumer_id (option_copied name.entry) (consumer_options_values options.now)) self.old) }
-        ensures seen { OnAnswer result (self.new ≡ after (Asks now (Subscribe topic.now subscription.now sub_type consumer_id (option_copied name.entry) (consumer_options_values options.now))) self.old) }
+        ensures answer { OnAnswer result (result ≡ asked now
+            (Subscribe topic.now subscription.now sub_type consumer_id (option_copied name.entry) (consumer_options_values options.now))
+            self.old) }
+        ensures seen { OnAnswer result (self.new ≡ after (Asks now
+            (Subscribe topic.now subscription.now sub_type consumer_id (option_copied name.entry) (consumer_options_values options.now)))
+            self.old) }
     {
         self.link.tell(now);
         let number = self.link.draw(true)?;
@@ -470,8 +495,12 @@ impl Connection {
         ids: Vec<MessageIdData>,
         cumulative: bool,
     ) -> Result<Asked, ConnectionError>
-        ensures answer { OnAnswer result (result ≡ asked now (SendAck consumer_id (map message_id_values ids.items) cumulative) self.old) }
-        ensures seen { OnAnswer result (self.new ≡ after (Asks now (SendAck consumer_id (map message_id_values ids.items) cumulative)) self.old) }
+        ensures answer { OnAnswer result (result ≡ asked now
+            (SendAck consumer_id (map message_id_values ids.items) cumulative)
+            self.old) }
+        ensures seen { OnAnswer result (self.new ≡ after (Asks now
+            (SendAck consumer_id (map message_id_values ids.items) cumulative))
+            self.old) }
     {
         self.link.tell(now);
         self.link.draw(false)?;
@@ -486,8 +515,12 @@ impl Connection {
         consumer_id: u64,
         ids: Vec<MessageIdData>,
     ) -> Result<Asked, ConnectionError>
-        ensures answer { OnAnswer result (result ≡ asked now (SendRedeliver consumer_id (map message_id_values ids.items)) self.old) }
-        ensures seen { OnAnswer result (self.new ≡ after (Asks now (SendRedeliver consumer_id (map message_id_values ids.items))) self.old) }
+        ensures answer { OnAnswer result (result ≡ asked now
+            (SendRedeliver consumer_id (map message_id_values ids.items))
+            self.old) }
+        ensures seen { OnAnswer result (self.new ≡ after (Asks now
+            (SendRedeliver consumer_id (map message_id_values ids.items)))
+            self.old) }
     {
         self.link.tell(now);
         self.link.draw(false)?;
@@ -538,8 +571,12 @@ impl Connection {
         id: Option<MessageIdData>,
         time: Option<u64>,
     ) -> Result<Asked, ConnectionError>
-        ensures answer { OnAnswer result (result ≡ asked now (Seek consumer_id (option_map message_id_values id) time) self.old) }
-        ensures seen { OnAnswer result (self.new ≡ after (Asks now (Seek consumer_id (option_map message_id_values id) time)) self.old) }
+        ensures answer { OnAnswer result (result ≡ asked now
+            (Seek consumer_id (option_map message_id_values id) time)
+            self.old) }
+        ensures seen { OnAnswer result (self.new ≡ after (Asks now
+            (Seek consumer_id (option_map message_id_values id) time))
+            self.old) }
     {
         self.link.tell(now);
         let number = self.link.draw(true)?;
@@ -567,8 +604,12 @@ impl Connection {
         now: u64,
         auth: Authentication,
     ) -> Result<Asked, ConnectionError>
-        ensures answer { OnAnswer result (result ≡ asked now (AuthChallenge (authentication_values auth)) self.old) }
-        ensures seen { OnAnswer result (self.new ≡ after (Asks now (AuthChallenge (authentication_values auth))) self.old) }
+        ensures answer { OnAnswer result (result ≡ asked now
+            (AuthChallenge (authentication_values auth))
+            self.old) }
+        ensures seen { OnAnswer result (self.new ≡ after (Asks now
+            (AuthChallenge (authentication_values auth)))
+            self.old) }
     {
         self.link.tell(now);
         self.link.draw(false)?;
@@ -583,8 +624,12 @@ impl Connection {
         topic: &str,
         version: Option<&[u8]>,
     ) -> Result<Asked, ConnectionError>
-        ensures answer { OnAnswer result (result ≡ asked now (GetSchema topic.now (option_copied version.entry)) self.old) }
-        ensures seen { OnAnswer result (self.new ≡ after (Asks now (GetSchema topic.now (option_copied version.entry))) self.old) }
+        ensures answer { OnAnswer result (result ≡ asked now
+            (GetSchema topic.now (option_copied version.entry))
+            self.old) }
+        ensures seen { OnAnswer result (self.new ≡ after (Asks now
+            (GetSchema topic.now (option_copied version.entry)))
+            self.old) }
     {
         self.link.tell(now);
         let number = self.link.draw(true)?;

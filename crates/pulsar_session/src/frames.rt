@@ -9,7 +9,7 @@ ghost use Rattle.pulsar_frame.specs.Shown.{message_values};
 ghost use Rattle.pulsar_messages.specs.Messages.{payload_content};
 ghost use Rattle.pulsar_session.specs.Answers.{awaited_by, awaited_by_key, is};
 ghost use Rattle.pulsar_session.specs.Kept.{IsNext, arrival_of};
-ghost use Rattle.pulsar_session.specs.Link.{bare, frame_for, payload_values_of, unasked, unready_in};
+ghost use Rattle.pulsar_session.specs.Link.{bare, frame_for, unasked, unready_in, whole};
 
 use crate::states::Arrived;
 use pulsar_frame::message::Message;
@@ -74,12 +74,19 @@ impl Arrival {
     }
 }
 
+/// A message in a box, so that little is moved and dropped where it is passed on.
+fn boxed(alloc: Global, message: Message) -> Result<Box<Message>, NoMemory>
+    ensures { IfOk result (λ b. b.value ≡ message) }
+{
+    Ok(Box::new(alloc, message)?)
+}
+
 /// Takes the frame in front, where one is whole.
 pub fn take_next(alloc: Global, reader: &mut FrameReader) -> Result<Next, NoMemory>
     ensures { IfOk result (λ next. IsNext next reader.old reader.new) }
 {
     match reader.next() {
-        Ok(Some(message)) => Ok(Next::Whole(Box::new(alloc, message)?)),
+        Ok(Some(message)) => Ok(Next::Whole(boxed(alloc, message)?)),
         Ok(None) => Ok(Next::Short),
         Err(ConnectionError::Decoding(reason)) => Ok(Next::Refused(reason)),
         Err(_) => Err(NoMemory),
@@ -98,13 +105,6 @@ fn frame_of(alloc: Global, message: &Message) -> Result<Option<Vec<u8>>, NoMemor
     }
 }
 
-/// The same, and the message is done with.
-fn frame_of_owned(alloc: Global, message: Message) -> Result<Option<Vec<u8>>, NoMemory>
-    ensures { IfOk result (λ f. option_map (λ v. v.items) f ≡ frame_for (message_values message)) }
-{
-    frame_of(alloc, &message)
-}
-
 /// The frame of a command that was made, without a payload.
 pub fn command_frame(
     alloc: Global,
@@ -118,7 +118,8 @@ pub fn command_frame(
                 command,
                 payload: None,
             };
-            frame_of_owned(alloc, message)
+            let message = boxed(alloc, message)?;
+            frame_of(alloc, &message)
         }
         Err(_) => Err(NoMemory),
     }
@@ -130,17 +131,20 @@ pub fn message_frame(
     parts: Result<MessageParts, NoMemory>,
 ) -> Result<Option<Vec<u8>>, NoMemory>
     ensures { IfOk result (λ f. IsOkAnd parts (λ p. option_map (λ v. v.items) f
-        ≡ frame_for (record { command = command_values p.command; payload = Some (payload_values_of (payload_content p)) }))) }
+        ≡ frame_for (whole (command_values p.command) (payload_content p)))) }
 {
     match parts {
-        Ok(parts) => frame_of_owned(alloc, whole(parts)),
+        Ok(parts) => {
+            let message = boxed(alloc, whole(parts))?;
+            frame_of(alloc, &message)
+        }
         Err(_) => Err(NoMemory),
     }
 }
 
 /// The message of these parts.
 pub fn whole(parts: MessageParts) -> Message
-    ensures { message_values result ≡ record { command = command_values parts.command; payload = Some (payload_values_of (payload_content parts)) } }
+    ensures { message_values result ≡ whole (command_values parts.command) (payload_content parts) }
 {
     let MessageParts {
         command,

@@ -1,6 +1,11 @@
 //! What follows of every history of a connection: each contract is a law, and its body is empty.
 
-ghost use Rattle.pulsar_session.specs.Laws.{AnswerSpends, AskedInOrder, CauseAtEnd, ClaimedOnce, CutInTwo, DueIsOverdue, EncodingSpends, EndedStays, MovedUpWaits, NamedIsNotDue, NobodyIsTold, NoneStandsBesideRoom, PlacesCount, PongSettlesPings, QueuedWaits, RefusedExactly, SettledByFirst, SlowDownChangesNothing, SpentStaysSpent, TakenAreCut, TakenBeforeOrAfter, ToldOnce, UnclaimedSettlesNothing, WaitsUntilSettled, WrittenInOrder};
+ghost use Rattle.pulsar_session.specs.Laws.{AnswerSpends, AskedInOrder, BadStays, CauseAtEnd, ClaimedOnce, CutInTwo, DueIsOverdue, EncodingSpends, EndedStays, FrameOfPlace, HistoryGoesOn, MovedUpWaits, NamedIsNotDue, NobodyIsTold, NoneStandsBesideRoom, PlacesCount, PongSettlesPings, QueuedWaits, RefusedExactly, SettledByFirst, SlowDownChangesNothing, SpentStaysSpent, TakenAreCut, TakenBeforeOrAfter, ToldOnce, UnclaimedSettlesNothing, WaitsUntilSettled, WrittenInOrder};
+
+/// What is seen of a connection is that of its history, from the beginning and after each call.
+pub fn history_goes_on()
+    ensures { HistoryGoesOn }
+{}
 
 /// A request that waits is told once: by the first later frame that answers it, or by the end of its connection, whichever
 /// comes first. Until then it waits as it was.
@@ -37,6 +42,7 @@ pub fn written_in_order()
 pub fn asked_in_order()
     ensures order { AskedInOrder }
     ensures places { PlacesCount }
+    ensures frame { FrameOfPlace }
 {}
 
 /// Nobody stands in the line while there is room.
@@ -67,6 +73,11 @@ pub fn pong_settles_pings()
 pub fn cut_in_two()
     ensures cut { CutInTwo }
     ensures taken { TakenBeforeOrAfter }
+{}
+
+/// Behind what is bad nothing is read.
+pub fn bad_stays()
+    ensures { BadStays }
 {}
 
 /// The messages that were taken, and those of what is unread, are those of all that was fed.

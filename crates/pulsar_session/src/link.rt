@@ -6,12 +6,11 @@ ghost use Rattle.std.specs.Option.{option_map};
 ghost use Rattle.pulsar_frame.specs.Shown.{message_values};
 ghost use Rattle.pulsar_frame.specs.Frame.{front};
 ghost use Rattle.pulsar_messages.specs.Content.{authentication_values};
-ghost use Rattle.pulsar_messages.specs.Messages.{connect_command};
 ghost use Rattle.pulsar_requests.specs.Waits.{places};
 ghost use Rattle.pulsar_session.specs.Answers.{answers};
 ghost use Rattle.pulsar_session.specs.Failures.{fault};
 ghost use Rattle.pulsar_session.specs.Kept.{OnAnswer, arrival_of, arrives, contents, setup_of, table};
-ghost use Rattle.pulsar_session.specs.Link.{answered_to, asks_for, bare, came, came_by, came_in, challenged, closes, drawn, due, ends, feeds, frame_at, frame_for, fresh, greets_with, has_room, is_late, is_open, is_over, is_ready, moved_up, named_by, number_for, opens_in, place_of, put_frame, pongs, put_in, queue, reacts, received, responds, settled_by, taken_in, ticked, written};
+ghost use Rattle.pulsar_session.specs.Link.{answered, answered_to, asks_for, came, came_by, came_in, challenged, closes, drained, drawn, due, ends, feeds, frame_at, frame_for, fresh, greeting, greets_with, has_room, is_late, is_open, is_over, is_ready, moved_up, named_by, number_for, opens_in, place_of, put_frame, pongs, put_in, queue, reacts, received, responds, settled_by, taken_in, ticked, written};
 ghost use Rattle.pulsar_session.specs.Soonest.{due_at};
 
 use crate::frames::{Arrival, Next, awaited_by, command_frame, is, unasked, unready};
@@ -210,7 +209,7 @@ impl Link {
 
     /// The first frame that is written.
     fn greeting(&self) -> Result<Option<Vec<u8>>, NoMemory>
-        ensures { IfOk result (λ f. option_map (λ v. v.items) f ≡ frame_for (bare (connect_command (table self.now).setup.auth (table self.now).setup.proxy))) }
+        ensures { IfOk result (λ f. option_map (λ v. v.items) f ≡ frame_for (greeting (setup_of self.now.setup))) }
     {
         let auth = copy_of(&self.setup.auth)?;
         command_frame(
@@ -279,7 +278,8 @@ impl Link {
 
     /// A frame of a ready connection.
     fn receive(&mut self, message: Box<Message>) -> Result<Arrival, NoMemory>
-        ensures came { IfOk result (λ a. arrival_of a ≡ came_by (places (settled_by (message_values message.value) (table self.old))) (message_values message.value)) }
+        ensures came { let m = message_values message.value in
+            IfOk result (λ a. arrival_of a ≡ came_by (places (settled_by m (table self.old))) m) }
         ensures table { OnOk result (table self.new ≡ received (message_values message.value) (table self.old)) }
     {
         let places = self.settle(&message)?;
@@ -296,7 +296,7 @@ impl Link {
     /// The requests that a message answers wait no longer.
     fn settle(&mut self, message: &Message) -> Result<Vec<u64>, NoMemory>
         ensures places { IfOk result (λ ps. ps.items ≡ places (settled_by (message_values message.now) (table self.old))) }
-        ensures table { OnOk result (table self.new ≡ record (table self.old) { waits = answered_to (message_values message.now) (table self.old).waits }) }
+        ensures table { OnOk result (table self.new ≡ answered (message_values message.now) (table self.old)) }
     {
         let requests = replace(&mut self.requests, Requests::new(self.alloc, 0, 0));
         let (places, left) = settle_in(requests, message)?;
@@ -361,7 +361,7 @@ impl Link {
     /// As many frames are written, and the line moves up.
     pub fn drain(&mut self, most: usize) -> Result<Vec<u8>, NoMemory>
         ensures written { IfOk result (λ bytes. bytes.items ≡ flat_map (λ f. f) (written most (table self.old))) }
-        ensures table { OnOk result (table self.new ≡ (if is_open self.old.stage then moved_up (table self.old).line (record (table self.old) { unwritten = drop most (table self.old).unwritten }) else table self.old)) }
+        ensures table { OnOk result (table self.new ≡ drained most (table self.old)) }
     {
         if !self.is_open() {
             return Ok(Vec::new(self.alloc));
@@ -461,7 +461,8 @@ impl Link {
 }
 
 fn settle_in(requests: Requests, message: &Message) -> Result<(Vec<u64>, Requests), NoMemory>
-    ensures places { IfOk result (λ r. r.0.items ≡ places (filter (λ p. answers (message_values message.now) p.awaits) requests.waiting)) }
+    ensures places { let m = message_values message.now in
+        IfOk result (λ r. r.0.items ≡ places (filter (λ p. answers m p.awaits) requests.waiting)) }
     ensures left { IfOk result (λ r. r.1 ≡ answered_to (message_values message.now) requests) }
 {
     let awaited = awaited_by(message);

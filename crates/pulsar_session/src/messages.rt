@@ -55,7 +55,9 @@ pub fn create_producer(
     request_id: u64,
     options: &ProducerOptions,
 ) -> Result<Message, NoMemory>
-    ensures { IfOk result (λ m. (now : ℕ) → message_values m ≡ message_of request_id now (CreateProducer topic.now producer_id (option_copied name.entry) (producer_options_values options.now))) }
+    ensures { IfOk result (λ m. (now : ℕ) → message_values m
+        ≡ message_of request_id now
+        (CreateProducer topic.now producer_id (option_copied name.entry) (producer_options_values options.now))) }
 {
     without_payload(builders::create_producer(alloc, topic, name, producer_id, request_id, options))
 }
@@ -67,7 +69,9 @@ pub fn get_topics_of_namespace(
     namespace: &str,
     mode: Mode,
 ) -> Result<Message, NoMemory>
-    ensures { IfOk result (λ m. (now : ℕ) → message_values m ≡ message_of request_id now (GetTopicsOfNamespace namespace.now mode)) }
+    ensures { IfOk result (λ m. (now : ℕ) → message_values m
+        ≡ message_of request_id now
+        (GetTopicsOfNamespace namespace.now mode)) }
 {
     without_payload(builders::get_topics_of_namespace(alloc, request_id, namespace, mode))
 }
@@ -79,7 +83,9 @@ pub fn get_schema(
     topic: &str,
     version: Option<&[u8]>,
 ) -> Result<Message, NoMemory>
-    ensures { IfOk result (λ m. (now : ℕ) → message_values m ≡ message_of request_id now (GetSchema topic.now (option_copied version.entry))) }
+    ensures { IfOk result (λ m. (now : ℕ) → message_values m
+        ≡ message_of request_id now
+        (GetSchema topic.now (option_copied version.entry))) }
 {
     without_payload(builders::get_schema(alloc, request_id, topic, version))
 }
@@ -91,7 +97,9 @@ pub fn lookup_topic(
     authoritative: bool,
     request_id: u64,
 ) -> Result<Message, NoMemory>
-    ensures { IfOk result (λ m. (now : ℕ) → message_values m ≡ message_of request_id now (LookupTopic topic.now authoritative)) }
+    ensures { IfOk result (λ m. (now : ℕ) → message_values m
+        ≡ message_of request_id now
+        (LookupTopic topic.now authoritative)) }
 {
     without_payload(builders::lookup_topic(alloc, topic, authoritative, request_id))
 }
@@ -102,42 +110,54 @@ pub fn lookup_partitioned_topic(
     topic: &str,
     request_id: u64,
 ) -> Result<Message, NoMemory>
-    ensures { IfOk result (λ m. (now : ℕ) → message_values m ≡ message_of request_id now (LookupPartitionedTopic topic.now)) }
+    ensures { IfOk result (λ m. (now : ℕ) → message_values m
+        ≡ message_of request_id now
+        (LookupPartitionedTopic topic.now)) }
 {
     without_payload(builders::lookup_partitioned_topic(alloc, topic, request_id))
 }
 
 /// Asks how a consumer fares.
 pub fn consumer_stats(request_id: u64, consumer_id: u64) -> Result<Message, NoMemory>
-    ensures { IfOk result (λ m. (now : ℕ) → message_values m ≡ message_of request_id now (GetConsumerStats consumer_id)) }
+    ensures { IfOk result (λ m. (now : ℕ) → message_values m
+        ≡ message_of request_id now
+        (GetConsumerStats consumer_id)) }
 {
     without_payload(builders::consumer_stats(request_id, consumer_id))
 }
 
 /// Asks for the last message of a topic.
 pub fn get_last_message_id(consumer_id: u64, request_id: u64) -> Result<Message, NoMemory>
-    ensures { IfOk result (λ m. (now : ℕ) → message_values m ≡ message_of request_id now (GetLastMessageId consumer_id)) }
+    ensures { IfOk result (λ m. (now : ℕ) → message_values m
+        ≡ message_of request_id now
+        (GetLastMessageId consumer_id)) }
 {
     without_payload(builders::get_last_message_id(consumer_id, request_id))
 }
 
 /// Ends a consumer.
 pub fn close_consumer(consumer_id: u64, request_id: u64) -> Result<Message, NoMemory>
-    ensures { IfOk result (λ m. (now : ℕ) → message_values m ≡ message_of request_id now (CloseConsumer consumer_id)) }
+    ensures { IfOk result (λ m. (now : ℕ) → message_values m
+        ≡ message_of request_id now
+        (CloseConsumer consumer_id)) }
 {
     without_payload(builders::close_consumer(consumer_id, request_id))
 }
 
 /// Ends a subscription.
 pub fn unsubscribe(consumer_id: u64, request_id: u64) -> Result<Message, NoMemory>
-    ensures { IfOk result (λ m. (now : ℕ) → message_values m ≡ message_of request_id now (Unsubscribe consumer_id)) }
+    ensures { IfOk result (λ m. (now : ℕ) → message_values m
+        ≡ message_of request_id now
+        (Unsubscribe consumer_id)) }
 {
     without_payload(builders::unsubscribe(consumer_id, request_id))
 }
 
 /// Ends a producer.
 pub fn close_producer(producer_id: u64, request_id: u64) -> Result<Message, NoMemory>
-    ensures { IfOk result (λ m. (now : ℕ) → message_values m ≡ message_of request_id now (CloseProducer producer_id)) }
+    ensures { IfOk result (λ m. (now : ℕ) → message_values m
+        ≡ message_of request_id now
+        (CloseProducer producer_id)) }
 {
     without_payload(builders::close_producer(producer_id, request_id))
 }
@@ -153,7 +173,9 @@ pub fn subscribe(
     name: Option<&str>,
     options: &ConsumerOptions,
 ) -> Result<Message, NoMemory>
-    ensures { IfOk result (λ m. (now : ℕ) → message_values m ≡ message_of request_id now (Subscribe topic.now subscription.now sub_type consumer_id (option_copied name.entry) (consumer_options_values options.now))) }
+    ensures { IfOk result (λ m. (now : ℕ) → message_values m
+        ≡ message_of request_id now
+        (Subscribe topic.now subscription.now sub_type consumer_id (option_copied name.entry) (consumer_options_values options.now))) }
 {
     without_payload(builders::subscribe(
         alloc,
@@ -169,14 +191,18 @@ pub fn subscribe(
 
 /// Allows the broker to deliver as many messages more.
 pub fn flow(consumer_id: u64, permits: u32) -> Result<Message, NoMemory>
-    ensures { IfOk result (λ m. (id now : ℕ) → message_values m ≡ message_of id now (SendFlow consumer_id permits)) }
+    ensures { IfOk result (λ m. (id now : ℕ) → message_values m
+        ≡ message_of id now
+        (SendFlow consumer_id permits)) }
 {
     without_payload(builders::flow(consumer_id, permits))
 }
 
 /// Acknowledges these messages, or all up to each of them.
 pub fn ack(consumer_id: u64, ids: Vec<MessageIdData>, cumulative: bool) -> Result<Message, NoMemory>
-    ensures { IfOk result (λ m. (id now : ℕ) → message_values m ≡ message_of id now (SendAck consumer_id (map message_id_values ids.items) cumulative)) }
+    ensures { IfOk result (λ m. (id now : ℕ) → message_values m
+        ≡ message_of id now
+        (SendAck consumer_id (map message_id_values ids.items) cumulative)) }
 {
     without_payload(builders::ack(consumer_id, ids, cumulative))
 }
@@ -186,7 +212,9 @@ pub fn redeliver_unacknowleged_messages(
     consumer_id: u64,
     ids: Vec<MessageIdData>,
 ) -> Result<Message, NoMemory>
-    ensures { IfOk result (λ m. (id now : ℕ) → message_values m ≡ message_of id now (SendRedeliver consumer_id (map message_id_values ids.items))) }
+    ensures { IfOk result (λ m. (id now : ℕ) → message_values m
+        ≡ message_of id now
+        (SendRedeliver consumer_id (map message_id_values ids.items))) }
 {
     without_payload(builders::redeliver_unacknowleged_messages(consumer_id, ids))
 }
@@ -198,14 +226,18 @@ pub fn seek(
     id: Option<MessageIdData>,
     time: Option<u64>,
 ) -> Result<Message, NoMemory>
-    ensures { IfOk result (λ m. (now : ℕ) → message_values m ≡ message_of request_id now (Seek consumer_id (option_map message_id_values id) time)) }
+    ensures { IfOk result (λ m. (now : ℕ) → message_values m
+        ≡ message_of request_id now
+        (Seek consumer_id (option_map message_id_values id) time)) }
 {
     without_payload(builders::seek(consumer_id, request_id, id, time))
 }
 
 /// Answers a challenge of the broker.
 pub fn auth_challenge(auth: Authentication) -> Result<Message, NoMemory>
-    ensures { IfOk result (λ m. (id now : ℕ) → message_values m ≡ message_of id now (AuthChallenge (authentication_values auth))) }
+    ensures { IfOk result (λ m. (id now : ℕ) → message_values m
+        ≡ message_of id now
+        (AuthChallenge (authentication_values auth))) }
 {
     without_payload(builders::auth_challenge(auth))
 }
@@ -219,7 +251,9 @@ pub fn send(
     message: ProducerMessage,
     publish_time: u64,
 ) -> Result<Message, NoMemory>
-    ensures { IfOk result (λ m. (id : ℕ) (block : Bool) → message_values m ≡ message_of id publish_time (Send producer_id name.now sequence_id (producer_message_values message) block)) }
+    ensures { IfOk result (λ m. (id : ℕ) (block : Bool) → message_values m
+        ≡ message_of id publish_time
+        (Send producer_id name.now sequence_id (producer_message_values message) block)) }
 {
     match builders::send(alloc, producer_id, name, sequence_id, message, publish_time) {
         Ok(parts) => Ok(whole(parts)),

@@ -4,7 +4,8 @@ use Rattle.pulsar_messages.specs.Murmur.{block_of, mixed, murmur3, scrambled, wi
 use Rattle.pulsar_messages.proofs.murmur.murmur3.Goals as goal
 
 -- a whole block in front is mixed in
-with_block : (hash : ℕ) (bytes : List ℕ) → 4 ≤ length bytes → with_bytes (mixed hash (from_le_bytes w32 (take 4 bytes))) (drop 4 bytes) ≡ with_bytes hash bytes
+with_block : (hash : ℕ) (bytes : List ℕ) → 4 ≤ length bytes
+    → with_bytes (mixed hash (from_le_bytes w32 (take 4 bytes))) (drop 4 bytes) ≡ with_bytes hash bytes
 with_block hash [] h = absurd (omega arith)
 with_block hash (a ∷ []) h = absurd (omega arith)
 with_block hash (a ∷ b ∷ []) h = absurd (omega arith)
@@ -19,6 +20,7 @@ with_tail hash (a ∷ b ∷ []) h = refl
 with_tail hash (a ∷ b ∷ c ∷ []) h = refl
 with_tail hash (a ∷ b ∷ c ∷ d ∷ rest) h = absurd (omega arith)
 
+-- the same with names for the parts
 with_next : (hash next number : ℕ) (rest block after : List ℕ)
     → next ≡ mixed hash number → number ≡ from_le_bytes w32 block → block ≡ take 4 rest → after ≡ drop 4 rest
     → length after + 4 ≡ length rest → with_bytes next after ≡ with_bytes hash rest

@@ -1,4 +1,4 @@
-use Rattle.std.proofs.Common.{◌≡◌, ◌∙◌, ◌∷◌, ◌+◌, sym, subst, drop, ap, length, ◌<◌, arith, refl, get_or}
+use Rattle.std.proofs.Common.{◌∙◌, ◌∷◌, ◌+◌, sym, subst, drop, ap, length, ◌<◌, get_or}
 use Rattle.std.proofs.lemmas.List.{drop_more}
 use Rattle.std.specs.BTreeMap.{get, is_at}
 use Rattle.std.specs.BTreeSet.{contains}

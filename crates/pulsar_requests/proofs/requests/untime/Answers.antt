@@ -1,4 +1,4 @@
-use Rattle.std.proofs.Common.{◌≡◌, ◌∙◌, ◌==◌, ◌&&◌, ◌<◌, ◌≤◌, not, sym, ap, length, take, get_or, arith}
+use Rattle.std.proofs.Common.{◌∙◌, ◌==◌, ◌&&◌, ◌<◌, ◌≤◌, not, ap, length, get_or}
 use Rattle.std.proofs.lemmas.List.{take_all}
 use Rattle.std.specs.BTreeMap.{get}
 use Rattle.std.specs.BTreeSet.{contains}

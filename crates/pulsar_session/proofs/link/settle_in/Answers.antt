@@ -1,6 +1,6 @@
 use Rattle.std.proofs.Common.{◌∙◌, ap}
 use Rattle.pulsar_frame.specs.Shown.{message_values}
-use Rattle.pulsar_requests.specs.Waits.{Waits, answered_by, found, places}
+use Rattle.pulsar_requests.specs.Waits.{answered_by, found, places}
 use Rattle.pulsar_session.proofs.Awaiting.{found_is, left_is}
 use Rattle.pulsar_session.proofs.link.settle_in.Goals as goal
 

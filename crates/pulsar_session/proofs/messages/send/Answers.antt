@@ -1,5 +1,4 @@
 use Rattle.std.proofs.Common.{◌∙◌, ap, Some}
-use Rattle.pulsar_wire.specs.Views.{command_values}
 use Rattle.pulsar_messages.specs.Content.{producer_message_values}
 use Rattle.pulsar_messages.specs.Messages.{command_of, payload_content}
 use Rattle.pulsar_messages.specs.Words.{Send}

@@ -1,4 +1,4 @@
-use Rattle.std.proofs.Common.{◌≡◌, map}
+use Rattle.std.proofs.Common.{◌≡◌}
 use Rattle.pulsar_requests.specs.Kept.{all_pending}
 use Rattle.pulsar_requests.specs.Waits.{places}
 use Rattle.pulsar_requests.proofs.requests.Requests.end.Given as goal

@@ -1,10 +1,10 @@
-use Rattle.std.proofs.Common.{◌≡◌, ◌∙◌, ◌==◌, sym, ap, [], false}
+use Rattle.std.proofs.Common.{◌∙◌, ◌==◌, sym, ap, [], false}
 use Rattle.std.specs.BTreeMap.{get}
 use Rattle.std.specs.BTreeSet.{contains}
 use Rattle.std.specs.List.{list_any}
 use Rattle.std.specs.Ordering.{nat_cmp}
 use Rattle.pulsar_requests.specs.declared.awaited.Awaited.TheVariants.{Reply}
-use Rattle.pulsar_requests.specs.Kept.{excuses, listed, places_of}
+use Rattle.pulsar_requests.specs.Kept.{excuses, listed}
 use Rattle.pulsar_requests.proofs.Timed.{excused_more, placed_where, untouched}
 use Rattle.pulsar_requests.proofs.requests.Requests.excuse.Goals as goal
 use Rattle.pulsar_requests.proofs.requests.Requests.excuse.Goals.{in-Some, in-None}

@@ -1,6 +1,6 @@
 use Rattle.std.proofs.Common.{◌≡◌, ◌∙◌, sym, ap, ℕ, Bool, true, false, not, ◌&&◌, ◌≤◌, ◌<◌, nat_le, refl, arith}
 use Rattle.std.proofs.lemmas.Bool.Decides.{nat_tests}
-use Rattle.pulsar_requests.specs.Waits.{Waits, is_excused, is_overdue, is_some_due}
+use Rattle.pulsar_requests.specs.Waits.{is_excused, is_overdue, is_some_due}
 use Rattle.pulsar_requests.proofs.Pendings.{at_place, pending_of}
 use Rattle.pulsar_requests.proofs.requests.Requests.is_overdue.Goals as goal
 

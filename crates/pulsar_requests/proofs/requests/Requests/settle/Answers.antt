@@ -1,4 +1,4 @@
-use Rattle.std.proofs.Common.{◌≡◌, ◌∙◌, sym, ap, refl, [], ◌∷◌, List, None, filter, not, Bool, true, false}
+use Rattle.std.proofs.Common.{◌≡◌, ◌∙◌, sym, ap, refl, [], ◌∷◌, List, None}
 use Rattle.pulsar_requests.specs.Waits.{Pending, Waits, answered_by, found, others, places}
 use Rattle.pulsar_requests.proofs.requests.Requests.settle.Goals as goal
 

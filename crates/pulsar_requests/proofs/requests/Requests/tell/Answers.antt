@@ -1,4 +1,4 @@
-use Rattle.std.proofs.Common.{◌+◌, ◌≤◌, ap, subst, sym}
+use Rattle.std.proofs.Common.{◌+◌}
 use Rattle.pulsar_wire.specs.Sink.{capped}
 use Rattle.pulsar_requests.specs.Kept.{all_pending}
 use Rattle.pulsar_requests.proofs.Pendings.{capped_later, up_to_later}

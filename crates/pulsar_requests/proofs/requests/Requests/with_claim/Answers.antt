@@ -8,7 +8,7 @@ use Rattle.pulsar_wire.specs.Sink.{capped}
 use Rattle.pulsar_requests.specs.Awaited.{awaited_cmp, is_same}
 use Rattle.pulsar_requests.specs.declared.requests.Waiter.{Waiter}
 use Rattle.pulsar_requests.specs.Kept.{AllUpTo, Ascends, all_pending, listed, pending_at, places_of}
-use Rattle.pulsar_requests.specs.Waits.{Waits, with_next}
+use Rattle.pulsar_requests.specs.Waits.{with_next}
 use Rattle.pulsar_requests.proofs.Pendings.{ascends_append, fresh_on, index_with, inserted, up_to_append}
 use Rattle.pulsar_requests.proofs.Timed.{put_in}
 use Rattle.pulsar_requests.proofs.requests.Requests.with_claim.Goals as goal

@@ -1,0 +1,5 @@
+//! Single calls of messages, beside what they must answer.
+#![tactic(auto)]
+
+#[cfg(test)]
+mod calls;

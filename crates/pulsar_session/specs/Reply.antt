@@ -1,0 +1,127 @@
+-- A message of the broker, by what is read in it.  (Pulsar binary protocol, Simple commands)
+use Rattle.std.specs.Prelude.{ℕ, ℤ, Bool, false, List, [], Option, Some, None, ◌==◌, if◌then◌else◌}
+use Rattle.pulsar_wire.specs.At.{flag_at, int32_at, text_at, texts_at}
+use Rattle.pulsar_wire.specs.Command.{BodyValues}
+use Rattle.pulsar_wire.specs.Row.{Optional, Text, Uint32, Int32, Row, End, Plain, Embedded, Numbers, Values, spelling}
+use Rattle.pulsar_wire.specs.declared.key.RequestKey.{RequestKey}
+use Rattle.pulsar_frame.specs.Key.{key}
+use Rattle.pulsar_frame.specs.Message.{MessageValues}
+
+-- the number in field n, which may be absent
+abbrev pub maybe_uint32_at : ℕ → (row : Row) → Values row → Option ℕ
+maybe_uint32_at n End vs = None
+maybe_uint32_at n (Plain m Optional Uint32 row) vs = if m == n then vs.0 else maybe_uint32_at n row vs.1
+maybe_uint32_at n (Plain m r k row) vs = maybe_uint32_at n row vs.1
+maybe_uint32_at n (Embedded m r inner row) vs = maybe_uint32_at n row vs.1
+maybe_uint32_at n (Numbers m row) vs = maybe_uint32_at n row vs.1
+
+-- the signed number in field n, which may be absent
+abbrev pub maybe_int32_at : ℕ → (row : Row) → Values row → Option ℤ
+maybe_int32_at n End vs = None
+maybe_int32_at n (Plain m Optional Int32 row) vs = if m == n then vs.0 else maybe_int32_at n row vs.1
+maybe_int32_at n (Plain m r k row) vs = maybe_int32_at n row vs.1
+maybe_int32_at n (Embedded m r inner row) vs = maybe_int32_at n row vs.1
+maybe_int32_at n (Numbers m row) vs = maybe_int32_at n row vs.1
+
+-- the text in field n, which may be absent
+abbrev pub maybe_text_at : ℕ → (row : Row) → Values row → Option (List ℕ)
+maybe_text_at n End vs = None
+maybe_text_at n (Plain m Optional Text row) vs = if m == n then vs.0 else maybe_text_at n row vs.1
+maybe_text_at n (Plain m r k row) vs = maybe_text_at n row vs.1
+maybe_text_at n (Embedded m r inner row) vs = maybe_text_at n row vs.1
+maybe_text_at n (Numbers m row) vs = maybe_text_at n row vs.1
+
+-- a body by its number, as it is written
+pub record Written : Type 0 where
+  pub number : ℕ
+  pub bytes : List ℕ
+
+abbrev pub written : BodyValues → Written
+written b = record { number = b.number; bytes = spelling b.row b.values }
+
+-- Its body and its key; the number and the text of the error that it tells; the topics that it names; and what the answers to
+-- partition_metadata and lookup_topic say.
+pub record Reply : Type 0 where
+  pub body : Option Written
+  pub key : Option RequestKey
+  pub error : Option ℤ
+  pub text : Option (List ℕ)
+  pub topics : List (List ℕ)
+  pub partitions : Option ℕ
+  pub response : Option ℤ
+  pub url : Option (List ℕ)
+  pub authority : Option Bool
+  pub proxy : Option Bool
+
+-- error (14), partition_metadata_response (22) and lookup_topic_response (24) tell errors
+abbrev pub error_in : BodyValues → Option ℤ
+error_in b =
+    if b.number == 14 then int32_at 2 b.row b.values
+    else if b.number == 22 then maybe_int32_at 4 b.row b.values
+    else if b.number == 24 then maybe_int32_at 6 b.row b.values
+    else None
+
+abbrev pub text_in : BodyValues → Option (List ℕ)
+text_in b =
+    if b.number == 14 then text_at 3 b.row b.values
+    else if b.number == 22 then maybe_text_at 5 b.row b.values
+    else if b.number == 24 then maybe_text_at 7 b.row b.values
+    else None
+
+-- the topics of a get_topics_of_namespace_response
+abbrev pub topics_in : BodyValues → List (List ℕ)
+topics_in b = if b.number == 33 then texts_at 2 b.row b.values else []
+
+abbrev pub partitions_in : BodyValues → Option ℕ
+partitions_in b = if b.number == 22 then maybe_uint32_at 1 b.row b.values else None
+
+abbrev pub response_in : BodyValues → Option ℤ
+response_in b =
+    if b.number == 22 then maybe_int32_at 3 b.row b.values
+    else if b.number == 24 then maybe_int32_at 3 b.row b.values
+    else None
+
+abbrev pub url_in : BodyValues → Option (List ℕ)
+url_in b = if b.number == 24 then maybe_text_at 1 b.row b.values else None
+
+abbrev pub authority_in : BodyValues → Option Bool
+authority_in b = if b.number == 24 then flag_at 5 b.row b.values else None
+
+abbrev pub proxy_in : BodyValues → Option Bool
+proxy_in b = if b.number == 24 then flag_at 8 b.row b.values else None
+
+-- what is read of a body
+abbrev pub read_body : Option RequestKey → Option BodyValues → Reply
+read_body k None =
+    record {
+      body = None;
+      key = k;
+      error = None;
+      text = None;
+      topics = [];
+      partitions = None;
+      response = None;
+      url = None;
+      authority = None;
+      proxy = None;
+    }
+read_body k (Some b) =
+    record {
+      body = Some (written b);
+      key = k;
+      error = error_in b;
+      text = text_in b;
+      topics = topics_in b;
+      partitions = partitions_in b;
+      response = response_in b;
+      url = url_in b;
+      authority = authority_in b;
+      proxy = proxy_in b;
+    }
+
+abbrev pub reply : MessageValues → Reply
+reply m = read_body (key m) m.command.body
+
+abbrev pub is_body : ℕ → Option Written → Bool
+is_body n None = false
+is_body n (Some b) = b.number == n

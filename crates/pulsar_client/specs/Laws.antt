@@ -9,11 +9,12 @@ use Rattle.pulsar_run.specs.Run.{events, steps_done}
 use Rattle.pulsar_wire.specs.declared.error.ConnectionError.{ConnectionError}
 use Rattle.pulsar_frame.specs.Message.{MessageValues}
 use Rattle.pulsar_messages.specs.Words.{Words}
+use Rattle.pulsar_requests.specs.Waits.{later_of}
 use Rattle.pulsar_session.specs.declared.states.Asked.{Asked as Placed}
 use Rattle.pulsar_session.specs.declared.states.Asked.TheVariants as placed
 use Rattle.pulsar_session.specs.Failures.{Failure, Fault, OfConnection, fault}
 use Rattle.pulsar_session.specs.Link as session
-use Rattle.pulsar_session.specs.Link.{Act as Act', Asks, Feeds, Setup, came, ends, is_spent}
+use Rattle.pulsar_session.specs.Link.{Act as Act', Asks, Feeds, Setup, came, due, ends, is_spent}
 use Rattle.pulsar_link.specs.Items.{Item, Given, Faulty}
 use Rattle.pulsar_link.specs.Messages.{Reply, read}
 use Rattle.pulsar_link.specs.Request.{closed_consumer, request_number}
@@ -24,6 +25,7 @@ use Rattle.pulsar_client.specs.declared.act.Action.TheVariants.{Get, Ask, StopAl
 use Rattle.pulsar_client.specs.declared.act.Arrival.{Arrival}
 use Rattle.pulsar_client.specs.declared.act.Arrival.TheVariants.{Nothing, Readied, Settles, Gives, Passes, Bad}
 use Rattle.pulsar_client.specs.declared.act.End.{End}
+use Rattle.pulsar_client.specs.declared.act.End.TheVariants.{Overdue}
 use Rattle.pulsar_client.specs.declared.act.LinkAct.{LinkAct}
 use Rattle.pulsar_client.specs.declared.act.LinkAct.TheVariants.{Reads, Drains, Ends}
 use Rattle.pulsar_client.specs.declared.act.Makes.{Makes}
@@ -43,7 +45,7 @@ use Rattle.pulsar_client.specs.declared.base.Series.TheVariants.{Nobody, Runs, S
 use Rattle.pulsar_client.specs.declared.plans.plan.Plan.{Plan}
 use Rattle.pulsar_client.specs.declared.plans.plan.Turn.{Turn}
 use Rattle.pulsar_client.specs.declared.plans.plan.Turn.TheVariants as turn
-use Rattle.pulsar_client.specs.Content.{Asked, Heard, Called, Bytes, Poll, Shown, Queued, Write, Hands, Faults, Failed}
+use Rattle.pulsar_client.specs.Content.{Asked, Heard, Called, Bytes, Ticked, Poll, Shown, Queued, Write, Hands, Faults, Failed}
 use Rattle.pulsar_client.specs.Effects.{effect_below}
 use Rattle.pulsar_client.specs.Links as links
 use Rattle.pulsar_client.specs.Links.{Change, Remains, Becomes, IsOver, call_of, change_at, change_in, closed_by, line_places, new_places}
@@ -252,6 +254,39 @@ built (_ ∷ log) = built log
 
 abbrev pub BuiltIs : Type 0
 BuiltIs = (o : Chosen) (log : List Entry) → (view o log).calls.is_built ≡ built log
+
+-- a plan has ended every link
+abbrev pub stopped : List Entry → Bool
+stopped [] = false
+stopped (Then (Does who StopAll) ∷ log) = true
+stopped (_ ∷ log) = stopped log
+
+-- The client is stopped from there on; so each later call is refused.
+abbrev pub StoppedIs : Type 0
+StoppedIs = (o : Chosen) (log : List Entry) → (view o log).calls.is_stopped ≡ stopped log
+
+-- THE CLOCK
+
+-- the greatest of the moment of the options and of the ticks
+abbrev pub clock : (start : ℕ) → List Entry → ℕ
+clock start [] = start
+clock start (Begins (Ticked now) ∷ log) = later_of (clock start log) now
+clock start (_ ∷ log) = clock start log
+
+abbrev pub ClockIs : Type 0
+ClockIs = (o : Chosen) (log : List Entry) → (view o log).now ≡ clock o.now log
+
+-- A tick begins at which this link is due, with so many frames queued.
+abbrev pub IsDueAt : Chosen → (link queued : ℕ) → Entry → List Entry → Type 0
+IsDueAt o l queued e older =
+    (now : ℕ) × (seat : Seat) × (e ≡ Begins (Ticked now)) × ((view o older).links.live l ≡ Some seat) × (due now seat.seen ≡ true)
+    × (queued ≡ seat.seen.waits.queued)
+
+-- A deadline comes to a link only in a tick at whose beginning the link was due, and those requests may time out whose frames were queued
+-- then: what is started in a tick waits for the next.
+abbrev pub DeadlinesAreTicked : Type 0
+DeadlinesAreTicked = (o : Chosen) (log : List Entry) (l queued : ℕ) →
+    IsRun o (Then (Comes (ToLink l (Ends (Overdue queued)))) ∷ log) → InThisStep (IsDueAt o l queued) log
 
 -- what runs for the address, by the newest of these: an attempt began, a link became ready, a link ended
 abbrev pub turn_of : (link : ℕ) → Change → Series → Series

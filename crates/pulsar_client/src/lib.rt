@@ -10,6 +10,7 @@ mod content;
 mod due;
 pub mod effect;
 pub mod event;
+pub mod laws;
 mod links;
 pub mod options;
 mod order;

@@ -1,0 +1,122 @@
+//! What follows from the definition of a good run: each contract is a law, and its body is empty.
+
+ghost use Rattle.pulsar_client.specs.Address.{KnownAddresses};
+ghost use Rattle.pulsar_client.specs.Client.{StoodForIsGood};
+ghost use Rattle.pulsar_client.specs.Laws.{AnswersOnce, BuiltIs, CallsAreMade, CausesInOrder, ClockIs, ConsumersHearToTheirEnd, DeadlinesAreTicked, Determined, EffectsArranged, EndsOnce, FailuresAreTold, LinksAlone, OutcomesAreCaused, PlansFollow, PollsAreAnswered, PollsFollow, SeriesIsNewest, ServedByTicket, StoppedIs, TicketsCount, WritesFollow};
+
+/// Options and events determine the effects of a good run.
+pub fn determined()
+    ensures { Determined }
+{}
+
+/// Every history that a client stands for is good.
+pub fn stood_for_is_good()
+    ensures { StoodForIsGood }
+{}
+
+/// The effects of each step stand in their order, and are just those of its acts, each once.
+pub fn effects_arranged()
+    ensures { EffectsArranged }
+{}
+
+/// A cause serves those whom it still has to serve by rank, calls by ticket, and so do the causes that wait.
+pub fn causes_in_order()
+    ensures { CausesInOrder }
+{}
+
+/// A cause serves three calls by their tickets.
+pub fn served_by_ticket()
+    ensures { ServedByTicket }
+{}
+
+/// A call is made where the user asks for it, by its procedure.
+pub fn calls_are_made()
+    ensures { CallsAreMade }
+{}
+
+/// The ticket of the next call is the count of the calls so far.
+pub fn tickets_count()
+    ensures { TicketsCount }
+{}
+
+/// At the end of each step, each of those who have plans has done just what its plan gives along the outcomes that it was
+/// told, each in the step of its outcome.
+pub fn plans_follow()
+    ensures { PlansFollow }
+{}
+
+/// A plan gives one verdict, and does nothing after it.
+pub fn answers_once()
+    ensures { AnswersOnce }
+{}
+
+/// A call begins at most once, and ends at most once.
+pub fn ends_once()
+    ensures { EndsOnce }
+{}
+
+/// Whatever a call is told has its cause before, in the same step.
+pub fn outcomes_are_caused()
+    ensures { OutcomesAreCaused }
+{}
+
+/// A call that fails was refused, or fails with the fault of an outcome that it was told, or of its reply.
+pub fn failures_are_told()
+    ensures { FailuresAreTold }
+{}
+
+/// The client is built where a Build has ended Ok.
+pub fn built_is()
+    ensures { BuiltIs }
+{}
+
+/// The client is stopped where a plan has ended every link.
+pub fn stopped_is()
+    ensures { StoppedIs }
+{}
+
+/// The clock is the greatest of the moment of the options and of the ticks.
+pub fn clock_is()
+    ensures { ClockIs }
+{}
+
+/// A link ends by a deadline only in a tick at whose beginning it was due.
+pub fn deadlines_are_ticked()
+    ensures { DeadlinesAreTicked }
+{}
+
+/// What runs for the address is what its newest turn left.
+pub fn series_is_newest()
+    ensures { SeriesIsNewest }
+{}
+
+/// A link that has not ended is what the calls of its connection made of it, and nothing else.
+pub fn links_alone()
+    ensures { LinksAlone }
+{}
+
+/// The bytes that are written to a connection are the first of those that were queued there, in order.
+pub fn writes_follow()
+    ensures { WritesFollow }
+{}
+
+/// A consumer remains what it is, and hears up to the first of its ends, and never again.
+pub fn consumers_hear_to_their_end()
+    ensures { ConsumersHearToTheirEnd }
+{}
+
+/// The polls of a consumer give the items that have come to it, in order, each once and without gap.
+pub fn polls_follow()
+    ensures { PollsFollow }
+{}
+
+/// A consumer is polled where the user asks for it, and gives its first item, the end where it hears no more, and else
+/// nothing.
+pub fn polls_are_answered()
+    ensures { PollsAreAnswered }
+{}
+
+/// Some texts have known addresses.
+pub fn addresses_are_known()
+    ensures { KnownAddresses }
+{}

@@ -2,7 +2,8 @@
 
 use pulsar_messages::Authentication;
 
-/// How connections are attempted and kept. All times are in milliseconds.
+/// How connections are attempted and kept. All times are in milliseconds. Only `connection_timeout` has an effect yet: no attempt is
+/// made again, and no connection is asked for a sign of life or ended for want of use.
 #[derive(Clone, Copy, Debug, PartialEq, Eq)]
 pub struct ConnectionRetryOptions {
     /// How long the first retry of an attempt waits.
@@ -19,7 +20,8 @@ pub struct ConnectionRetryOptions {
     pub connection_max_idle: u64,
 }
 
-/// How long requests wait for their replies, and how often they are made again. All times are in milliseconds.
+/// How long requests wait for their replies, and how often they are made again. All times are in milliseconds. Only
+/// `operation_timeout` has an effect yet: no request is made again.
 #[derive(Clone, Copy, Debug, PartialEq, Eq)]
 pub struct OperationRetryOptions {
     /// How long a request may wait for its reply, from the moment at which its frame is queued.
@@ -42,7 +44,7 @@ pub struct ClientOptions {
     pub operation_retry: OperationRetryOptions,
     /// How many frames of a connection may be queued and not written. With 0 a Build ends with Error::Custom.
     pub outbound_channel_size: usize,
-    /// What random numbers are drawn from.
+    /// What random numbers are drawn from. It has no effect yet: none is drawn.
     pub seed: u64,
     /// The time at which the client is made, in milliseconds since 1970.
     pub now: u64,

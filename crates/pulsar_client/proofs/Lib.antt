@@ -5,3 +5,14 @@ pub mod Timing
 pub mod Deliveries
 pub mod Steps
 pub mod Sorting
+pub mod Acts
+pub mod Instances
+pub mod Plain
+pub mod Ticketed
+pub mod Made
+pub mod Counting
+pub mod Built
+pub mod Follow
+pub mod Once
+pub mod Failures
+pub mod Caused

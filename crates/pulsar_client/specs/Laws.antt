@@ -382,15 +382,15 @@ has_end o s [] older = false
 has_end o s (e ∷ later) older = has_end o s later older || ends_at o s e (later ++ older)
 
 -- this consumer, whether it hears or not, and whatever it has not given yet
-abbrev pub Remains : Subscription → (is_live : Bool) → Option Subscription → Type 0
-Remains s is_live later =
+abbrev pub Continues : Subscription → (is_live : Bool) → Option Subscription → Type 0
+Continues s is_live later =
     (unread : List Item) × (later ≡ Some (record { link = s.link; number = s.number; topic = s.topic; is_live = is_live; unread = unread }))
 
 -- a consumer remains what it is, and hears up to the first of its ends, and never again
 abbrev pub ConsumersHearToTheirEnd : Type 0
 ConsumersHearToTheirEnd = (o : Chosen) (later older : List Entry) (t : ℕ) (s : Subscription) →
     IsRun o (later ++ older) → (view o older).consumers t ≡ Some s →
-    Remains s (s.is_live && not (has_end o s later older)) ((view o (later ++ older)).consumers t)
+    Continues s (s.is_live && not (has_end o s later older)) ((view o (later ++ older)).consumers t)
 
 -- what comes to a link brings to a consumer: the items of a frame for it on its link while it hears
 abbrev pub brought_by : Arrival → (number : ℕ) → List Item

@@ -1,0 +1,252 @@
+-- A call begins at most once, and ends at most once: there is one token for each ticket that was drawn. It is the start that is due, or
+-- the plan that stands, or the end that is due, or the end that was.
+use Rattle.std.proofs.Common.{◌≡◌, ℕ, ◌+◌, ◌≤◌, ◌∙◌, sym, ap, subst, List, [], ◌∷◌, ◌++◌, refl, arith, Bool, true, false, cond, Option, Some, None, inl, inr, nat_lt, ◌==◌}
+use Rattle.std.proofs.lemmas.Bool.{cases_Bool}
+use Rattle.std.proofs.lemmas.Bool.Decides.{nat_tests}
+use Rattle.pulsar_run.specs.Run.{rest}
+use Rattle.pulsar_session.specs.Link.{is_spent}
+use Rattle.pulsar_client.specs.declared.act.Act.{Act}
+use Rattle.pulsar_client.specs.declared.act.Act.TheVariants.{Comes, Starts, Told, Does, Answers}
+use Rattle.pulsar_client.specs.declared.act.Action.{Action}
+use Rattle.pulsar_client.specs.declared.act.Action.TheVariants.{Rest}
+use Rattle.pulsar_client.specs.declared.act.Notice.{Notice}
+use Rattle.pulsar_client.specs.declared.act.Outcome.{Outcome}
+use Rattle.pulsar_client.specs.declared.act.Part.{Part}
+use Rattle.pulsar_client.specs.declared.act.Part.TheVariants.{Calls}
+use Rattle.pulsar_client.specs.declared.act.Procedure.{Procedure}
+use Rattle.pulsar_client.specs.declared.act.Verdict.{Verdict}
+use Rattle.pulsar_client.specs.declared.act.Who.{Who}
+use Rattle.pulsar_client.specs.declared.act.Who.TheVariants.{Call}
+use Rattle.pulsar_client.specs.declared.plans.plan.Plan.{Plan}
+use Rattle.pulsar_client.specs.declared.plans.plan.Turn.{Turn}
+use Rattle.pulsar_client.specs.declared.plans.plan.Turn.TheVariants.{Stays, Gives}
+use Rattle.pulsar_client.specs.Content.{Asked, Heard}
+use Rattle.pulsar_client.specs.Laws.{EndsOnce, counted, end_of, start_of}
+use Rattle.pulsar_client.specs.Plan.{begins, told}
+use Rattle.pulsar_client.specs.Rules.{at_once, called, does, follows, follows_some}
+use Rattle.pulsar_client.specs.Run.{Entry, Begins, Then, IsRun, agenda, first, view}
+use Rattle.pulsar_client.specs.View.{Chosen, Tickets, View, stays, stays_some, told_some}
+use Rattle.pulsar_client.specs.Who.{is_same}
+use Rattle.pulsar_client.proofs.Acts.{Each, IsQuiet, begun_same, comes_quiet, first_case, is_served, performs_quiet}
+use Rattle.pulsar_client.proofs.Follow.{same_is}
+use Rattle.pulsar_client.proofs.Ticketed.{Began, apart}
+
+-- WHAT IS DUE
+
+abbrev due : (Act → ℕ) → List Act → ℕ
+due f [] = 0
+due f (x ∷ xs) = f x + due f xs
+
+due_append : (f : Act → ℕ) (xs ys : List Act) → due f (xs ++ ys) ≡ due f xs + due f ys
+due_append f [] ys = omega arith
+due_append f (x ∷ xs) ys = let e : due f (xs ++ ys) ≡ due f xs + due f ys = due_append f xs ys in omega (arith, e)
+
+-- WHAT NEITHER BEGINS NOR ENDS A CALL
+
+served_start : (t : ℕ) (a : Act) → is_served a ≡ true → start_of t a ≡ 0
+served_start t (Starts who p) h = absurd cc
+served_start t _ h = refl
+
+served_end : (t : ℕ) (a : Act) → is_served a ≡ true → end_of t a ≡ 0
+served_end t (Answers who verdict) h = absurd cc
+served_end t _ h = refl
+
+quiet_start : (t : ℕ) (a : Act) → IsQuiet a → start_of t a ≡ 0
+quiet_start t (Starts who p) h = absurd cc
+quiet_start t _ h = refl
+
+quiet_end : (t : ℕ) (a : Act) → IsQuiet a → end_of t a ≡ 0
+quiet_end t (Answers who verdict) h = absurd cc
+quiet_end t _ h = refl
+
+none_due : (f : Act → ℕ) (xs : List Act) → ((a : Act) → IsQuiet a → f a ≡ 0) → Each IsQuiet xs → due f xs ≡ 0
+none_due f [] none k = refl
+none_due f (x ∷ xs) none k = (λ i. none x k.0 i + none_due f xs none k.1 i)
+
+-- PLANS
+
+abbrev alive : Option Plan → ℕ
+alive None = 0
+alive (Some plan) = 1
+
+does_start : (t : ℕ) (who : Who) (action : Action) → due (start_of t) (does who action) ≡ 0
+does_start t who Rest = refl
+does_start t who _ = refl
+
+does_end : (t : ℕ) (who : Who) (action : Action) → due (end_of t) (does who action) ≡ 0
+does_end t who Rest = refl
+does_end t who _ = refl
+
+follows_start : (t : ℕ) (who : Who) (turn : Turn Plan Verdict) → due (start_of t) (follows who turn) ≡ 0
+follows_start t who (Stays plan action) = does_start t who action
+follows_start t who (Gives verdict) = refl
+
+some_start : (t : ℕ) (who : Who) (turn : Option (Turn Plan Verdict)) → due (start_of t) (follows_some who turn) ≡ 0
+some_start t who None = refl
+some_start t who (Some turn) = follows_start t who turn
+
+-- a plan that goes on has the token, or its end is due
+follows_end : (t : ℕ) (who : Who) (turn : Turn Plan Verdict) → due (end_of t) (follows who turn) + cond (is_same (Call t) who) (alive (stays turn)) 0 ≡ cond (is_same (Call t) who) 1 0
+follows_end t who (Stays plan action) = let e : due (end_of t) (does who action) ≡ 0 = does_end t who action in omega (arith, e)
+follows_end t who (Gives verdict) = elim (is_same (Call t) who) as (λ b. (cond b 1 0 + 0) + cond b 0 0 ≡ cond b 1 0) [ true ↦ refl | false ↦ refl ]
+
+some_here : (t : ℕ) (who : Who) (row : Option Plan) (o : Outcome) → is_same (Call t) who ≡ true → due (end_of t) (follows_some who (told_some row o)) + alive (stays_some (told_some row o)) ≡ alive row
+some_here t who None o h = refl
+some_here t who (Some plan) o h = subst (λ b. due (end_of t) (follows who (told plan o)) + cond b (alive (stays (told plan o))) 0 ≡ cond b 1 0) h (follows_end t who (told plan o))
+
+some_there : (t : ℕ) (who : Who) (row : Option Plan) (o : Outcome) → is_same (Call t) who ≡ false → due (end_of t) (follows_some who (told_some row o)) ≡ 0
+some_there t who None o h = refl
+some_there t who (Some plan) o h =
+    let e : due (end_of t) (follows who (told plan o)) + 0 ≡ 0 =
+    subst (λ b. due (end_of t) (follows who (told plan o)) + cond b (alive (stays (told plan o))) 0 ≡ cond b 1 0) h (follows_end t who (told plan o)) in
+    omega (arith, e)
+
+-- ALONG A LOG
+
+abbrev drawn : ℕ → ℕ → ℕ
+drawn t n = cond (nat_lt t n) 1 0
+
+record Few (o : Chosen) (log : List Entry) (t : ℕ) : Type 0 where
+  begun : counted (start_of t) log + due (start_of t) (agenda o log).now ≤ drawn t (view o log).calls.drawn
+  ended : is_spent t ≡ false → counted (end_of t) log + due (start_of t) (agenda o log).now + due (end_of t) (agenda o log).now + alive ((view o log).stand (Call t)) ≤ drawn t (view o log).calls.drawn
+
+-- what an act itself was is taken from what was due
+taken : (o : Chosen) (log : List Entry) (a : Act) (f : Act → ℕ) → (is_served a ≡ true → f a ≡ 0) → first (agenda o log) ≡ Some a → due f (agenda o log).now ≡ f a + due f (rest (agenda o log)).now
+taken o log a f none fits = elim (first_case (agenda o log).now (agenda o log).here (agenda o log).behind (agenda o log).parts a fits) [
+  | inl e ↦ ap (due f) e
+  | inr e ↦ ap (due f) e.0 ∙ sym ((λ i. none e.2 i + due f (e.1 i)))
+]
+
+module _ (o : Chosen) (log : List Entry) (a : Act) (t : ℕ) (k : Few o log t) (fits : first (agenda o log) ≡ Some a) where
+  abbrev left : List Act
+  left = (rest (agenda o log)).now
+
+  begun_before : counted (start_of t) log + (start_of t a + due (start_of t) left) ≤ drawn t (view o log).calls.drawn
+  begun_before = subst (λ n. counted (start_of t) log + n ≤ drawn t (view o log).calls.drawn) (taken o log a (start_of t) (served_start t a) fits) k.begun
+
+  ended_before : is_spent t ≡ false → counted (end_of t) log + (start_of t a + due (start_of t) left) + (end_of t a + due (end_of t) left) + alive ((view o log).stand (Call t)) ≤ drawn t (view o log).calls.drawn
+  ended_before lt =
+      subst (λ n. counted (end_of t) log + (start_of t a + due (start_of t) left) + n + alive ((view o log).stand (Call t)) ≤ drawn t (view o log).calls.drawn) (taken o log a (end_of t) (served_end t a) fits)
+      (subst (λ n. counted (end_of t) log + n + due (end_of t) (agenda o log).now + alive ((view o log).stand (Call t)) ≤ drawn t (view o log).calls.drawn) (taken o log a (start_of t) (served_start t a) fits) (k.ended lt))
+
+  -- an act from which no start and no end arises, and that leaves plans and tickets
+  simple_on : due (start_of t) (at_once (view o log) a) ≡ 0 → due (end_of t) (at_once (view o log) a) ≡ 0 → (view o (Then a ∷ log)).stand (Call t) ≡ (view o log).stand (Call t) →
+      (view o (Then a ∷ log)).calls.drawn ≡ (view o log).calls.drawn → Few o (Then a ∷ log) t
+  simple_on starts ends stands calls =
+      let ds : due (start_of t) (at_once (view o log) a ++ left) ≡ due (start_of t) (at_once (view o log) a) + due (start_of t) left = due_append (start_of t) (at_once (view o log) a) left in
+      let de : due (end_of t) (at_once (view o log) a ++ left) ≡ due (end_of t) (at_once (view o log) a) + due (end_of t) left = due_append (end_of t) (at_once (view o log) a) left in
+      record {
+        begun = (let b = begun_before in rw (calls, ds, starts) (omega (arith, b)));
+        ended = λ lt. (let b = ended_before lt in rw (calls, stands, ds, de, starts, ends) (omega (arith, b)));
+      }
+
+  quiet_on : Each IsQuiet (at_once (view o log) a) → (view o (Then a ∷ log)).stand (Call t) ≡ (view o log).stand (Call t) → (view o (Then a ∷ log)).calls.drawn ≡ (view o log).calls.drawn →
+      Few o (Then a ∷ log) t
+  quiet_on quiet stands calls =
+      simple_on (none_due (start_of t) (at_once (view o log) a) (quiet_start t) quiet) (none_due (end_of t) (at_once (view o log) a) (quiet_end t) quiet) stands calls
+
+-- a call takes the next ticket
+next_start : (t n b d : ℕ) → b + (0 + d) ≤ cond (nat_lt t n) 1 0 → (b + 0) + ((cond (t == n) 1 0 + 0) + d) ≤ cond (nat_lt t (n + 1)) 1 0
+next_start t n b d h = grind (arith, nat_tests)
+
+next_end : (t n e d c a : ℕ) → e + (0 + d) + (0 + c) + a ≤ cond (nat_lt t n) 1 0 → (e + 0) + ((cond (t == n) 1 0 + 0) + d) + (0 + c) + a ≤ cond (nat_lt t (n + 1)) 1 0
+next_end t n e d c a h = grind (arith, nat_tests)
+
+-- and none where none is left
+spent_end : (b : Bool) (e d c a n : ℕ) → b ≡ false → e + (0 + d) + (0 + c) + a ≤ n → (e + 0) + (0 + d) + ((cond b 1 0 + 0) + c) + a ≤ n
+spent_end b e d c a n low h = rw low (omega (arith, h))
+
+calls_on : (o : Chosen) (log : List Entry) (asked : Asked) (t : ℕ) → Few o log t → first (agenda o log) ≡ Some (Comes (Calls asked)) → Few o (Then (Comes (Calls asked)) ∷ log) t
+calls_on o log asked t k fits =
+    let q : Chosen = (view o log).chosen in
+    let calls : Tickets = (view o log).calls in
+    let n : ℕ = calls.drawn in
+    let xs : List Act = left o log (Comes (Calls asked)) t k fits in
+    let ds : due (start_of t) (called q calls asked ++ xs) ≡ due (start_of t) (called q calls asked) + due (start_of t) xs = due_append (start_of t) (called q calls asked) xs in
+    let de : due (end_of t) (called q calls asked ++ xs) ≡ due (end_of t) (called q calls asked) + due (end_of t) xs = due_append (end_of t) (called q calls asked) xs in
+    let b = begun_before o log (Comes (Calls asked)) t k fits in
+    elim (cases_Bool (is_spent n)) [
+      | inl e ↦ record {
+        begun = rw ds (rw e (omega (arith, b)));
+        ended = λ low. (let c = ended_before o log (Comes (Calls asked)) t k fits low in
+            rw (ds, de) (rw e (spent_end (t == n) (counted (end_of t) log) (due (start_of t) xs) (due (end_of t) xs) (alive ((view o log).stand (Call t))) (drawn t n)
+            (apart (Call t) n low e) c)));
+      }
+      | inr e ↦ record {
+        begun = rw ds (rw e (next_start t n (counted (start_of t) log) (due (start_of t) xs) b));
+        ended = λ low. (let c = ended_before o log (Comes (Calls asked)) t k fits low in
+            rw (ds, de) (rw e (next_end t n (counted (end_of t) log) (due (start_of t) xs) (due (end_of t) xs) (alive ((view o log).stand (Call t))) c)));
+      }
+    ]
+
+starts_on : (o : Chosen) (log : List Entry) (who : Who) (p : Procedure) (t : ℕ) → Few o log t → first (agenda o log) ≡ Some (Starts who p) → Few o (Then (Starts who p) ∷ log) t
+starts_on o log who p t k fits =
+    let xs : List Act = left o log (Starts who p) t k fits in
+    let ds : due (start_of t) (follows who (begins p) ++ xs) ≡ due (start_of t) (follows who (begins p)) + due (start_of t) xs = due_append (start_of t) (follows who (begins p)) xs in
+    let de : due (end_of t) (follows who (begins p) ++ xs) ≡ due (end_of t) (follows who (begins p)) + due (end_of t) xs = due_append (end_of t) (follows who (begins p)) xs in
+    let s = follows_start t who (begins p) in
+    record {
+      begun = (let b = begun_before o log (Starts who p) t k fits in rw (ds, s) (omega (arith, b)));
+      ended = λ lt.
+          (let c = ended_before o log (Starts who p) t k fits lt in
+          let f = follows_end t who (begins p) in
+          rw (ds, de, s) (elim (cases_Bool (is_same (Call t) who)) [
+            | inl e ↦ (let c1 = rw e at c in let f1 = rw e at f in rw e (omega (arith, c1, f1)))
+            | inr e ↦ (let c1 = rw e at c in let f1 = rw e at f in rw e (omega (arith, c1, f1)))
+          ]));
+    }
+
+told_on : (o : Chosen) (log : List Entry) (n : Notice) (t : ℕ) → Few o log t → first (agenda o log) ≡ Some (Told n) → Few o (Then (Told n) ∷ log) t
+told_on o log n t k fits =
+    let turn : Option (Turn Plan Verdict) = told_some ((view o log).stand n.who) n.outcome in
+    let xs : List Act = left o log (Told n) t k fits in
+    let ds : due (start_of t) (follows_some n.who turn ++ xs) ≡ due (start_of t) (follows_some n.who turn) + due (start_of t) xs = due_append (start_of t) (follows_some n.who turn) xs in
+    let de : due (end_of t) (follows_some n.who turn ++ xs) ≡ due (end_of t) (follows_some n.who turn) + due (end_of t) xs = due_append (end_of t) (follows_some n.who turn) xs in
+    let s = some_start t n.who turn in
+    record {
+      begun = (let b = begun_before o log (Told n) t k fits in rw (ds, s) (omega (arith, b)));
+      ended = λ lt.
+          (let c = ended_before o log (Told n) t k fits lt in
+          rw (ds, de, s) (elim (cases_Bool (is_same (Call t) n.who)) [
+            | inl e ↦
+                (let w : Call t ≡ n.who = same_is (Call t) n.who e in
+                let f : due (end_of t) (follows_some n.who (told_some ((view o log).stand n.who) n.outcome)) + alive (stays_some (told_some ((view o log).stand (Call t)) n.outcome)) ≡ alive ((view o log).stand (Call t)) =
+                subst (λ (u : Who). due (end_of t) (follows_some n.who (told_some ((view o log).stand u) n.outcome)) + alive (stays_some (told_some ((view o log).stand (Call t)) n.outcome)) ≡ alive ((view o log).stand (Call t))) w
+                (some_here t n.who ((view o log).stand (Call t)) n.outcome e) in
+                rw e (omega (arith, c, f)))
+            | inr e ↦ (let f = some_there t n.who ((view o log).stand n.who) n.outcome e in rw e (omega (arith, c, f)))
+          ]));
+    }
+
+begins_on : (o : Chosen) (log : List Entry) (e : Heard) (t : ℕ) → Few o log t → Few o (Begins e ∷ log) t
+begins_on o log e t k =
+    let c : (view o (Begins e ∷ log)).calls.drawn ≡ (view o log).calls.drawn = begun_same (λ v. v.calls.drawn) e (view o log) refl in
+    let s : (view o (Begins e ∷ log)).stand (Call t) ≡ (view o log).stand (Call t) = begun_same (λ v. v.stand (Call t)) e (view o log) refl in
+    let b = k.begun in
+    record {
+      begun = rw c (omega (arith, b));
+      ended = λ low. (let d = k.ended low in rw (c, s) (omega (arith, d)));
+    }
+
+few_run : (o : Chosen) (log : List Entry) (t : ℕ) → IsRun o log → Few o log t
+few_run o [] t r = record { begun = (let z : 0 ≤ drawn t 0 = omega arith in z); ended = λ low. (let z : 0 ≤ drawn t 0 = omega arith in z) }
+few_run o (Begins e ∷ log) t r = begins_on o log e t (few_run o log t r.0)
+few_run o (Then (Comes (Calls asked)) ∷ log) t r = calls_on o log asked t (few_run o log t r.0) r.1
+few_run o (Then (Comes p) ∷ log) t r = quiet_on o log (Comes p) t (few_run o log t r.0) r.1 (comes_quiet (view o log) p refl) refl refl
+few_run o (Then (Starts who p) ∷ log) t r = starts_on o log who p t (few_run o log t r.0) r.1
+few_run o (Then (Told n) ∷ log) t r = told_on o log n t (few_run o log t r.0) r.1
+few_run o (Then (Does w a) ∷ log) t r = quiet_on o log (Does w a) t (few_run o log t r.0) r.1 (performs_quiet (view o log) w a) refl refl
+few_run o (Then a ∷ log) t r = quiet_on o log a t (few_run o log t r.0) r.1 tt refl refl
+
+one_at_most : (b : Bool) (x y : ℕ) → x + y ≤ cond b 1 0 → x ≤ 1
+one_at_most true x y h = omega (arith, h)
+one_at_most false x y h = omega (arith, h)
+
+pub ends_once_lem : EndsOnce
+ends_once_lem o log t r =
+    let k : Few o log t = few_run o log t r in
+    let e : ℕ = counted (end_of t) log in
+    let y : ℕ = due (start_of t) (agenda o log).now + due (end_of t) (agenda o log).now + alive ((view o log).stand (Call t)) in (
+      one_at_most (nat_lt t (view o log).calls.drawn) (counted (start_of t) log) (due (start_of t) (agenda o log).now) k.begun,
+      λ lt. one_at_most (nat_lt t (view o log).calls.drawn) e y (let d = k.ended lt in omega (arith, d)),
+    )

@@ -7,7 +7,7 @@ use Rattle.pulsar_run.specs.Run.{first_of, rest_of}
 use Rattle.pulsar_client.specs.declared.act.Act.{Act}
 use Rattle.pulsar_client.specs.declared.act.Act.TheVariants.{Comes, Told, Dials}
 use Rattle.pulsar_client.specs.declared.act.Action.{Action}
-use Rattle.pulsar_client.specs.declared.act.Action.TheVariants.{Get, Ask, StopAll, Rest}
+use Rattle.pulsar_client.specs.declared.act.Action.TheVariants.{Get, Ask, StopAll}
 use Rattle.pulsar_client.specs.declared.act.Arrival.{Arrival}
 use Rattle.pulsar_client.specs.declared.act.Arrival.TheVariants.{Bad}
 use Rattle.pulsar_client.specs.declared.act.LinkAct.TheVariants.{Reads}
@@ -110,7 +110,7 @@ pub performs_quiet : (v : View) (who : Who) (action : Action) → Each IsQuiet (
 performs_quiet v who Get = gets_quiet who v.chosen.address v.base.series
 performs_quiet v who (Ask l request) = (refl, tt)
 performs_quiet v who StopAll = each_append IsQuiet (over_links stop_act v.links) (tells who outcome.Stopped) (over_each IsQuiet stop_act v.links (λ l seat. (refl, tt))) (refl, tt)
-performs_quiet v who Rest = tt
+performs_quiet v who _ = tt
 
 breaks_quiet : (l : ℕ) (a : Arrival) → Each IsQuiet (breaks_at l a)
 breaks_quiet l (Bad cause) = (refl, tt)

@@ -1,5 +1,5 @@
 -- Whatever one is told has its cause before, in the same step.
-use Rattle.std.proofs.Common.{◌≡◌, ◌⊎◌, inl, inr, ◌∙◌, sym, ap, subst, ℕ, List, [], ◌∷◌, ◌++◌, refl, map, Bool, true, false, cond, Option, Some, None, Result, Ok, Err}
+use Rattle.std.proofs.Common.{◌≡◌, ◌⊎◌, inl, inr, ◌∙◌, sym, ap, subst, ℕ, List, [], ◌∷◌, ◌++◌, refl, map, Bool, true, false, Option, Some, None, Result, Ok, Err}
 use Rattle.std.proofs.lemmas.Bool.{cases_Bool}
 use Rattle.std.specs.List.{filter_map}
 use Rattle.pulsar_run.specs.Laws.{Arises, In, InOne, InThisStep}
@@ -15,7 +15,7 @@ use Rattle.pulsar_session.specs.Link as session
 use Rattle.pulsar_session.specs.Link.{Came, came, ends, is_spent}
 use Rattle.pulsar_link.specs.Messages.{read}
 use Rattle.pulsar_client.specs.declared.act.Act.{Act}
-use Rattle.pulsar_client.specs.declared.act.Act.TheVariants.{Comes, Starts, Told, Does, Answers, Dials}
+use Rattle.pulsar_client.specs.declared.act.Act.TheVariants.{Comes, Starts, Told, Does, Dials}
 use Rattle.pulsar_client.specs.declared.act.Action.{Action}
 use Rattle.pulsar_client.specs.declared.act.Action.TheVariants.{Get, Ask, StopAll, Rest}
 use Rattle.pulsar_client.specs.declared.act.Arrival.{Arrival}
@@ -37,11 +37,11 @@ use Rattle.pulsar_client.specs.declared.plans.plan.Turn.{Turn}
 use Rattle.pulsar_client.specs.declared.plans.plan.Turn.TheVariants.{Stays, Gives}
 use Rattle.pulsar_client.specs.Address.{Address}
 use Rattle.pulsar_client.specs.Content.{Asked}
-use Rattle.pulsar_client.specs.Laws.{AttemptEnds, Cause, EndsSo, OutcomesAreCaused, RequestEnds, LineEnds}
+use Rattle.pulsar_client.specs.Laws.{AttemptEnds, Cause, OutcomesAreCaused, LineEnds}
 use Rattle.pulsar_client.specs.Links as links
 use Rattle.pulsar_client.specs.Links.{change_in, closed_by, line_places, new_places, times_out}
 use Rattle.pulsar_client.specs.Plan.{begins}
-use Rattle.pulsar_client.specs.Rules.{alone, answered_by, answered_on, at_once, breaks_at, called, caused, causes, does, dropped, ended_by, ended_on, ended_places, failed, failed_at, failed_by, failed_so, fails_so, follows, follows_some, further, gets, lost, moved_on, notice, opens, over_links, parts, served_by, stop_act, tells, tells_asker, told_at}
+use Rattle.pulsar_client.specs.Rules.{alone, answered_by, answered_on, at_once, breaks_at, called, caused, causes, does, dropped, ended_by, ended_on, failed, failed_at, failed_by, failed_so, fails_so, follows, follows_some, further, gets, lost, moved_on, notice, opens, over_links, parts, served_by, stop_act, tells, tells_asker, told_at}
 use Rattle.pulsar_client.specs.Run.{Entry, Begins, Then, rules, view}
 use Rattle.pulsar_client.specs.View.{Chosen, Seat, Tickets, View, answer_at, arrival_at, closing, told_some}
 use Rattle.pulsar_client.specs.Who.{is_same}

@@ -1,5 +1,5 @@
 -- A call fails with what it was told.
-use Rattle.std.proofs.Common.{◌≡◌, inl, inr, sym, ap, subst, ℕ, List, [], ◌∷◌, ◌++◌, refl, Bool, true, false, cond, Some, append-nil}
+use Rattle.std.proofs.Common.{◌≡◌, inl, inr, sym, ap, subst, List, [], ◌∷◌, ◌++◌, refl, Bool, true, false, cond, Some, append-nil}
 use Rattle.std.proofs.lemmas.Bool.{cases_Bool}
 use Rattle.pulsar_run.specs.Laws.{In}
 use Rattle.pulsar_messages.specs.Words.{Words}
@@ -15,7 +15,6 @@ use Rattle.pulsar_client.specs.declared.act.Place.TheVariants.{Base, Link}
 use Rattle.pulsar_client.specs.declared.act.Procedure.{Procedure}
 use Rattle.pulsar_client.specs.declared.act.Procedure.TheVariants as procedure
 use Rattle.pulsar_client.specs.declared.act.Says.{Says}
-use Rattle.pulsar_client.specs.declared.plans.plan.Plan.{Plan}
 use Rattle.pulsar_client.specs.declared.plans.plan.Plan.TheVariants.{Building, Getting, Asking, Awaiting, Stopping}
 use Rattle.pulsar_client.specs.declared.plans.plan.Turn.TheVariants.{Stays, Gives}
 use Rattle.pulsar_client.specs.declared.plans.plan.Wanted.{Wanted}

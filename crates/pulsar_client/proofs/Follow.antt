@@ -1,10 +1,10 @@
 -- Plans follow their outcomes.
 use Rattle.std.proofs.Common.{◌≡◌, ℕ, ◌∙◌, sym, ap, subst, List, [], ◌∷◌, ◌++◌, refl, arith, drop, Bool, true, false, cond, Option, Some, None, inl, inr, ◌==◌, append-nil, append_assoc}
 use Rattle.std.proofs.lemmas.Bool.{cases_Bool, eqb-true}
-use Rattle.pulsar_run.specs.Run.{first_of, rest, rest_of}
+use Rattle.pulsar_run.specs.Run.{rest}
 use Rattle.pulsar_session.specs.Link.{is_spent}
 use Rattle.pulsar_client.specs.declared.act.Act.{Act}
-use Rattle.pulsar_client.specs.declared.act.Act.TheVariants.{Comes, Starts, Told, Does, Answers, Dials}
+use Rattle.pulsar_client.specs.declared.act.Act.TheVariants.{Comes, Starts, Told, Does, Answers}
 use Rattle.pulsar_client.specs.declared.act.Action.{Action}
 use Rattle.pulsar_client.specs.declared.act.Action.TheVariants.{Rest}
 use Rattle.pulsar_client.specs.declared.act.Notice.{Notice}
@@ -18,11 +18,11 @@ use Rattle.pulsar_client.specs.declared.act.Who.TheVariants.{Call}
 use Rattle.pulsar_client.specs.declared.plans.plan.Plan.{Plan}
 use Rattle.pulsar_client.specs.declared.plans.plan.Turn.{Turn}
 use Rattle.pulsar_client.specs.declared.plans.plan.Turn.TheVariants.{Stays, Gives}
-use Rattle.pulsar_client.specs.Content.{Asked, Heard}
+use Rattle.pulsar_client.specs.Content.{Asked}
 use Rattle.pulsar_client.specs.Laws.{AnswersOnce, Deed, Answered, PlansFollow, acted, course, deed_of, deeds, outcomes, started, verdicts_in}
 use Rattle.pulsar_client.specs.Plan.{begins, told}
 use Rattle.pulsar_client.specs.Rules.{at_once, called, does, follows, follows_some, performs}
-use Rattle.pulsar_client.specs.Run.{Entry, Begins, Then, IsRun, Agenda, agenda, first, rules, view}
+use Rattle.pulsar_client.specs.Run.{Entry, Begins, Then, IsRun, Agenda, agenda, first, view}
 use Rattle.pulsar_client.specs.View.{Chosen, Tickets, View, stays, stays_some, told_some}
 use Rattle.pulsar_client.specs.Who.{is_same, rank}
 use Rattle.pulsar_client.proofs.Acts.{Each, IsQuiet, begun_same, comes_quiet, each_append, each_drop, each_map, first_case, is_served, none_now, performs_quiet}

@@ -11,7 +11,6 @@ use Rattle.pulsar_client.specs.declared.act.Action.{Action}
 use Rattle.pulsar_client.specs.declared.act.Action.TheVariants.{Rest}
 use Rattle.pulsar_client.specs.declared.act.Notice.{Notice}
 use Rattle.pulsar_client.specs.declared.act.Outcome.{Outcome}
-use Rattle.pulsar_client.specs.declared.act.Part.{Part}
 use Rattle.pulsar_client.specs.declared.act.Part.TheVariants.{Calls}
 use Rattle.pulsar_client.specs.declared.act.Procedure.{Procedure}
 use Rattle.pulsar_client.specs.declared.act.Verdict.{Verdict}
@@ -25,11 +24,11 @@ use Rattle.pulsar_client.specs.Laws.{EndsOnce, counted, end_of, start_of}
 use Rattle.pulsar_client.specs.Plan.{begins, told}
 use Rattle.pulsar_client.specs.Rules.{at_once, called, does, follows, follows_some}
 use Rattle.pulsar_client.specs.Run.{Entry, Begins, Then, IsRun, agenda, first, view}
-use Rattle.pulsar_client.specs.View.{Chosen, Tickets, View, stays, stays_some, told_some}
+use Rattle.pulsar_client.specs.View.{Chosen, Tickets, stays, stays_some, told_some}
 use Rattle.pulsar_client.specs.Who.{is_same}
 use Rattle.pulsar_client.proofs.Acts.{Each, IsQuiet, begun_same, comes_quiet, first_case, is_served, performs_quiet}
 use Rattle.pulsar_client.proofs.Follow.{same_is}
-use Rattle.pulsar_client.proofs.Ticketed.{Began, apart}
+use Rattle.pulsar_client.proofs.Ticketed.{apart}
 
 -- WHAT IS DUE
 

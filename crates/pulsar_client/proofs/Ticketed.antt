@@ -1,17 +1,16 @@
 -- A call that begins has never the greatest ticket, and a consumer has that of a call that began.
-use Rattle.std.proofs.Common.{◌≡◌, ◌∙◌, sym, ap, subst, ℕ, List, [], ◌∷◌, ◌++◌, refl, Bool, true, false, cond, ◌==◌, Option, Some, None, inl, inr}
+use Rattle.std.proofs.Common.{◌≡◌, ◌∙◌, sym, ap, subst, ℕ, List, [], ◌∷◌, ◌++◌, refl, true, false, ◌==◌, Option, Some, None, inl, inr}
 use Rattle.std.proofs.lemmas.Bool.{cases_Bool, eqb-true}
 use Rattle.std.specs.Option.{option_map}
-use Rattle.pulsar_run.specs.Run.{first_of, rest, rest_of}
+use Rattle.pulsar_run.specs.Run.{rest}
 use Rattle.pulsar_session.specs.Failures.{Fault}
 use Rattle.pulsar_session.specs.Link.{is_spent}
 use Rattle.pulsar_client.specs.declared.act.Act.{Act}
-use Rattle.pulsar_client.specs.declared.act.Act.TheVariants.{Comes, Starts, Told, Does, Answers, Dials}
+use Rattle.pulsar_client.specs.declared.act.Act.TheVariants.{Comes, Starts, Told, Does, Answers}
 use Rattle.pulsar_client.specs.declared.act.Action.{Action}
-use Rattle.pulsar_client.specs.declared.act.Action.TheVariants.{Get, Ask, StopAll, Rest}
+use Rattle.pulsar_client.specs.declared.act.Action.TheVariants.{Ask, Rest}
 use Rattle.pulsar_client.specs.declared.act.Makes.{Makes}
-use Rattle.pulsar_client.specs.declared.act.Makes.TheVariants.{Nothing, Client, Consumer}
-use Rattle.pulsar_client.specs.declared.act.Notice.{Notice}
+use Rattle.pulsar_client.specs.declared.act.Makes.TheVariants.{Consumer}
 use Rattle.pulsar_client.specs.declared.act.Outcome.{Outcome}
 use Rattle.pulsar_client.specs.declared.act.Part.{Part}
 use Rattle.pulsar_client.specs.declared.act.Part.TheVariants.{Calls, ToLink, Polls}
@@ -27,7 +26,7 @@ use Rattle.pulsar_client.specs.Content.{Asked, Heard}
 use Rattle.pulsar_client.specs.Laws.{started}
 use Rattle.pulsar_client.specs.Plan.{begins, told}
 use Rattle.pulsar_client.specs.Rules.{at_once, called, does, follows, follows_some, performs}
-use Rattle.pulsar_client.specs.Run.{Entry, Begins, Then, IsRun, agenda, first, rules, view}
+use Rattle.pulsar_client.specs.Run.{Entry, Begins, Then, IsRun, agenda, first, view}
 use Rattle.pulsar_client.specs.Subscriptions.{Subscription, ended_at}
 use Rattle.pulsar_client.specs.View.{Chosen, Tickets, View, closing, consumer_after, made, stand_after, stays_some, told_some}
 use Rattle.pulsar_client.specs.Who.{is_same}
@@ -49,9 +48,8 @@ apart (Call t) n k h = elim (cases_Bool (t == n)) [
 
 -- such a one starts, and makes a consumer
 abbrev MakesSo : Who → Makes → Type 0
-MakesSo who Nothing = Unit {0}
-MakesSo who Client = Unit {0}
 MakesSo who (Consumer link number topic) = Began who
+MakesSo who _ = Unit {0}
 
 abbrev IsDue : Act → Type 0
 IsDue (Starts who p) = Began who

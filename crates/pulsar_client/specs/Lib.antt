@@ -15,3 +15,4 @@ pub mod Tables
 pub mod Client
 pub mod Outside
 pub mod Laws
+pub mod Traces

@@ -3,6 +3,7 @@
 ghost use Rattle.pulsar_client.specs.Address.{KnownAddresses};
 ghost use Rattle.pulsar_client.specs.Client.{StoodForIsGood};
 ghost use Rattle.pulsar_client.specs.Laws.{AnswersOnce, BuiltIs, CallsAreMade, CausesInOrder, ClockIs, ConsumersHearToTheirEnd, DeadlinesAreTicked, Determined, EffectsArranged, EndsOnce, FailuresAreTold, LinksAlone, OutcomesAreCaused, PlansFollow, PollsAreAnswered, PollsFollow, SeriesIsNewest, ServedByTicket, StoppedIs, TicketsCount, WritesFollow};
+ghost use Rattle.pulsar_client.specs.Traces.{IsGood, attempt_fails, client_is_stopped, consumer_is_polled, deadline_comes, line_moves_up, reply_comes_early, request_is_answered};
 
 /// Options and events determine the effects of a good run.
 pub fn determined()
@@ -119,4 +120,15 @@ pub fn polls_are_answered()
 /// Some texts have known addresses.
 pub fn addresses_are_known()
     ensures { KnownAddresses }
+{}
+
+/// Seven small runs are good.
+pub fn small_runs_are_good()
+    ensures answered { IsGood 8 request_is_answered }
+    ensures early { IsGood 8 reply_comes_early }
+    ensures fails { IsGood 8 attempt_fails }
+    ensures polled { IsGood 8 consumer_is_polled }
+    ensures deadline { IsGood 8 deadline_comes }
+    ensures line { IsGood 1 line_moves_up }
+    ensures stopped { IsGood 8 client_is_stopped }
 {}

@@ -1,5 +1,5 @@
 -- A deadline comes to a link only in a tick at which the link was due.
-use Rattle.std.proofs.Common.{◌≡◌, ◌⊎◌, inl, inr, ◌∙◌, sym, ap, subst, ℕ, List, [], ◌∷◌, ◌++◌, refl, map, Bool, true, false, cond, Option, Some, None}
+use Rattle.std.proofs.Common.{◌≡◌, ◌⊎◌, inl, inr, ◌∙◌, ap, subst, ℕ, List, [], ◌∷◌, ◌++◌, refl, map, Bool, true, false, cond, Option, Some, None}
 use Rattle.std.specs.List.{flat_map}
 use Rattle.std.specs.Option.{option_to_list}
 use Rattle.pulsar_run.specs.Laws.{Arises, In, InOne, InThisStep}
@@ -7,7 +7,7 @@ use Rattle.pulsar_run.proofs.Arising.{acts_arise_lem}
 use Rattle.pulsar_session.specs.Failures.{Exhausted}
 use Rattle.pulsar_session.specs.Link.{due, is_spent}
 use Rattle.pulsar_client.specs.declared.act.Act.{Act}
-use Rattle.pulsar_client.specs.declared.act.Act.TheVariants.{Comes, Starts, Told, Does, Answers, Dials}
+use Rattle.pulsar_client.specs.declared.act.Act.TheVariants.{Comes, Starts, Told, Does, Answers}
 use Rattle.pulsar_client.specs.declared.act.Action.{Action}
 use Rattle.pulsar_client.specs.declared.act.Action.TheVariants.{Get, Ask, StopAll, Rest}
 use Rattle.pulsar_client.specs.declared.act.Arrival.{Arrival}
@@ -30,7 +30,7 @@ use Rattle.pulsar_client.specs.Content.{Asked, Heard, Ticked}
 use Rattle.pulsar_client.specs.Laws.{DeadlinesAreTicked, IsDueAt}
 use Rattle.pulsar_client.specs.Links.{numbers_from}
 use Rattle.pulsar_client.specs.Plan.{begins, fails}
-use Rattle.pulsar_client.specs.Rules.{at_once, breaks_at, brings, called, does, due_part, follows, follows_some, further, gets, on_link, over_links, parts, performs, procedure_for, reads_on, stop_act, stops}
+use Rattle.pulsar_client.specs.Rules.{at_once, breaks_at, brings, called, does, due_part, follows, follows_some, further, gets, on_link, over_links, parts, performs, procedure_for, reads_on, stop_act}
 use Rattle.pulsar_client.specs.Run.{Entry, Begins, Then, rules, view}
 use Rattle.pulsar_client.specs.View.{Chosen, Links, Seat, Tickets, View, arrival_at, is_live, told_some}
 use Rattle.pulsar_client.proofs.Acts.{Each, each_append, over_each}

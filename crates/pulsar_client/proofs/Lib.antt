@@ -16,3 +16,13 @@ pub mod Follow
 pub mod Once
 pub mod Failures
 pub mod Caused
+pub mod Newest
+pub mod Alone
+pub mod Writing
+pub mod OfLink
+pub mod Written
+pub mod Hearing
+pub mod Polls
+pub mod Deadlines
+pub mod Driving
+pub mod Traces

@@ -8,7 +8,7 @@ use Rattle.pulsar_client.specs.declared.act.Action.TheVariants.{Get}
 use Rattle.pulsar_client.specs.declared.act.LinkAct.TheVariants.{Reads, Ends}
 use Rattle.pulsar_client.specs.declared.act.Part.TheVariants.{ToLink}
 use Rattle.pulsar_client.specs.Content.{Ticked}
-use Rattle.pulsar_client.specs.Laws.{ClockIs, SeriesIsNewest, clock, turn_of}
+use Rattle.pulsar_client.specs.Laws.{ClockIs, SeriesIsNewest, turn_of}
 use Rattle.pulsar_client.specs.Links.{Change, Remains, Becomes, IsOver, change_at, change_in}
 use Rattle.pulsar_client.specs.Run.{Begins, Then, view}
 use Rattle.pulsar_client.specs.View.{Base, View, arrival_at, base_turned, begun, begun_live, closing}

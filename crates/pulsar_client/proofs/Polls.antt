@@ -29,7 +29,7 @@ use Rattle.pulsar_client.specs.Content.{Heard, Poll, Shown, Hands, Faults}
 use Rattle.pulsar_client.specs.Effects.{asked_at, effect_below, effect_rank, effects, given_at, is_before3}
 use Rattle.pulsar_client.specs.Laws.{EndsOnce, PollsAreAnswered, PollsFollow, brought, brought_by, given_by, items_come, items_given}
 use Rattle.pulsar_client.specs.Run.{Entry, Begins, Then, IsRun, Step, first_of, is_empty, rules, steps, view}
-use Rattle.pulsar_client.specs.Subscriptions.{Subscription, after_came, after_poll, closes_it, ended, ended_at, ended_on, hears, is_heard_on, is_last, polled, polled_from}
+use Rattle.pulsar_client.specs.Subscriptions.{Subscription, after_came, after_poll, closes_it, ended, ended_at, hears, is_heard_on, is_last, polled, polled_from}
 use Rattle.pulsar_client.specs.View.{Chosen, Seat, answer_at, arrival_at, closing, hears_ask, is_asked, made}
 use Rattle.pulsar_client.specs.Who.{is_same}
 use Rattle.pulsar_client.proofs.Acts.{Each, each_map}

@@ -4,7 +4,7 @@ use Rattle.std.proofs.lemmas.Bool.{cases_Bool, eqb-true, eq-eqb}
 use Rattle.std.proofs.lemmas.Bool.Decides.{nat_tests}
 use Rattle.std.proofs.lemmas.Grind.{common_steps, flat_map-append}
 use Rattle.std.proofs.lemmas.List.Elements.{filter-append}
-use Rattle.std.specs.List.{cons_option, filter, filter_map, flat_map}
+use Rattle.std.specs.List.{filter, flat_map}
 use Rattle.std.specs.Option.{option_map, option_to_list}
 use Rattle.pulsar_run.specs.Order.{InOrder, NoneBelow}
 use Rattle.pulsar_run.specs.Run.{in_order, steps_done, with_effects}
@@ -22,10 +22,9 @@ use Rattle.pulsar_client.specs.declared.act.LinkAct.{LinkAct}
 use Rattle.pulsar_client.specs.declared.act.LinkAct.TheVariants as link
 use Rattle.pulsar_client.specs.declared.act.Part.TheVariants.{ToLink, Polls}
 use Rattle.pulsar_client.specs.declared.act.Who.{Who}
-use Rattle.pulsar_client.specs.declared.effect.Settlement.{Settlement}
 use Rattle.pulsar_client.specs.declared.effect.Settlement.TheVariants as settlement
 use Rattle.pulsar_client.specs.Address.{Address}
-use Rattle.pulsar_client.specs.Content.{Heard, Bytes, Shown, Queued, Write, Settles}
+use Rattle.pulsar_client.specs.Content.{Heard, Bytes, Shown, Queued, Write}
 use Rattle.pulsar_client.specs.Effects.{asked_at, connects, effect_below, effects, given_at, is_before3}
 use Rattle.pulsar_link.specs.Items.{Item, Given, Faulty}
 use Rattle.pulsar_client.specs.Laws.{IsPrefix, WritesFollow, bytes_of, queued_on, written_on}

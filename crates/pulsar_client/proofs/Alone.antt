@@ -47,12 +47,7 @@ taken_over Handshaking (Whole m rest) v e = greeted_over (is 3 m) rest v e
 taken_over Ready (Whole m rest) v e =
     let u = record v { unread = rest } in
     (unless (places (settled_by m u)) m (record u { waits = answered_to m u.waits })).over
-taken_over Dialing f v e = refl
-taken_over Over f v e = refl
-taken_over Handshaking Short v e = refl
-taken_over Handshaking (Refused r) v e = refl
-taken_over Ready Short v e = refl
-taken_over Ready (Refused r) v e = refl
+taken_over _ _ v e = refl
 
 pub over_stays : (act : Act') (v : Seen) → is_close act ≡ false → is_over (session.after act v).stage ≡ is_over v.stage
 over_stays (Opens now) v c = (opening v.stage (ticked now v) refl).over

@@ -101,9 +101,9 @@ gets_other who (Some address) (Serves l) = (refl, tt)
 
 performs_other : (v : View) (who : Who) (action : Action) → Each IsOther (performs v who action)
 performs_other v who Get = gets_other who v.chosen.address v.base.series
-performs_other v who (Ask l request) = (refl, tt)
 performs_other v who StopAll = each_append IsOther (over_links stop_act v.links) _ (over_each IsOther stop_act v.links (λ l seat. (refl, tt))) (refl, tt)
 performs_other v who Rest = tt
+performs_other v who _ = (refl, tt)
 
 breaks_other : (l : ℕ) (a : Arrival) → Each IsOther (breaks_at l a)
 breaks_other l (Bad cause) = (refl, tt)

@@ -3,10 +3,10 @@ use Rattle.std.proofs.Common.{◌≡◌, ◌∙◌, sym, ap, subst, ℕ, List, [
 use Rattle.std.proofs.lemmas.Bool.{cases_Bool, eqb-true}
 use Rattle.std.specs.Option.{option_map, option_to_list}
 use Rattle.pulsar_messages.specs.Words.{Words, is_numbered}
-use Rattle.pulsar_frame.specs.Frame.{Front, Short, Refused, Whole, front}
+use Rattle.pulsar_frame.specs.Frame.{Front, Whole, front}
 use Rattle.pulsar_requests.specs.Waits.{places}
 use Rattle.pulsar_session.specs.declared.states.Stage.{Stage}
-use Rattle.pulsar_session.specs.declared.states.Stage.TheVariants.{Dialing, Handshaking, Ready, Over}
+use Rattle.pulsar_session.specs.declared.states.Stage.TheVariants.{Handshaking, Ready}
 use Rattle.pulsar_session.specs.Answers.{is}
 use Rattle.pulsar_session.specs.Failures.{Fault}
 use Rattle.pulsar_session.specs.Link as session

@@ -2,7 +2,7 @@
 
 use crate::stop::Stop;
 use crate::words::Words;
-use crate::{arrivals, builders, events, looks, requests, values};
+use crate::{builders, looks, values};
 use pulsar_session::Connection;
 use std::alloc::Global;
 
@@ -35,16 +35,12 @@ impl Bench {
         let Some((call, wanted)) = line.split_once(" = ") else {
             return Err(Stop::NoForm);
         };
-        let answer = self.answer_or_none(alloc, call)?;
-        self.count(rt, call, answer.as_str(), wanted)
-    }
-
-    fn count(&mut self, rt: &impl Print, call: &str, answer: &str, wanted: &str) -> Result<(), Stop> {
+        let answer = self.answer(alloc, call)?;
         self.calls = self.calls.saturating_add(1);
-        if answer != wanted {
+        if answer.as_str() != wanted {
             self.differ = self.differ.saturating_add(1);
-            let line = self.line;
-            println!(rt; "line {line}: {call} = {answer}")?;
+            let number = self.line;
+            println!(rt; "line {number}: {call} = {answer}")?;
         }
         Ok(())
     }
@@ -58,47 +54,26 @@ impl Bench {
     }
 
     /// The answer to a call, and `?` where there is no such call.
-    fn answer_or_none(&mut self, alloc: Global, call: &str) -> Result<String, Stop> {
-        match self.answer(alloc, call) {
-            Err(Stop::NoForm) => Ok(String::from_str(alloc, "?")?),
-            answer => answer,
-        }
-    }
-
     fn answer(&mut self, alloc: Global, call: &str) -> Result<String, Stop> {
         let mut words = Words::new(call);
         let answer = self.answer_words(alloc, &mut words)?;
-        words.end()?;
-        Ok(answer)
+        if words.are_right() {
+            return Ok(answer);
+        }
+        Ok(String::from_str(alloc, "?")?)
     }
 
     fn answer_words(&mut self, alloc: Global, words: &mut Words<'_>) -> Result<String, Stop> {
-        match words.word()? {
+        match words.word() {
             "new" => {
                 self.link = Some(values::connection(alloc, words)?);
                 Ok(String::from_str(alloc, "()")?)
             }
             "messages" => builders::answer(alloc, words),
-            "received" => arrivals::received(alloc, words),
-            call => self.answer_of_link(alloc, call, words),
-        }
-    }
-
-    fn answer_of_link(
-        &mut self,
-        alloc: Global,
-        call: &str,
-        words: &mut Words<'_>,
-    ) -> Result<String, Stop> {
-        let Some(link) = &mut self.link else {
-            return Err(Stop::NoForm);
-        };
-        if events::is_event(call) {
-            events::answer(alloc, link, call, words)
-        } else if looks::is_look(call) {
-            looks::answer(alloc, link, call, words)
-        } else {
-            requests::answer(alloc, link, call, words)
+            call => match &mut self.link {
+                Some(link) => looks::answer(alloc, link, call, words),
+                None => Err(Stop::NoForm),
+            },
         }
     }
 }

@@ -1,191 +1,137 @@
 //! The messages that a client writes.
 
-use crate::frames::made;
-use crate::lending::lend;
 use crate::stop::Stop;
-use crate::values::{credential, ids, message, mode, optional_credential, optional_id, sub_type};
+use crate::texts::frame;
+use crate::values::{credential, ids, message, message_id, mode, optional_credential, sub_type};
 use crate::words::Words;
-use pulsar_session::{ConsumerOptions, ProducerOptions, messages};
+use pulsar_frame::Message;
+use pulsar_session::{ConsumerOptions, ProducerOptions, Received, messages};
+use pulsar_wire::NoMemory;
 use std::alloc::Global;
 
-/// The frame of the message that a builder makes.
+/// The key and the frame of the message that a builder makes.
 pub fn answer(alloc: Global, words: &mut Words<'_>) -> Result<String, Stop> {
-    match words.word()? {
-        "connect" => connect(alloc, words),
-        "ping" => lend(messages::ping(), |m| made(alloc, m)),
-        "pong" => lend(messages::pong(), |m| made(alloc, m)),
-        "auth_challenge" => auth_challenge(alloc, words),
-        builder => of_topics(alloc, builder, words),
+    let received = keep(alloc, build(alloc, words))?;
+    let copy = received.copy(alloc)?;
+    let key = copy.key();
+    let bytes = frame(alloc, copy.message())?;
+    Ok(format!(in alloc; "{key:?} {bytes}")?)
+}
+
+fn keep(alloc: Global, made: Result<Message, NoMemory>) -> Result<Received, NoMemory> {
+    match made {
+        Ok(message) => Received::new(alloc, message),
+        Err(NoMemory) => Err(NoMemory),
     }
 }
 
-fn connect(alloc: Global, words: &mut Words<'_>) -> Result<String, Stop> {
-    let auth = words.optional()?;
-    let proxy = words.optional()?;
-    let auth = optional_credential(alloc, auth)?;
-    lend(messages::connect(alloc, auth, proxy), |m| made(alloc, m))
-}
-
-fn auth_challenge(alloc: Global, words: &mut Words<'_>) -> Result<String, Stop> {
-    let auth = credential(alloc, words.word()?)?;
-    lend(messages::auth_challenge(auth), |m| made(alloc, m))
-}
-
-fn of_topics(alloc: Global, builder: &str, words: &mut Words<'_>) -> Result<String, Stop> {
-    match builder {
-        "lookup_topic" => lookup_topic(alloc, words),
-        "lookup_partitioned_topic" => lookup_partitioned_topic(alloc, words),
-        "get_topics_of_namespace" => get_topics_of_namespace(alloc, words),
-        "get_schema" => get_schema(alloc, words),
-        _ => of_producers(alloc, builder, words),
+fn build(alloc: Global, words: &mut Words<'_>) -> Result<Message, NoMemory> {
+    match words.word() {
+        "ping" => messages::ping(),
+        "pong" => messages::pong(),
+        "auth_challenge" => messages::auth_challenge(credential(alloc, words.word())?),
+        "connect" => {
+            let auth = optional_credential(alloc, words.optional())?;
+            messages::connect(alloc, auth, words.optional())
+        }
+        builder => build_for_topic(alloc, builder, words),
     }
 }
 
-fn lookup_topic(alloc: Global, words: &mut Words<'_>) -> Result<String, Stop> {
-    let topic = words.word()?;
-    let authoritative = words.flag()?;
-    let number = words.number()?;
-    lend(
-        messages::lookup_topic(alloc, topic, authoritative, number),
-        |m| made(alloc, m),
-    )
-}
-
-fn lookup_partitioned_topic(alloc: Global, words: &mut Words<'_>) -> Result<String, Stop> {
-    let topic = words.word()?;
-    let number = words.number()?;
-    lend(
-        messages::lookup_partitioned_topic(alloc, topic, number),
-        |m| made(alloc, m),
-    )
-}
-
-fn get_topics_of_namespace(alloc: Global, words: &mut Words<'_>) -> Result<String, Stop> {
-    let number = words.number()?;
-    let namespace = words.word()?;
-    let mode = mode(words.word()?)?;
-    lend(
-        messages::get_topics_of_namespace(alloc, number, namespace, mode),
-        |m| made(alloc, m),
-    )
-}
-
-fn get_schema(alloc: Global, words: &mut Words<'_>) -> Result<String, Stop> {
-    let number = words.number()?;
-    let topic = words.word()?;
-    lend(messages::get_schema(alloc, number, topic, None), |m| {
-        made(alloc, m)
-    })
-}
-
-fn of_producers(alloc: Global, builder: &str, words: &mut Words<'_>) -> Result<String, Stop> {
+fn build_for_topic(
+    alloc: Global,
+    builder: &str,
+    words: &mut Words<'_>,
+) -> Result<Message, NoMemory> {
     match builder {
+        "lookup_topic" => {
+            messages::lookup_topic(alloc, words.word(), words.flag(), words.number())
+        }
+        "lookup_partitioned_topic" => {
+            messages::lookup_partitioned_topic(alloc, words.word(), words.number())
+        }
+        "get_topics_of_namespace" => {
+            messages::get_topics_of_namespace(alloc, words.number(), words.word(), mode(words))
+        }
+        "get_schema" => messages::get_schema(
+            alloc,
+            words.number(),
+            words.word(),
+            Some(words.word().as_bytes()),
+        ),
         "create_producer" => create_producer(alloc, words),
         "send" => send(alloc, words),
-        "close_producer" => lend(
-            messages::close_producer(words.number()?, words.number()?),
-            |m| made(alloc, m),
-        ),
-        _ => of_consumers(alloc, builder, words),
-    }
-}
-
-fn create_producer(alloc: Global, words: &mut Words<'_>) -> Result<String, Stop> {
-    let topic = words.word()?;
-    let name = words.optional()?;
-    let producer = words.number()?;
-    let number = words.number()?;
-    let options = ProducerOptions::new(alloc);
-    lend(
-        messages::create_producer(alloc, topic, name, producer, number, &options),
-        |m| made(alloc, m),
-    )
-}
-
-fn send(alloc: Global, words: &mut Words<'_>) -> Result<String, Stop> {
-    let producer = words.number()?;
-    let name = words.word()?;
-    let sequence = words.number()?;
-    let payload = words.bytes(alloc)?;
-    let time = words.number()?;
-    let message = message(alloc, payload);
-    lend(
-        messages::send(alloc, producer, name, sequence, message, time),
-        |m| made(alloc, m),
-    )
-}
-
-fn of_consumers(alloc: Global, builder: &str, words: &mut Words<'_>) -> Result<String, Stop> {
-    match builder {
         "subscribe" => subscribe(alloc, words),
-        "flow" => lend(messages::flow(words.number()?, words.small()?), |m| {
-            made(alloc, m)
-        }),
-        "ack" => ack(alloc, words),
-        "redeliver_unacknowleged_messages" => redeliver(alloc, words),
-        "seek" => seek(alloc, words),
-        _ => of_consumer(alloc, builder, words.number()?, words.number()?),
+        _ => build_for_member(alloc, builder, words),
     }
 }
 
-fn subscribe(alloc: Global, words: &mut Words<'_>) -> Result<String, Stop> {
-    let topic = words.word()?;
-    let subscription = words.word()?;
-    let kind = sub_type(words.word()?)?;
-    let consumer = words.number()?;
-    let number = words.number()?;
-    let name = words.optional()?;
+fn create_producer(alloc: Global, words: &mut Words<'_>) -> Result<Message, NoMemory> {
+    let (topic, name, producer) = (words.word(), words.optional(), words.number());
+    let options = ProducerOptions::new(alloc);
+    messages::create_producer(alloc, topic, name, producer, words.number(), &options)
+}
+
+fn send(alloc: Global, words: &mut Words<'_>) -> Result<Message, NoMemory> {
+    let (producer, name, sequence) = (words.number(), words.word(), words.number());
+    let message = message(alloc, words.word())?;
+    messages::send(alloc, producer, name, sequence, message, words.number())
+}
+
+fn subscribe(alloc: Global, words: &mut Words<'_>) -> Result<Message, NoMemory> {
+    let (topic, subscription, kind) = (words.word(), words.word(), sub_type(words));
+    let (consumer, number, name) = (words.number(), words.number(), words.optional());
     let options = ConsumerOptions::new(alloc);
-    lend(
-        messages::subscribe(
-            alloc,
-            topic,
-            subscription,
-            kind,
-            consumer,
-            number,
-            name,
-            &options,
-        ),
-        |m| made(alloc, m),
+    messages::subscribe(
+        alloc,
+        topic,
+        subscription,
+        kind,
+        consumer,
+        number,
+        name,
+        &options,
     )
 }
 
-fn ack(alloc: Global, words: &mut Words<'_>) -> Result<String, Stop> {
-    let consumer = words.number()?;
-    let id = words.word()?;
-    let cumulative = words.flag()?;
-    let ids = ids(alloc, id)?;
-    lend(messages::ack(consumer, ids, cumulative), |m| made(alloc, m))
-}
-
-fn redeliver(alloc: Global, words: &mut Words<'_>) -> Result<String, Stop> {
-    let consumer = words.number()?;
-    let ids = ids(alloc, words.word()?)?;
-    lend(
-        messages::redeliver_unacknowleged_messages(consumer, ids),
-        |m| made(alloc, m),
-    )
-}
-
-fn seek(alloc: Global, words: &mut Words<'_>) -> Result<String, Stop> {
-    let consumer = words.number()?;
-    let number = words.number()?;
-    let id = words.optional()?;
-    let time = words.optional_number()?;
-    let id = optional_id(alloc, id)?;
-    lend(messages::seek(consumer, number, id, time), |m| {
-        made(alloc, m)
-    })
-}
-
-/// The builders whose arguments are two numbers.
-fn of_consumer(alloc: Global, builder: &str, a: u64, b: u64) -> Result<String, Stop> {
+/// The builders whose first argument is a number, and most often a consumer's or a producer's.
+fn build_for_member(
+    alloc: Global,
+    builder: &str,
+    words: &mut Words<'_>,
+) -> Result<Message, NoMemory> {
+    let (first, second) = (words.number(), words.number());
     match builder {
-        "consumer_stats" => lend(messages::consumer_stats(a, b), |m| made(alloc, m)),
-        "get_last_message_id" => lend(messages::get_last_message_id(a, b), |m| made(alloc, m)),
-        "close_consumer" => lend(messages::close_consumer(a, b), |m| made(alloc, m)),
-        "unsubscribe" => lend(messages::unsubscribe(a, b), |m| made(alloc, m)),
-        _ => Err(Stop::NoForm),
+        "consumer_stats" => messages::consumer_stats(first, second),
+        "get_last_message_id" => messages::get_last_message_id(first, second),
+        "close_consumer" => messages::close_consumer(first, second),
+        "unsubscribe" => messages::unsubscribe(first, second),
+        "close_producer" => messages::close_producer(first, second),
+        "flow" => messages::flow(first, u32::try_from(second).unwrap_or(0)),
+        _ => build_for_messages(alloc, builder, first, second, words),
+    }
+}
+
+fn build_for_messages(
+    alloc: Global,
+    builder: &str,
+    consumer: u64,
+    second: u64,
+    words: &mut Words<'_>,
+) -> Result<Message, NoMemory> {
+    match builder {
+        "ack" => messages::ack(consumer, ids(alloc, second, words.number())?, words.flag()),
+        "redeliver_unacknowleged_messages" => messages::redeliver_unacknowleged_messages(
+            consumer,
+            ids(alloc, second, words.number())?,
+        ),
+        "seek" => {
+            let id = message_id(alloc, words.number(), words.number());
+            messages::seek(consumer, second, Some(id), Some(words.number()))
+        }
+        _ => {
+            words.refuse(());
+            messages::ping()
+        }
     }
 }

@@ -1,23 +1,15 @@
-//! What happens to a connection, and its close.
+//! What happens to a connection.
 
-use crate::arrivals::brief;
-use crate::frames::{digits, told, told_made};
-use crate::lending::lend;
+use crate::requests;
 use crate::stop::Stop;
+use crate::texts::{digits, frame, told};
 use crate::values::cause;
 use crate::words::Words;
-use pulsar_session::Connection;
+use pulsar_session::{Arrival, Connection};
+use pulsar_wire::NoMemory;
 use std::alloc::Global;
 
-/// The call is one of these.
-pub fn is_event(call: &str) -> bool {
-    matches!(
-        call,
-        "opened" | "feed" | "next" | "next_boxed" | "drain" | "close"
-    )
-}
-
-/// The answer to the call.
+/// The answer to a call that changes the connection.
 pub fn answer(
     alloc: Global,
     link: &mut Connection,
@@ -25,22 +17,38 @@ pub fn answer(
     words: &mut Words<'_>,
 ) -> Result<String, Stop> {
     match call {
-        "opened" => told_made(alloc, &link.opened(words.number()?)),
-        "feed" => feed(alloc, link, words),
-        "next" => lend(link.next(words.number()?), |came| told_made(alloc, came)),
-        "next_boxed" => lend(link.next_boxed(words.number()?), |came| brief(alloc, came)),
-        "drain" => drain(alloc, link, words),
-        "close" => told_made(alloc, &link.close(cause(words.word()?)?)),
-        _ => Err(Stop::NoForm),
+        "opened" => told(alloc, &link.opened(words.number())?),
+        "feed" => told(alloc, &link.feed(&hex::decode(alloc, words.word())?)?),
+        "next" => next(alloc, link, words.number()),
+        "next_boxed" => brief(alloc, &link.next_boxed(words.number())?),
+        "drain" => digits(alloc, &link.drain(words.number() as usize, words.number())?),
+        "close" => told(alloc, &link.close(cause(words))?),
+        _ => requests::answer(alloc, link, call, words),
     }
 }
 
-fn feed(alloc: Global, link: &mut Connection, words: &mut Words<'_>) -> Result<String, Stop> {
-    let piece = words.bytes(alloc)?;
-    told_made(alloc, &link.feed(&piece))
+fn next(alloc: Global, link: &mut Connection, now: u64) -> Result<String, Stop> {
+    match &link.next(now) {
+        Ok(came) => told(alloc, came),
+        Err(NoMemory) => Err(Stop::NoMemory),
+    }
 }
 
-fn drain(alloc: Global, link: &mut Connection, words: &mut Words<'_>) -> Result<String, Stop> {
-    let bytes = link.drain(words.size()?, words.number()?)?;
-    digits(alloc, &bytes)
+/// What arrives, with the frame of its message.
+fn brief(alloc: Global, came: &Option<Arrival>) -> Result<String, Stop> {
+    match came {
+        Some(Arrival::Ready) => Ok(String::from_str(alloc, "Ready")?),
+        Some(Arrival::Settled { places, reply }) => {
+            let bytes = frame(alloc, reply)?;
+            Ok(format!(in alloc; "Settled {places:?} {bytes}")?)
+        }
+        Some(Arrival::ForConsumer { consumer, reply }) => {
+            let bytes = frame(alloc, reply)?;
+            Ok(format!(in alloc; "ForConsumer {consumer} {bytes}")?)
+        }
+        Some(Arrival::Challenge) => Ok(String::from_str(alloc, "Challenge")?),
+        Some(Arrival::Dropped) => Ok(String::from_str(alloc, "Dropped")?),
+        Some(Arrival::Bad(cause)) => Ok(format!(in alloc; "Bad({cause:?})")?),
+        None => Ok(String::from_str(alloc, "None")?),
+    }
 }

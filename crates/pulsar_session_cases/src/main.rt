@@ -7,15 +7,13 @@
 //! nothing.
 #![tactic(auto)]
 
-mod arrivals;
 mod bench;
 mod builders;
 mod events;
-mod frames;
-mod lending;
 mod looks;
 mod requests;
 mod stop;
+mod texts;
 mod values;
 mod words;
 

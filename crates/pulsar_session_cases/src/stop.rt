@@ -5,7 +5,7 @@ use pulsar_wire::{ConnectionError, NoMemory};
 use std::alloc::AllocError;
 use std::io;
 
-#[derive(Clone, Copy, Debug, PartialEq, Eq)]
+#[derive(Clone, Copy)]
 pub enum Stop {
     /// The line is no call.
     NoForm,

@@ -1,37 +1,46 @@
 //! What words stand for.
 
-use crate::lending::boxed;
 use crate::stop::Stop;
-use crate::words::{Words, bytes_of};
+use crate::words::Words;
 use pulsar_session::{Authentication, Connection, ProducerMessage};
-use pulsar_wire::{ConnectionError, IoKind, MessageIdData, Mode, SubType, Wire};
+use pulsar_wire::{ConnectionError, IoKind, MessageIdData, Mode, NoMemory, SubType};
 use std::alloc::Global;
 use url::Url;
 use uuid::Uuid;
 
-/// A connection that is made with what the words say: the id, the address, the credential, the proxy's broker, the two
-/// timeouts, the outbound size, the first number and the moment.
+/// A connection that is made with what the words say: the id, the address, the credential, the broker behind the proxy, the
+/// two timeouts, the outbound size, the first number and the moment.
 pub fn connection(alloc: Global, words: &mut Words<'_>) -> Result<Box<Connection>, Stop> {
-    let id = uuid_of(words.word()?)?;
-    let url = words.word()?;
-    let auth = words.optional()?;
-    let proxy = words.optional()?;
-    let timeouts = (words.number()?, words.number()?);
-    let outbound = words.size()?;
-    let first = words.number()?;
-    let now = words.number()?;
-    let auth = optional_credential(alloc, auth)?;
-    let proxy = optional_text(alloc, proxy)?;
+    let id = id(words.word())?;
+    let url = words.word();
+    let auth = optional_credential(alloc, words.optional())?;
+    let proxy = optional_text(alloc, words.optional())?;
     let url = address(alloc, url)?;
     Ok(boxed(
         alloc,
         Connection::new(
-            alloc, id, url, auth, proxy, timeouts.0, timeouts.1, outbound, first, now,
+            alloc,
+            id,
+            url,
+            auth,
+            proxy,
+            words.number(),
+            words.number(),
+            words.number() as usize,
+            words.number(),
+            words.number(),
         ),
     )?)
 }
 
-fn uuid_of(word: &str) -> Result<Uuid, Stop> {
+fn boxed(alloc: Global, made: Result<Connection, NoMemory>) -> Result<Box<Connection>, NoMemory> {
+    match made {
+        Ok(link) => Ok(Box::new(alloc, link)?),
+        Err(NoMemory) => Err(NoMemory),
+    }
+}
+
+fn id(word: &str) -> Result<Uuid, Stop> {
     match Uuid::parse_str(word) {
         Ok(id) => Ok(id),
         Err(_) => Err(Stop::NoForm),
@@ -45,7 +54,7 @@ fn address(alloc: Global, word: &str) -> Result<Url, Stop> {
     }
 }
 
-fn optional_text(alloc: Global, word: Option<&str>) -> Result<Option<String>, Stop> {
+fn optional_text(alloc: Global, word: Option<&str>) -> Result<Option<String>, NoMemory> {
     match word {
         Some(word) => Ok(Some(String::from_str(alloc, word)?)),
         None => Ok(None),
@@ -56,81 +65,68 @@ fn optional_text(alloc: Global, word: Option<&str>) -> Result<Option<String>, St
 pub fn optional_credential(
     alloc: Global,
     word: Option<&str>,
-) -> Result<Option<Authentication>, Stop> {
+) -> Result<Option<Authentication>, NoMemory> {
     match word {
         Some(word) => Ok(Some(credential(alloc, word)?)),
         None => Ok(None),
     }
 }
 
-/// A credential: its name, a colon, and its text.
-pub fn credential(alloc: Global, word: &str) -> Result<Authentication, Stop> {
-    let Some((name, text)) = word.split_once(':') else {
-        return Err(Stop::NoForm);
-    };
+/// A credential: its name and its text, with a colon between.
+pub fn credential(alloc: Global, word: &str) -> Result<Authentication, NoMemory> {
+    let (name, text) = word.split_once(':').unwrap_or((word, ""));
     Ok(Authentication {
         name: String::from_str(alloc, name)?,
         auth_data: text.as_bytes().to_vec(alloc)?,
     })
 }
 
-pub fn mode(word: &str) -> Result<Mode, Stop> {
-    match word {
-        "Persistent" => Ok(Mode::Persistent),
-        "NonPersistent" => Ok(Mode::NonPersistent),
-        "All" => Ok(Mode::All),
-        _ => Err(Stop::NoForm),
+pub fn mode(words: &mut Words<'_>) -> Mode {
+    match words.word() {
+        "NonPersistent" => Mode::NonPersistent,
+        "All" => Mode::All,
+        _ => words.refuse(Mode::Persistent),
     }
 }
 
-pub fn sub_type(word: &str) -> Result<SubType, Stop> {
-    match word {
-        "Exclusive" => Ok(SubType::Exclusive),
-        "Shared" => Ok(SubType::Shared),
-        "Failover" => Ok(SubType::Failover),
-        "KeyShared" => Ok(SubType::KeyShared),
-        _ => Err(Stop::NoForm),
+pub fn sub_type(words: &mut Words<'_>) -> SubType {
+    match words.word() {
+        "Shared" => SubType::Shared,
+        _ => words.refuse(SubType::Exclusive),
     }
 }
 
 /// Why a connection is closed.
-pub fn cause(word: &str) -> Result<ConnectionError, Stop> {
-    match word {
-        "Io(TimedOut)" => Ok(ConnectionError::Io(IoKind::TimedOut)),
-        "Io(Other)" => Ok(ConnectionError::Io(IoKind::Other)),
-        "Disconnected" => Ok(ConnectionError::Disconnected),
-        _ => Err(Stop::NoForm),
+pub fn cause(words: &mut Words<'_>) -> ConnectionError {
+    match words.word() {
+        "Io(TimedOut)" => ConnectionError::Io(IoKind::TimedOut),
+        "Io(Other)" => ConnectionError::Io(IoKind::Other),
+        _ => {
+            words.refuse(());
+            ConnectionError::Disconnected
+        }
     }
 }
 
-/// The id whose bytes these are.
-pub fn id(alloc: Global, word: &str) -> Result<MessageIdData, Stop> {
-    Ok(<MessageIdData as Wire>::decode(
-        alloc,
-        &bytes_of(alloc, word)?,
-    )?)
+/// The id of this ledger and this entry.
+pub fn message_id(alloc: Global, ledger: u64, entry: u64) -> MessageIdData {
+    let mut id = MessageIdData::new(alloc);
+    id.ledger_id = ledger;
+    id.entry_id = entry;
+    id
 }
 
-/// An id, or that there is none.
-pub fn optional_id(alloc: Global, word: Option<&str>) -> Result<Option<MessageIdData>, Stop> {
-    match word {
-        Some(word) => Ok(Some(id(alloc, word)?)),
-        None => Ok(None),
-    }
+/// This id alone.
+pub fn ids(alloc: Global, ledger: u64, entry: u64) -> Result<Vec<MessageIdData>, NoMemory> {
+    let mut ids = Vec::new(alloc);
+    ids.push(message_id(alloc, ledger, entry))?;
+    Ok(ids)
 }
 
-/// The one id whose bytes these are.
-pub fn ids(alloc: Global, word: &str) -> Result<Vec<MessageIdData>, Stop> {
-    let mut list = Vec::new(alloc);
-    match list.push(id(alloc, word)?) {
-        Ok(()) => Ok(list),
-        Err(_) => Err(Stop::NoMemory),
-    }
-}
-
-/// A message with this payload.
-pub fn message(alloc: Global, payload: Vec<u8>) -> ProducerMessage {
+/// A message whose payload is this text.
+pub fn message(alloc: Global, payload: &str) -> Result<ProducerMessage, NoMemory> {
+    let payload = payload.as_bytes().to_vec(alloc)?;
     let mut message = ProducerMessage::new(alloc);
     message.payload = payload;
-    message
+    Ok(message)
 }

@@ -12,18 +12,22 @@ use Rattle.std.specs.List.Sorted.{IsStrictlySortedBy}
 use Rattle.std.specs.Map.{keys_of, lookup}
 use Rattle.std.specs.Option.{is_none, is_some, option_map, option_to_list}
 use Rattle.std.specs.Ordering.{nat_cmp}
+use Rattle.pulsar_requests.proofs.Awaiting.{is_at-eqb}
 use Rattle.pulsar_requests.specs.Soonest.{has_come}
+use Rattle.pulsar_session.specs.Failures.{Fault}
 use Rattle.pulsar_client.specs.declared.act.Act.{Act}
 use Rattle.pulsar_client.specs.declared.act.Act.TheVariants.{Comes}
+use Rattle.pulsar_client.specs.declared.act.End.{End}
 use Rattle.pulsar_client.specs.declared.act.End.TheVariants.{Stops}
 use Rattle.pulsar_client.specs.declared.act.LinkAct.TheVariants.{Ends}
-use Rattle.pulsar_client.specs.declared.act.Part.{Part}
+use Rattle.pulsar_client.specs.declared.act.Notice.{Notice}
 use Rattle.pulsar_client.specs.declared.act.Part.TheVariants.{ToLink}
 use Rattle.pulsar_client.specs.declared.row.Row.{Row}
 use Rattle.pulsar_client.specs.Due.{moment_at}
 use Rattle.pulsar_client.specs.Kept.{AreStarted, AreTimed, is_due, links_in, live_in, seat_of}
-use Rattle.pulsar_client.specs.Rules.{due_part, on_link, over_links, stop_act}
-use Rattle.pulsar_client.specs.View.{Seat}
+use Rattle.pulsar_client.specs.Links.{closed_by}
+use Rattle.pulsar_client.specs.Rules.{due_part, ended_by, ended_on, ended_places, on_link, over_links, stop_act}
+use Rattle.pulsar_client.specs.View.{Seat, closing}
 use Rattle.pulsar_client.proofs.Places.{by_keys}
 
 is_this : (l link : ℕ) → (l == link) ≡ true → l ≡ link
@@ -136,3 +140,47 @@ stays_at l link f live same = elim (cases_Bool (l == link)) [
   | inl e ↦ rw e (sym (subst (λ k. f (live k) ≡ live k) (sym (is_this l link e)) same))
   | inr e ↦ rw e refl
 ]
+
+-- ONE IS PUT THERE, OR TAKEN AWAY
+
+at_link : (l link : ℕ) (b : Bool) → (l == link) ≡ b → is_at (nat_cmp link) l ≡ b
+at_link l link b h = is_at-eqb link l ∙ swapped l link b h
+  where
+    swapped : (a c : ℕ) (t : Bool) → (a == c) ≡ t → (c == a) ≡ t
+    swapped a c true e = grind (arith, nat_tests)
+    swapped a c false e = grind (arith, nat_tests)
+
+seats_by : (l link : ℕ) (b : Bool) (w old new : Option Row) → (l == link) ≡ b → new ≡ cond (is_at (nat_cmp link) l) w old →
+    option_map seat_of new ≡ cond (l == link) (option_map seat_of w) (option_map seat_of old)
+seats_by l link true w old new h is =
+    ap (option_map seat_of) (is ∙ ap (λ t. cond t w old) (at_link l link true h)) ∙ sym (ap (λ t. cond t (option_map seat_of w) (option_map seat_of old)) h)
+seats_by l link false w old new h is =
+    ap (option_map seat_of) (is ∙ ap (λ t. cond t w old) (at_link l link false h)) ∙ sym (ap (λ t. cond t (option_map seat_of w) (option_map seat_of old)) h)
+
+pub seats : (l link : ℕ) (w old new : Option Row) → new ≡ cond (is_at (nat_cmp link) l) w old →
+    option_map seat_of new ≡ cond (l == link) (option_map seat_of w) (option_map seat_of old)
+seats l link w old new is = seats_by l link (l == link) w old new refl is
+
+-- the seat of one link is changed
+pub changed : (l link : ℕ) (f : Option Seat → Option Seat) (before : ℕ → Option Seat) (w : Option Seat) (now : Option Seat) →
+    now ≡ cond (l == link) w (before l) → w ≡ f (before link) → now ≡ cond (l == link) (f (before l)) (before l)
+changed l link f before w now is same = elim (cases_Bool (l == link)) [
+  | inl e ↦ (is ∙ ap (λ t. cond t w (before l)) e ∙ same ∙ ap (λ k. f (before k)) (sym (is_this l link e)) ∙ sym (ap (λ t. cond t (f (before l)) (before l)) e))
+  | inr e ↦ (is ∙ ap (λ t. cond t w (before l)) e ∙ sym (ap (λ t. cond t (f (before l)) (before l)) e))
+]
+
+-- what an end gives
+module _ (end : End) (now : ℕ) (row : Row) (there : Option Row) (notices : List Notice) (found : Some row ≡ there)
+    (are : notices ≡ ended_places end now row.connection (get nat_cmp row.askers)) where
+  ends_by : (o : Option Fault) → closed_by end now row.connection ≡ o → is_some o ≡ true →
+      (x : Fault) × (closing end now (option_map seat_of there) ≡ Some x) × (notices ≡ ended_on end now (option_map seat_of there))
+  ends_by None e h = absurd (false≢true h)
+  ends_by (Some x) e h = (
+    x,
+    ap (λ r. closing end now (option_map seat_of r)) (sym found) ∙ e,
+    are ∙ sym (ap (λ o. ended_by end now o (seat_of row)) e) ∙ ap (λ r. ended_on end now (option_map seat_of r)) found,
+  )
+
+  pub ends_so : is_some (closed_by end now row.connection) ≡ true →
+      (x : Fault) × (closing end now (option_map seat_of there) ≡ Some x) × (notices ≡ ended_on end now (option_map seat_of there))
+  ends_so h = ends_by (closed_by end now row.connection) refl h

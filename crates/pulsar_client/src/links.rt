@@ -222,7 +222,7 @@ impl Links {
             return Ok(None);
         }
         self.failed = true;
-        self.live.remove(&link);
+        drop(self.live.remove(&link));
         keep(&self.live, &mut self.due, link)?;
         self.failed = false;
         Ok(ended)
@@ -267,7 +267,7 @@ fn put(
     let Some(connection) = connection else {
         return Ok(());
     };
-    live.insert(link, Row::new(alloc, connection))?;
+    drop(live.insert(link, Row::new(alloc, connection))?);
     Ok(())
 }
 

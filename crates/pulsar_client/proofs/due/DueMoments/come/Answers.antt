@@ -27,8 +27,8 @@ returns c = λ k.
     let now = c.args.now in
     let gives = λ (e : ℕ × BTreeSet ℕ). contains nat_cmp e.1 k in
     let whole =
-        iter_end deref_pair (filter (λ e. not (is_lt (nat_cmp now e.0))) i.links.entries) c.loop-links.yielded _ _ _ _
-        (c.into_iter-links-iterator.ensures.into_iter_gives ∙ c.range-links-items.ensures.between tt) c.loop-links.yielded_by c.in-None.is c.next.ensures.steps
+    iter_end deref_pair (filter (λ e. not (is_lt (nat_cmp now e.0))) i.links.entries) c.loop-links.yielded _ _ _ _
+    (c.into_iter-links-iterator.ensures.into_iter_gives ∙ c.range-links-items.ensures.between tt) c.loop-links.yielded_by c.in-None.is c.next.ensures.steps
     in
     c.loop-links.invariant k
     ∙ sym (any_map deref_pair gives c.loop-links.yielded)

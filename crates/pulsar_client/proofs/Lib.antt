@@ -3,6 +3,8 @@ pub mod Places
 pub mod Moments
 pub mod Timing
 pub mod Deliveries
+pub mod Listening
+pub mod Waiting
 pub mod Steps
 pub mod Sorting
 pub mod Acts

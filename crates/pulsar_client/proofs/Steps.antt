@@ -2,6 +2,8 @@
 use Rattle.std.proofs.Common.{◌≡◌, ℕ, ◌∙◌, sym, ap, List, [], ◌∷◌, ◌++◌, refl, arith, length, None, reverse, Bool, true, false, cond, map}
 use Rattle.std.proofs.lemmas.List.{reverse-append}
 use Rattle.std.specs.Global.{Vec}
+use Rattle.pulsar_run.proofs.Steps.{good}
+use Rattle.pulsar_run.proofs.Unique.{one_log}
 use Rattle.pulsar_run.specs.Run.{Begins, in_order, only}
 use Rattle.pulsar_client.specs.declared.act.Part.{Part}
 use Rattle.pulsar_client.specs.declared.effect.Effect.{Effect}
@@ -12,7 +14,7 @@ use Rattle.pulsar_client.specs.Client.{IsDead}
 use Rattle.pulsar_client.specs.Content.{Heard, heard, shown}
 use Rattle.pulsar_client.specs.Effects.{effect_below}
 use Rattle.pulsar_client.specs.Rules.{brings}
-use Rattle.pulsar_client.specs.Run.{Step, first, steps, view}
+use Rattle.pulsar_client.specs.Run.{Good, Step, first, rules, steps, view}
 use Rattle.pulsar_client.specs.Tables.{Stands, answered, step, view_of}
 use Rattle.pulsar_client.specs.View.{Chosen, View, begun_live, is_live}
 
@@ -48,3 +50,7 @@ pub not_live : (c : Pulsar) (e : Heard) → IsDead c e → is_live (view_of c.ta
 not_live c e d =
     let s = d.2.stands in
     ap (λ v. is_live v e) s.sees ∙ d.3 (record { log = s.log; run = s.run; rests = s.rests; same = s.same })
+
+-- what is seen of the tables of a client is what is seen after the run of each history that it stands for
+pub seen_of : (c : Tables) {o : Chosen} {h : List Step} → Stands o c h → (g : Good o h) → view_of c ≡ view o g.log
+seen_of c {o} {h} s g = s.sees ∙ ap (view o) (one_log rules o h h (good s) g refl)

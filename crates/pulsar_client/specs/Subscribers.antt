@@ -1,5 +1,5 @@
 -- For the code's contracts alone: the consumers, as the code keeps them. Those that hear are listed by link and number.
-use Rattle.std.specs.Prelude.{ℕ, Bool, true, false, List, [], ◌++◌, map, Option, Some, None, ◌==◌, ◌&&◌, if◌then◌else◌}
+use Rattle.std.specs.Prelude.{◌≡◌, ℕ, Bool, true, false, List, [], ◌++◌, map, Option, Some, None, ◌==◌, ◌&&◌, if◌then◌else◌}
 use Rattle.std.specs.BTreeMap.{BTreeMap, get}
 use Rattle.std.specs.BTreeSet.{BTreeSet}
 use Rattle.std.specs.List.{list_any}
@@ -49,3 +49,15 @@ with_items link number items s =
 -- the same for those of these tickets
 abbrev pub given_at : List ℕ → (link number : ℕ) → List Item → ℕ → Option Subscription → Option Subscription
 given_at tickets link number items t row = if is_listed t tickets then option_map (with_items link number items) row else row
+
+-- a consumer is of this number on the link
+abbrev pub is_of : (link number : ℕ) → Option Subscription → Bool
+is_of link number None = false
+is_of link number (Some s) = (s.link == link) && (s.number == number)
+
+-- one of those that are listed so is a consumer of its number on the link
+abbrev pub HasOne : (link : ℕ) → BTreeMap ℕ Subscriber → Option (BTreeMap ℕ (BTreeSet ℕ)) → Type 0
+HasOne link rows numbers = (n : ℕ) × (t : ℕ) × (is_listed t (tickets_under n numbers) ≡ true) × (is_of link n (kept_at rows t) ≡ true)
+
+abbrev pub HasOneOf : (link number : ℕ) → BTreeMap ℕ Subscriber → List ℕ → Type 0
+HasOneOf link number rows tickets = (t : ℕ) × (is_listed t tickets ≡ true) × (is_of link number (kept_at rows t) ≡ true)

@@ -140,6 +140,14 @@ module _ (items : List Item) (s : Subscription) where
   frame_by true true true false last h = let no : false ≡ true = h refl refl in absurd cc
   frame_by true true false true last h = let no : true ≡ false = h refl refl in absurd cc
 
+none_given : (b : Bool) → cond {A = Option Subscription} b None None ≡ None
+none_given true = refl
+none_given false = refl
+
+some_given : (b : Bool) (x y : Subscription) → cond b (Some x) (Some y) ≡ Some (cond b x y)
+some_given true x y = refl
+some_given false x y = refl
+
 module _ (t link number : ℕ) (reply : Reply) (live live' : Live) (last : Bool) (is : is_last reply ≡ last)
     (left : (k m : ℕ) → live_at live' k m ≡ cond (last && ((k == link) && (m == number))) [] (live_at live k m)) where
   none_listed : (b : Bool) (ks : List ℕ) → is_listed t (cond b [] ks) ≡ cond b false (is_listed t ks)
@@ -169,14 +177,6 @@ module _ (t link number : ℕ) (reply : Reply) (live live' : Live) (last : Bool)
       ∙ frame_by reply.items s here mine listed there last same
       ∙ ap (λ b. cond (here && listed) (cond b (lit (not last) (more reply.items s)) (lit listed s)) (lit listed s)) (sym (swapped s.number number mine refl))
       ∙ ap (λ b. cond (here && listed) (cond (number == s.number) (lit (not b) (more reply.items s)) (lit listed s)) (lit listed s)) (sym is)
-
-  none_given : (b : Bool) → cond b (None {A = Subscription}) None ≡ None
-  none_given true = refl
-  none_given false = refl
-
-  some_given : (b : Bool) (x y : Subscription) → cond b (Some x) (Some y) ≡ Some (cond b x y)
-  some_given true x y = refl
-  some_given false x y = refl
 
   pub heard_frame : (old new : Option Subscription) → new ≡ given_at (live_at live link number) link number reply.items t old →
       option_map (seen_in live' t) new ≡ option_map (hears link (Gives number reply)) (option_map (seen_in live t) old)

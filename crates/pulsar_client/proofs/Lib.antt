@@ -5,6 +5,7 @@ pub mod Timing
 pub mod Deliveries
 pub mod Listening
 pub mod Waiting
+pub mod Saying
 pub mod Steps
 pub mod Sorting
 pub mod Acts

@@ -1,5 +1,5 @@
 -- For the code's contracts alone: the consumers, as the code keeps them. Those that hear are listed by link and number.
-use Rattle.std.specs.Prelude.{◌≡◌, ℕ, Bool, true, false, List, [], ◌++◌, map, Option, Some, None, ◌==◌, ◌&&◌, if◌then◌else◌}
+use Rattle.std.specs.Prelude.{ℕ, Bool, true, false, List, [], ◌++◌, map, Option, Some, None, ◌==◌, ◌&&◌, if◌then◌else◌}
 use Rattle.std.specs.BTreeMap.{BTreeMap, get}
 use Rattle.std.specs.BTreeSet.{BTreeSet}
 use Rattle.std.specs.List.{list_any}
@@ -55,9 +55,10 @@ abbrev pub is_of : (link number : ℕ) → Option Subscription → Bool
 is_of link number None = false
 is_of link number (Some s) = (s.link == link) && (s.number == number)
 
--- one of those that are listed so is a consumer of its number on the link
-abbrev pub HasOne : (link : ℕ) → BTreeMap ℕ Subscriber → Option (BTreeMap ℕ (BTreeSet ℕ)) → Type 0
-HasOne link rows numbers = (n : ℕ) × (t : ℕ) × (is_listed t (tickets_under n numbers) ≡ true) × (is_of link n (kept_at rows t) ≡ true)
+-- one of these is a consumer of this number on the link
+abbrev pub has_one_of : (link number : ℕ) → BTreeMap ℕ Subscriber → List ℕ → Bool
+has_one_of link number rows tickets = list_any (λ t. is_of link number (kept_at rows t)) tickets
 
-abbrev pub HasOneOf : (link number : ℕ) → BTreeMap ℕ Subscriber → List ℕ → Type 0
-HasOneOf link number rows tickets = (t : ℕ) × (is_listed t tickets ≡ true) × (is_of link number (kept_at rows t) ≡ true)
+-- one of those that are listed by number is a consumer of its number on the link
+abbrev pub has_one : (link : ℕ) → BTreeMap ℕ Subscriber → List (ℕ × BTreeSet ℕ) → Bool
+has_one link rows numbers = list_any (λ e. has_one_of link e.0 rows e.1.keys) numbers

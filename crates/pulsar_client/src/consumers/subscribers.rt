@@ -1,11 +1,13 @@
 //! The raw consumers of a client.
 
 ghost use Rattle.std.specs.Prelude.{◌≡◌, ◌==◌, ◌&&◌, [], ℕ, List, None, Some, IfOk, OnOk, IsTrue, ◌↔◌, if◌then◌else◌};
+ghost use Rattle.std.specs.BTreeMap.{get};
 ghost use Rattle.std.specs.BTreeSet.{insert_key};
+ghost use Rattle.std.specs.List.{All};
 ghost use Rattle.std.specs.Option.{is_some, option_copied, option_map};
 ghost use Rattle.std.specs.Ordering.{nat_cmp};
 ghost use Rattle.pulsar_client.specs.Content.{shown};
-ghost use Rattle.pulsar_client.specs.Subscribers.{HasOne, HasOneOf, fresh_in, given_at, is_listed, is_of, kept_at, live_at, subscription_at, tickets_of, with_items};
+ghost use Rattle.pulsar_client.specs.Subscribers.{fresh_in, given_at, has_one, has_one_of, is_listed, is_of, kept_at, live_at, subscription_at, tickets_of, with_items};
 ghost use Rattle.pulsar_client.specs.Subscriptions.{IsHeard, after_poll, closed_at, ended_on, hears, is_last, polled};
 
 use crate::act::Arrival;
@@ -188,7 +190,8 @@ fn one_hears(
     numbers: &BTreeMap<u64, BTreeSet<u64>>,
     link: u64,
 ) -> bool
-    ensures { IsTrue result ↔ HasOne link rows.now (Some numbers.now) }
+    ensures one { result ≡ has_one link rows.now numbers.now.entries }
+    ensures found { All (λ e. get nat_cmp numbers.now e.0 ≡ Some e.1) numbers.now.entries }
 {
     numbers.iter().any(|(number, tickets)| one_is(rows, tickets, link, *number))
 }
@@ -200,7 +203,7 @@ fn one_is(
     link: u64,
     number: u64,
 ) -> bool
-    ensures { IsTrue result ↔ HasOneOf link number rows.now tickets.now.keys }
+    ensures { result ≡ has_one_of link number rows.now tickets.now.keys }
 {
     tickets.iter().any(|ticket| is_of(rows, *ticket, link, number))
 }

@@ -1,0 +1,1 @@
+use Rattle.pulsar_client.proofs.pulsar.Pulsar.link_waits.Goals as goal

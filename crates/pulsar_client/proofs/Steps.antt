@@ -2,7 +2,6 @@
 use Rattle.std.proofs.Common.{◌≡◌, ℕ, ◌∙◌, sym, ap, List, [], ◌∷◌, ◌++◌, refl, arith, length, None, reverse, Bool, true, false, cond, map}
 use Rattle.std.proofs.lemmas.List.{reverse-append}
 use Rattle.std.specs.Global.{Vec}
-use Rattle.pulsar_run.proofs.Steps.{good}
 use Rattle.pulsar_run.proofs.Unique.{one_log}
 use Rattle.pulsar_run.specs.Run.{Begins, in_order, only}
 use Rattle.pulsar_client.specs.declared.act.Part.{Part}
@@ -53,4 +52,4 @@ not_live c e d =
 
 -- what is seen of the tables of a client is what is seen after the run of each history that it stands for
 pub seen_of : (c : Tables) {o : Chosen} {h : List Step} → Stands o c h → (g : Good o h) → view_of c ≡ view o g.log
-seen_of c {o} {h} s g = s.sees ∙ ap (view o) (one_log rules o h h (good s) g refl)
+seen_of c {o} {h} s g = s.sees ∙ ap (view o) (one_log rules o h h (record { log = s.log; run = s.run; rests = s.rests; same = s.same }) g refl)

@@ -107,7 +107,9 @@ impl Pulsar {
             Some(Stage::Ready) => {
                 self.tables.links.is_busy(link) || self.tables.subscribers.hears_on(link)
             }
-            Some(Stage::Dialing | Stage::Over) | None => false,
+            Some(Stage::Dialing) => false,
+            Some(Stage::Over) => false,
+            None => false,
         }
     }
 

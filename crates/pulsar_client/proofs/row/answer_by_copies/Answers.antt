@@ -1,4 +1,4 @@
-use Rattle.std.proofs.Common.{◌≡◌, ◌∙◌, ap, sym, ◌++◌, take, get_or, arith}
+use Rattle.std.proofs.Common.{◌∙◌, ap, sym, ◌++◌, take, get_or}
 use Rattle.std.proofs.lemmas.List.{take_more}
 use Rattle.std.specs.BTreeMap.{get}
 use Rattle.std.specs.List.{filter_map}

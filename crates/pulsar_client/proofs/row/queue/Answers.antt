@@ -1,4 +1,4 @@
-use Rattle.std.proofs.Common.{◌≡◌, ◌∙◌, ◌-◌, ap, sym, ◌++◌, map, append_assoc, arith}
+use Rattle.std.proofs.Common.{◌∙◌, ◌-◌, ap, sym, ◌++◌, map, append_assoc, arith}
 use Rattle.std.specs.List.{filter_map}
 use Rattle.std.specs.Option.{option_to_list}
 use Rattle.pulsar_client.specs.Content.{shown}

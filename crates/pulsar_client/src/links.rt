@@ -326,7 +326,8 @@ fn drain_at(
 ) -> Result<Vec<Notice>, NoMemory>
     ensures out { OnOk result (map shown out.new.items ≡ map shown out.old.items ++ given_at link (LinkAct.Drains most) now (live_in live.old link)) }
     ensures notices { IfOk result (λ ns. ns.items ≡ moved_on most now (live_in live.old link)) }
-    ensures live { OnOk result ((l : ℕ) → live_in live.new l ≡ (if l == link then took_some (LinkAct.Drains most) now (live_in live.old l) else live_in live.old l)) }
+    ensures live { OnOk result ((l : ℕ)
+        → live_in live.new l ≡ (if l == link then took_some (LinkAct.Drains most) now (live_in live.old l) else live_in live.old l)) }
 {
     let Some(row) = live.get_mut(&link) else {
         return Ok(Vec::new(alloc));
@@ -370,7 +371,8 @@ fn ask_at(
     ensures out { OnOk result (map shown out.new.items ≡ map shown out.old.items ++ asked_at link now request (live_in live.old link)) }
     ensures asked { IfOk result (λ r. r.0 ≡ is_asked (answer_at now request (live_in live.old link))) }
     ensures told { IfOk result (λ r. r.1 ≡ told_at (answer_at now request (live_in live.old link))) }
-    ensures live { OnOk result ((l : ℕ) → live_in live.new l ≡ (if l == link then option_map (seat_asked who now request) (live_in live.old l) else live_in live.old l)) }
+    ensures live { OnOk result ((l : ℕ)
+        → live_in live.new l ≡ (if l == link then option_map (seat_asked who now request) (live_in live.old l) else live_in live.old l)) }
 {
     let Some(row) = live.get_mut(&link) else {
         let cause = Cause::new(alloc, ConnectionError::Disconnected)?;

@@ -5,6 +5,7 @@ use crate::stop::Stop;
 use crate::texts::{digits, frame, told};
 use crate::values::cause;
 use crate::words::Words;
+use pulsar_frame::Message;
 use pulsar_session::{Arrival, Connection};
 use pulsar_wire::NoMemory;
 use std::alloc::Global;
@@ -18,13 +19,18 @@ pub fn answer(
 ) -> Result<String, Stop> {
     match call {
         "opened" => told(alloc, &link.opened(words.number())?),
-        "feed" => told(alloc, &link.feed(&hex::decode(alloc, words.word())?)?),
+        "feed" => feed(alloc, link, words.word()),
         "next" => next(alloc, link, words.number()),
         "next_boxed" => brief(alloc, &link.next_boxed(words.number())?),
         "drain" => digits(alloc, &link.drain(words.number() as usize, words.number())?),
         "close" => told(alloc, &link.close(cause(words))?),
         _ => requests::answer(alloc, link, call, words),
     }
+}
+
+fn feed(alloc: Global, link: &mut Connection, digits: &str) -> Result<String, Stop> {
+    let piece = hex::decode(alloc, digits)?;
+    told(alloc, &link.feed(&piece)?)
 }
 
 fn next(alloc: Global, link: &mut Connection, now: u64) -> Result<String, Stop> {
@@ -38,17 +44,21 @@ fn next(alloc: Global, link: &mut Connection, now: u64) -> Result<String, Stop> 
 fn brief(alloc: Global, came: &Option<Arrival>) -> Result<String, Stop> {
     match came {
         Some(Arrival::Ready) => Ok(String::from_str(alloc, "Ready")?),
-        Some(Arrival::Settled { places, reply }) => {
-            let bytes = frame(alloc, reply)?;
-            Ok(format!(in alloc; "Settled {places:?} {bytes}")?)
-        }
-        Some(Arrival::ForConsumer { consumer, reply }) => {
-            let bytes = frame(alloc, reply)?;
-            Ok(format!(in alloc; "ForConsumer {consumer} {bytes}")?)
-        }
+        Some(Arrival::Settled { places, reply }) => settled(alloc, places, reply),
+        Some(Arrival::ForConsumer { consumer, reply }) => for_consumer(alloc, *consumer, reply),
         Some(Arrival::Challenge) => Ok(String::from_str(alloc, "Challenge")?),
         Some(Arrival::Dropped) => Ok(String::from_str(alloc, "Dropped")?),
         Some(Arrival::Bad(cause)) => Ok(format!(in alloc; "Bad({cause:?})")?),
         None => Ok(String::from_str(alloc, "None")?),
     }
+}
+
+fn settled(alloc: Global, places: &Vec<u64>, reply: &Message) -> Result<String, Stop> {
+    let bytes = frame(alloc, reply)?;
+    Ok(format!(in alloc; "Settled {places:?} {bytes}")?)
+}
+
+fn for_consumer(alloc: Global, consumer: u64, reply: &Message) -> Result<String, Stop> {
+    let bytes = frame(alloc, reply)?;
+    Ok(format!(in alloc; "ForConsumer {consumer} {bytes}")?)
 }

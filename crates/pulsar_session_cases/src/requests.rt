@@ -17,14 +17,27 @@ pub fn answer(
 ) -> Result<String, Stop> {
     let now = words.number();
     let asked = ask(alloc, link.sender(), call, now, words);
-    let text = told(alloc, &asked)?;
-    if let Ok(Asked::Queued(place)) = asked
-        && let Some(frame) = link.frame(place)
-    {
-        let bytes = digits(alloc, frame)?;
-        return Ok(format!(in alloc; "{text} {bytes}")?);
+    tell(alloc, link, &asked)
+}
+
+fn tell(
+    alloc: Global,
+    link: &Connection,
+    asked: &Result<Asked, ConnectionError>,
+) -> Result<String, Stop> {
+    match asked {
+        Ok(Asked::Queued(place)) => tell_queued(alloc, asked, link.frame(*place)),
+        Ok(Asked::Waiting(_)) | Err(_) => told(alloc, asked),
     }
-    Ok(text)
+}
+
+fn tell_queued(
+    alloc: Global,
+    asked: &Result<Asked, ConnectionError>,
+    frame: Option<&[u8]>,
+) -> Result<String, Stop> {
+    let bytes = digits(alloc, frame.unwrap_or(&[]))?;
+    Ok(format!(in alloc; "{asked:?} {bytes}")?)
 }
 
 fn ask(

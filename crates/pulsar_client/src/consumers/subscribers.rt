@@ -193,19 +193,18 @@ fn one_hears(
     ensures one { result ≡ has_one link rows.now numbers.now.entries }
     ensures found { All (λ e. get nat_cmp numbers.now e.0 ≡ Some e.1) numbers.now.entries }
 {
-    numbers.iter().any(|(number, tickets)| one_is(rows, tickets, link, *number))
+    numbers
+        .iter()
+        .any(|(number, tickets)| one_is(rows, tickets, link, *number))
 }
 
 /// One of these is a consumer of this number on the link.
-fn one_is(
-    rows: &BTreeMap<u64, Subscriber>,
-    tickets: &BTreeSet<u64>,
-    link: u64,
-    number: u64,
-) -> bool
+fn one_is(rows: &BTreeMap<u64, Subscriber>, tickets: &BTreeSet<u64>, link: u64, number: u64) -> bool
     ensures { result ≡ has_one_of link number rows.now tickets.now.keys }
 {
-    tickets.iter().any(|ticket| is_of(rows, *ticket, link, number))
+    tickets
+        .iter()
+        .any(|ticket| is_of(rows, *ticket, link, number))
 }
 
 fn is_of(rows: &BTreeMap<u64, Subscriber>, ticket: u64, link: u64, number: u64) -> bool

@@ -1,5 +1,5 @@
 -- Where a live consumer is of a link.
-use Rattle.std.proofs.Common.{◌≡◌, ℕ, ◌∙◌, sym, ap, List, [], refl, Bool, true, false, ◌==◌, ◌&&◌, ◌↔◌, ◌<◌, Option, Some, None, subst}
+use Rattle.std.proofs.Common.{◌≡◌, ℕ, ◌∙◌, sym, ap, refl, Bool, true, false, ◌==◌, ◌↔◌, Option, Some, None, subst}
 use Rattle.std.proofs.lemmas.Bool.{and_from, and_parts, eq-eqb, eqb-true}
 use Rattle.std.proofs.lemmas.Cmp.{nat_cmp_total}
 use Rattle.std.proofs.lemmas.Map.Lookups.{exact_unsigned}
@@ -7,12 +7,12 @@ use Rattle.std.proofs.lemmas.Map.Views.{IfSome-get}
 use Rattle.std.proofs.lemmas.List.Folds.{Any-from_list_any, list_any-from_Any}
 use Rattle.std.specs.BTreeMap.{BTreeMap, get}
 use Rattle.std.specs.BTreeSet.{BTreeSet}
-use Rattle.std.specs.List.{All, Any, Contains, list_any}
+use Rattle.std.specs.List.{All, Any, Contains}
 use Rattle.std.specs.Option.{IfSome, option_map}
 use Rattle.std.specs.Ordering.{nat_cmp}
 use Rattle.pulsar_client.specs.declared.consumers.subscriber.Subscriber.{Subscriber}
 use Rattle.pulsar_client.specs.declared.consumers.subscribers.Subscribers.{Subscribers}
-use Rattle.pulsar_client.specs.Subscribers.{fresh_in, has_one, has_one_of, is_listed, is_of, kept_at, live_at, seen_in, subscription_at, tickets_of, tickets_under}
+use Rattle.pulsar_client.specs.Subscribers.{has_one, has_one_of, is_listed, is_of, kept_at, live_at, seen_in, subscription_at, tickets_of, tickets_under}
 use Rattle.pulsar_client.specs.Subscriptions.{IsHeard, Subscription, hears_at}
 
 abbrev Numbers : Type 0

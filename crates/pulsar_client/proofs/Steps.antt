@@ -1,21 +1,19 @@
 -- Steps of a client's history. Nothing here knows what kinds of event, act and thing there are.
-use Rattle.std.proofs.Common.{◌≡◌, ℕ, ◌∙◌, sym, ap, List, [], ◌∷◌, ◌++◌, refl, arith, length, None, reverse, Bool, true, false, cond, map}
+use Rattle.std.proofs.Common.{◌≡◌, ◌∙◌, sym, ap, List, [], ◌∷◌, ◌++◌, refl, arith, length, reverse, false, cond, map}
 use Rattle.std.proofs.lemmas.List.{reverse-append}
 use Rattle.std.specs.Global.{Vec}
 use Rattle.pulsar_run.proofs.Unique.{one_log}
-use Rattle.pulsar_run.specs.Run.{Begins, in_order, only}
-use Rattle.pulsar_client.specs.declared.act.Part.{Part}
+use Rattle.pulsar_run.specs.Run.{Begins, only}
 use Rattle.pulsar_client.specs.declared.effect.Effect.{Effect}
 use Rattle.pulsar_client.specs.declared.event.Event.{Event}
 use Rattle.pulsar_client.specs.declared.pulsar.Pulsar.{Pulsar}
 use Rattle.pulsar_client.specs.declared.tables.Tables.{Tables}
 use Rattle.pulsar_client.specs.Client.{IsDead}
 use Rattle.pulsar_client.specs.Content.{Heard, heard, shown}
-use Rattle.pulsar_client.specs.Effects.{effect_below}
 use Rattle.pulsar_client.specs.Rules.{brings}
-use Rattle.pulsar_client.specs.Run.{Good, Step, first, rules, steps, view}
+use Rattle.pulsar_client.specs.Run.{Good, Step, first, rules, view}
 use Rattle.pulsar_client.specs.Tables.{Stands, answered, step, view_of}
-use Rattle.pulsar_client.specs.View.{Chosen, View, begun_live, is_live}
+use Rattle.pulsar_client.specs.View.{Chosen, begun_live, is_live}
 
 answered_more : (es : List Event) (xs : List (Vec Effect)) (e : Event) (x : Vec Effect) → length xs ≡ length es →
     answered (es ++ e ∷ []) (xs ++ x ∷ []) ≡ answered es xs ++ step e x.items ∷ []

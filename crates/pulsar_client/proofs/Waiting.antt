@@ -1,5 +1,5 @@
 -- Whether something waits for a link, by the stage of the link.
-use Rattle.std.proofs.Common.{◌≡◌, ℕ, ◌∙◌, sym, ap, refl, Bool, true, false, List, subst, ◌↔◌, ◌⊎◌, inl, inr, Option, Some, None, IsTrue}
+use Rattle.std.proofs.Common.{◌≡◌, ℕ, ◌∙◌, sym, ap, refl, Bool, true, false, List, subst, ◌↔◌, inl, inr, Option, Some, None, IsTrue}
 use Rattle.std.specs.Option.{option_map}
 use Rattle.pulsar_session.specs.declared.states.Stage.{Stage}
 use Rattle.pulsar_session.specs.declared.states.Stage.TheVariants.{Dialing, Handshaking, Ready, Over}

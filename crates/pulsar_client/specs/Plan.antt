@@ -1,7 +1,7 @@
 -- Plans. A procedure is what is to be done for a call, and a plan is where it stands: a state of a machine. It is told outcomes, one after
 -- the other. Each leads to the next state, with the action that is done there, or gives the verdict: the answer, and what the call leaves
 -- behind.  (Pulsar binary protocol, Producer; Consumer; Keep alive: what answers a request)
-use Rattle.std.specs.Prelude.{ℕ, Bool, false, List, [], ◌∷◌, Option, Some, None, codes, ◌==◌, if◌then◌else◌, string_bytes}
+use Rattle.std.specs.Prelude.{ℕ, Bool, false, [], ◌∷◌, Option, Some, None, codes, ◌==◌, if◌then◌else◌}
 use Rattle.pulsar_wire.specs.declared.error.IoKind.TheVariants as io_kind
 use Rattle.pulsar_messages.specs.Words.{Words}
 use Rattle.pulsar_session.specs.Failures.{Failure, Fault, Io, Disconnected, Canceled, Shutdown, OfConnection, NotFound, Custom}
@@ -9,14 +9,12 @@ use Rattle.pulsar_link.specs.declared.content.Subscribed.{Subscribed}
 use Rattle.pulsar_link.specs.Messages.{Reply, Written, is_number}
 use Rattle.pulsar_link.specs.Refusals.{refused}
 use Rattle.pulsar_link.specs.Request.{answer_of, is_answered, request_number, subscribed}
-use Rattle.pulsar_client.specs.declared.act.Action.{Action}
 use Rattle.pulsar_client.specs.declared.act.Action.TheVariants.{Get, Ask, StopAll, Rest}
 use Rattle.pulsar_client.specs.declared.act.Makes.{Makes}
 use Rattle.pulsar_client.specs.declared.act.Makes.TheVariants.{Nothing, Client, Consumer}
 use Rattle.pulsar_client.specs.declared.act.Outcome.{Outcome}
 use Rattle.pulsar_client.specs.declared.act.Outcome.TheVariants as outcome
 use Rattle.pulsar_client.specs.declared.act.Outcome.TheVariants.{GotLink, Queued, InLine, Replied, Stopped}
-use Rattle.pulsar_client.specs.declared.act.Place.{Place}
 use Rattle.pulsar_client.specs.declared.act.Place.TheVariants.{Base, Link}
 use Rattle.pulsar_client.specs.declared.act.Procedure.{Procedure}
 use Rattle.pulsar_client.specs.declared.act.Procedure.TheVariants as procedure

@@ -121,9 +121,11 @@ impl Pulsar {
         ensures options { options_of self.new ≡ options_of self.old }
     {
         if self.failed {
+            drop(event);
             return Err(NoMemory);
         }
         if !self.tables.is_live(&event) {
+            drop(event);
             return Ok(Vec::new(self.tables.alloc));
         }
         self.failed = true;

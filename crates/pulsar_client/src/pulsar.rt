@@ -50,11 +50,9 @@ impl Pulsar {
         ensures one_each { IfOk result (λ all. length all.items ≡ length events.now) }
     {
         let mut client = Pulsar::new(alloc, options)?;
-        let mut all = Vec::new(alloc);
-        for event in events {
-            all.push(client.take(event.copy()?)?)?;
-        }
-        Ok(all)
+        let all = client.take_all(alloc, events);
+        drop(client);
+        all
     }
 
     /// One event, with all that arises from it. After want of memory every later step answers want of memory. An event
@@ -111,6 +109,18 @@ impl Pulsar {
             Some(Stage::Over) => false,
             None => false,
         }
+    }
+
+    /// Each event in turn.
+    fn take_all(&mut self, alloc: Global, events: &[Event]) -> Result<Vec<Vec<Effect>>, NoMemory>
+        ensures stands { IfOk result (λ all. (o : Chosen) → StandsFor o self.old [] → StandsFor o self.new (reverse (answered events.now all.items))) }
+        ensures one_each { IfOk result (λ all. length all.items ≡ length events.now) }
+    {
+        let mut all = Vec::new(alloc);
+        for event in events {
+            all.push(self.take(event.copy()?)?)?;
+        }
+        Ok(all)
     }
 
     fn take(&mut self, event: Event) -> Result<Vec<Effect>, NoMemory>

@@ -14,7 +14,9 @@ use Rattle.pulsar_wire.specs.Views.{body_values}
 use Rattle.pulsar_wire.specs.declared.commands.base.Body.{Body}
 use Rattle.pulsar_link.specs.Messages.{body_bytes, written}
 use Rattle.pulsar_cli.specs.WordText.{hex}
-use Rattle.pulsar_link.specs.RawCall.{Id, property}
+use Rattle.pulsar_wire.specs.Row.{Values}
+use Rattle.pulsar_wire.specs.Rows.{message_id}
+use Rattle.pulsar_messages.specs.Content.{property}
 use Rattle.pulsar_cli.specs.MessageWords.{Draft, all, one, with_word}
 use Rattle.pulsar_cli.specs.RawLines.{id, with_id}
 
@@ -61,7 +63,7 @@ take_more xs k d lt = sym (ap (λ n. take n xs) (one-up k) ∙ take-suc xs k d l
 pub all_step : (d : Draft) (ws : List (List ℕ)) (w : List ℕ) (x y : Option Draft) → x ≡ all d ws → y ≡ with_word x w → y ≡ all d (ws ++ w ∷ [])
 all_step d ws w x y so is = is ∙ ap (λ z. with_word z w) so ∙ sym (all_more d ws w)
 
-pub ids_step : (ws : List (List ℕ)) (w : List ℕ) (x y : Option (List Id)) → x ≡ each id ws → y ≡ with_id x w → y ≡ each id (ws ++ w ∷ [])
+pub ids_step : (ws : List (List ℕ)) (w : List ℕ) (x y : Option (List (Values message_id))) → x ≡ each id ws → y ≡ with_id x w → y ≡ each id (ws ++ w ∷ [])
 ids_step ws w x y so is = is ∙ ap (λ z. with_id z w) so ∙ sym (each_more id ws w)
 
 -- a property stands in its place, whether its texts are seen before or after

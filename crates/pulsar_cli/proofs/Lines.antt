@@ -10,7 +10,8 @@ use Rattle.std.proofs.lemmas.List.Sums.{fails_before_first, passes_at_first, spl
 use Rattle.std.proofs.lemmas.List.Splits.{slice_split_at, slice_split_none}
 use Rattle.std.proofs.lemmas.Option.{none-some}
 use Rattle.pulsar_cli.specs.Grammar.{lines}
-use Rattle.pulsar_cli.specs.Shown.{IsWithinLine, Splits}
+use Rattle.pulsar_cli.specs.Parsed.{IsWithinLine}
+use Rattle.pulsar_cli.specs.Shown.{Splits}
 
 -- what stands behind a place
 pub behind-at : (n : ℕ) (bytes : List ℕ) → take (length bytes - n) (drop n bytes) ≡ drop n bytes

@@ -3,7 +3,7 @@ use Rattle.std.proofs.Common.{◌≡◌, sym, ℕ, ◌+◌, ◌-◌, ◌*◌, �
 use Rattle.std.specs.Option.{SomeIff}
 use Rattle.std.proofs.lemmas.Bool.Decides.{nat_tests}
 use Rattle.pulsar_cli.specs.Words.{digits_from, in_range, is_digit, number}
-use Rattle.pulsar_cli.specs.Shown.{more_digits}
+use Rattle.pulsar_cli.specs.Parsed.{more_digits}
 
 beyond-or : (n d : ℕ) (ds : List ℕ) (b : Bool) → is_digit d ≡ b → in_range (digits_from (10 * n + (d - 48)) ds) ≡ None → in_range (digits_from n (d ∷ ds)) ≡ None
 beyond-or n d ds true h more = rw h more

@@ -5,11 +5,12 @@ use Rattle.std.proofs.lemmas.List.{length-drop, length-take-le}
 use Rattle.std.proofs.Math.Seq.{take-length}
 use Rattle.std.proofs.Math.ListN.{drop_of_length-le}
 use Rattle.pulsar_client.specs.Run.{Good, Step}
+use Rattle.pulsar_client.specs.Client.{chosen}
 use Rattle.pulsar_client.specs.View.{Chosen}
 use Rattle.pulsar_client.specs.declared.pulsar.Pulsar.{Pulsar}
 use Rattle.pulsar_cli.specs.Grammar.{lines}
 use Rattle.pulsar_cli.specs.Text.{refusal}
-use Rattle.pulsar_cli.specs.Script.{Adds, AddsFront, IsDone, IsRunOf, IsStopped, IsRefused, Printed, blank, options, script_of, text}
+use Rattle.pulsar_cli.specs.Script.{Adds, AddsFront, IsDone, IsRunOf, IsStopped, IsRefused, Printed, blank, script_of, text}
 use Rattle.pulsar_cli.specs.Shown.{Faults, Halts, InTurn, IsClient, Prints, Reads, Refuses, Refusing, Running, read_status, said, status_of}
 use Rattle.pulsar_cli.specs.declared.reading.Reading.{Reading}
 use Rattle.pulsar_cli.specs.declared.stop.Stop.{Stop}
@@ -23,7 +24,7 @@ client-good o None h is = rw is (record { log = []; run = tt; rests = refl; same
 client-good o (Some c) h is = let s = is.0.stands in record { log = s.log; run = s.run; rests = s.rests; same = s.same }
 
 pub run-of : {r : Reading} {put : List ℕ} {read : List (List ℕ)} {h : List Step} → Reads r put read h → IsRunOf read h
-run-of {r} {put} {read} {h} reads = record { script = said r h; is = reads.script; events = refl; good = client-good (options (said r h)) r.client h reads.client }
+run-of {r} {put} {read} {h} reads = record { script = said r h; is = reads.script; events = refl; good = client-good (chosen r.options) r.client h reads.client }
 
 -- text that waits is the back of the run's text
 stopped : {r : Reading} {put bytes : List ℕ} {read : List (List ℕ)} {h : List Step} {old now : Option (List ℕ)} (after : List (List ℕ)) → Reads r put read h → Adds old now put → lines bytes ≡ read ++ after → IsStopped bytes old now

@@ -1,29 +1,23 @@
 -- A written line is read back.
-use Rattle.std.proofs.Common.{◌≡◌, ℕ, ◌^◌, ◌<◌, ◌∙◌, ap, List, [], ◌∷◌, ◌++◌, refl, true, Some, codes}
+use Rattle.std.proofs.Common.{◌≡◌, ℕ, ◌^◌, ◌<◌, ◌∙◌, ap, List, [], ◌∷◌, ◌++◌, refl, codes}
 use Rattle.std.specs.Fmt.{decimal}
-use Rattle.std.specs.Str.{is_utf8}
-use Rattle.hex.specs.Hex.{IsBytes, encode_lower}
+use Rattle.hex.specs.Hex.{encode_lower}
 use Rattle.pulsar_wire.specs.declared.commands.topics.Mode.{Mode}
 use Rattle.pulsar_wire.specs.declared.commands.topics.Mode.TheVariants.{Persistent, NonPersistent, All}
-use Rattle.pulsar_client.specs.Content.{Asked, Build, Topics, Raw, Heard, Called, Opened, FailedToOpen, Bytes, Lost, Drain, Poll}
-use Rattle.pulsar_link.specs.RawCall.{Words}
+use Rattle.pulsar_messages.specs.Words.{Words}
+use Rattle.pulsar_client.specs.Content.{Asked, Build, Stop, Topics, Raw, Heard, Called, Opened, FailedToOpen, Bytes, Lost, Drain, Ticked, Poll}
 use Rattle.pulsar_cli.specs.Words.{words}
 use Rattle.pulsar_cli.specs.WordText.{word}
-use Rattle.pulsar_cli.specs.Grammar.{Setting, Url, Now, Sets, Happens, line, mode, words_line}
-use Rattle.pulsar_cli.specs.Written.{CanBeAsked, CanBeSet, CanBeWritten, mode_word, written, written_setting}
-use Rattle.pulsar_cli.specs.WrittenRaw.{CanBeSaid, raw_words}
+use Rattle.pulsar_cli.specs.Grammar.{Setting, Url, Auth, Outbound, Timeout, ConnectionTimeout, First, Now, Sets, Happens, line, words_line}
+use Rattle.pulsar_cli.specs.Written.{CanBeAsked, CanBeSet, CanBeWritten, written, written_setting}
+use Rattle.pulsar_cli.specs.WrittenRaw.{CanBeSaid, IsText, credential_words, mode_word, raw_words}
 use Rattle.pulsar_cli.proofs.WrittenLines.{IsWithinWord, one-word, first-word, decimal-within, number-decimal, hex-within, hex-encoded, word-within, text-word}
-use Rattle.pulsar_cli.proofs.WrittenRaw.{raw-within, raw-reads, words-behind}
+use Rattle.pulsar_cli.proofs.WrittenRaw.{credential-reads, credential-within, mode-reads, raw-within, raw-reads, tested-within, words-behind}
 
 mode-within : (m : Mode) → words (mode_word m) ≡ mode_word m ∷ []
 mode-within Persistent = refl
 mode-within NonPersistent = refl
 mode-within All = refl
-
-mode-reads : (m : Mode) → mode (mode_word m) ≡ Some m
-mode-reads Persistent = refl
-mode-reads NonPersistent = refl
-mode-reads All = refl
 
 one-number : (first : List ℕ) (n : ℕ) → n < 2 ^ 64 → first ∷ words (decimal n) ≡ first ∷ decimal n ∷ []
 one-number first n lt = ap (λ (ws : List (List ℕ)). first ∷ ws) (one-word (decimal n) (decimal-within n lt))
@@ -31,17 +25,18 @@ one-number first n lt = ap (λ (ws : List (List ℕ)). first ∷ ws) (one-word (
 two-words : (first w v : List ℕ) → IsWithinWord w → words v ≡ v ∷ [] → first ∷ words (w ++ 32 ∷ v) ≡ first ∷ w ∷ v ∷ []
 two-words first w v within one = ap (λ (ws : List (List ℕ)). first ∷ ws) (first-word w v within ∙ ap (λ (ws : List (List ℕ)). w ∷ ws) one)
 
-topics-read : (namespace : List ℕ) (m : Mode) → IsBytes namespace → is_utf8 namespace ≡ true → words_line (codes "call" ∷ codes "topics" ∷ word namespace ∷ mode_word m ∷ []) ≡ Happens (Called (Topics namespace m))
-topics-read namespace m is utf8 = rw (text-word namespace is utf8, mode-reads m) refl
+topics-read : (namespace : List ℕ) (m : Mode) → IsText namespace → words_line (codes "call" ∷ codes "topics" ∷ word namespace ∷ mode_word m ∷ []) ≡ Happens (Called (Topics namespace m))
+topics-read namespace m is = rw (text-word namespace is.0 is.1, mode-reads m) refl
 
 link-reads : (link : ℕ) (what : Words) → link < 2 ^ 64 → CanBeSaid what → words_line (codes "call" ∷ codes "link" ∷ decimal link ∷ raw_words what) ≡ Happens (Called (Raw link what))
 link-reads link what lt can = rw (number-decimal link lt, raw-reads what can) refl
 
 asked-read : (c : Asked) → CanBeAsked c → line (written (Called c)) ≡ Happens (Called c)
 asked-read Build can = refl
+asked-read Stop can = refl
 asked-read (Topics namespace m) can =
     ap (λ (ws : List (List ℕ)). words_line (codes "call" ∷ ws)) (two-words (codes "topics") (word namespace) (mode_word m) (word-within namespace can.0) (mode-within m))
-    ∙ topics-read namespace m can.0 can.1
+    ∙ topics-read namespace m can
 asked-read (Raw link what) can =
     ap (λ (ws : List (List ℕ)). words_line (codes "call" ∷ codes "link" ∷ ws)) (words-behind (decimal link) (raw_words what) (decimal-within link can.0) (raw-within what can.1))
     ∙ link-reads link what can.0 can.1
@@ -61,13 +56,28 @@ reads-back (Bytes l piece) can =
 reads-back (Drain l most) can =
     ap (λ (ws : List (List ℕ)). words_line ws) (two-words (codes "drain") (decimal l) (decimal most) (decimal-within l can.0) (one-word (decimal most) (decimal-within most can.1)))
     ∙ rw (number-decimal l can.0, number-decimal most can.1) refl
+reads-back (Ticked now) can =
+    ap (λ (ws : List (List ℕ)). words_line ws) (one-number (codes "tick") now can) ∙ rw (number-decimal now can) refl
 reads-back (Poll ticket) can =
     ap (λ (ws : List (List ℕ)). words_line ws) (one-number (codes "poll") ticket can) ∙ rw (number-decimal ticket can) refl
+
+-- the word of a credential
+auth-within : IsWithinWord (codes "auth")
+auth-within = tested-within (codes "auth") refl
+
+-- an option that is a number
+number-set : (option : List ℕ) (n : ℕ) → n < 2 ^ 64 → codes "set" ∷ option ∷ words (decimal n) ≡ codes "set" ∷ option ∷ decimal n ∷ []
+number-set option n lt = ap (λ (ws : List (List ℕ)). codes "set" ∷ ws) (one-number option n lt)
 
 pub sets-read-back : (s : Setting) → CanBeSet s → line (written_setting s) ≡ Sets s
 sets-read-back (Url text) can =
     ap (λ (ws : List (List ℕ)). words_line (codes "set" ∷ codes "url" ∷ ws)) (one-word (word text) (word-within text can.0))
     ∙ rw (text-word text can.0 can.1) refl
-sets-read-back (Now time) can =
-    ap (λ (ws : List (List ℕ)). words_line (codes "set" ∷ codes "now" ∷ ws)) (one-word (decimal time) (decimal-within time can))
-    ∙ rw (number-decimal time can) refl
+sets-read-back (Auth credential) can =
+    ap (λ (ws : List (List ℕ)). words_line (codes "set" ∷ ws)) (words-behind (codes "auth") (credential_words credential) auth-within (credential-within credential can))
+    ∙ rw (credential-reads credential can) refl
+sets-read-back (Outbound size) can = ap words_line (number-set (codes "outbound") size can) ∙ rw (number-decimal size can) refl
+sets-read-back (Timeout time) can = ap words_line (number-set (codes "timeout") time can) ∙ rw (number-decimal time can) refl
+sets-read-back (ConnectionTimeout time) can = ap words_line (number-set (codes "connection-timeout") time can) ∙ rw (number-decimal time can) refl
+sets-read-back (First number) can = ap words_line (number-set (codes "first") number can) ∙ rw (number-decimal number can) refl
+sets-read-back (Now time) can = ap words_line (number-set (codes "now") time can) ∙ rw (number-decimal time can) refl

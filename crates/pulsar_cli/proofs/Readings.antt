@@ -1,16 +1,17 @@
 -- What a reading knows of its script.
 use Rattle.std.proofs.Common.{◌≡◌, ℕ, ◌+◌, ◌∙◌, sym, ap, subst, List, [], ◌∷◌, ◌++◌, refl, arith, true, false, Option, Some, None, length, append_assoc, length-append}
-use Rattle.std.specs.Prelude.{codes, is_some, string_bytes, Result, Ok, Err, IfOk}
+use Rattle.std.specs.Prelude.{is_some, string_bytes, Result, Ok, Err, IfOk}
 use Rattle.pulsar_wire.specs.Field.{◌>>=◌}
 use Rattle.pulsar_client.specs.Content.{Heard, Shown}
-use Rattle.pulsar_client.specs.Client.{StandsFor}
+use Rattle.pulsar_client.specs.Client.{StandsFor, chosen}
 use Rattle.pulsar_client.specs.Run.{Step, is_empty}
 use Rattle.pulsar_client.specs.View.{Chosen}
 use Rattle.pulsar_client.specs.declared.pulsar.Pulsar.{Pulsar}
 use Rattle.pulsar_cli.specs.Grammar.{Setting, Line, Nothing, Sets, Happens, line, lines}
-use Rattle.pulsar_cli.specs.Script.{Script, blank, options, sets, with_line, script_from, script_of, happened, text}
+use Rattle.pulsar_cli.specs.Script.{Script, blank, chooses, defaults, with_line, script_from, script_of, happened, text}
 use Rattle.pulsar_cli.specs.Text.{step}
-use Rattle.pulsar_cli.specs.Shown.{IsClient, IsWithinLine, KeepsOptions, KeepsText, Reads, Refuses, Running, said}
+use Rattle.pulsar_cli.specs.Parsed.{IsWithinLine}
+use Rattle.pulsar_cli.specs.Shown.{IsClient, KeepsOptions, KeepsText, Reads, Refuses, Running, said}
 use Rattle.pulsar_cli.proofs.Lines.{ends-line, feed, goes-on}
 use Rattle.pulsar_cli.specs.declared.reading.Reading.{Reading}
 use Rattle.pulsar_cli.specs.declared.stop.Stop.{Stop}
@@ -62,16 +63,13 @@ pub begins-with : (o : Chosen) (made : Result Pulsar Stop) (c : Option Pulsar) �
 begins-with o (Ok p) c none stands = λ h is. subst (λ t. StandsFor o p t) (sym (no-client o c h is none)) stands
 begins-with o (Err s) c none stands = tt
 
-pub said-same : {r r' : Reading} (h : List Step) → KeepsOptions r r' → said r' h ≡ said r h
-said-same h same = rw (same.url, same.time) refl
-
 late : (setting : Setting) (s : Script) → is_empty s.events ≡ false → with_line (Sets setting) s ≡ None
 late setting s h = rw h refl
 
 -- a setting behind an event is refused
 pub refuses-set : {r : Reading} {put : List ℕ} {read : List (List ℕ)} {h : List Step} (bytes : List ℕ) (setting : Setting) → Reads r put read h → line bytes ≡ Sets setting → is_some r.client ≡ true → script_of (read ++ bytes ∷ []) ≡ None
 refuses-set {r} {put} {read} {h} bytes setting a is made =
-    script-line bytes (Sets setting) a is ∙ late setting (said r h) (happened-some h (some-client (options (said r h)) r.client h a.client made))
+    script-line bytes (Sets setting) a is ∙ late setting (said r h) (happened-some h (some-client (chosen r.options) r.client h a.client made))
 
 -- the number of the next line
 next-number : {n m : ℕ} (read : List (List ℕ)) (bytes : List ℕ) → m ≡ n + 1 → n ≡ length read + 1 → m ≡ length (read ++ bytes ∷ []) + 1
@@ -79,20 +77,20 @@ next-number read bytes next is = next ∙ ap (λ n. n + 1) is ∙ ap (λ n. n + 
 
 -- a line is nothing
 pub reads-nothing : {r r' : Reading} {put : List ℕ} {read : List (List ℕ)} {h : List Step} (bytes : List ℕ) → Reads r put read h → line bytes ≡ Nothing → r'.client ≡ r.client → KeepsOptions r r' → KeepsText r r' → r'.line ≡ r.line + 1 → Reads r' put (read ++ bytes ∷ []) h
-reads-nothing {r} {r'} {put} {read} {h} bytes a is client chosen kept number =
+reads-nothing {r} {r'} {put} {read} {h} bytes a is client same kept number =
     record {
-      script = script-line bytes Nothing a is ∙ rw (chosen.url, chosen.time) refl;
-      client = rw (chosen.url, chosen.time, client) a.client;
+      script = script-line bytes Nothing a is ∙ rw same refl;
+      client = rw (same, client) a.client;
       count = kept.events ∙ a.count;
       number = next-number read bytes number a.number;
       text = rw kept.out a.text;
     }
 
 -- a line is a setting, before anything has happened
-pub reads-set : {r r' : Reading} {put : List ℕ} {read : List (List ℕ)} (bytes : List ℕ) (setting : Setting) → Reads r put read [] → line bytes ≡ Sets setting → r'.client ≡ None → said r' [] ≡ sets setting (said r []) → KeepsText r r' → r'.line ≡ r.line + 1 → Reads r' put (read ++ bytes ∷ []) []
-reads-set {r} {r'} {put} {read} bytes setting a is client chosen kept number =
+pub reads-set : {r r' : Reading} {put : List ℕ} {read : List (List ℕ)} (bytes : List ℕ) (setting : Setting) → Reads r put read [] → line bytes ≡ Sets setting → r'.client ≡ None → chosen r'.options ≡ chooses setting (chosen r.options) → KeepsText r r' → r'.line ≡ r.line + 1 → Reads r' put (read ++ bytes ∷ []) []
+reads-set {r} {r'} {put} {read} bytes setting a is client same kept number =
     record {
-      script = script-line bytes (Sets setting) a is ∙ ap (λ s. Some s) (sym chosen);
+      script = script-line bytes (Sets setting) a is ∙ ap (λ o. Some (record { options = o; events = [] })) (sym same);
       client = rw client refl;
       count = kept.events ∙ a.count;
       number = next-number read bytes number a.number;
@@ -100,29 +98,29 @@ reads-set {r} {r'} {put} {read} bytes setting a is client chosen kept number =
     }
 
 -- a line is an event
-pub reads-step : {r r' : Reading} {put : List ℕ} {read : List (List ℕ)} {h : List Step} {e : Heard} {effects : List Shown} (bytes : List ℕ) → Reads r put read h → line bytes ≡ Happens e → IsClient (options (said r [])) r'.client (record { event = e; effects = effects } ∷ h) → KeepsOptions r r' → string_bytes r'.out ≡ string_bytes r.out ++ step r.events effects → r'.events ≡ r.events + 1 → r'.line ≡ r.line + 1 → Reads r' put (read ++ bytes ∷ []) (record { event = e; effects = effects } ∷ h)
-reads-step {r} {r'} {put} {read} {h} {e} {effects} bytes a is client chosen out events number =
+pub reads-step : {r r' : Reading} {put : List ℕ} {read : List (List ℕ)} {h : List Step} {e : Heard} {effects : List Shown} (bytes : List ℕ) → Reads r put read h → line bytes ≡ Happens e → IsClient (chosen r.options) r'.client (record { event = e; effects = effects } ∷ h) → KeepsOptions r r' → string_bytes r'.out ≡ string_bytes r.out ++ step r.events effects → r'.events ≡ r.events + 1 → r'.line ≡ r.line + 1 → Reads r' put (read ++ bytes ∷ []) (record { event = e; effects = effects } ∷ h)
+reads-step {r} {r'} {put} {read} {h} {e} {effects} bytes a is client same out events number =
     record {
-      script = script-line bytes (Happens e) a is ∙ rw (chosen.url, chosen.time) refl;
-      client = rw (chosen.url, chosen.time) client;
+      script = script-line bytes (Happens e) a is ∙ rw same refl;
+      client = rw same client;
       count = events ∙ ap (λ n. n + 1) a.count ∙ omega arith;
       number = next-number read bytes number a.number;
       text = ap (λ (t : List ℕ). put ++ t) out ∙ sym (append_assoc put (string_bytes r.out) (step r.events effects)) ∙ ap (λ (t : List ℕ). t ++ step r.events effects) a.text ∙ ap (λ n. text h ++ step n effects) a.count;
     }
 
 -- nothing is read yet
-pub new-running : (r : Reading) → r.client ≡ None → string_bytes r.url ≡ codes "pulsar://127.0.0.1:6650" → r.time ≡ 0 → r.events ≡ 0 → r.line ≡ 1 → string_bytes r.out ≡ [] → r.pending.items ≡ [] → Running r [] []
-new-running r client url time events number out pending =
+pub new-running : (r : Reading) → r.client ≡ None → chosen r.options ≡ defaults → r.events ≡ 0 → r.line ≡ 1 → string_bytes r.out ≡ [] → r.pending.items ≡ [] → Running r [] []
+new-running r client same events number out pending =
     record {
       read = [];
       history = [];
-      reads = record { script = rw (url, time) refl; client = rw client refl; count = events; number = number; text = out };
+      reads = record { script = rw same refl; client = rw client refl; count = events; number = number; text = out };
       splits = rw pending (record { apart = λ future. refl; within = λ k d lt. absurd (omega arith) });
     }
 
 -- the bytes of its line aside
 pub reads-same : {r r' : Reading} {put : List ℕ} {read : List (List ℕ)} {h : List Step} → Reads r put read h → r'.client ≡ r.client → KeepsOptions r r' → KeepsText r r' → r'.line ≡ r.line → Reads r' put read h
-reads-same a client chosen kept number = record { script = a.script ∙ rw (chosen.url, chosen.time) refl; client = rw (chosen.url, chosen.time, client) a.client; count = kept.events ∙ a.count; number = number ∙ a.number; text = rw kept.out a.text }
+reads-same a client same kept number = record { script = a.script ∙ rw same refl; client = rw (same, client) a.client; count = kept.events ∙ a.count; number = number ∙ a.number; text = rw kept.out a.text }
 
 -- a line has ended
 pub line-read : {r r' : Reading} {put x : List ℕ} (e bytes : List ℕ) (run : Running r put x) → IsWithinLine e → bytes ≡ r.pending.items ++ e → (next : List Step) → Reads r' put (run.read ++ bytes ∷ []) next → r'.pending.items ≡ [] → Running r' put (x ++ (e ++ 10 ∷ []))

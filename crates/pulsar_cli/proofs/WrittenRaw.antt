@@ -1,5 +1,5 @@
 -- What is asked of one connection is read back.
-use Rattle.std.proofs.Common.{◌≡◌, ◌==◌, ℕ, zero, ℤ, pos, negsuc, ◌+◌, ◌*◌, ◌/◌, ◌%◌, ◌^◌, ◌<◌, ◌∙◌, sym, ap, List, [], ◌∷◌, ◌++◌, refl, arith, Bool, true, false, map, Option, Some, None, length, codes, append-nil, append_assoc, suc, cond, take, drop, nat_lt, length-append}
+use Rattle.std.proofs.Common.{◌≡◌, ◌==◌, ℕ, zero, ℤ, pos, negsuc, subst, ◌+◌, ◌*◌, ◌/◌, ◌%◌, ◌^◌, ◌<◌, ◌∙◌, sym, ap, List, [], ◌∷◌, ◌++◌, refl, arith, Bool, true, false, map, Option, Some, None, length, codes, append-nil, append_assoc, suc, cond, take, drop, nat_lt, length-append}
 use Rattle.std.specs.Prelude.{FitsSigned}
 use Rattle.std.specs.BTreeMap.{insert_entry}
 use Rattle.std.specs.Cmp.Lexicographic.{slice_cmp}
@@ -20,19 +20,22 @@ use Rattle.std.proofs.Math.Nat.{pow-succ'}
 use Rattle.std.proofs.Math.Seq.{take-append_seam, drop-append-add}
 use Rattle.hex.specs.Hex.{IsBytes}
 use Rattle.pulsar_wire.specs.Field.{◌>>=◌}
-use Rattle.pulsar_wire.specs.Fits.{Fits, FitsContent, InRange}
+use Rattle.pulsar_wire.specs.Fits.{FitsContent, InRange}
 use Rattle.pulsar_wire.specs.Row.{Kind, Text, Bytes, Uint32, Uint64, Int32, Int64, Flag, Row, End, Plain, Embedded, Numbers, Values, Content, each, entry, items, reading, spelling, varint, varint_in, wire, wire_type}
 use Rattle.pulsar_wire.specs.Rows.{message_id}
 use Rattle.pulsar_wire.specs.declared.commands.enumerations.SubType.{SubType}
 use Rattle.pulsar_wire.specs.declared.commands.enumerations.SubType.TheVariants.{Exclusive, Shared, Failover, KeyShared}
+use Rattle.pulsar_wire.specs.declared.commands.topics.Mode.{Mode}
+use Rattle.pulsar_wire.specs.declared.commands.topics.Mode.TheVariants.{Persistent, NonPersistent, All}
 use Rattle.pulsar_wire.proofs.RoundTrip.{round_trip}
-use Rattle.pulsar_link.specs.Messages.{id_values}
-use Rattle.pulsar_link.specs.RawCall.{Id, Outgoing, Words, CreateProducer, Send, CloseProducer, Subscribe, Flow, Ack, CloseConsumer}
-use Rattle.pulsar_cli.specs.Words.{hex, in_range, is_digit, number, words}
+use Rattle.pulsar_messages.specs.Content.{AuthenticationValues, ProducerMessageValues, Property}
+use Rattle.pulsar_messages.specs.Words.{Words, SendPing, SendPong, AuthChallenge, LookupTopic, LookupPartitionedTopic, GetTopicsOfNamespace, GetSchema, CreateProducer, Send, CloseProducer, Subscribe, SendFlow, SendAck, SendRedeliver, Seek, GetLastMessageId, GetConsumerStats, Unsubscribe, CloseConsumer, CloseConsumerUnawaited}
+use Rattle.pulsar_cli.specs.Words.{hex, in_range, is_digit, number, optional, small_number, text, word_bytes, words}
+use Rattle.pulsar_cli.specs.Choices.{cumulative, flag, mode, sub_type}
 use Rattle.pulsar_cli.specs.WordText.{is_printed, printed, upper_digit, word}
 use Rattle.pulsar_cli.specs.MessageWords.{Draft, all, blank, cut, message, minus, one, plus, signed, with_cluster, with_data, with_property}
-use Rattle.pulsar_cli.specs.RawLines.{cumulative, flag, id, id_bytes, id_in, name, raw_call, small_number, sub_type}
-use Rattle.pulsar_cli.specs.WrittenRaw.{CanBeSaid, CanBeSent, IsNumber, IsProperty, IsSigned, IsText, Where, behind_blanks, cumulative_word, flag_word, id_word, message_words, name_word, property_word, raw_words, signed_word, sub_type_word}
+use Rattle.pulsar_cli.specs.RawLines.{credential, id, id_bytes, raw_call}
+use Rattle.pulsar_cli.specs.WrittenRaw.{CanBeSaid, CanBeSent, IsCredential, IsId, IsNumber, IsProperty, IsSigned, IsText, Where, behind_blanks, credential_words, cumulative_word, flag_word, id_word, message_words, mode_word, optional_word, plain, property_word, raw_words, signed_word, sub_type_word}
 use Rattle.pulsar_cli.proofs.WrittenLines.{IsWithinWord, decimal-within, first-word, hex-encoded, hex-within, number-decimal, one-word, same-some, single, step-off, text-word, word-bytes, word-within}
 
 -- LISTS
@@ -67,7 +70,7 @@ tested-next b bs true e h more = absurd cc
 tested-next b bs false e h more = All-cons (λ c. (c == 32) ≡ false) b bs e (more h)
 
 -- a word that passes has none
-tested-within : (w : List ℕ) → has_no_blank w ≡ true → IsWithinWord w
+pub tested-within : (w : List ℕ) → has_no_blank w ≡ true → IsWithinWord w
 tested-within [] h = All-nil (λ c. (c == 32) ≡ false)
 tested-within (b ∷ bs) h = tested-next b bs (b == 32) refl h (tested-within bs)
 
@@ -86,6 +89,16 @@ type-within Exclusive = tested-within (codes "exclusive") refl
 type-within Shared = tested-within (codes "shared") refl
 type-within Failover = tested-within (codes "failover") refl
 type-within KeyShared = tested-within (codes "key-shared") refl
+
+mode-within : (m : Mode) → IsWithinWord (mode_word m)
+mode-within Persistent = tested-within (codes "persistent") refl
+mode-within NonPersistent = tested-within (codes "non-persistent") refl
+mode-within All = tested-within (codes "all") refl
+
+pub mode-reads : (m : Mode) → mode (mode_word m) ≡ Some m
+mode-reads Persistent = refl
+mode-reads NonPersistent = refl
+mode-reads All = refl
 
 cumulative-within : (b : Bool) → IsWithinWord (cumulative_word b)
 cumulative-within true = tested-within (codes "cumulative") refl
@@ -121,13 +134,45 @@ not-tilde : (t : List ℕ) → bytes_eq (word t) (codes "~") ≡ false
 not-tilde [] = refl
 not-tilde (b ∷ bs) = tilde-first b (flat_map printed bs) (is_printed b) refl
 
-name-reads : (n : Option (List ℕ)) → Where IsText n → name (name_word n) ≡ Some n
-name-reads None can = refl
-name-reads (Some t) can = rw (not-tilde t, text-word t can.0 can.1) refl
+-- what reads nothing of `~` is read of another word
+apart-or : {A : Type 0} (read : List ℕ → Option A) (w : List ℕ) (x : A) (t : Bool) → read (codes "~") ≡ None → bytes_eq w (codes "~") ≡ t → read w ≡ Some x → bytes_eq w (codes "~") ≡ false
+apart-or read w x true none e h =
+    let same : w ≡ codes "~" = (bytes_eq-Decides w (codes "~")).0 e in
+    absurd (none-some x (sym none ∙ sym (ap read same) ∙ h))
+apart-or read w x false none e h = e
 
-name-within : (n : Option (List ℕ)) → Where IsText n → IsWithinWord (name_word n)
+apart : {A : Type 0} (read : List ℕ → Option A) (w : List ℕ) (x : A) → read (codes "~") ≡ None → read w ≡ Some x → bytes_eq w (codes "~") ≡ false
+apart read w x none h = apart-or read w x (bytes_eq w (codes "~")) none refl h
+
+there : {A : Type 0} (read : List ℕ → Option A) (w : List ℕ) (x : A) → bytes_eq w (codes "~") ≡ false → read w ≡ Some x → optional read w ≡ Some (Some x)
+there read w x e h = rw (e, h) refl
+
+-- what may be absent is read back
+name-reads : (o : Option (List ℕ)) → Where IsText o → optional text (optional_word word o) ≡ Some o
+name-reads None can = refl
+name-reads (Some t) can = there text (word t) t (not-tilde t) (text-word t can.0 can.1)
+
+bytes-reads : (o : Option (List ℕ)) → Where IsBytes o → optional word_bytes (optional_word word o) ≡ Some o
+bytes-reads None can = refl
+bytes-reads (Some t) can = there word_bytes (word t) t (not-tilde t) (word-bytes t can)
+
+time-reads : (o : Option ℕ) → Where IsNumber o → optional number (optional_word decimal o) ≡ Some o
+time-reads None can = refl
+time-reads (Some n) can =
+    let is = number-decimal n can in
+    there number (decimal n) n (apart number (decimal n) n refl is) is
+
+name-within : (o : Option (List ℕ)) → Where IsText o → IsWithinWord (optional_word word o)
 name-within None can = single 126 refl
 name-within (Some t) can = word-within t can.0
+
+bytes-within : (o : Option (List ℕ)) → Where IsBytes o → IsWithinWord (optional_word word o)
+bytes-within None can = single 126 refl
+bytes-within (Some t) can = word-within t can
+
+time-within : (o : Option ℕ) → Where IsNumber o → IsWithinWord (optional_word decimal o)
+time-within None can = single 126 refl
+time-within (Some n) can = decimal-within n can
 
 -- A NAME IN FRONT OF `=`
 
@@ -270,34 +315,34 @@ signed-within : (z : ℤ) → IsSigned z → IsWithinWord (signed_word z)
 signed-within (pos n) lt = decimal-within n (omega (arith, lt))
 signed-within (negsuc n) lt = front-within (45 ∷ []) (decimal (n + 1)) refl (decimal-within (n + 1) (omega (arith, lt)))
 
-at-reads : (d : Draft) (o : Option ℤ) → Where IsSigned o → d.message.deliver_at ≡ None →
-    Say (map (λ z. codes "at=" ++ signed_word z) (option_to_list o)) d (record d { message = record d.message { deliver_at = o } })
-at-reads d None can none = record { is = ap (λ o. Some (record d { message = record d.message { deliver_at = o } })) none; within = tt }
+at-reads : (d : Draft) (o : Option ℤ) → Where IsSigned o → d.message.deliver_at_time ≡ None →
+    Say (map (λ z. codes "at=" ++ signed_word z) (option_to_list o)) d (record d { message = record d.message { deliver_at_time = o } })
+at-reads d None can none = record { is = ap (λ o. Some (record d { message = record d.message { deliver_at_time = o } })) none; within = tt }
 at-reads d (Some z) can none = record { is = rw (short-cut 97 116 (signed_word z) refl refl, none, signed-reads z can) refl; within = (front-within (codes "at=") (signed_word z) refl (signed-within z can), tt) }
 
 -- PROPERTIES
 
 -- the names of some entries are below a name
-abbrev Below : List (List ℕ × List ℕ) → List ℕ → Type 0
+abbrev Below : List Property → List ℕ → Type 0
 Below es k = AllByRecursion (λ e. slice_cmp nat_cmp e.0 k ≡ Less) es
 
 -- an entry above all others stands last
-stands-last : (es : List (List ℕ × List ℕ)) (k v : List ℕ) → Below es k → insert_entry (slice_cmp nat_cmp) es k v ≡ es ++ (k, v) ∷ []
+stands-last : (es : List Property) (k v : List ℕ) → Below es k → insert_entry (slice_cmp nat_cmp) es k v ≡ es ++ (k, v) ∷ []
 stands-last [] k v h = refl
 stands-last (e ∷ es) k v h =
     let greater : slice_cmp nat_cmp k e.0 ≡ Greater = nat_list_cmp_total.antisymm k e.0 ∙ ap ordering_reverse h.0 in
     rw greater (ap (λ t. e ∷ t) (stands-last es k v h.1))
 
 -- the names of some entries are below those of others
-abbrev AreBelow : List (List ℕ × List ℕ) → List (List ℕ × List ℕ) → Type 0
+abbrev AreBelow : List Property → List Property → Type 0
 AreBelow es ps = AllByRecursion (λ p. Below es p.0) ps
 
 -- at first there is no property
-none-below : (ps : List (List ℕ × List ℕ)) → AreBelow [] ps
+none-below : (ps : List Property) → AreBelow [] ps
 none-below [] = tt
 none-below (p ∷ ps) = (tt, none-below ps)
 
-more-below : (es : List (List ℕ × List ℕ)) (p : List ℕ × List ℕ) (ps : List (List ℕ × List ℕ)) → AreBelow es ps → AllByRecursion (λ k. slice_cmp nat_cmp p.0 k ≡ Less) (map (λ q. q.0) ps) → AreBelow (es ++ p ∷ []) ps
+more-below : (es : List Property) (p : List ℕ × List ℕ) (ps : List Property) → AreBelow es ps → AllByRecursion (λ k. slice_cmp nat_cmp p.0 k ≡ Less) (map (λ q. q.0) ps) → AreBelow (es ++ p ∷ []) ps
 more-below es p [] h above = tt
 more-below es p (q ∷ ps) h above = (all-both (λ e. slice_cmp nat_cmp e.0 q.0 ≡ Less) es (p ∷ []) h.0 (above.0, tt), more-below es p ps h.1 above.1)
 
@@ -305,7 +350,7 @@ property-read : (d : Draft) (k v : List ℕ) → IsText k → IsText v → one d
 property-read d k v ks vs = rw (cut-at (codes "prop") (word k ++ 61 ∷ word v) (refl, (refl, (refl, (refl, tt)))), cut-at (word k) (word v) (word-free k ks.0), text-word k ks.0 ks.1, text-word v vs.0 vs.1) refl
 
 -- properties in the order of their names are put one behind the other
-properties-read : (d : Draft) (ps : List (List ℕ × List ℕ)) → AllByRecursion IsProperty ps → IsStrictlySortedBy (slice_cmp nat_cmp) (map (λ p. p.0) ps) → AreBelow d.message.properties ps →
+properties-read : (d : Draft) (ps : List Property) → AllByRecursion IsProperty ps → IsStrictlySortedBy (slice_cmp nat_cmp) (map (λ p. p.0) ps) → AreBelow d.message.properties ps →
     all d (map property_word ps) ≡ Some (record d { message = record d.message { properties = d.message.properties ++ ps } })
 unfolding IsStrictlySortedBy
 properties-read d [] can ordered below = ap (λ ps. Some (record d { message = record d.message { properties = ps } })) (sym (append-nil d.message.properties))
@@ -315,14 +360,14 @@ properties-read d (p ∷ ps) can ordered below =
     ∙ properties-read (record d { message = record d.message { properties = d.message.properties ++ p ∷ [] } }) ps can.1 ordered.1 (more-below d.message.properties p ps below.1 ordered.0)
     ∙ ap (λ es. Some (record d { message = record d.message { properties = es } })) (append_assoc d.message.properties (p ∷ []) ps)
 
-property-within : (p : List ℕ × List ℕ) → IsProperty p → IsWithinWord (property_word p)
+property-within : (p : Property) → IsProperty p → IsWithinWord (property_word p)
 property-within p can =
     front-within (codes "prop=") (word p.0 ++ 61 ∷ word p.1) refl
     (All-append (λ c. (c == 32) ≡ false) (word p.0) (61 ∷ word p.1) (word-within p.0 can.0.0) (front-within (61 ∷ []) (word p.1) refl (word-within p.1 can.1.0)))
 
 -- A MESSAGE
 
-properties-say : (d : Draft) (ps : List (List ℕ × List ℕ)) → AllByRecursion IsProperty ps → IsStrictlySortedBy (slice_cmp nat_cmp) (map (λ p. p.0) ps) → AreBelow d.message.properties ps →
+properties-say : (d : Draft) (ps : List Property) → AllByRecursion IsProperty ps → IsStrictlySortedBy (slice_cmp nat_cmp) (map (λ p. p.0) ps) → AreBelow d.message.properties ps →
     Say (map property_word ps) d (record d { message = record d.message { properties = d.message.properties ++ ps } })
 properties-say d ps can ordered below = record { is = properties-read d ps can ordered below; within = all-map IsProperty IsWithinWord property_word property-within ps can }
 
@@ -330,9 +375,9 @@ clusters-say : (d : Draft) (ts : List (List ℕ)) → AllByRecursion IsText ts �
     Say (map (λ t. codes "rep=" ++ word t) ts) d (record d { message = record d.message { replicate_to = d.message.replicate_to ++ ts } })
 clusters-say d ts can = record { is = clusters-read d ts can; within = all-map IsText IsWithinWord (λ t. codes "rep=" ++ word t) (λ t is. front-within (codes "rep=") (word t) refl (word-within t is.0)) ts can }
 
--- a message is what its words say
-message-said : (m : Outgoing) → CanBeSent m → Say (message_words m) blank (record { message = m; has_data = true })
-message-said m can =
+-- a plain message is what its words say
+plain-said : (m : ProducerMessageValues) → CanBeSent m → Say (message_words m) blank (record { message = plain m; has_data = true })
+plain-said m can =
     say-first blank (with_data blank m.payload) (codes "data=" ++ word m.payload) (front-within (codes "data=") (word m.payload) refl (word-within m.payload can.payload)) (data-reads m.payload can.payload)
     (say-both (say-both (say-both (say-both (say-both (say-both
     (properties-say (with_data blank m.payload) m.properties can.properties can.ordered (none-below m.properties))
@@ -341,9 +386,12 @@ message-said m can =
     (clusters-say _ m.replicate_to can.replicate_to))
     (et-reads _ m.event_time can.event_time refl))
     (sv-reads _ m.schema_version can.schema_version refl))
-    (at-reads _ m.deliver_at can.deliver_at refl))
+    (at-reads _ m.deliver_at_time can.deliver_at_time refl))
 
-message-reads : (m : Outgoing) → CanBeSent m → message (message_words m) ≡ Some m
+message-said : (m : ProducerMessageValues) → CanBeSent m → Say (message_words m) blank (record { message = m; has_data = true })
+message-said m can = subst (λ t. Say (message_words m) blank (record { message = t; has_data = true })) can.is_plain (plain-said m can)
+
+message-reads : (m : ProducerMessageValues) → CanBeSent m → message (message_words m) ≡ Some m
 message-reads m can = ap (λ o. o >>= λ (d : Draft). Some d.message) (message-said m can).is
 
 -- THE BYTES OF AN ID
@@ -433,11 +481,11 @@ row-bytes (Numbers n row) vs is fits =
 id-holds-numbers : HoldsNumbers message_id
 id-holds-numbers = (omega arith, tt, (omega arith, tt, (omega arith, tt, (omega arith, tt, (omega arith, (omega arith, tt, tt))))))
 
-id-bytes : (i : Id) → Fits message_id (id_values i) → IsBytes (spelling message_id (id_values i))
-id-bytes i fits = is-bytes (spelling message_id (id_values i)) (row-bytes message_id (id_values i) id-holds-numbers fits.0)
+id-bytes : (i : Values message_id) → IsId i → IsBytes (spelling message_id i)
+id-bytes i fits = is-bytes (spelling message_id i) (row-bytes message_id i id-holds-numbers fits.0)
 
 -- the ledger always stands there
-id-some : (i : Id) → 0 < length (spelling message_id (id_values i))
+id-some : (i : Values message_id) → 0 < length (spelling message_id i)
 unfolding spelling varint_in
 id-some i = omega arith
 
@@ -454,45 +502,97 @@ hex-of-id : (w bytes : List ℕ) → hex w ≡ Some bytes → id_bytes w ≡ Som
 hex-of-id w bytes h = rw (not-percent w bytes (bytes_eq w (codes "%")) refl h) h
 
 -- an id is read from the hex of its bytes
-id-reads : (i : Id) → Fits message_id (id_values i) → id (id_word i) ≡ Some i
+id-reads : (i : Values message_id) → IsId i → id (id_word i) ≡ Some i
 id-reads i fits =
-    let bytes = spelling message_id (id_values i) in
-    ap (λ o. o >>= λ b. reading message_id b >>= λ vs. Some (id_in vs)) (hex-of-id (id_word i) bytes (hex-encoded bytes (id-bytes i fits) (id-some i)))
-    ∙ ap (λ o. o >>= λ vs. Some (id_in vs)) (round_trip message_id (id_values i) refl fits)
+    let bytes = spelling message_id i in
+    ap (λ o. o >>= reading message_id) (hex-of-id (id_word i) bytes (hex-encoded bytes (id-bytes i fits) (id-some i))) ∙ round_trip message_id i refl fits
 
-ids-read : (is : List Id) → AllByRecursion (λ i. Fits message_id (id_values i)) is → each id (map id_word is) ≡ Some is
+ids-read : (is : List (Values message_id)) → AllByRecursion IsId is → each id (map id_word is) ≡ Some is
 ids-read [] can = refl
 ids-read (i ∷ is) can = rw (id-reads i can.0, ids-read is can.1) refl
 
-id-within : (i : Id) → Fits message_id (id_values i) → IsWithinWord (id_word i)
-id-within i fits = hex-within (spelling message_id (id_values i)) (id-bytes i fits)
+id-within : (i : Values message_id) → IsId i → IsWithinWord (id_word i)
+id-within i fits = hex-within (spelling message_id i) (id-bytes i fits)
+
+ids-within : (is : List (Values message_id)) → AllByRecursion IsId is → AllByRecursion IsWithinWord (map id_word is)
+ids-within is can = all-map IsId IsWithinWord id_word id-within is can
+
+place-reads : (o : Option (Values message_id)) → Where IsId o → optional id (optional_word id_word o) ≡ Some o
+place-reads None can = refl
+place-reads (Some i) can =
+    let is = id-reads i can in
+    there id (id_word i) i (apart id (id_word i) i refl is) is
+
+place-within : (o : Option (Values message_id)) → Where IsId o → IsWithinWord (optional_word id_word o)
+place-within None can = single 126 refl
+place-within (Some i) can = id-within i can
+
+-- CREDENTIALS
+
+pub credential-reads : (c : AuthenticationValues) → IsCredential c → credential (word c.name) (word c.auth_data) ≡ Some c
+credential-reads c can = rw (text-word c.name can.0.0 can.0.1, word-bytes c.auth_data can.1) refl
+
+pub credential-within : (c : AuthenticationValues) → IsCredential c → AllByRecursion IsWithinWord (credential_words c)
+credential-within c can = (word-within c.name can.0.0, (word-within c.auth_data can.1, tt))
 
 -- WHAT IS ASKED OF ONE CONNECTION
 
 -- no word has a blank
 pub raw-within : (what : Words) → CanBeSaid what → AllByRecursion IsWithinWord (raw_words what)
-raw-within (CreateProducer topic producer called) can =
+raw-within SendPing can = (tested-within (codes "ping") refl, tt)
+raw-within SendPong can = absurd can
+raw-within (AuthChallenge auth) can = (tested-within (codes "auth") refl, credential-within auth can)
+raw-within (LookupTopic topic authoritative) can =
+    (tested-within (codes "lookup") refl, (word-within topic can.0, (flag-within authoritative, tt)))
+raw-within (LookupPartitionedTopic topic) can = (tested-within (codes "partitions") refl, (word-within topic can.0, tt))
+raw-within (GetTopicsOfNamespace namespace which) can =
+    (tested-within (codes "topics") refl, (word-within namespace can.0, (mode-within which, tt)))
+raw-within (GetSchema topic version) can =
+    (tested-within (codes "schema") refl, (word-within topic can.0.0, (bytes-within version can.1, tt)))
+raw-within (CreateProducer topic producer called options) can =
     (tested-within (codes "producer") refl, (word-within topic can.0.0, (decimal-within producer can.1, (name-within called can.2, tt))))
-raw-within (Send producer called sequence m waits) can =
-    (tested-within (codes "send") refl, (decimal-within producer can.0, (word-within called can.1.0, (decimal-within sequence can.2, (flag-within waits, (message-said m can.3).within)))))
+raw-within (Send producer called sequence m block) can =
+    (tested-within (codes "send") refl, (decimal-within producer can.0, (word-within called can.1.0, (decimal-within sequence can.2, (flag-within block, (message-said m can.3).within)))))
 raw-within (CloseProducer producer) can = (tested-within (codes "close-producer") refl, (decimal-within producer can, tt))
-raw-within (Subscribe topic subscription kind consumer) can =
+raw-within (Subscribe topic subscription kind consumer called options) can =
     (tested-within (codes "subscribe") refl, (word-within topic can.0.0, (word-within subscription can.1.0, (type-within kind, (decimal-within consumer can.2, tt)))))
-raw-within (Flow consumer permits) can =
+raw-within (SendFlow consumer permits) can =
     let wide : permits < 2 ^ 64 = let lt = can.1 in omega (arith, lt) in
     (tested-within (codes "flow") refl, (decimal-within consumer can.0, (decimal-within permits wide, tt)))
-raw-within (Ack consumer ids upto) can =
-    (tested-within (codes "ack") refl, (decimal-within consumer can.0, (cumulative-within upto, all-map (λ i. Fits message_id (id_values i)) IsWithinWord id_word id-within ids can.1)))
+raw-within (SendAck consumer ids upto) can =
+    (tested-within (codes "ack") refl, (decimal-within consumer can.0, (cumulative-within upto, ids-within ids can.1)))
+raw-within (SendRedeliver consumer ids) can =
+    (tested-within (codes "redeliver") refl, (decimal-within consumer can.0, ids-within ids can.1))
+raw-within (Seek consumer place time) can =
+    (tested-within (codes "seek") refl, (decimal-within consumer can.0, (place-within place can.1, (time-within time can.2, tt))))
+raw-within (GetLastMessageId consumer) can = (tested-within (codes "last-id") refl, (decimal-within consumer can, tt))
+raw-within (GetConsumerStats consumer) can = (tested-within (codes "stats") refl, (decimal-within consumer can, tt))
+raw-within (Unsubscribe consumer) can = (tested-within (codes "unsubscribe") refl, (decimal-within consumer can, tt))
 raw-within (CloseConsumer consumer) can = (tested-within (codes "close-consumer") refl, (decimal-within consumer can, tt))
+raw-within (CloseConsumerUnawaited consumer) can = absurd can
 
 -- the words are read as what they were written for
 pub raw-reads : (what : Words) → CanBeSaid what → raw_call (raw_words what) ≡ Some what
-raw-reads (CreateProducer topic producer called) can = rw (text-word topic can.0.0 can.0.1, number-decimal producer can.1, name-reads called can.2) refl
-raw-reads (Send producer called sequence m waits) can =
-    rw (number-decimal producer can.0, text-word called can.1.0 can.1.1, number-decimal sequence can.2, flag-reads waits, message-reads m can.3) refl
+raw-reads SendPing can = refl
+raw-reads SendPong can = absurd can
+raw-reads (AuthChallenge auth) can = rw (credential-reads auth can) refl
+raw-reads (LookupTopic topic authoritative) can = rw (text-word topic can.0 can.1, flag-reads authoritative) refl
+raw-reads (LookupPartitionedTopic topic) can = rw (text-word topic can.0 can.1) refl
+raw-reads (GetTopicsOfNamespace namespace which) can = rw (text-word namespace can.0 can.1, mode-reads which) refl
+raw-reads (GetSchema topic version) can = rw (text-word topic can.0.0 can.0.1, bytes-reads version can.1) refl
+raw-reads (CreateProducer topic producer called options) can =
+    rw (text-word topic can.0.0 can.0.1, number-decimal producer can.1, name-reads called can.2, can.3) refl
+raw-reads (Send producer called sequence m block) can =
+    rw (number-decimal producer can.0, text-word called can.1.0 can.1.1, number-decimal sequence can.2, flag-reads block, message-reads m can.3) refl
 raw-reads (CloseProducer producer) can = rw (number-decimal producer can) refl
-raw-reads (Subscribe topic subscription kind consumer) can =
-    rw (text-word topic can.0.0 can.0.1, text-word subscription can.1.0 can.1.1, type-reads kind, number-decimal consumer can.2) refl
-raw-reads (Flow consumer permits) can = rw (number-decimal consumer can.0, small-reads permits can.1) refl
-raw-reads (Ack consumer ids upto) can = rw (number-decimal consumer can.0, cumulative-reads upto, ids-read ids can.1) refl
+raw-reads (Subscribe topic subscription kind consumer called options) can =
+    rw (text-word topic can.0.0 can.0.1, text-word subscription can.1.0 can.1.1, type-reads kind, number-decimal consumer can.2, can.3, can.4) refl
+raw-reads (SendFlow consumer permits) can = rw (number-decimal consumer can.0, small-reads permits can.1) refl
+raw-reads (SendAck consumer ids upto) can = rw (number-decimal consumer can.0, cumulative-reads upto, ids-read ids can.1) refl
+raw-reads (SendRedeliver consumer ids) can = rw (number-decimal consumer can.0, ids-read ids can.1) refl
+raw-reads (Seek consumer place time) can = rw (number-decimal consumer can.0, place-reads place can.1, time-reads time can.2) refl
+raw-reads (GetLastMessageId consumer) can = rw (number-decimal consumer can) refl
+raw-reads (GetConsumerStats consumer) can = rw (number-decimal consumer can) refl
+raw-reads (Unsubscribe consumer) can = rw (number-decimal consumer can) refl
 raw-reads (CloseConsumer consumer) can = rw (number-decimal consumer can) refl
+raw-reads (CloseConsumerUnawaited consumer) can = absurd can

@@ -8,12 +8,12 @@ use Rattle.pulsar_wire.specs.declared.error.IoKind.{IoKind}
 use Rattle.pulsar_wire.specs.declared.error.IoKind.TheVariants as io
 use Rattle.pulsar_wire.specs.declared.error.Reason.{Reason}
 use Rattle.pulsar_wire.specs.declared.error.Reason.TheVariants as reason
-use Rattle.pulsar_link.specs.Failures.{Fault, Io, SlowDown, Disconnected, PulsarError, Unexpected, Decoding, Encoding, SocketAddr, UnexpectedResponse, Authentication, NotFound, Canceled, Shutdown, Exhausted, NoMemory}
-use Rattle.pulsar_link.specs.Failures.{ConsumerFault, ConsumerConnection, MissingPayload, ConsumerIo, ChannelFull, ConsumerClosed, ConsumerBuild}
-use Rattle.pulsar_link.specs.Failures.{DiscoveryFault, DiscoveryConnection, Query, DiscoveryNotFound, DnsLookup, DiscoveryCanceled, DiscoveryShutdown, Dummy}
-use Rattle.pulsar_link.specs.Failures.{ProducerFault, ProducerConnection, ProducerCustom, ProducerIo, Fenced, ProducerClosed}
-use Rattle.pulsar_link.specs.Failures as failures
-use Rattle.pulsar_link.specs.Failures.{Failure, OfConnection, OfConsumer, OfProducer, OfBatch, OfPartialSend, OfDiscovery, OfAuthentication, Executor, Sent, NoMore, Went, Failed}
+use Rattle.pulsar_session.specs.Failures.{Fault, Io, SlowDown, Disconnected, PulsarError, Unexpected, Decoding, Encoding, SocketAddr, UnexpectedResponse, Authentication, NotFound, Canceled, Shutdown, Exhausted, NoMemory}
+use Rattle.pulsar_session.specs.Failures.{ConsumerFault, ConsumerConnection, MissingPayload, ConsumerIo, ChannelFull, ConsumerClosed, ConsumerBuild}
+use Rattle.pulsar_session.specs.Failures.{DiscoveryFault, DiscoveryConnection, Query, DiscoveryNotFound, DnsLookup, DiscoveryCanceled, DiscoveryShutdown, Dummy}
+use Rattle.pulsar_session.specs.Failures.{ProducerFault, ProducerConnection, ProducerCustom, ProducerIo, Fenced, ProducerClosed}
+use Rattle.pulsar_session.specs.Failures as failures
+use Rattle.pulsar_session.specs.Failures.{Failure, OfConnection, OfConsumer, OfProducer, OfBatch, OfPartialSend, OfDiscovery, OfAuthentication, Executor, Sent, NoMore, Went, Failed}
 use Rattle.pulsar_cli.specs.WordText.{word}
 
 abbrev pub io_kind : IoKind → List ℕ
@@ -80,7 +80,13 @@ fault_detail (Encoding r) = 32 ∷ reason_word r
 fault_detail (SocketAddr text) = 32 ∷ word text
 fault_detail (UnexpectedResponse body) = 32 ∷ word body
 fault_detail (Authentication d) = denial_detail d
-fault_detail _ = []
+fault_detail SlowDown = []
+fault_detail Disconnected = []
+fault_detail NotFound = []
+fault_detail Canceled = []
+fault_detail Shutdown = []
+fault_detail Exhausted = []
+fault_detail NoMemory = []
 
 -- an error of a consumer
 abbrev pub consumer_word : ConsumerFault → List ℕ
@@ -95,7 +101,9 @@ abbrev pub consumer_detail : ConsumerFault → List ℕ
 consumer_detail (ConsumerConnection f) = fault_detail f
 consumer_detail (MissingPayload text) = 32 ∷ word text
 consumer_detail (ConsumerIo kind) = 32 ∷ io_kind kind
-consumer_detail _ = []
+consumer_detail ChannelFull = []
+consumer_detail ConsumerClosed = []
+consumer_detail ConsumerBuild = []
 
 -- an error of the search for a topic's broker
 abbrev pub discovery_word : DiscoveryFault → List ℕ
@@ -110,7 +118,11 @@ discovery_word Dummy = codes "dummy"
 abbrev pub discovery_detail : DiscoveryFault → List ℕ
 discovery_detail (DiscoveryConnection f) = fault_detail f
 discovery_detail (Query e text) = broker_error e text
-discovery_detail _ = []
+discovery_detail DiscoveryNotFound = []
+discovery_detail DnsLookup = []
+discovery_detail DiscoveryCanceled = []
+discovery_detail DiscoveryShutdown = []
+discovery_detail Dummy = []
 
 -- an error of a producer
 abbrev pub producer_word : ProducerFault → List ℕ
@@ -124,7 +136,8 @@ abbrev pub producer_detail : ProducerFault → List ℕ
 producer_detail (ProducerConnection f) = fault_detail f
 producer_detail (ProducerCustom text) = 32 ∷ word text
 producer_detail (ProducerIo kind) = 32 ∷ io_kind kind
-producer_detail _ = []
+producer_detail Fenced = []
+producer_detail ProducerClosed = []
 
 -- the first word of an error: a family, and a word in it
 abbrev pub family : Failure → List ℕ
@@ -138,7 +151,8 @@ family (OfPartialSend s) = codes "producer."
 family (OfDiscovery (DiscoveryConnection f)) = codes "discovery.connection."
 family (OfDiscovery f) = codes "discovery."
 family (OfAuthentication d) = codes "authentication."
-family _ = []
+family (failures.Custom text) = []
+family Executor = []
 
 abbrev pub word_in_family : Failure → List ℕ
 word_in_family (OfConnection f) = fault_word f

@@ -3,25 +3,21 @@ use Rattle.std.specs.Prelude.{ℕ, ◌==◌, if◌then◌else◌, List, [], ◌�
 use Rattle.std.specs.List.{slice_split}
 use Rattle.std.specs.Str.{bytes_eq}
 use Rattle.pulsar_wire.specs.Field.{◌>>=◌}
-use Rattle.pulsar_wire.specs.declared.commands.topics.Mode.{Mode}
-use Rattle.pulsar_wire.specs.declared.commands.topics.Mode.TheVariants.{Persistent, NonPersistent, All}
-use Rattle.pulsar_wire.specs.declared.error.IoKind.{IoKind}
-use Rattle.pulsar_wire.specs.declared.error.IoKind.TheVariants.{Other}
-use Rattle.pulsar_client.specs.Content.{Asked, Build, Topics, Raw, Heard, Called, Opened, FailedToOpen, Bytes, Lost, Drain, Poll}
+use Rattle.pulsar_messages.specs.Content.{AuthenticationValues}
+use Rattle.pulsar_client.specs.Content.{Asked, Build, Stop, Topics, Raw, Heard, Called, Opened, FailedToOpen, Bytes, Lost, Drain, Ticked, Poll}
 use Rattle.pulsar_cli.specs.Words.{words, number, text, hex}
-use Rattle.pulsar_cli.specs.RawLines.{raw_call}
-
-abbrev pub mode : List ℕ → Option Mode
-mode word =
-    if bytes_eq word (codes "persistent") then Some Persistent
-    else if bytes_eq word (codes "non-persistent") then Some NonPersistent
-    else if bytes_eq word (codes "all") then Some All
-    else None
+use Rattle.pulsar_cli.specs.Choices.{kind, mode}
+use Rattle.pulsar_cli.specs.RawLines.{credential, raw_call}
 
 -- call build
 abbrev pub build : List (List ℕ) → Option Asked
 build [] = Some Build
 build _ = None
+
+-- call stop
+abbrev pub stop : List (List ℕ) → Option Asked
+stop [] = Some Stop
+stop _ = None
 
 -- call topics NAMESPACE MODE
 abbrev pub topics : List (List ℕ) → Option Asked
@@ -44,6 +40,7 @@ abbrev pub call : List (List ℕ) → Option Asked
 call [] = None
 call (w ∷ ws) =
     if bytes_eq w (codes "build") then build ws
+    else if bytes_eq w (codes "stop") then stop ws
     else if bytes_eq w (codes "topics") then topics ws
     else if bytes_eq w (codes "link") then on_link ws
     else None
@@ -56,10 +53,6 @@ called ws = call ws >>= λ c. Some (Called c)
 abbrev pub opened : List (List ℕ) → Option Heard
 opened (l ∷ []) = number l >>= λ link. Some (Opened link)
 opened _ = None
-
--- why a connection could not be opened
-abbrev pub kind : List ℕ → Option IoKind
-kind word = if bytes_eq word (codes "other") then Some Other else None
 
 -- failed LINK KIND
 abbrev pub failed : List (List ℕ) → Option Heard
@@ -90,6 +83,11 @@ drain (l ∷ n ∷ []) = do
   Some (Drain link most)
 drain _ = None
 
+-- tick NUMBER
+abbrev pub tick : List (List ℕ) → Option Heard
+tick (n ∷ []) = number n >>= λ now. Some (Ticked now)
+tick _ = None
+
 -- poll TICKET
 abbrev pub poll : List (List ℕ) → Option Heard
 poll (t ∷ []) = number t >>= λ ticket. Some (Poll ticket)
@@ -105,29 +103,53 @@ event (w ∷ ws) =
     else if bytes_eq w (codes "bytes") then bytes ws
     else if bytes_eq w (codes "lost") then lost ws
     else if bytes_eq w (codes "drain") then drain ws
+    else if bytes_eq w (codes "tick") then tick ws
     else if bytes_eq w (codes "poll") then poll ws
     else None
 
--- an option of the client: the URL of the service, or the time of the client's start, in milliseconds since 1970
+-- An option of the client: the URL of the service, the credential, how many frames of a connection may be queued and not written,
+-- how long a request waits for its reply, and an attempt for its connection, in milliseconds, the number of the first request of
+-- a connection, and the time of the client's start, in milliseconds since 1970.
 pub data Setting : Type 0 where
   Url : (text : List ℕ) → Setting
+  Auth : (credential : AuthenticationValues) → Setting
+  Outbound : (size : ℕ) → Setting
+  Timeout : (time : ℕ) → Setting
+  ConnectionTimeout : (time : ℕ) → Setting
+  First : (number : ℕ) → Setting
   Now : (time : ℕ) → Setting
 
 -- set url TEXT
-abbrev pub url : List ℕ → Option Setting
-url word = text word >>= λ t. Some (Url t)
+abbrev pub url : List (List ℕ) → Option Setting
+url (t ∷ []) = text t >>= λ text. Some (Url text)
+url _ = None
 
--- set now NUMBER
-abbrev pub time : List ℕ → Option Setting
-time word = number word >>= λ n. Some (Now n)
+-- set auth TEXT WORD
+abbrev pub auth : List (List ℕ) → Option Setting
+auth (n ∷ s ∷ []) = credential n s >>= λ c. Some (Auth c)
+auth _ = None
+
+-- an option that is a number
+abbrev pub number_setting : (option : List ℕ) → ℕ → Option Setting
+number_setting w n =
+    if bytes_eq w (codes "outbound") then Some (Outbound n)
+    else if bytes_eq w (codes "timeout") then Some (Timeout n)
+    else if bytes_eq w (codes "connection-timeout") then Some (ConnectionTimeout n)
+    else if bytes_eq w (codes "first") then Some (First n)
+    else if bytes_eq w (codes "now") then Some (Now n)
+    else None
+
+abbrev pub set_number : (option : List ℕ) → List (List ℕ) → Option Setting
+set_number w (v ∷ []) = number v >>= number_setting w
+set_number w _ = None
 
 -- what stands behind `set`
 abbrev pub set : List (List ℕ) → Option Setting
-set (w ∷ v ∷ []) =
-    if bytes_eq w (codes "url") then url v
-    else if bytes_eq w (codes "now") then time v
-    else None
-set _ = None
+set [] = None
+set (w ∷ ws) =
+    if bytes_eq w (codes "url") then url ws
+    else if bytes_eq w (codes "auth") then auth ws
+    else set_number w ws
 
 -- what a line is: nothing, a setting, an event, or not of the grammar
 pub data Line : Type 0 where

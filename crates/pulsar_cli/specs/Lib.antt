@@ -1,4 +1,5 @@
 pub mod Words
+pub mod Choices
 pub mod MessageWords
 pub mod RawLines
 pub mod Grammar
@@ -7,5 +8,6 @@ pub mod ErrorText
 pub mod Text
 pub mod Script
 pub mod Shown
+pub mod Parsed
 pub mod WrittenRaw
 pub mod Written

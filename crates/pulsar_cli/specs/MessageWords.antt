@@ -6,16 +6,16 @@ use Rattle.std.specs.Option.{is_some}
 use Rattle.std.specs.Ordering.{nat_cmp}
 use Rattle.std.specs.Str.{bytes_eq}
 use Rattle.pulsar_wire.specs.Field.{◌>>=◌}
-use Rattle.pulsar_link.specs.RawCall.{Outgoing, silent}
+use Rattle.pulsar_messages.specs.Content.{ProducerMessageValues, empty_message}
 use Rattle.pulsar_cli.specs.Words.{number, text, word_bytes}
 
 -- what the words so far say: each part stands once, but for properties and clusters
 pub record Draft : Type 0 where
-  pub message : Outgoing
+  pub message : ProducerMessageValues
   pub has_data : Bool
 
 abbrev pub blank : Draft
-blank = record { message = silent; has_data = false }
+blank = record { message = empty_message; has_data = false }
 
 -- what stands in front of the first `=`, and behind it
 abbrev pub cut : List ℕ → Option (List ℕ × List ℕ)
@@ -52,7 +52,7 @@ abbrev pub with_schema_version : Draft → List ℕ → Draft
 with_schema_version d version = record d { message = record d.message { schema_version = Some version } }
 
 abbrev pub with_delivery : Draft → ℤ → Draft
-with_delivery d time = record d { message = record d.message { deliver_at = Some time } }
+with_delivery d time = record d { message = record d.message { deliver_at_time = Some time } }
 
 abbrev pub with_cluster : Draft → List ℕ → Draft
 with_cluster d cluster = record d { message = record d.message { replicate_to = d.message.replicate_to ++ cluster ∷ [] } }
@@ -84,7 +84,7 @@ schema_version d word = unless (is_some d.message.schema_version) (word_bytes wo
 
 -- at=NUMBER
 abbrev pub delivery : Draft → List ℕ → Option Draft
-delivery d word = unless (is_some d.message.deliver_at) (signed word >>= λ n. Some (with_delivery d n))
+delivery d word = unless (is_some d.message.deliver_at_time) (signed word >>= λ n. Some (with_delivery d n))
 
 -- rep=TEXT
 abbrev pub cluster : Draft → List ℕ → Option Draft
@@ -122,5 +122,5 @@ abbrev pub all : Draft → List (List ℕ) → Option Draft
 all d [] = Some d
 all d (w ∷ ws) = one d w >>= λ e. all e ws
 
-abbrev pub message : List (List ℕ) → Option Outgoing
+abbrev pub message : List (List ℕ) → Option ProducerMessageValues
 message ws = all blank ws >>= λ d. Some d.message

@@ -7,7 +7,7 @@ use Rattle.pulsar_client.specs.Content.{Heard}
 use Rattle.pulsar_client.specs.View.{Chosen}
 use Rattle.pulsar_client.specs.Outside.{Rose}
 use Rattle.pulsar_client.specs.Run.{Good, Step, is_empty}
-use Rattle.pulsar_cli.specs.Grammar.{Setting, Url, Now, Line, Nothing, Sets, Happens, Refused, line, lines}
+use Rattle.pulsar_cli.specs.Grammar.{Setting, Url, Auth, Outbound, Timeout, ConnectionTimeout, First, Now, Line, Nothing, Sets, Happens, Refused, line, lines}
 use Rattle.pulsar_cli.specs.Text.{step, refusal}
 
 -- the words are `script` alone
@@ -21,27 +21,40 @@ limit = 268435456
 
 -- what a script says: the options of its client, and its events
 pub record Script : Type 0 where
-  pub url : List ℕ
-  pub now : ℕ
+  pub options : Chosen
   pub events : List Heard
+
+-- the options where none is set
+abbrev pub defaults : Chosen
+defaults =
+    record {
+      address = address_of (codes "pulsar://127.0.0.1:6650");
+      auth = None;
+      outbound = 100;
+      operation_timeout = 30000;
+      connection_timeout = 10000;
+      first_number = 0;
+      now = 0;
+    }
 
 -- a script that says nothing
 abbrev pub blank : Script
-blank = record { url = codes "pulsar://127.0.0.1:6650"; now = 0; events = [] }
-
--- the client of a script has the options of its `set` lines
-abbrev pub options : Script → Chosen
-options s = record { first_number = 0; now = s.now; address = address_of s.url }
+blank = record { options = defaults; events = [] }
 
 -- an option that is set again has the later value
-abbrev pub sets : Setting → Script → Script
-sets (Url text) s = record s { url = text }
-sets (Now time) s = record s { now = time }
+abbrev pub chooses : Setting → Chosen → Chosen
+chooses (Url text) o = record o { address = address_of text }
+chooses (Auth credential) o = record o { auth = Some credential }
+chooses (Outbound size) o = record o { outbound = size }
+chooses (Timeout time) o = record o { operation_timeout = time }
+chooses (ConnectionTimeout time) o = record o { connection_timeout = time }
+chooses (First number) o = record o { first_number = number }
+chooses (Now time) o = record o { now = time }
 
 -- one more line; there is no script where it isn't in the grammar, or is a `set` line behind an event
 abbrev pub with_line : Line → Script → Option Script
 with_line Nothing s = Some s
-with_line (Sets setting) s = if is_empty s.events then Some (sets setting s) else None
+with_line (Sets setting) s = if is_empty s.events then Some (record s { options = chooses setting s.options }) else None
 with_line (Happens e) s = Some (record s { events = s.events ++ e ∷ [] })
 with_line Refused s = None
 
@@ -72,7 +85,7 @@ pub record IsRunOf (ls : List (List ℕ)) (h : List Step) : Type 0 where
   pub script : Script
   pub is : script_of ls ≡ Some script
   pub events : script.events ≡ happened h
-  pub good : Good (options script) h
+  pub good : Good script.options h
 
 -- What is seen of a source, or of a sink: what it has left, or holds, before and after, where it tells that, and how many
 -- faults it has counted.

@@ -1,59 +1,22 @@
--- For the code's contracts alone: what its values stand for.
-use Rattle.std.specs.Prelude.{◌≡◌, ◌⊎◌, ◌↔◌, ◌<◌, ◌==◌, ℕ, ◌+◌, List, [], ◌∷◌, ◌++◌, Option, Some, None, false, length, map, string_bytes, Vec, Result, Ok, Err, OnOk, IfErr}
-use Rattle.std.specs.List.{All}
-use Rattle.pulsar_cli.specs.Words.{digits_from, in_range}
-use Rattle.pulsar_wire.specs.declared.commands.ids.MessageIdData.{MessageIdData}
-use Rattle.pulsar_link.specs.RawCall.{Id, id_of, outgoing}
-use Rattle.pulsar_cli.specs.MessageWords.{Draft}
-use Rattle.pulsar_cli.specs.declared.grammar.message.Draft.{Draft as ParsedDraft}
-use Rattle.pulsar_cli.specs.declared.grammar.line.Line.{Line as Parsed}
-use Rattle.pulsar_cli.specs.declared.grammar.line.Line.TheVariants as parsed
-use Rattle.pulsar_cli.specs.declared.grammar.line.Setting.{Setting as ParsedSetting}
-use Rattle.pulsar_cli.specs.declared.grammar.line.Setting.TheVariants as setting
+-- For the code's contracts alone: what a reading of a script stands for.
+use Rattle.std.specs.Prelude.{◌≡◌, ◌⊎◌, ◌↔◌, ◌<◌, ℕ, ◌+◌, List, [], ◌∷◌, ◌++◌, Option, Some, None, false, length, string_bytes, Result, Ok, Err, OnOk, IfErr}
 use Rattle.pulsar_client.specs.declared.pulsar.Pulsar.{Pulsar}
 use Rattle.pulsar_cli.specs.declared.reading.Reading.{Reading}
 use Rattle.pulsar_cli.specs.declared.stop.Stop.{Stop}
 use Rattle.pulsar_cli.specs.declared.stop.Stop.TheVariants as stop
 use Rattle.pulsar_client.specs.Outside.{Rose}
-use Rattle.pulsar_client.specs.Content.{Heard, Shown, heard}
+use Rattle.pulsar_client.specs.Content.{Heard, Shown}
 use Rattle.pulsar_client.specs.Run.{Step, is_empty}
-use Rattle.pulsar_client.specs.Client.{StandsFor}
+use Rattle.pulsar_client.specs.Client.{StandsFor, chosen}
 use Rattle.pulsar_client.specs.View.{Chosen}
-use Rattle.pulsar_cli.specs.Grammar.{Setting, Url, Now, Line, Nothing, Sets, Happens, Refused, lines}
+use Rattle.pulsar_cli.specs.Grammar.{lines}
+use Rattle.pulsar_cli.specs.Parsed.{IsWithinLine}
 use Rattle.pulsar_cli.specs.Text.{step}
-use Rattle.pulsar_cli.specs.Script.{Script, Adds, Given, IsDone, IsStopped, Seen, limit, options, script_of, happened, text}
-
--- the ids of a list
-abbrev pub ids_of : {Z : Type 0} → Vec MessageIdData Z → List Id
-ids_of ids = map id_of ids.items
-
--- what the words of a message so far say
-abbrev pub draft_of : ParsedDraft → Draft
-draft_of d = record { message = outgoing d.message; has_data = d.has_data }
-
--- what a parsed setting is, and a parsed line
-abbrev pub setting_of : ParsedSetting → Setting
-setting_of (setting.Url text) = Url (string_bytes text)
-setting_of (setting.Now time) = Now time
-
-abbrev pub line_of : Parsed → Line
-line_of parsed.Nothing = Nothing
-line_of (parsed.Sets s) = Sets (setting_of s)
-line_of (parsed.Happens e) = Happens (heard e)
-line_of parsed.Refused = Refused
-
--- the number of the digits that follow those that were read
-abbrev pub more_digits : Option ℕ → List ℕ → Option ℕ
-more_digits None ds = None
-more_digits (Some n) ds = in_range (digits_from n ds)
-
--- there is no line feed
-abbrev pub IsWithinLine : List ℕ → Type 0
-IsWithinLine bytes = All (λ b. (b == 10) ≡ false) bytes
+use Rattle.pulsar_cli.specs.Script.{Script, Adds, Given, IsDone, IsStopped, Seen, limit, script_of, happened, text}
 
 -- what a reading with this history says of its script
 abbrev pub said : Reading → List Step → Script
-said r h = record { url = string_bytes r.url; now = r.time; events = happened h }
+said r h = record { options = chosen r.options; events = happened h }
 
 -- the client of a history: there is none where nothing has happened yet
 abbrev pub IsClient : Chosen → Option Pulsar → List Step → Type 0
@@ -63,15 +26,14 @@ IsClient o (Some c) h = StandsFor o c h × (is_empty h ≡ false)
 -- a reading has read these lines, this is their history, and the front of its text was put
 pub record Reads (r : Reading) (put : List ℕ) (read : List (List ℕ)) (h : List Step) : Type 0 where
   pub script : script_of read ≡ Some (said r h)
-  pub client : IsClient (options (said r h)) r.client h
+  pub client : IsClient (chosen r.options) r.client h
   pub count : r.events ≡ length h
   pub number : r.line ≡ length read + 1
   pub text : put ++ string_bytes r.out ≡ text h
 
 -- the same options of the client
-pub record KeepsOptions (old new : Reading) : Type 0 where
-  pub url : new.url ≡ old.url
-  pub time : new.time ≡ old.time
+abbrev pub KeepsOptions : Reading → Reading → Type 0
+KeepsOptions old new = new.options ≡ old.options
 
 -- the same text and the same count of events
 pub record KeepsText (old new : Reading) : Type 0 where
@@ -96,9 +58,9 @@ IsNoScriptWith r line =
 -- the client has gone on by a step of this event, whose text waits
 abbrev pub Steps : Reading → Reading → Heard → Type 0
 Steps old new event =
-    (h : List Step) → IsClient (options (said old [])) old.client h
+    (h : List Step) → IsClient (chosen old.options) old.client h
     → (effects : List Shown)
-    × IsClient (options (said old [])) new.client (record { event = event; effects = effects } ∷ h)
+    × IsClient (chosen old.options) new.client (record { event = event; effects = effects } ∷ h)
     × (string_bytes new.out ≡ string_bytes old.out ++ step old.events effects)
 
 -- the lines of the bytes that were consumed, and the front of the next one

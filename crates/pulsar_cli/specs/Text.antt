@@ -17,6 +17,7 @@ answer (Failed f) = codes "err " ++ failure f
 
 abbrev pub settled_as : Settlement → List ℕ
 settled_as settlement.Reply = codes "reply"
+settled_as settlement.TimedOut = codes "timedout"
 settled_as settlement.Disconnected = codes "disconnected"
 
 abbrev pub effect : Shown → List ℕ

@@ -1,5 +1,5 @@
 -- The words of a script: numbers, words with escapes, and hex.
-use Rattle.std.specs.Prelude.{ℕ, ◌+◌, ◌-◌, ◌*◌, ◌^◌, ◌==◌, nat_lt, nat_le, ◌&&◌, Bool, if◌then◌else◌, List, [], ◌∷◌, Option, Some, None}
+use Rattle.std.specs.Prelude.{ℕ, ◌+◌, ◌-◌, ◌*◌, ◌^◌, ◌==◌, nat_lt, nat_le, ◌&&◌, Bool, if◌then◌else◌, List, [], ◌∷◌, Option, Some, None, codes}
 use Rattle.std.specs.List.{slice_split}
 use Rattle.std.specs.Result.{result_ok}
 use Rattle.std.specs.Str.{bytes_eq, is_utf8}
@@ -60,3 +60,11 @@ text word = text_if (word_bytes word)
 abbrev pub hex : List ℕ → Option (List ℕ)
 hex [] = None
 hex (d ∷ ds) = result_ok (decode_of (d ∷ ds))
+
+-- a number of 32 bits
+abbrev pub small_number : List ℕ → Option ℕ
+small_number word = number word >>= λ n. if nat_lt n (2 ^ 32) then Some n else None
+
+-- what may be absent: `~` says that it is
+abbrev pub optional : {A : Type 0} → (List ℕ → Option A) → List ℕ → Option (Option A)
+optional read word = if bytes_eq word (codes "~") then Some None else read word >>= λ x. Some (Some x)

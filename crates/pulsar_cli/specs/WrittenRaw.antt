@@ -9,12 +9,14 @@ use Rattle.std.specs.Ordering.{nat_cmp}
 use Rattle.std.specs.Str.{is_utf8}
 use Rattle.hex.specs.Hex.{IsBytes, encode_lower}
 use Rattle.pulsar_wire.specs.Fits.{Fits}
-use Rattle.pulsar_wire.specs.Row.{spelling}
+use Rattle.pulsar_wire.specs.Row.{Values, spelling}
 use Rattle.pulsar_wire.specs.Rows.{message_id}
 use Rattle.pulsar_wire.specs.declared.commands.enumerations.SubType.{SubType}
 use Rattle.pulsar_wire.specs.declared.commands.enumerations.SubType.TheVariants.{Exclusive, Shared, Failover, KeyShared}
-use Rattle.pulsar_link.specs.Messages.{id_values}
-use Rattle.pulsar_link.specs.RawCall.{Id, Outgoing, Words, CreateProducer, Send, CloseProducer, Subscribe, Flow, Ack, CloseConsumer}
+use Rattle.pulsar_wire.specs.declared.commands.topics.Mode.{Mode}
+use Rattle.pulsar_wire.specs.declared.commands.topics.Mode.TheVariants.{Persistent, NonPersistent, All}
+use Rattle.pulsar_messages.specs.Content.{AuthenticationValues, ProducerMessageValues, Property, empty_consumer_options, empty_producer_options}
+use Rattle.pulsar_messages.specs.Words.{Words, SendPing, SendPong, AuthChallenge, LookupTopic, LookupPartitionedTopic, GetTopicsOfNamespace, GetSchema, CreateProducer, Send, CloseProducer, Subscribe, SendFlow, SendAck, SendRedeliver, Seek, GetLastMessageId, GetConsumerStats, Unsubscribe, CloseConsumer, CloseConsumerUnawaited}
 use Rattle.pulsar_cli.specs.WordText.{word}
 
 -- WORDS
@@ -23,9 +25,14 @@ abbrev pub flag_word : Bool → List ℕ
 flag_word true = codes "true"
 flag_word false = codes "false"
 
-abbrev pub name_word : Option (List ℕ) → List ℕ
-name_word None = codes "~"
-name_word (Some name) = word name
+abbrev pub optional_word : {A : Type 0} → (A → List ℕ) → Option A → List ℕ
+optional_word write None = codes "~"
+optional_word write (Some x) = write x
+
+abbrev pub mode_word : Mode → List ℕ
+mode_word Persistent = codes "persistent"
+mode_word NonPersistent = codes "non-persistent"
+mode_word All = codes "all"
 
 abbrev pub sub_type_word : SubType → List ℕ
 sub_type_word Exclusive = codes "exclusive"
@@ -42,14 +49,14 @@ signed_word (pos n) = decimal n
 signed_word (negsuc n) = 45 ∷ decimal (n + 1)
 
 -- an id: the hex of its bytes
-abbrev pub id_word : Id → List ℕ
-id_word i = encode_lower (spelling message_id (id_values i))
+abbrev pub id_word : Values message_id → List ℕ
+id_word i = encode_lower (spelling message_id i)
 
-abbrev pub property_word : List ℕ × List ℕ → List ℕ
+abbrev pub property_word : Property → List ℕ
 property_word p = codes "prop=" ++ word p.0 ++ 61 ∷ word p.1
 
 -- the words of a message: its payload, and whatever else it says
-abbrev pub message_words : Outgoing → List (List ℕ)
+abbrev pub message_words : ProducerMessageValues → List (List ℕ)
 message_words m =
     (codes "data=" ++ word m.payload) ∷ map property_word m.properties
     ++ map (λ t. codes "pk=" ++ word t) (option_to_list m.partition_key)
@@ -57,19 +64,39 @@ message_words m =
     ++ map (λ t. codes "rep=" ++ word t) m.replicate_to
     ++ map (λ n. codes "et=" ++ decimal n) (option_to_list m.event_time)
     ++ map (λ b. codes "sv=" ++ word b) (option_to_list m.schema_version)
-    ++ map (λ z. codes "at=" ++ signed_word z) (option_to_list m.deliver_at)
+    ++ map (λ z. codes "at=" ++ signed_word z) (option_to_list m.deliver_at_time)
 
--- the words behind the number of the link
+-- a credential: its method, and what it shows
+abbrev pub credential_words : AuthenticationValues → List (List ℕ)
+credential_words c = word c.name ∷ word c.auth_data ∷ []
+
+-- The words behind the number of the link. What no user asks has none: a pong, and a close of a consumer whose answer nobody
+-- waits for.
 abbrev pub raw_words : Words → List (List ℕ)
-raw_words (CreateProducer topic producer name) = codes "producer" ∷ word topic ∷ decimal producer ∷ name_word name ∷ []
-raw_words (Send producer name sequence m waits) =
-    codes "send" ∷ decimal producer ∷ word name ∷ decimal sequence ∷ flag_word waits ∷ message_words m
+raw_words SendPing = codes "ping" ∷ []
+raw_words SendPong = []
+raw_words (AuthChallenge auth) = codes "auth" ∷ credential_words auth
+raw_words (LookupTopic topic authoritative) = codes "lookup" ∷ word topic ∷ flag_word authoritative ∷ []
+raw_words (LookupPartitionedTopic topic) = codes "partitions" ∷ word topic ∷ []
+raw_words (GetTopicsOfNamespace namespace mode) = codes "topics" ∷ word namespace ∷ mode_word mode ∷ []
+raw_words (GetSchema topic version) = codes "schema" ∷ word topic ∷ optional_word word version ∷ []
+raw_words (CreateProducer topic producer name options) =
+    codes "producer" ∷ word topic ∷ decimal producer ∷ optional_word word name ∷ []
+raw_words (Send producer name sequence m block) =
+    codes "send" ∷ decimal producer ∷ word name ∷ decimal sequence ∷ flag_word block ∷ message_words m
 raw_words (CloseProducer producer) = codes "close-producer" ∷ decimal producer ∷ []
-raw_words (Subscribe topic subscription kind consumer) =
+raw_words (Subscribe topic subscription kind consumer name options) =
     codes "subscribe" ∷ word topic ∷ word subscription ∷ sub_type_word kind ∷ decimal consumer ∷ []
-raw_words (Flow consumer permits) = codes "flow" ∷ decimal consumer ∷ decimal permits ∷ []
-raw_words (Ack consumer ids cumulative) = codes "ack" ∷ decimal consumer ∷ cumulative_word cumulative ∷ map id_word ids
+raw_words (SendFlow consumer permits) = codes "flow" ∷ decimal consumer ∷ decimal permits ∷ []
+raw_words (SendAck consumer ids cumulative) = codes "ack" ∷ decimal consumer ∷ cumulative_word cumulative ∷ map id_word ids
+raw_words (SendRedeliver consumer ids) = codes "redeliver" ∷ decimal consumer ∷ map id_word ids
+raw_words (Seek consumer id time) =
+    codes "seek" ∷ decimal consumer ∷ optional_word id_word id ∷ optional_word decimal time ∷ []
+raw_words (GetLastMessageId consumer) = codes "last-id" ∷ decimal consumer ∷ []
+raw_words (GetConsumerStats consumer) = codes "stats" ∷ decimal consumer ∷ []
+raw_words (Unsubscribe consumer) = codes "unsubscribe" ∷ decimal consumer ∷ []
 raw_words (CloseConsumer consumer) = codes "close-consumer" ∷ decimal consumer ∷ []
+raw_words (CloseConsumerUnawaited consumer) = []
 
 -- words with a blank in front of each
 abbrev pub behind_blanks : List (List ℕ) → List ℕ
@@ -91,11 +118,30 @@ abbrev pub IsSigned : ℤ → Type 0
 IsSigned (pos n) = n < 2 ^ 63
 IsSigned (negsuc n) = n < 2 ^ 63
 
-abbrev pub IsProperty : List ℕ × List ℕ → Type 0
+abbrev pub IsProperty : Property → Type 0
 IsProperty p = IsText p.0 × IsText p.1
 
--- its texts are UTF-8, its properties stand in the order of their names, and its numbers have 64 bits
-pub record CanBeSent (m : Outgoing) : Type 0 where
+abbrev pub IsId : Values message_id → Type 0
+IsId i = Fits message_id i
+
+abbrev pub IsCredential : AuthenticationValues → Type 0
+IsCredential c = IsText c.name × IsBytes c.auth_data
+
+-- a message that is neither compressed nor encrypted, and no batch
+abbrev pub plain : ProducerMessageValues → ProducerMessageValues
+plain m =
+    record m {
+      compression = None;
+      uncompressed_size = None;
+      num_messages_in_batch = None;
+      encryption_keys = [];
+      encryption_algo = None;
+      encryption_param = None;
+    }
+
+-- it is plain, its texts are UTF-8, its properties stand in the order of their names, and its numbers have 64 bits
+pub record CanBeSent (m : ProducerMessageValues) : Type 0 where
+  pub is_plain : plain m ≡ m
   pub payload : IsBytes m.payload
   pub properties : AllByRecursion IsProperty m.properties
   pub ordered : IsStrictlySortedBy (slice_cmp nat_cmp) (map (λ p. p.0) m.properties)
@@ -104,13 +150,29 @@ pub record CanBeSent (m : Outgoing) : Type 0 where
   pub replicate_to : AllByRecursion IsText m.replicate_to
   pub event_time : Where IsNumber m.event_time
   pub schema_version : Where IsBytes m.schema_version
-  pub deliver_at : Where IsSigned m.deliver_at
+  pub deliver_at_time : Where IsSigned m.deliver_at_time
 
+-- producers and consumers are asked for without options, and consumers without a name
 abbrev pub CanBeSaid : Words → Type 0
-CanBeSaid (CreateProducer topic producer name) = IsText topic × IsNumber producer × Where IsText name
-CanBeSaid (Send producer name sequence m waits) = IsNumber producer × IsText name × IsNumber sequence × CanBeSent m
+CanBeSaid SendPing = Unit {0}
+CanBeSaid SendPong = ⊥
+CanBeSaid (AuthChallenge auth) = IsCredential auth
+CanBeSaid (LookupTopic topic authoritative) = IsText topic
+CanBeSaid (LookupPartitionedTopic topic) = IsText topic
+CanBeSaid (GetTopicsOfNamespace namespace mode) = IsText namespace
+CanBeSaid (GetSchema topic version) = IsText topic × Where IsBytes version
+CanBeSaid (CreateProducer topic producer name options) =
+    IsText topic × IsNumber producer × Where IsText name × (options ≡ empty_producer_options)
+CanBeSaid (Send producer name sequence m block) = IsNumber producer × IsText name × IsNumber sequence × CanBeSent m
 CanBeSaid (CloseProducer producer) = IsNumber producer
-CanBeSaid (Subscribe topic subscription kind consumer) = IsText topic × IsText subscription × IsNumber consumer
-CanBeSaid (Flow consumer permits) = IsNumber consumer × (permits < 2 ^ 32)
-CanBeSaid (Ack consumer ids cumulative) = IsNumber consumer × AllByRecursion (λ i. Fits message_id (id_values i)) ids
+CanBeSaid (Subscribe topic subscription kind consumer name options) =
+    IsText topic × IsText subscription × IsNumber consumer × (name ≡ None) × (options ≡ empty_consumer_options)
+CanBeSaid (SendFlow consumer permits) = IsNumber consumer × (permits < 2 ^ 32)
+CanBeSaid (SendAck consumer ids cumulative) = IsNumber consumer × AllByRecursion IsId ids
+CanBeSaid (SendRedeliver consumer ids) = IsNumber consumer × AllByRecursion IsId ids
+CanBeSaid (Seek consumer id time) = IsNumber consumer × Where IsId id × Where IsNumber time
+CanBeSaid (GetLastMessageId consumer) = IsNumber consumer
+CanBeSaid (GetConsumerStats consumer) = IsNumber consumer
+CanBeSaid (Unsubscribe consumer) = IsNumber consumer
 CanBeSaid (CloseConsumer consumer) = IsNumber consumer
+CanBeSaid (CloseConsumerUnawaited consumer) = ⊥

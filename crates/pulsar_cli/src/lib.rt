@@ -3,6 +3,7 @@
 
 mod grammar;
 pub mod laws;
+mod options;
 mod printing;
 mod program;
 mod reading;

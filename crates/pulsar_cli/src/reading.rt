@@ -1,16 +1,18 @@
 //! A script that is being read, and its run.
 
 ghost use Rattle.std.specs.Prelude.{◌≡◌, ◌⊎◌, ◌+◌, ◌++◌, [], ℕ, List, None, Err, IfErr, IfOk, OnOk, is_some, true};
-ghost use Rattle.pulsar_client.specs.Address.{address_of};
-ghost use Rattle.pulsar_client.specs.Client.{StandsFor};
+ghost use Rattle.pulsar_client.specs.Client.{StandsFor, chosen};
 ghost use Rattle.pulsar_client.specs.Content.{heard};
 ghost use Rattle.pulsar_client.specs.Run.{Step};
 ghost use Rattle.pulsar_cli.specs.Grammar.{line as meaning};
-ghost use Rattle.pulsar_cli.specs.Script.{options, sets};
-ghost use Rattle.pulsar_cli.specs.Shown.{IsClient, IsNoScriptWith, KeepsOptions, KeepsReading, KeepsText, ReadsMore, Refuses, Running, Steps, line_of, said, setting_of};
+ghost use Rattle.pulsar_cli.specs.Parsed.{line_of, setting_of};
+ghost use Rattle.pulsar_cli.specs.Script.{chooses};
+ghost use Rattle.pulsar_cli.specs.Shown.{IsClient, IsNoScriptWith, KeepsOptions, KeepsReading, KeepsText, ReadsMore, Refuses, Running, Steps};
 
-use crate::grammar::line::{Line, Setting, parse};
+use crate::grammar::line::{Line, parse};
+use crate::grammar::setting::Setting;
 use crate::grammar::word::cut_line;
+use crate::options::{choose, copied, defaults};
 use crate::printing::effect::push_step;
 use crate::stop::Stop;
 use pulsar_client::{ClientOptions, Event, Pulsar};
@@ -21,9 +23,7 @@ use std::alloc::Global;
 #[derive(Drop)]
 pub struct Reading {
     pub alloc: Global,
-    // the options of the client
-    pub url: String,
-    pub time: u64,
+    pub options: ClientOptions,
     // it is made where the first event comes
     pub client: Option<Pulsar>,
     // the front of a line whose end has not come
@@ -41,11 +41,10 @@ impl Reading {
     pub fn new(alloc: Global) -> Result<Reading, NoMemory>
         ensures { IfOk result (λ r. Running r [] []) }
     {
-        let url = String::from_str(alloc, "pulsar://127.0.0.1:6650")?;
+        let options = defaults(alloc)?;
         Ok(Reading {
             alloc,
-            url,
-            time: 0,
+            options,
             client: None,
             pending: Vec::new(alloc),
             out: String::new(alloc),
@@ -142,7 +141,7 @@ impl Reading {
 
     /// An option is chosen. It is refused where the client has been made.
     fn set(&mut self, setting: Setting) -> Result<(), Stop>
-        ensures ok { OnOk result (said self.new [] ≡ sets (setting_of setting) (said self.old [])) }
+        ensures ok { OnOk result (chosen self.new.options ≡ chooses (setting_of setting) (chosen self.old.options)) }
         ensures unmade { OnOk result (self.old.client ≡ None) }
         ensures client { OnOk result (self.new.client ≡ self.old.client) }
         ensures text { OnOk result (KeepsText self.old self.new) }
@@ -153,10 +152,7 @@ impl Reading {
         if let Some(_) = &self.client {
             return Err(Stop::Refused);
         }
-        match setting {
-            Setting::Url(url) => self.url = url,
-            Setting::Now(time) => self.time = time,
-        }
+        choose(&mut self.options, setting);
         Ok(())
     }
 
@@ -182,8 +178,8 @@ impl Reading {
 
     /// The client, taken out; it is made where the first event comes.
     fn started(&mut self) -> Result<Pulsar, Stop>
-        ensures client { IfOk result (λ c. (h : List Step) → IsClient (options (said self.old [])) self.old.client h
-            → StandsFor (options (said self.old [])) c h) }
+        ensures client { IfOk result (λ c. (h : List Step) → IsClient (chosen self.old.options) self.old.client h
+            → StandsFor (chosen self.old.options) c h) }
         ensures options { OnOk result (KeepsOptions self.old self.new) }
         ensures text { OnOk result (KeepsText self.old self.new) }
         ensures line { OnOk result (self.new.line ≡ self.old.line) }
@@ -191,24 +187,18 @@ impl Reading {
     {
         match self.client.take() {
             Some(client) => Ok(client),
-            None => made(self.alloc, &self.url, self.time),
+            None => made(self.alloc, &self.options),
         }
     }
 }
 
 /// A client with these options, to which nothing has happened.
-fn made(alloc: Global, url: &str, time: u64) -> Result<Pulsar, Stop>
-    ensures ok { IfOk result (λ c.
-        StandsFor (record { first_number = 0; now = time; address = address_of url.now }) c []) }
+fn made(alloc: Global, options: &ClientOptions) -> Result<Pulsar, Stop>
+    ensures ok { IfOk result (λ c. StandsFor (chosen options.entry.now) c []) }
     ensures err { IfErr result (λ stop. stop ≡ Stop.NoMemory) }
 {
-    let Ok(url) = String::from_str(alloc, url) else {
+    let Ok(options) = copied(options) else {
         return Err(Stop::NoMemory);
-    };
-    let options = ClientOptions {
-        url,
-        now: time,
-        first_number: 0,
     };
     match Pulsar::new(alloc, options) {
         Ok(client) => Ok(client),

@@ -1,66 +1,138 @@
--- What an act makes of what is seen and of what is left to do, where it makes little.
-use Rattle.std.proofs.Common.{◌≡◌, ◌∙◌, sym, ap, ℕ, [], ◌++◌, refl, map, append-nil, true, cond, ◌==◌, Option, Some, None, inl, inr, Result, Ok, Err, OnOk}
-use Rattle.std.proofs.lemmas.Bool.{cases_Bool, eqb-true}
-use Rattle.std.specs.Option.{is_some, option_map}
-use Rattle.pulsar_client.specs.declared.act.Act.TheVariants.{Comes}
-use Rattle.pulsar_link.specs.declared.act.LinkAct.{LinkAct}
-use Rattle.pulsar_client.specs.declared.act.Part.TheVariants.{ToLink}
-use Rattle.pulsar_client.specs.Run.{Agenda, goes_on}
-use Rattle.pulsar_run.specs.Order.{arranged}
-use Rattle.pulsar_client.specs.Rules.{below, caused}
-use Rattle.pulsar_client.specs.Subscriptions.{Subscription, ends_with, hears}
-use Rattle.pulsar_client.specs.View.{Seat, View, after, base_turned, hears_some, took_some, turned, waiting_on}
+-- What arises from an act at once, and what is first of what is left to do. Of kinds of part, action and arrival this file alone knows
+-- what is quiet: `performs_quiet`, `comes_quiet`.
+use Rattle.std.proofs.Common.{◌≡◌, ◌⊎◌, inl, inr, ◌∙◌, sym, ap, subst, ℕ, List, [], ◌∷◌, ◌++◌, refl, drop, Bool, true, false, cond, Option, Some, None}
+use Rattle.std.specs.List.{flat_map}
+use Rattle.std.specs.Option.{option_to_list}
+use Rattle.pulsar_run.specs.Run.{first_of, rest_of}
+use Rattle.pulsar_client.specs.declared.act.Act.{Act}
+use Rattle.pulsar_client.specs.declared.act.Act.TheVariants.{Comes, Told, Dials}
+use Rattle.pulsar_client.specs.declared.act.Action.{Action}
+use Rattle.pulsar_client.specs.declared.act.Action.TheVariants.{Get, Ask, StopAll}
+use Rattle.pulsar_client.specs.declared.act.Arrival.{Arrival}
+use Rattle.pulsar_client.specs.declared.act.Arrival.TheVariants.{Bad}
+use Rattle.pulsar_client.specs.declared.act.LinkAct.TheVariants.{Reads}
+use Rattle.pulsar_client.specs.declared.act.Notice.{Notice}
+use Rattle.pulsar_client.specs.declared.act.Outcome.TheVariants as outcome
+use Rattle.pulsar_client.specs.declared.act.Part.{Part}
+use Rattle.pulsar_client.specs.declared.act.Part.TheVariants.{Calls, ToLink}
+use Rattle.pulsar_client.specs.declared.act.Who.{Who}
+use Rattle.pulsar_client.specs.declared.base.Series.{Series}
+use Rattle.pulsar_client.specs.declared.base.Series.TheVariants.{Nobody, Runs, Serves}
+use Rattle.pulsar_client.specs.Address.{Address}
+use Rattle.pulsar_client.specs.Content.{Heard}
+use Rattle.pulsar_client.specs.Links.{numbers_from}
+use Rattle.pulsar_client.specs.Rules.{at_once, breaks_at, gets, on_link, over_links, performs, stop_act, tells}
+use Rattle.pulsar_client.specs.Run.{Entry, Begins, Then, rules, view}
+use Rattle.pulsar_client.specs.View.{Chosen, Links, Seat, View, arrival_at, begun, begun_live, is_live}
 
--- WHERE NOTHING ARISES
+-- LISTS
 
-abbrev pub same_agenda : Agenda → Agenda
-same_agenda g = record { now = g.now; here = g.here; behind = g.behind ++ []; parts = g.parts }
+-- each of a list is so
+abbrev pub Each : {A : Type 0} → (A → Type 0) → List A → Type 0
+Each P [] = Unit {0}
+Each P (x ∷ xs) = P x × Each P xs
 
-pub same_left : (g : Agenda) → same_agenda g ≡ g
-same_left g = λ i. record { now = g.now; here = g.here; behind = append-nil g.behind i; parts = g.parts }
+pub each_append : {A : Type 0} (P : A → Type 0) (xs ys : List A) → Each P xs → Each P ys → Each P (xs ++ ys)
+each_append P [] ys p q = q
+each_append P (x ∷ xs) ys p q = (p.0, each_append P xs ys p.1 q)
 
--- A LINK THAT ISN'T LIVE
+pub each_map : {A : Type 0} (P Q : A → Type 0) (xs : List A) → ((x : A) → P x → Q x) → Each P xs → Each Q xs
+each_map P Q [] f p = tt
+each_map P Q (x ∷ xs) f p = (f x p.0, each_map P Q xs f p.1)
 
-pub none_from : {A B : Type 0} (f : A → B) (row : Option A) → option_map f row ≡ None → row ≡ None
-none_from f None h = refl
-none_from f (Some x) h = absurd cc
+pub each_drop : {A : Type 0} (P : A → Type 0) (xs : List A) → Each P xs → Each P (drop 1 xs)
+each_drop P [] p = tt
+each_drop P (x ∷ xs) p = p.1
 
-same_row : (row : Option Subscription) → option_map (λ s. s) row ≡ row
-same_row None = refl
-same_row (Some s) = refl
+pub each_flat : {A B : Type 0} (P : B → Type 0) (f : A → List B) (xs : List A) → ((x : A) → Each P (f x)) → Each P (flat_map f xs)
+each_flat P f [] h = tt
+each_flat P f (x ∷ xs) h = each_append P (f x) (flat_map f xs) (h x) (each_flat P f xs h)
 
-dead_row : (x : LinkAct) (live : ℕ → Option Seat) (l k : ℕ) → live l ≡ None → cond (k == l) (took_some x (live k)) (live k) ≡ live k
-dead_row x live l k h = elim (cases_Bool (k == l)) [
-  | inl e ↦
-      (let none : live k ≡ None = ap live (eqb-true k l e) ∙ h in
-      rw e (ap (took_some x) none ∙ sym none))
-  | inr e ↦ rw e refl
+-- whatever each live link gives
+pub over_each : {A : Type 0} (P : A → Type 0) (f : ℕ → Seat → List A) (ls : Links) → ((l : ℕ) (seat : Seat) → Each P (f l seat)) → Each P (over_links f ls)
+over_each P f ls h = each_flat P (on_link f ls.live) (numbers_from 0 ls.started) (λ l. each_flat P (f l) (option_to_list (ls.live l)) (h l))
+
+-- WHAT IS FIRST
+
+-- what stands behind what arose at once: those whom causes serve, and parts
+abbrev pub is_served : Act → Bool
+is_served (Told n) = true
+is_served (Comes part) = true
+is_served _ = false
+
+-- what is first was first of what arose at once, or nothing of that is left
+pub first_case : (now : List Act) (here : List Notice) (behind : List (List Notice)) (parts : List Part) (a : Act) → first_of rules now here behind parts ≡ Some a →
+    (now ≡ a ∷ (rest_of now here behind parts).now) ⊎ ((now ≡ []) × ((rest_of now here behind parts).now ≡ []) × (is_served a ≡ true))
+first_case (b ∷ now) here behind parts a h = inl (let e : b ≡ a = cc in ap (λ x. x ∷ now) e)
+first_case [] (n ∷ here) behind parts a h = inr (refl, refl, (let e : Told n ≡ a = cc in sym (ap is_served e)))
+first_case [] [] (cause ∷ behind) parts a h = first_case [] cause behind parts a h
+first_case [] [] [] (p ∷ parts) a h = inr (refl, refl, (let e : Comes p ≡ a = cc in sym (ap is_served e)))
+first_case [] [] [] [] a h = absurd cc
+
+pub none_now : (now : List Act) (here : List Notice) (behind : List (List Notice)) (parts : List Part) → first_of rules now here behind parts ≡ None → now ≡ []
+none_now [] here behind parts h = refl
+none_now (a ∷ now) here behind parts h = absurd cc
+
+-- where each act that arose at once is such, so is each that is left, and the first too, where all that are served are
+pub each_rest : (P : Act → Type 0) (now : List Act) (here : List Notice) (behind : List (List Notice)) (parts : List Part) → Each P now →
+    Each P (rest_of now here behind parts).now
+each_rest P (a ∷ now) here behind parts k = k.1
+each_rest P [] (n ∷ here) behind parts k = tt
+each_rest P [] [] (cause ∷ behind) parts k = each_rest P [] cause behind parts tt
+each_rest P [] [] [] parts k = tt
+
+pub each_first : (P : Act → Type 0) (now : List Act) (here : List Notice) (behind : List (List Notice)) (parts : List Part) (a : Act) → ((x : Act) → is_served x ≡ true → P x) →
+    Each P now → first_of rules now here behind parts ≡ Some a → P a
+each_first P now here behind parts a served k h = elim (first_case now here behind parts a h) [
+  | inl e ↦ (subst (Each P) e k).0
+  | inr e ↦ served a e.2
 ]
 
-pub dead_view : (v : View) (l : ℕ) (x : LinkAct) → v.links.live l ≡ None → after (Comes (ToLink l x)) v ≡ v
-dead_view v l x h = λ i. record v {
-  links = record { started = v.links.started; live = λ k. dead_row x v.links.live l k h i };
-  base = base_turned l (turned x (h i)) v.base;
-  consumers = λ t. (ap (λ r. option_map (hears_some l x r) (v.consumers t)) h ∙ same_row (v.consumers t)) i;
-}
+-- WHAT ARISES AT ONCE
 
-pub dead_left : (v : View) (l : ℕ) (x : LinkAct) (g : Agenda) → v.links.live l ≡ None → g ≡ goes_on v (Comes (ToLink l x)) g
-dead_left v l x g h =
-    sym (same_left g)
-    ∙ ap (λ r. record { now = g.now; here = g.here; behind = g.behind ++ map (arranged below) (caused l x v.base r); parts = g.parts }) (sym h)
+-- what an action gives rise to, and what comes to a link: neither a start nor a deed, and no part of a call or of a poll
+abbrev pub is_quiet : Act → Bool
+is_quiet (Comes (ToLink l x)) = true
+is_quiet (Told n) = true
+is_quiet (Dials starter) = true
+is_quiet _ = false
 
--- A LIVE ONE
+abbrev pub IsQuiet : Act → Type 0
+IsQuiet a = is_quiet a ≡ true
 
-pub heard_on : (l : ℕ) (x : LinkAct) (r : Option Seat) (row : Option Subscription) → is_some r ≡ true →
-    option_map (ends_with l (turned x r)) (option_map (hears l x (waiting_on r)) row) ≡ option_map (hears_some l x r) row
-heard_on l x None row h = absurd cc
-heard_on l x (Some seat) None h = refl
-heard_on l x (Some seat) (Some s) h = refl
+gets_quiet : (who : Who) (address : Option Address) (s : Series) → Each IsQuiet (gets who address s)
+gets_quiet who None s = (refl, tt)
+gets_quiet who (Some address) Nobody = (refl, tt)
+gets_quiet who (Some address) (Runs starter) = tt
+gets_quiet who (Some address) (Serves l) = (refl, tt)
 
-pub some_from : {A B : Type 0} (f : A → B) (row : Option A) → is_some (option_map f row) ≡ true → is_some row ≡ true
-some_from f None h = absurd cc
-some_from f (Some x) h = refl
+pub performs_quiet : (v : View) (who : Who) (action : Action) → Each IsQuiet (performs v who action)
+performs_quiet v who Get = gets_quiet who v.chosen.address v.base.series
+performs_quiet v who (Ask l request) = (refl, tt)
+performs_quiet v who StopAll = each_append IsQuiet (over_links stop_act v.links) (tells who outcome.Stopped) (over_each IsQuiet stop_act v.links (λ l seat. (refl, tt))) (refl, tt)
+performs_quiet v who _ = tt
 
-pub on_ok : {A B P : Type 0} (r : Result A B) → P → OnOk r P
-on_ok (Ok x) p = p
-on_ok (Err e) p = tt
+breaks_quiet : (l : ℕ) (a : Arrival) → Each IsQuiet (breaks_at l a)
+breaks_quiet l (Bad cause) = (refl, tt)
+breaks_quiet l _ = tt
+
+-- a part of a call begins a plan, or ends the call at once; all others are quiet
+abbrev pub is_call_part : Part → Bool
+is_call_part (Calls asked) = true
+is_call_part _ = false
+
+pub comes_quiet : (v : View) (p : Part) → is_call_part p ≡ false → Each IsQuiet (at_once v (Comes p))
+comes_quiet v (Calls asked) h = absurd cc
+comes_quiet v (ToLink l Reads) h = breaks_quiet l (arrival_at (v.links.live l))
+comes_quiet v _ h = tt
+
+-- EVENTS
+
+-- what no event changes is as it was
+pub begun_same : {A : Type 0} (field : View → A) (e : Heard) (v : View) → field (begun_live e v) ≡ field v → field (begun e v) ≡ field v
+begun_same field e v is = elim (is_live v e) as (λ b. field (cond b (begun_live e v) v) ≡ field v) [ true ↦ is | false ↦ refl ]
+
+pub chosen_same : (o : Chosen) (log : List Entry) → (view o log).chosen ≡ o
+chosen_same o [] = refl
+chosen_same o (Begins e ∷ log) = begun_same (λ v. v.chosen) e (view o log) refl ∙ chosen_same o log
+chosen_same o (Then a ∷ log) = chosen_same o log

@@ -1,19 +1,30 @@
--- A link that has not ended is what was done to it made of it.
-use Rattle.std.proofs.Common.{◌≡◌, ◌∙◌, sym, ap, ℕ, List, [], ◌∷◌, refl, Bool, true, false, cond, ◌==◌, Option, Some, None, inl, inr}
+-- A link that has not ended is what the calls of its connection made of it; and it is not over.
+use Rattle.std.proofs.Common.{◌≡◌, ◌∙◌, sym, ap, subst, ℕ, List, [], ◌∷◌, ◌++◌, refl, drop, Bool, true, false, cond, ◌==◌, Option, Some, None, inl, inr}
 use Rattle.std.proofs.lemmas.Bool.{cases_Bool, eqb-true}
-use Rattle.std.specs.Option.{option_map}
+use Rattle.std.specs.Option.{option_map, option_to_list}
+use Rattle.pulsar_messages.specs.Words.{Words, is_numbered}
+use Rattle.pulsar_frame.specs.Frame.{Front, Whole, front}
+use Rattle.pulsar_requests.specs.Waits.{places}
+use Rattle.pulsar_session.specs.declared.states.Stage.{Stage}
+use Rattle.pulsar_session.specs.declared.states.Stage.TheVariants.{Handshaking, Ready}
+use Rattle.pulsar_session.specs.Answers.{is}
+use Rattle.pulsar_session.specs.Failures.{Fault}
+use Rattle.pulsar_session.specs.Link as session
+use Rattle.pulsar_session.specs.Link.{Act as Act', Opens, Feeds, Takes, Asks, Drains, Closes, Seen, Setup, answered_to, greeted, is_open, is_over, moved_up, number_for, settled_by, taken_in, ticked}
+use Rattle.pulsar_session.proofs.Still.{asked_of, moving, opening, unless}
 use Rattle.pulsar_client.specs.declared.act.Act.TheVariants.{Comes, Does, Dials}
 use Rattle.pulsar_client.specs.declared.act.Action.TheVariants.{Ask}
-use Rattle.pulsar_link.specs.declared.act.LinkAct.{LinkAct}
+use Rattle.pulsar_client.specs.declared.act.LinkAct.{LinkAct}
+use Rattle.pulsar_client.specs.declared.act.LinkAct.TheVariants.{Ends}
 use Rattle.pulsar_client.specs.declared.act.Part.TheVariants.{ToLink}
 use Rattle.pulsar_client.specs.declared.act.Who.{Who}
+use Rattle.pulsar_client.specs.Address.{Address}
 use Rattle.pulsar_client.specs.Content.{Heard, Bytes}
-use Rattle.pulsar_client.specs.Laws.{Borne, LinksAlone, borne, seen_after}
-use Rattle.pulsar_link.specs.Link.{after as link_after, after_ask, dialed, fed, is_open, is_over}
-use Rattle.pulsar_link.specs.Request.{Request}
+use Rattle.pulsar_client.specs.Laws.{LinksAlone, call_at, calls_of, dialed_with}
+use Rattle.pulsar_client.specs.Links.{call_of, called, closed_by}
 use Rattle.pulsar_client.specs.Run.{Entry, Begins, Then, view}
-use Rattle.pulsar_client.specs.View.{Chosen, Seat, begun_live, is_at, is_live, live_begun, seat_asked, seat_fed, took_some, unless_over}
-use Rattle.pulsar_client.proofs.Caused.{chosen_same}
+use Rattle.pulsar_client.specs.View.{Chosen, Seat, begun_live, dialed, is_at, is_live, live_begun, seat_asked, seat_fed, setup, seat_of_fresh, took, took_end, took_some}
+use Rattle.pulsar_client.proofs.Acts.{chosen_same}
 
 pub some_is : {A : Type 0} {x y : A} → Some x ≡ Some y → x ≡ y
 some_is {A} {x} {y} h = cc
@@ -21,49 +32,108 @@ some_is {A} {x} {y} h = cc
 pub no_some : {A : Type 0} {x : A} → None ≡ Some x → ⊥
 no_some {A} {x} h = cc
 
-pub kept_seen : (r seat : Seat) → unless_over r ≡ Some seat → r.seen ≡ seat.seen
-kept_seen r seat h = split (is_over r.seen.stage) h
-  where
-    split : (b : Bool) → cond b None (Some r) ≡ Some seat → r.seen ≡ seat.seen
-    split true h = absurd cc
-    split false h = ap (λ (s : Seat). s.seen) (some_is h)
+-- ONLY A CLOSE ENDS A CONNECTION
 
--- what is seen of a row is what such a list made of it
-abbrev Is : ℕ → List Borne → Option Seat → Type 0
-Is first bs row = (seat : Seat) → row ≡ Some seat → seat.seen ≡ seen_after first bs
+abbrev pub is_close : Act' → Bool
+is_close (Closes cause) = true
+is_close _ = false
 
-took_on : (first : ℕ) (bs : List Borne) (x : LinkAct) (row : Option Seat) → Is first bs row → (seat : Seat) → took_some x row ≡ Some seat → seat.seen ≡ link_after x (seen_after first bs)
-took_on first bs x None k seat h = absurd cc
-took_on first bs x (Some r) k seat h = sym (kept_seen _ seat h) ∙ ap (link_after x) (k r refl)
+greeted_over : (b : Bool) (rest : List ℕ) (v : Seen) → v.stage ≡ Handshaking → is_over (greeted b rest v).stage ≡ is_over v.stage
+greeted_over true rest v e = sym (ap is_over e)
+greeted_over false rest v e = refl
 
-asked_on : (first now : ℕ) (bs : List Borne) (who : Who) (request : Request) (row : Option Seat) → Is first bs row → (seat : Seat) → option_map (seat_asked who now request) row ≡ Some seat →
-    seat.seen ≡ after_ask now request (seen_after first bs)
-asked_on first now bs who request None k seat h = absurd cc
-asked_on first now bs who request (Some r) k seat h = ap (λ (s : Seat). s.seen) (sym (some_is h)) ∙ ap (after_ask now request) (k r refl)
+taken_over : (stage : Stage) (f : Front) (v : Seen) → v.stage ≡ stage → is_over (taken_in stage f v).stage ≡ is_over v.stage
+taken_over Handshaking (Whole m rest) v e = greeted_over (is 3 m) rest v e
+taken_over Ready (Whole m rest) v e =
+    let u = record v { unread = rest } in
+    (unless (places (settled_by m u)) m (record u { waits = answered_to m u.waits })).over
+taken_over _ _ v e = refl
 
-fed_on : (first : ℕ) (bs : List Borne) (piece : List ℕ) (row : Option Seat) → Is first bs row → (seat : Seat) → option_map (seat_fed piece) row ≡ Some seat →
-    seat.seen ≡ fed piece (seen_after first bs)
-fed_on first bs piece None k seat h = absurd cc
-fed_on first bs piece (Some r) k seat h = ap (λ (s : Seat). s.seen) (sym (some_is h)) ∙ ap (fed piece) (k r refl)
+pub over_stays : (act : Act') (v : Seen) → is_close act ≡ false → is_over (session.after act v).stage ≡ is_over v.stage
+over_stays (Opens now) v c = (opening v.stage (ticked now v) refl).over
+over_stays (Feeds piece) v c =
+    elim (is_open v.stage) as (λ b. is_over (cond b (record v { unread = v.unread ++ piece }) v).stage ≡ is_over v.stage) [ true ↦ refl | false ↦ refl ]
+over_stays (Takes now) v c = taken_over v.stage (front v.unread) (ticked now v) refl
+over_stays (Asks now words) v c = (asked_of (number_for (is_numbered words) v) now words (ticked now v)).over
+over_stays (Drains most now) v c =
+    let b : Seen = record (ticked now v) { unwritten = drop most v.unwritten } in
+    elim (is_open v.stage) as (λ o. is_over (cond o (moved_up v.line b) (ticked now v)).stage ≡ is_over v.stage) [ true ↦ (moving v.line b).over | false ↦ refl ]
+over_stays (Closes cause) v c = absurd cc
 
-unfed_on : (first : ℕ) (bs : List Borne) (piece : List ℕ) (row : Option Seat) → is_at is_open row ≡ false → Is first bs row → (seat : Seat) → row ≡ Some seat →
-    seat.seen ≡ fed piece (seen_after first bs)
-unfed_on first bs piece None d k seat h = absurd cc
-unfed_on first bs piece (Some r) d k seat h =
+-- WHAT SUCH CALLS MADE
+
+pub record Made (start : Option Setup) (calls : List Act') (seen : Seen) : Type 0 where
+  pub setup : Setup
+  pub dialed : start ≡ Some setup
+  pub same : seen ≡ session.seen setup calls
+  pub live : is_over seen.stage ≡ false
+
+module _ (start : Option Setup) (calls : List Act') (seen : Seen) (k : Made start calls seen) where
+  -- by one call more
+  pub more : (act : Act') → is_close act ≡ false → Made start (act ∷ calls) (session.after act seen)
+  more act c = record { setup = k.setup; dialed = k.dialed; same = ap (session.after act) k.same; live = over_stays act seen c ∙ k.live }
+
+  called_more : (act : Option Act') → option_map is_close act ≡ option_map (λ a. false) act → Made start (option_to_list act ++ calls) (called act seen)
+  called_more None c = k
+  called_more (Some act) c = more act (some_is c)
+
+ended_on : (start : Option Setup) (calls : List Act') (cause : Option Fault) (seat later : Seat) → Made start calls seat.seen → took_end cause seat ≡ Some later →
+    Made start (option_to_list (option_map Closes cause) ++ calls) later.seen
+ended_on start calls None seat later k h = subst (λ (t : Seat). Made start calls t.seen) (some_is h) k
+ended_on start calls (Some cause) seat later k h = absurd (no_some h)
+
+took_on : (start : Option Setup) (calls : List Act') (x : LinkAct) (now : ℕ) (seat later : Seat) → Made start calls seat.seen → took x now seat ≡ Some later →
+    Made start (call_at x now (Some seat) ++ calls) later.seen
+took_on start calls (Ends end) now seat later k h = ended_on start calls (closed_by end now seat.seen) seat later k h
+took_on start calls x now seat later k h =
+    subst (λ (t : Seat). Made start (call_at x now (Some seat) ++ calls) t.seen) (some_is h) (called_more start calls seat.seen k (call_of x now seat.seen) refl)
+
+-- so of a row
+abbrev Is : Option Setup → List Act' → Option Seat → Type 0
+Is start calls row = (seat : Seat) → row ≡ Some seat → Made start calls seat.seen
+
+some_took : (start : Option Setup) (calls : List Act') (x : LinkAct) (now : ℕ) (row : Option Seat) → Is start calls row →
+    Is start (call_at x now row ++ calls) (took_some x now row)
+some_took start calls x now None k seat h = absurd (no_some h)
+some_took start calls x now (Some r) k seat h = took_on start calls x now r seat (k r refl) h
+
+some_asked : (start : Option Setup) (calls : List Act') (who : Who) (now : ℕ) (request : Words) (row : Option Seat) → Is start calls row →
+    Is start (Asks now request ∷ calls) (option_map (seat_asked who now request) row)
+some_asked start calls who now request None k seat h = absurd (no_some h)
+some_asked start calls who now request (Some r) k seat h =
+    subst (λ (t : Seat). Made start (Asks now request ∷ calls) t.seen) (some_is h) (more start calls r.seen (k r refl) (Asks now request) refl)
+
+some_fed : (start : Option Setup) (calls : List Act') (piece : List ℕ) (row : Option Seat) → Is start calls row → Is start (Feeds piece ∷ calls) (option_map (seat_fed piece) row)
+some_fed start calls piece None k seat h = absurd (no_some h)
+some_fed start calls piece (Some r) k seat h =
+    subst (λ (t : Seat). Made start (Feeds piece ∷ calls) t.seen) (some_is h) (more start calls r.seen (k r refl) (Feeds piece) refl)
+
+-- a piece that is not fed does nothing to its connection
+not_fed : (start : Option Setup) (calls : List Act') (piece : List ℕ) (row : Option Seat) → is_at is_open row ≡ false → Is start calls row → Is start (Feeds piece ∷ calls) row
+not_fed start calls piece None d k seat h = absurd (no_some h)
+not_fed start calls piece (Some r) d k seat h =
     let same : r ≡ seat = some_is h in
-    let e : fed piece r.seen ≡ r.seen = rw d refl in
-    ap (λ (s : Seat). s.seen) (sym same) ∙ sym e ∙ ap (fed piece) (k r refl)
+    let e : session.feeds piece r.seen ≡ r.seen = rw d refl in
+    subst (λ (t : Seat). Made start (Feeds piece ∷ calls) t.seen) same
+    (subst (Made start (Feeds piece ∷ calls)) e (more start calls r.seen (k r refl) (Feeds piece) refl))
+
+made_fresh : (o : Chosen) (now : ℕ) (address : Option Address) → Is (option_map (setup o now) address) [] (option_map (λ a. seat_of_fresh (session.fresh (setup o now a))) address)
+made_fresh o now None seat h = absurd (no_some h)
+made_fresh o now (Some a) seat h =
+    subst (λ (t : Seat). Made (Some (setup o now a)) [] t.seen) (some_is h) (record { setup = setup o now a; dialed = refl; same = refl; live = refl })
+
+-- ALONG A LOG
 
 module _ (o : Chosen) where
   abbrev Alone : List Entry → ℕ → Type 0
-  Alone log l = Is o.first_number (borne o l log) ((view o log).links.live l)
+  Alone log l = Is (dialed_with o l log) (calls_of o l log) ((view o log).links.live l)
 
-  read_on : (log : List Entry) (k l : ℕ) (piece : List ℕ) → Alone log l → Alone (Begins (Bytes k piece) ∷ log) l
-  read_on log k l piece p seat h =
+  fed_on : (log : List Entry) (k l : ℕ) (piece : List ℕ) → Alone log l → Alone (Begins (Bytes k piece) ∷ log) l
+  fed_on log k l piece p seat h =
       elim (cases_Bool (l == k)) [
         | inl e ↦ elim (cases_Bool (is_at is_open ((view o log).links.live k))) [
-          | inl d ↦ rw e (fed_on o.first_number (borne o l log) piece ((view o log).links.live l) p seat (rw (d, e) at h))
-          | inr d ↦ rw e (unfed_on o.first_number (borne o l log) piece ((view o log).links.live l) (there e d) p seat (rw d at h))
+          | inl d ↦ rw e (some_fed (dialed_with o l log) (calls_of o l log) piece ((view o log).links.live l) p seat (rw (d, e) at h))
+          | inr d ↦ rw e (not_fed (dialed_with o l log) (calls_of o l log) piece ((view o log).links.live l) (there e d) p seat (rw d at h))
         ]
         | inr e ↦ elim (cases_Bool (is_at is_open ((view o log).links.live k))) [
           | inl d ↦ rw e (p seat (rw (d, e) at h))
@@ -75,8 +145,10 @@ module _ (o : Chosen) where
       there e d = ap (λ m. is_at is_open ((view o log).links.live m)) (eqb-true l k e) ∙ d
 
   -- an event that is no piece of bytes
-  same_on : (log : List Entry) (l : ℕ) (e : Heard) → live_begun e l ((view o log).links.live l) ≡ (view o log).links.live l → borne o l (Begins e ∷ log) ≡ borne o l log → Alone log l → Alone (Begins e ∷ log) l
-  same_on log l e same none p seat h = p seat (row (is_live (view o log) e) h) ∙ ap (seen_after o.first_number) (sym none)
+  same_on : (log : List Entry) (l : ℕ) (e : Heard) → live_begun e l ((view o log).links.live l) ≡ (view o log).links.live l →
+      calls_of o l (Begins e ∷ log) ≡ calls_of o l log → Alone log l → Alone (Begins e ∷ log) l
+  same_on log l e same none p seat h =
+      subst (λ calls. Made (dialed_with o l log) calls seat.seen) (sym none) (p seat (row (is_live (view o log) e) h))
     where
       row : (b : Bool) → (cond b (begun_live e (view o log)) (view o log)).links.live l ≡ Some seat → (view o log).links.live l ≡ Some seat
       row true h = sym same ∙ h
@@ -84,25 +156,25 @@ module _ (o : Chosen) where
 
   took_by : (log : List Entry) (k l : ℕ) (x : LinkAct) → Alone log l → Alone (Then (Comes (ToLink k x)) ∷ log) l
   took_by log k l x p seat h = elim (cases_Bool (l == k)) [
-    | inl e ↦ rw e (took_on o.first_number (borne o l log) x ((view o log).links.live l) p seat (rw e at h))
+    | inl e ↦ rw e (some_took (dialed_with o l log) (calls_of o l log) x (view o log).now ((view o log).links.live l) p seat (rw e at h))
     | inr e ↦ rw e (p seat (rw e at h))
   ]
 
-  asked_by : (log : List Entry) (k l : ℕ) (who : Who) (request : Request) → Alone log l → Alone (Then (Does who (Ask k request)) ∷ log) l
+  asked_by : (log : List Entry) (k l : ℕ) (who : Who) (request : Words) → Alone log l → Alone (Then (Does who (Ask k request)) ∷ log) l
   asked_by log k l who request p seat h = elim (cases_Bool (l == k)) [
-    | inl e ↦ rw e (asked_on o.first_number (view o log).now (borne o l log) who request ((view o log).links.live l) p seat (rw e at h))
+    | inl e ↦ rw e (some_asked (dialed_with o l log) (calls_of o l log) who (view o log).now request ((view o log).links.live l) p seat (rw e at h))
     | inr e ↦ rw e (p seat (rw e at h))
   ]
 
   dialed_by : (log : List Entry) (l : ℕ) (starter : Who) → Alone log l → Alone (Then (Dials starter) ∷ log) l
   dialed_by log l starter p seat h = elim (cases_Bool (l == (view o log).links.started)) [
-    | inl e ↦ rw e (ap (λ (s : Seat). s.seen) (sym (some_is (rw e at h))) ∙ ap (λ (c : Chosen). dialed c.first_number) (chosen_same o log))
+    | inl e ↦ rw e (made_fresh o (view o log).now o.address seat (ap (λ c. dialed c (view o log).now) (sym (chosen_same o log)) ∙ (rw e at h)))
     | inr e ↦ rw e (p seat (rw e at h))
   ]
 
-  alone : (log : List Entry) (l : ℕ) → Alone log l
+  pub alone : (log : List Entry) (l : ℕ) → Alone log l
   alone [] l = λ seat h. absurd (no_some h)
-  alone (Begins (Bytes k piece) ∷ log) l = read_on log k l piece (alone log l)
+  alone (Begins (Bytes k piece) ∷ log) l = fed_on log k l piece (alone log l)
   alone (Begins e ∷ log) l = same_on log l e refl refl (alone log l)
   alone (Then (Comes (ToLink k x)) ∷ log) l = took_by log k l x (alone log l)
   alone (Then (Does who (Ask k request)) ∷ log) l = asked_by log k l who request (alone log l)
@@ -110,4 +182,4 @@ module _ (o : Chosen) where
   alone (Then _ ∷ log) l = alone log l
 
 pub links_alone_lem : LinksAlone
-links_alone_lem o log l seat h = alone o log l seat h
+links_alone_lem o log l seat h = let k : Made (dialed_with o l log) (calls_of o l log) seat.seen = alone o log l seat h in (k.setup, k.dialed, k.same)

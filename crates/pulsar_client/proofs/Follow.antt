@@ -1,11 +1,12 @@
--- Plans follow their outcomes. Of kinds of part and action two lemmas know: `comes_plain` and `performs_plain`.
-use Rattle.std.proofs.Common.{◌≡◌, ℕ, ◌∙◌, sym, ap, subst, List, [], ◌∷◌, ◌++◌, refl, arith, drop, Bool, true, false, cond, Option, Some, None, ◌⊎◌, inl, inr, ◌==◌, append-nil, append_assoc}
+-- Plans follow their outcomes.
+use Rattle.std.proofs.Common.{◌≡◌, ℕ, ◌∙◌, sym, ap, subst, List, [], ◌∷◌, ◌++◌, refl, arith, drop, Bool, true, false, cond, Option, Some, None, inl, inr, ◌==◌, append-nil, append_assoc}
 use Rattle.std.proofs.lemmas.Bool.{cases_Bool, eqb-true}
-use Rattle.pulsar_run.specs.Run.{first_of, rest, rest_of}
+use Rattle.pulsar_run.specs.Run.{rest}
+use Rattle.pulsar_session.specs.Link.{is_spent}
 use Rattle.pulsar_client.specs.declared.act.Act.{Act}
-use Rattle.pulsar_client.specs.declared.act.Act.TheVariants.{Comes, Starts, Told, Does, Answers, Dials}
+use Rattle.pulsar_client.specs.declared.act.Act.TheVariants.{Comes, Starts, Told, Does, Answers}
 use Rattle.pulsar_client.specs.declared.act.Action.{Action}
-use Rattle.pulsar_client.specs.declared.act.Action.TheVariants.{Get, Ask, Rest}
+use Rattle.pulsar_client.specs.declared.act.Action.TheVariants.{Rest}
 use Rattle.pulsar_client.specs.declared.act.Notice.{Notice}
 use Rattle.pulsar_client.specs.declared.act.Outcome.{Outcome}
 use Rattle.pulsar_client.specs.declared.act.Part.{Part}
@@ -14,22 +15,18 @@ use Rattle.pulsar_client.specs.declared.act.Procedure.{Procedure}
 use Rattle.pulsar_client.specs.declared.act.Verdict.{Verdict}
 use Rattle.pulsar_client.specs.declared.act.Who.{Who}
 use Rattle.pulsar_client.specs.declared.act.Who.TheVariants.{Call}
-use Rattle.pulsar_client.specs.declared.base.Series.{Series}
-use Rattle.pulsar_client.specs.declared.base.Series.TheVariants.{Nobody, Runs, Serves}
 use Rattle.pulsar_client.specs.declared.plans.plan.Plan.{Plan}
 use Rattle.pulsar_client.specs.declared.plans.plan.Turn.{Turn}
 use Rattle.pulsar_client.specs.declared.plans.plan.Turn.TheVariants.{Stays, Gives}
-use Rattle.pulsar_client.specs.Address.{Address}
-use Rattle.pulsar_client.specs.Content.{Asked, Heard}
-use Rattle.pulsar_link.specs.Failures.{Exhausted}
+use Rattle.pulsar_client.specs.Content.{Asked}
 use Rattle.pulsar_client.specs.Laws.{AnswersOnce, Deed, Answered, PlansFollow, acted, course, deed_of, deeds, outcomes, started, verdicts_in}
-use Rattle.pulsar_link.specs.Link.{spent}
-use Rattle.pulsar_client.specs.Plan.{begins, fails, told}
-use Rattle.pulsar_client.specs.Rules.{at_once, called, does, follows, follows_some, gets, performs, procedure_for}
-use Rattle.pulsar_client.specs.Run.{Entry, Begins, Then, IsRun, Agenda, agenda, first, rules, view}
-use Rattle.pulsar_client.specs.View.{Chosen, View, begun, begun_live, is_live, stays, stays_some, told_some}
+use Rattle.pulsar_client.specs.Plan.{begins, told}
+use Rattle.pulsar_client.specs.Rules.{at_once, called, does, follows, follows_some, performs}
+use Rattle.pulsar_client.specs.Run.{Entry, Begins, Then, IsRun, Agenda, agenda, first, view}
+use Rattle.pulsar_client.specs.View.{Chosen, Tickets, View, stays, stays_some, told_some}
 use Rattle.pulsar_client.specs.Who.{is_same, rank}
-use Rattle.pulsar_client.proofs.Made.{IsTicketed, ticketed}
+use Rattle.pulsar_client.proofs.Acts.{Each, IsQuiet, begun_same, comes_quiet, each_append, each_drop, each_map, first_case, is_served, none_now, performs_quiet}
+use Rattle.pulsar_client.proofs.Ticketed.{Began, apart, has_begun}
 
 -- WHO
 
@@ -49,36 +46,35 @@ same_is w u h = elim (cases_Bool ((rank w).0 == (rank u).0)) [
   | inr e ↦ (let f : false ≡ true = rw e at h in absurd cc)
 ]
 
--- KINDS
+-- WHAT IS NO DEED
 
 abbrev is_deed : Act → Bool
 is_deed (Does who action) = true
 is_deed (Answers who verdict) = true
 is_deed _ = false
 
-abbrev NoDeeds : List Act → Type 0
-NoDeeds [] = Unit {0}
-NoDeeds (x ∷ xs) = (is_deed x ≡ false) × NoDeeds xs
+abbrev NoDeed : Act → Type 0
+NoDeed a = is_deed a ≡ false
 
-gets_plain : (who : Who) (address : Option Address) (s : Series) → NoDeeds (gets who address s)
-gets_plain who None s = (refl, tt)
-gets_plain who (Some address) Nobody = (refl, tt)
-gets_plain who (Some address) (Runs starter) = tt
-gets_plain who (Some address) (Serves l) = (refl, tt)
+quiet_no_deed : (a : Act) → IsQuiet a → NoDeed a
+quiet_no_deed (Does who action) h = absurd cc
+quiet_no_deed (Answers who verdict) h = absurd cc
+quiet_no_deed _ h = refl
 
-performs_plain : (v : View) (who : Who) (action : Action) → NoDeeds (performs v who action)
-performs_plain v who Get = gets_plain who v.chosen.address v.base.series
-performs_plain v who (Ask l request) = (refl, tt)
-performs_plain v who Rest = tt
+served_no_deed : (a : Act) → is_served a ≡ true → NoDeed a
+served_no_deed (Does who action) h = absurd cc
+served_no_deed (Answers who verdict) h = absurd cc
+served_no_deed _ h = refl
 
-called_one : (n : ℕ) (b : Bool) (asked : Asked) → NoDeeds (drop 1 (called n b asked))
-called_one n b asked =
-    elim (n == spent) as (λ c. NoDeeds (drop 1 (cond c (Answers (Call spent) (fails Exhausted) ∷ []) (Starts (Call n) (procedure_for b asked) ∷ []))))
-    [ true ↦ tt | false ↦ tt ]
+performs_none : (v : View) (who : Who) (action : Action) → Each NoDeed (performs v who action)
+performs_none v who action = each_map IsQuiet NoDeed (performs v who action) quiet_no_deed (performs_quiet v who action)
 
-comes_one : (v : View) (part : Part) → NoDeeds (drop 1 (at_once v (Comes part)))
-comes_one v (Calls asked) = called_one v.calls.drawn v.calls.is_built asked
-comes_one v _ = tt
+called_one : (o : Chosen) (c : Tickets) (asked : Asked) → Each NoDeed (drop 1 (called o c asked))
+called_one o c asked = elim (cases_Bool (is_spent c.drawn)) [ inl e ↦ rw e tt | inr e ↦ rw e tt ]
+
+comes_one : (v : View) (p : Part) → Each NoDeed (drop 1 (at_once v (Comes p)))
+comes_one v (Calls asked) = called_one v.chosen v.calls asked
+comes_one v p = each_drop NoDeed (at_once v (Comes p)) (each_map IsQuiet NoDeed (at_once v (Comes p)) quiet_no_deed (comes_quiet v p refl))
 
 -- LISTS OF ACTS
 
@@ -86,12 +82,12 @@ abbrev due_deeds : Who → List Act → List Deed
 due_deeds w [] = []
 due_deeds w (x ∷ xs) = deed_of w x ++ due_deeds w xs
 
-no_deed : (w : Who) (x : Act) → is_deed x ≡ false → deed_of w x ≡ []
+no_deed : (w : Who) (x : Act) → NoDeed x → deed_of w x ≡ []
 no_deed w (Does who action) h = absurd cc
 no_deed w (Answers who answer) h = absurd cc
 no_deed w _ h = refl
 
-none_due : (w : Who) (xs : List Act) → NoDeeds xs → due_deeds w xs ≡ []
+none_due : (w : Who) (xs : List Act) → Each NoDeed xs → due_deeds w xs ≡ []
 none_due w [] p = refl
 none_due w (x ∷ xs) p = ap (λ ds. ds ++ due_deeds w xs) (no_deed w x p.0) ∙ none_due w xs p.1
 
@@ -99,26 +95,20 @@ due_append : (w : Who) (xs ys : List Act) → due_deeds w (xs ++ ys) ≡ due_dee
 due_append w [] ys = refl
 due_append w (x ∷ xs) ys = ap (λ ds. deed_of w x ++ ds) (due_append w xs ys) ∙ sym (append_assoc (deed_of w x) (due_deeds w xs) (due_deeds w ys))
 
-none_append : (xs ys : List Act) → NoDeeds xs → NoDeeds ys → NoDeeds (xs ++ ys)
-none_append [] ys p q = q
-none_append (x ∷ xs) ys p q = (p.0, none_append xs ys p.1 q)
+head_on : (xs ys : List Act) → Each NoDeed (drop 1 xs) → Each NoDeed ys → Each NoDeed (drop 1 (xs ++ ys))
+head_on [] ys p q = each_drop NoDeed ys q
+head_on (x ∷ xs) ys p q = each_append NoDeed xs ys p q
 
-none_drop : (xs : List Act) → NoDeeds xs → NoDeeds (drop 1 xs)
-none_drop [] p = tt
-none_drop (x ∷ xs) p = p.1
+-- to one who began, a call gives at most its start
+called_none : (w : Who) (o : Chosen) (c : Tickets) (asked : Asked) → Began w → due_deeds w (called o c asked) ≡ []
+called_none w o c asked k = elim (cases_Bool (is_spent c.drawn)) [
+  | inl e ↦ (let other : is_same w (Call c.drawn) ≡ false = apart w c.drawn k e in rw (e, other) refl)
+  | inr e ↦ rw e refl
+]
 
-head_on : (xs ys : List Act) → NoDeeds (drop 1 xs) → NoDeeds ys → NoDeeds (drop 1 (xs ++ ys))
-head_on [] ys p q = none_drop ys q
-head_on (x ∷ xs) ys p q = none_append xs ys p q
-
-called_plain : (w : Who) (n : ℕ) (b : Bool) (asked : Asked) → IsTicketed w → due_deeds w (called n b asked) ≡ []
-called_plain w n b asked t =
-    elim (n == spent) as (λ c. due_deeds w (cond c (Answers (Call spent) (fails Exhausted) ∷ []) (Starts (Call n) (procedure_for b asked) ∷ [])) ≡ [])
-    [ true ↦ rw t refl | false ↦ refl ]
-
-comes_plain : (v : View) (w : Who) (part : Part) → IsTicketed w → due_deeds w (at_once v (Comes part)) ≡ []
-comes_plain v w (Calls asked) t = called_plain w v.calls.drawn v.calls.is_built asked t
-comes_plain v w _ t = refl
+comes_none : (v : View) (w : Who) (p : Part) → Began w → due_deeds w (at_once v (Comes p)) ≡ []
+comes_none v w (Calls asked) k = called_none w v.chosen v.calls asked k
+comes_none v w p k = none_due w (at_once v (Comes p)) (each_map IsQuiet NoDeed (at_once v (Comes p)) quiet_no_deed (comes_quiet v p refl))
 
 -- COURSES
 
@@ -167,11 +157,11 @@ does_one : (who : Who) (action : Action) → drop 1 (does who action) ≡ []
 does_one who Rest = refl
 does_one who _ = refl
 
-follows_one : (who : Who) (t : Turn Plan Verdict) → NoDeeds (drop 1 (follows who t))
-follows_one who (Stays plan action) = subst NoDeeds (sym (does_one who action)) tt
+follows_one : (who : Who) (t : Turn Plan Verdict) → Each NoDeed (drop 1 (follows who t))
+follows_one who (Stays plan action) = subst (Each NoDeed) (sym (does_one who action)) tt
 follows_one who (Gives verdict) = tt
 
-some_one : (who : Who) (t : Option (Turn Plan Verdict)) → NoDeeds (drop 1 (follows_some who t))
+some_one : (who : Who) (t : Option (Turn Plan Verdict)) → Each NoDeed (drop 1 (follows_some who t))
 some_one who None = tt
 some_one who (Some t) = follows_one who t
 
@@ -183,30 +173,9 @@ some_here : (w who : Who) (t : Turn Plan Verdict) (o : Outcome) → is_same w wh
 some_here w who (Gives verdict) o h = refl
 some_here w who (Stays plan action) o h = follows_due w who (told plan o) ∙ ap (λ b. cond b (first_deed (told plan o)) []) h
 
--- WHAT IS FIRST
-
--- what stands behind what arose at once: those whom causes serve, and parts
-abbrev pub is_served : Act → Bool
-is_served (Told n) = true
-is_served (Comes part) = true
-is_served _ = false
-
-served_plain : (a : Act) → is_served a ≡ true → is_deed a ≡ false
-served_plain (Told n) h = refl
-served_plain (Comes part) h = refl
-served_plain _ h = absurd cc
-
-pub first_case : (now : List Act) (here : List Notice) (behind : List (List Notice)) (parts : List Part) (a : Act) → first_of rules now here behind parts ≡ Some a →
-    (now ≡ a ∷ (rest_of now here behind parts).now) ⊎ ((now ≡ []) × ((rest_of now here behind parts).now ≡ []) × (is_served a ≡ true))
-first_case (b ∷ now) here behind parts a h = inl (let e : b ≡ a = cc in ap (λ x. x ∷ now) e)
-first_case [] (n ∷ here) behind parts a h = inr (refl, refl, (let e : Told n ≡ a = cc in sym (ap is_served e)))
-first_case [] [] (cause ∷ behind) parts a h = first_case [] cause behind parts a h
-first_case [] [] [] (p ∷ parts) a h = inr (refl, refl, (let e : Comes p ≡ a = cc in sym (ap is_served e)))
-first_case [] [] [] [] a h = absurd cc
-
 record Follows (o : Chosen) (log : List Entry) : Type 0 where
-  head : NoDeeds (drop 1 (agenda o log).now)
-  each : (w : Who) (p : Procedure) → IsTicketed w → started w log ≡ Some p → deeds w log ++ due_deeds w (agenda o log).now ≡ course (begins p) (outcomes w log)
+  head : Each NoDeed (drop 1 (agenda o log).now)
+  each : (w : Who) (p : Procedure) → Began w → started w log ≡ Some p → deeds w log ++ due_deeds w (agenda o log).now ≡ course (begins p) (outcomes w log)
   stands : (w : Who) (p : Procedure) → started w log ≡ Some p → (view o log).stand w ≡ stays (along (begins p) (outcomes w log))
 
 module _ (o : Chosen) (log : List Entry) (a : Act) (k : Follows o log) (fits : first (agenda o log) ≡ Some a) where
@@ -216,24 +185,24 @@ module _ (o : Chosen) (log : List Entry) (a : Act) (k : Follows o log) (fits : f
   abbrev left : List Act
   left = (rest (agenda o log)).now
 
-  left_plain : NoDeeds left
+  left_plain : Each NoDeed left
   left_plain = elim (first_case (agenda o log).now (agenda o log).here (agenda o log).behind (agenda o log).parts a fits)
-      [ inl e ↦ subst (λ now. NoDeeds (drop 1 now)) e k.head | inr e ↦ subst NoDeeds (sym e.1) tt ]
+      [ inl e ↦ subst (λ now. Each NoDeed (drop 1 now)) e k.head | inr e ↦ subst (Each NoDeed) (sym e.1) tt ]
 
   taken : (w : Who) → due_deeds w (agenda o log).now ≡ deed_of w a
   taken w = elim (first_case (agenda o log).now (agenda o log).here (agenda o log).behind (agenda o log).parts a fits) [
     | inl e ↦ ap (due_deeds w) e ∙ ap (λ ds. deed_of w a ++ ds) (none_due w left left_plain) ∙ append-nil (deed_of w a)
-    | inr e ↦ ap (due_deeds w) e.0 ∙ sym (no_deed w a (served_plain a e.2))
+    | inr e ↦ ap (due_deeds w) e.0 ∙ sym (no_deed w a (served_no_deed a e.2))
   ]
 
-  before : (w : Who) (p : Procedure) → IsTicketed w → started w log ≡ Some p → deeds w log ++ deed_of w a ≡ course (begins p) (outcomes w log)
+  before : (w : Who) (p : Procedure) → Began w → started w log ≡ Some p → deeds w log ++ deed_of w a ≡ course (begins p) (outcomes w log)
   before w p t h = ap (λ ds. deeds w log ++ ds) (sym (taken w)) ∙ k.each w p t h
 
   due_then : (w : Who) (xs : List Act) → due_deeds w (xs ++ left) ≡ due_deeds w xs
   due_then w xs = due_append w xs left ∙ ap (λ ds. due_deeds w xs ++ ds) (none_due w left left_plain) ∙ append-nil (due_deeds w xs)
 
   -- an act that starts no plan and tells none
-  simple_on : NoDeeds (drop 1 (at_once (view o log) a)) → ((w : Who) → IsTicketed w → due_deeds w (at_once (view o log) a) ≡ []) → ((w : Who) → started w (Then a ∷ log) ≡ started w log) → ((w : Who) → outcomes w (Then a ∷ log) ≡ outcomes w log) →
+  simple_on : Each NoDeed (drop 1 (at_once (view o log) a)) → ((w : Who) → Began w → due_deeds w (at_once (view o log) a) ≡ []) → ((w : Who) → started w (Then a ∷ log) ≡ started w log) → ((w : Who) → outcomes w (Then a ∷ log) ≡ outcomes w log) →
       ((w : Who) → deeds w (Then a ∷ log) ≡ deeds w log ++ deed_of w a) → ((w : Who) → (view o (Then a ∷ log)).stand w ≡ (view o log).stand w) → Follows o (Then a ∷ log)
   simple_on one plain same_started same_outcomes more same_stand = record {
     head = head_on (at_once (view o log) a) left one left_plain;
@@ -299,41 +268,26 @@ starts_on o log who q k fits = record {
     nil : (t : Turn Plan Verdict) → along t [] ≡ t
     nil t = along_nil t
 
-begun_stand : (e : Heard) (v : View) (w : Who) → (begun e v).stand w ≡ v.stand w
-begun_stand e v w = elim (is_live v e) as (λ b. (cond b (begun_live e v) v).stand w ≡ v.stand w) [ true ↦ refl | false ↦ refl ]
-
 follows_run : (o : Chosen) (log : List Entry) → IsRun o log → Follows o log
 follows_run o [] r = record { head = tt; each = λ w p t h. absurd cc; stands = λ w p h. absurd cc }
 follows_run o (Begins e ∷ log) r =
     let k : Follows o log = follows_run o log r.0 in
     record {
       head = tt;
-      each = λ w p t h. ap (λ ds. deeds w log ++ ds) (sym (ap (due_deeds w) (nothing_now o log r.1))) ∙ k.each w p t h;
-      stands = λ w p h. begun_stand e (view o log) w ∙ k.stands w p h;
+      each = λ w p t h. ap (λ ds. deeds w log ++ ds) (sym (ap (due_deeds w) (none_now (agenda o log).now (agenda o log).here (agenda o log).behind (agenda o log).parts r.1))) ∙ k.each w p t h;
+      stands = λ w p h. begun_same (λ v. v.stand w) e (view o log) refl ∙ k.stands w p h;
     }
-  where
-    nothing_in : (now : List Act) (here : List Notice) (behind : List (List Notice)) (parts : List Part) → first_of rules now here behind parts ≡ None → now ≡ []
-    nothing_in [] here behind parts h = refl
-    nothing_in (a ∷ now) here behind parts h = absurd cc
-
-    nothing_now : (o : Chosen) (log : List Entry) → first (agenda o log) ≡ None → (agenda o log).now ≡ []
-    nothing_now o log h = nothing_in (agenda o log).now (agenda o log).here (agenda o log).behind (agenda o log).parts h
 follows_run o (Then (Starts who p) ∷ log) r = starts_on o log who p (follows_run o log r.0) r.1
 follows_run o (Then (Told n) ∷ log) r = told_on o log n (follows_run o log r.0) r.1
-follows_run o (Then (Comes p) ∷ log) r = simple_on o log (Comes p) (follows_run o log r.0) r.1 (comes_one (view o log) p) (λ w t. comes_plain (view o log) w p t) (λ w. refl) (λ w. refl) (λ w. refl) (λ w. refl)
-follows_run o (Then (Does w a) ∷ log) r = simple_on o log (Does w a) (follows_run o log r.0) r.1 (none_drop (performs (view o log) w a) (performs_plain (view o log) w a)) (λ u t. none_due u (performs (view o log) w a) (performs_plain (view o log) w a)) (λ u. refl) (λ u. refl) (λ u. refl) (λ u. refl)
-follows_run o (Then (Answers w a) ∷ log) r = simple_on o log (Answers w a) (follows_run o log r.0) r.1 tt (λ u t. refl) (λ u. refl) (λ u. refl) (λ u. refl) (λ u. refl)
-follows_run o (Then (Dials w) ∷ log) r = simple_on o log (Dials w) (follows_run o log r.0) r.1 tt (λ u t. refl) (λ u. refl) (λ u. refl) (λ u. refl) (λ u. refl)
+follows_run o (Then (Comes p) ∷ log) r = simple_on o log (Comes p) (follows_run o log r.0) r.1 (comes_one (view o log) p) (λ w t. comes_none (view o log) w p t) (λ w. refl) (λ w. refl) (λ w. refl) (λ w. refl)
+follows_run o (Then (Does w a) ∷ log) r = simple_on o log (Does w a) (follows_run o log r.0) r.1 (each_drop NoDeed (performs (view o log) w a) (performs_none (view o log) w a)) (λ u t. none_due u (performs (view o log) w a) (performs_none (view o log) w a)) (λ u. refl) (λ u. refl) (λ u. refl) (λ u. refl)
+follows_run o (Then a ∷ log) r = simple_on o log a (follows_run o log r.0) r.1 tt (λ u t. refl) (λ u. refl) (λ u. refl) (λ u. refl) (λ u. refl)
 
 pub plans_follow_lem : PlansFollow
 plans_follow_lem o log w p r rests h =
     let k : Follows o log = follows_run o log r in
-    let t : IsTicketed w = ticketed o log w p r h in
-    sym (append-nil (deeds w log)) ∙ ap (λ ds. deeds w log ++ ds) (sym (ap (due_deeds w) (none (agenda o log).now (agenda o log).here (agenda o log).behind (agenda o log).parts rests))) ∙ k.each w p t h
-  where
-    none : (now : List Act) (here : List Notice) (behind : List (List Notice)) (parts : List Part) → first_of rules now here behind parts ≡ None → now ≡ []
-    none [] here behind parts h = refl
-    none (a ∷ now) here behind parts h = absurd cc
+    let t : Began w = has_begun o log w p r h in
+    sym (append-nil (deeds w log)) ∙ ap (λ ds. deeds w log ++ ds) (sym (ap (due_deeds w) (none_now (agenda o log).now (agenda o log).here (agenda o log).behind (agenda o log).parts rests))) ∙ k.each w p t h
 
 -- ANSWERS
 

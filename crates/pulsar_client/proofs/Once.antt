@@ -1,13 +1,14 @@
 -- A call begins at most once, and ends at most once: there is one token for each ticket that was drawn. It is the start that is due, or
 -- the plan that stands, or the end that is due, or the end that was.
-use Rattle.std.proofs.Common.{◌≡◌, ℕ, ◌+◌, ◌<◌, ◌≤◌, ◌∙◌, sym, ap, subst, List, [], ◌∷◌, ◌++◌, refl, arith, Bool, true, false, cond, Option, Some, None, inl, inr, nat_lt, ◌==◌}
+use Rattle.std.proofs.Common.{◌≡◌, ℕ, ◌+◌, ◌≤◌, ◌∙◌, sym, ap, subst, List, [], ◌∷◌, ◌++◌, refl, arith, Bool, true, false, cond, Option, Some, None, inl, inr, nat_lt, ◌==◌}
 use Rattle.std.proofs.lemmas.Bool.{cases_Bool}
 use Rattle.std.proofs.lemmas.Bool.Decides.{nat_tests}
 use Rattle.pulsar_run.specs.Run.{rest}
+use Rattle.pulsar_session.specs.Link.{is_spent}
 use Rattle.pulsar_client.specs.declared.act.Act.{Act}
 use Rattle.pulsar_client.specs.declared.act.Act.TheVariants.{Comes, Starts, Told, Does, Answers}
 use Rattle.pulsar_client.specs.declared.act.Action.{Action}
-use Rattle.pulsar_client.specs.declared.act.Action.TheVariants.{Get, Ask, Rest}
+use Rattle.pulsar_client.specs.declared.act.Action.TheVariants.{Rest}
 use Rattle.pulsar_client.specs.declared.act.Notice.{Notice}
 use Rattle.pulsar_client.specs.declared.act.Outcome.{Outcome}
 use Rattle.pulsar_client.specs.declared.act.Part.TheVariants.{Calls}
@@ -15,21 +16,19 @@ use Rattle.pulsar_client.specs.declared.act.Procedure.{Procedure}
 use Rattle.pulsar_client.specs.declared.act.Verdict.{Verdict}
 use Rattle.pulsar_client.specs.declared.act.Who.{Who}
 use Rattle.pulsar_client.specs.declared.act.Who.TheVariants.{Call}
-use Rattle.pulsar_client.specs.declared.base.Series.{Series}
-use Rattle.pulsar_client.specs.declared.base.Series.TheVariants.{Nobody, Runs, Serves}
 use Rattle.pulsar_client.specs.declared.plans.plan.Plan.{Plan}
 use Rattle.pulsar_client.specs.declared.plans.plan.Turn.{Turn}
 use Rattle.pulsar_client.specs.declared.plans.plan.Turn.TheVariants.{Stays, Gives}
-use Rattle.pulsar_client.specs.Address.{Address}
 use Rattle.pulsar_client.specs.Content.{Asked, Heard}
 use Rattle.pulsar_client.specs.Laws.{EndsOnce, counted, end_of, start_of}
-use Rattle.pulsar_link.specs.Link.{spent}
 use Rattle.pulsar_client.specs.Plan.{begins, told}
-use Rattle.pulsar_client.specs.Rules.{at_once, called, does, follows, follows_some, gets, performs}
+use Rattle.pulsar_client.specs.Rules.{at_once, called, does, follows, follows_some}
 use Rattle.pulsar_client.specs.Run.{Entry, Begins, Then, IsRun, agenda, first, view}
-use Rattle.pulsar_client.specs.View.{Chosen, View, begun, begun_live, is_live, stays, stays_some, told_some}
+use Rattle.pulsar_client.specs.View.{Chosen, Tickets, stays, stays_some, told_some}
 use Rattle.pulsar_client.specs.Who.{is_same}
-use Rattle.pulsar_client.proofs.Follow.{first_case, is_served, same_is}
+use Rattle.pulsar_client.proofs.Acts.{Each, IsQuiet, begun_same, comes_quiet, first_case, is_served, performs_quiet}
+use Rattle.pulsar_client.proofs.Follow.{same_is}
+use Rattle.pulsar_client.proofs.Ticketed.{apart}
 
 -- WHAT IS DUE
 
@@ -51,27 +50,17 @@ served_end : (t : ℕ) (a : Act) → is_served a ≡ true → end_of t a ≡ 0
 served_end t (Answers who verdict) h = absurd cc
 served_end t _ h = refl
 
-gets_start : (t : ℕ) (who : Who) (address : Option Address) (s : Series) → due (start_of t) (gets who address s) ≡ 0
-gets_start t who None s = refl
-gets_start t who (Some address) Nobody = refl
-gets_start t who (Some address) (Runs starter) = refl
-gets_start t who (Some address) (Serves l) = refl
+quiet_start : (t : ℕ) (a : Act) → IsQuiet a → start_of t a ≡ 0
+quiet_start t (Starts who p) h = absurd cc
+quiet_start t _ h = refl
 
-gets_end : (t : ℕ) (who : Who) (address : Option Address) (s : Series) → due (end_of t) (gets who address s) ≡ 0
-gets_end t who None s = refl
-gets_end t who (Some address) Nobody = refl
-gets_end t who (Some address) (Runs starter) = refl
-gets_end t who (Some address) (Serves l) = refl
+quiet_end : (t : ℕ) (a : Act) → IsQuiet a → end_of t a ≡ 0
+quiet_end t (Answers who verdict) h = absurd cc
+quiet_end t _ h = refl
 
-performs_start : (t : ℕ) (v : View) (who : Who) (action : Action) → due (start_of t) (performs v who action) ≡ 0
-performs_start t v who Get = gets_start t who v.chosen.address v.base.series
-performs_start t v who (Ask l request) = refl
-performs_start t v who Rest = refl
-
-performs_end : (t : ℕ) (v : View) (who : Who) (action : Action) → due (end_of t) (performs v who action) ≡ 0
-performs_end t v who Get = gets_end t who v.chosen.address v.base.series
-performs_end t v who (Ask l request) = refl
-performs_end t v who Rest = refl
+none_due : (f : Act → ℕ) (xs : List Act) → ((a : Act) → IsQuiet a → f a ≡ 0) → Each IsQuiet xs → due f xs ≡ 0
+none_due f [] none k = refl
+none_due f (x ∷ xs) none k = (λ i. none x k.0 i + none_due f xs none k.1 i)
 
 -- PLANS
 
@@ -81,13 +70,11 @@ alive (Some plan) = 1
 
 does_start : (t : ℕ) (who : Who) (action : Action) → due (start_of t) (does who action) ≡ 0
 does_start t who Rest = refl
-does_start t who Get = refl
-does_start t who (Ask l request) = refl
+does_start t who _ = refl
 
 does_end : (t : ℕ) (who : Who) (action : Action) → due (end_of t) (does who action) ≡ 0
 does_end t who Rest = refl
-does_end t who Get = refl
-does_end t who (Ask l request) = refl
+does_end t who _ = refl
 
 follows_start : (t : ℕ) (who : Who) (turn : Turn Plan Verdict) → due (start_of t) (follows who turn) ≡ 0
 follows_start t who (Stays plan action) = does_start t who action
@@ -120,7 +107,7 @@ drawn t n = cond (nat_lt t n) 1 0
 
 record Few (o : Chosen) (log : List Entry) (t : ℕ) : Type 0 where
   begun : counted (start_of t) log + due (start_of t) (agenda o log).now ≤ drawn t (view o log).calls.drawn
-  ended : t < spent → counted (end_of t) log + due (start_of t) (agenda o log).now + due (end_of t) (agenda o log).now + alive ((view o log).stand (Call t)) ≤ drawn t (view o log).calls.drawn
+  ended : is_spent t ≡ false → counted (end_of t) log + due (start_of t) (agenda o log).now + due (end_of t) (agenda o log).now + alive ((view o log).stand (Call t)) ≤ drawn t (view o log).calls.drawn
 
 -- what an act itself was is taken from what was due
 taken : (o : Chosen) (log : List Entry) (a : Act) (f : Act → ℕ) → (is_served a ≡ true → f a ≡ 0) → first (agenda o log) ≡ Some a → due f (agenda o log).now ≡ f a + due f (rest (agenda o log)).now
@@ -136,7 +123,7 @@ module _ (o : Chosen) (log : List Entry) (a : Act) (t : ℕ) (k : Few o log t) (
   begun_before : counted (start_of t) log + (start_of t a + due (start_of t) left) ≤ drawn t (view o log).calls.drawn
   begun_before = subst (λ n. counted (start_of t) log + n ≤ drawn t (view o log).calls.drawn) (taken o log a (start_of t) (served_start t a) fits) k.begun
 
-  ended_before : t < spent → counted (end_of t) log + (start_of t a + due (start_of t) left) + (end_of t a + due (end_of t) left) + alive ((view o log).stand (Call t)) ≤ drawn t (view o log).calls.drawn
+  ended_before : is_spent t ≡ false → counted (end_of t) log + (start_of t a + due (start_of t) left) + (end_of t a + due (end_of t) left) + alive ((view o log).stand (Call t)) ≤ drawn t (view o log).calls.drawn
   ended_before lt =
       subst (λ n. counted (end_of t) log + (start_of t a + due (start_of t) left) + n + alive ((view o log).stand (Call t)) ≤ drawn t (view o log).calls.drawn) (taken o log a (end_of t) (served_end t a) fits)
       (subst (λ n. counted (end_of t) log + n + due (end_of t) (agenda o log).now + alive ((view o log).stand (Call t)) ≤ drawn t (view o log).calls.drawn) (taken o log a (start_of t) (served_start t a) fits) (k.ended lt))
@@ -152,6 +139,11 @@ module _ (o : Chosen) (log : List Entry) (a : Act) (t : ℕ) (k : Few o log t) (
         ended = λ lt. (let b = ended_before lt in rw (calls, stands, ds, de, starts, ends) (omega (arith, b)));
       }
 
+  quiet_on : Each IsQuiet (at_once (view o log) a) → (view o (Then a ∷ log)).stand (Call t) ≡ (view o log).stand (Call t) → (view o (Then a ∷ log)).calls.drawn ≡ (view o log).calls.drawn →
+      Few o (Then a ∷ log) t
+  quiet_on quiet stands calls =
+      simple_on (none_due (start_of t) (at_once (view o log) a) (quiet_start t) quiet) (none_due (end_of t) (at_once (view o log) a) (quiet_end t) quiet) stands calls
+
 -- a call takes the next ticket
 next_start : (t n b d : ℕ) → b + (0 + d) ≤ cond (nat_lt t n) 1 0 → (b + 0) + ((cond (t == n) 1 0 + 0) + d) ≤ cond (nat_lt t (n + 1)) 1 0
 next_start t n b d h = grind (arith, nat_tests)
@@ -160,26 +152,28 @@ next_end : (t n e d c a : ℕ) → e + (0 + d) + (0 + c) + a ≤ cond (nat_lt t 
 next_end t n e d c a h = grind (arith, nat_tests)
 
 -- and none where none is left
-spent_end : (t e d c a n : ℕ) → t < spent → e + (0 + d) + (0 + c) + a ≤ n → (e + 0) + (0 + d) + ((cond (t == spent) 1 0 + 0) + c) + a ≤ n
-spent_end t e d c a n lt h = let f : (t == spent) ≡ false = grind (arith, nat_tests) in rw f (omega (arith, h))
+spent_end : (b : Bool) (e d c a n : ℕ) → b ≡ false → e + (0 + d) + (0 + c) + a ≤ n → (e + 0) + (0 + d) + ((cond b 1 0 + 0) + c) + a ≤ n
+spent_end b e d c a n low h = rw low (omega (arith, h))
 
 calls_on : (o : Chosen) (log : List Entry) (asked : Asked) (t : ℕ) → Few o log t → first (agenda o log) ≡ Some (Comes (Calls asked)) → Few o (Then (Comes (Calls asked)) ∷ log) t
 calls_on o log asked t k fits =
-    let n : ℕ = (view o log).calls.drawn in
-    let built : Bool = (view o log).calls.is_built in
+    let q : Chosen = (view o log).chosen in
+    let calls : Tickets = (view o log).calls in
+    let n : ℕ = calls.drawn in
     let xs : List Act = left o log (Comes (Calls asked)) t k fits in
-    let ds : due (start_of t) (called n built asked ++ xs) ≡ due (start_of t) (called n built asked) + due (start_of t) xs = due_append (start_of t) (called n built asked) xs in
-    let de : due (end_of t) (called n built asked ++ xs) ≡ due (end_of t) (called n built asked) + due (end_of t) xs = due_append (end_of t) (called n built asked) xs in
+    let ds : due (start_of t) (called q calls asked ++ xs) ≡ due (start_of t) (called q calls asked) + due (start_of t) xs = due_append (start_of t) (called q calls asked) xs in
+    let de : due (end_of t) (called q calls asked ++ xs) ≡ due (end_of t) (called q calls asked) + due (end_of t) xs = due_append (end_of t) (called q calls asked) xs in
     let b = begun_before o log (Comes (Calls asked)) t k fits in
-    elim (cases_Bool (n == spent)) [
+    elim (cases_Bool (is_spent n)) [
       | inl e ↦ record {
         begun = rw ds (rw e (omega (arith, b)));
-        ended = λ lt. (let c = ended_before o log (Comes (Calls asked)) t k fits lt in
-            rw (ds, de) (rw e (spent_end t (counted (end_of t) log) (due (start_of t) xs) (due (end_of t) xs) (alive ((view o log).stand (Call t))) (drawn t n) lt c)));
+        ended = λ low. (let c = ended_before o log (Comes (Calls asked)) t k fits low in
+            rw (ds, de) (rw e (spent_end (t == n) (counted (end_of t) log) (due (start_of t) xs) (due (end_of t) xs) (alive ((view o log).stand (Call t))) (drawn t n)
+            (apart (Call t) n low e) c)));
       }
       | inr e ↦ record {
         begun = rw ds (rw e (next_start t n (counted (start_of t) log) (due (start_of t) xs) b));
-        ended = λ lt. (let c = ended_before o log (Comes (Calls asked)) t k fits lt in
+        ended = λ low. (let c = ended_before o log (Comes (Calls asked)) t k fits low in
             rw (ds, de) (rw e (next_end t n (counted (end_of t) log) (due (start_of t) xs) (due (end_of t) xs) (alive ((view o log).stand (Call t))) c)));
       }
     ]
@@ -223,28 +217,25 @@ told_on o log n t k fits =
           ]));
     }
 
-begun_same : (e : Heard) (v : View) (t : ℕ) → ((begun e v).calls ≡ v.calls) × ((begun e v).stand (Call t) ≡ v.stand (Call t))
-begun_same e v t =
-    elim (is_live v e) as (λ b. ((cond b (begun_live e v) v).calls ≡ v.calls) × ((cond b (begun_live e v) v).stand (Call t) ≡ v.stand (Call t))) [ true ↦ (refl, refl) | false ↦ (refl, refl) ]
-
 begins_on : (o : Chosen) (log : List Entry) (e : Heard) (t : ℕ) → Few o log t → Few o (Begins e ∷ log) t
 begins_on o log e t k =
-    let same = begun_same e (view o log) t in
-    let c : (begun e (view o log)).calls.drawn ≡ (view o log).calls.drawn = ap (λ x. x.drawn) same.0 in
+    let c : (view o (Begins e ∷ log)).calls.drawn ≡ (view o log).calls.drawn = begun_same (λ v. v.calls.drawn) e (view o log) refl in
+    let s : (view o (Begins e ∷ log)).stand (Call t) ≡ (view o log).stand (Call t) = begun_same (λ v. v.stand (Call t)) e (view o log) refl in
     let b = k.begun in
     record {
       begun = rw c (omega (arith, b));
-      ended = λ lt. (let d = k.ended lt in let s = same.1 in rw (c, s) (omega (arith, d)));
+      ended = λ low. (let d = k.ended low in rw (c, s) (omega (arith, d)));
     }
 
 few_run : (o : Chosen) (log : List Entry) (t : ℕ) → IsRun o log → Few o log t
-few_run o [] t r = record { begun = (let z : 0 ≤ drawn t 0 = omega arith in z); ended = λ lt. (let z : 0 ≤ drawn t 0 = omega arith in z) }
+few_run o [] t r = record { begun = (let z : 0 ≤ drawn t 0 = omega arith in z); ended = λ low. (let z : 0 ≤ drawn t 0 = omega arith in z) }
 few_run o (Begins e ∷ log) t r = begins_on o log e t (few_run o log t r.0)
 few_run o (Then (Comes (Calls asked)) ∷ log) t r = calls_on o log asked t (few_run o log t r.0) r.1
+few_run o (Then (Comes p) ∷ log) t r = quiet_on o log (Comes p) t (few_run o log t r.0) r.1 (comes_quiet (view o log) p refl) refl refl
 few_run o (Then (Starts who p) ∷ log) t r = starts_on o log who p t (few_run o log t r.0) r.1
 few_run o (Then (Told n) ∷ log) t r = told_on o log n t (few_run o log t r.0) r.1
-few_run o (Then (Does w a) ∷ log) t r = simple_on o log (Does w a) t (few_run o log t r.0) r.1 (performs_start t (view o log) w a) (performs_end t (view o log) w a) refl refl
-few_run o (Then a ∷ log) t r = simple_on o log a t (few_run o log t r.0) r.1 refl refl refl refl
+few_run o (Then (Does w a) ∷ log) t r = quiet_on o log (Does w a) t (few_run o log t r.0) r.1 (performs_quiet (view o log) w a) refl refl
+few_run o (Then a ∷ log) t r = quiet_on o log a t (few_run o log t r.0) r.1 tt refl refl
 
 one_at_most : (b : Bool) (x y : ℕ) → x + y ≤ cond b 1 0 → x ≤ 1
 one_at_most true x y h = omega (arith, h)

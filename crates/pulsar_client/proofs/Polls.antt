@@ -1,5 +1,5 @@
 -- A consumer is polled where the user asks for it, and its polls give what has come to it, in order.
-use Rattle.std.proofs.Common.{◌≡◌, ◌<◌, ℕ, ◌∙◌, sym, ap, subst, List, [], ◌∷◌, ◌++◌, refl, arith, map, drop, Bool, true, false, ◌&&◌, not, cond, Option, Some, None, inl, inr, ◌==◌, append_assoc, append-nil}
+use Rattle.std.proofs.Common.{◌≡◌, ℕ, ◌∙◌, sym, ap, subst, List, [], ◌∷◌, ◌++◌, refl, arith, map, drop, Bool, true, false, ◌&&◌, not, cond, Option, Some, None, inl, inr, ◌==◌, append_assoc, append-nil}
 use Rattle.std.proofs.lemmas.Bool.{cases_Bool, eqb-true}
 use Rattle.std.proofs.lemmas.Bool.Decides.{nat_tests}
 use Rattle.std.proofs.lemmas.Grind.{common_steps}
@@ -8,35 +8,35 @@ use Rattle.std.specs.Option.{is_some, option_map, option_to_list}
 use Rattle.pulsar_run.specs.Order.{InOrder, NoneBelow, arranged}
 use Rattle.pulsar_run.specs.Run.{in_order, steps_done, with_effects}
 use Rattle.pulsar_run.proofs.Orders.{kinds_in_order_lem}
+use Rattle.pulsar_messages.specs.Words.{Words}
+use Rattle.pulsar_session.specs.Failures.{Fault}
+use Rattle.pulsar_session.specs.Link.{is_spent}
+use Rattle.pulsar_link.specs.Items.{Item, Given, Faulty}
+use Rattle.pulsar_link.specs.Request.{closed_consumer}
 use Rattle.pulsar_client.specs.declared.act.Act.{Act}
 use Rattle.pulsar_client.specs.declared.act.Act.TheVariants.{Comes, Does, Answers}
 use Rattle.pulsar_client.specs.declared.act.Action.TheVariants.{Ask}
-use Rattle.pulsar_link.specs.declared.act.Arrival.TheVariants.{Message, Bad}
-use Rattle.pulsar_link.specs.declared.act.LinkAct.{LinkAct}
-use Rattle.pulsar_link.specs.declared.act.LinkAct.TheVariants as link
+use Rattle.pulsar_client.specs.declared.act.Arrival.{Arrival}
+use Rattle.pulsar_client.specs.declared.act.Arrival.TheVariants as arrivals
+use Rattle.pulsar_client.specs.declared.act.LinkAct.{LinkAct}
+use Rattle.pulsar_client.specs.declared.act.LinkAct.TheVariants.{Reads, Ends}
 use Rattle.pulsar_client.specs.declared.act.Makes.{Makes}
-use Rattle.pulsar_client.specs.declared.act.Makes.TheVariants.{Nothing, Client, Consumer}
+use Rattle.pulsar_client.specs.declared.act.Makes.TheVariants.{Consumer}
 use Rattle.pulsar_client.specs.declared.act.Part.TheVariants.{ToLink, Polls}
 use Rattle.pulsar_client.specs.declared.act.Who.{Who}
 use Rattle.pulsar_client.specs.declared.act.Who.TheVariants.{Call}
-use Rattle.pulsar_link.specs.declared.given.Change.{Change}
-use Rattle.pulsar_link.specs.declared.given.Change.TheVariants.{Remains, Opened, Readied, Ended}
-use Rattle.pulsar_link.specs.declared.given.Word.{Word}
-use Rattle.pulsar_client.specs.Content.{Heard, Poll, Shown, Close, Hands, Faults}
-use Rattle.pulsar_client.specs.Effects.{asked_at, closes, effect_below, effect_rank, effects, given_at, is_before3, queues, settles, write}
-use Rattle.pulsar_link.specs.Link.{is_closed}
-use Rattle.pulsar_link.specs.Items.{Item, Given, Faulty}
-use Rattle.pulsar_client.specs.Laws.{EndsOnce, PollsAreAnswered, PollsFollow, brought, given_by, items_come, items_given}
-use Rattle.pulsar_link.specs.Link.{Frame, change, frame_asked, gives, is_ended, is_queued, spent}
-use Rattle.pulsar_link.specs.Messages.{Reply}
-use Rattle.pulsar_link.specs.Request.{Request, closed_consumer}
+use Rattle.pulsar_client.specs.Content.{Heard, Poll, Shown, Hands, Faults}
+use Rattle.pulsar_client.specs.Effects.{asked_at, effect_below, effect_rank, effects, given_at, is_before3}
+use Rattle.pulsar_client.specs.Laws.{EndsOnce, PollsAreAnswered, PollsFollow, brought, brought_by, given_by, items_come, items_given}
 use Rattle.pulsar_client.specs.Run.{Entry, Begins, Then, IsRun, Step, first_of, is_empty, rules, steps, view}
-use Rattle.pulsar_client.specs.Subscriptions.{Subscription, after_frame, after_poll, brings_message, closes_it, ended, hears, polled, polled_from}
-use Rattle.pulsar_client.specs.View.{Chosen, Seat, admitted_at, hears_ask, hears_some, is_live, made}
+use Rattle.pulsar_client.specs.Subscriptions.{Subscription, after_came, after_poll, closes_it, ended, ended_at, hears, is_heard_on, is_last, polled, polled_from}
+use Rattle.pulsar_client.specs.View.{Chosen, Seat, answer_at, arrival_at, closing, hears_ask, is_asked, made}
 use Rattle.pulsar_client.specs.Who.{is_same}
+use Rattle.pulsar_client.proofs.Acts.{Each, each_map}
 use Rattle.pulsar_client.proofs.Hearing.{begun_consumers, none_before}
 use Rattle.pulsar_client.proofs.Instances.{effect_order}
 use Rattle.pulsar_client.proofs.Made.{poll_comes}
+use Rattle.pulsar_client.proofs.OfLink.{IsOf, asked_of, given_of}
 use Rattle.pulsar_client.proofs.Plain.{ArePlain, effects_plain, is_plain}
 use Rattle.pulsar_client.proofs.Ticketed.{consumer_ticket}
 
@@ -136,13 +136,11 @@ given_done t (s ∷ ss) =
 
 -- WHAT GIVES NO ITEM
 
-abbrev NoItems : ℕ → List Shown → Type 0
-NoItems t [] = Unit {0}
-NoItems t (x ∷ xs) = (given_by t x ≡ []) × NoItems t xs
+abbrev NoItem : ℕ → Shown → Type 0
+NoItem t x = given_by t x ≡ []
 
-no_items_append : (t : ℕ) (xs ys : List Shown) → NoItems t xs → NoItems t ys → NoItems t (xs ++ ys)
-no_items_append t [] ys p q = q
-no_items_append t (x ∷ xs) ys p q = (p.0, no_items_append t xs ys p.1 q)
+abbrev NoItems : ℕ → List Shown → Type 0
+NoItems t xs = Each (NoItem t) xs
 
 gives_none : (t : ℕ) (xs ys : List Shown) → NoItems t ys → flat_map (given_by t) (xs ++ ys) ≡ flat_map (given_by t) xs
 gives_none t [] [] p = refl
@@ -159,36 +157,17 @@ given_same o t a log p =
     ∙ with_none t (effects (view o log) a) (steps_done rules o log) p
     ∙ sym (given_done t (steps_done rules o log))
 
-settles_none : (t l : ℕ) (ws : List Word) → NoItems t (map (settles l) ws)
-settles_none t l [] = tt
-settles_none t l (w ∷ ws) = (refl, settles_none t l ws)
+-- what is of a link is no item
+of_gives : (t k : ℕ) (x : Shown) → IsOf k x → NoItem t x
+of_gives t k (Hands ticket topic id metadata payload) h = absurd cc
+of_gives t k (Faults ticket fault) h = absurd cc
+of_gives t k _ h = refl
 
-queues_none : (t l : ℕ) (f : Option Frame) → NoItems t (option_to_list (option_map (queues l) f))
-queues_none t l None = tt
-queues_none t l (Some f) = (refl, tt)
+link_none : (t l : ℕ) (x : LinkAct) (now : ℕ) (row : Option Seat) → NoItems t (given_at l x now row)
+link_none t l x now row = each_map (IsOf l) (NoItem t) (given_at l x now row) (of_gives t l) (given_of l x now row)
 
-write_none : (t l : ℕ) (p : Option (List ℕ)) → NoItems t (option_to_list (option_map (write l) p))
-write_none t l None = tt
-write_none t l (Some p) = (refl, tt)
-
-closes_none : (t l : ℕ) (c : Change) → NoItems t (closes l c)
-closes_none t l Remains = tt
-closes_none t l Opened = tt
-closes_none t l Readied = tt
-closes_none t l (Ended end) = elim (is_closed end) as (λ b. NoItems t (cond b (Close l ∷ []) [])) [ true ↦ (refl, tt) | false ↦ tt ]
-
-link_none : (t l : ℕ) (x : LinkAct) (row : Option Seat) → NoItems t (given_at l x row)
-link_none t l x None = tt
-link_none t l x (Some seat) =
-    let g = gives x seat.seen in
-    no_items_append t (option_to_list (option_map (write l) g.piece)) (map (settles l) g.words ++ (option_to_list (option_map (queues l) g.frame) ++ closes l g.change))
-    (write_none t l g.piece)
-    (no_items_append t (map (settles l) g.words) (option_to_list (option_map (queues l) g.frame) ++ closes l g.change) (settles_none t l g.words)
-    (no_items_append t (option_to_list (option_map (queues l) g.frame)) (closes l g.change) (queues_none t l g.frame) (closes_none t l g.change)))
-
-asks_none : (t l now : ℕ) (request : Request) (row : Option Seat) → NoItems t (asked_at l now request row)
-asks_none t l now request None = tt
-asks_none t l now request (Some seat) = queues_none t l (frame_asked now request seat.seen)
+asks_none : (t l now : ℕ) (request : Words) (row : Option Seat) → NoItems t (asked_at l now request row)
+asks_none t l now request row = each_map (IsOf l) (NoItem t) (asked_at l now request row) (of_gives t l) (asked_of l now request row)
 
 plain_gives : (t : ℕ) (x : Shown) → is_plain x ≡ true → given_by t x ≡ []
 plain_gives t (Hands ticket topic id metadata payload) h = absurd cc
@@ -205,43 +184,16 @@ keeps_unread : (b : Bool) (s : Subscription) → (cond b (ended s) s).unread ≡
 keeps_unread true s = refl
 keeps_unread false s = refl
 
-frame_grows : (m : Reply) (seat : Seat) (s : Subscription) (is_own live : Bool) →
-    (cond (is_own && live) (after_frame m seat.seen.pending s) s).unread ≡ s.unread ++ cond (is_own && (live && brings_message m s.number)) m.items []
-frame_grows m seat s true true = refl
-frame_grows m seat s true false = sym (append-nil s.unread)
-frame_grows m seat s false live = sym (append-nil s.unread)
+came_grows : (a : Arrival) (s : Subscription) → (after_came a s).unread ≡ s.unread ++ brought_by a s.number
+came_grows (arrivals.Gives consumer r) s =
+    elim (consumer == s.number) as (λ b. (cond b (record s { is_live = not (is_last r); unread = s.unread ++ r.items }) s).unread ≡ s.unread ++ cond b r.items [])
+    [ true ↦ refl | false ↦ sym (append-nil s.unread) ]
+came_grows _ s = sym (append-nil s.unread)
 
-same_grows : (b : Bool) (s : Subscription) → (cond b s s).unread ≡ s.unread ++ []
-same_grows true s = sym (append-nil s.unread)
-same_grows false s = sym (append-nil s.unread)
-
-heard_grows : (l : ℕ) (x : LinkAct) (seat : Seat) (s : Subscription) → (hears l x seat.seen.pending s).unread ≡ s.unread ++ brought l x (Some seat) (Some s)
-heard_grows l (link.Comes (Message m)) seat s = frame_grows m seat s (s.link == l) s.is_live
-heard_grows l (link.Comes (Bad r)) seat s = same_grows ((s.link == l) && s.is_live) s
-heard_grows l link.Opens seat s = same_grows ((s.link == l) && s.is_live) s
-heard_grows l (link.Fails kind) seat s = same_grows ((s.link == l) && s.is_live) s
-heard_grows l link.Loses seat s = same_grows ((s.link == l) && s.is_live) s
-heard_grows l (link.Drains most) seat s = same_grows ((s.link == l) && s.is_live) s
-
-unread_grows : (l : ℕ) (x : LinkAct) (row : Option Seat) (s : Subscription) → (hears_some l x row s).unread ≡ s.unread ++ brought l x row (Some s)
-unread_grows l (link.Comes (Message m)) None s = sym (append-nil s.unread)
-unread_grows l (link.Comes (Bad r)) None s = sym (append-nil s.unread)
-unread_grows l link.Opens None s = sym (append-nil s.unread)
-unread_grows l (link.Fails kind) None s = sym (append-nil s.unread)
-unread_grows l link.Loses None s = sym (append-nil s.unread)
-unread_grows l (link.Drains most) None s = sym (append-nil s.unread)
-unread_grows l x (Some seat) s =
-    let heard : Subscription = hears l x seat.seen.pending s in
-    keeps_unread (is_ended (change x seat.seen.stage) && ((heard.link == l) && heard.is_live)) heard ∙ heard_grows l x seat s
-
-brought_none : (l : ℕ) (x : LinkAct) (row : Option Seat) → brought l x row None ≡ []
-brought_none l (link.Comes (Message m)) None = refl
-brought_none l (link.Comes (Message m)) (Some seat) = refl
-brought_none l (link.Comes (Bad r)) row = refl
-brought_none l link.Opens row = refl
-brought_none l (link.Fails kind) row = refl
-brought_none l link.Loses row = refl
-brought_none l (link.Drains most) row = refl
+heard_grows : (l : ℕ) (a : Arrival) (s : Subscription) → (hears l a s).unread ≡ s.unread ++ brought l a (Some s)
+heard_grows l a s =
+    elim (is_heard_on l s) as (λ b. (cond b (after_came a s) s).unread ≡ s.unread ++ cond b (brought_by a s.number) [])
+    [ true ↦ came_grows a s | false ↦ sym (append-nil s.unread) ]
 
 -- ALONG A LOG
 
@@ -250,28 +202,32 @@ abbrev Gives : Option Subscription → List Item → List Item → Type 0
 Gives None given come = (given ≡ []) × (come ≡ [])
 Gives (Some s) given come = given ++ s.unread ≡ come
 
-link_gives : (l : ℕ) (x : LinkAct) (row : Option Seat) (c : Option Subscription) (given come : List Item) → Gives c given come →
-    Gives (option_map (hears_some l x row) c) given (come ++ brought l x row c)
-link_gives l x row None given come g = (g.0, ap (λ items. items ++ brought l x row None) g.1 ∙ brought_none l x row)
-link_gives l x row (Some s) given come g =
-    ap (λ items. given ++ items) (unread_grows l x row s) ∙ sym (append_assoc given s.unread (brought l x row (Some s))) ∙ ap (λ items. items ++ brought l x row (Some s)) g
+link_gives : (l : ℕ) (a : Arrival) (c : Option Subscription) (given come : List Item) → Gives c given come →
+    Gives (option_map (hears l a) c) given (come ++ brought l a c)
+link_gives l a None given come g = (g.0, append-nil come ∙ g.1)
+link_gives l a (Some s) given come g =
+    ap (λ items. given ++ items) (heard_grows l a s) ∙ sym (append_assoc given s.unread (brought l a (Some s))) ∙ ap (λ items. items ++ brought l a (Some s)) g
 
-asks_gives : (l now : ℕ) (request : Request) (row : Option Seat) (c : Option Subscription) (given come : List Item) → Gives c given come →
+ends_gives : (l : ℕ) (cause : Option Fault) (c : Option Subscription) (given come : List Item) → Gives c given come → Gives (ended_at l cause c) given come
+ends_gives l None c given come g = g
+ends_gives l (Some cause) None given come g = g
+ends_gives l (Some cause) (Some s) given come g = ap (λ items. given ++ items) (keeps_unread (is_heard_on l s) s) ∙ g
+
+asks_gives : (l now : ℕ) (request : Words) (row : Option Seat) (c : Option Subscription) (given come : List Item) → Gives c given come →
     Gives (option_map (hears_ask l now request row) c) given come
 asks_gives l now request row None given come g = g
 asks_gives l now request row (Some s) given come g =
-    ap (λ items. given ++ items) (keeps_unread ((is_queued (admitted_at now request row) && closes_it (closed_consumer request) s.number) && ((s.link == l) && s.is_live)) s) ∙ g
+    ap (λ items. given ++ items) (keeps_unread (is_asked (answer_at now request row) && (closes_it (closed_consumer request) s.number && is_heard_on l s)) s) ∙ g
 
 made_gives : (t : ℕ) (who : Who) (makes : Makes) (c : Option Subscription) (given come : List Item) → (is_same (Call t) who ≡ true → c ≡ None) → Gives c given come →
     Gives (made who makes t c) given come
-made_gives t who Nothing c given come none g = g
-made_gives t who Client c given come none g = g
 made_gives t who (Consumer l n topic) c given come none g = elim (cases_Bool (is_same (Call t) who)) [
   | inl e ↦
       (let nothing : Gives None given come = subst (λ x. Gives x given come) (none e) g in
       rw e (append-nil given ∙ nothing.0 ∙ sym nothing.1))
   | inr e ↦ rw e g
 ]
+made_gives t who _ c given come none g = g
 
 -- A poll gives the first item to its own consumer, and none to others.
 takes : (t k : ℕ) (topic : List ℕ) (is_live : Bool) (items : List Item) → (t == k) ≡ true → given_by t (polled_from k topic is_live items) ++ drop 1 items ≡ items
@@ -326,20 +282,25 @@ begins_on o t e log g =
     subst (λ c. Gives c (items_given t (steps o log) ++ []) (items_come o t log)) (sym (begun_consumers e (view o log) t))
     (subst (λ x. Gives ((view o log).consumers t) x (items_come o t log)) (sym (append-nil (items_given t (steps o log)))) g)
 
-follows : EndsOnce → (o : Chosen) (t : ℕ) (log : List Entry) → t < spent → IsRun o log → Follows o t log
-follows once o t [] lt r = (refl, refl)
-follows once o t (Begins e ∷ log) lt r = begins_on o t e log (follows once o t log lt r.0)
-follows once o t (Then (Comes (ToLink l x)) ∷ log) lt r =
-    on o t (Comes (ToLink l x)) log (link_none t l x ((view o log).links.live l))
-    (link_gives l x ((view o log).links.live l) ((view o log).consumers t) (items_given t (steps o log)) (items_come o t log) (follows once o t log lt r.0))
-follows once o t (Then (Comes (Polls k)) ∷ log) lt r = polls_on o t k log r (follows once o t log lt r.0)
-follows once o t (Then (Does who (Ask l request)) ∷ log) lt r =
+follows : EndsOnce → (o : Chosen) (t : ℕ) (log : List Entry) → is_spent t ≡ false → IsRun o log → Follows o t log
+follows once o t [] un r = (refl, refl)
+follows once o t (Begins e ∷ log) un r = begins_on o t e log (follows once o t log un r.0)
+follows once o t (Then (Comes (ToLink l Reads)) ∷ log) un r =
+    on o t (Comes (ToLink l Reads)) log (link_none t l Reads (view o log).now ((view o log).links.live l))
+    (link_gives l (arrival_at ((view o log).links.live l)) ((view o log).consumers t) (items_given t (steps o log)) (items_come o t log) (follows once o t log un r.0))
+follows once o t (Then (Comes (ToLink l (Ends end))) ∷ log) un r =
+    on o t (Comes (ToLink l (Ends end))) log (link_none t l (Ends end) (view o log).now ((view o log).links.live l))
+    (ends_gives l (closing end (view o log).now ((view o log).links.live l)) ((view o log).consumers t) (items_given t (steps o log)) (items_come o t log) (follows once o t log un r.0))
+follows once o t (Then (Comes (ToLink l x)) ∷ log) un r =
+    on o t (Comes (ToLink l x)) log (link_none t l x (view o log).now ((view o log).links.live l)) (follows once o t log un r.0)
+follows once o t (Then (Comes (Polls k)) ∷ log) un r = polls_on o t k log r (follows once o t log un r.0)
+follows once o t (Then (Does who (Ask l request)) ∷ log) un r =
     on o t (Does who (Ask l request)) log (asks_none t l (view o log).now request ((view o log).links.live l))
-    (asks_gives l (view o log).now request ((view o log).links.live l) ((view o log).consumers t) (items_given t (steps o log)) (items_come o t log) (follows once o t log lt r.0))
-follows once o t (Then (Answers who verdict) ∷ log) lt r =
+    (asks_gives l (view o log).now request ((view o log).links.live l) ((view o log).consumers t) (items_given t (steps o log)) (items_come o t log) (follows once o t log un r.0))
+follows once o t (Then (Answers who verdict) ∷ log) un r =
     on o t (Answers who verdict) log (plain_none t (effects (view o log) (Answers who verdict)) (effects_plain (view o log) (Answers who verdict) refl))
-    (made_gives t who verdict.makes ((view o log).consumers t) (items_given t (steps o log)) (items_come o t log) (none_before once o t log who verdict lt r) (follows once o t log lt r.0))
-follows once o t (Then a ∷ log) lt r = on o t a log (plain_none t (effects (view o log) a) (effects_plain (view o log) a refl)) (follows once o t log lt r.0)
+    (made_gives t who verdict.makes ((view o log).consumers t) (items_given t (steps o log)) (items_come o t log) (none_before once o t log who verdict un r) (follows once o t log un r.0))
+follows once o t (Then a ∷ log) un r = on o t a log (plain_none t (effects (view o log) a) (effects_plain (view o log) a refl)) (follows once o t log un r.0)
 
 pub polls_follow_lem : EndsOnce → PollsFollow
 polls_follow_lem once o log t s r e = subst (λ c. Gives c (items_given t (steps o log)) (items_come o t log)) e (follows once o t log (consumer_ticket o log t s r e) r)

@@ -1,131 +1,91 @@
--- The frames that are written are the first of those that were queued.
-use Rattle.std.proofs.Common.{◌≡◌, inl, inr, ◌∙◌, sym, ap, ℕ, List, [], ◌∷◌, ◌++◌, refl, take, drop, true, false, cond, Option, Some, None, append_assoc, append-nil}
-use Rattle.std.proofs.lemmas.Bool.{cases_Bool}
-use Rattle.std.proofs.lemmas.List.{take-append-drop}
-use Rattle.std.specs.Option.{option_map, option_to_list}
-use Rattle.pulsar_link.specs.declared.act.LinkAct.{LinkAct}
-use Rattle.pulsar_link.specs.declared.act.LinkAct.TheVariants.{Opens, Fails, Loses, Comes, Drains}
-use Rattle.pulsar_link.specs.declared.given.Change.{Change}
-use Rattle.pulsar_link.specs.declared.given.Change.TheVariants.{Remains, Opened, Readied, Ended}
-use Rattle.pulsar_link.specs.declared.link.Stage.{Stage}
-use Rattle.pulsar_link.specs.declared.link.Stage.TheVariants.{Dialing, Handshaking, Ready, Over}
-use Rattle.pulsar_client.specs.Laws.{Borne, Fed, Took, WasAsked, WrittenInOrder, frames_queued, frames_written, seen_after}
-use Rattle.pulsar_frame.specs.Frame as frame
-use Rattle.pulsar_link.specs.Link.{Frame, Seen, change, fed, frame_asked, greeting, is_open, is_over, kept, left_by, stage_after, with_frame, written_by}
-use Rattle.pulsar_link.specs.Request.{Request}
+-- What a call of a connection writes, and what it queues: by the laws of every history of a connection.
+use Rattle.std.proofs.Common.{◌≡◌, ◌∙◌, sym, ap, ℕ, zero, suc, ◌+◌, ◌-◌, ◌≤◌, List, [], ◌∷◌, ◌++◌, refl, arith, length, false, cond, nat_lt, None, append_assoc, length-append, length-drop, slice_get}
+use Rattle.std.proofs.lemmas.Bool.Decides.{nat_tests}
+use Rattle.std.proofs.lemmas.List.{append_cancel_left}
+use Rattle.std.specs.List.{cons_option, filter_map}
+use Rattle.std.specs.Option.{option_map}
+use Rattle.pulsar_session.specs.Laws.{frames_queued, frames_written, left_in, queued_in, written_in}
+use Rattle.pulsar_session.specs.Link.{Act, Seen, Setup, frame_at, is_over, seen}
+use Rattle.pulsar_session.proofs.Placing.{frame_of_place}
+use Rattle.pulsar_session.proofs.Settled.{places_count, written_in_order}
+use Rattle.pulsar_client.specs.Content.{Shown, Queued}
+use Rattle.pulsar_client.specs.Links.{numbers_from, queues, queues_at}
 
-abbrev pub bytes_of : Option Frame → List (List ℕ)
-bytes_of f = option_to_list (option_map (λ (x : Frame). x.bytes) f)
+-- frames that are queued one after the other, from a place on
+abbrev pub numbered : (link place : ℕ) → List (List ℕ) → List Shown
+numbered l place [] = []
+numbered l place (f ∷ fs) = Queued l place f ∷ numbered l (suc place) fs
 
-pub with_is : (f : Option Frame) (frames : List (List ℕ)) → with_frame f frames ≡ frames ++ bytes_of f
-with_is None frames = sym (append-nil frames)
-with_is (Some f) frames = refl
+-- a call writes the first of what is unwritten, and queues some frames behind it
+pub record Turns (v w : Seen) (written queued : List (List ℕ)) : Type 0 where
+  pub moved : written ++ w.unwritten ≡ v.unwritten ++ queued
+  pub count : w.waits.queued ≡ v.waits.queued + length queued
+  pub shown : (l : ℕ) → queues l v w ≡ numbered l v.waits.queued queued
 
--- a drain cuts what is left in two
-pub cut_is : (x : LinkAct) (s : Stage) (frames : List (List ℕ)) → written_by x s frames ++ left_by x s frames ≡ frames
-cut_is (Drains most) s frames =
-    elim (is_open s) as (λ b. cond b (take most frames) [] ++ cond b (drop most frames) frames ≡ frames) [ true ↦ take-append-drop most frames | false ↦ refl ]
-cut_is Opens s frames = refl
-cut_is (Fails kind) s frames = refl
-cut_is Loses s frames = refl
-cut_is (Comes a) s frames = refl
+behind : (xs ys : List (List ℕ)) (n : ℕ) → length xs ≤ n → slice_get (xs ++ ys) n ≡ slice_get ys (n - length xs)
+behind [] ys n le = let same : n - 0 ≡ n = omega arith in ap (slice_get ys) (sym same)
+behind (x ∷ xs) ys zero le = absurd (omega (arith, le))
+behind (x ∷ xs) ys (suc n) le =
+    let less : length xs ≤ n = omega (arith, le) in
+    let same : n - length xs ≡ suc n - suc (length xs) = omega (arith, less) in
+    behind xs ys n less ∙ ap (slice_get ys) same
 
--- AT AN END NOTHING MORE IS WRITTEN OR QUEUED
+shown_from : (l first : ℕ) (w : Seen) (fs : List (List ℕ)) → ((i place : ℕ) → place ≡ first + i → frame_at place w ≡ slice_get fs i) →
+    filter_map (queues_at l w) (numbers_from first (length fs)) ≡ numbered l first fs
+shown_from l first w [] at = refl
+shown_from l first w (f ∷ fs) at =
+    ap (λ o. cons_option (option_map (Queued l first) o) (filter_map (queues_at l w) (numbers_from (suc first) (length fs)))) (at zero first (omega arith))
+    ∙ ap (λ xs. Queued l first f ∷ xs) (shown_from l (suc first) w fs (λ i place e. at (suc i) place (omega (arith, e))))
 
-over_is : (s : Stage) → is_over s ≡ true → s ≡ Over
-over_is Over h = refl
-over_is Dialing h = absurd cc
-over_is Handshaking h = absurd cc
-over_is Ready h = absurd cc
+module _ (s : Setup) (act : Act) (h : List Act) (before : is_over (seen s h).stage ≡ false) (after : is_over (seen s (act ∷ h)).stage ≡ false) where
+  abbrev v : Seen
+  v = seen s h
 
-over_change : (x : LinkAct) → change x Over ≡ Remains
-over_change Opens = refl
-over_change (Fails kind) = refl
-over_change Loses = refl
-over_change (Comes a) = refl
-over_change (Drains most) = refl
+  abbrev w : Seen
+  w = seen s (act ∷ h)
 
-over_written : (x : LinkAct) (frames : List (List ℕ)) → written_by x Over frames ≡ []
-over_written (Drains most) frames = refl
-over_written Opens frames = refl
-over_written (Fails kind) frames = refl
-over_written Loses frames = refl
-over_written (Comes a) frames = refl
+  moved : written_in act v ++ w.unwritten ≡ v.unwritten ++ queued_in act v
+  moved = append_cancel_left (frames_written s h) (written_in act v ++ w.unwritten) (v.unwritten ++ queued_in act v)
+      (sym (append_assoc (frames_written s h) (written_in act v) w.unwritten)
+      ∙ written_in_order s (act ∷ h) after
+      ∙ ap (λ xs. xs ++ queued_in act v) (sym (written_in_order s h before))
+      ∙ append_assoc (frames_written s h) v.unwritten (queued_in act v))
 
--- what is left to write: until the end, what is seen of it
-record Writes (first : ℕ) (bs : List Borne) : Type 0 where
-  rest : List (List ℕ)
-  whole : frames_written first bs ++ rest ≡ frames_queued first bs
-  live : is_over (seen_after first bs).stage ≡ false → rest ≡ (seen_after first bs).unwritten
+  count : w.waits.queued ≡ v.waits.queued + length (queued_in act v)
+  count =
+      let now = places_count s (act ∷ h) after in
+      let old = places_count s h before in
+      let len = length-append (frames_queued s h) (queued_in act v) in
+      omega (arith, now, old, len)
 
-module _ (first : ℕ) (bs : List Borne) (k : Writes first bs) where
-  abbrev s : Seen
-  s = seen_after first bs
+  -- what is written was queued before
+  written_before : length (frames_written s (act ∷ h)) ≤ length (frames_queued s h)
+  written_before =
+      let all = ap length (written_in_order s (act ∷ h) after) in
+      let left = length-append (frames_written s (act ∷ h)) w.unwritten in
+      let right = length-append (frames_queued s h) (queued_in act v) in
+      let rest = length-drop (length (left_in act v)) w.unwritten in
+      omega (arith, all, left, right, rest)
 
-  -- some frames of those that are left are written, and one may be queued behind them
-  more : (now left : List (List ℕ)) (f : Option Frame) → now ++ left ≡ k.rest → (frames_written first bs ++ now) ++ (left ++ bytes_of f) ≡ frames_queued first bs ++ bytes_of f
-  more now left f h =
-      sym (append_assoc (frames_written first bs ++ now) left (bytes_of f))
-      ∙ ap (λ xs. xs ++ bytes_of f) (append_assoc (frames_written first bs) now left ∙ ap (λ xs. frames_written first bs ++ xs) h ∙ k.whole)
-
-  took_live : (x : LinkAct) (c : Change) → change x s.stage ≡ c → is_over s.stage ≡ false → Writes first (Took x ∷ bs)
-  took_live x c e d =
-      let now = written_by x s.stage s.unwritten in
-      let left = left_by x s.stage s.unwritten in
-      let f = greeting (change x s.stage) s.queued in
-      record {
-        rest = left ++ bytes_of f;
-        whole = more now left f (cut_is x s.stage s.unwritten ∙ sym (k.live d));
-        live = stays c e;
-      }
+  frame_is : (i place : ℕ) → place ≡ v.waits.queued + i → frame_at place w ≡ slice_get (queued_in act v) i
+  frame_is i place e =
+      let old = places_count s h before in
+      let some = written_before in
+      let late : nat_lt place (length (frames_written s (act ∷ h))) ≡ false = not_before place (length (frames_written s (act ∷ h))) (omega (arith, old, some, e)) in
+      let at : place - length (frames_queued s h) ≡ i = omega (arith, old, e) in
+      frame_of_place s (act ∷ h) place after
+      ∙ ap (λ b. cond b None (slice_get (frames_queued s (act ∷ h)) place)) late
+      ∙ behind (frames_queued s h) (queued_in act v) place (omega (arith, old, e))
+      ∙ ap (slice_get (queued_in act v)) at
     where
-      stays : (c : Change) → change x s.stage ≡ c → is_over (stage_after (change x s.stage) s.stage) ≡ false →
-          left_by x s.stage s.unwritten ++ bytes_of (greeting (change x s.stage) s.queued) ≡ kept (change x s.stage) (with_frame (greeting (change x s.stage) s.queued) (left_by x s.stage s.unwritten))
-      stays Remains e h = rw e (append-nil _)
-      stays Opened e h = rw e refl
-      stays Readied e h = rw e (append-nil _)
-      stays (Ended end) e h = let g : true ≡ false = rw e at h in absurd cc
+      not_before : (a b : ℕ) → b ≤ a → nat_lt a b ≡ false
+      not_before a b le = grind (arith, nat_tests)
 
-  took_over : (x : LinkAct) → is_over s.stage ≡ true → Writes first (Took x ∷ bs)
-  took_over x d =
-      let o : s.stage ≡ Over = over_is s.stage d in
-      let c : change x s.stage ≡ Remains = ap (change x) o ∙ over_change x in
-      let w : written_by x s.stage s.unwritten ≡ [] = ap (λ t. written_by x t s.unwritten) o ∙ over_written x s.unwritten in
-      record {
-        rest = k.rest ++ bytes_of (greeting (change x s.stage) s.queued);
-        whole = more (written_by x s.stage s.unwritten) k.rest (greeting (change x s.stage) s.queued) (ap (λ ws. ws ++ k.rest) w);
-        live = λ h. (let g : true ≡ false = sym (ap is_over (ap (λ t. stage_after t s.stage) c) ∙ d) ∙ h in absurd cc);
-      }
-
-  asked_on : (now : ℕ) (request : Request) → Writes first (WasAsked now request ∷ bs)
-  asked_on now request = record {
-    rest = k.rest ++ bytes_of (frame_asked now request s);
-    whole = more [] k.rest (frame_asked now request s) refl;
-    live = λ h. ap (λ xs. xs ++ bytes_of (frame_asked now request s)) (k.live h) ∙ sym (with_is (frame_asked now request s) s.unwritten);
+  pub turns : Turns v w (written_in act v) (queued_in act v)
+  turns = record {
+    moved = moved;
+    count = count;
+    shown = λ l.
+        let more : w.waits.queued - v.waits.queued ≡ length (queued_in act v) = (let c = count in omega (arith, c)) in
+        ap (λ n. filter_map (queues_at l w) (numbers_from v.waits.queued n)) more ∙ shown_from l v.waits.queued w (queued_in act v) frame_is;
   }
-
-  fed_on : (piece : List ℕ) → Writes first (Fed piece ∷ bs)
-  fed_on piece = record {
-    rest = k.rest;
-    whole = ap (λ xs. xs ++ k.rest) (append-nil (frames_written first bs)) ∙ k.whole ∙ sym (append-nil (frames_queued first bs));
-    live = λ h. k.live (sym stage ∙ h) ∙ sym unwritten;
-  }
-    where
-      stage : is_over (fed piece s).stage ≡ is_over s.stage
-      stage = elim (is_open s.stage) as (λ b. is_over (cond b (record s { unread = frame.left (s.unread ++ piece) }) s).stage ≡ is_over s.stage) [ true ↦ refl | false ↦ refl ]
-
-      unwritten : (fed piece s).unwritten ≡ s.unwritten
-      unwritten = elim (is_open s.stage) as (λ b. (cond b (record s { unread = frame.left (s.unread ++ piece) }) s).unwritten ≡ s.unwritten) [ true ↦ refl | false ↦ refl ]
-
-writes : (first : ℕ) (bs : List Borne) → Writes first bs
-writes first [] = record { rest = []; whole = refl; live = λ h. refl }
-writes first (Fed piece ∷ bs) = fed_on first bs (writes first bs) piece
-writes first (Took x ∷ bs) =
-    elim (cases_Bool (is_over (seen_after first bs).stage)) [
-      | inl d ↦ took_over first bs (writes first bs) x d
-      | inr d ↦ took_live first bs (writes first bs) x (change x (seen_after first bs).stage) refl d
-    ]
-writes first (WasAsked now request ∷ bs) = asked_on first bs (writes first bs) now request
-
-pub written_in_order_lem : WrittenInOrder
-written_in_order_lem first bs = let w : Writes first bs = writes first bs in (w.rest, w.whole)

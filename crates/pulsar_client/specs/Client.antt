@@ -2,6 +2,8 @@
 use Rattle.std.specs.Prelude.{◌≡◌, true, false, List, string_bytes}
 use Rattle.pulsar_client.specs.declared.options.ClientOptions.{ClientOptions}
 use Rattle.pulsar_client.specs.declared.pulsar.Pulsar.{Pulsar}
+use Rattle.std.specs.Option.{option_map}
+use Rattle.pulsar_messages.specs.Content.{authentication_values}
 use Rattle.pulsar_client.specs.Address.{address_of}
 use Rattle.pulsar_client.specs.Content.{Heard}
 use Rattle.pulsar_client.specs.Run.{Good, Step, view}
@@ -10,14 +12,28 @@ use Rattle.pulsar_client.specs.View.{Chosen, is_live}
 
 -- what the options choose
 abbrev pub chosen : ClientOptions → Chosen
-chosen options = record { first_number = options.first_number; now = options.now; address = address_of (string_bytes options.url) }
+chosen options =
+    record {
+      address = address_of (string_bytes options.url);
+      auth = option_map authentication_values options.auth;
+      connection_timeout = options.connection_retry.connection_timeout;
+      operation_timeout = options.operation_retry.operation_timeout;
+      outbound = options.outbound_channel_size;
+      first_number = options.first_number;
+      now = options.now;
+    }
+
+-- the options that a client was made with
+abbrev pub options_of : Pulsar → ClientOptions
+options_of c = c.options
 
 -- a step ran out of memory
 abbrev pub HasFailed : Pulsar → Type 0
 HasFailed c = c.failed ≡ true
 
--- a client stands for a history where its tables do, and it has not run out of memory
+-- a client stands for a history where its tables do, with what its options choose, and it has not run out of memory
 pub record StandsFor (o : Chosen) (c : Pulsar) (history : List Step) : Type 0 where
+  pub made : o ≡ chosen (options_of c)
   pub stands : Stands o c.tables history
   pub whole : c.failed ≡ false
 

@@ -10,9 +10,10 @@ use Rattle.pulsar_wire.specs.Views.{body_values, message_id_values, message_meta
 use Rattle.pulsar_wire.specs.declared.commands.topics.Mode.{Mode}
 use Rattle.pulsar_wire.specs.declared.error.Error.{Error}
 use Rattle.pulsar_wire.specs.declared.error.IoKind.{IoKind}
-use Rattle.pulsar_link.specs.Failures.{Failure, failure}
+use Rattle.pulsar_session.specs.Failures.{Failure, failure}
 use Rattle.pulsar_link.specs.Messages.{Written, written}
-use Rattle.pulsar_link.specs.RawCall.{Words, words}
+use Rattle.pulsar_link.specs.RawCall.{words_of}
+use Rattle.pulsar_messages.specs.Words.{Words}
 use Rattle.pulsar_client.specs.declared.event.Call.{Call}
 use Rattle.pulsar_client.specs.declared.event.Call.TheVariants as call
 use Rattle.pulsar_client.specs.declared.event.Event.{Event}
@@ -27,6 +28,7 @@ use Rattle.pulsar_client.specs.declared.effect.Handed.{Handed}
 -- what a user asks
 pub data Asked : Type 0 where
   Build : Asked
+  Stop : Asked
   Topics : (namespace : List ℕ) (mode : Mode) → Asked
   Raw : (link : ℕ) (words : Words) → Asked
 
@@ -38,6 +40,7 @@ pub data Heard : Type 0 where
   Bytes : (link : ℕ) (piece : List ℕ) → Heard
   Lost : (link : ℕ) → Heard
   Drain : (link most : ℕ) → Heard
+  Ticked : (now : ℕ) → Heard
   Poll : (ticket : ℕ) → Heard
 
 -- what a call ends with: a receipt by its bytes, and other bodies of the broker by their numbers and their bytes
@@ -64,8 +67,9 @@ pub data Shown : Type 0 where
 
 abbrev pub asked : Call → Asked
 asked call.Build = Build
+asked call.Stop = Stop
 asked (call.Topics namespace mode) = Topics (string_bytes namespace) mode
-asked (call.Raw link c) = Raw link (words c)
+asked (call.Raw link c) = Raw link (words_of c)
 
 abbrev pub heard : Event → Heard
 heard (event.Call c) = Called (asked c)
@@ -74,6 +78,7 @@ heard (event.Failed l kind) = FailedToOpen l kind
 heard (event.Bytes l piece) = Bytes l piece.items
 heard (event.Lost l) = Lost l
 heard (event.Drain l most) = Drain l most
+heard (event.Tick now) = Ticked now
 heard (event.Poll ticket) = Poll ticket
 
 abbrev pub answered : Answer → Said

@@ -1,63 +1,32 @@
 -- The effects of an act, and the order of those of a step.
-use Rattle.std.specs.Prelude.{ℕ, ◌==◌, nat_lt, Bool, if◌then◌else◌, List, [], ◌∷◌, ◌++◌, map, Option, Some, None}
+use Rattle.std.specs.Prelude.{ℕ, ◌==◌, nat_lt, Bool, if◌then◌else◌, List, [], ◌∷◌, Option, Some, None}
 use Rattle.std.specs.Option.{option_map, option_to_list}
+use Rattle.pulsar_messages.specs.Words.{Words}
+use Rattle.pulsar_session.specs.Link as session
+use Rattle.pulsar_session.specs.Link.{Asks}
 use Rattle.pulsar_client.specs.declared.act.Act.{Act}
 use Rattle.pulsar_client.specs.declared.act.Act.TheVariants.{Comes, Does, Answers, Dials}
 use Rattle.pulsar_client.specs.declared.act.Action.TheVariants.{Ask}
-use Rattle.pulsar_link.specs.declared.act.LinkAct.{LinkAct}
+use Rattle.pulsar_client.specs.declared.act.LinkAct.{LinkAct}
 use Rattle.pulsar_client.specs.declared.act.Part.TheVariants.{ToLink, Polls}
 use Rattle.pulsar_client.specs.declared.act.Who.{Who}
 use Rattle.pulsar_client.specs.declared.act.Who.TheVariants.{Call}
-use Rattle.pulsar_client.specs.declared.effect.Settlement.{Settlement}
-use Rattle.pulsar_client.specs.declared.effect.Settlement.TheVariants as settlement
-use Rattle.pulsar_link.specs.declared.given.Change.{Change}
-use Rattle.pulsar_link.specs.declared.given.Change.TheVariants.{Remains, Opened, Readied, Ended}
-use Rattle.pulsar_link.specs.declared.given.Settled.{Settled}
-use Rattle.pulsar_link.specs.declared.given.Settled.TheVariants as settled
-use Rattle.pulsar_link.specs.declared.given.Word.{Word}
 use Rattle.pulsar_client.specs.Address.{Address}
 use Rattle.pulsar_client.specs.Content.{Said, Shown, Connect, Queued, Write, Settles, Ends, Close, Hands, Faults, FindsNothing, FindsEnd}
-use Rattle.pulsar_link.specs.Link.{Frame, Given, frame_asked, gives, is_closed}
-use Rattle.pulsar_link.specs.Request.{Request}
+use Rattle.pulsar_client.specs.Links as links
 use Rattle.pulsar_client.specs.Subscriptions.{polled}
 use Rattle.pulsar_client.specs.View.{Seat, View}
 
--- LINKS
+-- links
+abbrev pub given_at : ℕ → LinkAct → (now : ℕ) → Option Seat → List Shown
+given_at l x now None = []
+given_at l x now (Some seat) = links.effects l x now seat.seen
 
-abbrev pub write : ℕ → List ℕ → Shown
-write l bytes = Write l bytes
-
-abbrev pub settlement_of : Settled → Settlement
-settlement_of (settled.Reply m) = settlement.Reply
-settlement_of settled.Disconnected = settlement.Disconnected
-
-abbrev pub settles : ℕ → Word → Shown
-settles l w = Settles l w.place (settlement_of w.settled)
-
-abbrev pub queues : ℕ → Frame → Shown
-queues l frame = Queued l frame.place frame.bytes
-
-abbrev pub closes : ℕ → Change → List Shown
-closes l Remains = []
-closes l Opened = []
-closes l Readied = []
-closes l (Ended end) = if is_closed end then Close l ∷ [] else []
-
--- what is shown of all that a link gives
-abbrev pub given : ℕ → Given → List Shown
-given l g =
-    option_to_list (option_map (write l) g.piece) ++ (map (settles l) g.words ++ (option_to_list (option_map (queues l) g.frame) ++ closes l g.change))
-
-abbrev pub given_at : ℕ → LinkAct → Option Seat → List Shown
-given_at l x None = []
-given_at l x (Some seat) = given l (gives x seat.seen)
-
-abbrev pub asked_at : ℕ → (now : ℕ) → Request → Option Seat → List Shown
+abbrev pub asked_at : ℕ → (now : ℕ) → Words → Option Seat → List Shown
 asked_at l now request None = []
-asked_at l now request (Some seat) = option_to_list (option_map (queues l) (frame_asked now request seat.seen))
+asked_at l now request (Some seat) = links.queues l seat.seen (session.after (Asks now request) seat.seen)
 
--- CALLS, THE ADDRESS AND CONSUMERS
-
+-- calls
 abbrev pub ends : Who → Said → List Shown
 ends (Call ticket) said = Ends ticket said ∷ []
 
@@ -69,7 +38,7 @@ connects l (Some address) = Connect l address.host address.port ∷ []
 -- ALL
 
 abbrev pub effects : View → Act → List Shown
-effects v (Comes (ToLink l x)) = given_at l x (v.links.live l)
+effects v (Comes (ToLink l x)) = given_at l x v.now (v.links.live l)
 effects v (Comes (Polls ticket)) = option_to_list (option_map (polled ticket) (v.consumers ticket))
 effects v (Does who (Ask l request)) = asked_at l v.now request (v.links.live l)
 effects v (Answers who verdict) = ends who verdict.said

@@ -1,27 +1,42 @@
 -- What follows from the definition of a good run, in plain words.
-use Rattle.std.specs.Prelude.{◌≡◌, ◌⊎◌, ℕ, ◌+◌, ◌≤◌, ◌<◌, ◌==◌, ◌&&◌, ◌||◌, not, Bool, true, false, if◌then◌else◌, List, [], ◌∷◌, ◌++◌, Option, Some, None}
-use Rattle.std.specs.List.{filter_map, flat_map}
-use Rattle.std.specs.Option.{is_some, option_map, option_or, option_to_list}
+use Rattle.std.specs.Prelude.{◌≡◌, ◌⊎◌, ℕ, ◌+◌, ◌≤◌, ◌==◌, ◌&&◌, ◌||◌, not, Bool, true, false, if◌then◌else◌, List, [], ◌∷◌, ◌++◌, Option, Some, None, Result, Ok, Err}
+use Rattle.std.specs.List.{flat_map}
+use Rattle.std.specs.Option.{is_some, option_map, option_to_list}
 use Rattle.pulsar_run.specs.Laws as run
 use Rattle.pulsar_run.specs.Laws.{In, InThisStep}
 use Rattle.pulsar_run.specs.Order.{AllInOrder, InOrder, arranged}
 use Rattle.pulsar_run.specs.Run.{events, steps_done}
+use Rattle.pulsar_wire.specs.declared.error.ConnectionError.{ConnectionError}
+use Rattle.pulsar_frame.specs.Message.{MessageValues}
+use Rattle.pulsar_messages.specs.Words.{Words}
+use Rattle.pulsar_requests.specs.Waits.{later_of}
+use Rattle.pulsar_session.specs.declared.states.Asked.{Asked as Placed}
+use Rattle.pulsar_session.specs.declared.states.Asked.TheVariants as placed
+use Rattle.pulsar_session.specs.Failures.{Failure, Fault, OfConnection, fault}
+use Rattle.pulsar_session.specs.Link as session
+use Rattle.pulsar_session.specs.Link.{Act as Act', Asks, Feeds, Setup, came, due, ends, is_spent}
+use Rattle.pulsar_link.specs.Items.{Item, Given, Faulty}
+use Rattle.pulsar_link.specs.Messages.{Reply, read}
+use Rattle.pulsar_link.specs.Request.{closed_consumer, request_number}
 use Rattle.pulsar_client.specs.declared.act.Act.{Act}
 use Rattle.pulsar_client.specs.declared.act.Act.TheVariants.{Comes, Starts, Told, Does, Answers, Dials}
 use Rattle.pulsar_client.specs.declared.act.Action.{Action}
-use Rattle.pulsar_client.specs.declared.act.Action.TheVariants.{Get, Ask, Rest}
-use Rattle.pulsar_link.specs.declared.act.Arrival.{Arrival}
-use Rattle.pulsar_link.specs.declared.act.Arrival.TheVariants as arrival
-use Rattle.pulsar_client.specs.declared.act.Notice.{Notice}
-use Rattle.pulsar_link.specs.declared.act.LinkAct.{LinkAct}
-use Rattle.pulsar_link.specs.declared.act.LinkAct.TheVariants as link
+use Rattle.pulsar_client.specs.declared.act.Action.TheVariants.{Get, Ask, StopAll, Rest}
+use Rattle.pulsar_client.specs.declared.act.Arrival.{Arrival}
+use Rattle.pulsar_client.specs.declared.act.Arrival.TheVariants.{Nothing, Readied, Settles, Gives, Passes, Bad}
+use Rattle.pulsar_client.specs.declared.act.End.{End}
+use Rattle.pulsar_client.specs.declared.act.End.TheVariants.{Overdue}
+use Rattle.pulsar_client.specs.declared.act.LinkAct.{LinkAct}
+use Rattle.pulsar_client.specs.declared.act.LinkAct.TheVariants.{Reads, Drains, Ends}
 use Rattle.pulsar_client.specs.declared.act.Makes.{Makes}
+use Rattle.pulsar_client.specs.declared.act.Notice.{Notice}
 use Rattle.pulsar_client.specs.declared.act.Outcome.{Outcome}
 use Rattle.pulsar_client.specs.declared.act.Outcome.TheVariants as outcome
 use Rattle.pulsar_client.specs.declared.act.Part.TheVariants.{Calls, ToLink, Polls}
 use Rattle.pulsar_client.specs.declared.act.Procedure.{Procedure}
 use Rattle.pulsar_client.specs.declared.act.Procedure.TheVariants as procedure
-use Rattle.pulsar_client.specs.declared.act.Procedure.TheVariants.{Refuse}
+use Rattle.pulsar_client.specs.declared.act.Refusal.{Refusal}
+use Rattle.pulsar_client.specs.declared.act.Says.{Says}
 use Rattle.pulsar_client.specs.declared.act.Verdict.{Verdict}
 use Rattle.pulsar_client.specs.declared.act.Who.{Who}
 use Rattle.pulsar_client.specs.declared.act.Who.TheVariants.{Call}
@@ -29,28 +44,16 @@ use Rattle.pulsar_client.specs.declared.base.Series.{Series}
 use Rattle.pulsar_client.specs.declared.base.Series.TheVariants.{Nobody, Runs, Serves}
 use Rattle.pulsar_client.specs.declared.plans.plan.Plan.{Plan}
 use Rattle.pulsar_client.specs.declared.plans.plan.Turn.{Turn}
-use Rattle.pulsar_client.specs.declared.plans.plan.Turn.TheVariants.{Stays, Gives}
-use Rattle.pulsar_link.specs.declared.given.Admission.{Admission}
-use Rattle.pulsar_link.specs.declared.given.Admission.TheVariants as admission
-use Rattle.pulsar_link.specs.declared.given.Change.{Change}
-use Rattle.pulsar_link.specs.declared.given.Change.TheVariants as change
-use Rattle.pulsar_link.specs.declared.given.End.{End}
-use Rattle.pulsar_link.specs.declared.given.Settled.{Settled}
-use Rattle.pulsar_link.specs.declared.given.Settled.TheVariants as settled
-use Rattle.pulsar_link.specs.declared.given.Word.{Word}
-use Rattle.pulsar_client.specs.Content.{Asked, Called, Bytes, Poll, Shown, Queued, Write, Hands, Faults, Failed}
-use Rattle.pulsar_link.specs.Failures.{Failure, OfConnection, Shutdown}
-use Rattle.pulsar_link.specs.Items.{Item, Given, Faulty}
-use Rattle.pulsar_link.specs.Link.{Frame, Pending, Seen, admitted, after as link_after, after_ask, arrivals, change as change_of, dialed, ends_wait, fed, frame_asked, gives, is_ended, is_open, is_queued, spent, waits_for, words, written_by}
-use Rattle.pulsar_link.specs.Messages.{Reply}
-use Rattle.pulsar_client.specs.Plan.{begins, fault_of, reply_says, told}
-use Rattle.pulsar_link.specs.Request.{Request, awaited, closed_consumer, request_number}
-use Rattle.pulsar_client.specs.Rules.{below, procedure_for}
-use Rattle.pulsar_link.specs.Link.{kind_of}
-use Rattle.pulsar_client.specs.Run.{Entry, Begins, Then, Good, IsRun, Rests, Step, agenda, calls_in, rules, steps, view}
+use Rattle.pulsar_client.specs.declared.plans.plan.Turn.TheVariants as turn
+use Rattle.pulsar_client.specs.Content.{Asked, Called, Bytes, Ticked, Poll, Shown, Queued, Write, Hands, Faults, Failed}
 use Rattle.pulsar_client.specs.Effects.{effect_below}
-use Rattle.pulsar_client.specs.Subscriptions.{Subscription, brings_message, closes_it, is_last, polled}
-use Rattle.pulsar_client.specs.View.{Chosen, Seat, View, admitted_at, builds, is_at, turned, waiting_on}
+use Rattle.pulsar_client.specs.Links as links
+use Rattle.pulsar_client.specs.Links.{Change, Remains, Becomes, IsOver, call_of, change_at, change_in, closed_by, line_places, new_places}
+use Rattle.pulsar_client.specs.Plan.{begins, failure_of, fault_of, reply_says, told}
+use Rattle.pulsar_client.specs.Rules.{below, dropped, fails_so, lost, procedure_for}
+use Rattle.pulsar_client.specs.Run.{Entry, Begins, Then, Good, IsRun, Rests, Step, agenda, calls_in, rules, steps, view}
+use Rattle.pulsar_client.specs.Subscriptions.{Subscription, closes_it, is_heard_on, is_last, polled}
+use Rattle.pulsar_client.specs.View.{Chosen, Seat, View, answer_at, arrival_at, builds, closing, is_asked, setup}
 use Rattle.pulsar_client.specs.Who.{is_same}
 
 -- THE RUN
@@ -69,12 +72,11 @@ CausesInOrder = (o : Chosen) (log : List Entry) → InOrder below (agenda o log)
 
 -- CALLS
 
--- a call is made where the user asks for it, with the next ticket, which is never the greatest, and is refused just where the client
--- isn't built
+-- a call is made where the user asks for it, with the next ticket, which is never the greatest, by the procedure for it
 abbrev pub CallsAreMade : Type 0
 CallsAreMade = (o : Chosen) (log : List Entry) (t : ℕ) (p : Procedure) → IsRun o (Then (Starts (Call t) p) ∷ log) →
     (asked : Asked) × (older : List Entry) × (log ≡ Then (Comes (Calls asked)) ∷ Begins (Called asked) ∷ older)
-    × (t ≡ (view o older).calls.drawn) × (t < spent) × (p ≡ procedure_for (view o older).calls.is_built asked)
+    × (t ≡ (view o older).calls.drawn) × (is_spent t ≡ false) × (p ≡ procedure_for o (view o older).calls asked)
 
 -- the newest procedure that one who has a plan started, and the outcomes that it was told since then, oldest first
 abbrev pub started : Who → List Entry → Option Procedure
@@ -110,9 +112,9 @@ acted Rest = []
 acted action = Acted action ∷ []
 
 abbrev pub course : Turn Plan Verdict → List Outcome → List Deed
-course (Gives verdict) os = Answered verdict ∷ []
-course (Stays plan action) [] = acted action
-course (Stays plan action) (o ∷ os) = acted action ++ course (told plan o) os
+course (turn.Gives verdict) os = Answered verdict ∷ []
+course (turn.Stays plan action) [] = acted action
+course (turn.Stays plan action) (o ∷ os) = acted action ++ course (told plan o) os
 
 -- Wherever nothing is left to do, that is at the end of each step, each of those who have plans has done what its plan gives along
 -- its outcomes: each action, and the verdict, in the step of its outcome, none more and none less.
@@ -146,7 +148,7 @@ counted f (Then a ∷ log) = counted f log + f a
 -- The call of a ticket begins at most once, and ends at most once. The greatest ticket begins no call: it stands for all calls for which
 -- none is left, and each of these ends at once.
 abbrev pub EndsOnce : Type 0
-EndsOnce = (o : Chosen) (log : List Entry) (t : ℕ) → IsRun o log → (counted (start_of t) log ≤ 1) × (t < spent → counted (end_of t) log ≤ 1)
+EndsOnce = (o : Chosen) (log : List Entry) (t : ℕ) → IsRun o log → (counted (start_of t) log ≤ 1) × (is_spent t ≡ false → counted (end_of t) log ≤ 1)
 
 -- WHY A CALL IS TOLD AN OUTCOME
 
@@ -154,39 +156,71 @@ EndsOnce = (o : Chosen) (log : List Entry) (t : ℕ) → IsRun o log → (counte
 abbrev pub Gets : Chosen → Who → (View → Type 0) → Entry → List Entry → Type 0
 Gets o who P e older = (e ≡ Then (Does who Get)) × P (view o older)
 
--- one asks for a request on a link, and this becomes of it
-abbrev pub AsksSo : Chosen → Who → Admission → Entry → List Entry → Type 0
-AsksSo o who a e older =
-    (l : ℕ) × (request : Request) × (e ≡ Then (Does who (Ask l request))) × (admitted_at (view o older).now request ((view o older).links.live l) ≡ a)
+-- one asks for a request on a link, and this is answered
+abbrev pub AsksSo : Chosen → Who → (Result Placed ConnectionError → Type 0) → Entry → List Entry → Type 0
+AsksSo o who P e older =
+    (l : ℕ) × (request : Words) × (e ≡ Then (Does who (Ask l request))) × P (answer_at (view o older).now request ((view o older).links.live l))
 
--- something comes to a link that becomes so, while this one waits for the address
-abbrev pub TurnsSo : Chosen → Who → (ℕ → Change → Series → Type 0) → Entry → List Entry → Type 0
-TurnsSo o who P e older =
-    (l : ℕ) × (x : LinkAct) × (e ≡ Then (Comes (ToLink l x))) × In who (view o older).base.waiting
-    × P l (turned x ((view o older).links.live l)) (view o older).base.series
+-- a link becomes ready, while this one waits for the address
+abbrev pub BecomesReady : Chosen → Who → (link : ℕ) → Entry → List Entry → Type 0
+BecomesReady o who l e older =
+    (e ≡ Then (Comes (ToLink l Reads))) × (arrival_at ((view o older).links.live l) ≡ Readied) × In who (view o older).base.waiting
 
--- a request that this one asked for is settled so
-abbrev pub SettlesSo : Chosen → Who → Settled → Entry → List Entry → Type 0
-SettlesSo o who s e older =
-    (l : ℕ) × (x : LinkAct) × (seat : Seat) × (w : Word) × (e ≡ Then (Comes (ToLink l x))) × ((view o older).links.live l ≡ Some seat)
-    × In w (words x seat.seen) × (w.settled ≡ s) × (seat.askers w.place ≡ Some who)
+-- a link ends, and what is seen of it there is so
+abbrev pub EndsSo : Chosen → (End → View → Seat → Type 0) → Entry → List Entry → Type 0
+EndsSo o P e older =
+    (l : ℕ) × (end : End) × (cause : Fault) × (seat : Seat) × (e ≡ Then (Comes (ToLink l (Ends end)))) × ((view o older).links.live l ≡ Some seat)
+    × (closed_by end (view o older).now seat.seen ≡ Some cause) × P end (view o older) seat
+
+-- an attempt ends for which this one waits: whether it started it, and what it is told
+abbrev pub AttemptEnds : Chosen → Who → Outcome → Entry → List Entry → Type 0
+AttemptEnds o who u e older =
+    EndsSo o (λ end v seat. (starter : Who) × (v.base.series ≡ Runs starter) × In who v.base.waiting × (u ≡ fails_so end (is_same who starter))) e older
+
+-- a request that this one asked for ends with its link, and this is told
+abbrev pub RequestEnds : Chosen → Who → Outcome → Entry → List Entry → Type 0
+RequestEnds o who u e older =
+    EndsSo o (λ end v seat. (place : ℕ) × In place (ends seat.seen) × (seat.askers place ≡ Some who) × (u ≡ lost end v.now seat.seen place)) e older
+
+-- and a frame of it that stands in the line
+abbrev pub LineEnds : Chosen → Who → Outcome → Entry → List Entry → Type 0
+LineEnds o who u e older =
+    EndsSo o (λ end v seat. (place : ℕ) × In place (line_places seat.seen) × (seat.askers place ≡ Some who) × (u ≡ dropped end)) e older
+
+-- a frame that this one asked for moves up from the line
+abbrev pub MovesUp : Chosen → Who → Entry → List Entry → Type 0
+MovesUp o who e older =
+    (l most place : ℕ) × (seat : Seat) × (e ≡ Then (Comes (ToLink l (Drains most)))) × ((view o older).links.live l ≡ Some seat)
+    × In place (new_places seat.seen (links.after (Drains most) (view o older).now seat.seen)) × (seat.askers place ≡ Some who)
+
+-- a request that this one asked for is settled by this reply
+abbrev pub IsReplied : Chosen → Who → Reply → Entry → List Entry → Type 0
+IsReplied o who r e older =
+    (l : ℕ) × (seat : Seat) × (places : List ℕ) × (m : MessageValues) × (place : ℕ) × (e ≡ Then (Comes (ToLink l Reads)))
+    × ((view o older).links.live l ≡ Some seat) × (came seat.seen ≡ session.Settles places m) × In place places × (seat.askers place ≡ Some who)
+    × (r ≡ read m)
+
+-- this one stops the client
+abbrev pub StopsAll : Who → Entry → Type 0
+StopsAll who e = e ≡ Then (Does who StopAll)
 
 -- GotLink: it got the link of the address, which serves, or that became ready while it waited. NotFound: the options have no address.
--- Failed: the attempt that it started ended, so. Canceled: that of another ended. Queued, Exhausted, Unencodable: it asked, and the link
--- said so. Replied: its request was answered. Disconnected: its request ended with its link, or the link wasn't ready as it asked.
+-- Failed, Canceled: the attempt that it waited for ended, which it or another started. Queued: it asked, and its frame was queued at
+-- once or moved up. InLine, Refused: it asked, and the link said so. Replied: its request was answered. TimedOut, Disconnected,
+-- Stopped: its request, its frame in the line or the attempt that it waited for ended so; or it stopped the client.
 abbrev pub Cause : Chosen → Who → Outcome → Entry → List Entry → Type 0
-Cause o who (outcome.GotLink link) e older =
-    Gets o who (λ v. (v.base.series ≡ Serves link)) e older ⊎ TurnsSo o who (λ l c s. (c ≡ change.Readied) × (l ≡ link)) e older
+Cause o who (outcome.GotLink link) e older = Gets o who (λ v. (v.base.series ≡ Serves link)) e older ⊎ BecomesReady o who link e older
 Cause o who outcome.NotFound e older = Gets o who (λ v. (o.address ≡ None)) e older
-Cause o who (outcome.Failed kind) e older =
-    TurnsSo o who (λ l c s. (end : End) × (starter : Who) × (c ≡ change.Ended end) × (s ≡ Runs starter) × (is_same who starter ≡ true) × (kind ≡ kind_of end)) e older
-Cause o who outcome.Canceled e older =
-    TurnsSo o who (λ l c s. (end : End) × (starter : Who) × (c ≡ change.Ended end) × (s ≡ Runs starter) × (is_same who starter ≡ false)) e older
-Cause o who outcome.Queued e older = AsksSo o who admission.Queued e older
-Cause o who outcome.Exhausted e older = AsksSo o who admission.Exhausted e older
-Cause o who outcome.Unencodable e older = AsksSo o who admission.Unencodable e older
-Cause o who (outcome.Replied r) e older = SettlesSo o who (settled.Reply r) e older
-Cause o who outcome.Disconnected e older = SettlesSo o who settled.Disconnected e older ⊎ AsksSo o who admission.Disconnected e older
+Cause o who (outcome.Failed kind) e older = AttemptEnds o who (outcome.Failed kind) e older
+Cause o who outcome.Canceled e older = AttemptEnds o who outcome.Canceled e older
+Cause o who outcome.Queued e older = AsksSo o who (λ a. (place : ℕ) × (a ≡ Ok (placed.Queued place))) e older ⊎ MovesUp o who e older
+Cause o who outcome.InLine e older = AsksSo o who (λ a. (place : ℕ) × (a ≡ Ok (placed.Waiting place))) e older
+Cause o who (outcome.Refused cause) e older = AsksSo o who (λ a. (x : ConnectionError) × (a ≡ Err x) × (fault x ≡ cause)) e older
+Cause o who (outcome.Replied r) e older = IsReplied o who r e older
+Cause o who outcome.TimedOut e older = RequestEnds o who outcome.TimedOut e older
+Cause o who outcome.Disconnected e older = RequestEnds o who outcome.Disconnected e older ⊎ LineEnds o who outcome.Disconnected e older
+Cause o who outcome.Stopped e older =
+    StopsAll who e ⊎ (LineEnds o who outcome.Stopped e older ⊎ AttemptEnds o who outcome.Stopped e older)
 
 -- whatever one is told has its cause before, in the same step
 abbrev pub OutcomesAreCaused : Type 0
@@ -196,14 +230,15 @@ OutcomesAreCaused = (o : Chosen) (log : List Entry) (who : Who) (u : Outcome) �
 -- the number of the body of a procedure's request
 abbrev pub number_in : Procedure → Option ℕ
 number_in procedure.Build = None
-number_in (procedure.Ask place request) = Some (request_number request)
-number_in Refuse = None
+number_in procedure.Stop = None
+number_in (procedure.Ask place request s) = Some (request_number request)
+number_in (procedure.Refuse r) = None
 
--- a call fails with Shutdown where it is refused, and else with the fault of an outcome that it was told, or of a reply to its request
+-- a call fails where it is refused, and else with the fault of an outcome that it was told, or of a reply to its request
 pub data FailsSo (p : Procedure) (os : List Outcome) (f : Failure) : Type 0 where
-  IsRefused : p ≡ Refuse → f ≡ OfConnection Shutdown → FailsSo p os f
+  IsRefused : (r : Refusal) → p ≡ procedure.Refuse r → f ≡ failure_of r → FailsSo p os f
   IsTold : (u : Outcome) → In u os → f ≡ OfConnection (fault_of u) → FailsSo p os f
-  IsReplied : (r : Reply) (number : ℕ) → In (outcome.Replied r) os → number_in p ≡ Some number → Failed f ≡ reply_says number r → FailsSo p os f
+  IsAnswered : (r : Reply) (number : ℕ) (s : Says) → In (outcome.Replied r) os → number_in p ≡ Some number → Failed f ≡ reply_says s number r → FailsSo p os f
 
 abbrev pub FailuresAreTold : Type 0
 FailuresAreTold = (o : Chosen) (log : List Entry) (w : Who) (p : Procedure) (m : Makes) (f : Failure) →
@@ -220,17 +255,51 @@ built (_ ∷ log) = built log
 abbrev pub BuiltIs : Type 0
 BuiltIs = (o : Chosen) (log : List Entry) → (view o log).calls.is_built ≡ built log
 
+-- a plan has ended every link
+abbrev pub stopped : List Entry → Bool
+stopped [] = false
+stopped (Then (Does who StopAll) ∷ log) = true
+stopped (_ ∷ log) = stopped log
+
+-- The client is stopped from there on; so each later call is refused.
+abbrev pub StoppedIs : Type 0
+StoppedIs = (o : Chosen) (log : List Entry) → (view o log).calls.is_stopped ≡ stopped log
+
+-- THE CLOCK
+
+-- the greatest of the moment of the options and of the ticks
+abbrev pub clock : (start : ℕ) → List Entry → ℕ
+clock start [] = start
+clock start (Begins (Ticked now) ∷ log) = later_of (clock start log) now
+clock start (_ ∷ log) = clock start log
+
+abbrev pub ClockIs : Type 0
+ClockIs = (o : Chosen) (log : List Entry) → (view o log).now ≡ clock o.now log
+
+-- A tick begins at which this link is due, with so many frames queued.
+abbrev pub IsDueAt : Chosen → (link queued : ℕ) → Entry → List Entry → Type 0
+IsDueAt o l queued e older =
+    (now : ℕ) × (seat : Seat) × (e ≡ Begins (Ticked now)) × ((view o older).links.live l ≡ Some seat) × (due now seat.seen ≡ true)
+    × (queued ≡ seat.seen.waits.queued)
+
+-- A deadline comes to a link only in a tick at whose beginning the link was due, and those requests may time out whose frames were queued
+-- then: what is started in a tick waits for the next.
+abbrev pub DeadlinesAreTicked : Type 0
+DeadlinesAreTicked = (o : Chosen) (log : List Entry) (l queued : ℕ) →
+    IsRun o (Then (Comes (ToLink l (Ends (Overdue queued)))) ∷ log) → InThisStep (IsDueAt o l queued) log
+
 -- what runs for the address, by the newest of these: an attempt began, a link became ready, a link ended
 abbrev pub turn_of : (link : ℕ) → Change → Series → Series
-turn_of l change.Remains s = s
-turn_of l change.Opened s = s
-turn_of l change.Readied s = Serves l
-turn_of l (change.Ended end) s = Nobody
+turn_of l Remains s = s
+turn_of l Becomes s = Serves l
+turn_of l IsOver s = Nobody
 
 abbrev pub newest_turn : Chosen → List Entry → Series
 newest_turn o [] = Nobody
 newest_turn o (Then (Dials starter) ∷ log) = Runs starter
-newest_turn o (Then (Comes (ToLink l x)) ∷ log) = turn_of l (turned x ((view o log).links.live l)) (newest_turn o log)
+newest_turn o (Then (Comes (ToLink l Reads)) ∷ log) = turn_of l (change_in (arrival_at ((view o log).links.live l))) (newest_turn o log)
+newest_turn o (Then (Comes (ToLink l (Ends end))) ∷ log) =
+    turn_of l (change_at (closing end (view o log).now ((view o log).links.live l))) (newest_turn o log)
 newest_turn o (_ ∷ log) = newest_turn o log
 
 abbrev pub SeriesIsNewest : Type 0
@@ -238,115 +307,38 @@ SeriesIsNewest = (o : Chosen) (log : List Entry) → (view o log).base.series �
 
 -- LINKS
 
--- what was done to a link: a piece was read, something came, a request was asked for
-pub data Borne : Type 0 where
-  Fed : (piece : List ℕ) → Borne
-  Took : LinkAct → Borne
-  WasAsked : (now : ℕ) → Request → Borne
+-- the call of its connection, where something comes to a link that has not ended
+abbrev pub call_at : LinkAct → (now : ℕ) → Option Seat → List Act'
+call_at x now None = []
+call_at x now (Some seat) = option_to_list (call_of x now seat.seen)
 
--- since it was dialed, newest first
-abbrev pub borne : Chosen → ℕ → List Entry → List Borne
-borne o l [] = []
-borne o l (Begins (Bytes k piece) ∷ log) = if l == k then Fed piece ∷ borne o l log else borne o l log
-borne o l (Then (Comes (ToLink k x)) ∷ log) = if l == k then Took x ∷ borne o l log else borne o l log
-borne o l (Then (Does who (Ask k request)) ∷ log) = if l == k then WasAsked (view o log).now request ∷ borne o l log else borne o l log
-borne o l (Then (Dials starter) ∷ log) = if l == (view o log).links.started then [] else borne o l log
-borne o l (_ ∷ log) = borne o l log
+-- the calls of the connection of a link since it was dialed, newest first
+abbrev pub calls_of : Chosen → ℕ → List Entry → List Act'
+calls_of o l [] = []
+calls_of o l (Begins (Bytes k piece) ∷ log) = if l == k then Feeds piece ∷ calls_of o l log else calls_of o l log
+calls_of o l (Then (Comes (ToLink k x)) ∷ log) =
+    if l == k then call_at x (view o log).now ((view o log).links.live l) ++ calls_of o l log else calls_of o l log
+calls_of o l (Then (Does who (Ask k request)) ∷ log) = if l == k then Asks (view o log).now request ∷ calls_of o l log else calls_of o l log
+calls_of o l (Then (Dials starter) ∷ log) = if l == (view o log).links.started then [] else calls_of o l log
+calls_of o l (_ ∷ log) = calls_of o l log
 
-abbrev pub after_borne : Borne → Seen → Seen
-after_borne (Fed piece) s = fed piece s
-after_borne (Took x) s = link_after x s
-after_borne (WasAsked now request) s = after_ask now request s
+-- what it was dialed with
+abbrev pub dialed_with : Chosen → ℕ → List Entry → Option Setup
+dialed_with o l [] = None
+dialed_with o l (Then (Dials starter) ∷ log) =
+    if l == (view o log).links.started then option_map (setup o (view o log).now) o.address else dialed_with o l log
+dialed_with o l (_ ∷ log) = dialed_with o l log
 
-abbrev pub seen_after : (first_number : ℕ) → List Borne → Seen
-seen_after first [] = dialed first
-seen_after first (b ∷ bs) = after_borne b (seen_after first bs)
-
--- a link that has not ended is what was done to it made of it, and nothing else
+-- A link that has not ended is what the calls of its connection made of it, and nothing else. So all that holds of a connection over
+-- any acts holds of it: its requests are settled by the first later frame that bears their key, what is written is the first of what
+-- was queued, the line moves up in order, and what was read is what its bytes are cut into.
 abbrev pub LinksAlone : Type 0
 LinksAlone = (o : Chosen) (log : List Entry) (l : ℕ) (seat : Seat) → (view o log).links.live l ≡ Some seat →
-    seat.seen ≡ seen_after o.first_number (borne o l log)
-
--- how the request of a place is settled at each of these things that are done to a link, oldest first, where the older ones came before
-abbrev pub words_of : Borne → Seen → List Word
-words_of (Fed piece) s = []
-words_of (Took x) s = words x s
-words_of (WasAsked now request) s = []
-
-abbrev pub said_of : (place : ℕ) → Word → Option Settled
-said_of place w = if w.place == place then Some w.settled else None
-
-abbrev pub said_along : (first_number place : ℕ) → List Borne → List Borne → List Settled
-said_along first place [] older = []
-said_along first place (b ∷ later) older =
-    said_along first place later older ++ filter_map (said_of place) (words_of b (seen_after first (later ++ older)))
-
--- what settles a request: a message that bears its key, or the end of the link
-abbrev pub answers : Borne → Pending → Option Settled
-answers (Took (link.Comes (arrival.Message m))) r = if ends_wait m.key r.awaits then Some (settled.Reply m) else None
-answers _ r = None
-
-abbrev pub ends : Borne → Seen → Option Settled
-ends (Took x) s = if is_ended (change_of x s.stage) then Some settled.Disconnected else None
-ends _ s = None
-
--- how the first of the later ones that settles a request does so
-abbrev pub first_along : (first_number : ℕ) → Pending → List Borne → List Borne → Option Settled
-first_along first r [] older = None
-first_along first r (b ∷ later) older = option_or (first_along first r later older) (option_or (answers b r) (ends b (seen_after first (later ++ older))))
-
--- A request that is queued is settled once, by the first later frame of its link that bears its key or by the link's end, whichever
--- comes first, and not at all where neither has come or where its frame has no answer. What came before it settles nothing.
-abbrev pub SettledByFirst : Type 0
-SettledByFirst = (first now : ℕ) (later older : List Borne) (request : Request) → admitted now request (seen_after first older) ≡ admission.Queued →
-    said_along first (seen_after first older).queued later (WasAsked now request ∷ older)
-    ≡ filter_map (λ r. first_along first r later (WasAsked now request ∷ older)) (waits_for (awaited (seen_after first older).next_id request) (seen_after first older).queued)
-
--- FRAMES THAT COME
-
--- the stream of a link: the pieces that came while it was open, joined
-abbrev pub stream : Chosen → ℕ → List Entry → List ℕ
-stream o l [] = []
-stream o l (Begins (Bytes k piece) ∷ log) = if (l == k) && is_at is_open ((view o log).links.live l) then stream o l log ++ piece else stream o l log
-stream o l (_ ∷ log) = stream o l log
-
--- what came to it, in order
-abbrev pub came : ℕ → List Entry → List Arrival
-came l [] = []
-came l (Then (Comes (ToLink k (link.Comes a))) ∷ log) = if l == k then came l log ++ a ∷ [] else came l log
-came l (_ ∷ log) = came l log
-
--- what has come to a link is what the bytes of its stream are cut into: each frame whole, once and in order, however the bytes were
--- cut into pieces
-abbrev pub FramesAreCut : Type 0
-FramesAreCut = (o : Chosen) (log : List Entry) (l : ℕ) → IsRun o log → Rests o log → came l log ≡ arrivals (stream o l log)
-
--- FRAMES THAT ARE WRITTEN
+    (s : Setup) × (dialed_with o l log ≡ Some s) × (seat.seen ≡ session.seen s (calls_of o l log))
 
 -- a list begins with another
 abbrev pub IsPrefix : {A : Type 0} → List A → List A → Type 0
 IsPrefix {A} xs ys = (rest : List A) × (xs ++ rest ≡ ys)
-
-abbrev pub frame_of : Borne → Seen → Option Frame
-frame_of (Fed piece) s = None
-frame_of (Took x) s = (gives x s).frame
-frame_of (WasAsked now request) s = frame_asked now request s
-
-abbrev pub frames_queued : (first_number : ℕ) → List Borne → List (List ℕ)
-frames_queued first [] = []
-frames_queued first (b ∷ bs) = frames_queued first bs ++ option_to_list (option_map (λ f. f.bytes) (frame_of b (seen_after first bs)))
-
-abbrev pub written_at : Borne → Seen → List (List ℕ)
-written_at (Took x) s = written_by x s.stage s.unwritten
-written_at _ s = []
-
-abbrev pub frames_written : (first_number : ℕ) → List Borne → List (List ℕ)
-frames_written first [] = []
-frames_written first (b ∷ bs) = frames_written first bs ++ written_at b (seen_after first bs)
-
--- the frames that are written on a link are the first of those that were queued, in their order, each once
-abbrev pub WrittenInOrder : Type 0
-WrittenInOrder = (first : ℕ) (bs : List Borne) → IsPrefix (frames_written first bs) (frames_queued first bs)
 
 -- the bytes that an effect writes to a link, and those of the frame that it queues there
 abbrev pub written_on : ℕ → Shown → List ℕ
@@ -368,17 +360,21 @@ WritesFollow = (o : Chosen) (h : List Step) (l : ℕ) → Good o h → IsPrefix 
 
 -- CONSUMERS
 
--- A consumer ends at an entry: by a frame of its link that ends its topic; by a close of the broker that answers none of the requests
--- that wait; where its own close is queued; with its link.
-abbrev pub last_frame : LinkAct → List Pending → (number : ℕ) → Bool
-last_frame (link.Comes (arrival.Message m)) waiting number = is_last m waiting number
-last_frame _ waiting number = false
+-- A consumer ends at an entry: by a frame of its link for it that ends its topic or is the close of the broker; where its own close is
+-- asked for; with its link.
+abbrev pub last_arrival : Arrival → (number : ℕ) → Bool
+last_arrival Nothing number = false
+last_arrival Readied number = false
+last_arrival Settles number = false
+last_arrival (Gives consumer reply) number = (consumer == number) && is_last reply
+last_arrival Passes number = false
+last_arrival (Bad cause) number = false
 
 abbrev pub ends_at : Chosen → Subscription → Entry → List Entry → Bool
-ends_at o s (Then (Comes (ToLink l x))) older =
-    (s.link == l) && (is_some ((view o older).links.live l) && (last_frame x (waiting_on ((view o older).links.live l)) s.number || is_ended (turned x ((view o older).links.live l))))
+ends_at o s (Then (Comes (ToLink l Reads))) older = (s.link == l) && last_arrival (arrival_at ((view o older).links.live l)) s.number
+ends_at o s (Then (Comes (ToLink l (Ends end)))) older = (s.link == l) && is_some (closing end (view o older).now ((view o older).links.live l))
 ends_at o s (Then (Does who (Ask l request))) older =
-    (s.link == l) && (is_queued (admitted_at (view o older).now request ((view o older).links.live l)) && closes_it (closed_consumer request) s.number)
+    (s.link == l) && (is_asked (answer_at (view o older).now request ((view o older).links.live l)) && closes_it (closed_consumer request) s.number)
 ends_at o s _ older = false
 
 abbrev pub has_end : Chosen → Subscription → (later older : List Entry) → Bool
@@ -386,26 +382,34 @@ has_end o s [] older = false
 has_end o s (e ∷ later) older = has_end o s later older || ends_at o s e (later ++ older)
 
 -- this consumer, whether it hears or not, and whatever it has not given yet
-abbrev pub Remains : Subscription → (is_live : Bool) → Option Subscription → Type 0
-Remains s is_live later =
+abbrev pub Continues : Subscription → (is_live : Bool) → Option Subscription → Type 0
+Continues s is_live later =
     (unread : List Item) × (later ≡ Some (record { link = s.link; number = s.number; topic = s.topic; is_live = is_live; unread = unread }))
 
 -- a consumer remains what it is, and hears up to the first of its ends, and never again
 abbrev pub ConsumersHearToTheirEnd : Type 0
 ConsumersHearToTheirEnd = (o : Chosen) (later older : List Entry) (t : ℕ) (s : Subscription) →
     IsRun o (later ++ older) → (view o older).consumers t ≡ Some s →
-    Remains s (s.is_live && not (has_end o s later older)) ((view o (later ++ older)).consumers t)
+    Continues s (s.is_live && not (has_end o s later older)) ((view o (later ++ older)).consumers t)
 
--- what comes to a link brings to a consumer: the items of a message that bears its number on its link while it hears
-abbrev pub brought : ℕ → LinkAct → Option Seat → Option Subscription → List Item
-brought l (link.Comes (arrival.Message m)) (Some seat) (Some s) =
-    if (s.link == l) && (s.is_live && brings_message m s.number) then m.items else []
-brought l x seat s = []
+-- what comes to a link brings to a consumer: the items of a frame for it on its link while it hears
+abbrev pub brought_by : Arrival → (number : ℕ) → List Item
+brought_by Nothing number = []
+brought_by Readied number = []
+brought_by Settles number = []
+brought_by (Gives consumer reply) number = if consumer == number then reply.items else []
+brought_by Passes number = []
+brought_by (Bad cause) number = []
+
+abbrev pub brought : ℕ → Arrival → Option Subscription → List Item
+brought l a None = []
+brought l a (Some s) = if is_heard_on l s then brought_by a s.number else []
 
 -- the items that have come to the consumer of a ticket, in order
 abbrev pub items_come : Chosen → ℕ → List Entry → List Item
 items_come o t [] = []
-items_come o t (Then (Comes (ToLink l x)) ∷ log) = items_come o t log ++ brought l x ((view o log).links.live l) ((view o log).consumers t)
+items_come o t (Then (Comes (ToLink l Reads)) ∷ log) =
+    items_come o t log ++ brought l (arrival_at ((view o log).links.live l)) ((view o log).consumers t)
 items_come o t (_ ∷ log) = items_come o t log
 
 -- the item that an effect gives to a poll of a ticket

@@ -1,6 +1,7 @@
 pub mod Address
 pub mod Content
 pub mod Plan
+pub mod Links
 pub mod Subscriptions
 pub mod Who
 pub mod View
@@ -8,8 +9,10 @@ pub mod Rules
 pub mod Effects
 pub mod Run
 pub mod Subscribers
+pub mod Due
+pub mod Kept
 pub mod Tables
 pub mod Client
+pub mod Outside
 pub mod Laws
 pub mod Traces
-pub mod Outside

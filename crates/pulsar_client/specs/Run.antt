@@ -1,15 +1,15 @@
 -- A good run, by the client's rules.
-use Rattle.std.specs.Prelude.{ℕ, ◌+◌, ◌==◌, Bool, true, false, if◌then◌else◌, List, [], ◌∷◌, Option}
+use Rattle.std.specs.Prelude.{ℕ, ◌+◌, Bool, true, false, if◌then◌else◌, List, [], ◌∷◌, Option}
 use Rattle.pulsar_run.specs.Run as run
 pub use Rattle.pulsar_run.specs.Run.{Begins, Then}
 use Rattle.pulsar_client.specs.declared.act.Act.{Act}
 use Rattle.pulsar_client.specs.declared.act.Act.TheVariants.{Comes, Told}
 use Rattle.pulsar_client.specs.declared.act.Notice.{Notice}
 use Rattle.pulsar_client.specs.declared.act.Part.{Part}
-use Rattle.pulsar_client.specs.Content.{Heard, Called, Opened, FailedToOpen, Bytes, Lost, Drain, Poll, Shown}
-use Rattle.pulsar_link.specs.Link.{spent}
+use Rattle.pulsar_client.specs.Content.{Heard, Called, Opened, FailedToOpen, Bytes, Lost, Drain, Ticked, Poll, Shown}
+use Rattle.pulsar_session.specs.Link.{is_spent}
 use Rattle.pulsar_client.specs.Effects.{effects, effect_below}
-use Rattle.pulsar_client.specs.Rules.{at_once, below, causes, joins, parts}
+use Rattle.pulsar_client.specs.Rules.{at_once, below, causes, further, joins, parts}
 use Rattle.pulsar_client.specs.View.{Chosen, View, after, begun, new}
 
 abbrev pub rules : run.Rules Chosen Heard View Act Notice Part Shown
@@ -20,6 +20,7 @@ rules =
       after = after;
       parts = parts;
       at_once = at_once;
+      further = further;
       joins = joins;
       causes = causes;
       effects = effects;
@@ -80,11 +81,12 @@ is_call (FailedToOpen l kind) = false
 is_call (Bytes l piece) = false
 is_call (Lost l) = false
 is_call (Drain l most) = false
+is_call (Ticked now) = false
 is_call (Poll ticket) = false
 
 abbrev pub calls_in : List Step → ℕ
 calls_in [] = 0
-calls_in (s ∷ h) = if is_call s.event then (if calls_in h == spent then spent else calls_in h + 1) else calls_in h
+calls_in (s ∷ h) = if is_call s.event then (if is_spent (calls_in h) then calls_in h else calls_in h + 1) else calls_in h
 
 abbrev pub is_empty : {A : Type 0} → List A → Bool
 is_empty [] = true

@@ -5,14 +5,10 @@ use Rattle.std.specs.BTreeSet.{BTreeSet}
 use Rattle.std.specs.List.{list_any}
 use Rattle.std.specs.Option.{option_map}
 use Rattle.std.specs.Ordering.{nat_cmp}
-use Rattle.pulsar_link.specs.declared.act.Arrival.TheVariants as arrival
-use Rattle.pulsar_link.specs.declared.act.LinkAct.{LinkAct}
-use Rattle.pulsar_link.specs.declared.act.LinkAct.TheVariants.{Opens, Fails, Loses, Comes, Drains}
 use Rattle.pulsar_client.specs.declared.consumers.subscriber.Subscriber.{Subscriber}
 use Rattle.pulsar_client.specs.declared.consumers.subscribers.Subscribers.{Subscribers}
 use Rattle.pulsar_link.specs.Held.{item_of}
 use Rattle.pulsar_link.specs.Items.{Item}
-use Rattle.pulsar_link.specs.Link.{Pending, settles_one}
 use Rattle.pulsar_client.specs.Subscriptions.{Subscription}
 
 -- a consumer, which hears
@@ -54,11 +50,15 @@ with_items link number items s =
 abbrev pub given_at : List ℕ → (link number : ℕ) → List Item → ℕ → Option Subscription → Option Subscription
 given_at tickets link number items t row = if is_listed t tickets then option_map (with_items link number items) row else row
 
--- an act is a frame that answers one of these requests
-abbrev pub answered_by : LinkAct → List Pending → Bool
-answered_by (Comes (arrival.Message m)) waiting = settles_one m.key waiting
-answered_by (Comes (arrival.Bad reason)) waiting = false
-answered_by Opens waiting = false
-answered_by (Fails kind) waiting = false
-answered_by Loses waiting = false
-answered_by (Drains most) waiting = false
+-- a consumer is of this number on the link
+abbrev pub is_of : (link number : ℕ) → Option Subscription → Bool
+is_of link number None = false
+is_of link number (Some s) = (s.link == link) && (s.number == number)
+
+-- one of these is a consumer of this number on the link
+abbrev pub has_one_of : (link number : ℕ) → BTreeMap ℕ Subscriber → List ℕ → Bool
+has_one_of link number rows tickets = list_any (λ t. is_of link number (kept_at rows t)) tickets
+
+-- one of those that are listed by number is a consumer of its number on the link
+abbrev pub has_one : (link : ℕ) → BTreeMap ℕ Subscriber → List (ℕ × BTreeSet ℕ) → Bool
+has_one link rows numbers = list_any (λ e. has_one_of link e.0 rows e.1.keys) numbers

@@ -1,17 +1,13 @@
 -- Raw consumers: each is made by a raw call to subscribe that succeeds. What it hears, and what its polls give.
 -- (Pulsar binary protocol, Consumer)
-use Rattle.std.specs.Prelude.{ℕ, Bool, true, false, List, [], ◌∷◌, ◌++◌, drop, Option, Some, None, ◌==◌, ◌&&◌, ◌||◌, not, if◌then◌else◌}
-use Rattle.pulsar_wire.specs.declared.key.RequestKey.{RequestKey}
-use Rattle.pulsar_wire.specs.declared.key.RequestKey.TheVariants as key
-use Rattle.pulsar_link.specs.declared.act.Arrival.TheVariants.{Message, Bad}
-use Rattle.pulsar_link.specs.declared.act.LinkAct.{LinkAct}
-use Rattle.pulsar_link.specs.declared.act.LinkAct.TheVariants.{Opens, Fails, Loses, Comes, Drains}
-use Rattle.pulsar_client.specs.Content.{Shown, Hands, Faults, FindsNothing, FindsEnd}
+use Rattle.std.specs.Prelude.{◌≡◌, ℕ, Bool, true, false, List, [], ◌∷◌, ◌++◌, drop, Option, Some, None, ◌==◌, ◌&&◌, ◌||◌, not, if◌then◌else◌}
+use Rattle.std.specs.Option.{option_map}
+use Rattle.pulsar_session.specs.Failures.{Fault}
 use Rattle.pulsar_link.specs.Items.{Item, Given, Faulty}
-use Rattle.pulsar_link.specs.declared.given.Admission.{Admission}
-use Rattle.pulsar_link.specs.declared.given.Change.{Change}
-use Rattle.pulsar_link.specs.Link.{settles_one, Pending, is_ended, is_queued}
 use Rattle.pulsar_link.specs.Messages.{Reply, is_number}
+use Rattle.pulsar_client.specs.declared.act.Arrival.{Arrival}
+use Rattle.pulsar_client.specs.declared.act.Arrival.TheVariants.{Nothing, Readied, Settles, Gives, Passes, Bad}
+use Rattle.pulsar_client.specs.Content.{Shown, Hands, Faults, FindsNothing, FindsEnd}
 
 -- A raw consumer: the link and the number that its messages bear, the name of its topic, whether it still hears, and the
 -- items that it has not given yet, in order.
@@ -26,73 +22,59 @@ pub record Subscription : Type 0 where
 abbrev pub fresh : (link number : ℕ) (topic : List ℕ) → Subscription
 fresh link number topic = record { link = link; number = number; topic = topic; is_live = true; unread = [] }
 
--- WHAT IT HEARS
-
--- a frame that bears this number of a consumer
-abbrev pub names : Option RequestKey → ℕ → Bool
-names (Some (key.Consumer c)) number = c == number
-names (Some (key.RequestId r)) number = false
-names (Some (key.ProducerSend p s)) number = false
-names (Some (key.CloseConsumer c r)) number = false
-names (Some key.AuthChallenge) number = false
-names None number = false
-
--- a frame that closes the consumer of this number
-abbrev pub closes : Option RequestKey → ℕ → Bool
-closes (Some (key.CloseConsumer c r)) number = c == number
-closes (Some (key.RequestId r)) number = false
-closes (Some (key.ProducerSend p s)) number = false
-closes (Some (key.Consumer c)) number = false
-closes (Some key.AuthChallenge) number = false
-closes None number = false
-
--- a message of the broker for a consumer of this number
-abbrev pub brings_message : Reply → ℕ → Bool
-brings_message m number = is_number 9 m.body && names m.key number
-
--- the topic of the consumer of this number has come to its end
-abbrev pub brings_end : Reply → ℕ → Bool
-brings_end m number = is_number 27 m.body && names m.key number
-
--- The consumer hears no more from the end of its topic on, or from where the broker closes it: by a frame that answers no
--- request.
-abbrev pub is_last : Reply → List Pending → ℕ → Bool
-is_last m waiting number = brings_end m number || (closes m.key number && not (settles_one m.key waiting))
-
 -- one that hears no more
 abbrev pub ended : Subscription → Subscription
 ended s = record s { is_live = false }
 
--- a live consumer after a frame of its link
-abbrev pub after_frame : Reply → List Pending → Subscription → Subscription
-after_frame m waiting s =
-    record s { is_live = not (is_last m waiting s.number); unread = s.unread ++ (if brings_message m s.number then m.items else []) }
+-- WHAT IT HEARS
 
--- a live consumer after what comes to its link
-abbrev pub after_own : LinkAct → List Pending → Subscription → Subscription
-after_own (Comes (Message m)) waiting s = after_frame m waiting s
-after_own (Comes (Bad reason)) waiting s = s
-after_own Opens waiting s = s
-after_own (Fails kind) waiting s = s
-after_own Loses waiting s = s
-after_own (Drains most) waiting s = s
+-- the end of its topic, or the close of the broker
+abbrev pub is_last : Reply → Bool
+is_last r = is_number 27 r.body || is_number 16 r.body
 
--- a consumer after what comes to a link, on which these requests wait
-abbrev pub hears : (link : ℕ) → LinkAct → List Pending → Subscription → Subscription
-hears l act waiting s = if (s.link == l) && s.is_live then after_own act waiting s else s
+-- a live consumer after a frame for it
+abbrev pub after_frame : Reply → Subscription → Subscription
+after_frame r s = record s { is_live = not (is_last r); unread = s.unread ++ r.items }
+
+-- after the next frame of its link; a close of the broker that answers a request is for that
+abbrev pub after_came : Arrival → Subscription → Subscription
+after_came Nothing s = s
+after_came Readied s = s
+after_came Settles s = s
+after_came (Gives consumer reply) s = if consumer == s.number then after_frame reply s else s
+after_came Passes s = s
+after_came (Bad cause) s = s
+
+-- it is of this link, and hears
+abbrev pub is_heard_on : ℕ → Subscription → Bool
+is_heard_on l s = (s.link == l) && s.is_live
+
+abbrev pub hears_at : (link : ℕ) → Option Subscription → Bool
+hears_at l None = false
+hears_at l (Some s) = is_heard_on l s
+
+-- a consumer is of this link, and hears
+abbrev pub IsHeard : (link : ℕ) → (ℕ → Option Subscription) → Type 0
+IsHeard l consumers = (t : ℕ) × (hears_at l (consumers t) ≡ true)
+
+abbrev pub hears : (link : ℕ) → Arrival → Subscription → Subscription
+hears l a s = if is_heard_on l s then after_came a s else s
 
 -- it hears no more from the end of its link on
-abbrev pub ends_with : (link : ℕ) → Change → Subscription → Subscription
-ends_with l change s = if is_ended change && ((s.link == l) && s.is_live) then ended s else s
+abbrev pub ended_on : (link : ℕ) → Subscription → Subscription
+ended_on l s = if is_heard_on l s then ended s else s
 
--- nor from where its own close is asked for, and queued
+abbrev pub ended_at : (link : ℕ) → Option Fault → Option Subscription → Option Subscription
+ended_at l None row = row
+ended_at l (Some cause) row = option_map (ended_on l) row
+
+-- nor from where its own close is asked for, whether that is queued or stands in the line
 abbrev pub closes_it : Option ℕ → ℕ → Bool
 closes_it None number = false
 closes_it (Some closed) number = closed == number
 
-abbrev pub closed_at : (link : ℕ) → Option ℕ → Admission → Subscription → Subscription
-closed_at l closed admission s =
-    if (is_queued admission && closes_it closed s.number) && ((s.link == l) && s.is_live) then ended s else s
+abbrev pub closed_at : (link : ℕ) → Option ℕ → (is_asked : Bool) → Subscription → Subscription
+closed_at l closed is_asked s = if is_asked && (closes_it closed s.number && is_heard_on l s) then ended s else s
 
 -- POLLS
 

@@ -4,6 +4,7 @@ use Rattle.std.specs.BTreeMap.{get}
 use Rattle.std.specs.Global.{Vec}
 use Rattle.std.specs.Option.{option_map}
 use Rattle.std.specs.Ordering.{nat_cmp}
+use Rattle.pulsar_messages.specs.Content.{authentication_values}
 use Rattle.pulsar_run.specs.Standing as standing
 use Rattle.pulsar_client.specs.declared.act.Who.{Who}
 use Rattle.pulsar_client.specs.declared.act.Who.TheVariants.{Call}
@@ -11,24 +12,29 @@ use Rattle.pulsar_client.specs.declared.agenda.Tasks.{Tasks}
 use Rattle.pulsar_client.specs.declared.base.Base as base
 use Rattle.pulsar_client.specs.declared.effect.Effect.{Effect}
 use Rattle.pulsar_client.specs.declared.event.Event.{Event}
-use Rattle.pulsar_client.specs.declared.links.Links as links
-use Rattle.pulsar_client.specs.declared.links.Row.{Row}
 use Rattle.pulsar_client.specs.declared.plans.plan.Plan.{Plan}
 use Rattle.pulsar_client.specs.declared.plans.table.Plans.{Plans}
+use Rattle.pulsar_client.specs.declared.settings.Settings.{Settings}
 use Rattle.pulsar_client.specs.declared.tables.Tables.{Tables}
 use Rattle.pulsar_client.specs.Content.{Heard, Shown, heard, shown}
-use Rattle.pulsar_link.specs.Held.{seen_of}
 use Rattle.pulsar_client.specs.Run.{Agenda, Step, rules}
+use Rattle.pulsar_client.specs.Kept.{links_in}
 use Rattle.pulsar_client.specs.Subscribers.{subscription_at}
-use Rattle.pulsar_client.specs.View.{Base, Chosen, Links, Seat, View}
+use Rattle.pulsar_client.specs.View.{Base, Chosen, View}
 
 -- THE THINGS
 
-abbrev pub seat_of : Row → Seat
-seat_of r = record { seen = seen_of r.link; askers = get nat_cmp r.askers }
-
-abbrev pub links_of : links.Links → Links
-links_of ls = record { started = ls.started; live = λ l. option_map seat_of (get nat_cmp ls.live l) }
+abbrev pub chosen_of : Settings → Chosen
+chosen_of s =
+    record {
+      address = s.address;
+      auth = option_map authentication_values s.auth;
+      connection_timeout = s.connection_timeout;
+      operation_timeout = s.operation_timeout;
+      outbound = s.outbound;
+      first_number = s.first_number;
+      now = s.start;
+    }
 
 abbrev pub base_of : base.Base → Base
 base_of b = record { series = b.series; waiting = b.waiting.items }
@@ -39,11 +45,11 @@ stand_of p (Call ticket) = get nat_cmp p.calls ticket
 abbrev pub view_of : Tables → View
 view_of c =
     record {
-      chosen = record { first_number = c.first_number; now = c.time; address = c.address };
-      now = c.time;
+      chosen = chosen_of c.settings;
+      now = c.clock;
       stand = stand_of c.plans;
-      calls = record { drawn = c.tickets; is_built = c.is_built };
-      links = links_of c.links;
+      calls = record { drawn = c.tickets; is_built = c.is_built; is_stopped = c.is_stopped };
+      links = links_in c.links.started c.links.live;
       base = base_of c.base;
       consumers = subscription_at c.subscribers;
     }

@@ -1,15 +1,18 @@
--- Four small runs, by their histories, oldest step first. Each is good.
-use Rattle.std.specs.Prelude.{ℕ, List, [], ◌∷◌, ◌++◌, reverse, codes, Some}
-use Rattle.pulsar_wire.specs.declared.error.IoKind.TheVariants.{Other}
+-- Seven small runs, by their histories, oldest step first. Each is good.
+use Rattle.std.specs.Prelude.{ℕ, List, [], ◌∷◌, ◌++◌, reverse, codes, Some, None}
+use Rattle.url.specs.Parts.{Parts}
+use Rattle.pulsar_wire.specs.declared.error.IoKind.TheVariants.{Other, TimedOut}
 use Rattle.pulsar_wire.specs.declared.commands.topics.Mode.TheVariants as modes
 use Rattle.pulsar_wire.specs.declared.commands.enumerations.SubType.TheVariants.{Exclusive}
 use Rattle.pulsar_frame.specs.Frame.{frame_bytes}
+use Rattle.pulsar_messages.specs.Content.{empty_consumer_options}
+use Rattle.pulsar_messages.specs.Messages.{connect_command}
+use Rattle.pulsar_messages.specs.Words.{Words, GetTopicsOfNamespace, Subscribe}
+use Rattle.pulsar_session.specs.Failures.{Io, Canceled, Disconnected, Shutdown}
+use Rattle.pulsar_session.specs.Link.{bare, message_of}
 use Rattle.pulsar_client.specs.declared.effect.Settlement.TheVariants as settlement
-use Rattle.pulsar_client.specs.Content.{Heard, Called, Build, Topics, Raw, Opened, Bytes, Drain, Poll, Shown, Connect, Queued, Write, Settles, Ends, Close, Hands, FindsNothing, Done, Names, Replies}
-use Rattle.pulsar_link.specs.Failures.{Io, Canceled}
+use Rattle.pulsar_client.specs.Content.{Heard, Called, Build, Stop, Topics, Raw, Opened, Bytes, Drain, Ticked, Poll, Shown, Connect, Queued, Write, Settles, Ends, Close, Hands, FindsNothing, Done, Names, Replies}
 use Rattle.pulsar_client.specs.Plan.{failed}
-use Rattle.pulsar_link.specs.RawCall.{Words, Subscribe}
-use Rattle.pulsar_link.specs.Messages.{connect_message, raw_message, topics_message}
 use Rattle.pulsar_client.specs.Run.{Good, Step}
 use Rattle.pulsar_client.specs.View.{Chosen}
 
@@ -20,50 +23,68 @@ local_host = codes "127.0.0.1"
 abbrev pub local_port : ℕ
 local_port = 6650
 
--- requests are numbered from 0, at moment 0
-abbrev pub numbered_from_zero : Chosen
-numbered_from_zero = record { first_number = 0; now = 0; address = Some (record { host = local_host; port = local_port }) }
+-- the options, with the URL of this host and room for so many frames: requests are numbered from 0, at moment 0, and are due after half
+-- a minute
+abbrev pub options : (outbound : ℕ) → Parts → Chosen
+options outbound url =
+    record {
+      address = Some (record { url = url; host = local_host; port = local_port });
+      auth = None;
+      connection_timeout = 30000;
+      operation_timeout = 30000;
+      outbound = outbound;
+      first_number = 0;
+      now = 0;
+    }
 
 -- an event with its effects
 abbrev pub step_of : Heard → List Shown → Step
 step_of event effects = record { event = event; effects = effects }
 
+-- the frame that a client sends first
+abbrev pub greeting_frame : List ℕ
+greeting_frame = frame_bytes (bare (connect_command None None))
+
+-- and that of a request, which no payload follows
+abbrev pub frame_of : (request : ℕ) → Words → List ℕ
+frame_of request words = frame_bytes (message_of request 0 words)
+
 -- a frame of the broker: connected, of a server of version p
 abbrev pub connected : List ℕ
 connected = 0 ∷ 0 ∷ 0 ∷ 11 ∷ 0 ∷ 0 ∷ 0 ∷ 7 ∷ 8 ∷ 3 ∷ 26 ∷ 3 ∷ 10 ∷ 1 ∷ 112 ∷ []
 
--- a frame of the broker: the topics of request 0, which are t alone
-abbrev pub topics_reply : List ℕ
-topics_reply = 0 ∷ 0 ∷ 0 ∷ 14 ∷ 0 ∷ 0 ∷ 0 ∷ 10 ∷ 8 ∷ 33 ∷ 138 ∷ 2 ∷ 5 ∷ 8 ∷ 0 ∷ 18 ∷ 1 ∷ 116 ∷ []
+-- a frame of the broker: the topics of a request, which are t alone
+abbrev pub topics_reply : (request : ℕ) → List ℕ
+topics_reply n = 0 ∷ 0 ∷ 0 ∷ 14 ∷ 0 ∷ 0 ∷ 0 ∷ 10 ∷ 8 ∷ 33 ∷ 138 ∷ 2 ∷ 5 ∷ 8 ∷ n ∷ 18 ∷ 1 ∷ 116 ∷ []
 
 -- a call asks for topics, and its request is queued
 abbrev pub asks_topics : Heard
 asks_topics = Called (Topics (codes "n") modes.All)
 
+abbrev pub topics_frame : (request : ℕ) → List ℕ
+topics_frame n = frame_of n (GetTopicsOfNamespace (codes "n") modes.All)
+
 -- the first steps: a call builds the client
 abbrev pub builds : List Step
 builds =
     step_of (Called Build) (Connect 0 local_host local_port ∷ [])
-    ∷ step_of (Opened 0) (Queued 0 0 (frame_bytes connect_message) ∷ [])
-    ∷ step_of (Drain 0 8) (Write 0 (frame_bytes connect_message) ∷ [])
+    ∷ step_of (Opened 0) (Queued 0 0 greeting_frame ∷ [])
+    ∷ step_of (Drain 0 8) (Write 0 greeting_frame ∷ [])
     ∷ step_of (Bytes 0 connected) (Ends 0 Done ∷ [])
     ∷ []
-
-abbrev pub asks_then : Shown
-asks_then = Queued 0 1 (frame_bytes (topics_message 0 (codes "n") modes.All))
 
 -- a request is answered by the frame that bears its key
 abbrev pub request_is_answered : List Step
 request_is_answered =
-    builds ++ (step_of asks_topics (asks_then ∷ [])
-    ∷ step_of (Bytes 0 topics_reply) (Settles 0 1 settlement.Reply ∷ Ends 1 (Names (codes "t" ∷ [])) ∷ [])
+    builds ++ (step_of asks_topics (Queued 0 1 (topics_frame 0) ∷ [])
+    ∷ step_of (Bytes 0 (topics_reply 0)) (Settles 0 1 settlement.Reply ∷ Ends 1 (Names (codes "t" ∷ [])) ∷ [])
     ∷ [])
 
 -- a reply that comes before its request settles nothing: the request waits
 abbrev pub reply_comes_early : List Step
 reply_comes_early =
-    builds ++ (step_of (Bytes 0 topics_reply) []
-    ∷ step_of asks_topics (asks_then ∷ [])
+    builds ++ (step_of (Bytes 0 (topics_reply 0)) []
+    ∷ step_of asks_topics (Queued 0 1 (topics_frame 0) ∷ [])
     ∷ [])
 
 -- an attempt fails for which two calls wait: the one that started it is told why, and the other that it is canceled
@@ -71,13 +92,13 @@ abbrev pub attempt_fails : List Step
 attempt_fails =
     step_of (Called Build) (Connect 0 local_host local_port ∷ [])
     ∷ step_of (Called Build) []
-    ∷ step_of (Opened 0) (Queued 0 0 (frame_bytes connect_message) ∷ [])
-    ∷ step_of (Bytes 0 topics_reply) (Ends 0 (failed (Io Other)) ∷ Ends 1 (failed Canceled) ∷ Close 0 ∷ [])
+    ∷ step_of (Opened 0) (Queued 0 0 greeting_frame ∷ [])
+    ∷ step_of (Bytes 0 (topics_reply 0)) (Ends 0 (failed (Io Other)) ∷ Ends 1 (failed Canceled) ∷ Close 0 ∷ [])
     ∷ []
 
 -- what subscribes to topic t, as consumer 0
 abbrev pub subscribes : Words
-subscribes = Subscribe (codes "t") (codes "s") Exclusive 0
+subscribes = Subscribe (codes "t") (codes "s") Exclusive 0 None empty_consumer_options
 
 -- a frame of the broker: success, for request 0
 abbrev pub success : List ℕ
@@ -97,13 +118,42 @@ message_frame =
 -- a message comes to a consumer, and its polls give it once
 abbrev pub consumer_is_polled : List Step
 consumer_is_polled =
-    builds ++ (step_of (Called (Raw 0 subscribes)) (Queued 0 1 (frame_bytes (raw_message 0 0 subscribes)) ∷ [])
+    builds ++ (step_of (Called (Raw 0 subscribes)) (Queued 0 1 (frame_of 0 subscribes) ∷ [])
     ∷ step_of (Bytes 0 success) (Settles 0 1 settlement.Reply ∷ Ends 1 (Replies (record { number = 13; bytes = 8 ∷ 0 ∷ [] } ∷ [])) ∷ [])
     ∷ step_of (Bytes 0 message_frame) []
     ∷ step_of (Poll 1) (Hands 1 (codes "t") (8 ∷ 1 ∷ 16 ∷ 2 ∷ []) metadata (codes "hello-pulsar-8") ∷ [])
     ∷ step_of (Poll 1) (FindsNothing 1 ∷ [])
     ∷ [])
 
--- a history, oldest step first, is good
-abbrev pub IsGood : List Step → Type 0
-IsGood history = Good numbered_from_zero (reverse history)
+-- The deadline of a request comes, and ends its link: the request timed out, and the one that was asked for later is lost.
+abbrev pub deadline_comes : List Step
+deadline_comes =
+    builds ++ (step_of (Ticked 1000) []
+    ∷ step_of asks_topics (Queued 0 1 (topics_frame 0) ∷ [])
+    ∷ step_of (Ticked 2000) []
+    ∷ step_of asks_topics (Queued 0 2 (topics_frame 1) ∷ [])
+    ∷ step_of (Ticked 30999) []
+    ∷ step_of (Ticked 31000)
+    (Settles 0 1 settlement.TimedOut ∷ Settles 0 2 settlement.Disconnected ∷ Ends 1 (failed (Io TimedOut)) ∷ Ends 2 (failed Disconnected) ∷ Close 0 ∷ [])
+    ∷ [])
+
+-- with room for one frame: the second stands in the line, and is queued where the first is written; then it is answered
+abbrev pub line_moves_up : List Step
+line_moves_up =
+    builds ++ (step_of asks_topics (Queued 0 1 (topics_frame 0) ∷ [])
+    ∷ step_of asks_topics []
+    ∷ step_of (Drain 0 1) (Write 0 (topics_frame 0) ∷ Queued 0 2 (topics_frame 1) ∷ [])
+    ∷ step_of (Bytes 0 (topics_reply 1)) (Settles 0 2 settlement.Reply ∷ Ends 2 (Names (codes "t" ∷ [])) ∷ [])
+    ∷ [])
+
+-- a call stops the client while a request waits, and a later one is refused
+abbrev pub client_is_stopped : List Step
+client_is_stopped =
+    builds ++ (step_of asks_topics (Queued 0 1 (topics_frame 0) ∷ [])
+    ∷ step_of (Called Stop) (Settles 0 1 settlement.Disconnected ∷ Ends 1 (failed Disconnected) ∷ Ends 2 Done ∷ Close 0 ∷ [])
+    ∷ step_of asks_topics (Ends 3 (failed Shutdown) ∷ [])
+    ∷ [])
+
+-- a history, oldest step first, is good with room for so many frames, whatever the URL is beside its host
+abbrev pub IsGood : (outbound : ℕ) → List Step → Type 0
+IsGood outbound history = (url : Parts) → Good (options outbound url) (reverse history)

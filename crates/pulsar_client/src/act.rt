@@ -1,8 +1,7 @@
 //! What a step is made of: acts, each one thing that happens. There are six kinds of act, and all that is special to a kind of
 //! call, thing or event stands one level below them.
 
-use crate::content::{Asking, Said};
-use pulsar_link::act::LinkAct;
+use crate::content::{Asking, Cause, Said};
 use pulsar_link::content::{Received, Request, Text};
 use pulsar_wire::error::IoKind;
 
@@ -26,14 +25,18 @@ pub enum Outcome {
     Canceled,
     /// Its frame is queued.
     Queued,
-    /// The numbers of the link's requests are spent.
-    Exhausted,
-    /// A size of its frame does not fit.
-    Unencodable,
+    /// Its frame stands in the line.
+    InLine,
+    /// Its link refuses its request.
+    Refused(Cause),
     /// The reply to its request came.
     Replied(Received),
-    /// The link of its request ended, or was not ready.
+    /// The deadline of its request came.
+    TimedOut,
+    /// The link of its request ended.
     Disconnected,
+    /// The client was stopped, and no request of it was queued.
+    Stopped,
 }
 
 /// One is told an outcome.
@@ -52,15 +55,39 @@ pub enum Place {
     Link(u64),
 }
 
+/// How the reply to a request is answered.
+#[derive(Clone, Copy)]
+pub enum Says {
+    /// By the names of the topics that it tells.
+    Names,
+    /// By its body.
+    Bodies,
+}
+
+/// Why a call is not made.
+#[derive(Clone, Copy)]
+pub enum Refusal {
+    /// The client is not built, or was stopped.
+    Shutdown,
+    /// There is no room for any frame.
+    NoOutbound,
+}
+
 /// What is to be done for a call.
 #[derive(Drop)]
 pub enum Procedure {
     /// Get the link of the address: then the client is built.
     Build,
+    /// End every link.
+    Stop,
     /// Get or take the link of a place, ask there, and answer the reply.
-    Ask { place: Place, request: Request },
-    /// Fail, since the client is not built.
-    Refuse,
+    Ask {
+        place: Place,
+        request: Request,
+        says: Says,
+    },
+    /// Fail.
+    Refuse(Refusal),
 }
 
 /// What a plan does next. Then it waits for an outcome.
@@ -70,6 +97,8 @@ pub enum Action {
     Get,
     /// Ask for a request on the link.
     Ask { link: u64, request: Request },
+    /// End every link.
+    StopAll,
     /// Nothing.
     Rest,
 }
@@ -89,6 +118,51 @@ pub enum Makes {
 pub struct Verdict {
     pub makes: Makes,
     pub said: Said,
+}
+
+/// How a link ends.
+#[derive(Drop)]
+pub enum End {
+    /// It could not be opened.
+    Unopened(IoKind),
+    /// It was lost.
+    Lost,
+    /// It is due. The frames of the places below this were queued before the moment came.
+    Overdue { below: u64 },
+    /// What came on it is bad.
+    Broken(Cause),
+    /// The client is stopped.
+    Stops,
+}
+
+/// What comes to a link.
+#[derive(Drop)]
+pub enum LinkAct {
+    /// It is open.
+    Opens,
+    /// The next frame of what came is read.
+    Reads,
+    /// So many queued frames may be written.
+    Drains(usize),
+    /// It ends.
+    Ends(End),
+}
+
+/// What the next frame of a link is.
+#[derive(Drop)]
+pub enum Arrival {
+    /// There is none.
+    Nothing,
+    /// It was the first: the link is ready.
+    Readied,
+    /// It settles requests.
+    Settles,
+    /// It is for the consumers of this number.
+    Gives { consumer: u64, reply: Received },
+    /// Nobody is told of it.
+    Passes,
+    /// It is bad: the link is to end with this cause.
+    Bad(Cause),
 }
 
 /// What an event brings. Each part comes where nothing is left of the one before.

@@ -16,7 +16,8 @@ const DEFAULT_PORT: u16 = 6650;
 /// Where the service is reached.
 #[derive(Drop)]
 pub struct Address {
-    // as a URL writes it
+    url: Url,
+    // as the URL writes it
     host: String,
     port: u16,
 }
@@ -24,7 +25,7 @@ pub struct Address {
 impl Model for Address {
     ghost Value = { meaning.Address };
 
-    ghost view = { λ a. record { host = string_bytes a.host; port = a.port } };
+    ghost view = { λ a. record { url = a.url; host = string_bytes a.host; port = a.port } };
 }
 
 impl Address {
@@ -34,10 +35,17 @@ impl Address {
         ensures { IfOk result (λ a. a ≡ meaning.address_of text.now) }
     {
         match Url::parse(alloc, text) {
-            Ok(url) => of_url(alloc, &url),
+            Ok(url) => of_url(alloc, url),
             Err(ParseError::OutOfMemory | ParseError::Overflow) => Err(NoMemory),
             Err(_) => Ok(None),
         }
+    }
+
+    /// Its URL.
+    pub fn url(&self) -> Result<Url, NoMemory>
+        ensures { IfOk result (λ url. url ≡ self.now.url) }
+    {
+        Ok(self.url.clone()?)
     }
 
     /// What asks for a connection to the address.
@@ -52,16 +60,16 @@ impl Address {
     }
 }
 
-fn of_url(alloc: Global, url: &Url) -> Result<Option<Address>, NoMemory>
-    ensures { IfOk result (λ a. a ≡ meaning.of_url url.now) }
+fn of_url(alloc: Global, url: Url) -> Result<Option<Address>, NoMemory>
+    ensures { IfOk result (λ a. a ≡ meaning.of_url url) }
 {
     if url.scheme() != "pulsar" {
         return Ok(None);
     }
-    let Some(host) = url.host_str() else {
-        return Ok(None);
+    let host = match url.host_str() {
+        Some(host) => String::from_str(alloc, host)?,
+        None => return Ok(None),
     };
-    let host = String::from_str(alloc, host)?;
     let port = url.port().unwrap_or(DEFAULT_PORT);
-    Ok(Some(Address { host, port }))
+    Ok(Some(Address { url, host, port }))
 }

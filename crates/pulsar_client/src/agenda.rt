@@ -3,7 +3,7 @@
 ghost use Rattle.std.specs.Prelude.{◌≡◌, ◌++◌, ◌∷◌, [], map, IfOk, OnOk};
 ghost use Rattle.pulsar_run.specs.Order.{arranged};
 ghost use Rattle.pulsar_run.specs.Run.{only};
-ghost use Rattle.pulsar_client.specs.Rules.{below, opens};
+ghost use Rattle.pulsar_client.specs.Rules.{alone, below, opens};
 ghost use Rattle.pulsar_client.specs.Run.{first, first_of, rest, rest_of};
 ghost use Rattle.pulsar_client.specs.Tables.{agenda_of};
 
@@ -75,6 +75,36 @@ impl Tasks {
         ensures { OnOk result (agenda_of self.new ≡ record (agenda_of self.old) { now = act ∷ self.old.now.items }) }
     {
         self.now.push_front(act)?;
+        Ok(())
+    }
+
+    /// These are done before all else, in their order.
+    pub fn put_all(&mut self, mut acts: VecDeque<Act>) -> Result<(), NoMemory>
+        ensures { OnOk result (agenda_of self.new ≡ record (agenda_of self.old) { now = acts.items ++ self.old.now.items }) }
+    {
+        while let Some(act) = acts.pop_back() {
+            self.now.push_front(act)?;
+        }
+        Ok(())
+    }
+
+    /// This part comes before the others.
+    pub fn bring(&mut self, part: Part) -> Result<(), NoMemory>
+        ensures { OnOk result (agenda_of self.new ≡ record (agenda_of self.old) { parts = part ∷ self.old.parts.items }) }
+    {
+        self.parts.push_front(part)?;
+        Ok(())
+    }
+
+    /// Each of these is a cause by itself.
+    pub fn open_each(&mut self, notices: Vec<Notice>) -> Result<(), NoMemory>
+        ensures { OnOk result (agenda_of self.new ≡ record (agenda_of self.old) { behind = (agenda_of self.old).behind ++ map (arranged below) (map alone notices.items) }) }
+    {
+        for notice in notices {
+            let mut cause = VecDeque::new(self.alloc);
+            cause.push_back(notice)?;
+            self.behind.push_back(cause)?;
+        }
         Ok(())
     }
 

@@ -1,15 +1,15 @@
 //! The address of the service: what runs for it, and who waits for that.
 
-ghost use Rattle.std.specs.Prelude.{◌≡◌, ◌++◌, [], OnOk, map};
-ghost use Rattle.pulsar_client.specs.Rules.{failed, notice, served};
+ghost use Rattle.std.specs.Prelude.{◌≡◌, ◌++◌, [], ℕ, OnOk, map};
+ghost use Rattle.pulsar_client.specs.Links.{Becomes, IsOver};
+ghost use Rattle.pulsar_client.specs.Rules.{failed, failed_at, failed_so, fails_so, notice, served_by};
 ghost use Rattle.pulsar_client.specs.Tables.{base_of};
 ghost use Rattle.pulsar_client.specs.View.{base_turned, waits_for};
 
-use crate::act::{Notice, Outcome, Who};
+use crate::act::{End, Notice, Outcome, Who};
 use crate::address::Address;
 use crate::who::is_same;
-use pulsar_link::given::{Change, End};
-use pulsar_wire::error::NoMemory;
+use pulsar_wire::error::{IoKind, NoMemory};
 use std::alloc::Global;
 
 /// What runs for the address: nobody serves it, an attempt to connect runs that this one started, or a ready link serves.
@@ -37,40 +37,29 @@ impl Base {
         }
     }
 
-    /// Those who wait are served by what becomes of a link.
-    pub fn serve(
-        &self,
-        link: u64,
-        change: Change,
-        notices: &mut Vec<Notice>,
-    ) -> Result<(), NoMemory>
-        ensures { OnOk result (notices.new.items ≡ notices.old.items ++ served link change (base_of self.now)) }
+    /// A link is ready: those who wait are served by it.
+    pub fn ready(&mut self, link: u64, notices: &mut Vec<Notice>) -> Result<(), NoMemory>
+        ensures notices { OnOk result (notices.new.items ≡ notices.old.items ++ served_by link Becomes (base_of self.old).waiting) }
+        ensures turned { OnOk result (base_of self.new ≡ base_turned link Becomes (base_of self.old)) }
     {
-        match change {
-            Change::Remains | Change::Opened => Ok(()),
-            Change::Readied => tell_all(&self.waiting, link, notices),
-            Change::Ended(end) => match self.series {
-                Series::Runs { starter } => fail_all(&self.waiting, starter, end, notices),
-                Series::Nobody | Series::Serves { link: _ } => Ok(()),
-            },
-        }
+        tell_all(&self.waiting, link, notices)?;
+        self.series = Series::Serves { link };
+        self.waiting.clear();
+        Ok(())
     }
 
-    /// What becomes of a link says what runs for the address from then on.
-    pub fn turn(&mut self, link: u64, change: Change)
-        ensures { base_of self.new ≡ base_turned link change (base_of self.old) }
+    /// A link has ended: those who wait are told why.
+    pub fn end(&mut self, end: &End, notices: &mut Vec<Notice>) -> Result<(), NoMemory>
+        ensures notices { OnOk result (notices.new.items ≡ notices.old.items ++ failed_at end.now (base_of self.old).series (base_of self.old).waiting) }
+        ensures turned { OnOk result ((link : ℕ) → base_of self.new ≡ base_turned link IsOver (base_of self.old)) }
     {
-        match change {
-            Change::Remains | Change::Opened => {}
-            Change::Readied => {
-                self.series = Series::Serves { link };
-                self.waiting.clear();
-            }
-            Change::Ended(_) => {
-                self.series = Series::Nobody;
-                self.waiting.clear();
-            }
+        match self.series {
+            Series::Runs { starter } => fail_all(&self.waiting, starter, end, notices)?,
+            Series::Nobody | Series::Serves { link: _ } => {}
         }
+        self.series = Series::Nobody;
+        self.waiting.clear();
+        Ok(())
     }
 
     /// One that gets the link of the address waits, unless it is served at once.
@@ -100,28 +89,42 @@ fn tell_all(waiting: &[Who], link: u64, notices: &mut Vec<Notice>) -> Result<(),
     Ok(())
 }
 
-/// The notice of an attempt that failed.
-fn failed(starter: Who, end: End, who: Who) -> Notice
-    ensures { result ≡ failed starter end who }
+/// What one who waits is told of the end of an attempt.
+fn fails_so(end: &End, is_starter: bool) -> Outcome
+    ensures { result ≡ fails_so end.now is_starter }
 {
-    let outcome = if is_same(who, starter) {
-        Outcome::Failed(end.kind())
+    match end {
+        End::Unopened(kind) => failed_so(*kind, is_starter),
+        End::Overdue { .. } => failed_so(IoKind::TimedOut, is_starter),
+        End::Lost | End::Broken(_) => failed_so(IoKind::Other, is_starter),
+        End::Stops => Outcome::Stopped,
+    }
+}
+
+/// The one that started it is told why it failed.
+fn failed_so(kind: IoKind, is_starter: bool) -> Outcome
+    ensures { result ≡ failed_so kind is_starter }
+{
+    if is_starter {
+        Outcome::Failed(kind)
     } else {
         Outcome::Canceled
-    };
-    Notice { who, outcome }
+    }
 }
 
 fn fail_all(
     waiting: &[Who],
     starter: Who,
-    end: End,
+    end: &End,
     notices: &mut Vec<Notice>,
 ) -> Result<(), NoMemory>
-    ensures { OnOk result (notices.new.items ≡ notices.old.items ++ map (failed starter end) waiting.now) }
+    ensures { OnOk result (notices.new.items ≡ notices.old.items ++ map (failed end.now starter) waiting.now) }
 {
     for who in waiting {
-        notices.push(failed(starter, end, *who))?;
+        notices.push(Notice {
+            who: *who,
+            outcome: fails_so(end, is_same(*who, starter)),
+        })?;
     }
     Ok(())
 }

@@ -1,12 +1,14 @@
-//! What a call says and what it ends with. It is boxed, so that acts are small. Contracts see it by its content.
+//! What a call says, what it ends with, and why something failed. It is boxed, so that acts are small. Contracts see it by its
+//! content.
 
 ghost use Rattle.std.specs.Prelude.{◌≡◌, IfOk};
 ghost use Rattle.pulsar_client.specs.Content as content;
 ghost use Rattle.pulsar_client.specs.Content.{asked, said};
+ghost use Rattle.pulsar_session.specs.Failures.{fault};
 
 use crate::effect::Answer;
 use crate::event::Call;
-use pulsar_wire::error::{Error, NoMemory};
+use pulsar_wire::error::{ConnectionError, Error, NoMemory};
 use std::alloc::Global;
 use std::marker::Model;
 
@@ -49,7 +51,7 @@ pub struct Said {
 impl Model for Said {
     ghost use Rattle.pulsar_client.specs.Content as content;
     ghost use Rattle.pulsar_client.specs.Content.{said};
-    ghost use Rattle.pulsar_link.specs.FailureCode.{failure_code};
+    ghost use Rattle.pulsar_session.specs.FailureCode.{failure_code};
     ghost use Rattle.std.specs.Coded.{codes};
 
     ghost Value = { content.Said };
@@ -72,5 +74,35 @@ impl Said {
     {
         let Said { answer } = self;
         Box::into_inner(answer)
+    }
+}
+
+/// Why a link ended, or refused a request.
+#[derive(Drop)]
+pub struct Cause {
+    error: Box<ConnectionError>,
+}
+
+impl Model for Cause {
+    ghost use Rattle.pulsar_session.specs.Failures.{Fault, fault};
+
+    ghost Value = { Fault };
+
+    ghost view = { λ c. fault c.error.value };
+}
+
+impl Cause {
+    pub fn new(alloc: Global, error: ConnectionError) -> Result<Cause, NoMemory>
+        ensures { IfOk result (λ c. c ≡ fault error) }
+    {
+        let error = Box::new(alloc, error)?;
+        Ok(Cause { error })
+    }
+
+    pub fn into_inner(self) -> ConnectionError
+        ensures { fault result ≡ self }
+    {
+        let Cause { error } = self;
+        Box::into_inner(error)
     }
 }

@@ -11,6 +11,8 @@ use pulsar_wire::error::Error;
 pub enum Settlement {
     /// The first later frame of its connection that bears its key came.
     Reply,
+    /// Its deadline came, which ended its connection.
+    TimedOut,
     /// Its connection ended.
     Disconnected,
 }

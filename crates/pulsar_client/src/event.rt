@@ -12,6 +12,8 @@ use pulsar_wire::error::{IoKind, NoMemory};
 pub enum Call {
     /// Connects to the service. Other calls are refused until a Build has ended Ok.
     Build,
+    /// Ends every connection, and all that waits. Every later call is refused.
+    Stop,
     /// Asks for the topics of a namespace.
     Topics { namespace: String, mode: Mode },
     /// Asks on this connection by itself.
@@ -33,6 +35,8 @@ pub enum Event {
     Lost(u64),
     /// As many queued frames as this may be written to the connection.
     Drain(u64, usize),
+    /// It is this moment now, in milliseconds since 1970.
+    Tick(u64),
     /// The raw consumer that the call of this ticket made is asked for an item.
     Poll(u64),
 }
@@ -44,6 +48,7 @@ impl Call {
     {
         match self {
             Call::Build => Ok(Call::Build),
+            Call::Stop => Ok(Call::Stop),
             Call::Topics { namespace, mode } => Ok(Call::Topics {
                 namespace: namespace.clone()?,
                 mode: *mode,
@@ -68,6 +73,7 @@ impl Event {
             Event::Bytes(link, piece) => Ok(Event::Bytes(*link, piece.clone()?)),
             Event::Lost(link) => Ok(Event::Lost(*link)),
             Event::Drain(link, most) => Ok(Event::Drain(*link, *most)),
+            Event::Tick(now) => Ok(Event::Tick(*now)),
             Event::Poll(ticket) => Ok(Event::Poll(*ticket)),
         }
     }

@@ -2,8 +2,8 @@
 
 ghost use Rattle.pulsar_client.specs.Address.{KnownAddresses};
 ghost use Rattle.pulsar_client.specs.Client.{StoodForIsGood};
-ghost use Rattle.pulsar_client.specs.Laws.{AnswersOnce, BuiltIs, CallsAreMade, CausesInOrder, ConsumersHearToTheirEnd, Determined, EffectsArranged, EndsOnce, FailuresAreTold, FramesAreCut, LinksAlone, OutcomesAreCaused, PlansFollow, PollsAreAnswered, PollsFollow, SeriesIsNewest, ServedByTicket, SettledByFirst, TicketsCount, WritesFollow, WrittenInOrder};
-ghost use Rattle.pulsar_client.specs.Traces.{IsGood, attempt_fails, consumer_is_polled, reply_comes_early, request_is_answered};
+ghost use Rattle.pulsar_client.specs.Laws.{AnswersOnce, BuiltIs, CallsAreMade, CausesInOrder, ClockIs, ConsumersHearToTheirEnd, DeadlinesAreTicked, Determined, EffectsArranged, EndsOnce, FailuresAreTold, LinksAlone, OutcomesAreCaused, PlansFollow, PollsAreAnswered, PollsFollow, SeriesIsNewest, ServedByTicket, StoppedIs, TicketsCount, WritesFollow};
+ghost use Rattle.pulsar_client.specs.Traces.{IsGood, attempt_fails, client_is_stopped, consumer_is_polled, deadline_comes, line_moves_up, reply_comes_early, request_is_answered};
 
 /// Options and events determine the effects of a good run.
 pub fn determined()
@@ -30,7 +30,7 @@ pub fn served_by_ticket()
     ensures { ServedByTicket }
 {}
 
-/// A call is made where the user asks for it, and is refused just where the client is not built.
+/// A call is made where the user asks for it, by its procedure.
 pub fn calls_are_made()
     ensures { CallsAreMade }
 {}
@@ -71,29 +71,29 @@ pub fn built_is()
     ensures { BuiltIs }
 {}
 
+/// The client is stopped where a plan has ended every link.
+pub fn stopped_is()
+    ensures { StoppedIs }
+{}
+
+/// The clock is the greatest of the moment of the options and of the ticks.
+pub fn clock_is()
+    ensures { ClockIs }
+{}
+
+/// A link ends by a deadline only in a tick at whose beginning it was due.
+pub fn deadlines_are_ticked()
+    ensures { DeadlinesAreTicked }
+{}
+
 /// What runs for the address is what its newest turn left.
 pub fn series_is_newest()
     ensures { SeriesIsNewest }
 {}
 
-/// A link that has not ended is what was done to it made of it, and nothing else.
+/// A link that has not ended is what the calls of its connection made of it, and nothing else.
 pub fn links_alone()
     ensures { LinksAlone }
-{}
-
-/// A request is settled once, by the first later frame of its link that bears its key, or at the link's end.
-pub fn settled_by_first()
-    ensures { SettledByFirst }
-{}
-
-/// What comes on a connection is what the bytes of its stream are cut into, however they were cut into pieces.
-pub fn frames_are_cut()
-    ensures { FramesAreCut }
-{}
-
-/// The frames that are written on a link are the first of those that were queued, in their order, each once.
-pub fn written_in_order()
-    ensures { WrittenInOrder }
 {}
 
 /// The bytes that are written to a connection are the first of those that were queued there, in order.
@@ -122,10 +122,13 @@ pub fn addresses_are_known()
     ensures { KnownAddresses }
 {}
 
-/// Four small runs are good.
+/// Seven small runs are good.
 pub fn small_runs_are_good()
-    ensures answered { IsGood request_is_answered }
-    ensures early { IsGood reply_comes_early }
-    ensures fails { IsGood attempt_fails }
-    ensures polled { IsGood consumer_is_polled }
+    ensures answered { IsGood 8 request_is_answered }
+    ensures early { IsGood 8 reply_comes_early }
+    ensures fails { IsGood 8 attempt_fails }
+    ensures polled { IsGood 8 consumer_is_polled }
+    ensures deadline { IsGood 8 deadline_comes }
+    ensures line { IsGood 1 line_moves_up }
+    ensures stopped { IsGood 8 client_is_stopped }
 {}

@@ -7,6 +7,7 @@ mod agenda;
 mod base;
 mod consumers;
 mod content;
+mod due;
 pub mod effect;
 pub mod event;
 pub mod laws;
@@ -16,14 +17,19 @@ mod order;
 pub mod outside;
 mod plans;
 pub mod pulsar;
+mod row;
+mod settings;
 mod tables;
 mod who;
 
 pub use crate::effect::{Answer, Effect, Handed, Settlement};
 pub use crate::event::{Call, Event};
-pub use crate::options::ClientOptions;
+pub use crate::options::{ClientOptions, ConnectionRetryOptions, OperationRetryOptions};
 pub use crate::outside::Failed;
 pub use crate::outside::sink::{FailingSink, MemorySink, Sink};
 pub use crate::outside::source::{FailingSource, MemorySource, Source};
 pub use crate::pulsar::Pulsar;
-pub use pulsar_link::raw_call::{ProducerMessage, RawCall};
+pub use pulsar_link::raw_call::RawCall;
+pub use pulsar_messages::{
+    Authentication, ConsumerOptions, Message, ProducerMessage, ProducerOptions, RoutingPolicy,
+};

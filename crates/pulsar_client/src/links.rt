@@ -1,330 +1,457 @@
 //! The links of a client, and who asked on each.
 
-ghost use Rattle.std.specs.Prelude.{◌≡◌, ◌==◌, ◌&&◌, ◌+◌, ◌++◌, [], ℕ, IfOk, OnOk, Some, None, map, true, if◌then◌else◌};
-ghost use Rattle.std.specs.BTreeMap.{get};
-ghost use Rattle.std.specs.List.{filter_map, list_any};
+ghost use Rattle.std.specs.Prelude.{◌≡◌, ◌==◌, ◌+◌, ◌++◌, ℕ, false, IfOk, OnOk, None, not, map, if◌then◌else◌};
+ghost use Rattle.std.specs.BTreeMap.{IsOrdered, keys};
+ghost use Rattle.std.specs.List.{flat_map};
+ghost use Rattle.std.specs.List.Sorted.{IsStrictlySortedBy};
+ghost use Rattle.std.specs.Option.{is_some, option_map};
 ghost use Rattle.std.specs.Ordering.{nat_cmp};
-ghost use Rattle.std.specs.Option.{option_map, option_to_list};
 ghost use Rattle.pulsar_client.specs.Content.{shown};
-ghost use Rattle.pulsar_client.specs.Effects.{asked_at, closes, given, given_at, queues, settlement_of, settles, write};
-ghost use Rattle.pulsar_link.specs.Link.{admitted, after, after_ask, arrivals, dialed, gives, is_open, words};
-ghost use Rattle.pulsar_client.specs.Rules.{heard_at, heard_by, settled_as, unread_of};
-ghost use Rattle.pulsar_client.specs.Subscribers.{answered_by};
-ghost use Rattle.pulsar_client.specs.Tables.{links_of, seat_of};
-ghost use Rattle.pulsar_link.specs.Held.{frame_of, seen_of};
-ghost use Rattle.pulsar_client.specs.View.{admitted_at, askers_told, is_at, seat_asked, seat_fed, took_some, turned, waiting_on};
+ghost use Rattle.pulsar_client.specs.Effects.{asked_at, given_at};
+ghost use Rattle.pulsar_client.specs.Due.{moment_at};
+ghost use Rattle.pulsar_client.specs.Kept.{AreStarted, AreTimed, IsEnd, is_due, links_in, live_in};
+ghost use Rattle.pulsar_requests.specs.Soonest.{has_come};
+ghost use Rattle.pulsar_client.specs.Rules.{answered_on, due_part, moved_on, on_link, over_links, stop_act, told_at};
+ghost use Rattle.pulsar_client.specs.View.{answer_at, arrival_at, has_ended, is_asked, is_busy, seat_asked, seat_of_fresh, seat_fed, took_some};
 
-use crate::act::{Notice, Outcome, Who};
-use crate::effect::{Effect, Settlement};
-use crate::plans::answers::is_answered;
-use pulsar_link::act::{Arrival, LinkAct};
+use crate::act::{Act, Arrival, End, LinkAct, Notice, Outcome, Part, Who};
+use crate::content::Cause;
+use crate::due::DueMoments;
+use crate::effect::Effect;
+use crate::row::Row;
 use pulsar_link::content::Request;
-use pulsar_link::given::{Admission, Change, Frame, Given, Settled, Word};
-use pulsar_link::link::{Link, Stage};
-use pulsar_wire::error::NoMemory;
+use pulsar_session::Connection;
+use pulsar_session::states::Stage;
+use pulsar_wire::error::{ConnectionError, NoMemory};
 use std::alloc::Global;
-use std::collections::{BTreeMap, VecDeque};
-
-/// A link, and who asked for the frames of its places that are to be told something.
-#[derive(Drop)]
-pub struct Row {
-    pub link: Link,
-    pub askers: BTreeMap<u64, Who>,
-}
+use std::collections::{BTreeMap, BTreeSet, VecDeque};
 
 /// How many links were started, and those of them that have not ended, by number.
 #[derive(Drop)]
 pub struct Links {
+    pub alloc: Global,
     pub started: u64,
     pub live: BTreeMap<u64, Row>,
+    /// When each live link is due.
+    pub due: DueMoments,
+    // a call ran out of memory
+    failed: bool,
+    ghost timed: { failed ≡ false → AreTimed due live },
+    ghost fresh: { failed ≡ false → AreStarted started live },
 }
 
 impl Links {
     pub fn new(alloc: Global) -> Links
         ensures started { result.started ≡ 0 }
-        ensures live { (l : ℕ) → (links_of result).live l ≡ None }
+        ensures live { (l : ℕ) → live_in result.live l ≡ None }
     {
         Links {
+            alloc,
             started: 0,
             live: BTreeMap::new(alloc),
+            due: DueMoments::new(alloc),
+            failed: false,
         }
     }
 
     /// Where a link stands that has not ended.
     pub fn stage(&self, link: u64) -> Option<Stage>
-        ensures { result ≡ option_map (λ seat. seat.seen.stage) ((links_of self.now).live link) }
+        ensures { result ≡ option_map (λ seat. seat.seen.stage) (live_in self.now.live link) }
     {
         match self.live.get(&link) {
-            Some(row) => Some(row.link.stage),
+            Some(row) => Some(row.connection.stage()),
             None => None,
         }
     }
 
-    /// One more link is dialed.
-    pub fn start(&mut self, alloc: Global, first: u64) -> Result<(), NoMemory>
-        ensures started { OnOk result (self.new.started ≡ self.old.started + 1) }
-        ensures live { OnOk result ((l : ℕ) → (links_of self.new).live l ≡ (if l == self.old.started then Some (record { seen = dialed first; askers = λ place. None }) else (links_of self.old).live l)) }
+    /// A link of this number was started, and has ended.
+    pub fn has_ended(&self, link: u64) -> bool
+        ensures { result ≡ has_ended link (links_in self.now.started self.now.live) }
     {
-        let row = Row {
-            link: Link::new(alloc, first),
-            askers: BTreeMap::new(alloc),
+        link < self.started && !self.live.contains_key(&link)
+    }
+
+    /// A request waits on a link that has not ended.
+    pub fn is_busy(&self, link: u64) -> bool
+        ensures { result ≡ is_busy (live_in self.now.live link) }
+    {
+        match self.live.get(&link) {
+            Some(row) => !row.connection.is_idle(),
+            None => false,
+        }
+    }
+
+    /// One more link is started, which is dialed where there is an address.
+    pub fn start(&mut self, connection: Option<Connection>) -> Result<(), NoMemory>
+        ensures started { OnOk result (self.new.started ≡ self.old.started + 1) }
+        ensures live { OnOk result ((l : ℕ) → live_in self.new.live l ≡ (if l == self.old.started then option_map seat_of_fresh connection else live_in self.old.live l)) }
+    {
+        if self.failed {
+            return Err(NoMemory);
+        }
+        let link = self.started;
+        let Some(after) = link.checked_add(1) else {
+            return Err(NoMemory);
         };
-        self.live.insert(self.started, row)?;
-        self.started = self.started.checked_add(1).ok_or(NoMemory)?;
+        self.failed = true;
+        self.started = after;
+        put(self.alloc, &mut self.live, link, connection)?;
+        keep(&self.live, &mut self.due, link)?;
+        self.failed = false;
         Ok(())
     }
 
-    /// The frames that a piece completes on an open link.
-    pub fn feed(
-        &mut self,
-        alloc: Global,
-        link: u64,
-        piece: &[u8],
-    ) -> Result<VecDeque<Arrival>, NoMemory>
-        requires { is_at is_open ((links_of self.old).live link) ≡ true }
-        ensures arrived { IfOk result (λ found. found.items ≡ arrivals (unread_of ((links_of self.old).live link) ++ piece.now)) }
+    /// A piece is fed to an open link.
+    pub fn feed(&mut self, link: u64, piece: &[u8]) -> Result<(), NoMemory>
         ensures started { OnOk result (self.new.started ≡ self.old.started) }
-        ensures live { OnOk result ((l : ℕ) → (links_of self.new).live l ≡ (if l == link then option_map (seat_fed piece.now) ((links_of self.old).live l) else (links_of self.old).live l)) }
+        ensures live { OnOk result ((l : ℕ) → live_in self.new.live l ≡ (if l == link then option_map (seat_fed piece.now) (live_in self.old.live l) else live_in self.old.live l)) }
     {
-        match self.live.get_mut(&link) {
-            Some(row) if row.link.stage.is_open() => row.link.feed(alloc, piece),
-            _ => Ok(VecDeque::new(alloc)),
+        if self.failed {
+            return Err(NoMemory);
         }
+        self.failed = true;
+        feed_at(&mut self.live, link, piece)?;
+        keep(&self.live, &mut self.due, link)?;
+        self.failed = false;
+        Ok(())
     }
 
-    /// What comes to a link is a frame that answers a request.
-    pub fn is_answer(&self, link: u64, act: &LinkAct) -> bool
-        ensures { result ≡ answered_by act.now (waiting_on ((links_of self.now).live link)) }
+    /// The ends of the links that are due, in their order.
+    pub fn due_parts(&self, now: u64) -> Result<VecDeque<Part>, NoMemory>
+        ensures { IfOk result (λ ps. ps.items ≡ over_links (due_part now) (links_in self.now.started self.now.live)) }
     {
-        match act {
-            LinkAct::Comes(Arrival::Message(message)) => match self.live.get(&link) {
-                Some(row) => row.link.pending.is_awaited(message.key()),
-                None => false,
-            },
-            LinkAct::Comes(Arrival::Bad(_))
-            | LinkAct::Opens
-            | LinkAct::Fails(_)
-            | LinkAct::Loses
-            | LinkAct::Drains(_) => false,
+        if self.failed {
+            return Err(NoMemory);
         }
+        let links = self.due.come(now)?;
+        let parts = ends_due(self.alloc, &self.live, links, now)?;
+        Ok(parts)
     }
 
-    /// What comes to a link: its effects, what becomes of it, and who is told of the requests that are settled.
-    pub fn take(
+    /// The ends of all links, in their order.
+    pub fn stop_acts(&self) -> Result<VecDeque<Act>, NoMemory>
+        ensures { IfOk result (λ acts. acts.items ≡ over_links stop_act (links_in self.now.started self.now.live)) }
+    {
+        if self.failed {
+            return Err(NoMemory);
+        }
+        let acts = ends_all(self.alloc, &self.live)?;
+        Ok(acts)
+    }
+
+    /// A link is open.
+    pub fn open(&mut self, now: u64, link: u64, out: &mut Vec<Effect>) -> Result<(), NoMemory>
+        ensures out { OnOk result (map shown out.new.items ≡ map shown out.old.items ++ given_at link LinkAct.Opens now (live_in self.old.live link)) }
+        ensures started { OnOk result (self.new.started ≡ self.old.started) }
+        ensures live { OnOk result ((l : ℕ) → live_in self.new.live l ≡ (if l == link then took_some LinkAct.Opens now (live_in self.old.live l) else live_in self.old.live l)) }
+    {
+        if self.failed {
+            return Err(NoMemory);
+        }
+        self.failed = true;
+        open_at(&mut self.live, now, link, out)?;
+        keep(&self.live, &mut self.due, link)?;
+        self.failed = false;
+        Ok(())
+    }
+
+    /// The next frame of a link is read: what it is, and who is told of a reply.
+    pub fn read(
         &mut self,
-        alloc: Global,
+        now: u64,
         link: u64,
-        act: LinkAct,
         out: &mut Vec<Effect>,
-    ) -> Result<(Change, Vec<Notice>), NoMemory>
-        ensures out { OnOk result (map shown out.new.items ≡ map shown out.old.items ++ given_at link act ((links_of self.old).live link)) }
-        ensures change { IfOk result (λ r. r.0 ≡ turned act ((links_of self.old).live link)) }
-        ensures notices { IfOk result (λ r. r.1.items ≡ heard_at act ((links_of self.old).live link)) }
+    ) -> Result<(Arrival, Vec<Notice>), NoMemory>
+        ensures out { OnOk result (map shown out.new.items ≡ map shown out.old.items ++ given_at link LinkAct.Reads now (live_in self.old.live link)) }
+        ensures arrival { IfOk result (λ r. r.0 ≡ arrival_at (live_in self.old.live link)) }
+        ensures notices { IfOk result (λ r. r.1.items ≡ answered_on (live_in self.old.live link)) }
         ensures started { OnOk result (self.new.started ≡ self.old.started) }
-        ensures live { OnOk result ((l : ℕ) → (links_of self.new).live l ≡ (if l == link then took_some act ((links_of self.old).live l) else (links_of self.old).live l)) }
+        ensures live { OnOk result ((l : ℕ) → live_in self.new.live l ≡ (if l == link then took_some LinkAct.Reads now (live_in self.old.live l) else live_in self.old.live l)) }
     {
-        let Some(row) = self.live.get_mut(&link) else {
-            return Ok((Change::Remains, Vec::new(alloc)));
-        };
-        let (change, notices) = row.take(alloc, link, act, out)?;
-        let is_over = row.link.stage.is_over();
-        forget_over(&mut self.live, link, is_over);
-        Ok((change, notices))
+        if self.failed {
+            return Err(NoMemory);
+        }
+        self.failed = true;
+        let read = read_at(self.alloc, &mut self.live, now, link, out)?;
+        keep(&self.live, &mut self.due, link)?;
+        self.failed = false;
+        Ok(read)
     }
 
-    /// A request is asked for on a link: its effect, and what becomes of it.
+    /// So many frames of a link may be written: who asked for those that move up from the line.
+    pub fn drain(
+        &mut self,
+        now: u64,
+        link: u64,
+        most: usize,
+        out: &mut Vec<Effect>,
+    ) -> Result<Vec<Notice>, NoMemory>
+        ensures out { OnOk result (map shown out.new.items ≡ map shown out.old.items ++ given_at link (LinkAct.Drains most) now (live_in self.old.live link)) }
+        ensures notices { IfOk result (λ ns. ns.items ≡ moved_on most now (live_in self.old.live link)) }
+        ensures started { OnOk result (self.new.started ≡ self.old.started) }
+        ensures live { OnOk result ((l : ℕ) → live_in self.new.live l ≡ (if l == link then took_some (LinkAct.Drains most) now (live_in self.old.live l) else live_in self.old.live l)) }
+    {
+        if self.failed {
+            return Err(NoMemory);
+        }
+        self.failed = true;
+        let notices = drain_at(self.alloc, &mut self.live, now, link, most, out)?;
+        keep(&self.live, &mut self.due, link)?;
+        self.failed = false;
+        Ok(notices)
+    }
+
+    /// A link ends, unless it is due no more: all whom its end serves on it.
+    pub fn end(
+        &mut self,
+        now: u64,
+        link: u64,
+        end: &End,
+        out: &mut Vec<Effect>,
+    ) -> Result<Option<Vec<Notice>>, NoMemory>
+        ensures out { OnOk result (map shown out.new.items ≡ map shown out.old.items ++ given_at link (LinkAct.Ends end.now) now (live_in self.old.live link)) }
+        ensures end { IfOk result (λ r. IsEnd r end.now now (live_in self.old.live link)) }
+        ensures started { OnOk result (self.new.started ≡ self.old.started) }
+        ensures live { OnOk result ((l : ℕ) → live_in self.new.live l ≡ (if l == link then took_some (LinkAct.Ends end.now) now (live_in self.old.live l) else live_in self.old.live l)) }
+    {
+        if self.failed {
+            return Err(NoMemory);
+        }
+        let ended = end_at(self.alloc, &self.live, now, link, end, out)?;
+        if ended.is_none() {
+            return Ok(None);
+        }
+        self.failed = true;
+        drop(self.live.remove(&link));
+        keep(&self.live, &mut self.due, link)?;
+        self.failed = false;
+        Ok(ended)
+    }
+
+    /// A request is asked for on a link: whether it is queued or stands in the line, and what the one who asks is told.
     pub fn ask(
         &mut self,
-        alloc: Global,
         now: u64,
         who: Who,
         link: u64,
         request: Request,
         out: &mut Vec<Effect>,
-    ) -> Result<Admission, NoMemory>
-        ensures out { OnOk result (map shown out.new.items ≡ map shown out.old.items ++ asked_at link now request ((links_of self.old).live link)) }
-        ensures admission { IfOk result (λ a. a ≡ admitted_at now request ((links_of self.old).live link)) }
+    ) -> Result<(bool, Outcome), NoMemory>
+        ensures out { OnOk result (map shown out.new.items ≡ map shown out.old.items ++ asked_at link now request (live_in self.old.live link)) }
+        ensures asked { IfOk result (λ r. r.0 ≡ is_asked (answer_at now request (live_in self.old.live link))) }
+        ensures told { IfOk result (λ r. r.1 ≡ told_at (answer_at now request (live_in self.old.live link))) }
         ensures started { OnOk result (self.new.started ≡ self.old.started) }
-        ensures live { OnOk result ((l : ℕ) → (links_of self.new).live l ≡ (if l == link then option_map (seat_asked who now request) ((links_of self.old).live l) else (links_of self.old).live l)) }
+        ensures live { OnOk result ((l : ℕ) → live_in self.new.live l ≡ (if l == link then option_map (seat_asked who now request) (live_in self.old.live l) else live_in self.old.live l)) }
     {
-        match self.live.get_mut(&link) {
-            Some(row) => row.ask(alloc, now, who, link, request, out),
-            None => Ok(Admission::Disconnected),
+        if self.failed {
+            return Err(NoMemory);
         }
+        self.failed = true;
+        let answer = ask_at(self.alloc, &mut self.live, now, who, link, request, out)?;
+        keep(&self.live, &mut self.due, link)?;
+        self.failed = false;
+        Ok(answer)
     }
 }
 
-impl Row {
-    fn take(
-        &mut self,
-        alloc: Global,
-        link: u64,
-        act: LinkAct,
-        out: &mut Vec<Effect>,
-    ) -> Result<(Change, Vec<Notice>), NoMemory>
-        ensures out { OnOk result (map shown out.new.items ≡ map shown out.old.items ++ given link (gives act (seen_of self.old.link))) }
-        ensures change { IfOk result (λ r. r.0 ≡ (gives act (seen_of self.old.link)).change) }
-        ensures notices { IfOk result (λ r. r.1.items ≡ filter_map (heard_by (seat_of self.old).askers) (words act (seen_of self.old.link))) }
-        ensures seen { OnOk result (seen_of self.new.link ≡ after act (seen_of self.old.link)) }
-        ensures askers { OnOk result ((place : ℕ) → (seat_of self.new).askers place ≡ askers_told (words act (seen_of self.old.link)) (seat_of self.old).askers place) }
-    {
-        let Given {
-            change,
-            words,
-            frame,
-            piece,
-        } = self.link.take(alloc, act)?;
-        write(out, link, piece)?;
-        settle(out, link, &words)?;
-        queue(out, link, frame)?;
-        close(out, link, change)?;
-        let places = places_of(alloc, &words)?;
-        let notices = tell_askers(alloc, &self.askers, words)?;
-        forget(&mut self.askers, places);
-        Ok((change, notices))
-    }
-
-    fn ask(
-        &mut self,
-        alloc: Global,
-        now: u64,
-        who: Who,
-        link: u64,
-        request: Request,
-        out: &mut Vec<Effect>,
-    ) -> Result<Admission, NoMemory>
-        ensures out { OnOk result (map shown out.new.items ≡ map shown out.old.items ++ asked_at link now request (Some (seat_of self.old))) }
-        ensures admission { IfOk result (λ a. a ≡ admitted now request (seen_of self.old.link)) }
-        ensures seen { OnOk result (seen_of self.new.link ≡ after_ask now request (seen_of self.old.link)) }
-        ensures askers { OnOk result ((place : ℕ) → (seat_of self.new).askers place ≡ (seat_asked who now request (seat_of self.old)).askers place) }
-    {
-        let place = self.link.queued;
-        let is_answered = is_answered(request.number());
-        let (admission, frame) = self.link.ask(alloc, now, request)?;
-        if admission.is_queued() && is_answered {
-            self.askers.insert(place, who)?;
-        }
-        queue(out, link, frame)?;
-        Ok(admission)
-    }
-}
-
-/// A link is forgotten where it is over.
-fn forget_over(live: &mut BTreeMap<u64, Row>, link: u64, is_over: bool)
-    ensures { (l : ℕ) → get nat_cmp live.new l ≡ (if is_over && (l == link) then None else get nat_cmp live.old l) }
-{
-    if is_over {
-        live.remove(&link);
-    }
-}
-
-/// Those who asked are told their words.
-fn tell_askers(
+/// A link is dialed, where there is a connection.
+fn put(
     alloc: Global,
-    askers: &BTreeMap<u64, Who>,
-    words: VecDeque<Word>,
-) -> Result<Vec<Notice>, NoMemory>
-    ensures { IfOk result (λ ns. ns.items ≡ filter_map (heard_by (get nat_cmp askers.now)) words.items) }
+    live: &mut BTreeMap<u64, Row>,
+    link: u64,
+    connection: Option<Connection>,
+) -> Result<(), NoMemory>
+    ensures { OnOk result (live_in live.old link ≡ None
+        → (l : ℕ) → live_in live.new l ≡ (if l == link then option_map seat_of_fresh connection else live_in live.old l)) }
 {
-    let mut notices = Vec::new(alloc);
-    for word in words {
-        tell_asker(&mut notices, askers, word)?;
-    }
+    let Some(connection) = connection else {
+        return Ok(());
+    };
+    drop(live.insert(link, Row::new(alloc, connection))?);
+    Ok(())
+}
+
+fn feed_at(live: &mut BTreeMap<u64, Row>, link: u64, piece: &[u8]) -> Result<(), NoMemory>
+    ensures { OnOk result ((l : ℕ) → live_in live.new l ≡ (if l == link then option_map (seat_fed piece.now) (live_in live.old l) else live_in live.old l)) }
+{
+    let Some(row) = live.get_mut(&link) else {
+        return Ok(());
+    };
+    row.connection.feed(piece)?;
+    Ok(())
+}
+
+fn open_at(
+    live: &mut BTreeMap<u64, Row>,
+    now: u64,
+    link: u64,
+    out: &mut Vec<Effect>,
+) -> Result<(), NoMemory>
+    ensures out { OnOk result (map shown out.new.items ≡ map shown out.old.items ++ given_at link LinkAct.Opens now (live_in live.old link)) }
+    ensures live { OnOk result ((l : ℕ) → live_in live.new l ≡ (if l == link then took_some LinkAct.Opens now (live_in live.old l) else live_in live.old l)) }
+{
+    let Some(row) = live.get_mut(&link) else {
+        return Ok(());
+    };
+    row.open(now, link, out)?;
+    Ok(())
+}
+
+fn read_at(
+    alloc: Global,
+    live: &mut BTreeMap<u64, Row>,
+    now: u64,
+    link: u64,
+    out: &mut Vec<Effect>,
+) -> Result<(Arrival, Vec<Notice>), NoMemory>
+    ensures out { OnOk result (map shown out.new.items ≡ map shown out.old.items ++ given_at link LinkAct.Reads now (live_in live.old link)) }
+    ensures arrival { IfOk result (λ r. r.0 ≡ arrival_at (live_in live.old link)) }
+    ensures notices { IfOk result (λ r. r.1.items ≡ answered_on (live_in live.old link)) }
+    ensures live { OnOk result ((l : ℕ) → live_in live.new l ≡ (if l == link then took_some LinkAct.Reads now (live_in live.old l) else live_in live.old l)) }
+{
+    let Some(row) = live.get_mut(&link) else {
+        return Ok((Arrival::Nothing, Vec::new(alloc)));
+    };
+    let read = row.read(alloc, now, link, out)?;
+    Ok(read)
+}
+
+fn drain_at(
+    alloc: Global,
+    live: &mut BTreeMap<u64, Row>,
+    now: u64,
+    link: u64,
+    most: usize,
+    out: &mut Vec<Effect>,
+) -> Result<Vec<Notice>, NoMemory>
+    ensures out { OnOk result (map shown out.new.items ≡ map shown out.old.items ++ given_at link (LinkAct.Drains most) now (live_in live.old link)) }
+    ensures notices { IfOk result (λ ns. ns.items ≡ moved_on most now (live_in live.old link)) }
+    ensures live { OnOk result ((l : ℕ)
+        → live_in live.new l ≡ (if l == link then took_some (LinkAct.Drains most) now (live_in live.old l) else live_in live.old l)) }
+{
+    let Some(row) = live.get_mut(&link) else {
+        return Ok(Vec::new(alloc));
+    };
+    let notices = row.drain(alloc, now, link, most, out)?;
     Ok(notices)
 }
 
-/// The one who asked is told a word.
-fn tell_asker(
-    notices: &mut Vec<Notice>,
-    askers: &BTreeMap<u64, Who>,
-    word: Word,
+/// What the end of a link gives, unless it is due no more.
+fn end_at(
+    alloc: Global,
+    live: &BTreeMap<u64, Row>,
+    now: u64,
+    link: u64,
+    end: &End,
+    out: &mut Vec<Effect>,
+) -> Result<Option<Vec<Notice>>, NoMemory>
+    ensures out { OnOk result (map shown out.new.items ≡ map shown out.old.items ++ given_at link (LinkAct.Ends end.now) now (live_in live.now link)) }
+    ensures end { IfOk result (λ r. IsEnd r end.now now (live_in live.now link)) }
+    ensures left { IfOk result (λ r. took_some (LinkAct.Ends end.now) now (live_in live.now link) ≡ (if is_some r then None else live_in live.now link)) }
+{
+    let Some(row) = live.get(&link) else {
+        return Ok(None);
+    };
+    if !row.is_over_by(end, now) {
+        return Ok(None);
+    }
+    let notices = row.end(alloc, now, link, end, out)?;
+    Ok(Some(notices))
+}
+
+fn ask_at(
+    alloc: Global,
+    live: &mut BTreeMap<u64, Row>,
+    now: u64,
+    who: Who,
+    link: u64,
+    request: Request,
+    out: &mut Vec<Effect>,
+) -> Result<(bool, Outcome), NoMemory>
+    ensures out { OnOk result (map shown out.new.items ≡ map shown out.old.items ++ asked_at link now request (live_in live.old link)) }
+    ensures asked { IfOk result (λ r. r.0 ≡ is_asked (answer_at now request (live_in live.old link))) }
+    ensures told { IfOk result (λ r. r.1 ≡ told_at (answer_at now request (live_in live.old link))) }
+    ensures live { OnOk result ((l : ℕ)
+        → live_in live.new l ≡ (if l == link then option_map (seat_asked who now request) (live_in live.old l) else live_in live.old l)) }
+{
+    let Some(row) = live.get_mut(&link) else {
+        let cause = Cause::new(alloc, ConnectionError::Disconnected)?;
+        return Ok((false, Outcome::Refused(cause)));
+    };
+    let answer = row.ask(alloc, now, who, link, request, out)?;
+    Ok(answer)
+}
+
+/// The ends of those of these links that are due.
+fn ends_due(
+    alloc: Global,
+    live: &BTreeMap<u64, Row>,
+    links: BTreeSet<u64>,
+    now: u64,
+) -> Result<VecDeque<Part>, NoMemory>
+    ensures ends { IfOk result (λ ps. ps.items ≡ flat_map (on_link (due_part now) (live_in live.now)) links.keys) }
+    ensures ordered { OnOk result (IsStrictlySortedBy nat_cmp links.keys) }
+{
+    let mut parts = VecDeque::new(alloc);
+    for link in links {
+        end_due(&mut parts, live, now, link)?;
+    }
+    Ok(parts)
+}
+
+/// The ends of all links.
+fn ends_all(alloc: Global, live: &BTreeMap<u64, Row>) -> Result<VecDeque<Act>, NoMemory>
+    ensures ends { IfOk result (λ acts. acts.items ≡ flat_map (on_link stop_act (live_in live.now)) (keys live.now)) }
+    ensures ordered { OnOk result (IsOrdered nat_cmp live.now) }
+{
+    let mut acts = VecDeque::new(alloc);
+    for (link, _) in live {
+        acts.push_back(Act::Comes(Part::ToLink {
+            link: *link,
+            act: LinkAct::Ends(End::Stops),
+        }))?;
+    }
+    Ok(acts)
+}
+
+/// A link that is due ends.
+fn end_due(
+    parts: &mut VecDeque<Part>,
+    live: &BTreeMap<u64, Row>,
+    now: u64,
+    link: u64,
 ) -> Result<(), NoMemory>
-    ensures { OnOk result (notices.new.items ≡ notices.old.items ++ option_to_list (heard_by (get nat_cmp askers.now) word)) }
+    ensures { OnOk result (parts.new.items ≡ parts.old.items ++ on_link (due_part now) (live_in live.now) link) }
 {
-    if let Some(who) = askers.get(&word.place) {
-        notices.push(Notice {
-            who: *who,
-            outcome: outcome(word.settled),
-        })?;
+    match live.get(&link) {
+        Some(row) if row.connection.due(now) => {
+            let below = row.connection.queued();
+            parts.push_back(Part::ToLink {
+                link,
+                act: LinkAct::Ends(End::Overdue { below }),
+            })?;
+            Ok(())
+        }
+        _ => Ok(()),
     }
+}
+
+/// When a link is due is kept.
+fn keep(live: &BTreeMap<u64, Row>, due: &mut DueMoments, link: u64) -> Result<(), NoMemory>
+    ensures timed { OnOk result ((now : ℕ) → has_come now (moment_at due.new link) ≡ is_due now (live_in live.now link)) }
+    ensures others { OnOk result ((l : ℕ) → (l == link) ≡ false → moment_at due.new l ≡ moment_at due.old l) }
+{
+    let moment = due_at(live, link);
+    due.set(link, moment)?;
     Ok(())
 }
 
-/// The places of words.
-fn places_of(alloc: Global, words: &VecDeque<Word>) -> Result<Vec<u64>, NoMemory>
-    ensures { IfOk result (λ ps. ps.items ≡ map (λ w. w.place) words.now.items) }
+/// When a link is due.
+fn due_at(live: &BTreeMap<u64, Row>, link: u64) -> Option<u64>
+    ensures { (now : ℕ) → has_come now result ≡ is_due now (live_in live.now link) }
 {
-    let mut places = Vec::new(alloc);
-    for word in words {
-        places.push(word.place)?;
+    match live.get(&link) {
+        Some(row) => row.connection.due_at(),
+        None => None,
     }
-    Ok(places)
-}
-
-/// Those of these places are no askers any more.
-fn forget(askers: &mut BTreeMap<u64, Who>, places: Vec<u64>)
-    ensures { (place : ℕ) → get nat_cmp askers.new place ≡ (if list_any (λ p. p == place) places.items then None else get nat_cmp askers.old place) }
-{
-    for place in places {
-        askers.remove(&place);
-    }
-}
-
-fn outcome(settled: Settled) -> Outcome
-    ensures { result ≡ settled_as settled }
-{
-    match settled {
-        Settled::Reply(message) => Outcome::Replied(message),
-        Settled::Disconnected => Outcome::Disconnected,
-    }
-}
-
-fn write(out: &mut Vec<Effect>, link: u64, piece: Option<Vec<u8>>) -> Result<(), NoMemory>
-    ensures { OnOk result (map shown out.new.items ≡ map shown out.old.items ++ option_to_list (option_map (write link) (option_map (λ p. p.items) piece))) }
-{
-    if let Some(bytes) = piece {
-        out.push(Effect::Write { link, bytes })?;
-    }
-    Ok(())
-}
-
-fn queue(out: &mut Vec<Effect>, link: u64, frame: Option<Frame>) -> Result<(), NoMemory>
-    ensures { OnOk result (map shown out.new.items ≡ map shown out.old.items ++ option_to_list (option_map (queues link) (option_map frame_of frame))) }
-{
-    if let Some(Frame { place, bytes }) = frame {
-        out.push(Effect::Queued { link, place, bytes })?;
-    }
-    Ok(())
-}
-
-fn settle(out: &mut Vec<Effect>, link: u64, words: &VecDeque<Word>) -> Result<(), NoMemory>
-    ensures { OnOk result (map shown out.new.items ≡ map shown out.old.items ++ map (settles link) words.now.items) }
-{
-    for word in words {
-        out.push(Effect::Settled {
-            link,
-            place: word.place,
-            outcome: settlement(&word.settled),
-        })?;
-    }
-    Ok(())
-}
-
-fn settlement(settled: &Settled) -> Settlement
-    ensures { result ≡ settlement_of settled.now }
-{
-    match settled {
-        Settled::Reply(_) => Settlement::Reply,
-        Settled::Disconnected => Settlement::Disconnected,
-    }
-}
-
-fn close(out: &mut Vec<Effect>, link: u64, change: Change) -> Result<(), NoMemory>
-    ensures { OnOk result (map shown out.new.items ≡ map shown out.old.items ++ closes link change) }
-{
-    match change {
-        Change::Ended(end) if end.is_closed() => out.push(Effect::Close { link })?,
-        Change::Remains | Change::Opened | Change::Readied | Change::Ended(_) => {}
-    }
-    Ok(())
 }

@@ -1,17 +1,18 @@
 //! The client.
 
-ghost use Rattle.std.specs.Prelude.{◌≡◌, ◌∷◌, [], List, OnErr, IfOk, IsErr, length, map, reverse};
+ghost use Rattle.std.specs.Prelude.{◌≡◌, ◌∷◌, [], List, OnErr, IfOk, IsErr, IsTrue, ◌↔◌, length, map, reverse};
 ghost use Rattle.pulsar_client.specs.Content.{Called, asked, heard, shown};
-ghost use Rattle.pulsar_client.specs.Run.{Good, Step, calls_in};
-ghost use Rattle.pulsar_client.specs.View.{Chosen};
+ghost use Rattle.pulsar_client.specs.Run.{Good, Step, calls_in, view};
+ghost use Rattle.pulsar_client.specs.View.{Chosen, Waits, has_ended};
 ghost use Rattle.pulsar_client.specs.Tables.{answered, step};
-ghost use Rattle.pulsar_client.specs.Client.{HasFailed, IsDead, StandsFor, chosen};
+ghost use Rattle.pulsar_client.specs.Client.{HasFailed, IsDead, StandsFor, chosen, options_of};
 
-use crate::address::Address;
 use crate::effect::Effect;
 use crate::event::{Call, Event};
 use crate::options::ClientOptions;
+use crate::settings::Settings;
 use crate::tables::Tables;
+use pulsar_session::states::Stage;
 use pulsar_wire::error::NoMemory;
 use std::alloc::Global;
 
@@ -27,10 +28,11 @@ pub struct Pulsar {
 impl Pulsar {
     /// A client to which nothing has happened. A URL that is too long to be read counts as want of memory.
     pub fn new(alloc: Global, options: ClientOptions) -> Result<Pulsar, NoMemory>
-        ensures { IfOk result (λ c. StandsFor (chosen options) c []) }
+        ensures stands { IfOk result (λ c. StandsFor (chosen options) c []) }
+        ensures options { IfOk result (λ c. options_of c ≡ options) }
     {
-        let address = Address::of(alloc, &options.url)?;
-        let tables = Tables::new(alloc, options.first_number, options.now, address);
+        let settings = Settings::new(alloc, &options)?;
+        let tables = Tables::new(alloc, settings);
         Ok(Pulsar {
             options,
             tables,
@@ -48,11 +50,9 @@ impl Pulsar {
         ensures one_each { IfOk result (λ all. length all.items ≡ length events.now) }
     {
         let mut client = Pulsar::new(alloc, options)?;
-        let mut all = Vec::new(alloc);
-        for event in events {
-            all.push(client.take(event.copy()?)?)?;
-        }
-        Ok(all)
+        let all = client.take_all(alloc, events);
+        drop(client);
+        all
     }
 
     /// One event, with all that arises from it. After want of memory every later step answers want of memory. An event
@@ -62,6 +62,7 @@ impl Pulsar {
         ensures failed { OnErr result (HasFailed self.new) }
         ensures stays { HasFailed self.old → IsErr result × HasFailed self.new }
         ensures dead { IsDead self.old (heard event) → (self.new ≡ self.old) × IfOk result (λ out. out.items ≡ []) }
+        ensures options { options_of self.new ≡ options_of self.old }
     {
         self.take(event)
     }
@@ -72,10 +73,54 @@ impl Pulsar {
         ensures ticket { IfOk result (λ r. (o : Chosen) (h : List Step) → StandsFor o self.old h → r.0 ≡ calls_in h) }
         ensures failed { OnErr result (HasFailed self.new) }
         ensures stays { HasFailed self.old → IsErr result × HasFailed self.new }
+        ensures options { options_of self.new ≡ options_of self.old }
     {
         let ticket = self.tables.tickets;
         let effects = self.take(Event::Call(call))?;
         Ok((ticket, effects))
+    }
+
+    /// The options that it was made with.
+    pub fn options(&self) -> &ClientOptions
+        ensures options { result.now ≡ options_of self.now }
+        ensures chosen { (o : Chosen) (h : List Step) → StandsFor o self.now h → o ≡ chosen result.now }
+    {
+        &self.options
+    }
+
+    /// A link of this number has ended. It takes no memory.
+    pub fn link_ended(&self, link: u64) -> bool
+        ensures { (o : Chosen) (h : List Step) → StandsFor o self.now h → (g : Good o h) → result ≡ has_ended link (view o g.log).links }
+    {
+        self.tables.links.has_ended(link)
+    }
+
+    /// A link of this number is open, and something waits for it: it is not ready yet, or a request of it waits for a reply, or
+    /// a raw consumer on it hears. It takes no memory.
+    pub fn link_waits(&self, link: u64) -> bool
+        ensures { (o : Chosen) (h : List Step) → StandsFor o self.now h → (g : Good o h) → IsTrue result ↔ Waits link (view o g.log) }
+    {
+        match self.tables.links.stage(link) {
+            Some(Stage::Handshaking) => true,
+            Some(Stage::Ready) => {
+                self.tables.links.is_busy(link) || self.tables.subscribers.hears_on(link)
+            }
+            Some(Stage::Dialing) => false,
+            Some(Stage::Over) => false,
+            None => false,
+        }
+    }
+
+    /// Each event in turn.
+    fn take_all(&mut self, alloc: Global, events: &[Event]) -> Result<Vec<Vec<Effect>>, NoMemory>
+        ensures stands { IfOk result (λ all. (o : Chosen) → StandsFor o self.old [] → StandsFor o self.new (reverse (answered events.now all.items))) }
+        ensures one_each { IfOk result (λ all. length all.items ≡ length events.now) }
+    {
+        let mut all = Vec::new(alloc);
+        for event in events {
+            all.push(self.take(event.copy()?)?)?;
+        }
+        Ok(all)
     }
 
     fn take(&mut self, event: Event) -> Result<Vec<Effect>, NoMemory>
@@ -83,11 +128,14 @@ impl Pulsar {
         ensures failed { OnErr result (HasFailed self.new) }
         ensures stays { HasFailed self.old → IsErr result × HasFailed self.new }
         ensures dead { IsDead self.old (heard event) → (self.new ≡ self.old) × IfOk result (λ out. out.items ≡ []) }
+        ensures options { options_of self.new ≡ options_of self.old }
     {
         if self.failed {
+            drop(event);
             return Err(NoMemory);
         }
         if !self.tables.is_live(&event) {
+            drop(event);
             return Ok(Vec::new(self.tables.alloc));
         }
         self.failed = true;

@@ -1,20 +1,25 @@
 //! The tables of a client, and one step of them.
 
+ghost use Rattle.std.specs.Option.{option_map};
 ghost use Rattle.std.specs.Prelude.{◌≡◌, ◌++◌, ◌∷◌, [], ℕ, List, map, IfOk, OnOk, true, if◌then◌else◌};
 ghost use Rattle.pulsar_run.specs.Order.{arranged};
 ghost use Rattle.pulsar_client.specs.Content.{Heard, heard, shown};
 ghost use Rattle.pulsar_client.specs.Effects.{effect_below, effects};
-ghost use Rattle.pulsar_link.specs.Request.{request_of};
-ghost use Rattle.pulsar_client.specs.Rules.{does, follows, notice, parts, procedure_for, told_at};
+ghost use Rattle.pulsar_link.specs.RawCall.{words_of};
+ghost use Rattle.pulsar_client.specs.Links.{change_in};
+ghost use Rattle.pulsar_client.specs.Rules.{breaks_at, builds_with, does, follows, notice, parts, procedure_for, reads_on, served_by, unless_refused};
 ghost use Rattle.pulsar_client.specs.Run.{Agenda, Step, goes_on};
 ghost use Rattle.pulsar_client.specs.Subscribers.{subscription_at};
-ghost use Rattle.pulsar_client.specs.Tables.{InStep, Stands, agenda_of, stand_of, step, view_of};
-ghost use Rattle.pulsar_client.specs.View.{Chosen, after, begun, builds, is_live, made, stays};
+ghost use Rattle.pulsar_client.specs.Subscriptions.{hears};
+ghost use Rattle.pulsar_client.specs.Tables.{InStep, Stands, agenda_of, base_of, chosen_of, stand_of, step, view_of};
+ghost use Rattle.pulsar_client.specs.View.{Chosen, after, base_turned, begun, builds, is_live, made, stays};
 ghost use Rattle.pulsar_client.specs.Who.{is_same};
 ghost use Rattle.pulsar_client.specs.declared.act.Who.{Who as Meant};
 
-use crate::act::{Act, Action, Makes, Notice, Outcome, Part, Place, Procedure, Verdict, Who};
-use crate::address::Address;
+use crate::act::{
+    Act, Action, Arrival, End, LinkAct, Makes, Notice, Outcome, Part, Place, Procedure, Refusal,
+    Says, Verdict, Who,
+};
 use crate::agenda::Tasks;
 use crate::base::{Base, Series};
 use crate::consumers::subscriber::Subscriber;
@@ -26,9 +31,10 @@ use crate::links::Links;
 use crate::order::arrange;
 use crate::plans::plan::{Plan, Turn, begins, failure, told};
 use crate::plans::table::Plans;
-use pulsar_link::act::{Arrival, LinkAct};
-use pulsar_link::content::{Question, Request};
-use pulsar_link::given::{Admission, Change};
+use crate::settings::Settings;
+use pulsar_link::content::Request;
+use pulsar_link::raw_call::RawCall;
+use pulsar_session::states::Stage;
 use pulsar_wire::error::{ConnectionError, NoMemory};
 use std::alloc::Global;
 use std::collections::VecDeque;
@@ -37,13 +43,13 @@ use std::collections::VecDeque;
 #[derive(Drop)]
 pub struct Tables {
     pub alloc: Global,
-    pub first_number: u64,
-    /// The time at which the client was made, in milliseconds since 1970.
-    pub time: u64,
-    /// The address of the service, where the options have one.
-    pub address: Option<Address>,
+    pub settings: Settings,
+    /// The clock, in milliseconds since 1970.
+    pub clock: u64,
     /// A Build call has ended Ok.
     pub is_built: bool,
+    /// A Stop call has ended every link.
+    pub is_stopped: bool,
     /// How many tickets were drawn.
     pub tickets: u64,
     pub plans: Plans,
@@ -53,15 +59,16 @@ pub struct Tables {
 }
 
 impl Tables {
-    pub fn new(alloc: Global, first_number: u64, time: u64, address: Option<Address>) -> Tables
-        ensures { Stands (record { first_number = first_number; now = time; address = address }) result [] }
+    pub fn new(alloc: Global, settings: Settings) -> Tables
+        ensures { Stands (chosen_of settings) result [] }
     {
+        let clock = settings.start;
         Tables {
             alloc,
-            first_number,
-            time,
-            address,
+            settings,
+            clock,
             is_built: false,
+            is_stopped: false,
             tickets: 0,
             plans: Plans::new(alloc),
             links: Links::new(alloc),
@@ -70,22 +77,23 @@ impl Tables {
         }
     }
 
-    /// An event names a live link, in a state that the link is in, or a consumer; a call always does.
+    /// An event names a live link, in a state that the link is in, a consumer, or a moment that is not before the clock; a
+    /// call always does.
     pub fn is_live(&self, event: &Event) -> bool
         ensures { result ≡ is_live (view_of self.now) (heard event.now) }
     {
         match event {
             Event::Call(_) => true,
-            Event::Opened(link) | Event::Failed(link, _) => match self.links.stage(*link) {
-                Some(stage) => stage.is_dialing(),
-                None => false,
-            },
-            Event::Bytes(link, _) | Event::Lost(link) | Event::Drain(link, _) => {
-                match self.links.stage(*link) {
-                    Some(stage) => stage.is_open(),
-                    None => false,
-                }
+            Event::Opened(link) | Event::Failed(link, _) => {
+                matches!(self.links.stage(*link), Some(Stage::Dialing))
             }
+            Event::Bytes(link, _) | Event::Lost(link) | Event::Drain(link, _) => {
+                matches!(
+                    self.links.stage(*link),
+                    Some(Stage::Handshaking | Stage::Ready)
+                )
+            }
+            Event::Tick(now) => self.clock <= *now,
             Event::Poll(ticket) => self.subscribers.has(*ticket),
         }
     }
@@ -112,13 +120,17 @@ impl Tables {
         match event {
             Event::Call(call) => one(self.alloc, Part::Calls(Asking::new(self.alloc, call)?)),
             Event::Opened(link) => to_link(self.alloc, link, LinkAct::Opens),
-            Event::Failed(link, kind) => to_link(self.alloc, link, LinkAct::Fails(kind)),
+            Event::Failed(link, kind) => ends(self.alloc, link, End::Unopened(kind)),
             Event::Bytes(link, piece) => {
-                let found = self.links.feed(self.alloc, link, &piece)?;
-                frames(self.alloc, link, found)
+                self.links.feed(link, &piece)?;
+                to_link(self.alloc, link, LinkAct::Reads)
             }
-            Event::Lost(link) => to_link(self.alloc, link, LinkAct::Loses),
-            Event::Drain(link, most) => to_link(self.alloc, link, LinkAct::Drains(most as u64)),
+            Event::Lost(link) => ends(self.alloc, link, End::Lost),
+            Event::Drain(link, most) => to_link(self.alloc, link, LinkAct::Drains(most)),
+            Event::Tick(now) => {
+                self.clock = now;
+                self.links.due_parts(now)
+            }
             Event::Poll(ticket) => one(self.alloc, Part::Polls(ticket)),
         }
     }
@@ -164,9 +176,34 @@ impl Tables {
             let verdict = failure(self.alloc, ConnectionError::Exhausted)?;
             return tasks.put(Act::Answers { who, verdict });
         }
-        let procedure = procedure_for(self.alloc, self.is_built, asking)?;
+        let procedure = self.procedure_for(asking)?;
         self.tickets += 1;
         tasks.put(Act::Starts { who, procedure })
+    }
+
+    /// The procedure of a call.
+    fn procedure_for(&self, asking: Asking) -> Result<Procedure, NoMemory>
+        ensures { IfOk result (λ p. p ≡ procedure_for (view_of self.now).chosen (view_of self.now).calls asking) }
+    {
+        let is_open = self.is_built && !self.is_stopped;
+        match asking.into_inner() {
+            Call::Build => Ok(builds_if(!self.is_stopped, self.settings.outbound)),
+            Call::Stop => Ok(stops_if(is_open)),
+            Call::Topics { namespace, mode } => ask_for(
+                self.alloc,
+                is_open,
+                Place::Base,
+                RawCall::GetTopicsOfNamespace { namespace, mode },
+                Says::Names,
+            ),
+            Call::Raw { link, call } => ask_for(
+                self.alloc,
+                is_open,
+                Place::Link(link),
+                call,
+                Says::Bodies,
+            ),
+        }
     }
 
     /// What comes to a link: its effects, and all whom it serves.
@@ -181,15 +218,83 @@ impl Tables {
         ensures left { OnOk result (agenda_of tasks.new ≡ goes_on (view_of self.old) (Act.Comes (Part.ToLink link act)) (agenda_of tasks.old)) }
         ensures sees { OnOk result (view_of self.new ≡ after (Act.Comes (Part.ToLink link act)) (view_of self.old)) }
     {
-        if self.links.stage(link).is_none() {
-            return Ok(());
+        match act {
+            LinkAct::Opens => self.opens(link, out),
+            LinkAct::Reads => self.reads(link, tasks, out),
+            LinkAct::Drains(most) => self.drains(link, most, tasks, out),
+            LinkAct::Ends(end) => self.ends(link, end, tasks, out),
         }
-        let is_answer = self.links.is_answer(link, &act);
-        self.subscribers.hear(link, &act, is_answer)?;
-        let (change, mut notices) = self.links.take(self.alloc, link, act, out)?;
-        self.subscribers.end(link, change);
-        self.base.serve(link, change, &mut notices)?;
-        self.base.turn(link, change);
+    }
+
+    /// A link is open.
+    fn opens(&mut self, link: u64, out: &mut Vec<Effect>) -> Result<(), NoMemory>
+        ensures out { OnOk result (map shown out.new.items ≡ map shown out.old.items ++ effects (view_of self.old) (Act.Comes (Part.ToLink link LinkAct.Opens))) }
+        ensures sees { OnOk result (view_of self.new ≡ after (Act.Comes (Part.ToLink link LinkAct.Opens)) (view_of self.old)) }
+    {
+        self.links.open(self.clock, link, out)
+    }
+
+    /// The next frame of a link is read.
+    fn reads(&mut self, link: u64, tasks: &mut Tasks, out: &mut Vec<Effect>) -> Result<(), NoMemory>
+        ensures out { OnOk result (map shown out.new.items ≡ map shown out.old.items ++ effects (view_of self.old) (Act.Comes (Part.ToLink link LinkAct.Reads))) }
+        ensures left { OnOk result (agenda_of tasks.new ≡ goes_on (view_of self.old) (Act.Comes (Part.ToLink link LinkAct.Reads)) (agenda_of tasks.old)) }
+        ensures sees { OnOk result (view_of self.new ≡ after (Act.Comes (Part.ToLink link LinkAct.Reads)) (view_of self.old)) }
+    {
+        let (arrival, mut notices) = self.links.read(self.clock, link, out)?;
+        welcome(&mut self.base, link, &arrival, &mut notices)?;
+        read_on(link, &arrival, tasks)?;
+        self.arrives(link, arrival, tasks)?;
+        tasks.open(notices)
+    }
+
+    /// The frame that was read is for consumers, or the link ends by it.
+    fn arrives(&mut self, link: u64, arrival: Arrival, tasks: &mut Tasks) -> Result<(), NoMemory>
+        ensures left { OnOk result (agenda_of tasks.new ≡ record (agenda_of tasks.old) { now = breaks_at link arrival ++ tasks.old.now.items }) }
+        ensures heard { OnOk result ((t : ℕ) → subscription_at self.new.subscribers t ≡ option_map (hears link arrival) (subscription_at self.old.subscribers t)) }
+        ensures sees { OnOk result (view_of self.new ≡ record (view_of self.old) { consumers = subscription_at self.new.subscribers }) }
+    {
+        match arrival {
+            Arrival::Bad(cause) => tasks.put(Act::Comes(Part::ToLink {
+                link,
+                act: LinkAct::Ends(End::Broken(cause)),
+            })),
+            arrival => self.subscribers.hear(link, arrival),
+        }
+    }
+
+    /// So many frames of a link may be written.
+    fn drains(
+        &mut self,
+        link: u64,
+        most: usize,
+        tasks: &mut Tasks,
+        out: &mut Vec<Effect>,
+    ) -> Result<(), NoMemory>
+        ensures out { OnOk result (map shown out.new.items ≡ map shown out.old.items ++ effects (view_of self.old) (Act.Comes (Part.ToLink link (LinkAct.Drains most)))) }
+        ensures left { OnOk result (agenda_of tasks.new ≡ goes_on (view_of self.old) (Act.Comes (Part.ToLink link (LinkAct.Drains most))) (agenda_of tasks.old)) }
+        ensures sees { OnOk result (view_of self.new ≡ after (Act.Comes (Part.ToLink link (LinkAct.Drains most))) (view_of self.old)) }
+    {
+        let notices = self.links.drain(self.clock, link, most, out)?;
+        tasks.open_each(notices)
+    }
+
+    /// A link ends.
+    fn ends(
+        &mut self,
+        link: u64,
+        end: End,
+        tasks: &mut Tasks,
+        out: &mut Vec<Effect>,
+    ) -> Result<(), NoMemory>
+        ensures out { OnOk result (map shown out.new.items ≡ map shown out.old.items ++ effects (view_of self.old) (Act.Comes (Part.ToLink link (LinkAct.Ends end)))) }
+        ensures left { OnOk result (agenda_of tasks.new ≡ goes_on (view_of self.old) (Act.Comes (Part.ToLink link (LinkAct.Ends end))) (agenda_of tasks.old)) }
+        ensures sees { OnOk result (view_of self.new ≡ after (Act.Comes (Part.ToLink link (LinkAct.Ends end))) (view_of self.old)) }
+    {
+        let Some(mut notices) = self.links.end(self.clock, link, &end, out)? else {
+            return Ok(());
+        };
+        self.subscribers.end(link);
+        self.base.end(&end, &mut notices)?;
         tasks.open(notices)
     }
 
@@ -240,6 +345,7 @@ impl Tables {
         match action {
             Action::Get => self.gets(who, tasks),
             Action::Ask { link, request } => self.asks(who, link, request, tasks, out),
+            Action::StopAll => self.stops(who, tasks),
             Action::Rest => Ok(()),
         }
     }
@@ -250,8 +356,8 @@ impl Tables {
         ensures sees { OnOk result (view_of self.new ≡ after (Act.Does who Action.Get) (view_of self.old)) }
     {
         let series = self.base.series;
-        self.base.wait(&self.address, who)?;
-        if self.address.is_none() {
+        self.base.wait(&self.settings.address, who)?;
+        if self.settings.address.is_none() {
             return tell(who, Outcome::NotFound, tasks);
         }
         match series {
@@ -275,11 +381,19 @@ impl Tables {
         ensures sees { OnOk result (view_of self.new ≡ after (Act.Does who (Action.Ask link request)) (view_of self.old)) }
     {
         let closed = request.closed_consumer();
-        let admission = self
-            .links
-            .ask(self.alloc, self.time, who, link, request, out)?;
-        self.subscribers.close_asked(link, closed, admission)?;
-        tell(who, told_at(admission), tasks)
+        let (is_asked, outcome) = self.links.ask(self.clock, who, link, request, out)?;
+        self.subscribers.close_asked(link, closed, is_asked)?;
+        tell(who, outcome, tasks)
+    }
+
+    /// Every link ends, and who stops the client is told.
+    fn stops(&mut self, who: Who, tasks: &mut Tasks) -> Result<(), NoMemory>
+        ensures left { OnOk result (agenda_of tasks.new ≡ goes_on (view_of self.old) (Act.Does who Action.StopAll) (agenda_of tasks.old)) }
+        ensures sees { OnOk result (view_of self.new ≡ after (Act.Does who Action.StopAll) (view_of self.old)) }
+    {
+        self.is_stopped = true;
+        tell(who, Outcome::Stopped, tasks)?;
+        tasks.put_all(self.links.stop_acts()?)
     }
 
     /// A plan ends.
@@ -304,10 +418,9 @@ impl Tables {
         ensures out { OnOk result (map shown out.new.items ≡ map shown out.old.items ++ effects (view_of self.old) (Act.Dials starter)) }
         ensures sees { OnOk result (view_of self.new ≡ after (Act.Dials starter) (view_of self.old)) }
     {
-        if let Some(address) = &self.address {
-            out.push(address.connect(self.links.started)?)?;
-        }
-        self.links.start(self.alloc, self.first_number)?;
+        let link = self.links.started;
+        let connection = self.settings.dial(self.alloc, self.clock, link, out)?;
+        self.links.start(connection)?;
         self.base.series = Series::Runs { starter };
         Ok(())
     }
@@ -327,18 +440,45 @@ fn to_link(alloc: Global, link: u64, act: LinkAct) -> Result<VecDeque<Part>, NoM
     one(alloc, Part::ToLink { link, act })
 }
 
-/// The frames that a piece brings to a link.
-fn frames(alloc: Global, link: u64, found: VecDeque<Arrival>) -> Result<VecDeque<Part>, NoMemory>
-    ensures { IfOk result (λ ps. ps.items ≡ map (λ a. Part.ToLink link (LinkAct.Comes a)) found.items) }
+fn ends(alloc: Global, link: u64, end: End) -> Result<VecDeque<Part>, NoMemory>
+    ensures { IfOk result (λ ps. ps.items ≡ Part.ToLink link (LinkAct.Ends end) ∷ []) }
 {
-    let mut parts = VecDeque::new(alloc);
-    for arrival in found {
-        parts.push_back(Part::ToLink {
-            link,
-            act: LinkAct::Comes(arrival),
-        })?;
+    to_link(alloc, link, LinkAct::Ends(end))
+}
+
+/// Those who wait for the address are served where its link has become ready.
+fn welcome(
+    base: &mut Base,
+    link: u64,
+    arrival: &Arrival,
+    notices: &mut Vec<Notice>,
+) -> Result<(), NoMemory>
+    ensures notices { OnOk result (notices.new.items ≡ notices.old.items ++ served_by link (change_in arrival.now) (base_of base.old).waiting) }
+    ensures turned { OnOk result (base_of base.new ≡ base_turned link (change_in arrival.now) (base_of base.old)) }
+{
+    match arrival {
+        Arrival::Readied => base.ready(link, notices),
+        Arrival::Nothing
+        | Arrival::Settles
+        | Arrival::Gives { .. }
+        | Arrival::Passes
+        | Arrival::Bad(_) => Ok(()),
     }
-    Ok(parts)
+}
+
+/// Behind a frame the next one is read.
+fn read_on(link: u64, arrival: &Arrival, tasks: &mut Tasks) -> Result<(), NoMemory>
+    ensures { OnOk result (agenda_of tasks.new ≡ record (agenda_of tasks.old) { parts = reads_on link arrival.now ++ tasks.old.parts.items }) }
+{
+    match arrival {
+        Arrival::Nothing | Arrival::Bad(_) => Ok(()),
+        Arrival::Readied | Arrival::Settles | Arrival::Gives { .. } | Arrival::Passes => {
+            tasks.bring(Part::ToLink {
+                link,
+                act: LinkAct::Reads,
+            })
+        }
+    }
 }
 
 fn tell(who: Who, outcome: Outcome, tasks: &mut Tasks) -> Result<(), NoMemory>
@@ -413,52 +553,45 @@ fn make(
     }
 }
 
-/// What one who asks for a request is told at once.
-fn told_at(admission: Admission) -> Outcome
-    ensures { result ≡ told_at admission }
+/// A Build, unless it is refused.
+fn builds_if(is_allowed: bool, outbound: usize) -> Procedure
+    ensures { result ≡ unless_refused is_allowed (builds_with outbound) }
 {
-    match admission {
-        Admission::Queued => Outcome::Queued,
-        Admission::Disconnected => Outcome::Disconnected,
-        Admission::Exhausted => Outcome::Exhausted,
-        Admission::Unencodable => Outcome::Unencodable,
+    if !is_allowed {
+        Procedure::Refuse(Refusal::Shutdown)
+    } else if outbound == 0 {
+        Procedure::Refuse(Refusal::NoOutbound)
+    } else {
+        Procedure::Build
     }
 }
 
-/// The procedure of a call.
-fn procedure_for(alloc: Global, is_built: bool, asking: Asking) -> Result<Procedure, NoMemory>
-    ensures { IfOk result (λ p. p ≡ procedure_for is_built asking) }
+/// A Stop, unless it is refused.
+fn stops_if(is_allowed: bool) -> Procedure
+    ensures { result ≡ unless_refused is_allowed Procedure.Stop }
 {
-    match asking.into_inner() {
-        Call::Build => Ok(Procedure::Build),
-        Call::Topics { namespace, mode } => ask_for(
-            alloc,
-            is_built,
-            Place::Base,
-            Question::Topics { namespace, mode },
-        ),
-        Call::Raw { link, call } => ask_for(
-            alloc,
-            is_built,
-            Place::Link(link),
-            Question::Raw(call),
-        ),
+    if is_allowed {
+        Procedure::Stop
+    } else {
+        Procedure::Refuse(Refusal::Shutdown)
     }
 }
 
 fn ask_for(
     alloc: Global,
-    is_built: bool,
+    is_allowed: bool,
     place: Place,
-    question: Question,
+    call: RawCall,
+    says: Says,
 ) -> Result<Procedure, NoMemory>
-    ensures { IfOk result (λ p. p ≡ (if is_built then Procedure.Ask place (request_of question) else Procedure.Refuse)) }
+    ensures { IfOk result (λ p. p ≡ unless_refused is_allowed (Procedure.Ask place (words_of call) says)) }
 {
-    if !is_built {
-        return Ok(Procedure::Refuse);
+    if !is_allowed {
+        return Ok(Procedure::Refuse(Refusal::Shutdown));
     }
     Ok(Procedure::Ask {
         place,
-        request: Request::new(alloc, question)?,
+        request: Request::new(alloc, call)?,
+        says,
     })
 }

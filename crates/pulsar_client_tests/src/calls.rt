@@ -2,7 +2,7 @@
 
 use pulsar_client::effect::Effect;
 use pulsar_client::event::{Call, Event};
-use pulsar_client::options::ClientOptions;
+use pulsar_client::options::{ClientOptions, ConnectionRetryOptions, OperationRetryOptions};
 use pulsar_client::pulsar::Pulsar;
 use pulsar_wire::{ConnectionError, Error, NoMemory};
 use std::alloc::Global;
@@ -14,6 +14,11 @@ const REPLY: &[u8] = b"\x00\x00\x00\x0e\x00\x00\x00\x0a\x08\x21\x8a\x02\x05\x08\
 fn options(alloc: Global, url: &str) -> Result<ClientOptions, NoMemory> {
     Ok(ClientOptions {
         url: String::from_str(alloc, url)?,
+        auth: None,
+        connection_retry: ConnectionRetryOptions::default(),
+        operation_retry: OperationRetryOptions::default(),
+        outbound_channel_size: 100,
+        seed: 0,
         now: 0,
         first_number: 0,
     })

@@ -1,4 +1,1 @@
-pub mod Words
 pub mod Yields
-pub mod Pendings
-pub mod Streams

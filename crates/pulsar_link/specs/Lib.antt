@@ -1,10 +1,6 @@
-pub mod Failures
-pub mod FailureCode
 pub mod RawCall
+pub mod Request
 pub mod Items
 pub mod Messages
 pub mod Refusals
-pub mod Request
-pub mod Link
-pub mod Waiting
 pub mod Held

@@ -1,20 +1,19 @@
-//! What owns memory on its way to a link and from it. It is boxed, so that what carries it is small. Contracts see it by its
+//! What owns memory on its way to a connection and from it. It is boxed, so that what carries it is small. Contracts see it by its
 //! content.
 
 ghost use Rattle.std.specs.Prelude.{◌≡◌, ◌++◌, ℕ, List, IfOk, OnOk, map, string_bytes};
 ghost use Rattle.pulsar_frame.specs.Shown.{message_values};
-ghost use Rattle.pulsar_link.specs.Messages.{Reply, is_connected, is_number, read};
-ghost use Rattle.pulsar_link.specs.Failures.{fault};
+ghost use Rattle.pulsar_link.specs.Messages.{Reply, is_number, read};
+ghost use Rattle.pulsar_session.specs.Failures.{fault};
 ghost use Rattle.pulsar_link.specs.Refusals.{refused};
-ghost use Rattle.pulsar_link.specs.Request.{request_of};
+ghost use Rattle.pulsar_link.specs.RawCall.{words_of};
+ghost use Rattle.pulsar_link.specs.Request.{closed_consumer, request_number, subscribed};
 ghost use Rattle.pulsar_link.specs.Held.{item_of};
 
 use crate::items::{Unread, give_with};
 use crate::raw_call::RawCall;
 use crate::refusal::{refused, unexpected};
 use pulsar_frame::message::Message;
-use pulsar_wire::bodies;
-use pulsar_wire::commands::topics::Mode;
 use pulsar_wire::error::{ConnectionError, NoMemory};
 use pulsar_wire::key::RequestKey;
 use std::alloc::Global;
@@ -57,49 +56,69 @@ impl Text {
     }
 }
 
-/// What is asked of a link.
+/// A consumer that is made: its number, and the name of its topic.
 #[derive(Drop)]
-pub enum Question {
-    Topics { namespace: String, mode: Mode },
-    Raw(RawCall),
+pub struct Subscribed {
+    pub consumer: u64,
+    pub topic: Text,
 }
 
-/// The same in a box.
+/// What is asked of a connection, in a box.
 #[derive(Drop)]
 pub struct Request {
-    question: Box<Question>,
+    call: Box<RawCall>,
 }
 
 impl Model for Request {
-    ghost use Rattle.pulsar_link.specs.Request as meaning;
-    ghost use Rattle.pulsar_link.specs.Failures.{fault};
-    ghost use Rattle.pulsar_link.specs.Refusals.{refused};
-    ghost use Rattle.pulsar_link.specs.Request.{request_of};
+    ghost use Rattle.pulsar_messages.specs.Words.{Words};
+    ghost use Rattle.pulsar_link.specs.RawCall.{words_of};
 
-    ghost Value = { meaning.Request };
+    ghost Value = { Words };
 
-    ghost view = { λ r. request_of r.question.value };
+    ghost view = { λ r. words_of r.call.value };
 }
 
 impl Request {
-    pub fn new(alloc: Global, question: Question) -> Result<Request, NoMemory>
-        ensures { IfOk result (λ r. r ≡ request_of question) }
+    pub fn new(alloc: Global, call: RawCall) -> Result<Request, NoMemory>
+        ensures { IfOk result (λ r. r ≡ words_of call) }
     {
-        let question = Box::new(alloc, question)?;
-        Ok(Request { question })
+        let call = Box::new(alloc, call)?;
+        Ok(Request { call })
     }
 
-    pub fn question(&self) -> &Question
-        ensures { request_of result.now ≡ self.now }
+    /// The number of its body.
+    pub fn number(&self) -> u32
+        ensures { result ≡ request_number self.now }
     {
-        &self.question
+        self.call.number()
     }
 
-    pub fn into_inner(self) -> Question
-        ensures { request_of result ≡ self }
+    /// The number of the consumer that it closes, where it closes one.
+    pub fn closed_consumer(&self) -> Option<u64>
+        ensures { result ≡ closed_consumer self.now }
     {
-        let Request { question } = self;
-        Box::into_inner(question)
+        self.call.closed_consumer()
+    }
+
+    /// The consumer that its success makes, where it makes one.
+    pub fn subscribed(&self) -> Result<Option<Subscribed>, NoMemory>
+        ensures { IfOk result (λ s. s ≡ subscribed self.now) }
+    {
+        self.call.subscribed()
+    }
+
+    /// A request with the same words.
+    pub fn copy(&self, alloc: Global) -> Result<Request, NoMemory>
+        ensures { IfOk result (λ r. r ≡ self.now) }
+    {
+        Request::new(alloc, self.call.copy()?)
+    }
+
+    pub fn into_inner(self) -> RawCall
+        ensures { words_of result ≡ self }
+    {
+        let Request { call } = self;
+        Box::into_inner(call)
     }
 }
 
@@ -112,7 +131,7 @@ pub struct Received {
 impl Model for Received {
     ghost use Rattle.pulsar_frame.specs.Shown.{message_values};
     ghost use Rattle.pulsar_link.specs.Messages.{Reply, read};
-    ghost use Rattle.pulsar_link.specs.FailureCode.{failure_code};
+    ghost use Rattle.pulsar_session.specs.FailureCode.{failure_code};
     ghost use Rattle.std.specs.Coded.{codes};
 
     ghost Value = { Reply };
@@ -134,13 +153,6 @@ impl Received {
         ensures { result ≡ self.now.key }
     {
         self.message.request_key()
-    }
-
-    /// The broker says `connected`.
-    pub fn is_connected(&self) -> bool
-        ensures { result ≡ is_connected self.now }
-    {
-        self.is(bodies::CONNECTED)
     }
 
     /// Its body has this number.

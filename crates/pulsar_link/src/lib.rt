@@ -1,15 +1,11 @@
-//! One link of a client: what comes to it, what is asked of it, and what it makes of both.
+//! What a client asks on a connection, and what it reads in the messages of the broker.
 #![tactic(auto)]
 
-pub mod act;
+pub mod ask;
 pub mod content;
-pub mod given;
 pub mod items;
-pub mod link;
-pub mod messages;
 pub mod raw_call;
 pub mod refusal;
-pub mod request;
-pub mod waiting;
 
-pub use crate::raw_call::{ProducerMessage, RawCall};
+pub use crate::raw_call::RawCall;
+pub use pulsar_session::{Authentication, ConsumerOptions, ProducerMessage, ProducerOptions};

@@ -1,43 +1,25 @@
 //! What a user asks of one connection.
 
-ghost use Rattle.std.specs.Prelude.{◌≡◌, IfOk, map};
-ghost use Rattle.pulsar_link.specs.RawCall.{id_of, outgoing, property, silent, words};
+ghost use Rattle.std.specs.Prelude.{◌≡◌, IfOk, string_bytes};
+ghost use Rattle.std.specs.Option.{option_map};
+ghost use Rattle.pulsar_messages.specs.Content.{consumer_options_values, producer_message_values, producer_options_values};
+ghost use Rattle.pulsar_messages.specs.Words.{CreateProducer, Send, Subscribe};
+ghost use Rattle.pulsar_link.specs.RawCall.{words_of};
+ghost use Rattle.pulsar_link.specs.Request.{closed_consumer, request_number, subscribed};
 
+use crate::content::{Subscribed, Text};
+use pulsar_session::{Authentication, ConsumerOptions, ProducerMessage, ProducerOptions};
+use pulsar_wire::bodies;
 use pulsar_wire::commands::enumerations::SubType;
 use pulsar_wire::commands::ids::MessageIdData;
-use pulsar_wire::encoding::copying::{copy_optional, copy_values};
+use pulsar_wire::commands::topics::Mode;
+use pulsar_wire::encoding::copying::{copy_message, copy_messages, copy_optional};
 use pulsar_wire::error::NoMemory;
-use std::alloc::Global;
-use std::collections::BTreeMap;
-
-/// What a producer sends.
-#[derive(Debug, Drop)]
-pub struct ProducerMessage {
-    pub payload: Vec<u8>,
-    pub properties: BTreeMap<String, String>,
-    /// Messages of one key go to one partition.
-    pub partition_key: Option<String>,
-    /// Messages of one key go to one consumer of a key-shared subscription.
-    pub ordering_key: Option<Vec<u8>>,
-    /// The clusters that it is replicated to.
-    pub replicate_to: Vec<String>,
-    /// In milliseconds since 1970, as the application tells.
-    pub event_time: Option<u64>,
-    pub schema_version: Option<Vec<u8>>,
-    /// When a consumer may have it, in milliseconds since 1970.
-    pub deliver_at_time: Option<i64>,
-}
 
 /// What a user asks of one connection. Producers and consumers have the numbers that the user gives them.
 #[derive(Debug, Drop)]
 pub enum RawCall {
-    /// Makes a producer on a topic. The broker names it where no name is given.
-    CreateProducer {
-        topic: String,
-        producer_id: u64,
-        name: Option<String>,
-    },
-    /// Sends a message. `block` says that it may wait for room.
+    /// Sends a message of a producer. `block` says that it may wait for room.
     Send {
         producer_id: u64,
         name: String,
@@ -45,6 +27,38 @@ pub enum RawCall {
         message: ProducerMessage,
         block: bool,
     },
+    /// Asks for a pong.
+    SendPing,
+    /// Asks which broker serves a topic.
+    LookupTopic {
+        topic: String,
+        authoritative: bool,
+    },
+    /// Asks how many partitions a topic has.
+    LookupPartitionedTopic {
+        topic: String,
+    },
+    /// Asks how a consumer fares.
+    GetConsumerStats {
+        consumer_id: u64,
+    },
+    /// Asks for the last message of a topic.
+    GetLastMessageId {
+        consumer_id: u64,
+    },
+    /// Makes a producer on a topic. The broker names it where no name is given.
+    CreateProducer {
+        topic: String,
+        producer_id: u64,
+        name: Option<String>,
+        options: ProducerOptions,
+    },
+    /// Asks for the topics of a namespace.
+    GetTopicsOfNamespace {
+        namespace: String,
+        mode: Mode,
+    },
+    /// Ends a producer.
     CloseProducer {
         producer_id: u64,
     },
@@ -54,85 +68,92 @@ pub enum RawCall {
         subscription: String,
         sub_type: SubType,
         consumer_id: u64,
+        name: Option<String>,
+        options: ConsumerOptions,
     },
     /// Allows the broker to deliver as many messages more.
     SendFlow {
         consumer_id: u64,
         permits: u32,
     },
-    /// Acknowledges these messages, or all up to the one.
+    /// Acknowledges these messages, or all up to each of them.
     SendAck {
         consumer_id: u64,
         ids: Vec<MessageIdData>,
         cumulative: bool,
     },
+    /// Asks for these messages again.
+    SendRedeliver {
+        consumer_id: u64,
+        ids: Vec<MessageIdData>,
+    },
+    /// Ends a consumer.
     CloseConsumer {
         consumer_id: u64,
     },
-}
-
-impl ProducerMessage {
-    /// A message that says nothing.
-    pub fn new(alloc: Global) -> ProducerMessage
-        ensures { outgoing result ≡ silent }
-    {
-        ProducerMessage {
-            payload: Vec::new(alloc),
-            properties: BTreeMap::new(alloc),
-            partition_key: None,
-            ordering_key: None,
-            replicate_to: Vec::new(alloc),
-            event_time: None,
-            schema_version: None,
-            deliver_at_time: None,
-        }
-    }
-
-    /// A message with the same content.
-    pub fn copy(&self) -> Result<ProducerMessage, NoMemory>
-        ensures { IfOk result (λ m. outgoing m ≡ outgoing self.now) }
-    {
-        Ok(ProducerMessage {
-            payload: self.payload.clone()?,
-            properties: copy_properties(&self.properties)?,
-            partition_key: copy_optional(&self.partition_key)?,
-            ordering_key: copy_optional(&self.ordering_key)?,
-            replicate_to: copy_values(&self.replicate_to)?,
-            event_time: self.event_time,
-            schema_version: copy_optional(&self.schema_version)?,
-            deliver_at_time: self.deliver_at_time,
-        })
-    }
+    /// Moves a subscription to a message, or to a moment.
+    Seek {
+        consumer_id: u64,
+        id: Option<MessageIdData>,
+        time: Option<u64>,
+    },
+    /// Ends a subscription.
+    Unsubscribe {
+        consumer_id: u64,
+    },
+    /// Answers a challenge of the broker.
+    AuthChallenge {
+        auth: Authentication,
+    },
+    /// Asks for a schema of a topic, the newest where no version is given.
+    GetSchema {
+        topic: String,
+        version: Option<Vec<u8>>,
+    },
 }
 
 impl RawCall {
     /// A call with the same content.
     pub fn copy(&self) -> Result<RawCall, NoMemory>
-        ensures { IfOk result (λ c. words c ≡ words self.now) }
+        ensures { IfOk result (λ c. words_of c ≡ words_of self.now) }
     {
         match self {
-            RawCall::CreateProducer {
-                topic,
-                producer_id,
-                name,
-            } => Ok(RawCall::CreateProducer {
-                topic: topic.clone()?,
-                producer_id: *producer_id,
-                name: copy_optional(name)?,
-            }),
             RawCall::Send {
                 producer_id,
                 name,
                 sequence_id,
                 message,
                 block,
-            } => Ok(RawCall::Send {
-                producer_id: *producer_id,
-                name: name.clone()?,
-                sequence_id: *sequence_id,
-                message: message.copy()?,
-                block: *block,
+            } => copy_send(*producer_id, name, *sequence_id, message, *block),
+            RawCall::SendPing => Ok(RawCall::SendPing),
+            RawCall::LookupTopic {
+                topic,
+                authoritative,
+            } => Ok(RawCall::LookupTopic {
+                topic: topic.clone()?,
+                authoritative: *authoritative,
             }),
+            RawCall::LookupPartitionedTopic { topic } => Ok(RawCall::LookupPartitionedTopic {
+                topic: topic.clone()?,
+            }),
+            RawCall::GetConsumerStats { consumer_id } => Ok(RawCall::GetConsumerStats {
+                consumer_id: *consumer_id,
+            }),
+            RawCall::GetLastMessageId { consumer_id } => Ok(RawCall::GetLastMessageId {
+                consumer_id: *consumer_id,
+            }),
+            RawCall::CreateProducer {
+                topic,
+                producer_id,
+                name,
+                options,
+            } => copy_create_producer(topic, *producer_id, name, options),
+            RawCall::GetTopicsOfNamespace { namespace, mode } => Ok(
+                RawCall::GetTopicsOfNamespace {
+                    namespace: namespace.clone()?,
+                    mode: *mode,
+                },
+            ),
             RawCall::CloseProducer { producer_id } => Ok(RawCall::CloseProducer {
                 producer_id: *producer_id,
             }),
@@ -141,12 +162,9 @@ impl RawCall {
                 subscription,
                 sub_type,
                 consumer_id,
-            } => Ok(RawCall::Subscribe {
-                topic: topic.clone()?,
-                subscription: subscription.clone()?,
-                sub_type: *sub_type,
-                consumer_id: *consumer_id,
-            }),
+                name,
+                options,
+            } => copy_subscribe(topic, subscription, *sub_type, *consumer_id, name, options),
             RawCall::SendFlow {
                 consumer_id,
                 permits,
@@ -160,38 +178,140 @@ impl RawCall {
                 cumulative,
             } => Ok(RawCall::SendAck {
                 consumer_id: *consumer_id,
-                ids: copy_ids(ids)?,
+                ids: copy_messages(ids)?,
                 cumulative: *cumulative,
+            }),
+            RawCall::SendRedeliver { consumer_id, ids } => Ok(RawCall::SendRedeliver {
+                consumer_id: *consumer_id,
+                ids: copy_messages(ids)?,
             }),
             RawCall::CloseConsumer { consumer_id } => Ok(RawCall::CloseConsumer {
                 consumer_id: *consumer_id,
             }),
+            RawCall::Seek {
+                consumer_id,
+                id,
+                time,
+            } => Ok(RawCall::Seek {
+                consumer_id: *consumer_id,
+                id: copy_message(id)?,
+                time: *time,
+            }),
+            RawCall::Unsubscribe { consumer_id } => Ok(RawCall::Unsubscribe {
+                consumer_id: *consumer_id,
+            }),
+            RawCall::AuthChallenge { auth } => Ok(RawCall::AuthChallenge { auth: auth.copy()? }),
+            RawCall::GetSchema { topic, version } => Ok(RawCall::GetSchema {
+                topic: topic.clone()?,
+                version: copy_optional(version)?,
+            }),
+        }
+    }
+
+    /// The number of the body that is asked.
+    pub fn number(&self) -> u32
+        ensures { result ≡ request_number (words_of self.now) }
+    {
+        match self {
+            RawCall::Send { .. } => bodies::SEND,
+            RawCall::SendPing => bodies::PING,
+            RawCall::LookupTopic { .. } => bodies::LOOKUP_TOPIC,
+            RawCall::LookupPartitionedTopic { .. } => bodies::PARTITION_METADATA,
+            RawCall::GetConsumerStats { .. } => bodies::CONSUMER_STATS,
+            RawCall::GetLastMessageId { .. } => bodies::GET_LAST_MESSAGE_ID,
+            RawCall::CreateProducer { .. } => bodies::PRODUCER,
+            RawCall::GetTopicsOfNamespace { .. } => bodies::GET_TOPICS_OF_NAMESPACE,
+            RawCall::CloseProducer { .. } => bodies::CLOSE_PRODUCER,
+            RawCall::Subscribe { .. } => bodies::SUBSCRIBE,
+            RawCall::SendFlow { .. } => bodies::FLOW,
+            RawCall::SendAck { .. } => bodies::ACK,
+            RawCall::SendRedeliver { .. } => bodies::REDELIVER_UNACKNOWLEDGED_MESSAGES,
+            RawCall::CloseConsumer { .. } => bodies::CLOSE_CONSUMER,
+            RawCall::Seek { .. } => bodies::SEEK,
+            RawCall::Unsubscribe { .. } => bodies::UNSUBSCRIBE,
+            RawCall::AuthChallenge { .. } => bodies::AUTH_RESPONSE,
+            RawCall::GetSchema { .. } => bodies::GET_SCHEMA,
+        }
+    }
+
+    /// The number of the consumer that is closed, where one is.
+    pub fn closed_consumer(&self) -> Option<u64>
+        ensures { result ≡ closed_consumer (words_of self.now) }
+    {
+        match self {
+            RawCall::CloseConsumer { consumer_id } => Some(*consumer_id),
+            _ => None,
+        }
+    }
+
+    /// The consumer that its success makes, where it makes one.
+    pub fn subscribed(&self) -> Result<Option<Subscribed>, NoMemory>
+        ensures { IfOk result (λ s. s ≡ subscribed (words_of self.now)) }
+    {
+        match self {
+            RawCall::Subscribe {
+                topic,
+                consumer_id,
+                ..
+            } => Ok(Some(Subscribed {
+                consumer: *consumer_id,
+                topic: Text::new(topic.clone()?),
+            })),
+            _ => Ok(None),
         }
     }
 }
 
-fn copy_ids(ids: &Vec<MessageIdData>) -> Result<Vec<MessageIdData>, NoMemory>
-    ensures { IfOk result (λ copies. map id_of copies.items ≡ map id_of ids.now.items) }
+fn copy_send(
+    producer_id: u64,
+    name: &String,
+    sequence_id: u64,
+    message: &ProducerMessage,
+    block: bool,
+) -> Result<RawCall, NoMemory>
+    ensures { IfOk result (λ c. words_of c ≡ Send producer_id (string_bytes name.now) sequence_id (producer_message_values message.now) block) }
 {
-    let mut copies = Vec::with_capacity(*ids.allocator(), ids.len())?;
-    for id in ids {
-        copies.push(copy_id(id)?)?;
-    }
-    Ok(copies)
+    Ok(RawCall::Send {
+        producer_id,
+        name: name.clone()?,
+        sequence_id,
+        message: message.copy()?,
+        block,
+    })
 }
 
-#[tactic(auto, unfolding(pulsar_wire::specs::Views::message_id_values))]
-fn copy_id(id: &MessageIdData) -> Result<MessageIdData, NoMemory>
-    ensures { IfOk result (λ m. id_of m ≡ id_of id.now) }
+fn copy_create_producer(
+    topic: &String,
+    producer_id: u64,
+    name: &Option<String>,
+    options: &ProducerOptions,
+) -> Result<RawCall, NoMemory>
+    ensures { IfOk result (λ c. words_of c ≡ CreateProducer (string_bytes topic.now) producer_id (option_map string_bytes name.now) (producer_options_values options.now)) }
 {
-    Ok(id.copy()?)
+    Ok(RawCall::CreateProducer {
+        topic: topic.clone()?,
+        producer_id,
+        name: copy_optional(name)?,
+        options: options.copy()?,
+    })
 }
 
-#[tactic(auto, using(crate::proofs::Words::properties_copied))]
-fn copy_properties(
-    properties: &BTreeMap<String, String>,
-) -> Result<BTreeMap<String, String>, NoMemory>
-    ensures { IfOk result (λ copies. map property copies.entries ≡ map property properties.now.entries) }
+fn copy_subscribe(
+    topic: &String,
+    subscription: &String,
+    sub_type: SubType,
+    consumer_id: u64,
+    name: &Option<String>,
+    options: &ConsumerOptions,
+) -> Result<RawCall, NoMemory>
+    ensures { IfOk result (λ c. words_of c ≡ Subscribe (string_bytes topic.now) (string_bytes subscription.now) sub_type consumer_id (option_map string_bytes name.now) (consumer_options_values options.now)) }
 {
-    Ok(properties.clone()?)
+    Ok(RawCall::Subscribe {
+        topic: topic.clone()?,
+        subscription: subscription.clone()?,
+        sub_type,
+        consumer_id,
+        name: copy_optional(name)?,
+        options: options.copy()?,
+    })
 }

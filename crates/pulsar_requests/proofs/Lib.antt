@@ -1,3 +1,4 @@
 pub mod Awaiting
 pub mod Pendings
 pub mod Timed
+pub mod Soonest

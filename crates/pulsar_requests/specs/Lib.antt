@@ -1,3 +1,4 @@
 pub mod Awaited
 pub mod Waits
 pub mod Kept
+pub mod Soonest

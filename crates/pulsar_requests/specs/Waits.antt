@@ -1,5 +1,5 @@
 -- The requests of a connection that wait for an answer, and when they are due.  (Pulsar binary protocol, Simple commands)
-use Rattle.std.specs.Prelude.{ℕ, ◌+◌, nat_lt, nat_le, ◌==◌, ◌&&◌, not, Bool, false, if◌then◌else◌, List, [], ◌∷◌, ◌++◌, map, filter, Option, Some, None}
+use Rattle.std.specs.Prelude.{ℕ, ◌+◌, nat_lt, nat_le, ◌==◌, ◌&&◌, not, Bool, true, false, if◌then◌else◌, List, [], ◌∷◌, ◌++◌, map, filter, Option, Some, None}
 use Rattle.std.specs.List.{list_any}
 use Rattle.std.specs.Ordering.{nat_cmp}
 use Rattle.std.specs.BTreeMap.{is_at}
@@ -45,6 +45,10 @@ waits_for (Some c) w = request_of w.queued w c ∷ []
 
 abbrev pub with_next : Option Claim → Waits → Waits
 with_next c w = record w { queued = w.queued + 1; waiting = w.waiting ++ waits_for c w }
+
+abbrev pub is_empty : List Pending → Bool
+is_empty [] = true
+is_empty (p ∷ ps) = false
 
 -- the requests that wait for one thing, and the others
 abbrev pub found : Option Awaited → List Pending → List Pending

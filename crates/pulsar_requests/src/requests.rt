@@ -7,8 +7,9 @@ ghost use Rattle.std.specs.BTreeMap as maps;
 ghost use Rattle.std.specs.BTreeSet.{contains, insert_key};
 ghost use Rattle.pulsar_wire.specs.Sink.{capped};
 ghost use Rattle.pulsar_requests.specs.Awaited.{is_same};
-ghost use Rattle.pulsar_requests.specs.Kept.{AreTimed, AreUntimed, IsTimedToo, Taken, is_timed, places_of};
-ghost use Rattle.pulsar_requests.specs.Waits.{Waits, answered_by, any_due, ended, found, is_excused, is_listed, is_overdue, later_of, named, places, told, with_next, without};
+ghost use Rattle.pulsar_requests.specs.Kept.{AreTimed, AreUntimed, IsTimedToo, Taken, excuses, is_timed, places_of};
+ghost use Rattle.pulsar_requests.specs.Soonest.{due_at};
+ghost use Rattle.pulsar_requests.specs.Waits.{Waits, answered_by, any_due, ended, found, is_empty, is_excused, is_listed, is_overdue, later_of, named, places, told, with_next, without};
 
 use crate::awaited::{Awaited, Claim};
 use pulsar_wire::error::NoMemory;
@@ -292,6 +293,24 @@ impl Requests {
         Ok((places, left))
     }
 
+    /// Nobody waits.
+    pub fn is_empty(&self) -> bool
+        ensures { result ≡ is_empty self.now.waiting }
+    {
+        self.waiters.is_empty()
+    }
+
+    /// The places of those that wait.
+    pub fn places(&self) -> Result<Vec<u64>, NoMemory>
+        ensures { IfOk result (λ ps. ps.items ≡ places self.now.waiting) }
+    {
+        let mut places = Vec::new(self.alloc);
+        for (place, _) in &self.waiters {
+            places.push(*place)?;
+        }
+        Ok(places)
+    }
+
     /// A request is due. The first that is not excused decides, since no deadline is before an earlier one.
     pub fn any_due(&self, now: u64) -> bool
         ensures { result ≡ any_due now self.now }
@@ -302,6 +321,19 @@ impl Requests {
                 None => false,
             },
             None => false,
+        }
+    }
+
+    /// The first moment at which one of those that wait is due.
+    pub fn due_at(&self) -> Option<u64>
+        ensures { result ≡ due_at self.now }
+    {
+        match self.timed.first() {
+            Some(place) => match self.waiters.get(place) {
+                Some(waiter) => Some(waiter.deadline),
+                None => None,
+            },
+            None => None,
         }
     }
 

@@ -1,7 +1,7 @@
 -- What is left to do has arisen in this step.
-use Rattle.std.proofs.Common.{◌≡◌, ◌⊎◌, inl, inr, ◌∙◌, sym, ap, subst, List, [], ◌∷◌, ◌++◌, refl, map, Bool, true, false, cond, Some}
+use Rattle.std.proofs.Common.{◌≡◌, inl, inr, subst, List, [], ◌∷◌, ◌++◌, refl, map, Bool, true, false, cond, Some}
 use Rattle.pulsar_run.specs.Order.{arranged, put, put_all}
-use Rattle.pulsar_run.specs.Run.{Entry, Begins, Then, IsRun, Rules, agenda, first_of, rest_of, view}
+use Rattle.pulsar_run.specs.Run.{Entry, Begins, Then, Rules, agenda, first_of, rest_of, view}
 use Rattle.pulsar_run.specs.Laws.{ActsArise, Arises, In, InOne, InThisStep}
 
 -- each of a list is so
@@ -109,8 +109,11 @@ module _ {O H V A N P E : Type 0} (r : Rules O H V A N P E) where
         behind_is =
             every_append (λ n. Q (r.told n)) left.behind (map (arranged r.below) (r.causes (view r o log) a))
             (every_more (λ n. Arisen o log (r.told n)) (λ n. Q (r.told n)) left.behind (λ x p. inr p) older.behind_is)
-            (every_arranged (λ n. Q (r.told n)) r.below (r.causes (view r o log) a) (every_in Q r.told (r.causes (view r o log) a) (λ y i. inl (inr (inr i)))));
-        parts_are = each_more (λ p. Arisen o log (r.comes p)) (λ p. Q (r.comes p)) left.parts (λ x p. inr p) older.parts_are;
+            (every_arranged (λ n. Q (r.told n)) r.below (r.causes (view r o log) a) (every_in Q r.told (r.causes (view r o log) a) (λ y i. inl (inr (inr (inl i))))));
+        parts_are =
+            each_append (λ p. Q (r.comes p)) (r.further (view r o log) a) left.parts
+            (each_in Q r.comes (r.further (view r o log) a) (λ y i. inl (inr (inr (inr i)))))
+            (each_more (λ p. Arisen o log (r.comes p)) (λ p. Q (r.comes p)) left.parts (λ x p. inr p) older.parts_are);
       }
 
 pub acts_arise_lem : (O H V A N P E : Type 0) → ActsArise O H V A N P E

@@ -51,12 +51,13 @@ InThisStep P [] = ⊥
 InThisStep P (Begins e ∷ log) = P (Begins e) log
 InThisStep P (Then a ∷ log) = P (Then a) log ⊎ InThisStep P log
 
--- an act arises from an event, as a part of it, and from an act: at once, or as the notice of one whom a cause serves
+-- an act arises from an event, as a part of it, and from an act: at once, as the notice of one whom a cause serves, or as a further part
 abbrev pub Arises : {O H V A N P E : Type 0} → Rules O H V A N P E → O → A → Entry H A → List (Entry H A) → Type 0
 Arises r o a (Begins e) older = In a (map r.comes (r.parts (view r o older) e))
 Arises r o a (Then b) older =
     In a (r.at_once (view r o older) b)
-    ⊎ (In a (map r.told (r.joins (view r o older) b)) ⊎ InOne a (map (map r.told) (r.causes (view r o older) b)))
+    ⊎ (In a (map r.told (r.joins (view r o older) b))
+    ⊎ (InOne a (map (map r.told) (r.causes (view r o older) b)) ⊎ In a (map r.comes (r.further (view r o older) b))))
 
 -- whatever is done has arisen before, in the same step
 abbrev pub ActsArise : (O H V A N P E : Type 0) → Type 0

@@ -3,12 +3,13 @@
 -- A run is a list of events and acts. An event comes from outside, and brings parts. Each part comes as an act, one after the other. An act
 -- changes what is seen, has effects, and gives rise to further acts, at once or by notices. A notice tells something to one of those who
 -- take part, and that it is told is an act again. All whom an act has something to tell together are a cause: it serves them by rank,
--- and the next cause waits until it has served them all.
+-- and the next cause waits until it has served them all. An act may bring further parts, too: they come before those that its event still
+-- brings.
 use Rattle.std.specs.Prelude.{◌≡◌, Bool, List, [], ◌∷◌, ◌++◌, Option, Some, None, drop, map}
 use Rattle.pulsar_run.specs.Order.{put_all, arranged}
 
 -- The rules of a run. They look at the options and at what is seen, and at nothing else. What arises from an act comes at once; or it is
--- told to some who join those whom the present cause still serves, or to those whom each new cause serves.
+-- told to some who join those whom the present cause still serves, or to those whom each new cause serves; or it comes as a further part.
 --     O options, H events, V what is seen, A acts, N notices, P parts of events, E effects
 pub record Rules (O H V A N P E : Type 0) : Type 0 where
   -- what is seen at first, as an event begins, and after an act
@@ -21,6 +22,7 @@ pub record Rules (O H V A N P E : Type 0) : Type 0 where
   pub at_once : V → A → List A
   pub joins : V → A → List N
   pub causes : V → A → List (List N)
+  pub further : V → A → List P
   pub effects : V → A → List E
   -- the act of a notice, and that of a part
   pub told : N → A
@@ -42,8 +44,8 @@ view r o (Then a ∷ log) = r.after a (view r o log)
 
 -- WHAT IS LEFT TO DO
 
--- What arose at once, first; then those whom the present cause still serves; then the causes that wait; then the parts that the
--- event still brings.
+-- What arose at once, first; then those whom the present cause still serves; then the causes that wait; then the parts that are
+-- still to come.
 pub record Agenda (A N P : Type 0) : Type 0 where
   pub now : List A
   pub here : List N
@@ -77,14 +79,14 @@ abbrev pub rest : {A N P : Type 0} → Agenda A N P → Agenda A N P
 rest g = rest_of g.now g.here g.behind g.parts
 
 -- What arises from an act takes its place: what comes at once, in front of all; those who join, by rank among those whom the present cause
--- still serves; and each new cause, by rank in itself, behind the causes that wait.
+-- still serves; each new cause, by rank in itself, behind the causes that wait; and further parts, in front of the parts that wait.
 abbrev pub goes_on : {O H V A N P E : Type 0} → Rules O H V A N P E → V → A → Agenda A N P → Agenda A N P
 goes_on r v a g =
     record {
       now = r.at_once v a ++ g.now;
       here = put_all r.below (r.joins v a) g.here;
       behind = g.behind ++ map (arranged r.below) (r.causes v a);
-      parts = g.parts;
+      parts = r.further v a ++ g.parts;
     }
 
 -- what is left to do after a log

@@ -17,3 +17,4 @@ pub mod Steps
 pub mod Still
 pub mod Streams
 pub mod Told
+pub mod Soonest

@@ -6,3 +6,4 @@ pub mod Link
 pub mod Greeting
 pub mod Kept
 pub mod Laws
+pub mod Soonest

@@ -1,19 +1,21 @@
 //! One connection, as its users see it.
 
-ghost use Rattle.std.specs.Prelude.{◌≡◌, Some, None, false, IfOk, OnOk, map, string_bytes, option_copied};
+ghost use Rattle.std.specs.Prelude.{◌≡◌, ℕ, Some, None, false, IfOk, OnOk, length, map, string_bytes, option_copied};
 ghost use Rattle.std.specs.List.{flat_map};
 ghost use Rattle.std.specs.Option.{is_none, option_map};
 ghost use Rattle.pulsar_wire.specs.Views.{message_id_values};
 ghost use Rattle.pulsar_messages.specs.Content.{authentication_values, consumer_options_values, producer_message_values, producer_options_values};
 ghost use Rattle.pulsar_messages.specs.Words.{AuthChallenge, CloseConsumer, CloseConsumerUnawaited, CloseProducer, CreateProducer, GetConsumerStats, GetLastMessageId, GetSchema, GetTopicsOfNamespace, LookupPartitionedTopic, LookupTopic, Seek, Send, SendAck, SendFlow, SendPing, SendRedeliver, Subscribe, Unsubscribe};
-ghost use Rattle.pulsar_requests.specs.Waits.{is_overdue};
+ghost use Rattle.pulsar_requests.specs.Soonest.{has_come};
+ghost use Rattle.pulsar_requests.specs.Waits.{is_empty, is_overdue};
 ghost use Rattle.pulsar_session.specs.Failures.{fault};
 ghost use Rattle.pulsar_session.specs.Kept.{OnAnswer, arrives, came_of};
 ghost use Rattle.pulsar_session.specs.Link.{Asks, Closes, Drains, Feeds, Opens, Takes, after, asked, came, due, ends, frame_at, fresh, written};
+ghost use Rattle.pulsar_session.specs.Soonest.{due_at};
 
 use crate::frames::{Arrival, command_frame, message_frame};
 use crate::link::{Link, Setup};
-use crate::states::{Arrived, Asked};
+use crate::states::{Arrived, Asked, Stage};
 use pulsar_messages::{
     Authentication, ConsumerOptions, ProducerMessage, ProducerOptions, messages as builders,
 };
@@ -184,6 +186,42 @@ impl Connection {
         ensures { result ≡ due now self.now }
     {
         self.link.due(now)
+    }
+
+    /// The first moment at which it is due as it stands now, if there is one.
+    pub fn due_at(&self) -> Option<u64>
+        ensures moment { result ≡ due_at self.now }
+        ensures due { (now : ℕ) → due now self.now ≡ has_come now result }
+    {
+        self.link.due_at()
+    }
+
+    /// Where it stands.
+    pub fn stage(&self) -> Stage
+        ensures { result ≡ self.now.stage }
+    {
+        self.link.stage
+    }
+
+    /// The places of the requests that wait.
+    pub fn waiting(&self) -> Result<Vec<u64>, NoMemory>
+        ensures { IfOk result (λ ps. ps.items ≡ ends self.now) }
+    {
+        self.link.waiting()
+    }
+
+    /// No request of it waits for an answer.
+    pub fn is_idle(&self) -> bool
+        ensures { result ≡ is_empty self.now.waits.waiting }
+    {
+        self.link.requests.is_empty()
+    }
+
+    /// How many frames stand in its line.
+    pub fn standing(&self) -> u64
+        ensures { result ≡ length self.now.line }
+    {
+        self.link.line.len() as u64
     }
 
     /// How many frames were queued.

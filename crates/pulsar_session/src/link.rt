@@ -11,6 +11,7 @@ ghost use Rattle.pulsar_session.specs.Answers.{answers};
 ghost use Rattle.pulsar_session.specs.Failures.{fault};
 ghost use Rattle.pulsar_session.specs.Kept.{OnAnswer, arrival_of, arrives, contents, setup_of, table};
 ghost use Rattle.pulsar_session.specs.Link.{answered, answered_to, asks_for, came, came_by, came_in, challenged, closes, drained, drawn, due, ends, feeds, frame_at, frame_for, fresh, greeting, greets_with, has_room, is_late, is_open, is_over, is_ready, moved_up, named_by, number_for, opens_in, place_of, put_frame, pongs, put_in, queue, reacts, received, responds, settled_by, taken_in, ticked, written};
+ghost use Rattle.pulsar_session.specs.Soonest.{due_at};
 
 use crate::frames::{Arrival, Next, awaited_by, command_frame, is, unasked, unready};
 use crate::incoming::{First, Incoming};
@@ -409,6 +410,28 @@ impl Link {
             Stage::Ready => self.requests.any_due(now),
             Stage::Over => false,
             Stage::Dialing | Stage::Handshaking => self.is_late(now),
+        }
+    }
+
+    pub fn due_at(&self) -> Option<u64>
+        ensures { result ≡ due_at (table self.now) }
+    {
+        match self.stage {
+            Stage::Ready => self.requests.due_at(),
+            Stage::Over => None,
+            Stage::Dialing | Stage::Handshaking => {
+                Some(moment(self.setup.made, self.setup.connection_timeout))
+            }
+        }
+    }
+
+    /// The places of those that wait, and would wait no longer if it ended.
+    pub fn waiting(&self) -> Result<Vec<u64>, NoMemory>
+        ensures { IfOk result (λ ps. ps.items ≡ ends (table self.now)) }
+    {
+        match self.stage {
+            Stage::Over => Ok(Vec::new(self.alloc)),
+            Stage::Dialing | Stage::Handshaking | Stage::Ready => self.requests.places(),
         }
     }
 

@@ -3,23 +3,16 @@
 ghost use Rattle.std.specs.Prelude.{◌≡◌, IfOk, map};
 ghost use Rattle.std.specs.Option.{option_map};
 ghost use Rattle.pulsar_client.specs.Content.{asked, heard};
-ghost use Rattle.pulsar_cli.specs.Grammar.{build, bytes, call, called, drain, event, failed, kind, line, lost, mode, on_link, opened, poll, set, time, topics, url, words_line};
-ghost use Rattle.pulsar_cli.specs.Shown.{line_of, setting_of};
+ghost use Rattle.pulsar_cli.specs.Grammar.{build, bytes, call, called, drain, event, failed, line, lost, on_link, opened, poll, stop, tick, topics, words_line};
+ghost use Rattle.pulsar_cli.specs.Parsed.{line_of};
 
+use crate::grammar::choice::{kind, mode};
 use crate::grammar::raw::raw_call;
+use crate::grammar::setting::{Setting, set};
 use crate::grammar::word::{hex_bytes, is, number, text, words};
 use pulsar_client::{Call, Event};
-use pulsar_wire::{IoKind, Mode, NoMemory};
+use pulsar_wire::NoMemory;
 use std::alloc::Global;
-
-/// An option of the client.
-#[derive(Drop)]
-pub enum Setting {
-    /// The URL of the service.
-    Url(String),
-    /// The time of the client's start, in milliseconds since 1970.
-    Now(u64),
-}
 
 /// What a line is.
 #[derive(Drop)]
@@ -62,39 +55,6 @@ fn words_line(alloc: Global, words: &[&[u8]]) -> Result<Line, NoMemory>
     }
 }
 
-/// What stands behind `set`.
-fn set(alloc: Global, words: &[&[u8]]) -> Result<Option<Setting>, NoMemory>
-    ensures { IfOk result (λ s. option_map setting_of s ≡ set (map (λ w. w.now) words.now)) }
-{
-    let [option, value] = words else {
-        return Ok(None);
-    };
-    if is(option, "url") {
-        url(alloc, value)
-    } else if is(option, "now") {
-        Ok(time(value))
-    } else {
-        Ok(None)
-    }
-}
-
-/// `set url TEXT`
-fn url(alloc: Global, word: &[u8]) -> Result<Option<Setting>, NoMemory>
-    ensures { IfOk result (λ s. option_map setting_of s ≡ url word.now) }
-{
-    match text(alloc, word)? {
-        Some(text) => Ok(Some(Setting::Url(text))),
-        None => Ok(None),
-    }
-}
-
-/// `set now NUMBER`
-fn time(word: &[u8]) -> Option<Setting>
-    ensures { option_map setting_of result ≡ time word.now }
-{
-    Some(Setting::Now(number(word)?))
-}
-
 /// The event of a line's words.
 fn event(alloc: Global, words: &[&[u8]]) -> Result<Option<Event>, NoMemory>
     ensures { IfOk result (λ e. option_map heard e ≡ event (map (λ w. w.now) words.now)) }
@@ -114,6 +74,8 @@ fn event(alloc: Global, words: &[&[u8]]) -> Result<Option<Event>, NoMemory>
         Ok(lost(rest))
     } else if is(word, "drain") {
         Ok(drain(rest))
+    } else if is(word, "tick") {
+        Ok(tick(rest))
     } else if is(word, "poll") {
         Ok(poll(rest))
     } else {
@@ -151,17 +113,6 @@ fn failed(words: &[&[u8]]) -> Option<Event>
     let link = number(link)?;
     let kind = kind(word)?;
     Some(Event::Failed(link, kind))
-}
-
-/// Why a connection could not be opened.
-fn kind(word: &[u8]) -> Option<IoKind>
-    ensures { result ≡ kind word.now }
-{
-    if is(word, "other") {
-        Some(IoKind::Other)
-    } else {
-        None
-    }
 }
 
 /// `lost LINK`
@@ -202,6 +153,16 @@ fn drain(words: &[&[u8]]) -> Option<Event>
     Some(Event::Drain(link, most as usize))
 }
 
+/// `tick NUMBER`
+fn tick(words: &[&[u8]]) -> Option<Event>
+    ensures { option_map heard result ≡ tick (map (λ w. w.now) words.now) }
+{
+    let [now] = words else {
+        return None;
+    };
+    Some(Event::Tick(number(now)?))
+}
+
 /// `poll TICKET`
 fn poll(words: &[&[u8]]) -> Option<Event>
     ensures { option_map heard result ≡ poll (map (λ w. w.now) words.now) }
@@ -221,6 +182,8 @@ fn call(alloc: Global, words: &[&[u8]]) -> Result<Option<Call>, NoMemory>
     };
     if is(word, "build") {
         Ok(build(rest))
+    } else if is(word, "stop") {
+        Ok(stop(rest))
     } else if is(word, "topics") {
         topics(alloc, rest)
     } else if is(word, "link") {
@@ -236,6 +199,16 @@ fn build(words: &[&[u8]]) -> Option<Call>
 {
     match words {
         [] => Some(Call::Build),
+        _ => None,
+    }
+}
+
+/// `call stop`
+fn stop(words: &[&[u8]]) -> Option<Call>
+    ensures { option_map asked result ≡ stop (map (λ w. w.now) words.now) }
+{
+    match words {
+        [] => Some(Call::Stop),
         _ => None,
     }
 }
@@ -269,19 +242,5 @@ fn on_link(alloc: Global, words: &[&[u8]]) -> Result<Option<Call>, NoMemory>
     match raw_call(alloc, rest)? {
         Some(call) => Ok(Some(Call::Raw { link, call })),
         None => Ok(None),
-    }
-}
-
-fn mode(word: &[u8]) -> Option<Mode>
-    ensures { result ≡ mode word.now }
-{
-    if is(word, "persistent") {
-        Some(Mode::Persistent)
-    } else if is(word, "non-persistent") {
-        Some(Mode::NonPersistent)
-    } else if is(word, "all") {
-        Some(Mode::All)
-    } else {
-        None
     }
 }

@@ -2,9 +2,9 @@
 
 ghost use Rattle.std.specs.Prelude.{◌≡◌, IfOk, map, string_bytes};
 ghost use Rattle.std.specs.Option.{option_map};
-ghost use Rattle.pulsar_link.specs.RawCall.{outgoing};
+ghost use Rattle.pulsar_messages.specs.Content.{producer_message_values};
 ghost use Rattle.pulsar_cli.specs.MessageWords.{all, blank, cluster, cut, delivery, event_time, message, minus, one, ordering_key, part, partition_key, payload, plus, property, schema_version, signed, with_property, with_word};
-ghost use Rattle.pulsar_cli.specs.Shown.{draft_of};
+ghost use Rattle.pulsar_cli.specs.Parsed.{draft_of};
 
 use crate::grammar::word::{find, is, number, text, word_bytes};
 use pulsar_client::ProducerMessage;
@@ -20,7 +20,7 @@ pub struct Draft {
 
 /// The message of these words.
 pub fn message(alloc: Global, words: &[&[u8]]) -> Result<Option<ProducerMessage>, NoMemory>
-    ensures { IfOk result (λ m. option_map outgoing m ≡ message (map (λ w. w.now) words.now)) }
+    ensures { IfOk result (λ m. option_map producer_message_values m ≡ message (map (λ w. w.now) words.now)) }
 {
     match all(alloc, words)? {
         Some(draft) => Ok(Some(draft.into_message())),
@@ -54,7 +54,7 @@ fn more(alloc: Global, draft: Option<Draft>, word: &[u8]) -> Result<Option<Draft
 
 impl Draft {
     fn into_message(self) -> ProducerMessage
-        ensures { outgoing result ≡ (draft_of self).message }
+        ensures { producer_message_values result ≡ (draft_of self).message }
     {
         let Draft {
             message,

@@ -1,6 +1,8 @@
 //! The language of scripts.
 
+pub mod choice;
 pub mod line;
 pub mod message;
 pub mod raw;
+pub mod setting;
 pub mod word;

@@ -1,49 +1,183 @@
 //! What stands behind `call link LINK`.
 
-ghost use Rattle.std.specs.Prelude.{◌≡◌, IfOk, map, string_bytes};
+ghost use Rattle.std.specs.Prelude.{◌≡◌, IfOk, map};
 ghost use Rattle.std.specs.Option.{option_map};
 ghost use Rattle.pulsar_wire.specs.Row.{each};
-ghost use Rattle.pulsar_cli.specs.Shown.{ids_of};
-ghost use Rattle.pulsar_link.specs.RawCall.{id_of, words as said};
-ghost use Rattle.pulsar_cli.specs.RawLines.{ack, close_consumer, close_producer, create_producer, cumulative, flag, flow, id, id_bytes, name, producer_on, raw_call, send, small_number, sub_type, subscribe, with_id};
+ghost use Rattle.pulsar_wire.specs.Views.{message_id_values};
+ghost use Rattle.pulsar_messages.specs.Content.{authentication_values};
+ghost use Rattle.pulsar_link.specs.RawCall.{words_of};
+ghost use Rattle.pulsar_cli.specs.Words.{optional};
+ghost use Rattle.pulsar_cli.specs.Parsed.{ids_of};
+ghost use Rattle.pulsar_cli.specs.RawLines.{ack, auth, close_consumer, close_producer, consumer_call, create_producer, credential, flow, id, id_bytes, last_id, lookup, member_call, partitions, ping, producer_on, raw_call, redeliver, schema, seek, send, stats, subscribe, topics_on, unsubscribe, with_id};
 
+use crate::grammar::choice::{cumulative, flag, mode, sub_type};
 use crate::grammar::message::message;
-use crate::grammar::word::{hex_bytes, is, number, text};
-use pulsar_client::RawCall;
+use crate::grammar::word::{
+    hex_bytes, is, number, optional_bytes, optional_number, optional_text, small_number, text,
+    word_bytes,
+};
+use pulsar_client::{Authentication, ConsumerOptions, ProducerOptions, RawCall};
 use pulsar_wire::encoding::message::decode;
 use pulsar_wire::encoding::read_error::ReadError;
-use pulsar_wire::{MessageIdData, NoMemory, SubType};
+use pulsar_wire::{MessageIdData, NoMemory};
 use std::alloc::Global;
 
 /// What stands behind `call link LINK`.
 pub fn raw_call(alloc: Global, words: &[&[u8]]) -> Result<Option<RawCall>, NoMemory>
-    ensures { IfOk result (λ c. option_map said c ≡ raw_call (map (λ w. w.now) words.now)) }
+    ensures { IfOk result (λ c. option_map words_of c ≡ raw_call (map (λ w. w.now) words.now)) }
 {
     let Some((word, rest)) = words.split_first() else {
         return Ok(None);
     };
+    if is(word, "ping") {
+        Ok(ping(rest))
+    } else if is(word, "auth") {
+        auth(alloc, rest)
+    } else if is(word, "lookup") {
+        lookup(alloc, rest)
+    } else if is(word, "partitions") {
+        partitions(alloc, rest)
+    } else if is(word, "topics") {
+        topics_on(alloc, rest)
+    } else if is(word, "schema") {
+        schema(alloc, rest)
+    } else {
+        member_call(alloc, word, rest)
+    }
+}
+
+/// A word that belongs to a producer, or to a consumer, and what follows it.
+fn member_call(alloc: Global, word: &[u8], words: &[&[u8]]) -> Result<Option<RawCall>, NoMemory>
+    ensures { IfOk result (λ c. option_map words_of c ≡ member_call word.now (map (λ w. w.now) words.now)) }
+{
     if is(word, "producer") {
-        create_producer(alloc, rest)
+        create_producer(alloc, words)
     } else if is(word, "send") {
-        send(alloc, rest)
+        send(alloc, words)
     } else if is(word, "close-producer") {
-        Ok(close_producer(rest))
-    } else if is(word, "subscribe") {
-        subscribe(alloc, rest)
+        Ok(close_producer(words))
+    } else {
+        consumer_call(alloc, word, words)
+    }
+}
+
+/// A word that belongs to a consumer, and what follows it.
+fn consumer_call(alloc: Global, word: &[u8], words: &[&[u8]]) -> Result<Option<RawCall>, NoMemory>
+    ensures { IfOk result (λ c. option_map words_of c ≡ consumer_call word.now (map (λ w. w.now) words.now)) }
+{
+    if is(word, "subscribe") {
+        subscribe(alloc, words)
     } else if is(word, "flow") {
-        Ok(flow(rest))
+        Ok(flow(words))
     } else if is(word, "ack") {
-        ack(alloc, rest)
+        ack(alloc, words)
+    } else if is(word, "redeliver") {
+        redeliver(alloc, words)
+    } else if is(word, "seek") {
+        seek(alloc, words)
+    } else if is(word, "last-id") {
+        Ok(last_id(words))
+    } else if is(word, "stats") {
+        Ok(stats(words))
+    } else if is(word, "unsubscribe") {
+        Ok(unsubscribe(words))
     } else if is(word, "close-consumer") {
-        Ok(close_consumer(rest))
+        Ok(close_consumer(words))
     } else {
         Ok(None)
     }
 }
 
+/// `ping`
+fn ping(words: &[&[u8]]) -> Option<RawCall>
+    ensures { option_map words_of result ≡ ping (map (λ w. w.now) words.now) }
+{
+    match words {
+        [] => Some(RawCall::SendPing),
+        _ => None,
+    }
+}
+
+/// `auth TEXT WORD`
+fn auth(alloc: Global, words: &[&[u8]]) -> Result<Option<RawCall>, NoMemory>
+    ensures { IfOk result (λ c. option_map words_of c ≡ auth (map (λ w. w.now) words.now)) }
+{
+    let [name, shown] = words else {
+        return Ok(None);
+    };
+    match credential(alloc, name, shown)? {
+        Some(auth) => Ok(Some(RawCall::AuthChallenge { auth })),
+        None => Ok(None),
+    }
+}
+
+/// `lookup TOPIC BOOL`
+fn lookup(alloc: Global, words: &[&[u8]]) -> Result<Option<RawCall>, NoMemory>
+    ensures { IfOk result (λ c. option_map words_of c ≡ lookup (map (λ w. w.now) words.now)) }
+{
+    let [topic, authoritative] = words else {
+        return Ok(None);
+    };
+    let Some(topic) = text(alloc, topic)? else {
+        return Ok(None);
+    };
+    let Some(authoritative) = flag(authoritative) else {
+        return Ok(None);
+    };
+    Ok(Some(RawCall::LookupTopic {
+        topic,
+        authoritative,
+    }))
+}
+
+/// `partitions TOPIC`
+fn partitions(alloc: Global, words: &[&[u8]]) -> Result<Option<RawCall>, NoMemory>
+    ensures { IfOk result (λ c. option_map words_of c ≡ partitions (map (λ w. w.now) words.now)) }
+{
+    let [topic] = words else {
+        return Ok(None);
+    };
+    match text(alloc, topic)? {
+        Some(topic) => Ok(Some(RawCall::LookupPartitionedTopic { topic })),
+        None => Ok(None),
+    }
+}
+
+/// `topics NAMESPACE MODE`
+fn topics_on(alloc: Global, words: &[&[u8]]) -> Result<Option<RawCall>, NoMemory>
+    ensures { IfOk result (λ c. option_map words_of c ≡ topics_on (map (λ w. w.now) words.now)) }
+{
+    let [namespace, word] = words else {
+        return Ok(None);
+    };
+    let Some(namespace) = text(alloc, namespace)? else {
+        return Ok(None);
+    };
+    let Some(mode) = mode(word) else {
+        return Ok(None);
+    };
+    Ok(Some(RawCall::GetTopicsOfNamespace { namespace, mode }))
+}
+
+/// `schema TOPIC VERSION`
+fn schema(alloc: Global, words: &[&[u8]]) -> Result<Option<RawCall>, NoMemory>
+    ensures { IfOk result (λ c. option_map words_of c ≡ schema (map (λ w. w.now) words.now)) }
+{
+    let [topic, version] = words else {
+        return Ok(None);
+    };
+    let Some(topic) = text(alloc, topic)? else {
+        return Ok(None);
+    };
+    let Some(version) = optional_bytes(alloc, version)? else {
+        return Ok(None);
+    };
+    Ok(Some(RawCall::GetSchema { topic, version }))
+}
+
 /// `producer TOPIC NUMBER NAME`
 fn create_producer(alloc: Global, words: &[&[u8]]) -> Result<Option<RawCall>, NoMemory>
-    ensures { IfOk result (λ c. option_map said c ≡ create_producer (map (λ w. w.now) words.now)) }
+    ensures { IfOk result (λ c. option_map words_of c ≡ create_producer (map (λ w. w.now) words.now)) }
 {
     let Some((topic, rest)) = words.split_first() else {
         return Ok(None);
@@ -52,7 +186,7 @@ fn create_producer(alloc: Global, words: &[&[u8]]) -> Result<Option<RawCall>, No
 }
 
 fn producer_on(alloc: Global, topic: &[u8], words: &[&[u8]]) -> Result<Option<RawCall>, NoMemory>
-    ensures { IfOk result (λ c. option_map said c ≡ producer_on topic.now (map (λ w. w.now) words.now)) }
+    ensures { IfOk result (λ c. option_map words_of c ≡ producer_on topic.now (map (λ w. w.now) words.now)) }
 {
     let [producer_id, word] = words else {
         return Ok(None);
@@ -63,19 +197,20 @@ fn producer_on(alloc: Global, topic: &[u8], words: &[&[u8]]) -> Result<Option<Ra
     let Some(producer_id) = number(producer_id) else {
         return Ok(None);
     };
-    let Some(name) = name(alloc, word)? else {
+    let Some(name) = optional_text(alloc, word)? else {
         return Ok(None);
     };
     Ok(Some(RawCall::CreateProducer {
         topic,
         producer_id,
         name,
+        options: ProducerOptions::new(alloc),
     }))
 }
 
 /// `send NUMBER NAME NUMBER BOOL MESSAGE`
 fn send(alloc: Global, words: &[&[u8]]) -> Result<Option<RawCall>, NoMemory>
-    ensures { IfOk result (λ c. option_map said c ≡ send (map (λ w. w.now) words.now)) }
+    ensures { IfOk result (λ c. option_map words_of c ≡ send (map (λ w. w.now) words.now)) }
 {
     let [producer_id, name, sequence_id, block, rest @ ..] = words else {
         return Ok(None);
@@ -106,7 +241,7 @@ fn send(alloc: Global, words: &[&[u8]]) -> Result<Option<RawCall>, NoMemory>
 
 /// `close-producer NUMBER`
 fn close_producer(words: &[&[u8]]) -> Option<RawCall>
-    ensures { option_map said result ≡ close_producer (map (λ w. w.now) words.now) }
+    ensures { option_map words_of result ≡ close_producer (map (λ w. w.now) words.now) }
 {
     let [producer_id] = words else {
         return None;
@@ -117,7 +252,7 @@ fn close_producer(words: &[&[u8]]) -> Option<RawCall>
 
 /// `subscribe TOPIC SUBSCRIPTION TYPE NUMBER`
 fn subscribe(alloc: Global, words: &[&[u8]]) -> Result<Option<RawCall>, NoMemory>
-    ensures { IfOk result (λ c. option_map said c ≡ subscribe (map (λ w. w.now) words.now)) }
+    ensures { IfOk result (λ c. option_map words_of c ≡ subscribe (map (λ w. w.now) words.now)) }
 {
     let [topic, subscription, kind, consumer_id] = words else {
         return Ok(None);
@@ -139,12 +274,14 @@ fn subscribe(alloc: Global, words: &[&[u8]]) -> Result<Option<RawCall>, NoMemory
         subscription,
         sub_type,
         consumer_id,
+        name: None,
+        options: ConsumerOptions::new(alloc),
     }))
 }
 
 /// `flow NUMBER NUMBER`
 fn flow(words: &[&[u8]]) -> Option<RawCall>
-    ensures { option_map said result ≡ flow (map (λ w. w.now) words.now) }
+    ensures { option_map words_of result ≡ flow (map (λ w. w.now) words.now) }
 {
     let [consumer_id, permits] = words else {
         return None;
@@ -159,7 +296,7 @@ fn flow(words: &[&[u8]]) -> Option<RawCall>
 
 /// `ack NUMBER TYPE ID..`
 fn ack(alloc: Global, words: &[&[u8]]) -> Result<Option<RawCall>, NoMemory>
-    ensures { IfOk result (λ c. option_map said c ≡ ack (map (λ w. w.now) words.now)) }
+    ensures { IfOk result (λ c. option_map words_of c ≡ ack (map (λ w. w.now) words.now)) }
 {
     let [consumer_id, kind, rest @ ..] = words else {
         return Ok(None);
@@ -180,9 +317,81 @@ fn ack(alloc: Global, words: &[&[u8]]) -> Result<Option<RawCall>, NoMemory>
     }))
 }
 
+/// `redeliver NUMBER ID..`
+fn redeliver(alloc: Global, words: &[&[u8]]) -> Result<Option<RawCall>, NoMemory>
+    ensures { IfOk result (λ c. option_map words_of c ≡ redeliver (map (λ w. w.now) words.now)) }
+{
+    let Some((consumer_id, rest)) = words.split_first() else {
+        return Ok(None);
+    };
+    let Some(consumer_id) = number(consumer_id) else {
+        return Ok(None);
+    };
+    match ids(alloc, rest)? {
+        Some(ids) => Ok(Some(RawCall::SendRedeliver { consumer_id, ids })),
+        None => Ok(None),
+    }
+}
+
+/// `seek NUMBER ID NUMBER`
+fn seek(alloc: Global, words: &[&[u8]]) -> Result<Option<RawCall>, NoMemory>
+    ensures { IfOk result (λ c. option_map words_of c ≡ seek (map (λ w. w.now) words.now)) }
+{
+    let [consumer_id, id, time] = words else {
+        return Ok(None);
+    };
+    let Some(consumer_id) = number(consumer_id) else {
+        return Ok(None);
+    };
+    let Some(id) = optional_id(alloc, id)? else {
+        return Ok(None);
+    };
+    let Some(time) = optional_number(time) else {
+        return Ok(None);
+    };
+    Ok(Some(RawCall::Seek {
+        consumer_id,
+        id,
+        time,
+    }))
+}
+
+/// `last-id NUMBER`
+fn last_id(words: &[&[u8]]) -> Option<RawCall>
+    ensures { option_map words_of result ≡ last_id (map (λ w. w.now) words.now) }
+{
+    let [consumer_id] = words else {
+        return None;
+    };
+    let consumer_id = number(consumer_id)?;
+    Some(RawCall::GetLastMessageId { consumer_id })
+}
+
+/// `stats NUMBER`
+fn stats(words: &[&[u8]]) -> Option<RawCall>
+    ensures { option_map words_of result ≡ stats (map (λ w. w.now) words.now) }
+{
+    let [consumer_id] = words else {
+        return None;
+    };
+    let consumer_id = number(consumer_id)?;
+    Some(RawCall::GetConsumerStats { consumer_id })
+}
+
+/// `unsubscribe NUMBER`
+fn unsubscribe(words: &[&[u8]]) -> Option<RawCall>
+    ensures { option_map words_of result ≡ unsubscribe (map (λ w. w.now) words.now) }
+{
+    let [consumer_id] = words else {
+        return None;
+    };
+    let consumer_id = number(consumer_id)?;
+    Some(RawCall::Unsubscribe { consumer_id })
+}
+
 /// `close-consumer NUMBER`
 fn close_consumer(words: &[&[u8]]) -> Option<RawCall>
-    ensures { option_map said result ≡ close_consumer (map (λ w. w.now) words.now) }
+    ensures { option_map words_of result ≡ close_consumer (map (λ w. w.now) words.now) }
 {
     let [consumer_id] = words else {
         return None;
@@ -191,66 +400,21 @@ fn close_consumer(words: &[&[u8]]) -> Option<RawCall>
     Some(RawCall::CloseConsumer { consumer_id })
 }
 
-/// True or false.
-fn flag(word: &[u8]) -> Option<bool>
-    ensures { result ≡ flag word.now }
+/// A credential: its method, and what it shows.
+pub fn credential(
+    alloc: Global,
+    name: &[u8],
+    shown: &[u8],
+) -> Result<Option<Authentication>, NoMemory>
+    ensures { IfOk result (λ a. option_map authentication_values a ≡ credential name.now shown.now) }
 {
-    if is(word, "true") {
-        Some(true)
-    } else if is(word, "false") {
-        Some(false)
-    } else {
-        None
-    }
-}
-
-/// A number of 32 bits.
-fn small_number(word: &[u8]) -> Option<u32>
-    ensures { result ≡ small_number word.now }
-{
-    u32::try_from(number(word)?).ok()
-}
-
-/// A name, or `~` for none.
-fn name(alloc: Global, word: &[u8]) -> Result<Option<Option<String>>, NoMemory>
-    ensures { IfOk result (λ n. option_map (option_map string_bytes) n ≡ name word.now) }
-{
-    if is(word, "~") {
-        return Ok(Some(None));
-    }
-    match text(alloc, word)? {
-        Some(name) => Ok(Some(Some(name))),
-        None => Ok(None),
-    }
-}
-
-fn sub_type(word: &[u8]) -> Option<SubType>
-    ensures { result ≡ sub_type word.now }
-{
-    if is(word, "exclusive") {
-        Some(SubType::Exclusive)
-    } else if is(word, "shared") {
-        Some(SubType::Shared)
-    } else if is(word, "failover") {
-        Some(SubType::Failover)
-    } else if is(word, "key-shared") {
-        Some(SubType::KeyShared)
-    } else {
-        None
-    }
-}
-
-/// All up to the message, or each by itself.
-fn cumulative(word: &[u8]) -> Option<bool>
-    ensures { result ≡ cumulative word.now }
-{
-    if is(word, "individual") {
-        Some(false)
-    } else if is(word, "cumulative") {
-        Some(true)
-    } else {
-        None
-    }
+    let Some(name) = text(alloc, name)? else {
+        return Ok(None);
+    };
+    let Some(auth_data) = word_bytes(alloc, shown)? else {
+        return Ok(None);
+    };
+    Ok(Some(Authentication { name, auth_data }))
 }
 
 fn ids(alloc: Global, words: &[&[u8]]) -> Result<Option<Vec<MessageIdData>>, NoMemory>
@@ -281,10 +445,22 @@ fn more(
     Ok(Some(ids))
 }
 
+/// An id, or `~` for none.
+fn optional_id(alloc: Global, word: &[u8]) -> Result<Option<Option<MessageIdData>>, NoMemory>
+    ensures { IfOk result (λ i. option_map (option_map message_id_values) i ≡ optional id word.now) }
+{
+    if is(word, "~") {
+        return Ok(Some(None));
+    }
+    match id(alloc, word)? {
+        Some(id) => Ok(Some(Some(id))),
+        None => Ok(None),
+    }
+}
+
 /// An id: the hex of its bytes, and `%` for no bytes.
-#[tactic(auto, unfolding(pulsar_wire::specs::Views::message_id_values))]
 fn id(alloc: Global, word: &[u8]) -> Result<Option<MessageIdData>, NoMemory>
-    ensures { IfOk result (λ i. option_map id_of i ≡ id word.now) }
+    ensures { IfOk result (λ i. option_map message_id_values i ≡ id word.now) }
 {
     let Some(bytes) = id_bytes(alloc, word)? else {
         return Ok(None);

@@ -4,8 +4,8 @@ ghost use Rattle.std.specs.Prelude.{◌≡◌, ◌==◌, ◌<◌, ◌∷◌, ◌
 ghost use Rattle.std.specs.Option.{option_map};
 ghost use Rattle.std.specs.Str.{bytes_eq};
 ghost use Rattle.hex.specs.Hex.{hex_digit_value};
-ghost use Rattle.pulsar_cli.specs.Words.{digits_from, escaped, hex, in_range, is_plain, number, text, unescaped, with_byte, word_bytes, words};
-ghost use Rattle.pulsar_cli.specs.Shown.{IsWithinLine, more_digits};
+ghost use Rattle.pulsar_cli.specs.Words.{digits_from, escaped, hex, in_range, is_plain, number, optional, small_number, text, unescaped, with_byte, word_bytes, words};
+ghost use Rattle.pulsar_cli.specs.Parsed.{IsWithinLine, more_digits};
 
 use hex::FromHexError;
 use pulsar_wire::NoMemory;
@@ -67,6 +67,23 @@ fn with_digit(value: u64, digit: u8) -> Option<u64>
     value.checked_mul(10)?.checked_add(u64::from(digit - b'0'))
 }
 
+/// A number of 32 bits.
+pub fn small_number(word: &[u8]) -> Option<u32>
+    ensures { result ≡ small_number word.now }
+{
+    u32::try_from(number(word)?).ok()
+}
+
+/// A number, or `~` for none.
+pub fn optional_number(word: &[u8]) -> Option<Option<u64>>
+    ensures { result ≡ optional number word.now }
+{
+    if is(word, "~") {
+        return Some(None);
+    }
+    Some(Some(number(word)?))
+}
+
 /// A text, which is UTF-8.
 pub fn text(alloc: Global, word: &[u8]) -> Result<Option<String>, NoMemory>
     ensures { IfOk result (λ t. option_map string_bytes t ≡ text word.now) }
@@ -77,6 +94,32 @@ pub fn text(alloc: Global, word: &[u8]) -> Result<Option<String>, NoMemory>
     match str::from_utf8(&bytes) {
         Ok(text) => Ok(Some(String::from_str(alloc, text)?)),
         Err(_) => Ok(None),
+    }
+}
+
+/// A text, or `~` for none.
+pub fn optional_text(alloc: Global, word: &[u8]) -> Result<Option<Option<String>>, NoMemory>
+    ensures { IfOk result (λ t. option_map (option_map string_bytes) t ≡ optional text word.now) }
+{
+    if is(word, "~") {
+        return Ok(Some(None));
+    }
+    match text(alloc, word)? {
+        Some(text) => Ok(Some(Some(text))),
+        None => Ok(None),
+    }
+}
+
+/// Bytes, or `~` for none.
+pub fn optional_bytes(alloc: Global, word: &[u8]) -> Result<Option<Option<Vec<u8>>>, NoMemory>
+    ensures { IfOk result (λ bytes. option_map (option_map (λ v. v.items)) bytes ≡ optional word_bytes word.now) }
+{
+    if is(word, "~") {
+        return Ok(Some(None));
+    }
+    match word_bytes(alloc, word)? {
+        Some(bytes) => Ok(Some(Some(bytes))),
+        None => Ok(None),
     }
 }
 

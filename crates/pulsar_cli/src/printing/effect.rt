@@ -104,6 +104,7 @@ fn settled_as(outcome: Settlement) -> &'static str
 {
     match outcome {
         Settlement::Reply => "reply",
+        Settlement::TimedOut => "timedout",
         Settlement::Disconnected => "disconnected",
     }
 }

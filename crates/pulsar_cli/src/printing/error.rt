@@ -3,7 +3,7 @@
 ghost use Rattle.std.specs.Prelude.{◌≡◌, ◌∷◌, ◌++◌, OnOk, string_bytes};
 ghost use Rattle.std.specs.Option.{option_map};
 ghost use Rattle.pulsar_wire.specs.Authentication.{denial};
-ghost use Rattle.pulsar_link.specs.Failures.{OfConsumer, OfDiscovery, OfPartialSend, consumer_fault, discovery_fault, failure, fault, of_producer, sent as what_became};
+ghost use Rattle.pulsar_session.specs.Failures.{OfConsumer, OfDiscovery, OfPartialSend, consumer_fault, discovery_fault, failure, fault, of_producer, sent as what_became};
 ghost use Rattle.pulsar_cli.specs.ErrorText as printed;
 ghost use Rattle.pulsar_cli.specs.WordText.{word};
 
@@ -207,7 +207,13 @@ fn push_fault_detail(out: &mut String, error: &ConnectionError) -> Result<(), Al
         ConnectionError::SocketAddr(text) => push_text(out, text)?,
         ConnectionError::UnexpectedResponse(body) => push_text(out, body)?,
         ConnectionError::Authentication(e) => push_denial_detail(out, e)?,
-        _ => {}
+        ConnectionError::SlowDown
+        | ConnectionError::Disconnected
+        | ConnectionError::NotFound
+        | ConnectionError::Canceled
+        | ConnectionError::Shutdown
+        | ConnectionError::Exhausted
+        | ConnectionError::NoMemory => {}
     }
     Ok(())
 }
@@ -219,7 +225,7 @@ fn push_consumer_detail(out: &mut String, error: &ConsumerError) -> Result<(), A
         ConsumerError::Connection(e) => push_fault_detail(out, e)?,
         ConsumerError::MissingPayload(text) => push_text(out, text)?,
         ConsumerError::Io(kind) => push_behind(out, io_kind(*kind))?,
-        _ => {}
+        ConsumerError::ChannelFull | ConsumerError::Closed | ConsumerError::BuildError => {}
     }
     Ok(())
 }
@@ -268,7 +274,11 @@ fn push_discovery_detail(out: &mut String, error: &ServiceDiscoveryError) -> Res
     match error {
         ServiceDiscoveryError::Connection(e) => push_fault_detail(out, e)?,
         ServiceDiscoveryError::Query(code, text) => push_broker_error(out, *code, text)?,
-        _ => {}
+        ServiceDiscoveryError::NotFound
+        | ServiceDiscoveryError::DnsLookupError
+        | ServiceDiscoveryError::Canceled
+        | ServiceDiscoveryError::Shutdown
+        | ServiceDiscoveryError::Dummy => {}
     }
     Ok(())
 }

@@ -1,23 +1,21 @@
 //! The raw consumers of a client.
 
-ghost use Rattle.std.specs.Prelude.{◌≡◌, ◌==◌, ◌&&◌, [], ℕ, List, None, Some, IfOk, OnOk, if◌then◌else◌};
+ghost use Rattle.std.specs.Prelude.{◌≡◌, ◌==◌, ◌&&◌, [], ℕ, List, None, Some, IfOk, OnOk, IsTrue, ◌↔◌, if◌then◌else◌};
+ghost use Rattle.std.specs.BTreeMap.{get};
 ghost use Rattle.std.specs.BTreeSet.{insert_key};
+ghost use Rattle.std.specs.List.{All};
 ghost use Rattle.std.specs.Option.{is_some, option_copied, option_map};
 ghost use Rattle.std.specs.Ordering.{nat_cmp};
 ghost use Rattle.pulsar_client.specs.Content.{shown};
-ghost use Rattle.pulsar_link.specs.Link.{Pending};
-ghost use Rattle.pulsar_client.specs.Subscribers.{answered_by, fresh_in, given_at, is_listed, kept_at, live_at, subscription_at, tickets_of, with_items};
-ghost use Rattle.pulsar_client.specs.Subscriptions.{after_poll, closed_at, ends_with, hears, polled};
-ghost use Rattle.pulsar_link.specs.Link.{settles_one};
+ghost use Rattle.pulsar_client.specs.Subscribers.{fresh_in, given_at, has_one, has_one_of, is_listed, is_of, kept_at, live_at, subscription_at, tickets_of, with_items};
+ghost use Rattle.pulsar_client.specs.Subscriptions.{IsHeard, after_poll, closed_at, ended_on, hears, is_last, polled};
 
+use crate::act::Arrival;
 use crate::consumers::subscriber::Subscriber;
 use crate::effect::Effect;
-use pulsar_link::act::{Arrival, LinkAct};
 use pulsar_link::content::Received;
-use pulsar_link::given::{Admission, Change};
 use pulsar_wire::bodies;
 use pulsar_wire::error::NoMemory;
-use pulsar_wire::key::RequestKey;
 use std::alloc::Global;
 use std::collections::{BTreeMap, BTreeSet};
 
@@ -68,27 +66,35 @@ impl Subscribers {
         Ok(Some(row.poll(ticket, is_live)?))
     }
 
-    /// The consumers of a link hear what comes to it. Whether it is a frame that answers a request is told.
-    pub fn hear(&mut self, link: u64, act: &LinkAct, is_answer: bool) -> Result<(), NoMemory>
-        ensures { OnOk result ((waiting : List Pending) → is_answer ≡ answered_by act.now waiting → (t : ℕ) → subscription_at self.new t ≡ option_map (hears link act.now waiting) (subscription_at self.old t)) }
+    /// A live consumer is of this link. It takes no memory.
+    pub fn hears_on(&self, link: u64) -> bool
+        ensures { IsTrue result ↔ IsHeard link (subscription_at self.now) }
     {
-        match act {
-            LinkAct::Comes(Arrival::Message(message)) => self.hear_frame(link, message, is_answer),
-            LinkAct::Comes(Arrival::Bad(_))
-            | LinkAct::Opens
-            | LinkAct::Fails(_)
-            | LinkAct::Loses
-            | LinkAct::Drains(_) => Ok(()),
+        match self.live.get(&link) {
+            Some(numbers) => one_hears(&self.rows, numbers, link),
+            None => false,
+        }
+    }
+
+    /// The consumers of a link hear what comes to it.
+    pub fn hear(&mut self, link: u64, arrival: Arrival) -> Result<(), NoMemory>
+        ensures { OnOk result ((t : ℕ) → subscription_at self.new t ≡ option_map (hears link arrival) (subscription_at self.old t)) }
+    {
+        match arrival {
+            Arrival::Gives { consumer, reply } => self.hear_frame(link, consumer, &reply),
+            Arrival::Nothing
+            | Arrival::Readied
+            | Arrival::Settles
+            | Arrival::Passes
+            | Arrival::Bad(_) => Ok(()),
         }
     }
 
     /// The consumers of a link end with it.
-    pub fn end(&mut self, link: u64, change: Change)
-        ensures { (t : ℕ) → subscription_at self.new t ≡ option_map (ends_with link change) (subscription_at self.old t) }
+    pub fn end(&mut self, link: u64)
+        ensures { (t : ℕ) → subscription_at self.new t ≡ option_map (ended_on link) (subscription_at self.old t) }
     {
-        if change.is_ended() {
-            self.live.remove(&link);
-        }
+        self.live.remove(&link);
     }
 
     /// The consumers of this number on a link end where their close is asked for.
@@ -96,34 +102,26 @@ impl Subscribers {
         &mut self,
         link: u64,
         number: Option<u64>,
-        admission: Admission,
+        is_asked: bool,
     ) -> Result<(), NoMemory>
-        ensures { OnOk result ((t : ℕ) → subscription_at self.new t ≡ option_map (closed_at link number admission) (subscription_at self.old t)) }
+        ensures { OnOk result ((t : ℕ) → subscription_at self.new t ≡ option_map (closed_at link number is_asked) (subscription_at self.old t)) }
     {
         match number {
-            Some(number) if admission.is_queued() => self.close(link, number),
+            Some(number) if is_asked => self.close(link, number),
             _ => Ok(()),
         }
     }
 
-    fn hear_frame(&mut self, link: u64, message: &Received, is_answer: bool) -> Result<(), NoMemory>
-        ensures { OnOk result ((waiting : List Pending) → is_answer ≡ settles_one message.now.key waiting → (t : ℕ) → subscription_at self.new t ≡ option_map (hears link (LinkAct.Comes (Arrival.Message message.now)) waiting) (subscription_at self.old t)) }
+    /// The consumers of this number on the link hear a frame for them.
+    fn hear_frame(&mut self, link: u64, number: u64, reply: &Received) -> Result<(), NoMemory>
+        ensures { OnOk result ((t : ℕ) → subscription_at self.new t ≡ option_map (hears link (Arrival.Gives number reply.now)) (subscription_at self.old t)) }
     {
-        match message.key() {
-            Some(RequestKey::Consumer { consumer_id }) => {
-                if message.is(bodies::MESSAGE) {
-                    self.give(link, consumer_id, message)
-                } else if message.is(bodies::REACHED_END_OF_TOPIC) {
-                    self.close(link, consumer_id)
-                } else {
-                    Ok(())
-                }
-            }
-            Some(RequestKey::CloseConsumer { consumer_id, .. }) if !is_answer => {
-                self.close(link, consumer_id)
-            }
-            _ => Ok(()),
+        self.give(link, number, reply)?;
+        if !is_last(reply) {
+            return Ok(());
         }
+        self.close(link, number)?;
+        Ok(())
     }
 
     /// What a message gives is put behind the items of each consumer of this number on the link.
@@ -146,12 +144,21 @@ impl Subscribers {
             return Ok(());
         };
         numbers.remove(&number);
-        self.live.insert(link, numbers)?;
+        if !numbers.is_empty() {
+            self.live.insert(link, numbers)?;
+        }
         Ok(())
     }
 }
 
-/// The tickets of those of this number on the link that hear, if any ever did.
+/// The end of a topic, or the close of the broker.
+fn is_last(reply: &Received) -> bool
+    ensures { result ≡ is_last reply.now }
+{
+    reply.is(bodies::REACHED_END_OF_TOPIC) || reply.is(bodies::CLOSE_CONSUMER)
+}
+
+/// The tickets of those of this number on the link that hear, if any do.
 fn listed(
     live: &BTreeMap<u64, BTreeMap<u64, BTreeSet<u64>>>,
     link: u64,
@@ -173,6 +180,38 @@ fn is_live(
 {
     match listed(live, link, number) {
         Some(tickets) => tickets.contains(&ticket),
+        None => false,
+    }
+}
+
+/// One of those that are listed so is a consumer of the link.
+fn one_hears(
+    rows: &BTreeMap<u64, Subscriber>,
+    numbers: &BTreeMap<u64, BTreeSet<u64>>,
+    link: u64,
+) -> bool
+    ensures one { result ≡ has_one link rows.now numbers.now.entries }
+    ensures found { All (λ e. get nat_cmp numbers.now e.0 ≡ Some e.1) numbers.now.entries }
+{
+    numbers
+        .iter()
+        .any(|(number, tickets)| one_is(rows, tickets, link, *number))
+}
+
+/// One of these is a consumer of this number on the link.
+fn one_is(rows: &BTreeMap<u64, Subscriber>, tickets: &BTreeSet<u64>, link: u64, number: u64) -> bool
+    ensures { result ≡ has_one_of link number rows.now tickets.now.keys }
+{
+    tickets
+        .iter()
+        .any(|ticket| is_of(rows, *ticket, link, number))
+}
+
+fn is_of(rows: &BTreeMap<u64, Subscriber>, ticket: u64, link: u64, number: u64) -> bool
+    ensures { result ≡ is_of link number (kept_at rows.now ticket) }
+{
+    match rows.get(&ticket) {
+        Some(row) => row.link == link && row.number == number,
         None => false,
     }
 }

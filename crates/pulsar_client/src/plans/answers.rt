@@ -4,9 +4,11 @@ ghost use Rattle.std.specs.Prelude.{◌≡◌, ℕ, [], ◌∷◌, None, Some, I
 ghost use Rattle.pulsar_wire.specs.Views.{body_values};
 ghost use Rattle.pulsar_frame.specs.Key.{answers};
 ghost use Rattle.pulsar_link.specs.Messages.{read_body, written};
+ghost use Rattle.pulsar_client.specs.Content.{Replies};
 ghost use Rattle.pulsar_client.specs.Plan.{answer_with, is_answer, reply_says};
-ghost use Rattle.pulsar_link.specs.Request.{is_answered};
+ghost use Rattle.pulsar_link.specs.Request.{answer_of, is_answered};
 
+use crate::act::Says;
 use crate::content::Said;
 use crate::effect::Answer;
 use pulsar_frame::message::Message;
@@ -17,8 +19,18 @@ use pulsar_wire::commands::topics::CommandGetTopicsOfNamespaceResponse;
 use pulsar_wire::error::{Error, NoMemory};
 use std::alloc::Global;
 
-/// The number of the body that answers the body of this number.
+/// The number of the body that answers the body of this number: a pong a ping.
 fn answer_of(request: u32) -> Option<u32>
+    ensures { result ≡ answer_of request }
+{
+    match request {
+        bodies::PING => Some(bodies::PONG),
+        request => reply_of(request),
+    }
+}
+
+/// The same for all but a ping.
+fn reply_of(request: u32) -> Option<u32>
     ensures { result ≡ answers request }
 {
     match request {
@@ -39,7 +51,7 @@ fn answer_of(request: u32) -> Option<u32>
     }
 }
 
-/// A request with the body of this number has an answer.
+/// A request with the body of this number has a reply.
 pub fn is_answered(request: u32) -> bool
     ensures { result ≡ is_answered request }
 {
@@ -57,26 +69,26 @@ pub fn is_answer(request: u32, reply: &Received) -> bool
 }
 
 /// What a reply says to the request with the body of this number.
-pub fn said(alloc: Global, request: u32, reply: Received) -> Result<Said, NoMemory>
-    ensures { IfOk result (λ s. s ≡ reply_says request reply) }
+pub fn said(alloc: Global, says: Says, request: u32, reply: Received) -> Result<Said, NoMemory>
+    ensures { IfOk result (λ s. s ≡ reply_says says request reply) }
 {
     if is_answer(request, &reply) {
-        return accepted(alloc, reply);
+        return accepted(alloc, says, reply);
     }
     let error = reply.refusal(alloc)?;
     Said::new(alloc, Err(Error::Connection(error)))
 }
 
 /// The answer that a reply gives.
-fn accepted(alloc: Global, reply: Received) -> Result<Said, NoMemory>
-    ensures { IfOk result (λ s. s ≡ answer_with reply reply.body) }
+fn accepted(alloc: Global, says: Says, reply: Received) -> Result<Said, NoMemory>
+    ensures { IfOk result (λ s. s ≡ answer_with says reply reply.body) }
 {
     let Message {
         command,
         payload: _,
     } = reply.into_message();
     match command.body {
-        Some(body) => answer(alloc, body),
+        Some(body) => answer(alloc, says, body),
         None => Said::new(alloc, Ok(Answer::Replies(Vec::new(alloc)))),
     }
 }
@@ -84,23 +96,31 @@ fn accepted(alloc: Global, reply: Received) -> Result<Said, NoMemory>
 /// The topics that a body names.
 #[tactic(auto, unfolding(pulsar_wire::specs::Views::get_topics_of_namespace_response_values))]
 fn names(alloc: Global, body: CommandGetTopicsOfNamespaceResponse) -> Result<Said, NoMemory>
-    ensures { IfOk result (λ s. s ≡ answer_with (read_body None [] (Some (body_values (Body.GetTopicsOfNamespaceResponse body)))) (Some (written (body_values (Body.GetTopicsOfNamespaceResponse body))))) }
+    ensures { IfOk result (λ s. s ≡ answer_with Says.Names (read_body None [] (Some (body_values (Body.GetTopicsOfNamespaceResponse body)))) (Some (written (body_values (Body.GetTopicsOfNamespaceResponse body))))) }
 {
     let said = Said::new(alloc, Ok(Answer::Topics(body.topics)))?;
     Ok(said)
 }
 
+/// A body as it is.
+fn replies(alloc: Global, body: Body) -> Result<Said, NoMemory>
+    ensures { IfOk result (λ s. s ≡ Replies (written (body_values body) ∷ [])) }
+{
+    let mut bodies = Vec::new(alloc);
+    bodies.push(body)?;
+    Said::new(alloc, Ok(Answer::Replies(bodies)))
+}
+
 /// The answer that a body gives.
-fn answer(alloc: Global, body: Body) -> Result<Said, NoMemory>
-    ensures { IfOk result (λ s. s ≡ answer_with (read_body None [] (Some (body_values body))) (Some (written (body_values body)))) }
+fn answer(alloc: Global, says: Says, body: Body) -> Result<Said, NoMemory>
+    ensures { IfOk result (λ s. s ≡ answer_with says (read_body None [] (Some (body_values body))) (Some (written (body_values body)))) }
 {
     match body {
-        Body::GetTopicsOfNamespaceResponse(body) => Ok(names(alloc, body)?),
+        Body::GetTopicsOfNamespaceResponse(body) => match says {
+            Says::Names => names(alloc, body),
+            Says::Bodies => replies(alloc, Body::GetTopicsOfNamespaceResponse(body)),
+        },
         Body::SendReceipt(receipt) => Said::new(alloc, Ok(Answer::Receipt(receipt))),
-        body => {
-            let mut bodies = Vec::new(alloc);
-            bodies.push(body)?;
-            Said::new(alloc, Ok(Answer::Replies(bodies)))
-        }
+        body => replies(alloc, body),
     }
 }

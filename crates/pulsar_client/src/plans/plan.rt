@@ -1,18 +1,16 @@
 //! Plans, as machines over their outcomes.
 
 ghost use Rattle.std.specs.Prelude.{◌≡◌, IfOk};
-ghost use Rattle.pulsar_link.specs.Failures.{fault};
-ghost use Rattle.pulsar_client.specs.Plan.{asks, begins, fails, fault_of, makes, raw_makes, replied, told, verdict, waits, wanted};
-ghost use Rattle.pulsar_client.specs.Content.{Done};
-ghost use Rattle.pulsar_link.specs.RawCall.{words};
+ghost use Rattle.pulsar_session.specs.Failures.{failure, fault};
+ghost use Rattle.pulsar_client.specs.Plan.{asks, begins, failure_of, fails, fault_of, makes, makes_of, replied, stands, told, verdict, waits};
+ghost use Rattle.pulsar_client.specs.Content.{Done, Failed};
 
-use crate::act::{Action, Makes, Outcome, Place, Procedure, Verdict};
+use crate::act::{Action, Makes, Outcome, Place, Procedure, Refusal, Says, Verdict};
 use crate::content::Said;
 use crate::effect::Answer;
 use crate::plans::answers;
-use pulsar_link::content::{Question, Received, Request, Text};
-use pulsar_link::raw_call::RawCall;
-use pulsar_wire::error::{ConnectionError, Error, NoMemory, Reason};
+use pulsar_link::content::{Received, Request, Subscribed};
+use pulsar_wire::error::{ConnectionError, Error, IoKind, NoMemory};
 use std::alloc::Global;
 
 /// A plan stays, in this state, and does this action, or it ends and gives its verdict.
@@ -22,10 +20,12 @@ pub enum Turn<S, A> {
     Gives(A),
 }
 
-/// What is known of a request that is asked for: the number of its body, and what its success leaves behind.
+/// What is known of a request that is asked for: the number of its body, how its reply is answered, and what its success
+/// leaves behind.
 #[derive(Drop)]
 pub struct Wanted {
     pub number: u32,
+    pub says: Says,
     pub makes: Makes,
 }
 
@@ -35,11 +35,13 @@ pub enum Plan {
     /// It gets the link of the address, to be done with that.
     Building,
     /// It gets the link of the address, to ask there.
-    Getting(Request),
-    /// It asks for its request.
+    Getting(Request, Says),
+    /// It asks for its request, whose frame may stand in the line.
     Asking(Wanted),
     /// It waits for the reply.
     Awaiting(Wanted),
+    /// It ends every link.
+    Stopping,
 }
 
 /// Where a procedure begins.
@@ -48,11 +50,16 @@ pub fn begins(alloc: Global, procedure: Procedure) -> Result<Turn<Plan, Verdict>
 {
     match procedure {
         Procedure::Build => Ok(Turn::Stays(Plan::Building, Action::Get)),
-        Procedure::Ask { place, request } => match place {
-            Place::Base => Ok(Turn::Stays(Plan::Getting(request), Action::Get)),
-            Place::Link(link) => asks(link, request),
+        Procedure::Stop => Ok(Turn::Stays(Plan::Stopping, Action::StopAll)),
+        Procedure::Ask {
+            place,
+            request,
+            says,
+        } => match place {
+            Place::Base => Ok(Turn::Stays(Plan::Getting(request, says), Action::Get)),
+            Place::Link(link) => asks(link, request, says),
         },
-        Procedure::Refuse => fails(alloc, ConnectionError::Shutdown),
+        Procedure::Refuse(refusal) => refused(alloc, refusal),
     }
 }
 
@@ -63,67 +70,55 @@ pub fn told(alloc: Global, plan: Plan, outcome: Outcome) -> Result<Turn<Plan, Ve
     match plan {
         Plan::Building => match outcome {
             Outcome::GotLink(_) => done(alloc, Makes::Client),
-            outcome => fails(alloc, error_of(&outcome)),
+            outcome => fails(alloc, error_of(outcome)),
         },
-        Plan::Getting(request) => match outcome {
-            Outcome::GotLink(link) => asks(link, request),
-            outcome => fails(alloc, error_of(&outcome)),
+        Plan::Getting(request, says) => match outcome {
+            Outcome::GotLink(link) => asks(link, request, says),
+            outcome => fails(alloc, error_of(outcome)),
         },
         Plan::Asking(wanted) => match outcome {
             Outcome::Queued => waits(alloc, wanted),
-            outcome => fails(alloc, error_of(&outcome)),
+            Outcome::InLine => stands(alloc, wanted),
+            outcome => fails(alloc, error_of(outcome)),
         },
         Plan::Awaiting(wanted) => match outcome {
             Outcome::Replied(reply) => replied(alloc, wanted, reply),
-            outcome => fails(alloc, error_of(&outcome)),
+            outcome => fails(alloc, error_of(outcome)),
+        },
+        Plan::Stopping => match outcome {
+            Outcome::Stopped => done(alloc, Makes::Nothing),
+            outcome => fails(alloc, error_of(outcome)),
         },
     }
 }
 
 /// A request is asked for on a link.
-fn asks(link: u64, request: Request) -> Result<Turn<Plan, Verdict>, NoMemory>
-    ensures { IfOk result (λ turn. turn ≡ asks link request) }
+fn asks(link: u64, request: Request, says: Says) -> Result<Turn<Plan, Verdict>, NoMemory>
+    ensures { IfOk result (λ turn. turn ≡ asks link request says) }
 {
     let wanted = Wanted {
         number: request.number(),
-        makes: makes(link, &request)?,
+        says,
+        makes: makes(link, request.subscribed()?),
     };
     Ok(Turn::Stays(Plan::Asking(wanted), Action::Ask { link, request }))
 }
 
 /// What the success of a request leaves behind.
-fn makes(link: u64, request: &Request) -> Result<Makes, NoMemory>
-    ensures { IfOk result (λ m. m ≡ makes link request.now) }
+fn makes(link: u64, subscribed: Option<Subscribed>) -> Makes
+    ensures { result ≡ makes_of link subscribed }
 {
-    match request.question() {
-        Question::Topics { .. } => Ok(Makes::Nothing),
-        Question::Raw(call) => raw_makes(link, call),
-    }
-}
-
-fn raw_makes(link: u64, call: &RawCall) -> Result<Makes, NoMemory>
-    ensures { IfOk result (λ m. m ≡ raw_makes link (words call.now)) }
-{
-    match call {
-        RawCall::Subscribe {
-            topic,
-            consumer_id,
-            ..
-        } => Ok(Makes::Consumer {
+    match subscribed {
+        Some(Subscribed { consumer, topic }) => Makes::Consumer {
             link,
-            number: *consumer_id,
-            topic: Text::new(topic.clone()?),
-        }),
-        RawCall::CreateProducer { .. }
-        | RawCall::Send { .. }
-        | RawCall::CloseProducer { .. }
-        | RawCall::SendFlow { .. }
-        | RawCall::SendAck { .. }
-        | RawCall::CloseConsumer { .. } => Ok(Makes::Nothing),
+            number: consumer,
+            topic,
+        },
+        None => Makes::Nothing,
     }
 }
 
-/// A request is queued: its reply is waited for, where it has one.
+/// A frame is queued: its reply is waited for, where it has one.
 fn waits(alloc: Global, wanted: Wanted) -> Result<Turn<Plan, Verdict>, NoMemory>
     ensures { IfOk result (λ turn. turn ≡ waits wanted) }
 {
@@ -134,12 +129,23 @@ fn waits(alloc: Global, wanted: Wanted) -> Result<Turn<Plan, Verdict>, NoMemory>
     }
 }
 
+/// A frame stands in the line: that it is queued is waited for, where it has a reply.
+fn stands(alloc: Global, wanted: Wanted) -> Result<Turn<Plan, Verdict>, NoMemory>
+    ensures { IfOk result (λ turn. turn ≡ stands wanted) }
+{
+    if answers::is_answered(wanted.number) {
+        Ok(Turn::Stays(Plan::Asking(wanted), Action::Rest))
+    } else {
+        done(alloc, Makes::Nothing)
+    }
+}
+
 /// A reply has come.
 fn replied(alloc: Global, wanted: Wanted, reply: Received) -> Result<Turn<Plan, Verdict>, NoMemory>
     ensures { IfOk result (λ turn. turn ≡ Turn.Gives (replied wanted reply)) }
 {
     let is_answer = answers::is_answer(wanted.number, &reply);
-    let said = answers::said(alloc, wanted.number, reply)?;
+    let said = answers::said(alloc, wanted.says, wanted.number, reply)?;
     let makes = if is_answer {
         wanted.makes
     } else {
@@ -153,6 +159,27 @@ fn done(alloc: Global, makes: Makes) -> Result<Turn<Plan, Verdict>, NoMemory>
 {
     let said = Said::new(alloc, Ok(Answer::Done))?;
     Ok(Turn::Gives(Verdict { makes, said }))
+}
+
+/// A call that is not made.
+fn refused(alloc: Global, refusal: Refusal) -> Result<Turn<Plan, Verdict>, NoMemory>
+    ensures { IfOk result (λ turn. turn ≡ Turn.Gives (verdict Makes.Nothing (Failed (failure_of refusal)))) }
+{
+    let error = refusal_error(alloc, refusal)?;
+    let said = Said::new(alloc, Err(error))?;
+    Ok(Turn::Gives(Verdict {
+        makes: Makes::Nothing,
+        said,
+    }))
+}
+
+fn refusal_error(alloc: Global, refusal: Refusal) -> Result<Error, NoMemory>
+    ensures { IfOk result (λ e. failure e ≡ failure_of refusal) }
+{
+    match refusal {
+        Refusal::Shutdown => Ok(Error::Connection(ConnectionError::Shutdown)),
+        Refusal::NoOutbound => Ok(Error::Custom(String::from_str(alloc, "outbound size is 0")?)),
+    }
 }
 
 /// The end of a plan that failed.
@@ -173,16 +200,20 @@ pub fn failure(alloc: Global, error: ConnectionError) -> Result<Verdict, NoMemor
 }
 
 /// Why a plan fails at an outcome.
-fn error_of(outcome: &Outcome) -> ConnectionError
-    ensures { fault result ≡ fault_of outcome.now }
+fn error_of(outcome: Outcome) -> ConnectionError
+    ensures { fault result ≡ fault_of outcome }
 {
     match outcome {
         Outcome::NotFound => ConnectionError::NotFound,
-        Outcome::Failed(kind) => ConnectionError::Io(*kind),
+        Outcome::Failed(kind) => ConnectionError::Io(kind),
         Outcome::Canceled => ConnectionError::Canceled,
-        Outcome::Exhausted => ConnectionError::Exhausted,
-        Outcome::Unencodable => ConnectionError::Encoding(Reason::Frame),
-        Outcome::GotLink(_) | Outcome::Queued | Outcome::Replied(_) | Outcome::Disconnected =>
-            ConnectionError::Disconnected,
+        Outcome::Refused(cause) => cause.into_inner(),
+        Outcome::TimedOut => ConnectionError::Io(IoKind::TimedOut),
+        Outcome::Stopped => ConnectionError::Shutdown,
+        Outcome::GotLink(_)
+        | Outcome::Queued
+        | Outcome::InLine
+        | Outcome::Replied(_)
+        | Outcome::Disconnected => ConnectionError::Disconnected,
     }
 }

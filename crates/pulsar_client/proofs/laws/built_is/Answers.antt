@@ -1,4 +1,4 @@
-use Rattle.pulsar_client.proofs.Newest.{built_is_lem}
+use Rattle.pulsar_client.proofs.Built.{built_is_lem}
 use Rattle.pulsar_client.proofs.laws.built_is.Goals as goal
 
 pub returns : goal.returns

@@ -1,5 +1,5 @@
-use Rattle.pulsar_client.proofs.Polls.{polls_follow_lem}
 use Rattle.pulsar_client.proofs.Once.{ends_once_lem}
+use Rattle.pulsar_client.proofs.Polls.{polls_follow_lem}
 use Rattle.pulsar_client.proofs.laws.polls_follow.Goals as goal
 
 pub returns : goal.returns

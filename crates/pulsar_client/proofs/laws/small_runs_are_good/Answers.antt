@@ -1,5 +1,13 @@
-use Rattle.pulsar_client.proofs.Traces.{answered_good, early_good, failed_good, polled_good}
+use Rattle.pulsar_client.proofs.Traces.{answered_good, deadline_good, early_good, failed_good, line_good, polled_good, stopped_good}
 use Rattle.pulsar_client.proofs.laws.small_runs_are_good.Goals as goal
 
 pub returns : goal.returns
-returns c = record { answered = answered_good; early = early_good; fails = failed_good; polled = polled_good }
+returns c = record {
+  answered = answered_good;
+  early = early_good;
+  fails = failed_good;
+  polled = polled_good;
+  deadline = deadline_good;
+  line = line_good;
+  stopped = stopped_good;
+}

@@ -1,7 +1,7 @@
 use Rattle.std.proofs.Common.{◌≡◌, map, take}
 use Rattle.std.specs.Option.{option_map}
 use Rattle.pulsar_cli.specs.MessageWords.{all, blank}
-use Rattle.pulsar_cli.specs.Shown.{draft_of}
+use Rattle.pulsar_cli.specs.Parsed.{draft_of}
 use Rattle.pulsar_cli.proofs.grammar.message.all.Given as goal
 
 abbrev pub invariant-loop-word : goal.invariant-loop-word

@@ -1,6 +1,6 @@
 use Rattle.std.proofs.Common.{◌∙◌, ap, map}
-use Rattle.pulsar_link.specs.RawCall.{property}
-use Rattle.pulsar_cli.specs.Shown.{draft_of}
+use Rattle.pulsar_messages.specs.Content.{property}
+use Rattle.pulsar_cli.specs.Parsed.{draft_of}
 use Rattle.pulsar_cli.proofs.Folds.{property_inserted}
 use Rattle.pulsar_cli.proofs.grammar.message.with_property.Goals as goal
 

@@ -1,7 +1,7 @@
 use Rattle.std.proofs.Common.{◌≡◌, ◌++◌, ◌∷◌, take, length}
 use Rattle.std.specs.Prelude.{string_bytes}
 use Rattle.std.specs.Fmt.{decimal}
-use Rattle.pulsar_link.specs.Failures.{sent}
+use Rattle.pulsar_session.specs.Failures.{sent}
 use Rattle.pulsar_cli.specs.ErrorText.{outcomes}
 use Rattle.pulsar_cli.proofs.printing.error.push_outcomes.Given as goal
 

@@ -7,4 +7,4 @@ pub returns-clause-reads : goal.returns-clause-reads
 returns-clause-reads c = λ put read h a.
     let is = c.in-Ok.ensures ∙ ap line c.deref.ensures.value in
     let next = c.in_ok-take.ensures.reads c.args.self.now.pending.items (sym is) put read h a in
-    (next.0, reads-same next.1 refl (record { url = refl; time = refl }) (record { out = refl; events = refl }) refl)
+    (next.0, reads-same next.1 refl refl (record { out = refl; events = refl }) refl)

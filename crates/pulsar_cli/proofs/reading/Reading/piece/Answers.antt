@@ -1,5 +1,5 @@
 use Rattle.std.proofs.Common.{rules, ◌≡◌, ◌∷◌, ◌++◌, ◌∙◌, sym, [], Err}
-use Rattle.pulsar_cli.specs.Shown.{IsWithinLine}
+use Rattle.pulsar_cli.specs.Parsed.{IsWithinLine}
 use Rattle.pulsar_cli.specs.declared.stop.Stop.TheVariants as stop
 use Rattle.pulsar_cli.proofs.Readings.{behind-line, line-read, refuses-here, runs-on}
 use Rattle.pulsar_cli.proofs.reading.Reading.piece.Goals as goal

@@ -1,9 +1,10 @@
 use Rattle.std.proofs.Common.{◌+◌, ◌∙◌, ap, refl, subst, []}
 use Rattle.std.specs.Prelude.{string_bytes}
 use Rattle.pulsar_cli.specs.Grammar.{Refused}
-use Rattle.pulsar_cli.specs.Script.{options}
-use Rattle.pulsar_cli.specs.Shown.{Reads, line_of, said, setting_of}
-use Rattle.pulsar_cli.proofs.Readings.{no-client, reads-nothing, reads-set, reads-step, refuses-set, said-same, script-line}
+use Rattle.pulsar_client.specs.Client.{chosen}
+use Rattle.pulsar_cli.specs.Parsed.{line_of, setting_of}
+use Rattle.pulsar_cli.specs.Shown.{Reads}
+use Rattle.pulsar_cli.proofs.Readings.{no-client, reads-nothing, reads-set, reads-step, refuses-set, script-line}
 use Rattle.pulsar_cli.proofs.reading.Reading.take.Goals as goal
 
 pub returns-in_err-set-in-Sets-clause-refused : goal.returns-in_err-set-in-Sets-clause-refused
@@ -20,10 +21,10 @@ pub returns-in_ok-counts-in-Sets-clause-reads : goal.returns-in_ok-counts-in-Set
 returns-in_ok-counts-in-Sets-clause-reads c = λ bytes is put read h a.
     let set = c.in_ok-set-in-Sets.ensures in
     let next = c.in_ok-counts-in-Sets.ensures in
-    let none = no-client (options (said c.args.self.now h)) c.args.self.now.client h a.client set.unmade in (
+    let none = no-client (chosen c.args.self.now.options) c.args.self.now.client h a.client set.unmade in (
       [],
       reads-set bytes (setting_of c.in-Sets.setting) (subst (λ t. Reads c.args.self.now put read t) none a) (is ∙ ap line_of c.in-Sets.is)
-          (next.client ∙ set.client ∙ set.unmade) (said-same [] next.options ∙ set.ok)
+          (next.client ∙ set.client ∙ set.unmade) (ap chosen next.options ∙ set.ok)
           (record { out = next.text.out ∙ set.text.out; events = next.text.events ∙ set.text.events }) (next.ok ∙ ap (λ n. n + 1) set.line),
     )
 
@@ -34,7 +35,7 @@ returns-in_ok-counts-in-Happens-clause-reads c = λ bytes is put read h a.
     let done = step.history h a.client in (
       _,
       reads-step bytes a (is ∙ ap line_of c.in-Happens.is) (rw next.client done.1)
-          (record { url = next.options.url ∙ step.options.url; time = next.options.time ∙ step.options.time })
+          (next.options ∙ step.options)
           (ap string_bytes next.text.out ∙ done.2) (next.text.events ∙ step.events) (next.ok ∙ ap (λ n. n + 1) step.line),
     )
 

@@ -1,0 +1,5 @@
+use Rattle.std.proofs.Common.{refl}
+use Rattle.pulsar_cli.proofs.options.defaults.Goals as goal
+
+pub returns : goal.returns
+returns c = rw c.in_ok-url.ensures.ok refl

@@ -1,0 +1,50 @@
+-- For the code's contracts alone: what its parsed values stand for.
+use Rattle.std.specs.Prelude.{◌≡◌, ◌==◌, ℕ, List, Option, Some, None, false, map, string_bytes, Vec}
+use Rattle.std.specs.List.{All}
+use Rattle.pulsar_wire.specs.Row.{Values}
+use Rattle.pulsar_wire.specs.Rows.{message_id}
+use Rattle.pulsar_wire.specs.Views.{message_id_values}
+use Rattle.pulsar_wire.specs.declared.commands.ids.MessageIdData.{MessageIdData}
+use Rattle.pulsar_messages.specs.Content.{authentication_values, producer_message_values}
+use Rattle.pulsar_client.specs.Content.{heard}
+use Rattle.pulsar_cli.specs.Words.{digits_from, in_range}
+use Rattle.pulsar_cli.specs.MessageWords.{Draft}
+use Rattle.pulsar_cli.specs.Grammar.{Setting, Url, Auth, Outbound, Timeout, ConnectionTimeout, First, Now, Line, Nothing, Sets, Happens, Refused}
+use Rattle.pulsar_cli.specs.declared.grammar.line.Line.{Line as Parsed}
+use Rattle.pulsar_cli.specs.declared.grammar.line.Line.TheVariants as parsed
+use Rattle.pulsar_cli.specs.declared.grammar.message.Draft.{Draft as ParsedDraft}
+use Rattle.pulsar_cli.specs.declared.grammar.setting.Setting.{Setting as ParsedSetting}
+use Rattle.pulsar_cli.specs.declared.grammar.setting.Setting.TheVariants as setting
+
+-- the ids of a list
+abbrev pub ids_of : {Z : Type 0} → Vec MessageIdData Z → List (Values message_id)
+ids_of ids = map message_id_values ids.items
+
+-- what the words of a message so far say
+abbrev pub draft_of : ParsedDraft → Draft
+draft_of d = record { message = producer_message_values d.message; has_data = d.has_data }
+
+-- what a parsed setting is, and a parsed line
+abbrev pub setting_of : ParsedSetting → Setting
+setting_of (setting.Url text) = Url (string_bytes text)
+setting_of (setting.Auth credential) = Auth (authentication_values credential)
+setting_of (setting.Outbound size) = Outbound size
+setting_of (setting.Timeout time) = Timeout time
+setting_of (setting.ConnectionTimeout time) = ConnectionTimeout time
+setting_of (setting.First number) = First number
+setting_of (setting.Now time) = Now time
+
+abbrev pub line_of : Parsed → Line
+line_of parsed.Nothing = Nothing
+line_of (parsed.Sets s) = Sets (setting_of s)
+line_of (parsed.Happens e) = Happens (heard e)
+line_of parsed.Refused = Refused
+
+-- the number of the digits that follow those that were read
+abbrev pub more_digits : Option ℕ → List ℕ → Option ℕ
+more_digits None ds = None
+more_digits (Some n) ds = in_range (digits_from n ds)
+
+-- there is no line feed
+abbrev pub IsWithinLine : List ℕ → Type 0
+IsWithinLine bytes = All (λ b. (b == 10) ≡ false) bytes

@@ -73,7 +73,10 @@ pub fn told(
             retries,
             link,
         } => match outcome {
-            Outcome::Replied(reply) => heard(ways, retries, link, count_in(alloc, ways, retries, &reply)?),
+            Outcome::Replied(reply) => {
+                let heard = count_in(alloc, ways, retries, &reply)?;
+                Ok(told_by(ways, retries, link, heard))
+            }
             outcome => failed(alloc, ways, again, retries, error_of(outcome)),
         },
         Counting::Resting { retries, link } => match outcome {
@@ -142,20 +145,21 @@ fn failed(
     }
 }
 
-fn heard(
+/// What a reply says.
+fn told_by(
     ways: &Ways,
     retries: u32,
     link: u64,
     heard: Heard<u32>,
-) -> Result<Turn<Counting, Result<u32, Refusal>>, NoMemory>
-    ensures { IfOk result (λ turn. turn ≡ meaning.count_heard ways.now retries link heard) }
+) -> Turn<Counting, Result<u32, Refusal>>
+    ensures { result ≡ meaning.count_heard ways.now retries link heard }
 {
-    Ok(match heard {
+    match heard {
         Heard::Says(count) => Turn::Gives(Ok(count)),
         Heard::Later => Turn::Stays(
             Counting::Resting { retries, link },
             Action::Wait(ways.retry_delay),
         ),
         Heard::Denies(refusal) => Turn::Gives(Err(refusal)),
-    })
+    }
 }

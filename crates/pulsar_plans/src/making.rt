@@ -7,7 +7,7 @@ ghost use Rattle.pulsar_plans.specs.Plans as meaning;
 
 use crate::content::{Address, Refusal, Text};
 use crate::question::Request;
-use crate::replies::refusal;
+use crate::replies::why_refused;
 use crate::retry::{self, Retrying};
 use crate::turn::{Action, Outcome, Turn, Ways, error_of};
 use pulsar_session::Received;
@@ -138,5 +138,5 @@ fn answered(
     if reply.is(answer) {
         return Ok(Ok(reply));
     }
-    Ok(Err(refusal(alloc, &reply)?))
+    Ok(Err(why_refused(alloc, &reply)?))
 }

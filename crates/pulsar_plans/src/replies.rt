@@ -279,7 +279,7 @@ fn other_body(alloc: Global, body: &Body) -> Result<Refusal, NoMemory>
 
 /// Why a reply fails a question that expects another body.
 #[tactic(auto, unfolding(crate::specs::Replies::unexpected))]
-pub fn refusal(alloc: Global, reply: &Received) -> Result<ConnectionError, NoMemory>
+pub fn why_refused(alloc: Global, reply: &Received) -> Result<ConnectionError, NoMemory>
     ensures { IfOk result (λ e. fault e ≡ meaning.unexpected reply.now reply.now.body) }
 {
     let message = reply.message();

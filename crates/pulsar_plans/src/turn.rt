@@ -1,13 +1,14 @@
 //! What plans are told, and what they do.
 
-ghost use Rattle.std.specs.Prelude.{◌≡◌};
+ghost use Rattle.std.specs.Prelude.{◌≡◌, IfOk};
 ghost use Rattle.pulsar_session.specs.Failures.{fault};
 ghost use Rattle.pulsar_plans.specs.Plans.{fault_of, is_lost};
 
 use crate::content::{Address, Cause};
 use crate::question::Request;
 use pulsar_session::Received;
-use pulsar_wire::error::ConnectionError;
+use pulsar_wire::error::{ConnectionError, NoMemory};
+use std::alloc::Global;
 
 /// How a client looks for brokers: where it begins, how long it waits before a retry, and how many retries there may be.
 #[derive(Drop)]
@@ -66,4 +67,17 @@ pub fn is_lost(error: &ConnectionError) -> bool
     ensures { result ≡ is_lost (fault error.now) }
 {
     matches!(error, ConnectionError::Disconnected)
+}
+
+impl Ways {
+    /// The same ways once more.
+    pub fn copy(&self, alloc: Global) -> Result<Ways, NoMemory>
+        ensures { IfOk result (λ w. w ≡ self.now) }
+    {
+        Ok(Ways {
+            base: self.base.copy(alloc)?,
+            retry_delay: self.retry_delay,
+            max_retries: self.max_retries,
+        })
+    }
 }

@@ -16,7 +16,7 @@ use Rattle.pulsar_session.specs.declared.states.Stage.{Stage}
 use Rattle.pulsar_session.specs.declared.states.Stage.TheVariants.{Dialing, Handshaking, Ready, Over}
 use Rattle.url.specs.Parser.{Parsed, parse_url}
 use Rattle.url.specs.Parts.{Parts}
-use Rattle.pulsar_plans.specs.Address.{Place, address_key, base_of, is_reachable}
+use Rattle.pulsar_plans.specs.Address.{Place, address_key, base_of, behind, is_reachable}
 use Rattle.pulsar_plans.specs.Backoff.{backoff, capped, connection_id, jitter, one_more}
 use Rattle.pulsar_plans.specs.declared.turn.Ways.{Ways}
 use Rattle.pulsar_discovery.specs.declared.manager.ConnectionManager.{ConnectionManager}
@@ -137,7 +137,7 @@ setup t p l now =
       id = connection_id t.seed l;
       url = p.url;
       auth = option_map authentication_values t.auth;
-      proxy = if p.proxy then Some p.broker_url else None;
+      proxy = behind p;
       connection_timeout = t.connection.connection_timeout;
       operation_timeout = t.operation.operation_timeout;
       outbound = t.outbound;
@@ -269,10 +269,13 @@ is_unused_since t now (Runs r) = false
 is_unused_since t now (Pauses r) = false
 is_unused_since t now (Serves since) = nat_le (capped (since + t.connection.connection_max_idle)) now
 
+abbrev pub is_idle_by : Terms → (now : ℕ) → Phase → link.Seen → Bool
+is_idle_by t now phase c = link.is_ready c.stage && is_unused_since t now phase
+
 abbrev pub is_idle_at : Terms → (now : ℕ) → Option Seat → Option link.Seen → Bool
 is_idle_at t now None c = false
 is_idle_at t now (Some s) None = false
-is_idle_at t now (Some s) (Some c) = link.is_ready c.stage && is_unused_since t now s.phase
+is_idle_at t now (Some s) (Some c) = is_idle_by t now s.phase c
 
 -- a ready connection was not got for so long
 abbrev pub is_idle : (link now : ℕ) → Known → Bool

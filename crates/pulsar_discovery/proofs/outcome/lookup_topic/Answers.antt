@@ -1,0 +1,12 @@
+use Rattle.std.proofs.Common.{◌≡◌, subst, string_bytes, List, ℕ, Option}
+use Rattle.std.specs.Option.{option_copied, option_map}
+use Rattle.pulsar_messages.specs.Content.{consumer_options_values, producer_options_values}
+use Rattle.pulsar_messages.specs.Words.{CreateProducer, LookupPartitionedTopic, LookupTopic, Subscribe}
+use Rattle.pulsar_frame.specs.Shown.{message_values}
+use Rattle.pulsar_session.specs.Link as link
+use Rattle.pulsar_discovery.proofs.outcome.lookup_topic.Goals as goal
+
+pub returns : goal.returns
+returns c =
+    subst (λ t. message_values c.in_ok-message.message ≡ link.message_of 0 0 (LookupTopic t c.args.authoritative)) c.as_str.ensures.value
+    (c.in_ok-message.ensures 0)

@@ -11,7 +11,7 @@ use Rattle.pulsar_wire.specs.declared.error.ConnectionError.{ConnectionError}
 use Rattle.pulsar_wire.specs.declared.error.ConnectionError.TheVariants as error
 use Rattle.pulsar_messages.specs.Content.{authentication_values}
 use Rattle.pulsar_session.specs.Failures.{Fault, Io, Authentication, NotFound, Exhausted, NoMemory, fault}
-use Rattle.pulsar_session.specs.Link as link
+use Rattle.pulsar_session.specs.Link as session
 use Rattle.pulsar_session.specs.declared.states.Stage.{Stage}
 use Rattle.pulsar_session.specs.declared.states.Stage.TheVariants.{Dialing, Handshaking, Ready, Over}
 use Rattle.url.specs.Parser.{Parsed, parse_url}
@@ -38,7 +38,7 @@ pub record Known : Type 0 where
   pub links : ℕ
   pub link_of : (key : List ℕ) → Option ℕ
   pub seat : ℕ → Option Seat
-  pub connection : ℕ → Option link.Seen
+  pub connection : ℕ → Option session.Seen
 
 abbrev pub known : ConnectionManager → Known
 known m =
@@ -131,7 +131,7 @@ abbrev pub gets : Place → Known → GotValues
 gets p k = if is_reachable p then got_by (standing p k) k.links else GotRefused NotFound
 
 -- a connection that is started: its id is drawn, and behind a proxy it tells the broker that it wants
-abbrev pub setup : Terms → Place → (link now : ℕ) → link.Setup
+abbrev pub setup : Terms → Place → (link now : ℕ) → session.Setup
 setup t p l now =
     record {
       id = connection_id t.seed l;
@@ -155,7 +155,7 @@ starts p r now k =
       links = k.links + 1;
       link_of = put_key (address_key p) (Some k.links) k.link_of;
       seat = put_at k.links (Some (seat_of p (Runs r))) k.seat;
-      connection = put_at k.links (Some (link.fresh (setup k.terms p k.links now))) k.connection;
+      connection = put_at k.links (Some (session.fresh (setup k.terms p k.links now))) k.connection;
     }
 
 abbrev pub in_phase : ℕ → Place → Phase → Known → Known
@@ -192,12 +192,12 @@ seen_running t l r Handshaking e = seen.Same
 seen_running t l r Ready e = seen.Ready
 seen_running t l r Over e = seen_failed t l r e
 
-abbrev pub seen_by : Terms → (link : ℕ) → Phase → link.Seen → Seen
+abbrev pub seen_by : Terms → (link : ℕ) → Phase → session.Seen → Seen
 seen_by t l (Runs r) c = seen_running t l r c.stage c.error
 seen_by t l (Pauses r) c = seen.Same
-seen_by t l (Serves since) c = if link.is_over c.stage then seen.Ended else seen.Same
+seen_by t l (Serves since) c = if session.is_over c.stage then seen.Ended else seen.Same
 
-abbrev pub seen_at : Terms → (link : ℕ) → Option Seat → Option link.Seen → Seen
+abbrev pub seen_at : Terms → (link : ℕ) → Option Seat → Option session.Seen → Seen
 seen_at t l None c = seen.Same
 seen_at t l (Some s) None = seen.Same
 seen_at t l (Some s) (Some c) = seen_by t l s.phase c
@@ -269,10 +269,10 @@ is_unused_since t now (Runs r) = false
 is_unused_since t now (Pauses r) = false
 is_unused_since t now (Serves since) = nat_le (capped (since + t.connection.connection_max_idle)) now
 
-abbrev pub is_idle_by : Terms → (now : ℕ) → Phase → link.Seen → Bool
-is_idle_by t now phase c = link.is_ready c.stage && is_unused_since t now phase
+abbrev pub is_idle_by : Terms → (now : ℕ) → Phase → session.Seen → Bool
+is_idle_by t now phase c = session.is_ready c.stage && is_unused_since t now phase
 
-abbrev pub is_idle_at : Terms → (now : ℕ) → Option Seat → Option link.Seen → Bool
+abbrev pub is_idle_at : Terms → (now : ℕ) → Option Seat → Option session.Seen → Bool
 is_idle_at t now None c = false
 is_idle_at t now (Some s) None = false
 is_idle_at t now (Some s) (Some c) = is_idle_by t now s.phase c

@@ -6,7 +6,7 @@ ghost use Rattle.std.specs.Option.{option_copied, option_map};
 ghost use Rattle.std.specs.Ordering.{nat_cmp};
 ghost use Rattle.pulsar_messages.specs.Content.{authentication_values};
 ghost use Rattle.pulsar_session.specs.Failures.{fault};
-ghost use Rattle.pulsar_session.specs.Link as link;
+ghost use Rattle.pulsar_session.specs.Link as session;
 ghost use Rattle.pulsar_plans.specs.Address.{base_of, place};
 ghost use Rattle.pulsar_discovery.specs.Manager as meaning;
 ghost use Rattle.pulsar_discovery.specs.Manager.{Is, OnGot, known};
@@ -411,7 +411,7 @@ fn dial(
     link: u64,
     now: u64,
 ) -> Result<Connection, NoMemory>
-    ensures { IfOk result (λ c. c ≡ link.fresh (meaning.setup terms.now address.now link now)) }
+    ensures { IfOk result (λ c. c ≡ session.fresh (meaning.setup terms.now address.now link now)) }
 {
     Connection::new(
         alloc,
@@ -456,6 +456,7 @@ fn set<T: Drop>(
 }
 
 /// The newest connection of an address is set, or forgotten.
+#[tactic(auto, using(std::proofs::lemmas::Map::Text::text_keys))]
 fn set_link(
     all: &mut BTreeMap<String, u64>,
     key: String,

@@ -43,10 +43,7 @@ pub fn manager(alloc: Global, retries: Option<u32>) -> Result<ConnectionManager,
 fn message(alloc: Global, frame: &[u8]) -> Result<Message, Fail> {
     let mut frames = FrameReader::new(alloc);
     frames.feed(frame)?;
-    match frames.next()? {
-        Some(message) => Ok(message),
-        None => Err(Fail::new("no frame")),
-    }
+    Ok(frames.next()?.ok_or(ConnectionError::NotFound)?)
 }
 
 fn outcome(alloc: Global, tell: Tell) -> Result<Outcome, Fail> {

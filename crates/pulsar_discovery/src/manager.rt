@@ -2,7 +2,7 @@
 
 ghost use Rattle.std.specs.Prelude.{◌≡◌, ◌<◌, ◌-◌, ◌^◌, ℕ, Some, None, IfOk, IfErr, OnOk, IsTrue, string_bytes};
 ghost use Rattle.std.specs.BTreeMap.{get};
-ghost use Rattle.std.specs.Option.{option_copied, option_map};
+ghost use Rattle.std.specs.Option.{option_copied, option_copied_mut, option_map};
 ghost use Rattle.std.specs.Ordering.{nat_cmp};
 ghost use Rattle.pulsar_messages.specs.Content.{authentication_values};
 ghost use Rattle.pulsar_session.specs.Failures.{fault};
@@ -241,7 +241,9 @@ impl ConnectionManager {
     }
 
     /// A connection that has not ended. It is told its events by this loan.
-    pub fn link(&mut self, link: u64) -> Option<&mut Connection> {
+    pub fn link(&mut self, link: u64) -> Option<&mut Connection>
+        ensures { option_copied_mut result ≡ (known self.old).connection link }
+    {
         self.connections.get_mut(&link)
     }
 
@@ -269,14 +271,15 @@ impl ConnectionManager {
 
     /// What became of a connection is kept.
     fn settle(&mut self, link: u64, now: u64, seen: Seen) -> Result<(), NoMemory>
-        ensures { OnOk result (Is (known self.new) (meaning.after_seen link now ((known self.old)).series.seat link) seen (known self.old)) }
+        ensures { OnOk result (Is (known self.new) (meaning.after_seen link now ((known self.old).series.seat link) seen (known self.old))) }
     {
         let Some(seat) = self.addresses.take(link) else {
             return Ok(());
         };
         self.addresses
             .put(link, seat.address, phase_after(now, seat.phase, seen))?;
-        clear(&mut self.connections, link, is_over(seen))
+        clear(&mut self.connections, link, is_over(seen))?;
+        Ok(())
     }
 
     /// The next attempt of the series of a connection whose attempt failed, and its number. There is want of memory where no
@@ -292,7 +295,8 @@ impl ConnectionManager {
         match self.addresses.take(link) {
             Some(seat) => {
                 let retries = retries_of(seat.phase).saturating_add(1);
-                self.start(seat.address, retries, now)
+                let next = self.start(seat.address, retries, now)?;
+                Ok(next)
             }
             None => Err(NoMemory),
         }

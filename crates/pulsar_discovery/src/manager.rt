@@ -77,6 +77,9 @@ pub struct ConnectionManager {
 }
 
 impl ConnectionManager {
+    ghost use Rattle.std.specs.Borrow.{sem};
+    ghost use Rattle.pulsar_discovery.specs.Lending.{LendsLink};
+
     /// A manager without a connection, for the service of this URL.
     pub fn new(
         alloc: Global,
@@ -242,7 +245,8 @@ impl ConnectionManager {
 
     /// A connection that has not ended. It is told its events by this loan.
     pub fn link(&mut self, link: u64) -> Option<&mut Connection>
-        ensures { option_copied_mut result ≡ (known self.old).connection link }
+        ensures* writes_back { sem 𝓛 (LendsLink self.entry link result) }
+        ensures value { option_copied_mut result ≡ (known self.old).connection link }
     {
         self.connections.get_mut(&link)
     }

@@ -1,2 +1,3 @@
-pub mod Once
-pub mod Puts
+mod KeyTexts
+mod Once
+mod Puts

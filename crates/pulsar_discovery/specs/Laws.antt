@@ -1,5 +1,7 @@
 -- What holds of machines and of the manager.
-use Rattle.std.specs.Prelude.{◌≡◌, ℕ, List, ◌∷◌}
+use Rattle.std.specs.Prelude.{◌≡◌, ℕ, ◌<◌, ◌^◌, List, ◌∷◌, length}
+use Rattle.url.specs.Parts.{serialize}
+use Rattle.pulsar_plans.specs.Address.{Place, address_key}
 use Rattle.pulsar_plans.specs.declared.plan.Procedure.{Procedure}
 use Rattle.pulsar_plans.specs.declared.turn.Ways.{Ways}
 use Rattle.pulsar_discovery.specs.Machine.{Refuse, lost, next_after, stage_after}
@@ -17,3 +19,9 @@ LostBehindTheEnd =
 -- each change of a connection is told once
 abbrev pub ToldOnce : Type 0
 ToldOnce = (l now : ℕ) (k : Known) → looks l (after_look l now k) ≡ Same
+
+-- two addresses with one key have the same texts
+abbrev pub KeysDiffer : Type 0
+KeysDiffer =
+    (a b : Place) → length (serialize a.url) < 2 ^ 64 → length (serialize b.url) < 2 ^ 64 → address_key a ≡ address_key b
+    → (serialize a.url ≡ serialize b.url) × (a.broker_url ≡ b.broker_url) × (a.proxy ≡ b.proxy)

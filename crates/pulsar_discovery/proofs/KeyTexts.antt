@@ -51,10 +51,10 @@ read_back u v a b false false h g e =
     let w = split u v a b (decimal_injective (length u) (length v) h g p.0) tails in (w.0, w.1, refl)
 read_back u v a b true false h g e =
     let p = apart (decimal (length u)) (decimal (length v)) (codes "proxy " ++ (u ++ a)) (codes "broker " ++ (v ++ b)) (digits (length u) h) (digits (length v) g) e in
-    let other : 112 ≡ 98 = cc in absurd (omega arith)
+    let other : ◌≡◌ {A = ℕ} 112 98 = cc in absurd (omega arith)
 read_back u v a b false true h g e =
     let p = apart (decimal (length u)) (decimal (length v)) (codes "broker " ++ (u ++ a)) (codes "proxy " ++ (v ++ b)) (digits (length u) h) (digits (length v) g) e in
-    let other : 98 ≡ 112 = cc in absurd (omega arith)
+    let other : ◌≡◌ {A = ℕ} 98 112 = cc in absurd (omega arith)
 
 pub keys_differ : (a b : Place) → length (serialize a.url) < 2 ^ 64 → length (serialize b.url) < 2 ^ 64 → address_key a ≡ address_key b
     → (serialize a.url ≡ serialize b.url) × (a.broker_url ≡ b.broker_url) × (a.proxy ≡ b.proxy)

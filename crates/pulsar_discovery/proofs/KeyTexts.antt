@@ -1,5 +1,5 @@
 -- The parts of an address are read back from its key.
-use Rattle.std.proofs.Common.{◌≡◌, ◌≢◌, ◌∙◌, ap, refl, sym, ℕ, ◌+◌, ◌<◌, ◌^◌, ◌%◌, ◌/◌, Bool, true, false, List, [], ◌∷◌, ◌++◌, length, codes, decimal, arith}
+use Rattle.std.proofs.Common.{◌≡◌, ◌≢◌, ◌∙◌, ap, refl, ℕ, ◌+◌, ◌<◌, ◌^◌, ◌%◌, Bool, true, false, List, [], ◌∷◌, ◌++◌, length, codes, decimal, arith}
 use Rattle.std.proofs.lemmas.Fmt.{decimal_by_steps, decimal_injective}
 use Rattle.url.specs.Parts.{serialize}
 use Rattle.pulsar_plans.specs.Address.{Place, address_key, key_of}

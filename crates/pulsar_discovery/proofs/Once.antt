@@ -1,11 +1,10 @@
 -- Each change of a connection is told once.
-use Rattle.std.proofs.Common.{◌≡◌, ◌∙◌, ap, sym, refl, ℕ, Bool, true, false, Option, Some, None, ◌==◌, if◌then◌else◌, arith}
+use Rattle.std.proofs.Common.{◌≡◌, ◌∙◌, ap, refl, ℕ, Bool, true, false, Option, Some, None, ◌==◌, if◌then◌else◌, arith}
 use Rattle.std.proofs.lemmas.Bool.Decides.{nat_tests}
 use Rattle.pulsar_session.specs.Link as session
 use Rattle.pulsar_session.specs.declared.states.Stage.{Stage}
 use Rattle.pulsar_session.specs.declared.states.Stage.TheVariants.{Dialing, Handshaking, Ready, Over}
-use Rattle.pulsar_session.specs.Failures.{Fault}
-use Rattle.pulsar_discovery.specs.Manager.{Known, after_look, after_seen, is_over, is_retryable, left_of, looks, phase_after, seen_at, seen_by, seen_failed, seen_running}
+use Rattle.pulsar_discovery.specs.Manager.{Known, after_look, after_seen, is_over, left_of, looks, phase_after, seen_at, seen_by, seen_running}
 use Rattle.pulsar_discovery.specs.Series.{put_at, reseated, seat_of}
 use Rattle.pulsar_discovery.specs.declared.addresses.Phase.{Phase}
 use Rattle.pulsar_discovery.specs.declared.addresses.Phase.TheVariants.{Runs, Pauses, Serves}

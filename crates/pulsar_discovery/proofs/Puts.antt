@@ -1,10 +1,10 @@
 -- What is put where something was put before.
-use Rattle.std.proofs.Common.{◌≡◌, ◌∙◌, ap, refl, ℕ, ◌+◌, Bool, true, false, cond, Option, Some, None, List, ◌==◌, if◌then◌else◌, bytes_eq}
+use Rattle.std.proofs.Common.{◌≡◌, ◌∙◌, ap, refl, ℕ, ◌+◌, Bool, true, false, Option, Some, None, ◌==◌, if◌then◌else◌, bytes_eq}
 use Rattle.pulsar_session.specs.Link as session
 use Rattle.pulsar_plans.specs.Address.{Place, address_key}
 use Rattle.pulsar_discovery.specs.declared.addresses.Phase.{Phase}
 use Rattle.pulsar_discovery.specs.declared.addresses.Phase.TheVariants.{Runs}
-use Rattle.pulsar_discovery.specs.Series.{IsSeries, Series, begun, put_at, put_key, reseated, seat_of, without}
+use Rattle.pulsar_discovery.specs.Series.{IsSeries, Series, reseated, seat_of, without}
 use Rattle.pulsar_discovery.specs.Manager.{GotValues, GotReady, GotStarted, GotWaiting, GotRefused, Is, Known, OnValues, setup, starts}
 use Rattle.pulsar_session.specs.Failures.{Io, SlowDown, Disconnected, PulsarError, Unexpected, Decoding, Encoding, SocketAddr, UnexpectedResponse, Authentication, NotFound, Canceled, Shutdown, Exhausted, NoMemory}
 
@@ -36,10 +36,10 @@ starts_behind a b k p r now h g =
       series = record {
         link_of = λ key. g.series.link_of key ∙ put_both (bytes_eq (address_key p) key) (Some b.links) (Some k.links) (b.series.link_of key) (k.series.link_of key) (ap Some h.links) (h.series.link_of key);
         seat = λ n. g.series.seat n ∙ (ap (λ m. if n == m then Some (seat_of p (Runs r)) else b.series.seat n) h.links
-          ∙ put_both (n == k.links) (Some (seat_of p (Runs r))) (Some (seat_of p (Runs r))) (b.series.seat n) (k.series.seat n) refl (h.series.seat n));
+            ∙ put_both (n == k.links) (Some (seat_of p (Runs r))) (Some (seat_of p (Runs r))) (b.series.seat n) (k.series.seat n) refl (h.series.seat n));
       };
       connection = λ n. g.connection n ∙ (ap (λ m. if n == m then Some (session.fresh (setup b.terms p m now)) else b.connection n) h.links
-        ∙ put_both (n == k.links) (Some (session.fresh (setup b.terms p k.links now))) (Some (session.fresh (setup k.terms p k.links now))) (b.connection n) (k.connection n)
+          ∙ put_both (n == k.links) (Some (session.fresh (setup b.terms p k.links now))) (Some (session.fresh (setup k.terms p k.links now))) (b.connection n) (k.connection n)
           (ap (λ t. Some (session.fresh (setup t p k.links now))) h.terms) (h.connection n));
     }
 

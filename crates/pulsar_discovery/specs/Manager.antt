@@ -1,6 +1,6 @@
 -- Which connection serves an address: the one that is ready, or that comes of the series of attempts that runs.  (Pulsar binary
 -- protocol, Connection establishment; Topic lookup)
-use Rattle.std.specs.Prelude.{◌≡◌, ℕ, ◌+◌, ◌-◌, ◌^◌, nat_lt, nat_le, Bool, true, false, ◌&&◌, List, bytes_eq, Option, Some, None, Ok, Err, ◌==◌, if◌then◌else◌}
+use Rattle.std.specs.Prelude.{◌≡◌, ℕ, ◌+◌, ◌-◌, ◌^◌, nat_lt, nat_le, Bool, true, false, ◌&&◌, List, Option, Some, None, Ok, Err, ◌==◌, if◌then◌else◌}
 use Rattle.std.specs.BTreeMap.{get}
 use Rattle.std.specs.Option.{option_map}
 use Rattle.std.specs.Ordering.{nat_cmp}
@@ -153,7 +153,7 @@ is_retryable _ = false
 abbrev pub seen_failed : Terms → (link retries : ℕ) → Option Fault → Seen
 seen_failed t l r e =
     if is_retryable e && nat_lt r t.connection.max_retries then
-      seen.Retry (backoff t.connection.min_backoff t.connection.max_backoff r (jitter t.seed l))
+    seen.Retry (backoff t.connection.min_backoff t.connection.max_backoff r (jitter t.seed l))
     else seen.Failed
 
 abbrev pub seen_running : Terms → (link retries : ℕ) → Stage → Option Fault → Seen

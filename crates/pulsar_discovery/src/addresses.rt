@@ -92,12 +92,7 @@ impl Addresses {
     }
 
     /// Where a series goes on it stands in this phase, and where not its address is free.
-    pub fn put(
-        &mut self,
-        link: u64,
-        address: Address,
-        phase: Option<Phase>,
-    ) -> Result<(), NoMemory>
+    pub fn put(&mut self, link: u64, address: Address, phase: Option<Phase>) -> Result<(), NoMemory>
         ensures { OnOk result (IsSeries (series self.new) (meaning.reseated link address phase (series self.old))) }
     {
         match phase {
@@ -147,11 +142,7 @@ pub fn set<T: Drop>(
 
 /// The newest connection of an address is set, or forgotten.
 #[tactic(auto, using(std::proofs::lemmas::Map::Text::text_keys))]
-fn set_link(
-    all: &mut BTreeMap<String, u64>,
-    key: String,
-    link: Option<u64>,
-) -> Result<(), NoMemory>
+fn set_link(all: &mut BTreeMap<String, u64>, key: String, link: Option<u64>) -> Result<(), NoMemory>
     ensures { OnOk result ((k : List ℕ) → get_by_text all.new k ≡ meaning.put_key (string_bytes key) link (λ j. get_by_text all.old j) k) }
 {
     match link {

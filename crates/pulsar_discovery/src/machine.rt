@@ -98,10 +98,7 @@ fn lost(alloc: Global) -> Result<Turn<Plan, Result<Answer, Refusal>>, NoMemory>
 }
 
 /// Where a machine stands after a turn, and what it says.
-fn said(
-    alloc: Global,
-    turn: Turn<Plan, Result<Answer, Refusal>>,
-) -> Result<(Stage, Next), NoMemory>
+fn said(alloc: Global, turn: Turn<Plan, Result<Answer, Refusal>>) -> Result<(Stage, Next), NoMemory>
     ensures stage { IfOk result (λ s. s.0 ≡ stands turn) }
     ensures next { IfOk result (λ s. step s.1 ≡ step_of turn) }
 {

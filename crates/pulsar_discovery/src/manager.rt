@@ -380,11 +380,7 @@ fn copy_auth(auth: &Option<Authentication>) -> Result<Option<Authentication>, No
 }
 
 /// Nothing is kept of a connection that is over.
-fn clear(
-    connections: &mut BTreeMap<u64, Connection>,
-    link: u64,
-    over: bool,
-) -> Result<(), NoMemory>
+fn clear(connections: &mut BTreeMap<u64, Connection>, link: u64, over: bool) -> Result<(), NoMemory>
     ensures { OnOk result ((l : ℕ) → get nat_cmp connections.new l ≡ meaning.left_of link over (λ m. get nat_cmp connections.old m) l) }
 {
     if over {
@@ -412,20 +408,11 @@ fn seen_by(terms: &Terms, link: u64, phase: Phase, connection: &Connection) -> S
 }
 
 /// What follows an attempt that failed so.
-fn seen_failed(
-    terms: &Terms,
-    link: u64,
-    retries: u32,
-    error: Option<&ConnectionError>,
-) -> Seen
+fn seen_failed(terms: &Terms, link: u64, retries: u32, error: Option<&ConnectionError>) -> Seen
     ensures { result ≡ meaning.seen_failed terms.now link retries (option_map fault (option_copied error.entry)) }
 {
     if is_retryable(error) && retries < terms.connection.max_retries {
-        Seen::Retry(backoff(
-            &terms.connection,
-            retries,
-            jitter(terms.seed, link),
-        ))
+        Seen::Retry(backoff(&terms.connection, retries, jitter(terms.seed, link)))
     } else {
         Seen::Failed
     }

@@ -18,8 +18,7 @@ use pulsar_plans::making::Served;
 use pulsar_plans::plan::Answer;
 use pulsar_plans::question::Question;
 use pulsar_plans::turn::Outcome as Happened;
-use pulsar_session::Received;
-use pulsar_session::messages;
+use pulsar_session::{Received, messages};
 use pulsar_wire::commands::enumerations::SubType;
 use pulsar_wire::error::{ConnectionError, Error, NoMemory};
 use std::alloc::Global;
@@ -76,7 +75,9 @@ pub fn content_of(alloc: Global, outcome: Outcome) -> Result<Told, NoMemory>
     match outcome {
         Outcome::Start => Ok(Told::Begun),
         Outcome::Link(link) => Ok(Told::Then(of_link(alloc, link)?)),
-        Outcome::Reply(message) => Ok(Told::Then(Happened::Replied(Received::new(alloc, message)?))),
+        Outcome::Reply(message) => Ok(Told::Then(Happened::Replied(Received::new(
+            alloc, message,
+        )?))),
         Outcome::Failed(e) => Ok(Told::Then(Happened::Failed(Cause::new(alloc, e)?))),
         Outcome::Moment => Ok(Told::Then(Happened::Woken)),
     }
@@ -138,11 +139,7 @@ pub fn message_of(alloc: Global, question: &Question) -> Result<Message, NoMemor
     }
 }
 
-fn lookup_topic(
-    alloc: Global,
-    topic: &String,
-    authoritative: bool,
-) -> Result<Message, NoMemory>
+fn lookup_topic(alloc: Global, topic: &String, authoritative: bool) -> Result<Message, NoMemory>
     ensures { IfOk result (λ m. message_values m ≡ link.message_of 0 0 (LookupTopic (string_bytes topic.now) authoritative)) }
 {
     let message = messages::lookup_topic(alloc, topic.as_str(), authoritative, 0)?;

@@ -51,7 +51,11 @@ fn an_address_has_one_connection(rt: HostRuntime) -> Result<(), Fail> {
 fn an_attempt_is_tried_again(rt: HostRuntime) -> Result<(), Fail> {
     let mut manager = manager(rt.alloc(), None)?;
     assert!(rt; matches!(manager.get_base_connection(0), Got::Started(0)));
-    end(&mut manager, 0, ConnectionError::Io(IoKind::ConnectionRefused))?;
+    end(
+        &mut manager,
+        0,
+        ConnectionError::Io(IoKind::ConnectionRefused),
+    )?;
     assert!(rt; manager.look(0, 0)? == Seen::Retry(10 + 10 * jitter(0, 0)));
     assert!(rt; matches!(manager.get_base_connection(0), Got::Waiting));
     assert!(rt; manager.again(0, 20)? == 1);

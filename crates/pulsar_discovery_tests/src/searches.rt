@@ -13,8 +13,7 @@ use std::test::Fail;
 const MOST: &[u8] =
     b"\x00\x00\x00\x13\x00\x00\x00\x0f\x08\x16\xb2\x01\x0a\x08\xff\xff\xff\xff\x0f\x10\x00\x18\x00";
 
-const TWO: &[u8] =
-    b"\x00\x00\x00\x0f\x00\x00\x00\x0b\x08\x16\xb2\x01\x06\x08\x02\x10\x00\x18\x00";
+const TWO: &[u8] = b"\x00\x00\x00\x0f\x00\x00\x00\x0b\x08\x16\xb2\x01\x06\x08\x02\x10\x00\x18\x00";
 
 const NOT_READY: &[u8] =
     b"\x00\x00\x00\x0f\x00\x00\x00\x0b\x08\x18\xc2\x01\x06\x18\x02\x20\x00\x30\x06";
@@ -27,8 +26,7 @@ const REDIRECTED: &[u8] =
 
 const SUCCESS: &[u8] = b"\x00\x00\x00\x0a\x00\x00\x00\x06\x08\x0d\x6a\x02\x08\x00";
 
-const MADE: &[u8] =
-    b"\x00\x00\x00\x0e\x00\x00\x00\x0a\x08\x11\x8a\x01\x05\x08\x00\x12\x01p";
+const MADE: &[u8] = b"\x00\x00\x00\x0e\x00\x00\x00\x0a\x08\x11\x8a\x01\x05\x08\x00\x12\x01p";
 
 const ASK_COUNT: &str = "ask 0 0000000e0000000a0815aa01050a01741000\n";
 
@@ -54,7 +52,10 @@ fn a_topic_that_is_a_partition_has_none(rt: HostRuntime) -> Result<(), Fail> {
     let alloc = rt.alloc();
     let machine = discovery(alloc, None)?.lookup_partitioned_topic_number("x-partition-3")?;
     let text = run(alloc, machine, &[Tell::Start, Tell::Start])?;
-    assert_eq!(rt; text.as_str(), "done 0\nrefuse Connection error: Disconnected\n");
+    assert_eq!(rt;
+        text.as_str(),
+        "done 0\nrefuse Connection error: Disconnected\n"
+    );
     Ok(())
 }
 
@@ -65,7 +66,10 @@ fn the_first_of_very_many_partitions_is_looked_up(rt: HostRuntime) -> Result<(),
     let tells = [Tell::Start, Tell::Link(0), Tell::Reply(MOST), Tell::Link(0)];
     let text = run(alloc, machine, &tells)?;
     let part = "ask 0 0000001c000000180817ba01130a0d742d706172746974696f6e2d3010001800\n";
-    assert!(rt; says(alloc, text.as_str(), &[BASE, ASK_COUNT, BASE, part])?, "{text}");
+    assert!(rt;
+        says(alloc, text.as_str(), &[BASE, ASK_COUNT, BASE, part])?,
+        "{text}"
+    );
     Ok(())
 }
 
@@ -87,7 +91,8 @@ fn partitions_are_found_in_order(rt: HostRuntime) -> Result<(), Fail> {
     let text = run(alloc, machine, &tells)?;
     let first = "ask 0 0000001c000000180817ba01130a0d742d706172746974696f6e2d3010001800\n";
     let second = "ask 0 0000001c000000180817ba01130a0d742d706172746974696f6e2d3110001800\n";
-    let done = "done t-partition-0 pulsar://127.0.0.1:6650 127.0.0.1:6650 false;t-partition-1 pulsar://127.0.0.1:6650 127.0.0.1:6650 false;\n";
+    let done =
+        "done t-partition-0 pulsar://127.0.0.1:6650 127.0.0.1:6650 false;t-partition-1 pulsar://127.0.0.1:6650 127.0.0.1:6650 false;\n";
     let wanted = [BASE, ASK_COUNT, BASE, first, BASE, BASE, second, BASE, done];
     assert!(rt; says(alloc, text.as_str(), &wanted)?, "{text}");
     Ok(())
@@ -121,7 +126,10 @@ fn without_retries_the_broker_s_error_is_the_end(rt: HostRuntime) -> Result<(), 
     let tells = [Tell::Start, Tell::Link(0), Tell::Reply(NOT_READY)];
     let text = run(alloc, machine, &tells)?;
     let end = "refuse service discovery error: Query error (Some(ServiceNotReady)): \n";
-    assert!(rt; says(alloc, text.as_str(), &[BASE, ASK_LOOK, end])?, "{text}");
+    assert!(rt;
+        says(alloc, text.as_str(), &[BASE, ASK_LOOK, end])?,
+        "{text}"
+    );
     Ok(())
 }
 
@@ -129,11 +137,20 @@ fn without_retries_the_broker_s_error_is_the_end(rt: HostRuntime) -> Result<(), 
 fn the_second_loss_of_a_question_is_the_end(rt: HostRuntime) -> Result<(), Fail> {
     let alloc = rt.alloc();
     let machine = discovery(alloc, None)?.lookup_topic("t")?;
-    let tells = [Tell::Start, Tell::Link(0), Tell::Lost, Tell::Link(1), Tell::Lost];
+    let tells = [
+        Tell::Start,
+        Tell::Link(0),
+        Tell::Lost,
+        Tell::Link(1),
+        Tell::Lost,
+    ];
     let text = run(alloc, machine, &tells)?;
     let again = "ask 1 000000100000000c0817ba01070a017410001800\n";
     let end = "refuse service discovery error: Connection error: Disconnected\n";
-    assert!(rt; says(alloc, text.as_str(), &[BASE, ASK_LOOK, BASE, again, end])?, "{text}");
+    assert!(rt;
+        says(alloc, text.as_str(), &[BASE, ASK_LOOK, BASE, again, end])?,
+        "{text}"
+    );
     Ok(())
 }
 
@@ -183,7 +200,17 @@ fn a_producer_is_made_behind_a_retry(rt: HostRuntime) -> Result<(), Fail> {
     let text = run(alloc, machine, &tells)?;
     let ask = "ask 0 0000000f0000000b08052a070a017410001800\n";
     let done = "done 0 0000000e0000000a08118a01050800120170\n";
-    let wanted = [BASE, ask, "wait 5000\n", BASE, ASK_LOOK, BASE, BASE, ask, done];
+    let wanted = [
+        BASE,
+        ask,
+        "wait 5000\n",
+        BASE,
+        ASK_LOOK,
+        BASE,
+        BASE,
+        ask,
+        done,
+    ];
     assert!(rt; says(alloc, text.as_str(), &wanted)?, "{text}");
     Ok(())
 }
@@ -220,6 +247,9 @@ fn an_error_that_stays_is_no_retry(rt: HostRuntime) -> Result<(), Fail> {
     let error = ConnectionError::Shutdown;
     let machine = handle_retry_error(alloc, &discovery, "t", 0, error)?;
     let text = run(alloc, machine, &[Tell::Start])?;
-    assert_eq!(rt; text.as_str(), "refuse Connection error: The connection was shut down\n");
+    assert_eq!(rt;
+        text.as_str(),
+        "refuse Connection error: The connection was shut down\n"
+    );
     Ok(())
 }

@@ -1,4 +1,4 @@
-use Rattle.std.proofs.Common.{◌≡◌, ap}
+use Rattle.std.proofs.Common.{ap}
 use Rattle.pulsar_discovery.specs.Machine.{stands, step_of, turns}
 use Rattle.pulsar_discovery.proofs.laws.lost_behind_the_end.Goals as goal
 

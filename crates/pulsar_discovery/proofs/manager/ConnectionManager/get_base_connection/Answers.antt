@@ -1,4 +1,4 @@
-use Rattle.std.proofs.Common.{◌≡◌, subst}
+use Rattle.std.proofs.Common.{subst}
 use Rattle.pulsar_discovery.specs.Manager.{Is, OnGot, after_get, known}
 use Rattle.pulsar_discovery.proofs.manager.ConnectionManager.get_base_connection.Goals as goal
 

@@ -1,4 +1,4 @@
-use Rattle.std.proofs.Common.{◌≡◌, ◌∙◌, sym, ap, subst, refl, Some, ℕ, Option, nat_cmp}
+use Rattle.std.proofs.Common.{◌≡◌, ◌∙◌, sym, ap, subst, refl, ℕ, nat_cmp}
 use Rattle.std.specs.BTreeMap.{get}
 use Rattle.pulsar_discovery.specs.Manager.{Is, after_seen, is_over, known, left_of, phase_after}
 use Rattle.pulsar_discovery.specs.declared.manager.ConnectionManager.{ConnectionManager}

@@ -1,0 +1,5 @@
+pub mod Address
+pub mod Backoff
+pub mod Question
+pub mod Replies
+pub mod Plans

@@ -55,7 +55,7 @@ impl ServiceDiscovery {
         alloc: Global,
         manager: &ConnectionManager,
     ) -> Result<ServiceDiscovery, NoMemory>
-        ensures { IfOk result (λ d. d.ways ≡ ways_of manager.now) }
+        ensures { IfOk result (λ d. d.ways ≡ ways_of manager.now.terms) }
     {
         let ways = manager.ways()?;
         Ok(ServiceDiscovery { alloc, ways })

@@ -48,7 +48,7 @@ impl Machine {
         ensures extends { IfOk result (λ said. Extends self.old (told outcome) said self.new) }
         ensures goes { IfOk result (λ said. Goes self.old (told outcome) said self.new) }
         ensures memory { OnErr result (self.new.stage ≡ None) }
-        ensures final { self.old.stage ≡ None → IsErr result }
+        ensures spent { self.old.stage ≡ None → IsErr result }
     {
         let Some(stage) = self.stage.take() else {
             return Err(NoMemory);

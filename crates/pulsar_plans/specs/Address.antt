@@ -1,9 +1,10 @@
 -- Where a broker is reached.  (URL Standard, section 4.4, URL parsing, and section 3.5, host serializing; Pulsar binary protocol,
 -- Topic lookup)
-use Rattle.std.specs.Prelude.{ℕ, Bool, true, false, List, ◌++◌, codes, decimal, Option, Some, None, unwrap_or, Ok, Err, String, string_bytes, if◌then◌else◌}
+use Rattle.std.specs.Prelude.{ℕ, Bool, true, false, ◌&&◌, List, ◌++◌, length, bytes_eq, codes, decimal, Option, Some, None, unwrap_or, Ok, Err, String, string_bytes, if◌then◌else◌}
+use Rattle.std.specs.Option.{is_some}
 use Rattle.url.specs.declared.host.Host.{Host}
 use Rattle.url.specs.Host.{host_text}
-use Rattle.url.specs.Parts.{Parts, nonempty_host}
+use Rattle.url.specs.Parts.{Parts, nonempty_host, serialize}
 use Rattle.url.specs.Parser.{Parsed, parse_url}
 use Rattle.pulsar_plans.specs.declared.address.BrokerAddress.{BrokerAddress}
 
@@ -52,6 +53,21 @@ place_of_parsed base proxy (Err e) = None
 -- the address in a text, if there is one
 abbrev pub place_in : Place → (proxy : Bool) → List ℕ → Option Place
 place_in base proxy text = place_of_parsed base proxy (parse_url None text)
+
+-- an address can be reached where its scheme is `pulsar` and it has a host
+abbrev pub is_reachable : Place → Bool
+is_reachable p = bytes_eq p.url.scheme (codes "pulsar") && is_some (nonempty_host p.url)
+
+-- what is told to a proxy: the broker behind it
+abbrev pub behind : Place → Option (List ℕ)
+behind p = if p.proxy then Some p.broker_url else None
+
+-- An address by its key. Addresses are the same where their texts are.
+abbrev pub key_of : (url broker : List ℕ) (proxy : Bool) → List ℕ
+key_of url broker proxy = decimal (length url) ++ ((if proxy then codes " proxy " else codes " broker ") ++ (url ++ broker))
+
+abbrev pub address_key : Place → List ℕ
+address_key p = key_of (serialize p.url) p.broker_url p.proxy
 
 -- a topic, or a partition of one, and the broker that serves it
 pub record Named : Type 0 where

@@ -74,6 +74,6 @@ place_at base proxy (Some url) = place_in base proxy url
 unfoldable pub place_heard : Ways → (proxy : Bool) → (n : ℕ) → Reply → Heard Pointed
 place_heard w proxy n r =
     if is_body 24 r.body then
-      (if fails_by (pos 2) r.response then failing w n r.error r.text
-      else pointed_at r.response r.authority (place_at w.base (proxy || is_set r.proxy) r.url))
+    (if fails_by (pos 2) r.response then failing w n r.error r.text
+    else pointed_at r.response r.authority (place_at w.base (proxy || is_set r.proxy) r.url))
     else Denies (in_discovery (unexpected r r.body))

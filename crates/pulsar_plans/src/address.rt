@@ -1,8 +1,8 @@
 //! Where a broker is reached.
 
-ghost use Rattle.std.specs.Prelude.{◌≡◌, IfOk};
+ghost use Rattle.std.specs.Prelude.{◌≡◌, IfOk, string_bytes};
 ghost use Rattle.std.specs.Option.{option_map};
-ghost use Rattle.pulsar_plans.specs.Address.{base_of, place, place_in, place_of_url};
+ghost use Rattle.pulsar_plans.specs.Address.{address_key, base_of, behind, is_reachable, key_of, place, place_in, place_of_url};
 
 use pulsar_wire::error::NoMemory;
 use std::alloc::Global;
@@ -32,6 +32,36 @@ impl BrokerAddress {
             broker_url: self.broker_url.clone()?,
             proxy: self.proxy,
         })
+    }
+
+    /// It can be reached: its scheme is `pulsar`, and it has a host.
+    pub fn is_reachable(&self) -> bool
+        ensures { result ≡ is_reachable (place self.now) }
+    {
+        self.url.scheme() == "pulsar" && self.url.host_str().is_some()
+    }
+
+    /// What is told to a proxy: the broker behind it.
+    pub fn behind(&self) -> Result<Option<String>, NoMemory>
+        ensures { IfOk result (λ b. option_map string_bytes b ≡ behind (place self.now)) }
+    {
+        if self.proxy {
+            Ok(Some(self.broker_url.clone()?))
+        } else {
+            Ok(None)
+        }
+    }
+
+    /// A text by which it is found among others.
+    pub fn key(&self, alloc: Global) -> Result<String, NoMemory>
+        ensures { IfOk result (λ k. string_bytes k ≡ address_key (place self.now)) }
+    {
+        key_of(
+            alloc,
+            self.url.as_str(),
+            self.broker_url.as_str(),
+            self.proxy,
+        )
     }
 
     /// The address of the service that a URL names. There is none where the URL has no host.
@@ -66,6 +96,14 @@ impl BrokerAddress {
             Err(_) => Ok(None),
         }
     }
+}
+
+fn key_of(alloc: Global, url: &str, broker: &str, proxy: bool) -> Result<String, NoMemory>
+    ensures { IfOk result (λ k. string_bytes k ≡ key_of url.now broker.now proxy) }
+{
+    let length = url.len();
+    let kind = if proxy { " proxy " } else { " broker " };
+    Ok(format!(in alloc; "{length}{kind}{url}{broker}")?)
 }
 
 fn of_url(

@@ -2,7 +2,7 @@
 
 ghost use Rattle.std.specs.Prelude.{◌≡◌, ◌++◌, [], ◌∷◌, IfOk, map, string_bytes};
 ghost use Rattle.std.specs.Option.{option_map};
-ghost use Rattle.pulsar_plans.specs.Address.{named, place, place_in};
+ghost use Rattle.pulsar_plans.specs.Address.{address_key, behind, is_reachable, named, place, place_in};
 ghost use Rattle.pulsar_plans.specs.Plans.{name_found};
 ghost use Rattle.pulsar_plans.specs.Replies.{in_discovery};
 ghost use Rattle.pulsar_session.specs.Failures.{OfConnection, failure, fault};
@@ -11,6 +11,7 @@ use crate::address::BrokerAddress;
 use pulsar_wire::error::{ConnectionError, Error, NoMemory, ServiceDiscoveryError};
 use std::alloc::Global;
 use std::marker::Model;
+use url::Url;
 
 /// A text.
 #[derive(Drop)]
@@ -94,6 +95,34 @@ impl Address {
         ensures { result ≡ self.now.proxy }
     {
         self.inner.proxy
+    }
+
+    /// What to connect to.
+    pub fn url(&self) -> &Url
+        ensures { result.now ≡ self.now.url }
+    {
+        &self.inner.url
+    }
+
+    /// It can be reached.
+    pub fn is_reachable(&self) -> bool
+        ensures { result ≡ is_reachable self.now }
+    {
+        self.inner.is_reachable()
+    }
+
+    /// What is told to a proxy: the broker behind it.
+    pub fn behind(&self) -> Result<Option<String>, NoMemory>
+        ensures { IfOk result (λ b. option_map string_bytes b ≡ behind self.now) }
+    {
+        self.inner.behind()
+    }
+
+    /// A text by which it is found among others.
+    pub fn key(&self, alloc: Global) -> Result<String, NoMemory>
+        ensures { IfOk result (λ k. string_bytes k ≡ address_key self.now) }
+    {
+        self.inner.key(alloc)
     }
 
     /// The address of the broker that a text names, behind a proxy at this one or not.

@@ -3,6 +3,7 @@
 ghost use Rattle.std.specs.Prelude.{◌≡◌, IfOk};
 ghost use Rattle.pulsar_session.specs.Failures.{fault};
 ghost use Rattle.pulsar_plans.specs.Plans as meaning;
+ghost use Rattle.pulsar_plans.specs.Replies.{in_discovery};
 
 use crate::content::{Refusal, Text};
 use crate::question::Request;
@@ -124,7 +125,7 @@ fn fails(
     alloc: Global,
     error: ConnectionError,
 ) -> Result<Turn<Counting, Result<u32, Refusal>>, NoMemory>
-    ensures { IfOk result (λ turn. turn ≡ meaning.fails (meaning.in_discovery (fault error))) }
+    ensures { IfOk result (λ turn. turn ≡ meaning.fails (in_discovery (fault error))) }
 {
     Ok(Turn::Gives(Err(Refusal::in_discovery(alloc, error)?)))
 }

@@ -3,6 +3,7 @@
 ghost use Rattle.std.specs.Prelude.{◌≡◌, IfOk};
 ghost use Rattle.pulsar_session.specs.Failures.{fault};
 ghost use Rattle.pulsar_plans.specs.Plans as meaning;
+ghost use Rattle.pulsar_plans.specs.Replies.{in_discovery};
 
 use crate::content::{Address, Refusal, Text};
 use crate::question::Request;
@@ -83,10 +84,7 @@ pub fn told(
 }
 
 /// A link to the address is got.
-fn gets(
-    alloc: Global,
-    search: Search,
-) -> Result<Turn<Looking, Result<Address, Refusal>>, NoMemory>
+fn gets(alloc: Global, search: Search) -> Result<Turn<Looking, Result<Address, Refusal>>, NoMemory>
     ensures { IfOk result (λ turn. turn ≡ meaning.look_gets search) }
 {
     let address = search.last.copy(alloc)?;
@@ -124,7 +122,7 @@ fn fails(
     alloc: Global,
     error: ConnectionError,
 ) -> Result<Turn<Looking, Result<Address, Refusal>>, NoMemory>
-    ensures { IfOk result (λ turn. turn ≡ meaning.fails (meaning.in_discovery (fault error))) }
+    ensures { IfOk result (λ turn. turn ≡ meaning.fails (in_discovery (fault error))) }
 {
     Ok(Turn::Gives(Err(Refusal::in_discovery(alloc, error)?)))
 }

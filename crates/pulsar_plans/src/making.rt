@@ -108,7 +108,10 @@ fn after_retry(
     ensures { result ≡ meaning.and_then turn (λ r. Making.Retrying r retries) (meaning.made_gets (one_more retries)) }
 {
     match turn {
-        Turn::Stays(retrying, action) => Turn::Stays(Making::Retrying { retrying, retries }, action),
+        Turn::Stays(retrying, action) => Turn::Stays(
+            Making::Retrying { retrying, retries },
+            action,
+        ),
         Turn::Gives(Ok(address)) => gets(retries.saturating_add(1), address),
         Turn::Gives(Err(refusal)) => Turn::Gives(Err(refusal)),
     }

@@ -30,7 +30,10 @@ pub enum Procedure {
         cause: Cause,
     },
     /// Ask a command at an address until it succeeds.
-    Make { command: Command, address: Address },
+    Make {
+        command: Command,
+        address: Address,
+    },
 }
 
 /// What a plan finds.

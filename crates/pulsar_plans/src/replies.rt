@@ -119,11 +119,7 @@ fn failing<T>(
     }
 }
 
-fn query(
-    alloc: Global,
-    error: Option<i32>,
-    message: &Option<String>,
-) -> Result<Refusal, NoMemory>
+fn query(alloc: Global, error: Option<i32>, message: &Option<String>) -> Result<Refusal, NoMemory>
     ensures { IfOk result (λ r. r ≡ meaning.query error (option_map string_bytes message.now)) }
 {
     let error = match error {

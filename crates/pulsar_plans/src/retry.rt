@@ -58,10 +58,7 @@ pub fn begins(
     ensures { IfOk result (λ turn. turn ≡ meaning.retry_begins ways.now retries (fault error)) }
 {
     if is_retryable(&error) && allow_retry(ways.max_retries, retries) {
-        Ok(Turn::Stays(
-            Retrying::Resting,
-            Action::Wait(ways.retry_delay),
-        ))
+        Ok(Turn::Stays(Retrying::Resting, Action::Wait(ways.retry_delay)))
     } else {
         fails(alloc, error)
     }

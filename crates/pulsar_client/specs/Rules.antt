@@ -1,6 +1,6 @@
 -- What an event brings, and what arises from an act: at once, as further parts, among those whom the present cause still serves, or as
 -- causes of their own.
-use Rattle.std.specs.Prelude.{ℕ, ◌+◌, nat_le, nat_lt, Bool, ◌&&◌, ◌||◌, not, ◌==◌, if◌then◌else◌, List, [], ◌∷◌, ◌++◌, length, map, Option, Some, None, Result, Ok, Err}
+use Rattle.std.specs.Prelude.{ℕ, ◌+◌, nat_le, nat_lt, Bool, false, ◌&&◌, ◌||◌, not, ◌==◌, if◌then◌else◌, List, [], ◌∷◌, ◌++◌, length, map, Option, Some, None, Result, Ok, Err}
 use Rattle.std.specs.List.{filter_map, flat_map}
 use Rattle.std.specs.Option.{is_none, option_map, option_to_list}
 use Rattle.pulsar_wire.specs.declared.error.ConnectionError.{ConnectionError}
@@ -195,9 +195,12 @@ tries_again None = []
 tries_again (Some p) = Dials p.address p.starter (p.retries + 1) ∷ []
 
 -- a link is asked for a sign of life, unless the earlier ping still waits
+abbrev pub may_ping : Option Seat → Bool
+may_ping None = false
+may_ping (Some seat) = is_none seat.ping
+
 abbrev pub keeps_alive : ℕ → Option Seat → List Act
-keeps_alive l None = []
-keeps_alive l (Some seat) = if is_none seat.ping then Comes (ToLink l Pings) ∷ [] else []
+keeps_alive l row = if may_ping row then Comes (ToLink l Pings) ∷ [] else []
 
 -- a link is used by a request that waits, by a frame in its line, and by a consumer that hears
 abbrev pub is_used : View → ℕ → Seat → Bool
@@ -281,13 +284,16 @@ served_by l IsOver ws = []
 abbrev pub lost_so : (is_timed_out : Bool) → Outcome
 lost_so is_timed_out = if is_timed_out then outcome.TimedOut else outcome.Disconnected
 
+abbrev pub lost_with : End → (is_timed_out : Bool) → Outcome
+lost_with (Unopened kind) is_timed_out = outcome.Disconnected
+lost_with Lost is_timed_out = outcome.Disconnected
+lost_with (Overdue below) is_timed_out = lost_so is_timed_out
+lost_with (Broken cause) is_timed_out = outcome.Disconnected
+lost_with Idles is_timed_out = outcome.Disconnected
+lost_with Stops is_timed_out = outcome.Cut
+
 abbrev pub lost : End → (now : ℕ) → Seen → ℕ → Outcome
-lost (Unopened kind) now s place = outcome.Disconnected
-lost Lost now s place = outcome.Disconnected
-lost (Overdue below) now s place = lost_so (times_out (Overdue below) now s place)
-lost (Broken cause) now s place = outcome.Disconnected
-lost Idles now s place = outcome.Disconnected
-lost Stops now s place = outcome.Cut
+lost end now s place = lost_with end (times_out end now s place)
 
 -- those whose frames stand in the line
 abbrev pub dropped : End → Outcome

@@ -399,13 +399,19 @@ is_retryable (Broken cause) = false
 is_retryable Idles = false
 is_retryable Stops = false
 
--- an attempt is made again where that may help, and fewer retries were made than the options allow
+-- An attempt is made again where that may help, and fewer retries were made than the options allow: for the one who started the series,
+-- behind so many retries.
+abbrev pub may_retry : (most : ℕ) → End → Series → Option (Who × ℕ)
+may_retry most end Nobody = None
+may_retry most end (Runs starter retries link) = if is_retryable end && nat_lt retries most then Some (starter, retries) else None
+may_retry most end (Pauses link) = None
+may_retry most end (Serves link) = None
+
+abbrev pub pause_with : Place → Who × ℕ → Pause
+pause_with p w = record { address = p; starter = w.0; retries = w.1 }
+
 abbrev pub pause_of : Chosen → End → Place → Series → Option Pause
-pause_of o end p Nobody = None
-pause_of o end p (Runs starter retries link) =
-    if is_retryable end && nat_lt retries o.connection.max_retries then Some (record { address = p; starter = starter; retries = retries }) else None
-pause_of o end p (Pauses link) = None
-pause_of o end p (Serves link) = None
+pause_of o end p s = option_map (pause_with p) (may_retry o.connection.max_retries end s)
 
 abbrev pub pause_for : Chosen → LinkAct → Change → Place → Series → Option Pause
 pause_for o (Ends end) IsOver p s = pause_of o end p s
@@ -424,9 +430,12 @@ abbrev pub turned : View → Act → Option Turned
 turned v (Comes (ToLink l x)) = option_map (turned_by v.chosen v.addresses v.now l x) (v.links.live l)
 turned v _ = None
 
--- the delay of the attempt that is to follow that of a link
+-- the delay of the attempt that is to follow that of a link, behind so many retries
+abbrev pub delay_with : Chosen → (link retries : ℕ) → ℕ
+delay_with o l retries = backoff o.connection.min_backoff o.connection.max_backoff retries (jitter o.seed l)
+
 abbrev pub delay_of : Chosen → (link : ℕ) → Pause → ℕ
-delay_of o l p = backoff o.connection.min_backoff o.connection.max_backoff p.retries (jitter o.seed l)
+delay_of o l p = delay_with o l p.retries
 
 -- THE ADDRESSES
 

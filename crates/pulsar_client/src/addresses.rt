@@ -1,89 +1,254 @@
-//! The address of the service: what runs for it, and who waits for that.
+//! Addresses: what runs for each, and who waits for that.
 
-ghost use Rattle.std.specs.Prelude.{◌≡◌, ◌++◌, [], ℕ, OnOk, map};
+ghost use Rattle.std.specs.Prelude.{◌≡◌, ◌++◌, [], ℕ, List, None, OnOk, IfOk, bytes_eq, map, string_bytes, if◌then◌else◌};
+ghost use Rattle.std.specs.Option.{option_map};
+ghost use Rattle.pulsar_plans.specs.Address.{address_key};
+ghost use Rattle.pulsar_client.specs.Kept.{base_at, base_of, pause_at};
 ghost use Rattle.pulsar_client.specs.Links.{Becomes, IsOver};
-ghost use Rattle.pulsar_client.specs.Rules.{failed, failed_at, failed_so, fails_so, notice, served_by};
-ghost use Rattle.pulsar_client.specs.Tables.{base_of};
-ghost use Rattle.pulsar_client.specs.View.{base_turned, waits_for};
+ghost use Rattle.pulsar_client.specs.Rules.{failed, failed_at, failed_over, failed_so, fails_so, notice, served_by, stopped_at};
+ghost use Rattle.pulsar_client.specs.View.{base_dialed, base_over, base_stopped, base_turned, is_passing, is_retryable, may_retry, nobody, waits_for};
 
 use crate::act::{End, Notice, Outcome, Who};
-use crate::address::Address;
 use crate::who::is_same;
+use pulsar_plans::content::Address;
 use pulsar_wire::error::{IoKind, NoMemory};
 use std::alloc::Global;
+use std::collections::BTreeMap;
 
-/// What runs for the address: nobody serves it, an attempt to connect runs that this one started, or a ready link serves.
+/// What runs for an address: nobody serves it; an attempt to connect runs, this link, behind so many retries of a series that this one
+/// started; an attempt is to follow that of this link, which failed; or a ready link serves.
 #[derive(Clone, Copy)]
 pub enum Series {
     Nobody,
-    Runs { starter: Who },
-    Serves { link: u64 },
+    Runs {
+        starter: Who,
+        retries: u32,
+        link: u64,
+    },
+    Pauses {
+        link: u64,
+    },
+    Serves {
+        link: u64,
+    },
 }
 
-/// What runs for the address, and who waits for that, in the order of their asking.
+/// What runs for an address, and who waits for that, in the order of their asking.
 #[derive(Drop)]
 pub struct Base {
     pub series: Series,
     pub waiting: Vec<Who>,
 }
 
-impl Base {
-    pub fn new(alloc: Global) -> Base
-        ensures { base_of result ≡ record { series = Series.Nobody; waiting = [] } }
+/// An attempt that is to follow: its address, who started the series, and the retries so far.
+#[derive(Drop)]
+pub struct Pause {
+    pub address: Address,
+    pub starter: Who,
+    pub retries: u32,
+}
+
+/// The addresses for which something runs, by key, and the attempts that are to follow, by the link whose attempt failed. Nothing is
+/// kept of an address for which nothing runs.
+#[derive(Drop)]
+pub struct Addresses {
+    pub alloc: Global,
+    pub bases: BTreeMap<String, Base>,
+    pub pauses: BTreeMap<u64, Pause>,
+}
+
+impl Addresses {
+    pub fn new(alloc: Global) -> Addresses
+        ensures bases { (key : List ℕ) → base_at result.bases key ≡ nobody }
+        ensures pauses { (l : ℕ) → pause_at result.pauses l ≡ None }
     {
-        Base {
-            series: Series::Nobody,
-            waiting: Vec::new(alloc),
+        Addresses {
+            alloc,
+            bases: BTreeMap::new(alloc),
+            pauses: BTreeMap::new(alloc),
         }
     }
 
-    /// A link is ready: those who wait are served by it.
-    pub fn ready(&mut self, link: u64, notices: &mut Vec<Notice>) -> Result<(), NoMemory>
-        ensures notices { OnOk result (notices.new.items ≡ notices.old.items ++ served_by link Becomes (base_of self.old).waiting) }
-        ensures turned { OnOk result (base_of self.new ≡ base_turned link Becomes (base_of self.old)) }
+    /// What runs for an address.
+    pub fn series(&self, address: &Address) -> Result<Series, NoMemory>
+        ensures { IfOk result (λ s. s ≡ (base_at self.now.bases (address_key address.now)).series) }
     {
-        tell_all(&self.waiting, link, notices)?;
-        self.series = Series::Serves { link };
-        self.waiting.clear();
-        Ok(())
-    }
-
-    /// A link has ended: those who wait are told why.
-    pub fn end(&mut self, end: &End, notices: &mut Vec<Notice>) -> Result<(), NoMemory>
-        ensures notices { OnOk result (notices.new.items ≡ notices.old.items ++ failed_at end.now (base_of self.old).series (base_of self.old).waiting) }
-        ensures turned { OnOk result ((link : ℕ) → base_of self.new ≡ base_turned link IsOver (base_of self.old)) }
-    {
-        match self.series {
-            Series::Runs { starter } => fail_all(&self.waiting, starter, end, notices)?,
-            Series::Nobody | Series::Serves { link: _ } => {}
+        let key = address.key(self.alloc)?;
+        match self.bases.get(key.as_str()) {
+            Some(base) => Ok(base.series),
+            None => Ok(Series::Nobody),
         }
-        self.series = Series::Nobody;
-        self.waiting.clear();
+    }
+
+    /// One waits for an address.
+    pub fn wait(&mut self, address: &Address, who: Who) -> Result<(), NoMemory>
+    {
+        let key = address.key(self.alloc)?;
+        let mut base = take(&mut self.bases, self.alloc, &key);
+        base.waiting.push(who)?;
+        self.bases.insert(key, base)?;
         Ok(())
     }
 
-    /// One that gets the link of the address waits, unless it is served at once.
-    pub fn wait(&mut self, address: &Option<Address>, who: Who) -> Result<(), NoMemory>
-        ensures { OnOk result (base_of self.new ≡ record { series = self.old.series; waiting = waits_for address.now self.old.series who self.old.waiting.items }) }
+    /// An attempt begins, this link.
+    pub fn dial(
+        &mut self,
+        address: &Address,
+        starter: Who,
+        retries: u32,
+        link: u64,
+    ) -> Result<(), NoMemory>
     {
-        if address.is_none() {
+        let key = address.key(self.alloc)?;
+        let mut base = take(&mut self.bases, self.alloc, &key);
+        base.series = Series::Runs {
+            starter,
+            retries,
+            link,
+        };
+        self.bases.insert(key, base)?;
+        Ok(())
+    }
+
+    /// A link of an address is ready: those who wait are served by it.
+    pub fn ready(
+        &mut self,
+        address: &Address,
+        link: u64,
+        notices: &mut Vec<Notice>,
+    ) -> Result<(), NoMemory>
+    {
+        let key = address.key(self.alloc)?;
+        let base = take(&mut self.bases, self.alloc, &key);
+        serve_all(&base.waiting, link, notices)?;
+        let base = Base {
+            series: Series::Serves { link },
+            waiting: Vec::new(self.alloc),
+        };
+        self.bases.insert(key, base)?;
+        Ok(())
+    }
+
+    /// A link of an address has ended: the retries so far where another attempt is to follow. Else those who wait are told why.
+    pub fn end(
+        &mut self,
+        address: Address,
+        link: u64,
+        end: &End,
+        most: u32,
+        notices: &mut Vec<Notice>,
+    ) -> Result<Option<u32>, NoMemory>
+    {
+        let key = address.key(self.alloc)?;
+        let mut base = take(&mut self.bases, self.alloc, &key);
+        let Some((starter, retries)) = again(base.series, end, most) else {
+            fail_all(&base, end, notices)?;
+            return Ok(None);
+        };
+        base.series = Series::Pauses { link };
+        self.bases.insert(key, base)?;
+        self.pauses.insert(
+            link,
+            Pause {
+                address,
+                starter,
+                retries,
+            },
+        )?;
+        Ok(Some(retries))
+    }
+
+    /// Takes out the attempt that is to follow that of a link.
+    pub fn take_pause(&mut self, link: u64) -> Option<Pause>
+        ensures pause { result ≡ pause_at self.old.pauses link }
+    {
+        self.pauses.remove(&link)
+    }
+
+    /// With the stop no attempt follows that of a link: those who wait for it are told so.
+    pub fn stop(&mut self, link: u64, notices: &mut Vec<Notice>) -> Result<(), NoMemory>
+    {
+        let Some(pause) = self.pauses.remove(&link) else {
             return Ok(());
-        }
-        match self.series {
-            Series::Serves { link: _ } => {}
-            Series::Nobody | Series::Runs { starter: _ } => self.waiting.push(who)?,
-        }
-        Ok(())
+        };
+        let key = pause.address.key(self.alloc)?;
+        let base = take(&mut self.bases, self.alloc, &key);
+        stop_all(&base.waiting, notices)
     }
 }
 
-fn tell_all(waiting: &[Who], link: u64, notices: &mut Vec<Notice>) -> Result<(), NoMemory>
+/// Takes out what runs for the address of a key.
+fn take(bases: &mut BTreeMap<String, Base>, alloc: Global, key: &str) -> Base
+    ensures base { base_of result ≡ base_at bases.old key.now }
+    ensures left { (k : List ℕ) → base_at bases.new k ≡ (if bytes_eq key.now k then nobody else base_at bases.old k) }
+{
+    match bases.remove(key) {
+        Some(base) => base,
+        None => Base {
+            series: Series::Nobody,
+            waiting: Vec::new(alloc),
+        },
+    }
+}
+
+/// Who started the series, and the retries so far, where another attempt is to follow one that ended so.
+fn again(series: Series, end: &End, most: u32) -> Option<(Who, u32)>
+    ensures { result ≡ may_retry most end.now series }
+{
+    match series {
+        Series::Runs {
+            starter,
+            retries,
+            link: _,
+        } if is_retryable(end) && retries < most => Some((starter, retries)),
+        Series::Nobody
+        | Series::Runs { .. }
+        | Series::Pauses { .. }
+        | Series::Serves { .. } => None,
+    }
+}
+
+/// An attempt that ended so may go well another time.
+fn is_retryable(end: &End) -> bool
+    ensures { result ≡ is_retryable end.now }
+{
+    match end {
+        End::Unopened(kind) => is_passing(*kind),
+        End::Overdue { .. } => true,
+        End::Lost | End::Broken(_) | End::Idles | End::Stops => false,
+    }
+}
+
+fn is_passing(kind: IoKind) -> bool
+    ensures { result ≡ is_passing kind }
+{
+    match kind {
+        IoKind::ConnectionRefused | IoKind::TimedOut => true,
+        IoKind::Other => false,
+    }
+}
+
+/// All who wait are served by this link.
+fn serve_all(waiting: &[Who], link: u64, notices: &mut Vec<Notice>) -> Result<(), NoMemory>
     ensures { OnOk result (notices.new.items ≡ notices.old.items ++ map (λ who. notice who (Outcome.GotLink link)) waiting.now) }
 {
     for who in waiting {
         notices.push(Notice {
             who: *who,
             outcome: Outcome::GotLink(link),
+        })?;
+    }
+    Ok(())
+}
+
+/// All who wait are told that the client is stopped.
+fn stop_all(waiting: &[Who], notices: &mut Vec<Notice>) -> Result<(), NoMemory>
+    ensures { OnOk result (notices.new.items ≡ notices.old.items ++ map (λ who. notice who Outcome.Stopped) waiting.now) }
+{
+    for who in waiting {
+        notices.push(Notice {
+            who: *who,
+            outcome: Outcome::Stopped,
         })?;
     }
     Ok(())
@@ -96,7 +261,7 @@ fn fails_so(end: &End, is_starter: bool) -> Outcome
     match end {
         End::Unopened(kind) => failed_so(*kind, is_starter),
         End::Overdue { .. } => failed_so(IoKind::TimedOut, is_starter),
-        End::Lost | End::Broken(_) => failed_so(IoKind::Other, is_starter),
+        End::Lost | End::Broken(_) | End::Idles => failed_so(IoKind::Other, is_starter),
         End::Stops => Outcome::Stopped,
     }
 }
@@ -112,7 +277,17 @@ fn failed_so(kind: IoKind, is_starter: bool) -> Outcome
     }
 }
 
-fn fail_all(
+/// Those who wait for an attempt that ended are told why.
+fn fail_all(base: &Base, end: &End, notices: &mut Vec<Notice>) -> Result<(), NoMemory>
+    ensures { OnOk result (notices.new.items ≡ notices.old.items ++ failed_at end.now base.now.series base.now.waiting.items) }
+{
+    match base.series {
+        Series::Runs { starter, .. } => fail_each(&base.waiting, starter, end, notices),
+        Series::Nobody | Series::Pauses { .. } | Series::Serves { .. } => Ok(()),
+    }
+}
+
+fn fail_each(
     waiting: &[Who],
     starter: Who,
     end: &End,

@@ -1,21 +1,23 @@
 //! The links of a client, and who asked on each.
 
-ghost use Rattle.std.specs.Prelude.{◌≡◌, ◌==◌, ◌+◌, ◌++◌, ℕ, false, IfOk, OnOk, None, not, map, if◌then◌else◌};
+ghost use Rattle.std.specs.Prelude.{◌≡◌, ◌==◌, ◌+◌, ◌++◌, ℕ, false, IfOk, OnOk, None, Some, not, map, if◌then◌else◌};
 ghost use Rattle.std.specs.Option.{option_map};
 ghost use Rattle.pulsar_client.specs.Content.{shown};
 ghost use Rattle.pulsar_client.specs.Effects.{asked_at, given_at};
 ghost use Rattle.pulsar_client.specs.Due.{moment_at};
 ghost use Rattle.pulsar_client.specs.Kept.{AreStarted, AreTimed, IsEnd, is_due, links_in, live_in};
 ghost use Rattle.pulsar_requests.specs.Soonest.{has_come};
-ghost use Rattle.pulsar_client.specs.Rules.{answered_on, due_part, moved_on, on_link, over_links, stop_act, told_at};
-ghost use Rattle.pulsar_client.specs.View.{answer_at, arrival_at, has_ended, is_asked, is_busy, seat_asked, seat_of_fresh, seat_fed, took_some};
+ghost use Rattle.pulsar_client.specs.Rules.{answered_on, due_part, may_ping, moved_on, on_link, over_links, stop_act, told_at};
+ghost use Rattle.pulsar_client.specs.View.{answer_at, arrival_at, got_at, has_ended, is_asked, is_busy, seat_asked, seat_of_fresh, seat_fed, took_some};
 
 use crate::act::{Act, Arrival, End, LinkAct, Notice, Outcome, Part, Who};
+use crate::consumers::subscribers::Subscribers;
 use crate::content::Cause;
 use crate::due::DueMoments;
 use crate::effect::Effect;
 use crate::row::Row;
 use pulsar_link::content::Request;
+use pulsar_plans::content::Address;
 use pulsar_session::Connection;
 use pulsar_session::states::Stage;
 use pulsar_wire::error::{ConnectionError, NoMemory};
@@ -74,19 +76,82 @@ impl Links {
         }
     }
 
-    /// One more link is started, which is dialed where there is an address.
-    pub fn start(&mut self, connection: Option<Connection>) -> Result<(), NoMemory>
+    /// One more link is started, which is dialed.
+    pub fn start(
+        &mut self,
+        address: Address,
+        connection: Connection,
+        now: u64,
+    ) -> Result<(), NoMemory>
         ensures started { OnOk result (self.new.started ≡ self.old.started + 1) }
-        ensures live { OnOk result ((l : ℕ) → live_in self.new.live l ≡ (if l == self.old.started then option_map seat_of_fresh connection else live_in self.old.live l)) }
+        ensures live { OnOk result ((l : ℕ) → live_in self.new.live l ≡ (if l == self.old.started then Some (seat_of_fresh address now connection) else live_in self.old.live l)) }
     {
         let link = self.started;
         self.started = link.checked_add(1).ok_or(NoMemory)?;
-        if let Some(connection) = connection {
-            let row = Row::new(self.alloc, connection);
-            self.live.insert(link, row)?;
-            keep(&self.live, &mut self.due, link)?;
+        let row = Row::new(self.alloc, address, connection, now);
+        self.live.insert(link, row)?;
+        keep(&self.live, &mut self.due, link)
+    }
+
+    /// The address that a link is for.
+    pub fn address(&self, link: u64) -> Result<Option<Address>, NoMemory>
+        ensures { IfOk result (λ a. a ≡ option_map (λ seat. seat.address) (live_in self.now.live link)) }
+    {
+        match self.live.get(&link) {
+            Some(row) => Ok(Some(row.address.copy(self.alloc)?)),
+            None => Ok(None),
         }
-        Ok(())
+    }
+
+    /// A link is got.
+    pub fn got(&mut self, now: u64, link: u64)
+        ensures started { self.new.started ≡ self.old.started }
+        ensures live { (l : ℕ) → live_in self.new.live l ≡ got_at (Some link) now l (live_in self.old.live l) }
+    {
+        if let Some(row) = self.live.get_mut(&link) {
+            row.got = now;
+        }
+    }
+
+    /// A link that has not ended is to be asked for a sign of life: its earlier ping does not wait.
+    pub fn may_ping(&self, link: u64) -> bool
+        ensures { result ≡ may_ping (live_in self.now.live link) }
+    {
+        match self.live.get(&link) {
+            Some(row) => row.ping.is_none(),
+            None => false,
+        }
+    }
+
+    /// A link is asked for a sign of life.
+    pub fn ping(&mut self, now: u64, link: u64, out: &mut Vec<Effect>) -> Result<(), NoMemory>
+        ensures out { OnOk result (map shown out.new.items ≡ map shown out.old.items ++ given_at link LinkAct.Pings now (live_in self.old.live link)) }
+        ensures started { OnOk result (self.new.started ≡ self.old.started) }
+        ensures live { OnOk result ((l : ℕ) → live_in self.new.live l ≡ (if l == link then took_some LinkAct.Pings now (live_in self.old.live l) else live_in self.old.live l)) }
+    {
+        if let Some(row) = self.live.get_mut(&link) {
+            row.ping(now, link, out)?;
+        }
+        keep(&self.live, &mut self.due, link)
+    }
+
+    /// The ends of the links that nothing uses and that were not got for so long, in their order.
+    pub fn idle_acts(
+        &self,
+        now: u64,
+        most: u64,
+        subscribers: &Subscribers,
+    ) -> Result<VecDeque<Act>, NoMemory> {
+        let mut acts = VecDeque::new(self.alloc);
+        for (link, row) in &self.live {
+            if row.rests(now, most) && !subscribers.hears_on(*link) {
+                acts.push_back(Act::Comes(Part::ToLink {
+                    link: *link,
+                    act: LinkAct::Ends(End::Idles),
+                }))?;
+            }
+        }
+        Ok(acts)
     }
 
     /// A piece is fed to an open link.
@@ -179,14 +244,14 @@ impl Links {
         Ok(notices)
     }
 
-    /// A link ends, unless it is due no more: all whom its end serves on it.
+    /// A link ends, unless it is due no more: its address, and all whom its end serves on it.
     pub fn end(
         &mut self,
         now: u64,
         link: u64,
         end: &End,
         out: &mut Vec<Effect>,
-    ) -> Result<Option<Vec<Notice>>, NoMemory>
+    ) -> Result<Option<(Address, Vec<Notice>)>, NoMemory>
         ensures out { OnOk result (map shown out.new.items ≡ map shown out.old.items ++ given_at link (LinkAct.Ends end.now) now (live_in self.old.live link)) }
         ensures end { IfOk result (λ r. IsEnd r end.now now (live_in self.old.live link)) }
         ensures started { OnOk result (self.new.started ≡ self.old.started) }
@@ -199,9 +264,11 @@ impl Links {
             return Ok(None);
         }
         let notices = row.end(self.alloc, now, link, end, out)?;
-        self.live.remove(&link);
         self.due.set(link, None)?;
-        Ok(Some(notices))
+        match self.live.remove(&link) {
+            Some(row) => Ok(Some((row.address, notices))),
+            None => Ok(None),
+        }
     }
 
     /// A request is asked for on a link: whether it is queued or stands in the line, and what the one who asks is told.

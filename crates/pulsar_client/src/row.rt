@@ -8,12 +8,12 @@ ghost use Rattle.std.specs.Ordering.{nat_cmp};
 ghost use Rattle.pulsar_session.specs.Kept.{came_of};
 ghost use Rattle.pulsar_session.specs.Link.{Asks, after as after_call, asked, came, ends, is_memory};
 ghost use Rattle.pulsar_client.specs.Content.{shown};
-ghost use Rattle.pulsar_client.specs.Links.{after, arrival, arrives, close, closed_by, effects, is_own_end, line_places, lost, new_places, numbers_from, queues, queues_at, settled_in, settles, times_out, write};
+ghost use Rattle.pulsar_client.specs.Links.{after, arrival, arrives, change_in, close, closed_by, effects, is_own_end, line_places, lost, new_places, numbers_from, queues, queues_at, settled_in, settles, times_out, write};
 ghost use Rattle.pulsar_client.specs.Links as links;
 ghost use Rattle.pulsar_client.specs.Rules as rules;
-ghost use Rattle.pulsar_client.specs.Rules.{answered_by, dropped, ended_places, moved_up, tells_asker, told_at};
+ghost use Rattle.pulsar_client.specs.Rules.{answered_by, dropped, ended_places, lost_with, moved_up, tells_asker, told_at};
 ghost use Rattle.pulsar_client.specs.Kept.{seat_of};
-ghost use Rattle.pulsar_client.specs.View.{asker_at, askers_left, is_asked, place_of, seat_asked};
+ghost use Rattle.pulsar_client.specs.View.{asker_at, askers_left, got_since, is_asked, ping_left, place_of, seat_asked, seat_of_fresh, took};
 
 use crate::act::{Arrival, End, LinkAct, Notice, Outcome, Who};
 use crate::content::Cause;
@@ -21,26 +21,34 @@ use crate::effect::{Effect, Settlement};
 use crate::plans::answers::is_answered;
 use pulsar_link::ask::ask;
 use pulsar_link::content::{Received, Request};
+use pulsar_plans::content::Address;
+use pulsar_session::states::Stage;
 use pulsar_session::{Arrived, Asked, Connection};
 use pulsar_wire::error::{ConnectionError, NoMemory};
 use std::alloc::Global;
 use std::collections::BTreeMap;
 
-/// A link, and who asked for the frames of its places that are to be told something.
+/// A link: the address that it is for, its connection, who asked for the frames of its places that are to be told something, the
+/// moment at which it was last got, and the place of the ping that keeps it alive, while that waits.
 #[derive(Drop)]
 pub struct Row {
+    pub address: Address,
     pub connection: Connection,
     pub askers: BTreeMap<u64, Who>,
+    pub got: u64,
+    pub ping: Option<u64>,
 }
 
 impl Row {
-    pub fn new(alloc: Global, connection: Connection) -> Row
-        ensures connection { result.connection ≡ connection }
-        ensures askers { (place : ℕ) → (seat_of result).askers place ≡ None }
+    pub fn new(alloc: Global, address: Address, connection: Connection, now: u64) -> Row
+        ensures { seat_of result ≡ seat_of_fresh address now connection }
     {
         Row {
+            address,
             connection,
             askers: BTreeMap::new(alloc),
+            got: now,
+            ping: None,
         }
     }
 
@@ -71,6 +79,7 @@ impl Row {
     {
         let before = self.connection.queued();
         let arrived = self.connection.next(now)?;
+        self.got = got_since(&arrived, now, self.got);
         let read = self.take(alloc, link, arrived, out)?;
         queue(out, link, before, &self.connection)?;
         Ok(read)
@@ -126,6 +135,7 @@ impl Row {
     {
         settle_all(out, link, &places)?;
         let notices = answer_all(alloc, &self.askers, &places, reply)?;
+        self.ping = ping_left(&places, self.ping);
         forget(&mut self.askers, places);
         Ok(notices)
     }
@@ -152,13 +162,35 @@ impl Row {
         tell_queued(alloc, &self.askers, before, after)
     }
 
+    /// It is asked for a sign of life.
+    pub fn ping(&mut self, now: u64, link: u64, out: &mut Vec<Effect>) -> Result<(), NoMemory>
+        ensures out { OnOk result (map shown out.new.items ≡ map shown out.old.items ++ effects link LinkAct.Pings now self.old.connection) }
+        ensures sees { OnOk result (Some (seat_of self.new) ≡ took LinkAct.Pings now (seat_of self.old)) }
+    {
+        let before = self.connection.queued();
+        let answer = self.connection.send_ping(now);
+        if let Err(ConnectionError::NoMemory) = &answer {
+            return Err(NoMemory);
+        }
+        self.ping = place_of(&answer);
+        queue(out, link, before, &self.connection)
+    }
+
+    /// It is ready, and was not got for so long, and no request of it waits and no frame stands in its line.
+    pub fn rests(&self, now: u64, most: u64) -> bool {
+        self.connection.stage() == Stage::Ready
+            && self.got.saturating_add(most) <= now
+            && self.connection.is_idle()
+            && self.connection.standing() == 0
+    }
+
     /// An end closes it: a deadline only where it is due still.
     pub fn is_over_by(&self, end: &End, now: u64) -> bool
         ensures { result ≡ is_some (closed_by end.now now self.now.connection) }
     {
         match end {
             End::Overdue { below: _ } => self.connection.due(now),
-            End::Unopened(_) | End::Lost | End::Broken(_) | End::Stops => true,
+            End::Unopened(_) | End::Lost | End::Broken(_) | End::Idles | End::Stops => true,
         }
     }
 
@@ -204,7 +236,7 @@ impl Row {
             place,
             outcome: settlement(is_timed_out),
         })?;
-        tell_asker(notices, &self.askers, place, lost_so(is_timed_out))
+        tell_asker(notices, &self.askers, place, lost(end, is_timed_out))
     }
 
     /// The request of a place times out at an end.
@@ -213,7 +245,7 @@ impl Row {
     {
         match end {
             End::Overdue { below } => place < *below && self.connection.overdue(place, now),
-            End::Unopened(_) | End::Lost | End::Broken(_) | End::Stops => false,
+            End::Unopened(_) | End::Lost | End::Broken(_) | End::Idles | End::Stops => false,
         }
     }
 
@@ -241,6 +273,33 @@ impl Row {
         queue(out, link, before, &self.connection)?;
         seat(&mut self.askers, is_asker, place, who)?;
         Ok(told)
+    }
+}
+
+/// A link counts as got when it becomes ready.
+fn got_since(arrived: &Option<Arrived>, now: u64, got: u64) -> u64
+    ensures { result ≡ got_since (change_in (arrives (came_of arrived.now))) now got }
+{
+    match arrived {
+        Some(Arrived::Ready) => now,
+        Some(
+            Arrived::Settled { .. }
+            | Arrived::ForConsumer { .. }
+            | Arrived::Challenge
+            | Arrived::Dropped
+            | Arrived::Bad(_),
+        )
+        | None => got,
+    }
+}
+
+/// A ping waits until its place is settled.
+fn ping_left(settled: &[u64], ping: Option<u64>) -> Option<u64>
+    ensures { result ≡ ping_left settled.now ping }
+{
+    match ping {
+        Some(place) if settled.contains(&place) => None,
+        ping => ping,
     }
 }
 
@@ -439,6 +498,17 @@ fn settlement(is_timed_out: bool) -> Settlement
     }
 }
 
+/// What one is told whose request ends with its link.
+fn lost(end: &End, is_timed_out: bool) -> Outcome
+    ensures { result ≡ lost_with end.now is_timed_out }
+{
+    match end {
+        End::Overdue { .. } => lost_so(is_timed_out),
+        End::Unopened(_) | End::Lost | End::Broken(_) | End::Idles => Outcome::Disconnected,
+        End::Stops => Outcome::Cut,
+    }
+}
+
 fn lost_so(is_timed_out: bool) -> Outcome
     ensures { result ≡ rules.lost_so is_timed_out }
 {
@@ -454,8 +524,9 @@ fn dropped(end: &End) -> Outcome
     ensures { result ≡ dropped end.now }
 {
     match end {
-        End::Unopened(_) | End::Lost | End::Overdue { .. } | End::Broken(_) =>
-            Outcome::Disconnected,
+        End::Unopened(_) | End::Lost | End::Overdue { .. } | End::Broken(_) | End::Idles => {
+            Outcome::Disconnected
+        }
         End::Stops => Outcome::Stopped,
     }
 }
@@ -466,6 +537,6 @@ fn is_own_end(end: &End) -> bool
 {
     match end {
         End::Unopened(_) | End::Lost => false,
-        End::Overdue { .. } | End::Broken(_) | End::Stops => true,
+        End::Overdue { .. } | End::Broken(_) | End::Idles | End::Stops => true,
     }
 }

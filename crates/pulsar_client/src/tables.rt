@@ -17,11 +17,13 @@ ghost use Rattle.pulsar_client.specs.Who.{is_same};
 ghost use Rattle.pulsar_client.specs.declared.act.Who.{Who as Meant};
 
 use crate::act::{
-    Act, Action, Arrival, End, LinkAct, Makes, Notice, Outcome, Part, Place, Procedure, Refusal,
-    Says, Verdict, Who,
+    Act, Action, Alarm, Arrival, End, LinkAct, Makes, Notice, Outcome, Part, Place, Procedure,
+    Refusal, Says, Verdict, Who,
 };
 use crate::agenda::Tasks;
-use crate::base::{Base, Series};
+use crate::alarms::Alarms;
+use crate::address::connect;
+use crate::addresses::{Addresses, Pause, Series};
 use crate::consumers::subscriber::Subscriber;
 use crate::consumers::subscribers::Subscribers;
 use crate::content::Asking;
@@ -34,7 +36,10 @@ use crate::plans::table::Plans;
 use crate::settings::Settings;
 use pulsar_link::content::Request;
 use pulsar_link::raw_call::RawCall;
+use pulsar_plans::content::{Address, Text as Topic};
+use pulsar_plans::plan::Procedure as Sought;
 use pulsar_session::states::Stage;
+use pulsar_wire::commands::topics::Mode;
 use pulsar_wire::error::{ConnectionError, NoMemory};
 use std::alloc::Global;
 use std::collections::VecDeque;
@@ -54,7 +59,8 @@ pub struct Tables {
     pub tickets: u64,
     pub plans: Plans,
     pub links: Links,
-    pub base: Base,
+    pub addresses: Addresses,
+    pub alarms: Alarms,
     pub subscribers: Subscribers,
 }
 
@@ -72,7 +78,8 @@ impl Tables {
             tickets: 0,
             plans: Plans::new(alloc),
             links: Links::new(alloc),
-            base: Base::new(alloc),
+            addresses: Addresses::new(alloc),
+            alarms: Alarms::new(alloc),
             subscribers: Subscribers::new(alloc),
         }
     }
@@ -129,7 +136,8 @@ impl Tables {
             Event::Drain(link, most) => to_link(self.alloc, link, LinkAct::Drains(most)),
             Event::Tick(now) => {
                 self.clock = now;
-                self.links.due_parts(now)
+                let parts = self.links.due_parts(now)?;
+                with_alarms(parts, self.alarms.ringing(now)?)
             }
             Event::Poll(ticket) => one(self.alloc, Part::Polls(ticket)),
         }
@@ -157,12 +165,17 @@ impl Tables {
         match act {
             Act::Comes(Part::Calls(asking)) => self.calls(asking, tasks),
             Act::Comes(Part::ToLink { link, act }) => self.to_link(link, act, tasks, out),
+            Act::Comes(Part::Rings(alarm)) => self.rings(alarm, tasks),
             Act::Comes(Part::Polls(ticket)) => self.polls(ticket, out),
             Act::Starts { who, procedure } => self.starts(who, procedure, tasks),
             Act::Told(Notice { who, outcome }) => self.told(who, outcome, tasks),
             Act::Does { who, action } => self.does(who, action, tasks, out),
             Act::Answers { who, verdict } => self.answers(who, verdict, out),
-            Act::Dials { starter } => self.dials(starter, out),
+            Act::Dials {
+                address,
+                starter,
+                retries,
+            } => self.dials(address, starter, retries, out),
         }
     }
 
@@ -187,22 +200,73 @@ impl Tables {
     {
         let is_open = self.is_built && !self.is_stopped;
         match asking.into_inner() {
-            Call::Build => Ok(builds_if(!self.is_stopped, self.settings.outbound)),
-            Call::Stop => Ok(stops_if(is_open)),
-            Call::Topics { namespace, mode } => ask_for(
+            Call::Build => self.builds_if(!self.is_stopped),
+            call => {
+                if !is_open {
+                    return Ok(Procedure::Refuse(Refusal::Shutdown));
+                }
+                self.opened(call)
+            }
+        }
+    }
+
+    /// A Build, unless it is refused.
+    fn builds_if(&self, is_allowed: bool) -> Result<Procedure, NoMemory>
+        ensures { IfOk result (λ p. p ≡ unless_refused is_allowed (builds_with self.now.settings.outbound self.now.settings.base)) }
+    {
+        if !is_allowed {
+            return Ok(Procedure::Refuse(Refusal::Shutdown));
+        }
+        if self.settings.outbound == 0 {
+            return Ok(Procedure::Refuse(Refusal::NoOutbound));
+        }
+        match self.settings.base(self.alloc)? {
+            Some(base) => Ok(Procedure::Build(base)),
+            None => Ok(Procedure::Refuse(Refusal::NoAddress)),
+        }
+    }
+
+    /// The procedure of a call that an open client makes.
+    fn opened(&self, call: Call) -> Result<Procedure, NoMemory> {
+        match call {
+            Call::Build => self.builds_if(true),
+            Call::Stop => Ok(Procedure::Stop),
+            Call::Topics { namespace, mode } => self.topics(namespace, mode),
+            Call::Lookup { topic } => self.searches(Sought::Look(Topic::new(topic))),
+            Call::Partitions { topic } => self.searches(Sought::CountPartitions(Topic::new(topic))),
+            Call::Brokers { topic } => self.searches(Sought::Name(Topic::new(topic))),
+            Call::Raw { link, call } => Ok(Procedure::Ask {
+                place: Place::Link(link),
+                request: Request::new(self.alloc, call)?,
+                says: Says::Bodies,
+            }),
+        }
+    }
+
+    /// The topics of a namespace, from the address of the service.
+    fn topics(&self, namespace: String, mode: Mode) -> Result<Procedure, NoMemory>
+        ensures { IfOk result (λ p. p ≡ from_base self.now.settings.base (asks_topics (string_bytes namespace) mode)) }
+    {
+        let Some(base) = self.settings.base(self.alloc)? else {
+            return Ok(Procedure::Refuse(Refusal::NoAddress));
+        };
+        Ok(Procedure::Ask {
+            place: Place::At(base),
+            request: Request::new(
                 self.alloc,
-                is_open,
-                Place::Base,
                 RawCall::GetTopicsOfNamespace { namespace, mode },
-                Says::Names,
-            ),
-            Call::Raw { link, call } => ask_for(
-                self.alloc,
-                is_open,
-                Place::Link(link),
-                call,
-                Says::Bodies,
-            ),
+            )?,
+            says: Says::Names,
+        })
+    }
+
+    /// A search, from the address of the service.
+    fn searches(&self, what: Sought) -> Result<Procedure, NoMemory>
+        ensures { IfOk result (λ p. p ≡ searches (ways_of (chosen_of self.now.settings)) what) }
+    {
+        match self.settings.ways(self.alloc)? {
+            Some(ways) => Ok(Procedure::Search { ways, what }),
+            None => Ok(Procedure::Refuse(Refusal::NoAddress)),
         }
     }
 
@@ -222,8 +286,17 @@ impl Tables {
             LinkAct::Opens => self.opens(link, out),
             LinkAct::Reads => self.reads(link, tasks, out),
             LinkAct::Drains(most) => self.drains(link, most, tasks, out),
+            LinkAct::Pings => self.pings(link, out),
             LinkAct::Ends(end) => self.ends(link, end, tasks, out),
         }
+    }
+
+    /// A link is asked for a sign of life.
+    fn pings(&mut self, link: u64, out: &mut Vec<Effect>) -> Result<(), NoMemory>
+        ensures out { OnOk result (map shown out.new.items ≡ map shown out.old.items ++ effects (view_of self.old) (Act.Comes (Part.ToLink link LinkAct.Pings))) }
+        ensures sees { OnOk result (view_of self.new ≡ after (Act.Comes (Part.ToLink link LinkAct.Pings)) (view_of self.old)) }
+    {
+        self.links.ping(self.clock, link, out)
     }
 
     /// A link is open.
@@ -241,10 +314,36 @@ impl Tables {
         ensures sees { OnOk result (view_of self.new ≡ after (Act.Comes (Part.ToLink link LinkAct.Reads)) (view_of self.old)) }
     {
         let (arrival, mut notices) = self.links.read(self.clock, link, out)?;
-        welcome(&mut self.base, link, &arrival, &mut notices)?;
+        self.welcomes(link, &arrival, &mut notices)?;
         read_on(link, &arrival, tasks)?;
         self.arrives(link, arrival, tasks)?;
         tasks.open(notices)
+    }
+
+    /// A link that is ready serves those who wait for its address, and is to be kept alive.
+    fn welcomes(
+        &mut self,
+        link: u64,
+        arrival: &Arrival,
+        notices: &mut Vec<Notice>,
+    ) -> Result<(), NoMemory> {
+        match arrival {
+            Arrival::Readied => self.readied(link, notices),
+            Arrival::Nothing
+            | Arrival::Settles
+            | Arrival::Gives { .. }
+            | Arrival::Passes
+            | Arrival::Bad(_) => Ok(()),
+        }
+    }
+
+    fn readied(&mut self, link: u64, notices: &mut Vec<Notice>) -> Result<(), NoMemory> {
+        let Some(address) = self.links.address(link)? else {
+            return Ok(());
+        };
+        self.addresses.ready(&address, link, notices)?;
+        let moment = later(self.clock, self.settings.connection.keep_alive);
+        self.alarms.set(Alarm::KeepAlive(link), moment)
     }
 
     /// The frame that was read is for consumers, or the link ends by it.
@@ -290,12 +389,93 @@ impl Tables {
         ensures left { OnOk result (agenda_of tasks.new ≡ goes_on (view_of self.old) (Act.Comes (Part.ToLink link (LinkAct.Ends end))) (agenda_of tasks.old)) }
         ensures sees { OnOk result (view_of self.new ≡ after (Act.Comes (Part.ToLink link (LinkAct.Ends end))) (view_of self.old)) }
     {
-        let Some(mut notices) = self.links.end(self.clock, link, &end, out)? else {
+        let Some((address, mut notices)) = self.links.end(self.clock, link, &end, out)? else {
             return Ok(());
         };
         self.subscribers.end(link);
-        self.base.end(&end, &mut notices)?;
+        self.alarms.clear(Alarm::KeepAlive(link))?;
+        let most = self.settings.connection.max_retries;
+        let again = self.addresses.end(address, link, &end, most, &mut notices)?;
+        if let Some(retries) = again {
+            self.pauses(link, retries, out)?;
+        }
         tasks.open(notices)
+    }
+
+    /// Another attempt is to follow that of a link.
+    fn pauses(&mut self, link: u64, retries: u32, out: &mut Vec<Effect>) -> Result<(), NoMemory> {
+        let delay = self.settings.delay(link, retries);
+        out.push(Effect::Retry { link, delay })?;
+        self.alarms.set(Alarm::Retry(link), later(self.clock, delay))
+    }
+
+    /// An alarm comes, where it rings still.
+    fn rings(&mut self, alarm: Alarm, tasks: &mut Tasks) -> Result<(), NoMemory>
+        ensures left { OnOk result (agenda_of tasks.new ≡ goes_on (view_of self.old) (Act.Comes (Part.Rings alarm)) (agenda_of tasks.old)) }
+        ensures sees { OnOk result (view_of self.new ≡ after (Act.Comes (Part.Rings alarm)) (view_of self.old)) }
+    {
+        if !self.alarms.rings(self.clock, alarm) {
+            return Ok(());
+        }
+        match alarm {
+            Alarm::Retry(link) => self.tries_again(link, tasks),
+            Alarm::Wake(who) => self.wakes(who, tasks),
+            Alarm::KeepAlive(link) => self.keeps_alive(link, tasks),
+            Alarm::CheckIdle => self.checks_idle(tasks),
+        }
+    }
+
+    /// The attempt that was to follow that of a link is made.
+    fn tries_again(&mut self, link: u64, tasks: &mut Tasks) -> Result<(), NoMemory> {
+        self.alarms.clear(Alarm::Retry(link))?;
+        let Some(pause) = self.addresses.take_pause(link) else {
+            return Ok(());
+        };
+        let Pause {
+            address,
+            starter,
+            retries,
+        } = pause;
+        tasks.put(Act::Dials {
+            address,
+            starter,
+            retries: retries.checked_add(1).ok_or(NoMemory)?,
+        })
+    }
+
+    /// One has waited.
+    fn wakes(&mut self, who: Who, tasks: &mut Tasks) -> Result<(), NoMemory> {
+        self.alarms.clear(Alarm::Wake(who))?;
+        let mut notices = Vec::new(self.alloc);
+        notices.push(Notice {
+            who,
+            outcome: Outcome::Woken,
+        })?;
+        tasks.open(notices)
+    }
+
+    /// A link is asked for a sign of life, unless the earlier ping still waits.
+    fn keeps_alive(&mut self, link: u64, tasks: &mut Tasks) -> Result<(), NoMemory> {
+        let moment = later(self.clock, self.settings.connection.keep_alive);
+        self.alarms.set(Alarm::KeepAlive(link), moment)?;
+        if !self.links.may_ping(link) {
+            return Ok(());
+        }
+        tasks.put(Act::Comes(Part::ToLink {
+            link,
+            act: LinkAct::Pings,
+        }))
+    }
+
+    /// Links that nothing uses end.
+    fn checks_idle(&mut self, tasks: &mut Tasks) -> Result<(), NoMemory> {
+        self.alarms
+            .set(Alarm::CheckIdle, later(self.clock, IDLE_PERIOD))?;
+        let most = self.settings.connection.connection_max_idle;
+        let acts = self
+            .links
+            .idle_acts(self.clock, most, &self.subscribers)?;
+        tasks.put_all(acts)
     }
 
     /// A consumer is polled.
@@ -343,27 +523,37 @@ impl Tables {
         ensures sees { OnOk result (view_of self.new ≡ after (Act.Does who action) (view_of self.old)) }
     {
         match action {
-            Action::Get => self.gets(who, tasks),
+            Action::Get(address) => self.gets(who, address, tasks),
             Action::Ask { link, request } => self.asks(who, link, request, tasks, out),
+            Action::Wait(delay) => self.alarms.set(Alarm::Wake(who), later(self.clock, delay)),
             Action::StopAll => self.stops(who, tasks),
             Action::Rest => Ok(()),
         }
     }
 
-    /// One gets the link of the address: a ready one serves at once, a running attempt is waited for, else one is started.
-    fn gets(&mut self, who: Who, tasks: &mut Tasks) -> Result<(), NoMemory>
-        ensures left { OnOk result (agenda_of tasks.new ≡ goes_on (view_of self.old) (Act.Does who Action.Get) (agenda_of tasks.old)) }
-        ensures sees { OnOk result (view_of self.new ≡ after (Act.Does who Action.Get) (view_of self.old)) }
+    /// One gets a link of an address: a ready one serves at once, an attempt that runs or is to follow is waited for, else one is
+    /// started.
+    fn gets(&mut self, who: Who, address: Address, tasks: &mut Tasks) -> Result<(), NoMemory>
+        ensures left { OnOk result (agenda_of tasks.new ≡ goes_on (view_of self.old) (Act.Does who (Action.Get address)) (agenda_of tasks.old)) }
+        ensures sees { OnOk result (view_of self.new ≡ after (Act.Does who (Action.Get address)) (view_of self.old)) }
     {
-        let series = self.base.series;
-        self.base.wait(&self.settings.address, who)?;
-        if self.settings.address.is_none() {
+        if !address.is_reachable() {
             return tell(who, Outcome::NotFound, tasks);
         }
-        match series {
-            Series::Nobody => tasks.put(Act::Dials { starter: who }),
-            Series::Runs { starter: _ } => Ok(()),
-            Series::Serves { link } => tell(who, Outcome::GotLink(link), tasks),
+        match self.addresses.series(&address)? {
+            Series::Nobody => {
+                self.addresses.wait(&address, who)?;
+                tasks.put(Act::Dials {
+                    address,
+                    starter: who,
+                    retries: 0,
+                })
+            }
+            Series::Runs { .. } | Series::Pauses { .. } => self.addresses.wait(&address, who),
+            Series::Serves { link } => {
+                self.links.got(self.clock, link);
+                tell(who, Outcome::GotLink(link), tasks)
+            }
         }
     }
 
@@ -392,8 +582,27 @@ impl Tables {
         ensures sees { OnOk result (view_of self.new ≡ after (Act.Does who Action.StopAll) (view_of self.old)) }
     {
         self.is_stopped = true;
+        let notices = self.stop_alarms()?;
         tell(who, Outcome::Stopped, tasks)?;
-        tasks.put_all(self.links.stop_acts()?)
+        tasks.put_all(self.links.stop_acts()?)?;
+        tasks.open(notices)
+    }
+
+    /// No alarm is set any more: those who wait for a moment, or for an attempt that is to follow.
+    fn stop_alarms(&mut self) -> Result<Vec<Notice>, NoMemory> {
+        let mut notices = Vec::new(self.alloc);
+        for alarm in self.alarms.all()? {
+            match alarm {
+                Alarm::Retry(link) => self.addresses.stop(link, &mut notices)?,
+                Alarm::Wake(who) => notices.push(Notice {
+                    who,
+                    outcome: Outcome::Stopped,
+                })?,
+                Alarm::KeepAlive(_) | Alarm::CheckIdle => {}
+            }
+        }
+        self.alarms = Alarms::new(self.alloc);
+        Ok(notices)
     }
 
     /// A plan ends.
@@ -402,6 +611,10 @@ impl Tables {
         ensures sees { OnOk result (view_of self.new ≡ after (Act.Answers who verdict) (view_of self.old)) }
     {
         let Verdict { makes, said } = verdict;
+        if builds(&makes, false) && !self.is_built {
+            self.alarms
+                .set(Alarm::CheckIdle, later(self.clock, IDLE_PERIOD))?;
+        }
         self.is_built = builds(&makes, self.is_built);
         make(&mut self.subscribers, self.alloc, who, makes)?;
         match who {
@@ -414,16 +627,47 @@ impl Tables {
     }
 
     /// An attempt begins.
-    fn dials(&mut self, starter: Who, out: &mut Vec<Effect>) -> Result<(), NoMemory>
-        ensures out { OnOk result (map shown out.new.items ≡ map shown out.old.items ++ effects (view_of self.old) (Act.Dials starter)) }
-        ensures sees { OnOk result (view_of self.new ≡ after (Act.Dials starter) (view_of self.old)) }
+    fn dials(
+        &mut self,
+        address: Address,
+        starter: Who,
+        retries: u32,
+        out: &mut Vec<Effect>,
+    ) -> Result<(), NoMemory>
+        ensures out { OnOk result (map shown out.new.items ≡ map shown out.old.items ++ effects (view_of self.old) (Act.Dials address starter retries)) }
+        ensures sees { OnOk result (view_of self.new ≡ after (Act.Dials address starter retries) (view_of self.old)) }
     {
         let link = self.links.started;
-        let connection = self.settings.dial(self.alloc, self.clock, link, out)?;
-        self.links.start(connection)?;
-        self.base.series = Series::Runs { starter };
-        Ok(())
+        connect(self.alloc, &address, link, out)?;
+        let connection = self
+            .settings
+            .connection(self.alloc, link, self.clock, &address)?;
+        self.addresses.dial(&address, starter, retries, link)?;
+        self.links.start(address, connection, self.clock)
     }
+}
+
+/// How often the links are looked at that nothing uses, in milliseconds.
+const IDLE_PERIOD: u64 = 60_000;
+
+/// A moment that is so far from another.
+fn later(now: u64, delay: u64) -> u64
+    ensures { result ≡ later now delay }
+{
+    now.saturating_add(delay)
+}
+
+/// The alarms that ring come behind the links that are due.
+fn with_alarms(
+    mut parts: VecDeque<Part>,
+    alarms: Vec<Alarm>,
+) -> Result<VecDeque<Part>, NoMemory>
+    ensures { IfOk result (λ ps. ps.items ≡ parts.items ++ map Part.Rings alarms.items) }
+{
+    for alarm in alarms {
+        parts.push_back(Part::Rings(alarm))?;
+    }
+    Ok(parts)
 }
 
 fn one(alloc: Global, part: Part) -> Result<VecDeque<Part>, NoMemory>
@@ -444,26 +688,6 @@ fn ends(alloc: Global, link: u64, end: End) -> Result<VecDeque<Part>, NoMemory>
     ensures { IfOk result (λ ps. ps.items ≡ Part.ToLink link (LinkAct.Ends end) ∷ []) }
 {
     to_link(alloc, link, LinkAct::Ends(end))
-}
-
-/// Those who wait for the address are served where its link has become ready.
-fn welcome(
-    base: &mut Base,
-    link: u64,
-    arrival: &Arrival,
-    notices: &mut Vec<Notice>,
-) -> Result<(), NoMemory>
-    ensures notices { OnOk result (notices.new.items ≡ notices.old.items ++ served_by link (change_in arrival.now) (base_of base.old).waiting) }
-    ensures turned { OnOk result (base_of base.new ≡ base_turned link (change_in arrival.now) (base_of base.old)) }
-{
-    match arrival {
-        Arrival::Readied => base.ready(link, notices),
-        Arrival::Nothing
-        | Arrival::Settles
-        | Arrival::Gives { .. }
-        | Arrival::Passes
-        | Arrival::Bad(_) => Ok(()),
-    }
 }
 
 /// Behind a frame the next one is read.
@@ -551,47 +775,4 @@ fn make(
             }
         },
     }
-}
-
-/// A Build, unless it is refused.
-fn builds_if(is_allowed: bool, outbound: usize) -> Procedure
-    ensures { result ≡ unless_refused is_allowed (builds_with outbound) }
-{
-    if !is_allowed {
-        Procedure::Refuse(Refusal::Shutdown)
-    } else if outbound == 0 {
-        Procedure::Refuse(Refusal::NoOutbound)
-    } else {
-        Procedure::Build
-    }
-}
-
-/// A Stop, unless it is refused.
-fn stops_if(is_allowed: bool) -> Procedure
-    ensures { result ≡ unless_refused is_allowed Procedure.Stop }
-{
-    if is_allowed {
-        Procedure::Stop
-    } else {
-        Procedure::Refuse(Refusal::Shutdown)
-    }
-}
-
-fn ask_for(
-    alloc: Global,
-    is_allowed: bool,
-    place: Place,
-    call: RawCall,
-    says: Says,
-) -> Result<Procedure, NoMemory>
-    ensures { IfOk result (λ p. p ≡ unless_refused is_allowed (Procedure.Ask place (words_of call) says)) }
-{
-    if !is_allowed {
-        return Ok(Procedure::Refuse(Refusal::Shutdown));
-    }
-    Ok(Procedure::Ask {
-        place,
-        request: Request::new(alloc, call)?,
-        says,
-    })
 }

@@ -2,4 +2,5 @@
 
 pub mod answers;
 pub mod plan;
+pub mod search;
 pub mod table;

@@ -1,0 +1,141 @@
+//! What comes of itself at its moment.
+
+ghost use Rattle.std.specs.Prelude.{◌≡◌, [], Some, None, IfOk, OnOk};
+ghost use Rattle.pulsar_client.specs.Alarms.{clear, rings, ringing, set};
+
+use crate::act::Alarm;
+use pulsar_wire::error::NoMemory;
+use std::alloc::Global;
+use std::collections::{BTreeMap, BTreeSet};
+use std::marker::Model;
+
+/// The alarms that are set, each with its moment. Those whose moment has come are found without a look at the others.
+#[derive(Drop)]
+pub struct Alarms {
+    alloc: Global,
+    // by alarm
+    moments: BTreeMap<Alarm, u64>,
+    // the alarms of each moment
+    alarms: BTreeMap<u64, BTreeSet<Alarm>>,
+}
+
+impl Model for Alarms {
+    ghost use Rattle.std.specs.Prelude.{ℕ, List};
+    ghost use Rattle.pulsar_client.specs.Kept.{AreSet};
+    ghost use Rattle.pulsar_client.specs.declared.act.Alarm.{Alarm as Meant};
+
+    // the alarms with their moments, in their order
+    ghost Value = { List (Meant × ℕ) };
+
+    ghost view = { λ i. i.moments.entries };
+
+    ghost invariant = { AreSet };
+}
+
+impl Alarms {
+    /// No alarm is set.
+    pub fn new(alloc: Global) -> Alarms
+        ensures { result ≡ [] }
+    {
+        Alarms {
+            alloc,
+            moments: BTreeMap::new(alloc),
+            alarms: BTreeMap::new(alloc),
+        }
+    }
+
+    /// An alarm is set to a moment, in the place of an earlier one.
+    pub fn set(&mut self, alarm: Alarm, moment: u64) -> Result<(), NoMemory>
+        ensures { OnOk result (self.new ≡ set alarm moment self.old) }
+    {
+        self.clear(alarm)?;
+        list(&mut self.alarms, self.alloc, moment, alarm)?;
+        self.moments.insert(alarm, moment)?;
+        Ok(())
+    }
+
+    /// An alarm is set no more.
+    pub fn clear(&mut self, alarm: Alarm) -> Result<(), NoMemory>
+        ensures { OnOk result (self.new ≡ clear alarm self.old) }
+    {
+        match self.moments.remove(&alarm) {
+            Some(moment) => unlist(&mut self.alarms, moment, alarm),
+            None => Ok(()),
+        }
+    }
+
+    /// An alarm is set, and its moment has come.
+    pub fn rings(&self, now: u64, alarm: Alarm) -> bool
+        ensures { result ≡ rings now alarm self.now }
+    {
+        match self.moments.get(&alarm) {
+            Some(moment) => *moment <= now,
+            None => false,
+        }
+    }
+
+    /// The alarms whose moment has come, in their order.
+    pub fn ringing(&self, now: u64) -> Result<Vec<Alarm>, NoMemory>
+        ensures { IfOk result (λ found. found.items ≡ ringing now self.now) }
+    {
+        let mut found = BTreeSet::new(self.alloc);
+        for (_, alarms) in self.alarms.range(..=now) {
+            add_all(&mut found, alarms)?;
+        }
+        in_order(self.alloc, &found)
+    }
+
+    /// All alarms, in their order.
+    pub fn all(&self) -> Result<Vec<Alarm>, NoMemory> {
+        let mut all = Vec::new(self.alloc);
+        for (alarm, _) in &self.moments {
+            all.push(*alarm)?;
+        }
+        Ok(all)
+    }
+}
+
+fn unlist(
+    alarms: &mut BTreeMap<u64, BTreeSet<Alarm>>,
+    moment: u64,
+    alarm: Alarm,
+) -> Result<(), NoMemory> {
+    let Some(mut others) = alarms.remove(&moment) else {
+        return Ok(());
+    };
+    others.remove(&alarm);
+    if !others.is_empty() {
+        alarms.insert(moment, others)?;
+    }
+    Ok(())
+}
+
+fn list(
+    alarms: &mut BTreeMap<u64, BTreeSet<Alarm>>,
+    alloc: Global,
+    moment: u64,
+    alarm: Alarm,
+) -> Result<(), NoMemory> {
+    let mut others = match alarms.remove(&moment) {
+        Some(others) => others,
+        None => BTreeSet::new(alloc),
+    };
+    others.insert(alarm)?;
+    alarms.insert(moment, others)?;
+    Ok(())
+}
+
+fn add_all(found: &mut BTreeSet<Alarm>, alarms: &BTreeSet<Alarm>) -> Result<(), NoMemory> {
+    for alarm in alarms {
+        found.insert(*alarm)?;
+    }
+    Ok(())
+}
+
+fn in_order(alloc: Global, found: &BTreeSet<Alarm>) -> Result<Vec<Alarm>, NoMemory> {
+    let mut alarms = Vec::new(alloc);
+    for alarm in found {
+        alarms.push(*alarm)?;
+    }
+    Ok(alarms)
+}

@@ -1,15 +1,16 @@
 -- For the code's contracts alone: what is seen of the tables of a client, and the histories that they stand for.
-use Rattle.std.specs.Prelude.{ℕ, List, [], ◌∷◌, map, Option}
+use Rattle.std.specs.Prelude.{ℕ, List, [], ◌∷◌, map, Option, None, true, false}
 use Rattle.std.specs.BTreeMap.{BTreeMap, get}
 use Rattle.std.specs.Global.{Vec}
 use Rattle.std.specs.Option.{option_map}
 use Rattle.std.specs.Ordering.{nat_cmp}
 use Rattle.pulsar_messages.specs.Content.{authentication_values}
 use Rattle.pulsar_run.specs.Standing as standing
+use Rattle.pulsar_plans.specs.Address.{address_key}
+use Rattle.pulsar_client.specs.declared.act.Arrival.{Arrival}
 use Rattle.pulsar_client.specs.declared.act.Who.{Who}
 use Rattle.pulsar_client.specs.declared.act.Who.TheVariants.{Call}
 use Rattle.pulsar_client.specs.declared.agenda.Tasks.{Tasks}
-use Rattle.pulsar_client.specs.declared.base.Base as base
 use Rattle.pulsar_client.specs.declared.effect.Effect.{Effect}
 use Rattle.pulsar_client.specs.declared.event.Event.{Event}
 use Rattle.pulsar_client.specs.declared.plans.plan.Plan.{Plan}
@@ -18,26 +19,25 @@ use Rattle.pulsar_client.specs.declared.settings.Settings.{Settings}
 use Rattle.pulsar_client.specs.declared.tables.Tables.{Tables}
 use Rattle.pulsar_client.specs.Content.{Heard, Shown, heard, shown}
 use Rattle.pulsar_client.specs.Run.{Agenda, Step, rules}
-use Rattle.pulsar_client.specs.Kept.{links_in}
+use Rattle.pulsar_client.specs.Kept.{addresses_of, links_in}
 use Rattle.pulsar_client.specs.Subscribers.{subscription_at}
-use Rattle.pulsar_client.specs.View.{Base, Chosen, View}
+use Rattle.pulsar_client.specs.View.{Chosen, Seat, Tickets, Turned, View}
+use Rattle.pulsar_client.specs.Links.{change_in}
 
 -- THE THINGS
 
 abbrev pub chosen_of : Settings → Chosen
 chosen_of s =
     record {
-      address = s.address;
+      base = s.base;
       auth = option_map authentication_values s.auth;
-      connection_timeout = s.connection_timeout;
-      operation_timeout = s.operation_timeout;
+      connection = s.connection;
+      operation = s.operation;
       outbound = s.outbound;
+      seed = s.seed;
       first_number = s.first_number;
       now = s.start;
     }
-
-abbrev pub base_of : base.Base → Base
-base_of b = record { series = b.series; waiting = b.waiting.items }
 
 abbrev pub stand_of : Plans → Who → Option Plan
 stand_of p (Call ticket) = get nat_cmp p.calls ticket
@@ -50,9 +50,18 @@ view_of c =
       stand = stand_of c.plans;
       calls = record { drawn = c.tickets; is_built = c.is_built; is_stopped = c.is_stopped };
       links = links_in c.links.started c.links.live;
-      base = base_of c.base;
+      addresses = addresses_of c.addresses;
+      alarms = c.alarms;
       consumers = subscription_at c.subscribers;
     }
+
+-- the calls of a client that is built and was not stopped
+abbrev pub opened_calls : Tickets
+opened_calls = record { drawn = 0; is_built = true; is_stopped = false }
+
+-- what a link turns whose next frame was read
+abbrev pub welcomed : (link : ℕ) → Arrival → Option Seat → Option Turned
+welcomed l a row = option_map (λ seat. record { link = l; key = address_key seat.address; change = change_in a; pause = None }) row
 
 -- WHAT IS LEFT TO DO
 

@@ -1,6 +1,7 @@
 -- Seven small runs, by their histories, oldest step first. Each is good.
-use Rattle.std.specs.Prelude.{ℕ, List, [], ◌∷◌, ◌++◌, reverse, codes, Some, None}
-use Rattle.url.specs.Parts.{Parts}
+use Rattle.std.specs.Prelude.{◌≡◌, ℕ, true, false, List, [], ◌∷◌, ◌++◌, reverse, codes, Some, None}
+use Rattle.pulsar_plans.specs.Address.{Place, is_reachable}
+use Rattle.pulsar_plans.specs.Backoff.{default_connection_retry, default_operation_retry}
 use Rattle.pulsar_wire.specs.declared.error.IoKind.TheVariants.{Other, TimedOut}
 use Rattle.pulsar_wire.specs.declared.commands.topics.Mode.TheVariants as modes
 use Rattle.pulsar_wire.specs.declared.commands.enumerations.SubType.TheVariants.{Exclusive}
@@ -10,6 +11,7 @@ use Rattle.pulsar_messages.specs.Messages.{connect_command}
 use Rattle.pulsar_messages.specs.Words.{Words, GetTopicsOfNamespace, Subscribe}
 use Rattle.pulsar_session.specs.Failures.{Io, Canceled, Disconnected, Shutdown}
 use Rattle.pulsar_session.specs.Link.{bare, message_of}
+use Rattle.pulsar_client.specs.Address.{leads_to}
 use Rattle.pulsar_client.specs.declared.effect.Settlement.TheVariants as settlement
 use Rattle.pulsar_client.specs.Content.{Heard, Called, Build, Stop, Topics, Raw, Opened, Bytes, Drain, Ticked, Poll, Shown, Connect, Queued, Write, Settles, Ends, Close, Hands, FindsNothing, Done, Names, Replies}
 use Rattle.pulsar_client.specs.Plan.{failed}
@@ -23,16 +25,16 @@ local_host = codes "127.0.0.1"
 abbrev pub local_port : ℕ
 local_port = 6650
 
--- the options, with the URL of this host and room for so many frames: requests are numbered from 0, at moment 0, and are due after half
--- a minute
-abbrev pub options : (outbound : ℕ) → Parts → Chosen
-options outbound url =
+-- the options, with this address and room for so many frames: requests are numbered from 0, at moment 0, and are due after half a minute
+abbrev pub options : (outbound : ℕ) → Place → Chosen
+options outbound base =
     record {
-      address = Some (record { url = url; host = local_host; port = local_port });
+      base = Some base;
       auth = None;
-      connection_timeout = 30000;
-      operation_timeout = 30000;
+      connection = record default_connection_retry { connection_timeout = 30000 };
+      operation = default_operation_retry;
       outbound = outbound;
+      seed = 0;
       first_number = 0;
       now = 0;
     }
@@ -154,6 +156,8 @@ client_is_stopped =
     ∷ step_of asks_topics (Ends 3 (failed Shutdown) ∷ [])
     ∷ [])
 
--- a history, oldest step first, is good with room for so many frames, whatever the URL is beside its host
+-- a history, oldest step first, is good with room for so many frames, whatever the address is that leads to this host
 abbrev pub IsGood : (outbound : ℕ) → List Step → Type 0
-IsGood outbound history = (url : Parts) → Good (options outbound url) (reverse history)
+IsGood outbound history =
+    (base : Place) → is_reachable base ≡ true → leads_to base ≡ Some (local_host, local_port) → base.proxy ≡ false →
+    Good (options outbound base) (reverse history)

@@ -461,6 +461,9 @@ waits_for (Runs starter retries link) who ws = ws ++ who ∷ []
 waits_for (Pauses link) who ws = ws ++ who ∷ []
 waits_for (Serves link) who ws = ws
 
+abbrev pub base_waiting : Who → Base → Base
+base_waiting who b = record { series = b.series; waiting = b.waiting ++ who ∷ [] }
+
 abbrev pub base_got : Who → Place → (key : List ℕ) → Base → Base
 base_got who p key b =
     if is_reachable p && bytes_eq (address_key p) key then record { series = b.series; waiting = waits_for b.series who b.waiting } else b
@@ -469,23 +472,34 @@ abbrev pub base_dialed : (link : ℕ) → Place → Who → (retries : ℕ) → 
 base_dialed l p starter retries key b =
     if bytes_eq (address_key p) key then record { series = Runs starter retries l; waiting = b.waiting } else b
 
--- with the stop no attempt is to follow
-abbrev pub base_stopped : Series → Base → Base
-base_stopped Nobody b = b
-base_stopped (Runs starter retries link) b = b
-base_stopped (Pauses link) b = nobody
-base_stopped (Serves link) b = b
+-- with the stop no attempt follows: an address waits for none where an alarm is set for it
+abbrev pub is_for : (key : List ℕ) → Option Pause → Bool
+is_for key None = false
+is_for key (Some p) = bytes_eq (address_key p.address) key
 
-abbrev pub base_after : (started : ℕ) → Option Turned → Act → (key : List ℕ) → Base → Base
-base_after started t (Comes (ToLink l x)) key b = base_on t key b
-base_after started t (Does who (Get p)) key b = base_got who p key b
-base_after started t (Does who StopAll) key b = base_stopped b.series b
-base_after started t (Dials p starter retries) key b = base_dialed started p starter retries key b
-base_after started t _ key b = b
+abbrev pub is_to_follow : Addresses → (key : List ℕ) → Alarm → Bool
+is_to_follow known key (Retry l) = is_for key (known.pause l)
+is_to_follow known key (Wake who) = false
+is_to_follow known key (KeepAlive l) = false
+is_to_follow known key CheckIdle = false
+
+abbrev pub waits_on : Addresses → List (Alarm × ℕ) → (key : List ℕ) → Bool
+waits_on known alarms key = list_any (λ e. is_to_follow known key e.0) alarms
+
+abbrev pub base_after : View → Act → (key : List ℕ) → Base → Base
+base_after v (Comes (ToLink l x)) key b = base_on (turned v (Comes (ToLink l x))) key b
+base_after v (Does who (Get p)) key b = base_got who p key b
+base_after v (Does who StopAll) key b = if waits_on v.addresses v.alarms key then nobody else b
+base_after v (Dials p starter retries) key b = base_dialed v.links.started p starter retries key b
+base_after v _ key b = b
+
+abbrev pub pause_put : Option Pause → (link : ℕ) → ℕ → Option Pause → Option Pause
+pause_put None k l row = row
+pause_put (Some p) k l row = if l == k then Some p else row
 
 abbrev pub pause_on : Option Turned → ℕ → Option Pause → Option Pause
 pause_on None l row = row
-pause_on (Some t) l row = if l == t.link then t.pause else row
+pause_on (Some t) l row = pause_put t.pause t.link l row
 
 -- the attempt that was to follow is made once its moment has come
 abbrev pub pause_rung : (rings : Bool) → Alarm → ℕ → Option Pause → Option Pause
@@ -494,18 +508,15 @@ pause_rung rings (Wake who) l row = row
 pause_rung rings (KeepAlive k) l row = row
 pause_rung rings CheckIdle l row = row
 
-abbrev pub pause_after : (now : ℕ) → List (Alarm × ℕ) → Option Turned → Act → ℕ → Option Pause → Option Pause
-pause_after now alarms t (Comes (ToLink k x)) l row = pause_on t l row
-pause_after now alarms t (Comes (Rings a)) l row = pause_rung (rings now a alarms) a l row
-pause_after now alarms t (Does who StopAll) l row = None
-pause_after now alarms t _ l row = row
+abbrev pub pause_after : View → Act → ℕ → Option Pause → Option Pause
+pause_after v (Comes (ToLink k x)) l row = pause_on (turned v (Comes (ToLink k x))) l row
+pause_after v (Comes (Rings a)) l row = pause_rung (rings v.now a v.alarms) a l row
+pause_after v (Does who StopAll) l row = None
+pause_after v _ l row = row
 
 abbrev pub addresses_after : View → Act → Addresses
 addresses_after v a =
-    record {
-      base = λ key. base_after v.links.started (turned v a) a key (v.addresses.base key);
-      pause = λ l. pause_after v.now v.alarms (turned v a) a l (v.addresses.pause l);
-    }
+    record { base = λ key. base_after v a key (v.addresses.base key); pause = λ l. pause_after v a l (v.addresses.pause l) }
 
 -- ALARMS
 

@@ -1,12 +1,12 @@
 //! Addresses: what runs for each, and who waits for that.
 
-ghost use Rattle.std.specs.Prelude.{◌≡◌, ◌++◌, [], ℕ, List, None, OnOk, IfOk, bytes_eq, map, string_bytes, if◌then◌else◌};
+ghost use Rattle.std.specs.Prelude.{◌≡◌, ◌==◌, ◌++◌, ℕ, List, None, OnOk, IfOk, bytes_eq, map, if◌then◌else◌};
 ghost use Rattle.std.specs.Option.{option_map};
 ghost use Rattle.pulsar_plans.specs.Address.{address_key};
-ghost use Rattle.pulsar_client.specs.Kept.{base_at, base_of, pause_at};
-ghost use Rattle.pulsar_client.specs.Links.{Becomes, IsOver};
+ghost use Rattle.pulsar_client.specs.Kept.{addresses_of, base_at, base_of, follows_at, pause_at};
+ghost use Rattle.pulsar_client.specs.Links.{Becomes};
 ghost use Rattle.pulsar_client.specs.Rules.{failed, failed_at, failed_over, failed_so, fails_so, notice, served_by, stopped_at};
-ghost use Rattle.pulsar_client.specs.View.{base_dialed, base_over, base_stopped, base_turned, is_passing, is_retryable, may_retry, nobody, waits_for};
+ghost use Rattle.pulsar_client.specs.View.{base_dialed, base_over, base_turned, base_waiting, is_for, is_passing, is_retryable, may_retry, nobody, pause_put};
 
 use crate::act::{End, Notice, Outcome, Who};
 use crate::who::is_same;
@@ -82,6 +82,8 @@ impl Addresses {
 
     /// One waits for an address.
     pub fn wait(&mut self, address: &Address, who: Who) -> Result<(), NoMemory>
+        ensures bases { OnOk result ((key : List ℕ) → base_at self.new.bases key ≡ (if bytes_eq (address_key address.now) key then base_waiting who (base_at self.old.bases key) else base_at self.old.bases key)) }
+        ensures pauses { OnOk result (self.new.pauses ≡ self.old.pauses) }
     {
         let key = address.key(self.alloc)?;
         let mut base = take(&mut self.bases, self.alloc, &key);
@@ -98,6 +100,8 @@ impl Addresses {
         retries: u32,
         link: u64,
     ) -> Result<(), NoMemory>
+        ensures bases { OnOk result ((key : List ℕ) → base_at self.new.bases key ≡ base_dialed link address.now starter retries key (base_at self.old.bases key)) }
+        ensures pauses { OnOk result (self.new.pauses ≡ self.old.pauses) }
     {
         let key = address.key(self.alloc)?;
         let mut base = take(&mut self.bases, self.alloc, &key);
@@ -117,6 +121,9 @@ impl Addresses {
         link: u64,
         notices: &mut Vec<Notice>,
     ) -> Result<(), NoMemory>
+        ensures notices { OnOk result (notices.new.items ≡ notices.old.items ++ served_by link Becomes (base_at self.old.bases (address_key address.now)).waiting) }
+        ensures bases { OnOk result ((key : List ℕ) → base_at self.new.bases key ≡ (if bytes_eq (address_key address.now) key then base_turned link Becomes None (base_at self.old.bases key) else base_at self.old.bases key)) }
+        ensures pauses { OnOk result (self.new.pauses ≡ self.old.pauses) }
     {
         let key = address.key(self.alloc)?;
         let base = take(&mut self.bases, self.alloc, &key);
@@ -138,6 +145,10 @@ impl Addresses {
         most: u32,
         notices: &mut Vec<Notice>,
     ) -> Result<Option<u32>, NoMemory>
+        ensures again { IfOk result (λ r. r ≡ option_map (λ w. w.1) (may_retry most end.now (base_at self.old.bases (address_key address)).series)) }
+        ensures notices { OnOk result (notices.new.items ≡ notices.old.items ++ failed_over end.now (follows_at most end.now address self.old.bases) (base_at self.old.bases (address_key address))) }
+        ensures bases { OnOk result ((key : List ℕ) → base_at self.new.bases key ≡ (if bytes_eq (address_key address) key then base_over link (follows_at most end.now address self.old.bases) (base_at self.old.bases key) else base_at self.old.bases key)) }
+        ensures pauses { OnOk result ((l : ℕ) → pause_at self.new.pauses l ≡ pause_put (follows_at most end.now address self.old.bases) link l (pause_at self.old.pauses l)) }
     {
         let key = address.key(self.alloc)?;
         let mut base = take(&mut self.bases, self.alloc, &key);
@@ -161,19 +172,45 @@ impl Addresses {
     /// Takes out the attempt that is to follow that of a link.
     pub fn take_pause(&mut self, link: u64) -> Option<Pause>
         ensures pause { result ≡ pause_at self.old.pauses link }
+        ensures left { (l : ℕ) → pause_at self.new.pauses l ≡ (if l == link then None else pause_at self.old.pauses l) }
+        ensures bases { self.new.bases ≡ self.old.bases }
     {
         self.pauses.remove(&link)
     }
 
     /// With the stop no attempt follows that of a link: those who wait for it are told so.
-    pub fn stop(&mut self, link: u64, notices: &mut Vec<Notice>) -> Result<(), NoMemory>
+    pub fn stop(&self, link: u64, notices: &mut Vec<Notice>) -> Result<(), NoMemory>
+        ensures { OnOk result (notices.new.items ≡ notices.old.items ++ stopped_at (addresses_of self.now) (pause_at self.now.pauses link)) }
     {
-        let Some(pause) = self.pauses.remove(&link) else {
+        let Some(pause) = self.pauses.get(&link) else {
             return Ok(());
         };
         let key = pause.address.key(self.alloc)?;
-        let base = take(&mut self.bases, self.alloc, &key);
-        stop_all(&base.waiting, notices)
+        match self.bases.get(key.as_str()) {
+            Some(base) => stop_all(&base.waiting, notices),
+            None => Ok(()),
+        }
+    }
+
+    /// Nobody waits for the attempt that was to follow that of a link.
+    pub fn forget(&mut self, link: u64) -> Result<(), NoMemory>
+        ensures bases { OnOk result ((key : List ℕ) → base_at self.new.bases key ≡ (if is_for key (pause_at self.old.pauses link) then nobody else base_at self.old.bases key)) }
+        ensures pauses { OnOk result (self.new.pauses ≡ self.old.pauses) }
+    {
+        let Some(pause) = self.pauses.get(&link) else {
+            return Ok(());
+        };
+        let key = pause.address.key(self.alloc)?;
+        self.bases.remove(key.as_str());
+        Ok(())
+    }
+
+    /// No attempt is to follow.
+    pub fn forget_pauses(&mut self)
+        ensures pauses { (l : ℕ) → pause_at self.new.pauses l ≡ None }
+        ensures bases { self.new.bases ≡ self.old.bases }
+    {
+        self.pauses = BTreeMap::new(self.alloc);
     }
 }
 

@@ -1,7 +1,12 @@
 //! What comes of itself at its moment.
 
-ghost use Rattle.std.specs.Prelude.{◌≡◌, [], Some, None, IfOk, OnOk};
-ghost use Rattle.pulsar_client.specs.Alarms.{clear, rings, ringing, set};
+ghost use Rattle.std.specs.Prelude.{◌≡◌, ◌==◌, ◌&&◌, ◌||◌, ℕ, [], true, false, IfOk, OnOk, map, if◌then◌else◌};
+ghost use Rattle.std.specs.BTreeMap.{get};
+ghost use Rattle.std.specs.BTreeSet.{contains};
+ghost use Rattle.std.specs.Ordering.{nat_cmp};
+ghost use Rattle.pulsar_client.specs.Alarms.{alarm_cmp, clear, is_same_alarm, ringing, rings, set};
+ghost use Rattle.pulsar_client.specs.Kept.{is_in};
+ghost use Rattle.pulsar_client.specs.declared.act.Alarm.{Alarm as Meant};
 
 use crate::act::Alarm;
 use pulsar_wire::error::NoMemory;
@@ -86,7 +91,9 @@ impl Alarms {
     }
 
     /// All alarms, in their order.
-    pub fn all(&self) -> Result<Vec<Alarm>, NoMemory> {
+    pub fn all(&self) -> Result<Vec<Alarm>, NoMemory>
+        ensures { IfOk result (λ all. all.items ≡ map (λ e. e.0) self.now) }
+    {
         let mut all = Vec::new(self.alloc);
         for (alarm, _) in &self.moments {
             all.push(*alarm)?;
@@ -99,7 +106,9 @@ fn unlist(
     alarms: &mut BTreeMap<u64, BTreeSet<Alarm>>,
     moment: u64,
     alarm: Alarm,
-) -> Result<(), NoMemory> {
+) -> Result<(), NoMemory>
+    ensures { OnOk result ((m : ℕ) (a : Meant) → is_in a (get nat_cmp alarms.new m) ≡ (if (m == moment) && is_same_alarm alarm a then false else is_in a (get nat_cmp alarms.old m))) }
+{
     let Some(mut others) = alarms.remove(&moment) else {
         return Ok(());
     };
@@ -115,7 +124,9 @@ fn list(
     alloc: Global,
     moment: u64,
     alarm: Alarm,
-) -> Result<(), NoMemory> {
+) -> Result<(), NoMemory>
+    ensures { OnOk result ((m : ℕ) (a : Meant) → is_in a (get nat_cmp alarms.new m) ≡ (if (m == moment) && is_same_alarm alarm a then true else is_in a (get nat_cmp alarms.old m))) }
+{
     let mut others = match alarms.remove(&moment) {
         Some(others) => others,
         None => BTreeSet::new(alloc),
@@ -125,14 +136,18 @@ fn list(
     Ok(())
 }
 
-fn add_all(found: &mut BTreeSet<Alarm>, alarms: &BTreeSet<Alarm>) -> Result<(), NoMemory> {
+fn add_all(found: &mut BTreeSet<Alarm>, alarms: &BTreeSet<Alarm>) -> Result<(), NoMemory>
+    ensures { OnOk result ((a : Meant) → contains alarm_cmp found.new a ≡ (contains alarm_cmp found.old a || contains alarm_cmp alarms.now a)) }
+{
     for alarm in alarms {
         found.insert(*alarm)?;
     }
     Ok(())
 }
 
-fn in_order(alloc: Global, found: &BTreeSet<Alarm>) -> Result<Vec<Alarm>, NoMemory> {
+fn in_order(alloc: Global, found: &BTreeSet<Alarm>) -> Result<Vec<Alarm>, NoMemory>
+    ensures { IfOk result (λ alarms. alarms.items ≡ found.now.keys) }
+{
     let mut alarms = Vec::new(alloc);
     for alarm in found {
         alarms.push(*alarm)?;

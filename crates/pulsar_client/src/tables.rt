@@ -1,18 +1,19 @@
 //! The tables of a client, and one step of them.
 
+ghost use Rattle.std.specs.List.{flat_map, list_any};
 ghost use Rattle.std.specs.Option.{option_map};
-ghost use Rattle.std.specs.Prelude.{◌≡◌, ◌++◌, ◌∷◌, [], ℕ, List, map, IfOk, OnOk, true, if◌then◌else◌};
+ghost use Rattle.std.specs.Prelude.{◌≡◌, ◌==◌, ◌++◌, ◌∷◌, [], ℕ, List, map, IfOk, None, OnOk, string_bytes, true, if◌then◌else◌};
 ghost use Rattle.pulsar_run.specs.Order.{arranged};
-ghost use Rattle.pulsar_client.specs.Content.{Heard, heard, shown};
+ghost use Rattle.pulsar_client.specs.Alarms.{clear, set};
+ghost use Rattle.pulsar_client.specs.Content.{Heard, Retry, asked, heard, shown};
 ghost use Rattle.pulsar_client.specs.Effects.{effect_below, effects};
-ghost use Rattle.pulsar_link.specs.RawCall.{words_of};
-ghost use Rattle.pulsar_client.specs.Links.{change_in};
-ghost use Rattle.pulsar_client.specs.Rules.{breaks_at, builds_with, does, follows, notice, parts, procedure_for, reads_on, served_by, unless_refused};
+ghost use Rattle.pulsar_client.specs.Kept.{addresses_of, base_at, live_in, pause_at};
+ghost use Rattle.pulsar_client.specs.Rules.{asks_topics, below, breaks_at, builds_with, does, follows, from_base, notice, opens, parts, procedure_for, reads_on, rung, searches, served_on, stopped_with, unless_refused, waiters_of, woken};
 ghost use Rattle.pulsar_client.specs.Run.{Agenda, Step, goes_on};
 ghost use Rattle.pulsar_client.specs.Subscribers.{subscription_at};
 ghost use Rattle.pulsar_client.specs.Subscriptions.{hears};
-ghost use Rattle.pulsar_client.specs.Tables.{InStep, Stands, agenda_of, base_of, chosen_of, stand_of, step, view_of};
-ghost use Rattle.pulsar_client.specs.View.{Chosen, after, base_turned, begun, builds, is_live, made, stays};
+ghost use Rattle.pulsar_client.specs.Tables.{InStep, Stands, agenda_of, chosen_of, opened_calls, stand_of, step, view_of, welcomed};
+ghost use Rattle.pulsar_client.specs.View.{Chosen, after, alarms_on, alarms_rung, base_on, begun, builds, delay_with, is_live, is_to_follow, later, made, nobody, stays, waits_on, ways_of};
 ghost use Rattle.pulsar_client.specs.Who.{is_same};
 ghost use Rattle.pulsar_client.specs.declared.act.Who.{Who as Meant};
 
@@ -227,7 +228,9 @@ impl Tables {
     }
 
     /// The procedure of a call that an open client makes.
-    fn opened(&self, call: Call) -> Result<Procedure, NoMemory> {
+    fn opened(&self, call: Call) -> Result<Procedure, NoMemory>
+        ensures { IfOk result (λ p. p ≡ procedure_for (view_of self.now).chosen opened_calls (asked call)) }
+    {
         match call {
             Call::Build => self.builds_if(true),
             Call::Stop => Ok(Procedure::Stop),
@@ -326,7 +329,13 @@ impl Tables {
         link: u64,
         arrival: &Arrival,
         notices: &mut Vec<Notice>,
-    ) -> Result<(), NoMemory> {
+    ) -> Result<(), NoMemory>
+        ensures notices { OnOk result (notices.new.items ≡ notices.old.items ++ waiters_of served_on (addresses_of self.old.addresses) (welcomed link arrival.now (live_in self.old.links.live link))) }
+        ensures bases { OnOk result ((key : List ℕ) → base_at self.new.addresses.bases key ≡ base_on (welcomed link arrival.now (live_in self.old.links.live link)) key (base_at self.old.addresses.bases key)) }
+        ensures pauses { OnOk result ((l : ℕ) → pause_at self.new.addresses.pauses l ≡ pause_at self.old.addresses.pauses l) }
+        ensures alarms { OnOk result (self.new.alarms ≡ alarms_on (chosen_of self.old.settings) self.old.clock (welcomed link arrival.now (live_in self.old.links.live link)) self.old.alarms) }
+        ensures sees { OnOk result (view_of self.new ≡ record (view_of self.old) { addresses = addresses_of self.new.addresses; alarms = self.new.alarms }) }
+    {
         match arrival {
             Arrival::Readied => self.readied(link, notices),
             Arrival::Nothing
@@ -337,7 +346,13 @@ impl Tables {
         }
     }
 
-    fn readied(&mut self, link: u64, notices: &mut Vec<Notice>) -> Result<(), NoMemory> {
+    fn readied(&mut self, link: u64, notices: &mut Vec<Notice>) -> Result<(), NoMemory>
+        ensures notices { OnOk result (notices.new.items ≡ notices.old.items ++ waiters_of served_on (addresses_of self.old.addresses) (welcomed link Arrival.Readied (live_in self.old.links.live link))) }
+        ensures bases { OnOk result ((key : List ℕ) → base_at self.new.addresses.bases key ≡ base_on (welcomed link Arrival.Readied (live_in self.old.links.live link)) key (base_at self.old.addresses.bases key)) }
+        ensures pauses { OnOk result ((l : ℕ) → pause_at self.new.addresses.pauses l ≡ pause_at self.old.addresses.pauses l) }
+        ensures alarms { OnOk result (self.new.alarms ≡ alarms_on (chosen_of self.old.settings) self.old.clock (welcomed link Arrival.Readied (live_in self.old.links.live link)) self.old.alarms) }
+        ensures sees { OnOk result (view_of self.new ≡ record (view_of self.old) { addresses = addresses_of self.new.addresses; alarms = self.new.alarms }) }
+    {
         let Some(address) = self.links.address(link)? else {
             return Ok(());
         };
@@ -403,7 +418,11 @@ impl Tables {
     }
 
     /// Another attempt is to follow that of a link.
-    fn pauses(&mut self, link: u64, retries: u32, out: &mut Vec<Effect>) -> Result<(), NoMemory> {
+    fn pauses(&mut self, link: u64, retries: u32, out: &mut Vec<Effect>) -> Result<(), NoMemory>
+        ensures out { OnOk result (map shown out.new.items ≡ map shown out.old.items ++ Retry link (delay_with (chosen_of self.old.settings) link retries) ∷ []) }
+        ensures alarms { OnOk result (self.new.alarms ≡ set (Alarm.Retry link) (later self.old.clock (delay_with (chosen_of self.old.settings) link retries)) self.old.alarms) }
+        ensures sees { OnOk result (view_of self.new ≡ record (view_of self.old) { alarms = self.new.alarms }) }
+    {
         let delay = self.settings.delay(link, retries);
         out.push(Effect::Retry { link, delay })?;
         self.alarms.set(Alarm::Retry(link), later(self.clock, delay))
@@ -426,7 +445,13 @@ impl Tables {
     }
 
     /// The attempt that was to follow that of a link is made.
-    fn tries_again(&mut self, link: u64, tasks: &mut Tasks) -> Result<(), NoMemory> {
+    fn tries_again(&mut self, link: u64, tasks: &mut Tasks) -> Result<(), NoMemory>
+        ensures left { OnOk result (agenda_of tasks.new ≡ record (agenda_of tasks.old) { now = rung (view_of self.old) (Alarm.Retry link) ++ tasks.old.now.items }) }
+        ensures alarms { OnOk result (self.new.alarms ≡ clear (Alarm.Retry link) self.old.alarms) }
+        ensures bases { OnOk result (self.new.addresses.bases ≡ self.old.addresses.bases) }
+        ensures pauses { OnOk result ((l : ℕ) → pause_at self.new.addresses.pauses l ≡ (if l == link then None else pause_at self.old.addresses.pauses l)) }
+        ensures sees { OnOk result (view_of self.new ≡ record (view_of self.old) { addresses = addresses_of self.new.addresses; alarms = self.new.alarms }) }
+    {
         self.alarms.clear(Alarm::Retry(link))?;
         let Some(pause) = self.addresses.take_pause(link) else {
             return Ok(());
@@ -444,7 +469,11 @@ impl Tables {
     }
 
     /// One has waited.
-    fn wakes(&mut self, who: Who, tasks: &mut Tasks) -> Result<(), NoMemory> {
+    fn wakes(&mut self, who: Who, tasks: &mut Tasks) -> Result<(), NoMemory>
+        ensures left { OnOk result (agenda_of tasks.new ≡ record (agenda_of tasks.old) { behind = (agenda_of tasks.old).behind ++ map (arranged below) (opens (woken (Alarm.Wake who))) }) }
+        ensures alarms { OnOk result (self.new.alarms ≡ clear (Alarm.Wake who) self.old.alarms) }
+        ensures sees { OnOk result (view_of self.new ≡ record (view_of self.old) { alarms = self.new.alarms }) }
+    {
         self.alarms.clear(Alarm::Wake(who))?;
         let mut notices = Vec::new(self.alloc);
         notices.push(Notice {
@@ -455,7 +484,11 @@ impl Tables {
     }
 
     /// A link is asked for a sign of life, unless the earlier ping still waits.
-    fn keeps_alive(&mut self, link: u64, tasks: &mut Tasks) -> Result<(), NoMemory> {
+    fn keeps_alive(&mut self, link: u64, tasks: &mut Tasks) -> Result<(), NoMemory>
+        ensures left { OnOk result (agenda_of tasks.new ≡ record (agenda_of tasks.old) { now = rung (view_of self.old) (Alarm.KeepAlive link) ++ tasks.old.now.items }) }
+        ensures alarms { OnOk result (self.new.alarms ≡ alarms_rung (chosen_of self.old.settings) self.old.clock (Alarm.KeepAlive link) self.old.alarms) }
+        ensures sees { OnOk result (view_of self.new ≡ record (view_of self.old) { alarms = self.new.alarms }) }
+    {
         let moment = later(self.clock, self.settings.connection.keep_alive);
         self.alarms.set(Alarm::KeepAlive(link), moment)?;
         if !self.links.may_ping(link) {
@@ -468,7 +501,11 @@ impl Tables {
     }
 
     /// Links that nothing uses end.
-    fn checks_idle(&mut self, tasks: &mut Tasks) -> Result<(), NoMemory> {
+    fn checks_idle(&mut self, tasks: &mut Tasks) -> Result<(), NoMemory>
+        ensures left { OnOk result (agenda_of tasks.new ≡ record (agenda_of tasks.old) { now = rung (view_of self.old) Alarm.CheckIdle ++ tasks.old.now.items }) }
+        ensures alarms { OnOk result (self.new.alarms ≡ alarms_rung (chosen_of self.old.settings) self.old.clock Alarm.CheckIdle self.old.alarms) }
+        ensures sees { OnOk result (view_of self.new ≡ record (view_of self.old) { alarms = self.new.alarms }) }
+    {
         self.alarms
             .set(Alarm::CheckIdle, later(self.clock, IDLE_PERIOD))?;
         let most = self.settings.connection.connection_max_idle;
@@ -589,18 +626,17 @@ impl Tables {
     }
 
     /// No alarm is set any more: those who wait for a moment, or for an attempt that is to follow.
-    fn stop_alarms(&mut self) -> Result<Vec<Notice>, NoMemory> {
-        let mut notices = Vec::new(self.alloc);
-        for alarm in self.alarms.all()? {
-            match alarm {
-                Alarm::Retry(link) => self.addresses.stop(link, &mut notices)?,
-                Alarm::Wake(who) => notices.push(Notice {
-                    who,
-                    outcome: Outcome::Stopped,
-                })?,
-                Alarm::KeepAlive(_) | Alarm::CheckIdle => {}
-            }
-        }
+    fn stop_alarms(&mut self) -> Result<Vec<Notice>, NoMemory>
+        ensures notices { IfOk result (λ ns. ns.items ≡ flat_map (λ e. stopped_with (addresses_of self.old.addresses) e.0) self.old.alarms) }
+        ensures alarms { OnOk result (self.new.alarms ≡ []) }
+        ensures bases { OnOk result ((key : List ℕ) → base_at self.new.addresses.bases key ≡ (if waits_on (addresses_of self.old.addresses) self.old.alarms key then nobody else base_at self.old.addresses.bases key)) }
+        ensures pauses { OnOk result ((l : ℕ) → pause_at self.new.addresses.pauses l ≡ None) }
+        ensures sees { OnOk result (view_of self.new ≡ record (view_of self.old) { addresses = addresses_of self.new.addresses; alarms = self.new.alarms }) }
+    {
+        let all = self.alarms.all()?;
+        let notices = stopped_with(self.alloc, &self.addresses, &all)?;
+        forget_all(&mut self.addresses, &all)?;
+        self.addresses.forget_pauses();
         self.alarms = Alarms::new(self.alloc);
         Ok(notices)
     }
@@ -645,6 +681,52 @@ impl Tables {
         self.addresses.dial(&address, starter, retries, link)?;
         self.links.start(address, connection, self.clock)
     }
+}
+
+/// Those who wait for a moment, or for an attempt that is to follow, are told that the client is stopped.
+fn stopped_with(
+    alloc: Global,
+    addresses: &Addresses,
+    alarms: &[Alarm],
+) -> Result<Vec<Notice>, NoMemory>
+    ensures { IfOk result (λ ns. ns.items ≡ flat_map (stopped_with (addresses_of addresses.now)) alarms.now) }
+{
+    let mut notices = Vec::new(alloc);
+    for alarm in alarms {
+        stop_one(addresses, *alarm, &mut notices)?;
+    }
+    Ok(notices)
+}
+
+fn stop_one(
+    addresses: &Addresses,
+    alarm: Alarm,
+    notices: &mut Vec<Notice>,
+) -> Result<(), NoMemory>
+    ensures { OnOk result (notices.new.items ≡ notices.old.items ++ stopped_with (addresses_of addresses.now) alarm) }
+{
+    match alarm {
+        Alarm::Retry(link) => addresses.stop(link, notices)?,
+        Alarm::Wake(who) => notices.push(Notice {
+            who,
+            outcome: Outcome::Stopped,
+        })?,
+        Alarm::KeepAlive(_) | Alarm::CheckIdle => {}
+    }
+    Ok(())
+}
+
+/// Nobody waits for an attempt that was to follow.
+fn forget_all(addresses: &mut Addresses, alarms: &[Alarm]) -> Result<(), NoMemory>
+    ensures bases { OnOk result ((key : List ℕ) → base_at addresses.new.bases key ≡ (if list_any (is_to_follow (addresses_of addresses.old) key) alarms.now then nobody else base_at addresses.old.bases key)) }
+    ensures pauses { OnOk result (addresses.new.pauses ≡ addresses.old.pauses) }
+{
+    for alarm in alarms {
+        if let Alarm::Retry(link) = alarm {
+            addresses.forget(*link)?;
+        }
+    }
+    Ok(())
 }
 
 /// How often the links are looked at that nothing uses, in milliseconds.

@@ -2,7 +2,7 @@
 
 use pulsar_client::effect::Effect;
 use pulsar_client::event::{Call, Event};
-use pulsar_client::options::{ClientOptions, ConnectionRetryOptions, OperationRetryOptions};
+use pulsar_client::{ClientOptions, ConnectionRetryOptions, OperationRetryOptions};
 use pulsar_client::pulsar::Pulsar;
 use pulsar_wire::{ConnectionError, Error, NoMemory};
 use std::alloc::Global;

@@ -1,6 +1,8 @@
 //! The searches of pulsar_plans as plans of calls: what they do, what they are told, what they find.
 
-ghost use Rattle.std.specs.Prelude.{◌≡◌, ◌∷◌, [], IfOk};
+ghost use Rattle.std.specs.Prelude.{◌≡◌, IfOk};
+ghost use Rattle.std.specs.Option.{option_to_list};
+ghost use Rattle.pulsar_client.specs.Content.{Replies};
 ghost use Rattle.pulsar_plans.specs.Plans as meaning;
 ghost use Rattle.pulsar_client.specs.Plan.{found, found_so, goes, news_in, told, wished};
 ghost use Rattle.pulsar_client.specs.declared.plans.plan.Plan.TheVariants.{Searching};
@@ -9,6 +11,7 @@ use crate::act::{Action, Makes, Outcome, Verdict};
 use crate::content::Said;
 use crate::effect::Answer;
 use crate::plans::plan::{Plan, Turn, error_of, failure};
+use pulsar_frame::message::Message;
 use pulsar_link::content::Request;
 use pulsar_link::raw_call::RawCall;
 use pulsar_plans::content::{Cause, Refusal};
@@ -176,10 +179,17 @@ fn said(alloc: Global, answer: Found) -> Result<Said, NoMemory>
 }
 
 /// The body of a reply.
-fn body_of(alloc: Global, reply: Received) -> Result<Said, NoMemory> {
+fn body_of(alloc: Global, reply: Received) -> Result<Said, NoMemory>
+    ensures { IfOk result (λ s. s ≡ Replies (option_to_list reply.body)) }
+{
+    let Message {
+        command,
+        payload: _,
+    } = reply.into_message();
     let mut bodies = Vec::new(alloc);
-    if let Some(body) = reply.into_message().command.body {
-        bodies.push(body)?;
+    match command.body {
+        Some(body) => bodies.push(body)?,
+        None => {}
     }
     Said::new(alloc, Ok(Answer::Replies(bodies)))
 }

@@ -1,5 +1,5 @@
 -- The effects of an act, and the order of those of a step.
-use Rattle.std.specs.Prelude.{ℕ, ◌==◌, nat_lt, Bool, if◌then◌else◌, List, [], ◌∷◌, Option, Some, None}
+use Rattle.std.specs.Prelude.{ℕ, ◌==◌, nat_lt, Bool, if◌then◌else◌, List, [], ◌∷◌, ◌++◌, Option, Some, None}
 use Rattle.std.specs.Option.{option_map, option_to_list}
 use Rattle.pulsar_messages.specs.Words.{Words}
 use Rattle.pulsar_session.specs.Link as session

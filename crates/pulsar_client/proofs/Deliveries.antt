@@ -1,6 +1,6 @@
 -- The raw consumers, as the code keeps them: each is given items once, and a further one hears.
-use Rattle.std.proofs.Common.{◌≡◌, ℕ, ◌∙◌, sym, ap, List, [], ◌∷◌, ◌++◌, refl, arith, Bool, true, false, cond, ◌==◌, ◌&&◌, ◌||◌, Option, Some, None}
-use Rattle.std.proofs.lemmas.Bool.{eq-eqb}
+use Rattle.std.proofs.Common.{◌≡◌, ℕ, ◌∙◌, sym, ap, List, [], ◌∷◌, ◌++◌, refl, arith, Bool, true, false, cond, ◌==◌, ◌&&◌, ◌||◌, not, Option, Some, None}
+use Rattle.std.proofs.lemmas.Bool.{eq-eqb, eqb-true}
 use Rattle.std.proofs.lemmas.Bool.Decides.{nat_tests}
 use Rattle.std.proofs.lemmas.Grind.{common_steps}
 use Rattle.std.proofs.lemmas.List.Folds.{list_any-append}
@@ -12,9 +12,11 @@ use Rattle.std.specs.Ordering.{nat_cmp}
 use Rattle.std.specs.declared.cmp.Ordering.TheVariants.{Less}
 use Rattle.std.specs.Option.{option_map}
 use Rattle.pulsar_link.specs.Items.{Item}
+use Rattle.pulsar_link.specs.Messages.{Reply}
+use Rattle.pulsar_client.specs.declared.act.Arrival.TheVariants.{Gives}
 use Rattle.pulsar_client.specs.declared.consumers.subscriber.Subscriber.{Subscriber}
 use Rattle.pulsar_client.specs.Subscribers.{fresh_in, given_at, is_listed, live_at, seen_in, with_items}
-use Rattle.pulsar_client.specs.Subscriptions.{Subscription}
+use Rattle.pulsar_client.specs.Subscriptions.{Subscription, hears, is_last}
 use Rattle.pulsar_requests.proofs.Awaiting.{is_at-eqb}
 
 abbrev Live : Type 0
@@ -108,3 +110,77 @@ pub joined : (t ticket : ℕ) (live live' : Live) (row : Subscriber) (old now : 
     ((k m : ℕ) → live_at live' k m ≡ cond ((k == row.link) && (m == row.number)) (insert_key nat_cmp (live_at live k m) ticket) (live_at live k m)) →
     option_map (seen_in live' t) (option_map fresh_in now) ≡ cond (t == ticket) (Some (fresh_in row)) (option_map (seen_in live t) (option_map fresh_in old))
 joined t ticket live live' row old now is more = joined_by t ticket live live' row more old now (t == ticket) refl is
+
+-- A FRAME
+
+module _ (items : List Item) (s : Subscription) where
+  abbrev more : Subscription
+  more = record { link = s.link; number = s.number; topic = s.topic; is_live = s.is_live; unread = s.unread ++ items }
+
+  -- those of its link and number that hear are given the items, and end where it is the last
+  frame_by : (here mine listed there last : Bool) → (here ≡ true → mine ≡ true → there ≡ listed) →
+      lit (cond (last && (here && mine)) false listed) (cond there (cond (here && mine) more s) s)
+      ≡ cond (here && listed) (cond mine (lit (not last) more) (lit listed s)) (lit listed s)
+  frame_by false mine listed true true h = refl
+  frame_by false mine listed true false h = refl
+  frame_by false mine listed false true h = refl
+  frame_by false mine listed false false h = refl
+  frame_by true false true true true h = refl
+  frame_by true false true true false h = refl
+  frame_by true false true false true h = refl
+  frame_by true false true false false h = refl
+  frame_by true false false true true h = refl
+  frame_by true false false true false h = refl
+  frame_by true false false false true h = refl
+  frame_by true false false false false h = refl
+  frame_by true true true true true h = refl
+  frame_by true true true true false h = refl
+  frame_by true true false false true h = refl
+  frame_by true true false false false h = refl
+  frame_by true true true false last h = let no : false ≡ true = h refl refl in absurd cc
+  frame_by true true false true last h = let no : true ≡ false = h refl refl in absurd cc
+
+none_given : (b : Bool) → cond {A = Option Subscription} b None None ≡ None
+none_given true = refl
+none_given false = refl
+
+some_given : (b : Bool) (x y : Subscription) → cond b (Some x) (Some y) ≡ Some (cond b x y)
+some_given true x y = refl
+some_given false x y = refl
+
+module _ (t link number : ℕ) (reply : Reply) (live live' : Live) (last : Bool) (is : is_last reply ≡ last)
+    (left : (k m : ℕ) → live_at live' k m ≡ cond (last && ((k == link) && (m == number))) [] (live_at live k m)) where
+  none_listed : (b : Bool) (ks : List ℕ) → is_listed t (cond b [] ks) ≡ cond b false (is_listed t ks)
+  none_listed true ks = refl
+  none_listed false ks = refl
+
+  seen_given : (s : Subscription) (there here mine : Bool) →
+      seen_in live' t (cond there (cond (here && mine) (more reply.items s) s) s)
+      ≡ lit (is_listed t (live_at live' s.link s.number)) (cond there (cond (here && mine) (more reply.items s) s) s)
+  seen_given s true true true = refl
+  seen_given s true true false = refl
+  seen_given s true false mine = refl
+  seen_given s false here mine = refl
+
+  frame_for : (s : Subscription) →
+      seen_in live' t (cond (is_listed t (live_at live link number)) (with_items link number reply.items s) s) ≡ hears link (Gives number reply) (seen_in live t s)
+  frame_for s =
+      let there : Bool = is_listed t (live_at live link number) in
+      let listed : Bool = is_listed t (live_at live s.link s.number) in
+      let here : Bool = s.link == link in
+      let mine : Bool = s.number == number in
+      let same : here ≡ true → mine ≡ true → there ≡ listed =
+      (λ p q. ap (λ x. is_listed t (live_at live x number)) (sym (eqb-true s.link link p)) ∙ ap (λ x. is_listed t (live_at live s.link x)) (sym (eqb-true s.number number q))) in
+      seen_given s there here mine
+      ∙ ap (λ b. lit b (cond there (cond (here && mine) (more reply.items s) s) s))
+      (ap (is_listed t) (left s.link s.number) ∙ none_listed (last && (here && mine)) (live_at live s.link s.number))
+      ∙ frame_by reply.items s here mine listed there last same
+      ∙ ap (λ b. cond (here && listed) (cond b (lit (not last) (more reply.items s)) (lit listed s)) (lit listed s)) (sym (swapped s.number number mine refl))
+      ∙ ap (λ b. cond (here && listed) (cond (number == s.number) (lit (not b) (more reply.items s)) (lit listed s)) (lit listed s)) (sym is)
+
+  pub heard_frame : (old new : Option Subscription) → new ≡ given_at (live_at live link number) link number reply.items t old →
+      option_map (seen_in live' t) new ≡ option_map (hears link (Gives number reply)) (option_map (seen_in live t) old)
+  heard_frame None new given = ap (option_map (seen_in live' t)) (given ∙ none_given (is_listed t (live_at live link number)))
+  heard_frame (Some s) new given =
+      ap (option_map (seen_in live' t)) (given ∙ some_given (is_listed t (live_at live link number)) (with_items link number reply.items s) s)
+      ∙ ap Some (frame_for s)

@@ -3,6 +3,9 @@ pub mod Places
 pub mod Moments
 pub mod Timing
 pub mod Deliveries
+pub mod Listening
+pub mod Waiting
+pub mod Saying
 pub mod Steps
 pub mod Sorting
 pub mod Acts

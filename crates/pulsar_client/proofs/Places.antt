@@ -1,9 +1,16 @@
 -- Places, one after the other.
-use Rattle.std.proofs.Common.{◌≡◌, ℕ, zero, suc, ◌+◌, ◌-◌, ◌≤◌, ◌<◌, ◌==◌, ◌∙◌, sym, ap, subst, List, [], ◌∷◌, ◌++◌, refl, arith, Option, Bool, true, false, inl, inr}
-use Rattle.std.proofs.lemmas.Bool.{cases_Bool}
+use Rattle.std.proofs.Common.{◌≡◌, ℕ, zero, suc, ◌+◌, ◌-◌, ◌≤◌, ◌<◌, ◌==◌, ◌∙◌, sym, ap, subst, List, [], ◌∷◌, ◌++◌, refl, arith, ◌||◌, Option, true, false, inl, inr}
+use Rattle.std.proofs.lemmas.Bool.{cases_Bool, eq-eqb, or_right}
 use Rattle.std.proofs.lemmas.Bool.Decides.{nat_tests}
-use Rattle.std.specs.List.{filter_map, flat_map}
+use Rattle.std.proofs.lemmas.Grind.{common_steps}
+use Rattle.std.proofs.lemmas.Map.Keys.{sorted_head, sorted_tail}
+use Rattle.std.specs.BTreeMap.{is_at}
+use Rattle.std.specs.List.{AllByRecursion, filter_map, flat_map, list_any}
+use Rattle.std.specs.List.Sorted.{IsStrictlySortedBy}
 use Rattle.std.specs.Option.{option_to_list}
+use Rattle.std.specs.Ordering.{nat_cmp}
+use Rattle.std.specs.declared.cmp.Ordering.TheVariants.{Less}
+use Rattle.pulsar_requests.proofs.Awaiting.{is_at-eqb}
 use Rattle.pulsar_client.specs.Links.{numbers_from}
 use Rattle.pulsar_client.specs.Subscribers.{is_listed}
 use Rattle.pulsar_client.proofs.Lists.{filter_map_end}
@@ -65,3 +72,40 @@ module _ {A : Type 0} (g : ℕ → List A) where
             (none first (omega arith) (rw there (none_before (suc k) first ks a.1 (omega arith))))
             ∙ over_keys (suc first) n (k ∷ ks) (more, a.1) below (λ l le h. none l (omega arith) h))
       ]
+
+-- THE SAME BY KEYS IN ORDER
+
+swapped : (a b : ℕ) → (a == b) ≡ (b == a)
+swapped a b = grind (arith, nat_tests)
+
+listed_is : (l : ℕ) (ks : List ℕ) → list_any (is_at (nat_cmp l)) ks ≡ is_listed l ks
+listed_is l [] = refl
+listed_is l (k ∷ ks) = ap (λ b. b || list_any (is_at (nat_cmp l)) ks) (is_at-eqb l k ∙ swapped l k) ∙ ap (λ b. (k == l) || b) (listed_is l ks)
+
+above : (k : ℕ) (ks : List ℕ) → AllByRecursion (λ y. nat_cmp k y ≡ Less) ks → AllByRecursion (λ y. suc k ≤ y) ks
+above k [] h = tt
+above k (y ∷ ks) h =
+    let first : nat_cmp k y ≡ Less = h.0 in
+    (grind (arith, nat_tests, common_steps), above k ks h.1)
+
+ascends : (first : ℕ) (ks : List ℕ) → AllByRecursion (λ y. first ≤ y) ks → IsStrictlySortedBy nat_cmp ks → Ascends first ks
+ascends first [] h s = tt
+ascends first (k ∷ ks) h s = (h.0, ascends (suc k) ks (above k ks (sorted_head nat_cmp k ks s)) (sorted_tail nat_cmp k ks s))
+
+from_zero : (ks : List ℕ) → AllByRecursion (λ y. 0 ≤ y) ks
+from_zero [] = tt
+from_zero (k ∷ ks) = (omega arith, from_zero ks)
+
+all_below : (n : ℕ) (ks : List ℕ) → ((l : ℕ) → is_listed l ks ≡ true → l < n) → AllBelow n ks
+all_below n [] h = tt
+all_below n (k ∷ ks) h =
+    let same : (k == k) ≡ true = eq-eqb k k refl in
+    (h k (rw same refl), all_below n ks (λ l more. h l (or_right (k == l) (is_listed l ks) more)))
+
+-- where all other numbers give nothing, all give what those in order do
+pub by_keys : {A : Type 0} (g : ℕ → List A) (n : ℕ) (ks : List ℕ) → IsStrictlySortedBy nat_cmp ks →
+    ((l : ℕ) → list_any (is_at (nat_cmp l)) ks ≡ true → l < n) → ((l : ℕ) → list_any (is_at (nat_cmp l)) ks ≡ false → g l ≡ []) →
+    flat_map g ks ≡ flat_map g (numbers_from 0 n)
+by_keys g n ks sorted under none = sym (over_keys g 0 n ks (ascends 0 ks (from_zero ks) sorted)
+    (subst (λ m. AllBelow m ks) (omega arith) (all_below n ks (λ l h. under l (listed_is l ks ∙ h))))
+    (λ l le h. none l (listed_is l ks ∙ h)))

@@ -1,20 +1,19 @@
 -- Steps of a client's history. Nothing here knows what kinds of event, act and thing there are.
-use Rattle.std.proofs.Common.{◌≡◌, ℕ, ◌∙◌, sym, ap, List, [], ◌∷◌, ◌++◌, refl, arith, length, None, reverse, Bool, true, false, cond, map}
+use Rattle.std.proofs.Common.{◌≡◌, ◌∙◌, sym, ap, List, [], ◌∷◌, ◌++◌, refl, arith, length, reverse, false, cond, map}
 use Rattle.std.proofs.lemmas.List.{reverse-append}
 use Rattle.std.specs.Global.{Vec}
-use Rattle.pulsar_run.specs.Run.{Begins, in_order, only}
-use Rattle.pulsar_client.specs.declared.act.Part.{Part}
+use Rattle.pulsar_run.proofs.Unique.{one_log}
+use Rattle.pulsar_run.specs.Run.{Begins, only}
 use Rattle.pulsar_client.specs.declared.effect.Effect.{Effect}
 use Rattle.pulsar_client.specs.declared.event.Event.{Event}
 use Rattle.pulsar_client.specs.declared.pulsar.Pulsar.{Pulsar}
 use Rattle.pulsar_client.specs.declared.tables.Tables.{Tables}
 use Rattle.pulsar_client.specs.Client.{IsDead}
 use Rattle.pulsar_client.specs.Content.{Heard, heard, shown}
-use Rattle.pulsar_client.specs.Effects.{effect_below}
 use Rattle.pulsar_client.specs.Rules.{brings}
-use Rattle.pulsar_client.specs.Run.{Step, first, steps, view}
+use Rattle.pulsar_client.specs.Run.{Good, Step, first, rules, view}
 use Rattle.pulsar_client.specs.Tables.{Stands, answered, step, view_of}
-use Rattle.pulsar_client.specs.View.{Chosen, View, begun_live, is_live}
+use Rattle.pulsar_client.specs.View.{Chosen, begun_live, is_live}
 
 answered_more : (es : List Event) (xs : List (Vec Effect)) (e : Event) (x : Vec Effect) → length xs ≡ length es →
     answered (es ++ e ∷ []) (xs ++ x ∷ []) ≡ answered es xs ++ step e x.items ∷ []
@@ -48,3 +47,7 @@ pub not_live : (c : Pulsar) (e : Heard) → IsDead c e → is_live (view_of c.ta
 not_live c e d =
     let s = d.2.stands in
     ap (λ v. is_live v e) s.sees ∙ d.3 (record { log = s.log; run = s.run; rests = s.rests; same = s.same })
+
+-- what is seen of the tables of a client is what is seen after the run of each history that it stands for
+pub seen_of : (c : Tables) {o : Chosen} {h : List Step} → Stands o c h → (g : Good o h) → view_of c ≡ view o g.log
+seen_of c {o} {h} s g = s.sees ∙ ap (view o) (one_log rules o h h (record { log = s.log; run = s.run; rests = s.rests; same = s.same }) g refl)

@@ -24,12 +24,17 @@ chosen options =
       now = options.now;
     }
 
+-- the options that a client was made with
+abbrev pub options_of : Pulsar → ClientOptions
+options_of c = c.options
+
 -- a step ran out of memory
 abbrev pub HasFailed : Pulsar → Type 0
 HasFailed c = c.failed ≡ true
 
--- a client stands for a history where its tables do, and it has not run out of memory
+-- a client stands for a history where its tables do, with what its options choose, and it has not run out of memory
 pub record StandsFor (o : Chosen) (c : Pulsar) (history : List Step) : Type 0 where
+  pub made : o ≡ chosen (options_of c)
   pub stands : Stands o c.tables history
   pub whole : c.failed ≡ false
 

@@ -54,7 +54,7 @@ use Rattle.pulsar_client.specs.declared.addresses.Series.TheVariants.{Nobody, Ru
 use Rattle.pulsar_client.specs.declared.plans.plan.Plan.{Plan}
 use Rattle.pulsar_client.specs.declared.plans.plan.Turn.{Turn}
 use Rattle.pulsar_client.specs.declared.plans.plan.Turn.TheVariants as turn
-use Rattle.pulsar_client.specs.Content.{Asked, Heard, Called, Bytes, Ticked, Poll, Shown, Queued, Write, Hands, Faults, Failed}
+use Rattle.pulsar_client.specs.Content.{Asked, Called, Bytes, Ticked, Poll, Shown, Queued, Write, Hands, Faults, Failed}
 use Rattle.pulsar_client.specs.Effects.{effect_below}
 use Rattle.pulsar_client.specs.Links as links
 use Rattle.pulsar_client.specs.Links.{Change, Remains, Becomes, IsOver, arrival, call_of, closed_by, line_places, new_places}

@@ -49,3 +49,16 @@ with_items link number items s =
 -- the same for those of these tickets
 abbrev pub given_at : List ℕ → (link number : ℕ) → List Item → ℕ → Option Subscription → Option Subscription
 given_at tickets link number items t row = if is_listed t tickets then option_map (with_items link number items) row else row
+
+-- a consumer is of this number on the link
+abbrev pub is_of : (link number : ℕ) → Option Subscription → Bool
+is_of link number None = false
+is_of link number (Some s) = (s.link == link) && (s.number == number)
+
+-- one of these is a consumer of this number on the link
+abbrev pub has_one_of : (link number : ℕ) → BTreeMap ℕ Subscriber → List ℕ → Bool
+has_one_of link number rows tickets = list_any (λ t. is_of link number (kept_at rows t)) tickets
+
+-- one of those that are listed by number is a consumer of its number on the link
+abbrev pub has_one : (link : ℕ) → BTreeMap ℕ Subscriber → List (ℕ × BTreeSet ℕ) → Bool
+has_one link rows numbers = list_any (λ e. has_one_of link e.0 rows e.1.keys) numbers

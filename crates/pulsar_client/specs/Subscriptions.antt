@@ -1,6 +1,6 @@
 -- Raw consumers: each is made by a raw call to subscribe that succeeds. What it hears, and what its polls give.
 -- (Pulsar binary protocol, Consumer)
-use Rattle.std.specs.Prelude.{ℕ, Bool, true, false, List, [], ◌∷◌, ◌++◌, drop, Option, Some, None, ◌==◌, ◌&&◌, ◌||◌, not, if◌then◌else◌}
+use Rattle.std.specs.Prelude.{ℕ, Bool, true, false, List, [], ◌∷◌, ◌++◌, drop, Option, Some, None, ◌==◌, ◌&&◌, ◌||◌, not, if◌then◌else◌, ◌≡◌}
 use Rattle.std.specs.List.{list_any}
 use Rattle.std.specs.Option.{option_map}
 use Rattle.pulsar_client.specs.Links.{numbers_from}
@@ -50,6 +50,14 @@ after_came (Bad cause) s = s
 -- it is of this link, and hears
 abbrev pub is_heard_on : ℕ → Subscription → Bool
 is_heard_on l s = (s.link == l) && s.is_live
+
+abbrev pub hears_at : (link : ℕ) → Option Subscription → Bool
+hears_at l None = false
+hears_at l (Some s) = is_heard_on l s
+
+-- a consumer is of this link, and hears
+abbrev pub IsHeard : (link : ℕ) → (ℕ → Option Subscription) → Type 0
+IsHeard l consumers = (t : ℕ) × (hears_at l (consumers t) ≡ true)
 
 abbrev pub hears : (link : ℕ) → Arrival → Subscription → Subscription
 hears l a s = if is_heard_on l s then after_came a s else s

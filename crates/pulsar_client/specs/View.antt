@@ -1,5 +1,5 @@
 -- What is seen of a run, and what an act makes of it: one small function for each field.
-use Rattle.std.specs.Prelude.{ℕ, ◌+◌, ◌==◌, bytes_eq, nat_le, nat_lt, ◌&&◌, not, Bool, true, false, if◌then◌else◌, List, [], ◌∷◌, ◌++◌, map, Option, Some, None, Result, Ok, Err}
+use Rattle.std.specs.Prelude.{ℕ, ◌+◌, ◌==◌, bytes_eq, nat_le, nat_lt, ◌&&◌, not, Bool, true, false, if◌then◌else◌, List, [], ◌∷◌, ◌++◌, map, Option, Some, None, Result, Ok, Err, ◌≡◌, ◌⊎◌}
 use Rattle.std.specs.List.{list_any}
 use Rattle.std.specs.Option.{is_none, is_some, option_map}
 use Rattle.pulsar_wire.specs.Sink.{capped}
@@ -18,7 +18,7 @@ use Rattle.pulsar_requests.specs.Waits.{is_empty}
 use Rattle.pulsar_session.specs.declared.states.Asked.{Asked}
 use Rattle.pulsar_session.specs.declared.states.Asked.TheVariants as asked
 use Rattle.pulsar_session.specs.declared.states.Stage.{Stage}
-use Rattle.pulsar_session.specs.declared.states.Stage.TheVariants.{Dialing}
+use Rattle.pulsar_session.specs.declared.states.Stage.TheVariants.{Dialing, Handshaking}
 use Rattle.pulsar_session.specs.Failures.{Fault}
 use Rattle.pulsar_session.specs.Link as session
 use Rattle.pulsar_session.specs.Link.{Asks, Feeds, Seen, Setup, came, is_open, is_spent}
@@ -53,7 +53,7 @@ use Rattle.pulsar_client.specs.Content.{Heard, Called, Opened, FailedToOpen, Byt
 use Rattle.pulsar_client.specs.Links.{Change, Remains, Becomes, IsOver, arrival, change_by, change_in, closed_by, settled_in}
 use Rattle.pulsar_client.specs.Links as links
 use Rattle.pulsar_client.specs.Plan.{begins, told}
-use Rattle.pulsar_client.specs.Subscriptions.{Subscription, after_poll, closed_at, ended_at, fresh, hears}
+use Rattle.pulsar_client.specs.Subscriptions.{IsHeard, Subscription, after_poll, closed_at, ended_at, fresh, hears}
 use Rattle.pulsar_client.specs.Who.{is_same}
 
 -- What a client's options say of a run: the address of the service, where their URL has one; the credential; how connections are
@@ -576,6 +576,18 @@ consumer_after now live (Comes (Polls ticket)) t row = if t == ticket then optio
 consumer_after now live (Does who (Ask l request)) t row = option_map (hears_ask l now request (live l)) row
 consumer_after now live (Answers who verdict) t row = made who verdict.makes t row
 consumer_after now live _ t row = row
+
+-- WHAT A LINK IS WAITED FOR
+
+abbrev pub is_handshaking : Stage → Bool
+is_handshaking Handshaking = true
+is_handshaking _ = false
+
+-- A link is open, and something waits for it: it isn't ready yet, or a request of it waits for a reply, or a raw consumer on it hears.
+abbrev pub Waits : (link : ℕ) → View → Type 0
+Waits l v =
+    (is_at is_open (v.links.live l) ≡ true)
+    × ((is_at is_handshaking (v.links.live l) ≡ true) ⊎ (is_busy (v.links.live l) ≡ true) ⊎ IsHeard l v.consumers)
 
 -- ALL
 

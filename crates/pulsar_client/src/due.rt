@@ -1,6 +1,7 @@
 //! When links are due.
 
 ghost use Rattle.std.specs.Prelude.{◌≡◌, ◌==◌, ◌&&◌, ◌||◌, ℕ, true, false, Some, None, IfOk, OnOk, if◌then◌else◌};
+ghost use Rattle.std.specs.Bool.{OnTrue};
 ghost use Rattle.std.specs.BTreeSet.{contains};
 ghost use Rattle.std.specs.Ordering.{nat_cmp};
 ghost use Rattle.pulsar_client.specs.Due.{AreListed, is_listed, moment_at};
@@ -10,6 +11,7 @@ use pulsar_wire::error::NoMemory;
 use std::alloc::Global;
 use std::collections::{BTreeMap, BTreeSet};
 use std::marker::Model;
+use std::mem::replace;
 
 /// When links are due, for each of them its next moment. Those that are due are found without a look at the others.
 #[derive(Drop)]
@@ -49,11 +51,29 @@ impl DueMoments {
     pub fn set(&mut self, link: u64, moment: Option<u64>) -> Result<(), NoMemory>
         ensures { OnOk result ((l : ℕ) → moment_at self.new l ≡ (if l == link then moment else moment_at self.old l)) }
     {
-        forget(&mut self.moments, &mut self.links, link)?;
-        match moment {
-            Some(moment) => note(&mut self.moments, &mut self.links, self.alloc, link, moment),
-            None => Ok(()),
+        if is_kept(&self.moments, link, moment) {
+            return Ok(());
         }
+        let before = replace(self, DueMoments::new(self.alloc));
+        *self = before.with(link, moment)?;
+        Ok(())
+    }
+
+    fn with(self, link: u64, moment: Option<u64>) -> Result<DueMoments, NoMemory>
+        ensures { IfOk result (λ after. (l : ℕ) → moment_at after l ≡ (if l == link then moment else moment_at self l)) }
+    {
+        let DueMoments {
+            alloc,
+            mut moments,
+            mut links,
+        } = self;
+        forget(&mut moments, &mut links, link)?;
+        turn(&mut moments, &mut links, alloc, link, moment)?;
+        Ok(DueMoments {
+            alloc,
+            moments,
+            links,
+        })
     }
 
     /// The links that are due by now, in their order.
@@ -68,6 +88,17 @@ impl DueMoments {
     }
 }
 
+/// This is the moment of a link already.
+fn is_kept(moments: &BTreeMap<u64, u64>, link: u64, moment: Option<u64>) -> bool
+    ensures { OnTrue result (moment_at moments.now.entries link ≡ moment) }
+{
+    match (moments.get(&link), moment) {
+        (Some(kept), Some(moment)) => *kept == moment,
+        (None, None) => true,
+        _ => false,
+    }
+}
+
 /// A link is due at no moment.
 fn forget(
     moments: &mut BTreeMap<u64, u64>,
@@ -77,10 +108,31 @@ fn forget(
     ensures moments { OnOk result ((l : ℕ) → moment_at moments.new.entries l ≡ (if l == link then None else moment_at moments.old.entries l)) }
     ensures listed { OnOk result (AreListed moments.old.entries links.old → AreListed moments.new.entries links.new) }
 {
-    match moments.remove(&link) {
-        Some(moment) => unlist(links, moment, link),
-        None => Ok(()),
-    }
+    let Some(moment) = moments.remove(&link) else {
+        return Ok(());
+    };
+    unlist(links, moment, link)?;
+    Ok(())
+}
+
+/// A link that was due at no moment is due at this one, or at none.
+fn turn(
+    moments: &mut BTreeMap<u64, u64>,
+    links: &mut BTreeMap<u64, BTreeSet<u64>>,
+    alloc: Global,
+    link: u64,
+    moment: Option<u64>,
+) -> Result<(), NoMemory>
+    ensures moments { OnOk result (moment_at moments.old.entries link ≡ None
+        → (l : ℕ) → moment_at moments.new.entries l ≡ (if l == link then moment else moment_at moments.old.entries l)) }
+    ensures listed { OnOk result (moment_at moments.old.entries link ≡ None
+        → AreListed moments.old.entries links.old → AreListed moments.new.entries links.new) }
+{
+    let Some(moment) = moment else {
+        return Ok(());
+    };
+    note(moments, links, alloc, link, moment)?;
+    Ok(())
 }
 
 /// A link that was due at no moment is due at this one.

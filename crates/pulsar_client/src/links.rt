@@ -1,14 +1,18 @@
 //! The links of a client, and who asked on each.
 
 ghost use Rattle.std.specs.Prelude.{◌≡◌, ◌==◌, ◌+◌, ◌++◌, ℕ, false, IfOk, OnOk, None, Some, not, map, if◌then◌else◌};
-ghost use Rattle.std.specs.Option.{option_map};
+ghost use Rattle.std.specs.BTreeMap.{IsOrdered, keys};
+ghost use Rattle.std.specs.List.{flat_map};
+ghost use Rattle.std.specs.List.Sorted.{IsStrictlySortedBy};
+ghost use Rattle.std.specs.Option.{is_some, option_map};
+ghost use Rattle.std.specs.Ordering.{nat_cmp};
 ghost use Rattle.pulsar_client.specs.Content.{shown};
 ghost use Rattle.pulsar_client.specs.Effects.{asked_at, given_at};
 ghost use Rattle.pulsar_client.specs.Due.{moment_at};
 ghost use Rattle.pulsar_client.specs.Kept.{AreStarted, AreTimed, IsEnd, is_due, links_in, live_in};
 ghost use Rattle.pulsar_requests.specs.Soonest.{has_come};
 ghost use Rattle.pulsar_client.specs.Rules.{answered_on, due_part, may_ping, moved_on, on_link, over_links, stop_act, told_at};
-ghost use Rattle.pulsar_client.specs.View.{answer_at, arrival_at, got_at, has_ended, is_asked, is_busy, seat_asked, seat_of_fresh, seat_fed, took_some};
+ghost use Rattle.pulsar_client.specs.View.{answer_at, arrival_at, got_at, has_ended, is_asked, is_busy, seat_asked, seat_got, seat_of_fresh, seat_fed, took_some};
 
 use crate::act::{Act, Arrival, End, LinkAct, Notice, Outcome, Part, Who};
 use crate::consumers::subscribers::Subscribers;
@@ -22,7 +26,7 @@ use pulsar_session::Connection;
 use pulsar_session::states::Stage;
 use pulsar_wire::error::{ConnectionError, NoMemory};
 use std::alloc::Global;
-use std::collections::{BTreeMap, VecDeque};
+use std::collections::{BTreeMap, BTreeSet, VecDeque};
 
 /// How many links were started, and those of them that have not ended, by number.
 #[derive(Drop)]
@@ -32,8 +36,10 @@ pub struct Links {
     pub live: BTreeMap<u64, Row>,
     /// When each live link is due.
     pub due: DueMoments,
-    ghost timed: { AreTimed due live },
-    ghost fresh: { AreStarted started live },
+    // a call ran out of memory
+    failed: bool,
+    ghost timed: { failed ≡ false → AreTimed due live },
+    ghost fresh: { failed ≡ false → AreStarted started live },
 }
 
 impl Links {
@@ -46,6 +52,7 @@ impl Links {
             started: 0,
             live: BTreeMap::new(alloc),
             due: DueMoments::new(alloc),
+            failed: false,
         }
     }
 
@@ -86,11 +93,19 @@ impl Links {
         ensures started { OnOk result (self.new.started ≡ self.old.started + 1) }
         ensures live { OnOk result ((l : ℕ) → live_in self.new.live l ≡ (if l == self.old.started then Some (seat_of_fresh address now connection) else live_in self.old.live l)) }
     {
+        if self.failed {
+            return Err(NoMemory);
+        }
         let link = self.started;
-        self.started = link.checked_add(1).ok_or(NoMemory)?;
-        let row = Row::new(self.alloc, address, connection, now);
-        self.live.insert(link, row)?;
-        keep(&self.live, &mut self.due, link)
+        let Some(after) = link.checked_add(1) else {
+            return Err(NoMemory);
+        };
+        self.failed = true;
+        self.started = after;
+        put(self.alloc, &mut self.live, link, address, connection, now)?;
+        keep(&self.live, &mut self.due, link)?;
+        self.failed = false;
+        Ok(())
     }
 
     /// The address that a link is for.
@@ -104,13 +119,18 @@ impl Links {
     }
 
     /// A link is got.
-    pub fn got(&mut self, now: u64, link: u64)
-        ensures started { self.new.started ≡ self.old.started }
-        ensures live { (l : ℕ) → live_in self.new.live l ≡ got_at (Some link) now l (live_in self.old.live l) }
+    pub fn got(&mut self, now: u64, link: u64) -> Result<(), NoMemory>
+        ensures started { OnOk result (self.new.started ≡ self.old.started) }
+        ensures live { OnOk result ((l : ℕ) → live_in self.new.live l ≡ got_at (Some link) now l (live_in self.old.live l)) }
     {
-        if let Some(row) = self.live.get_mut(&link) {
-            row.got = now;
+        if self.failed {
+            return Err(NoMemory);
         }
+        self.failed = true;
+        got_at(&mut self.live, now, link);
+        keep(&self.live, &mut self.due, link)?;
+        self.failed = false;
+        Ok(())
     }
 
     /// A link that has not ended is to be asked for a sign of life: its earlier ping does not wait.
@@ -129,10 +149,14 @@ impl Links {
         ensures started { OnOk result (self.new.started ≡ self.old.started) }
         ensures live { OnOk result ((l : ℕ) → live_in self.new.live l ≡ (if l == link then took_some LinkAct.Pings now (live_in self.old.live l) else live_in self.old.live l)) }
     {
-        if let Some(row) = self.live.get_mut(&link) {
-            row.ping(now, link, out)?;
+        if self.failed {
+            return Err(NoMemory);
         }
-        keep(&self.live, &mut self.due, link)
+        self.failed = true;
+        ping_at(&mut self.live, now, link, out)?;
+        keep(&self.live, &mut self.due, link)?;
+        self.failed = false;
+        Ok(())
     }
 
     /// The ends of the links that nothing uses and that were not got for so long, in their order.
@@ -142,15 +166,10 @@ impl Links {
         most: u64,
         subscribers: &Subscribers,
     ) -> Result<VecDeque<Act>, NoMemory> {
-        let mut acts = VecDeque::new(self.alloc);
-        for (link, row) in &self.live {
-            if row.rests(now, most) && !subscribers.hears_on(*link) {
-                acts.push_back(Act::Comes(Part::ToLink {
-                    link: *link,
-                    act: LinkAct::Ends(End::Idles),
-                }))?;
-            }
+        if self.failed {
+            return Err(NoMemory);
         }
+        let acts = ends_idle(self.alloc, &self.live, now, most, subscribers)?;
         Ok(acts)
     }
 
@@ -159,20 +178,25 @@ impl Links {
         ensures started { OnOk result (self.new.started ≡ self.old.started) }
         ensures live { OnOk result ((l : ℕ) → live_in self.new.live l ≡ (if l == link then option_map (seat_fed piece.now) (live_in self.old.live l) else live_in self.old.live l)) }
     {
-        if let Some(row) = self.live.get_mut(&link) {
-            row.connection.feed(piece)?;
+        if self.failed {
+            return Err(NoMemory);
         }
-        keep(&self.live, &mut self.due, link)
+        self.failed = true;
+        feed_at(&mut self.live, link, piece)?;
+        keep(&self.live, &mut self.due, link)?;
+        self.failed = false;
+        Ok(())
     }
 
     /// The ends of the links that are due, in their order.
     pub fn due_parts(&self, now: u64) -> Result<VecDeque<Part>, NoMemory>
         ensures { IfOk result (λ ps. ps.items ≡ over_links (due_part now) (links_in self.now.started self.now.live)) }
     {
-        let mut parts = VecDeque::new(self.alloc);
-        for link in self.due.come(now)? {
-            end_due(&mut parts, &self.live, now, link)?;
+        if self.failed {
+            return Err(NoMemory);
         }
+        let links = self.due.come(now)?;
+        let parts = ends_due(self.alloc, &self.live, links, now)?;
         Ok(parts)
     }
 
@@ -180,13 +204,10 @@ impl Links {
     pub fn stop_acts(&self) -> Result<VecDeque<Act>, NoMemory>
         ensures { IfOk result (λ acts. acts.items ≡ over_links stop_act (links_in self.now.started self.now.live)) }
     {
-        let mut acts = VecDeque::new(self.alloc);
-        for (link, _) in &self.live {
-            acts.push_back(Act::Comes(Part::ToLink {
-                link: *link,
-                act: LinkAct::Ends(End::Stops),
-            }))?;
+        if self.failed {
+            return Err(NoMemory);
         }
+        let acts = ends_all(self.alloc, &self.live)?;
         Ok(acts)
     }
 
@@ -196,10 +217,14 @@ impl Links {
         ensures started { OnOk result (self.new.started ≡ self.old.started) }
         ensures live { OnOk result ((l : ℕ) → live_in self.new.live l ≡ (if l == link then took_some LinkAct.Opens now (live_in self.old.live l) else live_in self.old.live l)) }
     {
-        if let Some(row) = self.live.get_mut(&link) {
-            row.open(now, link, out)?;
+        if self.failed {
+            return Err(NoMemory);
         }
-        keep(&self.live, &mut self.due, link)
+        self.failed = true;
+        open_at(&mut self.live, now, link, out)?;
+        keep(&self.live, &mut self.due, link)?;
+        self.failed = false;
+        Ok(())
     }
 
     /// The next frame of a link is read: what it is, and who is told of a reply.
@@ -215,11 +240,13 @@ impl Links {
         ensures started { OnOk result (self.new.started ≡ self.old.started) }
         ensures live { OnOk result ((l : ℕ) → live_in self.new.live l ≡ (if l == link then took_some LinkAct.Reads now (live_in self.old.live l) else live_in self.old.live l)) }
     {
-        let Some(row) = self.live.get_mut(&link) else {
-            return Ok((Arrival::Nothing, Vec::new(self.alloc)));
-        };
-        let read = row.read(self.alloc, now, link, out)?;
+        if self.failed {
+            return Err(NoMemory);
+        }
+        self.failed = true;
+        let read = read_at(self.alloc, &mut self.live, now, link, out)?;
         keep(&self.live, &mut self.due, link)?;
+        self.failed = false;
         Ok(read)
     }
 
@@ -236,11 +263,13 @@ impl Links {
         ensures started { OnOk result (self.new.started ≡ self.old.started) }
         ensures live { OnOk result ((l : ℕ) → live_in self.new.live l ≡ (if l == link then took_some (LinkAct.Drains most) now (live_in self.old.live l) else live_in self.old.live l)) }
     {
-        let Some(row) = self.live.get_mut(&link) else {
-            return Ok(Vec::new(self.alloc));
-        };
-        let notices = row.drain(self.alloc, now, link, most, out)?;
+        if self.failed {
+            return Err(NoMemory);
+        }
+        self.failed = true;
+        let notices = drain_at(self.alloc, &mut self.live, now, link, most, out)?;
         keep(&self.live, &mut self.due, link)?;
+        self.failed = false;
         Ok(notices)
     }
 
@@ -257,18 +286,18 @@ impl Links {
         ensures started { OnOk result (self.new.started ≡ self.old.started) }
         ensures live { OnOk result ((l : ℕ) → live_in self.new.live l ≡ (if l == link then took_some (LinkAct.Ends end.now) now (live_in self.old.live l) else live_in self.old.live l)) }
     {
-        let Some(row) = self.live.get(&link) else {
-            return Ok(None);
-        };
-        if !row.is_over_by(end, now) {
+        if self.failed {
+            return Err(NoMemory);
+        }
+        let ended = end_at(self.alloc, &self.live, now, link, end, out)?;
+        if ended.is_none() {
             return Ok(None);
         }
-        let notices = row.end(self.alloc, now, link, end, out)?;
-        self.due.set(link, None)?;
-        match self.live.remove(&link) {
-            Some(row) => Ok(Some((row.address, notices))),
-            None => Ok(None),
-        }
+        self.failed = true;
+        drop(self.live.remove(&link));
+        keep(&self.live, &mut self.due, link)?;
+        self.failed = false;
+        Ok(ended)
     }
 
     /// A request is asked for on a link: whether it is queued or stands in the line, and what the one who asks is told.
@@ -286,14 +315,218 @@ impl Links {
         ensures started { OnOk result (self.new.started ≡ self.old.started) }
         ensures live { OnOk result ((l : ℕ) → live_in self.new.live l ≡ (if l == link then option_map (seat_asked who now request) (live_in self.old.live l) else live_in self.old.live l)) }
     {
-        let Some(row) = self.live.get_mut(&link) else {
-            let cause = Cause::new(self.alloc, ConnectionError::Disconnected)?;
-            return Ok((false, Outcome::Refused(cause)));
-        };
-        let answer = row.ask(self.alloc, now, who, link, request, out)?;
+        if self.failed {
+            return Err(NoMemory);
+        }
+        self.failed = true;
+        let answer = ask_at(self.alloc, &mut self.live, now, who, link, request, out)?;
         keep(&self.live, &mut self.due, link)?;
+        self.failed = false;
         Ok(answer)
     }
+}
+
+/// A link is dialed.
+fn put(
+    alloc: Global,
+    live: &mut BTreeMap<u64, Row>,
+    link: u64,
+    address: Address,
+    connection: Connection,
+    now: u64,
+) -> Result<(), NoMemory>
+    ensures { OnOk result ((l : ℕ) → live_in live.new l ≡ (if l == link then Some (seat_of_fresh address now connection) else live_in live.old l)) }
+{
+    drop(live.insert(link, Row::new(alloc, address, connection, now))?);
+    Ok(())
+}
+
+fn got_at(live: &mut BTreeMap<u64, Row>, now: u64, link: u64)
+    ensures { (l : ℕ) → live_in live.new l ≡ (if l == link then option_map (seat_got now) (live_in live.old l) else live_in live.old l) }
+{
+    if let Some(row) = live.get_mut(&link) {
+        row.got = now;
+    }
+}
+
+fn ping_at(
+    live: &mut BTreeMap<u64, Row>,
+    now: u64,
+    link: u64,
+    out: &mut Vec<Effect>,
+) -> Result<(), NoMemory>
+    ensures out { OnOk result (map shown out.new.items ≡ map shown out.old.items ++ given_at link LinkAct.Pings now (live_in live.old link)) }
+    ensures live { OnOk result ((l : ℕ) → live_in live.new l ≡ (if l == link then took_some LinkAct.Pings now (live_in live.old l) else live_in live.old l)) }
+{
+    let Some(row) = live.get_mut(&link) else {
+        return Ok(());
+    };
+    row.ping(now, link, out)?;
+    Ok(())
+}
+
+/// The ends of all links that nothing uses.
+fn ends_idle(
+    alloc: Global,
+    live: &BTreeMap<u64, Row>,
+    now: u64,
+    most: u64,
+    subscribers: &Subscribers,
+) -> Result<VecDeque<Act>, NoMemory> {
+    let mut acts = VecDeque::new(alloc);
+    for (link, row) in live {
+        if row.rests(now, most) && !subscribers.hears_on(*link) {
+            acts.push_back(Act::Comes(Part::ToLink {
+                link: *link,
+                act: LinkAct::Ends(End::Idles),
+            }))?;
+        }
+    }
+    Ok(acts)
+}
+
+fn feed_at(live: &mut BTreeMap<u64, Row>, link: u64, piece: &[u8]) -> Result<(), NoMemory>
+    ensures { OnOk result ((l : ℕ) → live_in live.new l ≡ (if l == link then option_map (seat_fed piece.now) (live_in live.old l) else live_in live.old l)) }
+{
+    let Some(row) = live.get_mut(&link) else {
+        return Ok(());
+    };
+    row.connection.feed(piece)?;
+    Ok(())
+}
+
+fn open_at(
+    live: &mut BTreeMap<u64, Row>,
+    now: u64,
+    link: u64,
+    out: &mut Vec<Effect>,
+) -> Result<(), NoMemory>
+    ensures out { OnOk result (map shown out.new.items ≡ map shown out.old.items ++ given_at link LinkAct.Opens now (live_in live.old link)) }
+    ensures live { OnOk result ((l : ℕ) → live_in live.new l ≡ (if l == link then took_some LinkAct.Opens now (live_in live.old l) else live_in live.old l)) }
+{
+    let Some(row) = live.get_mut(&link) else {
+        return Ok(());
+    };
+    row.open(now, link, out)?;
+    Ok(())
+}
+
+fn read_at(
+    alloc: Global,
+    live: &mut BTreeMap<u64, Row>,
+    now: u64,
+    link: u64,
+    out: &mut Vec<Effect>,
+) -> Result<(Arrival, Vec<Notice>), NoMemory>
+    ensures out { OnOk result (map shown out.new.items ≡ map shown out.old.items ++ given_at link LinkAct.Reads now (live_in live.old link)) }
+    ensures arrival { IfOk result (λ r. r.0 ≡ arrival_at (live_in live.old link)) }
+    ensures notices { IfOk result (λ r. r.1.items ≡ answered_on (live_in live.old link)) }
+    ensures live { OnOk result ((l : ℕ) → live_in live.new l ≡ (if l == link then took_some LinkAct.Reads now (live_in live.old l) else live_in live.old l)) }
+{
+    let Some(row) = live.get_mut(&link) else {
+        return Ok((Arrival::Nothing, Vec::new(alloc)));
+    };
+    let read = row.read(alloc, now, link, out)?;
+    Ok(read)
+}
+
+fn drain_at(
+    alloc: Global,
+    live: &mut BTreeMap<u64, Row>,
+    now: u64,
+    link: u64,
+    most: usize,
+    out: &mut Vec<Effect>,
+) -> Result<Vec<Notice>, NoMemory>
+    ensures out { OnOk result (map shown out.new.items ≡ map shown out.old.items ++ given_at link (LinkAct.Drains most) now (live_in live.old link)) }
+    ensures notices { IfOk result (λ ns. ns.items ≡ moved_on most now (live_in live.old link)) }
+    ensures live { OnOk result ((l : ℕ)
+        → live_in live.new l ≡ (if l == link then took_some (LinkAct.Drains most) now (live_in live.old l) else live_in live.old l)) }
+{
+    let Some(row) = live.get_mut(&link) else {
+        return Ok(Vec::new(alloc));
+    };
+    let notices = row.drain(alloc, now, link, most, out)?;
+    Ok(notices)
+}
+
+/// What the end of a link gives, unless it is due no more.
+fn end_at(
+    alloc: Global,
+    live: &BTreeMap<u64, Row>,
+    now: u64,
+    link: u64,
+    end: &End,
+    out: &mut Vec<Effect>,
+) -> Result<Option<(Address, Vec<Notice>)>, NoMemory>
+    ensures out { OnOk result (map shown out.new.items ≡ map shown out.old.items ++ given_at link (LinkAct.Ends end.now) now (live_in live.now link)) }
+    ensures end { IfOk result (λ r. IsEnd r end.now now (live_in live.now link)) }
+    ensures left { IfOk result (λ r. took_some (LinkAct.Ends end.now) now (live_in live.now link) ≡ (if is_some r then None else live_in live.now link)) }
+{
+    let Some(row) = live.get(&link) else {
+        return Ok(None);
+    };
+    if !row.is_over_by(end, now) {
+        return Ok(None);
+    }
+    let notices = row.end(alloc, now, link, end, out)?;
+    let address = row.address.copy(alloc)?;
+    Ok(Some((address, notices)))
+}
+
+fn ask_at(
+    alloc: Global,
+    live: &mut BTreeMap<u64, Row>,
+    now: u64,
+    who: Who,
+    link: u64,
+    request: Request,
+    out: &mut Vec<Effect>,
+) -> Result<(bool, Outcome), NoMemory>
+    ensures out { OnOk result (map shown out.new.items ≡ map shown out.old.items ++ asked_at link now request (live_in live.old link)) }
+    ensures asked { IfOk result (λ r. r.0 ≡ is_asked (answer_at now request (live_in live.old link))) }
+    ensures told { IfOk result (λ r. r.1 ≡ told_at (answer_at now request (live_in live.old link))) }
+    ensures live { OnOk result ((l : ℕ)
+        → live_in live.new l ≡ (if l == link then option_map (seat_asked who now request) (live_in live.old l) else live_in live.old l)) }
+{
+    let Some(row) = live.get_mut(&link) else {
+        let cause = Cause::new(alloc, ConnectionError::Disconnected)?;
+        return Ok((false, Outcome::Refused(cause)));
+    };
+    let answer = row.ask(alloc, now, who, link, request, out)?;
+    Ok(answer)
+}
+
+/// The ends of those of these links that are due.
+fn ends_due(
+    alloc: Global,
+    live: &BTreeMap<u64, Row>,
+    links: BTreeSet<u64>,
+    now: u64,
+) -> Result<VecDeque<Part>, NoMemory>
+    ensures ends { IfOk result (λ ps. ps.items ≡ flat_map (on_link (due_part now) (live_in live.now)) links.keys) }
+    ensures ordered { OnOk result (IsStrictlySortedBy nat_cmp links.keys) }
+{
+    let mut parts = VecDeque::new(alloc);
+    for link in links {
+        end_due(&mut parts, live, now, link)?;
+    }
+    Ok(parts)
+}
+
+/// The ends of all links.
+fn ends_all(alloc: Global, live: &BTreeMap<u64, Row>) -> Result<VecDeque<Act>, NoMemory>
+    ensures ends { IfOk result (λ acts. acts.items ≡ flat_map (on_link stop_act (live_in live.now)) (keys live.now)) }
+    ensures ordered { OnOk result (IsOrdered nat_cmp live.now) }
+{
+    let mut acts = VecDeque::new(alloc);
+    for (link, _) in live {
+        acts.push_back(Act::Comes(Part::ToLink {
+            link: *link,
+            act: LinkAct::Ends(End::Stops),
+        }))?;
+    }
+    Ok(acts)
 }
 
 /// A link that is due ends.
@@ -323,9 +556,17 @@ fn keep(live: &BTreeMap<u64, Row>, due: &mut DueMoments, link: u64) -> Result<()
     ensures timed { OnOk result ((now : ℕ) → has_come now (moment_at due.new link) ≡ is_due now (live_in live.now link)) }
     ensures others { OnOk result ((l : ℕ) → (l == link) ≡ false → moment_at due.new l ≡ moment_at due.old l) }
 {
-    let moment = match live.get(&link) {
+    let moment = due_at(live, link);
+    due.set(link, moment)?;
+    Ok(())
+}
+
+/// When a link is due.
+fn due_at(live: &BTreeMap<u64, Row>, link: u64) -> Option<u64>
+    ensures { (now : ℕ) → has_come now result ≡ is_due now (live_in live.now link) }
+{
+    match live.get(&link) {
         Some(row) => row.connection.due_at(),
         None => None,
-    };
-    due.set(link, moment)
+    }
 }

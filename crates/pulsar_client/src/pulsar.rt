@@ -1,11 +1,11 @@
 //! The client.
 
-ghost use Rattle.std.specs.Prelude.{◌≡◌, ◌∷◌, [], List, OnErr, IfOk, IsErr, length, map, reverse};
+ghost use Rattle.std.specs.Prelude.{◌≡◌, ◌∷◌, [], List, OnErr, IfOk, IsErr, IsTrue, ◌↔◌, length, map, reverse};
 ghost use Rattle.pulsar_client.specs.Content.{Called, asked, heard, shown};
-ghost use Rattle.pulsar_client.specs.Run.{Good, Step, calls_in};
-ghost use Rattle.pulsar_client.specs.View.{Chosen};
+ghost use Rattle.pulsar_client.specs.Run.{Good, Step, calls_in, view};
+ghost use Rattle.pulsar_client.specs.View.{Chosen, Waits, has_ended};
 ghost use Rattle.pulsar_client.specs.Tables.{answered, step};
-ghost use Rattle.pulsar_client.specs.Client.{HasFailed, IsDead, StandsFor, chosen};
+ghost use Rattle.pulsar_client.specs.Client.{HasFailed, IsDead, StandsFor, chosen, options_of};
 
 use crate::effect::Effect;
 use crate::event::{Call, Event};
@@ -28,7 +28,8 @@ pub struct Pulsar {
 impl Pulsar {
     /// A client to which nothing has happened. A URL that is too long to be read counts as want of memory.
     pub fn new(alloc: Global, options: ClientOptions) -> Result<Pulsar, NoMemory>
-        ensures { IfOk result (λ c. StandsFor (chosen options) c []) }
+        ensures stands { IfOk result (λ c. StandsFor (chosen options) c []) }
+        ensures options { IfOk result (λ c. options_of c ≡ options) }
     {
         let settings = Settings::new(alloc, &options)?;
         let tables = Tables::new(alloc, settings);
@@ -63,6 +64,7 @@ impl Pulsar {
         ensures failed { OnErr result (HasFailed self.new) }
         ensures stays { HasFailed self.old → IsErr result × HasFailed self.new }
         ensures dead { IsDead self.old (heard event) → (self.new ≡ self.old) × IfOk result (λ out. out.items ≡ []) }
+        ensures options { options_of self.new ≡ options_of self.old }
     {
         self.take(event)
     }
@@ -73,6 +75,7 @@ impl Pulsar {
         ensures ticket { IfOk result (λ r. (o : Chosen) (h : List Step) → StandsFor o self.old h → r.0 ≡ calls_in h) }
         ensures failed { OnErr result (HasFailed self.new) }
         ensures stays { HasFailed self.old → IsErr result × HasFailed self.new }
+        ensures options { options_of self.new ≡ options_of self.old }
     {
         let ticket = self.tables.tickets;
         let effects = self.take(Event::Call(call))?;
@@ -81,25 +84,32 @@ impl Pulsar {
 
     /// The options that it was made with.
     pub fn options(&self) -> &ClientOptions
-        ensures { result.now ≡ self.now.options }
+        ensures options { result.now ≡ options_of self.now }
+        ensures chosen { (o : Chosen) (h : List Step) → StandsFor o self.now h → o ≡ chosen result.now }
     {
         &self.options
     }
 
     /// A link of this number has ended. It takes no memory.
-    pub fn link_ended(&self, link: u64) -> bool {
+    pub fn link_ended(&self, link: u64) -> bool
+        ensures { (o : Chosen) (h : List Step) → StandsFor o self.now h → (g : Good o h) → result ≡ has_ended link (view o g.log).links }
+    {
         self.tables.links.has_ended(link)
     }
 
     /// A link of this number is open, and something waits for it: it is not ready yet, or a request of it waits for a reply, or
     /// a raw consumer on it hears. It takes no memory.
-    pub fn link_waits(&self, link: u64) -> bool {
+    pub fn link_waits(&self, link: u64) -> bool
+        ensures { (o : Chosen) (h : List Step) → StandsFor o self.now h → (g : Good o h) → IsTrue result ↔ Waits link (view o g.log) }
+    {
         match self.tables.links.stage(link) {
             Some(Stage::Handshaking) => true,
             Some(Stage::Ready) => {
                 self.tables.links.is_busy(link) || self.tables.subscribers.hears_on(link)
             }
-            Some(Stage::Dialing | Stage::Over) | None => false,
+            Some(Stage::Dialing) => false,
+            Some(Stage::Over) => false,
+            None => false,
         }
     }
 
@@ -108,6 +118,7 @@ impl Pulsar {
         ensures failed { OnErr result (HasFailed self.new) }
         ensures stays { HasFailed self.old → IsErr result × HasFailed self.new }
         ensures dead { IsDead self.old (heard event) → (self.new ≡ self.old) × IfOk result (λ out. out.items ≡ []) }
+        ensures options { options_of self.new ≡ options_of self.old }
     {
         if self.failed {
             return Err(NoMemory);

@@ -370,13 +370,26 @@ fn answer_all(
 ) -> Result<Vec<Notice>, NoMemory>
     ensures { IfOk result (λ ns. ns.items ≡ filter_map (tells_asker (λ place. Outcome.Replied reply) (get nat_cmp askers.now)) places.now) }
 {
+    let Some((last, others)) = places.split_last() else {
+        return Ok(Vec::new(alloc));
+    };
+    let mut notices = answer_by_copies(alloc, askers, others, &reply)?;
+    tell_asker(&mut notices, askers, *last, Outcome::Replied(reply))?;
+    Ok(notices)
+}
+
+fn answer_by_copies(
+    alloc: Global,
+    askers: &BTreeMap<u64, Who>,
+    places: &[u64],
+    reply: &Received,
+) -> Result<Vec<Notice>, NoMemory>
+    ensures { IfOk result (λ ns. ns.items ≡ filter_map (tells_asker (λ place. Outcome.Replied reply.now) (get nat_cmp askers.now)) places.now) }
+{
     let mut notices = Vec::new(alloc);
-    if let Some((last, others)) = places.split_last() {
-        for place in others {
-            let copy = reply.copy(alloc)?;
-            tell_asker(&mut notices, askers, *place, Outcome::Replied(copy))?;
-        }
-        tell_asker(&mut notices, askers, *last, Outcome::Replied(reply))?;
+    for place in places {
+        let copy = reply.copy(alloc)?;
+        tell_asker(&mut notices, askers, *place, Outcome::Replied(copy))?;
     }
     Ok(notices)
 }
@@ -420,7 +433,8 @@ fn drop_all(
         return Err(NoMemory);
     };
     for place in first..after {
-        tell_asker(notices, askers, place, dropped(end))?;
+        let outcome = dropped(end);
+        tell_asker(notices, askers, place, outcome)?;
     }
     Ok(())
 }

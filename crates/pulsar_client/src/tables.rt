@@ -588,7 +588,7 @@ impl Tables {
             }
             Series::Runs { .. } | Series::Pauses { .. } => self.addresses.wait(&address, who),
             Series::Serves { link } => {
-                self.links.got(self.clock, link);
+                self.links.got(self.clock, link)?;
                 tell(who, Outcome::GotLink(link), tasks)
             }
         }

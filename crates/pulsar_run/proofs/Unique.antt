@@ -120,12 +120,15 @@ module _ {O H V A N P E : Type 0} (rs : Rules O H V A N P E) where
             w.1 ∙ ap (λ t. t ++ m) none)
       ]
 
-  pub determined_lem : (o : O) (h h' : List (Step H E)) → Good rs o h → Good rs o h' → events h ≡ events h' → h ≡ h'
-  determined_lem o h h' g g' same =
+  -- the runs of good histories with the same events have the same log
+  pub one_log : (o : O) (h h' : List (Step H E)) (g : Good rs o h) (g' : Good rs o h') → events h ≡ events h' → g.log ≡ g'.log
+  one_log o h h' g g' same =
       let all : List H = reverse (events h) in
       let l_events : reverse (events (steps rs o g.log)) ++ [] ≡ all = append-nil (reverse (events (steps rs o g.log))) ∙ ap (λ t. reverse (events t)) (sym g.same) in
       let m_events : reverse (events (steps rs o g'.log)) ++ [] ≡ all = append-nil (reverse (events (steps rs o g'.log))) ∙ ap (λ t. reverse (events t)) (sym g'.same) ∙ ap reverse (sym same) in
       let l_count : length all ≤ begun g.log = rw (← l_events, begun_is o g.log) (simp (length-append, length-reverse) (omega arith)) in
       let m_count : length all ≤ begun g'.log = rw (← m_events, begun_is o g'.log) (simp (length-append, length-reverse) (omega arith)) in
-      let logs : g.log ≡ g'.log = logs_same o all g.log g'.log g.run (of_events o g.log [] all l_events) g'.run (of_events o g'.log [] all m_events) g.rests g'.rests l_count m_count in
-      g.same ∙ ap (steps rs o) logs ∙ sym g'.same
+      logs_same o all g.log g'.log g.run (of_events o g.log [] all l_events) g'.run (of_events o g'.log [] all m_events) g.rests g'.rests l_count m_count
+
+  pub determined_lem : (o : O) (h h' : List (Step H E)) → Good rs o h → Good rs o h' → events h ≡ events h' → h ≡ h'
+  determined_lem o h h' g g' same = g.same ∙ ap (steps rs o) (one_log o h h' g g' same) ∙ sym g'.same

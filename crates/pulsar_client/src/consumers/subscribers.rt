@@ -1,12 +1,14 @@
 //! The raw consumers of a client.
 
-ghost use Rattle.std.specs.Prelude.{◌≡◌, ◌==◌, ◌&&◌, [], ℕ, List, None, Some, IfOk, OnOk, if◌then◌else◌};
+ghost use Rattle.std.specs.Prelude.{◌≡◌, ◌==◌, ◌&&◌, [], ℕ, List, None, Some, IfOk, OnOk, IsTrue, ◌↔◌, if◌then◌else◌};
+ghost use Rattle.std.specs.BTreeMap.{get};
 ghost use Rattle.std.specs.BTreeSet.{insert_key};
+ghost use Rattle.std.specs.List.{All};
 ghost use Rattle.std.specs.Option.{is_some, option_copied, option_map};
 ghost use Rattle.std.specs.Ordering.{nat_cmp};
 ghost use Rattle.pulsar_client.specs.Content.{shown};
-ghost use Rattle.pulsar_client.specs.Subscribers.{fresh_in, given_at, is_listed, kept_at, live_at, subscription_at, tickets_of, with_items};
-ghost use Rattle.pulsar_client.specs.Subscriptions.{after_poll, closed_at, ended_on, hears, is_last, polled};
+ghost use Rattle.pulsar_client.specs.Subscribers.{fresh_in, given_at, has_one, has_one_of, is_listed, is_of, kept_at, live_at, subscription_at, tickets_of, with_items};
+ghost use Rattle.pulsar_client.specs.Subscriptions.{IsHeard, after_poll, closed_at, ended_on, hears, is_last, polled};
 
 use crate::act::Arrival;
 use crate::consumers::subscriber::Subscriber;
@@ -65,8 +67,13 @@ impl Subscribers {
     }
 
     /// A live consumer is of this link. It takes no memory.
-    pub fn hears_on(&self, link: u64) -> bool {
-        self.live.contains_key(&link)
+    pub fn hears_on(&self, link: u64) -> bool
+        ensures { IsTrue result ↔ IsHeard link (subscription_at self.now) }
+    {
+        match self.live.get(&link) {
+            Some(numbers) => one_hears(&self.rows, numbers, link),
+            None => false,
+        }
     }
 
     /// The consumers of a link hear what comes to it.
@@ -110,9 +117,10 @@ impl Subscribers {
         ensures { OnOk result ((t : ℕ) → subscription_at self.new t ≡ option_map (hears link (Arrival.Gives number reply.now)) (subscription_at self.old t)) }
     {
         self.give(link, number, reply)?;
-        if is_last(reply) {
-            self.close(link, number)?;
+        if !is_last(reply) {
+            return Ok(());
         }
+        self.close(link, number)?;
         Ok(())
     }
 
@@ -172,6 +180,38 @@ fn is_live(
 {
     match listed(live, link, number) {
         Some(tickets) => tickets.contains(&ticket),
+        None => false,
+    }
+}
+
+/// One of those that are listed so is a consumer of the link.
+fn one_hears(
+    rows: &BTreeMap<u64, Subscriber>,
+    numbers: &BTreeMap<u64, BTreeSet<u64>>,
+    link: u64,
+) -> bool
+    ensures one { result ≡ has_one link rows.now numbers.now.entries }
+    ensures found { All (λ e. get nat_cmp numbers.now e.0 ≡ Some e.1) numbers.now.entries }
+{
+    numbers
+        .iter()
+        .any(|(number, tickets)| one_is(rows, tickets, link, *number))
+}
+
+/// One of these is a consumer of this number on the link.
+fn one_is(rows: &BTreeMap<u64, Subscriber>, tickets: &BTreeSet<u64>, link: u64, number: u64) -> bool
+    ensures { result ≡ has_one_of link number rows.now tickets.now.keys }
+{
+    tickets
+        .iter()
+        .any(|ticket| is_of(rows, *ticket, link, number))
+}
+
+fn is_of(rows: &BTreeMap<u64, Subscriber>, ticket: u64, link: u64, number: u64) -> bool
+    ensures { result ≡ is_of link number (kept_at rows.now ticket) }
+{
+    match rows.get(&ticket) {
+        Some(row) => row.link == link && row.number == number,
         None => false,
     }
 }

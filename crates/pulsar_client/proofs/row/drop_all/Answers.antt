@@ -1,4 +1,4 @@
-use Rattle.std.proofs.Common.{◌≡◌, ◌∙◌, ◌-◌, ap, sym, ◌++◌, append_assoc, arith}
+use Rattle.std.proofs.Common.{◌∙◌, ◌-◌, ap, sym, ◌++◌, append_assoc, arith}
 use Rattle.std.specs.BTreeMap.{get}
 use Rattle.std.specs.List.{filter_map}
 use Rattle.std.specs.Option.{option_to_list}
@@ -15,6 +15,7 @@ loop-place-preserved c =
     let first = c.args.first in
     let i = c.loop-place.place in
     c.in_ok-tell_asker.ensures
+    ∙ ap (λ o. c.loop-place.notices.items ++ option_to_list (tells_asker (λ p. o) (get nat_cmp c.args.askers.now) i)) c.dropped-outcome.ensures
     ∙ ap (λ ns. ns ++ option_to_list (f i)) c.loop-place.invariant
     ∙ append_assoc before (filter_map f (numbers_from first (i - first))) (option_to_list (f i))
     ∙ ap (λ ns. before ++ ns) (sym (next_place f first i c.loop-place.auto.place))

@@ -1,4 +1,4 @@
 use Rattle.pulsar_client.proofs.plans.answers.answer.Goals as goal
 
-pub returns-in_ok-names-in-GetTopicsOfNamespaceResponse : goal.returns-in_ok-names-in-GetTopicsOfNamespaceResponse
-returns-in_ok-names-in-GetTopicsOfNamespaceResponse c = rw c.in-GetTopicsOfNamespaceResponse.is c.in_ok-names-in-GetTopicsOfNamespaceResponse.ensures
+pub returns-in-Names : goal.returns-in-Names
+returns-in-Names c = rw (c.in-GetTopicsOfNamespaceResponse.is, c.in-Names.is) c.names.ensures

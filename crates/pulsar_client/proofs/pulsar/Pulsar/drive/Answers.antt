@@ -1,6 +1,8 @@
 use Rattle.std.proofs.Common.{◌≡◌, ◌<◌, length, take, arith, length-take, length-append, reverse, subst, ◌∷◌}
-use Rattle.std.proofs.lemmas.List.{take_more}
+use Rattle.std.proofs.lemmas.List.{take_all, take_more}
+use Rattle.pulsar_run.proofs.Steps.{good}
 use Rattle.pulsar_client.specs.Client.{StandsFor, chosen}
+use Rattle.pulsar_client.specs.Run.{Good}
 use Rattle.pulsar_client.specs.Tables.{answered}
 use Rattle.pulsar_client.proofs.Steps.{history_more, same_step}
 use Rattle.pulsar_client.proofs.pulsar.Pulsar.drive.Goals as goal
@@ -24,3 +26,10 @@ loop-event-preserved c =
           (c.in_ok-take.ensures.ok (chosen c.args.options) (reverse (answered (take i events) c.loop-event.all.items)) c.loop-event.invariant.stands));
       count = rw c.in_ok-push.ensures.items (simp length-append (omega (arith, c.loop-event.invariant.count)));
     }
+
+pub returns-clause-run : goal.returns-clause-run
+returns-clause-run c =
+    let i = c.loop-event.event-index in
+    let events = c.args.events.now in
+    let all : take i events ≡ events = take_all i events (omega arith) in
+    subst (λ es. Good (chosen c.args.options) (reverse (answered es c.loop-event.all.items))) all (good c.loop-event.invariant.stands.stands)

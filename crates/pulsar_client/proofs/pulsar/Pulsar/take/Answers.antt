@@ -4,10 +4,11 @@ use Rattle.pulsar_client.proofs.Steps.{dead_step, not_live}
 use Rattle.pulsar_client.proofs.pulsar.Pulsar.take.Goals as goal
 
 pub returns-clause-ok : goal.returns-clause-ok
-returns-clause-ok c = λ o h s. record { stands = c.in_ok-out.ensures o h s.stands; whole = refl }
+returns-clause-ok c = λ o h s. record { made = s.made; stands = c.in_ok-out.ensures o h s.stands; whole = refl }
 
 pub returns-then-not-is_live-clause-ok : goal.returns-then-not-is_live-clause-ok
 returns-then-not-is_live-clause-ok c = λ o h s. record {
+  made = s.made;
   stands = rw c.new.ensures.items (dead_step c.args.self.now.tables (heard c.args.event) (sym c.is_live.ensures ∙ c.if-not-is_live.true) s.stands);
   whole = s.whole;
 }

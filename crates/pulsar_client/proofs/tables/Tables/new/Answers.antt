@@ -1,7 +1,6 @@
 use Rattle.pulsar_client.specs.Tables.{chosen_of}
 use Rattle.std.proofs.Common.{false}
 use Rattle.pulsar_run.proofs.Steps.{at_first}
-use Rattle.pulsar_client.specs.declared.base.Series.TheVariants.{Nobody}
 use Rattle.pulsar_client.proofs.tables.Tables.new.Goals as goal
 
 pub returns : goal.returns

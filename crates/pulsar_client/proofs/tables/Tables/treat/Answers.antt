@@ -11,3 +11,9 @@ returns-in-Told-clause-sees c = rw c.in-Told.is c.told.ensures.sees
 
 pub returns-in-Does-clause-sees : goal.returns-in-Does-clause-sees
 returns-in-Does-clause-sees c = rw c.in-Does.is c.does.ensures.sees
+
+pub returns-in-Starts-clause-sees : goal.returns-in-Starts-clause-sees
+returns-in-Starts-clause-sees c = rw c.in-Starts.is c.starts.ensures.sees
+
+pub returns-in-Answers-clause-sees : goal.returns-in-Answers-clause-sees
+returns-in-Answers-clause-sees c = rw c.in-Answers.is c.answers.ensures.sees

@@ -1,0 +1,7 @@
+use Rattle.std.proofs.Common.{◌∙◌, ap}
+use Rattle.pulsar_client.specs.View.{has_ended}
+use Rattle.pulsar_client.proofs.Steps.{seen_of}
+use Rattle.pulsar_client.proofs.pulsar.Pulsar.link_ended.Goals as goal
+
+pub returns : goal.returns
+returns c = λ o h s g. c.has_ended.ensures ∙ ap (λ v. has_ended c.args.link v.links) (seen_of c.args.self.now.tables s.stands g)

@@ -21,6 +21,7 @@ use Rattle.pulsar_client.specs.declared.row.Row.{Row}
 use Rattle.pulsar_client.specs.Alarms.{alarm_cmp, moment_of}
 use Rattle.pulsar_client.specs.Due.{is_moment, moment_at}
 use Rattle.pulsar_client.specs.Rules.{ended_on}
+use Rattle.pulsar_client.specs.Subscriptions.{Subscription}
 use Rattle.pulsar_client.specs.View.{Addresses, Base, Links, Seat, closing, may_retry, nobody, pause_with}
 
 abbrev pub seat_of : Row → Seat
@@ -50,6 +51,10 @@ abbrev pub IsEnd : Option (Place × Vec Notice) → End → (now : ℕ) → Opti
 IsEnd None end now row = closing end now row ≡ None
 IsEnd (Some r) end now row =
     (cause : Fault) × (closing end now row ≡ Some cause) × (option_map (λ seat. seat.address) row ≡ Some r.0) × (r.1.items ≡ ended_on end now row)
+
+-- no consumer has a ticket that was not drawn yet
+abbrev pub AreTicketed : (drawn : ℕ) → (ℕ → Option Subscription) → Type 0
+AreTicketed drawn consumers = (t : ℕ) → drawn ≤ t → consumers t ≡ None
 
 -- THE ADDRESSES
 

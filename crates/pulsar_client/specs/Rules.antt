@@ -59,7 +59,7 @@ use Rattle.pulsar_client.specs.Links.{Change, Remains, Becomes, IsOver, closed_b
 use Rattle.pulsar_client.specs.Links as links
 use Rattle.pulsar_client.specs.Plan.{begins, fails}
 use Rattle.pulsar_client.specs.View.{Addresses, Base, Chosen, Links, Seat, Tickets, Turned, View, answer_at, arrival_at, is_live, later, told_some, turned, ways_of}
-use Rattle.pulsar_client.specs.Subscriptions.{is_heard}
+use Rattle.pulsar_client.specs.Subscriptions.{Subscription, is_heard}
 use Rattle.pulsar_client.specs.Who.{is_before, is_same, rank}
 
 -- EVENTS
@@ -202,16 +202,23 @@ may_ping (Some seat) = is_none seat.ping
 abbrev pub keeps_alive : ℕ → Option Seat → List Act
 keeps_alive l row = if may_ping row then Comes (ToLink l Pings) ∷ [] else []
 
--- a link is used by a request that waits, by a frame in its line, and by a consumer that hears
-abbrev pub is_used : View → ℕ → Seat → Bool
-is_used v l seat = not (is_empty seat.seen.waits.waiting) || (nat_lt 0 (length seat.seen.line) || is_heard v.calls.drawn v.consumers l)
+-- a link is used by a request that waits, by a frame in its line, and by a consumer that hears, which has one of the tickets so far
+abbrev pub is_used : (drawn : ℕ) → (ℕ → Option Subscription) → ℕ → Seat → Bool
+is_used drawn consumers l seat = not (is_empty seat.seen.waits.waiting) || (nat_lt 0 (length seat.seen.line) || is_heard drawn consumers l)
 
 -- a ready link that was not got for so long, and that nothing uses, ends
+abbrev pub is_idle_at : (now most drawn : ℕ) → (ℕ → Option Subscription) → ℕ → Seat → Bool
+is_idle_at now most drawn consumers l seat =
+    is_ready seat.seen.stage && (nat_le (later seat.got most) now && not (is_used drawn consumers l seat))
+
+abbrev pub idle_act_at : (now most drawn : ℕ) → (ℕ → Option Subscription) → ℕ → Seat → List Act
+idle_act_at now most drawn consumers l seat = if is_idle_at now most drawn consumers l seat then Comes (ToLink l (Ends Idles)) ∷ [] else []
+
 abbrev pub is_idle : View → ℕ → Seat → Bool
-is_idle v l seat = is_ready seat.seen.stage && (nat_le (later seat.got v.chosen.connection.connection_max_idle) v.now && not (is_used v l seat))
+is_idle v l seat = is_idle_at v.now v.chosen.connection.connection_max_idle v.calls.drawn v.consumers l seat
 
 abbrev pub idle_act : View → ℕ → Seat → List Act
-idle_act v l seat = if is_idle v l seat then Comes (ToLink l (Ends Idles)) ∷ [] else []
+idle_act v l seat = idle_act_at v.now v.chosen.connection.connection_max_idle v.calls.drawn v.consumers l seat
 
 -- what an alarm that rings brings at once
 abbrev pub rung : View → Alarm → List Act

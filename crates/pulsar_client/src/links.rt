@@ -1,6 +1,6 @@
 //! The links of a client, and who asked on each.
 
-ghost use Rattle.std.specs.Prelude.{◌≡◌, ◌==◌, ◌+◌, ◌++◌, ℕ, false, IfOk, OnOk, None, Some, not, map, if◌then◌else◌};
+ghost use Rattle.std.specs.Prelude.{◌≡◌, ◌==◌, ◌+◌, ◌++◌, ◌∷◌, [], ℕ, false, IfOk, OnOk, None, Some, not, map, if◌then◌else◌};
 ghost use Rattle.std.specs.BTreeMap.{IsOrdered, keys};
 ghost use Rattle.std.specs.List.{flat_map};
 ghost use Rattle.std.specs.List.Sorted.{IsStrictlySortedBy};
@@ -9,9 +9,10 @@ ghost use Rattle.std.specs.Ordering.{nat_cmp};
 ghost use Rattle.pulsar_client.specs.Content.{shown};
 ghost use Rattle.pulsar_client.specs.Effects.{asked_at, given_at};
 ghost use Rattle.pulsar_client.specs.Due.{moment_at};
-ghost use Rattle.pulsar_client.specs.Kept.{AreStarted, AreTimed, IsEnd, is_due, links_in, live_in};
+ghost use Rattle.pulsar_client.specs.Kept.{AreStarted, AreTicketed, AreTimed, IsEnd, is_due, links_in, live_in};
 ghost use Rattle.pulsar_requests.specs.Soonest.{has_come};
-ghost use Rattle.pulsar_client.specs.Rules.{answered_on, due_part, may_ping, moved_on, on_link, over_links, stop_act, told_at};
+ghost use Rattle.pulsar_client.specs.Subscribers.{subscription_at};
+ghost use Rattle.pulsar_client.specs.Rules.{answered_on, due_part, idle_act_at, may_ping, moved_on, on_link, over_links, stop_act, told_at};
 ghost use Rattle.pulsar_client.specs.View.{answer_at, arrival_at, got_at, has_ended, is_asked, is_busy, seat_asked, seat_got, seat_of_fresh, seat_fed, took_some};
 
 use crate::act::{Act, Arrival, End, LinkAct, Notice, Outcome, Part, Who};
@@ -165,7 +166,10 @@ impl Links {
         now: u64,
         most: u64,
         subscribers: &Subscribers,
-    ) -> Result<VecDeque<Act>, NoMemory> {
+    ) -> Result<VecDeque<Act>, NoMemory>
+        ensures { IfOk result (λ acts. (drawn : ℕ) → AreTicketed drawn (subscription_at subscribers.now)
+            → acts.items ≡ over_links (idle_act_at now most drawn (subscription_at subscribers.now)) (links_in self.now.started self.now.live)) }
+    {
         if self.failed {
             return Err(NoMemory);
         }
@@ -372,17 +376,29 @@ fn ends_idle(
     now: u64,
     most: u64,
     subscribers: &Subscribers,
-) -> Result<VecDeque<Act>, NoMemory> {
+) -> Result<VecDeque<Act>, NoMemory>
+    ensures ends { IfOk result (λ acts. (drawn : ℕ) → AreTicketed drawn (subscription_at subscribers.now)
+        → acts.items ≡ flat_map (on_link (idle_act_at now most drawn (subscription_at subscribers.now)) (live_in live.now)) (keys live.now)) }
+    ensures ordered { OnOk result (IsOrdered nat_cmp live.now) }
+{
     let mut acts = VecDeque::new(alloc);
     for (link, row) in live {
-        if row.rests(now, most) && !subscribers.hears_on(*link) {
-            acts.push_back(Act::Comes(Part::ToLink {
-                link: *link,
-                act: LinkAct::Ends(End::Idles),
-            }))?;
-        }
+        let is_idle = row.rests(now, most) && !subscribers.hears_on(*link);
+        end_idle(&mut acts, *link, is_idle)?;
     }
     Ok(acts)
+}
+
+fn end_idle(acts: &mut VecDeque<Act>, link: u64, is_idle: bool) -> Result<(), NoMemory>
+    ensures { OnOk result (acts.new.items ≡ acts.old.items ++ (if is_idle then Act.Comes (Part.ToLink link (LinkAct.Ends End.Idles)) ∷ [] else [])) }
+{
+    if is_idle {
+        acts.push_back(Act::Comes(Part::ToLink {
+            link,
+            act: LinkAct::Ends(End::Idles),
+        }))?;
+    }
+    Ok(())
 }
 
 fn feed_at(live: &mut BTreeMap<u64, Row>, link: u64, piece: &[u8]) -> Result<(), NoMemory>

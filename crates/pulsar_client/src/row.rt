@@ -1,19 +1,20 @@
 //! One link of a client.
 
-ghost use Rattle.std.specs.Prelude.{◌≡◌, ◌==◌, ◌-◌, ◌++◌, ◌∷◌, [], ℕ, false, IfOk, OnOk, Some, None, map, if◌then◌else◌};
+ghost use Rattle.std.specs.Prelude.{◌≡◌, ◌==◌, ◌&&◌, nat_le, length, ◌-◌, ◌++◌, ◌∷◌, [], ℕ, false, IfOk, OnOk, Some, None, map, if◌then◌else◌};
 ghost use Rattle.std.specs.BTreeMap.{get};
 ghost use Rattle.std.specs.List.{filter_map, list_any};
 ghost use Rattle.std.specs.Option.{is_some, option_to_list};
 ghost use Rattle.std.specs.Ordering.{nat_cmp};
 ghost use Rattle.pulsar_session.specs.Kept.{came_of};
-ghost use Rattle.pulsar_session.specs.Link.{Asks, after as after_call, asked, came, ends, is_memory};
+ghost use Rattle.pulsar_requests.specs.Waits.{is_empty};
+ghost use Rattle.pulsar_session.specs.Link.{Asks, after as after_call, asked, came, ends, is_memory, is_ready};
 ghost use Rattle.pulsar_client.specs.Content.{shown};
 ghost use Rattle.pulsar_client.specs.Links.{after, arrival, arrives, change_in, close, closed_by, effects, is_own_end, line_places, lost, new_places, numbers_from, queues, queues_at, settled_in, settles, times_out, write};
 ghost use Rattle.pulsar_client.specs.Links as links;
 ghost use Rattle.pulsar_client.specs.Rules as rules;
 ghost use Rattle.pulsar_client.specs.Rules.{answered_by, dropped, ended_places, lost_with, moved_up, tells_asker, told_at};
 ghost use Rattle.pulsar_client.specs.Kept.{seat_of};
-ghost use Rattle.pulsar_client.specs.View.{asker_at, askers_left, got_since, is_asked, ping_left, place_of, seat_asked, seat_of_fresh, took};
+ghost use Rattle.pulsar_client.specs.View.{asker_at, askers_left, got_since, is_asked, later, ping_left, place_of, seat_asked, seat_of_fresh, took};
 
 use crate::act::{Arrival, End, LinkAct, Notice, Outcome, Who};
 use crate::content::Cause;
@@ -177,7 +178,9 @@ impl Row {
     }
 
     /// It is ready, and was not got for so long, and no request of it waits and no frame stands in its line.
-    pub fn rests(&self, now: u64, most: u64) -> bool {
+    pub fn rests(&self, now: u64, most: u64) -> bool
+        ensures { result ≡ (is_ready self.now.connection.stage && (nat_le (later self.now.got most) now && (is_empty self.now.connection.waits.waiting && (length self.now.connection.line == 0)))) }
+    {
         self.connection.stage() == Stage::Ready
             && self.got.saturating_add(most) <= now
             && self.connection.is_idle()

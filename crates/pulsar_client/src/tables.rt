@@ -7,7 +7,7 @@ ghost use Rattle.pulsar_run.specs.Order.{arranged};
 ghost use Rattle.pulsar_client.specs.Alarms.{clear, set};
 ghost use Rattle.pulsar_client.specs.Content.{Heard, Retry, asked, heard, shown};
 ghost use Rattle.pulsar_client.specs.Effects.{effect_below, effects};
-ghost use Rattle.pulsar_client.specs.Kept.{addresses_of, base_at, live_in, pause_at};
+ghost use Rattle.pulsar_client.specs.Kept.{AreTicketed, addresses_of, base_at, live_in, pause_at};
 ghost use Rattle.pulsar_client.specs.Rules.{asks_topics, below, breaks_at, builds_with, does, follows, from_base, notice, opens, parts, procedure_for, reads_on, rung, searches, served_on, stopped_with, unless_refused, waiters_of, woken};
 ghost use Rattle.pulsar_client.specs.Run.{Agenda, Step, goes_on};
 ghost use Rattle.pulsar_client.specs.Subscribers.{subscription_at};
@@ -160,7 +160,7 @@ impl Tables {
     /// One act: its effects, what arises from it, and the tables after it.
     fn treat(&mut self, act: Act, tasks: &mut Tasks, out: &mut Vec<Effect>) -> Result<(), NoMemory>
         ensures out { OnOk result (map shown out.new.items ≡ map shown out.old.items ++ effects (view_of self.old) act) }
-        ensures left { OnOk result (agenda_of tasks.new ≡ goes_on (view_of self.old) act (agenda_of tasks.old)) }
+        ensures left { OnOk result (AreTicketed self.old.tickets (subscription_at self.old.subscribers) → agenda_of tasks.new ≡ goes_on (view_of self.old) act (agenda_of tasks.old)) }
         ensures sees { OnOk result (view_of self.new ≡ after act (view_of self.old)) }
     {
         match act {
@@ -430,7 +430,7 @@ impl Tables {
 
     /// An alarm comes, where it rings still.
     fn rings(&mut self, alarm: Alarm, tasks: &mut Tasks) -> Result<(), NoMemory>
-        ensures left { OnOk result (agenda_of tasks.new ≡ goes_on (view_of self.old) (Act.Comes (Part.Rings alarm)) (agenda_of tasks.old)) }
+        ensures left { OnOk result (AreTicketed self.old.tickets (subscription_at self.old.subscribers) → agenda_of tasks.new ≡ goes_on (view_of self.old) (Act.Comes (Part.Rings alarm)) (agenda_of tasks.old)) }
         ensures sees { OnOk result (view_of self.new ≡ after (Act.Comes (Part.Rings alarm)) (view_of self.old)) }
     {
         if !self.alarms.rings(self.clock, alarm) {
@@ -502,7 +502,7 @@ impl Tables {
 
     /// Links that nothing uses end.
     fn checks_idle(&mut self, tasks: &mut Tasks) -> Result<(), NoMemory>
-        ensures left { OnOk result (agenda_of tasks.new ≡ record (agenda_of tasks.old) { now = rung (view_of self.old) Alarm.CheckIdle ++ tasks.old.now.items }) }
+        ensures left { OnOk result (AreTicketed self.old.tickets (subscription_at self.old.subscribers) → agenda_of tasks.new ≡ record (agenda_of tasks.old) { now = rung (view_of self.old) Alarm.CheckIdle ++ tasks.old.now.items }) }
         ensures alarms { OnOk result (self.new.alarms ≡ alarms_rung (chosen_of self.old.settings) self.old.clock Alarm.CheckIdle self.old.alarms) }
         ensures sees { OnOk result (view_of self.new ≡ record (view_of self.old) { alarms = self.new.alarms }) }
     {

@@ -190,8 +190,8 @@ EndsSo o P e older =
 abbrev pub AttemptEnds : Chosen → Who → Outcome → Entry → List Entry → Type 0
 AttemptEnds o who u e older =
     EndsSo o (λ end v seat. (starter : Who) × (retries link : ℕ) × ((base_of v seat.address).series ≡ Runs starter retries link)
-      × (pause_of o end seat.address (Runs starter retries link) ≡ None) × In who (base_of v seat.address).waiting
-      × (u ≡ fails_so end (is_same who starter))) e older
+    × (pause_of o end seat.address (Runs starter retries link) ≡ None) × In who (base_of v seat.address).waiting
+    × (u ≡ fails_so end (is_same who starter))) e older
 
 -- a request that this one asked for ends with its link, and this is told
 abbrev pub RequestEnds : Chosen → Who → Outcome → Entry → List Entry → Type 0

@@ -96,7 +96,10 @@ pub enum Procedure {
         says: Says,
     },
     /// Find this, looking for brokers in these ways.
-    Search { ways: Ways, what: Sought },
+    Search {
+        ways: Ways,
+        what: Sought,
+    },
     /// Fail.
     Refuse(Refusal),
 }
@@ -212,13 +215,22 @@ pub enum Act {
     /// A part of the event comes.
     Comes(Part),
     /// A plan begins.
-    Starts { who: Who, procedure: Procedure },
+    Starts {
+        who: Who,
+        procedure: Procedure,
+    },
     /// A plan is told an outcome.
     Told(Notice),
     /// A plan does one thing.
-    Does { who: Who, action: Action },
+    Does {
+        who: Who,
+        action: Action,
+    },
     /// A plan ends.
-    Answers { who: Who, verdict: Verdict },
+    Answers {
+        who: Who,
+        verdict: Verdict,
+    },
     /// An attempt to connect to an address begins, behind so many retries of a series that this one started.
     Dials {
         address: Address,

@@ -238,10 +238,8 @@ fn again(series: Series, end: &End, most: u32) -> Option<(Who, u32)>
             retries,
             link: _,
         } if is_retryable(end) && retries < most => Some((starter, retries)),
-        Series::Nobody
-        | Series::Runs { .. }
-        | Series::Pauses { .. }
-        | Series::Serves { .. } => None,
+        Series::Nobody | Series::Runs { .. } | Series::Pauses { .. } | Series::Serves { .. } =>
+            None,
     }
 }
 

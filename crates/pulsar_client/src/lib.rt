@@ -31,7 +31,7 @@ pub use crate::outside::sink::{FailingSink, MemorySink, Sink};
 pub use crate::outside::source::{FailingSource, MemorySource, Source};
 pub use crate::pulsar::Pulsar;
 pub use pulsar_link::raw_call::RawCall;
-pub use pulsar_plans::{BrokerAddress, ConnectionRetryOptions, OperationRetryOptions};
 pub use pulsar_messages::{
     Authentication, ConsumerOptions, Message, ProducerMessage, ProducerOptions, RoutingPolicy,
 };
+pub use pulsar_plans::{BrokerAddress, ConnectionRetryOptions, OperationRetryOptions};

@@ -21,10 +21,10 @@ use crate::act::{
     Act, Action, Alarm, Arrival, End, LinkAct, Makes, Notice, Outcome, Part, Place, Procedure,
     Refusal, Says, Verdict, Who,
 };
-use crate::agenda::Tasks;
-use crate::alarms::Alarms;
 use crate::address::connect;
 use crate::addresses::{Addresses, Pause, Series};
+use crate::agenda::Tasks;
+use crate::alarms::Alarms;
 use crate::consumers::subscriber::Subscriber;
 use crate::consumers::subscribers::Subscribers;
 use crate::content::Asking;
@@ -425,7 +425,8 @@ impl Tables {
     {
         let delay = self.settings.delay(link, retries);
         out.push(Effect::Retry { link, delay })?;
-        self.alarms.set(Alarm::Retry(link), later(self.clock, delay))
+        self.alarms
+            .set(Alarm::Retry(link), later(self.clock, delay))
     }
 
     /// An alarm comes, where it rings still.
@@ -509,9 +510,7 @@ impl Tables {
         self.alarms
             .set(Alarm::CheckIdle, later(self.clock, IDLE_PERIOD))?;
         let most = self.settings.connection.connection_max_idle;
-        let acts = self
-            .links
-            .idle_acts(self.clock, most, &self.subscribers)?;
+        let acts = self.links.idle_acts(self.clock, most, &self.subscribers)?;
         tasks.put_all(acts)
     }
 
@@ -698,11 +697,7 @@ fn stopped_with(
     Ok(notices)
 }
 
-fn stop_one(
-    addresses: &Addresses,
-    alarm: Alarm,
-    notices: &mut Vec<Notice>,
-) -> Result<(), NoMemory>
+fn stop_one(addresses: &Addresses, alarm: Alarm, notices: &mut Vec<Notice>) -> Result<(), NoMemory>
     ensures { OnOk result (notices.new.items ≡ notices.old.items ++ stopped_with (addresses_of addresses.now) alarm) }
 {
     match alarm {
@@ -740,10 +735,7 @@ fn later(now: u64, delay: u64) -> u64
 }
 
 /// The alarms that ring come behind the links that are due.
-fn with_alarms(
-    mut parts: VecDeque<Part>,
-    alarms: Vec<Alarm>,
-) -> Result<VecDeque<Part>, NoMemory>
+fn with_alarms(mut parts: VecDeque<Part>, alarms: Vec<Alarm>) -> Result<VecDeque<Part>, NoMemory>
     ensures { IfOk result (λ ps. ps.items ≡ parts.items ++ map Part.Rings alarms.items) }
 {
     for alarm in alarms {

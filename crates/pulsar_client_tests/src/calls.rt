@@ -2,8 +2,8 @@
 
 use pulsar_client::effect::Effect;
 use pulsar_client::event::{Call, Event};
-use pulsar_client::{ClientOptions, ConnectionRetryOptions, OperationRetryOptions};
 use pulsar_client::pulsar::Pulsar;
+use pulsar_client::{ClientOptions, ConnectionRetryOptions, OperationRetryOptions};
 use pulsar_wire::{ConnectionError, Error, NoMemory};
 use std::alloc::Global;
 use std::test::Fail;

@@ -165,10 +165,7 @@ fn flag_word(flag: bool) -> &'static str
     if flag { "true" } else { "false" }
 }
 
-fn push_addresses(
-    out: &mut String,
-    names: &[(String, BrokerAddress)],
-) -> Result<(), AllocError>
+fn push_addresses(out: &mut String, names: &[(String, BrokerAddress)]) -> Result<(), AllocError>
     ensures { OnOk result (string_bytes out.new ≡ string_bytes out.old
         ++ printed.answer (Addresses (map named names.now))) }
 {

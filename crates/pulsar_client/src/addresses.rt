@@ -1,6 +1,6 @@
 //! Addresses: what runs for each, and who waits for that.
 
-ghost use Rattle.std.specs.Prelude.{◌≡◌, ◌==◌, ◌++◌, ℕ, List, None, OnOk, IfOk, bytes_eq, map, if◌then◌else◌};
+ghost use Rattle.std.specs.Prelude.{◌≡◌, ◌==◌, ◌++◌, ℕ, List, None, OnOk, IfOk, bytes_eq, map, string_bytes, if◌then◌else◌};
 ghost use Rattle.std.specs.Option.{option_map};
 ghost use Rattle.pulsar_plans.specs.Address.{address_key};
 ghost use Rattle.pulsar_client.specs.Kept.{addresses_of, base_at, base_of, follows_at, pause_at};
@@ -88,7 +88,7 @@ impl Addresses {
         let key = address.key(self.alloc)?;
         let mut base = take(&mut self.bases, self.alloc, &key);
         base.waiting.push(who)?;
-        self.bases.insert(key, base)?;
+        put(&mut self.bases, key, base)?;
         Ok(())
     }
 
@@ -110,7 +110,7 @@ impl Addresses {
             retries,
             link,
         };
-        self.bases.insert(key, base)?;
+        put(&mut self.bases, key, base)?;
         Ok(())
     }
 
@@ -132,7 +132,7 @@ impl Addresses {
             series: Series::Serves { link },
             waiting: Vec::new(self.alloc),
         };
-        self.bases.insert(key, base)?;
+        put(&mut self.bases, key, base)?;
         Ok(())
     }
 
@@ -157,7 +157,7 @@ impl Addresses {
             return Ok(None);
         };
         base.series = Series::Pauses { link };
-        self.bases.insert(key, base)?;
+        put(&mut self.bases, key, base)?;
         self.pauses.insert(
             link,
             Pause {
@@ -186,10 +186,7 @@ impl Addresses {
             return Ok(());
         };
         let key = pause.address.key(self.alloc)?;
-        match self.bases.get(key.as_str()) {
-            Some(base) => stop_all(&base.waiting, notices),
-            None => Ok(()),
-        }
+        stop_at(&self.bases, &key, notices)
     }
 
     /// Nobody waits for the attempt that was to follow that of a link.
@@ -201,7 +198,7 @@ impl Addresses {
             return Ok(());
         };
         let key = pause.address.key(self.alloc)?;
-        self.bases.remove(key.as_str());
+        drop(take(&mut self.bases, self.alloc, &key));
         Ok(())
     }
 
@@ -214,7 +211,31 @@ impl Addresses {
     }
 }
 
+/// Those who wait for the address of a key are told that the client is stopped.
+fn stop_at(
+    bases: &BTreeMap<String, Base>,
+    key: &str,
+    notices: &mut Vec<Notice>,
+) -> Result<(), NoMemory>
+    ensures { OnOk result (notices.new.items ≡ notices.old.items ++ map (λ who. notice who Outcome.Stopped) (base_at bases.now key.now).waiting) }
+{
+    match bases.get(key) {
+        Some(base) => stop_all(&base.waiting, notices),
+        None => Ok(()),
+    }
+}
+
+/// What runs for the address of a key is put there.
+#[tactic(auto, using(std::proofs::lemmas::Map::Text::text_keys))]
+fn put(bases: &mut BTreeMap<String, Base>, key: String, base: Base) -> Result<(), NoMemory>
+    ensures { OnOk result ((k : List ℕ) → base_at bases.new k ≡ (if bytes_eq (string_bytes key) k then base_of base else base_at bases.old k)) }
+{
+    drop(bases.insert(key, base)?);
+    Ok(())
+}
+
 /// Takes out what runs for the address of a key.
+#[tactic(auto, using(std::proofs::lemmas::Map::Text::text_keys))]
 fn take(bases: &mut BTreeMap<String, Base>, alloc: Global, key: &str) -> Base
     ensures base { base_of result ≡ base_at bases.old key.now }
     ensures left { (k : List ℕ) → base_at bases.new k ≡ (if bytes_eq key.now k then nobody else base_at bases.old k) }

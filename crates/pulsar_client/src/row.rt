@@ -300,9 +300,13 @@ fn got_since(arrived: &Option<Arrived>, now: u64, got: u64) -> u64
 fn ping_left(settled: &[u64], ping: Option<u64>) -> Option<u64>
     ensures { result ≡ ping_left settled.now ping }
 {
-    match ping {
-        Some(place) if settled.contains(&place) => None,
-        ping => ping,
+    let Some(place) = ping else {
+        return None;
+    };
+    if settled.contains(&place) {
+        None
+    } else {
+        Some(place)
     }
 }
 

@@ -50,11 +50,9 @@ impl Pulsar {
         ensures one_each { IfOk result (λ all. length all.items ≡ length events.now) }
     {
         let mut client = Pulsar::new(alloc, options)?;
-        let mut all = Vec::new(alloc);
-        for event in events {
-            all.push(client.take(event.copy()?)?)?;
-        }
-        Ok(all)
+        let all = client.take_all(alloc, events);
+        drop(client);
+        all
     }
 
     /// One event, with all that arises from it. After want of memory every later step answers want of memory. An event
@@ -113,6 +111,18 @@ impl Pulsar {
         }
     }
 
+    /// Each event in turn.
+    fn take_all(&mut self, alloc: Global, events: &[Event]) -> Result<Vec<Vec<Effect>>, NoMemory>
+        ensures stands { IfOk result (λ all. (o : Chosen) → StandsFor o self.old [] → StandsFor o self.new (reverse (answered events.now all.items))) }
+        ensures one_each { IfOk result (λ all. length all.items ≡ length events.now) }
+    {
+        let mut all = Vec::new(alloc);
+        for event in events {
+            all.push(self.take(event.copy()?)?)?;
+        }
+        Ok(all)
+    }
+
     fn take(&mut self, event: Event) -> Result<Vec<Effect>, NoMemory>
         ensures ok { IfOk result (λ out. (o : Chosen) (h : List Step) → StandsFor o self.old h → StandsFor o self.new (step event out.items ∷ h)) }
         ensures failed { OnErr result (HasFailed self.new) }
@@ -121,9 +131,11 @@ impl Pulsar {
         ensures options { options_of self.new ≡ options_of self.old }
     {
         if self.failed {
+            drop(event);
             return Err(NoMemory);
         }
         if !self.tables.is_live(&event) {
+            drop(event);
             return Ok(Vec::new(self.tables.alloc));
         }
         self.failed = true;

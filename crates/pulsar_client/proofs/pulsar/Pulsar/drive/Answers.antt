@@ -1,35 +1,18 @@
-use Rattle.std.proofs.Common.{◌≡◌, ◌<◌, length, take, arith, length-take, length-append, reverse, subst, ◌∷◌}
-use Rattle.std.proofs.lemmas.List.{take_all, take_more}
+use Rattle.std.proofs.Common.{[], reverse}
+use Rattle.std.proofs.lemmas.Result.{IfOk-weaker}
 use Rattle.pulsar_run.proofs.Steps.{good}
 use Rattle.pulsar_client.specs.Client.{StandsFor, chosen}
 use Rattle.pulsar_client.specs.Run.{Good}
 use Rattle.pulsar_client.specs.Tables.{answered}
-use Rattle.pulsar_client.proofs.Steps.{history_more, same_step}
+use Rattle.pulsar_client.specs.View.{Chosen}
 use Rattle.pulsar_client.proofs.pulsar.Pulsar.drive.Goals as goal
-
-pub loop-event-preserved : goal.loop-event-preserved
-loop-event-preserved c =
-    let i = c.loop-event.event-index in
-    let events = c.args.events.now in
-    let lt : i < length events = omega arith in
-    let counts : length c.loop-event.all.items ≡ length (take i events) = simp length-take (omega (arith, c.loop-event.invariant.count)) in
-    record {
-      stands =
-          rw (
-            c.in_ok-push.ensures.items,
-            take_more events i c.event-item.result lt,
-            ← c.event-item.is,
-            history_more (take i events) c.loop-event.all.items c.event-item.result c.in_ok-take.field-0 counts,
-          )
-          (subst (λ x. StandsFor (chosen c.args.options) c.take.new.self (x ∷ reverse (answered (take i events) c.loop-event.all.items)))
-          (same_step c.in_ok-copy.field-0 c.event-item.result c.in_ok-take.field-0.items c.in_ok-copy.ensures)
-          (c.in_ok-take.ensures.ok (chosen c.args.options) (reverse (answered (take i events) c.loop-event.all.items)) c.loop-event.invariant.stands));
-      count = rw c.in_ok-push.ensures.items (simp length-append (omega (arith, c.loop-event.invariant.count)));
-    }
 
 pub returns-clause-run : goal.returns-clause-run
 returns-clause-run c =
-    let i = c.loop-event.event-index in
     let events = c.args.events.now in
-    let all : take i events ≡ events = take_all i events (omega arith) in
-    subst (λ es. Good (chosen c.args.options) (reverse (answered es c.loop-event.all.items))) all (good c.loop-event.invariant.stands.stands)
+    IfOk-weaker
+    c.take_all-all.result
+    (λ all. (o : Chosen) → StandsFor o c.in_ok-client.client [] → StandsFor o c.take_all-all.new.self (reverse (answered events all.items)))
+    (λ all. Good (chosen c.args.options) (reverse (answered events all.items)))
+    (λ all stands. good (stands (chosen c.args.options) c.in_ok-client.ensures.stands).stands)
+    c.take_all-all.ensures.stands

@@ -1,0 +1,3 @@
+mod KeyTexts
+mod Once
+mod Puts

@@ -1,2 +1,5 @@
+pub mod Laws
+pub mod Lending
 pub mod Machine
 pub mod Manager
+pub mod Series

@@ -1,15 +1,14 @@
 -- The searches as machines: what each says after the outcomes that it was told.  (Pulsar binary protocol, Partitioned topics
 -- discovery; Topic lookup; Producer; Consumer)
-use Rattle.std.specs.Prelude.{◌≡◌, ℕ, List, [], ◌∷◌, map, Option, Some, Result, Ok, Err}
+use Rattle.std.specs.Prelude.{◌≡◌, ℕ, List, [], ◌∷◌, map, Some, Result, Ok, Err}
 use Rattle.pulsar_wire.specs.declared.error.ConnectionError.{ConnectionError}
 use Rattle.pulsar_frame.specs.Message.{MessageValues}
 use Rattle.pulsar_frame.specs.Shown.{message_values}
 use Rattle.pulsar_session.specs.Failures.{Disconnected, Failure, OfConnection, failure, fault}
 use Rattle.pulsar_session.specs.Link.{message_of}
 use Rattle.pulsar_session.specs.Reply.{reply}
-use Rattle.pulsar_plans.specs.Address.{Named, Place, named, place}
+use Rattle.pulsar_plans.specs.Address.{Place, named, place}
 use Rattle.pulsar_plans.specs.Plans as plans
-use Rattle.pulsar_plans.specs.declared.making.Served.{Served}
 use Rattle.pulsar_plans.specs.declared.plan.Answer.{Answer}
 use Rattle.pulsar_plans.specs.declared.plan.Answer.TheVariants as answer
 use Rattle.pulsar_plans.specs.declared.plan.Plan.{Plan}

@@ -1,8 +1,7 @@
--- Which connection serves an address. An address has a series of attempts: one runs, or its next one is waited for, or its
--- connection is ready. It is found by its key, and what is known of a connection by its number.  (Pulsar binary protocol, Connection
--- establishment; Topic lookup)
-use Rattle.std.specs.Prelude.{◌≡◌, ℕ, ◌+◌, ◌-◌, ◌^◌, nat_lt, nat_le, Bool, true, false, ◌&&◌, List, bytes_eq, Option, Some, None, Ok, Err, ◌==◌, if◌then◌else◌}
-use Rattle.std.specs.BTreeMap.{get, get_by_text}
+-- Which connection serves an address: the one that is ready, or that comes of the series of attempts that runs.  (Pulsar binary
+-- protocol, Connection establishment; Topic lookup)
+use Rattle.std.specs.Prelude.{◌≡◌, ℕ, ◌+◌, ◌-◌, ◌^◌, nat_lt, nat_le, Bool, true, false, ◌&&◌, List, Option, Some, None, Ok, Err, ◌==◌, if◌then◌else◌}
+use Rattle.std.specs.BTreeMap.{get}
 use Rattle.std.specs.Option.{option_map}
 use Rattle.std.specs.Ordering.{nat_cmp}
 use Rattle.pulsar_wire.specs.Authentication.{Retriable}
@@ -11,62 +10,48 @@ use Rattle.pulsar_wire.specs.declared.error.ConnectionError.{ConnectionError}
 use Rattle.pulsar_wire.specs.declared.error.ConnectionError.TheVariants as error
 use Rattle.pulsar_messages.specs.Content.{authentication_values}
 use Rattle.pulsar_session.specs.Failures.{Fault, Io, Authentication, NotFound, Exhausted, NoMemory, fault}
-use Rattle.pulsar_session.specs.Link as link
+use Rattle.pulsar_session.specs.Link as session
 use Rattle.pulsar_session.specs.declared.states.Stage.{Stage}
 use Rattle.pulsar_session.specs.declared.states.Stage.TheVariants.{Dialing, Handshaking, Ready, Over}
 use Rattle.url.specs.Parser.{Parsed, parse_url}
 use Rattle.url.specs.Parts.{Parts}
-use Rattle.pulsar_plans.specs.Address.{Place, address_key, base_of, behind, is_reachable}
+use Rattle.pulsar_plans.specs.Address.{Place, base_of, behind, is_reachable}
 use Rattle.pulsar_plans.specs.Backoff.{backoff, capped, connection_id, jitter, one_more}
 use Rattle.pulsar_plans.specs.declared.turn.Ways.{Ways}
 use Rattle.pulsar_discovery.specs.declared.manager.ConnectionManager.{ConnectionManager}
 use Rattle.pulsar_discovery.specs.declared.manager.Got.{Got}
 use Rattle.pulsar_discovery.specs.declared.manager.Got.TheVariants as got
-use Rattle.pulsar_discovery.specs.declared.manager.Phase.{Phase}
-use Rattle.pulsar_discovery.specs.declared.manager.Phase.TheVariants.{Runs, Pauses, Serves}
-use Rattle.pulsar_discovery.specs.declared.manager.Seat.{Seat}
+use Rattle.pulsar_discovery.specs.declared.addresses.Phase.{Phase}
+use Rattle.pulsar_discovery.specs.declared.addresses.Phase.TheVariants.{Runs, Pauses, Serves}
+use Rattle.pulsar_discovery.specs.declared.addresses.Seat.{Seat}
 use Rattle.pulsar_discovery.specs.declared.manager.Seen.{Seen}
 use Rattle.pulsar_discovery.specs.declared.manager.Seen.TheVariants as seen
 use Rattle.pulsar_discovery.specs.declared.manager.Terms.{Terms}
+use Rattle.pulsar_discovery.specs.Series.{IsSeries, Series, begun, in_phase, no_series, put_at, reseated, series, standing, without}
 
 -- WHAT IS KNOWN
 
--- How connections are made, and how many were started; the newest of an address, by the address's key; and what is known of one
--- that has not ended, or whose next attempt is waited for
+-- how connections are made, and how many were started; the series of their addresses; and what is seen of those that have not ended
 pub record Known : Type 0 where
   pub terms : Terms
   pub links : ℕ
-  pub link_of : (key : List ℕ) → Option ℕ
-  pub seat : ℕ → Option Seat
-  pub connection : ℕ → Option link.Seen
+  pub series : Series
+  pub connection : ℕ → Option session.Seen
 
 abbrev pub known : ConnectionManager → Known
 known m =
-    record {
-      terms = m.terms;
-      links = m.links;
-      link_of = λ key. get_by_text m.link_of key;
-      seat = λ l. get nat_cmp m.seats l;
-      connection = λ l. get nat_cmp m.connections l;
-    }
+    record { terms = m.terms; links = m.links; series = series m.addresses; connection = λ l. get nat_cmp m.connections l }
 
 -- the same is known
 pub record Is (a b : Known) : Type 0 where
   pub terms : a.terms ≡ b.terms
   pub links : a.links ≡ b.links
-  pub link_of : (key : List ℕ) → a.link_of key ≡ b.link_of key
-  pub seat : (l : ℕ) → a.seat l ≡ b.seat l
+  pub series : IsSeries a.series b.series
   pub connection : (l : ℕ) → a.connection l ≡ b.connection l
-
-abbrev pub put_at : {A : Type 0} → ℕ → Option A → (ℕ → Option A) → ℕ → Option A
-put_at n x f l = if l == n then x else f l
-
-abbrev pub put_key : List ℕ → Option ℕ → (List ℕ → Option ℕ) → List ℕ → Option ℕ
-put_key key x f k = if bytes_eq key k then x else f k
 
 -- nothing is known of a connection yet
 abbrev pub fresh : Terms → Known
-fresh t = record { terms = t; links = 0; link_of = λ key. None; seat = λ l. None; connection = λ l. None }
+fresh t = record { terms = t; links = 0; series = no_series; connection = λ l. None }
 
 -- where the client looks first
 abbrev pub ways_of : Terms → Ways
@@ -87,14 +72,6 @@ IsNoAddress error.NotFound base = base ≡ None
 IsNoAddress _ base = ⊥
 
 -- GET
-
--- where the series of a key stands
-abbrev pub standing_at : Option ℕ → (ℕ → Option Seat) → Option (ℕ × Phase)
-standing_at None seats = None
-standing_at (Some l) seats = option_map (λ s. (l, s.phase)) (seats l)
-
-abbrev pub standing : Place → Known → Option (ℕ × Phase)
-standing p k = standing_at (k.link_of (address_key p)) k.seat
 
 -- what one who wants a connection gets: one that is ready, one that he starts, or the end of the attempts that run
 pub data GotValues : Type 0 where
@@ -128,10 +105,10 @@ got_by (Some (l, Pauses r)) n = GotWaiting
 got_by (Some (l, Serves since)) n = GotReady l
 
 abbrev pub gets : Place → Known → GotValues
-gets p k = if is_reachable p then got_by (standing p k) k.links else GotRefused NotFound
+gets p k = if is_reachable p then got_by (standing p k.series) k.links else GotRefused NotFound
 
 -- a connection that is started: its id is drawn, and behind a proxy it tells the broker that it wants
-abbrev pub setup : Terms → Place → (link now : ℕ) → link.Setup
+abbrev pub setup : Terms → Place → (link now : ℕ) → session.Setup
 setup t p l now =
     record {
       id = connection_id t.seed l;
@@ -145,31 +122,24 @@ setup t p l now =
       made = now;
     }
 
-abbrev pub seat_of : Place → Phase → Seat
-seat_of p phase = record { address = p; phase = phase }
-
 abbrev pub starts : Place → (retries now : ℕ) → Known → Known
 starts p r now k =
     record {
       terms = k.terms;
       links = k.links + 1;
-      link_of = put_key (address_key p) (Some k.links) k.link_of;
-      seat = put_at k.links (Some (seat_of p (Runs r))) k.seat;
-      connection = put_at k.links (Some (link.fresh (setup k.terms p k.links now))) k.connection;
+      series = begun k.links p r k.series;
+      connection = put_at k.links (Some (session.fresh (setup k.terms p k.links now))) k.connection;
     }
-
-abbrev pub in_phase : ℕ → Place → Phase → Known → Known
-in_phase l p phase k = record k { seat = put_at l (Some (seat_of p phase)) k.seat }
 
 -- a ready connection is marked as got now
 abbrev pub after_got : Place → (now : ℕ) → Option (ℕ × Phase) → Known → Known
 after_got p now None k = if is_spent k.links then k else starts p 0 now k
 after_got p now (Some (l, Runs r)) k = k
 after_got p now (Some (l, Pauses r)) k = k
-after_got p now (Some (l, Serves since)) k = in_phase l p (Serves now) k
+after_got p now (Some (l, Serves since)) k = record k { series = in_phase l p (Serves now) k.series }
 
 abbrev pub after_get : Place → (now : ℕ) → Known → Known
-after_get p now k = if is_reachable p then after_got p now (standing p k) k else k
+after_get p now k = if is_reachable p then after_got p now (standing p k.series) k else k
 
 -- LOOK: what a connection has become
 
@@ -183,7 +153,7 @@ is_retryable _ = false
 abbrev pub seen_failed : Terms → (link retries : ℕ) → Option Fault → Seen
 seen_failed t l r e =
     if is_retryable e && nat_lt r t.connection.max_retries then
-      seen.Retry (backoff t.connection.min_backoff t.connection.max_backoff r (jitter t.seed l))
+    seen.Retry (backoff t.connection.min_backoff t.connection.max_backoff r (jitter t.seed l))
     else seen.Failed
 
 abbrev pub seen_running : Terms → (link retries : ℕ) → Stage → Option Fault → Seen
@@ -192,18 +162,18 @@ seen_running t l r Handshaking e = seen.Same
 seen_running t l r Ready e = seen.Ready
 seen_running t l r Over e = seen_failed t l r e
 
-abbrev pub seen_by : Terms → (link : ℕ) → Phase → link.Seen → Seen
+abbrev pub seen_by : Terms → (link : ℕ) → Phase → session.Seen → Seen
 seen_by t l (Runs r) c = seen_running t l r c.stage c.error
 seen_by t l (Pauses r) c = seen.Same
-seen_by t l (Serves since) c = if link.is_over c.stage then seen.Ended else seen.Same
+seen_by t l (Serves since) c = if session.is_over c.stage then seen.Ended else seen.Same
 
-abbrev pub seen_at : Terms → (link : ℕ) → Option Seat → Option link.Seen → Seen
+abbrev pub seen_at : Terms → (link : ℕ) → Option Seat → Option session.Seen → Seen
 seen_at t l None c = seen.Same
 seen_at t l (Some s) None = seen.Same
 seen_at t l (Some s) (Some c) = seen_by t l s.phase c
 
 abbrev pub looks : (link : ℕ) → Known → Seen
-looks l k = seen_at k.terms l (k.seat l) (k.connection l)
+looks l k = seen_at k.terms l (k.series.seat l) (k.connection l)
 
 abbrev pub retries_of : Phase → ℕ
 retries_of (Runs r) = r
@@ -226,21 +196,20 @@ is_over (seen.Retry delay) = true
 is_over seen.Failed = true
 is_over seen.Ended = true
 
--- where a series goes on it has its seat, and where not its address is free
-abbrev pub reseated : (link : ℕ) → Place → Option Phase → Known → Known
-reseated l p (Some phase) k = in_phase l p phase k
-reseated l p None k = record k { seat = put_at l None k.seat; link_of = put_key (address_key p) None k.link_of }
-
 -- nothing is kept of a connection that has ended
-abbrev pub cleared : (link : ℕ) → (over : Bool) → Known → Known
-cleared l over k = if over then record k { connection = put_at l None k.connection } else k
+abbrev pub left_of : (link : ℕ) → (over : Bool) → (ℕ → Option session.Seen) → ℕ → Option session.Seen
+left_of l over f n = if over then put_at l None f n else f n
 
 abbrev pub after_seen : (link now : ℕ) → Option Seat → Seen → Known → Known
 after_seen l now None what k = k
-after_seen l now (Some s) what k = cleared l (is_over what) (reseated l s.address (phase_after now s.phase what) k)
+after_seen l now (Some s) what k =
+    record k {
+      series = reseated l s.address (phase_after now s.phase what) k.series;
+      connection = left_of l (is_over what) k.connection;
+    }
 
 abbrev pub after_look : (link now : ℕ) → Known → Known
-after_look l now k = after_seen l now (k.seat l) (looks l k) k
+after_look l now k = after_seen l now (k.series.seat l) (looks l k) k
 
 -- AGAIN: the next attempt of a series
 
@@ -257,10 +226,10 @@ is_pausing (Some s) = is_pause s.phase
 abbrev pub after_again_at : (link now : ℕ) → Option Seat → Known → Known
 after_again_at l now None k = k
 after_again_at l now (Some s) k =
-    starts s.address (one_more (retries_of s.phase)) now (record k { seat = put_at l None k.seat })
+    starts s.address (one_more (retries_of s.phase)) now (record k { series = without l k.series })
 
 abbrev pub after_again : (link now : ℕ) → Known → Known
-after_again l now k = after_again_at l now (k.seat l) k
+after_again l now k = after_again_at l now (k.series.seat l) k
 
 -- THE IDLE CHECK
 
@@ -269,14 +238,14 @@ is_unused_since t now (Runs r) = false
 is_unused_since t now (Pauses r) = false
 is_unused_since t now (Serves since) = nat_le (capped (since + t.connection.connection_max_idle)) now
 
-abbrev pub is_idle_by : Terms → (now : ℕ) → Phase → link.Seen → Bool
-is_idle_by t now phase c = link.is_ready c.stage && is_unused_since t now phase
+abbrev pub is_idle_by : Terms → (now : ℕ) → Phase → session.Seen → Bool
+is_idle_by t now phase c = session.is_ready c.stage && is_unused_since t now phase
 
-abbrev pub is_idle_at : Terms → (now : ℕ) → Option Seat → Option link.Seen → Bool
+abbrev pub is_idle_at : Terms → (now : ℕ) → Option Seat → Option session.Seen → Bool
 is_idle_at t now None c = false
 is_idle_at t now (Some s) None = false
 is_idle_at t now (Some s) (Some c) = is_idle_by t now s.phase c
 
 -- a ready connection was not got for so long
 abbrev pub is_idle : (link now : ℕ) → Known → Bool
-is_idle l now k = is_idle_at k.terms now (k.seat l) (k.connection l)
+is_idle l now k = is_idle_at k.terms now (k.series.seat l) (k.connection l)

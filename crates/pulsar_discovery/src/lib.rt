@@ -1,6 +1,7 @@
 //! Which connection serves an address, and how brokers are found and asked.
 #![tactic(auto)]
 
+pub mod addresses;
 pub mod discovery;
 pub mod laws;
 pub mod machine;

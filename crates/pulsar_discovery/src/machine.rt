@@ -5,7 +5,7 @@ ghost use Rattle.pulsar_plans.specs.Plans.{fails};
 ghost use Rattle.pulsar_session.specs.Failures.{Disconnected};
 ghost use Rattle.pulsar_discovery.specs.Machine.{Extends, Goes, StandsFor, does, lost, stands, step, step_of, told, turns};
 
-use crate::outcome::{Next, Outcome, Told, found, message_of, told};
+use crate::outcome::{Next, Outcome, Told, content_of, found_by, message_of};
 use pulsar_plans::content::{Cause, Refusal};
 use pulsar_plans::plan::{self, Answer, Plan, Procedure};
 use pulsar_plans::turn::{Action, Outcome as Happened, Turn, Ways};
@@ -53,7 +53,7 @@ impl Machine {
         let Some(stage) = self.stage.take() else {
             return Err(NoMemory);
         };
-        let told = told(self.alloc, outcome)?;
+        let told = content_of(self.alloc, outcome)?;
         let turn = turns(self.alloc, &self.ways, stage, told)?;
         let (stage, next) = said(self.alloc, turn)?;
         self.stage = Some(stage);
@@ -98,16 +98,13 @@ fn lost(alloc: Global) -> Result<Turn<Plan, Result<Answer, Refusal>>, NoMemory>
 }
 
 /// Where a machine stands after a turn, and what it says.
-fn said(
-    alloc: Global,
-    turn: Turn<Plan, Result<Answer, Refusal>>,
-) -> Result<(Stage, Next), NoMemory>
+fn said(alloc: Global, turn: Turn<Plan, Result<Answer, Refusal>>) -> Result<(Stage, Next), NoMemory>
     ensures stage { IfOk result (λ s. s.0 ≡ stands turn) }
     ensures next { IfOk result (λ s. step s.1 ≡ step_of turn) }
 {
     match turn {
         Turn::Stays(plan, action) => Ok((Stage::On(plan), done(alloc, action)?)),
-        Turn::Gives(Ok(answer)) => Ok((Stage::Over, Next::Done(found(answer)))),
+        Turn::Gives(Ok(answer)) => Ok((Stage::Over, Next::Done(found_by(answer)))),
         Turn::Gives(Err(refusal)) => Ok((Stage::Over, Next::Refuse(refusal.into_inner()))),
     }
 }
@@ -119,7 +116,8 @@ fn done(alloc: Global, action: Action) -> Result<Next, NoMemory>
     match action {
         Action::Get(address) => Ok(Next::Get(address.into_inner())),
         Action::Ask { link, request } => {
-            let message = message_of(alloc, request.into_inner())?;
+            let question = request.into_inner();
+            let message = message_of(alloc, &question)?;
             Ok(Next::Ask(link, message))
         }
         Action::Wait(delay) => Ok(Next::Wait(delay)),

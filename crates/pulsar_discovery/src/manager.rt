@@ -1,16 +1,17 @@
 //! Which connection serves an address.
 
-ghost use Rattle.std.specs.Prelude.{◌≡◌, ◌<◌, ◌-◌, ◌^◌, ℕ, List, Some, None, IfOk, IfErr, OnOk, IsTrue, string_bytes};
-ghost use Rattle.std.specs.BTreeMap.{get, get_by_text};
-ghost use Rattle.std.specs.Option.{option_copied, option_map};
+ghost use Rattle.std.specs.Prelude.{◌≡◌, ◌<◌, ◌-◌, ◌^◌, ℕ, Some, None, IfOk, IfErr, OnOk, IsTrue, string_bytes};
+ghost use Rattle.std.specs.BTreeMap.{get};
+ghost use Rattle.std.specs.Option.{option_copied, option_copied_mut, option_map};
 ghost use Rattle.std.specs.Ordering.{nat_cmp};
 ghost use Rattle.pulsar_messages.specs.Content.{authentication_values};
 ghost use Rattle.pulsar_session.specs.Failures.{fault};
-ghost use Rattle.pulsar_session.specs.Link as link;
+ghost use Rattle.pulsar_session.specs.Link as session;
 ghost use Rattle.pulsar_plans.specs.Address.{base_of, place};
 ghost use Rattle.pulsar_discovery.specs.Manager as meaning;
 ghost use Rattle.pulsar_discovery.specs.Manager.{Is, OnGot, known};
 
+use crate::addresses::{Addresses, Phase, set};
 use pulsar_messages::Authentication;
 use pulsar_plans::content::Address;
 use pulsar_plans::options::backoff;
@@ -51,24 +52,6 @@ pub enum Seen {
     Ended,
 }
 
-/// Where the series of an address stands.
-#[derive(Clone, Copy)]
-pub enum Phase {
-    /// An attempt runs, behind so many retries.
-    Runs { retries: u32 },
-    /// The next attempt is waited for.
-    Pauses { retries: u32 },
-    /// A connection is ready, which was last got at this moment.
-    Serves { got: u64 },
-}
-
-/// A connection's address, and where its series stands.
-#[derive(Drop)]
-pub struct Seat {
-    pub address: Address,
-    pub phase: Phase,
-}
-
 /// How connections are made.
 #[derive(Drop)]
 pub struct Terms {
@@ -88,14 +71,15 @@ pub struct ConnectionManager {
     terms: Terms,
     /// How many connections were started.
     links: u64,
-    /// The newest connection of an address, by the address's key.
-    link_of: BTreeMap<String, u64>,
-    /// The connections that have not ended, and those whose next attempt is waited for.
-    seats: BTreeMap<u64, Seat>,
+    addresses: Addresses,
+    /// The connections that have not ended.
     connections: BTreeMap<u64, Connection>,
 }
 
 impl ConnectionManager {
+    ghost use Rattle.std.specs.Borrow.{sem};
+    ghost use Rattle.pulsar_discovery.specs.Lending.{LendsLink};
+
     /// A manager without a connection, for the service of this URL.
     pub fn new(
         alloc: Global,
@@ -135,8 +119,7 @@ impl ConnectionManager {
             alloc,
             terms,
             links: 0,
-            link_of: BTreeMap::new(alloc),
-            seats: BTreeMap::new(alloc),
+            addresses: Addresses::new(alloc),
             connections: BTreeMap::new(alloc),
         })
     }
@@ -207,19 +190,8 @@ impl ConnectionManager {
         if !address.is_reachable() {
             return Ok(Got::Refused(ConnectionError::NotFound));
         }
-        let standing = self.standing(&address)?;
+        let standing = self.addresses.standing(&address)?;
         self.get_at(address, now, standing)
-    }
-
-    /// Where the series of an address stands.
-    fn standing(&self, address: &Address) -> Result<Option<(u64, Phase)>, NoMemory>
-        ensures { IfOk result (λ s. s ≡ meaning.standing address.now (known self.now)) }
-    {
-        let key = address.key(self.alloc)?;
-        Ok(match self.link_of.get(key.as_str()) {
-            Some(link) => standing_of(&self.seats, *link),
-            None => None,
-        })
     }
 
     /// What one gets whose address has this series.
@@ -238,7 +210,7 @@ impl ConnectionManager {
                 Phase::Runs { .. } | Phase::Pauses { .. } => Ok(Got::Waiting),
                 Phase::Serves { .. } => {
                     let phase = Phase::Serves { got: now };
-                    set(&mut self.seats, link, Some(Seat { address, phase }))?;
+                    self.addresses.put(link, address, Some(phase))?;
                     Ok(Got::Ready(link))
                 }
             },
@@ -265,17 +237,17 @@ impl ConnectionManager {
     {
         let link = self.links;
         let connection = dial(self.alloc, &self.terms, &address, link, now)?;
-        let key = address.key(self.alloc)?;
-        let phase = Phase::Runs { retries };
-        set_link(&mut self.link_of, key, Some(link))?;
-        set(&mut self.seats, link, Some(Seat { address, phase }))?;
+        self.addresses.begin(link, address, retries)?;
         set(&mut self.connections, link, Some(connection))?;
         self.links += 1;
         Ok(link)
     }
 
     /// A connection that has not ended. It is told its events by this loan.
-    pub fn link(&mut self, link: u64) -> Option<&mut Connection> {
+    pub fn link(&mut self, link: u64) -> Option<&mut Connection>
+        ensures* writes_back { sem 𝓛 (LendsLink self.entry link result) }
+        ensures value { option_copied_mut result ≡ (known self.old).connection link }
+    {
         self.connections.get_mut(&link)
     }
 
@@ -292,9 +264,9 @@ impl ConnectionManager {
     fn looks(&self, link: u64) -> Seen
         ensures { result ≡ meaning.looks link (known self.now) }
     {
-        match self.seats.get(&link) {
-            Some(seat) => match self.connections.get(&link) {
-                Some(connection) => seen_by(&self.terms, link, seat.phase, connection),
+        match self.addresses.phase(link) {
+            Some(phase) => match self.connections.get(&link) {
+                Some(connection) => seen_by(&self.terms, link, phase, connection),
                 None => Seen::Same,
             },
             None => Seen::Same,
@@ -303,51 +275,32 @@ impl ConnectionManager {
 
     /// What became of a connection is kept.
     fn settle(&mut self, link: u64, now: u64, seen: Seen) -> Result<(), NoMemory>
-        ensures { OnOk result (Is (known self.new) (meaning.after_seen link now ((known self.old).seat link) seen (known self.old))) }
+        ensures { OnOk result (Is (known self.new) (meaning.after_seen link now ((known self.old).series.seat link) seen (known self.old))) }
     {
-        let Some(seat) = self.seats.remove(&link) else {
+        let Some(seat) = self.addresses.take(link) else {
             return Ok(());
         };
-        self.reseat(link, seat.address, phase_after(now, seat.phase, seen))?;
-        if is_over(seen) {
-            let _ = self.connections.remove(&link);
-        }
+        self.addresses
+            .put(link, seat.address, phase_after(now, seat.phase, seen))?;
+        clear(&mut self.connections, link, is_over(seen))?;
         Ok(())
-    }
-
-    /// Where a series goes on it has its seat, and where not its address is free.
-    fn reseat(
-        &mut self,
-        link: u64,
-        address: Address,
-        phase: Option<Phase>,
-    ) -> Result<(), NoMemory>
-        ensures { OnOk result (Is (known self.new) (meaning.reseated link address phase (known self.old))) }
-    {
-        match phase {
-            Some(phase) => set(&mut self.seats, link, Some(Seat { address, phase })),
-            None => {
-                let key = address.key(self.alloc)?;
-                set(&mut self.seats, link, None)?;
-                set_link(&mut self.link_of, key, None)
-            }
-        }
     }
 
     /// The next attempt of the series of a connection whose attempt failed, and its number. There is want of memory where no
     /// number is left.
     pub fn again(&mut self, link: u64, now: u64) -> Result<u64, NoMemory>
-        requires { IsTrue (meaning.is_pausing ((known self.old).seat link)) }
+        requires { IsTrue (meaning.is_pausing ((known self.old).series.seat link)) }
         ensures link { IfOk result (λ l. l ≡ self.old.links) }
         ensures known { OnOk result (Is (known self.new) (meaning.after_again link now (known self.old))) }
     {
         if self.links == u64::MAX {
             return Err(NoMemory);
         }
-        match self.seats.remove(&link) {
+        match self.addresses.take(link) {
             Some(seat) => {
                 let retries = retries_of(seat.phase).saturating_add(1);
-                self.start(seat.address, retries, now)
+                let next = self.start(seat.address, retries, now)?;
+                Ok(next)
             }
             None => Err(NoMemory),
         }
@@ -357,9 +310,9 @@ impl ConnectionManager {
     pub fn idle(&self, link: u64, now: u64) -> bool
         ensures { result ≡ meaning.is_idle link now (known self.now) }
     {
-        match self.seats.get(&link) {
-            Some(seat) => match self.connections.get(&link) {
-                Some(connection) => is_idle(&self.terms, now, seat.phase, connection),
+        match self.addresses.phase(link) {
+            Some(phase) => match self.connections.get(&link) {
+                Some(connection) => is_idle(&self.terms, now, phase, connection),
                 None => false,
             },
             None => false,
@@ -393,16 +346,6 @@ fn boxed(alloc: Global, address: &BrokerAddress) -> Result<Address, NoMemory>
     Address::new(alloc, address.copy()?)
 }
 
-/// Where the series of a connection stands.
-fn standing_of(seats: &BTreeMap<u64, Seat>, link: u64) -> Option<(u64, Phase)>
-    ensures { result ≡ meaning.standing_at (Some link) (λ l. get nat_cmp seats.now l) }
-{
-    match seats.get(&link) {
-        Some(seat) => Some((link, seat.phase)),
-        None => None,
-    }
-}
-
 /// A connection that is started.
 fn dial(
     alloc: Global,
@@ -411,7 +354,7 @@ fn dial(
     link: u64,
     now: u64,
 ) -> Result<Connection, NoMemory>
-    ensures { IfOk result (λ c. c ≡ link.fresh (meaning.setup terms.now address.now link now)) }
+    ensures { IfOk result (λ c. c ≡ session.fresh (meaning.setup terms.now address.now link now)) }
 {
     Connection::new(
         alloc,
@@ -436,40 +379,12 @@ fn copy_auth(auth: &Option<Authentication>) -> Result<Option<Authentication>, No
     }
 }
 
-/// What is known of a connection is set, or forgotten.
-fn set<T: Drop>(
-    all: &mut BTreeMap<u64, T>,
-    number: u64,
-    value: Option<T>,
-) -> Result<(), NoMemory>
-    ensures { OnOk result ((n : ℕ) → get nat_cmp all.new n ≡ meaning.put_at number value (λ m. get nat_cmp all.old m) n) }
+/// Nothing is kept of a connection that is over.
+fn clear(connections: &mut BTreeMap<u64, Connection>, link: u64, over: bool) -> Result<(), NoMemory>
+    ensures { OnOk result ((l : ℕ) → get nat_cmp connections.new l ≡ meaning.left_of link over (λ m. get nat_cmp connections.old m) l) }
 {
-    match value {
-        None => {
-            let _ = all.remove(&number);
-        }
-        Some(value) => {
-            all.insert(number, value)?;
-        }
-    }
-    Ok(())
-}
-
-/// The newest connection of an address is set, or forgotten.
-fn set_link(
-    all: &mut BTreeMap<String, u64>,
-    key: String,
-    link: Option<u64>,
-) -> Result<(), NoMemory>
-    ensures { OnOk result ((k : List ℕ) → get_by_text all.new k ≡ meaning.put_key (string_bytes key) link (λ j. get_by_text all.old j) k) }
-{
-    match link {
-        None => {
-            let _ = all.remove(key.as_str());
-        }
-        Some(link) => {
-            all.insert(key, link)?;
-        }
+    if over {
+        set(connections, link, None)?;
     }
     Ok(())
 }
@@ -493,20 +408,11 @@ fn seen_by(terms: &Terms, link: u64, phase: Phase, connection: &Connection) -> S
 }
 
 /// What follows an attempt that failed so.
-fn seen_failed(
-    terms: &Terms,
-    link: u64,
-    retries: u32,
-    error: Option<&ConnectionError>,
-) -> Seen
+fn seen_failed(terms: &Terms, link: u64, retries: u32, error: Option<&ConnectionError>) -> Seen
     ensures { result ≡ meaning.seen_failed terms.now link retries (option_map fault (option_copied error.entry)) }
 {
     if is_retryable(error) && retries < terms.connection.max_retries {
-        Seen::Retry(backoff(
-            &terms.connection,
-            retries,
-            jitter(terms.seed, link),
-        ))
+        Seen::Retry(backoff(&terms.connection, retries, jitter(terms.seed, link)))
     } else {
         Seen::Failed
     }

@@ -1,6 +1,6 @@
 -- Where a broker is reached.  (URL Standard, section 4.4, URL parsing, and section 3.5, host serializing; Pulsar binary protocol,
 -- Topic lookup)
-use Rattle.std.specs.Prelude.{ℕ, Bool, true, false, ◌&&◌, List, ◌++◌, length, bytes_eq, codes, decimal, Option, Some, None, unwrap_or, Ok, Err, String, string_bytes, if◌then◌else◌}
+use Rattle.std.specs.Prelude.{ℕ, Bool, false, ◌&&◌, List, ◌++◌, length, bytes_eq, codes, decimal, Option, Some, None, unwrap_or, Ok, Err, String, string_bytes, if◌then◌else◌}
 use Rattle.std.specs.Option.{is_some}
 use Rattle.url.specs.declared.host.Host.{Host}
 use Rattle.url.specs.Host.{host_text}

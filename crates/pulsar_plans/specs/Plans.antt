@@ -1,12 +1,12 @@
 -- Plans: machines over the outcomes of what they do. A state is told an outcome; it stays in a state, with what is done there, or it
 -- gives its value. A line is a rule of the protocol.  (Pulsar binary protocol, Partitioned topics discovery; Topic lookup; Producer;
 -- Consumer)
-use Rattle.std.specs.Prelude.{ℕ, ◌+◌, ◌-◌, Bool, true, false, ◌&&◌, ◌||◌, List, [], ◌∷◌, ◌++◌, codes, decimal, Option, Some, None, Result, Ok, Err, ◌==◌, if◌then◌else◌}
+use Rattle.std.specs.Prelude.{ℕ, ◌-◌, Bool, true, false, ◌&&◌, ◌||◌, List, [], ◌∷◌, ◌++◌, codes, decimal, Option, Some, Result, Ok, Err, ◌==◌, if◌then◌else◌}
 use Rattle.std.specs.List.{starts_with}
 use Rattle.pulsar_wire.specs.declared.commands.enumerations.ServerError.{ServerError}
 use Rattle.pulsar_wire.specs.declared.commands.enumerations.ServerError.TheVariants.{ConsumerBusy, ServiceNotReady, ProducerBlockedQuotaExceededError, ProducerBlockedQuotaExceededException, ProducerBusy}
 use Rattle.pulsar_wire.specs.declared.error.IoKind.TheVariants.{TimedOut}
-use Rattle.pulsar_messages.specs.Words.{Words, LookupPartitionedTopic, LookupTopic}
+use Rattle.pulsar_messages.specs.Words.{LookupPartitionedTopic, LookupTopic}
 use Rattle.pulsar_session.specs.Failures.{Fault, Io, PulsarError, Disconnected, Failure, OfConnection}
 use Rattle.pulsar_session.specs.Reply.{Reply, is_body}
 use Rattle.pulsar_plans.specs.Address.{Place, Named}
@@ -27,7 +27,6 @@ use Rattle.pulsar_plans.specs.declared.count.Counting.TheVariants as count
 use Rattle.pulsar_plans.specs.declared.look.Search.{Search}
 use Rattle.pulsar_plans.specs.declared.look.Looking.{Looking}
 use Rattle.pulsar_plans.specs.declared.look.Looking.TheVariants as look
-use Rattle.pulsar_plans.specs.declared.names.Part.{Part}
 use Rattle.pulsar_plans.specs.declared.names.Naming.{Naming}
 use Rattle.pulsar_plans.specs.declared.names.Naming.TheVariants as name
 use Rattle.pulsar_plans.specs.declared.retry.Retrying.{Retrying}

@@ -1,7 +1,6 @@
-use Rattle.std.proofs.Common.{◌≡◌, codes}
+use Rattle.std.proofs.Common.{codes}
 use Rattle.std.specs.Cmp.{both_ways}
 use Rattle.std.proofs.lemmas.Str.Pattern.{contains_text}
-use Rattle.pulsar_plans.specs.Plans.{mentions}
 use Rattle.pulsar_plans.proofs.Mentions.{found, finds}
 use Rattle.pulsar_plans.proofs.count.is_partition.Goals as goal
 

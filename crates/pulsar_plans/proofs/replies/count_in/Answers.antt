@@ -1,6 +1,4 @@
-use Rattle.std.proofs.Common.{◌≡◌, ◌∙◌, sym, ap, subst, refl, Some, None, IfOk, rules}
-use Rattle.pulsar_wire.specs.Views.{body_values}
-use Rattle.pulsar_session.specs.Reply.{read_body}
+use Rattle.std.proofs.Common.{◌≡◌, ◌∙◌, ap, subst, Some, None, IfOk}
 use Rattle.pulsar_plans.specs.Replies.{count_in}
 use Rattle.pulsar_plans.specs.declared.replies.Heard.TheVariants.{Denies}
 use Rattle.pulsar_plans.proofs.Keys.{count_read}

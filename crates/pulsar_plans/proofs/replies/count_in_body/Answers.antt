@@ -1,4 +1,3 @@
-use Rattle.std.proofs.Common.{◌≡◌}
 use Rattle.pulsar_plans.proofs.replies.count_in_body.Goals as goal
 
 pub returns-in-PartitionedTopicMetadataResponse : goal.returns-in-PartitionedTopicMetadataResponse

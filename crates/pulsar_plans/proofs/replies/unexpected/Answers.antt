@@ -1,4 +1,4 @@
-use Rattle.std.proofs.Common.{rules, ◌≡◌, [], ◌∙◌, false, Some, None, ◌==◌, ap, refl, subst, IfOk}
+use Rattle.std.proofs.Common.{rules, ◌≡◌, ◌∙◌, false, Some, None, ◌==◌, ap, refl, subst, IfOk}
 use Rattle.pulsar_wire.specs.Views.{body_values}
 use Rattle.pulsar_wire.specs.Command.{BodyValues, body_name}
 use Rattle.pulsar_wire.specs.declared.commands.base.Body.{Body}

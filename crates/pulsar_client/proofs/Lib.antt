@@ -12,6 +12,7 @@ pub mod Acts
 pub mod Instances
 pub mod Plain
 pub mod Ticketed
+pub mod Turning
 pub mod Made
 pub mod Counting
 pub mod Built

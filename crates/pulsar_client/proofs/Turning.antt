@@ -1,0 +1,169 @@
+-- What an act turns: nothing where its link stays as it is, and else its address, the attempt that is to follow, and the alarms.
+use Rattle.std.proofs.Common.{◌≡◌, ◌∙◌, ap, sym, subst, ℕ, Bool, true, false, cond, List, [], ◌∷◌, ◌++◌, refl, Option, Some, None, inl, inr, bytes_eq}
+use Rattle.std.proofs.lemmas.Bool.{cases_Bool}
+use Rattle.std.proofs.lemmas.List.{append-nil}
+use Rattle.std.proofs.lemmas.Slice.Eq.{bytes_eq-Decides}
+use Rattle.std.specs.Option.{option_map}
+use Rattle.pulsar_plans.specs.Address.{Place, address_key}
+use Rattle.pulsar_session.specs.Failures.{Fault}
+use Rattle.pulsar_client.specs.declared.act.Alarm.{Alarm}
+use Rattle.pulsar_client.specs.declared.act.Alarm.TheVariants.{Retry as Retries}
+use Rattle.pulsar_client.specs.declared.act.End.{End}
+use Rattle.pulsar_client.specs.declared.act.LinkAct.{LinkAct}
+use Rattle.pulsar_client.specs.declared.act.LinkAct.TheVariants.{Opens, Reads, Drains, Pings, Ends}
+use Rattle.pulsar_client.specs.declared.act.Notice.{Notice}
+use Rattle.pulsar_client.specs.declared.act.Who.{Who}
+use Rattle.pulsar_client.specs.declared.addresses.Pause.{Pause}
+use Rattle.pulsar_client.specs.declared.addresses.Series.{Series}
+use Rattle.pulsar_client.specs.declared.addresses.Series.TheVariants.{Nobody, Runs, Pauses, Serves}
+use Rattle.pulsar_client.specs.Alarms.{set}
+use Rattle.pulsar_client.specs.Content.{Shown, Retry}
+use Rattle.pulsar_client.specs.Effects.{retries, retries_on}
+use Rattle.pulsar_client.specs.Links.{Change, Remains, IsOver, change_at}
+use Rattle.pulsar_client.specs.Rules.{ended_on, failed_on, waiters_of}
+use Rattle.pulsar_client.specs.Subscriptions.{Subscription, ended_at}
+use Rattle.pulsar_client.specs.Tables.{welcomed}
+use Rattle.pulsar_client.specs.View.{Addresses, Base, Chosen, Seat, Turned, alarms_on, alarms_over, arrival_at, base_on, base_turned, base_waiting, closing, delay_with, later, may_retry, pause_of, pause_on, pause_for, pause_with, took_some, turned_by, waits_for}
+
+-- NOTHING IS TURNED
+
+abbrev pub IsStill : Option Turned → Type 0
+IsStill None = Unit {0}
+IsStill (Some t) = (t.change ≡ Remains) × (t.pause ≡ None)
+
+same_cond : {A : Type 0} (b : Bool) (x : A) → cond b x x ≡ x
+same_cond true x = refl
+same_cond false x = refl
+
+pub base_still : (t : Option Turned) → IsStill t → (key : List ℕ) (b : Base) → base_on t key b ≡ b
+base_still None k key b = refl
+base_still (Some t) k key b =
+    ap (λ change. cond (bytes_eq t.key key) (base_turned t.link change t.pause b) b) k.0 ∙ same_cond (bytes_eq t.key key) b
+
+pub pause_still : (t : Option Turned) → IsStill t → (l : ℕ) (row : Option Pause) → pause_on t l row ≡ row
+pause_still None k l row = refl
+pause_still (Some t) k l row = ap (λ p. pause_on (Some (record { link = t.link; key = t.key; change = t.change; pause = p })) l row) k.1
+
+pub alarms_still : (o : Chosen) (now : ℕ) (t : Option Turned) → IsStill t → (alarms : List (Alarm × ℕ)) → alarms_on o now t alarms ≡ alarms
+alarms_still o now None k alarms = refl
+alarms_still o now (Some t) k alarms = ap (λ change. alarms_on o now (Some (record { link = t.link; key = t.key; change = change; pause = t.pause })) alarms) k.0
+
+pub retries_still : (o : Chosen) (t : Option Turned) → IsStill t → retries_on o t ≡ []
+retries_still o None k = refl
+retries_still o (Some t) k = ap (retries o t.link) k.1
+
+pub waiters_still : (end : End) (known : Addresses) (t : Option Turned) → IsStill t → waiters_of (failed_on end) known t ≡ []
+waiters_still end known None k = refl
+waiters_still end known (Some t) k =
+    ap (λ change. waiters_of (failed_on end) known (Some (record { link = t.link; key = t.key; change = change; pause = t.pause }))) k.0
+
+-- an act that ends no link, and makes none ready
+abbrev is_still : LinkAct → Bool
+is_still Reads = false
+is_still (Ends end) = false
+is_still _ = true
+
+pub still : (o : Chosen) (known : Addresses) (now l : ℕ) (x : LinkAct) (row : Option Seat) → is_still x ≡ true → IsStill (option_map (turned_by o known now l x) row)
+still o known now l x None h = tt
+still o known now l Opens (Some seat) h = (refl, refl)
+still o known now l (Drains most) (Some seat) h = (refl, refl)
+still o known now l Pings (Some seat) h = (refl, refl)
+still o known now l Reads (Some seat) h = absurd cc
+still o known now l (Ends end) (Some seat) h = absurd cc
+
+-- nor does one that is no end after all
+pub open_still : (o : Chosen) (known : Addresses) (now l : ℕ) (end : End) (row : Option Seat) → closing end now row ≡ None →
+    IsStill (option_map (turned_by o known now l (Ends end)) row)
+open_still o known now l end None h = tt
+open_still o known now l end (Some seat) h = (
+  ap change_at h,
+  ap (λ cause. pause_for o (Ends end) (change_at cause) seat.address (known.base (address_key seat.address)).series) h,
+)
+
+pub none_ended : (end : End) (now : ℕ) (row : Option Seat) → closing end now row ≡ None → ended_on end now row ≡ []
+none_ended end now None h = refl
+none_ended end now (Some seat) h = rw h refl
+
+-- A LINK IS READY
+
+pub welcomed_is : (o : Chosen) (known : Addresses) (now l : ℕ) (row : Option Seat) →
+    welcomed l (arrival_at row) (took_some Reads now row) ≡ option_map (turned_by o known now l Reads) row
+welcomed_is o known now l None = refl
+welcomed_is o known now l (Some seat) = refl
+
+pub read_retries : (o : Chosen) (known : Addresses) (now l : ℕ) (row : Option Seat) → retries_on o (option_map (turned_by o known now l Reads) row) ≡ []
+read_retries o known now l None = refl
+read_retries o known now l (Some seat) = refl
+
+-- A LINK ENDS
+
+pub turned_end : (o : Chosen) (known : Addresses) (now l : ℕ) (end : End) (row : Option Seat) (p : Place) (cause : Fault) →
+    closing end now row ≡ Some cause → option_map (λ seat. seat.address) row ≡ Some p →
+    option_map (turned_by o known now l (Ends end)) row
+    ≡ Some (record { link = l; key = address_key p; change = IsOver; pause = pause_of o end p (known.base (address_key p)).series })
+turned_end o known now l end None p cause h e = absurd cc
+turned_end o known now l end (Some seat) p cause h e =
+    let is : seat.address ≡ p = cc in
+    ap (λ c. Some (record {
+      link = l;
+      key = address_key seat.address;
+      change = change_at c;
+      pause = pause_for o (Ends end) (change_at c) seat.address (known.base (address_key seat.address)).series;
+    })) h
+    ∙ ap (λ q. Some (record { link = l; key = address_key q; change = IsOver; pause = pause_of o end q (known.base (address_key q)).series })) is
+
+-- the attempt that is to follow, by the retries so far
+abbrev count_of : Option (Who × ℕ) → Option ℕ
+count_of w = option_map (λ w. w.1) w
+
+pub again_shown : (o : Chosen) (l : ℕ) (p : Place) (w : Option (Who × ℕ)) (n : ℕ) → Some n ≡ count_of w →
+    retries o l (option_map (pause_with p) w) ≡ Retry l (delay_with o l n) ∷ []
+again_shown o l p None n h = absurd cc
+again_shown o l p (Some w) n h = let e : w.1 ≡ n = cc in ap (λ m. Retry l (delay_with o l m) ∷ []) e
+
+pub never_shown : (o : Chosen) (l : ℕ) (p : Place) (w : Option (Who × ℕ)) → None ≡ count_of w → retries o l (option_map (pause_with p) w) ≡ []
+never_shown o l p None h = refl
+never_shown o l p (Some w) h = absurd cc
+
+pub again_set : (o : Chosen) (now l : ℕ) (p : Place) (w : Option (Who × ℕ)) (n : ℕ) (alarms : List (Alarm × ℕ)) → Some n ≡ count_of w →
+    alarms_over o now l (option_map (pause_with p) w) alarms ≡ set (Retries l) (later now (delay_with o l n)) alarms
+again_set o now l p None n alarms h = absurd cc
+again_set o now l p (Some w) n alarms h = let e : w.1 ≡ n = cc in ap (λ m. set (Retries l) (later now (delay_with o l m)) alarms) e
+
+pub never_set : (o : Chosen) (now l : ℕ) (p : Place) (w : Option (Who × ℕ)) (alarms : List (Alarm × ℕ)) → None ≡ count_of w →
+    alarms_over o now l (option_map (pause_with p) w) alarms ≡ alarms
+never_set o now l p None alarms h = refl
+never_set o now l p (Some w) alarms h = absurd cc
+
+-- ONE WHO WANTS A LINK
+
+-- waits where none serves yet
+abbrev serves : Series → Bool
+serves (Serves l) = true
+serves _ = false
+
+waits_so : (s : Series) (who : Who) (ws : List Who) → serves s ≡ false → waits_for s who ws ≡ ws ++ who ∷ []
+waits_so (Serves l) who ws h = absurd cc
+waits_so _ who ws h = refl
+
+same_key : (a b : List ℕ) → bytes_eq a b ≡ true → a ≡ b
+same_key a b h = (bytes_eq-Decides a b).0 h
+
+pub got_waits : (base : List ℕ → Base) (who : Who) (at key : List ℕ) → serves (base at).series ≡ false →
+    cond (bytes_eq at key) (base_waiting who (base key)) (base key)
+    ≡ cond (bytes_eq at key) (record { series = (base key).series; waiting = waits_for (base key).series who (base key).waiting }) (base key)
+got_waits base who at key h = elim (cases_Bool (bytes_eq at key)) [
+  | inl e ↦
+      ap (λ ws. cond (bytes_eq at key) (record { series = (base key).series; waiting = ws }) (base key))
+      (sym (waits_so (base key).series who (base key).waiting (ap (λ k. serves (base k).series) (sym (same_key at key e)) ∙ h)))
+  | inr e ↦ rw e refl
+]
+
+pub got_served : (base : List ℕ → Base) (who : Who) (at key : List ℕ) (l : ℕ) → (base at).series ≡ Serves l →
+    base key ≡ cond (bytes_eq at key) (record { series = (base key).series; waiting = waits_for (base key).series who (base key).waiting }) (base key)
+got_served base who at key l h = elim (cases_Bool (bytes_eq at key)) [
+  | inl e ↦
+      let is : (base key).series ≡ Serves l = ap (λ k. (base k).series) (sym (same_key at key e)) ∙ h in
+      rw e (ap (λ s. record { series = (base key).series; waiting = waits_for s who (base key).waiting }) (sym is))
+  | inr e ↦ rw e refl
+]

@@ -1,6 +1,7 @@
 pub mod Lists
 pub mod Places
 pub mod Moments
+pub mod Ringing
 pub mod Timing
 pub mod Deliveries
 pub mod Listening

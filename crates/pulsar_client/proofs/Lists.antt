@@ -27,3 +27,7 @@ any_end test (y ∷ xs) x = ap (λ b. test y || b) (any_end test xs x) ∙ any_a
     any_assoc : (a b c : Bool) → (a || (b || c)) ≡ ((a || b) || c)
     any_assoc true b c = refl
     any_assoc false b c = refl
+
+pub map_map : {A B C : Type 0} (f : B → C) (g : A → B) (xs : List A) → map f (map g xs) ≡ map (λ x. f (g x)) xs
+map_map f g [] = refl
+map_map f g (x ∷ xs) = ap (λ ys. f (g x) ∷ ys) (map_map f g xs)

@@ -2,9 +2,10 @@
 
 ghost use Rattle.std.specs.Prelude.{◌≡◌, ◌==◌, ◌&&◌, ◌||◌, ℕ, [], true, false, IfOk, OnOk, map, if◌then◌else◌};
 ghost use Rattle.std.specs.BTreeMap.{get};
-ghost use Rattle.std.specs.BTreeSet.{contains};
+ghost use Rattle.std.specs.BTreeSet.{IsOrdered, contains};
 ghost use Rattle.std.specs.Ordering.{nat_cmp};
 ghost use Rattle.pulsar_client.specs.Alarms.{alarm_cmp, clear, is_same_alarm, ringing, rings, set};
+ghost use Rattle.pulsar_client.specs.Due.{is_moment};
 ghost use Rattle.pulsar_client.specs.Kept.{is_in};
 ghost use Rattle.pulsar_client.specs.declared.act.Alarm.{Alarm as Meant};
 
@@ -13,6 +14,7 @@ use pulsar_wire::error::NoMemory;
 use std::alloc::Global;
 use std::collections::{BTreeMap, BTreeSet};
 use std::marker::Model;
+use std::mem::replace;
 
 /// The alarms that are set, each with its moment. Those whose moment has come are found without a look at the others.
 #[derive(Drop)]
@@ -53,20 +55,53 @@ impl Alarms {
     pub fn set(&mut self, alarm: Alarm, moment: u64) -> Result<(), NoMemory>
         ensures { OnOk result (self.new ≡ set alarm moment self.old) }
     {
-        self.clear(alarm)?;
-        list(&mut self.alarms, self.alloc, moment, alarm)?;
-        self.moments.insert(alarm, moment)?;
+        let before = replace(self, Alarms::new(self.alloc));
+        *self = before.with(alarm, moment)?;
         Ok(())
+    }
+
+    fn with(self, alarm: Alarm, moment: u64) -> Result<Alarms, NoMemory>
+        ensures { IfOk result (λ after. after ≡ set alarm moment self) }
+    {
+        let Alarms {
+            alloc,
+            mut moments,
+            mut alarms,
+        } = self;
+        let before = moments.insert(alarm, moment)?;
+        unlist(&mut alarms, before, alarm)?;
+        list(&mut alarms, alloc, moment, alarm)?;
+        Ok(Alarms {
+            alloc,
+            moments,
+            alarms,
+        })
     }
 
     /// An alarm is set no more.
     pub fn clear(&mut self, alarm: Alarm) -> Result<(), NoMemory>
         ensures { OnOk result (self.new ≡ clear alarm self.old) }
     {
-        match self.moments.remove(&alarm) {
-            Some(moment) => unlist(&mut self.alarms, moment, alarm),
-            None => Ok(()),
-        }
+        let before = replace(self, Alarms::new(self.alloc));
+        *self = before.without(alarm)?;
+        Ok(())
+    }
+
+    fn without(self, alarm: Alarm) -> Result<Alarms, NoMemory>
+        ensures { IfOk result (λ after. after ≡ clear alarm self) }
+    {
+        let Alarms {
+            alloc,
+            mut moments,
+            mut alarms,
+        } = self;
+        let before = moments.remove(&alarm);
+        unlist(&mut alarms, before, alarm)?;
+        Ok(Alarms {
+            alloc,
+            moments,
+            alarms,
+        })
     }
 
     /// An alarm is set, and its moment has come.
@@ -102,12 +137,26 @@ impl Alarms {
     }
 }
 
+/// An alarm is listed no more at the moment to which it was set, where it was.
 fn unlist(
+    alarms: &mut BTreeMap<u64, BTreeSet<Alarm>>,
+    moment: Option<u64>,
+    alarm: Alarm,
+) -> Result<(), NoMemory>
+    ensures { OnOk result ((m : ℕ) (a : Meant) → is_in a (get nat_cmp alarms.new m) ≡ (if is_moment m moment && is_same_alarm alarm a then false else is_in a (get nat_cmp alarms.old m))) }
+{
+    let Some(moment) = moment else {
+        return Ok(());
+    };
+    take_out(alarms, moment, alarm)
+}
+
+fn take_out(
     alarms: &mut BTreeMap<u64, BTreeSet<Alarm>>,
     moment: u64,
     alarm: Alarm,
 ) -> Result<(), NoMemory>
-    ensures { OnOk result ((m : ℕ) (a : Meant) → is_in a (get nat_cmp alarms.new m) ≡ (if (m == moment) && is_same_alarm alarm a then false else is_in a (get nat_cmp alarms.old m))) }
+    ensures { OnOk result ((m : ℕ) (a : Meant) → is_in a (get nat_cmp alarms.new m) ≡ (if (moment == m) && is_same_alarm alarm a then false else is_in a (get nat_cmp alarms.old m))) }
 {
     let Some(mut others) = alarms.remove(&moment) else {
         return Ok(());
@@ -119,13 +168,14 @@ fn unlist(
     Ok(())
 }
 
+/// An alarm is listed at a moment.
 fn list(
     alarms: &mut BTreeMap<u64, BTreeSet<Alarm>>,
     alloc: Global,
     moment: u64,
     alarm: Alarm,
 ) -> Result<(), NoMemory>
-    ensures { OnOk result ((m : ℕ) (a : Meant) → is_in a (get nat_cmp alarms.new m) ≡ (if (m == moment) && is_same_alarm alarm a then true else is_in a (get nat_cmp alarms.old m))) }
+    ensures { OnOk result ((m : ℕ) (a : Meant) → is_in a (get nat_cmp alarms.new m) ≡ (if (moment == m) && is_same_alarm alarm a then true else is_in a (get nat_cmp alarms.old m))) }
 {
     let mut others = match alarms.remove(&moment) {
         Some(others) => others,
@@ -146,7 +196,8 @@ fn add_all(found: &mut BTreeSet<Alarm>, alarms: &BTreeSet<Alarm>) -> Result<(), 
 }
 
 fn in_order(alloc: Global, found: &BTreeSet<Alarm>) -> Result<Vec<Alarm>, NoMemory>
-    ensures { IfOk result (λ alarms. alarms.items ≡ found.now.keys) }
+    ensures alarms { IfOk result (λ alarms. alarms.items ≡ found.now.keys) }
+    ensures ordered { IfOk result (λ alarms. IsOrdered alarm_cmp found.now) }
 {
     let mut alarms = Vec::new(alloc);
     for alarm in found {

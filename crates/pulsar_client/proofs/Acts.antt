@@ -53,6 +53,11 @@ pub each_flat : {A B : Type 0} (P : B → Type 0) (f : A → List B) (xs : List 
 each_flat P f [] h = tt
 each_flat P f (x ∷ xs) h = each_append P (f x) (flat_map f xs) (h x) (each_flat P f xs h)
 
+-- either of two lists
+pub each_either : {A : Type 0} (P : A → Type 0) (b : Bool) (xs ys : List A) → Each P xs → Each P ys → Each P (cond b xs ys)
+each_either P true xs ys p q = p
+each_either P false xs ys p q = q
+
 -- whatever each live link gives
 pub over_each : {A : Type 0} (P : A → Type 0) (f : ℕ → Seat → List A) (ls : Links) → ((l : ℕ) (seat : Seat) → Each P (f l seat)) → Each P (over_links f ls)
 over_each P f ls h = each_flat P (on_link f ls.live) (numbers_from 0 ls.started) (λ l. each_flat P (f l) (option_to_list (ls.live l)) (h l))
@@ -105,11 +110,6 @@ is_quiet _ = false
 abbrev pub IsQuiet : Act → Type 0
 IsQuiet a = is_quiet a ≡ true
 
--- either of two lists
-either : {A : Type 0} (P : A → Type 0) (b : Bool) (xs ys : List A) → Each P xs → Each P ys → Each P (cond b xs ys)
-either P true xs ys p q = p
-either P false xs ys p q = q
-
 from_quiet : (who : Who) (p : Place) (s : Series) → Each IsQuiet (gets_from who p s)
 from_quiet who p Nobody = (refl, tt)
 from_quiet who p (Runs starter retries l) = tt
@@ -117,7 +117,7 @@ from_quiet who p (Pauses l) = tt
 from_quiet who p (Serves l) = (refl, tt)
 
 gets_quiet : (who : Who) (p : Place) (s : Series) → Each IsQuiet (gets who p s)
-gets_quiet who p s = either IsQuiet (is_reachable p) (gets_from who p s) (tells who outcome.NotFound) (from_quiet who p s) (refl, tt)
+gets_quiet who p s = each_either IsQuiet (is_reachable p) (gets_from who p s) (tells who outcome.NotFound) (from_quiet who p s) (refl, tt)
 
 pub performs_quiet : (v : View) (who : Who) (action : Action) → Each IsQuiet (performs v who action)
 performs_quiet v who (Get p) = gets_quiet who p (v.addresses.base (address_key p)).series
@@ -134,10 +134,10 @@ tries_quiet None = tt
 tries_quiet (Some p) = (refl, tt)
 
 keeps_quiet : (l : ℕ) (row : Option Seat) → Each IsQuiet (keeps_alive l row)
-keeps_quiet l row = either IsQuiet (may_ping row) (Comes (ToLink l Pings) ∷ []) [] (refl, tt) tt
+keeps_quiet l row = each_either IsQuiet (may_ping row) (Comes (ToLink l Pings) ∷ []) [] (refl, tt) tt
 
 idle_quiet : (v : View) (l : ℕ) (seat : Seat) → Each IsQuiet (idle_act v l seat)
-idle_quiet v l seat = either IsQuiet (is_idle v l seat) (Comes (ToLink l (Ends Idles)) ∷ []) [] (refl, tt) tt
+idle_quiet v l seat = each_either IsQuiet (is_idle v l seat) (Comes (ToLink l (Ends Idles)) ∷ []) [] (refl, tt) tt
 
 rung_quiet : (v : View) (a : Alarm) → Each IsQuiet (rung v a)
 rung_quiet v (Retry l) = tries_quiet (v.addresses.pause l)
@@ -153,7 +153,7 @@ is_call_part _ = false
 pub comes_quiet : (v : View) (p : Part) → is_call_part p ≡ false → Each IsQuiet (at_once v (Comes p))
 comes_quiet v (Calls asked) h = absurd cc
 comes_quiet v (ToLink l Reads) h = breaks_quiet l (arrival_at (v.links.live l))
-comes_quiet v (Rings a) h = either IsQuiet (rings v.now a v.alarms) (rung v a) [] (rung_quiet v a) tt
+comes_quiet v (Rings a) h = each_either IsQuiet (rings v.now a v.alarms) (rung v a) [] (rung_quiet v a) tt
 comes_quiet v _ h = tt
 
 -- EVENTS

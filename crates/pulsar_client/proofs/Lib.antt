@@ -15,6 +15,8 @@ pub mod Plain
 pub mod Ticketed
 pub mod Turning
 pub mod Made
+pub mod Attempts
+pub mod Stopping
 pub mod Counting
 pub mod Built
 pub mod Follow

@@ -2,7 +2,7 @@
 
 ghost use Rattle.pulsar_client.specs.Address.{KnownAddresses};
 ghost use Rattle.pulsar_client.specs.Client.{StoodForIsGood};
-ghost use Rattle.pulsar_client.specs.Laws.{AnswersOnce, BuiltIs, CallsAreMade, CausesInOrder, ClockIs, ConsumersHearToTheirEnd, DeadlinesAreTicked, Determined, EffectsArranged, EndsOnce, FailuresAreTold, LinksAlone, OutcomesAreCaused, PlansFollow, PollsAreAnswered, PollsFollow, SeriesIsNewest, ServedByTicket, StoppedIs, TicketsCount, WritesFollow};
+ghost use Rattle.pulsar_client.specs.Laws.{AnswersOnce, AttemptsFollow, BuiltIs, CallsAreMade, CausesInOrder, ClockIs, ConsumersHearToTheirEnd, DeadlinesAreTicked, Determined, EffectsArranged, EndsOnce, FailuresAreTold, LinksAlone, NoneAfterStop, OutcomesAreCaused, PlansFollow, PollsAreAnswered, PollsFollow, SeriesIsNewest, ServedByTicket, StoppedIs, TicketsCount, WritesFollow};
 ghost use Rattle.pulsar_client.specs.Traces.{IsGood, attempt_fails, client_is_stopped, consumer_is_polled, deadline_comes, line_moves_up, reply_comes_early, request_is_answered};
 
 /// Options and events determine the effects of a good run.
@@ -89,6 +89,17 @@ pub fn deadlines_are_ticked()
 /// What runs for the address is what its newest turn left.
 pub fn series_is_newest()
     ensures { SeriesIsNewest }
+{}
+
+/// An attempt begins a series where one gets a link of an address, or it follows one that failed, once its moment has come, and
+/// at most so often as the options allow.
+pub fn attempts_follow()
+    ensures { AttemptsFollow }
+{}
+
+/// From a Stop on no attempt begins.
+pub fn none_after_stop()
+    ensures { NoneAfterStop }
 {}
 
 /// A link that has not ended is what the calls of its connection made of it, and nothing else.

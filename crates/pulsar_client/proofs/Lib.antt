@@ -20,6 +20,7 @@ pub mod Stopping
 pub mod Counting
 pub mod Built
 pub mod Follow
+pub mod Led
 pub mod Once
 pub mod Failures
 pub mod Caused

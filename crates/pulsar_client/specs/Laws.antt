@@ -12,7 +12,7 @@ use Rattle.pulsar_messages.specs.Words.{Words}
 use Rattle.pulsar_requests.specs.Waits.{later_of}
 use Rattle.pulsar_session.specs.declared.states.Asked.{Asked as Placed}
 use Rattle.pulsar_session.specs.declared.states.Asked.TheVariants as placed
-use Rattle.pulsar_session.specs.Failures.{DiscoveryConnection, DiscoveryCanceled, DiscoveryFault, DiscoveryNotFound, DiscoveryShutdown, DnsLookup, Dummy, Failure, Fault, OfConnection, OfDiscovery, Query, fault}
+use Rattle.pulsar_session.specs.Failures.{DiscoveryConnection, DiscoveryCanceled, DiscoveryFault, DiscoveryNotFound, DiscoveryShutdown, DnsLookup, Dummy, Exhausted, Failure, Fault, OfConnection, OfDiscovery, Query, fault}
 use Rattle.pulsar_session.specs.Link as session
 use Rattle.pulsar_session.specs.Link.{Act as Act', Asks, Feeds, Setup, came, due, ends, is_spent}
 use Rattle.pulsar_link.specs.Items.{Item, Given, Faulty}
@@ -58,7 +58,7 @@ use Rattle.pulsar_client.specs.Content.{Asked, Called, Bytes, Ticked, Poll, Show
 use Rattle.pulsar_client.specs.Effects.{effect_below}
 use Rattle.pulsar_client.specs.Links as links
 use Rattle.pulsar_client.specs.Links.{Change, Remains, Becomes, IsOver, arrival, call_of, closed_by, line_places, new_places}
-use Rattle.pulsar_client.specs.Plan.{begins, failure_of, fault_of, reply_says, told}
+use Rattle.pulsar_client.specs.Plan.{begins, failure_of, fails, fault_of, reply_says, told}
 use Rattle.pulsar_client.specs.Rules.{below, dropped, fails_so, is_idle, lost, notice, procedure_for, stopped_with}
 use Rattle.pulsar_client.specs.Run.{Entry, Begins, Then, Good, IsRun, Rests, Step, agenda, calls_in, rules, steps, view}
 use Rattle.pulsar_client.specs.Subscriptions.{Subscription, closes_it, is_heard_on, is_last, polled}
@@ -130,6 +130,36 @@ course (turn.Stays plan action) (o ∷ os) = acted action ++ course (told plan o
 abbrev pub PlansFollow : Type 0
 PlansFollow = (o : Chosen) (log : List Entry) (w : Who) (p : Procedure) →
     IsRun o log → Rests o log → started w log ≡ Some p → deeds w log ≡ course (begins p) (outcomes w log)
+
+-- what leads to a deed: its plan is where this is done, or gives this verdict
+abbrev pub act_of : Who → Deed → Act
+act_of w (Acted action) = Does w action
+act_of w (Answered verdict) = Answers w verdict
+
+abbrev pub Leads : Deed → Turn Plan Verdict → Type 0
+Leads (Acted action) t = (plan : Plan) × (t ≡ turn.Stays plan action)
+Leads (Answered verdict) t = t ≡ turn.Gives verdict
+
+-- a plan starts so; it is told an outcome that leads there; or a call comes for which no ticket is left, and ends with no plan
+abbrev pub StartsSo : Who → Deed → Entry → Type 0
+StartsSo w d e = (p : Procedure) × (e ≡ Then (Starts w p)) × Leads d (begins p)
+
+abbrev pub IsToldSo : Chosen → Who → Deed → Entry → List Entry → Type 0
+IsToldSo o w d e older =
+    (u : Outcome) × (plan : Plan) × (e ≡ Then (Told (record { who = w; outcome = u }))) × ((view o older).stand w ≡ Some plan) × Leads d (told plan u)
+
+abbrev pub ComesLate : Chosen → Who → Deed → Entry → List Entry → Type 0
+ComesLate o w d e older =
+    (asked : Asked) × (e ≡ Then (Comes (Calls asked))) × (w ≡ Call (view o older).calls.drawn) × (is_spent (view o older).calls.drawn ≡ true)
+    × (d ≡ Answered (fails Exhausted))
+
+-- Each action of a plan, and its verdict, comes right behind the start of the plan or the outcome that leads to it. So it stands in the
+-- step of its cause, and nothing comes between.
+abbrev pub IsLed : Chosen → Who → Deed → List Entry → Type 0
+IsLed o w d log = (e : Entry) × (older : List Entry) × (log ≡ e ∷ older) × (StartsSo w d e ⊎ (IsToldSo o w d e older ⊎ ComesLate o w d e older))
+
+abbrev pub DeedsFollow : Type 0
+DeedsFollow = (o : Chosen) (log : List Entry) (w : Who) (d : Deed) → IsRun o (Then (act_of w d) ∷ log) → IsLed o w d log
 
 -- a plan gives one verdict, and does nothing after it
 abbrev pub verdicts_in : List Deed → ℕ

@@ -2,7 +2,7 @@
 
 ghost use Rattle.pulsar_client.specs.Address.{KnownAddresses};
 ghost use Rattle.pulsar_client.specs.Client.{StoodForIsGood};
-ghost use Rattle.pulsar_client.specs.Laws.{AnswersOnce, AttemptsFollow, BuiltIs, CallsAreMade, CausesInOrder, ClockIs, ConsumersHearToTheirEnd, DeadlinesAreTicked, Determined, EffectsArranged, EndsOnce, FailuresAreTold, LinksAlone, NoneAfterStop, OutcomesAreCaused, PlansFollow, PollsAreAnswered, PollsFollow, SeriesIsNewest, ServedByTicket, StoppedIs, TicketsCount, WritesFollow};
+ghost use Rattle.pulsar_client.specs.Laws.{AnswersOnce, AttemptsFollow, BuiltIs, CallsAreMade, CausesInOrder, ClockIs, ConsumersHearToTheirEnd, DeadlinesAreTicked, DeedsFollow, Determined, EffectsArranged, EndsOnce, FailuresAreTold, LinksAlone, NoneAfterStop, OutcomesAreCaused, PlansFollow, PollsAreAnswered, PollsFollow, SeriesIsNewest, ServedByTicket, StoppedIs, TicketsCount, WritesFollow};
 ghost use Rattle.pulsar_client.specs.Traces.{IsGood, attempt_fails, client_is_stopped, consumer_is_polled, deadline_comes, line_moves_up, reply_comes_early, request_is_answered};
 
 /// Options and events determine the effects of a good run.
@@ -44,6 +44,11 @@ pub fn tickets_count()
 /// told, each in the step of its outcome.
 pub fn plans_follow()
     ensures { PlansFollow }
+{}
+
+/// Each action of a plan, and its verdict, comes right behind the start of the plan or the outcome that leads to it.
+pub fn deeds_follow()
+    ensures { DeedsFollow }
 {}
 
 /// A plan gives one verdict, and does nothing after it.

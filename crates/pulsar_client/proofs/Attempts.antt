@@ -207,7 +207,7 @@ module _ (o : Chosen) (older : List Entry) (p : Place) (starter : Who) (n : ℕ)
       let a : q ≡ p = cc in
       let b : who ≡ starter = cc in
       let c : n ≡ 0 = cc in
-      inl (((λ i. Then (Does (b i) (Get (a i)))), sym (ap is_reachable a) ∙ r, sym (ap (λ x. (base_of v x).series) a) ∙ e, c))
+      inl (((λ i. Then (Does (b i) (Get (a i)))), sym (ap is_reachable a) ∙ r, sym (ap (λ x. (base_of v x).series) a) ∙ e), c)
   from_begun who q (Runs s m l) ys r e h = absurd cc
   from_begun who q (Pauses l) ys r e h = absurd cc
   from_begun who q (Serves l) ys r e h = absurd cc

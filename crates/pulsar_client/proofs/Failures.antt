@@ -78,16 +78,16 @@ heard_when : {A : Type 0} (r : Content) (b : Bool) (x y : Heard A) → (b ≡ tr
 heard_when r true x y p q = p refl
 heard_when r false x y p q = q
 
-failing_so : {A : Type 0} (w : Ways) (n : ℕ) (r : Content) → HeardSo {A} r (failing w n r.error r.text)
+failing_so : {A : Type 0} (w : Ways) (n : ℕ) (r : Content) → HeardSo {A = A} r (failing w n r.error r.text)
 failing_so {A} w n r =
-    heard_when {A} r (is_choice (pos 6) r.error && allow_retry w.max_retries n) Later (Denies (query r.error r.text)) (λ e. tt)
+    heard_when {A = A} r (is_choice (pos 6) r.error && allow_retry w.max_retries n) Later (Denies (query r.error r.text)) (λ e. tt)
     (Query (r.error >>= error_of) r.text, refl, refl)
 
 counted_so : (r : Content) (count : Option ℕ) → HeardSo r (counted_of r count)
 counted_so r None = (Query (r.error >>= error_of) r.text, refl, refl)
 counted_so r (Some count) = tt
 
-another_body : {A : Type 0} (r : Content) → HeardSo {A} r (Denies (in_discovery (unexpected r r.body)))
+another_body : {A : Type 0} (r : Content) → HeardSo {A = A} r (Denies (in_discovery (unexpected r r.body)))
 another_body {A} r = (DiscoveryConnection (unexpected r r.body), refl, refl)
 
 count_so : (w : Ways) (n : ℕ) (r : Content) → HeardSo r (count_in w n r)
@@ -410,7 +410,7 @@ fails_so procedure.Stop os m f is h = stopping procedure.Stop os m f os (λ u i.
 fails_so (procedure.Ask (At place) request s) os m f is h = getting (procedure.Ask (At place) request s) os m f request s place os (λ u i. i) refl h
 fails_so (procedure.Ask (Link l) request s) os m f is h = asking (procedure.Ask (Link l) request s) os m f (wanted l request s) (Ask l request) os (λ u i. i) refl h
 fails_so (procedure.Search w what) os m f is h =
-    goes_so (procedure.Search w what) os m f w (λ g. ⊥) (search.begins w what) os (keeps_begins (λ g. ⊥) w what is) (λ no. absurd no)
+    goes_so (procedure.Search w what) os m f w (λ g. ⊥) (search.begins w what) os (keeps_begins (λ g. ⊥) w what is) (λ never. absurd never)
     (λ s action is' h'. searching (procedure.Search w what) os m f w what s action os refl is' (λ u i. i) h') h
 fails_so (procedure.Refuse r) os m f is (inl e) = IsRefused r refl (let h : Failed f ≡ Failed (failure_of r) = ap said_in e in cc)
 fails_so (procedure.Refuse r) os m f is (inr e) = absurd e

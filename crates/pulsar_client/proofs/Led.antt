@@ -69,7 +69,7 @@ module _ (o : Chosen) (older : List Entry) (w : Who) (d : Deed) where
   late_so : (asked : Asked) (b : Bool) (ys : List Act) → is_spent v.calls.drawn ≡ b →
       cond b (Answers (Call v.calls.drawn) (fails Exhausted) ∷ []) (Starts (Call v.calls.drawn) (procedure_for v.chosen v.calls asked) ∷ []) ≡ act_of w d ∷ ys →
       IsLedBy (Comes (Calls asked))
-  late_so asked true ys e h = inr (inr (asked, refl, late d h))
+  late_so asked true ys e h = let k = late d h in inr (inr (asked, refl, k.0, k.1, k.2))
     where
       late : (x : Deed) → Answers (Call v.calls.drawn) (fails Exhausted) ∷ [] ≡ act_of w x ∷ ys →
           (w ≡ Call v.calls.drawn) × (is_spent v.calls.drawn ≡ true) × (x ≡ Answered (fails Exhausted))

@@ -103,24 +103,24 @@ each_opens P (n ∷ ns) k = (k, tt)
 
 -- LINKS
 
-none_either : {A : Type 0} (b : Bool) → cond b (None {A = A}) None ≡ None
-none_either true = refl
-none_either false = refl
+same_either : {A : Type 0} (b : Bool) (x : A) → cond b x x ≡ x
+same_either true x = refl
+same_either false x = refl
 
 got_none : (k : Option ℕ) (now l : ℕ) → got_at k now l None ≡ None
 got_none None now l = refl
-got_none (Some k) now l = none_either (l == k)
+got_none (Some k) now l = same_either (l == k) None
 
 -- only an attempt makes a link
 stays_dead : (v : View) (a : Act) (l : ℕ) → is_dial a ≡ false → live_after v.chosen v.addresses v.now v.links.started a l None ≡ None
-stays_dead v (Comes (ToLink k x)) l h = none_either (l == k)
+stays_dead v (Comes (ToLink k x)) l h = same_either (l == k) None
 stays_dead v (Does who (Get p)) l h = got_none (link_got v.addresses (Does who (Get p))) v.now l
-stays_dead v (Does who (Ask k request)) l h = none_either (l == k)
+stays_dead v (Does who (Ask k request)) l h = same_either (l == k) None
 stays_dead v (Dials p starter n) l h = absurd cc
 stays_dead v _ l h = refl
 
 live_none : (e : Heard) (l : ℕ) → live_begun e l None ≡ None
-live_none (Bytes k piece) l = none_either (l == k)
+live_none (Bytes k piece) l = same_either (l == k) None
 live_none _ l = refl
 
 begun_dead : (e : Heard) (l : ℕ) (v : View) → v.links.live l ≡ None → (begun e v).links.live l ≡ None
@@ -362,11 +362,11 @@ last_called o c asked h =
 last_askers : (says : ℕ → Outcome) (askers : ℕ → Option Who) (places : List ℕ) → ((p : ℕ) → is_last_word (says p) ≡ true) →
     Each IsLastNotice (filter_map (tells_asker says askers) places)
 last_askers says askers [] is = tt
-last_askers says askers (p ∷ ps) is = one (askers p) refl
+last_askers says askers (p ∷ ps) is = one (askers p) refl (last_askers says askers ps is)
   where
-    one : (r : Option Who) → askers p ≡ r → Each IsLastNotice (filter_map (tells_asker says askers) (p ∷ ps))
-    one None e = rw e (last_askers says askers ps is)
-    one (Some w) e = rw e (is p, last_askers says askers ps is)
+    one : (r : Option Who) → askers p ≡ r → Each IsLastNotice (filter_map (tells_asker says askers) ps) → Each IsLastNotice (filter_map (tells_asker says askers) (p ∷ ps))
+    one None e more = rw e more
+    one (Some w) e more = rw e (is p, more)
 
 last_map : (u : Outcome) (ws : List Who) → is_last_word u ≡ true → Each IsLastNotice (map (λ who. notice who u) ws)
 last_map u [] is = tt
@@ -563,7 +563,7 @@ module _ (o : Chosen) (log : List Entry) (k : Over o log) where
   no_alarm a = ap (rings v.now a) k.alarms
 
   rung_pause : (b : Bool) (a : Alarm) (l : ℕ) → pause_rung b a l None ≡ None
-  rung_pause b (Retry j) l = none_either (b && (l == j))
+  rung_pause b (Retry j) l = same_either (b && (l == j)) None
   rung_pause b _ l = refl
 
   part_on : (p : Part) → first g ≡ Some (Comes p) → g.now ≡ [] → Over o (Then (Comes p) ∷ log)
@@ -600,7 +600,8 @@ module _ (o : Chosen) (log : List Entry) (k : Over o log) where
 in_over : (ls : Links) (l : ℕ) (seat : Seat) → ls.live l ≡ Some seat → nat_lt l ls.started ≡ true → In (Comes (ToLink l (Ends Stops))) (over_links stop_act ls)
 in_over ls l seat h lt =
     let own : In (Comes (ToLink l (Ends Stops))) (on_link stop_act ls.live l) = rw h (inl refl) in
-    in_flat (on_link stop_act ls.live) l (Comes (ToLink l (Ends Stops))) (numbers_from 0 ls.started) (in_numbers ls.started 0 l (omega arith) lt) own
+    let below_all : nat_lt l (0 + ls.started) ≡ true = grind (arith, nat_tests) in
+    in_flat (on_link stop_act ls.live) l (Comes (ToLink l (Ends Stops))) (numbers_from 0 ls.started) (in_numbers ls.started 0 l (omega arith) below_all) own
 
 over_starts : (o : Chosen) (log : List Entry) (who : Who) → IsRun o log → first (agenda o log) ≡ Some (Does who StopAll) → Over o (Then (Does who StopAll) ∷ log)
 over_starts o log who run fits =

@@ -140,7 +140,7 @@ told_was None o plan h = absurd (none_some h)
 told_was (Some old) o plan h = (old, refl)
 
 module _ (o : Chosen) (log : List Entry) (k : IsTicketed o log) where
-  drawn : ℕ
+  abbrev drawn : ℕ
   drawn = (view o log).calls.drawn
 
   next_stands : (a : Act) → IsDue drawn a → (w : Who) (plan : Plan) → stand_after a w ((view o log).stand w) ≡ Some plan → Has (drawn_after a drawn) w
@@ -224,8 +224,8 @@ pub consumer_ticket : (o : Chosen) (log : List Entry) (t : ℕ) (s : Subscriptio
 consumer_ticket o log t s run h = ((is_ticketed o log run).consumers t s h).0
 
 no_row : {A : Type 0} (row : Option A) → ((x : A) → row ≡ Some x → ⊥) → row ≡ None
-no_row None no = refl
-no_row (Some x) no = absurd (no x refl)
+no_row None none = refl
+no_row (Some x) none = absurd (none x refl)
 
 -- no consumer has a ticket that was not drawn yet
 pub are_ticketed : (o : Chosen) (log : List Entry) → IsRun o log → AreTicketed (view o log).calls.drawn (view o log).consumers

@@ -78,8 +78,8 @@ heard_when : {A : Type 0} (r : Content) (b : Bool) (x y : Heard A) → (b ≡ tr
 heard_when r true x y p q = p refl
 heard_when r false x y p q = q
 
-failing_so : {A : Type 0} (w : Ways) (n : ℕ) (r : Content) → HeardSo {A = A} r (failing w n r.error r.text)
-failing_so {A} w n r =
+failing_so : (A : Type 0) (w : Ways) (n : ℕ) (r : Content) → HeardSo {A = A} r (failing w n r.error r.text)
+failing_so A w n r =
     heard_when {A = A} r (is_choice (pos 6) r.error && allow_retry w.max_retries n) Later (Denies (query r.error r.text)) (λ e. tt)
     (Query (r.error >>= error_of) r.text, refl, refl)
 
@@ -87,8 +87,8 @@ counted_so : (r : Content) (count : Option ℕ) → HeardSo r (counted_of r coun
 counted_so r None = (Query (r.error >>= error_of) r.text, refl, refl)
 counted_so r (Some count) = tt
 
-another_body : {A : Type 0} (r : Content) → HeardSo {A = A} r (Denies (in_discovery (unexpected r r.body)))
-another_body {A} r = (DiscoveryConnection (unexpected r r.body), refl, refl)
+another_body : (A : Type 0) (r : Content) → HeardSo {A = A} r (Denies (in_discovery (unexpected r r.body)))
+another_body A r = (DiscoveryConnection (unexpected r r.body), refl, refl)
 
 count_so : (w : Ways) (n : ℕ) (r : Content) → HeardSo r (count_in w n r)
 unfolding count_in
@@ -96,7 +96,7 @@ count_so w n r =
     let refuses : Heard ℕ = failing w n r.error r.text in
     let counts : Heard ℕ = counted_of r r.partitions in
     heard_when r (is_body 22 r.body) (cond (fails_by (pos 1) r.response) refuses counts) (Denies (in_discovery (unexpected r r.body)))
-    (λ e. heard_when r (fails_by (pos 1) r.response) refuses counts (λ e. failing_so w n r) (counted_so r r.partitions)) (another_body r)
+    (λ e. heard_when r (fails_by (pos 1) r.response) refuses counts (λ e. failing_so ℕ w n r) (counted_so r r.partitions)) (another_body ℕ r)
 
 pointed_so : (r : Content) (place : Option Place) → is_body 24 r.body ≡ true → HeardSo r (pointed_at r.response r.authority place)
 pointed_so r None e = (DiscoveryNotFound, refl, e)
@@ -110,7 +110,7 @@ place_so w proxy n r =
     let place : Option Place = place_at w.base (proxy || is_set r.proxy) r.url in
     let points : Heard Pointed = pointed_at r.response r.authority place in
     heard_when r (is_body 24 r.body) (cond (fails_by (pos 2) r.response) refuses points) (Denies (in_discovery (unexpected r r.body)))
-    (λ e. heard_when r (fails_by (pos 2) r.response) refuses points (λ e'. failing_so w n r) (pointed_so r place e)) (another_body r)
+    (λ e. heard_when r (fails_by (pos 2) r.response) refuses points (λ e'. failing_so Pointed w n r) (pointed_so r place e)) (another_body Pointed r)
 
 -- WHERE A SEARCH FAILS
 

@@ -2,6 +2,7 @@
 #![tactic(auto)]
 
 pub mod address;
+pub mod closing;
 pub mod content;
 pub mod count;
 pub mod look;

@@ -1,3 +1,9 @@
+mod Books
+mod Cases
+mod Greeted
 mod KeyTexts
 mod Once
 mod Puts
+mod Sound
+mod Waiting
+mod Whole

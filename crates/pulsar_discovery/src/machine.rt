@@ -8,6 +8,7 @@ ghost use Rattle.pulsar_discovery.specs.Machine.{Extends, Goes, StandsFor, does,
 use crate::outcome::{Next, Outcome, Told, content_of, found_by, message_of};
 use pulsar_plans::content::{Cause, Refusal};
 use pulsar_plans::plan::{self, Answer, Plan, Procedure};
+use pulsar_plans::question::Request;
 use pulsar_plans::turn::{Action, Outcome as Happened, Turn, Ways};
 use pulsar_wire::error::{ConnectionError, Error, NoMemory};
 use std::alloc::Global;
@@ -50,15 +51,28 @@ impl Machine {
         ensures memory { OnErr result (self.new.stage ≡ None) }
         ensures spent { self.old.stage ≡ None → IsErr result }
     {
+        let told = content_of(self.alloc, outcome);
         let Some(stage) = self.stage.take() else {
             return Err(NoMemory);
         };
-        let told = content_of(self.alloc, outcome)?;
-        let turn = turns(self.alloc, &self.ways, stage, told)?;
-        let (stage, next) = said(self.alloc, turn)?;
+        let (stage, next) = goes(self.alloc, &self.ways, stage, told?)?;
         self.stage = Some(stage);
-        Ok(next)
+        Ok(Box::into_inner(next))
     }
+}
+
+/// Where a machine stands after what it is told, and what it says.
+fn goes(
+    alloc: Global,
+    ways: &Ways,
+    stage: Stage,
+    told: Told,
+) -> Result<(Stage, Box<Next>), NoMemory>
+    ensures stage { IfOk result (λ s. s.0 ≡ stands (turns ways.now stage told)) }
+    ensures next { IfOk result (λ s. step s.1.value ≡ step_of (turns ways.now stage told)) }
+{
+    let turn = turns(alloc, ways, stage, told)?;
+    said(alloc, turn)
 }
 
 /// What a machine makes of what it is told.
@@ -98,28 +112,43 @@ fn lost(alloc: Global) -> Result<Turn<Plan, Result<Answer, Refusal>>, NoMemory>
 }
 
 /// Where a machine stands after a turn, and what it says.
-fn said(alloc: Global, turn: Turn<Plan, Result<Answer, Refusal>>) -> Result<(Stage, Next), NoMemory>
+fn said(
+    alloc: Global,
+    turn: Turn<Plan, Result<Answer, Refusal>>,
+) -> Result<(Stage, Box<Next>), NoMemory>
     ensures stage { IfOk result (λ s. s.0 ≡ stands turn) }
-    ensures next { IfOk result (λ s. step s.1 ≡ step_of turn) }
+    ensures next { IfOk result (λ s. step s.1.value ≡ step_of turn) }
 {
     match turn {
         Turn::Stays(plan, action) => Ok((Stage::On(plan), done(alloc, action)?)),
-        Turn::Gives(Ok(answer)) => Ok((Stage::Over, Next::Done(found_by(answer)))),
-        Turn::Gives(Err(refusal)) => Ok((Stage::Over, Next::Refuse(refusal.into_inner()))),
+        Turn::Gives(given) => Ok((Stage::Over, end(alloc, given)?)),
+    }
+}
+
+/// What is said at the end of a plan.
+fn end(alloc: Global, given: Result<Answer, Refusal>) -> Result<Box<Next>, NoMemory>
+    ensures { IfOk result (λ n. step n.value ≡ step_of (Turn.Gives given)) }
+{
+    match given {
+        Ok(answer) => Ok(Box::new(alloc, Next::Done(found_by(answer)))?),
+        Err(refusal) => Ok(Box::new(alloc, Next::Refuse(refusal.into_inner()))?),
     }
 }
 
 /// An action as it is said.
-fn done(alloc: Global, action: Action) -> Result<Next, NoMemory>
-    ensures { IfOk result (λ n. step n ≡ does action) }
+fn done(alloc: Global, action: Action) -> Result<Box<Next>, NoMemory>
+    ensures { IfOk result (λ n. step n.value ≡ does action) }
 {
     match action {
-        Action::Get(address) => Ok(Next::Get(address.into_inner())),
-        Action::Ask { link, request } => {
-            let question = request.into_inner();
-            let message = message_of(alloc, &question)?;
-            Ok(Next::Ask(link, message))
-        }
-        Action::Wait(delay) => Ok(Next::Wait(delay)),
+        Action::Get(address) => Ok(Box::new(alloc, Next::Get(address.into_inner()))?),
+        Action::Ask { link, request } => asked(alloc, link, request),
+        Action::Wait(delay) => Ok(Box::new(alloc, Next::Wait(delay))?),
     }
+}
+
+fn asked(alloc: Global, link: u64, request: Request) -> Result<Box<Next>, NoMemory>
+    ensures { IfOk result (λ n. step n.value ≡ does (Action.Ask link request)) }
+{
+    let message = message_of(alloc, request.question())?;
+    Ok(Box::new(alloc, Next::Ask(link, message))?)
 }

@@ -31,6 +31,10 @@ pub mod OfLink
 pub mod Written
 pub mod Hearing
 pub mod Polls
+pub mod Sources
 pub mod Deadlines
+pub mod Ticks
+pub mod OneEach
+pub mod Unread
 pub mod Driving
 pub mod Traces

@@ -7,12 +7,14 @@ use Rattle.pulsar_run.specs.Laws.{In, InThisStep}
 use Rattle.pulsar_run.specs.Order.{AllInOrder, InOrder, arranged}
 use Rattle.pulsar_run.specs.Run.{events, steps_done}
 use Rattle.pulsar_wire.specs.declared.error.ConnectionError.{ConnectionError}
+use Rattle.pulsar_frame.specs.Frame.{cut}
 use Rattle.pulsar_frame.specs.Message.{MessageValues}
 use Rattle.pulsar_messages.specs.Words.{Words}
 use Rattle.pulsar_requests.specs.Waits.{later_of}
 use Rattle.pulsar_session.specs.declared.states.Asked.{Asked as Placed}
 use Rattle.pulsar_session.specs.declared.states.Asked.TheVariants as placed
 use Rattle.pulsar_session.specs.Failures.{DiscoveryConnection, DiscoveryCanceled, DiscoveryFault, DiscoveryNotFound, DiscoveryShutdown, DnsLookup, Dummy, Exhausted, Failure, Fault, OfConnection, OfDiscovery, Query, fault}
+use Rattle.pulsar_session.specs.Laws.{bytes_fed, messages_taken}
 use Rattle.pulsar_session.specs.Link as session
 use Rattle.pulsar_session.specs.Link.{Act as Act', Asks, Feeds, Setup, came, due, ends, is_spent}
 use Rattle.pulsar_link.specs.Items.{Item, Given, Faulty}
@@ -29,17 +31,18 @@ use Rattle.pulsar_client.specs.declared.act.Act.TheVariants.{Comes, Starts, Told
 use Rattle.pulsar_client.specs.declared.act.Action.{Action}
 use Rattle.pulsar_client.specs.declared.act.Action.TheVariants.{Get, Ask, StopAll, Rest}
 use Rattle.pulsar_client.specs.declared.act.Alarm.{Alarm}
-use Rattle.pulsar_client.specs.declared.act.Alarm.TheVariants.{Retry, Wake, CheckIdle}
+use Rattle.pulsar_client.specs.declared.act.Alarm.TheVariants.{Retry, Wake, KeepAlive, CheckIdle}
 use Rattle.pulsar_client.specs.declared.act.Arrival.{Arrival}
 use Rattle.pulsar_client.specs.declared.act.Arrival.TheVariants.{Nothing, Readied, Settles, Gives, Passes, Bad}
 use Rattle.pulsar_client.specs.declared.act.End.{End}
 use Rattle.pulsar_client.specs.declared.act.End.TheVariants.{Overdue, Idles}
 use Rattle.pulsar_client.specs.declared.act.LinkAct.{LinkAct}
-use Rattle.pulsar_client.specs.declared.act.LinkAct.TheVariants.{Reads, Drains, Ends}
+use Rattle.pulsar_client.specs.declared.act.LinkAct.TheVariants.{Reads, Drains, Pings, Ends}
 use Rattle.pulsar_client.specs.declared.act.Makes.{Makes}
 use Rattle.pulsar_client.specs.declared.act.Notice.{Notice}
 use Rattle.pulsar_client.specs.declared.act.Outcome.{Outcome}
 use Rattle.pulsar_client.specs.declared.act.Outcome.TheVariants as outcome
+use Rattle.pulsar_client.specs.declared.act.Part.{Part}
 use Rattle.pulsar_client.specs.declared.act.Part.TheVariants.{Calls, ToLink, Rings, Polls}
 use Rattle.pulsar_client.specs.declared.act.Procedure.{Procedure}
 use Rattle.pulsar_client.specs.declared.act.Procedure.TheVariants as procedure
@@ -55,15 +58,15 @@ use Rattle.pulsar_client.specs.declared.plans.plan.Plan.{Plan}
 use Rattle.pulsar_client.specs.declared.plans.plan.Turn.{Turn}
 use Rattle.pulsar_client.specs.declared.plans.plan.Turn.TheVariants as turn
 use Rattle.pulsar_client.specs.Content.{Asked, Called, Bytes, Ticked, Poll, Shown, Queued, Write, Hands, Faults, Failed}
-use Rattle.pulsar_client.specs.Effects.{effect_below}
+use Rattle.pulsar_client.specs.Effects.{effect_below, is_before3}
 use Rattle.pulsar_client.specs.Links as links
 use Rattle.pulsar_client.specs.Links.{Change, Remains, Becomes, IsOver, arrival, call_of, closed_by, line_places, new_places}
 use Rattle.pulsar_client.specs.Plan.{begins, failure_of, fails, fault_of, reply_says, told}
-use Rattle.pulsar_client.specs.Rules.{below, dropped, fails_so, is_idle, lost, notice, procedure_for, stopped_with}
+use Rattle.pulsar_client.specs.Rules.{below, dropped, fails_so, is_idle, lost, notice, procedure_for, stopped_with, brings}
 use Rattle.pulsar_client.specs.Run.{Entry, Begins, Then, Good, IsRun, Rests, Step, agenda, calls_in, rules, steps, view}
 use Rattle.pulsar_client.specs.Subscriptions.{Subscription, closes_it, is_heard_on, is_last, polled}
 use Rattle.pulsar_client.specs.View.{Base, Chosen, Seat, Turned, View, answer_at, arrival_at, builds, closing, is_asked, pause_of, setup, turned, waits_on}
-use Rattle.pulsar_client.specs.Who.{is_same}
+use Rattle.pulsar_client.specs.Who.{is_same, rank}
 
 -- THE RUN
 
@@ -366,6 +369,23 @@ RingsAt o a e older = (now : ℕ) × (e ≡ Begins (Ticked now)) × In a (ringin
 abbrev pub AlarmsAreTicked : Type 0
 AlarmsAreTicked = (o : Chosen) (log : List Entry) (a : Alarm) → IsRun o (Then (Comes (Rings a)) ∷ log) → InThisStep (RingsAt o a) log
 
+-- What a tick brings comes in this order: the deadlines of links, by link; the attempts that follow others, by the link of the one before;
+-- those who have waited, by their rank; the signs of life, by link; then the idle check.
+abbrev pub part_rank : Part → ℕ × ℕ × ℕ
+part_rank (ToLink l x) = (0, 0, l)
+part_rank (Rings (Retry l)) = (1, 0, l)
+part_rank (Rings (Wake who)) = (2, (rank who).0, (rank who).1)
+part_rank (Rings (KeepAlive l)) = (3, 0, l)
+part_rank (Rings CheckIdle) = (4, 0, 0)
+part_rank (Calls asked) = (5, 0, 0)
+part_rank (Polls ticket) = (5, 0, ticket)
+
+abbrev pub part_below : Part → Part → Bool
+part_below a b = is_before3 (part_rank a) (part_rank b)
+
+abbrev pub TicksInOrder : Type 0
+TicksInOrder = (o : Chosen) (log : List Entry) (now : ℕ) → InOrder part_below (brings (view o log) (Ticked now))
+
 -- THE ADDRESSES
 
 -- what runs for an address, by the newest of these: an attempt began, a link of it became ready, a link of it ended, the client was stopped
@@ -429,10 +449,24 @@ abbrev pub OneLinkEach : Type 0
 OneLinkEach = (o : Chosen) (log : List Entry) (l : ℕ) (seat : Seat) → IsRun o log → (view o log).links.live l ≡ Some seat →
     names_link l (base_of (view o log) seat.address).series ≡ true
 
--- a link ends for want of use only where it is ready, was not got for so long, and nothing uses it
+-- a link ends for want of use only where it is ready, was not got for so long, and nothing uses it, as the check for that comes
+abbrev pub IsIdleAt : Chosen → (link : ℕ) → Entry → List Entry → Type 0
+IsIdleAt o l e older =
+    (seat : Seat) × (e ≡ Then (Comes (Rings CheckIdle))) × (rings (view o older).now CheckIdle (view o older).alarms ≡ true)
+    × ((view o older).links.live l ≡ Some seat) × (is_idle (view o older) l seat ≡ true)
+
 abbrev pub IdleEnds : Type 0
 IdleEnds = (o : Chosen) (log : List Entry) (l : ℕ) → IsRun o (Then (Comes (ToLink l (Ends Idles))) ∷ log) →
-    InThisStep (λ e older. (seat : Seat) × (e ≡ Then (Comes (Rings CheckIdle))) × ((view o older).links.live l ≡ Some seat) × (is_idle (view o older) l seat ≡ true)) log
+    InThisStep (IsIdleAt o l) log
+
+-- A link is asked for a sign of life only where the alarm for that rings, and none that it was asked for earlier is waited for.
+abbrev pub IsQuietAt : Chosen → (link : ℕ) → Entry → List Entry → Type 0
+IsQuietAt o l e older =
+    (seat : Seat) × (e ≡ Then (Comes (Rings (KeepAlive l)))) × (rings (view o older).now (KeepAlive l) (view o older).alarms ≡ true)
+    × ((view o older).links.live l ≡ Some seat) × (seat.ping ≡ None)
+
+abbrev pub SignsOfLife : Type 0
+SignsOfLife = (o : Chosen) (log : List Entry) (l : ℕ) → IsRun o (Then (Comes (ToLink l Pings)) ∷ log) → InThisStep (IsQuietAt o l) log
 
 -- LINKS
 
@@ -464,6 +498,11 @@ dialed_with o l (_ ∷ log) = dialed_with o l log
 abbrev pub LinksAlone : Type 0
 LinksAlone = (o : Chosen) (log : List Entry) (l : ℕ) (seat : Seat) → (view o log).links.live l ≡ Some seat →
     (s : Setup) × (dialed_with o l log ≡ Some s) × (seat.seen ≡ session.seen s (calls_of o l log))
+
+-- At the end of a step no whole frame is left unread: the messages that were taken from a link are those that all its bytes are cut into.
+abbrev pub FramesAreCut : Type 0
+FramesAreCut = (o : Chosen) (log : List Entry) (l : ℕ) (seat : Seat) → IsRun o log → Rests o log → (view o log).links.live l ≡ Some seat →
+    (s : Setup) × (dialed_with o l log ≡ Some s) × (messages_taken s (calls_of o l log) ≡ cut (bytes_fed s (calls_of o l log)))
 
 -- a list begins with another
 abbrev pub IsPrefix : {A : Type 0} → List A → List A → Type 0

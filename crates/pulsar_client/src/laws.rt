@@ -2,7 +2,7 @@
 
 ghost use Rattle.pulsar_client.specs.Address.{KnownAddresses};
 ghost use Rattle.pulsar_client.specs.Client.{StoodForIsGood};
-ghost use Rattle.pulsar_client.specs.Laws.{AnswersOnce, AttemptsFollow, BuiltIs, CallsAreMade, CausesInOrder, ClockIs, ConsumersHearToTheirEnd, DeadlinesAreTicked, DeedsFollow, Determined, EffectsArranged, EndsOnce, FailuresAreTold, LinksAlone, NoneAfterStop, OutcomesAreCaused, PlansFollow, PollsAreAnswered, PollsFollow, SeriesIsNewest, ServedByTicket, StoppedIs, TicketsCount, WritesFollow};
+ghost use Rattle.pulsar_client.specs.Laws.{AnswersOnce, AttemptsFollow, BuiltIs, CallsAreMade, CausesInOrder, ClockIs, ConsumersHearToTheirEnd, DeadlinesAreTicked, DeedsFollow, Determined, EffectsArranged, EndsOnce, FailuresAreTold, LinksAlone, NoneAfterStop, OutcomesAreCaused, PlansFollow, PollsAreAnswered, PollsFollow, SeriesIsNewest, ServedByTicket, StoppedIs, TicketsCount, WritesFollow, AlarmsAreTicked, FramesAreCut, IdleEnds, OneLinkEach, SignsOfLife, TicksInOrder};
 ghost use Rattle.pulsar_client.specs.Traces.{IsGood, attempt_fails, client_is_stopped, consumer_is_polled, deadline_comes, line_moves_up, reply_comes_early, request_is_answered};
 
 /// Options and events determine the effects of a good run.
@@ -91,7 +91,17 @@ pub fn deadlines_are_ticked()
     ensures { DeadlinesAreTicked }
 {}
 
-/// What runs for the address is what its newest turn left.
+/// An alarm comes only in a tick at whose beginning it rang.
+pub fn alarms_are_ticked()
+    ensures { AlarmsAreTicked }
+{}
+
+/// What a tick brings comes in order: deadlines, attempts, those who have waited, signs of life, the idle check.
+pub fn ticks_in_order()
+    ensures { TicksInOrder }
+{}
+
+/// What runs for an address is what its newest turn left.
 pub fn series_is_newest()
     ensures { SeriesIsNewest }
 {}
@@ -107,9 +117,29 @@ pub fn none_after_stop()
     ensures { NoneAfterStop }
 {}
 
+/// One link at a time is of an address, the one that its series names.
+pub fn one_link_each()
+    ensures { OneLinkEach }
+{}
+
+/// A link ends for want of use only where it is ready, was not got for so long, and nothing uses it.
+pub fn idle_ends()
+    ensures { IdleEnds }
+{}
+
+/// A link is asked for a sign of life only where its alarm rings and no earlier ping of it waits.
+pub fn signs_of_life()
+    ensures { SignsOfLife }
+{}
+
 /// A link that has not ended is what the calls of its connection made of it, and nothing else.
 pub fn links_alone()
     ensures { LinksAlone }
+{}
+
+/// At the end of a step no whole frame of a link is left unread.
+pub fn frames_are_cut()
+    ensures { FramesAreCut }
 {}
 
 /// The bytes that are written to a connection are the first of those that were queued there, in order.

@@ -1,5 +1,5 @@
 -- What a tick brings stands in order: the alarms do in every view.
-use Rattle.std.proofs.Common.{◌≡◌, ◌∙◌, sym, ap, subst, ℕ, suc, ◌≤◌, ◌<◌, List, [], ◌∷◌, ◌++◌, refl, arith, map, Bool, true, false, ◌&&◌, not, cond, nat_le, nat_lt, Option, Some, None}
+use Rattle.std.proofs.Common.{◌≡◌, ◌∙◌, sym, ap, subst, ℕ, zero, suc, ◌≤◌, ◌<◌, List, [], ◌∷◌, ◌++◌, refl, arith, map, Bool, true, false, ◌&&◌, not, cond, nat_le, nat_lt, Option, Some, None}
 use Rattle.std.proofs.lemmas.Bool.Decides.{nat_tests}
 use Rattle.std.specs.BTreeMap.{insert_entry}
 use Rattle.std.specs.List.{filter, flat_map}
@@ -102,40 +102,41 @@ none_through a b (x ∷ xs) h k = (chain x b a k.0 h, none_through a b xs h k.1)
 module _ (a : Alarm) (moment : ℕ) where
   none_set : (x : Alarm) (es : List (Alarm × ℕ)) → alarm_below a x ≡ false → NoneBelow alarm_below x (names es) → NoneBelow alarm_below x (names (set a moment es))
   none_set x [] h k = (h, tt)
-  none_set x (e ∷ es) h k = by (alarm_cmp a e.0)
+  none_set x (e ∷ es) h k = by (alarm_cmp a e.0) (none_set x es h k.1)
     where
-      by : (o : Ordering) → NoneBelow alarm_below x (names (match_ordering o ((a, moment) ∷ e ∷ es) ((e.0, moment) ∷ es) (e ∷ set a moment es)))
-      by Less = (h, k.0, k.1)
-      by Equal = (k.0, k.1)
-      by Greater = (k.0, none_set x es h k.1)
+      by : (o : Ordering) → NoneBelow alarm_below x (names (set a moment es)) →
+          NoneBelow alarm_below x (names (match_ordering o ((a, moment) ∷ e ∷ es) ((e.0, moment) ∷ es) (e ∷ set a moment es)))
+      by Less more = (h, k.0, k.1)
+      by Equal more = (k.0, k.1)
+      by Greater more = (k.0, more)
 
   sorted_set : (es : List (Alarm × ℕ)) → Sorted es → Sorted (set a moment es)
   sorted_set [] k = (tt, tt)
-  sorted_set (e ∷ es) k = by (alarm_cmp a e.0) refl
+  sorted_set (e ∷ es) k = by (alarm_cmp a e.0) refl (sorted_set es k.1)
     where
-      by : (o : Ordering) → alarm_cmp a e.0 ≡ o → Sorted (match_ordering o ((a, moment) ∷ e ∷ es) ((e.0, moment) ∷ es) (e ∷ set a moment es))
-      by Less h =
+      by : (o : Ordering) → alarm_cmp a e.0 ≡ o → Sorted (set a moment es) → Sorted (match_ordering o ((a, moment) ∷ e ∷ es) ((e.0, moment) ∷ es) (e ∷ set a moment es))
+      by Less h more =
           let before : alarm_below e.0 a ≡ false = one_way a e.0 (below_is a e.0 Less h) in
           ((before, none_through a e.0 (names es) before k.0), k.0, k.1)
-      by Equal h = (k.0, k.1)
-      by Greater h = (none_set e.0 es (below_is a e.0 Greater h) k.0, sorted_set es k.1)
+      by Equal h more = (k.0, k.1)
+      by Greater h more = (none_set e.0 es (below_is a e.0 Greater h) k.0, more)
 
 module _ (test : Alarm × ℕ → Bool) where
   none_filter : (x : Alarm) (es : List (Alarm × ℕ)) → NoneBelow alarm_below x (names es) → NoneBelow alarm_below x (names (filter test es))
   none_filter x [] k = tt
-  none_filter x (e ∷ es) k = by (test e)
+  none_filter x (e ∷ es) k = by (test e) (none_filter x es k.1)
     where
-      by : (b : Bool) → NoneBelow alarm_below x (names (cond b (e ∷ filter test es) (filter test es)))
-      by true = (k.0, none_filter x es k.1)
-      by false = none_filter x es k.1
+      by : (b : Bool) → NoneBelow alarm_below x (names (filter test es)) → NoneBelow alarm_below x (names (cond b (e ∷ filter test es) (filter test es)))
+      by true more = (k.0, more)
+      by false more = more
 
   sorted_filter : (es : List (Alarm × ℕ)) → Sorted es → Sorted (filter test es)
   sorted_filter [] k = tt
-  sorted_filter (e ∷ es) k = by (test e)
+  sorted_filter (e ∷ es) k = by (test e) (sorted_filter es k.1)
     where
-      by : (b : Bool) → Sorted (cond b (e ∷ filter test es) (filter test es))
-      by true = (none_filter e.0 es k.0, sorted_filter es k.1)
-      by false = sorted_filter es k.1
+      by : (b : Bool) → Sorted (filter test es) → Sorted (cond b (e ∷ filter test es) (filter test es))
+      by true more = (none_filter e.0 es k.0, more)
+      by false more = more
 
 sorted_clear : (a : Alarm) (es : List (Alarm × ℕ)) → Sorted es → Sorted (clear a es)
 sorted_clear a es k = sorted_filter (λ e. not (is_same_alarm a e.0)) es k
@@ -239,7 +240,7 @@ module _ (now : ℕ) (live : ℕ → Option Seat) where
       by false = tt
 
   due_from : (first count : ℕ) → Each (IsFrom first) (flat_map due_on (numbers_from first count))
-  due_from first 0 = tt
+  due_from first zero = tt
   due_from first (suc n) =
       each_append (IsFrom first) (due_on first) (flat_map due_on (numbers_from (suc first) n))
       (each_map (IsFor first) (IsFrom first) (due_on first) (λ p e. (first, omega arith, e)) (due_for first (live first)))
@@ -249,7 +250,7 @@ module _ (now : ℕ) (live : ℕ → Option Seat) where
       less l le = omega (arith, le)
 
   due_order : (first count : ℕ) → InOrder part_below (flat_map due_on (numbers_from first count))
-  due_order first 0 = tt
+  due_order first zero = tt
   due_order first (suc n) =
       order_append part_below (IsFor first) (IsFrom (suc first)) (due_on first) (flat_map due_on (numbers_from (suc first) n)) (by_link first)
       (due_for first (live first)) (due_from (suc first) n) (one_due first (live first)) (due_order (suc first) n)

@@ -68,16 +68,16 @@ opens_early Handshaking v k = k
 opens_early Ready v k = k
 opens_early Over v k = k
 
-greeted_early : (b : Bool) (rest : List ℕ) (v : Seen) → Early v → Early (greeted b rest v)
-greeted_early true rest v k e = absurd cc
-greeted_early false rest v k e = k e
+greeted_early : (b : Bool) (more : List ℕ) (v : Seen) → Early v → Early (greeted b more v)
+greeted_early true more v k e = absurd cc
+greeted_early false more v k e = k e
 
 taken_early : (stage : Stage) (f : Front) (v : Seen) → v.stage ≡ stage → Early v → Early (taken_in stage f v)
-taken_early Handshaking (Whole m rest) v s k = greeted_early (is 3 m) rest v k
-taken_early Ready (Whole m rest) v s k e =
-    let u = record v { unread = rest } in
+taken_early Handshaking (Whole m more) v s k = greeted_early (is 3 m) more v k
+taken_early Ready (Whole m more) v s k = λ e.
+    let u = record v { unread = more } in
     let same = unless_stage (places (settled_by m u)) m (record u { waits = answered_to m u.waits }) in
-    let no : false ≡ true = sym (ap is_dialing (same ∙ s)) ∙ e in
+    let f : false ≡ true = sym (ap is_dialing (same ∙ s)) ∙ e in
     absurd cc
 taken_early _ _ v s k = k
 
@@ -87,17 +87,17 @@ drawn_stage false v = refl
 
 asks_early : (n : Result ℕ ConnectionError) (now : ℕ) (words : Words) (v : Seen) → Early v → Early (after_of n now words v)
 asks_early (Err x) now words v k = k
-asks_early (Ok id) now words v k e =
+asks_early (Ok id) now words v k = λ e.
     (asked_of (Ok id) now words v).unread
     ∙ k (ap is_dialing (sym ((asks_for_apart (request id now words)).stage (drawn (is_numbered words) v) ∙ drawn_stage (is_numbered words) v)) ∙ e)
 
 moved_stage : (line : List Standing) (v : Seen) → (moved_up line v).stage ≡ v.stage
 moved_stage [] v = refl
-moved_stage (s ∷ line) v = by (has_room v)
+moved_stage (s ∷ line) v = by (has_room v) (moved_stage line (queue s.frame s.claim v))
   where
-    by : (b : Bool) → (cond b (moved_up line (queue s.frame s.claim v)) (record v { line = s ∷ line })).stage ≡ v.stage
-    by true = moved_stage line (queue s.frame s.claim v)
-    by false = refl
+    by : (b : Bool) → (moved_up line (queue s.frame s.claim v)).stage ≡ v.stage → (cond b (moved_up line (queue s.frame s.claim v)) (record v { line = s ∷ line })).stage ≡ v.stage
+    by true more = more
+    by false more = refl
 
 early_on : (act : Act') (v : Seen) → Early v → Early (session.after act v)
 early_on (session.Opens now) v k = opens_early v.stage (ticked now v) k
@@ -160,10 +160,10 @@ came_short Dialing f v h = inl refl
 came_short Over f v h = inl refl
 came_short Handshaking Short v h = inr refl
 came_short Handshaking (Refused r) v h = absurd cc
-came_short Handshaking (Whole m rest) v h = greeted_came (is 3 m) h
+came_short Handshaking (Whole m more) v h = greeted_came (is 3 m) h
 came_short Ready Short v h = inr refl
 came_short Ready (Refused r) v h = absurd cc
-came_short Ready (Whole m rest) v h = whole_came (places (settled_by m v)) m h
+came_short Ready (Whole m more) v h = whole_came (places (settled_by m v)) m h
 
 shut_dialing : (stage : Stage) → is_open stage ≡ false → is_over stage ≡ false → is_dialing stage ≡ true
 shut_dialing Dialing o l = refl
@@ -417,7 +417,7 @@ module _ (o : Chosen) (l : ℕ) (log : List Entry) (k : Reading o l log) where
       by false h = inl (was_read seat h)
 
 reading : (o : Chosen) (l : ℕ) (log : List Entry) → IsRun o log → Reading o l log
-reading o l [] run seat h = absurd (no_some h)
+reading o l [] run = λ seat h. absurd (no_some h)
 reading o l (Begins e ∷ log) run = begins o l log (reading o l log run.0) e run.1
 reading o l (Then (Comes (ToLink m x)) ∷ log) run = to_link o l log (reading o l log run.0) m x run.1
 reading o l (Then (Does who (Get p)) ∷ log) run =

@@ -1,10 +1,10 @@
 -- The two tables of series agree: the newest connection of a key has a seat at an address of that key, and each seat is that of the
 -- newest connection of its key.
-use Rattle.std.proofs.Common.{◌≡◌, ◌≢◌, ◌∙◌, sym, ap, subst, refl, ℕ, ◌+◌, ◌<◌, Bool, true, false, List, ◌⊎◌, inl, inr, Option, Some, None, ◌==◌, if◌then◌else◌, bytes_eq, arith}
+use Rattle.std.proofs.Common.{◌≡◌, ◌≢◌, ◌∙◌, sym, ap, subst, ℕ, ◌+◌, ◌<◌, false, List, ◌⊎◌, inl, inr, Option, Some, None, ◌==◌, bytes_eq, arith}
 use Rattle.std.proofs.lemmas.Slice.Eq.{bytes_eq-Decides}
 use Rattle.pulsar_plans.specs.Address.{Place, address_key}
 use Rattle.pulsar_discovery.specs.declared.addresses.Phase.{Phase}
-use Rattle.pulsar_discovery.specs.declared.addresses.Phase.TheVariants.{Runs, Pauses, Serves}
+use Rattle.pulsar_discovery.specs.declared.addresses.Phase.TheVariants.{Runs}
 use Rattle.pulsar_discovery.specs.declared.addresses.Seat.{Seat}
 use Rattle.pulsar_discovery.specs.Series.{Series, begun, in_phase, no_series, put_at, put_key, reseated, seat_of, without}
 use Rattle.pulsar_discovery.proofs.Cases.{apart, at, beside, off, same, under, which, which_key}

@@ -1,11 +1,11 @@
 -- A connection that was ready is ready until it is over, whatever is done to it.
-use Rattle.std.proofs.Common.{◌≡◌, ◌∙◌, sym, ap, subst, refl, ℕ, ◌++◌, ◌&&◌, Bool, true, false, cond, List, [], ◌∷◌, drop, Result, Ok, Err, Some}
+use Rattle.std.proofs.Common.{◌≡◌, ◌∙◌, sym, subst, refl, ℕ, ◌++◌, Bool, true, false, cond, List, [], ◌∷◌, drop, Result, Ok, Err}
 use Rattle.pulsar_wire.specs.declared.error.ConnectionError.{ConnectionError}
 use Rattle.pulsar_frame.specs.Frame.{Front, Short, Refused, Whole, front}
 use Rattle.pulsar_messages.specs.Words.{Words, is_numbered}
 use Rattle.pulsar_session.specs.declared.states.Stage.{Stage}
 use Rattle.pulsar_session.specs.declared.states.Stage.TheVariants.{Dialing, Handshaking, Ready, Over}
-use Rattle.pulsar_session.specs.Link.{Act, Asks, Closes, Drains, Feeds, Opens, Seen, Standing, Takes, after, after_of, answered_to, drawn, has_room, is_open, is_over, moved_up, number_for, opens_in, queue, request, settled_by, taken_in, ticked}
+use Rattle.pulsar_session.specs.Link.{Act, Asks, Closes, Drains, Feeds, Opens, Seen, Standing, Takes, after, after_of, drawn, has_room, is_open, is_over, moved_up, number_for, opens_in, queue, request, taken_in, ticked}
 use Rattle.pulsar_session.proofs.Pieces.{asks_for_apart, unless_stage}
 
 abbrev pub IsGreeted : Stage → Type 0

@@ -1,6 +1,6 @@
 -- What holds of a manager after every history: of each connection, its seat, what is seen of it, its address, what was told of it, and
 -- the retries that were made.
-use Rattle.std.proofs.Common.{◌≡◌, ◌≢◌, ◌∙◌, sym, ap, subst, refl, ℕ, ◌+◌, ◌-◌, ◌^◌, ◌<◌, ◌≤◌, min, nat_lt, Bool, true, false, ◌&&◌, IsTrue, List, [], ◌∷◌, ◌++◌, ◌⊎◌, inl, inr, Option, Some, None, ◌==◌, if◌then◌else◌, bytes_eq, append-nil, arith}
+use Rattle.std.proofs.Common.{◌≡◌, ◌∙◌, sym, ap, subst, refl, ℕ, ◌+◌, ◌^◌, ◌<◌, ◌≤◌, nat_lt, Bool, true, false, ◌&&◌, IsTrue, List, [], ◌∷◌, ◌++◌, inl, inr, Option, Some, None, ◌==◌, if◌then◌else◌, append-nil, arith}
 use Rattle.std.proofs.lemmas.Bool.Decides.{nat_tests}
 use Rattle.std.proofs.Math.Path.{fun_ext}
 use Rattle.std.specs.Option.{option_map}
@@ -17,9 +17,9 @@ use Rattle.pulsar_discovery.specs.declared.addresses.Seat.{Seat}
 use Rattle.pulsar_discovery.specs.declared.manager.Seen.{Seen}
 use Rattle.pulsar_discovery.specs.declared.manager.Terms.{Terms}
 use Rattle.pulsar_discovery.specs.declared.manager.Seen.TheVariants as seen
-use Rattle.pulsar_discovery.specs.Manager.{Known, GotRefused, GotStarted, after_again_at, after_got, after_seen, fresh, got_by, is_pausing, is_over, is_pause, is_retryable, is_spent, left_of, phase_after, retries_of, seen_at, seen_by, seen_failed, seen_running, setup, starts}
-use Rattle.pulsar_discovery.specs.Series.{Series, in_phase, put_at, reseated, seat_of, standing, standing_at, without}
-use Rattle.pulsar_discovery.specs.History.{Event, Wants, Does, Looks, Retries, IsAllowed, IsHistory, IsOver, address_of, address_or, after, after_done, change, got_started, known_after, retries_made, told_of}
+use Rattle.pulsar_discovery.specs.Manager.{Known, GotRefused, GotStarted, after_again_at, after_got, after_seen, fresh, got_by, is_pausing, is_over, is_pause, is_retryable, is_spent, left_of, phase_after, retries_of, seen_at, seen_running, setup, starts}
+use Rattle.pulsar_discovery.specs.Series.{in_phase, put_at, reseated, seat_of, standing, standing_at, without}
+use Rattle.pulsar_discovery.specs.History.{Event, Wants, Does, Looks, Retries, IsHistory, IsOver, address_of, address_or, after, after_done, change, got_started, known_after, retries_made, told_of}
 use Rattle.pulsar_discovery.proofs.Books.{Books, empty, first, freed, moved, next, seat_is}
 use Rattle.pulsar_discovery.proofs.Greeted.{IsGreeted, greeted_stays}
 use Rattle.pulsar_discovery.proofs.Cases.{apart, at, off, same, which}

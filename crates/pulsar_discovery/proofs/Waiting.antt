@@ -1,5 +1,5 @@
 -- Those that wait for an address: series of attempts follow one another, and the end of each is told once.
-use Rattle.std.proofs.Common.{◌≡◌, ◌≢◌, ◌∙◌, sym, ap, subst, refl, ℕ, ◌+◌, Bool, true, false, ◌&&◌, IsTrue, List, [], ◌∷◌, ◌++◌, ◌⊎◌, inl, inr, Option, Some, None, ◌==◌, if◌then◌else◌, nat_lt, bytes_eq, arith}
+use Rattle.std.proofs.Common.{◌≡◌, ◌∙◌, sym, ap, subst, refl, ℕ, Bool, true, false, IsTrue, List, [], ◌∷◌, ◌++◌, inl, inr, Option, Some, None, ◌==◌, if◌then◌else◌, bytes_eq, arith}
 use Rattle.std.proofs.lemmas.Bool.{cases_Bool}
 use Rattle.std.proofs.lemmas.Slice.Eq.{bytes_eq-Decides}
 use Rattle.std.specs.Option.{option_map}
@@ -16,13 +16,13 @@ use Rattle.pulsar_discovery.specs.declared.addresses.Seat.{Seat}
 use Rattle.pulsar_discovery.specs.declared.manager.Seen.{Seen}
 use Rattle.pulsar_discovery.specs.declared.manager.Terms.{Terms}
 use Rattle.pulsar_discovery.specs.declared.manager.Seen.TheVariants as seen
-use Rattle.pulsar_discovery.specs.Manager.{GotRefused, GotStarted, Known, after_again_at, after_got, after_seen, got_by, is_pause, is_pausing, is_retryable, is_spent, phase_after, retries_of, seen_at, seen_by, seen_failed, seen_running, starts}
+use Rattle.pulsar_discovery.specs.Manager.{GotRefused, GotStarted, Known, after_again_at, after_got, after_seen, got_by, is_pause, is_pausing, is_spent, phase_after, retries_of, seen_at, seen_running, starts}
 use Rattle.pulsar_discovery.specs.Series.{Series, begun, in_phase, put_at, put_key, reseated, seat_of, standing, standing_at, without}
 use Rattle.pulsar_discovery.specs.History.{Begins, Does, Ends, Event, InTurn, IsHistory, Looks, Mark, Retries, Waits, Wants, address_of, got_marks, is_at, is_running, known_after, marks_of, retries_made, seen_marks, told_of}
 use Rattle.pulsar_discovery.specs.Laws.{WaitersAreToldOnce}
 use Rattle.pulsar_discovery.proofs.Books.{Books, other_key}
 use Rattle.pulsar_discovery.proofs.Cases.{apart, at, beside, off, under}
-use Rattle.pulsar_discovery.proofs.Sound.{Sound, free, small, sound, stands}
+use Rattle.pulsar_discovery.proofs.Sound.{Sound, sound, stands}
 
 -- an attempt runs, or its retry is waited for
 abbrev runs : Option (ℕ × Phase) → Bool

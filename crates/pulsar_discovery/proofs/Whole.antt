@@ -1,5 +1,5 @@
 -- What follows of every history of a manager, of what holds of each connection and of the two tables.
-use Rattle.std.proofs.Common.{◌≡◌, ◌≢◌, ◌∙◌, sym, ap, subst, refl, ℕ, ◌+◌, ◌≤◌, Bool, true, false, IsTrue, List, [], ◌∷◌, ◌⊎◌, inl, inr, Option, Some, None, if◌then◌else◌, arith}
+use Rattle.std.proofs.Common.{◌≡◌, ◌∙◌, sym, ap, subst, refl, ℕ, Bool, true, false, IsTrue, List, [], ◌∷◌, ◌⊎◌, inl, inr, Option, Some, None, if◌then◌else◌, arith}
 use Rattle.std.proofs.Math.Path.{fun_ext}
 use Rattle.std.specs.Option.{option_map}
 use Rattle.pulsar_session.specs.Link as session
@@ -14,13 +14,12 @@ use Rattle.pulsar_discovery.specs.declared.addresses.Seat.{Seat}
 use Rattle.pulsar_discovery.specs.declared.manager.Seen.{Seen}
 use Rattle.pulsar_discovery.specs.declared.manager.Terms.{Terms}
 use Rattle.pulsar_discovery.specs.declared.manager.Seen.TheVariants as seen
-use Rattle.pulsar_discovery.specs.Manager.{GotReady, GotRefused, GotStarted, GotValues, GotWaiting, Is, Known, after_get, fresh, gets, got_by, is_pause, is_pausing, is_spent, looks, seen_at, seen_by, seen_running}
+use Rattle.pulsar_discovery.specs.Manager.{GotReady, GotRefused, GotStarted, GotWaiting, Is, Known, fresh, gets, got_by, is_pause, is_pausing, is_spent, looks, seen_at, seen_by, seen_running}
 use Rattle.pulsar_discovery.specs.Series.{IsSeries, Series, standing, standing_at}
 use Rattle.pulsar_discovery.specs.History.{Event, IsHistory, IsLive, IsOver, address_of, after, known_after, retries_made, told_of}
-use Rattle.pulsar_discovery.specs.Laws.{ChangesAreToldOnce, Follows, GotIsReady, HistoryGoesOn, IsCourse, IsFor, IsOpen, NothingIsKept, OneAtATime, ReadyIsGot, RetriesHaveAMost, RunningIsWaitedFor, SeenByHistory, StartsWhereNoneIs}
+use Rattle.pulsar_discovery.specs.Laws.{ChangesAreToldOnce, GotIsReady, HistoryGoesOn, IsCourse, IsFor, NothingIsKept, OneAtATime, ReadyIsGot, RetriesHaveAMost, RunningIsWaitedFor, SeenByHistory, StartsWhereNoneIs}
 use Rattle.pulsar_discovery.proofs.Greeted.{IsGreeted}
-use Rattle.pulsar_discovery.proofs.Books.{Books}
-use Rattle.pulsar_discovery.proofs.Sound.{Fits, Holds, IsRetried, Sound, Tries, free, sound, stands}
+use Rattle.pulsar_discovery.proofs.Sound.{Fits, Holds, IsRetried, Tries, sound, stands}
 
 -- two that are known alike are one
 one_series : (a b : Series) → IsSeries a b → a ≡ b

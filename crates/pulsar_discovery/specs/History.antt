@@ -4,13 +4,11 @@ use Rattle.std.specs.Prelude.{◌≡◌, ℕ, ◌+◌, ◌^◌, ◌<◌, bytes_e
 use Rattle.std.specs.Option.{option_map}
 use Rattle.pulsar_session.specs.Link as session
 use Rattle.pulsar_plans.specs.Address.{Place, address_key}
-use Rattle.pulsar_discovery.specs.declared.addresses.Phase.{Phase}
-use Rattle.pulsar_discovery.specs.declared.addresses.Phase.TheVariants.{Runs, Pauses, Serves}
 use Rattle.pulsar_discovery.specs.declared.addresses.Seat.{Seat}
 use Rattle.pulsar_discovery.specs.declared.manager.Seen.{Seen}
 use Rattle.pulsar_discovery.specs.declared.manager.Terms.{Terms}
 use Rattle.pulsar_discovery.specs.declared.manager.Seen.TheVariants as seen
-use Rattle.pulsar_discovery.specs.Manager.{Is, Known, GotValues, GotReady, GotStarted, GotWaiting, GotRefused, after_again, after_get, after_look, fresh, gets, is_pausing, looks}
+use Rattle.pulsar_discovery.specs.Manager.{Known, GotValues, GotReady, GotStarted, GotWaiting, GotRefused, after_again, after_get, after_look, fresh, gets, is_pausing, looks}
 use Rattle.pulsar_discovery.specs.Series.{put_at}
 
 -- WHAT IS DONE TO A MANAGER: an event for each call that changes it

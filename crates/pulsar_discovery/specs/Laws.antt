@@ -1,7 +1,7 @@
 -- What holds of machines, of the manager, and of its whole histories.
-use Rattle.std.specs.Prelude.{◌≡◌, ℕ, ◌<◌, ◌^◌, List, ◌∷◌, length, ◌≤◌, Bool, true, IsTrue, [], Option, Some, None, if◌then◌else◌, ◌⊎◌}
+use Rattle.std.specs.Prelude.{◌≡◌, ℕ, ◌<◌, ◌^◌, List, ◌∷◌, length, ◌≤◌, true, IsTrue, [], Option, Some, None, if◌then◌else◌, ◌⊎◌}
 use Rattle.url.specs.Parts.{serialize}
-use Rattle.pulsar_plans.specs.Address.{Place, address_key, is_reachable}
+use Rattle.pulsar_plans.specs.Address.{IsSame, Place, address_key, is_reachable}
 use Rattle.pulsar_plans.specs.declared.plan.Procedure.{Procedure}
 use Rattle.pulsar_plans.specs.declared.turn.Ways.{Ways}
 use Rattle.pulsar_discovery.specs.Machine.{Refuse, lost, next_after, stage_after}
@@ -10,7 +10,7 @@ use Rattle.pulsar_discovery.specs.declared.machine.Stage.TheVariants.{Over}
 use Rattle.pulsar_discovery.specs.declared.outcome.Told.{Told}
 use Rattle.pulsar_discovery.specs.declared.manager.Seen.{Seen}
 use Rattle.pulsar_discovery.specs.declared.manager.Terms.{Terms}
-use Rattle.pulsar_discovery.specs.History.{Event, InTurn, IsHistory, IsLive, IsOver, address_of, after, known_after, marks_of, retries_made, started, told_of}
+use Rattle.pulsar_discovery.specs.History.{Event, InTurn, IsHistory, IsLive, IsOver, address_of, after, known_after, marks_of, retries_made, told_of}
 use Rattle.pulsar_session.specs.Link as session
 use Rattle.pulsar_session.specs.declared.states.Stage.TheVariants as stages
 use Rattle.pulsar_discovery.specs.declared.manager.Seen.TheVariants as seen
@@ -25,11 +25,11 @@ LostBehindTheEnd =
 abbrev pub ToldOnce : Type 0
 ToldOnce = (l now : ℕ) (k : Known) → looks l (after_look l now k) ≡ seen.Same
 
--- two addresses with one key have the same texts
+-- two addresses with one key are the same
 abbrev pub KeysDiffer : Type 0
 KeysDiffer =
     (a b : Place) → length (serialize a.url) < 2 ^ 64 → length (serialize b.url) < 2 ^ 64 → address_key a ≡ address_key b
-    → (serialize a.url ≡ serialize b.url) × (a.broker_url ≡ b.broker_url) × (a.proxy ≡ b.proxy)
+    → IsSame a b
 
 -- WHOLE HISTORIES OF A MANAGER
 

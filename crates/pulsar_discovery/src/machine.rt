@@ -5,20 +5,20 @@ ghost use Rattle.pulsar_plans.specs.Plans.{fails};
 ghost use Rattle.pulsar_session.specs.Failures.{Disconnected};
 ghost use Rattle.pulsar_discovery.specs.Machine.{Extends, Goes, StandsFor, does, lost, stands, step, step_of, told, turns};
 
+use crate::kept::Kept;
 use crate::outcome::{Next, Outcome, Told, content_of, found_by, message_of};
 use pulsar_plans::content::{Cause, Refusal};
 use pulsar_plans::plan::{self, Answer, Plan, Procedure};
 use pulsar_plans::question::Request;
 use pulsar_plans::turn::{Action, Outcome as Happened, Turn, Ways};
-use pulsar_wire::error::{ConnectionError, Error, NoMemory};
+use pulsar_wire::error::{ConnectionError, NoMemory};
 use std::alloc::Global;
-use std::mem;
 
 /// How far a machine is.
 #[derive(Drop)]
 pub enum Stage {
     New(Procedure),
-    On(Plan),
+    On(Kept),
     Over,
 }
 
@@ -51,12 +51,12 @@ impl Machine {
         ensures memory { OnErr result (self.new.stage ≡ None) }
         ensures spent { self.old.stage ≡ None → IsErr result }
     {
-        let told = content_of(self.alloc, outcome);
         let Some(stage) = self.stage.take() else {
+            drop(outcome);
             return Err(NoMemory);
         };
-        let (stage, next) = goes(self.alloc, &self.ways, stage, told?)?;
-        self.stage = Some(stage);
+        let (stage, next) = goes(self.alloc, &self.ways, stage, outcome)?;
+        drop(self.stage.replace(stage));
         Ok(Box::into_inner(next))
     }
 }
@@ -66,13 +66,21 @@ fn goes(
     alloc: Global,
     ways: &Ways,
     stage: Stage,
-    told: Told,
+    outcome: Outcome,
 ) -> Result<(Stage, Box<Next>), NoMemory>
-    ensures stage { IfOk result (λ s. s.0 ≡ stands (turns ways.now stage told)) }
-    ensures next { IfOk result (λ s. step s.1.value ≡ step_of (turns ways.now stage told)) }
+    ensures stage { IfOk result (λ s. s.0 ≡ stands (turns ways.now stage (told outcome))) }
+    ensures next { IfOk result (λ s. step s.1.value ≡ step_of (turns ways.now stage (told outcome))) }
 {
-    let turn = turns(alloc, ways, stage, told)?;
-    said(alloc, turn)
+    match content_of(alloc, outcome) {
+        Ok(told) => {
+            let turn = turns(alloc, ways, stage, told)?;
+            said(alloc, turn)
+        }
+        Err(e) => {
+            drop(stage);
+            Err(e)
+        }
+    }
 }
 
 /// What a machine makes of what it is told.
@@ -85,15 +93,56 @@ fn turns(
     ensures { IfOk result (λ turn. turn ≡ turns ways.now stage told) }
 {
     match stage {
-        Stage::New(procedure) => match told {
-            Told::Begun => plan::begins(alloc, ways, procedure),
-            Told::Then(_) => lost(alloc),
-        },
-        Stage::On(plan) => match told {
-            Told::Begun => plan::told(alloc, ways, plan, Happened::Failed(disconnected(alloc)?)),
-            Told::Then(outcome) => plan::told(alloc, ways, plan, outcome),
-        },
+        Stage::New(procedure) => begins(alloc, ways, procedure, told),
+        Stage::On(kept) => goes_on(alloc, ways, kept.into_inner(), told),
         Stage::Over => lost(alloc),
+    }
+}
+
+/// A machine that was told nothing yet.
+fn begins(
+    alloc: Global,
+    ways: &Ways,
+    procedure: Procedure,
+    told: Told,
+) -> Result<Turn<Plan, Result<Answer, Refusal>>, NoMemory>
+    ensures { IfOk result (λ turn. turn ≡ turns ways.now (Stage.New procedure) told) }
+{
+    match told {
+        Told::Begun => plan::begins(alloc, ways, procedure),
+        Told::Then(_) => lost(alloc),
+    }
+}
+
+/// A machine whose plan waits for an outcome.
+fn goes_on(
+    alloc: Global,
+    ways: &Ways,
+    plan: Plan,
+    told: Told,
+) -> Result<Turn<Plan, Result<Answer, Refusal>>, NoMemory>
+    ensures { IfOk result (λ turn. turn ≡ turns ways.now (Stage.On plan) told) }
+{
+    match told {
+        Told::Begun => goes_on_without(alloc, ways, plan),
+        Told::Then(outcome) => plan::told(alloc, ways, plan, outcome),
+    }
+}
+
+/// To begin once more is an outcome that the plan doesn't wait for.
+fn goes_on_without(
+    alloc: Global,
+    ways: &Ways,
+    plan: Plan,
+) -> Result<Turn<Plan, Result<Answer, Refusal>>, NoMemory>
+    ensures { IfOk result (λ turn. turn ≡ turns ways.now (Stage.On plan) Told.Begun) }
+{
+    match disconnected(alloc) {
+        Ok(cause) => plan::told(alloc, ways, plan, Happened::Failed(cause)),
+        Err(e) => {
+            drop(plan);
+            Err(e)
+        }
     }
 }
 
@@ -120,7 +169,11 @@ fn said(
     ensures next { IfOk result (λ s. step s.1.value ≡ step_of turn) }
 {
     match turn {
-        Turn::Stays(plan, action) => Ok((Stage::On(plan), done(alloc, action)?)),
+        Turn::Stays(plan, action) => {
+            let kept = Kept::new(alloc, plan);
+            let next = done(alloc, action)?;
+            Ok((Stage::On(kept?), next))
+        }
         Turn::Gives(given) => Ok((Stage::Over, end(alloc, given)?)),
     }
 }

@@ -5,6 +5,7 @@ pub mod Ringing
 pub mod Timing
 pub mod Deliveries
 pub mod Listening
+pub mod Idle
 pub mod Waiting
 pub mod Saying
 pub mod Steps

@@ -1,6 +1,7 @@
 -- Links that nothing uses, and what their ends are.
 use Rattle.std.proofs.Common.{◌≡◌, ◌≤◌, ◌<◌, ◌+◌, ◌==◌, ◌∙◌, ℕ, zero, suc, ◌&&◌, ◌||◌, not, nat_lt, ◌↔◌, sym, ap, subst, refl, arith, Bool, true, false, List, [], ◌∷◌, ◌++◌, Option, Some, None, inl, inr}
 use Rattle.std.proofs.lemmas.Bool.{cases_Bool, cases_lt, false≢true, or_right}
+use Rattle.std.proofs.lemmas.Bool.Decides.{nat_tests}
 use Rattle.std.proofs.lemmas.Cmp.{nat_cmp_total}
 use Rattle.std.proofs.lemmas.List.{append-nil}
 use Rattle.std.proofs.lemmas.List.Elements.{recursion_from_All}
@@ -55,19 +56,28 @@ module _ (consumers : ℕ → Option Subscription) (drawn l : ℕ) (ticketed : A
         | inl y ↦ (
             let one = h.0 y in
             let there : is_heard_at l (consumers one.0) ≡ true = sym (same_test l (consumers one.0)) ∙ one.1 in
-            absurd (false≢true (sym n ∙ any_number (λ t. is_heard_at l (consumers t)) 0 drawn one.0 (omega arith) (ticket_below one.0 there) there)))
+            let below : one.0 < drawn = ticket_below one.0 there in
+            absurd (false≢true (sym n ∙ any_number (λ t. is_heard_at l (consumers t)) 0 drawn one.0 (omega arith) (omega arith) there)))
         | inr m ↦ (m ∙ sym n)
       ]
   ]
 
 -- a link rests, and none hears on it
+none_stand : (standing : ℕ) → (standing == 0) ≡ not (nat_lt 0 standing)
+none_stand standing = grind (arith, nat_tests)
+
+idle_by : (ready late empty some heard : Bool) →
+    ((ready && (late && (empty && not some))) && not heard) ≡ (ready && (late && not (not empty || (some || heard))))
+idle_by false late empty some heard = refl
+idle_by true false empty some heard = refl
+idle_by true true false some heard = refl
+idle_by true true true true heard = refl
+idle_by true true true false heard = refl
+
 pub idle_is : (ready late empty heard : Bool) (standing : ℕ) →
     ((ready && (late && (empty && (standing == 0)))) && not heard) ≡ (ready && (late && not (not empty || (nat_lt 0 standing || heard))))
-idle_is false late empty heard standing = refl
-idle_is true false empty heard standing = refl
-idle_is true true false heard standing = refl
-idle_is true true true heard zero = refl
-idle_is true true true heard (suc n) = refl
+idle_is ready late empty heard standing =
+    ap (λ b. (ready && (late && (empty && b))) && not heard) (none_stand standing) ∙ idle_by ready late empty (nat_lt 0 standing) heard
 
 -- WHAT EACH LINK GIVES
 

@@ -22,13 +22,13 @@ loop-link-preserved c = λ drawn ticketed.
     let gives = λ (e : ℕ × Row). idle_act_at c.args.now c.args.most drawn subs e.0 (seat_of e.1) in
     let seen = map deref_pair c.loop-link.yielded in
     let link = c.in-Some.link.now in
-    let one = (link, c.in-Some.row.now) in
+    let one : ℕ × Row = (link, c.in-Some.row.now) in
     c.in_ok-end_idle.ensures
     ∙ ap (λ b. c.loop-link.acts.items ++ (if b then Comes (ToLink link (Ends Idles)) ∷ [] else [])) (c.is_idle.ensures drawn ticketed)
     ∙ ap (λ acts. acts ++ gives one) (c.loop-link.invariant drawn ticketed)
     ∙ ap (λ acts. flat_map gives seen ++ acts) (sym (append-nil (gives one)))
     ∙ sym (flat_map-append gives seen (one ∷ []))
-    ∙ ap (flat_map gives) (sym (map-append deref_pair c.loop-link.yielded ((c.in-Some.link, c.in-Some.row) ∷ [])))
+    ∙ ap (flat_map gives) (sym (map-append deref_pair c.loop-link.yielded _))
 
 pub returns-clause-ends : goal.returns-clause-ends
 returns-clause-ends c = λ drawn ticketed.

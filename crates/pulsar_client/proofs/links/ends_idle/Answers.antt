@@ -24,7 +24,7 @@ loop-link-preserved c = λ drawn ticketed.
     let link = c.in-Some.link.now in
     let one : ℕ × Row = (link, c.in-Some.row.now) in
     c.in_ok-end_idle.ensures
-    ∙ ap (λ b. c.loop-link.acts.items ++ (if b then Comes (ToLink link (Ends Idles)) ∷ [] else [])) (c.is_idle.ensures drawn ticketed)
+    ∙ ap (λ b. c.loop-link.acts.items ++ (if b then Comes (ToLink link (Ends Idles)) ∷ [] else [])) (c.is_idle-is_idle.ensures drawn ticketed)
     ∙ ap (λ acts. acts ++ gives one) (c.loop-link.invariant drawn ticketed)
     ∙ ap (λ acts. flat_map gives seen ++ acts) (sym (append-nil (gives one)))
     ∙ sym (flat_map-append gives seen (one ∷ []))

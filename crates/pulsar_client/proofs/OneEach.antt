@@ -87,16 +87,16 @@ record Turns (v w : View) (k : ℕ) (seat : Seat) : Type 0 where
       (v.addresses.pause l ≡ Some p) ⊎ ((l ≡ k) × (p.address ≡ seat.address) × (series_at w (address_key seat.address) ≡ Pauses k))
 
 module _ (v w : View) (k : ℕ) (seat : Seat) (t : Turns v w k seat) (is : Is v) where
-  abbrev key : List ℕ
-  key = address_key seat.address
+  abbrev own : List ℕ
+  own = address_key seat.address
 
-  named : names_link k (series_at v key) ≡ true
+  named : names_link k (series_at v own) ≡ true
   named = is.links k seat t.here
 
   pauses_on : (l : ℕ) (p : Pause) → w.addresses.pause l ≡ Some p → series_at w (address_key p.address) ≡ Pauses l
   pauses_on l p h = elim (t.set l p h) [
-    | inl old ↦ elim (cases_Bool (bytes_eq key (address_key p.address))) [
-      | inl e ↦ none_paused k l (series_at v key) named (ap (series_at v) (same_key key (address_key p.address) e) ∙ is.pauses l p old)
+    | inl old ↦ elim (cases_Bool (bytes_eq own (address_key p.address))) [
+      | inl e ↦ none_paused k l (series_at v own) named (ap (series_at v) (same_key own (address_key p.address) e) ∙ is.pauses l p old)
       | inr e ↦ t.elsewhere (address_key p.address) e ∙ is.pauses l p old
     ]
     | inr new ↦ ap (λ a. series_at w (address_key a)) new.1 ∙ new.2 ∙ ap Pauses (sym new.0)
@@ -110,10 +110,10 @@ module _ (v w : View) (k : ℕ) (seat : Seat) (t : Turns v w k seat) (is : Is v)
         ap (λ m. names_link m (series_at w (address_key s.address))) link ∙ ap (λ a. names_link k (series_at w (address_key a))) o.0 ∙ o.1)
     | inr e ↦
         (let n : names_link l (series_at v (address_key s.address)) ≡ true = is.links l s (sym (t.others l e) ∙ h) in
-        elim (cases_Bool (bytes_eq key (address_key s.address))) [
+        elim (cases_Bool (bytes_eq own (address_key s.address))) [
           | inl d ↦
               (let both : names_link k (series_at v (address_key s.address)) ≡ true =
-              sym (ap (λ x. names_link k (series_at v x)) (same_key key (address_key s.address) d)) ∙ named in
+              sym (ap (λ x. names_link k (series_at v x)) (same_key own (address_key s.address) d)) ∙ named in
               let link : l ≡ k = one_named l k (series_at v (address_key s.address)) n both in
               let f : true ≡ false = sym (eq-eqb l k link) ∙ e in
               absurd cc)
@@ -205,7 +205,7 @@ module _ (v : View) (k : ℕ) (x : LinkAct) where
           (let same : q ≡ p = some_is (rw d at h) in
           let is = pause_is v.chosen x t.change seat.address (series_at v t.key) q (sym f) in
           inr (eqb-true l k d, ap (λ (z : Pause). z.address) (sym same) ∙ is.1,
-          own_series ∙ (λ i. (base_turned k (is.0 i) (f (1 - i)) (v.addresses.base t.key)).series)))
+          own_series ∙ (λ i. (base_turned k (is.0 i) (sym f i) (v.addresses.base t.key)).series)))
       | inr d ↦ inl (rw d at h)
     ]
 
@@ -294,26 +294,29 @@ rings_same v a = record {
 
 -- THE STOP
 
+either_is : (b c : Bool) → (b || c) ≡ true → (b ≡ true) ⊎ (c ≡ true)
+either_is true c h = inl refl
+either_is false c h = inr h
+
 -- an address that waits for an attempt is named by one that is to follow
 follows_for : (v : View) (key : List ℕ) (es : List (Alarm × ℕ)) → list_any (λ e. is_to_follow v.addresses key e.0) es ≡ true →
     (l : ℕ) × (p : Pause) × (v.addresses.pause l ≡ Some p) × (bytes_eq (address_key p.address) key ≡ true)
 follows_for v key [] h = absurd cc
-follows_for v key (e ∷ es) h = by e.0 h
+follows_for v key (e ∷ es) h = elim (either_is (is_to_follow v.addresses key e.0) (list_any (λ d. is_to_follow v.addresses key d.0) es) h) [
+  | inl own ↦ by e.0 own
+  | inr rest ↦ follows_for v key es rest
+]
   where
-    for_some : (l : ℕ) (row : Option Pause) → v.addresses.pause l ≡ row → (is_for key row || list_any (λ d. is_to_follow v.addresses key d.0) es) ≡ true →
+    for_some : (l : ℕ) (row : Option Pause) → v.addresses.pause l ≡ row → is_for key row ≡ true →
         (l : ℕ) × (p : Pause) × (v.addresses.pause l ≡ Some p) × (bytes_eq (address_key p.address) key ≡ true)
-    for_some l None is g = follows_for v key es g
-    for_some l (Some p) is g = elim (cases_Bool (bytes_eq (address_key p.address) key)) [
-      | inl d ↦ (l, p, is, d)
-      | inr d ↦ follows_for v key es (rw d at g)
-    ]
+    for_some l None set g = absurd cc
+    for_some l (Some p) set g = (l, p, set, g)
 
-    by : (a : Alarm) → (is_to_follow v.addresses key a || list_any (λ d. is_to_follow v.addresses key d.0) es) ≡ true →
-        (l : ℕ) × (p : Pause) × (v.addresses.pause l ≡ Some p) × (bytes_eq (address_key p.address) key ≡ true)
+    by : (a : Alarm) → is_to_follow v.addresses key a ≡ true → (l : ℕ) × (p : Pause) × (v.addresses.pause l ≡ Some p) × (bytes_eq (address_key p.address) key ≡ true)
     by (Retry l) g = for_some l (v.addresses.pause l) refl g
-    by (Wake who) g = follows_for v key es g
-    by (KeepAlive l) g = follows_for v key es g
-    by CheckIdle g = follows_for v key es g
+    by (Wake who) g = absurd cc
+    by (KeepAlive l) g = absurd cc
+    by CheckIdle g = absurd cc
 
 stops : (v : View) (who : Who) → Is v → Is (after (Does who StopAll) v)
 stops v who is = record {

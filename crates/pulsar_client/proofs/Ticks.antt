@@ -106,7 +106,7 @@ module _ (a : Alarm) (moment : ℕ) where
     where
       by : (o : Ordering) → NoneBelow alarm_below x (names (set a moment es)) →
           NoneBelow alarm_below x (names (match_ordering o ((a, moment) ∷ e ∷ es) ((e.0, moment) ∷ es) (e ∷ set a moment es)))
-      by Less more = (h, k.0, k.1)
+      by Less more = (h, (k.0, k.1))
       by Equal more = (k.0, k.1)
       by Greater more = (k.0, more)
 
@@ -117,7 +117,7 @@ module _ (a : Alarm) (moment : ℕ) where
       by : (o : Ordering) → alarm_cmp a e.0 ≡ o → Sorted (set a moment es) → Sorted (match_ordering o ((a, moment) ∷ e ∷ es) ((e.0, moment) ∷ es) (e ∷ set a moment es))
       by Less h more =
           let before : alarm_below e.0 a ≡ false = one_way a e.0 (below_is a e.0 Less h) in
-          ((before, none_through a e.0 (names es) before k.0), k.0, k.1)
+          ((before, none_through a e.0 (names es) before k.0), (k.0, k.1))
       by Equal h more = (k.0, k.1)
       by Greater h more = (none_set e.0 es (below_is a e.0 Greater h) k.0, more)
 

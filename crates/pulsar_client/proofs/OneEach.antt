@@ -1,5 +1,5 @@
 -- One link at a time is of an address, the one that its series names; and the attempt that is to follow is of an address that waits for it.
-use Rattle.std.proofs.Common.{◌≡◌, ◌⊎◌, inl, inr, ◌∙◌, sym, ap, subst, ℕ, ◌+◌, ◌≤◌, List, [], ◌∷◌, refl, Bool, true, false, ◌&&◌, ◌||◌, cond, ◌==◌, Option, Some, None}
+use Rattle.std.proofs.Common.{◌≡◌, ◌⊎◌, inl, inr, ◌∙◌, sym, ap, subst, ℕ, List, [], ◌∷◌, refl, Bool, true, false, ◌&&◌, ◌||◌, cond, ◌==◌, Option, Some, None}
 use Rattle.std.proofs.lemmas.Bool.{cases_Bool, eqb-true, eq-eqb}
 use Rattle.std.proofs.lemmas.Slice.Eq.{bytes_eq-Decides}
 use Rattle.std.specs.List.{list_any}
@@ -15,7 +15,6 @@ use Rattle.pulsar_client.specs.declared.act.Alarm.{Alarm}
 use Rattle.pulsar_client.specs.declared.act.Alarm.TheVariants.{Retry, Wake, KeepAlive, CheckIdle}
 use Rattle.pulsar_client.specs.declared.act.Arrival.{Arrival}
 use Rattle.pulsar_client.specs.declared.act.Arrival.TheVariants.{Readied}
-use Rattle.pulsar_client.specs.declared.act.End.{End}
 use Rattle.pulsar_client.specs.declared.act.LinkAct.{LinkAct}
 use Rattle.pulsar_client.specs.declared.act.LinkAct.TheVariants.{Opens, Reads, Drains, Pings, Ends}
 use Rattle.pulsar_client.specs.declared.act.Part.TheVariants.{ToLink, Rings}
@@ -25,7 +24,7 @@ use Rattle.pulsar_client.specs.declared.addresses.Series.{Series}
 use Rattle.pulsar_client.specs.declared.addresses.Series.TheVariants.{Nobody, Runs, Pauses, Serves}
 use Rattle.pulsar_client.specs.Alarms.{rings}
 use Rattle.pulsar_client.specs.Content.{Heard, Bytes}
-use Rattle.pulsar_client.specs.Laws.{Attempted, AttemptsFollow, Begun, Followed, OneLinkEach, base_of, names_link}
+use Rattle.pulsar_client.specs.Laws.{Attempted, AttemptsFollow, Begun, OneLinkEach, base_of, names_link}
 use Rattle.pulsar_client.specs.Links.{Change, Remains, Becomes, IsOver, arrival, change_at, change_by, change_in, closed_by}
 use Rattle.pulsar_client.specs.Run.{Entry, Begins, Then, IsRun, view}
 use Rattle.pulsar_client.specs.View.{Base, Chosen, Seat, Turned, View, after, base_on, base_turned, begun, begun_live, dialed, got_at, is_for, is_live, is_to_follow, link_got, live_begun, may_retry, nobody, pause_for, pause_on, pause_put, pause_rung, pause_with, seat_asked, seat_fed, seat_got, took, took_end, took_some, turned, turned_by, waits_for, waits_on}
@@ -204,8 +203,11 @@ module _ (v : View) (k : ℕ) (x : LinkAct) where
       | inl d ↦
           (let same : q ≡ p = some_is (rw d at h) in
           let is = pause_is v.chosen x t.change seat.address (series_at v t.key) q (sym f) in
-          inr (eqb-true l k d, ap (λ (z : Pause). z.address) (sym same) ∙ is.1,
-          own_series ∙ (λ i. (base_turned k (is.0 i) (sym f i) (v.addresses.base t.key)).series)))
+          inr (
+            eqb-true l k d,
+            ap (λ (z : Pause). z.address) (sym same) ∙ is.1,
+            own_series ∙ (λ i. (base_turned k (is.0 i) (sym f i) (v.addresses.base t.key)).series),
+          ))
       | inr d ↦ inl (rw d at h)
     ]
 
@@ -371,7 +373,7 @@ dials v p starter retries free is = record {
           let f : true ≡ false = sym (is.links l seat h) ∙ no in
           absurd cc)
       | inr d ↦ ap (λ b. names_link l (cond b (record { series = Runs starter retries n; waiting = (v.addresses.base (address_key seat.address)).waiting })
-            (v.addresses.base (address_key seat.address))).series) d
+          (v.addresses.base (address_key seat.address))).series) d
           ∙ is.links l seat h
     ]
 

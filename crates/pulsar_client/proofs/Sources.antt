@@ -1,5 +1,5 @@
 -- Some acts come only with a tick, with the alarm of a sign of life, or with the idle check.
-use Rattle.std.proofs.Common.{◌≡◌, ◌⊎◌, inl, inr, ◌∙◌, sym, ap, subst, ℕ, List, [], ◌∷◌, ◌++◌, refl, map, Bool, true, false, cond, Option, Some, None}
+use Rattle.std.proofs.Common.{◌≡◌, ◌⊎◌, inl, inr, sym, subst, ℕ, List, [], ◌∷◌, ◌++◌, refl, map, Bool, true, false, cond, Option, Some, None}
 use Rattle.std.specs.List.{flat_map}
 use Rattle.std.specs.Option.{option_to_list}
 use Rattle.pulsar_plans.specs.Address.{Place, address_key, is_reachable}
@@ -18,7 +18,6 @@ use Rattle.pulsar_client.specs.declared.act.End.TheVariants.{Overdue, Idles}
 use Rattle.pulsar_client.specs.declared.act.LinkAct.TheVariants.{Ends, Pings, Reads}
 use Rattle.pulsar_client.specs.declared.act.Notice.{Notice}
 use Rattle.pulsar_client.specs.declared.act.Outcome.TheVariants as outcome
-use Rattle.pulsar_client.specs.declared.act.Part.{Part}
 use Rattle.pulsar_client.specs.declared.act.Part.TheVariants.{Calls, ToLink, Rings}
 use Rattle.pulsar_client.specs.declared.act.Verdict.{Verdict}
 use Rattle.pulsar_client.specs.declared.act.Who.{Who}
@@ -33,7 +32,7 @@ use Rattle.pulsar_client.specs.Alarms.{ringing, rings}
 use Rattle.pulsar_client.specs.Content.{Asked, Heard, Ticked}
 use Rattle.pulsar_client.specs.Links.{numbers_from}
 use Rattle.pulsar_client.specs.Plan.{begins, fails}
-use Rattle.pulsar_client.specs.Rules.{at_once, breaks_at, brings, called, does, due_part, follows, follows_some, further, gets, gets_from, idle_act, is_idle, keeps_alive, may_ping, on_link, over_links, parts, performs, procedure_for, reads_on, rung, stop_act, tells, tries_again}
+use Rattle.pulsar_client.specs.Rules.{at_once, breaks_at, brings, called, does, due_part, follows, follows_some, further, gets_from, idle_act, is_idle, may_ping, on_link, over_links, parts, performs, procedure_for, reads_on, rung, stop_act, tells, tries_again}
 use Rattle.pulsar_client.specs.Run.{Entry, Begins, Then, rules, view}
 use Rattle.pulsar_client.specs.View.{Chosen, Links, Seat, Tickets, View, arrival_at, is_live, told_some}
 use Rattle.pulsar_client.proofs.Acts.{Each, each_append, each_map, over_each}

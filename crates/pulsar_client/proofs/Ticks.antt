@@ -1,7 +1,6 @@
 -- What a tick brings stands in order: the alarms do in every view.
-use Rattle.std.proofs.Common.{◌≡◌, ◌∙◌, sym, ap, subst, ℕ, zero, suc, ◌≤◌, ◌<◌, List, [], ◌∷◌, ◌++◌, refl, arith, map, Bool, true, false, ◌&&◌, not, cond, nat_le, nat_lt, Option, Some, None}
+use Rattle.std.proofs.Common.{◌≡◌, ◌∙◌, sym, ap, subst, ℕ, zero, suc, ◌≤◌, List, [], ◌∷◌, ◌++◌, refl, arith, map, Bool, true, false, ◌&&◌, not, cond, nat_le, Option, Some, None}
 use Rattle.std.proofs.lemmas.Bool.Decides.{nat_tests}
-use Rattle.std.specs.BTreeMap.{insert_entry}
 use Rattle.std.specs.List.{filter, flat_map}
 use Rattle.std.specs.Option.{option_to_list}
 use Rattle.std.specs.Ordering.{is_lt, match_ordering}
@@ -26,7 +25,7 @@ use Rattle.pulsar_client.specs.Laws.{TicksInOrder, part_below, part_rank}
 use Rattle.pulsar_client.specs.Links.{Change, Remains, Becomes, IsOver, numbers_from}
 use Rattle.pulsar_client.specs.Rules.{due_part, on_link, over_links}
 use Rattle.pulsar_client.specs.Run.{Entry, Begins, Then, view}
-use Rattle.pulsar_client.specs.View.{Chosen, Seat, Turned, View, alarms_after, alarms_built, alarms_on, alarms_over, alarms_rung, alarms_turned, builds, delay_of, idle_period, later, turned}
+use Rattle.pulsar_client.specs.View.{Chosen, Seat, Turned, View, alarms_after, alarms_on, alarms_over, alarms_rung, alarms_turned, builds, delay_of, idle_period, later, turned}
 use Rattle.pulsar_client.proofs.Acts.{Each, begun_same, each_append, each_map}
 use Rattle.pulsar_client.proofs.Instances.{one_way3, chain3}
 use Rattle.pulsar_client.proofs.Sorting.{cmp3, lt3}

@@ -18,14 +18,14 @@ use Rattle.pulsar_session.specs.declared.states.Stage.{Stage}
 use Rattle.pulsar_session.specs.declared.states.Stage.TheVariants.{Dialing, Handshaking, Ready, Over}
 use Rattle.pulsar_session.specs.Answers.{is}
 use Rattle.pulsar_session.specs.Failures.{Fault}
-use Rattle.pulsar_session.specs.Laws.{bytes_fed, messages_taken}
+use Rattle.pulsar_session.specs.Laws.{messages_taken}
 use Rattle.pulsar_session.specs.Link as session
 use Rattle.pulsar_session.specs.Link.{Act as Act', Asks, Closes, Came, Feeds, Seen, Setup, after_of, answered_to, asks_for, came, came_by, came_in, drawn, for_consumer, greeted, greeted_by, greets_with, has_room, is_open, is_over, moved_up, number_for, opens_in, queue, request, settled_by, Standing, taken_in, ticked, unasked}
 use Rattle.pulsar_session.proofs.Pieces.{asks_for_apart, unless_stage}
-use Rattle.pulsar_session.proofs.Still.{asked_of, moving, opening, unless}
+use Rattle.pulsar_session.proofs.Still.{asked_of, moving, opening}
 use Rattle.pulsar_session.proofs.Streams.{taken_are_cut}
 use Rattle.pulsar_client.specs.declared.act.Act.{Act}
-use Rattle.pulsar_client.specs.declared.act.Act.TheVariants.{Comes, Told, Does, Dials}
+use Rattle.pulsar_client.specs.declared.act.Act.TheVariants.{Comes, Does, Dials}
 use Rattle.pulsar_client.specs.declared.act.Action.TheVariants.{Get, Ask}
 use Rattle.pulsar_client.specs.declared.act.Arrival.{Arrival}
 use Rattle.pulsar_client.specs.declared.act.Arrival.TheVariants as arrivals
@@ -40,10 +40,9 @@ use Rattle.pulsar_client.specs.declared.act.Who.{Who}
 use Rattle.pulsar_client.specs.Content.{Heard, Bytes}
 use Rattle.pulsar_client.specs.Laws.{FramesAreCut, calls_of, dialed_with}
 use Rattle.pulsar_client.specs.Links.{arrives, closed_by}
-use Rattle.pulsar_client.specs.Links as links
-use Rattle.pulsar_client.specs.Rules.{at_once, breaks_at, brings, further, parts, reads_on}
+use Rattle.pulsar_client.specs.Rules.{at_once, breaks_at, brings, further, reads_on}
 use Rattle.pulsar_client.specs.Run.{Entry, Begins, Then, IsRun, agenda, first, rules, view}
-use Rattle.pulsar_client.specs.View.{Chosen, Seat, View, arrival_at, begun, begun_live, dialed, got_at, is_dialing, is_live, link_got, live_begun, seat_asked, seat_fed, seat_got, seat_read, took, took_end, took_some}
+use Rattle.pulsar_client.specs.View.{Chosen, Seat, arrival_at, begun_live, dialed, got_at, is_dialing, is_live, link_got, live_begun, seat_asked, seat_got, took_end, took_some}
 use Rattle.pulsar_client.proofs.Acts.{none_now}
 use Rattle.pulsar_client.proofs.Alone.{Made, alone, no_some, some_is}
 
@@ -439,6 +438,6 @@ frames_are_cut_lem o log l seat run rests live =
       k.setup,
       k.dialed,
       sym (append-nil (messages_taken k.setup calls))
-      ∙ ap (λ ms. messages_taken k.setup calls ++ ms) (sym none)
-      ∙ taken_are_cut k.setup calls (ap (λ (v : Seen). is_over v.stage) (sym k.same) ∙ k.live),
+          ∙ ap (λ ms. messages_taken k.setup calls ++ ms) (sym none)
+          ∙ taken_are_cut k.setup calls (ap (λ (v : Seen). is_over v.stage) (sym k.same) ∙ k.live),
     )

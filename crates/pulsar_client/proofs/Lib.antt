@@ -12,6 +12,7 @@ pub mod Steps
 pub mod Sorting
 pub mod Acts
 pub mod Instances
+pub mod Done
 pub mod Plain
 pub mod Ticketed
 pub mod Turning

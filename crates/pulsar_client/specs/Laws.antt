@@ -1,9 +1,9 @@
 -- What follows from the definition of a good run, in plain words.
-use Rattle.std.specs.Prelude.{◌≡◌, ◌⊎◌, ℕ, ◌+◌, ◌≤◌, ◌==◌, bytes_eq, ◌&&◌, ◌||◌, not, Bool, true, false, if◌then◌else◌, List, [], ◌∷◌, ◌++◌, map, Option, Some, None, Result, Ok, Err}
+use Rattle.std.specs.Prelude.{◌≡◌, ◌⊎◌, ℕ, pos, ◌+◌, ◌≤◌, ◌==◌, bytes_eq, ◌&&◌, ◌||◌, not, Bool, true, false, if◌then◌else◌, List, [], ◌∷◌, ◌++◌, map, Option, Some, None, Result, Ok, Err}
 use Rattle.std.specs.List.{flat_map}
 use Rattle.std.specs.Option.{is_some, option_map, option_to_list}
 use Rattle.pulsar_run.specs.Laws as run
-use Rattle.pulsar_run.specs.Laws.{In, InThisStep}
+use Rattle.pulsar_run.specs.Laws.{Arises, In, InThisStep}
 use Rattle.pulsar_run.specs.Order.{AllInOrder, InOrder, arranged}
 use Rattle.pulsar_run.specs.Run.{events, steps_done}
 use Rattle.pulsar_wire.specs.declared.error.ConnectionError.{ConnectionError}
@@ -21,7 +21,8 @@ use Rattle.pulsar_link.specs.Items.{Item, Given, Faulty}
 use Rattle.pulsar_link.specs.Messages.{Reply, read}
 use Rattle.pulsar_link.specs.Request.{closed_consumer, request_number}
 use Rattle.pulsar_plans.specs.Address.{Place, address_key, is_reachable}
-use Rattle.pulsar_plans.specs.Replies.{in_discovery, query, unexpected}
+use Rattle.pulsar_plans.specs.Backoff.{allow_retry}
+use Rattle.pulsar_plans.specs.Replies.{fails_by, in_discovery, is_choice, place_at, query, unexpected}
 use Rattle.pulsar_plans.specs.declared.plan.Procedure.{Procedure as Sought}
 use Rattle.pulsar_plans.specs.declared.turn.Ways.{Ways}
 use Rattle.pulsar_session.specs.Reply.{Reply as Content, is_body}
@@ -81,6 +82,18 @@ EffectsArranged = (o : Chosen) (log : List Entry) → run.ArrangeSteps effect_be
 -- the present cause serves by rank, and so do the causes that wait: calls by ticket
 abbrev pub CausesInOrder : Type 0
 CausesInOrder = (o : Chosen) (log : List Entry) → InOrder below (agenda o log).here × AllInOrder below (agenda o log).behind
+
+-- these entries are acts, all of one step
+abbrev pub AreActs : List Entry → Type 0
+AreActs [] = Unit {0}
+AreActs (Begins e ∷ log) = ⊥
+AreActs (Then a ∷ log) = AreActs log
+
+-- Whatever arises from an event or an act, at once, as what one is told or as a part, is done before the next event begins: nothing is
+-- missing.
+abbrev pub AllIsDone : Type 0
+AllIsDone = (o : Chosen) (newer older : List Entry) (e : Entry) (a : Act) →
+    IsRun o (newer ++ e ∷ older) → Rests o (newer ++ e ∷ older) → AreActs newer → Arises rules o a e older → In (Then a) newer
 
 -- CALLS
 
@@ -293,16 +306,29 @@ number_in (procedure.Ask place request s) = Some (request_number request)
 number_in (procedure.Search ways what) = None
 number_in (procedure.Refuse r) = None
 
+-- A reply tells that the search failed, or nothing of how it went, and after so many retries it is not to be asked again.
+abbrev pub Refuses : Ways → Content → Type 0
+Refuses w r =
+    (((is_body 22 r.body ≡ true) × (fails_by (pos 1) r.response ≡ true)) ⊎ ((is_body 24 r.body ≡ true) × (fails_by (pos 2) r.response ≡ true)))
+    × (retries : ℕ) × ((is_choice (pos 6) r.error && allow_retry w.max_retries retries) ≡ false)
+
+-- a reply that lacks the number of partitions, and one that names no address
+abbrev pub LacksPartitions : Content → Type 0
+LacksPartitions r = (is_body 22 r.body ≡ true) × (r.partitions ≡ None)
+
+abbrev pub NamesNone : Content → Type 0
+NamesNone r = (is_body 24 r.body ≡ true) × ((base : Place) (proxy : Bool) → place_at base proxy r.url ≡ None)
+
 -- what a reply says to a search that fails by it: it is another body than was asked for, it tells the broker's error, or it names no
 -- address
-abbrev pub DeniesSo : DiscoveryFault → Content → Type 0
-DeniesSo (DiscoveryConnection f) r = f ≡ unexpected r r.body
-DeniesSo (Query error text) r = OfDiscovery (Query error text) ≡ query r.error r.text
-DeniesSo DiscoveryNotFound r = is_body 24 r.body ≡ true
-DeniesSo DnsLookup r = ⊥
-DeniesSo DiscoveryCanceled r = ⊥
-DeniesSo DiscoveryShutdown r = ⊥
-DeniesSo Dummy r = ⊥
+abbrev pub DeniesSo : Ways → DiscoveryFault → Content → Type 0
+DeniesSo w (DiscoveryConnection f) r = f ≡ unexpected r r.body
+DeniesSo w (Query error text) r = (OfDiscovery (Query error text) ≡ query r.error r.text) × (Refuses w r ⊎ LacksPartitions r)
+DeniesSo w DiscoveryNotFound r = NamesNone r
+DeniesSo w DnsLookup r = ⊥
+DeniesSo w DiscoveryCanceled r = ⊥
+DeniesSo w DiscoveryShutdown r = ⊥
+DeniesSo w Dummy r = ⊥
 
 -- a call fails where it is refused, and else with the fault of an outcome that it was told, or of a reply to its request; a search with
 -- these as faults of its own
@@ -311,7 +337,7 @@ pub data FailsSo (p : Procedure) (os : List Outcome) (f : Failure) : Type 0 wher
   IsTold : (u : Outcome) → In u os → f ≡ OfConnection (fault_of u) → FailsSo p os f
   IsTurned : (w : Ways) (what : Sought) (u : Outcome) → p ≡ procedure.Search w what → In u os → f ≡ in_discovery (fault_of u) → FailsSo p os f
   IsDenied : (w : Ways) (what : Sought) (r : Reply) (d : DiscoveryFault) →
-      p ≡ procedure.Search w what → In (outcome.Replied r) os → f ≡ OfDiscovery d → DeniesSo d r.content → FailsSo p os f
+      p ≡ procedure.Search w what → In (outcome.Replied r) os → f ≡ OfDiscovery d → DeniesSo w d r.content → FailsSo p os f
   IsAnswered : (r : Reply) (number : ℕ) (s : Says) → In (outcome.Replied r) os → number_in p ≡ Some number → Failed f ≡ reply_says s number r → FailsSo p os f
 
 abbrev pub FailuresAreTold : Type 0

@@ -2,8 +2,8 @@
 
 ghost use Rattle.pulsar_client.specs.Address.{KnownAddresses};
 ghost use Rattle.pulsar_client.specs.Client.{StoodForIsGood};
-ghost use Rattle.pulsar_client.specs.Laws.{AnswersOnce, AttemptsFollow, BuiltIs, CallsAreMade, CausesInOrder, ClockIs, ConsumersHearToTheirEnd, DeadlinesAreTicked, DeedsFollow, Determined, EffectsArranged, EndsOnce, FailuresAreTold, LinksAlone, NoneAfterStop, OutcomesAreCaused, PlansFollow, PollsAreAnswered, PollsFollow, SeriesIsNewest, ServedByTicket, StoppedIs, TicketsCount, WritesFollow, AlarmsAreTicked, FramesAreCut, IdleEnds, OneLinkEach, SignsOfLife, TicksInOrder};
-ghost use Rattle.pulsar_client.specs.Traces.{IsGood, attempt_fails, client_is_stopped, consumer_is_polled, deadline_comes, line_moves_up, reply_comes_early, request_is_answered};
+ghost use Rattle.pulsar_client.specs.Laws.{AlarmsAreTicked, AllIsDone, AnswersOnce, AttemptsFollow, BuiltIs, CallsAreMade, CausesInOrder, ClockIs, ConsumersHearToTheirEnd, DeadlinesAreTicked, DeedsFollow, Determined, EffectsArranged, EndsOnce, FailuresAreTold, FramesAreCut, IdleEnds, LinksAlone, NoneAfterStop, OneLinkEach, OutcomesAreCaused, PlansFollow, PollsAreAnswered, PollsFollow, SeriesIsNewest, ServedByTicket, SignsOfLife, StoppedIs, TicketsCount, TicksInOrder, WritesFollow};
+ghost use Rattle.pulsar_client.specs.Traces.{IsGood, LocalIsKnown, attempt_fails, attempt_is_retried, client_is_stopped, consumer_is_polled, deadline_comes, line_moves_up, reply_comes_early, request_is_answered};
 
 /// Options and events determine the effects of a good run.
 pub fn determined()
@@ -18,6 +18,11 @@ pub fn stood_for_is_good()
 /// The effects of each step stand in their order, and are just those of its acts, each once.
 pub fn effects_arranged()
     ensures { EffectsArranged }
+{}
+
+/// Whatever arises from an event or an act is done before the next event begins.
+pub fn all_is_done()
+    ensures { AllIsDone }
 {}
 
 /// A cause serves those whom it still has to serve by rank, calls by ticket, and so do the causes that wait.
@@ -168,7 +173,7 @@ pub fn addresses_are_known()
     ensures { KnownAddresses }
 {}
 
-/// Seven small runs are good.
+/// Eight small runs are good, at the address of a URL.
 pub fn small_runs_are_good()
     ensures answered { IsGood 8 request_is_answered }
     ensures early { IsGood 8 reply_comes_early }
@@ -177,4 +182,6 @@ pub fn small_runs_are_good()
     ensures deadline { IsGood 8 deadline_comes }
     ensures line { IsGood 1 line_moves_up }
     ensures stopped { IsGood 8 client_is_stopped }
+    ensures retried { IsGood 8 attempt_is_retried }
+    ensures address { LocalIsKnown }
 {}

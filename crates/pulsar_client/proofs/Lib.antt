@@ -16,6 +16,8 @@ pub mod Done
 pub mod Plain
 pub mod Ticketed
 pub mod Turning
+pub mod Getting
+pub mod Rings
 pub mod Made
 pub mod Attempts
 pub mod Stopping

@@ -3,4 +3,5 @@
 pub mod answers;
 pub mod plan;
 pub mod search;
+pub mod search_state;
 pub mod table;

@@ -8,9 +8,9 @@ ghost use Rattle.pulsar_client.specs.Content.{Done, Failed};
 use crate::act::{Action, Makes, Outcome, Place, Procedure, Refusal, Says, Verdict};
 use crate::content::Said;
 use crate::effect::Answer;
+use crate::plans::search_state::SearchState;
 use crate::plans::{answers, search};
 use pulsar_link::content::{Received, Request, Subscribed};
-use pulsar_plans::plan::Plan as Search;
 use pulsar_plans::turn::Ways;
 use pulsar_wire::error::{ConnectionError, Error, IoKind, NoMemory};
 use std::alloc::Global;
@@ -43,7 +43,7 @@ pub enum Plan {
     /// It waits for the reply.
     Awaiting(Wanted),
     /// It looks for brokers in these ways.
-    Searching { ways: Ways, search: Search },
+    Searching { ways: Ways, search: SearchState },
     /// It ends every link.
     Stopping,
 }

@@ -4,6 +4,7 @@ mod Greeted
 mod KeyTexts
 mod Once
 mod Puts
+mod Retried
 mod Sound
 mod Waiting
 mod Whole

@@ -19,14 +19,10 @@ use Rattle.pulsar_discovery.specs.declared.manager.Terms.{Terms}
 use Rattle.pulsar_discovery.specs.declared.manager.Seen.TheVariants as seen
 use Rattle.pulsar_discovery.specs.Manager.{Known, GotRefused, GotStarted, after_again_at, after_got, after_seen, fresh, got_by, is_pausing, is_over, is_pause, is_retryable, is_spent, left_of, phase_after, retries_of, seen_at, seen_running, setup, starts}
 use Rattle.pulsar_discovery.specs.Series.{in_phase, put_at, reseated, seat_of, standing, standing_at, without}
-use Rattle.pulsar_discovery.specs.History.{Event, Wants, Does, Looks, Retries, IsHistory, IsOver, address_of, address_or, after, after_done, change, got_started, known_after, retries_made, told_of}
+use Rattle.pulsar_discovery.specs.History.{Event, Wants, Does, Looks, Retries, IsHistory, IsOver, IsRetried, address_of, address_or, after, after_done, change, got_started, known_after, retries_made, told_of}
 use Rattle.pulsar_discovery.proofs.Books.{Books, empty, first, freed, moved, next, seat_is}
 use Rattle.pulsar_discovery.proofs.Greeted.{IsGreeted, greeted_stays}
 use Rattle.pulsar_discovery.proofs.Cases.{apart, at, off, same, which}
-
-abbrev pub IsRetried : List Seen → Type 0
-IsRetried (seen.Retry delay ∷ []) = Unit {0}
-IsRetried _ = ⊥
 
 abbrev pub Holds : Phase → Option session.Seen → List Seen → Type 0
 Holds (Runs r) None ms = ⊥
@@ -76,7 +72,7 @@ counts : (r n most : ℕ) → most < 2 ^ 32 → r ≡ n → r < most → (one_mo
 counts r n most small is less = (grind (arith, small, is, less), grind (arith, small, less))
 
 -- the seat that is left behind a change
-abbrev seat_left : Place → Option Phase → Option Seat
+abbrev pub seat_left : Place → Option Phase → Option Seat
 seat_left p None = None
 seat_left p (Some phase) = Some (seat_of p phase)
 

@@ -16,10 +16,10 @@ use Rattle.pulsar_discovery.specs.declared.manager.Terms.{Terms}
 use Rattle.pulsar_discovery.specs.declared.manager.Seen.TheVariants as seen
 use Rattle.pulsar_discovery.specs.Manager.{GotReady, GotRefused, GotStarted, GotWaiting, Is, Known, fresh, gets, got_by, is_pause, is_pausing, is_spent, looks, seen_at, seen_by, seen_running}
 use Rattle.pulsar_discovery.specs.Series.{IsSeries, Series, standing, standing_at}
-use Rattle.pulsar_discovery.specs.History.{Event, IsHistory, IsLive, IsOver, address_of, after, known_after, retries_made, told_of}
+use Rattle.pulsar_discovery.specs.History.{Event, IsHistory, IsLive, IsOver, IsRetried, address_of, after, known_after, retries_made, told_of}
 use Rattle.pulsar_discovery.specs.Laws.{ChangesAreToldOnce, GotIsReady, HistoryGoesOn, IsCourse, IsFor, NothingIsKept, OneAtATime, ReadyIsGot, RetriesHaveAMost, RunningIsWaitedFor, SeenByHistory, StartsWhereNoneIs}
 use Rattle.pulsar_discovery.proofs.Greeted.{IsGreeted}
-use Rattle.pulsar_discovery.proofs.Sound.{Fits, Holds, IsRetried, Tries, sound, stands}
+use Rattle.pulsar_discovery.proofs.Sound.{Fits, Holds, Tries, sound, stands}
 
 -- two that are known alike are one
 one_series : (a b : Series) → IsSeries a b → a ≡ b

@@ -1,6 +1,6 @@
 -- The whole history of a manager: what was done to it, and what its answers told of addresses and connections. Lists are newest first,
 -- but those of what was told are in order.  (Pulsar binary protocol, Connection establishment; Topic lookup)
-use Rattle.std.specs.Prelude.{◌≡◌, ℕ, ◌+◌, ◌^◌, ◌<◌, bytes_eq, Bool, true, false, IsTrue, List, [], ◌∷◌, ◌++◌, Option, Some, None, ◌==◌, if◌then◌else◌}
+use Rattle.std.specs.Prelude.{◌≡◌, ℕ, ◌+◌, ◌^◌, ◌<◌, bytes_eq, Bool, true, false, ◌||◌, IsTrue, List, [], ◌∷◌, ◌++◌, Option, Some, None, ◌==◌, if◌then◌else◌}
 use Rattle.std.specs.Option.{option_map}
 use Rattle.pulsar_session.specs.Link as session
 use Rattle.pulsar_plans.specs.Address.{Place, address_key}
@@ -84,6 +84,14 @@ abbrev pub retries_made : Terms → List Event → (link : ℕ) → ℕ
 retries_made t [] l = 0
 retries_made t (e ∷ h) l = retries_by l e (known_after t h) (retries_made t h)
 
+-- the next attempt behind that of a connection was started
+abbrev pub was_retried : (link : ℕ) → List Event → Bool
+was_retried l [] = false
+was_retried l (Wants p now ∷ h) = was_retried l h
+was_retried l (Does m act ∷ h) = was_retried l h
+was_retried l (Looks m now ∷ h) = was_retried l h
+was_retried l (Retries m now ∷ h) = l == m || was_retried l h
+
 -- WHAT WAS TOLD
 
 -- a change
@@ -107,6 +115,11 @@ abbrev pub IsLive : List Seen → Type 0
 IsLive [] = Unit {0}
 IsLive (seen.Ready ∷ []) = Unit {0}
 IsLive _ = ⊥
+
+-- its attempt failed, and another is to follow
+abbrev pub IsRetried : List Seen → Type 0
+IsRetried (seen.Retry delay ∷ []) = Unit {0}
+IsRetried _ = ⊥
 
 -- its attempt failed, or it was ready and has ended
 abbrev pub IsOver : List Seen → Type 0

@@ -1,5 +1,5 @@
 -- What holds of machines, of the manager, and of its whole histories.
-use Rattle.std.specs.Prelude.{◌≡◌, ℕ, ◌<◌, ◌^◌, List, ◌∷◌, length, ◌≤◌, true, IsTrue, [], Option, Some, None, if◌then◌else◌, ◌⊎◌}
+use Rattle.std.specs.Prelude.{◌≡◌, ◌↔◌, ℕ, ◌<◌, ◌^◌, List, ◌∷◌, length, ◌≤◌, true, false, IsTrue, [], Option, Some, None, if◌then◌else◌, ◌⊎◌}
 use Rattle.url.specs.Parts.{serialize}
 use Rattle.pulsar_plans.specs.Address.{IsSame, Place, address_key, is_reachable}
 use Rattle.pulsar_plans.specs.declared.plan.Procedure.{Procedure}
@@ -10,7 +10,7 @@ use Rattle.pulsar_discovery.specs.declared.machine.Stage.TheVariants.{Over}
 use Rattle.pulsar_discovery.specs.declared.outcome.Told.{Told}
 use Rattle.pulsar_discovery.specs.declared.manager.Seen.{Seen}
 use Rattle.pulsar_discovery.specs.declared.manager.Terms.{Terms}
-use Rattle.pulsar_discovery.specs.History.{Event, InTurn, IsHistory, IsLive, IsOver, address_of, after, known_after, marks_of, retries_made, told_of}
+use Rattle.pulsar_discovery.specs.History.{Event, InTurn, IsHistory, IsLive, IsOver, IsRetried, address_of, after, known_after, marks_of, retries_made, told_of, was_retried}
 use Rattle.pulsar_session.specs.Link as session
 use Rattle.pulsar_session.specs.declared.states.Stage.TheVariants as stages
 use Rattle.pulsar_discovery.specs.declared.manager.Seen.TheVariants as seen
@@ -69,17 +69,26 @@ abbrev pub OneAtATime : Type 0
 OneAtATime = (t : Terms) (h : List Event) → IsHistory t h → (p : Place) (l m : ℕ) → IsFor p (address_of t l h) → IsFor p (address_of t m h) →
     IsOpen t l h → IsOpen t m h → l ≡ m
 
+-- The next attempt of a series is waited for exactly where a retry was told, and no attempt was started since.
+abbrev pub RetriesAreWaitedFor : Type 0
+RetriesAreWaitedFor = (t : Terms) (h : List Event) → IsHistory t h → (l : ℕ) →
+    IsTrue (is_pausing ((known_after t h).series.seat l)) ↔ (IsRetried (told_of t l h) × (was_retried l h ≡ false))
+
 -- The connection of an address is got exactly where it was told that it is ready, and not that it has ended.
 abbrev pub ReadyIsGot : Type 0
 ReadyIsGot = (t : Terms) (h : List Event) → IsHistory t h → (p : Place) (l : ℕ) → is_reachable p ≡ true →
     (IsFor p (address_of t l h) → told_of t l h ≡ seen.Ready ∷ [] → gets p (known_after t h) ≡ GotReady l)
     × (gets p (known_after t h) ≡ GotReady l → IsFor p (address_of t l h) × (told_of t l h ≡ seen.Ready ∷ []))
 
+-- its attempt runs, or its retry is waited for
+abbrev pub IsUnderWay : Terms → (link : ℕ) → List Event → Type 0
+IsUnderWay t l h = (told_of t l h ≡ []) ⊎ IsTrue (is_pausing ((known_after t h).series.seat l))
+
 -- One waits exactly where an attempt for the address runs, or its retry is waited for.
 abbrev pub RunningIsWaitedFor : Type 0
 RunningIsWaitedFor = (t : Terms) (h : List Event) → IsHistory t h → (p : Place) → is_reachable p ≡ true →
-    ((l : ℕ) → IsFor p (address_of t l h) → (told_of t l h ≡ []) ⊎ IsTrue (is_pausing ((known_after t h).series.seat l)) → gets p (known_after t h) ≡ GotWaiting)
-    × (gets p (known_after t h) ≡ GotWaiting → (l : ℕ) × IsFor p (address_of t l h) × ((told_of t l h ≡ []) ⊎ IsTrue (is_pausing ((known_after t h).series.seat l))))
+    ((l : ℕ) → IsFor p (address_of t l h) → IsUnderWay t l h → gets p (known_after t h) ≡ GotWaiting)
+    × (gets p (known_after t h) ≡ GotWaiting → (l : ℕ) × IsFor p (address_of t l h) × IsUnderWay t l h)
 
 -- An attempt is started only where every connection of the address has failed or ended, and under a number that no other had.
 abbrev pub StartsWhereNoneIs : Type 0

@@ -1,6 +1,6 @@
 //! What holds of machines and of the manager. A function with an empty body has the law as its contract.
 
-ghost use Rattle.pulsar_discovery.specs.Laws.{ChangesAreToldOnce, GotIsReady, HistoryGoesOn, KeysDiffer, LostBehindTheEnd, NothingIsKept, OneAtATime, ReadyIsGot, RetriesHaveAMost, RunningIsWaitedFor, SeenByHistory, StartsWhereNoneIs, ToldOnce, WaitersAreToldOnce};
+ghost use Rattle.pulsar_discovery.specs.Laws.{ChangesAreToldOnce, GotIsReady, HistoryGoesOn, KeysDiffer, LostBehindTheEnd, NothingIsKept, OneAtATime, ReadyIsGot, RetriesAreWaitedFor, RetriesHaveAMost, RunningIsWaitedFor, SeenByHistory, StartsWhereNoneIs, ToldOnce, WaitersAreToldOnce};
 
 /// Behind its end a machine says that what was waited for is lost.
 pub fn lost_behind_the_end()
@@ -60,6 +60,11 @@ pub fn waiters_are_told_once()
 /// What is told of a connection follows from its history: from the retries that were made, and from what was told before.
 pub fn seen_by_history()
     ensures { SeenByHistory }
+{}
+
+/// The next attempt of a series is waited for exactly where a retry was told, and no attempt was started since.
+pub fn retries_are_waited_for()
+    ensures { RetriesAreWaitedFor }
 {}
 
 /// A series has no more retries than the options allow.

@@ -1,5 +1,5 @@
 -- Whatever arises is done before the next event begins.
-use Rattle.std.proofs.Common.{◌≡◌, ◌⊎◌, inl, inr, ◌∙◌, sym, ap, List, [], ◌∷◌, ◌++◌, refl, map, Bool, true, false, cond, Option, Some, None}
+use Rattle.std.proofs.Common.{◌≡◌, ◌⊎◌, inl, inr, ◌∙◌, ap, List, [], ◌∷◌, ◌++◌, map, Bool, true, false, cond, Some, None}
 use Rattle.pulsar_run.specs.Laws.{Arises, In, InOne}
 use Rattle.pulsar_run.specs.Order.{arranged, put, put_all}
 use Rattle.pulsar_run.specs.Run.{first_of, rest, rest_of}
@@ -9,8 +9,8 @@ use Rattle.pulsar_client.specs.declared.act.Notice.{Notice}
 use Rattle.pulsar_client.specs.declared.act.Part.{Part}
 use Rattle.pulsar_client.specs.Laws.{AllIsDone, AreActs}
 use Rattle.pulsar_client.specs.Rules.{at_once, below, causes, further}
-use Rattle.pulsar_client.specs.Run.{Entry, Begins, Then, IsRun, agenda, first, rules, view}
-use Rattle.pulsar_client.specs.View.{Chosen, View}
+use Rattle.pulsar_client.specs.Run.{Entry, Begins, Then, IsRun, agenda, rules, view}
+use Rattle.pulsar_client.specs.View.{Chosen}
 
 in_left : {A : Type 0} (x : A) (xs ys : List A) → In x xs → In x (xs ++ ys)
 in_left x [] ys h = absurd h

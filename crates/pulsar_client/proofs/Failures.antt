@@ -6,7 +6,7 @@ use Rattle.pulsar_run.specs.Laws.{In}
 use Rattle.pulsar_wire.specs.Field.{◌>>=◌}
 use Rattle.pulsar_wire.specs.Enumerations.{error_of}
 use Rattle.pulsar_messages.specs.Words.{Words}
-use Rattle.pulsar_session.specs.Failures.{DiscoveryConnection, DiscoveryFault, DiscoveryNotFound, Failure, Fault, OfConnection, OfDiscovery, Query}
+use Rattle.pulsar_session.specs.Failures.{DiscoveryConnection, DiscoveryFault, DiscoveryNotFound, Failure, OfConnection, OfDiscovery, Query}
 use Rattle.pulsar_session.specs.Reply.{Reply as Content, is_body}
 use Rattle.pulsar_link.specs.Request.{is_answered, request_number}
 use Rattle.url.specs.declared.host.Host.{Host}
@@ -34,7 +34,6 @@ use Rattle.pulsar_plans.specs.declared.replies.Heard.{Heard}
 use Rattle.pulsar_plans.specs.declared.replies.Heard.TheVariants.{Says as Tells, Later, Denies}
 use Rattle.pulsar_plans.specs.declared.replies.Pointed.{Pointed}
 use Rattle.pulsar_plans.specs.declared.replies.Pointed.TheVariants.{Redirects, Serves}
-use Rattle.pulsar_plans.specs.declared.turn.Action.{Action as Wish}
 use Rattle.pulsar_plans.specs.declared.turn.Outcome.{Outcome as News}
 use Rattle.pulsar_plans.specs.declared.turn.Outcome.TheVariants as news
 use Rattle.pulsar_plans.specs.declared.turn.Turn.{Turn as SearchTurn}
@@ -46,7 +45,6 @@ use Rattle.pulsar_client.specs.declared.act.Action.TheVariants.{Get, Ask, StopAl
 use Rattle.pulsar_client.specs.declared.act.Makes.{Makes}
 use Rattle.pulsar_client.specs.declared.act.Makes.TheVariants.{Nothing, Client}
 use Rattle.pulsar_client.specs.declared.act.Outcome.{Outcome}
-use Rattle.pulsar_client.specs.declared.act.Outcome.TheVariants as outcome
 use Rattle.pulsar_client.specs.declared.act.Outcome.TheVariants.{GotLink, Queued, InLine, Replied, Woken, Cut, Stopped}
 use Rattle.pulsar_client.specs.declared.act.Place.TheVariants.{At, Link}
 use Rattle.pulsar_client.specs.declared.act.Procedure.{Procedure}

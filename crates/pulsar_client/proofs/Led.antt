@@ -19,7 +19,7 @@ use Rattle.pulsar_client.specs.Content.{Asked}
 use Rattle.pulsar_client.specs.Laws.{Deed, Acted, Answered, ComesLate, DeedsFollow, IsToldSo, Leads, StartsSo, act_of}
 use Rattle.pulsar_client.specs.Plan.{begins, fails, told}
 use Rattle.pulsar_client.specs.Rules.{at_once, follows, follows_some, performs, procedure_for}
-use Rattle.pulsar_client.specs.Run.{Entry, Begins, Then, IsRun, agenda, view}
+use Rattle.pulsar_client.specs.Run.{Entry, Begins, Then, agenda, view}
 use Rattle.pulsar_client.specs.View.{Chosen, View, told_some}
 use Rattle.pulsar_client.proofs.Acts.{Each, IsQuiet, comes_quiet, each_map, first_case, is_served}
 use Rattle.pulsar_client.proofs.Follow.{NoDeed, follows_run, is_deed, left_plain, performs_none, quiet_no_deed}

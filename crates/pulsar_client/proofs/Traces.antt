@@ -13,7 +13,8 @@ use Rattle.pulsar_frame.specs.Tail.{tail_at}
 use Rattle.pulsar_frame.specs.Key.{key}
 use Rattle.pulsar_frame.specs.Frame.{content, counted_bytes, front, frame_bytes}
 use Rattle.url.proofs.OnLiterals.{url_on_literals}
-use Rattle.pulsar_client.specs.Traces.{IsGood, LocalIsKnown, attempt_fails, attempt_is_retried, client_is_stopped, consumer_is_polled, deadline_comes, line_moves_up, options, reply_comes_early, request_is_answered}
+use Rattle.pulsar_plans.specs.Replies.{place_heard}
+use Rattle.pulsar_client.specs.Traces.{IsGood, LocalIsKnown, attempt_fails, attempt_is_retried, client_is_stopped, consumer_is_polled, deadline_comes, line_moves_up, lookup_is_redirected, options, reply_comes_early, request_is_answered}
 use Rattle.pulsar_client.proofs.Driving.{computed}
 
 pub answered_good : IsGood 8 request_is_answered
@@ -47,6 +48,10 @@ stopped_good = computed (options 8) 20 (reverse client_is_stopped) refl
 pub retried_good : IsGood 8 attempt_is_retried
 unfolding front content counted_bytes frame_bytes sized_at with_size bytes_at command_reading fields fields_within field_at value_at varint_within some_body reading value spelling varint_in key is_utf8 chars encode_utf8 digits
 retried_good = computed (options 8) 20 (reverse attempt_is_retried) refl
+
+pub redirected_good : IsGood 8 lookup_is_redirected
+unfolding front content counted_bytes frame_bytes sized_at with_size bytes_at command_reading fields fields_within field_at value_at varint_within some_body reading value spelling varint_in key is_utf8 chars encode_utf8 digits place_heard url_on_literals
+redirected_good = computed (options 8) 20 (reverse lookup_is_redirected) refl
 
 -- and their address is that of a URL
 pub local_known : LocalIsKnown

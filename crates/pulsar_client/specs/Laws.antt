@@ -147,11 +147,12 @@ abbrev pub PlansFollow : Type 0
 PlansFollow = (o : Chosen) (log : List Entry) (w : Who) (p : Procedure) →
     IsRun o log → Rests o log → started w log ≡ Some p → deeds w log ≡ course (begins p) (outcomes w log)
 
--- what leads to a deed: its plan is where this is done, or gives this verdict
+-- the act of a deed
 abbrev pub act_of : Who → Deed → Act
 act_of w (Acted action) = Does w action
 act_of w (Answered verdict) = Answers w verdict
 
+-- a plan comes to where this is done, or gives this verdict
 abbrev pub Leads : Deed → Turn Plan Verdict → Type 0
 Leads (Acted action) t = (plan : Plan) × (t ≡ turn.Stays plan action)
 Leads (Answered verdict) t = t ≡ turn.Gives verdict

@@ -3,7 +3,7 @@
 ghost use Rattle.pulsar_client.specs.Address.{KnownAddresses};
 ghost use Rattle.pulsar_client.specs.Client.{StoodForIsGood};
 ghost use Rattle.pulsar_client.specs.Laws.{AlarmsAreTicked, AllIsDone, AnswersOnce, AttemptsFollow, BuiltIs, CallsAreMade, CausesInOrder, ClockIs, ConsumersHearToTheirEnd, DeadlinesAreTicked, DeedsFollow, Determined, EffectsArranged, EndsOnce, FailuresAreTold, FramesAreCut, IdleEnds, LinksAlone, NoneAfterStop, OneLinkEach, OutcomesAreCaused, PlansFollow, PollsAreAnswered, PollsFollow, SeriesIsNewest, ServedByTicket, SignsOfLife, StoppedIs, TicketsCount, TicksInOrder, WritesFollow};
-ghost use Rattle.pulsar_client.specs.Traces.{IsGood, LocalIsKnown, attempt_fails, attempt_is_retried, client_is_stopped, consumer_is_polled, deadline_comes, line_moves_up, reply_comes_early, request_is_answered};
+ghost use Rattle.pulsar_client.specs.Traces.{IsGood, LocalIsKnown, attempt_fails, attempt_is_retried, client_is_stopped, consumer_is_polled, deadline_comes, line_moves_up, lookup_is_redirected, reply_comes_early, request_is_answered};
 
 /// Options and events determine the effects of a good run.
 pub fn determined()
@@ -173,7 +173,7 @@ pub fn addresses_are_known()
     ensures { KnownAddresses }
 {}
 
-/// Eight small runs are good, at the address of a URL.
+/// Nine small runs are good, at the address of a URL.
 pub fn small_runs_are_good()
     ensures answered { IsGood 8 request_is_answered }
     ensures early { IsGood 8 reply_comes_early }
@@ -183,5 +183,6 @@ pub fn small_runs_are_good()
     ensures line { IsGood 1 line_moves_up }
     ensures stopped { IsGood 8 client_is_stopped }
     ensures retried { IsGood 8 attempt_is_retried }
+    ensures redirected { IsGood 8 lookup_is_redirected }
     ensures address { LocalIsKnown }
 {}

@@ -228,8 +228,15 @@ module _ (o : Chosen) (older : List Entry) (p : Place) (starter : Who) (n : ℕ)
       let a : q.address ≡ p = cc in
       let b : q.starter ≡ starter = cc in
       let c : n ≡ q.retries + 1 = cc in
-      inr (l, q.retries, refl, r, e ∙ (λ i. Some (record { address = a i; starter = b i; retries = q.retries })), c,
-          subst (λ m. m ≤ o.connection.max_retries) (sym c) (at_most q.retries o.connection.max_retries few))
+      inr (
+        l,
+        q.retries,
+        refl,
+        r,
+        e ∙ (λ i. Some (record { address = a i; starter = b i; retries = q.retries })),
+        c,
+        subst (λ m. m ≤ o.connection.max_retries) (sym c) (at_most q.retries o.connection.max_retries few),
+      )
 
   rung_caused : (a : Alarm) (ys : List Act) → rings v.now a v.alarms ≡ true → rung v a ≡ Dials p starter n ∷ ys → CausedBy (Comes (Rings a))
   rung_caused (Retry l) ys r h = followed l (v.addresses.pause l) ys r refl (few_retries o older l) h
@@ -272,7 +279,7 @@ attempts_follow_lem o (Then a ∷ older) p starter n run =
         older,
         refl,
         head_raised o older p starter n a (at_once (view o older) a) (rest (agenda o older)).now (rest g).now refl
-        (rest_none (agenda o older).now (agenda o older).here (agenda o older).behind (agenda o older).parts (one_now o older)) h,
+            (rest_none (agenda o older).now (agenda o older).here (agenda o older).behind (agenda o older).parts (one_now o older)) h,
       )
       | inr h ↦ (let f : false ≡ true = h.2 in absurd cc)
     ]

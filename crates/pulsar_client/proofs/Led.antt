@@ -110,7 +110,7 @@ deeds_follow_lem o (Then a ∷ older) w d run =
         older,
         refl,
         head_led o older w d a (at_once (view o older) a) (rest (agenda o older)).now (rest g).now refl
-        (left_plain o older a (follows_run o older run.0.0) run.0.1) h,
+            (left_plain o older a (follows_run o older run.0.0) run.0.1) h,
       )
       | inr h ↦ absurd (not_served w d h.2)
     ]

@@ -5,7 +5,7 @@ use Rattle.pulsar_client.specs.Links.{change_at}
 use Rattle.pulsar_client.specs.Subscriptions.{ended_at}
 use Rattle.pulsar_client.specs.Tables.{view_of}
 use Rattle.pulsar_client.specs.View.{base_turned, closing}
-use Rattle.pulsar_client.proofs.tables.links.Tables.ends.Goals as goal
+use Rattle.pulsar_client.proofs.tables.Tables.ends.Goals as goal
 
 pub returns-clause-sees : goal.returns-clause-sees
 returns-clause-sees c =

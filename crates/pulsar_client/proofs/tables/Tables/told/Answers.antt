@@ -13,7 +13,7 @@ use Rattle.pulsar_client.specs.Rules.{notice}
 use Rattle.pulsar_client.specs.Tables.{stand_of, view_of}
 use Rattle.pulsar_client.specs.View.{stand_after, stays, stays_some, told_some}
 use Rattle.pulsar_client.specs.Who.{is_same}
-use Rattle.pulsar_client.proofs.tables.calls.Tables.told.Goals as goal
+use Rattle.pulsar_client.proofs.tables.Tables.told.Goals as goal
 
 same : (w who : Who) → is_same w who ≡ true → w ≡ who
 same (Call t) (Call u) h = ap (λ n. Call n) (eqb-true t u h)

@@ -5,7 +5,7 @@ use Rattle.pulsar_client.specs.Links.{change_in}
 use Rattle.pulsar_client.specs.Subscriptions.{hears}
 use Rattle.pulsar_client.specs.Tables.{view_of}
 use Rattle.pulsar_client.specs.View.{base_turned}
-use Rattle.pulsar_client.proofs.tables.links.Tables.reads.Goals as goal
+use Rattle.pulsar_client.proofs.tables.Tables.reads.Goals as goal
 
 pub returns-clause-sees : goal.returns-clause-sees
 returns-clause-sees c =

@@ -4,8 +4,7 @@ use Rattle.pulsar_cli.proofs.reading.Reading.step.Goals as goal
 
 pub returns-clause-history : goal.returns-clause-history
 returns-clause-history c = λ h is.
-    let kept = c.in_ok-effects.ensures.text in
-    (
+    let kept = c.in_ok-effects.ensures.text in (
       map shown c.deref.result.now,
       rw c.deref.ensures.value (c.in_ok-effects.ensures.client h is),
       rw (sym kept.out, sym kept.events) c.in-Ok.ensures,

@@ -27,6 +27,9 @@ pub returns-in-Comes-Polls-clause-left : goal.returns-in-Comes-Polls-clause-left
 returns-in-Comes-Polls-clause-left c =
     rw (c.in-Comes-Polls.is, c.in-Comes-Polls.field-0-is) (on_ok_weaker c.polls.result (λ sees. λ ticketed. nothing_arises (agenda_of c.args.tasks.now)) c.polls.ensures.sees)
 
+pub returns-in-Comes-Polls-clause-sees : goal.returns-in-Comes-Polls-clause-sees
+returns-in-Comes-Polls-clause-sees c = rw (c.in-Comes-Polls.is, c.in-Comes-Polls.field-0-is) c.polls.ensures.sees
+
 pub returns-in-Starts-clause-left : goal.returns-in-Starts-clause-left
 returns-in-Starts-clause-left c = rw c.in-Starts.is (on_ok_weaker c.starts.result (λ left. λ ticketed. left) c.starts.ensures.left)
 

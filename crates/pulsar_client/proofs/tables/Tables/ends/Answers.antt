@@ -1,20 +1,37 @@
-use Rattle.std.proofs.Common.{◌≡◌, ◌∙◌, ap, subst, sym, Some}
+use Rattle.std.proofs.Common.{◌≡◌, ◌∙◌, ◌++◌, ◌==◌, [], ap, append_assoc, map, subst, sym, Some, None}
+use Rattle.std.proofs.lemmas.List.{append-nil}
 use Rattle.std.proofs.lemmas.Result.{on_ok_weaker}
+use Rattle.std.specs.Option.{option_map}
+use Rattle.pulsar_plans.specs.Address.{address_key}
+use Rattle.pulsar_run.specs.Order.{arranged}
+use Rattle.pulsar_client.specs.declared.act.Alarm.TheVariants.{KeepAlive}
+use Rattle.pulsar_client.specs.declared.act.LinkAct.TheVariants.{Ends}
+use Rattle.pulsar_client.specs.Alarms.{clear}
+use Rattle.pulsar_client.specs.Content.{shown}
+use Rattle.pulsar_client.specs.Effects.{given_at, retries_on}
 use Rattle.pulsar_client.specs.Kept.{IsEnd}
-use Rattle.pulsar_client.specs.Links.{change_at}
+use Rattle.pulsar_client.specs.Rules.{below, ended_on, failed_on, opens, waiters_of}
 use Rattle.pulsar_client.specs.Subscriptions.{ended_at}
-use Rattle.pulsar_client.specs.Tables.{view_of}
-use Rattle.pulsar_client.specs.View.{base_turned, closing}
+use Rattle.pulsar_client.specs.Tables.{agenda_of, retry_set, retry_shown, view_of}
+use Rattle.pulsar_client.specs.View.{alarms_on, base_on, closing, may_retry, pause_on}
+use Rattle.pulsar_client.proofs.Turned.{linked, retries_set, retries_shown, still_sees}
+use Rattle.pulsar_client.proofs.Turning.{none_ended, nothing_more, open_still, retries_still, turned_end, waiters_still}
 use Rattle.pulsar_client.proofs.tables.Tables.ends.Goals as goal
 
+pub returns-in-None-clause-out : goal.returns-in-None-clause-out
+returns-in-None-clause-out c = ?
+
+pub returns-in-None-clause-left : goal.returns-in-None-clause-left
+returns-in-None-clause-left c = ?
+
+pub returns-in-None-clause-sees : goal.returns-in-None-clause-sees
+returns-in-None-clause-sees c = ?
+
+pub returns-clause-out : goal.returns-clause-out
+returns-clause-out c = ?
+
+pub returns-clause-left : goal.returns-clause-left
+returns-clause-left c = ?
+
 pub returns-clause-sees : goal.returns-clause-sees
-returns-clause-sees c =
-    let v = view_of c.args.self.now in
-    let l = c.args.link in
-    let end = subst (λ r. IsEnd r c.args.end v.now (v.links.live l)) c.in-Some.is c.in_ok-notices.ensures.end in
-    let closed : Some end.0 ≡ closing c.args.end v.now (v.links.live l) = sym end.1 in
-    on_ok_weaker c.open.result (λ left. λ i. record v {
-      links = record { started = c.in_ok-notices.ensures.started i; live = λ k. c.in_ok-notices.ensures.live k i };
-      base = (c.in_ok-end.ensures.turned l ∙ ap (λ cause. base_turned l (change_at cause) v.base) closed) i;
-      consumers = λ t. (c.end-2.ensures t ∙ ap (λ cause. ended_at l cause (v.consumers t)) closed) i;
-    }) c.open.ensures
+returns-clause-sees c = ?

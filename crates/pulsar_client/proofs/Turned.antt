@@ -21,6 +21,11 @@ pub both : {T E P Q R : Type 0} (r : Result T E) → (P → Q → R) → OnOk r 
 both (Ok x) f p q = f p q
 both (Err e) f p q = tt
 
+-- what is not there
+pub none_left : {A : Type 0} (o : Option A) → ((x : A) → o ≡ Some x → ⊥) → o ≡ None
+none_left None h = refl
+none_left (Some x) h = absurd (h x refl)
+
 -- NOTHING IS TURNED
 
 pub still_turned : (t : Option Turned) (v : View) → IsStill t → v ≡ turned_view t v

@@ -4,8 +4,8 @@ use Rattle.pulsar_client.specs.Kept.{base_at}
 use Rattle.pulsar_client.specs.Tables.{view_of}
 use Rattle.pulsar_client.proofs.tables.Tables.tries_again.Goals as goal
 
-pub returns-in-None-clause-sees : goal.returns-in-None-clause-sees
-returns-in-None-clause-sees c =
+pub returns-in_default-clause-sees : goal.returns-in_default-clause-sees
+returns-in_default-clause-sees c =
     let v = view_of c.args.self.now in
     λ i. record v {
       addresses = record { base = base_at (c.take_pause.ensures.bases i); pause = λ l. c.take_pause.ensures.left l i };

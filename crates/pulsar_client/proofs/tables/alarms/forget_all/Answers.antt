@@ -30,6 +30,6 @@ loop-alarm-preserved c =
           ∙ ap (cond (test alarm) nobody) (c.loop-alarm.invariant.bases key)
           ∙ more (test alarm) (list_any test (take i alarms)) base
           ∙ ap (λ b. cond b nobody base) (sym (any_end test (take i alarms) alarm))
-          ∙ ap (λ as. cond (list_any test as) nobody base) (sym (take_more alarms i CheckIdle c.loop-alarm-test.true));
+          ∙ ap (λ seen. cond (list_any test seen) nobody base) (sym (take_more alarms i CheckIdle c.loop-alarm-test.true));
       pauses = c.in_ok-forget_one.ensures.pauses ∙ c.loop-alarm.invariant.pauses;
     }

@@ -13,7 +13,7 @@ returns-clause-notices c =
     let v = view_of c.args.self.now in
     let first = λ (e : Alarm × ℕ). e.0 in
     c.in_ok-notices.ensures
-    ∙ ap (flat_map (stopped_with v.addresses)) c.in_ok-all.ensures
+    ∙ ap (flat_map (stopped_with v.addresses)) (c.deref.ensures.value ∙ c.in_ok-all.ensures)
     ∙ flat_map_of (stopped_with v.addresses) first v.alarms
 
 pub returns-clause-sees : goal.returns-clause-sees
@@ -25,7 +25,7 @@ returns-clause-sees c =
         base = λ key.
             (ap (λ bases. base_at bases key) c.forget_pauses.ensures.bases
             ∙ c.in_ok-forget_all.ensures.bases key
-            ∙ ap (λ alarms. cond (list_any (is_to_follow v.addresses key) alarms) nobody (v.addresses.base key)) c.in_ok-all.ensures
+            ∙ ap (λ alarms. cond (list_any (is_to_follow v.addresses key) alarms) nobody (v.addresses.base key)) (c.deref-2.ensures.value ∙ c.in_ok-all.ensures)
             ∙ ap (λ b. cond b nobody (v.addresses.base key)) (any_map first (is_to_follow v.addresses key) v.alarms)) i;
         pause = λ l. c.forget_pauses.ensures.pauses l i;
       };

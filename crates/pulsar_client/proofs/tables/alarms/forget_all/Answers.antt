@@ -1,7 +1,7 @@
 use Rattle.std.proofs.Common.{◌≡◌, ◌∙◌, ◌||◌, ap, sym, Bool, true, false, cond, refl, take, get_or}
 use Rattle.std.proofs.lemmas.List.{take_more}
 use Rattle.std.specs.List.{list_any}
-use Rattle.pulsar_client.specs.declared.act.Alarm.TheVariants.{CheckIdle}
+use Rattle.pulsar_client.specs.declared.act.Alarm.TheVariants.{Retry}
 use Rattle.pulsar_client.specs.Kept.{addresses_of, base_at, pause_at}
 use Rattle.pulsar_client.specs.View.{Base, is_to_follow, nobody}
 use Rattle.pulsar_client.proofs.Lists.{any_end}
@@ -20,7 +20,7 @@ loop-alarm-preserved c =
     let now = addresses_of c.loop-alarm.addresses in
     let alarms = c.args.alarms.now in
     let i = c.loop-alarm.alarm-index in
-    let alarm = get_or alarms i CheckIdle in
+    let alarm = get_or alarms i (Retry 0) in
     record {
       bases = λ key.
           let test = is_to_follow known key in
@@ -30,6 +30,6 @@ loop-alarm-preserved c =
           ∙ ap (cond (test alarm) nobody) (c.loop-alarm.invariant.bases key)
           ∙ more (test alarm) (list_any test (take i alarms)) base
           ∙ ap (λ b. cond b nobody base) (sym (any_end test (take i alarms) alarm))
-          ∙ ap (λ seen. cond (list_any test seen) nobody base) (sym (take_more alarms i CheckIdle c.loop-alarm-test.true));
+          ∙ ap (λ seen. cond (list_any test seen) nobody base) (sym (take_more alarms i (Retry 0) c.loop-alarm-test.true));
       pauses = c.in_ok-forget_one.ensures.pauses ∙ c.loop-alarm.invariant.pauses;
     }

@@ -53,13 +53,13 @@ module _ (consumers : ℕ → Option Subscription) (drawn l : ℕ) (ticketed : A
         let one = one_number (λ t. is_heard_at l (consumers t)) 0 drawn y in
         h.1 (one.0, same_test l (consumers one.0) ∙ one.1) ∙ sym y)
     | inr n ↦ elim (cases_Bool b) [
-        | inl y ↦ (
-            let one = h.0 y in
-            let there : is_heard_at l (consumers one.0) ≡ true = sym (same_test l (consumers one.0)) ∙ one.1 in
-            let below : one.0 < drawn = ticket_below one.0 there in
-            absurd (false≢true (sym n ∙ any_number (λ t. is_heard_at l (consumers t)) 0 drawn one.0 (omega arith) (omega arith) there)))
-        | inr m ↦ (m ∙ sym n)
-      ]
+      | inl y ↦ (
+          let one = h.0 y in
+          let there : is_heard_at l (consumers one.0) ≡ true = sym (same_test l (consumers one.0)) ∙ one.1 in
+          let below : one.0 < drawn = ticket_below one.0 there in
+          absurd (false≢true (sym n ∙ any_number (λ t. is_heard_at l (consumers t)) 0 drawn one.0 (omega arith) (omega arith) there)))
+      | inr m ↦ (m ∙ sym n)
+    ]
   ]
 
 -- a link rests, and none hears on it

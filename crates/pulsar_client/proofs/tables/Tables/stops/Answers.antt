@@ -16,11 +16,11 @@ returns-clause-left c =
     let told = c.in_ok-put_all.ensures ∙ ap (λ (x : Agenda). record x { now = c.in_ok-stop_acts.field-0.items ++ x.now }) c.in_ok-tell.ensures in
     on_ok_weaker c.open.result
     (λ opened. opened
-        ∙ ap (λ (x : Agenda). record x { behind = x.behind ++ map (arranged below) (opens c.in_ok-notices.notices.items) }) told
-        ∙ (λ i. record g {
-          now = (ap (λ acts. acts ++ (tells c.args.who Stopped ++ g.now)) ends ∙ sym (append_assoc (over_links stop_act v.links) (tells c.args.who Stopped) g.now)) i;
-          behind = g.behind ++ map (arranged below) (opens (c.in_ok-notices.ensures.notices i));
-        }))
+    ∙ ap (λ (x : Agenda). record x { behind = x.behind ++ map (arranged below) (opens c.in_ok-notices.notices.items) }) told
+    ∙ (λ i. record g {
+      now = (ap (λ acts. acts ++ (tells c.args.who Stopped ++ g.now)) ends ∙ sym (append_assoc (over_links stop_act v.links) (tells c.args.who Stopped) g.now)) i;
+      behind = g.behind ++ map (arranged below) (opens (c.in_ok-notices.ensures.notices i));
+    }))
     c.open.ensures
 
 pub returns-clause-sees : goal.returns-clause-sees

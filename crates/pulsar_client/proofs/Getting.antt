@@ -7,7 +7,7 @@ use Rattle.pulsar_client.specs.declared.act.Act.TheVariants.{Does}
 use Rattle.pulsar_client.specs.declared.act.Action.TheVariants.{Get}
 use Rattle.pulsar_client.specs.declared.act.Who.{Who}
 use Rattle.pulsar_client.specs.declared.addresses.Series.{Series}
-use Rattle.pulsar_client.specs.declared.addresses.Series.TheVariants.{Nobody, Runs, Pauses, Serves}
+use Rattle.pulsar_client.specs.declared.addresses.Series.TheVariants.{Serves}
 use Rattle.pulsar_client.specs.View.{Base, View, after, base_waiting, got_at, serving, waits_for}
 
 -- waits where none serves yet
@@ -22,7 +22,7 @@ waits_so _ who ws h = refl
 same_key : (a b : List ℕ) → bytes_eq a b ≡ true → a ≡ b
 same_key a b h = (bytes_eq-Decides a b).0 h
 
-pub got_waits : (base : List ℕ → Base) (who : Who) (at key : List ℕ) → serves (base at).series ≡ false →
+got_waits : (base : List ℕ → Base) (who : Who) (at key : List ℕ) → serves (base at).series ≡ false →
     cond (bytes_eq at key) (base_waiting who (base key)) (base key)
     ≡ cond (bytes_eq at key) (record { series = (base key).series; waiting = waits_for (base key).series who (base key).waiting }) (base key)
 got_waits base who at key h = elim (cases_Bool (bytes_eq at key)) [
@@ -32,7 +32,7 @@ got_waits base who at key h = elim (cases_Bool (bytes_eq at key)) [
   | inr e ↦ rw e refl
 ]
 
-pub got_served : (base : List ℕ → Base) (who : Who) (at key : List ℕ) (l : ℕ) → (base at).series ≡ Serves l →
+got_served : (base : List ℕ → Base) (who : Who) (at key : List ℕ) (l : ℕ) → (base at).series ≡ Serves l →
     base key ≡ cond (bytes_eq at key) (record { series = (base key).series; waiting = waits_for (base key).series who (base key).waiting }) (base key)
 got_served base who at key l h = elim (cases_Bool (bytes_eq at key)) [
   | inl e ↦

@@ -59,9 +59,11 @@ fn an_attempt_is_tried_again(rt: HostRuntime) -> Result<(), Fail> {
     )?;
     assert!(rt; manager.look(0, 0)? == Seen::Retry(10 + 10 * jitter(0, 0)));
     assert!(rt; matches!(manager.get_base_connection(0), Got::Waiting));
+    assert!(rt; manager.is_pausing(0));
     assert!(rt; manager.again(0, 20)? == 1);
     end(&mut manager, 1, ConnectionError::Io(IoKind::TimedOut))?;
     assert!(rt; manager.look(1, 20)? == Seen::Retry(20 + 10 * jitter(0, 1)));
+    assert!(rt; manager.is_pausing(1));
     assert!(rt; manager.again(1, 60)? == 2);
     end(&mut manager, 2, ConnectionError::Io(IoKind::Other))?;
     assert!(rt; manager.look(2, 60)? == Seen::Failed);

@@ -6,7 +6,7 @@ use Rattle.pulsar_wire.specs.declared.commands.enumerations.SubType.TheVariants.
 use Rattle.pulsar_wire.specs.declared.commands.topics.Mode.{Mode}
 use Rattle.pulsar_wire.specs.declared.commands.topics.Mode.TheVariants.{Persistent, NonPersistent, All}
 use Rattle.pulsar_wire.specs.declared.error.IoKind.{IoKind}
-use Rattle.pulsar_wire.specs.declared.error.IoKind.TheVariants.{Other}
+use Rattle.pulsar_wire.specs.declared.error.IoKind.TheVariants.{ConnectionRefused, TimedOut, Other}
 
 -- true or false
 abbrev pub flag : List ℕ → Option Bool
@@ -41,4 +41,8 @@ cumulative word =
 
 -- why a connection could not be opened
 abbrev pub kind : List ℕ → Option IoKind
-kind word = if bytes_eq word (codes "other") then Some Other else None
+kind word =
+    if bytes_eq word (codes "refused") then Some ConnectionRefused
+    else if bytes_eq word (codes "timedout") then Some TimedOut
+    else if bytes_eq word (codes "other") then Some Other
+    else None

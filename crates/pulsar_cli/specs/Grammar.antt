@@ -1,10 +1,10 @@
 -- The lines of a script: the settings and the events that they are.
-use Rattle.std.specs.Prelude.{ℕ, ◌==◌, if◌then◌else◌, List, [], ◌∷◌, Option, Some, None, codes}
+use Rattle.std.specs.Prelude.{ℕ, ◌^◌, ◌==◌, nat_lt, if◌then◌else◌, List, [], ◌∷◌, Option, Some, None, codes}
 use Rattle.std.specs.List.{slice_split}
 use Rattle.std.specs.Str.{bytes_eq}
 use Rattle.pulsar_wire.specs.Field.{◌>>=◌}
 use Rattle.pulsar_messages.specs.Content.{AuthenticationValues}
-use Rattle.pulsar_client.specs.Content.{Asked, Build, Stop, Topics, Raw, Heard, Called, Opened, FailedToOpen, Bytes, Lost, Drain, Ticked, Poll}
+use Rattle.pulsar_client.specs.Content.{Asked, Build, Stop, Topics, Lookup, Partitions, Brokers, Raw, Heard, Called, Opened, FailedToOpen, Bytes, Lost, Drain, Ticked, Poll}
 use Rattle.pulsar_cli.specs.Words.{words, number, text, hex}
 use Rattle.pulsar_cli.specs.Choices.{kind, mode}
 use Rattle.pulsar_cli.specs.RawLines.{credential, raw_call}
@@ -27,6 +27,23 @@ topics (n ∷ m ∷ []) = do
   Some (Topics namespace mode)
 topics _ = None
 
+-- a topic alone
+abbrev pub topic : List (List ℕ) → Option (List ℕ)
+topic (t ∷ []) = text t
+topic _ = None
+
+-- call lookup TOPIC
+abbrev pub lookup : List (List ℕ) → Option Asked
+lookup ws = topic ws >>= λ t. Some (Lookup t)
+
+-- call partitions TOPIC
+abbrev pub partitions : List (List ℕ) → Option Asked
+partitions ws = topic ws >>= λ t. Some (Partitions t)
+
+-- call brokers TOPIC
+abbrev pub brokers : List (List ℕ) → Option Asked
+brokers ws = topic ws >>= λ t. Some (Brokers t)
+
 -- call link LINK ..
 abbrev pub on_link : List (List ℕ) → Option Asked
 on_link [] = None
@@ -42,6 +59,9 @@ call (w ∷ ws) =
     if bytes_eq w (codes "build") then build ws
     else if bytes_eq w (codes "stop") then stop ws
     else if bytes_eq w (codes "topics") then topics ws
+    else if bytes_eq w (codes "lookup") then lookup ws
+    else if bytes_eq w (codes "partitions") then partitions ws
+    else if bytes_eq w (codes "brokers") then brokers ws
     else if bytes_eq w (codes "link") then on_link ws
     else None
 
@@ -107,15 +127,25 @@ event (w ∷ ws) =
     else if bytes_eq w (codes "poll") then poll ws
     else None
 
--- An option of the client: the URL of the service, the credential, how many frames of a connection may be queued and not written,
--- how long a request waits for its reply, and an attempt for its connection, in milliseconds, the number of the first request of
--- a connection, and the time of the client's start, in milliseconds since 1970.
+-- An option of the client: the URL of the service, the credential, how many frames of a connection may be queued and not written;
+-- how long a request waits for its reply, and before it is made again, and how often it is; how many retries follow an attempt that
+-- failed, how long the first of them waits, and each at most; how long an attempt waits for its connection, how often a connection is
+-- asked for a sign of life, and how long one is kept that nothing uses; what random words are drawn from, the number of the first
+-- request of a connection, and the time of the client's start, since 1970. Times are in milliseconds.
 pub data Setting : Type 0 where
   Url : (text : List ℕ) → Setting
   Auth : (credential : AuthenticationValues) → Setting
   Outbound : (size : ℕ) → Setting
   Timeout : (time : ℕ) → Setting
+  RetryDelay : (time : ℕ) → Setting
+  OpRetries : (most : ℕ) → Setting
+  Retries : (most : ℕ) → Setting
+  MinBackoff : (time : ℕ) → Setting
+  MaxBackoff : (time : ℕ) → Setting
   ConnectionTimeout : (time : ℕ) → Setting
+  KeepAlive : (time : ℕ) → Setting
+  MaxIdle : (time : ℕ) → Setting
+  Seed : (seed : ℕ) → Setting
   First : (number : ℕ) → Setting
   Now : (time : ℕ) → Setting
 
@@ -133,14 +163,44 @@ auth _ = None
 abbrev pub number_setting : (option : List ℕ) → ℕ → Option Setting
 number_setting w n =
     if bytes_eq w (codes "outbound") then Some (Outbound n)
-    else if bytes_eq w (codes "timeout") then Some (Timeout n)
-    else if bytes_eq w (codes "connection-timeout") then Some (ConnectionTimeout n)
+    else if bytes_eq w (codes "seed") then Some (Seed n)
     else if bytes_eq w (codes "first") then Some (First n)
     else if bytes_eq w (codes "now") then Some (Now n)
     else None
 
+-- a number that has 32 bits
+abbrev pub counted : (ℕ → Setting) → ℕ → Option Setting
+counted f n = if nat_lt n (2 ^ 32) then Some (f n) else None
+
+-- how connections are attempted and kept
+abbrev pub attempt_setting : (option : List ℕ) → ℕ → Option Setting
+attempt_setting w n =
+    if bytes_eq w (codes "retries") then counted Retries n
+    else if bytes_eq w (codes "min-backoff") then Some (MinBackoff n)
+    else if bytes_eq w (codes "max-backoff") then Some (MaxBackoff n)
+    else if bytes_eq w (codes "connection-timeout") then Some (ConnectionTimeout n)
+    else if bytes_eq w (codes "keep-alive") then Some (KeepAlive n)
+    else if bytes_eq w (codes "max-idle") then Some (MaxIdle n)
+    else None
+
+-- how long requests wait, and how often they are made again
+abbrev pub request_setting : (option : List ℕ) → ℕ → Option Setting
+request_setting w n =
+    if bytes_eq w (codes "timeout") then Some (Timeout n)
+    else if bytes_eq w (codes "retry-delay") then Some (RetryDelay n)
+    else if bytes_eq w (codes "op-retries") then counted OpRetries n
+    else None
+
+-- the first of them that is there
+abbrev pub or_setting : Option Setting → Option Setting → Option Setting
+or_setting None other = other
+or_setting (Some s) other = Some s
+
+abbrev pub set_value : (option : List ℕ) → ℕ → Option Setting
+set_value w n = or_setting (number_setting w n) (or_setting (attempt_setting w n) (request_setting w n))
+
 abbrev pub set_number : (option : List ℕ) → List (List ℕ) → Option Setting
-set_number w (v ∷ []) = number v >>= number_setting w
+set_number w (v ∷ []) = number v >>= set_value w
 set_number w _ = None
 
 -- what stands behind `set`

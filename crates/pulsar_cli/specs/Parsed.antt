@@ -9,7 +9,7 @@ use Rattle.pulsar_messages.specs.Content.{authentication_values, producer_messag
 use Rattle.pulsar_client.specs.Content.{heard}
 use Rattle.pulsar_cli.specs.Words.{digits_from, in_range}
 use Rattle.pulsar_cli.specs.MessageWords.{Draft}
-use Rattle.pulsar_cli.specs.Grammar.{Setting, Url, Auth, Outbound, Timeout, ConnectionTimeout, First, Now, Line, Nothing, Sets, Happens, Refused}
+use Rattle.pulsar_cli.specs.Grammar.{Setting, Url, Auth, Outbound, Timeout, RetryDelay, OpRetries, Retries, MinBackoff, MaxBackoff, ConnectionTimeout, KeepAlive, MaxIdle, Seed, First, Now, Line, Nothing, Sets, Happens, Refused}
 use Rattle.pulsar_cli.specs.declared.grammar.line.Line.{Line as Parsed}
 use Rattle.pulsar_cli.specs.declared.grammar.line.Line.TheVariants as parsed
 use Rattle.pulsar_cli.specs.declared.grammar.message.Draft.{Draft as ParsedDraft}
@@ -30,7 +30,15 @@ setting_of (setting.Url text) = Url (string_bytes text)
 setting_of (setting.Auth credential) = Auth (authentication_values credential)
 setting_of (setting.Outbound size) = Outbound size
 setting_of (setting.Timeout time) = Timeout time
+setting_of (setting.RetryDelay time) = RetryDelay time
+setting_of (setting.OpRetries most) = OpRetries most
+setting_of (setting.Retries most) = Retries most
+setting_of (setting.MinBackoff time) = MinBackoff time
+setting_of (setting.MaxBackoff time) = MaxBackoff time
 setting_of (setting.ConnectionTimeout time) = ConnectionTimeout time
+setting_of (setting.KeepAlive time) = KeepAlive time
+setting_of (setting.MaxIdle time) = MaxIdle time
+setting_of (setting.Seed seed) = Seed seed
 setting_of (setting.First number) = First number
 setting_of (setting.Now time) = Now time
 

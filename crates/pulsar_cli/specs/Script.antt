@@ -2,12 +2,13 @@
 use Rattle.std.specs.Str.{bytes_eq}
 use Rattle.std.specs.Prelude.{◌≡◌, ◌⊎◌, Bool, false, if◌then◌else◌, codes, ℕ, ◌+◌, ◌<◌, ◌≤◌, ◌↔◌, List, [], ◌∷◌, ◌++◌, length, drop, Option, Some, None}
 use Rattle.pulsar_wire.specs.Field.{◌>>=◌}
-use Rattle.pulsar_client.specs.Address.{address_of}
+use Rattle.pulsar_plans.specs.Backoff.{default_connection_retry, default_operation_retry}
+use Rattle.pulsar_client.specs.Address.{base_in}
 use Rattle.pulsar_client.specs.Content.{Heard}
 use Rattle.pulsar_client.specs.View.{Chosen}
 use Rattle.pulsar_client.specs.Outside.{Rose}
 use Rattle.pulsar_client.specs.Run.{Good, Step, is_empty}
-use Rattle.pulsar_cli.specs.Grammar.{Setting, Url, Auth, Outbound, Timeout, ConnectionTimeout, First, Now, Line, Nothing, Sets, Happens, Refused, line, lines}
+use Rattle.pulsar_cli.specs.Grammar.{Setting, Url, Auth, Outbound, Timeout, RetryDelay, OpRetries, Retries, MinBackoff, MaxBackoff, ConnectionTimeout, KeepAlive, MaxIdle, Seed, First, Now, Line, Nothing, Sets, Happens, Refused, line, lines}
 use Rattle.pulsar_cli.specs.Text.{step, refusal}
 
 -- the words are `script` alone
@@ -28,11 +29,12 @@ pub record Script : Type 0 where
 abbrev pub defaults : Chosen
 defaults =
     record {
-      address = address_of (codes "pulsar://127.0.0.1:6650");
+      base = base_in (codes "pulsar://127.0.0.1:6650");
       auth = None;
+      connection = default_connection_retry;
+      operation = default_operation_retry;
       outbound = 100;
-      operation_timeout = 30000;
-      connection_timeout = 10000;
+      seed = 0;
       first_number = 0;
       now = 0;
     }
@@ -43,11 +45,19 @@ blank = record { options = defaults; events = [] }
 
 -- an option that is set again has the later value
 abbrev pub chooses : Setting → Chosen → Chosen
-chooses (Url text) o = record o { address = address_of text }
+chooses (Url text) o = record o { base = base_in text }
 chooses (Auth credential) o = record o { auth = Some credential }
 chooses (Outbound size) o = record o { outbound = size }
-chooses (Timeout time) o = record o { operation_timeout = time }
-chooses (ConnectionTimeout time) o = record o { connection_timeout = time }
+chooses (Timeout time) o = record o { operation = record o.operation { operation_timeout = time } }
+chooses (RetryDelay time) o = record o { operation = record o.operation { retry_delay = time } }
+chooses (OpRetries most) o = record o { operation = record o.operation { max_retries = Some most } }
+chooses (Retries most) o = record o { connection = record o.connection { max_retries = most } }
+chooses (MinBackoff time) o = record o { connection = record o.connection { min_backoff = time } }
+chooses (MaxBackoff time) o = record o { connection = record o.connection { max_backoff = time } }
+chooses (ConnectionTimeout time) o = record o { connection = record o.connection { connection_timeout = time } }
+chooses (KeepAlive time) o = record o { connection = record o.connection { keep_alive = time } }
+chooses (MaxIdle time) o = record o { connection = record o.connection { connection_max_idle = time } }
+chooses (Seed seed) o = record o { seed = seed }
 chooses (First number) o = record o { first_number = number }
 chooses (Now time) o = record o { now = time }
 

@@ -20,14 +20,8 @@ pub fn defaults(alloc: Global) -> Result<ClientOptions, NoMemory>
     Ok(ClientOptions {
         url,
         auth: None,
-        connection_retry: ConnectionRetryOptions {
-            connection_timeout: 10_000,
-            ..ConnectionRetryOptions::default()
-        },
-        operation_retry: OperationRetryOptions {
-            operation_timeout: 30_000,
-            ..OperationRetryOptions::default()
-        },
+        connection_retry: ConnectionRetryOptions::default(),
+        operation_retry: OperationRetryOptions::default(),
         outbound_channel_size: 100,
         seed: 0,
         now: 0,
@@ -44,7 +38,15 @@ pub fn choose(options: &mut ClientOptions, setting: Setting)
         Setting::Auth(auth) => options.auth = Some(auth),
         Setting::Outbound(size) => options.outbound_channel_size = size,
         Setting::Timeout(time) => options.operation_retry.operation_timeout = time,
+        Setting::RetryDelay(time) => options.operation_retry.retry_delay = time,
+        Setting::OpRetries(most) => options.operation_retry.max_retries = Some(most),
+        Setting::Retries(most) => options.connection_retry.max_retries = most,
+        Setting::MinBackoff(time) => options.connection_retry.min_backoff = time,
+        Setting::MaxBackoff(time) => options.connection_retry.max_backoff = time,
         Setting::ConnectionTimeout(time) => options.connection_retry.connection_timeout = time,
+        Setting::KeepAlive(time) => options.connection_retry.keep_alive = time,
+        Setting::MaxIdle(time) => options.connection_retry.connection_max_idle = time,
+        Setting::Seed(seed) => options.seed = seed,
         Setting::First(number) => options.first_number = number,
         Setting::Now(time) => options.now = time,
     }

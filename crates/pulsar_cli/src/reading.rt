@@ -1,9 +1,10 @@
 //! A script that is being read, and its run.
 
-ghost use Rattle.std.specs.Prelude.{◌≡◌, ◌⊎◌, ◌+◌, ◌++◌, [], ℕ, List, None, Err, IfErr, IfOk, OnOk, is_some, true};
+ghost use Rattle.std.specs.Prelude.{◌≡◌, ◌⊎◌, ◌+◌, ◌++◌, ◌∷◌, [], ℕ, List, None, Err, IfErr, IfOk, OnOk, is_some, true};
 ghost use Rattle.pulsar_client.specs.Client.{StandsFor, chosen};
 ghost use Rattle.pulsar_client.specs.Content.{heard};
 ghost use Rattle.pulsar_client.specs.Run.{Step};
+ghost use Rattle.pulsar_client.specs.Tables.{step};
 ghost use Rattle.pulsar_cli.specs.Grammar.{line as meaning};
 ghost use Rattle.pulsar_cli.specs.Parsed.{line_of, setting_of};
 ghost use Rattle.pulsar_cli.specs.Script.{chooses};
@@ -15,7 +16,7 @@ use crate::grammar::word::cut_line;
 use crate::options::{choose, copied, defaults};
 use crate::printing::effect::push_step;
 use crate::stop::Stop;
-use pulsar_client::{ClientOptions, Event, Pulsar};
+use pulsar_client::{ClientOptions, Effect, Event, Pulsar};
 use pulsar_wire::NoMemory;
 use std::alloc::Global;
 
@@ -164,16 +165,32 @@ impl Reading {
         ensures history { OnOk result (Steps self.old self.new (heard event)) }
         ensures err { IfErr result (λ stop. stop ≡ Stop.NoMemory) }
     {
-        let mut client = self.started()?;
-        let Ok(effects) = client.step(event) else {
-            return Err(Stop::NoMemory);
-        };
-        self.client = Some(client);
+        let effects = self.effects(event)?;
         let Ok(()) = push_step(&mut self.out, self.events, &effects) else {
+            drop(effects);
             return Err(Stop::NoMemory);
         };
+        drop(effects);
         self.events = next(self.events)?;
         Ok(())
+    }
+
+    /// The effects of an event.
+    fn effects(&mut self, event: Event) -> Result<Vec<Effect>, Stop>
+        ensures client { IfOk result (λ out. (h : List Step) → IsClient (chosen self.old.options) self.old.client h
+            → IsClient (chosen self.old.options) self.new.client (step event out.items ∷ h)) }
+        ensures options { OnOk result (KeepsOptions self.old self.new) }
+        ensures text { OnOk result (KeepsText self.old self.new) }
+        ensures line { OnOk result (self.new.line ≡ self.old.line) }
+        ensures err { IfErr result (λ stop. stop ≡ Stop.NoMemory) }
+    {
+        let mut client = self.started()?;
+        let effects = client.step(event);
+        drop(self.client.replace(client));
+        match effects {
+            Ok(effects) => Ok(effects),
+            Err(_) => Err(Stop::NoMemory),
+        }
     }
 
     /// The client, taken out; it is made where the first event comes.

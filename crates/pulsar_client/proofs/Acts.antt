@@ -8,20 +8,25 @@ use Rattle.pulsar_client.specs.declared.act.Act.{Act}
 use Rattle.pulsar_client.specs.declared.act.Act.TheVariants.{Comes, Told, Dials}
 use Rattle.pulsar_client.specs.declared.act.Action.{Action}
 use Rattle.pulsar_client.specs.declared.act.Action.TheVariants.{Get, Ask, StopAll}
+use Rattle.pulsar_client.specs.declared.act.Alarm.{Alarm}
+use Rattle.pulsar_client.specs.declared.act.Alarm.TheVariants.{Retry, Wake, KeepAlive, CheckIdle}
 use Rattle.pulsar_client.specs.declared.act.Arrival.{Arrival}
 use Rattle.pulsar_client.specs.declared.act.Arrival.TheVariants.{Bad}
-use Rattle.pulsar_client.specs.declared.act.LinkAct.TheVariants.{Reads}
+use Rattle.pulsar_client.specs.declared.act.End.TheVariants.{Idles}
+use Rattle.pulsar_client.specs.declared.act.LinkAct.TheVariants.{Reads, Pings, Ends}
 use Rattle.pulsar_client.specs.declared.act.Notice.{Notice}
 use Rattle.pulsar_client.specs.declared.act.Outcome.TheVariants as outcome
 use Rattle.pulsar_client.specs.declared.act.Part.{Part}
-use Rattle.pulsar_client.specs.declared.act.Part.TheVariants.{Calls, ToLink}
+use Rattle.pulsar_client.specs.declared.act.Part.TheVariants.{Calls, ToLink, Rings}
 use Rattle.pulsar_client.specs.declared.act.Who.{Who}
-use Rattle.pulsar_client.specs.declared.base.Series.{Series}
-use Rattle.pulsar_client.specs.declared.base.Series.TheVariants.{Nobody, Runs, Serves}
-use Rattle.pulsar_client.specs.Address.{Address}
+use Rattle.pulsar_client.specs.declared.addresses.Pause.{Pause}
+use Rattle.pulsar_client.specs.declared.addresses.Series.{Series}
+use Rattle.pulsar_client.specs.declared.addresses.Series.TheVariants.{Nobody, Runs, Pauses, Serves}
+use Rattle.pulsar_plans.specs.Address.{Place, address_key, is_reachable}
+use Rattle.pulsar_client.specs.Alarms.{rings}
 use Rattle.pulsar_client.specs.Content.{Heard}
 use Rattle.pulsar_client.specs.Links.{numbers_from}
-use Rattle.pulsar_client.specs.Rules.{at_once, breaks_at, gets, on_link, over_links, performs, stop_act, tells}
+use Rattle.pulsar_client.specs.Rules.{at_once, breaks_at, gets, gets_from, idle_act, is_idle, keeps_alive, may_ping, on_link, over_links, performs, rung, stop_act, tells, tries_again}
 use Rattle.pulsar_client.specs.Run.{Entry, Begins, Then, rules, view}
 use Rattle.pulsar_client.specs.View.{Chosen, Links, Seat, View, arrival_at, begun, begun_live, is_live}
 
@@ -47,6 +52,11 @@ each_drop P (x ∷ xs) p = p.1
 pub each_flat : {A B : Type 0} (P : B → Type 0) (f : A → List B) (xs : List A) → ((x : A) → Each P (f x)) → Each P (flat_map f xs)
 each_flat P f [] h = tt
 each_flat P f (x ∷ xs) h = each_append P (f x) (flat_map f xs) (h x) (each_flat P f xs h)
+
+-- either of two lists
+pub each_either : {A : Type 0} (P : A → Type 0) (b : Bool) (xs ys : List A) → Each P xs → Each P ys → Each P (cond b xs ys)
+each_either P true xs ys p q = p
+each_either P false xs ys p q = q
 
 -- whatever each live link gives
 pub over_each : {A : Type 0} (P : A → Type 0) (f : ℕ → Seat → List A) (ls : Links) → ((l : ℕ) (seat : Seat) → Each P (f l seat)) → Each P (over_links f ls)
@@ -94,20 +104,23 @@ each_first P now here behind parts a served k h = elim (first_case now here behi
 abbrev pub is_quiet : Act → Bool
 is_quiet (Comes (ToLink l x)) = true
 is_quiet (Told n) = true
-is_quiet (Dials starter) = true
+is_quiet (Dials p starter retries) = true
 is_quiet _ = false
 
 abbrev pub IsQuiet : Act → Type 0
 IsQuiet a = is_quiet a ≡ true
 
-gets_quiet : (who : Who) (address : Option Address) (s : Series) → Each IsQuiet (gets who address s)
-gets_quiet who None s = (refl, tt)
-gets_quiet who (Some address) Nobody = (refl, tt)
-gets_quiet who (Some address) (Runs starter) = tt
-gets_quiet who (Some address) (Serves l) = (refl, tt)
+from_quiet : (who : Who) (p : Place) (s : Series) → Each IsQuiet (gets_from who p s)
+from_quiet who p Nobody = (refl, tt)
+from_quiet who p (Runs starter retries l) = tt
+from_quiet who p (Pauses l) = tt
+from_quiet who p (Serves l) = (refl, tt)
+
+gets_quiet : (who : Who) (p : Place) (s : Series) → Each IsQuiet (gets who p s)
+gets_quiet who p s = each_either IsQuiet (is_reachable p) (gets_from who p s) (tells who outcome.NotFound) (from_quiet who p s) (refl, tt)
 
 pub performs_quiet : (v : View) (who : Who) (action : Action) → Each IsQuiet (performs v who action)
-performs_quiet v who Get = gets_quiet who v.chosen.address v.base.series
+performs_quiet v who (Get p) = gets_quiet who p (v.addresses.base (address_key p)).series
 performs_quiet v who (Ask l request) = (refl, tt)
 performs_quiet v who StopAll = each_append IsQuiet (over_links stop_act v.links) (tells who outcome.Stopped) (over_each IsQuiet stop_act v.links (λ l seat. (refl, tt))) (refl, tt)
 performs_quiet v who _ = tt
@@ -115,6 +128,22 @@ performs_quiet v who _ = tt
 breaks_quiet : (l : ℕ) (a : Arrival) → Each IsQuiet (breaks_at l a)
 breaks_quiet l (Bad cause) = (refl, tt)
 breaks_quiet l _ = tt
+
+tries_quiet : (row : Option Pause) → Each IsQuiet (tries_again row)
+tries_quiet None = tt
+tries_quiet (Some p) = (refl, tt)
+
+keeps_quiet : (l : ℕ) (row : Option Seat) → Each IsQuiet (keeps_alive l row)
+keeps_quiet l row = each_either IsQuiet (may_ping row) (Comes (ToLink l Pings) ∷ []) [] (refl, tt) tt
+
+idle_quiet : (v : View) (l : ℕ) (seat : Seat) → Each IsQuiet (idle_act v l seat)
+idle_quiet v l seat = each_either IsQuiet (is_idle v l seat) (Comes (ToLink l (Ends Idles)) ∷ []) [] (refl, tt) tt
+
+rung_quiet : (v : View) (a : Alarm) → Each IsQuiet (rung v a)
+rung_quiet v (Retry l) = tries_quiet (v.addresses.pause l)
+rung_quiet v (Wake who) = tt
+rung_quiet v (KeepAlive l) = keeps_quiet l (v.links.live l)
+rung_quiet v CheckIdle = over_each IsQuiet (idle_act v) v.links (idle_quiet v)
 
 -- a part of a call begins a plan, or ends the call at once; all others are quiet
 abbrev pub is_call_part : Part → Bool
@@ -124,6 +153,7 @@ is_call_part _ = false
 pub comes_quiet : (v : View) (p : Part) → is_call_part p ≡ false → Each IsQuiet (at_once v (Comes p))
 comes_quiet v (Calls asked) h = absurd cc
 comes_quiet v (ToLink l Reads) h = breaks_quiet l (arrival_at (v.links.live l))
+comes_quiet v (Rings a) h = each_either IsQuiet (rings v.now a v.alarms) (rung v a) [] (rung_quiet v a) tt
 comes_quiet v _ h = tt
 
 -- EVENTS

@@ -1,7 +1,8 @@
 -- Whatever one is told has its cause before, in the same step.
-use Rattle.std.proofs.Common.{◌≡◌, ◌⊎◌, inl, inr, ◌∙◌, sym, ap, subst, ℕ, List, [], ◌∷◌, ◌++◌, refl, map, Bool, true, false, Option, Some, None, Result, Ok, Err}
+use Rattle.std.proofs.Common.{◌≡◌, ◌⊎◌, inl, inr, ◌∙◌, sym, ap, subst, ℕ, List, [], ◌∷◌, ◌++◌, refl, map, Bool, true, false, cond, Option, Some, None, Result, Ok, Err}
 use Rattle.std.proofs.lemmas.Bool.{cases_Bool}
-use Rattle.std.specs.List.{filter_map}
+use Rattle.std.specs.List.{filter_map, flat_map}
+use Rattle.std.specs.Option.{option_map}
 use Rattle.pulsar_run.specs.Laws.{Arises, In, InOne, InThisStep}
 use Rattle.pulsar_run.proofs.Arising.{acts_arise_lem}
 use Rattle.pulsar_wire.specs.declared.error.ConnectionError.{ConnectionError}
@@ -18,34 +19,38 @@ use Rattle.pulsar_client.specs.declared.act.Act.{Act}
 use Rattle.pulsar_client.specs.declared.act.Act.TheVariants.{Comes, Starts, Told, Does, Dials}
 use Rattle.pulsar_client.specs.declared.act.Action.{Action}
 use Rattle.pulsar_client.specs.declared.act.Action.TheVariants.{Get, Ask, StopAll, Rest}
+use Rattle.pulsar_client.specs.declared.act.Alarm.{Alarm}
+use Rattle.pulsar_client.specs.declared.act.Alarm.TheVariants.{Retry, Wake, KeepAlive, CheckIdle}
 use Rattle.pulsar_client.specs.declared.act.Arrival.{Arrival}
 use Rattle.pulsar_client.specs.declared.act.Arrival.TheVariants.{Readied, Bad}
 use Rattle.pulsar_client.specs.declared.act.End.{End}
-use Rattle.pulsar_client.specs.declared.act.End.TheVariants.{Unopened, Lost, Overdue, Broken, Stops}
-use Rattle.pulsar_client.specs.declared.act.LinkAct.TheVariants.{Reads, Drains, Ends}
+use Rattle.pulsar_client.specs.declared.act.End.TheVariants.{Unopened, Lost, Overdue, Broken, Idles, Stops}
+use Rattle.pulsar_client.specs.declared.act.LinkAct.TheVariants.{Reads, Drains, Pings, Ends}
 use Rattle.pulsar_client.specs.declared.act.Notice.{Notice}
 use Rattle.pulsar_client.specs.declared.act.Outcome.{Outcome}
 use Rattle.pulsar_client.specs.declared.act.Outcome.TheVariants as outcome
 use Rattle.pulsar_client.specs.declared.act.Part.{Part}
-use Rattle.pulsar_client.specs.declared.act.Part.TheVariants.{Calls, ToLink}
+use Rattle.pulsar_client.specs.declared.act.Part.TheVariants.{Calls, ToLink, Rings}
 use Rattle.pulsar_client.specs.declared.act.Verdict.{Verdict}
 use Rattle.pulsar_client.specs.declared.act.Who.{Who}
-use Rattle.pulsar_client.specs.declared.base.Series.{Series}
-use Rattle.pulsar_client.specs.declared.base.Series.TheVariants.{Nobody, Runs, Serves}
+use Rattle.pulsar_client.specs.declared.addresses.Pause.{Pause}
+use Rattle.pulsar_client.specs.declared.addresses.Series.{Series}
+use Rattle.pulsar_client.specs.declared.addresses.Series.TheVariants.{Nobody, Runs, Pauses, Serves}
 use Rattle.pulsar_client.specs.declared.plans.plan.Plan.{Plan}
 use Rattle.pulsar_client.specs.declared.plans.plan.Turn.{Turn}
 use Rattle.pulsar_client.specs.declared.plans.plan.Turn.TheVariants.{Stays, Gives}
-use Rattle.pulsar_client.specs.Address.{Address}
+use Rattle.pulsar_plans.specs.Address.{Place, address_key, is_reachable}
+use Rattle.pulsar_client.specs.Alarms.{rings}
 use Rattle.pulsar_client.specs.Content.{Asked}
-use Rattle.pulsar_client.specs.Laws.{AttemptEnds, Cause, OutcomesAreCaused, LineEnds}
+use Rattle.pulsar_client.specs.Laws.{AttemptEnds, Cause, OutcomesAreCaused, LineEnds, RequestEnds, base_of}
 use Rattle.pulsar_client.specs.Links as links
-use Rattle.pulsar_client.specs.Links.{change_in, closed_by, line_places, new_places, times_out}
+use Rattle.pulsar_client.specs.Links.{arrival, change_at, change_in, closed_by, line_places, new_places, times_out}
 use Rattle.pulsar_client.specs.Plan.{begins}
-use Rattle.pulsar_client.specs.Rules.{alone, answered_by, answered_on, at_once, breaks_at, called, caused, causes, does, dropped, ended_by, ended_on, failed, failed_at, failed_by, failed_so, fails_so, follows, follows_some, further, gets, lost, moved_on, notice, opens, over_links, parts, served_by, stop_act, tells, tells_asker, told_at}
+use Rattle.pulsar_client.specs.Rules.{alone, answered_by, answered_on, at_once, breaks_at, called, caused, causes, does, dropped, ended_by, ended_on, failed, failed_by, failed_on, failed_over, failed_so, fails_so, follows, follows_some, further, gets_from, idle_act, is_idle, keeps_alive, lost, lost_so, lost_with, may_ping, moved_on, notice, opens, over_links, parts, rung, served_by, served_on, stop_act, stopped_at, stopped_with, tells, tells_asker, told_at, tries_again, waiters_of, woken}
 use Rattle.pulsar_client.specs.Run.{Entry, Begins, Then, rules, view}
-use Rattle.pulsar_client.specs.View.{Chosen, Seat, Tickets, View, answer_at, arrival_at, closing, told_some}
+use Rattle.pulsar_client.specs.View.{Addresses, Chosen, Seat, Tickets, View, answer_at, arrival_at, pause_for, pause_of, told_some, turned_by}
 use Rattle.pulsar_client.specs.Who.{is_same}
-use Rattle.pulsar_client.proofs.Acts.{Each, chosen_same, over_each}
+use Rattle.pulsar_client.proofs.Acts.{Each, chosen_same, each_either, over_each}
 
 -- LISTS
 
@@ -59,6 +64,11 @@ in_append : {A : Type 0} (x : A) (xs ys : List A) → In x (xs ++ ys) → In x x
 in_append x [] ys h = inr h
 in_append x (y ∷ xs) ys (inl e) = inl (inl e)
 in_append x (y ∷ xs) ys (inr h) = elim (in_append x xs ys h) [ inl i ↦ inl (inr i) | inr i ↦ inr i ]
+
+-- what is in a list of lists is in one of them
+in_flat : {A B : Type 0} (f : A → List B) (y : B) (xs : List A) → In y (flat_map f xs) → (x : A) × In y (f x)
+in_flat f y [] h = absurd h
+in_flat f y (x ∷ xs) h = elim (in_append y (f x) (flat_map f xs) h) [ inl i ↦ (x, i) | inr i ↦ in_flat f y xs i ]
 
 -- what is told is a notice of the list
 in_told : (n : Notice) (ns : List Notice) → In (Told n) (map Told ns) → In n ns
@@ -138,10 +148,59 @@ breaks_mute : (l : ℕ) (a : Arrival) → Each IsMute (breaks_at l a)
 breaks_mute l (Bad cause) = (refl, tt)
 breaks_mute l _ = tt
 
+tries_mute : (row : Option Pause) → Each IsMute (tries_again row)
+tries_mute None = tt
+tries_mute (Some p) = (refl, tt)
+
+keeps_mute : (l : ℕ) (row : Option Seat) → Each IsMute (keeps_alive l row)
+keeps_mute l row = each_either IsMute (may_ping row) (Comes (ToLink l Pings) ∷ []) [] (refl, tt) tt
+
+idle_mute : (v : View) (l : ℕ) (seat : Seat) → Each IsMute (idle_act v l seat)
+idle_mute v l seat = each_either IsMute (is_idle v l seat) (Comes (ToLink l (Ends Idles)) ∷ []) [] (refl, tt) tt
+
+rung_mute : (v : View) (a : Alarm) → Each IsMute (rung v a)
+rung_mute v (Retry l) = tries_mute (v.addresses.pause l)
+rung_mute v (Wake who) = tt
+rung_mute v (KeepAlive l) = keeps_mute l (v.links.live l)
+rung_mute v CheckIdle = over_each IsMute (idle_act v) v.links (idle_mute v)
+
 comes_once_mute : (v : View) (p : Part) → Each IsMute (at_once v (Comes p))
 comes_once_mute v (Calls asked) = called_mute v.chosen v.calls asked
 comes_once_mute v (ToLink l Reads) = breaks_mute l (arrival_at (v.links.live l))
+comes_once_mute v (Rings a) = each_either IsMute (rings v.now a v.alarms) (rung v a) [] (rung_mute v a) tt
 comes_once_mute v _ = tt
+
+-- WHAT THE STOP TELLS
+
+stopped_in : (n : Notice) (known : Addresses) (row : Option Pause) → In n (stopped_at known row) → n.outcome ≡ outcome.Stopped
+stopped_in n known None h = absurd h
+stopped_in n known (Some p) h = among (known.base (address_key p.address)).waiting h
+  where
+    among : (ws : List Who) → In n (map (λ w. notice w outcome.Stopped) ws) → n.outcome ≡ outcome.Stopped
+    among [] h = absurd h
+    among (w ∷ ws) (inl e) = ap (λ m. m.outcome) e
+    among (w ∷ ws) (inr h) = among ws h
+
+stopped_by : (n : Notice) (known : Addresses) (a : Alarm) → In n (stopped_with known a) → n.outcome ≡ outcome.Stopped
+stopped_by n known (Retry l) h = stopped_in n known (known.pause l) h
+stopped_by n known (Wake w) (inl e) = ap (λ m. m.outcome) e
+stopped_by n known (Wake w) (inr h) = absurd h
+stopped_by n known (KeepAlive l) h = absurd h
+stopped_by n known CheckIdle h = absurd h
+
+-- WHAT THE LOSS OF A REQUEST TELLS
+
+abbrev IsLoss : Outcome → Type 0
+IsLoss y = (y ≡ outcome.TimedOut) ⊎ ((y ≡ outcome.Disconnected) ⊎ (y ≡ outcome.Cut))
+
+loss_so : (b : Bool) → IsLoss (lost_so b)
+loss_so true = inl refl
+loss_so false = inr (inl refl)
+
+loss_with : (end : End) (b : Bool) → IsLoss (lost_with end b)
+loss_with (Overdue below) b = loss_so b
+loss_with Stops b = inr (inr refl)
+loss_with _ b = inr (inl refl)
 
 module _ (o : Chosen) (who : Who) (u : Outcome) (older : List Entry) where
   abbrev it : Notice
@@ -163,13 +222,18 @@ module _ (o : Chosen) (who : Who) (u : Outcome) (older : List Entry) where
   did : (w : Who) (action : Action) → who ≡ w → ◌≡◌ {A = Entry} (Then (Does w action)) (Then (Does who action))
   did w action e = ap (λ x. Then (Does x action)) (sym e)
 
-  gets_caused : (w : Who) (address : Option Address) (s : Series) → address ≡ o.address → s ≡ v.base.series → In (Told it) (gets w address s) →
-      Cause o who u (Then (Does w Get)) older
-  gets_caused w None s p q h = let k = told_is w outcome.NotFound h in named (Then (Does w Get)) outcome.NotFound k.1 (did w Get k.0, sym p)
-  gets_caused w (Some address) Nobody p q h = absurd (none_told it (Dials w ∷ []) (refl, tt) h)
-  gets_caused w (Some address) (Runs starter) p q h = absurd h
-  gets_caused w (Some address) (Serves l) p q h =
-      let k = told_is w (outcome.GotLink l) h in named (Then (Does w Get)) (outcome.GotLink l) k.1 (inl (did w Get k.0, sym q))
+  from_caused : (w : Who) (p : Place) (s : Series) → is_reachable p ≡ true → (base_of v p).series ≡ s → In (Told it) (gets_from w p s) →
+      Cause o who u (Then (Does w (Get p))) older
+  from_caused w p Nobody r q h = absurd (none_told it (Dials p w 0 ∷ []) (refl, tt) h)
+  from_caused w p (Runs starter retries l) r q h = absurd h
+  from_caused w p (Pauses l) r q h = absurd h
+  from_caused w p (Serves l) r q h =
+      let k = told_is w (outcome.GotLink l) h in named (Then (Does w (Get p))) (outcome.GotLink l) k.1 (inl (p, did w (Get p) k.0, (r, q)))
+
+  gets_caused : (w : Who) (p : Place) (b : Bool) → is_reachable p ≡ b → In (Told it) (cond b (gets_from w p (base_of v p).series) (tells w outcome.NotFound)) →
+      Cause o who u (Then (Does w (Get p))) older
+  gets_caused w p true r h = from_caused w p (base_of v p).series r refl h
+  gets_caused w p false r h = let k = told_is w outcome.NotFound h in named (Then (Does w (Get p))) outcome.NotFound k.1 (p, did w (Get p) k.0, r)
 
   asks_so : (w : Who) (l : ℕ) (request : Words) (a : Result Placed ConnectionError) → answer_at v.now request (v.links.live l) ≡ a → who ≡ w → u ≡ told_at a →
       Cause o who u (Then (Does w (Ask l request))) older
@@ -183,18 +247,44 @@ module _ (o : Chosen) (who : Who) (u : Outcome) (older : List Entry) where
   stops_caused : (w : Who) → In (Told it) (over_links stop_act v.links ++ tells w outcome.Stopped) → Cause o who u (Then (Does w StopAll)) older
   stops_caused w h = elim (in_append (Told it) (over_links stop_act v.links) (tells w outcome.Stopped) h) [
     | inl i ↦ absurd (none_told it (over_links stop_act v.links) (over_each IsMute stop_act v.links (λ l seat. (refl, tt))) i)
-    | inr i ↦ (let k = told_is w outcome.Stopped i in named (Then (Does w StopAll)) outcome.Stopped k.1 (inl (did w StopAll k.0)))
+    | inr i ↦ (let k = told_is w outcome.Stopped i in named (Then (Does w StopAll)) outcome.Stopped k.1 (inl (w, refl, inl k.0)))
   ]
 
   once_caused : (b : Act) → In (Told it) (at_once v b) → Cause o who u (Then b) older
   once_caused (Comes p) h = absurd (none_told it (at_once v (Comes p)) (comes_once_mute v p) h)
   once_caused (Starts w p) h = absurd (none_told it (follows w (begins p)) (follows_mute w (begins p)) h)
   once_caused (Told n) h = absurd (none_told it (at_once v (Told n)) (some_mute n.who (told_some (v.stand n.who) n.outcome)) h)
-  once_caused (Does w Get) h = gets_caused w v.chosen.address v.base.series (ap (λ c. c.address) (chosen_same o older)) refl h
+  once_caused (Does w (Get p)) h = gets_caused w p (is_reachable p) refl h
   once_caused (Does w (Ask l request)) h =
       let k = told_is w (told_at (answer_at v.now request (v.links.live l))) h in asks_so w l request (answer_at v.now request (v.links.live l)) refl k.0 k.1
   once_caused (Does w StopAll) h = stops_caused w h
   once_caused _ h = absurd h
+
+  -- A MOMENT COMES, AND THE CLIENT IS STOPPED
+
+  woken_caused : (a : Alarm) → rings v.now a v.alarms ≡ true → In it (woken a) → Cause o who u (Then (Comes (Rings a))) older
+  woken_caused (Wake w) r (inl e) =
+      let same : who ≡ w = ap (λ n. n.who) e in
+      named (Then (Comes (Rings (Wake w)))) outcome.Woken (ap (λ n. n.outcome) e)
+      (ap (λ x. Then (Comes (Rings (Wake x)))) (sym same), ap (λ x. rings v.now (Wake x) v.alarms) same ∙ r)
+  woken_caused (Wake w) r (inr h) = absurd h
+  woken_caused (Retry l) r h = absurd h
+  woken_caused (KeepAlive l) r h = absurd h
+  woken_caused CheckIdle r h = absurd h
+
+  rings_caused : (a : Alarm) (b : Bool) → rings v.now a v.alarms ≡ b → InOne (Told it) (map (map Told) (cond b (opens (woken a)) [])) →
+      Cause o who u (Then (Comes (Rings a))) older
+  rings_caused a true r h = woken_caused a r (in_opened it (woken a) h)
+  rings_caused a false r h = absurd h
+
+  abbrev stopped_all : List Notice
+  stopped_all = flat_map (λ e. stopped_with v.addresses e.0) v.alarms
+
+  all_stopped : (w : Who) → In it stopped_all → Cause o who u (Then (Does w StopAll)) older
+  all_stopped w h =
+      let a = in_flat (λ e. stopped_with v.addresses e.0) it v.alarms h in
+      let is : u ≡ outcome.Stopped = stopped_by it v.addresses a.0.0 a.1 in
+      named (Then (Does w StopAll)) outcome.Stopped is (inl (w, refl, inr (subst (λ y. In (notice who y) stopped_all) is h)))
 
   module _ (l : ℕ) where
     -- A FRAME IS READ
@@ -217,17 +307,24 @@ module _ (o : Chosen) (who : Who) (u : Outcome) (older : List Entry) where
     ready_in (w ∷ ws) (inl e) = (inl (ap (λ n. n.who) e), ap (λ n. n.outcome) e)
     ready_in (w ∷ ws) (inr h) = let k = ready_in ws h in (inr k.0, k.1)
 
-    served_caused : (a : Arrival) → arrival_at (v.links.live l) ≡ a → In it (served_by l (change_in a) v.base.waiting) → Cause o who u reads older
-    served_caused Readied c h = let k = ready_in v.base.waiting h in named reads (outcome.GotLink l) k.1 (inr (refl, c, k.0))
-    served_caused _ c h = absurd h
+    served_caused : (seat : Seat) (a : Arrival) → v.links.live l ≡ Some seat → arrival seat.seen ≡ a →
+        In it (served_by l (change_in a) (base_of v seat.address).waiting) → Cause o who u reads older
+    served_caused seat Readied e c h =
+        let k = ready_in (base_of v seat.address).waiting h in named reads (outcome.GotLink l) k.1 (inr (seat, refl, e, c, k.0))
+    served_caused seat _ e c h = absurd h
 
-    reads_caused : InOne (Told it) (map (map Told) (caused l Reads v.now (v.links.live l) v.base)) → Cause o who u reads older
+    waited_caused : (row : Option Seat) → v.links.live l ≡ row →
+        In it (waiters_of served_on v.addresses (option_map (turned_by v.chosen v.addresses v.now l Reads) row)) → Cause o who u reads older
+    waited_caused None e h = absurd h
+    waited_caused (Some seat) e h = served_caused seat (arrival seat.seen) e refl h
+
+    reads_caused : InOne (Told it) (map (map Told) (caused v l Reads)) → Cause o who u reads older
     reads_caused h =
         let row : Option Seat = v.links.live l in
-        let rest : List Notice = served_by l (change_in (arrival_at row)) v.base.waiting in
+        let rest : List Notice = waiters_of served_on v.addresses (option_map (turned_by v.chosen v.addresses v.now l Reads) row) in
         elim (in_append it (answered_on row) rest (in_opened it (answered_on row ++ rest) h)) [
           | inl i ↦ answered_caused row refl i
-          | inr i ↦ served_caused (arrival_at row) refl i
+          | inr i ↦ waited_caused row refl i
         ]
 
     -- FRAMES MOVE UP
@@ -246,32 +343,39 @@ module _ (o : Chosen) (who : Who) (u : Outcome) (older : List Entry) where
 
       module _ (cause : Fault) (seat : Seat) (a : v.links.live l ≡ Some seat) (c : closed_by end v.now seat.seen ≡ Some cause) where
         -- a request ends
+        request_ends : (y : Outcome) → IsAsker (lost end v.now seat.seen) seat.askers (ends seat.seen) it → u ≡ y → RequestEnds o who y ends_there older
+        request_ends y k is = (l, end, cause, seat, refl, a, c, (k.place, k.listed, k.asker, sym is ∙ k.told))
+
         request_caused : IsAsker (lost end v.now seat.seen) seat.askers (ends seat.seen) it → Cause o who u ends_there older
-        request_caused k = elim (cases_Bool (times_out end v.now seat.seen k.place)) [
-          | inl e ↦
-              (let so : lost end v.now seat.seen k.place ≡ outcome.TimedOut = rw e refl in
-              named ends_there outcome.TimedOut (k.told ∙ so) (l, end, cause, seat, refl, a, c, (k.place, k.listed, k.asker, sym so)))
-          | inr e ↦
-              (let so : lost end v.now seat.seen k.place ≡ outcome.Disconnected = rw e refl in
-              named ends_there outcome.Disconnected (k.told ∙ so) (inl (l, end, cause, seat, refl, a, c, (k.place, k.listed, k.asker, sym so))))
+        request_caused k = elim (loss_with end (times_out end v.now seat.seen k.place)) [
+          | inl so ↦ named ends_there outcome.TimedOut (k.told ∙ so) (request_ends outcome.TimedOut k (k.told ∙ so))
+          | inr r ↦ elim r [
+            | inl so ↦ named ends_there outcome.Disconnected (k.told ∙ so) (inl (request_ends outcome.Disconnected k (k.told ∙ so)))
+            | inr so ↦ named ends_there outcome.Cut (k.told ∙ so) (request_ends outcome.Cut k (k.told ∙ so))
+          ]
         ]
 
         -- a frame in the line ends
         line_ends : (y : Outcome) → dropped end ≡ y → IsAsker (λ place. dropped end) seat.askers (line_places seat.seen) it → LineEnds o who y ends_there older
         line_ends y so k = (l, end, cause, seat, refl, a, c, (k.place, k.listed, k.asker, sym so))
 
-        -- an attempt ends
+        -- the last attempt of a series ends
         failed_in : (starter : Who) (ws : List Who) → In it (map (failed end starter) ws) → In who ws × (u ≡ fails_so end (is_same who starter))
         failed_in starter [] h = absurd h
         failed_in starter (w ∷ ws) (inl e) =
             let b : who ≡ w = ap (λ n. n.who) e in (inl b, ap (λ n. n.outcome) e ∙ ap (λ y. fails_so end (is_same y starter)) (sym b))
         failed_in starter (w ∷ ws) (inr h) = let k = failed_in starter ws h in (inr k.0, k.1)
 
-        attempt_ends : (s : Series) → s ≡ v.base.series → In it (failed_at end s v.base.waiting) → AttemptEnds o who u ends_there older × (b : Bool) × (u ≡ fails_so end b)
-        attempt_ends Nobody q h = absurd h
-        attempt_ends (Serves k) q h = absurd h
-        attempt_ends (Runs starter) q h =
-            let k = failed_in starter v.base.waiting h in ((l, end, cause, seat, refl, a, c, (starter, sym q, k.0, k.1)), is_same who starter, k.1)
+        attempt_ends : (s : Series) → (base_of v seat.address).series ≡ s → (pause : Option Pause) → pause_of o end seat.address s ≡ pause →
+            In it (failed_over end pause (record { series = s; waiting = (base_of v seat.address).waiting })) →
+            AttemptEnds o who u ends_there older × (b : Bool) × (u ≡ fails_so end b)
+        attempt_ends s q (Some p) n h = absurd h
+        attempt_ends Nobody q None n h = absurd h
+        attempt_ends (Serves k) q None n h = absurd h
+        attempt_ends (Pauses k) q None n h = absurd h
+        attempt_ends (Runs starter retries k) q None n h =
+            let i = failed_in starter (base_of v seat.address).waiting h in
+            ((l, end, cause, seat, refl, a, c, (starter, retries, k, q, n, i.0, i.1)), is_same who starter, i.1)
 
     -- which of them say so
 
@@ -289,33 +393,52 @@ module _ (o : Chosen) (who : Who) (u : Outcome) (older : List Entry) where
     attempt_caused e Lost b d k = failed_caused e io_kind.Other b d k
     attempt_caused e (Overdue below) b d k = failed_caused e io_kind.TimedOut b d k
     attempt_caused e (Broken cause) b d k = failed_caused e io_kind.Other b d k
+    attempt_caused e Idles b d k = failed_caused e io_kind.Other b d k
     attempt_caused e Stops b d k = named e outcome.Stopped d (inr (inr (subst (λ y. AttemptEnds o who y e older) d k)))
 
-    closed_caused : (end : End) (seat : Seat) (r : Option Fault) → v.links.live l ≡ Some seat → closed_by end v.now seat.seen ≡ r →
-        In it (ended_by end v.now r seat ++ failed_by end r v.base) → Cause o who u (Then (Comes (ToLink l (Ends end)))) older
-    closed_caused end seat None a c h = absurd h
-    closed_caused end seat (Some cause) a c h =
+    -- those who wait for its address, and those who asked on it
+    over_caused : (end : End) (seat : Seat) (r : Option Fault) → v.links.live l ≡ Some seat → closed_by end v.now seat.seen ≡ r →
+        In it (failed_by end (change_at r) (pause_for v.chosen (Ends end) (change_at r) seat.address (base_of v seat.address).series) (base_of v seat.address)) →
+        Cause o who u (Then (Comes (ToLink l (Ends end)))) older
+    over_caused end seat None a c h = absurd h
+    over_caused end seat (Some cause) a c h =
+        let pause : Option Pause = pause_of v.chosen end seat.address (base_of v seat.address).series in
+        let is : pause_of o end seat.address (base_of v seat.address).series ≡ pause =
+        ap (λ x. pause_of x end seat.address (base_of v seat.address).series) (sym (chosen_same o older)) in
+        let k = attempt_ends end cause seat a c (base_of v seat.address).series refl pause is h in
+        attempt_caused (Then (Comes (ToLink l (Ends end)))) end k.1 k.2 k.0
+
+    asked_caused : (end : End) (seat : Seat) (r : Option Fault) → v.links.live l ≡ Some seat → closed_by end v.now seat.seen ≡ r →
+        In it (ended_by end v.now r seat) → Cause o who u (Then (Comes (ToLink l (Ends end)))) older
+    asked_caused end seat None a c h = absurd h
+    asked_caused end seat (Some cause) a c h =
         let requests : List Notice = filter_map (tells_asker (lost end v.now seat.seen) seat.askers) (ends seat.seen) in
         let line : List Notice = filter_map (tells_asker (λ place. dropped end) seat.askers) (line_places seat.seen) in
-        let attempt : List Notice = failed_at end v.base.series v.base.waiting in
-        elim (in_append it (requests ++ line) attempt h) [
-          | inl i ↦ elim (in_append it requests line i) [
-            | inl j ↦ request_caused end cause seat a c (in_askers (lost end v.now seat.seen) seat.askers (ends seat.seen) it j)
-            | inr j ↦ dropped_caused end cause seat a c (in_askers (λ place. dropped end) seat.askers (line_places seat.seen) it j)
-          ]
-          | inr i ↦ (let k = attempt_ends end cause seat a c v.base.series refl i in attempt_caused (Then (Comes (ToLink l (Ends end)))) end k.1 k.2 k.0)
+        elim (in_append it requests line h) [
+          | inl j ↦ request_caused end cause seat a c (in_askers (lost end v.now seat.seen) seat.askers (ends seat.seen) it j)
+          | inr j ↦ dropped_caused end cause seat a c (in_askers (λ place. dropped end) seat.askers (line_places seat.seen) it j)
         ]
 
-    ends_caused : (end : End) (row : Option Seat) → v.links.live l ≡ row → In it (ended_on end v.now row ++ failed_by end (closing end v.now row) v.base) →
+    ends_caused : (end : End) (row : Option Seat) → v.links.live l ≡ row →
+        In it (ended_on end v.now row ++ waiters_of (failed_on end) v.addresses (option_map (turned_by v.chosen v.addresses v.now l (Ends end)) row)) →
         Cause o who u (Then (Comes (ToLink l (Ends end)))) older
     ends_caused end None a h = absurd h
-    ends_caused end (Some seat) a h = closed_caused end seat (closed_by end v.now seat.seen) a refl h
+    ends_caused end (Some seat) a h =
+        let asked : List Notice = ended_by end v.now (closed_by end v.now seat.seen) seat in
+        let waiters : List Notice = failed_on end (turned_by v.chosen v.addresses v.now l (Ends end) seat) (base_of v seat.address) in
+        elim (in_append it asked waiters h) [
+          | inl i ↦ asked_caused end seat (closed_by end v.now seat.seen) a refl i
+          | inr i ↦ over_caused end seat (closed_by end v.now seat.seen) a refl i
+        ]
 
   cause_caused : (b : Act) → InOne (Told it) (map (map Told) (causes v b)) → Cause o who u (Then b) older
   cause_caused (Comes (ToLink l Reads)) h = reads_caused l h
   cause_caused (Comes (ToLink l (Drains most))) h = moved_caused l most (v.links.live l) refl (in_alone it (moved_on most v.now (v.links.live l)) h)
   cause_caused (Comes (ToLink l (Ends end))) h =
-      ends_caused l end (v.links.live l) refl (in_opened it (ended_on end v.now (v.links.live l) ++ failed_by end (closing end v.now (v.links.live l)) v.base) h)
+      let waiters : List Notice = waiters_of (failed_on end) v.addresses (option_map (turned_by v.chosen v.addresses v.now l (Ends end)) (v.links.live l)) in
+      ends_caused l end (v.links.live l) refl (in_opened it (ended_on end v.now (v.links.live l) ++ waiters) h)
+  cause_caused (Comes (Rings a)) h = rings_caused a (rings v.now a v.alarms) refl h
+  cause_caused (Does w StopAll) h = all_stopped w (in_opened it stopped_all h)
   cause_caused _ h = absurd h
 
   is_caused : (e : Entry) → Arises rules o (Told it) e older → Cause o who u e older

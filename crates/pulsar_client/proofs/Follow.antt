@@ -48,15 +48,15 @@ same_is w u h = elim (cases_Bool ((rank w).0 == (rank u).0)) [
 
 -- WHAT IS NO DEED
 
-abbrev is_deed : Act → Bool
+abbrev pub is_deed : Act → Bool
 is_deed (Does who action) = true
 is_deed (Answers who verdict) = true
 is_deed _ = false
 
-abbrev NoDeed : Act → Type 0
+abbrev pub NoDeed : Act → Type 0
 NoDeed a = is_deed a ≡ false
 
-quiet_no_deed : (a : Act) → IsQuiet a → NoDeed a
+pub quiet_no_deed : (a : Act) → IsQuiet a → NoDeed a
 quiet_no_deed (Does who action) h = absurd cc
 quiet_no_deed (Answers who verdict) h = absurd cc
 quiet_no_deed _ h = refl
@@ -66,7 +66,7 @@ served_no_deed (Does who action) h = absurd cc
 served_no_deed (Answers who verdict) h = absurd cc
 served_no_deed _ h = refl
 
-performs_none : (v : View) (who : Who) (action : Action) → Each NoDeed (performs v who action)
+pub performs_none : (v : View) (who : Who) (action : Action) → Each NoDeed (performs v who action)
 performs_none v who action = each_map IsQuiet NoDeed (performs v who action) quiet_no_deed (performs_quiet v who action)
 
 called_one : (o : Chosen) (c : Tickets) (asked : Asked) → Each NoDeed (drop 1 (called o c asked))
@@ -173,7 +173,7 @@ some_here : (w who : Who) (t : Turn Plan Verdict) (o : Outcome) → is_same w wh
 some_here w who (Gives verdict) o h = refl
 some_here w who (Stays plan action) o h = follows_due w who (told plan o) ∙ ap (λ b. cond b (first_deed (told plan o)) []) h
 
-record Follows (o : Chosen) (log : List Entry) : Type 0 where
+pub record Follows (o : Chosen) (log : List Entry) : Type 0 where
   head : Each NoDeed (drop 1 (agenda o log).now)
   each : (w : Who) (p : Procedure) → Began w → started w log ≡ Some p → deeds w log ++ due_deeds w (agenda o log).now ≡ course (begins p) (outcomes w log)
   stands : (w : Who) (p : Procedure) → started w log ≡ Some p → (view o log).stand w ≡ stays (along (begins p) (outcomes w log))
@@ -185,7 +185,7 @@ module _ (o : Chosen) (log : List Entry) (a : Act) (k : Follows o log) (fits : f
   abbrev left : List Act
   left = (rest (agenda o log)).now
 
-  left_plain : Each NoDeed left
+  pub left_plain : Each NoDeed left
   left_plain = elim (first_case (agenda o log).now (agenda o log).here (agenda o log).behind (agenda o log).parts a fits)
       [ inl e ↦ subst (λ now. Each NoDeed (drop 1 now)) e k.head | inr e ↦ subst (Each NoDeed) (sym e.1) tt ]
 
@@ -268,7 +268,7 @@ starts_on o log who q k fits = record {
     nil : (t : Turn Plan Verdict) → along t [] ≡ t
     nil t = along_nil t
 
-follows_run : (o : Chosen) (log : List Entry) → IsRun o log → Follows o log
+pub follows_run : (o : Chosen) (log : List Entry) → IsRun o log → Follows o log
 follows_run o [] r = record { head = tt; each = λ w p t h. absurd cc; stands = λ w p h. absurd cc }
 follows_run o (Begins e ∷ log) r =
     let k : Follows o log = follows_run o log r.0 in

@@ -1,5 +1,5 @@
 -- A part of a call or of a poll is alone in its event, and a call is made where the user asks for it.
-use Rattle.std.proofs.Common.{◌≡◌, ◌⊎◌, inl, inr, ◌∙◌, sym, ap, subst, ℕ, List, [], ◌∷◌, ◌++◌, refl, drop, Bool, true, false, cond, Option, Some, None, append-nil}
+use Rattle.std.proofs.Common.{◌≡◌, ◌⊎◌, inl, inr, ◌∙◌, sym, ap, subst, ℕ, List, [], ◌∷◌, ◌++◌, refl, drop, Bool, true, false, cond, Option, Some, None, append-nil, map}
 use Rattle.std.proofs.lemmas.Bool.{cases_Bool}
 use Rattle.pulsar_run.specs.Run.{first_of, rest, rest_of}
 use Rattle.pulsar_session.specs.Link.{due, is_spent}
@@ -7,12 +7,13 @@ use Rattle.pulsar_client.specs.declared.act.Act.{Act}
 use Rattle.pulsar_client.specs.declared.act.Act.TheVariants.{Comes, Starts, Told, Does, Answers}
 use Rattle.pulsar_client.specs.declared.act.Action.{Action}
 use Rattle.pulsar_client.specs.declared.act.Action.TheVariants.{Rest}
+use Rattle.pulsar_client.specs.declared.act.Alarm.{Alarm}
 use Rattle.pulsar_client.specs.declared.act.Arrival.{Arrival}
 use Rattle.pulsar_client.specs.declared.act.Arrival.TheVariants.{Nothing, Bad}
 use Rattle.pulsar_client.specs.declared.act.LinkAct.TheVariants.{Reads}
 use Rattle.pulsar_client.specs.declared.act.Notice.{Notice}
 use Rattle.pulsar_client.specs.declared.act.Part.{Part}
-use Rattle.pulsar_client.specs.declared.act.Part.TheVariants.{Calls, ToLink, Polls}
+use Rattle.pulsar_client.specs.declared.act.Part.TheVariants.{Calls, ToLink, Rings, Polls}
 use Rattle.pulsar_client.specs.declared.act.Procedure.{Procedure}
 use Rattle.pulsar_client.specs.declared.act.Verdict.{Verdict}
 use Rattle.pulsar_client.specs.declared.act.Who.{Who}
@@ -20,10 +21,11 @@ use Rattle.pulsar_client.specs.declared.act.Who.TheVariants.{Call}
 use Rattle.pulsar_client.specs.declared.plans.plan.Plan.{Plan}
 use Rattle.pulsar_client.specs.declared.plans.plan.Turn.{Turn}
 use Rattle.pulsar_client.specs.declared.plans.plan.Turn.TheVariants.{Stays, Gives}
+use Rattle.pulsar_client.specs.Alarms.{ringing}
 use Rattle.pulsar_client.specs.Content.{Asked, Heard, Called, Ticked, Poll}
 use Rattle.pulsar_client.specs.Laws.{CallsAreMade}
 use Rattle.pulsar_client.specs.Plan.{begins}
-use Rattle.pulsar_client.specs.Rules.{at_once, brings, called, does, due_part, follows, follows_some, further, parts, performs, procedure_for, reads_on}
+use Rattle.pulsar_client.specs.Rules.{at_once, brings, called, does, due_part, follows, follows_some, further, over_links, parts, performs, procedure_for, reads_on}
 use Rattle.pulsar_client.specs.Run.{Entry, Begins, Then, IsRun, agenda, first, rules, view}
 use Rattle.pulsar_client.specs.View.{Chosen, Seat, Tickets, View, arrival_at, is_live, told_some}
 use Rattle.pulsar_client.proofs.Acts.{Each, IsQuiet, begun_same, chosen_same, comes_quiet, each_append, each_map, each_rest, over_each, performs_quiet}
@@ -115,8 +117,14 @@ record OneOf (ps : List Part) (e : Heard) : Type 0 where
 due_many : (now l : ℕ) (seat : Seat) → Each IsMany (due_part now l seat)
 due_many now l seat = elim (cases_Bool (due now seat.seen)) [ inl e ↦ rw e (refl, tt) | inr e ↦ rw e tt ]
 
+rings_many : (alarms : List Alarm) → Each IsMany (map Rings alarms)
+rings_many [] = tt
+rings_many (a ∷ alarms) = (refl, rings_many alarms)
+
 pub ticks_many : (v : View) (now : ℕ) → Each IsMany (brings v (Ticked now))
-ticks_many v now = over_each IsMany (due_part now) v.links (due_many now)
+ticks_many v now =
+    each_append IsMany (over_links (due_part now) v.links) (map Rings (ringing now v.alarms)) (over_each IsMany (due_part now) v.links (due_many now))
+    (rings_many (ringing now v.alarms))
 
 reads_many : (l : ℕ) (a : Arrival) → Each IsMany (reads_on l a)
 reads_many l Nothing = tt

@@ -6,13 +6,12 @@ use Rattle.std.proofs.lemmas.Cmp.{nat_cmp_total}
 use Rattle.std.proofs.lemmas.List.Elements.{All-weaker, recursion_from_All}
 use Rattle.std.proofs.lemmas.Map.Views.{All-found}
 use Rattle.std.specs.BTreeMap.{BTreeMap, IsOrdered, get, is_at}
-use Rattle.std.specs.BTreeSet.{BTreeSet, contains}
 use Rattle.std.specs.List.{AllByRecursion, list_any}
 use Rattle.std.specs.Map.{lookup}
 use Rattle.std.specs.Ordering.{nat_cmp}
 use Rattle.pulsar_requests.proofs.Awaiting.{is_at-eqb}
 use Rattle.pulsar_requests.specs.Soonest.{has_come}
-use Rattle.pulsar_client.specs.Due.{is_in, is_listed, is_moment}
+use Rattle.pulsar_client.specs.Due.{is_moment}
 
 swapped : (a b : ℕ) (t : Bool) → (a == b) ≡ t → (b == a) ≡ t
 swapped a b true h = grind (arith, nat_tests)
@@ -36,57 +35,57 @@ noted moment m false false was is old now t e w h n = e ∙ w ∙ sym (ap (is_mo
 
 -- THOSE THAT HAVE COME
 
-abbrev Listed : Type 0
-Listed = List (ℕ × BTreeSet ℕ)
-
-module _ (l : ℕ) (test : ℕ → Bool) where
-  -- a link is found where it is listed at a moment that passes
-  one_found : (d : ℕ) (es : Listed) → test d ≡ true → is_in l (lookup (is_at (nat_cmp d)) es) ≡ true →
-      list_any (λ e. contains nat_cmp e.1 l) (filter (λ e. test e.0) es) ≡ true
-  one_found d [] passes h = absurd (false≢true h)
+-- of what is kept by moments, what is inside one of them
+module _ {X : Type 0} (inside : Option X → Bool) (nowhere : inside None ≡ false) (test : ℕ → Bool) where
+  -- it is found where it is listed at a moment that passes
+  one_found : (d : ℕ) (es : List (ℕ × X)) → test d ≡ true → inside (lookup (is_at (nat_cmp d)) es) ≡ true →
+      list_any (λ e. inside (Some e.1)) (filter (λ e. test e.0) es) ≡ true
+  one_found d [] passes h = absurd (false≢true (sym nowhere ∙ h))
   one_found d (e ∷ es) passes h = elim (cases_Bool (is_at (nat_cmp d) e.0)) [
     | inl here ↦ (
         let at : (d == e.0) ≡ true = sym (is_at-eqb d e.0) ∙ here in
         let same : d ≡ e.0 = grind (arith, nat_tests) in
         let keeps : test e.0 ≡ true = ap test (sym same) ∙ passes in
-        let there : contains nat_cmp e.1 l ≡ true = rw here at h in
+        let there : inside (Some e.1) ≡ true = rw here at h in
         rw (keeps, there) refl)
     | inr there ↦ (
         let more = one_found d es passes (rw there at h) in
         elim (cases_Bool (test e.0)) [
-          | inl y ↦ rw y (or_right (contains nat_cmp e.1 l) _ more)
+          | inl y ↦ rw y (or_right (inside (Some e.1)) _ more)
           | inr y ↦ rw y more
         ])
   ]
 
   -- it isn't where it is listed at none that passes
-  none_found : (es : Listed) → AllByRecursion (λ e. test e.0 ≡ true → contains nat_cmp e.1 l ≡ false) es →
-      list_any (λ e. contains nat_cmp e.1 l) (filter (λ e. test e.0) es) ≡ false
+  none_found : (es : List (ℕ × X)) → AllByRecursion (λ e. test e.0 ≡ true → inside (Some e.1) ≡ false) es →
+      list_any (λ e. inside (Some e.1)) (filter (λ e. test e.0) es) ≡ false
   none_found [] h = refl
   none_found (e ∷ es) h = elim (cases_Bool (test e.0)) [
     | inl y ↦ (let not_here = h.0 y in rw (y, not_here) (none_found es h.1))
     | inr y ↦ rw y (none_found es h.1)
   ]
 
-module _ (now l : ℕ) (test : ℕ → Bool) (tests : (q : ℕ) → test q ≡ nat_le q now) (links : BTreeMap ℕ (BTreeSet ℕ)) (ordered : IsOrdered nat_cmp links) where
-  each : (moment : Option ℕ) → ((m : ℕ) → is_listed links m l ≡ is_moment m moment) → (Q : ℕ × BTreeSet ℕ → Type 0) →
-      ((e : ℕ × BTreeSet ℕ) → contains nat_cmp e.1 l ≡ is_moment e.0 moment → Q e) → AllByRecursion Q links.entries
+module _ {X : Type 0} (inside : Option X → Bool) (nowhere : inside None ≡ false) (now : ℕ) (test : ℕ → Bool)
+    (tests : (q : ℕ) → test q ≡ nat_le q now) (kept : BTreeMap ℕ X) (ordered : IsOrdered nat_cmp kept) where
+  each : (moment : Option ℕ) → ((m : ℕ) → inside (get nat_cmp kept m) ≡ is_moment m moment) → (Q : ℕ × X → Type 0) →
+      ((e : ℕ × X) → inside (Some e.1) ≡ is_moment e.0 moment → Q e) → AllByRecursion Q kept.entries
   each moment says Q then_so =
-      recursion_from_All Q links.entries
-      (All-weaker (λ e. get nat_cmp links e.0 ≡ Some e.1) Q (λ e found. then_so e (sym (ap (is_in l) found) ∙ says e.0)) links.entries
-      (All-found nat_cmp_total links ordered))
+      recursion_from_All Q kept.entries
+      (All-weaker (λ e. get nat_cmp kept e.0 ≡ Some e.1) Q (λ e found. then_so e (sym (ap inside found) ∙ says e.0)) kept.entries
+      (All-found nat_cmp_total kept ordered))
 
-  late : (d : ℕ) (e : ℕ × BTreeSet ℕ) → nat_le d now ≡ false → contains nat_cmp e.1 l ≡ (d == e.0) → test e.0 ≡ true → contains nat_cmp e.1 l ≡ false
+  late : (d : ℕ) (e : ℕ × X) → nat_le d now ≡ false → inside (Some e.1) ≡ (d == e.0) → test e.0 ≡ true → inside (Some e.1) ≡ false
   late d e not_yet is passes =
       let before : nat_le e.0 now ≡ true = sym (tests e.0) ∙ passes in
       let apart : (d == e.0) ≡ false = grind (arith, nat_tests) in
       is ∙ apart
 
-  pub all_come : (moment : Option ℕ) → ((m : ℕ) → is_listed links m l ≡ is_moment m moment) →
-      list_any (λ e. contains nat_cmp e.1 l) (filter (λ e. test e.0) links.entries) ≡ has_come now moment
-  all_come None says = none_found l test links.entries (each None says (λ e. test e.0 ≡ true → contains nat_cmp e.1 l ≡ false) (λ e no passes. no))
+  pub all_come : (moment : Option ℕ) → ((m : ℕ) → inside (get nat_cmp kept m) ≡ is_moment m moment) →
+      list_any (λ e. inside (Some e.1)) (filter (λ e. test e.0) kept.entries) ≡ has_come now moment
+  all_come None says =
+      none_found inside nowhere test kept.entries (each None says (λ e. test e.0 ≡ true → inside (Some e.1) ≡ false) (λ e no passes. no))
   all_come (Some d) says = elim (cases_Bool (nat_le d now)) [
-    | inl y ↦ (one_found l test d links.entries (tests d ∙ y) (says d ∙ eq-eqb d d refl) ∙ sym y)
-    | inr y ↦ (none_found l test links.entries
-        (each (Some d) says (λ e. test e.0 ≡ true → contains nat_cmp e.1 l ≡ false) (λ e is passes. late d e y is passes)) ∙ sym y)
+    | inl y ↦ (one_found inside nowhere test d kept.entries (tests d ∙ y) (says d ∙ eq-eqb d d refl) ∙ sym y)
+    | inr y ↦ (none_found inside nowhere test kept.entries
+        (each (Some d) says (λ e. test e.0 ≡ true → inside (Some e.1) ≡ false) (λ e is passes. late d e y is passes)) ∙ sym y)
   ]

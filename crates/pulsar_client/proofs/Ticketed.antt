@@ -1,5 +1,5 @@
--- A call that begins has never the greatest ticket, and a consumer has that of a call that began.
-use Rattle.std.proofs.Common.{◌≡◌, ◌∙◌, sym, ap, subst, ℕ, List, [], ◌∷◌, ◌++◌, refl, true, false, ◌==◌, Option, Some, None, inl, inr}
+-- A call that begins has a ticket that was drawn, and never the greatest; and a consumer has that of a call that began.
+use Rattle.std.proofs.Common.{◌≡◌, ◌∙◌, sym, ap, subst, ℕ, ◌+◌, ◌<◌, arith, List, [], ◌∷◌, ◌++◌, refl, true, false, cond, ◌==◌, Option, Some, None, inl, inr}
 use Rattle.std.proofs.lemmas.Bool.{cases_Bool, eqb-true}
 use Rattle.std.specs.Option.{option_map}
 use Rattle.pulsar_run.specs.Run.{rest}
@@ -22,13 +22,17 @@ use Rattle.pulsar_client.specs.declared.act.Who.TheVariants.{Call}
 use Rattle.pulsar_client.specs.declared.plans.plan.Plan.{Plan}
 use Rattle.pulsar_client.specs.declared.plans.plan.Turn.{Turn}
 use Rattle.pulsar_client.specs.declared.plans.plan.Turn.TheVariants.{Stays, Gives}
-use Rattle.pulsar_client.specs.Content.{Asked, Heard}
+use Rattle.pulsar_client.specs.declared.tables.Tables.{Tables}
+use Rattle.pulsar_client.specs.Content.{Asked, Heard, Shown}
+use Rattle.pulsar_client.specs.Kept.{AreTicketed}
 use Rattle.pulsar_client.specs.Laws.{started}
 use Rattle.pulsar_client.specs.Plan.{begins, told}
 use Rattle.pulsar_client.specs.Rules.{at_once, called, does, follows, follows_some, performs}
-use Rattle.pulsar_client.specs.Run.{Entry, Begins, Then, IsRun, agenda, first, view}
+use Rattle.pulsar_client.specs.Run.{Agenda, Entry, Begins, Then, IsRun, Step, agenda, first, view}
+use Rattle.pulsar_client.specs.Subscribers.{subscription_at}
 use Rattle.pulsar_client.specs.Subscriptions.{Subscription, ended_at}
-use Rattle.pulsar_client.specs.View.{Chosen, Tickets, View, closing, consumer_after, made, stand_after, stays_some, told_some}
+use Rattle.pulsar_client.specs.Tables.{InStep}
+use Rattle.pulsar_client.specs.View.{Chosen, Tickets, View, closing, consumer_after, drawn_after, made, stand_after, stays_some, told_some}
 use Rattle.pulsar_client.specs.Who.{is_same}
 use Rattle.pulsar_client.proofs.Acts.{Each, IsQuiet, begun_same, comes_quiet, each_append, each_first, each_map, each_rest, is_served, performs_quiet}
 
@@ -46,61 +50,85 @@ apart (Call t) n k h = elim (cases_Bool (t == n)) [
   | inr e ↦ e
 ]
 
+-- one with such a ticket, which was drawn: so many were
+abbrev IsDrawn : ℕ → Who → Type 0
+IsDrawn n (Call t) = t < n
+
+abbrev Has : ℕ → Who → Type 0
+Has n who = Began who × IsDrawn n who
+
+same_has : (n : ℕ) (w who : Who) → is_same w who ≡ true → Has n who → Has n w
+same_has n (Call t) (Call u) h k = subst (λ m. Has n (Call m)) (sym (eqb-true t u h)) k
+
+-- what was drawn stays so
+has_more : (a : Act) (n : ℕ) (who : Who) → Has n who → Has (drawn_after a n) who
+has_more (Comes (Calls asked)) n (Call t) k = (k.0, (let d : t < n = k.1 in elim (is_spent n) as (λ b. t < cond b n (n + 1)) [ true ↦ d | false ↦ omega (arith, d) ]))
+has_more _ n who k = k
+
 -- such a one starts, and makes a consumer
-abbrev MakesSo : Who → Makes → Type 0
-MakesSo who (Consumer link number topic) = Began who
-MakesSo who _ = Unit {0}
+abbrev MakesSo : ℕ → Who → Makes → Type 0
+MakesSo n who (Consumer link number topic) = Has n who
+MakesSo n who _ = Unit {0}
 
-abbrev IsDue : Act → Type 0
-IsDue (Starts who p) = Began who
-IsDue (Answers who verdict) = MakesSo who verdict.makes
-IsDue _ = Unit {0}
+abbrev IsDue : ℕ → Act → Type 0
+IsDue n (Starts who p) = Has n who
+IsDue n (Answers who verdict) = MakesSo n who verdict.makes
+IsDue n _ = Unit {0}
 
-served_due : (a : Act) → is_served a ≡ true → IsDue a
-served_due (Starts who p) h = absurd cc
-served_due (Answers who verdict) h = absurd cc
-served_due _ h = tt
+served_due : (n : ℕ) (a : Act) → is_served a ≡ true → IsDue n a
+served_due n (Starts who p) h = absurd cc
+served_due n (Answers who verdict) h = absurd cc
+served_due n _ h = tt
 
-quiet_due : (a : Act) → IsQuiet a → IsDue a
-quiet_due (Starts who p) h = absurd cc
-quiet_due (Answers who verdict) h = absurd cc
-quiet_due _ h = tt
+quiet_due : (n : ℕ) (a : Act) → IsQuiet a → IsDue n a
+quiet_due n (Starts who p) h = absurd cc
+quiet_due n (Answers who verdict) h = absurd cc
+quiet_due n _ h = tt
+
+makes_more : (a : Act) (n : ℕ) (who : Who) (makes : Makes) → MakesSo n who makes → MakesSo (drawn_after a n) who makes
+makes_more a n who (Consumer link number topic) k = has_more a n who k
+makes_more a n who _ k = tt
+
+due_more : (a : Act) (n : ℕ) (x : Act) → IsDue n x → IsDue (drawn_after a n) x
+due_more a n (Starts who p) k = has_more a n who k
+due_more a n (Answers who verdict) k = makes_more a n who verdict.makes k
+due_more a n _ k = tt
 
 -- WHAT ARISES
 
-does_due : (who : Who) (action : Action) → Each IsDue (does who action)
-does_due who Rest = tt
-does_due who _ = (tt, tt)
+does_due : (n : ℕ) (who : Who) (action : Action) → Each (IsDue n) (does who action)
+does_due n who Rest = tt
+does_due n who _ = (tt, tt)
 
-makes_so : (who : Who) (makes : Makes) → Began who → MakesSo who makes
-makes_so who (Consumer link number topic) k = k
-makes_so who _ k = tt
+makes_so : (n : ℕ) (who : Who) (makes : Makes) → Has n who → MakesSo n who makes
+makes_so n who (Consumer link number topic) k = k
+makes_so n who _ k = tt
 
-follows_due : (who : Who) (turn : Turn Plan Verdict) → Began who → Each IsDue (follows who turn)
-follows_due who (Stays plan action) k = does_due who action
-follows_due who (Gives verdict) k = (makes_so who verdict.makes k, tt)
+follows_due : (n : ℕ) (who : Who) (turn : Turn Plan Verdict) → Has n who → Each (IsDue n) (follows who turn)
+follows_due n who (Stays plan action) k = does_due n who action
+follows_due n who (Gives verdict) k = (makes_so n who verdict.makes k, tt)
 
-some_due : (who : Who) (row : Option Plan) (o : Outcome) → ((plan : Plan) → row ≡ Some plan → Began who) → Each IsDue (follows_some who (told_some row o))
-some_due who None o k = tt
-some_due who (Some plan) o k = follows_due who (told plan o) (k plan refl)
+some_due : (n : ℕ) (who : Who) (row : Option Plan) (o : Outcome) → ((plan : Plan) → row ≡ Some plan → Has n who) → Each (IsDue n) (follows_some who (told_some row o))
+some_due n who None o k = tt
+some_due n who (Some plan) o k = follows_due n who (told plan o) (k plan refl)
 
-called_due : (o : Chosen) (c : Tickets) (asked : Asked) → Each IsDue (called o c asked)
+called_due : (o : Chosen) (c : Tickets) (asked : Asked) → Each (IsDue (drawn_after (Comes (Calls asked)) c.drawn)) (called o c asked)
 called_due o c asked = elim (cases_Bool (is_spent c.drawn)) [
   | inl e ↦ rw e (tt, tt)
-  | inr e ↦ rw e (e, tt)
+  | inr e ↦ rw e ((e, omega arith), tt)
 ]
 
-comes_due : (v : View) (p : Part) → Each IsDue (at_once v (Comes p))
+comes_due : (v : View) (p : Part) → Each (IsDue (drawn_after (Comes p) v.calls.drawn)) (at_once v (Comes p))
 comes_due v (Calls asked) = called_due v.chosen v.calls asked
-comes_due v p = each_map IsQuiet IsDue (at_once v (Comes p)) quiet_due (comes_quiet v p refl)
+comes_due v p = each_map IsQuiet (IsDue (drawn_after (Comes p) v.calls.drawn)) (at_once v (Comes p)) (quiet_due (drawn_after (Comes p) v.calls.drawn)) (comes_quiet v p refl)
 
 -- ALONG A LOG
 
 -- who has a plan, and who is due
 record IsTicketed (o : Chosen) (log : List Entry) : Type 0 where
-  stands : (w : Who) (plan : Plan) → (view o log).stand w ≡ Some plan → Began w
-  due : Each IsDue (agenda o log).now
-  consumers : (t : ℕ) (s : Subscription) → (view o log).consumers t ≡ Some s → Began (Call t)
+  stands : (w : Who) (plan : Plan) → (view o log).stand w ≡ Some plan → Has (view o log).calls.drawn w
+  due : Each (IsDue (view o log).calls.drawn) (agenda o log).now
+  consumers : (t : ℕ) (s : Subscription) → (view o log).consumers t ≡ Some s → Has (view o log).calls.drawn (Call t)
 
 none_some : {A : Type 0} {x : A} → None ≡ Some x → ⊥
 none_some {A} {x} h = cc
@@ -115,56 +143,67 @@ told_was None o plan h = absurd (none_some h)
 told_was (Some old) o plan h = (old, refl)
 
 module _ (o : Chosen) (log : List Entry) (k : IsTicketed o log) where
-  next_stands : (a : Act) → IsDue a → (w : Who) (plan : Plan) → stand_after a w ((view o log).stand w) ≡ Some plan → Began w
+  abbrev drawn : ℕ
+  drawn = (view o log).calls.drawn
+
+  next_stands : (a : Act) → IsDue drawn a → (w : Who) (plan : Plan) → stand_after a w ((view o log).stand w) ≡ Some plan → Has (drawn_after a drawn) w
   next_stands (Starts who p) is_due w plan h = elim (cases_Bool (is_same w who)) [
-    | inl e ↦ same_began w who e is_due
+    | inl e ↦ same_has drawn w who e is_due
     | inr e ↦ k.stands w plan (rw e at h)
   ]
   next_stands (Told n) is_due w plan h = elim (cases_Bool (is_same w n.who)) [
     | inl e ↦ (let was = told_was ((view o log).stand w) n.outcome plan (rw e at h) in k.stands w was.0 was.1)
     | inr e ↦ k.stands w plan (rw e at h)
   ]
+  next_stands (Comes p) is_due w plan h = has_more (Comes p) drawn w (k.stands w plan h)
   next_stands _ is_due w plan h = k.stands w plan h
 
-  arises : (a : Act) → IsDue a → Each IsDue (at_once (view o log) a)
+  arises : (a : Act) → IsDue drawn a → Each (IsDue (drawn_after a drawn)) (at_once (view o log) a)
   arises (Comes p) is_due = comes_due (view o log) p
-  arises (Starts who p) is_due = follows_due who (begins p) is_due
-  arises (Told n) is_due = some_due n.who ((view o log).stand n.who) n.outcome (λ plan h. k.stands n.who plan h)
-  arises (Does who action) is_due = each_map IsQuiet IsDue (performs (view o log) who action) quiet_due (performs_quiet (view o log) who action)
+  arises (Starts who p) is_due = follows_due drawn who (begins p) is_due
+  arises (Told n) is_due = some_due drawn n.who ((view o log).stand n.who) n.outcome (λ plan h. k.stands n.who plan h)
+  arises (Does who action) is_due = each_map IsQuiet (IsDue drawn) (performs (view o log) who action) (quiet_due drawn) (performs_quiet (view o log) who action)
   arises _ is_due = tt
 
-  from_made : (who : Who) (makes : Makes) → MakesSo who makes → (t : ℕ) (s : Subscription) → made who makes t ((view o log).consumers t) ≡ Some s → Began (Call t)
+  from_made : (who : Who) (makes : Makes) → MakesSo drawn who makes → (t : ℕ) (s : Subscription) → made who makes t ((view o log).consumers t) ≡ Some s → Has drawn (Call t)
   from_made who (Consumer link number topic) is_due t s h = elim (cases_Bool (is_same (Call t) who)) [
-    | inl e ↦ same_began (Call t) who e is_due
+    | inl e ↦ same_has drawn (Call t) who e is_due
     | inr e ↦ k.consumers t s (rw e at h)
   ]
   from_made who _ is_due t s h = k.consumers t s h
 
-  from_map : (f : Subscription → Subscription) (t : ℕ) (s : Subscription) → option_map f ((view o log).consumers t) ≡ Some s → Began (Call t)
+  from_map : (f : Subscription → Subscription) (t : ℕ) (s : Subscription) → option_map f ((view o log).consumers t) ≡ Some s → Has drawn (Call t)
   from_map f t s h = let was = was_some f ((view o log).consumers t) s h in k.consumers t was.0 was.1
 
-  from_ended : (l : ℕ) (cause : Option Fault) (t : ℕ) (s : Subscription) → ended_at l cause ((view o log).consumers t) ≡ Some s → Began (Call t)
+  from_ended : (l : ℕ) (cause : Option Fault) (t : ℕ) (s : Subscription) → ended_at l cause ((view o log).consumers t) ≡ Some s → Has drawn (Call t)
   from_ended l None t s h = k.consumers t s h
   from_ended l (Some cause) t s h = from_map _ t s h
 
-  next_consumers : (a : Act) → IsDue a → (t : ℕ) (s : Subscription) → consumer_after (view o log).now (view o log).links.live a t ((view o log).consumers t) ≡ Some s → Began (Call t)
+  next_consumers : (a : Act) → IsDue drawn a → (t : ℕ) (s : Subscription) → consumer_after (view o log).now (view o log).links.live a t ((view o log).consumers t) ≡ Some s →
+      Has (drawn_after a drawn) (Call t)
   next_consumers (Comes (ToLink l Reads)) is_due t s h = from_map _ t s h
   next_consumers (Comes (ToLink l (Ends end))) is_due t s h = from_ended l (closing end (view o log).now ((view o log).links.live l)) t s h
   next_consumers (Comes (Polls u)) is_due t s h = elim (cases_Bool (t == u)) [
     | inl e ↦ from_map _ t s (rw e at h)
     | inr e ↦ k.consumers t s (rw e at h)
   ]
+  next_consumers (Comes (Calls asked)) is_due t s h = has_more (Comes (Calls asked)) drawn (Call t) (k.consumers t s h)
   next_consumers (Does who (Ask l request)) is_due t s h = from_map _ t s h
   next_consumers (Answers who verdict) is_due t s h = from_made who verdict.makes is_due t s h
   next_consumers _ is_due t s h = k.consumers t s h
 
   next_ticketed : (a : Act) → first (agenda o log) ≡ Some a → IsTicketed o (Then a ∷ log)
   next_ticketed a fits =
-      let is_due : IsDue a = each_first IsDue (agenda o log).now (agenda o log).here (agenda o log).behind (agenda o log).parts a served_due k.due fits in
+      let now = (agenda o log).now in
+      let here = (agenda o log).here in
+      let behind = (agenda o log).behind in
+      let parts = (agenda o log).parts in
+      let is_due : IsDue drawn a = each_first (IsDue drawn) now here behind parts a (served_due drawn) k.due fits in
+      let left = each_rest (IsDue drawn) now here behind parts k.due in
       record {
         stands = next_stands a is_due;
-        due = each_append IsDue (at_once (view o log) a) (rest (agenda o log)).now (arises a is_due)
-            (each_rest IsDue (agenda o log).now (agenda o log).here (agenda o log).behind (agenda o log).parts k.due);
+        due = each_append (IsDue (drawn_after a drawn)) (at_once (view o log) a) (rest (agenda o log)).now (arises a is_due)
+            (each_map (IsDue drawn) (IsDue (drawn_after a drawn)) (rest (agenda o log)).now (due_more a drawn) left);
         consumers = next_consumers a is_due;
       }
 
@@ -172,10 +211,11 @@ begins_ticketed : (o : Chosen) (log : List Entry) (e : Heard) → IsTicketed o l
 begins_ticketed o log e k =
     let s = begun_same (λ v. v.stand) e (view o log) refl in
     let m = begun_same (λ v. v.consumers) e (view o log) refl in
+    let d = begun_same (λ v. v.calls.drawn) e (view o log) refl in
     record {
-      stands = λ w plan h. k.stands w plan (sym (ap (λ f. f w) s) ∙ h);
+      stands = λ w plan h. subst (λ n. Has n w) (sym d) (k.stands w plan (sym (ap (λ f. f w) s) ∙ h));
       due = tt;
-      consumers = λ t sub h. k.consumers t sub (sym (ap (λ f. f t) m) ∙ h);
+      consumers = λ t sub h. subst (λ n. Has n (Call t)) (sym d) (k.consumers t sub (sym (ap (λ f. f t) m) ∙ h));
     }
 
 is_ticketed : (o : Chosen) (log : List Entry) → IsRun o log → IsTicketed o log
@@ -184,7 +224,21 @@ is_ticketed o (Begins e ∷ log) run = begins_ticketed o log e (is_ticketed o lo
 is_ticketed o (Then a ∷ log) run = next_ticketed o log (is_ticketed o log run.0) a run.1
 
 pub consumer_ticket : (o : Chosen) (log : List Entry) (t : ℕ) (s : Subscription) → IsRun o log → (view o log).consumers t ≡ Some s → is_spent t ≡ false
-consumer_ticket o log t s run h = (is_ticketed o log run).consumers t s h
+consumer_ticket o log t s run h = ((is_ticketed o log run).consumers t s h).0
+
+no_row : {A : Type 0} (row : Option A) → ((x : A) → row ≡ Some x → ⊥) → row ≡ None
+no_row None none = refl
+no_row (Some x) none = absurd (none x refl)
+
+-- no consumer has a ticket that was not drawn yet
+are_ticketed : (o : Chosen) (log : List Entry) → IsRun o log → AreTicketed (view o log).calls.drawn (view o log).consumers
+are_ticketed o log run t h = no_row ((view o log).consumers t) (λ s is.
+    let d : t < (view o log).calls.drawn = ((is_ticketed o log run).consumers t s is).1 in
+    omega (arith, d, h))
+
+pub ticketed_in : (c : Tables) {o : Chosen} {g : Agenda} {e : Heard} {out : List Shown} {h : List Step} → InStep o c g e out h →
+    AreTicketed c.tickets (subscription_at c.subscribers)
+ticketed_in c {o} s = subst (λ v. AreTicketed v.calls.drawn v.consumers) (sym s.sees) (are_ticketed o s.log s.run)
 
 older_run : (o : Chosen) (later older : List Entry) → IsRun o (later ++ older) → IsRun o older
 older_run o [] older run = run
@@ -197,7 +251,8 @@ older_ticket o later older t s run h = consumer_ticket o older t s (older_run o 
 -- who starts, and who has started
 start_began : (o : Chosen) (log : List Entry) (who : Who) (p : Procedure) → IsRun o (Then (Starts who p) ∷ log) → Began who
 start_began o log who p run =
-    each_first IsDue (agenda o log).now (agenda o log).here (agenda o log).behind (agenda o log).parts (Starts who p) served_due (is_ticketed o log run.0).due run.1
+    let n = (view o log).calls.drawn in
+    (each_first (IsDue n) (agenda o log).now (agenda o log).here (agenda o log).behind (agenda o log).parts (Starts who p) (served_due n) (is_ticketed o log run.0).due run.1).0
 
 pub has_begun : (o : Chosen) (log : List Entry) (w : Who) (p : Procedure) → IsRun o log → started w log ≡ Some p → Began w
 has_begun o [] w p run h = absurd (none_some h)

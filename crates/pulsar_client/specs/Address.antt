@@ -1,42 +1,32 @@
--- The address of the service, as the URL of the options has it.
+-- Where the service is, as the URL of the options has it, and where an address leads.
 -- (Pulsar client documentation, Connection URL: `pulsar://HOST:PORT`, with the port 6650 where it has none. URL Standard, section
 -- 4.4, URL parsing, and section 3.5, host serializing)
-use Rattle.std.specs.Prelude.{◌≡◌, ℕ, if◌then◌else◌, List, codes, bytes_eq, Option, Some, None, unwrap_or, Ok, Err}
+use Rattle.std.specs.Prelude.{◌≡◌, ℕ, if◌then◌else◌, List, codes, Option, Some, None, unwrap_or, Ok, Err}
 use Rattle.std.specs.Option.{option_map}
-use Rattle.url.specs.declared.host.Host.{Host}
 use Rattle.url.specs.Host.{host_text}
 use Rattle.url.specs.Parts.{Parts, nonempty_host}
 use Rattle.url.specs.Parser.{Parsed, parse_url}
+use Rattle.pulsar_plans.specs.Address.{Place, base_of, default_port, is_reachable}
 
--- a URL, its host as it writes it, and its port
-pub record Address : Type 0 where
-  pub url : Parts
-  pub host : List ℕ
-  pub port : ℕ
+-- the address of the service in a text; there is none where the text is no URL, or has no host
+abbrev pub base_parsed : Parsed Parts → Option Place
+base_parsed (Ok url) = base_of url
+base_parsed (Err e) = None
 
--- the port of a broker
-abbrev pub default_port : ℕ
-default_port = 6650
+abbrev pub base_in : List ℕ → Option Place
+base_in text = base_parsed (parse_url None text)
 
-abbrev pub at_host : Parts → Option (Host (List ℕ)) → Option Address
-at_host url None = None
-at_host url (Some host) = Some (record { url = url; host = host_text host; port = unwrap_or url.port default_port })
+-- where an address leads: the host of its URL, as that writes it, and its port
+abbrev pub leads_to : Place → Option (List ℕ × ℕ)
+leads_to p = option_map (λ host. (host_text host, unwrap_or p.url.port default_port)) (nonempty_host p.url)
 
--- a URL has an address where its scheme is `pulsar` and its host isn't empty
-abbrev pub of_url : Parts → Option Address
-of_url url = if bytes_eq url.scheme (codes "pulsar") then at_host url (nonempty_host url) else None
+-- and where a text does, if it is reached there
+abbrev pub reached_in : Option Place → Option (List ℕ × ℕ)
+reached_in None = None
+reached_in (Some p) = if is_reachable p then leads_to p else None
 
-abbrev pub of_parsed : Parsed Parts → Option Address
-of_parsed (Ok url) = of_url url
-of_parsed (Err e) = None
-
--- the address in a text; there is none where the text is no URL
-abbrev pub address_of : List ℕ → Option Address
-address_of text = of_parsed (parse_url None text)
-
--- where a text leads: its host and its port
 abbrev pub reached_at : List ℕ → Option (List ℕ × ℕ)
-reached_at text = option_map (λ a. (a.host, a.port)) (address_of text)
+reached_at text = reached_in (base_in text)
 
 abbrev pub at : List ℕ → ℕ → Option (List ℕ × ℕ)
 at host port = Some (host, port)

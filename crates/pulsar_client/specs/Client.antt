@@ -4,7 +4,7 @@ use Rattle.pulsar_client.specs.declared.options.ClientOptions.{ClientOptions}
 use Rattle.pulsar_client.specs.declared.pulsar.Pulsar.{Pulsar}
 use Rattle.std.specs.Option.{option_map}
 use Rattle.pulsar_messages.specs.Content.{authentication_values}
-use Rattle.pulsar_client.specs.Address.{address_of}
+use Rattle.pulsar_client.specs.Address.{base_in}
 use Rattle.pulsar_client.specs.Content.{Heard}
 use Rattle.pulsar_client.specs.Run.{Good, Step, view}
 use Rattle.pulsar_client.specs.Tables.{Stands}
@@ -14,11 +14,12 @@ use Rattle.pulsar_client.specs.View.{Chosen, is_live}
 abbrev pub chosen : ClientOptions → Chosen
 chosen options =
     record {
-      address = address_of (string_bytes options.url);
+      base = base_in (string_bytes options.url);
       auth = option_map authentication_values options.auth;
-      connection_timeout = options.connection_retry.connection_timeout;
-      operation_timeout = options.operation_retry.operation_timeout;
+      connection = options.connection_retry;
+      operation = options.operation_retry;
       outbound = options.outbound_channel_size;
+      seed = options.seed;
       first_number = options.first_number;
       now = options.now;
     }

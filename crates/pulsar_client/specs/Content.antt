@@ -14,6 +14,7 @@ use Rattle.pulsar_session.specs.Failures.{Failure, failure}
 use Rattle.pulsar_link.specs.Messages.{Written, written}
 use Rattle.pulsar_link.specs.RawCall.{words_of}
 use Rattle.pulsar_messages.specs.Words.{Words}
+use Rattle.pulsar_plans.specs.Address.{Place, Named, named, place}
 use Rattle.pulsar_client.specs.declared.event.Call.{Call}
 use Rattle.pulsar_client.specs.declared.event.Call.TheVariants as call
 use Rattle.pulsar_client.specs.declared.event.Event.{Event}
@@ -30,6 +31,9 @@ pub data Asked : Type 0 where
   Build : Asked
   Stop : Asked
   Topics : (namespace : List ℕ) (mode : Mode) → Asked
+  Lookup : (topic : List ℕ) → Asked
+  Partitions : (topic : List ℕ) → Asked
+  Brokers : (topic : List ℕ) → Asked
   Raw : (link : ℕ) (words : Words) → Asked
 
 -- what happens to the client
@@ -43,10 +47,14 @@ pub data Heard : Type 0 where
   Ticked : (now : ℕ) → Heard
   Poll : (ticket : ℕ) → Heard
 
--- what a call ends with: a receipt by its bytes, and other bodies of the broker by their numbers and their bytes
+-- What a call ends with: where a topic is served, how many partitions it has, each of its names with where it is served; a receipt by its
+-- bytes, and other bodies of the broker by their numbers and their bytes.
 pub data Said : Type 0 where
   Done : Said
   Names : List (List ℕ) → Said
+  Address : Place → Said
+  Count : ℕ → Said
+  Addresses : List Named → Said
   Receipt : List ℕ → Said
   Replies : List Written → Said
   Failed : Failure → Said
@@ -57,6 +65,7 @@ pub data Shown : Type 0 where
   Connect : (link : ℕ) (host : List ℕ) (port : ℕ) → Shown
   Queued : (link place : ℕ) (bytes : List ℕ) → Shown
   Write : (link : ℕ) (bytes : List ℕ) → Shown
+  Retry : (link delay : ℕ) → Shown
   Close : (link : ℕ) → Shown
   Settles : (link place : ℕ) (outcome : Settlement) → Shown
   Ends : (ticket : ℕ) (answer : Said) → Shown
@@ -69,6 +78,9 @@ abbrev pub asked : Call → Asked
 asked call.Build = Build
 asked call.Stop = Stop
 asked (call.Topics namespace mode) = Topics (string_bytes namespace) mode
+asked (call.Lookup topic) = Lookup (string_bytes topic)
+asked (call.Partitions topic) = Partitions (string_bytes topic)
+asked (call.Brokers topic) = Brokers (string_bytes topic)
 asked (call.Raw link c) = Raw link (words_of c)
 
 abbrev pub heard : Event → Heard
@@ -84,6 +96,9 @@ heard (event.Poll ticket) = Poll ticket
 abbrev pub answered : Answer → Said
 answered answer.Done = Done
 answered (answer.Topics names) = Names (map string_bytes names.items)
+answered (answer.Address a) = Address (place a)
+answered (answer.Count n) = Count n
+answered (answer.Addresses names) = Addresses (map named names.items)
 answered (answer.Receipt receipt) = Receipt (spelling send_receipt (send_receipt_values receipt))
 answered (answer.Replies bodies) = Replies (map (λ b. written (body_values b)) bodies.items)
 
@@ -102,6 +117,7 @@ abbrev pub shown : Effect → Shown
 shown (effect.Connect l host port) = Connect l (string_bytes host) port
 shown (effect.Queued l place bytes) = Queued l place bytes.items
 shown (effect.Write l bytes) = Write l bytes.items
+shown (effect.Retry l delay) = Retry l delay
 shown (effect.Close l) = Close l
 shown (effect.Settled l place outcome) = Settles l place outcome
 shown (effect.Ended ticket answer) = Ends ticket (said answer)

@@ -1,5 +1,5 @@
 -- The effects of an act, and the order of those of a step.
-use Rattle.std.specs.Prelude.{ℕ, ◌==◌, nat_lt, Bool, if◌then◌else◌, List, [], ◌∷◌, Option, Some, None}
+use Rattle.std.specs.Prelude.{ℕ, ◌==◌, nat_lt, Bool, if◌then◌else◌, List, [], ◌∷◌, ◌++◌, Option, Some, None}
 use Rattle.std.specs.Option.{option_map, option_to_list}
 use Rattle.pulsar_messages.specs.Words.{Words}
 use Rattle.pulsar_session.specs.Link as session
@@ -10,12 +10,14 @@ use Rattle.pulsar_client.specs.declared.act.Action.TheVariants.{Ask}
 use Rattle.pulsar_client.specs.declared.act.LinkAct.{LinkAct}
 use Rattle.pulsar_client.specs.declared.act.Part.TheVariants.{ToLink, Polls}
 use Rattle.pulsar_client.specs.declared.act.Who.{Who}
+use Rattle.pulsar_client.specs.declared.addresses.Pause.{Pause}
 use Rattle.pulsar_client.specs.declared.act.Who.TheVariants.{Call}
-use Rattle.pulsar_client.specs.Address.{Address}
-use Rattle.pulsar_client.specs.Content.{Said, Shown, Connect, Queued, Write, Settles, Ends, Close, Hands, Faults, FindsNothing, FindsEnd}
+use Rattle.pulsar_client.specs.Address.{leads_to}
+use Rattle.pulsar_plans.specs.Address.{Place}
+use Rattle.pulsar_client.specs.Content.{Said, Shown, Connect, Queued, Write, Settles, Ends, Retry, Close, Hands, Faults, FindsNothing, FindsEnd}
 use Rattle.pulsar_client.specs.Links as links
 use Rattle.pulsar_client.specs.Subscriptions.{polled}
-use Rattle.pulsar_client.specs.View.{Seat, View}
+use Rattle.pulsar_client.specs.View.{Chosen, Seat, Turned, View, delay_of, turned}
 
 -- links
 abbrev pub given_at : ℕ → LinkAct → (now : ℕ) → Option Seat → List Shown
@@ -30,19 +32,31 @@ asked_at l now request (Some seat) = links.queues l seat.seen (session.after (As
 abbrev pub ends : Who → Said → List Shown
 ends (Call ticket) said = Ends ticket said ∷ []
 
--- an attempt asks for a connection to the address
-abbrev pub connects : ℕ → Option Address → List Shown
-connects l None = []
-connects l (Some address) = Connect l address.host address.port ∷ []
+-- an attempt asks for a connection to where its address leads
+abbrev pub connects_to : ℕ → Option (List ℕ × ℕ) → List Shown
+connects_to l None = []
+connects_to l (Some reached) = Connect l reached.0 reached.1 ∷ []
+
+abbrev pub connects : ℕ → Place → List Shown
+connects l p = connects_to l (leads_to p)
+
+-- an attempt that is to follow, with its delay
+abbrev pub retries : Chosen → ℕ → Option Pause → List Shown
+retries o l None = []
+retries o l (Some p) = Retry l (delay_of o l p) ∷ []
+
+abbrev pub retries_on : Chosen → Option Turned → List Shown
+retries_on o None = []
+retries_on o (Some t) = retries o t.link t.pause
 
 -- ALL
 
 abbrev pub effects : View → Act → List Shown
-effects v (Comes (ToLink l x)) = given_at l x v.now (v.links.live l)
+effects v (Comes (ToLink l x)) = given_at l x v.now (v.links.live l) ++ retries_on v.chosen (turned v (Comes (ToLink l x)))
 effects v (Comes (Polls ticket)) = option_to_list (option_map (polled ticket) (v.consumers ticket))
 effects v (Does who (Ask l request)) = asked_at l v.now request (v.links.live l)
 effects v (Answers who verdict) = ends who verdict.said
-effects v (Dials starter) = connects v.links.started v.chosen.address
+effects v (Dials p starter retries) = connects v.links.started p
 effects v _ = []
 
 -- THEIR ORDER
@@ -54,7 +68,8 @@ effect_rank (Settles l place outcome) = (1, l, place)
 effect_rank (Ends ticket answer) = (2, ticket, 0)
 effect_rank (Connect l host port) = (3, l, 0)
 effect_rank (Queued l place bytes) = (4, l, place)
-effect_rank (Close l) = (5, l, 0)
+effect_rank (Retry l delay) = (5, l, 0)
+effect_rank (Close l) = (6, l, 0)
 effect_rank (Hands ticket topic id metadata payload) = (0, ticket, 0)
 effect_rank (Faults ticket fault) = (0, ticket, 0)
 effect_rank (FindsNothing ticket) = (0, ticket, 0)

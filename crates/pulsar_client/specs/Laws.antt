@@ -1,38 +1,50 @@
 -- What follows from the definition of a good run, in plain words.
-use Rattle.std.specs.Prelude.{◌≡◌, ◌⊎◌, ℕ, ◌+◌, ◌≤◌, ◌==◌, ◌&&◌, ◌||◌, not, Bool, true, false, if◌then◌else◌, List, [], ◌∷◌, ◌++◌, Option, Some, None, Result, Ok, Err}
+use Rattle.std.specs.Prelude.{◌≡◌, ◌⊎◌, ℕ, pos, ◌+◌, ◌≤◌, ◌==◌, bytes_eq, ◌&&◌, ◌||◌, not, Bool, true, false, if◌then◌else◌, List, [], ◌∷◌, ◌++◌, Option, Some, None, Result, Ok, Err}
 use Rattle.std.specs.List.{flat_map}
-use Rattle.std.specs.Option.{is_some, option_map, option_to_list}
+use Rattle.std.specs.Option.{is_some, option_to_list}
 use Rattle.pulsar_run.specs.Laws as run
-use Rattle.pulsar_run.specs.Laws.{In, InThisStep}
+use Rattle.pulsar_run.specs.Laws.{Arises, In, InThisStep}
 use Rattle.pulsar_run.specs.Order.{AllInOrder, InOrder, arranged}
 use Rattle.pulsar_run.specs.Run.{events, steps_done}
 use Rattle.pulsar_wire.specs.declared.error.ConnectionError.{ConnectionError}
+use Rattle.pulsar_frame.specs.Frame.{cut}
 use Rattle.pulsar_frame.specs.Message.{MessageValues}
 use Rattle.pulsar_messages.specs.Words.{Words}
 use Rattle.pulsar_requests.specs.Waits.{later_of}
 use Rattle.pulsar_session.specs.declared.states.Asked.{Asked as Placed}
 use Rattle.pulsar_session.specs.declared.states.Asked.TheVariants as placed
-use Rattle.pulsar_session.specs.Failures.{Failure, Fault, OfConnection, fault}
+use Rattle.pulsar_session.specs.Failures.{DiscoveryConnection, DiscoveryCanceled, DiscoveryFault, DiscoveryNotFound, DiscoveryShutdown, DnsLookup, Dummy, Exhausted, Failure, Fault, OfConnection, OfDiscovery, Query, fault}
+use Rattle.pulsar_session.specs.Laws.{bytes_fed, messages_taken}
 use Rattle.pulsar_session.specs.Link as session
 use Rattle.pulsar_session.specs.Link.{Act as Act', Asks, Feeds, Setup, came, due, ends, is_spent}
 use Rattle.pulsar_link.specs.Items.{Item, Given, Faulty}
 use Rattle.pulsar_link.specs.Messages.{Reply, read}
 use Rattle.pulsar_link.specs.Request.{closed_consumer, request_number}
+use Rattle.pulsar_plans.specs.Address.{Place, address_key, is_reachable}
+use Rattle.pulsar_plans.specs.Backoff.{allow_retry}
+use Rattle.pulsar_plans.specs.Replies.{fails_by, in_discovery, is_choice, place_at, query, unexpected}
+use Rattle.pulsar_plans.specs.declared.plan.Procedure.{Procedure as Sought}
+use Rattle.pulsar_plans.specs.declared.turn.Ways.{Ways}
+use Rattle.pulsar_session.specs.Reply.{Reply as Content, is_body}
+use Rattle.pulsar_client.specs.Alarms.{ringing, rings}
 use Rattle.pulsar_client.specs.declared.act.Act.{Act}
 use Rattle.pulsar_client.specs.declared.act.Act.TheVariants.{Comes, Starts, Told, Does, Answers, Dials}
 use Rattle.pulsar_client.specs.declared.act.Action.{Action}
 use Rattle.pulsar_client.specs.declared.act.Action.TheVariants.{Get, Ask, StopAll, Rest}
+use Rattle.pulsar_client.specs.declared.act.Alarm.{Alarm}
+use Rattle.pulsar_client.specs.declared.act.Alarm.TheVariants.{Retry, Wake, KeepAlive, CheckIdle}
 use Rattle.pulsar_client.specs.declared.act.Arrival.{Arrival}
 use Rattle.pulsar_client.specs.declared.act.Arrival.TheVariants.{Nothing, Readied, Settles, Gives, Passes, Bad}
 use Rattle.pulsar_client.specs.declared.act.End.{End}
-use Rattle.pulsar_client.specs.declared.act.End.TheVariants.{Overdue}
+use Rattle.pulsar_client.specs.declared.act.End.TheVariants.{Overdue, Idles}
 use Rattle.pulsar_client.specs.declared.act.LinkAct.{LinkAct}
-use Rattle.pulsar_client.specs.declared.act.LinkAct.TheVariants.{Reads, Drains, Ends}
+use Rattle.pulsar_client.specs.declared.act.LinkAct.TheVariants.{Reads, Drains, Pings, Ends}
 use Rattle.pulsar_client.specs.declared.act.Makes.{Makes}
 use Rattle.pulsar_client.specs.declared.act.Notice.{Notice}
 use Rattle.pulsar_client.specs.declared.act.Outcome.{Outcome}
 use Rattle.pulsar_client.specs.declared.act.Outcome.TheVariants as outcome
-use Rattle.pulsar_client.specs.declared.act.Part.TheVariants.{Calls, ToLink, Polls}
+use Rattle.pulsar_client.specs.declared.act.Part.{Part}
+use Rattle.pulsar_client.specs.declared.act.Part.TheVariants.{Calls, ToLink, Rings, Polls}
 use Rattle.pulsar_client.specs.declared.act.Procedure.{Procedure}
 use Rattle.pulsar_client.specs.declared.act.Procedure.TheVariants as procedure
 use Rattle.pulsar_client.specs.declared.act.Refusal.{Refusal}
@@ -40,21 +52,22 @@ use Rattle.pulsar_client.specs.declared.act.Says.{Says}
 use Rattle.pulsar_client.specs.declared.act.Verdict.{Verdict}
 use Rattle.pulsar_client.specs.declared.act.Who.{Who}
 use Rattle.pulsar_client.specs.declared.act.Who.TheVariants.{Call}
-use Rattle.pulsar_client.specs.declared.base.Series.{Series}
-use Rattle.pulsar_client.specs.declared.base.Series.TheVariants.{Nobody, Runs, Serves}
+use Rattle.pulsar_client.specs.declared.addresses.Pause.{Pause}
+use Rattle.pulsar_client.specs.declared.addresses.Series.{Series}
+use Rattle.pulsar_client.specs.declared.addresses.Series.TheVariants.{Nobody, Runs, Pauses, Serves}
 use Rattle.pulsar_client.specs.declared.plans.plan.Plan.{Plan}
 use Rattle.pulsar_client.specs.declared.plans.plan.Turn.{Turn}
 use Rattle.pulsar_client.specs.declared.plans.plan.Turn.TheVariants as turn
 use Rattle.pulsar_client.specs.Content.{Asked, Called, Bytes, Ticked, Poll, Shown, Queued, Write, Hands, Faults, Failed}
-use Rattle.pulsar_client.specs.Effects.{effect_below}
+use Rattle.pulsar_client.specs.Effects.{effect_below, is_before3}
 use Rattle.pulsar_client.specs.Links as links
-use Rattle.pulsar_client.specs.Links.{Change, Remains, Becomes, IsOver, call_of, change_at, change_in, closed_by, line_places, new_places}
-use Rattle.pulsar_client.specs.Plan.{begins, failure_of, fault_of, reply_says, told}
-use Rattle.pulsar_client.specs.Rules.{below, dropped, fails_so, lost, procedure_for}
+use Rattle.pulsar_client.specs.Links.{Change, Remains, Becomes, IsOver, arrival, call_of, closed_by, line_places, new_places}
+use Rattle.pulsar_client.specs.Plan.{begins, failure_of, fails, fault_of, reply_says, told}
+use Rattle.pulsar_client.specs.Rules.{below, dropped, fails_so, is_idle, lost, notice, procedure_for, stopped_with, brings}
 use Rattle.pulsar_client.specs.Run.{Entry, Begins, Then, Good, IsRun, Rests, Step, agenda, calls_in, rules, steps, view}
 use Rattle.pulsar_client.specs.Subscriptions.{Subscription, closes_it, is_heard_on, is_last, polled}
-use Rattle.pulsar_client.specs.View.{Chosen, Seat, View, answer_at, arrival_at, builds, closing, is_asked, setup}
-use Rattle.pulsar_client.specs.Who.{is_same}
+use Rattle.pulsar_client.specs.View.{Base, Chosen, Seat, Turned, View, answer_at, arrival_at, builds, closing, is_asked, pause_of, setup, turned, waits_on}
+use Rattle.pulsar_client.specs.Who.{is_same, rank}
 
 -- THE RUN
 
@@ -69,6 +82,18 @@ EffectsArranged = (o : Chosen) (log : List Entry) → run.ArrangeSteps effect_be
 -- the present cause serves by rank, and so do the causes that wait: calls by ticket
 abbrev pub CausesInOrder : Type 0
 CausesInOrder = (o : Chosen) (log : List Entry) → InOrder below (agenda o log).here × AllInOrder below (agenda o log).behind
+
+-- these entries are acts, all of one step
+abbrev pub AreActs : List Entry → Type 0
+AreActs [] = Unit {0}
+AreActs (Begins e ∷ log) = ⊥
+AreActs (Then a ∷ log) = AreActs log
+
+-- Whatever arises from an event or an act, at once, as what one is told or as a part, is done before the next event begins: nothing is
+-- missing.
+abbrev pub AllIsDone : Type 0
+AllIsDone = (o : Chosen) (newer older : List Entry) (e : Entry) (a : Act) →
+    IsRun o (newer ++ e ∷ older) → Rests o (newer ++ e ∷ older) → AreActs newer → Arises rules o a e older → In (Then a) newer
 
 -- CALLS
 
@@ -122,6 +147,37 @@ abbrev pub PlansFollow : Type 0
 PlansFollow = (o : Chosen) (log : List Entry) (w : Who) (p : Procedure) →
     IsRun o log → Rests o log → started w log ≡ Some p → deeds w log ≡ course (begins p) (outcomes w log)
 
+-- the act of a deed
+abbrev pub act_of : Who → Deed → Act
+act_of w (Acted action) = Does w action
+act_of w (Answered verdict) = Answers w verdict
+
+-- a plan comes to where this is done, or gives this verdict
+abbrev pub Leads : Deed → Turn Plan Verdict → Type 0
+Leads (Acted action) t = (plan : Plan) × (t ≡ turn.Stays plan action)
+Leads (Answered verdict) t = t ≡ turn.Gives verdict
+
+-- a plan starts so; it is told an outcome that leads there; or a call comes for which no ticket is left, and ends with no plan
+abbrev pub StartsSo : Who → Deed → Entry → Type 0
+StartsSo w d e = (p : Procedure) × (e ≡ Then (Starts w p)) × Leads d (begins p)
+
+abbrev pub IsToldSo : Chosen → Who → Deed → Entry → List Entry → Type 0
+IsToldSo o w d e older =
+    (u : Outcome) × (plan : Plan) × (e ≡ Then (Told (record { who = w; outcome = u }))) × ((view o older).stand w ≡ Some plan) × Leads d (told plan u)
+
+abbrev pub ComesLate : Chosen → Who → Deed → Entry → List Entry → Type 0
+ComesLate o w d e older =
+    (asked : Asked) × (e ≡ Then (Comes (Calls asked))) × (w ≡ Call (view o older).calls.drawn) × (is_spent (view o older).calls.drawn ≡ true)
+    × (d ≡ Answered (fails Exhausted))
+
+-- Each action of a plan, and its verdict, comes right behind the start of the plan or the outcome that leads to it. So it stands in the
+-- step of its cause, and nothing comes between.
+abbrev pub IsLed : Chosen → Who → Deed → List Entry → Type 0
+IsLed o w d log = (e : Entry) × (older : List Entry) × (log ≡ e ∷ older) × (StartsSo w d e ⊎ (IsToldSo o w d e older ⊎ ComesLate o w d e older))
+
+abbrev pub DeedsFollow : Type 0
+DeedsFollow = (o : Chosen) (log : List Entry) (w : Who) (d : Deed) → IsRun o (Then (act_of w d) ∷ log) → IsLed o w d log
+
 -- a plan gives one verdict, and does nothing after it
 abbrev pub verdicts_in : List Deed → ℕ
 verdicts_in [] = 0
@@ -152,19 +208,24 @@ EndsOnce = (o : Chosen) (log : List Entry) (t : ℕ) → IsRun o log → (counte
 
 -- WHY A CALL IS TOLD AN OUTCOME
 
--- An entry of the log, with the older ones before it, is such: one gets the link of the address, and what is seen there is so.
-abbrev pub Gets : Chosen → Who → (View → Type 0) → Entry → List Entry → Type 0
-Gets o who P e older = (e ≡ Then (Does who Get)) × P (view o older)
+-- An entry of the log, with the older ones before it, is such: one gets a link of an address, and what is seen there is so.
+abbrev pub Gets : Chosen → Who → (Place → View → Type 0) → Entry → List Entry → Type 0
+Gets o who P e older = (p : Place) × (e ≡ Then (Does who (Get p))) × P p (view o older)
+
+-- what is seen of the address of a link, or of another
+abbrev pub base_of : View → Place → Base
+base_of v p = v.addresses.base (address_key p)
 
 -- one asks for a request on a link, and this is answered
 abbrev pub AsksSo : Chosen → Who → (Result Placed ConnectionError → Type 0) → Entry → List Entry → Type 0
 AsksSo o who P e older =
     (l : ℕ) × (request : Words) × (e ≡ Then (Does who (Ask l request))) × P (answer_at (view o older).now request ((view o older).links.live l))
 
--- a link becomes ready, while this one waits for the address
+-- a link becomes ready, while this one waits for its address
 abbrev pub BecomesReady : Chosen → Who → (link : ℕ) → Entry → List Entry → Type 0
 BecomesReady o who l e older =
-    (e ≡ Then (Comes (ToLink l Reads))) × (arrival_at ((view o older).links.live l) ≡ Readied) × In who (view o older).base.waiting
+    (seat : Seat) × (e ≡ Then (Comes (ToLink l Reads))) × ((view o older).links.live l ≡ Some seat) × (arrival seat.seen ≡ Readied)
+    × In who (base_of (view o older) seat.address).waiting
 
 -- a link ends, and what is seen of it there is so
 abbrev pub EndsSo : Chosen → (End → View → Seat → Type 0) → Entry → List Entry → Type 0
@@ -172,10 +233,12 @@ EndsSo o P e older =
     (l : ℕ) × (end : End) × (cause : Fault) × (seat : Seat) × (e ≡ Then (Comes (ToLink l (Ends end)))) × ((view o older).links.live l ≡ Some seat)
     × (closed_by end (view o older).now seat.seen ≡ Some cause) × P end (view o older) seat
 
--- an attempt ends for which this one waits: whether it started it, and what it is told
+-- an attempt ends for which this one waits, and none follows: whether it started the series, and what it is told
 abbrev pub AttemptEnds : Chosen → Who → Outcome → Entry → List Entry → Type 0
 AttemptEnds o who u e older =
-    EndsSo o (λ end v seat. (starter : Who) × (v.base.series ≡ Runs starter) × In who v.base.waiting × (u ≡ fails_so end (is_same who starter))) e older
+    EndsSo o (λ end v seat. (starter : Who) × (retries link : ℕ) × ((base_of v seat.address).series ≡ Runs starter retries link)
+    × (pause_of o end seat.address (Runs starter retries link) ≡ None) × In who (base_of v seat.address).waiting
+    × (u ≡ fails_so end (is_same who starter))) e older
 
 -- a request that this one asked for ends with its link, and this is told
 abbrev pub RequestEnds : Chosen → Who → Outcome → Entry → List Entry → Type 0
@@ -200,17 +263,24 @@ IsReplied o who r e older =
     × ((view o older).links.live l ≡ Some seat) × (came seat.seen ≡ session.Settles places m) × In place places × (seat.askers place ≡ Some who)
     × (r ≡ read m)
 
--- this one stops the client
-abbrev pub StopsAll : Who → Entry → Type 0
-StopsAll who e = e ≡ Then (Does who StopAll)
+-- the moment came for which this one waited
+abbrev pub IsWoken : Chosen → Who → Entry → List Entry → Type 0
+IsWoken o who e older = (e ≡ Then (Comes (Rings (Wake who)))) × (rings (view o older).now (Wake who) (view o older).alarms ≡ true)
 
--- GotLink: it got the link of the address, which serves, or that became ready while it waited. NotFound: the options have no address.
--- Failed, Canceled: the attempt that it waited for ended, which it or another started. Queued: it asked, and its frame was queued at
--- once or moved up. InLine, Refused: it asked, and the link said so. Replied: its request was answered. TimedOut, Disconnected,
--- Stopped: its request, its frame in the line or the attempt that it waited for ended so; or it stopped the client.
+-- this one stops the client, or waits for a moment or for an attempt that is to follow while another does
+abbrev pub IsStopped : Chosen → Who → Entry → List Entry → Type 0
+IsStopped o who e older =
+    (stopper : Who) × (e ≡ Then (Does stopper StopAll))
+    × ((who ≡ stopper) ⊎ In (notice who outcome.Stopped) (flat_map (λ a. stopped_with (view o older).addresses a.0) (view o older).alarms))
+
+-- GotLink: it got a link of an address, which serves, or that became ready while it waited. NotFound: the address cannot be reached.
+-- Failed, Canceled: the last attempt that it waited for ended, of a series that it or another started. Queued: it asked, and its frame was
+-- queued at once or moved up. InLine, Refused: it asked, and the link said so. Replied: its request was answered. Woken: its moment came.
+-- TimedOut, Disconnected, Cut, Stopped: its request, its frame in the line or the attempt that it waited for ended so; or the client was
+-- stopped.
 abbrev pub Cause : Chosen → Who → Outcome → Entry → List Entry → Type 0
-Cause o who (outcome.GotLink link) e older = Gets o who (λ v. (v.base.series ≡ Serves link)) e older ⊎ BecomesReady o who link e older
-Cause o who outcome.NotFound e older = Gets o who (λ v. (o.address ≡ None)) e older
+Cause o who (outcome.GotLink link) e older = Gets o who (λ p v. (is_reachable p ≡ true) × ((base_of v p).series ≡ Serves link)) e older ⊎ BecomesReady o who link e older
+Cause o who outcome.NotFound e older = Gets o who (λ p v. is_reachable p ≡ false) e older
 Cause o who (outcome.Failed kind) e older = AttemptEnds o who (outcome.Failed kind) e older
 Cause o who outcome.Canceled e older = AttemptEnds o who outcome.Canceled e older
 Cause o who outcome.Queued e older = AsksSo o who (λ a. (place : ℕ) × (a ≡ Ok (placed.Queued place))) e older ⊎ MovesUp o who e older
@@ -219,8 +289,10 @@ Cause o who (outcome.Refused cause) e older = AsksSo o who (λ a. (x : Connectio
 Cause o who (outcome.Replied r) e older = IsReplied o who r e older
 Cause o who outcome.TimedOut e older = RequestEnds o who outcome.TimedOut e older
 Cause o who outcome.Disconnected e older = RequestEnds o who outcome.Disconnected e older ⊎ LineEnds o who outcome.Disconnected e older
+Cause o who outcome.Woken e older = IsWoken o who e older
+Cause o who outcome.Cut e older = RequestEnds o who outcome.Cut e older
 Cause o who outcome.Stopped e older =
-    StopsAll who e ⊎ (LineEnds o who outcome.Stopped e older ⊎ AttemptEnds o who outcome.Stopped e older)
+    IsStopped o who e older ⊎ (LineEnds o who outcome.Stopped e older ⊎ AttemptEnds o who outcome.Stopped e older)
 
 -- whatever one is told has its cause before, in the same step
 abbrev pub OutcomesAreCaused : Type 0
@@ -229,15 +301,44 @@ OutcomesAreCaused = (o : Chosen) (log : List Entry) (who : Who) (u : Outcome) �
 
 -- the number of the body of a procedure's request
 abbrev pub number_in : Procedure → Option ℕ
-number_in procedure.Build = None
+number_in (procedure.Build base) = None
 number_in procedure.Stop = None
 number_in (procedure.Ask place request s) = Some (request_number request)
+number_in (procedure.Search ways what) = None
 number_in (procedure.Refuse r) = None
 
--- a call fails where it is refused, and else with the fault of an outcome that it was told, or of a reply to its request
+-- A reply tells that the search failed, or nothing of how it went, and after so many retries it is not to be asked again.
+abbrev pub Refuses : Ways → Content → Type 0
+Refuses w r =
+    (((is_body 22 r.body ≡ true) × (fails_by (pos 1) r.response ≡ true)) ⊎ ((is_body 24 r.body ≡ true) × (fails_by (pos 2) r.response ≡ true)))
+    × (retries : ℕ) × ((is_choice (pos 6) r.error && allow_retry w.max_retries retries) ≡ false)
+
+-- a reply that lacks the number of partitions, and one that names no address
+abbrev pub LacksPartitions : Content → Type 0
+LacksPartitions r = (is_body 22 r.body ≡ true) × (r.partitions ≡ None)
+
+abbrev pub NamesNone : Content → Type 0
+NamesNone r = (is_body 24 r.body ≡ true) × ((base : Place) (proxy : Bool) → place_at base proxy r.url ≡ None)
+
+-- what a reply says to a search that fails by it: it is another body than was asked for, it tells the broker's error, or it names no
+-- address
+abbrev pub DeniesSo : Ways → DiscoveryFault → Content → Type 0
+DeniesSo w (DiscoveryConnection f) r = f ≡ unexpected r r.body
+DeniesSo w (Query error text) r = (OfDiscovery (Query error text) ≡ query r.error r.text) × (Refuses w r ⊎ LacksPartitions r)
+DeniesSo w DiscoveryNotFound r = NamesNone r
+DeniesSo w DnsLookup r = ⊥
+DeniesSo w DiscoveryCanceled r = ⊥
+DeniesSo w DiscoveryShutdown r = ⊥
+DeniesSo w Dummy r = ⊥
+
+-- a call fails where it is refused, and else with the fault of an outcome that it was told, or of a reply to its request; a search with
+-- these as faults of its own
 pub data FailsSo (p : Procedure) (os : List Outcome) (f : Failure) : Type 0 where
   IsRefused : (r : Refusal) → p ≡ procedure.Refuse r → f ≡ failure_of r → FailsSo p os f
   IsTold : (u : Outcome) → In u os → f ≡ OfConnection (fault_of u) → FailsSo p os f
+  IsTurned : (w : Ways) (what : Sought) (u : Outcome) → p ≡ procedure.Search w what → In u os → f ≡ in_discovery (fault_of u) → FailsSo p os f
+  IsDenied : (w : Ways) (what : Sought) (r : Reply) (d : DiscoveryFault) →
+      p ≡ procedure.Search w what → In (outcome.Replied r) os → f ≡ OfDiscovery d → DeniesSo w d r.content → FailsSo p os f
   IsAnswered : (r : Reply) (number : ℕ) (s : Says) → In (outcome.Replied r) os → number_in p ≡ Some number → Failed f ≡ reply_says s number r → FailsSo p os f
 
 abbrev pub FailuresAreTold : Type 0
@@ -288,22 +389,111 @@ abbrev pub DeadlinesAreTicked : Type 0
 DeadlinesAreTicked = (o : Chosen) (log : List Entry) (l queued : ℕ) →
     IsRun o (Then (Comes (ToLink l (Ends (Overdue queued)))) ∷ log) → InThisStep (IsDueAt o l queued) log
 
--- what runs for the address, by the newest of these: an attempt began, a link became ready, a link ended
-abbrev pub turn_of : (link : ℕ) → Change → Series → Series
-turn_of l Remains s = s
-turn_of l Becomes s = Serves l
-turn_of l IsOver s = Nobody
+-- An alarm comes only in a tick at whose beginning it rang: what is set in a tick waits for the next.
+abbrev pub RingsAt : Chosen → Alarm → Entry → List Entry → Type 0
+RingsAt o a e older = (now : ℕ) × (e ≡ Begins (Ticked now)) × In a (ringing now (view o older).alarms)
 
-abbrev pub newest_turn : Chosen → List Entry → Series
-newest_turn o [] = Nobody
-newest_turn o (Then (Dials starter) ∷ log) = Runs starter
-newest_turn o (Then (Comes (ToLink l Reads)) ∷ log) = turn_of l (change_in (arrival_at ((view o log).links.live l))) (newest_turn o log)
-newest_turn o (Then (Comes (ToLink l (Ends end))) ∷ log) =
-    turn_of l (change_at (closing end (view o log).now ((view o log).links.live l))) (newest_turn o log)
-newest_turn o (_ ∷ log) = newest_turn o log
+abbrev pub AlarmsAreTicked : Type 0
+AlarmsAreTicked = (o : Chosen) (log : List Entry) (a : Alarm) → IsRun o (Then (Comes (Rings a)) ∷ log) → InThisStep (RingsAt o a) log
+
+-- What a tick brings comes in this order: the deadlines of links, by link; the attempts that follow others, by the link of the one before;
+-- those who have waited, by their rank; the signs of life, by link; then the idle check.
+abbrev pub part_rank : Part → ℕ × ℕ × ℕ
+part_rank (ToLink l x) = (0, 0, l)
+part_rank (Rings (Retry l)) = (1, 0, l)
+part_rank (Rings (Wake who)) = (2, (rank who).0, (rank who).1)
+part_rank (Rings (KeepAlive l)) = (3, 0, l)
+part_rank (Rings CheckIdle) = (4, 0, 0)
+part_rank (Calls asked) = (5, 0, 0)
+part_rank (Polls ticket) = (5, 0, ticket)
+
+abbrev pub part_below : Part → Part → Bool
+part_below a b = is_before3 (part_rank a) (part_rank b)
+
+abbrev pub TicksInOrder : Type 0
+TicksInOrder = (o : Chosen) (log : List Entry) (now : ℕ) → InOrder part_below (brings (view o log) (Ticked now))
+
+-- THE ADDRESSES
+
+-- what runs for an address, by the newest of these: an attempt began, a link of it became ready, a link of it ended, the client was stopped
+abbrev pub turn_over : (link : ℕ) → Option Pause → Series
+turn_over l None = Nobody
+turn_over l (Some p) = Pauses l
+
+abbrev pub turn_of : (link : ℕ) → Change → Option Pause → Series → Series
+turn_of l Remains pause s = s
+turn_of l Becomes pause s = Serves l
+turn_of l IsOver pause s = turn_over l pause
+
+abbrev pub turn_on : (key : List ℕ) → Option Turned → Series → Series
+turn_on key None s = s
+turn_on key (Some t) s = if bytes_eq t.key key then turn_of t.link t.change t.pause s else s
+
+abbrev pub newest_turn : Chosen → (key : List ℕ) → List Entry → Series
+newest_turn o key [] = Nobody
+newest_turn o key (Then (Dials p starter retries) ∷ log) =
+    if bytes_eq (address_key p) key then Runs starter retries (view o log).links.started else newest_turn o key log
+newest_turn o key (Then (Comes (ToLink l x)) ∷ log) = turn_on key (turned (view o log) (Comes (ToLink l x))) (newest_turn o key log)
+newest_turn o key (Then (Does who StopAll) ∷ log) =
+    if waits_on (view o log).addresses (view o log).alarms key then Nobody else newest_turn o key log
+newest_turn o key (_ ∷ log) = newest_turn o key log
 
 abbrev pub SeriesIsNewest : Type 0
-SeriesIsNewest = (o : Chosen) (log : List Entry) → (view o log).base.series ≡ newest_turn o log
+SeriesIsNewest = (o : Chosen) (log : List Entry) (key : List ℕ) → ((view o log).addresses.base key).series ≡ newest_turn o key log
+
+-- An attempt begins a series where one gets a link of an address that can be reached and for which nothing runs; or it follows one that
+-- failed so that this may help, once its alarm has rung, and at most as many times as the options allow.
+abbrev pub Begun : Chosen → Place → Who → Entry → List Entry → Type 0
+Begun o p starter e older =
+    (e ≡ Then (Does starter (Get p))) × (is_reachable p ≡ true) × ((base_of (view o older) p).series ≡ Nobody)
+
+abbrev pub Followed : Chosen → Place → Who → (retries : ℕ) → Entry → List Entry → Type 0
+Followed o p starter n e older =
+    (l before : ℕ) × (e ≡ Then (Comes (Rings (Retry l)))) × (rings (view o older).now (Retry l) (view o older).alarms ≡ true)
+    × ((view o older).addresses.pause l ≡ Some (record { address = p; starter = starter; retries = before }))
+    × (n ≡ before + 1) × (n ≤ o.connection.max_retries)
+
+abbrev pub Attempted : Chosen → Place → Who → (retries : ℕ) → List Entry → Type 0
+Attempted o p starter n log =
+    (e : Entry) × (older : List Entry) × (log ≡ e ∷ older) × ((Begun o p starter e older × (n ≡ 0)) ⊎ Followed o p starter n e older)
+
+abbrev pub AttemptsFollow : Type 0
+AttemptsFollow = (o : Chosen) (log : List Entry) (p : Place) (starter : Who) (n : ℕ) →
+    IsRun o (Then (Dials p starter n) ∷ log) → Attempted o p starter n log
+
+-- from a Stop on no attempt begins
+abbrev pub NoneAfterStop : Type 0
+NoneAfterStop = (o : Chosen) (log : List Entry) (p : Place) (starter : Who) (n : ℕ) → IsRun o (Then (Dials p starter n) ∷ log) → stopped log ≡ false
+
+-- one link at a time is of an address: the one that its series names
+abbrev pub names_link : ℕ → Series → Bool
+names_link l Nobody = false
+names_link l (Runs starter retries link) = link == l
+names_link l (Pauses link) = false
+names_link l (Serves link) = link == l
+
+abbrev pub OneLinkEach : Type 0
+OneLinkEach = (o : Chosen) (log : List Entry) (l : ℕ) (seat : Seat) → IsRun o log → (view o log).links.live l ≡ Some seat →
+    names_link l (base_of (view o log) seat.address).series ≡ true
+
+-- a link ends for want of use only where it is ready, was not got for so long, and nothing uses it, as the check for that comes
+abbrev pub IsIdleAt : Chosen → (link : ℕ) → Entry → List Entry → Type 0
+IsIdleAt o l e older =
+    (seat : Seat) × (e ≡ Then (Comes (Rings CheckIdle))) × (rings (view o older).now CheckIdle (view o older).alarms ≡ true)
+    × ((view o older).links.live l ≡ Some seat) × (is_idle (view o older) l seat ≡ true)
+
+abbrev pub IdleEnds : Type 0
+IdleEnds = (o : Chosen) (log : List Entry) (l : ℕ) → IsRun o (Then (Comes (ToLink l (Ends Idles))) ∷ log) →
+    InThisStep (IsIdleAt o l) log
+
+-- A link is asked for a sign of life only where the alarm for that rings, and none that it was asked for earlier is waited for.
+abbrev pub IsQuietAt : Chosen → (link : ℕ) → Entry → List Entry → Type 0
+IsQuietAt o l e older =
+    (seat : Seat) × (e ≡ Then (Comes (Rings (KeepAlive l)))) × (rings (view o older).now (KeepAlive l) (view o older).alarms ≡ true)
+    × ((view o older).links.live l ≡ Some seat) × (seat.ping ≡ None)
+
+abbrev pub SignsOfLife : Type 0
+SignsOfLife = (o : Chosen) (log : List Entry) (l : ℕ) → IsRun o (Then (Comes (ToLink l Pings)) ∷ log) → InThisStep (IsQuietAt o l) log
 
 -- LINKS
 
@@ -319,14 +509,14 @@ calls_of o l (Begins (Bytes k piece) ∷ log) = if l == k then Feeds piece ∷ c
 calls_of o l (Then (Comes (ToLink k x)) ∷ log) =
     if l == k then call_at x (view o log).now ((view o log).links.live l) ++ calls_of o l log else calls_of o l log
 calls_of o l (Then (Does who (Ask k request)) ∷ log) = if l == k then Asks (view o log).now request ∷ calls_of o l log else calls_of o l log
-calls_of o l (Then (Dials starter) ∷ log) = if l == (view o log).links.started then [] else calls_of o l log
+calls_of o l (Then (Dials p starter retries) ∷ log) = if l == (view o log).links.started then [] else calls_of o l log
 calls_of o l (_ ∷ log) = calls_of o l log
 
 -- what it was dialed with
 abbrev pub dialed_with : Chosen → ℕ → List Entry → Option Setup
 dialed_with o l [] = None
-dialed_with o l (Then (Dials starter) ∷ log) =
-    if l == (view o log).links.started then option_map (setup o (view o log).now) o.address else dialed_with o l log
+dialed_with o l (Then (Dials p starter retries) ∷ log) =
+    if l == (view o log).links.started then Some (setup o l (view o log).now p) else dialed_with o l log
 dialed_with o l (_ ∷ log) = dialed_with o l log
 
 -- A link that has not ended is what the calls of its connection made of it, and nothing else. So all that holds of a connection over
@@ -335,6 +525,11 @@ dialed_with o l (_ ∷ log) = dialed_with o l log
 abbrev pub LinksAlone : Type 0
 LinksAlone = (o : Chosen) (log : List Entry) (l : ℕ) (seat : Seat) → (view o log).links.live l ≡ Some seat →
     (s : Setup) × (dialed_with o l log ≡ Some s) × (seat.seen ≡ session.seen s (calls_of o l log))
+
+-- At the end of a step no whole frame is left unread: the messages that were taken from a link are those that all its bytes are cut into.
+abbrev pub FramesAreCut : Type 0
+FramesAreCut = (o : Chosen) (log : List Entry) (l : ℕ) (seat : Seat) → IsRun o log → Rests o log → (view o log).links.live l ≡ Some seat →
+    (s : Setup) × (dialed_with o l log ≡ Some s) × (messages_taken s (calls_of o l log) ≡ cut (bytes_fed s (calls_of o l log)))
 
 -- a list begins with another
 abbrev pub IsPrefix : {A : Type 0} → List A → List A → Type 0

@@ -3,6 +3,7 @@ pub mod Content
 pub mod Plan
 pub mod Links
 pub mod Subscriptions
+pub mod Alarms
 pub mod Who
 pub mod View
 pub mod Rules

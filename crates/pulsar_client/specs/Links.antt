@@ -4,19 +4,20 @@ use Rattle.std.specs.Prelude.{ℕ, zero, suc, ◌-◌, nat_lt, Bool, true, false
 use Rattle.std.specs.List.{filter_map, flat_map}
 use Rattle.std.specs.Option.{option_map}
 use Rattle.pulsar_wire.specs.declared.error.IoKind.TheVariants as io_kind
+use Rattle.pulsar_messages.specs.Words.{SendPing}
 use Rattle.pulsar_requests.specs.Waits.{is_overdue}
 use Rattle.pulsar_session.specs.declared.states.Stage.{Stage}
 use Rattle.pulsar_session.specs.declared.states.Stage.TheVariants.{Dialing, Handshaking, Ready, Over}
 use Rattle.pulsar_session.specs.Failures.{Fault, Io, Disconnected}
 use Rattle.pulsar_session.specs.Link as session
-use Rattle.pulsar_session.specs.Link.{Act, Takes, Closes, Came, Seen, came, due, ends, frame_at, written}
+use Rattle.pulsar_session.specs.Link.{Act, Asks, Takes, Closes, Came, Seen, came, due, ends, frame_at, written}
 use Rattle.pulsar_link.specs.Messages.{read}
 use Rattle.pulsar_client.specs.declared.act.Arrival.{Arrival}
 use Rattle.pulsar_client.specs.declared.act.Arrival.TheVariants.{Nothing, Readied, Settles, Gives, Passes, Bad}
 use Rattle.pulsar_client.specs.declared.act.End.{End}
-use Rattle.pulsar_client.specs.declared.act.End.TheVariants.{Unopened, Lost, Overdue, Broken, Stops}
+use Rattle.pulsar_client.specs.declared.act.End.TheVariants.{Unopened, Lost, Overdue, Broken, Idles, Stops}
 use Rattle.pulsar_client.specs.declared.act.LinkAct.{LinkAct}
-use Rattle.pulsar_client.specs.declared.act.LinkAct.TheVariants.{Opens, Reads, Drains, Ends}
+use Rattle.pulsar_client.specs.declared.act.LinkAct.TheVariants.{Opens, Reads, Drains, Pings, Ends}
 use Rattle.pulsar_client.specs.declared.effect.Settlement.{Settlement}
 use Rattle.pulsar_client.specs.declared.effect.Settlement.TheVariants as settlement
 use Rattle.pulsar_client.specs.Content as content
@@ -37,12 +38,14 @@ closed_by (Unopened kind) now s = Some (Io kind)
 closed_by Lost now s = Some (lost_in s.stage)
 closed_by (Overdue below) now s = if due now s then Some (Io io_kind.TimedOut) else None
 closed_by (Broken cause) now s = Some cause
+closed_by Idles now s = Some Disconnected
 closed_by Stops now s = Some Disconnected
 
 abbrev pub call_of : LinkAct → (now : ℕ) → Seen → Option Act
 call_of Opens now s = Some (session.Opens now)
 call_of Reads now s = Some (Takes now)
 call_of (Drains most) now s = Some (session.Drains most now)
+call_of Pings now s = Some (Asks now SendPing)
 call_of (Ends end) now s = option_map Closes (closed_by end now s)
 
 abbrev pub called : Option Act → Seen → Seen
@@ -85,6 +88,7 @@ times_out (Unopened kind) now s place = false
 times_out Lost now s place = false
 times_out (Overdue below) now s place = nat_lt place below && is_overdue place now s.waits
 times_out (Broken cause) now s place = false
+times_out Idles now s place = false
 times_out Stops now s place = false
 
 abbrev pub lost_so : (is_timed_out : Bool) → Settlement
@@ -96,6 +100,7 @@ is_own_end (Unopened kind) = false
 is_own_end Lost = false
 is_own_end (Overdue below) = true
 is_own_end (Broken cause) = true
+is_own_end Idles = true
 is_own_end Stops = true
 
 -- FRAMES
@@ -132,6 +137,14 @@ abbrev pub change_at : Option Fault → Change
 change_at None = Remains
 change_at (Some cause) = IsOver
 
+-- what an act makes of it
+abbrev pub change_by : LinkAct → (now : ℕ) → Seen → Change
+change_by Opens now s = Remains
+change_by Reads now s = change_in (arrival s)
+change_by (Drains most) now s = Remains
+change_by Pings now s = Remains
+change_by (Ends end) now s = change_at (closed_by end now s)
+
 -- EFFECTS
 
 abbrev pub settles : ℕ → Settlement → ℕ → Shown
@@ -163,4 +176,5 @@ abbrev pub effects : ℕ → LinkAct → (now : ℕ) → Seen → List Shown
 effects l Opens now s = queues l s (after Opens now s)
 effects l Reads now s = map (settles l settlement.Reply) (settled_in (came s)) ++ queues l s (after Reads now s)
 effects l (Drains most) now s = write l (flat_map (λ f. f) (written most s)) ++ queues l s (after (Drains most) now s)
+effects l Pings now s = queues l s (after Pings now s)
 effects l (Ends end) now s = ended l end now (closed_by end now s) s

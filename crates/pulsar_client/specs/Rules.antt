@@ -1,35 +1,39 @@
 -- What an event brings, and what arises from an act: at once, as further parts, among those whom the present cause still serves, or as
 -- causes of their own.
-use Rattle.std.specs.Prelude.{ℕ, Bool, ◌&&◌, not, ◌==◌, if◌then◌else◌, List, [], ◌∷◌, ◌++◌, map, Option, Some, None, Result, Ok, Err}
+use Rattle.std.specs.Prelude.{ℕ, ◌+◌, nat_le, nat_lt, Bool, false, ◌&&◌, ◌||◌, not, ◌==◌, if◌then◌else◌, List, [], ◌∷◌, ◌++◌, length, map, Option, Some, None, Result, Ok, Err}
 use Rattle.std.specs.List.{filter_map, flat_map}
-use Rattle.std.specs.Option.{option_map, option_to_list}
+use Rattle.std.specs.Option.{is_none, option_map, option_to_list}
 use Rattle.pulsar_wire.specs.declared.error.ConnectionError.{ConnectionError}
 use Rattle.pulsar_wire.specs.declared.error.IoKind.{IoKind}
 use Rattle.pulsar_wire.specs.declared.error.IoKind.TheVariants as io_kind
+use Rattle.pulsar_wire.specs.declared.commands.topics.Mode.{Mode}
+use Rattle.pulsar_requests.specs.Waits.{is_empty}
 use Rattle.pulsar_messages.specs.Words as words
 use Rattle.pulsar_messages.specs.Words.{Words}
 use Rattle.pulsar_session.specs.declared.states.Asked.{Asked}
 use Rattle.pulsar_session.specs.declared.states.Asked.TheVariants as asked
 use Rattle.pulsar_session.specs.Failures.{Fault, Exhausted, fault}
 use Rattle.pulsar_session.specs.Link as session
-use Rattle.pulsar_session.specs.Link.{Came, Seen, came, due, ends, is_spent}
+use Rattle.pulsar_session.specs.Link.{Came, Seen, came, due, ends, is_ready, is_spent}
 use Rattle.pulsar_link.specs.Messages.{read}
 use Rattle.pulsar_client.specs.declared.act.Act.{Act}
 use Rattle.pulsar_client.specs.declared.act.Act.TheVariants.{Comes, Starts, Told, Does, Answers, Dials}
 use Rattle.pulsar_client.specs.declared.act.Action.{Action}
-use Rattle.pulsar_client.specs.declared.act.Action.TheVariants.{Get, Ask, StopAll, Rest}
+use Rattle.pulsar_client.specs.declared.act.Action.TheVariants.{Get, Ask, Wait, StopAll, Rest}
+use Rattle.pulsar_client.specs.declared.act.Alarm.{Alarm}
+use Rattle.pulsar_client.specs.declared.act.Alarm.TheVariants.{Retry, Wake, KeepAlive, CheckIdle}
 use Rattle.pulsar_client.specs.declared.act.Arrival.{Arrival}
 use Rattle.pulsar_client.specs.declared.act.Arrival.TheVariants.{Nothing, Readied, Settles, Gives as GivesTo, Passes, Bad}
 use Rattle.pulsar_client.specs.declared.act.End.{End}
-use Rattle.pulsar_client.specs.declared.act.End.TheVariants.{Unopened, Lost, Overdue, Broken, Stops}
+use Rattle.pulsar_client.specs.declared.act.End.TheVariants.{Unopened, Lost, Overdue, Broken, Idles, Stops}
 use Rattle.pulsar_client.specs.declared.act.LinkAct.{LinkAct}
 use Rattle.pulsar_client.specs.declared.act.LinkAct.TheVariants as link
-use Rattle.pulsar_client.specs.declared.act.LinkAct.TheVariants.{Reads, Drains, Ends}
+use Rattle.pulsar_client.specs.declared.act.LinkAct.TheVariants.{Reads, Drains, Pings, Ends}
 use Rattle.pulsar_client.specs.declared.act.Notice.{Notice}
 use Rattle.pulsar_client.specs.declared.act.Outcome.{Outcome}
 use Rattle.pulsar_client.specs.declared.act.Outcome.TheVariants as outcome
 use Rattle.pulsar_client.specs.declared.act.Part.{Part}
-use Rattle.pulsar_client.specs.declared.act.Part.TheVariants.{Calls, ToLink, Polls}
+use Rattle.pulsar_client.specs.declared.act.Part.TheVariants.{Calls, ToLink, Rings, Polls}
 use Rattle.pulsar_client.specs.declared.act.Place.TheVariants as place
 use Rattle.pulsar_client.specs.declared.act.Procedure.{Procedure}
 use Rattle.pulsar_client.specs.declared.act.Procedure.TheVariants as procedure
@@ -38,18 +42,24 @@ use Rattle.pulsar_client.specs.declared.act.Says.TheVariants as says
 use Rattle.pulsar_client.specs.declared.act.Verdict.{Verdict}
 use Rattle.pulsar_client.specs.declared.act.Who.{Who}
 use Rattle.pulsar_client.specs.declared.act.Who.TheVariants.{Call}
-use Rattle.pulsar_client.specs.declared.base.Series.{Series}
-use Rattle.pulsar_client.specs.declared.base.Series.TheVariants.{Nobody, Runs, Serves}
+use Rattle.pulsar_client.specs.declared.addresses.Pause.{Pause}
+use Rattle.pulsar_client.specs.declared.addresses.Series.{Series}
+use Rattle.pulsar_client.specs.declared.addresses.Series.TheVariants.{Nobody, Runs, Pauses, Serves}
 use Rattle.pulsar_client.specs.declared.plans.plan.Plan.{Plan}
 use Rattle.pulsar_client.specs.declared.plans.plan.Turn.{Turn}
 use Rattle.pulsar_client.specs.declared.plans.plan.Turn.TheVariants.{Stays, Gives}
-use Rattle.pulsar_client.specs.Address.{Address}
+use Rattle.pulsar_plans.specs.Address.{Place, address_key, is_reachable}
+use Rattle.pulsar_plans.specs.declared.plan.Procedure.{Procedure as Sought}
+use Rattle.pulsar_plans.specs.declared.plan.Procedure.TheVariants as sought
+use Rattle.pulsar_plans.specs.declared.turn.Ways.{Ways}
+use Rattle.pulsar_client.specs.Alarms.{ringing, rings}
 use Rattle.pulsar_client.specs.Content as content
 use Rattle.pulsar_client.specs.Content.{Asked as Asking, Heard, Called, Opened, FailedToOpen, Bytes, Lost as Loses, Drain, Ticked, Poll}
-use Rattle.pulsar_client.specs.Links.{Change, Remains, Becomes, IsOver, change_in, closed_by, line_places, new_places, numbers_from, times_out}
+use Rattle.pulsar_client.specs.Links.{Change, Remains, Becomes, IsOver, closed_by, line_places, new_places, numbers_from, times_out}
 use Rattle.pulsar_client.specs.Links as links
 use Rattle.pulsar_client.specs.Plan.{begins, fails}
-use Rattle.pulsar_client.specs.View.{Base, Chosen, Links, Seat, Tickets, View, answer_at, arrival_at, closing, is_live, told_some}
+use Rattle.pulsar_client.specs.View.{Addresses, Base, Chosen, Links, Seat, Tickets, Turned, View, answer_at, arrival_at, is_live, later, told_some, turned, ways_of}
+use Rattle.pulsar_client.specs.Subscriptions.{Subscription, is_heard}
 use Rattle.pulsar_client.specs.Who.{is_before, is_same, rank}
 
 -- EVENTS
@@ -72,7 +82,7 @@ brings v (FailedToOpen l kind) = ToLink l (Ends (Unopened kind)) ∷ []
 brings v (Bytes l piece) = ToLink l Reads ∷ []
 brings v (Loses l) = ToLink l (Ends Lost) ∷ []
 brings v (Drain l most) = ToLink l (Drains most) ∷ []
-brings v (Ticked now) = over_links (due_part now) v.links
+brings v (Ticked now) = over_links (due_part now) v.links ++ map Rings (ringing now v.alarms)
 brings v (Poll ticket) = Polls ticket ∷ []
 
 -- an event that isn't live brings nothing
@@ -108,16 +118,30 @@ is_open c = c.is_built && not c.is_stopped
 abbrev pub unless_refused : Bool → Procedure → Procedure
 unless_refused may p = if may then p else procedure.Refuse refusal.Shutdown
 
+-- what begins at the address of the service is refused where there is none
+abbrev pub from_base : Option Place → (Place → Procedure) → Procedure
+from_base None f = procedure.Refuse refusal.NoAddress
+from_base (Some base) f = f base
+
+abbrev pub searches : Option Ways → Sought → Procedure
+searches None what = procedure.Refuse refusal.NoAddress
+searches (Some ways) what = procedure.Search ways what
+
 -- a client is not built where no frame would ever have room
-abbrev pub builds_with : (outbound : ℕ) → Procedure
-builds_with outbound = if outbound == 0 then procedure.Refuse refusal.NoOutbound else procedure.Build
+abbrev pub builds_with : (outbound : ℕ) → Option Place → Procedure
+builds_with outbound base = if outbound == 0 then procedure.Refuse refusal.NoOutbound else from_base base procedure.Build
+
+abbrev pub asks_topics : (namespace : List ℕ) → Mode → Place → Procedure
+asks_topics namespace mode base = procedure.Ask (place.At base) (words.GetTopicsOfNamespace namespace mode) says.Names
 
 -- the procedure of a call
 abbrev pub procedure_for : Chosen → Tickets → Asking → Procedure
-procedure_for o c content.Build = unless_refused (not c.is_stopped) (builds_with o.outbound)
+procedure_for o c content.Build = unless_refused (not c.is_stopped) (builds_with o.outbound o.base)
 procedure_for o c content.Stop = unless_refused (is_open c) procedure.Stop
-procedure_for o c (content.Topics namespace mode) =
-    unless_refused (is_open c) (procedure.Ask place.Base (words.GetTopicsOfNamespace namespace mode) says.Names)
+procedure_for o c (content.Topics namespace mode) = unless_refused (is_open c) (from_base o.base (asks_topics namespace mode))
+procedure_for o c (content.Lookup topic) = unless_refused (is_open c) (searches (ways_of o) (sought.Look topic))
+procedure_for o c (content.Partitions topic) = unless_refused (is_open c) (searches (ways_of o) (sought.CountPartitions topic))
+procedure_for o c (content.Brokers topic) = unless_refused (is_open c) (searches (ways_of o) (sought.Name topic))
 procedure_for o c (content.Raw l request) = unless_refused (is_open c) (procedure.Ask (place.Link l) request says.Bodies)
 
 -- a call is made with the next ticket, unless the tickets are spent
@@ -125,12 +149,16 @@ abbrev pub called : Chosen → Tickets → Asking → List Act
 called o c asked =
     if is_spent c.drawn then Answers (Call c.drawn) (fails Exhausted) ∷ [] else Starts (Call c.drawn) (procedure_for o c asked) ∷ []
 
--- the link of the address: a ready one serves at once, a running attempt is waited for, else one is started
-abbrev pub gets : Who → Option Address → Series → List Act
-gets who None series = tells who outcome.NotFound
-gets who (Some address) Nobody = Dials who ∷ []
-gets who (Some address) (Runs starter) = []
-gets who (Some address) (Serves link) = tells who (outcome.GotLink link)
+-- A link of an address: a ready one serves at once, an attempt that runs or is to follow is waited for, else one is started. None is
+-- found where the address cannot be reached.
+abbrev pub gets_from : Who → Place → Series → List Act
+gets_from who p Nobody = Dials p who 0 ∷ []
+gets_from who p (Runs starter retries link) = []
+gets_from who p (Pauses link) = []
+gets_from who p (Serves link) = tells who (outcome.GotLink link)
+
+abbrev pub gets : Who → Place → Series → List Act
+gets who p series = if is_reachable p then gets_from who p series else tells who outcome.NotFound
 
 -- what one who asks for a request is told at once
 abbrev pub told_at : Result Asked ConnectionError → Outcome
@@ -146,9 +174,10 @@ abbrev pub stops : Who → Links → List Act
 stops who ls = over_links stop_act ls ++ tells who outcome.Stopped
 
 abbrev pub performs : View → Who → Action → List Act
-performs v who Get = gets who v.chosen.address v.base.series
+performs v who (Get p) = gets who p (v.addresses.base (address_key p)).series
 performs v who (Ask l request) = tells who (told_at (answer_at v.now request (v.links.live l)))
 performs v who StopAll = stops who v.links
+performs v who (Wait delay) = []
 performs v who Rest = []
 
 -- a link on which something bad came ends with that
@@ -160,9 +189,48 @@ breaks_at l (GivesTo consumer reply) = []
 breaks_at l Passes = []
 breaks_at l (Bad cause) = Comes (ToLink l (Ends (Broken cause))) ∷ []
 
+-- the attempt that was to follow is made
+abbrev pub tries_again : Option Pause → List Act
+tries_again None = []
+tries_again (Some p) = Dials p.address p.starter (p.retries + 1) ∷ []
+
+-- a link is asked for a sign of life, unless the earlier ping still waits
+abbrev pub may_ping : Option Seat → Bool
+may_ping None = false
+may_ping (Some seat) = is_none seat.ping
+
+abbrev pub keeps_alive : ℕ → Option Seat → List Act
+keeps_alive l row = if may_ping row then Comes (ToLink l Pings) ∷ [] else []
+
+-- a link is used by a request that waits, by a frame in its line, and by a consumer that hears, which has one of the tickets so far
+abbrev pub is_used : (drawn : ℕ) → (ℕ → Option Subscription) → ℕ → Seat → Bool
+is_used drawn consumers l seat = not (is_empty seat.seen.waits.waiting) || (nat_lt 0 (length seat.seen.line) || is_heard drawn consumers l)
+
+-- a ready link that was not got for so long, and that nothing uses, ends
+abbrev pub is_idle_at : (now most drawn : ℕ) → (ℕ → Option Subscription) → ℕ → Seat → Bool
+is_idle_at now most drawn consumers l seat =
+    is_ready seat.seen.stage && (nat_le (later seat.got most) now && not (is_used drawn consumers l seat))
+
+abbrev pub idle_act_at : (now most drawn : ℕ) → (ℕ → Option Subscription) → ℕ → Seat → List Act
+idle_act_at now most drawn consumers l seat = if is_idle_at now most drawn consumers l seat then Comes (ToLink l (Ends Idles)) ∷ [] else []
+
+abbrev pub is_idle : View → ℕ → Seat → Bool
+is_idle v l seat = is_idle_at v.now v.chosen.connection.connection_max_idle v.calls.drawn v.consumers l seat
+
+abbrev pub idle_act : View → ℕ → Seat → List Act
+idle_act v l seat = idle_act_at v.now v.chosen.connection.connection_max_idle v.calls.drawn v.consumers l seat
+
+-- what an alarm that rings brings at once
+abbrev pub rung : View → Alarm → List Act
+rung v (Retry l) = tries_again (v.addresses.pause l)
+rung v (Wake who) = []
+rung v (KeepAlive l) = keeps_alive l (v.links.live l)
+rung v CheckIdle = over_links (idle_act v) v.links
+
 abbrev pub at_once : View → Act → List Act
 at_once v (Comes (Calls asked)) = called v.chosen v.calls asked
 at_once v (Comes (ToLink l Reads)) = breaks_at l (arrival_at (v.links.live l))
+at_once v (Comes (Rings a)) = if rings v.now a v.alarms then rung v a else []
 at_once v (Starts who p) = follows who (begins p)
 at_once v (Told n) = follows_some n.who (told_some (v.stand n.who) n.outcome)
 at_once v (Does who action) = performs v who action
@@ -213,18 +281,26 @@ abbrev pub answered_on : Option Seat → List Notice
 answered_on None = []
 answered_on (Some seat) = answered_by (came seat.seen) seat.askers
 
--- those who wait for the address, as its link becomes ready
+-- those who wait for an address, as its link becomes ready
 abbrev pub served_by : ℕ → Change → List Who → List Notice
 served_by l Remains ws = []
 served_by l Becomes ws = map (λ who. notice who (outcome.GotLink l)) ws
 served_by l IsOver ws = []
 
--- what those are told whose requests end with a link: that they timed out, or are lost
+-- what those are told whose requests end with a link: that they timed out, or are lost, or that the client is stopped
 abbrev pub lost_so : (is_timed_out : Bool) → Outcome
 lost_so is_timed_out = if is_timed_out then outcome.TimedOut else outcome.Disconnected
 
+abbrev pub lost_with : End → (is_timed_out : Bool) → Outcome
+lost_with (Unopened kind) is_timed_out = outcome.Disconnected
+lost_with Lost is_timed_out = outcome.Disconnected
+lost_with (Overdue below) is_timed_out = lost_so is_timed_out
+lost_with (Broken cause) is_timed_out = outcome.Disconnected
+lost_with Idles is_timed_out = outcome.Disconnected
+lost_with Stops is_timed_out = outcome.Cut
+
 abbrev pub lost : End → (now : ℕ) → Seen → ℕ → Outcome
-lost end now s place = lost_so (times_out end now s place)
+lost end now s place = lost_with end (times_out end now s place)
 
 -- those whose frames stand in the line
 abbrev pub dropped : End → Outcome
@@ -232,9 +308,10 @@ dropped (Unopened kind) = outcome.Disconnected
 dropped Lost = outcome.Disconnected
 dropped (Overdue below) = outcome.Disconnected
 dropped (Broken cause) = outcome.Disconnected
+dropped Idles = outcome.Disconnected
 dropped Stops = outcome.Stopped
 
--- Those who wait for the link of the address: the one that started the attempt is told why it failed, and the others that it is
+-- Those who wait for a link of an address, where no other attempt is to follow: the one that started the series is told why it failed, and the others that it is
 -- canceled. Another first frame than `connected`, and bad bytes, fail it as its loss does.
 abbrev pub failed_so : IoKind → (is_starter : Bool) → Outcome
 failed_so kind is_starter = if is_starter then outcome.Failed kind else outcome.Canceled
@@ -244,6 +321,7 @@ fails_so (Unopened kind) is_starter = failed_so kind is_starter
 fails_so Lost is_starter = failed_so io_kind.Other is_starter
 fails_so (Overdue below) is_starter = failed_so io_kind.TimedOut is_starter
 fails_so (Broken cause) is_starter = failed_so io_kind.Other is_starter
+fails_so Idles is_starter = failed_so io_kind.Other is_starter
 fails_so Stops is_starter = outcome.Stopped
 
 abbrev pub failed : End → Who → Who → Notice
@@ -251,7 +329,8 @@ failed end starter who = notice who (fails_so end (is_same who starter))
 
 abbrev pub failed_at : End → Series → List Who → List Notice
 failed_at end Nobody ws = []
-failed_at end (Runs starter) ws = map (failed end starter) ws
+failed_at end (Runs starter retries link) ws = map (failed end starter) ws
+failed_at end (Pauses link) ws = []
 failed_at end (Serves link) ws = []
 
 -- all who asked on a link that ends
@@ -267,10 +346,15 @@ abbrev pub ended_on : End → (now : ℕ) → Option Seat → List Notice
 ended_on end now None = []
 ended_on end now (Some seat) = ended_by end now (closed_by end now seat.seen) seat
 
--- and all who wait for the address
-abbrev pub failed_by : End → Option Fault → Base → List Notice
-failed_by end None b = []
-failed_by end (Some cause) b = failed_at end b.series b.waiting
+-- and all who wait for its address, unless another attempt is to follow
+abbrev pub failed_over : End → Option Pause → Base → List Notice
+failed_over end None b = failed_at end b.series b.waiting
+failed_over end (Some p) b = []
+
+abbrev pub failed_by : End → Change → Option Pause → Base → List Notice
+failed_by end Remains pause b = []
+failed_by end Becomes pause b = []
+failed_by end IsOver pause b = failed_over end pause b
 
 -- those whom one act serves are one cause, if there are any
 abbrev pub opens : List Notice → List (List Notice)
@@ -289,12 +373,44 @@ moved_on most now (Some seat) = moved_up seat.askers seat.seen (links.after (Dra
 abbrev pub alone : Notice → List Notice
 alone n = n ∷ []
 
-abbrev pub caused : ℕ → LinkAct → (now : ℕ) → Option Seat → Base → List (List Notice)
-caused l link.Opens now row b = []
-caused l Reads now row b = opens (answered_on row ++ served_by l (change_in (arrival_at row)) b.waiting)
-caused l (Drains most) now row b = map alone (moved_on most now row)
-caused l (Ends end) now row b = opens (ended_on end now row ++ failed_by end (closing end now row) b)
+-- those who wait for the address that an act turns
+abbrev pub waiters_of : (Turned → Base → List Notice) → Addresses → Option Turned → List Notice
+waiters_of f known None = []
+waiters_of f known (Some t) = f t (known.base t.key)
+
+abbrev pub served_on : Turned → Base → List Notice
+served_on t b = served_by t.link t.change b.waiting
+
+abbrev pub failed_on : End → Turned → Base → List Notice
+failed_on end t b = failed_by end t.change t.pause b
+
+abbrev pub caused : View → ℕ → LinkAct → List (List Notice)
+caused v l link.Opens = []
+caused v l Reads = opens (answered_on (v.links.live l) ++ waiters_of served_on v.addresses (turned v (Comes (ToLink l Reads))))
+caused v l (Drains most) = map alone (moved_on most v.now (v.links.live l))
+caused v l Pings = []
+caused v l (Ends end) = opens (ended_on end v.now (v.links.live l) ++ waiters_of (failed_on end) v.addresses (turned v (Comes (ToLink l (Ends end)))))
+
+-- one whose moment has come is told so
+abbrev pub woken : Alarm → List Notice
+woken (Retry l) = []
+woken (Wake who) = notice who outcome.Woken ∷ []
+woken (KeepAlive l) = []
+woken CheckIdle = []
+
+-- those who wait for a moment, or for an attempt that is to follow, are told that the client is stopped
+abbrev pub stopped_at : Addresses → Option Pause → List Notice
+stopped_at known None = []
+stopped_at known (Some p) = map (λ who. notice who outcome.Stopped) (known.base (address_key p.address)).waiting
+
+abbrev pub stopped_with : Addresses → Alarm → List Notice
+stopped_with known (Retry l) = stopped_at known (known.pause l)
+stopped_with known (Wake who) = notice who outcome.Stopped ∷ []
+stopped_with known (KeepAlive l) = []
+stopped_with known CheckIdle = []
 
 abbrev pub causes : View → Act → List (List Notice)
-causes v (Comes (ToLink l x)) = caused l x v.now (v.links.live l) v.base
+causes v (Comes (ToLink l x)) = caused v l x
+causes v (Comes (Rings a)) = if rings v.now a v.alarms then opens (woken a) else []
+causes v (Does who StopAll) = opens (flat_map (λ e. stopped_with v.addresses e.0) v.alarms)
 causes v _ = []

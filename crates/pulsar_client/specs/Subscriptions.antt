@@ -1,10 +1,12 @@
 -- Raw consumers: each is made by a raw call to subscribe that succeeds. What it hears, and what its polls give.
 -- (Pulsar binary protocol, Consumer)
-use Rattle.std.specs.Prelude.{◌≡◌, ℕ, Bool, true, false, List, [], ◌∷◌, ◌++◌, drop, Option, Some, None, ◌==◌, ◌&&◌, ◌||◌, not, if◌then◌else◌}
+use Rattle.std.specs.Prelude.{ℕ, Bool, true, false, List, [], ◌∷◌, ◌++◌, drop, Option, Some, None, ◌==◌, ◌&&◌, ◌||◌, not, if◌then◌else◌, ◌≡◌}
+use Rattle.std.specs.List.{list_any}
 use Rattle.std.specs.Option.{option_map}
+use Rattle.pulsar_client.specs.Links.{numbers_from}
 use Rattle.pulsar_session.specs.Failures.{Fault}
 use Rattle.pulsar_link.specs.Items.{Item, Given, Faulty}
-use Rattle.pulsar_link.specs.Messages.{Reply, is_number}
+use Rattle.pulsar_link.specs.Messages.{Reply, is_body}
 use Rattle.pulsar_client.specs.declared.act.Arrival.{Arrival}
 use Rattle.pulsar_client.specs.declared.act.Arrival.TheVariants.{Nothing, Readied, Settles, Gives, Passes, Bad}
 use Rattle.pulsar_client.specs.Content.{Shown, Hands, Faults, FindsNothing, FindsEnd}
@@ -30,7 +32,7 @@ ended s = record s { is_live = false }
 
 -- the end of its topic, or the close of the broker
 abbrev pub is_last : Reply → Bool
-is_last r = is_number 27 r.body || is_number 16 r.body
+is_last r = is_body 27 r.content.body || is_body 16 r.content.body
 
 -- a live consumer after a frame for it
 abbrev pub after_frame : Reply → Subscription → Subscription
@@ -59,6 +61,14 @@ IsHeard l consumers = (t : ℕ) × (hears_at l (consumers t) ≡ true)
 
 abbrev pub hears : (link : ℕ) → Arrival → Subscription → Subscription
 hears l a s = if is_heard_on l s then after_came a s else s
+
+-- some consumer of a ticket below this hears on a link
+abbrev pub is_heard_at : ℕ → Option Subscription → Bool
+is_heard_at l None = false
+is_heard_at l (Some s) = is_heard_on l s
+
+abbrev pub is_heard : (drawn : ℕ) → (ℕ → Option Subscription) → ℕ → Bool
+is_heard drawn consumers l = list_any (λ t. is_heard_at l (consumers t)) (numbers_from 0 drawn)
 
 -- it hears no more from the end of its link on
 abbrev pub ended_on : (link : ℕ) → Subscription → Subscription

@@ -3,10 +3,13 @@
 
 use crate::content::{Asking, Cause, Said};
 use pulsar_link::content::{Received, Request, Text};
+use pulsar_plans::content::Address;
+use pulsar_plans::plan::Procedure as Sought;
+use pulsar_plans::turn::Ways;
 use pulsar_wire::error::IoKind;
 
 /// One that has a plan. A cause serves them in the order of their ranks.
-#[derive(Clone, Copy)]
+#[derive(Clone, Copy, PartialEq, Eq, PartialOrd, Ord)]
 pub enum Who {
     /// The call of this ticket.
     Call(u64),
@@ -17,11 +20,11 @@ pub enum Who {
 pub enum Outcome {
     /// The address has this link, which is ready.
     GotLink(u64),
-    /// The options have no address.
+    /// The address cannot be reached.
     NotFound,
-    /// The attempt that it started failed.
+    /// The attempts that it started failed.
     Failed(IoKind),
-    /// The attempt that it waited for failed.
+    /// The attempts that it waited for failed.
     Canceled,
     /// Its frame is queued.
     Queued,
@@ -35,6 +38,10 @@ pub enum Outcome {
     TimedOut,
     /// The link of its request ended.
     Disconnected,
+    /// The moment for which it waited came.
+    Woken,
+    /// The client was stopped while its request waited for a reply.
+    Cut,
     /// The client was stopped, and no request of it was queued.
     Stopped,
 }
@@ -47,10 +54,10 @@ pub struct Notice {
 }
 
 /// Where a request is asked for.
-#[derive(Clone, Copy)]
+#[derive(Drop)]
 pub enum Place {
-    /// At the link of the address of the service.
-    Base,
+    /// On a link of this address.
+    At(Address),
     /// On this link.
     Link(u64),
 }
@@ -71,20 +78,27 @@ pub enum Refusal {
     Shutdown,
     /// There is no room for any frame.
     NoOutbound,
+    /// The options have no address.
+    NoAddress,
 }
 
 /// What is to be done for a call.
 #[derive(Drop)]
 pub enum Procedure {
-    /// Get the link of the address: then the client is built.
-    Build,
+    /// Get a link of this address: then the client is built.
+    Build(Address),
     /// End every link.
     Stop,
-    /// Get or take the link of a place, ask there, and answer the reply.
+    /// Get or take a link, ask there, and answer the reply.
     Ask {
         place: Place,
         request: Request,
         says: Says,
+    },
+    /// Find this, looking for brokers in these ways.
+    Search {
+        ways: Ways,
+        what: Sought,
     },
     /// Fail.
     Refuse(Refusal),
@@ -93,10 +107,12 @@ pub enum Procedure {
 /// What a plan does next. Then it waits for an outcome.
 #[derive(Drop)]
 pub enum Action {
-    /// Get the ready link of the address.
-    Get,
+    /// Get the ready link of an address.
+    Get(Address),
     /// Ask for a request on the link.
     Ask { link: u64, request: Request },
+    /// Wait for so many milliseconds.
+    Wait(u64),
     /// End every link.
     StopAll,
     /// Nothing.
@@ -131,6 +147,8 @@ pub enum End {
     Overdue { below: u64 },
     /// What came on it is bad.
     Broken(Cause),
+    /// Nothing uses it.
+    Idles,
     /// The client is stopped.
     Stops,
 }
@@ -144,6 +162,8 @@ pub enum LinkAct {
     Reads,
     /// So many queued frames may be written.
     Drains(usize),
+    /// It is asked for a sign of life.
+    Pings,
     /// It ends.
     Ends(End),
 }
@@ -165,11 +185,26 @@ pub enum Arrival {
     Bad(Cause),
 }
 
+/// What comes of itself at its moment. At a tick those that are due come in the order of these kinds, and of their numbers.
+#[derive(Clone, Copy, PartialEq, Eq, PartialOrd, Ord)]
+pub enum Alarm {
+    /// The attempt that follows that of this link, which failed.
+    Retry(u64),
+    /// This one has waited.
+    Wake(Who),
+    /// This link is to be asked for a sign of life.
+    KeepAlive(u64),
+    /// Links that nothing uses are to be ended.
+    CheckIdle,
+}
+
 /// What an event brings. Each part comes where nothing is left of the one before.
 #[derive(Drop)]
 pub enum Part {
     Calls(Asking),
     ToLink { link: u64, act: LinkAct },
+    /// What was due as the tick came.
+    Rings(Alarm),
     /// The consumer of this ticket is polled.
     Polls(u64),
 }
@@ -180,13 +215,26 @@ pub enum Act {
     /// A part of the event comes.
     Comes(Part),
     /// A plan begins.
-    Starts { who: Who, procedure: Procedure },
+    Starts {
+        who: Who,
+        procedure: Procedure,
+    },
     /// A plan is told an outcome.
     Told(Notice),
     /// A plan does one thing.
-    Does { who: Who, action: Action },
+    Does {
+        who: Who,
+        action: Action,
+    },
     /// A plan ends.
-    Answers { who: Who, verdict: Verdict },
-    /// An attempt to connect to the address of the service begins, which this one started.
-    Dials { starter: Who },
+    Answers {
+        who: Who,
+        verdict: Verdict,
+    },
+    /// An attempt to connect to an address begins, behind so many retries of a series that this one started.
+    Dials {
+        address: Address,
+        starter: Who,
+        retries: u32,
+    },
 }

@@ -1,6 +1,7 @@
 //! What a client wants done, and tells.
 
 use pulsar_frame::payload::Payload;
+use pulsar_plans::BrokerAddress;
 use pulsar_wire::commands::base::Body;
 use pulsar_wire::commands::ids::MessageIdData;
 use pulsar_wire::commands::producer::CommandSendReceipt;
@@ -23,6 +24,12 @@ pub enum Answer {
     Done,
     /// The names of topics, in the order of the reply.
     Topics(Vec<String>),
+    /// The broker of a topic.
+    Address(BrokerAddress),
+    /// How many partitions a topic has.
+    Count(u32),
+    /// The names of a topic, each with its broker.
+    Addresses(Vec<(String, BrokerAddress)>),
     /// The receipt of a message that was sent.
     Receipt(CommandSendReceipt),
     /// What the broker replied to a raw call.
@@ -57,6 +64,11 @@ pub enum Effect {
     Write {
         link: u64,
         bytes: Vec<u8>,
+    },
+    /// The attempt of this link failed, and another is to follow after so many milliseconds, as a link of its own.
+    Retry {
+        link: u64,
+        delay: u64,
     },
     /// Close the connection.
     Close {

@@ -16,6 +16,12 @@ pub enum Call {
     Stop,
     /// Asks for the topics of a namespace.
     Topics { namespace: String, mode: Mode },
+    /// Finds the broker that serves a topic.
+    Lookup { topic: String },
+    /// Finds how many partitions a topic has.
+    Partitions { topic: String },
+    /// Finds the names of a topic, the topic itself or its partitions, with the broker of each.
+    Brokers { topic: String },
     /// Asks on this connection by itself.
     Raw { link: u64, call: RawCall },
 }
@@ -52,6 +58,15 @@ impl Call {
             Call::Topics { namespace, mode } => Ok(Call::Topics {
                 namespace: namespace.clone()?,
                 mode: *mode,
+            }),
+            Call::Lookup { topic } => Ok(Call::Lookup {
+                topic: topic.clone()?,
+            }),
+            Call::Partitions { topic } => Ok(Call::Partitions {
+                topic: topic.clone()?,
+            }),
+            Call::Brokers { topic } => Ok(Call::Brokers {
+                topic: topic.clone()?,
             }),
             Call::Raw { link, call } => Ok(Call::Raw {
                 link: *link,

@@ -3,8 +3,9 @@
 
 mod act;
 mod address;
+mod addresses;
 mod agenda;
-mod base;
+mod alarms;
 mod consumers;
 mod content;
 mod due;
@@ -24,7 +25,7 @@ mod who;
 
 pub use crate::effect::{Answer, Effect, Handed, Settlement};
 pub use crate::event::{Call, Event};
-pub use crate::options::{ClientOptions, ConnectionRetryOptions, OperationRetryOptions};
+pub use crate::options::ClientOptions;
 pub use crate::outside::Failed;
 pub use crate::outside::sink::{FailingSink, MemorySink, Sink};
 pub use crate::outside::source::{FailingSource, MemorySource, Source};
@@ -33,3 +34,4 @@ pub use pulsar_link::raw_call::RawCall;
 pub use pulsar_messages::{
     Authentication, ConsumerOptions, Message, ProducerMessage, ProducerOptions, RoutingPolicy,
 };
+pub use pulsar_plans::{BrokerAddress, ConnectionRetryOptions, OperationRetryOptions};

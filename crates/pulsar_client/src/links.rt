@@ -1,6 +1,6 @@
 //! The links of a client, and who asked on each.
 
-ghost use Rattle.std.specs.Prelude.{◌≡◌, ◌==◌, ◌+◌, ◌++◌, ℕ, false, IfOk, OnOk, None, not, map, if◌then◌else◌};
+ghost use Rattle.std.specs.Prelude.{◌≡◌, ◌==◌, ◌+◌, ◌++◌, ◌∷◌, [], ℕ, false, IfOk, OnOk, None, Some, not, map, if◌then◌else◌};
 ghost use Rattle.std.specs.BTreeMap.{IsOrdered, keys};
 ghost use Rattle.std.specs.List.{flat_map};
 ghost use Rattle.std.specs.List.Sorted.{IsStrictlySortedBy};
@@ -9,17 +9,20 @@ ghost use Rattle.std.specs.Ordering.{nat_cmp};
 ghost use Rattle.pulsar_client.specs.Content.{shown};
 ghost use Rattle.pulsar_client.specs.Effects.{asked_at, given_at};
 ghost use Rattle.pulsar_client.specs.Due.{moment_at};
-ghost use Rattle.pulsar_client.specs.Kept.{AreStarted, AreTimed, IsEnd, is_due, links_in, live_in};
+ghost use Rattle.pulsar_client.specs.Kept.{AreStarted, AreTicketed, AreTimed, IsEnd, is_due, links_in, live_in, seat_of};
 ghost use Rattle.pulsar_requests.specs.Soonest.{has_come};
-ghost use Rattle.pulsar_client.specs.Rules.{answered_on, due_part, moved_on, on_link, over_links, stop_act, told_at};
-ghost use Rattle.pulsar_client.specs.View.{answer_at, arrival_at, has_ended, is_asked, is_busy, seat_asked, seat_of_fresh, seat_fed, took_some};
+ghost use Rattle.pulsar_client.specs.Subscribers.{subscription_at};
+ghost use Rattle.pulsar_client.specs.Rules.{answered_on, due_part, idle_act_at, is_idle_at, may_ping, moved_on, on_link, over_links, stop_act, told_at};
+ghost use Rattle.pulsar_client.specs.View.{answer_at, arrival_at, got_at, has_ended, is_asked, is_busy, seat_asked, seat_got, seat_of_fresh, seat_fed, took_some};
 
 use crate::act::{Act, Arrival, End, LinkAct, Notice, Outcome, Part, Who};
+use crate::consumers::subscribers::Subscribers;
 use crate::content::Cause;
 use crate::due::DueMoments;
 use crate::effect::Effect;
 use crate::row::Row;
 use pulsar_link::content::Request;
+use pulsar_plans::content::Address;
 use pulsar_session::Connection;
 use pulsar_session::states::Stage;
 use pulsar_wire::error::{ConnectionError, NoMemory};
@@ -81,10 +84,15 @@ impl Links {
         }
     }
 
-    /// One more link is started, which is dialed where there is an address.
-    pub fn start(&mut self, connection: Option<Connection>) -> Result<(), NoMemory>
+    /// One more link is started, which is dialed.
+    pub fn start(
+        &mut self,
+        address: Address,
+        connection: Connection,
+        now: u64,
+    ) -> Result<(), NoMemory>
         ensures started { OnOk result (self.new.started ≡ self.old.started + 1) }
-        ensures live { OnOk result ((l : ℕ) → live_in self.new.live l ≡ (if l == self.old.started then option_map seat_of_fresh connection else live_in self.old.live l)) }
+        ensures live { OnOk result ((l : ℕ) → live_in self.new.live l ≡ (if l == self.old.started then Some (seat_of_fresh address now connection) else live_in self.old.live l)) }
     {
         if self.failed {
             return Err(NoMemory);
@@ -95,10 +103,78 @@ impl Links {
         };
         self.failed = true;
         self.started = after;
-        put(self.alloc, &mut self.live, link, connection)?;
+        put(self.alloc, &mut self.live, link, address, connection, now)?;
         keep(&self.live, &mut self.due, link)?;
         self.failed = false;
         Ok(())
+    }
+
+    /// The address that a link is for.
+    pub fn address(&self, link: u64) -> Result<Option<Address>, NoMemory>
+        ensures { IfOk result (λ a. a ≡ option_map (λ seat. seat.address) (live_in self.now.live link)) }
+    {
+        match self.live.get(&link) {
+            Some(row) => Ok(Some(row.address.copy(self.alloc)?)),
+            None => Ok(None),
+        }
+    }
+
+    /// A link is got.
+    pub fn got(&mut self, now: u64, link: u64) -> Result<(), NoMemory>
+        ensures started { OnOk result (self.new.started ≡ self.old.started) }
+        ensures live { OnOk result ((l : ℕ) → live_in self.new.live l ≡ got_at (Some link) now l (live_in self.old.live l)) }
+    {
+        if self.failed {
+            return Err(NoMemory);
+        }
+        self.failed = true;
+        got_at(&mut self.live, now, link);
+        keep(&self.live, &mut self.due, link)?;
+        self.failed = false;
+        Ok(())
+    }
+
+    /// A link that has not ended is to be asked for a sign of life: its earlier ping does not wait.
+    pub fn may_ping(&self, link: u64) -> bool
+        ensures { result ≡ may_ping (live_in self.now.live link) }
+    {
+        match self.live.get(&link) {
+            Some(row) => row.ping.is_none(),
+            None => false,
+        }
+    }
+
+    /// A link is asked for a sign of life.
+    pub fn ping(&mut self, now: u64, link: u64, out: &mut Vec<Effect>) -> Result<(), NoMemory>
+        ensures out { OnOk result (map shown out.new.items ≡ map shown out.old.items ++ given_at link LinkAct.Pings now (live_in self.old.live link)) }
+        ensures started { OnOk result (self.new.started ≡ self.old.started) }
+        ensures live { OnOk result ((l : ℕ) → live_in self.new.live l ≡ (if l == link then took_some LinkAct.Pings now (live_in self.old.live l) else live_in self.old.live l)) }
+    {
+        if self.failed {
+            return Err(NoMemory);
+        }
+        self.failed = true;
+        ping_at(&mut self.live, now, link, out)?;
+        keep(&self.live, &mut self.due, link)?;
+        self.failed = false;
+        Ok(())
+    }
+
+    /// The ends of the links that nothing uses and that were not got for so long, in their order.
+    pub fn idle_acts(
+        &self,
+        now: u64,
+        most: u64,
+        subscribers: &Subscribers,
+    ) -> Result<VecDeque<Act>, NoMemory>
+        ensures { IfOk result (λ acts. (drawn : ℕ) → AreTicketed drawn (subscription_at subscribers.now)
+            → acts.items ≡ over_links (idle_act_at now most drawn (subscription_at subscribers.now)) (links_in self.now.started self.now.live)) }
+    {
+        if self.failed {
+            return Err(NoMemory);
+        }
+        let acts = ends_idle(self.alloc, &self.live, now, most, subscribers)?;
+        Ok(acts)
     }
 
     /// A piece is fed to an open link.
@@ -201,14 +277,14 @@ impl Links {
         Ok(notices)
     }
 
-    /// A link ends, unless it is due no more: all whom its end serves on it.
+    /// A link ends, unless it is due no more: its address, and all whom its end serves on it.
     pub fn end(
         &mut self,
         now: u64,
         link: u64,
         end: &End,
         out: &mut Vec<Effect>,
-    ) -> Result<Option<Vec<Notice>>, NoMemory>
+    ) -> Result<Option<(Address, Vec<Notice>)>, NoMemory>
         ensures out { OnOk result (map shown out.new.items ≡ map shown out.old.items ++ given_at link (LinkAct.Ends end.now) now (live_in self.old.live link)) }
         ensures end { IfOk result (λ r. IsEnd r end.now now (live_in self.old.live link)) }
         ensures started { OnOk result (self.new.started ≡ self.old.started) }
@@ -254,20 +330,85 @@ impl Links {
     }
 }
 
-/// A link is dialed, where there is a connection.
+/// A link is dialed.
 fn put(
     alloc: Global,
     live: &mut BTreeMap<u64, Row>,
     link: u64,
-    connection: Option<Connection>,
+    address: Address,
+    connection: Connection,
+    now: u64,
 ) -> Result<(), NoMemory>
-    ensures { OnOk result (live_in live.old link ≡ None
-        → (l : ℕ) → live_in live.new l ≡ (if l == link then option_map seat_of_fresh connection else live_in live.old l)) }
+    ensures { OnOk result ((l : ℕ) → live_in live.new l ≡ (if l == link then Some (seat_of_fresh address now connection) else live_in live.old l)) }
 {
-    let Some(connection) = connection else {
+    drop(live.insert(link, Row::new(alloc, address, connection, now))?);
+    Ok(())
+}
+
+fn got_at(live: &mut BTreeMap<u64, Row>, now: u64, link: u64)
+    ensures { (l : ℕ) → live_in live.new l ≡ (if l == link then option_map (seat_got now) (live_in live.old l) else live_in live.old l) }
+{
+    if let Some(row) = live.get_mut(&link) {
+        row.got = now;
+    }
+}
+
+fn ping_at(
+    live: &mut BTreeMap<u64, Row>,
+    now: u64,
+    link: u64,
+    out: &mut Vec<Effect>,
+) -> Result<(), NoMemory>
+    ensures out { OnOk result (map shown out.new.items ≡ map shown out.old.items ++ given_at link LinkAct.Pings now (live_in live.old link)) }
+    ensures live { OnOk result ((l : ℕ) → live_in live.new l ≡ (if l == link then took_some LinkAct.Pings now (live_in live.old l) else live_in live.old l)) }
+{
+    let Some(row) = live.get_mut(&link) else {
         return Ok(());
     };
-    drop(live.insert(link, Row::new(alloc, connection))?);
+    row.ping(now, link, out)?;
+    Ok(())
+}
+
+/// The ends of all links that nothing uses.
+fn ends_idle(
+    alloc: Global,
+    live: &BTreeMap<u64, Row>,
+    now: u64,
+    most: u64,
+    subscribers: &Subscribers,
+) -> Result<VecDeque<Act>, NoMemory>
+    ensures ends { IfOk result (λ acts. (drawn : ℕ) → AreTicketed drawn (subscription_at subscribers.now)
+        → acts.items ≡ flat_map (on_link (idle_act_at now most drawn (subscription_at subscribers.now)) (live_in live.now)) (keys live.now)) }
+    ensures ordered { OnOk result (IsOrdered nat_cmp live.now) }
+{
+    let mut acts = VecDeque::new(alloc);
+    for (link, row) in live {
+        let is_idle = is_idle(row, *link, now, most, subscribers);
+        end_idle(&mut acts, *link, is_idle)?;
+    }
+    Ok(acts)
+}
+
+/// Nothing uses a link, and it was not got for so long.
+fn is_idle(row: &Row, link: u64, now: u64, most: u64, subscribers: &Subscribers) -> bool
+    ensures { (drawn : ℕ) → AreTicketed drawn (subscription_at subscribers.now)
+        → result ≡ is_idle_at now most drawn (subscription_at subscribers.now) link (seat_of row.now) }
+{
+    let rests = row.rests(now, most);
+    let is_heard = subscribers.hears_on(link);
+    rests && !is_heard
+}
+
+/// A link that is idle ends.
+fn end_idle(acts: &mut VecDeque<Act>, link: u64, is_idle: bool) -> Result<(), NoMemory>
+    ensures { OnOk result (acts.new.items ≡ acts.old.items ++ (if is_idle then Act.Comes (Part.ToLink link (LinkAct.Ends End.Idles)) ∷ [] else [])) }
+{
+    if is_idle {
+        acts.push_back(Act::Comes(Part::ToLink {
+            link,
+            act: LinkAct::Ends(End::Idles),
+        }))?;
+    }
     Ok(())
 }
 
@@ -344,7 +485,7 @@ fn end_at(
     link: u64,
     end: &End,
     out: &mut Vec<Effect>,
-) -> Result<Option<Vec<Notice>>, NoMemory>
+) -> Result<Option<(Address, Vec<Notice>)>, NoMemory>
     ensures out { OnOk result (map shown out.new.items ≡ map shown out.old.items ++ given_at link (LinkAct.Ends end.now) now (live_in live.now link)) }
     ensures end { IfOk result (λ r. IsEnd r end.now now (live_in live.now link)) }
     ensures left { IfOk result (λ r. took_some (LinkAct.Ends end.now) now (live_in live.now link) ≡ (if is_some r then None else live_in live.now link)) }
@@ -356,7 +497,8 @@ fn end_at(
         return Ok(None);
     }
     let notices = row.end(alloc, now, link, end, out)?;
-    Ok(Some(notices))
+    let address = row.address.copy(alloc)?;
+    Ok(Some((address, notices)))
 }
 
 fn ask_at(

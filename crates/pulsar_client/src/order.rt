@@ -30,7 +30,8 @@ fn effect_rank(effect: &Effect) -> (u64, u64, u64)
             place,
             bytes: _,
         } => (4, *link, *place),
-        Effect::Close { link } => (5, *link, 0),
+        Effect::Retry { link, delay: _ } => (5, *link, 0),
+        Effect::Close { link } => (6, *link, 0),
         Effect::Item { ticket, item: _ } | Effect::Empty { ticket } | Effect::End { ticket } => (
             0, *ticket, 0,
         ),

@@ -1,19 +1,20 @@
 //! One link of a client.
 
-ghost use Rattle.std.specs.Prelude.{◌≡◌, ◌==◌, ◌-◌, ◌++◌, ◌∷◌, [], ℕ, false, IfOk, OnOk, Some, None, map, if◌then◌else◌};
+ghost use Rattle.std.specs.Prelude.{◌≡◌, ◌==◌, ◌&&◌, nat_le, length, ◌-◌, ◌++◌, ◌∷◌, [], ℕ, false, IfOk, OnOk, Some, None, map, if◌then◌else◌};
 ghost use Rattle.std.specs.BTreeMap.{get};
 ghost use Rattle.std.specs.List.{filter_map, list_any};
 ghost use Rattle.std.specs.Option.{is_some, option_to_list};
 ghost use Rattle.std.specs.Ordering.{nat_cmp};
 ghost use Rattle.pulsar_session.specs.Kept.{came_of};
-ghost use Rattle.pulsar_session.specs.Link.{Asks, after as after_call, asked, came, ends, is_memory};
+ghost use Rattle.pulsar_requests.specs.Waits.{is_empty};
+ghost use Rattle.pulsar_session.specs.Link.{Asks, after as after_call, asked, came, ends, is_memory, is_ready};
 ghost use Rattle.pulsar_client.specs.Content.{shown};
-ghost use Rattle.pulsar_client.specs.Links.{after, arrival, arrives, close, closed_by, effects, is_own_end, line_places, lost, new_places, numbers_from, queues, queues_at, settled_in, settles, times_out, write};
+ghost use Rattle.pulsar_client.specs.Links.{after, arrival, arrives, change_in, close, closed_by, effects, is_own_end, line_places, lost, new_places, numbers_from, queues, queues_at, settled_in, settles, times_out, write};
 ghost use Rattle.pulsar_client.specs.Links as links;
 ghost use Rattle.pulsar_client.specs.Rules as rules;
-ghost use Rattle.pulsar_client.specs.Rules.{answered_by, dropped, ended_places, moved_up, tells_asker, told_at};
-ghost use Rattle.pulsar_client.specs.Kept.{seat_of};
-ghost use Rattle.pulsar_client.specs.View.{asker_at, askers_left, is_asked, place_of, seat_asked};
+ghost use Rattle.pulsar_client.specs.Rules.{answered_by, dropped, ended_places, lost_with, moved_up, tells_asker, told_at};
+ghost use Rattle.pulsar_client.specs.Kept.{seat_of, settled};
+ghost use Rattle.pulsar_client.specs.View.{asker_at, askers_left, got_since, is_asked, later, ping_left, place_of, seat_asked, seat_of_fresh, took};
 
 use crate::act::{Arrival, End, LinkAct, Notice, Outcome, Who};
 use crate::content::Cause;
@@ -21,34 +22,41 @@ use crate::effect::{Effect, Settlement};
 use crate::plans::answers::is_answered;
 use pulsar_link::ask::ask;
 use pulsar_link::content::{Received, Request};
+use pulsar_plans::content::Address;
+use pulsar_session::states::Stage;
 use pulsar_session::{Arrived, Asked, Connection};
 use pulsar_wire::error::{ConnectionError, NoMemory};
 use std::alloc::Global;
 use std::collections::BTreeMap;
 
-/// A link, and who asked for the frames of its places that are to be told something.
+/// A link: the address that it is for, its connection, who asked for the frames of its places that are to be told something, the
+/// moment at which it was last got, and the place of the ping that keeps it alive, while that waits.
 #[derive(Drop)]
 pub struct Row {
+    pub address: Address,
     pub connection: Connection,
     pub askers: BTreeMap<u64, Who>,
+    pub got: u64,
+    pub ping: Option<u64>,
 }
 
 impl Row {
-    pub fn new(alloc: Global, connection: Connection) -> Row
-        ensures connection { result.connection ≡ connection }
-        ensures askers { (place : ℕ) → (seat_of result).askers place ≡ None }
+    pub fn new(alloc: Global, address: Address, connection: Connection, now: u64) -> Row
+        ensures { seat_of result ≡ seat_of_fresh address now connection }
     {
         Row {
+            address,
             connection,
             askers: BTreeMap::new(alloc),
+            got: now,
+            ping: None,
         }
     }
 
     /// It is open.
     pub fn open(&mut self, now: u64, link: u64, out: &mut Vec<Effect>) -> Result<(), NoMemory>
         ensures out { OnOk result (map shown out.new.items ≡ map shown out.old.items ++ effects link LinkAct.Opens now self.old.connection) }
-        ensures seen { OnOk result (self.new.connection ≡ after LinkAct.Opens now self.old.connection) }
-        ensures askers { OnOk result (self.new.askers ≡ self.old.askers) }
+        ensures sees { OnOk result (Some (seat_of self.new) ≡ took LinkAct.Opens now (seat_of self.old)) }
     {
         let before = self.connection.queued();
         self.connection.opened(now)?;
@@ -66,11 +74,11 @@ impl Row {
         ensures out { OnOk result (map shown out.new.items ≡ map shown out.old.items ++ effects link LinkAct.Reads now self.old.connection) }
         ensures arrival { IfOk result (λ r. r.0 ≡ arrival self.old.connection) }
         ensures notices { IfOk result (λ r. r.1.items ≡ answered_by (came self.old.connection) (seat_of self.old).askers) }
-        ensures seen { OnOk result (self.new.connection ≡ after LinkAct.Reads now self.old.connection) }
-        ensures askers { OnOk result ((place : ℕ) → (seat_of self.new).askers place ≡ askers_left (settled_in (came self.old.connection)) (seat_of self.old).askers place) }
+        ensures sees { OnOk result (Some (seat_of self.new) ≡ took LinkAct.Reads now (seat_of self.old)) }
     {
         let before = self.connection.queued();
         let arrived = self.connection.next(now)?;
+        self.got = got_since(&arrived, now, self.got);
         let read = self.take(alloc, link, arrived, out)?;
         queue(out, link, before, &self.connection)?;
         Ok(read)
@@ -87,8 +95,7 @@ impl Row {
         ensures out { OnOk result (map shown out.new.items ≡ map shown out.old.items ++ map (settles link Settlement.Reply) (settled_in (came_of arrived))) }
         ensures arrival { IfOk result (λ r. r.0 ≡ arrives (came_of arrived)) }
         ensures notices { IfOk result (λ r. r.1.items ≡ answered_by (came_of arrived) (seat_of self.old).askers) }
-        ensures connection { OnOk result (self.new.connection ≡ self.old.connection) }
-        ensures askers { OnOk result ((place : ℕ) → (seat_of self.new).askers place ≡ askers_left (settled_in (came_of arrived)) (seat_of self.old).askers place) }
+        ensures sees { OnOk result (seat_of self.new ≡ settled (settled_in (came_of arrived)) (seat_of self.old)) }
     {
         match arrived {
             None => Ok((Arrival::Nothing, Vec::new(alloc))),
@@ -121,11 +128,11 @@ impl Row {
     ) -> Result<Vec<Notice>, NoMemory>
         ensures out { OnOk result (map shown out.new.items ≡ map shown out.old.items ++ map (settles link Settlement.Reply) places.items) }
         ensures notices { IfOk result (λ ns. ns.items ≡ filter_map (tells_asker (λ place. Outcome.Replied reply) (seat_of self.old).askers) places.items) }
-        ensures connection { OnOk result (self.new.connection ≡ self.old.connection) }
-        ensures askers { OnOk result ((place : ℕ) → (seat_of self.new).askers place ≡ askers_left places.items (seat_of self.old).askers place) }
+        ensures sees { OnOk result (seat_of self.new ≡ settled places.items (seat_of self.old)) }
     {
         settle_all(out, link, &places)?;
         let notices = answer_all(alloc, &self.askers, &places, reply)?;
+        self.ping = ping_left(&places, self.ping);
         forget(&mut self.askers, places);
         Ok(notices)
     }
@@ -141,8 +148,7 @@ impl Row {
     ) -> Result<Vec<Notice>, NoMemory>
         ensures out { OnOk result (map shown out.new.items ≡ map shown out.old.items ++ effects link (LinkAct.Drains most) now self.old.connection) }
         ensures notices { IfOk result (λ ns. ns.items ≡ moved_up (seat_of self.old).askers self.old.connection (after (LinkAct.Drains most) now self.old.connection)) }
-        ensures seen { OnOk result (self.new.connection ≡ after (LinkAct.Drains most) now self.old.connection) }
-        ensures askers { OnOk result (self.new.askers ≡ self.old.askers) }
+        ensures sees { OnOk result (Some (seat_of self.new) ≡ took (LinkAct.Drains most) now (seat_of self.old)) }
     {
         let before = self.connection.queued();
         let bytes = self.connection.drain(most, now)?;
@@ -152,13 +158,37 @@ impl Row {
         tell_queued(alloc, &self.askers, before, after)
     }
 
+    /// It is asked for a sign of life.
+    pub fn ping(&mut self, now: u64, link: u64, out: &mut Vec<Effect>) -> Result<(), NoMemory>
+        ensures out { OnOk result (map shown out.new.items ≡ map shown out.old.items ++ effects link LinkAct.Pings now self.old.connection) }
+        ensures sees { OnOk result (Some (seat_of self.new) ≡ took LinkAct.Pings now (seat_of self.old)) }
+    {
+        let before = self.connection.queued();
+        let answer = self.connection.send_ping(now);
+        if let Err(ConnectionError::NoMemory) = &answer {
+            return Err(NoMemory);
+        }
+        self.ping = place_of(&answer);
+        queue(out, link, before, &self.connection)
+    }
+
+    /// It is ready, and was not got for so long, and no request of it waits and no frame stands in its line.
+    pub fn rests(&self, now: u64, most: u64) -> bool
+        ensures { result ≡ (is_ready self.now.connection.stage && (nat_le (later self.now.got most) now && (is_empty self.now.connection.waits.waiting && (length self.now.connection.line == 0)))) }
+    {
+        self.connection.stage() == Stage::Ready
+            && self.got.saturating_add(most) <= now
+            && self.connection.is_idle()
+            && self.connection.standing() == 0
+    }
+
     /// An end closes it: a deadline only where it is due still.
     pub fn is_over_by(&self, end: &End, now: u64) -> bool
         ensures { result ≡ is_some (closed_by end.now now self.now.connection) }
     {
         match end {
             End::Overdue { below: _ } => self.connection.due(now),
-            End::Unopened(_) | End::Lost | End::Broken(_) | End::Stops => true,
+            End::Unopened(_) | End::Lost | End::Broken(_) | End::Idles | End::Stops => true,
         }
     }
 
@@ -204,7 +234,7 @@ impl Row {
             place,
             outcome: settlement(is_timed_out),
         })?;
-        tell_asker(notices, &self.askers, place, lost_so(is_timed_out))
+        tell_asker(notices, &self.askers, place, lost(end, is_timed_out))
     }
 
     /// The request of a place times out at an end.
@@ -213,7 +243,7 @@ impl Row {
     {
         match end {
             End::Overdue { below } => place < *below && self.connection.overdue(place, now),
-            End::Unopened(_) | End::Lost | End::Broken(_) | End::Stops => false,
+            End::Unopened(_) | End::Lost | End::Broken(_) | End::Idles | End::Stops => false,
         }
     }
 
@@ -230,8 +260,7 @@ impl Row {
         ensures out { OnOk result (map shown out.new.items ≡ map shown out.old.items ++ queues link self.old.connection (after_call (Asks now request) self.old.connection)) }
         ensures asked { IfOk result (λ r. r.0 ≡ is_asked (asked now request self.old.connection)) }
         ensures told { IfOk result (λ r. r.1 ≡ told_at (asked now request self.old.connection)) }
-        ensures seen { OnOk result (self.new.connection ≡ after_call (Asks now request) self.old.connection) }
-        ensures askers { OnOk result ((place : ℕ) → (seat_of self.new).askers place ≡ (seat_asked who now request (seat_of self.old)).askers place) }
+        ensures sees { OnOk result (seat_of self.new ≡ seat_asked who now request (seat_of self.old)) }
     {
         let before = self.connection.queued();
         let is_asker = is_answered(request.number());
@@ -241,6 +270,37 @@ impl Row {
         queue(out, link, before, &self.connection)?;
         seat(&mut self.askers, is_asker, place, who)?;
         Ok(told)
+    }
+}
+
+/// A link counts as got when it becomes ready.
+fn got_since(arrived: &Option<Arrived>, now: u64, got: u64) -> u64
+    ensures { result ≡ got_since (change_in (arrives (came_of arrived.now))) now got }
+{
+    match arrived {
+        Some(Arrived::Ready) => now,
+        Some(
+            Arrived::Settled { .. }
+            | Arrived::ForConsumer { .. }
+            | Arrived::Challenge
+            | Arrived::Dropped
+            | Arrived::Bad(_),
+        )
+        | None => got,
+    }
+}
+
+/// A ping waits until its place is settled.
+fn ping_left(settled: &[u64], ping: Option<u64>) -> Option<u64>
+    ensures { result ≡ ping_left settled.now ping }
+{
+    let Some(place) = ping else {
+        return None;
+    };
+    if settled.contains(&place) {
+        None
+    } else {
+        Some(place)
     }
 }
 
@@ -453,6 +513,17 @@ fn settlement(is_timed_out: bool) -> Settlement
     }
 }
 
+/// What one is told whose request ends with its link.
+fn lost(end: &End, is_timed_out: bool) -> Outcome
+    ensures { result ≡ lost_with end.now is_timed_out }
+{
+    match end {
+        End::Overdue { .. } => lost_so(is_timed_out),
+        End::Unopened(_) | End::Lost | End::Broken(_) | End::Idles => Outcome::Disconnected,
+        End::Stops => Outcome::Cut,
+    }
+}
+
 fn lost_so(is_timed_out: bool) -> Outcome
     ensures { result ≡ rules.lost_so is_timed_out }
 {
@@ -468,8 +539,9 @@ fn dropped(end: &End) -> Outcome
     ensures { result ≡ dropped end.now }
 {
     match end {
-        End::Unopened(_) | End::Lost | End::Overdue { .. } | End::Broken(_) =>
-            Outcome::Disconnected,
+        End::Unopened(_) | End::Lost | End::Overdue { .. } | End::Broken(_) | End::Idles => {
+            Outcome::Disconnected
+        }
         End::Stops => Outcome::Stopped,
     }
 }
@@ -480,6 +552,6 @@ fn is_own_end(end: &End) -> bool
 {
     match end {
         End::Unopened(_) | End::Lost => false,
-        End::Overdue { .. } | End::Broken(_) | End::Stops => true,
+        End::Overdue { .. } | End::Broken(_) | End::Idles | End::Stops => true,
     }
 }

@@ -3,30 +3,33 @@
 ghost use Rattle.std.specs.Prelude.{◌≡◌, ◌++◌, IfOk, OnOk, map};
 ghost use Rattle.std.specs.Option.{option_map};
 ghost use Rattle.pulsar_messages.specs.Content.{authentication_values};
+ghost use Rattle.pulsar_session.specs.Link.{fresh};
 ghost use Rattle.pulsar_client.specs.Client.{chosen};
 ghost use Rattle.pulsar_client.specs.Tables.{chosen_of};
-ghost use Rattle.pulsar_client.specs.Content.{shown};
-ghost use Rattle.pulsar_client.specs.Effects.{connects};
-ghost use Rattle.pulsar_client.specs.View.{dialed, seat_of_fresh};
+ghost use Rattle.pulsar_client.specs.View.{delay_with, setup, ways_of};
 
-use crate::address::Address;
-use crate::effect::Effect;
+use crate::address::base_in;
 use crate::options::ClientOptions;
 use pulsar_messages::Authentication;
+use pulsar_plans::content::Address;
+use pulsar_plans::options::backoff;
+use pulsar_plans::random::{connection_id, jitter};
+use pulsar_plans::turn::Ways;
+use pulsar_plans::{ConnectionRetryOptions, OperationRetryOptions};
 use pulsar_session::Connection;
 use pulsar_wire::error::NoMemory;
 use std::alloc::Global;
-use uuid::Uuid;
 
 /// What the options of a client say of its run.
 #[derive(Drop)]
 pub struct Settings {
     /// The address of the service, where the options have one.
-    pub address: Option<Address>,
+    pub base: Option<Address>,
     pub auth: Option<Authentication>,
-    pub connection_timeout: u64,
-    pub operation_timeout: u64,
+    pub connection: ConnectionRetryOptions,
+    pub operation: OperationRetryOptions,
     pub outbound: usize,
+    pub seed: u64,
     pub first_number: u64,
     /// The time at which the client was made, in milliseconds since 1970.
     pub start: u64,
@@ -37,44 +40,70 @@ impl Settings {
         ensures { IfOk result (λ s. chosen_of s ≡ chosen options.entry.now) }
     {
         Ok(Settings {
-            address: Address::of(alloc, &options.url)?,
+            base: base_in(alloc, &options.url)?,
             auth: copy_auth(&options.auth)?,
-            connection_timeout: options.connection_retry.connection_timeout,
-            operation_timeout: options.operation_retry.operation_timeout,
+            connection: options.connection_retry,
+            operation: options.operation_retry,
             outbound: options.outbound_channel_size,
+            seed: options.seed,
             first_number: options.first_number,
             start: options.now,
         })
     }
 
-    /// The connection to the address that is dialed now, where there is one, and what asks for it.
-    pub fn dial(
+    /// The address of the service, where there is one.
+    pub fn base(&self, alloc: Global) -> Result<Option<Address>, NoMemory>
+        ensures { IfOk result (λ a. a ≡ self.now.base) }
+    {
+        match &self.base {
+            Some(base) => Ok(Some(base.copy(alloc)?)),
+            None => Ok(None),
+        }
+    }
+
+    /// How the client looks for brokers, where it has an address.
+    pub fn ways(&self, alloc: Global) -> Result<Option<Ways>, NoMemory>
+        ensures { IfOk result (λ w. w ≡ ways_of (chosen_of self.now)) }
+    {
+        match &self.base {
+            Some(base) => Ok(Some(Ways {
+                base: base.copy(alloc)?,
+                retry_delay: self.operation.retry_delay,
+                max_retries: self.operation.max_retries,
+            })),
+            None => Ok(None),
+        }
+    }
+
+    /// The connection of a link to an address, which is dialed now.
+    pub fn connection(
         &self,
         alloc: Global,
-        now: u64,
         link: u64,
-        out: &mut Vec<Effect>,
-    ) -> Result<Option<Connection>, NoMemory>
-        ensures out { OnOk result (map shown out.new.items ≡ map shown out.old.items ++ connects link (chosen_of self.now).address) }
-        ensures connection { IfOk result (λ c. option_map seat_of_fresh c ≡ dialed (chosen_of self.now) now) }
+        now: u64,
+        address: &Address,
+    ) -> Result<Connection, NoMemory>
+        ensures { IfOk result (λ c. c ≡ fresh (setup (chosen_of self.now) link now address.now)) }
     {
-        let Some(address) = &self.address else {
-            return Ok(None);
-        };
-        out.push(address.connect(link)?)?;
-        let connection = Connection::new(
+        Connection::new(
             alloc,
-            Uuid::nil(),
-            address.url()?,
+            connection_id(self.seed, link),
+            address.url().clone()?,
             copy_auth(&self.auth)?,
-            None,
-            self.connection_timeout,
-            self.operation_timeout,
+            address.behind()?,
+            self.connection.connection_timeout,
+            self.operation.operation_timeout,
             self.outbound,
             self.first_number,
             now,
-        )?;
-        Ok(Some(connection))
+        )
+    }
+
+    /// The delay of the attempt that follows that of a link, behind so many retries.
+    pub fn delay(&self, link: u64, retries: u32) -> u64
+        ensures { result ≡ delay_with (chosen_of self.now) link retries }
+    {
+        backoff(&self.connection, retries, jitter(self.seed, link))
     }
 }
 

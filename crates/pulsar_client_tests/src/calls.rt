@@ -2,14 +2,17 @@
 
 use pulsar_client::effect::Effect;
 use pulsar_client::event::{Call, Event};
-use pulsar_client::options::{ClientOptions, ConnectionRetryOptions, OperationRetryOptions};
 use pulsar_client::pulsar::Pulsar;
+use pulsar_client::{ClientOptions, ConnectionRetryOptions, OperationRetryOptions};
 use pulsar_wire::{ConnectionError, Error, NoMemory};
 use std::alloc::Global;
 use std::test::Fail;
 
 /// An answer to a request, where a connected command must come.
 const REPLY: &[u8] = b"\x00\x00\x00\x0e\x00\x00\x00\x0a\x08\x21\x8a\x02\x05\x08\x00\x12\x01a";
+
+/// A connected command.
+const CONNECTED: &[u8] = b"\x00\x00\x00\x0a\x00\x00\x00\x06\x08\x03\x1a\x02\x0a\x00";
 
 fn options(alloc: Global, url: &str) -> Result<ClientOptions, NoMemory> {
     Ok(ClientOptions {
@@ -90,6 +93,54 @@ fn events_are_taken_together(rt: HostRuntime) -> Result<(), Fail> {
     let driven = lend(
         Pulsar::drive(alloc, options, &events),
         |steps| are_all(steps),
+    );
+    assert!(rt; driven);
+    Ok(())
+}
+
+/// A client that is built, a search of each kind, and a stop.
+fn searches(alloc: Global) -> Result<Vec<Event>, NoMemory> {
+    let topic = String::from_str(alloc, "t")?;
+    let mut events = Vec::new(alloc);
+    events.push(Event::Call(Call::Build))?;
+    events.push(Event::Opened(0))?;
+    events.push(Event::Bytes(0, CONNECTED.to_vec(alloc)?))?;
+    events.push(Event::Call(Call::Lookup {
+        topic: topic.clone()?,
+    }))?;
+    events.push(Event::Call(Call::Partitions {
+        topic: topic.clone()?,
+    }))?;
+    events.push(Event::Call(Call::Brokers { topic }))?;
+    events.push(Event::Call(Call::Stop))?;
+    Ok(events)
+}
+
+/// Whether each search asks one thing, and the stop ends all of them and the connection.
+fn are_stopped(steps: &Result<Vec<Vec<Effect>>, NoMemory>) -> bool {
+    match steps {
+        Ok(steps) => match steps.as_slice() {
+            [_, _, built, first, second, third, stopped] => {
+                built.len() == 1
+                    && first.len() == 1
+                    && second.len() == 1
+                    && third.len() == 1
+                    && stopped.len() == 8
+            }
+            _ => false,
+        },
+        Err(NoMemory) => false,
+    }
+}
+
+#[test]
+fn searches_are_taken_together(rt: HostRuntime) -> Result<(), Fail> {
+    let alloc = rt.alloc();
+    let options = options(alloc, "pulsar://127.0.0.1:6650")?;
+    let events = searches(alloc)?;
+    let driven = lend(
+        Pulsar::drive(alloc, options, &events),
+        |steps| are_stopped(steps),
     );
     assert!(rt; driven);
     Ok(())

@@ -9,4 +9,4 @@ use Rattle.pulsar_link.specs.Messages.{Reply, Written}
 -- why a reply fails a request that expects another body: the broker's error with its text, or the name of the body
 abbrev pub refused : Reply → Option Written → Fault
 refused r None = UnexpectedResponse (codes "none")
-refused r (Some body) = if body.number == 14 then PulsarError (r.error >>= error_of) r.text else UnexpectedResponse (body_name body.number)
+refused r (Some body) = if body.number == 14 then PulsarError (r.content.error >>= error_of) r.content.text else UnexpectedResponse (body_name body.number)

@@ -3,7 +3,7 @@
 
 ghost use Rattle.std.specs.Prelude.{◌≡◌, ◌++◌, ℕ, List, IfOk, OnOk, map, string_bytes};
 ghost use Rattle.pulsar_frame.specs.Shown.{message_values};
-ghost use Rattle.pulsar_link.specs.Messages.{Reply, is_number, read};
+ghost use Rattle.pulsar_link.specs.Messages.{Reply, is_body, read};
 ghost use Rattle.pulsar_session.specs.Failures.{fault};
 ghost use Rattle.pulsar_link.specs.Refusals.{refused};
 ghost use Rattle.pulsar_link.specs.RawCall.{words_of};
@@ -150,14 +150,14 @@ impl Received {
     }
 
     pub fn key(&self) -> Option<RequestKey>
-        ensures { result ≡ self.now.key }
+        ensures { result ≡ self.now.content.key }
     {
         self.message.request_key()
     }
 
     /// Its body has this number.
     pub fn is(&self, number: u32) -> bool
-        ensures { result ≡ is_number number self.now.body }
+        ensures { result ≡ is_body number self.now.content.body }
     {
         match &self.message.command.body {
             Some(body) => body.number() == number,
@@ -177,7 +177,7 @@ impl Received {
 
     /// Why it fails a request that expects another body.
     pub fn refusal(&self, alloc: Global) -> Result<ConnectionError, NoMemory>
-        ensures { IfOk result (λ e. fault e ≡ refused self.now self.now.body) }
+        ensures { IfOk result (λ e. fault e ≡ refused self.now self.now.content.body) }
     {
         match &self.message.command.body {
             Some(body) => refused(alloc, body),
@@ -191,6 +191,13 @@ impl Received {
     {
         let message = Box::new(alloc, self.message.copy()?)?;
         Ok(Received { message })
+    }
+
+    /// What is read in it, but for what it gives to a consumer.
+    pub fn into_reply(self, alloc: Global) -> Result<pulsar_session::Received, NoMemory>
+        ensures { IfOk result (λ r. r ≡ self.content) }
+    {
+        pulsar_session::Received::new(alloc, self.into_message())
     }
 
     pub fn into_message(self) -> Message

@@ -68,7 +68,11 @@ pub fn cumulative(word: &[u8]) -> Option<bool>
 pub fn kind(word: &[u8]) -> Option<IoKind>
     ensures { result ≡ kind word.now }
 {
-    if is(word, "other") {
+    if is(word, "refused") {
+        Some(IoKind::ConnectionRefused)
+    } else if is(word, "timedout") {
+        Some(IoKind::TimedOut)
+    } else if is(word, "other") {
         Some(IoKind::Other)
     } else {
         None

@@ -1,9 +1,9 @@
 //! The lines of a script: the settings and the events that they are.
 
-ghost use Rattle.std.specs.Prelude.{◌≡◌, IfOk, map};
+ghost use Rattle.std.specs.Prelude.{◌≡◌, IfOk, map, string_bytes};
 ghost use Rattle.std.specs.Option.{option_map};
 ghost use Rattle.pulsar_client.specs.Content.{asked, heard};
-ghost use Rattle.pulsar_cli.specs.Grammar.{build, bytes, call, called, drain, event, failed, line, lost, on_link, opened, poll, stop, tick, topics, words_line};
+ghost use Rattle.pulsar_cli.specs.Grammar.{brokers, build, bytes, call, called, drain, event, failed, line, lookup, lost, on_link, opened, partitions, poll, stop, tick, topic, topics, words_line};
 ghost use Rattle.pulsar_cli.specs.Parsed.{line_of};
 
 use crate::grammar::choice::{kind, mode};
@@ -186,6 +186,12 @@ fn call(alloc: Global, words: &[&[u8]]) -> Result<Option<Call>, NoMemory>
         Ok(stop(rest))
     } else if is(word, "topics") {
         topics(alloc, rest)
+    } else if is(word, "lookup") {
+        lookup(alloc, rest)
+    } else if is(word, "partitions") {
+        partitions(alloc, rest)
+    } else if is(word, "brokers") {
+        brokers(alloc, rest)
     } else if is(word, "link") {
         on_link(alloc, rest)
     } else {
@@ -227,6 +233,46 @@ fn topics(alloc: Global, words: &[&[u8]]) -> Result<Option<Call>, NoMemory>
         return Ok(None);
     };
     Ok(Some(Call::Topics { namespace, mode }))
+}
+
+/// `call lookup TOPIC`
+fn lookup(alloc: Global, words: &[&[u8]]) -> Result<Option<Call>, NoMemory>
+    ensures { IfOk result (λ c. option_map asked c ≡ lookup (map (λ w. w.now) words.now)) }
+{
+    match topic(alloc, words)? {
+        Some(topic) => Ok(Some(Call::Lookup { topic })),
+        None => Ok(None),
+    }
+}
+
+/// `call partitions TOPIC`
+fn partitions(alloc: Global, words: &[&[u8]]) -> Result<Option<Call>, NoMemory>
+    ensures { IfOk result (λ c. option_map asked c ≡ partitions (map (λ w. w.now) words.now)) }
+{
+    match topic(alloc, words)? {
+        Some(topic) => Ok(Some(Call::Partitions { topic })),
+        None => Ok(None),
+    }
+}
+
+/// `call brokers TOPIC`
+fn brokers(alloc: Global, words: &[&[u8]]) -> Result<Option<Call>, NoMemory>
+    ensures { IfOk result (λ c. option_map asked c ≡ brokers (map (λ w. w.now) words.now)) }
+{
+    match topic(alloc, words)? {
+        Some(topic) => Ok(Some(Call::Brokers { topic })),
+        None => Ok(None),
+    }
+}
+
+/// A topic alone.
+fn topic(alloc: Global, words: &[&[u8]]) -> Result<Option<String>, NoMemory>
+    ensures { IfOk result (λ t. option_map string_bytes t ≡ topic (map (λ w. w.now) words.now)) }
+{
+    let [word] = words else {
+        return Ok(None);
+    };
+    text(alloc, word)
 }
 
 /// `call link LINK ..`

@@ -2,7 +2,7 @@
 
 ghost use Rattle.std.specs.Prelude.{◌≡◌, IfOk, map};
 ghost use Rattle.std.specs.Option.{option_map};
-ghost use Rattle.pulsar_cli.specs.Grammar.{auth, number_setting, set, set_number, url};
+ghost use Rattle.pulsar_cli.specs.Grammar.{attempt_setting, auth, number_setting, request_setting, set, set_number, set_value, url};
 ghost use Rattle.pulsar_cli.specs.Parsed.{setting_of};
 
 use crate::grammar::raw::credential;
@@ -24,6 +24,22 @@ pub enum Setting {
     Timeout(u64),
     /// How long an attempt waits for its connection, in milliseconds.
     ConnectionTimeout(u64),
+    /// How long a request waits before it is made again, in milliseconds.
+    RetryDelay(u64),
+    /// How often a request is made again.
+    OpRetries(u32),
+    /// How many retries follow an attempt that failed.
+    Retries(u32),
+    /// How long the first retry of an attempt waits, in milliseconds.
+    MinBackoff(u64),
+    /// How long a retry of an attempt waits at most, without its jitter, in milliseconds.
+    MaxBackoff(u64),
+    /// How often a ready connection is asked for a sign of life, in milliseconds.
+    KeepAlive(u64),
+    /// How long a connection that nothing uses is kept, in milliseconds.
+    MaxIdle(u64),
+    /// What random numbers are drawn from.
+    Seed(u64),
     /// The number of the first request of each connection.
     First(u64),
     /// The time of the client's start, in milliseconds since 1970.
@@ -79,7 +95,20 @@ fn set_number(option: &[u8], words: &[&[u8]]) -> Option<Setting>
     let [word] = words else {
         return None;
     };
-    number_setting(option, number(word)?)
+    set_value(option, number(word)?)
+}
+
+/// An option that is a number: of a client, of its attempts, or of its requests.
+fn set_value(option: &[u8], value: u64) -> Option<Setting>
+    ensures { option_map setting_of result ≡ set_value option.now value }
+{
+    if let Some(setting) = number_setting(option, value) {
+        return Some(setting);
+    }
+    if let Some(setting) = attempt_setting(option, value) {
+        return Some(setting);
+    }
+    request_setting(option, value)
 }
 
 /// An option that is a number.
@@ -88,14 +117,48 @@ fn number_setting(option: &[u8], number: u64) -> Option<Setting>
 {
     if is(option, "outbound") {
         Some(Setting::Outbound(number as usize))
-    } else if is(option, "timeout") {
-        Some(Setting::Timeout(number))
-    } else if is(option, "connection-timeout") {
-        Some(Setting::ConnectionTimeout(number))
+    } else if is(option, "seed") {
+        Some(Setting::Seed(number))
     } else if is(option, "first") {
         Some(Setting::First(number))
     } else if is(option, "now") {
         Some(Setting::Now(number))
+    } else {
+        None
+    }
+}
+
+/// How connections are attempted and kept.
+fn attempt_setting(option: &[u8], number: u64) -> Option<Setting>
+    ensures { option_map setting_of result ≡ attempt_setting option.now number }
+{
+    if is(option, "retries") {
+        Some(Setting::Retries(u32::try_from(number).ok()?))
+    } else if is(option, "min-backoff") {
+        Some(Setting::MinBackoff(number))
+    } else if is(option, "max-backoff") {
+        Some(Setting::MaxBackoff(number))
+    } else if is(option, "connection-timeout") {
+        Some(Setting::ConnectionTimeout(number))
+    } else if is(option, "keep-alive") {
+        Some(Setting::KeepAlive(number))
+    } else if is(option, "max-idle") {
+        Some(Setting::MaxIdle(number))
+    } else {
+        None
+    }
+}
+
+/// How long requests wait, and how often they are made again.
+fn request_setting(option: &[u8], number: u64) -> Option<Setting>
+    ensures { option_map setting_of result ≡ request_setting option.now number }
+{
+    if is(option, "timeout") {
+        Some(Setting::Timeout(number))
+    } else if is(option, "retry-delay") {
+        Some(Setting::RetryDelay(number))
+    } else if is(option, "op-retries") {
+        Some(Setting::OpRetries(u32::try_from(number).ok()?))
     } else {
         None
     }

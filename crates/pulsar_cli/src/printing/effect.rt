@@ -4,14 +4,15 @@ ghost use Rattle.std.specs.Prelude.{◌≡◌, ◌∷◌, ◌++◌, Ok, OnOk, ma
 ghost use Rattle.pulsar_wire.specs.Row.{spelling};
 ghost use Rattle.pulsar_wire.specs.Rows.{send_receipt};
 ghost use Rattle.pulsar_wire.specs.Views.{body_values, send_receipt_values};
-ghost use Rattle.pulsar_client.specs.Content.{Connect, Ends, Names, Queued, Receipt, Replies, Settles, Write, hands, said, shown};
+ghost use Rattle.pulsar_client.specs.Content.{Addresses, Connect, Ends, Names, Queued, Receipt, Replies, Settles, Write, hands, said, shown};
+ghost use Rattle.pulsar_plans.specs.Address.{named, place};
 ghost use Rattle.pulsar_link.specs.Messages.{body_bytes, written};
 ghost use Rattle.pulsar_cli.specs.Text as printed;
 ghost use Rattle.pulsar_cli.specs.WordText.{hex};
 
 use crate::printing::error::push_error;
 use crate::printing::word::{push_hex, push_word};
-use pulsar_client::{Answer, Effect, Handed, Settlement};
+use pulsar_client::{Answer, BrokerAddress, Effect, Handed, Settlement};
 use pulsar_wire::encoding::message::encode;
 use pulsar_wire::{Body, CommandSendReceipt, Error};
 use std::alloc::AllocError;
@@ -42,6 +43,7 @@ fn push_effect(out: &mut String, effect: &Effect) -> Result<(), AllocError>
         Effect::Ended { ticket, answer } => push_ended(out, *ticket, answer)?,
         Effect::Connect { link, host, port } => push_connect(out, *link, host, *port)?,
         Effect::Queued { link, place, bytes } => push_queued(out, *link, *place, bytes)?,
+        Effect::Retry { link, delay } => write!(out, "retry {link} {delay}")?,
         Effect::Close { link } => write!(out, "close {link}")?,
         Effect::Item { ticket, item } => push_item(out, *ticket, item)?,
         Effect::Empty { ticket } => write!(out, "empty {ticket}")?,
@@ -115,6 +117,12 @@ fn push_answer(out: &mut String, answer: &Result<Answer, Error>) -> Result<(), A
     match answer {
         Ok(Answer::Done) => out.push_str("ok done")?,
         Ok(Answer::Topics(names)) => push_names(out, names)?,
+        Ok(Answer::Address(address)) => {
+            out.push_str("ok address")?;
+            push_address(out, address)?;
+        }
+        Ok(Answer::Count(count)) => write!(out, "ok count {count}")?,
+        Ok(Answer::Addresses(names)) => push_addresses(out, names)?,
         Ok(Answer::Receipt(receipt)) => push_receipt(out, receipt)?,
         Ok(Answer::Replies(bodies)) => push_replies(out, bodies)?,
         Err(error) => {
@@ -136,6 +144,46 @@ fn push_names(out: &mut String, names: &[String]) -> Result<(), AllocError>
         push_word(out, name.as_bytes())?;
     }
     Ok(())
+}
+
+/// An address: its URL, its broker, and whether the URL is a proxy's.
+fn push_address(out: &mut String, address: &BrokerAddress) -> Result<(), AllocError>
+    ensures { OnOk result (string_bytes out.new ≡ string_bytes out.old ++ printed.address (place address.now)) }
+{
+    let proxy = flag_word(address.proxy);
+    out.push(' ')?;
+    push_word(out, address.url.as_str().as_bytes())?;
+    out.push(' ')?;
+    push_word(out, address.broker_url.as_bytes())?;
+    out.push(' ')?;
+    out.push_str(proxy)
+}
+
+fn flag_word(flag: bool) -> &'static str
+    ensures { result.now ≡ printed.flag_word flag }
+{
+    if flag { "true" } else { "false" }
+}
+
+fn push_addresses(out: &mut String, names: &[(String, BrokerAddress)]) -> Result<(), AllocError>
+    ensures { OnOk result (string_bytes out.new ≡ string_bytes out.old
+        ++ printed.answer (Addresses (map named names.now))) }
+{
+    let count = names.len();
+    write!(out, "ok addresses {count}")?;
+    for entry in names {
+        push_named(out, entry)?;
+    }
+    Ok(())
+}
+
+/// A name with its address.
+fn push_named(out: &mut String, entry: &(String, BrokerAddress)) -> Result<(), AllocError>
+    ensures { OnOk result (string_bytes out.new ≡ string_bytes out.old ++ printed.named (named entry.now)) }
+{
+    out.push(' ')?;
+    push_word(out, entry.0.as_bytes())?;
+    push_address(out, &entry.1)
 }
 
 fn push_receipt(out: &mut String, receipt: &CommandSendReceipt) -> Result<(), AllocError>

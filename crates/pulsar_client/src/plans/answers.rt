@@ -60,7 +60,7 @@ pub fn is_answered(request: u32) -> bool
 
 /// A reply has the body that answers the body of this number.
 pub fn is_answer(request: u32, reply: &Received) -> bool
-    ensures { result ≡ is_answer request reply.now.body }
+    ensures { result ≡ is_answer request reply.now.content.body }
 {
     match answer_of(request) {
         Some(answer) => reply.is(answer),
@@ -81,7 +81,7 @@ pub fn said(alloc: Global, says: Says, request: u32, reply: Received) -> Result<
 
 /// The answer that a reply gives.
 fn accepted(alloc: Global, says: Says, reply: Received) -> Result<Said, NoMemory>
-    ensures { IfOk result (λ s. s ≡ answer_with says reply reply.body) }
+    ensures { IfOk result (λ s. s ≡ answer_with says reply reply.content.body) }
 {
     let Message {
         command,

@@ -2,4 +2,6 @@
 
 pub mod answers;
 pub mod plan;
+pub mod search;
+pub mod search_state;
 pub mod table;

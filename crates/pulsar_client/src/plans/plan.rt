@@ -8,8 +8,10 @@ ghost use Rattle.pulsar_client.specs.Content.{Done, Failed};
 use crate::act::{Action, Makes, Outcome, Place, Procedure, Refusal, Says, Verdict};
 use crate::content::Said;
 use crate::effect::Answer;
-use crate::plans::answers;
+use crate::plans::search_state::SearchState;
+use crate::plans::{answers, search};
 use pulsar_link::content::{Received, Request, Subscribed};
+use pulsar_plans::turn::Ways;
 use pulsar_wire::error::{ConnectionError, Error, IoKind, NoMemory};
 use std::alloc::Global;
 
@@ -32,14 +34,16 @@ pub struct Wanted {
 /// Where a plan stands.
 #[derive(Drop)]
 pub enum Plan {
-    /// It gets the link of the address, to be done with that.
+    /// It gets a link of the address of the service, to be done with that.
     Building,
-    /// It gets the link of the address, to ask there.
+    /// It gets a link, to ask there.
     Getting(Request, Says),
     /// It asks for its request, whose frame may stand in the line.
     Asking(Wanted),
     /// It waits for the reply.
     Awaiting(Wanted),
+    /// It looks for brokers in these ways.
+    Searching { ways: Ways, search: SearchState },
     /// It ends every link.
     Stopping,
 }
@@ -49,16 +53,20 @@ pub fn begins(alloc: Global, procedure: Procedure) -> Result<Turn<Plan, Verdict>
     ensures { IfOk result (λ turn. turn ≡ begins procedure) }
 {
     match procedure {
-        Procedure::Build => Ok(Turn::Stays(Plan::Building, Action::Get)),
+        Procedure::Build(base) => Ok(Turn::Stays(Plan::Building, Action::Get(base))),
         Procedure::Stop => Ok(Turn::Stays(Plan::Stopping, Action::StopAll)),
         Procedure::Ask {
             place,
             request,
             says,
         } => match place {
-            Place::Base => Ok(Turn::Stays(Plan::Getting(request, says), Action::Get)),
+            Place::At(address) => Ok(Turn::Stays(
+                Plan::Getting(request, says),
+                Action::Get(address),
+            )),
             Place::Link(link) => asks(link, request, says),
         },
+        Procedure::Search { ways, what } => search::begins(alloc, ways, what),
         Procedure::Refuse(refusal) => refused(alloc, refusal),
     }
 }
@@ -85,6 +93,7 @@ pub fn told(alloc: Global, plan: Plan, outcome: Outcome) -> Result<Turn<Plan, Ve
             Outcome::Replied(reply) => replied(alloc, wanted, reply),
             outcome => fails(alloc, error_of(outcome)),
         },
+        Plan::Searching { ways, search } => search::told(alloc, ways, search, outcome),
         Plan::Stopping => match outcome {
             Outcome::Stopped => done(alloc, Makes::Nothing),
             outcome => fails(alloc, error_of(outcome)),
@@ -178,6 +187,7 @@ fn refusal_error(alloc: Global, refusal: Refusal) -> Result<Error, NoMemory>
 {
     match refusal {
         Refusal::Shutdown => Ok(Error::Connection(ConnectionError::Shutdown)),
+        Refusal::NoAddress => Ok(Error::Connection(ConnectionError::NotFound)),
         Refusal::NoOutbound => Ok(Error::Custom(String::from_str(alloc, "outbound size is 0")?)),
     }
 }
@@ -200,7 +210,7 @@ pub fn failure(alloc: Global, error: ConnectionError) -> Result<Verdict, NoMemor
 }
 
 /// Why a plan fails at an outcome.
-fn error_of(outcome: Outcome) -> ConnectionError
+pub fn error_of(outcome: Outcome) -> ConnectionError
     ensures { fault result ≡ fault_of outcome }
 {
     match outcome {
@@ -214,6 +224,8 @@ fn error_of(outcome: Outcome) -> ConnectionError
         | Outcome::Queued
         | Outcome::InLine
         | Outcome::Replied(_)
+        | Outcome::Woken
+        | Outcome::Cut
         | Outcome::Disconnected => ConnectionError::Disconnected,
     }
 }

@@ -1,4 +1,4 @@
-use Rattle.std.proofs.Common.{◌≡◌, ◌∙◌, ℕ, ap, sym, ◌||◌, arith, filter, nat_le, not}
+use Rattle.std.proofs.Common.{◌≡◌, ◌∙◌, ℕ, ap, sym, ◌||◌, refl, arith, filter, nat_le, not}
 use Rattle.std.proofs.lemmas.Bool.Decides.{nat_tests}
 use Rattle.std.proofs.lemmas.Grind.{common_steps}
 use Rattle.std.proofs.lemmas.Map.Iter.{iter_end}
@@ -7,7 +7,7 @@ use Rattle.std.specs.List.{list_any}
 use Rattle.std.specs.Map.Iter.{deref_pair}
 use Rattle.std.specs.Ordering.{is_lt, nat_cmp}
 use Rattle.pulsar_requests.specs.Soonest.{has_come}
-use Rattle.pulsar_client.specs.Due.{moment_at}
+use Rattle.pulsar_client.specs.Due.{is_in, moment_at}
 use Rattle.pulsar_client.proofs.Lists.{any_end, any_map}
 use Rattle.pulsar_client.proofs.Moments.{all_come}
 use Rattle.pulsar_client.proofs.due.DueMoments.come.Goals as goal
@@ -33,5 +33,5 @@ returns c = λ k.
     c.loop-links.invariant k
     ∙ sym (any_map deref_pair gives c.loop-links.yielded)
     ∙ ap (list_any gives) whole.0
-    ∙ all_come now k (λ q. not (is_lt (nat_cmp now q))) (passes now) i.links c.range-links-items.ensures.ordered (moment_at i.moments.entries k) (λ m. c.self.invariant m k)
+    ∙ all_come (is_in k) refl now (λ q. not (is_lt (nat_cmp now q))) (passes now) i.links c.range-links-items.ensures.ordered (moment_at i.moments.entries k) (λ m. c.self.invariant m k)
     ∙ ap (λ ms. has_come now (moment_at ms k)) c.self.view_is

@@ -1,0 +1,652 @@
+-- From a Stop on no attempt begins. The stop is asked for where nothing else is left to do; in its step the links end one after the other,
+-- and whatever a plan is told is its last word; behind it no link is left, no alarm is set, and each call is refused.
+use Rattle.std.proofs.Common.{◌≡◌, ◌⊎◌, inl, inr, ◌∙◌, sym, ap, subst, ℕ, zero, suc, ◌+◌, ◌≤◌, nat_lt, List, [], ◌∷◌, ◌++◌, refl, arith, map, Bool, true, false, ◌&&◌, ◌==◌, not, cond, Option, Some, None, Result}
+use Rattle.std.proofs.lemmas.Bool.{cases_Bool, eqb-true}
+use Rattle.std.proofs.lemmas.Bool.Decides.{nat_tests}
+use Rattle.std.specs.List.{filter_map, flat_map}
+use Rattle.std.specs.Option.{option_map}
+use Rattle.pulsar_run.specs.Laws.{In}
+use Rattle.pulsar_run.specs.Order.{arranged, put, put_all}
+use Rattle.pulsar_run.specs.Run.{first_of, rest, rest_of}
+use Rattle.pulsar_link.specs.Request.{is_answered}
+use Rattle.pulsar_session.specs.Failures.{Exhausted, Failure}
+use Rattle.pulsar_session.specs.Link.{ends, is_spent}
+use Rattle.pulsar_plans.specs.Address.{Place, address_key}
+use Rattle.pulsar_client.specs.declared.act.Act.{Act}
+use Rattle.pulsar_client.specs.declared.act.Act.TheVariants.{Comes, Starts, Told, Does, Answers, Dials}
+use Rattle.pulsar_client.specs.declared.act.Action.TheVariants.{Get, Ask, StopAll, Rest}
+use Rattle.pulsar_client.specs.declared.act.Alarm.{Alarm}
+use Rattle.pulsar_client.specs.declared.act.Alarm.TheVariants.{Retry, Wake, KeepAlive, CheckIdle}
+use Rattle.pulsar_client.specs.declared.act.End.TheVariants.{Stops}
+use Rattle.pulsar_client.specs.declared.act.LinkAct.{LinkAct}
+use Rattle.pulsar_client.specs.declared.act.LinkAct.TheVariants.{Opens, Reads, Drains, Pings, Ends}
+use Rattle.pulsar_client.specs.declared.act.Makes.{Makes}
+use Rattle.pulsar_client.specs.declared.act.Makes.TheVariants.{Nothing, Client, Consumer}
+use Rattle.pulsar_client.specs.declared.act.Notice.{Notice}
+use Rattle.pulsar_client.specs.declared.act.Outcome.{Outcome}
+use Rattle.pulsar_client.specs.declared.act.Outcome.TheVariants as outcome
+use Rattle.pulsar_client.specs.declared.act.Part.{Part}
+use Rattle.pulsar_client.specs.declared.act.Part.TheVariants.{Calls, ToLink, Rings, Polls}
+use Rattle.pulsar_client.specs.declared.act.Place.TheVariants as place
+use Rattle.pulsar_client.specs.declared.act.Procedure.{Procedure}
+use Rattle.pulsar_client.specs.declared.act.Procedure.TheVariants as procedure
+use Rattle.pulsar_client.specs.declared.act.Says.TheVariants as says
+use Rattle.pulsar_client.specs.declared.act.Verdict.{Verdict}
+use Rattle.pulsar_client.specs.declared.act.Who.{Who}
+use Rattle.pulsar_client.specs.declared.act.Who.TheVariants.{Call}
+use Rattle.pulsar_client.specs.declared.addresses.Pause.{Pause}
+use Rattle.pulsar_client.specs.declared.addresses.Series.{Series}
+use Rattle.pulsar_client.specs.declared.addresses.Series.TheVariants.{Nobody, Runs, Pauses, Serves}
+use Rattle.pulsar_client.specs.declared.plans.plan.Plan.{Plan}
+use Rattle.pulsar_client.specs.declared.plans.plan.Plan.TheVariants.{Building, Getting, Asking, Awaiting, Searching, Stopping}
+use Rattle.pulsar_client.specs.declared.plans.plan.Turn.{Turn}
+use Rattle.pulsar_client.specs.declared.plans.plan.Turn.TheVariants.{Stays, Gives}
+use Rattle.pulsar_plans.specs.Plans as search
+use Rattle.pulsar_plans.specs.declared.plan.Answer.{Answer}
+use Rattle.pulsar_plans.specs.declared.plan.Plan.{Plan as Search}
+use Rattle.pulsar_plans.specs.declared.plan.Procedure.TheVariants as sought
+use Rattle.pulsar_plans.specs.declared.turn.Turn.{Turn as SearchTurn}
+use Rattle.pulsar_plans.specs.declared.turn.Turn.TheVariants as search_turn
+use Rattle.pulsar_plans.specs.declared.turn.Ways.{Ways}
+use Rattle.pulsar_plans.specs.declared.turn.Action.TheVariants as wish
+use Rattle.pulsar_client.specs.Alarms.{clear, rings}
+use Rattle.pulsar_client.specs.Content as content
+use Rattle.pulsar_client.specs.Content.{Asked, Bytes, Heard}
+use Rattle.pulsar_client.specs.Laws.{NoneAfterStop, stopped}
+use Rattle.pulsar_client.specs.Links.{line_places, numbers_from}
+use Rattle.pulsar_client.specs.Plan.{fails, goes, news_in, told, verdict}
+use Rattle.pulsar_client.specs.Rules.{asks_topics, at_once, below, builds_with, called, causes, dropped, ended_on, failed_at, failed_on, failed_over, follows, follows_some, from_base, is_open, lost, notice, on_link, opens, over_links, procedure_for, searches, stop_act, stopped_at, stopped_with, tells, tells_asker, unless_refused, waiters_of}
+use Rattle.pulsar_client.specs.Run.{Agenda, Entry, Begins, Then, IsRun, agenda, first, rules, view}
+use Rattle.pulsar_client.specs.View.{Addresses, Base, Chosen, Links, Seat, Tickets, View, alarms_after, alarms_built, alarms_on, alarms_over, begun, begun_live, builds, calls_after, got_at, is_live, link_got, live_after, live_begun, pause_after, pause_of, pause_on, pause_put, pause_rung, told_some, took_some, turned_by, ways_of}
+use Rattle.pulsar_client.proofs.Acts.{Each, IsQuiet, begun_same, comes_quiet, each_append, each_either, each_first, each_flat, each_map, each_rest, first_case, is_served, none_now, over_each, performs_quiet}
+use Rattle.pulsar_client.proofs.Attempts.{is_dial}
+use Rattle.pulsar_client.proofs.Made.{NoSingle, is_single, comes_single, now_many}
+
+-- LISTS
+
+in_left : {A : Type 0} (x : A) (xs ys : List A) → In x xs → In x (xs ++ ys)
+in_left x [] ys h = absurd h
+in_left x (y ∷ xs) ys (inl e) = inl e
+in_left x (y ∷ xs) ys (inr h) = inr (in_left x xs ys h)
+
+in_right : {A : Type 0} (x : A) (xs ys : List A) → In x ys → In x (xs ++ ys)
+in_right x [] ys h = h
+in_right x (y ∷ xs) ys h = inr (in_right x xs ys h)
+
+in_flat : {A B : Type 0} (f : A → List B) (x : A) (y : B) (xs : List A) → In x xs → In y (f x) → In y (flat_map f xs)
+in_flat f x y [] h i = absurd h
+in_flat f x y (z ∷ xs) (inl e) i = in_left y (f z) (flat_map f xs) (subst (λ u. In y (f u)) e i)
+in_flat f x y (z ∷ xs) (inr h) i = in_right y (f z) (flat_map f xs) (in_flat f x y xs h i)
+
+in_numbers : (n start l : ℕ) → start ≤ l → nat_lt l (start + n) ≡ true → In l (numbers_from start n)
+in_numbers zero start l h k = absurd (grind (arith, nat_tests))
+in_numbers (suc n) start l h k = elim (cases_Bool (l == start)) [
+  | inl e ↦ inl (eqb-true l start e)
+  | inr e ↦ inr (in_numbers n (suc start) l (grind (arith, nat_tests)) (grind (arith, nat_tests)))
+]
+
+each_put : (P : Notice → Type 0) (x : Notice) (ys : List Notice) → P x → Each P ys → Each P (put below x ys)
+each_put P x [] p q = (p, tt)
+each_put P x (y ∷ ys) p q = each_either P (below x y) (x ∷ y ∷ ys) (y ∷ put below x ys) (p, q) (q.0, each_put P x ys p q.1)
+
+each_put_all : (P : Notice → Type 0) (xs ys : List Notice) → Each P xs → Each P ys → Each P (put_all below xs ys)
+each_put_all P [] ys p q = q
+each_put_all P (x ∷ xs) ys p q = each_put_all P xs (put below x ys) p.1 (each_put P x ys p.0 q)
+
+each_arranged : (P : Notice → Type 0) (causes : List (List Notice)) → Each (Each P) causes → Each (Each P) (map (arranged below) causes)
+each_arranged P [] k = tt
+each_arranged P (ns ∷ causes) k = (each_put_all P ns [] k.0 tt, each_arranged P causes k.1)
+
+each_opens : (P : Notice → Type 0) (ns : List Notice) → Each P ns → Each (Each P) (opens ns)
+each_opens P [] k = tt
+each_opens P (n ∷ ns) k = (k, tt)
+
+-- LINKS
+
+same_either : {A : Type 0} (b : Bool) (x : A) → cond b x x ≡ x
+same_either true x = refl
+same_either false x = refl
+
+got_none : (k : Option ℕ) (now l : ℕ) → got_at k now l None ≡ None
+got_none None now l = refl
+got_none (Some k) now l = same_either (l == k) None
+
+-- only an attempt makes a link
+stays_dead : (v : View) (a : Act) (l : ℕ) → is_dial a ≡ false → live_after v.chosen v.addresses v.now v.links.started a l None ≡ None
+stays_dead v (Comes (ToLink k x)) l h = same_either (l == k) None
+stays_dead v (Does who (Get p)) l h = got_none (link_got v.addresses (Does who (Get p))) v.now l
+stays_dead v (Does who (Ask k request)) l h = same_either (l == k) None
+stays_dead v (Dials p starter n) l h = absurd cc
+stays_dead v _ l h = refl
+
+live_none : (e : Heard) (l : ℕ) → live_begun e l None ≡ None
+live_none (Bytes k piece) l = same_either (l == k) None
+live_none _ l = refl
+
+begun_dead : (e : Heard) (l : ℕ) (v : View) → v.links.live l ≡ None → (begun e v).links.live l ≡ None
+begun_dead e l v h =
+    elim (is_live v e) as (λ b. (cond b (begun_live e v) v).links.live l ≡ None) [ true ↦ ap (live_begun e l) h ∙ live_none e l | false ↦ h ]
+
+-- a link that was not started is none
+not_started : (o : Chosen) (log : List Entry) (l : ℕ) → (view o log).links.started ≤ l → (view o log).links.live l ≡ None
+not_started o [] l h = refl
+not_started o (Begins e ∷ log) l h =
+    begun_dead e l (view o log) (not_started o log l (subst (λ n. n ≤ l) (begun_same (λ v. v.links.started) e (view o log) refl) h))
+not_started o (Then (Dials p starter n) ∷ log) l h =
+    let other : (l == (view o log).links.started) ≡ false = grind (arith, nat_tests) in
+    let fewer : (view o log).links.started ≤ l = omega (arith, h) in
+    rw other (not_started o log l fewer)
+not_started o (Then a ∷ log) l h =
+    let v = view o log in ap (live_after v.chosen v.addresses v.now v.links.started a l) (not_started o log l h) ∙ stays_dead v a l refl
+
+is_started : (o : Chosen) (log : List Entry) (l : ℕ) (seat : Seat) → (view o log).links.live l ≡ Some seat → nat_lt l (view o log).links.started ≡ true
+is_started o log l seat h = elim (cases_Bool (nat_lt l (view o log).links.started)) [
+  | inl e ↦ e
+  | inr e ↦
+      (let more : (view o log).links.started ≤ l = grind (arith, nat_tests) in
+      let f : None ≡ Some seat = sym (not_started o log l more) ∙ h in
+      absurd cc)
+]
+
+-- THE STOP IS ASKED FOR ALONE
+
+abbrev is_stopping : Act → Bool
+is_stopping (Does who StopAll) = true
+is_stopping (Starts who procedure.Stop) = true
+is_stopping _ = false
+
+abbrev NoStop : Act → Type 0
+NoStop a = is_stopping a ≡ false
+
+quiet_no_stop : (a : Act) → IsQuiet a → NoStop a
+quiet_no_stop (Does who StopAll) h = absurd cc
+quiet_no_stop (Starts who procedure.Stop) h = absurd cc
+quiet_no_stop _ h = refl
+
+served_no_stop : (a : Act) → is_served a ≡ true → NoStop a
+served_no_stop (Does who StopAll) h = absurd cc
+served_no_stop (Starts who procedure.Stop) h = absurd cc
+served_no_stop _ h = refl
+
+goes_no_stop : (who : Who) (w : Ways) (turn : SearchTurn Search (Result Answer Failure)) → Each NoStop (follows who (goes w turn))
+goes_no_stop who w (search_turn.Stays s (wish.Get p)) = (refl, tt)
+goes_no_stop who w (search_turn.Stays s (wish.Ask l request)) = (refl, tt)
+goes_no_stop who w (search_turn.Stays s (wish.Wait delay)) = (refl, tt)
+goes_no_stop who w (search_turn.Gives a) = (refl, tt)
+
+follows_either : (who : Who) (b : Bool) (x y : Turn Plan Verdict) → Each NoStop (follows who x) → Each NoStop (follows who y) → Each NoStop (follows who (cond b x y))
+follows_either who true x y p q = p
+follows_either who false x y p q = q
+
+told_no_stop : (who : Who) (plan : Plan) (u : Outcome) → Each NoStop (follows who (told plan u))
+told_no_stop who Building (outcome.GotLink l) = (refl, tt)
+told_no_stop who Building u = (refl, tt)
+told_no_stop who (Getting request s) (outcome.GotLink l) = (refl, tt)
+told_no_stop who (Getting request s) u = (refl, tt)
+told_no_stop who (Asking w) outcome.Queued = follows_either who (is_answered w.number) (Stays (Awaiting w) Rest) (Gives (verdict Nothing content.Done)) tt (refl, tt)
+told_no_stop who (Asking w) outcome.InLine = follows_either who (is_answered w.number) (Stays (Asking w) Rest) (Gives (verdict Nothing content.Done)) tt (refl, tt)
+told_no_stop who (Asking w) u = (refl, tt)
+told_no_stop who (Awaiting w) (outcome.Replied r) = (refl, tt)
+told_no_stop who (Awaiting w) u = (refl, tt)
+told_no_stop who (Searching w s) outcome.Queued = tt
+told_no_stop who (Searching w s) outcome.InLine = tt
+told_no_stop who (Searching w s) outcome.Cut = (refl, tt)
+told_no_stop who (Searching w s) outcome.Stopped = (refl, tt)
+told_no_stop who (Searching w s) u = goes_no_stop who w (search.told w s (news_in u))
+told_no_stop who Stopping outcome.Stopped = (refl, tt)
+told_no_stop who Stopping u = (refl, tt)
+
+some_no_stop : (who : Who) (row : Option Plan) (u : Outcome) → Each NoStop (follows_some who (told_some row u))
+some_no_stop who None u = tt
+some_no_stop who (Some plan) u = told_no_stop who plan u
+
+-- nothing at all is left but parts
+record IsClear (g : Agenda) : Type 0 where
+  now : g.now ≡ []
+  here : g.here ≡ []
+  behind : g.behind ≡ []
+
+clear_part : (now : List Act) (here : List Notice) (behind : List (List Notice)) (ps : List Part) (p : Part) → is_single p ≡ true → Each NoSingle now →
+    first_of rules now here behind ps ≡ Some (Comes p) → IsClear (rest_of now here behind ps)
+clear_part (a ∷ now) here behind ps p s k h =
+    (let e : a ≡ Comes p = cc in let f : comes_single a ≡ true = ap comes_single e ∙ s in let g : true ≡ false = sym f ∙ k.0 in absurd cc)
+clear_part [] (n ∷ here) behind ps p s k h = absurd cc
+clear_part [] [] (cause ∷ behind) ps p s k h = clear_part [] cause behind ps p s tt h
+clear_part [] [] [] (q ∷ ps) p s k h = record { now = refl; here = refl; behind = refl }
+clear_part [] [] [] [] p s k h = absurd cc
+
+-- one act is all that is left but parts
+record Alone (o : Chosen) (log : List Entry) : Type 0 where
+  act : Act
+  now : (agenda o log).now ≡ act ∷ []
+  here : (agenda o log).here ≡ []
+  behind : (agenda o log).behind ≡ []
+
+clear_one : (now : List Act) (here : List Notice) (behind : List (List Notice)) (ps : List Part) (a : Act) → now ≡ a ∷ [] → here ≡ [] → behind ≡ [] →
+    IsClear (rest_of now here behind ps)
+clear_one (b ∷ now) here behind ps a e h k = record { now = (let f : now ≡ [] = cc in f); here = h; behind = k }
+clear_one [] here behind ps a e h k = absurd cc
+
+alone_rest : (o : Chosen) (log : List Entry) → Alone o log → IsClear (rest (agenda o log))
+alone_rest o log k = clear_one (agenda o log).now (agenda o log).here (agenda o log).behind (agenda o log).parts k.act k.now k.here k.behind
+
+-- an act of which one arises, and no cause, where nothing else is left
+alone_on : (o : Chosen) (log : List Entry) (a b : Act) → IsClear (rest (agenda o log)) → at_once (view o log) a ≡ b ∷ [] → causes (view o log) a ≡ [] → Alone o (Then a ∷ log)
+alone_on o log a b k once none = record {
+  act = b;
+  now = (λ i. once i ++ k.now i);
+  here = k.here;
+  behind = (λ i. k.behind i ++ map (arranged below) (none i));
+}
+
+called_one : (o : Chosen) (c : Tickets) (asked : Asked) → (b : Act) × (called o c asked ≡ b ∷ [])
+called_one o c asked = elim (is_spent c.drawn) as (λ s. (b : Act) × (cond s (Answers (Call c.drawn) (fails Exhausted) ∷ []) (Starts (Call c.drawn) (procedure_for o c asked) ∷ []) ≡ b ∷ [])) [
+  | true ↦ (Answers (Call c.drawn) (fails Exhausted), refl)
+  | false ↦ (Starts (Call c.drawn) (procedure_for o c asked), refl)
+]
+
+module _ (o : Chosen) (log : List Entry) (before : Each NoStop (agenda o log).now ⊎ Alone o log) where
+  left_stops : Each NoStop (rest (agenda o log)).now
+  left_stops = elim before [
+    | inl k ↦ each_rest NoStop (agenda o log).now (agenda o log).here (agenda o log).behind (agenda o log).parts k
+    | inr k ↦ subst (Each NoStop) (sym (alone_rest o log k).now) tt
+  ]
+
+  plain_stops : (a : Act) → Each NoStop (at_once (view o log) a) → Each NoStop (agenda o (Then a ∷ log)).now ⊎ Alone o (Then a ∷ log)
+  plain_stops a k = inl (each_append NoStop (at_once (view o log) a) (rest (agenda o log)).now k left_stops)
+
+  quiet_stops : (a : Act) → Each IsQuiet (at_once (view o log) a) → Each NoStop (agenda o (Then a ∷ log)).now ⊎ Alone o (Then a ∷ log)
+  quiet_stops a k = plain_stops a (each_map IsQuiet NoStop (at_once (view o log) a) quiet_no_stop k)
+
+  -- what is first stops the client only where it is alone
+  stop_alone : (a : Act) → is_stopping a ≡ true → first (agenda o log) ≡ Some a → IsClear (rest (agenda o log))
+  stop_alone a is fits = elim before [
+    | inl k ↦
+        (let no : NoStop a = each_first NoStop (agenda o log).now (agenda o log).here (agenda o log).behind (agenda o log).parts a served_no_stop k fits in
+        let f : true ≡ false = sym is ∙ no in
+        absurd cc)
+    | inr k ↦ alone_rest o log k
+  ]
+
+  stops_on : (a : Act) → first (agenda o log) ≡ Some a → Each NoStop (agenda o (Then a ∷ log)).now ⊎ Alone o (Then a ∷ log)
+  stops_on (Comes (Calls asked)) fits =
+      let k = clear_part (agenda o log).now (agenda o log).here (agenda o log).behind (agenda o log).parts (Calls asked) refl (now_many o log) fits in
+      let one = called_one (view o log).chosen (view o log).calls asked in
+      inr (alone_on o log (Comes (Calls asked)) one.0 k one.1 refl)
+  stops_on (Comes p) fits = quiet_stops (Comes p) (comes_quiet (view o log) p refl)
+  stops_on (Starts who procedure.Stop) fits = inr (alone_on o log (Starts who procedure.Stop) (Does who StopAll) (stop_alone (Starts who procedure.Stop) refl fits) refl refl)
+  stops_on (Starts who (procedure.Build base)) fits = plain_stops (Starts who (procedure.Build base)) (refl, tt)
+  stops_on (Starts who (procedure.Ask (place.At p) request s)) fits = plain_stops (Starts who (procedure.Ask (place.At p) request s)) (refl, tt)
+  stops_on (Starts who (procedure.Ask (place.Link l) request s)) fits = plain_stops (Starts who (procedure.Ask (place.Link l) request s)) (refl, tt)
+  stops_on (Starts who (procedure.Search w what)) fits = plain_stops (Starts who (procedure.Search w what)) (goes_no_stop who w (search.begins w what))
+  stops_on (Starts who (procedure.Refuse r)) fits = plain_stops (Starts who (procedure.Refuse r)) (refl, tt)
+  stops_on (Told n) fits = plain_stops (Told n) (some_no_stop n.who ((view o log).stand n.who) n.outcome)
+  stops_on (Does who action) fits = quiet_stops (Does who action) (performs_quiet (view o log) who action)
+  stops_on a fits = plain_stops a tt
+
+stops_come : (o : Chosen) (log : List Entry) → IsRun o log → Each NoStop (agenda o log).now ⊎ Alone o log
+stops_come o [] run = inl tt
+stops_come o (Begins e ∷ log) run = inl tt
+stops_come o (Then a ∷ log) run = stops_on o log (stops_come o log run.0) a run.1
+
+-- LAST WORDS
+
+abbrev is_last_word : Outcome → Bool
+is_last_word outcome.Cut = true
+is_last_word outcome.Stopped = true
+is_last_word _ = false
+
+abbrev makes_nothing : Makes → Bool
+makes_nothing Nothing = true
+makes_nothing _ = false
+
+abbrev is_refused : Procedure → Bool
+is_refused (procedure.Refuse r) = true
+is_refused _ = false
+
+-- what may be left where the client is stopped
+abbrev is_last : Act → Bool
+is_last (Comes (ToLink l (Ends Stops))) = true
+is_last (Told n) = is_last_word n.outcome
+is_last (Answers who verdict) = makes_nothing verdict.makes
+is_last (Starts who p) = is_refused p
+is_last _ = false
+
+abbrev IsLast : Act → Type 0
+IsLast a = is_last a ≡ true
+
+abbrev IsLastNotice : Notice → Type 0
+IsLastNotice n = is_last_word n.outcome ≡ true
+
+last_told : (who : Who) (plan : Plan) (u : Outcome) → is_last_word u ≡ true → Each IsLast (follows who (told plan u))
+last_told who Building outcome.Cut is = (refl, tt)
+last_told who Building outcome.Stopped is = (refl, tt)
+last_told who (Getting request s) outcome.Cut is = (refl, tt)
+last_told who (Getting request s) outcome.Stopped is = (refl, tt)
+last_told who (Asking w) outcome.Cut is = (refl, tt)
+last_told who (Asking w) outcome.Stopped is = (refl, tt)
+last_told who (Awaiting w) outcome.Cut is = (refl, tt)
+last_told who (Awaiting w) outcome.Stopped is = (refl, tt)
+last_told who (Searching w s) outcome.Cut is = (refl, tt)
+last_told who (Searching w s) outcome.Stopped is = (refl, tt)
+last_told who Stopping outcome.Cut is = (refl, tt)
+last_told who Stopping outcome.Stopped is = (refl, tt)
+last_told who plan u is = absurd cc
+
+last_some : (who : Who) (row : Option Plan) (u : Outcome) → is_last_word u ≡ true → Each IsLast (follows_some who (told_some row u))
+last_some who None u is = tt
+last_some who (Some plan) u is = last_told who plan u is
+
+-- each call is refused
+refused_unless : (who : Who) (b : Bool) (p : Procedure) → b ≡ false → IsLast (Starts who (unless_refused b p))
+refused_unless who b p h = rw h refl
+
+not_open : (c : Tickets) → c.is_stopped ≡ true → is_open c ≡ false
+not_open c h = rw h (elim c.is_built as (λ b. (b && false) ≡ false) [ true ↦ refl | false ↦ refl ])
+
+last_call : (o : Chosen) (c : Tickets) (asked : Asked) (who : Who) → c.is_stopped ≡ true → IsLast (Starts who (procedure_for o c asked))
+last_call o c content.Build who h = refused_unless who (not c.is_stopped) (builds_with o.outbound o.base) (ap not h)
+last_call o c content.Stop who h = refused_unless who (is_open c) procedure.Stop (not_open c h)
+last_call o c (content.Topics namespace mode) who h = refused_unless who (is_open c) (from_base o.base (asks_topics namespace mode)) (not_open c h)
+last_call o c (content.Lookup t) who h = refused_unless who (is_open c) (searches (ways_of o) (sought.Look t)) (not_open c h)
+last_call o c (content.Partitions t) who h = refused_unless who (is_open c) (searches (ways_of o) (sought.CountPartitions t)) (not_open c h)
+last_call o c (content.Brokers t) who h = refused_unless who (is_open c) (searches (ways_of o) (sought.Name t)) (not_open c h)
+last_call o c (content.Raw l request) who h = refused_unless who (is_open c) (procedure.Ask (place.Link l) request says.Bodies) (not_open c h)
+
+last_called : (o : Chosen) (c : Tickets) (asked : Asked) → c.is_stopped ≡ true → Each IsLast (called o c asked)
+last_called o c asked h =
+    each_either IsLast (is_spent c.drawn) (Answers (Call c.drawn) (fails Exhausted) ∷ []) (Starts (Call c.drawn) (procedure_for o c asked) ∷ []) (refl, tt)
+    (last_call o c asked (Call c.drawn) h, tt)
+
+-- whoever asked on a link that the stop ends, or waits for its address
+last_askers : (says : ℕ → Outcome) (askers : ℕ → Option Who) (places : List ℕ) → ((p : ℕ) → is_last_word (says p) ≡ true) →
+    Each IsLastNotice (filter_map (tells_asker says askers) places)
+last_askers says askers [] is = tt
+last_askers says askers (p ∷ ps) is = one (askers p) refl (last_askers says askers ps is)
+  where
+    one : (r : Option Who) → askers p ≡ r → Each IsLastNotice (filter_map (tells_asker says askers) ps) → Each IsLastNotice (filter_map (tells_asker says askers) (p ∷ ps))
+    one None e more = rw e more
+    one (Some w) e more = rw e (is p, more)
+
+last_map : (u : Outcome) (ws : List Who) → is_last_word u ≡ true → Each IsLastNotice (map (λ who. notice who u) ws)
+last_map u [] is = tt
+last_map u (w ∷ ws) is = (is, last_map u ws is)
+
+last_ended : (now : ℕ) (row : Option Seat) → Each IsLastNotice (ended_on Stops now row)
+last_ended now None = tt
+last_ended now (Some seat) =
+    each_append IsLastNotice (filter_map (tells_asker (lost Stops now seat.seen) seat.askers) (ends seat.seen))
+    (filter_map (tells_asker (λ p. dropped Stops) seat.askers) (line_places seat.seen))
+    (last_askers (lost Stops now seat.seen) seat.askers (ends seat.seen) (λ p. refl))
+    (last_askers (λ p. dropped Stops) seat.askers (line_places seat.seen) (λ p. refl))
+
+last_failed : (s : Series) (ws : List Who) → Each IsLastNotice (failed_at Stops s ws)
+last_failed Nobody ws = tt
+last_failed (Runs starter retries l) [] = tt
+last_failed (Runs starter retries l) (w ∷ ws) = (refl, last_failed (Runs starter retries l) ws)
+last_failed (Pauses l) ws = tt
+last_failed (Serves l) ws = tt
+
+last_over : (pause : Option Pause) (b : Base) → Each IsLastNotice (failed_over Stops pause b)
+last_over None b = last_failed b.series b.waiting
+last_over (Some p) b = tt
+
+last_waiters : (v : View) (l : ℕ) (row : Option Seat) → Each IsLastNotice (waiters_of (failed_on Stops) v.addresses (option_map (turned_by v.chosen v.addresses v.now l (Ends Stops)) row))
+last_waiters v l None = tt
+last_waiters v l (Some seat) =
+    let b : Base = v.addresses.base (address_key seat.address) in last_over (pause_of v.chosen Stops seat.address b.series) b
+
+last_caused : (v : View) (l : ℕ) → Each (Each IsLastNotice) (causes v (Comes (ToLink l (Ends Stops))))
+last_caused v l =
+    let row : Option Seat = v.links.live l in
+    let waiters : List Notice = waiters_of (failed_on Stops) v.addresses (option_map (turned_by v.chosen v.addresses v.now l (Ends Stops)) row) in
+    each_opens IsLastNotice (ended_on Stops v.now row ++ waiters)
+    (each_append IsLastNotice (ended_on Stops v.now row) waiters (last_ended v.now row) (last_waiters v l row))
+
+last_at : (known : Addresses) (row : Option Pause) → Each IsLastNotice (stopped_at known row)
+last_at known None = tt
+last_at known (Some p) = last_map outcome.Stopped (known.base (address_key p.address)).waiting refl
+
+last_with : (known : Addresses) (a : Alarm) → Each IsLastNotice (stopped_with known a)
+last_with known (Retry l) = last_at known (known.pause l)
+last_with known (Wake who) = (refl, tt)
+last_with known (KeepAlive l) = tt
+last_with known CheckIdle = tt
+
+-- NO ATTEMPT FOLLOWS A LINK THAT THE STOP ENDS
+
+no_pause : (o : Chosen) (p : Place) (s : Series) → pause_of o Stops p s ≡ None
+no_pause o p Nobody = refl
+no_pause o p (Runs starter retries l) = refl
+no_pause o p (Pauses l) = refl
+no_pause o p (Serves l) = refl
+
+no_pause_on : (v : View) (l k : ℕ) (row : Option Seat) → pause_on (option_map (turned_by v.chosen v.addresses v.now l (Ends Stops)) row) k None ≡ None
+no_pause_on v l k None = refl
+no_pause_on v l k (Some seat) = ap (λ pause. pause_put pause l k None) (no_pause v.chosen seat.address (v.addresses.base (address_key seat.address)).series)
+
+no_alarm_on : (v : View) (l : ℕ) (row : Option Seat) → alarms_on v.chosen v.now (option_map (turned_by v.chosen v.addresses v.now l (Ends Stops)) row) [] ≡ []
+no_alarm_on v l None = refl
+no_alarm_on v l (Some seat) =
+    ap (λ pause. alarms_over v.chosen v.now l pause (clear (KeepAlive l) [])) (no_pause v.chosen seat.address (v.addresses.base (address_key seat.address)).series)
+
+took_stops : (now : ℕ) (row : Option Seat) → took_some (Ends Stops) now row ≡ None
+took_stops now None = refl
+took_stops now (Some seat) = refl
+
+-- no check of idle links begins with a verdict that makes nothing
+none_built : (b : Bool) (m : Makes) → makes_nothing m ≡ true → (b && builds m false) ≡ false
+none_built true Nothing is = refl
+none_built false Nothing is = refl
+none_built b Client is = absurd cc
+none_built b (Consumer l number topic) is = absurd cc
+
+-- WHERE THE CLIENT IS STOPPED
+
+record Over (o : Chosen) (log : List Entry) : Type 0 where
+  now : Each IsLast (agenda o log).now
+  here : Each IsLastNotice (agenda o log).here
+  behind : Each (Each IsLastNotice) (agenda o log).behind
+  pauses : (l : ℕ) → (view o log).addresses.pause l ≡ None
+  alarms : (view o log).alarms ≡ []
+  is_stopped : (view o log).calls.is_stopped ≡ true
+  links : (l : ℕ) → ((view o log).links.live l ≡ None) ⊎ In (Comes (ToLink l (Ends Stops))) (agenda o log).now
+
+-- a part that comes, where nothing else is left at once
+record PartComes (a : Act) (now : List Act) : Type 0 where
+  part : Part
+  is_it : a ≡ Comes part
+  none : now ≡ []
+
+last_first : (now : List Act) (here : List Notice) (behind : List (List Notice)) (ps : List Part) (a : Act) → Each IsLast now → Each IsLastNotice here →
+    Each (Each IsLastNotice) behind → first_of rules now here behind ps ≡ Some a → IsLast a ⊎ PartComes a now
+last_first (b ∷ now) here behind ps a n h c fits = inl (subst IsLast (let e : b ≡ a = cc in e) n.0)
+last_first [] (m ∷ here) behind ps a n h c fits = inl (subst IsLast (let e : Told m ≡ a = cc in e) h.0)
+last_first [] [] (cause ∷ behind) ps a n h c fits = last_first [] cause behind ps a tt c.0 c.1 fits
+last_first [] [] [] (p ∷ ps) a n h c fits = inr (record { part = p; is_it = (let e : a ≡ Comes p = cc in e); none = refl })
+last_first [] [] [] [] a n h c fits = absurd cc
+
+rest_here : (now : List Act) (here : List Notice) (behind : List (List Notice)) (ps : List Part) → Each IsLastNotice here → Each (Each IsLastNotice) behind →
+    Each IsLastNotice (rest_of now here behind ps).here
+rest_here (a ∷ now) here behind ps h c = h
+rest_here [] (m ∷ here) behind ps h c = h.1
+rest_here [] [] (cause ∷ behind) ps h c = rest_here [] cause behind ps c.0 c.1
+rest_here [] [] [] ps h c = tt
+
+rest_behind : (now : List Act) (here : List Notice) (behind : List (List Notice)) (ps : List Part) → Each (Each IsLastNotice) behind →
+    Each (Each IsLastNotice) (rest_of now here behind ps).behind
+rest_behind (a ∷ now) here behind ps c = c
+rest_behind [] (m ∷ here) behind ps c = c
+rest_behind [] [] (cause ∷ behind) ps c = rest_behind [] cause behind ps c.1
+rest_behind [] [] [] ps c = tt
+
+module _ (o : Chosen) (log : List Entry) (k : Over o log) where
+  abbrev v : View
+  v = view o log
+
+  abbrev g : Agenda
+  g = agenda o log
+
+  -- where nothing is left at once no link is left
+  all_dead : g.now ≡ [] → (l : ℕ) → v.links.live l ≡ None
+  all_dead none l = elim (k.links l) [ inl e ↦ e | inr i ↦ absurd (subst (In (Comes (ToLink l (Ends Stops)))) none i) ]
+
+  still_stopped : (a : Act) → (calls_after a v.calls).is_stopped ≡ true
+  still_stopped (Does who StopAll) = refl
+  still_stopped _ = k.is_stopped
+
+  left_of : (a : Act) (l : ℕ) → first g ≡ Some a → In (Comes (ToLink l (Ends Stops))) g.now → (Comes (ToLink l (Ends Stops)) ≡ a) ⊎ In (Comes (ToLink l (Ends Stops))) (rest g).now
+  left_of a l fits i = elim (first_case g.now g.here g.behind g.parts a fits) [
+    | inl e ↦ subst (In (Comes (ToLink l (Ends Stops)))) e i
+    | inr e ↦ absurd (subst (In (Comes (ToLink l (Ends Stops)))) e.0 i)
+  ]
+
+  goes_over : (a : Act) → first g ≡ Some a → is_dial a ≡ false → Each IsLast (at_once v a) → Each (Each IsLastNotice) (causes v a) → ((l : ℕ) → pause_after v a l None ≡ None) →
+      alarms_after v a ≡ [] → ((l : ℕ) → Comes (ToLink l (Ends Stops)) ≡ a → live_after v.chosen v.addresses v.now v.links.started a l (v.links.live l) ≡ None) → Over o (Then a ∷ log)
+  goes_over a fits no_dial once caused pauses alarms own = record {
+    now = each_append IsLast (at_once v a) (rest g).now once (each_rest IsLast g.now g.here g.behind g.parts k.now);
+    here = rest_here g.now g.here g.behind g.parts k.here k.behind;
+    behind =
+        each_append (Each IsLastNotice) (rest g).behind (map (arranged below) (causes v a)) (rest_behind g.now g.here g.behind g.parts k.behind)
+        (each_arranged IsLastNotice (causes v a) caused);
+    pauses = λ l. ap (pause_after v a l) (k.pauses l) ∙ pauses l;
+    alarms = alarms;
+    is_stopped = still_stopped a;
+    links = λ l. elim (k.links l) [
+      | inl e ↦ inl (ap (live_after v.chosen v.addresses v.now v.links.started a l) e ∙ stays_dead v a l no_dial)
+      | inr i ↦ elim (left_of a l fits i) [
+        | inl e ↦ inl (own l e)
+        | inr j ↦ inr (in_right (Comes (ToLink l (Ends Stops))) (at_once v a) (rest g).now j)
+      ]
+    ];
+  }
+
+  last_on : (a : Act) → first g ≡ Some a → IsLast a → Over o (Then a ∷ log)
+  last_on (Comes (ToLink l (Ends Stops))) fits is =
+      goes_over (Comes (ToLink l (Ends Stops))) fits refl tt (last_caused v l) (λ j. no_pause_on v l j (v.links.live l))
+      (ap (alarms_after_end l) k.alarms ∙ no_alarm_on v l (v.links.live l)) own
+    where
+      alarms_after_end : ℕ → List (Alarm × ℕ) → List (Alarm × ℕ)
+      alarms_after_end l alarms = alarms_on v.chosen v.now (option_map (turned_by v.chosen v.addresses v.now l (Ends Stops)) (v.links.live l)) alarms
+
+      own : (j : ℕ) → Comes (ToLink j (Ends Stops)) ≡ Comes (ToLink l (Ends Stops)) →
+          cond (j == l) (took_some (Ends Stops) v.now (v.links.live j)) (v.links.live j) ≡ None
+      own j e = let same : j ≡ l = cc in let d : (j == l) ≡ true = rw same (grind (arith, nat_tests)) in rw d (took_stops v.now (v.links.live j))
+  last_on (Told n) fits is =
+      goes_over (Told n) fits refl (last_some n.who (v.stand n.who) n.outcome is) tt (λ l. refl) k.alarms (λ l e. absurd cc)
+  last_on (Answers who verdict) fits is =
+      goes_over (Answers who verdict) fits refl tt tt (λ l. refl)
+      (ap (λ b. alarms_built v.now b v.alarms) (none_built (not v.calls.is_built) verdict.makes is) ∙ k.alarms) (λ l e. absurd cc)
+  last_on (Starts who (procedure.Refuse r)) fits is = goes_over (Starts who (procedure.Refuse r)) fits refl (refl, tt) tt (λ l. refl) k.alarms (λ l e. absurd cc)
+  last_on a fits is = absurd cc
+
+  -- what comes to a link that has ended
+  module _ (l : ℕ) (dead : v.links.live l ≡ None) where
+    dead_once : (x : LinkAct) → Each IsLast (at_once v (Comes (ToLink l x)))
+    dead_once Reads = rw dead tt
+    dead_once _ = tt
+
+    dead_causes : (x : LinkAct) → Each (Each IsLastNotice) (causes v (Comes (ToLink l x)))
+    dead_causes Opens = tt
+    dead_causes Reads = rw dead tt
+    dead_causes (Drains most) = rw dead tt
+    dead_causes Pings = tt
+    dead_causes (Ends end) = rw dead tt
+
+    dead_pause : (x : LinkAct) (j : ℕ) → pause_after v (Comes (ToLink l x)) j None ≡ None
+    dead_pause x j = rw dead refl
+
+    dead_alarms : (x : LinkAct) → alarms_after v (Comes (ToLink l x)) ≡ []
+    dead_alarms x = rw dead k.alarms
+
+  no_alarm : (a : Alarm) → rings v.now a v.alarms ≡ false
+  no_alarm a = ap (rings v.now a) k.alarms
+
+  rung_pause : (b : Bool) (a : Alarm) (l : ℕ) → pause_rung b a l None ≡ None
+  rung_pause b (Retry j) l = same_either (b && (l == j)) None
+  rung_pause b _ l = refl
+
+  part_on : (p : Part) → first g ≡ Some (Comes p) → g.now ≡ [] → Over o (Then (Comes p) ∷ log)
+  part_on (Calls asked) fits none =
+      goes_over (Comes (Calls asked)) fits refl (last_called v.chosen v.calls asked k.is_stopped) tt (λ l. refl) k.alarms (λ l e. absurd cc)
+  part_on (ToLink l x) fits none =
+      let dead = all_dead none l in
+      goes_over (Comes (ToLink l x)) fits refl (dead_once l dead x) (dead_causes l dead x) (dead_pause l dead x) (dead_alarms l dead x)
+      (λ j e. ap (live_after v.chosen v.addresses v.now v.links.started (Comes (ToLink l x)) j) (all_dead none j) ∙ stays_dead v (Comes (ToLink l x)) j refl)
+  part_on (Rings a) fits none =
+      let e = no_alarm a in
+      goes_over (Comes (Rings a)) fits refl (rw e tt) (rw e tt) (λ l. rung_pause (rings v.now a v.alarms) a l) (rw e k.alarms) (λ l e. absurd cc)
+  part_on (Polls t) fits none = goes_over (Comes (Polls t)) fits refl tt tt (λ l. refl) k.alarms (λ l e. absurd cc)
+
+  over_on : (a : Act) → first g ≡ Some a → Over o (Then a ∷ log)
+  over_on a fits = elim (last_first g.now g.here g.behind g.parts a k.now k.here k.behind fits) [
+    | inl is ↦ last_on a fits is
+    | inr p ↦ subst (λ b. Over o (Then b ∷ log)) (sym p.is_it) (part_on p.part (fits ∙ ap Some p.is_it) p.none)
+  ]
+
+  over_begins : (e : Heard) → first g ≡ None → Over o (Begins e ∷ log)
+  over_begins e rests = record {
+    now = tt;
+    here = tt;
+    behind = tt;
+    pauses = λ l. begun_same (λ u. u.addresses.pause l) e v refl ∙ k.pauses l;
+    alarms = begun_same (λ u. u.alarms) e v refl ∙ k.alarms;
+    is_stopped = begun_same (λ u. u.calls.is_stopped) e v refl ∙ k.is_stopped;
+    links = λ l. inl (begun_dead e l v (all_dead (none_now g.now g.here g.behind g.parts rests) l));
+  }
+
+-- THE STOP
+
+in_over : (ls : Links) (l : ℕ) (seat : Seat) → ls.live l ≡ Some seat → nat_lt l ls.started ≡ true → In (Comes (ToLink l (Ends Stops))) (over_links stop_act ls)
+in_over ls l seat h lt =
+    let own : In (Comes (ToLink l (Ends Stops))) (on_link stop_act ls.live l) = rw h (inl refl) in
+    let below_all : nat_lt l (0 + ls.started) ≡ true = grind (arith, nat_tests) in
+    in_flat (on_link stop_act ls.live) l (Comes (ToLink l (Ends Stops))) (numbers_from 0 ls.started) (in_numbers ls.started 0 l (omega arith) below_all) own
+
+over_starts : (o : Chosen) (log : List Entry) (who : Who) → IsRun o log → first (agenda o log) ≡ Some (Does who StopAll) → Over o (Then (Does who StopAll) ∷ log)
+over_starts o log who run fits =
+    let v = view o log in
+    let clear = stop_alone o log (stops_come o log run) (Does who StopAll) refl fits in
+    let stops : List Act = over_links stop_act v.links in
+    let ends : List Act = stops ++ tells who outcome.Stopped in
+    let told : List Notice = flat_map (λ e. stopped_with v.addresses e.0) v.alarms in
+    record {
+      now =
+          each_append IsLast ends (rest (agenda o log)).now
+          (each_append IsLast stops (tells who outcome.Stopped) (over_each IsLast stop_act v.links (λ l seat. (refl, tt))) (refl, tt))
+          (subst (Each IsLast) (sym clear.now) tt);
+      here = subst (Each IsLastNotice) (sym clear.here) tt;
+      behind =
+          each_append (Each IsLastNotice) (rest (agenda o log)).behind (map (arranged below) (opens told)) (subst (Each (Each IsLastNotice)) (sym clear.behind) tt)
+          (each_arranged IsLastNotice (opens told) (each_opens IsLastNotice told (each_flat IsLastNotice (λ e. stopped_with v.addresses e.0) v.alarms (λ e. last_with v.addresses e.0))));
+      pauses = λ l. refl;
+      alarms = refl;
+      is_stopped = refl;
+      links = λ l. links_of l (v.links.live l) refl;
+    }
+  where
+    links_of : (l : ℕ) (row : Option Seat) → (view o log).links.live l ≡ row →
+        ((view o (Then (Does who StopAll) ∷ log)).links.live l ≡ None) ⊎ In (Comes (ToLink l (Ends Stops))) (agenda o (Then (Does who StopAll) ∷ log)).now
+    links_of l None e = inl e
+    links_of l (Some seat) e =
+        let ls = (view o log).links in
+        inr (in_left (Comes (ToLink l (Ends Stops))) (over_links stop_act ls ++ tells who outcome.Stopped) (rest (agenda o log)).now
+        (in_left (Comes (ToLink l (Ends Stops))) (over_links stop_act ls) (tells who outcome.Stopped) (in_over ls l seat e (is_started o log l seat e))))
+
+over_run : (o : Chosen) (log : List Entry) → IsRun o log → stopped log ≡ true → Over o log
+over_run o [] run h = absurd cc
+over_run o (Begins e ∷ log) run h = over_begins o log (over_run o log run.0 h) e run.1
+over_run o (Then (Does who StopAll) ∷ log) run h = over_starts o log who run.0 run.1
+over_run o (Then a ∷ log) run h = over_on o log (over_run o log run.0 h) a run.1
+
+pub none_after_stop_lem : NoneAfterStop
+none_after_stop_lem o log p starter n run = elim (cases_Bool (stopped log)) [
+  | inl e ↦
+      (let k = over_run o log run.0 e in
+      let g = agenda o log in
+      elim (last_first g.now g.here g.behind g.parts (Dials p starter n) k.now k.here k.behind run.1) [
+        | inl is ↦ (let f : false ≡ true = is in absurd cc)
+        | inr q ↦ (let f : Dials p starter n ≡ Comes q.part = q.is_it in absurd cc)
+      ])
+  | inr e ↦ e
+]

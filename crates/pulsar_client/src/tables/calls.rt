@@ -1,0 +1,328 @@
+//! Calls and their plans.
+
+ghost use Rattle.std.specs.Prelude.{◌≡◌, ◌==◌, ◌++◌, ◌∷◌, ℕ, map, IfOk, None, OnOk, string_bytes, true, if◌then◌else◌};
+ghost use Rattle.pulsar_client.specs.Alarms.{set};
+ghost use Rattle.pulsar_client.specs.Content.{asked, shown};
+ghost use Rattle.pulsar_client.specs.Effects.{effects};
+ghost use Rattle.pulsar_client.specs.Rules.{asks_topics, builds_with, does, follows, from_base, notice, procedure_for, searches, unless_refused};
+ghost use Rattle.pulsar_client.specs.Run.{goes_on};
+ghost use Rattle.pulsar_client.specs.Subscribers.{subscription_at};
+ghost use Rattle.pulsar_client.specs.Tables.{agenda_of, chosen_of, opened_calls, stand_of, view_of};
+ghost use Rattle.pulsar_client.specs.View.{after, builds, later, made, stays, ways_of};
+ghost use Rattle.pulsar_client.specs.Who.{is_same};
+ghost use Rattle.pulsar_client.specs.declared.act.Who.{Who as Meant};
+
+use crate::act::{
+    Act, Action, Alarm, Makes, Notice, Outcome, Part, Place, Procedure, Refusal, Says, Verdict, Who,
+};
+use crate::addresses::Series;
+use crate::agenda::Tasks;
+use crate::consumers::subscriber::Subscriber;
+use crate::consumers::subscribers::Subscribers;
+use crate::content::Asking;
+use crate::effect::Effect;
+use crate::event::Call;
+use crate::plans::plan::{Plan, Turn, begins, failure, told};
+use crate::plans::table::Plans;
+use crate::tables::Tables;
+use crate::tables::alarms::{IDLE_PERIOD, later};
+use pulsar_link::content::Request;
+use pulsar_link::raw_call::RawCall;
+use pulsar_plans::content::{Address, Text as Topic};
+use pulsar_plans::plan::Procedure as Sought;
+use pulsar_wire::commands::topics::Mode;
+use pulsar_wire::error::{ConnectionError, NoMemory};
+use std::alloc::Global;
+
+impl Tables {
+    /// A call is made with the next ticket, unless the tickets are spent.
+    pub(super) fn calls(&mut self, asking: Asking, tasks: &mut Tasks) -> Result<(), NoMemory>
+        ensures left { OnOk result (agenda_of tasks.new ≡ goes_on (view_of self.old) (Act.Comes (Part.Calls asking)) (agenda_of tasks.old)) }
+        ensures sees { OnOk result (view_of self.new ≡ after (Act.Comes (Part.Calls asking)) (view_of self.old)) }
+    {
+        let who = Who::Call(self.tickets);
+        if self.tickets == u64::MAX {
+            let verdict = failure(self.alloc, ConnectionError::Exhausted)?;
+            return tasks.put(Act::Answers { who, verdict });
+        }
+        let procedure = self.procedure_for(asking)?;
+        self.tickets += 1;
+        tasks.put(Act::Starts { who, procedure })
+    }
+
+    /// The procedure of a call.
+    fn procedure_for(&self, asking: Asking) -> Result<Procedure, NoMemory>
+        ensures { IfOk result (λ p. p ≡ procedure_for (view_of self.now).chosen (view_of self.now).calls asking) }
+    {
+        let is_open = self.is_built && !self.is_stopped;
+        match asking.into_inner() {
+            Call::Build => self.builds_if(!self.is_stopped),
+            call => {
+                if !is_open {
+                    return Ok(Procedure::Refuse(Refusal::Shutdown));
+                }
+                self.opened(call)
+            }
+        }
+    }
+
+    /// A Build, unless it is refused.
+    fn builds_if(&self, is_allowed: bool) -> Result<Procedure, NoMemory>
+        ensures { IfOk result (λ p. p ≡ unless_refused is_allowed (builds_with self.now.settings.outbound self.now.settings.base)) }
+    {
+        if !is_allowed {
+            return Ok(Procedure::Refuse(Refusal::Shutdown));
+        }
+        if self.settings.outbound == 0 {
+            return Ok(Procedure::Refuse(Refusal::NoOutbound));
+        }
+        match self.settings.base(self.alloc)? {
+            Some(base) => Ok(Procedure::Build(base)),
+            None => Ok(Procedure::Refuse(Refusal::NoAddress)),
+        }
+    }
+
+    /// The procedure of a call that an open client makes.
+    fn opened(&self, call: Call) -> Result<Procedure, NoMemory>
+        ensures { IfOk result (λ p. p ≡ procedure_for (view_of self.now).chosen opened_calls (asked call)) }
+    {
+        match call {
+            Call::Build => self.builds_if(true),
+            Call::Stop => Ok(Procedure::Stop),
+            Call::Topics { namespace, mode } => self.topics(namespace, mode),
+            Call::Lookup { topic } => self.searches(Sought::Look(Topic::new(topic))),
+            Call::Partitions { topic } => self.searches(Sought::CountPartitions(Topic::new(topic))),
+            Call::Brokers { topic } => self.searches(Sought::Name(Topic::new(topic))),
+            Call::Raw { link, call } => Ok(Procedure::Ask {
+                place: Place::Link(link),
+                request: Request::new(self.alloc, call)?,
+                says: Says::Bodies,
+            }),
+        }
+    }
+
+    /// The topics of a namespace, from the address of the service.
+    fn topics(&self, namespace: String, mode: Mode) -> Result<Procedure, NoMemory>
+        ensures { IfOk result (λ p. p ≡ from_base self.now.settings.base (asks_topics (string_bytes namespace) mode)) }
+    {
+        let Some(base) = self.settings.base(self.alloc)? else {
+            return Ok(Procedure::Refuse(Refusal::NoAddress));
+        };
+        Ok(Procedure::Ask {
+            place: Place::At(base),
+            request: Request::new(
+                self.alloc,
+                RawCall::GetTopicsOfNamespace { namespace, mode },
+            )?,
+            says: Says::Names,
+        })
+    }
+
+    /// A search, from the address of the service.
+    fn searches(&self, what: Sought) -> Result<Procedure, NoMemory>
+        ensures { IfOk result (λ p. p ≡ searches (ways_of (chosen_of self.now.settings)) what) }
+    {
+        match self.settings.ways(self.alloc)? {
+            Some(ways) => Ok(Procedure::Search { ways, what }),
+            None => Ok(Procedure::Refuse(Refusal::NoAddress)),
+        }
+    }
+
+    /// A plan begins.
+    pub(super) fn starts(
+        &mut self,
+        who: Who,
+        procedure: Procedure,
+        tasks: &mut Tasks,
+    ) -> Result<(), NoMemory>
+        ensures left { OnOk result (agenda_of tasks.new ≡ goes_on (view_of self.old) (Act.Starts who procedure) (agenda_of tasks.old)) }
+        ensures sees { OnOk result (view_of self.new ≡ after (Act.Starts who procedure) (view_of self.old)) }
+    {
+        let turn = begins(self.alloc, procedure)?;
+        follow(&mut self.plans, who, turn, tasks)
+    }
+
+    /// A plan is told an outcome, where it stands somewhere.
+    pub(super) fn told(
+        &mut self,
+        who: Who,
+        outcome: Outcome,
+        tasks: &mut Tasks,
+    ) -> Result<(), NoMemory>
+        ensures left { OnOk result (agenda_of tasks.new ≡ goes_on (view_of self.old) (Act.Told (record { who = who; outcome = outcome })) (agenda_of tasks.old)) }
+        ensures sees { OnOk result (view_of self.new ≡ after (Act.Told (record { who = who; outcome = outcome })) (view_of self.old)) }
+    {
+        let Some(plan) = self.plans.remove(who) else {
+            return Ok(());
+        };
+        let turn = told(self.alloc, plan, outcome)?;
+        follow(&mut self.plans, who, turn, tasks)
+    }
+
+    /// A plan does one thing.
+    pub(super) fn does(
+        &mut self,
+        who: Who,
+        action: Action,
+        tasks: &mut Tasks,
+        out: &mut Vec<Effect>,
+    ) -> Result<(), NoMemory>
+        ensures out { OnOk result (map shown out.new.items ≡ map shown out.old.items ++ effects (view_of self.old) (Act.Does who action)) }
+        ensures left { OnOk result (agenda_of tasks.new ≡ goes_on (view_of self.old) (Act.Does who action) (agenda_of tasks.old)) }
+        ensures sees { OnOk result (view_of self.new ≡ after (Act.Does who action) (view_of self.old)) }
+    {
+        match action {
+            Action::Get(address) => self.gets(who, address, tasks),
+            Action::Ask { link, request } => self.asks(who, link, request, tasks, out),
+            Action::Wait(delay) => self.alarms.set(Alarm::Wake(who), later(self.clock, delay)),
+            Action::StopAll => self.stops(who, tasks),
+            Action::Rest => Ok(()),
+        }
+    }
+
+    /// One gets a link of an address: a ready one serves at once, an attempt that runs or is to follow is waited for, else one is
+    /// started.
+    fn gets(&mut self, who: Who, address: Address, tasks: &mut Tasks) -> Result<(), NoMemory>
+        ensures left { OnOk result (agenda_of tasks.new ≡ goes_on (view_of self.old) (Act.Does who (Action.Get address)) (agenda_of tasks.old)) }
+        ensures sees { OnOk result (view_of self.new ≡ after (Act.Does who (Action.Get address)) (view_of self.old)) }
+    {
+        if !address.is_reachable() {
+            return tell(who, Outcome::NotFound, tasks);
+        }
+        match self.addresses.series(&address)? {
+            Series::Nobody => {
+                self.addresses.wait(&address, who)?;
+                tasks.put(Act::Dials {
+                    address,
+                    starter: who,
+                    retries: 0,
+                })
+            }
+            Series::Runs { .. } | Series::Pauses { .. } => {
+                self.addresses.wait(&address, who)?;
+                Ok(())
+            }
+            Series::Serves { link } => {
+                self.links.got(self.clock, link)?;
+                tell(who, Outcome::GotLink(link), tasks)
+            }
+        }
+    }
+
+    /// A request is asked for on a link.
+    fn asks(
+        &mut self,
+        who: Who,
+        link: u64,
+        request: Request,
+        tasks: &mut Tasks,
+        out: &mut Vec<Effect>,
+    ) -> Result<(), NoMemory>
+        ensures out { OnOk result (map shown out.new.items ≡ map shown out.old.items ++ effects (view_of self.old) (Act.Does who (Action.Ask link request))) }
+        ensures left { OnOk result (agenda_of tasks.new ≡ goes_on (view_of self.old) (Act.Does who (Action.Ask link request)) (agenda_of tasks.old)) }
+        ensures sees { OnOk result (view_of self.new ≡ after (Act.Does who (Action.Ask link request)) (view_of self.old)) }
+    {
+        let closed = request.closed_consumer();
+        let (is_asked, outcome) = self.links.ask(self.clock, who, link, request, out)?;
+        self.subscribers.close_asked(link, closed, is_asked)?;
+        tell(who, outcome, tasks)
+    }
+
+    /// A plan ends.
+    pub(super) fn answers(
+        &mut self,
+        who: Who,
+        verdict: Verdict,
+        out: &mut Vec<Effect>,
+    ) -> Result<(), NoMemory>
+        ensures out { OnOk result (map shown out.new.items ≡ map shown out.old.items ++ effects (view_of self.old) (Act.Answers who verdict)) }
+        ensures sees { OnOk result (view_of self.new ≡ after (Act.Answers who verdict) (view_of self.old)) }
+    {
+        let Verdict { makes, said } = verdict;
+        if builds(&makes, false) && !self.is_built {
+            self.alarms
+                .set(Alarm::CheckIdle, later(self.clock, IDLE_PERIOD))?;
+        }
+        self.is_built = builds(&makes, self.is_built);
+        make(&mut self.subscribers, self.alloc, who, makes)?;
+        match who {
+            Who::Call(ticket) => out.push(Effect::Ended {
+                ticket,
+                answer: said.into_inner(),
+            })?,
+        }
+        Ok(())
+    }
+}
+
+pub(super) fn tell(who: Who, outcome: Outcome, tasks: &mut Tasks) -> Result<(), NoMemory>
+    ensures { OnOk result (agenda_of tasks.new ≡ record (agenda_of tasks.old) { now = Act.Told (notice who outcome) ∷ tasks.old.now.items }) }
+{
+    tasks.put(Act::Told(Notice { who, outcome }))
+}
+
+/// A plan does what is next, or ends.
+fn follow(
+    plans: &mut Plans,
+    who: Who,
+    turn: Turn<Plan, Verdict>,
+    tasks: &mut Tasks,
+) -> Result<(), NoMemory>
+    ensures left { OnOk result (agenda_of tasks.new ≡ record (agenda_of tasks.old) { now = follows who turn ++ tasks.old.now.items }) }
+    ensures stand { OnOk result ((w : Meant) → stand_of plans.new w ≡ (if is_same w who then stays turn else stand_of plans.old w)) }
+{
+    match turn {
+        Turn::Stays(plan, action) => {
+            plans.set(who, Some(plan))?;
+            does(who, action, tasks)
+        }
+        Turn::Gives(verdict) => {
+            plans.set(who, None)?;
+            tasks.put(Act::Answers { who, verdict })
+        }
+    }
+}
+
+/// A plan does this next, unless it rests.
+fn does(who: Who, action: Action, tasks: &mut Tasks) -> Result<(), NoMemory>
+    ensures { OnOk result (agenda_of tasks.new ≡ record (agenda_of tasks.old) { now = does who action ++ tasks.old.now.items }) }
+{
+    match action {
+        Action::Rest => Ok(()),
+        action => tasks.put(Act::Does { who, action }),
+    }
+}
+
+/// The client is built where a verdict makes it.
+fn builds(makes: &Makes, is_built: bool) -> bool
+    ensures { result ≡ builds makes.now is_built }
+{
+    match makes {
+        Makes::Client => true,
+        Makes::Nothing | Makes::Consumer { .. } => is_built,
+    }
+}
+
+/// The consumer that a verdict makes has the ticket of its call.
+fn make(
+    subscribers: &mut Subscribers,
+    alloc: Global,
+    who: Who,
+    makes: Makes,
+) -> Result<(), NoMemory>
+    ensures { OnOk result ((t : ℕ) → subscription_at subscribers.new t ≡ made who makes t (subscription_at subscribers.old t)) }
+{
+    match makes {
+        Makes::Nothing | Makes::Client => Ok(()),
+        Makes::Consumer {
+            link,
+            number,
+            topic,
+        } => match who {
+            Who::Call(ticket) => {
+                let subscriber = Subscriber::new(alloc, link, number, topic);
+                subscribers.join(alloc, ticket, subscriber)
+            }
+        },
+    }
+}

@@ -1,0 +1,210 @@
+//! The tables of a client, and one step of them.
+
+ghost use Rattle.std.specs.Prelude.{◌≡◌, ◌++◌, ◌∷◌, [], List, map, IfOk, None, OnOk, true};
+ghost use Rattle.pulsar_run.specs.Order.{arranged};
+ghost use Rattle.pulsar_client.specs.Content.{Heard, heard, shown};
+ghost use Rattle.pulsar_client.specs.Effects.{effect_below, effects};
+ghost use Rattle.pulsar_client.specs.Kept.{AreTicketed};
+ghost use Rattle.pulsar_client.specs.Rules.{parts};
+ghost use Rattle.pulsar_client.specs.Run.{Step, goes_on};
+ghost use Rattle.pulsar_client.specs.Subscribers.{subscription_at};
+ghost use Rattle.pulsar_client.specs.Tables.{InStep, Stands, agenda_of, chosen_of, step, view_of};
+ghost use Rattle.pulsar_client.specs.View.{Chosen, after, begun, is_live};
+
+mod alarms;
+mod calls;
+mod links;
+
+use crate::act::{Act, Alarm, End, LinkAct, Notice, Part};
+use crate::addresses::Addresses;
+use crate::agenda::Tasks;
+use crate::alarms::Alarms;
+use crate::consumers::subscribers::Subscribers;
+use crate::content::Asking;
+use crate::effect::Effect;
+use crate::event::{Call, Event};
+use crate::links::Links;
+use crate::order::arrange;
+use crate::plans::table::Plans;
+use crate::settings::Settings;
+use pulsar_session::states::Stage;
+use pulsar_wire::error::NoMemory;
+use std::alloc::Global;
+use std::collections::VecDeque;
+
+/// The tables of a client.
+#[derive(Drop)]
+pub struct Tables {
+    pub alloc: Global,
+    pub settings: Settings,
+    /// The clock, in milliseconds since 1970.
+    pub clock: u64,
+    /// A Build call has ended Ok.
+    pub is_built: bool,
+    /// A Stop call has ended every link.
+    pub is_stopped: bool,
+    /// How many tickets were drawn.
+    pub tickets: u64,
+    pub plans: Plans,
+    pub links: Links,
+    pub addresses: Addresses,
+    pub alarms: Alarms,
+    pub subscribers: Subscribers,
+}
+
+impl Tables {
+    pub fn new(alloc: Global, settings: Settings) -> Tables
+        ensures { Stands (chosen_of settings) result [] }
+    {
+        let clock = settings.start;
+        Tables {
+            alloc,
+            settings,
+            clock,
+            is_built: false,
+            is_stopped: false,
+            tickets: 0,
+            plans: Plans::new(alloc),
+            links: Links::new(alloc),
+            addresses: Addresses::new(alloc),
+            alarms: Alarms::new(alloc),
+            subscribers: Subscribers::new(alloc),
+        }
+    }
+
+    /// An event names a live link, in a state that the link is in, a consumer, or a moment that is not before the clock; a
+    /// call always does.
+    pub fn is_live(&self, event: &Event) -> bool
+        ensures { result ≡ is_live (view_of self.now) (heard event.now) }
+    {
+        match event {
+            Event::Call(_) => true,
+            Event::Opened(link) | Event::Failed(link, _) => {
+                matches!(self.links.stage(*link), Some(Stage::Dialing))
+            }
+            Event::Bytes(link, _) | Event::Lost(link) | Event::Drain(link, _) => {
+                matches!(
+                    self.links.stage(*link),
+                    Some(Stage::Handshaking | Stage::Ready)
+                )
+            }
+            Event::Tick(now) => self.clock <= *now,
+            Event::Poll(ticket) => self.subscribers.has(*ticket),
+        }
+    }
+
+    /// One live event, with all that arises from it.
+    pub fn step(&mut self, event: Event) -> Result<Vec<Effect>, NoMemory>
+        requires { is_live (view_of self.old) (heard event) ≡ true }
+        ensures { IfOk result (λ out. (o : Chosen) (h : List Step) → Stands o self.old h → Stands o self.new (step event out.items ∷ h)) }
+    {
+        let mut out = Vec::new(self.alloc);
+        let parts = self.begins(event)?;
+        let mut tasks = Tasks::new(self.alloc, parts);
+        self.work(&mut tasks, &mut out)?;
+        arrange(&mut out)?;
+        Ok(out)
+    }
+
+    /// A live event begins: what it brings.
+    fn begins(&mut self, event: Event) -> Result<VecDeque<Part>, NoMemory>
+        requires { is_live (view_of self.old) (heard event) ≡ true }
+        ensures parts { IfOk result (λ ps. ps.items ≡ parts (view_of self.old) (heard event)) }
+        ensures sees { OnOk result (view_of self.new ≡ begun (heard event) (view_of self.old)) }
+    {
+        match event {
+            Event::Call(call) => one(self.alloc, Part::Calls(Asking::new(self.alloc, call)?)),
+            Event::Opened(link) => to_link(self.alloc, link, LinkAct::Opens),
+            Event::Failed(link, kind) => ends(self.alloc, link, End::Unopened(kind)),
+            Event::Bytes(link, piece) => {
+                self.links.feed(link, &piece)?;
+                to_link(self.alloc, link, LinkAct::Reads)
+            }
+            Event::Lost(link) => ends(self.alloc, link, End::Lost),
+            Event::Drain(link, most) => to_link(self.alloc, link, LinkAct::Drains(most)),
+            Event::Tick(now) => {
+                self.clock = now;
+                let parts = self.links.due_parts(now)?;
+                with_alarms(parts, self.alarms.ringing(now)?)
+            }
+            Event::Poll(ticket) => one(self.alloc, Part::Polls(ticket)),
+        }
+    }
+
+    /// Does all that is left to do, and all that arises from it.
+    fn work(&mut self, tasks: &mut Tasks, out: &mut Vec<Effect>) -> Result<(), NoMemory>
+        ensures { OnOk result ((o : Chosen) (e : Heard) (h : List Step) → InStep o self.old (agenda_of tasks.old) e (map shown out.old.items) h → Stands o self.new (record { event = e; effects = arranged effect_below (map shown out.new.items) } ∷ h)) }
+    {
+        for _ in 0..u64::MAX {
+            match tasks.next() {
+                None => return Ok(()),
+                Some(act) => self.treat(act, tasks, out)?,
+            }
+        }
+        Err(NoMemory)
+    }
+
+    /// One act: its effects, what arises from it, and the tables after it.
+    fn treat(&mut self, act: Act, tasks: &mut Tasks, out: &mut Vec<Effect>) -> Result<(), NoMemory>
+        ensures out { OnOk result (map shown out.new.items ≡ map shown out.old.items ++ effects (view_of self.old) act) }
+        ensures left { OnOk result (AreTicketed self.old.tickets (subscription_at self.old.subscribers) → agenda_of tasks.new ≡ goes_on (view_of self.old) act (agenda_of tasks.old)) }
+        ensures sees { OnOk result (view_of self.new ≡ after act (view_of self.old)) }
+    {
+        match act {
+            Act::Comes(Part::Calls(asking)) => self.calls(asking, tasks),
+            Act::Comes(Part::ToLink { link, act }) => self.to_link(link, act, tasks, out),
+            Act::Comes(Part::Rings(alarm)) => self.rings(alarm, tasks),
+            Act::Comes(Part::Polls(ticket)) => self.polls(ticket, out),
+            Act::Starts { who, procedure } => self.starts(who, procedure, tasks),
+            Act::Told(Notice { who, outcome }) => self.told(who, outcome, tasks),
+            Act::Does { who, action } => self.does(who, action, tasks, out),
+            Act::Answers { who, verdict } => self.answers(who, verdict, out),
+            Act::Dials {
+                address,
+                starter,
+                retries,
+            } => self.dials(address, starter, retries, out),
+        }
+    }
+
+    /// A consumer is polled.
+    fn polls(&mut self, ticket: u64, out: &mut Vec<Effect>) -> Result<(), NoMemory>
+        ensures out { OnOk result (map shown out.new.items ≡ map shown out.old.items ++ effects (view_of self.old) (Act.Comes (Part.Polls ticket))) }
+        ensures sees { OnOk result (view_of self.new ≡ after (Act.Comes (Part.Polls ticket)) (view_of self.old)) }
+    {
+        if let Some(effect) = self.subscribers.poll(ticket)? {
+            out.push(effect)?;
+        }
+        Ok(())
+    }
+}
+
+/// The alarms that ring come behind the links that are due.
+fn with_alarms(mut parts: VecDeque<Part>, alarms: Vec<Alarm>) -> Result<VecDeque<Part>, NoMemory>
+    ensures { IfOk result (λ ps. ps.items ≡ parts.items ++ map Part.Rings alarms.items) }
+{
+    for alarm in alarms {
+        parts.push_back(Part::Rings(alarm))?;
+    }
+    Ok(parts)
+}
+
+fn one(alloc: Global, part: Part) -> Result<VecDeque<Part>, NoMemory>
+    ensures { IfOk result (λ ps. ps.items ≡ part ∷ []) }
+{
+    let mut parts = VecDeque::new(alloc);
+    parts.push_back(part)?;
+    Ok(parts)
+}
+
+fn to_link(alloc: Global, link: u64, act: LinkAct) -> Result<VecDeque<Part>, NoMemory>
+    ensures { IfOk result (λ ps. ps.items ≡ Part.ToLink link act ∷ []) }
+{
+    one(alloc, Part::ToLink { link, act })
+}
+
+fn ends(alloc: Global, link: u64, end: End) -> Result<VecDeque<Part>, NoMemory>
+    ensures { IfOk result (λ ps. ps.items ≡ Part.ToLink link (LinkAct.Ends end) ∷ []) }
+{
+    to_link(alloc, link, LinkAct::Ends(end))
+}

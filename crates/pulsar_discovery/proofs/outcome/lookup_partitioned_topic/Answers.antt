@@ -1,0 +1,10 @@
+use Rattle.std.proofs.Common.{◌≡◌, subst}
+use Rattle.pulsar_messages.specs.Words.{LookupPartitionedTopic}
+use Rattle.pulsar_frame.specs.Shown.{message_values}
+use Rattle.pulsar_session.specs.Link as link
+use Rattle.pulsar_discovery.proofs.outcome.lookup_partitioned_topic.Goals as goal
+
+pub returns : goal.returns
+returns c =
+    subst (λ t. message_values c.in_ok-message.message ≡ link.message_of 0 0 (LookupPartitionedTopic t)) c.as_str.ensures.value
+    (c.in_ok-message.ensures 0)

@@ -14,7 +14,7 @@ use Rattle.pulsar_plans.specs.declared.turn.Turn.{Turn}
 use Rattle.pulsar_plans.specs.declared.turn.Turn.TheVariants as turn
 use Rattle.pulsar_plans.specs.declared.turn.Ways.{Ways}
 use Rattle.pulsar_producer.specs.Errors.{in_producer}
-use Rattle.pulsar_producer.specs.Plans.{Sent, fault_told, not_drawn, not_queued, receipt, send_asks, send_ends, send_looks, send_makes, send_of, send_recalls, send_told}
+use Rattle.pulsar_producer.specs.Plans.{Sent, fault_told, in_asked, in_drawing, in_looking, in_making, in_recalling, in_remaking, in_sent, in_waiting, not_drawn, not_queued, receipt, send_asks, send_ends, send_looks, send_makes, send_of, send_recalls, send_told}
 use Rattle.pulsar_producer.specs.Laws.{EachFrameHasItsNumber, QueuedIsNotAskedAgain, deeds_in, deeds_of, is_send, state_after, state_in}
 use Rattle.pulsar_producer.specs.declared.deed.Deed.TheVariants.{Sends}
 use Rattle.pulsar_producer.specs.declared.deed.Drawn.{Drawn}
@@ -26,9 +26,6 @@ use Rattle.pulsar_producer.specs.declared.sending.Sending.{Sending}
 use Rattle.pulsar_producer.specs.declared.sending.Sending.TheVariants as send
 
 -- WHAT ASKS FOR NO FRAME
-
-AsksNone : Sent → Type 0
-AsksNone step = (link : ℕ) (s : Send) → deeds_in step ≡ Sends link s ∷ [] → ⊥
 
 not_drawn_by : (e : Errand) (m : ProducerMessageValues) (f : Fault) (b : Bool) (link : ℕ) (s : Send)
     → deeds_in (cond b (send_recalls e m) (send_ends e (in_producer f))) ≡ Sends link s ∷ [] → ⊥
@@ -62,79 +59,98 @@ frame_of : (e : Errand) (d : Drawn) (m : ProducerMessageValues) (link : ℕ) (s 
     → (d' : Drawn) × (m' : ProducerMessageValues) × (Drew d ≡ Drew d') × (send.Drawing m ≡ send.Drawing m') × (link ≡ d'.link) × (s ≡ send_of e d' m')
 frame_of e d m link s is = (d, m, refl, refl, cc, cc)
 
+in_waiting_none : (e : Errand) (m : ProducerMessageValues) (n : News) (link : ℕ) (s : Send) → deeds_in (in_waiting e m n) ≡ Sends link s ∷ [] → ⊥
+in_waiting_none e m (Told o) link s is = cc
+in_waiting_none e m Queued link s is = cc
+in_waiting_none e m InLine link s is = cc
+in_waiting_none e m (HasTurn version) link s is = cc
+in_waiting_none e m (Drew d) link s is = cc
+in_waiting_none e m (Recalled again) link s is = cc
+in_waiting_none e m (Numbered number) link s is = cc
+in_waiting_none e m Done link s is = cc
+
+in_asked_none : (e : Errand) (kept : Option ProducerMessageValues) (n : News) (link : ℕ) (s : Send) → deeds_in (in_asked e kept n) ≡ Sends link s ∷ [] → ⊥
+in_asked_none e kept (Told o) link s is = not_queued_none e kept (fault_told (Told o)) link s is
+in_asked_none e kept Queued link s is = cc
+in_asked_none e kept InLine link s is = cc
+in_asked_none e kept (HasTurn version) link s is = not_queued_none e kept (fault_told (HasTurn version)) link s is
+in_asked_none e kept (Drew d) link s is = not_queued_none e kept (fault_told (Drew d)) link s is
+in_asked_none e kept (Recalled again) link s is = not_queued_none e kept (fault_told (Recalled again)) link s is
+in_asked_none e kept (Numbered number) link s is = not_queued_none e kept (fault_told (Numbered number)) link s is
+in_asked_none e kept Done link s is = not_queued_none e kept (fault_told Done) link s is
+
+in_sent_none : (n : News) (link : ℕ) (s : Send) → deeds_in (in_sent n) ≡ Sends link s ∷ [] → ⊥
+in_sent_none (Told o) link s is = receipt_none (verdict 7 o) link s is
+in_sent_none Queued link s is = cc
+in_sent_none InLine link s is = cc
+in_sent_none (HasTurn version) link s is = cc
+in_sent_none (Drew d) link s is = cc
+in_sent_none (Recalled again) link s is = cc
+in_sent_none (Numbered number) link s is = cc
+in_sent_none Done link s is = cc
+
+in_recalling_none : (w : Ways) (e : Errand) (m : ProducerMessageValues) (n : News) (link : ℕ) (s : Send) → deeds_in (in_recalling w e m n) ≡ Sends link s ∷ [] → ⊥
+in_recalling_none w e m (Told o) link s is = cc
+in_recalling_none w e m Queued link s is = cc
+in_recalling_none w e m InLine link s is = cc
+in_recalling_none w e m (HasTurn version) link s is = cc
+in_recalling_none w e m (Drew d) link s is = cc
+in_recalling_none w e m (Recalled again) link s is = looks_none e m again (look_begins w) link s is
+in_recalling_none w e m (Numbered number) link s is = cc
+in_recalling_none w e m Done link s is = cc
+
+in_looking_none : (w : Ways) (e : Errand) (m : ProducerMessageValues) (c : Command) (l : Looking) (n : News) (link : ℕ) (s : Send) → deeds_in (in_looking w e m c l n) ≡ Sends link s ∷ [] → ⊥
+in_looking_none w e m c l (Told o) link s is = looks_none e m c (look_told w c.topic l o) link s is
+in_looking_none w e m c l Queued link s is = cc
+in_looking_none w e m c l InLine link s is = cc
+in_looking_none w e m c l (HasTurn version) link s is = cc
+in_looking_none w e m c l (Drew d) link s is = cc
+in_looking_none w e m c l (Recalled again) link s is = cc
+in_looking_none w e m c l (Numbered number) link s is = cc
+in_looking_none w e m c l Done link s is = cc
+
+in_making_none : (w : Ways) (e : Errand) (m : ProducerMessageValues) (c : Command) (k : Making) (n : News) (link : ℕ) (s : Send) → deeds_in (in_making w e m c k n) ≡ Sends link s ∷ [] → ⊥
+in_making_none w e m c k (Told o) link s is = makes_none e m c (made_told w c k o) link s is
+in_making_none w e m c k Queued link s is = cc
+in_making_none w e m c k InLine link s is = cc
+in_making_none w e m c k (HasTurn version) link s is = cc
+in_making_none w e m c k (Drew d) link s is = cc
+in_making_none w e m c k (Recalled again) link s is = cc
+in_making_none w e m c k (Numbered number) link s is = cc
+in_making_none w e m c k Done link s is = cc
+
+in_remaking_none : (e : Errand) (m : ProducerMessageValues) (n : News) (link : ℕ) (s : Send) → deeds_in (in_remaking e m n) ≡ Sends link s ∷ [] → ⊥
+in_remaking_none e m (Told o) link s is = cc
+in_remaking_none e m Queued link s is = cc
+in_remaking_none e m InLine link s is = cc
+in_remaking_none e m (HasTurn version) link s is = cc
+in_remaking_none e m (Drew d) link s is = cc
+in_remaking_none e m (Recalled again) link s is = cc
+in_remaking_none e m (Numbered number) link s is = cc
+in_remaking_none e m Done link s is = cc
+
+-- only one that draws, and drew
+in_drawing_frame : (w : Ways) (e : Errand) (m : ProducerMessageValues) (n : News) (link : ℕ) (s : Send) → deeds_in (in_drawing e m n) ≡ Sends link s ∷ []
+    → (d : Drawn) × (m' : ProducerMessageValues) × (n ≡ Drew d) × (send.Drawing m ≡ send.Drawing m') × (link ≡ d.link) × (s ≡ send_of e d m')
+in_drawing_frame w e m (Told o) link s is = absurd (not_drawn_none e m (fault_told (Told o)) link s is)
+in_drawing_frame w e m Queued link s is = absurd (not_drawn_none e m (fault_told Queued) link s is)
+in_drawing_frame w e m InLine link s is = absurd (not_drawn_none e m (fault_told InLine) link s is)
+in_drawing_frame w e m (HasTurn version) link s is = absurd (not_drawn_none e m (fault_told (HasTurn version)) link s is)
+in_drawing_frame w e m (Drew d) link s is = frame_of e d m link s is
+in_drawing_frame w e m (Recalled again) link s is = absurd (not_drawn_none e m (fault_told (Recalled again)) link s is)
+in_drawing_frame w e m (Numbered number) link s is = absurd (not_drawn_none e m (fault_told (Numbered number)) link s is)
+in_drawing_frame w e m Done link s is = absurd (not_drawn_none e m (fault_told Done) link s is)
+
 each_frame : EachFrameHasItsNumber
-each_frame w e (send.Waiting m) (Told o) link send is = absurd cc
-each_frame w e (send.Waiting m) Queued link send is = absurd cc
-each_frame w e (send.Waiting m) InLine link send is = absurd cc
-each_frame w e (send.Waiting m) (HasTurn version) link send is = absurd cc
-each_frame w e (send.Waiting m) (Drew d) link send is = absurd cc
-each_frame w e (send.Waiting m) (Recalled again) link send is = absurd cc
-each_frame w e (send.Waiting m) (Numbered number) link send is = absurd cc
-each_frame w e (send.Waiting m) Done link send is = absurd cc
-each_frame w e (send.Drawing m) (Told o) link send is = absurd (not_drawn_none e m (fault_told (Told o)) link send is)
-each_frame w e (send.Drawing m) Queued link send is = absurd (not_drawn_none e m (fault_told Queued) link send is)
-each_frame w e (send.Drawing m) InLine link send is = absurd (not_drawn_none e m (fault_told InLine) link send is)
-each_frame w e (send.Drawing m) (HasTurn version) link send is = absurd (not_drawn_none e m (fault_told (HasTurn version)) link send is)
-each_frame w e (send.Drawing m) (Drew d) link send is = frame_of e d m link send is
-each_frame w e (send.Drawing m) (Recalled again) link send is = absurd (not_drawn_none e m (fault_told (Recalled again)) link send is)
-each_frame w e (send.Drawing m) (Numbered number) link send is = absurd (not_drawn_none e m (fault_told (Numbered number)) link send is)
-each_frame w e (send.Drawing m) Done link send is = absurd (not_drawn_none e m (fault_told Done) link send is)
-each_frame w e (send.Asked kept) (Told o) link send is = absurd (not_queued_none e kept (fault_told (Told o)) link send is)
-each_frame w e (send.Asked kept) Queued link send is = absurd cc
-each_frame w e (send.Asked kept) InLine link send is = absurd cc
-each_frame w e (send.Asked kept) (HasTurn version) link send is = absurd (not_queued_none e kept (fault_told (HasTurn version)) link send is)
-each_frame w e (send.Asked kept) (Drew d) link send is = absurd (not_queued_none e kept (fault_told (Drew d)) link send is)
-each_frame w e (send.Asked kept) (Recalled again) link send is = absurd (not_queued_none e kept (fault_told (Recalled again)) link send is)
-each_frame w e (send.Asked kept) (Numbered number) link send is = absurd (not_queued_none e kept (fault_told (Numbered number)) link send is)
-each_frame w e (send.Asked kept) Done link send is = absurd (not_queued_none e kept (fault_told Done) link send is)
-each_frame w e send.Sent (Told o) link send is = absurd (receipt_none (verdict 7 o) link send is)
-each_frame w e send.Sent Queued link send is = absurd cc
-each_frame w e send.Sent InLine link send is = absurd cc
-each_frame w e send.Sent (HasTurn version) link send is = absurd cc
-each_frame w e send.Sent (Drew d) link send is = absurd cc
-each_frame w e send.Sent (Recalled again) link send is = absurd cc
-each_frame w e send.Sent (Numbered number) link send is = absurd cc
-each_frame w e send.Sent Done link send is = absurd cc
-each_frame w e (send.Recalling m) (Told o) link send is = absurd cc
-each_frame w e (send.Recalling m) Queued link send is = absurd cc
-each_frame w e (send.Recalling m) InLine link send is = absurd cc
-each_frame w e (send.Recalling m) (HasTurn version) link send is = absurd cc
-each_frame w e (send.Recalling m) (Drew d) link send is = absurd cc
-each_frame w e (send.Recalling m) (Recalled again) link send is = absurd (looks_none e m again (look_begins w) link send is)
-each_frame w e (send.Recalling m) (Numbered number) link send is = absurd cc
-each_frame w e (send.Recalling m) Done link send is = absurd cc
-each_frame w e (send.Looking m c l) (Told o) link send is = absurd (looks_none e m c (look_told w c.topic l o) link send is)
-each_frame w e (send.Looking m c l) Queued link send is = absurd cc
-each_frame w e (send.Looking m c l) InLine link send is = absurd cc
-each_frame w e (send.Looking m c l) (HasTurn version) link send is = absurd cc
-each_frame w e (send.Looking m c l) (Drew d) link send is = absurd cc
-each_frame w e (send.Looking m c l) (Recalled again) link send is = absurd cc
-each_frame w e (send.Looking m c l) (Numbered number) link send is = absurd cc
-each_frame w e (send.Looking m c l) Done link send is = absurd cc
-each_frame w e (send.Making m c k) (Told o) link send is = absurd (makes_none e m c (made_told w c k o) link send is)
-each_frame w e (send.Making m c k) Queued link send is = absurd cc
-each_frame w e (send.Making m c k) InLine link send is = absurd cc
-each_frame w e (send.Making m c k) (HasTurn version) link send is = absurd cc
-each_frame w e (send.Making m c k) (Drew d) link send is = absurd cc
-each_frame w e (send.Making m c k) (Recalled again) link send is = absurd cc
-each_frame w e (send.Making m c k) (Numbered number) link send is = absurd cc
-each_frame w e (send.Making m c k) Done link send is = absurd cc
-each_frame w e (send.Remaking m) (Told o) link send is = absurd cc
-each_frame w e (send.Remaking m) Queued link send is = absurd cc
-each_frame w e (send.Remaking m) InLine link send is = absurd cc
-each_frame w e (send.Remaking m) (HasTurn version) link send is = absurd cc
-each_frame w e (send.Remaking m) (Drew d) link send is = absurd cc
-each_frame w e (send.Remaking m) (Recalled again) link send is = absurd cc
-each_frame w e (send.Remaking m) (Numbered number) link send is = absurd cc
-each_frame w e (send.Remaking m) Done link send is = absurd cc
-each_frame w e (send.Ending f) (Told o) link send is = absurd cc
-each_frame w e (send.Ending f) Queued link send is = absurd cc
-each_frame w e (send.Ending f) InLine link send is = absurd cc
-each_frame w e (send.Ending f) (HasTurn version) link send is = absurd cc
-each_frame w e (send.Ending f) (Drew d) link send is = absurd cc
-each_frame w e (send.Ending f) (Recalled again) link send is = absurd cc
-each_frame w e (send.Ending f) (Numbered number) link send is = absurd cc
-each_frame w e (send.Ending f) Done link send is = absurd cc
+each_frame w e (send.Waiting m) n link s is = absurd (in_waiting_none e m n link s is)
+each_frame w e (send.Drawing m) n link s is = in_drawing_frame w e m n link s is
+each_frame w e (send.Asked kept) n link s is = absurd (in_asked_none e kept n link s is)
+each_frame w e send.Sent n link s is = absurd (in_sent_none n link s is)
+each_frame w e (send.Recalling m) n link s is = absurd (in_recalling_none w e m n link s is)
+each_frame w e (send.Looking m c l) n link s is = absurd (in_looking_none w e m c l n link s is)
+each_frame w e (send.Making m c k) n link s is = absurd (in_making_none w e m c k n link s is)
+each_frame w e (send.Remaking m) n link s is = absurd (in_remaking_none e m n link s is)
+each_frame w e (send.Ending f) n link s is = absurd cc
 
 pub each_frame_has_its_number : EachFrameHasItsNumber
 each_frame_has_its_number = each_frame

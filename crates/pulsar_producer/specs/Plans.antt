@@ -112,24 +112,49 @@ send_makes e m c turn = or_else turn (send.Making m c) (send_remakes e m) (send_
 abbrev pub send_looks : Errand → ProducerMessageValues → Command → Turn Looking (Result Place Failure) → Sent
 send_looks e m c turn = or_else turn (send.Looking m c) (λ place. send_makes e m c (made_gets 0 place)) (send_ends e)
 
+abbrev pub in_waiting : Errand → ProducerMessageValues → News → Sent
+in_waiting e m (HasTurn version) = send_draws e (with_version version m)
+in_waiting e m n = Gives (Err (in_producer (fault_told n)))
+
+abbrev pub in_drawing : Errand → ProducerMessageValues → News → Sent
+in_drawing e m (Drew d) = send_asks e d m
+in_drawing e m n = not_drawn e m (fault_told n)
+
+abbrev pub in_asked : Errand → Option ProducerMessageValues → News → Sent
+in_asked e kept Queued = Stays send.Sent (PassesTurn e.producer)
+in_asked e kept InLine = Stays (send.Asked kept) Rests
+in_asked e kept n = not_queued e kept (fault_told n)
+
+-- its outcome is waited for, and nothing else
+abbrev pub in_sent : News → Sent
+in_sent (Told o) = receipt (verdict 7 o)
+in_sent n = Stays send.Sent Rests
+
+abbrev pub in_recalling : Ways → Errand → ProducerMessageValues → News → Sent
+in_recalling w e m (Recalled c) = send_looks e m c (look_begins w)
+in_recalling w e m n = send_ends e (in_producer (fault_told n))
+
+abbrev pub in_looking : Ways → Errand → ProducerMessageValues → Command → Looking → News → Sent
+in_looking w e m c l (Told o) = send_looks e m c (look_told w c.topic l o)
+in_looking w e m c l n = Stays (send.Looking m c l) Rests
+
+abbrev pub in_making : Ways → Errand → ProducerMessageValues → Command → Making → News → Sent
+in_making w e m c k (Told o) = send_makes e m c (made_told w c k o)
+in_making w e m c k n = Stays (send.Making m c k) Rests
+
+abbrev pub in_remaking : Errand → ProducerMessageValues → News → Sent
+in_remaking e m Done = send_draws e m
+in_remaking e m n = send_ends e (in_producer (fault_told n))
+
 abbrev pub send_told : Ways → Errand → Sending → News → Sent
-send_told w e (send.Waiting m) (HasTurn version) = send_draws e (with_version version m)
-send_told w e (send.Waiting m) n = Gives (Err (in_producer (fault_told n)))
-send_told w e (send.Drawing m) (Drew d) = send_asks e d m
-send_told w e (send.Drawing m) n = not_drawn e m (fault_told n)
-send_told w e (send.Asked kept) Queued = Stays send.Sent (PassesTurn e.producer)
-send_told w e (send.Asked kept) InLine = Stays (send.Asked kept) Rests
-send_told w e (send.Asked kept) n = not_queued e kept (fault_told n)
-send_told w e send.Sent (Told o) = receipt (verdict 7 o)
-send_told w e send.Sent n = Stays send.Sent Rests
-send_told w e (send.Recalling m) (Recalled c) = send_looks e m c (look_begins w)
-send_told w e (send.Recalling m) n = send_ends e (in_producer (fault_told n))
-send_told w e (send.Looking m c l) (Told o) = send_looks e m c (look_told w c.topic l o)
-send_told w e (send.Looking m c l) n = Stays (send.Looking m c l) Rests
-send_told w e (send.Making m c k) (Told o) = send_makes e m c (made_told w c k o)
-send_told w e (send.Making m c k) n = Stays (send.Making m c k) Rests
-send_told w e (send.Remaking m) Done = send_draws e m
-send_told w e (send.Remaking m) n = send_ends e (in_producer (fault_told n))
+send_told w e (send.Waiting m) n = in_waiting e m n
+send_told w e (send.Drawing m) n = in_drawing e m n
+send_told w e (send.Asked kept) n = in_asked e kept n
+send_told w e send.Sent n = in_sent n
+send_told w e (send.Recalling m) n = in_recalling w e m n
+send_told w e (send.Looking m c l) n = in_looking w e m c l n
+send_told w e (send.Making m c k) n = in_making w e m c k n
+send_told w e (send.Remaking m) n = in_remaking e m n
 send_told w e (send.Ending f) n = Gives (Err f)
 
 -- A BUILDING. The names of the topic are found, and for each a number is drawn and a producer is made. Where one can't be made, those that
@@ -167,12 +192,24 @@ build_names turn = or_else turn build.Naming (λ names. build_next names []) (λ
 abbrev pub build_begins : Ways → Order → Builds
 build_begins w o = build_names (names_begins w o.topic)
 
+abbrev pub in_naming : Ways → Order → Naming → News → Builds
+in_naming w o n (Told x) = build_names (names_told w o.topic n x)
+in_naming w o n y = Stays (build.Naming n) Rests
+
+abbrev pub in_numbering : Order → Part → News → Builds
+in_numbering o p (Numbered number) = build_numbered o p number
+in_numbering o p y = build_closes p.made (OfConnection (fault_told y))
+
+abbrev pub in_producing : Ways → Command → Making → (number : ℕ) → List Named → List Built → News → Builds
+in_producing w c k number left made (Told x) = build_makes c number left made (made_told w c k x)
+in_producing w c k number left made y = Stays (build.Making c k number left made) Rests
+
+abbrev pub in_closing : List Built → Failure → News → Builds
+in_closing left f (Told x) = build_closes left f
+in_closing left f y = Stays (build.Closing left f) Rests
+
 abbrev pub build_told : Ways → Order → Building → News → Builds
-build_told w o (build.Naming n) (Told x) = build_names (names_told w o.topic n x)
-build_told w o (build.Naming n) y = Stays (build.Naming n) Rests
-build_told w o (build.Numbering p) (Numbered number) = build_numbered o p number
-build_told w o (build.Numbering p) y = build_closes p.made (OfConnection (fault_told y))
-build_told w o (build.Making c k number left made) (Told x) = build_makes c number left made (made_told w c k x)
-build_told w o (build.Making c k number left made) y = Stays (build.Making c k number left made) Rests
-build_told w o (build.Closing left f) (Told x) = build_closes left f
-build_told w o (build.Closing left f) y = Stays (build.Closing left f) Rests
+build_told w o (build.Naming n) y = in_naming w o n y
+build_told w o (build.Numbering p) y = in_numbering o p y
+build_told w o (build.Making c k number left made) y = in_producing w c k number left made y
+build_told w o (build.Closing left f) y = in_closing left f y

@@ -5,7 +5,7 @@ ghost use Rattle.pulsar_producer.specs.Plans as meaning;
 
 use crate::content::{Built, Left, Parts, Settings};
 use crate::deed::{Deed, News, Step, error_told};
-use crate::replies::given;
+use crate::replies::given_by;
 use crate::topic_producer::command;
 use pulsar_plans::content::{Address, Names, Refusal, Text};
 use pulsar_plans::making::{self, Command, Making, Served};
@@ -48,7 +48,10 @@ pub enum Building {
         made: Parts,
     },
     /// It closes those that it made, and then it fails.
-    Closing { left: Parts, refusal: Refusal },
+    Closing {
+        left: Parts,
+        refusal: Refusal,
+    },
 }
 
 /// What a building gives at its end.
@@ -81,22 +84,7 @@ pub fn told(
             number,
             left,
             made,
-        } => match news {
-            News::Told(outcome) => {
-                let turn = making::told(alloc, ways, &command, making, outcome)?;
-                makes(alloc, command, number, left, made, turn)
-            }
-            _ => Ok(Step::Stays(
-                Building::Making {
-                    command,
-                    making,
-                    number,
-                    left,
-                    made,
-                },
-                Deed::Rests,
-            )),
-        },
+        } => in_producing(alloc, ways, command, making, number, left, made, news),
         Building::Closing { left, refusal } => Ok(in_closing(left, refusal, news)),
     }
 }
@@ -108,7 +96,7 @@ fn in_naming(
     naming: Naming,
     news: News,
 ) -> Result<Builds, NoMemory>
-    ensures { IfOk result (λ step. step ≡ meaning.build_told ways.now order.now (Building.Naming naming) news) }
+    ensures { IfOk result (λ step. step ≡ meaning.in_naming ways.now order.now naming news) }
 {
     match news {
         News::Told(outcome) => {
@@ -119,13 +107,8 @@ fn in_naming(
     }
 }
 
-fn in_numbering(
-    alloc: Global,
-    order: &Order,
-    part: Part,
-    news: News,
-) -> Result<Builds, NoMemory>
-    ensures { IfOk result (λ step. (w : _) → step ≡ meaning.build_told w order.now (Building.Numbering part) news) }
+fn in_numbering(alloc: Global, order: &Order, part: Part, news: News) -> Result<Builds, NoMemory>
+    ensures { IfOk result (λ step. step ≡ meaning.in_numbering order.now part news) }
 {
     match news {
         News::Numbered(number) => numbered(alloc, order, part, number),
@@ -136,8 +119,38 @@ fn in_numbering(
     }
 }
 
+fn in_producing(
+    alloc: Global,
+    ways: &Ways,
+    command: Command,
+    making: Making,
+    number: u64,
+    left: Left,
+    made: Parts,
+    news: News,
+) -> Result<Builds, NoMemory>
+    ensures { IfOk result (λ step. step ≡ meaning.in_producing ways.now command making number left made news) }
+{
+    match news {
+        News::Told(outcome) => {
+            let turn = making::told(alloc, ways, &command, making, outcome)?;
+            makes(alloc, command, number, left, made, turn)
+        }
+        _ => Ok(Step::Stays(
+            Building::Making {
+                command,
+                making,
+                number,
+                left,
+                made,
+            },
+            Deed::Rests,
+        )),
+    }
+}
+
 fn in_closing(left: Parts, refusal: Refusal, news: News) -> Builds
-    ensures { (w : _) (o : _) → result ≡ meaning.build_told w o (Building.Closing left refusal) news }
+    ensures { result ≡ meaning.in_closing left refusal news }
 {
     match news {
         News::Told(_) => closes(left, refusal),
@@ -146,10 +159,7 @@ fn in_closing(left: Parts, refusal: Refusal, news: News) -> Builds
 }
 
 /// The names of the topic are looked for.
-fn names(
-    alloc: Global,
-    turn: Turn<Naming, Result<Names, Refusal>>,
-) -> Result<Builds, NoMemory>
+fn names(alloc: Global, turn: Turn<Naming, Result<Names, Refusal>>) -> Result<Builds, NoMemory>
     ensures { IfOk result (λ step. step ≡ meaning.build_names turn) }
 {
     match turn {
@@ -181,12 +191,7 @@ fn next(alloc: Global, mut left: Left, made: Parts) -> Result<Builds, NoMemory>
 }
 
 /// The topic producer of this number is made.
-fn numbered(
-    alloc: Global,
-    order: &Order,
-    part: Part,
-    number: u64,
-) -> Result<Builds, NoMemory>
+fn numbered(alloc: Global, order: &Order, part: Part, number: u64) -> Result<Builds, NoMemory>
     ensures { IfOk result (λ step. step ≡ meaning.build_numbered order.now part number) }
 {
     let Part {
@@ -237,7 +242,7 @@ fn makes(
 fn built(alloc: Global, topic: Text, number: u64, served: Served) -> Result<Built, NoMemory>
     ensures { IfOk result (λ b. b ≡ meaning.built topic number served) }
 {
-    let given = given(alloc, &served.reply)?;
+    let given = given_by(alloc, &served.reply)?;
     Ok(Built {
         topic,
         number,

@@ -1,6 +1,7 @@
 //! What owns memory in the plans of producers. It is boxed, so that what carries it is small. Contracts see it by its content.
 
 ghost use Rattle.std.specs.Prelude.{◌≡◌, [], ◌∷◌, ◌++◌, IfOk, MatchOption};
+ghost use Rattle.std.specs.Option.{option_map};
 ghost use Rattle.pulsar_messages.specs.Content.{message_content, producer_message_values, producer_options_values};
 ghost use Rattle.pulsar_producer.specs.Message.{with_version};
 
@@ -87,8 +88,8 @@ impl Outgoing {
         ensures { result ≡ with_version version self }
     {
         let Outgoing { mut message } = self;
-        if let (None, Some(version)) = (&message.schema_version, version) {
-            message.schema_version = Some(version.into_inner());
+        if message.schema_version.is_none() {
+            message.schema_version = into_bytes(version);
         }
         Outgoing { message }
     }
@@ -233,5 +234,14 @@ impl Parts {
     {
         let Parts { all } = self;
         all
+    }
+}
+
+fn into_bytes(version: Option<Version>) -> Option<Vec<u8>>
+    ensures { option_map (λ v. v.items) result ≡ version }
+{
+    match version {
+        Some(version) => Some(version.into_inner()),
+        None => None,
     }
 }

@@ -33,17 +33,27 @@ pub enum Deed {
     /// Draw the number of a message, where the link of the topic producer is ready.
     Draws(u64),
     /// Ask for a message on the link.
-    Sends { link: u64, send: Send },
+    Sends {
+        link: u64,
+        send: Send,
+    },
     /// Its turn is over.
     PassesTurn(u64),
     /// Find the command by which a topic producer is made again.
     Recalls(u64),
     /// A topic producer was made again, on this link.
-    Remakes { number: u64, link: u64, given: Given },
+    Remakes {
+        number: u64,
+        link: u64,
+        given: Given,
+    },
     /// Draw the number of a new topic producer.
     Numbers,
     /// Close the topic producer of this number on the link.
-    ClosesProducer { link: u64, number: u64 },
+    ClosesProducer {
+        link: u64,
+        number: u64,
+    },
     /// Nothing.
     Rests,
 }

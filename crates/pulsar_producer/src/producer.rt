@@ -104,7 +104,7 @@ impl Producer {
         ensures number { MatchResult result
             (λ n. number_for (map (λ p. routes p) policies.now) (message_content message.now) self.old ≡ Some n)
             (λ e. IsNoMemory (failure e) ⊎ ((number_for (map (λ p. routes p) policies.now) (message_content message.now) self.old ≡ None)
-                × (failure e ≡ no_such_index))) }
+            × (failure e ≡ no_such_index))) }
         ensures after { self.new ≡ after (message_content message.now) self.old }
     {
         match self.target(message, policies) {

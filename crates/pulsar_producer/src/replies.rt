@@ -43,7 +43,7 @@ impl Given {
 }
 
 /// What the reply to its command says of a producer.
-pub fn given(alloc: Global, reply: &Received) -> Result<Given, NoMemory>
+pub fn given_by(alloc: Global, reply: &Received) -> Result<Given, NoMemory>
     ensures { IfOk result (λ g. g ≡ meaning.given reply.now) }
 {
     let message = reply.message();
@@ -57,13 +57,13 @@ fn given_in(alloc: Global, body: &Body) -> Result<Given, NoMemory>
     ensures { IfOk result (λ g. g ≡ meaning.given (read_body None (Some (body_values body.now)))) }
 {
     match body {
-        Body::ProducerSuccess(body) => given_by(body),
+        Body::ProducerSuccess(body) => given_of(body),
         _ => Ok(nothing_given(alloc)),
     }
 }
 
 #[tactic(auto, unfolding(pulsar_wire::specs::Views::producer_success_values))]
-fn given_by(body: &CommandProducerSuccess) -> Result<Given, NoMemory>
+fn given_of(body: &CommandProducerSuccess) -> Result<Given, NoMemory>
     ensures { IfOk result (λ g. g ≡ meaning.given (read_body None (Some (body_values (Body.ProducerSuccess body.now))))) }
 {
     let version = match &body.schema_version {

@@ -13,6 +13,9 @@ use pulsar_wire::error::{ConnectionError, Error, NoMemory, ProducerError};
 use std::alloc::Global;
 use std::marker::Model;
 
+/// Partitions are numbered in 32 bits, so there are fewer than this.
+const MOST: usize = 1 << 32;
+
 /// A policy of a client by which partitions are chosen. It is a function of the message and of how many partitions there are.
 pub trait CustomRoutingPolicy: Send + Sync + Drop {
     ghost routes: { Self → ProducerMessageValues → ℕ → ℕ };
@@ -57,7 +60,7 @@ impl PartitionedProducer {
         ensures { result ≡ begun partitions.items policy last }
     {
         let count = partitions.len();
-        if last < count && u32::try_from(count).is_ok() {
+        if last < count && count < MOST {
             Some(PartitionedProducer {
                 partitions,
                 policy,
@@ -85,7 +88,7 @@ impl PartitionedProducer {
         ensures chosen { MatchResult result
             (λ i. chosen (map (λ p. routes p) policies.now) (message_content message.now) self.old ≡ Some i)
             (λ e. IsNoMemory (failure e) ⊎ ((chosen (map (λ p. routes p) policies.now) (message_content message.now) self.old ≡ None)
-                × (failure e ≡ no_such_index))) }
+            × (failure e ≡ no_such_index))) }
         ensures last { self.new ≡ routed (message_content message.now) self.old }
         ensures below { IfOk result (λ i. i < count self.old) }
     {
@@ -137,7 +140,12 @@ impl PartitionedProducer {
             None => Some(self.step()),
             Some(RoutingPolicy::RoundRobin) => Some(self.choose_by_key(&message.partition_key)),
             Some(RoutingPolicy::Single) => Some(self.last),
-            Some(RoutingPolicy::Custom(index)) => asked(policies, index, message, self.partitions.len()),
+            Some(RoutingPolicy::Custom(index)) => asked(
+                policies,
+                index,
+                message,
+                self.partitions.len(),
+            ),
         }
     }
 
@@ -163,7 +171,11 @@ impl PartitionedProducer {
         ensures below { result < count self.old }
     {
         let next = self.last + 1;
-        self.last = if next == self.partitions.len() { 0 } else { next };
+        self.last = if next == self.partitions.len() {
+            0
+        } else {
+            next
+        };
         self.last
     }
 }
@@ -179,7 +191,11 @@ fn asked(
 {
     let policy = policies.get(index)?;
     let partition = policy.route(message, count);
-    if partition < count { Some(partition) } else { None }
+    if partition < count {
+        Some(partition)
+    } else {
+        None
+    }
 }
 
 /// Why a message has no partition.

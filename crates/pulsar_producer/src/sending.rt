@@ -8,7 +8,7 @@ ghost use Rattle.pulsar_producer.specs.Plans as meaning;
 
 use crate::content::Outgoing;
 use crate::deed::{Deed, Drawn, News, Send, Step, error_told, in_producer};
-use crate::replies::given;
+use crate::replies::given_by;
 use pulsar_plans::content::{Address, Refusal};
 use pulsar_plans::look::{self, Looking};
 use pulsar_plans::making::{self, Command, Making, Served, verdict};
@@ -31,15 +31,23 @@ pub struct Errand {
 #[derive(Drop)]
 pub enum Sending {
     /// It waits for its turn.
-    Waiting { message: Outgoing },
+    Waiting {
+        message: Outgoing,
+    },
     /// It has its turn, and draws a number.
-    Drawing { message: Outgoing },
+    Drawing {
+        message: Outgoing,
+    },
     /// Its frame is asked for, or stands in the line. Where it may have to be asked again, its message is kept.
-    Asked { kept: Option<Outgoing> },
+    Asked {
+        kept: Option<Outgoing>,
+    },
     /// Its frame is queued.
     Sent,
     /// It finds how its producer is made again.
-    Recalling { message: Outgoing },
+    Recalling {
+        message: Outgoing,
+    },
     /// It looks for the broker.
     Looking {
         message: Outgoing,
@@ -53,9 +61,13 @@ pub enum Sending {
         making: Making,
     },
     /// Its producer was made again.
-    Remaking { message: Outgoing },
+    Remaking {
+        message: Outgoing,
+    },
     /// Its turn is over, and it fails.
-    Ending { refusal: Refusal },
+    Ending {
+        refusal: Refusal,
+    },
 }
 
 /// What a send gives at its end: its receipt.
@@ -108,7 +120,7 @@ fn in_waiting(
     message: Outgoing,
     news: News,
 ) -> Result<Sent, NoMemory>
-    ensures { IfOk result (λ step. (w : _) → step ≡ meaning.send_told w errand (Sending.Waiting message) news) }
+    ensures { IfOk result (λ step. step ≡ meaning.in_waiting errand message news) }
 {
     match news {
         News::HasTurn(version) => Ok(draws(errand, message.with_version(version))),
@@ -122,7 +134,7 @@ fn in_drawing(
     message: Outgoing,
     news: News,
 ) -> Result<Sent, NoMemory>
-    ensures { IfOk result (λ step. (w : _) → step ≡ meaning.send_told w errand (Sending.Drawing message) news) }
+    ensures { IfOk result (λ step. step ≡ meaning.in_drawing errand message news) }
 {
     match news {
         News::Drew(drawn) => asks(alloc, errand, drawn, message),
@@ -136,20 +148,17 @@ fn in_asked(
     kept: Option<Outgoing>,
     news: News,
 ) -> Result<Sent, NoMemory>
-    ensures { IfOk result (λ step. (w : _) → step ≡ meaning.send_told w errand (Sending.Asked kept) news) }
+    ensures { IfOk result (λ step. step ≡ meaning.in_asked errand kept news) }
 {
     match news {
-        News::Queued => Ok(Step::Stays(
-            Sending::Sent,
-            Deed::PassesTurn(errand.producer),
-        )),
+        News::Queued => Ok(Step::Stays(Sending::Sent, Deed::PassesTurn(errand.producer))),
         News::InLine => Ok(Step::Stays(Sending::Asked { kept }, Deed::Rests)),
         news => not_queued(alloc, errand, kept, error_told(news)),
     }
 }
 
 fn in_sent(alloc: Global, news: News) -> Result<Sent, NoMemory>
-    ensures { IfOk result (λ step. (w : _) (e : _) → step ≡ meaning.send_told w e Sending.Sent news) }
+    ensures { IfOk result (λ step. step ≡ meaning.in_sent news) }
 {
     match news {
         News::Told(outcome) => receipt(alloc, outcome),
@@ -164,7 +173,7 @@ fn in_recalling(
     message: Outgoing,
     news: News,
 ) -> Result<Sent, NoMemory>
-    ensures { IfOk result (λ step. step ≡ meaning.send_told ways.now errand (Sending.Recalling message) news) }
+    ensures { IfOk result (λ step. step ≡ meaning.in_recalling ways.now errand message news) }
 {
     match news {
         News::Recalled(command) => {
@@ -184,7 +193,7 @@ fn in_looking(
     looking: Looking,
     news: News,
 ) -> Result<Sent, NoMemory>
-    ensures { IfOk result (λ step. step ≡ meaning.send_told ways.now errand (Sending.Looking message command looking) news) }
+    ensures { IfOk result (λ step. step ≡ meaning.in_looking ways.now errand message command looking news) }
 {
     match news {
         News::Told(outcome) => {
@@ -211,7 +220,7 @@ fn in_making(
     making: Making,
     news: News,
 ) -> Result<Sent, NoMemory>
-    ensures { IfOk result (λ step. step ≡ meaning.send_told ways.now errand (Sending.Making message command making) news) }
+    ensures { IfOk result (λ step. step ≡ meaning.in_making ways.now errand message command making news) }
 {
     match news {
         News::Told(outcome) => {
@@ -235,7 +244,7 @@ fn in_remaking(
     message: Outgoing,
     news: News,
 ) -> Result<Sent, NoMemory>
-    ensures { IfOk result (λ step. (w : _) → step ≡ meaning.send_told w errand (Sending.Remaking message) news) }
+    ensures { IfOk result (λ step. step ≡ meaning.in_remaking errand message news) }
 {
     match news {
         News::Done => Ok(draws(errand, message)),
@@ -251,12 +260,7 @@ fn draws(errand: Errand, message: Outgoing) -> Sent
 }
 
 /// The message is asked of the link. It is kept only where its frame is to stand in the line.
-fn asks(
-    alloc: Global,
-    errand: Errand,
-    drawn: Drawn,
-    message: Outgoing,
-) -> Result<Sent, NoMemory>
+fn asks(alloc: Global, errand: Errand, drawn: Drawn, message: Outgoing) -> Result<Sent, NoMemory>
     ensures { IfOk result (λ step. step ≡ meaning.send_asks errand drawn message) }
 {
     let kept = if errand.block && !drawn.room {
@@ -265,7 +269,10 @@ fn asks(
         None
     };
     let Drawn {
-        number, link, name, ..
+        number,
+        link,
+        name,
+        ..
     } = drawn;
     let send = Send {
         producer: errand.producer,
@@ -274,10 +281,7 @@ fn asks(
         message,
         block: errand.block,
     };
-    Ok(Step::Stays(
-        Sending::Asked { kept },
-        Deed::Sends { link, send },
-    ))
+    Ok(Step::Stays(Sending::Asked { kept }, Deed::Sends { link, send }))
 }
 
 /// No number was drawn: the link is not ready, or the numbers are spent.
@@ -404,7 +408,7 @@ fn remakes(
 ) -> Result<Sent, NoMemory>
     ensures { IfOk result (λ step. step ≡ meaning.send_remakes errand message served) }
 {
-    let given = given(alloc, &served.reply)?;
+    let given = given_by(alloc, &served.reply)?;
     Ok(Step::Stays(
         Sending::Remaking { message },
         Deed::Remakes {

@@ -1,7 +1,7 @@
 //! What is left to do in a step.
 
 ghost use Rattle.std.specs.Prelude.{◌≡◌, ◌++◌, ◌∷◌, [], map, IfOk, OnOk};
-ghost use Rattle.pulsar_run.specs.Order.{arranged};
+ghost use Rattle.pulsar_run.specs.Order.{arranged, put};
 ghost use Rattle.pulsar_run.specs.Run.{only};
 ghost use Rattle.pulsar_client.specs.Rules.{alone, below, opens};
 ghost use Rattle.pulsar_client.specs.Run.{first, first_of, rest, rest_of};
@@ -86,6 +86,27 @@ impl Tasks {
             self.now.push_front(act)?;
         }
         Ok(())
+    }
+
+    /// This one joins those whom the present cause still serves, by rank: behind those that rank as high.
+    pub fn join(&mut self, notice: Notice) -> Result<(), NoMemory>
+        ensures { OnOk result (agenda_of self.new ≡ record (agenda_of self.old) { here = put below notice self.old.here.items }) }
+    {
+        let place = self.place_of(rank(notice.who));
+        self.here.insert(place, notice)?;
+        Ok(())
+    }
+
+    /// How many of those whom the present cause serves rank as high as this, or higher.
+    fn place_of(&self, new: (u64, u64)) -> usize {
+        let mut place = 0;
+        for notice in &self.here {
+            if new < rank(notice.who) {
+                return place;
+            }
+            place += 1;
+        }
+        place
     }
 
     /// This part comes before the others.

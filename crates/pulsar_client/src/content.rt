@@ -1,15 +1,21 @@
 //! What a call says, what it ends with, and why something failed. It is boxed, so that acts are small. Contracts see it by its
 //! content.
 
-ghost use Rattle.std.specs.Prelude.{◌≡◌, IfOk};
+ghost use Rattle.std.specs.Prelude.{◌≡◌, [], ◌∷◌, ◌++◌, IfOk, MatchOption, None};
 ghost use Rattle.pulsar_client.specs.Content as content;
 ghost use Rattle.pulsar_client.specs.Content.{asked, said};
-ghost use Rattle.pulsar_session.specs.Failures.{fault};
+ghost use Rattle.pulsar_client.specs.Parts.{failed_with, sent_from};
+ghost use Rattle.pulsar_session.specs.Failures.{failure, fault};
 
 use crate::effect::Answer;
 use crate::event::Call;
-use pulsar_wire::error::{ConnectionError, Error, NoMemory};
+use pulsar_plans::content::{Refusal, Text};
+use pulsar_producer::content::{Parts, Settings};
+use pulsar_producer::deed::News;
+use pulsar_producer::replies::Given;
+use pulsar_wire::error::{ConnectionError, Error, NoMemory, ProducerError};
 use std::alloc::Global;
+use std::collections::{BTreeMap, VecDeque};
 use std::marker::Model;
 
 /// What a user asks of the client.
@@ -105,4 +111,235 @@ impl Cause {
         let Cause { error } = self;
         Box::into_inner(error)
     }
+}
+
+/// What comes of what is asked of a topic producer, or of their numbers.
+#[derive(Drop)]
+pub struct Granted {
+    news: Box<News>,
+}
+
+impl Model for Granted {
+    ghost use Rattle.pulsar_producer.specs.declared.deed.News.{News};
+
+    ghost Value = { News };
+
+    ghost view = { λ g. g.news.value };
+}
+
+impl Granted {
+    pub fn new(alloc: Global, news: News) -> Result<Granted, NoMemory>
+        ensures { IfOk result (λ g. g ≡ news) }
+    {
+        let news = Box::new(alloc, news)?;
+        Ok(Granted { news })
+    }
+
+    pub fn into_inner(self) -> News
+        ensures { result ≡ self }
+    {
+        let Granted { news } = self;
+        Box::into_inner(news)
+    }
+}
+
+/// A topic producer that was made again: its number, its link, and what its broker says of it.
+#[derive(Drop)]
+pub struct Remaking {
+    pub number: u64,
+    pub link: u64,
+    pub given: Given,
+}
+
+/// The same in a box.
+#[derive(Drop)]
+pub struct Remade {
+    remaking: Box<Remaking>,
+}
+
+impl Model for Remade {
+    ghost use Rattle.pulsar_client.specs.declared.content.Remaking.{Remaking};
+
+    ghost Value = { Remaking };
+
+    ghost view = { λ r. r.remaking.value };
+}
+
+impl Remade {
+    pub fn new(alloc: Global, remaking: Remaking) -> Result<Remade, NoMemory>
+        ensures { IfOk result (λ r. r ≡ remaking) }
+    {
+        let remaking = Box::new(alloc, remaking)?;
+        Ok(Remade { remaking })
+    }
+
+    pub fn into_inner(self) -> Remaking
+        ensures { result ≡ self }
+    {
+        let Remade { remaking } = self;
+        Box::into_inner(remaking)
+    }
+}
+
+/// A producer that was built: its topic, how it is made and sends, and its topic producers in order.
+#[derive(Drop)]
+pub struct Building {
+    pub topic: Text,
+    pub settings: Settings,
+    pub parts: Parts,
+}
+
+/// The same in a box.
+#[derive(Drop)]
+pub struct Made {
+    building: Box<Building>,
+}
+
+impl Model for Made {
+    ghost use Rattle.pulsar_client.specs.declared.content.Building.{Building};
+
+    ghost Value = { Building };
+
+    ghost view = { λ m. m.building.value };
+}
+
+impl Made {
+    pub fn new(alloc: Global, building: Building) -> Result<Made, NoMemory>
+        ensures { IfOk result (λ m. m ≡ building) }
+    {
+        let building = Box::new(alloc, building)?;
+        Ok(Made { building })
+    }
+
+    pub fn into_inner(self) -> Building
+        ensures { result ≡ self }
+    {
+        let Made { building } = self;
+        Box::into_inner(building)
+    }
+}
+
+/// Numbers of topic producers that are left, in order.
+#[derive(Drop)]
+pub struct Numbers {
+    all: VecDeque<u64>,
+}
+
+impl Model for Numbers {
+    ghost use Rattle.std.specs.Prelude.{ℕ, List};
+
+    ghost Value = { List ℕ };
+
+    ghost view = { λ n. n.all.items };
+}
+
+impl Numbers {
+    /// None.
+    pub fn new(alloc: Global) -> Numbers
+        ensures { result ≡ [] }
+    {
+        Numbers {
+            all: VecDeque::new(alloc),
+        }
+    }
+
+    /// One more behind these.
+    pub fn with(self, number: u64) -> Result<Numbers, NoMemory>
+        ensures { IfOk result (λ n. n ≡ self ++ number ∷ []) }
+    {
+        let Numbers { mut all } = self;
+        all.push_back(number)?;
+        Ok(Numbers { all })
+    }
+
+    /// The first, which is left no longer.
+    pub fn next(&mut self) -> Option<u64>
+        ensures { MatchOption result (self.old ≡ []) (λ n. self.old ≡ n ∷ self.new) }
+    {
+        self.all.pop_front()
+    }
+}
+
+/// The sends that failed before they were queued, by ticket, and why.
+#[derive(Drop)]
+pub struct Failures {
+    all: BTreeMap<u64, Refusal>,
+}
+
+impl Model for Failures {
+    ghost use Rattle.std.specs.Prelude.{ℕ, List};
+    ghost use Rattle.pulsar_session.specs.Failures.{Failure};
+    ghost use Rattle.pulsar_session.specs.FailureCode.{failure_code};
+    ghost use Rattle.std.specs.Coded.{codes};
+
+    // the tickets with the failures, in their order
+    ghost Value = { List (ℕ × Failure) };
+
+    ghost coded = { failure_code (Prim.hlevel codes) };
+
+    ghost view = { λ f. f.all.entries };
+}
+
+impl Failures {
+    /// None failed.
+    pub fn new(alloc: Global) -> Failures
+        ensures { result ≡ [] }
+    {
+        Failures {
+            all: BTreeMap::new(alloc),
+        }
+    }
+
+    /// The send of this ticket failed so, or did not fail.
+    pub fn with(self, ticket: u64, failure: Option<Refusal>) -> Result<Failures, NoMemory>
+        ensures { IfOk result (λ f. f ≡ failed_with ticket failure self) }
+    {
+        let Failures { mut all } = self;
+        if let Some(refusal) = failure {
+            all.insert(ticket, refusal)?;
+        }
+        Ok(Failures { all })
+    }
+
+    /// What became of so many sends, whose tickets begin with this one.
+    pub fn outcome(
+        self,
+        alloc: Global,
+        first: u64,
+        count: u64,
+    ) -> Result<Result<Answer, Error>, NoMemory>
+        ensures { IfOk result (λ answer. said answer ≡ sent_from first count self) }
+    {
+        if self.all.is_empty() {
+            return Ok(Ok(Answer::Sends(tickets(alloc, first, count)?)));
+        }
+        let partial = self.partial(alloc, first, count)?;
+        Ok(Err(Error::Producer(ProducerError::PartialSend(partial))))
+    }
+
+    fn partial(
+        self,
+        alloc: Global,
+        first: u64,
+        count: u64,
+    ) -> Result<Vec<Result<u64, Error>>, NoMemory> {
+        let Failures { mut all } = self;
+        let mut sent = Vec::new(alloc);
+        for ticket in first..first.saturating_add(count) {
+            sent.push(match all.remove(&ticket) {
+                Some(refusal) => Err(refusal.into_inner()),
+                None => Ok(ticket),
+            })?;
+        }
+        Ok(sent)
+    }
+}
+
+/// So many tickets, from this one on.
+fn tickets(alloc: Global, first: u64, count: u64) -> Result<Vec<u64>, NoMemory> {
+    let mut tickets = Vec::new(alloc);
+    for ticket in first..first.saturating_add(count) {
+        tickets.push(ticket)?;
+    }
+    Ok(tickets)
 }

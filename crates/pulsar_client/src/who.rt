@@ -14,6 +14,15 @@ pub fn rank(who: Who) -> (u64, u64)
     }
 }
 
+/// Their ticket.
+pub fn ticket_of(who: Who) -> u64
+    ensures { result ≡ (rank who).1 }
+{
+    match who {
+        Who::Call(ticket) => ticket,
+    }
+}
+
 pub fn is_same(a: Who, b: Who) -> bool
     ensures { result ≡ is_same a b }
 {

@@ -1,6 +1,10 @@
 //! The plans of those that have them.
 
 pub mod answers;
+pub mod gathering;
 pub mod plan;
+pub mod producing;
 pub mod search;
+pub mod sends;
 pub mod table;
+pub mod visiting;

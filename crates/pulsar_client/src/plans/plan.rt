@@ -1,18 +1,22 @@
 //! Plans, as machines over their outcomes.
 
 ghost use Rattle.std.specs.Prelude.{◌≡◌, IfOk};
-ghost use Rattle.pulsar_session.specs.Failures.{failure, fault};
-ghost use Rattle.pulsar_client.specs.Plan.{asks, begins, failure_of, fails, fault_of, makes, makes_of, replied, stands, told, verdict, waits};
+ghost use Rattle.pulsar_session.specs.Failures.{Custom, OfProducer, ProducerCustom, failure, fault};
+ghost use Rattle.pulsar_client.specs.Plan.{asks, begins, failure_of, fails, fails_with, fault_of, makes, makes_of, replied, stands, told, verdict, waits};
 ghost use Rattle.pulsar_client.specs.Content.{Done, Failed};
 
-use crate::act::{Action, Makes, Outcome, Place, Procedure, Refusal, Says, Verdict};
-use crate::content::Said;
+use crate::act::{Action, Makes, Outcome, Place, Procedure, Refusal, Round, Says, Share, Verdict};
+use crate::content::{Failures, Numbers, Said};
 use crate::effect::Answer;
-use crate::plans::{answers, search};
+use crate::plans::{answers, gathering, producing, search, sends, visiting};
 use pulsar_link::content::{Received, Request, Subscribed};
+use pulsar_plans::content::Refusal as Failure;
 use pulsar_plans::plan::Plan as Search;
 use pulsar_plans::turn::Ways;
-use pulsar_wire::error::{ConnectionError, Error, IoKind, NoMemory};
+use pulsar_producer::building::{Building, Order};
+use pulsar_producer::deed;
+use pulsar_producer::sending::{Errand, Sending};
+use pulsar_wire::error::{ConnectionError, Error, IoKind, NoMemory, ProducerError};
 use std::alloc::Global;
 
 /// A plan stays, in this state, and does this action, or it ends and gives its verdict.
@@ -44,8 +48,56 @@ pub enum Plan {
     Awaiting(Wanted),
     /// It looks for brokers in these ways.
     Searching { ways: Ways, search: Search },
+    /// It builds a producer.
+    Producing {
+        ways: Ways,
+        order: Order,
+        building: Building,
+    },
+    /// It sends a message. Where it is a part of another call, that is told once it is queued.
+    Sending {
+        ways: Ways,
+        errand: Errand,
+        share: Option<Share>,
+        sending: Sending,
+    },
+    /// It was queued, and tells the call that it is a part of.
+    Reporting { ways: Ways, errand: Errand },
+    /// It fails so, and does one thing before.
+    Leaving(Failure),
+    /// It waits for so many sends, of those whose tickets begin with this one.
+    Gathering {
+        first: u64,
+        count: u64,
+        left: u64,
+        failures: Failures,
+    },
+    /// It closes a producer, whose topic producers these are.
+    Shutting(Numbers),
+    /// It asks the topic producer of this number, in its turn, and those that are left behind it.
+    Visiting {
+        round: Round,
+        number: u64,
+        left: Numbers,
+        at: At,
+    },
     /// It ends every link.
     Stopping,
+}
+
+/// Where a visit to a topic producer stands.
+#[derive(Clone, Copy)]
+pub enum At {
+    /// It waits for its turn.
+    Turning,
+    /// It finds the link.
+    Finding,
+    /// It asks there.
+    Asking,
+    /// It has asked, and its turn is over.
+    Passing,
+    /// It waits for the reply.
+    Awaiting,
 }
 
 /// Where a procedure begins.
@@ -67,6 +119,23 @@ pub fn begins(alloc: Global, procedure: Procedure) -> Result<Turn<Plan, Verdict>
             Place::Link(link) => asks(link, request, says),
         },
         Procedure::Search { ways, what } => search::begins(alloc, ways, what),
+        Procedure::Produce { ways, order } => producing::begins(alloc, ways, order),
+        Procedure::Send {
+            ways,
+            errand,
+            share,
+            message,
+        } => sends::begins(alloc, ways, errand, share, message),
+        Procedure::FailShare { share, refusal } => {
+            let error = refusal_error(alloc, refusal)?;
+            sends::leaves(alloc, Some(share), Failure::new(alloc, error)?)
+        }
+        Procedure::Gather { first, count } => gathering::begins(alloc, first, count),
+        Procedure::Go { round, numbers } => visiting::next(alloc, round, numbers),
+        Procedure::Close { producer, numbers } => Ok(Turn::Stays(
+            Plan::Shutting(numbers),
+            Action::Shut(producer),
+        )),
         Procedure::Refuse(refusal) => refused(alloc, refusal),
     }
 }
@@ -94,6 +163,32 @@ pub fn told(alloc: Global, plan: Plan, outcome: Outcome) -> Result<Turn<Plan, Ve
             outcome => fails(alloc, error_of(outcome)),
         },
         Plan::Searching { ways, search } => search::told(alloc, ways, search, outcome),
+        Plan::Producing {
+            ways,
+            order,
+            building,
+        } => producing::told(alloc, ways, order, building, outcome),
+        Plan::Sending {
+            ways,
+            errand,
+            share,
+            sending,
+        } => sends::told(alloc, ways, errand, share, sending, outcome),
+        Plan::Reporting { ways, errand } => Ok(sends::reported(ways, errand)),
+        Plan::Leaving(failure) => left(alloc, failure),
+        Plan::Gathering {
+            first,
+            count,
+            left,
+            failures,
+        } => gathering::told(alloc, first, count, left, failures, outcome),
+        Plan::Shutting(numbers) => visiting::shut(alloc, numbers, outcome),
+        Plan::Visiting {
+            round,
+            number,
+            left,
+            at,
+        } => visiting::told(alloc, round, number, left, at, outcome),
         Plan::Stopping => match outcome {
             Outcome::Stopped => done(alloc, Makes::Nothing),
             outcome => fails(alloc, error_of(outcome)),
@@ -163,7 +258,7 @@ fn replied(alloc: Global, wanted: Wanted, reply: Received) -> Result<Turn<Plan, 
     Ok(Turn::Gives(Verdict { makes, said }))
 }
 
-fn done(alloc: Global, makes: Makes) -> Result<Turn<Plan, Verdict>, NoMemory>
+pub fn done(alloc: Global, makes: Makes) -> Result<Turn<Plan, Verdict>, NoMemory>
     ensures { IfOk result (λ turn. turn ≡ Turn.Gives (verdict makes Done)) }
 {
     let said = Said::new(alloc, Ok(Answer::Done))?;
@@ -188,12 +283,42 @@ fn refusal_error(alloc: Global, refusal: Refusal) -> Result<Error, NoMemory>
     match refusal {
         Refusal::Shutdown => Ok(Error::Connection(ConnectionError::Shutdown)),
         Refusal::NoAddress => Ok(Error::Connection(ConnectionError::NotFound)),
-        Refusal::NoOutbound => Ok(Error::Custom(String::from_str(alloc, "outbound size is 0")?)),
+        Refusal::NoOutbound => custom(alloc, "outbound size is 0"),
+        Refusal::UnknownTicket => custom(alloc, "unknown ticket"),
+        Refusal::NoTopic => custom(alloc, "topic not set"),
+        Refusal::Closed => Ok(Error::Producer(ProducerError::Closed)),
+        Refusal::NoBatches => custom_in_producer(alloc, "not a batching producer"),
+        Refusal::NoPartition => custom_in_producer(alloc, "routing index out of range"),
+        Refusal::NumberInUse => custom_in_producer(alloc, "number in use"),
     }
 }
 
+fn custom(alloc: Global, text: &str) -> Result<Error, NoMemory>
+    ensures { IfOk result (λ e. failure e ≡ Custom text.now) }
+{
+    Ok(Error::Custom(String::from_str(alloc, text)?))
+}
+
+fn custom_in_producer(alloc: Global, text: &str) -> Result<Error, NoMemory>
+    ensures { IfOk result (λ e. failure e ≡ OfProducer (ProducerCustom text.now)) }
+{
+    let text = String::from_str(alloc, text)?;
+    Ok(Error::Producer(ProducerError::Custom(text)))
+}
+
+/// The end of a plan that failed so.
+pub fn left(alloc: Global, failure: Failure) -> Result<Turn<Plan, Verdict>, NoMemory>
+    ensures { IfOk result (λ turn. turn ≡ fails_with failure) }
+{
+    let said = Said::new(alloc, Err(failure.into_inner()))?;
+    Ok(Turn::Gives(Verdict {
+        makes: Makes::Nothing,
+        said,
+    }))
+}
+
 /// The end of a plan that failed.
-fn fails(alloc: Global, error: ConnectionError) -> Result<Turn<Plan, Verdict>, NoMemory>
+pub fn fails(alloc: Global, error: ConnectionError) -> Result<Turn<Plan, Verdict>, NoMemory>
     ensures { IfOk result (λ turn. turn ≡ Turn.Gives (fails (fault error))) }
 {
     Ok(Turn::Gives(failure(alloc, error)?))
@@ -220,11 +345,13 @@ pub fn error_of(outcome: Outcome) -> ConnectionError
         Outcome::Refused(cause) => cause.into_inner(),
         Outcome::TimedOut => ConnectionError::Io(IoKind::TimedOut),
         Outcome::Stopped => ConnectionError::Shutdown,
+        Outcome::Granted(granted) => deed::error_told(granted.into_inner()),
         Outcome::GotLink(_)
         | Outcome::Queued
         | Outcome::InLine
         | Outcome::Replied(_)
         | Outcome::Woken
+        | Outcome::Parted { .. }
         | Outcome::Cut
         | Outcome::Disconnected => ConnectionError::Disconnected,
     }

@@ -103,7 +103,9 @@ impl Tables {
         self.alarms
             .set(Alarm::CheckIdle, later(self.clock, IDLE_PERIOD))?;
         let most = self.settings.connection.connection_max_idle;
-        let acts = self.links.idle_acts(self.clock, most, &self.subscribers)?;
+        let acts = self
+            .links
+            .idle_acts(self.clock, most, &self.subscribers, &self.producers)?;
         tasks.put_all(acts)
     }
 
@@ -113,7 +115,8 @@ impl Tables {
         ensures sees { OnOk result (view_of self.new ≡ after (Act.Does who Action.StopAll) (view_of self.old)) }
     {
         self.is_stopped = true;
-        let notices = self.stop_alarms()?;
+        let mut notices = self.stop_alarms()?;
+        self.producers.stop(&mut notices)?;
         tell(who, Outcome::Stopped, tasks)?;
         tasks.put_all(self.links.stop_acts()?)?;
         tasks.open(notices)

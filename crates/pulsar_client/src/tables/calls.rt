@@ -17,8 +17,6 @@ use crate::act::{
 };
 use crate::addresses::Series;
 use crate::agenda::Tasks;
-use crate::consumers::subscriber::Subscriber;
-use crate::consumers::subscribers::Subscribers;
 use crate::content::Asking;
 use crate::effect::Effect;
 use crate::event::Call;
@@ -32,33 +30,47 @@ use pulsar_plans::content::{Address, Text as Topic};
 use pulsar_plans::plan::Procedure as Sought;
 use pulsar_wire::commands::topics::Mode;
 use pulsar_wire::error::{ConnectionError, NoMemory};
-use std::alloc::Global;
 
 impl Tables {
-    /// A call is made with the next ticket, unless the tickets are spent.
+    /// A call is made with the next ticket, and its parts with those behind it, unless fewer are left.
     pub(super) fn calls(&mut self, asking: Asking, tasks: &mut Tasks) -> Result<(), NoMemory>
         ensures left { OnOk result (agenda_of tasks.new ≡ goes_on (view_of self.old) (Act.Comes (Part.Calls asking)) (agenda_of tasks.old)) }
         ensures sees { OnOk result (view_of self.new ≡ after (Act.Comes (Part.Calls asking)) (view_of self.old)) }
     {
-        let who = Who::Call(self.tickets);
-        if self.tickets == u64::MAX {
+        let ticket = self.tickets;
+        let call = asking.into_inner();
+        let Some(next) = next_ticket(ticket, shares(&call)) else {
+            let who = Who::Call(ticket);
             let verdict = failure(self.alloc, ConnectionError::Exhausted)?;
             return tasks.put(Act::Answers { who, verdict });
+        };
+        self.tickets = next;
+        match call {
+            Call::SendAll { producer, messages } => self.sends_all(ticket, producer, messages, tasks),
+            call => {
+                let who = Who::Call(ticket);
+                let procedure = self.procedure_for(call)?;
+                tasks.put(Act::Starts { who, procedure })
+            }
         }
-        let procedure = self.procedure_for(asking)?;
-        self.tickets += 1;
-        tasks.put(Act::Starts { who, procedure })
     }
 
-    /// The procedure of a call.
-    fn procedure_for(&self, asking: Asking) -> Result<Procedure, NoMemory>
-        ensures { IfOk result (λ p. p ≡ procedure_for (view_of self.now).chosen (view_of self.now).calls asking) }
+    /// The client is built, and was not stopped.
+    pub(super) fn is_open(&self) -> bool
+        ensures { result ≡ is_open (view_of self.now).calls }
     {
-        let is_open = self.is_built && !self.is_stopped;
-        match asking.into_inner() {
+        self.is_built && !self.is_stopped
+    }
+
+    /// The procedure of a call that has no parts. A send finds its partition.
+    fn procedure_for(&mut self, call: Call) -> Result<Procedure, NoMemory>
+        ensures procedure { IfOk result (λ p. p ≡ procedure_for (view_of self.old).chosen (view_of self.old).calls (view_of self.old).producers (asked call)) }
+        ensures after { OnOk result (view_of self.new ≡ record (view_of self.old) { producers = called_on (view_of self.old) (asked call) }) }
+    {
+        match call {
             Call::Build => self.builds_if(!self.is_stopped),
             call => {
-                if !is_open {
+                if !self.is_open() {
                     return Ok(Procedure::Refuse(Refusal::Shutdown));
                 }
                 self.opened(call)
@@ -83,8 +95,9 @@ impl Tables {
     }
 
     /// The procedure of a call that an open client makes.
-    fn opened(&self, call: Call) -> Result<Procedure, NoMemory>
-        ensures { IfOk result (λ p. p ≡ procedure_for (view_of self.now).chosen opened_calls (asked call)) }
+    fn opened(&mut self, call: Call) -> Result<Procedure, NoMemory>
+        ensures procedure { IfOk result (λ p. p ≡ procedure_for (view_of self.old).chosen opened_calls (view_of self.old).producers (asked call)) }
+        ensures after { OnOk result (view_of self.new ≡ record (view_of self.old) { producers = opened_on (view_of self.old).chosen (view_of self.old).producers (asked call) }) }
     {
         match call {
             Call::Build => self.builds_if(true),
@@ -93,12 +106,32 @@ impl Tables {
             Call::Lookup { topic } => self.searches(Sought::Look(Topic::new(topic))),
             Call::Partitions { topic } => self.searches(Sought::CountPartitions(Topic::new(topic))),
             Call::Brokers { topic } => self.searches(Sought::Name(Topic::new(topic))),
-            Call::Raw { link, call } => Ok(Procedure::Ask {
-                place: Place::Link(link),
-                request: Request::new(self.alloc, call)?,
-                says: Says::Bodies,
-            }),
+            Call::Producer(builder) => self.produces(builder),
+            Call::Send { producer, message } => self.sends(producer, message),
+            Call::SendAll { .. } => Ok(Procedure::Refuse(Refusal::UnknownTicket)),
+            Call::Flush { producer } => Ok(self.flushes(producer)),
+            Call::CheckProducer { producer } => self.checks(producer),
+            Call::CloseProducer { producer } => self.closes(producer),
+            Call::Raw { link, call } => self.raw(link, call),
         }
+    }
+
+    /// A request on a link. A number of a producer that it names is not given to a producer of the client, and not one of those.
+    fn raw(&mut self, link: u64, call: RawCall) -> Result<Procedure, NoMemory>
+        ensures procedure { IfOk result (λ p. p ≡ asks_raw (view_of self.old).producers link (words_of call)) }
+        ensures after { OnOk result (view_of self.new ≡ record (view_of self.old) { producers = names_in (named_producer (words_of call)) (view_of self.old).producers }) }
+    {
+        if let Some(number) = call.named_producer() {
+            self.producers.name(number)?;
+            if self.producers.is_used(number) {
+                return Ok(Procedure::Refuse(Refusal::NumberInUse));
+            }
+        }
+        Ok(Procedure::Ask {
+            place: Place::Link(link),
+            request: Request::new(self.alloc, call)?,
+            says: Says::Bodies,
+        })
     }
 
     /// The topics of a namespace, from the address of the service.
@@ -175,6 +208,15 @@ impl Tables {
             Action::Get(address) => self.gets(who, address, tasks),
             Action::Ask { link, request } => self.asks(who, link, request, tasks, out),
             Action::Wait(delay) => self.alarms.set(Alarm::Wake(who), later(self.clock, delay)),
+            Action::TakeTurn(number) => self.takes_turn(who, number, tasks),
+            Action::PassTurn(number) => self.passes_turn(who, number, tasks),
+            Action::Draw(number) => self.draws(who, number, tasks),
+            Action::Recall(number) => self.recalls(who, number, tasks),
+            Action::Remake(remade) => self.remakes(who, remade, tasks),
+            Action::Number => self.numbers(who, tasks),
+            Action::Find(number) => self.finds(who, number, tasks),
+            Action::Shut(producer) => self.shuts(who, producer, tasks),
+            Action::Tell(notice) => self.tells(who, notice, tasks),
             Action::StopAll => self.stops(who, tasks),
             Action::Rest => Ok(()),
         }
@@ -241,7 +283,7 @@ impl Tables {
                 .set(Alarm::CheckIdle, later(self.clock, IDLE_PERIOD))?;
         }
         self.is_built = builds(&makes, self.is_built);
-        make(&mut self.subscribers, self.alloc, who, makes)?;
+        self.makes(who, makes)?;
         match who {
             Who::Call(ticket) => out.push(Effect::Ended {
                 ticket,
@@ -296,30 +338,37 @@ fn builds(makes: &Makes, is_built: bool) -> bool
 {
     match makes {
         Makes::Client => true,
-        Makes::Nothing | Makes::Consumer { .. } => is_built,
+        Makes::Nothing | Makes::Consumer { .. } | Makes::Producer(_) => is_built,
     }
 }
 
-/// The consumer that a verdict makes has the ticket of its call.
-fn make(
-    subscribers: &mut Subscribers,
-    alloc: Global,
-    who: Who,
-    makes: Makes,
-) -> Result<(), NoMemory>
-    ensures { OnOk result ((t : ℕ) → subscription_at subscribers.new t ≡ made who makes t (subscription_at subscribers.old t)) }
+/// How many parts a call has, each with a ticket of its own.
+fn shares(call: &Call) -> u64
+    ensures { result ≡ shares (asked call.now) }
 {
-    match makes {
-        Makes::Nothing | Makes::Client => Ok(()),
-        Makes::Consumer {
-            link,
-            number,
-            topic,
-        } => match who {
-            Who::Call(ticket) => {
-                let subscriber = Subscriber::new(alloc, link, number, topic);
-                subscribers.join(alloc, ticket, subscriber)
-            }
-        },
+    match call {
+        Call::SendAll {
+            producer: _,
+            messages,
+        } => messages.len() as u64,
+        Call::Build
+        | Call::Stop
+        | Call::Topics { .. }
+        | Call::Lookup { .. }
+        | Call::Partitions { .. }
+        | Call::Brokers { .. }
+        | Call::Producer(_)
+        | Call::Send { .. }
+        | Call::Flush { .. }
+        | Call::CheckProducer { .. }
+        | Call::CloseProducer { .. }
+        | Call::Raw { .. } => 0,
     }
+}
+
+/// The ticket behind that of a call and those of its parts. There is none where fewer are left: the greatest is never drawn.
+fn next_ticket(ticket: u64, shares: u64) -> Option<u64>
+    ensures { result ≡ (if lacks_tickets ticket shares then None else Some (ticket + 1 + shares)) }
+{
+    ticket.checked_add(shares)?.checked_add(1)
 }

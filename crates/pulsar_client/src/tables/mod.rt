@@ -14,6 +14,9 @@ ghost use Rattle.pulsar_client.specs.View.{Chosen, after, begun, is_live};
 mod alarms;
 mod calls;
 mod links;
+mod making;
+mod producers;
+mod sends;
 
 use crate::act::{Act, Alarm, End, LinkAct, Notice, Part};
 use crate::addresses::Addresses;
@@ -26,6 +29,7 @@ use crate::event::{Call, Event};
 use crate::links::Links;
 use crate::order::arrange;
 use crate::plans::table::Plans;
+use crate::producers::Producers;
 use crate::settings::Settings;
 use pulsar_session::states::Stage;
 use pulsar_wire::error::NoMemory;
@@ -50,6 +54,7 @@ pub struct Tables {
     pub addresses: Addresses,
     pub alarms: Alarms,
     pub subscribers: Subscribers,
+    pub producers: Producers,
 }
 
 impl Tables {
@@ -57,6 +62,7 @@ impl Tables {
         ensures { Stands (chosen_of settings) result [] }
     {
         let clock = settings.start;
+        let first_number = settings.first_number;
         Tables {
             alloc,
             settings,
@@ -69,6 +75,7 @@ impl Tables {
             addresses: Addresses::new(alloc),
             alarms: Alarms::new(alloc),
             subscribers: Subscribers::new(alloc),
+            producers: Producers::new(alloc, first_number),
         }
     }
 

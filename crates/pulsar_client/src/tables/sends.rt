@@ -1,0 +1,221 @@
+//! Calls on producers: what is to be done for each.
+
+ghost use Rattle.std.specs.Prelude.{◌≡◌, ◌+◌, IfOk, OnOk, Some, None, map};
+ghost use Rattle.pulsar_messages.specs.Content.{message_content};
+ghost use Rattle.pulsar_producer.specs.Wanted.{producer_wanted};
+ghost use Rattle.pulsar_client.specs.Kept.{producers_of};
+ghost use Rattle.pulsar_client.specs.Rules as rules;
+ghost use Rattle.pulsar_client.specs.Run.{goes_on};
+ghost use Rattle.pulsar_client.specs.Tables.{agenda_of, chosen_of, opened_calls, view_of};
+ghost use Rattle.pulsar_client.specs.View.{after, opened_on};
+
+use crate::act::{Act, Notice, Procedure, Refusal, Round, Share, Who};
+use crate::agenda::Tasks;
+use crate::tables::Tables;
+use pulsar_messages::Message;
+use pulsar_plans::content::Text;
+use pulsar_producer::ProducerBuilder;
+use pulsar_producer::building::Order;
+use pulsar_producer::content::{Outgoing, Settings};
+use pulsar_producer::deed::News;
+use pulsar_wire::error::NoMemory;
+use std::collections::VecDeque;
+
+impl Tables {
+    /// A producer is built.
+    pub(super) fn produces(&self, builder: ProducerBuilder) -> Result<Procedure, NoMemory>
+        ensures { IfOk result (λ p. p ≡ rules.produces (chosen_of self.now.settings) (producer_wanted builder)) }
+    {
+        let Some(topic) = builder.topic else {
+            return Ok(Procedure::Refuse(Refusal::NoTopic));
+        };
+        let Some(ways) = self.settings.ways(self.alloc)? else {
+            return Ok(Procedure::Refuse(Refusal::NoAddress));
+        };
+        let name = match builder.name {
+            Some(name) => Some(Text::new(name)),
+            None => None,
+        };
+        Ok(Procedure::Produce {
+            ways,
+            order: Order {
+                topic: Text::new(topic),
+                name,
+                options: Settings::new(self.alloc, builder.options)?,
+            },
+        })
+    }
+
+    /// Why nothing is sent by the producer of this ticket: there is none, or it was closed.
+    pub(super) fn why_not(&self, producer: u64) -> Option<Refusal>
+        ensures { result ≡ rules.why_not (producers_of self.now.producers) producer }
+    {
+        if !self.producers.has(producer) {
+            Some(Refusal::UnknownTicket)
+        } else if self.producers.is_closed(producer) {
+            Some(Refusal::Closed)
+        } else {
+            None
+        }
+    }
+
+    /// A message is sent by itself.
+    pub(super) fn sends(&mut self, producer: u64, message: Message) -> Result<Procedure, NoMemory>
+        ensures procedure { IfOk result (λ p. p ≡ rules.sends (chosen_of self.old.settings) (producers_of self.old.producers) producer (message_content message)) }
+        ensures after { OnOk result (view_of self.new ≡ record (view_of self.old) { producers = rules.sent_on (chosen_of self.old.settings) (producers_of self.old.producers) producer (message_content message) }) }
+    {
+        if let Some(refusal) = self.why_not(producer) {
+            return Ok(Procedure::Refuse(refusal));
+        }
+        self.sends_as(None, producer, message)
+    }
+
+    /// A message is sent, by itself or as a part of another call.
+    fn sends_as(
+        &mut self,
+        share: Option<Share>,
+        producer: u64,
+        message: Message,
+    ) -> Result<Procedure, NoMemory>
+        ensures procedure { IfOk result (λ p. p ≡ rules.sends_as (chosen_of self.old.settings) (producers_of self.old.producers) share producer (message_content message)) }
+        ensures after { OnOk result (view_of self.new ≡ record (view_of self.old) { producers = rules.routed_by (chosen_of self.old.settings) producer (message_content message) (producers_of self.old.producers) }) }
+    {
+        let policies = self.settings.policies();
+        let Some(errand) = self.producers.route(producer, &message, policies) else {
+            return Ok(fails(share, Refusal::NoPartition));
+        };
+        let Some(ways) = self.settings.ways(self.alloc)? else {
+            return Ok(fails(share, Refusal::NoAddress));
+        };
+        Ok(Procedure::Send {
+            ways,
+            errand,
+            share,
+            message: Outgoing::of_message(self.alloc, message)?,
+        })
+    }
+
+    /// Messages are sent by one call, each by a ticket of its own.
+    pub(super) fn sends_all(
+        &mut self,
+        ticket: u64,
+        producer: u64,
+        messages: Vec<Message>,
+        tasks: &mut Tasks,
+    ) -> Result<(), NoMemory>
+        ensures left { OnOk result (agenda_of tasks.new ≡ record (agenda_of tasks.old) { now = rules.sends_all (view_of self.old) ticket producer (map message_content messages.items) ++ tasks.old.now.items }) }
+        ensures sees { OnOk result (view_of self.new ≡ record (view_of self.old) { producers = rules.all_sent_on (view_of self.old) producer (map message_content messages.items) }) }
+    {
+        let who = Who::Call(ticket);
+        if let Some(refusal) = self.why_no_sends(producer) {
+            return tasks.put(Act::Starts {
+                who,
+                procedure: Procedure::Refuse(refusal),
+            });
+        }
+        let mut acts = VecDeque::new(self.alloc);
+        acts.push_back(Act::Starts {
+            who,
+            procedure: Procedure::Gather {
+                first: ticket.saturating_add(1),
+                count: messages.len() as u64,
+            },
+        })?;
+        self.shares(ticket, producer, messages, &mut acts)?;
+        tasks.put_all(acts)
+    }
+
+    /// The same of a call that is made before the client is built, or after it was stopped.
+    fn why_no_sends(&self, producer: u64) -> Option<Refusal>
+        ensures { result ≡ rules.why_no_sends (view_of self.now).calls (producers_of self.now.producers) producer }
+    {
+        if self.is_open() {
+            self.why_not(producer)
+        } else {
+            Some(Refusal::Shutdown)
+        }
+    }
+
+    /// The sends of a call begin in order.
+    fn shares(
+        &mut self,
+        of: u64,
+        producer: u64,
+        messages: Vec<Message>,
+        acts: &mut VecDeque<Act>,
+    ) -> Result<(), NoMemory>
+        ensures acts { OnOk result (acts.new.items ≡ acts.old.items ++ rules.shares_of (chosen_of self.old.settings) (producers_of self.old.producers) of (of + 1) producer (map message_content messages.items)) }
+        ensures sees { OnOk result (view_of self.new ≡ record (view_of self.old) { producers = rules.all_routed (chosen_of self.old.settings) producer (map message_content messages.items) (producers_of self.old.producers) }) }
+    {
+        let mut ticket = of;
+        for message in messages {
+            ticket = ticket.saturating_add(1);
+            let procedure = self.sends_as(Some(Share { of, ticket }), producer, message)?;
+            acts.push_back(Act::Starts {
+                who: Who::Call(ticket),
+                procedure,
+            })?;
+        }
+        Ok(())
+    }
+
+    /// Nothing is held back for a batch.
+    pub(super) fn flushes(&self, producer: u64) -> Procedure
+        ensures { result ≡ rules.flushes (producers_of self.now.producers) producer }
+    {
+        match self.why_not(producer) {
+            Some(refusal) => Procedure::Refuse(refusal),
+            None => Procedure::Refuse(Refusal::NoBatches),
+        }
+    }
+
+    /// The connection of each partition is asked for a sign of life.
+    pub(super) fn checks(&self, producer: u64) -> Result<Procedure, NoMemory>
+        ensures { IfOk result (λ p. p ≡ rules.checks (producers_of self.now.producers) producer) }
+    {
+        if let Some(refusal) = self.why_not(producer) {
+            return Ok(Procedure::Refuse(refusal));
+        }
+        Ok(Procedure::Go {
+            round: Round::Checks,
+            numbers: self.producers.numbers_of(producer)?,
+        })
+    }
+
+    /// A producer is closed, also one that was closed before.
+    pub(super) fn closes(&self, producer: u64) -> Result<Procedure, NoMemory>
+        ensures { IfOk result (λ p. p ≡ rules.closes (producers_of self.now.producers) producer) }
+    {
+        if !self.producers.has(producer) {
+            return Ok(Procedure::Refuse(Refusal::UnknownTicket));
+        }
+        Ok(Procedure::Close {
+            producer,
+            numbers: self.producers.numbers_of(producer)?,
+        })
+    }
+
+    /// Another one is told, who joins those whom the present cause serves.
+    pub(super) fn tells(
+        &mut self,
+        who: Who,
+        notice: Notice,
+        tasks: &mut Tasks,
+    ) -> Result<(), NoMemory>
+        ensures left { OnOk result (agenda_of tasks.new ≡ goes_on (view_of self.old) (Act.Does who (Action.Tell notice)) (agenda_of tasks.old)) }
+        ensures sees { OnOk result (view_of self.new ≡ after (Act.Does who (Action.Tell notice)) (view_of self.old)) }
+    {
+        tasks.join(notice)?;
+        self.grants(who, News::Done, tasks)
+    }
+}
+
+/// A send is not made.
+fn fails(share: Option<Share>, refusal: Refusal) -> Procedure
+    ensures { result ≡ rules.fails_as share refusal }
+{
+    match share {
+        Some(share) => Procedure::FailShare { share, refusal },
+        None => Procedure::Refuse(refusal),
+    }
+}

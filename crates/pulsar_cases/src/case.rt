@@ -1,6 +1,7 @@
 //! A case, and its runs.
 
 use crate::pieces::Pieces;
+use crate::policy::policies;
 use pulsar_cli::{Status, script};
 use pulsar_client::{FailingSink, FailingSource};
 use std::alloc::{AllocError, Global};
@@ -91,7 +92,7 @@ impl Ran {
 pub fn run_script(alloc: Global, lines: &[u8], way: Way) -> Result<Ran, AllocError> {
     let mut source = source_of(alloc, lines, way)?;
     let mut sink = sink_of(alloc, way)?;
-    let status = script(alloc, &mut source, &mut sink);
+    let status = script(alloc, &mut source, &mut sink, policies(alloc)?);
     Ok(Ran { status, sink })
 }
 

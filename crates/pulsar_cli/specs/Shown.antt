@@ -1,7 +1,9 @@
 -- For the code's contracts alone: what a reading of a script stands for.
 use Rattle.std.specs.Prelude.{◌≡◌, ◌⊎◌, ◌↔◌, ◌<◌, ℕ, ◌+◌, List, [], ◌∷◌, ◌++◌, Option, Some, None, false, length, string_bytes, Result, Ok, Err, OnOk, IfErr}
-use Rattle.pulsar_client.specs.declared.pulsar.Pulsar.{Pulsar}
+use Rattle.pulsar_producer.specs.Routing.{Policy}
 use Rattle.pulsar_cli.specs.declared.reading.Reading.{Reading}
+use Rattle.pulsar_cli.specs.declared.reading.Stage.{Stage}
+use Rattle.pulsar_cli.specs.declared.reading.Stage.TheVariants as stage
 use Rattle.pulsar_cli.specs.declared.stop.Stop.{Stop}
 use Rattle.pulsar_cli.specs.declared.stop.Stop.TheVariants as stop
 use Rattle.pulsar_client.specs.Outside.{Rose}
@@ -14,26 +16,24 @@ use Rattle.pulsar_cli.specs.Parsed.{IsWithinLine}
 use Rattle.pulsar_cli.specs.Text.{step}
 use Rattle.pulsar_cli.specs.Script.{Script, Adds, Given, IsDone, IsStopped, Seen, limit, script_of, happened, text}
 
--- what a reading with this history says of its script
-abbrev pub said : Reading → List Step → Script
-said r h = record { options = chosen r.options; events = happened h }
+-- what a reading with these options and this history says of its script
+abbrev pub said : Chosen → List Step → Script
+said o h = record { options = o; events = happened h }
 
--- the client of a history: there is none where nothing has happened yet
-abbrev pub IsClient : Chosen → Option Pulsar → List Step → Type 0
-IsClient o None h = h ≡ []
-IsClient o (Some c) h = StandsFor o c h × (is_empty h ≡ false)
+-- the client of these options and of a history: its options may still be chosen where nothing has happened yet
+abbrev pub IsClient : Chosen → Option Stage → List Step → Type 0
+IsClient o None h = ⊥
+IsClient o (Some (stage.Chooses options)) h = (o ≡ chosen options) × (h ≡ [])
+IsClient o (Some (stage.Runs c)) h = StandsFor o c h [] × (is_empty h ≡ false)
 
--- a reading has read these lines, this is their history, and the front of its text was put
-pub record Reads (r : Reading) (put : List ℕ) (read : List (List ℕ)) (h : List Step) : Type 0 where
-  pub script : script_of read ≡ Some (said r h)
-  pub client : IsClient (chosen r.options) r.client h
+-- a reading has read these lines, for a client of these policies; this is their history, and the front of its text was put
+pub record Reads (policies : List Policy) (r : Reading) (put : List ℕ) (read : List (List ℕ)) (h : List Step) : Type 0 where
+  pub options : Chosen
+  pub script : script_of policies read ≡ Some (said options h)
+  pub client : IsClient options r.stage h
   pub count : r.events ≡ length h
   pub number : r.line ≡ length read + 1
   pub text : put ++ string_bytes r.out ≡ text h
-
--- the same options of the client
-abbrev pub KeepsOptions : Reading → Reading → Type 0
-KeepsOptions old new = new.options ≡ old.options
 
 -- the same text and the same count of events
 pub record KeepsText (old new : Reading) : Type 0 where
@@ -42,25 +42,25 @@ pub record KeepsText (old new : Reading) : Type 0 where
 
 -- the same lines read
 abbrev pub KeepsReading : Reading → Reading → Type 0
-KeepsReading old new = (put : List ℕ) (read : List (List ℕ)) (h : List Step) → Reads old put read h → Reads new put read h
+KeepsReading old new = (policies : List Policy) (put : List ℕ) (read : List (List ℕ)) (h : List Step) → Reads policies old put read h → Reads policies new put read h
 
 -- this line was read more
 abbrev pub ReadsMore : Reading → Reading → List ℕ → Type 0
 ReadsMore old new line =
-    (put : List ℕ) (read : List (List ℕ)) (h : List Step) → Reads old put read h
-    → (next : List Step) × Reads new put (read ++ line ∷ []) next
+    (policies : List Policy) (put : List ℕ) (read : List (List ℕ)) (h : List Step) → Reads policies old put read h
+    → (next : List Step) × Reads policies new put (read ++ line ∷ []) next
 
 -- with this line the lines aren't in the grammar any more
 abbrev pub IsNoScriptWith : Reading → List ℕ → Type 0
 IsNoScriptWith r line =
-    (put : List ℕ) (read : List (List ℕ)) (h : List Step) → Reads r put read h → script_of (read ++ line ∷ []) ≡ None
+    (policies : List Policy) (put : List ℕ) (read : List (List ℕ)) (h : List Step) → Reads policies r put read h → script_of policies (read ++ line ∷ []) ≡ None
 
 -- the client has gone on by a step of this event, whose text waits
 abbrev pub Steps : Reading → Reading → Heard → Type 0
 Steps old new event =
-    (h : List Step) → IsClient (chosen old.options) old.client h
+    (o : Chosen) (h : List Step) → IsClient o old.stage h
     → (effects : List Shown)
-    × IsClient (chosen old.options) new.client (record { event = event; effects = effects } ∷ h)
+    × IsClient o new.stage (record { event = event; effects = effects } ∷ h)
     × (string_bytes new.out ≡ string_bytes old.out ++ step old.events effects)
 
 -- the lines of the bytes that were consumed, and the front of the next one
@@ -69,43 +69,43 @@ pub record Splits (consumed : List ℕ) (read : List (List ℕ)) (pending : List
   pub within : IsWithinLine pending
 
 -- a reading has consumed these bytes
-pub record Running (r : Reading) (put consumed : List ℕ) : Type 0 where
+pub record Running (policies : List Policy) (r : Reading) (put consumed : List ℕ) : Type 0 where
   pub read : List (List ℕ)
   pub history : List Step
-  pub reads : Reads r put read history
+  pub reads : Reads policies r put read history
   pub splits : Splits consumed read r.pending.items
 
 -- a reading has come to a line with which its lines aren't in the grammar any more
-pub record Refuses (r : Reading) (put consumed : List ℕ) : Type 0 where
+pub record Refuses (policies : List Policy) (r : Reading) (put consumed : List ℕ) : Type 0 where
   pub read : List (List ℕ)
   pub history : List Step
-  pub reads : Reads r put read history
+  pub reads : Reads policies r put read history
   pub bad : List ℕ
-  pub refused : script_of (read ++ bad ∷ []) ≡ None
+  pub refused : script_of policies (read ++ bad ∷ []) ≡ None
   pub apart : (future : List ℕ) → (after : List (List ℕ)) × (lines (consumed ++ future) ≡ read ++ bad ∷ after)
 
 -- a reading has consumed these bytes, and a sink has grown by the front of its text
-pub record Prints (r : Reading) (old new : Option (List ℕ)) (consumed : List ℕ) : Type 0 where
+pub record Prints (policies : List Policy) (r : Reading) (old new : Option (List ℕ)) (consumed : List ℕ) : Type 0 where
   pub put : List ℕ
-  pub running : Running r put consumed
+  pub running : Running policies r put consumed
   pub adds : Adds old new put
 
 -- a reading has come to such a line of these bytes, and a sink has grown by the front of its text
-pub record Refusing (r : Reading) (old new : Option (List ℕ)) (bytes : List ℕ) : Type 0 where
+pub record Refusing (policies : List Policy) (r : Reading) (old new : Option (List ℕ)) (bytes : List ℕ) : Type 0 where
   pub put : List ℕ
   pub read : List (List ℕ)
   pub history : List Step
-  pub reads : Reads r put read history
+  pub reads : Reads policies r put read history
   pub bad : List ℕ
-  pub refused : script_of (read ++ bad ∷ []) ≡ None
+  pub refused : script_of policies (read ++ bad ∷ []) ≡ None
   pub after : List (List ℕ)
   pub apart : lines bytes ≡ read ++ bad ∷ after
   pub adds : Adds old new put
 
 -- what a reading that stopped has printed
-abbrev pub Halts : Stop → Reading → (old new : Option (List ℕ)) (bytes : List ℕ) → Type 0
-Halts stop.Refused r old new bytes = Refusing r old new bytes
-Halts _ r old new bytes = IsStopped bytes old new
+abbrev pub Halts : List Policy → Stop → Reading → (old new : Option (List ℕ)) (bytes : List ℕ) → Type 0
+Halts policies stop.Refused r old new bytes = Refusing policies r old new bytes
+Halts policies _ r old new bytes = IsStopped policies bytes old new
 
 -- the faults that a stop tells of
 abbrev pub Faults : Stop → (source source' sink sink' : ℕ) → Type 0
@@ -138,9 +138,9 @@ abbrev pub Told : ℕ → Stop → Type 0
 Told status s = (status ≡ status_of s) ⊎ ((s ≡ stop.Refused) × (status ≡ 3))
 
 -- how the reading of a source ended
-pub record HasRead (result : Result (Unit {0}) Stop) (r : Reading) (source sink : Seen) : Type 0 where
+pub record HasRead (policies : List Policy) (result : Result (Unit {0}) Stop) (r : Reading) (source sink : Seen) : Type 0 where
   pub given : Given source
-  pub done : OnOk result (IsDone given.bytes sink.before sink.after × (given.count ≡ length given.bytes))
-  pub halts : IfErr result (λ s. Halts s r sink.before sink.after given.bytes)
+  pub done : OnOk result (IsDone policies given.bytes sink.before sink.after × (given.count ≡ length given.bytes))
+  pub halts : IfErr result (λ s. Halts policies s r sink.before sink.after given.bytes)
   pub faults : IfErr result (λ s. Faults s source.faults_before source.faults_after sink.faults_before sink.faults_after)
   pub limits : (read_status result ≡ 6) ↔ (limit < given.count)

@@ -1,20 +1,23 @@
 //! The options of a script's client.
 
-ghost use Rattle.std.specs.Prelude.{◌≡◌, IfOk};
-ghost use Rattle.std.specs.Option.{option_map};
-ghost use Rattle.pulsar_messages.specs.Content.{authentication_values};
+ghost use Rattle.std.specs.Prelude.{◌≡◌, IfOk, map};
 ghost use Rattle.pulsar_client.specs.Client.{chosen};
 ghost use Rattle.pulsar_cli.specs.Parsed.{setting_of};
 ghost use Rattle.pulsar_cli.specs.Script.{chooses, defaults};
 
 use crate::grammar::setting::Setting;
-use pulsar_client::{Authentication, ClientOptions, ConnectionRetryOptions, OperationRetryOptions};
+use pulsar_client::{
+    ClientOptions, ConnectionRetryOptions, CustomRoutingPolicy, OperationRetryOptions,
+};
 use pulsar_wire::NoMemory;
 use std::alloc::Global;
 
-/// The options where none is set.
-pub fn defaults(alloc: Global) -> Result<ClientOptions, NoMemory>
-    ensures { IfOk result (λ o. chosen o ≡ defaults) }
+/// The options where none is set, with these policies.
+pub fn defaults(
+    alloc: Global,
+    policies: Vec<Box<dyn CustomRoutingPolicy>>,
+) -> Result<ClientOptions, NoMemory>
+    ensures { IfOk result (λ o. chosen o ≡ defaults (map (λ p. routes p) policies.items)) }
 {
     let url = String::from_str(alloc, "pulsar://127.0.0.1:6650")?;
     Ok(ClientOptions {
@@ -26,6 +29,7 @@ pub fn defaults(alloc: Global) -> Result<ClientOptions, NoMemory>
         seed: 0,
         now: 0,
         first_number: 0,
+        policies,
     })
 }
 
@@ -49,30 +53,5 @@ pub fn choose(options: &mut ClientOptions, setting: Setting)
         Setting::Seed(seed) => options.seed = seed,
         Setting::First(number) => options.first_number = number,
         Setting::Now(time) => options.now = time,
-    }
-}
-
-/// The same options.
-pub fn copied(options: &ClientOptions) -> Result<ClientOptions, NoMemory>
-    ensures { IfOk result (λ o. chosen o ≡ chosen options.entry.now) }
-{
-    Ok(ClientOptions {
-        url: options.url.clone()?,
-        auth: copied_auth(&options.auth)?,
-        connection_retry: options.connection_retry,
-        operation_retry: options.operation_retry,
-        outbound_channel_size: options.outbound_channel_size,
-        seed: options.seed,
-        now: options.now,
-        first_number: options.first_number,
-    })
-}
-
-fn copied_auth(auth: &Option<Authentication>) -> Result<Option<Authentication>, NoMemory>
-    ensures { IfOk result (λ a. option_map authentication_values a ≡ option_map authentication_values auth.now) }
-{
-    match auth {
-        Some(auth) => Ok(Some(auth.copy()?)),
-        None => Ok(None),
     }
 }

@@ -2,13 +2,14 @@
 
 ghost use Rattle.std.specs.Prelude.{◌≡◌, ◌++◌, ◌≤◌, ◌↔◌, ◌⊎◌, false, [], ℕ, List, Option, MatchResult, OnErr, OnOk, IfErr, map, string_bytes};
 ghost use Rattle.pulsar_client.specs.Outside.{Rose};
+ghost use Rattle.pulsar_producer.specs.Routing.{Policy};
 ghost use Rattle.pulsar_cli.specs.Script.{Adds, AddsFront, IsDone, Printed, Ran, is_script, seen};
 ghost use Rattle.pulsar_cli.specs.Shown.{HasRead, Halts, InTurn, Prints, Refusing, Running, Told};
 
 use crate::printing::effect::push_refusal;
 use crate::reading::Reading;
 use crate::stop::Stop;
-use pulsar_client::{Sink, Source};
+use pulsar_client::{CustomRoutingPolicy, Sink, Source};
 use std::alloc::Global;
 
 /// How a run ended: 0 done, 1 a line is not in the grammar, 2 the words are no form of the program, 3 want of memory, 4
@@ -35,21 +36,22 @@ pub const LIMIT: u64 = 268_435_456;
 /// How many bytes are taken from the source at a time.
 const PIECE: usize = 65_536;
 
-/// Runs the program with these words.
+/// Runs the program with these words, and a client with these policies.
 pub fn run<S: Source, K: Sink>(
     alloc: Global,
     words: &[String],
     source: &mut S,
     sink: &mut K,
+    policies: Vec<Box<dyn CustomRoutingPolicy>>,
 ) -> Status
     ensures no_form { (result ≡ 2) ↔ (is_script (map string_bytes words.now) ≡ false) }
     ensures nothing { result ≡ 2 → (source.new ≡ source.old) × (sink.new ≡ sink.old) }
     ensures status { result ≤ 6 }
     ensures runs { (result ≡ 2 → ⊥)
-        → Ran result (seen S.left S.faults source.old source.new) (seen K.holds K.faults sink.old sink.new) }
+        → Ran (map (λ p. routes p) policies.items) result (seen S.left S.faults source.old source.new) (seen K.holds K.faults sink.old sink.new) }
 {
     if is_script(words) {
-        return script(alloc, source, sink);
+        return script(alloc, source, sink, policies);
     }
     NO_FORM
 }
@@ -64,11 +66,16 @@ fn is_script(words: &[String]) -> bool
     }
 }
 
-/// Reads a script from the source and prints its run to the sink.
-pub fn script<S: Source, K: Sink>(alloc: Global, source: &mut S, sink: &mut K) -> Status
-    ensures { Ran result (seen S.left S.faults source.old source.new) (seen K.holds K.faults sink.old sink.new) }
+/// Reads a script from the source and prints its run to the sink. Its client has these policies.
+pub fn script<S: Source, K: Sink>(
+    alloc: Global,
+    source: &mut S,
+    sink: &mut K,
+    policies: Vec<Box<dyn CustomRoutingPolicy>>,
+) -> Status
+    ensures { Ran (map (λ p. routes p) policies.items) result (seen S.left S.faults source.old source.new) (seen K.holds K.faults sink.old sink.new) }
 {
-    let Ok(mut reading) = Reading::new(alloc) else {
+    let Ok(mut reading) = Reading::new(alloc, policies) else {
         return NO_MEMORY;
     };
     match read(&mut reading, source, sink) {
@@ -80,9 +87,9 @@ pub fn script<S: Source, K: Sink>(alloc: Global, source: &mut S, sink: &mut K) -
 /// The status of a run that stops so.
 fn halt<K: Sink>(stop: Stop, reading: &mut Reading, sink: &mut K) -> Status
     ensures told { Told result stop }
-    ensures runs { (old : Option (List ℕ)) (bytes : List ℕ) (faults : ℕ) → faults ≤ K.faults sink.old
-        → Halts stop reading.old old (K.holds sink.old) bytes
-        → Printed result bytes old (K.holds sink.new) (Rose faults (K.faults sink.new) → ⊥) }
+    ensures runs { (ps : List Policy) (old : Option (List ℕ)) (bytes : List ℕ) (faults : ℕ) → faults ≤ K.faults sink.old
+        → Halts ps stop reading.old old (K.holds sink.old) bytes
+        → Printed ps result bytes old (K.holds sink.new) (Rose faults (K.faults sink.new) → ⊥) }
     ensures kept { (stop ≡ Stop.Refused → ⊥) → sink.new ≡ sink.old }
 {
     match stop {
@@ -96,8 +103,8 @@ fn halt<K: Sink>(stop: Stop, reading: &mut Reading, sink: &mut K) -> Status
 
 /// Takes the source's bytes piece by piece, and puts the run of each before the next.
 fn read<S: Source, K: Sink>(reading: &mut Reading, source: &mut S, sink: &mut K) -> Result<(), Stop>
-    requires { Running reading.old [] [] }
-    ensures has_read { HasRead result reading.new
+    requires { (ps : List Policy) × Running ps reading.old [] [] }
+    ensures has_read { (ps : List Policy) → Running ps reading.old [] [] → HasRead ps result reading.new
         (seen S.left S.faults source.old source.new) (seen K.holds K.faults sink.old sink.new) }
     ensures grows { K.faults sink.old ≤ K.faults sink.new }
 {
@@ -122,10 +129,10 @@ fn read<S: Source, K: Sink>(reading: &mut Reading, source: &mut S, sink: &mut K)
 
 /// The lines that end in a piece, with their text.
 fn turn<K: Sink>(reading: &mut Reading, piece: &[u8], sink: &mut K) -> Result<(), Stop>
-    ensures runs { (old : Option (List ℕ)) (consumed future : List ℕ)
-        → Prints reading.old old (K.holds sink.old) consumed
-        → MatchResult result (λ _. Prints reading.new old (K.holds sink.new) (consumed ++ piece.now))
-        (λ stop. Halts stop reading.new old (K.holds sink.new) (consumed ++ (piece.now ++ future))) }
+    ensures runs { (ps : List Policy) (old : Option (List ℕ)) (consumed future : List ℕ)
+        → Prints ps reading.old old (K.holds sink.old) consumed
+        → MatchResult result (λ _. Prints ps reading.new old (K.holds sink.new) (consumed ++ piece.now))
+        (λ stop. Halts ps stop reading.new old (K.holds sink.new) (consumed ++ (piece.now ++ future))) }
     ensures stop { IfErr result (λ stop. InTurn stop (K.faults sink.old) (K.faults sink.new)) }
     ensures grows { K.faults sink.old ≤ K.faults sink.new }
 {
@@ -136,10 +143,10 @@ fn turn<K: Sink>(reading: &mut Reading, piece: &[u8], sink: &mut K) -> Result<()
 
 /// The source has ended, and so does the last line.
 fn ends<K: Sink>(reading: &mut Reading, sink: &mut K) -> Result<(), Stop>
-    ensures runs { (old : Option (List ℕ)) (consumed : List ℕ)
-        → Prints reading.old old (K.holds sink.old) consumed
-        → MatchResult result (λ _. IsDone consumed old (K.holds sink.new))
-        (λ stop. Halts stop reading.new old (K.holds sink.new) consumed) }
+    ensures runs { (ps : List Policy) (old : Option (List ℕ)) (consumed : List ℕ)
+        → Prints ps reading.old old (K.holds sink.old) consumed
+        → MatchResult result (λ _. IsDone ps consumed old (K.holds sink.new))
+        (λ stop. Halts ps stop reading.new old (K.holds sink.new) consumed) }
     ensures stop { IfErr result (λ stop. InTurn stop (K.faults sink.old) (K.faults sink.new)) }
     ensures grows { K.faults sink.old ≤ K.faults sink.new }
 {
@@ -150,8 +157,8 @@ fn ends<K: Sink>(reading: &mut Reading, sink: &mut K) -> Result<(), Stop>
 
 /// A line is not in the grammar: the text of the lines before is put, and then the refusal.
 fn refused<K: Sink>(reading: &mut Reading, sink: &mut K) -> Status
-    ensures runs { (old : Option (List ℕ)) (bytes : List ℕ) → Refusing reading.old old (K.holds sink.old) bytes
-        → Printed result bytes old (K.holds sink.new) (Rose (K.faults sink.old) (K.faults sink.new) → ⊥) }
+    ensures runs { (ps : List Policy) (old : Option (List ℕ)) (bytes : List ℕ) → Refusing ps reading.old old (K.holds sink.old) bytes
+        → Printed ps result bytes old (K.holds sink.new) (Rose (K.faults sink.old) (K.faults sink.new) → ⊥) }
     ensures status { (result ≡ 1) ⊎ (result ≡ 3) }
     ensures grows { K.faults sink.old ≤ K.faults sink.new }
 {
@@ -165,8 +172,8 @@ fn refused<K: Sink>(reading: &mut Reading, sink: &mut K) -> Status
 /// Puts the text that is there.
 fn flush<K: Sink>(reading: &mut Reading, sink: &mut K) -> Result<(), Stop>
     ensures ok { OnOk result (Adds (K.holds sink.old) (K.holds sink.new) (string_bytes reading.old.out)) }
-    ensures kept { OnOk result ((put consumed : List ℕ) → Running reading.old put consumed
-        → Running reading.new (put ++ string_bytes reading.old.out) consumed) }
+    ensures kept { OnOk result ((ps : List Policy) (put consumed : List ℕ) → Running ps reading.old put consumed
+        → Running ps reading.new (put ++ string_bytes reading.old.out) consumed) }
     ensures stop { IfErr result (λ stop. stop ≡ Stop.Sink) }
     ensures front { OnErr result (AddsFront (K.holds sink.old) (K.holds sink.new) (string_bytes reading.old.out)) }
     ensures rises { OnErr result (Rose (K.faults sink.old) (K.faults sink.new)) }

@@ -1,31 +1,39 @@
 //! A script that is being read, and its run.
 
-ghost use Rattle.std.specs.Prelude.{◌≡◌, ◌⊎◌, ◌+◌, ◌++◌, [], ℕ, List, None, Err, IfErr, IfOk, OnOk, is_some, true};
+ghost use Rattle.std.specs.Prelude.{◌≡◌, ◌⊎◌, ◌+◌, ◌++◌, [], ℕ, List, Err, IfErr, IfOk, OnOk, false, map};
 ghost use Rattle.pulsar_client.specs.Client.{StandsFor, chosen};
 ghost use Rattle.pulsar_client.specs.Content.{heard};
-ghost use Rattle.pulsar_client.specs.Run.{Step};
+ghost use Rattle.pulsar_client.specs.Run.{Step, is_empty};
+ghost use Rattle.pulsar_client.specs.View.{Chosen};
+ghost use Rattle.pulsar_producer.specs.Routing.{Policy};
 ghost use Rattle.pulsar_cli.specs.Grammar.{line as meaning};
 ghost use Rattle.pulsar_cli.specs.Parsed.{line_of, setting_of};
 ghost use Rattle.pulsar_cli.specs.Script.{chooses};
-ghost use Rattle.pulsar_cli.specs.Shown.{IsClient, IsNoScriptWith, KeepsOptions, KeepsReading, KeepsText, ReadsMore, Refuses, Running, Steps};
+ghost use Rattle.pulsar_cli.specs.Shown.{IsClient, IsNoScriptWith, KeepsReading, KeepsText, ReadsMore, Refuses, Running, Steps};
 
 use crate::grammar::line::{Line, parse};
 use crate::grammar::setting::Setting;
 use crate::grammar::word::cut_line;
-use crate::options::{choose, copied, defaults};
+use crate::options::{choose, defaults};
 use crate::printing::effect::push_step;
 use crate::stop::Stop;
-use pulsar_client::{ClientOptions, Event, Pulsar};
+use pulsar_client::{ClientOptions, CustomRoutingPolicy, Event, Pulsar};
 use pulsar_wire::NoMemory;
 use std::alloc::Global;
+
+/// The client of a script: its options are chosen, until the first event comes.
+#[derive(Drop)]
+pub enum Stage {
+    Chooses(ClientOptions),
+    Runs(Pulsar),
+}
 
 /// A script that is being read.
 #[derive(Drop)]
 pub struct Reading {
     pub alloc: Global,
-    pub options: ClientOptions,
-    // it is made where the first event comes
-    pub client: Option<Pulsar>,
+    // it is taken out while it makes a step
+    pub stage: Option<Stage>,
     // the front of a line whose end has not come
     pub pending: Vec<u8>,
     // text that is not yet put
@@ -37,15 +45,17 @@ pub struct Reading {
 }
 
 impl Reading {
-    /// Nothing is read yet.
-    pub fn new(alloc: Global) -> Result<Reading, NoMemory>
-        ensures { IfOk result (λ r. Running r [] []) }
+    /// Nothing is read yet. The client is to have these policies.
+    pub fn new(
+        alloc: Global,
+        policies: Vec<Box<dyn CustomRoutingPolicy>>,
+    ) -> Result<Reading, NoMemory>
+        ensures { IfOk result (λ r. Running (map (λ p. routes p) policies.items) r [] []) }
     {
-        let options = defaults(alloc)?;
+        let options = defaults(alloc, policies)?;
         Ok(Reading {
             alloc,
-            options,
-            client: None,
+            stage: Some(Stage::Chooses(options)),
             pending: Vec::new(alloc),
             out: String::new(alloc),
             events: 0,
@@ -55,11 +65,11 @@ impl Reading {
 
     /// The lines that end in a piece, and the front of the next.
     pub fn piece(&mut self, piece: &[u8]) -> Result<(), Stop>
-        ensures ok { OnOk result ((put consumed : List ℕ) → Running self.old put consumed
-            → Running self.new put (consumed ++ piece.now)) }
+        ensures ok { OnOk result ((policies : List Policy) (put consumed : List ℕ) → Running policies self.old put consumed
+            → Running policies self.new put (consumed ++ piece.now)) }
         ensures stop { IfErr result (λ stop. (stop ≡ Stop.Refused) ⊎ (stop ≡ Stop.NoMemory)) }
-        ensures refused { result ≡ Err Stop.Refused → (put consumed : List ℕ) → Running self.old put consumed
-            → Refuses self.new put (consumed ++ piece.now) }
+        ensures refused { result ≡ Err Stop.Refused → (policies : List Policy) (put consumed : List ℕ) → Running policies self.old put consumed
+            → Refuses policies self.new put (consumed ++ piece.now) }
     {
         let mut rest = piece;
         while let Some((end, after)) = cut_line(rest) {
@@ -130,8 +140,7 @@ impl Reading {
     /// The next line comes.
     fn counts(&mut self) -> Result<(), Stop>
         ensures ok { OnOk result (self.new.line ≡ self.old.line + 1) }
-        ensures client { OnOk result (self.new.client ≡ self.old.client) }
-        ensures options { OnOk result (KeepsOptions self.old self.new) }
+        ensures client { OnOk result (self.new.stage ≡ self.old.stage) }
         ensures text { OnOk result (KeepsText self.old self.new) }
         ensures err { IfErr result (λ stop. stop ≡ Stop.NoMemory) }
     {
@@ -141,24 +150,24 @@ impl Reading {
 
     /// An option is chosen. It is refused where the client has been made.
     fn set(&mut self, setting: Setting) -> Result<(), Stop>
-        ensures ok { OnOk result (chosen self.new.options ≡ chooses (setting_of setting) (chosen self.old.options)) }
-        ensures unmade { OnOk result (self.old.client ≡ None) }
-        ensures client { OnOk result (self.new.client ≡ self.old.client) }
+        ensures ok { OnOk result ((o : Chosen) → IsClient o self.old.stage [] → IsClient (chooses (setting_of setting) o) self.new.stage []) }
+        ensures unmade { OnOk result ((o : Chosen) (h : List Step) → IsClient o self.old.stage h → h ≡ []) }
         ensures text { OnOk result (KeepsText self.old self.new) }
         ensures line { OnOk result (self.new.line ≡ self.old.line) }
         ensures refused { IfErr result (λ stop. (stop ≡ Stop.Refused) × (self.new ≡ self.old)
-            × (is_some self.old.client ≡ true)) }
+            × ((o : Chosen) (h : List Step) → IsClient o self.old.stage h → is_empty h ≡ false)) }
     {
-        if let Some(_) = &self.client {
-            return Err(Stop::Refused);
+        match &mut self.stage {
+            Some(Stage::Chooses(options)) => {
+                choose(options, setting);
+                Ok(())
+            }
+            Some(Stage::Runs(_)) | None => Err(Stop::Refused),
         }
-        choose(&mut self.options, setting);
-        Ok(())
     }
 
     /// An event, and the text of its step.
     fn step(&mut self, event: Event) -> Result<(), Stop>
-        ensures options { OnOk result (KeepsOptions self.old self.new) }
         ensures line { OnOk result (self.new.line ≡ self.old.line) }
         ensures events { OnOk result (self.new.events ≡ self.old.events + 1) }
         ensures history { OnOk result (Steps self.old self.new (heard event)) }
@@ -168,7 +177,7 @@ impl Reading {
         let Ok(effects) = client.step(event) else {
             return Err(Stop::NoMemory);
         };
-        self.client = Some(client);
+        self.stage = Some(Stage::Runs(client));
         let Ok(()) = push_step(&mut self.out, self.events, &effects) else {
             return Err(Stop::NoMemory);
         };
@@ -178,28 +187,24 @@ impl Reading {
 
     /// The client, taken out; it is made where the first event comes.
     fn started(&mut self) -> Result<Pulsar, Stop>
-        ensures client { IfOk result (λ c. (h : List Step) → IsClient (chosen self.old.options) self.old.client h
-            → StandsFor (chosen self.old.options) c h) }
-        ensures options { OnOk result (KeepsOptions self.old self.new) }
+        ensures client { IfOk result (λ c. (o : Chosen) (h : List Step) → IsClient o self.old.stage h → StandsFor o c h []) }
         ensures text { OnOk result (KeepsText self.old self.new) }
         ensures line { OnOk result (self.new.line ≡ self.old.line) }
         ensures err { IfErr result (λ stop. stop ≡ Stop.NoMemory) }
     {
-        match self.client.take() {
-            Some(client) => Ok(client),
-            None => made(self.alloc, &self.options),
+        match self.stage.take() {
+            Some(Stage::Runs(client)) => Ok(client),
+            Some(Stage::Chooses(options)) => made(self.alloc, options),
+            None => Err(Stop::NoMemory),
         }
     }
 }
 
 /// A client with these options, to which nothing has happened.
-fn made(alloc: Global, options: &ClientOptions) -> Result<Pulsar, Stop>
-    ensures ok { IfOk result (λ c. StandsFor (chosen options.entry.now) c []) }
+fn made(alloc: Global, options: ClientOptions) -> Result<Pulsar, Stop>
+    ensures ok { IfOk result (λ c. StandsFor (chosen options) c [] []) }
     ensures err { IfErr result (λ stop. stop ≡ Stop.NoMemory) }
 {
-    let Ok(options) = copied(options) else {
-        return Err(Stop::NoMemory);
-    };
     match Pulsar::new(alloc, options) {
         Ok(client) => Ok(client),
         Err(_) => Err(Stop::NoMemory),

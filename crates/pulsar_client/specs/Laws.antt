@@ -1,18 +1,25 @@
 -- What follows from the definition of a good run, in plain words.
-use Rattle.std.specs.Prelude.{◌≡◌, ◌⊎◌, ℕ, ◌+◌, ◌≤◌, ◌==◌, bytes_eq, ◌&&◌, ◌||◌, not, Bool, true, false, if◌then◌else◌, List, [], ◌∷◌, ◌++◌, map, Option, Some, None, Result, Ok, Err}
-use Rattle.std.specs.List.{flat_map}
+use Rattle.std.specs.Prelude.{◌≡◌, ◌⊎◌, ℕ, ◌+◌, ◌-◌, ◌^◌, ◌≤◌, ◌<◌, ◌==◌, bytes_eq, ◌&&◌, ◌||◌, not, Bool, true, false, if◌then◌else◌, List, [], ◌∷◌, ◌++◌, map, Option, Some, None, Result, Ok, Err}
+use Rattle.std.specs.BTreeMap.{is_at}
+use Rattle.std.specs.List.{flat_map, list_any}
+use Rattle.std.specs.Map.{lookup}
+use Rattle.std.specs.Ordering.{nat_cmp}
 use Rattle.std.specs.Option.{is_some, option_map, option_to_list}
 use Rattle.pulsar_run.specs.Laws as run
 use Rattle.pulsar_run.specs.Laws.{In, InThisStep}
 use Rattle.pulsar_run.specs.Order.{AllInOrder, InOrder, arranged}
 use Rattle.pulsar_run.specs.Run.{events, steps_done}
 use Rattle.pulsar_wire.specs.declared.error.ConnectionError.{ConnectionError}
+use Rattle.pulsar_wire.specs.declared.error.ConnectionError.TheVariants as error
+use Rattle.pulsar_wire.specs.declared.key.RequestKey.TheVariants as key
 use Rattle.pulsar_frame.specs.Message.{MessageValues}
+use Rattle.pulsar_messages.specs.Content.{ProducerMessageValues}
+use Rattle.pulsar_messages.specs.Words as words
 use Rattle.pulsar_messages.specs.Words.{Words}
 use Rattle.pulsar_requests.specs.Waits.{later_of}
 use Rattle.pulsar_session.specs.declared.states.Asked.{Asked as Placed}
 use Rattle.pulsar_session.specs.declared.states.Asked.TheVariants as placed
-use Rattle.pulsar_session.specs.Failures.{DiscoveryConnection, DiscoveryCanceled, DiscoveryFault, DiscoveryNotFound, DiscoveryShutdown, DnsLookup, Dummy, Exhausted, Failure, Fault, OfConnection, OfDiscovery, Query, fault}
+use Rattle.pulsar_session.specs.Failures.{DiscoveryConnection, DiscoveryCanceled, DiscoveryFault, DiscoveryNotFound, DiscoveryShutdown, DnsLookup, Dummy, Exhausted, Failure, Fault, OfConnection, OfDiscovery, OfPartialSend, Query, fault}
 use Rattle.pulsar_session.specs.Link as session
 use Rattle.pulsar_session.specs.Link.{Act as Act', Asks, Feeds, Setup, came, due, ends, is_spent}
 use Rattle.pulsar_link.specs.Items.{Item, Given, Faulty}
@@ -20,14 +27,23 @@ use Rattle.pulsar_link.specs.Messages.{Reply, read}
 use Rattle.pulsar_link.specs.Request.{closed_consumer, request_number}
 use Rattle.pulsar_plans.specs.Address.{Place, address_key, is_reachable}
 use Rattle.pulsar_plans.specs.Replies.{in_discovery, query, unexpected}
-use Rattle.pulsar_plans.specs.declared.plan.Procedure.{Procedure as Sought}
+use Rattle.pulsar_producer.specs.Errors.{in_producer}
+use Rattle.pulsar_producer.specs.Message.{with_version}
+use Rattle.pulsar_producer.specs.Topic as topic
+use Rattle.pulsar_producer.specs.Topic.{Act as TopicAct}
+use Rattle.pulsar_producer.specs.declared.content.Built.{Built}
+use Rattle.pulsar_producer.specs.declared.deed.News.{News}
+use Rattle.pulsar_producer.specs.declared.deed.News.TheVariants as news
+use Rattle.pulsar_producer.specs.declared.sending.Errand.{Errand}
+use Rattle.pulsar_producer.specs.declared.sending.Sending.{Sending}
+use Rattle.pulsar_producer.specs.declared.sending.Sending.TheVariants as send
 use Rattle.pulsar_plans.specs.declared.turn.Ways.{Ways}
 use Rattle.pulsar_session.specs.Reply.{Reply as Content, is_body}
 use Rattle.pulsar_client.specs.Alarms.{ringing, rings}
 use Rattle.pulsar_client.specs.declared.act.Act.{Act}
 use Rattle.pulsar_client.specs.declared.act.Act.TheVariants.{Comes, Starts, Told, Does, Answers, Dials}
 use Rattle.pulsar_client.specs.declared.act.Action.{Action}
-use Rattle.pulsar_client.specs.declared.act.Action.TheVariants.{Get, Ask, StopAll, Rest}
+use Rattle.pulsar_client.specs.declared.act.Action.TheVariants.{Get, Ask, TakeTurn, PassTurn, Draw, Remake, Shut, Tell, StopAll, Rest}
 use Rattle.pulsar_client.specs.declared.act.Alarm.{Alarm}
 use Rattle.pulsar_client.specs.declared.act.Alarm.TheVariants.{Retry, Wake, CheckIdle}
 use Rattle.pulsar_client.specs.declared.act.Arrival.{Arrival}
@@ -37,6 +53,8 @@ use Rattle.pulsar_client.specs.declared.act.End.TheVariants.{Overdue, Idles}
 use Rattle.pulsar_client.specs.declared.act.LinkAct.{LinkAct}
 use Rattle.pulsar_client.specs.declared.act.LinkAct.TheVariants.{Reads, Drains, Ends}
 use Rattle.pulsar_client.specs.declared.act.Makes.{Makes}
+use Rattle.pulsar_client.specs.declared.act.Makes.TheVariants as makes
+use Rattle.pulsar_client.specs.declared.act.Share.{Share}
 use Rattle.pulsar_client.specs.declared.act.Notice.{Notice}
 use Rattle.pulsar_client.specs.declared.act.Outcome.{Outcome}
 use Rattle.pulsar_client.specs.declared.act.Outcome.TheVariants as outcome
@@ -52,18 +70,22 @@ use Rattle.pulsar_client.specs.declared.addresses.Pause.{Pause}
 use Rattle.pulsar_client.specs.declared.addresses.Series.{Series}
 use Rattle.pulsar_client.specs.declared.addresses.Series.TheVariants.{Nobody, Runs, Pauses, Serves}
 use Rattle.pulsar_client.specs.declared.plans.plan.Plan.{Plan}
+use Rattle.pulsar_client.specs.declared.plans.plan.Plan.TheVariants as plan
+use Rattle.pulsar_client.specs.declared.producers.Topic.{Topic}
 use Rattle.pulsar_client.specs.declared.plans.plan.Turn.{Turn}
 use Rattle.pulsar_client.specs.declared.plans.plan.Turn.TheVariants as turn
-use Rattle.pulsar_client.specs.Content.{Asked, Called, Bytes, Ticked, Poll, Shown, Queued, Write, Hands, Faults, Failed}
+use Rattle.pulsar_client.specs.Content.{Asked, Said, Called, Bytes, Ticked, Poll, Shown, Queued, Write, Hands, Faults, Failed, lacks_tickets, shares}
 use Rattle.pulsar_client.specs.Effects.{effect_below}
 use Rattle.pulsar_client.specs.Links as links
-use Rattle.pulsar_client.specs.Links.{Change, Remains, Becomes, IsOver, arrival, call_of, closed_by, line_places, new_places}
+use Rattle.pulsar_client.specs.Links.{Change, Remains, Becomes, IsOver, arrival, call_of, closed_by, line_places, new_places, numbers_from}
+use Rattle.pulsar_client.specs.Parts.{outcomes_of, sent_from}
+use Rattle.pulsar_client.specs.Producers.{number_drawn, numbers_at, turn_passed, waiting}
 use Rattle.pulsar_client.specs.Plan.{begins, failure_of, fails, fault_of, reply_says, told}
-use Rattle.pulsar_client.specs.Rules.{below, dropped, fails_so, is_idle, lost, notice, procedure_for, stopped_with}
-use Rattle.pulsar_client.specs.Run.{Entry, Begins, Then, Good, IsRun, Rests, Step, agenda, calls_in, rules, steps, view}
+use Rattle.pulsar_client.specs.Rules.{below, dropped, fails_so, is_idle, lost, notice, performs, starts, stopped_one, stopped_with}
+use Rattle.pulsar_client.specs.Run.{Entry, Begins, Then, Good, IsRun, Rests, Step, agenda, rules, steps, tickets_in, view}
 use Rattle.pulsar_client.specs.Subscriptions.{Subscription, closes_it, is_heard_on, is_last, polled}
-use Rattle.pulsar_client.specs.View.{Base, Chosen, Seat, Turned, View, answer_at, arrival_at, builds, closing, is_asked, pause_of, setup, turned, waits_on}
-use Rattle.pulsar_client.specs.Who.{is_same}
+use Rattle.pulsar_client.specs.View.{Base, Chosen, Seat, Turned, View, answer_at, arrival_at, builds, closing, is_asked, pause_of, room_of, setup, turned, waits_on}
+use Rattle.pulsar_client.specs.Who.{is_same, rank}
 
 -- THE RUN
 
@@ -79,13 +101,33 @@ EffectsArranged = (o : Chosen) (log : List Entry) → run.ArrangeSteps effect_be
 abbrev pub CausesInOrder : Type 0
 CausesInOrder = (o : Chosen) (log : List Entry) → InOrder below (agenda o log).here × AllInOrder below (agenda o log).behind
 
+-- what is told of a frame that is queued
+abbrev pub is_queued : Outcome → Bool
+is_queued outcome.Queued = true
+is_queued _ = false
+
+-- a plan has asked for the frame of a message
+abbrev pub asks_in : Sending → Bool
+asks_in (send.Asked kept) = true
+asks_in _ = false
+
+abbrev pub asks_at : Plan → Bool
+asks_at (plan.Sending w e share s) = asks_in s
+asks_at _ = false
+
+abbrev pub asks_send : Option Plan → Bool
+asks_send None = false
+asks_send (Some p) = asks_at p
+
 -- CALLS
 
--- a call is made where the user asks for it, with the next ticket, which is never the greatest, by the procedure for it
+-- A call is made where the user asks for it, with the next ticket, by the procedure for it; and its parts with those behind it, by their
+-- own. None is the greatest.
 abbrev pub CallsAreMade : Type 0
 CallsAreMade = (o : Chosen) (log : List Entry) (t : ℕ) (p : Procedure) → IsRun o (Then (Starts (Call t) p) ∷ log) →
-    (asked : Asked) × (older : List Entry) × (log ≡ Then (Comes (Calls asked)) ∷ Begins (Called asked) ∷ older)
-    × (t ≡ (view o older).calls.drawn) × (is_spent t ≡ false) × (p ≡ procedure_for o (view o older).calls asked)
+    (is_spent t ≡ false)
+    × InThisStep (λ e older. (asked : Asked) × (e ≡ Then (Comes (Calls asked))) × (lacks_tickets (view o older).calls.drawn (shares asked) ≡ false)
+    × In (Starts (Call t) p) (starts (view o older) asked)) log
 
 -- the newest procedure that one who has a plan started, and the outcomes that it was told since then, oldest first
 abbrev pub started : Who → List Entry → Option Procedure
@@ -150,7 +192,7 @@ IsToldSo o w d e older =
 
 abbrev pub ComesLate : Chosen → Who → Deed → Entry → List Entry → Type 0
 ComesLate o w d e older =
-    (asked : Asked) × (e ≡ Then (Comes (Calls asked))) × (w ≡ Call (view o older).calls.drawn) × (is_spent (view o older).calls.drawn ≡ true)
+    (asked : Asked) × (e ≡ Then (Comes (Calls asked))) × (w ≡ Call (2 ^ 64 - 1)) × (lacks_tickets (view o older).calls.drawn (shares asked) ≡ true)
     × (d ≡ Answered (fails Exhausted))
 
 -- Each action of a plan, and its verdict, comes right behind the start of the plan or the outcome that leads to it. So it stands in the
@@ -254,28 +296,55 @@ IsWoken o who e older = (e ≡ Then (Comes (Rings (Wake who)))) × (rings (view 
 abbrev pub IsStopped : Chosen → Who → Entry → List Entry → Type 0
 IsStopped o who e older =
     (stopper : Who) × (e ≡ Then (Does stopper StopAll))
-    × ((who ≡ stopper) ⊎ In (notice who outcome.Stopped) (flat_map (λ a. stopped_with (view o older).addresses a.0) (view o older).alarms))
+    × ((who ≡ stopper) ⊎ In (notice who outcome.Stopped) (flat_map (λ a. stopped_with (view o older).addresses a.0) (view o older).alarms)
+    ⊎ In (notice who outcome.Stopped) (map stopped_one (waiting (view o older).producers)))
+
+-- what it asks of a topic producer, or of their numbers, is done at once
+abbrev pub IsGranted : Chosen → Who → News → Entry → List Entry → Type 0
+IsGranted o who n e older =
+    (action : Action) × (e ≡ Then (Does who action)) × In (Told (notice who (outcome.Granted n))) (performs (view o older) who action)
+
+-- another passes the turn of a topic producer on to it, with this version of the schema
+abbrev pub GetsTurn : Chosen → Who → News → Entry → List Entry → Type 0
+GetsTurn o who n e older =
+    (other : Who) × (number : ℕ) × (version : Option (List ℕ)) × (e ≡ Then (Does other (PassTurn number))) × (n ≡ news.HasTurn version)
+    × (option_map (λ next. (Call next.0, next.1)) (turn_passed ((view o older).producers.topics number)) ≡ Some (who, version))
+
+-- what it asks for is there no more: a topic producer that is not known
+abbrev pub IsUnknown : Chosen → Who → Outcome → Entry → List Entry → Type 0
+IsUnknown o who u e older = (action : Action) × (e ≡ Then (Does who action)) × In (Told (notice who u)) (performs (view o older) who action)
+
+-- another tells it this
+abbrev pub IsToldBy : Who → Outcome → Entry → List Entry → Type 0
+IsToldBy who u e older = (other : Who) × (e ≡ Then (Does other (Tell (notice who u))))
 
 -- GotLink: it got a link of an address, which serves, or that became ready while it waited. NotFound: the address cannot be reached.
 -- Failed, Canceled: the last attempt that it waited for ended, of a series that it or another started. Queued: it asked, and its frame was
 -- queued at once or moved up. InLine, Refused: it asked, and the link said so. Replied: its request was answered. Woken: its moment came.
 -- TimedOut, Disconnected, Cut, Stopped: its request, its frame in the line or the attempt that it waited for ended so; or the client was
--- stopped.
+-- stopped, or a part of it says so. Granted: it asked for a turn, for a number or the like, or its turn came. Parted: a part of it says so.
 abbrev pub Cause : Chosen → Who → Outcome → Entry → List Entry → Type 0
-Cause o who (outcome.GotLink link) e older = Gets o who (λ p v. (is_reachable p ≡ true) × ((base_of v p).series ≡ Serves link)) e older ⊎ BecomesReady o who link e older
+Cause o who (outcome.GotLink link) e older =
+    Gets o who (λ p v. (is_reachable p ≡ true) × ((base_of v p).series ≡ Serves link)) e older
+    ⊎ (BecomesReady o who link e older ⊎ IsUnknown o who (outcome.GotLink link) e older)
+Cause o who (outcome.Granted n) e older = IsGranted o who n e older ⊎ GetsTurn o who n e older
+Cause o who (outcome.Parted ticket f) e older = IsToldBy who (outcome.Parted ticket f) e older
 Cause o who outcome.NotFound e older = Gets o who (λ p v. is_reachable p ≡ false) e older
 Cause o who (outcome.Failed kind) e older = AttemptEnds o who (outcome.Failed kind) e older
 Cause o who outcome.Canceled e older = AttemptEnds o who outcome.Canceled e older
 Cause o who outcome.Queued e older = AsksSo o who (λ a. (place : ℕ) × (a ≡ Ok (placed.Queued place))) e older ⊎ MovesUp o who e older
 Cause o who outcome.InLine e older = AsksSo o who (λ a. (place : ℕ) × (a ≡ Ok (placed.Waiting place))) e older
-Cause o who (outcome.Refused cause) e older = AsksSo o who (λ a. (x : ConnectionError) × (a ≡ Err x) × (fault x ≡ cause)) e older
+Cause o who (outcome.Refused cause) e older =
+    AsksSo o who (λ a. (x : ConnectionError) × (a ≡ Err x) × (fault x ≡ cause)) e older ⊎ IsUnknown o who (outcome.Refused cause) e older
 Cause o who (outcome.Replied r) e older = IsReplied o who r e older
 Cause o who outcome.TimedOut e older = RequestEnds o who outcome.TimedOut e older
-Cause o who outcome.Disconnected e older = RequestEnds o who outcome.Disconnected e older ⊎ LineEnds o who outcome.Disconnected e older
+Cause o who outcome.Disconnected e older =
+    RequestEnds o who outcome.Disconnected e older ⊎ (LineEnds o who outcome.Disconnected e older ⊎ IsUnknown o who outcome.Disconnected e older)
 Cause o who outcome.Woken e older = IsWoken o who e older
 Cause o who outcome.Cut e older = RequestEnds o who outcome.Cut e older
 Cause o who outcome.Stopped e older =
-    IsStopped o who e older ⊎ (LineEnds o who outcome.Stopped e older ⊎ AttemptEnds o who outcome.Stopped e older)
+    IsStopped o who e older
+    ⊎ (LineEnds o who outcome.Stopped e older ⊎ (AttemptEnds o who outcome.Stopped e older ⊎ IsToldBy who outcome.Stopped e older))
 
 -- whatever one is told has its cause before, in the same step
 abbrev pub OutcomesAreCaused : Type 0
@@ -288,6 +357,12 @@ number_in (procedure.Build base) = None
 number_in procedure.Stop = None
 number_in (procedure.Ask place request s) = Some (request_number request)
 number_in (procedure.Search ways what) = None
+number_in (procedure.Produce ways order) = None
+number_in (procedure.Send ways errand share message) = None
+number_in (procedure.FailShare share r) = None
+number_in (procedure.Gather first count) = None
+number_in (procedure.Go round numbers) = None
+number_in (procedure.Close ticket numbers) = None
 number_in (procedure.Refuse r) = None
 
 -- what a reply says to a search that fails by it: it is another body than was asked for, it tells the broker's error, or it names no
@@ -301,14 +376,54 @@ DeniesSo DiscoveryCanceled r = ⊥
 DeniesSo DiscoveryShutdown r = ⊥
 DeniesSo Dummy r = ⊥
 
+-- a procedure looks for brokers
+abbrev pub searches_in : Procedure → Bool
+searches_in (procedure.Build base) = false
+searches_in procedure.Stop = false
+searches_in (procedure.Ask place request s) = false
+searches_in (procedure.Search ways what) = true
+searches_in (procedure.Produce ways order) = true
+searches_in (procedure.Send ways errand share message) = true
+searches_in (procedure.FailShare share r) = false
+searches_in (procedure.Gather first count) = false
+searches_in (procedure.Go round numbers) = false
+searches_in (procedure.Close ticket numbers) = false
+searches_in (procedure.Refuse r) = false
+
+-- it fails as a producer
+abbrev pub fails_in_producer : Procedure → Bool
+fails_in_producer (procedure.Build base) = false
+fails_in_producer procedure.Stop = false
+fails_in_producer (procedure.Ask place request s) = false
+fails_in_producer (procedure.Search ways what) = false
+fails_in_producer (procedure.Produce ways order) = false
+fails_in_producer (procedure.Send ways errand share message) = true
+fails_in_producer (procedure.FailShare share r) = false
+fails_in_producer (procedure.Gather first count) = false
+fails_in_producer (procedure.Go round numbers) = false
+fails_in_producer (procedure.Close ticket numbers) = true
+fails_in_producer (procedure.Refuse r) = false
+
+-- a part of it failed before it was queued
+abbrev pub has_failed : Outcome → Bool
+has_failed (outcome.Parted ticket f) = is_some f
+has_failed _ = false
+
 -- a call fails where it is refused, and else with the fault of an outcome that it was told, or of a reply to its request; a search with
--- these as faults of its own
+-- these as faults of its own, and a send and a close as a producer; one with parts where some of them failed
 pub data FailsSo (p : Procedure) (os : List Outcome) (f : Failure) : Type 0 where
   IsRefused : (r : Refusal) → p ≡ procedure.Refuse r → f ≡ failure_of r → FailsSo p os f
+  IsRefusedShare : (s : Share) (r : Refusal) → p ≡ procedure.FailShare s r → f ≡ failure_of r → FailsSo p os f
   IsTold : (u : Outcome) → In u os → f ≡ OfConnection (fault_of u) → FailsSo p os f
-  IsTurned : (w : Ways) (what : Sought) (u : Outcome) → p ≡ procedure.Search w what → In u os → f ≡ in_discovery (fault_of u) → FailsSo p os f
-  IsDenied : (w : Ways) (what : Sought) (r : Reply) (d : DiscoveryFault) →
-      p ≡ procedure.Search w what → In (outcome.Replied r) os → f ≡ OfDiscovery d → DeniesSo d r.content → FailsSo p os f
+  IsTurned : (u : Outcome) → searches_in p ≡ true → In u os → f ≡ in_discovery (fault_of u) → FailsSo p os f
+  IsDenied : (r : Reply) (d : DiscoveryFault) →
+      searches_in p ≡ true → In (outcome.Replied r) os → f ≡ OfDiscovery d → DeniesSo d r.content → FailsSo p os f
+  IsUnexpected : (r : Reply) → In (outcome.Replied r) os → f ≡ OfConnection (unexpected r.content r.content.body) → FailsSo p os f
+  IsInProducer : (u : Outcome) → fails_in_producer p ≡ true → In u os → f ≡ in_producer (fault_of u) → FailsSo p os f
+  IsUnexpectedInProducer : (r : Reply) → fails_in_producer p ≡ true → In (outcome.Replied r) os →
+      f ≡ in_producer (unexpected r.content r.content.body) → FailsSo p os f
+  IsPartial : (first count : ℕ) (failures : List (ℕ × Failure)) → p ≡ procedure.Gather first count → list_any has_failed os ≡ true →
+      f ≡ OfPartialSend (outcomes_of failures (numbers_from first count)) → FailsSo p os f
   IsAnswered : (r : Reply) (number : ℕ) (s : Says) → In (outcome.Replied r) os → number_in p ≡ Some number → Failed f ≡ reply_says s number r → FailsSo p os f
 
 abbrev pub FailuresAreTold : Type 0
@@ -574,6 +689,92 @@ disconnects t = record { who = Call t; outcome = outcome.Disconnected }
 abbrev pub ServedByTicket : Type 0
 ServedByTicket = arranged below (disconnects 3 ∷ disconnects 1 ∷ disconnects 2 ∷ []) ≡ disconnects 1 ∷ disconnects 2 ∷ disconnects 3 ∷ []
 
--- the ticket of the next call is the count of the calls so far, in whatever run a history is that of
+-- the next ticket is the count of the calls so far and of their parts, in whatever run a history is that of
 abbrev pub TicketsCount : Type 0
-TicketsCount = (o : Chosen) (log : List Entry) → IsRun o log → Rests o log → (view o log).calls.drawn ≡ calls_in (steps o log)
+TicketsCount = (o : Chosen) (log : List Entry) → IsRun o log → Rests o log → (view o log).calls.drawn ≡ tickets_in (steps o log)
+
+-- PRODUCERS
+
+-- what an act does to the topic producer of a number
+abbrev pub drawn_by : Option Bool → List TopicAct
+drawn_by None = []
+drawn_by (Some room) = topic.Draws ∷ []
+
+abbrev pub shut_by : (number : ℕ) → List ℕ → List TopicAct
+shut_by n [] = []
+shut_by n (m ∷ ms) = if m == n then topic.Closes ∷ shut_by n ms else shut_by n ms
+
+abbrev pub topic_acts : View → (number : ℕ) → Act → List TopicAct
+topic_acts v n (Does who (TakeTurn m)) = if m == n then topic.Takes (rank who).1 ∷ [] else []
+topic_acts v n (Does who (PassTurn m)) = if m == n then topic.Passes ∷ [] else []
+topic_acts v n (Does who (Draw m)) = if m == n then drawn_by (room_of v m) else []
+topic_acts v n (Does who (Remake r)) = if r.number == n then topic.Remakes r.link r.given ∷ [] else []
+topic_acts v n (Does who (Shut t)) = shut_by n (numbers_at (v.producers.built t))
+topic_acts v n _ = []
+
+-- all that was done to it since it was built, newest first
+abbrev pub acts_on : Chosen → (number : ℕ) → List Entry → List TopicAct
+acts_on o n [] = []
+acts_on o n (Begins e ∷ log) = acts_on o n log
+acts_on o n (Then a ∷ log) = if is_some ((view o log).producers.topics n) then topic_acts (view o log) n a ++ acts_on o n log else []
+
+-- A topic producer is what these made of it, and nothing else. So all that holds of one over any acts holds of it: the numbers that it draws
+-- rise, one has its turn at a time, and the turn goes to the lowest ticket of those that wait.
+abbrev pub TopicsAlone : Type 0
+TopicsAlone = (o : Chosen) (log : List Entry) (n : ℕ) (t : Topic) → IsRun o log → (view o log).producers.topics n ≡ Some t →
+    (b : Built) × (t.seen ≡ topic.seen (record { built = b; first_number = o.first_number }) (acts_on o n log))
+
+-- the number of a topic producer is none that a raw call has named before, and no other one has it
+abbrev pub NumbersAreFree : Type 0
+NumbersAreFree = (o : Chosen) (log : List Entry) (who : Who) (n : ℕ) → IsRun o log → number_drawn (view o log).producers ≡ Some n →
+    (list_any (λ k. k == n) (view o log).producers.named ≡ false) × ((view o log).producers.topics n ≡ None)
+
+-- Where a send of a call asks for its frame, it is the call's own message by the name that its topic producer has then, on its link and in its
+-- turn; it has the version of the schema that this had as the turn came, where the message has none.
+abbrev pub FramesAreOfTheirSends : Type 0
+FramesAreOfTheirSends = (o : Chosen) (log : List Entry) (t l n s : ℕ) (name : List ℕ) (m : ProducerMessageValues) (block : Bool)
+    (w : Ways) (e : Errand) (share : Option Share) (given : ProducerMessageValues) →
+    IsRun o (Then (Does (Call t) (Ask l (words.Send n name s m block))) ∷ log) → started (Call t) log ≡ Some (procedure.Send w e share given) →
+    (row : Topic) × (version : Option (List ℕ)) × ((view o log).producers.topics n ≡ Some row) × (n ≡ e.producer) × (block ≡ e.block)
+    × (row.seen.holder ≡ Some t) × (row.seen.link ≡ l) × (row.seen.given.name ≡ name) × (row.seen.next ≡ s + 1) × (m ≡ with_version version given)
+
+-- how often the frame of a send is queued: at once, or as it moves up from the line
+abbrev pub queues_at : Chosen → (ticket : ℕ) → List Entry → Act → ℕ
+queues_at o t log (Told n) = if is_same (Call t) n.who && (is_queued n.outcome && asks_send ((view o log).stand (Call t))) then 1 else 0
+queues_at o t log _ = 0
+
+abbrev pub queued_times : Chosen → (ticket : ℕ) → List Entry → ℕ
+queued_times o t [] = 0
+queued_times o t (Begins e ∷ log) = queued_times o t log
+queued_times o t (Then a ∷ log) = queued_times o t log + queues_at o t log a
+
+-- The send of a ticket is queued at most once, over all links.
+abbrev pub SentOnce : Type 0
+SentOnce = (o : Chosen) (log : List Entry) (t : ℕ) → IsRun o log → queued_times o t log ≤ 1
+
+-- The receipt with which a send ends is the reply to its frame: it bears the topic producer and the number of that.
+abbrev pub ReceiptsAreOwn : Type 0
+ReceiptsAreOwn = (o : Chosen) (log : List Entry) (t : ℕ) (r : Reply) (w : Ways) (e : Errand) (share : Option Share) (m : ProducerMessageValues) →
+    IsRun o (Then (Told (notice (Call t) (outcome.Replied r))) ∷ log) → started (Call t) log ≡ Some (procedure.Send w e share m) →
+    (view o log).stand (Call t) ≡ Some (plan.Sending w e None send.Sent) →
+    (l s : ℕ) × (name : List ℕ) × (sent : ProducerMessageValues) × In (Then (Does (Call t) (Ask l (words.Send e.producer name s sent e.block)))) log
+    × (r.content.key ≡ Some (key.ProducerSend e.producer s))
+
+-- A send that finds no room and is not to wait has spent its number, and leaves all else as it was.
+abbrev pub SlowDownLeavesAll : Type 0
+SlowDownLeavesAll = (o : Chosen) (log : List Entry) (who : Who) (l : ℕ) (request : Words) →
+    answer_at (view o log).now request ((view o log).links.live l) ≡ Err error.SlowDown → view o (Then (Does who (Ask l request)) ∷ log) ≡ view o log
+
+-- one whose turn comes had the lowest ticket of those that waited, and nobody has the turn beside it
+abbrev pub TurnsByTicket : Type 0
+TurnsByTicket = (o : Chosen) (log : List Entry) (who : Who) (n : ℕ) (t : Topic) → IsRun o (Then (Does who (PassTurn n)) ∷ log) →
+    (view o log).producers.topics n ≡ Some t → t.seen.holder ≡ Some (rank who).1
+
+-- A call with parts ends once each of them was queued, or failed before, with what became of each.
+abbrev pub PartsAreGathered : Type 0
+PartsAreGathered = (o : Chosen) (log : List Entry) (t first count : ℕ) (said : Said) →
+    IsRun o log → Rests o log → started (Call t) log ≡ Some (procedure.Gather first count) →
+    In (Answered (record { makes = makes.Nothing; said = said })) (deeds (Call t) log) → In outcome.Stopped (outcomes (Call t) log) ⊎
+    ((failures : List (ℕ × Failure)) × (said ≡ sent_from first count failures)
+    × ((u : ℕ) → first ≤ u → u < first + count → (f : Option Failure) × In (outcome.Parted u f) (outcomes (Call t) log)
+    × (lookup (is_at (nat_cmp u)) failures ≡ f)))

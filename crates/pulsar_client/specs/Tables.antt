@@ -19,7 +19,7 @@ use Rattle.pulsar_client.specs.declared.settings.Settings.{Settings}
 use Rattle.pulsar_client.specs.declared.tables.Tables.{Tables}
 use Rattle.pulsar_client.specs.Content.{Heard, Shown, heard, shown}
 use Rattle.pulsar_client.specs.Run.{Agenda, Step, rules}
-use Rattle.pulsar_client.specs.Kept.{addresses_of, links_in}
+use Rattle.pulsar_client.specs.Kept.{addresses_of, links_in, producers_of, routing}
 use Rattle.pulsar_client.specs.Subscribers.{subscription_at}
 use Rattle.pulsar_client.specs.View.{Chosen, Seat, Tickets, Turned, View}
 use Rattle.pulsar_client.specs.Links.{change_in}
@@ -36,6 +36,7 @@ chosen_of s =
       outbound = s.outbound;
       seed = s.seed;
       first_number = s.first_number;
+      policies = routing s.options.value;
       now = s.start;
     }
 
@@ -53,6 +54,7 @@ view_of c =
       addresses = addresses_of c.addresses;
       alarms = c.alarms;
       consumers = subscription_at c.subscribers;
+      producers = producers_of c.producers;
     }
 
 -- the calls of a client that is built and was not stopped

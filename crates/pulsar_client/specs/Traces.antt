@@ -36,6 +36,7 @@ options outbound base =
       outbound = outbound;
       seed = 0;
       first_number = 0;
+      policies = [];
       now = 0;
     }
 

@@ -1,13 +1,14 @@
 //! What is left to do in a step.
 
-ghost use Rattle.std.specs.Prelude.{◌≡◌, ◌++◌, ◌∷◌, [], map, IfOk, OnOk};
+ghost use Rattle.std.specs.Prelude.{◌≡◌, ◌++◌, ◌∷◌, [], drop, map, take, IfOk, OnOk};
 ghost use Rattle.pulsar_run.specs.Order.{arranged, put};
 ghost use Rattle.pulsar_run.specs.Run.{only};
 ghost use Rattle.pulsar_client.specs.Rules.{alone, below, opens};
 ghost use Rattle.pulsar_client.specs.Run.{first, first_of, rest, rest_of};
 ghost use Rattle.pulsar_client.specs.Tables.{agenda_of};
+ghost use Rattle.pulsar_client.specs.declared.act.Notice.{Notice as Meant};
 
-use crate::act::{Act, Notice, Part};
+use crate::act::{Act, Notice, Part, Who};
 use crate::who::rank;
 use pulsar_wire::error::NoMemory;
 use std::alloc::Global;
@@ -92,13 +93,16 @@ impl Tasks {
     pub fn join(&mut self, notice: Notice) -> Result<(), NoMemory>
         ensures { OnOk result (agenda_of self.new ≡ record (agenda_of self.old) { here = put below notice self.old.here.items }) }
     {
-        let place = self.place_of(rank(notice.who));
+        let place = self.place_of(notice.who);
         self.here.insert(place, notice)?;
         Ok(())
     }
 
-    /// How many of those whom the present cause serves rank as high as this, or higher.
-    fn place_of(&self, new: (u64, u64)) -> usize {
+    /// How many of those whom the present cause serves come before this one.
+    fn place_of(&self, who: Who) -> usize
+        ensures { (n : Meant) → n.who ≡ who → put below n self.now.here.items ≡ take result self.now.here.items ++ n ∷ drop result self.now.here.items }
+    {
+        let new = rank(who);
         let mut place = 0;
         for notice in &self.here {
             if new < rank(notice.who) {

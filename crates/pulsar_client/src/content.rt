@@ -4,8 +4,9 @@
 ghost use Rattle.std.specs.Prelude.{◌≡◌, [], ◌∷◌, ◌++◌, IfOk, MatchOption, None};
 ghost use Rattle.pulsar_client.specs.Content as content;
 ghost use Rattle.pulsar_client.specs.Content.{asked, said};
-ghost use Rattle.pulsar_client.specs.Parts.{failed_with, sent_from};
-ghost use Rattle.pulsar_session.specs.Failures.{failure, fault};
+ghost use Rattle.pulsar_client.specs.Links.{numbers_from};
+ghost use Rattle.pulsar_client.specs.Parts.{failed_with, outcomes_of, sent_from};
+ghost use Rattle.pulsar_session.specs.Failures.{fault, sent};
 
 use crate::effect::Answer;
 use crate::event::Call;
@@ -322,7 +323,9 @@ impl Failures {
         alloc: Global,
         first: u64,
         count: u64,
-    ) -> Result<Vec<Result<u64, Error>>, NoMemory> {
+    ) -> Result<Vec<Result<u64, Error>>, NoMemory>
+        ensures { IfOk result (λ sends. sent sends.items ≡ outcomes_of self (numbers_from first count)) }
+    {
         let Failures { mut all } = self;
         let mut sent = Vec::new(alloc);
         for ticket in first..first.saturating_add(count) {
@@ -336,7 +339,9 @@ impl Failures {
 }
 
 /// So many tickets, from this one on.
-fn tickets(alloc: Global, first: u64, count: u64) -> Result<Vec<u64>, NoMemory> {
+fn tickets(alloc: Global, first: u64, count: u64) -> Result<Vec<u64>, NoMemory>
+    ensures { IfOk result (λ ts. ts.items ≡ numbers_from first count) }
+{
     let mut tickets = Vec::new(alloc);
     for ticket in first..first.saturating_add(count) {
         tickets.push(ticket)?;

@@ -2,7 +2,7 @@
 
 ghost use Rattle.std.specs.Prelude.{◌≡◌, ◌∷◌, [], ℕ, List, OnErr, IfOk, IsErr, IsTrue, ◌↔◌, length, map, reverse};
 ghost use Rattle.pulsar_client.specs.Content.{Called, asked, heard, shown};
-ghost use Rattle.pulsar_client.specs.Run.{Good, Step, tickets_in, view};
+ghost use Rattle.pulsar_client.specs.Run.{Good, Step, ticket_for, tickets_in, view};
 ghost use Rattle.pulsar_client.specs.View.{Chosen, Waits, has_ended};
 ghost use Rattle.pulsar_client.specs.Tables.{answered, step};
 ghost use Rattle.std.specs.Option.{option_copied};
@@ -75,12 +75,12 @@ impl Pulsar {
     /// A step with this call, and its ticket.
     pub fn submit(&mut self, call: Call) -> Result<(u64, Vec<Effect>), NoMemory>
         ensures ok { IfOk result (λ r. (o : Chosen) (h : List Step) (taken : List ℕ) → StandsFor o self.old h taken → StandsFor o self.new (record { event = Called (asked call); effects = map shown r.1.items } ∷ h) taken) }
-        ensures ticket { IfOk result (λ r. (o : Chosen) (h : List Step) (taken : List ℕ) → StandsFor o self.old h taken → r.0 ≡ tickets_in h) }
+        ensures ticket { IfOk result (λ r. (o : Chosen) (h : List Step) (taken : List ℕ) → StandsFor o self.old h taken → r.0 ≡ ticket_for (asked call) (tickets_in h)) }
         ensures failed { OnErr result (HasFailed self.new) }
         ensures stays { HasFailed self.old → IsErr result × HasFailed self.new }
         ensures options { options_of self.new ≡ options_of self.old }
     {
-        let ticket = self.tables.tickets;
+        let ticket = self.tables.ticket_for(&call);
         let effects = self.take(Event::Call(call))?;
         Ok((ticket, effects))
     }

@@ -4,7 +4,8 @@ ghost use Rattle.std.specs.Prelude.{◌≡◌, ◌++◌, IfOk, OnOk, map};
 ghost use Rattle.std.specs.Option.{option_map};
 ghost use Rattle.pulsar_messages.specs.Content.{authentication_values};
 ghost use Rattle.pulsar_session.specs.Link.{fresh};
-ghost use Rattle.pulsar_client.specs.Client.{chosen, routing};
+ghost use Rattle.pulsar_client.specs.Client.{chosen};
+ghost use Rattle.pulsar_client.specs.Kept.{routing};
 ghost use Rattle.pulsar_client.specs.Tables.{chosen_of};
 ghost use Rattle.pulsar_client.specs.View.{delay_with, setup, ways_of};
 

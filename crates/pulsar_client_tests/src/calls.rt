@@ -24,6 +24,7 @@ fn options(alloc: Global, url: &str) -> Result<ClientOptions, NoMemory> {
         seed: 0,
         now: 0,
         first_number: 0,
+        policies: Vec::new(alloc),
     })
 }
 

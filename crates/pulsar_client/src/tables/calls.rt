@@ -2,13 +2,16 @@
 
 ghost use Rattle.std.specs.Prelude.{◌≡◌, ◌==◌, ◌++◌, ◌∷◌, ℕ, map, IfOk, None, OnOk, string_bytes, true, if◌then◌else◌};
 ghost use Rattle.pulsar_client.specs.Alarms.{set};
-ghost use Rattle.pulsar_client.specs.Content.{asked, shown};
+ghost use Rattle.pulsar_client.specs.Content.{asked, lacks_tickets, shares, shown};
 ghost use Rattle.pulsar_client.specs.Effects.{effects};
-ghost use Rattle.pulsar_client.specs.Rules.{asks_topics, builds_with, does, follows, from_base, notice, procedure_for, searches, unless_refused};
-ghost use Rattle.pulsar_client.specs.Run.{goes_on};
+ghost use Rattle.pulsar_link.specs.RawCall.{words_of};
+ghost use Rattle.pulsar_link.specs.Request.{named_producer};
+ghost use Rattle.pulsar_client.specs.Producers.{called_on, names_in, opened_on};
+ghost use Rattle.pulsar_client.specs.Rules.{asks_raw, asks_topics, builds_with, does, follows, from_base, notice, procedure_for, searches, unless_refused};
+ghost use Rattle.pulsar_client.specs.Run.{goes_on, ticket_for};
 ghost use Rattle.pulsar_client.specs.Subscribers.{subscription_at};
 ghost use Rattle.pulsar_client.specs.Tables.{agenda_of, chosen_of, opened_calls, stand_of, view_of};
-ghost use Rattle.pulsar_client.specs.View.{after, builds, later, made, stays, ways_of};
+ghost use Rattle.pulsar_client.specs.View.{after, builds, later, may_call, stays, ways_of};
 ghost use Rattle.pulsar_client.specs.Who.{is_same};
 ghost use Rattle.pulsar_client.specs.declared.act.Who.{Who as Meant};
 
@@ -40,7 +43,7 @@ impl Tables {
         let ticket = self.tickets;
         let call = asking.into_inner();
         let Some(next) = next_ticket(ticket, shares(&call)) else {
-            let who = Who::Call(ticket);
+            let who = Who::Call(u64::MAX);
             let verdict = failure(self.alloc, ConnectionError::Exhausted)?;
             return tasks.put(Act::Answers { who, verdict });
         };
@@ -55,9 +58,19 @@ impl Tables {
         }
     }
 
+    /// The ticket of a call that comes next: the greatest where too few are left.
+    pub fn ticket_for(&self, call: &Call) -> u64
+        ensures { result ≡ ticket_for (asked call.now) self.now.tickets }
+    {
+        match next_ticket(self.tickets, shares(call)) {
+            Some(_) => self.tickets,
+            None => u64::MAX,
+        }
+    }
+
     /// The client is built, and was not stopped.
     pub(super) fn is_open(&self) -> bool
-        ensures { result ≡ is_open (view_of self.now).calls }
+        ensures { result ≡ may_call (view_of self.now).calls }
     {
         self.is_built && !self.is_stopped
     }
@@ -65,7 +78,7 @@ impl Tables {
     /// The procedure of a call that has no parts. A send finds its partition.
     fn procedure_for(&mut self, call: Call) -> Result<Procedure, NoMemory>
         ensures procedure { IfOk result (λ p. p ≡ procedure_for (view_of self.old).chosen (view_of self.old).calls (view_of self.old).producers (asked call)) }
-        ensures after { OnOk result (view_of self.new ≡ record (view_of self.old) { producers = called_on (view_of self.old) (asked call) }) }
+        ensures after { OnOk result (view_of self.new ≡ record (view_of self.old) { producers = called_on (may_call (view_of self.old).calls) (asked call) (view_of self.old).producers }) }
     {
         match call {
             Call::Build => self.builds_if(!self.is_stopped),
@@ -97,7 +110,7 @@ impl Tables {
     /// The procedure of a call that an open client makes.
     fn opened(&mut self, call: Call) -> Result<Procedure, NoMemory>
         ensures procedure { IfOk result (λ p. p ≡ procedure_for (view_of self.old).chosen opened_calls (view_of self.old).producers (asked call)) }
-        ensures after { OnOk result (view_of self.new ≡ record (view_of self.old) { producers = opened_on (view_of self.old).chosen (view_of self.old).producers (asked call) }) }
+        ensures after { OnOk result (view_of self.new ≡ record (view_of self.old) { producers = opened_on (asked call) (view_of self.old).producers }) }
     {
         match call {
             Call::Build => self.builds_if(true),

@@ -1,13 +1,15 @@
 //! Calls on producers: what is to be done for each.
 
-ghost use Rattle.std.specs.Prelude.{◌≡◌, ◌+◌, IfOk, OnOk, Some, None, map};
+ghost use Rattle.std.specs.Prelude.{◌≡◌, ◌+◌, ◌++◌, ◌∷◌, [], IfOk, OnOk, Some, None, map};
 ghost use Rattle.pulsar_messages.specs.Content.{message_content};
 ghost use Rattle.pulsar_producer.specs.Wanted.{producer_wanted};
 ghost use Rattle.pulsar_client.specs.Kept.{producers_of};
+ghost use Rattle.pulsar_client.specs.Content.{SendAll};
+ghost use Rattle.pulsar_client.specs.Producers.{all_routed, called_on, routed, sent_on, why_not};
 ghost use Rattle.pulsar_client.specs.Rules as rules;
 ghost use Rattle.pulsar_client.specs.Run.{goes_on};
-ghost use Rattle.pulsar_client.specs.Tables.{agenda_of, chosen_of, opened_calls, view_of};
-ghost use Rattle.pulsar_client.specs.View.{after, opened_on};
+ghost use Rattle.pulsar_client.specs.Tables.{agenda_of, chosen_of, view_of};
+ghost use Rattle.pulsar_client.specs.View.{after, may_call};
 
 use crate::act::{Act, Notice, Procedure, Refusal, Round, Share, Who};
 use crate::agenda::Tasks;
@@ -48,7 +50,7 @@ impl Tables {
 
     /// Why nothing is sent by the producer of this ticket: there is none, or it was closed.
     pub(super) fn why_not(&self, producer: u64) -> Option<Refusal>
-        ensures { result ≡ rules.why_not (producers_of self.now.producers) producer }
+        ensures { result ≡ why_not (producers_of self.now.producers) producer }
     {
         if !self.producers.has(producer) {
             Some(Refusal::UnknownTicket)
@@ -62,7 +64,7 @@ impl Tables {
     /// A message is sent by itself.
     pub(super) fn sends(&mut self, producer: u64, message: Message) -> Result<Procedure, NoMemory>
         ensures procedure { IfOk result (λ p. p ≡ rules.sends (chosen_of self.old.settings) (producers_of self.old.producers) producer (message_content message)) }
-        ensures after { OnOk result (view_of self.new ≡ record (view_of self.old) { producers = rules.sent_on (chosen_of self.old.settings) (producers_of self.old.producers) producer (message_content message) }) }
+        ensures after { OnOk result (view_of self.new ≡ record (view_of self.old) { producers = sent_on producer (message_content message ∷ []) (producers_of self.old.producers) }) }
     {
         if let Some(refusal) = self.why_not(producer) {
             return Ok(Procedure::Refuse(refusal));
@@ -78,7 +80,7 @@ impl Tables {
         message: Message,
     ) -> Result<Procedure, NoMemory>
         ensures procedure { IfOk result (λ p. p ≡ rules.sends_as (chosen_of self.old.settings) (producers_of self.old.producers) share producer (message_content message)) }
-        ensures after { OnOk result (view_of self.new ≡ record (view_of self.old) { producers = rules.routed_by (chosen_of self.old.settings) producer (message_content message) (producers_of self.old.producers) }) }
+        ensures after { OnOk result (view_of self.new ≡ record (view_of self.old) { producers = routed producer (message_content message) (producers_of self.old.producers) }) }
     {
         let policies = self.settings.policies();
         let Some(errand) = self.producers.route(producer, &message, policies) else {
@@ -104,7 +106,7 @@ impl Tables {
         tasks: &mut Tasks,
     ) -> Result<(), NoMemory>
         ensures left { OnOk result (agenda_of tasks.new ≡ record (agenda_of tasks.old) { now = rules.sends_all (view_of self.old) ticket producer (map message_content messages.items) ++ tasks.old.now.items }) }
-        ensures sees { OnOk result (view_of self.new ≡ record (view_of self.old) { producers = rules.all_sent_on (view_of self.old) producer (map message_content messages.items) }) }
+        ensures sees { OnOk result (view_of self.new ≡ record (view_of self.old) { producers = called_on (may_call (view_of self.old).calls) (SendAll producer (map message_content messages.items)) (producers_of self.old.producers) }) }
     {
         let who = Who::Call(ticket);
         if let Some(refusal) = self.why_no_sends(producer) {
@@ -145,7 +147,7 @@ impl Tables {
         acts: &mut VecDeque<Act>,
     ) -> Result<(), NoMemory>
         ensures acts { OnOk result (acts.new.items ≡ acts.old.items ++ rules.shares_of (chosen_of self.old.settings) (producers_of self.old.producers) of (of + 1) producer (map message_content messages.items)) }
-        ensures sees { OnOk result (view_of self.new ≡ record (view_of self.old) { producers = rules.all_routed (chosen_of self.old.settings) producer (map message_content messages.items) (producers_of self.old.producers) }) }
+        ensures sees { OnOk result (view_of self.new ≡ record (view_of self.old) { producers = all_routed producer (map message_content messages.items) (producers_of self.old.producers) }) }
     {
         let mut ticket = of;
         for message in messages {

@@ -151,13 +151,25 @@ pub enum Procedure {
         message: Outgoing,
     },
     /// Fail, as a part of another call.
-    FailShare { share: Share, refusal: Refusal },
+    FailShare {
+        share: Share,
+        refusal: Refusal,
+    },
     /// Wait for so many sends, whose tickets begin with this one: each is a part.
-    Gather { first: u64, count: u64 },
+    Gather {
+        first: u64,
+        count: u64,
+    },
     /// Ask each of these topic producers, in its turn.
-    Go { round: Round, numbers: Numbers },
+    Go {
+        round: Round,
+        numbers: Numbers,
+    },
     /// Close the producer of this ticket, whose topic producers these are.
-    Close { producer: u64, numbers: Numbers },
+    Close {
+        producer: u64,
+        numbers: Numbers,
+    },
     /// Fail.
     Refuse(Refusal),
 }

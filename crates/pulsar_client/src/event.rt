@@ -18,30 +18,51 @@ pub enum Call {
     /// Ends every connection, and all that waits. Every later call is refused.
     Stop,
     /// Asks for the topics of a namespace.
-    Topics { namespace: String, mode: Mode },
+    Topics {
+        namespace: String,
+        mode: Mode,
+    },
     /// Finds the broker that serves a topic.
-    Lookup { topic: String },
+    Lookup {
+        topic: String,
+    },
     /// Finds how many partitions a topic has.
-    Partitions { topic: String },
+    Partitions {
+        topic: String,
+    },
     /// Finds the names of a topic, the topic itself or its partitions, with the broker of each.
-    Brokers { topic: String },
+    Brokers {
+        topic: String,
+    },
     /// Builds a producer.
     Producer(ProducerBuilder),
     /// Sends a message by the producer that the call of this ticket built. It ends with the receipt.
-    Send { producer: u64, message: Message },
+    Send {
+        producer: u64,
+        message: Message,
+    },
     /// Sends messages one by one, each by a ticket of its own: the next ones. It ends once each was queued, or failed before.
     SendAll {
         producer: u64,
         messages: Vec<Message>,
     },
     /// Sends what a producer holds back for a batch.
-    Flush { producer: u64 },
+    Flush {
+        producer: u64,
+    },
     /// Asks for a sign of life of the connection of each partition of a producer.
-    CheckProducer { producer: u64 },
+    CheckProducer {
+        producer: u64,
+    },
     /// Closes a producer: it takes no sends from now on.
-    CloseProducer { producer: u64 },
+    CloseProducer {
+        producer: u64,
+    },
     /// Asks on this connection by itself.
-    Raw { link: u64, call: RawCall },
+    Raw {
+        link: u64,
+        call: RawCall,
+    },
 }
 
 /// What happens to the client, one at a time. Connections are numbered from 0 in the order of their Connect effects.

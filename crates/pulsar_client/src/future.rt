@@ -33,15 +33,17 @@ impl SendFuture {
             Taken::Waiting => None,
             Taken::Answer(Ok(Answer::Receipt(receipt))) => Some(Ok(receipt)),
             Taken::Answer(Err(error)) => Some(Err(error)),
-            Taken::Answer(Ok(
-                Answer::Done
-                | Answer::Topics(_)
-                | Answer::Address(_)
-                | Answer::Count(_)
-                | Answer::Addresses(_)
-                | Answer::Sends(_)
-                | Answer::Replies(_),
-            ))
+            Taken::Answer(
+                Ok(
+                    Answer::Done
+                    | Answer::Topics(_)
+                    | Answer::Address(_)
+                    | Answer::Count(_)
+                    | Answer::Addresses(_)
+                    | Answer::Sends(_)
+                    | Answer::Replies(_),
+                ),
+            )
             | Taken::Unknown => Some(Err(lost(client.allocator()))),
         }
     }

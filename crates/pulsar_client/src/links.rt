@@ -396,7 +396,9 @@ fn ends_idle(
 {
     let mut acts = VecDeque::new(alloc);
     for (link, row) in live {
-        let is_idle = row.rests(now, most) && !subscribers.hears_on(*link) && !producers.holds(*link);
+        let is_idle = row.rests(now, most)
+            && !subscribers.hears_on(*link)
+            && !producers.holds(*link);
         end_idle(&mut acts, *link, is_idle)?;
     }
     Ok(acts)

@@ -47,7 +47,10 @@ pub enum Plan {
     /// It waits for the reply.
     Awaiting(Wanted),
     /// It looks for brokers in these ways.
-    Searching { ways: Ways, search: Search },
+    Searching {
+        ways: Ways,
+        search: Search,
+    },
     /// It builds a producer.
     Producing {
         ways: Ways,
@@ -62,7 +65,10 @@ pub enum Plan {
         sending: Sending,
     },
     /// It was queued, and tells the call that it is a part of.
-    Reporting { ways: Ways, errand: Errand },
+    Reporting {
+        ways: Ways,
+        errand: Errand,
+    },
     /// It fails so, and does one thing before.
     Leaving(Failure),
     /// It waits for so many sends, of those whose tickets begin with this one.

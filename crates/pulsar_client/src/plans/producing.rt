@@ -21,11 +21,7 @@ use pulsar_wire::error::{ConnectionError, NoMemory};
 use std::alloc::Global;
 
 /// A building begins.
-pub fn begins(
-    alloc: Global,
-    ways: Ways,
-    order: Order,
-) -> Result<Turn<Plan, Verdict>, NoMemory>
+pub fn begins(alloc: Global, ways: Ways, order: Order) -> Result<Turn<Plan, Verdict>, NoMemory>
     ensures { IfOk result (λ turn. turn ≡ builds ways order (meaning.build_begins ways order)) }
 {
     let step = building::begins(alloc, &ways, &order)?;

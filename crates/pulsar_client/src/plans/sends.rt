@@ -165,10 +165,7 @@ fn halted(
 {
     let refusal = Refusal::in_connection(alloc, error_of(outcome))?;
     match share {
-        Some(share) => Ok(Turn::Stays(
-            Plan::Leaving(refusal),
-            tell(share, Outcome::Stopped),
-        )),
+        Some(share) => Ok(Turn::Stays(Plan::Leaving(refusal), tell(share, Outcome::Stopped))),
         None => left(alloc, refusal),
     }
 }

@@ -20,11 +20,7 @@ use pulsar_wire::error::{ConnectionError, NoMemory};
 use std::alloc::Global;
 
 /// The next of those that are left.
-pub fn next(
-    alloc: Global,
-    round: Round,
-    mut left: Numbers,
-) -> Result<Turn<Plan, Verdict>, NoMemory>
+pub fn next(alloc: Global, round: Round, mut left: Numbers) -> Result<Turn<Plan, Verdict>, NoMemory>
     ensures { IfOk result (λ turn. turn ≡ goes_round round left) }
 {
     match left.next() {
@@ -185,10 +181,7 @@ fn quits(
     ensures { IfOk result (λ turn. turn ≡ quits round number (fault error)) }
 {
     let refusal = refusal_of(alloc, round, error)?;
-    Ok(Turn::Stays(
-        Plan::Leaving(refusal),
-        Action::PassTurn(number),
-    ))
+    Ok(Turn::Stays(Plan::Leaving(refusal), Action::PassTurn(number)))
 }
 
 fn failed(
@@ -231,13 +224,7 @@ fn body_of(round: Round) -> u32
     }
 }
 
-fn stays(
-    round: Round,
-    number: u64,
-    left: Numbers,
-    at: At,
-    action: Action,
-) -> Turn<Plan, Verdict>
+fn stays(round: Round, number: u64, left: Numbers, at: At, action: Action) -> Turn<Plan, Verdict>
     ensures { result ≡ stays_at round number left at action }
 {
     Turn::Stays(

@@ -49,7 +49,9 @@ impl Tables {
         };
         self.tickets = next;
         match call {
-            Call::SendAll { producer, messages } => self.sends_all(ticket, producer, messages, tasks),
+            Call::SendAll { producer, messages } => self.sends_all(
+                ticket, producer, messages, tasks,
+            ),
             call => {
                 let who = Who::Call(ticket);
                 let procedure = self.procedure_for(call)?;

@@ -56,12 +56,7 @@ impl Tables {
     }
 
     /// The number of a message is drawn.
-    pub(super) fn draws(
-        &mut self,
-        who: Who,
-        number: u64,
-        tasks: &mut Tasks,
-    ) -> Result<(), NoMemory>
+    pub(super) fn draws(&mut self, who: Who, number: u64, tasks: &mut Tasks) -> Result<(), NoMemory>
         ensures left { OnOk result (agenda_of tasks.new ≡ goes_on (view_of self.old) (Act.Does who (Action.Draw number)) (agenda_of tasks.old)) }
         ensures sees { OnOk result (view_of self.new ≡ after (Act.Does who (Action.Draw number)) (view_of self.old)) }
     {
@@ -124,12 +119,7 @@ impl Tables {
     }
 
     /// The link of a topic producer is told.
-    pub(super) fn finds(
-        &mut self,
-        who: Who,
-        number: u64,
-        tasks: &mut Tasks,
-    ) -> Result<(), NoMemory>
+    pub(super) fn finds(&mut self, who: Who, number: u64, tasks: &mut Tasks) -> Result<(), NoMemory>
         ensures left { OnOk result (agenda_of tasks.new ≡ goes_on (view_of self.old) (Act.Does who (Action.Find number)) (agenda_of tasks.old)) }
         ensures sees { OnOk result (view_of self.new ≡ after (Act.Does who (Action.Find number)) (view_of self.old)) }
     {
@@ -162,12 +152,7 @@ impl Tables {
     }
 
     /// It is refused so.
-    fn refuses(
-        &self,
-        who: Who,
-        error: ConnectionError,
-        tasks: &mut Tasks,
-    ) -> Result<(), NoMemory>
+    fn refuses(&self, who: Who, error: ConnectionError, tasks: &mut Tasks) -> Result<(), NoMemory>
         ensures { OnOk result (agenda_of tasks.new ≡ record (agenda_of tasks.old) { now = tells who (Outcome.Refused (fault error)) ++ tasks.old.now.items }) }
     {
         let cause = Cause::new(self.alloc, error)?;

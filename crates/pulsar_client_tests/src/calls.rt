@@ -12,9 +12,9 @@ use std::test::Fail;
 const REPLY: &[u8] = b"\x00\x00\x00\x0e\x00\x00\x00\x0a\x08\x21\x8a\x02\x05\x08\x00\x12\x01a";
 
 /// A connected command.
-const CONNECTED: &[u8] = b"\x00\x00\x00\x0a\x00\x00\x00\x06\x08\x03\x1a\x02\x0a\x00";
+pub const CONNECTED: &[u8] = b"\x00\x00\x00\x0a\x00\x00\x00\x06\x08\x03\x1a\x02\x0a\x00";
 
-fn options(alloc: Global, url: &str) -> Result<ClientOptions, NoMemory> {
+pub fn options(alloc: Global, url: &str) -> Result<ClientOptions, NoMemory> {
     Ok(ClientOptions {
         url: String::from_str(alloc, url)?,
         auth: None,

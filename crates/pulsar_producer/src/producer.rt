@@ -113,7 +113,8 @@ impl Producer {
         }
     }
 
-    fn target(
+    /// The same, and none where there is no such partition. It takes no memory.
+    pub fn target(
         &mut self,
         message: &Message,
         policies: &[Box<dyn CustomRoutingPolicy>],

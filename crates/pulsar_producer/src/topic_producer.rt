@@ -74,6 +74,13 @@ impl TopicProducer {
         self.is_closed
     }
 
+    /// The tickets of those that wait for their turn.
+    pub fn waiting(&self) -> &BTreeSet<u64>
+        ensures { result.now.keys ≡ self.now.waiting }
+    {
+        &self.waiting
+    }
+
     /// Its name.
     pub fn name(&self) -> Result<Text, NoMemory>
         ensures { IfOk result (λ n. n ≡ self.now.given.name) }

@@ -13,12 +13,11 @@ use Rattle.pulsar_producer.specs.Laws.{AreAbove, LowestIsNext, NobodyWaitsForFre
 
 -- THE WAITING TICKETS RISE
 
-Rises : List ℕ → Type 0
+abbrev Rises : List ℕ → Type 0
 Rises [] = Unit {0}
 Rises (t ∷ ts) = AreAbove t ts × Rises ts
 
 above_more : (k x : ℕ) (xs : List ℕ) → k < x → AreAbove x xs → AreAbove k xs
-unfolding Rises
 above_more k x [] lt all = tt
 above_more k x (y ∷ ys) lt all = let up = all.0 in (omega (arith, lt, up), above_more k x ys lt all.1)
 
@@ -32,7 +31,6 @@ above_insert t k (x ∷ xs) lt all = by (nat_lt k x) (k == x)
     by false false = (all.0, above_insert t k xs lt all.1)
 
 rises_insert : (k : ℕ) (xs : List ℕ) → Rises xs → Rises (insert_key nat_cmp xs k)
-unfolding Rises
 rises_insert k [] all = (tt, tt)
 rises_insert k (x ∷ xs) all = by (nat_lt k x) refl (k == x) refl
   where
@@ -43,7 +41,6 @@ rises_insert k (x ∷ xs) all = by (nat_lt k x) refl (k == x) refl
     by false e false f = let gt : x < k = grind (arith, nat_tests) in (above_insert x k xs gt all.0, rises_insert k xs all.1)
 
 rises_rest : (xs : List ℕ) → Rises xs → Rises (rest_of xs)
-unfolding Rises
 rises_rest [] all = tt
 rises_rest (x ∷ xs) all = all.1
 
@@ -63,12 +60,10 @@ rises_after (Remakes l g) v all = all
 rises_after Closes v all = all
 
 rises : (s : Setup) (h : List Act) → Rises (seen s h).waiting
-unfolding Rises
 rises s [] = tt
 rises s (act ∷ h) = rises_after act (seen s h) (rises s h)
 
 lowest : (ts : List ℕ) (t : ℕ) → Rises ts → first_of ts ≡ Some t → AreAbove t (rest_of ts) × (ts ≡ t ∷ rest_of ts)
-unfolding Rises
 lowest [] t all is = absurd cc
 lowest (u ∷ us) t all is = let same : u ≡ t = cc in (subst (λ k. AreAbove k us) same all.0, ap (λ k. k ∷ us) same)
 
@@ -77,19 +72,19 @@ lowest_is_next s h t is = lowest (seen s h).waiting t (rises s h) is
 
 -- ONE WAITS
 
-listed_new : (t : ℕ) (xs : List ℕ) → list_any (λ u. u == t) (insert_key nat_cmp xs t) ≡ true
+or_true : (a b : Bool) → b ≡ true → (a || b) ≡ true
+or_true true b e = refl
+or_true false b e = e
+
+listed_new : (t : ℕ) (xs : List ℕ) → list_any (λ u. t == u) (insert_key nat_cmp xs t) ≡ true
 listed_new t [] = ap (λ b. b || false) (eq-eqb t t refl)
 listed_new t (x ∷ xs) = by (nat_lt t x) (t == x) refl
   where
     by : (a b : Bool) → (t == x) ≡ b
-        → list_any (λ u. u == t) (match_ordering (cond a Less (cond b Equal Greater)) (t ∷ x ∷ xs) (x ∷ xs) (x ∷ insert_key nat_cmp xs t)) ≡ true
-    by true b f = ap (λ c. c || list_any (λ u. u == t) (x ∷ xs)) (eq-eqb t t refl)
-    by false true f = let same : (x == t) ≡ true = grind (arith, nat_tests) in ap (λ c. c || list_any (λ u. u == t) xs) same
-    by false false f = or_true (x == t) (list_any (λ u. u == t) (insert_key nat_cmp xs t)) (listed_new t xs)
-
-    or_true : (a b : Bool) → b ≡ true → (a || b) ≡ true
-    or_true true b e = refl
-    or_true false b e = e
+        → list_any (λ u. t == u) (match_ordering (cond a Less (cond b Equal Greater)) (t ∷ x ∷ xs) (x ∷ xs) (x ∷ insert_key nat_cmp xs t)) ≡ true
+    by true b f = ap (λ c. c || list_any (λ u. t == u) (x ∷ xs)) (eq-eqb t t refl)
+    by false true f = ap (λ c. c || list_any (λ u. t == u) xs) f
+    by false false f = or_true (t == x) (list_any (λ u. t == u) (insert_key nat_cmp xs t)) (listed_new t xs)
 
 taken_waits : (o : Option ℕ) (t : ℕ) (v : Seen) → is_none o ≡ false → is_listed t (takes_in o t v).waiting ≡ true
 taken_waits None t v e = absurd cc

@@ -80,7 +80,7 @@ LowestIsNext = (s : Setup) (h : List Act) (t : ℕ) → next_holder (seen s h) �
 
 -- who waits: the tickets that wanted their turn and have not got it
 abbrev pub is_listed : ℕ → List ℕ → Bool
-is_listed t ts = list_any (λ u. u == t) ts
+is_listed t ts = list_any (λ u. t == u) ts
 
 -- One whose turn is taken waits, until it has it.
 abbrev pub WaitsInLine : Type 0

@@ -1,6 +1,6 @@
 //! A message by what is said of it.
 
-ghost use Rattle.std.specs.Prelude.{◌≡◌, Some, Err, IfOk, OnOk, MatchResult, map};
+ghost use Rattle.std.specs.Prelude.{◌≡◌, Some, Err, IfOk, OnOk, MatchResult, map, string_bytes};
 ghost use Rattle.pulsar_messages.specs.Content.{property};
 ghost use Rattle.pulsar_producer.specs.Message.{delayed, delivery, no_extras, put_property, with_extras};
 ghost use Rattle.pulsar_producer.specs.Composed.{IsBuilt, extras};
@@ -196,8 +196,19 @@ fn add_property(
 ) -> Result<(), NoMemory>
     ensures { OnOk result (map property properties.new.entries ≡ put_property key.now value.now (map property properties.old.entries)) }
 {
-    let key = String::from_str(alloc, key)?;
-    let value = String::from_str(alloc, value)?;
+    let name = String::from_str(alloc, key)?;
+    let text = String::from_str(alloc, value)?;
+    put_property(properties, name, text)
+}
+
+fn put_property(
+    properties: &mut BTreeMap<String, String>,
+    key: String,
+    value: String,
+) -> Result<(), NoMemory>
+    ensures { OnOk result (map property properties.new.entries
+        ≡ put_property (string_bytes key) (string_bytes value) (map property properties.old.entries)) }
+{
     properties.insert(key, value)?;
     Ok(())
 }

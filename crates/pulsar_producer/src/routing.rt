@@ -5,7 +5,7 @@ ghost use Rattle.std.specs.Option.{option_map};
 ghost use Rattle.pulsar_messages.specs.Content.{ProducerMessageValues, message_content};
 ghost use Rattle.pulsar_session.specs.Failures.{failure};
 ghost use Rattle.pulsar_producer.specs.Errors.{IsNoMemory, no_such_index};
-ghost use Rattle.pulsar_producer.specs.Routing.{asked, begun, chosen, count, last_by_key, number_at, of_key, routed, stepped};
+ghost use Rattle.pulsar_producer.specs.Routing.{asked, begun, chosen, count, in_range, last_by_key, number_at, of_key, routed, stepped};
 
 use pulsar_messages::{Message, RoutingPolicy};
 use pulsar_plans::content::Text;
@@ -189,13 +189,27 @@ fn asked(
 ) -> Option<usize>
     ensures { result ≡ asked (slice_get (map (λ p. routes p) policies.now) index) (message_content message.now) count }
 {
-    let policy = policies.get(index)?;
-    let partition = policy.route(message, count);
-    if partition < count {
-        Some(partition)
-    } else {
-        None
+    asked_at(policies, index, message, count)
+}
+
+fn asked_at(
+    policies: &[Box<dyn CustomRoutingPolicy>],
+    index: usize,
+    message: &Message,
+    count: usize,
+) -> Option<usize>
+    ensures { result ≡ asked (option_map (λ p. routes p) (slice_get policies.now index)) (message_content message.now) count }
+{
+    match policies.get(index) {
+        Some(policy) => in_range(policy.route(message, count), count),
+        None => None,
     }
+}
+
+fn in_range(index: usize, count: usize) -> Option<usize>
+    ensures { result ≡ in_range index count }
+{
+    if index < count { Some(index) } else { None }
 }
 
 /// Why a message has no partition.

@@ -3,4 +3,4 @@ use Rattle.std.specs.Prelude.{string_bytes}
 use Rattle.pulsar_producer.proofs.routing.PartitionedProducer.names.Given as goal
 
 abbrev pub invariant-loop-partition : goal.invariant-loop-partition
-invariant-loop-partition l = map string_bytes l.names.items ≡ map (λ q. q.name) (take l.partition-index l.self.partitions.items)
+invariant-loop-partition l = map string_bytes l.names.items ≡ map (λ q. q.name) (take l.partition-index l.self.partitions)

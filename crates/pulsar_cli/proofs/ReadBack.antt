@@ -1,15 +1,20 @@
 -- A written line is read back.
-use Rattle.std.proofs.Common.{◌≡◌, ℕ, ◌^◌, ◌<◌, ◌∙◌, ap, List, [], ◌∷◌, ◌++◌, refl, codes}
+use Rattle.std.proofs.Common.{◌≡◌, ℕ, ◌^◌, ◌<◌, ◌∙◌, ap, List, [], ◌∷◌, ◌++◌, refl, codes, arith, nat_lt, true, Some}
+use Rattle.std.proofs.lemmas.Bool.Decides.{nat_tests}
 use Rattle.std.specs.Fmt.{decimal}
 use Rattle.hex.specs.Hex.{encode_lower}
 use Rattle.pulsar_wire.specs.declared.commands.topics.Mode.{Mode}
 use Rattle.pulsar_wire.specs.declared.commands.topics.Mode.TheVariants.{Persistent, NonPersistent, All}
+use Rattle.pulsar_wire.specs.declared.error.IoKind.{IoKind}
+use Rattle.pulsar_wire.specs.declared.error.IoKind.TheVariants.{ConnectionRefused, TimedOut, Other}
 use Rattle.pulsar_messages.specs.Words.{Words}
-use Rattle.pulsar_client.specs.Content.{Asked, Build, Stop, Topics, Raw, Heard, Called, Opened, FailedToOpen, Bytes, Lost, Drain, Ticked, Poll}
+use Rattle.pulsar_client.specs.Content.{Asked, Build, Stop, Topics, Lookup, Partitions, Brokers, Raw, Heard, Called, Opened, FailedToOpen, Bytes, Lost, Drain, Ticked, Poll}
 use Rattle.pulsar_cli.specs.Words.{words}
 use Rattle.pulsar_cli.specs.WordText.{word}
-use Rattle.pulsar_cli.specs.Grammar.{Setting, Url, Auth, Outbound, Timeout, ConnectionTimeout, First, Now, Sets, Happens, line, words_line}
-use Rattle.pulsar_cli.specs.Written.{CanBeAsked, CanBeSet, CanBeWritten, written, written_setting}
+use Rattle.pulsar_cli.specs.Choices.{kind as kind_in}
+use Rattle.pulsar_cli.specs.ErrorText.{io_kind}
+use Rattle.pulsar_cli.specs.Grammar.{Setting, Url, Auth, Outbound, Timeout, RetryDelay, OpRetries, Retries, MinBackoff, MaxBackoff, ConnectionTimeout, KeepAlive, MaxIdle, Seed, First, Now, Sets, Happens, line, words_line}
+use Rattle.pulsar_cli.specs.Written.{CanBeAsked, CanBeSet, CanBeWritten, IsCount, written, written_setting}
 use Rattle.pulsar_cli.specs.WrittenRaw.{CanBeSaid, IsText, credential_words, mode_word, raw_words}
 use Rattle.pulsar_cli.proofs.WrittenLines.{IsWithinWord, one-word, first-word, decimal-within, number-decimal, hex-within, hex-encoded, word-within, text-word}
 use Rattle.pulsar_cli.proofs.WrittenRaw.{credential-reads, credential-within, mode-reads, raw-within, raw-reads, tested-within, words-behind}
@@ -18,6 +23,16 @@ mode-within : (m : Mode) → words (mode_word m) ≡ mode_word m ∷ []
 mode-within Persistent = refl
 mode-within NonPersistent = refl
 mode-within All = refl
+
+kind-within : (k : IoKind) → words (io_kind k) ≡ io_kind k ∷ []
+kind-within ConnectionRefused = refl
+kind-within TimedOut = refl
+kind-within Other = refl
+
+kind-reads : (k : IoKind) → kind_in (io_kind k) ≡ Some k
+kind-reads ConnectionRefused = refl
+kind-reads TimedOut = refl
+kind-reads Other = refl
 
 one-number : (first : List ℕ) (n : ℕ) → n < 2 ^ 64 → first ∷ words (decimal n) ≡ first ∷ decimal n ∷ []
 one-number first n lt = ap (λ (ws : List (List ℕ)). first ∷ ws) (one-word (decimal n) (decimal-within n lt))
@@ -28,6 +43,10 @@ two-words first w v within one = ap (λ (ws : List (List ℕ)). first ∷ ws) (f
 topics-read : (namespace : List ℕ) (m : Mode) → IsText namespace → words_line (codes "call" ∷ codes "topics" ∷ word namespace ∷ mode_word m ∷ []) ≡ Happens (Called (Topics namespace m))
 topics-read namespace m is = rw (text-word namespace is.0 is.1, mode-reads m) refl
 
+-- a call whose words are a topic
+one-topic : (first topic : List ℕ) → IsText topic → words_line (codes "call" ∷ first ∷ words (word topic)) ≡ words_line (codes "call" ∷ first ∷ word topic ∷ [])
+one-topic first topic is = ap (λ (ws : List (List ℕ)). words_line (codes "call" ∷ first ∷ ws)) (one-word (word topic) (word-within topic is.0))
+
 link-reads : (link : ℕ) (what : Words) → link < 2 ^ 64 → CanBeSaid what → words_line (codes "call" ∷ codes "link" ∷ decimal link ∷ raw_words what) ≡ Happens (Called (Raw link what))
 link-reads link what lt can = rw (number-decimal link lt, raw-reads what can) refl
 
@@ -37,6 +56,9 @@ asked-read Stop can = refl
 asked-read (Topics namespace m) can =
     ap (λ (ws : List (List ℕ)). words_line (codes "call" ∷ ws)) (two-words (codes "topics") (word namespace) (mode_word m) (word-within namespace can.0) (mode-within m))
     ∙ topics-read namespace m can
+asked-read (Lookup topic) can = one-topic (codes "lookup") topic can ∙ rw (text-word topic can.0 can.1) refl
+asked-read (Partitions topic) can = one-topic (codes "partitions") topic can ∙ rw (text-word topic can.0 can.1) refl
+asked-read (Brokers topic) can = one-topic (codes "brokers") topic can ∙ rw (text-word topic can.0 can.1) refl
 asked-read (Raw link what) can =
     ap (λ (ws : List (List ℕ)). words_line (codes "call" ∷ codes "link" ∷ ws)) (words-behind (decimal link) (raw_words what) (decimal-within link can.0) (raw-within what can.1))
     ∙ link-reads link what can.0 can.1
@@ -48,8 +70,8 @@ reads-back (Opened l) can =
 reads-back (Lost l) can =
     ap (λ (ws : List (List ℕ)). words_line ws) (one-number (codes "lost") l can) ∙ rw (number-decimal l can) refl
 reads-back (FailedToOpen l kind) can =
-    ap (λ (ws : List (List ℕ)). words_line ws) (two-words (codes "failed") (decimal l) (codes "other") (decimal-within l can.0) refl)
-    ∙ rw (number-decimal l can.0, can.1) refl
+    ap (λ (ws : List (List ℕ)). words_line ws) (two-words (codes "failed") (decimal l) (io_kind kind) (decimal-within l can) (kind-within kind))
+    ∙ rw (number-decimal l can, kind-reads kind) refl
 reads-back (Bytes l piece) can =
     ap (λ (ws : List (List ℕ)). words_line ws) (two-words (codes "bytes") (decimal l) (encode_lower piece) (decimal-within l can.0) (one-word (encode_lower piece) (hex-within piece can.1)))
     ∙ rw (number-decimal l can.0, hex-encoded piece can.1 can.2) refl
@@ -69,6 +91,10 @@ auth-within = tested-within (codes "auth") refl
 number-set : (option : List ℕ) (n : ℕ) → n < 2 ^ 64 → codes "set" ∷ option ∷ words (decimal n) ≡ codes "set" ∷ option ∷ decimal n ∷ []
 number-set option n lt = ap (λ (ws : List (List ℕ)). codes "set" ∷ ws) (one-number option n lt)
 
+-- a number of 32 bits
+is-count : (n : ℕ) → IsCount n → nat_lt n (2 ^ 32) ≡ true
+is-count n lt = grind (arith, nat_tests)
+
 pub sets-read-back : (s : Setting) → CanBeSet s → line (written_setting s) ≡ Sets s
 sets-read-back (Url text) can =
     ap (λ (ws : List (List ℕ)). words_line (codes "set" ∷ codes "url" ∷ ws)) (one-word (word text) (word-within text can.0))
@@ -78,6 +104,18 @@ sets-read-back (Auth credential) can =
     ∙ rw (credential-reads credential can) refl
 sets-read-back (Outbound size) can = ap words_line (number-set (codes "outbound") size can) ∙ rw (number-decimal size can) refl
 sets-read-back (Timeout time) can = ap words_line (number-set (codes "timeout") time can) ∙ rw (number-decimal time can) refl
+sets-read-back (RetryDelay time) can = ap words_line (number-set (codes "retry-delay") time can) ∙ rw (number-decimal time can) refl
+sets-read-back (OpRetries most) can =
+    let lt : most < 2 ^ 64 = omega (arith, can) in
+    ap words_line (number-set (codes "op-retries") most lt) ∙ rw (number-decimal most lt, is-count most can) refl
+sets-read-back (Retries most) can =
+    let lt : most < 2 ^ 64 = omega (arith, can) in
+    ap words_line (number-set (codes "retries") most lt) ∙ rw (number-decimal most lt, is-count most can) refl
+sets-read-back (MinBackoff time) can = ap words_line (number-set (codes "min-backoff") time can) ∙ rw (number-decimal time can) refl
+sets-read-back (MaxBackoff time) can = ap words_line (number-set (codes "max-backoff") time can) ∙ rw (number-decimal time can) refl
 sets-read-back (ConnectionTimeout time) can = ap words_line (number-set (codes "connection-timeout") time can) ∙ rw (number-decimal time can) refl
+sets-read-back (KeepAlive time) can = ap words_line (number-set (codes "keep-alive") time can) ∙ rw (number-decimal time can) refl
+sets-read-back (MaxIdle time) can = ap words_line (number-set (codes "max-idle") time can) ∙ rw (number-decimal time can) refl
+sets-read-back (Seed seed) can = ap words_line (number-set (codes "seed") seed can) ∙ rw (number-decimal seed can) refl
 sets-read-back (First number) can = ap words_line (number-set (codes "first") number can) ∙ rw (number-decimal number can) refl
 sets-read-back (Now time) can = ap words_line (number-set (codes "now") time can) ∙ rw (number-decimal time can) refl

@@ -78,9 +78,19 @@ pub fn script<S: Source, K: Sink>(
     let Ok(mut reading) = Reading::new(alloc, policies) else {
         return NO_MEMORY;
     };
-    match read(&mut reading, source, sink) {
+    let status = read_through(&mut reading, source, sink);
+    drop(reading);
+    status
+}
+
+/// Reads the source to its end, or to where that stops, and prints what it says.
+fn read_through<S: Source, K: Sink>(reading: &mut Reading, source: &mut S, sink: &mut K) -> Status
+    requires { Running reading.old [] [] }
+    ensures { Ran result (seen S.left S.faults source.old source.new) (seen K.holds K.faults sink.old sink.new) }
+{
+    match read(reading, source, sink) {
         Ok(()) => DONE,
-        Err(stop) => halt(stop, &mut reading, sink),
+        Err(stop) => halt(stop, reading, sink),
     }
 }
 

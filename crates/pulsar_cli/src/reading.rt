@@ -1,11 +1,12 @@
 //! A script that is being read, and its run.
 
-ghost use Rattle.std.specs.Prelude.{◌≡◌, ◌⊎◌, ◌+◌, ◌++◌, [], ℕ, List, Err, IfErr, IfOk, OnOk, false, map};
+ghost use Rattle.std.specs.Prelude.{◌≡◌, ◌⊎◌, ◌+◌, ◌++◌, [], ℕ, List, Err, IfErr, IfOk, OnOk, false, map, ◌∷◌};
 ghost use Rattle.pulsar_client.specs.Client.{StandsFor, chosen};
 ghost use Rattle.pulsar_client.specs.Content.{heard};
 ghost use Rattle.pulsar_client.specs.Run.{Step, is_empty};
 ghost use Rattle.pulsar_client.specs.View.{Chosen};
 ghost use Rattle.pulsar_producer.specs.Routing.{Policy};
+ghost use Rattle.pulsar_client.specs.Tables.{step};
 ghost use Rattle.pulsar_cli.specs.Grammar.{line as meaning};
 ghost use Rattle.pulsar_cli.specs.Parsed.{line_of, setting_of};
 ghost use Rattle.pulsar_cli.specs.Script.{chooses};
@@ -17,7 +18,7 @@ use crate::grammar::word::cut_line;
 use crate::options::{choose, defaults};
 use crate::printing::effect::push_step;
 use crate::stop::Stop;
-use pulsar_client::{ClientOptions, CustomRoutingPolicy, Event, Pulsar};
+use pulsar_client::{ClientOptions, CustomRoutingPolicy, Effect, Event, Pulsar};
 use pulsar_wire::NoMemory;
 use std::alloc::Global;
 
@@ -173,16 +174,31 @@ impl Reading {
         ensures history { OnOk result (Steps self.old self.new (heard event)) }
         ensures err { IfErr result (λ stop. stop ≡ Stop.NoMemory) }
     {
-        let mut client = self.started()?;
-        let Ok(effects) = client.step(event) else {
-            return Err(Stop::NoMemory);
-        };
-        self.stage = Some(Stage::Runs(client));
+        let effects = self.effects(event)?;
         let Ok(()) = push_step(&mut self.out, self.events, &effects) else {
+            drop(effects);
             return Err(Stop::NoMemory);
         };
+        drop(effects);
         self.events = next(self.events)?;
         Ok(())
+    }
+
+    /// The effects of an event.
+    fn effects(&mut self, event: Event) -> Result<Vec<Effect>, Stop>
+        ensures client { IfOk result (λ out. (o : Chosen) (h : List Step) → IsClient o self.old.stage h
+            → IsClient o self.new.stage (step event out.items ∷ h)) }
+        ensures text { OnOk result (KeepsText self.old self.new) }
+        ensures line { OnOk result (self.new.line ≡ self.old.line) }
+        ensures err { IfErr result (λ stop. stop ≡ Stop.NoMemory) }
+    {
+        let mut client = self.started()?;
+        let effects = client.step(event);
+        drop(self.stage.replace(Stage::Runs(client)));
+        match effects {
+            Ok(effects) => Ok(effects),
+            Err(_) => Err(Stop::NoMemory),
+        }
     }
 
     /// The client, taken out; it is made where the first event comes.

@@ -13,17 +13,17 @@ use Rattle.pulsar_session.specs.Link as session
 use Rattle.pulsar_session.specs.Link.{Act as Act', Opens, Feeds, Takes, Asks, Drains, Closes, Seen, Setup, answered_to, greeted, is_open, is_over, moved_up, number_for, settled_by, taken_in, ticked}
 use Rattle.pulsar_session.proofs.Still.{asked_of, moving, opening, unless}
 use Rattle.pulsar_client.specs.declared.act.Act.TheVariants.{Comes, Does, Dials}
-use Rattle.pulsar_client.specs.declared.act.Action.TheVariants.{Ask}
+use Rattle.pulsar_client.specs.declared.act.Action.TheVariants.{Get, Ask}
 use Rattle.pulsar_client.specs.declared.act.LinkAct.{LinkAct}
 use Rattle.pulsar_client.specs.declared.act.LinkAct.TheVariants.{Ends}
 use Rattle.pulsar_client.specs.declared.act.Part.TheVariants.{ToLink}
 use Rattle.pulsar_client.specs.declared.act.Who.{Who}
-use Rattle.pulsar_client.specs.Address.{Address}
+use Rattle.pulsar_plans.specs.Address.{Place}
 use Rattle.pulsar_client.specs.Content.{Heard, Bytes}
 use Rattle.pulsar_client.specs.Laws.{LinksAlone, call_at, calls_of, dialed_with}
 use Rattle.pulsar_client.specs.Links.{call_of, called, closed_by}
 use Rattle.pulsar_client.specs.Run.{Entry, Begins, Then, view}
-use Rattle.pulsar_client.specs.View.{Chosen, Seat, begun_live, dialed, is_at, is_live, live_begun, seat_asked, seat_fed, setup, seat_of_fresh, took, took_end, took_some}
+use Rattle.pulsar_client.specs.View.{Chosen, Seat, begun_live, dialed, got_at, is_at, is_live, link_got, live_begun, seat_asked, seat_fed, seat_got, setup, took, took_end, took_some}
 use Rattle.pulsar_client.proofs.Acts.{chosen_same}
 
 pub some_is : {A : Type 0} {x y : A} → Some x ≡ Some y → x ≡ y
@@ -117,10 +117,22 @@ not_fed start calls piece (Some r) d k seat h =
     subst (λ (t : Seat). Made start (Feeds piece ∷ calls) t.seen) same
     (subst (Made start (Feeds piece ∷ calls)) e (more start calls r.seen (k r refl) (Feeds piece) refl))
 
-made_fresh : (o : Chosen) (now : ℕ) (address : Option Address) → Is (option_map (setup o now) address) [] (option_map (λ a. seat_of_fresh (session.fresh (setup o now a))) address)
-made_fresh o now None seat h = absurd (no_some h)
-made_fresh o now (Some a) seat h =
-    subst (λ (t : Seat). Made (Some (setup o now a)) [] t.seen) (some_is h) (record { setup = setup o now a; dialed = refl; same = refl; live = refl })
+made_fresh : (o : Chosen) (l now : ℕ) (p : Place) → Is (Some (setup o l now p)) [] (Some (dialed o l now p))
+made_fresh o l now p seat h =
+    subst (λ (t : Seat). Made (Some (setup o l now p)) [] t.seen) (some_is h) (record { setup = setup o l now p; dialed = refl; same = refl; live = refl })
+
+-- one who gets it changes nothing of its connection
+some_got : (start : Option Setup) (calls : List Act') (now : ℕ) (row : Option Seat) → Is start calls row → Is start calls (option_map (seat_got now) row)
+some_got start calls now None k seat h = absurd (no_some h)
+some_got start calls now (Some r) k seat h = subst (λ (t : Seat). Made start calls t.seen) (some_is h) (k r refl)
+
+got_on : (start : Option Setup) (calls : List Act') (link : Option ℕ) (now l : ℕ) (row : Option Seat) → Is start calls row → Is start calls (got_at link now l row)
+got_on start calls None now l row k = k
+got_on start calls (Some m) now l row k = either (l == m)
+  where
+    either : (b : Bool) → Is start calls (cond b (option_map (seat_got now) row) row)
+    either true = some_got start calls now row k
+    either false = k
 
 -- ALONG A LOG
 
@@ -166,11 +178,21 @@ module _ (o : Chosen) where
     | inr e ↦ rw e (p seat (rw e at h))
   ]
 
-  dialed_by : (log : List Entry) (l : ℕ) (starter : Who) → Alone log l → Alone (Then (Dials starter) ∷ log) l
-  dialed_by log l starter p seat h = elim (cases_Bool (l == (view o log).links.started)) [
-    | inl e ↦ rw e (made_fresh o (view o log).now o.address seat (ap (λ c. dialed c (view o log).now) (sym (chosen_same o log)) ∙ (rw e at h)))
+  dialed_by : (log : List Entry) (l : ℕ) (place : Place) (starter : Who) (retries : ℕ) → Alone log l → Alone (Then (Dials place starter retries) ∷ log) l
+  dialed_by log l place starter retries p seat h = elim (cases_Bool (l == (view o log).links.started)) [
+    | inl e ↦ rw e (made_fresh o l (view o log).now place seat (this_one e ∙ (rw e at h)))
     | inr e ↦ rw e (p seat (rw e at h))
   ]
+    where
+      this_one : (l == (view o log).links.started) ≡ true →
+          Some (dialed o l (view o log).now place) ≡ Some (dialed (view o log).chosen (view o log).links.started (view o log).now place)
+      this_one e =
+          ap (λ c. Some (dialed c l (view o log).now place)) (sym (chosen_same o log))
+          ∙ ap (λ k. Some (dialed (view o log).chosen k (view o log).now place)) (eqb-true l (view o log).links.started e)
+
+  got_by : (log : List Entry) (l : ℕ) (who : Who) (place : Place) → Alone log l → Alone (Then (Does who (Get place)) ∷ log) l
+  got_by log l who place p =
+      got_on (dialed_with o l log) (calls_of o l log) (link_got (view o log).addresses (Does who (Get place))) (view o log).now l ((view o log).links.live l) p
 
   pub alone : (log : List Entry) (l : ℕ) → Alone log l
   alone [] l = λ seat h. absurd (no_some h)
@@ -178,7 +200,8 @@ module _ (o : Chosen) where
   alone (Begins e ∷ log) l = same_on log l e refl refl (alone log l)
   alone (Then (Comes (ToLink k x)) ∷ log) l = took_by log k l x (alone log l)
   alone (Then (Does who (Ask k request)) ∷ log) l = asked_by log k l who request (alone log l)
-  alone (Then (Dials starter) ∷ log) l = dialed_by log l starter (alone log l)
+  alone (Then (Does who (Get place)) ∷ log) l = got_by log l who place (alone log l)
+  alone (Then (Dials place starter retries) ∷ log) l = dialed_by log l place starter retries (alone log l)
   alone (Then _ ∷ log) l = alone log l
 
 pub links_alone_lem : LinksAlone

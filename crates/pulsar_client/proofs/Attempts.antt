@@ -1,15 +1,15 @@
 -- An attempt begins a series, or follows one that failed: it stands at the head of what its cause gives rise to, and comes right behind it.
-use Rattle.std.proofs.Common.{◌≡◌, ◌⊎◌, inl, inr, ◌∙◌, sym, ap, subst, ℕ, ◌+◌, ◌≤◌, nat_lt, List, [], ◌∷◌, ◌++◌, refl, arith, drop, Bool, true, false, ◌&&◌, ◌==◌, bytes_eq, cond, Option, Some, None}
+use Rattle.std.proofs.Common.{◌≡◌, ◌⊎◌, inl, inr, ◌∙◌, sym, ap, subst, ℕ, ◌+◌, ◌≤◌, nat_lt, List, [], ◌∷◌, ◌++◌, refl, arith, drop, Bool, true, false, ◌&&◌, ◌==◌, cond, Option, Some, None}
 use Rattle.std.proofs.lemmas.Bool.{cases_Bool}
 use Rattle.std.proofs.lemmas.Bool.Decides.{nat_tests}
 use Rattle.std.specs.Option.{option_map}
-use Rattle.pulsar_run.specs.Run.{first_of, rest, rest_of}
+use Rattle.pulsar_run.specs.Run.{rest, rest_of}
 use Rattle.pulsar_session.specs.Link.{is_spent}
 use Rattle.pulsar_plans.specs.Address.{Place, address_key, is_reachable}
 use Rattle.pulsar_client.specs.declared.act.Act.{Act}
-use Rattle.pulsar_client.specs.declared.act.Act.TheVariants.{Comes, Starts, Told, Does, Answers, Dials}
+use Rattle.pulsar_client.specs.declared.act.Act.TheVariants.{Comes, Starts, Told, Does, Dials}
 use Rattle.pulsar_client.specs.declared.act.Action.{Action}
-use Rattle.pulsar_client.specs.declared.act.Action.TheVariants.{Get, Ask, StopAll, Rest}
+use Rattle.pulsar_client.specs.declared.act.Action.TheVariants.{Get, StopAll, Rest}
 use Rattle.pulsar_client.specs.declared.act.Alarm.{Alarm}
 use Rattle.pulsar_client.specs.declared.act.Alarm.TheVariants.{Retry, Wake, KeepAlive, CheckIdle}
 use Rattle.pulsar_client.specs.declared.act.Arrival.{Arrival}
@@ -31,14 +31,14 @@ use Rattle.pulsar_client.specs.declared.plans.plan.Plan.{Plan}
 use Rattle.pulsar_client.specs.declared.plans.plan.Turn.{Turn}
 use Rattle.pulsar_client.specs.declared.plans.plan.Turn.TheVariants.{Stays, Gives}
 use Rattle.pulsar_client.specs.Alarms.{rings}
-use Rattle.pulsar_client.specs.Content.{Asked, Heard}
+use Rattle.pulsar_client.specs.Content.{Asked}
 use Rattle.pulsar_client.specs.Laws.{AttemptsFollow, Begun, Followed, base_of}
-use Rattle.pulsar_client.specs.Links.{Change, Remains, Becomes, IsOver}
+use Rattle.pulsar_client.specs.Links.{Change, IsOver}
 use Rattle.pulsar_client.specs.Plan.{begins}
-use Rattle.pulsar_client.specs.Rules.{at_once, breaks_at, called, does, follows, follows_some, gets, gets_from, idle_act, is_idle, keeps_alive, may_ping, over_links, performs, rung, stop_act, tells, tries_again}
-use Rattle.pulsar_client.specs.Run.{Entry, Begins, Then, IsRun, agenda, first, rules, view}
-use Rattle.pulsar_client.specs.View.{Chosen, Seat, Tickets, Turned, View, arrival_at, is_retryable, may_retry, pause_after, pause_for, pause_of, pause_on, pause_put, pause_rung, told_some, turned_by}
-use Rattle.pulsar_client.proofs.Acts.{Each, begun_same, chosen_same, each_append, each_drop, each_either, first_case, is_served, over_each}
+use Rattle.pulsar_client.specs.Rules.{at_once, breaks_at, called, does, follows, follows_some, gets_from, idle_act, is_idle, keeps_alive, may_ping, over_links, performs, rung, stop_act, tells, tries_again}
+use Rattle.pulsar_client.specs.Run.{Entry, Begins, Then, agenda, view}
+use Rattle.pulsar_client.specs.View.{Chosen, Seat, Tickets, Turned, View, arrival_at, is_retryable, pause_after, pause_for, pause_of, pause_on, pause_put, pause_rung, told_some, turned_by}
+use Rattle.pulsar_client.proofs.Acts.{Each, begun_same, chosen_same, each_append, each_drop, each_either, first_case, over_each}
 
 -- WHAT IS NO ATTEMPT
 
@@ -228,8 +228,15 @@ module _ (o : Chosen) (older : List Entry) (p : Place) (starter : Who) (n : ℕ)
       let a : q.address ≡ p = cc in
       let b : q.starter ≡ starter = cc in
       let c : n ≡ q.retries + 1 = cc in
-      inr (l, q.retries, refl, r, e ∙ (λ i. Some (record { address = a i; starter = b i; retries = q.retries })), c,
-          subst (λ m. m ≤ o.connection.max_retries) (sym c) (at_most q.retries o.connection.max_retries few))
+      inr (
+        l,
+        q.retries,
+        refl,
+        r,
+        e ∙ (λ i. Some (record { address = a i; starter = b i; retries = q.retries })),
+        c,
+        subst (λ m. m ≤ o.connection.max_retries) (sym c) (at_most q.retries o.connection.max_retries few),
+      )
 
   rung_caused : (a : Alarm) (ys : List Act) → rings v.now a v.alarms ≡ true → rung v a ≡ Dials p starter n ∷ ys → CausedBy (Comes (Rings a))
   rung_caused (Retry l) ys r h = followed l (v.addresses.pause l) ys r refl (few_retries o older l) h
@@ -272,7 +279,7 @@ attempts_follow_lem o (Then a ∷ older) p starter n run =
         older,
         refl,
         head_raised o older p starter n a (at_once (view o older) a) (rest (agenda o older)).now (rest g).now refl
-        (rest_none (agenda o older).now (agenda o older).here (agenda o older).behind (agenda o older).parts (one_now o older)) h,
+            (rest_none (agenda o older).now (agenda o older).here (agenda o older).behind (agenda o older).parts (one_now o older)) h,
       )
       | inr h ↦ (let f : false ≡ true = h.2 in absurd cc)
     ]

@@ -46,7 +46,7 @@ use Rattle.pulsar_client.specs.Laws.{AttemptEnds, Cause, OutcomesAreCaused, Line
 use Rattle.pulsar_client.specs.Links as links
 use Rattle.pulsar_client.specs.Links.{arrival, change_at, change_in, closed_by, line_places, new_places, times_out}
 use Rattle.pulsar_client.specs.Plan.{begins}
-use Rattle.pulsar_client.specs.Rules.{alone, answered_by, answered_on, at_once, breaks_at, called, caused, causes, does, dropped, ended_by, ended_on, ended_places, failed, failed_at, failed_by, failed_on, failed_over, failed_so, fails_so, follows, follows_some, further, gets, gets_from, idle_act, is_idle, keeps_alive, lost, lost_so, lost_with, may_ping, moved_on, notice, opens, over_links, parts, rung, served_by, served_on, stop_act, stopped_at, stopped_with, tells, tells_asker, told_at, tries_again, waiters_of, woken}
+use Rattle.pulsar_client.specs.Rules.{alone, answered_by, answered_on, at_once, breaks_at, called, caused, causes, does, dropped, ended_by, ended_on, failed, failed_by, failed_on, failed_over, failed_so, fails_so, follows, follows_some, further, gets_from, idle_act, is_idle, keeps_alive, lost, lost_so, lost_with, may_ping, moved_on, notice, opens, over_links, parts, rung, served_by, served_on, stop_act, stopped_at, stopped_with, tells, tells_asker, told_at, tries_again, waiters_of, woken}
 use Rattle.pulsar_client.specs.Run.{Entry, Begins, Then, rules, view}
 use Rattle.pulsar_client.specs.View.{Addresses, Chosen, Seat, Tickets, View, answer_at, arrival_at, pause_for, pause_of, told_some, turned_by}
 use Rattle.pulsar_client.specs.Who.{is_same}

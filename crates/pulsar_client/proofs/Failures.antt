@@ -6,10 +6,13 @@ use Rattle.pulsar_run.specs.Laws.{In}
 use Rattle.pulsar_wire.specs.Field.{◌>>=◌}
 use Rattle.pulsar_wire.specs.Enumerations.{error_of}
 use Rattle.pulsar_messages.specs.Words.{Words}
-use Rattle.pulsar_session.specs.Failures.{DiscoveryConnection, DiscoveryFault, DiscoveryNotFound, Failure, Fault, OfConnection, OfDiscovery, Query}
+use Rattle.pulsar_session.specs.Failures.{DiscoveryConnection, DiscoveryFault, DiscoveryNotFound, Failure, OfConnection, OfDiscovery, Query}
 use Rattle.pulsar_session.specs.Reply.{Reply as Content, is_body}
 use Rattle.pulsar_link.specs.Request.{is_answered, request_number}
-use Rattle.pulsar_plans.specs.Address.{Named, Place}
+use Rattle.url.specs.declared.host.Host.{Host}
+use Rattle.url.specs.Parser.{Parsed, parse_url}
+use Rattle.url.specs.Parts.{Parts, nonempty_host}
+use Rattle.pulsar_plans.specs.Address.{Named, Place, at_host, place_of_parsed}
 use Rattle.pulsar_plans.specs.Backoff.{allow_retry}
 use Rattle.pulsar_plans.specs.Plans as search
 use Rattle.pulsar_plans.specs.Plans.{and_then, count_failed, count_gets, count_heard, count_told, is_lost, is_partition, look_begins, look_failed, look_gets, look_heard, look_pointed, look_told, name_found, names_left, names_of, names_told, partition_name}
@@ -31,7 +34,6 @@ use Rattle.pulsar_plans.specs.declared.replies.Heard.{Heard}
 use Rattle.pulsar_plans.specs.declared.replies.Heard.TheVariants.{Says as Tells, Later, Denies}
 use Rattle.pulsar_plans.specs.declared.replies.Pointed.{Pointed}
 use Rattle.pulsar_plans.specs.declared.replies.Pointed.TheVariants.{Redirects, Serves}
-use Rattle.pulsar_plans.specs.declared.turn.Action.{Action as Wish}
 use Rattle.pulsar_plans.specs.declared.turn.Outcome.{Outcome as News}
 use Rattle.pulsar_plans.specs.declared.turn.Outcome.TheVariants as news
 use Rattle.pulsar_plans.specs.declared.turn.Turn.{Turn as SearchTurn}
@@ -43,7 +45,6 @@ use Rattle.pulsar_client.specs.declared.act.Action.TheVariants.{Get, Ask, StopAl
 use Rattle.pulsar_client.specs.declared.act.Makes.{Makes}
 use Rattle.pulsar_client.specs.declared.act.Makes.TheVariants.{Nothing, Client}
 use Rattle.pulsar_client.specs.declared.act.Outcome.{Outcome}
-use Rattle.pulsar_client.specs.declared.act.Outcome.TheVariants as outcome
 use Rattle.pulsar_client.specs.declared.act.Outcome.TheVariants.{GotLink, Queued, InLine, Replied, Woken, Cut, Stopped}
 use Rattle.pulsar_client.specs.declared.act.Place.TheVariants.{At, Link}
 use Rattle.pulsar_client.specs.declared.act.Procedure.{Procedure}
@@ -69,54 +70,74 @@ use Rattle.pulsar_client.proofs.Made.{calls_are_made_lem}
 -- WHAT A REPLY SAYS TO A SEARCH
 
 -- where it denies, it says why
-abbrev HeardSo : {A : Type 0} → Content → Heard A → Type 0
-HeardSo r (Tells a) = Unit {0}
-HeardSo r Later = Unit {0}
-HeardSo r (Denies f) = (d : DiscoveryFault) × (f ≡ OfDiscovery d) × DeniesSo d r
+abbrev HeardSo : {A : Type 0} → Ways → Content → Heard A → Type 0
+HeardSo w r (Tells a) = Unit {0}
+HeardSo w r Later = Unit {0}
+HeardSo w r (Denies f) = (d : DiscoveryFault) × (f ≡ OfDiscovery d) × DeniesSo w d r
 
-heard_when : {A : Type 0} (r : Content) (b : Bool) (x y : Heard A) → (b ≡ true → HeardSo r x) → HeardSo r y → HeardSo r (cond b x y)
-heard_when r true x y p q = p refl
-heard_when r false x y p q = q
+heard_when : {A : Type 0} (w : Ways) (r : Content) (b : Bool) (x y : Heard A) → (b ≡ true → HeardSo w r x) → (b ≡ false → HeardSo w r y) → HeardSo w r (cond b x y)
+heard_when w r true x y p q = p refl
+heard_when w r false x y p q = q refl
 
-failing_so : {A : Type 0} (w : Ways) (n : ℕ) (r : Content) → HeardSo {A = A} r (failing w n r.error r.text)
-failing_so {A} w n r =
-    heard_when {A = A} r (is_choice (pos 6) r.error && allow_retry w.max_retries n) Later (Denies (query r.error r.text)) (λ e. tt)
-    (Query (r.error >>= error_of) r.text, refl, refl)
+-- the reply fails
+abbrev FailsHow : Content → Type 0
+FailsHow r = ((is_body 22 r.body ≡ true) × (fails_by (pos 1) r.response ≡ true)) ⊎ ((is_body 24 r.body ≡ true) × (fails_by (pos 2) r.response ≡ true))
 
-counted_so : (r : Content) (count : Option ℕ) → HeardSo r (counted_of r count)
-counted_so r None = (Query (r.error >>= error_of) r.text, refl, refl)
-counted_so r (Some count) = tt
+failing_so : (A : Type 0) (w : Ways) (n : ℕ) (r : Content) → FailsHow r → HeardSo {A = A} w r (failing w n r.error r.text)
+failing_so A w n r how =
+    heard_when {A = A} w r (is_choice (pos 6) r.error && allow_retry w.max_retries n) Later (Denies (query r.error r.text)) (λ e. tt)
+    (λ e. (Query (r.error >>= error_of) r.text, refl, (refl, inl (how, n, e))))
 
-another_body : {A : Type 0} (r : Content) → HeardSo {A = A} r (Denies (in_discovery (unexpected r r.body)))
-another_body {A} r = (DiscoveryConnection (unexpected r r.body), refl, refl)
+counted_so : (w : Ways) (r : Content) (count : Option ℕ) → is_body 22 r.body ≡ true → r.partitions ≡ count → HeardSo w r (counted_of r count)
+counted_so w r None e is = (Query (r.error >>= error_of) r.text, refl, (refl, inr (e, is)))
+counted_so w r (Some count) e is = tt
 
-count_so : (w : Ways) (n : ℕ) (r : Content) → HeardSo r (count_in w n r)
+another_body : (A : Type 0) (w : Ways) (r : Content) → HeardSo {A = A} w r (Denies (in_discovery (unexpected r r.body)))
+another_body A w r = (DiscoveryConnection (unexpected r r.body), refl, refl)
+
+count_so : (w : Ways) (n : ℕ) (r : Content) → HeardSo w r (count_in w n r)
 unfolding count_in
 count_so w n r =
     let refuses : Heard ℕ = failing w n r.error r.text in
     let counts : Heard ℕ = counted_of r r.partitions in
-    heard_when r (is_body 22 r.body) (cond (fails_by (pos 1) r.response) refuses counts) (Denies (in_discovery (unexpected r r.body)))
-    (λ e. heard_when r (fails_by (pos 1) r.response) refuses counts (λ e. failing_so w n r) (counted_so r r.partitions)) (another_body r)
+    heard_when w r (is_body 22 r.body) (cond (fails_by (pos 1) r.response) refuses counts) (Denies (in_discovery (unexpected r r.body)))
+    (λ b. heard_when w r (fails_by (pos 1) r.response) refuses counts (λ f. failing_so ℕ w n r (inl (b, f))) (λ f. counted_so w r r.partitions b refl))
+    (λ b. another_body ℕ w r)
 
-pointed_so : (r : Content) (place : Option Place) → is_body 24 r.body ≡ true → HeardSo r (pointed_at r.response r.authority place)
-pointed_so r None e = (DiscoveryNotFound, refl, e)
-pointed_so r (Some place) e =
-    heard_when r (is_choice (pos 0) r.response) (Tells (Redirects place (is_set r.authority))) (Tells (Serves place)) (λ e. tt) tt
+-- whether a text is an address does not depend on what it is reached by
+none_hosted : (b b' : Place) (p p' : Bool) (url : Parts) (host : Option (Host (List ℕ))) → at_host b p url host ≡ None → at_host b' p' url host ≡ None
+none_hosted b b' p p' url None h = refl
+none_hosted b b' p p' url (Some host) h = absurd cc
 
-place_so : (w : Ways) (proxy : Bool) (n : ℕ) (r : Content) → HeardSo r (place_heard w proxy n r)
+none_parsed : (b b' : Place) (p p' : Bool) (x : Parsed Parts) → place_of_parsed b p x ≡ None → place_of_parsed b' p' x ≡ None
+none_parsed b b' p p' (Ok url) h = none_hosted b b' p p' url (nonempty_host url) h
+none_parsed b b' p p' (Err e) h = refl
+
+none_at : (b b' : Place) (p p' : Bool) (text : Option (List ℕ)) → place_at b p text ≡ None → place_at b' p' text ≡ None
+none_at b b' p p' None h = refl
+none_at b b' p p' (Some text) h = none_parsed b b' p p' (parse_url None text) h
+
+pointed_so : (w : Ways) (proxy : Bool) (r : Content) (place : Option Place) → is_body 24 r.body ≡ true → place_at w.base proxy r.url ≡ place →
+    HeardSo w r (pointed_at r.response r.authority place)
+pointed_so w proxy r None e is = (DiscoveryNotFound, refl, (e, λ base p. none_at w.base base proxy p r.url is))
+pointed_so w proxy r (Some place) e is =
+    heard_when w r (is_choice (pos 0) r.response) (Tells (Redirects place (is_set r.authority))) (Tells (Serves place)) (λ c. tt) (λ c. tt)
+
+place_so : (w : Ways) (proxy : Bool) (n : ℕ) (r : Content) → HeardSo w r (place_heard w proxy n r)
 unfolding place_heard
 place_so w proxy n r =
     let refuses : Heard Pointed = failing w n r.error r.text in
     let place : Option Place = place_at w.base (proxy || is_set r.proxy) r.url in
     let points : Heard Pointed = pointed_at r.response r.authority place in
-    heard_when r (is_body 24 r.body) (cond (fails_by (pos 2) r.response) refuses points) (Denies (in_discovery (unexpected r r.body)))
-    (λ e. heard_when r (fails_by (pos 2) r.response) refuses points (λ e'. failing_so w n r) (pointed_so r place e)) (another_body r)
+    heard_when w r (is_body 24 r.body) (cond (fails_by (pos 2) r.response) refuses points) (Denies (in_discovery (unexpected r r.body)))
+    (λ b. heard_when w r (fails_by (pos 2) r.response) refuses points (λ f. failing_so Pointed w n r (inr (b, f)))
+    (λ f. pointed_so w (proxy || is_set r.proxy) r place b refl)) (λ b. another_body Pointed w r)
 
 -- WHERE A SEARCH FAILS
 
 -- by news: with the fault that they tell, or with what a reply says
-abbrev Turns : News → Failure → Type 0
-Turns n f = (f ≡ in_discovery (search.fault_of n)) ⊎ ((r : Content) × (d : DiscoveryFault) × (n ≡ news.Replied r) × (f ≡ OfDiscovery d) × DeniesSo d r)
+abbrev Turns : Ways → News → Failure → Type 0
+Turns w n f = (f ≡ in_discovery (search.fault_of n)) ⊎ ((r : Content) × (d : DiscoveryFault) × (n ≡ news.Replied r) × (f ≡ OfDiscovery d) × DeniesSo w d r)
 
 -- where a machine fails, its failure is such
 abbrev FailsBy : {S A : Type 0} → (Failure → Type 0) → SearchTurn S (Result A Failure) → Type 0
@@ -134,16 +155,16 @@ then_fails P (search_turn.Stays s action) within on p q = tt
 then_fails P (search_turn.Gives (Ok a)) within on p q = q a
 then_fails P (search_turn.Gives (Err f)) within on p q = p
 
-count_hears : (w : Ways) (n l : ℕ) (r : Content) (h : Heard ℕ) → HeardSo r h → FailsBy (Turns (news.Replied r)) (count_heard w n l h)
+count_hears : (w : Ways) (n l : ℕ) (r : Content) (h : Heard ℕ) → HeardSo w r h → FailsBy (Turns w (news.Replied r)) (count_heard w n l h)
 count_hears w n l r (Tells count) k = tt
 count_hears w n l r Later k = tt
 count_hears w n l r (Denies f) k = inr (r, k.0, refl, k.1, k.2)
 
-count_loses : (w : Ways) (again : Bool) (n : ℕ) (o : News) → FailsBy (Turns o) (count_failed w again n (search.fault_of o))
+count_loses : (w : Ways) (again : Bool) (n : ℕ) (o : News) → FailsBy (Turns w o) (count_failed w again n (search.fault_of o))
 count_loses w again n o =
-    either_fails (Turns o) (again && is_lost (search.fault_of o)) (count_gets w false n) (search.fails (in_discovery (search.fault_of o))) tt (inl refl)
+    either_fails (Turns w o) (again && is_lost (search.fault_of o)) (count_gets w false n) (search.fails (in_discovery (search.fault_of o))) tt (inl refl)
 
-count_fails : (w : Ways) (t : List ℕ) (c : Counting) (o : News) → FailsBy (Turns o) (count_told w t c o)
+count_fails : (w : Ways) (t : List ℕ) (c : Counting) (o : News) → FailsBy (Turns w o) (count_told w t c o)
 count_fails w t (count.Getting again n) (news.GotLink l) = tt
 count_fails w t (count.Getting again n) o = inl refl
 count_fails w t (count.Asked again n l) (news.Replied r) = count_hears w n l r (count_in w n r) (count_so w n r)
@@ -155,20 +176,20 @@ look_points : (P : Failure → Type 0) (n : ℕ) (pointed : Pointed) → FailsBy
 look_points P n (Redirects place authority) = tt
 look_points P n (Serves place) = tt
 
-look_hears : (w : Ways) (s : Question) (l : ℕ) (r : Content) (h : Heard Pointed) → HeardSo r h → FailsBy (Turns (news.Replied r)) (look_heard w s l h)
-look_hears w s l r (Tells pointed) k = look_points (Turns (news.Replied r)) s.retries pointed
+look_hears : (w : Ways) (s : Question) (l : ℕ) (r : Content) (h : Heard Pointed) → HeardSo w r h → FailsBy (Turns w (news.Replied r)) (look_heard w s l h)
+look_hears w s l r (Tells pointed) k = look_points (Turns w (news.Replied r)) s.retries pointed
 look_hears w s l r Later k = tt
 look_hears w s l r (Denies f) k = inr (r, k.0, refl, k.1, k.2)
 
-look_loses : (s : Question) (o : News) → FailsBy (Turns o) (look_failed s (search.fault_of o))
-look_loses s o =
-    either_fails (Turns o) (s.again && is_lost (search.fault_of o)) (look_gets (record s { again = false })) (search.fails (in_discovery (search.fault_of o))) tt (inl refl)
+look_loses : (w : Ways) (s : Question) (o : News) → FailsBy (Turns w o) (look_failed s (search.fault_of o))
+look_loses w s o =
+    either_fails (Turns w o) (s.again && is_lost (search.fault_of o)) (look_gets (record s { again = false })) (search.fails (in_discovery (search.fault_of o))) tt (inl refl)
 
-look_fails : (w : Ways) (t : List ℕ) (l : Looking) (o : News) → FailsBy (Turns o) (look_told w t l o)
+look_fails : (w : Ways) (t : List ℕ) (l : Looking) (o : News) → FailsBy (Turns w o) (look_told w t l o)
 look_fails w t (look.Getting s) (news.GotLink l) = tt
 look_fails w t (look.Getting s) o = inl refl
 look_fails w t (look.Asked s l) (news.Replied r) = look_hears w s l r (place_heard w s.last.proxy s.retries r) (place_so w s.last.proxy s.retries r)
-look_fails w t (look.Asked s l) o = look_loses s o
+look_fails w t (look.Asked s l) o = look_loses w s o
 look_fails w t (look.Resting s l) news.Woken = tt
 look_fails w t (look.Resting s l) o = inl refl
 look_fails w t (look.Reaching place) (news.GotLink l) = tt
@@ -185,13 +206,13 @@ names_fail P w t n =
     either_fails P (n == 0) (and_then (look_begins w) name.Whole (λ place. search_turn.Gives (Ok (name_found [] t place)))) (names_left w t n n []) tt
     (left_fails P w t n n [])
 
-naming_fails : (w : Ways) (t : List ℕ) (n : Naming) (o : News) → FailsBy (Turns o) (names_told w t n o)
-naming_fails w t (name.Counting c) o = then_fails (Turns o) (count_told w t c o) name.Counting (names_of w t) (count_fails w t c o) (names_fail (Turns o) w t)
+naming_fails : (w : Ways) (t : List ℕ) (n : Naming) (o : News) → FailsBy (Turns w o) (names_told w t n o)
+naming_fails w t (name.Counting c) o = then_fails (Turns w o) (count_told w t c o) name.Counting (names_of w t) (count_fails w t c o) (names_fail (Turns w o) w t)
 naming_fails w t (name.Whole l) o =
-    then_fails (Turns o) (look_told w t l o) name.Whole (λ place. search_turn.Gives (Ok (name_found [] t place))) (look_fails w t l o) (λ place. tt)
+    then_fails (Turns w o) (look_told w t l o) name.Whole (λ place. search_turn.Gives (Ok (name_found [] t place))) (look_fails w t l o) (λ place. tt)
 naming_fails w t (name.Part l p) o =
-    then_fails (Turns o) (look_told w p.name l o) (λ l. name.Part l p) (λ place. names_left w t p.count p.left (name_found p.found p.name place))
-    (look_fails w p.name l o) (λ place. left_fails (Turns o) w t p.count p.left (name_found p.found p.name place))
+    then_fails (Turns w o) (look_told w p.name l o) (λ l. name.Part l p) (λ place. names_left w t p.count p.left (name_found p.found p.name place))
+    (look_fails w p.name l o) (λ place. left_fails (Turns w o) w t p.count p.left (name_found p.found p.name place))
 
 counting_begins : (P : Failure → Type 0) (w : Ways) (t : List ℕ) → FailsBy P (search.count_begins w t)
 counting_begins P w t = either_fails P (is_partition t) (search_turn.Gives (Ok 0)) (count_gets w true 0) tt tt
@@ -231,13 +252,13 @@ keeps_begins P w (sought.Name t) is =
 keeps_begins P w (sought.Retry t n f) is = absurd cc
 keeps_begins P w (sought.Make c place) is = absurd cc
 
-keeps_told : (w : Ways) (s : Search) (o : News) → is_search s ≡ true → Keeps (Turns o) (search.told w s o)
+keeps_told : (w : Ways) (s : Search) (o : News) → is_search s ≡ true → Keeps (Turns w o) (search.told w s o)
 keeps_told w (plan.Counting t c) o is =
-    then_keeps (Turns o) (count_told w t c o) (plan.Counting t) (λ n. search_turn.Gives (Ok (answer.Count n))) (λ s. refl) (count_fails w t c o) (λ n. tt)
+    then_keeps (Turns w o) (count_told w t c o) (plan.Counting t) (λ n. search_turn.Gives (Ok (answer.Count n))) (λ s. refl) (count_fails w t c o) (λ n. tt)
 keeps_told w (plan.Looking t l) o is =
-    then_keeps (Turns o) (look_told w t l o) (plan.Looking t) (λ place. search_turn.Gives (Ok (answer.Address place))) (λ s. refl) (look_fails w t l o) (λ place. tt)
+    then_keeps (Turns w o) (look_told w t l o) (plan.Looking t) (λ place. search_turn.Gives (Ok (answer.Address place))) (λ s. refl) (look_fails w t l o) (λ place. tt)
 keeps_told w (plan.Naming t n) o is =
-    then_keeps (Turns o) (names_told w t n o) (plan.Naming t) (λ names. search_turn.Gives (Ok (answer.Addresses names))) (λ s. refl) (naming_fails w t n o) (λ names. tt)
+    then_keeps (Turns w o) (names_told w t n o) (plan.Naming t) (λ names. search_turn.Gives (Ok (answer.Addresses names))) (λ s. refl) (naming_fails w t n o) (λ names. tt)
 keeps_told w (plan.Retrying t r) o is = absurd cc
 keeps_told w (plan.Making c m) o is = absurd cc
 
@@ -318,13 +339,13 @@ module _ (p : Procedure) (all : List Outcome) (m : Makes) (f : Failure) where
   not_found (answer.Reply served) e = cc
 
   denied_so : (w : Ways) (what : Sought) (u : Outcome) (r : Content) (d : DiscoveryFault) → p ≡ procedure.Search w what → In u all → news_in u ≡ news.Replied r →
-      f ≡ OfDiscovery d → DeniesSo d r → FailsSo p all f
-  denied_so w what (Replied r') r d is i e g k = IsDenied w what r' d is i g (subst (DeniesSo d) (let same : r ≡ r'.content = cc in same) k)
+      f ≡ OfDiscovery d → DeniesSo w d r → FailsSo p all f
+  denied_so w what (Replied r') r d is i e g k = IsDenied w what r' d is i g (subst (DeniesSo w d) (let same : r ≡ r'.content = cc in same) k)
   denied_so w what (GotLink l) r d is i e g k = absurd cc
   denied_so w what Woken r d is i e g k = absurd cc
   denied_so w what u r d is i e g k = absurd cc
 
-  turned_so : (w : Ways) (what : Sought) (u : Outcome) → p ≡ procedure.Search w what → In u all → Turns (news_in u) f → FailsSo p all f
+  turned_so : (w : Ways) (what : Sought) (u : Outcome) → p ≡ procedure.Search w what → In u all → Turns w (news_in u) f → FailsSo p all f
   turned_so w what u is i (inl e) = IsTurned w what u is i (e ∙ ap in_discovery (fault_same u))
   turned_so w what u is i (inr (r, d, e, g, k)) = denied_so w what u r d is i e g k
 
@@ -350,7 +371,7 @@ module _ (p : Procedure) (all : List Outcome) (m : Makes) (f : Failure) where
   searching w what s action (Cut ∷ os) e is k h = told_so Cut (k Cut (inl refl)) (not_acted action (course (told (Searching w s) Cut) os) h)
   searching w what s action (Stopped ∷ os) e is k h = told_so Stopped (k Stopped (inl refl)) (not_acted action (course (told (Searching w s) Stopped) os) h)
   searching w what s action (u ∷ os) e is k h =
-      goes_so w (Turns (news_in u)) (search.told w s (news_in u)) os (keeps_told w s (news_in u) is) (turned_so w what u e (k u (inl refl)))
+      goes_so w (Turns w (news_in u)) (search.told w s (news_in u)) os (keeps_told w s (news_in u) is) (turned_so w what u e (k u (inl refl)))
       (λ s' a is' h'. searching w what s' a os e is' (λ u' i. k u' (inr i)) h') (not_acted action (course (told (Searching w s) u) os) h)
 
   stopping : (os : List Outcome) → ((u : Outcome) → In u os → In u all) → In (Fails m f) (course (Stays Stopping StopAll) os) → FailsSo p all f

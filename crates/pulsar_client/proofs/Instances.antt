@@ -23,7 +23,7 @@ below_order = record {
   chain = λ x y z h k. chain2 (rank x.who).0 (rank x.who).1 (rank y.who).0 (rank y.who).1 (rank z.who).0 (rank z.who).1 h k;
 }
 
-one_way3 : (a b c d e f : ℕ) → is_before3 (a, b, c) (d, e, f) ≡ true → is_before3 (d, e, f) (a, b, c) ≡ false
+pub one_way3 : (a b c d e f : ℕ) → is_before3 (a, b, c) (d, e, f) ≡ true → is_before3 (d, e, f) (a, b, c) ≡ false
 one_way3 a b c d e f h = grind (arith, nat_tests, common_steps)
 
 lex_chain : (a d p : ℕ) (i j k : Bool) → (i ≡ false → j ≡ false → k ≡ false) → cond (a == d) i (nat_lt a d) ≡ false → cond (d == p) j (nat_lt d p) ≡ false → cond (a == p) k (nat_lt a p) ≡ false
@@ -31,7 +31,7 @@ lex_chain a d p false false k f h g = let e : k ≡ false = f refl refl in rw e 
 lex_chain a d p false true k f h g = grind (arith, nat_tests, common_steps)
 lex_chain a d p true j k f h g = grind (arith, nat_tests, common_steps)
 
-chain3 : (a b c d e f p q r : ℕ) → is_before3 (a, b, c) (d, e, f) ≡ false → is_before3 (d, e, f) (p, q, r) ≡ false → is_before3 (a, b, c) (p, q, r) ≡ false
+pub chain3 : (a b c d e f p q r : ℕ) → is_before3 (a, b, c) (d, e, f) ≡ false → is_before3 (d, e, f) (p, q, r) ≡ false → is_before3 (a, b, c) (p, q, r) ≡ false
 chain3 a b c d e f p q r h k =
     lex_chain a d p (cond (b == e) (nat_lt c f) (nat_lt b e)) (cond (e == q) (nat_lt f r) (nat_lt e q)) (cond (b == q) (nat_lt c r) (nat_lt b q)) (λ x y. chain2 b c e f q r x y) h k
 

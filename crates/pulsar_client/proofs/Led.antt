@@ -19,7 +19,7 @@ use Rattle.pulsar_client.specs.Content.{Asked}
 use Rattle.pulsar_client.specs.Laws.{Deed, Acted, Answered, ComesLate, DeedsFollow, IsToldSo, Leads, StartsSo, act_of}
 use Rattle.pulsar_client.specs.Plan.{begins, fails, told}
 use Rattle.pulsar_client.specs.Rules.{at_once, follows, follows_some, performs, procedure_for}
-use Rattle.pulsar_client.specs.Run.{Entry, Begins, Then, IsRun, agenda, view}
+use Rattle.pulsar_client.specs.Run.{Entry, Begins, Then, agenda, view}
 use Rattle.pulsar_client.specs.View.{Chosen, View, told_some}
 use Rattle.pulsar_client.proofs.Acts.{Each, IsQuiet, comes_quiet, each_map, first_case, is_served}
 use Rattle.pulsar_client.proofs.Follow.{NoDeed, follows_run, is_deed, left_plain, performs_none, quiet_no_deed}
@@ -110,7 +110,7 @@ deeds_follow_lem o (Then a ∷ older) w d run =
         older,
         refl,
         head_led o older w d a (at_once (view o older) a) (rest (agenda o older)).now (rest g).now refl
-        (left_plain o older a (follows_run o older run.0.0) run.0.1) h,
+            (left_plain o older a (follows_run o older run.0.0) run.0.1) h,
       )
       | inr h ↦ absurd (not_served w d h.2)
     ]

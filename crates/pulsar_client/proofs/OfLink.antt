@@ -8,7 +8,7 @@ use Rattle.pulsar_session.specs.Link as session
 use Rattle.pulsar_session.specs.Link.{Asks, Seen, came, ends, frame_at, written}
 use Rattle.pulsar_client.specs.declared.act.End.{End}
 use Rattle.pulsar_client.specs.declared.act.LinkAct.{LinkAct}
-use Rattle.pulsar_client.specs.declared.act.LinkAct.TheVariants.{Opens, Reads, Drains, Ends}
+use Rattle.pulsar_client.specs.declared.act.LinkAct.TheVariants.{Opens, Reads, Drains, Pings, Ends}
 use Rattle.pulsar_client.specs.declared.effect.Settlement.TheVariants as settlement
 use Rattle.pulsar_client.specs.Content.{Shown, Queued, Write, Settles, Close}
 use Rattle.pulsar_client.specs.Effects.{asked_at, given_at}
@@ -62,6 +62,7 @@ effects_of k Reads now s =
 effects_of k (Drains most) now s =
     each_append (IsOf k) (write k (flat_map (λ f. f) (written most s))) (queues k s (after (Drains most) now s))
     (write_of k (flat_map (λ f. f) (written most s))) (queues_of k s (after (Drains most) now s))
+effects_of k Pings now s = queues_of k s (after Pings now s)
 effects_of k (Ends end) now s = ended_of k end now (closed_by end now s) s
 
 pub given_of : (k : ℕ) (x : LinkAct) (now : ℕ) (row : Option Seat) → Each (IsOf k) (given_at k x now row)

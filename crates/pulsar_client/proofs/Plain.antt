@@ -7,10 +7,11 @@ use Rattle.pulsar_client.specs.declared.act.Action.TheVariants.{Ask}
 use Rattle.pulsar_client.specs.declared.act.Part.TheVariants as part
 use Rattle.pulsar_client.specs.declared.act.Who.{Who}
 use Rattle.pulsar_client.specs.declared.act.Who.TheVariants.{Call}
+use Rattle.pulsar_client.specs.declared.addresses.Pause.{Pause}
 use Rattle.pulsar_client.specs.Address.{leads_to}
 use Rattle.pulsar_client.specs.Content.{Said, Shown, Queued, Write, Hands, Faults}
-use Rattle.pulsar_client.specs.Effects.{connects_to, effects, ends}
-use Rattle.pulsar_client.specs.View.{View}
+use Rattle.pulsar_client.specs.Effects.{connects_to, effects, ends, retries, retries_on}
+use Rattle.pulsar_client.specs.View.{Chosen, Turned, View}
 
 abbrev pub is_plain : Shown → Bool
 is_plain (Write l bytes) = false
@@ -33,6 +34,14 @@ ends_plain (Call t) said = (refl, tt)
 connects_plain : (l : ℕ) (reached : Option (List ℕ × ℕ)) → ArePlain (connects_to l reached)
 connects_plain l None = tt
 connects_plain l (Some reached) = (refl, tt)
+
+retries_plain : (o : Chosen) (l : ℕ) (pause : Option Pause) → ArePlain (retries o l pause)
+retries_plain o l None = tt
+retries_plain o l (Some p) = (refl, tt)
+
+pub turned_plain : (o : Chosen) (turned : Option Turned) → ArePlain (retries_on o turned)
+turned_plain o None = tt
+turned_plain o (Some t) = retries_plain o t.link t.pause
 
 -- the acts that may have others
 abbrev pub is_loud : Act → Bool

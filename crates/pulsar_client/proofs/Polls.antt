@@ -26,18 +26,18 @@ use Rattle.pulsar_client.specs.declared.act.Part.TheVariants.{ToLink, Polls}
 use Rattle.pulsar_client.specs.declared.act.Who.{Who}
 use Rattle.pulsar_client.specs.declared.act.Who.TheVariants.{Call}
 use Rattle.pulsar_client.specs.Content.{Heard, Poll, Shown, Hands, Faults}
-use Rattle.pulsar_client.specs.Effects.{asked_at, effect_below, effect_rank, effects, given_at, is_before3}
+use Rattle.pulsar_client.specs.Effects.{asked_at, effect_below, effect_rank, effects, given_at, is_before3, retries_on}
 use Rattle.pulsar_client.specs.Laws.{EndsOnce, PollsAreAnswered, PollsFollow, brought, brought_by, given_by, items_come, items_given}
 use Rattle.pulsar_client.specs.Run.{Entry, Begins, Then, IsRun, Step, first_of, is_empty, rules, steps, view}
 use Rattle.pulsar_client.specs.Subscriptions.{Subscription, after_came, after_poll, closes_it, ended, ended_at, hears, is_heard_on, is_last, polled, polled_from}
-use Rattle.pulsar_client.specs.View.{Chosen, Seat, answer_at, arrival_at, closing, hears_ask, is_asked, made}
+use Rattle.pulsar_client.specs.View.{Chosen, Seat, View, answer_at, arrival_at, closing, hears_ask, is_asked, made, turned}
 use Rattle.pulsar_client.specs.Who.{is_same}
-use Rattle.pulsar_client.proofs.Acts.{Each, each_map}
+use Rattle.pulsar_client.proofs.Acts.{Each, each_append, each_map}
 use Rattle.pulsar_client.proofs.Hearing.{begun_consumers, none_before}
 use Rattle.pulsar_client.proofs.Instances.{effect_order}
 use Rattle.pulsar_client.proofs.Made.{poll_comes}
 use Rattle.pulsar_client.proofs.OfLink.{IsOf, asked_of, given_of}
-use Rattle.pulsar_client.proofs.Plain.{ArePlain, effects_plain, is_plain}
+use Rattle.pulsar_client.proofs.Plain.{ArePlain, effects_plain, is_plain, turned_plain}
 use Rattle.pulsar_client.proofs.Ticketed.{consumer_ticket}
 
 -- A POLL IS ANSWERED
@@ -163,9 +163,6 @@ of_gives t k (Hands ticket topic id metadata payload) h = absurd cc
 of_gives t k (Faults ticket fault) h = absurd cc
 of_gives t k _ h = refl
 
-link_none : (t l : ℕ) (x : LinkAct) (now : ℕ) (row : Option Seat) → NoItems t (given_at l x now row)
-link_none t l x now row = each_map (IsOf l) (NoItem t) (given_at l x now row) (of_gives t l) (given_of l x now row)
-
 asks_none : (t l now : ℕ) (request : Words) (row : Option Seat) → NoItems t (asked_at l now request row)
 asks_none t l now request row = each_map (IsOf l) (NoItem t) (asked_at l now request row) (of_gives t l) (asked_of l now request row)
 
@@ -177,6 +174,13 @@ plain_gives t _ h = refl
 plain_none : (t : ℕ) (xs : List Shown) → ArePlain xs → NoItems t xs
 plain_none t [] k = tt
 plain_none t (x ∷ xs) k = (plain_gives t x k.0, plain_none t xs k.1)
+
+link_none : (t l : ℕ) (x : LinkAct) (v : View) → NoItems t (effects v (Comes (ToLink l x)))
+link_none t l x v =
+    let row : Option Seat = v.links.live l in
+    let more : List Shown = retries_on v.chosen (turned v (Comes (ToLink l x))) in
+    each_append (NoItem t) (given_at l x v.now row) more (each_map (IsOf l) (NoItem t) (given_at l x v.now row) (of_gives t l) (given_of l x v.now row))
+    (plain_none t more (turned_plain v.chosen (turned v (Comes (ToLink l x)))))
 
 -- WHAT IS LEFT UNREAD
 
@@ -286,13 +290,13 @@ follows : EndsOnce → (o : Chosen) (t : ℕ) (log : List Entry) → is_spent t 
 follows once o t [] un r = (refl, refl)
 follows once o t (Begins e ∷ log) un r = begins_on o t e log (follows once o t log un r.0)
 follows once o t (Then (Comes (ToLink l Reads)) ∷ log) un r =
-    on o t (Comes (ToLink l Reads)) log (link_none t l Reads (view o log).now ((view o log).links.live l))
+    on o t (Comes (ToLink l Reads)) log (link_none t l Reads (view o log))
     (link_gives l (arrival_at ((view o log).links.live l)) ((view o log).consumers t) (items_given t (steps o log)) (items_come o t log) (follows once o t log un r.0))
 follows once o t (Then (Comes (ToLink l (Ends end))) ∷ log) un r =
-    on o t (Comes (ToLink l (Ends end))) log (link_none t l (Ends end) (view o log).now ((view o log).links.live l))
+    on o t (Comes (ToLink l (Ends end))) log (link_none t l (Ends end) (view o log))
     (ends_gives l (closing end (view o log).now ((view o log).links.live l)) ((view o log).consumers t) (items_given t (steps o log)) (items_come o t log) (follows once o t log un r.0))
 follows once o t (Then (Comes (ToLink l x)) ∷ log) un r =
-    on o t (Comes (ToLink l x)) log (link_none t l x (view o log).now ((view o log).links.live l)) (follows once o t log un r.0)
+    on o t (Comes (ToLink l x)) log (link_none t l x (view o log)) (follows once o t log un r.0)
 follows once o t (Then (Comes (Polls k)) ∷ log) un r = polls_on o t k log r (follows once o t log un r.0)
 follows once o t (Then (Does who (Ask l request)) ∷ log) un r =
     on o t (Does who (Ask l request)) log (asks_none t l (view o log).now request ((view o log).links.live l))

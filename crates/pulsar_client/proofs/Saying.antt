@@ -18,7 +18,7 @@ said_alone Bodies k items b = refl
 
 pub said_in : (s : Says) (k : Option RequestKey) (items : List Item) (body : Option Body) (b : Body) → body ≡ Some b →
     answer_with s (read_body None [] (Some (body_values b))) (Some (written (body_values b)))
-    ≡ answer_with s (read_body k items (option_map body_values body)) (option_map written (option_map body_values body))
+    ≡ answer_with s (read_body k items (option_map body_values body)) (read_body k items (option_map body_values body)).content.body
 said_in s k items body b is =
     said_alone s k items (body_values b)
-    ∙ ap (λ x. answer_with s (read_body k items (option_map body_values x)) (option_map written (option_map body_values x))) (sym is)
+    ∙ ap (λ x. answer_with s (read_body k items (option_map body_values x)) (read_body k items (option_map body_values x)).content.body) (sym is)

@@ -20,7 +20,7 @@ use Rattle.pulsar_client.proofs.Instances.{below_order, effect_order}
 abbrev cmp2 : ℕ × ℕ → ℕ × ℕ → Ordering
 cmp2 x y = ordering_then (nat_cmp x.0 y.0) (nat_cmp x.1 y.1)
 
-abbrev cmp3 : ℕ × ℕ × ℕ → ℕ × ℕ × ℕ → Ordering
+abbrev pub cmp3 : ℕ × ℕ × ℕ → ℕ × ℕ × ℕ → Ordering
 cmp3 x y = ordering_then (ordering_then (nat_cmp x.0 y.0) (nat_cmp x.1 y.1)) (nat_cmp x.2 y.2)
 
 lt1 : (a b : ℕ) → is_lt (nat_cmp a b) ≡ nat_lt a b
@@ -45,7 +45,7 @@ then_same Less b c = refl
 then_same Equal b c = refl
 then_same Greater b c = refl
 
-lt3 : (x y : ℕ × ℕ × ℕ) → is_lt (cmp3 x y) ≡ is_before3 x y
+pub lt3 : (x y : ℕ × ℕ × ℕ) → is_lt (cmp3 x y) ≡ is_before3 x y
 lt3 x y =
     ap is_lt (then_same (nat_cmp x.0 y.0) (nat_cmp x.1 y.1) (nat_cmp x.2 y.2))
     ∙ lt_then x.0 y.0 (ordering_then (nat_cmp x.1 y.1) (nat_cmp x.2 y.2)) (cond (x.1 == y.1) (nat_lt x.2 y.2) (nat_lt x.1 y.1))

@@ -1,17 +1,17 @@
 -- From a Stop on no attempt begins. The stop is asked for where nothing else is left to do; in its step the links end one after the other,
 -- and whatever a plan is told is its last word; behind it no link is left, no alarm is set, and each call is refused.
-use Rattle.std.proofs.Common.{◌≡◌, ◌⊎◌, inl, inr, ◌∙◌, sym, ap, subst, ℕ, zero, suc, ◌+◌, ◌≤◌, nat_lt, List, [], ◌∷◌, ◌++◌, refl, arith, drop, map, Bool, true, false, ◌&&◌, ◌==◌, not, bytes_eq, cond, Option, Some, None, Result}
+use Rattle.std.proofs.Common.{◌≡◌, ◌⊎◌, inl, inr, ◌∙◌, sym, ap, subst, ℕ, zero, suc, ◌+◌, ◌≤◌, nat_lt, List, [], ◌∷◌, ◌++◌, refl, arith, map, Bool, true, false, ◌&&◌, ◌==◌, not, cond, Option, Some, None, Result}
 use Rattle.std.proofs.lemmas.Bool.{cases_Bool, eqb-true}
 use Rattle.std.proofs.lemmas.Bool.Decides.{nat_tests}
 use Rattle.std.specs.List.{filter_map, flat_map}
-use Rattle.std.specs.Option.{option_map, option_to_list}
+use Rattle.std.specs.Option.{option_map}
 use Rattle.pulsar_run.specs.Laws.{In}
 use Rattle.pulsar_run.specs.Order.{arranged, put, put_all}
 use Rattle.pulsar_run.specs.Run.{first_of, rest, rest_of}
 use Rattle.pulsar_link.specs.Request.{is_answered}
 use Rattle.pulsar_session.specs.Failures.{Exhausted, Failure}
 use Rattle.pulsar_session.specs.Link.{ends, is_spent}
-use Rattle.pulsar_plans.specs.Address.{Place, address_key, is_reachable}
+use Rattle.pulsar_plans.specs.Address.{Place, address_key}
 use Rattle.pulsar_client.specs.declared.act.Act.{Act}
 use Rattle.pulsar_client.specs.declared.act.Act.TheVariants.{Comes, Starts, Told, Does, Answers, Dials}
 use Rattle.pulsar_client.specs.declared.act.Action.TheVariants.{Get, Ask, StopAll, Rest}

@@ -22,13 +22,16 @@ use Rattle.pulsar_client.specs.declared.act.Who.TheVariants.{Call}
 use Rattle.pulsar_client.specs.declared.plans.plan.Plan.{Plan}
 use Rattle.pulsar_client.specs.declared.plans.plan.Turn.{Turn}
 use Rattle.pulsar_client.specs.declared.plans.plan.Turn.TheVariants.{Stays, Gives}
-use Rattle.pulsar_client.specs.Content.{Asked, Heard}
+use Rattle.pulsar_client.specs.declared.tables.Tables.{Tables}
+use Rattle.pulsar_client.specs.Content.{Asked, Heard, Shown}
 use Rattle.pulsar_client.specs.Kept.{AreTicketed}
 use Rattle.pulsar_client.specs.Laws.{started}
 use Rattle.pulsar_client.specs.Plan.{begins, told}
 use Rattle.pulsar_client.specs.Rules.{at_once, called, does, follows, follows_some, performs}
-use Rattle.pulsar_client.specs.Run.{Entry, Begins, Then, IsRun, agenda, first, view}
+use Rattle.pulsar_client.specs.Run.{Agenda, Entry, Begins, Then, IsRun, Step, agenda, first, view}
+use Rattle.pulsar_client.specs.Subscribers.{subscription_at}
 use Rattle.pulsar_client.specs.Subscriptions.{Subscription, ended_at}
+use Rattle.pulsar_client.specs.Tables.{InStep}
 use Rattle.pulsar_client.specs.View.{Chosen, Tickets, View, closing, consumer_after, drawn_after, made, stand_after, stays_some, told_some}
 use Rattle.pulsar_client.specs.Who.{is_same}
 use Rattle.pulsar_client.proofs.Acts.{Each, IsQuiet, begun_same, comes_quiet, each_append, each_first, each_map, each_rest, is_served, performs_quiet}
@@ -232,6 +235,10 @@ pub are_ticketed : (o : Chosen) (log : List Entry) → IsRun o log → AreTicket
 are_ticketed o log run t h = no_row ((view o log).consumers t) (λ s is.
     let d : t < (view o log).calls.drawn = ((is_ticketed o log run).consumers t s is).1 in
     omega (arith, d, h))
+
+pub ticketed_in : (c : Tables) {o : Chosen} {g : Agenda} {e : Heard} {out : List Shown} {h : List Step} → InStep o c g e out h →
+    AreTicketed c.tickets (subscription_at c.subscribers)
+ticketed_in c {o} s = subst (λ v. AreTicketed v.calls.drawn v.consumers) (sym s.sees) (are_ticketed o s.log s.run)
 
 older_run : (o : Chosen) (later older : List Entry) → IsRun o (later ++ older) → IsRun o older
 older_run o [] older run = run

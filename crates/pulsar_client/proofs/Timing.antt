@@ -15,6 +15,7 @@ use Rattle.std.specs.Ordering.{nat_cmp}
 use Rattle.pulsar_requests.proofs.Awaiting.{is_at-eqb}
 use Rattle.pulsar_requests.specs.Soonest.{has_come}
 use Rattle.pulsar_session.specs.Failures.{Fault}
+use Rattle.pulsar_plans.specs.Address.{Place}
 use Rattle.pulsar_client.specs.declared.act.Act.{Act}
 use Rattle.pulsar_client.specs.declared.act.Act.TheVariants.{Comes}
 use Rattle.pulsar_client.specs.declared.act.End.{End}
@@ -170,17 +171,26 @@ changed l link f before w now is same = elim (cases_Bool (l == link)) [
 ]
 
 -- what an end gives
-module _ (end : End) (now : ℕ) (row : Row) (there : Option Row) (notices : List Notice) (found : Some row ≡ there)
-    (are : notices ≡ ended_places end now row.connection (get nat_cmp row.askers)) where
+module _ (end : End) (now : ℕ) (row : Row) (there : Option Row) (address : Place) (notices : List Notice) (found : Some row ≡ there)
+    (is_its : address ≡ row.address) (are : notices ≡ ended_places end now row.connection (get nat_cmp row.askers)) where
   ends_by : (o : Option Fault) → closed_by end now row.connection ≡ o → is_some o ≡ true →
-      (x : Fault) × (closing end now (option_map seat_of there) ≡ Some x) × (notices ≡ ended_on end now (option_map seat_of there))
+      (x : Fault) × (closing end now (option_map seat_of there) ≡ Some x) × (option_map (λ seat. seat.address) (option_map seat_of there) ≡ Some address)
+      × (notices ≡ ended_on end now (option_map seat_of there))
   ends_by None e h = absurd (false≢true h)
   ends_by (Some x) e h = (
     x,
     ap (λ r. closing end now (option_map seat_of r)) (sym found) ∙ e,
+    ap (λ r. option_map (λ seat. seat.address) (option_map seat_of r)) (sym found) ∙ sym (ap Some is_its),
     are ∙ sym (ap (λ o. ended_by end now o (seat_of row)) e) ∙ ap (λ r. ended_on end now (option_map seat_of r)) found,
   )
 
   pub ends_so : is_some (closed_by end now row.connection) ≡ true →
-      (x : Fault) × (closing end now (option_map seat_of there) ≡ Some x) × (notices ≡ ended_on end now (option_map seat_of there))
+      (x : Fault) × (closing end now (option_map seat_of there) ≡ Some x) × (option_map (λ seat. seat.address) (option_map seat_of there) ≡ Some address)
+      × (notices ≡ ended_on end now (option_map seat_of there))
   ends_so h = ends_by (closed_by end now row.connection) refl h
+
+-- what is seen of a link, part by part
+pub seat_is : (r : Row) (s : Seat) → r.address ≡ s.address → r.connection ≡ s.seen → ((place : ℕ) → get nat_cmp r.askers place ≡ s.askers place) →
+    r.got ≡ s.got → r.ping ≡ s.ping → seat_of r ≡ s
+seat_is r s address seen askers got ping =
+    λ i. record { address = address i; seen = seen i; askers = λ place. askers place i; got = got i; ping = ping i }

@@ -1,29 +1,26 @@
 -- What an act turns: nothing where its link stays as it is, and else its address, the attempt that is to follow, and the alarms.
-use Rattle.std.proofs.Common.{◌≡◌, ◌∙◌, ap, sym, subst, ℕ, Bool, true, false, cond, List, [], ◌∷◌, ◌++◌, refl, Option, Some, None, inl, inr, bytes_eq}
-use Rattle.std.proofs.lemmas.Bool.{cases_Bool}
+use Rattle.std.proofs.Common.{◌≡◌, ◌∙◌, ap, sym, subst, ℕ, Bool, true, false, cond, List, [], ◌∷◌, ◌++◌, refl, Option, Some, None, bytes_eq}
 use Rattle.std.proofs.lemmas.List.{append-nil}
-use Rattle.std.proofs.lemmas.Slice.Eq.{bytes_eq-Decides}
 use Rattle.std.specs.Option.{option_map}
 use Rattle.pulsar_plans.specs.Address.{Place, address_key}
 use Rattle.pulsar_session.specs.Failures.{Fault}
 use Rattle.pulsar_client.specs.declared.act.Alarm.{Alarm}
 use Rattle.pulsar_client.specs.declared.act.Alarm.TheVariants.{Retry as Retries}
+use Rattle.pulsar_client.specs.declared.act.Arrival.{Arrival}
 use Rattle.pulsar_client.specs.declared.act.End.{End}
 use Rattle.pulsar_client.specs.declared.act.LinkAct.{LinkAct}
 use Rattle.pulsar_client.specs.declared.act.LinkAct.TheVariants.{Opens, Reads, Drains, Pings, Ends}
 use Rattle.pulsar_client.specs.declared.act.Notice.{Notice}
 use Rattle.pulsar_client.specs.declared.act.Who.{Who}
 use Rattle.pulsar_client.specs.declared.addresses.Pause.{Pause}
-use Rattle.pulsar_client.specs.declared.addresses.Series.{Series}
-use Rattle.pulsar_client.specs.declared.addresses.Series.TheVariants.{Nobody, Runs, Pauses, Serves}
 use Rattle.pulsar_client.specs.Alarms.{set}
 use Rattle.pulsar_client.specs.Content.{Shown, Retry}
 use Rattle.pulsar_client.specs.Effects.{retries, retries_on}
-use Rattle.pulsar_client.specs.Links.{Change, Remains, IsOver, change_at}
+use Rattle.pulsar_client.specs.Links.{Change, Remains, IsOver, change_at, change_in}
 use Rattle.pulsar_client.specs.Rules.{ended_on, failed_on, waiters_of}
 use Rattle.pulsar_client.specs.Subscriptions.{Subscription, ended_at}
 use Rattle.pulsar_client.specs.Tables.{welcomed}
-use Rattle.pulsar_client.specs.View.{Addresses, Base, Chosen, Seat, Turned, alarms_on, alarms_over, arrival_at, base_on, base_turned, base_waiting, closing, delay_with, later, may_retry, pause_of, pause_on, pause_for, pause_with, took_some, turned_by, waits_for}
+use Rattle.pulsar_client.specs.View.{Addresses, Base, Chosen, Seat, Turned, alarms_on, alarms_over, arrival_at, base_on, base_turned, closing, delay_with, later, may_retry, pause_of, pause_on, pause_for, pause_with, took_some, turned_by}
 
 -- NOTHING IS TURNED
 
@@ -95,6 +92,16 @@ pub read_retries : (o : Chosen) (known : Addresses) (now l : ℕ) (row : Option 
 read_retries o known now l None = refl
 read_retries o known now l (Some seat) = refl
 
+-- by the address of the link
+pub welcomed_none : (l : ℕ) (a : Arrival) (row : Option Seat) → option_map (λ seat. seat.address) row ≡ None → welcomed l a row ≡ None
+welcomed_none l a None h = refl
+welcomed_none l a (Some seat) h = absurd cc
+
+pub welcomed_some : (l : ℕ) (a : Arrival) (row : Option Seat) (p : Place) → option_map (λ seat. seat.address) row ≡ Some p →
+    welcomed l a row ≡ Some (record { link = l; key = address_key p; change = change_in a; pause = None })
+welcomed_some l a None p h = absurd cc
+welcomed_some l a (Some seat) p h = let is : seat.address ≡ p = cc in ap (λ q. Some (record { link = l; key = address_key q; change = change_in a; pause = None })) is
+
 -- A LINK ENDS
 
 pub turned_end : (o : Chosen) (known : Addresses) (now l : ℕ) (end : End) (row : Option Seat) (p : Place) (cause : Fault) →
@@ -135,35 +142,7 @@ pub never_set : (o : Chosen) (now l : ℕ) (p : Place) (w : Option (Who × ℕ))
 never_set o now l p None alarms h = refl
 never_set o now l p (Some w) alarms h = absurd cc
 
--- ONE WHO WANTS A LINK
+-- LISTS OF EFFECTS
 
--- waits where none serves yet
-abbrev serves : Series → Bool
-serves (Serves l) = true
-serves _ = false
-
-waits_so : (s : Series) (who : Who) (ws : List Who) → serves s ≡ false → waits_for s who ws ≡ ws ++ who ∷ []
-waits_so (Serves l) who ws h = absurd cc
-waits_so _ who ws h = refl
-
-same_key : (a b : List ℕ) → bytes_eq a b ≡ true → a ≡ b
-same_key a b h = (bytes_eq-Decides a b).0 h
-
-pub got_waits : (base : List ℕ → Base) (who : Who) (at key : List ℕ) → serves (base at).series ≡ false →
-    cond (bytes_eq at key) (base_waiting who (base key)) (base key)
-    ≡ cond (bytes_eq at key) (record { series = (base key).series; waiting = waits_for (base key).series who (base key).waiting }) (base key)
-got_waits base who at key h = elim (cases_Bool (bytes_eq at key)) [
-  | inl e ↦
-      ap (λ ws. cond (bytes_eq at key) (record { series = (base key).series; waiting = ws }) (base key))
-      (sym (waits_so (base key).series who (base key).waiting (ap (λ k. serves (base k).series) (sym (same_key at key e)) ∙ h)))
-  | inr e ↦ rw e refl
-]
-
-pub got_served : (base : List ℕ → Base) (who : Who) (at key : List ℕ) (l : ℕ) → (base at).series ≡ Serves l →
-    base key ≡ cond (bytes_eq at key) (record { series = (base key).series; waiting = waits_for (base key).series who (base key).waiting }) (base key)
-got_served base who at key l h = elim (cases_Bool (bytes_eq at key)) [
-  | inl e ↦
-      let is : (base key).series ≡ Serves l = ap (λ k. (base k).series) (sym (same_key at key e)) ∙ h in
-      rw e (ap (λ s. record { series = (base key).series; waiting = waits_for s who (base key).waiting }) (sym is))
-  | inr e ↦ rw e refl
-]
+pub nothing_more : {A : Type 0} (xs ys zs : List A) → zs ≡ [] → xs ++ ys ≡ xs ++ (ys ++ zs)
+nothing_more xs ys zs h = ap (λ ws. xs ++ ws) (sym (append-nil ys) ∙ sym (ap (λ ws. ys ++ ws) h))

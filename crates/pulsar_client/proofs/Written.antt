@@ -9,35 +9,35 @@ use Rattle.std.specs.Option.{option_map, option_to_list}
 use Rattle.pulsar_run.specs.Order.{InOrder, NoneBelow}
 use Rattle.pulsar_run.specs.Run.{in_order, steps_done, with_effects}
 use Rattle.pulsar_run.proofs.Orders.{kinds_in_order_lem}
-use Rattle.pulsar_messages.specs.Words.{Words}
+use Rattle.pulsar_messages.specs.Words.{Words, SendPing}
 use Rattle.pulsar_session.specs.Failures.{Fault}
 use Rattle.pulsar_session.specs.Laws.{queued_in, written_in}
 use Rattle.pulsar_session.specs.Link as session
-use Rattle.pulsar_session.specs.Link.{Act as Act', Opens, Feeds, Takes, Asks, Drains, Seen, Setup, came, ends, frame_at, fresh, is_open, is_over, written}
+use Rattle.pulsar_session.specs.Link.{Act as Act', Opens, Feeds, Takes, Asks, Drains, Seen, Setup, came, ends, frame_at, is_open, is_over, written}
 use Rattle.pulsar_client.specs.declared.act.Act.{Act}
 use Rattle.pulsar_client.specs.declared.act.Act.TheVariants.{Comes, Does, Dials}
-use Rattle.pulsar_client.specs.declared.act.Action.TheVariants.{Ask}
+use Rattle.pulsar_client.specs.declared.act.Action.TheVariants.{Get, Ask}
 use Rattle.pulsar_client.specs.declared.act.End.{End}
 use Rattle.pulsar_client.specs.declared.act.LinkAct.{LinkAct}
 use Rattle.pulsar_client.specs.declared.act.LinkAct.TheVariants as link
 use Rattle.pulsar_client.specs.declared.act.Part.TheVariants.{ToLink, Polls}
 use Rattle.pulsar_client.specs.declared.act.Who.{Who}
 use Rattle.pulsar_client.specs.declared.effect.Settlement.TheVariants as settlement
-use Rattle.pulsar_client.specs.Address.{Address}
+use Rattle.pulsar_plans.specs.Address.{Place}
 use Rattle.pulsar_client.specs.Content.{Heard, Bytes, Shown, Queued, Write}
-use Rattle.pulsar_client.specs.Effects.{asked_at, connects, effect_below, effects, given_at, is_before3}
+use Rattle.pulsar_client.specs.Effects.{asked_at, connects, effect_below, effects, given_at, is_before3, retries_on}
 use Rattle.pulsar_link.specs.Items.{Item, Given, Faulty}
 use Rattle.pulsar_client.specs.Laws.{IsPrefix, WritesFollow, bytes_of, queued_on, written_on}
 use Rattle.pulsar_client.specs.Links as links
 use Rattle.pulsar_client.specs.Links.{close, closed_by, ended, is_own_end, lost, queues, queues_at, new_places, settled_in, settles, write}
 use Rattle.pulsar_client.specs.Run.{Entry, Begins, Then, IsRun, Step, rules, view}
 use Rattle.pulsar_client.specs.Subscriptions.{Subscription, polled, polled_from}
-use Rattle.pulsar_client.specs.View.{Chosen, Seat, View, begun_live, dialed, is_live, live_begun, seat_asked, seat_fed, seat_of_fresh, setup, took, took_end, took_some}
+use Rattle.pulsar_client.specs.View.{Chosen, Seat, View, begun_live, dialed, got_at, is_live, link_got, live_begun, seat_asked, seat_fed, seat_got, took, took_end, took_some, turned}
 use Rattle.pulsar_client.proofs.Acts.{Each, each_append, each_map}
 use Rattle.pulsar_client.proofs.Alone.{Made, alone, is_close, more, no_some, over_stays, some_is}
 use Rattle.pulsar_client.proofs.Instances.{effect_order}
 use Rattle.pulsar_client.proofs.OfLink.{IsOf, asked_of, given_of}
-use Rattle.pulsar_client.proofs.Plain.{ArePlain, effects_plain}
+use Rattle.pulsar_client.proofs.Plain.{ArePlain, effects_plain, turned_plain}
 use Rattle.pulsar_client.proofs.Writing.{Turns, numbered, turns}
 
 abbrev flat : List (List ℕ) → List ℕ
@@ -339,10 +339,9 @@ late l m h = grind (arith, nat_tests)
 early : (l m : ℕ) → (l == m) ≡ true → nat_lt l (m + 1) ≡ false → ⊥
 early l m h lt = grind (arith, nat_tests)
 
-fresh_link : (l n : ℕ) (o : Chosen) (now : ℕ) (address : Option Address) (row : Option Seat) (ss : List Step) → (l == n) ≡ true → Wrote l n row ss →
-    Wrote l (n + 1) (option_map (λ a. seat_of_fresh (fresh (setup o now a))) address) ss
-fresh_link l n o now None row ss e k = over_on l (n + 1) row ss (more_links l n row ss k)
-fresh_link l n o now (Some a) row ss e k = record {
+fresh_link : (l n : ℕ) (o : Chosen) (now : ℕ) (p : Place) (row : Option Seat) (ss : List Step) → (l == n) ≡ true → Wrote l n row ss →
+    Wrote l (n + 1) (Some (dialed o n now p)) ss
+fresh_link l n o now p row ss e k = record {
   places = k.places;
   left = k.left;
   whole = k.whole;
@@ -354,11 +353,41 @@ fresh_link l n o now (Some a) row ss e k = record {
   no_places = λ lt. absurd (early l n e lt);
 }
 
+-- one who gets it changes nothing of its connection
+got_row : (l n now : ℕ) (row : Option Seat) (ss : List Step) → Wrote l n row ss → Wrote l n (option_map (seat_got now) row) ss
+got_row l n now None ss k = k
+got_row l n now (Some r) ss k = record {
+  places = k.places;
+  left = k.left;
+  whole = k.whole;
+  placed = k.placed;
+  live_left = λ seat h. k.live_left r refl ∙ ap (λ (s : Seat). s.seen.unwritten) (some_is h);
+  live_places = λ seat h. k.live_places r refl ∙ ap (λ (s : Seat). s.seen.waits.queued) (some_is h);
+  unborn = λ lt. absurd (no_some (sym (k.unborn lt)));
+  no_left = k.no_left;
+  no_places = k.no_places;
+}
+
+got_on : (l n now : ℕ) (link : Option ℕ) (row : Option Seat) (ss : List Step) → Wrote l n row ss → Wrote l n (got_at link now l row) ss
+got_on l n now None row ss k = k
+got_on l n now (Some m) row ss k = either (l == m)
+  where
+    either : (b : Bool) → Wrote l n (cond b (option_map (seat_got now) row) row) ss
+    either true = got_row l n now row ss k
+    either false = k
+
+-- and effects behind others that neither write nor queue a frame show nothing
+quiet_more : (l n : ℕ) (row : Option Seat) (s : Step) (ss : List Step) (zs more : List Shown) → ArePlain more → Wrote l n row (with_effects zs (s ∷ ss)) →
+    Wrote l n row (with_effects (zs ++ more) (s ∷ ss))
+quiet_more l n row s ss zs more plain k =
+    subst (λ es. Wrote l n row (record { event = s.event; effects = es } ∷ ss)) (append_assoc s.effects zs more)
+    (quiet_on l n row (record { event = s.event; effects = s.effects ++ zs }) ss k more (mute_plain l more plain))
+
 -- WHAT A CALL OF ITS CONNECTION SHOWS
 
-turned : (start : Option Setup) (calls : List Act') (seat : Seat) (act : Act') → Made start calls seat.seen → is_close act ≡ false →
+call_turns : (start : Option Setup) (calls : List Act') (seat : Seat) (act : Act') → Made start calls seat.seen → is_close act ≡ false →
     Turns seat.seen (session.after act seat.seen) (written_in act seat.seen) (queued_in act seat.seen)
-turned start calls seat act m c =
+call_turns start calls seat act m c =
     let before : is_over (session.seen m.setup calls).stage ≡ false = sym (ap (λ (s : Seen). is_over s.stage) m.same) ∙ m.live in
     let after : is_over (session.seen m.setup (act ∷ calls)).stage ≡ false = over_stays act (session.seen m.setup calls) c ∙ before in
     subst (λ v. Turns v (session.after act v) (written_in act v) (queued_in act v)) (sym m.same) (turns m.setup act calls before after)
@@ -428,25 +457,29 @@ module _ (l n : ℕ) (seat : Seat) (s : Step) (ss : List Step) (k : Wrote l n (S
   module _ (start : Option Setup) (calls : List Act') (m : Made start calls seat.seen) where
     took_on : (x : LinkAct) (now : ℕ) → Wrote l n (took x now seat) (with_effects (links.effects l x now seat.seen) (s ∷ ss))
     took_on link.Opens now =
-        let t = turned start calls seat (Opens now) m refl in
+        let t = call_turns start calls seat (Opens now) m refl in
         call_on (Opens now) _ (links.effects l link.Opens now seat.seen) refl t
         (shows_both l seat.seen.waits.queued [] (queues l seat.seen (session.after (Opens now) seat.seen)) [] (queued_in (Opens now) seat.seen) refl refl (t.shown l))
     took_on link.Reads now =
-        let t = turned start calls seat (Takes now) m refl in
+        let t = call_turns start calls seat (Takes now) m refl in
         let xs : List Shown = map (settles l settlement.Reply) (settled_in (came seat.seen)) in
         let r : Shows l 0 xs [] [] = mute_shows l 0 xs (mute_settles l (settles l settlement.Reply) (settled_in (came seat.seen)) (λ p. (refl, refl))) in
         call_on (Takes now) _ (links.effects l link.Reads now seat.seen) refl t
         (shows_both l seat.seen.waits.queued xs (queues l seat.seen (session.after (Takes now) seat.seen)) [] (queued_in (Takes now) seat.seen) r.writes r.queued (t.shown l))
     took_on (link.Drains most) now =
-        let t = turned start calls seat (Drains most now) m refl in
+        let t = call_turns start calls seat (Drains most now) m refl in
         call_on (Drains most now) _ (links.effects l (link.Drains most) now seat.seen) refl t
         (shows_both l seat.seen.waits.queued (write l (flat (written most seat.seen))) (queues l seat.seen (session.after (Drains most now) seat.seen)) (written most seat.seen)
         (queued_in (Drains most now) seat.seen) (own_write l (flat (written most seat.seen))) (no_queue l (flat (written most seat.seen))) (t.shown l))
+    took_on link.Pings now =
+        let t = call_turns start calls seat (Asks now SendPing) m refl in
+        call_on (Asks now SendPing) _ (links.effects l link.Pings now seat.seen) refl t
+        (shows_both l seat.seen.waits.queued [] (queues l seat.seen (session.after (Asks now SendPing) seat.seen)) [] (queued_in (Asks now SendPing) seat.seen) refl refl (t.shown l))
     took_on (link.Ends end) now = ended_on end now (closed_by end now seat.seen)
 
     asked_on : (who : Who) (now : ℕ) (request : Words) → Wrote l n (Some (seat_asked who now request seat)) (with_effects (asked_at l now request (Some seat)) (s ∷ ss))
     asked_on who now request =
-        let t = turned start calls seat (Asks now request) m refl in
+        let t = call_turns start calls seat (Asks now request) m refl in
         call_on (Asks now request) (seat_asked who now request seat) (asked_at l now request (Some seat)) refl t
         (shows_both l seat.seen.waits.queued [] (queues l seat.seen (session.after (Asks now request) seat.seen)) [] (queued_in (Asks now request) seat.seen) refl refl (t.shown l))
 
@@ -503,12 +536,17 @@ module _ (o : Chosen) (log : List Entry) (w : Writes o log) (k : InAStep o log) 
   to_link_on : (m : ℕ) (x : LinkAct) → Writes o (Then (Comes (ToLink m x)) ∷ log)
   to_link_on m x l =
       let now : ℕ = (view o log).now in
+      let more : List Shown = retries_on (view o log).chosen (turned (view o log) (Comes (ToLink m x))) in
+      let plain : ArePlain more = turned_plain (view o log).chosen (turned (view o log) (Comes (ToLink m x))) in
       elim (cases_Bool (l == m)) [
-        | inl e ↦ subst (λ b. Wrote l n (cond b (took_some x now (row l)) (row l)) (with_effects (given_at m x now (row m)) (steps_done rules o log))) (sym e)
-            (subst (λ j. Wrote l n (took_some x now (row l)) (with_effects (given_at j x now (row j)) (steps_done rules o log))) (eqb-true l m e)
-            (back l n (took_some x now (row l)) (given_at l x now (row l)) (this_link l n _ _ k.newest k.older x now (row l) (alone o log l) (before l))))
-        | inr e ↦ subst (λ b. Wrote l n (cond b (took_some x now (row l)) (row l)) (with_effects (given_at m x now (row m)) (steps_done rules o log))) (sym e)
-            (mute_on l (given_at m x now (row m)) (mute_of l m (given_at m x now (row m)) e (given_of m x now (row m))))
+        | inl e ↦ subst (λ b. Wrote l n (cond b (took_some x now (row l)) (row l)) (with_effects (given_at m x now (row m) ++ more) (steps_done rules o log))) (sym e)
+            (subst (λ j. Wrote l n (took_some x now (row l)) (with_effects (given_at j x now (row j) ++ more) (steps_done rules o log))) (eqb-true l m e)
+            (back l n (took_some x now (row l)) (given_at l x now (row l) ++ more)
+            (quiet_more l n (took_some x now (row l)) k.newest k.older (given_at l x now (row l)) more plain
+            (this_link l n _ _ k.newest k.older x now (row l) (alone o log l) (before l)))))
+        | inr e ↦ subst (λ b. Wrote l n (cond b (took_some x now (row l)) (row l)) (with_effects (given_at m x now (row m) ++ more) (steps_done rules o log))) (sym e)
+            (mute_on l (given_at m x now (row m) ++ more)
+            (each_append (IsMute l) (given_at m x now (row m)) more (mute_of l m (given_at m x now (row m)) e (given_of m x now (row m))) (mute_plain l more plain)))
       ]
 
   asks_on : (who : Who) (m : ℕ) (request : Words) → Writes o (Then (Does who (Ask m request)) ∷ log)
@@ -522,15 +560,19 @@ module _ (o : Chosen) (log : List Entry) (w : Writes o log) (k : InAStep o log) 
             (mute_on l (asked_at m now request (row m)) (mute_of l m (asked_at m now request (row m)) e (asked_of m now request (row m))))
       ]
 
-  dials_on : (starter : Who) → Writes o (Then (Dials starter) ∷ log)
-  dials_on starter l =
+  gets_on : (who : Who) (p : Place) → Writes o (Then (Does who (Get p)) ∷ log)
+  gets_on who p l =
+      got_on l n (view o log).now (link_got (view o log).addresses (Does who (Get p))) (row l) (with_effects [] (steps_done rules o log)) (mute_on l [] tt)
+
+  dials_on : (p : Place) (starter : Who) (retries : ℕ) → Writes o (Then (Dials p starter retries) ∷ log)
+  dials_on p starter retries l =
       let v : View = view o log in
-      let zs : List Shown = connects n v.chosen.address in
-      let new : Option Seat = dialed v.chosen v.now in
-      let done : Wrote l n (row l) (with_effects zs (steps_done rules o log)) = mute_on l zs (mute_plain l zs (effects_plain v (Dials starter) refl)) in
+      let zs : List Shown = connects n p in
+      let new : Option Seat = Some (dialed v.chosen n v.now p) in
+      let done : Wrote l n (row l) (with_effects zs (steps_done rules o log)) = mute_on l zs (mute_plain l zs (effects_plain v (Dials p starter retries) refl)) in
       elim (cases_Bool (l == n)) [
         | inl e ↦ subst (λ b. Wrote l (n + 1) (cond b new (row l)) (with_effects zs (steps_done rules o log))) (sym e)
-            (fresh_link l n v.chosen v.now v.chosen.address (row l) (with_effects zs (steps_done rules o log)) e done)
+            (fresh_link l n v.chosen v.now p (row l) (with_effects zs (steps_done rules o log)) e done)
         | inr e ↦ subst (λ b. Wrote l (n + 1) (cond b new (row l)) (with_effects zs (steps_done rules o log))) (sym e)
             (more_links l n (row l) (with_effects zs (steps_done rules o log)) done)
       ]
@@ -597,7 +639,9 @@ writes o (Then (Comes (ToLink m x)) ∷ log) run = to_link_on o log (writes o lo
 writes o (Then (Comes (Polls t)) ∷ log) run =
     λ l. mute_on o log (writes o log run.0) (in_a_step o (Comes (Polls t)) log run) l (option_to_list (option_map (polled t) ((view o log).consumers t))) (mute_polls l t ((view o log).consumers t))
 writes o (Then (Does who (Ask m request)) ∷ log) run = asks_on o log (writes o log run.0) (in_a_step o (Does who (Ask m request)) log run) who m request
-writes o (Then (Dials starter) ∷ log) run = dials_on o log (writes o log run.0) (in_a_step o (Dials starter) log run) starter
+writes o (Then (Does who (Get p)) ∷ log) run = gets_on o log (writes o log run.0) (in_a_step o (Does who (Get p)) log run) who p
+writes o (Then (Dials p starter retries) ∷ log) run =
+    dials_on o log (writes o log run.0) (in_a_step o (Dials p starter retries) log run) p starter retries
 writes o (Then a ∷ log) run =
     λ l. mute_on o log (writes o log run.0) (in_a_step o a log run) l (effects (view o log) a) (mute_plain l (effects (view o log) a) (effects_plain (view o log) a refl))
 

@@ -27,10 +27,14 @@ use Rattle.pulsar_client.specs.declared.producers.Producers.{Producers as KeptPr
 use Rattle.pulsar_client.specs.Producers.{Producers}
 use Rattle.pulsar_producer.specs.Routing.{Policy}
 use Rattle.pulsar_producer.specs.declared.routing.CustomRoutingPolicy.{routes}
-use Rattle.pulsar_client.specs.View.{Addresses, Base, Links, Seat, closing, may_retry, nobody, pause_with}
+use Rattle.pulsar_client.specs.View.{Addresses, Base, Links, Seat, askers_left, closing, may_retry, nobody, pause_with, ping_left}
 
 abbrev pub seat_of : Row → Seat
 seat_of r = record { address = r.address; seen = r.connection; askers = get nat_cmp r.askers; got = r.got; ping = r.ping }
+
+-- the requests of some places are settled on a link
+abbrev pub settled : List ℕ → Seat → Seat
+settled places seat = record seat { askers = askers_left places seat.askers; ping = ping_left places seat.ping }
 
 abbrev pub live_in : BTreeMap ℕ Row → ℕ → Option Seat
 live_in live l = option_map seat_of (get nat_cmp live l)

@@ -1,63 +1,52 @@
 -- What follows from the definition of a good run, in plain words.
-use Rattle.std.specs.Prelude.{◌≡◌, ◌⊎◌, ℕ, ◌+◌, ◌-◌, ◌^◌, ◌≤◌, ◌<◌, ◌==◌, bytes_eq, ◌&&◌, ◌||◌, not, Bool, true, false, if◌then◌else◌, List, [], ◌∷◌, ◌++◌, map, Option, Some, None, Result, Ok, Err}
-use Rattle.std.specs.BTreeMap.{is_at}
+use Rattle.std.specs.Prelude.{◌≡◌, ◌⊎◌, ℕ, ◌+◌, ◌-◌, ◌^◌, ◌≤◌, ◌<◌, ◌==◌, bytes_eq, ◌&&◌, ◌||◌, not, Bool, true, false, if◌then◌else◌, List, [], ◌∷◌, ◌++◌, map, Option, Some, None, Result, Ok, Err, pos}
 use Rattle.std.specs.List.{flat_map, list_any}
-use Rattle.std.specs.Map.{lookup}
-use Rattle.std.specs.Ordering.{nat_cmp}
 use Rattle.std.specs.Option.{is_some, option_map, option_to_list}
 use Rattle.pulsar_run.specs.Laws as run
-use Rattle.pulsar_run.specs.Laws.{In, InThisStep}
+use Rattle.pulsar_run.specs.Laws.{Arises, In, InThisStep}
 use Rattle.pulsar_run.specs.Order.{AllInOrder, InOrder, arranged}
 use Rattle.pulsar_run.specs.Run.{events, steps_done}
 use Rattle.pulsar_wire.specs.declared.error.ConnectionError.{ConnectionError}
-use Rattle.pulsar_wire.specs.declared.error.ConnectionError.TheVariants as error
-use Rattle.pulsar_wire.specs.declared.key.RequestKey.TheVariants as key
+use Rattle.pulsar_frame.specs.Frame.{cut}
 use Rattle.pulsar_frame.specs.Message.{MessageValues}
-use Rattle.pulsar_messages.specs.Content.{ProducerMessageValues}
-use Rattle.pulsar_messages.specs.Words as words
 use Rattle.pulsar_messages.specs.Words.{Words}
 use Rattle.pulsar_requests.specs.Waits.{later_of}
 use Rattle.pulsar_session.specs.declared.states.Asked.{Asked as Placed}
 use Rattle.pulsar_session.specs.declared.states.Asked.TheVariants as placed
 use Rattle.pulsar_session.specs.Failures.{DiscoveryConnection, DiscoveryCanceled, DiscoveryFault, DiscoveryNotFound, DiscoveryShutdown, DnsLookup, Dummy, Exhausted, Failure, Fault, OfConnection, OfDiscovery, OfPartialSend, Query, fault}
+use Rattle.pulsar_session.specs.Laws.{bytes_fed, messages_taken}
 use Rattle.pulsar_session.specs.Link as session
 use Rattle.pulsar_session.specs.Link.{Act as Act', Asks, Feeds, Setup, came, due, ends, is_spent}
 use Rattle.pulsar_link.specs.Items.{Item, Given, Faulty}
 use Rattle.pulsar_link.specs.Messages.{Reply, read}
 use Rattle.pulsar_link.specs.Request.{closed_consumer, request_number}
 use Rattle.pulsar_plans.specs.Address.{Place, address_key, is_reachable}
-use Rattle.pulsar_plans.specs.Replies.{in_discovery, query, unexpected}
+use Rattle.pulsar_plans.specs.Replies.{in_discovery, query, unexpected, fails_by, is_choice, place_at}
 use Rattle.pulsar_producer.specs.Errors.{in_producer}
-use Rattle.pulsar_producer.specs.Message.{with_version}
-use Rattle.pulsar_producer.specs.Topic as topic
-use Rattle.pulsar_producer.specs.Topic.{Act as TopicAct}
-use Rattle.pulsar_producer.specs.declared.content.Built.{Built}
 use Rattle.pulsar_producer.specs.declared.deed.News.{News}
 use Rattle.pulsar_producer.specs.declared.deed.News.TheVariants as news
-use Rattle.pulsar_producer.specs.declared.sending.Errand.{Errand}
-use Rattle.pulsar_producer.specs.declared.sending.Sending.{Sending}
-use Rattle.pulsar_producer.specs.declared.sending.Sending.TheVariants as send
+use Rattle.pulsar_plans.specs.Backoff.{allow_retry}
 use Rattle.pulsar_plans.specs.declared.turn.Ways.{Ways}
 use Rattle.pulsar_session.specs.Reply.{Reply as Content, is_body}
 use Rattle.pulsar_client.specs.Alarms.{ringing, rings}
 use Rattle.pulsar_client.specs.declared.act.Act.{Act}
 use Rattle.pulsar_client.specs.declared.act.Act.TheVariants.{Comes, Starts, Told, Does, Answers, Dials}
 use Rattle.pulsar_client.specs.declared.act.Action.{Action}
-use Rattle.pulsar_client.specs.declared.act.Action.TheVariants.{Get, Ask, TakeTurn, PassTurn, Draw, Remake, Shut, Tell, StopAll, Rest}
+use Rattle.pulsar_client.specs.declared.act.Action.TheVariants.{Get, Ask, PassTurn, Tell, StopAll, Rest}
 use Rattle.pulsar_client.specs.declared.act.Alarm.{Alarm}
-use Rattle.pulsar_client.specs.declared.act.Alarm.TheVariants.{Retry, Wake, CheckIdle}
+use Rattle.pulsar_client.specs.declared.act.Alarm.TheVariants.{Retry, Wake, KeepAlive, CheckIdle}
 use Rattle.pulsar_client.specs.declared.act.Arrival.{Arrival}
 use Rattle.pulsar_client.specs.declared.act.Arrival.TheVariants.{Nothing, Readied, Settles, Gives, Passes, Bad}
 use Rattle.pulsar_client.specs.declared.act.End.{End}
 use Rattle.pulsar_client.specs.declared.act.End.TheVariants.{Overdue, Idles}
 use Rattle.pulsar_client.specs.declared.act.LinkAct.{LinkAct}
-use Rattle.pulsar_client.specs.declared.act.LinkAct.TheVariants.{Reads, Drains, Ends}
+use Rattle.pulsar_client.specs.declared.act.LinkAct.TheVariants.{Reads, Drains, Pings, Ends}
 use Rattle.pulsar_client.specs.declared.act.Makes.{Makes}
-use Rattle.pulsar_client.specs.declared.act.Makes.TheVariants as makes
 use Rattle.pulsar_client.specs.declared.act.Share.{Share}
 use Rattle.pulsar_client.specs.declared.act.Notice.{Notice}
 use Rattle.pulsar_client.specs.declared.act.Outcome.{Outcome}
 use Rattle.pulsar_client.specs.declared.act.Outcome.TheVariants as outcome
+use Rattle.pulsar_client.specs.declared.act.Part.{Part}
 use Rattle.pulsar_client.specs.declared.act.Part.TheVariants.{Calls, ToLink, Rings, Polls}
 use Rattle.pulsar_client.specs.declared.act.Procedure.{Procedure}
 use Rattle.pulsar_client.specs.declared.act.Procedure.TheVariants as procedure
@@ -70,21 +59,19 @@ use Rattle.pulsar_client.specs.declared.addresses.Pause.{Pause}
 use Rattle.pulsar_client.specs.declared.addresses.Series.{Series}
 use Rattle.pulsar_client.specs.declared.addresses.Series.TheVariants.{Nobody, Runs, Pauses, Serves}
 use Rattle.pulsar_client.specs.declared.plans.plan.Plan.{Plan}
-use Rattle.pulsar_client.specs.declared.plans.plan.Plan.TheVariants as plan
-use Rattle.pulsar_client.specs.declared.producers.Topic.{Topic}
 use Rattle.pulsar_client.specs.declared.plans.plan.Turn.{Turn}
 use Rattle.pulsar_client.specs.declared.plans.plan.Turn.TheVariants as turn
-use Rattle.pulsar_client.specs.Content.{Asked, Said, Called, Bytes, Ticked, Poll, Shown, Queued, Write, Hands, Faults, Failed, lacks_tickets, shares}
-use Rattle.pulsar_client.specs.Effects.{effect_below}
+use Rattle.pulsar_client.specs.Content.{Asked, Bytes, Ticked, Poll, Shown, Queued, Write, Hands, Faults, Failed, lacks_tickets, shares}
+use Rattle.pulsar_client.specs.Effects.{effect_below, is_before3}
 use Rattle.pulsar_client.specs.Links as links
 use Rattle.pulsar_client.specs.Links.{Change, Remains, Becomes, IsOver, arrival, call_of, closed_by, line_places, new_places, numbers_from}
-use Rattle.pulsar_client.specs.Parts.{outcomes_of, sent_from}
-use Rattle.pulsar_client.specs.Producers.{number_drawn, numbers_at, turn_passed, waiting}
+use Rattle.pulsar_client.specs.Parts.{outcomes_of}
+use Rattle.pulsar_client.specs.Producers.{turn_passed, waiting}
 use Rattle.pulsar_client.specs.Plan.{begins, failure_of, fails, fault_of, reply_says, told}
-use Rattle.pulsar_client.specs.Rules.{below, dropped, fails_so, is_idle, lost, notice, performs, starts, stopped_one, stopped_with}
+use Rattle.pulsar_client.specs.Rules.{below, dropped, fails_so, is_idle, lost, notice, performs, starts, stopped_one, stopped_with, brings}
 use Rattle.pulsar_client.specs.Run.{Entry, Begins, Then, Good, IsRun, Rests, Step, agenda, rules, steps, tickets_in, view}
 use Rattle.pulsar_client.specs.Subscriptions.{Subscription, closes_it, is_heard_on, is_last, polled}
-use Rattle.pulsar_client.specs.View.{Base, Chosen, Seat, Turned, View, answer_at, arrival_at, builds, closing, is_asked, pause_of, room_of, setup, turned, waits_on}
+use Rattle.pulsar_client.specs.View.{Base, Chosen, Seat, Turned, View, answer_at, arrival_at, builds, closing, is_asked, pause_of, setup, turned, waits_on}
 use Rattle.pulsar_client.specs.Who.{is_same, rank}
 
 -- THE RUN
@@ -101,23 +88,17 @@ EffectsArranged = (o : Chosen) (log : List Entry) → run.ArrangeSteps effect_be
 abbrev pub CausesInOrder : Type 0
 CausesInOrder = (o : Chosen) (log : List Entry) → InOrder below (agenda o log).here × AllInOrder below (agenda o log).behind
 
--- what is told of a frame that is queued
-abbrev pub is_queued : Outcome → Bool
-is_queued outcome.Queued = true
-is_queued _ = false
+-- these entries are acts, all of one step
+abbrev pub AreActs : List Entry → Type 0
+AreActs [] = Unit {0}
+AreActs (Begins e ∷ log) = ⊥
+AreActs (Then a ∷ log) = AreActs log
 
--- a plan has asked for the frame of a message
-abbrev pub asks_in : Sending → Bool
-asks_in (send.Asked kept) = true
-asks_in _ = false
-
-abbrev pub asks_at : Plan → Bool
-asks_at (plan.Sending w e share s) = asks_in s
-asks_at _ = false
-
-abbrev pub asks_send : Option Plan → Bool
-asks_send None = false
-asks_send (Some p) = asks_at p
+-- Whatever arises from an event or an act, at once, as what one is told or as a part, is done before the next event begins: nothing is
+-- missing.
+abbrev pub AllIsDone : Type 0
+AllIsDone = (o : Chosen) (newer older : List Entry) (e : Entry) (a : Act) →
+    IsRun o (newer ++ e ∷ older) → Rests o (newer ++ e ∷ older) → AreActs newer → Arises rules o a e older → In (Then a) newer
 
 -- CALLS
 
@@ -173,11 +154,12 @@ abbrev pub PlansFollow : Type 0
 PlansFollow = (o : Chosen) (log : List Entry) (w : Who) (p : Procedure) →
     IsRun o log → Rests o log → started w log ≡ Some p → deeds w log ≡ course (begins p) (outcomes w log)
 
--- what leads to a deed: its plan is where this is done, or gives this verdict
+-- the act of a deed
 abbrev pub act_of : Who → Deed → Act
 act_of w (Acted action) = Does w action
 act_of w (Answered verdict) = Answers w verdict
 
+-- a plan comes to where this is done, or gives this verdict
 abbrev pub Leads : Deed → Turn Plan Verdict → Type 0
 Leads (Acted action) t = (plan : Plan) × (t ≡ turn.Stays plan action)
 Leads (Answered verdict) t = t ≡ turn.Gives verdict
@@ -365,30 +347,43 @@ number_in (procedure.Go round numbers) = None
 number_in (procedure.Close ticket numbers) = None
 number_in (procedure.Refuse r) = None
 
+-- A reply tells that the search failed, or nothing of how it went, and after so many retries it is not to be asked again.
+abbrev pub Refuses : Ways → Content → Type 0
+Refuses w r =
+    (((is_body 22 r.body ≡ true) × (fails_by (pos 1) r.response ≡ true)) ⊎ ((is_body 24 r.body ≡ true) × (fails_by (pos 2) r.response ≡ true)))
+    × (retries : ℕ) × ((is_choice (pos 6) r.error && allow_retry w.max_retries retries) ≡ false)
+
+-- a reply that lacks the number of partitions, and one that names no address
+abbrev pub LacksPartitions : Content → Type 0
+LacksPartitions r = (is_body 22 r.body ≡ true) × (r.partitions ≡ None)
+
+abbrev pub NamesNone : Content → Type 0
+NamesNone r = (is_body 24 r.body ≡ true) × ((base : Place) (proxy : Bool) → place_at base proxy r.url ≡ None)
+
 -- what a reply says to a search that fails by it: it is another body than was asked for, it tells the broker's error, or it names no
 -- address
-abbrev pub DeniesSo : DiscoveryFault → Content → Type 0
-DeniesSo (DiscoveryConnection f) r = f ≡ unexpected r r.body
-DeniesSo (Query error text) r = OfDiscovery (Query error text) ≡ query r.error r.text
-DeniesSo DiscoveryNotFound r = is_body 24 r.body ≡ true
-DeniesSo DnsLookup r = ⊥
-DeniesSo DiscoveryCanceled r = ⊥
-DeniesSo DiscoveryShutdown r = ⊥
-DeniesSo Dummy r = ⊥
+abbrev pub DeniesSo : Ways → DiscoveryFault → Content → Type 0
+DeniesSo w (DiscoveryConnection f) r = f ≡ unexpected r r.body
+DeniesSo w (Query error text) r = (OfDiscovery (Query error text) ≡ query r.error r.text) × (Refuses w r ⊎ LacksPartitions r)
+DeniesSo w DiscoveryNotFound r = NamesNone r
+DeniesSo w DnsLookup r = ⊥
+DeniesSo w DiscoveryCanceled r = ⊥
+DeniesSo w DiscoveryShutdown r = ⊥
+DeniesSo w Dummy r = ⊥
 
--- a procedure looks for brokers
-abbrev pub searches_in : Procedure → Bool
-searches_in (procedure.Build base) = false
-searches_in procedure.Stop = false
-searches_in (procedure.Ask place request s) = false
-searches_in (procedure.Search ways what) = true
-searches_in (procedure.Produce ways order) = true
-searches_in (procedure.Send ways errand share message) = true
-searches_in (procedure.FailShare share r) = false
-searches_in (procedure.Gather first count) = false
-searches_in (procedure.Go round numbers) = false
-searches_in (procedure.Close ticket numbers) = false
-searches_in (procedure.Refuse r) = false
+-- how a procedure looks for brokers, where it does
+abbrev pub ways_in : Procedure → Option Ways
+ways_in (procedure.Build base) = None
+ways_in procedure.Stop = None
+ways_in (procedure.Ask place request s) = None
+ways_in (procedure.Search ways what) = Some ways
+ways_in (procedure.Produce ways order) = Some ways
+ways_in (procedure.Send ways errand share message) = Some ways
+ways_in (procedure.FailShare share r) = None
+ways_in (procedure.Gather first count) = None
+ways_in (procedure.Go round numbers) = None
+ways_in (procedure.Close ticket numbers) = None
+ways_in (procedure.Refuse r) = None
 
 -- it fails as a producer
 abbrev pub fails_in_producer : Procedure → Bool
@@ -415,9 +410,9 @@ pub data FailsSo (p : Procedure) (os : List Outcome) (f : Failure) : Type 0 wher
   IsRefused : (r : Refusal) → p ≡ procedure.Refuse r → f ≡ failure_of r → FailsSo p os f
   IsRefusedShare : (s : Share) (r : Refusal) → p ≡ procedure.FailShare s r → f ≡ failure_of r → FailsSo p os f
   IsTold : (u : Outcome) → In u os → f ≡ OfConnection (fault_of u) → FailsSo p os f
-  IsTurned : (u : Outcome) → searches_in p ≡ true → In u os → f ≡ in_discovery (fault_of u) → FailsSo p os f
-  IsDenied : (r : Reply) (d : DiscoveryFault) →
-      searches_in p ≡ true → In (outcome.Replied r) os → f ≡ OfDiscovery d → DeniesSo d r.content → FailsSo p os f
+  IsTurned : (u : Outcome) → is_some (ways_in p) ≡ true → In u os → f ≡ in_discovery (fault_of u) → FailsSo p os f
+  IsDenied : (w : Ways) (r : Reply) (d : DiscoveryFault) →
+      ways_in p ≡ Some w → In (outcome.Replied r) os → f ≡ OfDiscovery d → DeniesSo w d r.content → FailsSo p os f
   IsUnexpected : (r : Reply) → In (outcome.Replied r) os → f ≡ OfConnection (unexpected r.content r.content.body) → FailsSo p os f
   IsInProducer : (u : Outcome) → fails_in_producer p ≡ true → In u os → f ≡ in_producer (fault_of u) → FailsSo p os f
   IsUnexpectedInProducer : (r : Reply) → fails_in_producer p ≡ true → In (outcome.Replied r) os →
@@ -480,6 +475,23 @@ RingsAt o a e older = (now : ℕ) × (e ≡ Begins (Ticked now)) × In a (ringin
 
 abbrev pub AlarmsAreTicked : Type 0
 AlarmsAreTicked = (o : Chosen) (log : List Entry) (a : Alarm) → IsRun o (Then (Comes (Rings a)) ∷ log) → InThisStep (RingsAt o a) log
+
+-- What a tick brings comes in this order: the deadlines of links, by link; the attempts that follow others, by the link of the one before;
+-- those who have waited, by their rank; the signs of life, by link; then the idle check.
+abbrev pub part_rank : Part → ℕ × ℕ × ℕ
+part_rank (ToLink l x) = (0, 0, l)
+part_rank (Rings (Retry l)) = (1, 0, l)
+part_rank (Rings (Wake who)) = (2, (rank who).0, (rank who).1)
+part_rank (Rings (KeepAlive l)) = (3, 0, l)
+part_rank (Rings CheckIdle) = (4, 0, 0)
+part_rank (Calls asked) = (5, 0, 0)
+part_rank (Polls ticket) = (5, 0, ticket)
+
+abbrev pub part_below : Part → Part → Bool
+part_below a b = is_before3 (part_rank a) (part_rank b)
+
+abbrev pub TicksInOrder : Type 0
+TicksInOrder = (o : Chosen) (log : List Entry) (now : ℕ) → InOrder part_below (brings (view o log) (Ticked now))
 
 -- THE ADDRESSES
 
@@ -544,10 +556,24 @@ abbrev pub OneLinkEach : Type 0
 OneLinkEach = (o : Chosen) (log : List Entry) (l : ℕ) (seat : Seat) → IsRun o log → (view o log).links.live l ≡ Some seat →
     names_link l (base_of (view o log) seat.address).series ≡ true
 
--- a link ends for want of use only where it is ready, was not got for so long, and nothing uses it
+-- a link ends for want of use only where it is ready, was not got for so long, and nothing uses it, as the check for that comes
+abbrev pub IsIdleAt : Chosen → (link : ℕ) → Entry → List Entry → Type 0
+IsIdleAt o l e older =
+    (seat : Seat) × (e ≡ Then (Comes (Rings CheckIdle))) × (rings (view o older).now CheckIdle (view o older).alarms ≡ true)
+    × ((view o older).links.live l ≡ Some seat) × (is_idle (view o older) l seat ≡ true)
+
 abbrev pub IdleEnds : Type 0
 IdleEnds = (o : Chosen) (log : List Entry) (l : ℕ) → IsRun o (Then (Comes (ToLink l (Ends Idles))) ∷ log) →
-    InThisStep (λ e older. (seat : Seat) × (e ≡ Then (Comes (Rings CheckIdle))) × ((view o older).links.live l ≡ Some seat) × (is_idle (view o older) l seat ≡ true)) log
+    InThisStep (IsIdleAt o l) log
+
+-- A link is asked for a sign of life only where the alarm for that rings, and none that it was asked for earlier is waited for.
+abbrev pub IsQuietAt : Chosen → (link : ℕ) → Entry → List Entry → Type 0
+IsQuietAt o l e older =
+    (seat : Seat) × (e ≡ Then (Comes (Rings (KeepAlive l)))) × (rings (view o older).now (KeepAlive l) (view o older).alarms ≡ true)
+    × ((view o older).links.live l ≡ Some seat) × (seat.ping ≡ None)
+
+abbrev pub SignsOfLife : Type 0
+SignsOfLife = (o : Chosen) (log : List Entry) (l : ℕ) → IsRun o (Then (Comes (ToLink l Pings)) ∷ log) → InThisStep (IsQuietAt o l) log
 
 -- LINKS
 
@@ -579,6 +605,11 @@ dialed_with o l (_ ∷ log) = dialed_with o l log
 abbrev pub LinksAlone : Type 0
 LinksAlone = (o : Chosen) (log : List Entry) (l : ℕ) (seat : Seat) → (view o log).links.live l ≡ Some seat →
     (s : Setup) × (dialed_with o l log ≡ Some s) × (seat.seen ≡ session.seen s (calls_of o l log))
+
+-- At the end of a step no whole frame is left unread: the messages that were taken from a link are those that all its bytes are cut into.
+abbrev pub FramesAreCut : Type 0
+FramesAreCut = (o : Chosen) (log : List Entry) (l : ℕ) (seat : Seat) → IsRun o log → Rests o log → (view o log).links.live l ≡ Some seat →
+    (s : Setup) × (dialed_with o l log ≡ Some s) × (messages_taken s (calls_of o l log) ≡ cut (bytes_fed s (calls_of o l log)))
 
 -- a list begins with another
 abbrev pub IsPrefix : {A : Type 0} → List A → List A → Type 0
@@ -692,89 +723,3 @@ ServedByTicket = arranged below (disconnects 3 ∷ disconnects 1 ∷ disconnects
 -- the next ticket is the count of the calls so far and of their parts, in whatever run a history is that of
 abbrev pub TicketsCount : Type 0
 TicketsCount = (o : Chosen) (log : List Entry) → IsRun o log → Rests o log → (view o log).calls.drawn ≡ tickets_in (steps o log)
-
--- PRODUCERS
-
--- what an act does to the topic producer of a number
-abbrev pub drawn_by : Option Bool → List TopicAct
-drawn_by None = []
-drawn_by (Some room) = topic.Draws ∷ []
-
-abbrev pub shut_by : (number : ℕ) → List ℕ → List TopicAct
-shut_by n [] = []
-shut_by n (m ∷ ms) = if m == n then topic.Closes ∷ shut_by n ms else shut_by n ms
-
-abbrev pub topic_acts : View → (number : ℕ) → Act → List TopicAct
-topic_acts v n (Does who (TakeTurn m)) = if m == n then topic.Takes (rank who).1 ∷ [] else []
-topic_acts v n (Does who (PassTurn m)) = if m == n then topic.Passes ∷ [] else []
-topic_acts v n (Does who (Draw m)) = if m == n then drawn_by (room_of v m) else []
-topic_acts v n (Does who (Remake r)) = if r.number == n then topic.Remakes r.link r.given ∷ [] else []
-topic_acts v n (Does who (Shut t)) = shut_by n (numbers_at (v.producers.built t))
-topic_acts v n _ = []
-
--- all that was done to it since it was built, newest first
-abbrev pub acts_on : Chosen → (number : ℕ) → List Entry → List TopicAct
-acts_on o n [] = []
-acts_on o n (Begins e ∷ log) = acts_on o n log
-acts_on o n (Then a ∷ log) = if is_some ((view o log).producers.topics n) then topic_acts (view o log) n a ++ acts_on o n log else []
-
--- A topic producer is what these made of it, and nothing else. So all that holds of one over any acts holds of it: the numbers that it draws
--- rise, one has its turn at a time, and the turn goes to the lowest ticket of those that wait.
-abbrev pub TopicsAlone : Type 0
-TopicsAlone = (o : Chosen) (log : List Entry) (n : ℕ) (t : Topic) → IsRun o log → (view o log).producers.topics n ≡ Some t →
-    (b : Built) × (t.seen ≡ topic.seen (record { built = b; first_number = o.first_number }) (acts_on o n log))
-
--- the number of a topic producer is none that a raw call has named before, and no other one has it
-abbrev pub NumbersAreFree : Type 0
-NumbersAreFree = (o : Chosen) (log : List Entry) (who : Who) (n : ℕ) → IsRun o log → number_drawn (view o log).producers ≡ Some n →
-    (list_any (λ k. k == n) (view o log).producers.named ≡ false) × ((view o log).producers.topics n ≡ None)
-
--- Where a send of a call asks for its frame, it is the call's own message by the name that its topic producer has then, on its link and in its
--- turn; it has the version of the schema that this had as the turn came, where the message has none.
-abbrev pub FramesAreOfTheirSends : Type 0
-FramesAreOfTheirSends = (o : Chosen) (log : List Entry) (t l n s : ℕ) (name : List ℕ) (m : ProducerMessageValues) (block : Bool)
-    (w : Ways) (e : Errand) (share : Option Share) (given : ProducerMessageValues) →
-    IsRun o (Then (Does (Call t) (Ask l (words.Send n name s m block))) ∷ log) → started (Call t) log ≡ Some (procedure.Send w e share given) →
-    (row : Topic) × (version : Option (List ℕ)) × ((view o log).producers.topics n ≡ Some row) × (n ≡ e.producer) × (block ≡ e.block)
-    × (row.seen.holder ≡ Some t) × (row.seen.link ≡ l) × (row.seen.given.name ≡ name) × (row.seen.next ≡ s + 1) × (m ≡ with_version version given)
-
--- how often the frame of a send is queued: at once, or as it moves up from the line
-abbrev pub queues_at : Chosen → (ticket : ℕ) → List Entry → Act → ℕ
-queues_at o t log (Told n) = if is_same (Call t) n.who && (is_queued n.outcome && asks_send ((view o log).stand (Call t))) then 1 else 0
-queues_at o t log _ = 0
-
-abbrev pub queued_times : Chosen → (ticket : ℕ) → List Entry → ℕ
-queued_times o t [] = 0
-queued_times o t (Begins e ∷ log) = queued_times o t log
-queued_times o t (Then a ∷ log) = queued_times o t log + queues_at o t log a
-
--- The send of a ticket is queued at most once, over all links.
-abbrev pub SentOnce : Type 0
-SentOnce = (o : Chosen) (log : List Entry) (t : ℕ) → IsRun o log → queued_times o t log ≤ 1
-
--- The receipt with which a send ends is the reply to its frame: it bears the topic producer and the number of that.
-abbrev pub ReceiptsAreOwn : Type 0
-ReceiptsAreOwn = (o : Chosen) (log : List Entry) (t : ℕ) (r : Reply) (w : Ways) (e : Errand) (share : Option Share) (m : ProducerMessageValues) →
-    IsRun o (Then (Told (notice (Call t) (outcome.Replied r))) ∷ log) → started (Call t) log ≡ Some (procedure.Send w e share m) →
-    (view o log).stand (Call t) ≡ Some (plan.Sending w e None send.Sent) →
-    (l s : ℕ) × (name : List ℕ) × (sent : ProducerMessageValues) × In (Then (Does (Call t) (Ask l (words.Send e.producer name s sent e.block)))) log
-    × (r.content.key ≡ Some (key.ProducerSend e.producer s))
-
--- A send that finds no room and is not to wait has spent its number, and leaves all else as it was.
-abbrev pub SlowDownLeavesAll : Type 0
-SlowDownLeavesAll = (o : Chosen) (log : List Entry) (who : Who) (l : ℕ) (request : Words) →
-    answer_at (view o log).now request ((view o log).links.live l) ≡ Err error.SlowDown → view o (Then (Does who (Ask l request)) ∷ log) ≡ view o log
-
--- one whose turn comes had the lowest ticket of those that waited, and nobody has the turn beside it
-abbrev pub TurnsByTicket : Type 0
-TurnsByTicket = (o : Chosen) (log : List Entry) (who : Who) (n : ℕ) (t : Topic) → IsRun o (Then (Does who (PassTurn n)) ∷ log) →
-    (view o log).producers.topics n ≡ Some t → t.seen.holder ≡ Some (rank who).1
-
--- A call with parts ends once each of them was queued, or failed before, with what became of each.
-abbrev pub PartsAreGathered : Type 0
-PartsAreGathered = (o : Chosen) (log : List Entry) (t first count : ℕ) (said : Said) →
-    IsRun o log → Rests o log → started (Call t) log ≡ Some (procedure.Gather first count) →
-    In (Answered (record { makes = makes.Nothing; said = said })) (deeds (Call t) log) → In outcome.Stopped (outcomes (Call t) log) ⊎
-    ((failures : List (ℕ × Failure)) × (said ≡ sent_from first count failures)
-    × ((u : ℕ) → first ≤ u → u < first + count → (f : Option Failure) × In (outcome.Parted u f) (outcomes (Call t) log)
-    × (lookup (is_at (nat_cmp u)) failures ≡ f)))

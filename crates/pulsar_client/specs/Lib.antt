@@ -19,4 +19,5 @@ pub mod Tables
 pub mod Client
 pub mod Outside
 pub mod Laws
+pub mod ProducerLaws
 pub mod Traces

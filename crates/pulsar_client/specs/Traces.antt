@@ -1,19 +1,20 @@
--- Seven small runs, by their histories, oldest step first. Each is good.
+-- Nine small runs, by their histories, oldest step first. Each is good.
 use Rattle.std.specs.Prelude.{◌≡◌, ℕ, true, false, List, [], ◌∷◌, ◌++◌, reverse, codes, Some, None}
-use Rattle.pulsar_plans.specs.Address.{Place, is_reachable}
+use Rattle.url.specs.declared.host.Host.TheVariants.{Domain}
+use Rattle.pulsar_plans.specs.Address.{Place}
 use Rattle.pulsar_plans.specs.Backoff.{default_connection_retry, default_operation_retry}
-use Rattle.pulsar_wire.specs.declared.error.IoKind.TheVariants.{Other, TimedOut}
+use Rattle.pulsar_wire.specs.declared.error.IoKind.TheVariants.{ConnectionRefused, Other, TimedOut}
 use Rattle.pulsar_wire.specs.declared.commands.topics.Mode.TheVariants as modes
 use Rattle.pulsar_wire.specs.declared.commands.enumerations.SubType.TheVariants.{Exclusive}
 use Rattle.pulsar_frame.specs.Frame.{frame_bytes}
 use Rattle.pulsar_messages.specs.Content.{empty_consumer_options}
 use Rattle.pulsar_messages.specs.Messages.{connect_command}
-use Rattle.pulsar_messages.specs.Words.{Words, GetTopicsOfNamespace, Subscribe}
+use Rattle.pulsar_messages.specs.Words.{Words, GetTopicsOfNamespace, LookupTopic, Subscribe}
 use Rattle.pulsar_session.specs.Failures.{Io, Canceled, Disconnected, Shutdown}
 use Rattle.pulsar_session.specs.Link.{bare, message_of}
-use Rattle.pulsar_client.specs.Address.{leads_to}
+use Rattle.pulsar_client.specs.Address.{base_in}
 use Rattle.pulsar_client.specs.declared.effect.Settlement.TheVariants as settlement
-use Rattle.pulsar_client.specs.Content.{Heard, Called, Build, Stop, Topics, Raw, Opened, Bytes, Drain, Ticked, Poll, Shown, Connect, Queued, Write, Settles, Ends, Close, Hands, FindsNothing, Done, Names, Replies}
+use Rattle.pulsar_client.specs.Content.{Heard, Called, Build, Stop, Topics, Lookup, Raw, Opened, FailedToOpen, Bytes, Drain, Ticked, Poll, Shown, Connect, Queued, Write, Retry, Settles, Ends, Close, Hands, FindsNothing, Done, Names, Address, Replies}
 use Rattle.pulsar_client.specs.Plan.{failed}
 use Rattle.pulsar_client.specs.Run.{Good, Step}
 use Rattle.pulsar_client.specs.View.{Chosen}
@@ -25,11 +26,33 @@ local_host = codes "127.0.0.1"
 abbrev pub local_port : ℕ
 local_port = 6650
 
--- the options, with this address and room for so many frames: requests are numbered from 0, at moment 0, and are due after half a minute
-abbrev pub options : (outbound : ℕ) → Place → Chosen
-options outbound base =
+-- the address of the service: that of the URL pulsar://127.0.0.1:6650
+abbrev pub local : Place
+local =
     record {
-      base = Some base;
+      url =
+          record {
+            scheme = codes "pulsar";
+            username = [];
+            password = [];
+            host = Some (Domain local_host);
+            port = Some local_port;
+            path = [];
+            query = None;
+            fragment = None;
+          };
+      broker_url = codes "127.0.0.1:6650";
+      proxy = false;
+    }
+
+abbrev pub LocalIsKnown : Type 0
+LocalIsKnown = base_in (codes "pulsar://127.0.0.1:6650") ≡ Some local
+
+-- the options, with this address and room for so many frames: requests are numbered from 0, at moment 0, and are due after half a minute
+abbrev pub options : (outbound : ℕ) → Chosen
+options outbound =
+    record {
+      base = Some local;
       auth = None;
       connection = record default_connection_retry { connection_timeout = 30000 };
       operation = default_operation_retry;
@@ -157,8 +180,52 @@ client_is_stopped =
     ∷ step_of asks_topics (Ends 3 (failed Shutdown) ∷ [])
     ∷ [])
 
--- a history, oldest step first, is good with room for so many frames, whatever the address is that leads to this host
+-- an attempt is refused, and tried again once its moment has come: the link of the second one serves the call
+abbrev pub attempt_is_retried : List Step
+attempt_is_retried =
+    step_of (Called Build) (Connect 0 local_host local_port ∷ [])
+    ∷ step_of (FailedToOpen 0 ConnectionRefused) (Retry 0 90 ∷ [])
+    ∷ step_of (Ticked 89) []
+    ∷ step_of (Ticked 90) (Connect 1 local_host local_port ∷ [])
+    ∷ step_of (Opened 1) (Queued 1 0 greeting_frame ∷ [])
+    ∷ step_of (Bytes 1 connected) (Ends 0 Done ∷ [])
+    ∷ []
+
+-- another broker, at pulsar://h
+abbrev pub another : Place
+another =
+    record {
+      url =
+          record {
+            scheme = codes "pulsar";
+            username = [];
+            password = [];
+            host = Some (Domain (codes "h"));
+            port = None;
+            path = [];
+            query = None;
+            fragment = None;
+          };
+      broker_url = codes "h:6650";
+      proxy = false;
+    }
+
+-- a frame of the broker, for request 0: that one serves the topic (1), or is to be asked (0), and with authority
+abbrev pub pointed : (response : ℕ) → List ℕ
+pointed response =
+    0 ∷ 0 ∷ 0 ∷ 27 ∷ 0 ∷ 0 ∷ 0 ∷ 23 ∷ 8 ∷ 24 ∷ 194 ∷ 1 ∷ 18
+    ∷ 10 ∷ 10 ∷ (codes "pulsar://h" ++ 24 ∷ response ∷ 32 ∷ 0 ∷ 40 ∷ 1 ∷ [])
+
+-- a lookup is redirected to the other broker, which says that it serves the topic itself
+abbrev pub lookup_is_redirected : List Step
+lookup_is_redirected =
+    builds ++ (step_of (Called (Lookup (codes "t"))) (Queued 0 1 (frame_of 0 (LookupTopic (codes "t") false)) ∷ [])
+    ∷ step_of (Bytes 0 (pointed 0)) (Settles 0 1 settlement.Reply ∷ Connect 1 (codes "h") local_port ∷ [])
+    ∷ step_of (Opened 1) (Queued 1 0 greeting_frame ∷ [])
+    ∷ step_of (Bytes 1 connected) (Queued 1 1 (frame_of 0 (LookupTopic (codes "t") true)) ∷ [])
+    ∷ step_of (Bytes 1 (pointed 1)) (Settles 1 1 settlement.Reply ∷ Ends 1 (Address another) ∷ [])
+    ∷ [])
+
+-- a history, oldest step first, is good with room for so many frames
 abbrev pub IsGood : (outbound : ℕ) → List Step → Type 0
-IsGood outbound history =
-    (base : Place) → is_reachable base ≡ true → leads_to base ≡ Some (local_host, local_port) → base.proxy ≡ false →
-    Good (options outbound base) (reverse history)
+IsGood outbound history = Good (options outbound) (reverse history)

@@ -2,8 +2,8 @@
 
 ghost use Rattle.pulsar_client.specs.Address.{KnownAddresses};
 ghost use Rattle.pulsar_client.specs.Client.{StoodForIsGood};
-ghost use Rattle.pulsar_client.specs.Laws.{AnswersOnce, AttemptsFollow, BuiltIs, CallsAreMade, CausesInOrder, ClockIs, ConsumersHearToTheirEnd, DeadlinesAreTicked, DeedsFollow, Determined, EffectsArranged, EndsOnce, FailuresAreTold, LinksAlone, NoneAfterStop, OutcomesAreCaused, PlansFollow, PollsAreAnswered, PollsFollow, SeriesIsNewest, ServedByTicket, StoppedIs, TicketsCount, WritesFollow};
-ghost use Rattle.pulsar_client.specs.Traces.{IsGood, attempt_fails, client_is_stopped, consumer_is_polled, deadline_comes, line_moves_up, reply_comes_early, request_is_answered};
+ghost use Rattle.pulsar_client.specs.Laws.{AlarmsAreTicked, AllIsDone, AnswersOnce, AttemptsFollow, BuiltIs, CallsAreMade, CausesInOrder, ClockIs, ConsumersHearToTheirEnd, DeadlinesAreTicked, DeedsFollow, Determined, EffectsArranged, EndsOnce, FailuresAreTold, FramesAreCut, IdleEnds, LinksAlone, NoneAfterStop, OneLinkEach, OutcomesAreCaused, PlansFollow, PollsAreAnswered, PollsFollow, SeriesIsNewest, ServedByTicket, SignsOfLife, StoppedIs, TicketsCount, TicksInOrder, WritesFollow};
+ghost use Rattle.pulsar_client.specs.Traces.{IsGood, LocalIsKnown, attempt_fails, attempt_is_retried, client_is_stopped, consumer_is_polled, deadline_comes, line_moves_up, lookup_is_redirected, reply_comes_early, request_is_answered};
 
 /// Options and events determine the effects of a good run.
 pub fn determined()
@@ -18,6 +18,11 @@ pub fn stood_for_is_good()
 /// The effects of each step stand in their order, and are just those of its acts, each once.
 pub fn effects_arranged()
     ensures { EffectsArranged }
+{}
+
+/// Whatever arises from an event or an act is done before the next event begins.
+pub fn all_is_done()
+    ensures { AllIsDone }
 {}
 
 /// A cause serves those whom it still has to serve by rank, calls by ticket, and so do the causes that wait.
@@ -91,7 +96,17 @@ pub fn deadlines_are_ticked()
     ensures { DeadlinesAreTicked }
 {}
 
-/// What runs for the address is what its newest turn left.
+/// An alarm comes only in a tick at whose beginning it rang.
+pub fn alarms_are_ticked()
+    ensures { AlarmsAreTicked }
+{}
+
+/// What a tick brings comes in order: deadlines, attempts, those who have waited, signs of life, the idle check.
+pub fn ticks_in_order()
+    ensures { TicksInOrder }
+{}
+
+/// What runs for an address is what its newest turn left.
 pub fn series_is_newest()
     ensures { SeriesIsNewest }
 {}
@@ -107,9 +122,29 @@ pub fn none_after_stop()
     ensures { NoneAfterStop }
 {}
 
+/// One link at a time is of an address, the one that its series names.
+pub fn one_link_each()
+    ensures { OneLinkEach }
+{}
+
+/// A link ends for want of use only where it is ready, was not got for so long, and nothing uses it.
+pub fn idle_ends()
+    ensures { IdleEnds }
+{}
+
+/// A link is asked for a sign of life only where its alarm rings and no earlier ping of it waits.
+pub fn signs_of_life()
+    ensures { SignsOfLife }
+{}
+
 /// A link that has not ended is what the calls of its connection made of it, and nothing else.
 pub fn links_alone()
     ensures { LinksAlone }
+{}
+
+/// At the end of a step no whole frame of a link is left unread.
+pub fn frames_are_cut()
+    ensures { FramesAreCut }
 {}
 
 /// The bytes that are written to a connection are the first of those that were queued there, in order.
@@ -138,7 +173,7 @@ pub fn addresses_are_known()
     ensures { KnownAddresses }
 {}
 
-/// Seven small runs are good.
+/// Nine small runs are good, at the address of a URL.
 pub fn small_runs_are_good()
     ensures answered { IsGood 8 request_is_answered }
     ensures early { IsGood 8 reply_comes_early }
@@ -147,4 +182,7 @@ pub fn small_runs_are_good()
     ensures deadline { IsGood 8 deadline_comes }
     ensures line { IsGood 1 line_moves_up }
     ensures stopped { IsGood 8 client_is_stopped }
+    ensures retried { IsGood 8 attempt_is_retried }
+    ensures redirected { IsGood 8 lookup_is_redirected }
+    ensures address { LocalIsKnown }
 {}

@@ -9,10 +9,10 @@ ghost use Rattle.std.specs.Ordering.{nat_cmp};
 ghost use Rattle.pulsar_client.specs.Content.{shown};
 ghost use Rattle.pulsar_client.specs.Effects.{asked_at, given_at};
 ghost use Rattle.pulsar_client.specs.Due.{moment_at};
-ghost use Rattle.pulsar_client.specs.Kept.{AreStarted, AreTicketed, AreTimed, IsEnd, is_due, links_in, live_in, producers_of};
+ghost use Rattle.pulsar_client.specs.Kept.{AreStarted, AreTicketed, AreTimed, IsEnd, is_due, links_in, live_in, producers_of, seat_of};
 ghost use Rattle.pulsar_requests.specs.Soonest.{has_come};
 ghost use Rattle.pulsar_client.specs.Subscribers.{subscription_at};
-ghost use Rattle.pulsar_client.specs.Rules.{answered_on, due_part, idle_act_at, may_ping, moved_on, on_link, over_links, room_at, stop_act, told_at};
+ghost use Rattle.pulsar_client.specs.Rules.{answered_on, due_part, idle_act_at, may_ping, moved_on, on_link, over_links, room_at, stop_act, told_at, is_idle_at};
 ghost use Rattle.pulsar_client.specs.View.{answer_at, arrival_at, got_at, has_ended, is_asked, is_busy, seat_asked, seat_got, seat_of_fresh, seat_fed, took_some};
 
 use crate::act::{Act, Arrival, End, LinkAct, Notice, Outcome, Part, Who};
@@ -396,14 +396,30 @@ fn ends_idle(
 {
     let mut acts = VecDeque::new(alloc);
     for (link, row) in live {
-        let is_idle = row.rests(now, most)
-            && !subscribers.hears_on(*link)
-            && !producers.holds(*link);
+        let is_idle = is_idle(row, *link, now, most, subscribers, producers);
         end_idle(&mut acts, *link, is_idle)?;
     }
     Ok(acts)
 }
 
+/// Nothing uses a link, and it was not got for so long.
+fn is_idle(
+    row: &Row,
+    link: u64,
+    now: u64,
+    most: u64,
+    subscribers: &Subscribers,
+    producers: &Producers,
+) -> bool
+    ensures { (drawn : ℕ) → AreTicketed drawn (subscription_at subscribers.now)
+        → result ≡ is_idle_at now most drawn (subscription_at subscribers.now) (producers_of producers.now) link (seat_of row.now) }
+{
+    let rests = row.rests(now, most);
+    let is_heard = subscribers.hears_on(link);
+    rests && !is_heard && !producers.holds(link)
+}
+
+/// A link that is idle ends.
 fn end_idle(acts: &mut VecDeque<Act>, link: u64, is_idle: bool) -> Result<(), NoMemory>
     ensures { OnOk result (acts.new.items ≡ acts.old.items ++ (if is_idle then Act.Comes (Part.ToLink link (LinkAct.Ends End.Idles)) ∷ [] else [])) }
 {

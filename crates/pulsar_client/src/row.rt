@@ -13,7 +13,7 @@ ghost use Rattle.pulsar_client.specs.Links.{after, arrival, arrives, change_in, 
 ghost use Rattle.pulsar_client.specs.Links as links;
 ghost use Rattle.pulsar_client.specs.Rules as rules;
 ghost use Rattle.pulsar_client.specs.Rules.{answered_by, dropped, ended_places, lost_with, moved_up, room_in, tells_asker, told_at};
-ghost use Rattle.pulsar_client.specs.Kept.{seat_of};
+ghost use Rattle.pulsar_client.specs.Kept.{seat_of, settled};
 ghost use Rattle.pulsar_client.specs.View.{asker_at, askers_left, got_since, is_asked, later, ping_left, place_of, seat_asked, seat_of_fresh, took};
 
 use crate::act::{Arrival, End, LinkAct, Notice, Outcome, Who};
@@ -56,8 +56,7 @@ impl Row {
     /// It is open.
     pub fn open(&mut self, now: u64, link: u64, out: &mut Vec<Effect>) -> Result<(), NoMemory>
         ensures out { OnOk result (map shown out.new.items ≡ map shown out.old.items ++ effects link LinkAct.Opens now self.old.connection) }
-        ensures seen { OnOk result (self.new.connection ≡ after LinkAct.Opens now self.old.connection) }
-        ensures askers { OnOk result (self.new.askers ≡ self.old.askers) }
+        ensures sees { OnOk result (Some (seat_of self.new) ≡ took LinkAct.Opens now (seat_of self.old)) }
     {
         let before = self.connection.queued();
         self.connection.opened(now)?;
@@ -75,8 +74,7 @@ impl Row {
         ensures out { OnOk result (map shown out.new.items ≡ map shown out.old.items ++ effects link LinkAct.Reads now self.old.connection) }
         ensures arrival { IfOk result (λ r. r.0 ≡ arrival self.old.connection) }
         ensures notices { IfOk result (λ r. r.1.items ≡ answered_by (came self.old.connection) (seat_of self.old).askers) }
-        ensures seen { OnOk result (self.new.connection ≡ after LinkAct.Reads now self.old.connection) }
-        ensures askers { OnOk result ((place : ℕ) → (seat_of self.new).askers place ≡ askers_left (settled_in (came self.old.connection)) (seat_of self.old).askers place) }
+        ensures sees { OnOk result (Some (seat_of self.new) ≡ took LinkAct.Reads now (seat_of self.old)) }
     {
         let before = self.connection.queued();
         let arrived = self.connection.next(now)?;
@@ -97,8 +95,7 @@ impl Row {
         ensures out { OnOk result (map shown out.new.items ≡ map shown out.old.items ++ map (settles link Settlement.Reply) (settled_in (came_of arrived))) }
         ensures arrival { IfOk result (λ r. r.0 ≡ arrives (came_of arrived)) }
         ensures notices { IfOk result (λ r. r.1.items ≡ answered_by (came_of arrived) (seat_of self.old).askers) }
-        ensures connection { OnOk result (self.new.connection ≡ self.old.connection) }
-        ensures askers { OnOk result ((place : ℕ) → (seat_of self.new).askers place ≡ askers_left (settled_in (came_of arrived)) (seat_of self.old).askers place) }
+        ensures sees { OnOk result (seat_of self.new ≡ settled (settled_in (came_of arrived)) (seat_of self.old)) }
     {
         match arrived {
             None => Ok((Arrival::Nothing, Vec::new(alloc))),
@@ -131,8 +128,7 @@ impl Row {
     ) -> Result<Vec<Notice>, NoMemory>
         ensures out { OnOk result (map shown out.new.items ≡ map shown out.old.items ++ map (settles link Settlement.Reply) places.items) }
         ensures notices { IfOk result (λ ns. ns.items ≡ filter_map (tells_asker (λ place. Outcome.Replied reply) (seat_of self.old).askers) places.items) }
-        ensures connection { OnOk result (self.new.connection ≡ self.old.connection) }
-        ensures askers { OnOk result ((place : ℕ) → (seat_of self.new).askers place ≡ askers_left places.items (seat_of self.old).askers place) }
+        ensures sees { OnOk result (seat_of self.new ≡ settled places.items (seat_of self.old)) }
     {
         settle_all(out, link, &places)?;
         let notices = answer_all(alloc, &self.askers, &places, reply)?;
@@ -152,8 +148,7 @@ impl Row {
     ) -> Result<Vec<Notice>, NoMemory>
         ensures out { OnOk result (map shown out.new.items ≡ map shown out.old.items ++ effects link (LinkAct.Drains most) now self.old.connection) }
         ensures notices { IfOk result (λ ns. ns.items ≡ moved_up (seat_of self.old).askers self.old.connection (after (LinkAct.Drains most) now self.old.connection)) }
-        ensures seen { OnOk result (self.new.connection ≡ after (LinkAct.Drains most) now self.old.connection) }
-        ensures askers { OnOk result (self.new.askers ≡ self.old.askers) }
+        ensures sees { OnOk result (Some (seat_of self.new) ≡ took (LinkAct.Drains most) now (seat_of self.old)) }
     {
         let before = self.connection.queued();
         let bytes = self.connection.drain(most, now)?;
@@ -275,8 +270,7 @@ impl Row {
         ensures out { OnOk result (map shown out.new.items ≡ map shown out.old.items ++ queues link self.old.connection (after_call (Asks now request) self.old.connection)) }
         ensures asked { IfOk result (λ r. r.0 ≡ is_asked (asked now request self.old.connection)) }
         ensures told { IfOk result (λ r. r.1 ≡ told_at (asked now request self.old.connection)) }
-        ensures seen { OnOk result (self.new.connection ≡ after_call (Asks now request) self.old.connection) }
-        ensures askers { OnOk result ((place : ℕ) → (seat_of self.new).askers place ≡ (seat_asked who now request (seat_of self.old)).askers place) }
+        ensures sees { OnOk result (seat_of self.new ≡ seat_asked who now request (seat_of self.old)) }
     {
         let before = self.connection.queued();
         let is_asker = is_answered(request.number());

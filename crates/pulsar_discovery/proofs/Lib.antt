@@ -1,3 +1,10 @@
+mod Books
+mod Cases
+mod Greeted
 mod KeyTexts
 mod Once
 mod Puts
+mod Retried
+mod Sound
+mod Waiting
+mod Whole

@@ -131,6 +131,34 @@ pub fn retry_subscribe_consumer(
           answer = 13;
         }) (place address)) [] m) }
 {
+    let address = Address::new(alloc, address)?;
+    let command = subscribing(
+        alloc,
+        topic,
+        subscription,
+        sub_type,
+        consumer_id,
+        name,
+        options,
+    )?;
+    discovery.machine(Procedure::Make { command, address })
+}
+
+fn subscribing(
+    alloc: Global,
+    topic: &str,
+    subscription: &str,
+    sub_type: SubType,
+    consumer_id: u64,
+    name: Option<&str>,
+    options: &ConsumerOptions,
+) -> Result<Command, NoMemory>
+    ensures { IfOk result (λ c. c ≡ record {
+      topic = topic.now;
+      request = Subscribe topic.now subscription.now sub_type consumer_id (option_copied name.entry) (consumer_options_values options.now);
+      answer = 13;
+    }) }
+{
     let question = Question::Subscribe {
         topic: String::from_str(alloc, topic)?,
         subscription: String::from_str(alloc, subscription)?,
@@ -139,13 +167,11 @@ pub fn retry_subscribe_consumer(
         name: name_of(alloc, name)?,
         options: options.copy()?,
     };
-    let command = Command {
-        topic: Text::new(String::from_str(alloc, topic)?),
+    Ok(Command {
         request: Request::new(alloc, question)?,
+        topic: Text::new(String::from_str(alloc, topic)?),
         answer: bodies::SUCCESS,
-    };
-    let address = Address::new(alloc, address)?;
-    discovery.machine(Procedure::Make { command, address })
+    })
 }
 
 /// Makes a producer on a topic at an address, and ends with the reply and its link.
@@ -165,19 +191,35 @@ pub fn retry_create_producer(
           answer = 17;
         }) (place address)) [] m) }
 {
+    let address = Address::new(alloc, address)?;
+    let command = creating(alloc, topic, producer_id, name, options)?;
+    discovery.machine(Procedure::Make { command, address })
+}
+
+fn creating(
+    alloc: Global,
+    topic: &str,
+    producer_id: u64,
+    name: Option<&str>,
+    options: &ProducerOptions,
+) -> Result<Command, NoMemory>
+    ensures { IfOk result (λ c. c ≡ record {
+      topic = topic.now;
+      request = CreateProducer topic.now producer_id (option_copied name.entry) (producer_options_values options.now);
+      answer = 17;
+    }) }
+{
     let question = Question::CreateProducer {
         topic: String::from_str(alloc, topic)?,
         producer_id,
         name: name_of(alloc, name)?,
         options: options.copy()?,
     };
-    let command = Command {
-        topic: Text::new(String::from_str(alloc, topic)?),
+    Ok(Command {
         request: Request::new(alloc, question)?,
+        topic: Text::new(String::from_str(alloc, topic)?),
         answer: bodies::PRODUCER_SUCCESS,
-    };
-    let address = Address::new(alloc, address)?;
-    discovery.machine(Procedure::Make { command, address })
+    })
 }
 
 fn name_of(alloc: Global, name: Option<&str>) -> Result<Option<String>, NoMemory>

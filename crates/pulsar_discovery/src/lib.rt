@@ -3,6 +3,7 @@
 
 pub mod addresses;
 pub mod discovery;
+pub mod kept;
 pub mod laws;
 pub mod machine;
 pub mod manager;

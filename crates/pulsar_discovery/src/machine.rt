@@ -5,19 +5,20 @@ ghost use Rattle.pulsar_plans.specs.Plans.{fails};
 ghost use Rattle.pulsar_session.specs.Failures.{Disconnected};
 ghost use Rattle.pulsar_discovery.specs.Machine.{Extends, Goes, StandsFor, does, lost, stands, step, step_of, told, turns};
 
+use crate::kept::Kept;
 use crate::outcome::{Next, Outcome, Told, content_of, found_by, message_of};
 use pulsar_plans::content::{Cause, Refusal};
 use pulsar_plans::plan::{self, Answer, Plan, Procedure};
+use pulsar_plans::question::Request;
 use pulsar_plans::turn::{Action, Outcome as Happened, Turn, Ways};
-use pulsar_wire::error::{ConnectionError, Error, NoMemory};
+use pulsar_wire::error::{ConnectionError, NoMemory};
 use std::alloc::Global;
-use std::mem;
 
 /// How far a machine is.
 #[derive(Drop)]
 pub enum Stage {
     New(Procedure),
-    On(Plan),
+    On(Kept),
     Over,
 }
 
@@ -51,13 +52,34 @@ impl Machine {
         ensures spent { self.old.stage ≡ None → IsErr result }
     {
         let Some(stage) = self.stage.take() else {
+            drop(outcome);
             return Err(NoMemory);
         };
-        let told = content_of(self.alloc, outcome)?;
-        let turn = turns(self.alloc, &self.ways, stage, told)?;
-        let (stage, next) = said(self.alloc, turn)?;
-        self.stage = Some(stage);
-        Ok(next)
+        let (stage, next) = goes(self.alloc, &self.ways, stage, outcome)?;
+        drop(self.stage.replace(stage));
+        Ok(Box::into_inner(next))
+    }
+}
+
+/// Where a machine stands after what it is told, and what it says.
+fn goes(
+    alloc: Global,
+    ways: &Ways,
+    stage: Stage,
+    outcome: Outcome,
+) -> Result<(Stage, Box<Next>), NoMemory>
+    ensures stage { IfOk result (λ s. s.0 ≡ stands (turns ways.now stage (told outcome))) }
+    ensures next { IfOk result (λ s. step s.1.value ≡ step_of (turns ways.now stage (told outcome))) }
+{
+    match content_of(alloc, outcome) {
+        Ok(told) => {
+            let turn = turns(alloc, ways, stage, told)?;
+            said(alloc, turn)
+        }
+        Err(e) => {
+            drop(stage);
+            Err(e)
+        }
     }
 }
 
@@ -71,15 +93,56 @@ fn turns(
     ensures { IfOk result (λ turn. turn ≡ turns ways.now stage told) }
 {
     match stage {
-        Stage::New(procedure) => match told {
-            Told::Begun => plan::begins(alloc, ways, procedure),
-            Told::Then(_) => lost(alloc),
-        },
-        Stage::On(plan) => match told {
-            Told::Begun => plan::told(alloc, ways, plan, Happened::Failed(disconnected(alloc)?)),
-            Told::Then(outcome) => plan::told(alloc, ways, plan, outcome),
-        },
+        Stage::New(procedure) => begins(alloc, ways, procedure, told),
+        Stage::On(kept) => goes_on(alloc, ways, kept.into_inner(), told),
         Stage::Over => lost(alloc),
+    }
+}
+
+/// A machine that was told nothing yet.
+fn begins(
+    alloc: Global,
+    ways: &Ways,
+    procedure: Procedure,
+    told: Told,
+) -> Result<Turn<Plan, Result<Answer, Refusal>>, NoMemory>
+    ensures { IfOk result (λ turn. turn ≡ turns ways.now (Stage.New procedure) told) }
+{
+    match told {
+        Told::Begun => plan::begins(alloc, ways, procedure),
+        Told::Then(_) => lost(alloc),
+    }
+}
+
+/// A machine whose plan waits for an outcome.
+fn goes_on(
+    alloc: Global,
+    ways: &Ways,
+    plan: Plan,
+    told: Told,
+) -> Result<Turn<Plan, Result<Answer, Refusal>>, NoMemory>
+    ensures { IfOk result (λ turn. turn ≡ turns ways.now (Stage.On plan) told) }
+{
+    match told {
+        Told::Begun => goes_on_without(alloc, ways, plan),
+        Told::Then(outcome) => plan::told(alloc, ways, plan, outcome),
+    }
+}
+
+/// To begin once more is an outcome that the plan doesn't wait for.
+fn goes_on_without(
+    alloc: Global,
+    ways: &Ways,
+    plan: Plan,
+) -> Result<Turn<Plan, Result<Answer, Refusal>>, NoMemory>
+    ensures { IfOk result (λ turn. turn ≡ turns ways.now (Stage.On plan) Told.Begun) }
+{
+    match disconnected(alloc) {
+        Ok(cause) => plan::told(alloc, ways, plan, Happened::Failed(cause)),
+        Err(e) => {
+            drop(plan);
+            Err(e)
+        }
     }
 }
 
@@ -98,28 +161,47 @@ fn lost(alloc: Global) -> Result<Turn<Plan, Result<Answer, Refusal>>, NoMemory>
 }
 
 /// Where a machine stands after a turn, and what it says.
-fn said(alloc: Global, turn: Turn<Plan, Result<Answer, Refusal>>) -> Result<(Stage, Next), NoMemory>
+fn said(
+    alloc: Global,
+    turn: Turn<Plan, Result<Answer, Refusal>>,
+) -> Result<(Stage, Box<Next>), NoMemory>
     ensures stage { IfOk result (λ s. s.0 ≡ stands turn) }
-    ensures next { IfOk result (λ s. step s.1 ≡ step_of turn) }
+    ensures next { IfOk result (λ s. step s.1.value ≡ step_of turn) }
 {
     match turn {
-        Turn::Stays(plan, action) => Ok((Stage::On(plan), done(alloc, action)?)),
-        Turn::Gives(Ok(answer)) => Ok((Stage::Over, Next::Done(found_by(answer)))),
-        Turn::Gives(Err(refusal)) => Ok((Stage::Over, Next::Refuse(refusal.into_inner()))),
+        Turn::Stays(plan, action) => {
+            let kept = Kept::new(alloc, plan);
+            let next = done(alloc, action)?;
+            Ok((Stage::On(kept?), next))
+        }
+        Turn::Gives(given) => Ok((Stage::Over, end(alloc, given)?)),
+    }
+}
+
+/// What is said at the end of a plan.
+fn end(alloc: Global, given: Result<Answer, Refusal>) -> Result<Box<Next>, NoMemory>
+    ensures { IfOk result (λ n. step n.value ≡ step_of (Turn.Gives given)) }
+{
+    match given {
+        Ok(answer) => Ok(Box::new(alloc, Next::Done(found_by(answer)))?),
+        Err(refusal) => Ok(Box::new(alloc, Next::Refuse(refusal.into_inner()))?),
     }
 }
 
 /// An action as it is said.
-fn done(alloc: Global, action: Action) -> Result<Next, NoMemory>
-    ensures { IfOk result (λ n. step n ≡ does action) }
+fn done(alloc: Global, action: Action) -> Result<Box<Next>, NoMemory>
+    ensures { IfOk result (λ n. step n.value ≡ does action) }
 {
     match action {
-        Action::Get(address) => Ok(Next::Get(address.into_inner())),
-        Action::Ask { link, request } => {
-            let question = request.into_inner();
-            let message = message_of(alloc, &question)?;
-            Ok(Next::Ask(link, message))
-        }
-        Action::Wait(delay) => Ok(Next::Wait(delay)),
+        Action::Get(address) => Ok(Box::new(alloc, Next::Get(address.into_inner()))?),
+        Action::Ask { link, request } => asked(alloc, link, request),
+        Action::Wait(delay) => Ok(Box::new(alloc, Next::Wait(delay))?),
     }
+}
+
+fn asked(alloc: Global, link: u64, request: Request) -> Result<Box<Next>, NoMemory>
+    ensures { IfOk result (λ n. step n.value ≡ does (Action.Ask link request)) }
+{
+    let message = message_of(alloc, request.question())?;
+    Ok(Box::new(alloc, Next::Ask(link, message))?)
 }

@@ -94,3 +94,18 @@ fn an_address_without_a_host_is_none(rt: HostRuntime) -> Result<(), Fail> {
     }
     Ok(())
 }
+
+#[test]
+fn an_address_is_one_with_its_copy(rt: HostRuntime) -> Result<(), Fail> {
+    let mut manager = manager(rt.alloc(), None)?;
+    let base = manager.get_base_address()?;
+    let copy = base.copy()?;
+    assert!(rt; base == copy && base.broker_url.as_str() == "127.0.0.1:6650" && !base.proxy);
+    let mut proxied = base.copy()?;
+    proxied.proxy = true;
+    assert!(rt; base != proxied);
+    assert!(rt; matches!(manager.get_connection(&base, 0), Got::Started(0)));
+    assert!(rt; matches!(manager.get_connection(&copy, 0), Got::Waiting));
+    assert!(rt; matches!(manager.get_connection(&proxied, 0), Got::Started(1)));
+    Ok(())
+}

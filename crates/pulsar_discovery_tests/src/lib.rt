@@ -4,6 +4,8 @@
 #[cfg(test)]
 mod addresses;
 #[cfg(test)]
+mod closing;
+#[cfg(test)]
 mod help;
 #[cfg(test)]
 mod numbers;

@@ -5,7 +5,7 @@ use pulsar_discovery::{
     ServiceDiscovery, handle_retry_error, retry_create_producer, retry_subscribe_consumer,
 };
 use pulsar_messages::{ConsumerOptions, ProducerOptions};
-use pulsar_wire::commands::enumerations::SubType;
+use pulsar_wire::commands::enumerations::{ServerError, SubType};
 use pulsar_wire::error::ConnectionError;
 use std::alloc::Global;
 use std::test::Fail;
@@ -250,6 +250,33 @@ fn an_error_that_stays_is_no_retry(rt: HostRuntime) -> Result<(), Fail> {
     assert_eq!(rt;
         text.as_str(),
         "refuse Connection error: The connection was shut down\n"
+    );
+    Ok(())
+}
+
+#[test]
+fn a_command_is_tried_again_where_the_broker_is_then(rt: HostRuntime) -> Result<(), Fail> {
+    let alloc = rt.alloc();
+    let discovery = discovery(alloc, Some(1))?;
+    let error = ConnectionError::PulsarError(Some(ServerError::ProducerBusy), None);
+    let machine = handle_retry_error(alloc, &discovery, "t", 0, error)?;
+    let tells = [
+        Tell::Start,
+        Tell::Moment,
+        Tell::Link(0),
+        Tell::Reply(SERVED),
+        Tell::Link(0),
+    ];
+    let text = run(alloc, machine, &tells)?;
+    let done = "done pulsar://127.0.0.1:6650 127.0.0.1:6650 false\n";
+    let wanted = ["wait 5000\n", BASE, ASK_LOOK, BASE, done];
+    assert!(rt; says(alloc, text.as_str(), &wanted)?, "{text}");
+    let error = ConnectionError::PulsarError(Some(ServerError::ProducerBusy), None);
+    let machine = handle_retry_error(alloc, &discovery, "t", 1, error)?;
+    let text = run(alloc, machine, &[Tell::Start])?;
+    assert!(rt;
+        text.as_str().starts_with("refuse Connection error: "),
+        "{text}"
     );
     Ok(())
 }

@@ -1,6 +1,6 @@
 -- Where a broker is reached.  (URL Standard, section 4.4, URL parsing, and section 3.5, host serializing; Pulsar binary protocol,
 -- Topic lookup)
-use Rattle.std.specs.Prelude.{ℕ, Bool, false, ◌&&◌, List, ◌++◌, length, bytes_eq, codes, decimal, Option, Some, None, unwrap_or, Ok, Err, String, string_bytes, if◌then◌else◌}
+use Rattle.std.specs.Prelude.{◌≡◌, ℕ, Bool, false, ◌&&◌, List, ◌++◌, length, bytes_eq, codes, decimal, Option, Some, None, unwrap_or, Ok, Err, String, string_bytes, if◌then◌else◌}
 use Rattle.std.specs.Option.{is_some}
 use Rattle.url.specs.declared.host.Host.{Host}
 use Rattle.url.specs.Host.{host_text}
@@ -68,6 +68,10 @@ key_of url broker proxy = decimal (length url) ++ ((if proxy then codes " proxy 
 
 abbrev pub address_key : Place → List ℕ
 address_key p = key_of (serialize p.url) p.broker_url p.proxy
+
+-- two addresses are the same
+abbrev pub IsSame : Place → Place → Type 0
+IsSame a b = (serialize a.url ≡ serialize b.url) × (a.broker_url ≡ b.broker_url) × (a.proxy ≡ b.proxy)
 
 -- a topic, or a partition of one, and the broker that serves it
 pub record Named : Type 0 where

@@ -1,5 +1,6 @@
 pub mod Address
 pub mod Backoff
+pub mod Closing
 pub mod Question
 pub mod Replies
 pub mod Plans

@@ -2,8 +2,10 @@
 #![tactic(auto)]
 
 pub mod address;
+pub mod closing;
 pub mod content;
 pub mod count;
+pub mod laws;
 pub mod look;
 pub mod making;
 pub mod names;

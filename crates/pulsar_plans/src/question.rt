@@ -172,6 +172,13 @@ impl Request {
         Request::new(alloc, self.question.copy()?)
     }
 
+    /// The question to be read.
+    pub fn question(&self) -> &Question
+        ensures { words result.now ≡ self.now }
+    {
+        &self.question
+    }
+
     /// The question without its box.
     pub fn into_inner(self) -> Question
         ensures { words result ≡ self }

@@ -5,6 +5,8 @@ pub mod gathering;
 pub mod plan;
 pub mod producing;
 pub mod search;
+pub mod search_state;
 pub mod sends;
+pub mod states;
 pub mod table;
 pub mod visiting;

@@ -8,14 +8,15 @@ ghost use Rattle.pulsar_client.specs.Content.{Done, Failed};
 use crate::act::{Action, Makes, Outcome, Place, Procedure, Refusal, Round, Says, Share, Verdict};
 use crate::content::{Failures, Numbers, Said};
 use crate::effect::Answer;
+use crate::plans::search_state::SearchState;
+use crate::plans::states::{BuildState, SendState};
 use crate::plans::{answers, gathering, producing, search, sends, visiting};
 use pulsar_link::content::{Received, Request, Subscribed};
 use pulsar_plans::content::Refusal as Failure;
-use pulsar_plans::plan::Plan as Search;
 use pulsar_plans::turn::Ways;
-use pulsar_producer::building::{Building, Order};
+use pulsar_producer::building::Order;
 use pulsar_producer::deed;
-use pulsar_producer::sending::{Errand, Sending};
+use pulsar_producer::sending::Errand;
 use pulsar_wire::error::{ConnectionError, Error, IoKind, NoMemory, ProducerError};
 use std::alloc::Global;
 
@@ -49,20 +50,20 @@ pub enum Plan {
     /// It looks for brokers in these ways.
     Searching {
         ways: Ways,
-        search: Search,
+        search: SearchState,
     },
     /// It builds a producer.
     Producing {
         ways: Ways,
         order: Order,
-        building: Building,
+        building: BuildState,
     },
     /// It sends a message. Where it is a part of another call, that is told once it is queued.
     Sending {
         ways: Ways,
         errand: Errand,
         share: Option<Share>,
-        sending: Sending,
+        sending: SendState,
     },
     /// It was queued, and tells the call that it is a part of.
     Reporting {
@@ -180,7 +181,7 @@ pub fn told(alloc: Global, plan: Plan, outcome: Outcome) -> Result<Turn<Plan, Ve
             share,
             sending,
         } => sends::told(alloc, ways, errand, share, sending, outcome),
-        Plan::Reporting { ways, errand } => Ok(sends::reported(ways, errand)),
+        Plan::Reporting { ways, errand } => sends::reported(alloc, ways, errand),
         Plan::Leaving(failure) => left(alloc, failure),
         Plan::Gathering {
             first,

@@ -11,6 +11,7 @@ use crate::content::{Building as Built, Made, Remade, Remaking, Said};
 use crate::effect::Answer;
 use crate::plans::plan::{Plan, Turn, failure, left};
 use crate::plans::search::{news_in, wished};
+use crate::plans::states::BuildState;
 use pulsar_link::content::Request;
 use pulsar_link::raw_call::RawCall;
 use pulsar_plans::turn::Ways;
@@ -33,7 +34,7 @@ pub fn told(
     alloc: Global,
     ways: Ways,
     order: Order,
-    building: Building,
+    building: BuildState,
     outcome: Outcome,
 ) -> Result<Turn<Plan, Verdict>, NoMemory>
     ensures { IfOk result (λ turn. turn ≡ told (Producing ways order building) outcome) }
@@ -41,12 +42,23 @@ pub fn told(
     match outcome {
         Outcome::Cut => Ok(Turn::Gives(failure(alloc, ConnectionError::Disconnected)?)),
         Outcome::Stopped => Ok(Turn::Gives(failure(alloc, ConnectionError::Shutdown)?)),
-        outcome => {
-            let news = news_of(alloc, outcome)?;
-            let step = building::told(alloc, &ways, &order, building, news)?;
-            goes(alloc, ways, order, step)
-        }
+        outcome => tells(alloc, ways, order, building, outcome),
     }
+}
+
+/// A building is told an outcome.
+fn tells(
+    alloc: Global,
+    ways: Ways,
+    order: Order,
+    building: BuildState,
+    outcome: Outcome,
+) -> Result<Turn<Plan, Verdict>, NoMemory>
+    ensures { IfOk result (λ turn. turn ≡ builds ways order (meaning.build_told ways order building (news_of outcome))) }
+{
+    let news = news_of(alloc, outcome)?;
+    let step = building::told(alloc, &ways, &order, building.into_inner(), news)?;
+    goes(alloc, ways, order, step)
 }
 
 /// A building goes on, or it ends with a producer.
@@ -59,20 +71,32 @@ fn goes(
     ensures { IfOk result (λ turn. turn ≡ builds ways order step) }
 {
     match step {
-        Step::Stays(building, deed) => {
-            let action = action_of(alloc, deed)?;
-            Ok(Turn::Stays(
-                Plan::Producing {
-                    ways,
-                    order,
-                    building,
-                },
-                action,
-            ))
-        }
+        Step::Stays(building, deed) => stays(alloc, ways, order, building, deed),
         Step::Gives(Ok(parts)) => made(alloc, order, parts),
         Step::Gives(Err(refusal)) => left(alloc, refusal),
     }
+}
+
+/// A building stands there, and does this.
+fn stays(
+    alloc: Global,
+    ways: Ways,
+    order: Order,
+    building: Building,
+    deed: Deed,
+) -> Result<Turn<Plan, Verdict>, NoMemory>
+    ensures { IfOk result (λ turn. turn ≡ builds ways order (Step.Stays building deed)) }
+{
+    let building = BuildState::new(alloc, building)?;
+    let action = action_of(alloc, deed)?;
+    Ok(Turn::Stays(
+        Plan::Producing {
+            ways,
+            order,
+            building,
+        },
+        action,
+    ))
 }
 
 /// A producer was built.

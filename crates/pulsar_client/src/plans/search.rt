@@ -11,6 +11,7 @@ use crate::act::{Action, Makes, Outcome, Verdict};
 use crate::content::Said;
 use crate::effect::Answer;
 use crate::plans::plan::{Plan, Turn, error_of, failure};
+use crate::plans::search_state::SearchState;
 use pulsar_frame::message::Message;
 use pulsar_link::content::Request;
 use pulsar_link::raw_call::RawCall;
@@ -35,7 +36,7 @@ pub fn begins(alloc: Global, ways: Ways, what: Sought) -> Result<Turn<Plan, Verd
 pub fn told(
     alloc: Global,
     ways: Ways,
-    search: Search,
+    search: SearchState,
     outcome: Outcome,
 ) -> Result<Turn<Plan, Verdict>, NoMemory>
     ensures { IfOk result (λ turn. turn ≡ told (Searching ways search) outcome) }
@@ -47,12 +48,22 @@ pub fn told(
         )),
         Outcome::Cut => Ok(Turn::Gives(failure(alloc, ConnectionError::Disconnected)?)),
         Outcome::Stopped => Ok(Turn::Gives(failure(alloc, ConnectionError::Shutdown)?)),
-        outcome => {
-            let news = news_in(alloc, outcome)?;
-            let turn = plan::told(alloc, &ways, search, news)?;
-            goes(alloc, ways, turn)
-        }
+        outcome => tells(alloc, ways, search, outcome),
     }
+}
+
+/// A search is told an outcome.
+fn tells(
+    alloc: Global,
+    ways: Ways,
+    search: SearchState,
+    outcome: Outcome,
+) -> Result<Turn<Plan, Verdict>, NoMemory>
+    ensures { IfOk result (λ turn. turn ≡ goes ways (meaning.told ways search (news_in outcome))) }
+{
+    let news = news_in(alloc, outcome)?;
+    let turn = plan::told(alloc, &ways, search.into_inner(), news)?;
+    goes(alloc, ways, turn)
 }
 
 /// A search goes on, or it ends with what it found.
@@ -64,10 +75,7 @@ fn goes(
     ensures { IfOk result (λ t. t ≡ goes ways turn) }
 {
     match turn {
-        SearchTurn::Stays(search, wish) => {
-            let action = wished(alloc, wish)?;
-            Ok(Turn::Stays(Plan::Searching { ways, search }, action))
-        }
+        SearchTurn::Stays(search, wish) => stays(alloc, ways, search, wish),
         SearchTurn::Gives(found) => {
             let said = found_so(alloc, found)?;
             Ok(Turn::Gives(Verdict {
@@ -76,6 +84,20 @@ fn goes(
             }))
         }
     }
+}
+
+/// A search stands there, and does this.
+fn stays(
+    alloc: Global,
+    ways: Ways,
+    search: Search,
+    wish: Wish,
+) -> Result<Turn<Plan, Verdict>, NoMemory>
+    ensures { IfOk result (λ t. t ≡ Turn.Stays (Searching ways search) (wished wish)) }
+{
+    let search = SearchState::new(alloc, search)?;
+    let action = wished(alloc, wish)?;
+    Ok(Turn::Stays(Plan::Searching { ways, search }, action))
 }
 
 /// What a search does.

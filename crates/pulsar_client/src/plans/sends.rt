@@ -2,7 +2,7 @@
 
 ghost use Rattle.std.specs.Prelude.{◌≡◌, IfOk};
 ghost use Rattle.pulsar_producer.specs.Plans as meaning;
-ghost use Rattle.pulsar_client.specs.Plan.{goes_on_sending, halted, is_sent, leaves, parted, receipted, reported, sends_stay, told};
+ghost use Rattle.pulsar_client.specs.Plan.{goes_on_sending, halted, leaves, news_of, parted, receipted, reported, sends_stay, told};
 ghost use Rattle.pulsar_client.specs.declared.plans.plan.Plan.TheVariants.{Sending as InSending};
 
 use crate::act::{Action, Makes, Notice, Outcome, Share, Verdict, Who};
@@ -11,6 +11,7 @@ use crate::copying::twice;
 use crate::effect::Answer;
 use crate::plans::plan::{Plan, Turn, error_of, left};
 use crate::plans::producing::{action_of, news_of};
+use crate::plans::states::{SendState, is_sent};
 use pulsar_frame::message::Message;
 use pulsar_plans::content::Refusal;
 use pulsar_plans::turn::Ways;
@@ -42,36 +43,31 @@ pub fn told(
     ways: Ways,
     errand: Errand,
     share: Option<Share>,
-    sending: Sending,
+    sending: SendState,
     outcome: Outcome,
 ) -> Result<Turn<Plan, Verdict>, NoMemory>
     ensures { IfOk result (λ turn. turn ≡ told (InSending ways errand share sending) outcome) }
 {
     match outcome {
-        Outcome::Cut | Outcome::Stopped if !is_sent(&sending) => halted(alloc, share, outcome),
-        outcome => {
-            let news = news_of(alloc, outcome)?;
-            let step = sending::told(alloc, &ways, errand, sending, news)?;
-            goes(alloc, ways, errand, share, step)
-        }
+        Outcome::Cut | Outcome::Stopped if !sending.is_sent() => halted(alloc, share, outcome),
+        outcome => tells(alloc, ways, errand, share, sending, outcome),
     }
 }
 
-/// Its frame is queued.
-fn is_sent(sending: &Sending) -> bool
-    ensures { result ≡ is_sent sending.now }
+/// A send is told an outcome.
+fn tells(
+    alloc: Global,
+    ways: Ways,
+    errand: Errand,
+    share: Option<Share>,
+    sending: SendState,
+    outcome: Outcome,
+) -> Result<Turn<Plan, Verdict>, NoMemory>
+    ensures { IfOk result (λ turn. turn ≡ goes_on_sending ways errand share (meaning.send_told ways errand sending (news_of outcome))) }
 {
-    match sending {
-        Sending::Sent => true,
-        Sending::Waiting { .. }
-        | Sending::Drawing { .. }
-        | Sending::Asked { .. }
-        | Sending::Recalling { .. }
-        | Sending::Looking { .. }
-        | Sending::Making { .. }
-        | Sending::Remaking { .. }
-        | Sending::Ending { .. } => false,
-    }
+    let news = news_of(alloc, outcome)?;
+    let step = sending::told(alloc, &ways, errand, sending.into_inner(), news)?;
+    goes(alloc, ways, errand, share, step)
 }
 
 /// A send goes on, or it ends with its receipt.
@@ -108,6 +104,7 @@ fn stays(
             tell(share, parted(share, None)),
         )),
         share => {
+            let sending = SendState::new(alloc, sending)?;
             let action = action_of(alloc, deed)?;
             Ok(Turn::Stays(
                 Plan::Sending {
@@ -123,18 +120,19 @@ fn stays(
 }
 
 /// It has told that it is queued: its turn is over.
-pub fn reported(ways: Ways, errand: Errand) -> Turn<Plan, Verdict>
-    ensures { result ≡ reported ways errand }
+pub fn reported(alloc: Global, ways: Ways, errand: Errand) -> Result<Turn<Plan, Verdict>, NoMemory>
+    ensures { IfOk result (λ turn. turn ≡ reported ways errand) }
 {
-    Turn::Stays(
+    let sending = SendState::new(alloc, Sending::Sent)?;
+    Ok(Turn::Stays(
         Plan::Sending {
             ways,
             errand,
             share: None,
-            sending: Sending::Sent,
+            sending,
         },
         Action::PassTurn(errand.producer),
-    )
+    ))
 }
 
 /// It fails before it is queued, which it tells the call that it is a part of.

@@ -1,4 +1,4 @@
-use Rattle.pulsar_client.proofs.Traces.{answered_good, deadline_good, early_good, failed_good, line_good, polled_good, stopped_good}
+use Rattle.pulsar_client.proofs.Traces.{answered_good, deadline_good, early_good, failed_good, line_good, local_known, polled_good, redirected_good, retried_good, stopped_good}
 use Rattle.pulsar_client.proofs.laws.small_runs_are_good.Goals as goal
 
 pub returns : goal.returns
@@ -10,4 +10,7 @@ returns c = record {
   deadline = deadline_good;
   line = line_good;
   stopped = stopped_good;
+  retried = retried_good;
+  redirected = redirected_good;
+  address = local_known;
 }

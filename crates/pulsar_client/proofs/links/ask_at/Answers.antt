@@ -15,7 +15,6 @@ returns-clause-live c = λ l.
     let after = c.get_mut.follows.lender now in
     let asks = seat_asked c.args.who c.args.now c.args.request in
     let written = (c.get_mut.follows.holds now).3 (subst IsSome c.in-Some.ensures.value refl) in
-    let seat : seat_of now ≡ asks (seat_of row) = λ i. record { seen = c.in_ok-answer.ensures.seen i; askers = λ place. c.in_ok-answer.ensures.askers place i } in
     changed l c.args.link (option_map asks) (live_in before) (Some (seat_of now)) (live_in after l)
     (seats l c.args.link (Some now) (get nat_cmp before l) (get nat_cmp after l) (written.0 l))
-    (ap Some seat ∙ ap (λ r. option_map asks (option_map seat_of r)) c.in-Some.ensures.value)
+    (ap Some c.in_ok-answer.ensures.sees ∙ ap (λ r. option_map asks (option_map seat_of r)) c.in-Some.ensures.value)

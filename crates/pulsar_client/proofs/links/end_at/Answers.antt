@@ -6,5 +6,5 @@ use Rattle.pulsar_client.proofs.links.end_at.Goals as goal
 
 pub returns-clause-end : goal.returns-clause-end
 returns-clause-end c =
-    ends_so c.args.end.now c.args.now c.in-Some.row.now (get nat_cmp c.args.live.now c.args.link) c.in_ok-notices.notices.items c.in-Some.ensures.value
-    c.in_ok-notices.ensures.notices (sym c.is_over_by.ensures ∙ c.if-not-is_over_by.false)
+    ends_so c.args.end.now c.args.now c.in-Some.row.now (get nat_cmp c.args.live.now c.args.link) c.in_ok-address.address
+    c.in_ok-notices.notices.items c.in-Some.ensures.value c.in_ok-address.ensures c.in_ok-notices.ensures.notices (sym c.is_over_by.ensures ∙ c.if-not-is_over_by.false)

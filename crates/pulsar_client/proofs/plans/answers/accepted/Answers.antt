@@ -16,5 +16,5 @@ returns-in-Some c =
     let answer = subst (λ b. IfOk c.answer.result (λ s. s ≡ answer_with says (read_body None [] (Some (body_values b))) (Some (written (body_values b))))) c.in-Some.body-is c.answer.ensures in
     subst (λ a. IfOk c.answer.result (λ s. s ≡ a))
     (said_in says (key (message_values m)) (items_in (message_values m)) m.command.body c.in-Some.body c.in-Some.is
-    ∙ ap (λ r. answer_with says r r.body) c.into_message-command.ensures)
+    ∙ ap (λ r. answer_with says r r.content.body) c.into_message-command.ensures)
     answer

@@ -10,6 +10,7 @@ returns c = at_first (λ i. record {
   stand = λ w. c.new.ensures w i;
   calls = record { drawn = 0; is_built = false; is_stopped = false };
   links = record { started = c.new-2.ensures.started i; live = λ l. c.new-2.ensures.live l i };
-  base = c.new-3.ensures i;
-  consumers = λ t. c.new-4.ensures t i;
+  addresses = record { base = λ key. c.new-3.ensures.bases key i; pause = λ l. c.new-3.ensures.pauses l i };
+  alarms = c.new-4.ensures i;
+  consumers = λ t. c.new-5.ensures t i;
 })

@@ -1,0 +1,39 @@
+-- What is put at one number, or under one key, and what stands at the others.
+use Rattle.std.proofs.Common.{◌≡◌, ◌≢◌, ap, refl, ℕ, true, false, List, ◌⊎◌, inl, inr, Option, ◌==◌, if◌then◌else◌, bytes_eq}
+use Rattle.std.proofs.lemmas.Bool.{cases_Bool}
+use Rattle.std.proofs.lemmas.Bool.Decides.{Decides-eqb}
+use Rattle.std.proofs.lemmas.Slice.Eq.{bytes_eq-Decides}
+use Rattle.pulsar_discovery.specs.Series.{put_at, put_key}
+
+pub same : (n : ℕ) → (n == n) ≡ true
+same n = (Decides-eqb n n).1 refl
+
+pub which : (l n : ℕ) → (l ≡ n) ⊎ ((l == n) ≡ false)
+which l n = elim (cases_Bool (l == n)) [
+  | inl e ↦ inl ((Decides-eqb l n).0 e)
+  | inr e ↦ inr e
+]
+
+pub apart : (l n : ℕ) → l ≢ n → (l == n) ≡ false
+apart l n other = elim (cases_Bool (l == n)) [
+  | inl e ↦ absurd (other ((Decides-eqb l n).0 e))
+  | inr e ↦ e
+]
+
+pub at : {A : Type 0} (l : ℕ) (x : Option A) (f : ℕ → Option A) → put_at l x f l ≡ x
+at l x f = ap (λ t. if t then x else f l) (same l)
+
+pub off : {A : Type 0} (l n : ℕ) (x : Option A) (f : ℕ → Option A) → (l == n) ≡ false → put_at n x f l ≡ f l
+off l n x f e = ap (λ t. if t then x else f l) e
+
+pub which_key : (k key : List ℕ) → (k ≡ key) ⊎ (bytes_eq k key ≡ false)
+which_key k key = elim (cases_Bool (bytes_eq k key)) [
+  | inl e ↦ inl ((bytes_eq-Decides k key).0 e)
+  | inr e ↦ inr e
+]
+
+pub under : (key : List ℕ) (x : Option ℕ) (f : List ℕ → Option ℕ) → put_key key x f key ≡ x
+under key x f = ap (λ t. if t then x else f key) ((bytes_eq-Decides key key).1 refl)
+
+pub beside : (key k : List ℕ) (x : Option ℕ) (f : List ℕ → Option ℕ) → bytes_eq key k ≡ false → put_key key x f k ≡ f k
+beside key k x f e = ap (λ t. if t then x else f k) e

@@ -1,0 +1,78 @@
+//! What a failed build made is closed.
+
+use pulsar_plans::closing::{self, Close, Closing, Deed, Guarded, Made, MadeList, Step};
+use pulsar_plans::content::Refusal;
+use pulsar_wire::error::ConnectionError;
+use std::alloc::Global;
+use std::test::Fail;
+
+const PRODUCER: Made = Made {
+    link: 0,
+    what: Close::Producer(7),
+};
+
+const CONSUMER: Made = Made {
+    link: 3,
+    what: Close::Consumer(2),
+};
+
+fn refusal(alloc: Global) -> Result<Refusal, Fail> {
+    Ok(Refusal::in_connection(alloc, ConnectionError::Exhausted)?)
+}
+
+/// What is closed from a step on, and what is given then.
+fn closed(alloc: Global, mut step: Step<Closing, Made, Refusal>) -> Result<String, Fail> {
+    let mut text = String::new(alloc);
+    for _ in 0..8 {
+        match step {
+            Step::Stays(closing, made) => {
+                text.push_str(format!(in alloc; "{made:?}\n")?.as_str())?;
+                step = closing::told(closing);
+            }
+            Step::Gives(refusal) => {
+                let error = refusal.into_inner();
+                text.push_str(format!(in alloc; "{error}")?.as_str())?;
+                return Ok(text);
+            }
+        }
+    }
+    Ok(text)
+}
+
+#[test]
+fn what_was_made_is_closed_in_order(rt: HostRuntime) -> Result<(), Fail> {
+    let alloc = rt.alloc();
+    let made = MadeList::new(alloc).with(PRODUCER)?.with(CONSUMER)?;
+    let text = closed(alloc, closing::begins(made, refusal(alloc)?))?;
+    assert_eq!(rt;
+        text.as_str(),
+        "Made { link: 0, what: Producer(7) }\nMade { link: 3, what: Consumer(2) }\nConnection error: counter exhausted"
+    );
+    Ok(())
+}
+
+#[test]
+fn where_a_build_fails_it_closes_first(rt: HostRuntime) -> Result<(), Fail> {
+    let alloc = rt.alloc();
+    let goes: Step<u32, u64, Result<bool, Refusal>> = Step::Stays(1, 2);
+    let made = MadeList::new(alloc).with(PRODUCER)?;
+    assert!(rt;
+        matches!(
+            closing::guards(made, goes),
+            Step::Stays(Guarded::Goes { plan: 1, .. }, Deed::Does(2))
+        )
+    );
+    let fails: Step<u32, u64, Result<bool, Refusal>> = Step::Gives(Err(refusal(alloc)?));
+    let made = MadeList::new(alloc).with(CONSUMER)?;
+    match closing::guards(made, fails) {
+        Step::Stays(Guarded::Closes(closing), Deed::Closes(first)) => {
+            assert!(rt; first == CONSUMER);
+            let end: Step<Guarded<u32>, Deed<u64>, Result<bool, Refusal>> = closing::closes_on(
+                closing,
+            );
+            assert!(rt; matches!(end, Step::Gives(Err(_))));
+        }
+        _ => assert!(rt; false),
+    }
+    Ok(())
+}

@@ -85,8 +85,9 @@ pub fn script<S: Source, K: Sink>(
 
 /// Reads the source to its end, or to where that stops, and prints what it says.
 fn read_through<S: Source, K: Sink>(reading: &mut Reading, source: &mut S, sink: &mut K) -> Status
-    requires { Running reading.old [] [] }
-    ensures { Ran result (seen S.left S.faults source.old source.new) (seen K.holds K.faults sink.old sink.new) }
+    requires { (ps : List Policy) × Running ps reading.old [] [] }
+    ensures { (ps : List Policy) → Running ps reading.old [] []
+        → Ran ps result (seen S.left S.faults source.old source.new) (seen K.holds K.faults sink.old sink.new) }
 {
     match read(reading, source, sink) {
         Ok(()) => DONE,

@@ -26,6 +26,7 @@ impl Tables {
     pub(super) fn rings(&mut self, alarm: Alarm, tasks: &mut Tasks) -> Result<(), NoMemory>
         ensures left { OnOk result (AreTicketed self.old.tickets (subscription_at self.old.subscribers) → agenda_of tasks.new ≡ goes_on (view_of self.old) (Act.Comes (Part.Rings alarm)) (agenda_of tasks.old)) }
         ensures sees { OnOk result (view_of self.new ≡ after (Act.Comes (Part.Rings alarm)) (view_of self.old)) }
+        ensures settings { self.new.settings ≡ self.old.settings }
     {
         if !self.alarms.rings(self.clock, alarm) {
             return Ok(());
@@ -45,6 +46,7 @@ impl Tables {
         ensures bases { OnOk result (self.new.addresses.bases ≡ self.old.addresses.bases) }
         ensures pauses { OnOk result ((l : ℕ) → pause_at self.new.addresses.pauses l ≡ (if l == link then None else pause_at self.old.addresses.pauses l)) }
         ensures sees { OnOk result (view_of self.new ≡ record (view_of self.old) { addresses = addresses_of self.new.addresses; alarms = self.new.alarms }) }
+        ensures settings { self.new.settings ≡ self.old.settings }
     {
         self.alarms.clear(Alarm::Retry(link))?;
         let Some(pause) = self.addresses.take_pause(link) else {
@@ -67,6 +69,7 @@ impl Tables {
         ensures left { OnOk result (agenda_of tasks.new ≡ record (agenda_of tasks.old) { behind = (agenda_of tasks.old).behind ++ map (arranged below) (opens (woken (Alarm.Wake who))) }) }
         ensures alarms { OnOk result (self.new.alarms ≡ clear (Alarm.Wake who) self.old.alarms) }
         ensures sees { OnOk result (view_of self.new ≡ record (view_of self.old) { alarms = self.new.alarms }) }
+        ensures settings { self.new.settings ≡ self.old.settings }
     {
         self.alarms.clear(Alarm::Wake(who))?;
         let mut notices = Vec::new(self.alloc);
@@ -82,6 +85,7 @@ impl Tables {
         ensures left { OnOk result (agenda_of tasks.new ≡ record (agenda_of tasks.old) { now = rung (view_of self.old) (Alarm.KeepAlive link) ++ tasks.old.now.items }) }
         ensures alarms { OnOk result (self.new.alarms ≡ alarms_rung (chosen_of self.old.settings) self.old.clock (Alarm.KeepAlive link) self.old.alarms) }
         ensures sees { OnOk result (view_of self.new ≡ record (view_of self.old) { alarms = self.new.alarms }) }
+        ensures settings { self.new.settings ≡ self.old.settings }
     {
         let moment = later(self.clock, self.settings.connection.keep_alive);
         self.alarms.set(Alarm::KeepAlive(link), moment)?;
@@ -99,6 +103,7 @@ impl Tables {
         ensures left { OnOk result (AreTicketed self.old.tickets (subscription_at self.old.subscribers) → agenda_of tasks.new ≡ record (agenda_of tasks.old) { now = rung (view_of self.old) Alarm.CheckIdle ++ tasks.old.now.items }) }
         ensures alarms { OnOk result (self.new.alarms ≡ alarms_rung (chosen_of self.old.settings) self.old.clock Alarm.CheckIdle self.old.alarms) }
         ensures sees { OnOk result (view_of self.new ≡ record (view_of self.old) { alarms = self.new.alarms }) }
+        ensures settings { self.new.settings ≡ self.old.settings }
     {
         self.alarms
             .set(Alarm::CheckIdle, later(self.clock, IDLE_PERIOD))?;
@@ -113,6 +118,7 @@ impl Tables {
     pub(super) fn stops(&mut self, who: Who, tasks: &mut Tasks) -> Result<(), NoMemory>
         ensures left { OnOk result (agenda_of tasks.new ≡ goes_on (view_of self.old) (Act.Does who Action.StopAll) (agenda_of tasks.old)) }
         ensures sees { OnOk result (view_of self.new ≡ after (Act.Does who Action.StopAll) (view_of self.old)) }
+        ensures settings { self.new.settings ≡ self.old.settings }
     {
         self.is_stopped = true;
         let mut notices = self.stop_alarms()?;
@@ -129,6 +135,7 @@ impl Tables {
         ensures bases { OnOk result ((key : List ℕ) → base_at self.new.addresses.bases key ≡ (if waits_on (addresses_of self.old.addresses) self.old.alarms key then nobody else base_at self.old.addresses.bases key)) }
         ensures pauses { OnOk result ((l : ℕ) → pause_at self.new.addresses.pauses l ≡ None) }
         ensures sees { OnOk result (view_of self.new ≡ record (view_of self.old) { addresses = addresses_of self.new.addresses; alarms = self.new.alarms }) }
+        ensures settings { self.new.settings ≡ self.old.settings }
     {
         let all = self.alarms.all()?;
         let notices = stopped_with(self.alloc, &self.addresses, &all)?;

@@ -39,6 +39,7 @@ impl Tables {
     pub(super) fn calls(&mut self, asking: Asking, tasks: &mut Tasks) -> Result<(), NoMemory>
         ensures left { OnOk result (agenda_of tasks.new ≡ goes_on (view_of self.old) (Act.Comes (Part.Calls asking)) (agenda_of tasks.old)) }
         ensures sees { OnOk result (view_of self.new ≡ after (Act.Comes (Part.Calls asking)) (view_of self.old)) }
+        ensures settings { self.new.settings ≡ self.old.settings }
     {
         let ticket = self.tickets;
         let call = asking.into_inner();
@@ -81,6 +82,7 @@ impl Tables {
     fn procedure_for(&mut self, call: Call) -> Result<Procedure, NoMemory>
         ensures procedure { IfOk result (λ p. p ≡ procedure_for (view_of self.old).chosen (view_of self.old).calls (view_of self.old).producers (asked call)) }
         ensures after { OnOk result (view_of self.new ≡ record (view_of self.old) { producers = called_on (may_call (view_of self.old).calls) (asked call) (view_of self.old).producers }) }
+        ensures settings { self.new.settings ≡ self.old.settings }
     {
         match call {
             Call::Build => self.builds_if(!self.is_stopped),
@@ -113,6 +115,7 @@ impl Tables {
     fn opened(&mut self, call: Call) -> Result<Procedure, NoMemory>
         ensures procedure { IfOk result (λ p. p ≡ procedure_for (view_of self.old).chosen opened_calls (view_of self.old).producers (asked call)) }
         ensures after { OnOk result (view_of self.new ≡ record (view_of self.old) { producers = opened_on (asked call) (view_of self.old).producers }) }
+        ensures settings { self.new.settings ≡ self.old.settings }
     {
         match call {
             Call::Build => self.builds_if(true),
@@ -135,6 +138,7 @@ impl Tables {
     fn raw(&mut self, link: u64, call: RawCall) -> Result<Procedure, NoMemory>
         ensures procedure { IfOk result (λ p. p ≡ asks_raw (view_of self.old).producers link (words_of call)) }
         ensures after { OnOk result (view_of self.new ≡ record (view_of self.old) { producers = names_in (named_producer (words_of call)) (view_of self.old).producers }) }
+        ensures settings { self.new.settings ≡ self.old.settings }
     {
         if let Some(number) = call.named_producer() {
             self.producers.name(number)?;
@@ -185,6 +189,7 @@ impl Tables {
     ) -> Result<(), NoMemory>
         ensures left { OnOk result (agenda_of tasks.new ≡ goes_on (view_of self.old) (Act.Starts who procedure) (agenda_of tasks.old)) }
         ensures sees { OnOk result (view_of self.new ≡ after (Act.Starts who procedure) (view_of self.old)) }
+        ensures settings { self.new.settings ≡ self.old.settings }
     {
         let turn = begins(self.alloc, procedure)?;
         follow(&mut self.plans, who, turn, tasks)
@@ -199,6 +204,7 @@ impl Tables {
     ) -> Result<(), NoMemory>
         ensures left { OnOk result (agenda_of tasks.new ≡ goes_on (view_of self.old) (Act.Told (record { who = who; outcome = outcome })) (agenda_of tasks.old)) }
         ensures sees { OnOk result (view_of self.new ≡ after (Act.Told (record { who = who; outcome = outcome })) (view_of self.old)) }
+        ensures settings { self.new.settings ≡ self.old.settings }
     {
         let Some(plan) = self.plans.remove(who) else {
             return Ok(());
@@ -218,6 +224,7 @@ impl Tables {
         ensures out { OnOk result (map shown out.new.items ≡ map shown out.old.items ++ effects (view_of self.old) (Act.Does who action)) }
         ensures left { OnOk result (agenda_of tasks.new ≡ goes_on (view_of self.old) (Act.Does who action) (agenda_of tasks.old)) }
         ensures sees { OnOk result (view_of self.new ≡ after (Act.Does who action) (view_of self.old)) }
+        ensures settings { self.new.settings ≡ self.old.settings }
     {
         match action {
             Action::Get(address) => self.gets(who, address, tasks),
@@ -242,6 +249,7 @@ impl Tables {
     fn gets(&mut self, who: Who, address: Address, tasks: &mut Tasks) -> Result<(), NoMemory>
         ensures left { OnOk result (agenda_of tasks.new ≡ goes_on (view_of self.old) (Act.Does who (Action.Get address)) (agenda_of tasks.old)) }
         ensures sees { OnOk result (view_of self.new ≡ after (Act.Does who (Action.Get address)) (view_of self.old)) }
+        ensures settings { self.new.settings ≡ self.old.settings }
     {
         if !address.is_reachable() {
             return tell(who, Outcome::NotFound, tasks);
@@ -275,6 +283,7 @@ impl Tables {
         ensures out { OnOk result (map shown out.new.items ≡ map shown out.old.items ++ effects (view_of self.old) (Act.Does who (Action.Ask link request))) }
         ensures left { OnOk result (agenda_of tasks.new ≡ goes_on (view_of self.old) (Act.Does who (Action.Ask link request)) (agenda_of tasks.old)) }
         ensures sees { OnOk result (view_of self.new ≡ after (Act.Does who (Action.Ask link request)) (view_of self.old)) }
+        ensures settings { self.new.settings ≡ self.old.settings }
     {
         let closed = request.closed_consumer();
         let (is_asked, outcome) = self.links.ask(self.clock, who, link, request, out)?;
@@ -291,6 +300,7 @@ impl Tables {
     ) -> Result<(), NoMemory>
         ensures out { OnOk result (map shown out.new.items ≡ map shown out.old.items ++ effects (view_of self.old) (Act.Answers who verdict)) }
         ensures sees { OnOk result (view_of self.new ≡ after (Act.Answers who verdict) (view_of self.old)) }
+        ensures settings { self.new.settings ≡ self.old.settings }
     {
         let Verdict { makes, said } = verdict;
         if builds(&makes, false) && !self.is_built {

@@ -34,6 +34,7 @@ impl Tables {
         ensures out { OnOk result (map shown out.new.items ≡ map shown out.old.items ++ effects (view_of self.old) (Act.Comes (Part.ToLink link act))) }
         ensures left { OnOk result (agenda_of tasks.new ≡ goes_on (view_of self.old) (Act.Comes (Part.ToLink link act)) (agenda_of tasks.old)) }
         ensures sees { OnOk result (view_of self.new ≡ after (Act.Comes (Part.ToLink link act)) (view_of self.old)) }
+        ensures settings { self.new.settings ≡ self.old.settings }
     {
         match act {
             LinkAct::Opens => self.opens(link, out),
@@ -48,6 +49,7 @@ impl Tables {
     fn pings(&mut self, link: u64, out: &mut Vec<Effect>) -> Result<(), NoMemory>
         ensures out { OnOk result (map shown out.new.items ≡ map shown out.old.items ++ effects (view_of self.old) (Act.Comes (Part.ToLink link LinkAct.Pings))) }
         ensures sees { OnOk result (view_of self.new ≡ after (Act.Comes (Part.ToLink link LinkAct.Pings)) (view_of self.old)) }
+        ensures settings { self.new.settings ≡ self.old.settings }
     {
         self.links.ping(self.clock, link, out)
     }
@@ -56,6 +58,7 @@ impl Tables {
     fn opens(&mut self, link: u64, out: &mut Vec<Effect>) -> Result<(), NoMemory>
         ensures out { OnOk result (map shown out.new.items ≡ map shown out.old.items ++ effects (view_of self.old) (Act.Comes (Part.ToLink link LinkAct.Opens))) }
         ensures sees { OnOk result (view_of self.new ≡ after (Act.Comes (Part.ToLink link LinkAct.Opens)) (view_of self.old)) }
+        ensures settings { self.new.settings ≡ self.old.settings }
     {
         self.links.open(self.clock, link, out)
     }
@@ -65,6 +68,7 @@ impl Tables {
         ensures out { OnOk result (map shown out.new.items ≡ map shown out.old.items ++ effects (view_of self.old) (Act.Comes (Part.ToLink link LinkAct.Reads))) }
         ensures left { OnOk result (agenda_of tasks.new ≡ goes_on (view_of self.old) (Act.Comes (Part.ToLink link LinkAct.Reads)) (agenda_of tasks.old)) }
         ensures sees { OnOk result (view_of self.new ≡ after (Act.Comes (Part.ToLink link LinkAct.Reads)) (view_of self.old)) }
+        ensures settings { self.new.settings ≡ self.old.settings }
     {
         let (arrival, mut notices) = self.links.read(self.clock, link, out)?;
         self.welcomes(link, &arrival, &mut notices)?;
@@ -85,6 +89,7 @@ impl Tables {
         ensures pauses { OnOk result ((l : ℕ) → pause_at self.new.addresses.pauses l ≡ pause_at self.old.addresses.pauses l) }
         ensures alarms { OnOk result (self.new.alarms ≡ alarms_on (chosen_of self.old.settings) self.old.clock (welcomed link arrival.now (live_in self.old.links.live link)) self.old.alarms) }
         ensures sees { OnOk result (view_of self.new ≡ record (view_of self.old) { addresses = addresses_of self.new.addresses; alarms = self.new.alarms }) }
+        ensures settings { self.new.settings ≡ self.old.settings }
     {
         match arrival {
             Arrival::Readied => self.readied(link, notices),
@@ -102,6 +107,7 @@ impl Tables {
         ensures pauses { OnOk result ((l : ℕ) → pause_at self.new.addresses.pauses l ≡ pause_at self.old.addresses.pauses l) }
         ensures alarms { OnOk result (self.new.alarms ≡ alarms_on (chosen_of self.old.settings) self.old.clock (welcomed link Arrival.Readied (live_in self.old.links.live link)) self.old.alarms) }
         ensures sees { OnOk result (view_of self.new ≡ record (view_of self.old) { addresses = addresses_of self.new.addresses; alarms = self.new.alarms }) }
+        ensures settings { self.new.settings ≡ self.old.settings }
     {
         let Some(address) = self.links.address(link)? else {
             return Ok(());
@@ -116,6 +122,7 @@ impl Tables {
         ensures left { OnOk result (agenda_of tasks.new ≡ record (agenda_of tasks.old) { now = breaks_at link arrival ++ tasks.old.now.items }) }
         ensures heard { OnOk result ((t : ℕ) → subscription_at self.new.subscribers t ≡ option_map (hears link arrival) (subscription_at self.old.subscribers t)) }
         ensures sees { OnOk result (view_of self.new ≡ record (view_of self.old) { consumers = subscription_at self.new.subscribers }) }
+        ensures settings { self.new.settings ≡ self.old.settings }
     {
         match arrival {
             Arrival::Bad(cause) => tasks.put(Act::Comes(Part::ToLink {
@@ -137,6 +144,7 @@ impl Tables {
         ensures out { OnOk result (map shown out.new.items ≡ map shown out.old.items ++ effects (view_of self.old) (Act.Comes (Part.ToLink link (LinkAct.Drains most)))) }
         ensures left { OnOk result (agenda_of tasks.new ≡ goes_on (view_of self.old) (Act.Comes (Part.ToLink link (LinkAct.Drains most))) (agenda_of tasks.old)) }
         ensures sees { OnOk result (view_of self.new ≡ after (Act.Comes (Part.ToLink link (LinkAct.Drains most))) (view_of self.old)) }
+        ensures settings { self.new.settings ≡ self.old.settings }
     {
         let notices = self.links.drain(self.clock, link, most, out)?;
         tasks.open_each(notices)
@@ -153,6 +161,7 @@ impl Tables {
         ensures out { OnOk result (map shown out.new.items ≡ map shown out.old.items ++ effects (view_of self.old) (Act.Comes (Part.ToLink link (LinkAct.Ends end)))) }
         ensures left { OnOk result (agenda_of tasks.new ≡ goes_on (view_of self.old) (Act.Comes (Part.ToLink link (LinkAct.Ends end))) (agenda_of tasks.old)) }
         ensures sees { OnOk result (view_of self.new ≡ after (Act.Comes (Part.ToLink link (LinkAct.Ends end))) (view_of self.old)) }
+        ensures settings { self.new.settings ≡ self.old.settings }
     {
         let Some((address, mut notices)) = self.links.end(self.clock, link, &end, out)? else {
             return Ok(());
@@ -172,6 +181,7 @@ impl Tables {
         ensures out { OnOk result (map shown out.new.items ≡ map shown out.old.items ++ Retry link (delay_with (chosen_of self.old.settings) link retries) ∷ []) }
         ensures alarms { OnOk result (self.new.alarms ≡ set (Alarm.Retry link) (later self.old.clock (delay_with (chosen_of self.old.settings) link retries)) self.old.alarms) }
         ensures sees { OnOk result (view_of self.new ≡ record (view_of self.old) { alarms = self.new.alarms }) }
+        ensures settings { self.new.settings ≡ self.old.settings }
     {
         let delay = self.settings.delay(link, retries);
         out.push(Effect::Retry { link, delay })?;
@@ -189,6 +199,7 @@ impl Tables {
     ) -> Result<(), NoMemory>
         ensures out { OnOk result (map shown out.new.items ≡ map shown out.old.items ++ effects (view_of self.old) (Act.Dials address starter retries)) }
         ensures sees { OnOk result (view_of self.new ≡ after (Act.Dials address starter retries) (view_of self.old)) }
+        ensures settings { self.new.settings ≡ self.old.settings }
     {
         let link = self.links.started;
         connect(self.alloc, &address, link, out)?;

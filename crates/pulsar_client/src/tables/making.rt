@@ -17,6 +17,7 @@ impl Tables {
         ensures consumers { OnOk result ((t : ℕ) → subscription_at self.new.subscribers t ≡ made who makes t (subscription_at self.old.subscribers t)) }
         ensures producers { OnOk result (producers_of self.new.producers ≡ producers_made (chosen_of self.old.settings) who makes (producers_of self.old.producers)) }
         ensures sees { OnOk result (view_of self.new ≡ record (view_of self.old) { consumers = subscription_at self.new.subscribers; producers = producers_of self.new.producers }) }
+        ensures settings { self.new.settings ≡ self.old.settings }
     {
         let Who::Call(ticket) = who;
         match makes {

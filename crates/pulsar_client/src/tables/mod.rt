@@ -103,7 +103,8 @@ impl Tables {
     /// One live event, with all that arises from it.
     pub fn step(&mut self, event: Event) -> Result<Vec<Effect>, NoMemory>
         requires { is_live (view_of self.old) (heard event) ≡ true }
-        ensures { IfOk result (λ out. (o : Chosen) (h : List Step) → Stands o self.old h → Stands o self.new (step event out.items ∷ h)) }
+        ensures stands { IfOk result (λ out. (o : Chosen) (h : List Step) → Stands o self.old h → Stands o self.new (step event out.items ∷ h)) }
+        ensures settings { self.new.settings ≡ self.old.settings }
     {
         let mut out = Vec::new(self.alloc);
         let parts = self.begins(event)?;
@@ -118,6 +119,7 @@ impl Tables {
         requires { is_live (view_of self.old) (heard event) ≡ true }
         ensures parts { IfOk result (λ ps. ps.items ≡ parts (view_of self.old) (heard event)) }
         ensures sees { OnOk result (view_of self.new ≡ begun (heard event) (view_of self.old)) }
+        ensures settings { self.new.settings ≡ self.old.settings }
     {
         match event {
             Event::Call(call) => one(self.alloc, Part::Calls(Asking::new(self.alloc, call)?)),
@@ -140,7 +142,8 @@ impl Tables {
 
     /// Does all that is left to do, and all that arises from it.
     fn work(&mut self, tasks: &mut Tasks, out: &mut Vec<Effect>) -> Result<(), NoMemory>
-        ensures { OnOk result ((o : Chosen) (e : Heard) (h : List Step) → InStep o self.old (agenda_of tasks.old) e (map shown out.old.items) h → Stands o self.new (record { event = e; effects = arranged effect_below (map shown out.new.items) } ∷ h)) }
+        ensures stands { OnOk result ((o : Chosen) (e : Heard) (h : List Step) → InStep o self.old (agenda_of tasks.old) e (map shown out.old.items) h → Stands o self.new (record { event = e; effects = arranged effect_below (map shown out.new.items) } ∷ h)) }
+        ensures settings { self.new.settings ≡ self.old.settings }
     {
         for _ in 0..u64::MAX {
             match tasks.next() {
@@ -156,6 +159,7 @@ impl Tables {
         ensures out { OnOk result (map shown out.new.items ≡ map shown out.old.items ++ effects (view_of self.old) act) }
         ensures left { OnOk result (AreTicketed self.old.tickets (subscription_at self.old.subscribers) → agenda_of tasks.new ≡ goes_on (view_of self.old) act (agenda_of tasks.old)) }
         ensures sees { OnOk result (view_of self.new ≡ after act (view_of self.old)) }
+        ensures settings { self.new.settings ≡ self.old.settings }
     {
         match act {
             Act::Comes(Part::Calls(asking)) => self.calls(asking, tasks),
@@ -178,6 +182,7 @@ impl Tables {
     fn polls(&mut self, ticket: u64, out: &mut Vec<Effect>) -> Result<(), NoMemory>
         ensures out { OnOk result (map shown out.new.items ≡ map shown out.old.items ++ effects (view_of self.old) (Act.Comes (Part.Polls ticket))) }
         ensures sees { OnOk result (view_of self.new ≡ after (Act.Comes (Part.Polls ticket)) (view_of self.old)) }
+        ensures settings { self.new.settings ≡ self.old.settings }
     {
         if let Some(effect) = self.subscribers.poll(ticket)? {
             out.push(effect)?;

@@ -25,6 +25,7 @@ impl Tables {
     ) -> Result<(), NoMemory>
         ensures left { OnOk result (agenda_of tasks.new ≡ goes_on (view_of self.old) (Act.Does who (Action.TakeTurn number)) (agenda_of tasks.old)) }
         ensures sees { OnOk result (view_of self.new ≡ after (Act.Does who (Action.TakeTurn number)) (view_of self.old)) }
+        ensures settings { self.new.settings ≡ self.old.settings }
     {
         if !self.producers.is_used(number) {
             return tell(who, Outcome::Disconnected, tasks);
@@ -44,6 +45,7 @@ impl Tables {
     ) -> Result<(), NoMemory>
         ensures left { OnOk result (agenda_of tasks.new ≡ goes_on (view_of self.old) (Act.Does who (Action.PassTurn number)) (agenda_of tasks.old)) }
         ensures sees { OnOk result (view_of self.new ≡ after (Act.Does who (Action.PassTurn number)) (view_of self.old)) }
+        ensures settings { self.new.settings ≡ self.old.settings }
     {
         if let Some((ticket, version)) = self.producers.pass_turn(number)? {
             let granted = Granted::new(self.alloc, News::HasTurn(version))?;
@@ -59,6 +61,7 @@ impl Tables {
     pub(super) fn draws(&mut self, who: Who, number: u64, tasks: &mut Tasks) -> Result<(), NoMemory>
         ensures left { OnOk result (agenda_of tasks.new ≡ goes_on (view_of self.old) (Act.Does who (Action.Draw number)) (agenda_of tasks.old)) }
         ensures sees { OnOk result (view_of self.new ≡ after (Act.Does who (Action.Draw number)) (view_of self.old)) }
+        ensures settings { self.new.settings ≡ self.old.settings }
     {
         let Some(room) = self.room_for(number) else {
             return self.refuses(who, ConnectionError::Disconnected, tasks);
@@ -86,6 +89,7 @@ impl Tables {
     ) -> Result<(), NoMemory>
         ensures left { OnOk result (agenda_of tasks.new ≡ goes_on (view_of self.old) (Act.Does who (Action.Recall number)) (agenda_of tasks.old)) }
         ensures sees { OnOk result (view_of self.new ≡ after (Act.Does who (Action.Recall number)) (view_of self.old)) }
+        ensures settings { self.new.settings ≡ self.old.settings }
     {
         match self.producers.recall(number)? {
             Some(command) => self.grants(who, News::Recalled(command), tasks),
@@ -102,6 +106,7 @@ impl Tables {
     ) -> Result<(), NoMemory>
         ensures left { OnOk result (agenda_of tasks.new ≡ goes_on (view_of self.old) (Act.Does who (Action.Remake remade)) (agenda_of tasks.old)) }
         ensures sees { OnOk result (view_of self.new ≡ after (Act.Does who (Action.Remake remade)) (view_of self.old)) }
+        ensures settings { self.new.settings ≡ self.old.settings }
     {
         self.producers.remake(remade.into_inner());
         self.grants(who, News::Done, tasks)
@@ -111,6 +116,7 @@ impl Tables {
     pub(super) fn numbers(&mut self, who: Who, tasks: &mut Tasks) -> Result<(), NoMemory>
         ensures left { OnOk result (agenda_of tasks.new ≡ goes_on (view_of self.old) (Act.Does who Action.Number) (agenda_of tasks.old)) }
         ensures sees { OnOk result (view_of self.new ≡ after (Act.Does who Action.Number) (view_of self.old)) }
+        ensures settings { self.new.settings ≡ self.old.settings }
     {
         match self.producers.draw_number() {
             Some(number) => self.grants(who, News::Numbered(number), tasks),
@@ -122,6 +128,7 @@ impl Tables {
     pub(super) fn finds(&mut self, who: Who, number: u64, tasks: &mut Tasks) -> Result<(), NoMemory>
         ensures left { OnOk result (agenda_of tasks.new ≡ goes_on (view_of self.old) (Act.Does who (Action.Find number)) (agenda_of tasks.old)) }
         ensures sees { OnOk result (view_of self.new ≡ after (Act.Does who (Action.Find number)) (view_of self.old)) }
+        ensures settings { self.new.settings ≡ self.old.settings }
     {
         match self.producers.link(number) {
             Some(link) => tell(who, Outcome::GotLink(link), tasks),
@@ -138,6 +145,7 @@ impl Tables {
     ) -> Result<(), NoMemory>
         ensures left { OnOk result (agenda_of tasks.new ≡ goes_on (view_of self.old) (Act.Does who (Action.Shut producer)) (agenda_of tasks.old)) }
         ensures sees { OnOk result (view_of self.new ≡ after (Act.Does who (Action.Shut producer)) (view_of self.old)) }
+        ensures settings { self.new.settings ≡ self.old.settings }
     {
         self.producers.shut(producer);
         self.grants(who, News::Done, tasks)

@@ -65,6 +65,7 @@ impl Tables {
     pub(super) fn sends(&mut self, producer: u64, message: Message) -> Result<Procedure, NoMemory>
         ensures procedure { IfOk result (λ p. p ≡ rules.sends (chosen_of self.old.settings) (producers_of self.old.producers) producer (message_content message)) }
         ensures after { OnOk result (view_of self.new ≡ record (view_of self.old) { producers = sent_on producer (message_content message ∷ []) (producers_of self.old.producers) }) }
+        ensures settings { self.new.settings ≡ self.old.settings }
     {
         if let Some(refusal) = self.why_not(producer) {
             return Ok(Procedure::Refuse(refusal));
@@ -81,6 +82,7 @@ impl Tables {
     ) -> Result<Procedure, NoMemory>
         ensures procedure { IfOk result (λ p. p ≡ rules.sends_as (chosen_of self.old.settings) (producers_of self.old.producers) share producer (message_content message)) }
         ensures after { OnOk result (view_of self.new ≡ record (view_of self.old) { producers = routed producer (message_content message) (producers_of self.old.producers) }) }
+        ensures settings { self.new.settings ≡ self.old.settings }
     {
         let policies = self.settings.policies();
         let Some(errand) = self.producers.route(producer, &message, policies) else {
@@ -107,6 +109,7 @@ impl Tables {
     ) -> Result<(), NoMemory>
         ensures left { OnOk result (agenda_of tasks.new ≡ record (agenda_of tasks.old) { now = rules.sends_all (view_of self.old) ticket producer (map message_content messages.items) ++ tasks.old.now.items }) }
         ensures sees { OnOk result (view_of self.new ≡ record (view_of self.old) { producers = called_on (may_call (view_of self.old).calls) (SendAll producer (map message_content messages.items)) (producers_of self.old.producers) }) }
+        ensures settings { self.new.settings ≡ self.old.settings }
     {
         let who = Who::Call(ticket);
         if let Some(refusal) = self.why_no_sends(producer) {
@@ -148,6 +151,7 @@ impl Tables {
     ) -> Result<(), NoMemory>
         ensures acts { OnOk result (acts.new.items ≡ acts.old.items ++ rules.shares_of (chosen_of self.old.settings) (producers_of self.old.producers) of (of + 1) producer (map message_content messages.items)) }
         ensures sees { OnOk result (view_of self.new ≡ record (view_of self.old) { producers = all_routed producer (map message_content messages.items) (producers_of self.old.producers) }) }
+        ensures settings { self.new.settings ≡ self.old.settings }
     {
         let mut ticket = of;
         for message in messages {
@@ -206,6 +210,7 @@ impl Tables {
     ) -> Result<(), NoMemory>
         ensures left { OnOk result (agenda_of tasks.new ≡ goes_on (view_of self.old) (Act.Does who (Action.Tell notice)) (agenda_of tasks.old)) }
         ensures sees { OnOk result (view_of self.new ≡ after (Act.Does who (Action.Tell notice)) (view_of self.old)) }
+        ensures settings { self.new.settings ≡ self.old.settings }
     {
         tasks.join(notice)?;
         self.grants(who, News::Done, tasks)

@@ -56,6 +56,7 @@ use Rattle.pulsar_link.specs.Request.{named_producer}
 use Rattle.pulsar_messages.specs.Content.{ProducerMessageValues}
 use Rattle.pulsar_plans.specs.declared.making.Command.{Command}
 use Rattle.pulsar_producer.specs.Wanted.{ProducerWanted}
+use Rattle.pulsar_producer.specs.declared.building.Order.{Order}
 use Rattle.pulsar_producer.specs.declared.deed.Drawn.{Drawn}
 use Rattle.pulsar_producer.specs.declared.deed.News.{News}
 use Rattle.pulsar_producer.specs.declared.deed.News.TheVariants as news
@@ -149,21 +150,20 @@ abbrev pub unless : Option Refusal → Procedure → Procedure
 unless None p = p
 unless (Some r) p = procedure.Refuse r
 
--- it is built
-abbrev pub builds_of : Option (List ℕ) → ProducerWanted → Ways → Procedure
-builds_of None w ways = procedure.Refuse refusal.NoTopic
-builds_of (Some topic) w ways = procedure.Produce ways (record { topic = topic; name = w.name; options = w.options })
+-- it is built, where it is said to what it sends
+abbrev pub order_of : (topic : List ℕ) → ProducerWanted → Order
+order_of topic w = record { topic = topic; name = w.name; options = w.options }
 
-abbrev pub with_ways : Option Ways → (Ways → Procedure) → Procedure
-with_ways None f = procedure.Refuse refusal.NoAddress
-with_ways (Some ways) f = f ways
+abbrev pub produces_by : Option Ways → Order → Procedure
+produces_by None order = procedure.Refuse refusal.NoAddress
+produces_by (Some ways) order = procedure.Produce ways order
 
-abbrev pub produces_from : Chosen → Option (List ℕ) → ProducerWanted → Procedure
-produces_from o None w = procedure.Refuse refusal.NoTopic
-produces_from o (Some topic) w = with_ways (ways_of o) (builds_of (Some topic) w)
+abbrev pub produces_from : Option Ways → Option (List ℕ) → ProducerWanted → Procedure
+produces_from ways None w = procedure.Refuse refusal.NoTopic
+produces_from ways (Some topic) w = produces_by ways (order_of topic w)
 
 abbrev pub produces : Chosen → ProducerWanted → Procedure
-produces o w = produces_from o w.topic w
+produces o w = produces_from (ways_of o) w.topic w
 
 -- a message goes to a topic producer, unless none is found for it; as a part of another call it fails there
 abbrev pub fails_as : Option Share → Refusal → Procedure

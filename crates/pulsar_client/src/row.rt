@@ -12,9 +12,9 @@ ghost use Rattle.pulsar_client.specs.Content.{shown};
 ghost use Rattle.pulsar_client.specs.Links.{after, arrival, arrives, change_in, close, closed_by, effects, is_own_end, line_places, lost, new_places, numbers_from, queues, queues_at, settled_in, settles, times_out, write};
 ghost use Rattle.pulsar_client.specs.Links as links;
 ghost use Rattle.pulsar_client.specs.Rules as rules;
-ghost use Rattle.pulsar_client.specs.Rules.{answered_by, dropped, ended_places, lost_with, moved_up, room_in, tells_asker, told_at};
+ghost use Rattle.pulsar_client.specs.Rules.{answered_by, dropped, ended_places, lost_with, moved_up, tells_asker, told_at};
 ghost use Rattle.pulsar_client.specs.Kept.{seat_of, settled};
-ghost use Rattle.pulsar_client.specs.View.{asker_at, askers_left, got_since, is_asked, later, ping_left, place_of, seat_asked, seat_of_fresh, took};
+ghost use Rattle.pulsar_client.specs.View.{asker_at, askers_left, got_since, is_asked, later, ping_left, place_of, room_in, seat_asked, seat_of_fresh, took};
 
 use crate::act::{Arrival, End, LinkAct, Notice, Outcome, Who};
 use crate::content::Cause;

@@ -1,10 +1,11 @@
 //! What plans ask of topic producers.
 
-ghost use Rattle.std.specs.Prelude.{◌≡◌, ◌∷◌, IfOk, OnOk};
-ghost use Rattle.pulsar_client.specs.Rules.{draw_outcome, grants, is_link_ready, room_of};
+ghost use Rattle.std.specs.Prelude.{◌≡◌, ◌++◌, OnOk};
+ghost use Rattle.pulsar_session.specs.Failures.{fault};
+ghost use Rattle.pulsar_client.specs.Rules.{grants, tells};
 ghost use Rattle.pulsar_client.specs.Run.{goes_on};
 ghost use Rattle.pulsar_client.specs.Tables.{agenda_of, view_of};
-ghost use Rattle.pulsar_client.specs.View.{after};
+ghost use Rattle.pulsar_client.specs.View.{after, room_of};
 
 use crate::act::{Action, Notice, Outcome, Who};
 use crate::agenda::Tasks;

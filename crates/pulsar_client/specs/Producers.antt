@@ -211,10 +211,19 @@ abbrev pub sent_on : (ticket : ℕ) → List ProducerMessageValues → Producers
 sent_on t ms ps = if is_some (why_not ps t) then ps else all_routed t ms ps
 
 abbrev pub opened_on : Asked → Producers → Producers
+opened_on content.Build ps = ps
+opened_on content.Stop ps = ps
+opened_on (content.Topics namespace mode) ps = ps
+opened_on (content.Lookup topic) ps = ps
+opened_on (content.Partitions topic) ps = ps
+opened_on (content.Brokers topic) ps = ps
+opened_on (content.Producer wanted) ps = ps
 opened_on (content.Send t m) ps = sent_on t (m ∷ []) ps
 opened_on (content.SendAll t ms) ps = sent_on t ms ps
+opened_on (content.Flush t) ps = ps
+opened_on (content.CheckProducer t) ps = ps
+opened_on (content.CloseProducer t) ps = ps
 opened_on (content.Raw l words) ps = names_in (named_producer words) ps
-opened_on _ ps = ps
 
 abbrev pub called_on : (is_open : Bool) → Asked → Producers → Producers
 called_on is_open asked ps = if is_open then opened_on asked ps else ps

@@ -190,13 +190,12 @@ shares_of o ps of ticket t (m ∷ ms) =
 abbrev pub why_no_sends : Tickets → Producers → (producer : ℕ) → Option Refusal
 why_no_sends c ps t = if may_call c then why_not ps t else Some refusal.Shutdown
 
-abbrev pub sends_unless : Option Refusal → View → (ticket producer : ℕ) → List ProducerMessageValues → List Act
-sends_unless (Some r) v ticket t ms = Starts (Call ticket) (procedure.Refuse r) ∷ []
-sends_unless None v ticket t ms =
-    Starts (Call ticket) (procedure.Gather (ticket + 1) (length ms)) ∷ shares_of v.chosen v.producers ticket (ticket + 1) t ms
+abbrev pub shares_unless : Option Refusal → View → (producer : ℕ) → List ProducerMessageValues → List Act
+shares_unless (Some r) v t ms = []
+shares_unless None v t ms = shares_of v.chosen v.producers v.calls.drawn (v.calls.drawn + 1) t ms
 
-abbrev pub sends_all : View → (ticket producer : ℕ) → List ProducerMessageValues → List Act
-sends_all v ticket t ms = sends_unless (why_no_sends v.calls v.producers t) v ticket t ms
+abbrev pub gathers : Tickets → Producers → (producer : ℕ) → List ProducerMessageValues → Procedure
+gathers c ps t ms = unless (why_not ps t) (procedure.Gather (c.drawn + 1) (length ms))
 
 -- nothing is held back for a batch
 abbrev pub flushes : Producers → (producer : ℕ) → Procedure
@@ -218,7 +217,7 @@ abbrev pub asks_raw : Producers → (link : ℕ) → Words → Procedure
 asks_raw ps l request =
     if is_taken ps (named_producer request) then procedure.Refuse refusal.NumberInUse else procedure.Ask (place.Link l) request says.Bodies
 
--- the procedure of a call that has no parts
+-- the procedure of a call, and its parts
 abbrev pub procedure_for : Chosen → Tickets → Producers → Asking → Procedure
 procedure_for o c ps content.Build = unless_refused (not c.is_stopped) (builds_with o.outbound o.base)
 procedure_for o c ps content.Stop = unless_refused (may_call c) procedure.Stop
@@ -228,15 +227,29 @@ procedure_for o c ps (content.Partitions topic) = unless_refused (may_call c) (s
 procedure_for o c ps (content.Brokers topic) = unless_refused (may_call c) (searches (ways_of o) (sought.Name topic))
 procedure_for o c ps (content.Producer wanted) = unless_refused (may_call c) (produces o wanted)
 procedure_for o c ps (content.Send t m) = unless_refused (may_call c) (sends o ps t m)
-procedure_for o c ps (content.SendAll t ms) = unless_refused (may_call c) (unless (why_not ps t) (procedure.Gather 0 0))
+procedure_for o c ps (content.SendAll t ms) = unless_refused (may_call c) (gathers c ps t ms)
 procedure_for o c ps (content.Flush t) = unless_refused (may_call c) (flushes ps t)
 procedure_for o c ps (content.CheckProducer t) = unless_refused (may_call c) (checks ps t)
 procedure_for o c ps (content.CloseProducer t) = unless_refused (may_call c) (closes ps t)
 procedure_for o c ps (content.Raw l request) = unless_refused (may_call c) (asks_raw ps l request)
 
+abbrev pub parts_of : View → Asking → List Act
+parts_of v content.Build = []
+parts_of v content.Stop = []
+parts_of v (content.Topics namespace mode) = []
+parts_of v (content.Lookup topic) = []
+parts_of v (content.Partitions topic) = []
+parts_of v (content.Brokers topic) = []
+parts_of v (content.Producer wanted) = []
+parts_of v (content.Send t m) = []
+parts_of v (content.SendAll t ms) = shares_unless (why_no_sends v.calls v.producers t) v t ms
+parts_of v (content.Flush t) = []
+parts_of v (content.CheckProducer t) = []
+parts_of v (content.CloseProducer t) = []
+parts_of v (content.Raw l request) = []
+
 abbrev pub starts : View → Asking → List Act
-starts v (content.SendAll t ms) = sends_all v v.calls.drawn t ms
-starts v asked = Starts (Call v.calls.drawn) (procedure_for v.chosen v.calls v.producers asked) ∷ []
+starts v asked = Starts (Call v.calls.drawn) (procedure_for v.chosen v.calls v.producers asked) ∷ parts_of v asked
 
 -- A call is made with the next ticket, and its parts with those behind it. Where fewer are left it ends as that of the greatest ticket, which
 -- is never drawn.

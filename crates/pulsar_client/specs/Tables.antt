@@ -57,10 +57,6 @@ view_of c =
       producers = producers_of c.producers;
     }
 
--- the calls of a client that is built and was not stopped
-abbrev pub opened_calls : Tickets
-opened_calls = record { drawn = 0; is_built = true; is_stopped = false }
-
 -- what a link turns whose next frame was read
 abbrev pub welcomed : (link : ℕ) → Arrival → Option Seat → Option Turned
 welcomed l a row = option_map (λ seat. record { link = l; key = address_key seat.address; change = change_in a; pause = None }) row

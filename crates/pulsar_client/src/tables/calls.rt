@@ -1,16 +1,16 @@
 //! Calls and their plans.
 
-ghost use Rattle.std.specs.Prelude.{◌≡◌, ◌==◌, ◌++◌, ◌∷◌, ℕ, map, IfOk, None, OnOk, string_bytes, true, if◌then◌else◌};
+ghost use Rattle.std.specs.Prelude.{◌≡◌, ◌==◌, ◌++◌, ◌∷◌, ℕ, map, IfOk, None, OnOk, string_bytes, true, false, if◌then◌else◌};
 ghost use Rattle.pulsar_client.specs.Alarms.{set};
 ghost use Rattle.pulsar_client.specs.Content.{asked, lacks_tickets, shares, shown};
 ghost use Rattle.pulsar_client.specs.Effects.{effects};
 ghost use Rattle.pulsar_link.specs.RawCall.{words_of};
 ghost use Rattle.pulsar_link.specs.Request.{named_producer};
 ghost use Rattle.pulsar_client.specs.Producers.{called_on, names_in, opened_on};
-ghost use Rattle.pulsar_client.specs.Rules.{asks_raw, asks_topics, builds_with, does, follows, from_base, notice, procedure_for, searches, unless_refused};
+ghost use Rattle.pulsar_client.specs.Rules.{asks_raw, asks_topics, builds_with, does, follows, from_base, notice, parts_of, procedure_for, searches, unless_refused};
 ghost use Rattle.pulsar_client.specs.Run.{goes_on, ticket_for};
 ghost use Rattle.pulsar_client.specs.Subscribers.{subscription_at};
-ghost use Rattle.pulsar_client.specs.Tables.{agenda_of, chosen_of, opened_calls, stand_of, view_of};
+ghost use Rattle.pulsar_client.specs.Tables.{agenda_of, chosen_of, stand_of, view_of};
 ghost use Rattle.pulsar_client.specs.View.{after, builds, later, may_call, stays, ways_of};
 ghost use Rattle.pulsar_client.specs.Who.{is_same};
 ghost use Rattle.pulsar_client.specs.declared.act.Who.{Who as Meant};
@@ -33,6 +33,7 @@ use pulsar_plans::content::{Address, Text as Topic};
 use pulsar_plans::plan::Procedure as Sought;
 use pulsar_wire::commands::topics::Mode;
 use pulsar_wire::error::{ConnectionError, NoMemory};
+use std::collections::VecDeque;
 
 impl Tables {
     /// A call is made with the next ticket, and its parts with those behind it, unless fewer are left.
@@ -41,24 +42,18 @@ impl Tables {
         ensures sees { OnOk result (view_of self.new ≡ after (Act.Comes (Part.Calls asking)) (view_of self.old)) }
         ensures settings { self.new.settings ≡ self.old.settings }
     {
-        let ticket = self.tickets;
         let call = asking.into_inner();
-        let Some(next) = next_ticket(ticket, shares(&call)) else {
+        let Some(next) = next_ticket(self.tickets, shares(&call)) else {
             let who = Who::Call(u64::MAX);
             let verdict = failure(self.alloc, ConnectionError::Exhausted)?;
             return tasks.put(Act::Answers { who, verdict });
         };
+        let who = Who::Call(self.tickets);
+        let mut parts = VecDeque::new(self.alloc);
+        let procedure = self.procedure_for(call, &mut parts)?;
         self.tickets = next;
-        match call {
-            Call::SendAll { producer, messages } => self.sends_all(
-                ticket, producer, messages, tasks,
-            ),
-            call => {
-                let who = Who::Call(ticket);
-                let procedure = self.procedure_for(call)?;
-                tasks.put(Act::Starts { who, procedure })
-            }
-        }
+        tasks.put_all(parts)?;
+        tasks.put(Act::Starts { who, procedure })
     }
 
     /// The ticket of a call that comes next: the greatest where too few are left.
@@ -78,9 +73,15 @@ impl Tables {
         self.is_built && !self.is_stopped
     }
 
-    /// The procedure of a call that has no parts. A send finds its partition.
-    fn procedure_for(&mut self, call: Call) -> Result<Procedure, NoMemory>
+    /// The procedure of a call, and how its parts begin. A send finds its partition.
+    fn procedure_for(
+        &mut self,
+        call: Call,
+        parts: &mut VecDeque<Act>,
+    ) -> Result<Procedure, NoMemory>
+        requires { lacks_tickets self.old.tickets (shares (asked call)) ≡ false }
         ensures procedure { IfOk result (λ p. p ≡ procedure_for (view_of self.old).chosen (view_of self.old).calls (view_of self.old).producers (asked call)) }
+        ensures parts { OnOk result (parts.new.items ≡ parts.old.items ++ parts_of (view_of self.old) (asked call)) }
         ensures after { OnOk result (view_of self.new ≡ record (view_of self.old) { producers = called_on (may_call (view_of self.old).calls) (asked call) (view_of self.old).producers }) }
         ensures settings { self.new.settings ≡ self.old.settings }
     {
@@ -90,7 +91,7 @@ impl Tables {
                 if !self.is_open() {
                     return Ok(Procedure::Refuse(Refusal::Shutdown));
                 }
-                self.opened(call)
+                self.opened(call, parts)
             }
         }
     }
@@ -111,9 +112,12 @@ impl Tables {
         }
     }
 
-    /// The procedure of a call that an open client makes.
-    fn opened(&mut self, call: Call) -> Result<Procedure, NoMemory>
-        ensures procedure { IfOk result (λ p. p ≡ procedure_for (view_of self.old).chosen opened_calls (view_of self.old).producers (asked call)) }
+    /// The same of a call that an open client makes.
+    fn opened(&mut self, call: Call, parts: &mut VecDeque<Act>) -> Result<Procedure, NoMemory>
+        requires open { may_call (view_of self.old).calls ≡ true }
+        requires tickets { lacks_tickets self.old.tickets (shares (asked call)) ≡ false }
+        ensures procedure { IfOk result (λ p. p ≡ procedure_for (view_of self.old).chosen (view_of self.old).calls (view_of self.old).producers (asked call)) }
+        ensures parts { OnOk result (parts.new.items ≡ parts.old.items ++ parts_of (view_of self.old) (asked call)) }
         ensures after { OnOk result (view_of self.new ≡ record (view_of self.old) { producers = opened_on (asked call) (view_of self.old).producers }) }
         ensures settings { self.new.settings ≡ self.old.settings }
     {
@@ -126,7 +130,7 @@ impl Tables {
             Call::Brokers { topic } => self.searches(Sought::Name(Topic::new(topic))),
             Call::Producer(builder) => self.produces(builder),
             Call::Send { producer, message } => self.sends(producer, message),
-            Call::SendAll { .. } => Ok(Procedure::Refuse(Refusal::UnknownTicket)),
+            Call::SendAll { producer, messages } => self.sends_all(producer, messages, parts),
             Call::Flush { producer } => Ok(self.flushes(producer)),
             Call::CheckProducer { producer } => self.checks(producer),
             Call::CloseProducer { producer } => self.closes(producer),

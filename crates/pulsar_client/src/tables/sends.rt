@@ -1,11 +1,11 @@
 //! Calls on producers: what is to be done for each.
 
-ghost use Rattle.std.specs.Prelude.{◌≡◌, ◌+◌, ◌++◌, ◌∷◌, [], IfOk, OnOk, Some, None, map};
+ghost use Rattle.std.specs.Prelude.{◌≡◌, ◌+◌, ◌++◌, ◌∷◌, [], IfOk, OnOk, Some, None, map, length, true, false};
 ghost use Rattle.pulsar_messages.specs.Content.{message_content};
 ghost use Rattle.pulsar_producer.specs.Wanted.{producer_wanted};
 ghost use Rattle.pulsar_client.specs.Kept.{producers_of};
-ghost use Rattle.pulsar_client.specs.Content.{SendAll};
-ghost use Rattle.pulsar_client.specs.Producers.{all_routed, called_on, routed, sent_on, why_not};
+ghost use Rattle.pulsar_client.specs.Content.{SendAll, lacks_tickets};
+ghost use Rattle.pulsar_client.specs.Producers.{all_routed, routed, sent_on, why_not};
 ghost use Rattle.pulsar_client.specs.Rules as rules;
 ghost use Rattle.pulsar_client.specs.Run.{goes_on};
 ghost use Rattle.pulsar_client.specs.Tables.{agenda_of, chosen_of, view_of};
@@ -99,46 +99,30 @@ impl Tables {
         })
     }
 
-    /// Messages are sent by one call, each by a ticket of its own.
+    /// Messages are sent by one call, each by a ticket of its own: those behind that of the call.
     pub(super) fn sends_all(
         &mut self,
-        ticket: u64,
         producer: u64,
         messages: Vec<Message>,
-        tasks: &mut Tasks,
-    ) -> Result<(), NoMemory>
-        ensures left { OnOk result (agenda_of tasks.new ≡ record (agenda_of tasks.old) { now = rules.sends_all (view_of self.old) ticket producer (map message_content messages.items) ++ tasks.old.now.items }) }
-        ensures sees { OnOk result (view_of self.new ≡ record (view_of self.old) { producers = called_on (may_call (view_of self.old).calls) (SendAll producer (map message_content messages.items)) (producers_of self.old.producers) }) }
+        parts: &mut VecDeque<Act>,
+    ) -> Result<Procedure, NoMemory>
+        requires open { may_call (view_of self.old).calls ≡ true }
+        requires tickets { lacks_tickets self.old.tickets (length messages.items) ≡ false }
+        ensures procedure { IfOk result (λ p. p ≡ rules.gathers (view_of self.old).calls (producers_of self.old.producers) producer (map message_content messages.items)) }
+        ensures parts { OnOk result (parts.new.items ≡ parts.old.items ++ rules.parts_of (view_of self.old) (SendAll producer (map message_content messages.items))) }
+        ensures after { OnOk result (view_of self.new ≡ record (view_of self.old) { producers = sent_on producer (map message_content messages.items) (producers_of self.old.producers) }) }
         ensures settings { self.new.settings ≡ self.old.settings }
     {
-        let who = Who::Call(ticket);
-        if let Some(refusal) = self.why_no_sends(producer) {
-            return tasks.put(Act::Starts {
-                who,
-                procedure: Procedure::Refuse(refusal),
-            });
+        if let Some(refusal) = self.why_not(producer) {
+            return Ok(Procedure::Refuse(refusal));
         }
-        let mut acts = VecDeque::new(self.alloc);
-        acts.push_back(Act::Starts {
-            who,
-            procedure: Procedure::Gather {
-                first: ticket.saturating_add(1),
-                count: messages.len() as u64,
-            },
-        })?;
-        self.shares(ticket, producer, messages, &mut acts)?;
-        tasks.put_all(acts)
-    }
-
-    /// The same of a call that is made before the client is built, or after it was stopped.
-    fn why_no_sends(&self, producer: u64) -> Option<Refusal>
-        ensures { result ≡ rules.why_no_sends (view_of self.now).calls (producers_of self.now.producers) producer }
-    {
-        if self.is_open() {
-            self.why_not(producer)
-        } else {
-            Some(Refusal::Shutdown)
-        }
+        let of = self.tickets;
+        let count = messages.len() as u64;
+        self.shares(of, producer, messages, parts)?;
+        Ok(Procedure::Gather {
+            first: of.saturating_add(1),
+            count,
+        })
     }
 
     /// The sends of a call begin in order.
@@ -147,17 +131,18 @@ impl Tables {
         of: u64,
         producer: u64,
         messages: Vec<Message>,
-        acts: &mut VecDeque<Act>,
+        parts: &mut VecDeque<Act>,
     ) -> Result<(), NoMemory>
-        ensures acts { OnOk result (acts.new.items ≡ acts.old.items ++ rules.shares_of (chosen_of self.old.settings) (producers_of self.old.producers) of (of + 1) producer (map message_content messages.items)) }
-        ensures sees { OnOk result (view_of self.new ≡ record (view_of self.old) { producers = all_routed producer (map message_content messages.items) (producers_of self.old.producers) }) }
+        requires { lacks_tickets of (length messages.items) ≡ false }
+        ensures parts { OnOk result (parts.new.items ≡ parts.old.items ++ rules.shares_of (chosen_of self.old.settings) (producers_of self.old.producers) of (of + 1) producer (map message_content messages.items)) }
+        ensures after { OnOk result (view_of self.new ≡ record (view_of self.old) { producers = all_routed producer (map message_content messages.items) (producers_of self.old.producers) }) }
         ensures settings { self.new.settings ≡ self.old.settings }
     {
         let mut ticket = of;
         for message in messages {
             ticket = ticket.saturating_add(1);
             let procedure = self.sends_as(Some(Share { of, ticket }), producer, message)?;
-            acts.push_back(Act::Starts {
+            parts.push_back(Act::Starts {
                 who: Who::Call(ticket),
                 procedure,
             })?;

@@ -16,6 +16,7 @@ pub mod Done
 pub mod Plain
 pub mod Ticketed
 pub mod Turning
+pub mod Turned
 pub mod Getting
 pub mod Rings
 pub mod Made

@@ -1,7 +1,7 @@
 -- Plain facts on lists.
 use Rattle.std.proofs.Common.{◌≡◌, ◌∙◌, ap, List, [], ◌∷◌, ◌++◌, refl, map, Bool, true, false, ◌||◌, Option, Some, None}
 use Rattle.std.proofs.lemmas.List.Elements.{filter_map-append}
-use Rattle.std.specs.List.{cons_option, filter_map, list_any}
+use Rattle.std.specs.List.{cons_option, filter_map, flat_map, list_any}
 use Rattle.std.specs.Option.{option_to_list}
 
 one_option : {B : Type 0} (r : Option B) → cons_option r [] ≡ option_to_list r
@@ -31,3 +31,7 @@ any_end test (y ∷ xs) x = ap (λ b. test y || b) (any_end test xs x) ∙ any_a
 pub map_map : {A B C : Type 0} (f : B → C) (g : A → B) (xs : List A) → map f (map g xs) ≡ map (λ x. f (g x)) xs
 map_map f g [] = refl
 map_map f g (x ∷ xs) = ap (λ ys. f (g x) ∷ ys) (map_map f g xs)
+
+pub flat_map_of : {A B C : Type 0} (f : B → List C) (g : A → B) (xs : List A) → flat_map f (map g xs) ≡ flat_map (λ x. f (g x)) xs
+flat_map_of f g [] = refl
+flat_map_of f g (x ∷ xs) = ap (λ ys. f (g x) ++ ys) (flat_map_of f g xs)

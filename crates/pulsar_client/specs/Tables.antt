@@ -1,5 +1,5 @@
 -- For the code's contracts alone: what is seen of the tables of a client, and the histories that they stand for.
-use Rattle.std.specs.Prelude.{ℕ, List, [], ◌∷◌, map, Option, None, true, false}
+use Rattle.std.specs.Prelude.{ℕ, List, [], ◌∷◌, map, Option, Some, None, true, false, if◌then◌else◌}
 use Rattle.std.specs.BTreeMap.{BTreeMap, get}
 use Rattle.std.specs.Global.{Vec}
 use Rattle.std.specs.Option.{option_map}
@@ -7,6 +7,8 @@ use Rattle.std.specs.Ordering.{nat_cmp}
 use Rattle.pulsar_messages.specs.Content.{authentication_values}
 use Rattle.pulsar_run.specs.Standing as standing
 use Rattle.pulsar_plans.specs.Address.{address_key}
+use Rattle.pulsar_client.specs.declared.act.Alarm.{Alarm}
+use Rattle.pulsar_client.specs.declared.act.Alarm.TheVariants as alarm
 use Rattle.pulsar_client.specs.declared.act.Arrival.{Arrival}
 use Rattle.pulsar_client.specs.declared.act.Who.{Who}
 use Rattle.pulsar_client.specs.declared.act.Who.TheVariants.{Call}
@@ -17,11 +19,12 @@ use Rattle.pulsar_client.specs.declared.plans.plan.Plan.{Plan}
 use Rattle.pulsar_client.specs.declared.plans.table.Plans.{Plans}
 use Rattle.pulsar_client.specs.declared.settings.Settings.{Settings}
 use Rattle.pulsar_client.specs.declared.tables.Tables.{Tables}
-use Rattle.pulsar_client.specs.Content.{Heard, Shown, heard, shown}
+use Rattle.pulsar_client.specs.Content.{Heard, Shown, Retry, heard, shown}
+use Rattle.pulsar_client.specs.Alarms.{set}
 use Rattle.pulsar_client.specs.Run.{Agenda, Step, rules}
 use Rattle.pulsar_client.specs.Kept.{addresses_of, links_in, producers_of, routing}
 use Rattle.pulsar_client.specs.Subscribers.{subscription_at}
-use Rattle.pulsar_client.specs.View.{Chosen, Seat, Tickets, Turned, View}
+use Rattle.pulsar_client.specs.View.{Chosen, Seat, Tickets, Turned, View, alarms_on, alarms_rung, base_on, delay_with, later, nobody, pause_on, pause_rung, waits_on}
 use Rattle.pulsar_client.specs.Links.{change_in}
 
 -- THE THINGS
@@ -60,6 +63,39 @@ view_of c =
 -- what a link turns whose next frame was read
 abbrev pub welcomed : (link : ℕ) → Arrival → Option Seat → Option Turned
 welcomed l a row = option_map (λ seat. record { link = l; key = address_key seat.address; change = change_in a; pause = None }) row
+
+-- what is seen where an act has turned this
+abbrev pub turned_view : Option Turned → View → View
+turned_view t v =
+    record v {
+      addresses = record { base = λ key. base_on t key (v.addresses.base key); pause = λ l. pause_on t l (v.addresses.pause l) };
+      alarms = alarms_on v.chosen v.now t v.alarms;
+    }
+
+-- behind so many retries another attempt is to follow that of a link, if one is
+abbrev pub retry_shown : Chosen → (link : ℕ) → Option ℕ → List Shown
+retry_shown o l None = []
+retry_shown o l (Some n) = Retry l (delay_with o l n) ∷ []
+
+abbrev pub retry_set : Chosen → (now link : ℕ) → Option ℕ → List (Alarm × ℕ) → List (Alarm × ℕ)
+retry_set o now l None alarms = alarms
+retry_set o now l (Some n) alarms = set (alarm.Retry l) (later now (delay_with o l n)) alarms
+
+-- what is seen where an alarm has rung
+abbrev pub rung_view : Alarm → View → View
+rung_view a v =
+    record v {
+      addresses = record { base = v.addresses.base; pause = λ l. pause_rung true a l (v.addresses.pause l) };
+      alarms = alarms_rung v.chosen v.now a v.alarms;
+    }
+
+-- and where none is set any more
+abbrev pub unset_view : View → View
+unset_view v =
+    record v {
+      addresses = record { base = λ key. if waits_on v.addresses v.alarms key then nobody else v.addresses.base key; pause = λ l. None };
+      alarms = [];
+    }
 
 -- WHAT IS LEFT TO DO
 

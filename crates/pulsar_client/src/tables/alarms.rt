@@ -1,16 +1,14 @@
 //! Alarms that ring, and the stop of all.
 
 ghost use Rattle.std.specs.List.{flat_map, list_any};
-ghost use Rattle.std.specs.Prelude.{◌≡◌, ◌==◌, ◌++◌, [], ℕ, List, map, IfOk, None, OnOk, true, if◌then◌else◌};
+ghost use Rattle.std.specs.Prelude.{◌≡◌, ◌++◌, ℕ, List, map, IfOk, OnOk, if◌then◌else◌};
 ghost use Rattle.pulsar_run.specs.Order.{arranged};
-ghost use Rattle.pulsar_client.specs.Alarms.{clear, set};
-ghost use Rattle.pulsar_client.specs.Content.{Retry};
-ghost use Rattle.pulsar_client.specs.Kept.{AreTicketed, addresses_of, base_at, pause_at};
+ghost use Rattle.pulsar_client.specs.Kept.{AreTicketed, addresses_of, base_at};
 ghost use Rattle.pulsar_client.specs.Rules.{below, opens, rung, stopped_with, woken};
 ghost use Rattle.pulsar_client.specs.Run.{goes_on};
 ghost use Rattle.pulsar_client.specs.Subscribers.{subscription_at};
-ghost use Rattle.pulsar_client.specs.Tables.{agenda_of, chosen_of, view_of};
-ghost use Rattle.pulsar_client.specs.View.{after, alarms_rung, is_to_follow, later, nobody, waits_on};
+ghost use Rattle.pulsar_client.specs.Tables.{agenda_of, rung_view, unset_view, view_of};
+ghost use Rattle.pulsar_client.specs.View.{after, is_to_follow, later, nobody};
 
 use crate::act::{Act, Action, Alarm, LinkAct, Notice, Outcome, Part, Who};
 use crate::addresses::{Addresses, Pause};
@@ -42,10 +40,7 @@ impl Tables {
     /// The attempt that was to follow that of a link is made.
     fn tries_again(&mut self, link: u64, tasks: &mut Tasks) -> Result<(), NoMemory>
         ensures left { OnOk result (agenda_of tasks.new ≡ record (agenda_of tasks.old) { now = rung (view_of self.old) (Alarm.Retry link) ++ tasks.old.now.items }) }
-        ensures alarms { OnOk result (self.new.alarms ≡ clear (Alarm.Retry link) self.old.alarms) }
-        ensures bases { OnOk result (self.new.addresses.bases ≡ self.old.addresses.bases) }
-        ensures pauses { OnOk result ((l : ℕ) → pause_at self.new.addresses.pauses l ≡ (if l == link then None else pause_at self.old.addresses.pauses l)) }
-        ensures sees { OnOk result (view_of self.new ≡ record (view_of self.old) { addresses = addresses_of self.new.addresses; alarms = self.new.alarms }) }
+        ensures sees { OnOk result (view_of self.new ≡ rung_view (Alarm.Retry link) (view_of self.old)) }
         ensures settings { self.new.settings ≡ self.old.settings }
     {
         self.alarms.clear(Alarm::Retry(link))?;
@@ -67,8 +62,7 @@ impl Tables {
     /// One has waited.
     fn wakes(&mut self, who: Who, tasks: &mut Tasks) -> Result<(), NoMemory>
         ensures left { OnOk result (agenda_of tasks.new ≡ record (agenda_of tasks.old) { behind = (agenda_of tasks.old).behind ++ map (arranged below) (opens (woken (Alarm.Wake who))) }) }
-        ensures alarms { OnOk result (self.new.alarms ≡ clear (Alarm.Wake who) self.old.alarms) }
-        ensures sees { OnOk result (view_of self.new ≡ record (view_of self.old) { alarms = self.new.alarms }) }
+        ensures sees { OnOk result (view_of self.new ≡ rung_view (Alarm.Wake who) (view_of self.old)) }
         ensures settings { self.new.settings ≡ self.old.settings }
     {
         self.alarms.clear(Alarm::Wake(who))?;
@@ -83,8 +77,7 @@ impl Tables {
     /// A link is asked for a sign of life, unless the earlier ping still waits.
     fn keeps_alive(&mut self, link: u64, tasks: &mut Tasks) -> Result<(), NoMemory>
         ensures left { OnOk result (agenda_of tasks.new ≡ record (agenda_of tasks.old) { now = rung (view_of self.old) (Alarm.KeepAlive link) ++ tasks.old.now.items }) }
-        ensures alarms { OnOk result (self.new.alarms ≡ alarms_rung (chosen_of self.old.settings) self.old.clock (Alarm.KeepAlive link) self.old.alarms) }
-        ensures sees { OnOk result (view_of self.new ≡ record (view_of self.old) { alarms = self.new.alarms }) }
+        ensures sees { OnOk result (view_of self.new ≡ rung_view (Alarm.KeepAlive link) (view_of self.old)) }
         ensures settings { self.new.settings ≡ self.old.settings }
     {
         let moment = later(self.clock, self.settings.connection.keep_alive);
@@ -101,8 +94,7 @@ impl Tables {
     /// Links that nothing uses end.
     fn checks_idle(&mut self, tasks: &mut Tasks) -> Result<(), NoMemory>
         ensures left { OnOk result (AreTicketed self.old.tickets (subscription_at self.old.subscribers) → agenda_of tasks.new ≡ record (agenda_of tasks.old) { now = rung (view_of self.old) Alarm.CheckIdle ++ tasks.old.now.items }) }
-        ensures alarms { OnOk result (self.new.alarms ≡ alarms_rung (chosen_of self.old.settings) self.old.clock Alarm.CheckIdle self.old.alarms) }
-        ensures sees { OnOk result (view_of self.new ≡ record (view_of self.old) { alarms = self.new.alarms }) }
+        ensures sees { OnOk result (view_of self.new ≡ rung_view Alarm.CheckIdle (view_of self.old)) }
         ensures settings { self.new.settings ≡ self.old.settings }
     {
         self.alarms
@@ -131,10 +123,7 @@ impl Tables {
     /// No alarm is set any more: those who wait for a moment, or for an attempt that is to follow.
     fn stop_alarms(&mut self) -> Result<Vec<Notice>, NoMemory>
         ensures notices { IfOk result (λ ns. ns.items ≡ flat_map (λ e. stopped_with (addresses_of self.old.addresses) e.0) self.old.alarms) }
-        ensures alarms { OnOk result (self.new.alarms ≡ []) }
-        ensures bases { OnOk result ((key : List ℕ) → base_at self.new.addresses.bases key ≡ (if waits_on (addresses_of self.old.addresses) self.old.alarms key then nobody else base_at self.old.addresses.bases key)) }
-        ensures pauses { OnOk result ((l : ℕ) → pause_at self.new.addresses.pauses l ≡ None) }
-        ensures sees { OnOk result (view_of self.new ≡ record (view_of self.old) { addresses = addresses_of self.new.addresses; alarms = self.new.alarms }) }
+        ensures sees { OnOk result (view_of self.new ≡ unset_view (view_of self.old)) }
         ensures settings { self.new.settings ≡ self.old.settings }
     {
         let all = self.alarms.all()?;
@@ -165,14 +154,16 @@ fn stop_one(addresses: &Addresses, alarm: Alarm, notices: &mut Vec<Notice>) -> R
     ensures { OnOk result (notices.new.items ≡ notices.old.items ++ stopped_with (addresses_of addresses.now) alarm) }
 {
     match alarm {
-        Alarm::Retry(link) => addresses.stop(link, notices)?,
-        Alarm::Wake(who) => notices.push(Notice {
-            who,
-            outcome: Outcome::Stopped,
-        })?,
-        Alarm::KeepAlive(_) | Alarm::CheckIdle => {}
+        Alarm::Retry(link) => addresses.stop(link, notices),
+        Alarm::Wake(who) => {
+            notices.push(Notice {
+                who,
+                outcome: Outcome::Stopped,
+            })?;
+            Ok(())
+        }
+        Alarm::KeepAlive(_) | Alarm::CheckIdle => Ok(()),
     }
-    Ok(())
 }
 
 /// Nobody waits for an attempt that was to follow.
@@ -181,11 +172,19 @@ fn forget_all(addresses: &mut Addresses, alarms: &[Alarm]) -> Result<(), NoMemor
     ensures pauses { OnOk result (addresses.new.pauses ≡ addresses.old.pauses) }
 {
     for alarm in alarms {
-        if let Alarm::Retry(link) = alarm {
-            addresses.forget(*link)?;
-        }
+        forget_one(addresses, *alarm)?;
     }
     Ok(())
+}
+
+fn forget_one(addresses: &mut Addresses, alarm: Alarm) -> Result<(), NoMemory>
+    ensures bases { OnOk result ((key : List ℕ) → base_at addresses.new.bases key ≡ (if is_to_follow (addresses_of addresses.old) key alarm then nobody else base_at addresses.old.bases key)) }
+    ensures pauses { OnOk result (addresses.new.pauses ≡ addresses.old.pauses) }
+{
+    match alarm {
+        Alarm::Retry(link) => addresses.forget(link),
+        Alarm::Wake(_) | Alarm::KeepAlive(_) | Alarm::CheckIdle => Ok(()),
+    }
 }
 
 /// How often the links are looked at that nothing uses, in milliseconds.

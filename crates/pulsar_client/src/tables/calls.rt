@@ -1,6 +1,6 @@
 //! Calls and their plans.
 
-ghost use Rattle.std.specs.Prelude.{◌≡◌, ◌==◌, ◌++◌, ◌∷◌, ℕ, map, IfOk, None, OnOk, string_bytes, true, false, if◌then◌else◌};
+ghost use Rattle.std.specs.Prelude.{◌≡◌, ◌==◌, ◌++◌, ◌∷◌, map, IfOk, None, OnOk, string_bytes, true, false, if◌then◌else◌};
 ghost use Rattle.pulsar_client.specs.Alarms.{set};
 ghost use Rattle.pulsar_client.specs.Content.{asked, lacks_tickets, shares, shown};
 ghost use Rattle.pulsar_client.specs.Effects.{effects};
@@ -9,7 +9,6 @@ ghost use Rattle.pulsar_link.specs.Request.{named_producer};
 ghost use Rattle.pulsar_client.specs.Producers.{called_on, names_in, opened_on};
 ghost use Rattle.pulsar_client.specs.Rules.{asks_raw, asks_topics, builds_with, does, follows, from_base, notice, parts_of, procedure_for, searches, unless_refused};
 ghost use Rattle.pulsar_client.specs.Run.{goes_on, ticket_for};
-ghost use Rattle.pulsar_client.specs.Subscribers.{subscription_at};
 ghost use Rattle.pulsar_client.specs.Tables.{agenda_of, chosen_of, stand_of, view_of};
 ghost use Rattle.pulsar_client.specs.View.{after, builds, later, may_call, stays, ways_of};
 ghost use Rattle.pulsar_client.specs.Who.{is_same};

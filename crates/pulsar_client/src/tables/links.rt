@@ -1,17 +1,16 @@
 //! What comes to links.
 
 ghost use Rattle.std.specs.Option.{option_map};
-ghost use Rattle.std.specs.Prelude.{◌≡◌, ◌++◌, ◌∷◌, [], ℕ, List, map, OnOk};
-ghost use Rattle.pulsar_client.specs.Alarms.{clear, set};
-ghost use Rattle.pulsar_client.specs.Content.{Retry, shown};
+ghost use Rattle.std.specs.Prelude.{◌≡◌, ◌++◌, ◌∷◌, [], ℕ, map, OnOk};
+ghost use Rattle.pulsar_client.specs.Content.{shown};
 ghost use Rattle.pulsar_client.specs.Effects.{effects};
-ghost use Rattle.pulsar_client.specs.Kept.{addresses_of, base_at, live_in, pause_at};
+ghost use Rattle.pulsar_client.specs.Kept.{addresses_of, live_in};
 ghost use Rattle.pulsar_client.specs.Rules.{breaks_at, reads_on, served_on, waiters_of};
 ghost use Rattle.pulsar_client.specs.Run.{goes_on};
 ghost use Rattle.pulsar_client.specs.Subscribers.{subscription_at};
 ghost use Rattle.pulsar_client.specs.Subscriptions.{hears};
-ghost use Rattle.pulsar_client.specs.Tables.{agenda_of, chosen_of, view_of, welcomed};
-ghost use Rattle.pulsar_client.specs.View.{after, alarms_on, base_on, delay_with, later};
+ghost use Rattle.pulsar_client.specs.Tables.{agenda_of, chosen_of, retry_set, retry_shown, turned_view, view_of, welcomed};
+ghost use Rattle.pulsar_client.specs.View.{after};
 
 use crate::act::{Act, Alarm, Arrival, End, LinkAct, Notice, Part, Who};
 use crate::address::connect;
@@ -85,10 +84,7 @@ impl Tables {
         notices: &mut Vec<Notice>,
     ) -> Result<(), NoMemory>
         ensures notices { OnOk result (notices.new.items ≡ notices.old.items ++ waiters_of served_on (addresses_of self.old.addresses) (welcomed link arrival.now (live_in self.old.links.live link))) }
-        ensures bases { OnOk result ((key : List ℕ) → base_at self.new.addresses.bases key ≡ base_on (welcomed link arrival.now (live_in self.old.links.live link)) key (base_at self.old.addresses.bases key)) }
-        ensures pauses { OnOk result ((l : ℕ) → pause_at self.new.addresses.pauses l ≡ pause_at self.old.addresses.pauses l) }
-        ensures alarms { OnOk result (self.new.alarms ≡ alarms_on (chosen_of self.old.settings) self.old.clock (welcomed link arrival.now (live_in self.old.links.live link)) self.old.alarms) }
-        ensures sees { OnOk result (view_of self.new ≡ record (view_of self.old) { addresses = addresses_of self.new.addresses; alarms = self.new.alarms }) }
+        ensures sees { OnOk result (view_of self.new ≡ turned_view (welcomed link arrival.now (live_in self.old.links.live link)) (view_of self.old)) }
         ensures settings { self.new.settings ≡ self.old.settings }
     {
         match arrival {
@@ -103,10 +99,7 @@ impl Tables {
 
     fn readied(&mut self, link: u64, notices: &mut Vec<Notice>) -> Result<(), NoMemory>
         ensures notices { OnOk result (notices.new.items ≡ notices.old.items ++ waiters_of served_on (addresses_of self.old.addresses) (welcomed link Arrival.Readied (live_in self.old.links.live link))) }
-        ensures bases { OnOk result ((key : List ℕ) → base_at self.new.addresses.bases key ≡ base_on (welcomed link Arrival.Readied (live_in self.old.links.live link)) key (base_at self.old.addresses.bases key)) }
-        ensures pauses { OnOk result ((l : ℕ) → pause_at self.new.addresses.pauses l ≡ pause_at self.old.addresses.pauses l) }
-        ensures alarms { OnOk result (self.new.alarms ≡ alarms_on (chosen_of self.old.settings) self.old.clock (welcomed link Arrival.Readied (live_in self.old.links.live link)) self.old.alarms) }
-        ensures sees { OnOk result (view_of self.new ≡ record (view_of self.old) { addresses = addresses_of self.new.addresses; alarms = self.new.alarms }) }
+        ensures sees { OnOk result (view_of self.new ≡ turned_view (welcomed link Arrival.Readied (live_in self.old.links.live link)) (view_of self.old)) }
         ensures settings { self.new.settings ≡ self.old.settings }
     {
         let Some(address) = self.links.address(link)? else {
@@ -170,19 +163,24 @@ impl Tables {
         self.alarms.clear(Alarm::KeepAlive(link))?;
         let most = self.settings.connection.max_retries;
         let again = self.addresses.end(address, link, &end, most, &mut notices)?;
-        if let Some(retries) = again {
-            self.pauses(link, retries, out)?;
-        }
+        self.pauses(link, again, out)?;
         tasks.open(notices)
     }
 
-    /// Another attempt is to follow that of a link.
-    fn pauses(&mut self, link: u64, retries: u32, out: &mut Vec<Effect>) -> Result<(), NoMemory>
-        ensures out { OnOk result (map shown out.new.items ≡ map shown out.old.items ++ Retry link (delay_with (chosen_of self.old.settings) link retries) ∷ []) }
-        ensures alarms { OnOk result (self.new.alarms ≡ set (Alarm.Retry link) (later self.old.clock (delay_with (chosen_of self.old.settings) link retries)) self.old.alarms) }
-        ensures sees { OnOk result (view_of self.new ≡ record (view_of self.old) { alarms = self.new.alarms }) }
+    /// Another attempt is to follow that of a link, behind so many retries, if one is.
+    fn pauses(
+        &mut self,
+        link: u64,
+        again: Option<u32>,
+        out: &mut Vec<Effect>,
+    ) -> Result<(), NoMemory>
+        ensures out { OnOk result (map shown out.new.items ≡ map shown out.old.items ++ retry_shown (chosen_of self.old.settings) link again) }
+        ensures sees { OnOk result (view_of self.new ≡ record (view_of self.old) { alarms = retry_set (chosen_of self.old.settings) self.old.clock link again self.old.alarms }) }
         ensures settings { self.new.settings ≡ self.old.settings }
     {
+        let Some(retries) = again else {
+            return Ok(());
+        };
         let delay = self.settings.delay(link, retries);
         out.push(Effect::Retry { link, delay })?;
         self.alarms

@@ -1,0 +1,10 @@
+use Rattle.std.proofs.Common.{◌≡◌, ◌∙◌, ◌++◌, ap}
+use Rattle.std.proofs.lemmas.Result.{on_ok_weaker}
+use Rattle.pulsar_client.specs.Tables.{agenda_of}
+use Rattle.pulsar_client.proofs.tables.Tables.checks_idle.Goals as goal
+
+pub returns-clause-left : goal.returns-clause-left
+returns-clause-left c =
+    let g = agenda_of c.args.tasks.now in
+    on_ok_weaker c.put_all.result
+    (λ left. λ ticketed. left ∙ ap (λ acts. record g { now = acts ++ g.now }) (c.in_ok-acts.ensures c.args.self.now.tickets ticketed)) c.put_all.ensures

@@ -3,11 +3,10 @@
 ghost use Rattle.std.specs.Prelude.{◌≡◌};
 
 use pulsar_client::{CustomRoutingPolicy, Message};
-use std::alloc::{AllocError, Global};
 
 /// Every message goes to the second partition.
 #[derive(Drop)]
-struct Second;
+pub struct Second;
 
 impl CustomRoutingPolicy for Second {
     ghost routes = { λ _ _ _. 1 };
@@ -15,11 +14,4 @@ impl CustomRoutingPolicy for Second {
     fn route(&self, _message: &Message, _num_producers: usize) -> usize {
         1
     }
-}
-
-/// The policies of the program's client.
-pub fn policies(alloc: Global) -> Result<Vec<Box<dyn CustomRoutingPolicy>>, AllocError> {
-    let mut policies: Vec<Box<dyn CustomRoutingPolicy>> = Vec::new(alloc);
-    policies.push(Box::new(alloc, Second)?)?;
-    Ok(policies)
 }

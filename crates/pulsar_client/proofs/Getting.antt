@@ -1,22 +1,17 @@
 -- One who wants a link of an address: it waits, unless a link serves already.
-use Rattle.std.proofs.Common.{◌≡◌, ◌∙◌, ap, sym, ℕ, Bool, true, false, cond, ◌&&◌, List, [], ◌∷◌, ◌++◌, refl, map, Option, Some, None, inl, inr, bytes_eq}
+use Rattle.std.proofs.Common.{◌≡◌, ◌∙◌, ap, sym, ℕ, Bool, true, false, cond, ◌&&◌, List, [], ◌∷◌, ◌++◌, refl, Option, Some, None, inl, inr, bytes_eq}
 use Rattle.std.proofs.lemmas.Bool.{cases_Bool}
-use Rattle.std.proofs.lemmas.List.{append-nil}
 use Rattle.std.proofs.lemmas.Slice.Eq.{bytes_eq-Decides}
 use Rattle.pulsar_plans.specs.Address.{Place, address_key, is_reachable}
-use Rattle.pulsar_client.specs.declared.act.Act.{Act}
 use Rattle.pulsar_client.specs.declared.act.Act.TheVariants.{Does}
 use Rattle.pulsar_client.specs.declared.act.Action.TheVariants.{Get}
-use Rattle.pulsar_client.specs.declared.act.Outcome.TheVariants as outcome
 use Rattle.pulsar_client.specs.declared.act.Who.{Who}
 use Rattle.pulsar_client.specs.declared.addresses.Series.{Series}
-use Rattle.pulsar_client.specs.declared.addresses.Series.TheVariants.{Nobody, Runs, Pauses, Serves}
-use Rattle.pulsar_client.specs.Rules.{gets, gets_from, tells}
-use Rattle.pulsar_client.specs.Run.{Agenda, goes_on}
+use Rattle.pulsar_client.specs.declared.addresses.Series.TheVariants.{Serves}
 use Rattle.pulsar_client.specs.View.{Base, View, after, base_waiting, got_at, serving, waits_for}
 
 -- waits where none serves yet
-abbrev serves : Series → Bool
+abbrev pub serves : Series → Bool
 serves (Serves l) = true
 serves _ = false
 
@@ -27,7 +22,7 @@ waits_so _ who ws h = refl
 same_key : (a b : List ℕ) → bytes_eq a b ≡ true → a ≡ b
 same_key a b h = (bytes_eq-Decides a b).0 h
 
-pub got_waits : (base : List ℕ → Base) (who : Who) (at key : List ℕ) → serves (base at).series ≡ false →
+got_waits : (base : List ℕ → Base) (who : Who) (at key : List ℕ) → serves (base at).series ≡ false →
     cond (bytes_eq at key) (base_waiting who (base key)) (base key)
     ≡ cond (bytes_eq at key) (record { series = (base key).series; waiting = waits_for (base key).series who (base key).waiting }) (base key)
 got_waits base who at key h = elim (cases_Bool (bytes_eq at key)) [
@@ -37,7 +32,7 @@ got_waits base who at key h = elim (cases_Bool (bytes_eq at key)) [
   | inr e ↦ rw e refl
 ]
 
-pub got_served : (base : List ℕ → Base) (who : Who) (at key : List ℕ) (l : ℕ) → (base at).series ≡ Serves l →
+got_served : (base : List ℕ → Base) (who : Who) (at key : List ℕ) (l : ℕ) → (base at).series ≡ Serves l →
     base key ≡ cond (bytes_eq at key) (record { series = (base key).series; waiting = waits_for (base key).series who (base key).waiting }) (base key)
 got_served base who at key l h = elim (cases_Bool (bytes_eq at key)) [
   | inl e ↦
@@ -89,17 +84,3 @@ module _ (v : View) (who : Who) (p : Place) where
         addresses = record { base = λ key. got_served v.addresses.base who (address_key p) key l is i; pause = v.addresses.pause };
       })
       ∙ ap (λ s. got_view true (serving s) v who p) (sym is) ∙ reached h
-
-  pub get_fails : is_reachable p ≡ false → v ≡ after (Does who (Get p)) v
-  get_fails h = sym (ap (λ b. got_view b (cond b (serving series) None) v who p) h)
-
-  -- what is left to do
-  pub get_left : (xs : List Act) (g : Agenda) → gets who p series ≡ xs → record g { now = xs ++ g.now } ≡ goes_on v (Does who (Get p)) g
-  get_left xs g h = sym (
-    (λ i. record { now = h i ++ g.now; here = g.here; behind = append-nil g.behind i; parts = g.parts }))
-
-  pub gets_so : (s : Series) → is_reachable p ≡ true → series ≡ s → gets who p series ≡ gets_from who p s
-  gets_so s h is = ap (λ b. cond b (gets_from who p series) (tells who outcome.NotFound)) h ∙ ap (gets_from who p) is
-
-  pub gets_none : is_reachable p ≡ false → gets who p series ≡ tells who outcome.NotFound
-  gets_none h = ap (λ b. cond b (gets_from who p series) (tells who outcome.NotFound)) h

@@ -1,5 +1,5 @@
 -- Links that nothing uses, and what their ends are.
-use Rattle.std.proofs.Common.{◌≡◌, ◌≤◌, ◌<◌, ◌+◌, ◌==◌, ◌∙◌, ℕ, zero, suc, ◌&&◌, ◌||◌, not, nat_lt, ◌↔◌, sym, ap, subst, refl, arith, Bool, true, false, List, [], ◌∷◌, ◌++◌, Option, Some, None, inl, inr}
+use Rattle.std.proofs.Common.{◌≡◌, ◌≤◌, ◌<◌, ◌+◌, ◌==◌, ◌∙◌, ℕ, zero, suc, ◌&&◌, ◌||◌, not, nat_lt, ◌↔◌, sym, ap, refl, arith, Bool, true, false, List, [], ◌∷◌, ◌++◌, Option, Some, None, inl, inr}
 use Rattle.std.proofs.lemmas.Bool.{cases_Bool, cases_lt, false≢true, or_right}
 use Rattle.std.proofs.lemmas.Bool.Decides.{nat_tests}
 use Rattle.std.proofs.lemmas.Cmp.{nat_cmp_total}
@@ -53,13 +53,13 @@ module _ (consumers : ℕ → Option Subscription) (drawn l : ℕ) (ticketed : A
         let one = one_number (λ t. is_heard_at l (consumers t)) 0 drawn y in
         h.1 (one.0, same_test l (consumers one.0) ∙ one.1) ∙ sym y)
     | inr n ↦ elim (cases_Bool b) [
-        | inl y ↦ (
-            let one = h.0 y in
-            let there : is_heard_at l (consumers one.0) ≡ true = sym (same_test l (consumers one.0)) ∙ one.1 in
-            let below : one.0 < drawn = ticket_below one.0 there in
-            absurd (false≢true (sym n ∙ any_number (λ t. is_heard_at l (consumers t)) 0 drawn one.0 (omega arith) (omega arith) there)))
-        | inr m ↦ (m ∙ sym n)
-      ]
+      | inl y ↦ (
+          let one = h.0 y in
+          let there : is_heard_at l (consumers one.0) ≡ true = sym (same_test l (consumers one.0)) ∙ one.1 in
+          let below : one.0 < drawn = ticket_below one.0 there in
+          absurd (false≢true (sym n ∙ any_number (λ t. is_heard_at l (consumers t)) 0 drawn one.0 (omega arith) (omega arith) there)))
+      | inr m ↦ (m ∙ sym n)
+    ]
   ]
 
 -- a link rests, and none hears on it

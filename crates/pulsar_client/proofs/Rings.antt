@@ -1,5 +1,5 @@
 -- What an alarm leaves to do, and what is seen after it, by whether it rings.
-use Rattle.std.proofs.Common.{◌≡◌, ◌∙◌, ap, sym, ℕ, Bool, true, false, cond, List, [], ◌∷◌, ◌++◌, refl, map, Option}
+use Rattle.std.proofs.Common.{◌≡◌, ◌∙◌, ap, sym, ℕ, Bool, true, false, cond, [], ◌++◌, refl, map, Option}
 use Rattle.std.proofs.lemmas.List.{append-nil}
 use Rattle.pulsar_run.specs.Order.{arranged}
 use Rattle.pulsar_client.specs.declared.act.Act.TheVariants.{Comes}

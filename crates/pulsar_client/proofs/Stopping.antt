@@ -54,7 +54,7 @@ use Rattle.pulsar_client.specs.Content as content
 use Rattle.pulsar_client.specs.Content.{Asked, Bytes, Heard}
 use Rattle.pulsar_client.specs.Laws.{NoneAfterStop, stopped}
 use Rattle.pulsar_client.specs.Links.{line_places, numbers_from}
-use Rattle.pulsar_client.specs.Plan.{begins, fails, goes, news_in, told, verdict}
+use Rattle.pulsar_client.specs.Plan.{fails, goes, news_in, told, verdict}
 use Rattle.pulsar_client.specs.Rules.{asks_topics, at_once, below, builds_with, called, causes, dropped, ended_on, failed_at, failed_on, failed_over, follows, follows_some, from_base, is_open, lost, notice, on_link, opens, over_links, procedure_for, searches, stop_act, stopped_at, stopped_with, tells, tells_asker, unless_refused, waiters_of}
 use Rattle.pulsar_client.specs.Run.{Agenda, Entry, Begins, Then, IsRun, agenda, first, rules, view}
 use Rattle.pulsar_client.specs.View.{Addresses, Base, Chosen, Links, Seat, Tickets, View, alarms_after, alarms_built, alarms_on, alarms_over, begun, begun_live, builds, calls_after, got_at, is_live, link_got, live_after, live_begun, pause_after, pause_of, pause_on, pause_put, pause_rung, told_some, took_some, turned_by, ways_of}

@@ -1,5 +1,5 @@
 -- A call that begins has a ticket that was drawn, and never the greatest; and a consumer has that of a call that began.
-use Rattle.std.proofs.Common.{◌≡◌, ◌∙◌, sym, ap, subst, ℕ, ◌+◌, ◌<◌, arith, List, [], ◌∷◌, ◌++◌, refl, Bool, true, false, cond, ◌==◌, Option, Some, None, inl, inr}
+use Rattle.std.proofs.Common.{◌≡◌, ◌∙◌, sym, ap, subst, ℕ, ◌+◌, ◌<◌, arith, List, [], ◌∷◌, ◌++◌, refl, true, false, cond, ◌==◌, Option, Some, None, inl, inr}
 use Rattle.std.proofs.lemmas.Bool.{cases_Bool, eqb-true}
 use Rattle.std.specs.Option.{option_map}
 use Rattle.pulsar_run.specs.Run.{rest}
@@ -231,7 +231,7 @@ no_row None none = refl
 no_row (Some x) none = absurd (none x refl)
 
 -- no consumer has a ticket that was not drawn yet
-pub are_ticketed : (o : Chosen) (log : List Entry) → IsRun o log → AreTicketed (view o log).calls.drawn (view o log).consumers
+are_ticketed : (o : Chosen) (log : List Entry) → IsRun o log → AreTicketed (view o log).calls.drawn (view o log).consumers
 are_ticketed o log run t h = no_row ((view o log).consumers t) (λ s is.
     let d : t < (view o log).calls.drawn = ((is_ticketed o log run).consumers t s is).1 in
     omega (arith, d, h))

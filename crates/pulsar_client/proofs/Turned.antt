@@ -1,5 +1,5 @@
 -- What is seen and left behind an act on a link, by what it turns.
-use Rattle.std.proofs.Common.{◌≡◌, ◌∙◌, ◌==◌, ap, sym, ℕ, Bool, true, false, cond, List, [], ◌∷◌, ◌++◌, refl, Option, Some, None, Result, Ok, Err, OnOk}
+use Rattle.std.proofs.Common.{◌≡◌, ◌∙◌, ◌==◌, ap, sym, ℕ, cond, List, [], refl, Option, Some, None, Result, Ok, Err, OnOk}
 use Rattle.std.specs.Option.{option_map}
 use Rattle.pulsar_plans.specs.Address.{Place}
 use Rattle.pulsar_client.specs.declared.act.Act.TheVariants.{Comes}

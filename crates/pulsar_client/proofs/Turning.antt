@@ -1,26 +1,20 @@
 -- What an act turns: nothing where its link stays as it is, and else its address, the attempt that is to follow, and the alarms.
-use Rattle.std.proofs.Common.{◌≡◌, ◌∙◌, ap, sym, subst, ℕ, Bool, true, false, cond, List, [], ◌∷◌, ◌++◌, refl, Option, Some, None, bytes_eq}
+use Rattle.std.proofs.Common.{◌≡◌, ◌∙◌, ap, sym, ℕ, Bool, true, false, cond, List, [], ◌++◌, refl, Option, Some, None, bytes_eq}
 use Rattle.std.proofs.lemmas.List.{append-nil}
 use Rattle.std.specs.Option.{option_map}
 use Rattle.pulsar_plans.specs.Address.{Place, address_key}
 use Rattle.pulsar_session.specs.Failures.{Fault}
 use Rattle.pulsar_client.specs.declared.act.Alarm.{Alarm}
-use Rattle.pulsar_client.specs.declared.act.Alarm.TheVariants.{Retry as Retries}
 use Rattle.pulsar_client.specs.declared.act.Arrival.{Arrival}
 use Rattle.pulsar_client.specs.declared.act.End.{End}
 use Rattle.pulsar_client.specs.declared.act.LinkAct.{LinkAct}
 use Rattle.pulsar_client.specs.declared.act.LinkAct.TheVariants.{Opens, Reads, Drains, Pings, Ends}
-use Rattle.pulsar_client.specs.declared.act.Notice.{Notice}
-use Rattle.pulsar_client.specs.declared.act.Who.{Who}
 use Rattle.pulsar_client.specs.declared.addresses.Pause.{Pause}
-use Rattle.pulsar_client.specs.Alarms.{set}
-use Rattle.pulsar_client.specs.Content.{Shown, Retry}
 use Rattle.pulsar_client.specs.Effects.{retries, retries_on}
-use Rattle.pulsar_client.specs.Links.{Change, Remains, IsOver, change_at, change_in}
+use Rattle.pulsar_client.specs.Links.{Remains, IsOver, change_at, change_in}
 use Rattle.pulsar_client.specs.Rules.{ended_on, failed_on, waiters_of}
-use Rattle.pulsar_client.specs.Subscriptions.{Subscription, ended_at}
 use Rattle.pulsar_client.specs.Tables.{welcomed}
-use Rattle.pulsar_client.specs.View.{Addresses, Base, Chosen, Seat, Turned, alarms_on, alarms_over, arrival_at, base_on, base_turned, closing, delay_with, later, may_retry, pause_of, pause_on, pause_for, pause_with, took_some, turned_by}
+use Rattle.pulsar_client.specs.View.{Addresses, Base, Chosen, Seat, Turned, alarms_on, arrival_at, base_on, base_turned, closing, pause_of, pause_on, pause_for, took_some, turned_by}
 
 -- NOTHING IS TURNED
 
@@ -118,29 +112,6 @@ turned_end o known now l end (Some seat) p cause h e =
       pause = pause_for o (Ends end) (change_at c) seat.address (known.base (address_key seat.address)).series;
     })) h
     ∙ ap (λ q. Some (record { link = l; key = address_key q; change = IsOver; pause = pause_of o end q (known.base (address_key q)).series })) is
-
--- the attempt that is to follow, by the retries so far
-abbrev count_of : Option (Who × ℕ) → Option ℕ
-count_of w = option_map (λ w. w.1) w
-
-pub again_shown : (o : Chosen) (l : ℕ) (p : Place) (w : Option (Who × ℕ)) (n : ℕ) → Some n ≡ count_of w →
-    retries o l (option_map (pause_with p) w) ≡ Retry l (delay_with o l n) ∷ []
-again_shown o l p None n h = absurd cc
-again_shown o l p (Some w) n h = let e : w.1 ≡ n = cc in ap (λ m. Retry l (delay_with o l m) ∷ []) e
-
-pub never_shown : (o : Chosen) (l : ℕ) (p : Place) (w : Option (Who × ℕ)) → None ≡ count_of w → retries o l (option_map (pause_with p) w) ≡ []
-never_shown o l p None h = refl
-never_shown o l p (Some w) h = absurd cc
-
-pub again_set : (o : Chosen) (now l : ℕ) (p : Place) (w : Option (Who × ℕ)) (n : ℕ) (alarms : List (Alarm × ℕ)) → Some n ≡ count_of w →
-    alarms_over o now l (option_map (pause_with p) w) alarms ≡ set (Retries l) (later now (delay_with o l n)) alarms
-again_set o now l p None n alarms h = absurd cc
-again_set o now l p (Some w) n alarms h = let e : w.1 ≡ n = cc in ap (λ m. set (Retries l) (later now (delay_with o l m)) alarms) e
-
-pub never_set : (o : Chosen) (now l : ℕ) (p : Place) (w : Option (Who × ℕ)) (alarms : List (Alarm × ℕ)) → None ≡ count_of w →
-    alarms_over o now l (option_map (pause_with p) w) alarms ≡ alarms
-never_set o now l p None alarms h = refl
-never_set o now l p (Some w) alarms h = absurd cc
 
 -- LISTS OF EFFECTS
 

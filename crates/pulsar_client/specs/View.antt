@@ -1,5 +1,5 @@
 -- What is seen of a run, and what an act makes of it: one small function for each field.
-use Rattle.std.specs.Prelude.{ℕ, ◌+◌, ◌==◌, bytes_eq, nat_le, nat_lt, ◌&&◌, not, Bool, true, false, if◌then◌else◌, List, [], ◌∷◌, ◌++◌, map, Option, Some, None, Result, Ok, Err, ◌≡◌, ◌⊎◌}
+use Rattle.std.specs.Prelude.{ℕ, ◌+◌, ◌==◌, bytes_eq, nat_le, nat_lt, ◌&&◌, not, Bool, true, false, if◌then◌else◌, List, [], ◌∷◌, ◌++◌, Option, Some, None, Result, Ok, Err, ◌≡◌, ◌⊎◌}
 use Rattle.std.specs.List.{list_any}
 use Rattle.std.specs.Option.{is_none, is_some, option_map}
 use Rattle.pulsar_wire.specs.Sink.{capped}

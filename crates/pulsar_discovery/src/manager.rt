@@ -286,6 +286,16 @@ impl ConnectionManager {
         Ok(())
     }
 
+    /// The next attempt of the series of a connection is waited for: a retry was told, and no attempt was started since.
+    pub fn is_pausing(&self, link: u64) -> bool
+        ensures { result ≡ meaning.is_pausing ((known self.now).series.seat link) }
+    {
+        match self.addresses.phase(link) {
+            Some(phase) => is_pause(phase),
+            None => false,
+        }
+    }
+
     /// The next attempt of the series of a connection whose attempt failed, and its number. There is want of memory where no
     /// number is left.
     pub fn again(&mut self, link: u64, now: u64) -> Result<u64, NoMemory>
@@ -433,6 +443,15 @@ fn retries_of(phase: Phase) -> u32
     match phase {
         Phase::Runs { retries } | Phase::Pauses { retries } => retries,
         Phase::Serves { .. } => 0,
+    }
+}
+
+fn is_pause(phase: Phase) -> bool
+    ensures { result ≡ meaning.is_pause phase }
+{
+    match phase {
+        Phase::Pauses { .. } => true,
+        Phase::Runs { .. } | Phase::Serves { .. } => false,
     }
 }
 

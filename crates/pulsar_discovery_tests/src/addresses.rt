@@ -6,6 +6,7 @@ use pulsar_discovery::{
 };
 use pulsar_plans::random::jitter;
 use pulsar_wire::error::{ConnectionError, IoKind};
+use std::alloc::Global;
 use std::test::Fail;
 
 const CONNECTED: &[u8] = b"\x00\x00\x00\x0a\x00\x00\x00\x06\x08\x03\x1a\x02\x0a\x00";
@@ -58,9 +59,11 @@ fn an_attempt_is_tried_again(rt: HostRuntime) -> Result<(), Fail> {
     )?;
     assert!(rt; manager.look(0, 0)? == Seen::Retry(10 + 10 * jitter(0, 0)));
     assert!(rt; matches!(manager.get_base_connection(0), Got::Waiting));
+    assert!(rt; manager.is_pausing(0));
     assert!(rt; manager.again(0, 20)? == 1);
     end(&mut manager, 1, ConnectionError::Io(IoKind::TimedOut))?;
     assert!(rt; manager.look(1, 20)? == Seen::Retry(20 + 10 * jitter(0, 1)));
+    assert!(rt; manager.is_pausing(1));
     assert!(rt; manager.again(1, 60)? == 2);
     end(&mut manager, 2, ConnectionError::Io(IoKind::Other))?;
     assert!(rt; manager.look(2, 60)? == Seen::Failed);
@@ -68,30 +71,31 @@ fn an_attempt_is_tried_again(rt: HostRuntime) -> Result<(), Fail> {
     Ok(())
 }
 
+fn manager_of(alloc: Global, url: &str) -> Result<ConnectionManager, ConnectionError> {
+    ConnectionManager::new(
+        alloc,
+        url,
+        None,
+        ConnectionRetryOptions::default(),
+        OperationRetryOptions::default(),
+        100,
+        0,
+        0,
+    )
+}
+
 #[test]
 fn an_address_without_a_host_is_none(rt: HostRuntime) -> Result<(), Fail> {
     let alloc = rt.alloc();
-    for (url, made) in [("pulsar:", false), ("x y", false), ("pulsar+ssl://h", true)] {
-        let manager = ConnectionManager::new(
-            alloc,
-            url,
-            None,
-            ConnectionRetryOptions::default(),
-            OperationRetryOptions::default(),
-            100,
-            0,
-            0,
-        );
-        assert!(rt; manager.is_ok() == made, "{url}");
-        if let Ok(mut manager) = manager {
-            assert!(rt;
-                matches!(
-                    manager.get_base_connection(0),
-                    Got::Refused(ConnectionError::NotFound)
-                )
-            );
-        }
-    }
+    assert!(rt; matches!(manager_of(alloc, "pulsar:"), Err(ConnectionError::NotFound)));
+    assert!(rt; matches!(manager_of(alloc, "x y"), Err(ConnectionError::NotFound)));
+    let mut manager = manager_of(alloc, "pulsar+ssl://h")?;
+    assert!(rt;
+        matches!(
+            manager.get_base_connection(0),
+            Got::Refused(ConnectionError::NotFound)
+        )
+    );
     Ok(())
 }
 

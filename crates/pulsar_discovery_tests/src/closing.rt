@@ -65,14 +65,27 @@ fn where_a_build_fails_it_closes_first(rt: HostRuntime) -> Result<(), Fail> {
     let fails: Step<u32, u64, Result<bool, Refusal>> = Step::Gives(Err(refusal(alloc)?));
     let made = MadeList::new(alloc).with(CONSUMER)?;
     match closing::guards(made, fails) {
-        Step::Stays(Guarded::Closes(closing), Deed::Closes(first)) => {
-            assert!(rt; first == CONSUMER);
+        Step::Stays(state, deed) => {
+            match deed {
+                Deed::Closes(first) => assert!(rt; first == CONSUMER),
+                Deed::Does(_) => assert!(rt; false),
+            }
+            assert!(rt; is_over(state));
+        }
+        Step::Gives(_) => assert!(rt; false),
+    }
+    Ok(())
+}
+
+/// Nothing more is closed.
+fn is_over(state: Guarded<u32>) -> bool {
+    match state {
+        Guarded::Closes(closing) => {
             let end: Step<Guarded<u32>, Deed<u64>, Result<bool, Refusal>> = closing::closes_on(
                 closing,
             );
-            assert!(rt; matches!(end, Step::Gives(Err(_))));
+            matches!(end, Step::Gives(Err(_)))
         }
-        _ => assert!(rt; false),
+        Guarded::Goes { .. } => false,
     }
-    Ok(())
 }

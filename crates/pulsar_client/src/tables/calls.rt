@@ -266,7 +266,10 @@ impl Tables {
                     retries: 0,
                 })
             }
-            Series::Runs { .. } | Series::Pauses { .. } => self.addresses.wait(&address, who),
+            Series::Runs { .. } | Series::Pauses { .. } => {
+                self.addresses.wait(&address, who)?;
+                Ok(())
+            }
             Series::Serves { link } => {
                 self.links.got(self.clock, link)?;
                 tell(who, Outcome::GotLink(link), tasks)

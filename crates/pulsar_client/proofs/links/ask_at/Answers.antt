@@ -1,4 +1,4 @@
-use Rattle.std.proofs.Common.{◌≡◌, ◌∙◌, ap, refl, subst, Some}
+use Rattle.std.proofs.Common.{◌∙◌, ap, refl, subst, Some}
 use Rattle.std.specs.BTreeMap.{get}
 use Rattle.std.specs.Option.{IsSome, option_map}
 use Rattle.std.specs.Ordering.{nat_cmp}

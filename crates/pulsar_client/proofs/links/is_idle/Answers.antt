@@ -1,4 +1,4 @@
-use Rattle.std.proofs.Common.{◌≡◌, ◌∙◌, ap, sym, length, nat_le, nat_lt, not, ◌&&◌, ◌||◌}
+use Rattle.std.proofs.Common.{◌∙◌, ap, sym, length, nat_le, nat_lt, not, ◌&&◌, ◌||◌}
 use Rattle.pulsar_requests.specs.Waits.{is_empty}
 use Rattle.pulsar_session.specs.Link.{is_ready}
 use Rattle.pulsar_client.specs.Subscribers.{subscription_at}

@@ -1,4 +1,4 @@
-use Rattle.std.proofs.Common.{◌≡◌, ◌∙◌, ◌==◌, ap, cond, Some}
+use Rattle.std.proofs.Common.{◌∙◌, ◌==◌, ap, cond, Some}
 use Rattle.std.specs.BTreeMap.{get}
 use Rattle.std.specs.Ordering.{nat_cmp}
 use Rattle.pulsar_client.specs.Kept.{live_in}

@@ -1,4 +1,4 @@
-use Rattle.std.proofs.Common.{◌≡◌, ◌∙◌, ◌==◌, ap, cond, Some}
+use Rattle.std.proofs.Common.{◌∙◌, ◌==◌, ap, cond, Some}
 use Rattle.pulsar_client.specs.Kept.{pause_at}
 use Rattle.pulsar_client.specs.Tables.{view_of}
 use Rattle.pulsar_client.specs.View.{seat_of_fresh}

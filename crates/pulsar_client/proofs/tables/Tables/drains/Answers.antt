@@ -1,4 +1,4 @@
-use Rattle.std.proofs.Common.{◌≡◌, ◌∙◌, map, refl}
+use Rattle.std.proofs.Common.{◌∙◌, refl}
 use Rattle.std.proofs.lemmas.Result.{on_ok_weaker}
 use Rattle.pulsar_client.specs.declared.act.LinkAct.TheVariants.{Drains}
 use Rattle.pulsar_client.specs.Tables.{view_of}

@@ -1,4 +1,4 @@
-use Rattle.std.proofs.Common.{◌≡◌, ◌∙◌, ◌++◌, [], Option, ap, append_assoc, map, subst, sym, Some, None}
+use Rattle.std.proofs.Common.{◌≡◌, ◌∙◌, ◌++◌, Option, ap, append_assoc, map, subst, sym, Some, None}
 use Rattle.std.proofs.lemmas.List.{append-nil}
 use Rattle.std.proofs.lemmas.Result.{on_ok_weaker}
 use Rattle.std.specs.Option.{option_map}
@@ -91,9 +91,9 @@ returns-clause-out c =
     in
     on_ok_weaker c.open.result
     (λ left. c.in_ok-pauses.ensures.out
-        ∙ ap (λ es. es ++ retry_shown o l again) c.in_ok-address.ensures.out
-        ∙ append_assoc before given (retry_shown o l again)
-        ∙ ap (λ es. before ++ (given ++ es)) shows)
+    ∙ ap (λ es. es ++ retry_shown o l again) c.in_ok-address.ensures.out
+    ∙ append_assoc before given (retry_shown o l again)
+    ∙ ap (λ es. before ++ (given ++ es)) shows)
     c.open.ensures
 
 pub returns-clause-left : goal.returns-clause-left
@@ -115,7 +115,7 @@ returns-clause-left c =
     in
     on_ok_weaker c.open.result
     (λ opened. opened
-        ∙ ap (λ ns. record { now = g.now; here = g.here; behind = g.behind ++ map (arranged below) (opens ns); parts = g.parts }) notices)
+    ∙ ap (λ ns. record { now = g.now; here = g.here; behind = g.behind ++ map (arranged below) (opens ns); parts = g.parts }) notices)
     c.open.ensures
 
 pub returns-clause-sees : goal.returns-clause-sees
@@ -139,16 +139,16 @@ returns-clause-sees c =
     in
     on_ok_weaker c.open.result
     (λ left. c.in_ok-pauses.ensures.sees
-        ∙ (λ i. record v {
-          links = links i;
-          addresses = record { base = λ key. c.in_ok-again.ensures.bases key i; pause = λ k. c.in_ok-again.ensures.pauses k i };
-          alarms = alarms i;
-          consumers = λ t. (c.end-2.ensures t ∙ ap (λ cause. ended_at l cause (v.consumers t)) (sym end.1)) i;
-        })
-        ∙ sym (ap (λ t. record v {
-          links = links_after o v.addresses v.now (Comes (ToLink l x)) v.links;
-          addresses = record { base = λ key. base_on t key (v.addresses.base key); pause = λ k. pause_on t k (v.addresses.pause k) };
-          alarms = alarms_on o v.now t v.alarms;
-          consumers = λ k. ended_at l (closing c.args.end v.now row) (v.consumers k);
-        }) turns))
+    ∙ (λ i. record v {
+      links = links i;
+      addresses = record { base = λ key. c.in_ok-again.ensures.bases key i; pause = λ k. c.in_ok-again.ensures.pauses k i };
+      alarms = alarms i;
+      consumers = λ t. (c.end-2.ensures t ∙ ap (λ cause. ended_at l cause (v.consumers t)) (sym end.1)) i;
+    })
+    ∙ sym (ap (λ t. record v {
+      links = links_after o v.addresses v.now (Comes (ToLink l x)) v.links;
+      addresses = record { base = λ key. base_on t key (v.addresses.base key); pause = λ k. pause_on t k (v.addresses.pause k) };
+      alarms = alarms_on o v.now t v.alarms;
+      consumers = λ k. ended_at l (closing c.args.end v.now row) (v.consumers k);
+    }) turns))
     c.open.ensures

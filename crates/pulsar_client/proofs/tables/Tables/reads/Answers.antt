@@ -1,4 +1,4 @@
-use Rattle.std.proofs.Common.{◌≡◌, ◌∙◌, ◌==◌, ◌++◌, ap, map, cond, refl}
+use Rattle.std.proofs.Common.{◌≡◌, ◌∙◌, ◌++◌, ap, map, cond, refl}
 use Rattle.std.proofs.lemmas.Bool.{eq-eqb}
 use Rattle.std.proofs.lemmas.Result.{on_ok_weaker}
 use Rattle.std.specs.Option.{option_map}
@@ -45,12 +45,12 @@ returns-clause-left c =
     let left = c.in_ok-arrives.ensures.left ∙ ap (λ (x : Agenda). record x { now = breaks_at l came ++ x.now }) c.in_ok-read_on.ensures in
     on_ok_weaker c.open.result
     (λ opened. opened
-        ∙ ap (λ (x : Agenda). record x { behind = x.behind ++ map (arranged below) (opens c.welcomes.new.notices.items) }) left
-        ∙ (λ i. record g {
-          now = breaks_at l (is i) ++ g.now;
-          behind = g.behind ++ map (arranged below) (opens (notices i));
-          parts = reads_on l (is i) ++ g.parts;
-        }))
+    ∙ ap (λ (x : Agenda). record x { behind = x.behind ++ map (arranged below) (opens c.welcomes.new.notices.items) }) left
+    ∙ (λ i. record g {
+      now = breaks_at l (is i) ++ g.now;
+      behind = g.behind ++ map (arranged below) (opens (notices i));
+      parts = reads_on l (is i) ++ g.parts;
+    }))
     c.open.ensures
 
 pub returns-clause-sees : goal.returns-clause-sees
@@ -71,12 +71,12 @@ returns-clause-sees c =
     let arrives = c.in_ok-arrives.ensures in
     on_ok_weaker c.open.result
     (λ left. arrives.sees
-        ∙ ap (λ (x : View). record x { consumers = (view_of c.arrives.new.self).consumers }) welcomes
-        ∙ (λ i. record v {
-          links = links i;
-          addresses = record { base = λ key. base_on (turns i) key (v.addresses.base key); pause = λ k. pause_on (turns i) k (v.addresses.pause k) };
-          alarms = alarms_on v.chosen v.now (turns i) v.alarms;
-          consumers = λ t.
-              (arrives.heard t ∙ ap (λ (x : View). option_map (hears l came) (x.consumers t)) welcomes ∙ ap (λ a. option_map (hears l a) (v.consumers t)) is) i;
-        }))
+    ∙ ap (λ (x : View). record x { consumers = (view_of c.arrives.new.self).consumers }) welcomes
+    ∙ (λ i. record v {
+      links = links i;
+      addresses = record { base = λ key. base_on (turns i) key (v.addresses.base key); pause = λ k. pause_on (turns i) k (v.addresses.pause k) };
+      alarms = alarms_on v.chosen v.now (turns i) v.alarms;
+      consumers = λ t.
+          (arrives.heard t ∙ ap (λ (x : View). option_map (hears l came) (x.consumers t)) welcomes ∙ ap (λ a. option_map (hears l a) (v.consumers t)) is) i;
+    }))
     c.open.ensures

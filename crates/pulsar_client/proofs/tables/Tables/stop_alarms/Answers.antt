@@ -1,4 +1,4 @@
-use Rattle.std.proofs.Common.{◌≡◌, ◌∙◌, ap, cond, map, ℕ}
+use Rattle.std.proofs.Common.{◌∙◌, ap, cond, ℕ}
 use Rattle.std.specs.List.{flat_map, list_any}
 use Rattle.pulsar_client.specs.declared.act.Alarm.{Alarm}
 use Rattle.pulsar_client.specs.Kept.{base_at}

@@ -1,4 +1,3 @@
-use Rattle.std.proofs.Common.{◌≡◌}
 use Rattle.std.proofs.lemmas.Result.{on_ok_weaker}
 use Rattle.pulsar_client.specs.Kept.{base_at}
 use Rattle.pulsar_client.specs.Tables.{view_of}

@@ -1,5 +1,5 @@
 -- The partition of a message.
-use Rattle.std.proofs.Common.{◌≡◌, ◌∙◌, sym, ap, refl, cc, subst, ℕ, ◌+◌, ◌<◌, ◌%◌, ◌==◌, nat_lt, Bool, true, false, cond, List, Option, Some, None, arith}
+use Rattle.std.proofs.Common.{◌≡◌, ◌∙◌, sym, ap, refl, subst, ℕ, ◌+◌, ◌<◌, ◌%◌, ◌==◌, nat_lt, Bool, true, false, cond, List, Option, Some, None, arith}
 use Rattle.std.proofs.lemmas.Bool.Decides.{nat_tests}
 use Rattle.std.proofs.lemmas.Nat.{mod_below}
 use Rattle.std.specs.Prelude.{slice_get}

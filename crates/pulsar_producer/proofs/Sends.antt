@@ -1,5 +1,5 @@
 -- A send asks for its message only where it drew a number, and no more once its frame is queued.
-use Rattle.std.proofs.Common.{◌≡◌, ◌∙◌, sym, ap, refl, cc, ℕ, Bool, true, false, cond, ◌||◌, List, [], ◌∷◌, ◌++◌, Option, Some, None, Result, Ok, Err}
+use Rattle.std.proofs.Common.{◌≡◌, ◌∙◌, sym, ap, refl, ℕ, Bool, true, false, cond, ◌||◌, List, [], ◌∷◌, ◌++◌, Option, Some, None, Result, Ok, Err}
 use Rattle.std.specs.List.{list_any}
 use Rattle.pulsar_messages.specs.Content.{ProducerMessageValues}
 use Rattle.pulsar_session.specs.Failures.{Fault, Failure}

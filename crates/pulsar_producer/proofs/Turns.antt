@@ -1,5 +1,5 @@
 -- Turns at a topic producer.
-use Rattle.std.proofs.Common.{◌≡◌, ◌∙◌, sym, ap, refl, cc, subst, ℕ, ◌<◌, ◌==◌, ◌&&◌, ◌||◌, nat_lt, Bool, true, false, cond, List, [], ◌∷◌, ◌++◌, Option, Some, None, arith}
+use Rattle.std.proofs.Common.{◌≡◌, ◌∙◌, sym, ap, refl, subst, ℕ, ◌<◌, ◌==◌, ◌&&◌, ◌||◌, nat_lt, Bool, true, false, cond, List, [], ◌∷◌, ◌++◌, Option, Some, None, arith}
 use Rattle.std.proofs.lemmas.Bool.{eq-eqb}
 use Rattle.std.proofs.lemmas.Bool.Decides.{nat_tests}
 use Rattle.std.specs.BTreeSet.{insert_key}
@@ -23,22 +23,22 @@ above_more k x (y ∷ ys) lt all = let up = all.0 in (omega (arith, lt, up), abo
 
 above_insert : (t k : ℕ) (xs : List ℕ) → t < k → AreAbove t xs → AreAbove t (insert_key nat_cmp xs k)
 above_insert t k [] lt all = (lt, tt)
-above_insert t k (x ∷ xs) lt all = by (nat_lt k x) (k == x)
+above_insert t k (x ∷ xs) lt all = by (nat_lt k x) (k == x) (above_insert t k xs lt all.1)
   where
-    by : (a b : Bool) → AreAbove t (match_ordering (cond a Less (cond b Equal Greater)) (k ∷ x ∷ xs) (x ∷ xs) (x ∷ insert_key nat_cmp xs k))
-    by true b = (lt, all)
-    by false true = all
-    by false false = (all.0, above_insert t k xs lt all.1)
+    by : (a b : Bool) → AreAbove t (insert_key nat_cmp xs k) → AreAbove t (match_ordering (cond a Less (cond b Equal Greater)) (k ∷ x ∷ xs) (x ∷ xs) (x ∷ insert_key nat_cmp xs k))
+    by true b more = (lt, all)
+    by false true more = all
+    by false false more = (all.0, more)
 
 rises_insert : (k : ℕ) (xs : List ℕ) → Rises xs → Rises (insert_key nat_cmp xs k)
 rises_insert k [] all = (tt, tt)
-rises_insert k (x ∷ xs) all = by (nat_lt k x) refl (k == x) refl
+rises_insert k (x ∷ xs) all = by (nat_lt k x) refl (k == x) refl (rises_insert k xs all.1)
   where
-    by : (a : Bool) → nat_lt k x ≡ a → (b : Bool) → (k == x) ≡ b
+    by : (a : Bool) → nat_lt k x ≡ a → (b : Bool) → (k == x) ≡ b → Rises (insert_key nat_cmp xs k)
         → Rises (match_ordering (cond a Less (cond b Equal Greater)) (k ∷ x ∷ xs) (x ∷ xs) (x ∷ insert_key nat_cmp xs k))
-    by true e b f = let lt : k < x = grind (arith, nat_tests) in ((lt, above_more k x xs lt all.0), all)
-    by false e true f = all
-    by false e false f = let gt : x < k = grind (arith, nat_tests) in (above_insert x k xs gt all.0, rises_insert k xs all.1)
+    by true e b f more = let lt : k < x = grind (arith, nat_tests) in ((lt, above_more k x xs lt all.0), all)
+    by false e true f more = all
+    by false e false f more = let gt : x < k = grind (arith, nat_tests) in (above_insert x k xs gt all.0, more)
 
 rises_rest : (xs : List ℕ) → Rises xs → Rises (rest_of xs)
 rises_rest [] all = tt
@@ -78,13 +78,13 @@ or_true false b e = e
 
 listed_new : (t : ℕ) (xs : List ℕ) → list_any (λ u. t == u) (insert_key nat_cmp xs t) ≡ true
 listed_new t [] = ap (λ b. b || false) (eq-eqb t t refl)
-listed_new t (x ∷ xs) = by (nat_lt t x) (t == x) refl
+listed_new t (x ∷ xs) = by (nat_lt t x) (t == x) refl (listed_new t xs)
   where
-    by : (a b : Bool) → (t == x) ≡ b
+    by : (a b : Bool) → (t == x) ≡ b → list_any (λ u. t == u) (insert_key nat_cmp xs t) ≡ true
         → list_any (λ u. t == u) (match_ordering (cond a Less (cond b Equal Greater)) (t ∷ x ∷ xs) (x ∷ xs) (x ∷ insert_key nat_cmp xs t)) ≡ true
-    by true b f = ap (λ c. c || list_any (λ u. t == u) (x ∷ xs)) (eq-eqb t t refl)
-    by false true f = ap (λ c. c || list_any (λ u. t == u) xs) f
-    by false false f = or_true (t == x) (list_any (λ u. t == u) (insert_key nat_cmp xs t)) (listed_new t xs)
+    by true b f more = ap (λ c. c || list_any (λ u. t == u) (x ∷ xs)) (eq-eqb t t refl)
+    by false true f more = ap (λ c. c || list_any (λ u. t == u) xs) f
+    by false false f more = or_true (t == x) (list_any (λ u. t == u) (insert_key nat_cmp xs t)) more
 
 taken_waits : (o : Option ℕ) (t : ℕ) (v : Seen) → is_none o ≡ false → is_listed t (takes_in o t v).waiting ≡ true
 taken_waits None t v e = absurd cc

@@ -201,9 +201,15 @@ fn asked_at(
     ensures { result ≡ asked (option_map (λ p. routes p) (slice_get policies.now index)) (message_content message.now) count }
 {
     match policies.get(index) {
-        Some(policy) => in_range(policy.route(message, count), count),
+        Some(policy) => in_range(route(policy, message, count), count),
         None => None,
     }
+}
+
+fn route(policy: &Box<dyn CustomRoutingPolicy>, message: &Message, count: usize) -> usize
+    ensures { result ≡ routes policy.now (message_content message.now) count }
+{
+    policy.route(message, count)
 }
 
 fn in_range(index: usize, count: usize) -> Option<usize>

@@ -5,6 +5,6 @@ use Rattle.pulsar_producer.specs.Routing.{asked}
 use Rattle.pulsar_producer.proofs.routing.asked.Goals as goal
 
 pub returns : goal.returns
-returns c =
+returns g c =
     c.asked_at.ensures
     ∙ ap (λ o. asked o (message_content c.args.message.now) c.args.count) (sym (slice_get-map _ c.args.policies.now c.args.index))

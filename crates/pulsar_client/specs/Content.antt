@@ -3,7 +3,7 @@
 -- A link is an attempt to connect, and the connection that comes of it. Links are numbered from 0, in the order of the effects Connect.
 -- The place of a frame is its index among all frames that were queued on its link. A ticket is the number of a call: calls are counted
 -- from 0. A raw consumer, and a producer, has the ticket of the call that made it. The parts of a call have the tickets behind its own.
-use Rattle.std.specs.Prelude.{ℕ, ◌+◌, ◌-◌, ◌^◌, nat_le, Bool, List, length, map, string_bytes, Result, Ok, Err}
+use Rattle.std.specs.Prelude.{ℕ, ◌+◌, ◌-◌, ◌^◌, nat_le, Bool, List, [], ◌∷◌, length, map, string_bytes, Option, Some, None, Result, Ok, Err}
 use Rattle.pulsar_wire.specs.Row.{spelling}
 use Rattle.pulsar_wire.specs.Rows.{message_id, message_metadata, send_receipt}
 use Rattle.pulsar_wire.specs.Views.{body_values, message_id_values, message_metadata_values, send_receipt_values}
@@ -113,6 +113,22 @@ shares (Flush producer) = 0
 shares (CheckProducer producer) = 0
 shares (CloseProducer producer) = 0
 shares (Raw link words) = 0
+
+-- the messages that a call sends, by the producer of a ticket
+abbrev pub sent_by : Asked → Option (ℕ × List ProducerMessageValues)
+sent_by Build = None
+sent_by Stop = None
+sent_by (Topics namespace mode) = None
+sent_by (Lookup topic) = None
+sent_by (Partitions topic) = None
+sent_by (Brokers topic) = None
+sent_by (Producer wanted) = None
+sent_by (Send producer message) = Some (producer, message ∷ [])
+sent_by (SendAll producer messages) = Some (producer, messages)
+sent_by (Flush producer) = None
+sent_by (CheckProducer producer) = None
+sent_by (CloseProducer producer) = None
+sent_by (Raw link words) = None
 
 -- Fewer tickets are left than a call and its parts need: the greatest is never drawn.
 abbrev pub lacks_tickets : (drawn shares : ℕ) → Bool

@@ -22,11 +22,8 @@ use Rattle.pulsar_client.specs.Alarms.{alarm_cmp, moment_of}
 use Rattle.pulsar_client.specs.Due.{is_moment, moment_at}
 use Rattle.pulsar_client.specs.Rules.{ended_on}
 use Rattle.pulsar_client.specs.Subscriptions.{Subscription}
-use Rattle.pulsar_client.specs.declared.options.ClientOptions.{ClientOptions}
 use Rattle.pulsar_client.specs.declared.producers.Producers.{Producers as KeptProducers}
 use Rattle.pulsar_client.specs.Producers.{Producers}
-use Rattle.pulsar_producer.specs.Routing.{Policy}
-use Rattle.pulsar_producer.specs.declared.routing.CustomRoutingPolicy.{routes}
 use Rattle.pulsar_client.specs.View.{Addresses, Base, Links, Seat, askers_left, closing, may_retry, nobody, pause_with, ping_left}
 
 abbrev pub seat_of : Row → Seat
@@ -111,7 +108,3 @@ producers_of p =
       named = p.named.keys;
       next = p.next;
     }
-
--- by what policies producers choose partitions
-abbrev pub routing : ClientOptions → List Policy
-routing options = map (λ p. routes p) options.policies.items

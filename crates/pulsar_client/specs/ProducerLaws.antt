@@ -42,7 +42,7 @@ use Rattle.pulsar_client.specs.Producers.{number_drawn, numbers_at}
 use Rattle.pulsar_client.specs.Plan.{told}
 use Rattle.pulsar_client.specs.Rules.{notice}
 use Rattle.pulsar_client.specs.Run.{Entry, Begins, Then, IsRun, Rests, view}
-use Rattle.pulsar_client.specs.View.{Chosen, View, answer_at, room_of}
+use Rattle.pulsar_client.specs.View.{Options, View, answer_at, room_of}
 use Rattle.pulsar_client.specs.Who.{is_same, rank}
 use Rattle.pulsar_client.specs.Laws.{started, outcomes, deeds, Answered}
 
@@ -82,7 +82,7 @@ topic_acts v n (Does who (Shut t)) = shut_by n (numbers_at (v.producers.built t)
 topic_acts v n _ = []
 
 -- all that was done to it since it was built, newest first
-abbrev pub acts_on : Chosen → (number : ℕ) → List Entry → List TopicAct
+abbrev pub acts_on : Options → (number : ℕ) → List Entry → List TopicAct
 acts_on o n [] = []
 acts_on o n (Begins e ∷ log) = acts_on o n log
 acts_on o n (Then a ∷ log) = if is_some ((view o log).producers.topics n) then topic_acts (view o log) n a ++ acts_on o n log else []
@@ -90,40 +90,40 @@ acts_on o n (Then a ∷ log) = if is_some ((view o log).producers.topics n) then
 -- A topic producer is what these made of it, and nothing else. So all that holds of one over any acts holds of it: the numbers that it draws
 -- rise, one has its turn at a time, and the turn goes to the lowest ticket of those that wait.
 abbrev pub TopicsAlone : Type 0
-TopicsAlone = (o : Chosen) (log : List Entry) (n : ℕ) (t : Topic) → IsRun o log → (view o log).producers.topics n ≡ Some t →
-    (b : Built) × (t.seen ≡ topic.seen (record { built = b; first_number = o.first_number }) (acts_on o n log))
+TopicsAlone = (o : Options) (log : List Entry) (n : ℕ) (t : Topic) → IsRun o log → (view o log).producers.topics n ≡ Some t →
+    (b : Built) × (t.seen ≡ topic.seen (record { built = b; first_number = o.chosen.first_number }) (acts_on o n log))
 
 -- the number of a topic producer is none that a raw call has named before, and no other one has it
 abbrev pub NumbersAreFree : Type 0
-NumbersAreFree = (o : Chosen) (log : List Entry) (who : Who) (n : ℕ) → IsRun o log → number_drawn (view o log).producers ≡ Some n →
+NumbersAreFree = (o : Options) (log : List Entry) (who : Who) (n : ℕ) → IsRun o log → number_drawn (view o log).producers ≡ Some n →
     (list_any (λ k. k == n) (view o log).producers.named ≡ false) × ((view o log).producers.topics n ≡ None)
 
 -- Where a send of a call asks for its frame, it is the call's own message by the name that its topic producer has then, on its link and in its
 -- turn; it has the version of the schema that this had as the turn came, where the message has none.
 abbrev pub FramesAreOfTheirSends : Type 0
-FramesAreOfTheirSends = (o : Chosen) (log : List Entry) (t l n s : ℕ) (name : List ℕ) (m : ProducerMessageValues) (block : Bool)
+FramesAreOfTheirSends = (o : Options) (log : List Entry) (t l n s : ℕ) (name : List ℕ) (m : ProducerMessageValues) (block : Bool)
     (w : Ways) (e : Errand) (share : Option Share) (given : ProducerMessageValues) →
     IsRun o (Then (Does (Call t) (Ask l (words.Send n name s m block))) ∷ log) → started (Call t) log ≡ Some (procedure.Send w e share given) →
     (row : Topic) × (version : Option (List ℕ)) × ((view o log).producers.topics n ≡ Some row) × (n ≡ e.producer) × (block ≡ e.block)
     × (row.seen.holder ≡ Some t) × (row.seen.link ≡ l) × (row.seen.given.name ≡ name) × (row.seen.next ≡ s + 1) × (m ≡ with_version version given)
 
 -- how often the frame of a send is queued: at once, or as it moves up from the line
-abbrev pub queues_at : Chosen → (ticket : ℕ) → List Entry → Act → ℕ
+abbrev pub queues_at : Options → (ticket : ℕ) → List Entry → Act → ℕ
 queues_at o t log (Told n) = if is_same (Call t) n.who && (is_queued n.outcome && asks_send ((view o log).stand (Call t))) then 1 else 0
 queues_at o t log _ = 0
 
-abbrev pub queued_times : Chosen → (ticket : ℕ) → List Entry → ℕ
+abbrev pub queued_times : Options → (ticket : ℕ) → List Entry → ℕ
 queued_times o t [] = 0
 queued_times o t (Begins e ∷ log) = queued_times o t log
 queued_times o t (Then a ∷ log) = queued_times o t log + queues_at o t log a
 
 -- The send of a ticket is queued at most once, over all links.
 abbrev pub SentOnce : Type 0
-SentOnce = (o : Chosen) (log : List Entry) (t : ℕ) → IsRun o log → queued_times o t log ≤ 1
+SentOnce = (o : Options) (log : List Entry) (t : ℕ) → IsRun o log → queued_times o t log ≤ 1
 
 -- The receipt with which a send ends is the reply to its frame: it bears the topic producer and the number of that.
 abbrev pub ReceiptsAreOwn : Type 0
-ReceiptsAreOwn = (o : Chosen) (log : List Entry) (t : ℕ) (r : Reply) (w : Ways) (e : Errand) (share : Option Share) (m : ProducerMessageValues) →
+ReceiptsAreOwn = (o : Options) (log : List Entry) (t : ℕ) (r : Reply) (w : Ways) (e : Errand) (share : Option Share) (m : ProducerMessageValues) →
     IsRun o (Then (Told (notice (Call t) (outcome.Replied r))) ∷ log) → started (Call t) log ≡ Some (procedure.Send w e share m) →
     (view o log).stand (Call t) ≡ Some (plan.Sending w e None send.Sent) →
     (l s : ℕ) × (name : List ℕ) × (sent : ProducerMessageValues) × In (Then (Does (Call t) (Ask l (words.Send e.producer name s sent e.block)))) log
@@ -131,17 +131,17 @@ ReceiptsAreOwn = (o : Chosen) (log : List Entry) (t : ℕ) (r : Reply) (w : Ways
 
 -- A send that finds no room and is not to wait has spent its number, and leaves all else as it was.
 abbrev pub SlowDownLeavesAll : Type 0
-SlowDownLeavesAll = (o : Chosen) (log : List Entry) (who : Who) (l : ℕ) (request : Words) →
+SlowDownLeavesAll = (o : Options) (log : List Entry) (who : Who) (l : ℕ) (request : Words) →
     answer_at (view o log).now request ((view o log).links.live l) ≡ Err error.SlowDown → view o (Then (Does who (Ask l request)) ∷ log) ≡ view o log
 
 -- one whose turn comes had the lowest ticket of those that waited, and nobody has the turn beside it
 abbrev pub TurnsByTicket : Type 0
-TurnsByTicket = (o : Chosen) (log : List Entry) (who : Who) (n : ℕ) (t : Topic) → IsRun o (Then (Does who (PassTurn n)) ∷ log) →
+TurnsByTicket = (o : Options) (log : List Entry) (who : Who) (n : ℕ) (t : Topic) → IsRun o (Then (Does who (PassTurn n)) ∷ log) →
     (view o log).producers.topics n ≡ Some t → t.seen.holder ≡ Some (rank who).1
 
 -- A call with parts ends once each of them was queued, or failed before, with what became of each.
 abbrev pub PartsAreGathered : Type 0
-PartsAreGathered = (o : Chosen) (log : List Entry) (t first count : ℕ) (said : Said) →
+PartsAreGathered = (o : Options) (log : List Entry) (t first count : ℕ) (said : Said) →
     IsRun o log → Rests o log → started (Call t) log ≡ Some (procedure.Gather first count) →
     In (Answered (record { makes = makes.Nothing; said = said })) (deeds (Call t) log) → In outcome.Stopped (outcomes (Call t) log) ⊎
     ((failures : List (ℕ × Failure)) × (said ≡ sent_from first count failures)

@@ -10,7 +10,7 @@ use Rattle.pulsar_link.specs.Request.{named_producer}
 use Rattle.pulsar_plans.specs.declared.making.Command.{Command}
 use Rattle.pulsar_producer.specs.Commands.{command_of}
 use Rattle.pulsar_producer.specs.Producer as producer
-use Rattle.pulsar_producer.specs.Producer.{number_for}
+use Rattle.pulsar_producer.specs.Producer.{number_on}
 use Rattle.pulsar_producer.specs.Random.{first_index}
 use Rattle.pulsar_producer.specs.Routing.{Policy}
 use Rattle.pulsar_producer.specs.Topic as topic
@@ -24,7 +24,7 @@ use Rattle.pulsar_client.specs.declared.act.Refusal.TheVariants as refusal
 use Rattle.pulsar_client.specs.declared.content.Building.{Building}
 use Rattle.pulsar_client.specs.declared.producers.Topic.{Topic}
 use Rattle.pulsar_client.specs.Content as content
-use Rattle.pulsar_client.specs.Content.{Asked}
+use Rattle.pulsar_client.specs.Content.{Asked, sent_by}
 
 -- The producers, by the tickets of the calls that built them; their topic producers by number, and these numbers in the order in which they
 -- were made; the numbers that raw calls have named, in order; and the number from which on the next one is drawn.
@@ -160,14 +160,32 @@ shut_all (n ∷ ns) ps = shut_all ns (changed n Closes ps)
 abbrev pub shut : (ticket : ℕ) → Producers → Producers
 shut t ps = shut_all (numbers_at (ps.built t)) ps
 
--- how a message is sent: by which topic producer, and whether it waits for room
-abbrev pub errand_in : List Policy → ProducerMessageValues → producer.Seen → Option Errand
-errand_in policies m p =
-    option_map (λ n. record { producer = n; block = p.options.block_queue_if_full }) (number_for policies m p)
+-- what its policy says of messages, one by one
+abbrev pub advice_in : List Policy → Option producer.Seen → List ProducerMessageValues → List (Option ℕ)
+advice_in policies None ms = []
+advice_in policies (Some p) ms = map (λ m. producer.advice policies m p) ms
 
-abbrev pub errand_of : List Policy → ProducerMessageValues → Option producer.Seen → Option Errand
-errand_of policies m None = None
-errand_of policies m (Some p) = errand_in policies m p
+abbrev pub advice_to : List Policy → Producers → Option (ℕ × List ProducerMessageValues) → List (Option ℕ)
+advice_to policies ps None = []
+advice_to policies ps (Some sent) = advice_in policies (ps.built sent.0) sent.1
+
+-- policies are asked as a call begins
+abbrev pub advice : List Policy → Producers → Asked → List (Option ℕ)
+advice policies ps asked = advice_to policies ps (sent_by asked)
+
+-- what they say of the next message
+abbrev pub next_advice : List (Option ℕ) → Option ℕ
+next_advice [] = None
+next_advice (index ∷ left) = index
+
+-- how a message is sent, by what its policy says: by which topic producer, and whether it waits for room
+abbrev pub errand_in : (advice : Option ℕ) → ProducerMessageValues → producer.Seen → Option Errand
+errand_in advice m p =
+    option_map (λ n. record { producer = n; block = p.options.block_queue_if_full }) (number_on advice m p)
+
+abbrev pub errand_of : (advice : Option ℕ) → ProducerMessageValues → Option producer.Seen → Option Errand
+errand_of advice m None = None
+errand_of advice m (Some p) = errand_in advice m p
 
 -- behind a message, and behind several
 abbrev pub routed : (ticket : ℕ) → ProducerMessageValues → Producers → Producers

@@ -1,6 +1,6 @@
 -- What an event brings, and what arises from an act: at once, as further parts, among those whom the present cause still serves, or as
 -- causes of their own.
-use Rattle.std.specs.Prelude.{ℕ, ◌+◌, ◌-◌, ◌^◌, nat_le, nat_lt, Bool, false, ◌&&◌, ◌||◌, not, ◌==◌, if◌then◌else◌, List, [], ◌∷◌, ◌++◌, length, map, Option, Some, None, Result, Ok, Err}
+use Rattle.std.specs.Prelude.{ℕ, ◌+◌, ◌-◌, ◌^◌, nat_le, nat_lt, Bool, false, ◌&&◌, ◌||◌, not, ◌==◌, if◌then◌else◌, List, [], ◌∷◌, ◌++◌, drop, length, map, Option, Some, None, Result, Ok, Err}
 use Rattle.std.specs.List.{filter_map, flat_map}
 use Rattle.std.specs.Option.{is_none, is_some, option_map, option_to_list}
 use Rattle.pulsar_wire.specs.declared.error.ConnectionError.{ConnectionError}
@@ -55,6 +55,7 @@ use Rattle.pulsar_client.specs.declared.producers.Topic.{Topic}
 use Rattle.pulsar_link.specs.Request.{named_producer}
 use Rattle.pulsar_messages.specs.Content.{ProducerMessageValues}
 use Rattle.pulsar_plans.specs.declared.making.Command.{Command}
+use Rattle.pulsar_producer.specs.Routing.{Policy}
 use Rattle.pulsar_producer.specs.Wanted.{ProducerWanted}
 use Rattle.pulsar_producer.specs.declared.building.Order.{Order}
 use Rattle.pulsar_producer.specs.declared.deed.Drawn.{Drawn}
@@ -71,8 +72,8 @@ use Rattle.pulsar_client.specs.Content.{Asked as Asking, Heard, Called, Opened, 
 use Rattle.pulsar_client.specs.Links.{Change, Remains, Becomes, IsOver, closed_by, line_places, new_places, numbers_from, times_out}
 use Rattle.pulsar_client.specs.Links as links
 use Rattle.pulsar_client.specs.Plan.{begins, fails}
-use Rattle.pulsar_client.specs.Producers.{Producers, drawn, errand_of, is_held, link_at, number_drawn, numbers_at, recalled, routed, turn_passed, turn_taken, waiting, why_not}
-use Rattle.pulsar_client.specs.View.{Addresses, Base, Chosen, Links, Seat, Tickets, Turned, View, answer_at, arrival_at, is_live, later, may_call, room_of, told_some, turned, ways_of}
+use Rattle.pulsar_client.specs.Producers.{Producers, advice, drawn, errand_of, is_held, link_at, next_advice, number_drawn, numbers_at, recalled, routed, turn_passed, turn_taken, waiting, why_not}
+use Rattle.pulsar_client.specs.View.{Addresses, Base, Chosen, Links, Options, Seat, Tickets, Turned, View, answer_at, arrival_at, is_live, later, may_call, room_of, told_some, turned, ways_of}
 use Rattle.pulsar_client.specs.Subscriptions.{Subscription, is_heard}
 use Rattle.pulsar_client.specs.Who.{is_before, is_same, rank}
 
@@ -89,19 +90,23 @@ over_links f ls = flat_map (on_link f ls.live) (numbers_from 0 ls.started)
 abbrev pub due_part : (now link : ℕ) → Seat → List Part
 due_part now l seat = if due now seat.seen then ToLink l (Ends (Overdue seat.seen.waits.queued)) ∷ [] else []
 
-abbrev pub brings : View → Heard → List Part
-brings v (Called asked) = Calls asked ∷ []
-brings v (Opened l) = ToLink l link.Opens ∷ []
-brings v (FailedToOpen l kind) = ToLink l (Ends (Unopened kind)) ∷ []
-brings v (Bytes l piece) = ToLink l Reads ∷ []
-brings v (Loses l) = ToLink l (Ends Lost) ∷ []
-brings v (Drain l most) = ToLink l (Drains most) ∷ []
-brings v (Ticked now) = over_links (due_part now) v.links ++ map Rings (ringing now v.alarms)
-brings v (Poll ticket) = Polls ticket ∷ []
+-- a call, for which the policies were asked
+abbrev pub call_part : List Policy → View → Asking → Part
+call_part policies v asked = Calls asked (advice policies v.producers asked)
+
+abbrev pub brings : List Policy → View → Heard → List Part
+brings policies v (Called asked) = call_part policies v asked ∷ []
+brings policies v (Opened l) = ToLink l link.Opens ∷ []
+brings policies v (FailedToOpen l kind) = ToLink l (Ends (Unopened kind)) ∷ []
+brings policies v (Bytes l piece) = ToLink l Reads ∷ []
+brings policies v (Loses l) = ToLink l (Ends Lost) ∷ []
+brings policies v (Drain l most) = ToLink l (Drains most) ∷ []
+brings policies v (Ticked now) = over_links (due_part now) v.links ++ map Rings (ringing now v.alarms)
+brings policies v (Poll ticket) = Polls ticket ∷ []
 
 -- an event that isn't live brings nothing
-abbrev pub parts : View → Heard → List Part
-parts v e = if is_live v e then brings v e else []
+abbrev pub parts : Options → View → Heard → List Part
+parts o v e = if is_live v e then brings o.policies v e else []
 
 -- AT ONCE
 
@@ -175,24 +180,28 @@ sends_by share m ways None = fails_as share refusal.NoPartition
 sends_by share m None (Some e) = fails_as share refusal.NoAddress
 sends_by share m (Some ways) (Some e) = procedure.Send ways e share m
 
-abbrev pub sends_as : Chosen → Producers → Option Share → (producer : ℕ) → ProducerMessageValues → Procedure
-sends_as o ps share t m = sends_by share m (ways_of o) (errand_of o.policies m (ps.built t))
+abbrev pub sends_as : Chosen → Producers → Option Share → (advice : Option ℕ) → (producer : ℕ) → ProducerMessageValues → Procedure
+sends_as o ps share advice t m = sends_by share m (ways_of o) (errand_of advice m (ps.built t))
 
-abbrev pub sends : Chosen → Producers → (producer : ℕ) → ProducerMessageValues → Procedure
-sends o ps t m = unless (why_not ps t) (sends_as o ps None t m)
+abbrev pub sends : Chosen → Producers → (advice : Option ℕ) → (producer : ℕ) → ProducerMessageValues → Procedure
+sends o ps advice t m = unless (why_not ps t) (sends_as o ps None advice t m)
 
 -- several messages are sent one by one, each by the next ticket, behind a call that waits for them
-abbrev pub shares_of : Chosen → Producers → (of ticket producer : ℕ) → List ProducerMessageValues → List Act
-shares_of o ps of ticket t [] = []
-shares_of o ps of ticket t (m ∷ ms) =
-    Starts (Call ticket) (sends_as o ps (Some (record { of = of; ticket = ticket })) t m) ∷ shares_of o (routed t m ps) of (ticket + 1) t ms
+abbrev pub share : (of ticket : ℕ) → Option Share
+share of ticket = Some (record { of = of; ticket = ticket })
+
+abbrev pub shares_of : Chosen → Producers → (of ticket : ℕ) → List (Option ℕ) → (producer : ℕ) → List ProducerMessageValues → List Act
+shares_of o ps of ticket advice t [] = []
+shares_of o ps of ticket advice t (m ∷ ms) =
+    Starts (Call ticket) (sends_as o ps (share of ticket) (next_advice advice) t m)
+    ∷ shares_of o (routed t m ps) of (ticket + 1) (drop 1 advice) t ms
 
 abbrev pub why_no_sends : Tickets → Producers → (producer : ℕ) → Option Refusal
 why_no_sends c ps t = if may_call c then why_not ps t else Some refusal.Shutdown
 
-abbrev pub shares_unless : Option Refusal → View → (producer : ℕ) → List ProducerMessageValues → List Act
-shares_unless (Some r) v t ms = []
-shares_unless None v t ms = shares_of v.chosen v.producers v.calls.drawn (v.calls.drawn + 1) t ms
+abbrev pub shares_unless : Option Refusal → View → List (Option ℕ) → (producer : ℕ) → List ProducerMessageValues → List Act
+shares_unless (Some r) v advice t ms = []
+shares_unless None v advice t ms = shares_of v.chosen v.producers v.calls.drawn (v.calls.drawn + 1) advice t ms
 
 abbrev pub gathers : Tickets → Producers → (producer : ℕ) → List ProducerMessageValues → Procedure
 gathers c ps t ms = unless (why_not ps t) (procedure.Gather (c.drawn + 1) (length ms))
@@ -218,44 +227,45 @@ asks_raw ps l request =
     if is_taken ps (named_producer request) then procedure.Refuse refusal.NumberInUse else procedure.Ask (place.Link l) request says.Bodies
 
 -- the procedure of a call, and its parts
-abbrev pub procedure_for : Chosen → Tickets → Producers → Asking → Procedure
-procedure_for o c ps content.Build = unless_refused (not c.is_stopped) (builds_with o.outbound o.base)
-procedure_for o c ps content.Stop = unless_refused (may_call c) procedure.Stop
-procedure_for o c ps (content.Topics namespace mode) = unless_refused (may_call c) (from_base o.base (asks_topics namespace mode))
-procedure_for o c ps (content.Lookup topic) = unless_refused (may_call c) (searches (ways_of o) (sought.Look topic))
-procedure_for o c ps (content.Partitions topic) = unless_refused (may_call c) (searches (ways_of o) (sought.CountPartitions topic))
-procedure_for o c ps (content.Brokers topic) = unless_refused (may_call c) (searches (ways_of o) (sought.Name topic))
-procedure_for o c ps (content.Producer wanted) = unless_refused (may_call c) (produces o wanted)
-procedure_for o c ps (content.Send t m) = unless_refused (may_call c) (sends o ps t m)
-procedure_for o c ps (content.SendAll t ms) = unless_refused (may_call c) (gathers c ps t ms)
-procedure_for o c ps (content.Flush t) = unless_refused (may_call c) (flushes ps t)
-procedure_for o c ps (content.CheckProducer t) = unless_refused (may_call c) (checks ps t)
-procedure_for o c ps (content.CloseProducer t) = unless_refused (may_call c) (closes ps t)
-procedure_for o c ps (content.Raw l request) = unless_refused (may_call c) (asks_raw ps l request)
+abbrev pub procedure_for : Chosen → Tickets → Producers → List (Option ℕ) → Asking → Procedure
+procedure_for o c ps advice content.Build = unless_refused (not c.is_stopped) (builds_with o.outbound o.base)
+procedure_for o c ps advice content.Stop = unless_refused (may_call c) procedure.Stop
+procedure_for o c ps advice (content.Topics namespace mode) = unless_refused (may_call c) (from_base o.base (asks_topics namespace mode))
+procedure_for o c ps advice (content.Lookup topic) = unless_refused (may_call c) (searches (ways_of o) (sought.Look topic))
+procedure_for o c ps advice (content.Partitions topic) = unless_refused (may_call c) (searches (ways_of o) (sought.CountPartitions topic))
+procedure_for o c ps advice (content.Brokers topic) = unless_refused (may_call c) (searches (ways_of o) (sought.Name topic))
+procedure_for o c ps advice (content.Producer wanted) = unless_refused (may_call c) (produces o wanted)
+procedure_for o c ps advice (content.Send t m) = unless_refused (may_call c) (sends o ps (next_advice advice) t m)
+procedure_for o c ps advice (content.SendAll t ms) = unless_refused (may_call c) (gathers c ps t ms)
+procedure_for o c ps advice (content.Flush t) = unless_refused (may_call c) (flushes ps t)
+procedure_for o c ps advice (content.CheckProducer t) = unless_refused (may_call c) (checks ps t)
+procedure_for o c ps advice (content.CloseProducer t) = unless_refused (may_call c) (closes ps t)
+procedure_for o c ps advice (content.Raw l request) = unless_refused (may_call c) (asks_raw ps l request)
 
-abbrev pub parts_of : View → Asking → List Act
-parts_of v content.Build = []
-parts_of v content.Stop = []
-parts_of v (content.Topics namespace mode) = []
-parts_of v (content.Lookup topic) = []
-parts_of v (content.Partitions topic) = []
-parts_of v (content.Brokers topic) = []
-parts_of v (content.Producer wanted) = []
-parts_of v (content.Send t m) = []
-parts_of v (content.SendAll t ms) = shares_unless (why_no_sends v.calls v.producers t) v t ms
-parts_of v (content.Flush t) = []
-parts_of v (content.CheckProducer t) = []
-parts_of v (content.CloseProducer t) = []
-parts_of v (content.Raw l request) = []
+abbrev pub parts_of : View → List (Option ℕ) → Asking → List Act
+parts_of v advice content.Build = []
+parts_of v advice content.Stop = []
+parts_of v advice (content.Topics namespace mode) = []
+parts_of v advice (content.Lookup topic) = []
+parts_of v advice (content.Partitions topic) = []
+parts_of v advice (content.Brokers topic) = []
+parts_of v advice (content.Producer wanted) = []
+parts_of v advice (content.Send t m) = []
+parts_of v advice (content.SendAll t ms) = shares_unless (why_no_sends v.calls v.producers t) v advice t ms
+parts_of v advice (content.Flush t) = []
+parts_of v advice (content.CheckProducer t) = []
+parts_of v advice (content.CloseProducer t) = []
+parts_of v advice (content.Raw l request) = []
 
-abbrev pub starts : View → Asking → List Act
-starts v asked = Starts (Call v.calls.drawn) (procedure_for v.chosen v.calls v.producers asked) ∷ parts_of v asked
+abbrev pub starts : View → List (Option ℕ) → Asking → List Act
+starts v advice asked =
+    Starts (Call v.calls.drawn) (procedure_for v.chosen v.calls v.producers advice asked) ∷ parts_of v advice asked
 
 -- A call is made with the next ticket, and its parts with those behind it. Where fewer are left it ends as that of the greatest ticket, which
 -- is never drawn.
-abbrev pub called : View → Asking → List Act
-called v asked =
-    if lacks_tickets v.calls.drawn (shares asked) then Answers (Call (2 ^ 64 - 1)) (fails Exhausted) ∷ [] else starts v asked
+abbrev pub called : View → List (Option ℕ) → Asking → List Act
+called v advice asked =
+    if lacks_tickets v.calls.drawn (shares asked) then Answers (Call (2 ^ 64 - 1)) (fails Exhausted) ∷ [] else starts v advice asked
 
 -- A link of an address: a ready one serves at once, an attempt that runs or is to follow is waited for, else one is started. None is
 -- found where the address cannot be reached.
@@ -381,7 +391,7 @@ rung v (KeepAlive l) = keeps_alive l (v.links.live l)
 rung v CheckIdle = over_links (idle_act v) v.links
 
 abbrev pub at_once : View → Act → List Act
-at_once v (Comes (Calls asked)) = called v asked
+at_once v (Comes (Calls asked advice)) = called v advice asked
 at_once v (Comes (ToLink l Reads)) = breaks_at l (arrival_at (v.links.live l))
 at_once v (Comes (Rings a)) = if rings v.now a v.alarms then rung v a else []
 at_once v (Starts who p) = follows who (begins p)

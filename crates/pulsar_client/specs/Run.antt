@@ -9,9 +9,9 @@ use Rattle.pulsar_client.specs.declared.act.Part.{Part}
 use Rattle.pulsar_client.specs.Content.{Asked, lacks_tickets, shares, Heard, Called, Opened, FailedToOpen, Bytes, Lost, Drain, Ticked, Poll, Shown}
 use Rattle.pulsar_client.specs.Effects.{effects, effect_below}
 use Rattle.pulsar_client.specs.Rules.{at_once, below, causes, further, joins, parts}
-use Rattle.pulsar_client.specs.View.{Chosen, View, after, begun, new}
+use Rattle.pulsar_client.specs.View.{Options, View, after, begun, new}
 
-abbrev pub rules : run.Rules Chosen Heard View Act Notice Part Shown
+abbrev pub rules : run.Rules Options Heard View Act Notice Part Shown
 rules =
     record {
       new = new;
@@ -39,7 +39,7 @@ Agenda = run.Agenda Act Notice Part
 abbrev pub Step : Type 0
 Step = run.Step Heard Shown
 
-abbrev pub view : Chosen → List Entry → View
+abbrev pub view : Options → List Entry → View
 view o log = run.view rules o log
 
 abbrev pub first_of : List Act → List Notice → List (List Notice) → List Part → Option Act
@@ -57,19 +57,19 @@ rest g = run.rest g
 abbrev pub goes_on : View → Act → Agenda → Agenda
 goes_on v a g = run.goes_on rules v a g
 
-abbrev pub agenda : Chosen → List Entry → Agenda
+abbrev pub agenda : Options → List Entry → Agenda
 agenda o log = run.agenda rules o log
 
-abbrev pub IsRun : Chosen → List Entry → Type 0
+abbrev pub IsRun : Options → List Entry → Type 0
 IsRun o log = run.IsRun rules o log
 
-abbrev pub Rests : Chosen → List Entry → Type 0
+abbrev pub Rests : Options → List Entry → Type 0
 Rests o log = run.Rests rules o log
 
-abbrev pub steps : Chosen → List Entry → List Step
+abbrev pub steps : Options → List Entry → List Step
 steps o log = run.steps rules o log
 
-abbrev pub Good : Chosen → List Step → Type 0
+abbrev pub Good : Options → List Step → Type 0
 Good o h = run.Good rules o h
 
 -- how many tickets the events of a history draw: one for each call and one for each of its parts, unless fewer are left

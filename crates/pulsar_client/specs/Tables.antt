@@ -22,9 +22,9 @@ use Rattle.pulsar_client.specs.declared.tables.Tables.{Tables}
 use Rattle.pulsar_client.specs.Content.{Heard, Shown, Retry, heard, shown}
 use Rattle.pulsar_client.specs.Alarms.{set}
 use Rattle.pulsar_client.specs.Run.{Agenda, Step, rules}
-use Rattle.pulsar_client.specs.Kept.{addresses_of, links_in, producers_of, routing}
+use Rattle.pulsar_client.specs.Kept.{addresses_of, links_in, producers_of}
 use Rattle.pulsar_client.specs.Subscribers.{subscription_at}
-use Rattle.pulsar_client.specs.View.{Chosen, Seat, Tickets, Turned, View, alarms_on, alarms_rung, base_on, delay_with, later, nobody, pause_on, pause_rung, waits_on}
+use Rattle.pulsar_client.specs.View.{Chosen, Options, Seat, Tickets, Turned, View, alarms_on, alarms_rung, base_on, delay_with, later, nobody, pause_on, pause_rung, waits_on}
 use Rattle.pulsar_client.specs.Links.{change_in}
 
 -- THE THINGS
@@ -39,7 +39,6 @@ chosen_of s =
       outbound = s.outbound;
       seed = s.seed;
       first_number = s.first_number;
-      policies = routing s.options.value;
       now = s.start;
     }
 
@@ -105,11 +104,11 @@ agenda_of t = record { now = t.now.items; here = t.here.items; behind = map (λ 
 -- HISTORIES
 
 -- the tables stand for a history
-abbrev pub Stands : Chosen → Tables → List Step → Type 0
+abbrev pub Stands : Options → Tables → List Step → Type 0
 Stands o c history = standing.Stands rules o (view_of c) history
 
 -- inside a step: what is left to do, and the effects so far
-abbrev pub InStep : Chosen → Tables → Agenda → Heard → List Shown → List Step → Type 0
+abbrev pub InStep : Options → Tables → Agenda → Heard → List Shown → List Step → Type 0
 InStep o c g event out history = standing.InStep rules o (view_of c) g event out history
 
 -- a step of a history

@@ -17,7 +17,7 @@ use Rattle.pulsar_client.specs.declared.effect.Settlement.TheVariants as settlem
 use Rattle.pulsar_client.specs.Content.{Heard, Called, Build, Stop, Topics, Lookup, Raw, Opened, FailedToOpen, Bytes, Drain, Ticked, Poll, Shown, Connect, Queued, Write, Retry, Settles, Ends, Close, Hands, FindsNothing, Done, Names, Address, Replies}
 use Rattle.pulsar_client.specs.Plan.{failed}
 use Rattle.pulsar_client.specs.Run.{Good, Step}
-use Rattle.pulsar_client.specs.View.{Chosen}
+use Rattle.pulsar_client.specs.View.{Chosen, Options}
 
 -- the host and the port of the service
 abbrev pub local_host : List ℕ
@@ -49,8 +49,8 @@ abbrev pub LocalIsKnown : Type 0
 LocalIsKnown = base_in (codes "pulsar://127.0.0.1:6650") ≡ Some local
 
 -- the options, with this address and room for so many frames: requests are numbered from 0, at moment 0, and are due after half a minute
-abbrev pub options : (outbound : ℕ) → Chosen
-options outbound =
+abbrev pub chosen : (outbound : ℕ) → Chosen
+chosen outbound =
     record {
       base = Some local;
       auth = None;
@@ -59,9 +59,12 @@ options outbound =
       outbound = outbound;
       seed = 0;
       first_number = 0;
-      policies = [];
       now = 0;
     }
+
+-- and no policies
+abbrev pub options : (outbound : ℕ) → Options
+options outbound = record { chosen = chosen outbound; policies = [] }
 
 -- an event with its effects
 abbrev pub step_of : Heard → List Shown → Step

@@ -61,8 +61,8 @@ use Rattle.pulsar_client.specs.Who.{is_same, rank}
 
 -- What a client's options say of a run: the address of the service, where their URL has one; the credential; how connections are
 -- attempted and kept, and how long requests wait, in milliseconds; how many frames of a link may be queued and not written; what random
--- words are drawn from; the number of the first request of each link, of the first producer, and of the first message of each producer; by
--- what policies producers choose partitions; and the time of the start, in milliseconds since 1970.
+-- words are drawn from; the number of the first request of each link, of the first producer, and of the first message of each producer; and
+-- the time of the start, in milliseconds since 1970.
 pub record Chosen : Type 0 where
   pub base : Option Place
   pub auth : Option AuthenticationValues
@@ -71,8 +71,12 @@ pub record Chosen : Type 0 where
   pub outbound : ℕ
   pub seed : ℕ
   pub first_number : ℕ
-  pub policies : List Policy
   pub now : ℕ
+
+-- these, and the policies by which producers choose partitions
+pub record Options : Type 0 where
+  pub chosen : Chosen
+  pub policies : List Policy
 
 -- THINGS
 
@@ -124,18 +128,18 @@ pub record View : Type 0 where
   pub producers : Producers
 
 -- at first
-abbrev pub new : Chosen → View
+abbrev pub new : Options → View
 new o =
     record {
-      chosen = o;
-      now = o.now;
+      chosen = o.chosen;
+      now = o.chosen.now;
       stand = λ w. None;
       calls = record { drawn = 0; is_built = false; is_stopped = false };
       links = record { started = 0; live = λ l. None };
       addresses = record { base = λ key. nobody; pause = λ l. None };
       alarms = [];
       consumers = λ t. None;
-      producers = none o.first_number;
+      producers = none o.chosen.first_number;
     }
 
 -- a moment that is so far from another
@@ -217,7 +221,7 @@ stand_after _ w row = row
 
 -- a call has a ticket, and so has each of its parts
 abbrev pub drawn_after : Act → ℕ → ℕ
-drawn_after (Comes (Calls asked)) n = if lacks_tickets n (shares asked) then n else n + 1 + shares asked
+drawn_after (Comes (Calls asked advice)) n = if lacks_tickets n (shares asked) then n else n + 1 + shares asked
 drawn_after _ n = n
 
 -- calls are made once the client is built, and until it is stopped
@@ -622,7 +626,7 @@ producers_made o who (Consumer link number topic) ps = ps
 producers_made o who (Producer made) ps = joined (rank who).1 made o.seed o.first_number ps
 
 abbrev pub producers_after : View → Act → Producers
-producers_after v (Comes (Calls asked)) =
+producers_after v (Comes (Calls asked advice)) =
     if lacks_tickets v.calls.drawn (shares asked) then v.producers else called_on (may_call v.calls) asked v.producers
 producers_after v (Does who (TakeTurn n)) = changed n (topic.Takes (rank who).1) v.producers
 producers_after v (Does who (PassTurn n)) = changed n topic.Passes v.producers

@@ -1,7 +1,7 @@
 //! What a step is made of: acts, each one thing that happens. There are six kinds of act, and all that is special to a kind of
 //! call, thing or event stands one level below them.
 
-use crate::content::{Asking, Cause, Granted, Made, Numbers, Remade, Said};
+use crate::content::{Advice, Asking, Cause, Granted, Made, Numbers, Remade, Said};
 use pulsar_link::content::{Received, Request, Text};
 use pulsar_plans::content::{Address, Refusal as Failure};
 use pulsar_plans::plan::Procedure as Sought;
@@ -291,7 +291,7 @@ pub enum Alarm {
 /// What an event brings. Each part comes where nothing is left of the one before.
 #[derive(Drop)]
 pub enum Part {
-    Calls(Asking),
+    Calls(Asking, Advice),
     ToLink { link: u64, act: LinkAct },
     /// What was due as the tick came.
     Rings(Alarm),

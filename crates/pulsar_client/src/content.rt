@@ -1,10 +1,11 @@
 //! What a call says, what it ends with, and why something failed. It is boxed, so that acts are small. Contracts see it by its
 //! content.
 
-ghost use Rattle.std.specs.Prelude.{◌≡◌, [], ◌∷◌, ◌++◌, IfOk, MatchOption, None};
+ghost use Rattle.std.specs.Prelude.{◌≡◌, [], ◌∷◌, ◌++◌, IfOk, MatchOption, None, drop};
 ghost use Rattle.pulsar_client.specs.Content as content;
 ghost use Rattle.pulsar_client.specs.Content.{asked, said};
 ghost use Rattle.pulsar_client.specs.Links.{numbers_from};
+ghost use Rattle.pulsar_client.specs.Producers.{next_advice};
 ghost use Rattle.pulsar_client.specs.Parts.{failed_with, outcomes_of, sent_from};
 ghost use Rattle.pulsar_session.specs.Failures.{fault, sent};
 
@@ -258,6 +259,48 @@ impl Numbers {
         ensures { MatchOption result (self.old ≡ []) (λ n. self.old ≡ n ∷ self.new) }
     {
         self.all.pop_front()
+    }
+}
+
+/// What policies say of the messages that a call sends, one by one.
+#[derive(Drop)]
+pub struct Advice {
+    all: VecDeque<Option<usize>>,
+}
+
+impl Model for Advice {
+    ghost use Rattle.std.specs.Prelude.{ℕ, List, Option};
+
+    ghost Value = { List (Option ℕ) };
+
+    ghost view = { λ a. a.all.items };
+}
+
+impl Advice {
+    /// Nothing is said.
+    pub fn new(alloc: Global) -> Advice
+        ensures { result ≡ [] }
+    {
+        Advice {
+            all: VecDeque::new(alloc),
+        }
+    }
+
+    /// And this of one more message.
+    pub fn with(self, index: Option<usize>) -> Result<Advice, NoMemory>
+        ensures { IfOk result (λ a. a ≡ self ++ index ∷ []) }
+    {
+        let Advice { mut all } = self;
+        all.push_back(index)?;
+        Ok(Advice { all })
+    }
+
+    /// What is said of the next message.
+    pub fn next(&mut self) -> Option<usize>
+        ensures index { result ≡ next_advice self.old }
+        ensures left { self.new ≡ drop 1 self.old }
+    {
+        self.all.pop_front()?
     }
 }
 

@@ -12,7 +12,7 @@ ghost use Rattle.pulsar_client.specs.Producers as meaning;
 ghost use Rattle.pulsar_client.specs.Kept.{producers_of};
 
 use crate::act::{Notice, Outcome, Who};
-use crate::content::{Building, Numbers, Remaking};
+use crate::content::{Advice, Building, Numbers, Remaking};
 use pulsar_messages::Message;
 use pulsar_plans::making::Command;
 use pulsar_producer::content::{Built, Parts, Version};
@@ -104,20 +104,38 @@ impl Producers {
         Ok(())
     }
 
-    /// How a message of a producer is sent: by which topic producer, and whether it waits for room. There is none where no partition is
-    /// found for it.
+    /// What the policy of a producer says of messages, one by one.
+    pub fn advice(
+        &self,
+        ticket: u64,
+        messages: &[Message],
+        policies: &[Box<dyn CustomRoutingPolicy>],
+    ) -> Result<Advice, NoMemory>
+        ensures { IfOk result (λ a. a ≡ meaning.advice_in (map (λ p. routes p) policies.now) ((producers_of self.now).built ticket) (map message_content messages.now)) }
+    {
+        let mut advice = Advice::new(self.alloc);
+        if let Some(producer) = self.built.get(&ticket) {
+            for message in messages {
+                advice = advice.with(producer.advice(message, policies))?;
+            }
+        }
+        Ok(advice)
+    }
+
+    /// How a message of a producer is sent, by what its policy says: by which topic producer, and whether it waits for room. There is
+    /// none where no partition is found for it.
     pub fn route(
         &mut self,
         ticket: u64,
         message: &Message,
-        policies: &[Box<dyn CustomRoutingPolicy>],
+        advice: Option<usize>,
     ) -> Option<Errand>
-        ensures errand { result ≡ meaning.errand_of (map (λ p. routes p) policies.now) (message_content message.now) ((producers_of self.old).built ticket) }
+        ensures errand { result ≡ meaning.errand_of advice (message_content message.now) ((producers_of self.old).built ticket) }
         ensures after { producers_of self.new ≡ meaning.routed ticket (message_content message.now) (producers_of self.old) }
     {
         let producer = self.built.get_mut(&ticket)?;
         let block = producer.options().block_queue_if_full;
-        let number = producer.target(message, policies)?;
+        let number = producer.target(message, advice)?;
         Some(Errand {
             producer: number,
             block,

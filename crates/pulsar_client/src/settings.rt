@@ -1,11 +1,10 @@
 //! What the options of a client say of its run.
 
-ghost use Rattle.std.specs.Prelude.{◌≡◌, ◌++◌, IfOk, OnOk, map};
+ghost use Rattle.std.specs.Prelude.{◌≡◌, IfOk};
 ghost use Rattle.std.specs.Option.{option_map};
 ghost use Rattle.pulsar_messages.specs.Content.{authentication_values};
 ghost use Rattle.pulsar_session.specs.Link.{fresh};
 ghost use Rattle.pulsar_client.specs.Client.{chosen};
-ghost use Rattle.pulsar_client.specs.Kept.{routing};
 ghost use Rattle.pulsar_client.specs.Tables.{chosen_of};
 ghost use Rattle.pulsar_client.specs.View.{delay_with, setup, ways_of};
 
@@ -17,7 +16,6 @@ use pulsar_plans::options::backoff;
 use pulsar_plans::random::{connection_id, jitter};
 use pulsar_plans::turn::Ways;
 use pulsar_plans::{ConnectionRetryOptions, OperationRetryOptions};
-use pulsar_producer::CustomRoutingPolicy;
 use pulsar_session::Connection;
 use pulsar_wire::error::NoMemory;
 use std::alloc::Global;
@@ -35,14 +33,11 @@ pub struct Settings {
     pub first_number: u64,
     /// The time at which the client was made, in milliseconds since 1970.
     pub start: u64,
-    /// The options themselves.
-    pub options: Box<ClientOptions>,
 }
 
 impl Settings {
-    pub fn new(alloc: Global, options: ClientOptions) -> Result<Settings, NoMemory>
-        ensures chosen { IfOk result (λ s. chosen_of s ≡ chosen options) }
-        ensures options { IfOk result (λ s. s.options.value ≡ options) }
+    pub fn new(alloc: Global, options: &ClientOptions) -> Result<Settings, NoMemory>
+        ensures { IfOk result (λ s. chosen_of s ≡ chosen options.now) }
     {
         Ok(Settings {
             base: base_in(alloc, &options.url)?,
@@ -53,15 +48,7 @@ impl Settings {
             seed: options.seed,
             first_number: options.first_number,
             start: options.now,
-            options: Box::new(alloc, options)?,
         })
-    }
-
-    /// The policies by which partitions are chosen.
-    pub fn policies(&self) -> &[Box<dyn CustomRoutingPolicy>]
-        ensures { map (λ p. routes p) result.now ≡ routing self.now.options.value }
-    {
-        self.options.policies.as_slice()
     }
 
     /// The address of the service, where there is one.

@@ -19,7 +19,7 @@ use crate::act::{
 };
 use crate::addresses::Series;
 use crate::agenda::Tasks;
-use crate::content::Asking;
+use crate::content::{Advice, Asking};
 use crate::effect::Effect;
 use crate::event::Call;
 use crate::plans::plan::{Plan, Turn, begins, failure, told};
@@ -36,9 +36,14 @@ use std::collections::VecDeque;
 
 impl Tables {
     /// A call is made with the next ticket, and its parts with those behind it, unless fewer are left.
-    pub(super) fn calls(&mut self, asking: Asking, tasks: &mut Tasks) -> Result<(), NoMemory>
-        ensures left { OnOk result (agenda_of tasks.new ≡ goes_on (view_of self.old) (Act.Comes (Part.Calls asking)) (agenda_of tasks.old)) }
-        ensures sees { OnOk result (view_of self.new ≡ after (Act.Comes (Part.Calls asking)) (view_of self.old)) }
+    pub(super) fn calls(
+        &mut self,
+        asking: Asking,
+        advice: Advice,
+        tasks: &mut Tasks,
+    ) -> Result<(), NoMemory>
+        ensures left { OnOk result (agenda_of tasks.new ≡ goes_on (view_of self.old) (Act.Comes (Part.Calls asking advice)) (agenda_of tasks.old)) }
+        ensures sees { OnOk result (view_of self.new ≡ after (Act.Comes (Part.Calls asking advice)) (view_of self.old)) }
         ensures settings { self.new.settings ≡ self.old.settings }
     {
         let call = asking.into_inner();
@@ -49,7 +54,7 @@ impl Tables {
         };
         let who = Who::Call(self.tickets);
         let mut parts = VecDeque::new(self.alloc);
-        let procedure = self.procedure_for(call, &mut parts)?;
+        let procedure = self.procedure_for(call, advice, &mut parts)?;
         self.tickets = next;
         tasks.put_all(parts)?;
         tasks.put(Act::Starts { who, procedure })
@@ -76,11 +81,12 @@ impl Tables {
     fn procedure_for(
         &mut self,
         call: Call,
+        advice: Advice,
         parts: &mut VecDeque<Act>,
     ) -> Result<Procedure, NoMemory>
         requires { lacks_tickets self.old.tickets (shares (asked call)) ≡ false }
-        ensures procedure { IfOk result (λ p. p ≡ procedure_for (view_of self.old).chosen (view_of self.old).calls (view_of self.old).producers (asked call)) }
-        ensures parts { OnOk result (parts.new.items ≡ parts.old.items ++ parts_of (view_of self.old) (asked call)) }
+        ensures procedure { IfOk result (λ p. p ≡ procedure_for (view_of self.old).chosen (view_of self.old).calls (view_of self.old).producers advice (asked call)) }
+        ensures parts { OnOk result (parts.new.items ≡ parts.old.items ++ parts_of (view_of self.old) advice (asked call)) }
         ensures after { OnOk result (view_of self.new ≡ record (view_of self.old) { producers = called_on (may_call (view_of self.old).calls) (asked call) (view_of self.old).producers }) }
         ensures settings { self.new.settings ≡ self.old.settings }
     {
@@ -90,7 +96,7 @@ impl Tables {
                 if !self.is_open() {
                     return Ok(Procedure::Refuse(Refusal::Shutdown));
                 }
-                self.opened(call, parts)
+                self.opened(call, advice, parts)
             }
         }
     }
@@ -112,11 +118,16 @@ impl Tables {
     }
 
     /// The same of a call that an open client makes.
-    fn opened(&mut self, call: Call, parts: &mut VecDeque<Act>) -> Result<Procedure, NoMemory>
+    fn opened(
+        &mut self,
+        call: Call,
+        mut advice: Advice,
+        parts: &mut VecDeque<Act>,
+    ) -> Result<Procedure, NoMemory>
         requires open { may_call (view_of self.old).calls ≡ true }
         requires tickets { lacks_tickets self.old.tickets (shares (asked call)) ≡ false }
-        ensures procedure { IfOk result (λ p. p ≡ procedure_for (view_of self.old).chosen (view_of self.old).calls (view_of self.old).producers (asked call)) }
-        ensures parts { OnOk result (parts.new.items ≡ parts.old.items ++ parts_of (view_of self.old) (asked call)) }
+        ensures procedure { IfOk result (λ p. p ≡ procedure_for (view_of self.old).chosen (view_of self.old).calls (view_of self.old).producers advice (asked call)) }
+        ensures parts { OnOk result (parts.new.items ≡ parts.old.items ++ parts_of (view_of self.old) advice (asked call)) }
         ensures after { OnOk result (view_of self.new ≡ record (view_of self.old) { producers = opened_on (asked call) (view_of self.old).producers }) }
         ensures settings { self.new.settings ≡ self.old.settings }
     {
@@ -128,8 +139,10 @@ impl Tables {
             Call::Partitions { topic } => self.searches(Sought::CountPartitions(Topic::new(topic))),
             Call::Brokers { topic } => self.searches(Sought::Name(Topic::new(topic))),
             Call::Producer(builder) => self.produces(builder),
-            Call::Send { producer, message } => self.sends(producer, message),
-            Call::SendAll { producer, messages } => self.sends_all(producer, messages, parts),
+            Call::Send { producer, message } => self.sends(producer, message, advice.next()),
+            Call::SendAll { producer, messages } => {
+                self.sends_all(producer, messages, advice, parts)
+            }
             Call::Flush { producer } => Ok(self.flushes(producer)),
             Call::CheckProducer { producer } => self.checks(producer),
             Call::CloseProducer { producer } => self.closes(producer),

@@ -5,11 +5,12 @@ ghost use Rattle.pulsar_run.specs.Order.{arranged};
 ghost use Rattle.pulsar_client.specs.Content.{Heard, heard, shown};
 ghost use Rattle.pulsar_client.specs.Effects.{effect_below, effects};
 ghost use Rattle.pulsar_client.specs.Kept.{AreTicketed};
-ghost use Rattle.pulsar_client.specs.Rules.{parts};
+ghost use Rattle.pulsar_client.specs.Rules.{brings};
 ghost use Rattle.pulsar_client.specs.Run.{Step, goes_on};
+ghost use Rattle.pulsar_producer.specs.Routing.{Policy};
 ghost use Rattle.pulsar_client.specs.Subscribers.{subscription_at};
 ghost use Rattle.pulsar_client.specs.Tables.{InStep, Stands, agenda_of, chosen_of, step, view_of};
-ghost use Rattle.pulsar_client.specs.View.{Chosen, after, begun, is_live};
+ghost use Rattle.pulsar_client.specs.View.{Options, after, begun, is_live};
 
 mod alarms;
 mod calls;
@@ -31,6 +32,7 @@ use crate::order::arrange;
 use crate::plans::table::Plans;
 use crate::producers::Producers;
 use crate::settings::Settings;
+use pulsar_producer::CustomRoutingPolicy;
 use pulsar_session::states::Stage;
 use pulsar_wire::error::NoMemory;
 use std::alloc::Global;
@@ -59,7 +61,7 @@ pub struct Tables {
 
 impl Tables {
     pub fn new(alloc: Global, settings: Settings) -> Tables
-        ensures { Stands (chosen_of settings) result [] }
+        ensures { (policies : List Policy) → Stands (record { chosen = chosen_of settings; policies = policies }) result [] }
     {
         let clock = settings.start;
         let first_number = settings.first_number;
@@ -101,13 +103,17 @@ impl Tables {
     }
 
     /// One live event, with all that arises from it.
-    pub fn step(&mut self, event: Event) -> Result<Vec<Effect>, NoMemory>
+    pub fn step(
+        &mut self,
+        event: Event,
+        policies: &[Box<dyn CustomRoutingPolicy>],
+    ) -> Result<Vec<Effect>, NoMemory>
         requires { is_live (view_of self.old) (heard event) ≡ true }
-        ensures stands { IfOk result (λ out. (o : Chosen) (h : List Step) → Stands o self.old h → Stands o self.new (step event out.items ∷ h)) }
+        ensures stands { IfOk result (λ out. (o : Options) (h : List Step) → o.policies ≡ map (λ p. routes p) policies.now → Stands o self.old h → Stands o self.new (step event out.items ∷ h)) }
         ensures settings { self.new.settings ≡ self.old.settings }
     {
         let mut out = Vec::new(self.alloc);
-        let parts = self.begins(event)?;
+        let parts = self.begins(event, policies)?;
         let mut tasks = Tasks::new(self.alloc, parts);
         self.work(&mut tasks, &mut out)?;
         arrange(&mut out)?;
@@ -115,14 +121,24 @@ impl Tables {
     }
 
     /// A live event begins: what it brings.
-    fn begins(&mut self, event: Event) -> Result<VecDeque<Part>, NoMemory>
+    fn begins(
+        &mut self,
+        event: Event,
+        policies: &[Box<dyn CustomRoutingPolicy>],
+    ) -> Result<VecDeque<Part>, NoMemory>
         requires { is_live (view_of self.old) (heard event) ≡ true }
-        ensures parts { IfOk result (λ ps. ps.items ≡ parts (view_of self.old) (heard event)) }
+        ensures parts { IfOk result (λ ps. ps.items ≡ brings (map (λ p. routes p) policies.now) (view_of self.old) (heard event)) }
         ensures sees { OnOk result (view_of self.new ≡ begun (heard event) (view_of self.old)) }
         ensures settings { self.new.settings ≡ self.old.settings }
     {
         match event {
-            Event::Call(call) => one(self.alloc, Part::Calls(Asking::new(self.alloc, call)?)),
+            Event::Call(call) => {
+                let advice = self.advice(&call, policies)?;
+                one(
+                    self.alloc,
+                    Part::Calls(Asking::new(self.alloc, call)?, advice),
+                )
+            }
             Event::Opened(link) => to_link(self.alloc, link, LinkAct::Opens),
             Event::Failed(link, kind) => ends(self.alloc, link, End::Unopened(kind)),
             Event::Bytes(link, piece) => {
@@ -142,7 +158,7 @@ impl Tables {
 
     /// Does all that is left to do, and all that arises from it.
     fn work(&mut self, tasks: &mut Tasks, out: &mut Vec<Effect>) -> Result<(), NoMemory>
-        ensures stands { OnOk result ((o : Chosen) (e : Heard) (h : List Step) → InStep o self.old (agenda_of tasks.old) e (map shown out.old.items) h → Stands o self.new (record { event = e; effects = arranged effect_below (map shown out.new.items) } ∷ h)) }
+        ensures stands { OnOk result ((o : Options) (e : Heard) (h : List Step) → InStep o self.old (agenda_of tasks.old) e (map shown out.old.items) h → Stands o self.new (record { event = e; effects = arranged effect_below (map shown out.new.items) } ∷ h)) }
         ensures settings { self.new.settings ≡ self.old.settings }
     {
         for _ in 0..u64::MAX {
@@ -162,7 +178,7 @@ impl Tables {
         ensures settings { self.new.settings ≡ self.old.settings }
     {
         match act {
-            Act::Comes(Part::Calls(asking)) => self.calls(asking, tasks),
+            Act::Comes(Part::Calls(asking, advice)) => self.calls(asking, advice, tasks),
             Act::Comes(Part::ToLink { link, act }) => self.to_link(link, act, tasks, out),
             Act::Comes(Part::Rings(alarm)) => self.rings(alarm, tasks),
             Act::Comes(Part::Polls(ticket)) => self.polls(ticket, out),

@@ -1,7 +1,10 @@
 //! What plans ask of topic producers.
 
-ghost use Rattle.std.specs.Prelude.{◌≡◌, ◌++◌, OnOk};
+ghost use Rattle.std.specs.Prelude.{◌≡◌, ◌++◌, IfOk, OnOk, map};
 ghost use Rattle.pulsar_session.specs.Failures.{fault};
+ghost use Rattle.pulsar_client.specs.Content.{asked};
+ghost use Rattle.pulsar_client.specs.Kept.{producers_of};
+ghost use Rattle.pulsar_client.specs.Producers.{advice};
 ghost use Rattle.pulsar_client.specs.Rules.{grants, tells};
 ghost use Rattle.pulsar_client.specs.Run.{goes_on};
 ghost use Rattle.pulsar_client.specs.Tables.{agenda_of, view_of};
@@ -9,14 +12,48 @@ ghost use Rattle.pulsar_client.specs.View.{after, room_of};
 
 use crate::act::{Action, Notice, Outcome, Who};
 use crate::agenda::Tasks;
-use crate::content::{Cause, Granted, Remade};
+use crate::content::{Advice, Cause, Granted, Remade};
+use crate::event::Call;
 use crate::tables::Tables;
 use crate::tables::calls::tell;
 use crate::who::ticket_of;
+use pulsar_producer::CustomRoutingPolicy;
 use pulsar_producer::deed::News;
 use pulsar_wire::error::{ConnectionError, NoMemory};
+use std::slice;
 
 impl Tables {
+    /// What the policies say of the messages that a call sends, one by one.
+    pub(super) fn advice(
+        &self,
+        call: &Call,
+        policies: &[Box<dyn CustomRoutingPolicy>],
+    ) -> Result<Advice, NoMemory>
+        ensures { IfOk result (λ a. a ≡ advice (map (λ p. routes p) policies.now) (producers_of self.now.producers) (asked call.now)) }
+    {
+        match call {
+            Call::Send { producer, message } => {
+                self.producers
+                    .advice(*producer, slice::from_ref(message), policies)
+            }
+            Call::SendAll { producer, messages } => {
+                self.producers
+                    .advice(*producer, messages.as_slice(), policies)
+            }
+            Call::Build
+            | Call::Stop
+            | Call::Topics { .. }
+            | Call::Lookup { .. }
+            | Call::Partitions { .. }
+            | Call::Brokers { .. }
+            | Call::Producer(_)
+            | Call::Flush { .. }
+            | Call::CheckProducer { .. }
+            | Call::CloseProducer { .. }
+            | Call::Raw { .. } => Ok(Advice::new(self.alloc)),
+        }
+    }
+
     /// One wants its turn at a topic producer, and has it where nobody else has it.
     pub(super) fn takes_turn(
         &mut self,

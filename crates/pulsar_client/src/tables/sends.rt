@@ -13,6 +13,7 @@ ghost use Rattle.pulsar_client.specs.View.{after, may_call};
 
 use crate::act::{Act, Notice, Procedure, Refusal, Round, Share, Who};
 use crate::agenda::Tasks;
+use crate::content::Advice;
 use crate::tables::Tables;
 use pulsar_messages::Message;
 use pulsar_plans::content::Text;
@@ -62,15 +63,20 @@ impl Tables {
     }
 
     /// A message is sent by itself.
-    pub(super) fn sends(&mut self, producer: u64, message: Message) -> Result<Procedure, NoMemory>
-        ensures procedure { IfOk result (λ p. p ≡ rules.sends (chosen_of self.old.settings) (producers_of self.old.producers) producer (message_content message)) }
+    pub(super) fn sends(
+        &mut self,
+        producer: u64,
+        message: Message,
+        advice: Option<usize>,
+    ) -> Result<Procedure, NoMemory>
+        ensures procedure { IfOk result (λ p. p ≡ rules.sends (chosen_of self.old.settings) (producers_of self.old.producers) advice producer (message_content message)) }
         ensures after { OnOk result (view_of self.new ≡ record (view_of self.old) { producers = sent_on producer (message_content message ∷ []) (producers_of self.old.producers) }) }
         ensures settings { self.new.settings ≡ self.old.settings }
     {
         if let Some(refusal) = self.why_not(producer) {
             return Ok(Procedure::Refuse(refusal));
         }
-        self.sends_as(None, producer, message)
+        self.sends_as(None, producer, message, advice)
     }
 
     /// A message is sent, by itself or as a part of another call.
@@ -79,13 +85,13 @@ impl Tables {
         share: Option<Share>,
         producer: u64,
         message: Message,
+        advice: Option<usize>,
     ) -> Result<Procedure, NoMemory>
-        ensures procedure { IfOk result (λ p. p ≡ rules.sends_as (chosen_of self.old.settings) (producers_of self.old.producers) share producer (message_content message)) }
+        ensures procedure { IfOk result (λ p. p ≡ rules.sends_as (chosen_of self.old.settings) (producers_of self.old.producers) share advice producer (message_content message)) }
         ensures after { OnOk result (view_of self.new ≡ record (view_of self.old) { producers = routed producer (message_content message) (producers_of self.old.producers) }) }
         ensures settings { self.new.settings ≡ self.old.settings }
     {
-        let policies = self.settings.policies();
-        let Some(errand) = self.producers.route(producer, &message, policies) else {
+        let Some(errand) = self.producers.route(producer, &message, advice) else {
             return Ok(fails(share, Refusal::NoPartition));
         };
         let Some(ways) = self.settings.ways(self.alloc)? else {
@@ -104,12 +110,13 @@ impl Tables {
         &mut self,
         producer: u64,
         messages: Vec<Message>,
+        advice: Advice,
         parts: &mut VecDeque<Act>,
     ) -> Result<Procedure, NoMemory>
         requires open { may_call (view_of self.old).calls ≡ true }
         requires tickets { lacks_tickets self.old.tickets (length messages.items) ≡ false }
         ensures procedure { IfOk result (λ p. p ≡ rules.gathers (view_of self.old).calls (producers_of self.old.producers) producer (map message_content messages.items)) }
-        ensures parts { OnOk result (parts.new.items ≡ parts.old.items ++ rules.parts_of (view_of self.old) (SendAll producer (map message_content messages.items))) }
+        ensures parts { OnOk result (parts.new.items ≡ parts.old.items ++ rules.parts_of (view_of self.old) advice (SendAll producer (map message_content messages.items))) }
         ensures after { OnOk result (view_of self.new ≡ record (view_of self.old) { producers = sent_on producer (map message_content messages.items) (producers_of self.old.producers) }) }
         ensures settings { self.new.settings ≡ self.old.settings }
     {
@@ -118,7 +125,7 @@ impl Tables {
         }
         let of = self.tickets;
         let count = messages.len() as u64;
-        self.shares(of, producer, messages, parts)?;
+        self.shares(of, producer, messages, advice, parts)?;
         Ok(Procedure::Gather {
             first: of.saturating_add(1),
             count,
@@ -131,17 +138,23 @@ impl Tables {
         of: u64,
         producer: u64,
         messages: Vec<Message>,
+        mut advice: Advice,
         parts: &mut VecDeque<Act>,
     ) -> Result<(), NoMemory>
         requires { lacks_tickets of (length messages.items) ≡ false }
-        ensures parts { OnOk result (parts.new.items ≡ parts.old.items ++ rules.shares_of (chosen_of self.old.settings) (producers_of self.old.producers) of (of + 1) producer (map message_content messages.items)) }
+        ensures parts { OnOk result (parts.new.items ≡ parts.old.items ++ rules.shares_of (chosen_of self.old.settings) (producers_of self.old.producers) of (of + 1) advice producer (map message_content messages.items)) }
         ensures after { OnOk result (view_of self.new ≡ record (view_of self.old) { producers = all_routed producer (map message_content messages.items) (producers_of self.old.producers) }) }
         ensures settings { self.new.settings ≡ self.old.settings }
     {
         let mut ticket = of;
         for message in messages {
             ticket = ticket.saturating_add(1);
-            let procedure = self.sends_as(Some(Share { of, ticket }), producer, message)?;
+            let procedure = self.sends_as(
+                Some(Share { of, ticket }),
+                producer,
+                message,
+                advice.next(),
+            )?;
             parts.push_back(Act::Starts {
                 who: Who::Call(ticket),
                 procedure,

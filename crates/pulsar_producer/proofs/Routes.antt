@@ -7,7 +7,7 @@ use Rattle.pulsar_messages.specs.Content.{ProducerMessageValues}
 use Rattle.pulsar_messages.specs.Murmur.{murmur3}
 use Rattle.pulsar_messages.specs.declared.routing_policy.RoutingPolicy.{RoutingPolicy}
 use Rattle.pulsar_messages.specs.declared.routing_policy.RoutingPolicy.TheVariants.{RoundRobin, Single, Custom}
-use Rattle.pulsar_producer.specs.Routing.{IsRouted, Policy, Routed, asked, chosen, chosen_by, count, in_range, of_key, stepped}
+use Rattle.pulsar_producer.specs.Routing.{IsRouted, Policy, Routed, advice_by, asked, chosen, chosen_by, count, in_range, of_key, stepped}
 use Rattle.pulsar_producer.specs.Laws.{PartitionIsThere}
 
 pub step_there : (last n : ℕ) → last < n → cond (last + 1 == n) 0 (last + 1) < n
@@ -29,7 +29,8 @@ asked_there : (p : Option Policy) (m : ProducerMessageValues) (n i : ℕ) → as
 asked_there None m n i is = absurd cc
 asked_there (Some p) m n i is = range_there (p m n) n i (nat_lt (p m n) n) refl is
 
-by_policy : (policy : Option RoutingPolicy) (ps : List Policy) (m : ProducerMessageValues) (r : Routed) (i : ℕ) → IsRouted r → chosen_by policy ps m r ≡ Some i → i < count r
+by_policy : (policy : Option RoutingPolicy) (ps : List Policy) (m : ProducerMessageValues) (r : Routed) (i : ℕ) →
+    IsRouted r → chosen_by policy (advice_by policy ps m (count r)) m r ≡ Some i → i < count r
 by_policy None ps m r i ok is = let same : stepped r ≡ i = cc in subst (λ j. j < count r) same (step_there r.last (count r) ok.there)
 by_policy (Some RoundRobin) ps m r i ok is =
     let same : of_key m.partition_key r ≡ i = cc in subst (λ j. j < count r) same (key_there m.partition_key r ok)

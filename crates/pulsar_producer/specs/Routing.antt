@@ -50,15 +50,29 @@ abbrev pub asked : Option Policy → ProducerMessageValues → (count : ℕ) →
 asked None m n = None
 asked (Some p) m n = in_range (p m n) n
 
--- A policy that is not there chooses none. Where no policy is set, a message's key is not looked at.
-abbrev pub chosen_by : Option RoutingPolicy → List Policy → ProducerMessageValues → Routed → Option ℕ
-chosen_by None ps m r = Some (stepped r)
-chosen_by (Some RoundRobin) ps m r = Some (of_key m.partition_key r)
-chosen_by (Some Single) ps m r = Some r.last
-chosen_by (Some (Custom n)) ps m r = asked (slice_get ps n) m (count r)
+-- What the policy of a client says of a message, where a producer has such a policy: an index that is there. A policy that is not there
+-- says none.
+abbrev pub advice_by : Option RoutingPolicy → List Policy → ProducerMessageValues → (count : ℕ) → Option ℕ
+advice_by None ps m n = None
+advice_by (Some RoundRobin) ps m n = None
+advice_by (Some Single) ps m n = None
+advice_by (Some (Custom i)) ps m n = asked (slice_get ps i) m n
+
+abbrev pub advice : List Policy → ProducerMessageValues → Routed → Option ℕ
+advice ps m r = advice_by r.policy ps m (count r)
+
+-- The choice, by what was said. Where no policy is set, a message's key is not looked at.
+abbrev pub chosen_by : Option RoutingPolicy → (said : Option ℕ) → ProducerMessageValues → Routed → Option ℕ
+chosen_by None said m r = Some (stepped r)
+chosen_by (Some RoundRobin) said m r = Some (of_key m.partition_key r)
+chosen_by (Some Single) said m r = Some r.last
+chosen_by (Some (Custom n)) said m r = said
+
+abbrev pub chosen_on : (said : Option ℕ) → ProducerMessageValues → Routed → Option ℕ
+chosen_on said m r = chosen_by r.policy said m r
 
 abbrev pub chosen : List Policy → ProducerMessageValues → Routed → Option ℕ
-chosen ps m r = chosen_by r.policy ps m r
+chosen ps m r = chosen_on (advice ps m r) m r
 
 -- the index that was used last, behind that: only a step changes it
 abbrev pub last_by_key : Option (List ℕ) → Routed → ℕ

@@ -5,7 +5,7 @@ ghost use Rattle.std.specs.Option.{option_map};
 ghost use Rattle.pulsar_messages.specs.Content.{message_content, producer_options_values};
 ghost use Rattle.pulsar_session.specs.Failures.{failure};
 ghost use Rattle.pulsar_producer.specs.Errors.{IsNoMemory, no_such_index};
-ghost use Rattle.pulsar_producer.specs.Producer.{after, is_single, made, names, number_for};
+ghost use Rattle.pulsar_producer.specs.Producer.{advice, after, is_single, made, names, number_for, number_on};
 
 use crate::content::Settings;
 use crate::routing::{CustomRoutingPolicy, Partition, PartitionedProducer};
@@ -107,25 +107,36 @@ impl Producer {
             × (failure e ≡ no_such_index))) }
         ensures after { self.new ≡ after (message_content message.now) self.old }
     {
-        match self.target(message, policies) {
+        let advice = self.advice(message, policies);
+        match self.target(message, advice) {
             Some(number) => Ok(number),
             None => Err(self.routes.no_such_index()),
         }
     }
 
-    /// The same, and none where there is no such partition. It takes no memory.
-    pub fn target(
-        &mut self,
+    /// What the policy of the client says of a message, where the producer has such a policy: an index that is there. It takes no memory.
+    pub fn advice(
+        &self,
         message: &Message,
         policies: &[Box<dyn CustomRoutingPolicy>],
-    ) -> Option<u64>
-        ensures number { result ≡ number_for (map (λ p. routes p) policies.now) (message_content message.now) self.old }
+    ) -> Option<usize>
+        ensures { result ≡ advice (map (λ p. routes p) policies.now) (message_content message.now) self.now }
+    {
+        if self.is_single() {
+            return None;
+        }
+        self.routes.advice(message, policies)
+    }
+
+    /// The number of the topic producer that a message goes to by this advice, where it is there. It takes no memory.
+    pub fn target(&mut self, message: &Message, advice: Option<usize>) -> Option<u64>
+        ensures number { result ≡ number_on advice (message_content message.now) self.old }
         ensures after { self.new ≡ after (message_content message.now) self.old }
     {
         let index = if self.is_single() {
             Some(0)
         } else {
-            self.routes.choose(message, policies)
+            self.routes.choose_on(message, advice)
         };
         self.routes.number_at(index)
     }

@@ -1,11 +1,11 @@
 //! Which partition of a topic a message goes to.
 
-ghost use Rattle.std.specs.Prelude.{◌≡◌, ◌<◌, ◌⊎◌, ℕ, map, Some, None, IfOk, IfSome, MatchResult, slice_get, string_bytes};
+ghost use Rattle.std.specs.Prelude.{◌≡◌, ◌<◌, ◌⊎◌, ℕ, map, Some, None, IfOk, MatchResult, slice_get, string_bytes};
 ghost use Rattle.std.specs.Option.{option_map};
 ghost use Rattle.pulsar_messages.specs.Content.{ProducerMessageValues, message_content};
 ghost use Rattle.pulsar_session.specs.Failures.{failure};
 ghost use Rattle.pulsar_producer.specs.Errors.{IsNoMemory, no_such_index};
-ghost use Rattle.pulsar_producer.specs.Routing.{asked, begun, chosen, count, in_range, last_by_key, number_at, of_key, routed, stepped};
+ghost use Rattle.pulsar_producer.specs.Routing.{advice, asked, begun, chosen, chosen_on, count, in_range, last_by_key, number_at, of_key, routed, stepped};
 
 use pulsar_messages::{Message, RoutingPolicy};
 use pulsar_plans::content::Text;
@@ -92,7 +92,8 @@ impl PartitionedProducer {
         ensures last { self.new ≡ routed (message_content message.now) self.old }
         ensures below { IfOk result (λ i. i < count self.old) }
     {
-        match self.choose(message, policies) {
+        let advice = self.advice(message, policies);
+        match self.choose_on(message, advice) {
             Some(index) => Ok(index),
             None => Err(self.no_such_index()),
         }
@@ -126,26 +127,35 @@ impl PartitionedProducer {
         Ok(names)
     }
 
-    /// The index of the partition that a message goes to.
-    pub(crate) fn choose(
-        &mut self,
+    /// What the policy of the client says of a message, where there is such a policy: an index that is there. It takes no memory.
+    pub fn advice(
+        &self,
         message: &Message,
         policies: &[Box<dyn CustomRoutingPolicy>],
     ) -> Option<usize>
-        ensures chosen { result ≡ chosen (map (λ p. routes p) policies.now) (message_content message.now) self.old }
-        ensures last { self.new ≡ routed (message_content message.now) self.old }
-        ensures below { IfSome result (λ i. i < count self.old) }
+        ensures { result ≡ advice (map (λ p. routes p) policies.now) (message_content message.now) self.now }
     {
         match self.policy {
-            None => Some(self.step()),
-            Some(RoutingPolicy::RoundRobin) => Some(self.choose_by_key(&message.partition_key)),
-            Some(RoutingPolicy::Single) => Some(self.last),
             Some(RoutingPolicy::Custom(index)) => asked(
                 policies,
                 index,
                 message,
                 self.partitions.len(),
             ),
+            None | Some(RoutingPolicy::RoundRobin) | Some(RoutingPolicy::Single) => None,
+        }
+    }
+
+    /// The index of the partition that a message goes to by this advice.
+    pub(crate) fn choose_on(&mut self, message: &Message, advice: Option<usize>) -> Option<usize>
+        ensures chosen { result ≡ chosen_on advice (message_content message.now) self.old }
+        ensures last { self.new ≡ routed (message_content message.now) self.old }
+    {
+        match self.policy {
+            None => Some(self.step()),
+            Some(RoutingPolicy::RoundRobin) => Some(self.choose_by_key(&message.partition_key)),
+            Some(RoutingPolicy::Single) => Some(self.last),
+            Some(RoutingPolicy::Custom(_)) => advice,
         }
     }
 
@@ -153,7 +163,6 @@ impl PartitionedProducer {
     fn choose_by_key(&mut self, key: &Option<String>) -> usize
         ensures chosen { result ≡ of_key (option_map string_bytes key.now) self.old }
         ensures last { self.new ≡ record self.old { last = last_by_key (option_map string_bytes key.now) self.old } }
-        ensures below { result < count self.old }
     {
         match key {
             Some(key) => RoutingPolicy::compute_partition_index_for_key(
@@ -168,7 +177,6 @@ impl PartitionedProducer {
     fn step(&mut self) -> usize
         ensures chosen { result ≡ stepped self.old }
         ensures last { self.new ≡ record self.old { last = stepped self.old } }
-        ensures below { result < count self.old }
     {
         let next = self.last + 1;
         self.last = if next == self.partitions.len() {

@@ -28,7 +28,7 @@ use Rattle.pulsar_client.specs.Content.{Heard}
 use Rattle.pulsar_client.specs.Links.{numbers_from}
 use Rattle.pulsar_client.specs.Rules.{at_once, breaks_at, gets, gets_from, idle_act, is_idle, keeps_alive, may_ping, on_link, over_links, performs, rung, stop_act, tells, tries_again}
 use Rattle.pulsar_client.specs.Run.{Entry, Begins, Then, rules, view}
-use Rattle.pulsar_client.specs.View.{Chosen, Links, Seat, View, arrival_at, begun, begun_live, is_live}
+use Rattle.pulsar_client.specs.View.{Options, Links, Seat, View, arrival_at, begun, begun_live, is_live}
 
 -- LISTS
 
@@ -162,7 +162,7 @@ comes_quiet v _ h = tt
 pub begun_same : {A : Type 0} (field : View → A) (e : Heard) (v : View) → field (begun_live e v) ≡ field v → field (begun e v) ≡ field v
 begun_same field e v is = elim (is_live v e) as (λ b. field (cond b (begun_live e v) v) ≡ field v) [ true ↦ is | false ↦ refl ]
 
-pub chosen_same : (o : Chosen) (log : List Entry) → (view o log).chosen ≡ o
+pub chosen_same : (o : Options) (log : List Entry) → (view o log).chosen ≡ o
 chosen_same o [] = refl
 chosen_same o (Begins e ∷ log) = begun_same (λ v. v.chosen) e (view o log) refl ∙ chosen_same o log
 chosen_same o (Then a ∷ log) = chosen_same o log

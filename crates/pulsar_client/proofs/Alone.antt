@@ -23,7 +23,7 @@ use Rattle.pulsar_client.specs.Content.{Heard, Bytes}
 use Rattle.pulsar_client.specs.Laws.{LinksAlone, call_at, calls_of, dialed_with}
 use Rattle.pulsar_client.specs.Links.{call_of, called, closed_by}
 use Rattle.pulsar_client.specs.Run.{Entry, Begins, Then, view}
-use Rattle.pulsar_client.specs.View.{Chosen, Seat, begun_live, dialed, got_at, is_at, is_live, link_got, live_begun, seat_asked, seat_fed, seat_got, setup, took, took_end, took_some}
+use Rattle.pulsar_client.specs.View.{Chosen, Options, Seat, begun_live, dialed, got_at, is_at, is_live, link_got, live_begun, seat_asked, seat_fed, seat_got, setup, took, took_end, took_some}
 use Rattle.pulsar_client.proofs.Acts.{chosen_same}
 
 pub some_is : {A : Type 0} {x y : A} → Some x ≡ Some y → x ≡ y
@@ -136,7 +136,7 @@ got_on start calls (Some m) now l row k = either (l == m)
 
 -- ALONG A LOG
 
-module _ (o : Chosen) where
+module _ (o : Options) where
   abbrev Alone : List Entry → ℕ → Type 0
   Alone log l = Is (dialed_with o l log) (calls_of o l log) ((view o log).links.live l)
 

@@ -37,7 +37,7 @@ use Rattle.pulsar_client.specs.Links.{Change, IsOver}
 use Rattle.pulsar_client.specs.Plan.{begins}
 use Rattle.pulsar_client.specs.Rules.{at_once, breaks_at, called, does, follows, follows_some, gets_from, idle_act, is_idle, keeps_alive, may_ping, over_links, performs, rung, stop_act, tells, tries_again}
 use Rattle.pulsar_client.specs.Run.{Entry, Begins, Then, agenda, view}
-use Rattle.pulsar_client.specs.View.{Chosen, Seat, Tickets, Turned, View, arrival_at, is_retryable, pause_after, pause_for, pause_of, pause_on, pause_put, pause_rung, told_some, turned_by}
+use Rattle.pulsar_client.specs.View.{Chosen, Options, Seat, Tickets, Turned, View, arrival_at, is_retryable, pause_after, pause_for, pause_of, pause_on, pause_put, pause_rung, told_some, turned_by}
 use Rattle.pulsar_client.proofs.Acts.{Each, begun_same, chosen_same, each_append, each_drop, each_either, first_case, over_each}
 
 -- WHAT IS NO ATTEMPT
@@ -128,7 +128,7 @@ one_append : (xs ys : List Act) → OneDial xs → Each NoDial ys → OneDial (x
 one_append [] ys p q = each_drop NoDial ys q
 one_append (x ∷ xs) ys p q = each_append NoDial xs ys p q
 
-pub one_now : (o : Chosen) (log : List Entry) → OneDial (agenda o log).now
+pub one_now : (o : Options) (log : List Entry) → OneDial (agenda o log).now
 one_now o [] = tt
 one_now o (Begins e ∷ log) = tt
 one_now o (Then a ∷ log) =
@@ -181,17 +181,17 @@ few_after v (Comes (Rings a)) l row q = few_rung v.chosen.connection.max_retries
 few_after v (Does who StopAll) l row q = tt
 few_after v _ l row q = q
 
-pub few_retries : (o : Chosen) (log : List Entry) (l : ℕ) → FewRetries o.connection.max_retries ((view o log).addresses.pause l)
+pub few_retries : (o : Options) (log : List Entry) (l : ℕ) → FewRetries o.chosen.connection.max_retries ((view o log).addresses.pause l)
 few_retries o [] l = tt
 few_retries o (Begins e ∷ log) l =
-    subst (FewRetries o.connection.max_retries) (sym (begun_same (λ v. v.addresses.pause l) e (view o log) refl)) (few_retries o log l)
+    subst (FewRetries o.chosen.connection.max_retries) (sym (begun_same (λ v. v.addresses.pause l) e (view o log) refl)) (few_retries o log l)
 few_retries o (Then a ∷ log) l =
     subst (λ c. FewRetries c.connection.max_retries ((view o log).addresses.pause l) → FewRetries c.connection.max_retries (pause_after (view o log) a l ((view o log).addresses.pause l)))
     (chosen_same o log) (few_after (view o log) a l ((view o log).addresses.pause l)) (few_retries o log l)
 
 -- ITS CAUSE
 
-module _ (o : Chosen) (older : List Entry) (p : Place) (starter : Who) (n : ℕ) where
+module _ (o : Options) (older : List Entry) (p : Place) (starter : Who) (n : ℕ) where
   abbrev v : View
   v = view o older
 
@@ -222,7 +222,7 @@ module _ (o : Chosen) (older : List Entry) (p : Place) (starter : Who) (n : ℕ)
   at_most before most h = grind (arith, nat_tests)
 
   followed : (l : ℕ) (row : Option Pause) (ys : List Act) → rings v.now (Retry l) v.alarms ≡ true → v.addresses.pause l ≡ row →
-      FewRetries o.connection.max_retries row → tries_again row ≡ Dials p starter n ∷ ys → CausedBy (Comes (Rings (Retry l)))
+      FewRetries o.chosen.connection.max_retries row → tries_again row ≡ Dials p starter n ∷ ys → CausedBy (Comes (Rings (Retry l)))
   followed l None ys r e few h = absurd cc
   followed l (Some q) ys r e few h =
       let a : q.address ≡ p = cc in
@@ -235,7 +235,7 @@ module _ (o : Chosen) (older : List Entry) (p : Place) (starter : Who) (n : ℕ)
         r,
         e ∙ (λ i. Some (record { address = a i; starter = b i; retries = q.retries })),
         c,
-        subst (λ m. m ≤ o.connection.max_retries) (sym c) (at_most q.retries o.connection.max_retries few),
+        subst (λ m. m ≤ o.chosen.connection.max_retries) (sym c) (at_most q.retries o.chosen.connection.max_retries few),
       )
 
   rung_caused : (a : Alarm) (ys : List Act) → rings v.now a v.alarms ≡ true → rung v a ≡ Dials p starter n ∷ ys → CausedBy (Comes (Rings a))

@@ -48,7 +48,7 @@ use Rattle.pulsar_client.specs.Links.{arrival, change_at, change_in, closed_by, 
 use Rattle.pulsar_client.specs.Plan.{begins}
 use Rattle.pulsar_client.specs.Rules.{alone, answered_by, answered_on, at_once, breaks_at, called, caused, causes, does, dropped, ended_by, ended_on, failed, failed_by, failed_on, failed_over, failed_so, fails_so, follows, follows_some, further, gets_from, idle_act, is_idle, keeps_alive, lost, lost_so, lost_with, may_ping, moved_on, notice, opens, over_links, parts, rung, served_by, served_on, stop_act, stopped_at, stopped_with, tells, tells_asker, told_at, tries_again, waiters_of, woken}
 use Rattle.pulsar_client.specs.Run.{Entry, Begins, Then, rules, view}
-use Rattle.pulsar_client.specs.View.{Addresses, Chosen, Seat, Tickets, View, answer_at, arrival_at, pause_for, pause_of, told_some, turned_by}
+use Rattle.pulsar_client.specs.View.{Addresses, Chosen, Options, Seat, Tickets, View, answer_at, arrival_at, pause_for, pause_of, told_some, turned_by}
 use Rattle.pulsar_client.specs.Who.{is_same}
 use Rattle.pulsar_client.proofs.Acts.{Each, chosen_same, each_either, over_each}
 
@@ -202,7 +202,7 @@ loss_with (Overdue below) b = loss_so b
 loss_with Stops b = inr (inr refl)
 loss_with _ b = inr (inl refl)
 
-module _ (o : Chosen) (who : Who) (u : Outcome) (older : List Entry) where
+module _ (o : Options) (who : Who) (u : Outcome) (older : List Entry) where
   abbrev it : Notice
   it = record { who = who; outcome = u }
 

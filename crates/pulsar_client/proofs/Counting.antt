@@ -14,7 +14,7 @@ use Rattle.pulsar_client.specs.Laws.{TicketsCount}
 use Rattle.pulsar_client.specs.Rules.{at_once, brings, further, parts}
 use Rattle.pulsar_client.specs.Run.{Entry, Begins, Then, IsRun, Step, agenda, calls_in, first_of, is_call, rest, rest_of, rules, steps, view}
 use Rattle.pulsar_client.specs.Tables.{Stands}
-use Rattle.pulsar_client.specs.View.{Chosen, View, drawn_after, is_live}
+use Rattle.pulsar_client.specs.View.{Options, View, drawn_after, is_live}
 use Rattle.pulsar_client.proofs.Acts.{Each, begun_same}
 use Rattle.pulsar_client.proofs.Made.{IsMany, NoSingle, at_once_many, further_many, ticks_many}
 
@@ -86,7 +86,7 @@ calls_same : (xs : List Shown) (ss : List Step) → calls_in (map (in_order effe
 calls_same xs [] = refl
 calls_same xs (s ∷ ss) = refl
 
-counted : (o : Chosen) (log : List Entry) → IsRun o log → parts_drawn (agenda o log).parts (acts_drawn (agenda o log).now (view o log).calls.drawn) ≡ calls_in (steps o log)
+counted : (o : Options) (log : List Entry) → IsRun o log → parts_drawn (agenda o log).parts (acts_drawn (agenda o log).now (view o log).calls.drawn) ≡ calls_in (steps o log)
 counted o [] run = refl
 counted o (Begins e ∷ log) (run, rests) =
     let g = agenda o log in
@@ -109,5 +109,5 @@ tickets_count_lem o log run rests =
     sym (rested g.now g.here g.behind g.parts (view o log).calls.drawn rests) ∙ counted o log run
 
 -- the tickets of tables are the calls of a history that they stand for
-pub ticket_is : (c : Tables) {o : Chosen} {h : List Step} → Stands o c h → c.tickets ≡ calls_in h
+pub ticket_is : (c : Tables) {o : Options} {h : List Step} → Stands o c h → c.tickets ≡ calls_in h
 ticket_is c {o} {h} s = ap (λ v. v.calls.drawn) s.sees ∙ tickets_count_lem o s.log s.run s.rests ∙ ap calls_in (sym s.same)

@@ -19,7 +19,7 @@ use Rattle.pulsar_client.specs.Content.{Heard, Ticked}
 use Rattle.pulsar_client.specs.Laws.{AlarmsAreTicked, DeadlinesAreTicked, IdleEnds, IsDueAt, IsIdleAt, IsQuietAt, RingsAt, SignsOfLife}
 use Rattle.pulsar_client.specs.Rules.{brings, due_part, idle_act, is_idle, keeps_alive, may_ping, over_links, rung}
 use Rattle.pulsar_client.specs.Run.{Entry, Begins, Then, rules, view}
-use Rattle.pulsar_client.specs.View.{Chosen, Seat, View, is_live}
+use Rattle.pulsar_client.specs.View.{Chosen, Options, Seat, View, is_live}
 use Rattle.pulsar_client.proofs.Sources.{Any, Check, Fits, Keeping, Source, Tick, arises_fits, gives, in_append, in_links, in_map, in_one, source, step_more}
 
 -- WHAT COMES FROM ELSEWHERE
@@ -63,7 +63,7 @@ ticked v now p true i =
     ]
 ticked v now p false i = absurd i
 
-module _ (o : Chosen) (l queued : ℕ) where
+module _ (o : Options) (l queued : ℕ) where
   abbrev overdue : Act
   overdue = Comes (ToLink l (Ends (Overdue queued)))
 
@@ -84,7 +84,7 @@ deadlines_are_ticked_lem o log l queued run =
     step_more (Arises rules o (Comes (ToLink l (Ends (Overdue queued))))) (IsDueAt o l queued) (due_at o l queued) log
     (acts_arise_lem _ _ _ _ _ _ _ rules o (Comes (ToLink l (Ends (Overdue queued)))) log run)
 
-module _ (o : Chosen) (a : Alarm) where
+module _ (o : Options) (a : Alarm) where
   rings_at : (e : Entry) (older : List Entry) → Arises rules o (Comes (Rings a)) e older → RingsAt o a e older
   rings_at (Begins (Ticked now)) older i = elim (ticked (view o older) now (Rings a) (is_live (view o older) (Ticked now)) i) [
     | inl d ↦ (let no = d.4 in absurd cc)
@@ -108,7 +108,7 @@ none_told {X} p (ns ∷ nss) (inl i) = let k = in_map Told (Comes p) ns i in let
 none_told {X} p (ns ∷ nss) (inr i) = none_told p nss i
 
 -- what comes to a link at an alarm comes at once, and the alarm rings
-at_alarm : (o : Chosen) (a : Alarm) (p : Part) (older : List Entry) → Arises rules o (Comes p) (Then (Comes (Rings a))) older →
+at_alarm : (o : Options) (a : Alarm) (p : Part) (older : List Entry) → Arises rules o (Comes p) (Then (Comes (Rings a))) older →
     (rings (view o older).now a (view o older).alarms ≡ true) × In (Comes p) (rung (view o older) a)
 at_alarm o a p older (inl i) = by (rings (view o older).now a (view o older).alarms) i
   where
@@ -131,7 +131,7 @@ no_ping : (place : Option ℕ) → is_none place ≡ true → place ≡ None
 no_ping None h = refl
 no_ping (Some place) h = absurd cc
 
-module _ (o : Chosen) (l : ℕ) where
+module _ (o : Options) (l : ℕ) where
   abbrev idles : Act
   idles = Comes (ToLink l (Ends Idles))
 

@@ -10,7 +10,7 @@ use Rattle.pulsar_client.specs.declared.act.Part.{Part}
 use Rattle.pulsar_client.specs.Laws.{AllIsDone, AreActs}
 use Rattle.pulsar_client.specs.Rules.{at_once, below, causes, further}
 use Rattle.pulsar_client.specs.Run.{Entry, Begins, Then, IsRun, agenda, rules, view}
-use Rattle.pulsar_client.specs.View.{Chosen}
+use Rattle.pulsar_client.specs.View.{Options}
 
 in_left : {A : Type 0} (x : A) (xs ys : List A) → In x xs → In x (xs ++ ys)
 in_left x [] ys h = absurd h
@@ -111,7 +111,7 @@ module _ (a : Act) where
   none_left [] [] [] [] f (inr (inr (inl i))) = i
   none_left [] [] [] [] f (inr (inr (inr i))) = i
 
-  module _ (o : Chosen) where
+  module _ (o : Options) where
     abbrev IsLeftIn : List Entry → Type 0
     IsLeftIn log = IsLeft (agenda o log).now (agenda o log).here (agenda o log).behind (agenda o log).parts
 

@@ -6,7 +6,7 @@ use Rattle.pulsar_client.specs.Content.{Heard}
 use Rattle.pulsar_client.specs.Effects.{effect_below, effects}
 use Rattle.pulsar_client.specs.Rules.{parts}
 use Rattle.pulsar_client.specs.Run.{Agenda, Entry, Begins, Then, Good, IsRun, Step, agenda, first, goes_on, rest, rules, view}
-use Rattle.pulsar_client.specs.View.{Chosen, View, after, begun, new}
+use Rattle.pulsar_client.specs.View.{Options, View, after, begun, new}
 
 -- what is seen, what is left to do, and the steps so far
 pub record State : Type 0 where
@@ -14,7 +14,7 @@ pub record State : Type 0 where
   pub left : Agenda
   pub done : List Step
 
-abbrev pub fresh : Chosen → State
+abbrev pub fresh : Options → State
 fresh o = record { view = new o; left = only []; done = [] }
 
 abbrev pub acted : Act → State → State
@@ -42,7 +42,7 @@ next n e None = None
 next n e (Some s) = opened n e (first s.left) s
 
 -- after these events, newest first
-abbrev pub state : Chosen → ℕ → List Heard → Option State
+abbrev pub state : Options → ℕ → List Heard → Option State
 state o n [] = Some (fresh o)
 state o n (e ∷ es) = next n e (state o n es)
 
@@ -56,7 +56,7 @@ history_of (Some s) = closed (first s.left) s
 
 -- IT IS A RUN
 
-module _ (o : Chosen) where
+module _ (o : Options) where
   record Stands (s : State) : Type 0 where
     log : List Entry
     run : IsRun o log
@@ -118,5 +118,5 @@ module _ (o : Chosen) where
   ends (Some s) h k e = closes (first s.left) s h refl k e
 
 -- a history that is what is computed from its events is good
-pub computed : (o : Chosen) (n : ℕ) (h : List Step) → history_of (state o n (events h)) ≡ Some h → Good o h
+pub computed : (o : Options) (n : ℕ) (h : List Step) → history_of (state o n (events h)) ≡ Some h → Good o h
 computed o n h e = ends o (state o n (events h)) h (stands o n (events h)) e

@@ -62,7 +62,7 @@ use Rattle.pulsar_client.specs.Laws.{Deed, Acted, Answered, DeniesSo, FailsSo, I
 use Rattle.pulsar_client.specs.Plan.{asks, begins, failure_of, fails, fault_of, found, goes, news_in, stands, told, verdict, waits, wanted, wished}
 use Rattle.pulsar_client.specs.Rules.{asks_topics, builds_with, from_base, is_open, procedure_for, searches, unless_refused}
 use Rattle.pulsar_client.specs.Run.{Entry, Begins, Then, IsRun, view}
-use Rattle.pulsar_client.specs.View.{Chosen, Tickets, ways_of}
+use Rattle.pulsar_client.specs.View.{Options, Tickets, ways_of}
 use Rattle.pulsar_client.specs.Who.{is_same}
 use Rattle.pulsar_client.proofs.Follow.{plans_follow_lem}
 use Rattle.pulsar_client.proofs.Made.{calls_are_made_lem}
@@ -410,7 +410,7 @@ call_made o c (content.Partitions t) = open_made (is_open c) (searches (ways_of 
 call_made o c (content.Brokers t) = open_made (is_open c) (searches (ways_of o) (sought.Name t)) (searches_made (ways_of o) (sought.Name t) refl)
 call_made o c (content.Raw l request) = open_made (is_open c) (procedure.Ask (Link l) request says.Bodies) tt
 
-started_made : (o : Chosen) (log : List Entry) (w : Who) (p : Procedure) → IsRun o log → started w log ≡ Some p → IsMade p
+started_made : (o : Options) (log : List Entry) (w : Who) (p : Procedure) → IsRun o log → started w log ≡ Some p → IsMade p
 started_made o [] w p run h = absurd cc
 started_made o (Begins e ∷ log) w p run h = started_made o log w p run.0 h
 started_made o (Then (Starts (Call t) q) ∷ log) w p run h = elim (cases_Bool (is_same w (Call t))) [

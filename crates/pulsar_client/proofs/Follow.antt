@@ -23,7 +23,7 @@ use Rattle.pulsar_client.specs.Laws.{AnswersOnce, Deed, Answered, PlansFollow, a
 use Rattle.pulsar_client.specs.Plan.{begins, told}
 use Rattle.pulsar_client.specs.Rules.{at_once, called, does, follows, follows_some, performs}
 use Rattle.pulsar_client.specs.Run.{Entry, Begins, Then, IsRun, Agenda, agenda, first, view}
-use Rattle.pulsar_client.specs.View.{Chosen, Tickets, View, stays, stays_some, told_some}
+use Rattle.pulsar_client.specs.View.{Options, Tickets, View, stays, stays_some, told_some}
 use Rattle.pulsar_client.specs.Who.{is_same, rank}
 use Rattle.pulsar_client.proofs.Acts.{Each, IsQuiet, begun_same, comes_quiet, each_append, each_drop, each_map, first_case, is_served, none_now, performs_quiet}
 use Rattle.pulsar_client.proofs.Ticketed.{Began, apart, has_begun}
@@ -173,12 +173,12 @@ some_here : (w who : Who) (t : Turn Plan Verdict) (o : Outcome) → is_same w wh
 some_here w who (Gives verdict) o h = refl
 some_here w who (Stays plan action) o h = follows_due w who (told plan o) ∙ ap (λ b. cond b (first_deed (told plan o)) []) h
 
-pub record Follows (o : Chosen) (log : List Entry) : Type 0 where
+pub record Follows (o : Options) (log : List Entry) : Type 0 where
   head : Each NoDeed (drop 1 (agenda o log).now)
   each : (w : Who) (p : Procedure) → Began w → started w log ≡ Some p → deeds w log ++ due_deeds w (agenda o log).now ≡ course (begins p) (outcomes w log)
   stands : (w : Who) (p : Procedure) → started w log ≡ Some p → (view o log).stand w ≡ stays (along (begins p) (outcomes w log))
 
-module _ (o : Chosen) (log : List Entry) (a : Act) (k : Follows o log) (fits : first (agenda o log) ≡ Some a) where
+module _ (o : Options) (log : List Entry) (a : Act) (k : Follows o log) (fits : first (agenda o log) ≡ Some a) where
   g : Agenda
   g = agenda o log
 
@@ -215,7 +215,7 @@ module _ (o : Chosen) (log : List Entry) (a : Act) (k : Follows o log) (fits : f
     stands = λ w p h. same_stand w ∙ k.stands w p (sym (same_started w) ∙ h) ∙ ap (λ os. stays (along (begins p) os)) (sym (same_outcomes w));
   }
 
-told_on : (o : Chosen) (log : List Entry) (n : Notice) → Follows o log → first (agenda o log) ≡ Some (Told n) → Follows o (Then (Told n) ∷ log)
+told_on : (o : Options) (log : List Entry) (n : Notice) → Follows o log → first (agenda o log) ≡ Some (Told n) → Follows o (Then (Told n) ∷ log)
 told_on o log n k fits = record {
   head = head_on xs (left o log (Told n) k fits) (some_one n.who (told_some ((view o log).stand n.who) n.outcome)) (left_plain o log (Told n) k fits);
   each = λ w p t h.
@@ -247,7 +247,7 @@ told_on o log n k fits = record {
         ∙ append-nil (course (begins p) (outcomes w log))
         ∙ ap (λ b. course (begins p) (cond b (outcomes w log ++ n.outcome ∷ []) (outcomes w log))) (sym e)
 
-starts_on : (o : Chosen) (log : List Entry) (who : Who) (q : Procedure) → Follows o log → first (agenda o log) ≡ Some (Starts who q) → Follows o (Then (Starts who q) ∷ log)
+starts_on : (o : Options) (log : List Entry) (who : Who) (q : Procedure) → Follows o log → first (agenda o log) ≡ Some (Starts who q) → Follows o (Then (Starts who q) ∷ log)
 starts_on o log who q k fits = record {
   head = head_on xs (left o log (Starts who q) k fits) (follows_one who (begins q)) (left_plain o log (Starts who q) k fits);
   each = λ w p t h.
@@ -268,7 +268,7 @@ starts_on o log who q k fits = record {
     nil : (t : Turn Plan Verdict) → along t [] ≡ t
     nil t = along_nil t
 
-pub follows_run : (o : Chosen) (log : List Entry) → IsRun o log → Follows o log
+pub follows_run : (o : Options) (log : List Entry) → IsRun o log → Follows o log
 follows_run o [] r = record { head = tt; each = λ w p t h. absurd cc; stands = λ w p h. absurd cc }
 follows_run o (Begins e ∷ log) r =
     let k : Follows o log = follows_run o log r.0 in

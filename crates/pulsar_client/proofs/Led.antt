@@ -20,7 +20,7 @@ use Rattle.pulsar_client.specs.Laws.{Deed, Acted, Answered, ComesLate, DeedsFoll
 use Rattle.pulsar_client.specs.Plan.{begins, fails, told}
 use Rattle.pulsar_client.specs.Rules.{at_once, follows, follows_some, performs, procedure_for}
 use Rattle.pulsar_client.specs.Run.{Entry, Begins, Then, agenda, view}
-use Rattle.pulsar_client.specs.View.{Chosen, View, told_some}
+use Rattle.pulsar_client.specs.View.{Options, View, told_some}
 use Rattle.pulsar_client.proofs.Acts.{Each, IsQuiet, comes_quiet, each_map, first_case, is_served}
 use Rattle.pulsar_client.proofs.Follow.{NoDeed, follows_run, is_deed, left_plain, performs_none, quiet_no_deed}
 
@@ -50,7 +50,7 @@ led who w (Answered verdict) (Stays plan action) ys h = absurd cc
 led who w (Acted b) (Gives verdict) ys h = absurd cc
 led who w (Answered v) (Gives verdict) ys h = record { same = cc; leads = ap Gives (let e : verdict ≡ v = cc in e) }
 
-module _ (o : Chosen) (older : List Entry) (w : Who) (d : Deed) where
+module _ (o : Options) (older : List Entry) (w : Who) (d : Deed) where
   abbrev v : View
   v = view o older
 

@@ -27,7 +27,7 @@ use Rattle.pulsar_client.specs.Laws.{CallsAreMade}
 use Rattle.pulsar_client.specs.Plan.{begins}
 use Rattle.pulsar_client.specs.Rules.{at_once, brings, called, does, due_part, follows, follows_some, further, over_links, parts, performs, procedure_for, reads_on}
 use Rattle.pulsar_client.specs.Run.{Entry, Begins, Then, IsRun, agenda, first, rules, view}
-use Rattle.pulsar_client.specs.View.{Chosen, Seat, Tickets, View, arrival_at, is_live, told_some}
+use Rattle.pulsar_client.specs.View.{Options, Seat, Tickets, View, arrival_at, is_live, told_some}
 use Rattle.pulsar_client.proofs.Acts.{Each, IsQuiet, begun_same, chosen_same, comes_quiet, each_append, each_map, each_rest, over_each, performs_quiet}
 
 -- WHAT IS ALONE IN ITS EVENT
@@ -79,7 +79,7 @@ at_once_many v (Told n) = some_many n.who (told_some (v.stand n.who) n.outcome)
 at_once_many v (Does who action) = each_map IsQuiet NoSingle (performs v who action) quiet_many (performs_quiet v who action)
 at_once_many v _ = tt
 
-pub now_many : (o : Chosen) (log : List Entry) → Each NoSingle (agenda o log).now
+pub now_many : (o : Options) (log : List Entry) → Each NoSingle (agenda o log).now
 now_many o [] = tt
 now_many o (Begins e ∷ log) = tt
 now_many o (Then a ∷ log) =
@@ -144,7 +144,7 @@ brings_one v _ = inl (refl, tt)
 parts_one : (v : View) (e : Heard) → Each IsMany (parts v e) ⊎ OneOf (parts v e) e
 parts_one v e = elim (is_live v e) as (λ b. Each IsMany (cond b (brings v e) []) ⊎ OneOf (cond b (brings v e) []) e) [ true ↦ brings_one v e | false ↦ inl tt ]
 
-record Alone (o : Chosen) (log : List Entry) : Type 0 where
+record Alone (o : Options) (log : List Entry) : Type 0 where
   event : Heard
   older : List Entry
   is_there : log ≡ Begins event ∷ older
@@ -161,11 +161,11 @@ many_rest [] [] [] (p ∷ ps) k = k.1
 one_rest : (ps : List Part) (e : Heard) → OneOf ps e → Each IsMany (rest_of {A = Act} {N = Notice} [] [] [] ps).parts
 one_rest ps e k = subst (λ qs. Each IsMany (drop 1 qs)) (sym k.is_it) tt
 
-alone_rest : (o : Chosen) (log : List Entry) → Alone o log → Each IsMany (rest (agenda o log)).parts
+alone_rest : (o : Options) (log : List Entry) → Alone o log → Each IsMany (rest (agenda o log)).parts
 alone_rest o log k = subst (λ l. Each IsMany (rest (agenda o l)).parts) (sym k.is_there)
     (one_rest (parts (view o k.older) k.event) k.event (subst (λ l. OneOf (agenda o l).parts k.event) k.is_there k.one))
 
-alone : (o : Chosen) (log : List Entry) → Each IsMany (agenda o log).parts ⊎ Alone o log
+alone : (o : Options) (log : List Entry) → Each IsMany (agenda o log).parts ⊎ Alone o log
 alone o [] = inl tt
 alone o (Begins e ∷ log) = elim (parts_one (view o log) e) [
   | inl many ↦ inl many
@@ -185,7 +185,7 @@ pub record ComesAlone (p : Part) (log : List Entry) : Type 0 where
   pub is_there : log ≡ Begins event ∷ older
   pub of_it : IsPartOf p event
 
-pub comes_alone : (o : Chosen) (log : List Entry) (p : Part) → is_single p ≡ true → IsRun o (Then (Comes p) ∷ log) → ComesAlone p log
+pub comes_alone : (o : Options) (log : List Entry) (p : Part) → is_single p ≡ true → IsRun o (Then (Comes p) ∷ log) → ComesAlone p log
 comes_alone o log p single run =
     let k = part_first (agenda o log).now (agenda o log).here (agenda o log).behind (agenda o log).parts p single (now_many o log) run.1 in
     elim (alone o log) [
@@ -204,12 +204,12 @@ comes_alone o log p single run =
     head : {q : Part} {ps : List Part} → q ∷ [] ≡ p ∷ ps → q ≡ p
     head {q} {ps} h = cc
 
-pub call_comes : (o : Chosen) (log : List Entry) (asked : Asked) → IsRun o (Then (Comes (Calls asked)) ∷ log) → (older : List Entry) × (log ≡ Begins (Called asked) ∷ older)
+pub call_comes : (o : Options) (log : List Entry) (asked : Asked) → IsRun o (Then (Comes (Calls asked)) ∷ log) → (older : List Entry) × (log ≡ Begins (Called asked) ∷ older)
 call_comes o log asked run =
     let k = comes_alone o log (Calls asked) refl run in
     (k.older, k.is_there ∙ ap (λ e. Begins e ∷ k.older) k.of_it)
 
-pub poll_comes : (o : Chosen) (log : List Entry) (t : ℕ) → IsRun o (Then (Comes (Polls t)) ∷ log) → (older : List Entry) × (log ≡ Begins (Poll t) ∷ older)
+pub poll_comes : (o : Options) (log : List Entry) (t : ℕ) → IsRun o (Then (Comes (Polls t)) ∷ log) → (older : List Entry) × (log ≡ Begins (Poll t) ∷ older)
 poll_comes o log t run =
     let k = comes_alone o log (Polls t) refl run in
     (k.older, k.is_there ∙ ap (λ e. Begins e ∷ k.older) k.of_it)
@@ -240,7 +240,7 @@ some_no_start who None = tt
 some_no_start who (Some t) = follows_no_start who t
 
 -- a call has just come: what is left at once is its start, or its end where no ticket is left
-record JustCame (o : Chosen) (log : List Entry) : Type 0 where
+record JustCame (o : Options) (log : List Entry) : Type 0 where
   asked : Asked
   older : List Entry
   is_there : log ≡ Then (Comes (Calls asked)) ∷ older
@@ -254,7 +254,7 @@ came_rest : (o : Chosen) (c : Tickets) (asked : Asked) (now : List Act) (here : 
 came_rest o c asked (a ∷ now) here behind ps h = subst (λ xs. Each NoStart (drop 1 xs)) (sym h) (called_behind o c asked)
 came_rest o c asked [] here behind ps h = each_rest NoStart [] here behind ps tt
 
-module _ (o : Chosen) (log : List Entry) (before : Each NoStart (agenda o log).now ⊎ JustCame o log) where
+module _ (o : Options) (log : List Entry) (before : Each NoStart (agenda o log).now ⊎ JustCame o log) where
   left_starts : Each NoStart (rest (agenda o log)).now
   left_starts = elim before [
     | inl k ↦ each_rest NoStart (agenda o log).now (agenda o log).here (agenda o log).behind (agenda o log).parts k
@@ -284,7 +284,7 @@ module _ (o : Chosen) (log : List Entry) (before : Each NoStart (agenda o log).n
   starts_on (Does who action) fits = inl (quiet_starts (Does who action) (performs_quiet (view o log) who action))
   starts_on a fits = inl (plain_starts a tt)
 
-starts_come : (o : Chosen) (log : List Entry) → IsRun o log → Each NoStart (agenda o log).now ⊎ JustCame o log
+starts_come : (o : Options) (log : List Entry) → IsRun o log → Each NoStart (agenda o log).now ⊎ JustCame o log
 starts_come o [] run = inl tt
 starts_come o (Begins e ∷ log) run = inl tt
 starts_come o (Then a ∷ log) run = starts_on o log (starts_come o log run.0) a run.1
@@ -298,7 +298,7 @@ start_first [] [] (cause ∷ behind) ps who p h = start_first [] cause behind ps
 start_first [] [] [] (q ∷ ps) who p h = absurd cc
 start_first [] [] [] [] who p h = absurd cc
 
-record IsMade (o : Chosen) (who : Who) (p : Procedure) (log : List Entry) : Type 0 where
+record IsMade (o : Options) (who : Who) (p : Procedure) (log : List Entry) : Type 0 where
   asked : Asked
   older : List Entry
   is_there : log ≡ Then (Comes (Calls asked)) ∷ Begins (Called asked) ∷ older
@@ -323,7 +323,7 @@ makes o c asked who p xs h = elim (cases_Bool (is_spent c.drawn)) [
     so : is_spent c.drawn ≡ false → Starts (Call c.drawn) (procedure_for o c asked) ∷ [] ≡ Starts who p ∷ xs → Makes o c asked who p
     so e f = record { is_left = e; ticket = cc; procedure = cc }
 
-is_made : (o : Chosen) (log : List Entry) (who : Who) (p : Procedure) → IsRun o (Then (Starts who p) ∷ log) → IsMade o who p log
+is_made : (o : Options) (log : List Entry) (who : Who) (p : Procedure) → IsRun o (Then (Starts who p) ∷ log) → IsMade o who p log
 is_made o log who p run = elim (starts_come o log run.0) [ inl none ↦ absurd (no none) | inr came ↦ made came ]
   where
     at_head : (xs : List Act) × ((agenda o log).now ≡ Starts who p ∷ xs)

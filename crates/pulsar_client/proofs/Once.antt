@@ -24,7 +24,7 @@ use Rattle.pulsar_client.specs.Laws.{EndsOnce, counted, end_of, start_of}
 use Rattle.pulsar_client.specs.Plan.{begins, told}
 use Rattle.pulsar_client.specs.Rules.{at_once, called, does, follows, follows_some}
 use Rattle.pulsar_client.specs.Run.{Entry, Begins, Then, IsRun, agenda, first, view}
-use Rattle.pulsar_client.specs.View.{Chosen, Tickets, stays, stays_some, told_some}
+use Rattle.pulsar_client.specs.View.{Options, Tickets, stays, stays_some, told_some}
 use Rattle.pulsar_client.specs.Who.{is_same}
 use Rattle.pulsar_client.proofs.Acts.{Each, IsQuiet, begun_same, comes_quiet, first_case, is_served, performs_quiet}
 use Rattle.pulsar_client.proofs.Follow.{same_is}
@@ -105,18 +105,18 @@ some_there t who (Some plan) o h =
 abbrev drawn : ℕ → ℕ → ℕ
 drawn t n = cond (nat_lt t n) 1 0
 
-record Few (o : Chosen) (log : List Entry) (t : ℕ) : Type 0 where
+record Few (o : Options) (log : List Entry) (t : ℕ) : Type 0 where
   begun : counted (start_of t) log + due (start_of t) (agenda o log).now ≤ drawn t (view o log).calls.drawn
   ended : is_spent t ≡ false → counted (end_of t) log + due (start_of t) (agenda o log).now + due (end_of t) (agenda o log).now + alive ((view o log).stand (Call t)) ≤ drawn t (view o log).calls.drawn
 
 -- what an act itself was is taken from what was due
-taken : (o : Chosen) (log : List Entry) (a : Act) (f : Act → ℕ) → (is_served a ≡ true → f a ≡ 0) → first (agenda o log) ≡ Some a → due f (agenda o log).now ≡ f a + due f (rest (agenda o log)).now
+taken : (o : Options) (log : List Entry) (a : Act) (f : Act → ℕ) → (is_served a ≡ true → f a ≡ 0) → first (agenda o log) ≡ Some a → due f (agenda o log).now ≡ f a + due f (rest (agenda o log)).now
 taken o log a f none fits = elim (first_case (agenda o log).now (agenda o log).here (agenda o log).behind (agenda o log).parts a fits) [
   | inl e ↦ ap (due f) e
   | inr e ↦ ap (due f) e.0 ∙ sym ((λ i. none e.2 i + due f (e.1 i)))
 ]
 
-module _ (o : Chosen) (log : List Entry) (a : Act) (t : ℕ) (k : Few o log t) (fits : first (agenda o log) ≡ Some a) where
+module _ (o : Options) (log : List Entry) (a : Act) (t : ℕ) (k : Few o log t) (fits : first (agenda o log) ≡ Some a) where
   abbrev left : List Act
   left = (rest (agenda o log)).now
 
@@ -155,9 +155,9 @@ next_end t n e d c a h = grind (arith, nat_tests)
 spent_end : (b : Bool) (e d c a n : ℕ) → b ≡ false → e + (0 + d) + (0 + c) + a ≤ n → (e + 0) + (0 + d) + ((cond b 1 0 + 0) + c) + a ≤ n
 spent_end b e d c a n low h = rw low (omega (arith, h))
 
-calls_on : (o : Chosen) (log : List Entry) (asked : Asked) (t : ℕ) → Few o log t → first (agenda o log) ≡ Some (Comes (Calls asked)) → Few o (Then (Comes (Calls asked)) ∷ log) t
+calls_on : (o : Options) (log : List Entry) (asked : Asked) (t : ℕ) → Few o log t → first (agenda o log) ≡ Some (Comes (Calls asked)) → Few o (Then (Comes (Calls asked)) ∷ log) t
 calls_on o log asked t k fits =
-    let q : Chosen = (view o log).chosen in
+    let q : Options = (view o log).chosen in
     let calls : Tickets = (view o log).calls in
     let n : ℕ = calls.drawn in
     let xs : List Act = left o log (Comes (Calls asked)) t k fits in
@@ -178,7 +178,7 @@ calls_on o log asked t k fits =
       }
     ]
 
-starts_on : (o : Chosen) (log : List Entry) (who : Who) (p : Procedure) (t : ℕ) → Few o log t → first (agenda o log) ≡ Some (Starts who p) → Few o (Then (Starts who p) ∷ log) t
+starts_on : (o : Options) (log : List Entry) (who : Who) (p : Procedure) (t : ℕ) → Few o log t → first (agenda o log) ≡ Some (Starts who p) → Few o (Then (Starts who p) ∷ log) t
 starts_on o log who p t k fits =
     let xs : List Act = left o log (Starts who p) t k fits in
     let ds : due (start_of t) (follows who (begins p) ++ xs) ≡ due (start_of t) (follows who (begins p)) + due (start_of t) xs = due_append (start_of t) (follows who (begins p)) xs in
@@ -195,7 +195,7 @@ starts_on o log who p t k fits =
           ]));
     }
 
-told_on : (o : Chosen) (log : List Entry) (n : Notice) (t : ℕ) → Few o log t → first (agenda o log) ≡ Some (Told n) → Few o (Then (Told n) ∷ log) t
+told_on : (o : Options) (log : List Entry) (n : Notice) (t : ℕ) → Few o log t → first (agenda o log) ≡ Some (Told n) → Few o (Then (Told n) ∷ log) t
 told_on o log n t k fits =
     let turn : Option (Turn Plan Verdict) = told_some ((view o log).stand n.who) n.outcome in
     let xs : List Act = left o log (Told n) t k fits in
@@ -217,7 +217,7 @@ told_on o log n t k fits =
           ]));
     }
 
-begins_on : (o : Chosen) (log : List Entry) (e : Heard) (t : ℕ) → Few o log t → Few o (Begins e ∷ log) t
+begins_on : (o : Options) (log : List Entry) (e : Heard) (t : ℕ) → Few o log t → Few o (Begins e ∷ log) t
 begins_on o log e t k =
     let c : (view o (Begins e ∷ log)).calls.drawn ≡ (view o log).calls.drawn = begun_same (λ v. v.calls.drawn) e (view o log) refl in
     let s : (view o (Begins e ∷ log)).stand (Call t) ≡ (view o log).stand (Call t) = begun_same (λ v. v.stand (Call t)) e (view o log) refl in
@@ -227,7 +227,7 @@ begins_on o log e t k =
       ended = λ low. (let d = k.ended low in rw (c, s) (omega (arith, d)));
     }
 
-few_run : (o : Chosen) (log : List Entry) (t : ℕ) → IsRun o log → Few o log t
+few_run : (o : Options) (log : List Entry) (t : ℕ) → IsRun o log → Few o log t
 few_run o [] t r = record { begun = (let z : 0 ≤ drawn t 0 = omega arith in z); ended = λ low. (let z : 0 ≤ drawn t 0 = omega arith in z) }
 few_run o (Begins e ∷ log) t r = begins_on o log e t (few_run o log t r.0)
 few_run o (Then (Comes (Calls asked)) ∷ log) t r = calls_on o log asked t (few_run o log t r.0) r.1

@@ -34,7 +34,7 @@ use Rattle.pulsar_client.specs.Links.{numbers_from}
 use Rattle.pulsar_client.specs.Plan.{begins, fails}
 use Rattle.pulsar_client.specs.Rules.{at_once, breaks_at, brings, called, does, due_part, follows, follows_some, further, gets_from, idle_act, is_idle, may_ping, on_link, over_links, parts, performs, procedure_for, reads_on, rung, stop_act, tells, tries_again}
 use Rattle.pulsar_client.specs.Run.{Entry, Begins, Then, rules, view}
-use Rattle.pulsar_client.specs.View.{Chosen, Links, Seat, Tickets, View, arrival_at, is_live, told_some}
+use Rattle.pulsar_client.specs.View.{Chosen, Options, Links, Seat, Tickets, View, arrival_at, is_live, told_some}
 use Rattle.pulsar_client.proofs.Acts.{Each, each_append, each_map, over_each}
 
 -- WHAT IS IN A LIST
@@ -200,7 +200,7 @@ parts_fits : (v : View) (e : Heard) → Each (λ p. Fits (gives (Begins e)) (Com
 parts_fits v e = either (λ p. Fits (gives (Begins e)) (Comes p)) (is_live v e) (brings v e) [] (brings_fits v e) tt
 
 -- whatever arises at an entry comes from anywhere, or from this entry
-pub arises_fits : (o : Chosen) (a : Act) (e : Entry) (older : List Entry) → Arises rules o a e older → Fits (gives e) a
+pub arises_fits : (o : Options) (a : Act) (e : Entry) (older : List Entry) → Arises rules o a e older → Fits (gives e) a
 arises_fits o a (Begins e) older i =
     let p = in_map Comes a (parts (view o older) e) i in
     subst (Fits (gives (Begins e))) (sym p.2) (in_each (λ q. Fits (gives (Begins e)) (Comes q)) p.0 (parts (view o older) e) p.1 (parts_fits (view o older) e))

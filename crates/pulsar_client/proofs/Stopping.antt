@@ -57,7 +57,7 @@ use Rattle.pulsar_client.specs.Links.{line_places, numbers_from}
 use Rattle.pulsar_client.specs.Plan.{fails, goes, news_in, told, verdict}
 use Rattle.pulsar_client.specs.Rules.{asks_topics, at_once, below, builds_with, called, causes, dropped, ended_on, failed_at, failed_on, failed_over, follows, follows_some, from_base, is_open, lost, notice, on_link, opens, over_links, procedure_for, searches, stop_act, stopped_at, stopped_with, tells, tells_asker, unless_refused, waiters_of}
 use Rattle.pulsar_client.specs.Run.{Agenda, Entry, Begins, Then, IsRun, agenda, first, rules, view}
-use Rattle.pulsar_client.specs.View.{Addresses, Base, Chosen, Links, Seat, Tickets, View, alarms_after, alarms_built, alarms_on, alarms_over, begun, begun_live, builds, calls_after, got_at, is_live, link_got, live_after, live_begun, pause_after, pause_of, pause_on, pause_put, pause_rung, told_some, took_some, turned_by, ways_of}
+use Rattle.pulsar_client.specs.View.{Addresses, Base, Options, Links, Seat, Tickets, View, alarms_after, alarms_built, alarms_on, alarms_over, begun, begun_live, builds, calls_after, got_at, is_live, link_got, live_after, live_begun, pause_after, pause_of, pause_on, pause_put, pause_rung, told_some, took_some, turned_by, ways_of}
 use Rattle.pulsar_client.proofs.Acts.{Each, IsQuiet, begun_same, comes_quiet, each_append, each_either, each_first, each_flat, each_map, each_rest, first_case, is_served, none_now, over_each, performs_quiet}
 use Rattle.pulsar_client.proofs.Attempts.{is_dial}
 use Rattle.pulsar_client.proofs.Made.{NoSingle, is_single, comes_single, now_many}
@@ -128,7 +128,7 @@ begun_dead e l v h =
     elim (is_live v e) as (λ b. (cond b (begun_live e v) v).links.live l ≡ None) [ true ↦ ap (live_begun e l) h ∙ live_none e l | false ↦ h ]
 
 -- a link that was not started is none
-not_started : (o : Chosen) (log : List Entry) (l : ℕ) → (view o log).links.started ≤ l → (view o log).links.live l ≡ None
+not_started : (o : Options) (log : List Entry) (l : ℕ) → (view o log).links.started ≤ l → (view o log).links.live l ≡ None
 not_started o [] l h = refl
 not_started o (Begins e ∷ log) l h =
     begun_dead e l (view o log) (not_started o log l (subst (λ n. n ≤ l) (begun_same (λ v. v.links.started) e (view o log) refl) h))
@@ -139,7 +139,7 @@ not_started o (Then (Dials p starter n) ∷ log) l h =
 not_started o (Then a ∷ log) l h =
     let v = view o log in ap (live_after v.chosen v.addresses v.now v.links.started a l) (not_started o log l h) ∙ stays_dead v a l refl
 
-is_started : (o : Chosen) (log : List Entry) (l : ℕ) (seat : Seat) → (view o log).links.live l ≡ Some seat → nat_lt l (view o log).links.started ≡ true
+is_started : (o : Options) (log : List Entry) (l : ℕ) (seat : Seat) → (view o log).links.live l ≡ Some seat → nat_lt l (view o log).links.started ≡ true
 is_started o log l seat h = elim (cases_Bool (nat_lt l (view o log).links.started)) [
   | inl e ↦ e
   | inr e ↦
@@ -216,7 +216,7 @@ clear_part [] [] [] (q ∷ ps) p s k h = record { now = refl; here = refl; behin
 clear_part [] [] [] [] p s k h = absurd cc
 
 -- one act is all that is left but parts
-record Alone (o : Chosen) (log : List Entry) : Type 0 where
+record Alone (o : Options) (log : List Entry) : Type 0 where
   act : Act
   now : (agenda o log).now ≡ act ∷ []
   here : (agenda o log).here ≡ []
@@ -227,11 +227,11 @@ clear_one : (now : List Act) (here : List Notice) (behind : List (List Notice)) 
 clear_one (b ∷ now) here behind ps a e h k = record { now = (let f : now ≡ [] = cc in f); here = h; behind = k }
 clear_one [] here behind ps a e h k = absurd cc
 
-alone_rest : (o : Chosen) (log : List Entry) → Alone o log → IsClear (rest (agenda o log))
+alone_rest : (o : Options) (log : List Entry) → Alone o log → IsClear (rest (agenda o log))
 alone_rest o log k = clear_one (agenda o log).now (agenda o log).here (agenda o log).behind (agenda o log).parts k.act k.now k.here k.behind
 
 -- an act of which one arises, and no cause, where nothing else is left
-alone_on : (o : Chosen) (log : List Entry) (a b : Act) → IsClear (rest (agenda o log)) → at_once (view o log) a ≡ b ∷ [] → causes (view o log) a ≡ [] → Alone o (Then a ∷ log)
+alone_on : (o : Options) (log : List Entry) (a b : Act) → IsClear (rest (agenda o log)) → at_once (view o log) a ≡ b ∷ [] → causes (view o log) a ≡ [] → Alone o (Then a ∷ log)
 alone_on o log a b k once none = record {
   act = b;
   now = (λ i. once i ++ k.now i);
@@ -245,7 +245,7 @@ called_one o c asked = elim (is_spent c.drawn) as (λ s. (b : Act) × (cond s (A
   | false ↦ (Starts (Call c.drawn) (procedure_for o c asked), refl)
 ]
 
-module _ (o : Chosen) (log : List Entry) (before : Each NoStop (agenda o log).now ⊎ Alone o log) where
+module _ (o : Options) (log : List Entry) (before : Each NoStop (agenda o log).now ⊎ Alone o log) where
   left_stops : Each NoStop (rest (agenda o log)).now
   left_stops = elim before [
     | inl k ↦ each_rest NoStop (agenda o log).now (agenda o log).here (agenda o log).behind (agenda o log).parts k
@@ -284,7 +284,7 @@ module _ (o : Chosen) (log : List Entry) (before : Each NoStop (agenda o log).no
   stops_on (Does who action) fits = quiet_stops (Does who action) (performs_quiet (view o log) who action)
   stops_on a fits = plain_stops a tt
 
-stops_come : (o : Chosen) (log : List Entry) → IsRun o log → Each NoStop (agenda o log).now ⊎ Alone o log
+stops_come : (o : Options) (log : List Entry) → IsRun o log → Each NoStop (agenda o log).now ⊎ Alone o log
 stops_come o [] run = inl tt
 stops_come o (Begins e ∷ log) run = inl tt
 stops_come o (Then a ∷ log) run = stops_on o log (stops_come o log run.0) a run.1
@@ -443,7 +443,7 @@ none_built b (Consumer l number topic) is = absurd cc
 
 -- WHERE THE CLIENT IS STOPPED
 
-record Over (o : Chosen) (log : List Entry) : Type 0 where
+record Over (o : Options) (log : List Entry) : Type 0 where
   now : Each IsLast (agenda o log).now
   here : Each IsLastNotice (agenda o log).here
   behind : Each (Each IsLastNotice) (agenda o log).behind
@@ -480,7 +480,7 @@ rest_behind [] (m ∷ here) behind ps c = c
 rest_behind [] [] (cause ∷ behind) ps c = rest_behind [] cause behind ps c.1
 rest_behind [] [] [] ps c = tt
 
-module _ (o : Chosen) (log : List Entry) (k : Over o log) where
+module _ (o : Options) (log : List Entry) (k : Over o log) where
   abbrev v : View
   v = view o log
 
@@ -603,7 +603,7 @@ in_over ls l seat h lt =
     let below_all : nat_lt l (0 + ls.started) ≡ true = grind (arith, nat_tests) in
     in_flat (on_link stop_act ls.live) l (Comes (ToLink l (Ends Stops))) (numbers_from 0 ls.started) (in_numbers ls.started 0 l (omega arith) below_all) own
 
-over_starts : (o : Chosen) (log : List Entry) (who : Who) → IsRun o log → first (agenda o log) ≡ Some (Does who StopAll) → Over o (Then (Does who StopAll) ∷ log)
+over_starts : (o : Options) (log : List Entry) (who : Who) → IsRun o log → first (agenda o log) ≡ Some (Does who StopAll) → Over o (Then (Does who StopAll) ∷ log)
 over_starts o log who run fits =
     let v = view o log in
     let clear = stop_alone o log (stops_come o log run) (Does who StopAll) refl fits in
@@ -633,7 +633,7 @@ over_starts o log who run fits =
         inr (in_left (Comes (ToLink l (Ends Stops))) (over_links stop_act ls ++ tells who outcome.Stopped) (rest (agenda o log)).now
         (in_left (Comes (ToLink l (Ends Stops))) (over_links stop_act ls) (tells who outcome.Stopped) (in_over ls l seat e (is_started o log l seat e))))
 
-over_run : (o : Chosen) (log : List Entry) → IsRun o log → stopped log ≡ true → Over o log
+over_run : (o : Options) (log : List Entry) → IsRun o log → stopped log ≡ true → Over o log
 over_run o [] run h = absurd cc
 over_run o (Begins e ∷ log) run h = over_begins o log (over_run o log run.0 h) e run.1
 over_run o (Then (Does who StopAll) ∷ log) run h = over_starts o log who run.0 run.1

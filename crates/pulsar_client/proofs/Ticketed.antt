@@ -32,7 +32,7 @@ use Rattle.pulsar_client.specs.Run.{Agenda, Entry, Begins, Then, IsRun, Step, ag
 use Rattle.pulsar_client.specs.Subscribers.{subscription_at}
 use Rattle.pulsar_client.specs.Subscriptions.{Subscription, ended_at}
 use Rattle.pulsar_client.specs.Tables.{InStep}
-use Rattle.pulsar_client.specs.View.{Chosen, Tickets, View, closing, consumer_after, drawn_after, made, stand_after, stays_some, told_some}
+use Rattle.pulsar_client.specs.View.{Options, Tickets, View, closing, consumer_after, drawn_after, made, stand_after, stays_some, told_some}
 use Rattle.pulsar_client.specs.Who.{is_same}
 use Rattle.pulsar_client.proofs.Acts.{Each, IsQuiet, begun_same, comes_quiet, each_append, each_first, each_map, each_rest, is_served, performs_quiet}
 
@@ -125,7 +125,7 @@ comes_due v p = each_map IsQuiet (IsDue (drawn_after (Comes p) v.calls.drawn)) (
 -- ALONG A LOG
 
 -- who has a plan, and who is due
-record IsTicketed (o : Chosen) (log : List Entry) : Type 0 where
+record IsTicketed (o : Options) (log : List Entry) : Type 0 where
   stands : (w : Who) (plan : Plan) → (view o log).stand w ≡ Some plan → Has (view o log).calls.drawn w
   due : Each (IsDue (view o log).calls.drawn) (agenda o log).now
   consumers : (t : ℕ) (s : Subscription) → (view o log).consumers t ≡ Some s → Has (view o log).calls.drawn (Call t)
@@ -142,7 +142,7 @@ told_was : (row : Option Plan) (o : Outcome) (plan : Plan) → stays_some (told_
 told_was None o plan h = absurd (none_some h)
 told_was (Some old) o plan h = (old, refl)
 
-module _ (o : Chosen) (log : List Entry) (k : IsTicketed o log) where
+module _ (o : Options) (log : List Entry) (k : IsTicketed o log) where
   abbrev drawn : ℕ
   drawn = (view o log).calls.drawn
 
@@ -207,7 +207,7 @@ module _ (o : Chosen) (log : List Entry) (k : IsTicketed o log) where
         consumers = next_consumers a is_due;
       }
 
-begins_ticketed : (o : Chosen) (log : List Entry) (e : Heard) → IsTicketed o log → IsTicketed o (Begins e ∷ log)
+begins_ticketed : (o : Options) (log : List Entry) (e : Heard) → IsTicketed o log → IsTicketed o (Begins e ∷ log)
 begins_ticketed o log e k =
     let s = begun_same (λ v. v.stand) e (view o log) refl in
     let m = begun_same (λ v. v.consumers) e (view o log) refl in
@@ -218,12 +218,12 @@ begins_ticketed o log e k =
       consumers = λ t sub h. subst (λ n. Has n (Call t)) (sym d) (k.consumers t sub (sym (ap (λ f. f t) m) ∙ h));
     }
 
-is_ticketed : (o : Chosen) (log : List Entry) → IsRun o log → IsTicketed o log
+is_ticketed : (o : Options) (log : List Entry) → IsRun o log → IsTicketed o log
 is_ticketed o [] run = record { stands = λ w plan h. absurd (none_some h); due = tt; consumers = λ t s h. absurd (none_some h) }
 is_ticketed o (Begins e ∷ log) run = begins_ticketed o log e (is_ticketed o log run.0)
 is_ticketed o (Then a ∷ log) run = next_ticketed o log (is_ticketed o log run.0) a run.1
 
-pub consumer_ticket : (o : Chosen) (log : List Entry) (t : ℕ) (s : Subscription) → IsRun o log → (view o log).consumers t ≡ Some s → is_spent t ≡ false
+pub consumer_ticket : (o : Options) (log : List Entry) (t : ℕ) (s : Subscription) → IsRun o log → (view o log).consumers t ≡ Some s → is_spent t ≡ false
 consumer_ticket o log t s run h = ((is_ticketed o log run).consumers t s h).0
 
 no_row : {A : Type 0} (row : Option A) → ((x : A) → row ≡ Some x → ⊥) → row ≡ None
@@ -231,30 +231,30 @@ no_row None none = refl
 no_row (Some x) none = absurd (none x refl)
 
 -- no consumer has a ticket that was not drawn yet
-are_ticketed : (o : Chosen) (log : List Entry) → IsRun o log → AreTicketed (view o log).calls.drawn (view o log).consumers
+are_ticketed : (o : Options) (log : List Entry) → IsRun o log → AreTicketed (view o log).calls.drawn (view o log).consumers
 are_ticketed o log run t h = no_row ((view o log).consumers t) (λ s is.
     let d : t < (view o log).calls.drawn = ((is_ticketed o log run).consumers t s is).1 in
     omega (arith, d, h))
 
-pub ticketed_in : (c : Tables) {o : Chosen} {g : Agenda} {e : Heard} {out : List Shown} {h : List Step} → InStep o c g e out h →
+pub ticketed_in : (c : Tables) {o : Options} {g : Agenda} {e : Heard} {out : List Shown} {h : List Step} → InStep o c g e out h →
     AreTicketed c.tickets (subscription_at c.subscribers)
 ticketed_in c {o} s = subst (λ v. AreTicketed v.calls.drawn v.consumers) (sym s.sees) (are_ticketed o s.log s.run)
 
-older_run : (o : Chosen) (later older : List Entry) → IsRun o (later ++ older) → IsRun o older
+older_run : (o : Options) (later older : List Entry) → IsRun o (later ++ older) → IsRun o older
 older_run o [] older run = run
 older_run o (Begins e ∷ later) older run = older_run o later older run.0
 older_run o (Then a ∷ later) older run = older_run o later older run.0
 
-pub older_ticket : (o : Chosen) (later older : List Entry) (t : ℕ) (s : Subscription) → IsRun o (later ++ older) → (view o older).consumers t ≡ Some s → is_spent t ≡ false
+pub older_ticket : (o : Options) (later older : List Entry) (t : ℕ) (s : Subscription) → IsRun o (later ++ older) → (view o older).consumers t ≡ Some s → is_spent t ≡ false
 older_ticket o later older t s run h = consumer_ticket o older t s (older_run o later older run) h
 
 -- who starts, and who has started
-start_began : (o : Chosen) (log : List Entry) (who : Who) (p : Procedure) → IsRun o (Then (Starts who p) ∷ log) → Began who
+start_began : (o : Options) (log : List Entry) (who : Who) (p : Procedure) → IsRun o (Then (Starts who p) ∷ log) → Began who
 start_began o log who p run =
     let n = (view o log).calls.drawn in
     (each_first (IsDue n) (agenda o log).now (agenda o log).here (agenda o log).behind (agenda o log).parts (Starts who p) (served_due n) (is_ticketed o log run.0).due run.1).0
 
-pub has_begun : (o : Chosen) (log : List Entry) (w : Who) (p : Procedure) → IsRun o log → started w log ≡ Some p → Began w
+pub has_begun : (o : Options) (log : List Entry) (w : Who) (p : Procedure) → IsRun o log → started w log ≡ Some p → Began w
 has_begun o [] w p run h = absurd (none_some h)
 has_begun o (Begins e ∷ log) w p run h = has_begun o log w p run.0 h
 has_begun o (Then (Starts who q) ∷ log) w p run h = elim (cases_Bool (is_same w who)) [

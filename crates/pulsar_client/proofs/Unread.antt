@@ -42,7 +42,7 @@ use Rattle.pulsar_client.specs.Laws.{FramesAreCut, calls_of, dialed_with}
 use Rattle.pulsar_client.specs.Links.{arrives, closed_by}
 use Rattle.pulsar_client.specs.Rules.{at_once, breaks_at, brings, further, reads_on}
 use Rattle.pulsar_client.specs.Run.{Entry, Begins, Then, IsRun, agenda, first, rules, view}
-use Rattle.pulsar_client.specs.View.{Chosen, Seat, arrival_at, begun_live, dialed, got_at, is_dialing, is_live, link_got, live_begun, seat_asked, seat_got, took_end, took_some}
+use Rattle.pulsar_client.specs.View.{Options, Seat, arrival_at, begun_live, dialed, got_at, is_dialing, is_live, link_got, live_begun, seat_asked, seat_got, took_end, took_some}
 use Rattle.pulsar_client.proofs.Acts.{none_now}
 use Rattle.pulsar_client.proofs.Alone.{Made, alone, no_some, some_is}
 
@@ -232,7 +232,7 @@ is_done_by l _ = false
 own_link : (l : ℕ) → (l == l) ≡ true
 own_link l = eq-eqb l l refl
 
-module _ (o : Chosen) (l : ℕ) (log : List Entry) where
+module _ (o : Options) (l : ℕ) (log : List Entry) where
   abbrev Left : Type 0
   Left = IsLeft l (agenda o log).now (agenda o log).parts
 
@@ -256,7 +256,7 @@ module _ (o : Chosen) (l : ℕ) (log : List Entry) where
 
 -- ALONG A LOG
 
-abbrev Reading : Chosen → ℕ → List Entry → Type 0
+abbrev Reading : Options → ℕ → List Entry → Type 0
 Reading o l log = (seat : Seat) → (view o log).links.live l ≡ Some seat → IsRead seat.seen ⊎ IsLeft l (agenda o log).now (agenda o log).parts
 
 -- a seat whose bytes are those of one before
@@ -306,7 +306,7 @@ took_holds Opens now (Some r) p seat h =
 took_holds (Drains most) now (Some r) p seat h = (r, refl, ap (λ (s : Seat). s.seen.unread) (sym (some_is h)) ∙ drained_unread most now r.seen)
 took_holds Pings now (Some r) p seat h = (r, refl, ap (λ (s : Seat). s.seen.unread) (sym (some_is h)) ∙ asked_unread now SendPing r.seen)
 
-module _ (o : Chosen) (l : ℕ) (log : List Entry) (k : Reading o l log) where
+module _ (o : Options) (l : ℕ) (log : List Entry) (k : Reading o l log) where
   -- where its bytes stay, and it is not read
   carried : (a : Act) → first (agenda o log) ≡ Some a → is_done_by l a ≡ false → Holds ((view o log).links.live l) ((view o (Then a ∷ log)).links.live l) → Reading o l (Then a ∷ log)
   carried a h other holds seat live =
@@ -415,7 +415,7 @@ module _ (o : Chosen) (l : ℕ) (log : List Entry) (k : Reading o l log) where
       by true h = fed e h
       by false h = inl (was_read seat h)
 
-reading : (o : Chosen) (l : ℕ) (log : List Entry) → IsRun o log → Reading o l log
+reading : (o : Options) (l : ℕ) (log : List Entry) → IsRun o log → Reading o l log
 reading o l [] run = λ seat h. absurd (no_some h)
 reading o l (Begins e ∷ log) run = begins o l log (reading o l log run.0) e run.1
 reading o l (Then (Comes (ToLink m x)) ∷ log) run = to_link o l log (reading o l log run.0) m x run.1

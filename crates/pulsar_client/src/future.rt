@@ -6,7 +6,7 @@ ghost use Rattle.pulsar_producer.specs.Errors.{IsNoMemory};
 ghost use Rattle.pulsar_client.specs.Client.{StandsFor};
 ghost use Rattle.pulsar_client.specs.Run.{Step};
 ghost use Rattle.pulsar_client.specs.Taken.{IsPolled, is_lost, taken_with};
-ghost use Rattle.pulsar_client.specs.View.{Chosen};
+ghost use Rattle.pulsar_client.specs.View.{Options};
 
 use crate::answers::Taken;
 use crate::effect::Answer;
@@ -25,8 +25,8 @@ impl SendFuture {
     /// What the send has ended with, and none while it waits. It is told once: then, and for a ticket that was never drawn, and where
     /// the call ended with anything else than a receipt, it is Producer(Custom).
     pub fn poll(&mut self, client: &mut Pulsar) -> Option<Result<CommandSendReceipt, Error>>
-        ensures polled { (o : Chosen) (h : List Step) (taken : List ℕ) → StandsFor o client.old h taken → IsPolled result self.old.ticket h taken }
-        ensures stands { (o : Chosen) (h : List Step) (taken : List ℕ) → StandsFor o client.old h taken → StandsFor o client.new h (taken_with self.old.ticket h taken) }
+        ensures polled { (o : Options) (h : List Step) (taken : List ℕ) → StandsFor (λ p. routes p) o client.old h taken → IsPolled result self.old.ticket h taken }
+        ensures stands { (o : Options) (h : List Step) (taken : List ℕ) → StandsFor (λ p. routes p) o client.old h taken → StandsFor (λ p. routes p) o client.new h (taken_with self.old.ticket h taken) }
         ensures same { self.new ≡ self.old }
     {
         match client.take_answer(self.ticket) {

@@ -124,12 +124,7 @@ impl Producers {
 
     /// How a message of a producer is sent, by what its policy says: by which topic producer, and whether it waits for room. There is
     /// none where no partition is found for it.
-    pub fn route(
-        &mut self,
-        ticket: u64,
-        message: &Message,
-        advice: Option<usize>,
-    ) -> Option<Errand>
+    pub fn route(&mut self, ticket: u64, message: &Message, advice: Option<usize>) -> Option<Errand>
         ensures errand { result ≡ meaning.errand_of advice (message_content message.now) ((producers_of self.old).built ticket) }
         ensures after { producers_of self.new ≡ meaning.routed ticket (message_content message.now) (producers_of self.old) }
     {

@@ -1,10 +1,10 @@
 -- What a client stands for.
 use Rattle.std.specs.Prelude.{◌≡◌, ◌<◌, ℕ, true, false, List, map, string_bytes}
+use Rattle.std.specs.declared.alloc.Global.{Global}
+use Rattle.std.specs.declared.dyn_box.DynBox.{DynBox}
 use Rattle.pulsar_client.specs.declared.options.ClientOptions.{ClientOptions}
 use Rattle.pulsar_client.specs.declared.pulsar.Pulsar.{Pulsar}
 use Rattle.std.specs.Option.{option_map}
-use Rattle.std.specs.declared.alloc.Global.{Global}
-use Rattle.std.specs.declared.dyn_box.DynBox.{DynBox}
 use Rattle.pulsar_messages.specs.Content.{authentication_values}
 use Rattle.pulsar_producer.specs.Routing.{Policy}
 use Rattle.pulsar_client.specs.Address.{base_in}

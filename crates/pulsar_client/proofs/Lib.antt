@@ -46,3 +46,4 @@ pub mod Traces
 pub mod Taking
 pub mod Calling
 pub mod Granting
+pub mod Sending

@@ -9,7 +9,7 @@ use Rattle.pulsar_client.proofs.Taking.{drawn_more, held_on, held_still}
 use Rattle.pulsar_client.proofs.pulsar.Pulsar.take.Goals as goal
 
 pub returns-clause-ok : goal.returns-clause-ok
-returns-clause-ok c = λ o h taken s.
+returns-clause-ok g c = λ o h taken s.
     let new = step c.args.event c.in_ok-out.out.items in
     let stands = c.in_ok-out.ensures.stands o h (ap (λ (x : Options). x.policies) s.made ∙ sym (ap (map _) c.as_slice.ensures.value)) s.stands in
     record {
@@ -25,7 +25,7 @@ returns-clause-ok c = λ o h taken s.
     }
 
 pub returns-then-not-is_live-clause-ok : goal.returns-then-not-is_live-clause-ok
-returns-then-not-is_live-clause-ok c = λ o h taken s.
+returns-then-not-is_live-clause-ok g c = λ o h taken s.
     let e = heard c.args.event in
     let dead = sym c.is_live.ensures ∙ c.if-not-is_live.true in
     let stands = dead_step c.args.self.now.tables e dead s.stands in
@@ -41,16 +41,16 @@ returns-then-not-is_live-clause-ok c = λ o h taken s.
     }
 
 pub returns-clause-dead : goal.returns-clause-dead
-returns-clause-dead c = λ d.
+returns-clause-dead g c = λ d.
     let no : true ≡ false = sym (sym c.is_live.ensures ∙ c.if-not-is_live.false) ∙ not_live c.args.self.now.tables (heard c.args.event) d.3.stands d.4 in
     absurd cc
 
 pub returns-in_err-out-clause-dead : goal.returns-in_err-out-clause-dead
-returns-in_err-out-clause-dead c = λ d.
+returns-in_err-out-clause-dead g c = λ d.
     let no : true ≡ false = sym (sym c.is_live.ensures ∙ c.if-not-is_live.false) ∙ not_live c.args.self.now.tables (heard c.args.event) d.3.stands d.4 in
     absurd cc
 
 pub returns-in_err-note-clause-dead : goal.returns-in_err-note-clause-dead
-returns-in_err-note-clause-dead c = λ d.
+returns-in_err-note-clause-dead g c = λ d.
     let no : true ≡ false = sym (sym c.is_live.ensures ∙ c.if-not-is_live.false) ∙ not_live c.args.self.now.tables (heard c.args.event) d.3.stands d.4 in
     absurd cc

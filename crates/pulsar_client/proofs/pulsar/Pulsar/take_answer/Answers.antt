@@ -4,10 +4,10 @@ use Rattle.pulsar_client.proofs.Taking.{taken_drawn, taken_on}
 use Rattle.pulsar_client.proofs.pulsar.Pulsar.take_answer.Goals as goal
 
 pub returns-clause-taken : goal.returns-clause-taken
-returns-clause-taken c = λ o h taken s. c.take.ensures.taken ∙ s.answers c.args.ticket
+returns-clause-taken g c = λ o h taken s. c.take.ensures.taken ∙ s.answers c.args.ticket
 
 pub returns-clause-stands : goal.returns-clause-stands
-returns-clause-stands c = λ o h taken s. record {
+returns-clause-stands g c = λ o h taken s. record {
   made = s.made;
   stands = s.stands;
   answers = λ t.

@@ -7,7 +7,7 @@ use Rattle.pulsar_client.specs.Tables.{InStep, Stands, agenda_of, view_of}
 use Rattle.pulsar_client.proofs.tables.Tables.step.Goals as goal
 
 pub returns-clause-stands : goal.returns-clause-stands
-returns-clause-stands c = λ o h same s.
+returns-clause-stands g c = λ o h same s.
     let v = view_of c.args.self.now in
     let e = heard c.args.event in
     let brought =

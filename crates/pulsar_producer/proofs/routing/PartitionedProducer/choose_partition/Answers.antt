@@ -1,4 +1,4 @@
-use Rattle.std.proofs.Common.{◌≡◌, ◌∙◌, sym, ap, subst}
+use Rattle.std.proofs.Common.{◌∙◌, sym, ap, subst}
 use Rattle.pulsar_messages.specs.Content.{message_content}
 use Rattle.pulsar_producer.specs.Routing.{IsRouted, chosen_on}
 use Rattle.pulsar_producer.proofs.Routes.{partition_is_there}

@@ -371,7 +371,10 @@ impl Failures {
     {
         let Failures { mut all } = self;
         let mut sent = Vec::new(alloc);
-        for ticket in first..first.saturating_add(count) {
+        let Some(after) = first.checked_add(count) else {
+            return Err(NoMemory);
+        };
+        for ticket in first..after {
             sent.push(match all.remove(&ticket) {
                 Some(refusal) => Err(refusal.into_inner()),
                 None => Ok(ticket),
@@ -386,7 +389,10 @@ fn tickets(alloc: Global, first: u64, count: u64) -> Result<Vec<u64>, NoMemory>
     ensures { IfOk result (λ ts. ts.items ≡ numbers_from first count) }
 {
     let mut tickets = Vec::new(alloc);
-    for ticket in first..first.saturating_add(count) {
+    let Some(after) = first.checked_add(count) else {
+        return Err(NoMemory);
+    };
+    for ticket in first..after {
         tickets.push(ticket)?;
     }
     Ok(tickets)

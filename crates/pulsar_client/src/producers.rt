@@ -1,6 +1,6 @@
 //! The producers of a client, their topic producers, and the numbers of these.
 
-ghost use Rattle.std.specs.Prelude.{◌≡◌, ◌==◌, ◌++◌, ℕ, IfOk, OnOk, Some, length, map, if◌then◌else◌};
+ghost use Rattle.std.specs.Prelude.{◌≡◌, ◌==◌, ◌&&◌, ◌+◌, ◌-◌, ◌^◌, nat_lt, ◌++◌, ℕ, IfOk, OnOk, Some, length, map, if◌then◌else◌};
 ghost use Rattle.std.specs.BTreeMap.{get};
 ghost use Rattle.std.specs.List.{list_any};
 ghost use Rattle.std.specs.Option.{is_some, option_map};
@@ -380,11 +380,20 @@ fn free_from(named: &BTreeSet<u64>, from: u64) -> u64
 {
     let mut number = from;
     for taken in named {
-        if *taken == number && number < u64::MAX {
-            number += 1;
-        }
+        number = behind(*taken, number);
     }
     number
+}
+
+/// The number behind one, where that is taken; the greatest is the last.
+fn behind(taken: u64, number: u64) -> u64
+    ensures { result ≡ (if (taken == number) && nat_lt number (2 ^ 64 - 1) then number + 1 else number) }
+{
+    if taken == number && number < u64::MAX {
+        number + 1
+    } else {
+        number
+    }
 }
 
 fn close(topics: &mut BTreeMap<u64, Topic>, number: u64)

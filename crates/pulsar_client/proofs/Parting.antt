@@ -26,14 +26,19 @@ pub onto_none : (failures : List (ℕ × Failure)) (ts : List ℕ) → outcomes_
 onto_none failures [] = refl
 onto_none failures (t ∷ ts) = ap (outcome_at t (lookup (is_at (nat_cmp t)) failures)) (onto_none failures ts)
 
+pub sent_behind : (xs ys zs : List (Result ℕ Error)) → sent ys ≡ sent zs → sent (xs ++ ys) ≡ sent (xs ++ zs)
+sent_behind [] ys zs same = same
+sent_behind (Ok ticket ∷ xs) ys zs same = ap (Went ticket) (sent_behind xs ys zs same)
+sent_behind (Err e ∷ xs) ys zs same = ap (Failed (failure e)) (sent_behind xs ys zs same)
+
 -- they all went, or some of them failed
 pub none_failed : (ts : List ℕ) (failures : List (ℕ × Failure)) → failures ≡ [] → sent_with ts failures ≡ content.Sends ts
 none_failed ts failures none = ap (sent_with ts) none
 
 pub some_failed : (ts : List ℕ) (failures : List (ℕ × Failure)) → failures ≢ [] →
     sent_with ts failures ≡ content.Failed (OfPartialSend (outcomes_of failures ts))
-some_failed ts [] no = absurd (no refl)
-some_failed ts (f ∷ failures) no = refl
+some_failed ts [] some = absurd (some refl)
+some_failed ts (f ∷ failures) some = refl
 
 -- HOW AN ERROR KEEPS THEM
 

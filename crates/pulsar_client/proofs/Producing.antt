@@ -90,9 +90,9 @@ never false x = refl
 -- there are too many partitions
 pub too_many : (topic : List ℕ) (options : ProducerOptionsValues) (qs : List Partition) (last : ℕ) → 2 ^ 32 ≤ length qs → made topic options qs last ≡ None
 too_many topic options qs last many =
-    let no : nat_lt (length qs) (2 ^ 32) ≡ false = grind (arith, nat_tests) in
+    let wide : nat_lt (length qs) (2 ^ 32) ≡ false = grind (arith, nat_tests) in
     let to_seen = option_map (λ r. record { topic = topic; options = options; routes = r } : producer.Seen) in
-    ap (λ b. to_seen (cond (nat_lt last (length qs) && b) (Some (record { partitions = qs; policy = options.routing_policy; last = last })) None)) no
+    ap (λ b. to_seen (cond (nat_lt last (length qs) && b) (Some (record { partitions = qs; policy = options.routing_policy; last = last })) None)) wide
     ∙ ap to_seen (never (nat_lt last (length qs)) (Some (record { partitions = qs; policy = options.routing_policy; last = last })))
 
 pub made_so : (seed ticket : ℕ) (b : Building) (qs : List Partition) → qs ≡ map partition_of b.parts →

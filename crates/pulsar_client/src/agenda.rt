@@ -1,6 +1,7 @@
 //! What is left to do in a step.
 
-ghost use Rattle.std.specs.Prelude.{◌≡◌, ◌≤◌, ◌++◌, ◌∷◌, [], deque_len, drop, map, take, IfOk, OnOk};
+ghost use Rattle.std.specs.Prelude.{◌≡◌, ◌≤◌, ◌++◌, ◌∷◌, [], drop, map, take, IfOk, OnOk};
+ghost use Rattle.std.specs.VecDeque.{deque_len};
 ghost use Rattle.pulsar_run.specs.Order.{arranged, put};
 ghost use Rattle.pulsar_run.specs.Run.{only};
 ghost use Rattle.pulsar_client.specs.Rules.{alone, below, opens};

@@ -320,7 +320,7 @@ impl Model for Failures {
     // the tickets with the failures, in their order
     ghost Value = { List (ℕ × Failure) };
 
-    ghost coded = { failure_code (Prim.hlevel codes) };
+    ghost coded = { Prim.hlevel (codes, failure_code (Prim.hlevel codes)) };
 
     ghost view = { λ f. f.all.entries };
 }

@@ -11,6 +11,6 @@ use Rattle.pulsar_client.proofs.content.Failures.partial.Given as goal
 
 abbrev pub invariant-loop-ticket : goal.invariant-loop-ticket
 invariant-loop-ticket l = record {
-  sent : (more : List (Result ℕ Error)) → sent (l.sent.items ++ more) ≡ outcomes_onto l.fn.self (numbers_from l.first (l.ticket - l.first)) (sent more);
-  left : (t : ℕ) → l.ticket ≤ t → get nat_cmp l.all t ≡ lookup (is_at (nat_cmp t)) l.fn.self;
+  sent : (more : List (Result ℕ Error)) → sent (l.sent.items ++ more) ≡ outcomes_onto l.fn.self (numbers_from l.first (l.ticket-counter - l.first)) (sent more);
+  left : (t : ℕ) → l.ticket-counter ≤ t → get nat_cmp l.all t ≡ lookup (is_at (nat_cmp t)) l.fn.self;
 }

@@ -43,6 +43,13 @@ impl Asking {
         Ok(Asking { call })
     }
 
+    /// The call to be looked at.
+    pub fn call(&self) -> &Call
+        ensures { asked result.now ≡ self.now }
+    {
+        &self.call
+    }
+
     pub fn into_inner(self) -> Call
         ensures { asked result ≡ self }
     {

@@ -252,7 +252,7 @@ some_no_start : (who : Who) (t : Option (Turn Plan Verdict)) → Each NoStart (f
 some_no_start who None = tt
 some_no_start who (Some t) = follows_no_start who t
 
-abbrev IsMadeAt : Options → ℕ → Procedure → Entry → List Entry → Type 0
+abbrev pub IsMadeAt : Options → ℕ → Procedure → Entry → List Entry → Type 0
 IsMadeAt o t p e older =
     (asked : Asked) × (e ≡ Then (Comes (call_part o.policies (view o older) asked))) × (lacks_tickets (view o older).calls.drawn (shares asked) ≡ false)
     × In (Starts (Call t) p) (starts (view o older) (advice o.policies (view o older).producers asked) asked)

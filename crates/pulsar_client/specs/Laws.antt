@@ -492,7 +492,7 @@ abbrev pub part_below : Part → Part → Bool
 part_below a b = is_before3 (part_rank a) (part_rank b)
 
 abbrev pub TicksInOrder : Type 0
-TicksInOrder = (o : Options) (log : List Entry) (now : ℕ) → InOrder part_below (brings (view o log) (Ticked now))
+TicksInOrder = (o : Options) (log : List Entry) (now : ℕ) → InOrder part_below (brings o.policies (view o log) (Ticked now))
 
 -- THE ADDRESSES
 

@@ -31,7 +31,7 @@ use Rattle.pulsar_client.specs.declared.act.Share.{Share}
 use Rattle.pulsar_client.specs.declared.act.Procedure.TheVariants as procedure
 use Rattle.pulsar_client.specs.Content as content
 use Rattle.pulsar_client.proofs.Acts.{Each, each_append, each_first, each_map, each_rest, is_served}
-use Rattle.pulsar_client.proofs.Kinds.{IsRaised, kind, may, raises, OfDeed, OfPart, OfStart}
+use Rattle.pulsar_client.proofs.Raising.{IsRaised, kind, may, raises, OfDeed, OfPart, OfStart}
 use Rattle.pulsar_client.proofs.Fitting.{Fits, Leaves, Nowhere, Reports, Spot, Usual, begins_fits, is_stop, spot, told_fits}
 
 abbrev is_stopping : Act → Bool

@@ -57,7 +57,7 @@ use Rattle.pulsar_client.specs.Links as links
 use Rattle.pulsar_client.specs.declared.act.Procedure.TheVariants as procedure
 use Rattle.pulsar_producer.specs.declared.deed.News.TheVariants as news
 use Rattle.pulsar_client.proofs.Acts.{Each, chosen_same, over_each, each_flat}
-use Rattle.pulsar_client.proofs.Kinds.{IsRaised, may, raises, OfDeed, OfNotice}
+use Rattle.pulsar_client.proofs.Raising.{IsRaised, may, raises, OfDeed, OfNotice}
 use Rattle.pulsar_client.proofs.Fitting.{begins_fits, is_said, is_stop, says_so, spot, told_fits, Fits}
 
 -- LISTS

@@ -21,7 +21,7 @@ pub mod Getting
 pub mod Rings
 pub mod Made
 pub mod Attempts
-pub mod Kinds
+pub mod Raising
 pub mod Fitting
 pub mod Spots
 pub mod Asked

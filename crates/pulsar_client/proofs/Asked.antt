@@ -1,5 +1,5 @@
 -- The stop is asked for where nothing else is left to do.
-use Rattle.std.proofs.Common.{◌≡◌, ◌⊎◌, inl, inr, ◌∙◌, sym, ap, subst, ℕ, ◌+◌, List, ◌∷◌, ◌++◌, refl, map, Bool, true, false, cond, Option, Some, None, drop, length}
+use Rattle.std.proofs.Common.{◌≡◌, ◌⊎◌, inl, inr, ◌∙◌, sym, ap, subst, ℕ, ◌+◌, List, ◌∷◌, ◌++◌, refl, map, Bool, true, false, cond, Option, Some, None, drop, length, [], ◌^◌, ◌-◌}
 use Rattle.pulsar_run.specs.Order.{arranged, put_all}
 use Rattle.pulsar_run.specs.Run.{first_of, rest, rest_of}
 use Rattle.pulsar_session.specs.Failures.{Exhausted}
@@ -20,7 +20,7 @@ use Rattle.pulsar_client.specs.declared.plans.plan.Turn.TheVariants.{Stays, Give
 use Rattle.pulsar_plans.specs.declared.turn.Ways.{Ways}
 use Rattle.pulsar_client.specs.Content.{Asked, lacks_tickets, shares}
 use Rattle.pulsar_client.specs.Plan.{fails, told, verdict, begins}
-use Rattle.pulsar_client.specs.Rules.{at_once, below, called, causes, follows, follows_some, procedure_for, unless_refused, joins, sends_by, shares_of, shares_unless, starts, why_no_sends, unless}
+use Rattle.pulsar_client.specs.Rules.{share, at_once, below, called, causes, follows, follows_some, procedure_for, unless_refused, joins, sends_by, shares_of, shares_unless, starts, why_no_sends, unless}
 use Rattle.pulsar_client.specs.Run.{Agenda, Entry, Begins, Then, IsRun, agenda, first, rules, view}
 use Rattle.pulsar_client.specs.View.{Options, View, told_some, ways_of, Chosen, may_call}
 use Rattle.pulsar_producer.specs.declared.sending.Errand.{Errand}
@@ -32,7 +32,7 @@ use Rattle.pulsar_client.specs.declared.act.Procedure.TheVariants as procedure
 use Rattle.pulsar_client.specs.Content as content
 use Rattle.pulsar_client.proofs.Acts.{Each, each_append, each_first, each_map, each_rest, is_served}
 use Rattle.pulsar_client.proofs.Raising.{IsRaised, kind, may, raises, OfDeed, OfPart, OfStart}
-use Rattle.pulsar_client.proofs.Fitting.{Fits, Leaves, Nowhere, Reports, Spot, Usual, begins_fits, is_stop, spot, told_fits}
+use Rattle.pulsar_client.proofs.Fitting.{fits, Fits, Leaves, Nowhere, Reports, Spot, Usual, begins_fits, is_stop, spot, told_fits}
 
 abbrev is_stopping : Act → Bool
 is_stopping (Does who StopAll) = true

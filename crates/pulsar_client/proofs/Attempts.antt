@@ -1,5 +1,5 @@
 -- An attempt begins a series, or follows one that failed: it stands at the head of what its cause gives rise to, and comes right behind it.
-use Rattle.std.proofs.Common.{◌≡◌, ◌⊎◌, inl, inr, ◌∙◌, sym, ap, subst, ℕ, ◌+◌, ◌≤◌, nat_lt, List, ◌∷◌, ◌++◌, refl, arith, drop, Bool, true, false, ◌&&◌, ◌==◌, cond, Option, Some, None}
+use Rattle.std.proofs.Common.{◌≡◌, ◌⊎◌, inl, inr, ◌∙◌, sym, ap, subst, ℕ, ◌+◌, ◌≤◌, nat_lt, List, ◌∷◌, ◌++◌, refl, arith, drop, Bool, true, false, ◌&&◌, ◌==◌, cond, Option, Some, None, []}
 use Rattle.std.proofs.lemmas.Bool.Decides.{nat_tests}
 use Rattle.std.specs.Option.{option_map}
 use Rattle.pulsar_run.specs.Run.{rest, rest_of}
@@ -40,11 +40,11 @@ NoDial a = is_dial a ≡ false
 
 -- only one who gets a link, and an alarm for it, give rise to one
 no_dial : (a b : Act) → may OfAttempt a ≡ false → IsRaised a b → NoDial b
-no_dial a (Dials p starter retries) no h = (let f : true ≡ false = sym h ∙ no in absurd cc)
-no_dial a _ no h = refl
+no_dial a (Dials p starter retries) never h = (let f : true ≡ false = sym h ∙ never in absurd cc)
+no_dial a _ never h = refl
 
 none_raised : (v : View) (a : Act) → may OfAttempt a ≡ false → Each NoDial (at_once v a)
-none_raised v a no = each_map (IsRaised a) NoDial (at_once v a) (λ b. no_dial a b no) (raises v a)
+none_raised v a never = each_map (IsRaised a) NoDial (at_once v a) (λ b. no_dial a b never) (raises v a)
 
 -- AT MOST ONE, AT THE HEAD
 

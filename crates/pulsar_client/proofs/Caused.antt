@@ -1,5 +1,5 @@
 -- Whatever one is told has its cause before, in the same step.
-use Rattle.std.proofs.Common.{◌≡◌, ◌⊎◌, inl, inr, ◌∙◌, sym, ap, subst, ℕ, List, ◌∷◌, ◌++◌, refl, map, Bool, true, false, cond, Option, Some, None, Result, Ok, Err}
+use Rattle.std.proofs.Common.{◌≡◌, ◌⊎◌, inl, inr, ◌∙◌, sym, ap, subst, ℕ, List, ◌∷◌, ◌++◌, refl, map, Bool, true, false, cond, Option, Some, None, Result, Ok, Err, []}
 use Rattle.std.specs.List.{filter_map, flat_map}
 use Rattle.std.specs.Option.{option_map, option_to_list}
 use Rattle.pulsar_run.specs.Laws.{Arises, In, InOne, InThisStep}
@@ -134,7 +134,7 @@ in_askers says askers (p ∷ ps) n h = one (askers p) refl (in_askers says asker
 
 -- only an action tells at once
 none_told : (v : View) (a : Act) (n : Notice) → may OfNotice a ≡ false → In (Told n) (at_once v a) → ⊥
-none_told v a n no h = (let told : may OfNotice a ≡ true = in_each (IsRaised a) (Told n) (at_once v a) h (raises v a) in let f : true ≡ false = sym told ∙ no in absurd cc)
+none_told v a n never h = (let told : may OfNotice a ≡ true = in_each (IsRaised a) (Told n) (at_once v a) h (raises v a) in let f : true ≡ false = sym told ∙ never in absurd cc)
 
 -- what comes of a link is no notice
 mute_told : (n : Notice) (ps : List Part) → In (Told n) (map Comes ps) → ⊥
@@ -229,8 +229,8 @@ some_says who (Some plan) u = turn_says who (told plan u) (told_fits plan u)
 
 -- only plans act
 no_deed : (v : View) (a : Act) → may OfDeed a ≡ false → (w : Who) (action : Action) → In (Does w action) (at_once v a) → ⊥
-no_deed v a no w action h =
-    (let did : may OfDeed a ≡ true = in_each (IsRaised a) (Does w action) (at_once v a) h (raises v a) in let f : true ≡ false = sym did ∙ no in absurd cc)
+no_deed v a never w action h =
+    (let did : may OfDeed a ≡ true = in_each (IsRaised a) (Does w action) (at_once v a) h (raises v a) in let f : true ≡ false = sym did ∙ never in absurd cc)
 
 mute_did : (w : Who) (action : Action) (ps : List Part) → In (Does w action) (map Comes ps) → ⊥
 mute_did w action [] h = h

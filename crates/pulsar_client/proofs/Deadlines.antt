@@ -1,6 +1,6 @@
 -- A deadline comes to a link only in a tick at which the link was due, and an alarm only in one at which it rang. So a sign of life and
 -- an end for want of use come only where their alarm rings.
-use Rattle.std.proofs.Common.{◌≡◌, ◌⊎◌, inl, inr, ◌∙◌, sym, ap, subst, ℕ, List, ◌∷◌, refl, map, Bool, true, false, cond, Option, Some, None}
+use Rattle.std.proofs.Common.{◌≡◌, ◌⊎◌, inl, inr, ◌∙◌, sym, ap, subst, ℕ, List, ◌∷◌, refl, map, Bool, true, false, cond, Option, Some, None, []}
 use Rattle.std.specs.Option.{is_none}
 use Rattle.pulsar_run.specs.Laws.{Arises, In, InOne}
 use Rattle.pulsar_run.proofs.Arising.{acts_arise_lem}

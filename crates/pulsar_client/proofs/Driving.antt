@@ -1,5 +1,5 @@
 -- A run, computed from its events: behind each event, the acts that are first, one after the other.
-use Rattle.std.proofs.Common.{◌≡◌, ◌∙◌, sym, ap, ℕ, zero, suc, List, ◌∷◌, refl, map, Option, Some, None}
+use Rattle.std.proofs.Common.{◌≡◌, ◌∙◌, sym, ap, ℕ, zero, suc, List, ◌∷◌, refl, map, Option, Some, None, []}
 use Rattle.pulsar_run.specs.Run.{events, in_order, only, steps_done, with_effects}
 use Rattle.pulsar_client.specs.declared.act.Act.{Act}
 use Rattle.pulsar_client.specs.Content.{Heard}

@@ -1,6 +1,6 @@
 -- Where a plan may stand as it does something. It tells another only where it reports or leaves, and only what a part of a call says; none
 -- but a Stop ends every link; and a send that is a part of another call has reported once it is queued.
-use Rattle.std.proofs.Common.{◌≡◌, ℕ, ◌-◌, ◌==◌, List, ◌∷◌, refl, Bool, true, false, ◌&&◌, not, cond, Option, Some, None, Result, Ok, Err}
+use Rattle.std.proofs.Common.{◌≡◌, ℕ, ◌-◌, ◌==◌, List, ◌∷◌, refl, Bool, true, false, ◌&&◌, not, cond, Option, Some, None, Result, Ok, Err, []}
 use Rattle.pulsar_link.specs.Messages.{Reply}
 use Rattle.pulsar_link.specs.Refusals.{refused}
 use Rattle.pulsar_link.specs.Request.{is_answered, request_number}

@@ -1,5 +1,5 @@
 -- Links that nothing uses, and what their ends are.
-use Rattle.std.proofs.Common.{◌≡◌, ◌≤◌, ◌<◌, ◌+◌, ◌==◌, ◌∙◌, ℕ, zero, suc, ◌&&◌, ◌||◌, not, nat_lt, ◌↔◌, sym, ap, refl, arith, Bool, true, false, List, ◌∷◌, ◌++◌, Option, Some, None, inl, inr}
+use Rattle.std.proofs.Common.{◌≡◌, ◌≤◌, ◌<◌, ◌+◌, ◌==◌, ◌∙◌, ℕ, zero, suc, ◌&&◌, ◌||◌, not, nat_lt, ◌↔◌, sym, ap, refl, arith, Bool, true, false, List, ◌∷◌, ◌++◌, Option, Some, None, inl, inr, []}
 use Rattle.std.proofs.lemmas.Bool.{cases_Bool, cases_lt, false≢true, or_right}
 use Rattle.std.proofs.lemmas.Bool.Decides.{nat_tests}
 use Rattle.std.proofs.lemmas.Cmp.{nat_cmp_total}

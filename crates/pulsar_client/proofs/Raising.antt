@@ -1,5 +1,5 @@
 -- What arises at once, by its kind, and which acts give rise to it. A further kind of act or action is told of here, and nowhere else.
-use Rattle.std.proofs.Common.{◌≡◌, ℕ, ◌+◌, ◌-◌, ◌^◌, List, ◌∷◌, refl, drop, Bool, true, false, Option, Some, None}
+use Rattle.std.proofs.Common.{◌≡◌, ℕ, ◌+◌, ◌-◌, ◌^◌, List, ◌∷◌, refl, drop, Bool, true, false, Option, Some, None, []}
 use Rattle.std.specs.Option.{option_to_list}
 use Rattle.pulsar_messages.specs.Content.{ProducerMessageValues}
 use Rattle.pulsar_plans.specs.Address.{Place, address_key, is_reachable}

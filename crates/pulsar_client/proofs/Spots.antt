@@ -1,5 +1,5 @@
 -- Along a run, one whose plan reports does so next, and no plan stands where a queued part of a call has not reported.
-use Rattle.std.proofs.Common.{◌≡◌, ◌∙◌, sym, ap, subst, List, ◌∷◌, ◌++◌, refl, Bool, true, false, cond, Option, Some, None}
+use Rattle.std.proofs.Common.{◌≡◌, ◌∙◌, sym, ap, subst, List, ◌∷◌, ◌++◌, refl, Bool, true, false, cond, Option, Some, None, []}
 use Rattle.std.proofs.lemmas.Bool.{eqb-true, eq-eqb}
 use Rattle.pulsar_run.specs.Run.{first_of, rest}
 use Rattle.pulsar_client.specs.declared.act.Act.{Act}
@@ -96,13 +96,13 @@ module _ (o : Options) (w : Who) (log : List Entry) (k : SoundAt (spot_of ((view
 
   -- where another act is first, this one does not report
   elsewhere : (s : Spot) (a : Act) (later : List Act) → first g ≡ Some a → (IsNext w a → ⊥) → SoundAt s w g.now → SoundAt s w later
-  elsewhere Usual a later fits no k = tt
-  elsewhere Reports a later fits no k = absurd (no (head_is w g.now g.here g.behind g.parts a fits k))
-  elsewhere Leaves a later fits no k = tt
-  elsewhere Nowhere a later fits no k = absurd k
+  elsewhere Usual a later fits other k = tt
+  elsewhere Reports a later fits other k = absurd (other (head_is w g.now g.here g.behind g.parts a fits k))
+  elsewhere Leaves a later fits other k = tt
+  elsewhere Nowhere a later fits other k = absurd k
 
   others : (a : Act) (later : List Act) → first g ≡ Some a → (IsNext w a → ⊥) → SoundAt (spot_of (v.stand w)) w later
-  others a later fits no = elsewhere (spot_of (v.stand w)) a later fits no k
+  others a later fits other = elsewhere (spot_of (v.stand w)) a later fits other k
 
   starts_on : (who : Who) (p : Procedure) → first g ≡ Some (Starts who p) →
       SoundAt (spot_of (stand_after (Starts who p) w (v.stand w))) w (follows who (begins p) ++ left)
@@ -110,7 +110,7 @@ module _ (o : Options) (w : Who) (log : List Entry) (k : SoundAt (spot_of ((view
     where
       by : (b : Bool) → is_same w who ≡ b → SoundAt (spot_of (cond b (stays (begins p)) (v.stand w))) w (follows who (begins p) ++ left)
       by true e = start_sound w who p (is_stop p) left refl (sym (same_who w who e))
-      by false e = others (Starts who p) (follows who (begins p) ++ left) f (λ no. no)
+      by false e = others (Starts who p) (follows who (begins p) ++ left) f (λ none. none)
 
   told_on : (n : Notice) → first g ≡ Some (Told n) →
       SoundAt (spot_of (stand_after (Told n) w (v.stand w))) w (follows_some n.who (told_some (v.stand n.who) n.outcome) ++ left)
@@ -141,8 +141,8 @@ module _ (o : Options) (w : Who) (log : List Entry) (k : SoundAt (spot_of ((view
   sound_on (Starts who p) f = starts_on who p f
   sound_on (Told n) f = told_on n f
   sound_on (Does who (Tell n)) f = tells_on who n f
-  sound_on (Does who action) f = others (Does who action) (at_once v (Does who action) ++ left) f (λ no. no)
-  sound_on a f = others a (at_once v a ++ left) f (λ no. no)
+  sound_on (Does who action) f = others (Does who action) (at_once v (Does who action) ++ left) f (λ none. none)
+  sound_on a f = others a (at_once v a ++ left) f (λ none. none)
 
 sound : (o : Options) (w : Who) (log : List Entry) → IsRun o log → SoundAt (spot_of ((view o log).stand w)) w (agenda o log).now
 sound o w [] run = tt

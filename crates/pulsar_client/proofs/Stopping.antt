@@ -1,6 +1,6 @@
 -- From a Stop on no attempt begins. The stop is asked for where nothing else is left to do; in its step the links end one after the other,
 -- and whatever a plan is told is its last word; behind it no link is left, no alarm is set, and each call is refused.
-use Rattle.std.proofs.Common.{◌≡◌, ◌⊎◌, inl, inr, ◌∙◌, sym, ap, subst, ℕ, zero, suc, ◌+◌, ◌≤◌, nat_lt, List, ◌∷◌, ◌++◌, refl, arith, map, Bool, true, false, ◌&&◌, ◌==◌, not, cond, Option, Some, None}
+use Rattle.std.proofs.Common.{◌≡◌, ◌⊎◌, inl, inr, ◌∙◌, sym, ap, subst, ℕ, zero, suc, ◌+◌, ◌≤◌, nat_lt, List, ◌∷◌, ◌++◌, refl, arith, map, Bool, true, false, ◌&&◌, ◌==◌, not, cond, Option, Some, None, [], ◌^◌, ◌-◌}
 use Rattle.std.proofs.lemmas.Bool.{cases_Bool, eqb-true}
 use Rattle.std.proofs.lemmas.Bool.Decides.{nat_tests}
 use Rattle.std.specs.List.{filter_map, flat_map}
@@ -652,7 +652,7 @@ none_after_stop_lem o log p starter n run = elim (cases_Bool (stopped log)) [
       elim (last_first (view o log).stand g.now g.here g.behind g.parts (Dials p starter n) k.now k.here k.behind run.1) [
         | inl is ↦ (let f : false ≡ true = is in absurd cc)
         | inr q ↦ elim q [
-          | inl no ↦ absurd no
+          | inl left ↦ absurd left
           | inr p ↦ (let f : Dials p starter n ≡ Comes p.part = p.is_it in absurd cc)
         ]
       ])

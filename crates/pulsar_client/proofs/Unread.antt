@@ -1,5 +1,5 @@
 -- At the end of a step no whole frame of a link is left unread: what came is read on, until less than a frame is in front, or the link ends.
-use Rattle.std.proofs.Common.{◌≡◌, ◌⊎◌, inl, inr, ◌∙◌, sym, ap, subst, ℕ, List, ◌∷◌, ◌++◌, refl, drop, Bool, true, false, cond, ◌==◌, Option, Some, None, Result, Ok, Err, append-nil}
+use Rattle.std.proofs.Common.{◌≡◌, ◌⊎◌, inl, inr, ◌∙◌, sym, ap, subst, ℕ, List, ◌∷◌, ◌++◌, refl, drop, Bool, true, false, cond, ◌==◌, Option, Some, None, Result, Ok, Err, append-nil, []}
 use Rattle.std.proofs.lemmas.Bool.{cases_Bool, eqb-true, eq-eqb}
 use Rattle.std.specs.Option.{option_map}
 use Rattle.pulsar_wire.specs.declared.error.ConnectionError.{ConnectionError}

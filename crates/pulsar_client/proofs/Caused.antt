@@ -38,7 +38,7 @@ use Rattle.pulsar_plans.specs.Address.{Place, address_key, is_reachable}
 use Rattle.pulsar_client.specs.Alarms.{rings}
 use Rattle.pulsar_client.specs.Laws.{AttemptEnds, Cause, OutcomesAreCaused, LineEnds, RequestEnds, base_of, IsToldBy, IsUnknown}
 use Rattle.pulsar_client.specs.Links.{arrival, change_at, change_in, closed_by, line_places, new_places, times_out}
-use Rattle.pulsar_client.specs.Plan.{begins}
+use Rattle.pulsar_client.specs.Plan.{told, begins}
 use Rattle.pulsar_client.specs.Rules.{alone, answered_by, answered_on, at_once, caused, causes, dropped, ended_by, ended_on, failed, failed_by, failed_on, failed_over, failed_so, fails_so, follows, follows_some, further, gets_from, lost, lost_so, lost_with, moved_on, notice, opens, over_links, parts, served_by, served_on, stop_act, stopped_at, stopped_with, tells, tells_asker, told_at, waiters_of, woken, draw_outcome, draw_said, finds, grants, joins, number_said, performs, recalls, stopped_one, takes_turn, turn_notice}
 use Rattle.pulsar_client.specs.Run.{Entry, Begins, Then, rules, view, IsRun}
 use Rattle.pulsar_client.specs.View.{Addresses, Options, Seat, View, answer_at, pause_for, pause_of, told_some, turned_by, room_of}
@@ -379,7 +379,7 @@ module _ (o : Options) (who : Who) (u : Outcome) (older : List Entry) where
       let a : who ≡ Call next.0 = ap (λ m. m.who) is in
       let b : u ≡ outcome.Granted (news.HasTurn next.1) = ap (λ m. m.outcome) is in
       named (Then (Does w (PassTurn n))) (outcome.Granted (news.HasTurn next.1)) b
-      (inr (w, n, next.1, refl, refl, ap (option_map (λ next. (Call next.0, next.1))) e ∙ ap (λ x. Some (x, next.1)) (sym a)))
+      (inr (w, n, next.0, next.1, refl, a, refl, e))
 
   tells_caused : (w : Who) (n : Notice) → is_said n.outcome ≡ true → In it (n ∷ []) → Cause o who u (Then (Does w (Tell n))) older
   tells_caused w n said (inr h) = absurd h

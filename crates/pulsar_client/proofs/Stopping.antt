@@ -653,7 +653,7 @@ none_after_stop_lem o log p starter n run = elim (cases_Bool (stopped log)) [
         | inl is ↦ (let f : false ≡ true = is in absurd cc)
         | inr q ↦ elim q [
           | inl left ↦ absurd left
-          | inr p ↦ (let f : Dials p starter n ≡ Comes p.part = p.is_it in absurd cc)
+          | inr k ↦ (let f : Dials p starter n ≡ Comes k.part = k.is_it in absurd cc)
         ]
       ])
   | inr e ↦ e

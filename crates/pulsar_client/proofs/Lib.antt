@@ -21,6 +21,10 @@ pub mod Getting
 pub mod Rings
 pub mod Made
 pub mod Attempts
+pub mod Raising
+pub mod Fitting
+pub mod Spots
+pub mod Asked
 pub mod Stopping
 pub mod Counting
 pub mod Built

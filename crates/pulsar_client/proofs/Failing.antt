@@ -63,8 +63,8 @@ use Rattle.pulsar_client.specs.Laws.{Deed, Acted, Answered, FailsSo, IsRefused, 
 use Rattle.pulsar_client.specs.Links.{numbers_from}
 use Rattle.pulsar_client.specs.Parts.{failed_with, outcomes_of, sent_from, sent_with}
 use Rattle.pulsar_client.specs.Plan.{asks, asks_of, begins, builds, fails, fails_in, fails_with, failure_in, failure_of, fault_of, found, found_so, gathers, goes, goes_on_sending, goes_round, halted, in_asking, in_awaiting, in_finding, in_passing, in_turning, is_answer, is_sent, leaves, news_in, news_of, overrides, parted, receipt_said, receipted, sends_stay, stands, told, told_at, told_send, tells, verdict, visited, waits, wanted}
-use Rattle.pulsar_client.proofs.Acts.{is_proper}
 use Rattle.pulsar_client.proofs.Productions.{AllowsBreaks, AllowsReply, BuildKeeps, Ends, SendKeeps, building_begins, building_ends, sending_ends}
+use Rattle.pulsar_client.proofs.Proper.{is_proper}
 use Rattle.pulsar_client.proofs.Searches.{Breaks, ByFault, BySearch, ByReply, Keeps, Turns, is_search, is_sought, keeps_begins, keeps_told}
 
 -- FAULTS

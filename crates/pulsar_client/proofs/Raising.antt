@@ -35,7 +35,7 @@ use Rattle.pulsar_client.specs.Rules.{at_once, breaks_at, called, does, finds, f
 use Rattle.pulsar_client.specs.View.{Chosen, Seat, View, arrival_at, told_some}
 use Rattle.pulsar_producer.specs.declared.deed.News.TheVariants as news
 use Rattle.pulsar_client.specs.declared.act.Outcome.TheVariants as outcome
-use Rattle.pulsar_client.proofs.Acts.{Each, each_append, each_either, each_flat, over_each}
+use Rattle.pulsar_client.proofs.Acts.{Each, StartsIn, called_each, each_append, each_either, each_flat, over_each}
 
 -- a plan begins, does something, or ends; one is told something; an attempt begins; a link ends by what came on it, for want of use or
 -- with the client, or is asked for a sign of life; and what never arises at once
@@ -85,27 +85,13 @@ IsRaised a b = may (kind b) a ≡ true
 
 -- CALLS
 
-module _ (asked : Asked) (advice : List (Option ℕ)) where
-  abbrev call : Act
-  call = Comes (Calls asked advice)
+call_raised : (asked : Asked) (advice : List (Option ℕ)) (from to : ℕ) (a : Act) → StartsIn from to a → IsRaised (Comes (Calls asked advice)) a
+call_raised asked advice from to (Starts who p) k = refl
+call_raised asked advice from to _ k = absurd k
 
-  shares_raised : (o : Chosen) (ps : Producers) (of ticket : ℕ) (said : List (Option ℕ)) (t : ℕ) (ms : List ProducerMessageValues) →
-      Each (IsRaised call) (shares_of o ps of ticket said t ms)
-  shares_raised o ps of ticket said t [] = tt
-  shares_raised o ps of ticket said t (m ∷ ms) = (refl, shares_raised o (routed t m ps) of (ticket + 1) (drop 1 said) t ms)
-
-  unless_raised : (why : Option Refusal) (v : View) (t : ℕ) (ms : List ProducerMessageValues) → Each (IsRaised call) (shares_unless why v advice t ms)
-  unless_raised (Some r) v t ms = tt
-  unless_raised None v t ms = shares_raised v.chosen v.producers v.calls.drawn (v.calls.drawn + 1) advice t ms
-
-  parts_raised : (v : View) (x : Asked) → Each (IsRaised call) (parts_of v advice x)
-  parts_raised v (SendAll t ms) = unless_raised (why_no_sends v.calls v.producers t) v t ms
-  parts_raised v _ = tt
-
-  called_raised : (v : View) → Each (IsRaised call) (called v advice asked)
-  called_raised v =
-      each_either (IsRaised call) (lacks_tickets v.calls.drawn (shares asked)) (Answers (Call (2 ^ 64 - 1)) (fails Exhausted) ∷ []) (starts v advice asked) (refl, tt)
-      (refl, parts_raised v asked)
+called_raised : (v : View) (advice : List (Option ℕ)) (asked : Asked) → Each (IsRaised (Comes (Calls asked advice))) (called v advice asked)
+called_raised v advice asked =
+    called_each (IsRaised (Comes (Calls asked advice))) v advice asked (λ e. refl) (λ e. call_raised asked advice v.calls.drawn (v.calls.drawn + 1 + shares asked))
 
 -- PLANS
 
@@ -181,7 +167,7 @@ rung_raised v CheckIdle = over_each (IsRaised (Comes (Rings CheckIdle))) (idle_a
 -- ALL
 
 pub raises : (v : View) (a : Act) → Each (IsRaised a) (at_once v a)
-raises v (Comes (Calls asked advice)) = called_raised asked advice v
+raises v (Comes (Calls asked advice)) = called_raised v advice asked
 raises v (Comes (ToLink l Reads)) = breaks_raised l (arrival_at (v.links.live l))
 raises v (Comes (Rings a)) = each_either (IsRaised (Comes (Rings a))) (rings v.now a v.alarms) (rung v a) [] (rung_raised v a) tt
 raises v (Starts who p) = follows_raised (Starts who p) who (begins p) refl refl

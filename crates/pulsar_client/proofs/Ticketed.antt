@@ -35,7 +35,8 @@ use Rattle.pulsar_client.specs.Subscriptions.{Subscription, ended_at}
 use Rattle.pulsar_client.specs.Tables.{InStep}
 use Rattle.pulsar_client.specs.View.{Options, View, closing, consumer_after, drawn_after, made, stand_after, stays_some, told_some}
 use Rattle.pulsar_client.specs.Who.{is_same}
-use Rattle.pulsar_client.proofs.Acts.{Each, IsQuiet, StartsIn, begun_same, called_each, comes_quiet, each_append, each_first, each_map, each_rest, is_served, performs_quiet}
+use Rattle.pulsar_client.proofs.Acts.{Each, StartsIn, begun_same, called_each, each_append, each_first, each_map, each_rest, is_served}
+use Rattle.pulsar_client.proofs.Quiet.{IsQuiet, comes_quiet, performs_quiet}
 
 -- one whose ticket is not the greatest
 abbrev pub Began : Who → Type 0

@@ -107,11 +107,12 @@ starts_wider from to from' to' low high _ k = absurd k
 shares_in : (o : Chosen) (ps : Producers) (of ticket : ℕ) (advice : List (Option ℕ)) (t : ℕ) (ms : List ProducerMessageValues) →
     Each (StartsIn ticket (ticket + length ms)) (shares_of o ps of ticket advice t ms)
 shares_in o ps of ticket advice t [] = tt
-shares_in o ps of ticket advice t (m ∷ ms) =
-    ((omega arith, omega arith),
-    each_map (StartsIn (ticket + 1) (ticket + 1 + length ms)) (StartsIn ticket (ticket + length (m ∷ ms))) (shares_of o (routed t m ps) of (ticket + 1) (drop 1 advice) t ms)
-    (starts_wider (ticket + 1) (ticket + 1 + length ms) ticket (ticket + length (m ∷ ms)) (omega arith) (omega arith))
-    (shares_in o (routed t m ps) of (ticket + 1) (drop 1 advice) t ms))
+shares_in o ps of ticket advice t (m ∷ ms) = (
+  (omega arith, omega arith),
+  each_map (StartsIn (ticket + 1) (ticket + 1 + length ms)) (StartsIn ticket (ticket + length (m ∷ ms))) (shares_of o (routed t m ps) of (ticket + 1) (drop 1 advice) t ms)
+      (starts_wider (ticket + 1) (ticket + 1 + length ms) ticket (ticket + length (m ∷ ms)) (omega arith) (omega arith))
+      (shares_in o (routed t m ps) of (ticket + 1) (drop 1 advice) t ms),
+)
 
 unless_in : (r : Option Refusal) (v : View) (advice : List (Option ℕ)) (t : ℕ) (ms : List ProducerMessageValues) →
     Each (StartsIn (v.calls.drawn + 1) (v.calls.drawn + 1 + length ms)) (shares_unless r v advice t ms)
@@ -123,11 +124,12 @@ parts_in v advice (content.SendAll t ms) = unless_in (why_no_sends v.calls v.pro
 parts_in v advice _ = tt
 
 pub starts_in : (v : View) (advice : List (Option ℕ)) (asked : Asked) → Each (StartsIn v.calls.drawn (v.calls.drawn + 1 + shares asked)) (starts v advice asked)
-starts_in v advice asked =
-    ((omega arith, omega arith),
-    each_map (StartsIn (v.calls.drawn + 1) (v.calls.drawn + 1 + shares asked)) (StartsIn v.calls.drawn (v.calls.drawn + 1 + shares asked)) (parts_of v advice asked)
-    (starts_wider (v.calls.drawn + 1) (v.calls.drawn + 1 + shares asked) v.calls.drawn (v.calls.drawn + 1 + shares asked) (omega arith) (omega arith))
-    (parts_in v advice asked))
+starts_in v advice asked = (
+  (omega arith, omega arith),
+  each_map (StartsIn (v.calls.drawn + 1) (v.calls.drawn + 1 + shares asked)) (StartsIn v.calls.drawn (v.calls.drawn + 1 + shares asked)) (parts_of v advice asked)
+      (starts_wider (v.calls.drawn + 1) (v.calls.drawn + 1 + shares asked) v.calls.drawn (v.calls.drawn + 1 + shares asked) (omega arith) (omega arith))
+      (parts_in v advice asked),
+)
 
 -- the end of a call for which no ticket is left
 abbrev pub late : Act

@@ -1,5 +1,5 @@
 -- A part of a call or of a poll is alone in its event, and a call is made where the user asks for it.
-use Rattle.std.proofs.Common.{◌≡◌, ◌⊎◌, inl, inr, ◌∙◌, sym, ap, subst, ℕ, ◌+◌, List, [], ◌∷◌, ◌++◌, refl, drop, Bool, true, false, cond, Option, Some, None, map}
+use Rattle.std.proofs.Common.{◌≡◌, ◌⊎◌, inl, inr, ◌∙◌, sym, ap, subst, ℕ, ◌+◌, List, [], ◌∷◌, refl, drop, Bool, true, false, cond, Option, Some, map}
 use Rattle.std.proofs.lemmas.Bool.{cases_Bool}
 use Rattle.pulsar_run.specs.Laws.{Arises, In, InOne, InThisStep}
 use Rattle.pulsar_run.specs.Run.{first_of, rest, rest_of}

@@ -1,10 +1,8 @@
 -- What arises at once, by its kind, and which acts give rise to it. A further kind of act or action is told of here, and nowhere else.
-use Rattle.std.proofs.Common.{◌≡◌, ℕ, ◌+◌, ◌-◌, ◌^◌, List, ◌∷◌, refl, drop, Bool, true, false, Option, Some, None, []}
+use Rattle.std.proofs.Common.{◌≡◌, ℕ, ◌+◌, List, ◌∷◌, refl, Bool, true, false, Option, Some, None, []}
 use Rattle.std.specs.Option.{option_to_list}
-use Rattle.pulsar_messages.specs.Content.{ProducerMessageValues}
 use Rattle.pulsar_plans.specs.Address.{Place, address_key, is_reachable}
 use Rattle.pulsar_plans.specs.declared.making.Command.{Command}
-use Rattle.pulsar_session.specs.Failures.{Exhausted}
 use Rattle.pulsar_client.specs.declared.act.Act.{Act}
 use Rattle.pulsar_client.specs.declared.act.Act.TheVariants.{Comes, Starts, Told, Does, Answers, Dials}
 use Rattle.pulsar_client.specs.declared.act.Action.{Action}
@@ -16,10 +14,8 @@ use Rattle.pulsar_client.specs.declared.act.Arrival.TheVariants.{Bad}
 use Rattle.pulsar_client.specs.declared.act.End.TheVariants.{Broken, Idles, Stops}
 use Rattle.pulsar_client.specs.declared.act.LinkAct.TheVariants.{Reads, Pings, Ends}
 use Rattle.pulsar_client.specs.declared.act.Part.TheVariants.{Calls, ToLink, Rings}
-use Rattle.pulsar_client.specs.declared.act.Refusal.{Refusal}
 use Rattle.pulsar_client.specs.declared.act.Verdict.{Verdict}
 use Rattle.pulsar_client.specs.declared.act.Who.{Who}
-use Rattle.pulsar_client.specs.declared.act.Who.TheVariants.{Call}
 use Rattle.pulsar_client.specs.declared.addresses.Pause.{Pause}
 use Rattle.pulsar_client.specs.declared.addresses.Series.{Series}
 use Rattle.pulsar_client.specs.declared.addresses.Series.TheVariants.{Nobody, Runs, Pauses, Serves}
@@ -28,11 +24,11 @@ use Rattle.pulsar_client.specs.declared.plans.plan.Turn.{Turn}
 use Rattle.pulsar_client.specs.declared.plans.plan.Turn.TheVariants.{Stays, Gives}
 use Rattle.pulsar_client.specs.declared.producers.Topic.{Topic}
 use Rattle.pulsar_client.specs.Alarms.{rings}
-use Rattle.pulsar_client.specs.Content.{Asked, SendAll, lacks_tickets, shares}
-use Rattle.pulsar_client.specs.Plan.{begins, fails}
-use Rattle.pulsar_client.specs.Producers.{Producers, link_at, recalled, routed, turn_taken}
-use Rattle.pulsar_client.specs.Rules.{at_once, breaks_at, called, does, finds, follows, follows_some, gets_from, grants, idle_act, is_idle, keeps_alive, may_ping, over_links, parts_of, performs, recalls, rung, shares_of, shares_unless, starts, stop_act, takes_turn, tells, tries_again, why_no_sends}
-use Rattle.pulsar_client.specs.View.{Chosen, Seat, View, arrival_at, told_some}
+use Rattle.pulsar_client.specs.Content.{Asked, shares}
+use Rattle.pulsar_client.specs.Plan.{begins}
+use Rattle.pulsar_client.specs.Producers.{link_at, recalled, turn_taken}
+use Rattle.pulsar_client.specs.Rules.{at_once, breaks_at, called, does, finds, follows, follows_some, gets_from, grants, idle_act, is_idle, keeps_alive, may_ping, over_links, performs, recalls, rung, stop_act, takes_turn, tells, tries_again}
+use Rattle.pulsar_client.specs.View.{Seat, View, arrival_at, told_some}
 use Rattle.pulsar_producer.specs.declared.deed.News.TheVariants as news
 use Rattle.pulsar_client.specs.declared.act.Outcome.TheVariants as outcome
 use Rattle.pulsar_client.proofs.Acts.{Each, StartsIn, called_each, each_append, each_either, each_flat, over_each}

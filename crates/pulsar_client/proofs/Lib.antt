@@ -1,5 +1,9 @@
 pub mod Lists
 pub mod Places
+pub mod Grown
+pub mod Parting
+pub mod Producing
+pub mod Answering
 pub mod Moments
 pub mod Ringing
 pub mod Timing

@@ -15,6 +15,8 @@ pub mod Saying
 pub mod Steps
 pub mod Sorting
 pub mod Acts
+pub mod Quiet
+pub mod Proper
 pub mod Instances
 pub mod Done
 pub mod Plain

@@ -71,7 +71,7 @@ use Rattle.pulsar_client.specs.Plan.{begins, failure_of, fails, fault_of, reply_
 use Rattle.pulsar_client.specs.Rules.{below, dropped, fails_so, is_idle, lost, notice, performs, starts, stopped_one, stopped_with, brings}
 use Rattle.pulsar_client.specs.Run.{Entry, Begins, Then, Good, IsRun, Rests, Step, agenda, rules, steps, tickets_in, view}
 use Rattle.pulsar_client.specs.Subscriptions.{Subscription, closes_it, is_heard_on, is_last, polled}
-use Rattle.pulsar_client.specs.View.{Base, Chosen, Seat, Turned, View, answer_at, arrival_at, builds, closing, is_asked, pause_of, setup, turned, waits_on}
+use Rattle.pulsar_client.specs.View.{Base, Options, Seat, Turned, View, answer_at, arrival_at, builds, closing, is_asked, pause_of, setup, turned, waits_on}
 use Rattle.pulsar_client.specs.Who.{is_same, rank}
 
 -- THE RUN
@@ -245,7 +245,7 @@ EndsSo o P e older =
 abbrev pub AttemptEnds : Options → Who → Outcome → Entry → List Entry → Type 0
 AttemptEnds o who u e older =
     EndsSo o (λ end v seat. (starter : Who) × (retries link : ℕ) × ((base_of v seat.address).series ≡ Runs starter retries link)
-    × (pause_of o end seat.address (Runs starter retries link) ≡ None) × In who (base_of v seat.address).waiting
+    × (pause_of o.chosen end seat.address (Runs starter retries link) ≡ None) × In who (base_of v seat.address).waiting
     × (u ≡ fails_so end (is_same who starter))) e older
 
 -- a request that this one asked for ends with its link, and this is told
@@ -597,7 +597,7 @@ calls_of o l (_ ∷ log) = calls_of o l log
 abbrev pub dialed_with : Options → ℕ → List Entry → Option Setup
 dialed_with o l [] = None
 dialed_with o l (Then (Dials p starter retries) ∷ log) =
-    if l == (view o log).links.started then Some (setup o l (view o log).now p) else dialed_with o l log
+    if l == (view o log).links.started then Some (setup o.chosen l (view o log).now p) else dialed_with o l log
 dialed_with o l (_ ∷ log) = dialed_with o l log
 
 -- A link that has not ended is what the calls of its connection made of it, and nothing else. So all that holds of a connection over

@@ -55,8 +55,3 @@ pub record StandsFor {X : Type 0} {d : X → Type 0} (routes : DynBox X Global d
 abbrev pub IsDead : {X : Type 0} {d : X → Type 0} → (routes : DynBox X Global d → Policy) → Pulsar X d → Heard → Type 0
 IsDead routes c e =
     (o : Options) × (h : List Step) × (taken : List ℕ) × StandsFor routes o c h taken × ((g : Good o h) → is_live (view o g.log) e ≡ false)
-
--- every history that a client stands for is good
-abbrev pub StoodForIsGood : Type 0
-StoodForIsGood = {X : Type 0} {d : X → Type 0} (routes : DynBox X Global d → Policy) (o : Options) (c : Pulsar X d) (h : List Step) (taken : List ℕ) →
-    StandsFor routes o c h taken → Good o h

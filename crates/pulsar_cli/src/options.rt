@@ -35,7 +35,7 @@ pub fn defaults(
 
 /// An option is chosen.
 pub fn choose(options: &mut ClientOptions, setting: Setting)
-    ensures { meaning (λ p. routes p) options.new ≡ sets (setting_of setting) (meaning (λ p. routes p) options.old) }
+    ensures { meaning (λ p. routes (p.vtable, p.value)) options.new ≡ sets (setting_of setting) (meaning (λ p. routes (p.vtable, p.value)) options.old) }
 {
     match setting {
         Setting::Url(url) => options.url = url,

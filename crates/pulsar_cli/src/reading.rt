@@ -66,11 +66,11 @@ impl Reading {
 
     /// The lines that end in a piece, and the front of the next.
     pub fn piece(&mut self, piece: &[u8]) -> Result<(), Stop>
-        ensures ok { OnOk result ((policies : List Policy) (put consumed : List ℕ) → Running (λ p. routes p) policies self.old put consumed
-            → Running (λ p. routes p) policies self.new put (consumed ++ piece.now)) }
+        ensures ok { OnOk result ((policies : List Policy) (put consumed : List ℕ) → Running (λ p. routes (p.vtable, p.value)) policies self.old put consumed
+            → Running (λ p. routes (p.vtable, p.value)) policies self.new put (consumed ++ piece.now)) }
         ensures stop { IfErr result (λ stop. (stop ≡ Stop.Refused) ⊎ (stop ≡ Stop.NoMemory)) }
-        ensures refused { result ≡ Err Stop.Refused → (policies : List Policy) (put consumed : List ℕ) → Running (λ p. routes p) policies self.old put consumed
-            → Refuses (λ p. routes p) policies self.new put (consumed ++ piece.now) }
+        ensures refused { result ≡ Err Stop.Refused → (policies : List Policy) (put consumed : List ℕ) → Running (λ p. routes (p.vtable, p.value)) policies self.old put consumed
+            → Refuses (λ p. routes (p.vtable, p.value)) policies self.new put (consumed ++ piece.now) }
     {
         let mut rest = piece;
         while let Some((end, after)) = cut_line(rest) {
@@ -85,7 +85,7 @@ impl Reading {
     /// The bytes of a line go on.
     fn more(&mut self, bytes: &[u8]) -> Result<(), Stop>
         ensures ok { OnOk result (self.new.pending.items ≡ self.old.pending.items ++ bytes.now) }
-        ensures kept { OnOk result (KeepsReading (λ p. routes p) self.old self.new) }
+        ensures kept { OnOk result (KeepsReading (λ p. routes (p.vtable, p.value)) self.old self.new) }
         ensures err { IfErr result (λ stop. stop ≡ Stop.NoMemory) }
     {
         match self.pending.extend_from_slice(bytes) {
@@ -97,10 +97,10 @@ impl Reading {
     /// A line has ended.
     pub fn line(&mut self) -> Result<(), Stop>
         ensures ok { OnOk result (self.new.pending.items ≡ []) }
-        ensures reads { OnOk result (ReadsMore (λ p. routes p) self.old self.new self.old.pending.items) }
+        ensures reads { OnOk result (ReadsMore (λ p. routes (p.vtable, p.value)) self.old self.new self.old.pending.items) }
         ensures stop { IfErr result (λ stop. (stop ≡ Stop.Refused) ⊎ (stop ≡ Stop.NoMemory)) }
         ensures refused { result ≡ Err Stop.Refused
-            → (self.new ≡ self.old) × IsNoScriptWith (λ p. routes p) self.old self.old.pending.items }
+            → (self.new ≡ self.old) × IsNoScriptWith (λ p. routes (p.vtable, p.value)) self.old self.old.pending.items }
     {
         let Ok(line) = parse(self.alloc, &self.pending) else {
             return Err(Stop::NoMemory);
@@ -113,11 +113,11 @@ impl Reading {
     /// A line is nothing, or a setting, or a step, or not of the grammar.
     fn take(&mut self, line: Line) -> Result<(), Stop>
         ensures reads { OnOk result ((bytes : List ℕ) → line_meaning bytes ≡ line_of line
-            → ReadsMore (λ p. routes p) self.old self.new bytes) }
+            → ReadsMore (λ p. routes (p.vtable, p.value)) self.old self.new bytes) }
         ensures stop { IfErr result (λ stop. (stop ≡ Stop.Refused) ⊎ (stop ≡ Stop.NoMemory)) }
         ensures refused { result ≡ Err Stop.Refused
             → (self.new ≡ self.old) × ((bytes : List ℕ)
-            → line_meaning bytes ≡ line_of line → IsNoScriptWith (λ p. routes p) self.old bytes) }
+            → line_meaning bytes ≡ line_of line → IsNoScriptWith (λ p. routes (p.vtable, p.value)) self.old bytes) }
     {
         match line {
             Line::Nothing => {
@@ -151,12 +151,12 @@ impl Reading {
 
     /// An option is chosen. It is refused where the client has been made.
     fn set(&mut self, setting: Setting) -> Result<(), Stop>
-        ensures ok { OnOk result ((o : Options) → IsClient (λ p. routes p) o self.old.stage [] → IsClient (λ p. routes p) (sets (setting_of setting) o) self.new.stage []) }
-        ensures unmade { OnOk result ((o : Options) (h : List Step) → IsClient (λ p. routes p) o self.old.stage h → h ≡ []) }
+        ensures ok { OnOk result ((o : Options) → IsClient (λ p. routes (p.vtable, p.value)) o self.old.stage [] → IsClient (λ p. routes (p.vtable, p.value)) (sets (setting_of setting) o) self.new.stage []) }
+        ensures unmade { OnOk result ((o : Options) (h : List Step) → IsClient (λ p. routes (p.vtable, p.value)) o self.old.stage h → h ≡ []) }
         ensures text { OnOk result (KeepsText self.old self.new) }
         ensures line { OnOk result (self.new.line ≡ self.old.line) }
         ensures refused { IfErr result (λ stop. (stop ≡ Stop.Refused) × (self.new ≡ self.old)
-            × ((o : Options) (h : List Step) → IsClient (λ p. routes p) o self.old.stage h → is_empty h ≡ false)) }
+            × ((o : Options) (h : List Step) → IsClient (λ p. routes (p.vtable, p.value)) o self.old.stage h → is_empty h ≡ false)) }
     {
         match &mut self.stage {
             Some(Stage::Chooses(options)) => {
@@ -171,7 +171,7 @@ impl Reading {
     fn step(&mut self, event: Event) -> Result<(), Stop>
         ensures line { OnOk result (self.new.line ≡ self.old.line) }
         ensures events { OnOk result (self.new.events ≡ self.old.events + 1) }
-        ensures history { OnOk result (Steps (λ p. routes p) self.old self.new (heard event)) }
+        ensures history { OnOk result (Steps (λ p. routes (p.vtable, p.value)) self.old self.new (heard event)) }
         ensures err { IfErr result (λ stop. stop ≡ Stop.NoMemory) }
     {
         let effects = self.effects(event)?;
@@ -186,8 +186,8 @@ impl Reading {
 
     /// The effects of an event.
     fn effects(&mut self, event: Event) -> Result<Vec<Effect>, Stop>
-        ensures client { IfOk result (λ out. (o : Options) (h : List Step) → IsClient (λ p. routes p) o self.old.stage h
-            → IsClient (λ p. routes p) o self.new.stage (step event out.items ∷ h)) }
+        ensures client { IfOk result (λ out. (o : Options) (h : List Step) → IsClient (λ p. routes (p.vtable, p.value)) o self.old.stage h
+            → IsClient (λ p. routes (p.vtable, p.value)) o self.new.stage (step event out.items ∷ h)) }
         ensures text { OnOk result (KeepsText self.old self.new) }
         ensures line { OnOk result (self.new.line ≡ self.old.line) }
         ensures err { IfErr result (λ stop. stop ≡ Stop.NoMemory) }
@@ -203,7 +203,7 @@ impl Reading {
 
     /// The client, taken out; it is made where the first event comes.
     fn started(&mut self) -> Result<Pulsar, Stop>
-        ensures client { IfOk result (λ c. (o : Options) (h : List Step) → IsClient (λ p. routes p) o self.old.stage h → StandsFor (λ p. routes p) o c h []) }
+        ensures client { IfOk result (λ c. (o : Options) (h : List Step) → IsClient (λ p. routes (p.vtable, p.value)) o self.old.stage h → StandsFor (λ p. routes (p.vtable, p.value)) o c h []) }
         ensures text { OnOk result (KeepsText self.old self.new) }
         ensures line { OnOk result (self.new.line ≡ self.old.line) }
         ensures err { IfErr result (λ stop. stop ≡ Stop.NoMemory) }
@@ -218,7 +218,7 @@ impl Reading {
 
 /// A client with these options, to which nothing has happened.
 fn made(alloc: Global, options: ClientOptions) -> Result<Pulsar, Stop>
-    ensures ok { IfOk result (λ c. StandsFor (λ p. routes p) (meaning (λ p. routes p) options) c [] []) }
+    ensures ok { IfOk result (λ c. StandsFor (λ p. routes (p.vtable, p.value)) (meaning (λ p. routes (p.vtable, p.value)) options) c [] []) }
     ensures err { IfErr result (λ stop. stop ≡ Stop.NoMemory) }
 {
     match Pulsar::new(alloc, options) {

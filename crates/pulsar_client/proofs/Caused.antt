@@ -54,11 +54,12 @@ use Rattle.pulsar_client.proofs.Acts.{Each, chosen_same, each_either, over_each}
 
 -- LISTS
 
-step_map : (P Q : Entry → List Entry → Type 0) → ((e : Entry) (older : List Entry) → P e older → Q e older) → (log : List Entry) → InThisStep P log → InThisStep Q log
-step_map P Q f [] h = absurd h
-step_map P Q f (Begins e ∷ log) h = f (Begins e) log h
-step_map P Q f (Then a ∷ log) (inl h) = inl (f (Then a) log h)
-step_map P Q f (Then a ∷ log) (inr h) = inr (step_map P Q f log h)
+step_map : (o : Options) (P Q : Entry → List Entry → Type 0) → ((e : Entry) (older : List Entry) → IsRun o (e ∷ older) → P e older → Q e older) →
+    (log : List Entry) → IsRun o log → InThisStep P log → InThisStep Q log
+step_map o P Q f [] run h = absurd h
+step_map o P Q f (Begins e ∷ log) run h = f (Begins e) log run h
+step_map o P Q f (Then a ∷ log) run (inl h) = inl (f (Then a) log run h)
+step_map o P Q f (Then a ∷ log) run (inr h) = inr (step_map o P Q f log run.0 h)
 
 in_append : {A : Type 0} (x : A) (xs ys : List A) → In x (xs ++ ys) → In x xs ⊎ In x ys
 in_append x [] ys h = inr h
@@ -69,6 +70,16 @@ in_append x (y ∷ xs) ys (inr h) = elim (in_append x xs ys h) [ inl i ↦ inl (
 in_flat : {A B : Type 0} (f : A → List B) (y : B) (xs : List A) → In y (flat_map f xs) → (x : A) × In y (f x)
 in_flat f y [] h = absurd h
 in_flat f y (x ∷ xs) h = elim (in_append y (f x) (flat_map f xs) h) [ inl i ↦ (x, i) | inr i ↦ in_flat f y xs i ]
+
+in_each : {A : Type 0} (P : A → Type 0) (x : A) (xs : List A) → In x xs → Each P xs → P x
+in_each P x [] i k = absurd i
+in_each P x (y ∷ xs) (inl e) k = subst P (sym e) k.0
+in_each P x (y ∷ xs) (inr i) k = in_each P x xs i k.1
+
+in_map : {A : Type 0} (f : A → Notice) (n : Notice) (xs : List A) → In n (map f xs) → (x : A) × In x xs × (n ≡ f x)
+in_map f n [] h = absurd h
+in_map f n (x ∷ xs) (inl e) = (x, inl refl, e)
+in_map f n (x ∷ xs) (inr h) = let k = in_map f n xs h in (k.0, inr k.1, k.2)
 
 -- what is told is a notice of the list
 in_told : (n : Notice) (ns : List Notice) → In (Told n) (map Told ns) → In n ns
@@ -111,64 +122,149 @@ in_askers says askers (p ∷ ps) n h = one (askers p) refl (in_askers says asker
         split (inl f) = record { place = p; listed = inl refl; asker = e ∙ ap Some (sym (ap (λ m. m.who) f)); told = ap (λ m. m.outcome) f }
         split (inr i) = later (more i)
 
--- WHAT TELLS NOBODY
+-- WHO IS TOLD AT ONCE
 
-abbrev is_told : Act → Bool
-is_told (Told n) = true
-is_told _ = false
+-- only an action tells at once
+none_told : (v : View) (a : Act) (n : Notice) → may OfNotice a ≡ false → In (Told n) (at_once v a) → ⊥
+none_told v a n no h = (let told : may OfNotice a ≡ true = in_each (IsRaised a) (Told n) (at_once v a) h (raises v a) in let f : true ≡ false = sym told ∙ no in absurd cc)
 
-abbrev IsMute : Act → Type 0
-IsMute a = is_told a ≡ false
+-- what comes of a link is no notice
+mute_told : (n : Notice) (ps : List Part) → In (Told n) (map Comes ps) → ⊥
+mute_told n [] h = h
+mute_told n (p ∷ ps) (inl e) = absurd cc
+mute_told n (p ∷ ps) (inr h) = mute_told n ps h
 
-none_told : (n : Notice) (xs : List Act) → Each IsMute xs → In (Told n) xs → ⊥
-none_told n [] k h = h
-none_told n (x ∷ xs) k (inl e) = let f : true ≡ false = ap is_told e ∙ k.0 in absurd cc
-none_told n (x ∷ xs) k (inr h) = none_told n xs k.1 h
+-- what one who acts on a topic producer, or on their numbers, may be told
+abbrev is_answer : Outcome → Bool
+is_answer (outcome.Granted n) = true
+is_answer (outcome.GotLink l) = true
+is_answer (outcome.Refused cause) = true
+is_answer outcome.Disconnected = true
+is_answer _ = false
 
-comes_mute : (ps : List Part) → Each IsMute (map Comes ps)
-comes_mute [] = tt
-comes_mute (p ∷ ps) = (refl, comes_mute ps)
+abbrev IsAnswered : Who → Act → Type 0
+IsAnswered w (Told n) = (n.who ≡ w) × (is_answer n.outcome ≡ true)
+IsAnswered w a = Unit {0}
 
-called_mute : (o : Chosen) (c : Tickets) (asked : Asked) → Each IsMute (called o c asked)
-called_mute o c asked = elim (cases_Bool (is_spent c.drawn)) [ inl e ↦ rw e (refl, tt) | inr e ↦ rw e (refl, tt) ]
+abbrev is_of_topics : Action → Bool
+is_of_topics (Get p) = false
+is_of_topics (Ask l request) = false
+is_of_topics StopAll = false
+is_of_topics _ = true
 
-does_mute : (who : Who) (action : Action) → Each IsMute (does who action)
-does_mute who Rest = tt
-does_mute who _ = (refl, tt)
+takes_answered : (w : Who) (row : Option Topic) → Each (IsAnswered w) (takes_turn w row)
+takes_answered w None = ((refl, refl), tt)
+takes_answered w (Some t) =
+    each_flat (IsAnswered w) (λ version. grants w (news.HasTurn version)) (option_to_list (turn_taken (Some t))) (λ version. ((refl, refl), tt))
 
-follows_mute : (who : Who) (t : Turn Plan Verdict) → Each IsMute (follows who t)
-follows_mute who (Stays plan action) = does_mute who action
-follows_mute who (Gives verdict) = (refl, tt)
+draw_answered : (w : Who) (room : Option Bool) (row : Option Topic) → Each (IsAnswered w) (tells w (draw_outcome room row))
+draw_answered w None row = ((refl, refl), tt)
+draw_answered w (Some room) row = said (drawn room row)
+  where
+    said : (d : Option Drawn) → Each (IsAnswered w) (tells w (draw_said d))
+    said None = ((refl, refl), tt)
+    said (Some d) = ((refl, refl), tt)
 
-some_mute : (who : Who) (t : Option (Turn Plan Verdict)) → Each IsMute (follows_some who t)
-some_mute who None = tt
-some_mute who (Some t) = follows_mute who t
+recalls_answered : (w : Who) (row : Option Command) → Each (IsAnswered w) (recalls w row)
+recalls_answered w None = ((refl, refl), tt)
+recalls_answered w (Some c) = ((refl, refl), tt)
 
-breaks_mute : (l : ℕ) (a : Arrival) → Each IsMute (breaks_at l a)
-breaks_mute l (Bad cause) = (refl, tt)
-breaks_mute l _ = tt
+number_answered : (w : Who) (row : Option ℕ) → Each (IsAnswered w) (tells w (number_said row))
+number_answered w None = ((refl, refl), tt)
+number_answered w (Some n) = ((refl, refl), tt)
 
-tries_mute : (row : Option Pause) → Each IsMute (tries_again row)
-tries_mute None = tt
-tries_mute (Some p) = (refl, tt)
+finds_answered : (w : Who) (row : Option ℕ) → Each (IsAnswered w) (finds w row)
+finds_answered w None = ((refl, refl), tt)
+finds_answered w (Some l) = ((refl, refl), tt)
 
-keeps_mute : (l : ℕ) (row : Option Seat) → Each IsMute (keeps_alive l row)
-keeps_mute l row = each_either IsMute (may_ping row) (Comes (ToLink l Pings) ∷ []) [] (refl, tt) tt
+topics_answer : (v : View) (w : Who) (action : Action) → is_of_topics action ≡ true → Each (IsAnswered w) (performs v w action)
+topics_answer v w (Get p) h = absurd cc
+topics_answer v w (Ask l request) h = absurd cc
+topics_answer v w StopAll h = absurd cc
+topics_answer v w (Wait delay) h = tt
+topics_answer v w (TakeTurn n) h = takes_answered w (v.producers.topics n)
+topics_answer v w (Draw n) h = draw_answered w (room_of v n) (v.producers.topics n)
+topics_answer v w (Recall n) h = recalls_answered w (recalled v.producers n)
+topics_answer v w Number h = number_answered w (number_drawn v.producers)
+topics_answer v w (Find n) h = finds_answered w (link_at (v.producers.topics n))
+topics_answer v w Rest h = tt
+topics_answer v w _ h = ((refl, refl), tt)
 
-idle_mute : (v : View) (l : ℕ) (seat : Seat) → Each IsMute (idle_act v l seat)
-idle_mute v l seat = each_either IsMute (is_idle v l seat) (Comes (ToLink l (Ends Idles)) ∷ []) [] (refl, tt) tt
+answer_caused : (o : Options) (who : Who) (u : Outcome) (e : Entry) (older : List Entry) → is_answer u ≡ true → IsUnknown o who u e older → Cause o who u e older
+answer_caused o who (outcome.Granted n) e older h k = inl k
+answer_caused o who (outcome.GotLink l) e older h k = inr (inr k)
+answer_caused o who (outcome.Refused cause) e older h k = inr k
+answer_caused o who outcome.Disconnected e older h k = inr (inr k)
+answer_caused o who u e older h k = absurd cc
 
-rung_mute : (v : View) (a : Alarm) → Each IsMute (rung v a)
-rung_mute v (Retry l) = tries_mute (v.addresses.pause l)
-rung_mute v (Wake who) = tt
-rung_mute v (KeepAlive l) = keeps_mute l (v.links.live l)
-rung_mute v CheckIdle = over_each IsMute (idle_act v) v.links (idle_mute v)
+-- WHAT ONE TELLS ANOTHER
 
-comes_once_mute : (v : View) (p : Part) → Each IsMute (at_once v (Comes p))
-comes_once_mute v (Calls asked) = called_mute v.chosen v.calls asked
-comes_once_mute v (ToLink l Reads) = breaks_mute l (arrival_at (v.links.live l))
-comes_once_mute v (Rings a) = each_either IsMute (rings v.now a v.alarms) (rung v a) [] (rung_mute v a) tt
-comes_once_mute v _ = tt
+-- whatever a plan tells is what a part of a call says
+abbrev SaysSo : Act → Type 0
+SaysSo (Does who (Tell n)) = is_said n.outcome ≡ true
+SaysSo a = Unit {0}
+
+turn_says : (who : Who) (turn : Turn Plan Verdict) → Fits turn → Each SaysSo (follows who turn)
+turn_says who (Gives verdict) h = (tt, tt)
+turn_says who (Stays plan (Tell n)) h = (says_so (spot plan) n h, tt)
+turn_says who (Stays plan Rest) h = tt
+turn_says who (Stays plan action) h = (tt, tt)
+
+begins_says : (who : Who) (p : Procedure) (b : Bool) → is_stop p ≡ b → Each SaysSo (follows who (begins p))
+begins_says who p false h = turn_says who (begins p) (begins_fits p h)
+begins_says who procedure.Stop true h = (tt, tt)
+begins_says who p true h = absurd cc
+
+some_says : (who : Who) (row : Option Plan) (u : Outcome) → Each SaysSo (follows_some who (told_some row u))
+some_says who None u = tt
+some_says who (Some plan) u = turn_says who (told plan u) (told_fits plan u)
+
+-- only plans act
+no_deed : (v : View) (a : Act) → may OfDeed a ≡ false → (w : Who) (action : Action) → In (Does w action) (at_once v a) → ⊥
+no_deed v a no w action h =
+    (let did : may OfDeed a ≡ true = in_each (IsRaised a) (Does w action) (at_once v a) h (raises v a) in let f : true ≡ false = sym did ∙ no in absurd cc)
+
+mute_did : (w : Who) (action : Action) (ps : List Part) → In (Does w action) (map Comes ps) → ⊥
+mute_did w action [] h = h
+mute_did w action (p ∷ ps) (inl e) = absurd cc
+mute_did w action (p ∷ ps) (inr h) = mute_did w action ps h
+
+told_did : (w : Who) (action : Action) (ns : List Notice) → In (Does w action) (map Told ns) → ⊥
+told_did w action [] h = h
+told_did w action (n ∷ ns) (inl e) = absurd cc
+told_did w action (n ∷ ns) (inr h) = told_did w action ns h
+
+one_did : (w : Who) (action : Action) (nss : List (List Notice)) → InOne (Does w action) (map (map Told) nss) → ⊥
+one_did w action [] h = h
+one_did w action (ns ∷ nss) (inl h) = told_did w action ns h
+one_did w action (ns ∷ nss) (inr h) = one_did w action nss h
+
+once_says : (v : View) (a : Act) (w : Who) (n : Notice) → In (Does w (Tell n)) (at_once v a) → is_said n.outcome ≡ true
+once_says v (Starts who p) w n h = in_each SaysSo (Does w (Tell n)) (follows who (begins p)) h (begins_says who p (is_stop p) refl)
+once_says v (Told m) w n h = in_each SaysSo (Does w (Tell n)) (at_once v (Told m)) h (some_says m.who (v.stand m.who) m.outcome)
+once_says v a w n h = absurd (no_deed v a refl w (Tell n) h)
+
+arises_says : (o : Options) (w : Who) (n : Notice) (e : Entry) (older : List Entry) → Arises rules o (Does w (Tell n)) e older → is_said n.outcome ≡ true
+arises_says o w n (Begins e) older h = absurd (mute_did w (Tell n) (parts o (view o older) e) h)
+arises_says o w n (Then b) older (inl h) = once_says (view o older) b w n h
+arises_says o w n (Then b) older (inr (inl h)) = absurd (told_did w (Tell n) (joins (view o older) b) h)
+arises_says o w n (Then b) older (inr (inr (inl h))) = absurd (one_did w (Tell n) (causes (view o older) b) h)
+arises_says o w n (Then b) older (inr (inr (inr h))) = absurd (mute_did w (Tell n) (further (view o older) b) h)
+
+step_says : (A : Type 0) (P : Entry → List Entry → Type 0) → ((e : Entry) (older : List Entry) → P e older → A) → (log : List Entry) → InThisStep P log → A
+step_says A P f [] h = absurd h
+step_says A P f (Begins e ∷ log) h = f (Begins e) log h
+step_says A P f (Then a ∷ log) (inl h) = f (Then a) log h
+step_says A P f (Then a ∷ log) (inr h) = step_says A P f log h
+
+run_says : (o : Options) (w : Who) (n : Notice) (log : List Entry) → IsRun o (Then (Does w (Tell n)) ∷ log) → is_said n.outcome ≡ true
+run_says o w n log run =
+    step_says (is_said n.outcome ≡ true) (Arises rules o (Does w (Tell n))) (arises_says o w n) log (acts_arise_lem _ _ _ _ _ _ _ rules o (Does w (Tell n)) log run)
+
+said_caused : (o : Options) (who : Who) (u : Outcome) (e : Entry) (older : List Entry) → is_said u ≡ true → IsToldBy who u e older → Cause o who u e older
+said_caused o who (outcome.Parted ticket f) e older h k = k
+said_caused o who outcome.Stopped e older h k = inr (inr (inr k))
+said_caused o who u e older h k = absurd cc
 
 -- WHAT THE STOP TELLS
 
@@ -224,7 +320,8 @@ module _ (o : Options) (who : Who) (u : Outcome) (older : List Entry) where
 
   from_caused : (w : Who) (p : Place) (s : Series) → is_reachable p ≡ true → (base_of v p).series ≡ s → In (Told it) (gets_from w p s) →
       Cause o who u (Then (Does w (Get p))) older
-  from_caused w p Nobody r q h = absurd (none_told it (Dials p w 0 ∷ []) (refl, tt) h)
+  from_caused w p Nobody r q (inl e) = absurd cc
+  from_caused w p Nobody r q (inr h) = absurd h
   from_caused w p (Runs starter retries l) r q h = absurd h
   from_caused w p (Pauses l) r q h = absurd h
   from_caused w p (Serves l) r q h =
@@ -242,23 +339,49 @@ module _ (o : Options) (who : Who) (u : Outcome) (older : List Entry) where
   asks_so w l request (Ok (placed.Waiting place)) c a b =
       named (Then (Does w (Ask l request))) outcome.InLine b (l, request, did w (Ask l request) a, (place, c))
   asks_so w l request (Err x) c a b =
-      named (Then (Does w (Ask l request))) (told_at (Err x)) b (l, request, did w (Ask l request) a, (x, c, refl))
+      named (Then (Does w (Ask l request))) (told_at (Err x)) b (inl (l, request, did w (Ask l request) a, (x, c, refl)))
 
   stops_caused : (w : Who) → In (Told it) (over_links stop_act v.links ++ tells w outcome.Stopped) → Cause o who u (Then (Does w StopAll)) older
   stops_caused w h = elim (in_append (Told it) (over_links stop_act v.links) (tells w outcome.Stopped) h) [
-    | inl i ↦ absurd (none_told it (over_links stop_act v.links) (over_each IsMute stop_act v.links (λ l seat. (refl, tt))) i)
+    | inl i ↦ absurd (in_each (λ (x : Act). Told it ≡ x → ⊥) (Told it) (over_links stop_act v.links) i (over_each (λ (x : Act). Told it ≡ x → ⊥) stop_act v.links (λ l seat. ((λ e. absurd cc), tt))) refl)
     | inr i ↦ (let k = told_is w outcome.Stopped i in named (Then (Does w StopAll)) outcome.Stopped k.1 (inl (w, refl, inl k.0)))
   ]
 
+  -- what one asks of a topic producer, or of their numbers
+  topic_caused : (w : Who) (action : Action) → is_of_topics action ≡ true → In (Told it) (performs v w action) → Cause o who u (Then (Does w action)) older
+  topic_caused w action is h =
+      let k : (who ≡ w) × (is_answer u ≡ true) = in_each (IsAnswered w) (Told it) (performs v w action) h (topics_answer v w action is) in
+      answer_caused o who u (Then (Does w action)) older k.1 (action, did w action k.0, subst (λ x. In (Told it) (performs v x action)) (sym k.0) h)
+
   once_caused : (b : Act) → In (Told it) (at_once v b) → Cause o who u (Then b) older
-  once_caused (Comes p) h = absurd (none_told it (at_once v (Comes p)) (comes_once_mute v p) h)
-  once_caused (Starts w p) h = absurd (none_told it (follows w (begins p)) (follows_mute w (begins p)) h)
-  once_caused (Told n) h = absurd (none_told it (at_once v (Told n)) (some_mute n.who (told_some (v.stand n.who) n.outcome)) h)
   once_caused (Does w (Get p)) h = gets_caused w p (is_reachable p) refl h
   once_caused (Does w (Ask l request)) h =
       let k = told_is w (told_at (answer_at v.now request (v.links.live l))) h in asks_so w l request (answer_at v.now request (v.links.live l)) refl k.0 k.1
   once_caused (Does w StopAll) h = stops_caused w h
-  once_caused _ h = absurd h
+  once_caused (Does w action) h = topic_caused w action refl h
+  once_caused b h = absurd (none_told v b it refl h)
+
+  -- ONE JOINS
+
+  passed_caused : (w : Who) (n : ℕ) (row : Option (ℕ × Option (List ℕ))) → turn_passed (v.producers.topics n) ≡ row →
+      In it (option_to_list (option_map turn_notice row)) → Cause o who u (Then (Does w (PassTurn n))) older
+  passed_caused w n None e h = absurd h
+  passed_caused w n (Some next) e (inr h) = absurd h
+  passed_caused w n (Some next) e (inl is) =
+      let a : who ≡ Call next.0 = ap (λ m. m.who) is in
+      let b : u ≡ outcome.Granted (news.HasTurn next.1) = ap (λ m. m.outcome) is in
+      named (Then (Does w (PassTurn n))) (outcome.Granted (news.HasTurn next.1)) b
+      (inr (w, n, next.1, refl, refl, ap (option_map (λ next. (Call next.0, next.1))) e ∙ ap (λ x. Some (x, next.1)) (sym a)))
+
+  tells_caused : (w : Who) (n : Notice) → is_said n.outcome ≡ true → In it (n ∷ []) → Cause o who u (Then (Does w (Tell n))) older
+  tells_caused w n said (inr h) = absurd h
+  tells_caused w n said (inl is) =
+      said_caused o who u (Then (Does w (Tell n))) older (ap (λ m. is_said m.outcome) is ∙ said) (w, ap (λ m. Then (Does w (Tell m))) (sym is))
+
+  joins_caused : (b : Act) → IsRun o (Then b ∷ older) → In it (joins v b) → Cause o who u (Then b) older
+  joins_caused (Does w (PassTurn n)) run h = passed_caused w n (turn_passed (v.producers.topics n)) refl h
+  joins_caused (Does w (Tell n)) run h = tells_caused w n (run_says o w n older run) h
+  joins_caused b run h = absurd h
 
   -- A MOMENT COMES, AND THE CLIENT IS STOPPED
 
@@ -280,11 +403,19 @@ module _ (o : Options) (who : Who) (u : Outcome) (older : List Entry) where
   abbrev stopped_all : List Notice
   stopped_all = flat_map (λ e. stopped_with v.addresses e.0) v.alarms
 
-  all_stopped : (w : Who) → In it stopped_all → Cause o who u (Then (Does w StopAll)) older
-  all_stopped w h =
-      let a = in_flat (λ e. stopped_with v.addresses e.0) it v.alarms h in
-      let is : u ≡ outcome.Stopped = stopped_by it v.addresses a.0.0 a.1 in
-      named (Then (Does w StopAll)) outcome.Stopped is (inl (w, refl, inr (subst (λ y. In (notice who y) stopped_all) is h)))
+  abbrev waiting_all : List Notice
+  waiting_all = map stopped_one (waiting v.producers)
+
+  all_stopped : (w : Who) → In it (stopped_all ++ waiting_all) → Cause o who u (Then (Does w StopAll)) older
+  all_stopped w h = elim (in_append it stopped_all waiting_all h) [
+    | inl i ↦
+        (let a = in_flat (λ e. stopped_with v.addresses e.0) it v.alarms i in
+        let is : u ≡ outcome.Stopped = stopped_by it v.addresses a.0.0 a.1 in
+        named (Then (Does w StopAll)) outcome.Stopped is (inl (w, refl, inr (inl (subst (λ y. In (notice who y) stopped_all) is i)))))
+    | inr i ↦
+        (let is : u ≡ outcome.Stopped = ap (λ m. m.outcome) (in_map stopped_one it (waiting v.producers) i).2 in
+        named (Then (Does w StopAll)) outcome.Stopped is (inl (w, refl, inr (inr (subst (λ y. In (notice who y) waiting_all) is i)))))
+  ]
 
   module _ (l : ℕ) where
     -- A FRAME IS READ
@@ -310,7 +441,7 @@ module _ (o : Options) (who : Who) (u : Outcome) (older : List Entry) where
     served_caused : (seat : Seat) (a : Arrival) → v.links.live l ≡ Some seat → arrival seat.seen ≡ a →
         In it (served_by l (change_in a) (base_of v seat.address).waiting) → Cause o who u reads older
     served_caused seat Readied e c h =
-        let k = ready_in (base_of v seat.address).waiting h in named reads (outcome.GotLink l) k.1 (inr (seat, refl, e, c, k.0))
+        let k = ready_in (base_of v seat.address).waiting h in named reads (outcome.GotLink l) k.1 (inr (inl (seat, refl, e, c, k.0)))
     served_caused seat _ e c h = absurd h
 
     waited_caused : (row : Option Seat) → v.links.live l ≡ row →
@@ -366,7 +497,7 @@ module _ (o : Options) (who : Who) (u : Outcome) (older : List Entry) where
             let b : who ≡ w = ap (λ n. n.who) e in (inl b, ap (λ n. n.outcome) e ∙ ap (λ y. fails_so end (is_same y starter)) (sym b))
         failed_in starter (w ∷ ws) (inr h) = let k = failed_in starter ws h in (inr k.0, k.1)
 
-        attempt_ends : (s : Series) → (base_of v seat.address).series ≡ s → (pause : Option Pause) → pause_of o end seat.address s ≡ pause →
+        attempt_ends : (s : Series) → (base_of v seat.address).series ≡ s → (pause : Option Pause) → pause_of o.chosen end seat.address s ≡ pause →
             In it (failed_over end pause (record { series = s; waiting = (base_of v seat.address).waiting })) →
             AttemptEnds o who u ends_there older × (b : Bool) × (u ≡ fails_so end b)
         attempt_ends s q (Some p) n h = absurd h
@@ -382,7 +513,7 @@ module _ (o : Options) (who : Who) (u : Outcome) (older : List Entry) where
     dropped_caused : (end : End) (cause : Fault) (seat : Seat) → v.links.live l ≡ Some seat → closed_by end v.now seat.seen ≡ Some cause →
         IsAsker (λ place. dropped end) seat.askers (line_places seat.seen) it → Cause o who u (Then (Comes (ToLink l (Ends end)))) older
     dropped_caused Stops cause seat a c k = named (ends_there Stops) outcome.Stopped k.told (inr (inl (line_ends Stops cause seat a c outcome.Stopped refl k)))
-    dropped_caused end cause seat a c k = named (ends_there end) outcome.Disconnected k.told (inr (line_ends end cause seat a c outcome.Disconnected refl k))
+    dropped_caused end cause seat a c k = named (ends_there end) outcome.Disconnected k.told (inr (inl (line_ends end cause seat a c outcome.Disconnected refl k)))
 
     failed_caused : (e : Entry) (kind : IoKind) (b : Bool) → u ≡ failed_so kind b → AttemptEnds o who u e older → Cause o who u e older
     failed_caused e kind true d k = named e (outcome.Failed kind) d (subst (λ y. AttemptEnds o who y e older) d k)
@@ -394,7 +525,7 @@ module _ (o : Options) (who : Who) (u : Outcome) (older : List Entry) where
     attempt_caused e (Overdue below) b d k = failed_caused e io_kind.TimedOut b d k
     attempt_caused e (Broken cause) b d k = failed_caused e io_kind.Other b d k
     attempt_caused e Idles b d k = failed_caused e io_kind.Other b d k
-    attempt_caused e Stops b d k = named e outcome.Stopped d (inr (inr (subst (λ y. AttemptEnds o who y e older) d k)))
+    attempt_caused e Stops b d k = named e outcome.Stopped d (inr (inr (inl (subst (λ y. AttemptEnds o who y e older) d k))))
 
     -- those who wait for its address, and those who asked on it
     over_caused : (end : End) (seat : Seat) (r : Option Fault) → v.links.live l ≡ Some seat → closed_by end v.now seat.seen ≡ r →
@@ -403,7 +534,7 @@ module _ (o : Options) (who : Who) (u : Outcome) (older : List Entry) where
     over_caused end seat None a c h = absurd h
     over_caused end seat (Some cause) a c h =
         let pause : Option Pause = pause_of v.chosen end seat.address (base_of v seat.address).series in
-        let is : pause_of o end seat.address (base_of v seat.address).series ≡ pause =
+        let is : pause_of o.chosen end seat.address (base_of v seat.address).series ≡ pause =
         ap (λ x. pause_of x end seat.address (base_of v seat.address).series) (sym (chosen_same o older)) in
         let k = attempt_ends end cause seat a c (base_of v seat.address).series refl pause is h in
         attempt_caused (Then (Comes (ToLink l (Ends end)))) end k.1 k.2 k.0
@@ -438,17 +569,17 @@ module _ (o : Options) (who : Who) (u : Outcome) (older : List Entry) where
       let waiters : List Notice = waiters_of (failed_on end) v.addresses (option_map (turned_by v.chosen v.addresses v.now l (Ends end)) (v.links.live l)) in
       ends_caused l end (v.links.live l) refl (in_opened it (ended_on end v.now (v.links.live l) ++ waiters) h)
   cause_caused (Comes (Rings a)) h = rings_caused a (rings v.now a v.alarms) refl h
-  cause_caused (Does w StopAll) h = all_stopped w (in_opened it stopped_all h)
+  cause_caused (Does w StopAll) h = all_stopped w (in_opened it (stopped_all ++ waiting_all) h)
   cause_caused _ h = absurd h
 
-  is_caused : (e : Entry) → Arises rules o (Told it) e older → Cause o who u e older
-  is_caused (Begins e) h = absurd (none_told it (map Comes (parts v e)) (comes_mute (parts v e)) h)
-  is_caused (Then b) (inl h) = once_caused b h
-  is_caused (Then b) (inr (inl h)) = absurd h
-  is_caused (Then b) (inr (inr (inl h))) = cause_caused b h
-  is_caused (Then b) (inr (inr (inr h))) = absurd (none_told it (map Comes (further v b)) (comes_mute (further v b)) h)
+  is_caused : (e : Entry) → IsRun o (e ∷ older) → Arises rules o (Told it) e older → Cause o who u e older
+  is_caused (Begins e) run h = absurd (mute_told it (parts o v e) h)
+  is_caused (Then b) run (inl h) = once_caused b h
+  is_caused (Then b) run (inr (inl h)) = joins_caused b run (in_told it (joins v b) h)
+  is_caused (Then b) run (inr (inr (inl h))) = cause_caused b h
+  is_caused (Then b) run (inr (inr (inr h))) = absurd (mute_told it (further v b) h)
 
 pub outcomes_are_caused_lem : OutcomesAreCaused
-outcomes_are_caused_lem o log who u r =
-    step_map (Arises rules o (Told (record { who = who; outcome = u }))) (Cause o who u) (λ e older h. is_caused o who u older e h) log
-    (acts_arise_lem _ _ _ _ _ _ _ rules o (Told (record { who = who; outcome = u })) log r)
+outcomes_are_caused_lem o log who u run =
+    let told : Act = Told (record { who = who; outcome = u }) in
+    step_map o (Arises rules o told) (Cause o who u) (λ e older run h. is_caused o who u older e run h) log run.0 (acts_arise_lem _ _ _ _ _ _ _ rules o told log run)

@@ -43,3 +43,7 @@ pub mod OneEach
 pub mod Unread
 pub mod Driving
 pub mod Traces
+pub mod Taking
+pub mod Calling
+pub mod Granting
+pub mod Sending

@@ -6,9 +6,7 @@ use Rattle.pulsar_run.proofs.Unique.{one_log}
 use Rattle.pulsar_run.specs.Run.{Begins, only}
 use Rattle.pulsar_client.specs.declared.effect.Effect.{Effect}
 use Rattle.pulsar_client.specs.declared.event.Event.{Event}
-use Rattle.pulsar_client.specs.declared.pulsar.Pulsar.{Pulsar}
 use Rattle.pulsar_client.specs.declared.tables.Tables.{Tables}
-use Rattle.pulsar_client.specs.Client.{IsDead}
 use Rattle.pulsar_client.specs.Content.{Heard, heard, shown}
 use Rattle.pulsar_client.specs.Rules.{brings}
 use Rattle.pulsar_client.specs.Run.{Agenda, Good, Step, first, rules, view}
@@ -42,15 +40,13 @@ dead_step {o} c {h} e dead s =
     record {
       log = Begins e ∷ s.log;
       run = (s.run, s.rests);
-      rests = ap (λ b. first (only (cond b (brings v e) []))) dead_there;
+      rests = ap (λ b. first (only (cond b (brings o.policies v e) []))) dead_there;
       same = ap (λ x. record { event = e; effects = [] } ∷ x) s.same;
       sees = s.sees ∙ sym (ap (λ b. cond b (begun_live e v) v) dead_there);
     }
 
-pub not_live : (c : Pulsar) (e : Heard) → IsDead c e → is_live (view_of c.tables) e ≡ false
-not_live c e d =
-    let s = d.2.stands in
-    ap (λ v. is_live v e) s.sees ∙ d.3 (record { log = s.log; run = s.run; rests = s.rests; same = s.same })
+pub not_live : (c : Tables) (e : Heard) {o : Options} {h : List Step} → Stands o c h → ((g : Good o h) → is_live (view o g.log) e ≡ false) → is_live (view_of c) e ≡ false
+not_live c e s dead = ap (λ v. is_live v e) s.sees ∙ dead (record { log = s.log; run = s.run; rests = s.rests; same = s.same })
 
 -- what is seen of the tables of a client is what is seen after the run of each history that it stands for
 pub seen_of : (c : Tables) {o : Options} {h : List Step} → Stands o c h → (g : Good o h) → view_of c ≡ view o g.log

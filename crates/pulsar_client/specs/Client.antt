@@ -1,5 +1,7 @@
 -- What a client stands for.
-use Rattle.std.specs.Prelude.{◌≡◌, ℕ, true, false, List, map, string_bytes}
+use Rattle.std.specs.Prelude.{◌≡◌, ◌<◌, ℕ, true, false, List, map, string_bytes}
+use Rattle.std.specs.declared.alloc.Global.{Global}
+use Rattle.std.specs.declared.dyn_box.DynBox.{DynBox}
 use Rattle.pulsar_client.specs.declared.options.ClientOptions.{ClientOptions}
 use Rattle.pulsar_client.specs.declared.pulsar.Pulsar.{Pulsar}
 use Rattle.std.specs.Option.{option_map}
@@ -7,9 +9,9 @@ use Rattle.pulsar_messages.specs.Content.{authentication_values}
 use Rattle.pulsar_producer.specs.Routing.{Policy}
 use Rattle.pulsar_client.specs.Address.{base_in}
 use Rattle.pulsar_client.specs.Content.{Heard}
-use Rattle.pulsar_client.specs.Run.{Good, Step, view}
+use Rattle.pulsar_client.specs.Run.{Good, Step, tickets_in, view}
 use Rattle.pulsar_client.specs.Tables.{Stands}
-use Rattle.pulsar_client.specs.Taken.{held_but, held_in}
+use Rattle.pulsar_client.specs.Taken.{held_but, held_in, is_in}
 use Rattle.pulsar_client.specs.View.{Chosen, Options, is_live}
 
 -- Options hold policies in boxes, of whatever types X and d, and `routes` says what function a policy is.
@@ -29,7 +31,7 @@ chosen options =
     }
 
 -- this, and the policies
-abbrev pub options : {X : Type 0} {d : X → Type 0} → (routes : _ → Policy) → ClientOptions X d → Options
+abbrev pub options : {X : Type 0} {d : X → Type 0} → (routes : DynBox X Global d → Policy) → ClientOptions X d → Options
 options routes given = record { chosen = chosen given; policies = map routes given.policies.items }
 
 -- the options that a client was made with
@@ -41,19 +43,15 @@ abbrev pub HasFailed : {X : Type 0} {d : X → Type 0} → Pulsar X d → Type 0
 HasFailed c = c.failed ≡ true
 
 -- A client stands for a history, and for the tickets whose answers were taken, where its tables do, with what its options choose, what it
--- holds of a ticket is what the history says and was not taken, and it has not run out of memory.
-pub record StandsFor {X : Type 0} {d : X → Type 0} (routes : _ → Policy) (o : Options) (c : Pulsar X d) (history : List Step) (taken : List ℕ) : Type 0 where
+-- holds of a ticket is what the history says and was not taken, those that were taken had been drawn, and it has not run out of memory.
+pub record StandsFor {X : Type 0} {d : X → Type 0} (routes : DynBox X Global d → Policy) (o : Options) (c : Pulsar X d) (history : List Step) (taken : List ℕ) : Type 0 where
   pub made : o ≡ options routes (options_of c)
   pub stands : Stands o c.tables history
   pub answers : (t : ℕ) → held_in c.answers.held t ≡ held_but taken t history
+  pub drawn : (t : ℕ) → is_in t taken ≡ true → t < tickets_in history
   pub whole : c.failed ≡ false
 
 -- the event names no live link, no state that the link is in, or no consumer, after any run of a history that the client stands for
-abbrev pub IsDead : {X : Type 0} {d : X → Type 0} → (routes : _ → Policy) → Pulsar X d → Heard → Type 0
+abbrev pub IsDead : {X : Type 0} {d : X → Type 0} → (routes : DynBox X Global d → Policy) → Pulsar X d → Heard → Type 0
 IsDead routes c e =
     (o : Options) × (h : List Step) × (taken : List ℕ) × StandsFor routes o c h taken × ((g : Good o h) → is_live (view o g.log) e ≡ false)
-
--- every history that a client stands for is good
-abbrev pub StoodForIsGood : Type 0
-StoodForIsGood = {X : Type 0} {d : X → Type 0} (routes : _ → Policy) (o : Options) (c : Pulsar X d) (h : List Step) (taken : List ℕ) →
-    StandsFor routes o c h taken → Good o h

@@ -66,12 +66,12 @@ use Rattle.pulsar_client.specs.Effects.{effect_below, is_before3}
 use Rattle.pulsar_client.specs.Links as links
 use Rattle.pulsar_client.specs.Links.{Change, Remains, Becomes, IsOver, arrival, call_of, closed_by, line_places, new_places, numbers_from}
 use Rattle.pulsar_client.specs.Parts.{outcomes_of}
-use Rattle.pulsar_client.specs.Producers.{turn_passed, waiting}
+use Rattle.pulsar_client.specs.Producers.{advice, turn_passed, waiting}
 use Rattle.pulsar_client.specs.Plan.{begins, failure_of, fails, fault_of, reply_says, told}
-use Rattle.pulsar_client.specs.Rules.{below, dropped, fails_so, is_idle, lost, notice, performs, starts, stopped_one, stopped_with, brings}
+use Rattle.pulsar_client.specs.Rules.{below, call_part, dropped, fails_so, is_idle, lost, notice, performs, starts, stopped_one, stopped_with, brings}
 use Rattle.pulsar_client.specs.Run.{Entry, Begins, Then, Good, IsRun, Rests, Step, agenda, rules, steps, tickets_in, view}
 use Rattle.pulsar_client.specs.Subscriptions.{Subscription, closes_it, is_heard_on, is_last, polled}
-use Rattle.pulsar_client.specs.View.{Base, Chosen, Seat, Turned, View, answer_at, arrival_at, builds, closing, is_asked, pause_of, setup, turned, waits_on}
+use Rattle.pulsar_client.specs.View.{Base, Options, Seat, Turned, View, answer_at, arrival_at, builds, closing, is_asked, pause_of, setup, turned, waits_on}
 use Rattle.pulsar_client.specs.Who.{is_same, rank}
 
 -- THE RUN
@@ -245,7 +245,7 @@ EndsSo o P e older =
 abbrev pub AttemptEnds : Options → Who → Outcome → Entry → List Entry → Type 0
 AttemptEnds o who u e older =
     EndsSo o (λ end v seat. (starter : Who) × (retries link : ℕ) × ((base_of v seat.address).series ≡ Runs starter retries link)
-    × (pause_of o end seat.address (Runs starter retries link) ≡ None) × In who (base_of v seat.address).waiting
+    × (pause_of o.chosen end seat.address (Runs starter retries link) ≡ None) × In who (base_of v seat.address).waiting
     × (u ≡ fails_so end (is_same who starter))) e older
 
 -- a request that this one asked for ends with its link, and this is told
@@ -290,8 +290,8 @@ IsGranted o who n e older =
 -- another passes the turn of a topic producer on to it, with this version of the schema
 abbrev pub GetsTurn : Options → Who → News → Entry → List Entry → Type 0
 GetsTurn o who n e older =
-    (other : Who) × (number : ℕ) × (version : Option (List ℕ)) × (e ≡ Then (Does other (PassTurn number))) × (n ≡ news.HasTurn version)
-    × (option_map (λ next. (Call next.0, next.1)) (turn_passed ((view o older).producers.topics number)) ≡ Some (who, version))
+    (other : Who) × (number ticket : ℕ) × (version : Option (List ℕ)) × (e ≡ Then (Does other (PassTurn number))) × (who ≡ Call ticket)
+    × (n ≡ news.HasTurn version) × (turn_passed ((view o older).producers.topics number) ≡ Some (ticket, version))
 
 -- what it asks for is there no more: a topic producer that is not known
 abbrev pub IsUnknown : Options → Who → Outcome → Entry → List Entry → Type 0
@@ -492,7 +492,7 @@ abbrev pub part_below : Part → Part → Bool
 part_below a b = is_before3 (part_rank a) (part_rank b)
 
 abbrev pub TicksInOrder : Type 0
-TicksInOrder = (o : Options) (log : List Entry) (now : ℕ) → InOrder part_below (brings (view o log) (Ticked now))
+TicksInOrder = (o : Options) (log : List Entry) (now : ℕ) → InOrder part_below (brings o.policies (view o log) (Ticked now))
 
 -- THE ADDRESSES
 
@@ -597,7 +597,7 @@ calls_of o l (_ ∷ log) = calls_of o l log
 abbrev pub dialed_with : Options → ℕ → List Entry → Option Setup
 dialed_with o l [] = None
 dialed_with o l (Then (Dials p starter retries) ∷ log) =
-    if l == (view o log).links.started then Some (setup o l (view o log).now p) else dialed_with o l log
+    if l == (view o log).links.started then Some (setup o.chosen l (view o log).now p) else dialed_with o l log
 dialed_with o l (_ ∷ log) = dialed_with o l log
 
 -- A link that has not ended is what the calls of its connection made of it, and nothing else. So all that holds of a connection over

@@ -33,7 +33,7 @@ use Rattle.pulsar_client.specs.declared.act.Says.{Says}
 use Rattle.pulsar_client.specs.declared.act.Says.TheVariants as says
 use Rattle.pulsar_client.specs.declared.act.Verdict.{Verdict}
 use Rattle.pulsar_client.specs.declared.plans.plan.Plan.{Plan}
-use Rattle.pulsar_client.specs.declared.plans.plan.At.{At}
+use Rattle.pulsar_client.specs.declared.plans.plan.At.{At as Stage}
 use Rattle.pulsar_client.specs.declared.plans.plan.At.TheVariants as at
 use Rattle.pulsar_client.specs.declared.plans.plan.Plan.TheVariants.{Building, Getting, Asking, Awaiting, Searching, Producing, Sending, Reporting, Leaving, Gathering, Shutting, Visiting, Stopping}
 use Rattle.pulsar_client.specs.declared.plans.plan.Turn.{Turn}
@@ -321,7 +321,7 @@ failure_in Closes f = in_producer f
 abbrev pub fails_in : Round → Fault → Turn Plan Verdict
 fails_in r f = fails_with (failure_in r f)
 
-abbrev pub stays_at : Round → (number : ℕ) → List ℕ → At → Action → Turn Plan Verdict
+abbrev pub stays_at : Round → (number : ℕ) → List ℕ → Stage → Action → Turn Plan Verdict
 stays_at r n left x action = Stays (Visiting r n left x) action
 
 -- the turn is over, and then it fails
@@ -359,7 +359,7 @@ in_awaiting r n left (Replied reply) = visited r left n reply
 in_awaiting r n left Queued = stays_at r n left at.Awaiting Rest
 in_awaiting r n left o = fails_in r (fault_of o)
 
-abbrev pub told_at : Round → (number : ℕ) → List ℕ → At → Outcome → Turn Plan Verdict
+abbrev pub told_at : Round → (number : ℕ) → List ℕ → Stage → Outcome → Turn Plan Verdict
 told_at r n left at.Turning o = in_turning r n left o
 told_at r n left at.Finding o = in_finding r n left o
 told_at r n left at.Asking o = in_asking r n left o

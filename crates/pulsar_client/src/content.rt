@@ -42,6 +42,13 @@ impl Asking {
         Ok(Asking { call })
     }
 
+    /// The call to be looked at.
+    pub fn call(&self) -> &Call
+        ensures { asked result.now ≡ self.now }
+    {
+        &self.call
+    }
+
     pub fn into_inner(self) -> Call
         ensures { asked result ≡ self }
     {
@@ -319,7 +326,7 @@ impl Model for Failures {
     // the tickets with the failures, in their order
     ghost Value = { List (ℕ × Failure) };
 
-    ghost coded = { failure_code (Prim.hlevel codes) };
+    ghost coded = { Prim.hlevel (codes, failure_code (Prim.hlevel codes)) };
 
     ghost view = { λ f. f.all.entries };
 }

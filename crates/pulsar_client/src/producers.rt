@@ -10,6 +10,7 @@ ghost use Rattle.pulsar_messages.specs.Content.{message_content};
 ghost use Rattle.pulsar_producer.specs.Topic as topic;
 ghost use Rattle.pulsar_client.specs.Producers as meaning;
 ghost use Rattle.pulsar_client.specs.Kept.{producers_of};
+ghost use Rattle.pulsar_client.specs.Rules.{stopped_one};
 
 use crate::act::{Notice, Outcome, Who};
 use crate::content::{Advice, Building, Numbers, Remaking};
@@ -124,12 +125,7 @@ impl Producers {
 
     /// How a message of a producer is sent, by what its policy says: by which topic producer, and whether it waits for room. There is
     /// none where no partition is found for it.
-    pub fn route(
-        &mut self,
-        ticket: u64,
-        message: &Message,
-        advice: Option<usize>,
-    ) -> Option<Errand>
+    pub fn route(&mut self, ticket: u64, message: &Message, advice: Option<usize>) -> Option<Errand>
         ensures errand { result ≡ meaning.errand_of advice (message_content message.now) ((producers_of self.old).built ticket) }
         ensures after { producers_of self.new ≡ meaning.routed ticket (message_content message.now) (producers_of self.old) }
     {
@@ -332,7 +328,7 @@ impl Producers {
 
     /// Those that wait for a turn are told that the client is stopped.
     pub fn stop(&self, notices: &mut Vec<Notice>) -> Result<(), NoMemory>
-        ensures { OnOk result (notices.new.items ≡ notices.old.items ++ meaning.stopped (producers_of self.now)) }
+        ensures { OnOk result (notices.new.items ≡ notices.old.items ++ map stopped_one (meaning.waiting (producers_of self.now))) }
     {
         for number in &self.numbers {
             if let Some(topic) = self.topics.get(number) {
@@ -384,7 +380,7 @@ fn holds_at(topics: &BTreeMap<u64, Topic>, number: u64, link: u64) -> bool
 }
 
 fn stop_at(waiting: &BTreeSet<u64>, notices: &mut Vec<Notice>) -> Result<(), NoMemory>
-    ensures { OnOk result (notices.new.items ≡ notices.old.items ++ map meaning.stopped_one waiting.now.keys) }
+    ensures { OnOk result (notices.new.items ≡ notices.old.items ++ map stopped_one waiting.now.keys) }
 {
     for ticket in waiting {
         notices.push(Notice {

@@ -16,9 +16,13 @@ pub struct BuildState {
 }
 
 impl Model for BuildState {
+    ghost use Rattle.pulsar_plans.specs.contracts.content.Refusal as refusal;
     ghost use Rattle.pulsar_producer.specs.declared.building.Building.{Building};
+    ghost use Rattle.std.specs.Coded.{codes};
 
     ghost Value = { Building };
+
+    ghost coded = { Prim.hlevel (codes, refusal.the_row.coded) };
 
     ghost view = { λ s. s.building.value };
 }
@@ -46,9 +50,13 @@ pub struct SendState {
 }
 
 impl Model for SendState {
+    ghost use Rattle.pulsar_plans.specs.contracts.content.Refusal as refusal;
     ghost use Rattle.pulsar_producer.specs.declared.sending.Sending.{Sending};
+    ghost use Rattle.std.specs.Coded.{codes};
 
     ghost Value = { Sending };
+
+    ghost coded = { Prim.hlevel (codes, refusal.the_row.coded) };
 
     ghost view = { λ s. s.sending.value };
 }

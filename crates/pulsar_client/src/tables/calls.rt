@@ -1,8 +1,8 @@
 //! Calls and their plans.
 
-ghost use Rattle.std.specs.Prelude.{◌≡◌, ◌==◌, ◌++◌, ◌∷◌, map, IfOk, None, OnOk, string_bytes, true, false, if◌then◌else◌};
+ghost use Rattle.std.specs.Prelude.{◌≡◌, ◌==◌, ◌++◌, ◌∷◌, map, IfOk, MatchBool, None, OnOk, string_bytes, true, false, if◌then◌else◌};
 ghost use Rattle.pulsar_client.specs.Alarms.{set};
-ghost use Rattle.pulsar_client.specs.Content.{asked, lacks_tickets, shares, shown};
+ghost use Rattle.pulsar_client.specs.Content.{Build, asked, lacks_tickets, shares, shown};
 ghost use Rattle.pulsar_client.specs.Effects.{effects};
 ghost use Rattle.pulsar_link.specs.RawCall.{words_of};
 ghost use Rattle.pulsar_link.specs.Request.{named_producer};
@@ -46,15 +46,14 @@ impl Tables {
         ensures sees { OnOk result (view_of self.new ≡ after (Act.Comes (Part.Calls asking advice)) (view_of self.old)) }
         ensures settings { self.new.settings ≡ self.old.settings }
     {
-        let call = asking.into_inner();
-        let Some(next) = next_ticket(self.tickets, shares(&call)) else {
+        let Some(next) = next_ticket(self.tickets, shares(asking.call())) else {
             let who = Who::Call(u64::MAX);
             let verdict = failure(self.alloc, ConnectionError::Exhausted)?;
             return tasks.put(Act::Answers { who, verdict });
         };
         let who = Who::Call(self.tickets);
         let mut parts = VecDeque::new(self.alloc);
-        let procedure = self.procedure_for(call, advice, &mut parts)?;
+        let procedure = self.procedure_for(asking, advice, &mut parts)?;
         self.tickets = next;
         tasks.put_all(parts)?;
         tasks.put(Act::Starts { who, procedure })
@@ -80,25 +79,23 @@ impl Tables {
     /// The procedure of a call, and how its parts begin. A send finds its partition.
     fn procedure_for(
         &mut self,
-        call: Call,
+        asking: Asking,
         advice: Advice,
         parts: &mut VecDeque<Act>,
     ) -> Result<Procedure, NoMemory>
-        requires { lacks_tickets self.old.tickets (shares (asked call)) ≡ false }
-        ensures procedure { IfOk result (λ p. p ≡ procedure_for (view_of self.old).chosen (view_of self.old).calls (view_of self.old).producers advice (asked call)) }
-        ensures parts { OnOk result (parts.new.items ≡ parts.old.items ++ parts_of (view_of self.old) advice (asked call)) }
-        ensures after { OnOk result (view_of self.new ≡ record (view_of self.old) { producers = called_on (may_call (view_of self.old).calls) (asked call) (view_of self.old).producers }) }
+        requires { lacks_tickets self.old.tickets (shares asking) ≡ false }
+        ensures procedure { IfOk result (λ p. p ≡ procedure_for (view_of self.old).chosen (view_of self.old).calls (view_of self.old).producers advice asking) }
+        ensures parts { OnOk result (parts.new.items ≡ parts.old.items ++ parts_of (view_of self.old) advice asking) }
+        ensures after { OnOk result (view_of self.new ≡ record (view_of self.old) { producers = called_on (may_call (view_of self.old).calls) asking (view_of self.old).producers }) }
         ensures settings { self.new.settings ≡ self.old.settings }
     {
-        match call {
-            Call::Build => self.builds_if(!self.is_stopped),
-            call => {
-                if !self.is_open() {
-                    return Ok(Procedure::Refuse(Refusal::Shutdown));
-                }
-                self.opened(call, advice, parts)
-            }
+        if is_build(asking.call()) {
+            return self.builds_if(!self.is_stopped);
         }
+        if !self.is_open() {
+            return Ok(Procedure::Refuse(Refusal::Shutdown));
+        }
+        self.opened(asking, advice, parts)
     }
 
     /// A Build, unless it is refused.
@@ -120,18 +117,18 @@ impl Tables {
     /// The same of a call that an open client makes.
     fn opened(
         &mut self,
-        call: Call,
+        asking: Asking,
         mut advice: Advice,
         parts: &mut VecDeque<Act>,
     ) -> Result<Procedure, NoMemory>
         requires open { may_call (view_of self.old).calls ≡ true }
-        requires tickets { lacks_tickets self.old.tickets (shares (asked call)) ≡ false }
-        ensures procedure { IfOk result (λ p. p ≡ procedure_for (view_of self.old).chosen (view_of self.old).calls (view_of self.old).producers advice (asked call)) }
-        ensures parts { OnOk result (parts.new.items ≡ parts.old.items ++ parts_of (view_of self.old) advice (asked call)) }
-        ensures after { OnOk result (view_of self.new ≡ record (view_of self.old) { producers = opened_on (asked call) (view_of self.old).producers }) }
+        requires tickets { lacks_tickets self.old.tickets (shares asking) ≡ false }
+        ensures procedure { IfOk result (λ p. p ≡ procedure_for (view_of self.old).chosen (view_of self.old).calls (view_of self.old).producers advice asking) }
+        ensures parts { OnOk result (parts.new.items ≡ parts.old.items ++ parts_of (view_of self.old) advice asking) }
+        ensures after { OnOk result (view_of self.new ≡ record (view_of self.old) { producers = opened_on asking (view_of self.old).producers }) }
         ensures settings { self.new.settings ≡ self.old.settings }
     {
-        match call {
+        match asking.into_inner() {
             Call::Build => self.builds_if(true),
             Call::Stop => Ok(Procedure::Stop),
             Call::Topics { namespace, mode } => self.topics(namespace, mode),
@@ -383,6 +380,15 @@ fn builds(makes: &Makes, is_built: bool) -> bool
     match makes {
         Makes::Client => true,
         Makes::Nothing | Makes::Consumer { .. } | Makes::Producer(_) => is_built,
+    }
+}
+
+fn is_build(call: &Call) -> bool
+    ensures { MatchBool result (asked call.now ≡ Build) (asked call.now ≡ Build → ⊥) }
+{
+    match call {
+        Call::Build => true,
+        _ => false,
     }
 }
 

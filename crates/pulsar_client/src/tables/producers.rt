@@ -1,11 +1,13 @@
 //! What plans ask of topic producers.
 
 ghost use Rattle.std.specs.Prelude.{◌≡◌, ◌++◌, IfOk, OnOk, map};
+ghost use Rattle.std.specs.Option.{option_map, option_to_list};
+ghost use Rattle.pulsar_run.specs.Order.{put_all};
 ghost use Rattle.pulsar_session.specs.Failures.{fault};
 ghost use Rattle.pulsar_client.specs.Content.{asked};
 ghost use Rattle.pulsar_client.specs.Kept.{producers_of};
 ghost use Rattle.pulsar_client.specs.Producers.{advice};
-ghost use Rattle.pulsar_client.specs.Rules.{grants, tells};
+ghost use Rattle.pulsar_client.specs.Rules.{below, grants, tells, turn_notice};
 ghost use Rattle.pulsar_client.specs.Run.{goes_on};
 ghost use Rattle.pulsar_client.specs.Tables.{agenda_of, view_of};
 ghost use Rattle.pulsar_client.specs.View.{after, room_of};
@@ -18,8 +20,10 @@ use crate::tables::Tables;
 use crate::tables::calls::tell;
 use crate::who::ticket_of;
 use pulsar_producer::CustomRoutingPolicy;
+use pulsar_producer::content::Version;
 use pulsar_producer::deed::News;
 use pulsar_wire::error::{ConnectionError, NoMemory};
+use std::alloc::Global;
 use std::slice;
 
 impl Tables {
@@ -85,13 +89,8 @@ impl Tables {
         ensures sees { OnOk result (view_of self.new ≡ after (Act.Does who (Action.PassTurn number)) (view_of self.old)) }
         ensures settings { self.new.settings ≡ self.old.settings }
     {
-        if let Some((ticket, version)) = self.producers.pass_turn(number)? {
-            let granted = Granted::new(self.alloc, News::HasTurn(version))?;
-            tasks.join(Notice {
-                who: Who::Call(ticket),
-                outcome: Outcome::Granted(granted),
-            })?;
-        }
+        let next = self.producers.pass_turn(number)?;
+        join_next(self.alloc, next, tasks)?;
         self.grants(who, News::Done, tasks)
     }
 
@@ -204,4 +203,22 @@ impl Tables {
         let cause = Cause::new(self.alloc, error)?;
         tell(who, Outcome::Refused(cause), tasks)
     }
+}
+
+/// The one who has the turn next joins those whom the present cause serves.
+fn join_next(
+    alloc: Global,
+    next: Option<(u64, Option<Version>)>,
+    tasks: &mut Tasks,
+) -> Result<(), NoMemory>
+    ensures { OnOk result (agenda_of tasks.new ≡ record (agenda_of tasks.old) { here = put_all below (option_to_list (option_map turn_notice next)) tasks.old.here.items }) }
+{
+    let Some((ticket, version)) = next else {
+        return Ok(());
+    };
+    let granted = Granted::new(alloc, News::HasTurn(version))?;
+    tasks.join(Notice {
+        who: Who::Call(ticket),
+        outcome: Outcome::Granted(granted),
+    })
 }

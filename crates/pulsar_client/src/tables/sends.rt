@@ -1,6 +1,7 @@
 //! Calls on producers: what is to be done for each.
 
-ghost use Rattle.std.specs.Prelude.{◌≡◌, ◌+◌, ◌++◌, ◌∷◌, [], IfOk, OnOk, Some, None, map, length, true, false};
+ghost use Rattle.std.specs.Prelude.{◌≡◌, ◌+◌, ◌++◌, ◌∷◌, [], IfOk, OnOk, Some, None, map, length, string_bytes, true, false};
+ghost use Rattle.std.specs.Option.{option_map};
 ghost use Rattle.pulsar_messages.specs.Content.{message_content};
 ghost use Rattle.pulsar_producer.specs.Wanted.{producer_wanted};
 ghost use Rattle.pulsar_client.specs.Kept.{producers_of};
@@ -35,16 +36,13 @@ impl Tables {
         let Some(ways) = self.settings.ways(self.alloc)? else {
             return Ok(Procedure::Refuse(Refusal::NoAddress));
         };
-        let name = match builder.name {
-            Some(name) => Some(Text::new(name)),
-            None => None,
-        };
+        let options = Settings::new(self.alloc, builder.options)?;
         Ok(Procedure::Produce {
             ways,
             order: Order {
                 topic: Text::new(topic),
-                name,
-                options: Settings::new(self.alloc, builder.options)?,
+                name: text(builder.name),
+                options,
             },
         })
     }
@@ -73,10 +71,10 @@ impl Tables {
         ensures after { OnOk result (view_of self.new ≡ record (view_of self.old) { producers = sent_on producer (message_content message ∷ []) (producers_of self.old.producers) }) }
         ensures settings { self.new.settings ≡ self.old.settings }
     {
-        if let Some(refusal) = self.why_not(producer) {
-            return Ok(Procedure::Refuse(refusal));
+        match self.why_not(producer) {
+            Some(refusal) => Ok(Procedure::Refuse(refusal)),
+            None => self.sends_as(None, producer, message, advice),
         }
-        self.sends_as(None, producer, message, advice)
     }
 
     /// A message is sent, by itself or as a part of another call.
@@ -120,9 +118,26 @@ impl Tables {
         ensures after { OnOk result (view_of self.new ≡ record (view_of self.old) { producers = sent_on producer (map message_content messages.items) (producers_of self.old.producers) }) }
         ensures settings { self.new.settings ≡ self.old.settings }
     {
-        if let Some(refusal) = self.why_not(producer) {
-            return Ok(Procedure::Refuse(refusal));
+        match self.why_not(producer) {
+            Some(refusal) => Ok(Procedure::Refuse(refusal)),
+            None => self.gathers(producer, messages, advice, parts),
         }
+    }
+
+    /// The same, by a producer that sends.
+    fn gathers(
+        &mut self,
+        producer: u64,
+        messages: Vec<Message>,
+        advice: Advice,
+        parts: &mut VecDeque<Act>,
+    ) -> Result<Procedure, NoMemory>
+        requires { lacks_tickets self.old.tickets (length messages.items) ≡ false }
+        ensures procedure { IfOk result (λ p. p ≡ Procedure.Gather (self.old.tickets + 1) (length messages.items)) }
+        ensures parts { OnOk result (parts.new.items ≡ parts.old.items ++ rules.shares_of (chosen_of self.old.settings) (producers_of self.old.producers) self.old.tickets (self.old.tickets + 1) advice producer (map message_content messages.items)) }
+        ensures after { OnOk result (view_of self.new ≡ record (view_of self.old) { producers = all_routed producer (map message_content messages.items) (producers_of self.old.producers) }) }
+        ensures settings { self.new.settings ≡ self.old.settings }
+    {
         let of = self.tickets;
         let count = messages.len() as u64;
         self.shares(of, producer, messages, advice, parts)?;
@@ -177,13 +192,13 @@ impl Tables {
     pub(super) fn checks(&self, producer: u64) -> Result<Procedure, NoMemory>
         ensures { IfOk result (λ p. p ≡ rules.checks (producers_of self.now.producers) producer) }
     {
-        if let Some(refusal) = self.why_not(producer) {
-            return Ok(Procedure::Refuse(refusal));
+        match self.why_not(producer) {
+            Some(refusal) => Ok(Procedure::Refuse(refusal)),
+            None => Ok(Procedure::Go {
+                round: Round::Checks,
+                numbers: self.producers.numbers_of(producer)?,
+            }),
         }
-        Ok(Procedure::Go {
-            round: Round::Checks,
-            numbers: self.producers.numbers_of(producer)?,
-        })
     }
 
     /// A producer is closed, also one that was closed before.
@@ -222,5 +237,14 @@ fn fails(share: Option<Share>, refusal: Refusal) -> Procedure
     match share {
         Some(share) => Procedure::FailShare { share, refusal },
         None => Procedure::Refuse(refusal),
+    }
+}
+
+fn text(name: Option<String>) -> Option<Text>
+    ensures { result ≡ option_map string_bytes name }
+{
+    match name {
+        Some(name) => Some(Text::new(name)),
+        None => None,
     }
 }

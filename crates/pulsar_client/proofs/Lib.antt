@@ -11,6 +11,10 @@ pub mod Saying
 pub mod Steps
 pub mod Sorting
 pub mod Acts
+pub mod Natures
+pub mod Granted
+pub mod Numbering
+pub mod Slow
 pub mod Instances
 pub mod Done
 pub mod Plain

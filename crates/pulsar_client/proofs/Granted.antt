@@ -47,7 +47,7 @@ use Rattle.pulsar_client.specs.Rules.{alone, answered_by, answered_on, at_once, 
 use Rattle.pulsar_client.specs.Run.{Entry, Begins, Then, IsRun, agenda, rules, view}
 use Rattle.pulsar_client.specs.View.{Addresses, Base, Options, Seat, Turned, View, turned_by}
 use Rattle.pulsar_client.proofs.Acts.{Each, each_append, each_drop, each_either, each_flat, each_map, over_each}
-use Rattle.pulsar_client.proofs.Kinds.{IsRaised, raises}
+use Rattle.pulsar_client.proofs.Raising.{IsRaised, raises}
 use Rattle.pulsar_client.proofs.Led.{deeds_follow_lem}
 use Rattle.pulsar_client.proofs.Natures.{KindBegun, KindOf, Goes, StaysSo, begins_goes, is_granted, told_goes}
 

@@ -1,22 +1,20 @@
 -- What arises at once, by its kind, and which acts give rise to it. A further kind of act or action is told of here, and nowhere else.
-use Rattle.std.proofs.Common.{◌≡◌, ℕ, ◌+◌, ◌-◌, ◌^◌, List, [], ◌∷◌, ◌++◌, refl, drop, Bool, true, false, Option, Some, None}
+use Rattle.std.proofs.Common.{◌≡◌, ℕ, ◌+◌, ◌-◌, ◌^◌, List, ◌∷◌, refl, drop, Bool, true, false, Option, Some, None, []}
 use Rattle.std.specs.Option.{option_to_list}
 use Rattle.pulsar_messages.specs.Content.{ProducerMessageValues}
 use Rattle.pulsar_plans.specs.Address.{Place, address_key, is_reachable}
 use Rattle.pulsar_plans.specs.declared.making.Command.{Command}
-use Rattle.pulsar_producer.specs.declared.deed.News.TheVariants as news
 use Rattle.pulsar_session.specs.Failures.{Exhausted}
 use Rattle.pulsar_client.specs.declared.act.Act.{Act}
 use Rattle.pulsar_client.specs.declared.act.Act.TheVariants.{Comes, Starts, Told, Does, Answers, Dials}
 use Rattle.pulsar_client.specs.declared.act.Action.{Action}
-use Rattle.pulsar_client.specs.declared.act.Action.TheVariants.{Get, Ask, Wait, TakeTurn, PassTurn, Draw, Recall, Remake, Number, Find, Shut, Tell, StopAll, Rest}
+use Rattle.pulsar_client.specs.declared.act.Action.TheVariants.{Get, Wait, TakeTurn, Recall, Find, StopAll, Rest}
 use Rattle.pulsar_client.specs.declared.act.Alarm.{Alarm}
 use Rattle.pulsar_client.specs.declared.act.Alarm.TheVariants.{Retry, Wake, KeepAlive, CheckIdle}
 use Rattle.pulsar_client.specs.declared.act.Arrival.{Arrival}
 use Rattle.pulsar_client.specs.declared.act.Arrival.TheVariants.{Bad}
 use Rattle.pulsar_client.specs.declared.act.End.TheVariants.{Broken, Idles, Stops}
 use Rattle.pulsar_client.specs.declared.act.LinkAct.TheVariants.{Reads, Pings, Ends}
-use Rattle.pulsar_client.specs.declared.act.Outcome.TheVariants as outcome
 use Rattle.pulsar_client.specs.declared.act.Part.TheVariants.{Calls, ToLink, Rings}
 use Rattle.pulsar_client.specs.declared.act.Refusal.{Refusal}
 use Rattle.pulsar_client.specs.declared.act.Verdict.{Verdict}
@@ -35,6 +33,8 @@ use Rattle.pulsar_client.specs.Plan.{begins, fails}
 use Rattle.pulsar_client.specs.Producers.{Producers, link_at, recalled, routed, turn_taken}
 use Rattle.pulsar_client.specs.Rules.{at_once, breaks_at, called, does, finds, follows, follows_some, gets_from, grants, idle_act, is_idle, keeps_alive, may_ping, over_links, parts_of, performs, recalls, rung, shares_of, shares_unless, starts, stop_act, takes_turn, tells, tries_again, why_no_sends}
 use Rattle.pulsar_client.specs.View.{Chosen, Seat, View, arrival_at, told_some}
+use Rattle.pulsar_producer.specs.declared.deed.News.TheVariants as news
+use Rattle.pulsar_client.specs.declared.act.Outcome.TheVariants as outcome
 use Rattle.pulsar_client.proofs.Acts.{Each, each_append, each_either, each_flat, over_each}
 
 -- a plan begins, does something, or ends; one is told something; an attempt begins; a link ends by what came on it, for want of use or

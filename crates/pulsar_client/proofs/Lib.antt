@@ -31,6 +31,9 @@ pub mod Built
 pub mod Follow
 pub mod Led
 pub mod Once
+pub mod Searches
+pub mod Productions
+pub mod Failing
 pub mod Failures
 pub mod Caused
 pub mod Newest

@@ -29,6 +29,7 @@ use Rattle.pulsar_client.specs.declared.act.Who.{Who}
 use Rattle.pulsar_client.specs.declared.act.Who.TheVariants.{Call}
 use Rattle.pulsar_client.specs.declared.content.Building.{Building}
 use Rattle.pulsar_client.specs.declared.plans.plan.Plan.{Plan}
+use Rattle.pulsar_client.specs.declared.plans.plan.Plan.TheVariants.{Asking, Awaiting, Producing}
 use Rattle.pulsar_client.specs.declared.plans.plan.Turn.{Turn}
 use Rattle.pulsar_client.specs.declared.plans.plan.Turn.TheVariants.{Stays, Gives}
 use Rattle.pulsar_client.specs.declared.producers.Topic.{Topic}
@@ -44,9 +45,9 @@ use Rattle.pulsar_client.specs.View as seen
 use Rattle.pulsar_client.specs.Who.{is_same, rank}
 use Rattle.pulsar_client.proofs.Acts.{Each, begun_same, each_map}
 use Rattle.pulsar_client.proofs.Follow.{same_is}
-use Rattle.pulsar_client.proofs.Granted.{IsGrantedBy, granted_by, performs_each}
+use Rattle.pulsar_client.proofs.Granted.{GivenBy, IsGrantedBy, granted_by, grants_given, in_each, is_grant}
 use Rattle.pulsar_client.proofs.Led.{deeds_follow_lem}
-use Rattle.pulsar_client.proofs.Numbering.{IsSound, MakesSound, TurnSound, begins_sound, number_of, told_sound}
+use Rattle.pulsar_client.proofs.Numbering.{IsSound, MakesSound, TurnSound, begins_sound, drawn_in, number_of, told_sound}
 use Rattle.pulsar_client.proofs.Once.{ends_once_lem}
 use Rattle.pulsar_client.proofs.Ticketed.{Began, has_begun}
 
@@ -201,10 +202,6 @@ drew o n [] = None
 drew o n (Then (Does who Number) ∷ log) = drew_by (number_drawn (view o log).producers) who n (drew o n log)
 drew o n (_ ∷ log) = drew o n log
 
-is_number : Action → Bool
-is_number Number = true
-is_number _ = false
-
 free_more : (ks : List ℕ) (n : ℕ) → n ≤ free_from ks n
 free_more [] n = omega arith
 free_more (k ∷ ks) n = elim ((k == n) && nat_lt n (2 ^ 64 - 1)) as (λ b. n ≤ cond b (free_from ks (n + 1)) (free_from ks n)) [
@@ -234,3 +231,266 @@ next_after v (Does who (Shut u)) = let e = next_shut (numbers_at (v.producers.bu
 next_after v (Does who Number) = next_more v.producers
 next_after v (Answers who verdict) = let e = made_next v who verdict.makes in rw e (omega arith)
 next_after v _ = omega arith
+
+-- ALONG A LOG
+
+pub record Drawn (o : Options) (log : List Entry) : Type 0 where
+  pub below : (n : ℕ) (w : Who) → drew o n log ≡ Some w → n < (view o log).producers.next
+  pub plans : (w : Who) (p : Plan) → (view o log).stand w ≡ Some p → IsSound (λ n. drew o n log ≡ Some w) p
+  pub topics : (n : ℕ) (row : Topic) → (view o log).producers.topics n ≡ Some row →
+      (drew o n log ≡ Some (Call row.owner)) × (1 ≤ counted (end_of row.owner) log)
+
+sound_map : (Q R : ℕ → Type 0) (p : Plan) → ((n : ℕ) → Q n → R n) → IsSound Q p → IsSound R p
+sound_map Q R (Producing w o b) f k = each_map Q R (drawn_in b) f k
+sound_map Q R (Asking w) f k = k
+sound_map Q R (Awaiting w) f k = k
+sound_map Q R _ f k = tt
+
+stays_sound : (Q : ℕ → Type 0) (t : Turn Plan Verdict) (p : Plan) → TurnSound Q t → stays t ≡ Some p → IsSound Q p
+stays_sound Q (Stays q action) p k h = subst (IsSound Q) (let e : q ≡ p = cc in e) k
+stays_sound Q (Gives verdict) p k h = absurd cc
+
+-- where one is told a number, it has just drawn it
+number_by : (v : View) (action : Action) (m : ℕ) → GivenBy v action (news.Numbered m) → (action ≡ Number) × (number_drawn v.producers ≡ Some m)
+number_by v Number m h = (refl, h)
+number_by v _ m h = absurd h
+
+drew_self : (o : Options) (older : List Entry) (who : Who) (m : ℕ) → number_drawn (view o older).producers ≡ Some m → drew o m (Then (Does who Number) ∷ older) ≡ Some who
+drew_self o older who m h =
+    ap (λ r. drew_by r who m (drew o m older)) h ∙ (let e : (m == m) ≡ true = grind (arith, nat_tests) in ap (λ b. cond b (Some who) (drew o m older)) e)
+
+pub told_number : (o : Options) (log : List Entry) (n : Notice) (m : ℕ) → IsRun o (Then (Told n) ∷ log) → n.outcome ≡ outcome.Granted (news.Numbered m) → drew o m log ≡ Some n.who
+told_number o log n m run e =
+    let k = granted_by o log n (ap is_grant e) run in
+    let g : GivenBy (view o k.older) k.action (news.Numbered m) = grants_given o log n k (news.Numbered m) e in
+    let a = number_by (view o k.older) k.action m g in
+    subst (λ l. drew o m l ≡ Some n.who) (sym k.is_there)
+    (subst (λ (x : Action). drew o m (Then (Does n.who x) ∷ k.older) ≡ Some n.who) (sym a.0) (drew_self o k.older n.who m a.1))
+
+module _ (o : Options) (log : List Entry) (k : Drawn o log) where
+  abbrev Owns : Who → ℕ → Type 0
+  Owns w n = drew o n log ≡ Some w
+
+  -- what one is told
+  pub told_drawn : (n : Notice) → IsRun o (Then (Told n) ∷ log) → (p : Plan) → (view o log).stand n.who ≡ Some p → TurnSound (Owns n.who) (told p n.outcome)
+  told_drawn n run p h = told_sound (Owns n.who) p n.outcome (k.plans n.who p h) (λ m e. told_number o log n m run e)
+
+  -- a number that was drawn stays so
+  drew_more : (a : Act) (n : ℕ) (w : Who) → Owns w n → drew o n (Then a ∷ log) ≡ Some w
+  drew_more (Does who Number) n w h = more (number_drawn (view o log).producers) refl
+    where
+      ps : Producers
+      ps = (view o log).producers
+
+      above : (m : ℕ) → number_drawn ps ≡ Some m → ps.next ≤ m
+      above m e = elim (cases_Bool (is_spent (next_free ps))) [
+        | inl s ↦ (let f : None ≡ Some m = rw s at e in absurd cc)
+        | inr s ↦
+            (let f : Some (next_free ps) ≡ Some m = rw s at e in
+            let same : next_free ps ≡ m = cc in
+            let lt : ps.next ≤ next_free ps = free_more ps.named ps.next in
+            omega (arith, lt, same))
+      ]
+
+      more : (r : Option ℕ) → number_drawn ps ≡ r → drew_by r who n (drew o n log) ≡ Some w
+      more None e = h
+      more (Some m) e =
+          let a : ps.next ≤ m = above m e in
+          let b : n < ps.next = k.below n w h in
+          let d : (n == m) ≡ false = grind (arith, nat_tests) in
+          ap (λ x. cond x (Some who) (drew o n log)) d ∙ h
+  drew_more (Does who _) n w h = h
+  drew_more _ n w h = h
+
+  below_on : (a : Act) (n : ℕ) (w : Who) → drew o n (Then a ∷ log) ≡ Some w → n < (view o (Then a ∷ log)).producers.next
+  below_on (Does who Number) n w h = on (number_drawn (view o log).producers) refl h
+    where
+      ps : Producers
+      ps = (view o log).producers
+
+      old : drew o n log ≡ Some w → n < (numbered ps).next
+      old e = (let b : n < ps.next = k.below n w e in let m : ps.next ≤ (numbered ps).next = next_more ps in omega (arith, b, m))
+
+      new : (m : ℕ) → number_drawn ps ≡ Some m → m < (numbered ps).next
+      new m e = elim (cases_Bool (is_spent (next_free ps))) [
+        | inl s ↦ (let f : None ≡ Some m = rw s at e in absurd cc)
+        | inr s ↦ (let f : Some (next_free ps) ≡ Some m = rw s at e in let same : next_free ps ≡ m = cc in rw s (omega (arith, same)))
+      ]
+
+      on : (r : Option ℕ) → number_drawn ps ≡ r → drew_by r who n (drew o n log) ≡ Some w → n < (numbered ps).next
+      on None e d = old d
+      on (Some m) e d = elim (cases_Bool (n == m)) [
+        | inl q ↦ (let x : m < (numbered ps).next = new m e in let y : n ≡ m = eqb-true n m q in omega (arith, x, y))
+        | inr q ↦ old (rw q at d)
+      ]
+  below_on (Does who a) n w h = (let b : n < (view o log).producers.next = k.below n w h in let m = next_after (view o log) (Does who a) in omega (arith, b, m))
+  below_on a n w h = (let b : n < (view o log).producers.next = k.below n w h in let m = next_after (view o log) a in omega (arith, b, m))
+
+  -- the plans
+  told_stays : (n : Notice) → IsRun o (Then (Told n) ∷ log) → (w : Who) → n.who ≡ w → (row : Option Plan) → (view o log).stand w ≡ row → (p : Plan) →
+      stays_some (told_some row n.outcome) ≡ Some p → IsSound (Owns w) p
+  told_stays n run w same None e p h = absurd cc
+  told_stays n run w same (Some q) e p h =
+      stays_sound (Owns w) (told q n.outcome) p
+      (subst (λ x. TurnSound (Owns x) (told q n.outcome)) same (told_drawn n run q (ap (view o log).stand same ∙ e))) h
+
+  plans_on : (a : Act) → IsRun o (Then a ∷ log) → (w : Who) (p : Plan) → (view o (Then a ∷ log)).stand w ≡ Some p → IsSound (Owns w) p
+  plans_on (Starts who q) run w p h = elim (cases_Bool (is_same w who)) [
+    | inl e ↦ stays_sound (Owns w) (begins q) p (begins_sound (Owns w) q) (rw e at h)
+    | inr e ↦ k.plans w p (rw e at h)
+  ]
+  plans_on (Told n) run w p h = elim (cases_Bool (is_same w n.who)) [
+    | inl e ↦ told_stays n run w (sym (same_is w n.who e)) ((view o log).stand w) refl p (rw e at h)
+    | inr e ↦ k.plans w p (rw e at h)
+  ]
+  plans_on a run w p h = k.plans w p h
+
+-- one ends with this verdict: it was told, or began with, what leads to it
+pub record IsEndedSo (o : Options) (log : List Entry) (w : Who) (verdict : Verdict) : Type 0 where
+  pub outcome : Outcome
+  pub before : Plan
+  pub older : List Entry
+  pub is_there : log ≡ Then (Told (notice w outcome)) ∷ older
+  pub stood : (view o older).stand w ≡ Some before
+  pub leads : told before outcome ≡ Gives verdict
+
+pub record IsBegunSo (log : List Entry) (w : Who) (verdict : Verdict) : Type 0 where
+  pub procedure : Procedure
+  pub older : List Entry
+  pub is_there : log ≡ Then (Starts w procedure) ∷ older
+  pub leads : begins procedure ≡ Gives verdict
+
+pub answers_from : (o : Options) (log : List Entry) (w : Who) (verdict : Verdict) → IsRun o (Then (Answers w verdict) ∷ log) →
+    IsEndedSo o log w verdict ⊎ (IsBegunSo log w verdict ⊎ (verdict ≡ fails Exhausted))
+answers_from o log w verdict run =
+    let k = deeds_follow_lem o log w (Answered verdict) run in
+    elim k.3 [
+      | inl s ↦ inr (inl (record { procedure = s.0; older = k.1; is_there = k.2 ∙ ap (λ e. e ∷ k.1) s.1; leads = s.2 }))
+      | inr m ↦ elim m [
+        | inl t ↦ inl (record { outcome = t.0; before = t.1; older = k.1; is_there = k.2 ∙ ap (λ e. e ∷ k.1) t.2; stood = t.3; leads = t.4 })
+        | inr late ↦ inr (inr (let f : Answered verdict ≡ Answered (fails Exhausted) = late.5 in cc))
+      ]
+    ]
+
+-- what it joins was drawn by it, and by no other
+joins_own : (o : Options) (log : List Entry) → Every (Drawn o) log → (w : Who) (verdict : Verdict) → IsRun o (Then (Answers w verdict) ∷ log) →
+    MakesSound (λ n. drew o n log ≡ Some w) verdict.makes
+joins_own o log k w verdict run = elim (answers_from o log w verdict run) [
+  | inl t ↦
+      (let e : Every (Drawn o) (Then (Told (notice w t.outcome)) ∷ t.older) = subst (Every (Drawn o)) t.is_there k in
+      let r : IsRun o (Then (Told (notice w t.outcome)) ∷ t.older) = subst (IsRun o) t.is_there run.0 in
+      let s : TurnSound (λ n. drew o n t.older ≡ Some w) (told t.before t.outcome) =
+      told_drawn o t.older (here (Drawn o) t.older e.1) (notice w t.outcome) r t.before t.stood in
+      subst (λ l. MakesSound (λ n. drew o n l ≡ Some w) verdict.makes) (sym t.is_there)
+      (subst (TurnSound (λ n. drew o n t.older ≡ Some w)) t.leads s))
+  | inr m ↦ elim m [
+    | inl b ↦
+        subst (TurnSound (λ n. drew o n log ≡ Some w)) b.leads (begins_sound (λ n. drew o n log ≡ Some w) b.procedure)
+    | inr e ↦ subst (λ x. MakesSound (λ n. drew o n log ≡ Some w) x.makes) (sym e) tt
+  ]
+]
+
+owned_in : (Q : ℕ → Type 0) (n : ℕ) (m : Makes) (b : Building) → m ≡ Producer b → MakesSound Q m → In n (map number_of b.parts) → Q n
+owned_in Q n m b e k i = let s : MakesSound Q (Producer b) = subst (MakesSound Q) e k in in_each Q n (map number_of b.parts) s i
+
+self_same : (t : ℕ) → is_same (Call t) (Call t) ≡ true
+self_same t = grind (arith, nat_tests)
+
+who_call : (w : Who) → w ≡ Call (rank w).1
+who_call (Call t) = refl
+
+end_self : (w : Who) (verdict : Verdict) (t : ℕ) → w ≡ Call t → end_of t (Answers w verdict) ≡ 1
+end_self w verdict t e = ap (λ x. end_of t (Answers x verdict)) e ∙ ap (λ b. cond b 1 0) (self_same t)
+
+-- one that ends had begun
+began_on : (o : Options) (log : List Entry) (w : Who) (p : Plan) → (view o log).stand w ≡ Some p → (q : Procedure) × (started w log ≡ Some q)
+began_on o [] w p h = absurd cc
+began_on o (Begins e ∷ log) w p h = began_on o log w p (sym (begun_same (λ v. v.stand w) e (view o log) refl) ∙ h)
+began_on o (Then (Starts who q) ∷ log) w p h = elim (cases_Bool (is_same w who)) [
+  | inl e ↦ (q, rw e refl)
+  | inr e ↦ (let k = began_on o log w p (rw e at h) in (k.0, rw e k.1))
+]
+began_on o (Then (Told n) ∷ log) w p h = elim (cases_Bool (is_same w n.who)) [
+  | inl e ↦ was ((view o log).stand w) refl (rw e at h)
+  | inr e ↦ began_on o log w p (rw e at h)
+]
+  where
+    was : (row : Option Plan) → (view o log).stand w ≡ row → stays_some (told_some row n.outcome) ≡ Some p → (q : Procedure) × (started w log ≡ Some q)
+    was None e f = absurd cc
+    was (Some q) e f = began_on o log w q e
+began_on o (Then a ∷ log) w p h = began_on o log w p h
+
+unspent : (t : ℕ) → Began (Call t) → is_spent t ≡ false
+unspent t k = k
+
+ends_began : (o : Options) (log : List Entry) (t : ℕ) (verdict : Verdict) (b : Building) → verdict.makes ≡ Producer b → IsRun o (Then (Answers (Call t) verdict) ∷ log) → is_spent t ≡ false
+ends_began o log t verdict b makes run = elim (answers_from o log (Call t) verdict run) [
+  | inl k ↦
+      (let r : IsRun o (Then (Told (notice (Call t) k.outcome)) ∷ k.older) = subst (IsRun o) k.is_there run.0 in
+      let s = began_on o k.older (Call t) k.before k.stood in
+      unspent t (has_begun o k.older (Call t) s.0 r.0 s.1))
+  | inr m ↦ elim m [
+    | inl k ↦
+        (let r : IsRun o (Then (Starts (Call t) k.procedure) ∷ k.older) = subst (IsRun o) k.is_there run.0 in
+        unspent t (has_begun o (Then (Starts (Call t) k.procedure) ∷ k.older) (Call t) k.procedure r (ap (λ x. cond x (Some k.procedure) (started (Call t) k.older)) (self_same t))))
+    | inr e ↦ (let f : (fails Exhausted).makes ≡ Producer b = sym (ap (λ x. x.makes) e) ∙ makes in absurd cc)
+  ]
+]
+
+-- A topic producer that joins has a number that no other has.
+pub joins_new : (o : Options) (log : List Entry) → Every (Drawn o) log → (who : Who) (verdict : Verdict) (b : Building) (n : ℕ) (row : Topic) → verdict.makes ≡ Producer b →
+    IsRun o (Then (Answers who verdict) ∷ log) → In n (map number_of b.parts) → (view o log).producers.topics n ≡ Some row → ⊥
+joins_new o log k (Call t) verdict b n row makes run i h =
+    let own : drew o n log ≡ Some (Call t) = owned_in (λ m. drew o m log ≡ Some (Call t)) n verdict.makes b makes (joins_own o log k (Call t) verdict run) i in
+    let was = (here (Drawn o) log k).topics n row h in
+    let same : Some (Call t) ≡ Some (Call row.owner) = sym own ∙ was.0 in
+    let w : t ≡ row.owner = cc in
+    let once : counted (end_of t) (Then (Answers (Call t) verdict) ∷ log) ≤ 1 = (ends_once_lem o (Then (Answers (Call t) verdict) ∷ log) t run).1 (ends_began o log t verdict b makes run) in
+    let one : end_of t (Answers (Call t) verdict) ≡ 1 = end_self (Call t) verdict t refl in
+    let before : 1 ≤ counted (end_of t) log = subst (λ u. 1 ≤ counted (end_of u) log) (sym w) was.1 in
+    let total : counted (end_of t) log + end_of t (Answers (Call t) verdict) ≤ 1 = once in
+    omega (arith, one, before, total)
+
+topics_on : (o : Options) (log : List Entry) → Every (Drawn o) log → (a : Act) → IsRun o (Then a ∷ log) → (n : ℕ) (row : Topic) → (view o (Then a ∷ log)).producers.topics n ≡ Some row →
+    (drew o n (Then a ∷ log) ≡ Some (Call row.owner)) × (1 ≤ counted (end_of row.owner) (Then a ∷ log))
+topics_on o log k a run n row h = elim (row_from (view o log) a n row h) [
+  | inl w ↦
+      (let was = (here (Drawn o) log k).topics n w.row w.was in
+      let c : 1 ≤ counted (end_of row.owner) log = subst (λ u. 1 ≤ counted (end_of u) log) w.owner was.1 in (
+        drew_more o log (here (Drawn o) log k) a n (Call row.owner) (was.0 ∙ ap (λ u. Some (Call u)) w.owner),
+        omega (arith, c),
+      ))
+  | inr j ↦ (
+    subst (λ (x : Act). drew o n (Then x ∷ log) ≡ Some (Call row.owner)) (sym j.is_act)
+    (owned_in (λ m. drew o m log ≡ Some j.who) n j.verdict.makes j.building j.makes
+    (joins_own o log k j.who j.verdict (subst (λ (x : Act). IsRun o (Then x ∷ log)) j.is_act run)) j.is_new.listed
+    ∙ ap Some (who_call j.who)
+    ∙ ap (λ x. Some (Call x.owner)) j.is_new.is_it),
+    (let one : end_of row.owner (Answers j.who j.verdict) ≡ 1 = end_self j.who j.verdict row.owner (who_call j.who ∙ ap (λ x. Call x.owner) j.is_new.is_it) in
+    subst (λ (x : Act). 1 ≤ counted (end_of row.owner) (Then x ∷ log)) (sym j.is_act) (omega (arith, one))),
+  )
+]
+
+drawn_begins : (o : Options) (log : List Entry) (e : Heard) → Drawn o log → Drawn o (Begins e ∷ log)
+drawn_begins o log e k =
+    let p = begun_same (λ v. v.producers) e (view o log) refl in
+    let s = begun_same (λ v. v.stand) e (view o log) refl in
+    record {
+      below = λ n w h. subst (λ x. n < x.next) (sym p) (k.below n w h);
+      plans = λ w q h. k.plans w q (sym (ap (λ f. f w) s) ∙ h);
+      topics = λ n row h. k.topics n row (sym (ap (λ x. x.topics n) p) ∙ h);
+    }
+
+drawn_then : (o : Options) (log : List Entry) (a : Act) → IsRun o (Then a ∷ log) → Every (Drawn o) log → Drawn o (Then a ∷ log)
+drawn_then o log a run k = record {
+  below = below_on o log (here (Drawn o) log k) a;
+  plans = λ w p h.
+      sound_map (λ n. drew o n log ≡ Some w) (λ n. drew o n (Then a ∷ log) ≡ Some w) p (λ n e. drew_more o log (here (Drawn o) log k) a n w e)
+      (plans_on o log (here (Drawn o) log k) a run w p h);
+  topics = topics_on o log k a run;
+}
+
+pub drawn_run : (o : Options) (log : List Entry) → IsRun o log → Every (Drawn o) log
+drawn_run o [] run = record { below = λ n w h. absurd cc; plans = λ w p h. absurd cc; topics = λ n row h. absurd cc }
+drawn_run o (Begins e ∷ log) run = let k = drawn_run o log run.0 in (drawn_begins o log e (here (Drawn o) log k), k)
+drawn_run o (Then a ∷ log) run = let k = drawn_run o log run.0 in (drawn_then o log a run k, k)

@@ -1,17 +1,22 @@
 -- What plans do comes right behind what leads to it, and what they are granted, but for a turn, right behind what they do.
-use Rattle.std.proofs.Common.{◌≡◌, ◌⊎◌, inl, inr, ◌∙◌, sym, ap, subst, ℕ, List, [], ◌∷◌, ◌++◌, refl, map, drop, Bool, true, false, cond, Option, Some, None}
+use Rattle.std.proofs.Common.{◌≡◌, ◌⊎◌, inl, inr, ◌∙◌, sym, ap, subst, ℕ, List, [], ◌∷◌, ◌++◌, refl, map, drop, Bool, true, false, cond, Option, Some, None, Result, Ok, Err}
 use Rattle.std.proofs.lemmas.Bool.{cases_Bool}
 use Rattle.std.specs.List.{cons_option, filter_map, flat_map}
 use Rattle.std.specs.Option.{option_map, option_to_list}
 use Rattle.pulsar_run.specs.Laws.{In}
 use Rattle.pulsar_run.specs.Order.{arranged, put, put_all}
 use Rattle.pulsar_run.specs.Run.{first_of, rest, rest_of}
+use Rattle.pulsar_wire.specs.declared.error.ConnectionError.{ConnectionError}
+use Rattle.pulsar_messages.specs.Words.{Words}
 use Rattle.pulsar_session.specs.Failures.{Fault}
+use Rattle.pulsar_session.specs.declared.states.Asked.{Asked}
+use Rattle.pulsar_session.specs.declared.states.Asked.TheVariants as asked
 use Rattle.pulsar_session.specs.Link as session
 use Rattle.pulsar_session.specs.Link.{Came, came, ends}
 use Rattle.pulsar_link.specs.Messages.{read}
 use Rattle.pulsar_plans.specs.Address.{Place, address_key, is_reachable}
 use Rattle.pulsar_plans.specs.declared.making.Command.{Command}
+use Rattle.pulsar_producer.specs.declared.deed.Drawn.{Drawn}
 use Rattle.pulsar_producer.specs.declared.deed.News.{News}
 use Rattle.pulsar_producer.specs.declared.deed.News.TheVariants as news
 use Rattle.pulsar_client.specs.declared.act.Act.{Act}
@@ -42,10 +47,10 @@ use Rattle.pulsar_client.specs.Alarms.{rings}
 use Rattle.pulsar_client.specs.Laws.{Acted, Answered, ComesLate, IsToldSo, StartsSo}
 use Rattle.pulsar_client.specs.Links.{Change, Remains, Becomes, IsOver}
 use Rattle.pulsar_client.specs.Plan.{begins, told}
-use Rattle.pulsar_client.specs.Producers.{link_at, recalled, turn_passed, turn_taken, waiting}
-use Rattle.pulsar_client.specs.Rules.{alone, answered_by, answered_on, at_once, below, caused, causes, dropped, ended_by, ended_on, ended_places, failed, failed_at, failed_by, failed_on, failed_over, failed_so, fails_so, finds, gets_from, grants, joins, lost, lost_so, lost_with, moved_on, notice, opens, over_links, performs, recalls, served_by, served_on, stop_act, stopped_at, stopped_one, stopped_with, takes_turn, tells, tells_asker, turn_notice, waiters_of, woken}
+use Rattle.pulsar_client.specs.Producers.{drawn, link_at, number_drawn, recalled, turn_passed, turn_taken, waiting}
+use Rattle.pulsar_client.specs.Rules.{alone, answered_by, answered_on, at_once, below, caused, causes, draw_outcome, draw_said, dropped, ended_by, ended_on, ended_places, failed, failed_at, failed_by, failed_on, failed_over, failed_so, fails_so, finds, gets_from, grants, joins, lost, lost_so, lost_with, moved_on, notice, number_said, opens, over_links, performs, recalls, served_by, served_on, stop_act, stopped_at, stopped_one, stopped_with, takes_turn, tells, tells_asker, told_at, turn_notice, waiters_of, woken}
 use Rattle.pulsar_client.specs.Run.{Entry, Begins, Then, IsRun, agenda, rules, view}
-use Rattle.pulsar_client.specs.View.{Addresses, Base, Options, Seat, Turned, View, turned_by}
+use Rattle.pulsar_client.specs.View.{Addresses, Base, Options, Seat, Turned, View, answer_at, room_of, turned_by}
 use Rattle.pulsar_client.proofs.Acts.{Each, each_append, each_drop, each_either, each_flat, each_map, over_each}
 use Rattle.pulsar_client.proofs.Raising.{IsRaised, raises}
 use Rattle.pulsar_client.proofs.Led.{deeds_follow_lem}
@@ -387,6 +392,89 @@ clean_run o (Then a ∷ log) run =
 
 -- WHAT ONE IS GRANTED
 
+-- an action grants just this
+abbrev pub GivenBy : View → Action → News → Type 0
+GivenBy v (TakeTurn n) (news.HasTurn version) = turn_taken (v.producers.topics n) ≡ Some version
+GivenBy v (PassTurn n) news.Done = Unit {0}
+GivenBy v (Draw n) (news.Drew d) = (room : Bool) × (room_of v n ≡ Some room) × (drawn room (v.producers.topics n) ≡ Some d)
+GivenBy v (Recall n) (news.Recalled c) = recalled v.producers n ≡ Some c
+GivenBy v (Remake r) news.Done = Unit {0}
+GivenBy v Number (news.Numbered n) = number_drawn v.producers ≡ Some n
+GivenBy v (Shut t) news.Done = Unit {0}
+GivenBy v (Tell n) news.Done = Unit {0}
+GivenBy v action n = ⊥
+
+abbrev SaysSo : View → Action → Outcome → Type 0
+SaysSo v action (outcome.Granted n) = GivenBy v action n
+SaysSo v action _ = Unit {0}
+
+abbrev GivesSo : View → Action → Act → Type 0
+GivesSo v action (Told n) = SaysSo v action n.outcome
+GivesSo v action _ = Unit {0}
+
+module _ (v : View) (who : Who) where
+  draws_so : (n : ℕ) (r : Option Bool) → room_of v n ≡ r → Each (GivesSo v (Draw n)) (tells who (draw_outcome r (v.producers.topics n)))
+  draws_so n None e = (tt, tt)
+  draws_so n (Some room) e = drawn_so (drawn room (v.producers.topics n)) refl
+    where
+      drawn_so : (d : Option Drawn) → drawn room (v.producers.topics n) ≡ d → Each (GivesSo v (Draw n)) (tells who (draw_said d))
+      drawn_so None f = (tt, tt)
+      drawn_so (Some d) f = ((room, e, f), tt)
+
+  numbers_so : (r : Option ℕ) → number_drawn v.producers ≡ r → Each (GivesSo v Number) (tells who (number_said r))
+  numbers_so None e = (tt, tt)
+  numbers_so (Some n) e = (e, tt)
+
+  turns_so : (n : ℕ) (row : Option Topic) → v.producers.topics n ≡ row → Each (GivesSo v (TakeTurn n)) (takes_turn who row)
+  turns_so n None e = (tt, tt)
+  turns_so n (Some t) e = taken_so (turn_taken (Some t)) (ap turn_taken e)
+    where
+      taken_so : (r : Option (Option (List ℕ))) → turn_taken (v.producers.topics n) ≡ r →
+          Each (GivesSo v (TakeTurn n)) (flat_map (λ version. grants who (news.HasTurn version)) (option_to_list r))
+      taken_so None f = tt
+      taken_so (Some version) f = (f, tt)
+
+  recalls_so : (n : ℕ) (r : Option Command) → recalled v.producers n ≡ r → Each (GivesSo v (Recall n)) (recalls who r)
+  recalls_so n None e = (tt, tt)
+  recalls_so n (Some c) e = (e, tt)
+
+  asks_so : (l : ℕ) (request : Words) (r : Result Asked ConnectionError) → Each (GivesSo v (Ask l request)) (tells who (told_at r))
+  asks_so l request (Ok (asked.Queued place)) = (tt, tt)
+  asks_so l request (Ok (asked.Waiting place)) = (tt, tt)
+  asks_so l request (Err e) = (tt, tt)
+
+  gets_so : (p : Place) (x : Series) → Each (GivesSo v (Get p)) (gets_from who p x)
+  gets_so p Nobody = (tt, tt)
+  gets_so p (Runs starter retries l) = tt
+  gets_so p (Pauses l) = tt
+  gets_so p (Serves l) = (tt, tt)
+
+  finds_so : (n : ℕ) (r : Option ℕ) → Each (GivesSo v (Find n)) (finds who r)
+  finds_so n None = (tt, tt)
+  finds_so n (Some l) = (tt, tt)
+
+  pub gives_so : (action : Action) → Each (GivesSo v action) (performs v who action)
+  gives_so (Get p) = each_either (GivesSo v (Get p)) (is_reachable p) _ _ (gets_so p (v.addresses.base (address_key p)).series) (tt, tt)
+  gives_so (Ask l request) = asks_so l request (answer_at v.now request (v.links.live l))
+  gives_so StopAll =
+      each_append (GivesSo v StopAll) (over_links stop_act v.links) (tells who outcome.Stopped) (over_each (GivesSo v StopAll) stop_act v.links (λ l seat. (tt, tt))) (tt, tt)
+  gives_so (Wait delay) = tt
+  gives_so (TakeTurn n) = turns_so n (v.producers.topics n) refl
+  gives_so (PassTurn n) = (tt, tt)
+  gives_so (Draw n) = draws_so n (room_of v n) refl
+  gives_so (Recall n) = recalls_so n (recalled v.producers n) refl
+  gives_so (Remake r) = (tt, tt)
+  gives_so Number = numbers_so (number_drawn v.producers) refl
+  gives_so (Find n) = finds_so n (link_at (v.producers.topics n))
+  gives_so (Shut t) = (tt, tt)
+  gives_so (Tell n) = (tt, tt)
+  gives_so Rest = tt
+
+pub in_each : {A : Type 0} (P : A → Type 0) (x : A) (xs : List A) → Each P xs → In x xs → P x
+in_each P x [] k h = absurd h
+in_each P x (y ∷ xs) k (inl e) = subst P (sym e) k.0
+in_each P x (y ∷ xs) k (inr h) = in_each P x xs k.1 h
+
 record IsFirstNow (now : List Act) (n : Notice) : Type 0 where
   left : List Act
   is_it : now ≡ Told n ∷ left
@@ -440,3 +528,8 @@ granted_by o (Then b ∷ older) n g run =
     let h = agenda o older in
     let left = clean_rest h.now h.here h.behind h.parts c.at_head c.served c.waits in
     head_granted o older n g b (at_once (view o older) b) (rest (agenda o older)).now f.left refl left.now_is f.is_it
+
+pub grants_given : (o : Options) (log : List Entry) (n : Notice) (k : IsGrantedBy o log n) (y : News) → n.outcome ≡ outcome.Granted y → GivenBy (view o k.older) k.action y
+grants_given o log n k y e =
+    subst (SaysSo (view o k.older) k.action) e
+    (in_each (GivesSo (view o k.older) k.action) (Told n) (performs (view o k.older) n.who k.action) (gives_so (view o k.older) n.who k.action) k.told)

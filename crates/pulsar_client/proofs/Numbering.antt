@@ -59,7 +59,7 @@ use Rattle.pulsar_client.proofs.Acts.{Each, each_append}
 
 -- WHAT A PLAN HAS DRAWN
 
-abbrev number_of : Built → ℕ
+abbrev pub number_of : Built → ℕ
 number_of b = b.number
 
 abbrev pub drawn_in : Build → List ℕ
@@ -95,9 +95,6 @@ BuildSound Q (step.Gives (Err f)) = Unit {0}
 map_end : (made : List Built) (b : Built) → map number_of (made ++ b ∷ []) ≡ map number_of made ++ b.number ∷ []
 map_end [] b = refl
 map_end (x ∷ made) b = ap (λ ns. x.number ∷ ns) (map_end made b)
-
-is_news_number : News → ℕ → Type 0
-is_news_number y m = y ≡ news.Numbered m
 
 module _ (Q : ℕ → Type 0) where
   either_sound : (b : Bool) (t u : Turn Plan Verdict) → TurnSound Q t → TurnSound Q u → TurnSound Q (cond b t u)

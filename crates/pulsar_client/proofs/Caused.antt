@@ -1,36 +1,31 @@
 -- Whatever one is told has its cause before, in the same step.
-use Rattle.std.proofs.Common.{◌≡◌, ◌⊎◌, inl, inr, ◌∙◌, sym, ap, subst, ℕ, List, [], ◌∷◌, ◌++◌, refl, map, Bool, true, false, cond, Option, Some, None, Result, Ok, Err}
-use Rattle.std.proofs.lemmas.Bool.{cases_Bool}
+use Rattle.std.proofs.Common.{◌≡◌, ◌⊎◌, inl, inr, ◌∙◌, sym, ap, subst, ℕ, List, ◌∷◌, ◌++◌, refl, map, Bool, true, false, cond, Option, Some, None, Result, Ok, Err, []}
 use Rattle.std.specs.List.{filter_map, flat_map}
-use Rattle.std.specs.Option.{option_map}
+use Rattle.std.specs.Option.{option_map, option_to_list}
 use Rattle.pulsar_run.specs.Laws.{Arises, In, InOne, InThisStep}
 use Rattle.pulsar_run.proofs.Arising.{acts_arise_lem}
 use Rattle.pulsar_wire.specs.declared.error.ConnectionError.{ConnectionError}
 use Rattle.pulsar_wire.specs.declared.error.IoKind.{IoKind}
-use Rattle.pulsar_wire.specs.declared.error.IoKind.TheVariants as io_kind
 use Rattle.pulsar_messages.specs.Words.{Words}
 use Rattle.pulsar_session.specs.declared.states.Asked.{Asked as Placed}
-use Rattle.pulsar_session.specs.declared.states.Asked.TheVariants as placed
 use Rattle.pulsar_session.specs.Failures.{Fault}
-use Rattle.pulsar_session.specs.Link as session
-use Rattle.pulsar_session.specs.Link.{Came, came, ends, is_spent}
+use Rattle.pulsar_session.specs.Link.{Came, came, ends}
 use Rattle.pulsar_link.specs.Messages.{read}
 use Rattle.pulsar_client.specs.declared.act.Act.{Act}
-use Rattle.pulsar_client.specs.declared.act.Act.TheVariants.{Comes, Starts, Told, Does, Dials}
+use Rattle.pulsar_client.specs.declared.act.Act.TheVariants.{Comes, Starts, Told, Does}
 use Rattle.pulsar_client.specs.declared.act.Action.{Action}
-use Rattle.pulsar_client.specs.declared.act.Action.TheVariants.{Get, Ask, StopAll, Rest}
+use Rattle.pulsar_client.specs.declared.act.Action.TheVariants.{Get, Ask, StopAll, Rest, Draw, Find, Number, PassTurn, Recall, TakeTurn, Tell, Wait}
 use Rattle.pulsar_client.specs.declared.act.Alarm.{Alarm}
 use Rattle.pulsar_client.specs.declared.act.Alarm.TheVariants.{Retry, Wake, KeepAlive, CheckIdle}
 use Rattle.pulsar_client.specs.declared.act.Arrival.{Arrival}
-use Rattle.pulsar_client.specs.declared.act.Arrival.TheVariants.{Readied, Bad}
+use Rattle.pulsar_client.specs.declared.act.Arrival.TheVariants.{Readied}
 use Rattle.pulsar_client.specs.declared.act.End.{End}
 use Rattle.pulsar_client.specs.declared.act.End.TheVariants.{Unopened, Lost, Overdue, Broken, Idles, Stops}
-use Rattle.pulsar_client.specs.declared.act.LinkAct.TheVariants.{Reads, Drains, Pings, Ends}
+use Rattle.pulsar_client.specs.declared.act.LinkAct.TheVariants.{Reads, Drains, Ends}
 use Rattle.pulsar_client.specs.declared.act.Notice.{Notice}
 use Rattle.pulsar_client.specs.declared.act.Outcome.{Outcome}
-use Rattle.pulsar_client.specs.declared.act.Outcome.TheVariants as outcome
 use Rattle.pulsar_client.specs.declared.act.Part.{Part}
-use Rattle.pulsar_client.specs.declared.act.Part.TheVariants.{Calls, ToLink, Rings}
+use Rattle.pulsar_client.specs.declared.act.Part.TheVariants.{ToLink, Rings}
 use Rattle.pulsar_client.specs.declared.act.Verdict.{Verdict}
 use Rattle.pulsar_client.specs.declared.act.Who.{Who}
 use Rattle.pulsar_client.specs.declared.addresses.Pause.{Pause}
@@ -41,16 +36,29 @@ use Rattle.pulsar_client.specs.declared.plans.plan.Turn.{Turn}
 use Rattle.pulsar_client.specs.declared.plans.plan.Turn.TheVariants.{Stays, Gives}
 use Rattle.pulsar_plans.specs.Address.{Place, address_key, is_reachable}
 use Rattle.pulsar_client.specs.Alarms.{rings}
-use Rattle.pulsar_client.specs.Content.{Asked}
-use Rattle.pulsar_client.specs.Laws.{AttemptEnds, Cause, OutcomesAreCaused, LineEnds, RequestEnds, base_of}
-use Rattle.pulsar_client.specs.Links as links
+use Rattle.pulsar_client.specs.Laws.{AttemptEnds, Cause, OutcomesAreCaused, LineEnds, RequestEnds, base_of, IsToldBy, IsUnknown}
 use Rattle.pulsar_client.specs.Links.{arrival, change_at, change_in, closed_by, line_places, new_places, times_out}
-use Rattle.pulsar_client.specs.Plan.{begins}
-use Rattle.pulsar_client.specs.Rules.{alone, answered_by, answered_on, at_once, breaks_at, called, caused, causes, does, dropped, ended_by, ended_on, failed, failed_by, failed_on, failed_over, failed_so, fails_so, follows, follows_some, further, gets_from, idle_act, is_idle, keeps_alive, lost, lost_so, lost_with, may_ping, moved_on, notice, opens, over_links, parts, rung, served_by, served_on, stop_act, stopped_at, stopped_with, tells, tells_asker, told_at, tries_again, waiters_of, woken}
-use Rattle.pulsar_client.specs.Run.{Entry, Begins, Then, rules, view}
-use Rattle.pulsar_client.specs.View.{Addresses, Chosen, Options, Seat, Tickets, View, answer_at, arrival_at, pause_for, pause_of, told_some, turned_by}
+use Rattle.pulsar_client.specs.Plan.{told, begins}
+use Rattle.pulsar_client.specs.Rules.{alone, answered_by, answered_on, at_once, caused, causes, dropped, ended_by, ended_on, failed, failed_by, failed_on, failed_over, failed_so, fails_so, follows, follows_some, further, gets_from, lost, lost_so, lost_with, moved_on, notice, opens, over_links, parts, served_by, served_on, stop_act, stopped_at, stopped_with, tells, tells_asker, told_at, waiters_of, woken, draw_outcome, draw_said, finds, grants, joins, number_said, performs, recalls, stopped_one, takes_turn, turn_notice}
+use Rattle.pulsar_client.specs.Run.{Entry, Begins, Then, rules, view, IsRun}
+use Rattle.pulsar_client.specs.View.{Addresses, Options, Seat, View, answer_at, pause_for, pause_of, told_some, turned_by, room_of}
 use Rattle.pulsar_client.specs.Who.{is_same}
-use Rattle.pulsar_client.proofs.Acts.{Each, chosen_same, each_either, over_each}
+use Rattle.pulsar_client.specs.declared.act.Who.TheVariants.{Call}
+use Rattle.pulsar_plans.specs.declared.making.Command.{Command}
+use Rattle.pulsar_producer.specs.declared.deed.Drawn.{Drawn}
+use Rattle.pulsar_client.specs.declared.act.Procedure.{Procedure}
+use Rattle.pulsar_client.specs.declared.producers.Topic.{Topic}
+use Rattle.pulsar_client.specs.Producers.{drawn, link_at, number_drawn, recalled, turn_passed, turn_taken, waiting}
+use Rattle.pulsar_wire.specs.declared.error.IoKind.TheVariants as io_kind
+use Rattle.pulsar_session.specs.declared.states.Asked.TheVariants as placed
+use Rattle.pulsar_session.specs.Link as session
+use Rattle.pulsar_client.specs.declared.act.Outcome.TheVariants as outcome
+use Rattle.pulsar_client.specs.Links as links
+use Rattle.pulsar_client.specs.declared.act.Procedure.TheVariants as procedure
+use Rattle.pulsar_producer.specs.declared.deed.News.TheVariants as news
+use Rattle.pulsar_client.proofs.Acts.{Each, chosen_same, over_each, each_flat}
+use Rattle.pulsar_client.proofs.Raising.{IsRaised, may, raises, OfDeed, OfNotice}
+use Rattle.pulsar_client.proofs.Fitting.{begins_fits, is_said, is_stop, says_so, spot, told_fits, Fits}
 
 -- LISTS
 
@@ -126,7 +134,7 @@ in_askers says askers (p ∷ ps) n h = one (askers p) refl (in_askers says asker
 
 -- only an action tells at once
 none_told : (v : View) (a : Act) (n : Notice) → may OfNotice a ≡ false → In (Told n) (at_once v a) → ⊥
-none_told v a n no h = (let told : may OfNotice a ≡ true = in_each (IsRaised a) (Told n) (at_once v a) h (raises v a) in let f : true ≡ false = sym told ∙ no in absurd cc)
+none_told v a n never h = (let told : may OfNotice a ≡ true = in_each (IsRaised a) (Told n) (at_once v a) h (raises v a) in let f : true ≡ false = sym told ∙ never in absurd cc)
 
 -- what comes of a link is no notice
 mute_told : (n : Notice) (ps : List Part) → In (Told n) (map Comes ps) → ⊥
@@ -221,8 +229,8 @@ some_says who (Some plan) u = turn_says who (told plan u) (told_fits plan u)
 
 -- only plans act
 no_deed : (v : View) (a : Act) → may OfDeed a ≡ false → (w : Who) (action : Action) → In (Does w action) (at_once v a) → ⊥
-no_deed v a no w action h =
-    (let did : may OfDeed a ≡ true = in_each (IsRaised a) (Does w action) (at_once v a) h (raises v a) in let f : true ≡ false = sym did ∙ no in absurd cc)
+no_deed v a never w action h =
+    (let did : may OfDeed a ≡ true = in_each (IsRaised a) (Does w action) (at_once v a) h (raises v a) in let f : true ≡ false = sym did ∙ never in absurd cc)
 
 mute_did : (w : Who) (action : Action) (ps : List Part) → In (Does w action) (map Comes ps) → ⊥
 mute_did w action [] h = h
@@ -371,7 +379,7 @@ module _ (o : Options) (who : Who) (u : Outcome) (older : List Entry) where
       let a : who ≡ Call next.0 = ap (λ m. m.who) is in
       let b : u ≡ outcome.Granted (news.HasTurn next.1) = ap (λ m. m.outcome) is in
       named (Then (Does w (PassTurn n))) (outcome.Granted (news.HasTurn next.1)) b
-      (inr (w, n, next.1, refl, refl, ap (option_map (λ next. (Call next.0, next.1))) e ∙ ap (λ x. Some (x, next.1)) (sym a)))
+      (inr (w, n, next.0, next.1, refl, a, refl, e))
 
   tells_caused : (w : Who) (n : Notice) → is_said n.outcome ≡ true → In it (n ∷ []) → Cause o who u (Then (Does w (Tell n))) older
   tells_caused w n said (inr h) = absurd h

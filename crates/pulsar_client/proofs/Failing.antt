@@ -226,7 +226,7 @@ module _ (p : Procedure) (all : List Outcome) where
   says_receipt None f h = absurd cc
   says_receipt (Some b) f h = one_receipt b (b.number == 7) h
     where
-      one_receipt : (b : Written) (t : Bool) → Failed f ≡ cond t (Receipt b.bytes) (Replies (b ∷ [])) → FailsSo p all f
+      one_receipt : (b : Written) (t : Bool) → Failed f ≡ cond t (Receipt b.bytes) (Replies []) → FailsSo p all f
       one_receipt b true h = absurd cc
       one_receipt b false h = absurd cc
 

@@ -168,7 +168,7 @@ module _ (o : Options) (caused : OutcomesAreCaused) where
   not_granted who x e older (inl (action, is, i)) =
       let no : false ≡ true = in_each IsGiven (Told (notice who (Granted (granting.Told x)))) (performs (view o older) who action) i (performs_given (view o older) who action) in
       absurd cc
-  not_granted who x e older (inr (other, number, version, is, turn, next)) = absurd cc
+  not_granted who x e older (inr (other, number, ticket, version, is, same, turn, next)) = absurd cc
 
   told_proper : (log : List Entry) (who : Who) (u : Outcome) → IsRun o (Then (Told (record { who = who; outcome = u })) ∷ log) → is_proper u ≡ true
   told_proper log who (Granted (granting.Told x)) run =

@@ -1,5 +1,9 @@
 pub mod Lists
 pub mod Places
+pub mod Grown
+pub mod Parting
+pub mod Producing
+pub mod Answering
 pub mod Moments
 pub mod Ringing
 pub mod Timing
@@ -25,6 +29,10 @@ pub mod Getting
 pub mod Rings
 pub mod Made
 pub mod Attempts
+pub mod Raising
+pub mod Fitting
+pub mod Spots
+pub mod Asked
 pub mod Stopping
 pub mod Counting
 pub mod Built

@@ -31,13 +31,13 @@ sent_all ps t ms h = sym (ap (λ x. cond (is_some x) ps (all_routed t ms ps)) h)
 
 pub parts_none : (v : View) (advice : List (Option ℕ)) (t : ℕ) (ms : List ProducerMessageValues) (r : Refusal) → may_call v.calls ≡ true →
     why_not v.producers t ≡ Some r → [] ≡ parts_of v advice (SendAll t ms)
-parts_none v advice t ms r open h =
-    sym (ap (λ b. shares_unless (cond b (why_not v.producers t) (Some refusal.Shutdown)) v advice t ms) open ∙ ap (λ x. shares_unless x v advice t ms) h)
+parts_none v advice t ms r allowed h =
+    sym (ap (λ b. shares_unless (cond b (why_not v.producers t) (Some refusal.Shutdown)) v advice t ms) allowed ∙ ap (λ x. shares_unless x v advice t ms) h)
 
 pub parts_all : (v : View) (advice : List (Option ℕ)) (t : ℕ) (ms : List ProducerMessageValues) → may_call v.calls ≡ true → why_not v.producers t ≡ None →
     shares_of v.chosen v.producers v.calls.drawn (v.calls.drawn + 1) advice t ms ≡ parts_of v advice (SendAll t ms)
-parts_all v advice t ms open h =
-    sym (ap (λ b. shares_unless (cond b (why_not v.producers t) (Some refusal.Shutdown)) v advice t ms) open ∙ ap (λ x. shares_unless x v advice t ms) h)
+parts_all v advice t ms allowed h =
+    sym (ap (λ b. shares_unless (cond b (why_not v.producers t) (Some refusal.Shutdown)) v advice t ms) allowed ∙ ap (λ x. shares_unless x v advice t ms) h)
 
 -- ONE AFTER THE OTHER
 

@@ -121,7 +121,7 @@ impl Tables {
         mut advice: Advice,
         parts: &mut VecDeque<Act>,
     ) -> Result<Procedure, NoMemory>
-        requires open { may_call (view_of self.old).calls ≡ true }
+        requires allowed { may_call (view_of self.old).calls ≡ true }
         requires tickets { lacks_tickets self.old.tickets (shares asking) ≡ false }
         ensures procedure { IfOk result (λ p. p ≡ procedure_for (view_of self.old).chosen (view_of self.old).calls (view_of self.old).producers advice asking) }
         ensures parts { OnOk result (parts.new.items ≡ parts.old.items ++ parts_of (view_of self.old) advice asking) }

@@ -111,7 +111,7 @@ impl Tables {
         advice: Advice,
         parts: &mut VecDeque<Act>,
     ) -> Result<Procedure, NoMemory>
-        requires open { may_call (view_of self.old).calls ≡ true }
+        requires allowed { may_call (view_of self.old).calls ≡ true }
         requires tickets { lacks_tickets self.old.tickets (length messages.items) ≡ false }
         ensures procedure { IfOk result (λ p. p ≡ rules.gathers (view_of self.old).calls (producers_of self.old.producers) producer (map message_content messages.items)) }
         ensures parts { OnOk result (parts.new.items ≡ parts.old.items ++ rules.parts_of (view_of self.old) advice (SendAll producer (map message_content messages.items))) }

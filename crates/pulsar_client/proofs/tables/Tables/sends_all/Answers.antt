@@ -14,7 +14,7 @@ returns-in-Some-clause-parts c =
     let v = view_of c.args.self.now in
     sym (append-nil c.args.parts.now.items)
     ∙ ap (λ acts. c.args.parts.now.items ++ acts)
-    (parts_none v c.args.advice c.args.producer (map message_content c.args.messages.items) c.in-Some.refusal c.requires.open (sym c.why_not.ensures ∙ c.in-Some.is))
+    (parts_none v c.args.advice c.args.producer (map message_content c.args.messages.items) c.in-Some.refusal c.requires.allowed (sym c.why_not.ensures ∙ c.in-Some.is))
 
 pub returns-in-Some-clause-after : goal.returns-in-Some-clause-after
 returns-in-Some-clause-after c =
@@ -32,7 +32,7 @@ returns-in-None-clause-parts c =
     on_ok_weaker c.gathers.result
     (λ is. is
     ∙ ap (λ acts. c.args.parts.now.items ++ acts)
-    (parts_all v c.args.advice c.args.producer (map message_content c.args.messages.items) c.requires.open (sym c.why_not.ensures ∙ c.in-None.is)))
+    (parts_all v c.args.advice c.args.producer (map message_content c.args.messages.items) c.requires.allowed (sym c.why_not.ensures ∙ c.in-None.is)))
     c.gathers.ensures.parts
 
 pub returns-in-None-clause-after : goal.returns-in-None-clause-after

@@ -37,7 +37,7 @@ use Rattle.pulsar_client.specs.Content as content
 use Rattle.pulsar_client.specs.Content.{Asked, Heard, lacks_tickets, shares}
 use Rattle.pulsar_client.specs.Laws.{Answered, counted, end_of, started}
 use Rattle.pulsar_client.specs.Plan.{begins, fails, told}
-use Rattle.pulsar_client.specs.Producers.{Producers, all_routed, called_on, changed, free_from, made_of, next_free, number_drawn, numbered, numbers_at, opened_on, routed, sent_on, shut_all, topic_after, why_not, with_built, with_name, with_topic, with_topics}
+use Rattle.pulsar_client.specs.Producers.{Producers, all_routed, called_on, changed, free_from, made_of, names_in, next_free, number_drawn, numbered, numbers_at, opened_on, routed, sent_on, shut_all, topic_after, why_not, with_built, with_topic, with_topics}
 use Rattle.pulsar_client.specs.Rules.{notice, performs}
 use Rattle.pulsar_client.specs.Run.{Entry, Begins, Then, IsRun, view}
 use Rattle.pulsar_client.specs.View.{Options, View, draws_on, may_call, producers_made, room_of, stays, stays_some, told_some}
@@ -81,11 +81,7 @@ sent_kept t ms ps = either_kept (is_some (why_not ps t)) ps ps (all_routed t ms 
 opened_kept : (asked : Asked) (ps : Producers) → Kept ps (opened_on asked ps)
 opened_kept (content.Send t m) ps = sent_kept t (m ∷ []) ps
 opened_kept (content.SendAll t ms) ps = sent_kept t ms ps
-opened_kept (content.Raw l words) ps = elim (named_producer words) as (λ r. Kept ps (names r)) [ None ↦ (refl, refl) | Some n ↦ (refl, refl) ]
-  where
-    names : Option ℕ → Producers
-    names None = ps
-    names (Some n) = with_name n ps
+opened_kept (content.Raw l words) ps = elim (named_producer words) as (λ r. Kept ps (names_in r ps)) [ None ↦ (refl, refl) | Some n ↦ (refl, refl) ]
 opened_kept _ ps = (refl, refl)
 
 pub called_kept : (v : View) (asked : Asked) (advice : List (Option ℕ)) → Kept v.producers (seen.after (Comes (Calls asked advice)) v).producers
@@ -113,7 +109,7 @@ joined_row owner f n (b ∷ bs) ps t h = elim (joined_row owner f n bs (with_top
   ]
 ]
 
-built_topics : (t : ℕ) (r : Option producer.Seen) (ps : Producers) → (with_built t r ps).topics ≡ ps.topics
+pub built_topics : (t : ℕ) (r : Option producer.Seen) (ps : Producers) → (with_built t r ps).topics ≡ ps.topics
 built_topics t None ps = refl
 built_topics t (Some p) ps = refl
 
@@ -411,13 +407,14 @@ began_on o (Then (Starts who q) ∷ log) w p h = elim (cases_Bool (is_same w who
   | inr e ↦ (let k = began_on o log w p (rw e at h) in (k.0, rw e k.1))
 ]
 began_on o (Then (Told n) ∷ log) w p h = elim (cases_Bool (is_same w n.who)) [
-  | inl e ↦ was ((view o log).stand w) refl (rw e at h)
+  | inl e ↦ was ((view o log).stand w) (λ q f. began_on o log w q f) refl (rw e at h)
   | inr e ↦ began_on o log w p (rw e at h)
 ]
   where
-    was : (row : Option Plan) → (view o log).stand w ≡ row → stays_some (told_some row n.outcome) ≡ Some p → (q : Procedure) × (started w log ≡ Some q)
-    was None e f = absurd cc
-    was (Some q) e f = began_on o log w q e
+    was : (row : Option Plan) → ((q : Plan) → (view o log).stand w ≡ Some q → (r : Procedure) × (started w log ≡ Some r)) → (view o log).stand w ≡ row →
+        stays_some (told_some row n.outcome) ≡ Some p → (r : Procedure) × (started w log ≡ Some r)
+    was None more e f = absurd cc
+    was (Some q) more e f = more q e
 began_on o (Then a ∷ log) w p h = began_on o log w p h
 
 unspent : (t : ℕ) → Began (Call t) → is_spent t ≡ false

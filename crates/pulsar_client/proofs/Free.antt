@@ -25,7 +25,7 @@ use Rattle.pulsar_client.specs.declared.act.Who.{Who}
 use Rattle.pulsar_client.specs.declared.producers.Topic.{Topic}
 use Rattle.pulsar_client.specs.Content as content
 use Rattle.pulsar_client.specs.Content.{Asked, lacks_tickets, shares}
-use Rattle.pulsar_client.specs.Producers.{Producers, all_routed, called_on, changed, free_from, made_of, next_free, number_drawn, numbered, numbers_at, opened_on, routed, sent_on, shut_all, why_not, with_built, with_name, with_topic, with_topics}
+use Rattle.pulsar_client.specs.Producers.{Producers, all_routed, called_on, changed, free_from, made_of, names_in, next_free, number_drawn, numbered, numbers_at, opened_on, routed, sent_on, shut_all, why_not, with_built, with_topic, with_topics}
 use Rattle.pulsar_client.specs.ProducerLaws.{NumbersAreFree}
 use Rattle.pulsar_client.specs.Rules.{notice}
 use Rattle.pulsar_client.specs.Run.{Entry, Begins, Then, IsRun, view}
@@ -87,14 +87,18 @@ is_free : (xs : List ℕ) (n : ℕ) → n < 2 ^ 64 → Rising xs → is_spent (f
 is_free [] n lt r s = refl
 is_free (x ∷ xs) n lt r s = elim (cases_Bool ((x == n) && nat_lt n (2 ^ 64 - 1))) [
   | inl e ↦
-      (let l : n + 1 < 2 ^ 64 = grind (arith, nat_tests) in
+      (let same : free_from (x ∷ xs) n ≡ free_from xs (n + 1) = ap (λ b. cond b (free_from xs (n + 1)) (free_from xs n)) e in
+      let l : n + 1 < 2 ^ 64 = grind (arith, nat_tests) in
       let a : n + 1 ≤ free_from xs (n + 1) = (free_low xs (n + 1) l).0 in
       let q : (x == free_from xs (n + 1)) ≡ false = grind (arith, nat_tests) in
-      let t : is_spent (free_from xs (n + 1)) ≡ false = rw e at s in
-      rw e (ap (λ b. b || list_any (λ y. y == free_from xs (n + 1)) xs) q ∙ is_free xs (n + 1) l r.1 t))
+      let t : is_spent (free_from xs (n + 1)) ≡ false = subst (λ m. is_spent m ≡ false) same s in
+      subst (λ m. list_any (λ y. y == m) (x ∷ xs) ≡ false) (sym same)
+      (ap (λ b. b || list_any (λ y. y == free_from xs (n + 1)) xs) q ∙ is_free xs (n + 1) l r.1 t))
   | inr e ↦
-      (let t : is_spent (free_from xs n) ≡ false = rw e at s in
-      rw e (ap (λ b. b || list_any (λ y. y == free_from xs n) xs) (first e t) ∙ is_free xs n lt r.1 t))
+      (let same : free_from (x ∷ xs) n ≡ free_from xs n = ap (λ b. cond b (free_from xs (n + 1)) (free_from xs n)) e in
+      let t : is_spent (free_from xs n) ≡ false = subst (λ m. is_spent m ≡ false) same s in
+      subst (λ m. list_any (λ y. y == m) (x ∷ xs) ≡ false) (sym same)
+      (ap (λ b. b || list_any (λ y. y == free_from xs n) xs) (first e t) ∙ is_free xs n lt r.1 t))
 ]
   where
     -- where the first is greater, so are all, and nothing is passed over
@@ -142,11 +146,8 @@ sent_low t ms ps h = either_low (is_some (why_not ps t)) ps (all_routed t ms ps)
 opened_low : (asked : Asked) (ps : Producers) → IsLow ps → IsLow (opened_on asked ps)
 opened_low (content.Send t m) ps h = sent_low t (m ∷ []) ps h
 opened_low (content.SendAll t ms) ps h = sent_low t ms ps h
-opened_low (content.Raw l words) ps h = elim (named_producer words) as (λ r. IsLow (names r)) [ None ↦ h | Some n ↦ (rising_insert ps.named n h.0, h.1) ]
-  where
-    names : Option ℕ → Producers
-    names None = ps
-    names (Some n) = with_name n ps
+opened_low (content.Raw l words) ps h =
+    elim (named_producer words) as (λ r. IsLow (names_in r ps)) [ None ↦ h | Some n ↦ (rising_insert ps.named n h.0, h.1) ]
 opened_low _ ps h = h
 
 draws_kept : (room : Option Bool) (m : ℕ) (ps : Producers) → Kept ps (draws_on room m ps)
@@ -174,7 +175,7 @@ made_low v who (Producer b) h =
 made_low v who _ h = h
 
 numbered_low : (ps : Producers) → IsLow ps → IsLow (numbered ps)
-numbered_low ps h = (h.0, elim (cases_Bool (is_spent (next_free ps))) [ inl e ↦ rw e low | inr e ↦ rw e (grind (arith, nat_tests)) ])
+numbered_low ps h = (h.0, elim (cases_Bool (is_spent (next_free ps))) [ inl e ↦ rw e low | inr e ↦ (let l : next_free ps < 2 ^ 64 = low in rw e (grind (arith, nat_tests))) ])
   where
     low : next_free ps < 2 ^ 64
     low = (free_low ps.named ps.next h.1).1

@@ -404,11 +404,11 @@ GivenBy v (Shut t) news.Done = Unit {0}
 GivenBy v (Tell n) news.Done = Unit {0}
 GivenBy v action n = ⊥
 
-abbrev SaysSo : View → Action → Outcome → Type 0
+abbrev pub SaysSo : View → Action → Outcome → Type 0
 SaysSo v action (outcome.Granted n) = GivenBy v action n
 SaysSo v action _ = Unit {0}
 
-abbrev GivesSo : View → Action → Act → Type 0
+abbrev pub GivesSo : View → Action → Act → Type 0
 GivesSo v action (Told n) = SaysSo v action n.outcome
 GivesSo v action _ = Unit {0}
 

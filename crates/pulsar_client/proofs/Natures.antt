@@ -5,11 +5,13 @@ use Rattle.std.specs.Prelude.{◌&&◌, not}
 use Rattle.pulsar_session.specs.Failures.{Failure, Fault}
 use Rattle.pulsar_session.specs.Reply.{Reply as Content}
 use Rattle.pulsar_link.specs.Messages.{Reply}
+use Rattle.pulsar_link.specs.Refusals.{refused}
 use Rattle.pulsar_link.specs.Request.{is_answered, request_number}
 use Rattle.pulsar_plans.specs.Plans as search
 use Rattle.pulsar_plans.specs.declared.plan.Answer.{Answer}
 use Rattle.pulsar_plans.specs.declared.plan.Plan.{Plan as Search}
 use Rattle.pulsar_plans.specs.declared.turn.Action.{Action as Wish}
+use Rattle.pulsar_plans.specs.declared.turn.Action.TheVariants as wish
 use Rattle.pulsar_plans.specs.declared.turn.Turn.{Turn as SearchTurn}
 use Rattle.pulsar_plans.specs.declared.turn.Turn.TheVariants as search_turn
 use Rattle.pulsar_plans.specs.declared.turn.Ways.{Ways}
@@ -42,7 +44,7 @@ use Rattle.pulsar_client.specs.declared.plans.plan.Plan.TheVariants.{Building, G
 use Rattle.pulsar_client.specs.declared.plans.plan.Turn.{Turn}
 use Rattle.pulsar_client.specs.declared.plans.plan.Turn.TheVariants.{Stays, Gives}
 use Rattle.pulsar_client.specs.declared.plans.plan.Wanted.{Wanted}
-use Rattle.pulsar_client.specs.Plan.{action_of, begins, builds, goes, goes_on_sending, goes_round, gathers, halted, in_asking, in_awaiting, in_finding, in_passing, in_turning, is_answer, is_sent, leaves, news_in, news_of, overrides, sends_stay, stands, told, told_at, told_send, visited, waits, wished}
+use Rattle.pulsar_client.specs.Plan.{action_of, asks_of, begins, builds, fails_in, goes, goes_on_sending, goes_round, gathers, halted, in_asking, in_awaiting, in_finding, in_passing, in_turning, is_answer, is_sent, leaves, news_in, news_of, overrides, sends_stay, stands, told, told_at, told_send, visited, waits, wished}
 
 -- where a turn stays, the plan and what it does are so
 abbrev pub StaysSo : (Plan → Action → Type 0) → Turn Plan Verdict → Type 0
@@ -113,7 +115,9 @@ abbrev pub Goes : (Plan → Bool) → Plan → Action → Type 0
 Goes k plan action = (k plan ≡ true) × TellsSo action
 
 wish_tells : (x : Wish) → TellsSo (wished x)
-wish_tells _ = tt
+wish_tells (wish.Get p) = tt
+wish_tells (wish.Ask l request) = tt
+wish_tells (wish.Wait delay) = tt
 
 deed_tells : (d : Deed) → TellsSo (action_of d)
 deed_tells (deed.Does x) = wish_tells x
@@ -170,9 +174,12 @@ turning_goes r n left (outcome.Granted _) = tt
 turning_goes r n left _ = tt
 
 finding_goes : (r : Round) (n : ℕ) (left : List ℕ) (u : Outcome) → StaysSo (Goes is_visiting) (in_finding r n left u)
+finding_goes r n left (outcome.GotLink l) = (refl, tt)
 finding_goes r n left _ = (refl, tt)
 
 asking_goes : (r : Round) (n : ℕ) (left : List ℕ) (u : Outcome) → StaysSo (Goes is_visiting) (in_asking r n left u)
+asking_goes r n left outcome.Queued = (refl, tt)
+asking_goes r n left outcome.InLine = (refl, tt)
 asking_goes r n left _ = (refl, tt)
 
 passing_goes : (r : Round) (n : ℕ) (left : List ℕ) (u : Outcome) → StaysSo (Goes is_visiting) (in_passing r n left u)
@@ -181,7 +188,8 @@ passing_goes r n left (outcome.Granted _) = tt
 passing_goes r n left _ = tt
 
 visited_goes : (r : Round) (left : List ℕ) (n : ℕ) (reply : Reply) → StaysSo (Goes is_visiting) (visited r left n reply)
-visited_goes r left n reply = either_so (Goes is_visiting) (is_answer (request_number _) reply.content.body) _ _ (round_goes r left) tt
+visited_goes r left n reply = 
+    either_so (Goes is_visiting) (is_answer (request_number (asks_of r n)) reply.content.body) (goes_round r left) (fails_in r (refused reply reply.content.body)) (round_goes r left) tt
 
 awaiting_goes : (r : Round) (n : ℕ) (left : List ℕ) (u : Outcome) → StaysSo (Goes is_visiting) (in_awaiting r n left u)
 awaiting_goes r n left (outcome.Replied reply) = visited_goes r left n reply
@@ -203,12 +211,14 @@ shut_goes ns _ = tt
 -- ALL
 
 pub told_goes : (plan : Plan) (u : Outcome) → StaysSo (Goes (KindOf plan)) (told plan u)
+told_goes Building (outcome.GotLink l) = tt
 told_goes Building _ = tt
 told_goes (Getting request s) (outcome.GotLink l) = (refl, tt)
 told_goes (Getting request s) _ = tt
 told_goes (Asking w) outcome.Queued = waits_goes w
 told_goes (Asking w) outcome.InLine = stands_goes w
 told_goes (Asking w) _ = tt
+told_goes (Awaiting w) (outcome.Replied r) = tt
 told_goes (Awaiting w) _ = tt
 told_goes (Searching w s) outcome.Queued = (refl, tt)
 told_goes (Searching w s) outcome.InLine = (refl, tt)
@@ -223,6 +233,7 @@ told_goes (Gathering first count left failures) (outcome.Parted t f) = gathers_g
 told_goes (Gathering first count left failures) _ = tt
 told_goes (Shutting ns) u = shut_goes ns u
 told_goes (Visiting r n left x) u = either_so (Goes is_visiting) (overrides u) _ _ tt (visit_goes r n left x u)
+told_goes Stopping outcome.Stopped = tt
 told_goes Stopping _ = tt
 
 -- what a procedure begins
@@ -243,7 +254,7 @@ begins_goes (procedure.Ask (Link l) request s) = (refl, tt)
 begins_goes (procedure.Search w what) = search_goes w (search.begins w what)
 begins_goes (procedure.Produce w o) = build_goes w o (produce.build_begins w o)
 begins_goes (procedure.Send w e share m) = send_goes w e share (produce.send_begins e m)
-begins_goes (procedure.FailShare share r) = leaves_goes (Some share) _
+begins_goes (procedure.FailShare share r) = (refl, refl)
 begins_goes (procedure.Gather first count) = gathers_goes first count count []
 begins_goes (procedure.Go round ns) = round_goes round ns
 begins_goes (procedure.Close t ns) = (refl, tt)

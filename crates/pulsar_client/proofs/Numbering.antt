@@ -6,9 +6,10 @@ use Rattle.std.proofs.lemmas.Bool.Decides.{nat_tests}
 use Rattle.std.specs.Option.{is_some, option_map}
 use Rattle.pulsar_messages.specs.Content.{ProducerMessageValues}
 use Rattle.pulsar_run.specs.Laws.{In}
-use Rattle.pulsar_session.specs.Failures.{Failure, Fault}
+use Rattle.pulsar_session.specs.Failures.{Failure, Fault, OfConnection}
 use Rattle.pulsar_session.specs.Link.{is_spent}
 use Rattle.pulsar_link.specs.Messages.{Reply}
+use Rattle.pulsar_link.specs.Refusals.{refused}
 use Rattle.pulsar_link.specs.Request.{is_answered, named_producer, request_number, subscribed}
 use Rattle.pulsar_link.specs.declared.content.Subscribed.{Subscribed}
 use Rattle.pulsar_plans.specs.Address.{Named}
@@ -22,8 +23,9 @@ use Rattle.pulsar_plans.specs.declared.plan.Plan.{Plan as Search}
 use Rattle.pulsar_plans.specs.declared.turn.Turn.{Turn as SearchTurn}
 use Rattle.pulsar_plans.specs.declared.turn.Turn.TheVariants as search_turn
 use Rattle.pulsar_plans.specs.declared.turn.Ways.{Ways}
+use Rattle.pulsar_producer.specs.Commands.{command}
 use Rattle.pulsar_producer.specs.Plans as produce
-use Rattle.pulsar_producer.specs.Plans.{Builds, build_closes, build_made, build_makes, build_names, build_next}
+use Rattle.pulsar_producer.specs.Plans.{fault_told, Builds, build_closes, build_made, build_makes, build_names, build_next}
 use Rattle.pulsar_producer.specs.Producer as producer
 use Rattle.pulsar_producer.specs.Topic as topic
 use Rattle.pulsar_producer.specs.declared.building.Building.{Building as Build}
@@ -54,7 +56,7 @@ use Rattle.pulsar_client.specs.declared.plans.plan.Plan.TheVariants.{Building, G
 use Rattle.pulsar_client.specs.declared.plans.plan.Turn.{Turn}
 use Rattle.pulsar_client.specs.declared.plans.plan.Turn.TheVariants.{Stays, Gives}
 use Rattle.pulsar_client.specs.declared.plans.plan.Wanted.{Wanted}
-use Rattle.pulsar_client.specs.Plan.{begins, builds, gathers, goes, goes_on_sending, goes_round, halted, in_asking, in_awaiting, in_finding, in_passing, in_turning, is_answer, is_sent, leaves, makes_of, news_in, news_of, overrides, sends_stay, stands, told, told_at, told_send, visited, waits}
+use Rattle.pulsar_client.specs.Plan.{asks_of, begins, builds, fails_in, gathers, goes, goes_on_sending, goes_round, halted, in_asking, in_awaiting, in_finding, in_passing, in_turning, is_answer, is_sent, leaves, makes_of, news_in, news_of, overrides, sends_stay, stands, told, told_at, told_send, visited, waits}
 use Rattle.pulsar_client.proofs.Acts.{Each, each_append}
 
 -- WHAT A PLAN HAS DRAWN
@@ -129,8 +131,8 @@ module _ (Q : ℕ → Type 0) where
   build_sound w o (build.Naming n) (news.Told x) k q = names_sound (search.names_told w o.topic n x)
   build_sound w o (build.Naming n) _ k q = tt
   build_sound w o (build.Numbering p) (news.Numbered m) k q =
-      makes_sound _ m p.left p.made (search.made_gets 0 p.place) (each_append Q (map number_of p.made) (m ∷ []) k (q m refl, tt))
-  build_sound w o (build.Numbering p) _ k q = closes_sound p.made _
+      makes_sound (command p.topic m o.name o.options) m p.left p.made (search.made_gets 0 p.place) (each_append Q (map number_of p.made) (m ∷ []) k (q m refl, tt))
+  build_sound w o (build.Numbering p) y k q = closes_sound p.made (OfConnection (fault_told y))
   build_sound w o (build.Making c x m left made) (news.Told y) k q = makes_sound c m left made (search.made_told w c x y) k
   build_sound w o (build.Making c x m left made) _ k q = k
   build_sound w o (build.Closing left f) (news.Told x) k q = closes_sound left f
@@ -169,7 +171,8 @@ module _ (Q : ℕ → Type 0) where
   round_sound r (n ∷ ns) = tt
 
   visited_sound : (r : Round) (left : List ℕ) (n : ℕ) (reply : Reply) → TurnSound Q (visited r left n reply)
-  visited_sound r left n reply = either_sound (is_answer (request_number _) reply.content.body) _ _ (round_sound r left) tt
+  visited_sound r left n reply = 
+      either_sound (is_answer (request_number (asks_of r n)) reply.content.body) (goes_round r left) (fails_in r (refused reply reply.content.body)) (round_sound r left) tt
 
   turning_sound : (r : Round) (n : ℕ) (left : List ℕ) (u : Outcome) → TurnSound Q (in_turning r n left u)
   turning_sound r n left (outcome.Granted (news.HasTurn version)) = tt
@@ -177,9 +180,12 @@ module _ (Q : ℕ → Type 0) where
   turning_sound r n left _ = tt
 
   finding_sound : (r : Round) (n : ℕ) (left : List ℕ) (u : Outcome) → TurnSound Q (in_finding r n left u)
+  finding_sound r n left (outcome.GotLink l) = tt
   finding_sound r n left _ = tt
 
   asking_sound : (r : Round) (n : ℕ) (left : List ℕ) (u : Outcome) → TurnSound Q (in_asking r n left u)
+  asking_sound r n left outcome.Queued = tt
+  asking_sound r n left outcome.InLine = tt
   asking_sound r n left _ = tt
 
   passing_sound : (r : Round) (n : ℕ) (left : List ℕ) (u : Outcome) → TurnSound Q (in_passing r n left u)

@@ -16,7 +16,7 @@ use Rattle.pulsar_client.specs.View.{Options, Seat, View, answer_at, asker_at, h
 
 module _ (who : Who) (now l : ℕ) (request : Words) where
   seat_slow : (row : Option Seat) → answer_at now request row ≡ Err error.SlowDown → option_map (seat_asked who now request) row ≡ option_map (seat_ticked now) row
-  seat_slow None h = refl
+  seat_slow None h i = None
   seat_slow (Some seat) h i = Some (record {
     address = seat.address;
     seen = slow_down_changes_nothing now request seat.seen h i;

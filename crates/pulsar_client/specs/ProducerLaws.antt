@@ -75,13 +75,13 @@ drawn_by (Some room) = topic.Draws ∷ []
 
 abbrev pub shut_by : (number : ℕ) → List ℕ → List TopicAct
 shut_by n [] = []
-shut_by n (m ∷ ms) = if m == n then topic.Closes ∷ shut_by n ms else shut_by n ms
+shut_by n (m ∷ ms) = if n == m then topic.Closes ∷ shut_by n ms else shut_by n ms
 
 abbrev pub topic_acts : View → (number : ℕ) → Act → List TopicAct
-topic_acts v n (Does who (TakeTurn m)) = if m == n then topic.Takes (rank who).1 ∷ [] else []
-topic_acts v n (Does who (PassTurn m)) = if m == n then topic.Passes ∷ [] else []
-topic_acts v n (Does who (Draw m)) = if m == n then drawn_by (room_of v m) else []
-topic_acts v n (Does who (Remake r)) = if r.number == n then topic.Remakes r.link r.given ∷ [] else []
+topic_acts v n (Does who (TakeTurn m)) = if n == m then topic.Takes (rank who).1 ∷ [] else []
+topic_acts v n (Does who (PassTurn m)) = if n == m then topic.Passes ∷ [] else []
+topic_acts v n (Does who (Draw m)) = if n == m then drawn_by (room_of v m) else []
+topic_acts v n (Does who (Remake r)) = if n == r.number then topic.Remakes r.link r.given ∷ [] else []
 topic_acts v n (Does who (Shut t)) = shut_by n (numbers_at (v.producers.built t))
 topic_acts v n _ = []
 

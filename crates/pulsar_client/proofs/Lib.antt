@@ -62,3 +62,8 @@ pub mod Taking
 pub mod Calling
 pub mod Granting
 pub mod Sending
+pub mod Drawing
+pub mod Free
+pub mod Topics
+pub mod Holding
+pub mod Turns

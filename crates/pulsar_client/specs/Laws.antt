@@ -1,7 +1,7 @@
 -- What follows from the definition of a good run, in plain words.
-use Rattle.std.specs.Prelude.{◌≡◌, ◌⊎◌, ℕ, ◌+◌, ◌-◌, ◌^◌, ◌≤◌, ◌<◌, ◌==◌, bytes_eq, ◌&&◌, ◌||◌, not, Bool, true, false, if◌then◌else◌, List, [], ◌∷◌, ◌++◌, map, Option, Some, None, Result, Ok, Err, pos}
+use Rattle.std.specs.Prelude.{◌≡◌, ◌⊎◌, ℕ, ◌+◌, ◌-◌, ◌^◌, ◌≤◌, ◌==◌, bytes_eq, ◌&&◌, ◌||◌, not, Bool, true, false, if◌then◌else◌, List, [], ◌∷◌, ◌++◌, map, Option, Some, None, Result, Ok, Err, pos}
 use Rattle.std.specs.List.{flat_map, list_any}
-use Rattle.std.specs.Option.{is_some, option_map, option_to_list}
+use Rattle.std.specs.Option.{is_some, option_to_list}
 use Rattle.pulsar_run.specs.Laws as run
 use Rattle.pulsar_run.specs.Laws.{Arises, In, InThisStep}
 use Rattle.pulsar_run.specs.Order.{AllInOrder, InOrder, arranged}

@@ -104,7 +104,8 @@ module _ (asked : Asked) (advice : List (Option ℕ)) where
 
   called_raised : (v : View) → Each (IsRaised call) (called v advice asked)
   called_raised v =
-      each_either (IsRaised call) (lacks_tickets v.calls.drawn (shares asked)) (Answers (Call (2 ^ 64 - 1)) (fails Exhausted) ∷ []) (starts v advice asked) (refl, tt)
+      each_either (IsRaised call) (lacks_tickets v.calls.drawn (shares asked)) (Answers (Call (2 ^ 64 - 1)) (fails Exhausted) ∷ [])
+      (starts v advice asked) (refl, tt)
       (refl, parts_raised v asked)
 
 -- PLANS
@@ -117,7 +118,8 @@ follows_raised : (a : Act) (who : Who) (turn : Turn Plan Verdict) → may OfDeed
 follows_raised a who (Stays plan action) d e = does_raised a who action d
 follows_raised a who (Gives verdict) d e = (e, tt)
 
-some_raised : (a : Act) (who : Who) (turn : Option (Turn Plan Verdict)) → may OfDeed a ≡ true → may OfVerdict a ≡ true → Each (IsRaised a) (follows_some who turn)
+some_raised : (a : Act) (who : Who) (turn : Option (Turn Plan Verdict)) → may OfDeed a ≡ true → may OfVerdict a ≡ true →
+    Each (IsRaised a) (follows_some who turn)
 some_raised a who None d e = tt
 some_raised a who (Some turn) d e = follows_raised a who turn d e
 

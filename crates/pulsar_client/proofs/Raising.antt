@@ -99,7 +99,8 @@ follows_raised : (a : Act) (who : Who) (turn : Turn Plan Verdict) → may OfDeed
 follows_raised a who (Stays plan action) d e = does_raised a who action d
 follows_raised a who (Gives verdict) d e = (e, tt)
 
-some_raised : (a : Act) (who : Who) (turn : Option (Turn Plan Verdict)) → may OfDeed a ≡ true → may OfVerdict a ≡ true → Each (IsRaised a) (follows_some who turn)
+some_raised : (a : Act) (who : Who) (turn : Option (Turn Plan Verdict)) → may OfDeed a ≡ true → may OfVerdict a ≡ true →
+    Each (IsRaised a) (follows_some who turn)
 some_raised a who None d e = tt
 some_raised a who (Some turn) d e = follows_raised a who turn d e
 

@@ -154,6 +154,7 @@ impl Tables {
         ensures settings { self.new.settings ≡ self.old.settings }
     {
         if self.names(call.named_producer())? {
+            drop(call);
             return Ok(Procedure::Refuse(Refusal::NumberInUse));
         }
         Ok(Procedure::Ask {

@@ -245,3 +245,96 @@ draw_by : (v : View) (action : Action) (d : Drawn) → GivenBy v action (news.Dr
     (n : ℕ) × (action ≡ Draw n) × (room : Bool) × (room_of v n ≡ Some room) × (drawn room (v.producers.topics n) ≡ Some d)
 draw_by v (Draw n) d h = (n, refl, h.0, h.1, h.2)
 draw_by v _ d h = absurd h
+
+-- THE LAW
+
+module _ (o : Options) (log : List Entry) (t l n s : ℕ) (name : List ℕ) (m : ProducerMessageValues) (block : Bool) (w : Ways) (e : Errand) (share : Option Share)
+    (given : ProducerMessageValues) (run : IsRun o (Then (Does (Call t) (Ask l (words.Send n name s m block))) ∷ log))
+    (h : started (Call t) log ≡ Some (procedure.Send w e share given)) where
+  abbrev sent : Action
+  sent = Ask l (words.Send n name s m block)
+
+  it : IsSendLed o log t e given sent
+  it = send_led o log t w e share given sent run refl h
+
+  -- the message, the draw before it, and what is seen between
+  record IsFramed : Type 0 where
+    version : Option (List ℕ)
+    message : m ≡ with_version version given
+    was_told : WasTold log t version
+    producer : n ≡ e.producer
+    blocks : block ≡ e.block
+    has : (row : Topic) × ((view o log).producers.topics e.producer ≡ Some row) × (row.seen.holder ≡ Some t)
+    before : Topic
+    after : (view o log).producers.topics e.producer ≡ Some (topic_after Draws before)
+    left : is_spent before.seen.next ≡ false
+    number : s ≡ before.seen.next
+    link : l ≡ before.seen.link
+    called : name ≡ before.seen.given.name
+
+  framed : (k : IsSendLed o log t e given sent) → IsFramed
+  framed k =
+      let led = k.led in
+      let a = k.asks in
+      let d : Drawn = a.0 in
+      let run1 : IsRun o (Then (Told (notice (Call t) led.outcome)) ∷ led.older) = subst (IsRun o) led.is_there run.0 in
+      let note : Notice = notice (Call t) led.outcome in
+      let g : IsGrantedBy o led.older note = granted_by o led.older note (ap is_grant a.1) run1 in
+      let b = draw_by (view o g.older) g.action d (grants_given o led.older note g (news.Drew d) a.1) in
+      let there : led.older ≡ Then (Does (Call t) (Draw b.0)) ∷ g.older = g.is_there ∙ ap (λ (x : Action). Then (Does (Call t) x) ∷ g.older) b.1 in
+      let run2 : IsRun o (Then (Does (Call t) (Draw b.0)) ∷ g.older) = subst (IsRun o) there run1.0 in
+      let h2 : started (Call t) g.older ≡ Some (procedure.Send w e share given) =
+      ap (started (Call t)) (sym there) ∙ ap (started (Call t)) (sym led.is_there) ∙ h in
+      let num : b.0 ≡ e.producer = (send_led o g.older t w e share given (Draw b.0) run2 refl h2).asks in
+      let x : IsDrawn b.2 ((view o g.older).producers.topics b.0) d = is_drawn b.2 ((view o g.older).producers.topics b.0) d b.4 in
+      let ps : Producers = (view o g.older).producers in
+      let now : (view o log).producers.topics b.0 ≡ Some (topic_after Draws x.topic) =
+      ap (λ y. (view o y).producers.topics b.0) led.is_there
+      ∙ ap (λ y. (view o y).producers.topics b.0) there
+      ∙ ap (λ r. (draws_on r b.0 ps).topics b.0) b.3
+      ∙ changed_at Draws ps b.0 x.topic x.is_it in
+      let stood : (view o log).stand (Call t) ≡ Some (Sending a.8 e a.9 (send.Asked a.10)) =
+      ap (λ y. (view o y).stand (Call t)) led.is_there ∙ stand_told o led.older t led.outcome led.before led.plan sent led.stood led.leads ∙ ap Some a.11 in
+      record {
+        version = a.7.0;
+        message = a.7.1;
+        was_told = a.7.2;
+        producer = a.3;
+        blocks = a.6;
+        has = queued_in_turn_lem o log t a.8 e a.9 a.10 run.0 stood;
+        before = x.topic;
+        after = ap (view o log).producers.topics (sym num) ∙ now;
+        left = x.left;
+        number = a.5 ∙ x.number;
+        link = a.2 ∙ x.link;
+        called = a.4 ∙ x.name;
+      }
+
+  drawn_row : (k : IsFramed) → k.has.0 ≡ topic_after Draws k.before
+  drawn_row k = let f : Some k.has.0 ≡ Some (topic_after Draws k.before) = sym k.has.1 ∙ k.after in cc
+
+  next_is : (k : IsFramed) → (topic_after Draws k.before).seen.next ≡ k.before.seen.next + 1
+  next_is k = ap (λ b. (cond b k.before.seen (record k.before.seen { next = k.before.seen.next + 1 })).next) k.left
+
+  link_is : (k : IsFramed) → (topic_after Draws k.before).seen.link ≡ k.before.seen.link
+  link_is k = ap (λ b. (cond b k.before.seen (record k.before.seen { next = k.before.seen.next + 1 })).link) k.left
+
+  name_is : (k : IsFramed) → (topic_after Draws k.before).seen.given.name ≡ k.before.seen.given.name
+  name_is k = ap (λ b. (cond b k.before.seen (record k.before.seen { next = k.before.seen.next + 1 })).given.name) k.left
+
+pub frames_are_of_their_sends_lem : FramesAreOfTheirSends
+frames_are_of_their_sends_lem o log t l n s name m block w e share given run h =
+    let k = framed o log t l n s name m block w e share given run h (it o log t l n s name m block w e share given run h) in
+    let q : k.has.0 ≡ topic_after Draws k.before = drawn_row o log t l n s name m block w e share given run h k in (
+      k.has.0,
+      k.version,
+      ap (view o log).producers.topics k.producer ∙ k.has.1,
+      k.producer,
+      k.blocks,
+      k.has.2,
+      ap (λ r. r.seen.link) q ∙ link_is o log t l n s name m block w e share given run h k ∙ sym k.link,
+      ap (λ r. r.seen.given.name) q ∙ name_is o log t l n s name m block w e share given run h k ∙ sym k.called,
+      ap (λ r. r.seen.next) q ∙ next_is o log t l n s name m block w e share given run h k ∙ ap (λ x. x + 1) (sym k.number),
+      k.message,
+      k.was_told,
+    )

@@ -33,7 +33,7 @@ use Rattle.pulsar_client.specs.Content.{Asked}
 use Rattle.pulsar_client.specs.Laws.{Cause, FailuresAreTold, OutcomesAreCaused, outcomes, started}
 use Rattle.pulsar_client.specs.Plan.{begins}
 use Rattle.pulsar_client.specs.Producers.{Producers, advice, errand_of, next_advice, numbers_at, routed, why_not}
-use Rattle.pulsar_client.specs.Rules.{asks_raw, asks_topics, builds_with, checks, closes, fails_as, flushes, from_base, gathers, is_taken, notice, order_of, parts_of, performs, procedure_for, produces, produces_by, produces_from, searches, sends, sends_as, sends_by, share, shares_of, shares_unless, starts, unless, unless_refused, why_no_sends}
+use Rattle.pulsar_client.specs.Rules.{asks_raw, asks_topics, builds_with, checks, closes, fails_as, flushes, from_base, gathers, is_taken, order_of, parts_of, procedure_for, produces, produces_by, produces_from, searches, sends, sends_as, sends_by, share, shares_of, shares_unless, starts, unless, unless_refused, why_no_sends}
 use Rattle.pulsar_client.specs.Run.{Entry, Begins, Then, IsRun, view}
 use Rattle.pulsar_client.specs.View.{Chosen, Options, Tickets, View, may_call, ways_of}
 use Rattle.pulsar_client.specs.Who.{is_same}

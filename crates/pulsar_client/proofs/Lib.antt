@@ -16,7 +16,6 @@ pub mod Steps
 pub mod Sorting
 pub mod Acts
 pub mod Quiet
-pub mod Proper
 pub mod Natures
 pub mod Granted
 pub mod Numbering

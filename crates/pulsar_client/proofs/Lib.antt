@@ -15,6 +15,7 @@ pub mod Saying
 pub mod Steps
 pub mod Sorting
 pub mod Acts
+pub mod Quiet
 pub mod Natures
 pub mod Granted
 pub mod Numbering

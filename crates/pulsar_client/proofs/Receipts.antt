@@ -47,7 +47,7 @@ use Rattle.pulsar_client.specs.declared.act.Share.{Share}
 use Rattle.pulsar_client.specs.declared.act.Who.{Who}
 use Rattle.pulsar_client.specs.declared.act.Who.TheVariants.{Call}
 use Rattle.pulsar_client.specs.Content.{Heard, Bytes}
-use Rattle.pulsar_client.specs.Laws.{Cause, counted, start_of, started}
+use Rattle.pulsar_client.specs.Laws.{Cause, calls_of, counted, start_of, started}
 use Rattle.pulsar_client.specs.Links.{closed_by, settled_in}
 use Rattle.pulsar_client.specs.ProducerLaws.{ReceiptsAreOwn}
 use Rattle.pulsar_client.specs.Rules.{notice}
@@ -98,8 +98,8 @@ lives : (o : Options) (log : List Entry) (l : ℕ) (seat : Seat) → (view o log
 lives o log l seat h =
     let k = links_alone_lem o log l seat h in
     record {
-      room = subst IsInLine (sym k.2) (none_stands_beside_room k.0 _);
-      soon = subst Early (sym k.2) (early k.0 _);
+      room = subst IsInLine (sym k.2) (none_stands_beside_room k.0 (calls_of o l log));
+      soon = subst Early (sym k.2) (early k.0 (calls_of o l log));
     }
 
 left_before : (settled : List ℕ) (f : ℕ → Option Who) (p : ℕ) (w : Who) → askers_left settled f p ≡ Some w → f p ≡ Some w
@@ -178,7 +178,7 @@ begun_sits : (o : Options) (log : List Entry) (e : Heard) (l : ℕ) → SitsAt l
 begun_sits o log e l k =
     let row : Option Seat = (view o log).links.live l in
     let more : SitsAt (Begins e ∷ log) l row = sits_more (Begins e) log l row k in
-    elim (is_live (view o log) e) as (λ b. SitsAt (Begins e ∷ log) l (cond b (begun_live e (view o log)) (view o log)).links.live l) [
+    elim (is_live (view o log) e) as (λ b. SitsAt (Begins e ∷ log) l ((cond b (begun_live e (view o log)) (view o log)).links.live l)) [
       | true ↦ heard_sits (Begins e ∷ log) l e row more
       | false ↦ more
     ]

@@ -1,24 +1,18 @@
 -- A call fails with what it was told.
 use Rattle.std.proofs.Common.{◌≡◌, ◌⊎◌, inl, inr, ◌∙◌, sym, ap, subst, ℕ, List, [], ◌∷◌, ◌++◌, refl, Bool, true, false, ◌&&◌, ◌||◌, not, cond, Option, Some, None, Result, Ok, Err, append-nil, ◌==◌, ◌-◌}
-use Rattle.std.proofs.lemmas.Bool.{cases_Bool}
 use Rattle.std.specs.List.{list_any}
 use Rattle.std.specs.Option.{is_some}
 use Rattle.pulsar_run.specs.Laws.{In}
-use Rattle.pulsar_messages.specs.Content.{ProducerMessageValues}
-use Rattle.pulsar_messages.specs.Words.{Words}
-use Rattle.pulsar_session.specs.Failures.{DiscoveryFault, Failure, Fault, OfConnection, OfDiscovery, OfPartialSend}
+use Rattle.pulsar_session.specs.Failures.{DiscoveryFault, Failure, OfConnection, OfDiscovery, OfPartialSend}
 use Rattle.pulsar_session.specs.Reply.{Reply as Content}
 use Rattle.pulsar_link.specs.Messages.{Reply, Written}
 use Rattle.pulsar_link.specs.Refusals.{refused}
 use Rattle.pulsar_link.specs.Request.{is_answered, request_number}
-use Rattle.pulsar_plans.specs.Address.{Place}
 use Rattle.pulsar_plans.specs.Plans as search
 use Rattle.pulsar_plans.specs.Replies.{in_discovery, unexpected}
 use Rattle.pulsar_plans.specs.declared.plan.Answer.{Answer}
 use Rattle.pulsar_plans.specs.declared.plan.Answer.TheVariants as answer
 use Rattle.pulsar_plans.specs.declared.plan.Plan.{Plan as Search}
-use Rattle.pulsar_plans.specs.declared.plan.Procedure.{Procedure as Sought}
-use Rattle.pulsar_plans.specs.declared.plan.Procedure.TheVariants as sought
 use Rattle.pulsar_plans.specs.declared.turn.Outcome.{Outcome as News}
 use Rattle.pulsar_plans.specs.declared.turn.Outcome.TheVariants as news
 use Rattle.pulsar_plans.specs.declared.turn.Turn.{Turn as SearchTurn}
@@ -27,12 +21,10 @@ use Rattle.pulsar_plans.specs.declared.turn.Ways.{Ways}
 use Rattle.pulsar_producer.specs.Errors.{in_producer}
 use Rattle.pulsar_producer.specs.Plans as produce
 use Rattle.pulsar_producer.specs.Plans.{fault_told}
-use Rattle.pulsar_producer.specs.Wanted.{ProducerWanted}
 use Rattle.pulsar_producer.specs.declared.building.Building.{Building as Build}
 use Rattle.pulsar_producer.specs.declared.building.Order.{Order}
 use Rattle.pulsar_producer.specs.declared.content.Built.{Built}
 use Rattle.pulsar_producer.specs.declared.deed.Deed.{Deed as Wish}
-use Rattle.pulsar_producer.specs.declared.deed.News.{News as Granting}
 use Rattle.pulsar_producer.specs.declared.deed.News.TheVariants as granting
 use Rattle.pulsar_producer.specs.declared.deed.Step.{Step}
 use Rattle.pulsar_producer.specs.declared.deed.Step.TheVariants as step
@@ -61,10 +53,10 @@ use Rattle.pulsar_client.specs.declared.plans.plan.Turn.TheVariants.{Stays, Give
 use Rattle.pulsar_client.specs.Content.{Said, Done, Receipt, Replies, Failed}
 use Rattle.pulsar_client.specs.Laws.{Deed, Acted, Answered, FailsSo, IsRefused, IsRefusedShare, IsTold, IsTurned, IsDenied, IsUnexpected, IsInProducer, IsUnexpectedInProducer, IsPartial, IsAnswered, DeniesSo, acted, course, fails_in_producer, has_failed, number_in, ways_in}
 use Rattle.pulsar_client.specs.Links.{numbers_from}
-use Rattle.pulsar_client.specs.Parts.{failed_with, outcomes_of, sent_from, sent_with}
-use Rattle.pulsar_client.specs.Plan.{asks, asks_of, begins, builds, fails, fails_in, fails_with, failure_in, failure_of, fault_of, found, found_so, gathers, goes, goes_on_sending, goes_round, halted, in_asking, in_awaiting, in_finding, in_passing, in_turning, is_answer, is_sent, leaves, news_in, news_of, overrides, parted, receipt_said, receipted, sends_stay, stands, told, told_at, told_send, tells, verdict, visited, waits, wanted}
-use Rattle.pulsar_client.proofs.Acts.{is_proper}
+use Rattle.pulsar_client.specs.Parts.{failed_with, outcomes_of, sent_from}
+use Rattle.pulsar_client.specs.Plan.{asks_of, begins, builds, fails, fails_in, fails_with, failure_in, failure_of, fault_of, found, gathers, goes, goes_on_sending, goes_round, halted, is_answer, is_sent, leaves, news_in, news_of, overrides, parted, receipt_said, sends_stay, told, told_at, tells, verdict, visited}
 use Rattle.pulsar_client.proofs.Productions.{AllowsBreaks, AllowsReply, BuildKeeps, Ends, SendKeeps, building_begins, building_ends, sending_ends}
+use Rattle.pulsar_client.proofs.Proper.{is_proper}
 use Rattle.pulsar_client.proofs.Searches.{Breaks, ByFault, BySearch, ByReply, Keeps, Turns, is_search, is_sought, keeps_begins, keeps_told}
 
 -- FAULTS

@@ -24,7 +24,8 @@ use Rattle.pulsar_client.specs.Rules.{at_once, called, does, follows, follows_so
 use Rattle.pulsar_client.specs.Run.{Entry, Begins, Then, IsRun, Agenda, agenda, first, view}
 use Rattle.pulsar_client.specs.View.{Options, View, stays, stays_some, told_some}
 use Rattle.pulsar_client.specs.Who.{is_same, rank}
-use Rattle.pulsar_client.proofs.Acts.{Each, IsQuiet, StartsIn, begun_same, comes_quiet, each_append, each_drop, each_map, first_case, is_served, none_now, performs_quiet, starts_in}
+use Rattle.pulsar_client.proofs.Acts.{Each, StartsIn, begun_same, each_append, each_drop, each_map, first_case, is_served, none_now, starts_in}
+use Rattle.pulsar_client.proofs.Quiet.{IsQuiet, comes_quiet, performs_quiet}
 use Rattle.pulsar_client.proofs.Ticketed.{Began, apart, has_begun}
 
 -- WHO

@@ -20,8 +20,9 @@ use Rattle.pulsar_client.specs.Plan.{begins, fails, told}
 use Rattle.pulsar_client.specs.Rules.{at_once, follows, follows_some, performs, starts}
 use Rattle.pulsar_client.specs.Run.{Entry, Begins, Then, agenda, view}
 use Rattle.pulsar_client.specs.View.{Options, View, told_some}
-use Rattle.pulsar_client.proofs.Acts.{Each, IsQuiet, comes_quiet, each_map, first_case, is_served, late}
+use Rattle.pulsar_client.proofs.Acts.{Each, each_map, first_case, is_served, late}
 use Rattle.pulsar_client.proofs.Follow.{NoDeed, follows_run, is_deed, left_plain, performs_none, quiet_no_deed, starts_none}
+use Rattle.pulsar_client.proofs.Quiet.{IsQuiet, comes_quiet}
 
 is_one : (w : Who) (d : Deed) → is_deed (act_of w d) ≡ true
 is_one w (Acted action) = refl

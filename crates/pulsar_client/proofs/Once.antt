@@ -31,8 +31,9 @@ use Rattle.pulsar_client.specs.Rules.{at_once, called, does, follows, follows_so
 use Rattle.pulsar_client.specs.Run.{Entry, Begins, Then, IsRun, agenda, first, view}
 use Rattle.pulsar_client.specs.View.{Chosen, Options, View, stays, stays_some, told_some}
 use Rattle.pulsar_client.specs.Who.{is_same}
-use Rattle.pulsar_client.proofs.Acts.{Each, IsQuiet, StartsIn, begun_same, comes_quiet, first_case, is_served, performs_quiet, starts_in}
+use Rattle.pulsar_client.proofs.Acts.{Each, StartsIn, begun_same, first_case, is_served, starts_in}
 use Rattle.pulsar_client.proofs.Follow.{same_is}
+use Rattle.pulsar_client.proofs.Quiet.{IsQuiet, comes_quiet, performs_quiet}
 use Rattle.pulsar_client.proofs.Ticketed.{apart}
 
 -- WHAT IS DUE

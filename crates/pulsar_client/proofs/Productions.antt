@@ -1,13 +1,12 @@
 -- Where the making of a producer fails, and a send: with the fault of the news that it was told, by what a reply says, or with what it
 -- kept to tell later.
-use Rattle.std.proofs.Common.{◌≡◌, ap, ℕ, List, [], ◌∷◌, refl, Bool, true, false, ◌&&◌, not, cond, Option, Some, None, Result, Ok, Err}
+use Rattle.std.proofs.Common.{◌≡◌, List, [], ◌∷◌, refl, Bool, true, false, cond, Option, Some, None, Result, Ok, Err}
 use Rattle.pulsar_messages.specs.Content.{ProducerMessageValues}
 use Rattle.pulsar_session.specs.Failures.{Failure, Fault, OfConnection}
 use Rattle.pulsar_session.specs.Reply.{Reply as Content, is_body}
 use Rattle.pulsar_plans.specs.Address.{Named}
-use Rattle.pulsar_plans.specs.Plans.{is_lost, look_begins, look_told, made_gets, made_told, names_begins, names_told, verdict}
+use Rattle.pulsar_plans.specs.Plans.{is_lost, look_told, made_gets, made_told, names_begins, names_told, verdict}
 use Rattle.pulsar_plans.specs.Replies.{unexpected}
-use Rattle.pulsar_plans.specs.declared.look.Looking.{Looking}
 use Rattle.pulsar_plans.specs.declared.making.Command.{Command}
 use Rattle.pulsar_plans.specs.declared.making.Making.{Making}
 use Rattle.pulsar_plans.specs.declared.making.Served.{Served}
@@ -17,11 +16,10 @@ use Rattle.pulsar_plans.specs.declared.turn.Turn.{Turn as SearchTurn}
 use Rattle.pulsar_plans.specs.declared.turn.Turn.TheVariants as search_turn
 use Rattle.pulsar_plans.specs.declared.turn.Ways.{Ways}
 use Rattle.pulsar_producer.specs.Errors.{in_producer}
-use Rattle.pulsar_producer.specs.Plans.{Builds, Sent, build_begins, build_closes, build_made, build_names, build_next, build_told, fault_told, in_asked, in_drawing, in_recalling, in_remaking, in_sent, in_waiting, not_drawn, not_queued, or_else, receipt, send_ends, send_looks, send_makes, send_recalls, send_remakes, send_told}
+use Rattle.pulsar_producer.specs.Plans.{Builds, Sent, build_begins, build_closes, build_made, build_next, build_told, fault_told, not_drawn, not_queued, or_else, receipt, send_ends, send_makes, send_recalls, send_remakes, send_told}
 use Rattle.pulsar_producer.specs.declared.building.Building.{Building}
 use Rattle.pulsar_producer.specs.declared.building.Building.TheVariants as build
 use Rattle.pulsar_producer.specs.declared.building.Order.{Order}
-use Rattle.pulsar_producer.specs.declared.building.Part.{Part}
 use Rattle.pulsar_producer.specs.declared.content.Built.{Built}
 use Rattle.pulsar_producer.specs.declared.deed.News.{News as Granting}
 use Rattle.pulsar_producer.specs.declared.deed.News.TheVariants as granting

@@ -1,5 +1,5 @@
 -- Where a search fails, and a command that is asked until it succeeds: with the fault of the news that it was told, or by what a reply says.
-use Rattle.std.proofs.Common.{◌≡◌, ◌⊎◌, inl, inr, ap, ℕ, List, [], ◌∷◌, refl, Bool, true, false, ◌&&◌, ◌||◌, cond, Option, Some, None, Result, Ok, Err, ◌==◌, ◌-◌}
+use Rattle.std.proofs.Common.{◌≡◌, ◌⊎◌, inl, inr, ap, ℕ, List, [], refl, Bool, true, false, ◌&&◌, ◌||◌, cond, Option, Some, None, Result, Ok, Err, ◌==◌, ◌-◌}
 use Rattle.std.specs.Prelude.{pos}
 use Rattle.pulsar_wire.specs.Field.{◌>>=◌}
 use Rattle.pulsar_wire.specs.Enumerations.{error_of}

@@ -1,5 +1,5 @@
 -- A call that begins has a ticket that was drawn, and never the greatest; and a consumer has that of a call that began.
-use Rattle.std.proofs.Common.{◌≡◌, ◌∙◌, sym, ap, subst, ℕ, ◌+◌, ◌<◌, arith, Bool, List, [], ◌∷◌, ◌++◌, refl, true, false, cond, ◌==◌, Option, Some, None, inl, inr}
+use Rattle.std.proofs.Common.{◌≡◌, ◌∙◌, sym, ap, subst, ℕ, ◌+◌, ◌<◌, arith, List, [], ◌∷◌, ◌++◌, refl, true, false, cond, ◌==◌, Option, Some, None, inl, inr}
 use Rattle.std.proofs.lemmas.Bool.{cases_Bool, eqb-true}
 use Rattle.std.proofs.lemmas.Bool.Decides.{nat_tests}
 use Rattle.std.specs.Option.{option_map}
@@ -35,7 +35,8 @@ use Rattle.pulsar_client.specs.Subscriptions.{Subscription, ended_at}
 use Rattle.pulsar_client.specs.Tables.{InStep}
 use Rattle.pulsar_client.specs.View.{Options, View, closing, consumer_after, drawn_after, made, stand_after, stays_some, told_some}
 use Rattle.pulsar_client.specs.Who.{is_same}
-use Rattle.pulsar_client.proofs.Acts.{Each, IsQuiet, StartsIn, begun_same, called_each, comes_quiet, each_append, each_first, each_map, each_rest, is_served, performs_quiet}
+use Rattle.pulsar_client.proofs.Acts.{Each, StartsIn, begun_same, called_each, each_append, each_first, each_map, each_rest, is_served}
+use Rattle.pulsar_client.proofs.Quiet.{IsQuiet, comes_quiet, performs_quiet}
 
 -- one whose ticket is not the greatest
 abbrev pub Began : Who → Type 0

@@ -9,7 +9,7 @@ ghost use Rattle.pulsar_client.specs.declared.plans.plan.Plan.TheVariants.{Produ
 use crate::act::{Action, Makes, Outcome, Verdict};
 use crate::content::{Building as Built, Made, Remade, Remaking, Said};
 use crate::effect::Answer;
-use crate::plans::plan::{Plan, Turn, failure, left};
+use crate::plans::plan::{Plan, Turn, error_of, fails, left, overrides};
 use crate::plans::search::{news_in, wished};
 use crate::plans::states::BuildState;
 use pulsar_link::content::Request;
@@ -18,7 +18,7 @@ use pulsar_plans::turn::Ways;
 use pulsar_producer::building::{self, Building, Builds, Order};
 use pulsar_producer::content::Parts;
 use pulsar_producer::deed::{Deed, News, Send, Step};
-use pulsar_wire::error::{ConnectionError, NoMemory};
+use pulsar_wire::error::NoMemory;
 use std::alloc::Global;
 
 /// A building begins.
@@ -39,10 +39,10 @@ pub fn told(
 ) -> Result<Turn<Plan, Verdict>, NoMemory>
     ensures { IfOk result (λ turn. turn ≡ told (Producing ways order building) outcome) }
 {
-    match outcome {
-        Outcome::Cut => Ok(Turn::Gives(failure(alloc, ConnectionError::Disconnected)?)),
-        Outcome::Stopped => Ok(Turn::Gives(failure(alloc, ConnectionError::Shutdown)?)),
-        outcome => tells(alloc, ways, order, building, outcome),
+    if overrides(&outcome) {
+        fails(alloc, error_of(outcome))
+    } else {
+        tells(alloc, ways, order, building, outcome)
     }
 }
 

@@ -68,3 +68,9 @@ pub mod Free
 pub mod Topics
 pub mod Holding
 pub mod Turns
+pub mod Claiming
+pub mod Frames
+pub mod Framing
+pub mod InTurn
+pub mod OnceSent
+pub mod TurnRun

@@ -131,12 +131,14 @@ module _ (A : Who → Awaited → Type 0) where
     each_append (IsBelow (v.waits.queued + 1)) v.waits.waiting (waits_for c v.waits) (below_next v.waits.queued v.waits.waiting l) (new_below c v.waits),
   )
 
-  line_end : (f : ℕ → Option Who) (n : ℕ) (xs : List Standing) (x : Standing) → LineSo A f n xs → ClaimOf A f (n + length xs) x.claim → LineSo A f n (xs ++ x ∷ [])
+  line_end : (f : ℕ → Option Who) (n : ℕ) (xs : List Standing) (x : Standing) → LineSo A f n xs → ClaimOf A f (n + length xs) x.claim →
+      LineSo A f n (xs ++ x ∷ [])
   line_end f n [] x h k = (subst (λ m. ClaimOf A f m x.claim) (let e : n + 0 ≡ n = omega arith in e) k, tt)
   line_end f n (y ∷ xs) x h k =
       (h.0, line_end f (n + 1) xs x h.1 (subst (λ m. ClaimOf A f m x.claim) (let e : n + length (y ∷ xs) ≡ n + 1 + length xs = omega arith in e) k))
 
-  put_claimed : (room waits : Bool) (frame : List ℕ) (c : Option Claim) (v : Seen) (f : ℕ → Option Who) (b : ℕ) → has_room v ≡ room → IsInLine v → Claimed A v f b →
+  put_claimed : (room waits : Bool) (frame : List ℕ) (c : Option Claim) (v : Seen) (f : ℕ → Option Who) (b : ℕ) → has_room v ≡ room → IsInLine v →
+      Claimed A v f b →
       ClaimOf A f (end_of_line v) c → Claimed A (put_in room waits frame c v) f b
   put_claimed true waits frame c v f b e h k s =
       let none : v.line ≡ [] = h e in
@@ -166,7 +168,8 @@ module _ (A : Who → Awaited → Type 0) where
 
   -- A FRAME COMES
 
-  challenged_claimed : (auth : Option AuthenticationValues) (v : Seen) (f : ℕ → Option Who) (b : ℕ) → IsInLine v → Claimed A v f b → Claimed A (challenged auth v) f b
+  challenged_claimed : (auth : Option AuthenticationValues) (v : Seen) (f : ℕ → Option Who) (b : ℕ) → IsInLine v → Claimed A v f b →
+      Claimed A (challenged auth v) f b
   challenged_claimed None v f b h k = k
   challenged_claimed (Some auth) v f b h k = plain_claimed (responds auth) v f b refl h k
 
@@ -184,7 +187,8 @@ module _ (A : Who → Awaited → Type 0) where
       (either_claimed (is 36 m) (challenged v.setup.auth v) (named_by (unready_in m.command.body) v) f b (challenged_claimed v.setup.auth v f b h k)
       (named_claimed (unready_in m.command.body) v f b k))
 
-  unless_claimed : (ps : List ℕ) (m : MessageValues) (v : Seen) (f : ℕ → Option Who) (b : ℕ) → IsInLine v → Claimed A v f b → Claimed A (reacts_unless ps m v) f b
+  unless_claimed : (ps : List ℕ) (m : MessageValues) (v : Seen) (f : ℕ → Option Who) (b : ℕ) → IsInLine v → Claimed A v f b →
+      Claimed A (reacts_unless ps m v) f b
   unless_claimed [] m v f b h k = reacts_claimed m v f b h k
   unless_claimed (p ∷ ps) m v f b h k = k
 
@@ -228,7 +232,8 @@ module _ (A : Who → Awaited → Type 0) where
 
   pub feeds_claimed : (piece : List ℕ) (v : Seen) (f : ℕ → Option Who) (b : ℕ) → Claimed A v f b → Claimed A (feeds piece v) f b
   feeds_claimed piece v f b k =
-      either_claimed (is_open v.stage) (record v { unread = v.unread ++ piece }) v f b (record { waiting = k.waiting; low = k.low; line = k.line; few = k.few }) k
+      either_claimed (is_open v.stage) (record v { unread = v.unread ++ piece }) v f b
+      (record { waiting = k.waiting; low = k.low; line = k.line; few = k.few }) k
 
   greets_claimed : (frame : Option (List ℕ)) (v : Seen) (f : ℕ → Option Who) (b : ℕ) → v.line ≡ [] → Claimed A v f b → Claimed A (greets_with frame v) f b
   greets_claimed None v f b e k = k
@@ -236,16 +241,19 @@ module _ (A : Who → Awaited → Type 0) where
       let q = queue_front frame None v f b [] k.waiting k.low tt in
       record { waiting = q.0; low = q.1; line = subst (LineSo A f (v.waits.queued + 1)) (sym e) tt; few = k.few }
 
-  opens_claimed : (stage : Stage) (v : Seen) (f : ℕ → Option Who) (b : ℕ) → (is_ready stage ≡ false → v.line ≡ []) → Claimed A v f b → Claimed A (opens_in stage v) f b
+  opens_claimed : (stage : Stage) (v : Seen) (f : ℕ → Option Who) (b : ℕ) → (is_ready stage ≡ false → v.line ≡ []) → Claimed A v f b →
+      Claimed A (opens_in stage v) f b
   opens_claimed Dialing v f b e k =
-      greets_claimed (frame_for (greeting v.setup)) (record v { stage = Handshaking }) f b (e refl) (record { waiting = k.waiting; low = k.low; line = k.line; few = k.few })
+      greets_claimed (frame_for (greeting v.setup)) (record v { stage = Handshaking }) f b (e refl)
+      (record { waiting = k.waiting; low = k.low; line = k.line; few = k.few })
   opens_claimed Handshaking v f b e k = k
   opens_claimed Ready v f b e k = k
   opens_claimed Over v f b e k = k
 
   -- A DRAIN
 
-  moved_claimed : (xs : List Standing) (v : Seen) (f : ℕ → Option Who) (b : ℕ) → Each (PendsSo A f) v.waits.waiting → Each (IsBelow v.waits.queued) v.waits.waiting →
+  moved_claimed : (xs : List Standing) (v : Seen) (f : ℕ → Option Who) (b : ℕ) → Each (PendsSo A f) v.waits.waiting →
+      Each (IsBelow v.waits.queued) v.waits.waiting →
       LineSo A f v.waits.queued xs → ((p : ℕ) (w : Who) → f p ≡ Some w → p < b) → Claimed A (moved_up xs v) f b
   moved_claimed [] v f b h l x few = record { waiting = h; low = l; line = tt; few = few }
   moved_claimed (s ∷ xs) v f b h l x few = elim (cases_Bool (has_room v)) [
@@ -266,14 +274,17 @@ module _ (A : Who → Awaited → Type 0) where
   -- ONE ASKS
 
   -- the place, where there is one, is the end of the line
-  place_at_end : (frame : Option (List ℕ)) (waits : Bool) (v : Seen) (place : ℕ) → IsInLine v → place_of (session.place_of frame waits v) ≡ Some place → place ≡ end_of_line v
+  place_at_end : (frame : Option (List ℕ)) (waits : Bool) (v : Seen) (place : ℕ) → IsInLine v → place_of (session.place_of frame waits v) ≡ Some place →
+      place ≡ end_of_line v
   place_at_end frame waits v place h e = by (has_room v) refl waits frame e
     where
       by : (room : Bool) → has_room v ≡ room → (w : Bool) (x : Option (List ℕ)) → place_of (place_in room w x v) ≡ Some place → place ≡ end_of_line v
       by true r w (Some frame) q =
-          let z : length v.line ≡ 0 = ap length (h r) in let f : Some v.waits.queued ≡ Some place = q in let same : v.waits.queued ≡ place = cc in omega (arith, z, same)
+          let z : length v.line ≡ 0 = ap length (h r) in let f : Some v.waits.queued ≡ Some place = q in let same : v.waits.queued ≡ place = cc in omega
+          (arith, z, same)
       by true r w None q = absurd (none_some q)
-      by false r true (Some frame) q = let f : Some (v.waits.queued + length v.line) ≡ Some place = q in let same : v.waits.queued + length v.line ≡ place = cc in sym same
+      by false r true (Some frame) q = let f : Some
+          (v.waits.queued + length v.line) ≡ Some place = q in let same : v.waits.queued + length v.line ≡ place = cc in sym same
       by false r true None q = absurd (none_some q)
       by false r false x q = absurd (none_some q)
 
@@ -294,12 +305,14 @@ module _ (A : Who → Awaited → Type 0) where
   abbrev Added : Bool → Option ℕ → Who → (ℕ → Option Who) → (ℕ → Option Who)
   Added x place who f = asker_at x who place f
 
-  added_same : (x : Bool) (place : Option ℕ) (who : Who) (f : ℕ → Option Who) (n p : ℕ) → ((m : ℕ) → place ≡ Some m → m ≡ n) → (p == n) ≡ false → Added x place who f p ≡ f p
+  added_same : (x : Bool) (place : Option ℕ) (who : Who) (f : ℕ → Option Who) (n p : ℕ) → ((m : ℕ) → place ≡ Some m → m ≡ n) → (p == n) ≡ false →
+      Added x place who f p ≡ f p
   added_same x None who f n p at d = refl
   added_same true (Some m) who f n p at d = let e : (p == m) ≡ false = subst (λ y. (p == y) ≡ false) (sym (at m refl)) d in ap (λ y. cond y (Some who) (f p)) e
   added_same false (Some m) who f n p at d = refl
 
-  added_at : (x : Bool) (place : Option ℕ) (who w : Who) (f : ℕ → Option Who) (n : ℕ) → ((w : Who) → f n ≡ Some w → ⊥) → Added x place who f n ≡ Some w → w ≡ who
+  added_at : (x : Bool) (place : Option ℕ) (who w : Who) (f : ℕ → Option Who) (n : ℕ) → ((w : Who) → f n ≡ Some w → ⊥) → Added x place who f n ≡ Some w →
+      w ≡ who
   added_at x None who w f n none e = absurd (none w e)
   added_at true (Some m) who w f n none e = elim (cases_Bool (n == m)) [
     | inl q ↦ (let g : Some who ≡ Some w = rw q at e in let same : who ≡ w = cc in sym same)
@@ -335,12 +348,14 @@ module _ (A : Who → Awaited → Type 0) where
         Claimed A (asks_for (request id now words) v) (Added is_asker (place_of (session.asked_for (request id now words) v)) who f) (end_of_line v + 1)
     asks_numbered id now v h k =
         let place : Option ℕ = place_of (session.asked_for (request id now words) v) in
-        let at : (m : ℕ) → place ≡ Some m → m ≡ end_of_line v = λ m e. place_at_end (frame_for (request id now words).message) (can_wait (when_full words)) v m h e in
-        let none : (w : Who) → f (end_of_line v) ≡ Some w → ⊥ = λ w e. (let lt : end_of_line v < end_of_line v = k.few (end_of_line v) w e in absurd (let no : ⊥ = omega (arith, lt) in no)) in
+        let at : (m : ℕ) → place ≡ Some m →
+        m ≡ end_of_line v = λ m e. place_at_end (frame_for (request id now words).message) (can_wait (when_full words)) v m h e in
+        let none : (w : Who) → f (end_of_line v) ≡ Some w →
+        ⊥ = λ w e. (let lt : end_of_line v < end_of_line v = k.few (end_of_line v) w e in absurd (let no : ⊥ = omega (arith, lt) in no)) in
         let g : ℕ → Option Who = Added is_asker place who f in
         let more : Claimed A v g (end_of_line v + 1) = with_asker v f g
-            (λ p lt. added_same is_asker place who f (end_of_line v) p at (grind (arith, nat_tests)))
-            (λ p lt. added_same is_asker place who f (end_of_line v) p at (grind (arith, nat_tests))) k in
+        (λ p lt. added_same is_asker place who f (end_of_line v) p at (grind (arith, nat_tests)))
+        (λ p lt. added_same is_asker place who f (end_of_line v) p at (grind (arith, nat_tests))) k in
         asks_plain words id now v g (end_of_line v + 1) h more
         (λ c e w q. subst (λ y. A y c.awaits) (sym (added_at is_asker place who w f (end_of_line v) none q)) (so id c e))
 
@@ -388,15 +403,19 @@ length_end : (xs : List Standing) (x : Standing) → length (xs ++ x ∷ []) ≡
 length_end [] x = refl
 length_end (y ∷ xs) x = let e : length (xs ++ x ∷ []) ≡ length xs + 1 = length_end xs x in omega (arith, e)
 
-put_adds : (room w : Bool) (frame : List ℕ) (c : Option Claim) (v : Seen) (m : ℕ) → has_room v ≡ room → IsInLine v → place_of (place_in room w (Some frame) v) ≡ Some m →
+put_adds : (room w : Bool) (frame : List ℕ) (c : Option Claim) (v : Seen) (m : ℕ) → has_room v ≡ room → IsInLine v →
+    place_of (place_in room w (Some frame) v) ≡ Some m →
     end_of_line (put_in room w frame c v) ≡ end_of_line v + 1
 put_adds true w frame c v m e h q = let z : length v.line ≡ 0 = ap length (h e) in omega (arith, z)
-put_adds false true frame c v m e h q = let z : length (v.line ++ record { frame = frame; claim = c } ∷ []) ≡ length v.line + 1 = length_end v.line (record { frame = frame; claim = c }) in omega (arith, z)
+put_adds false true frame c v m e h q = let z : length (v.line ++ record { frame = frame; claim = c } ∷ []) ≡ length v.line + 1 = length_end v.line
+    (record { frame = frame; claim = c }) in omega (arith, z)
 put_adds false false frame c v m e h q = absurd (none_some q)
 
-put_grows : (room w : Bool) (frame : List ℕ) (c : Option Claim) (v : Seen) → has_room v ≡ room → IsInLine v → end_of_line v ≤ end_of_line (put_in room w frame c v)
+put_grows : (room w : Bool) (frame : List ℕ) (c : Option Claim) (v : Seen) → has_room v ≡ room → IsInLine v →
+    end_of_line v ≤ end_of_line (put_in room w frame c v)
 put_grows true w frame c v e h = let z : length v.line ≡ 0 = ap length (h e) in omega (arith, z)
-put_grows false true frame c v e h = let z : length (v.line ++ record { frame = frame; claim = c } ∷ []) ≡ length v.line + 1 = length_end v.line (record { frame = frame; claim = c }) in omega (arith, z)
+put_grows false true frame c v e h = let z : length (v.line ++ record { frame = frame; claim = c } ∷ []) ≡ length v.line + 1 = length_end v.line
+    (record { frame = frame; claim = c }) in omega (arith, z)
 put_grows false false frame c v e h = omega arith
 
 frame_grows : (frame : Option (List ℕ)) (w : Bool) (c : Option Claim) (v : Seen) → IsInLine v → end_of_line v ≤ end_of_line (put_frame frame w c v)
@@ -412,12 +431,17 @@ challenged_grows (Some auth) v h = asks_grows (responds auth) v h
 
 named_grows : (n : Option ℕ) (v : Seen) → end_of_line v ≤ end_of_line (named_by n v)
 named_grows None v = omega arith
-named_grows (Some n) v = elim (cases_Bool (list_any (λ p. is_same (Reply n) p.awaits) v.waits.waiting)) [ inl e ↦ rw e (omega arith) | inr e ↦ rw e (omega arith) ]
+named_grows (Some n) v = elim (cases_Bool (list_any (λ p. is_same (Reply n) p.awaits) v.waits.waiting)) [
+  | inl e ↦ rw e (omega arith)
+  | inr e ↦ rw e
+      (omega arith)
+]
 
 reacts_grows : (m : MessageValues) (v : Seen) → IsInLine v → end_of_line v ≤ end_of_line (reacts m v)
 reacts_grows m v h =
     either_grows (is 18 m) v (asks_for pongs v) (cond (is 36 m) (challenged v.setup.auth v) (named_by (unready_in m.command.body) v)) (asks_grows pongs v h)
-    (either_grows (is 36 m) v (challenged v.setup.auth v) (named_by (unready_in m.command.body) v) (challenged_grows v.setup.auth v h) (named_grows (unready_in m.command.body) v))
+    (either_grows (is 36 m) v (challenged v.setup.auth v) (named_by (unready_in m.command.body) v) (challenged_grows v.setup.auth v h)
+    (named_grows (unready_in m.command.body) v))
 
 unless_grows : (ps : List ℕ) (m : MessageValues) (v : Seen) → IsInLine v → end_of_line v ≤ end_of_line (reacts_unless ps m v)
 unless_grows [] m v h = reacts_grows m v h
@@ -450,7 +474,8 @@ opens_grows Over v = omega arith
 moved_end : (xs : List Standing) (v : Seen) → end_of_line (moved_up xs v) ≡ v.waits.queued + length xs
 moved_end [] v = omega arith
 moved_end (s ∷ xs) v = elim (cases_Bool (has_room v)) [
-  | inl e ↦ (let k : end_of_line (moved_up xs (queue s.frame s.claim v)) ≡ v.waits.queued + 1 + length xs = moved_end xs (queue s.frame s.claim v) in rw e (omega (arith, k)))
+  | inl e ↦ (let k : end_of_line (moved_up xs (queue s.frame s.claim v)) ≡ v.waits.queued + 1 + length xs = moved_end xs (queue s.frame s.claim v) in rw e
+      (omega (arith, k)))
   | inr e ↦ rw e refl
 ]
 
@@ -480,7 +505,8 @@ module _ (A : Who → Awaited → Type 0) where
       (opens_claimed A v.stage (ticked now v) f (end_of_line v) e (record { waiting = k.waiting; low = k.low; line = k.line; few = k.few }))
 
   pub taken : (now : ℕ) (v : Seen) (f : ℕ → Option Who) → IsInLine v → IsClaimed v f → IsClaimed (after (Takes now) v) f
-  taken now v f h k = wider (after (Takes now) v) f (end_of_line v) (taken_grows v.stage (front v.unread) (ticked now v) h) (takes_claimed A now v f (end_of_line v) h k)
+  taken now v f h k = wider (after (Takes now) v) f (end_of_line v) (taken_grows v.stage (front v.unread) (ticked now v) h)
+      (takes_claimed A now v f (end_of_line v) h k)
 
   pub drained_so : (most now : ℕ) (v : Seen) (f : ℕ → Option Who) → IsClaimed v f → IsClaimed (after (Drains most now) v) f
   drained_so most now v f k = wider (after (Drains most now) v) f (end_of_line v) (drains_grows most now v) (drains_claimed A most now v f (end_of_line v) k)
@@ -514,7 +540,8 @@ module _ (A : Who → Awaited → Type 0) where
       let k : end_of_line u ≤ end_of_line (asks_for (request id now words) u) = asks_grows (request id now words) u (numbered_line A (is_numbered words) v h) in
       omega (arith, e, k)
 
-  pub asked_so : (words : Words) (who : Who) (f : ℕ → Option Who) (now : ℕ) (v : Seen) → ((id : ℕ) (c : Claim) → claim id words ≡ Some c → A who c.awaits) → IsInLine v →
+  pub asked_so : (words : Words) (who : Who) (f : ℕ → Option Who) (now : ℕ) (v : Seen) → ((id : ℕ) (c : Claim) → claim id words ≡ Some c → A who c.awaits) →
+      IsInLine v →
       IsClaimed v f → IsClaimed (after (Asks now words) v) (asker_at (is_answered (request_number words)) who (place_of (asked now words v)) f)
   asked_so words who f now v so h k =
       let b = asks_bounded A words who f so now v h k in

@@ -20,7 +20,8 @@ greets_line None v = refl
 greets_line (Some frame) v = refl
 
 opens_early : (stage : Stage) (v : Seen) → v.stage ≡ stage → Early v → Early (opens_in stage v)
-opens_early Dialing v e h = λ r. greets_line (frame_for (bare (connect_command v.setup.auth v.setup.proxy))) (record v { stage = Handshaking }) ∙ h (ap is_ready e)
+opens_early Dialing v e h = λ r. greets_line (frame_for (bare (connect_command v.setup.auth v.setup.proxy))) (record v { stage = Handshaking })
+    ∙ h (ap is_ready e)
 opens_early Handshaking v e h = h
 opens_early Ready v e h = h
 opens_early Over v e h = h
@@ -65,10 +66,12 @@ drawn_stage : (b : Bool) (v : Seen) → (drawn b v).stage ≡ v.stage
 drawn_stage true v = refl
 drawn_stage false v = refl
 
-after_of_early : (n : Result ℕ ConnectionError) (now : ℕ) (words : Words) (v : Seen) → ((id : ℕ) → n ≡ Ok id → is_ready v.stage ≡ true) → Early v → Early (after_of n now words v)
+after_of_early : (n : Result ℕ ConnectionError) (now : ℕ) (words : Words) (v : Seen) → ((id : ℕ) → n ≡ Ok id → is_ready v.stage ≡ true) → Early v →
+    Early (after_of n now words v)
 after_of_early (Err e) now words v g h = h
 after_of_early (Ok id) now words v g h = λ r.
-    absurd (let no = sym (ap is_ready ((asks_for_apart (request id now words)).stage (drawn (is_numbered words) v) ∙ drawn_stage (is_numbered words) v) ∙ g id refl) ∙ r in cc)
+    absurd (let no = sym (ap is_ready ((asks_for_apart (request id now words)).stage (drawn (is_numbered words) v) ∙ drawn_stage (is_numbered words) v)
+    ∙ g id refl) ∙ r in cc)
 
 cond_early : (b : Bool) (x y : Seen) → Early x → Early y → Early (cond b x y)
 cond_early true x y h g = h
@@ -79,8 +82,10 @@ act_early (Opens now) v h = opens_early v.stage (ticked now v) refl h
 act_early (Feeds piece) v h = cond_early (is_open v.stage) (record v { unread = v.unread ++ piece }) v h h
 act_early (Takes now) v h = taken_early v.stage (front v.unread) (ticked now v) refl h
 act_early (Asks now words) v h = after_of_early (number_for (is_numbered words) v) now words (ticked now v) (λ id e. ready_of (is_numbered words) v id e) h
-act_early (Drains most now) v h = let b = record (ticked now v) { unwritten = drop most v.unwritten } in cond_early (is_open v.stage) (moved_up v.line b) (ticked now v) (moved_early b h) h
-act_early (Closes cause) v h = cond_early (is_over v.stage) v (record v { stage = Over; error = Some cause; unwritten = []; line = []; waits = ended v.waits; unread = [] }) h (λ r. refl)
+act_early (Drains most now) v h = let b = record (ticked now v) { unwritten = drop most v.unwritten } in cond_early (is_open v.stage) (moved_up v.line b)
+    (ticked now v) (moved_early b h) h
+act_early (Closes cause) v h = cond_early (is_over v.stage) v
+    (record v { stage = Over; error = Some cause; unwritten = []; line = []; waits = ended v.waits; unread = [] }) h (λ r. refl)
 
 pub early : (s : Setup) (h : List Act) → Early (seen s h)
 early s [] = λ r. refl

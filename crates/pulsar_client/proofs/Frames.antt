@@ -100,7 +100,8 @@ recall_plain v (Recall n) c h = at_row (v.producers.topics n) h
     at_row (Some t) h = by t (v.producers.built t.owner) h
 recall_plain v _ c h = absurd h
 
-news_told : (o : Options) (log : List Entry) (t : ℕ) (u : Outcome) → IsRun o (Then (Told (notice (Call t) u)) ∷ log) → (e : Errand) (given : ProducerMessageValues) →
+news_told : (o : Options) (log : List Entry) (t : ℕ) (u : Outcome) → IsRun o (Then (Told (notice (Call t) u)) ∷ log) →
+    (e : Errand) (given : ProducerMessageValues) →
     NewsSo e given (WasTold (Then (Told (notice (Call t) u)) ∷ log) t) (news_of u)
 news_told o log t (outcome.Granted (news.HasTurn version)) run e given = inl refl
 news_told o log t (outcome.Granted (news.Recalled c)) run e given =
@@ -134,7 +135,8 @@ starts_plan o log who q k t w e share given p h s = elim (cases_Bool (is_same (C
   where
     begun : (x : Option Share) → stays (begins (procedure.Send w e x given)) ≡ Some p → PlanSo e given (WasTold (Then (Starts who q) ∷ log) t) p
     begun None g = subst (PlanSo e given (WasTold (Then (Starts who q) ∷ log) t)) (let f : Sending w e None (send.Waiting given) ≡ p = cc in f) (refl, refl)
-    begun (Some y) g = subst (PlanSo e given (WasTold (Then (Starts who q) ∷ log) t)) (let f : Sending w e (Some y) (send.Waiting given) ≡ p = cc in f) (refl, refl)
+    begun (Some y) g = subst (PlanSo e given (WasTold (Then (Starts who q) ∷ log) t)) (let f : Sending w e (Some y) (send.Waiting given) ≡ p = cc in f)
+        (refl, refl)
 
 told_plan : (o : Options) (log : List Entry) (n : Notice) → IsRun o (Then (Told n) ∷ log) → SendsSo o log → SendsSo o (Then (Told n) ∷ log)
 told_plan o log n run k t w e share given p h s = elim (cases_Bool (is_same (Call t) n.who)) [
@@ -142,7 +144,8 @@ told_plan o log n run k t w e share given p h s = elim (cases_Bool (is_same (Cal
   | inr same ↦ plan_more e given (WasTold log t) (WasTold (Then (Told n) ∷ log) t) (λ v i. inr i) p (k t w e share given p h (rw same at s))
 ]
   where
-    turn : (q : Plan) (x : Turn Plan Verdict) → told q n.outcome ≡ x → StaysSo (λ r a. PlanSo e given (WasTold (Then (Told n) ∷ log) t) r × AsksSo e given (WasTold (Then (Told n) ∷ log) t) n.outcome r a) x →
+    turn : (q : Plan) (x : Turn Plan Verdict) → told q n.outcome ≡ x →
+        StaysSo (λ r a. PlanSo e given (WasTold (Then (Told n) ∷ log) t) r × AsksSo e given (WasTold (Then (Told n) ∷ log) t) n.outcome r a) x →
         stays x ≡ Some p → PlanSo e given (WasTold (Then (Told n) ∷ log) t) p
     turn q (Stays r a) d j g = subst (PlanSo e given (WasTold (Then (Told n) ∷ log) t)) (let f : r ≡ p = cc in f) j.0
     turn q (Gives verdict) d j g = absurd (none_some g)
@@ -184,7 +187,8 @@ is_take (TakeTurn n) = true
 is_take _ = false
 
 pub send_led : (o : Options) (log : List Entry) (t : ℕ) (w : Ways) (e : Errand) (share : Option Share) (given : ProducerMessageValues) (action : Action) →
-    IsRun o (Then (Does (Call t) action) ∷ log) → is_take action ≡ false → started (Call t) log ≡ Some (procedure.Send w e share given) → IsSendLed o log t e given action
+    IsRun o (Then (Does (Call t) action) ∷ log) → is_take action ≡ false → started (Call t) log ≡ Some (procedure.Send w e share given) →
+    IsSendLed o log t e given action
 send_led o log t w e share given action run take h = elim (does_from o log (Call t) action run) [
   | inl b ↦ absurd (begun b)
   | inr l ↦ led l
@@ -210,9 +214,10 @@ send_led o log t w e share given action run take h = elim (does_from o log (Call
         let was : PlanSo e given (WasTold l.older t) l.before = here (SendsSo o) l.older (sends_run o l.older run'.0) t w e share given l.before h' l.stood in
         let now : PlanSo e given (WasTold (Then (Told (notice (Call t) l.outcome)) ∷ l.older) t) l.before =
         plan_more e given (WasTold l.older t) (WasTold (Then (Told (notice (Call t) l.outcome)) ∷ l.older) t) (λ v i. inr i) l.before was in
-        let so = told_so e given (WasTold (Then (Told (notice (Call t) l.outcome)) ∷ l.older) t) l.before l.outcome now (news_told o l.older t l.outcome run' e given) in
+        let so = told_so e given (WasTold (Then (Told (notice (Call t) l.outcome)) ∷ l.older) t) l.before l.outcome now
+        (news_told o l.older t l.outcome run' e given) in
         let k = subst (StaysSo (λ q a. PlanSo e given (WasTold (Then (Told (notice (Call t) l.outcome)) ∷ l.older) t) q
-            × AsksSo e given (WasTold (Then (Told (notice (Call t) l.outcome)) ∷ l.older) t) l.outcome q a)) l.leads so in
+        × AsksSo e given (WasTold (Then (Told (notice (Call t) l.outcome)) ∷ l.older) t) l.outcome q a)) l.leads so in
         record { led = l; asks = subst (λ x. AsksSo e given (WasTold x t) l.outcome l.plan action) (sym l.is_there) k.1 }
 
 -- what was drawn
@@ -248,7 +253,8 @@ draw_by v _ d h = absurd h
 
 -- THE LAW
 
-module _ (o : Options) (log : List Entry) (t l n s : ℕ) (name : List ℕ) (m : ProducerMessageValues) (block : Bool) (w : Ways) (e : Errand) (share : Option Share)
+module _ (o : Options) (log : List Entry) (t l n s : ℕ) (name : List ℕ) (m : ProducerMessageValues) (block : Bool) (w : Ways) (e : Errand)
+    (share : Option Share)
     (given : ProducerMessageValues) (run : IsRun o (Then (Does (Call t) (Ask l (words.Send n name s m block))) ∷ log))
     (h : started (Call t) log ≡ Some (procedure.Send w e share given)) where
   abbrev sent : Action

@@ -75,13 +75,15 @@ either_plain : {S A : Type 0} (b : Bool) (x y : SearchTurn S A) → PlainTurn x 
 either_plain true x y p q = p
 either_plain false x y p q = q
 
-and_plain : {S T A B : Type 0} (x : SearchTurn S (Result A Failure)) (within : S → T) (on : A → SearchTurn T (Result B Failure)) → PlainTurn x → ((a : A) → PlainTurn (on a)) →
+and_plain : {S T A B : Type 0} (x : SearchTurn S (Result A Failure)) (within : S → T) (on : A → SearchTurn T (Result B Failure)) → PlainTurn x →
+    ((a : A) → PlainTurn (on a)) →
     PlainTurn (search.and_then x within on)
 and_plain (search_turn.Stays s a) within on p q = p
 and_plain (search_turn.Gives (Ok a)) within on p q = q a
 and_plain (search_turn.Gives (Err f)) within on p q = tt
 
-nested_plain : {S T A B : Type 0} (x : SearchTurn S A) (within : S → T) (on : A → SearchTurn T B) → PlainTurn x → ((a : A) → PlainTurn (on a)) → PlainTurn (search.nested x within on)
+nested_plain : {S T A B : Type 0} (x : SearchTurn S A) (within : S → T) (on : A → SearchTurn T B) → PlainTurn x → ((a : A) → PlainTurn (on a)) →
+    PlainTurn (search.nested x within on)
 nested_plain (search_turn.Stays s a) within on p q = p
 nested_plain (search_turn.Gives a) within on p q = q a
 
@@ -168,13 +170,15 @@ module _ (e : Errand) (given : ProducerMessageValues) (V : Option (List ℕ) →
   queued_so y None f k = (tt, tt)
   queued_so y (Some m) f k = drawn_so y m f k
 
-  makes_so : (y : News) (m : ProducerMessageValues) (c : Command) (x : SearchTurn Making (Result Served Failure)) → Versioned m → is_message c.request ≡ false → PlainTurn x →
+  makes_so : (y : News) (m : ProducerMessageValues) (c : Command) (x : SearchTurn Making (Result Served Failure)) → Versioned m →
+      is_message c.request ≡ false → PlainTurn x →
       StepSo y (send_makes e m c x)
   makes_so y m c (search_turn.Stays s a) k h p = ((k, h), p)
   makes_so y m c (search_turn.Gives (Ok s)) k h p = (k, tt)
   makes_so y m c (search_turn.Gives (Err f)) k h p = (tt, tt)
 
-  looks_so : (y : News) (m : ProducerMessageValues) (c : Command) (x : SearchTurn Looking (Result Place Failure)) → Versioned m → is_message c.request ≡ false → PlainTurn x →
+  looks_so : (y : News) (m : ProducerMessageValues) (c : Command) (x : SearchTurn Looking (Result Place Failure)) → Versioned m →
+      is_message c.request ≡ false → PlainTurn x →
       StepSo y (send_looks e m c x)
   looks_so y m c (search_turn.Stays s a) k h p = ((k, h), p)
   looks_so y m c (search_turn.Gives (Ok place)) k h p = makes_so y m c (search.made_gets 0 place) k h tt
@@ -261,7 +265,8 @@ module _ (e : Errand) (given : ProducerMessageValues) (V : Option (List ℕ) →
   halted_so u None y = tt
   halted_so u (Some s) y = (tt, tt)
 
-  stay_so : (u : Outcome) (w : Ways) (share : Option Share) (s : Send) (d : Deed) → MessageSo s → DeedSo (news_of u) s d → StaysSo (TurnSo u) (sends_stay w e share s d)
+  stay_so : (u : Outcome) (w : Ways) (share : Option Share) (s : Send) (d : Deed) → MessageSo s → DeedSo (news_of u) s d →
+      StaysSo (TurnSo u) (sends_stay w e share s d)
   stay_so u w None s d k j = ((refl, k), deed_asks u w None s d j)
   stay_so u w (Some x) s d k j = either_so (TurnSo u) (is_sent s) _ _ (refl, tt) ((refl, k), deed_asks u w (Some x) s d j)
 
@@ -272,7 +277,8 @@ module _ (e : Errand) (given : ProducerMessageValues) (V : Option (List ℕ) →
 
   sending_so : (u : Outcome) (w : Ways) (share : Option Share) (s : Send) → MessageSo s → NewsSo (news_of u) → StaysSo (TurnSo u) (told_send w e share s u)
   sending_so u w share s k h =
-      either_so (TurnSo u) (overrides u && not (is_sent s)) (halted share u) (goes_on_sending w e share (produce.send_told w e s (news_of u))) (halted_so u share u)
+      either_so (TurnSo u) (overrides u && not (is_sent s)) (halted share u) (goes_on_sending w e share (produce.send_told w e s (news_of u)))
+      (halted_so u share u)
       (on_so u w share (produce.send_told w e s (news_of u)) (step_so w s (news_of u) k h))
 
   pub told_so : (p : Plan) (u : Outcome) → PlanSo p → NewsSo (news_of u) → StaysSo (TurnSo u) (told p u)

@@ -70,7 +70,14 @@ gathers_all first count left failures [] v k h = elim (cases_Bool (left == 0)) [
 ]
   where
     done : In (Answered v) (Answered (verdict Nothing (sent_from first count failures)) ∷ []) → (left == 0) ≡ true → IsGathered first count left failures [] v
-    done (inl q) e = record { parts = []; more = []; is_it = refl; all = sym (eqb-true left 0 e); said = (let f : Answered v ≡ Answered (verdict Nothing (sent_from first count failures)) = q in cc) }
+    done (inl q) e = record {
+      parts = [];
+      more = [];
+      is_it = refl;
+      all = sym (eqb-true left 0 e);
+      said =
+          (let f : Answered v ≡ Answered (verdict Nothing (sent_from first count failures)) = q in cc);
+    }
     done (inr q) e = absurd q
 gathers_all first count left failures (u ∷ os) v k h = elim (cases_Bool (left == 0)) [
   | inl e ↦ inr (done (rw e at h) e)
@@ -89,14 +96,24 @@ gathers_all first count left failures (u ∷ os) v k h = elim (cases_Bool (left 
   ]
 ]
   where
-    done : In (Answered v) (Answered (verdict Nothing (sent_from first count failures)) ∷ []) → (left == 0) ≡ true → IsGathered first count left failures (u ∷ os) v
-    done (inl q) e = record { parts = []; more = u ∷ os; is_it = refl; all = sym (eqb-true left 0 e); said = (let f : Answered v ≡ Answered (verdict Nothing (sent_from first count failures)) = q in cc) }
+    done : In (Answered v) (Answered (verdict Nothing (sent_from first count failures)) ∷ []) → (left == 0) ≡ true →
+        IsGathered first count left failures (u ∷ os) v
+    done (inl q) e = record {
+      parts = [];
+      more = u ∷ os;
+      is_it = refl;
+      all = sym (eqb-true left 0 e);
+      said =
+          (let f : Answered v ≡ Answered (verdict Nothing (sent_from first count failures)) = q in cc);
+    }
     done (inr q) e = absurd q
 
-    goes : (t : ℕ) (f : Option Failure) → u ≡ outcome.Parted t f → (left == 0) ≡ false → In (Answered v) (course (gathers first count (left - 1) (failed_with t f failures)) os)
+    goes : (t : ℕ) (f : Option Failure) → u ≡ outcome.Parted t f → (left == 0) ≡ false →
+        In (Answered v) (course (gathers first count (left - 1) (failed_with t f failures)) os)
     goes t f q e = by (rw e at h)
       where
-        by : In (Answered v) (course (told (Gathering first count left failures) u) os) → In (Answered v) (course (gathers first count (left - 1) (failed_with t f failures)) os)
+        by : In (Answered v) (course (told (Gathering first count left failures) u) os) →
+            In (Answered v) (course (gathers first count (left - 1) (failed_with t f failures)) os)
         by i = subst (λ x. In (Answered v) (course (told (Gathering first count left failures) x) os)) q i
 
 -- WHAT FAILED
@@ -112,12 +129,14 @@ put_same (e ∷ es) u x = by (nat_lt u e.0) refl (u == e.0) refl (put_same es u 
     self = grind (arith, nat_tests)
 
     by : (a : Bool) → nat_lt u e.0 ≡ a → (b : Bool) → (u == e.0) ≡ b → lookup (is_at (nat_cmp u)) (insert_entry nat_cmp es u x) ≡ Some x →
-        lookup (is_at (nat_cmp u)) (match_ordering (cond a Less (cond b Equal Greater)) ((u, x) ∷ e ∷ es) ((e.0, x) ∷ es) (e ∷ insert_entry nat_cmp es u x)) ≡ Some x
+        lookup (is_at (nat_cmp u)) (match_ordering (cond a Less (cond b Equal Greater)) ((u, x) ∷ e ∷ es) ((e.0, x) ∷ es)
+        (e ∷ insert_entry nat_cmp es u x)) ≡ Some x
     by true p b q more = ap (λ c. cond c (Some x) (lookup (is_at (nat_cmp u)) (e ∷ es))) (at_is u u ∙ self)
     by false p true q more = ap (λ c. cond c (Some x) (lookup (is_at (nat_cmp u)) es)) (at_is u e.0 ∙ q)
     by false p false q more = ap (λ c. cond c (Some e.1) (lookup (is_at (nat_cmp u)) (insert_entry nat_cmp es u x))) (at_is u e.0 ∙ q) ∙ more
 
-put_other : (es : List (ℕ × Failure)) (u k : ℕ) (x : Failure) → (u == k) ≡ false → lookup (is_at (nat_cmp u)) (insert_entry nat_cmp es k x) ≡ lookup (is_at (nat_cmp u)) es
+put_other : (es : List (ℕ × Failure)) (u k : ℕ) (x : Failure) → (u == k) ≡ false →
+    lookup (is_at (nat_cmp u)) (insert_entry nat_cmp es k x) ≡ lookup (is_at (nat_cmp u)) es
 put_other [] u k x d = ap (λ b. cond b (Some x) None) (at_is u k ∙ d)
 put_other (e ∷ es) u k x d = by (nat_lt k e.0) (k == e.0) refl (put_other es u k x d)
   where
@@ -131,11 +150,13 @@ put_other (e ∷ es) u k x d = by (nat_lt k e.0) (k == e.0) refl (put_other es u
         ap (λ c. cond c (Some x) (lookup (is_at (nat_cmp u)) es)) no ∙ sym (ap (λ c. cond c (Some e.1) (lookup (is_at (nat_cmp u)) es)) no)
     by false false q more = ap (λ r. cond (is_at (nat_cmp u) e.0) (Some e.1) r) more
 
-failed_same : (u : ℕ) (f : Option Failure) (fs : List (ℕ × Failure)) → lookup (is_at (nat_cmp u)) fs ≡ None → lookup (is_at (nat_cmp u)) (failed_with u f fs) ≡ f
+failed_same : (u : ℕ) (f : Option Failure) (fs : List (ℕ × Failure)) → lookup (is_at (nat_cmp u)) fs ≡ None →
+    lookup (is_at (nat_cmp u)) (failed_with u f fs) ≡ f
 failed_same u None fs h = h
 failed_same u (Some x) fs h = put_same fs u x
 
-failed_other : (u k : ℕ) (f : Option Failure) (fs : List (ℕ × Failure)) → (u == k) ≡ false → lookup (is_at (nat_cmp u)) (failed_with k f fs) ≡ lookup (is_at (nat_cmp u)) fs
+failed_other : (u k : ℕ) (f : Option Failure) (fs : List (ℕ × Failure)) → (u == k) ≡ false →
+    lookup (is_at (nat_cmp u)) (failed_with k f fs) ≡ lookup (is_at (nat_cmp u)) fs
 failed_other u k None fs d = refl
 failed_other u k (Some x) fs d = put_other fs u k x d
 
@@ -143,13 +164,13 @@ failed_other u k (Some x) fs d = put_other fs u k x d
 abbrev is_it : ℕ → Fate → ℕ
 is_it u p = cond (p.0 == u) 1 0
 
-differs : (u k : ℕ) → cond (k == u) 1 0 ≡ 0 → (u == k) ≡ false
+differs : (u k : ℕ) → ◌≡◌ {A = ℕ} (cond (k == u) 1 0) 0 → (u == k) ≡ false
 differs u k h = grind (arith, nat_tests)
 
 fold_other : (u : ℕ) (ps : List Fate) (fs : List (ℕ × Failure)) → sum (is_it u) ps ≡ 0 → lookup (is_at (nat_cmp u)) (fold fs ps) ≡ lookup (is_at (nat_cmp u)) fs
 fold_other u [] fs h = refl
 fold_other u (p ∷ ps) fs h =
-    let a : cond (p.0 == u) 1 0 ≡ 0 = omega (arith, h) in
+    let a : is_it u p ≡ 0 = omega (arith, h) in
     let b : sum (is_it u) ps ≡ 0 = omega (arith, h) in
     fold_other u ps (failed_with p.0 p.1 fs) b ∙ failed_other u p.0 p.1 fs (differs u p.0 a)
 
@@ -163,7 +184,7 @@ fate_of : (u : ℕ) (ps : List Fate) (fs : List (ℕ × Failure)) → sum (is_it
 fate_of u [] fs h n = absurd cc
 fate_of u (p ∷ ps) fs h n = elim (cases_Bool (p.0 == u)) [
   | inl e ↦
-      (let one : cond (p.0 == u) 1 0 ≡ 1 = ap (λ b. cond b 1 0) e in
+      (let one : is_it u p ≡ 1 = ap (λ b. cond b 1 0) e in
       let none : sum (is_it u) ps ≡ 0 = omega (arith, h, one) in
       let same : u ≡ p.0 = sym (eqb-true p.0 u e) in
       record {
@@ -172,7 +193,7 @@ fate_of u (p ∷ ps) fs h n = elim (cases_Bool (p.0 == u)) [
         found = fold_other u ps (failed_with p.0 p.1 fs) none ∙ ap (λ k. lookup (is_at (nat_cmp u)) (failed_with k p.1 fs)) (sym same) ∙ failed_same u p.1 fs n;
       })
   | inr e ↦
-      (let zero : cond (p.0 == u) 1 0 ≡ 0 = ap (λ b. cond b 1 0) e in
+      (let zero : is_it u p ≡ 0 = ap (λ b. cond b 1 0) e in
       let one : sum (is_it u) ps ≡ 1 = omega (arith, h, zero) in
       let k = fate_of u ps (failed_with p.0 p.1 fs) one (failed_other u p.0 p.1 fs (differs u p.0 zero) ∙ n) in
       record { fate = k.fate; listed = inr k.listed; found = k.found })
@@ -211,7 +232,7 @@ row_one (suc n) first k lo hi = elim (cases_Bool (k == first)) [
 
 sum_zero : (us : List ℕ) → sum (λ u. 0) us ≡ 0
 sum_zero [] = refl
-sum_zero (u ∷ us) = sum_zero us
+sum_zero (u ∷ us) = let e : sum (λ w. 0) us ≡ 0 = sum_zero us in omega (arith, e)
 
 sum_both : (f g : ℕ → ℕ) (us : List ℕ) → sum (λ u. f u + g u) us ≡ sum f us + sum g us
 sum_both f g [] = refl
@@ -221,7 +242,8 @@ sum_both f g (u ∷ us) = let e : sum (λ w. f w + g w) us ≡ sum f us + sum g 
 all_counted : (first n : ℕ) (ps : List Fate) → Each (IsBetween first n) ps → sum (λ u. sum (is_it u) ps) (numbers_from first n) ≡ length ps
 all_counted first n [] k = sum_zero (numbers_from first n)
 all_counted first n (p ∷ ps) k =
-    let a : sum (λ u. is_it u p + sum (is_it u) ps) (numbers_from first n) ≡ sum (λ u. is_it u p) (numbers_from first n) + sum (λ u. sum (is_it u) ps) (numbers_from first n) =
+    let a : sum (λ u. is_it u p + sum (is_it u) ps) (numbers_from first n) ≡ sum (λ u. is_it u p) (numbers_from first n) + sum (λ u. sum (is_it u) ps)
+    (numbers_from first n) =
     sum_both (λ u. is_it u p) (λ u. sum (is_it u) ps) (numbers_from first n) in
     let one : sum (λ u. is_it u p) (numbers_from first n) ≡ 1 = row_one n first p.0 k.0.0 k.0.1 in
     let more : sum (λ u. sum (is_it u) ps) (numbers_from first n) ≡ length ps = all_counted first n ps k.1 in
@@ -254,7 +276,8 @@ in_row (suc n) first u lo hi = elim (cases_Bool (u == first)) [
   | inr e ↦ inr (in_row n (suc first) u (grind (arith, nat_tests)) (omega (arith, hi)))
 ]
 
-each_once : (first n : ℕ) (ps : List Fate) → Each (IsBetween first n) ps → length ps ≡ n → ((u : ℕ) → sum (is_it u) ps ≤ 1) → (u : ℕ) → first ≤ u → u < first + n →
+each_once : (first n : ℕ) (ps : List Fate) → Each (IsBetween first n) ps → length ps ≡ n → ((u : ℕ) → sum (is_it u) ps ≤ 1) → (u : ℕ) → first ≤ u →
+    u < first + n →
     sum (is_it u) ps ≡ 1
 each_once first n ps k all few u lo hi =
     each_one (λ w. sum (is_it w) ps) (numbers_from first n) few (all_counted first n ps k ∙ all ∙ sym (row_length n first)) u (in_row n first u lo hi)
@@ -265,7 +288,8 @@ abbrev RowOf : ℕ → ℕ → Outcome → Type 0
 RowOf t c (outcome.Parted k f) = (t < k) × (k < t + 1 + c)
 RowOf t c _ = Unit {0}
 
-part_row : (o : Options) (log : List Entry) (t c k : ℕ) (f : Option Failure) → IsRun o (Then (Told (notice (Call t) (outcome.Parted k f))) ∷ log) → parts_at o t log ≡ Some c →
+part_row : (o : Options) (log : List Entry) (t c k : ℕ) (f : Option Failure) → IsRun o (Then (Told (notice (Call t) (outcome.Parted k f))) ∷ log) →
+    parts_at o t log ≡ Some c →
     (t < k) × (k < t + 1 + c)
 part_row o log t c k f run h =
     let s = step_behind (Cause o (Call t) (outcome.Parted k f)) log (outcomes_are_caused_lem o log (Call t) (outcome.Parted k f) run) in
@@ -290,7 +314,8 @@ part_row o log t c k f run h =
         let hi : w < x.share.of + 1 + x.own.1 = x.own.4 in
         (omega (arith, of, it, lo), omega (arith, of, it, hi, same))
 
-outcome_row : (o : Options) (log : List Entry) (t c : ℕ) (u : Outcome) → IsRun o (Then (Told (notice (Call t) u)) ∷ log) → parts_at o t log ≡ Some c → RowOf t c u
+outcome_row : (o : Options) (log : List Entry) (t c : ℕ) (u : Outcome) → IsRun o (Then (Told (notice (Call t) u)) ∷ log) → parts_at o t log ≡ Some c →
+    RowOf t c u
 outcome_row o log t c (outcome.Parted k f) run h = part_row o log t c k f run h
 outcome_row o log t c _ run h = tt
 
@@ -300,16 +325,18 @@ few_heard o [] t u = omega arith
 few_heard o (Begins e ∷ log) t u = few_heard o log t u
 few_heard o (Then (Starts who p) ∷ log) t u =
     let k : sum (part_of u) (outcomes (Call t) log) ≤ counted (told_of t u) log = few_heard o log t u in
-    elim (is_same (Call t) who) as (λ b. sum (part_of u) (cond b [] (outcomes (Call t) log)) ≤ counted (told_of t u) log + 0) [ true ↦ omega arith | false ↦ omega (arith, k) ]
+    elim (is_same (Call t) who) as
+    (λ b. sum (part_of u) (cond b [] (outcomes (Call t) log)) ≤ counted (told_of t u) log + 0) [ true ↦ omega arith | false ↦ omega (arith, k) ]
 few_heard o (Then (Told n) ∷ log) t u =
     let k : sum (part_of u) (outcomes (Call t) log) ≤ counted (told_of t u) log = few_heard o log t u in
     let s : sum (part_of u) (outcomes (Call t) log ++ n.outcome ∷ []) ≡ sum (part_of u) (outcomes (Call t) log) + (part_of u n.outcome + 0) =
     sum_append (part_of u) (outcomes (Call t) log) (n.outcome ∷ []) in
     elim (is_same (Call t) n.who) as (λ b. sum (part_of u) (cond b (outcomes (Call t) log ++ n.outcome ∷ []) (outcomes (Call t) log))
-        ≤ counted (told_of t u) log + cond b (part_of u n.outcome) 0) [ true ↦ omega (arith, k, s) | false ↦ omega (arith, k) ]
+    ≤ counted (told_of t u) log + cond b (part_of u n.outcome) 0) [ true ↦ omega (arith, k, s) | false ↦ omega (arith, k) ]
 few_heard o (Then a ∷ log) t u = let k : sum (part_of u) (outcomes (Call t) log) ≤ counted (told_of t u) log = few_heard o log t u in omega (arith, k)
 
-call_told : (o : Options) (log : List Entry) (t : ℕ) (n : Notice) → is_same (Call t) n.who ≡ true → IsRun o (Then (Told n) ∷ log) → IsRun o (Then (Told (notice (Call t) n.outcome)) ∷ log)
+call_told : (o : Options) (log : List Entry) (t : ℕ) (n : Notice) → is_same (Call t) n.who ≡ true → IsRun o (Then (Told n) ∷ log) →
+    IsRun o (Then (Told (notice (Call t) n.outcome)) ∷ log)
 call_told o log t n e run = subst (λ (w : Who). IsRun o (Then (Told (notice w n.outcome)) ∷ log)) (sym (same_is (Call t) n.who e)) run
 
 each_heard : (P : Outcome → Type 0) (b : Bool) (os : List Outcome) (u : Outcome) → Each P os → (b ≡ true → P u) → Each P (cond b (os ++ u ∷ []) os)
@@ -334,14 +361,17 @@ rows_heard only o (Then (Starts who p) ∷ log) t first count run h = elim (case
 rows_heard only o (Then (Told n) ∷ log) t first count run h =
     let k = rows_heard only o log t first count run.0 h in
     let at : parts_at o t log ≡ Some count = ((parts_run o log run.0 t (procedure.Gather first count) h).gather first count refl).1 in (
-      each_heard (RowOf t count) (is_same (Call t) n.who) (outcomes (Call t) log) n.outcome k.0 (λ e. outcome_row o log t count n.outcome (call_told o log t n e run) at),
-      each_heard IsPartOrStop (is_same (Call t) n.who) (outcomes (Call t) log) n.outcome k.1 (λ e. only o log t n.outcome first count (call_told o log t n e run) h),
+      each_heard (RowOf t count) (is_same (Call t) n.who) (outcomes (Call t) log) n.outcome k.0
+          (λ e. outcome_row o log t count n.outcome (call_told o log t n e run) at),
+      each_heard IsPartOrStop (is_same (Call t) n.who) (outcomes (Call t) log) n.outcome k.1
+          (λ e. only o log t n.outcome first count (call_told o log t n e run) h),
     )
 rows_heard only o (Then a ∷ log) t first count run h = rows_heard only o log t first count run.0 h
 
 -- THE LAW
 
-between : (t first count : ℕ) (ps : List Fate) (more : List Outcome) → first ≡ t + 1 → Each (RowOf t count) (map (λ p. outcome.Parted p.0 p.1) ps ++ more) → Each (IsBetween first count) ps
+between : (t first count : ℕ) (ps : List Fate) (more : List Outcome) → first ≡ t + 1 → Each (RowOf t count) (map (λ p. outcome.Parted p.0 p.1) ps ++ more) →
+    Each (IsBetween first count) ps
 between t first count [] more e k = tt
 between t first count (p ∷ ps) more e k =
     let lo : t < p.0 = k.0.0 in
@@ -356,7 +386,8 @@ few_parts u (p ∷ ps) more =
     let g : x + sum (is_it u) ps ≤ x + sum (part_of u) (map (λ p. outcome.Parted p.0 p.1) ps ++ more) = omega (arith, k) in
     g
 
-in_parts : (u : ℕ) (f : Option Failure) (ps : List Fate) (more : List Outcome) → In (u, f) ps → In (outcome.Parted u f) (map (λ p. outcome.Parted p.0 p.1) ps ++ more)
+in_parts : (u : ℕ) (f : Option Failure) (ps : List Fate) (more : List Outcome) → In (u, f) ps →
+    In (outcome.Parted u f) (map (λ p. outcome.Parted p.0 p.1) ps ++ more)
 in_parts u f [] more h = absurd h
 in_parts u f (p ∷ ps) more (inl e) = inl (λ i. outcome.Parted (e i).0 (e i).1)
 in_parts u f (p ∷ ps) more (inr h) = inr (in_parts u f ps more h)
@@ -366,7 +397,8 @@ parts_are_gathered_from only o log t first count said run rests h ans =
     let os : List Outcome = outcomes (Call t) log in
     let heard = rows_heard only o log t first count run h in
     let v : Verdict = record { makes = Nothing; said = said } in
-    let in_course : In (Answered v) (course (gathers first count count []) os) = subst (In (Answered v)) (plans_follow_lem o log (Call t) (procedure.Gather first count) run rests h) ans in
+    let in_course : In (Answered v) (course (gathers first count count []) os) = subst (In (Answered v))
+    (plans_follow_lem o log (Call t) (procedure.Gather first count) run rests h) ans in
     elim (gathers_all first count count [] os v heard.1 in_course) [
       | inl stop ↦ inl stop
       | inr d ↦ inr (
@@ -376,11 +408,11 @@ parts_are_gathered_from only o log t first count said run rests h ans =
             (let num : first ≡ t + 1 = ((parts_run o log run t (procedure.Gather first count) h).gather first count refl).0 in
             let rows : Each (IsBetween first count) d.parts = between t first count d.parts d.more num (subst (Each (RowOf t count)) d.is_it heard.0) in
             let few : (w : ℕ) → sum (is_it w) d.parts ≤ 1 = λ w.
-                (let a : sum (is_it w) d.parts ≤ sum (part_of w) (map (λ p. outcome.Parted p.0 p.1) d.parts ++ d.more) = few_parts w d.parts d.more in
-                let b : sum (part_of w) os ≡ sum (part_of w) (map (λ p. outcome.Parted p.0 p.1) d.parts ++ d.more) = ap (sum (part_of w)) d.is_it in
-                let c : sum (part_of w) os ≤ counted (told_of t w) log = few_heard o log t w in
-                let e : counted (told_of t w) log ≤ 1 = told_once o log t w run in
-                omega (arith, a, b, c, e)) in
+            (let a : sum (is_it w) d.parts ≤ sum (part_of w) (map (λ p. outcome.Parted p.0 p.1) d.parts ++ d.more) = few_parts w d.parts d.more in
+            let b : sum (part_of w) os ≡ sum (part_of w) (map (λ p. outcome.Parted p.0 p.1) d.parts ++ d.more) = ap (sum (part_of w)) d.is_it in
+            let c : sum (part_of w) os ≤ counted (told_of t w) log = few_heard o log t w in
+            let e : counted (told_of t w) log ≤ 1 = told_once o log t w run in
+            omega (arith, a, b, c, e)) in
             let x = fate_of u d.parts [] (each_once first count d.parts rows d.all few u lo hi) refl in
             (x.fate, subst (In (outcome.Parted u x.fate)) (sym d.is_it) (in_parts u x.fate d.parts d.more x.listed), x.found)),
       )

@@ -166,7 +166,8 @@ moved_free : (most now : ℕ) (row : Option Seat) → Each IsCaused (moved_on mo
 moved_free most now None = tt
 moved_free most now (Some seat) = askers_free (λ place. outcome.Queued) seat.askers (λ place. refl) _
 
-waiters_free : (f : Turned → Base → List Notice) (known : Addresses) (g : Seat → Turned) (row : Option Seat) → ((t : Turned) (b : Base) → Each IsCaused (f t b)) →
+waiters_free : (f : Turned → Base → List Notice) (known : Addresses) (g : Seat → Turned) (row : Option Seat) →
+    ((t : Turned) (b : Base) → Each IsCaused (f t b)) →
     Each IsCaused (waiters_of f known (option_map g row))
 waiters_free f known g None free = tt
 waiters_free f known g (Some seat) free = free (g seat) _
@@ -238,7 +239,8 @@ pub record IsLedSo (o : Options) (log : List Entry) (w : Who) (action : Action) 
   pub plan : Plan
   pub leads : told before outcome ≡ Stays plan action
 
-pub does_from : (o : Options) (log : List Entry) (w : Who) (action : Action) → IsRun o (Then (Does w action) ∷ log) → BeginsSo o log w action ⊎ IsLedSo o log w action
+pub does_from : (o : Options) (log : List Entry) (w : Who) (action : Action) → IsRun o (Then (Does w action) ∷ log) →
+    BeginsSo o log w action ⊎ IsLedSo o log w action
 does_from o log w action run =
     let k = deeds_follow_lem o log w (Acted action) run in
     let there = k.2 in
@@ -290,7 +292,8 @@ performs_each P who t d s v (Find n) = finds_so (link_at (v.producers.topics n))
     finds_so : (row : Option ℕ) → Each P (finds who row)
     finds_so None = (t _, tt)
     finds_so (Some l) = (t _, tt)
-performs_each P who t d s v StopAll = each_append P (over_links stop_act v.links) (tells who outcome.Stopped) (over_each P stop_act v.links (λ l seat. (s l, tt))) (t _, tt)
+performs_each P who t d s v StopAll = each_append P (over_links stop_act v.links) (tells who outcome.Stopped)
+    (over_each P stop_act v.links (λ l seat. (s l, tt))) (t _, tt)
 performs_each P who t d s v Rest = tt
 performs_each P who t d s v _ = (t _, tt)
 
@@ -370,7 +373,8 @@ record LeftClean (now : List Act) (here : List Notice) (behind : List (List Noti
   served : Each IsTurn here
   waits : Each (Each IsFree) behind
 
-clean_rest : (now : List Act) (here : List Notice) (behind : List (List Notice)) (parts : List Part) → Each IsPlain (drop 1 now) → Each IsTurn here → Each (Each IsFree) behind →
+clean_rest : (now : List Act) (here : List Notice) (behind : List (List Notice)) (parts : List Part) → Each IsPlain (drop 1 now) → Each IsTurn here →
+    Each (Each IsFree) behind →
     LeftClean (rest_of now here behind parts).now (rest_of now here behind parts).here (rest_of now here behind parts).behind
 clean_rest (a ∷ now) here behind parts k h b = record { now_is = k; served = h; waits = b }
 clean_rest [] (n ∷ here) behind parts k h b = record { now_is = tt; served = h.1; waits = b }
@@ -474,7 +478,8 @@ module _ (v : View) (who : Who) where
   gives_so (Get p) = each_either (GivesSo v (Get p)) (is_reachable p) _ _ (gets_so p (v.addresses.base (address_key p)).series) (tt, tt)
   gives_so (Ask l request) = asks_so l request (answer_at v.now request (v.links.live l))
   gives_so StopAll =
-      each_append (GivesSo v StopAll) (over_links stop_act v.links) (tells who outcome.Stopped) (over_each (GivesSo v StopAll) stop_act v.links (λ l seat. (tt, tt))) (tt, tt)
+      each_append (GivesSo v StopAll) (over_links stop_act v.links) (tells who outcome.Stopped)
+      (over_each (GivesSo v StopAll) stop_act v.links (λ l seat. (tt, tt))) (tt, tt)
   gives_so (Wait delay) = tt
   gives_so (TakeTurn n) = turns_so n (v.producers.topics n) refl
   gives_so (PassTurn n) = (tt, tt)
@@ -540,13 +545,15 @@ granted_by o (Begins e ∷ log) n g run =
     let k = grant_first [] [] [] (agenda o (Begins e ∷ log)).parts n g tt tt run.1 in (let f : [] ≡ Told n ∷ k.left = k.is_it in absurd cc)
 granted_by o (Then b ∷ older) n g run =
     let k = clean_run o (Then b ∷ older) run.0 in
-    let f = grant_first (agenda o (Then b ∷ older)).now (agenda o (Then b ∷ older)).here (agenda o (Then b ∷ older)).behind (agenda o (Then b ∷ older)).parts n g k.served k.waits run.1 in
+    let f = grant_first (agenda o (Then b ∷ older)).now (agenda o (Then b ∷ older)).here (agenda o (Then b ∷ older)).behind
+    (agenda o (Then b ∷ older)).parts n g k.served k.waits run.1 in
     let c = clean_run o older run.0.0 in
     let h = agenda o older in
     let left = clean_rest h.now h.here h.behind h.parts c.at_head c.served c.waits in
     head_granted o older n g b (at_once (view o older) b) (rest (agenda o older)).now f.left refl left.now_is f.is_it
 
-pub grants_given : (o : Options) (log : List Entry) (n : Notice) (k : IsGrantedBy o log n) (y : News) → n.outcome ≡ outcome.Granted y → GivenBy (view o k.older) k.action y
+pub grants_given : (o : Options) (log : List Entry) (n : Notice) (k : IsGrantedBy o log n) (y : News) → n.outcome ≡ outcome.Granted y →
+    GivenBy (view o k.older) k.action y
 grants_given o log n k y e =
     subst (SaysSo (view o k.older) k.action) e
     (in_each (GivesSo (view o k.older) k.action) (Told n) (performs (view o k.older) n.who k.action) (gives_so (view o k.older) n.who k.action) k.told)

@@ -82,7 +82,8 @@ pub record IsPending (o : Options) (log : List Entry) (t : ℕ) : Type 0 where
 pub record Turns (o : Options) (log : List Entry) : Type 0 where
   pub held : (t n : ℕ) (p : Plan) → (view o log).stand (Call t) ≡ Some p → holds p ≡ Some n → HasTurn (view o log) t n
   pub waits : (t n : ℕ) (row : Topic) → (view o log).producers.topics n ≡ Some row → In t row.seen.waiting → IsAt n ((view o log).stand (Call t))
-  pub one : (t n m : ℕ) (row other : Topic) → (view o log).producers.topics n ≡ Some row → (view o log).producers.topics m ≡ Some other → In t row.seen.waiting →
+  pub one : (t n m : ℕ) (row other : Topic) → (view o log).producers.topics n ≡ Some row → (view o log).producers.topics m ≡ Some other →
+      In t row.seen.waiting →
       In t other.seen.waiting → n ≡ m
   pub begun : (t n : ℕ) (row : Topic) → (view o log).producers.topics n ≡ Some row → In t row.seen.waiting → 1 ≤ counted (start_of t) log
   pub few : (t : ℕ) → pending o log t ≤ 1
@@ -134,7 +135,8 @@ at_most_none n h = elim (cases_Bool (n == 0)) [
 ]
 
 -- where a plan neither waits for a turn nor leaves
-clear_at : (o : Options) (log : List Entry) → Turns o log → (t : ℕ) (p : Plan) → (view o log).stand (Call t) ≡ Some p → turn_of p ≡ None → is_leaving p ≡ false → IsClear o log t
+clear_at : (o : Options) (log : List Entry) → Turns o log → (t : ℕ) (p : Plan) → (view o log).stand (Call t) ≡ Some p → turn_of p ≡ None →
+    is_leaving p ≡ false → IsClear o log t
 clear_at o log k t p s n l = record {
   none_pends = at_most_none (pending o log t) (λ one. let i = k.told t one in no i.number (subst (IsAt i.number) s i.stands));
   apart = λ m row h i. no m (subst (IsAt m) s (k.waits t m row h i));
@@ -169,7 +171,8 @@ pub record IsTaking (o : Options) (log : List Entry) (t n : ℕ) : Type 0 where
   pub wants : turn_of plan ≡ Some n
   pub clear : IsClear o log t
 
-pub stand_told : (o : Options) (older : List Entry) (t : ℕ) (u : Outcome) (p q : Plan) (a : Action) → (view o older).stand (Call t) ≡ Some p → told p u ≡ Stays q a →
+pub stand_told : (o : Options) (older : List Entry) (t : ℕ) (u : Outcome) (p q : Plan) (a : Action) → (view o older).stand (Call t) ≡ Some p →
+    told p u ≡ Stays q a →
     (view o (Then (Told (notice (Call t) u)) ∷ older)).stand (Call t) ≡ Some q
 stand_told o older t u p q a s h =
     ap (λ b. cond b (stays_some (told_some ((view o older).stand (Call t)) u)) ((view o older).stand (Call t))) (self_same t)
@@ -221,7 +224,8 @@ pub record IsPassing (o : Options) (log : List Entry) (t n : ℕ) : Type 0 where
 holds_none : (p : Plan) (n : ℕ) → holds p ≡ Some n → (turn_of p ≡ None) × (is_leaving p ≡ false)
 holds_none (Sending w e share s) n h = sending share s h
   where
-    sending : (share : Option Share) (s : Send) → holds (Sending w e share s) ≡ Some n → (turn_of (Sending w e share s) ≡ None) × (is_leaving (Sending w e share s) ≡ false)
+    sending : (share : Option Share) (s : Send) → holds (Sending w e share s) ≡ Some n →
+        (turn_of (Sending w e share s) ≡ None) × (is_leaving (Sending w e share s) ≡ false)
     sending None (send.Waiting m) h = absurd cc
     sending (Some share) (send.Waiting m) h = absurd cc
     sending share _ h = (refl, refl)

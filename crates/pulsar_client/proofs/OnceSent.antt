@@ -155,11 +155,13 @@ few_told o log n t k = elim (cases_Bool (is_same (Call t) n.who)) [
 ]
   where
     by : (r : Option Plan) → (view o log).stand (Call t) ≡ r →
-        queued_times o t log + cond (is_queued n.outcome && asks_send ((view o log).stand (Call t))) 1 0 + left_some (stays_some (told_some ((view o log).stand (Call t)) n.outcome))
+        queued_times o t log + cond (is_queued n.outcome && asks_send ((view o log).stand (Call t))) 1 0 + left_some
+        (stays_some (told_some ((view o log).stand (Call t)) n.outcome))
         ≤ counted (start_of t) log + 0
     by None e =
         let z : queued_times o t log + left_some ((view o log).stand (Call t)) ≤ counted (start_of t) log = k in
-        rw e (elim (is_queued n.outcome) as (λ b. queued_times o t log + cond (b && false) 1 0 + 0 ≤ counted (start_of t) log + 0) [ true ↦ omega (arith, z) | false ↦ omega (arith, z) ])
+        rw e (elim (is_queued n.outcome) as
+        (λ b. queued_times o t log + cond (b && false) 1 0 + 0 ≤ counted (start_of t) log + 0) [ true ↦ omega (arith, z) | false ↦ omega (arith, z) ])
     by (Some p) e =
         let z : queued_times o t log + left p ≤ counted (start_of t) log = subst (λ r. queued_times o t log + left_some r ≤ counted (start_of t) log) e k in
         let y = told_left (is_queued n.outcome && asks_send (Some p)) p n.outcome refl in

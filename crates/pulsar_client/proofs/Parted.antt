@@ -122,7 +122,8 @@ abbrev pub StartSo : (d c : ℕ) → Act → Type 0
 StartSo d c (Starts (Call u) p) = IsOf d c u p
 StartSo d c _ = Unit {0}
 
-parts_so : (d c : ℕ) (o : Chosen) (ps : Producers) (k : ℕ) (advised : List (Option ℕ)) (t : ℕ) (ms : List ProducerMessageValues) → d < k → k + length ms ≤ d + 1 + c →
+parts_so : (d c : ℕ) (o : Chosen) (ps : Producers) (k : ℕ) (advised : List (Option ℕ)) (t : ℕ) (ms : List ProducerMessageValues) → d < k →
+    k + length ms ≤ d + 1 + c →
     Each (StartSo d c) (shares_of o ps d k advised t ms)
 parts_so d c o ps k advised t [] x y = tt
 parts_so d c o ps k advised t (m ∷ ms) x y = (
@@ -153,19 +154,23 @@ head_of v advised content.Build =
     (either_of v.calls.drawn 0 v.calls.drawn (v.chosen.outbound == 0) (procedure.Refuse refusal.NoOutbound) (from_base v.chosen.base procedure.Build)
     (plain_of v.calls.drawn 0 v.calls.drawn (procedure.Refuse refusal.NoOutbound) refl)
     (base_of v.calls.drawn 0 v.calls.drawn v.chosen.base procedure.Build (λ p. refl)))
-head_of v advised content.Stop = may_of v.calls.drawn 0 v.calls.drawn (may_call v.calls) procedure.Stop (plain_of v.calls.drawn 0 v.calls.drawn procedure.Stop refl)
+head_of v advised content.Stop = may_of v.calls.drawn 0 v.calls.drawn (may_call v.calls) procedure.Stop
+    (plain_of v.calls.drawn 0 v.calls.drawn procedure.Stop refl)
 head_of v advised (content.Topics namespace mode) =
     may_of v.calls.drawn 0 v.calls.drawn (may_call v.calls) (from_base v.chosen.base (asks_topics namespace mode))
     (base_of v.calls.drawn 0 v.calls.drawn v.chosen.base (asks_topics namespace mode) (λ p. refl))
 head_of v advised (content.Lookup topic) =
-    may_of v.calls.drawn 0 v.calls.drawn (may_call v.calls) (searches (ways_of v.chosen) (sought.Look topic)) (search_of v.calls.drawn 0 v.calls.drawn (ways_of v.chosen) (sought.Look topic))
+    may_of v.calls.drawn 0 v.calls.drawn (may_call v.calls) (searches (ways_of v.chosen) (sought.Look topic))
+    (search_of v.calls.drawn 0 v.calls.drawn (ways_of v.chosen) (sought.Look topic))
 head_of v advised (content.Partitions topic) =
     may_of v.calls.drawn 0 v.calls.drawn (may_call v.calls) (searches (ways_of v.chosen) (sought.CountPartitions topic))
     (search_of v.calls.drawn 0 v.calls.drawn (ways_of v.chosen) (sought.CountPartitions topic))
 head_of v advised (content.Brokers topic) =
-    may_of v.calls.drawn 0 v.calls.drawn (may_call v.calls) (searches (ways_of v.chosen) (sought.Name topic)) (search_of v.calls.drawn 0 v.calls.drawn (ways_of v.chosen) (sought.Name topic))
+    may_of v.calls.drawn 0 v.calls.drawn (may_call v.calls) (searches (ways_of v.chosen) (sought.Name topic))
+    (search_of v.calls.drawn 0 v.calls.drawn (ways_of v.chosen) (sought.Name topic))
 head_of v advised (content.Producer wanted) =
-    may_of v.calls.drawn 0 v.calls.drawn (may_call v.calls) (produces v.chosen wanted) (produce_of v.calls.drawn 0 v.calls.drawn (ways_of v.chosen) wanted.topic wanted)
+    may_of v.calls.drawn 0 v.calls.drawn (may_call v.calls) (produces v.chosen wanted)
+    (produce_of v.calls.drawn 0 v.calls.drawn (ways_of v.chosen) wanted.topic wanted)
 head_of v advised (content.Send t m) =
     may_of v.calls.drawn 0 v.calls.drawn (may_call v.calls) (sends v.chosen v.producers (next_advice advised) t m)
     (unless_of v.calls.drawn 0 v.calls.drawn (why_not v.producers t) (sends_as v.chosen v.producers None (next_advice advised) t m)
@@ -176,19 +181,22 @@ head_of v advised (content.SendAll t ms) =
     (gathers_of v.calls.drawn v.calls.drawn (length ms) ms refl refl))
 head_of v advised (content.Flush t) =
     may_of v.calls.drawn 0 v.calls.drawn (may_call v.calls) (flushes v.producers t)
-    (unless_of v.calls.drawn 0 v.calls.drawn (why_not v.producers t) (procedure.Refuse refusal.NoBatches) (plain_of v.calls.drawn 0 v.calls.drawn (procedure.Refuse refusal.NoBatches) refl))
+    (unless_of v.calls.drawn 0 v.calls.drawn (why_not v.producers t) (procedure.Refuse refusal.NoBatches)
+    (plain_of v.calls.drawn 0 v.calls.drawn (procedure.Refuse refusal.NoBatches) refl))
 head_of v advised (content.CheckProducer t) =
     may_of v.calls.drawn 0 v.calls.drawn (may_call v.calls) (checks v.producers t)
     (unless_of v.calls.drawn 0 v.calls.drawn (why_not v.producers t) (procedure.Go Checks (numbers_at (v.producers.built t)))
     (plain_of v.calls.drawn 0 v.calls.drawn (procedure.Go Checks (numbers_at (v.producers.built t))) refl))
 head_of v advised (content.CloseProducer t) =
     may_of v.calls.drawn 0 v.calls.drawn (may_call v.calls) (closes v.producers t)
-    (either_of v.calls.drawn 0 v.calls.drawn (is_some (v.producers.built t)) (procedure.Close t (numbers_at (v.producers.built t))) (procedure.Refuse refusal.UnknownTicket)
+    (either_of v.calls.drawn 0 v.calls.drawn (is_some (v.producers.built t)) (procedure.Close t (numbers_at (v.producers.built t)))
+    (procedure.Refuse refusal.UnknownTicket)
     (plain_of v.calls.drawn 0 v.calls.drawn (procedure.Close t (numbers_at (v.producers.built t))) refl)
     (plain_of v.calls.drawn 0 v.calls.drawn (procedure.Refuse refusal.UnknownTicket) refl))
 head_of v advised (content.Raw l request) =
     may_of v.calls.drawn 0 v.calls.drawn (may_call v.calls) (asks_raw v.producers l request)
-    (either_of v.calls.drawn 0 v.calls.drawn (is_taken v.producers (named_producer request)) (procedure.Refuse refusal.NumberInUse) (procedure.Ask (Link l) request says.Bodies)
+    (either_of v.calls.drawn 0 v.calls.drawn (is_taken v.producers (named_producer request)) (procedure.Refuse refusal.NumberInUse)
+    (procedure.Ask (Link l) request says.Bodies)
     (plain_of v.calls.drawn 0 v.calls.drawn (procedure.Refuse refusal.NumberInUse) refl)
     (plain_of v.calls.drawn 0 v.calls.drawn (procedure.Ask (Link l) request says.Bodies) refl))
 
@@ -240,7 +248,7 @@ parts_more o log (Then (Comes (Calls asked advised))) d c h = elim (cases_Bool (
 parts_more o log (Then (Comes p)) d c h = h
 parts_more o log (Then a) d c h = h
 
-parts_behind : (o : Options) (newer older : List Entry) (d c : ℕ) → parts_at o d older ≡ Some c → parts_at o d (newer ++ older) ≡ Some c
+pub parts_behind : (o : Options) (newer older : List Entry) (d c : ℕ) → parts_at o d older ≡ Some c → parts_at o d (newer ++ older) ≡ Some c
 parts_behind o [] older d c h = h
 parts_behind o (e ∷ newer) older d c h = parts_more o (newer ++ older) e d c (parts_behind o newer older d c h)
 
@@ -257,7 +265,8 @@ part_more o log e u p k = record {
 }
 
 -- the step's entries before one that is so
-pub step_behind : (P : Entry → List Entry → Type 0) (log : List Entry) → InThisStep P log → (newer : List Entry) × (e : Entry) × (older : List Entry) × (log ≡ newer ++ e ∷ older) × P e older
+pub step_behind : (P : Entry → List Entry → Type 0) (log : List Entry) → InThisStep P log →
+    (newer : List Entry) × (e : Entry) × (older : List Entry) × (log ≡ newer ++ e ∷ older) × P e older
 step_behind P [] h = absurd h
 step_behind P (Begins e ∷ log) h = ([], Begins e, log, refl, h)
 step_behind P (Then a ∷ log) (inl h) = ([], Then a, log, refl, h)
@@ -278,7 +287,8 @@ starts_part o log u p run =
     let v : View = view o older in
     let d : ℕ = v.calls.drawn in
     let of : IsOf d (shares asked) u p =
-    in_each (StartSo d (shares asked)) (Starts (Call u) p) (starts v (advice o.policies v.producers asked) asked) (starts_so v (advice o.policies v.producers asked) asked) k.4.3 in
+    in_each (StartSo d (shares asked)) (Starts (Call u) p) (starts v (advice o.policies v.producers asked) asked)
+    (starts_so v (advice o.policies v.producers asked) asked) k.4.3 in
     let it : Act = Comes (call_part o.policies v asked) in
     let self : (d == d) ≡ true = grind (arith, nat_tests) in
     let at : parts_at o d (Then it ∷ older) ≡ Some (shares asked) =
@@ -309,7 +319,7 @@ parts_run o (Then (Starts who q) ∷ log) run u p h = elim (cases_Bool (is_same 
       let same : q ≡ p = cc in
       let w : Call u ≡ who = same_is (Call u) who e in
       let r : IsRun o (Then (Starts (Call u) p) ∷ log) = subst (λ (x : Procedure). IsRun o (Then (Starts (Call u) x) ∷ log)) same
-          (subst (λ (y : Who). IsRun o (Then (Starts y q) ∷ log)) (sym w) run) in
+      (subst (λ (y : Who). IsRun o (Then (Starts y q) ∷ log)) (sym w) run) in
       part_more o log (Then (Starts who q)) u p (starts_part o log u p r))
   | inr e ↦ part_more o log (Then (Starts who q)) u p (parts_run o log run.0 u p (rw e at h))
 ]

@@ -134,13 +134,15 @@ asks_sits : (log : List Entry) (l now : ℕ) (who : Who) (request : Words) (row 
     SitsAt (Then (Does who (Ask l request)) ∷ log) l row → SitsAt (Then (Does who (Ask l request)) ∷ log) l (option_map (seat_asked who now request) row)
 asks_sits log l now who request None h k = tt
 asks_sits log l now who request (Some seat) h k =
-    asked_so (AskedFor (Then (Does who (Ask l request)) ∷ log) l) request who seat.askers now seat.seen (λ id c e. (request, id, c, e, refl, inl refl)) (h seat refl).room k
+    asked_so (AskedFor (Then (Does who (Ask l request)) ∷ log) l) request who seat.askers now seat.seen (λ id c e. (request, id, c, e, refl, inl refl))
+    (h seat refl).room k
 
 got_at_sits : (log : List Entry) (now l : ℕ) (got : Option ℕ) (row : Option Seat) → SitsAt log l row → SitsAt log l (got_at got now l row)
 got_at_sits log now l None row k = k
 got_at_sits log now l (Some j) row k = either_sits log l (l == j) (option_map (seat_got now) row) row (λ e. got_sits log l now row k) (λ e. k)
 
-after_sits : (o : Options) (log : List Entry) (a : Act) (l : ℕ) → SitsAt log l ((view o log).links.live l) → SitsAt (Then a ∷ log) l ((view o (Then a ∷ log)).links.live l)
+after_sits : (o : Options) (log : List Entry) (a : Act) (l : ℕ) → SitsAt log l ((view o log).links.live l) →
+    SitsAt (Then a ∷ log) l ((view o (Then a ∷ log)).links.live l)
 after_sits o log (Comes (ToLink j x)) l k =
     let row : Option Seat = (view o log).links.live l in
     let now : ℕ = (view o log).now in
@@ -149,15 +151,16 @@ after_sits o log (Comes (ToLink j x)) l k =
     (λ e. some_sits (Then (Comes (ToLink j x)) ∷ log) l now x row (λ seat h. lives o log l seat h) more) (λ e. more)
 after_sits o log (Does who (Get p)) l k =
     let v : View = view o log in
-    got_at_sits (Then (Does who (Get p)) ∷ log) v.now l (link_got v.addresses (Does who (Get p))) (v.links.live l) (sits_more (Then (Does who (Get p))) log l (v.links.live l) k)
+    got_at_sits (Then (Does who (Get p)) ∷ log) v.now l (link_got v.addresses (Does who (Get p))) (v.links.live l)
+    (sits_more (Then (Does who (Get p))) log l (v.links.live l) k)
 after_sits o log (Does who (Ask j request)) l k =
     let row : Option Seat = (view o log).links.live l in
     let now : ℕ = (view o log).now in
     let more : SitsAt (Then (Does who (Ask j request)) ∷ log) l row = sits_more (Then (Does who (Ask j request))) log l row k in
     either_sits (Then (Does who (Ask j request)) ∷ log) l (l == j) (option_map (seat_asked who now request) row) row
     (λ e. (let q : l ≡ j = eqb-true l j e in
-        subst (λ i. SitsAt (Then (Does who (Ask i request)) ∷ log) l (option_map (seat_asked who now request) row)) q
-        (asks_sits log l now who request row (λ seat h. lives o log l seat h) (sits_more (Then (Does who (Ask l request))) log l row k))))
+    subst (λ i. SitsAt (Then (Does who (Ask i request)) ∷ log) l (option_map (seat_asked who now request) row)) q
+    (asks_sits log l now who request row (λ seat h. lives o log l seat h) (sits_more (Then (Does who (Ask l request))) log l row k))))
     (λ e. more)
 after_sits o log (Dials p starter retries) l k =
     let v : View = view o log in
@@ -174,7 +177,8 @@ heard_sits : (log : List Entry) (l : ℕ) (e : Heard) (row : Option Seat) → Si
 heard_sits log l (Bytes j piece) row k = either_sits log l (l == j) (option_map (seat_fed piece) row) row (λ q. fed_sits log l piece row k) (λ q. k)
 heard_sits log l _ row k = k
 
-begun_sits : (o : Options) (log : List Entry) (e : Heard) (l : ℕ) → SitsAt log l ((view o log).links.live l) → SitsAt (Begins e ∷ log) l ((view o (Begins e ∷ log)).links.live l)
+begun_sits : (o : Options) (log : List Entry) (e : Heard) (l : ℕ) → SitsAt log l ((view o log).links.live l) →
+    SitsAt (Begins e ∷ log) l ((view o (Begins e ∷ log)).links.live l)
 begun_sits o log e l k =
     let row : Option Seat = (view o log).links.live l in
     let more : SitsAt (Begins e ∷ log) l row = sits_more (Begins e) log l row k in
@@ -270,7 +274,8 @@ seven_key b = uint64_at 1 b.row b.values >>= λ p. uint64_at 2 b.row b.values >>
 
 key_seven : (m : MessageValues) (b : BodyValues) → m.command.body ≡ Some b → b.number ≡ 7 → key m ≡ seven_key b
 unfolding key
-key_seven m b e n = ap (λ y. y >>= body_key) e ∙ ap (λ x. cond ((x == 17) && is_false (flag_at 6 b.row b.values)) None (key_fields x >>= λ k. key_from k b.row b.values)) n
+key_seven m b e n = ap (λ y. y >>= body_key) e
+    ∙ ap (λ x. cond ((x == 17) && is_false (flag_at 6 b.row b.values)) None (key_fields x >>= λ k. key_from k b.row b.values)) n
 
 -- it answers no request by its number
 no_request : (p s : Option ℕ) (n : ℕ) → bears_key (p >>= λ x. s >>= λ y. Some (keys.ProducerSend x y)) (keys.RequestId n) ≡ false
@@ -330,7 +335,8 @@ claimed_send (words.Send producer name sequence message block) id c p s h e =
 claimed_send SendPing id c p s h e =
     let f : record { awaits = awaited.Pong; creates = false } ≡ c = cc in let g : awaited.Pong ≡ awaited.Receipt p s = ap (λ x. x.awaits) f ∙ e in absurd cc
 claimed_send (words.CreateProducer topic producer name options) id c p s h e =
-    let f : record { awaits = awaited.Reply id; creates = true } ≡ c = cc in let g : awaited.Reply id ≡ awaited.Receipt p s = ap (λ x. x.awaits) f ∙ e in absurd cc
+    let f : record { awaits = awaited.Reply id; creates = true } ≡ c = cc in let g : awaited.Reply id ≡ awaited.Receipt p s = ap (λ x. x.awaits) f
+    ∙ e in absurd cc
 claimed_send words.SendPong id c p s h e = absurd (none_some h)
 claimed_send (words.AuthChallenge auth) id c p s h e = absurd (none_some h)
 claimed_send (words.SendFlow consumer permits) id c p s h e = absurd (none_some h)
@@ -392,18 +398,21 @@ acts_begun o older t action run = elim (does_from o older (Call t) action run) [
       let g : 1 ≤ counted (start_of t) b.older + start_of t (Starts (Call t) b.procedure) = omega (arith, one) in g)
   | inr l ↦
       subst (λ x. 1 ≤ counted (start_of t) x) (sym l.is_there)
-      (let k : 1 ≤ counted (start_of t) l.older = stood_begun o l.older t l.before l.stood in let g : 1 ≤ counted (start_of t) l.older + 0 = omega (arith, k) in g)
+      (let k : 1 ≤ counted (start_of t) l.older = stood_begun o l.older t l.before l.stood in let g : 1 ≤ counted (start_of t) l.older + 0 = omega
+      (arith, k) in g)
 ]
 
 -- an entry of this step, with those before it
-in_step : (P : Entry → List Entry → Type 0) (log : List Entry) → InThisStep P log → (e : Entry) × (older : List Entry) × P e older × ((x : Entry) → In x older → In x log)
+in_step : (P : Entry → List Entry → Type 0) (log : List Entry) → InThisStep P log →
+    (e : Entry) × (older : List Entry) × P e older × ((x : Entry) → In x older → In x log)
 in_step P [] h = absurd h
 in_step P (Begins e ∷ log) h = (Begins e, log, h, λ x i. inr i)
 in_step P (Then a ∷ log) (inl h) = (Then a, log, h, λ x i. inr i)
 in_step P (Then a ∷ log) (inr h) = let k = in_step P log h in (k.0, k.1, k.2, λ x i. inr (k.3 x i))
 
 -- what settles was asked for
-replied_for : (o : Options) (older : List Entry) (t l : ℕ) (seat : Seat) (ps : List ℕ) (m : MessageValues) (place : ℕ) → (view o older).links.live l ≡ Some seat →
+replied_for : (o : Options) (older : List Entry) (t l : ℕ) (seat : Seat) (ps : List ℕ) (m : MessageValues) (place : ℕ) →
+    (view o older).links.live l ≡ Some seat →
     came seat.seen ≡ Settles ps m → In place ps → seat.askers place ≡ Some (Call t) → (a : Awaited) × (answers m a ≡ true) × AskedFor older l (Call t) a
 replied_for o older t l seat ps m place h c i w =
     let k : Sits older l seat = subst (SitsAt older l) h (sits o older l) in
@@ -439,6 +448,6 @@ receipts_are_own_lem o log t r w e share m run h body =
       send.name,
       send.message,
       subst (λ n. In (Then (Does (Call t) (Ask l (words.Send n send.name q.sequence send.message e.block)))) log) f.3
-      (subst (λ y. In (Then (Does (Call t) (Ask l (words.Send q.producer send.name q.sequence send.message y)))) log) f.4 i),
+          (subst (λ y. In (Then (Does (Call t) (Ask l (words.Send q.producer send.name q.sequence send.message y)))) log) f.4 i),
       ap (λ y. y.content.key) read_it ∙ key_of_read x x.command.body refl ∙ q.bears ∙ ap (λ n. Some (keys.ProducerSend n q.sequence)) f.3,
     )

@@ -47,7 +47,8 @@ record IsLater (o : Options) (log : List Entry) (n : ℕ) (row : Topic) : Type 0
   is_it : (view o log).producers.topics n ≡ Some now
   more : row.seen.next ≤ now.seen.next
 
-later : (o : Options) (newer older : List Entry) (n : ℕ) (row : Topic) → IsRun o (newer ++ older) → (view o older).producers.topics n ≡ Some row → IsLater o (newer ++ older) n row
+later : (o : Options) (newer older : List Entry) (n : ℕ) (row : Topic) → IsRun o (newer ++ older) → (view o older).producers.topics n ≡ Some row →
+    IsLater o (newer ++ older) n row
 later o [] older n row run h = record { now = row; is_it = h; more = omega arith }
 later o (Begins e ∷ newer) older n row run h =
     let k = later o newer older n row run.0 h in
@@ -58,7 +59,8 @@ later o (Then a ∷ newer) older n row run h =
     record {
       now = topic_all ds k.now;
       is_it = row_as o (newer ++ older) (drawn_run o (newer ++ older) run.0) n k.now k.is_it a run;
-      more = (let x : row.seen.next ≤ k.now.seen.next = k.more in let y : k.now.seen.next ≤ (all_after ds k.now.seen).next = all_next ds k.now.seen in omega (arith, x, y));
+      more = (let x : row.seen.next ≤ k.now.seen.next = k.more in let y : k.now.seen.next ≤ (all_after ds k.now.seen).next = all_next ds k.now.seen in omega
+          (arith, x, y));
     }
 
 -- WHAT STANDS BEFORE A DRAW
@@ -72,7 +74,8 @@ record Behind (x : Entry) (older behind : List Entry) : Type 0 where
   newer : List Entry
   is_it : behind ≡ newer ++ x ∷ older
 
-behind_two : (x y z : Entry) (newer older behind : List Entry) → is_ask x ≡ true → is_ask y ≡ false → is_ask z ≡ false → newer ++ x ∷ older ≡ y ∷ z ∷ behind → Behind x older behind
+behind_two : (x y z : Entry) (newer older behind : List Entry) → is_ask x ≡ true → is_ask y ≡ false → is_ask z ≡ false →
+    newer ++ x ∷ older ≡ y ∷ z ∷ behind → Behind x older behind
 behind_two x y z [] older behind a b c h = let e : x ≡ y = cc in let f : true ≡ false = sym a ∙ ap is_ask e ∙ b in absurd cc
 behind_two x y z (u ∷ []) older behind a b c h = let e : x ≡ z = cc in let f : true ≡ false = sym a ∙ ap is_ask e ∙ c in absurd cc
 behind_two x y z (u ∷ w ∷ newer) older behind a b c h = record { newer = newer; is_it = (let e : newer ++ x ∷ older ≡ behind = cc in sym e) }

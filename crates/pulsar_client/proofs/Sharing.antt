@@ -139,7 +139,8 @@ module _ (r : Round) (n : ℕ) (left : List ℕ) where
 
   awaiting_mute : (u : Outcome) → StaysSo Mute (in_awaiting r n left u)
   awaiting_mute (outcome.Replied reply) =
-      either_so Mute (is_answer (request_number (asks_of r n)) reply.content.body) (goes_round r left) (fails_in r (refused reply reply.content.body)) (round_mute r left) tt
+      either_so Mute (is_answer (request_number (asks_of r n)) reply.content.body) (goes_round r left) (fails_in r (refused reply reply.content.body))
+      (round_mute r left) tt
   awaiting_mute outcome.Queued = (refl, refl)
   awaiting_mute _ = tt
 
@@ -195,9 +196,11 @@ told_shares (Searching w s) outcome.Stopped = tt
 told_shares (Searching w s) u = mute_shares None (goes w (search.told w s (news_in u))) (goes_mute w (search.told w s (news_in u)))
 told_shares (Producing w o b) u =
     mute_shares None (told (Producing w o b) u)
-    (either_so Mute (overrides u) (Gives (fails (fault_of u))) (builds w o (produce.build_told w o b (news_of u))) tt (builds_mute w o (produce.build_told w o b (news_of u))))
+    (either_so Mute (overrides u) (Gives (fails (fault_of u))) (builds w o (produce.build_told w o b (news_of u))) tt
+    (builds_mute w o (produce.build_told w o b (news_of u))))
 told_shares (Sending w e share s) u =
-    either_so (SharesSo share) (overrides u && not (is_sent s)) (halted share u) (goes_on_sending w e share (produce.send_told w e s (news_of u))) (halted_shares share u)
+    either_so (SharesSo share) (overrides u && not (is_sent s)) (halted share u) (goes_on_sending w e share (produce.send_told w e s (news_of u)))
+    (halted_shares share u)
     (sends_shares w e share (produce.send_told w e s (news_of u)))
 told_shares (Reporting w e) u = record { keeps = λ x h. absurd (none_some h); tells = tt }
 told_shares (Leaving f) u = tt
@@ -206,7 +209,8 @@ told_shares (Gathering first count left failures) (outcome.Parted t f) =
 told_shares (Gathering first count left failures) _ = tt
 told_shares (Shutting ns) u = mute_shares None (told (Shutting ns) u) (shut_mute ns u)
 told_shares (Visiting r n left x) u =
-    mute_shares None (told (Visiting r n left x) u) (either_so Mute (overrides u) (Gives (fails (fault_of u))) (told_at r n left x u) tt (visit_mute r n left x u))
+    mute_shares None (told (Visiting r n left x) u)
+    (either_so Mute (overrides u) (Gives (fails (fault_of u))) (told_at r n left x u) tt (visit_mute r n left x u))
 told_shares Stopping outcome.Stopped = tt
 told_shares Stopping _ = tt
 

@@ -101,7 +101,8 @@ can_told : (r : Option Plan) (u : Outcome) → can (stays_some (told_some r u)) 
 can_told None u = omega arith
 can_told (Some p) u = can_less (shares_of p) (told p u) (told_shares p u)
 
-share_stays : (share : Option Share) (x : Turn Plan Verdict) (p : Plan) (s : Share) → StaysSo (SharesSo share) x → stays x ≡ Some p → shares_of p ≡ Some s → share ≡ Some s
+share_stays : (share : Option Share) (x : Turn Plan Verdict) (p : Plan) (s : Share) → StaysSo (SharesSo share) x → stays x ≡ Some p → shares_of p ≡ Some s →
+    share ≡ Some s
 share_stays share (Gives v) p s k h e = absurd (none_some h)
 share_stays share (Stays q a) p s k h e = k.keeps s (ap shares_of (let f : q ≡ p = cc in f) ∙ e)
 
@@ -123,7 +124,8 @@ told_tells o log n k = record {
   ];
 }
 
-starts_tells : (o : Options) (log : List Entry) (who : Who) (q : Procedure) → IsRun o (Then (Starts who q) ∷ log) → Tells o log → Tells o (Then (Starts who q) ∷ log)
+starts_tells : (o : Options) (log : List Entry) (who : Who) (q : Procedure) → IsRun o (Then (Starts who q) ∷ log) → Tells o log →
+    Tells o (Then (Starts who q) ∷ log)
 starts_tells o log who q run k = record {
   few = λ u. (let f : counted (tell_of u) log + can ((view o log).stand (Call u)) ≤ counted (start_of u) log = k.few u in
       elim (cases_Bool (is_same (Call u) who)) [
@@ -168,7 +170,8 @@ telling o log w n run k = elim (does_from o log (Call w) (Tell n) run) [ inl b �
           ticket = x.3;
           own = (starts_part o b.older w b.procedure r).share x.0 x.1;
           room = g;
-          out = out_of ((view o (Then (Starts (Call w) b.procedure) ∷ b.older)).stand (Call w)) b.plan (stand_starts o b.older w b.procedure b.plan (Tell n) b.leads) x.4;
+          out = out_of ((view o (Then (Starts (Call w) b.procedure) ∷ b.older)).stand (Call w)) b.plan
+              (stand_starts o b.older w b.procedure b.plan (Tell n) b.leads) x.4;
         })
 
     led : IsLedSo o log (Call w) (Tell n) → IsTelling o log w n
@@ -185,10 +188,12 @@ telling o log w n run k = elim (does_from o log (Call w) (Tell n) run) [ inl b �
           ticket = x.3;
           own = was.own w l.before x.0 l.stood x.1;
           room = g;
-          out = out_of ((view o (Then (Told (notice (Call w) l.outcome)) ∷ l.older)).stand (Call w)) l.plan (stand_told o l.older w l.outcome l.before l.plan (Tell n) l.stood l.leads) x.4;
+          out = out_of ((view o (Then (Told (notice (Call w) l.outcome)) ∷ l.older)).stand (Call w)) l.plan
+              (stand_told o l.older w l.outcome l.before l.plan (Tell n) l.stood l.leads) x.4;
         })
 
-tell_tells : (o : Options) (log : List Entry) (w : ℕ) (n : Notice) → IsRun o (Then (Does (Call w) (Tell n)) ∷ log) → Every (Tells o) log → Tells o (Then (Does (Call w) (Tell n)) ∷ log)
+tell_tells : (o : Options) (log : List Entry) (w : ℕ) (n : Notice) → IsRun o (Then (Does (Call w) (Tell n)) ∷ log) → Every (Tells o) log →
+    Tells o (Then (Does (Call w) (Tell n)) ∷ log)
 tell_tells o log w n run k = record { few = λ u. by u n.outcome x.ticket; own = (here (Tells o) log k).own }
   where
     x : IsTelling o log w n
@@ -213,7 +218,8 @@ then_tells o log (Told n) run k = told_tells o log n (here (Tells o) log k)
 then_tells o log (Starts who q) run k = starts_tells o log who q run (here (Tells o) log k)
 then_tells o log (Does (Call w) (Tell n)) run k = tell_tells o log w n run k
 then_tells o log a run k = record {
-  few = λ u. (let f : counted (tell_of u) log + can ((view o log).stand (Call u)) ≤ counted (start_of u) log = (here (Tells o) log k).few u in omega (arith, f));
+  few = λ u. (let f : counted (tell_of u) log + can ((view o log).stand (Call u)) ≤ counted (start_of u) log = (here (Tells o) log k).few u in omega
+      (arith, f));
   own = λ u p s h f. own_more o log (Then a) u s ((here (Tells o) log k).own u p s h f);
 }
 
@@ -262,7 +268,8 @@ none_part u (outcome.Parted k f) h = absurd cc
 none_part u _ h = refl
 
 note_none : (t u : ℕ) (n : Notice) → part_of u n.outcome ≡ 0 → note t u n ≡ 0
-note_none t u n h = ap (λ x. cond (is_same (Call t) n.who) x 0) h ∙ (elim (is_same (Call t) n.who) as (λ b. ◌≡◌ {A = ℕ} (cond b 0 0) 0) [ true ↦ refl | false ↦ refl ])
+note_none t u n h = ap (λ x. cond (is_same (Call t) n.who) x 0) h
+    ∙ (elim (is_same (Call t) n.who) as (λ b. ◌≡◌ {A = ℕ} (cond b 0 0) 0) [ true ↦ refl | false ↦ refl ])
 
 caused_note : (t u : ℕ) (n : Notice) → IsCaused n → note t u n ≡ 0
 caused_note t u n h = note_none t u n (none_part u n.outcome h)
@@ -326,7 +333,8 @@ module _ (v : View) (who : Who) where
   performs_no : (action : Action) → Each NoPart (performs v who action)
   performs_no (Get p) = each_either NoPart (is_reachable p) _ _ (gets_no p (v.addresses.base (address_key p)).series) (refl, tt)
   performs_no (Ask l request) = asks_no (answer_at v.now request (v.links.live l))
-  performs_no StopAll = each_append NoPart (over_links stop_act v.links) (tells who outcome.Stopped) (over_each NoPart stop_act v.links (λ l seat. (tt, tt))) (refl, tt)
+  performs_no StopAll = each_append NoPart (over_links stop_act v.links) (tells who outcome.Stopped) (over_each NoPart stop_act v.links (λ l seat. (tt, tt)))
+      (refl, tt)
   performs_no (Wait delay) = tt
   performs_no (TakeTurn n) = turns_no (v.producers.topics n)
   performs_no (PassTurn n) = (refl, tt)
@@ -372,7 +380,8 @@ joins_few v t u _ = omega arith
 abbrev Waits : List (List Notice) → Type 0
 Waits behind = Each (Each IsCaused) behind
 
-waits_rest : (now : List Act) (here : List Notice) (behind : List (List Notice)) (parts : List Part) → Waits behind → Waits (rest_of now here behind parts).behind
+waits_rest : (now : List Act) (here : List Notice) (behind : List (List Notice)) (parts : List Part) → Waits behind →
+    Waits (rest_of now here behind parts).behind
 waits_rest (a ∷ now) here behind parts k = k
 waits_rest [] (n ∷ here) behind parts k = k
 waits_rest [] [] (cause ∷ behind) parts k = waits_rest [] cause behind parts k.1

@@ -75,7 +75,8 @@ record Step (o : Options) (log : List Entry) (a : Act) (Keeper : ℕ → Type 0)
 count_more : (t : ℕ) (a : Act) (log : List Entry) → 1 ≤ counted (start_of t) log → 1 ≤ counted (start_of t) (Then a ∷ log)
 count_more t a log h = let s : ℕ = start_of t a in let g : 1 ≤ counted (start_of t) log + s = omega (arith, h) in g
 
-step_turns : (o : Options) (log : List Entry) (a : Act) (Keeper : ℕ → Type 0) (New : ℕ → ℕ → Type 0) → Turns o log → Step o log a Keeper New → Turns o (Then a ∷ log)
+step_turns : (o : Options) (log : List Entry) (a : Act) (Keeper : ℕ → Type 0) (New : ℕ → ℕ → Type 0) → Turns o log → Step o log a Keeper New →
+    Turns o (Then a ∷ log)
 step_turns o log a Keeper New k s = record {
   held = λ t n p h e.
       (let was : (view o log).stand (Call t) ≡ Some p = sym (s.stand t) ∙ h in s.keeps t n (s.holder t n p was e) (k.held t n p was e));
@@ -108,7 +109,8 @@ Everyone t = Unit {0}
 abbrev Nobody : ℕ → ℕ → Type 0
 Nobody t n = ⊥
 
-kept_row : (o : Options) (log : List Entry) (a : Act) → IsRun o (Then a ∷ log) → takes_it a ≡ false → passes_it a ≡ false → (t n : ℕ) → HasTurn (view o log) t n →
+kept_row : (o : Options) (log : List Entry) (a : Act) → IsRun o (Then a ∷ log) → takes_it a ≡ false → passes_it a ≡ false → (t n : ℕ) →
+    HasTurn (view o log) t n →
     HasTurn (view o (Then a ∷ log)) t n
 kept_row o log a run x y t n h = (
   topic_all (topic_acts (view o log) n a) h.0,
@@ -163,7 +165,8 @@ module _ (o : Options) (log : List Entry) (n : Notice) (run : IsRun o (Then (Tol
 
   it_stands : (t : ℕ) (r : Option Plan) → is_same (Call t) n.who ≡ true → (view o log).stand (Call t) ≡ r → after_told t ≡ stays_some (told_some r n.outcome)
   it_stands t r e h =
-      ap (λ b. cond b (stays_some (told_some ((view o log).stand (Call t)) n.outcome)) ((view o log).stand (Call t))) e ∙ ap (λ x. stays_some (told_some x n.outcome)) h
+      ap (λ b. cond b (stays_some (told_some ((view o log).stand (Call t)) n.outcome)) ((view o log).stand (Call t))) e
+      ∙ ap (λ x. stays_some (told_some x n.outcome)) h
 
   note_one : (t : ℕ) → is_same (Call t) n.who ≡ true → is_turn_told n.outcome ≡ true → turn_note t n ≡ 1
   note_one t e f = ap (λ b. cond (b && is_turn_told n.outcome) 1 0) e ∙ ap (λ b. cond b 1 0) f
@@ -177,11 +180,13 @@ module _ (o : Options) (log : List Entry) (n : Notice) (run : IsRun o (Then (Tol
   at_stays m p (Stays q a) e f (inl w) = inr ((subst (StaysSo (GoesSo p n.outcome)) e (told_holds p n.outcome)).waits m w f)
   at_stays m p (Stays q a) e f (inr l) = absurd (leaving_gives p n.outcome q a l e)
 
-  at_told : (t m : ℕ) (r : Option Plan) → is_same (Call t) n.who ≡ true → (view o log).stand (Call t) ≡ r → is_turn_told n.outcome ≡ false → IsAt m r → IsAt m (after_told t)
+  at_told : (t m : ℕ) (r : Option Plan) → is_same (Call t) n.who ≡ true → (view o log).stand (Call t) ≡ r → is_turn_told n.outcome ≡ false → IsAt m r →
+      IsAt m (after_told t)
   at_told t m None e s f h = subst (IsAt m) (sym (it_stands t None e s)) tt
   at_told t m (Some p) e s f h = subst (IsAt m) (sym (it_stands t (Some p) e s)) (at_stays m p (told p n.outcome) refl f h)
 
-  held_stays : (t m : ℕ) (p q : Plan) (x : Turn Plan Verdict) → told p n.outcome ≡ x → is_same (Call t) n.who ≡ true → (view o log).stand (Call t) ≡ Some p → stays x ≡ Some q →
+  held_stays : (t m : ℕ) (p q : Plan) (x : Turn Plan Verdict) → told p n.outcome ≡ x → is_same (Call t) n.who ≡ true → (view o log).stand (Call t) ≡ Some p →
+      stays x ≡ Some q →
       holds q ≡ Some m → HasTurn (view o log) t m
   held_stays t m p q (Gives verdict) e same s h d = absurd (none_some h)
   held_stays t m p q (Stays r a) e same s h d =
@@ -198,12 +203,14 @@ module _ (o : Options) (log : List Entry) (n : Notice) (run : IsRun o (Then (Tol
             ])
       ]
 
-  held_told : (t m : ℕ) (q : Plan) (r : Option Plan) → is_same (Call t) n.who ≡ true → (view o log).stand (Call t) ≡ r → after_told t ≡ Some q → holds q ≡ Some m →
+  held_told : (t m : ℕ) (q : Plan) (r : Option Plan) → is_same (Call t) n.who ≡ true → (view o log).stand (Call t) ≡ r → after_told t ≡ Some q →
+      holds q ≡ Some m →
       HasTurn (view o log) t m
   held_told t m q None e s h d = absurd (none_some (sym (it_stands t None e s) ∙ h))
   held_told t m q (Some p) e s h d = held_stays t m p q (told p n.outcome) refl e s (sym (it_stands t (Some p) e s) ∙ h) d
 
-  waits_told : (t m : ℕ) (row : Topic) → (view o log).producers.topics m ≡ Some row → In t row.seen.waiting → is_same (Call t) n.who ≡ true → IsAt m (after_told t)
+  waits_told : (t m : ℕ) (row : Topic) → (view o log).producers.topics m ≡ Some row → In t row.seen.waiting → is_same (Call t) n.who ≡ true →
+      IsAt m (after_told t)
   waits_told t m row e i same = elim (cases_Bool (is_turn_told n.outcome)) [
     | inl f ↦ absurd ((k.told t (pends_one t same f)).apart m row e i)
     | inr f ↦ at_told t m ((view o log).stand (Call t)) same refl f (k.waits t m row e i)
@@ -248,7 +255,8 @@ module _ (o : Options) (log : List Entry) (n : Notice) (run : IsRun o (Then (Tol
 
 -- A PLAN STARTS
 
-starts_turns : (o : Options) (log : List Entry) (who : Who) (p : Procedure) → IsRun o (Then (Starts who p) ∷ log) → Turns o log → Turns o (Then (Starts who p) ∷ log)
+starts_turns : (o : Options) (log : List Entry) (who : Who) (p : Procedure) → IsRun o (Then (Starts who p) ∷ log) → Turns o log →
+    Turns o (Then (Starts who p) ∷ log)
 starts_turns o log who p run k = record {
   held = λ t m q h d. elim (cases_Bool (is_same (Call t) who)) [
     | inl e ↦ absurd (none_held (begins p) refl m q (rw e at h) d)
@@ -328,7 +336,8 @@ call_is : (u t : ℕ) → is_same (Call u) (Call t) ≡ true → u ≡ t
 call_is u t e = eqb-true u t e
 
 no_note_of : (u t : ℕ) (x : Outcome) → is_turn_told x ≡ false → turn_note u (notice (Call t) x) ≡ 0
-no_note_of u t x h = ap (λ b. cond (is_same (Call u) (Call t) && b) 1 0) h ∙ (elim (is_same (Call u) (Call t)) as (λ b. ◌≡◌ {A = ℕ} (cond (b && false) 1 0) 0) [ true ↦ refl | false ↦ refl ])
+no_note_of u t x h = ap (λ b. cond (is_same (Call u) (Call t) && b) 1 0) h
+    ∙ (elim (is_same (Call u) (Call t)) as (λ b. ◌≡◌ {A = ℕ} (cond (b && false) 1 0) 0) [ true ↦ refl | false ↦ refl ])
 
 module _ (o : Options) (log : List Entry) (t n : ℕ) (run : IsRun o (Then (Does (Call t) (TakeTurn n)) ∷ log)) (k : Turns o log) (x : IsTaking o log t n) where
   abbrev ps : Producers
@@ -497,11 +506,14 @@ module _ (o : Options) (log : List Entry) (t n : ℕ) (run : IsRun o (Then (Does
         new_one = λ u m j h w. h.1 ∙ sym w.1;
         new_begun = λ u m h. subst (λ y. 1 ≤ counted (start_of y) log) (sym h.0) (stood_begun o log t x.plan x.stood);
         few = λ u. (let e = pends_busy u in let f : pending o log u ≤ 1 = k.few u in omega (arith, e, f));
-        told = λ u one. inl ((let e = pends_busy u in omega (arith, e, one)), λ m h.
-            (let e : pending o log t ≡ pending o (Then it ∷ log) t = pends_busy t in
-            let z : pending o log t ≡ 0 = x.clear.none_pends in
-            let f : 1 ≤ pending o (Then it ∷ log) t = subst (λ y. 1 ≤ pending o (Then it ∷ log) y) h.0 one in
-            omega (arith, e, z, f)));
+        told = λ u one. inl (
+          (let e = pends_busy u in omega (arith, e, one)),
+          λ m h.
+              (let e : pending o log t ≡ pending o (Then it ∷ log) t = pends_busy t in
+              let z : pending o log t ≡ 0 = x.clear.none_pends in
+              let f : 1 ≤ pending o (Then it ∷ log) t = subst (λ y. 1 ≤ pending o (Then it ∷ log) y) h.0 one in
+              omega (arith, e, z, f)),
+        );
       })
 
     row_turns : (h : Option ℕ) → row.seen.holder ≡ h → Turns o (Then it ∷ log)
@@ -516,11 +528,13 @@ module _ (o : Options) (log : List Entry) (t n : ℕ) (run : IsRun o (Then (Does
 
 above_not : (x : ℕ) (xs : List ℕ) → AreAbove x xs → In x xs → ⊥
 above_not x [] h i = i
-above_not x (y ∷ xs) h (inl e) = let lt : x < y = h.0 in let q : x ≡ y = e in absurd (let f : 1 ≤ 0 = omega (arith, lt, q) in (let g : ⊥ = omega (arith, f) in g))
+above_not x (y ∷ xs) h (inl e) = let lt : x < y = h.0 in let q : x ≡ y = e in absurd
+    (let f : 1 ≤ 0 = omega (arith, lt, q) in (let g : ⊥ = omega (arith, f) in g))
 above_not x (y ∷ xs) h (inr i) = above_not x xs h.1 i
 
 -- the first of those that wait is the lowest
-pub lowest : (o : Options) (log : List Entry) (n : ℕ) (row : Topic) (x : ℕ) (xs : List ℕ) → IsRun o log → (view o log).producers.topics n ≡ Some row → row.seen.waiting ≡ x ∷ xs →
+pub lowest : (o : Options) (log : List Entry) (n : ℕ) (row : Topic) (x : ℕ) (xs : List ℕ) → IsRun o log → (view o log).producers.topics n ≡ Some row →
+    row.seen.waiting ≡ x ∷ xs →
     AreAbove x xs
 lowest o log n row x xs run is w =
     let a = topics_alone_lem o log n row run is in
@@ -548,7 +562,8 @@ module _ (o : Options) (log : List Entry) (t n : ℕ) (run : IsRun o (Then (Does
   told_next r e u =
       let p = pend_then o log u pass run in
       let z : sum (turn_act u) (at_once (view o log) pass) ≡ 0 = once_none (view o log) u pass refl in
-      let q : pending o log u + 0 + sum (turn_note u) (option_to_list (option_map turn_notice (turn_passed (was.topics n)))) ≡ 0 + pending o (Then pass ∷ log) u =
+      let q : pending o log u + 0 + sum (turn_note u) (option_to_list (option_map turn_notice (turn_passed (was.topics n)))) ≡ 0 + pending o
+      (Then pass ∷ log) u =
       omega (arith, p, z) in
       subst (λ q. pending o log u + 0 + sum (turn_note u) (option_to_list (option_map turn_notice q)) ≡ 0 + pending o (Then pass ∷ log) u) e q
 
@@ -573,7 +588,8 @@ module _ (o : Options) (log : List Entry) (t n : ℕ) (run : IsRun o (Then (Does
       none_some (sym y.no_more ∙ sym (ap holds same) ∙ h)
 
   pender_pass : (u : ℕ) → 1 ≤ pending o log u → Others u
-  pender_pass u one e = let z : pending o log t ≡ 0 = y.clear.none_pends in let f : 1 ≤ pending o log t = subst (λ w. 1 ≤ pending o log w) e one in absurd (let g : ⊥ = omega (arith, z, f) in g)
+  pender_pass u one e = let z : pending o log t ≡ 0 = y.clear.none_pends in let f : 1 ≤ pending o log t = subst (λ w. 1 ≤ pending o log w) e one in absurd
+      (let g : ⊥ = omega (arith, z, f) in g)
 
   in_rest : (u : ℕ) (ts : List ℕ) → In u (rest_of ts) → In u ts
   in_rest u [] h = h
@@ -585,7 +601,8 @@ module _ (o : Options) (log : List Entry) (t n : ℕ) (run : IsRun o (Then (Does
     | inr q ↦ (r, q.1, i)
   ]
 
-  pass_step : ((u : ℕ) → pending o (Then pass ∷ log) u ≤ 1) → ((u : ℕ) → 1 ≤ pending o (Then pass ∷ log) u → (1 ≤ pending o log u) ⊎ IsPending o (Then pass ∷ log) u) →
+  pass_step : ((u : ℕ) → pending o (Then pass ∷ log) u ≤ 1) →
+      ((u : ℕ) → 1 ≤ pending o (Then pass ∷ log) u → (1 ≤ pending o log u) ⊎ IsPending o (Then pass ∷ log) u) →
       Turns o (Then pass ∷ log)
   pass_step few told = step_turns o log pass Others Nobody k (record {
     stand = λ u. refl;
@@ -677,7 +694,8 @@ begins_turns o log e k =
     let p = begun_same (λ v. v.producers) e (view o log) refl in
     let s = begun_same (λ v. v.stand) e (view o log) refl in
     let has : (t n : ℕ) → HasTurn (view o log) t n → HasTurn (view o (Begins e ∷ log)) t n = λ t n h. (h.0, ap (λ q. q.topics n) p ∙ h.1, h.2) in
-    let row : (n : ℕ) (r : Topic) → (view o (Begins e ∷ log)).producers.topics n ≡ Some r → (view o log).producers.topics n ≡ Some r = λ n r h. sym (ap (λ q. q.topics n) p) ∙ h in
+    let row : (n : ℕ) (r : Topic) → (view o (Begins e ∷ log)).producers.topics n ≡ Some r →
+    (view o log).producers.topics n ≡ Some r = λ n r h. sym (ap (λ q. q.topics n) p) ∙ h in
     record {
       held = λ t n q h d. has t n (k.held t n q (sym (ap (λ f. f (Call t)) s) ∙ h) d);
       waits = λ t n r h i. subst (IsAt n) (sym (ap (λ f. f (Call t)) s)) (k.waits t n r (row n r h) i);
@@ -721,7 +739,7 @@ passed_in_turn_lem o log t n run =
       λ next left e. (
         lowest o log n row next left run.0 y.has.1 e,
         subst (λ r. In (notice (Call next) (outcome.Granted (news.HasTurn row.seen.given.version))) (option_to_list (option_map turn_notice r)))
-        (sym (passed_as o log t n run (here (Turns o) log (turns_run o log run.0)) y (next ∷ left) e)) (inl refl),
+            (sym (passed_as o log t n run (here (Turns o) log (turns_run o log run.0)) y (next ∷ left) e)) (inl refl),
       ),
     )
 

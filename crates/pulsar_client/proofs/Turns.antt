@@ -83,7 +83,8 @@ not_turn (outcome.Granted n) h = absurd cc
 not_turn _ h = refl
 
 no_note : (t : ℕ) (n : Notice) → is_turn_told n.outcome ≡ false → turn_note t n ≡ 0
-no_note t n h = ap (λ b. cond (is_same (Call t) n.who && b) 1 0) h ∙ (elim (is_same (Call t) n.who) as (λ b. ◌≡◌ {A = ℕ} (cond (b && false) 1 0) 0) [ true ↦ refl | false ↦ refl ])
+no_note t n h = ap (λ b. cond (is_same (Call t) n.who && b) 1 0) h
+    ∙ (elim (is_same (Call t) n.who) as (λ b. ◌≡◌ {A = ℕ} (cond (b && false) 1 0) 0) [ true ↦ refl | false ↦ refl ])
 
 free_note : (t : ℕ) (n : Notice) → IsFree n → turn_note t n ≡ 0
 free_note t n h = no_note t n (not_turn n.outcome h)
@@ -92,7 +93,8 @@ abbrev pub pend : ℕ → List Act → List Notice → ℕ
 pend t now here = sum (turn_act t) now + sum (turn_note t) here
 
 pend_rest : (t : ℕ) (now : List Act) (here : List Notice) (behind : List (List Notice)) (parts : List Part) (a : Act) → Each (Each IsFree) behind →
-    first_of rules now here behind parts ≡ Some a → pend t now here ≡ turn_act t a + pend t (rest_of now here behind parts).now (rest_of now here behind parts).here
+    first_of rules now here behind parts ≡ Some a →
+    pend t now here ≡ turn_act t a + pend t (rest_of now here behind parts).now (rest_of now here behind parts).here
 pend_rest t (b ∷ now) here behind parts a free h =
     let e : b ≡ a = cc in
     let f : turn_act t b ≡ turn_act t a = ap (turn_act t) e in
@@ -152,14 +154,16 @@ takes_it _ = false
 
 pub once_none : (v : View) (t : ℕ) (a : Act) → takes_it a ≡ false → sum (turn_act t) (at_once v a) ≡ 0
 once_none v t (Does who (TakeTurn n)) h = absurd cc
-once_none v t (Does who action) h = sum_none (GivesSo v action) (turn_act t) (performs v who action) (λ b k. gives_none v action t b refl k) (gives_so v who action)
+once_none v t (Does who action) h = sum_none (GivesSo v action) (turn_act t) (performs v who action) (λ b k. gives_none v action t b refl k)
+    (gives_so v who action)
 once_none v t a h = sum_none (IsRaised a) (turn_act t) (at_once v a) (λ b k. raised_none t a b refl k) (raises v a)
 
 abbrev pub passes_it : Act → Bool
 passes_it (Does who (PassTurn n)) = true
 passes_it _ = false
 
-pub joins_none : (o : Options) (log : List Entry) (t : ℕ) (a : Act) → passes_it a ≡ false → IsRun o (Then a ∷ log) → sum (turn_note t) (joins (view o log) a) ≡ 0
+pub joins_none : (o : Options) (log : List Entry) (t : ℕ) (a : Act) → passes_it a ≡ false → IsRun o (Then a ∷ log) →
+    sum (turn_note t) (joins (view o log) a) ≡ 0
 joins_none o log t (Does who (PassTurn n)) h run = absurd cc
 joins_none o log t (Does who (Tell n)) h run = let e : turn_note t n ≡ 0 = free_note t n (tell_free o log who n run) in omega (arith, e)
 joins_none o log t _ h run = refl
@@ -174,7 +178,8 @@ pend_then o log t a run =
     let g = agenda o log in
     let v : View = view o log in
     let k = pend_rest t g.now g.here g.behind g.parts a (clean_run o log run.0).waits run.1 in
-    let x : sum (turn_act t) (at_once v a ++ (rest g).now) ≡ sum (turn_act t) (at_once v a) + sum (turn_act t) (rest g).now = sum_append (turn_act t) (at_once v a) (rest g).now in
+    let x : sum (turn_act t) (at_once v a ++ (rest g).now) ≡ sum (turn_act t) (at_once v a) + sum (turn_act t) (rest g).now = sum_append (turn_act t)
+    (at_once v a) (rest g).now in
     let y : sum (turn_note t) (put_all below (joins v a) (rest g).here) ≡ sum (turn_note t) (joins v a) + sum (turn_note t) (rest g).here =
     sum_put_all (turn_note t) below (joins v a) (rest g).here in
     omega (arith, k, x, y)
@@ -201,7 +206,12 @@ LeavesTurn d = leaves_turn d ≡ true
 one_left : (d : Deed) (v : Seen) → LeavesTurn d → ((topic.after d v).holder ≡ v.holder) × ((topic.after d v).waiting ≡ v.waiting)
 one_left (Takes t) v h = absurd cc
 one_left Passes v h = absurd cc
-one_left Draws v h = elim (is_spent v.next) as (λ b. ((cond b v (record v { next = v.next + 1 })).holder ≡ v.holder) × ((cond b v (record v { next = v.next + 1 })).waiting ≡ v.waiting)) [ true ↦ (refl, refl) | false ↦ (refl, refl) ]
+one_left Draws v h = elim (is_spent v.next) as
+    (λ b. ((cond b v (record v { next = v.next + 1 })).holder ≡ v.holder) × ((cond b v (record v { next = v.next + 1 })).waiting ≡ v.waiting)) [
+      | true ↦
+          (refl, refl)
+      | false ↦ (refl, refl)
+    ]
 one_left (Remakes l g) v h = (refl, refl)
 one_left Closes v h = (refl, refl)
 

@@ -1,5 +1,5 @@
 -- What follows of producers, in plain words.
-use Rattle.std.specs.Prelude.{◌≡◌, ◌⊎◌, ℕ, ◌+◌, ◌-◌, ◌^◌, ◌≤◌, ◌<◌, ◌==◌, ◌&&◌, ◌||◌, not, Bool, true, false, if◌then◌else◌, List, [], ◌∷◌, ◌++◌, Option, Some, None, Err}
+use Rattle.std.specs.Prelude.{◌≡◌, ◌⊎◌, ℕ, ◌+◌, ◌-◌, ◌^◌, ◌≤◌, ◌<◌, ◌==◌, ◌&&◌, ◌||◌, not, Bool, true, false, if◌then◌else◌, List, [], ◌∷◌, ◌++◌, Option, Some, None, Ok, Err}
 use Rattle.std.specs.BTreeMap.{is_at}
 use Rattle.std.specs.List.{list_any}
 use Rattle.std.specs.Map.{lookup}
@@ -8,11 +8,18 @@ use Rattle.std.specs.Option.{is_some, option_map}
 use Rattle.pulsar_run.specs.Laws.{In}
 use Rattle.pulsar_wire.specs.declared.error.ConnectionError.TheVariants as error
 use Rattle.pulsar_wire.specs.declared.key.RequestKey.TheVariants as key
+use Rattle.pulsar_wire.specs.Fits.{CommandInRange}
+use Rattle.pulsar_frame.specs.Frame.{FitsFrame, Whole, frame_bytes, front}
+use Rattle.pulsar_frame.specs.Message.{MessageValues}
+use Rattle.pulsar_frame.specs.Payload.{PayloadInRange}
 use Rattle.pulsar_messages.specs.Content.{ProducerMessageValues}
+use Rattle.pulsar_messages.specs.Messages.{metadata_of}
 use Rattle.pulsar_messages.specs.Words as words
 use Rattle.pulsar_messages.specs.Words.{Words}
 use Rattle.pulsar_session.specs.Failures.{Failure}
-use Rattle.pulsar_session.specs.Link.{ticked}
+use Rattle.pulsar_session.specs.declared.states.Asked.TheVariants as placed
+use Rattle.pulsar_session.specs.Link as session
+use Rattle.pulsar_session.specs.Link.{Asks, frame_at, frame_for, message_of, ticked}
 use Rattle.pulsar_link.specs.Messages.{Reply, is_body}
 use Rattle.pulsar_producer.specs.Message.{with_version}
 use Rattle.pulsar_producer.specs.Laws.{AreAbove}
@@ -113,6 +120,21 @@ FramesAreOfTheirSends = (o : Options) (log : List Entry) (t l n s : ℕ) (name :
     (row : Topic) × (version : Option (List ℕ)) × ((view o log).producers.topics n ≡ Some row) × (n ≡ e.producer) × (block ≡ e.block)
     × (row.seen.holder ≡ Some t) × (row.seen.link ≡ l) × (row.seen.given.name ≡ name) × (row.seen.next ≡ s + 1) × (m ≡ with_version version given)
     × In (Then (Told (notice (Call t) (outcome.Granted (news.HasTurn version))))) log
+
+-- The frame that is queued for it spells these words, and nothing else does at that place,
+abbrev pub QueuedAsAsked : Type 0
+QueuedAsAsked = (o : Options) (log : List Entry) (l place : ℕ) (seat : Seat) (request : Words) → (view o log).links.live l ≡ Some seat →
+    answer_at (view o log).now request (Some seat) ≡ Ok (placed.Queued place) →
+    (id : ℕ) × (frame : List ℕ) × (frame_for (message_of id (view o log).now request) ≡ Some frame)
+    × (frame_at place (session.after (Asks (view o log).now request) seat.seen) ≡ Some frame)
+
+-- and whoever decodes it reads the message: its payload, and what it says of that, under the producer's name and the number.
+abbrev pub FramesAreReadAgain : Type 0
+FramesAreReadAgain = (id now n s : ℕ) (name : List ℕ) (m : ProducerMessageValues) (block : Bool) (behind : List ℕ) →
+    FitsFrame (message_of id now (words.Send n name s m block)) → CommandInRange (message_of id now (words.Send n name s m block)).command →
+    PayloadInRange (message_of id now (words.Send n name s m block)).payload →
+    (read : MessageValues) × (front (frame_bytes (message_of id now (words.Send n name s m block)) ++ behind) ≡ Whole read behind)
+    × (read.payload ≡ Some (record { metadata = metadata_of now name s m; bytes = m.payload }))
 
 -- how often the frame of a send is queued: at once, or as it moves up from the line
 abbrev pub queues_at : Options → (ticket : ℕ) → List Entry → Act → ℕ

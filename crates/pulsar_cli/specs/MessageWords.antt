@@ -134,5 +134,8 @@ abbrev pub all_messages : Option (List ProducerMessageValues) → List (List (Li
 all_messages messages [] = messages
 all_messages messages (ws ∷ parts) = all_messages (with_message messages ws) parts
 
+abbrev pub parts : List (List ℕ) → List (List (List ℕ))
+parts ws = slice_split (λ w. bytes_eq w (codes "/")) ws
+
 abbrev pub messages : List (List ℕ) → Option (List ProducerMessageValues)
-messages ws = all_messages (Some []) (slice_split (λ w. bytes_eq w (codes "/")) ws)
+messages ws = all_messages (Some []) (parts ws)

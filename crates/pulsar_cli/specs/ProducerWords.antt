@@ -54,7 +54,7 @@ block d word =
 -- `round`, `single`, or `custom:NUMBER`
 abbrev pub custom : List ℕ → Option RoutingPolicy
 custom word =
-    if starts_with (λ x y. x == y) word (codes "custom:") then number (drop (length (codes "custom:")) word) >>= λ n. Some (Custom n) else None
+    if starts_with (λ x y. x == y) word (codes "custom:") then (number (drop (length (codes "custom:")) word) >>= λ n. Some (Custom n)) else None
 
 abbrev pub policy : List ℕ → Option RoutingPolicy
 policy word =

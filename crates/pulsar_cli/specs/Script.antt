@@ -6,7 +6,7 @@ use Rattle.pulsar_plans.specs.Backoff.{default_connection_retry, default_operati
 use Rattle.pulsar_producer.specs.Routing.{Policy}
 use Rattle.pulsar_client.specs.Address.{base_in}
 use Rattle.pulsar_client.specs.Content.{Heard}
-use Rattle.pulsar_client.specs.View.{Chosen}
+use Rattle.pulsar_client.specs.View.{Chosen, Options}
 use Rattle.pulsar_client.specs.Outside.{Rose}
 use Rattle.pulsar_client.specs.Run.{Good, Step, is_empty}
 use Rattle.pulsar_cli.specs.Grammar.{Setting, Url, Auth, Outbound, Timeout, RetryDelay, OpRetries, Retries, MinBackoff, MaxBackoff, ConnectionTimeout, KeepAlive, MaxIdle, Seed, First, Now, Line, Nothing, Sets, Happens, Refused, line, lines}
@@ -23,12 +23,12 @@ limit = 268435456
 
 -- what a script says: the options of its client, and its events
 pub record Script : Type 0 where
-  pub options : Chosen
+  pub options : Options
   pub events : List Heard
 
--- the options where none is set, with these policies
-abbrev pub defaults : List Policy → Chosen
-defaults policies =
+-- the choice where no option is set
+abbrev pub default_choice : Chosen
+default_choice =
     record {
       base = base_in (codes "pulsar://127.0.0.1:6650");
       auth = None;
@@ -37,9 +37,12 @@ defaults policies =
       outbound = 100;
       seed = 0;
       first_number = 0;
-      policies = policies;
       now = 0;
     }
+
+-- this, with these policies
+abbrev pub defaults : List Policy → Options
+defaults policies = record { chosen = default_choice; policies = policies }
 
 -- a script that says nothing, for a client with these policies
 abbrev pub blank : List Policy → Script
@@ -63,10 +66,13 @@ chooses (Seed seed) o = record o { seed = seed }
 chooses (First number) o = record o { first_number = number }
 chooses (Now time) o = record o { now = time }
 
+abbrev pub sets : Setting → Options → Options
+sets setting o = record o { chosen = chooses setting o.chosen }
+
 -- one more line; there is no script where it isn't in the grammar, or is a `set` line behind an event
 abbrev pub with_line : Line → Script → Option Script
 with_line Nothing s = Some s
-with_line (Sets setting) s = if is_empty s.events then Some (record s { options = chooses setting s.options }) else None
+with_line (Sets setting) s = if is_empty s.events then Some (record s { options = sets setting s.options }) else None
 with_line (Happens e) s = Some (record s { events = s.events ++ e ∷ [] })
 with_line Refused s = None
 

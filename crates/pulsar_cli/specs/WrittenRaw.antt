@@ -159,6 +159,10 @@ IsProperty p = IsText p.0 × IsText p.1
 abbrev pub IsId : Values message_id → Type 0
 IsId i = Fits message_id i
 
+-- a schema whose every part is of bytes
+abbrev pub IsSchema : Values schema → Type 0
+IsSchema s = Fits schema s × IsBytes (spelling schema s)
+
 abbrev pub IsCredential : AuthenticationValues → Type 0
 IsCredential c = IsText c.name × IsBytes c.auth_data
 
@@ -204,7 +208,7 @@ pub record CanBeMade (o : ProducerOptionsValues) : Type 0 where
   pub routing_policy : Where IsPolicy o.routing_policy
   pub metadata : AllByRecursion IsProperty o.metadata
   pub ordered : IsStrictlySortedBy (slice_cmp nat_cmp) (map (λ p. p.0) o.metadata)
-  pub schema : Where (Fits schema) o.schema
+  pub schema : Where IsSchema o.schema
 
 -- consumers are asked for without options and without a name
 abbrev pub CanBeSaid : Words → Type 0

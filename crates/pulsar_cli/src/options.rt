@@ -1,9 +1,9 @@
 //! The options of a script's client.
 
 ghost use Rattle.std.specs.Prelude.{◌≡◌, IfOk, map};
-ghost use Rattle.pulsar_client.specs.Client.{chosen};
+ghost use Rattle.pulsar_client.specs.Client.{options as meaning};
 ghost use Rattle.pulsar_cli.specs.Parsed.{setting_of};
-ghost use Rattle.pulsar_cli.specs.Script.{chooses, defaults};
+ghost use Rattle.pulsar_cli.specs.Script.{defaults, sets};
 
 use crate::grammar::setting::Setting;
 use pulsar_client::{
@@ -17,7 +17,7 @@ pub fn defaults(
     alloc: Global,
     policies: Vec<Box<dyn CustomRoutingPolicy>>,
 ) -> Result<ClientOptions, NoMemory>
-    ensures { IfOk result (λ o. chosen o ≡ defaults (map (λ p. routes p) policies.items)) }
+    ensures { IfOk result (λ o. meaning (λ p. routes p) o ≡ defaults (map (λ p. routes p) policies.items)) }
 {
     let url = String::from_str(alloc, "pulsar://127.0.0.1:6650")?;
     Ok(ClientOptions {
@@ -35,7 +35,7 @@ pub fn defaults(
 
 /// An option is chosen.
 pub fn choose(options: &mut ClientOptions, setting: Setting)
-    ensures { chosen options.new ≡ chooses (setting_of setting) (chosen options.old) }
+    ensures { meaning (λ p. routes (p.vtable, p.value)) options.new ≡ sets (setting_of setting) (meaning (λ p. routes (p.vtable, p.value)) options.old) }
 {
     match setting {
         Setting::Url(url) => options.url = url,

@@ -85,8 +85,7 @@ pub fn script<S: Source, K: Sink>(
 
 /// Reads the source to its end, or to where that stops, and prints what it says.
 fn read_through<S: Source, K: Sink>(reading: &mut Reading, source: &mut S, sink: &mut K) -> Status
-    requires { (ps : List Policy) × Running ps reading.old [] [] }
-    ensures { (ps : List Policy) → Running ps reading.old [] []
+    ensures { (ps : List Policy) → Running (λ p. routes (p.vtable, p.value)) ps reading.old [] []
         → Ran ps result (seen S.left S.faults source.old source.new) (seen K.holds K.faults sink.old sink.new) }
 {
     match read(reading, source, sink) {
@@ -99,7 +98,7 @@ fn read_through<S: Source, K: Sink>(reading: &mut Reading, source: &mut S, sink:
 fn halt<K: Sink>(stop: Stop, reading: &mut Reading, sink: &mut K) -> Status
     ensures told { Told result stop }
     ensures runs { (ps : List Policy) (old : Option (List ℕ)) (bytes : List ℕ) (faults : ℕ) → faults ≤ K.faults sink.old
-        → Halts ps stop reading.old old (K.holds sink.old) bytes
+        → Halts (λ p. routes (p.vtable, p.value)) ps stop reading.old old (K.holds sink.old) bytes
         → Printed ps result bytes old (K.holds sink.new) (Rose faults (K.faults sink.new) → ⊥) }
     ensures kept { (stop ≡ Stop.Refused → ⊥) → sink.new ≡ sink.old }
 {
@@ -114,8 +113,7 @@ fn halt<K: Sink>(stop: Stop, reading: &mut Reading, sink: &mut K) -> Status
 
 /// Takes the source's bytes piece by piece, and puts the run of each before the next.
 fn read<S: Source, K: Sink>(reading: &mut Reading, source: &mut S, sink: &mut K) -> Result<(), Stop>
-    requires { (ps : List Policy) × Running ps reading.old [] [] }
-    ensures has_read { (ps : List Policy) → Running ps reading.old [] [] → HasRead ps result reading.new
+    ensures has_read { (ps : List Policy) → Running (λ p. routes (p.vtable, p.value)) ps reading.old [] [] → HasRead (λ p. routes (p.vtable, p.value)) ps result reading.new
         (seen S.left S.faults source.old source.new) (seen K.holds K.faults sink.old sink.new) }
     ensures grows { K.faults sink.old ≤ K.faults sink.new }
 {
@@ -141,9 +139,9 @@ fn read<S: Source, K: Sink>(reading: &mut Reading, source: &mut S, sink: &mut K)
 /// The lines that end in a piece, with their text.
 fn turn<K: Sink>(reading: &mut Reading, piece: &[u8], sink: &mut K) -> Result<(), Stop>
     ensures runs { (ps : List Policy) (old : Option (List ℕ)) (consumed future : List ℕ)
-        → Prints ps reading.old old (K.holds sink.old) consumed
-        → MatchResult result (λ _. Prints ps reading.new old (K.holds sink.new) (consumed ++ piece.now))
-        (λ stop. Halts ps stop reading.new old (K.holds sink.new) (consumed ++ (piece.now ++ future))) }
+        → Prints (λ p. routes (p.vtable, p.value)) ps reading.old old (K.holds sink.old) consumed
+        → MatchResult result (λ _. Prints (λ p. routes (p.vtable, p.value)) ps reading.new old (K.holds sink.new) (consumed ++ piece.now))
+        (λ stop. Halts (λ p. routes (p.vtable, p.value)) ps stop reading.new old (K.holds sink.new) (consumed ++ (piece.now ++ future))) }
     ensures stop { IfErr result (λ stop. InTurn stop (K.faults sink.old) (K.faults sink.new)) }
     ensures grows { K.faults sink.old ≤ K.faults sink.new }
 {
@@ -155,9 +153,9 @@ fn turn<K: Sink>(reading: &mut Reading, piece: &[u8], sink: &mut K) -> Result<()
 /// The source has ended, and so does the last line.
 fn ends<K: Sink>(reading: &mut Reading, sink: &mut K) -> Result<(), Stop>
     ensures runs { (ps : List Policy) (old : Option (List ℕ)) (consumed : List ℕ)
-        → Prints ps reading.old old (K.holds sink.old) consumed
+        → Prints (λ p. routes (p.vtable, p.value)) ps reading.old old (K.holds sink.old) consumed
         → MatchResult result (λ _. IsDone ps consumed old (K.holds sink.new))
-        (λ stop. Halts ps stop reading.new old (K.holds sink.new) consumed) }
+        (λ stop. Halts (λ p. routes (p.vtable, p.value)) ps stop reading.new old (K.holds sink.new) consumed) }
     ensures stop { IfErr result (λ stop. InTurn stop (K.faults sink.old) (K.faults sink.new)) }
     ensures grows { K.faults sink.old ≤ K.faults sink.new }
 {
@@ -168,7 +166,7 @@ fn ends<K: Sink>(reading: &mut Reading, sink: &mut K) -> Result<(), Stop>
 
 /// A line is not in the grammar: the text of the lines before is put, and then the refusal.
 fn refused<K: Sink>(reading: &mut Reading, sink: &mut K) -> Status
-    ensures runs { (ps : List Policy) (old : Option (List ℕ)) (bytes : List ℕ) → Refusing ps reading.old old (K.holds sink.old) bytes
+    ensures runs { (ps : List Policy) (old : Option (List ℕ)) (bytes : List ℕ) → Refusing (λ p. routes (p.vtable, p.value)) ps reading.old old (K.holds sink.old) bytes
         → Printed ps result bytes old (K.holds sink.new) (Rose (K.faults sink.old) (K.faults sink.new) → ⊥) }
     ensures status { (result ≡ 1) ⊎ (result ≡ 3) }
     ensures grows { K.faults sink.old ≤ K.faults sink.new }
@@ -183,8 +181,8 @@ fn refused<K: Sink>(reading: &mut Reading, sink: &mut K) -> Status
 /// Puts the text that is there.
 fn flush<K: Sink>(reading: &mut Reading, sink: &mut K) -> Result<(), Stop>
     ensures ok { OnOk result (Adds (K.holds sink.old) (K.holds sink.new) (string_bytes reading.old.out)) }
-    ensures kept { OnOk result ((ps : List Policy) (put consumed : List ℕ) → Running ps reading.old put consumed
-        → Running ps reading.new (put ++ string_bytes reading.old.out) consumed) }
+    ensures kept { OnOk result ((ps : List Policy) (put consumed : List ℕ) → Running (λ p. routes (p.vtable, p.value)) ps reading.old put consumed
+        → Running (λ p. routes (p.vtable, p.value)) ps reading.new (put ++ string_bytes reading.old.out) consumed) }
     ensures stop { IfErr result (λ stop. stop ≡ Stop.Sink) }
     ensures front { OnErr result (AddsFront (K.holds sink.old) (K.holds sink.new) (string_bytes reading.old.out)) }
     ensures rises { OnErr result (Rose (K.faults sink.old) (K.faults sink.new)) }

@@ -1,15 +1,15 @@
 //! A script that is being read, and its run.
 
 ghost use Rattle.std.specs.Prelude.{◌≡◌, ◌⊎◌, ◌+◌, ◌++◌, [], ℕ, List, Err, IfErr, IfOk, OnOk, false, map, ◌∷◌};
-ghost use Rattle.pulsar_client.specs.Client.{StandsFor, chosen};
+ghost use Rattle.pulsar_client.specs.Client.{StandsFor, options as meaning};
 ghost use Rattle.pulsar_client.specs.Content.{heard};
 ghost use Rattle.pulsar_client.specs.Run.{Step, is_empty};
-ghost use Rattle.pulsar_client.specs.View.{Chosen};
+ghost use Rattle.pulsar_client.specs.View.{Options};
 ghost use Rattle.pulsar_producer.specs.Routing.{Policy};
 ghost use Rattle.pulsar_client.specs.Tables.{step};
-ghost use Rattle.pulsar_cli.specs.Grammar.{line as meaning};
+ghost use Rattle.pulsar_cli.specs.Grammar.{line as line_meaning};
 ghost use Rattle.pulsar_cli.specs.Parsed.{line_of, setting_of};
-ghost use Rattle.pulsar_cli.specs.Script.{chooses};
+ghost use Rattle.pulsar_cli.specs.Script.{sets};
 ghost use Rattle.pulsar_cli.specs.Shown.{IsClient, IsNoScriptWith, KeepsReading, KeepsText, ReadsMore, Refuses, Running, Steps};
 
 use crate::grammar::line::{Line, parse};
@@ -51,7 +51,7 @@ impl Reading {
         alloc: Global,
         policies: Vec<Box<dyn CustomRoutingPolicy>>,
     ) -> Result<Reading, NoMemory>
-        ensures { IfOk result (λ r. Running (map (λ p. routes p) policies.items) r [] []) }
+        ensures { IfOk result (λ r. Running (λ p. routes p) (map (λ p. routes p) policies.items) r [] []) }
     {
         let options = defaults(alloc, policies)?;
         Ok(Reading {
@@ -66,11 +66,11 @@ impl Reading {
 
     /// The lines that end in a piece, and the front of the next.
     pub fn piece(&mut self, piece: &[u8]) -> Result<(), Stop>
-        ensures ok { OnOk result ((policies : List Policy) (put consumed : List ℕ) → Running policies self.old put consumed
-            → Running policies self.new put (consumed ++ piece.now)) }
+        ensures ok { OnOk result ((policies : List Policy) (put consumed : List ℕ) → Running (λ p. routes (p.vtable, p.value)) policies self.old put consumed
+            → Running (λ p. routes (p.vtable, p.value)) policies self.new put (consumed ++ piece.now)) }
         ensures stop { IfErr result (λ stop. (stop ≡ Stop.Refused) ⊎ (stop ≡ Stop.NoMemory)) }
-        ensures refused { result ≡ Err Stop.Refused → (policies : List Policy) (put consumed : List ℕ) → Running policies self.old put consumed
-            → Refuses policies self.new put (consumed ++ piece.now) }
+        ensures refused { result ≡ Err Stop.Refused → (policies : List Policy) (put consumed : List ℕ) → Running (λ p. routes (p.vtable, p.value)) policies self.old put consumed
+            → Refuses (λ p. routes (p.vtable, p.value)) policies self.new put (consumed ++ piece.now) }
     {
         let mut rest = piece;
         while let Some((end, after)) = cut_line(rest) {
@@ -85,7 +85,7 @@ impl Reading {
     /// The bytes of a line go on.
     fn more(&mut self, bytes: &[u8]) -> Result<(), Stop>
         ensures ok { OnOk result (self.new.pending.items ≡ self.old.pending.items ++ bytes.now) }
-        ensures kept { OnOk result (KeepsReading self.old self.new) }
+        ensures kept { OnOk result (KeepsReading (λ p. routes (p.vtable, p.value)) self.old self.new) }
         ensures err { IfErr result (λ stop. stop ≡ Stop.NoMemory) }
     {
         match self.pending.extend_from_slice(bytes) {
@@ -97,10 +97,10 @@ impl Reading {
     /// A line has ended.
     pub fn line(&mut self) -> Result<(), Stop>
         ensures ok { OnOk result (self.new.pending.items ≡ []) }
-        ensures reads { OnOk result (ReadsMore self.old self.new self.old.pending.items) }
+        ensures reads { OnOk result (ReadsMore (λ p. routes (p.vtable, p.value)) self.old self.new self.old.pending.items) }
         ensures stop { IfErr result (λ stop. (stop ≡ Stop.Refused) ⊎ (stop ≡ Stop.NoMemory)) }
         ensures refused { result ≡ Err Stop.Refused
-            → (self.new ≡ self.old) × IsNoScriptWith self.old self.old.pending.items }
+            → (self.new ≡ self.old) × IsNoScriptWith (λ p. routes (p.vtable, p.value)) self.old self.old.pending.items }
     {
         let Ok(line) = parse(self.alloc, &self.pending) else {
             return Err(Stop::NoMemory);
@@ -112,12 +112,12 @@ impl Reading {
 
     /// A line is nothing, or a setting, or a step, or not of the grammar.
     fn take(&mut self, line: Line) -> Result<(), Stop>
-        ensures reads { OnOk result ((bytes : List ℕ) → meaning bytes ≡ line_of line
-            → ReadsMore self.old self.new bytes) }
+        ensures reads { OnOk result ((bytes : List ℕ) → line_meaning bytes ≡ line_of line
+            → ReadsMore (λ p. routes (p.vtable, p.value)) self.old self.new bytes) }
         ensures stop { IfErr result (λ stop. (stop ≡ Stop.Refused) ⊎ (stop ≡ Stop.NoMemory)) }
         ensures refused { result ≡ Err Stop.Refused
             → (self.new ≡ self.old) × ((bytes : List ℕ)
-            → meaning bytes ≡ line_of line → IsNoScriptWith self.old bytes) }
+            → line_meaning bytes ≡ line_of line → IsNoScriptWith (λ p. routes (p.vtable, p.value)) self.old bytes) }
     {
         match line {
             Line::Nothing => {
@@ -151,12 +151,12 @@ impl Reading {
 
     /// An option is chosen. It is refused where the client has been made.
     fn set(&mut self, setting: Setting) -> Result<(), Stop>
-        ensures ok { OnOk result ((o : Chosen) → IsClient o self.old.stage [] → IsClient (chooses (setting_of setting) o) self.new.stage []) }
-        ensures unmade { OnOk result ((o : Chosen) (h : List Step) → IsClient o self.old.stage h → h ≡ []) }
+        ensures ok { OnOk result ((o : Options) → IsClient (λ p. routes (p.vtable, p.value)) o self.old.stage [] → IsClient (λ p. routes (p.vtable, p.value)) (sets (setting_of setting) o) self.new.stage []) }
+        ensures unmade { OnOk result ((o : Options) (h : List Step) → IsClient (λ p. routes (p.vtable, p.value)) o self.old.stage h → h ≡ []) }
         ensures text { OnOk result (KeepsText self.old self.new) }
         ensures line { OnOk result (self.new.line ≡ self.old.line) }
         ensures refused { IfErr result (λ stop. (stop ≡ Stop.Refused) × (self.new ≡ self.old)
-            × ((o : Chosen) (h : List Step) → IsClient o self.old.stage h → is_empty h ≡ false)) }
+            × ((o : Options) (h : List Step) → IsClient (λ p. routes (p.vtable, p.value)) o self.old.stage h → is_empty h ≡ false)) }
     {
         match &mut self.stage {
             Some(Stage::Chooses(options)) => {
@@ -171,7 +171,7 @@ impl Reading {
     fn step(&mut self, event: Event) -> Result<(), Stop>
         ensures line { OnOk result (self.new.line ≡ self.old.line) }
         ensures events { OnOk result (self.new.events ≡ self.old.events + 1) }
-        ensures history { OnOk result (Steps self.old self.new (heard event)) }
+        ensures history { OnOk result (Steps (λ p. routes (p.vtable, p.value)) self.old self.new (heard event)) }
         ensures err { IfErr result (λ stop. stop ≡ Stop.NoMemory) }
     {
         let effects = self.effects(event)?;
@@ -186,8 +186,8 @@ impl Reading {
 
     /// The effects of an event.
     fn effects(&mut self, event: Event) -> Result<Vec<Effect>, Stop>
-        ensures client { IfOk result (λ out. (o : Chosen) (h : List Step) → IsClient o self.old.stage h
-            → IsClient o self.new.stage (step event out.items ∷ h)) }
+        ensures client { IfOk result (λ out. (o : Options) (h : List Step) → IsClient (λ p. routes (p.vtable, p.value)) o self.old.stage h
+            → IsClient (λ p. routes (p.vtable, p.value)) o self.new.stage (step event out.items ∷ h)) }
         ensures text { OnOk result (KeepsText self.old self.new) }
         ensures line { OnOk result (self.new.line ≡ self.old.line) }
         ensures err { IfErr result (λ stop. stop ≡ Stop.NoMemory) }
@@ -203,7 +203,7 @@ impl Reading {
 
     /// The client, taken out; it is made where the first event comes.
     fn started(&mut self) -> Result<Pulsar, Stop>
-        ensures client { IfOk result (λ c. (o : Chosen) (h : List Step) → IsClient o self.old.stage h → StandsFor o c h []) }
+        ensures client { IfOk result (λ c. (o : Options) (h : List Step) → IsClient (λ p. routes (p.vtable, p.value)) o self.old.stage h → StandsFor (λ p. routes (p.vtable, p.value)) o c h []) }
         ensures text { OnOk result (KeepsText self.old self.new) }
         ensures line { OnOk result (self.new.line ≡ self.old.line) }
         ensures err { IfErr result (λ stop. stop ≡ Stop.NoMemory) }
@@ -218,7 +218,7 @@ impl Reading {
 
 /// A client with these options, to which nothing has happened.
 fn made(alloc: Global, options: ClientOptions) -> Result<Pulsar, Stop>
-    ensures ok { IfOk result (λ c. StandsFor (chosen options) c [] []) }
+    ensures ok { IfOk result (λ c. StandsFor (λ p. routes (p.vtable, p.value)) (meaning (λ p. routes (p.vtable, p.value)) options) c [] []) }
     ensures err { IfErr result (λ stop. stop ≡ Stop.NoMemory) }
 {
     match Pulsar::new(alloc, options) {

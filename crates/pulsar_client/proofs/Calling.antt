@@ -89,21 +89,24 @@ not_build (call.CloseProducer producer) n h = absurd cc
 not_build (call.Raw link c) n h = absurd cc
 
 -- nothing but a Build is made
+refused_if : (b : Bool) (p : Procedure) → b ≡ false → unless_refused b p ≡ procedure.Refuse refusal.Shutdown
+refused_if b p h = ap (λ b. unless_refused b p) h
+
 pub shut_out : (o : Chosen) (c : Tickets) (ps : Producers) (advice : List (Option ℕ)) (a : Asked) → (a ≡ content.Build → ⊥) → may_call c ≡ false →
     procedure_for o c ps advice a ≡ procedure.Refuse refusal.Shutdown
 shut_out o c ps advice content.Build n h = absurd (n refl)
-shut_out o c ps advice content.Stop n h = ap (λ b. unless_refused b _) h
-shut_out o c ps advice (content.Topics namespace mode) n h = ap (λ b. unless_refused b _) h
-shut_out o c ps advice (content.Lookup topic) n h = ap (λ b. unless_refused b _) h
-shut_out o c ps advice (content.Partitions topic) n h = ap (λ b. unless_refused b _) h
-shut_out o c ps advice (content.Brokers topic) n h = ap (λ b. unless_refused b _) h
-shut_out o c ps advice (content.Producer wanted) n h = ap (λ b. unless_refused b _) h
-shut_out o c ps advice (content.Send t m) n h = ap (λ b. unless_refused b _) h
-shut_out o c ps advice (content.SendAll t ms) n h = ap (λ b. unless_refused b _) h
-shut_out o c ps advice (content.Flush t) n h = ap (λ b. unless_refused b _) h
-shut_out o c ps advice (content.CheckProducer t) n h = ap (λ b. unless_refused b _) h
-shut_out o c ps advice (content.CloseProducer t) n h = ap (λ b. unless_refused b _) h
-shut_out o c ps advice (content.Raw l request) n h = ap (λ b. unless_refused b _) h
+shut_out o c ps advice content.Stop n h = refused_if (may_call c) _ h
+shut_out o c ps advice (content.Topics namespace mode) n h = refused_if (may_call c) _ h
+shut_out o c ps advice (content.Lookup topic) n h = refused_if (may_call c) _ h
+shut_out o c ps advice (content.Partitions topic) n h = refused_if (may_call c) _ h
+shut_out o c ps advice (content.Brokers topic) n h = refused_if (may_call c) _ h
+shut_out o c ps advice (content.Producer wanted) n h = refused_if (may_call c) _ h
+shut_out o c ps advice (content.Send t m) n h = refused_if (may_call c) _ h
+shut_out o c ps advice (content.SendAll t ms) n h = refused_if (may_call c) _ h
+shut_out o c ps advice (content.Flush t) n h = refused_if (may_call c) _ h
+shut_out o c ps advice (content.CheckProducer t) n h = refused_if (may_call c) _ h
+shut_out o c ps advice (content.CloseProducer t) n h = refused_if (may_call c) _ h
+shut_out o c ps advice (content.Raw l request) n h = refused_if (may_call c) _ h
 
 -- and no parts begin
 pub shut_parts : (v : View) (advice : List (Option ℕ)) (a : Asked) → may_call v.calls ≡ false → parts_of v advice a ≡ []

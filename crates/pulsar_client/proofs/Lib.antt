@@ -15,6 +15,11 @@ pub mod Saying
 pub mod Steps
 pub mod Sorting
 pub mod Acts
+pub mod Quiet
+pub mod Natures
+pub mod Granted
+pub mod Numbering
+pub mod Slow
 pub mod Instances
 pub mod Done
 pub mod Plain
@@ -58,3 +63,8 @@ pub mod Taking
 pub mod Calling
 pub mod Granting
 pub mod Sending
+pub mod Drawing
+pub mod Free
+pub mod Topics
+pub mod Holding
+pub mod Turns

@@ -1,5 +1,5 @@
 -- A part of a call or of a poll is alone in its event, and a call is made where the user asks for it.
-use Rattle.std.proofs.Common.{◌≡◌, ◌⊎◌, inl, inr, ◌∙◌, sym, ap, subst, ℕ, ◌+◌, List, [], ◌∷◌, ◌++◌, refl, drop, Bool, true, false, cond, Option, Some, None, map}
+use Rattle.std.proofs.Common.{◌≡◌, ◌⊎◌, inl, inr, ◌∙◌, sym, ap, subst, ℕ, ◌+◌, List, [], ◌∷◌, refl, drop, Bool, true, false, cond, Option, Some, map}
 use Rattle.std.proofs.lemmas.Bool.{cases_Bool}
 use Rattle.pulsar_run.specs.Laws.{Arises, In, InOne, InThisStep}
 use Rattle.pulsar_run.specs.Run.{first_of, rest, rest_of}
@@ -7,9 +7,7 @@ use Rattle.pulsar_run.proofs.Arising.{acts_arise_lem}
 use Rattle.pulsar_session.specs.Link.{due, is_spent}
 use Rattle.pulsar_producer.specs.Routing.{Policy}
 use Rattle.pulsar_client.specs.declared.act.Act.{Act}
-use Rattle.pulsar_client.specs.declared.act.Act.TheVariants.{Comes, Starts, Told, Does}
-use Rattle.pulsar_client.specs.declared.act.Action.{Action}
-use Rattle.pulsar_client.specs.declared.act.Action.TheVariants.{Rest}
+use Rattle.pulsar_client.specs.declared.act.Act.TheVariants.{Comes, Starts, Told}
 use Rattle.pulsar_client.specs.declared.act.Alarm.{Alarm}
 use Rattle.pulsar_client.specs.declared.act.Arrival.{Arrival}
 use Rattle.pulsar_client.specs.declared.act.Arrival.TheVariants.{Nothing, Bad}
@@ -18,21 +16,16 @@ use Rattle.pulsar_client.specs.declared.act.Notice.{Notice}
 use Rattle.pulsar_client.specs.declared.act.Part.{Part}
 use Rattle.pulsar_client.specs.declared.act.Part.TheVariants.{Calls, ToLink, Rings, Polls}
 use Rattle.pulsar_client.specs.declared.act.Procedure.{Procedure}
-use Rattle.pulsar_client.specs.declared.act.Verdict.{Verdict}
-use Rattle.pulsar_client.specs.declared.act.Who.{Who}
 use Rattle.pulsar_client.specs.declared.act.Who.TheVariants.{Call}
-use Rattle.pulsar_client.specs.declared.plans.plan.Plan.{Plan}
-use Rattle.pulsar_client.specs.declared.plans.plan.Turn.{Turn}
-use Rattle.pulsar_client.specs.declared.plans.plan.Turn.TheVariants.{Stays, Gives}
 use Rattle.pulsar_client.specs.Alarms.{ringing}
 use Rattle.pulsar_client.specs.Content.{Asked, Heard, Called, Ticked, Poll, lacks_tickets, shares}
 use Rattle.pulsar_client.specs.Laws.{CallsAreMade}
-use Rattle.pulsar_client.specs.Plan.{begins}
 use Rattle.pulsar_client.specs.Producers.{advice}
-use Rattle.pulsar_client.specs.Rules.{at_once, brings, call_part, called, causes, does, due_part, follows, follows_some, further, joins, over_links, parts, performs, reads_on, starts}
+use Rattle.pulsar_client.specs.Rules.{at_once, brings, call_part, called, causes, due_part, further, joins, over_links, parts, reads_on, starts}
 use Rattle.pulsar_client.specs.Run.{Entry, Begins, Then, IsRun, agenda, rules, view}
-use Rattle.pulsar_client.specs.View.{Options, Seat, View, arrival_at, is_live, told_some}
-use Rattle.pulsar_client.proofs.Acts.{Each, IsQuiet, StartsIn, begun_same, called_each, comes_quiet, each_append, each_map, each_rest, late, over_each, performs_quiet, starts_in}
+use Rattle.pulsar_client.specs.View.{Options, Seat, View, arrival_at, is_live}
+use Rattle.pulsar_client.proofs.Acts.{Each, StartsIn, begun_same, each_append, each_map, each_rest, late, over_each, starts_in}
+use Rattle.pulsar_client.proofs.Raising.{IsRaised, OfStart, may, raises}
 use Rattle.pulsar_client.proofs.Sources.{in_each, in_map, step_more, step_runs, step_some}
 use Rattle.pulsar_client.proofs.Ticketed.{not_spent}
 
@@ -54,38 +47,13 @@ comes_single _ = false
 abbrev pub NoSingle : Act → Type 0
 NoSingle a = comes_single a ≡ false
 
-quiet_many : (a : Act) → IsQuiet a → NoSingle a
-quiet_many (Comes (Calls asked advice)) h = absurd cc
-quiet_many (Comes (Polls t)) h = absurd cc
-quiet_many _ h = refl
-
-does_many : (who : Who) (action : Action) → Each NoSingle (does who action)
-does_many who Rest = tt
-does_many who _ = (refl, tt)
-
-follows_many : (who : Who) (t : Turn Plan Verdict) → Each NoSingle (follows who t)
-follows_many who (Stays plan action) = does_many who action
-follows_many who (Gives verdict) = (refl, tt)
-
-some_many : (who : Who) (t : Option (Turn Plan Verdict)) → Each NoSingle (follows_some who t)
-some_many who None = tt
-some_many who (Some t) = follows_many who t
-
-start_many : (from to : ℕ) (a : Act) → StartsIn from to a → NoSingle a
-start_many from to (Starts who p) k = refl
-start_many from to _ k = absurd k
-
-comes_many : (v : View) (p : Part) → Each NoSingle (at_once v (Comes p))
-comes_many v (Calls asked advice) =
-    called_each NoSingle v advice asked (λ e. refl) (λ e. start_many v.calls.drawn (v.calls.drawn + 1 + shares asked))
-comes_many v p = each_map IsQuiet NoSingle (at_once v (Comes p)) quiet_many (comes_quiet v p refl)
+raised_many : (a b : Act) → IsRaised a b → NoSingle b
+raised_many a (Comes (Calls asked advice)) h = absurd cc
+raised_many a (Comes (Polls t)) h = absurd cc
+raised_many a _ h = refl
 
 pub at_once_many : (v : View) (a : Act) → Each NoSingle (at_once v a)
-at_once_many v (Comes p) = comes_many v p
-at_once_many v (Starts who p) = follows_many who (begins p)
-at_once_many v (Told n) = some_many n.who (told_some (v.stand n.who) n.outcome)
-at_once_many v (Does who action) = each_map IsQuiet NoSingle (performs v who action) quiet_many (performs_quiet v who action)
-at_once_many v _ = tt
+at_once_many v a = each_map (IsRaised a) NoSingle (at_once v a) (raised_many a) (raises v a)
 
 pub now_many : (o : Options) (log : List Entry) → Each NoSingle (agenda o log).now
 now_many o [] = tt
@@ -103,7 +71,8 @@ pub record IsFirstPart (p : Part) (now : List Act) (here : List Notice) (behind 
 
 pub part_first : (now : List Act) (here : List Notice) (behind : List (List Notice)) (ps : List Part) (p : Part) → is_single p ≡ true → Each NoSingle now →
     first_of rules now here behind ps ≡ Some (Comes p) → IsFirstPart p now here behind ps
-part_first (a ∷ now) here behind ps p s k h = (let e : a ≡ Comes p = cc in let f : comes_single a ≡ true = ap comes_single e ∙ s in let g : true ≡ false = sym f ∙ k.0 in absurd cc)
+part_first (a ∷ now) here behind ps p s k h =
+    (let e : a ≡ Comes p = cc in let f : comes_single a ≡ true = ap comes_single e ∙ s in let g : true ≡ false = sym f ∙ k.0 in absurd cc)
 part_first [] (n ∷ here) behind ps p s k h = absurd cc
 part_first [] [] (cause ∷ behind) ps p s k h = let r = part_first [] cause behind ps p s tt h in record { front = r.front; no_more = r.no_more }
 part_first [] [] [] (q ∷ ps) p s k h = let e : q ≡ p = cc in record { front = ap (λ x. x ∷ ps) e; no_more = refl }
@@ -151,7 +120,8 @@ brings_one o v _ = inl (refl, tt)
 
 parts_one : (o : Options) (v : View) (e : Heard) → Each IsMany (parts o v e) ⊎ OneOf o v (parts o v e) e
 parts_one o v e =
-    elim (is_live v e) as (λ b. Each IsMany (cond b (brings o.policies v e) []) ⊎ OneOf o v (cond b (brings o.policies v e) []) e) [ true ↦ brings_one o v e | false ↦ inl tt ]
+    elim (is_live v e) as (λ b. Each IsMany (cond b (brings o.policies v e) []) ⊎ OneOf o v (cond b (brings o.policies v e) []) e)
+    [ true ↦ brings_one o v e | false ↦ inl tt ]
 
 record Alone (o : Options) (log : List Entry) : Type 0 where
   event : Heard
@@ -159,7 +129,8 @@ record Alone (o : Options) (log : List Entry) : Type 0 where
   is_there : log ≡ Begins event ∷ older
   one : OneOf o (view o older) (agenda o log).parts event
 
-many_rest : (now : List Act) (here : List Notice) (behind : List (List Notice)) (ps : List Part) → Each IsMany ps → Each IsMany (rest_of now here behind ps).parts
+many_rest : (now : List Act) (here : List Notice) (behind : List (List Notice)) (ps : List Part) → Each IsMany ps →
+    Each IsMany (rest_of now here behind ps).parts
 many_rest (a ∷ now) here behind ps k = k
 many_rest [] (n ∷ here) behind ps k = k
 many_rest [] [] (cause ∷ behind) ps k = many_rest [] cause behind ps k
@@ -230,29 +201,6 @@ call_comes o log asked advised run =
 
 -- A CALL IS MADE
 
-abbrev is_start : Act → Bool
-is_start (Starts who p) = true
-is_start _ = false
-
-abbrev NoStart : Act → Type 0
-NoStart a = is_start a ≡ false
-
-quiet_no_start : (a : Act) → IsQuiet a → NoStart a
-quiet_no_start (Starts who p) h = absurd cc
-quiet_no_start _ h = refl
-
-does_no_start : (who : Who) (action : Action) → Each NoStart (does who action)
-does_no_start who Rest = tt
-does_no_start who _ = (refl, tt)
-
-follows_no_start : (who : Who) (t : Turn Plan Verdict) → Each NoStart (follows who t)
-follows_no_start who (Stays plan action) = does_no_start who action
-follows_no_start who (Gives verdict) = (refl, tt)
-
-some_no_start : (who : Who) (t : Option (Turn Plan Verdict)) → Each NoStart (follows_some who t)
-some_no_start who None = tt
-some_no_start who (Some t) = follows_no_start who t
-
 abbrev pub IsMadeAt : Options → ℕ → Procedure → Entry → List Entry → Type 0
 IsMadeAt o t p e older =
     (asked : Asked) × (e ≡ Then (Comes (call_part o.policies (view o older) asked))) × (lacks_tickets (view o older).calls.drawn (shares asked) ≡ false)
@@ -267,9 +215,6 @@ in_called false t p xs i = (refl, i)
 module _ (o : Options) (t : ℕ) (p : Procedure) where
   abbrev the_start : Act
   the_start = Starts (Call t) p
-
-  not_in : {X : Type 0} (xs : List Act) → Each NoStart xs → In the_start xs → X
-  not_in xs k i = let f : true ≡ false = in_each NoStart the_start xs i k in absurd cc
 
   no_part : {X : Type 0} (ps : List Part) → In the_start (map Comes ps) → X
   no_part ps i = let k = in_map Comes the_start ps i in let no = k.2 in absurd cc
@@ -291,14 +236,7 @@ module _ (o : Options) (t : ℕ) (p : Procedure) where
 
   once_made : (b : Act) (older : List Entry) → IsRun o (Then b ∷ older) → In the_start (at_once (view o older) b) → IsMadeAt o t p (Then b) older
   once_made (Comes (Calls asked advised)) older run i = call_made older asked advised run i
-  once_made (Comes q) older run i =
-      not_in (at_once (view o older) (Comes q)) (each_map IsQuiet NoStart (at_once (view o older) (Comes q)) quiet_no_start (comes_quiet (view o older) q refl)) i
-  once_made (Starts who q) older run i = not_in (follows who (begins q)) (follows_no_start who (begins q)) i
-  once_made (Told n) older run i =
-      not_in (follows_some n.who (told_some ((view o older).stand n.who) n.outcome)) (some_no_start n.who (told_some ((view o older).stand n.who) n.outcome)) i
-  once_made (Does who action) older run i =
-      not_in (performs (view o older) who action) (each_map IsQuiet NoStart (performs (view o older) who action) quiet_no_start (performs_quiet (view o older) who action)) i
-  once_made _ older run i = absurd i
+  once_made b older run i = (let h : may OfStart b ≡ true = in_each (IsRaised b) the_start (at_once (view o older) b) i (raises (view o older) b) in absurd cc)
 
   made_at : (e : Entry) (older : List Entry) → IsRun o (e ∷ older) × Arises rules o the_start e older → IsMadeAt o t p e older
   made_at (Begins e) older (run, i) = no_part (parts o (view o older) e) i

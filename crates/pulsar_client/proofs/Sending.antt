@@ -63,7 +63,8 @@ module _ (o : Chosen) (of t : ℕ) where
   shares_more ps n advice [] m = let e : n ≡ n + 0 = omega arith in ap (λ k. begins ps k advice m ∷ []) e
   shares_more ps n advice (x ∷ ms) m =
       let more : n + 1 + length ms ≡ n + length (x ∷ ms) = omega arith in
-      let later : drop (length ms) (drop 1 advice) ≡ drop (length (x ∷ ms)) advice = drop_one advice (length ms) ∙ ap (λ k. drop k advice) (omega arith) in
+      let one_more : length ms + 1 ≡ length (x ∷ ms) = omega arith in
+      let later : drop (length ms) (drop 1 advice) ≡ drop (length (x ∷ ms)) advice = drop_one advice (length ms) ∙ ap (λ k. drop k advice) one_more in
       ap (λ acts. begins ps n advice x ∷ acts)
       (shares_more (routed t x ps) (n + 1) (drop 1 advice) ms m
       ∙ (λ i. shares_of o (routed t x ps) of (n + 1) (drop 1 advice) t ms ++ begins (all_routed t ms (routed t x ps)) (more i) (later i) m ∷ []))

@@ -1,6 +1,6 @@
 //! The links of a client, and who asked on each.
 
-ghost use Rattle.std.specs.Prelude.{◌≡◌, ◌==◌, ◌&&◌, ◌||◌, ◌+◌, ◌++◌, ◌∷◌, [], ℕ, false, IfOk, OnOk, None, Some, not, map, if◌then◌else◌};
+ghost use Rattle.std.specs.Prelude.{◌≡◌, ◌==◌, ◌&&◌, ◌+◌, ◌++◌, ◌∷◌, [], ℕ, false, IfOk, OnOk, None, Some, not, map, if◌then◌else◌};
 ghost use Rattle.std.specs.BTreeMap.{IsOrdered, keys};
 ghost use Rattle.std.specs.List.{flat_map};
 ghost use Rattle.std.specs.List.Sorted.{IsStrictlySortedBy};
@@ -421,7 +421,7 @@ fn is_idle(
 }
 
 fn is_unused(rests: bool, is_heard: bool, is_held: bool) -> bool
-    ensures { result ≡ (rests && not (is_heard || is_held)) }
+    ensures { result ≡ ((rests && not is_heard) && not is_held) }
 {
     rests && !is_heard && !is_held
 }

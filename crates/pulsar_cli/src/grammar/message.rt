@@ -1,15 +1,15 @@
 //! The words of a message that is sent.
 
-ghost use Rattle.std.specs.Prelude.{◌≡◌, IfOk, map, string_bytes};
+ghost use Rattle.std.specs.Prelude.{◌≡◌, [], IfOk, Some, map, string_bytes};
 ghost use Rattle.std.specs.Option.{option_map};
 ghost use Rattle.pulsar_messages.specs.Content.{message_content};
-ghost use Rattle.pulsar_cli.specs.MessageWords.{all, blank, cluster, cut, delivery, event_time, message, messages, minus, one, ordering_key, part, partition_key, payload, plus, property, schema_version, signed, with_message, with_property, with_word};
+ghost use Rattle.pulsar_cli.specs.MessageWords.{all, all_messages, blank, cluster, cut, delivery, event_time, message, messages, minus, one, ordering_key, part, parts, partition_key, payload, plus, property, schema_version, signed, with_message, with_property, with_word};
 ghost use Rattle.pulsar_cli.specs.Parsed.{draft_of};
 
 use crate::grammar::word::{find, is, number, text, word_bytes};
 use pulsar_client::Message;
 use pulsar_wire::NoMemory;
-use std::alloc::Global;
+use std::alloc::{AllocError, Global};
 
 /// What the words so far say.
 #[derive(Drop)]
@@ -269,8 +269,24 @@ fn minus(number: u64) -> Option<i64>
 pub fn messages(alloc: Global, words: &[&[u8]]) -> Result<Option<Vec<Message>>, NoMemory>
     ensures { IfOk result (λ ms. option_map (λ v. map message_content v.items) ms ≡ messages (map (λ w. w.now) words.now)) }
 {
+    let parts = parts(alloc, words)?;
+    all_messages(alloc, &parts)
+}
+
+/// The words between two `/`.
+fn parts<'a>(alloc: Global, words: &'a [&'a [u8]]) -> Result<Vec<&'a [&'a [u8]]>, AllocError>
+    ensures { IfOk result (λ ps. map (λ p. map (λ w. w.now) p.now) ps.items ≡ parts (map (λ w. w.now) words.now)) }
+{
+    words.split(|word| is(word, "/")).collect(alloc)
+}
+
+/// A message of each of these words.
+fn all_messages(alloc: Global, parts: &[&[&[u8]]]) -> Result<Option<Vec<Message>>, NoMemory>
+    ensures { IfOk result (λ ms. option_map (λ v. map message_content v.items) ms
+        ≡ all_messages (Some []) (map (λ p. map (λ w. w.now) p.now) parts.now)) }
+{
     let mut messages = Some(Vec::new(alloc));
-    for part in words.split(|word| is(word, "/")) {
+    for part in parts {
         messages = with_message(alloc, messages, part)?;
     }
     Ok(messages)

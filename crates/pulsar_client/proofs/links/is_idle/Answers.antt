@@ -19,7 +19,7 @@ returns c = λ drawn ticketed.
     let heard = c.hears_on-is_heard.result in
     let held = c.holds-is_held.result in
     c.is_unused.ensures
-    ∙ ap (λ b. b && not (heard || held)) c.rests-rests.ensures
-    ∙ idle_is ready late empty (heard || held) standing
+    ∙ ap (λ b. (b && not heard) && not held) c.rests-rests.ensures
+    ∙ idle_is ready late empty heard held standing
     ∙ ap (λ b. ready && (late && not (not empty || (nat_lt 0 standing || (b || held))))) (heard_is consumers drawn c.args.link ticketed heard c.hears_on-is_heard.ensures)
     ∙ ap (λ b. ready && (late && not (not empty || (nat_lt 0 standing || (is_heard drawn consumers c.args.link || b))))) c.holds-is_held.ensures

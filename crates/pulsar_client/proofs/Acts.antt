@@ -66,7 +66,8 @@ is_served (Comes part) = true
 is_served _ = false
 
 -- what is first was first of what arose at once, or nothing of that is left
-pub first_case : (now : List Act) (here : List Notice) (behind : List (List Notice)) (parts : List Part) (a : Act) → first_of rules now here behind parts ≡ Some a →
+pub first_case : (now : List Act) (here : List Notice) (behind : List (List Notice)) (parts : List Part) (a : Act) →
+    first_of rules now here behind parts ≡ Some a →
     (now ≡ a ∷ (rest_of now here behind parts).now) ⊎ ((now ≡ []) × ((rest_of now here behind parts).now ≡ []) × (is_served a ≡ true))
 first_case (b ∷ now) here behind parts a h = inl (let e : b ≡ a = cc in ap (λ x. x ∷ now) e)
 first_case [] (n ∷ here) behind parts a h = inr (refl, refl, (let e : Told n ≡ a = cc in sym (ap is_served e)))
@@ -86,7 +87,8 @@ each_rest P [] (n ∷ here) behind parts k = tt
 each_rest P [] [] (cause ∷ behind) parts k = each_rest P [] cause behind parts tt
 each_rest P [] [] [] parts k = tt
 
-pub each_first : (P : Act → Type 0) (now : List Act) (here : List Notice) (behind : List (List Notice)) (parts : List Part) (a : Act) → ((x : Act) → is_served x ≡ true → P x) →
+pub each_first : (P : Act → Type 0) (now : List Act) (here : List Notice) (behind : List (List Notice)) (parts : List Part) (a : Act) →
+    ((x : Act) → is_served x ≡ true → P x) →
     Each P now → first_of rules now here behind parts ≡ Some a → P a
 each_first P now here behind parts a served k h = elim (first_case now here behind parts a h) [
   | inl e ↦ (subst (Each P) e k).0
@@ -109,7 +111,8 @@ shares_in : (o : Chosen) (ps : Producers) (of ticket : ℕ) (advice : List (Opti
 shares_in o ps of ticket advice t [] = tt
 shares_in o ps of ticket advice t (m ∷ ms) = (
   (omega arith, omega arith),
-  each_map (StartsIn (ticket + 1) (ticket + 1 + length ms)) (StartsIn ticket (ticket + length (m ∷ ms))) (shares_of o (routed t m ps) of (ticket + 1) (drop 1 advice) t ms)
+  each_map (StartsIn (ticket + 1) (ticket + 1 + length ms)) (StartsIn ticket (ticket + length (m ∷ ms)))
+      (shares_of o (routed t m ps) of (ticket + 1) (drop 1 advice) t ms)
       (starts_wider (ticket + 1) (ticket + 1 + length ms) ticket (ticket + length (m ∷ ms)) (omega arith) (omega arith))
       (shares_in o (routed t m ps) of (ticket + 1) (drop 1 advice) t ms),
 )
@@ -119,14 +122,16 @@ unless_in : (r : Option Refusal) (v : View) (advice : List (Option ℕ)) (t : �
 unless_in None v advice t ms = shares_in v.chosen v.producers v.calls.drawn (v.calls.drawn + 1) advice t ms
 unless_in (Some r) v advice t ms = tt
 
-parts_in : (v : View) (advice : List (Option ℕ)) (asked : Asked) → Each (StartsIn (v.calls.drawn + 1) (v.calls.drawn + 1 + shares asked)) (parts_of v advice asked)
+parts_in : (v : View) (advice : List (Option ℕ)) (asked : Asked) →
+    Each (StartsIn (v.calls.drawn + 1) (v.calls.drawn + 1 + shares asked)) (parts_of v advice asked)
 parts_in v advice (content.SendAll t ms) = unless_in (why_no_sends v.calls v.producers t) v advice t ms
 parts_in v advice _ = tt
 
 pub starts_in : (v : View) (advice : List (Option ℕ)) (asked : Asked) → Each (StartsIn v.calls.drawn (v.calls.drawn + 1 + shares asked)) (starts v advice asked)
 starts_in v advice asked = (
   (omega arith, omega arith),
-  each_map (StartsIn (v.calls.drawn + 1) (v.calls.drawn + 1 + shares asked)) (StartsIn v.calls.drawn (v.calls.drawn + 1 + shares asked)) (parts_of v advice asked)
+  each_map (StartsIn (v.calls.drawn + 1) (v.calls.drawn + 1 + shares asked)) (StartsIn v.calls.drawn (v.calls.drawn + 1 + shares asked))
+      (parts_of v advice asked)
       (starts_wider (v.calls.drawn + 1) (v.calls.drawn + 1 + shares asked) v.calls.drawn (v.calls.drawn + 1 + shares asked) (omega arith) (omega arith))
       (parts_in v advice asked),
 )

@@ -70,7 +70,8 @@ some_no_stop who None u = tt
 some_no_stop who (Some plan) u = turn_no_stop who (told plan u) (told_fits plan u)
 
 -- no part of a call is a stop, nor is a call that has parts
-sends_no_stop : (who : Who) (share : Option Share) (m : ProducerMessageValues) (ways : Option Ways) (e : Option Errand) → NoStop (Starts who (sends_by share m ways e))
+sends_no_stop : (who : Who) (share : Option Share) (m : ProducerMessageValues) (ways : Option Ways) (e : Option Errand) →
+    NoStop (Starts who (sends_by share m ways e))
 sends_no_stop who None m ways None = refl
 sends_no_stop who (Some s) m ways None = refl
 sends_no_stop who None m None (Some e) = refl
@@ -85,11 +86,13 @@ shares_no_stop o ps of ticket advice t (m ∷ ms) = (
   shares_no_stop o (routed t m ps) of (ticket + 1) (drop 1 advice) t ms,
 )
 
-unless_no_stop : (why : Option Refusal) (v : View) (advice : List (Option ℕ)) (t : ℕ) (ms : List ProducerMessageValues) → Each NoStop (shares_unless why v advice t ms)
+unless_no_stop : (why : Option Refusal) (v : View) (advice : List (Option ℕ)) (t : ℕ) (ms : List ProducerMessageValues) →
+    Each NoStop (shares_unless why v advice t ms)
 unless_no_stop (Some r) v advice t ms = tt
 unless_no_stop None v advice t ms = shares_no_stop v.chosen v.producers v.calls.drawn (v.calls.drawn + 1) advice t ms
 
-gathers_no_stop : (who : Who) (b : Bool) (why : Option Refusal) (first count : ℕ) → NoStop (Starts who (unless_refused b (unless why (procedure.Gather first count))))
+gathers_no_stop : (who : Who) (b : Bool) (why : Option Refusal) (first count : ℕ) →
+    NoStop (Starts who (unless_refused b (unless why (procedure.Gather first count))))
 gathers_no_stop who false why first count = refl
 gathers_no_stop who true None first count = refl
 gathers_no_stop who true (Some r) first count = refl

@@ -80,7 +80,8 @@ by_kind v a true h = absurd cc
 once_one : (v : View) (a : Act) → OneDial (at_once v a)
 once_one v a = by_kind v a (may OfAttempt a) refl
 
-rest_none : (now : List Act) (here : List Notice) (behind : List (List Notice)) (parts : List Part) → OneDial now → Each NoDial (rest_of now here behind parts).now
+rest_none : (now : List Act) (here : List Notice) (behind : List (List Notice)) (parts : List Part) → OneDial now →
+    Each NoDial (rest_of now here behind parts).now
 rest_none (a ∷ now) here behind parts k = k
 rest_none [] (n ∷ here) behind parts k = tt
 rest_none [] [] (cause ∷ behind) parts k = rest_none [] cause behind parts tt
@@ -130,7 +131,8 @@ few_on : (v : View) (k : ℕ) (x : LinkAct) (at : Option Seat) (l : ℕ) (row : 
 few_on v k x None l row q = q
 few_on v k x (Some seat) l row q =
     let t : Turned = turned_by v.chosen v.addresses v.now k x seat in
-    few_put v.chosen.connection.max_retries t.pause t.link l row (few_for v.chosen x t.change seat.address (v.addresses.base (address_key seat.address)).series) q
+    few_put v.chosen.connection.max_retries t.pause t.link l row
+    (few_for v.chosen x t.change seat.address (v.addresses.base (address_key seat.address)).series) q
 
 few_rung : (most : ℕ) (b : Bool) (a : Alarm) (l : ℕ) (row : Option Pause) → FewRetries most row → FewRetries most (pause_rung b a l row)
 few_rung most b (Retry k) l row q = elim (b && (l == k)) as (λ c. FewRetries most (cond c None row)) [ true ↦ tt | false ↦ q ]
@@ -148,7 +150,9 @@ few_retries o [] l = tt
 few_retries o (Begins e ∷ log) l =
     subst (FewRetries o.chosen.connection.max_retries) (sym (begun_same (λ v. v.addresses.pause l) e (view o log) refl)) (few_retries o log l)
 few_retries o (Then a ∷ log) l =
-    subst (λ c. FewRetries c.connection.max_retries ((view o log).addresses.pause l) → FewRetries c.connection.max_retries (pause_after (view o log) a l ((view o log).addresses.pause l)))
+    subst
+    (λ c. FewRetries c.connection.max_retries ((view o log).addresses.pause l) →
+        FewRetries c.connection.max_retries (pause_after (view o log) a l ((view o log).addresses.pause l)))
     (chosen_same o log) (few_after (view o log) a l ((view o log).addresses.pause l)) (few_retries o log l)
 
 -- ITS CAUSE
@@ -163,7 +167,8 @@ module _ (o : Options) (older : List Entry) (p : Place) (starter : Who) (n : ℕ
   not_raised : (xs ys : List Act) → Each NoDial xs → xs ≡ Dials p starter n ∷ ys → ⊥
   not_raised xs ys k e = let no : Each NoDial (Dials p starter n ∷ ys) = subst (Each NoDial) e k in let f : true ≡ false = no.0 in cc
 
-  from_begun : (who : Who) (q : Place) (s : Series) (ys : List Act) → is_reachable q ≡ true → (base_of v q).series ≡ s → gets_from who q s ≡ Dials p starter n ∷ ys →
+  from_begun : (who : Who) (q : Place) (s : Series) (ys : List Act) → is_reachable q ≡ true → (base_of v q).series ≡ s →
+      gets_from who q s ≡ Dials p starter n ∷ ys →
       CausedBy (Does who (Get q))
   from_begun who q Nobody ys r e h =
       let a : q ≡ p = cc in
@@ -200,7 +205,8 @@ module _ (o : Options) (older : List Entry) (p : Place) (starter : Who) (n : ℕ
         subst (λ m. m ≤ o.chosen.connection.max_retries) (sym c) (at_most q.retries o.chosen.connection.max_retries few),
       )
 
-  rings_caused : (l : ℕ) (b : Bool) (ys : List Act) → rings v.now (Retry l) v.alarms ≡ b → cond b (tries_again (v.addresses.pause l)) [] ≡ Dials p starter n ∷ ys →
+  rings_caused : (l : ℕ) (b : Bool) (ys : List Act) → rings v.now (Retry l) v.alarms ≡ b →
+      cond b (tries_again (v.addresses.pause l)) [] ≡ Dials p starter n ∷ ys →
       CausedBy (Comes (Rings (Retry l)))
   rings_caused l true ys r h = followed l (v.addresses.pause l) ys r refl (few_retries o older l) h
   rings_caused l false ys r h = absurd cc

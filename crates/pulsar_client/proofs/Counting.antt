@@ -1,5 +1,5 @@
 -- The tickets that are drawn are those of the calls of the history and of their parts.
-use Rattle.std.proofs.Common.{◌≡◌, ◌∙◌, ℕ, ◌+◌, sym, ap, List, [], ◌∷◌, ◌++◌, refl, map, Some, None, Bool, true, false, cond}
+use Rattle.std.proofs.Common.{◌≡◌, ◌∙◌, ℕ, sym, ap, List, [], ◌∷◌, ◌++◌, refl, map, Some, None, true, false, cond}
 use Rattle.pulsar_run.specs.Run.{in_order, steps_done, with_effects}
 use Rattle.pulsar_client.specs.declared.act.Act.{Act}
 use Rattle.pulsar_client.specs.declared.act.Act.TheVariants.{Comes, Told}
@@ -52,7 +52,8 @@ only_none (p ∷ ps) n k = ap (parts_drawn ps) (part_draws p n k.0) ∙ only_non
 -- what is first has drawn
 moved : (now : List Act) (here : List Notice) (behind : List (List Notice)) (ps : List Part) (a : Act) (n : ℕ) → first_of now here behind ps ≡ Some a →
     parts_drawn (rest_of now here behind ps).parts (acts_drawn (rest_of now here behind ps).now (drawn_after a n)) ≡ parts_drawn ps (acts_drawn now n)
-moved (b ∷ now) here behind ps a n h = let e : b ≡ a = (let f : Some b ≡ Some a = h in cc) in ap (λ x. parts_drawn ps (acts_drawn now (drawn_after x n))) (sym e)
+moved (b ∷ now) here behind ps a n h = let e : b ≡ a = (let f : Some b ≡ Some a = h in cc) in
+    ap (λ x. parts_drawn ps (acts_drawn now (drawn_after x n))) (sym e)
 moved [] (m ∷ here) behind ps a n h = let e : Told m ≡ a = (let f : Some (Told m) ≡ Some a = h in cc) in ap (λ x. parts_drawn ps (drawn_after x n)) (sym e)
 moved [] [] (cause ∷ behind) ps a n h = moved [] cause behind ps a n h
 moved [] [] [] (p ∷ ps) a n h = let e : Comes p ≡ a = (let f : Some (Comes p) ≡ Some a = h in cc) in ap (λ x. parts_drawn ps (drawn_after x n)) (sym e)
@@ -81,7 +82,8 @@ tickets_same : (xs : List Shown) (ss : List Step) → tickets_in (map (in_order 
 tickets_same xs [] = refl
 tickets_same xs (s ∷ ss) = refl
 
-counted : (o : Options) (log : List Entry) → IsRun o log → parts_drawn (agenda o log).parts (acts_drawn (agenda o log).now (view o log).calls.drawn) ≡ tickets_in (steps o log)
+counted : (o : Options) (log : List Entry) → IsRun o log →
+    parts_drawn (agenda o log).parts (acts_drawn (agenda o log).now (view o log).calls.drawn) ≡ tickets_in (steps o log)
 counted o [] run = refl
 counted o (Begins e ∷ log) (run, rests) =
     let g = agenda o log in

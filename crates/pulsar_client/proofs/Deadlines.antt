@@ -69,7 +69,8 @@ module _ (o : Options) (l queued : ℕ) where
   overdue = Comes (ToLink l (Ends (Overdue queued)))
 
   due_at : (e : Entry) (older : List Entry) → Arises rules o overdue e older → IsDueAt o l queued e older
-  due_at (Begins (Ticked now)) older i = elim (ticked o.policies (view o older) now (ToLink l (Ends (Overdue queued))) (is_live (view o older) (Ticked now)) i) [
+  due_at (Begins (Ticked now)) older i =
+      elim (ticked o.policies (view o older) now (ToLink l (Ends (Overdue queued))) (is_live (view o older) (Ticked now)) i) [
     | inl d ↦
         (let same = d.4 in
         let link : l ≡ d.0 = cc in
@@ -175,4 +176,5 @@ idle_ends_lem o log l run =
 
 pub signs_of_life_lem : SignsOfLife
 signs_of_life_lem o log l run =
-    step_more (Arises rules o (Comes (ToLink l Pings))) (IsQuietAt o l) (quiet_at o l) log (acts_arise_lem _ _ _ _ _ _ _ rules o (Comes (ToLink l Pings)) log run)
+    step_more (Arises rules o (Comes (ToLink l Pings))) (IsQuietAt o l) (quiet_at o l) log
+    (acts_arise_lem _ _ _ _ _ _ _ rules o (Comes (ToLink l Pings)) log run)

@@ -97,7 +97,8 @@ module _ (a : Act) where
   first_done [] [] [] (p ∷ ps) b f (inr (inr (inr (inr i)))) = inr (inr (inr (inr i)))
   first_done [] [] [] [] b f k = absurd cc
 
-  none_left : (now : List Act) (here : List Notice) (behind : List (List Notice)) (ps : List Part) → first_of rules now here behind ps ≡ None → IsLeft now here behind ps → ⊥
+  none_left : (now : List Act) (here : List Notice) (behind : List (List Notice)) (ps : List Part) → first_of rules now here behind ps ≡ None →
+      IsLeft now here behind ps → ⊥
   none_left (x ∷ now) here behind ps f k = absurd cc
   none_left [] (n ∷ here) behind ps f k = absurd cc
   none_left [] [] (cause ∷ behind) ps f (inl i) = i

@@ -82,7 +82,8 @@ module _ (o : Options) where
     done = ap (λ ss. record { event = e; effects = [] } ∷ ss) k.done;
   }
 
-  turns : (more : State → State) → ((s : State) → Stands s → Stands (more s)) → (r : Option Act) (s : State) → first s.left ≡ r → Stands s → Stands (turned more r s)
+  turns : (more : State → State) → ((s : State) → Stands s → Stands (more s)) → (r : Option Act) (s : State) → first s.left ≡ r → Stands s →
+      Stands (turned more r s)
   turns more goes_on None s e k = k
   turns more goes_on (Some a) s e k = goes_on (acted a s) (acts a s e k)
 

@@ -56,7 +56,6 @@ use Rattle.pulsar_client.specs.Links.{numbers_from}
 use Rattle.pulsar_client.specs.Parts.{failed_with, outcomes_of, sent_from}
 use Rattle.pulsar_client.specs.Plan.{asks_of, begins, builds, fails, fails_in, fails_with, failure_in, failure_of, fault_of, found, gathers, goes, goes_on_sending, goes_round, halted, is_answer, is_sent, leaves, news_in, news_of, overrides, parted, receipt_said, sends_stay, told, told_at, tells, verdict, visited}
 use Rattle.pulsar_client.proofs.Productions.{AllowsBreaks, AllowsReply, BuildKeeps, Ends, SendKeeps, building_begins, building_ends, sending_ends}
-use Rattle.pulsar_client.proofs.Proper.{is_proper}
 use Rattle.pulsar_client.proofs.Searches.{Breaks, ByFault, BySearch, ByReply, Keeps, Turns, is_search, is_sought, keeps_begins, keeps_told}
 
 -- FAULTS
@@ -80,7 +79,12 @@ unfolding unexpected
 refused_same r None = refl
 refused_same r (Some b) = refl
 
--- what a plan within a plan is told is what its outcome is
+-- what is granted is nothing that another outcome tells
+abbrev pub is_proper : Outcome → Bool
+is_proper (Granted (granting.Told x)) = false
+is_proper _ = true
+
+-- so what a plan within a plan is told is what its outcome is
 news_same : (u : Outcome) (x : News) → is_proper u ≡ true → news_of u ≡ granting.Told x → x ≡ news_in u
 news_same Queued x p h = absurd cc
 news_same InLine x p h = absurd cc
@@ -158,7 +162,8 @@ module _ (p : Procedure) (all : List Outcome) where
   turns_so w u f is i (inl e) = IsTurned u (ap is_some is) i (e ∙ ap in_discovery (fault_same u))
   turns_so w u f is i (inr (r, d, e, g, k)) = denied_so u i r d e g k
     where
-      denied_so : (u : Outcome) → In u all → (r : Content) (d : DiscoveryFault) → news_in u ≡ news.Replied r → f ≡ OfDiscovery d → DeniesSo w d r → FailsSo p all f
+      denied_so : (u : Outcome) → In u all → (r : Content) (d : DiscoveryFault) → news_in u ≡ news.Replied r → f ≡ OfDiscovery d → DeniesSo w d r →
+          FailsSo p all f
       denied_so (Replied r') i r d e g k = IsDenied w r' d is i g (subst (DeniesSo w d) (let same : r ≡ r'.content = cc in same) k)
       denied_so (GotLink l) i r d e g k = absurd cc
       denied_so outcome.Woken i r d e g k = absurd cc
@@ -201,7 +206,8 @@ module _ (p : Procedure) (all : List Outcome) where
       replied_so outcome.Woken i e = absurd cc
       replied_so u i e = absurd cc
 
-  builds_hold : (w : Ways) (o : Order) (x : Step Build (Result (List Built) Failure)) → ways_in p ≡ Some w → Ends (BuildKeeps Fails') Fails' x → TurnHolds (builds w o x)
+  builds_hold : (w : Ways) (o : Order) (x : Step Build (Result (List Built) Failure)) → ways_in p ≡ Some w → Ends (BuildKeeps Fails') Fails' x →
+      TurnHolds (builds w o x)
   builds_hold w o (step.Stays b d) is k = (is, k)
   builds_hold w o (step.Gives (Ok parts)) is k = says_done
   builds_hold w o (step.Gives (Err f)) is k = says_failed f k
@@ -228,7 +234,8 @@ module _ (p : Procedure) (all : List Outcome) where
   stays_hold w e (Some share) s d is fs k =
       either_holds (is_sent s) (Stays (Reporting w e) (tells share (parted share None))) (Stays (Sending w e (Some share) s) _) (is, fs) (is, fs, k)
 
-  sends_hold : (w : Ways) (e : Errand) (share : Option Share) (x : produce.Sent) → ways_in p ≡ Some w → fails_in_producer p ≡ true → Ends (SendKeeps Fails') Fails' x →
+  sends_hold : (w : Ways) (e : Errand) (share : Option Share) (x : produce.Sent) → ways_in p ≡ Some w → fails_in_producer p ≡ true →
+      Ends (SendKeeps Fails') Fails' x →
       TurnHolds (goes_on_sending w e share x)
   sends_hold w e share (step.Stays s d) is fs k = stays_hold w e share s d is fs k
   sends_hold w e share (step.Gives (Ok r)) is fs k = says_receipt r.body
@@ -240,15 +247,18 @@ module _ (p : Procedure) (all : List Outcome) where
       Says (sent_from first count failures)
   says_sent first count [] is k f h = absurd cc
   says_sent first count (x ∷ failures) is (inl e) f h = absurd cc
-  says_sent first count (x ∷ failures) is (inr some) f h = IsPartial first count (x ∷ failures) is some (let e : f ≡ OfPartialSend (outcomes_of (x ∷ failures) (numbers_from first count)) = cc in e)
+  says_sent first count (x ∷ failures) is (inr some) f h =
+      IsPartial first count (x ∷ failures) is some (let e : f ≡ OfPartialSend (outcomes_of (x ∷ failures) (numbers_from first count)) = cc in e)
 
-  gathers_hold : (first count left : ℕ) (failures : List (ℕ × Failure)) → p ≡ procedure.Gather first count → (failures ≡ []) ⊎ (list_any has_failed all ≡ true) →
+  gathers_hold : (first count left : ℕ) (failures : List (ℕ × Failure)) → p ≡ procedure.Gather first count →
+      (failures ≡ []) ⊎ (list_any has_failed all ≡ true) →
       TurnHolds (gathers first count left failures)
   gathers_hold first count left failures is k =
       either_holds (left == 0) (Gives (verdict Nothing (sent_from first count failures))) (Stays (Gathering first count left failures) Rest)
       (says_sent first count failures is k) (is, k)
 
-  failed_more : (ticket : ℕ) (f : Option Failure) (failures : List (ℕ × Failure)) → In (Parted ticket f) all → (failures ≡ []) ⊎ (list_any has_failed all ≡ true) →
+  failed_more : (ticket : ℕ) (f : Option Failure) (failures : List (ℕ × Failure)) → In (Parted ticket f) all →
+      (failures ≡ []) ⊎ (list_any has_failed all ≡ true) →
       (failed_with ticket f failures ≡ []) ⊎ (list_any has_failed all ≡ true)
   failed_more ticket None failures i k = k
   failed_more ticket (Some f) failures i k = inr (any_in has_failed (Parted ticket (Some f)) all i refl)
@@ -272,7 +282,8 @@ module _ (p : Procedure) (all : List Outcome) where
 
   visited_holds : (r : Round) (left : List ℕ) (n : ℕ) (reply : Reply) → RoundKeeps r → In (Replied reply) all → TurnHolds (visited r left n reply)
   visited_holds r left n reply k i =
-      either_holds (is_answer (request_number (asks_of r n)) reply.content.body) (goes_round r left) (fails_in r (refused reply reply.content.body)) (round_holds r left k)
+      either_holds (is_answer (request_number (asks_of r n)) reply.content.body) (goes_round r left) (fails_in r (refused reply reply.content.body))
+      (round_holds r left k)
       (with_failure (failure_in r (refused reply reply.content.body)) (round_refused r reply k i))
 
   visits_hold : (r : Round) (n : ℕ) (left : List ℕ) (x : Point) (u : Outcome) → RoundKeeps r → In u all → TurnHolds (told_at r n left x u)
@@ -314,7 +325,8 @@ module _ (p : Procedure) (all : List Outcome) where
   told_holds (Sending w e share s) u k i proper =
       either_holds (overrides u && not (is_sent s)) (halted share u) (goes_on_sending w e share (produce.send_told w e s (news_of u))) (halted_hold share u i)
       (sends_hold w e share (produce.send_told w e s (news_of u)) k.0 k.1
-      (sending_ends Fails' w e s (news_of u) (IsInProducer u k.1 i (ap in_producer (told_same u))) (allows_breaks w u k.0 i proper) (allows_reply u k.1 i proper) k.2))
+      (sending_ends Fails' w e s (news_of u) (IsInProducer u k.1 i (ap in_producer (told_same u))) (allows_breaks w u k.0 i proper)
+      (allows_reply u k.1 i proper) k.2))
   told_holds (Reporting w e) u k i proper = (k.0, k.1, tt)
   told_holds (Leaving f) u k i proper = with_failure f k
   told_holds (Gathering first count left failures) (Parted ticket f) k i proper =
@@ -322,7 +334,8 @@ module _ (p : Procedure) (all : List Outcome) where
   told_holds (Gathering first count left failures) u k i proper = told_so u i
   told_holds (Shutting numbers) (Granted granting.Done) k i proper = round_holds Closes numbers k
   told_holds (Shutting numbers) u k i proper = told_so u i
-  told_holds (Visiting r n left x) u k i proper = either_holds (overrides u) (Gives (fails (fault_of u))) (told_at r n left x u) (told_so u i) (visits_hold r n left x u k i)
+  told_holds (Visiting r n left x) u k i proper =
+      either_holds (overrides u) (Gives (fails (fault_of u))) (told_at r n left x u) (told_so u i) (visits_hold r n left x u k i)
   told_holds Stopping Stopped k i proper = says_done
   told_holds Stopping u k i proper = told_so u i
 

@@ -33,15 +33,14 @@ use Rattle.pulsar_client.specs.Content.{Asked}
 use Rattle.pulsar_client.specs.Laws.{Cause, FailuresAreTold, OutcomesAreCaused, outcomes, started}
 use Rattle.pulsar_client.specs.Plan.{begins}
 use Rattle.pulsar_client.specs.Producers.{Producers, advice, errand_of, next_advice, numbers_at, routed, why_not}
-use Rattle.pulsar_client.specs.Rules.{asks_raw, asks_topics, builds_with, checks, closes, fails_as, flushes, from_base, gathers, is_taken, notice, order_of, parts_of, performs, procedure_for, produces, produces_by, produces_from, searches, sends, sends_as, sends_by, share, shares_of, shares_unless, starts, unless, unless_refused, why_no_sends}
+use Rattle.pulsar_client.specs.Rules.{asks_raw, asks_topics, builds_with, checks, closes, fails_as, flushes, from_base, gathers, is_taken, order_of, parts_of, procedure_for, produces, produces_by, produces_from, searches, sends, sends_as, sends_by, share, shares_of, shares_unless, starts, unless, unless_refused, why_no_sends}
 use Rattle.pulsar_client.specs.Run.{Entry, Begins, Then, IsRun, view}
 use Rattle.pulsar_client.specs.View.{Chosen, Options, Tickets, View, may_call, ways_of}
 use Rattle.pulsar_client.specs.Who.{is_same}
 use Rattle.pulsar_client.proofs.Acts.{Each}
-use Rattle.pulsar_client.proofs.Failing.{Fails, IsMade, begins_holds, course_fails}
+use Rattle.pulsar_client.proofs.Failing.{Fails, IsMade, begins_holds, course_fails, is_proper}
 use Rattle.pulsar_client.proofs.Follow.{plans_follow_lem}
 use Rattle.pulsar_client.proofs.Made.{IsMadeAt, calls_are_made_lem}
-use Rattle.pulsar_client.proofs.Proper.{IsProper, is_proper, performs_proper}
 use Rattle.pulsar_client.proofs.Searches.{is_sought}
 use Rattle.pulsar_client.proofs.Sources.{in_append, in_each, step_some}
 
@@ -106,7 +105,8 @@ call_made o c ps advised (content.Send t m) =
     (unless_made (why_not ps t) (sends_as o ps None (next_advice advised) t m) (errand_made o ps None (next_advice advised) t m))
 call_made o c ps advised (content.SendAll t ms) = open_made (may_call c) (gathers c ps t ms) (unless_made (why_not ps t) _ tt)
 call_made o c ps advised (content.Flush t) = open_made (may_call c) (flushes ps t) (unless_made (why_not ps t) (procedure.Refuse refusal.NoBatches) tt)
-call_made o c ps advised (content.CheckProducer t) = open_made (may_call c) (checks ps t) (unless_made (why_not ps t) (procedure.Go Checks (numbers_at (ps.built t))) tt)
+call_made o c ps advised (content.CheckProducer t) =
+    open_made (may_call c) (checks ps t) (unless_made (why_not ps t) (procedure.Go Checks (numbers_at (ps.built t))) tt)
 call_made o c ps advised (content.CloseProducer t) =
     open_made (may_call c) (closes ps t)
     (either_made (is_some (ps.built t)) (procedure.Close t (numbers_at (ps.built t))) (procedure.Refuse refusal.UnknownTicket) tt tt)
@@ -125,7 +125,8 @@ shares_made o ps of ticket advised t [] = tt
 shares_made o ps of ticket advised t (m ∷ ms) =
     (errand_made o ps (share of ticket) (next_advice advised) t m, shares_made o (routed t m ps) of (ticket + 1) (drop 1 advised) t ms)
 
-unless_shares : (r : Option Refusal) (v : View) (advised : List (Option ℕ)) (t : ℕ) (ms : List ProducerMessageValues) → Each StartsMade (shares_unless r v advised t ms)
+unless_shares : (r : Option Refusal) (v : View) (advised : List (Option ℕ)) (t : ℕ) (ms : List ProducerMessageValues) →
+    Each StartsMade (shares_unless r v advised t ms)
 unless_shares None v advised t ms = shares_made v.chosen v.producers v.calls.drawn (v.calls.drawn + 1) advised t ms
 unless_shares (Some r) v advised t ms = tt
 
@@ -144,7 +145,8 @@ start_made o log t p run =
     made_there : (e : Entry) (older : List Entry) → IsMadeAt o t p e older → IsMade p
     made_there e older (asked, is, left, i) =
         let v = view o older in
-        in_each StartsMade (Starts (Call t) p) (starts v (advice o.policies v.producers asked) asked) i (starts_made v (advice o.policies v.producers asked) asked)
+        in_each StartsMade (Starts (Call t) p) (starts v (advice o.policies v.producers asked) asked) i
+        (starts_made v (advice o.policies v.producers asked) asked)
 
 started_made : (o : Options) (log : List Entry) (w : Who) (p : Procedure) → IsRun o log → started w log ≡ Some p → IsMade p
 started_made o [] w p run h = absurd cc
@@ -163,9 +165,7 @@ started_made o (Then a ∷ log) w p run h = started_made o log w p run.0 h
 -- what is granted arises from what was asked, or is a turn
 module _ (o : Options) (caused : OutcomesAreCaused) where
   not_granted : {X : Type 0} (who : Who) (x : News) (e : Entry) (older : List Entry) → Cause o who (Granted (granting.Told x)) e older → X
-  not_granted who x e older (inl (action, is, i)) =
-      let no : false ≡ true = in_each IsProper (Told (notice who (Granted (granting.Told x)))) (performs (view o older) who action) i (performs_proper (view o older) who action) in
-      absurd cc
+  not_granted who x e older (inl (action, is, none)) = absurd none
   not_granted who x e older (inr (other, number, ticket, version, is, same, turn, next)) = absurd cc
 
   told_proper : (log : List Entry) (who : Who) (u : Outcome) → IsRun o (Then (Told (record { who = who; outcome = u })) ∷ log) → is_proper u ≡ true

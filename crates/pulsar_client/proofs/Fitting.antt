@@ -146,7 +146,8 @@ round_fits r (n ∷ left) = refl
 
 visited_fits : (r : Round) (left : List ℕ) (n : ℕ) (reply : Reply) → Fits (visited r left n reply)
 visited_fits r left n reply =
-    either_fits (is_answer (request_number (asks_of r n)) reply.content.body) (goes_round r left) (fails_in r (refused reply reply.content.body)) (round_fits r left) tt
+    either_fits (is_answer (request_number (asks_of r n)) reply.content.body) (goes_round r left)
+    (fails_in r (refused reply reply.content.body)) (round_fits r left) tt
 
 visit_fits : (r : Round) (n : ℕ) (left : List ℕ) (x : At) (u : Outcome) → Fits (told_at r n left x u)
 visit_fits r n left at.Turning (outcome.Granted (granting.HasTurn version)) = refl
@@ -204,10 +205,12 @@ told_fits (Searching w s) outcome.Cut = tt
 told_fits (Searching w s) outcome.Stopped = tt
 told_fits (Searching w s) u = goes_fits w (search.told w s (news_in u))
 told_fits (Producing w o b) u =
-    either_fits (overrides u) (Gives (fails (fault_of u))) (builds w o (produce.build_told w o b (news_of u))) tt (builds_fits w o (produce.build_told w o b (news_of u)))
+    either_fits (overrides u) (Gives (fails (fault_of u))) (builds w o (produce.build_told w o b (news_of u))) tt
+    (builds_fits w o (produce.build_told w o b (news_of u)))
 told_fits (Sending w e share s) u =
     let x : produce.Sent = produce.send_told w e s (news_of u) in
-    either_fits (overrides u && not (is_sent s)) (halted share u) (goes_on_sending w e share x) (halted_fits share (OfConnection (fault_of u))) (sends_fits w e share x)
+    either_fits (overrides u && not (is_sent s)) (halted share u) (goes_on_sending w e share x)
+    (halted_fits share (OfConnection (fault_of u))) (sends_fits w e share x)
 told_fits (Reporting w e) u = refl
 told_fits (Leaving f) u = tt
 told_fits (Gathering first count left failures) (outcome.Parted ticket f) = gathers_fits first count (left - 1) (failed_with ticket f failures)

@@ -75,7 +75,8 @@ start_no_deed from to _ k = absurd k
 
 pub starts_none : (v : View) (advice : List (Option ℕ)) (asked : Asked) → Each NoDeed (starts v advice asked)
 starts_none v advice asked =
-    each_map (StartsIn v.calls.drawn (v.calls.drawn + 1 + shares asked)) NoDeed (starts v advice asked) (start_no_deed v.calls.drawn (v.calls.drawn + 1 + shares asked))
+    each_map (StartsIn v.calls.drawn (v.calls.drawn + 1 + shares asked)) NoDeed (starts v advice asked)
+    (start_no_deed v.calls.drawn (v.calls.drawn + 1 + shares asked))
     (starts_in v advice asked)
 
 called_one : (v : View) (advice : List (Option ℕ)) (asked : Asked) → Each NoDeed (drop 1 (called v advice asked))
@@ -214,8 +215,10 @@ module _ (o : Options) (log : List Entry) (a : Act) (k : Follows o log) (fits : 
   due_then w xs = due_append w xs left ∙ ap (λ ds. due_deeds w xs ++ ds) (none_due w left left_plain) ∙ append-nil (due_deeds w xs)
 
   -- an act that starts no plan and tells none
-  simple_on : Each NoDeed (drop 1 (at_once (view o log) a)) → ((w : Who) → Began w → due_deeds w (at_once (view o log) a) ≡ []) → ((w : Who) → started w (Then a ∷ log) ≡ started w log) → ((w : Who) → outcomes w (Then a ∷ log) ≡ outcomes w log) →
-      ((w : Who) → deeds w (Then a ∷ log) ≡ deeds w log ++ deed_of w a) → ((w : Who) → (view o (Then a ∷ log)).stand w ≡ (view o log).stand w) → Follows o (Then a ∷ log)
+  simple_on : Each NoDeed (drop 1 (at_once (view o log) a)) → ((w : Who) → Began w → due_deeds w (at_once (view o log) a) ≡ []) →
+      ((w : Who) → started w (Then a ∷ log) ≡ started w log) → ((w : Who) → outcomes w (Then a ∷ log) ≡ outcomes w log) →
+      ((w : Who) → deeds w (Then a ∷ log) ≡ deeds w log ++ deed_of w a) → ((w : Who) → (view o (Then a ∷ log)).stand w ≡ (view o log).stand w) →
+      Follows o (Then a ∷ log)
   simple_on one plain same_started same_outcomes more same_stand = record {
     head = head_on (at_once (view o log) a) left one left_plain;
     each = λ w p t h.
@@ -259,7 +262,8 @@ told_on o log n k fits = record {
         ∙ append-nil (course (begins p) (outcomes w log))
         ∙ ap (λ b. course (begins p) (cond b (outcomes w log ++ n.outcome ∷ []) (outcomes w log))) (sym e)
 
-starts_on : (o : Options) (log : List Entry) (who : Who) (q : Procedure) → Follows o log → first (agenda o log) ≡ Some (Starts who q) → Follows o (Then (Starts who q) ∷ log)
+starts_on : (o : Options) (log : List Entry) (who : Who) (q : Procedure) → Follows o log → first (agenda o log) ≡ Some (Starts who q) →
+    Follows o (Then (Starts who q) ∷ log)
 starts_on o log who q k fits = record {
   head = head_on xs (left o log (Starts who q) k fits) (follows_one who (begins q)) (left_plain o log (Starts who q) k fits);
   each = λ w p t h.
@@ -286,20 +290,26 @@ follows_run o (Begins e ∷ log) r =
     let k : Follows o log = follows_run o log r.0 in
     record {
       head = tt;
-      each = λ w p t h. ap (λ ds. deeds w log ++ ds) (sym (ap (due_deeds w) (none_now (agenda o log).now (agenda o log).here (agenda o log).behind (agenda o log).parts r.1))) ∙ k.each w p t h;
+      each = λ w p t h. ap (λ ds. deeds w log ++ ds)
+          (sym (ap (due_deeds w) (none_now (agenda o log).now (agenda o log).here (agenda o log).behind (agenda o log).parts r.1))) ∙ k.each w p t h;
       stands = λ w p h. begun_same (λ v. v.stand w) e (view o log) refl ∙ k.stands w p h;
     }
 follows_run o (Then (Starts who p) ∷ log) r = starts_on o log who p (follows_run o log r.0) r.1
 follows_run o (Then (Told n) ∷ log) r = told_on o log n (follows_run o log r.0) r.1
-follows_run o (Then (Comes p) ∷ log) r = simple_on o log (Comes p) (follows_run o log r.0) r.1 (comes_one (view o log) p) (λ w t. comes_none (view o log) w p t) (λ w. refl) (λ w. refl) (λ w. refl) (λ w. refl)
-follows_run o (Then (Does w a) ∷ log) r = simple_on o log (Does w a) (follows_run o log r.0) r.1 (each_drop NoDeed (performs (view o log) w a) (performs_none (view o log) w a)) (λ u t. none_due u (performs (view o log) w a) (performs_none (view o log) w a)) (λ u. refl) (λ u. refl) (λ u. refl) (λ u. refl)
+follows_run o (Then (Comes p) ∷ log) r =
+    simple_on o log (Comes p) (follows_run o log r.0) r.1 (comes_one (view o log) p) (λ w t. comes_none (view o log) w p t) (λ w. refl) (λ w. refl)
+    (λ w. refl) (λ w. refl)
+follows_run o (Then (Does w a) ∷ log) r =
+    simple_on o log (Does w a) (follows_run o log r.0) r.1 (each_drop NoDeed (performs (view o log) w a) (performs_none (view o log) w a))
+    (λ u t. none_due u (performs (view o log) w a) (performs_none (view o log) w a)) (λ u. refl) (λ u. refl) (λ u. refl) (λ u. refl)
 follows_run o (Then a ∷ log) r = simple_on o log a (follows_run o log r.0) r.1 tt (λ u t. refl) (λ u. refl) (λ u. refl) (λ u. refl) (λ u. refl)
 
 pub plans_follow_lem : PlansFollow
 plans_follow_lem o log w p r rests h =
     let k : Follows o log = follows_run o log r in
     let t : Began w = has_begun o log w p r h in
-    sym (append-nil (deeds w log)) ∙ ap (λ ds. deeds w log ++ ds) (sym (ap (due_deeds w) (none_now (agenda o log).now (agenda o log).here (agenda o log).behind (agenda o log).parts rests))) ∙ k.each w p t h
+    sym (append-nil (deeds w log)) ∙ ap (λ ds. deeds w log ++ ds)
+    (sym (ap (due_deeds w) (none_now (agenda o log).now (agenda o log).here (agenda o log).behind (agenda o log).parts rests))) ∙ k.each w p t h
 
 -- ANSWERS
 

@@ -241,7 +241,7 @@ does_from o log w action run =
       ]
     ]
 
-tell_free : (o : Options) (log : List Entry) (w : Who) (n : Notice) → IsRun o (Then (Does w (Tell n)) ∷ log) → IsFree n
+pub tell_free : (o : Options) (log : List Entry) (w : Who) (n : Notice) → IsRun o (Then (Does w (Tell n)) ∷ log) → IsFree n
 tell_free o log w n run = elim (does_from o log w (Tell n) run) [
   | inl k ↦ (subst (StaysSo (Goes (KindBegun k.procedure))) k.leads (begins_goes k.procedure)).1
   | inr k ↦ (subst (StaysSo (Goes (KindOf k.before))) k.leads (told_goes k.before k.outcome)).1

@@ -3,7 +3,7 @@ use Rattle.std.proofs.Common.{◌≡◌, ◌⊎◌, inl, inr, ◌∙◌, sym, ap
 use Rattle.pulsar_run.specs.Run.{rest}
 use Rattle.pulsar_session.specs.Failures.{Exhausted}
 use Rattle.pulsar_client.specs.declared.act.Act.{Act}
-use Rattle.pulsar_client.specs.declared.act.Act.TheVariants.{Comes, Starts, Told, Does, Answers}
+use Rattle.pulsar_client.specs.declared.act.Act.TheVariants.{Comes, Starts, Told, Does}
 use Rattle.pulsar_client.specs.declared.act.Action.TheVariants.{Rest}
 use Rattle.pulsar_client.specs.declared.act.Notice.{Notice}
 use Rattle.pulsar_client.specs.declared.act.Part.TheVariants.{Calls}
@@ -60,7 +60,8 @@ module _ (o : Options) (older : List Entry) (w : Who) (d : Deed) where
   starts_so : (who : Who) (p : Procedure) → Led who w d (begins p) → IsLedBy (Starts who p)
   starts_so who p k = inl (p, ap (λ x. Then (Starts x p)) k.same, k.leads)
 
-  told_so : (n : Notice) (row : Option Plan) (ys : List Act) → v.stand n.who ≡ row → follows_some n.who (told_some row n.outcome) ≡ act_of w d ∷ ys → IsLedBy (Told n)
+  told_so : (n : Notice) (row : Option Plan) (ys : List Act) → v.stand n.who ≡ row → follows_some n.who (told_some row n.outcome) ≡ act_of w d ∷ ys →
+      IsLedBy (Told n)
   told_so n None ys e h = absurd cc
   told_so n (Some plan) ys e h =
       let k = led n.who w d (told plan n.outcome) ys h in
@@ -77,7 +78,8 @@ module _ (o : Options) (older : List Entry) (w : Who) (d : Deed) where
 
   once_led : (a : Act) (ys : List Act) → at_once v a ≡ act_of w d ∷ ys → IsLedBy a
   once_led (Comes (Calls asked said)) ys h = late_so asked said (lacks_tickets v.calls.drawn (shares asked)) ys refl h
-  once_led (Comes p) ys h = absurd (not_deed w d (at_once v (Comes p)) ys (each_map IsQuiet NoDeed (at_once v (Comes p)) quiet_no_deed (comes_quiet v p refl)) h)
+  once_led (Comes p) ys h = absurd (not_deed w d (at_once v (Comes p)) ys (each_map IsQuiet NoDeed (at_once v (Comes p)) quiet_no_deed (comes_quiet v p refl))
+      h)
   once_led (Starts who p) ys h = starts_so who p (led who w d (begins p) ys h)
   once_led (Told n) ys h = told_so n (v.stand n.who) ys refl h
   once_led (Does who action) ys h = absurd (not_deed w d (performs v who action) ys (performs_none v who action) h)

@@ -71,7 +71,8 @@ pub record IsFirstPart (p : Part) (now : List Act) (here : List Notice) (behind 
 
 pub part_first : (now : List Act) (here : List Notice) (behind : List (List Notice)) (ps : List Part) (p : Part) → is_single p ≡ true → Each NoSingle now →
     first_of rules now here behind ps ≡ Some (Comes p) → IsFirstPart p now here behind ps
-part_first (a ∷ now) here behind ps p s k h = (let e : a ≡ Comes p = cc in let f : comes_single a ≡ true = ap comes_single e ∙ s in let g : true ≡ false = sym f ∙ k.0 in absurd cc)
+part_first (a ∷ now) here behind ps p s k h =
+    (let e : a ≡ Comes p = cc in let f : comes_single a ≡ true = ap comes_single e ∙ s in let g : true ≡ false = sym f ∙ k.0 in absurd cc)
 part_first [] (n ∷ here) behind ps p s k h = absurd cc
 part_first [] [] (cause ∷ behind) ps p s k h = let r = part_first [] cause behind ps p s tt h in record { front = r.front; no_more = r.no_more }
 part_first [] [] [] (q ∷ ps) p s k h = let e : q ≡ p = cc in record { front = ap (λ x. x ∷ ps) e; no_more = refl }
@@ -119,7 +120,8 @@ brings_one o v _ = inl (refl, tt)
 
 parts_one : (o : Options) (v : View) (e : Heard) → Each IsMany (parts o v e) ⊎ OneOf o v (parts o v e) e
 parts_one o v e =
-    elim (is_live v e) as (λ b. Each IsMany (cond b (brings o.policies v e) []) ⊎ OneOf o v (cond b (brings o.policies v e) []) e) [ true ↦ brings_one o v e | false ↦ inl tt ]
+    elim (is_live v e) as (λ b. Each IsMany (cond b (brings o.policies v e) []) ⊎ OneOf o v (cond b (brings o.policies v e) []) e)
+    [ true ↦ brings_one o v e | false ↦ inl tt ]
 
 record Alone (o : Options) (log : List Entry) : Type 0 where
   event : Heard
@@ -127,7 +129,8 @@ record Alone (o : Options) (log : List Entry) : Type 0 where
   is_there : log ≡ Begins event ∷ older
   one : OneOf o (view o older) (agenda o log).parts event
 
-many_rest : (now : List Act) (here : List Notice) (behind : List (List Notice)) (ps : List Part) → Each IsMany ps → Each IsMany (rest_of now here behind ps).parts
+many_rest : (now : List Act) (here : List Notice) (behind : List (List Notice)) (ps : List Part) → Each IsMany ps →
+    Each IsMany (rest_of now here behind ps).parts
 many_rest (a ∷ now) here behind ps k = k
 many_rest [] (n ∷ here) behind ps k = k
 many_rest [] [] (cause ∷ behind) ps k = many_rest [] cause behind ps k

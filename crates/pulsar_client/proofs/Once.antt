@@ -94,13 +94,16 @@ some_start t who None = refl
 some_start t who (Some turn) = follows_start t who turn
 
 -- a plan that goes on has the token, or its end is due
-follows_end : (t : ℕ) (who : Who) (turn : Turn Plan Verdict) → due (end_of t) (follows who turn) + cond (is_same (Call t) who) (alive (stays turn)) 0 ≡ cond (is_same (Call t) who) 1 0
+follows_end : (t : ℕ) (who : Who) (turn : Turn Plan Verdict) →
+    due (end_of t) (follows who turn) + cond (is_same (Call t) who) (alive (stays turn)) 0 ≡ cond (is_same (Call t) who) 1 0
 follows_end t who (Stays plan action) = let e : due (end_of t) (does who action) ≡ 0 = does_end t who action in omega (arith, e)
 follows_end t who (Gives verdict) = elim (is_same (Call t) who) as (λ b. (cond b 1 0 + 0) + cond b 0 0 ≡ cond b 1 0) [ true ↦ refl | false ↦ refl ]
 
-some_here : (t : ℕ) (who : Who) (row : Option Plan) (o : Outcome) → is_same (Call t) who ≡ true → due (end_of t) (follows_some who (told_some row o)) + alive (stays_some (told_some row o)) ≡ alive row
+some_here : (t : ℕ) (who : Who) (row : Option Plan) (o : Outcome) → is_same (Call t) who ≡ true →
+    due (end_of t) (follows_some who (told_some row o)) + alive (stays_some (told_some row o)) ≡ alive row
 some_here t who None o h = refl
-some_here t who (Some plan) o h = subst (λ b. due (end_of t) (follows who (told plan o)) + cond b (alive (stays (told plan o))) 0 ≡ cond b 1 0) h (follows_end t who (told plan o))
+some_here t who (Some plan) o h = subst (λ b. due (end_of t) (follows who (told plan o)) + cond b (alive (stays (told plan o))) 0 ≡ cond b 1 0) h
+    (follows_end t who (told plan o))
 
 some_there : (t : ℕ) (who : Who) (row : Option Plan) (o : Outcome) → is_same (Call t) who ≡ false → due (end_of t) (follows_some who (told_some row o)) ≡ 0
 some_there t who None o h = refl
@@ -116,10 +119,12 @@ drawn t n = cond (nat_lt t n) 1 0
 
 record Few (o : Options) (log : List Entry) (t : ℕ) : Type 0 where
   begun : counted (start_of t) log + due (start_of t) (agenda o log).now ≤ drawn t (view o log).calls.drawn
-  ended : is_spent t ≡ false → counted (end_of t) log + due (start_of t) (agenda o log).now + due (end_of t) (agenda o log).now + alive ((view o log).stand (Call t)) ≤ drawn t (view o log).calls.drawn
+  ended : is_spent t ≡ false → counted (end_of t) log + due (start_of t) (agenda o log).now + due (end_of t) (agenda o log).now + alive
+      ((view o log).stand (Call t)) ≤ drawn t (view o log).calls.drawn
 
 -- what an act itself was is taken from what was due
-taken : (o : Options) (log : List Entry) (a : Act) (f : Act → ℕ) → (is_served a ≡ true → f a ≡ 0) → first (agenda o log) ≡ Some a → due f (agenda o log).now ≡ f a + due f (rest (agenda o log)).now
+taken : (o : Options) (log : List Entry) (a : Act) (f : Act → ℕ) → (is_served a ≡ true → f a ≡ 0) → first (agenda o log) ≡ Some a →
+    due f (agenda o log).now ≡ f a + due f (rest (agenda o log)).now
 taken o log a f none fits = elim (first_case (agenda o log).now (agenda o log).here (agenda o log).behind (agenda o log).parts a fits) [
   | inl e ↦ ap (due f) e
   | inr e ↦ ap (due f) e.0 ∙ sym ((λ i. none e.2 i + due f (e.1 i)))
@@ -132,26 +137,34 @@ module _ (o : Options) (log : List Entry) (a : Act) (t : ℕ) (k : Few o log t) 
   begun_before : counted (start_of t) log + (start_of t a + due (start_of t) left) ≤ drawn t (view o log).calls.drawn
   begun_before = subst (λ n. counted (start_of t) log + n ≤ drawn t (view o log).calls.drawn) (taken o log a (start_of t) (served_start t a) fits) k.begun
 
-  ended_before : is_spent t ≡ false → counted (end_of t) log + (start_of t a + due (start_of t) left) + (end_of t a + due (end_of t) left) + alive ((view o log).stand (Call t)) ≤ drawn t (view o log).calls.drawn
+  ended_before : is_spent t ≡ false → counted (end_of t) log + (start_of t a + due (start_of t) left) + (end_of t a + due (end_of t) left) + alive
+      ((view o log).stand (Call t)) ≤ drawn t (view o log).calls.drawn
   ended_before lt =
-      subst (λ n. counted (end_of t) log + (start_of t a + due (start_of t) left) + n + alive ((view o log).stand (Call t)) ≤ drawn t (view o log).calls.drawn) (taken o log a (end_of t) (served_end t a) fits)
-      (subst (λ n. counted (end_of t) log + n + due (end_of t) (agenda o log).now + alive ((view o log).stand (Call t)) ≤ drawn t (view o log).calls.drawn) (taken o log a (start_of t) (served_start t a) fits) (k.ended lt))
+      subst (λ n. counted (end_of t) log + (start_of t a + due (start_of t) left) + n + alive ((view o log).stand (Call t)) ≤ drawn t
+      (view o log).calls.drawn) (taken o log a (end_of t) (served_end t a) fits)
+      (subst (λ n. counted (end_of t) log + n + due (end_of t) (agenda o log).now + alive ((view o log).stand (Call t)) ≤ drawn t (view o log).calls.drawn)
+      (taken o log a (start_of t) (served_start t a) fits) (k.ended lt))
 
   -- an act from which no start and no end arises, and that leaves plans and tickets
-  simple_on : due (start_of t) (at_once (view o log) a) ≡ 0 → due (end_of t) (at_once (view o log) a) ≡ 0 → (view o (Then a ∷ log)).stand (Call t) ≡ (view o log).stand (Call t) →
+  simple_on : due (start_of t) (at_once (view o log) a) ≡ 0 → due (end_of t) (at_once (view o log) a) ≡ 0 →
+      (view o (Then a ∷ log)).stand (Call t) ≡ (view o log).stand (Call t) →
       (view o (Then a ∷ log)).calls.drawn ≡ (view o log).calls.drawn → Few o (Then a ∷ log) t
   simple_on starts ends stands calls =
-      let ds : due (start_of t) (at_once (view o log) a ++ left) ≡ due (start_of t) (at_once (view o log) a) + due (start_of t) left = due_append (start_of t) (at_once (view o log) a) left in
-      let de : due (end_of t) (at_once (view o log) a ++ left) ≡ due (end_of t) (at_once (view o log) a) + due (end_of t) left = due_append (end_of t) (at_once (view o log) a) left in
+      let ds : due (start_of t) (at_once (view o log) a ++ left) ≡ due (start_of t) (at_once (view o log) a) + due (start_of t) left =
+      due_append (start_of t) (at_once (view o log) a) left in
+      let de : due (end_of t) (at_once (view o log) a ++ left) ≡ due (end_of t) (at_once (view o log) a) + due (end_of t) left =
+      due_append (end_of t) (at_once (view o log) a) left in
       record {
         begun = (let b = begun_before in rw (calls, ds, starts) (omega (arith, b)));
         ended = λ lt. (let b = ended_before lt in rw (calls, stands, ds, de, starts, ends) (omega (arith, b)));
       }
 
-  quiet_on : Each IsQuiet (at_once (view o log) a) → (view o (Then a ∷ log)).stand (Call t) ≡ (view o log).stand (Call t) → (view o (Then a ∷ log)).calls.drawn ≡ (view o log).calls.drawn →
+  quiet_on : Each IsQuiet (at_once (view o log) a) → (view o (Then a ∷ log)).stand (Call t) ≡ (view o log).stand (Call t) →
+      (view o (Then a ∷ log)).calls.drawn ≡ (view o log).calls.drawn →
       Few o (Then a ∷ log) t
   quiet_on quiet stands calls =
-      simple_on (none_due (start_of t) (at_once (view o log) a) (quiet_start t) quiet) (none_due (end_of t) (at_once (view o log) a) (quiet_end t) quiet) stands calls
+      simple_on (none_due (start_of t) (at_once (view o log) a) (quiet_start t) quiet) (none_due (end_of t) (at_once (view o log) a) (quiet_end t) quiet)
+      stands calls
 
 -- a call and its parts take the next tickets, each at most one
 abbrev between : (t from to : ℕ) → ℕ
@@ -189,7 +202,8 @@ start_end t from to _ k = absurd k
 
 starts_end : (t : ℕ) (v : View) (advice : List (Option ℕ)) (asked : Asked) → due (end_of t) (starts v advice asked) ≡ 0
 starts_end t v advice asked =
-    none_in (end_of t) (starts v advice asked) (StartsIn v.calls.drawn (v.calls.drawn + 1 + shares asked)) (start_end t v.calls.drawn (v.calls.drawn + 1 + shares asked))
+    none_in (end_of t) (starts v advice asked) (StartsIn v.calls.drawn (v.calls.drawn + 1 + shares asked))
+    (start_end t v.calls.drawn (v.calls.drawn + 1 + shares asked))
     (starts_in v advice asked)
 
 -- and where too few are left, one that is not the greatest neither starts nor ends
@@ -211,16 +225,19 @@ calls_on o log asked advice t k fits =
       | inl e ↦ record {
         begun = rw ds (rw e (omega (arith, b)));
         ended = λ low. (let c = ended_before o log a t k fits low in
-            rw (ds, de) (rw e (late_end (t == (2 ^ 64 - 1)) (counted (end_of t) log) (due (start_of t) xs) (due (end_of t) xs) (alive (v.stand (Call t))) (drawn t n)
+            rw (ds, de) (rw e (late_end (t == (2 ^ 64 - 1)) (counted (end_of t) log) (due (start_of t) xs) (due (end_of t) xs) (alive (v.stand (Call t)))
+            (drawn t n)
             (apart (Call t) (2 ^ 64 - 1) low refl) c)));
       }
       | inr e ↦
           (let p = parts_few t v advice asked in
           let none = starts_end t v advice asked in
           record {
-            begun = rw ds (rw e (next_few t n (shares asked) (counted (start_of t) log) (due (start_of t) xs) (due (start_of t) (parts_of v advice asked)) b p));
+            begun = rw ds (rw e (next_few t n (shares asked) (counted (start_of t) log) (due (start_of t) xs) (due (start_of t) (parts_of v advice asked)) b
+                p));
             ended = λ low. (let c = ended_before o log a t k fits low in
-                rw (ds, de) (rw e (rw none (next_ends t n (shares asked) (counted (end_of t) log) (due (start_of t) xs) (due (end_of t) xs) (alive (v.stand (Call t)))
+                rw (ds, de) (rw e (rw none (next_ends t n (shares asked) (counted (end_of t) log) (due (start_of t) xs) (due (end_of t) xs)
+                (alive (v.stand (Call t)))
                 (due (start_of t) (parts_of v advice asked)) c p))));
           })
     ]
@@ -229,11 +246,14 @@ calls_on o log asked advice t k fits =
         (e + 0) + ((cond (t == n) 1 0 + p) + d) + (0 + c) + a ≤ cond (nat_lt t (n + 1 + k)) 1 0
     next_ends t n k e d c a p h few = let f = next_few t n k (e + c + a) d p (omega (arith, h)) few in omega (arith, f)
 
-starts_on : (o : Options) (log : List Entry) (who : Who) (p : Procedure) (t : ℕ) → Few o log t → first (agenda o log) ≡ Some (Starts who p) → Few o (Then (Starts who p) ∷ log) t
+starts_on : (o : Options) (log : List Entry) (who : Who) (p : Procedure) (t : ℕ) → Few o log t → first (agenda o log) ≡ Some (Starts who p) →
+    Few o (Then (Starts who p) ∷ log) t
 starts_on o log who p t k fits =
     let xs : List Act = left o log (Starts who p) t k fits in
-    let ds : due (start_of t) (follows who (begins p) ++ xs) ≡ due (start_of t) (follows who (begins p)) + due (start_of t) xs = due_append (start_of t) (follows who (begins p)) xs in
-    let de : due (end_of t) (follows who (begins p) ++ xs) ≡ due (end_of t) (follows who (begins p)) + due (end_of t) xs = due_append (end_of t) (follows who (begins p)) xs in
+    let ds : due (start_of t) (follows who (begins p) ++ xs) ≡ due (start_of t) (follows who (begins p)) + due (start_of t) xs =
+    due_append (start_of t) (follows who (begins p)) xs in
+    let de : due (end_of t) (follows who (begins p) ++ xs) ≡ due (end_of t) (follows who (begins p)) + due (end_of t) xs =
+    due_append (end_of t) (follows who (begins p)) xs in
     let s = follows_start t who (begins p) in
     record {
       begun = (let b = begun_before o log (Starts who p) t k fits in rw (ds, s) (omega (arith, b)));
@@ -250,8 +270,10 @@ told_on : (o : Options) (log : List Entry) (n : Notice) (t : ℕ) → Few o log 
 told_on o log n t k fits =
     let turn : Option (Turn Plan Verdict) = told_some ((view o log).stand n.who) n.outcome in
     let xs : List Act = left o log (Told n) t k fits in
-    let ds : due (start_of t) (follows_some n.who turn ++ xs) ≡ due (start_of t) (follows_some n.who turn) + due (start_of t) xs = due_append (start_of t) (follows_some n.who turn) xs in
-    let de : due (end_of t) (follows_some n.who turn ++ xs) ≡ due (end_of t) (follows_some n.who turn) + due (end_of t) xs = due_append (end_of t) (follows_some n.who turn) xs in
+    let ds : due (start_of t) (follows_some n.who turn ++ xs) ≡ due (start_of t) (follows_some n.who turn) + due (start_of t) xs =
+    due_append (start_of t) (follows_some n.who turn) xs in
+    let de : due (end_of t) (follows_some n.who turn ++ xs) ≡ due (end_of t) (follows_some n.who turn) + due (end_of t) xs =
+    due_append (end_of t) (follows_some n.who turn) xs in
     let s = some_start t n.who turn in
     record {
       begun = (let b = begun_before o log (Told n) t k fits in rw (ds, s) (omega (arith, b)));
@@ -260,8 +282,10 @@ told_on o log n t k fits =
           rw (ds, de, s) (elim (cases_Bool (is_same (Call t) n.who)) [
             | inl e ↦
                 (let w : Call t ≡ n.who = same_is (Call t) n.who e in
-                let f : due (end_of t) (follows_some n.who (told_some ((view o log).stand n.who) n.outcome)) + alive (stays_some (told_some ((view o log).stand (Call t)) n.outcome)) ≡ alive ((view o log).stand (Call t)) =
-                subst (λ (u : Who). due (end_of t) (follows_some n.who (told_some ((view o log).stand u) n.outcome)) + alive (stays_some (told_some ((view o log).stand (Call t)) n.outcome)) ≡ alive ((view o log).stand (Call t))) w
+                let f : due (end_of t) (follows_some n.who (told_some ((view o log).stand n.who) n.outcome)) + alive
+                (stays_some (told_some ((view o log).stand (Call t)) n.outcome)) ≡ alive ((view o log).stand (Call t)) =
+                subst (λ (u : Who). due (end_of t) (follows_some n.who (told_some ((view o log).stand u) n.outcome)) + alive
+                (stays_some (told_some ((view o log).stand (Call t)) n.outcome)) ≡ alive ((view o log).stand (Call t))) w
                 (some_here t n.who ((view o log).stand (Call t)) n.outcome e) in
                 rw e (omega (arith, c, f)))
             | inr e ↦ (let f = some_there t n.who ((view o log).stand n.who) n.outcome e in rw e (omega (arith, c, f)))

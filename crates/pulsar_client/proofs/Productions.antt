@@ -36,11 +36,13 @@ Ends H P (step.Stays s deed) = H s
 Ends H P (step.Gives (Ok a)) = Unit {0}
 Ends H P (step.Gives (Err f)) = P f
 
-either_ends : {S A : Type 0} (H : S → Type 0) (P : Failure → Type 0) (b : Bool) (x y : Step S (Result A Failure)) → Ends H P x → Ends H P y → Ends H P (cond b x y)
+either_ends : {S A : Type 0} (H : S → Type 0) (P : Failure → Type 0) (b : Bool) (x y : Step S (Result A Failure)) → Ends H P x → Ends H P y →
+    Ends H P (cond b x y)
 either_ends H P true x y p q = p
 either_ends H P false x y p q = q
 
-else_ends : {S T A B : Type 0} (H : T → Type 0) (P Q : Failure → Type 0) (turn : SearchTurn S (Result A Failure)) (within : S → T) (on : A → Step T (Result B Failure))
+else_ends : {S T A B : Type 0} (H : T → Type 0) (P Q : Failure → Type 0) (turn : SearchTurn S (Result A Failure)) (within : S → T) (on : A →
+    Step T (Result B Failure))
     (otherwise : Failure → Step T (Result B Failure)) → FailsBy Q turn → ((s : S) → H (within s)) → ((a : A) → Ends H P (on a)) →
     ((f : Failure) → Q f → Ends H P (otherwise f)) → Ends H P (or_else turn within on otherwise)
 else_ends H P Q (search_turn.Stays s action) within on otherwise q h k m = h s
@@ -71,19 +73,23 @@ closes_end P (b ∷ left) f k = k
 
 pub building_begins : (P : Failure → Type 0) (w : Ways) (o : Order) → BuildEnds P (build_begins w o)
 building_begins P w o =
-    else_ends (BuildKeeps P) P P (names_begins w o.topic) build.Naming (λ names. build_next names []) (λ f. step.Gives (Err f)) (names_begin P w o.topic) (λ n. tt)
+    else_ends (BuildKeeps P) P P (names_begins w o.topic) build.Naming (λ names. build_next names []) (λ f. step.Gives (Err f)) (names_begin P w o.topic)
+    (λ n. tt)
     (λ names. next_ends P names []) (λ f k. k)
 
-pub building_ends : (P : Failure → Type 0) (w : Ways) (o : Order) (b : Building) (y : Granting) → P (OfConnection (fault_told y)) → AllowsBreaks P w y → BuildKeeps P b →
+pub building_ends : (P : Failure → Type 0) (w : Ways) (o : Order) (b : Building) (y : Granting) → P (OfConnection (fault_told y)) → AllowsBreaks P w y →
+    BuildKeeps P b →
     BuildEnds P (build_told w o b y)
 building_ends P w o (build.Naming n) (granting.Told x) fault breaks k =
-    else_ends (BuildKeeps P) P (Turns w x) (names_told w o.topic n x) build.Naming (λ names. build_next names []) (λ f. step.Gives (Err f)) (naming_fails w o.topic n x) (λ n. tt)
+    else_ends (BuildKeeps P) P (Turns w x) (names_told w o.topic n x) build.Naming (λ names. build_next names []) (λ f. step.Gives (Err f))
+    (naming_fails w o.topic n x) (λ n. tt)
     (λ names. next_ends P names []) (λ f t. breaks x refl f (BySearch t))
 building_ends P w o (build.Naming n) y fault breaks k = tt
 building_ends P w o (build.Numbering p) (granting.Numbered number) fault breaks k = tt
 building_ends P w o (build.Numbering p) y fault breaks k = closes_end P p.made (OfConnection (fault_told y)) fault
 building_ends P w o (build.Making c m number left made) (granting.Told x) fault breaks k =
-    else_ends (BuildKeeps P) P (Breaks w x) (made_told w c m x) (λ m. build.Making c m number left made) (build_made c.topic number left made) (build_closes made) (made_fails w c m x)
+    else_ends (BuildKeeps P) P (Breaks w x) (made_told w c m x) (λ m. build.Making c m number left made) (build_made c.topic number left made)
+    (build_closes made) (made_fails w c m x)
     (λ m. tt) (λ s. next_ends P left _) (λ f t. closes_end P made f (breaks x refl f t))
 building_ends P w o (build.Making c m number left made) y fault breaks k = tt
 building_ends P w o (build.Closing left f) (granting.Told x) fault breaks k = closes_end P left f k
@@ -105,11 +111,13 @@ queued_ends : (P : Failure → Type 0) (e : Errand) (kept : Option ProducerMessa
 queued_ends P e None f k = k
 queued_ends P e (Some m) f k = drawn_ends P e m f k
 
-makes_end : (P Q : Failure → Type 0) (e : Errand) (m : ProducerMessageValues) (c : Command) (turn : SearchTurn Making (Result Served Failure)) → FailsBy Q turn →
+makes_end : (P Q : Failure → Type 0) (e : Errand) (m : ProducerMessageValues) (c : Command) (turn : SearchTurn Making (Result Served Failure)) →
+    FailsBy Q turn →
     ((f : Failure) → Q f → P f) → SendEnds P (send_makes e m c turn)
 makes_end P Q e m c turn q k = else_ends (SendKeeps P) P Q turn (send.Making m c) (send_remakes e m) (send_ends e) q (λ s. tt) (λ a. tt) k
 
-said_ends : (P : Failure → Type 0) (r : Content) (b : Bool) → P (in_producer (unexpected r r.body)) → SendEnds P (receipt (cond b (Ok r) (Err (unexpected r r.body))))
+said_ends : (P : Failure → Type 0) (r : Content) (b : Bool) → P (in_producer (unexpected r r.body)) →
+    SendEnds P (receipt (cond b (Ok r) (Err (unexpected r r.body))))
 said_ends P r true k = tt
 said_ends P r false k = k
 
@@ -117,11 +125,13 @@ said_ends P r false k = k
 abbrev pub AllowsReply : (Failure → Type 0) → Granting → Type 0
 AllowsReply P y = (r : Content) → y ≡ granting.Told (news.Replied r) → P (in_producer (unexpected r r.body))
 
-sent_ends : (P : Failure → Type 0) (x : News) → P (in_producer (fault_told (granting.Told x))) → AllowsReply P (granting.Told x) → SendEnds P (receipt (verdict 7 x))
+sent_ends : (P : Failure → Type 0) (x : News) → P (in_producer (fault_told (granting.Told x))) → AllowsReply P (granting.Told x) →
+    SendEnds P (receipt (verdict 7 x))
 sent_ends P (news.Replied r) fault reply = said_ends P r (is_body 7 r.body) (reply r refl)
 sent_ends P x fault reply = fault
 
-pub sending_ends : (P : Failure → Type 0) (w : Ways) (e : Errand) (s : Sending) (y : Granting) → P (in_producer (fault_told y)) → AllowsBreaks P w y → AllowsReply P y →
+pub sending_ends : (P : Failure → Type 0) (w : Ways) (e : Errand) (s : Sending) (y : Granting) → P (in_producer (fault_told y)) → AllowsBreaks P w y →
+    AllowsReply P y →
     SendKeeps P s → SendEnds P (send_told w e s y)
 sending_ends P w e (send.Waiting m) (granting.HasTurn version) fault breaks reply k = tt
 sending_ends P w e (send.Waiting m) y fault breaks reply k = fault
@@ -135,10 +145,12 @@ sending_ends P w e send.Sent y fault breaks reply k = tt
 sending_ends P w e (send.Recalling m) (granting.Recalled c) fault breaks reply k = tt
 sending_ends P w e (send.Recalling m) y fault breaks reply k = fault
 sending_ends P w e (send.Looking m c l) (granting.Told x) fault breaks reply k =
-    else_ends (SendKeeps P) P (Turns w x) (look_told w c.topic l x) (send.Looking m c) (λ place. send_makes e m c (made_gets 0 place)) (send_ends e) (look_fails w c.topic l x) (λ s. tt)
+    else_ends (SendKeeps P) P (Turns w x) (look_told w c.topic l x) (send.Looking m c) (λ place. send_makes e m c (made_gets 0 place)) (send_ends e)
+    (look_fails w c.topic l x) (λ s. tt)
     (λ place. tt) (λ f t. breaks x refl f (BySearch t))
 sending_ends P w e (send.Looking m c l) y fault breaks reply k = tt
-sending_ends P w e (send.Making m c j) (granting.Told x) fault breaks reply k = makes_end P (Breaks w x) e m c (made_told w c j x) (made_fails w c j x) (λ f t. breaks x refl f t)
+sending_ends P w e (send.Making m c j) (granting.Told x) fault breaks reply k =
+    makes_end P (Breaks w x) e m c (made_told w c j x) (made_fails w c j x) (λ f t. breaks x refl f t)
 sending_ends P w e (send.Making m c j) y fault breaks reply k = tt
 sending_ends P w e (send.Remaking m) granting.Done fault breaks reply k = tt
 sending_ends P w e (send.Remaking m) y fault breaks reply k = fault

@@ -87,7 +87,8 @@ call_raised asked advice from to _ k = absurd k
 
 called_raised : (v : View) (advice : List (Option ℕ)) (asked : Asked) → Each (IsRaised (Comes (Calls asked advice))) (called v advice asked)
 called_raised v advice asked =
-    called_each (IsRaised (Comes (Calls asked advice))) v advice asked (λ e. refl) (λ e. call_raised asked advice v.calls.drawn (v.calls.drawn + 1 + shares asked))
+    called_each (IsRaised (Comes (Calls asked advice))) v advice asked (λ e. refl)
+    (λ e. call_raised asked advice v.calls.drawn (v.calls.drawn + 1 + shares asked))
 
 -- PLANS
 
@@ -99,7 +100,8 @@ follows_raised : (a : Act) (who : Who) (turn : Turn Plan Verdict) → may OfDeed
 follows_raised a who (Stays plan action) d e = does_raised a who action d
 follows_raised a who (Gives verdict) d e = (e, tt)
 
-some_raised : (a : Act) (who : Who) (turn : Option (Turn Plan Verdict)) → may OfDeed a ≡ true → may OfVerdict a ≡ true → Each (IsRaised a) (follows_some who turn)
+some_raised : (a : Act) (who : Who) (turn : Option (Turn Plan Verdict)) → may OfDeed a ≡ true → may OfVerdict a ≡ true →
+    Each (IsRaised a) (follows_some who turn)
 some_raised a who None d e = tt
 some_raised a who (Some turn) d e = follows_raised a who turn d e
 

@@ -51,7 +51,8 @@ HeardSo w r (Tells a) = Unit {0}
 HeardSo w r Later = Unit {0}
 HeardSo w r (Denies f) = (d : DiscoveryFault) × (f ≡ OfDiscovery d) × DeniesSo w d r
 
-heard_when : {A : Type 0} (w : Ways) (r : Content) (b : Bool) (x y : Heard A) → (b ≡ true → HeardSo w r x) → (b ≡ false → HeardSo w r y) → HeardSo w r (cond b x y)
+heard_when : {A : Type 0} (w : Ways) (r : Content) (b : Bool) (x y : Heard A) → (b ≡ true → HeardSo w r x) → (b ≡ false → HeardSo w r y) →
+    HeardSo w r (cond b x y)
 heard_when w r true x y p q = p refl
 heard_when w r false x y p q = q refl
 
@@ -159,7 +160,8 @@ look_hears w s l r (Denies f) k = inr (r, k.0, refl, k.1, k.2)
 
 look_loses : (w : Ways) (s : Question) (o : News) → FailsBy (Turns w o) (look_failed s (search.fault_of o))
 look_loses w s o =
-    either_fails (Turns w o) (s.again && is_lost (search.fault_of o)) (look_gets (record s { again = false })) (search.fails (in_discovery (search.fault_of o))) tt (inl refl)
+    either_fails (Turns w o) (s.again && is_lost (search.fault_of o)) (look_gets (record s { again = false }))
+    (search.fails (in_discovery (search.fault_of o))) tt (inl refl)
 
 pub look_fails : (w : Ways) (t : List ℕ) (l : Looking) (o : News) → FailsBy (Turns w o) (look_told w t l o)
 look_fails w t (look.Getting s) (news.GotLink l) = tt
@@ -174,7 +176,8 @@ look_fails w t (look.Reaching place) o = inl refl
 left_fails : (P : Failure → Type 0) (w : Ways) (t : List ℕ) (n left : ℕ) (named : List Named) → FailsBy P (names_left w t n left named)
 left_fails P w t n left named =
     either_fails P (left == 0) (search_turn.Gives (Ok named))
-    (and_then (look_begins w) (λ l. name.Part l (record { name = partition_name t (n - left); count = n; left = left - 1; found = named })) (λ place. search_turn.Gives (Ok named)))
+    (and_then (look_begins w) (λ l. name.Part l (record { name = partition_name t (n - left); count = n; left = left - 1; found = named }))
+    (λ place. search_turn.Gives (Ok named)))
     tt tt
 
 pub names_fail : (P : Failure → Type 0) (w : Ways) (t : List ℕ) (n : ℕ) → FailsBy P (names_of w t n)
@@ -183,7 +186,8 @@ names_fail P w t n =
     (left_fails P w t n n [])
 
 pub naming_fails : (w : Ways) (t : List ℕ) (n : Naming) (o : News) → FailsBy (Turns w o) (names_told w t n o)
-naming_fails w t (name.Counting c) o = then_fails (Turns w o) (count_told w t c o) name.Counting (names_of w t) (count_fails w t c o) (names_fail (Turns w o) w t)
+naming_fails w t (name.Counting c) o = then_fails (Turns w o) (count_told w t c o) name.Counting (names_of w t) (count_fails w t c o)
+    (names_fail (Turns w o) w t)
 naming_fails w t (name.Whole l) o =
     then_fails (Turns w o) (look_told w t l o) name.Whole (λ place. search_turn.Gives (Ok (name_found [] t place))) (look_fails w t l o) (λ place. tt)
 naming_fails w t (name.Part l p) o =
@@ -212,7 +216,8 @@ Keeps P (search_turn.Stays s action) = is_search s ≡ true
 Keeps P (search_turn.Gives (Ok a)) = Unit {0}
 Keeps P (search_turn.Gives (Err f)) = P f
 
-then_keeps : {S A : Type 0} (P : Failure → Type 0) (turn : SearchTurn S (Result A Failure)) (within : S → Search) (on : A → SearchTurn Search (Result Answer Failure)) →
+then_keeps : {S A : Type 0} (P : Failure → Type 0) (turn : SearchTurn S (Result A Failure)) (within : S → Search) (on : A →
+    SearchTurn Search (Result Answer Failure)) →
     ((s : S) → is_search (within s) ≡ true) → FailsBy P turn → ((a : A) → Keeps P (on a)) → Keeps P (and_then turn within on)
 then_keeps P (search_turn.Stays s action) within on is p q = is s
 then_keeps P (search_turn.Gives (Ok a)) within on is p q = q a
@@ -232,9 +237,11 @@ pub keeps_told : (w : Ways) (s : Search) (o : News) → is_search s ≡ true →
 keeps_told w (plan.Counting t c) o is =
     then_keeps (Turns w o) (count_told w t c o) (plan.Counting t) (λ n. search_turn.Gives (Ok (answer.Count n))) (λ s. refl) (count_fails w t c o) (λ n. tt)
 keeps_told w (plan.Looking t l) o is =
-    then_keeps (Turns w o) (look_told w t l o) (plan.Looking t) (λ place. search_turn.Gives (Ok (answer.Address place))) (λ s. refl) (look_fails w t l o) (λ place. tt)
+    then_keeps (Turns w o) (look_told w t l o) (plan.Looking t) (λ place. search_turn.Gives (Ok (answer.Address place))) (λ s. refl) (look_fails w t l o)
+    (λ place. tt)
 keeps_told w (plan.Naming t n) o is =
-    then_keeps (Turns w o) (names_told w t n o) (plan.Naming t) (λ names. search_turn.Gives (Ok (answer.Addresses names))) (λ s. refl) (naming_fails w t n o) (λ names. tt)
+    then_keeps (Turns w o) (names_told w t n o) (plan.Naming t) (λ names. search_turn.Gives (Ok (answer.Addresses names))) (λ s. refl) (naming_fails w t n o)
+    (λ names. tt)
 keeps_told w (plan.Retrying t r) o is = absurd cc
 keeps_told w (plan.Making c m) o is = absurd cc
 
@@ -251,7 +258,8 @@ more_fails P Q (search_turn.Stays s action) on p = tt
 more_fails P Q (search_turn.Gives (Ok a)) on p = tt
 more_fails P Q (search_turn.Gives (Err f)) on p = on f p
 
-nested_fails : {S T A : Type 0} (P : Failure → Type 0) (turn : SearchTurn S (Result A Failure)) (within : S → T) → FailsBy P turn → FailsBy P (nested turn within search_turn.Gives)
+nested_fails : {S T A : Type 0} (P : Failure → Type 0) (turn : SearchTurn S (Result A Failure)) (within : S → T) → FailsBy P turn →
+    FailsBy P (nested turn within search_turn.Gives)
 nested_fails P (search_turn.Stays s action) within p = tt
 nested_fails P (search_turn.Gives (Ok a)) within p = tt
 nested_fails P (search_turn.Gives (Err f)) within p = p
@@ -260,13 +268,16 @@ retry_fails : (w : Ways) (t : List ℕ) (r : Retrying) (o : News) → FailsBy (B
 retry_fails w t retry.Resting news.Woken = tt
 retry_fails w t retry.Resting o = ByFault refl
 retry_fails w t (retry.Looking l) o =
-    nested_fails (Breaks w o) (look_told w t l o) retry.Looking (more_fails (Turns w o) (Breaks w o) (look_told w t l o) (λ f k. BySearch k) (look_fails w t l o))
+    nested_fails (Breaks w o) (look_told w t l o) retry.Looking
+    (more_fails (Turns w o) (Breaks w o) (look_told w t l o) (λ f k. BySearch k) (look_fails w t l o))
 
-answered_fails : (P : Failure → Type 0) (w : Ways) (n l : ℕ) (x : Result Content Fault) → ((f : Fault) → x ≡ Err f → P (OfConnection f)) → FailsBy P (made_answered w n l x)
+answered_fails : (P : Failure → Type 0) (w : Ways) (n l : ℕ) (x : Result Content Fault) → ((f : Fault) → x ≡ Err f → P (OfConnection f)) →
+    FailsBy P (made_answered w n l x)
 answered_fails P w n l (Ok r) h = tt
 answered_fails P w n l (Err f) h =
     then_fails P (retry_begins w n f) (λ r. make.Retrying r n) (made_gets (one_more n))
-    (either_fails P (is_retryable f && allow_retry w.max_retries n) (search_turn.Stays retry.Resting (Wait w.retry_delay)) (search.fails (OfConnection f)) tt (h f refl))
+    (either_fails P (is_retryable f && allow_retry w.max_retries n) (search_turn.Stays retry.Resting (Wait w.retry_delay)) (search.fails (OfConnection f)) tt
+    (h f refl))
     (λ place. tt)
 
 said_fails : (w : Ways) (r : Content) (f : Fault) (b : Bool) → cond b (Ok r) (Err (unexpected r r.body)) ≡ Err f → Breaks w (news.Replied r) (OfConnection f)

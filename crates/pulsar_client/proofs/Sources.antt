@@ -45,7 +45,8 @@ in_some f y None i = absurd i
 in_some f y (Some x) i = elim (in_append y (f x) [] i) [ inl j ↦ (x, refl, j) | inr j ↦ absurd j ]
 
 -- what all live links give, one of them gives
-pub in_links : {A : Type 0} (f : ℕ → Seat → List A) (y : A) (ls : Links) → In y (over_links f ls) → (l : ℕ) × (seat : Seat) × (ls.live l ≡ Some seat) × In y (f l seat)
+pub in_links : {A : Type 0} (f : ℕ → Seat → List A) (y : A) (ls : Links) → In y (over_links f ls) →
+    (l : ℕ) × (seat : Seat) × (ls.live l ≡ Some seat) × In y (f l seat)
 in_links f y ls i =
     let k = in_flat_map (on_link f ls.live) y (numbers_from 0 ls.started) i in
     let s = in_some (f k.0) y (ls.live k.0) k.1 in
@@ -140,14 +141,16 @@ parts_fits o v e = each_either (λ p. Fits (gives (Begins e)) (Comes p)) (is_liv
 pub arises_fits : (o : Options) (a : Act) (e : Entry) (older : List Entry) → Arises rules o a e older → Fits (gives e) a
 arises_fits o a (Begins e) older i =
     let p = in_map Comes a (parts o (view o older) e) i in
-    subst (Fits (gives (Begins e))) (sym p.2) (in_each (λ q. Fits (gives (Begins e)) (Comes q)) p.0 (parts o (view o older) e) p.1 (parts_fits o (view o older) e))
+    subst (Fits (gives (Begins e))) (sym p.2)
+    (in_each (λ q. Fits (gives (Begins e)) (Comes q)) p.0 (parts o (view o older) e) p.1 (parts_fits o (view o older) e))
 arises_fits o a (Then b) older (inl i) = in_each (Fits (gives (Then b))) a (at_once (view o older) b) i (at_once_fits (view o older) b)
 arises_fits o a (Then b) older (inr (inl i)) = inl (in_each IsAny a (map Told (joins (view o older) b)) i (told_any (joins (view o older) b)))
 arises_fits o a (Then b) older (inr (inr (inl i))) = inl (one_told a (rules.causes (view o older) b) i)
 arises_fits o a (Then b) older (inr (inr (inr i))) = inl (in_each IsAny a (map Comes (further (view o older) b)) i (further_any (view o older) b))
 
 -- each entry of a step that is so is such
-pub step_more : (P Q : Entry → List Entry → Type 0) → ((e : Entry) (older : List Entry) → P e older → Q e older) → (log : List Entry) → InThisStep P log → InThisStep Q log
+pub step_more : (P Q : Entry → List Entry → Type 0) → ((e : Entry) (older : List Entry) → P e older → Q e older) → (log : List Entry) → InThisStep P log →
+    InThisStep Q log
 step_more P Q f [] i = absurd i
 step_more P Q f (Begins e ∷ log) i = f (Begins e) log i
 step_more P Q f (Then a ∷ log) (inl i) = inl (f (Then a) log i)

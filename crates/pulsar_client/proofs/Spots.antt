@@ -55,7 +55,8 @@ SoundAt Reports w now = IsFirst w now
 SoundAt Leaves w now = Unit {0}
 SoundAt Nowhere w now = ⊥
 
-head_is : (w : Who) (now : List Act) (here : List Notice) (behind : List (List Notice)) (parts : List Part) (a : Act) → first_of rules now here behind parts ≡ Some a →
+head_is : (w : Who) (now : List Act) (here : List Notice) (behind : List (List Notice)) (parts : List Part) (a : Act) →
+    first_of rules now here behind parts ≡ Some a →
     IsFirst w now → IsNext w a
 head_is w [] here behind parts a h k = absurd k
 head_is w (b ∷ now) here behind parts a h k = subst (IsNext w) (let e : b ≡ a = cc in e) k
@@ -73,12 +74,14 @@ turn_sound : (w who : Who) (turn : Turn Plan Verdict) (left : List Act) → who 
 turn_sound w who (Gives verdict) left is h = tt
 turn_sound w who (Stays plan action) left is h = at_spot w who (spot plan) action left is h
 
-start_sound : (w who : Who) (p : Procedure) (b : Bool) (left : List Act) → is_stop p ≡ b → who ≡ w → SoundAt (spot_of (stays (begins p))) w (follows who (begins p) ++ left)
+start_sound : (w who : Who) (p : Procedure) (b : Bool) (left : List Act) → is_stop p ≡ b → who ≡ w →
+    SoundAt (spot_of (stays (begins p))) w (follows who (begins p) ++ left)
 start_sound w who p false left h is = turn_sound w who (begins p) left is (begins_fits p h)
 start_sound w who procedure.Stop true left h is = tt
 start_sound w who p true left h is = absurd cc
 
-some_sound : (who : Who) (row : Option Plan) (u : Outcome) (left : List Act) → SoundAt (spot_of (stays_some (told_some row u))) who (follows_some who (told_some row u) ++ left)
+some_sound : (who : Who) (row : Option Plan) (u : Outcome) (left : List Act) →
+    SoundAt (spot_of (stays_some (told_some row u))) who (follows_some who (told_some row u) ++ left)
 some_sound who None u left = tt
 some_sound who (Some plan) u left = turn_sound who who (told plan u) left refl (told_fits plan u)
 
@@ -161,7 +164,8 @@ is_calm Reports = false
 is_calm Leaves = true
 is_calm Nowhere = false
 
-pub calm_stop : (o : Options) (w who : Who) (log : List Entry) → IsRun o log → first (agenda o log) ≡ Some (Does who StopAll) → is_calm (spot_of ((view o log).stand w)) ≡ true
+pub calm_stop : (o : Options) (w who : Who) (log : List Entry) → IsRun o log → first (agenda o log) ≡ Some (Does who StopAll) →
+    is_calm (spot_of ((view o log).stand w)) ≡ true
 calm_stop o w who log run f = by (spot_of ((view o log).stand w)) (sound o w log run)
   where
     g : Agenda

@@ -261,7 +261,8 @@ leaves_so (Sending w e (Some share) send.Sent) h = absurd cc
 leaves_so (Sending w e (Some share) s) h = absurd cc
 leaves_so plan h = absurd cc
 
-left_some : (stand : Who → Option Plan) (who : Who) (row : Option Plan) (u : Outcome) → is_leaving (spot_of row) ≡ true → AreLast stand (follows_some who (told_some row u))
+left_some : (stand : Who → Option Plan) (who : Who) (row : Option Plan) (u : Outcome) → is_leaving (spot_of row) ≡ true →
+    AreLast stand (follows_some who (told_some row u))
 left_some stand who None u h = absurd cc
 left_some stand who (Some plan) u h =
     let k = leaves_so plan h in subst (λ x. AreLast stand (follows who (told x u))) (sym k.1) (inl refl, tt)
@@ -316,7 +317,8 @@ last_askers : (says : ℕ → Outcome) (askers : ℕ → Option Who) (places : L
 last_askers says askers [] is = tt
 last_askers says askers (p ∷ ps) is = one (askers p) refl (last_askers says askers ps is)
   where
-    one : (r : Option Who) → askers p ≡ r → Each IsLastNotice (filter_map (tells_asker says askers) ps) → Each IsLastNotice (filter_map (tells_asker says askers) (p ∷ ps))
+    one : (r : Option Who) → askers p ≡ r → Each IsLastNotice (filter_map (tells_asker says askers) ps) →
+        Each IsLastNotice (filter_map (tells_asker says askers) (p ∷ ps))
     one None e more = rw e more
     one (Some w) e more = rw e (is p, more)
 
@@ -343,7 +345,8 @@ last_over : (pause : Option Pause) (b : Base) → Each IsLastNotice (failed_over
 last_over None b = last_failed b.series b.waiting
 last_over (Some p) b = tt
 
-last_waiters : (v : View) (l : ℕ) (row : Option Seat) → Each IsLastNotice (waiters_of (failed_on Stops) v.addresses (option_map (turned_by v.chosen v.addresses v.now l (Ends Stops)) row))
+last_waiters : (v : View) (l : ℕ) (row : Option Seat) →
+    Each IsLastNotice (waiters_of (failed_on Stops) v.addresses (option_map (turned_by v.chosen v.addresses v.now l (Ends Stops)) row))
 last_waiters v l None = tt
 last_waiters v l (Some seat) =
     let b : Base = v.addresses.base (address_key seat.address) in last_over (pause_of v.chosen Stops seat.address b.series) b
@@ -380,7 +383,8 @@ no_pause_on v l k (Some seat) = ap (λ pause. pause_put pause l k None) (no_paus
 no_alarm_on : (v : View) (l : ℕ) (row : Option Seat) → alarms_on v.chosen v.now (option_map (turned_by v.chosen v.addresses v.now l (Ends Stops)) row) [] ≡ []
 no_alarm_on v l None = refl
 no_alarm_on v l (Some seat) =
-    ap (λ pause. alarms_over v.chosen v.now l pause (clear (KeepAlive l) [])) (no_pause v.chosen seat.address (v.addresses.base (address_key seat.address)).series)
+    ap (λ pause. alarms_over v.chosen v.now l pause (clear (KeepAlive l) []))
+    (no_pause v.chosen seat.address (v.addresses.base (address_key seat.address)).series)
 
 took_stops : (now : ℕ) (row : Option Seat) → took_some (Ends Stops) now row ≡ None
 took_stops now None = refl
@@ -452,7 +456,8 @@ module _ (o : Options) (log : List Entry) (k : Over o log) where
   still_stopped (Does who StopAll) = refl
   still_stopped _ = k.is_stopped
 
-  left_of : (a : Act) (l : ℕ) → first g ≡ Some a → In (Comes (ToLink l (Ends Stops))) g.now → (Comes (ToLink l (Ends Stops)) ≡ a) ⊎ In (Comes (ToLink l (Ends Stops))) (rest g).now
+  left_of : (a : Act) (l : ℕ) → first g ≡ Some a → In (Comes (ToLink l (Ends Stops))) g.now →
+      (Comes (ToLink l (Ends Stops)) ≡ a) ⊎ In (Comes (ToLink l (Ends Stops))) (rest g).now
   left_of a l fits i = elim (first_case g.now g.here g.behind g.parts a fits) [
     | inl e ↦ subst (In (Comes (ToLink l (Ends Stops)))) e i
     | inr e ↦ absurd (subst (In (Comes (ToLink l (Ends Stops)))) e.0 i)
@@ -488,7 +493,8 @@ module _ (o : Options) (log : List Entry) (k : Over o log) where
   own_stand : (n : Notice) → told_stand n n.who ≡ stays_some (told_some (v.stand n.who) n.outcome)
   own_stand n = ap (λ b. cond b (stays_some (told_some (v.stand n.who) n.outcome)) (v.stand n.who)) (same_self n.who)
 
-  told_calm : (n : Notice) (w : Who) → (w ≡ n.who → is_calm (spot_of (stays_some (told_some (v.stand w) n.outcome))) ≡ true) → is_calm (spot_of (told_stand n w)) ≡ true
+  told_calm : (n : Notice) (w : Who) → (w ≡ n.who → is_calm (spot_of (stays_some (told_some (v.stand w) n.outcome))) ≡ true) →
+      is_calm (spot_of (told_stand n w)) ≡ true
   told_calm n w c = by (is_same w n.who) refl
     where
       by : (b : Bool) → is_same w n.who ≡ b → is_calm (spot_of (cond b (stays_some (told_some (v.stand w) n.outcome)) (v.stand w))) ≡ true
@@ -559,7 +565,8 @@ module _ (o : Options) (log : List Entry) (k : Over o log) where
 
   part_on : (p : Part) → first g ≡ Some (Comes p) → g.now ≡ [] → Over o (Then (Comes p) ∷ log)
   part_on (Calls asked advice) fits none =
-      goes_over (Comes (Calls asked advice)) fits refl (each_last v.stand (called v advice asked) (last_called v advice asked k.is_stopped)) tt tt (λ l. refl) k.alarms k.calm
+      goes_over (Comes (Calls asked advice)) fits refl
+      (each_last v.stand (called v advice asked) (last_called v advice asked k.is_stopped)) tt tt (λ l. refl) k.alarms k.calm
       (λ l e. absurd cc)
   part_on (ToLink l x) fits none =
       let dead = all_dead none l in
@@ -599,7 +606,8 @@ in_over ls l seat h lt =
     let below_all : nat_lt l (0 + ls.started) ≡ true = grind (arith, nat_tests) in
     in_flat (on_link stop_act ls.live) l (Comes (ToLink l (Ends Stops))) (numbers_from 0 ls.started) (in_numbers ls.started 0 l (omega arith) below_all) own
 
-over_starts : (o : Options) (log : List Entry) (who : Who) → IsRun o log → first (agenda o log) ≡ Some (Does who StopAll) → Over o (Then (Does who StopAll) ∷ log)
+over_starts : (o : Options) (log : List Entry) (who : Who) → IsRun o log → first (agenda o log) ≡ Some (Does who StopAll) →
+    Over o (Then (Does who StopAll) ∷ log)
 over_starts o log who run fits =
     let v = view o log in
     let clear = stop_clear o log who run fits in

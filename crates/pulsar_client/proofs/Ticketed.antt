@@ -111,7 +111,8 @@ follows_due : (n : ℕ) (who : Who) (turn : Turn Plan Verdict) → Has n who →
 follows_due n who (Stays plan action) k = does_due n who action
 follows_due n who (Gives verdict) k = (makes_so n who verdict.makes k, tt)
 
-some_due : (n : ℕ) (who : Who) (row : Option Plan) (o : Outcome) → ((plan : Plan) → row ≡ Some plan → Has n who) → Each (IsDue n) (follows_some who (told_some row o))
+some_due : (n : ℕ) (who : Who) (row : Option Plan) (o : Outcome) → ((plan : Plan) → row ≡ Some plan → Has n who) →
+    Each (IsDue n) (follows_some who (told_some row o))
 some_due n who None o k = tt
 some_due n who (Some plan) o k = follows_due n who (told plan o) (k plan refl)
 
@@ -127,12 +128,14 @@ called_due : (v : View) (advice : List (Option ℕ)) (asked : Asked) →
     Each (IsDue (drawn_after (Comes (Calls asked advice)) v.calls.drawn)) (called v advice asked)
 called_due v advice asked =
     called_each (IsDue (drawn_after (Comes (Calls asked advice)) v.calls.drawn)) v advice asked (λ e. tt)
-    (λ e. subst (λ b. (a : Act) → StartsIn v.calls.drawn (v.calls.drawn + 1 + shares asked) a → IsDue (cond b v.calls.drawn (v.calls.drawn + 1 + shares asked)) a) (sym e)
+    (λ e. subst (λ b. (a : Act) → StartsIn v.calls.drawn (v.calls.drawn + 1 + shares asked) a →
+    IsDue (cond b v.calls.drawn (v.calls.drawn + 1 + shares asked)) a) (sym e)
     (start_due v.calls.drawn (shares asked) e))
 
 comes_due : (v : View) (p : Part) → Each (IsDue (drawn_after (Comes p) v.calls.drawn)) (at_once v (Comes p))
 comes_due v (Calls asked advice) = called_due v advice asked
-comes_due v p = each_map IsQuiet (IsDue (drawn_after (Comes p) v.calls.drawn)) (at_once v (Comes p)) (quiet_due (drawn_after (Comes p) v.calls.drawn)) (comes_quiet v p refl)
+comes_due v p = each_map IsQuiet (IsDue (drawn_after (Comes p) v.calls.drawn)) (at_once v (Comes p)) (quiet_due (drawn_after (Comes p) v.calls.drawn))
+    (comes_quiet v p refl)
 
 -- ALONG A LOG
 
@@ -177,7 +180,8 @@ module _ (o : Options) (log : List Entry) (k : IsTicketed o log) where
   arises (Does who action) is_due = each_map IsQuiet (IsDue drawn) (performs (view o log) who action) (quiet_due drawn) (performs_quiet (view o log) who action)
   arises _ is_due = tt
 
-  from_made : (who : Who) (makes : Makes) → MakesSo drawn who makes → (t : ℕ) (s : Subscription) → made who makes t ((view o log).consumers t) ≡ Some s → Has drawn (Call t)
+  from_made : (who : Who) (makes : Makes) → MakesSo drawn who makes → (t : ℕ) (s : Subscription) → made who makes t ((view o log).consumers t) ≡ Some s →
+      Has drawn (Call t)
   from_made who (Consumer link number topic) is_due t s h = elim (cases_Bool (is_same (Call t) who)) [
     | inl e ↦ same_has drawn (Call t) who e is_due
     | inr e ↦ k.consumers t s (rw e at h)
@@ -191,7 +195,8 @@ module _ (o : Options) (log : List Entry) (k : IsTicketed o log) where
   from_ended l None t s h = k.consumers t s h
   from_ended l (Some cause) t s h = from_map _ t s h
 
-  next_consumers : (a : Act) → IsDue drawn a → (t : ℕ) (s : Subscription) → consumer_after (view o log).now (view o log).links.live a t ((view o log).consumers t) ≡ Some s →
+  next_consumers : (a : Act) → IsDue drawn a → (t : ℕ) (s : Subscription) →
+      consumer_after (view o log).now (view o log).links.live a t ((view o log).consumers t) ≡ Some s →
       Has (drawn_after a drawn) (Call t)
   next_consumers (Comes (ToLink l Reads)) is_due t s h = from_map _ t s h
   next_consumers (Comes (ToLink l (Ends end))) is_due t s h = from_ended l (closing end (view o log).now ((view o log).links.live l)) t s h
@@ -257,14 +262,16 @@ older_run o [] older run = run
 older_run o (Begins e ∷ later) older run = older_run o later older run.0
 older_run o (Then a ∷ later) older run = older_run o later older run.0
 
-pub older_ticket : (o : Options) (later older : List Entry) (t : ℕ) (s : Subscription) → IsRun o (later ++ older) → (view o older).consumers t ≡ Some s → is_spent t ≡ false
+pub older_ticket : (o : Options) (later older : List Entry) (t : ℕ) (s : Subscription) → IsRun o (later ++ older) → (view o older).consumers t ≡ Some s →
+    is_spent t ≡ false
 older_ticket o later older t s run h = consumer_ticket o older t s (older_run o later older run) h
 
 -- who starts, and who has started
 start_began : (o : Options) (log : List Entry) (who : Who) (p : Procedure) → IsRun o (Then (Starts who p) ∷ log) → Began who
 start_began o log who p run =
     let n = (view o log).calls.drawn in
-    (each_first (IsDue n) (agenda o log).now (agenda o log).here (agenda o log).behind (agenda o log).parts (Starts who p) (served_due n) (is_ticketed o log run.0).due run.1).0
+    (each_first (IsDue n) (agenda o log).now (agenda o log).here (agenda o log).behind (agenda o log).parts (Starts who p) (served_due n)
+    (is_ticketed o log run.0).due run.1).0
 
 pub has_begun : (o : Options) (log : List Entry) (w : Who) (p : Procedure) → IsRun o log → started w log ≡ Some p → Began w
 has_begun o [] w p run h = absurd (none_some h)

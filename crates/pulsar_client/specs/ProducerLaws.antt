@@ -105,13 +105,14 @@ NumbersAreFree = (o : Options) (log : List Entry) (n : ℕ) → o.chosen.first_n
     × ((who : Who) (m : ℕ) → In (Then (Told (notice who (outcome.Granted (news.Numbered m))))) log → m < n)
 
 -- Where a send of a call asks for its frame, it is the call's own message by the name that its topic producer has then, on its link and in its
--- turn; it has the version of the schema that this had as the turn came, where the message has none.
+-- turn. Its number is the one that was drawn last. Where the message has no version of the schema, it has the one that it was told with its turn.
 abbrev pub FramesAreOfTheirSends : Type 0
 FramesAreOfTheirSends = (o : Options) (log : List Entry) (t l n s : ℕ) (name : List ℕ) (m : ProducerMessageValues) (block : Bool)
     (w : Ways) (e : Errand) (share : Option Share) (given : ProducerMessageValues) →
     IsRun o (Then (Does (Call t) (Ask l (words.Send n name s m block))) ∷ log) → started (Call t) log ≡ Some (procedure.Send w e share given) →
     (row : Topic) × (version : Option (List ℕ)) × ((view o log).producers.topics n ≡ Some row) × (n ≡ e.producer) × (block ≡ e.block)
     × (row.seen.holder ≡ Some t) × (row.seen.link ≡ l) × (row.seen.given.name ≡ name) × (row.seen.next ≡ s + 1) × (m ≡ with_version version given)
+    × In (Then (Told (notice (Call t) (outcome.Granted (news.HasTurn version))))) log
 
 -- how often the frame of a send is queued: at once, or as it moves up from the line
 abbrev pub queues_at : Options → (ticket : ℕ) → List Entry → Act → ℕ

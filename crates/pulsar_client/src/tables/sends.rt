@@ -6,6 +6,7 @@ ghost use Rattle.pulsar_messages.specs.Content.{message_content};
 ghost use Rattle.pulsar_producer.specs.Wanted.{producer_wanted};
 ghost use Rattle.pulsar_client.specs.Kept.{producers_of};
 ghost use Rattle.pulsar_client.specs.Content.{SendAll, lacks_tickets};
+ghost use Rattle.pulsar_client.specs.declared.act.Action.{Action};
 ghost use Rattle.pulsar_client.specs.Producers.{all_routed, routed, sent_on, why_not};
 ghost use Rattle.pulsar_client.specs.Rules as rules;
 ghost use Rattle.pulsar_client.specs.Run.{goes_on};
@@ -30,18 +31,24 @@ impl Tables {
     pub(super) fn produces(&self, builder: ProducerBuilder) -> Result<Procedure, NoMemory>
         ensures { IfOk result (λ p. p ≡ rules.produces (chosen_of self.now.settings) (producer_wanted builder)) }
     {
-        let Some(topic) = builder.topic else {
+        let ProducerBuilder {
+            topic,
+            name,
+            options,
+            ..
+        } = builder;
+        let Some(topic) = topic else {
             return Ok(Procedure::Refuse(Refusal::NoTopic));
         };
         let Some(ways) = self.settings.ways(self.alloc)? else {
             return Ok(Procedure::Refuse(Refusal::NoAddress));
         };
-        let options = Settings::new(self.alloc, builder.options)?;
+        let options = Settings::new(self.alloc, options)?;
         Ok(Procedure::Produce {
             ways,
             order: Order {
                 topic: Text::new(topic),
-                name: text(builder.name),
+                name: text(name),
                 options,
             },
         })

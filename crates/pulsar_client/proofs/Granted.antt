@@ -80,39 +80,47 @@ grants_more _ = false
 abbrev IsPlain : Act → Type 0
 IsPlain a = grants_more a ≡ false
 
--- CAUSES GRANT NOTHING
+-- CAUSES GRANT NOTHING, and they tell of no part of a call
 
-askers_free : (says : ℕ → Outcome) (askers : ℕ → Option Who) → ((place : ℕ) → is_granted (says place) ≡ false) → (places : List ℕ) →
-    Each IsFree (filter_map (tells_asker says askers) places)
+abbrev pub is_inner : Outcome → Bool
+is_inner (outcome.Granted n) = true
+is_inner (outcome.Parted ticket f) = true
+is_inner _ = false
+
+abbrev pub IsCaused : Notice → Type 0
+IsCaused n = is_inner n.outcome ≡ false
+
+askers_free : (says : ℕ → Outcome) (askers : ℕ → Option Who) → ((place : ℕ) → is_inner (says place) ≡ false) → (places : List ℕ) →
+    Each IsCaused (filter_map (tells_asker says askers) places)
 askers_free says askers free [] = tt
 askers_free says askers free (p ∷ ps) =
-    let more : Each IsFree (filter_map (tells_asker says askers) ps) = askers_free says askers free ps in
-    elim (askers p) as (λ r. Each IsFree (cons_option (option_map (λ who. notice who (says p)) r) (filter_map (tells_asker says askers) ps))) [
+    let more : Each IsCaused (filter_map (tells_asker says askers) ps) = askers_free says askers free ps in
+    elim (askers p) as (λ r. Each IsCaused (cons_option (option_map (λ who. notice who (says p)) r) (filter_map (tells_asker says askers) ps))) [
       | None ↦ more
       | Some w ↦ (free p, more)
     ]
 
-each_of : {A : Type 0} (f : A → Notice) → ((x : A) → IsFree (f x)) → (xs : List A) → Each IsFree (map f xs)
+each_of : {A : Type 0} (f : A → Notice) → ((x : A) → IsCaused (f x)) → (xs : List A) → Each IsCaused (map f xs)
 each_of f free [] = tt
 each_of f free (x ∷ xs) = (free x, each_of f free xs)
 
-lost_free : (end : End) (b : Bool) → is_granted (lost_with end b) ≡ false
+lost_free : (end : End) (b : Bool) → is_inner (lost_with end b) ≡ false
 lost_free (Unopened kind) b = refl
 lost_free Lost b = refl
-lost_free (Overdue below) b = elim b as (λ c. is_granted (lost_so c) ≡ false) [ true ↦ refl | false ↦ refl ]
+lost_free (Overdue below) b = elim b as (λ c. is_inner (lost_so c) ≡ false) [ true ↦ refl | false ↦ refl ]
 lost_free (Broken cause) b = refl
 lost_free Idles b = refl
 lost_free Stops b = refl
 
-dropped_free : (end : End) → is_granted (dropped end) ≡ false
+dropped_free : (end : End) → is_inner (dropped end) ≡ false
 dropped_free Stops = refl
 dropped_free _ = refl
 
-either_free : (b : Bool) (u y : Outcome) → is_granted u ≡ false → is_granted y ≡ false → is_granted (cond b u y) ≡ false
+either_free : (b : Bool) (u y : Outcome) → is_inner u ≡ false → is_inner y ≡ false → is_inner (cond b u y) ≡ false
 either_free true u y p q = p
 either_free false u y p q = q
 
-fails_free : (end : End) (b : Bool) → is_granted (fails_so end b) ≡ false
+fails_free : (end : End) (b : Bool) → is_inner (fails_so end b) ≡ false
 fails_free (Unopened kind) b = either_free b _ _ refl refl
 fails_free Lost b = either_free b _ _ refl refl
 fails_free (Overdue below) b = either_free b _ _ refl refl
@@ -120,87 +128,96 @@ fails_free (Broken cause) b = either_free b _ _ refl refl
 fails_free Idles b = either_free b _ _ refl refl
 fails_free Stops b = refl
 
-answered_free : (c : Came) (askers : ℕ → Option Who) → Each IsFree (answered_by c askers)
+answered_free : (c : Came) (askers : ℕ → Option Who) → Each IsCaused (answered_by c askers)
 answered_free (session.Settles places m) askers = askers_free (λ place. outcome.Replied (read m)) askers (λ place. refl) places
 answered_free _ askers = tt
 
-on_free : (row : Option Seat) → Each IsFree (answered_on row)
+on_free : (row : Option Seat) → Each IsCaused (answered_on row)
 on_free None = tt
 on_free (Some seat) = answered_free (came seat.seen) seat.askers
 
-served_free : (l : ℕ) (c : Change) (ws : List Who) → Each IsFree (served_by l c ws)
+served_free : (l : ℕ) (c : Change) (ws : List Who) → Each IsCaused (served_by l c ws)
 served_free l Becomes ws = each_of (λ who. notice who (outcome.GotLink l)) (λ w. refl) ws
 served_free l _ ws = tt
 
-series_free : (end : End) (s : Series) (ws : List Who) → Each IsFree (failed_at end s ws)
+series_free : (end : End) (s : Series) (ws : List Who) → Each IsCaused (failed_at end s ws)
 series_free end (Runs starter retries l) ws = each_of (failed end starter) (λ w. fails_free end _) ws
 series_free end _ ws = tt
 
-over_free : (end : End) (pause : Option Pause) (b : Base) → Each IsFree (failed_over end pause b)
+over_free : (end : End) (pause : Option Pause) (b : Base) → Each IsCaused (failed_over end pause b)
 over_free end None b = series_free end b.series b.waiting
 over_free end (Some p) b = tt
 
-failed_free : (end : End) (c : Change) (pause : Option Pause) (b : Base) → Each IsFree (failed_by end c pause b)
+failed_free : (end : End) (c : Change) (pause : Option Pause) (b : Base) → Each IsCaused (failed_by end c pause b)
 failed_free end IsOver pause b = over_free end pause b
 failed_free end _ pause b = tt
 
-ended_free : (end : End) (now : ℕ) (cause : Option Fault) (seat : Seat) → Each IsFree (ended_by end now cause seat)
+ended_free : (end : End) (now : ℕ) (cause : Option Fault) (seat : Seat) → Each IsCaused (ended_by end now cause seat)
 ended_free end now None seat = tt
 ended_free end now (Some cause) seat =
-    each_append IsFree _ _ (askers_free (lost end now seat.seen) seat.askers (λ place. lost_free end _) (ends seat.seen))
+    each_append IsCaused _ _ (askers_free (lost end now seat.seen) seat.askers (λ place. lost_free end _) (ends seat.seen))
     (askers_free (λ place. dropped end) seat.askers (λ place. dropped_free end) _)
 
-row_free : (end : End) (now : ℕ) (row : Option Seat) → Each IsFree (ended_on end now row)
+row_free : (end : End) (now : ℕ) (row : Option Seat) → Each IsCaused (ended_on end now row)
 row_free end now None = tt
 row_free end now (Some seat) = ended_free end now _ seat
 
-moved_free : (most now : ℕ) (row : Option Seat) → Each IsFree (moved_on most now row)
+moved_free : (most now : ℕ) (row : Option Seat) → Each IsCaused (moved_on most now row)
 moved_free most now None = tt
 moved_free most now (Some seat) = askers_free (λ place. outcome.Queued) seat.askers (λ place. refl) _
 
-waiters_free : (f : Turned → Base → List Notice) (known : Addresses) (g : Seat → Turned) (row : Option Seat) → ((t : Turned) (b : Base) → Each IsFree (f t b)) →
-    Each IsFree (waiters_of f known (option_map g row))
+waiters_free : (f : Turned → Base → List Notice) (known : Addresses) (g : Seat → Turned) (row : Option Seat) → ((t : Turned) (b : Base) → Each IsCaused (f t b)) →
+    Each IsCaused (waiters_of f known (option_map g row))
 waiters_free f known g None free = tt
 waiters_free f known g (Some seat) free = free (g seat) _
 
-woken_free : (a : Alarm) → Each IsFree (woken a)
+woken_free : (a : Alarm) → Each IsCaused (woken a)
 woken_free (Wake who) = (refl, tt)
 woken_free _ = tt
 
-pause_free : (known : Addresses) (row : Option Pause) → Each IsFree (stopped_at known row)
+pause_free : (known : Addresses) (row : Option Pause) → Each IsCaused (stopped_at known row)
 pause_free known None = tt
 pause_free known (Some p) = each_of (λ who. notice who outcome.Stopped) (λ w. refl) _
 
-stopped_free : (known : Addresses) (a : Alarm) → Each IsFree (stopped_with known a)
+stopped_free : (known : Addresses) (a : Alarm) → Each IsCaused (stopped_with known a)
 stopped_free known (Retry l) = pause_free known (known.pause l)
 stopped_free known (Wake who) = (refl, tt)
 stopped_free known _ = tt
 
-opens_free : (ns : List Notice) → Each IsFree ns → Each (Each IsFree) (opens ns)
+opens_free : (ns : List Notice) → Each IsCaused ns → Each (Each IsCaused) (opens ns)
 opens_free [] k = tt
 opens_free (n ∷ ns) k = (k, tt)
 
-alone_free : (ns : List Notice) → Each IsFree ns → Each (Each IsFree) (map alone ns)
+alone_free : (ns : List Notice) → Each IsCaused ns → Each (Each IsCaused) (map alone ns)
 alone_free [] k = tt
 alone_free (n ∷ ns) k = ((k.0, tt), alone_free ns k.1)
 
-caused_free : (v : View) (l : ℕ) (x : _) → Each (Each IsFree) (caused v l x)
+caused_free : (v : View) (l : ℕ) (x : _) → Each (Each IsCaused) (caused v l x)
 caused_free v l Reads =
-    opens_free _ (each_append IsFree (answered_on (v.links.live l)) _ (on_free (v.links.live l))
+    opens_free _ (each_append IsCaused (answered_on (v.links.live l)) _ (on_free (v.links.live l))
     (waiters_free served_on v.addresses (turned_by v.chosen v.addresses v.now l Reads) (v.links.live l) (λ t b. served_free t.link t.change b.waiting)))
 caused_free v l (Drains most) = alone_free _ (moved_free most v.now (v.links.live l))
 caused_free v l (Ends end) =
-    opens_free _ (each_append IsFree (ended_on end v.now (v.links.live l)) _ (row_free end v.now (v.links.live l))
+    opens_free _ (each_append IsCaused (ended_on end v.now (v.links.live l)) _ (row_free end v.now (v.links.live l))
     (waiters_free (failed_on end) v.addresses (turned_by v.chosen v.addresses v.now l (Ends end)) (v.links.live l) (λ t b. failed_free end t.change t.pause b)))
 caused_free v l _ = tt
 
-pub causes_free : (v : View) (a : Act) → Each (Each IsFree) (causes v a)
-causes_free v (Comes (ToLink l x)) = caused_free v l x
-causes_free v (Comes (Rings a)) = each_either (Each IsFree) (rings v.now a v.alarms) (opens (woken a)) [] (opens_free (woken a) (woken_free a)) tt
-causes_free v (Does who StopAll) =
-    opens_free _ (each_append IsFree _ _ (each_flat IsFree (λ e. stopped_with v.addresses e.0) v.alarms (λ e. stopped_free v.addresses e.0))
+pub causes_inner : (v : View) (a : Act) → Each (Each IsCaused) (causes v a)
+causes_inner v (Comes (ToLink l x)) = caused_free v l x
+causes_inner v (Comes (Rings a)) = each_either (Each IsCaused) (rings v.now a v.alarms) (opens (woken a)) [] (opens_free (woken a) (woken_free a)) tt
+causes_inner v (Does who StopAll) =
+    opens_free _ (each_append IsCaused _ _ (each_flat IsCaused (λ e. stopped_with v.addresses e.0) v.alarms (λ e. stopped_free v.addresses e.0))
     (each_of stopped_one (λ t. refl) (waiting v.producers)))
-causes_free v _ = tt
+causes_inner v _ = tt
+
+inner_free : (u : Outcome) → is_inner u ≡ false → is_granted u ≡ false
+inner_free (outcome.Granted n) h = absurd cc
+inner_free (outcome.Parted ticket f) h = absurd cc
+inner_free _ h = refl
+
+pub causes_free : (v : View) (a : Act) → Each (Each IsFree) (causes v a)
+causes_free v a =
+    each_map (Each IsCaused) (Each IsFree) (causes v a) (λ ns k. each_map IsCaused IsFree ns (λ n h. inner_free n.outcome h) k) (causes_inner v a)
 
 -- WHAT ONE DOES
 

@@ -176,7 +176,7 @@ stand_told o older t u p q a s h =
     ∙ ap (λ r. stays_some (told_some r u)) s
     ∙ ap stays h
 
-stand_starts : (o : Options) (older : List Entry) (t : ℕ) (p : Procedure) (q : Plan) (a : Action) → begins p ≡ Stays q a →
+pub stand_starts : (o : Options) (older : List Entry) (t : ℕ) (p : Procedure) (q : Plan) (a : Action) → begins p ≡ Stays q a →
     (view o (Then (Starts (Call t) p) ∷ older)).stand (Call t) ≡ Some q
 stand_starts o older t p q a h = ap (λ b. cond b (stays (begins p)) ((view o older).stand (Call t))) (self_same t) ∙ ap stays h
 

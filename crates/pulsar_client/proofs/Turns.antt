@@ -56,7 +56,7 @@ abbrev pub sum : {A : Type 0} → (A → ℕ) → List A → ℕ
 sum f [] = 0
 sum f (x ∷ xs) = f x + sum f xs
 
-sum_append : {A : Type 0} (f : A → ℕ) (xs ys : List A) → sum f (xs ++ ys) ≡ sum f xs + sum f ys
+pub sum_append : {A : Type 0} (f : A → ℕ) (xs ys : List A) → sum f (xs ++ ys) ≡ sum f xs + sum f ys
 sum_append f [] ys = omega arith
 sum_append f (x ∷ xs) ys = let e : sum f (xs ++ ys) ≡ sum f xs + sum f ys = sum_append f xs ys in omega (arith, e)
 
@@ -67,14 +67,14 @@ sum_put f lt x (y ∷ ys) = elim (lt x y) as (λ b. sum f (cond b (x ∷ y ∷ y
   | false ↦ (let e : sum f (put lt x ys) ≡ f x + sum f ys = sum_put f lt x ys in omega (arith, e))
 ]
 
-sum_put_all : {A : Type 0} (f : A → ℕ) (lt : A → A → Bool) (xs ys : List A) → sum f (put_all lt xs ys) ≡ sum f xs + sum f ys
+pub sum_put_all : {A : Type 0} (f : A → ℕ) (lt : A → A → Bool) (xs ys : List A) → sum f (put_all lt xs ys) ≡ sum f xs + sum f ys
 sum_put_all f lt [] ys = omega arith
 sum_put_all f lt (x ∷ xs) ys =
     let a : sum f (put_all lt xs (put lt x ys)) ≡ sum f xs + sum f (put lt x ys) = sum_put_all f lt xs (put lt x ys) in
     let b : sum f (put lt x ys) ≡ f x + sum f ys = sum_put f lt x ys in
     omega (arith, a, b)
 
-sum_none : {A : Type 0} (P : A → Type 0) (f : A → ℕ) (xs : List A) → ((x : A) → P x → f x ≡ 0) → Each P xs → sum f xs ≡ 0
+pub sum_none : {A : Type 0} (P : A → Type 0) (f : A → ℕ) (xs : List A) → ((x : A) → P x → f x ≡ 0) → Each P xs → sum f xs ≡ 0
 sum_none P f [] none k = refl
 sum_none P f (x ∷ xs) none k = let a : f x ≡ 0 = none x k.0 in let b : sum f xs ≡ 0 = sum_none P f xs none k.1 in omega (arith, a, b)
 

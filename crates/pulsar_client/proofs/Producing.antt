@@ -34,23 +34,14 @@ pub row_put : {A : Type 0} (n : ℕ) (x : Option A) (old new : ℕ → Option A)
     (m : ℕ) → new m ≡ cond (m == n) x (old m)
 row_put n x old new is m = is m ∙ ap (λ t. cond t x (old m)) (at_number m n (m == n) refl)
 
-module _ {A : Type 0} (f : A → A) (n : ℕ) (old : ℕ → Option A) where
-  -- it changes
-  pub row_changed : (new : ℕ → Option A) (x : A) → Some x ≡ old n → ((m : ℕ) → new m ≡ cond (is_at (nat_cmp n) m) (Some (f x)) (old m)) →
-      (m : ℕ) → new m ≡ cond (m == n) (option_map f (old m)) (old m)
-  row_changed new x found is m = elim (cases_Bool (m == n)) [
-    | inl e ↦ (is m ∙ ap (λ t. cond t (Some (f x)) (old m)) (at_number m n true e) ∙ ap (option_map f) found
-        ∙ ap (λ k. option_map f (old k)) (sym (is_this m n e)) ∙ sym (ap (λ t. cond t (option_map f (old m)) (old m)) e))
-    | inr e ↦ (is m ∙ ap (λ t. cond t (Some (f x)) (old m)) (at_number m n false e) ∙ sym (ap (λ t. cond t (option_map f (old m)) (old m)) e))
-  ]
-
-  -- there is none
-  pub row_absent : old n ≡ None → (m : ℕ) → old m ≡ cond (m == n) (option_map f (old m)) (old m)
-  row_absent none m = elim (cases_Bool (m == n)) [
-    | inl e ↦ (let gone : old m ≡ None = ap old (is_this m n e) ∙ none in
-        gone ∙ sym (ap (option_map f) gone) ∙ sym (ap (λ t. cond t (option_map f (old m)) (old m)) e))
-    | inr e ↦ sym (ap (λ t. cond t (option_map f (old m)) (old m)) e)
-  ]
+-- it changes
+pub row_changed : {A : Type 0} (f : A → A) (n : ℕ) (old new : ℕ → Option A) (x : A) → Some x ≡ old n →
+    ((m : ℕ) → new m ≡ cond (is_at (nat_cmp n) m) (Some (f x)) (old m)) → (m : ℕ) → new m ≡ cond (m == n) (option_map f (old m)) (old m)
+row_changed f n old new x found is m = elim (cases_Bool (m == n)) [
+  | inl e ↦ (is m ∙ ap (λ t. cond t (Some (f x)) (old m)) (at_number m n true e) ∙ ap (option_map f) found
+      ∙ ap (λ k. option_map f (old k)) (sym (is_this m n e)) ∙ sym (ap (λ t. cond t (option_map f (old m)) (old m)) e))
+  | inr e ↦ (is m ∙ ap (λ t. cond t (Some (f x)) (old m)) (at_number m n false e) ∙ sym (ap (λ t. cond t (option_map f (old m)) (old m)) e))
+]
 
 -- THE TABLES
 

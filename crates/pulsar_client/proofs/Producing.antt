@@ -64,13 +64,15 @@ shut_end [] n ps = refl
 shut_end (k ∷ ns) n ps = shut_end ns n (changed k Closes ps)
 
 -- one is made, and then another
+abbrev topic_of : (owner : ℕ) → Seen → Option Topic
+topic_of owner seen = Some (record { owner = owner; seen = seen })
+
 pub topic_made : (owner first : ℕ) (b : Built) (ps : Producers) (topics : ℕ → Option Topic) (numbers : List ℕ) (seen : Seen) →
     seen ≡ fresh (record { built = b; first_number = first }) → ((m : ℕ) → topics m ≡ cond (is_at (nat_cmp b.number) m) (Some (record { owner = owner; seen = seen })) (ps.topics m)) →
     numbers ≡ ps.numbers ++ b.number ∷ [] → record ps { topics = topics; numbers = numbers } ≡ with_topic owner first b ps
 topic_made owner first b ps topics numbers seen is written are =
-    let row = λ (s : Seen). Some (record { owner = owner; seen = s } : Topic) in
-    let all : (m : ℕ) → topics m ≡ cond (m == b.number) (row (fresh (record { built = b; first_number = first }))) (ps.topics m) =
-    (λ m. row_put b.number (row seen) ps.topics topics written m ∙ ap (λ s. cond (m == b.number) (row s) (ps.topics m)) is) in
+    let all : (m : ℕ) → topics m ≡ cond (m == b.number) (topic_of owner (fresh (record { built = b; first_number = first }))) (ps.topics m) =
+    (λ m. row_put b.number (topic_of owner seen) ps.topics topics written m ∙ ap (λ s. cond (m == b.number) (topic_of owner s) (ps.topics m)) is) in
     λ i. record ps { topics = λ m. all m i; numbers = are i }
 
 pub topics_end : (owner first : ℕ) (bs : List Built) (b : Built) (ps : Producers) →

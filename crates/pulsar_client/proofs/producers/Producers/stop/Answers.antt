@@ -1,4 +1,4 @@
-use Rattle.std.proofs.Common.{◌∙◌, ◌++◌, ap, append_assoc, get_or, map, sym, take}
+use Rattle.std.proofs.Common.{◌∙◌, ◌++◌, ℕ, ap, append_assoc, get_or, map, sym, take}
 use Rattle.std.proofs.lemmas.List.{map-append, take_more}
 use Rattle.std.specs.BTreeMap.{get}
 use Rattle.std.specs.List.{flat_map}
@@ -10,7 +10,7 @@ use Rattle.pulsar_client.proofs.producers.Producers.stop.Goals as goal
 
 pub loop-number-preserved : goal.loop-number-preserved
 loop-number-preserved c =
-    let waits = λ n. waiting_at (get nat_cmp c.args.self.now.topics n) in
+    let waits = λ (n : ℕ). waiting_at (get nat_cmp c.args.self.now.topics n) in
     let before = c.args.notices.now.items in
     let ns = c.args.self.now.numbers.items in
     let i = c.loop-number.number-index in

@@ -399,7 +399,7 @@ end_self : (w : Who) (verdict : Verdict) (t : ℕ) → w ≡ Call t → end_of t
 end_self w verdict t e = ap (λ x. end_of t (Answers x verdict)) e ∙ ap (λ b. cond b 1 0) (self_same t)
 
 -- one that ends had begun
-began_on : (o : Options) (log : List Entry) (w : Who) (p : Plan) → (view o log).stand w ≡ Some p → (q : Procedure) × (started w log ≡ Some q)
+pub began_on : (o : Options) (log : List Entry) (w : Who) (p : Plan) → (view o log).stand w ≡ Some p → (q : Procedure) × (started w log ≡ Some q)
 began_on o [] w p h = absurd cc
 began_on o (Begins e ∷ log) w p h = began_on o log w p (sym (begun_same (λ v. v.stand w) e (view o log) refl) ∙ h)
 began_on o (Then (Starts who q) ∷ log) w p h = elim (cases_Bool (is_same w who)) [

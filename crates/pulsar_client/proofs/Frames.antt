@@ -254,25 +254,30 @@ module _ (o : Options) (log : List Entry) (t l n s : ℕ) (name : List ℕ) (m :
   abbrev sent : Action
   sent = Ask l (words.Send n name s m block)
 
-  it : IsSendLed o log t e given sent
+  pub it : IsSendLed o log t e given sent
   it = send_led o log t w e share given sent run refl h
 
   -- the message, the draw before it, and what is seen between
-  record IsFramed : Type 0 where
-    version : Option (List ℕ)
-    message : m ≡ with_version version given
-    was_told : WasTold log t version
-    producer : n ≡ e.producer
-    blocks : block ≡ e.block
-    has : (row : Topic) × ((view o log).producers.topics e.producer ≡ Some row) × (row.seen.holder ≡ Some t)
-    before : Topic
-    after : (view o log).producers.topics e.producer ≡ Some (topic_after Draws before)
-    left : is_spent before.seen.next ≡ false
-    number : s ≡ before.seen.next
-    link : l ≡ before.seen.link
-    called : name ≡ before.seen.given.name
+  pub record IsFramed : Type 0 where
+    pub version : Option (List ℕ)
+    pub message : m ≡ with_version version given
+    pub was_told : WasTold log t version
+    pub producer : n ≡ e.producer
+    pub blocks : block ≡ e.block
+    pub has : (row : Topic) × ((view o log).producers.topics e.producer ≡ Some row) × (row.seen.holder ≡ Some t)
+    pub before : Topic
+    pub after : (view o log).producers.topics e.producer ≡ Some (topic_after Draws before)
+    pub left : is_spent before.seen.next ≡ false
+    pub number : s ≡ before.seen.next
+    pub link : l ≡ before.seen.link
+    pub called : name ≡ before.seen.given.name
+    pub told : Notice
+    pub drawn : ℕ
+    pub behind : List Entry
+    pub there : log ≡ Then (Told told) ∷ Then (Does (Call t) (Draw drawn)) ∷ behind
+    pub was : (view o behind).producers.topics e.producer ≡ Some before
 
-  framed : (k : IsSendLed o log t e given sent) → IsFramed
+  pub framed : (k : IsSendLed o log t e given sent) → IsFramed
   framed k =
       let led = k.led in
       let a = k.asks in
@@ -308,6 +313,11 @@ module _ (o : Options) (log : List Entry) (t l n s : ℕ) (name : List ℕ) (m :
         number = a.5 ∙ x.number;
         link = a.2 ∙ x.link;
         called = a.4 ∙ x.name;
+        told = note;
+        drawn = b.0;
+        behind = g.older;
+        there = led.is_there ∙ ap (λ y. Then (Told note) ∷ y) there;
+        was = ap ps.topics (sym num) ∙ x.is_it;
       }
 
   drawn_row : (k : IsFramed) → k.has.0 ≡ topic_after Draws k.before

@@ -69,8 +69,11 @@ pub mod Topics
 pub mod Holding
 pub mod Turns
 pub mod Claiming
+pub mod Early
 pub mod Frames
 pub mod Framing
 pub mod InTurn
 pub mod OnceSent
+pub mod Receipts
+pub mod Rise
 pub mod TurnRun

@@ -13,7 +13,7 @@ use Rattle.pulsar_messages.specs.Words as words
 use Rattle.pulsar_messages.specs.Words.{Words}
 use Rattle.pulsar_session.specs.Failures.{Failure}
 use Rattle.pulsar_session.specs.Link.{ticked}
-use Rattle.pulsar_link.specs.Messages.{Reply}
+use Rattle.pulsar_link.specs.Messages.{Reply, is_body}
 use Rattle.pulsar_producer.specs.Message.{with_version}
 use Rattle.pulsar_producer.specs.Laws.{AreAbove}
 use Rattle.pulsar_producer.specs.Topic as topic
@@ -128,13 +128,21 @@ queued_times o t (Then a ∷ log) = queued_times o t log + queues_at o t log a
 abbrev pub SentOnce : Type 0
 SentOnce = (o : Options) (log : List Entry) (t : ℕ) → IsRun o log → queued_times o t log ≤ 1
 
--- The receipt with which a send ends is the reply to its frame: it bears the topic producer and the number of that.
+-- A receipt that a send is told is the reply to a frame that it asked for: it bears the topic producer and the number of that.
 abbrev pub ReceiptsAreOwn : Type 0
 ReceiptsAreOwn = (o : Options) (log : List Entry) (t : ℕ) (r : Reply) (w : Ways) (e : Errand) (share : Option Share) (m : ProducerMessageValues) →
     IsRun o (Then (Told (notice (Call t) (outcome.Replied r))) ∷ log) → started (Call t) log ≡ Some (procedure.Send w e share m) →
-    (view o log).stand (Call t) ≡ Some (plan.Sending w e None send.Sent) →
+    is_body 7 r.content.body ≡ true →
     (l s : ℕ) × (name : List ℕ) × (sent : ProducerMessageValues) × In (Then (Does (Call t) (Ask l (words.Send e.producer name s sent e.block)))) log
     × (r.content.key ≡ Some (key.ProducerSend e.producer s))
+
+-- The numbers of the frames that are asked for by a topic producer rise: so a receipt is that of one send.
+abbrev pub NumbersOfFramesRise : Type 0
+NumbersOfFramesRise = (o : Options) (newer older : List Entry) (t u l k n s r : ℕ) (name alias : List ℕ) (m other : ProducerMessageValues) (block waits : Bool)
+    (w v : Ways) (e f : Errand) (share part : Option Share) (given told : ProducerMessageValues) →
+    IsRun o (Then (Does (Call t) (Ask l (words.Send n name s m block))) ∷ (newer ++ Then (Does (Call u) (Ask k (words.Send n alias r other waits))) ∷ older)) →
+    started (Call t) (newer ++ Then (Does (Call u) (Ask k (words.Send n alias r other waits))) ∷ older) ≡ Some (procedure.Send w e share given) →
+    started (Call u) older ≡ Some (procedure.Send v f part told) → r < s
 
 -- what is seen where a link is told the time, and nothing else comes to it
 abbrev pub seat_ticked : (now : ℕ) → Seat → Seat

@@ -1,6 +1,6 @@
 //! What follows of producers from the definition of a good run: each contract is a law, and its body is empty.
 
-ghost use Rattle.pulsar_client.specs.ProducerLaws.{FramesAreOfTheirSends, NumbersAreFree, PartsAreGathered, PassedInTurn, QueuedInTurn, ReceiptsAreOwn, SentOnce, SlowDownLeavesAll, ToldInTurn, TopicsAlone};
+ghost use Rattle.pulsar_client.specs.ProducerLaws.{FramesAreOfTheirSends, NumbersAreFree, NumbersOfFramesRise, PartsAreGathered, PassedInTurn, QueuedInTurn, ReceiptsAreOwn, SentOnce, SlowDownLeavesAll, ToldInTurn, TopicsAlone};
 
 /// A topic producer is what the acts on it made of it since it was built, and nothing else.
 pub fn topics_alone()
@@ -30,9 +30,10 @@ pub fn sent_once()
     ensures { SentOnce }
 {}
 
-/// A receipt answers the send whose topic producer and number it bears.
+/// A receipt answers the send whose topic producer and number it bears, and no other one has asked for a frame that bears them.
 pub fn receipts_are_own()
-    ensures { ReceiptsAreOwn }
+    ensures own { ReceiptsAreOwn }
+    ensures rise { NumbersOfFramesRise }
 {}
 
 /// A send that finds no room and is not to wait leaves all as it was.

@@ -214,7 +214,7 @@ fn receipt_in(alloc: Global, body: Option<Body>) -> Result<Said, NoMemory>
 {
     match body {
         Some(body) => receipt_of(alloc, body),
-        None => nothing(alloc),
+        None => Said::new(alloc, Ok(Answer::Replies(Vec::new(alloc)))),
     }
 }
 
@@ -223,12 +223,12 @@ fn receipt_of(alloc: Global, body: Body) -> Result<Said, NoMemory>
 {
     match body {
         Body::SendReceipt(receipt) => Said::new(alloc, Ok(Answer::Receipt(receipt))),
-        _ => nothing(alloc),
+        body => nothing(alloc, body),
     }
 }
 
-/// A reply that is no receipt.
-fn nothing(alloc: Global) -> Result<Said, NoMemory>
+/// A body that is no receipt.
+fn nothing(alloc: Global, _body: Body) -> Result<Said, NoMemory>
     ensures { IfOk result (λ s. s ≡ Replies []) }
 {
     Said::new(alloc, Ok(Answer::Replies(Vec::new(alloc))))

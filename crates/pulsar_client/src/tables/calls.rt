@@ -1,6 +1,6 @@
 //! Calls and their plans.
 
-ghost use Rattle.std.specs.Prelude.{◌≡◌, ◌==◌, ◌++◌, ◌∷◌, map, IfOk, MatchBool, None, OnOk, string_bytes, true, false, if◌then◌else◌};
+ghost use Rattle.std.specs.Prelude.{◌≡◌, ◌==◌, ◌+◌, ◌++◌, ◌∷◌, map, IfOk, MatchBool, None, Some, OnOk, string_bytes, true, false, if◌then◌else◌};
 ghost use Rattle.pulsar_client.specs.Alarms.{set};
 ghost use Rattle.pulsar_client.specs.Content.{Build, asked, lacks_tickets, shares, shown};
 ghost use Rattle.pulsar_client.specs.Effects.{effects};

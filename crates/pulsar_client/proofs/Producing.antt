@@ -1,7 +1,8 @@
 -- The producers of a client, as one of them changes, and what all of them give.
-use Rattle.std.proofs.Common.{◌≡◌, ◌==◌, ◌∙◌, ℕ, ap, sym, refl, arith, Bool, true, false, cond, List, [], ◌∷◌, ◌++◌, length, length-map, map, Option, Some, None, inl, inr}
+use Rattle.std.proofs.Common.{◌≡◌, ◌==◌, ◌∙◌, ℕ, ap, sym, refl, arith, Bool, true, false, cond, List, [], ◌∷◌, ◌++◌, length, map, Option, Some, None, inl, inr}
 use Rattle.std.proofs.lemmas.Bool.{cases_Bool}
 use Rattle.std.proofs.lemmas.Bool.Decides.{nat_tests}
+use Rattle.std.proofs.lemmas.List.{length-map}
 use Rattle.std.specs.BTreeMap.{is_at}
 use Rattle.std.specs.Option.{option_map}
 use Rattle.std.specs.Ordering.{nat_cmp}
@@ -34,23 +35,14 @@ pub row_put : {A : Type 0} (n : ℕ) (x : Option A) (old new : ℕ → Option A)
     (m : ℕ) → new m ≡ cond (m == n) x (old m)
 row_put n x old new is m = is m ∙ ap (λ t. cond t x (old m)) (at_number m n (m == n) refl)
 
-module _ {A : Type 0} (f : A → A) (n : ℕ) (old : ℕ → Option A) where
-  -- it changes
-  pub row_changed : (new : ℕ → Option A) (x : A) → Some x ≡ old n → ((m : ℕ) → new m ≡ cond (is_at (nat_cmp n) m) (Some (f x)) (old m)) →
-      (m : ℕ) → new m ≡ cond (m == n) (option_map f (old m)) (old m)
-  row_changed new x found is m = elim (cases_Bool (m == n)) [
-    | inl e ↦ (is m ∙ ap (λ t. cond t (Some (f x)) (old m)) (at_number m n true e) ∙ ap (option_map f) found
-        ∙ ap (λ k. option_map f (old k)) (sym (is_this m n e)) ∙ sym (ap (λ t. cond t (option_map f (old m)) (old m)) e))
-    | inr e ↦ (is m ∙ ap (λ t. cond t (Some (f x)) (old m)) (at_number m n false e) ∙ sym (ap (λ t. cond t (option_map f (old m)) (old m)) e))
-  ]
-
-  -- there is none
-  pub row_absent : old n ≡ None → (m : ℕ) → old m ≡ cond (m == n) (option_map f (old m)) (old m)
-  row_absent none m = elim (cases_Bool (m == n)) [
-    | inl e ↦ (let gone : old m ≡ None = ap old (is_this m n e) ∙ none in
-        gone ∙ sym (ap (option_map f) gone) ∙ sym (ap (λ t. cond t (option_map f (old m)) (old m)) e))
-    | inr e ↦ sym (ap (λ t. cond t (option_map f (old m)) (old m)) e)
-  ]
+-- it changes
+pub row_changed : {A : Type 0} (f : A → A) (n : ℕ) (old new : ℕ → Option A) (x : A) → Some x ≡ old n →
+    ((m : ℕ) → new m ≡ cond (is_at (nat_cmp n) m) (Some (f x)) (old m)) → (m : ℕ) → new m ≡ cond (m == n) (option_map f (old m)) (old m)
+row_changed f n old new x found is m = elim (cases_Bool (m == n)) [
+  | inl e ↦ (is m ∙ ap (λ t. cond t (Some (f x)) (old m)) (at_number m n true e) ∙ ap (option_map f) found
+      ∙ ap (λ k. option_map f (old k)) (sym (is_this m n e)) ∙ sym (ap (λ t. cond t (option_map f (old m)) (old m)) e))
+  | inr e ↦ (is m ∙ ap (λ t. cond t (Some (f x)) (old m)) (at_number m n false e) ∙ sym (ap (λ t. cond t (option_map f (old m)) (old m)) e))
+]
 
 -- THE TABLES
 
@@ -73,13 +65,15 @@ shut_end [] n ps = refl
 shut_end (k ∷ ns) n ps = shut_end ns n (changed k Closes ps)
 
 -- one is made, and then another
+abbrev topic_of : (owner : ℕ) → Seen → Option Topic
+topic_of owner seen = Some (record { owner = owner; seen = seen })
+
 pub topic_made : (owner first : ℕ) (b : Built) (ps : Producers) (topics : ℕ → Option Topic) (numbers : List ℕ) (seen : Seen) →
     seen ≡ fresh (record { built = b; first_number = first }) → ((m : ℕ) → topics m ≡ cond (is_at (nat_cmp b.number) m) (Some (record { owner = owner; seen = seen })) (ps.topics m)) →
     numbers ≡ ps.numbers ++ b.number ∷ [] → record ps { topics = topics; numbers = numbers } ≡ with_topic owner first b ps
 topic_made owner first b ps topics numbers seen is written are =
-    let row = λ (s : Seen). Some (record { owner = owner; seen = s } : Topic) in
-    let all : (m : ℕ) → topics m ≡ cond (m == b.number) (row (fresh (record { built = b; first_number = first }))) (ps.topics m) =
-    (λ m. row_put b.number (row seen) ps.topics topics written m ∙ ap (λ s. cond (m == b.number) (row s) (ps.topics m)) is) in
+    let all : (m : ℕ) → topics m ≡ cond (m == b.number) (topic_of owner (fresh (record { built = b; first_number = first }))) (ps.topics m) =
+    (λ m. row_put b.number (topic_of owner seen) ps.topics topics written m ∙ ap (λ s. cond (m == b.number) (topic_of owner s) (ps.topics m)) is) in
     λ i. record ps { topics = λ m. all m i; numbers = are i }
 
 pub topics_end : (owner first : ℕ) (bs : List Built) (b : Built) (ps : Producers) →

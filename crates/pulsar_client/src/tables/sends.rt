@@ -170,7 +170,7 @@ impl Tables {
     {
         let mut ticket = of;
         for message in messages {
-            ticket = ticket.saturating_add(1);
+            ticket = following(ticket)?;
             let procedure = self.sends_as(
                 Some(Share { of, ticket }),
                 producer,
@@ -245,6 +245,12 @@ fn fails(share: Option<Share>, refusal: Refusal) -> Procedure
         Some(share) => Procedure::FailShare { share, refusal },
         None => Procedure::Refuse(refusal),
     }
+}
+
+fn following(ticket: u64) -> Result<u64, NoMemory>
+    ensures { IfOk result (λ t. t ≡ ticket + 1) }
+{
+    ticket.checked_add(1).ok_or(NoMemory)
 }
 
 fn text(name: Option<String>) -> Option<Text>

@@ -77,3 +77,8 @@ pub mod OnceSent
 pub mod Receipts
 pub mod Rise
 pub mod TurnRun
+pub mod Gathered
+pub mod Parted
+pub mod Queued
+pub mod Sharing
+pub mod Telling

@@ -21,10 +21,10 @@ loop-message-preserved c =
     let xs = c.loop-message.yielded in
     let x = c.in-Some.message in
     let so_far = c.loop-message.invariant in
-    let n = c.in_ok-ticket.field-0 in
-    let is : n ≡ of + length xs + 1 = omega (arith, c.in_ok-ticket.ensures, so_far.ticket) in
-    let ticket : n ≡ of + length (xs ++ x ∷ []) = omega (arith, is, length_push xs x) in
-    let advice = c.next-in-loop-message.ensures.index ∙ ap next_advice so_far.advice in
+    let n = c.loop-message.ticket in
+    let is = so_far.ticket in
+    let ticket : c.in_ok-next.field-0 ≡ of + length (xs ++ x ∷ []) + 1 = omega (arith, c.in_ok-next.ensures, is, length_push xs x) in
+    let advice = c.next-said.ensures.index ∙ ap next_advice so_far.advice in
     let procedure =
     c.in_ok-procedure.ensures.procedure
     ∙ (λ i. sends_as (chosen_of (so_far.settings i)) (so_far.after i).producers (share of n) (advice i) t (message_content x))
@@ -32,7 +32,7 @@ loop-message-preserved c =
     let before = shares_of o ps of (of + 1) c.args.advice t (map message_content xs) in
     record {
       ticket = ticket;
-      advice = c.next-in-loop-message.ensures.left ∙ ap (drop 1) so_far.advice ∙ drop_next (length xs) c.args.advice ∙ ap (λ k. drop k c.args.advice) (sym (length_push xs x));
+      advice = c.next-said.ensures.left ∙ ap (drop 1) so_far.advice ∙ drop_next (length xs) c.args.advice ∙ ap (λ k. drop k c.args.advice) (sym (length_push xs x));
       parts =
           c.in_ok-push_back.ensures.items
           ∙ ap (λ acts. acts ++ Starts (Call n) c.in_ok-procedure.procedure ∷ []) so_far.parts

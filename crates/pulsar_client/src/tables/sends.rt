@@ -163,7 +163,6 @@ impl Tables {
         mut advice: Advice,
         parts: &mut VecDeque<Act>,
     ) -> Result<(), NoMemory>
-        requires { lacks_tickets of (length messages.items) ≡ false }
         ensures parts { OnOk result (parts.new.items ≡ parts.old.items ++ rules.shares_of (chosen_of self.old.settings) (producers_of self.old.producers) of (of + 1) advice producer (map message_content messages.items)) }
         ensures after { OnOk result (view_of self.new ≡ record (view_of self.old) { producers = all_routed producer (map message_content messages.items) (producers_of self.old.producers) }) }
         ensures settings { self.new.settings ≡ self.old.settings }

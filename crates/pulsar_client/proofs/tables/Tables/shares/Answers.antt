@@ -1,5 +1,7 @@
-use Rattle.std.proofs.Common.{◌≡◌, ◌∙◌, ◌+◌, ◌++◌, ◌∷◌, [], ap, append_assoc, arith, drop, length, map, rules, sym}
-use Rattle.std.proofs.lemmas.List.{length_push}
+use Rattle.std.proofs.Common.{◌≡◌, ◌∙◌, ◌+◌, ◌++◌, ◌∷◌, [], ap, append_assoc, arith, drop, length, map, sym}
+use Rattle.std.proofs.lemmas.Iterator.Adapters.{YieldsList-from_vec}
+use Rattle.std.proofs.lemmas.Iterator.Consumers.{YieldsList-end}
+use Rattle.std.proofs.lemmas.List.{length_push, map-id}
 use Rattle.pulsar_messages.specs.Content.{message_content}
 use Rattle.pulsar_client.specs.declared.act.Act.TheVariants.{Starts}
 use Rattle.pulsar_client.specs.declared.act.Who.TheVariants.{Call}
@@ -23,7 +25,7 @@ loop-message-preserved c =
     let so_far = c.loop-message.invariant in
     let n = c.loop-message.ticket in
     let is = so_far.ticket in
-    let ticket : c.in_ok-next.field-0 ≡ of + length (xs ++ x ∷ []) + 1 = omega (arith, c.in_ok-next.ensures, is, length_push xs x) in
+    let ticket : c.in_ok-next.next ≡ of + length (xs ++ x ∷ []) + 1 = omega (arith, c.in_ok-next.ensures, is, length_push xs x) in
     let advice = c.next-said.ensures.index ∙ ap next_advice so_far.advice in
     let procedure =
     c.in_ok-procedure.ensures.procedure
@@ -49,6 +51,10 @@ loop-message-preserved c =
 pub returns-clause-after : goal.returns-clause-after
 returns-clause-after c =
     let v = view_of c.args.self.now in
-    let all : c.loop-message.yielded ≡ c.args.messages.items = search rules in
+    let given = c.into_iter-message-iterator.ensures.into_iter_gives in
+    let end =
+    YieldsList-end (YieldsList-from_vec c.args.messages.items given.0 (given.1 ∙ c.args.messages.ok.0)) c.loop-message.yielded _ c.loop-message.yielded_by _ _
+    c.in-None.is c.next.ensures.steps
+    in
     c.loop-message.invariant.after
-    ∙ ap (λ xs. record v { producers = all_routed c.args.producer (map message_content xs) v.producers }) all
+    ∙ ap (λ xs. record v { producers = all_routed c.args.producer (map message_content xs) v.producers }) (sym (map-id c.loop-message.yielded) ∙ end.0)

@@ -53,8 +53,8 @@ returns-clause-after c =
     let v = view_of c.args.self.now in
     let given = c.into_iter-message-iterator.ensures.into_iter_gives in
     let end =
-    YieldsList-end (YieldsList-from_vec c.args.messages.items given.0 (given.1 ∙ c.args.messages.ok.0)) c.loop-message.yielded _ c.loop-message.yielded_by _ _
-    c.in-None.is c.next.ensures.steps
+    YieldsList-end (YieldsList-from_vec c.args.messages.items given.0 (given.1 ∙ c.args.messages.ok.0)) c.loop-message.yielded
+    c.loop-message.message-iterator c.loop-message.yielded_by c.next.result c.next.new.self c.in-None.is c.next.ensures.steps
     in
     c.loop-message.invariant.after
     ∙ ap (λ xs. record v { producers = all_routed c.args.producer (map message_content xs) v.producers }) (sym (map-id c.loop-message.yielded) ∙ end.0)

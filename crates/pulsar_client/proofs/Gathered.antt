@@ -1,26 +1,23 @@
 -- A call with parts gathers what became of each.
-use Rattle.std.proofs.Common.{◌≡◌, ◌⊎◌, inl, inr, ◌∙◌, sym, ap, subst, ℕ, ◌+◌, ◌-◌, ◌<◌, ◌≤◌, ◌==◌, arith, suc, zero, List, [], ◌∷◌, ◌++◌, refl, length, map, Bool, true, false, nat_lt, cond, Option, Some, None}
-use Rattle.std.proofs.lemmas.Bool.{cases_Bool, eqb-true}
+use Rattle.std.proofs.Common.{◌≡◌, ◌⊎◌, inl, inr, ◌∙◌, sym, ap, subst, ℕ, ◌+◌, ◌<◌, ◌≤◌, ◌==◌, arith, List, [], ◌∷◌, ◌++◌, refl, Bool, true, false, cond, Option, Some, None}
+use Rattle.std.proofs.lemmas.Bool.{cases_Bool}
 use Rattle.std.proofs.lemmas.Bool.Decides.{nat_tests}
-use Rattle.pulsar_run.specs.Laws.{In, InThisStep}
+use Rattle.pulsar_run.specs.Laws.{In}
 use Rattle.pulsar_session.specs.Failures.{Failure}
-use Rattle.pulsar_client.specs.declared.act.Act.{Act}
-use Rattle.pulsar_client.specs.declared.act.Act.TheVariants.{Comes, Starts, Told, Does, Answers, Dials}
-use Rattle.pulsar_client.specs.declared.act.Action.TheVariants.{Rest, Tell}
+use Rattle.pulsar_client.specs.declared.act.Act.TheVariants.{Starts, Told, Does}
+use Rattle.pulsar_client.specs.declared.act.Action.TheVariants.{Tell}
 use Rattle.pulsar_client.specs.declared.act.Makes.TheVariants.{Nothing}
 use Rattle.pulsar_client.specs.declared.act.Notice.{Notice}
 use Rattle.pulsar_client.specs.declared.act.Outcome.{Outcome}
 use Rattle.pulsar_client.specs.declared.act.Outcome.TheVariants as outcome
-use Rattle.pulsar_client.specs.declared.act.Procedure.{Procedure}
 use Rattle.pulsar_client.specs.declared.act.Procedure.TheVariants as procedure
-use Rattle.pulsar_client.specs.declared.act.Verdict.{Verdict}
 use Rattle.pulsar_client.specs.declared.act.Who.{Who}
 use Rattle.pulsar_client.specs.declared.act.Who.TheVariants.{Call}
-use Rattle.pulsar_client.specs.Laws.{Answered, Cause, Deed, counted, course, deeds, outcomes, started}
-use Rattle.pulsar_client.specs.Plan.{begins, gathers, told, verdict}
+use Rattle.pulsar_client.specs.Laws.{Answered, Cause, counted, outcomes, started}
+use Rattle.pulsar_client.specs.Plan.{verdict}
 use Rattle.pulsar_client.specs.ProducerLaws.{PartsAreGathered}
 use Rattle.pulsar_client.specs.Rules.{notice}
-use Rattle.pulsar_client.specs.Run.{Entry, Begins, Then, IsRun, Rests, view}
+use Rattle.pulsar_client.specs.Run.{Entry, Begins, Then, IsRun}
 use Rattle.pulsar_client.specs.View.{Options}
 use Rattle.pulsar_client.specs.Who.{is_same}
 use Rattle.pulsar_client.proofs.Acts.{Each, each_append, each_map}
@@ -30,7 +27,7 @@ use Rattle.pulsar_client.proofs.Fitting.{is_said}
 use Rattle.pulsar_client.proofs.Gathering.{AtMostOnce, IsAmong, IsSaid, gathered, is_of}
 use Rattle.pulsar_client.proofs.Parted.{parts_at, parts_behind, parts_run, step_behind}
 use Rattle.pulsar_client.proofs.Receipts.{run_behind}
-use Rattle.pulsar_client.proofs.Telling.{note, part_of, tells_own, told_of, told_once}
+use Rattle.pulsar_client.proofs.Telling.{part_of, tells_own, told_of, told_once}
 use Rattle.pulsar_client.proofs.Turns.{sum, sum_append}
 
 none_some : {A : Type 0} {x : A} → None ≡ Some x → ⊥

@@ -8,16 +8,13 @@ use Rattle.std.specs.Ordering.{match_ordering, nat_cmp, is_eq}
 use Rattle.std.specs.declared.cmp.Ordering.TheVariants.{Less, Equal, Greater}
 use Rattle.pulsar_run.specs.Laws.{In}
 use Rattle.pulsar_session.specs.Failures.{Failure, OfConnection, Shutdown}
-use Rattle.pulsar_client.specs.declared.act.Action.TheVariants.{Rest}
 use Rattle.pulsar_client.specs.declared.act.Makes.TheVariants.{Nothing}
 use Rattle.pulsar_client.specs.declared.act.Outcome.{Outcome}
 use Rattle.pulsar_client.specs.declared.act.Outcome.TheVariants as outcome
-use Rattle.pulsar_client.specs.declared.plans.plan.Plan.TheVariants.{Gathering}
-use Rattle.pulsar_client.specs.declared.plans.plan.Turn.TheVariants.{Stays, Gives}
 use Rattle.pulsar_client.specs.Content.{Said, Failed}
 use Rattle.pulsar_client.specs.Laws.{Answered, course}
 use Rattle.pulsar_client.specs.Parts.{failed_with, sent_from}
-use Rattle.pulsar_client.specs.Plan.{fails, gathers, told, verdict}
+use Rattle.pulsar_client.specs.Plan.{fails, gathers, verdict}
 use Rattle.pulsar_client.proofs.Acts.{Each}
 use Rattle.pulsar_client.proofs.Fitting.{is_said}
 use Rattle.pulsar_client.proofs.Sources.{in_each}
@@ -112,9 +109,6 @@ course_ends first count left fs (o ∷ os) said k i = absurd (not_said k.0)
 
 -- EACH OF THEM
 
-sum_cons : (u : ℕ) (x : Outcome) (os : List Outcome) → sum (is_of u) (x ∷ os) ≡ is_of u x + sum (is_of u) os
-sum_cons u x os = refl
-
 -- how many tell of parts of these tickets
 abbrev held : (first n : ℕ) → List Outcome → ℕ
 held first zero os = 0
@@ -167,7 +161,8 @@ AtMostOnce os = (u : ℕ) → sum (is_of u) os ≤ 1
 
 held_most : (first n : ℕ) (os : List Outcome) → AtMostOnce os → held first n os ≤ n
 held_most first zero os k = omega arith
-held_most first (suc n) os k = let a : held first n os ≤ n = held_most first n os k in let b : sum (is_of (first + n)) os ≤ 1 = k (first + n) in omega (arith, a, b)
+held_most first (suc n) os k =
+    let a : held first n os ≤ n = held_most first n os k in let b : sum (is_of (first + n)) os ≤ 1 = k (first + n) in omega (arith, a, b)
 
 held_each : (first n : ℕ) (os : List Outcome) → AtMostOnce os → held first n os ≡ n → (u : ℕ) → first ≤ u → u < first + n → sum (is_of u) os ≡ 1
 held_each first zero os k full u low high = absurd (let g : ⊥ = omega (arith, low, high) in g)
@@ -200,7 +195,8 @@ insert_other u v x [] h = ap (λ b. cond b (Some x) None) (at_is u v ∙ h)
 insert_other u v x (e ∷ fs) h = by (insert_other u v x fs h) (nat_lt v e.0) refl (v == e.0) refl
   where
     by : at u (insert_entry nat_cmp fs v x) ≡ at u fs → (a : Bool) → nat_lt v e.0 ≡ a → (b : Bool) → (v == e.0) ≡ b →
-        at u (match_ordering (cond (nat_lt v e.0) Less (cond (v == e.0) Equal Greater)) ((v, x) ∷ e ∷ fs) ((e.0, x) ∷ fs) (e ∷ insert_entry nat_cmp fs v x)) ≡ at u (e ∷ fs)
+        at u (match_ordering (cond (nat_lt v e.0) Less (cond (v == e.0) Equal Greater)) ((v, x) ∷ e ∷ fs) ((e.0, x) ∷ fs) (e ∷ insert_entry nat_cmp fs v x))
+            ≡ at u (e ∷ fs)
     by more true d b f = rw d (ap (λ c. cond c (Some x) (at u (e ∷ fs))) (at_is u v ∙ h))
     by more false d true f =
         let same : v ≡ e.0 = eqb-true v e.0 f in
@@ -213,7 +209,8 @@ insert_here u x [] = ap (λ b. cond b (Some x) None) (at_is u u ∙ (let e : (u 
 insert_here u x (e ∷ fs) = by (insert_here u x fs) (nat_lt u e.0) refl (u == e.0) refl
   where
     by : at u (insert_entry nat_cmp fs u x) ≡ Some x → (a : Bool) → nat_lt u e.0 ≡ a → (b : Bool) → (u == e.0) ≡ b →
-        at u (match_ordering (cond (nat_lt u e.0) Less (cond (u == e.0) Equal Greater)) ((u, x) ∷ e ∷ fs) ((e.0, x) ∷ fs) (e ∷ insert_entry nat_cmp fs u x)) ≡ Some x
+        at u (match_ordering (cond (nat_lt u e.0) Less (cond (u == e.0) Equal Greater)) ((u, x) ∷ e ∷ fs) ((e.0, x) ∷ fs) (e ∷ insert_entry nat_cmp fs u x))
+            ≡ Some x
     by more true d b f = rw d (ap (λ c. cond c (Some x) (at u (e ∷ fs))) (at_is u u ∙ (let g : (u == u) ≡ true = grind (arith, nat_tests) in g)))
     by more false d true f = rw (d, f) (ap (λ c. cond c (Some x) (at u fs)) (at_is u e.0 ∙ f))
     by more false d false f = rw (d, f) (ap (λ c. cond c (Some e.1) (at u (insert_entry nat_cmp fs u x))) (at_is u e.0 ∙ f) ∙ more)
@@ -305,7 +302,8 @@ IsGathered first count os said =
     × ((u : ℕ) → first ≤ u → u < first + count → (f : Option Failure) × In (outcome.Parted u f) os × (lookup (is_at (nat_cmp u)) failures ≡ f))
     × ((x : ℕ × Failure) → In x failures → (first ≤ x.0) × (x.0 < first + count) × In (outcome.Parted x.0 (Some x.1)) os)
 
-ended : (first count : ℕ) (os : List Outcome) (said : Said) → AtMostOnce os → Each (IsAmong first count) os → Ends first count count [] os said → IsGathered first count os said
+ended : (first count : ℕ) (os : List Outcome) (said : Said) → AtMostOnce os → Each (IsAmong first count) os → Ends first count count [] os said →
+    IsGathered first count os said
 ended first count os said once among k =
     let few : AtMostOnce k.taken = λ u. (
       let a : sum (is_of u) k.taken ≤ sum (is_of u) (k.taken ++ k.more) = sum_front u k.taken k.more in

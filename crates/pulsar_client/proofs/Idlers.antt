@@ -1,7 +1,6 @@
 -- One that does nothing waits for nothing. So all that it is told is what parts of calls say.
-use Rattle.std.proofs.Common.{◌≡◌, ◌⊎◌, inl, inr, ◌∙◌, sym, ap, subst, ℕ, ◌+◌, ◌<◌, ◌≤◌, ◌==◌, arith, filter, List, [], ◌∷◌, ◌++◌, refl, Bool, true, false, cond, nat_lt, not, Option, Some, None}
-use Rattle.std.proofs.lemmas.Bool.{cases_Bool, eqb-true}
-use Rattle.std.proofs.lemmas.Bool.Decides.{nat_tests}
+use Rattle.std.proofs.Common.{◌≡◌, ◌⊎◌, inl, inr, ◌∙◌, sym, ap, subst, ℕ, ◌+◌, ◌≤◌, ◌==◌, arith, List, [], ◌∷◌, ◌++◌, refl, Bool, true, false, cond, nat_lt, not, Option, Some, None}
+use Rattle.std.proofs.lemmas.Bool.{cases_Bool}
 use Rattle.std.specs.BTreeMap.{insert_entry}
 use Rattle.std.specs.BTreeSet.{insert_key}
 use Rattle.std.specs.Map.{lookup}
@@ -27,7 +26,6 @@ use Rattle.pulsar_client.specs.declared.act.Alarm.{Alarm}
 use Rattle.pulsar_client.specs.declared.act.Alarm.TheVariants.{Retry, Wake, KeepAlive, CheckIdle}
 use Rattle.pulsar_client.specs.declared.act.LinkAct.{LinkAct}
 use Rattle.pulsar_client.specs.declared.act.LinkAct.TheVariants.{Opens, Reads, Drains, Pings, Ends}
-use Rattle.pulsar_client.specs.declared.act.Notice.{Notice}
 use Rattle.pulsar_client.specs.declared.act.Outcome.{Outcome}
 use Rattle.pulsar_client.specs.declared.act.Outcome.TheVariants as outcome
 use Rattle.pulsar_client.specs.declared.act.Part.TheVariants.{ToLink, Rings}
@@ -46,15 +44,15 @@ use Rattle.pulsar_client.specs.declared.plans.plan.Turn.TheVariants.{Stays, Give
 use Rattle.pulsar_client.specs.declared.producers.Topic.{Topic}
 use Rattle.pulsar_client.specs.Alarms.{alarm_cmp, clear, is_same_alarm, moment_of, rings, set}
 use Rattle.pulsar_client.specs.Content.{Heard, Bytes}
-use Rattle.pulsar_client.specs.Laws.{Acts, AttemptEnds, BecomesReady, Cause, DrawsNone, Finds, GetsTurn, GrantsSo, IsReplied, IsUnknown, IsWoken, LineEnds, MovesUp, RequestEnds, base_of, counted, start_of, started}
+use Rattle.pulsar_client.specs.Laws.{Acts, AttemptEnds, BecomesReady, Cause, DrawsNone, Finds, GetsTurn, GrantsSo, IsReplied, IsUnknown, IsWoken, LineEnds, MovesUp, RequestEnds, counted, start_of, started}
 use Rattle.pulsar_client.specs.Links.{Change, Remains, Becomes, IsOver}
 use Rattle.pulsar_client.specs.Plan.{begins, gathers, told}
 use Rattle.pulsar_client.specs.Producers.{turn_passed}
 use Rattle.pulsar_client.specs.ProducerLaws.{acts_on, topic_acts}
 use Rattle.pulsar_client.specs.Rules.{notice}
 use Rattle.pulsar_client.specs.Run.{Entry, Begins, Then, IsRun, view}
-use Rattle.pulsar_client.specs.View.{Addresses, Base, Chosen, Options, Seat, Turned, View, after, alarms_after, alarms_built, alarms_on, alarms_over, alarms_rung, alarms_turned, askers_left, asker_at, base_after, base_on, base_turned, begun_live, got_at, is_live, link_got, live_after, live_begun, nobody, seat_asked, seat_fed, seat_got, stays, stays_some, told_some, took, took_end, took_some, turned, waits_for, waits_on}
-use Rattle.pulsar_client.specs.Who.{is_same, rank}
+use Rattle.pulsar_client.specs.View.{Addresses, Base, Chosen, Options, Seat, Turned, View, after, alarms_after, alarms_on, alarms_over, alarms_rung, alarms_turned, asker_at, base_after, base_on, base_turned, begun_live, got_at, is_live, link_got, live_after, live_begun, nobody, seat_asked, seat_fed, seat_got, stays, stays_some, told_some, took_end, took_some, turned, waits_for, waits_on}
+use Rattle.pulsar_client.specs.Who.{is_same}
 use Rattle.pulsar_client.proofs.Acts.{Each, begun_same}
 use Rattle.pulsar_client.proofs.Caused.{outcomes_are_caused_lem}
 use Rattle.pulsar_client.proofs.Fitting.{is_said}
@@ -62,7 +60,7 @@ use Rattle.pulsar_client.proofs.Follow.{same_is}
 use Rattle.pulsar_client.proofs.Gathered.{GatherTold}
 use Rattle.pulsar_client.proofs.Granted.{BeginsSo, IsLedSo, does_from}
 use Rattle.pulsar_client.proofs.Once.{ends_once_lem}
-use Rattle.pulsar_client.proofs.Natures.{Goes, KindOf, StaysSo, begins_goes, is_gathering, told_goes}
+use Rattle.pulsar_client.proofs.Natures.{Goes, StaysSo, begins_goes, is_gathering, told_goes}
 use Rattle.pulsar_client.proofs.Ringing.{is_this}
 use Rattle.pulsar_client.proofs.Sources.{in_append, in_each, in_one, step_some}
 use Rattle.pulsar_client.proofs.Spots.{same_self}
@@ -136,7 +134,8 @@ stays_gathers (Stays p a) k = k.0
 stays_gathers (Gives verdict) k = tt
 
 told_gathers : (p : Plan) (u : Outcome) → is_gathering p ≡ true → GathersAt (stays (told p u))
-told_gathers (Gathering first count left failures) u h = stays_gathers (told (Gathering first count left failures) u) (told_goes (Gathering first count left failures) u)
+told_gathers (Gathering first count left failures) u h =
+    stays_gathers (told (Gathering first count left failures) u) (told_goes (Gathering first count left failures) u)
 told_gathers _ u h = absurd cc
 
 module _ (o : Options) (t first count : ℕ) where
@@ -181,7 +180,8 @@ module _ (o : Options) (t first count : ℕ) where
     where
       begun : BeginsSo o log (Call t) a → a ≡ Rest
       begun b =
-          let only : OnlyStarts t (procedure.Gather first count) (Then (Starts (Call t) b.procedure) ∷ b.older) = subst (OnlyStarts t (procedure.Gather first count)) b.is_there k in
+          let only : OnlyStarts t (procedure.Gather first count) (Then (Starts (Call t) b.procedure) ∷ b.older) =
+              subst (OnlyStarts t (procedure.Gather first count)) b.is_there k in
           let is : b.procedure ≡ procedure.Gather first count = only.0 (same_self (Call t)) in
           gathers_rest o t first count count [] b.plan a (sym (ap begins is) ∙ b.leads)
 
@@ -318,7 +318,8 @@ begun_free t (Bytes k piece) l row h = either_free t (l == k) (option_map (seat_
 begun_free t _ l row h = h
 
 -- alarms
-set_absent : (t : ℕ) (a : Alarm) (moment : ℕ) (es : List (Alarm × ℕ)) → is_same_alarm (Wake (Call t)) a ≡ false → Each (NotWake t) es → Each (NotWake t) (set a moment es)
+set_absent : (t : ℕ) (a : Alarm) (moment : ℕ) (es : List (Alarm × ℕ)) → is_same_alarm (Wake (Call t)) a ≡ false → Each (NotWake t) es →
+    Each (NotWake t) (set a moment es)
 set_absent t a moment [] n k = (n, tt)
 set_absent t a moment (e ∷ es) n k = by (alarm_cmp a e.0) (set_absent t a moment es n k.1)
   where
@@ -341,7 +342,8 @@ other_wake t who other = elim (cases_Bool (is_same_alarm (Wake (Call t)) (Wake w
   | inr e ↦ e
 ]
 
-over_absent : (t : ℕ) (o : Chosen) (now l : ℕ) (pause : Option Pause) (es : List (Alarm × ℕ)) → Each (NotWake t) es → Each (NotWake t) (alarms_over o now l pause es)
+over_absent : (t : ℕ) (o : Chosen) (now l : ℕ) (pause : Option Pause) (es : List (Alarm × ℕ)) → Each (NotWake t) es →
+    Each (NotWake t) (alarms_over o now l pause es)
 over_absent t o now l None es k = k
 over_absent t o now l (Some p) es k = set_absent t (Retry l) _ es refl k
 
@@ -432,7 +434,8 @@ waits_took t s [] h = absurd h
 waits_took t s (a ∷ acts) h = elim (one_waits t a (topic.seen s acts) h) [ inl i ↦ inr (waits_took t s acts i) | inr e ↦ inl (sym e) ]
 
 none_took : (t : ℕ) (v : View) (n : ℕ) (a : Act) → takes_it a ≡ false → passes_it a ≡ false → In (Takes t) (topic_acts v n a) → ⊥
-none_took t v n a x y i = let f : LeavesTurn (Takes t) = in_each LeavesTurn (Takes t) (topic_acts v n a) i (acts_left v n a x y) in let g : false ≡ true = f in cc
+none_took t v n a x y i =
+    let f : LeavesTurn (Takes t) = in_each LeavesTurn (Takes t) (topic_acts v n a) i (acts_left v n a x y) in let g : false ≡ true = f in cc
 
 act_took : (t : ℕ) (v : View) (n : ℕ) (a : Act) → MuteBy t a → In (Takes t) (topic_acts v n a) → ⊥
 act_took t v n (Does (Call u) (TakeTurn m)) mute i =
@@ -450,10 +453,12 @@ acts_took o t n (Begins e ∷ log) mute i = acts_took o t n log mute i
 acts_took o t n (Then a ∷ log) mute i = by (is_some ((view o log).producers.topics n)) (acts_took o t n log mute.1) i
   where
     by : (b : Bool) → (In (Takes t) (acts_on o n log) → ⊥) → In (Takes t) (cond b (topic_acts (view o log) n a ++ acts_on o n log) []) → ⊥
-    by true more j = elim (in_append (Takes t) (topic_acts (view o log) n a) (acts_on o n log) j) [ inl h ↦ act_took t (view o log) n a mute.0 h | inr h ↦ more h ]
+    by true more j = elim (in_append (Takes t) (topic_acts (view o log) n a) (acts_on o n log) j)
+        [ inl h ↦ act_took t (view o log) n a mute.0 h | inr h ↦ more h ]
     by false more j = j
 
-no_turn : (o : Options) (t n : ℕ) (log : List Entry) (row : Topic) → IsRun o log → Mute t log → (view o log).producers.topics n ≡ Some row → In t row.seen.waiting → ⊥
+no_turn : (o : Options) (t n : ℕ) (log : List Entry) (row : Topic) → IsRun o log → Mute t log → (view o log).producers.topics n ≡ Some row →
+    In t row.seen.waiting → ⊥
 no_turn o t n log row run mute is i =
     let k = topics_alone_lem o log n row run is in
     let s : Setup = record { built = k.0; first_number = o.chosen.first_number } in

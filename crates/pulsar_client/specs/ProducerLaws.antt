@@ -208,12 +208,13 @@ PassedInTurn = (o : Options) (log : List Entry) (t n : ℕ) → IsRun o (Then (D
     × ((next : ℕ) (left : List ℕ) → row.seen.waiting ≡ next ∷ left → AreAbove next left
     × In (notice (Call next) (outcome.Granted (news.HasTurn row.seen.given.version))) (joins (view o log) (Does (Call t) (PassTurn n))))
 
--- One that is told that its turn has come has it, if it waits for it still; and it keeps it until its frame is queued.
+-- One that is told that its turn has come has it, if it waits for it still.
 abbrev pub ToldInTurn : Type 0
 ToldInTurn = (o : Options) (log : List Entry) (t n : ℕ) (version : Option (List ℕ)) (p : Plan) →
     IsRun o (Then (Told (notice (Call t) (outcome.Granted (news.HasTurn version)))) ∷ log) → (view o log).stand (Call t) ≡ Some p → turn_of p ≡ Some n →
     HasTurn (view o log) t n
 
+-- A send has its turn until it is told that its frame is queued: so the frames of a topic producer are queued in the order of the turns.
 abbrev pub QueuedInTurn : Type 0
 QueuedInTurn = (o : Options) (log : List Entry) (t : ℕ) (w : Ways) (e : Errand) (share : Option Share) (m : Option ProducerMessageValues) →
     IsRun o log → (view o log).stand (Call t) ≡ Some (plan.Sending w e share (send.Asked m)) → HasTurn (view o log) t e.producer

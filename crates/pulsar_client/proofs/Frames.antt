@@ -251,6 +251,54 @@ draw_by : (v : View) (action : Action) (d : Drawn) → GivenBy v action (news.Dr
 draw_by v (Draw n) d h = (n, refl, h.0, h.1, h.2)
 draw_by v _ d h = absurd h
 
+-- the draw before it
+record WasDrawn (o : Options) (older : List Entry) (t n : ℕ) (d : Drawn) : Type 0 where
+  behind : List Entry
+  there : older ≡ Then (Does (Call t) (Draw n)) ∷ behind
+  room : Bool
+  ready : room_of (view o behind) n ≡ Some room
+  row : IsDrawn room ((view o behind).producers.topics n) d
+
+was_drawn : (o : Options) (older : List Entry) (t : ℕ) (w : Ways) (e : Errand) (share : Option Share) (given : ProducerMessageValues) (d : Drawn) →
+    IsRun o (Then (Told (notice (Call t) (outcome.Granted (news.Drew d)))) ∷ older) → started (Call t) older ≡ Some (procedure.Send w e share given) →
+    WasDrawn o older t e.producer d
+was_drawn o older t w e share given d run h =
+    let note : Notice = notice (Call t) (outcome.Granted (news.Drew d)) in
+    let g : IsGrantedBy o older note = granted_by o older note refl run in
+    let b = draw_by (view o g.older) g.action d (grants_given o older note g (news.Drew d) refl) in
+    from g.older b.0 b.2 (g.is_there ∙ ap (λ (x : Action). Then (Does (Call t) x) ∷ g.older) b.1) b.3 b.4
+  where
+    from : (behind : List Entry) (n : ℕ) (room : Bool) → older ≡ Then (Does (Call t) (Draw n)) ∷ behind → room_of (view o behind) n ≡ Some room →
+        drawn room ((view o behind).producers.topics n) ≡ Some d → WasDrawn o older t e.producer d
+    from behind n room there ready q =
+        let run2 : IsRun o (Then (Does (Call t) (Draw n)) ∷ behind) = subst (IsRun o) there run.0 in
+        let h2 : started (Call t) behind ≡ Some (procedure.Send w e share given) = ap (started (Call t)) (sym there) ∙ h in
+        let num : n ≡ e.producer = (send_led o behind t w e share given (Draw n) run2 refl h2).asks in
+        record {
+          behind = behind;
+          there = there ∙ ap (λ m. Then (Does (Call t) (Draw m)) ∷ behind) num;
+          room = room;
+          ready = ap (room_of (view o behind)) (sym num) ∙ ready;
+          row = subst (λ m. IsDrawn room ((view o behind).producers.topics m) d) num (is_drawn room ((view o behind).producers.topics n) d q);
+        }
+
+-- what is seen behind it
+draw_now : (o : Options) (behind : List Entry) (t n : ℕ) (room : Bool) (x : Topic) → room_of (view o behind) n ≡ Some room →
+    (view o behind).producers.topics n ≡ Some x → (view o (Then (Does (Call t) (Draw n)) ∷ behind)).producers.topics n ≡ Some (topic_after Draws x)
+draw_now o behind t n room x ready h =
+    ap (λ r. (draws_on r n (view o behind).producers).topics n) ready ∙ changed_at Draws (view o behind).producers n x h
+
+topic_now : (o : Options) (log older behind : List Entry) (t n : ℕ) (note : Notice) (x : Topic) → log ≡ Then (Told note) ∷ older →
+    older ≡ Then (Does (Call t) (Draw n)) ∷ behind →
+    (view o (Then (Does (Call t) (Draw n)) ∷ behind)).producers.topics n ≡ Some (topic_after Draws x) →
+    (view o log).producers.topics n ≡ Some (topic_after Draws x)
+topic_now o log older behind t n note x p q h = ap (λ y. (view o y).producers.topics n) p ∙ ap (λ y. (view o y).producers.topics n) q ∙ h
+
+stand_now : (o : Options) (log older : List Entry) (t : ℕ) (u : Outcome) (before plan q : Plan) (a : Action) →
+    log ≡ Then (Told (notice (Call t) u)) ∷ older → (view o older).stand (Call t) ≡ Some before → told before u ≡ Stays plan a → plan ≡ q →
+    (view o log).stand (Call t) ≡ Some q
+stand_now o log older t u before plan q a p s h e = ap (λ y. (view o y).stand (Call t)) p ∙ stand_told o older t u before plan a s h ∙ ap Some e
+
 -- THE LAW
 
 module _ (o : Options) (log : List Entry) (t l n s : ℕ) (name : List ℕ) (m : ProducerMessageValues) (block : Bool) (w : Ways) (e : Errand)
@@ -287,25 +335,14 @@ module _ (o : Options) (log : List Entry) (t l n s : ℕ) (name : List ℕ) (m :
   framed k =
       let led = k.led in
       let a = k.asks in
-      let d : Drawn = a.0 in
-      let run1 : IsRun o (Then (Told (notice (Call t) led.outcome)) ∷ led.older) = subst (IsRun o) led.is_there run.0 in
       let note : Notice = notice (Call t) led.outcome in
-      let g : IsGrantedBy o led.older note = granted_by o led.older note (ap is_grant a.1) run1 in
-      let b = draw_by (view o g.older) g.action d (grants_given o led.older note g (news.Drew d) a.1) in
-      let there : led.older ≡ Then (Does (Call t) (Draw b.0)) ∷ g.older = g.is_there ∙ ap (λ (x : Action). Then (Does (Call t) x) ∷ g.older) b.1 in
-      let run2 : IsRun o (Then (Does (Call t) (Draw b.0)) ∷ g.older) = subst (IsRun o) there run1.0 in
-      let h2 : started (Call t) g.older ≡ Some (procedure.Send w e share given) =
-      ap (started (Call t)) (sym there) ∙ ap (started (Call t)) (sym led.is_there) ∙ h in
-      let num : b.0 ≡ e.producer = (send_led o g.older t w e share given (Draw b.0) run2 refl h2).asks in
-      let x : IsDrawn b.2 ((view o g.older).producers.topics b.0) d = is_drawn b.2 ((view o g.older).producers.topics b.0) d b.4 in
-      let ps : Producers = (view o g.older).producers in
-      let now : (view o log).producers.topics b.0 ≡ Some (topic_after Draws x.topic) =
-      ap (λ y. (view o y).producers.topics b.0) led.is_there
-      ∙ ap (λ y. (view o y).producers.topics b.0) there
-      ∙ ap (λ r. (draws_on r b.0 ps).topics b.0) b.3
-      ∙ changed_at Draws ps b.0 x.topic x.is_it in
+      let run1 : IsRun o (Then (Told note) ∷ led.older) = subst (IsRun o) led.is_there run.0 in
+      let run2 : IsRun o (Then (Told (notice (Call t) (outcome.Granted (news.Drew a.0)))) ∷ led.older) =
+      subst (λ u. IsRun o (Then (Told (notice (Call t) u)) ∷ led.older)) a.1 run1 in
+      let h1 : started (Call t) led.older ≡ Some (procedure.Send w e share given) = ap (started (Call t)) (sym led.is_there) ∙ h in
+      let x : WasDrawn o led.older t e.producer a.0 = was_drawn o led.older t w e share given a.0 run2 h1 in
       let stood : (view o log).stand (Call t) ≡ Some (Sending a.8 e a.9 (send.Asked a.10)) =
-      ap (λ y. (view o y).stand (Call t)) led.is_there ∙ stand_told o led.older t led.outcome led.before led.plan sent led.stood led.leads ∙ ap Some a.11 in
+      stand_now o log led.older t led.outcome led.before led.plan (Sending a.8 e a.9 (send.Asked a.10)) sent led.is_there led.stood led.leads a.11 in
       record {
         version = a.7.0;
         message = a.7.1;
@@ -313,17 +350,19 @@ module _ (o : Options) (log : List Entry) (t l n s : ℕ) (name : List ℕ) (m :
         producer = a.3;
         blocks = a.6;
         has = queued_in_turn_lem o log t a.8 e a.9 a.10 run.0 stood;
-        before = x.topic;
-        after = ap (view o log).producers.topics (sym num) ∙ now;
-        left = x.left;
-        number = a.5 ∙ x.number;
-        link = a.2 ∙ x.link;
-        called = a.4 ∙ x.name;
+        before = x.row.topic;
+        after =
+            topic_now o log led.older x.behind t e.producer note x.row.topic led.is_there x.there
+            (draw_now o x.behind t e.producer x.room x.row.topic x.ready x.row.is_it);
+        left = x.row.left;
+        number = a.5 ∙ x.row.number;
+        link = a.2 ∙ x.row.link;
+        called = a.4 ∙ x.row.name;
         told = note;
-        drawn = b.0;
-        behind = g.older;
-        there = led.is_there ∙ ap (λ y. Then (Told note) ∷ y) there;
-        was = ap ps.topics (sym num) ∙ x.is_it;
+        drawn = e.producer;
+        behind = x.behind;
+        there = led.is_there ∙ ap (λ y. Then (Told note) ∷ y) x.there;
+        was = x.row.is_it;
       }
 
   drawn_row : (k : IsFramed) → k.has.0 ≡ topic_after Draws k.before

@@ -82,3 +82,5 @@ pub mod Parted
 pub mod Queued
 pub mod Sharing
 pub mod Telling
+pub mod Gathering
+pub mod Idlers

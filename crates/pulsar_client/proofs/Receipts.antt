@@ -420,34 +420,95 @@ replied_for o older t l seat ps m place h c i w =
     let s = settled_one (AskedFor older l) seat.askers m place seat.seen.waits.waiting k.waiting (subst (In place) these i) in
     (s.awaits, s.answered, s.known_of (Call t) w)
 
+-- the message whose receipt this is
+record IsSentFor (log : List Entry) (t l : ℕ) (k : Option RequestKey) : Type 0 where
+  producer : ℕ
+  sequence : ℕ
+  name : List ℕ
+  message : ProducerMessageValues
+  block : Bool
+  listed : In (Then (Does (Call t) (Ask l (words.Send producer name sequence message block)))) log
+  bears : k ≡ Some (keys.ProducerSend producer sequence)
+
+sent_for : (older : List Entry) (t l : ℕ) (m : MessageValues) (b : BodyValues) (a : Awaited) (request : Words) (id : ℕ) (c : Claim) →
+    m.command.body ≡ Some b → b.number ≡ 7 → answers m a ≡ true → claim id request ≡ Some c → c.awaits ≡ a →
+    In (Then (Does (Call t) (Ask l request))) older → IsSentFor older t l (key m)
+sent_for older t l m b a request id c e n answered is awaits i =
+    let q = receipt_of m b a e n answered in
+    let x = claimed_send request id c q.producer q.sequence is (awaits ∙ q.is_it) in
+    record {
+      producer = q.producer;
+      sequence = q.sequence;
+      name = x.name;
+      message = x.message;
+      block = x.block;
+      listed = subst (λ (y : Words). In (Then (Does (Call t) (Ask l y))) older) x.is_it i;
+      bears = q.bears;
+    }
+
+replied_send : (o : Options) (older : List Entry) (t l : ℕ) (seat : Seat) (ps : List ℕ) (m : MessageValues) (place : ℕ) (b : BodyValues) →
+    (view o older).links.live l ≡ Some seat → came seat.seen ≡ Settles ps m → In place ps → seat.askers place ≡ Some (Call t) → m.command.body ≡ Some b →
+    b.number ≡ 7 → IsSentFor older t l (key m)
+replied_send o older t l seat ps m place b live c i w e n =
+    let f = replied_for o older t l seat ps m place live c i w in
+    sent_for older t l m b f.0 f.2.0 f.2.1 f.2.2 e n f.1 f.2.3 f.2.4 f.2.5
+
+receipt_for : (o : Options) (older : List Entry) (t : ℕ) (r : Reply) (e : Entry) → Cause o (Call t) (outcome.Replied r) e older →
+    is_body 7 r.content.body ≡ true →
+    (l : ℕ) × IsSentFor older t l r.content.key
+receipt_for o older t r e c body = by c.0 c.1 c.2 c.3 c.4 c.6 c.7 c.8 c.9 c.10
+  where
+    by : (l : ℕ) (seat : Seat) (ps : List ℕ) (m : MessageValues) (place : ℕ) → (view o older).links.live l ≡ Some seat → came seat.seen ≡ Settles ps m →
+        In place ps → seat.askers place ≡ Some (Call t) → r ≡ read m → (l : ℕ) × IsSentFor older t l r.content.key
+    by l seat ps m place live settles i w is =
+        let b = body_seven m m.command.body refl (subst (λ y. is_body 7 y.content.body ≡ true) is body) in
+        let k : r.content.key ≡ key m = ap (λ y. y.content.key) is ∙ key_of_read m m.command.body refl in
+        (l, subst (IsSentFor older t l) (sym k) (replied_send o older t l seat ps m place b.0 live settles i w b.1 b.2))
+
+-- a message that a send asked for is of its errand
+sent_own : (o : Options) (log : List Entry) (t l n s : ℕ) (name : List ℕ) (message : ProducerMessageValues) (block : Bool) (w : Ways) (e : Errand)
+    (share : Option Share) (m : ProducerMessageValues) → IsRun o log → In (Then (Does (Call t) (Ask l (words.Send n name s message block)))) log →
+    started (Call t) log ≡ Some (procedure.Send w e share m) → (n ≡ e.producer) × (block ≡ e.block)
+sent_own o log t l n s name message block w e share m run i h = by k.newer k.older k.is_it
+  where
+    k : Split (Then (Does (Call t) (Ask l (words.Send n name s message block)))) log
+    k = split_in (Then (Does (Call t) (Ask l (words.Send n name s message block)))) log i
+
+    by : (newer older : List Entry) → log ≡ newer ++ Then (Does (Call t) (Ask l (words.Send n name s message block))) ∷ older →
+        (n ≡ e.producer) × (block ≡ e.block)
+    by newer older there =
+        let x : Entry = Then (Does (Call t) (Ask l (words.Send n name s message block))) in
+        let run2 : IsRun o (newer ++ x ∷ older) = subst (IsRun o) there run in
+        let run3 : IsRun o (x ∷ older) = run_behind o newer (x ∷ older) run2 in
+        let once : counted (start_of t) (newer ++ x ∷ older) ≤ 1 = (ends_once_lem o (newer ++ x ∷ older) t run2).0 in
+        let begun : 1 ≤ counted (start_of t) older = acts_begun o older t (Ask l (words.Send n name s message block)) run3 in
+        let more : 1 ≤ counted (start_of t) older + 0 = omega (arith, begun) in
+        let same : started (Call t) older ≡ Some (procedure.Send w e share m) =
+        sym (started_behind t (procedure.Send w e share m) newer (x ∷ older) more once) ∙ ap (started (Call t)) (sym there) ∙ h in
+        let f = frames_are_of_their_sends_lem o older t l n s name message block w e share m run3 same in
+        (f.3, f.4)
+
 pub receipts_are_own_lem : ReceiptsAreOwn
-receipts_are_own_lem o log t r w e share m run h body =
-    let step = in_step (Cause o (Call t) (outcome.Replied r)) log (outcomes_are_caused_lem o log (Call t) (outcome.Replied r) run) in
-    let c = step.2 in
-    let of = replied_for o step.1 t c.0 c.1 c.2 c.3 c.4 c.6 c.7 c.8 c.9 in
-    let x : MessageValues = c.3 in
-    let read_it : r ≡ read x = c.10 in
-    let b = body_seven x x.command.body refl (subst (λ y. is_body 7 y.content.body ≡ true) read_it body) in
-    let q = receipt_of x b.0 of.0 b.1 b.2 of.1 in
-    let asked = of.2 in
-    let send = claimed_send asked.0 asked.1 asked.2 q.producer q.sequence asked.3 (asked.4 ∙ q.is_it) in
-    let l : ℕ = c.0 in
-    let it : Entry = Then (Does (Call t) (Ask l (words.Send q.producer send.name q.sequence send.message send.block))) in
-    let i : In it log = step.3 it (subst (λ (y : Words). In (Then (Does (Call t) (Ask l y))) step.1) send.is_it asked.5) in
-    let s = split_in it log i in
-    let run2 : IsRun o (s.newer ++ it ∷ s.older) = subst (IsRun o) s.is_it run.0 in
-    let run3 : IsRun o (it ∷ s.older) = run_behind o s.newer (it ∷ s.older) run2 in
-    let once : counted (start_of t) (s.newer ++ it ∷ s.older) ≤ 1 = (ends_once_lem o (s.newer ++ it ∷ s.older) t run2).0 in
-    let begun : 1 ≤ counted (start_of t) s.older = acts_begun o s.older t (Ask l (words.Send q.producer send.name q.sequence send.message send.block)) run3 in
-    let begun' : 1 ≤ counted (start_of t) (it ∷ s.older) = (let g : 1 ≤ counted (start_of t) s.older + 0 = omega (arith, begun) in g) in
-    let same : started (Call t) s.older ≡ Some (procedure.Send w e share m) =
-    sym (started_behind t (procedure.Send w e share m) s.newer (it ∷ s.older) begun' once) ∙ ap (started (Call t)) (sym s.is_it) ∙ h in
-    let f = frames_are_of_their_sends_lem o s.older t l q.producer q.sequence send.name send.message send.block w e share m run3 same in (
-      l,
-      q.sequence,
-      send.name,
-      send.message,
-      subst (λ n. In (Then (Does (Call t) (Ask l (words.Send n send.name q.sequence send.message e.block)))) log) f.3
-          (subst (λ y. In (Then (Does (Call t) (Ask l (words.Send q.producer send.name q.sequence send.message y)))) log) f.4 i),
-      ap (λ y. y.content.key) read_it ∙ key_of_read x x.command.body refl ∙ q.bears ∙ ap (λ n. Some (keys.ProducerSend n q.sequence)) f.3,
-    )
+receipts_are_own_lem o log t r w e share m run h body = by step.1 step.3 (receipt_for o step.1 t r step.0 step.2 body)
+  where
+    step : (x : Entry) × (older : List Entry) × Cause o (Call t) (outcome.Replied r) x older × ((y : Entry) → In y older → In y log)
+    step = in_step (Cause o (Call t) (outcome.Replied r)) log (outcomes_are_caused_lem o log (Call t) (outcome.Replied r) run)
+
+    by : (older : List Entry) → ((y : Entry) → In y older → In y log) → (l : ℕ) × IsSentFor older t l r.content.key → (l s : ℕ) × (name : List ℕ)
+        × (sent : ProducerMessageValues) × In (Then (Does (Call t) (Ask l (words.Send e.producer name s sent e.block)))) log
+        × (r.content.key ≡ Some (keys.ProducerSend e.producer s))
+    by older more k =
+        let l : ℕ = k.0 in
+        let x = k.1 in
+        let i : In (Then (Does (Call t) (Ask l (words.Send x.producer x.name x.sequence x.message x.block)))) log =
+        more (Then (Does (Call t) (Ask l (words.Send x.producer x.name x.sequence x.message x.block)))) x.listed in
+        let own = sent_own o log t l x.producer x.sequence x.name x.message x.block w e share m run.0 i h in
+        let j : In (Then (Does (Call t) (Ask l (words.Send x.producer x.name x.sequence x.message e.block)))) log =
+        subst (λ y. In (Then (Does (Call t) (Ask l (words.Send x.producer x.name x.sequence x.message y)))) log) own.1 i in (
+          l,
+          x.sequence,
+          x.name,
+          x.message,
+          subst (λ n. In (Then (Does (Call t) (Ask l (words.Send n x.name x.sequence x.message e.block)))) log) own.0 j,
+          x.bears ∙ ap (λ n. Some (keys.ProducerSend n x.sequence)) own.0,
+        )

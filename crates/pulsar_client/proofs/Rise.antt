@@ -80,21 +80,36 @@ behind_two x y z [] older behind a b c h = let e : x ≡ y = cc in let f : true 
 behind_two x y z (u ∷ []) older behind a b c h = let e : x ≡ z = cc in let f : true ≡ false = sym a ∙ ap is_ask e ∙ c in absurd cc
 behind_two x y z (u ∷ w ∷ newer) older behind a b c h = record { newer = newer; is_it = (let e : newer ++ x ∷ older ≡ behind = cc in sym e) }
 
+-- the row that stood before the draw is the later one
+row_now : (o : Options) (there behind : List Entry) (n producer : ℕ) (now before : Topic) → behind ≡ there → n ≡ producer →
+    (view o there).producers.topics n ≡ Some now → (view o behind).producers.topics producer ≡ Some before → now ≡ before
+row_now o there behind n producer now before same named is was =
+    let x : (view o behind).producers.topics n ≡ Some now = subst (λ y. (view o y).producers.topics n ≡ Some now) (sym same) is in
+    let y : (view o behind).producers.topics n ≡ Some before = subst (λ m. (view o behind).producers.topics m ≡ Some before) (sym named) was in
+    let z : Some now ≡ Some before = sym x ∙ y in
+    cc
+
+rises : (one now before : Topic) (r s : ℕ) → now ≡ before → one.seen.next ≡ r + 1 → s ≡ before.seen.next → one.seen.next ≤ now.seen.next → r < s
+rises one now before r s same first number more =
+    let next : now.seen.next ≡ s = ap (λ y. y.seen.next) same ∙ sym number in
+    omega (arith, next, first, more)
+
+-- a send whose frame stands before the draw of another has a smaller number
+rise_from : (o : Options) (x : Entry) (older behind : List Entry) (n producer : ℕ) (one before : Topic) (r s : ℕ) → IsRun o behind →
+    Behind x older behind → (view o (x ∷ older)).producers.topics n ≡ Some one → one.seen.next ≡ r + 1 → n ≡ producer →
+    (view o behind).producers.topics producer ≡ Some before → s ≡ before.seen.next → r < s
+rise_from o x older behind n producer one before r s run b is first named was number =
+    let z : IsLater o (b.newer ++ x ∷ older) n one = later o b.newer (x ∷ older) n one (subst (IsRun o) b.is_it run) is in
+    rises one z.now before r s (row_now o (b.newer ++ x ∷ older) behind n producer z.now before b.is_it named z.is_it was) first number z.more
+
 pub numbers_of_frames_rise_lem : NumbersOfFramesRise
 numbers_of_frames_rise_lem o newer older t u l k n s r name alias m other block waits w v e f share part given told run h g =
     let x : Entry = Then (Does (Call u) (Ask k (words.Send n alias r other waits))) in
     let log : List Entry = newer ++ x ∷ older in
     let run2 : IsRun o (x ∷ older) = run_behind o newer (x ∷ older) run.0 in
     let first = frames_are_of_their_sends_lem o older u k n r alias other waits v f part told run2 g in
-    let a = framed o log t l n s name m block w e share given run h (it o log t l n s name m block w e share given run h) in
+    let a : IsFramed o log t l n s name m block w e share given run h =
+    framed o log t l n s name m block w e share given run h (it o log t l n s name m block w e share given run h) in
     let b = behind_two x (Then (Told a.told)) (Then (Does (Call t) (Draw a.drawn))) newer older a.behind refl refl refl a.there in
     let run3 : IsRun o (Then (Told a.told) ∷ Then (Does (Call t) (Draw a.drawn)) ∷ a.behind) = subst (IsRun o) a.there run.0 in
-    let run4 : IsRun o (b.newer ++ x ∷ older) = subst (IsRun o) b.is_it run3.0.0 in
-    let z = later o b.newer (x ∷ older) n first.0 run4 first.2 in
-    let now : Some z.now ≡ Some a.before =
-    sym z.is_it ∙ ap (λ y. (view o y).producers.topics n) (sym b.is_it) ∙ ap (view o a.behind).producers.topics a.producer ∙ a.was in
-    let same : z.now ≡ a.before = cc in
-    let next : z.now.seen.next ≡ s = ap (λ y. y.seen.next) same ∙ sym a.number in
-    let one : first.0.seen.next ≡ r + 1 = first.8 in
-    let more : first.0.seen.next ≤ z.now.seen.next = z.more in
-    omega (arith, next, one, more)
+    rise_from o x older a.behind n e.producer first.0 a.before r s run3.0.0 b first.2 first.8 a.producer a.was a.number

@@ -219,7 +219,7 @@ module _ (o : Options) (log : List Entry) (n : Notice) (run : IsRun o (Then (Tol
   at_after : (t m : ℕ) → turn_note t n ≡ 0 → IsAt m ((view o log).stand (Call t)) → IsAt m (after_told t)
   at_after t m z h = elim (cases_Bool (is_same (Call t) n.who)) [
     | inl e ↦ elim (cases_Bool (is_turn_told n.outcome)) [
-      | inl f ↦ (let o : turn_note t n ≡ 1 = note_one t e f in let no : 1 ≡ 0 = sym o ∙ z in absurd cc)
+      | inl f ↦ (let o : turn_note t n ≡ 1 = note_one t e f in let no : ◌≡◌ {A = ℕ} 1 0 = sym o ∙ z in absurd cc)
       | inr f ↦ at_told t m ((view o log).stand (Call t)) e refl f h
     ]
     | inr e ↦ subst (IsAt m) (sym (other_stands t e)) h

@@ -16,7 +16,7 @@ use Rattle.pulsar_messages.specs.Content.{ProducerMessageValues}
 use Rattle.pulsar_messages.specs.Messages.{metadata_of}
 use Rattle.pulsar_messages.specs.Words as words
 use Rattle.pulsar_messages.specs.Words.{Words}
-use Rattle.pulsar_session.specs.Failures.{Failure}
+use Rattle.pulsar_session.specs.Failures.{Failure, OfConnection, Shutdown}
 use Rattle.pulsar_session.specs.declared.states.Asked.TheVariants as placed
 use Rattle.pulsar_session.specs.Link as session
 use Rattle.pulsar_session.specs.Link.{Asks, frame_at, frame_for, message_of, ticked}
@@ -46,7 +46,7 @@ use Rattle.pulsar_client.specs.declared.plans.plan.At.TheVariants as at
 use Rattle.pulsar_client.specs.declared.plans.plan.Plan.{Plan}
 use Rattle.pulsar_client.specs.declared.plans.plan.Plan.TheVariants as plan
 use Rattle.pulsar_client.specs.declared.producers.Topic.{Topic}
-use Rattle.pulsar_client.specs.Content.{Said}
+use Rattle.pulsar_client.specs.Content.{Said, Failed}
 use Rattle.pulsar_client.specs.Links as links
 use Rattle.pulsar_client.specs.Parts.{sent_from}
 use Rattle.pulsar_client.specs.Producers.{number_drawn, numbers_at}
@@ -208,21 +208,25 @@ PassedInTurn = (o : Options) (log : List Entry) (t n : ℕ) → IsRun o (Then (D
     × ((next : ℕ) (left : List ℕ) → row.seen.waiting ≡ next ∷ left → AreAbove next left
     × In (notice (Call next) (outcome.Granted (news.HasTurn row.seen.given.version))) (joins (view o log) (Does (Call t) (PassTurn n))))
 
--- One that is told that its turn has come has it, if it waits for it still; and it keeps it until its frame is queued.
+-- One that is told that its turn has come has it, if it waits for it still.
 abbrev pub ToldInTurn : Type 0
 ToldInTurn = (o : Options) (log : List Entry) (t n : ℕ) (version : Option (List ℕ)) (p : Plan) →
     IsRun o (Then (Told (notice (Call t) (outcome.Granted (news.HasTurn version)))) ∷ log) → (view o log).stand (Call t) ≡ Some p → turn_of p ≡ Some n →
     HasTurn (view o log) t n
 
+-- A send has its turn until it is told that its frame is queued: so the frames of a topic producer are queued in the order of the turns.
 abbrev pub QueuedInTurn : Type 0
 QueuedInTurn = (o : Options) (log : List Entry) (t : ℕ) (w : Ways) (e : Errand) (share : Option Share) (m : Option ProducerMessageValues) →
     IsRun o log → (view o log).stand (Call t) ≡ Some (plan.Sending w e share (send.Asked m)) → HasTurn (view o log) t e.producer
 
--- A call with parts ends once each of them was queued, or failed before, with what became of each.
+-- A call with parts ends once each of them was queued, or failed before, with what became of each: none of them failed, or just these did. Where the
+-- client is stopped before, it fails so.
 abbrev pub PartsAreGathered : Type 0
 PartsAreGathered = (o : Options) (log : List Entry) (t first count : ℕ) (said : Said) →
     IsRun o log → Rests o log → started (Call t) log ≡ Some (procedure.Gather first count) →
-    In (Answered (record { makes = makes.Nothing; said = said })) (deeds (Call t) log) → In outcome.Stopped (outcomes (Call t) log) ⊎
+    In (Answered (record { makes = makes.Nothing; said = said })) (deeds (Call t) log) →
+    (In outcome.Stopped (outcomes (Call t) log) × (said ≡ Failed (OfConnection Shutdown))) ⊎
     ((failures : List (ℕ × Failure)) × (said ≡ sent_from first count failures)
     × ((u : ℕ) → first ≤ u → u < first + count → (f : Option Failure) × In (outcome.Parted u f) (outcomes (Call t) log)
-    × (lookup (is_at (nat_cmp u)) failures ≡ f)))
+    × (lookup (is_at (nat_cmp u)) failures ≡ f))
+    × ((x : ℕ × Failure) → In x failures → (first ≤ x.0) × (x.0 < first + count) × In (outcome.Parted x.0 (Some x.1)) (outcomes (Call t) log)))

@@ -153,12 +153,14 @@ impl Tables {
         ensures after { OnOk result (view_of self.new ≡ record (view_of self.old) { producers = names_in (named_producer (words_of call)) (view_of self.old).producers }) }
         ensures settings { self.new.settings ≡ self.old.settings }
     {
-        if self.names(call.named_producer())? {
+        let number = call.named_producer();
+        let request = Request::new(self.alloc, call)?;
+        if self.names(number)? {
             return Ok(Procedure::Refuse(Refusal::NumberInUse));
         }
         Ok(Procedure::Ask {
             place: Place::Link(link),
-            request: Request::new(self.alloc, call)?,
+            request,
             says: Says::Bodies,
         })
     }

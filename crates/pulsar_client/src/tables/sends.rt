@@ -168,19 +168,17 @@ impl Tables {
         ensures after { OnOk result (view_of self.new ≡ record (view_of self.old) { producers = all_routed producer (map message_content messages.items) (producers_of self.old.producers) }) }
         ensures settings { self.new.settings ≡ self.old.settings }
     {
-        let mut ticket = of;
+        let mut ticket = following(of)?;
         for message in messages {
-            ticket = following(ticket)?;
-            let procedure = self.sends_as(
-                Some(Share { of, ticket }),
-                producer,
-                message,
-                advice.next(),
-            )?;
+            let said = advice.next();
+            let share = Some(Share { of, ticket });
+            let procedure = self.sends_as(share, producer, message, said)?;
             parts.push_back(Act::Starts {
                 who: Who::Call(ticket),
                 procedure,
             })?;
+            let next = following(ticket)?;
+            ticket = next;
         }
         Ok(())
     }

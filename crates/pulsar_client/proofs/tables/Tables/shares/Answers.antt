@@ -1,10 +1,10 @@
-use Rattle.std.proofs.Common.{◌≡◌, ◌∙◌, ◌+◌, ◌++◌, ◌∷◌, [], ap, append_assoc, arith, drop, length, map, sym, Option, ℕ}
+use Rattle.std.proofs.Common.{◌≡◌, ◌∙◌, ◌+◌, ◌++◌, ◌∷◌, [], ap, append_assoc, arith, drop, length, map, rules, sym}
 use Rattle.std.proofs.lemmas.List.{length_push}
 use Rattle.pulsar_messages.specs.Content.{message_content}
 use Rattle.pulsar_client.specs.declared.act.Act.TheVariants.{Starts}
 use Rattle.pulsar_client.specs.declared.act.Who.TheVariants.{Call}
 use Rattle.pulsar_client.specs.Kept.{producers_of}
-use Rattle.pulsar_client.specs.Producers.{next_advice, routed}
+use Rattle.pulsar_client.specs.Producers.{all_routed, next_advice, routed}
 use Rattle.pulsar_client.specs.Rules.{sends_as, share, shares_of}
 use Rattle.pulsar_client.specs.Tables.{chosen_of, view_of}
 use Rattle.pulsar_client.specs.View.{View}
@@ -21,10 +21,10 @@ loop-message-preserved c =
     let xs = c.loop-message.yielded in
     let x = c.in-Some.message in
     let so_far = c.loop-message.invariant in
-    let n = c.in_ok-following.field-0 in
-    let is : n ≡ of + length xs + 1 = omega (arith, c.in_ok-following.ensures, so_far.ticket) in
-    let ticket : n ≡ of + length (xs ++ x ∷ []) = omega (arith, is, length_push xs x) in
-    let advice = c.next.ensures.index ∙ ap next_advice so_far.advice in
+    let n = c.loop-message.ticket in
+    let is = so_far.ticket in
+    let ticket : c.in_ok-next.field-0 ≡ of + length (xs ++ x ∷ []) + 1 = omega (arith, c.in_ok-next.ensures, is, length_push xs x) in
+    let advice = c.next-said.ensures.index ∙ ap next_advice so_far.advice in
     let procedure =
     c.in_ok-procedure.ensures.procedure
     ∙ (λ i. sends_as (chosen_of (so_far.settings i)) (so_far.after i).producers (share of n) (advice i) t (message_content x))
@@ -32,7 +32,7 @@ loop-message-preserved c =
     let before = shares_of o ps of (of + 1) c.args.advice t (map message_content xs) in
     record {
       ticket = ticket;
-      advice = c.next.ensures.left ∙ ap (drop 1) so_far.advice ∙ drop_next (length xs) c.args.advice ∙ ap (λ k. drop k c.args.advice) (sym (length_push xs x));
+      advice = c.next-said.ensures.left ∙ ap (drop 1) so_far.advice ∙ drop_next (length xs) c.args.advice ∙ ap (λ k. drop k c.args.advice) (sym (length_push xs x));
       parts =
           c.in_ok-push_back.ensures.items
           ∙ ap (λ acts. acts ++ Starts (Call n) c.in_ok-procedure.procedure ∷ []) so_far.parts
@@ -43,8 +43,12 @@ loop-message-preserved c =
           c.in_ok-procedure.ensures.after
           ∙ ap (λ (w : View). record w { producers = routed t (message_content x) w.producers }) so_far.after
           ∙ sym (ap (λ qs. record v { producers = qs }) (routed_end message_content o of t ps xs x));
-      settings = c.sends_as-procedure.ensures.settings ∙ so_far.settings;
+      settings = c.sends_as.ensures.settings ∙ so_far.settings;
     }
 
 pub returns-clause-after : goal.returns-clause-after
-returns-clause-after c = ?
+returns-clause-after c =
+    let v = view_of c.args.self.now in
+    let all : c.loop-message.yielded ≡ c.args.messages.items = search rules in
+    c.loop-message.invariant.after
+    ∙ ap (λ xs. record v { producers = all_routed c.args.producer (map message_content xs) v.producers }) all

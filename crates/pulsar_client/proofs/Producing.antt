@@ -87,7 +87,7 @@ pub made_so : (seed ticket : ℕ) (b : Building) (qs : List Partition) → qs �
     made b.topic b.settings qs (first_index seed ticket (length qs)) ≡ made_of seed ticket b
 made_so seed ticket b qs are =
     ap (λ xs. made b.topic b.settings xs (first_index seed ticket (length xs))) are
-    ∙ ap (λ n. made b.topic b.settings (map partition_of b.parts) (first_index seed ticket n)) (length-map partition_of b.parts)
+    ∙ ap (λ n. made b.topic b.settings (map partition_of b.parts) (first_index seed ticket n)) (length-map b.parts partition_of)
 
 pub joined_so : (t seed first : ℕ) (b : Building) (ps now : Producers) (p : producer.Seen) (built : ℕ → Option producer.Seen) →
     now ≡ with_topics t first b.parts ps → made_of seed t b ≡ Some p → ((u : ℕ) → built u ≡ cond (is_at (nat_cmp t) u) (Some p) (now.built u)) →

@@ -1,36 +1,31 @@
 -- Whatever one is told has its cause before, in the same step.
-use Rattle.std.proofs.Common.{◌≡◌, ◌⊎◌, inl, inr, ◌∙◌, sym, ap, subst, ℕ, List, [], ◌∷◌, ◌++◌, refl, map, Bool, true, false, cond, Option, Some, None, Result, Ok, Err}
-use Rattle.std.proofs.lemmas.Bool.{cases_Bool}
+use Rattle.std.proofs.Common.{◌≡◌, ◌⊎◌, inl, inr, ◌∙◌, sym, ap, subst, ℕ, List, ◌∷◌, ◌++◌, refl, map, Bool, true, false, cond, Option, Some, None, Result, Ok, Err, []}
 use Rattle.std.specs.List.{filter_map, flat_map}
-use Rattle.std.specs.Option.{option_map}
+use Rattle.std.specs.Option.{option_map, option_to_list}
 use Rattle.pulsar_run.specs.Laws.{Arises, In, InOne, InThisStep}
 use Rattle.pulsar_run.proofs.Arising.{acts_arise_lem}
 use Rattle.pulsar_wire.specs.declared.error.ConnectionError.{ConnectionError}
 use Rattle.pulsar_wire.specs.declared.error.IoKind.{IoKind}
-use Rattle.pulsar_wire.specs.declared.error.IoKind.TheVariants as io_kind
 use Rattle.pulsar_messages.specs.Words.{Words}
 use Rattle.pulsar_session.specs.declared.states.Asked.{Asked as Placed}
-use Rattle.pulsar_session.specs.declared.states.Asked.TheVariants as placed
-use Rattle.pulsar_session.specs.Failures.{Fault}
-use Rattle.pulsar_session.specs.Link as session
-use Rattle.pulsar_session.specs.Link.{Came, came, ends, is_spent}
+use Rattle.pulsar_session.specs.Failures.{Fault, Disconnected, Exhausted}
+use Rattle.pulsar_session.specs.Link.{Came, came, ends}
 use Rattle.pulsar_link.specs.Messages.{read}
 use Rattle.pulsar_client.specs.declared.act.Act.{Act}
-use Rattle.pulsar_client.specs.declared.act.Act.TheVariants.{Comes, Starts, Told, Does, Dials}
+use Rattle.pulsar_client.specs.declared.act.Act.TheVariants.{Comes, Starts, Told, Does}
 use Rattle.pulsar_client.specs.declared.act.Action.{Action}
-use Rattle.pulsar_client.specs.declared.act.Action.TheVariants.{Get, Ask, StopAll, Rest}
+use Rattle.pulsar_client.specs.declared.act.Action.TheVariants.{Get, Ask, StopAll, Rest, Draw, Find, Number, PassTurn, Recall, TakeTurn, Tell, Wait, Remake, Shut}
 use Rattle.pulsar_client.specs.declared.act.Alarm.{Alarm}
 use Rattle.pulsar_client.specs.declared.act.Alarm.TheVariants.{Retry, Wake, KeepAlive, CheckIdle}
 use Rattle.pulsar_client.specs.declared.act.Arrival.{Arrival}
-use Rattle.pulsar_client.specs.declared.act.Arrival.TheVariants.{Readied, Bad}
+use Rattle.pulsar_client.specs.declared.act.Arrival.TheVariants.{Readied}
 use Rattle.pulsar_client.specs.declared.act.End.{End}
 use Rattle.pulsar_client.specs.declared.act.End.TheVariants.{Unopened, Lost, Overdue, Broken, Idles, Stops}
-use Rattle.pulsar_client.specs.declared.act.LinkAct.TheVariants.{Reads, Drains, Pings, Ends}
+use Rattle.pulsar_client.specs.declared.act.LinkAct.TheVariants.{Reads, Drains, Ends}
 use Rattle.pulsar_client.specs.declared.act.Notice.{Notice}
 use Rattle.pulsar_client.specs.declared.act.Outcome.{Outcome}
-use Rattle.pulsar_client.specs.declared.act.Outcome.TheVariants as outcome
 use Rattle.pulsar_client.specs.declared.act.Part.{Part}
-use Rattle.pulsar_client.specs.declared.act.Part.TheVariants.{Calls, ToLink, Rings}
+use Rattle.pulsar_client.specs.declared.act.Part.TheVariants.{ToLink, Rings}
 use Rattle.pulsar_client.specs.declared.act.Verdict.{Verdict}
 use Rattle.pulsar_client.specs.declared.act.Who.{Who}
 use Rattle.pulsar_client.specs.declared.addresses.Pause.{Pause}
@@ -41,16 +36,29 @@ use Rattle.pulsar_client.specs.declared.plans.plan.Turn.{Turn}
 use Rattle.pulsar_client.specs.declared.plans.plan.Turn.TheVariants.{Stays, Gives}
 use Rattle.pulsar_plans.specs.Address.{Place, address_key, is_reachable}
 use Rattle.pulsar_client.specs.Alarms.{rings}
-use Rattle.pulsar_client.specs.Content.{Asked}
-use Rattle.pulsar_client.specs.Laws.{AttemptEnds, Cause, OutcomesAreCaused, LineEnds, RequestEnds, base_of}
-use Rattle.pulsar_client.specs.Links as links
+use Rattle.pulsar_client.specs.Laws.{AttemptEnds, Cause, OutcomesAreCaused, LineEnds, RequestEnds, base_of, IsToldBy, GrantsSo}
 use Rattle.pulsar_client.specs.Links.{arrival, change_at, change_in, closed_by, line_places, new_places, times_out}
-use Rattle.pulsar_client.specs.Plan.{begins}
-use Rattle.pulsar_client.specs.Rules.{alone, answered_by, answered_on, at_once, breaks_at, called, caused, causes, does, dropped, ended_by, ended_on, failed, failed_by, failed_on, failed_over, failed_so, fails_so, follows, follows_some, further, gets_from, idle_act, is_idle, keeps_alive, lost, lost_so, lost_with, may_ping, moved_on, notice, opens, over_links, parts, rung, served_by, served_on, stop_act, stopped_at, stopped_with, tells, tells_asker, told_at, tries_again, waiters_of, woken}
-use Rattle.pulsar_client.specs.Run.{Entry, Begins, Then, rules, view}
-use Rattle.pulsar_client.specs.View.{Addresses, Chosen, Options, Seat, Tickets, View, answer_at, arrival_at, pause_for, pause_of, told_some, turned_by}
+use Rattle.pulsar_client.specs.Plan.{told, begins}
+use Rattle.pulsar_client.specs.Rules.{alone, answered_by, answered_on, at_once, caused, causes, dropped, ended_by, ended_on, failed, failed_by, failed_on, failed_over, failed_so, fails_so, follows, follows_some, further, gets_from, lost, lost_so, lost_with, moved_on, notice, opens, over_links, parts, served_by, served_on, stop_act, stopped_at, stopped_with, tells, tells_asker, told_at, waiters_of, woken, draw_outcome, draw_said, finds, grants, joins, number_said, recalls, stopped_one, takes_turn, turn_notice}
+use Rattle.pulsar_client.specs.Run.{Entry, Begins, Then, rules, view, IsRun}
+use Rattle.pulsar_client.specs.View.{Addresses, Options, Seat, View, answer_at, pause_for, pause_of, told_some, turned_by, room_of}
 use Rattle.pulsar_client.specs.Who.{is_same}
-use Rattle.pulsar_client.proofs.Acts.{Each, chosen_same, each_either, over_each}
+use Rattle.pulsar_client.specs.declared.act.Who.TheVariants.{Call}
+use Rattle.pulsar_plans.specs.declared.making.Command.{Command}
+use Rattle.pulsar_producer.specs.declared.deed.Drawn.{Drawn}
+use Rattle.pulsar_client.specs.declared.act.Procedure.{Procedure}
+use Rattle.pulsar_client.specs.declared.producers.Topic.{Topic}
+use Rattle.pulsar_client.specs.Producers.{drawn, link_at, number_drawn, recalled, turn_passed, turn_taken, waiting, waiting_at}
+use Rattle.pulsar_wire.specs.declared.error.IoKind.TheVariants as io_kind
+use Rattle.pulsar_session.specs.declared.states.Asked.TheVariants as placed
+use Rattle.pulsar_session.specs.Link as session
+use Rattle.pulsar_client.specs.declared.act.Outcome.TheVariants as outcome
+use Rattle.pulsar_client.specs.Links as links
+use Rattle.pulsar_client.specs.declared.act.Procedure.TheVariants as procedure
+use Rattle.pulsar_producer.specs.declared.deed.News.TheVariants as news
+use Rattle.pulsar_client.proofs.Acts.{Each, chosen_same, over_each}
+use Rattle.pulsar_client.proofs.Raising.{IsRaised, may, raises, OfDeed, OfNotice}
+use Rattle.pulsar_client.proofs.Fitting.{begins_fits, is_said, is_stop, says_so, spot, told_fits, Fits}
 
 -- LISTS
 
@@ -106,14 +114,16 @@ record IsAsker (says : ℕ → Outcome) (askers : ℕ → Option Who) (places : 
   asker : askers place ≡ Some n.who
   told : n.outcome ≡ says place
 
-in_askers : (says : ℕ → Outcome) (askers : ℕ → Option Who) (places : List ℕ) (n : Notice) → In n (filter_map (tells_asker says askers) places) → IsAsker says askers places n
+in_askers : (says : ℕ → Outcome) (askers : ℕ → Option Who) (places : List ℕ) (n : Notice) → In n (filter_map (tells_asker says askers) places) →
+    IsAsker says askers places n
 in_askers says askers [] n h = absurd h
 in_askers says askers (p ∷ ps) n h = one (askers p) refl (in_askers says askers ps n) h
   where
     later : IsAsker says askers ps n → IsAsker says askers (p ∷ ps) n
     later k = record { place = k.place; listed = inr k.listed; asker = k.asker; told = k.told }
 
-    one : (r : Option Who) → askers p ≡ r → (In n (filter_map (tells_asker says askers) ps) → IsAsker says askers ps n) → In n (filter_map (tells_asker says askers) (p ∷ ps)) →
+    one : (r : Option Who) → askers p ≡ r → (In n (filter_map (tells_asker says askers) ps) → IsAsker says askers ps n) →
+        In n (filter_map (tells_asker says askers) (p ∷ ps)) →
         IsAsker says askers (p ∷ ps) n
     one None e more h = later (more (rw e at h))
     one (Some w) e more h = split (rw e at h)
@@ -126,76 +136,14 @@ in_askers says askers (p ∷ ps) n h = one (askers p) refl (in_askers says asker
 
 -- only an action tells at once
 none_told : (v : View) (a : Act) (n : Notice) → may OfNotice a ≡ false → In (Told n) (at_once v a) → ⊥
-none_told v a n no h = (let told : may OfNotice a ≡ true = in_each (IsRaised a) (Told n) (at_once v a) h (raises v a) in let f : true ≡ false = sym told ∙ no in absurd cc)
+none_told v a n never h =
+    (let told : may OfNotice a ≡ true = in_each (IsRaised a) (Told n) (at_once v a) h (raises v a) in let f : true ≡ false = sym told ∙ never in absurd cc)
 
 -- what comes of a link is no notice
 mute_told : (n : Notice) (ps : List Part) → In (Told n) (map Comes ps) → ⊥
 mute_told n [] h = h
 mute_told n (p ∷ ps) (inl e) = absurd cc
 mute_told n (p ∷ ps) (inr h) = mute_told n ps h
-
--- what one who acts on a topic producer, or on their numbers, may be told
-abbrev is_answer : Outcome → Bool
-is_answer (outcome.Granted n) = true
-is_answer (outcome.GotLink l) = true
-is_answer (outcome.Refused cause) = true
-is_answer outcome.Disconnected = true
-is_answer _ = false
-
-abbrev IsAnswered : Who → Act → Type 0
-IsAnswered w (Told n) = (n.who ≡ w) × (is_answer n.outcome ≡ true)
-IsAnswered w a = Unit {0}
-
-abbrev is_of_topics : Action → Bool
-is_of_topics (Get p) = false
-is_of_topics (Ask l request) = false
-is_of_topics StopAll = false
-is_of_topics _ = true
-
-takes_answered : (w : Who) (row : Option Topic) → Each (IsAnswered w) (takes_turn w row)
-takes_answered w None = ((refl, refl), tt)
-takes_answered w (Some t) =
-    each_flat (IsAnswered w) (λ version. grants w (news.HasTurn version)) (option_to_list (turn_taken (Some t))) (λ version. ((refl, refl), tt))
-
-draw_answered : (w : Who) (room : Option Bool) (row : Option Topic) → Each (IsAnswered w) (tells w (draw_outcome room row))
-draw_answered w None row = ((refl, refl), tt)
-draw_answered w (Some room) row = said (drawn room row)
-  where
-    said : (d : Option Drawn) → Each (IsAnswered w) (tells w (draw_said d))
-    said None = ((refl, refl), tt)
-    said (Some d) = ((refl, refl), tt)
-
-recalls_answered : (w : Who) (row : Option Command) → Each (IsAnswered w) (recalls w row)
-recalls_answered w None = ((refl, refl), tt)
-recalls_answered w (Some c) = ((refl, refl), tt)
-
-number_answered : (w : Who) (row : Option ℕ) → Each (IsAnswered w) (tells w (number_said row))
-number_answered w None = ((refl, refl), tt)
-number_answered w (Some n) = ((refl, refl), tt)
-
-finds_answered : (w : Who) (row : Option ℕ) → Each (IsAnswered w) (finds w row)
-finds_answered w None = ((refl, refl), tt)
-finds_answered w (Some l) = ((refl, refl), tt)
-
-topics_answer : (v : View) (w : Who) (action : Action) → is_of_topics action ≡ true → Each (IsAnswered w) (performs v w action)
-topics_answer v w (Get p) h = absurd cc
-topics_answer v w (Ask l request) h = absurd cc
-topics_answer v w StopAll h = absurd cc
-topics_answer v w (Wait delay) h = tt
-topics_answer v w (TakeTurn n) h = takes_answered w (v.producers.topics n)
-topics_answer v w (Draw n) h = draw_answered w (room_of v n) (v.producers.topics n)
-topics_answer v w (Recall n) h = recalls_answered w (recalled v.producers n)
-topics_answer v w Number h = number_answered w (number_drawn v.producers)
-topics_answer v w (Find n) h = finds_answered w (link_at (v.producers.topics n))
-topics_answer v w Rest h = tt
-topics_answer v w _ h = ((refl, refl), tt)
-
-answer_caused : (o : Options) (who : Who) (u : Outcome) (e : Entry) (older : List Entry) → is_answer u ≡ true → IsUnknown o who u e older → Cause o who u e older
-answer_caused o who (outcome.Granted n) e older h k = inl k
-answer_caused o who (outcome.GotLink l) e older h k = inr (inr k)
-answer_caused o who (outcome.Refused cause) e older h k = inr k
-answer_caused o who outcome.Disconnected e older h k = inr (inr k)
-answer_caused o who u e older h k = absurd cc
 
 -- WHAT ONE TELLS ANOTHER
 
@@ -221,8 +169,8 @@ some_says who (Some plan) u = turn_says who (told plan u) (told_fits plan u)
 
 -- only plans act
 no_deed : (v : View) (a : Act) → may OfDeed a ≡ false → (w : Who) (action : Action) → In (Does w action) (at_once v a) → ⊥
-no_deed v a no w action h =
-    (let did : may OfDeed a ≡ true = in_each (IsRaised a) (Does w action) (at_once v a) h (raises v a) in let f : true ≡ false = sym did ∙ no in absurd cc)
+no_deed v a never w action h =
+    (let did : may OfDeed a ≡ true = in_each (IsRaised a) (Does w action) (at_once v a) h (raises v a) in let f : true ≡ false = sym did ∙ never in absurd cc)
 
 mute_did : (w : Who) (action : Action) (ps : List Part) → In (Does w action) (map Comes ps) → ⊥
 mute_did w action [] h = h
@@ -259,7 +207,8 @@ step_says A P f (Then a ∷ log) (inr h) = step_says A P f log h
 
 run_says : (o : Options) (w : Who) (n : Notice) (log : List Entry) → IsRun o (Then (Does w (Tell n)) ∷ log) → is_said n.outcome ≡ true
 run_says o w n log run =
-    step_says (is_said n.outcome ≡ true) (Arises rules o (Does w (Tell n))) (arises_says o w n) log (acts_arise_lem _ _ _ _ _ _ _ rules o (Does w (Tell n)) log run)
+    step_says (is_said n.outcome ≡ true) (Arises rules o (Does w (Tell n))) (arises_says o w n) log
+    (acts_arise_lem _ _ _ _ _ _ _ rules o (Does w (Tell n)) log run)
 
 said_caused : (o : Options) (who : Who) (u : Outcome) (e : Entry) (older : List Entry) → is_said u ≡ true → IsToldBy who u e older → Cause o who u e older
 said_caused o who (outcome.Parted ticket f) e older h k = k
@@ -341,24 +290,90 @@ module _ (o : Options) (who : Who) (u : Outcome) (older : List Entry) where
   asks_so w l request (Err x) c a b =
       named (Then (Does w (Ask l request))) (told_at (Err x)) b (inl (l, request, did w (Ask l request) a, (x, c, refl)))
 
+  abbrev IsOther : Act → Type 0
+  IsOther a = Told it ≡ a → ⊥
+
   stops_caused : (w : Who) → In (Told it) (over_links stop_act v.links ++ tells w outcome.Stopped) → Cause o who u (Then (Does w StopAll)) older
   stops_caused w h = elim (in_append (Told it) (over_links stop_act v.links) (tells w outcome.Stopped) h) [
-    | inl i ↦ absurd (in_each (λ (x : Act). Told it ≡ x → ⊥) (Told it) (over_links stop_act v.links) i (over_each (λ (x : Act). Told it ≡ x → ⊥) stop_act v.links (λ l seat. ((λ e. absurd cc), tt))) refl)
+    | inl i ↦ absurd (in_each IsOther (Told it) (over_links stop_act v.links) i (over_each IsOther stop_act v.links (λ l seat. ((λ e. absurd cc), tt))) refl)
     | inr i ↦ (let k = told_is w outcome.Stopped i in named (Then (Does w StopAll)) outcome.Stopped k.1 (inl (w, refl, inl k.0)))
   ]
 
-  -- what one asks of a topic producer, or of their numbers
-  topic_caused : (w : Who) (action : Action) → is_of_topics action ≡ true → In (Told it) (performs v w action) → Cause o who u (Then (Does w action)) older
-  topic_caused w action is h =
-      let k : (who ≡ w) × (is_answer u ≡ true) = in_each (IsAnswered w) (Told it) (performs v w action) h (topics_answer v w action is) in
-      answer_caused o who u (Then (Does w action)) older k.1 (action, did w action k.0, subst (λ x. In (Told it) (performs v x action)) (sym k.0) h)
+  -- WHAT ONE ASKS OF A TOPIC PRODUCER, or of their numbers
+
+  takes_some : (w : Who) (n : ℕ) (t : Topic) (r : Option (Option (List ℕ))) → turn_taken (v.producers.topics n) ≡ r →
+      In (Told it) (flat_map (λ version. grants w (news.HasTurn version)) (option_to_list r)) → Cause o who u (Then (Does w (TakeTurn n))) older
+  takes_some w n t None e h = absurd h
+  takes_some w n t (Some version) e h =
+      let k = told_is w (outcome.Granted (news.HasTurn version)) h in
+      named (Then (Does w (TakeTurn n))) (outcome.Granted (news.HasTurn version)) k.1 (inl (TakeTurn n, did w (TakeTurn n) k.0, e))
+
+  takes_caused : (w : Who) (n : ℕ) (row : Option Topic) → v.producers.topics n ≡ row → In (Told it) (takes_turn w row) →
+      Cause o who u (Then (Does w (TakeTurn n))) older
+  takes_caused w n None e h =
+      let k = told_is w outcome.Disconnected h in
+      named (Then (Does w (TakeTurn n))) outcome.Disconnected k.1 (inr (inr (TakeTurn n, did w (TakeTurn n) k.0, e)))
+  takes_caused w n (Some t) e h = takes_some w n t (turn_taken (Some t)) (ap turn_taken e) h
+
+  draws_caused : (w : Who) (n : ℕ) (room : Option Bool) → room_of v n ≡ room → In (Told it) (tells w (draw_outcome room (v.producers.topics n))) →
+      Cause o who u (Then (Does w (Draw n))) older
+  draws_caused w n None e h =
+      let k = told_is w (outcome.Refused Disconnected) h in
+      named (Then (Does w (Draw n))) (outcome.Refused Disconnected) k.1 (inr (Draw n, did w (Draw n) k.0, e))
+  draws_caused w n (Some room) e h = by (drawn room (v.producers.topics n)) refl h
+    where
+      by : (d : Option Drawn) → drawn room (v.producers.topics n) ≡ d → In (Told it) (tells w (draw_said d)) → Cause o who u (Then (Does w (Draw n))) older
+      by None f i =
+          let k = told_is w (outcome.Refused Exhausted) i in
+          named (Then (Does w (Draw n))) (outcome.Refused Exhausted) k.1 (inr (Draw n, did w (Draw n) k.0, (room, e, f)))
+      by (Some d) f i =
+          let k = told_is w (outcome.Granted (news.Drew d)) i in
+          named (Then (Does w (Draw n))) (outcome.Granted (news.Drew d)) k.1 (inl (Draw n, did w (Draw n) k.0, (room, e, f)))
+
+  recalls_caused : (w : Who) (n : ℕ) (row : Option Command) → recalled v.producers n ≡ row → In (Told it) (recalls w row) →
+      Cause o who u (Then (Does w (Recall n))) older
+  recalls_caused w n None e h =
+      let k = told_is w outcome.Disconnected h in named (Then (Does w (Recall n))) outcome.Disconnected k.1 (inr (inr (Recall n, did w (Recall n) k.0, e)))
+  recalls_caused w n (Some c) e h =
+      let k = told_is w (outcome.Granted (news.Recalled c)) h in
+      named (Then (Does w (Recall n))) (outcome.Granted (news.Recalled c)) k.1 (inl (Recall n, did w (Recall n) k.0, e))
+
+  numbers_caused : (w : Who) (row : Option ℕ) → number_drawn v.producers ≡ row → In (Told it) (tells w (number_said row)) →
+      Cause o who u (Then (Does w Number)) older
+  numbers_caused w None e h =
+      let k = told_is w (outcome.Refused Exhausted) h in named (Then (Does w Number)) (outcome.Refused Exhausted) k.1 (inr (Number, did w Number k.0, e))
+  numbers_caused w (Some n) e h =
+      let k = told_is w (outcome.Granted (news.Numbered n)) h in
+      named (Then (Does w Number)) (outcome.Granted (news.Numbered n)) k.1 (inl (Number, did w Number k.0, e))
+
+  finds_caused : (w : Who) (n : ℕ) (row : Option Topic) → v.producers.topics n ≡ row → In (Told it) (finds w (link_at row)) →
+      Cause o who u (Then (Does w (Find n))) older
+  finds_caused w n None e h =
+      let k = told_is w outcome.Disconnected h in named (Then (Does w (Find n))) outcome.Disconnected k.1 (inr (inr (Find n, did w (Find n) k.0, e)))
+  finds_caused w n (Some t) e h =
+      let k = told_is w (outcome.GotLink t.seen.link) h in
+      named (Then (Does w (Find n))) (outcome.GotLink t.seen.link) k.1 (inr (inr (Find n, did w (Find n) k.0, ap link_at e)))
+
+  done_caused : (w : Who) (action : Action) → GrantsSo news.Done action v → In (Told it) (grants w news.Done) → Cause o who u (Then (Does w action)) older
+  done_caused w action is h =
+      let k = told_is w (outcome.Granted news.Done) h in named (Then (Does w action)) (outcome.Granted news.Done) k.1 (inl (action, did w action k.0, is))
 
   once_caused : (b : Act) → In (Told it) (at_once v b) → Cause o who u (Then b) older
   once_caused (Does w (Get p)) h = gets_caused w p (is_reachable p) refl h
   once_caused (Does w (Ask l request)) h =
       let k = told_is w (told_at (answer_at v.now request (v.links.live l))) h in asks_so w l request (answer_at v.now request (v.links.live l)) refl k.0 k.1
   once_caused (Does w StopAll) h = stops_caused w h
-  once_caused (Does w action) h = topic_caused w action refl h
+  once_caused (Does w (TakeTurn n)) h = takes_caused w n (v.producers.topics n) refl h
+  once_caused (Does w (PassTurn n)) h = done_caused w (PassTurn n) tt h
+  once_caused (Does w (Draw n)) h = draws_caused w n (room_of v n) refl h
+  once_caused (Does w (Recall n)) h = recalls_caused w n (recalled v.producers n) refl h
+  once_caused (Does w (Remake r)) h = done_caused w (Remake r) tt h
+  once_caused (Does w Number) h = numbers_caused w (number_drawn v.producers) refl h
+  once_caused (Does w (Find n)) h = finds_caused w n (v.producers.topics n) refl h
+  once_caused (Does w (Shut t)) h = done_caused w (Shut t) tt h
+  once_caused (Does w (Tell n)) h = done_caused w (Tell n) tt h
+  once_caused (Does w (Wait delay)) h = absurd h
+  once_caused (Does w Rest) h = absurd h
   once_caused b h = absurd (none_told v b it refl h)
 
   -- ONE JOINS
@@ -371,7 +386,7 @@ module _ (o : Options) (who : Who) (u : Outcome) (older : List Entry) where
       let a : who ≡ Call next.0 = ap (λ m. m.who) is in
       let b : u ≡ outcome.Granted (news.HasTurn next.1) = ap (λ m. m.outcome) is in
       named (Then (Does w (PassTurn n))) (outcome.Granted (news.HasTurn next.1)) b
-      (inr (w, n, next.1, refl, refl, ap (option_map (λ next. (Call next.0, next.1))) e ∙ ap (λ x. Some (x, next.1)) (sym a)))
+      (inr (w, n, next.0, next.1, refl, a, refl, e))
 
   tells_caused : (w : Who) (n : Notice) → is_said n.outcome ≡ true → In it (n ∷ []) → Cause o who u (Then (Does w (Tell n))) older
   tells_caused w n said (inr h) = absurd h
@@ -413,8 +428,9 @@ module _ (o : Options) (who : Who) (u : Outcome) (older : List Entry) where
         let is : u ≡ outcome.Stopped = stopped_by it v.addresses a.0.0 a.1 in
         named (Then (Does w StopAll)) outcome.Stopped is (inl (w, refl, inr (inl (subst (λ y. In (notice who y) stopped_all) is i)))))
     | inr i ↦
-        (let is : u ≡ outcome.Stopped = ap (λ m. m.outcome) (in_map stopped_one it (waiting v.producers) i).2 in
-        named (Then (Does w StopAll)) outcome.Stopped is (inl (w, refl, inr (inr (subst (λ y. In (notice who y) waiting_all) is i)))))
+        (let k = in_map stopped_one it (waiting v.producers) i in
+        let at = in_flat (λ n. waiting_at (v.producers.topics n)) k.0 v.producers.numbers k.1 in
+        named (Then (Does w StopAll)) outcome.Stopped (ap (λ m. m.outcome) k.2) (inl (w, refl, inr (inr (at.0, k.0, ap (λ m. m.who) k.2, at.1)))))
   ]
 
   module _ (l : ℕ) where
@@ -460,7 +476,8 @@ module _ (o : Options) (who : Who) (u : Outcome) (older : List Entry) where
 
     -- FRAMES MOVE UP
 
-    moved_caused : (most : ℕ) (row : Option Seat) → v.links.live l ≡ row → In it (moved_on most v.now row) → Cause o who u (Then (Comes (ToLink l (Drains most)))) older
+    moved_caused : (most : ℕ) (row : Option Seat) → v.links.live l ≡ row → In it (moved_on most v.now row) →
+        Cause o who u (Then (Comes (ToLink l (Drains most)))) older
     moved_caused most None a h = absurd h
     moved_caused most (Some seat) a h =
         let k = in_askers (λ place. outcome.Queued) seat.askers (new_places seat.seen (links.after (Drains most) v.now seat.seen)) it h in
@@ -513,7 +530,8 @@ module _ (o : Options) (who : Who) (u : Outcome) (older : List Entry) where
     dropped_caused : (end : End) (cause : Fault) (seat : Seat) → v.links.live l ≡ Some seat → closed_by end v.now seat.seen ≡ Some cause →
         IsAsker (λ place. dropped end) seat.askers (line_places seat.seen) it → Cause o who u (Then (Comes (ToLink l (Ends end)))) older
     dropped_caused Stops cause seat a c k = named (ends_there Stops) outcome.Stopped k.told (inr (inl (line_ends Stops cause seat a c outcome.Stopped refl k)))
-    dropped_caused end cause seat a c k = named (ends_there end) outcome.Disconnected k.told (inr (inl (line_ends end cause seat a c outcome.Disconnected refl k)))
+    dropped_caused end cause seat a c k =
+        named (ends_there end) outcome.Disconnected k.told (inr (inl (line_ends end cause seat a c outcome.Disconnected refl k)))
 
     failed_caused : (e : Entry) (kind : IoKind) (b : Bool) → u ≡ failed_so kind b → AttemptEnds o who u e older → Cause o who u e older
     failed_caused e kind true d k = named e (outcome.Failed kind) d (subst (λ y. AttemptEnds o who y e older) d k)
@@ -529,7 +547,8 @@ module _ (o : Options) (who : Who) (u : Outcome) (older : List Entry) where
 
     -- those who wait for its address, and those who asked on it
     over_caused : (end : End) (seat : Seat) (r : Option Fault) → v.links.live l ≡ Some seat → closed_by end v.now seat.seen ≡ r →
-        In it (failed_by end (change_at r) (pause_for v.chosen (Ends end) (change_at r) seat.address (base_of v seat.address).series) (base_of v seat.address)) →
+        In it (failed_by end (change_at r) (pause_for v.chosen (Ends end) (change_at r) seat.address (base_of v seat.address).series)
+        (base_of v seat.address)) →
         Cause o who u (Then (Comes (ToLink l (Ends end)))) older
     over_caused end seat None a c h = absurd h
     over_caused end seat (Some cause) a c h =
@@ -582,4 +601,5 @@ module _ (o : Options) (who : Who) (u : Outcome) (older : List Entry) where
 pub outcomes_are_caused_lem : OutcomesAreCaused
 outcomes_are_caused_lem o log who u run =
     let told : Act = Told (record { who = who; outcome = u }) in
-    step_map o (Arises rules o told) (Cause o who u) (λ e older run h. is_caused o who u older e run h) log run.0 (acts_arise_lem _ _ _ _ _ _ _ rules o told log run)
+    step_map o (Arises rules o told) (Cause o who u) (λ e older run h. is_caused o who u older e run h) log run.0
+    (acts_arise_lem _ _ _ _ _ _ _ rules o told log run)

@@ -1,52 +1,52 @@
 -- Where a plan may stand as it does something. It tells another only where it reports or leaves, and only what a part of a call says; none
 -- but a Stop ends every link; and a send that is a part of another call has reported once it is queued.
-use Rattle.std.proofs.Common.{◌≡◌, ℕ, ◌-◌, ◌==◌, List, [], ◌∷◌, refl, Bool, true, false, ◌&&◌, not, cond, Option, Some, None, Result, Ok, Err}
+use Rattle.std.proofs.Common.{◌≡◌, ℕ, ◌-◌, ◌==◌, List, ◌∷◌, refl, Bool, true, false, ◌&&◌, not, cond, Option, Some, None, Result, Ok, Err, []}
 use Rattle.pulsar_link.specs.Messages.{Reply}
 use Rattle.pulsar_link.specs.Refusals.{refused}
 use Rattle.pulsar_link.specs.Request.{is_answered, request_number}
 use Rattle.pulsar_session.specs.Failures.{Failure, OfConnection}
-use Rattle.pulsar_plans.specs.Plans as search
 use Rattle.pulsar_plans.specs.declared.plan.Answer.{Answer}
 use Rattle.pulsar_plans.specs.declared.plan.Plan.{Plan as Search}
 use Rattle.pulsar_plans.specs.declared.turn.Action.{Action as Wish}
-use Rattle.pulsar_plans.specs.declared.turn.Action.TheVariants as wish
 use Rattle.pulsar_plans.specs.declared.turn.Turn.{Turn as SearchTurn}
-use Rattle.pulsar_plans.specs.declared.turn.Turn.TheVariants as search_turn
 use Rattle.pulsar_plans.specs.declared.turn.Ways.{Ways}
-use Rattle.pulsar_producer.specs.Plans as produce
 use Rattle.pulsar_producer.specs.declared.building.Building.{Building as Build}
 use Rattle.pulsar_producer.specs.declared.building.Order.{Order}
 use Rattle.pulsar_producer.specs.declared.content.Built.{Built}
 use Rattle.pulsar_producer.specs.declared.deed.Deed.{Deed}
-use Rattle.pulsar_producer.specs.declared.deed.Deed.TheVariants as deed
-use Rattle.pulsar_producer.specs.declared.deed.News.TheVariants as granting
 use Rattle.pulsar_producer.specs.declared.deed.Step.{Step}
-use Rattle.pulsar_producer.specs.declared.deed.Step.TheVariants as step
 use Rattle.pulsar_producer.specs.declared.sending.Errand.{Errand}
 use Rattle.pulsar_producer.specs.declared.sending.Sending.{Sending as Send}
-use Rattle.pulsar_producer.specs.declared.sending.Sending.TheVariants as send
 use Rattle.pulsar_client.specs.declared.act.Action.{Action}
-use Rattle.pulsar_client.specs.declared.act.Action.TheVariants.{PassTurn, Rest, StopAll, Tell}
+use Rattle.pulsar_client.specs.declared.act.Action.TheVariants.{Rest, StopAll, Tell}
 use Rattle.pulsar_client.specs.declared.act.Makes.TheVariants.{Nothing}
 use Rattle.pulsar_client.specs.declared.act.Notice.{Notice}
 use Rattle.pulsar_client.specs.declared.act.Outcome.{Outcome}
-use Rattle.pulsar_client.specs.declared.act.Outcome.TheVariants as outcome
-use Rattle.pulsar_client.specs.declared.act.Place.TheVariants as place
 use Rattle.pulsar_client.specs.declared.act.Procedure.{Procedure}
-use Rattle.pulsar_client.specs.declared.act.Procedure.TheVariants as procedure
 use Rattle.pulsar_client.specs.declared.act.Round.{Round}
 use Rattle.pulsar_client.specs.declared.act.Round.TheVariants.{Closes}
 use Rattle.pulsar_client.specs.declared.act.Share.{Share}
 use Rattle.pulsar_client.specs.declared.act.Verdict.{Verdict}
 use Rattle.pulsar_client.specs.declared.plans.plan.At.{At}
-use Rattle.pulsar_client.specs.declared.plans.plan.At.TheVariants as at
 use Rattle.pulsar_client.specs.declared.plans.plan.Plan.{Plan}
 use Rattle.pulsar_client.specs.declared.plans.plan.Plan.TheVariants.{Building, Getting, Asking, Awaiting, Searching, Producing, Sending, Reporting, Leaving, Gathering, Shutting, Visiting, Stopping}
 use Rattle.pulsar_client.specs.declared.plans.plan.Turn.{Turn}
 use Rattle.pulsar_client.specs.declared.plans.plan.Turn.TheVariants.{Stays, Gives}
 use Rattle.pulsar_client.specs.Content.{Done}
 use Rattle.pulsar_client.specs.Parts.{failed_with, sent_from}
-use Rattle.pulsar_client.specs.Plan.{action_of, asks_of, begins, builds, failed, fails, fails_in, fault_of, gathers, goes, goes_on_sending, goes_round, halted, halted_with, is_answer, is_sent, leaves, news_in, news_of, overrides, sends_stay, told, told_at, verdict, visited, wished}
+use Rattle.pulsar_client.specs.Plan.{action_of, asks_of, begins, builds, fails, fails_in, fault_of, gathers, goes, goes_on_sending, goes_round, halted, halted_with, is_answer, is_sent, leaves, news_in, news_of, overrides, sends_stay, told, told_at, verdict, visited, wished}
+use Rattle.pulsar_plans.specs.Plans as search
+use Rattle.pulsar_plans.specs.declared.turn.Action.TheVariants as wish
+use Rattle.pulsar_plans.specs.declared.turn.Turn.TheVariants as search_turn
+use Rattle.pulsar_producer.specs.Plans as produce
+use Rattle.pulsar_producer.specs.declared.deed.Deed.TheVariants as deed
+use Rattle.pulsar_producer.specs.declared.deed.News.TheVariants as granting
+use Rattle.pulsar_producer.specs.declared.deed.Step.TheVariants as step
+use Rattle.pulsar_producer.specs.declared.sending.Sending.TheVariants as send
+use Rattle.pulsar_client.specs.declared.act.Outcome.TheVariants as outcome
+use Rattle.pulsar_client.specs.declared.act.Place.TheVariants as place
+use Rattle.pulsar_client.specs.declared.act.Procedure.TheVariants as procedure
+use Rattle.pulsar_client.specs.declared.plans.plan.At.TheVariants as at
 
 -- where it stands: it tells that it was queued, or leaves behind what it tells; or it stands elsewhere, but nowhere as a queued part
 pub data Spot : Type 0 where
@@ -146,7 +146,8 @@ round_fits r (n ∷ left) = refl
 
 visited_fits : (r : Round) (left : List ℕ) (n : ℕ) (reply : Reply) → Fits (visited r left n reply)
 visited_fits r left n reply =
-    either_fits (is_answer (request_number (asks_of r n)) reply.content.body) (goes_round r left) (fails_in r (refused reply reply.content.body)) (round_fits r left) tt
+    either_fits (is_answer (request_number (asks_of r n)) reply.content.body) (goes_round r left)
+    (fails_in r (refused reply reply.content.body)) (round_fits r left) tt
 
 visit_fits : (r : Round) (n : ℕ) (left : List ℕ) (x : At) (u : Outcome) → Fits (told_at r n left x u)
 visit_fits r n left at.Turning (outcome.Granted (granting.HasTurn version)) = refl
@@ -204,10 +205,12 @@ told_fits (Searching w s) outcome.Cut = tt
 told_fits (Searching w s) outcome.Stopped = tt
 told_fits (Searching w s) u = goes_fits w (search.told w s (news_in u))
 told_fits (Producing w o b) u =
-    either_fits (overrides u) (Gives (fails (fault_of u))) (builds w o (produce.build_told w o b (news_of u))) tt (builds_fits w o (produce.build_told w o b (news_of u)))
+    either_fits (overrides u) (Gives (fails (fault_of u))) (builds w o (produce.build_told w o b (news_of u))) tt
+    (builds_fits w o (produce.build_told w o b (news_of u)))
 told_fits (Sending w e share s) u =
     let x : produce.Sent = produce.send_told w e s (news_of u) in
-    either_fits (overrides u && not (is_sent s)) (halted share u) (goes_on_sending w e share x) (halted_fits share (OfConnection (fault_of u))) (sends_fits w e share x)
+    either_fits (overrides u && not (is_sent s)) (halted share u) (goes_on_sending w e share x)
+    (halted_fits share (OfConnection (fault_of u))) (sends_fits w e share x)
 told_fits (Reporting w e) u = refl
 told_fits (Leaving f) u = tt
 told_fits (Gathering first count left failures) (outcome.Parted ticket f) = gathers_fits first count (left - 1) (failed_with ticket f failures)

@@ -1,10 +1,9 @@
 -- At the end of a step no whole frame of a link is left unread: what came is read on, until less than a frame is in front, or the link ends.
-use Rattle.std.proofs.Common.{◌≡◌, ◌⊎◌, inl, inr, ◌∙◌, sym, ap, subst, ℕ, List, [], ◌∷◌, ◌++◌, refl, drop, Bool, true, false, cond, ◌==◌, Option, Some, None, Result, Ok, Err, append-nil}
+use Rattle.std.proofs.Common.{◌≡◌, ◌⊎◌, inl, inr, ◌∙◌, sym, ap, subst, ℕ, List, ◌∷◌, ◌++◌, refl, drop, Bool, true, false, cond, ◌==◌, Option, Some, None, Result, Ok, Err, append-nil, []}
 use Rattle.std.proofs.lemmas.Bool.{cases_Bool, eqb-true, eq-eqb}
 use Rattle.std.specs.Option.{option_map}
 use Rattle.pulsar_wire.specs.declared.error.ConnectionError.{ConnectionError}
 use Rattle.pulsar_wire.specs.declared.key.RequestKey.{RequestKey}
-use Rattle.pulsar_wire.specs.declared.key.RequestKey.TheVariants as keys
 use Rattle.pulsar_frame.specs.Frame.{Front, Short, Refused, Whole, cut, front}
 use Rattle.pulsar_frame.specs.Key.{key}
 use Rattle.pulsar_frame.specs.Message.{MessageValues}
@@ -19,8 +18,7 @@ use Rattle.pulsar_session.specs.declared.states.Stage.TheVariants.{Dialing, Hand
 use Rattle.pulsar_session.specs.Answers.{is}
 use Rattle.pulsar_session.specs.Failures.{Fault}
 use Rattle.pulsar_session.specs.Laws.{messages_taken}
-use Rattle.pulsar_session.specs.Link as session
-use Rattle.pulsar_session.specs.Link.{Act as Act', Asks, Closes, Came, Feeds, Seen, Setup, after_of, answered_to, asks_for, came, came_by, came_in, drawn, for_consumer, greeted, greeted_by, greets_with, has_room, is_open, is_over, moved_up, number_for, opens_in, queue, request, settled_by, Standing, taken_in, ticked, unasked}
+use Rattle.pulsar_session.specs.Link.{Act as Act', Asks, Closes, Came, Feeds, Seen, Setup, after_of, answered_to, came, came_by, came_in, drawn, for_consumer, greeted, greeted_by, greets_with, has_room, is_open, is_over, moved_up, number_for, opens_in, queue, request, settled_by, Standing, taken_in, ticked, unasked}
 use Rattle.pulsar_session.proofs.Pieces.{asks_for_apart, unless_stage}
 use Rattle.pulsar_session.proofs.Still.{asked_of, moving, opening}
 use Rattle.pulsar_session.proofs.Streams.{taken_are_cut}
@@ -28,7 +26,6 @@ use Rattle.pulsar_client.specs.declared.act.Act.{Act}
 use Rattle.pulsar_client.specs.declared.act.Act.TheVariants.{Comes, Does, Dials}
 use Rattle.pulsar_client.specs.declared.act.Action.TheVariants.{Get, Ask}
 use Rattle.pulsar_client.specs.declared.act.Arrival.{Arrival}
-use Rattle.pulsar_client.specs.declared.act.Arrival.TheVariants as arrivals
 use Rattle.pulsar_client.specs.declared.act.End.{End}
 use Rattle.pulsar_client.specs.declared.act.End.TheVariants.{Broken}
 use Rattle.pulsar_client.specs.declared.act.LinkAct.{LinkAct}
@@ -43,6 +40,9 @@ use Rattle.pulsar_client.specs.Links.{arrives, closed_by}
 use Rattle.pulsar_client.specs.Rules.{at_once, breaks_at, brings, further, reads_on}
 use Rattle.pulsar_client.specs.Run.{Entry, Begins, Then, IsRun, agenda, first, rules, view}
 use Rattle.pulsar_client.specs.View.{Options, Seat, arrival_at, begun_live, dialed, got_at, is_dialing, is_live, link_got, live_begun, seat_asked, seat_got, took_end, took_some}
+use Rattle.pulsar_wire.specs.declared.key.RequestKey.TheVariants as keys
+use Rattle.pulsar_session.specs.Link as session
+use Rattle.pulsar_client.specs.declared.act.Arrival.TheVariants as arrivals
 use Rattle.pulsar_client.proofs.Acts.{none_now}
 use Rattle.pulsar_client.proofs.Alone.{Made, alone, no_some, some_is}
 
@@ -404,14 +404,14 @@ module _ (o : Options) (l : ℕ) (log : List Entry) (k : Reading o l log) where
       was_read : (old : Seat) → (view o log).links.live l ≡ Some old → IsRead old.seen
       was_read old h = elim (k old h) [ inl short ↦ short | inr left ↦ resting o l log rests left ]
 
-      fed : (x : Heard) → live_begun x l ((view o log).links.live l) ≡ Some seat → IsRead seat.seen ⊎ IsLeft l [] (brings (view o log) x)
+      fed : (x : Heard) → live_begun x l ((view o log).links.live l) ≡ Some seat → IsRead seat.seen ⊎ IsLeft l [] (brings o.policies (view o log) x)
       fed (Bytes m piece) h = elim (cases_Bool (l == m)) [
         | inl d ↦ inr (inl (inl (ap (λ j. ToLink j Reads) (eqb-true l m d))))
         | inr d ↦ inl (was_read seat (rw d at h))
       ]
       fed x h = inl (was_read seat h)
 
-      by : (b : Bool) → (cond b (begun_live e (view o log)) (view o log)).links.live l ≡ Some seat → IsRead seat.seen ⊎ IsLeft l [] (cond b (brings (view o log) e) [])
+      by : (b : Bool) → (cond b (begun_live e (view o log)) (view o log)).links.live l ≡ Some seat → IsRead seat.seen ⊎ IsLeft l [] (cond b (brings o.policies (view o log) e) [])
       by true h = fed e h
       by false h = inl (was_read seat h)
 

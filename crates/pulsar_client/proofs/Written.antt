@@ -32,7 +32,7 @@ use Rattle.pulsar_client.specs.Links as links
 use Rattle.pulsar_client.specs.Links.{close, closed_by, ended, is_own_end, lost, queues, queues_at, new_places, settled_in, settles, write}
 use Rattle.pulsar_client.specs.Run.{Entry, Begins, Then, IsRun, Step, rules, view}
 use Rattle.pulsar_client.specs.Subscriptions.{Subscription, polled, polled_from}
-use Rattle.pulsar_client.specs.View.{Options, Seat, View, begun_live, dialed, got_at, is_live, link_got, live_begun, seat_asked, seat_fed, seat_got, took, took_end, took_some, turned}
+use Rattle.pulsar_client.specs.View.{Chosen, Options, Seat, View, begun_live, dialed, got_at, is_live, link_got, live_begun, seat_asked, seat_fed, seat_got, took, took_end, took_some, turned}
 use Rattle.pulsar_client.proofs.Acts.{Each, each_append, each_map}
 use Rattle.pulsar_client.proofs.Alone.{Made, alone, is_close, more, no_some, over_stays, some_is}
 use Rattle.pulsar_client.proofs.Instances.{effect_order}
@@ -339,7 +339,7 @@ late l m h = grind (arith, nat_tests)
 early : (l m : ℕ) → (l == m) ≡ true → nat_lt l (m + 1) ≡ false → ⊥
 early l m h lt = grind (arith, nat_tests)
 
-fresh_link : (l n : ℕ) (o : Options) (now : ℕ) (p : Place) (row : Option Seat) (ss : List Step) → (l == n) ≡ true → Wrote l n row ss →
+fresh_link : (l n : ℕ) (o : Chosen) (now : ℕ) (p : Place) (row : Option Seat) (ss : List Step) → (l == n) ≡ true → Wrote l n row ss →
     Wrote l (n + 1) (Some (dialed o n now p)) ss
 fresh_link l n o now p row ss e k = record {
   places = k.places;

@@ -1,6 +1,6 @@
 -- For the code's contracts alone: the links, the addresses, the alarms and the producers, as the code keeps them, and what is read of a link
 -- that may have ended.
-use Rattle.std.specs.Prelude.{◌≡◌, ℕ, ◌≤◌, Bool, true, false, List, [], map, Option, Some, None, String}
+use Rattle.std.specs.Prelude.{◌≡◌, ℕ, ◌≤◌, Bool, true, false, List, Option, Some, None, String}
 use Rattle.std.specs.BTreeMap.{BTreeMap, IsOrdered, get, get_by_text}
 use Rattle.std.specs.BTreeSet.{BTreeSet, contains}
 use Rattle.std.specs.Global.{Vec}

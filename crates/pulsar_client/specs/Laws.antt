@@ -1,8 +1,7 @@
 -- What follows from the definition of a good run, in plain words.
-use Rattle.std.specs.Prelude.{◌≡◌, ◌⊎◌, ℕ, ◌+◌, ◌-◌, ◌^◌, ◌≤◌, ◌<◌, ◌==◌, bytes_eq, ◌&&◌, ◌||◌, not, Bool, true, false, if◌then◌else◌, List, [], ◌∷◌, ◌++◌, map, Option, Some, None, Result, Ok, Err, pos}
+use Rattle.std.specs.Prelude.{◌≡◌, ◌⊎◌, ℕ, ◌+◌, ◌-◌, ◌^◌, ◌≤◌, ◌==◌, bytes_eq, ◌&&◌, ◌||◌, not, Bool, true, false, if◌then◌else◌, List, [], ◌∷◌, ◌++◌, Option, Some, None, Result, Ok, Err, pos}
 use Rattle.std.specs.List.{flat_map, list_any}
-use Rattle.std.specs.Option.{is_some, option_map, option_to_list}
-use Rattle.pulsar_run.specs.Laws as run
+use Rattle.std.specs.Option.{is_some, option_to_list}
 use Rattle.pulsar_run.specs.Laws.{Arises, In, InThisStep}
 use Rattle.pulsar_run.specs.Order.{AllInOrder, InOrder, arranged}
 use Rattle.pulsar_run.specs.Run.{events, steps_done}
@@ -12,10 +11,8 @@ use Rattle.pulsar_frame.specs.Message.{MessageValues}
 use Rattle.pulsar_messages.specs.Words.{Words}
 use Rattle.pulsar_requests.specs.Waits.{later_of}
 use Rattle.pulsar_session.specs.declared.states.Asked.{Asked as Placed}
-use Rattle.pulsar_session.specs.declared.states.Asked.TheVariants as placed
-use Rattle.pulsar_session.specs.Failures.{DiscoveryConnection, DiscoveryCanceled, DiscoveryFault, DiscoveryNotFound, DiscoveryShutdown, DnsLookup, Dummy, Exhausted, Failure, Fault, OfConnection, OfDiscovery, OfPartialSend, Query, fault}
+use Rattle.pulsar_session.specs.Failures.{DiscoveryConnection, DiscoveryCanceled, DiscoveryFault, DiscoveryNotFound, DiscoveryShutdown, DnsLookup, Dummy, Exhausted, Failure, Fault, OfConnection, OfDiscovery, OfPartialSend, Query, fault, Disconnected}
 use Rattle.pulsar_session.specs.Laws.{bytes_fed, messages_taken}
-use Rattle.pulsar_session.specs.Link as session
 use Rattle.pulsar_session.specs.Link.{Act as Act', Asks, Feeds, Setup, came, due, ends, is_spent}
 use Rattle.pulsar_link.specs.Items.{Item, Given, Faulty}
 use Rattle.pulsar_link.specs.Messages.{Reply, read}
@@ -24,7 +21,6 @@ use Rattle.pulsar_plans.specs.Address.{Place, address_key, is_reachable}
 use Rattle.pulsar_plans.specs.Replies.{in_discovery, query, unexpected, fails_by, is_choice, place_at}
 use Rattle.pulsar_producer.specs.Errors.{in_producer}
 use Rattle.pulsar_producer.specs.declared.deed.News.{News}
-use Rattle.pulsar_producer.specs.declared.deed.News.TheVariants as news
 use Rattle.pulsar_plans.specs.Backoff.{allow_retry}
 use Rattle.pulsar_plans.specs.declared.turn.Ways.{Ways}
 use Rattle.pulsar_session.specs.Reply.{Reply as Content, is_body}
@@ -32,7 +28,7 @@ use Rattle.pulsar_client.specs.Alarms.{ringing, rings}
 use Rattle.pulsar_client.specs.declared.act.Act.{Act}
 use Rattle.pulsar_client.specs.declared.act.Act.TheVariants.{Comes, Starts, Told, Does, Answers, Dials}
 use Rattle.pulsar_client.specs.declared.act.Action.{Action}
-use Rattle.pulsar_client.specs.declared.act.Action.TheVariants.{Get, Ask, PassTurn, Tell, StopAll, Rest}
+use Rattle.pulsar_client.specs.declared.act.Action.TheVariants.{Get, Ask, TakeTurn, PassTurn, Draw, Recall, Remake, Number, Find, Shut, Tell, StopAll, Rest}
 use Rattle.pulsar_client.specs.declared.act.Alarm.{Alarm}
 use Rattle.pulsar_client.specs.declared.act.Alarm.TheVariants.{Retry, Wake, KeepAlive, CheckIdle}
 use Rattle.pulsar_client.specs.declared.act.Arrival.{Arrival}
@@ -45,11 +41,9 @@ use Rattle.pulsar_client.specs.declared.act.Makes.{Makes}
 use Rattle.pulsar_client.specs.declared.act.Share.{Share}
 use Rattle.pulsar_client.specs.declared.act.Notice.{Notice}
 use Rattle.pulsar_client.specs.declared.act.Outcome.{Outcome}
-use Rattle.pulsar_client.specs.declared.act.Outcome.TheVariants as outcome
 use Rattle.pulsar_client.specs.declared.act.Part.{Part}
 use Rattle.pulsar_client.specs.declared.act.Part.TheVariants.{Calls, ToLink, Rings, Polls}
 use Rattle.pulsar_client.specs.declared.act.Procedure.{Procedure}
-use Rattle.pulsar_client.specs.declared.act.Procedure.TheVariants as procedure
 use Rattle.pulsar_client.specs.declared.act.Refusal.{Refusal}
 use Rattle.pulsar_client.specs.declared.act.Says.{Says}
 use Rattle.pulsar_client.specs.declared.act.Verdict.{Verdict}
@@ -60,19 +54,25 @@ use Rattle.pulsar_client.specs.declared.addresses.Series.{Series}
 use Rattle.pulsar_client.specs.declared.addresses.Series.TheVariants.{Nobody, Runs, Pauses, Serves}
 use Rattle.pulsar_client.specs.declared.plans.plan.Plan.{Plan}
 use Rattle.pulsar_client.specs.declared.plans.plan.Turn.{Turn}
-use Rattle.pulsar_client.specs.declared.plans.plan.Turn.TheVariants as turn
 use Rattle.pulsar_client.specs.Content.{Asked, Bytes, Ticked, Poll, Shown, Queued, Write, Hands, Faults, Failed, lacks_tickets, shares}
 use Rattle.pulsar_client.specs.Effects.{effect_below, is_before3}
-use Rattle.pulsar_client.specs.Links as links
 use Rattle.pulsar_client.specs.Links.{Change, Remains, Becomes, IsOver, arrival, call_of, closed_by, line_places, new_places, numbers_from}
 use Rattle.pulsar_client.specs.Parts.{outcomes_of}
-use Rattle.pulsar_client.specs.Producers.{advice, turn_passed, waiting}
+use Rattle.pulsar_client.specs.Producers.{advice, turn_passed, drawn, link_at, number_drawn, recalled, turn_taken, waiting_at}
 use Rattle.pulsar_client.specs.Plan.{begins, failure_of, fails, fault_of, reply_says, told}
-use Rattle.pulsar_client.specs.Rules.{below, call_part, dropped, fails_so, is_idle, lost, notice, performs, starts, stopped_one, stopped_with, brings}
+use Rattle.pulsar_client.specs.Rules.{below, call_part, dropped, fails_so, is_idle, lost, notice, starts, stopped_with, brings}
 use Rattle.pulsar_client.specs.Run.{Entry, Begins, Then, Good, IsRun, Rests, Step, agenda, rules, steps, tickets_in, view}
 use Rattle.pulsar_client.specs.Subscriptions.{Subscription, closes_it, is_heard_on, is_last, polled}
-use Rattle.pulsar_client.specs.View.{Base, Options, Seat, Turned, View, answer_at, arrival_at, builds, closing, is_asked, pause_of, setup, turned, waits_on}
+use Rattle.pulsar_client.specs.View.{Base, Options, Seat, Turned, View, answer_at, arrival_at, builds, closing, is_asked, pause_of, setup, turned, waits_on, room_of}
 use Rattle.pulsar_client.specs.Who.{is_same, rank}
+use Rattle.pulsar_run.specs.Laws as run
+use Rattle.pulsar_session.specs.declared.states.Asked.TheVariants as placed
+use Rattle.pulsar_session.specs.Link as session
+use Rattle.pulsar_producer.specs.declared.deed.News.TheVariants as news
+use Rattle.pulsar_client.specs.declared.act.Outcome.TheVariants as outcome
+use Rattle.pulsar_client.specs.declared.act.Procedure.TheVariants as procedure
+use Rattle.pulsar_client.specs.declared.plans.plan.Turn.TheVariants as turn
+use Rattle.pulsar_client.specs.Links as links
 
 -- THE RUN
 
@@ -275,17 +275,50 @@ IsReplied o who r e older =
 abbrev pub IsWoken : Options → Who → Entry → List Entry → Type 0
 IsWoken o who e older = (e ≡ Then (Comes (Rings (Wake who)))) × (rings (view o older).now (Wake who) (view o older).alarms ≡ true)
 
--- this one stops the client, or waits for a moment or for an attempt that is to follow while another does
+-- this one stops the client; or it waits for a moment or for an attempt that is to follow, or for its turn at a topic producer, while
+-- another does
 abbrev pub IsStopped : Options → Who → Entry → List Entry → Type 0
 IsStopped o who e older =
     (stopper : Who) × (e ≡ Then (Does stopper StopAll))
     × ((who ≡ stopper) ⊎ In (notice who outcome.Stopped) (flat_map (λ a. stopped_with (view o older).addresses a.0) (view o older).alarms)
-    ⊎ In (notice who outcome.Stopped) (map stopped_one (waiting (view o older).producers)))
+    ⊎ ((number ticket : ℕ) × (who ≡ Call ticket) × In ticket (waiting_at ((view o older).producers.topics number))))
 
--- what it asks of a topic producer, or of their numbers, is done at once
-abbrev pub IsGranted : Options → Who → News → Entry → List Entry → Type 0
-IsGranted o who n e older =
-    (action : Action) × (e ≡ Then (Does who action)) × In (Told (notice who (outcome.Granted n))) (performs (view o older) who action)
+-- its plan does this, and what is seen there is so
+abbrev pub Acts : Options → Who → (Action → View → Type 0) → Entry → List Entry → Type 0
+Acts o who P e older = (action : Action) × (e ≡ Then (Does who action)) × P action (view o older)
+
+-- What it asks of a topic producer, or of their numbers, is done at once, and gives this: the turn, which nobody else has, with the version of the
+-- schema; the number of a message, where the link is ready; the command by which the producer is made again; the number of a new one; or
+-- nothing more.
+abbrev pub GrantsSo : News → Action → View → Type 0
+GrantsSo (news.HasTurn version) (TakeTurn n) v = turn_taken (v.producers.topics n) ≡ Some version
+GrantsSo (news.Drew d) (Draw n) v = (room : Bool) × (room_of v n ≡ Some room) × (drawn room (v.producers.topics n) ≡ Some d)
+GrantsSo (news.Recalled c) (Recall n) v = recalled v.producers n ≡ Some c
+GrantsSo (news.Numbered number) Number v = number_drawn v.producers ≡ Some number
+GrantsSo news.Done (PassTurn n) v = Unit {0}
+GrantsSo news.Done (Remake r) v = Unit {0}
+GrantsSo news.Done (Shut t) v = Unit {0}
+GrantsSo news.Done (Tell n) v = Unit {0}
+GrantsSo _ _ v = ⊥
+
+-- the link of a topic producer is not ready, or its numbers are spent, or those of new producers are
+abbrev pub DrawsNone : Fault → Action → View → Type 0
+DrawsNone Disconnected (Draw n) v = room_of v n ≡ None
+DrawsNone Exhausted (Draw n) v = (room : Bool) × (room_of v n ≡ Some room) × (drawn room (v.producers.topics n) ≡ None)
+DrawsNone Exhausted Number v = number_drawn v.producers ≡ None
+DrawsNone _ _ v = ⊥
+
+-- it asks for the link of a topic producer, which is this
+abbrev pub Finds : (link : ℕ) → Action → View → Type 0
+Finds link (Find n) v = link_at (v.producers.topics n) ≡ Some link
+Finds link _ v = ⊥
+
+-- it asks of a topic producer that is not known
+abbrev pub IsUnknown : Action → View → Type 0
+IsUnknown (TakeTurn n) v = v.producers.topics n ≡ None
+IsUnknown (Recall n) v = recalled v.producers n ≡ None
+IsUnknown (Find n) v = v.producers.topics n ≡ None
+IsUnknown _ v = ⊥
 
 -- another passes the turn of a topic producer on to it, with this version of the schema
 abbrev pub GetsTurn : Options → Who → News → Entry → List Entry → Type 0
@@ -293,24 +326,21 @@ GetsTurn o who n e older =
     (other : Who) × (number ticket : ℕ) × (version : Option (List ℕ)) × (e ≡ Then (Does other (PassTurn number))) × (who ≡ Call ticket)
     × (n ≡ news.HasTurn version) × (turn_passed ((view o older).producers.topics number) ≡ Some (ticket, version))
 
--- what it asks for is there no more: a topic producer that is not known
-abbrev pub IsUnknown : Options → Who → Outcome → Entry → List Entry → Type 0
-IsUnknown o who u e older = (action : Action) × (e ≡ Then (Does who action)) × In (Told (notice who u)) (performs (view o older) who action)
-
 -- another tells it this
 abbrev pub IsToldBy : Who → Outcome → Entry → List Entry → Type 0
 IsToldBy who u e older = (other : Who) × (e ≡ Then (Does other (Tell (notice who u))))
 
--- GotLink: it got a link of an address, which serves, or that became ready while it waited. NotFound: the address cannot be reached.
--- Failed, Canceled: the last attempt that it waited for ended, of a series that it or another started. Queued: it asked, and its frame was
--- queued at once or moved up. InLine, Refused: it asked, and the link said so. Replied: its request was answered. Woken: its moment came.
--- TimedOut, Disconnected, Cut, Stopped: its request, its frame in the line or the attempt that it waited for ended so; or the client was
--- stopped, or a part of it says so. Granted: it asked for a turn, for a number or the like, or its turn came. Parted: a part of it says so.
+-- GotLink: it got a link of an address, which serves, or that became ready while it waited; or it found that of a topic producer. NotFound:
+-- the address cannot be reached. Failed, Canceled: the last attempt that it waited for ended, of a series that it or another started. Queued:
+-- it asked, and its frame was queued at once or moved up. InLine, Refused: it asked, and the link said so; Refused also: it drew a number, and
+-- there was none. Replied: its request was answered. Woken: its moment came. TimedOut, Disconnected, Cut, Stopped: its request, its frame in the
+-- line or the attempt that it waited for ended so; Disconnected also: there is no such topic producer; Stopped also: the client was stopped, or a
+-- part of it says so. Granted: it asked for a turn, for a number or the like, or its turn came. Parted: a part of it says so.
 abbrev pub Cause : Options → Who → Outcome → Entry → List Entry → Type 0
 Cause o who (outcome.GotLink link) e older =
     Gets o who (λ p v. (is_reachable p ≡ true) × ((base_of v p).series ≡ Serves link)) e older
-    ⊎ (BecomesReady o who link e older ⊎ IsUnknown o who (outcome.GotLink link) e older)
-Cause o who (outcome.Granted n) e older = IsGranted o who n e older ⊎ GetsTurn o who n e older
+    ⊎ (BecomesReady o who link e older ⊎ Acts o who (Finds link) e older)
+Cause o who (outcome.Granted n) e older = Acts o who (GrantsSo n) e older ⊎ GetsTurn o who n e older
 Cause o who (outcome.Parted ticket f) e older = IsToldBy who (outcome.Parted ticket f) e older
 Cause o who outcome.NotFound e older = Gets o who (λ p v. is_reachable p ≡ false) e older
 Cause o who (outcome.Failed kind) e older = AttemptEnds o who (outcome.Failed kind) e older
@@ -318,11 +348,11 @@ Cause o who outcome.Canceled e older = AttemptEnds o who outcome.Canceled e olde
 Cause o who outcome.Queued e older = AsksSo o who (λ a. (place : ℕ) × (a ≡ Ok (placed.Queued place))) e older ⊎ MovesUp o who e older
 Cause o who outcome.InLine e older = AsksSo o who (λ a. (place : ℕ) × (a ≡ Ok (placed.Waiting place))) e older
 Cause o who (outcome.Refused cause) e older =
-    AsksSo o who (λ a. (x : ConnectionError) × (a ≡ Err x) × (fault x ≡ cause)) e older ⊎ IsUnknown o who (outcome.Refused cause) e older
+    AsksSo o who (λ a. (x : ConnectionError) × (a ≡ Err x) × (fault x ≡ cause)) e older ⊎ Acts o who (DrawsNone cause) e older
 Cause o who (outcome.Replied r) e older = IsReplied o who r e older
 Cause o who outcome.TimedOut e older = RequestEnds o who outcome.TimedOut e older
 Cause o who outcome.Disconnected e older =
-    RequestEnds o who outcome.Disconnected e older ⊎ (LineEnds o who outcome.Disconnected e older ⊎ IsUnknown o who outcome.Disconnected e older)
+    RequestEnds o who outcome.Disconnected e older ⊎ (LineEnds o who outcome.Disconnected e older ⊎ Acts o who IsUnknown e older)
 Cause o who outcome.Woken e older = IsWoken o who e older
 Cause o who outcome.Cut e older = RequestEnds o who outcome.Cut e older
 Cause o who outcome.Stopped e older =

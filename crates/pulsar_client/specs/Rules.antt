@@ -39,7 +39,7 @@ use Rattle.pulsar_client.specs.declared.act.Procedure.{Procedure}
 use Rattle.pulsar_client.specs.declared.act.Procedure.TheVariants as procedure
 use Rattle.pulsar_client.specs.declared.act.Refusal.{Refusal}
 use Rattle.pulsar_client.specs.declared.act.Refusal.TheVariants as refusal
-use Rattle.pulsar_client.specs.declared.act.Round.TheVariants.{Checks, Closes}
+use Rattle.pulsar_client.specs.declared.act.Round.TheVariants.{Checks}
 use Rattle.pulsar_client.specs.declared.act.Share.{Share}
 use Rattle.pulsar_client.specs.declared.act.Says.TheVariants as says
 use Rattle.pulsar_client.specs.declared.act.Verdict.{Verdict}

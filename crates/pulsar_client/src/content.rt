@@ -1,12 +1,13 @@
 //! What a call says, what it ends with, and why something failed. It is boxed, so that acts are small. Contracts see it by its
 //! content.
 
-ghost use Rattle.std.specs.Prelude.{◌≡◌, [], ◌∷◌, ◌++◌, IfOk, MatchOption, None, drop};
+ghost use Rattle.std.specs.Prelude.{◌≡◌, [], ◌∷◌, ◌++◌, ℕ, List, Result, IfOk, MatchOption, drop};
 ghost use Rattle.pulsar_client.specs.Content as content;
 ghost use Rattle.pulsar_client.specs.Content.{asked, said};
 ghost use Rattle.pulsar_client.specs.Links.{numbers_from};
 ghost use Rattle.pulsar_client.specs.Producers.{next_advice};
-ghost use Rattle.pulsar_client.specs.Parts.{failed_with, outcomes_of, sent_from};
+ghost use Rattle.pulsar_client.specs.Parts.{failed_with, outcome_at, outcomes_of, sent_from};
+ghost use Rattle.pulsar_wire.specs.declared.error.Error.{Error as Meant};
 ghost use Rattle.pulsar_session.specs.Failures.{fault, sent};
 
 use crate::effect::Answer;
@@ -345,10 +346,11 @@ impl Failures {
     pub fn with(self, ticket: u64, failure: Option<Refusal>) -> Result<Failures, NoMemory>
         ensures { IfOk result (λ f. f ≡ failed_with ticket failure self) }
     {
+        let Some(refusal) = failure else {
+            return Ok(self);
+        };
         let Failures { mut all } = self;
-        if let Some(refusal) = failure {
-            all.insert(ticket, refusal)?;
-        }
+        all.insert(ticket, refusal)?;
         Ok(Failures { all })
     }
 
@@ -378,13 +380,23 @@ impl Failures {
     {
         let Failures { mut all } = self;
         let mut sent = Vec::new(alloc);
-        for ticket in first..first.saturating_add(count) {
-            sent.push(match all.remove(&ticket) {
-                Some(refusal) => Err(refusal.into_inner()),
-                None => Ok(ticket),
-            })?;
+        let Some(after) = first.checked_add(count) else {
+            return Err(NoMemory);
+        };
+        for ticket in first..after {
+            sent.push(became(ticket, all.remove(&ticket)))?;
         }
         Ok(sent)
+    }
+}
+
+/// What became of the send of a ticket that failed so, or did not fail.
+fn became(ticket: u64, failure: Option<Refusal>) -> Result<u64, Error>
+    ensures { (more : List (Result ℕ Meant)) → sent (result ∷ more) ≡ outcome_at ticket failure (sent more) }
+{
+    match failure {
+        Some(refusal) => Err(refusal.into_inner()),
+        None => Ok(ticket),
     }
 }
 
@@ -393,7 +405,10 @@ fn tickets(alloc: Global, first: u64, count: u64) -> Result<Vec<u64>, NoMemory>
     ensures { IfOk result (λ ts. ts.items ≡ numbers_from first count) }
 {
     let mut tickets = Vec::new(alloc);
-    for ticket in first..first.saturating_add(count) {
+    let Some(after) = first.checked_add(count) else {
+        return Err(NoMemory);
+    };
+    for ticket in first..after {
         tickets.push(ticket)?;
     }
     Ok(tickets)

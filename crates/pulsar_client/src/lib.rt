@@ -20,6 +20,7 @@ pub mod options;
 mod order;
 pub mod outside;
 mod plans;
+pub mod producer_laws;
 mod producers;
 pub mod pulsar;
 mod row;

@@ -1,6 +1,6 @@
 //! The links of a client, and who asked on each.
 
-ghost use Rattle.std.specs.Prelude.{◌≡◌, ◌==◌, ◌+◌, ◌++◌, ◌∷◌, [], ℕ, false, IfOk, OnOk, None, Some, not, map, if◌then◌else◌};
+ghost use Rattle.std.specs.Prelude.{◌≡◌, ◌==◌, ◌&&◌, ◌+◌, ◌++◌, ◌∷◌, [], ℕ, false, IfOk, OnOk, None, Some, not, map, if◌then◌else◌};
 ghost use Rattle.std.specs.BTreeMap.{IsOrdered, keys};
 ghost use Rattle.std.specs.List.{flat_map};
 ghost use Rattle.std.specs.List.Sorted.{IsStrictlySortedBy};
@@ -416,7 +416,14 @@ fn is_idle(
 {
     let rests = row.rests(now, most);
     let is_heard = subscribers.hears_on(link);
-    rests && !is_heard && !producers.holds(link)
+    let is_held = producers.holds(link);
+    is_unused(rests, is_heard, is_held)
+}
+
+fn is_unused(rests: bool, is_heard: bool, is_held: bool) -> bool
+    ensures { result ≡ ((rests && not is_heard) && not is_held) }
+{
+    rests && !is_heard && !is_held
 }
 
 /// A link that is idle ends.

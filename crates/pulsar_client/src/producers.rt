@@ -1,22 +1,25 @@
 //! The producers of a client, their topic producers, and the numbers of these.
 
-ghost use Rattle.std.specs.Prelude.{◌≡◌, ◌==◌, ◌++◌, ◌∷◌, ℕ, [], IfOk, MatchOption, None, OnOk, Some, map, if◌then◌else◌};
+ghost use Rattle.std.specs.Prelude.{◌≡◌, ◌==◌, ◌&&◌, ◌+◌, ◌-◌, ◌^◌, nat_lt, ◌++◌, ℕ, IfOk, OnOk, Some, length, map, if◌then◌else◌};
 ghost use Rattle.std.specs.BTreeMap.{get};
-ghost use Rattle.std.specs.BTreeSet.{insert_key};
 ghost use Rattle.std.specs.List.{list_any};
 ghost use Rattle.std.specs.Option.{is_some, option_map};
 ghost use Rattle.std.specs.Ordering.{nat_cmp};
 ghost use Rattle.pulsar_messages.specs.Content.{message_content};
+ghost use Rattle.pulsar_producer.specs.Producer.{made};
+ghost use Rattle.pulsar_producer.specs.Random.{first_index};
 ghost use Rattle.pulsar_producer.specs.Topic as topic;
 ghost use Rattle.pulsar_client.specs.Producers as meaning;
-ghost use Rattle.pulsar_client.specs.Kept.{producers_of};
+ghost use Rattle.pulsar_client.specs.Producers.{Producers as Seen};
 ghost use Rattle.pulsar_client.specs.Rules.{stopped_one};
+ghost use Rattle.pulsar_client.specs.Kept.{producers_of};
 
 use crate::act::{Notice, Outcome, Who};
 use crate::content::{Advice, Building, Numbers, Remaking};
 use pulsar_messages::Message;
+use pulsar_plans::content::Text;
 use pulsar_plans::making::Command;
-use pulsar_producer::content::{Built, Parts, Version};
+use pulsar_producer::content::{Built, Parts, Settings, Version};
 use pulsar_producer::deed::Drawn;
 use pulsar_producer::random::first_index;
 use pulsar_producer::routing::Partition;
@@ -114,13 +117,10 @@ impl Producers {
     ) -> Result<Advice, NoMemory>
         ensures { IfOk result (λ a. a ≡ meaning.advice_in (map (λ p. routes p) policies.now) ((producers_of self.now).built ticket) (map message_content messages.now)) }
     {
-        let mut advice = Advice::new(self.alloc);
-        if let Some(producer) = self.built.get(&ticket) {
-            for message in messages {
-                advice = advice.with(producer.advice(message, policies))?;
-            }
+        match self.built.get(&ticket) {
+            Some(producer) => advice_of(self.alloc, producer, messages, policies),
+            None => Ok(Advice::new(self.alloc)),
         }
-        Ok(advice)
     }
 
     /// How a message of a producer is sent, by what its policy says: by which topic producer, and whether it waits for room. There is
@@ -142,13 +142,10 @@ impl Producers {
     pub fn numbers_of(&self, ticket: u64) -> Result<Numbers, NoMemory>
         ensures { IfOk result (λ ns. ns ≡ meaning.numbers_at ((producers_of self.now).built ticket)) }
     {
-        let mut numbers = Numbers::new(self.alloc);
-        if let Some(producer) = self.built.get(&ticket) {
-            for partition in producer.as_slice() {
-                numbers = numbers.with(partition.number)?;
-            }
+        match self.built.get(&ticket) {
+            Some(producer) => numbers_of(self.alloc, producer.as_slice()),
+            None => Ok(Numbers::new(self.alloc)),
         }
-        Ok(numbers)
     }
 
     /// The link of a topic producer.
@@ -261,9 +258,7 @@ impl Producers {
         let Some(producer) = self.built.get(&ticket) else {
             return;
         };
-        for partition in producer.as_slice() {
-            close(&mut self.topics, partition.number);
-        }
+        close_all(&mut self.topics, producer.as_slice());
     }
 
     /// A producer was built by the call of this ticket.
@@ -282,9 +277,9 @@ impl Producers {
             parts,
         } = building;
         let partitions = self.make_all(ticket, parts, first_number)?;
-        let last = first_index(seed, ticket, partitions.len() as u32) as usize;
-        if let Some(producer) = Producer::new(topic, settings, partitions, last) {
-            self.built.insert(ticket, producer)?;
+        match made_of(seed, ticket, topic, settings, partitions) {
+            Some(producer) => drop(self.built.insert(ticket, producer)?),
+            None => {}
         }
         Ok(())
     }
@@ -321,9 +316,7 @@ impl Producers {
     pub fn holds(&self, link: u64) -> bool
         ensures { result ≡ meaning.is_held (producers_of self.now) link }
     {
-        self.numbers
-            .iter()
-            .any(|number| holds_at(&self.topics, *number, link))
+        is_held(&self.numbers, &self.topics, link)
     }
 
     /// Those that wait for a turn are told that the client is stopped.
@@ -331,12 +324,54 @@ impl Producers {
         ensures { OnOk result (notices.new.items ≡ notices.old.items ++ map stopped_one (meaning.waiting (producers_of self.now))) }
     {
         for number in &self.numbers {
-            if let Some(topic) = self.topics.get(number) {
-                stop_at(topic.seen.waiting(), notices)?;
-            }
+            stop_at(&self.topics, *number, notices)?;
         }
         Ok(())
     }
+}
+
+/// What the policy of a producer says of messages, one by one.
+fn advice_of(
+    alloc: Global,
+    producer: &Producer,
+    messages: &[Message],
+    policies: &[Box<dyn CustomRoutingPolicy>],
+) -> Result<Advice, NoMemory>
+    ensures { IfOk result (λ a. a ≡ meaning.advice_in (map (λ p. routes p) policies.now) (Some producer.now) (map message_content messages.now)) }
+{
+    let mut advice = Advice::new(alloc);
+    for message in messages {
+        advice = advice.with(producer.advice(message, policies))?;
+    }
+    Ok(advice)
+}
+
+/// The numbers of the topic producers of these partitions, in order.
+fn numbers_of(alloc: Global, partitions: &[Partition]) -> Result<Numbers, NoMemory>
+    ensures { IfOk result (λ ns. ns ≡ map (λ q. q.number) partitions.now) }
+{
+    let mut numbers = Numbers::new(alloc);
+    for partition in partitions {
+        numbers = numbers.with(partition.number)?;
+    }
+    Ok(numbers)
+}
+
+/// A producer that begins behind an index that is drawn for it. There is none of too many partitions.
+fn made_of(
+    seed: u64,
+    ticket: u64,
+    topic: Text,
+    settings: Settings,
+    partitions: Vec<Partition>,
+) -> Option<Producer>
+    ensures { result ≡ made topic settings partitions.items (first_index seed ticket (length partitions.items)) }
+{
+    let Ok(count) = u32::try_from(partitions.len()) else {
+        return None;
+    };
+    let last = first_index(seed, ticket, count);
+    Producer::new(topic, settings, partitions, last as usize)
 }
 
 /// The first number, from one on, that no raw call has named.
@@ -345,11 +380,20 @@ fn free_from(named: &BTreeSet<u64>, from: u64) -> u64
 {
     let mut number = from;
     for taken in named {
-        if *taken == number && number < u64::MAX {
-            number += 1;
-        }
+        number = behind(*taken, number);
     }
     number
+}
+
+/// The number behind one, where that is taken; the greatest is the last.
+fn behind(taken: u64, number: u64) -> u64
+    ensures { result ≡ (if (taken == number) && nat_lt number (2 ^ 64 - 1) then number + 1 else number) }
+{
+    if taken == number && number < u64::MAX {
+        number + 1
+    } else {
+        number
+    }
 }
 
 fn close(topics: &mut BTreeMap<u64, Topic>, number: u64)
@@ -357,6 +401,16 @@ fn close(topics: &mut BTreeMap<u64, Topic>, number: u64)
 {
     if let Some(topic) = topics.get_mut(&number) {
         topic.seen.close();
+    }
+}
+
+/// The topic producers of these partitions are closed.
+fn close_all(topics: &mut BTreeMap<u64, Topic>, partitions: &[Partition])
+    ensures { (ps : Seen) → ps.topics ≡ get nat_cmp topics.old
+        → meaning.shut_all (map (λ q. q.number) partitions.now) ps ≡ record ps { topics = get nat_cmp topics.new } }
+{
+    for partition in partitions {
+        close(topics, partition.number);
     }
 }
 
@@ -370,6 +424,13 @@ fn partition_of(built: &Built) -> Result<Partition, NoMemory>
     })
 }
 
+/// One of these topic producers that is not closed is on this link.
+fn is_held(numbers: &[u64], topics: &BTreeMap<u64, Topic>, link: u64) -> bool
+    ensures { result ≡ list_any (λ n. meaning.is_open_on link (get nat_cmp topics.now n)) numbers.now }
+{
+    numbers.iter().any(|number| holds_at(topics, *number, link))
+}
+
 fn holds_at(topics: &BTreeMap<u64, Topic>, number: u64, link: u64) -> bool
     ensures { result ≡ meaning.is_open_on link (get nat_cmp topics.now number) }
 {
@@ -379,7 +440,21 @@ fn holds_at(topics: &BTreeMap<u64, Topic>, number: u64, link: u64) -> bool
     }
 }
 
-fn stop_at(waiting: &BTreeSet<u64>, notices: &mut Vec<Notice>) -> Result<(), NoMemory>
+/// Those that wait for a turn at this topic producer are told that the client is stopped.
+fn stop_at(
+    topics: &BTreeMap<u64, Topic>,
+    number: u64,
+    notices: &mut Vec<Notice>,
+) -> Result<(), NoMemory>
+    ensures { OnOk result (notices.new.items ≡ notices.old.items ++ map stopped_one (meaning.waiting_at (get nat_cmp topics.now number))) }
+{
+    match topics.get(&number) {
+        Some(topic) => stop_all(topic.seen.waiting(), notices),
+        None => Ok(()),
+    }
+}
+
+fn stop_all(waiting: &BTreeSet<u64>, notices: &mut Vec<Notice>) -> Result<(), NoMemory>
     ensures { OnOk result (notices.new.items ≡ notices.old.items ++ map stopped_one waiting.now.keys) }
 {
     for ticket in waiting {

@@ -37,7 +37,7 @@ pub struct Settings {
 
 impl Settings {
     pub fn new(alloc: Global, options: &ClientOptions) -> Result<Settings, NoMemory>
-        ensures { IfOk result (λ s. chosen_of s ≡ chosen options.now) }
+        ensures { IfOk result (λ s. chosen_of s ≡ chosen options.entry.now) }
     {
         Ok(Settings {
             base: base_in(alloc, &options.url)?,

@@ -1,5 +1,5 @@
 -- The partition of a message.
-use Rattle.std.proofs.Common.{◌≡◌, ◌∙◌, sym, ap, refl, subst, ℕ, ◌+◌, ◌<◌, ◌%◌, ◌==◌, nat_lt, Bool, true, false, cond, List, Option, Some, None, arith}
+use Rattle.std.proofs.Common.{◌≡◌, refl, subst, ℕ, ◌+◌, ◌<◌, ◌==◌, nat_lt, Bool, true, false, cond, List, Option, Some, None, arith}
 use Rattle.std.proofs.lemmas.Bool.Decides.{nat_tests}
 use Rattle.std.proofs.lemmas.Nat.{mod_below}
 use Rattle.std.specs.Prelude.{slice_get}
@@ -7,7 +7,7 @@ use Rattle.pulsar_messages.specs.Content.{ProducerMessageValues}
 use Rattle.pulsar_messages.specs.Murmur.{murmur3}
 use Rattle.pulsar_messages.specs.declared.routing_policy.RoutingPolicy.{RoutingPolicy}
 use Rattle.pulsar_messages.specs.declared.routing_policy.RoutingPolicy.TheVariants.{RoundRobin, Single, Custom}
-use Rattle.pulsar_producer.specs.Routing.{IsRouted, Policy, Routed, advice_by, asked, chosen, chosen_by, count, in_range, of_key, stepped}
+use Rattle.pulsar_producer.specs.Routing.{IsRouted, Policy, Routed, advice_by, asked, chosen_by, count, of_key, stepped}
 use Rattle.pulsar_producer.specs.Laws.{PartitionIsThere}
 
 pub step_there : (last n : ℕ) → last < n → cond (last + 1 == n) 0 (last + 1) < n

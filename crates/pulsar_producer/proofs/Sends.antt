@@ -1,5 +1,5 @@
 -- A send asks for its message only where it drew a number, and no more once its frame is queued.
-use Rattle.std.proofs.Common.{◌≡◌, ◌∙◌, sym, ap, refl, ℕ, Bool, true, false, cond, ◌||◌, List, [], ◌∷◌, ◌++◌, Option, Some, None, Result, Ok, Err}
+use Rattle.std.proofs.Common.{◌≡◌, ◌∙◌, ap, refl, ℕ, Bool, true, false, cond, List, [], ◌∷◌, ◌++◌, Option, Some, None, Result, Ok, Err}
 use Rattle.std.specs.List.{list_any}
 use Rattle.pulsar_messages.specs.Content.{ProducerMessageValues}
 use Rattle.pulsar_session.specs.Failures.{Fault, Failure}
@@ -14,7 +14,7 @@ use Rattle.pulsar_plans.specs.declared.turn.Turn.{Turn}
 use Rattle.pulsar_plans.specs.declared.turn.Turn.TheVariants as turn
 use Rattle.pulsar_plans.specs.declared.turn.Ways.{Ways}
 use Rattle.pulsar_producer.specs.Errors.{in_producer}
-use Rattle.pulsar_producer.specs.Plans.{Sent, fault_told, in_asked, in_drawing, in_looking, in_making, in_recalling, in_remaking, in_sent, in_waiting, not_drawn, not_queued, receipt, send_asks, send_ends, send_looks, send_makes, send_of, send_recalls, send_told}
+use Rattle.pulsar_producer.specs.Plans.{fault_told, in_asked, in_drawing, in_looking, in_making, in_recalling, in_remaking, in_sent, in_waiting, not_drawn, not_queued, receipt, send_asks, send_ends, send_looks, send_makes, send_of, send_recalls, send_told}
 use Rattle.pulsar_producer.specs.Laws.{EachFrameHasItsNumber, QueuedIsNotAskedAgain, deeds_in, deeds_of, is_send, state_after, state_in}
 use Rattle.pulsar_producer.specs.declared.deed.Deed.TheVariants.{Sends}
 use Rattle.pulsar_producer.specs.declared.deed.Drawn.{Drawn}

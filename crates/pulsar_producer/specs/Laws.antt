@@ -7,7 +7,7 @@ use Rattle.pulsar_messages.specs.Content.{ProducerMessageValues}
 use Rattle.pulsar_plans.specs.declared.turn.Ways.{Ways}
 use Rattle.pulsar_producer.specs.Plans.{Sent, send_of, send_told}
 use Rattle.pulsar_producer.specs.Routing.{Policy, Routed, IsRouted, chosen, count}
-use Rattle.pulsar_producer.specs.Topic.{Act, Takes, Passes, Draws, Remakes, Closes, Seen, Setup, after, drawn, is_free, next_holder, seen}
+use Rattle.pulsar_producer.specs.Topic.{Act, Takes, Passes, Draws, Remakes, Closes, Seen, Setup, drawn, is_free, next_holder, seen}
 use Rattle.pulsar_producer.specs.declared.deed.Deed.{Deed}
 use Rattle.pulsar_producer.specs.declared.deed.Deed.TheVariants.{Does, TakesTurn, Sends, PassesTurn, Recalls, Numbers, ClosesProducer, Rests}
 use Rattle.pulsar_producer.specs.declared.deed.Deed.TheVariants as deed

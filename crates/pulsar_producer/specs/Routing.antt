@@ -1,5 +1,5 @@
 -- Which partition of a topic a message goes to.  (Apache Pulsar, Concepts, Partitioned topics: Routing modes)
-use Rattle.std.specs.Prelude.{ℕ, ◌+◌, ◌-◌, ◌^◌, ◌%◌, ◌<◌, nat_lt, ◌==◌, ◌&&◌, if◌then◌else◌, List, length, Option, Some, None, slice_get}
+use Rattle.std.specs.Prelude.{ℕ, ◌+◌, ◌^◌, ◌%◌, ◌<◌, nat_lt, ◌==◌, ◌&&◌, if◌then◌else◌, List, length, Option, Some, None, slice_get}
 use Rattle.pulsar_messages.specs.Content.{ProducerMessageValues}
 use Rattle.pulsar_messages.specs.Murmur.{murmur3}
 use Rattle.pulsar_messages.specs.declared.routing_policy.RoutingPolicy.{RoutingPolicy}

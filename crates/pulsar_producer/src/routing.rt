@@ -92,6 +92,8 @@ impl PartitionedProducer {
         ensures last { self.new ≡ routed (message_content message.now) self.old }
         ensures below { IfOk result (λ i. i < count self.old) }
     {
+        // Of its partitions it is known, from here on, that there are some and that the last used one is among them.
+        let _ = &self.partitions;
         let advice = self.advice(message, policies);
         match self.choose_on(message, advice) {
             Some(index) => Ok(index),

@@ -2,7 +2,7 @@
 
 ghost use Rattle.std.specs.Prelude.{◌≡◌, IfOk};
 ghost use Rattle.pulsar_session.specs.Failures.{Custom, OfProducer, ProducerCustom, failure, fault};
-ghost use Rattle.pulsar_client.specs.Plan.{asks, begins, failure_of, fails, fails_with, fault_of, makes, makes_of, replied, stands, told, verdict, waits};
+ghost use Rattle.pulsar_client.specs.Plan.{asks, begins, failure_of, fails, fails_with, fault_of, makes, makes_of, overrides, replied, stands, told, verdict, waits};
 ghost use Rattle.pulsar_client.specs.Content.{Done, Failed};
 
 use crate::act::{Action, Makes, Outcome, Place, Procedure, Refusal, Round, Says, Share, Verdict};
@@ -152,23 +152,10 @@ pub fn told(alloc: Global, plan: Plan, outcome: Outcome) -> Result<Turn<Plan, Ve
     ensures { IfOk result (λ turn. turn ≡ told plan outcome) }
 {
     match plan {
-        Plan::Building => match outcome {
-            Outcome::GotLink(_) => done(alloc, Makes::Client),
-            outcome => fails(alloc, error_of(outcome)),
-        },
-        Plan::Getting(request, says) => match outcome {
-            Outcome::GotLink(link) => asks(link, request, says),
-            outcome => fails(alloc, error_of(outcome)),
-        },
-        Plan::Asking(wanted) => match outcome {
-            Outcome::Queued => waits(alloc, wanted),
-            Outcome::InLine => stands(alloc, wanted),
-            outcome => fails(alloc, error_of(outcome)),
-        },
-        Plan::Awaiting(wanted) => match outcome {
-            Outcome::Replied(reply) => replied(alloc, wanted, reply),
-            outcome => fails(alloc, error_of(outcome)),
-        },
+        Plan::Building => in_building(alloc, outcome),
+        Plan::Getting(request, says) => in_getting(alloc, request, says, outcome),
+        Plan::Asking(wanted) => in_asking(alloc, wanted, outcome),
+        Plan::Awaiting(wanted) => in_awaiting(alloc, wanted, outcome),
         Plan::Searching { ways, search } => search::told(alloc, ways, search, outcome),
         Plan::Producing {
             ways,
@@ -196,10 +183,66 @@ pub fn told(alloc: Global, plan: Plan, outcome: Outcome) -> Result<Turn<Plan, Ve
             left,
             at,
         } => visiting::told(alloc, round, number, left, at, outcome),
-        Plan::Stopping => match outcome {
-            Outcome::Stopped => done(alloc, Makes::Nothing),
-            outcome => fails(alloc, error_of(outcome)),
-        },
+        Plan::Stopping => in_stopping(alloc, outcome),
+    }
+}
+
+fn in_building(alloc: Global, outcome: Outcome) -> Result<Turn<Plan, Verdict>, NoMemory>
+    ensures { IfOk result (λ turn. turn ≡ told Plan.Building outcome) }
+{
+    match outcome {
+        Outcome::GotLink(_) => done(alloc, Makes::Client),
+        outcome => fails(alloc, error_of(outcome)),
+    }
+}
+
+fn in_getting(
+    alloc: Global,
+    request: Request,
+    says: Says,
+    outcome: Outcome,
+) -> Result<Turn<Plan, Verdict>, NoMemory>
+    ensures { IfOk result (λ turn. turn ≡ told (Plan.Getting request says) outcome) }
+{
+    match outcome {
+        Outcome::GotLink(link) => asks(link, request, says),
+        outcome => fails(alloc, error_of(outcome)),
+    }
+}
+
+fn in_asking(
+    alloc: Global,
+    wanted: Wanted,
+    outcome: Outcome,
+) -> Result<Turn<Plan, Verdict>, NoMemory>
+    ensures { IfOk result (λ turn. turn ≡ told (Plan.Asking wanted) outcome) }
+{
+    match outcome {
+        Outcome::Queued => waits(alloc, wanted),
+        Outcome::InLine => stands(alloc, wanted),
+        outcome => fails(alloc, error_of(outcome)),
+    }
+}
+
+fn in_awaiting(
+    alloc: Global,
+    wanted: Wanted,
+    outcome: Outcome,
+) -> Result<Turn<Plan, Verdict>, NoMemory>
+    ensures { IfOk result (λ turn. turn ≡ told (Plan.Awaiting wanted) outcome) }
+{
+    match outcome {
+        Outcome::Replied(reply) => replied(alloc, wanted, reply),
+        outcome => fails(alloc, error_of(outcome)),
+    }
+}
+
+fn in_stopping(alloc: Global, outcome: Outcome) -> Result<Turn<Plan, Verdict>, NoMemory>
+    ensures { IfOk result (λ turn. turn ≡ told Plan.Stopping outcome) }
+{
+    match outcome {
+        Outcome::Stopped => done(alloc, Makes::Nothing),
+        outcome => fails(alloc, error_of(outcome)),
     }
 }
 
@@ -339,6 +382,28 @@ pub fn failure(alloc: Global, error: ConnectionError) -> Result<Verdict, NoMemor
         makes: Makes::Nothing,
         said,
     })
+}
+
+/// The stop of the client.
+pub fn overrides(outcome: &Outcome) -> bool
+    ensures { result ≡ overrides outcome.now }
+{
+    match outcome {
+        Outcome::Cut | Outcome::Stopped => true,
+        Outcome::GotLink(_)
+        | Outcome::NotFound
+        | Outcome::Failed(_)
+        | Outcome::Canceled
+        | Outcome::Queued
+        | Outcome::InLine
+        | Outcome::Refused(_)
+        | Outcome::Replied(_)
+        | Outcome::TimedOut
+        | Outcome::Disconnected
+        | Outcome::Woken
+        | Outcome::Granted(_)
+        | Outcome::Parted { .. } => false,
+    }
 }
 
 /// Why a plan fails at an outcome.

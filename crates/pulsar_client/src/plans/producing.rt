@@ -1,15 +1,16 @@
 //! The building of producers as plans of calls, and what plans of producers do and are told.
 
-ghost use Rattle.std.specs.Prelude.{◌≡◌, IfOk, Ok};
+ghost use Rattle.std.specs.Prelude.{◌≡◌, IfOk};
 ghost use Rattle.pulsar_messages.specs.Words.{CloseProducer, Send as Sends};
 ghost use Rattle.pulsar_producer.specs.Plans as meaning;
-ghost use Rattle.pulsar_client.specs.Plan.{action_of, builds, news_of, told};
+ghost use Rattle.pulsar_client.specs.Content.{Done};
+ghost use Rattle.pulsar_client.specs.Plan.{action_of, built_of, builds, news_of, told, verdict};
 ghost use Rattle.pulsar_client.specs.declared.plans.plan.Plan.TheVariants.{Producing};
 
 use crate::act::{Action, Makes, Outcome, Verdict};
 use crate::content::{Building as Built, Made, Remade, Remaking, Said};
 use crate::effect::Answer;
-use crate::plans::plan::{Plan, Turn, failure, left};
+use crate::plans::plan::{Plan, Turn, error_of, fails, left, overrides};
 use crate::plans::search::{news_in, wished};
 use crate::plans::states::BuildState;
 use pulsar_link::content::Request;
@@ -18,7 +19,7 @@ use pulsar_plans::turn::Ways;
 use pulsar_producer::building::{self, Building, Builds, Order};
 use pulsar_producer::content::Parts;
 use pulsar_producer::deed::{Deed, News, Send, Step};
-use pulsar_wire::error::{ConnectionError, NoMemory};
+use pulsar_wire::error::NoMemory;
 use std::alloc::Global;
 
 /// A building begins.
@@ -39,10 +40,10 @@ pub fn told(
 ) -> Result<Turn<Plan, Verdict>, NoMemory>
     ensures { IfOk result (λ turn. turn ≡ told (Producing ways order building) outcome) }
 {
-    match outcome {
-        Outcome::Cut => Ok(Turn::Gives(failure(alloc, ConnectionError::Disconnected)?)),
-        Outcome::Stopped => Ok(Turn::Gives(failure(alloc, ConnectionError::Shutdown)?)),
-        outcome => tells(alloc, ways, order, building, outcome),
+    if overrides(&outcome) {
+        fails(alloc, error_of(outcome))
+    } else {
+        tells(alloc, ways, order, building, outcome)
     }
 }
 
@@ -101,7 +102,7 @@ fn stays(
 
 /// A producer was built.
 fn made(alloc: Global, order: Order, parts: Parts) -> Result<Turn<Plan, Verdict>, NoMemory>
-    ensures { IfOk result (λ turn. (w : _) → turn ≡ builds w order (Step.Gives (Ok parts))) }
+    ensures { IfOk result (λ turn. turn ≡ Turn.Gives (verdict (built_of order parts) Done)) }
 {
     let Order {
         topic,

@@ -1,15 +1,19 @@
 //! Sends as plans of calls, by themselves or as parts of other calls.
 
-ghost use Rattle.std.specs.Prelude.{◌≡◌, IfOk};
+ghost use Rattle.std.specs.Prelude.{◌≡◌, [], IfOk, Some};
+ghost use Rattle.std.specs.Option.{option_map};
+ghost use Rattle.pulsar_wire.specs.Views.{body_values};
+ghost use Rattle.pulsar_link.specs.Messages.{written};
 ghost use Rattle.pulsar_producer.specs.Plans as meaning;
-ghost use Rattle.pulsar_client.specs.Plan.{goes_on_sending, halted, leaves, news_of, parted, receipted, reported, sends_stay, told};
+ghost use Rattle.pulsar_client.specs.Content.{Replies};
+ghost use Rattle.pulsar_client.specs.Plan.{action_of, goes_on_sending, halted, leaves, news_of, parted, receipt_said, receipted, reported, sends_stay, told};
 ghost use Rattle.pulsar_client.specs.declared.plans.plan.Plan.TheVariants.{Sending as InSending};
 
 use crate::act::{Action, Makes, Notice, Outcome, Share, Verdict, Who};
 use crate::content::Said;
 use crate::copying::twice;
 use crate::effect::Answer;
-use crate::plans::plan::{Plan, Turn, error_of, left};
+use crate::plans::plan::{Plan, Turn, error_of, left, overrides};
 use crate::plans::producing::{action_of, news_of};
 use crate::plans::states::{SendState, is_sent};
 use pulsar_frame::message::Message;
@@ -48,9 +52,10 @@ pub fn told(
 ) -> Result<Turn<Plan, Verdict>, NoMemory>
     ensures { IfOk result (λ turn. turn ≡ told (InSending ways errand share sending) outcome) }
 {
-    match outcome {
-        Outcome::Cut | Outcome::Stopped if !sending.is_sent() => halted(alloc, share, outcome),
-        outcome => tells(alloc, ways, errand, share, sending, outcome),
+    if overrides(&outcome) && !sending.is_sent() {
+        halted(alloc, share, outcome)
+    } else {
+        tells(alloc, ways, errand, share, sending, outcome)
     }
 }
 
@@ -103,20 +108,32 @@ fn stays(
             Plan::Reporting { ways, errand },
             tell(share, parted(share, None)),
         )),
-        share => {
-            let sending = SendState::new(alloc, sending)?;
-            let action = action_of(alloc, deed)?;
-            Ok(Turn::Stays(
-                Plan::Sending {
-                    ways,
-                    errand,
-                    share,
-                    sending,
-                },
-                action,
-            ))
-        }
+        share => stands(alloc, ways, errand, share, sending, deed),
     }
+}
+
+/// It stands there, and does this.
+fn stands(
+    alloc: Global,
+    ways: Ways,
+    errand: Errand,
+    share: Option<Share>,
+    sending: Sending,
+    deed: Deed,
+) -> Result<Turn<Plan, Verdict>, NoMemory>
+    ensures { IfOk result (λ turn. turn ≡ Turn.Stays (InSending ways errand share sending) (action_of deed)) }
+{
+    let sending = SendState::new(alloc, sending)?;
+    let action = action_of(alloc, deed)?;
+    Ok(Turn::Stays(
+        Plan::Sending {
+            ways,
+            errand,
+            share,
+            sending,
+        },
+        action,
+    ))
 }
 
 /// It has told that it is queued: its turn is over.
@@ -196,12 +213,36 @@ fn received(alloc: Global, reply: Received) -> Result<Turn<Plan, Verdict>, NoMem
         command,
         payload: _,
     } = reply.into_message();
-    let said = match command.body {
-        Some(Body::SendReceipt(receipt)) => Said::new(alloc, Ok(Answer::Receipt(receipt)))?,
-        _ => Said::new(alloc, Ok(Answer::Replies(Vec::new(alloc))))?,
-    };
+    let said = receipt_in(alloc, command.body)?;
     Ok(Turn::Gives(Verdict {
         makes: Makes::Nothing,
         said,
     }))
+}
+
+/// The receipt of a reply, by its body.
+fn receipt_in(alloc: Global, body: Option<Body>) -> Result<Said, NoMemory>
+    ensures { IfOk result (λ s. s ≡ receipt_said (option_map (λ b. written (body_values b)) body)) }
+{
+    match body {
+        Some(body) => receipt_of(alloc, body),
+        None => Said::new(alloc, Ok(Answer::Replies(Vec::new(alloc)))),
+    }
+}
+
+fn receipt_of(alloc: Global, body: Body) -> Result<Said, NoMemory>
+    ensures { IfOk result (λ s. s ≡ receipt_said (Some (written (body_values body)))) }
+{
+    match body {
+        Body::SendReceipt(receipt) => Said::new(alloc, Ok(Answer::Receipt(receipt))),
+        body => nothing(alloc, body),
+    }
+}
+
+/// A body that is no receipt.
+fn nothing(alloc: Global, body: Body) -> Result<Said, NoMemory>
+    ensures { IfOk result (λ s. s ≡ Replies []) }
+{
+    drop(body);
+    Said::new(alloc, Ok(Answer::Replies(Vec::new(alloc))))
 }

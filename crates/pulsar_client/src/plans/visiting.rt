@@ -1,15 +1,15 @@
 //! Calls that ask each topic producer of a producer, one after the other, each in its turn.
 
-ghost use Rattle.std.specs.Prelude.{◌≡◌, IfOk, MatchResult};
+ghost use Rattle.std.specs.Prelude.{◌≡◌, IfOk};
 ghost use Rattle.pulsar_session.specs.Failures.{fault};
 ghost use Rattle.pulsar_link.specs.Request.{request_number};
-ghost use Rattle.pulsar_client.specs.Plan.{asks_of, failure_in, fails_in, goes_round, in_asking, in_awaiting, in_finding, in_passing, in_turning, quits, stays_at, told};
+ghost use Rattle.pulsar_client.specs.Plan.{asks_of, failure_in, fails_in, goes_round, in_asking, in_awaiting, in_finding, in_passing, in_turning, quits, stays_at, told, told_at};
 ghost use Rattle.pulsar_client.specs.declared.plans.plan.Plan.TheVariants.{Shutting, Visiting};
 
 use crate::act::{Action, Makes, Outcome, Round, Verdict};
 use crate::content::Numbers;
 use crate::plans::answers;
-use crate::plans::plan::{At, Plan, Turn, done, error_of, fails, left};
+use crate::plans::plan::{At, Plan, Turn, done, error_of, fails, left, overrides};
 use crate::plans::producing::closes;
 use pulsar_link::content::{Received, Request};
 use pulsar_link::raw_call::RawCall;
@@ -37,10 +37,18 @@ pub fn shut(
 ) -> Result<Turn<Plan, Verdict>, NoMemory>
     ensures { IfOk result (λ turn. turn ≡ told (Shutting numbers) outcome) }
 {
-    match granted(outcome) {
-        Ok(News::Done) => next(alloc, Round::Closes, numbers),
-        Ok(news) => fails(alloc, error_told(news)),
-        Err(outcome) => fails(alloc, error_of(outcome)),
+    match outcome {
+        Outcome::Granted(granted) => is_shut(alloc, numbers, granted.into_inner()),
+        outcome => fails(alloc, error_of(outcome)),
+    }
+}
+
+fn is_shut(alloc: Global, numbers: Numbers, news: News) -> Result<Turn<Plan, Verdict>, NoMemory>
+    ensures { IfOk result (λ turn. turn ≡ told (Shutting numbers) (Outcome.Granted news)) }
+{
+    match news {
+        News::Done => next(alloc, Round::Closes, numbers),
+        news => fails(alloc, error_told(news)),
     }
 }
 
@@ -55,9 +63,23 @@ pub fn told(
 ) -> Result<Turn<Plan, Verdict>, NoMemory>
     ensures { IfOk result (λ turn. turn ≡ told (Visiting round number left at) outcome) }
 {
-    if let Outcome::Cut | Outcome::Stopped = &outcome {
-        return fails(alloc, error_of(outcome));
+    if overrides(&outcome) {
+        fails(alloc, error_of(outcome))
+    } else {
+        goes_on(alloc, round, number, left, at, outcome)
     }
+}
+
+fn goes_on(
+    alloc: Global,
+    round: Round,
+    number: u64,
+    left: Numbers,
+    at: At,
+    outcome: Outcome,
+) -> Result<Turn<Plan, Verdict>, NoMemory>
+    ensures { IfOk result (λ turn. turn ≡ told_at round number left at outcome) }
+{
     match at {
         At::Turning => in_turning(alloc, round, number, left, outcome),
         At::Finding => in_finding(alloc, round, number, left, outcome),
@@ -77,10 +99,24 @@ fn in_turning(
 ) -> Result<Turn<Plan, Verdict>, NoMemory>
     ensures { IfOk result (λ turn. turn ≡ in_turning round number left outcome) }
 {
-    match granted(outcome) {
-        Ok(News::HasTurn(_)) => Ok(stays(round, number, left, At::Finding, Action::Find(number))),
-        Ok(news) => failed(alloc, round, error_told(news)),
-        Err(outcome) => failed(alloc, round, error_of(outcome)),
+    match outcome {
+        Outcome::Granted(granted) => turned(alloc, round, number, left, granted.into_inner()),
+        outcome => failed(alloc, round, error_of(outcome)),
+    }
+}
+
+fn turned(
+    alloc: Global,
+    round: Round,
+    number: u64,
+    left: Numbers,
+    news: News,
+) -> Result<Turn<Plan, Verdict>, NoMemory>
+    ensures { IfOk result (λ turn. turn ≡ in_turning round number left (Outcome.Granted news)) }
+{
+    match news {
+        News::HasTurn(_) => Ok(stays(round, number, left, At::Finding, Action::Find(number))),
+        news => failed(alloc, round, error_told(news)),
     }
 }
 
@@ -94,10 +130,24 @@ fn in_passing(
 ) -> Result<Turn<Plan, Verdict>, NoMemory>
     ensures { IfOk result (λ turn. turn ≡ in_passing round number left outcome) }
 {
-    match granted(outcome) {
-        Ok(News::Done) => Ok(stays(round, number, left, At::Awaiting, Action::Rest)),
-        Ok(news) => failed(alloc, round, error_told(news)),
-        Err(outcome) => failed(alloc, round, error_of(outcome)),
+    match outcome {
+        Outcome::Granted(granted) => passed(alloc, round, number, left, granted.into_inner()),
+        outcome => failed(alloc, round, error_of(outcome)),
+    }
+}
+
+fn passed(
+    alloc: Global,
+    round: Round,
+    number: u64,
+    left: Numbers,
+    news: News,
+) -> Result<Turn<Plan, Verdict>, NoMemory>
+    ensures { IfOk result (λ turn. turn ≡ in_passing round number left (Outcome.Granted news)) }
+{
+    match news {
+        News::Done => Ok(stays(round, number, left, At::Awaiting, Action::Rest)),
+        news => failed(alloc, round, error_told(news)),
     }
 }
 
@@ -236,14 +286,4 @@ fn stays(round: Round, number: u64, left: Numbers, at: At, action: Action) -> Tu
         },
         action,
     )
-}
-
-/// What came of what was asked of a topic producer, or another outcome.
-fn granted(outcome: Outcome) -> Result<News, Outcome>
-    ensures { MatchResult result (λ n. outcome ≡ Outcome.Granted n) (λ o. o ≡ outcome) }
-{
-    match outcome {
-        Outcome::Granted(granted) => Ok(granted.into_inner()),
-        outcome => Err(outcome),
-    }
 }

@@ -1,27 +1,21 @@
 -- What arises at once, by its kind, and which acts give rise to it. A further kind of act or action is told of here, and nowhere else.
-use Rattle.std.proofs.Common.{◌≡◌, ℕ, ◌+◌, ◌-◌, ◌^◌, List, [], ◌∷◌, ◌++◌, refl, drop, Bool, true, false, Option, Some, None}
+use Rattle.std.proofs.Common.{◌≡◌, ℕ, ◌+◌, List, ◌∷◌, refl, Bool, true, false, Option, Some, None, []}
 use Rattle.std.specs.Option.{option_to_list}
-use Rattle.pulsar_messages.specs.Content.{ProducerMessageValues}
 use Rattle.pulsar_plans.specs.Address.{Place, address_key, is_reachable}
 use Rattle.pulsar_plans.specs.declared.making.Command.{Command}
-use Rattle.pulsar_producer.specs.declared.deed.News.TheVariants as news
-use Rattle.pulsar_session.specs.Failures.{Exhausted}
 use Rattle.pulsar_client.specs.declared.act.Act.{Act}
 use Rattle.pulsar_client.specs.declared.act.Act.TheVariants.{Comes, Starts, Told, Does, Answers, Dials}
 use Rattle.pulsar_client.specs.declared.act.Action.{Action}
-use Rattle.pulsar_client.specs.declared.act.Action.TheVariants.{Get, Ask, Wait, TakeTurn, PassTurn, Draw, Recall, Remake, Number, Find, Shut, Tell, StopAll, Rest}
+use Rattle.pulsar_client.specs.declared.act.Action.TheVariants.{Get, Wait, TakeTurn, Recall, Find, StopAll, Rest}
 use Rattle.pulsar_client.specs.declared.act.Alarm.{Alarm}
 use Rattle.pulsar_client.specs.declared.act.Alarm.TheVariants.{Retry, Wake, KeepAlive, CheckIdle}
 use Rattle.pulsar_client.specs.declared.act.Arrival.{Arrival}
 use Rattle.pulsar_client.specs.declared.act.Arrival.TheVariants.{Bad}
 use Rattle.pulsar_client.specs.declared.act.End.TheVariants.{Broken, Idles, Stops}
 use Rattle.pulsar_client.specs.declared.act.LinkAct.TheVariants.{Reads, Pings, Ends}
-use Rattle.pulsar_client.specs.declared.act.Outcome.TheVariants as outcome
 use Rattle.pulsar_client.specs.declared.act.Part.TheVariants.{Calls, ToLink, Rings}
-use Rattle.pulsar_client.specs.declared.act.Refusal.{Refusal}
 use Rattle.pulsar_client.specs.declared.act.Verdict.{Verdict}
 use Rattle.pulsar_client.specs.declared.act.Who.{Who}
-use Rattle.pulsar_client.specs.declared.act.Who.TheVariants.{Call}
 use Rattle.pulsar_client.specs.declared.addresses.Pause.{Pause}
 use Rattle.pulsar_client.specs.declared.addresses.Series.{Series}
 use Rattle.pulsar_client.specs.declared.addresses.Series.TheVariants.{Nobody, Runs, Pauses, Serves}
@@ -30,12 +24,14 @@ use Rattle.pulsar_client.specs.declared.plans.plan.Turn.{Turn}
 use Rattle.pulsar_client.specs.declared.plans.plan.Turn.TheVariants.{Stays, Gives}
 use Rattle.pulsar_client.specs.declared.producers.Topic.{Topic}
 use Rattle.pulsar_client.specs.Alarms.{rings}
-use Rattle.pulsar_client.specs.Content.{Asked, SendAll, lacks_tickets, shares}
-use Rattle.pulsar_client.specs.Plan.{begins, fails}
-use Rattle.pulsar_client.specs.Producers.{Producers, link_at, recalled, routed, turn_taken}
-use Rattle.pulsar_client.specs.Rules.{at_once, breaks_at, called, does, finds, follows, follows_some, gets_from, grants, idle_act, is_idle, keeps_alive, may_ping, over_links, parts_of, performs, recalls, rung, shares_of, shares_unless, starts, stop_act, takes_turn, tells, tries_again, why_no_sends}
-use Rattle.pulsar_client.specs.View.{Chosen, Seat, View, arrival_at, told_some}
-use Rattle.pulsar_client.proofs.Acts.{Each, each_append, each_either, each_flat, over_each}
+use Rattle.pulsar_client.specs.Content.{Asked, shares}
+use Rattle.pulsar_client.specs.Plan.{begins}
+use Rattle.pulsar_client.specs.Producers.{link_at, recalled, turn_taken}
+use Rattle.pulsar_client.specs.Rules.{at_once, breaks_at, called, does, finds, follows, follows_some, gets_from, grants, idle_act, is_idle, keeps_alive, may_ping, over_links, performs, recalls, rung, stop_act, takes_turn, tells, tries_again}
+use Rattle.pulsar_client.specs.View.{Seat, View, arrival_at, told_some}
+use Rattle.pulsar_producer.specs.declared.deed.News.TheVariants as news
+use Rattle.pulsar_client.specs.declared.act.Outcome.TheVariants as outcome
+use Rattle.pulsar_client.proofs.Acts.{Each, StartsIn, called_each, each_append, each_either, each_flat, over_each}
 
 -- a plan begins, does something, or ends; one is told something; an attempt begins; a link ends by what came on it, for want of use or
 -- with the client, or is asked for a sign of life; and what never arises at once
@@ -85,27 +81,14 @@ IsRaised a b = may (kind b) a ≡ true
 
 -- CALLS
 
-module _ (asked : Asked) (advice : List (Option ℕ)) where
-  abbrev call : Act
-  call = Comes (Calls asked advice)
+call_raised : (asked : Asked) (advice : List (Option ℕ)) (from to : ℕ) (a : Act) → StartsIn from to a → IsRaised (Comes (Calls asked advice)) a
+call_raised asked advice from to (Starts who p) k = refl
+call_raised asked advice from to _ k = absurd k
 
-  shares_raised : (o : Chosen) (ps : Producers) (of ticket : ℕ) (said : List (Option ℕ)) (t : ℕ) (ms : List ProducerMessageValues) →
-      Each (IsRaised call) (shares_of o ps of ticket said t ms)
-  shares_raised o ps of ticket said t [] = tt
-  shares_raised o ps of ticket said t (m ∷ ms) = (refl, shares_raised o (routed t m ps) of (ticket + 1) (drop 1 said) t ms)
-
-  unless_raised : (why : Option Refusal) (v : View) (t : ℕ) (ms : List ProducerMessageValues) → Each (IsRaised call) (shares_unless why v advice t ms)
-  unless_raised (Some r) v t ms = tt
-  unless_raised None v t ms = shares_raised v.chosen v.producers v.calls.drawn (v.calls.drawn + 1) advice t ms
-
-  parts_raised : (v : View) (x : Asked) → Each (IsRaised call) (parts_of v advice x)
-  parts_raised v (SendAll t ms) = unless_raised (why_no_sends v.calls v.producers t) v t ms
-  parts_raised v _ = tt
-
-  called_raised : (v : View) → Each (IsRaised call) (called v advice asked)
-  called_raised v =
-      each_either (IsRaised call) (lacks_tickets v.calls.drawn (shares asked)) (Answers (Call (2 ^ 64 - 1)) (fails Exhausted) ∷ []) (starts v advice asked) (refl, tt)
-      (refl, parts_raised v asked)
+called_raised : (v : View) (advice : List (Option ℕ)) (asked : Asked) → Each (IsRaised (Comes (Calls asked advice))) (called v advice asked)
+called_raised v advice asked =
+    called_each (IsRaised (Comes (Calls asked advice))) v advice asked (λ e. refl)
+    (λ e. call_raised asked advice v.calls.drawn (v.calls.drawn + 1 + shares asked))
 
 -- PLANS
 
@@ -117,7 +100,8 @@ follows_raised : (a : Act) (who : Who) (turn : Turn Plan Verdict) → may OfDeed
 follows_raised a who (Stays plan action) d e = does_raised a who action d
 follows_raised a who (Gives verdict) d e = (e, tt)
 
-some_raised : (a : Act) (who : Who) (turn : Option (Turn Plan Verdict)) → may OfDeed a ≡ true → may OfVerdict a ≡ true → Each (IsRaised a) (follows_some who turn)
+some_raised : (a : Act) (who : Who) (turn : Option (Turn Plan Verdict)) → may OfDeed a ≡ true → may OfVerdict a ≡ true →
+    Each (IsRaised a) (follows_some who turn)
 some_raised a who None d e = tt
 some_raised a who (Some turn) d e = follows_raised a who turn d e
 
@@ -181,7 +165,7 @@ rung_raised v CheckIdle = over_each (IsRaised (Comes (Rings CheckIdle))) (idle_a
 -- ALL
 
 pub raises : (v : View) (a : Act) → Each (IsRaised a) (at_once v a)
-raises v (Comes (Calls asked advice)) = called_raised asked advice v
+raises v (Comes (Calls asked advice)) = called_raised v advice asked
 raises v (Comes (ToLink l Reads)) = breaks_raised l (arrival_at (v.links.live l))
 raises v (Comes (Rings a)) = each_either (IsRaised (Comes (Rings a))) (rings v.now a v.alarms) (rung v a) [] (rung_raised v a) tt
 raises v (Starts who p) = follows_raised (Starts who p) who (begins p) refl refl

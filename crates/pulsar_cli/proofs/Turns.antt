@@ -118,3 +118,10 @@ none-event ps o h r f f' put bytes source found is at = subst (λ t. InPiece ps 
 
 pub some-event : (ps : List Policy) (o : Options) (h : List Step) (r : Reading) (f f' : Feed) (put bytes : List ℕ) (source : Seen) (found : Option Event) (e : Event) → found ≡ Some e → MatchOption found (Running ps o h r put (bytes ++ unread f)) (λ event. (front : List ℕ) × HasConsumed ps o h r put front (heard event) × Fed f' source front) → (front : List ℕ) × HasConsumed ps o h r put front (heard e) × Fed f' source front
 some-event ps o h r f f' put bytes source found e is at = subst (λ t. InPiece ps o h r f f' put bytes source t) is at
+
+-- what was found: the end, or an event
+pub found-none : (ps : List Policy) (o : Options) (h : List Step) (r : Reading) (f : Feed) (source sink : Seen) (result : Result (Option Next) Stop) → result ≡ Ok None → HasFound ps o h r f source sink result → HasRead ps (Ok tt) r source sink
+found-none ps o h r f source sink result is at = subst (λ t. HasFound ps o h r f source sink t) is at
+
+pub found-some : (ps : List Policy) (o : Options) (h : List Step) (r : Reading) (f : Feed) (source sink : Seen) (result : Result (Option Next) Stop) (n : Next) → result ≡ Ok (Some n) → HasFound ps o h r f source sink result → Awaits ps o h r f source sink (heard n.event) n.last
+found-some ps o h r f source sink result n is at = subst (λ t. HasFound ps o h r f source sink t) is at

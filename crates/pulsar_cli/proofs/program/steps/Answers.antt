@@ -1,8 +1,10 @@
-use Rattle.std.proofs.Common.{arith, ◌≤◌, ◌∷◌, [], sym, ap, refl, map}
+use Rattle.std.proofs.Common.{rules, arith, ◌≡◌, ◌∙◌, ◌∷◌, [], sym, ap, refl, map, Ok, Some, None}
 use Rattle.pulsar_client.specs.Content.{heard, shown}
 use Rattle.pulsar_client.specs.Tables.{step}
 use Rattle.pulsar_cli.proofs.Events.{Tells, awaits-options, good-of, ran-awaits, told-end, told-on}
+use Rattle.pulsar_cli.specs.Script.{since}
 use Rattle.pulsar_cli.proofs.Gives.{ran-done, ran-halted}
+use Rattle.pulsar_cli.proofs.Turns.{found-none, found-some}
 use Rattle.pulsar_cli.proofs.program.steps.Goals as goal
 
 pub returns-in_default : goal.returns-in_default
@@ -36,7 +38,8 @@ returns-in-Ok-None g c = λ ps o h content held faults count awaits same stands.
     let next = c.in-Ok.ensures.ok o inv.0 [] inv.3 in
     let good = good-of next in
     let going = told-on c.loop-effects.found.last c.if-last.false inv.1 tells (sym inv.2) good in
-    ran-done (c.in-Ok-None.ensures.found ps o _ content held faults count going)
+    let inner : c.in-Ok-None.field-0 ≡ None = search rules in
+    ran-done (found-none ps o (step c.loop-effects.found.event c.in-Ok.effects.items ∷ inv.0) c.next.new.reading c.next.new.feed (since content faults g.S.Source.left g.S.Source.faults c.next.new.source) (since held count g.K.Sink.holds g.K.Sink.faults c.next.new.sink) c.next.result (c.in-Ok-None.is ∙ ap Ok inner) (c.next.ensures.found ps o (step c.loop-effects.found.event c.in-Ok.effects.items ∷ inv.0) content held faults count going))
 
 pub returns-in-Err : goal.returns-in-Err
 returns-in-Err g c = λ ps o h content held faults count awaits same stands.
@@ -63,6 +66,7 @@ loop-effects-preserved g c = λ ps o h content held faults count awaits same sta
     let next = c.in-Ok.ensures.ok o inv.0 [] inv.3 in
     let good = good-of next in
     let going = told-on c.loop-effects.found.last c.if-last.false inv.1 tells (sym inv.2) good in
-    let found = c.in-Ok-Some.ensures.found ps o _ content held faults count going in
+    let inner : c.in-Ok-Some.field-0 ≡ Some c.in-Ok-Some.found = search rules in
+    let found = found-some ps o (step c.loop-effects.found.event c.in-Ok.effects.items ∷ inv.0) c.next.new.reading c.next.new.feed (since content faults g.S.Source.left g.S.Source.faults c.next.new.source) (since held count g.K.Sink.holds g.K.Sink.faults c.next.new.sink) c.next.result c.in-Ok-Some.found (c.in-Ok-Some.is ∙ ap Ok inner) (c.next.ensures.found ps o (step c.loop-effects.found.event c.in-Ok.effects.items ∷ inv.0) content held faults count going) in
     (step c.loop-effects.found.event c.in-Ok.effects.items ∷ inv.0, found,
-    sym (awaits-options _ _ _ inv.0 c.next.new.reading c.next.new.feed (heard c.in-Ok-Some.found.event) c.in-Ok-Some.found.last found), next)
+    sym (awaits-options (since content faults g.S.Source.left g.S.Source.faults c.next.new.source) (since held count g.K.Sink.holds g.K.Sink.faults c.next.new.sink) (step c.loop-effects.found.event c.in-Ok.effects.items) inv.0 c.next.new.reading c.next.new.feed (heard c.in-Ok-Some.found.event) c.in-Ok-Some.found.last found), next)

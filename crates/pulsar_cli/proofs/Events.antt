@@ -2,6 +2,10 @@
 use Rattle.std.proofs.Common.{◌≡◌, ℕ, ◌+◌, ◌-◌, ◌≤◌, ◌<◌, ◌∙◌, sym, ap, Bool, true, false, List, [], ◌∷◌, ◌++◌, refl, arith, Option, length, append_assoc, append-nil, length-append}
 use Rattle.std.specs.Prelude.{string_bytes, Result, Ok, Err, OnOk, OnErr}
 use Rattle.pulsar_producer.specs.Routing.{Policy}
+use Rattle.std.specs.declared.alloc.Global.{Global}
+use Rattle.std.specs.declared.dyn_box.DynBox.{DynBox}
+use Rattle.pulsar_client.specs.Client.{StandsFor}
+use Rattle.pulsar_client.specs.declared.pulsar.Pulsar.{Pulsar}
 use Rattle.pulsar_client.specs.Outside.{Rose}
 use Rattle.pulsar_client.specs.Content.{Heard, Shown}
 use Rattle.pulsar_client.specs.Run.{Good, Step}
@@ -90,9 +94,9 @@ goes-short-last {source = source} a =
     let c = a.last.comes in
     ran-short (given-whole source a.bytes a.gave a.ends) a.within (stopped (c.line ∷ []) c.reads a.last.adds a.last.whole)
 
-pub ran-awaits : {ps : List Policy} {o : Options} {source sink : Seen} (h : List Step) (r : Reading) (f : Feed) (e : Heard) (last : Bool) → Awaits ps o h r f source sink e last → Ran ps 3 source sink
-ran-awaits h r f e false a = goes-short a
-ran-awaits h r f e true a = goes-short-last a
+pub ran-awaits : {ps : List Policy} {source sink : Seen} (o : Options) (h : List Step) (r : Reading) (f : Feed) (e : Heard) (last : Bool) → Awaits ps o h r f source sink e last → Ran ps 3 source sink
+ran-awaits o h r f e false a = goes-short a
+ran-awaits o h r f e true a = goes-short-last a
 
 -- all was put
 pub ran-finished : {ps : List Policy} {o : Options} {h : List Step} {r : Reading} {source sink sink' : Seen} → HasTold ps o h r source sink → sink'.before ≡ sink.before → Adds sink.after sink'.after (string_bytes r.out) → Ran ps 0 source sink'
@@ -128,12 +132,16 @@ told-end f true is a t chosen good = told-last a t chosen good
 told-end f false is a t chosen good = absurd cc
 
 -- behind a step the options stay
-pub awaits-options : {ps : List Policy} {o : Options} {source sink : Seen} (s : Step) (h : List Step) (r : Reading) (f : Feed) (e : Heard) (last : Bool) → Awaits ps o (s ∷ h) r f source sink e last → options_in ps r ≡ o
-awaits-options s h r f e false a = a.consumed.comes.reads.options refl
-awaits-options s h r f e true a = a.last.comes.reads.options refl
+pub awaits-options : {ps : List Policy} {o : Options} (source sink : Seen) (s : Step) (h : List Step) (r : Reading) (f : Feed) (e : Heard) (last : Bool) → Awaits ps o (s ∷ h) r f source sink e last → options_in ps r ≡ o
+awaits-options source sink s h r f e false a = a.consumed.comes.reads.options refl
+awaits-options source sink s h r f e true a = a.last.comes.reads.options refl
 
 -- and fewer steps can still come
 pub fewer-left : (f f' : Feed) (last last' : Bool) → last ≡ false → (last' ≡ false → remaining f' < remaining f) → steps_left f' last' < steps_left f last
 fewer-left f f' false false is less = let lt = less refl in omega (arith, lt)
 fewer-left f f' false true is less = omega arith
 fewer-left f f' true last' is less = absurd cc
+
+-- a history that a client stands for is good
+pub good-of : {X : Type 0} {d : X → Type 0} {routes : DynBox X Global d → Policy} {o : Options} {c : Pulsar X d} {h : List Step} {taken : List ℕ} → StandsFor routes o c h taken → Good o h
+good-of stands = let s = stands.stands in record { log = s.log; run = s.run; rests = s.rests; same = s.same }

@@ -4,6 +4,7 @@ use Rattle.std.specs.Prelude.{◌↔◌, string_bytes, Result, Ok, Err, IfErr, I
 use Rattle.pulsar_producer.specs.Routing.{Policy}
 use Rattle.pulsar_client.specs.Outside.{Rose}
 use Rattle.pulsar_client.specs.Content.{Heard, heard}
+use Rattle.pulsar_client.specs.declared.event.Event.{Event}
 use Rattle.pulsar_client.specs.Run.{Step}
 use Rattle.pulsar_client.specs.View.{Options}
 use Rattle.pulsar_cli.specs.Script.{Adds, AddsFront, IsDone, Seen, limit}
@@ -48,8 +49,8 @@ flush-halts {r'' = r''} {f = f} {source = source} {sink' = sink'} a run same cou
     (rw count (rose-from _ _ _ a.faults rose)) (λ e. absurd (omega (arith, e)), λ lt. absurd (omega (arith, lt, taken)))
 
 -- its text was put
-pub piece-put : {ps : List Policy} {o : Options} {h : List Step} {r r' r'' : Reading} {f : Feed} {source sink sink' : Seen} (a : Going ps o h r f source sink) → Running ps o h r'' (a.prints.put ++ string_bytes r'.out) (a.bytes ++ unread f) → sink'.before ≡ sink.before → Adds sink.after sink'.after (string_bytes r'.out) → Prints ps o h r'' sink'.before sink'.after (a.bytes ++ unread f)
-piece-put {r' = r'} a run same adds = record { put = a.prints.put ++ string_bytes r'.out; running = run; adds = rw same (adds-more a.prints.put (string_bytes r'.out) a.prints.adds adds) }
+pub piece-put : {ps : List Policy} {o : Options} {h : List Step} {r r'' : Reading} {f : Feed} {source sink : Seen} (r' : Reading) (sink' : Seen) (a : Going ps o h r f source sink) → Running ps o h r'' (a.prints.put ++ string_bytes r'.out) (a.bytes ++ unread f) → sink'.before ≡ sink.before → Adds sink.after sink'.after (string_bytes r'.out) → Prints ps o h r'' sink'.before sink'.after (a.bytes ++ unread f)
+piece-put r' sink' a run same adds = record { put = a.prints.put ++ string_bytes r'.out; running = run; adds = rw same (adds-more a.prints.put (string_bytes r'.out) a.prints.adds adds) }
 
 -- no further piece comes
 pub refill-halts : {ps : List Policy} {o : Options} {h : List Step} {r : Reading} {source sink : Seen} (s : Stop) (bytes : List ℕ) → Prints ps o h r sink.before sink.after bytes → IsFull s source bytes → HasRead ps (Err s) r source sink
@@ -80,13 +81,13 @@ whole-size {f = f} {bytes = bytes} fed none =
     omega (arith, count, same)
 
 -- the last line was read
-last-is : {ps : List Policy} {o : Options} {h : List Step} {r : Reading} {f : Feed} {source sink : Seen} {bytes : List ℕ} (e : Heard) (last : Bool) → last ≡ true → IsLast ps o h r sink.before sink.after bytes e → Gave source.before source.after bytes → IsAtEnd source → length bytes ≤ limit → source.faults_before ≤ source.faults_after → sink.faults_before ≤ sink.faults_after → Awaits ps o h r f source sink e last
-last-is {bytes = bytes} e true is at gave ends le sources sinks = record { bytes = bytes; last = at; gave = gave; ends = ends; within = le; sources = sources; sinks = sinks }
-last-is e false is at gave ends le sources sinks = absurd cc
+last-is : {ps : List Policy} {o : Options} {h : List Step} {r : Reading} {source sink : Seen} {bytes : List ℕ} (f : Feed) (e : Heard) (last : Bool) → last ≡ true → IsLast ps o h r sink.before sink.after bytes e → Gave source.before source.after bytes → IsAtEnd source → length bytes ≤ limit → source.faults_before ≤ source.faults_after → sink.faults_before ≤ sink.faults_after → Awaits ps o h r f source sink e last
+last-is {bytes = bytes} f e true is at gave ends le sources sinks = record { bytes = bytes; last = at; gave = gave; ends = ends; within = le; sources = sources; sinks = sinks }
+last-is f e false is at gave ends le sources sinks = absurd cc
 
-pub last-found : {ps : List Policy} {o : Options} {h : List Step} {r : Reading} {f f' : Feed} {source sink : Seen} {bytes : List ℕ} (middle : ℕ) (result : Result (Option Next) Stop) → MatchResult result (λ found. MatchOption found (IsDone ps bytes sink.before sink.after) (λ n. IsLast ps o h r sink.before sink.after bytes (heard n.event))) (λ s. Halts ps s r sink.before sink.after bytes) →
+pub last-found : {f' : Feed} {source : Seen} {bytes : List ℕ} (ps : List Policy) (o : Options) (h : List Step) (r : Reading) (f : Feed) (sink : Seen) (middle : ℕ) (result : Result (Option Next) Stop) → MatchResult result (λ found. MatchOption found (IsDone ps bytes sink.before sink.after) (λ n. IsLast ps o h r sink.before sink.after bytes (heard n.event))) (λ s. Halts ps s r sink.before sink.after bytes) →
     IfOk result (λ found. IfSome found (λ n. n.last ≡ true)) → IfErr result (λ s. InTurn s middle sink.faults_after) → sink.faults_before ≤ middle → sink.faults_before ≤ sink.faults_after → Fed f' source bytes → unread f' ≡ [] → IsAtEnd source → HasFound ps o h r f source sink result
-last-found {source = source} {bytes = bytes} middle (Ok None) is last in' le grows fed none ends =
+last-found {source = source} {bytes = bytes} ps o h r f sink middle (Ok None) is last in' le grows fed none ends =
     let size = whole-size fed none in
     record {
       given = given-whole source bytes (whole-gave fed none) ends;
@@ -95,9 +96,9 @@ last-found {source = source} {bytes = bytes} middle (Ok None) is last in' le gro
       faults = tt;
       limits = (λ e. absurd (omega (arith, e)), λ lt. absurd (omega (arith, size, lt)));
     }
-last-found middle (Ok (Some n)) is last in' le grows fed none ends =
-    last-is (heard n.event) n.last last is (whole-gave fed none) ends (whole-size fed none) fed.faults grows
-last-found {source = source} {sink = sink} {bytes = bytes} middle (Err s) is last in' le grows fed none ends =
+last-found ps o h r f sink middle (Ok (Some n)) is last in' le grows fed none ends =
+    last-is f (heard n.event) n.last last is (whole-gave fed none) ends (whole-size fed none) fed.faults grows
+last-found {source = source} {bytes = bytes} ps o h r f sink middle (Err s) is last in' le grows fed none ends =
     let size = whole-size fed none in
     record {
       given = given-whole source bytes (whole-gave fed none) ends;
@@ -106,3 +107,21 @@ last-found {source = source} {sink = sink} {bytes = bytes} middle (Err s) is las
       faults = turn-faults s source.faults_before source.faults_after sink.faults_before middle sink.faults_after le in';
       limits = (λ e. absurd (turn-status s middle sink.faults_after in' e), λ lt. absurd (omega (arith, size, lt)));
     }
+
+-- no event was found in the piece, and one was
+abbrev InPiece : List Policy → Options → List Step → Reading → Feed → Feed → List ℕ → List ℕ → Seen → Option Event → Type 0
+InPiece ps o h r f f' put bytes source found =
+    MatchOption found (Running ps o h r put (bytes ++ unread f)) (λ event. (front : List ℕ) × HasConsumed ps o h r put front (heard event) × Fed f' source front)
+
+pub none-event : (ps : List Policy) (o : Options) (h : List Step) (r : Reading) (f f' : Feed) (put bytes : List ℕ) (source : Seen) (found : Option Event) → found ≡ None → MatchOption found (Running ps o h r put (bytes ++ unread f)) (λ event. (front : List ℕ) × HasConsumed ps o h r put front (heard event) × Fed f' source front) → Running ps o h r put (bytes ++ unread f)
+none-event ps o h r f f' put bytes source found is at = subst (λ t. InPiece ps o h r f f' put bytes source t) is at
+
+pub some-event : (ps : List Policy) (o : Options) (h : List Step) (r : Reading) (f f' : Feed) (put bytes : List ℕ) (source : Seen) (found : Option Event) (e : Event) → found ≡ Some e → MatchOption found (Running ps o h r put (bytes ++ unread f)) (λ event. (front : List ℕ) × HasConsumed ps o h r put front (heard event) × Fed f' source front) → (front : List ℕ) × HasConsumed ps o h r put front (heard e) × Fed f' source front
+some-event ps o h r f f' put bytes source found e is at = subst (λ t. InPiece ps o h r f f' put bytes source t) is at
+
+-- what was found: the end, or an event
+pub found-none : (ps : List Policy) (o : Options) (h : List Step) (r : Reading) (f : Feed) (source sink : Seen) (result : Result (Option Next) Stop) → result ≡ Ok None → HasFound ps o h r f source sink result → HasRead ps (Ok tt) r source sink
+found-none ps o h r f source sink result is at = subst (λ t. HasFound ps o h r f source sink t) is at
+
+pub found-some : (ps : List Policy) (o : Options) (h : List Step) (r : Reading) (f : Feed) (source sink : Seen) (result : Result (Option Next) Stop) (n : Next) → result ≡ Ok (Some n) → HasFound ps o h r f source sink result → Awaits ps o h r f source sink (heard n.event) n.last
+found-some ps o h r f source sink result n is at = subst (λ t. HasFound ps o h r f source sink t) is at

@@ -85,12 +85,14 @@ pub fn script<S: Source, K: Sink>(
         Err(stop) => return halt(stop, &mut reading, sink),
     };
     let Ok(options) = options(&reading.choice, policies) else {
+        drop(found);
         return NO_MEMORY;
     };
     let Ok(client) = Pulsar::new(alloc, options) else {
+        drop(found);
         return NO_MEMORY;
     };
-    steps(client, reading, feed, found, source, sink)
+    steps(client, &mut reading, &mut feed, found, source, sink)
 }
 
 /// Nothing is read yet.
@@ -108,20 +110,18 @@ fn begin(alloc: Global) -> Result<(Reading, Feed), Stop>
 /// The events from this one on, each by a step of the client.
 fn steps<S: Source, K: Sink>(
     client: Pulsar,
-    reading: Reading,
-    feed: Feed,
+    reading: &mut Reading,
+    feed: &mut Feed,
     found: Next,
     source: &mut S,
     sink: &mut K,
 ) -> Status
     ensures { (ps : List Policy) (o : Options) (h : List Step) (content held : Option (List ℕ)) (faults count : ℕ)
-        → Awaits ps o h reading feed (since content faults S.left S.faults source.old) (since held count K.holds K.faults sink.old) (heard found.event) found.last
-        → o ≡ options_in ps reading → StandsFor (λ p. routes (p.vtable, p.value)) o client h []
+        → Awaits ps o h reading.old feed.old (since content faults S.left S.faults source.old) (since held count K.holds K.faults sink.old) (heard found.event) found.last
+        → o ≡ options_in ps reading.old → StandsFor (λ p. routes (p.vtable, p.value)) o client h []
         → Ran ps result (since content faults S.left S.faults source.new) (since held count K.holds K.faults sink.new) }
 {
     let mut client = client;
-    let mut reading = reading;
-    let mut feed = feed;
     let mut found = found;
     loop {
         let Next { event, last } = found;
@@ -132,12 +132,12 @@ fn steps<S: Source, K: Sink>(
             return NO_MEMORY;
         };
         if last {
-            return finish(&mut reading, sink);
+            return finish(reading, sink);
         }
-        found = match next(&mut reading, &mut feed, source, sink) {
+        found = match next(reading, feed, source, sink) {
             Ok(Some(found)) => found,
             Ok(None) => return DONE,
-            Err(stop) => return halt(stop, &mut reading, sink),
+            Err(stop) => return halt(stop, reading, sink),
         };
     }
 }

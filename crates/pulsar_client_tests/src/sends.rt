@@ -32,13 +32,32 @@ enum Told {
     Else,
 }
 
-fn of_poll(answer: Option<Result<CommandSendReceipt, Error>>) -> Told {
+fn of_poll(answer: &Option<Result<CommandSendReceipt, Error>>) -> Told {
     match answer {
         None => Told::Nothing,
-        Some(Ok(receipt)) if receipt.sequence_id == 0 => Told::Receipt,
-        Some(Err(Error::Producer(ProducerError::Custom(text))))
-            if text.as_str() == "producer unexpectedly disconnected" => { Told::Lost }
-        Some(_) => Told::Else,
+        Some(Ok(receipt)) => {
+            if receipt.sequence_id == 0 {
+                Told::Receipt
+            } else {
+                Told::Else
+            }
+        }
+        Some(Err(error)) => {
+            if is_lost(error) {
+                Told::Lost
+            } else {
+                Told::Else
+            }
+        }
+    }
+}
+
+fn is_lost(error: &Error) -> bool {
+    match error {
+        Error::Producer(ProducerError::Custom(text)) => {
+            text.as_str() == "producer unexpectedly disconnected"
+        }
+        _ => false,
     }
 }
 
@@ -78,11 +97,11 @@ fn send(alloc: Global) -> Result<[Told; 4], NoMemory> {
     let (ticket, _) = client.submit(sending(alloc)?)?;
     let mut future = SendFuture { ticket };
     let mut never = SendFuture { ticket: 99 };
-    let before = of_poll(future.poll(&mut client));
+    let before = of_poll(&future.poll(&mut client));
     client.step(Event::Bytes(0, RECEIPT.to_vec(alloc)?))?;
-    let then = of_poll(future.poll(&mut client));
-    let after = of_poll(future.poll(&mut client));
-    Ok([before, then, after, of_poll(never.poll(&mut client))])
+    let then = of_poll(&future.poll(&mut client));
+    let after = of_poll(&future.poll(&mut client));
+    Ok([before, then, after, of_poll(&never.poll(&mut client))])
 }
 
 #[test]

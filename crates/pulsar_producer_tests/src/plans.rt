@@ -110,26 +110,36 @@ fn tell_sent(alloc: Global, ways: &Ways, step: Sent, news: News) -> Result<Sent,
     }
 }
 
+/// What the news make of a send. What it did before them is written.
+fn hear_sent(
+    alloc: Global,
+    ways: &Ways,
+    step: Sent,
+    news: News,
+    text: &mut String,
+) -> Result<Sent, Fail> {
+    write(text, name_sent(&step))?;
+    Ok(tell_sent(alloc, ways, step, news)?)
+}
+
 fn begun(alloc: Global) -> Result<Sent, Fail> {
     let message = Outgoing::new(alloc, ProducerMessage::new(alloc))?;
     Ok(sending::begins(errand(), message))
 }
 
-fn sends(alloc: Global, ways: &Ways, news: Vec<News>, text: &mut String) -> Result<Sent, Fail> {
+fn sends(alloc: Global, ways: &Ways, news: Vec<News>, text: &mut String) -> Result<(), Fail> {
     let mut step = begun(alloc)?;
     for news in news {
-        write(text, name_sent(&step))?;
-        step = tell_sent(alloc, ways, step, news)?;
+        step = hear_sent(alloc, ways, step, news, text)?;
     }
-    Ok(step)
+    write(text, name_sent(&step))
 }
 
 /// What a send does at each of these news, and how it ends.
 fn send(alloc: Global, news: Vec<News>) -> Result<String, Fail> {
-    let mut text = String::new(alloc);
     let ways = ways(alloc)?;
-    let step = sends(alloc, &ways, news, &mut text)?;
-    text.push_str(name_sent(&step))?;
+    let mut text = String::new(alloc);
+    sends(alloc, &ways, news, &mut text)?;
     Ok(text)
 }
 
@@ -149,7 +159,7 @@ fn a_send_has_its_receipt(rt: HostRuntime) -> Result<(), Fail> {
     push_queued(alloc, &mut news)?;
     news.push(reply(alloc, RECEIPT)?)?;
     let text = send(alloc, news)?;
-    assert!(rt; text.as_str() == "take draw send pass rest receipt");
+    assert!(rt; text.as_str() == "take draw send pass rest receipt ");
     Ok(())
 }
 
@@ -160,7 +170,7 @@ fn a_send_that_was_queued_is_lost_with_its_link(rt: HostRuntime) -> Result<(), F
     push_queued(alloc, &mut news)?;
     news.push(lost(alloc)?)?;
     let text = send(alloc, news)?;
-    assert!(rt; text.as_str() == "take draw send pass rest error");
+    assert!(rt; text.as_str() == "take draw send pass rest error ");
     Ok(())
 }
 
@@ -210,7 +220,7 @@ fn a_send_that_stood_in_the_line_is_asked_again(rt: HostRuntime) -> Result<(), F
     push_again(alloc, &mut news)?;
     let text = send(alloc, news)?;
     assert!(rt;
-        text.as_str() == "take draw send rest recall get ask get get ask remake draw send pass"
+        text.as_str() == "take draw send rest recall get ask get get ask remake draw send pass "
     );
     Ok(())
 }
@@ -237,6 +247,19 @@ fn tell_built(
     }
 }
 
+/// What the news make of a building. What it did before them is written.
+fn hear_built(
+    alloc: Global,
+    ways: &Ways,
+    order: &Order,
+    step: Builds,
+    news: News,
+    text: &mut String,
+) -> Result<Builds, Fail> {
+    write(text, name_built(&step))?;
+    Ok(tell_built(alloc, ways, order, step, news)?)
+}
+
 fn builds(
     alloc: Global,
     ways: &Ways,
@@ -246,8 +269,7 @@ fn builds(
 ) -> Result<Builds, Fail> {
     let mut step = building::begins(alloc, ways, order)?;
     for news in news {
-        write(text, name_built(&step))?;
-        step = tell_built(alloc, ways, order, step, news)?;
+        step = hear_built(alloc, ways, order, step, news, text)?;
     }
     Ok(step)
 }

@@ -85,7 +85,7 @@ goes-short {r = r} {f = f} {source = source} a =
     let g = given source (a.bytes ++ unread f) a.fed.gave in
     let rest : List ℕ = (left-behind source.before source.after (a.bytes ++ unread f) a.fed.gave).0 in
     let apart : lines ((a.bytes ++ unread f) ++ rest) ≡ c.read ++ c.line ∷ lines (r.pending.items ++ (unread f ++ rest)) =
-        ap lines (append_assoc a.bytes (unread f) rest) ∙ a.consumed.splits.apart (unread f ++ rest) ∙ append_assoc c.read (c.line ∷ []) (lines (r.pending.items ++ (unread f ++ rest))) in
+    ap lines (append_assoc a.bytes (unread f) rest) ∙ a.consumed.splits.apart (unread f ++ rest) ∙ append_assoc c.read (c.line ∷ []) (lines (r.pending.items ++ (unread f ++ rest))) in
     let count = a.fed.count in
     ran-short g (omega (arith, count)) (stopped (c.line ∷ lines (r.pending.items ++ (unread f ++ rest))) c.reads a.adds apart)
 

@@ -88,14 +88,14 @@ fed-front {bytes = bytes} f f' n fed le from to left piece =
     let part : length a ≡ m = length-take-le m base (omega (arith, dropped, size, inside, order)) in
     let parts : unread f ≡ a ++ b = ap (λ k. take k base) (omega (arith, le)) ∙ take-add m n base in
     let front : take (length (unread f) - n) (unread f) ≡ a =
-        ap (λ k. take (k - n) (unread f)) all ∙ ap (λ (t : List ℕ). take m t) parts ∙ ap (λ k. take k (a ++ b)) (sym part) ∙ take-append_seam a b in
+    ap (λ k. take (k - n) (unread f)) all ∙ ap (λ (t : List ℕ). take m t) parts ∙ ap (λ k. take k (a ++ b)) (sym part) ∙ take-append_seam a b in
     let behind : drop (f.to - n) f.piece.items ≡ drop m base =
-        ap (λ k. drop k f.piece.items) (omega (arith, le, order)) ∙ sym (drop-drop m f.from f.piece.items) in
+    ap (λ k. drop k f.piece.items) (omega (arith, le, order)) ∙ sym (drop-drop m f.from f.piece.items) in
     let back : unread f' ≡ b =
-        rw (to, from, piece) (ap (λ k. take k (drop (f.to - n) f.piece.items)) (omega (arith, le, order)) ∙ ap (λ (t : List ℕ). take n t) behind) in
+    rw (to, from, piece) (ap (λ k. take k (drop (f.to - n) f.piece.items)) (omega (arith, le, order)) ∙ ap (λ (t : List ℕ). take n t) behind) in
     let whole : (bytes ++ take (length (unread f) - n) (unread f)) ++ unread f' ≡ bytes ++ unread f =
-        ap (λ (t : List ℕ). (bytes ++ t) ++ unread f') front ∙ ap (λ (t : List ℕ). (bytes ++ a) ++ t) back ∙ append_assoc bytes a b
-        ∙ ap (λ (t : List ℕ). bytes ++ t) (sym parts) in
+    ap (λ (t : List ℕ). (bytes ++ t) ++ unread f') front ∙ ap (λ (t : List ℕ). (bytes ++ a) ++ t) back ∙ append_assoc bytes a b
+    ∙ ap (λ (t : List ℕ). bytes ++ t) (sym parts) in
     record {
       size = ap (λ p. length p.items) piece ∙ size;
       order = omega (arith, from, to);

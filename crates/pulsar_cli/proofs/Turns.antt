@@ -33,9 +33,10 @@ event-halts {r' = r'} {f = f} {source = source} {sink = sink} s a either refuses
     let count = a.fed.count in
     read-halts {r = r'} s source sink (a.bytes ++ unread f) a.fed.gave
     (λ rest. rw (append_assoc a.bytes (unread f) rest) (halts-piece (unread f) rest s a.prints either refuses))
-    (of-two (λ s. Faults s source.faults_before source.faults_after sink.faults_before sink.faults_after) s either tt tt)
-    (λ e. absurd (of-two (λ s. status_of s ≡ 6 → ⊥) s either (λ six. absurd (omega (arith, six))) (λ six. absurd (omega (arith, six))) e),
-    λ lt. absurd (omega (arith, lt, count)))
+    (of-two (λ s. Faults s source.faults_before source.faults_after sink.faults_before sink.faults_after) s either tt tt) (
+      λ e. absurd (of-two (λ s. status_of s ≡ 6 → ⊥) s either (λ six. absurd (omega (arith, six))) (λ six. absurd (omega (arith, six))) e),
+      λ lt. absurd (omega (arith, lt, count)),
+    )
 
 -- the piece was read
 pub piece-read : {ps : List Policy} {o : Options} {h : List Step} {r r' : Reading} {f : Feed} {source sink : Seen} (a : Going ps o h r f source sink) → Running ps o h r' a.prints.put (a.bytes ++ unread f) → Prints ps o h r' sink.before sink.after (a.bytes ++ unread f)

@@ -25,7 +25,7 @@ returns-in_err-flush-clause-found g c = λ ps o h content held faults count goin
     let a = c.loop-event.invariant.goes ps o h content held faults count going in
     let none : c.in_ok-event.field-0 ≡ None = search rules in
     let run = none-event ps o h c.event_of.new.reading c.loop-event.feed c.event_of.new.feed a.prints.put a.bytes (since content faults g.S.Source.left g.S.Source.faults c.loop-event.source) c.in_ok-event.field-0 none
-        (c.in_ok-event.ensures.found ps o h a.prints.put a.bytes (since content faults g.S.Source.left g.S.Source.faults c.loop-event.source) a.prints.running a.fed) in
+    (c.in_ok-event.ensures.found ps o h a.prints.put a.bytes (since content faults g.S.Source.left g.S.Source.faults c.loop-event.source) a.prints.running a.fed) in
     let same : c.from_residual-in_err-flush.result ≡ Err stop.Sink = search rules in
     rw same (flush-halts a run refl refl c.in_err-flush.ensures.front c.in_err-flush.ensures.rises)
 
@@ -34,12 +34,12 @@ returns-in_err-refill-clause-found g c = λ ps o h content held faults count goi
     let a = c.loop-event.invariant.goes ps o h content held faults count going in
     let none : c.in_ok-event.field-0 ≡ None = search rules in
     let run = none-event ps o h c.event_of.new.reading c.loop-event.feed c.event_of.new.feed a.prints.put a.bytes (since content faults g.S.Source.left g.S.Source.faults c.loop-event.source) c.in_ok-event.field-0 none
-        (c.in_ok-event.ensures.found ps o h a.prints.put a.bytes (since content faults g.S.Source.left g.S.Source.faults c.loop-event.source) a.prints.running a.fed) in
+    (c.in_ok-event.ensures.found ps o h a.prints.put a.bytes (since content faults g.S.Source.left g.S.Source.faults c.loop-event.source) a.prints.running a.fed) in
     let kept = c.in_ok-event.ensures.none (ap Ok none) in
     let put = piece-put c.event_of.new.reading (since held count g.K.Sink.holds g.K.Sink.faults c.flush.new.sink) a (c.in_ok-flush.ensures.kept ps o h a.prints.put (a.bytes ++ unread c.loop-event.feed) run) refl c.in_ok-flush.ensures.ok in
     let fed : Fed c.event_of.new.feed (since content faults g.S.Source.left g.S.Source.faults c.loop-event.source) a.bytes = rw kept a.fed in
     let full : IsFull c.in_err-refill.field-0.0 (since content faults g.S.Source.left g.S.Source.faults c.refill.new.source) (a.bytes ++ unread c.loop-event.feed) =
-        rw (sym kept) (c.in_err-refill.ensures.stops content faults a.bytes fed) in
+    rw (sym kept) (c.in_err-refill.ensures.stops content faults a.bytes fed) in
     let same : c.from_residual-in_err-refill.result ≡ Err c.in_err-refill.field-0.0 = search rules in
     rw same (refill-halts c.in_err-refill.field-0.0 (a.bytes ++ unread c.loop-event.feed) put full)
 
@@ -48,12 +48,12 @@ returns-then-not-branch-clause-found g c = λ ps o h content held faults count g
     let a = c.loop-event.invariant.goes ps o h content held faults count going in
     let none : c.in_ok-event.field-0 ≡ None = search rules in
     let run = none-event ps o h c.event_of.new.reading c.loop-event.feed c.event_of.new.feed a.prints.put a.bytes (since content faults g.S.Source.left g.S.Source.faults c.loop-event.source) c.in_ok-event.field-0 none
-        (c.in_ok-event.ensures.found ps o h a.prints.put a.bytes (since content faults g.S.Source.left g.S.Source.faults c.loop-event.source) a.prints.running a.fed) in
+    (c.in_ok-event.ensures.found ps o h a.prints.put a.bytes (since content faults g.S.Source.left g.S.Source.faults c.loop-event.source) a.prints.running a.fed) in
     let kept = c.in_ok-event.ensures.none (ap Ok none) in
     let put = piece-put c.event_of.new.reading (since held count g.K.Sink.holds g.K.Sink.faults c.flush.new.sink) a (c.in_ok-flush.ensures.kept ps o h a.prints.put (a.bytes ++ unread c.loop-event.feed) run) refl c.in_ok-flush.ensures.ok in
     let fed : Fed c.event_of.new.feed (since content faults g.S.Source.left g.S.Source.faults c.loop-event.source) a.bytes = rw kept a.fed in
     let next : Fed c.refill.new.self (since content faults g.S.Source.left g.S.Source.faults c.refill.new.source) (a.bytes ++ unread c.loop-event.feed) =
-        rw (sym kept) (c.in_ok-refill.ensures.fed content faults a.bytes fed) in
+    rw (sym kept) (c.in_ok-refill.ensures.fed content faults a.bytes fed) in
     let over : c.in_ok-refill.field-0 ≡ false = search rules in
     let ends = c.in_ok-refill.ensures.ends over content faults a.bytes fed in
     let before = a.faults in
@@ -69,11 +69,11 @@ loop-event-preserved g c =
       goes = λ ps o h content held faults count going.
           let a = c.loop-event.invariant.goes ps o h content held faults count going in
           let run = none-event ps o h c.event_of.new.reading c.loop-event.feed c.event_of.new.feed a.prints.put a.bytes (since content faults g.S.Source.left g.S.Source.faults c.loop-event.source) c.in_ok-event.field-0 none
-              (c.in_ok-event.ensures.found ps o h a.prints.put a.bytes (since content faults g.S.Source.left g.S.Source.faults c.loop-event.source) a.prints.running a.fed) in
+          (c.in_ok-event.ensures.found ps o h a.prints.put a.bytes (since content faults g.S.Source.left g.S.Source.faults c.loop-event.source) a.prints.running a.fed) in
           let put = piece-put c.event_of.new.reading (since held count g.K.Sink.holds g.K.Sink.faults c.flush.new.sink) a (c.in_ok-flush.ensures.kept ps o h a.prints.put (a.bytes ++ unread c.loop-event.feed) run) refl c.in_ok-flush.ensures.ok in
           let fed : Fed c.event_of.new.feed (since content faults g.S.Source.left g.S.Source.faults c.loop-event.source) a.bytes = rw kept a.fed in
           let next : Fed c.refill.new.self (since content faults g.S.Source.left g.S.Source.faults c.refill.new.source) (a.bytes ++ unread c.loop-event.feed) =
-              rw (sym kept) (c.in_ok-refill.ensures.fed content faults a.bytes fed) in
+          rw (sym kept) (c.in_ok-refill.ensures.fed content faults a.bytes fed) in
           let before = a.faults in
           piece-next put next (omega (arith, before, c.in_ok-flush.ensures.grows));
       less = let most = c.loop-event.invariant.less in omega (arith, left, most, c.in_ok-refill.ensures.remaining);

@@ -23,7 +23,7 @@ returns-then-last g c = λ ps o h content held faults count awaits same stands.
     let value = c.deref.ensures.value in
     let told = c.in-Ok-tells.ensures in
     let tells : Tells c.loop-effects.reading c.tells.new.self (map shown c.in-Ok.effects.items) =
-        record { out = rw (sym value) told.out; events = told.events; line = told.line; choice = told.choice; pending = told.pending } in
+    record { out = rw (sym value) told.out; events = told.events; line = told.line; choice = told.choice; pending = told.pending } in
     let next = c.in-Ok.ensures.ok o inv.0 [] inv.3 in
     let good = good-of next in
     c.finish.ensures.runs ps o _ _ held count (told-end c.loop-effects.feed c.loop-effects.found.last c.if-last.true inv.1 tells (sym inv.2) good)
@@ -34,7 +34,7 @@ returns-in-Ok-None g c = λ ps o h content held faults count awaits same stands.
     let value = c.deref.ensures.value in
     let told = c.in-Ok-tells.ensures in
     let tells : Tells c.loop-effects.reading c.tells.new.self (map shown c.in-Ok.effects.items) =
-        record { out = rw (sym value) told.out; events = told.events; line = told.line; choice = told.choice; pending = told.pending } in
+    record { out = rw (sym value) told.out; events = told.events; line = told.line; choice = told.choice; pending = told.pending } in
     let next = c.in-Ok.ensures.ok o inv.0 [] inv.3 in
     let good = good-of next in
     let going = told-on c.loop-effects.found.last c.if-last.false inv.1 tells (sym inv.2) good in
@@ -47,7 +47,7 @@ returns-in-Err g c = λ ps o h content held faults count awaits same stands.
     let value = c.deref.ensures.value in
     let told = c.in-Ok-tells.ensures in
     let tells : Tells c.loop-effects.reading c.tells.new.self (map shown c.in-Ok.effects.items) =
-        record { out = rw (sym value) told.out; events = told.events; line = told.line; choice = told.choice; pending = told.pending } in
+    record { out = rw (sym value) told.out; events = told.events; line = told.line; choice = told.choice; pending = told.pending } in
     let next = c.in-Ok.ensures.ok o inv.0 [] inv.3 in
     let good = good-of next in
     let going = told-on c.loop-effects.found.last c.if-last.false inv.1 tells (sym inv.2) good in
@@ -62,11 +62,14 @@ loop-effects-preserved g c = λ ps o h content held faults count awaits same sta
     let value = c.deref.ensures.value in
     let told = c.in-Ok-tells.ensures in
     let tells : Tells c.loop-effects.reading c.tells.new.self (map shown c.in-Ok.effects.items) =
-        record { out = rw (sym value) told.out; events = told.events; line = told.line; choice = told.choice; pending = told.pending } in
+    record { out = rw (sym value) told.out; events = told.events; line = told.line; choice = told.choice; pending = told.pending } in
     let next = c.in-Ok.ensures.ok o inv.0 [] inv.3 in
     let good = good-of next in
     let going = told-on c.loop-effects.found.last c.if-last.false inv.1 tells (sym inv.2) good in
     let inner : c.in-Ok-Some.field-0 ≡ Some c.in-Ok-Some.found = search rules in
-    let found = found-some ps o (step c.loop-effects.found.event c.in-Ok.effects.items ∷ inv.0) c.next.new.reading c.next.new.feed (since content faults g.S.Source.left g.S.Source.faults c.next.new.source) (since held count g.K.Sink.holds g.K.Sink.faults c.next.new.sink) c.next.result c.in-Ok-Some.found (c.in-Ok-Some.is ∙ ap Ok inner) (c.next.ensures.found ps o (step c.loop-effects.found.event c.in-Ok.effects.items ∷ inv.0) content held faults count going) in
-    (step c.loop-effects.found.event c.in-Ok.effects.items ∷ inv.0, found,
-    sym (awaits-options (since content faults g.S.Source.left g.S.Source.faults c.next.new.source) (since held count g.K.Sink.holds g.K.Sink.faults c.next.new.sink) (step c.loop-effects.found.event c.in-Ok.effects.items) inv.0 c.next.new.reading c.next.new.feed (heard c.in-Ok-Some.found.event) c.in-Ok-Some.found.last found), next)
+    let found = found-some ps o (step c.loop-effects.found.event c.in-Ok.effects.items ∷ inv.0) c.next.new.reading c.next.new.feed (since content faults g.S.Source.left g.S.Source.faults c.next.new.source) (since held count g.K.Sink.holds g.K.Sink.faults c.next.new.sink) c.next.result c.in-Ok-Some.found (c.in-Ok-Some.is ∙ ap Ok inner) (c.next.ensures.found ps o (step c.loop-effects.found.event c.in-Ok.effects.items ∷ inv.0) content held faults count going) in (
+      step c.loop-effects.found.event c.in-Ok.effects.items ∷ inv.0,
+      found,
+      sym (awaits-options (since content faults g.S.Source.left g.S.Source.faults c.next.new.source) (since held count g.K.Sink.holds g.K.Sink.faults c.next.new.sink) (step c.loop-effects.found.event c.in-Ok.effects.items) inv.0 c.next.new.reading c.next.new.feed (heard c.in-Ok-Some.found.event) c.in-Ok-Some.found.last found),
+      next,
+    )

@@ -38,8 +38,11 @@ pub const LOCAL: &str = "pulsar://127.0.0.1:6650";
 fn both_built(alloc: Global) -> Result<((u64, usize), (u64, usize)), NoMemory> {
     let options = options(String::from_str(alloc, LOCAL)?, Vec::new(alloc));
     let mut client = Pulsar::new(alloc, options)?;
-    let (first, connects) = client.submit(Call::Build)?;
-    let (second, nothing) = client.submit(Call::Build)?;
+    let first = client.submit(Call::Build);
+    let second = client.submit(Call::Build);
+    drop(client);
+    let (first, connects) = first?;
+    let (second, nothing) = second?;
     Ok(((first, connects.len()), (second, nothing.len())))
 }
 
@@ -128,7 +131,9 @@ fn searches_are_taken_together(rt: HostRuntime) -> Result<(), Fail> {
 fn built(alloc: Global, url: &str) -> Result<Vec<Effect>, NoMemory> {
     let options = options(String::from_str(alloc, url)?, Vec::new(alloc));
     let mut client = Pulsar::new(alloc, options)?;
-    let (_, effects) = client.submit(Call::Build)?;
+    let built = client.submit(Call::Build);
+    drop(client);
+    let (_, effects) = built?;
     Ok(effects)
 }
 

@@ -1,0 +1,177 @@
+//! What a consumer holds: the frames that came for it, as far as they are not given, and the permits of its subscription.
+
+ghost use Rattle.std.specs.Prelude.{◌≡◌, ◌++◌, ◌-◌, [], take, drop, length, None, Some, IfOk, OnOk};
+ghost use Rattle.std.specs.Option.{option_map};
+ghost use Rattle.pulsar_consumer.specs.Topic as meaning;
+
+use crate::frame::Frame;
+use crate::live::Live;
+use crate::unread::Unread;
+use pulsar_wire::error::NoMemory;
+use std::alloc::Global;
+use std::collections::VecDeque;
+use std::marker::Model;
+use url::Url;
+
+/// What a consumer holds.
+#[derive(Drop)]
+pub struct Engine {
+    alloc: Global,
+    queue: usize,
+    batch: Option<u32>,
+    live: Option<Live>,
+    unread: VecDeque<Unread>,
+    rest: VecDeque<Unread>,
+    waiting: VecDeque<Frame>,
+}
+
+impl Model for Engine {
+    ghost use Rattle.pulsar_consumer.specs.Kept.{engine_of};
+    ghost use Rattle.pulsar_consumer.specs.Topic.{Engine as Meant};
+
+    ghost Value = { Meant };
+
+    ghost view = { engine_of };
+}
+
+impl Engine {
+    /// Nothing is held. So many items may be unread, and so many messages may be sent at once.
+    pub fn new(alloc: Global, queue: usize, batch: Option<u32>) -> Engine
+        ensures { result ≡ record { queue = queue; batch = batch; live = None; unread = []; rest = []; waiting = [] } }
+    {
+        Engine {
+            alloc,
+            queue,
+            batch,
+            live: None,
+            unread: VecDeque::new(alloc),
+            rest: VecDeque::new(alloc),
+            waiting: VecDeque::new(alloc),
+        }
+    }
+
+    /// The subscription that is live.
+    pub fn live(&self) -> Option<&Live>
+        ensures { option_map (λ l. l.now) result ≡ self.now.live }
+    {
+        self.live.as_ref()
+    }
+
+    /// A subscription is live on this link to this address.
+    pub fn subscribe(&mut self, link: u64, url: Url) -> Result<(), NoMemory>
+        ensures { OnOk result (self.new ≡ record self.old { live = Some (meaning.subscribed self.old.batch link url) }) }
+    {
+        self.live = Some(Live::new(self.alloc, self.batch, link, url)?);
+        Ok(())
+    }
+
+    /// No subscription is live.
+    pub fn lose(&mut self)
+        ensures { self.new ≡ record self.old { live = None } }
+    {
+        self.live = None;
+    }
+
+    /// One more frame came.
+    pub fn hear(&mut self, frame: Frame) -> Result<(), NoMemory>
+        ensures { OnOk result (self.new ≡ meaning.hears frame self.old) }
+    {
+        self.waiting.push_back(frame)?;
+        self.advance()?;
+        Ok(())
+    }
+
+    /// The first unread item, which is given.
+    pub fn give(&mut self) -> Result<Option<Unread>, NoMemory>
+        ensures item { IfOk result (λ item. item ≡ meaning.first_of self.old.unread) }
+        ensures after { OnOk result (self.new ≡ meaning.gives self.old) }
+    {
+        let Some(item) = self.unread.pop_front() else {
+            return Ok(None);
+        };
+        self.advance()?;
+        Ok(Some(item))
+    }
+
+    /// The flow that is to be asked for next. It counts as asked for.
+    pub fn ask(&mut self) -> Option<u32>
+        ensures flow { result ≡ meaning.first_due self.old.live }
+        ensures after { self.new ≡ record self.old { live = option_map meaning.asked self.old.live } }
+    {
+        match &mut self.live {
+            Some(live) => live.ask(),
+            None => None,
+        }
+    }
+
+    /// Items are placed, and frames begun and finished, as far as there is room.
+    fn advance(&mut self) -> Result<(), NoMemory>
+        ensures { OnOk result (self.new ≡ meaning.advances self.old) }
+    {
+        self.place()?;
+        self.go_on()?;
+        Ok(())
+    }
+
+    /// The frame that is begun places items while there is room.
+    fn place(&mut self) -> Result<(), NoMemory>
+        ensures { OnOk result (self.new ≡ meaning.places self.old) }
+    {
+        place(&mut self.unread, &mut self.rest, self.queue)?;
+        Ok(())
+    }
+
+    /// Frames are finished and begun as far as all items before them are placed.
+    fn go_on(&mut self) -> Result<(), NoMemory>
+        ensures { OnOk result (self.new ≡ meaning.goes_on self.old.waiting self.old) }
+    {
+        while self.rest.is_empty() {
+            self.finish()?;
+            match self.waiting.pop_front() {
+                Some(frame) => self.begin(frame)?,
+                None => return Ok(()),
+            }
+        }
+        Ok(())
+    }
+
+    /// The frame that was begun is finished.
+    fn finish(&mut self) -> Result<(), NoMemory>
+        ensures { OnOk result (self.new ≡ meaning.finish self.old) }
+    {
+        if let Some(live) = &mut self.live {
+            live.finish(self.batch)?;
+        }
+        Ok(())
+    }
+
+    /// A frame is begun.
+    fn begin(&mut self, frame: Frame) -> Result<(), NoMemory>
+        ensures { OnOk result (self.new ≡ meaning.begin frame self.old) }
+    {
+        if let Some(live) = &mut self.live {
+            live.begin(frame.weight());
+        }
+        self.rest = frame.into_items();
+        self.place()?;
+        Ok(())
+    }
+}
+
+/// Items are placed while fewer than this are unread.
+fn place(
+    unread: &mut VecDeque<Unread>,
+    rest: &mut VecDeque<Unread>,
+    queue: usize,
+) -> Result<(), NoMemory>
+    ensures unread { OnOk result (unread.new.items ≡ unread.old.items ++ take (queue - length unread.old.items) rest.old.items) }
+    ensures rest { OnOk result (rest.new.items ≡ drop (queue - length unread.old.items) rest.old.items) }
+{
+    while unread.len() < queue {
+        match rest.pop_front() {
+            Some(item) => unread.push_back(item)?,
+            None => return Ok(()),
+        }
+    }
+    Ok(())
+}

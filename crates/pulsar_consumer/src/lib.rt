@@ -2,13 +2,26 @@
 #![tactic(auto)]
 
 pub mod builder;
+pub mod building;
 pub mod config;
+pub mod consumer;
 pub mod deserialize;
+pub mod engine;
+pub mod frame;
+pub mod live;
 pub mod message;
+pub mod polled;
+pub mod resuming;
+pub mod settings;
+pub mod topic_consumer;
+pub mod unread;
 
 pub use builder::ConsumerBuilder;
 pub use config::{ConsumerConfig, DeadLetterPolicy};
+pub use consumer::Consumer;
 pub use deserialize::DeserializeMessage;
 pub use message::{Message, MessageData};
+pub use polled::{Ending, Polled};
 pub use pulsar_messages::ConsumerOptions;
 pub use pulsar_wire::commands::enumerations::{InitialPosition, SubType};
+pub use topic_consumer::TopicConsumer;

@@ -2,10 +2,12 @@
 
 ghost use Rattle.std.specs.Prelude.{◌≡◌, [], None, Some, IfOk, OnOk};
 ghost use Rattle.std.specs.Option.{option_map};
+ghost use Rattle.pulsar_consumer.specs.Commands.{command_of};
 ghost use Rattle.pulsar_consumer.specs.Content.{config_values};
 ghost use Rattle.pulsar_consumer.specs.Topic.{Asks, Ends, Fails, Hears, Lives, Loses, Polls, after, first_due, fresh, is_ended, link_of, lives_on, polled, queue_of, resubscribes};
 ghost use Rattle.pulsar_consumer.specs.Topic as meaning;
 
+use crate::building::command;
 use crate::config::ConsumerConfig;
 use crate::engine::Engine;
 use crate::frame::Frame;
@@ -13,6 +15,7 @@ use crate::polled::{Ending, Polled};
 use crate::settings::Settings;
 use crate::unread::Unread;
 use pulsar_plans::content::{Refusal, Text};
+use pulsar_plans::making::Command;
 use pulsar_wire::error::NoMemory;
 use std::alloc::Global;
 use std::marker::Model;
@@ -144,6 +147,13 @@ impl TopicConsumer {
         ensures { result ≡ resubscribes link self.now }
     {
         self.lives_on(link) && !self.is_raw
+    }
+
+    /// The command by which it is subscribed again.
+    pub fn command(&self) -> Result<Command, NoMemory>
+        ensures { IfOk result (λ c. c ≡ command_of self.now) }
+    {
+        command(self.alloc, &self.topic, self.number, &self.config)
     }
 
     /// It has ended.

@@ -1,0 +1,5 @@
+//! Worked cases of consumers.
+#![tactic(auto)]
+
+#[cfg(test)]
+mod topic;

@@ -1,0 +1,4 @@
+pub mod Held
+pub mod Histories
+pub mod Items
+pub mod Permits

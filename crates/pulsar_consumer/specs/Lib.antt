@@ -5,3 +5,4 @@ pub mod Consumer
 pub mod Commands
 pub mod Plans
 pub mod Kept
+pub mod Laws

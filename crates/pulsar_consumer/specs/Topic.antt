@@ -1,6 +1,6 @@
 -- A consumer of one topic: what is done to it, what is seen of it, and what it answers. It knows links and numbers, and never who asks.
 -- (Pulsar binary protocol, Consumer: Flow control; PulsarApi.proto, CommandFlow)
-use Rattle.std.specs.Prelude.{ℕ, ◌+◌, ◌-◌, ◌/◌, ◌^◌, ◌<◌, min, Bool, true, false, not, ◌&&◌, ◌==◌, if◌then◌else◌, List, [], ◌∷◌, ◌++◌, length, take, drop, Option, Some, None, unwrap_or}
+use Rattle.std.specs.Prelude.{ℕ, ◌+◌, ◌-◌, ◌/◌, ◌^◌, nat_lt, min, Bool, true, false, not, ◌&&◌, ◌==◌, if◌then◌else◌, List, [], ◌∷◌, ◌++◌, length, take, drop, Option, Some, None, unwrap_or}
 use Rattle.std.specs.Option.{is_none, is_some, option_map, option_or}
 use Rattle.url.specs.Parts.{Parts}
 use Rattle.pulsar_wire.specs.Sink.{capped}
@@ -47,7 +47,7 @@ begins w l = record l { weight = w }
 -- Once it is finished, a flow brings the permits up to the batch size again where less than half of them are left.
 abbrev pub finishes_by : (batch : ℕ) → Live → Live
 finishes_by batch l =
-    if l.level < half batch + l.weight then record l { level = batch; weight = 0; due = l.due ++ permits (batch + l.weight - l.level) ∷ [] }
+    if nat_lt l.level (half batch + l.weight) then record l { level = batch; weight = 0; due = l.due ++ permits (batch + l.weight - l.level) ∷ [] }
     else record l { level = l.level - l.weight; weight = 0 }
 
 abbrev pub finishes : (batch : Option ℕ) → Live → Live
@@ -209,13 +209,13 @@ resubscribes link v = lives_on link v && not v.is_raw
 
 -- WHAT A POLL GIVES: the first unread item; else the end, where it has ended
 
-abbrev pub polled_from : List Item → Option Ending → Polled
-polled_from (item ∷ items) why = poll.Item item
-polled_from [] (Some why) = poll.End
-polled_from [] None = poll.Empty
+abbrev pub polled_from : Option Item → Option Ending → Polled
+polled_from (Some item) why = poll.Item item
+polled_from None (Some why) = poll.End
+polled_from None None = poll.Empty
 
 abbrev pub polled : Seen → Polled
-polled v = polled_from v.engine.unread v.ended
+polled v = polled_from (first_of v.engine.unread) v.ended
 
 -- an item that is no error counts as a message that was received
 abbrev pub is_message : Item → Bool

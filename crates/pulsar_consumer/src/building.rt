@@ -12,6 +12,7 @@ use pulsar_plans::making::{self, Command, Making, Served};
 use pulsar_plans::names::{self, Naming};
 use pulsar_plans::question::{Question, Request};
 use pulsar_plans::turn::{Action, Outcome, Turn, Ways, error_of};
+use pulsar_wire::encoding::copying::copy_optional;
 use pulsar_wire::error::{ConsumerError, Error, NoMemory};
 use std::alloc::Global;
 
@@ -278,14 +279,14 @@ pub fn command(
 ) -> Result<Command, NoMemory>
     ensures { IfOk result (λ c. c ≡ command topic.now number settings.now) }
 {
-    let config = settings.get().copy()?;
+    let config = settings.get();
     let question = Question::Subscribe {
         topic: topic.copy()?.into_inner(),
-        subscription: config.subscription,
+        subscription: config.subscription.clone()?,
         sub_type: config.sub_type,
         consumer_id: number,
-        name: config.consumer_name,
-        options: config.options,
+        name: copy_optional(&config.consumer_name)?,
+        options: config.options.copy()?,
     };
     Ok(Command {
         topic: topic.copy()?,

@@ -125,7 +125,7 @@ impl Engine {
     fn go_on(&mut self) -> Result<(), NoMemory>
         ensures { OnOk result (self.new ≡ meaning.goes_on self.old.waiting self.old) }
     {
-        while self.rest.is_empty() {
+        'frames: while self.rest.is_empty() {
             self.finish()?;
             match self.waiting.pop_front() {
                 Some(frame) => self.begin(frame)?,
@@ -167,7 +167,7 @@ fn place(
     ensures unread { OnOk result (unread.new.items ≡ unread.old.items ++ take (queue - length unread.old.items) rest.old.items) }
     ensures rest { OnOk result (rest.new.items ≡ drop (queue - length unread.old.items) rest.old.items) }
 {
-    while unread.len() < queue {
+    'items: while unread.len() < queue {
         match rest.pop_front() {
             Some(item) => unread.push_back(item)?,
             None => return Ok(()),

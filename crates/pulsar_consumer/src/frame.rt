@@ -1,6 +1,6 @@
 //! A message of the broker as a consumer takes it.
 
-ghost use Rattle.std.specs.Prelude.{◌≡◌, ◌∷◌, [], map, IfOk};
+ghost use Rattle.std.specs.Prelude.{◌≡◌, ◌∷◌, [], map, Some, IfOk};
 ghost use Rattle.pulsar_link.specs.Held.{item_of};
 ghost use Rattle.std.specs.Option.{option_map};
 ghost use Rattle.pulsar_wire.specs.Views.{body_values, message_id_values};
@@ -8,7 +8,6 @@ ghost use Rattle.pulsar_frame.specs.Batch.{batch_items};
 ghost use Rattle.pulsar_frame.specs.Payload.{payload_values};
 ghost use Rattle.pulsar_frame.specs.Shown.{message_values};
 ghost use Rattle.pulsar_link.specs.Items.{given, is_compressed, items_of, opened};
-ghost use Rattle.pulsar_session.specs.Failures.{failure};
 ghost use Rattle.pulsar_consumer.specs.Frames as meaning;
 
 use crate::unread::Unread;
@@ -18,6 +17,7 @@ use pulsar_frame::payload::Payload;
 use pulsar_link::items::Unread as Item;
 use pulsar_plans::content::Refusal;
 use pulsar_wire::commands::base::{BaseCommand, Body};
+use pulsar_wire::commands::consumer::delivery::CommandMessage;
 use pulsar_wire::commands::ids::MessageIdData;
 use pulsar_wire::error::{ConnectionError, ConsumerError, Error, IoKind, NoMemory, Reason};
 use std::alloc::Global;
@@ -97,7 +97,10 @@ fn weight(count: Option<i32>) -> u32
     ensures { result ≡ meaning.weight_of count }
 {
     match count {
-        Some(count) => u32::try_from(count).unwrap_or(0),
+        Some(count) => match u32::try_from(count) {
+            Ok(count) => count,
+            Err(_) => 0,
+        },
         None => 1,
     }
 }
@@ -107,9 +110,16 @@ fn id_in(command: &BaseCommand) -> Result<Option<MessageIdData>, NoMemory>
     ensures { IfOk result (λ id. option_map message_id_values id ≡ meaning.id_of (option_map body_values command.now.body)) }
 {
     match &command.body {
-        Some(Body::Message(message)) => Ok(Some(message.message_id.copy()?)),
+        Some(Body::Message(message)) => Ok(Some(id_of(message)?)),
         _ => Ok(None),
     }
+}
+
+#[tactic(auto, unfolding(pulsar_wire::specs::Views::message_values, pulsar_wire::specs::Views::message_id_values))]
+fn id_of(message: &CommandMessage) -> Result<MessageIdData, NoMemory>
+    ensures { IfOk result (λ id. meaning.id_of (Some (body_values (Body.Message message.now))) ≡ Some (message_id_values id)) }
+{
+    Ok(message.message_id.copy()?)
 }
 
 /// One item.

@@ -8,6 +8,7 @@ pub mod consumer;
 pub mod deserialize;
 pub mod engine;
 pub mod frame;
+pub mod laws;
 pub mod live;
 pub mod message;
 pub mod polled;

@@ -1,6 +1,6 @@
 //! A subscription that is live, and what remains of its permits.
 
-ghost use Rattle.std.specs.Prelude.{◌≡◌, IfOk, OnOk};
+ghost use Rattle.std.specs.Prelude.{◌≡◌, ◌+◌, ◌-◌, nat_lt, IfOk, OnOk};
 ghost use Rattle.pulsar_consumer.specs.Topic as meaning;
 
 use pulsar_wire::error::NoMemory;
@@ -105,7 +105,7 @@ impl Live {
 
 /// Less than half of the permits are left behind a frame of this weight.
 fn is_low(batch: u32, level: u32, weight: u32) -> bool
-    ensures { result ≡ (level < meaning.half batch + weight) }
+    ensures { result ≡ nat_lt level (meaning.half batch + weight) }
 {
     u64::from(level) < u64::from(batch - batch / 2) + u64::from(weight)
 }
@@ -115,5 +115,9 @@ fn granted(batch: u32, level: u32, weight: u32) -> u32
     ensures { result ≡ meaning.permits (batch + weight - level) }
 {
     let missing = (u64::from(batch) + u64::from(weight)).saturating_sub(u64::from(level));
-    u32::try_from(missing).unwrap_or(u32::MAX)
+    if missing < u64::from(u32::MAX) {
+        missing as u32
+    } else {
+        u32::MAX
+    }
 }

@@ -1,6 +1,6 @@
 //! A consumer of one topic, or of one partition.
 
-ghost use Rattle.std.specs.Prelude.{◌≡◌, [], None, Some, IfOk, OnOk};
+ghost use Rattle.std.specs.Prelude.{◌≡◌, None, IfOk, OnOk};
 ghost use Rattle.std.specs.Option.{option_map};
 ghost use Rattle.pulsar_consumer.specs.Commands.{command_of};
 ghost use Rattle.pulsar_consumer.specs.Content.{config_values};
@@ -262,7 +262,7 @@ impl TopicConsumer {
     }
 
     fn without_item(&self) -> Polled
-        ensures { result ≡ meaning.polled_from [] self.now.ended }
+        ensures { result ≡ meaning.polled_from None self.now.ended }
     {
         if self.is_ended() {
             Polled::End

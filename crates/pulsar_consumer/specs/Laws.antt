@@ -1,0 +1,106 @@
+-- What follows of every history of a consumer, in plain words. `h` has the acts of a history, newest first, and `later` those behind them.
+use Rattle.std.specs.Prelude.{◌≡◌, ℕ, ◌+◌, ◌-◌, ◌^◌, ◌<◌, ◌≤◌, Bool, true, false, if◌then◌else◌, List, [], ◌∷◌, ◌++◌, length, take, drop, Option, Some, None}
+use Rattle.std.specs.List.{flat_map}
+use Rattle.pulsar_frame.specs.Message.{MessageValues}
+use Rattle.pulsar_link.specs.Items.{Item, items_in}
+use Rattle.pulsar_consumer.specs.Frames.{Frame, failed, frame}
+use Rattle.pulsar_consumer.specs.Topic.{Act, Lives, Hears, Loses, Fails, Ends, Polls, Asks, Live, Seen, Setup, batch_size, first_of, half, is_ended, link_of, lives_on, no_items, permits, polled, polled_from, queue_of, seen}
+use Rattle.pulsar_consumer.specs.declared.polled.Ending.{Ending}
+use Rattle.pulsar_consumer.specs.declared.polled.Polled.{Polled}
+use Rattle.pulsar_consumer.specs.declared.polled.Polled.TheVariants as poll
+
+-- HISTORIES
+
+-- what is seen of a consumer is that of this history
+abbrev pub StandsFor : Seen → Setup → List Act → Type 0
+StandsFor v s h = v ≡ seen s h
+
+-- ITEMS
+
+-- A message gives what is said of its frame.
+abbrev pub FramesGiveItems : Type 0
+FramesGiveItems = (m : MessageValues) → (frame m).items ≡ items_in m
+
+-- what arrives by an act: a message on the link of its live subscription, or why it could not be subscribed again
+abbrev pub arrives_by : Act → Seen → List Frame
+arrives_by (Lives link url) v = []
+arrives_by (Hears link f) v = if lives_on link v then f ∷ [] else []
+arrives_by (Loses link) v = []
+arrives_by (Fails f) v = if is_ended v then [] else failed f ∷ []
+arrives_by (Ends why) v = []
+arrives_by (Polls clock) v = []
+arrives_by Asks v = []
+
+-- its arrivals, in order, and their items
+abbrev pub arrivals : Setup → List Act → List Frame
+arrivals s [] = []
+arrivals s (act ∷ h) = arrivals s h ++ arrives_by act (seen s h)
+
+abbrev pub items_of : List Frame → List Item
+items_of fs = flat_map (λ f. f.items) fs
+
+-- the items that its polls have given, in order
+abbrev pub item_in : Polled → List Item
+item_in (poll.Item item) = item ∷ []
+item_in poll.Empty = []
+item_in poll.End = []
+
+abbrev pub given_by : Act → Seen → List Item
+given_by (Lives link url) v = []
+given_by (Hears link f) v = []
+given_by (Loses link) v = []
+given_by (Fails f) v = []
+given_by (Ends why) v = []
+given_by (Polls clock) v = item_in (polled v)
+given_by Asks v = []
+
+abbrev pub given : Setup → List Act → List Item
+given s [] = []
+given s (act ∷ h) = given s h ++ given_by act (seen s h)
+
+-- the items of its arrivals that are left, behind those that were given
+abbrev pub left : Setup → List Act → List Item
+left s h = drop (length (given s h)) (items_of (arrivals s h))
+
+-- Its polls give just the items of its arrivals, in order, without gap.
+abbrev pub PollsGiveArrivals : Type 0
+PollsGiveArrivals = (s : Setup) (h : List Act) → given s h ++ left s h ≡ items_of (arrivals s h)
+
+-- A poll gives the first item that is left. There is none now, or none any longer, only where none is left.
+abbrev pub PollsGiveTheNext : Type 0
+PollsGiveTheNext = (s : Setup) (h : List Act) → polled (seen s h) ≡ polled_from (first_of (left s h)) (seen s h).ended
+
+-- An item is placed where it is among the first that are left, as many as the queue holds.
+abbrev pub queue : Setup → ℕ
+queue s = queue_of s.config.options.receiver_queue_size
+
+abbrev pub QueueIsKept : Type 0
+QueueIsKept = (s : Setup) (h : List Act) → (seen s h).engine.unread ≡ take (queue s) (left s h)
+
+-- PERMITS
+
+-- each arrival is finished: each of its items is placed
+abbrev pub IsFinished : Seen → Type 0
+IsFinished v = (v.engine.rest ≡ []) × (v.engine.waiting ≡ [])
+
+-- What remains of the permits of a live subscription is never more than the batch size, and at least half of it where each arrival is
+-- finished. It is what was left when the frame that is begun was begun, less what that frame costs, of whichever subscription it came.
+abbrev pub PermitsInBounds : Type 0
+PermitsInBounds = (s : Setup) (h : List Act) (l : Live) → s.is_raw ≡ false → (seen s h).engine.live ≡ Some l →
+    (l.level ≤ batch_size s.config) × (IsFinished (seen s h) → half (batch_size s.config) ≤ l.level - l.weight)
+
+-- The permits of a flow fit 32 bits, so none is cut.
+abbrev pub FlowsFit : Type 0
+FlowsFit = (batch level weight : ℕ) → batch < 2 ^ 32 → weight < 2 ^ 31 → half batch ≤ level →
+    permits (batch + weight - level) ≡ batch + weight - level
+
+-- A raw consumer asks for no flow.
+abbrev pub RawAsksForNothing : Type 0
+RawAsksForNothing = (s : Setup) (h : List Act) (l : Live) → s.is_raw ≡ true → (seen s h).engine.live ≡ Some l → l.due ≡ []
+
+-- ITS END
+
+-- Once it has ended it stays so, for the same reason; no subscription of it is live, and nothing arrives.
+abbrev pub EndIsFinal : Type 0
+EndIsFinal = (s : Setup) (later h : List Act) (why : Ending) → (seen s h).ended ≡ Some why →
+    ((seen s (later ++ h)).ended ≡ Some why) × (link_of (seen s (later ++ h)) ≡ None) × (arrivals s (later ++ h) ≡ arrivals s h)

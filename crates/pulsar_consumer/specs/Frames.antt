@@ -6,7 +6,7 @@ use Rattle.pulsar_wire.specs.Command.{BodyValues}
 use Rattle.pulsar_frame.specs.Batch.{num_messages_in_batch}
 use Rattle.pulsar_frame.specs.Message.{MessageValues}
 use Rattle.pulsar_frame.specs.Payload.{PayloadValues}
-use Rattle.pulsar_link.specs.Items.{Item, Faulty, id_of_body, items_behind}
+use Rattle.pulsar_link.specs.Items.{Item, Faulty, id_of_body, items_of}
 use Rattle.pulsar_session.specs.Failures.{Failure}
 
 -- a frame for a consumer: how many permits it costs, and its items
@@ -29,9 +29,14 @@ abbrev pub id_of : Option BodyValues → Option (Values message_id)
 id_of None = None
 id_of (Some b) = if b.number == 9 then id_of_body b else None
 
--- what its payload gives under that id
+-- what a payload gives under an id; a message without a payload gives nothing
+abbrev pub items_for : Option PayloadValues → Option (Values message_id) → List Item
+items_for None id = []
+items_for (Some p) None = []
+items_for (Some p) (Some id) = items_of id p
+
 abbrev pub frame : MessageValues → Frame
-frame m = record { weight = weight_behind m.payload; items = items_behind (id_of m.command.body) m.payload }
+frame m = record { weight = weight_behind m.payload; items = items_for m.payload (id_of m.command.body) }
 
 -- what a subscription that could not be made again gives: why
 abbrev pub failed : Failure → Frame

@@ -15,6 +15,7 @@ use pulsar_plans::turn::{Action, Outcome, Turn, Ways, error_of};
 use pulsar_wire::encoding::copying::copy_optional;
 use pulsar_wire::error::{ConsumerError, Error, NoMemory};
 use std::alloc::Global;
+use std::collections::VecDeque;
 
 /// The number of the body that answers the command which makes a subscription.
 const SUCCESS: u32 = 13;
@@ -210,25 +211,21 @@ fn numbers(alloc: Global, order: &Order, found: Option<Found>) -> Result<Builds,
 fn only(alloc: Global, names: Names) -> Result<Option<Found>, NoMemory>
     ensures { IfOk result (λ found. option_map meaning.found found ≡ meaning.only names) }
 {
-    let mut all = names.into_inner();
-    if all.len() != 1 {
-        return Ok(None);
-    }
-    match all.pop() {
-        Some((name, address)) => Ok(Some(Found {
-            name: Text::new(name),
-            place: Address::new(alloc, address)?,
-        })),
+    let mut all = VecDeque::from_vec(names.into_inner());
+    match all.pop_front() {
+        Some((name, address)) => match all.pop_front() {
+            Some(_) => Ok(None),
+            None => Ok(Some(Found {
+                name: Text::new(name),
+                place: Address::new(alloc, address)?,
+            })),
+        },
         None => Ok(None),
     }
 }
 
 /// The subscription is made.
-fn makes(
-    command: Command,
-    number: u64,
-    turn: Turn<Making, Result<Served, Refusal>>,
-) -> Builds
+fn makes(command: Command, number: u64, turn: Turn<Making, Result<Served, Refusal>>) -> Builds
     ensures { result ≡ meaning.build_makes command number turn }
 {
     match turn {

@@ -38,6 +38,9 @@ impl DeserializeMessage for String {
     /// The text of the payload. It fails exactly where its bytes are not UTF-8.
     fn deserialize_message(payload: &Payload) -> Result<Result<String, FromUtf8Error>, NoMemory> {
         let bytes = payload.bytes.clone()?;
-        Ok(String::from_utf8(bytes))
+        match String::from_utf8(bytes) {
+            Ok(text) => Ok(Ok(text)),
+            Err(e) => Ok(Err(e)),
+        }
     }
 }

@@ -54,7 +54,10 @@ impl Engine {
     pub fn live(&self) -> Option<&Live>
         ensures { option_map (λ l. l.now) result ≡ self.now.live }
     {
-        self.live.as_ref()
+        match &self.live {
+            Some(live) => Some(live),
+            None => None,
+        }
     }
 
     /// A subscription is live on this link to this address.
@@ -89,7 +92,7 @@ impl Engine {
         let Some(item) = self.unread.pop_front() else {
             return Ok(None);
         };
-        self.advance()?;
+        Engine::advance(self)?;
         Ok(Some(item))
     }
 

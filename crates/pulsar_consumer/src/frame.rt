@@ -49,7 +49,7 @@ impl Frame {
         let Some(payload) = payload else {
             return Ok(Frame::empty(alloc, 1));
         };
-        let weight = weight(payload.metadata.num_messages_in_batch);
+        let weight = weight_of(&payload);
         match id_in(&command)? {
             Some(id) => Ok(Frame {
                 weight,
@@ -92,6 +92,14 @@ impl Frame {
     }
 }
 
+/// How many permits a payload costs.
+#[tactic(auto, unfolding(pulsar_wire::specs::Views::message_metadata_values))]
+fn weight_of(payload: &Payload) -> u32
+    ensures { result ≡ meaning.weight_behind (Some (payload_values payload.now)) }
+{
+    weight(payload.metadata.num_messages_in_batch)
+}
+
 /// How many permits a payload of so many entries costs.
 fn weight(count: Option<i32>) -> u32
     ensures { result ≡ meaning.weight_of count }
@@ -132,11 +140,8 @@ fn one(alloc: Global, item: Item) -> Result<VecDeque<Unread>, NoMemory>
 }
 
 /// What a payload gives under its id.
-fn items(
-    alloc: Global,
-    id: MessageIdData,
-    payload: Payload,
-) -> Result<VecDeque<Unread>, NoMemory>
+#[tactic(auto, unfolding(pulsar_wire::specs::Views::message_metadata_values))]
+fn items(alloc: Global, id: MessageIdData, payload: Payload) -> Result<VecDeque<Unread>, NoMemory>
     ensures { IfOk result (λ items. items.items ≡ items_of (message_id_values id) (payload_values payload)) }
 {
     if is_compressed(payload.metadata.compression) {
@@ -172,10 +177,7 @@ fn open(alloc: Global, id: MessageIdData, payload: Payload) -> Result<VecDeque<U
     }
 }
 
-fn all_of(
-    alloc: Global,
-    mut messages: BatchedMessageIterator,
-) -> Result<VecDeque<Unread>, NoMemory>
+fn all_of(alloc: Global, mut messages: BatchedMessageIterator) -> Result<VecDeque<Unread>, NoMemory>
     ensures { IfOk result (λ items. items.items ≡ map given messages) }
 {
     let mut items = VecDeque::new(alloc);

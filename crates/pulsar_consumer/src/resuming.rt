@@ -47,9 +47,7 @@ pub fn told(
             looking,
             outcome,
         )?)),
-        Resuming::Making(making) => Ok(makes(making::told(
-            alloc, ways, command, making, outcome,
-        )?)),
+        Resuming::Making(making) => Ok(makes(making::told(alloc, ways, command, making, outcome)?)),
     }
 }
 

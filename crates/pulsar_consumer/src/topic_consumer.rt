@@ -195,9 +195,10 @@ impl TopicConsumer {
     pub fn lose(&mut self, link: u64)
         ensures { self.new ≡ after (Loses link) self.old }
     {
-        if self.lives_on(link) {
-            self.lose_it();
+        if !self.lives_on(link) {
+            return;
         }
+        self.lose_it();
     }
 
     /// It could not be subscribed again: that is its last item, and it ends.

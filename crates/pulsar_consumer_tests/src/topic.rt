@@ -55,13 +55,7 @@ fn polls(consumer: &mut TopicConsumer) -> Result<u8, Fail> {
     match consumer.poll(7)? {
         Polled::Empty => Ok(0),
         Polled::End => Ok(1),
-        Polled::Item(item) => {
-            if item.is_message() {
-                Ok(2)
-            } else {
-                Ok(3)
-            }
-        }
+        Polled::Item(item) => { if item.is_message() { Ok(2) } else { Ok(3) } }
     }
 }
 
@@ -70,15 +64,15 @@ fn polls(consumer: &mut TopicConsumer) -> Result<u8, Fail> {
 fn a_flow_makes_up_what_a_frame_cost(rt: HostRuntime) -> Result<(), Fail> {
     let alloc = rt.alloc();
     let mut consumer = consumer(alloc, None)?;
-    assert!(rt; consumer.ask() == Some(1000))?;
-    assert!(rt; consumer.ask().is_none())?;
+    assert!(rt; consumer.ask() == Some(1000));
+    assert!(rt; consumer.ask().is_none());
     consumer.hear(0, message(alloc, Some(500), b"")?)?;
-    assert!(rt; consumer.ask().is_none())?;
+    assert!(rt; consumer.ask().is_none());
     consumer.hear(0, message(alloc, None, b"a")?)?;
-    assert!(rt; consumer.ask() == Some(501))?;
+    assert!(rt; consumer.ask() == Some(501));
     consumer.hear(0, message(alloc, Some(2124), b"")?)?;
-    assert!(rt; consumer.ask() == Some(2124))?;
-    assert!(rt; consumer.ask().is_none())?;
+    assert!(rt; consumer.ask() == Some(2124));
+    assert!(rt; consumer.ask().is_none());
     Ok(())
 }
 
@@ -101,12 +95,12 @@ fn a_queue_of_one_gives_a_batch_in_order(rt: HostRuntime) -> Result<(), Fail> {
     let alloc = rt.alloc();
     let mut consumer = consumer(alloc, Some(1))?;
     consumer.hear(0, message(alloc, Some(3), ABC)?)?;
-    assert!(rt; letter(&mut consumer)? == Some(b'a'))?;
-    assert!(rt; letter(&mut consumer)? == Some(b'b'))?;
-    assert!(rt; letter(&mut consumer)? == Some(b'c'))?;
-    assert!(rt; polls(&mut consumer)? == 0)?;
-    assert!(rt; consumer.messages_received() == 3)?;
-    assert!(rt; consumer.last_message_received() == Some(7))?;
+    assert!(rt; letter(&mut consumer)? == Some(b'a'));
+    assert!(rt; letter(&mut consumer)? == Some(b'b'));
+    assert!(rt; letter(&mut consumer)? == Some(b'c'));
+    assert!(rt; polls(&mut consumer)? == 0);
+    assert!(rt; consumer.messages_received() == 3);
+    assert!(rt; consumer.last_message_received() == Some(7));
     Ok(())
 }
 
@@ -116,16 +110,16 @@ fn what_came_is_given_behind_a_lost_link(rt: HostRuntime) -> Result<(), Fail> {
     let mut consumer = consumer(alloc, Some(0))?;
     consumer.hear(0, message(alloc, None, b"a")?)?;
     consumer.hear(1, message(alloc, None, b"b")?)?;
-    assert!(rt; consumer.resubscribes(0))?;
+    assert!(rt; consumer.resubscribes(0));
     consumer.lose(0);
-    assert!(rt; consumer.link().is_none())?;
+    assert!(rt; consumer.link().is_none());
     consumer.hear(0, message(alloc, None, b"b")?)?;
-    assert!(rt; polls(&mut consumer)? == 2)?;
-    assert!(rt; polls(&mut consumer)? == 0)?;
+    assert!(rt; polls(&mut consumer)? == 2);
+    assert!(rt; polls(&mut consumer)? == 0);
     consumer.fail(Refusal::in_connection(alloc, ConnectionError::NotFound)?)?;
-    assert!(rt; polls(&mut consumer)? == 3)?;
-    assert!(rt; polls(&mut consumer)? == 1)?;
-    assert!(rt; consumer.messages_received() == 1)?;
+    assert!(rt; polls(&mut consumer)? == 3);
+    assert!(rt; polls(&mut consumer)? == 1);
+    assert!(rt; consumer.messages_received() == 1);
     Ok(())
 }
 
@@ -137,11 +131,11 @@ fn an_ended_consumer_takes_no_subscription(rt: HostRuntime) -> Result<(), Fail> 
     consumer.end(Ending::TopicEnded);
     consumer.end(Ending::Closed);
     consumer.subscribe(1, url(alloc)?)?;
-    assert!(rt; consumer.link().is_none())?;
-    assert!(rt; consumer.ask().is_none())?;
-    assert!(rt; consumer.ending() == Some(Ending::TopicEnded))?;
-    assert!(rt; polls(&mut consumer)? == 2)?;
-    assert!(rt; polls(&mut consumer)? == 1)?;
+    assert!(rt; consumer.link().is_none());
+    assert!(rt; consumer.ask().is_none());
+    assert!(rt; consumer.ending() == Some(Ending::TopicEnded));
+    assert!(rt; polls(&mut consumer)? == 2);
+    assert!(rt; polls(&mut consumer)? == 1);
     Ok(())
 }
 
@@ -150,16 +144,16 @@ fn an_ended_consumer_takes_no_subscription(rt: HostRuntime) -> Result<(), Fail> 
 fn one_poll_may_finish_two_frames(rt: HostRuntime) -> Result<(), Fail> {
     let alloc = rt.alloc();
     let mut consumer = small(alloc)?;
-    assert!(rt; consumer.ask() == Some(1))?;
+    assert!(rt; consumer.ask() == Some(1));
     consumer.hear(0, message(alloc, None, b"a")?)?;
-    assert!(rt; consumer.ask() == Some(1))?;
+    assert!(rt; consumer.ask() == Some(1));
     consumer.hear(0, message(alloc, None, b"b")?)?;
     consumer.hear(0, bare(alloc)?)?;
-    assert!(rt; consumer.ask().is_none())?;
-    assert!(rt; polls(&mut consumer)? == 2)?;
-    assert!(rt; consumer.ask() == Some(1))?;
-    assert!(rt; consumer.ask() == Some(1))?;
-    assert!(rt; consumer.ask().is_none())?;
+    assert!(rt; consumer.ask().is_none());
+    assert!(rt; polls(&mut consumer)? == 2);
+    assert!(rt; consumer.ask() == Some(1));
+    assert!(rt; consumer.ask() == Some(1));
+    assert!(rt; consumer.ask().is_none());
     Ok(())
 }
 

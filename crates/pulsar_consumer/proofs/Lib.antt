@@ -1,3 +1,4 @@
+pub mod Going
 pub mod Held
 pub mod Histories
 pub mod Items

@@ -1,7 +1,7 @@
 -- For the code's contracts alone: a consumer as the code keeps it.
 use Rattle.pulsar_consumer.specs.Frames as frames
 use Rattle.pulsar_consumer.specs.Topic.{Engine, Live, Seen}
-use Rattle.pulsar_consumer.specs.declared.engine.Engine.TheInside as engine
+use Rattle.pulsar_consumer.specs.declared.engine.ConsumerEngine.TheInside as engine
 use Rattle.pulsar_consumer.specs.declared.frame.Frame.TheInside as frame
 use Rattle.pulsar_consumer.specs.declared.live.Live.TheInside as live
 use Rattle.pulsar_consumer.specs.declared.topic_consumer.TopicConsumer.TheInside as topic

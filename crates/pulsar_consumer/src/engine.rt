@@ -15,7 +15,7 @@ use url::Url;
 
 /// What a consumer holds.
 #[derive(Drop)]
-pub struct Engine {
+pub struct ConsumerEngine {
     alloc: Global,
     queue: usize,
     batch: Option<u32>,
@@ -25,7 +25,7 @@ pub struct Engine {
     waiting: VecDeque<Frame>,
 }
 
-impl Model for Engine {
+impl Model for ConsumerEngine {
     ghost use Rattle.pulsar_consumer.specs.Kept.{engine_of};
     ghost use Rattle.pulsar_consumer.specs.Topic.{Engine as Meant};
 
@@ -34,12 +34,12 @@ impl Model for Engine {
     ghost view = { engine_of };
 }
 
-impl Engine {
+impl ConsumerEngine {
     /// Nothing is held. So many items may be unread, and so many messages may be sent at once.
-    pub fn new(alloc: Global, queue: usize, batch: Option<u32>) -> Engine
+    pub(crate) fn new(alloc: Global, queue: usize, batch: Option<u32>) -> ConsumerEngine
         ensures { result ≡ record { queue = queue; batch = batch; live = None; unread = []; rest = []; waiting = [] } }
     {
-        Engine {
+        ConsumerEngine {
             alloc,
             queue,
             batch,
@@ -51,7 +51,7 @@ impl Engine {
     }
 
     /// The subscription that is live.
-    pub fn live(&self) -> Option<&Live>
+    pub(crate) fn live(&self) -> Option<&Live>
         ensures { option_map (λ l. l.now) result ≡ self.now.live }
     {
         match &self.live {
@@ -61,7 +61,7 @@ impl Engine {
     }
 
     /// A subscription is live on this link to this address.
-    pub fn subscribe(&mut self, link: u64, url: Url) -> Result<(), NoMemory>
+    pub(crate) fn subscribe(&mut self, link: u64, url: Url) -> Result<(), NoMemory>
         ensures { OnOk result (self.new ≡ record self.old { live = Some (meaning.subscribed self.old.batch link url) }) }
     {
         self.live = Some(Live::new(self.alloc, self.batch, link, url)?);
@@ -69,14 +69,14 @@ impl Engine {
     }
 
     /// No subscription is live.
-    pub fn lose(&mut self)
+    pub(crate) fn lose(&mut self)
         ensures { self.new ≡ record self.old { live = None } }
     {
         self.live = None;
     }
 
     /// One more frame came.
-    pub fn hear(&mut self, frame: Frame) -> Result<(), NoMemory>
+    pub(crate) fn hear(&mut self, frame: Frame) -> Result<(), NoMemory>
         ensures { OnOk result (self.new ≡ meaning.hears frame self.old) }
     {
         self.waiting.push_back(frame)?;
@@ -85,19 +85,19 @@ impl Engine {
     }
 
     /// The first unread item, which is given.
-    pub fn give(&mut self) -> Result<Option<Unread>, NoMemory>
+    pub(crate) fn give(&mut self) -> Result<Option<Unread>, NoMemory>
         ensures item { IfOk result (λ item. item ≡ meaning.first_of self.old.unread) }
         ensures after { OnOk result (self.new ≡ meaning.gives self.old) }
     {
         let Some(item) = self.unread.pop_front() else {
             return Ok(None);
         };
-        Engine::advance(self)?;
+        ConsumerEngine::advance(self)?;
         Ok(Some(item))
     }
 
     /// The flow that is to be asked for next. It counts as asked for.
-    pub fn ask(&mut self) -> Option<u32>
+    pub(crate) fn ask(&mut self) -> Option<u32>
         ensures flow { result ≡ meaning.first_due self.old.live }
         ensures after { self.new ≡ record self.old { live = option_map meaning.asked self.old.live } }
     {
@@ -125,10 +125,11 @@ impl Engine {
     }
 
     /// Frames are finished and begun as far as all items before them are placed.
+    #[tactic(auto, using(crate::proofs::Going::stuck, crate::proofs::Going::step_some, crate::proofs::Going::step_none))]
     fn go_on(&mut self) -> Result<(), NoMemory>
         ensures { OnOk result (self.new ≡ meaning.goes_on self.old.waiting self.old) }
     {
-        'frames: while self.rest.is_empty() {
+        'frames: while is_placed(&self.rest) {
             self.finish()?;
             match self.waiting.pop_front() {
                 Some(frame) => self.begin(frame)?,
@@ -159,6 +160,14 @@ impl Engine {
         self.place()?;
         Ok(())
     }
+}
+
+/// Each item of the frame that is begun is placed.
+#[tactic(auto, using(crate::proofs::Going::counts_none))]
+fn is_placed(rest: &VecDeque<Unread>) -> bool
+    ensures { result ≡ meaning.no_items rest.now.items }
+{
+    rest.is_empty()
 }
 
 /// Items are placed while fewer than this are unread.

@@ -9,7 +9,7 @@ ghost use Rattle.pulsar_consumer.specs.Topic as meaning;
 
 use crate::building::command;
 use crate::config::ConsumerConfig;
-use crate::engine::Engine;
+use crate::engine::ConsumerEngine;
 use crate::frame::Frame;
 use crate::polled::{Ending, Polled};
 use crate::settings::Settings;
@@ -35,7 +35,7 @@ pub struct TopicConsumer {
     number: u64,
     config: Settings,
     is_raw: bool,
-    engine: Engine,
+    engine: ConsumerEngine,
     ended: Option<Ending>,
     received: u64,
     last: Option<u64>,
@@ -73,7 +73,7 @@ impl TopicConsumer {
             number,
             config,
             is_raw,
-            engine: Engine::new(alloc, queue as usize, batch),
+            engine: ConsumerEngine::new(alloc, queue as usize, batch),
             ended: None,
             received: 0,
             last: None,

@@ -1,6 +1,6 @@
 use Rattle.std.proofs.Common.{◌≡◌, length}
 use Rattle.pulsar_consumer.specs.Topic.{goes_on}
-use Rattle.pulsar_consumer.proofs.engine.Engine.go_on.Given as goal
+use Rattle.pulsar_consumer.proofs.engine.ConsumerEngine.go_on.Given as goal
 
 abbrev pub invariant-frames : goal.invariant-frames
 invariant-frames l = goes_on l.self.waiting l.self ≡ goes_on l.fn.self.waiting l.fn.self

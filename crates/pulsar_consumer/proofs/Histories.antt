@@ -14,7 +14,7 @@ use Rattle.pulsar_consumer.proofs.Held.{IsSettled, first_held, gives_holds, give
 use Rattle.pulsar_consumer.proofs.Permits.{Bounded, InBounds, Keeps, Quiet, Weightless, asked_quiet, gives_bounded, gives_dead, gives_keeps, gives_quiet, goes_quiet, hears_bounded, hears_keeps, subscribed_bounded}
 
 -- counting a message leaves the engine as it is, and why it has ended
-counted_same : (o : Option Item) (clock : ℕ) (v : Seen) → ((counts_first clock o v).engine ≡ v.engine) × ((counts_first clock o v).ended ≡ v.ended)
+pub counted_same : (o : Option Item) (clock : ℕ) (v : Seen) → ((counts_first clock o v).engine ≡ v.engine) × ((counts_first clock o v).ended ≡ v.ended)
 counted_same None clock v = (refl, refl)
 counted_same (Some item) clock v = by (is_message item)
   where
@@ -66,7 +66,7 @@ sizes_kept e =
       asks = λ d p. p;
     }
 
-sizes : (s : Setup) (h : List Act) → Keeps (seen s h).engine (idle s.is_raw s.config)
+pub sizes : (s : Setup) (h : List Act) → Keeps (seen s h).engine (idle s.is_raw s.config)
 sizes s h = kept (λ d. Keeps d (idle s.is_raw s.config)) (sizes_kept (idle s.is_raw s.config)) s h (refl, refl)
 
 queue_some : (o : Option ℕ) → 0 < queue_of o
@@ -89,12 +89,12 @@ settled_kept =
       asks = λ d p. p;
     }
 
-settled : (s : Setup) (h : List Act) → IsSettled (seen s h).engine
+pub settled : (s : Setup) (h : List Act) → IsSettled (seen s h).engine
 settled s h = kept IsSettled settled_kept s h ((omega arith, λ none. absurd cc), λ none. refl)
 
 -- ITEMS
 
-polled_one : (o : Option Item) (why : Option Ending) → item_in (polled_from o why) ≡ one_of o
+pub polled_one : (o : Option Item) (why : Option Ending) → item_in (polled_from o why) ≡ one_of o
 polled_one (Some item) why = refl
 polled_one None (Some why) = refl
 polled_one None None = refl

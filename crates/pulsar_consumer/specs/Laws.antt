@@ -1,5 +1,5 @@
 -- What follows of every history of a consumer, in plain words. `h` has the acts of a history, newest first, and `later` those behind them.
-use Rattle.std.specs.Prelude.{◌≡◌, ℕ, ◌+◌, ◌-◌, ◌^◌, ◌<◌, ◌≤◌, Bool, true, false, if◌then◌else◌, List, [], ◌∷◌, ◌++◌, length, take, drop, Option, Some, None}
+use Rattle.std.specs.Prelude.{◌≡◌, ℕ, ◌+◌, ◌-◌, ◌^◌, ◌<◌, ◌≤◌, nat_lt, Bool, true, false, if◌then◌else◌, List, [], ◌∷◌, ◌++◌, length, take, drop, Option, Some, None}
 use Rattle.std.specs.List.{flat_map}
 use Rattle.pulsar_frame.specs.Message.{MessageValues}
 use Rattle.pulsar_link.specs.Items.{Item, items_in}
@@ -76,6 +76,19 @@ queue s = queue_of s.config.options.receiver_queue_size
 
 abbrev pub QueueIsKept : Type 0
 QueueIsKept = (s : Setup) (h : List Act) → (seen s h).engine.unread ≡ take (queue s) (left s h)
+
+-- A frame is begun where each item of those before it is placed: these are the frames that are begun, where so many items are placed or
+-- may be.
+abbrev pub begun_in : (room : ℕ) → List Frame → List Frame
+begun_in room [] = []
+begun_in room (f ∷ fs) = f ∷ (if nat_lt room (length f.items) then [] else begun_in (room - length f.items) fs)
+
+abbrev pub begun : Setup → List Act → List Frame
+begun s h = begun_in (length (given s h) + queue s) (arrivals s h)
+
+-- Frames are begun in their order, and the others wait behind them.
+abbrev pub FramesBeginInTurn : Type 0
+FramesBeginInTurn = (s : Setup) (h : List Act) → arrivals s h ≡ begun s h ++ (seen s h).engine.waiting
 
 -- PERMITS
 

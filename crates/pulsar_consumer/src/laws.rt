@@ -1,6 +1,6 @@
 //! What follows of every history of a consumer: each contract is a law, and its body is empty.
 
-ghost use Rattle.pulsar_consumer.specs.Laws.{EndIsFinal, FlowsFit, FramesGiveItems, PermitsInBounds, PollsGiveArrivals, PollsGiveTheNext, QueueIsKept, RawAsksForNothing};
+ghost use Rattle.pulsar_consumer.specs.Laws.{EndIsFinal, FlowsFit, FramesBeginInTurn, FramesGiveItems, PermitsInBounds, PollsGiveArrivals, PollsGiveTheNext, QueueIsKept, RawAsksForNothing};
 
 /// A message gives the items of its frame.
 pub fn frames_give_items()
@@ -13,9 +13,10 @@ pub fn polls_give_arrivals()
     ensures next { PollsGiveTheNext }
 {}
 
-/// As many items are placed as the receiver queue holds.
+/// As many items are placed as the receiver queue holds, and frames are begun in turn.
 pub fn queue_is_kept()
-    ensures { QueueIsKept }
+    ensures placed { QueueIsKept }
+    ensures begun { FramesBeginInTurn }
 {}
 
 /// What remains of the permits is at most the batch size, and at least half of it where each arrival is finished.

@@ -203,6 +203,10 @@ split s (act ∷ h) =
     subst (λ n. Split n (arrivals s h ++ arrives_by act (seen s h)) (after act (seen s h)).engine) (sym (length-append (given s h) (given_by act (seen s h))))
     (split_after (length (given s h)) (arrivals s h) act (seen s h) (settled s h).0.0 (split s h))
 
+some_of : (xs : List Item) → no_items xs ≡ false → 0 < length xs
+some_of [] none = absurd cc
+some_of (y ∷ ys) none = omega arith
+
 begun_is : (k : ℕ) (all : List Frame) (e : Engine) → IsSettled e → (x : Split k all e) → begun_in (k + e.queue) all ≡ x.frames
 begun_is k all e set x = by (no_items e.rest) refl
   where
@@ -214,10 +218,6 @@ begun_is k all e set x = by (no_items e.rest) refl
         let some : 0 < length e.rest = some_of e.rest more in
         let size = x.size in
         ap (begun_in (k + e.queue)) x.parts ∙ no_more_begun (k + e.queue) x.frames e.waiting (omega (arith, full, some, size)) x.fits
-      where
-        some_of : (xs : List Item) → no_items xs ≡ false → 0 < length xs
-        some_of [] none = absurd cc
-        some_of (y ∷ ys) none = omega arith
 
 pub frames_begin_in_turn : FramesBeginInTurn
 frames_begin_in_turn s h =

@@ -144,21 +144,20 @@ placed e all = by (no_items e.rest) refl
         let ge : e.queue ≤ length e.unread = omega (arith, len) in
         sym (take-append-le e.queue e.unread (e.rest ++ of_frames e.waiting) ge ∙ take_all e.queue e.unread all.0.0)
 
+-- where the queue holds any, and none is placed, none is left
+nothing_left : (e : Engine) → 0 < e.queue → IsSettled e → e.unread ≡ [] → (b : Bool) → no_items e.rest ≡ b → no_items e.rest ≡ true
+nothing_left e some all none true same = same
+nothing_left e some all none false same =
+    let len : length e.unread ≡ 0 = ap length none in
+    let full : length e.unread ≡ e.queue = all.0.1 same in
+    absurd (omega (arith, some, len, full))
+
+first_by : (us : List Item) (e : Engine) → e.unread ≡ us → 0 < e.queue → IsSettled e → first_of us ≡ first_of (us ++ (e.rest ++ of_frames e.waiting))
+first_by (x ∷ xs) e w some all = refl
+first_by [] e w some all =
+    let none = nothing_left e some all w (no_items e.rest) refl in
+    sym (ap (λ r. first_of (r ++ of_frames e.waiting)) (none_left e.rest none) ∙ ap (λ w. first_of (of_frames w)) (all.1 none))
+
 -- and the first of both is the same, where the queue holds any
 pub first_held : (e : Engine) → 0 < e.queue → IsSettled e → first_of e.unread ≡ first_of (held e)
-first_held e some all = by e.unread refl
-  where
-    nothing : e.unread ≡ [] → no_items e.rest ≡ true
-    nothing none = of (no_items e.rest) refl
-      where
-        of : (b : Bool) → no_items e.rest ≡ b → b ≡ true
-        of true same = refl
-        of false same =
-            let len : length e.unread ≡ 0 = ap length none in
-            let full : length e.unread ≡ e.queue = all.0.1 same in
-            absurd (omega (arith, some, len, full))
-    by : (us : List Item) → e.unread ≡ us → first_of us ≡ first_of (us ++ (e.rest ++ of_frames e.waiting))
-    by (x ∷ xs) w = refl
-    by [] w =
-        let none = nothing w in
-        sym (ap (λ r. first_of (r ++ of_frames e.waiting)) (none_left e.rest none) ∙ ap (λ w. first_of (of_frames w)) (all.1 none))
+first_held e some all = first_by e.unread e refl some all

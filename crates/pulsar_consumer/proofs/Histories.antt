@@ -3,10 +3,12 @@ use Rattle.std.proofs.Common.{◌≡◌, ◌∙◌, sym, ap, refl, subst, ℕ, �
 use Rattle.std.proofs.lemmas.Bool.Decides.{nat_tests}
 use Rattle.std.proofs.lemmas.List.{append-nil, append_assoc, drop_at}
 use Rattle.std.specs.Option.{is_some, option_map, option_or}
-use Rattle.pulsar_link.specs.Items.{Item, Given, Faulty}
+use Rattle.url.specs.Parts.{Parts}
+use Rattle.pulsar_wire.specs.Sink.{capped}
+use Rattle.pulsar_link.specs.Items.{Item}
 use Rattle.pulsar_consumer.specs.Content.{ConfigValues}
 use Rattle.pulsar_consumer.specs.Frames.{Frame, failed}
-use Rattle.pulsar_consumer.specs.Topic.{Act, Lives, Hears, Loses, Fails, Ends, Polls, Asks, Engine, Live, Seen, Setup, after, asked, batch_size, counts, counts_first, ends, first_of, gives, half, hears, idle, is_ended, is_message, is_on, link_of, lives_on, loses, no_items, polled, polled_from, queue_of, seen, subscribed}
+use Rattle.pulsar_consumer.specs.Topic.{Act, Lives, Hears, Loses, Fails, Ends, Polls, Asks, Engine, Live, Seen, Setup, after, asked, batch_size, counts, counts_first, ends, first_of, gives, half, hears, idle, is_ended, is_message, is_on, link_of, lives_on, loses, no_items, places, polled, polled_from, queue_of, seen, subscribed}
 use Rattle.pulsar_consumer.specs.Laws.{EndIsFinal, IsFinished, PermitsInBounds, PollsGiveArrivals, PollsGiveTheNext, QueueIsKept, RawAsksForNothing, arrivals, arrives_by, given, given_by, item_in, items_of, left, queue}
 use Rattle.pulsar_consumer.specs.declared.polled.Ending.{Ending}
 use Rattle.pulsar_consumer.specs.declared.polled.Ending.TheVariants.{LinkLost, NotSubscribed}
@@ -14,41 +16,51 @@ use Rattle.pulsar_consumer.proofs.Held.{IsSettled, first_held, gives_holds, give
 use Rattle.pulsar_consumer.proofs.Permits.{Bounded, InBounds, Keeps, Quiet, Weightless, asked_quiet, gives_bounded, gives_dead, gives_keeps, gives_quiet, goes_quiet, hears_bounded, hears_keeps, subscribed_bounded}
 
 -- counting a message leaves the engine as it is, and why it has ended
+counted_by : (b : Bool) (v w : Seen) → w.engine ≡ v.engine → w.ended ≡ v.ended → ((cond b w v).engine ≡ v.engine) × ((cond b w v).ended ≡ v.ended)
+counted_by true v w e f = (e, f)
+counted_by false v w e f = (refl, refl)
+
 pub counted_same : (o : Option Item) (clock : ℕ) (v : Seen) → ((counts_first clock o v).engine ≡ v.engine) × ((counts_first clock o v).ended ≡ v.ended)
 counted_same None clock v = (refl, refl)
-counted_same (Some item) clock v = by (is_message item)
-  where
-    by : (b : Bool) → ((cond b (record v { received = _; last = Some clock }) v).engine ≡ v.engine) × ((cond b (record v { received = _; last = Some clock }) v).ended ≡ v.ended)
-    by true = (refl, refl)
-    by false = (refl, refl)
+counted_same (Some item) clock v = counted_by (is_message item) v (record v { received = capped (v.received + 1); last = Some clock }) refl refl
+
+-- what an act makes of it, where it makes anything
+subscribed_again : (link : ℕ) → Parts → Seen → Seen
+subscribed_again link url v = record v { engine = record v.engine { live = Some (subscribed v.engine.batch link url) } }
+
+heard : Frame → Seen → Seen
+heard f v = record v { engine = hears f v.engine }
+
+lost : Seen → Seen
+lost v = record v { engine = record v.engine { live = None } }
 
 -- A PROPERTY OF THE ENGINE that each of its changes keeps, every act keeps
 
 record Kept (P : Engine → Type 0) : Type 0 where
-  lives : (e : Engine) (link : ℕ) (url : _) → P e → P (record e { live = Some (subscribed e.batch link url) })
-  loses : (e : Engine) → P e → P (record e { live = None })
-  hears : (f : Frame) (e : Engine) → P e → P (hears f e)
-  gives : (e : Engine) → P e → P (gives e)
-  asks : (e : Engine) → P e → P (record e { live = option_map asked e.live })
+  at_lives : (e : Engine) (link : ℕ) (url : Parts) → P e → P (record e { live = Some (subscribed e.batch link url) })
+  at_loses : (e : Engine) → P e → P (record e { live = None })
+  at_hears : (f : Frame) (e : Engine) → P e → P (hears f e)
+  at_gives : (e : Engine) → P e → P (gives e)
+  at_asks : (e : Engine) → P e → P (record e { live = option_map asked e.live })
 
 module _ (P : Engine → Type 0) (k : Kept P) where
-  loses_kept : (b : Bool) (v : Seen) → P v.engine → P (cond b (ends LinkLost v) (record v { engine = record v.engine { live = None } })).engine
-  loses_kept true v p = k.loses v.engine p
-  loses_kept false v p = k.loses v.engine p
+  loses_kept : (b : Bool) (v : Seen) → P v.engine → P (cond b (ends LinkLost v) (lost v)).engine
+  loses_kept true v p = k.at_loses v.engine p
+  loses_kept false v p = k.at_loses v.engine p
 
   lives_kept : (b : Bool) (v w : Seen) → P v.engine → P w.engine → P (cond b v w).engine
   lives_kept true v w p q = p
   lives_kept false v w p q = q
 
   kept_after : (act : Act) (v : Seen) → P v.engine → P (after act v).engine
-  kept_after (Lives link url) v p = lives_kept (is_ended v) v _ p (k.lives v.engine link url p)
-  kept_after (Hears link f) v p = lives_kept (lives_on link v) _ v (k.hears f v.engine p) p
-  kept_after (Loses link) v p = lives_kept (lives_on link v) _ v (loses_kept v.is_raw v p) p
-  kept_after (Fails f) v p = lives_kept (is_ended v) v _ p (k.loses (hears (failed f) v.engine) (k.hears (failed f) v.engine p))
-  kept_after (Ends why) v p = k.loses v.engine p
+  kept_after (Lives link url) v p = lives_kept (is_ended v) v (subscribed_again link url v) p (k.at_lives v.engine link url p)
+  kept_after (Hears link f) v p = lives_kept (lives_on link v) (heard f v) v (k.at_hears f v.engine p) p
+  kept_after (Loses link) v p = lives_kept (lives_on link v) (loses v) v (loses_kept v.is_raw v p) p
+  kept_after (Fails f) v p = lives_kept (is_ended v) v (ends NotSubscribed (heard (failed f) v)) p (k.at_loses (hears (failed f) v.engine) (k.at_hears (failed f) v.engine p))
+  kept_after (Ends why) v p = k.at_loses v.engine p
   kept_after (Polls clock) v p =
-      subst P (sym (counted_same (first_of v.engine.unread) clock (record v { engine = gives v.engine })).0) (k.gives v.engine p)
-  kept_after Asks v p = k.asks v.engine p
+      subst P (sym (counted_same (first_of v.engine.unread) clock (record v { engine = gives v.engine })).0) (k.at_gives v.engine p)
+  kept_after Asks v p = k.at_asks v.engine p
 
   kept : (s : Setup) (h : List Act) → P (idle s.is_raw s.config) → P (seen s h).engine
   kept s [] p = p
@@ -59,11 +71,11 @@ module _ (P : Engine → Type 0) (k : Kept P) where
 sizes_kept : (e : Engine) → Kept (λ d. Keeps d e)
 sizes_kept e =
     record {
-      lives = λ d link url p. p;
-      loses = λ d p. p;
-      hears = λ f d p. ((hears_keeps f d).0 ∙ p.0, (hears_keeps f d).1 ∙ p.1);
-      gives = λ d p. ((gives_keeps d).0 ∙ p.0, (gives_keeps d).1 ∙ p.1);
-      asks = λ d p. p;
+      at_lives = λ d link url p. p;
+      at_loses = λ d p. p;
+      at_hears = λ f d p. ((hears_keeps f d).0 ∙ p.0, (hears_keeps f d).1 ∙ p.1);
+      at_gives = λ d p. ((gives_keeps d).0 ∙ p.0, (gives_keeps d).1 ∙ p.1);
+      at_asks = λ d p. p;
     }
 
 pub sizes : (s : Setup) (h : List Act) → Keeps (seen s h).engine (idle s.is_raw s.config)
@@ -82,11 +94,11 @@ queue_some (Some n) = by (n == 0) refl
 settled_kept : Kept IsSettled
 settled_kept =
     record {
-      lives = λ d link url p. p;
-      loses = λ d p. p;
-      hears = hears_settled;
-      gives = gives_settled;
-      asks = λ d p. p;
+      at_lives = λ d link url p. p;
+      at_loses = λ d p. p;
+      at_hears = hears_settled;
+      at_gives = gives_settled;
+      at_asks = λ d p. p;
     }
 
 pub settled : (s : Setup) (h : List Act) → IsSettled (seen s h).engine
@@ -115,7 +127,7 @@ same_flows : (b : Bool) (v w : Seen) → held w.engine ≡ held v.engine → Flo
 same_flows true v w e = append-nil (held v.engine)
 same_flows false v w e = append-nil (held v.engine) ∙ sym e
 
-lost_same : (b : Bool) (v : Seen) → held (cond b (ends LinkLost v) (record v { engine = record v.engine { live = None } })).engine ≡ held v.engine
+lost_same : (b : Bool) (v : Seen) → held (cond b (ends LinkLost v) (lost v)).engine ≡ held v.engine
 lost_same true v = refl
 lost_same false v = refl
 
@@ -124,10 +136,10 @@ lost_flows true v w e = append-nil (held v.engine) ∙ sym e
 lost_flows false v w e = append-nil (held v.engine)
 
 flows_after : (act : Act) (v : Seen) → Flows (held v.engine) (arrives_by act v) (given_by act v) (held (after act v).engine)
-flows_after (Lives link url) v = same_flows (is_ended v) v _ refl
-flows_after (Hears link f) v = heard_flows (lives_on link v) f v _ (hears_holds f v.engine)
+flows_after (Lives link url) v = same_flows (is_ended v) v (subscribed_again link url v) refl
+flows_after (Hears link f) v = heard_flows (lives_on link v) f v (heard f v) (hears_holds f v.engine)
 flows_after (Loses link) v = lost_flows (lives_on link v) v (loses v) (lost_same v.is_raw v)
-flows_after (Fails f) v = failed_flows (is_ended v) (failed f) v _ (hears_holds (failed f) v.engine)
+flows_after (Fails f) v = failed_flows (is_ended v) (failed f) v (ends NotSubscribed (heard (failed f) v)) (hears_holds (failed f) v.engine)
 flows_after (Ends why) v = append-nil (held v.engine)
 flows_after (Polls clock) v =
     append-nil (held v.engine)
@@ -177,7 +189,7 @@ queue_is_kept s h =
 abbrev Grants : ℕ → Engine → Type 0
 Grants batch e = (e.batch ≡ Some batch) × InBounds batch e
 
-lives_bounded : (o : Option ℕ) (batch link : ℕ) (url : _) → o ≡ Some batch → Bounded batch (Some (subscribed o link url)) × ((subscribed o link url).weight ≡ 0)
+lives_bounded : (o : Option ℕ) (batch link : ℕ) (url : Parts) → o ≡ Some batch → Bounded batch (Some (subscribed o link url)) × ((subscribed o link url).weight ≡ 0)
 lives_bounded None batch link url is = absurd cc
 lives_bounded (Some b) batch link url is =
     let same : b ≡ batch = cc in ((omega (arith, same), subst (λ n. half batch ≤ n) (sym same) (subscribed_bounded batch)), refl)
@@ -193,11 +205,11 @@ asked_weightless (Some l) all = all
 grants_kept : (batch : ℕ) → Kept (Grants batch)
 grants_kept batch =
     record {
-      lives = λ d link url p. let two = lives_bounded d.batch batch link url p.0 in (p.0, (two.0, λ none. two.1));
-      loses = λ d p. (p.0, (tt, λ none. tt));
-      hears = λ f d p. ((hears_keeps f d).1 ∙ p.0, hears_bounded f d batch p.0 p.1);
-      gives = λ d p. ((gives_keeps d).1 ∙ p.0, gives_bounded d batch p.0 p.1);
-      asks = λ d p. (p.0, (asked_bounded batch d.live p.1.0, λ none. asked_weightless d.live (p.1.1 none)));
+      at_lives = λ d link url p. let two = lives_bounded d.batch batch link url p.0 in (p.0, (two.0, λ none. two.1));
+      at_loses = λ d p. (p.0, (tt, λ none. tt));
+      at_hears = λ f d p. ((hears_keeps f d).1 ∙ p.0, hears_bounded f d batch p.0 p.1);
+      at_gives = λ d p. ((gives_keeps d).1 ∙ p.0, gives_bounded d batch p.0 p.1);
+      at_asks = λ d p. (p.0, (asked_bounded batch d.live p.1.0, λ none. asked_weightless d.live (p.1.1 none)));
     }
 
 granted_first : (b : Bool) (batch : ℕ) → b ≡ false → cond b None (Some batch) ≡ Some batch
@@ -223,18 +235,18 @@ permits_in_bounds s h l raw is =
 abbrev Silent : Engine → Type 0
 Silent e = (e.batch ≡ None) × Quiet e.live
 
-lives_quiet : (o : Option ℕ) (link : ℕ) (url : _) → o ≡ None → (subscribed o link url).due ≡ []
+lives_quiet : (o : Option ℕ) (link : ℕ) (url : Parts) → o ≡ None → (subscribed o link url).due ≡ []
 lives_quiet None link url is = refl
 lives_quiet (Some b) link url is = absurd cc
 
 silent_kept : Kept Silent
 silent_kept =
     record {
-      lives = λ d link url p. (p.0, lives_quiet d.batch link url p.0);
-      loses = λ d p. (p.0, tt);
-      hears = λ f d p. ((hears_keeps f d).1 ∙ p.0, goes_quiet (d.waiting ++ f ∷ []) _ p.0 p.1);
-      gives = λ d p. ((gives_keeps d).1 ∙ p.0, gives_quiet d p.0 p.1);
-      asks = λ d p. (p.0, asked_quiet d.live p.1);
+      at_lives = λ d link url p. (p.0, lives_quiet d.batch link url p.0);
+      at_loses = λ d p. (p.0, tt);
+      at_hears = λ f d p. ((hears_keeps f d).1 ∙ p.0, goes_quiet (d.waiting ++ f ∷ []) (places (record d { waiting = d.waiting ++ f ∷ [] })) p.0 p.1);
+      at_gives = λ d p. ((gives_keeps d).1 ∙ p.0, gives_quiet d p.0 p.1);
+      at_asks = λ d p. (p.0, asked_quiet d.live p.1);
     }
 
 raw_first : (b : Bool) (batch : ℕ) → b ≡ true → cond b None (Some batch) ≡ None
@@ -263,19 +275,19 @@ ended_not : (o : Option Ending) (why : Ending) → o ≡ Some why → is_some o 
 ended_not None why is = absurd cc
 ended_not (Some other) why is = refl
 
-lives_shut : (b : Bool) (v : Seen) (l : Live) → is_some v.ended ≡ b → IsShut v → IsShut (cond b v (record v { engine = record v.engine { live = Some l } }))
-lives_shut true v l e p = p
-lives_shut false v l e p = λ why is. absurd (let no : true ≡ false = sym (ended_not v.ended why is) ∙ e in cc)
+lives_shut : (b : Bool) (v w : Seen) → w.ended ≡ v.ended → is_some v.ended ≡ b → IsShut v → IsShut (cond b v w)
+lives_shut true v w s e p = p
+lives_shut false v w s e p = λ why is. absurd (let no : true ≡ false = sym (ended_not v.ended why (sym s ∙ is)) ∙ e in cc)
 
-hears_shut : (b : Bool) (link : ℕ) (f : Frame) (v : Seen) → lives_on link v ≡ b → IsShut v → IsShut (cond b (record v { engine = hears f v.engine }) v)
+hears_shut : (b : Bool) (link : ℕ) (f : Frame) (v : Seen) → lives_on link v ≡ b → IsShut v → IsShut (cond b (heard f v) v)
 hears_shut true link f v e p = λ why is. absurd (let no : true ≡ false = sym e ∙ not_on link v.engine.live (p why is) in cc)
 hears_shut false link f v e p = p
 
 shut_after : (act : Act) (v : Seen) → IsShut v → IsShut (after act v)
-shut_after (Lives link url) v p = lives_shut (is_ended v) v _ refl p
+shut_after (Lives link url) v p = lives_shut (is_ended v) v (subscribed_again link url v) refl refl p
 shut_after (Hears link f) v p = hears_shut (lives_on link v) link f v refl p
-shut_after (Loses link) v p = either (lives_on link v) (loses v) v (either v.is_raw _ _ (λ why is. refl) (λ why is. refl)) p
-shut_after (Fails f) v p = either (is_ended v) v _ p (λ why is. refl)
+shut_after (Loses link) v p = either (lives_on link v) (loses v) v (either v.is_raw (ends LinkLost v) (lost v) (λ why is. refl) (λ why is. refl)) p
+shut_after (Fails f) v p = either (is_ended v) v (ends NotSubscribed (heard (failed f) v)) p (λ why is. refl)
 shut_after (Ends why) v p = λ other is. refl
 shut_after (Polls clock) v p =
     let same = counted_same (first_of v.engine.unread) clock (record v { engine = gives v.engine }) in
@@ -299,13 +311,13 @@ lives_stays true why v w p q = p
 lives_stays false why v w p q = q
 
 stays_after : (act : Act) (v : Seen) (why : Ending) → v.ended ≡ Some why → v.engine.live ≡ None → Stays why v (after act v) (arrives_by act v)
-stays_after (Lives link url) v why is dead = (lives_stays (is_ended v) why v _ is is, refl)
+stays_after (Lives link url) v why is dead = (lives_stays (is_ended v) why v (subscribed_again link url v) is is, refl)
 stays_after (Hears link f) v why is dead =
-    (lives_stays (lives_on link v) why _ v is is, ap (λ b. cond b (f ∷ []) []) (not_on link v.engine.live dead))
+    (lives_stays (lives_on link v) why (heard f v) v is is, ap (λ b. cond b (f ∷ []) []) (not_on link v.engine.live dead))
 stays_after (Loses link) v why is dead =
-    (lives_stays (lives_on link v) why (loses v) v (lives_stays v.is_raw why _ _ (or_first v.ended why LinkLost is) is) is, refl)
+    (lives_stays (lives_on link v) why (loses v) v (lives_stays v.is_raw why (ends LinkLost v) (lost v) (or_first v.ended why LinkLost is) is) is, refl)
 stays_after (Fails f) v why is dead =
-    (lives_stays (is_ended v) why v _ is (or_first v.ended why NotSubscribed is), ap (λ b. cond b [] (failed f ∷ [])) (ended_not v.ended why is))
+    (lives_stays (is_ended v) why v (ends NotSubscribed (heard (failed f) v)) is (or_first v.ended why NotSubscribed is), ap (λ b. cond b [] (failed f ∷ [])) (ended_not v.ended why is))
 stays_after (Ends other) v why is dead = (or_first v.ended why other is, refl)
 stays_after (Polls clock) v why is dead =
     ((counted_same (first_of v.engine.unread) clock (record v { engine = gives v.engine })).1 ∙ is, refl)

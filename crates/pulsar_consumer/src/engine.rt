@@ -28,8 +28,12 @@ pub struct ConsumerEngine {
 impl Model for ConsumerEngine {
     ghost use Rattle.pulsar_consumer.specs.Kept.{engine_of};
     ghost use Rattle.pulsar_consumer.specs.Topic.{Engine as Meant};
+    ghost use Rattle.pulsar_session.specs.FailureCode.{failure_code};
+    ghost use Rattle.std.specs.Coded.{codes};
 
     ghost Value = { Meant };
+
+    ghost coded = { Prim.hlevel (codes, failure_code (Prim.hlevel codes)) };
 
     ghost view = { engine_of };
 }

@@ -44,8 +44,12 @@ pub struct TopicConsumer {
 impl Model for TopicConsumer {
     ghost use Rattle.pulsar_consumer.specs.Kept.{seen_of};
     ghost use Rattle.pulsar_consumer.specs.Topic.{Seen};
+    ghost use Rattle.pulsar_session.specs.FailureCode.{failure_code};
+    ghost use Rattle.std.specs.Coded.{codes};
 
     ghost Value = { Seen };
+
+    ghost coded = { Prim.hlevel (codes, failure_code (Prim.hlevel codes)) };
 
     ghost view = { seen_of };
 }

@@ -4,5 +4,8 @@ pub mod Topic
 pub mod Consumer
 pub mod Commands
 pub mod Plans
+pub mod KeptFrame
+pub mod KeptLive
+pub mod KeptEngine
 pub mod Kept
 pub mod Laws

@@ -26,7 +26,7 @@ pub struct ConsumerEngine {
 }
 
 impl Model for ConsumerEngine {
-    ghost use Rattle.pulsar_consumer.specs.Kept.{engine_of};
+    ghost use Rattle.pulsar_consumer.specs.KeptEngine.{engine_of};
     ghost use Rattle.pulsar_consumer.specs.Topic.{Engine as Meant};
     ghost use Rattle.pulsar_session.specs.FailureCode.{failure_code};
     ghost use Rattle.std.specs.Coded.{codes};

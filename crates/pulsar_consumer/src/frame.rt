@@ -33,7 +33,7 @@ pub struct Frame {
 
 impl Model for Frame {
     ghost use Rattle.pulsar_consumer.specs.Frames.{Frame as Meant};
-    ghost use Rattle.pulsar_consumer.specs.Kept.{frame_of};
+    ghost use Rattle.pulsar_consumer.specs.KeptFrame.{frame_of};
     ghost use Rattle.pulsar_session.specs.FailureCode.{failure_code};
     ghost use Rattle.std.specs.Coded.{codes};
 

@@ -20,7 +20,7 @@ pub struct Live {
 }
 
 impl Model for Live {
-    ghost use Rattle.pulsar_consumer.specs.Kept.{live_of};
+    ghost use Rattle.pulsar_consumer.specs.KeptLive.{live_of};
     ghost use Rattle.pulsar_consumer.specs.Topic.{Live as Meant};
 
     ghost Value = { Meant };

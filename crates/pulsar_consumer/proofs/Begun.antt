@@ -1,5 +1,5 @@
 -- Which frames are begun.
-use Rattle.std.proofs.Common.{◌≡◌, ◌∙◌, sym, ap, refl, subst, ℕ, ◌+◌, ◌-◌, ◌<◌, ◌≤◌, nat_lt, min, Bool, true, false, cond, List, [], ◌∷◌, ◌++◌, length, take, drop, Option, Some, None, arith}
+use Rattle.std.proofs.Common.{◌≡◌, ◌∙◌, sym, ap, refl, subst, ℕ, suc, ◌+◌, ◌-◌, ◌<◌, ◌≤◌, nat_lt, min, Bool, true, false, cond, List, [], ◌∷◌, ◌++◌, length, take, drop, Option, Some, None, arith}
 use Rattle.std.proofs.lemmas.Bool.Decides.{nat_tests}
 use Rattle.std.proofs.lemmas.List.{append-nil, append_assoc, length-append, length-drop, length-take}
 use Rattle.std.specs.Option.{option_map}
@@ -8,7 +8,7 @@ use Rattle.pulsar_consumer.specs.Frames.{Frame, failed}
 use Rattle.pulsar_consumer.specs.Laws.{FramesBeginInTurn, arrivals, arrives_by, begun, begun_in, given, given_by, item_in, queue}
 use Rattle.pulsar_consumer.specs.Topic.{Act, Lives, Hears, Loses, Fails, Ends, Polls, Asks, Engine, Seen, Setup, after, asked, begin, begins, ends, finish, first_of, gives, gives_from, goes_on, hears, is_ended, lives_on, loses, no_items, places, polled, seen, subscribed}
 use Rattle.pulsar_consumer.specs.declared.polled.Ending.TheVariants.{LinkLost, NotSubscribed}
-use Rattle.pulsar_consumer.proofs.Held.{IsFull, IsSettled, none_left, one_of, places_full}
+use Rattle.pulsar_consumer.proofs.Held.{IsFull, IsSettled, bare_of, next_of, none_left, one_of, places_full}
 use Rattle.pulsar_consumer.proofs.Histories.{counted_same, polled_one, settled, sizes}
 
 -- how many items frames have
@@ -20,12 +20,12 @@ total_more : (xs : List Frame) (f : Frame) → total (xs ++ f ∷ []) ≡ total 
 total_more [] f = omega arith
 total_more (x ∷ xs) f = let more = total_more xs f in omega (arith, more)
 
-tail_of : List Frame → List Frame
+abbrev tail_of : List Frame → List Frame
 tail_of [] = []
 tail_of (f ∷ fs) = fs
 
 -- what follows a frame that is begun
-behind_it : (room : ℕ) (f : Frame) (fs : List Frame) → List Frame
+abbrev behind_it : (room : ℕ) (f : Frame) (fs : List Frame) → List Frame
 behind_it room f fs = cond (nat_lt room (length f.items)) [] (begun_in (room - length f.items) fs)
 
 rest_begun : (room : ℕ) (f : Frame) (fs : List Frame) → begun_in room (f ∷ fs) ≡ f ∷ fs → behind_it room f fs ≡ fs
@@ -38,13 +38,16 @@ none_begun false room = refl
 -- more room leaves what was begun begun
 more_room : (room larger : ℕ) (fs : List Frame) → room ≤ larger → begun_in room fs ≡ fs → begun_in larger fs ≡ fs
 more_room room larger [] le all = refl
-more_room room larger (f ∷ fs) le all = ap (λ xs. f ∷ xs) (by (nat_lt room (length f.items)) refl (rest_begun room f fs all))
+more_room room larger (f ∷ fs) le all =
+    ap (λ xs. f ∷ xs)
+    (by (nat_lt room (length f.items)) refl (rest_begun room f fs all) (λ some. more_room (room - length f.items) (larger - length f.items) fs (omega (arith, le)) some))
   where
-    by : (b : Bool) → nat_lt room (length f.items) ≡ b → cond b [] (begun_in (room - length f.items) fs) ≡ fs → behind_it larger f fs ≡ fs
-    by true is none = subst (λ xs. cond (nat_lt larger (length f.items)) [] (begun_in (larger - length f.items) xs) ≡ xs) none (none_begun (nat_lt larger (length f.items)) (larger - length f.items))
-    by false is some =
+    by : (b : Bool) → nat_lt room (length f.items) ≡ b → cond b [] (begun_in (room - length f.items) fs) ≡ fs
+        → (begun_in (room - length f.items) fs ≡ fs → begun_in (larger - length f.items) fs ≡ fs) → behind_it larger f fs ≡ fs
+    by true is none more = subst (λ xs. cond (nat_lt larger (length f.items)) [] (begun_in (larger - length f.items) xs) ≡ xs) none (none_begun (nat_lt larger (length f.items)) (larger - length f.items))
+    by false is some more =
         let fits : nat_lt larger (length f.items) ≡ false = grind (arith, nat_tests) in
-        ap (λ b. cond b [] (begun_in (larger - length f.items) fs)) fits ∙ more_room (room - length f.items) (larger - length f.items) fs (omega (arith, le)) some
+        ap (λ b. cond b [] (begun_in (larger - length f.items) fs)) fits ∙ more some
 
 -- where all items of those before it are placed, one more is begun
 one_more_begun : (room : ℕ) (fs : List Frame) (f : Frame) → total fs ≤ room → begun_in room fs ≡ fs → begun_in room (fs ++ f ∷ []) ≡ fs ++ f ∷ []
@@ -57,13 +60,16 @@ one_more_begun room (x ∷ xs) f le all =
 -- where not all of their items may be placed, no other is begun
 no_more_begun : (room : ℕ) (fs more : List Frame) → room < total fs → begun_in room fs ≡ fs → begun_in room (fs ++ more) ≡ fs
 no_more_begun room [] more lt all = absurd (omega (arith, lt))
-no_more_begun room (x ∷ xs) more lt all = ap (λ ys. x ∷ ys) (by (nat_lt room (length x.items)) refl (rest_begun room x xs all))
+no_more_begun room (x ∷ xs) more lt all =
+    ap (λ ys. x ∷ ys) (by (nat_lt room (length x.items)) refl (rest_begun room x xs all) (λ lt some. no_more_begun (room - length x.items) xs more lt some))
   where
-    by : (b : Bool) → nat_lt room (length x.items) ≡ b → cond b [] (begun_in (room - length x.items) xs) ≡ xs → cond b [] (begun_in (room - length x.items) (xs ++ more)) ≡ xs
-    by true is none = none
-    by false is some =
+    by : (b : Bool) → nat_lt room (length x.items) ≡ b → cond b [] (begun_in (room - length x.items) xs) ≡ xs
+        → (room - length x.items < total xs → begun_in (room - length x.items) xs ≡ xs → begun_in (room - length x.items) (xs ++ more) ≡ xs)
+        → cond b [] (begun_in (room - length x.items) (xs ++ more)) ≡ xs
+    by true is none next = none
+    by false is some next =
         let fits : length x.items ≤ room = grind (arith, nat_tests) in
-        no_more_begun (room - length x.items) xs more (omega (arith, lt, fits)) some
+        next (omega (arith, lt, fits)) some
 
 -- HISTORIES: of these arrivals those are begun that don't wait, where so many items were given
 
@@ -89,7 +95,7 @@ places_split k all e s =
 
 -- the next frame is begun
 next_split : (k : ℕ) (all : List Frame) (e : Engine) (f : Frame) (fs : List Frame) → e.waiting ≡ f ∷ fs → no_items e.rest ≡ true → IsFull e → Split k all e →
-    Split k all (record e { live = option_map (begins f.weight) (finish e).live; rest = f.items; waiting = fs })
+    Split k all (bare_of f fs e)
 next_split k all e f fs w none full s =
     let size = s.size in
     let nothing : length e.rest ≡ 0 = ap length (none_left e.rest none) in
@@ -108,15 +114,12 @@ goes_split k all [] e w full s = by (no_items e.rest)
     by : (b : Bool) → Split k all (cond b (finish e) e)
     by true = record { frames = s.frames; parts = s.parts; fits = s.fits; size = s.size }
     by false = s
-goes_split k all (f ∷ fs) e w full s = by (no_items e.rest) refl
+goes_split k all (f ∷ fs) e w full s =
+    by (no_items e.rest) refl (λ x. goes_split k all fs (next_of f fs e) refl (places_full (bare_of f fs e) full.0) x)
   where
-    next : Engine
-    next = begin f (record (finish e) { waiting = fs })
-    bare : Engine
-    bare = record e { live = option_map (begins f.weight) (finish e).live; rest = f.items; waiting = fs }
-    by : (b : Bool) → no_items e.rest ≡ b → Split k all (cond b (goes_on fs next) e)
-    by true none = goes_split k all fs next refl (places_full bare full.0) (places_split k all bare (next_split k all e f fs w none full s))
-    by false more = s
+    by : (b : Bool) → no_items e.rest ≡ b → (Split k all (next_of f fs e) → Split k all (goes_on fs (next_of f fs e))) → Split k all (cond b (goes_on fs (next_of f fs e)) e)
+    by true none next = next (places_split k all (bare_of f fs e) (next_split k all e f fs w none full s))
+    by false more next = s
 
 advances_split : (k : ℕ) (all : List Frame) (e : Engine) → length e.unread ≤ e.queue → Split k all e → Split k all (goes_on e.waiting (places e))
 advances_split k all e le s = goes_split k all e.waiting (places e) refl (places_full e le) (places_split k all e s)
@@ -134,7 +137,7 @@ hears_split k all f e le s =
 gives_from_split : (k : ℕ) (all : List Frame) (us : List Item) (e : Engine) → e.unread ≡ us → length e.unread ≤ e.queue → Split k all e → Split (k + length (one_of (first_of us))) all (gives_from us e)
 gives_from_split k all [] e w le s = subst (λ n. Split n all e) (let same : k ≡ k + 0 = omega arith in same) s
 gives_from_split k all (x ∷ xs) e w le s =
-    let len : length e.unread ≡ 1 + length xs = ap length w in
+    let len : length e.unread ≡ suc (length xs) = ap length w in
     let size = s.size in
     advances_split (k + 1) all (record e { unread = xs }) (omega (arith, le, len))
     (record {

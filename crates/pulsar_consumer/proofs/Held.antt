@@ -1,5 +1,5 @@
 -- What an engine holds: its items are kept in order, and as many are placed as there is room for.
-use Rattle.std.proofs.Common.{◌≡◌, ◌∙◌, sym, ap, refl, subst, ℕ, ◌+◌, ◌-◌, ◌<◌, ◌≤◌, min, Bool, true, false, cond, List, [], ◌∷◌, ◌++◌, length, take, drop, Option, Some, None, arith}
+use Rattle.std.proofs.Common.{◌≡◌, ◌∙◌, sym, ap, refl, subst, ℕ, suc, ◌+◌, ◌-◌, ◌<◌, ◌≤◌, min, Bool, true, false, cond, List, [], ◌∷◌, ◌++◌, length, take, drop, Option, Some, None, arith}
 use Rattle.std.proofs.lemmas.List.{append-nil, append_assoc, drop_all, flat_map_more, length-append, length-drop, length-take, take-append-drop, take-append-le, take_all}
 use Rattle.std.specs.List.{flat_map}
 use Rattle.std.specs.Option.{option_map}
@@ -32,21 +32,24 @@ next_held : (e : Engine) (f : Frame) (fs : List Frame) → e.waiting ≡ f ∷ f
 next_held e f fs w none =
     sym (ap (λ r. e.unread ++ (r ++ of_frames e.waiting)) (none_left e.rest none) ∙ ap (λ w. e.unread ++ of_frames w) w)
 
+-- the next frame is begun: before and after it places items
+abbrev pub bare_of : Frame → List Frame → Engine → Engine
+bare_of f fs e = record e { live = option_map (begins f.weight) (finish e).live; rest = f.items; waiting = fs }
+
+abbrev pub next_of : Frame → List Frame → Engine → Engine
+next_of f fs e = begin f (record (finish e) { waiting = fs })
+
 pub goes_holds : (fs : List Frame) (e : Engine) → e.waiting ≡ fs → held (goes_on fs e) ≡ held e
 goes_holds [] e w = by (no_items e.rest)
   where
     by : (b : Bool) → held (cond b (finish e) e) ≡ held e
     by true = refl
     by false = refl
-goes_holds (f ∷ fs) e w = by (no_items e.rest) refl
+goes_holds (f ∷ fs) e w = by (no_items e.rest) refl (goes_holds fs (next_of f fs e) refl)
   where
-    next : Engine
-    next = begin f (record (finish e) { waiting = fs })
-    by : (b : Bool) → no_items e.rest ≡ b → held (cond b (goes_on fs next) e) ≡ held e
-    by true none =
-        goes_holds fs next refl ∙ places_holds (record (finish e) { live = option_map (begins f.weight) (finish e).live; rest = f.items; waiting = fs })
-        ∙ next_held e f fs w none
-    by false more = refl
+    by : (b : Bool) → no_items e.rest ≡ b → held (goes_on fs (next_of f fs e)) ≡ held (next_of f fs e) → held (cond b (goes_on fs (next_of f fs e)) e) ≡ held e
+    by true none more = more ∙ places_holds (bare_of f fs e) ∙ next_held e f fs w none
+    by false none more = refl
 
 pub advances_holds : (e : Engine) → held (advances e) ≡ held e
 advances_holds e = goes_holds e.waiting (places e) refl ∙ places_holds e
@@ -85,7 +88,7 @@ some_left n r e = by (drop n r) refl e (length-drop n r)
     by : (xs : List Item) → drop n r ≡ xs → no_items xs ≡ false → length (drop n r) ≡ length r - n → n < length r
     by [] same none len = absurd cc
     by (x ∷ xs) same none len =
-        let more : length (drop n r) ≡ 1 + length xs = ap length same in
+        let more : length (drop n r) ≡ suc (length xs) = ap length same in
         omega (arith, more, len)
 
 pub places_full : (e : Engine) → length e.unread ≤ e.queue → IsFull (places e)
@@ -108,14 +111,11 @@ goes_settled [] e w full = by (no_items e.rest)
     by : (b : Bool) → IsSettled (cond b (finish e) e)
     by true = (full, λ none. w)
     by false = (full, λ none. w)
-goes_settled (f ∷ fs) e w full = by (no_items e.rest) refl
+goes_settled (f ∷ fs) e w full = by (no_items e.rest) refl (goes_settled fs (next_of f fs e) refl (places_full (bare_of f fs e) full.0))
   where
-    next : Engine
-    next = begin f (record (finish e) { waiting = fs })
-    by : (b : Bool) → no_items e.rest ≡ b → IsSettled (cond b (goes_on fs next) e)
-    by true none =
-        goes_settled fs next refl (places_full (record (finish e) { live = option_map (begins f.weight) (finish e).live; rest = f.items; waiting = fs }) full.0)
-    by false more = (full, λ none. absurd (let no : true ≡ false = sym none ∙ more in cc))
+    by : (b : Bool) → no_items e.rest ≡ b → IsSettled (goes_on fs (next_of f fs e)) → IsSettled (cond b (goes_on fs (next_of f fs e)) e)
+    by true none all = all
+    by false more all = (full, λ none. absurd (let no : true ≡ false = sym none ∙ more in cc))
 
 pub advances_settled : (e : Engine) → length e.unread ≤ e.queue → IsSettled (advances e)
 advances_settled e le = goes_settled e.waiting (places e) refl (places_full e le)
@@ -126,7 +126,7 @@ hears_settled f e all = advances_settled (record e { waiting = e.waiting ++ f �
 gives_from_settled : (us : List Item) (e : Engine) → e.unread ≡ us → IsSettled e → IsSettled (gives_from us e)
 gives_from_settled [] e w all = all
 gives_from_settled (x ∷ xs) e w all =
-    advances_settled (record e { unread = xs }) (let le = all.0.0 in let len : length e.unread ≡ 1 + length xs = ap length w in omega (arith, le, len))
+    advances_settled (record e { unread = xs }) (let le = all.0.0 in let len : length e.unread ≡ suc (length xs) = ap length w in omega (arith, le, len))
 
 pub gives_settled : (e : Engine) → IsSettled e → IsSettled (gives e)
 gives_settled e all = gives_from_settled e.unread e refl all

@@ -25,13 +25,13 @@ counted_same None clock v = (refl, refl)
 counted_same (Some item) clock v = counted_by (is_message item) v (record v { received = capped (v.received + 1); last = Some clock }) refl refl
 
 -- what an act makes of it, where it makes anything
-subscribed_again : (link : ℕ) → Parts → Seen → Seen
+abbrev subscribed_again : (link : ℕ) → Parts → Seen → Seen
 subscribed_again link url v = record v { engine = record v.engine { live = Some (subscribed v.engine.batch link url) } }
 
-heard : Frame → Seen → Seen
+abbrev heard : Frame → Seen → Seen
 heard f v = record v { engine = hears f v.engine }
 
-lost : Seen → Seen
+abbrev lost : Seen → Seen
 lost v = record v { engine = record v.engine { live = None } }
 
 -- A PROPERTY OF THE ENGINE that each of its changes keeps, every act keeps

@@ -5,6 +5,7 @@ use Rattle.std.specs.Option.{option_map}
 use Rattle.pulsar_link.specs.Items.{Item}
 use Rattle.pulsar_consumer.specs.Frames.{Frame}
 use Rattle.pulsar_consumer.specs.Laws.{FlowsFit}
+use Rattle.pulsar_consumer.proofs.Held.{next_of}
 use Rattle.pulsar_consumer.specs.Topic.{Engine, Live, advances, asked, begin, begins, behind, finish, finishes, finishes_by, gives, gives_from, goes_on, half, hears, no_items, permits, places}
 
 -- WHAT AN ENGINE KEEPS
@@ -18,13 +19,11 @@ goes_keeps [] e = by (no_items e.rest)
     by : (b : Bool) → Keeps (cond b (finish e) e) e
     by true = (refl, refl)
     by false = (refl, refl)
-goes_keeps (f ∷ fs) e = by (no_items e.rest)
+goes_keeps (f ∷ fs) e = by (no_items e.rest) (goes_keeps fs (next_of f fs e))
   where
-    next : Engine
-    next = begin f (record (finish e) { waiting = fs })
-    by : (b : Bool) → Keeps (cond b (goes_on fs next) e) e
-    by true = goes_keeps fs next
-    by false = (refl, refl)
+    by : (b : Bool) → Keeps (goes_on fs (next_of f fs e)) e → Keeps (cond b (goes_on fs (next_of f fs e)) e) e
+    by true all = all
+    by false all = (refl, refl)
 
 pub hears_keeps : (f : Frame) (e : Engine) → Keeps (hears f e) e
 hears_keeps f e = goes_keeps (e.waiting ++ f ∷ []) (places (record e { waiting = e.waiting ++ f ∷ [] }))
@@ -44,13 +43,12 @@ goes_dead [] e dead = by (no_items e.rest)
     by : (b : Bool) → (cond b (finish e) e).live ≡ None
     by true = ap (option_map (finishes e.batch)) dead
     by false = dead
-goes_dead (f ∷ fs) e dead = by (no_items e.rest)
+goes_dead (f ∷ fs) e dead =
+    by (no_items e.rest) (goes_dead fs (next_of f fs e) (ap (λ l. option_map (begins f.weight) (option_map (finishes e.batch) l)) dead))
   where
-    next : Engine
-    next = begin f (record (finish e) { waiting = fs })
-    by : (b : Bool) → (cond b (goes_on fs next) e).live ≡ None
-    by true = goes_dead fs next (ap (λ l. option_map (begins f.weight) (option_map (finishes e.batch) l)) dead)
-    by false = dead
+    by : (b : Bool) → (goes_on fs (next_of f fs e)).live ≡ None → (cond b (goes_on fs (next_of f fs e)) e).live ≡ None
+    by true all = all
+    by false all = dead
 
 gives_from_dead : (us : List Item) (e : Engine) → e.live ≡ None → (gives_from us e).live ≡ None
 gives_from_dead [] e dead = dead
@@ -106,14 +104,12 @@ goes_bounded [] e batch is all = by (no_items e.rest) refl
     by : (b : Bool) → no_items e.rest ≡ b → InBounds batch (cond b (finish e) e)
     by true none = let two = finish_bounded e.batch batch e.live is all in (two.0, λ x. two.1)
     by false more = (all, λ none. absurd (let no : true ≡ false = sym none ∙ more in cc))
-goes_bounded (f ∷ fs) e batch is all = by (no_items e.rest) refl
+goes_bounded (f ∷ fs) e batch is all =
+    by (no_items e.rest) refl (goes_bounded fs (next_of f fs e) batch is (begin_bounded batch f.weight (finish e).live (finish_bounded e.batch batch e.live is all).0))
   where
-    next : Engine
-    next = begin f (record (finish e) { waiting = fs })
-    by : (b : Bool) → no_items e.rest ≡ b → InBounds batch (cond b (goes_on fs next) e)
-    by true none =
-        goes_bounded fs next batch is (begin_bounded batch f.weight (finish e).live (finish_bounded e.batch batch e.live is all).0)
-    by false more = (all, λ none. absurd (let no : true ≡ false = sym none ∙ more in cc))
+    by : (b : Bool) → no_items e.rest ≡ b → InBounds batch (goes_on fs (next_of f fs e)) → InBounds batch (cond b (goes_on fs (next_of f fs e)) e)
+    by true none next = next
+    by false more next = (all, λ none. absurd (let no : true ≡ false = sym none ∙ more in cc))
 
 pub hears_bounded : (f : Frame) (e : Engine) (batch : ℕ) → e.batch ≡ Some batch → InBounds batch e → InBounds batch (hears f e)
 hears_bounded f e batch is all = goes_bounded (e.waiting ++ f ∷ []) (places (record e { waiting = e.waiting ++ f ∷ [] })) batch is all.0
@@ -156,13 +152,12 @@ goes_quiet [] e is all = by (no_items e.rest)
     by : (b : Bool) → Quiet (cond b (finish e) e).live
     by true = finish_quiet e.batch e.live is all
     by false = all
-goes_quiet (f ∷ fs) e is all = by (no_items e.rest)
+goes_quiet (f ∷ fs) e is all =
+    by (no_items e.rest) (goes_quiet fs (next_of f fs e) is (begin_quiet f.weight (finish e).live (finish_quiet e.batch e.live is all)))
   where
-    next : Engine
-    next = begin f (record (finish e) { waiting = fs })
-    by : (b : Bool) → Quiet (cond b (goes_on fs next) e).live
-    by true = goes_quiet fs next is (begin_quiet f.weight (finish e).live (finish_quiet e.batch e.live is all))
-    by false = all
+    by : (b : Bool) → Quiet (goes_on fs (next_of f fs e)).live → Quiet (cond b (goes_on fs (next_of f fs e)) e).live
+    by true next = next
+    by false next = all
 
 gives_from_quiet : (us : List Item) (e : Engine) → e.batch ≡ None → Quiet e.live → Quiet (gives_from us e).live
 gives_from_quiet [] e is all = all

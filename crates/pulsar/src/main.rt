@@ -1,22 +1,36 @@
 //! The program `pulsar`.
 #![tactic(auto)]
 
+mod policy;
+
+use crate::policy::Second;
 use pulsar_cli::{NO_FORM, NO_MEMORY, StandardInput, StandardOutput, Status, run};
+use pulsar_client::CustomRoutingPolicy;
+use std::alloc::AllocError;
 use std::process::ExitCode;
 use std::{env, io};
 
 fn main(rt: HostRuntime) -> ExitCode {
     let status: Status = match arguments(&rt) {
-        Ok(words) => {
-            let mut source = StandardInput::new(rt.reader());
-            let mut sink = StandardOutput::new(io::writer(&rt));
-            run(rt.alloc(), &words, &mut source, &mut sink)
-        }
+        Ok(words) => match run_words(&rt, &words) {
+            Ok(status) => status,
+            Err(_) => NO_MEMORY,
+        },
         // a word is not UTF-8
         Err(error) if error.kind() == io::ErrorKind::InvalidData => NO_FORM,
         Err(_) => NO_MEMORY,
     };
     ExitCode::from(status)
+}
+
+/// The run of these words. The policies are made here, since no function may hand out a box of a trait that it made.
+fn run_words(rt: &HostRuntime, words: &[String]) -> Result<Status, AllocError> {
+    let alloc = rt.alloc();
+    let mut policies: Vec<Box<dyn CustomRoutingPolicy>> = Vec::new(alloc);
+    policies.push(Box::new(alloc, Second)?)?;
+    let mut source = StandardInput::new(rt.reader());
+    let mut sink = StandardOutput::new(io::writer(rt));
+    Ok(run(alloc, words, &mut source, &mut sink, policies))
 }
 
 /// The words behind the program's name.

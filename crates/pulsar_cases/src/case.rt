@@ -1,8 +1,9 @@
 //! A case, and its runs.
 
 use crate::pieces::Pieces;
+use crate::policy::Second;
 use pulsar_cli::{Status, script};
-use pulsar_client::{FailingSink, FailingSource};
+use pulsar_client::{CustomRoutingPolicy, FailingSink, FailingSource};
 use std::alloc::{AllocError, Global};
 use std::{fs, io};
 
@@ -91,7 +92,9 @@ impl Ran {
 pub fn run_script(alloc: Global, lines: &[u8], way: Way) -> Result<Ran, AllocError> {
     let mut source = source_of(alloc, lines, way)?;
     let mut sink = sink_of(alloc, way)?;
-    let status = script(alloc, &mut source, &mut sink);
+    let mut policies: Vec<Box<dyn CustomRoutingPolicy>> = Vec::new(alloc);
+    policies.push(Box::new(alloc, Second)?)?;
+    let status = script(alloc, &mut source, &mut sink, policies);
     Ok(Ran { status, sink })
 }
 

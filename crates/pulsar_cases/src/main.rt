@@ -11,6 +11,7 @@ mod faults;
 mod folder;
 mod lines;
 mod pieces;
+mod policy;
 mod tally;
 
 use crate::folder::{names, run_folder};

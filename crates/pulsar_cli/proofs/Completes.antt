@@ -2,21 +2,22 @@
 use Rattle.std.proofs.Common.{inl, inr, ◌⊎◌, ◌≡◌, ℕ, zero, suc, ◌≤◌, ◌∙◌, sym, ap, List, [], ◌∷◌, ◌++◌, refl, arith, Option, None, append_assoc}
 use Rattle.std.proofs.lemmas.Option.{none-some}
 use Rattle.pulsar_wire.specs.Field.{◌>>=◌}
+use Rattle.pulsar_producer.specs.Routing.{Policy}
 use Rattle.pulsar_cli.specs.Script.{Completes, Decides, Script, blank, script_from, script_of}
 use Rattle.pulsar_cli.proofs.Readings.{script-more}
 
 -- behind lines that are no script there is none
-pub no-script : (before after : List (List ℕ)) (bad : List ℕ) → script_of (before ++ bad ∷ []) ≡ None → script_of (before ++ bad ∷ after) ≡ None
-no-script before after bad h =
-    ap script_of (sym (append_assoc before (bad ∷ []) after)) ∙ script-more (before ++ bad ∷ []) after blank
+pub no-script : (ps : List Policy) (before after : List (List ℕ)) (bad : List ℕ) → script_of ps (before ++ bad ∷ []) ≡ None → script_of ps (before ++ bad ∷ after) ≡ None
+no-script ps before after bad h =
+    ap (script_of ps) (sym (append_assoc before (bad ∷ []) after)) ∙ script-more (before ++ bad ∷ []) after (blank ps)
     ∙ ap (λ (o : Option Script). o >>= λ s. script_from s after) h
 
 pub decides : Decides
-decides status source sink ran = (
+decides ps status source sink ran = (
   λ e. let run = (ran.printed.done e).run in (run.script, run.is),
   λ e is.
       let r = ran.printed.refused e in
-      absurd (none-some is.0 (sym (ap script_of r.apart ∙ no-script r.before r.after r.bad r.refused) ∙ is.1)),
+      absurd (none-some is.0 (sym (ap (script_of ps) r.apart ∙ no-script ps r.before r.after r.bad r.refused) ∙ is.1)),
 )
 
 -- every other status has its cause
@@ -31,6 +32,6 @@ by-status (suc (suc (suc (suc (suc (suc zero)))))) one known four five six a b d
 by-status (suc (suc (suc (suc (suc (suc (suc n))))))) one known four five six a b d e = absurd (omega (arith, known.0))
 
 pub completes : Completes
-completes status source sink ran is le a b =
-    by-status status (decides status source sink ran).1 ran.known ran.source_failed ran.sink_failed ran.limits.0
+completes ps status source sink ran is le a b =
+    by-status status (decides ps status source sink ran).1 ran.known ran.source_failed ran.sink_failed ran.limits.0
     (λ outside. outside is) a b (λ long. absurd (omega (arith, long, ran.given.within, le)))

@@ -8,6 +8,13 @@ pub mod Readings
 pub mod Sinks
 pub mod WrittenLines
 pub mod WrittenRaw
+pub mod WrittenProducers
+pub mod WrittenMessages
+pub mod WrittenAsked
+pub mod Producers
 pub mod ReadBack
 pub mod Folds
 pub mod Gives
+pub mod Events
+pub mod Feeds
+pub mod Turns

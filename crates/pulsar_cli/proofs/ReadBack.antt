@@ -1,23 +1,29 @@
 -- A written line is read back.
-use Rattle.std.proofs.Common.{◌≡◌, ℕ, ◌^◌, ◌<◌, ◌∙◌, ap, List, [], ◌∷◌, ◌++◌, refl, codes, arith, nat_lt, true, Some}
+use Rattle.std.proofs.Common.{◌≡◌, ℕ, ◌^◌, ◌<◌, ◌∙◌, ap, List, [], ◌∷◌, ◌++◌, refl, codes, arith, nat_lt, true, Some, length}
 use Rattle.std.proofs.lemmas.Bool.Decides.{nat_tests}
 use Rattle.std.specs.Fmt.{decimal}
+use Rattle.std.specs.List.{AllByRecursion}
 use Rattle.hex.specs.Hex.{encode_lower}
 use Rattle.pulsar_wire.specs.declared.commands.topics.Mode.{Mode}
 use Rattle.pulsar_wire.specs.declared.commands.topics.Mode.TheVariants.{Persistent, NonPersistent, All}
 use Rattle.pulsar_wire.specs.declared.error.IoKind.{IoKind}
 use Rattle.pulsar_wire.specs.declared.error.IoKind.TheVariants.{ConnectionRefused, TimedOut, Other}
+use Rattle.pulsar_messages.specs.Content.{ProducerMessageValues}
 use Rattle.pulsar_messages.specs.Words.{Words}
-use Rattle.pulsar_client.specs.Content.{Asked, Build, Stop, Topics, Lookup, Partitions, Brokers, Raw, Heard, Called, Opened, FailedToOpen, Bytes, Lost, Drain, Ticked, Poll}
+use Rattle.pulsar_producer.specs.Wanted.{ProducerWanted}
+use Rattle.pulsar_client.specs.Content.{Asked, Build, Stop, Topics, Lookup, Partitions, Brokers, Producer, Send, SendAll, Flush, CheckProducer, CloseProducer, Raw, Heard, Called, Opened, FailedToOpen, Bytes, Lost, Drain, Ticked, Poll}
 use Rattle.pulsar_cli.specs.Words.{words}
 use Rattle.pulsar_cli.specs.WordText.{word}
 use Rattle.pulsar_cli.specs.Choices.{kind as kind_in}
 use Rattle.pulsar_cli.specs.ErrorText.{io_kind}
 use Rattle.pulsar_cli.specs.Grammar.{Setting, Url, Auth, Outbound, Timeout, RetryDelay, OpRetries, Retries, MinBackoff, MaxBackoff, ConnectionTimeout, KeepAlive, MaxIdle, Seed, First, Now, Sets, Happens, line, words_line}
 use Rattle.pulsar_cli.specs.Written.{CanBeAsked, CanBeSet, CanBeWritten, IsCount, written, written_setting}
-use Rattle.pulsar_cli.specs.WrittenRaw.{CanBeSaid, IsText, credential_words, mode_word, raw_words}
+use Rattle.pulsar_cli.specs.WrittenRaw.{CanBeMade, CanBeSaid, CanBeSent, IsText, Where, credential_words, message_words, messages_words, mode_word, producer_words, raw_words}
 use Rattle.pulsar_cli.proofs.WrittenLines.{IsWithinWord, one-word, first-word, decimal-within, number-decimal, hex-within, hex-encoded, word-within, text-word}
-use Rattle.pulsar_cli.proofs.WrittenRaw.{credential-reads, credential-within, mode-reads, raw-within, raw-reads, tested-within, words-behind}
+use Rattle.pulsar_cli.proofs.WrittenRaw.{credential-reads, credential-within, message-reads, message-said, mode-reads, tested-within, words-behind}
+use Rattle.pulsar_cli.proofs.WrittenAsked.{raw-reads, raw-within}
+use Rattle.pulsar_cli.proofs.WrittenMessages.{messages-read, messages-within}
+use Rattle.pulsar_cli.proofs.WrittenProducers.{producer-reads, producer-within}
 
 mode-within : (m : Mode) → words (mode_word m) ≡ mode_word m ∷ []
 mode-within Persistent = refl
@@ -50,6 +56,19 @@ one-topic first topic is = ap (λ (ws : List (List ℕ)). words_line (codes "cal
 link-reads : (link : ℕ) (what : Words) → link < 2 ^ 64 → CanBeSaid what → words_line (codes "call" ∷ codes "link" ∷ decimal link ∷ raw_words what) ≡ Happens (Called (Raw link what))
 link-reads link what lt can = rw (number-decimal link lt, raw-reads what can) refl
 
+producer-is-read : (w : ProducerWanted) → Where IsText w.topic → Where IsText w.name → CanBeMade w.options → words_line (codes "call" ∷ codes "producer" ∷ producer_words w) ≡ Happens (Called (Producer w))
+producer-is-read w topic name can = rw (producer-reads w topic name can) refl
+
+send-reads : (producer : ℕ) (m : ProducerMessageValues) → producer < 2 ^ 64 → CanBeSent m → words_line (codes "call" ∷ codes "send" ∷ decimal producer ∷ message_words m) ≡ Happens (Called (Send producer m))
+send-reads producer m lt can = rw (number-decimal producer lt, message-reads m can) refl
+
+send-all-reads : (producer : ℕ) (ms : List ProducerMessageValues) → producer < 2 ^ 64 → AllByRecursion CanBeSent ms → 0 < length ms → words_line (codes "call" ∷ codes "send-all" ∷ decimal producer ∷ messages_words ms) ≡ Happens (Called (SendAll producer ms))
+send-all-reads producer ms lt can some = rw (number-decimal producer lt, messages-read ms can some) refl
+
+-- a call whose words are the ticket of a producer
+of-producer : (first : List ℕ) (n : ℕ) → n < 2 ^ 64 → words_line (codes "call" ∷ first ∷ words (decimal n)) ≡ words_line (codes "call" ∷ first ∷ decimal n ∷ [])
+of-producer first n lt = ap (λ (ws : List (List ℕ)). words_line (codes "call" ∷ ws)) (one-number first n lt)
+
 asked-read : (c : Asked) → CanBeAsked c → line (written (Called c)) ≡ Happens (Called c)
 asked-read Build can = refl
 asked-read Stop can = refl
@@ -59,6 +78,18 @@ asked-read (Topics namespace m) can =
 asked-read (Lookup topic) can = one-topic (codes "lookup") topic can ∙ rw (text-word topic can.0 can.1) refl
 asked-read (Partitions topic) can = one-topic (codes "partitions") topic can ∙ rw (text-word topic can.0 can.1) refl
 asked-read (Brokers topic) can = one-topic (codes "brokers") topic can ∙ rw (text-word topic can.0 can.1) refl
+asked-read (Producer wanted) can =
+    ap (λ (ws : List (List ℕ)). words_line (codes "call" ∷ ws)) (words-behind (codes "producer") (producer_words wanted) (tested-within (codes "producer") refl) (producer-within wanted can.0 can.1 can.2))
+    ∙ producer-is-read wanted can.0 can.1 can.2
+asked-read (Send producer message) can =
+    ap (λ (ws : List (List ℕ)). words_line (codes "call" ∷ codes "send" ∷ ws)) (words-behind (decimal producer) (message_words message) (decimal-within producer can.0) (message-said message can.1).within)
+    ∙ send-reads producer message can.0 can.1
+asked-read (SendAll producer messages) can =
+    ap (λ (ws : List (List ℕ)). words_line (codes "call" ∷ codes "send-all" ∷ ws)) (words-behind (decimal producer) (messages_words messages) (decimal-within producer can.0) (messages-within messages can.1))
+    ∙ send-all-reads producer messages can.0 can.1 can.2
+asked-read (Flush producer) can = of-producer (codes "flush") producer can ∙ rw (number-decimal producer can) refl
+asked-read (CheckProducer producer) can = of-producer (codes "check-producer") producer can ∙ rw (number-decimal producer can) refl
+asked-read (CloseProducer producer) can = of-producer (codes "close-producer") producer can ∙ rw (number-decimal producer can) refl
 asked-read (Raw link what) can =
     ap (λ (ws : List (List ℕ)). words_line (codes "call" ∷ codes "link" ∷ ws)) (words-behind (decimal link) (raw_words what) (decimal-within link can.0) (raw-within what can.1))
     ∙ link-reads link what can.0 can.1

@@ -1,20 +1,21 @@
 -- What a reading knows of its script.
-use Rattle.std.proofs.Common.{◌≡◌, ℕ, ◌+◌, ◌∙◌, sym, ap, subst, List, [], ◌∷◌, ◌++◌, refl, arith, true, false, Option, Some, None, length, append_assoc, length-append}
-use Rattle.std.specs.Prelude.{is_some, string_bytes, Result, Ok, Err, IfOk}
+use Rattle.std.proofs.Common.{◌≡◌, ℕ, ◌+◌, ◌-◌, ◌∙◌, sym, ap, subst, List, [], ◌∷◌, ◌++◌, refl, arith, true, false, Option, Some, None, length, take, append_assoc, length-append}
+use Rattle.std.specs.Prelude.{string_bytes, MatchOption}
+use Rattle.std.proofs.Math.Seq.{take-append_seam}
+use Rattle.std.proofs.lemmas.Option.{none-some}
 use Rattle.pulsar_wire.specs.Field.{◌>>=◌}
-use Rattle.pulsar_client.specs.Content.{Heard, Shown}
-use Rattle.pulsar_client.specs.Client.{StandsFor, chosen}
-use Rattle.pulsar_client.specs.Run.{Step, is_empty}
-use Rattle.pulsar_client.specs.View.{Chosen}
-use Rattle.pulsar_client.specs.declared.pulsar.Pulsar.{Pulsar}
+use Rattle.pulsar_producer.specs.Routing.{Policy}
+use Rattle.pulsar_client.specs.Content.{Heard, Shown, heard}
+use Rattle.pulsar_client.specs.declared.event.Event.{Event}
+use Rattle.pulsar_client.specs.Run.{Good, Step, is_empty}
+use Rattle.pulsar_client.specs.View.{Options}
 use Rattle.pulsar_cli.specs.Grammar.{Setting, Line, Nothing, Sets, Happens, line, lines}
-use Rattle.pulsar_cli.specs.Script.{Script, blank, chooses, defaults, with_line, script_from, script_of, happened, text}
+use Rattle.pulsar_cli.specs.Script.{Script, blank, chooses, default_choice, with_line, script_from, script_of, happened, text}
 use Rattle.pulsar_cli.specs.Text.{step}
-use Rattle.pulsar_cli.specs.Parsed.{IsWithinLine}
-use Rattle.pulsar_cli.specs.Shown.{IsClient, KeepsOptions, KeepsText, Reads, Refuses, Running, said}
+use Rattle.pulsar_cli.specs.Parsed.{IsWithinLine, choice_of}
+use Rattle.pulsar_cli.specs.Shown.{HasConsumed, KeepsReading, KeepsText, Reads, ReadsMore, Refuses, Running, options_in, said}
 use Rattle.pulsar_cli.proofs.Lines.{ends-line, feed, goes-on}
 use Rattle.pulsar_cli.specs.declared.reading.Reading.{Reading}
-use Rattle.pulsar_cli.specs.declared.stop.Stop.{Stop}
 
 -- the script of lines, and of those behind them
 joined : (o : Option Script) (xs ys : List (List ℕ)) → ((s : Script) → script_from s (xs ++ ys) ≡ (script_from s xs >>= λ t. script_from t ys)) →
@@ -31,113 +32,126 @@ itself None = refl
 itself (Some s) = refl
 
 -- one more line
-script-next : (read : List (List ℕ)) (l : List ℕ) {s : Script} → script_of read ≡ Some s → script_of (read ++ l ∷ []) ≡ with_line (line l) s
-script-next read l {s} h = script-more read (l ∷ []) blank ∙ ap (λ (o : Option Script). o >>= λ t. script_from t (l ∷ [])) h ∙ itself (with_line (line l) s)
+script-next : (ps : List Policy) (read : List (List ℕ)) (l : List ℕ) {s : Script} → script_of ps read ≡ Some s → script_of ps (read ++ l ∷ []) ≡ with_line (line l) s
+script-next ps read l {s} h = script-more read (l ∷ []) (blank ps) ∙ ap (λ (o : Option Script). o >>= λ t. script_from t (l ∷ [])) h ∙ itself (with_line (line l) s)
 
 -- one more line of this meaning
-pub script-line : {r : Reading} {put : List ℕ} {read : List (List ℕ)} {h : List Step} (bytes : List ℕ) (k : Line) → Reads r put read h → line bytes ≡ k → script_of (read ++ bytes ∷ []) ≡ with_line k (said r h)
-script-line {r} {put} {read} {h} bytes k a is = script-next read bytes a.script ∙ ap (λ l. with_line l (said r h)) is
+pub script-line : {ps : List Policy} {o : Options} {r : Reading} {put : List ℕ} {read : List (List ℕ)} {h : List Step} (bytes : List ℕ) (k : Line) → Reads ps o r put read h → line bytes ≡ k → script_of ps (read ++ bytes ∷ []) ≡ with_line k (said (options_in ps r) h)
+script-line {ps = ps} {r = r} {read = read} {h = h} bytes k a is = script-next ps read bytes a.script ∙ ap (λ l. with_line l (said (options_in ps r) h)) is
 
--- where something has happened there is a client, and an event
+-- where something has happened there is an event
 some-event : (es : List Heard) (e : Heard) → is_empty (es ++ e ∷ []) ≡ false
 some-event [] e = refl
 some-event (x ∷ xs) e = refl
 
-happened-some : (h : List Step) → is_empty h ≡ false → is_empty (happened h) ≡ false
-happened-some [] e = absurd cc
-happened-some (s ∷ h) e = some-event (happened h) s.event
+happened-some : (h : List Step) (n : ℕ) → n ≡ length h → (n ≡ 0 → ⊥) → is_empty (happened h) ≡ false
+happened-some [] n count some = absurd (some count)
+happened-some (s ∷ h) n count some = some-event (happened h) s.event
 
-some-client : (o : Chosen) (c : Option Pulsar) (h : List Step) → IsClient o c h → is_some c ≡ true → is_empty h ≡ false
-some-client o None h is e = absurd cc
-some-client o (Some c) h is e = is.1
-
-pub no-client : (o : Chosen) (c : Option Pulsar) (h : List Step) → IsClient o c h → c ≡ None → h ≡ []
-no-client o None h is e = is
-no-client o (Some c) h is e = absurd cc
-
--- the client that goes on, and the one that is made
-pub goes-on-with : (o : Chosen) (c : Option Pulsar) (p : Pulsar) (h : List Step) → c ≡ Some p → IsClient o c h → StandsFor o p h
-goes-on-with o c p h e is = (subst (λ k. IsClient o k h) e is).0
-
-pub begins-with : (o : Chosen) (made : Result Pulsar Stop) (c : Option Pulsar) → c ≡ None → IfOk made (λ p. StandsFor o p []) → IfOk made (λ p. (h : List Step) → IsClient o c h → StandsFor o p h)
-begins-with o (Ok p) c none stands = λ h is. subst (λ t. StandsFor o p t) (sym (no-client o c h is none)) stands
-begins-with o (Err s) c none stands = tt
+-- where nothing has happened there is none
+pub none-yet : (h : List Step) (n : ℕ) → n ≡ length h → n ≡ 0 → h ≡ []
+none-yet [] n count none = refl
+none-yet (s ∷ h) n count none = absurd (omega (arith, count, none))
 
 late : (setting : Setting) (s : Script) → is_empty s.events ≡ false → with_line (Sets setting) s ≡ None
 late setting s h = rw h refl
 
 -- a setting behind an event is refused
-pub refuses-set : {r : Reading} {put : List ℕ} {read : List (List ℕ)} {h : List Step} (bytes : List ℕ) (setting : Setting) → Reads r put read h → line bytes ≡ Sets setting → is_some r.client ≡ true → script_of (read ++ bytes ∷ []) ≡ None
-refuses-set {r} {put} {read} {h} bytes setting a is made =
-    script-line bytes (Sets setting) a is ∙ late setting (said r h) (happened-some h (some-client (chosen r.options) r.client h a.client made))
+pub refuses-set : {ps : List Policy} {o : Options} {r : Reading} {put : List ℕ} {read : List (List ℕ)} {h : List Step} (bytes : List ℕ) (setting : Setting) → Reads ps o r put read h → line bytes ≡ Sets setting → (r.events ≡ 0 → ⊥) → script_of ps (read ++ bytes ∷ []) ≡ None
+refuses-set {ps = ps} {r = r} {h = h} bytes setting a is some =
+    script-line bytes (Sets setting) a is ∙ late setting (said (options_in ps r) h) (happened-some h r.events a.count some)
 
 -- the number of the next line
 next-number : {n m : ℕ} (read : List (List ℕ)) (bytes : List ℕ) → m ≡ n + 1 → n ≡ length read + 1 → m ≡ length (read ++ bytes ∷ []) + 1
 next-number read bytes next is = next ∙ ap (λ n. n + 1) is ∙ ap (λ n. n + 1) (sym (length-append read (bytes ∷ [])))
 
 -- a line is nothing
-pub reads-nothing : {r r' : Reading} {put : List ℕ} {read : List (List ℕ)} {h : List Step} (bytes : List ℕ) → Reads r put read h → line bytes ≡ Nothing → r'.client ≡ r.client → KeepsOptions r r' → KeepsText r r' → r'.line ≡ r.line + 1 → Reads r' put (read ++ bytes ∷ []) h
-reads-nothing {r} {r'} {put} {read} {h} bytes a is client same kept number =
+pub reads-nothing : {ps : List Policy} {o : Options} {r r' : Reading} {put : List ℕ} {read : List (List ℕ)} {h : List Step} (bytes : List ℕ) → Reads ps o r put read h → line bytes ≡ Nothing → r'.choice ≡ r.choice → KeepsText r r' → r'.line ≡ r.line + 1 → Reads ps o r' put (read ++ bytes ∷ []) h
+reads-nothing {read = read} bytes a is same kept number =
     record {
-      script = script-line bytes Nothing a is ∙ rw same refl;
-      client = rw (same, client) a.client;
+      script = rw same (script-line bytes Nothing a is);
+      good = rw same a.good;
+      options = λ some. rw same (a.options some);
       count = kept.events ∙ a.count;
       number = next-number read bytes number a.number;
       text = rw kept.out a.text;
     }
+
+-- nothing has happened: every choice is good
+good-nothing : (o : Options) → Good o []
+good-nothing o = record { log = []; run = tt; rests = refl; same = refl }
 
 -- a line is a setting, before anything has happened
-pub reads-set : {r r' : Reading} {put : List ℕ} {read : List (List ℕ)} (bytes : List ℕ) (setting : Setting) → Reads r put read [] → line bytes ≡ Sets setting → r'.client ≡ None → chosen r'.options ≡ chooses setting (chosen r.options) → KeepsText r r' → r'.line ≡ r.line + 1 → Reads r' put (read ++ bytes ∷ []) []
-reads-set {r} {r'} {put} {read} bytes setting a is client same kept number =
+pub reads-set : {ps : List Policy} {o : Options} {r r' : Reading} {put : List ℕ} {read : List (List ℕ)} (bytes : List ℕ) (setting : Setting) → Reads ps o r put read [] → line bytes ≡ Sets setting → choice_of r'.choice ≡ chooses setting (choice_of r.choice) → KeepsText r r' → r'.line ≡ r.line + 1 → Reads ps o r' put (read ++ bytes ∷ []) []
+reads-set {ps = ps} {r' = r'} {read = read} bytes setting a is chosen kept number =
     record {
-      script = script-line bytes (Sets setting) a is ∙ ap (λ o. Some (record { options = o; events = [] })) (sym same);
-      client = rw client refl;
+      script = script-line bytes (Sets setting) a is ∙ ap (λ c. Some (record { options = record { chosen = c; policies = ps }; events = [] })) (sym chosen);
+      good = good-nothing (options_in ps r');
+      options = λ some. absurd cc;
       count = kept.events ∙ a.count;
       number = next-number read bytes number a.number;
       text = rw kept.out a.text;
     }
 
--- a line is an event
-pub reads-step : {r r' : Reading} {put : List ℕ} {read : List (List ℕ)} {h : List Step} {e : Heard} {effects : List Shown} (bytes : List ℕ) → Reads r put read h → line bytes ≡ Happens e → IsClient (chosen r.options) r'.client (record { event = e; effects = effects } ∷ h) → KeepsOptions r r' → string_bytes r'.out ≡ string_bytes r.out ++ step r.events effects → r'.events ≡ r.events + 1 → r'.line ≡ r.line + 1 → Reads r' put (read ++ bytes ∷ []) (record { event = e; effects = effects } ∷ h)
-reads-step {r} {r'} {put} {read} {h} {e} {effects} bytes a is client same out events number =
+-- the event of a line was told
+pub reads-step : {ps : List Policy} {o : Options} {r r' : Reading} {put : List ℕ} {read : List (List ℕ)} {h : List Step} {e : Heard} {effects : List Shown} (bytes : List ℕ) → Reads ps o r put read h → line bytes ≡ Happens e → options_in ps r ≡ o → Good o (record { event = e; effects = effects } ∷ h) → r'.choice ≡ r.choice → string_bytes r'.out ≡ string_bytes r.out ++ step r.events effects → r'.events ≡ r.events + 1 → r'.line ≡ r.line + 1 → Reads ps o r' put (read ++ bytes ∷ []) (record { event = e; effects = effects } ∷ h)
+reads-step {ps = ps} {o = o} {r = r} {r' = r'} {put = put} {read = read} {h = h} {e = e} {effects = effects} bytes a is chosen good same out events number =
+    let now : options_in ps r' ≡ o = rw same chosen in
     record {
-      script = script-line bytes (Happens e) a is ∙ rw same refl;
-      client = rw same client;
+      script = rw same (script-line bytes (Happens e) a is);
+      good = subst (λ x. Good x (record { event = e; effects = effects } ∷ h)) (sym now) good;
+      options = λ some. now;
       count = events ∙ ap (λ n. n + 1) a.count ∙ omega arith;
       number = next-number read bytes number a.number;
       text = ap (λ (t : List ℕ). put ++ t) out ∙ sym (append_assoc put (string_bytes r.out) (step r.events effects)) ∙ ap (λ (t : List ℕ). t ++ step r.events effects) a.text ∙ ap (λ n. text h ++ step n effects) a.count;
     }
 
 -- nothing is read yet
-pub new-running : (r : Reading) → r.client ≡ None → chosen r.options ≡ defaults → r.events ≡ 0 → r.line ≡ 1 → string_bytes r.out ≡ [] → r.pending.items ≡ [] → Running r [] []
-new-running r client same events number out pending =
+pub new-running : (ps : List Policy) (o : Options) (r : Reading) → choice_of r.choice ≡ default_choice → r.events ≡ 0 → r.line ≡ 1 → string_bytes r.out ≡ [] → r.pending.items ≡ [] → Running ps o [] r [] []
+new-running ps o r same events number out pending =
     record {
       read = [];
-      history = [];
-      reads = record { script = rw same refl; client = rw client refl; count = events; number = number; text = out };
+      reads = record {
+        script = ap (λ c. Some (record { options = record { chosen = c; policies = ps }; events = [] })) (sym same);
+        good = good-nothing (options_in ps r);
+        options = λ some. absurd cc;
+        count = events;
+        number = number;
+        text = out;
+      };
       splits = rw pending (record { apart = λ future. refl; within = λ k d lt. absurd (omega arith) });
     }
 
 -- the bytes of its line aside
-pub reads-same : {r r' : Reading} {put : List ℕ} {read : List (List ℕ)} {h : List Step} → Reads r put read h → r'.client ≡ r.client → KeepsOptions r r' → KeepsText r r' → r'.line ≡ r.line → Reads r' put read h
-reads-same a client same kept number = record { script = a.script ∙ rw same refl; client = rw (same, client) a.client; count = kept.events ∙ a.count; number = number ∙ a.number; text = rw kept.out a.text }
+pub reads-same : {ps : List Policy} {o : Options} {r r' : Reading} {put : List ℕ} {read : List (List ℕ)} {h : List Step} → Reads ps o r put read h → r'.choice ≡ r.choice → KeepsText r r' → r'.line ≡ r.line → Reads ps o r' put read h
+reads-same a same kept number =
+    record { script = rw same a.script; good = rw same a.good; options = λ some. rw same (a.options some); count = kept.events ∙ a.count; number = number ∙ a.number; text = rw kept.out a.text }
 
 -- a line has ended
-pub line-read : {r r' : Reading} {put x : List ℕ} (e bytes : List ℕ) (run : Running r put x) → IsWithinLine e → bytes ≡ r.pending.items ++ e → (next : List Step) → Reads r' put (run.read ++ bytes ∷ []) next → r'.pending.items ≡ [] → Running r' put (x ++ (e ++ 10 ∷ []))
-line-read e bytes run w is next reads pending =
-    record { read = run.read ++ bytes ∷ []; history = next; reads = reads; splits = rw (pending, is) (feed e run.splits w) }
+pub line-read : {ps : List Policy} {o : Options} {h : List Step} {r r' : Reading} {put x : List ℕ} (e bytes : List ℕ) (run : Running ps o h r put x) → IsWithinLine e → bytes ≡ r.pending.items ++ e → Reads ps o r' put (run.read ++ bytes ∷ []) h → r'.pending.items ≡ [] → Running ps o h r' put (x ++ (e ++ 10 ∷ []))
+line-read e bytes run w is reads pending =
+    record { read = run.read ++ bytes ∷ []; reads = reads; splits = rw (pending, is) (feed e run.splits w) }
+
+-- a line that has ended is an event
+pub line-happens : {ps : List Policy} {o : Options} {h : List Step} {r r' : Reading} {put x : List ℕ} {what : Heard} (e bytes total : List ℕ) (run : Running ps o h r put x) → IsWithinLine e → bytes ≡ r.pending.items ++ e → Reads ps o r' put run.read h → line bytes ≡ Happens what → r'.pending.items ≡ [] → x ++ (e ++ 10 ∷ []) ≡ total → HasConsumed ps o h r' put total what
+line-happens {what = what} e bytes total run w is reads happens pending whole =
+    record {
+      comes = record { read = run.read; reads = reads; line = bytes; happens = happens };
+      splits = rw (sym whole, pending, is) (feed e run.splits w);
+    }
 
 -- a line goes on
-pub runs-on : {r r' : Reading} {put x : List ℕ} (e total : List ℕ) (run : Running r put x) → IsWithinLine e → Reads r' put run.read run.history → r'.pending.items ≡ r.pending.items ++ e → x ++ e ≡ total → Running r' put total
+pub runs-on : {ps : List Policy} {o : Options} {h : List Step} {r r' : Reading} {put x : List ℕ} (e total : List ℕ) (run : Running ps o h r put x) → IsWithinLine e → Reads ps o r' put run.read h → r'.pending.items ≡ r.pending.items ++ e → x ++ e ≡ total → Running ps o h r' put total
 runs-on e total run w reads pending whole =
-    record { read = run.read; history = run.history; reads = reads; splits = rw (pending, sym whole) (goes-on e run.splits w) }
+    record { read = run.read; reads = reads; splits = rw (pending, sym whole) (goes-on e run.splits w) }
 
 -- a line that has ended isn't in the grammar
-pub refuses-here : {r r' : Reading} {put x : List ℕ} (e bytes after total : List ℕ) (run : Running r put x) → IsWithinLine e → bytes ≡ r.pending.items ++ e → Reads r' put run.read run.history → script_of (run.read ++ bytes ∷ []) ≡ None → (x ++ (e ++ 10 ∷ [])) ++ after ≡ total → Refuses r' put total
-refuses-here {r} {r'} {put} {x} e bytes after total run w is reads bad whole =
+pub refuses-here : {ps : List Policy} {o : Options} {h : List Step} {r r' : Reading} {put x : List ℕ} (e bytes after total : List ℕ) (run : Running ps o h r put x) → IsWithinLine e → bytes ≡ r.pending.items ++ e → Reads ps o r' put run.read h → script_of ps (run.read ++ bytes ∷ []) ≡ None → (x ++ (e ++ 10 ∷ [])) ++ after ≡ total → Refuses ps r' put total
+refuses-here {o = o} {h = h} {x = x} e bytes after total run w is reads bad whole =
     record {
+      o = o;
       read = run.read;
-      history = run.history;
+      history = h;
       reads = reads;
       bad = bytes;
       refused = bad;
@@ -149,3 +163,31 @@ refuses-here {r} {r'} {put} {x} e bytes after total run w is reads bad whole =
 pub behind-line : (x e rest after total : List ℕ) → rest ≡ e ++ 10 ∷ after → x ++ rest ≡ total → (x ++ (e ++ 10 ∷ [])) ++ after ≡ total
 behind-line x e rest after total is whole =
     append_assoc x (e ++ 10 ∷ []) after ∙ ap (λ (t : List ℕ). x ++ t) (append_assoc e (10 ∷ []) after ∙ sym is) ∙ whole
+
+-- what stands in front of the bytes that are left
+pub front-of : (front rest : List ℕ) (n : ℕ) → n ≡ length rest → take (length (front ++ rest) - n) (front ++ rest) ≡ front
+front-of front rest n is =
+    let size = length-append front rest in
+    let at : length (front ++ rest) - n ≡ length front = omega (arith, size, is) in
+    ap (λ k. take k (front ++ rest)) at ∙ take-append_seam front rest
+
+-- a line was taken, and its bytes are gone
+pub line-found : (r r' r'' : Reading) (bytes : List ℕ) (found : Option Event) → MatchOption found (ReadsMore r r' bytes) (λ e. (line bytes ≡ Happens (heard e)) × (r' ≡ r)) → r''.choice ≡ r'.choice → KeepsText r' r'' → r''.line ≡ r'.line →
+    MatchOption found (ReadsMore r r'' bytes) (λ e. (line bytes ≡ Happens (heard e)) × KeepsReading r r'')
+line-found r r' r'' bytes None more same kept number = λ ps o put read h a. reads-same {r = r'} (more ps o put read h a) same kept number
+line-found r r' r'' bytes (Some e) more same kept number = (more.0, λ ps o put read h a. reads-same {r = r'} (rw more.1 a) same kept number)
+
+-- what was read up to the bytes that are left
+pub same-front : (x consumed p after piece : List ℕ) (n : ℕ) → n ≡ length after → x ++ after ≡ consumed ++ piece → p ++ after ≡ piece → x ≡ consumed ++ take (length piece - n) piece
+same-front x consumed p after piece n count whole parts =
+    let same : x ++ after ≡ (consumed ++ p) ++ after = whole ∙ ap (λ (t : List ℕ). consumed ++ t) (sym parts) ∙ sym (append_assoc consumed p after) in
+    sym (front-of x after n count) ∙ ap (λ (t : List ℕ). take (length t - n) t) same ∙ front-of (consumed ++ p) after n count
+    ∙ ap (λ (t : List ℕ). consumed ++ t) (sym (front-of p after n count) ∙ ap (λ (t : List ℕ). take (length t - n) t) parts)
+
+-- a line was read that is no event, and one that is
+pub nothing-read : (r r' : Reading) (bytes : List ℕ) (found : Option Event) → found ≡ None → MatchOption found (ReadsMore r r' bytes) (λ e. (line bytes ≡ Happens (heard e)) × KeepsReading r r') → ReadsMore r r' bytes
+nothing-read r r' bytes None is more = more
+nothing-read r r' bytes (Some e) is more = absurd (none-some e (sym is))
+
+pub event-read : (r r' : Reading) (bytes : List ℕ) (found : Option Event) (e : Event) → found ≡ Some e → MatchOption found (ReadsMore r r' bytes) (λ e. (line bytes ≡ Happens (heard e)) × KeepsReading r r') → (line bytes ≡ Happens (heard e)) × KeepsReading r r'
+event-read r r' bytes found e is more = subst (λ t. MatchOption t (ReadsMore r r' bytes) (λ e. (line bytes ≡ Happens (heard e)) × KeepsReading r r')) is more

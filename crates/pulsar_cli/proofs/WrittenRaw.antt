@@ -1,4 +1,4 @@
--- What is asked of one connection is read back.
+-- The words of what is asked of one connection are read back: texts, numbers, messages, ids and credentials.
 use Rattle.std.proofs.Common.{◌≡◌, ◌==◌, ℕ, zero, ℤ, pos, negsuc, subst, ◌+◌, ◌*◌, ◌/◌, ◌%◌, ◌^◌, ◌<◌, ◌∙◌, sym, ap, List, [], ◌∷◌, ◌++◌, refl, arith, Bool, true, false, map, Option, Some, None, length, codes, append-nil, append_assoc, suc, cond, take, drop, nat_lt, length-append}
 use Rattle.std.specs.Prelude.{FitsSigned}
 use Rattle.std.specs.BTreeMap.{insert_entry}
@@ -41,11 +41,11 @@ use Rattle.pulsar_cli.proofs.WrittenLines.{IsWithinWord, decimal-within, first-w
 -- LISTS
 
 -- what holds of the elements of two lists holds of those of both together
-all-both : {A : Type 0} (P : A → Type 0) (xs ys : List A) → AllByRecursion P xs → AllByRecursion P ys → AllByRecursion P (xs ++ ys)
+pub all-both : {A : Type 0} (P : A → Type 0) (xs ys : List A) → AllByRecursion P xs → AllByRecursion P ys → AllByRecursion P (xs ++ ys)
 all-both P [] ys h k = k
 all-both P (x ∷ xs) ys h k = (h.0, all-both P xs ys h.1 k)
 
-all-map : {A B : Type 0} (P : A → Type 0) (Q : B → Type 0) (f : A → B) → ((x : A) → P x → Q (f x)) → (xs : List A) → AllByRecursion P xs → AllByRecursion Q (map f xs)
+pub all-map : {A B : Type 0} (P : A → Type 0) (Q : B → Type 0) (f : A → B) → ((x : A) → P x → Q (f x)) → (xs : List A) → AllByRecursion P xs → AllByRecursion Q (map f xs)
 all-map P Q f each-one [] h = tt
 all-map P Q f each-one (x ∷ xs) h = (each-one x h.0, all-map P Q f each-one xs h.1)
 
@@ -75,22 +75,22 @@ tested-within [] h = All-nil (λ c. (c == 32) ≡ false)
 tested-within (b ∷ bs) h = tested-next b bs (b == 32) refl h (tested-within bs)
 
 -- a word behind a front
-front-within : (front w : List ℕ) → has_no_blank front ≡ true → IsWithinWord w → IsWithinWord (front ++ w)
+pub front-within : (front w : List ℕ) → has_no_blank front ≡ true → IsWithinWord w → IsWithinWord (front ++ w)
 front-within front w h within = All-append (λ c. (c == 32) ≡ false) front w (tested-within front h) within
 
 -- WORDS
 
-flag-within : (b : Bool) → IsWithinWord (flag_word b)
+pub flag-within : (b : Bool) → IsWithinWord (flag_word b)
 flag-within true = tested-within (codes "true") refl
 flag-within false = tested-within (codes "false") refl
 
-type-within : (k : SubType) → IsWithinWord (sub_type_word k)
+pub type-within : (k : SubType) → IsWithinWord (sub_type_word k)
 type-within Exclusive = tested-within (codes "exclusive") refl
 type-within Shared = tested-within (codes "shared") refl
 type-within Failover = tested-within (codes "failover") refl
 type-within KeyShared = tested-within (codes "key-shared") refl
 
-mode-within : (m : Mode) → IsWithinWord (mode_word m)
+pub mode-within : (m : Mode) → IsWithinWord (mode_word m)
 mode-within Persistent = tested-within (codes "persistent") refl
 mode-within NonPersistent = tested-within (codes "non-persistent") refl
 mode-within All = tested-within (codes "all") refl
@@ -100,25 +100,25 @@ mode-reads Persistent = refl
 mode-reads NonPersistent = refl
 mode-reads All = refl
 
-cumulative-within : (b : Bool) → IsWithinWord (cumulative_word b)
+pub cumulative-within : (b : Bool) → IsWithinWord (cumulative_word b)
 cumulative-within true = tested-within (codes "cumulative") refl
 cumulative-within false = tested-within (codes "individual") refl
 
-cumulative-reads : (b : Bool) → cumulative (cumulative_word b) ≡ Some b
+pub cumulative-reads : (b : Bool) → cumulative (cumulative_word b) ≡ Some b
 cumulative-reads true = refl
 cumulative-reads false = refl
 
-flag-reads : (b : Bool) → flag (flag_word b) ≡ Some b
+pub flag-reads : (b : Bool) → flag (flag_word b) ≡ Some b
 flag-reads true = refl
 flag-reads false = refl
 
-type-reads : (k : SubType) → sub_type (sub_type_word k) ≡ Some k
+pub type-reads : (k : SubType) → sub_type (sub_type_word k) ≡ Some k
 type-reads Exclusive = refl
 type-reads Shared = refl
 type-reads Failover = refl
 type-reads KeyShared = refl
 
-small-reads : (n : ℕ) → n < 2 ^ 32 → small_number (decimal n) ≡ Some n
+pub small-reads : (n : ℕ) → n < 2 ^ 32 → small_number (decimal n) ≡ Some n
 small-reads n lt =
     let wide : n < 2 ^ 64 = omega (arith, lt) in
     let is = number-decimal n wide in
@@ -148,35 +148,35 @@ there : {A : Type 0} (read : List ℕ → Option A) (w : List ℕ) (x : A) → b
 there read w x e h = rw (e, h) refl
 
 -- what may be absent is read back
-name-reads : (o : Option (List ℕ)) → Where IsText o → optional text (optional_word word o) ≡ Some o
+pub name-reads : (o : Option (List ℕ)) → Where IsText o → optional text (optional_word word o) ≡ Some o
 name-reads None can = refl
 name-reads (Some t) can = there text (word t) t (not-tilde t) (text-word t can.0 can.1)
 
-bytes-reads : (o : Option (List ℕ)) → Where IsBytes o → optional word_bytes (optional_word word o) ≡ Some o
+pub bytes-reads : (o : Option (List ℕ)) → Where IsBytes o → optional word_bytes (optional_word word o) ≡ Some o
 bytes-reads None can = refl
 bytes-reads (Some t) can = there word_bytes (word t) t (not-tilde t) (word-bytes t can)
 
-time-reads : (o : Option ℕ) → Where IsNumber o → optional number (optional_word decimal o) ≡ Some o
+pub time-reads : (o : Option ℕ) → Where IsNumber o → optional number (optional_word decimal o) ≡ Some o
 time-reads None can = refl
 time-reads (Some n) can =
     let is = number-decimal n can in
     there number (decimal n) n (apart number (decimal n) n refl is) is
 
-name-within : (o : Option (List ℕ)) → Where IsText o → IsWithinWord (optional_word word o)
+pub name-within : (o : Option (List ℕ)) → Where IsText o → IsWithinWord (optional_word word o)
 name-within None can = single 126 refl
 name-within (Some t) can = word-within t can.0
 
-bytes-within : (o : Option (List ℕ)) → Where IsBytes o → IsWithinWord (optional_word word o)
+pub bytes-within : (o : Option (List ℕ)) → Where IsBytes o → IsWithinWord (optional_word word o)
 bytes-within None can = single 126 refl
 bytes-within (Some t) can = word-within t can
 
-time-within : (o : Option ℕ) → Where IsNumber o → IsWithinWord (optional_word decimal o)
+pub time-within : (o : Option ℕ) → Where IsNumber o → IsWithinWord (optional_word decimal o)
 time-within None can = single 126 refl
 time-within (Some n) can = decimal-within n can
 
 -- A NAME IN FRONT OF `=`
 
-abbrev NoEquals : List ℕ → Type 0
+abbrev pub NoEquals : List ℕ → Type 0
 NoEquals w = AllByRecursion (λ b. (b == 61) ≡ false) w
 
 one-more : (n : ℕ) → 1 + n ≡ suc n
@@ -194,7 +194,7 @@ cut-found : (w front back : List ℕ) (at : ℕ) → position (λ b. b == 61) w 
 cut-found w front back at h before behind = rw (h, before, behind) refl
 
 -- such a front is cut off there
-cut-at : (w rest : List ℕ) → NoEquals w → cut (w ++ 61 ∷ rest) ≡ Some (w, rest)
+pub cut-at : (w rest : List ℕ) → NoEquals w → cut (w ++ 61 ∷ rest) ≡ Some (w, rest)
 cut-at w rest h =
     let size : length (w ++ 61 ∷ rest) ≡ length w + suc (length rest) = length-append w (61 ∷ rest) in
     let within : nat_lt (length w) (length (w ++ 61 ∷ rest)) ≡ true = rw size (grind (arith, nat_tests)) in
@@ -217,7 +217,7 @@ all-free : (t : List ℕ) → IsBytes t → NoEquals (flat_map printed t)
 all-free [] is = tt
 all-free (b ∷ bs) is = all-both (λ c. (c == 61) ≡ false) (printed b) (flat_map printed bs) (printed-free b (is_printed b) refl (is 0)) (all-free bs (λ i. is (suc i)))
 
-word-free : (t : List ℕ) → IsBytes t → NoEquals (word t)
+pub word-free : (t : List ℕ) → IsBytes t → NoEquals (word t)
 word-free [] is = (refl, tt)
 word-free (b ∷ bs) is = all-free (b ∷ bs) is
 
@@ -233,9 +233,9 @@ all-on d [] vs e h = ap (λ x. all x vs) (same-some d e h)
 all-on d (w ∷ ws) vs e h = on-next d w ws vs e (one d w) refl h (λ x g. all-on x ws vs e g)
 
 -- words without a blank that make one draft of another
-record Say (ws : List (List ℕ)) (d e : Draft) : Type 0 where
-  is : all d ws ≡ Some e
-  within : AllByRecursion IsWithinWord ws
+pub record Say (ws : List (List ℕ)) (d e : Draft) : Type 0 where
+  pub is : all d ws ≡ Some e
+  pub within : AllByRecursion IsWithinWord ws
 
 -- words, and then further ones
 say-both : {ws vs : List (List ℕ)} {d e f : Draft} → Say ws d e → Say vs e f → Say (ws ++ vs) d f
@@ -323,26 +323,26 @@ at-reads d (Some z) can none = record { is = rw (short-cut 97 116 (signed_word z
 -- PROPERTIES
 
 -- the names of some entries are below a name
-abbrev Below : List Property → List ℕ → Type 0
+abbrev pub Below : List Property → List ℕ → Type 0
 Below es k = AllByRecursion (λ e. slice_cmp nat_cmp e.0 k ≡ Less) es
 
 -- an entry above all others stands last
-stands-last : (es : List Property) (k v : List ℕ) → Below es k → insert_entry (slice_cmp nat_cmp) es k v ≡ es ++ (k, v) ∷ []
+pub stands-last : (es : List Property) (k v : List ℕ) → Below es k → insert_entry (slice_cmp nat_cmp) es k v ≡ es ++ (k, v) ∷ []
 stands-last [] k v h = refl
 stands-last (e ∷ es) k v h =
     let greater : slice_cmp nat_cmp k e.0 ≡ Greater = nat_list_cmp_total.antisymm k e.0 ∙ ap ordering_reverse h.0 in
     rw greater (ap (λ t. e ∷ t) (stands-last es k v h.1))
 
 -- the names of some entries are below those of others
-abbrev AreBelow : List Property → List Property → Type 0
+abbrev pub AreBelow : List Property → List Property → Type 0
 AreBelow es ps = AllByRecursion (λ p. Below es p.0) ps
 
 -- at first there is no property
-none-below : (ps : List Property) → AreBelow [] ps
+pub none-below : (ps : List Property) → AreBelow [] ps
 none-below [] = tt
 none-below (p ∷ ps) = (tt, none-below ps)
 
-more-below : (es : List Property) (p : List ℕ × List ℕ) (ps : List Property) → AreBelow es ps → AllByRecursion (λ k. slice_cmp nat_cmp p.0 k ≡ Less) (map (λ q. q.0) ps) → AreBelow (es ++ p ∷ []) ps
+pub more-below : (es : List Property) (p : List ℕ × List ℕ) (ps : List Property) → AreBelow es ps → AllByRecursion (λ k. slice_cmp nat_cmp p.0 k ≡ Less) (map (λ q. q.0) ps) → AreBelow (es ++ p ∷ []) ps
 more-below es p [] h above = tt
 more-below es p (q ∷ ps) h above = (all-both (λ e. slice_cmp nat_cmp e.0 q.0 ≡ Less) es (p ∷ []) h.0 (above.0, tt), more-below es p ps h.1 above.1)
 
@@ -388,10 +388,10 @@ plain-said m can =
     (sv-reads _ m.schema_version can.schema_version refl))
     (at-reads _ m.deliver_at_time can.deliver_at_time refl))
 
-message-said : (m : ProducerMessageValues) → CanBeSent m → Say (message_words m) blank (record { message = m; has_data = true })
+pub message-said : (m : ProducerMessageValues) → CanBeSent m → Say (message_words m) blank (record { message = m; has_data = true })
 message-said m can = subst (λ t. Say (message_words m) blank (record { message = t; has_data = true })) can.is_plain (plain-said m can)
 
-message-reads : (m : ProducerMessageValues) → CanBeSent m → message (message_words m) ≡ Some m
+pub message-reads : (m : ProducerMessageValues) → CanBeSent m → message (message_words m) ≡ Some m
 message-reads m can = ap (λ o. o >>= λ (d : Draft). Some d.message) (message-said m can).is
 
 -- THE BYTES OF AN ID
@@ -507,23 +507,23 @@ id-reads i fits =
     let bytes = spelling message_id i in
     ap (λ o. o >>= reading message_id) (hex-of-id (id_word i) bytes (hex-encoded bytes (id-bytes i fits) (id-some i))) ∙ round_trip message_id i refl fits
 
-ids-read : (is : List (Values message_id)) → AllByRecursion IsId is → each id (map id_word is) ≡ Some is
+pub ids-read : (is : List (Values message_id)) → AllByRecursion IsId is → each id (map id_word is) ≡ Some is
 ids-read [] can = refl
 ids-read (i ∷ is) can = rw (id-reads i can.0, ids-read is can.1) refl
 
 id-within : (i : Values message_id) → IsId i → IsWithinWord (id_word i)
 id-within i fits = hex-within (spelling message_id i) (id-bytes i fits)
 
-ids-within : (is : List (Values message_id)) → AllByRecursion IsId is → AllByRecursion IsWithinWord (map id_word is)
+pub ids-within : (is : List (Values message_id)) → AllByRecursion IsId is → AllByRecursion IsWithinWord (map id_word is)
 ids-within is can = all-map IsId IsWithinWord id_word id-within is can
 
-place-reads : (o : Option (Values message_id)) → Where IsId o → optional id (optional_word id_word o) ≡ Some o
+pub place-reads : (o : Option (Values message_id)) → Where IsId o → optional id (optional_word id_word o) ≡ Some o
 place-reads None can = refl
 place-reads (Some i) can =
     let is = id-reads i can in
     there id (id_word i) i (apart id (id_word i) i refl is) is
 
-place-within : (o : Option (Values message_id)) → Where IsId o → IsWithinWord (optional_word id_word o)
+pub place-within : (o : Option (Values message_id)) → Where IsId o → IsWithinWord (optional_word id_word o)
 place-within None can = single 126 refl
 place-within (Some i) can = id-within i can
 
@@ -534,65 +534,3 @@ credential-reads c can = rw (text-word c.name can.0.0 can.0.1, word-bytes c.auth
 
 pub credential-within : (c : AuthenticationValues) → IsCredential c → AllByRecursion IsWithinWord (credential_words c)
 credential-within c can = (word-within c.name can.0.0, (word-within c.auth_data can.1, tt))
-
--- WHAT IS ASKED OF ONE CONNECTION
-
--- no word has a blank
-pub raw-within : (what : Words) → CanBeSaid what → AllByRecursion IsWithinWord (raw_words what)
-raw-within SendPing can = (tested-within (codes "ping") refl, tt)
-raw-within SendPong can = absurd can
-raw-within (AuthChallenge auth) can = (tested-within (codes "auth") refl, credential-within auth can)
-raw-within (LookupTopic topic authoritative) can =
-    (tested-within (codes "lookup") refl, (word-within topic can.0, (flag-within authoritative, tt)))
-raw-within (LookupPartitionedTopic topic) can = (tested-within (codes "partitions") refl, (word-within topic can.0, tt))
-raw-within (GetTopicsOfNamespace namespace which) can =
-    (tested-within (codes "topics") refl, (word-within namespace can.0, (mode-within which, tt)))
-raw-within (GetSchema topic version) can =
-    (tested-within (codes "schema") refl, (word-within topic can.0.0, (bytes-within version can.1, tt)))
-raw-within (CreateProducer topic producer called options) can =
-    (tested-within (codes "producer") refl, (word-within topic can.0.0, (decimal-within producer can.1, (name-within called can.2, tt))))
-raw-within (Send producer called sequence m block) can =
-    (tested-within (codes "send") refl, (decimal-within producer can.0, (word-within called can.1.0, (decimal-within sequence can.2, (flag-within block, (message-said m can.3).within)))))
-raw-within (CloseProducer producer) can = (tested-within (codes "close-producer") refl, (decimal-within producer can, tt))
-raw-within (Subscribe topic subscription kind consumer called options) can =
-    (tested-within (codes "subscribe") refl, (word-within topic can.0.0, (word-within subscription can.1.0, (type-within kind, (decimal-within consumer can.2, tt)))))
-raw-within (SendFlow consumer permits) can =
-    let wide : permits < 2 ^ 64 = let lt = can.1 in omega (arith, lt) in
-    (tested-within (codes "flow") refl, (decimal-within consumer can.0, (decimal-within permits wide, tt)))
-raw-within (SendAck consumer ids upto) can =
-    (tested-within (codes "ack") refl, (decimal-within consumer can.0, (cumulative-within upto, ids-within ids can.1)))
-raw-within (SendRedeliver consumer ids) can =
-    (tested-within (codes "redeliver") refl, (decimal-within consumer can.0, ids-within ids can.1))
-raw-within (Seek consumer place time) can =
-    (tested-within (codes "seek") refl, (decimal-within consumer can.0, (place-within place can.1, (time-within time can.2, tt))))
-raw-within (GetLastMessageId consumer) can = (tested-within (codes "last-id") refl, (decimal-within consumer can, tt))
-raw-within (GetConsumerStats consumer) can = (tested-within (codes "stats") refl, (decimal-within consumer can, tt))
-raw-within (Unsubscribe consumer) can = (tested-within (codes "unsubscribe") refl, (decimal-within consumer can, tt))
-raw-within (CloseConsumer consumer) can = (tested-within (codes "close-consumer") refl, (decimal-within consumer can, tt))
-raw-within (CloseConsumerUnawaited consumer) can = absurd can
-
--- the words are read as what they were written for
-pub raw-reads : (what : Words) → CanBeSaid what → raw_call (raw_words what) ≡ Some what
-raw-reads SendPing can = refl
-raw-reads SendPong can = absurd can
-raw-reads (AuthChallenge auth) can = rw (credential-reads auth can) refl
-raw-reads (LookupTopic topic authoritative) can = rw (text-word topic can.0 can.1, flag-reads authoritative) refl
-raw-reads (LookupPartitionedTopic topic) can = rw (text-word topic can.0 can.1) refl
-raw-reads (GetTopicsOfNamespace namespace which) can = rw (text-word namespace can.0 can.1, mode-reads which) refl
-raw-reads (GetSchema topic version) can = rw (text-word topic can.0.0 can.0.1, bytes-reads version can.1) refl
-raw-reads (CreateProducer topic producer called options) can =
-    rw (text-word topic can.0.0 can.0.1, number-decimal producer can.1, name-reads called can.2, can.3) refl
-raw-reads (Send producer called sequence m block) can =
-    rw (number-decimal producer can.0, text-word called can.1.0 can.1.1, number-decimal sequence can.2, flag-reads block, message-reads m can.3) refl
-raw-reads (CloseProducer producer) can = rw (number-decimal producer can) refl
-raw-reads (Subscribe topic subscription kind consumer called options) can =
-    rw (text-word topic can.0.0 can.0.1, text-word subscription can.1.0 can.1.1, type-reads kind, number-decimal consumer can.2, can.3, can.4) refl
-raw-reads (SendFlow consumer permits) can = rw (number-decimal consumer can.0, small-reads permits can.1) refl
-raw-reads (SendAck consumer ids upto) can = rw (number-decimal consumer can.0, cumulative-reads upto, ids-read ids can.1) refl
-raw-reads (SendRedeliver consumer ids) can = rw (number-decimal consumer can.0, ids-read ids can.1) refl
-raw-reads (Seek consumer place time) can = rw (number-decimal consumer can.0, place-reads place can.1, time-reads time can.2) refl
-raw-reads (GetLastMessageId consumer) can = rw (number-decimal consumer can) refl
-raw-reads (GetConsumerStats consumer) can = rw (number-decimal consumer can) refl
-raw-reads (Unsubscribe consumer) can = rw (number-decimal consumer can) refl
-raw-reads (CloseConsumer consumer) can = rw (number-decimal consumer can) refl
-raw-reads (CloseConsumerUnawaited consumer) can = absurd can

@@ -4,9 +4,11 @@ use Rattle.std.specs.List.{slice_split}
 use Rattle.std.specs.Str.{bytes_eq}
 use Rattle.pulsar_wire.specs.Field.{◌>>=◌}
 use Rattle.pulsar_messages.specs.Content.{AuthenticationValues}
-use Rattle.pulsar_client.specs.Content.{Asked, Build, Stop, Topics, Lookup, Partitions, Brokers, Raw, Heard, Called, Opened, FailedToOpen, Bytes, Lost, Drain, Ticked, Poll}
+use Rattle.pulsar_client.specs.Content.{Asked, Build, Stop, Topics, Lookup, Partitions, Brokers, Producer, Send, SendAll, Flush, CheckProducer, CloseProducer, Raw, Heard, Called, Opened, FailedToOpen, Bytes, Lost, Drain, Ticked, Poll}
 use Rattle.pulsar_cli.specs.Words.{words, number, text, hex}
 use Rattle.pulsar_cli.specs.Choices.{kind, mode}
+use Rattle.pulsar_cli.specs.MessageWords.{message, messages}
+use Rattle.pulsar_cli.specs.ProducerWords.{producer}
 use Rattle.pulsar_cli.specs.RawLines.{credential, raw_call}
 
 -- call build
@@ -52,6 +54,52 @@ on_link (l ∷ ws) = do
   words ← raw_call ws
   Some (Raw link words)
 
+-- call producer ..
+abbrev pub builds : List (List ℕ) → Option Asked
+builds ws = producer ws >>= λ p. Some (Producer p)
+
+-- call send TICKET MESSAGE
+abbrev pub send : List (List ℕ) → Option Asked
+send [] = None
+send (t ∷ ws) = do
+  producer ← number t
+  message ← message ws
+  Some (Send producer message)
+
+-- call send-all TICKET MESSAGE / MESSAGE ..
+abbrev pub send_all : List (List ℕ) → Option Asked
+send_all [] = None
+send_all (t ∷ ws) = do
+  producer ← number t
+  messages ← messages ws
+  Some (SendAll producer messages)
+
+-- a ticket alone
+abbrev pub ticket : List (List ℕ) → Option ℕ
+ticket (t ∷ []) = number t
+ticket _ = None
+
+-- call flush TICKET, call check-producer TICKET, call close-producer TICKET
+abbrev pub flush : List (List ℕ) → Option Asked
+flush ws = ticket ws >>= λ t. Some (Flush t)
+
+abbrev pub check_producer : List (List ℕ) → Option Asked
+check_producer ws = ticket ws >>= λ t. Some (CheckProducer t)
+
+abbrev pub close_producer : List (List ℕ) → Option Asked
+close_producer ws = ticket ws >>= λ t. Some (CloseProducer t)
+
+-- a word that belongs to a producer, and what follows it
+abbrev pub producer_call : (word : List ℕ) → List (List ℕ) → Option Asked
+producer_call w ws =
+    if bytes_eq w (codes "producer") then builds ws
+    else if bytes_eq w (codes "send") then send ws
+    else if bytes_eq w (codes "send-all") then send_all ws
+    else if bytes_eq w (codes "flush") then flush ws
+    else if bytes_eq w (codes "check-producer") then check_producer ws
+    else if bytes_eq w (codes "close-producer") then close_producer ws
+    else None
+
 -- what stands behind `call`
 abbrev pub call : List (List ℕ) → Option Asked
 call [] = None
@@ -63,7 +111,7 @@ call (w ∷ ws) =
     else if bytes_eq w (codes "partitions") then partitions ws
     else if bytes_eq w (codes "brokers") then brokers ws
     else if bytes_eq w (codes "link") then on_link ws
-    else None
+    else producer_call w ws
 
 -- call ..
 abbrev pub called : List (List ℕ) → Option Heard

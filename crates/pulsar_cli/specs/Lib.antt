@@ -1,6 +1,7 @@
 pub mod Words
 pub mod Choices
 pub mod MessageWords
+pub mod ProducerWords
 pub mod RawLines
 pub mod Grammar
 pub mod WordText

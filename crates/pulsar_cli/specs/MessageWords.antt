@@ -2,6 +2,7 @@
 use Rattle.std.specs.Prelude.{ℕ, ℤ, pos, neg_ℤ, ◌+◌, ◌^◌, ◌==◌, nat_lt, nat_le, Bool, true, false, if◌then◌else◌, List, [], ◌∷◌, ◌++◌, take, drop, position, Option, Some, None, codes}
 use Rattle.std.specs.BTreeMap.{insert_entry}
 use Rattle.std.specs.Cmp.Lexicographic.{slice_cmp}
+use Rattle.std.specs.List.{slice_split}
 use Rattle.std.specs.Option.{is_some}
 use Rattle.std.specs.Ordering.{nat_cmp}
 use Rattle.std.specs.Str.{bytes_eq}
@@ -124,3 +125,17 @@ all d (w ∷ ws) = one d w >>= λ e. all e ws
 
 abbrev pub message : List (List ℕ) → Option ProducerMessageValues
 message ws = all blank ws >>= λ d. Some d.message
+
+-- messages with a `/` between two
+abbrev pub with_message : Option (List ProducerMessageValues) → List (List ℕ) → Option (List ProducerMessageValues)
+with_message messages ws = messages >>= λ ms. message ws >>= λ m. Some (ms ++ m ∷ [])
+
+abbrev pub all_messages : Option (List ProducerMessageValues) → List (List (List ℕ)) → Option (List ProducerMessageValues)
+all_messages messages [] = messages
+all_messages messages (ws ∷ parts) = all_messages (with_message messages ws) parts
+
+abbrev pub parts : List (List ℕ) → List (List (List ℕ))
+parts ws = slice_split (λ w. bytes_eq w (codes "/")) ws
+
+abbrev pub messages : List (List ℕ) → Option (List ProducerMessageValues)
+messages ws = all_messages (Some []) (parts ws)

@@ -5,15 +5,22 @@ use Rattle.pulsar_wire.specs.Row.{Values}
 use Rattle.pulsar_wire.specs.Rows.{message_id}
 use Rattle.pulsar_wire.specs.Views.{message_id_values}
 use Rattle.pulsar_wire.specs.declared.commands.ids.MessageIdData.{MessageIdData}
-use Rattle.pulsar_messages.specs.Content.{authentication_values, producer_message_values}
+use Rattle.pulsar_messages.specs.Content.{authentication_values, message_content}
+use Rattle.std.specs.Option.{option_map}
+use Rattle.pulsar_client.specs.Address.{base_in}
 use Rattle.pulsar_client.specs.Content.{heard}
+use Rattle.pulsar_client.specs.View.{Chosen}
 use Rattle.pulsar_cli.specs.Words.{digits_from, in_range}
+use Rattle.pulsar_producer.specs.Wanted.{producer_wanted}
 use Rattle.pulsar_cli.specs.MessageWords.{Draft}
+use Rattle.pulsar_cli.specs.ProducerWords.{Draft as ProducerDraft}
 use Rattle.pulsar_cli.specs.Grammar.{Setting, Url, Auth, Outbound, Timeout, RetryDelay, OpRetries, Retries, MinBackoff, MaxBackoff, ConnectionTimeout, KeepAlive, MaxIdle, Seed, First, Now, Line, Nothing, Sets, Happens, Refused}
 use Rattle.pulsar_cli.specs.declared.grammar.line.Line.{Line as Parsed}
 use Rattle.pulsar_cli.specs.declared.grammar.line.Line.TheVariants as parsed
 use Rattle.pulsar_cli.specs.declared.grammar.message.Draft.{Draft as ParsedDraft}
+use Rattle.pulsar_cli.specs.declared.grammar.producer.Draft.{Draft as ParsedProducer}
 use Rattle.pulsar_cli.specs.declared.grammar.setting.Setting.{Setting as ParsedSetting}
+use Rattle.pulsar_cli.specs.declared.options.Choice.{Choice}
 use Rattle.pulsar_cli.specs.declared.grammar.setting.Setting.TheVariants as setting
 
 -- the ids of a list
@@ -22,7 +29,11 @@ ids_of ids = map message_id_values ids.items
 
 -- what the words of a message so far say
 abbrev pub draft_of : ParsedDraft → Draft
-draft_of d = record { message = producer_message_values d.message; has_data = d.has_data }
+draft_of d = record { message = message_content d.message; has_data = d.has_data }
+
+-- and those of a producer
+abbrev pub producer_draft_of : ParsedProducer → ProducerDraft
+producer_draft_of d = record { wanted = producer_wanted d.builder; has_block = d.has_block }
 
 -- what a parsed setting is, and a parsed line
 abbrev pub setting_of : ParsedSetting → Setting
@@ -41,6 +52,20 @@ setting_of (setting.MaxIdle time) = MaxIdle time
 setting_of (setting.Seed seed) = Seed seed
 setting_of (setting.First number) = First number
 setting_of (setting.Now time) = Now time
+
+-- what a choice is
+abbrev pub choice_of : Choice → Chosen
+choice_of c =
+    record {
+      base = base_in (string_bytes c.url);
+      auth = option_map authentication_values c.auth;
+      connection = c.connection_retry;
+      operation = c.operation_retry;
+      outbound = c.outbound_channel_size;
+      seed = c.seed;
+      first_number = c.first_number;
+      now = c.now;
+    }
 
 abbrev pub line_of : Parsed → Line
 line_of parsed.Nothing = Nothing

@@ -4,12 +4,13 @@ use Rattle.std.specs.Str.{bytes_eq}
 use Rattle.pulsar_wire.specs.Field.{◌>>=◌}
 use Rattle.pulsar_wire.specs.Row.{Values, each, reading}
 use Rattle.pulsar_wire.specs.Rows.{message_id}
-use Rattle.pulsar_messages.specs.Content.{AuthenticationValues, empty_consumer_options, empty_producer_options}
+use Rattle.pulsar_messages.specs.Content.{AuthenticationValues, empty_consumer_options}
 use Rattle.pulsar_messages.specs.Words as raw
 use Rattle.pulsar_messages.specs.Words.{Words}
 use Rattle.pulsar_cli.specs.Words.{hex, number, optional, small_number, text, word_bytes}
 use Rattle.pulsar_cli.specs.Choices.{cumulative, flag, mode, sub_type}
 use Rattle.pulsar_cli.specs.MessageWords.{message}
+use Rattle.pulsar_cli.specs.ProducerWords.{options}
 
 -- an id: the hex of its bytes, and `%` for no bytes, of which it is the one of zeros
 abbrev pub id_bytes : List ℕ → Option (List ℕ)
@@ -72,13 +73,14 @@ schema _ = None
 
 -- FOR A PRODUCER
 
--- producer TOPIC NUMBER NAME
+-- producer TOPIC NUMBER NAME ..
 abbrev pub producer_on : (topic : List ℕ) → List (List ℕ) → Option Words
-producer_on t (p ∷ n ∷ []) = do
+producer_on t (p ∷ n ∷ ws) = do
   topic ← text t
   producer ← number p
   name ← optional text n
-  Some (raw.CreateProducer topic producer name empty_producer_options)
+  options ← options ws
+  Some (raw.CreateProducer topic producer name options)
 producer_on t _ = None
 
 abbrev pub create_producer : List (List ℕ) → Option Words

@@ -4,7 +4,7 @@ use Rattle.std.specs.List.{flat_map}
 use Rattle.std.specs.Fmt.{decimal}
 use Rattle.pulsar_client.specs.declared.effect.Settlement.{Settlement}
 use Rattle.pulsar_client.specs.declared.effect.Settlement.TheVariants as settlement
-use Rattle.pulsar_client.specs.Content.{Said, Done, Names, Address, Count, Addresses, Receipt, Replies, Failed, Shown, Connect, Queued, Write, Retry, Close, Settles, Ends, Hands, Faults, FindsNothing, FindsEnd}
+use Rattle.pulsar_client.specs.Content.{Said, Done, Names, Address, Count, Addresses, Receipt, Sends, Replies, Failed, Shown, Connect, Queued, Write, Retry, Close, Settles, Ends, Hands, Faults, FindsNothing, FindsEnd}
 use Rattle.url.specs.Parts.{serialize}
 use Rattle.pulsar_plans.specs.Address.{Named, Place}
 use Rattle.pulsar_cli.specs.WordText.{hex, word}
@@ -27,6 +27,7 @@ answer (Address p) = codes "ok address" ++ address p
 answer (Count n) = codes "ok count " ++ decimal n
 answer (Addresses names) = codes "ok addresses " ++ decimal (length names) ++ flat_map named names
 answer (Receipt bytes) = codes "ok receipt " ++ hex bytes
+answer (Sends tickets) = codes "ok sends " ++ decimal (length tickets) ++ flat_map (λ t. 32 ∷ decimal t) tickets
 answer (Replies bodies) = codes "ok replies " ++ decimal (length bodies) ++ flat_map (λ body. 32 ∷ hex body.bytes) bodies
 answer (Failed f) = codes "err " ++ failure f
 

@@ -1,12 +1,13 @@
 -- The line of a setting or an event, as one writes it: it reads back as that setting or event.
 use Rattle.std.specs.Prelude.{◌≡◌, ℕ, ◌<◌, ◌^◌, List, ◌∷◌, ◌++◌, length, codes}
 use Rattle.std.specs.Fmt.{decimal}
+use Rattle.std.specs.List.{AllByRecursion}
 use Rattle.hex.specs.Hex.{IsBytes, encode_lower}
-use Rattle.pulsar_client.specs.Content.{Asked, Build, Stop, Topics, Lookup, Partitions, Brokers, Raw, Heard, Called, Opened, FailedToOpen, Bytes, Lost, Drain, Ticked, Poll}
+use Rattle.pulsar_client.specs.Content.{Asked, Build, Stop, Topics, Lookup, Partitions, Brokers, Producer, Send, SendAll, Flush, CheckProducer, CloseProducer, Raw, Heard, Called, Opened, FailedToOpen, Bytes, Lost, Drain, Ticked, Poll}
 use Rattle.pulsar_cli.specs.Grammar.{Setting, Url, Auth, Outbound, Timeout, RetryDelay, OpRetries, Retries, MinBackoff, MaxBackoff, ConnectionTimeout, KeepAlive, MaxIdle, Seed, First, Now, Sets, Happens, line}
 use Rattle.pulsar_cli.specs.ErrorText.{io_kind}
 use Rattle.pulsar_cli.specs.WordText.{word}
-use Rattle.pulsar_cli.specs.WrittenRaw.{CanBeSaid, IsCredential, IsNumber, IsText, behind_blanks, credential_words, mode_word, raw_words}
+use Rattle.pulsar_cli.specs.WrittenRaw.{CanBeMade, CanBeSaid, CanBeSent, IsCredential, IsNumber, IsText, Where, behind_blanks, credential_words, message_words, messages_words, mode_word, producer_words, raw_words}
 
 -- the words behind `call`
 abbrev pub call_words : Asked → List ℕ
@@ -16,6 +17,12 @@ call_words (Topics namespace mode) = codes "topics " ++ word namespace ++ 32 ∷
 call_words (Lookup topic) = codes "lookup " ++ word topic
 call_words (Partitions topic) = codes "partitions " ++ word topic
 call_words (Brokers topic) = codes "brokers " ++ word topic
+call_words (Producer wanted) = codes "producer" ++ behind_blanks (producer_words wanted)
+call_words (Send producer message) = codes "send " ++ decimal producer ++ behind_blanks (message_words message)
+call_words (SendAll producer messages) = codes "send-all " ++ decimal producer ++ behind_blanks (messages_words messages)
+call_words (Flush producer) = codes "flush " ++ decimal producer
+call_words (CheckProducer producer) = codes "check-producer " ++ decimal producer
+call_words (CloseProducer producer) = codes "close-producer " ++ decimal producer
 call_words (Raw link words) = codes "link " ++ decimal link ++ behind_blanks (raw_words words)
 
 -- numbers are decimal without leading zeros, texts are words as they are printed, bytes are hex in lower case
@@ -29,8 +36,8 @@ written (Drain l most) = codes "drain " ++ decimal l ++ 32 ∷ decimal most
 written (Ticked now) = codes "tick " ++ decimal now
 written (Poll ticket) = codes "poll " ++ decimal ticket
 
--- An event has a line where its numbers have 64 bits, its text is UTF-8, it has a byte at least, and what is asked of one connection
--- can be said in words.
+-- An event has a line where its numbers have 64 bits, its text is UTF-8, it has a byte at least, and what is asked of one connection, of a
+-- producer or for its messages can be said in words.
 abbrev pub CanBeAsked : Asked → Type 0
 CanBeAsked Build = Unit {0}
 CanBeAsked Stop = Unit {0}
@@ -38,6 +45,12 @@ CanBeAsked (Topics namespace mode) = IsText namespace
 CanBeAsked (Lookup topic) = IsText topic
 CanBeAsked (Partitions topic) = IsText topic
 CanBeAsked (Brokers topic) = IsText topic
+CanBeAsked (Producer wanted) = Where IsText wanted.topic × Where IsText wanted.name × CanBeMade wanted.options
+CanBeAsked (Send producer message) = IsNumber producer × CanBeSent message
+CanBeAsked (SendAll producer messages) = IsNumber producer × AllByRecursion CanBeSent messages × (0 < length messages)
+CanBeAsked (Flush producer) = IsNumber producer
+CanBeAsked (CheckProducer producer) = IsNumber producer
+CanBeAsked (CloseProducer producer) = IsNumber producer
 CanBeAsked (Raw link words) = IsNumber link × CanBeSaid words
 
 abbrev pub CanBeWritten : Heard → Type 0

@@ -10,12 +10,15 @@ use Rattle.std.specs.Str.{is_utf8}
 use Rattle.hex.specs.Hex.{IsBytes, encode_lower}
 use Rattle.pulsar_wire.specs.Fits.{Fits}
 use Rattle.pulsar_wire.specs.Row.{Values, spelling}
-use Rattle.pulsar_wire.specs.Rows.{message_id}
+use Rattle.pulsar_wire.specs.Rows.{message_id, schema}
 use Rattle.pulsar_wire.specs.declared.commands.enumerations.SubType.{SubType}
 use Rattle.pulsar_wire.specs.declared.commands.enumerations.SubType.TheVariants.{Exclusive, Shared, Failover, KeyShared}
 use Rattle.pulsar_wire.specs.declared.commands.topics.Mode.{Mode}
 use Rattle.pulsar_wire.specs.declared.commands.topics.Mode.TheVariants.{Persistent, NonPersistent, All}
-use Rattle.pulsar_messages.specs.Content.{AuthenticationValues, ProducerMessageValues, Property, empty_consumer_options, empty_producer_options}
+use Rattle.pulsar_messages.specs.Content.{AuthenticationValues, ProducerMessageValues, ProducerOptionsValues, Property, empty_consumer_options}
+use Rattle.pulsar_messages.specs.declared.routing_policy.RoutingPolicy.{RoutingPolicy}
+use Rattle.pulsar_messages.specs.declared.routing_policy.RoutingPolicy.TheVariants.{RoundRobin, Single, Custom}
+use Rattle.pulsar_producer.specs.Wanted.{ProducerWanted}
 use Rattle.pulsar_messages.specs.Words.{Words, SendPing, SendPong, AuthChallenge, LookupTopic, LookupPartitionedTopic, GetTopicsOfNamespace, GetSchema, CreateProducer, Send, CloseProducer, Subscribe, SendFlow, SendAck, SendRedeliver, Seek, GetLastMessageId, GetConsumerStats, Unsubscribe, CloseConsumer, CloseConsumerUnawaited}
 use Rattle.pulsar_cli.specs.WordText.{word}
 
@@ -66,6 +69,38 @@ message_words m =
     ++ map (λ b. codes "sv=" ++ word b) (option_to_list m.schema_version)
     ++ map (λ z. codes "at=" ++ signed_word z) (option_to_list m.deliver_at_time)
 
+-- messages, with a `/` between two
+abbrev pub messages_words : List ProducerMessageValues → List (List ℕ)
+messages_words [] = []
+messages_words (m ∷ []) = message_words m
+messages_words (m ∷ n ∷ ms) = message_words m ++ codes "/" ∷ messages_words (n ∷ ms)
+
+-- the words of a producer: whatever is said of how it is made and sends
+abbrev pub policy_word : RoutingPolicy → List ℕ
+policy_word RoundRobin = codes "round"
+policy_word Single = codes "single"
+policy_word (Custom n) = codes "custom:" ++ decimal n
+
+abbrev pub meta_word : Property → List ℕ
+meta_word p = codes "meta=" ++ word p.0 ++ 61 ∷ word p.1
+
+abbrev pub block_words : Bool → List (List ℕ)
+block_words true = codes "block=true" ∷ []
+block_words false = []
+
+abbrev pub option_words : ProducerOptionsValues → List (List ℕ)
+option_words o =
+    map (λ z. codes "access=" ++ signed_word z) (option_to_list o.access_mode)
+    ++ block_words o.block_queue_if_full
+    ++ map (λ p. codes "route=" ++ policy_word p) (option_to_list o.routing_policy)
+    ++ map (λ b. codes "encrypted=" ++ flag_word b) (option_to_list o.encrypted)
+    ++ map meta_word o.metadata
+    ++ map (λ s. codes "schema=" ++ encode_lower (spelling schema s)) (option_to_list o.schema)
+
+abbrev pub producer_words : ProducerWanted → List (List ℕ)
+producer_words w =
+    map (λ t. codes "topic=" ++ word t) (option_to_list w.topic) ++ map (λ t. codes "name=" ++ word t) (option_to_list w.name) ++ option_words w.options
+
 -- a credential: its method, and what it shows
 abbrev pub credential_words : AuthenticationValues → List (List ℕ)
 credential_words c = word c.name ∷ word c.auth_data ∷ []
@@ -81,7 +116,7 @@ raw_words (LookupPartitionedTopic topic) = codes "partitions" ∷ word topic ∷
 raw_words (GetTopicsOfNamespace namespace mode) = codes "topics" ∷ word namespace ∷ mode_word mode ∷ []
 raw_words (GetSchema topic version) = codes "schema" ∷ word topic ∷ optional_word word version ∷ []
 raw_words (CreateProducer topic producer name options) =
-    codes "producer" ∷ word topic ∷ decimal producer ∷ optional_word word name ∷ []
+    codes "producer" ∷ word topic ∷ decimal producer ∷ optional_word word name ∷ option_words options
 raw_words (Send producer name sequence m block) =
     codes "send" ∷ decimal producer ∷ word name ∷ decimal sequence ∷ flag_word block ∷ message_words m
 raw_words (CloseProducer producer) = codes "close-producer" ∷ decimal producer ∷ []
@@ -124,6 +159,10 @@ IsProperty p = IsText p.0 × IsText p.1
 abbrev pub IsId : Values message_id → Type 0
 IsId i = Fits message_id i
 
+-- a schema whose every part is of bytes
+abbrev pub IsSchema : Values schema → Type 0
+IsSchema s = Fits schema s × IsBytes (spelling schema s)
+
 abbrev pub IsCredential : AuthenticationValues → Type 0
 IsCredential c = IsText c.name × IsBytes c.auth_data
 
@@ -152,7 +191,26 @@ pub record CanBeSent (m : ProducerMessageValues) : Type 0 where
   pub schema_version : Where IsBytes m.schema_version
   pub deliver_at_time : Where IsSigned m.deliver_at_time
 
--- producers and consumers are asked for without options, and consumers without a name
+-- an access mode is said without a sign
+abbrev pub IsMode : ℤ → Type 0
+IsMode (pos n) = n < 2 ^ 31
+IsMode (negsuc n) = ⊥
+
+abbrev pub IsPolicy : RoutingPolicy → Type 0
+IsPolicy RoundRobin = Unit {0}
+IsPolicy Single = Unit {0}
+IsPolicy (Custom n) = IsNumber n
+
+-- a producer makes no batches, its texts are UTF-8, its metadata stands in the order of the names, and its numbers are in range
+pub record CanBeMade (o : ProducerOptionsValues) : Type 0 where
+  pub no_batches : (o.batch_size ≡ None) × (o.batch_byte_size ≡ None) × (o.batch_timeout ≡ None)
+  pub access_mode : Where IsMode o.access_mode
+  pub routing_policy : Where IsPolicy o.routing_policy
+  pub metadata : AllByRecursion IsProperty o.metadata
+  pub ordered : IsStrictlySortedBy (slice_cmp nat_cmp) (map (λ p. p.0) o.metadata)
+  pub schema : Where IsSchema o.schema
+
+-- consumers are asked for without options and without a name
 abbrev pub CanBeSaid : Words → Type 0
 CanBeSaid SendPing = Unit {0}
 CanBeSaid SendPong = ⊥
@@ -162,7 +220,7 @@ CanBeSaid (LookupPartitionedTopic topic) = IsText topic
 CanBeSaid (GetTopicsOfNamespace namespace mode) = IsText namespace
 CanBeSaid (GetSchema topic version) = IsText topic × Where IsBytes version
 CanBeSaid (CreateProducer topic producer name options) =
-    IsText topic × IsNumber producer × Where IsText name × (options ≡ empty_producer_options)
+    IsText topic × IsNumber producer × Where IsText name × CanBeMade options
 CanBeSaid (Send producer name sequence m block) = IsNumber producer × IsText name × IsNumber sequence × CanBeSent m
 CanBeSaid (CloseProducer producer) = IsNumber producer
 CanBeSaid (Subscribe topic subscription kind consumer name options) =

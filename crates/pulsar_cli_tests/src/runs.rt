@@ -27,7 +27,7 @@ fn ends(
     }
     let mut source = source(alloc, b"call build\n")?;
     let mut sink = MemorySink::new(alloc);
-    let ended = run(alloc, &owned, &mut source, &mut sink);
+    let ended = run(alloc, &owned, &mut source, &mut sink, Vec::new(alloc));
     assert_eq!(rt; ended, status, "{words:?}");
     assert_eq!(rt; sink.bytes(), text, "{words:?}");
     Ok(())
@@ -56,7 +56,7 @@ fn source_fails(
 ) -> Result<(), Fail> {
     let mut source = FailingSource::new(lines.to_vec(alloc)?, vec![in alloc; call]?);
     let mut sink = MemorySink::new(alloc);
-    let ended = script(alloc, &mut source, &mut sink);
+    let ended = script(alloc, &mut source, &mut sink, Vec::new(alloc));
     assert_eq!(rt; ended, status, "at {call}");
     assert_eq!(rt; sink.bytes(), text, "at {call}");
     Ok(())
@@ -90,7 +90,7 @@ fn sink_fails(
 ) -> Result<(), Fail> {
     let mut source = source(alloc, lines)?;
     let mut sink = FailingSink::new(alloc, vec![in alloc; call]?, most);
-    let ended = script(alloc, &mut source, &mut sink);
+    let ended = script(alloc, &mut source, &mut sink, Vec::new(alloc));
     assert_eq!(rt; ended, status, "{most} at {call}");
     assert_eq!(rt; sink.bytes(), text, "{most} at {call}");
     Ok(())
@@ -121,7 +121,7 @@ fn a_script_is_longer_than_the_buffer(rt: HostRuntime) -> Result<(), Fail> {
     lines.extend_from_slice(b"frob")?;
     let mut source = MemorySource::new(lines);
     let mut sink = MemorySink::new(alloc);
-    let ended = script(alloc, &mut source, &mut sink);
+    let ended = script(alloc, &mut source, &mut sink, Vec::new(alloc));
     assert_eq!(&rt; ended, REFUSED);
     assert_eq!(&rt; sink.bytes(), b"refused line 70001\n".as_slice());
     Ok(())

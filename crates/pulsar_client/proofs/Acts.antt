@@ -1,34 +1,24 @@
--- What arises from an act at once, and what is first of what is left to do. Of kinds of part, action and arrival this file alone knows
--- what is quiet: `performs_quiet`, `comes_quiet`.
-use Rattle.std.proofs.Common.{◌≡◌, ◌⊎◌, inl, inr, ◌∙◌, sym, ap, subst, ℕ, List, [], ◌∷◌, ◌++◌, refl, drop, Bool, true, false, cond, Option, Some, None}
+-- What a call gives rise to, and what is first of what is left to do.
+use Rattle.std.proofs.Common.{◌≡◌, ◌⊎◌, inl, inr, ◌∙◌, sym, ap, subst, ℕ, ◌+◌, ◌-◌, ◌^◌, ◌≤◌, ◌<◌, arith, length, List, [], ◌∷◌, ◌++◌, refl, drop, Bool, true, false, cond, Option, Some, None}
 use Rattle.std.specs.List.{flat_map}
 use Rattle.std.specs.Option.{option_to_list}
 use Rattle.pulsar_run.specs.Run.{first_of, rest_of}
+use Rattle.pulsar_messages.specs.Content.{ProducerMessageValues}
+use Rattle.pulsar_session.specs.Failures.{Exhausted}
 use Rattle.pulsar_client.specs.declared.act.Act.{Act}
-use Rattle.pulsar_client.specs.declared.act.Act.TheVariants.{Comes, Told, Dials}
-use Rattle.pulsar_client.specs.declared.act.Action.{Action}
-use Rattle.pulsar_client.specs.declared.act.Action.TheVariants.{Get, Ask, StopAll}
-use Rattle.pulsar_client.specs.declared.act.Alarm.{Alarm}
-use Rattle.pulsar_client.specs.declared.act.Alarm.TheVariants.{Retry, Wake, KeepAlive, CheckIdle}
-use Rattle.pulsar_client.specs.declared.act.Arrival.{Arrival}
-use Rattle.pulsar_client.specs.declared.act.Arrival.TheVariants.{Bad}
-use Rattle.pulsar_client.specs.declared.act.End.TheVariants.{Idles}
-use Rattle.pulsar_client.specs.declared.act.LinkAct.TheVariants.{Reads, Pings, Ends}
+use Rattle.pulsar_client.specs.declared.act.Act.TheVariants.{Comes, Starts, Told, Answers}
 use Rattle.pulsar_client.specs.declared.act.Notice.{Notice}
-use Rattle.pulsar_client.specs.declared.act.Outcome.TheVariants as outcome
 use Rattle.pulsar_client.specs.declared.act.Part.{Part}
-use Rattle.pulsar_client.specs.declared.act.Part.TheVariants.{Calls, ToLink, Rings}
-use Rattle.pulsar_client.specs.declared.act.Who.{Who}
-use Rattle.pulsar_client.specs.declared.addresses.Pause.{Pause}
-use Rattle.pulsar_client.specs.declared.addresses.Series.{Series}
-use Rattle.pulsar_client.specs.declared.addresses.Series.TheVariants.{Nobody, Runs, Pauses, Serves}
-use Rattle.pulsar_plans.specs.Address.{Place, address_key, is_reachable}
-use Rattle.pulsar_client.specs.Alarms.{rings}
-use Rattle.pulsar_client.specs.Content.{Heard}
+use Rattle.pulsar_client.specs.declared.act.Refusal.{Refusal}
+use Rattle.pulsar_client.specs.declared.act.Who.TheVariants.{Call}
+use Rattle.pulsar_client.specs.Content as content
+use Rattle.pulsar_client.specs.Content.{Asked, Heard, lacks_tickets, shares}
 use Rattle.pulsar_client.specs.Links.{numbers_from}
-use Rattle.pulsar_client.specs.Rules.{at_once, breaks_at, gets, gets_from, idle_act, is_idle, keeps_alive, may_ping, on_link, over_links, performs, rung, stop_act, tells, tries_again}
+use Rattle.pulsar_client.specs.Plan.{fails}
+use Rattle.pulsar_client.specs.Producers.{Producers, routed}
+use Rattle.pulsar_client.specs.Rules.{called, on_link, over_links, parts_of, shares_of, shares_unless, starts, why_no_sends}
 use Rattle.pulsar_client.specs.Run.{Entry, Begins, Then, rules, view}
-use Rattle.pulsar_client.specs.View.{Chosen, Links, Seat, View, arrival_at, begun, begun_live, is_live}
+use Rattle.pulsar_client.specs.View.{Chosen, Options, Links, Seat, View, begun, begun_live, is_live}
 
 -- LISTS
 
@@ -58,6 +48,11 @@ pub each_either : {A : Type 0} (P : A → Type 0) (b : Bool) (xs ys : List A) �
 each_either P true xs ys p q = p
 each_either P false xs ys p q = q
 
+-- either, by what the test was
+pub each_when : {A : Type 0} (P : A → Type 0) (b : Bool) (xs ys : List A) → (b ≡ true → Each P xs) → (b ≡ false → Each P ys) → Each P (cond b xs ys)
+each_when P true xs ys p q = p refl
+each_when P false xs ys p q = q refl
+
 -- whatever each live link gives
 pub over_each : {A : Type 0} (P : A → Type 0) (f : ℕ → Seat → List A) (ls : Links) → ((l : ℕ) (seat : Seat) → Each P (f l seat)) → Each P (over_links f ls)
 over_each P f ls h = each_flat P (on_link f ls.live) (numbers_from 0 ls.started) (λ l. each_flat P (f l) (option_to_list (ls.live l)) (h l))
@@ -71,7 +66,8 @@ is_served (Comes part) = true
 is_served _ = false
 
 -- what is first was first of what arose at once, or nothing of that is left
-pub first_case : (now : List Act) (here : List Notice) (behind : List (List Notice)) (parts : List Part) (a : Act) → first_of rules now here behind parts ≡ Some a →
+pub first_case : (now : List Act) (here : List Notice) (behind : List (List Notice)) (parts : List Part) (a : Act) →
+    first_of rules now here behind parts ≡ Some a →
     (now ≡ a ∷ (rest_of now here behind parts).now) ⊎ ((now ≡ []) × ((rest_of now here behind parts).now ≡ []) × (is_served a ≡ true))
 first_case (b ∷ now) here behind parts a h = inl (let e : b ≡ a = cc in ap (λ x. x ∷ now) e)
 first_case [] (n ∷ here) behind parts a h = inr (refl, refl, (let e : Told n ≡ a = cc in sym (ap is_served e)))
@@ -91,70 +87,66 @@ each_rest P [] (n ∷ here) behind parts k = tt
 each_rest P [] [] (cause ∷ behind) parts k = each_rest P [] cause behind parts tt
 each_rest P [] [] [] parts k = tt
 
-pub each_first : (P : Act → Type 0) (now : List Act) (here : List Notice) (behind : List (List Notice)) (parts : List Part) (a : Act) → ((x : Act) → is_served x ≡ true → P x) →
+pub each_first : (P : Act → Type 0) (now : List Act) (here : List Notice) (behind : List (List Notice)) (parts : List Part) (a : Act) →
+    ((x : Act) → is_served x ≡ true → P x) →
     Each P now → first_of rules now here behind parts ≡ Some a → P a
 each_first P now here behind parts a served k h = elim (first_case now here behind parts a h) [
   | inl e ↦ (subst (Each P) e k).0
   | inr e ↦ served a e.2
 ]
 
--- WHAT ARISES AT ONCE
+-- WHAT A CALL GIVES RISE TO
 
--- what an action gives rise to, and what comes to a link: neither a start nor a deed, and no part of a call or of a poll
-abbrev pub is_quiet : Act → Bool
-is_quiet (Comes (ToLink l x)) = true
-is_quiet (Told n) = true
-is_quiet (Dials p starter retries) = true
-is_quiet _ = false
+-- the starts of calls whose tickets lie between these
+abbrev pub StartsIn : (from to : ℕ) → Act → Type 0
+StartsIn from to (Starts (Call t) p) = (from ≤ t) × (t < to)
+StartsIn from to _ = ⊥
 
-abbrev pub IsQuiet : Act → Type 0
-IsQuiet a = is_quiet a ≡ true
+starts_wider : (from to from' to' : ℕ) → from' ≤ from → to ≤ to' → (a : Act) → StartsIn from to a → StartsIn from' to' a
+starts_wider from to from' to' low high (Starts (Call t) p) k = (let a = k.0 in let b = k.1 in (omega (arith, a, low), omega (arith, b, high)))
+starts_wider from to from' to' low high _ k = absurd k
 
-from_quiet : (who : Who) (p : Place) (s : Series) → Each IsQuiet (gets_from who p s)
-from_quiet who p Nobody = (refl, tt)
-from_quiet who p (Runs starter retries l) = tt
-from_quiet who p (Pauses l) = tt
-from_quiet who p (Serves l) = (refl, tt)
+shares_in : (o : Chosen) (ps : Producers) (of ticket : ℕ) (advice : List (Option ℕ)) (t : ℕ) (ms : List ProducerMessageValues) →
+    Each (StartsIn ticket (ticket + length ms)) (shares_of o ps of ticket advice t ms)
+shares_in o ps of ticket advice t [] = tt
+shares_in o ps of ticket advice t (m ∷ ms) = (
+  (omega arith, omega arith),
+  each_map (StartsIn (ticket + 1) (ticket + 1 + length ms)) (StartsIn ticket (ticket + length (m ∷ ms)))
+      (shares_of o (routed t m ps) of (ticket + 1) (drop 1 advice) t ms)
+      (starts_wider (ticket + 1) (ticket + 1 + length ms) ticket (ticket + length (m ∷ ms)) (omega arith) (omega arith))
+      (shares_in o (routed t m ps) of (ticket + 1) (drop 1 advice) t ms),
+)
 
-gets_quiet : (who : Who) (p : Place) (s : Series) → Each IsQuiet (gets who p s)
-gets_quiet who p s = each_either IsQuiet (is_reachable p) (gets_from who p s) (tells who outcome.NotFound) (from_quiet who p s) (refl, tt)
+unless_in : (r : Option Refusal) (v : View) (advice : List (Option ℕ)) (t : ℕ) (ms : List ProducerMessageValues) →
+    Each (StartsIn (v.calls.drawn + 1) (v.calls.drawn + 1 + length ms)) (shares_unless r v advice t ms)
+unless_in None v advice t ms = shares_in v.chosen v.producers v.calls.drawn (v.calls.drawn + 1) advice t ms
+unless_in (Some r) v advice t ms = tt
 
-pub performs_quiet : (v : View) (who : Who) (action : Action) → Each IsQuiet (performs v who action)
-performs_quiet v who (Get p) = gets_quiet who p (v.addresses.base (address_key p)).series
-performs_quiet v who (Ask l request) = (refl, tt)
-performs_quiet v who StopAll = each_append IsQuiet (over_links stop_act v.links) (tells who outcome.Stopped) (over_each IsQuiet stop_act v.links (λ l seat. (refl, tt))) (refl, tt)
-performs_quiet v who _ = tt
+parts_in : (v : View) (advice : List (Option ℕ)) (asked : Asked) →
+    Each (StartsIn (v.calls.drawn + 1) (v.calls.drawn + 1 + shares asked)) (parts_of v advice asked)
+parts_in v advice (content.SendAll t ms) = unless_in (why_no_sends v.calls v.producers t) v advice t ms
+parts_in v advice _ = tt
 
-breaks_quiet : (l : ℕ) (a : Arrival) → Each IsQuiet (breaks_at l a)
-breaks_quiet l (Bad cause) = (refl, tt)
-breaks_quiet l _ = tt
+pub starts_in : (v : View) (advice : List (Option ℕ)) (asked : Asked) → Each (StartsIn v.calls.drawn (v.calls.drawn + 1 + shares asked)) (starts v advice asked)
+starts_in v advice asked = (
+  (omega arith, omega arith),
+  each_map (StartsIn (v.calls.drawn + 1) (v.calls.drawn + 1 + shares asked)) (StartsIn v.calls.drawn (v.calls.drawn + 1 + shares asked))
+      (parts_of v advice asked)
+      (starts_wider (v.calls.drawn + 1) (v.calls.drawn + 1 + shares asked) v.calls.drawn (v.calls.drawn + 1 + shares asked) (omega arith) (omega arith))
+      (parts_in v advice asked),
+)
 
-tries_quiet : (row : Option Pause) → Each IsQuiet (tries_again row)
-tries_quiet None = tt
-tries_quiet (Some p) = (refl, tt)
+-- the end of a call for which no ticket is left
+abbrev pub late : Act
+late = Answers (Call (2 ^ 64 - 1)) (fails Exhausted)
 
-keeps_quiet : (l : ℕ) (row : Option Seat) → Each IsQuiet (keeps_alive l row)
-keeps_quiet l row = each_either IsQuiet (may_ping row) (Comes (ToLink l Pings) ∷ []) [] (refl, tt) tt
-
-idle_quiet : (v : View) (l : ℕ) (seat : Seat) → Each IsQuiet (idle_act v l seat)
-idle_quiet v l seat = each_either IsQuiet (is_idle v l seat) (Comes (ToLink l (Ends Idles)) ∷ []) [] (refl, tt) tt
-
-rung_quiet : (v : View) (a : Alarm) → Each IsQuiet (rung v a)
-rung_quiet v (Retry l) = tries_quiet (v.addresses.pause l)
-rung_quiet v (Wake who) = tt
-rung_quiet v (KeepAlive l) = keeps_quiet l (v.links.live l)
-rung_quiet v CheckIdle = over_each IsQuiet (idle_act v) v.links (idle_quiet v)
-
--- a part of a call begins a plan, or ends the call at once; all others are quiet
-abbrev pub is_call_part : Part → Bool
-is_call_part (Calls asked) = true
-is_call_part _ = false
-
-pub comes_quiet : (v : View) (p : Part) → is_call_part p ≡ false → Each IsQuiet (at_once v (Comes p))
-comes_quiet v (Calls asked) h = absurd cc
-comes_quiet v (ToLink l Reads) h = breaks_quiet l (arrival_at (v.links.live l))
-comes_quiet v (Rings a) h = each_either IsQuiet (rings v.now a v.alarms) (rung v a) [] (rung_quiet v a) tt
-comes_quiet v _ h = tt
+-- a call ends so, or it and its parts start
+pub called_each : (P : Act → Type 0) (v : View) (advice : List (Option ℕ)) (asked : Asked) → (lacks_tickets v.calls.drawn (shares asked) ≡ true → P late) →
+    (lacks_tickets v.calls.drawn (shares asked) ≡ false → (a : Act) → StartsIn v.calls.drawn (v.calls.drawn + 1 + shares asked) a → P a) →
+    Each P (called v advice asked)
+called_each P v advice asked ends begins =
+    each_when P (lacks_tickets v.calls.drawn (shares asked)) (late ∷ []) (starts v advice asked) (λ e. (ends e, tt))
+    (λ e. each_map (StartsIn v.calls.drawn (v.calls.drawn + 1 + shares asked)) P (starts v advice asked) (begins e) (starts_in v advice asked))
 
 -- EVENTS
 
@@ -162,7 +154,7 @@ comes_quiet v _ h = tt
 pub begun_same : {A : Type 0} (field : View → A) (e : Heard) (v : View) → field (begun_live e v) ≡ field v → field (begun e v) ≡ field v
 begun_same field e v is = elim (is_live v e) as (λ b. field (cond b (begun_live e v) v) ≡ field v) [ true ↦ is | false ↦ refl ]
 
-pub chosen_same : (o : Chosen) (log : List Entry) → (view o log).chosen ≡ o
+pub chosen_same : (o : Options) (log : List Entry) → (view o log).chosen ≡ o.chosen
 chosen_same o [] = refl
 chosen_same o (Begins e ∷ log) = begun_same (λ v. v.chosen) e (view o log) refl ∙ chosen_same o log
 chosen_same o (Then a ∷ log) = chosen_same o log

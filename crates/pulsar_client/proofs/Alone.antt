@@ -1,5 +1,5 @@
 -- A link that has not ended is what the calls of its connection made of it; and it is not over.
-use Rattle.std.proofs.Common.{◌≡◌, ◌∙◌, sym, ap, subst, ℕ, List, [], ◌∷◌, ◌++◌, refl, drop, Bool, true, false, cond, ◌==◌, Option, Some, None, inl, inr}
+use Rattle.std.proofs.Common.{◌≡◌, ◌∙◌, sym, ap, subst, ℕ, List, ◌∷◌, ◌++◌, refl, drop, Bool, true, false, cond, ◌==◌, Option, Some, None, inl, inr, []}
 use Rattle.std.proofs.lemmas.Bool.{cases_Bool, eqb-true}
 use Rattle.std.specs.Option.{option_map, option_to_list}
 use Rattle.pulsar_messages.specs.Words.{Words, is_numbered}
@@ -9,7 +9,6 @@ use Rattle.pulsar_session.specs.declared.states.Stage.{Stage}
 use Rattle.pulsar_session.specs.declared.states.Stage.TheVariants.{Handshaking, Ready}
 use Rattle.pulsar_session.specs.Answers.{is}
 use Rattle.pulsar_session.specs.Failures.{Fault}
-use Rattle.pulsar_session.specs.Link as session
 use Rattle.pulsar_session.specs.Link.{Act as Act', Opens, Feeds, Takes, Asks, Drains, Closes, Seen, Setup, answered_to, greeted, is_open, is_over, moved_up, number_for, settled_by, taken_in, ticked}
 use Rattle.pulsar_session.proofs.Still.{asked_of, moving, opening, unless}
 use Rattle.pulsar_client.specs.declared.act.Act.TheVariants.{Comes, Does, Dials}
@@ -23,7 +22,8 @@ use Rattle.pulsar_client.specs.Content.{Heard, Bytes}
 use Rattle.pulsar_client.specs.Laws.{LinksAlone, call_at, calls_of, dialed_with}
 use Rattle.pulsar_client.specs.Links.{call_of, called, closed_by}
 use Rattle.pulsar_client.specs.Run.{Entry, Begins, Then, view}
-use Rattle.pulsar_client.specs.View.{Chosen, Seat, begun_live, dialed, got_at, is_at, is_live, link_got, live_begun, seat_asked, seat_fed, seat_got, setup, took, took_end, took_some}
+use Rattle.pulsar_client.specs.View.{Chosen, Options, Seat, begun_live, dialed, got_at, is_at, is_live, link_got, live_begun, seat_asked, seat_fed, seat_got, setup, took, took_end, took_some}
+use Rattle.pulsar_session.specs.Link as session
 use Rattle.pulsar_client.proofs.Acts.{chosen_same}
 
 pub some_is : {A : Type 0} {x y : A} → Some x ≡ Some y → x ≡ y
@@ -136,7 +136,7 @@ got_on start calls (Some m) now l row k = either (l == m)
 
 -- ALONG A LOG
 
-module _ (o : Chosen) where
+module _ (o : Options) where
   abbrev Alone : List Entry → ℕ → Type 0
   Alone log l = Is (dialed_with o l log) (calls_of o l log) ((view o log).links.live l)
 
@@ -180,12 +180,12 @@ module _ (o : Chosen) where
 
   dialed_by : (log : List Entry) (l : ℕ) (place : Place) (starter : Who) (retries : ℕ) → Alone log l → Alone (Then (Dials place starter retries) ∷ log) l
   dialed_by log l place starter retries p seat h = elim (cases_Bool (l == (view o log).links.started)) [
-    | inl e ↦ rw e (made_fresh o l (view o log).now place seat (this_one e ∙ (rw e at h)))
+    | inl e ↦ rw e (made_fresh o.chosen l (view o log).now place seat (this_one e ∙ (rw e at h)))
     | inr e ↦ rw e (p seat (rw e at h))
   ]
     where
       this_one : (l == (view o log).links.started) ≡ true →
-          Some (dialed o l (view o log).now place) ≡ Some (dialed (view o log).chosen (view o log).links.started (view o log).now place)
+          Some (dialed o.chosen l (view o log).now place) ≡ Some (dialed (view o log).chosen (view o log).links.started (view o log).now place)
       this_one e =
           ap (λ c. Some (dialed c l (view o log).now place)) (sym (chosen_same o log))
           ∙ ap (λ k. Some (dialed (view o log).chosen k (view o log).now place)) (eqb-true l (view o log).links.started e)

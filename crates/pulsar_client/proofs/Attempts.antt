@@ -1,44 +1,33 @@
 -- An attempt begins a series, or follows one that failed: it stands at the head of what its cause gives rise to, and comes right behind it.
-use Rattle.std.proofs.Common.{◌≡◌, ◌⊎◌, inl, inr, ◌∙◌, sym, ap, subst, ℕ, ◌+◌, ◌≤◌, nat_lt, List, [], ◌∷◌, ◌++◌, refl, arith, drop, Bool, true, false, ◌&&◌, ◌==◌, cond, Option, Some, None}
-use Rattle.std.proofs.lemmas.Bool.{cases_Bool}
+use Rattle.std.proofs.Common.{◌≡◌, ◌⊎◌, inl, inr, ◌∙◌, sym, ap, subst, ℕ, ◌+◌, ◌≤◌, nat_lt, List, ◌∷◌, ◌++◌, refl, arith, drop, Bool, true, false, ◌&&◌, ◌==◌, cond, Option, Some, None, []}
 use Rattle.std.proofs.lemmas.Bool.Decides.{nat_tests}
 use Rattle.std.specs.Option.{option_map}
 use Rattle.pulsar_run.specs.Run.{rest, rest_of}
-use Rattle.pulsar_session.specs.Link.{is_spent}
 use Rattle.pulsar_plans.specs.Address.{Place, address_key, is_reachable}
 use Rattle.pulsar_client.specs.declared.act.Act.{Act}
-use Rattle.pulsar_client.specs.declared.act.Act.TheVariants.{Comes, Starts, Told, Does, Dials}
-use Rattle.pulsar_client.specs.declared.act.Action.{Action}
-use Rattle.pulsar_client.specs.declared.act.Action.TheVariants.{Get, StopAll, Rest}
+use Rattle.pulsar_client.specs.declared.act.Act.TheVariants.{Comes, Does, Dials}
+use Rattle.pulsar_client.specs.declared.act.Action.TheVariants.{Get, StopAll}
 use Rattle.pulsar_client.specs.declared.act.Alarm.{Alarm}
-use Rattle.pulsar_client.specs.declared.act.Alarm.TheVariants.{Retry, Wake, KeepAlive, CheckIdle}
-use Rattle.pulsar_client.specs.declared.act.Arrival.{Arrival}
-use Rattle.pulsar_client.specs.declared.act.Arrival.TheVariants.{Bad}
+use Rattle.pulsar_client.specs.declared.act.Alarm.TheVariants.{Retry}
 use Rattle.pulsar_client.specs.declared.act.End.{End}
-use Rattle.pulsar_client.specs.declared.act.End.TheVariants.{Idles}
 use Rattle.pulsar_client.specs.declared.act.LinkAct.{LinkAct}
-use Rattle.pulsar_client.specs.declared.act.LinkAct.TheVariants.{Reads, Pings, Ends}
+use Rattle.pulsar_client.specs.declared.act.LinkAct.TheVariants.{Ends}
 use Rattle.pulsar_client.specs.declared.act.Notice.{Notice}
-use Rattle.pulsar_client.specs.declared.act.Outcome.TheVariants as outcome
 use Rattle.pulsar_client.specs.declared.act.Part.{Part}
-use Rattle.pulsar_client.specs.declared.act.Part.TheVariants.{Calls, ToLink, Rings}
-use Rattle.pulsar_client.specs.declared.act.Verdict.{Verdict}
+use Rattle.pulsar_client.specs.declared.act.Part.TheVariants.{ToLink, Rings}
 use Rattle.pulsar_client.specs.declared.act.Who.{Who}
 use Rattle.pulsar_client.specs.declared.addresses.Pause.{Pause}
 use Rattle.pulsar_client.specs.declared.addresses.Series.{Series}
 use Rattle.pulsar_client.specs.declared.addresses.Series.TheVariants.{Nobody, Runs, Pauses, Serves}
-use Rattle.pulsar_client.specs.declared.plans.plan.Plan.{Plan}
-use Rattle.pulsar_client.specs.declared.plans.plan.Turn.{Turn}
-use Rattle.pulsar_client.specs.declared.plans.plan.Turn.TheVariants.{Stays, Gives}
 use Rattle.pulsar_client.specs.Alarms.{rings}
-use Rattle.pulsar_client.specs.Content.{Asked}
 use Rattle.pulsar_client.specs.Laws.{AttemptsFollow, Begun, Followed, base_of}
 use Rattle.pulsar_client.specs.Links.{Change, IsOver}
-use Rattle.pulsar_client.specs.Plan.{begins}
-use Rattle.pulsar_client.specs.Rules.{at_once, breaks_at, called, does, follows, follows_some, gets_from, idle_act, is_idle, keeps_alive, may_ping, over_links, performs, rung, stop_act, tells, tries_again}
+use Rattle.pulsar_client.specs.Rules.{at_once, gets_from, tells, tries_again}
 use Rattle.pulsar_client.specs.Run.{Entry, Begins, Then, agenda, view}
-use Rattle.pulsar_client.specs.View.{Chosen, Seat, Tickets, Turned, View, arrival_at, is_retryable, pause_after, pause_for, pause_of, pause_on, pause_put, pause_rung, told_some, turned_by}
-use Rattle.pulsar_client.proofs.Acts.{Each, begun_same, chosen_same, each_append, each_drop, each_either, first_case, over_each}
+use Rattle.pulsar_client.specs.View.{Chosen, Options, Seat, Turned, View, is_retryable, pause_after, pause_for, pause_of, pause_on, pause_put, pause_rung, turned_by}
+use Rattle.pulsar_client.specs.declared.act.Outcome.TheVariants as outcome
+use Rattle.pulsar_client.proofs.Acts.{Each, begun_same, chosen_same, each_append, each_drop, each_map, first_case}
+use Rattle.pulsar_client.proofs.Raising.{IsRaised, OfAttempt, may, raises}
 
 -- WHAT IS NO ATTEMPT
 
@@ -49,34 +38,13 @@ is_dial _ = false
 abbrev pub NoDial : Act → Type 0
 NoDial a = is_dial a ≡ false
 
-does_none : (who : Who) (action : Action) → Each NoDial (does who action)
-does_none who Rest = tt
-does_none who _ = (refl, tt)
+-- only one who gets a link, and an alarm for it, give rise to one
+no_dial : (a b : Act) → may OfAttempt a ≡ false → IsRaised a b → NoDial b
+no_dial a (Dials p starter retries) never h = (let f : true ≡ false = sym h ∙ never in absurd cc)
+no_dial a _ never h = refl
 
-follows_none : (who : Who) (t : Turn Plan Verdict) → Each NoDial (follows who t)
-follows_none who (Stays plan action) = does_none who action
-follows_none who (Gives verdict) = (refl, tt)
-
-some_none : (who : Who) (t : Option (Turn Plan Verdict)) → Each NoDial (follows_some who t)
-some_none who None = tt
-some_none who (Some t) = follows_none who t
-
-called_none : (o : Chosen) (c : Tickets) (asked : Asked) → Each NoDial (called o c asked)
-called_none o c asked = elim (cases_Bool (is_spent c.drawn)) [ inl e ↦ rw e (refl, tt) | inr e ↦ rw e (refl, tt) ]
-
-breaks_none : (l : ℕ) (a : Arrival) → Each NoDial (breaks_at l a)
-breaks_none l (Bad cause) = (refl, tt)
-breaks_none l _ = tt
-
-keeps_none : (l : ℕ) (row : Option Seat) → Each NoDial (keeps_alive l row)
-keeps_none l row = each_either NoDial (may_ping row) (Comes (ToLink l Pings) ∷ []) [] (refl, tt) tt
-
-idle_none : (v : View) (l : ℕ) (seat : Seat) → Each NoDial (idle_act v l seat)
-idle_none v l seat = each_either NoDial (is_idle v l seat) (Comes (ToLink l (Ends Idles)) ∷ []) [] (refl, tt) tt
-
-stops_none : (v : View) (who : Who) → Each NoDial (performs v who StopAll)
-stops_none v who =
-    each_append NoDial (over_links stop_act v.links) (tells who outcome.Stopped) (over_each NoDial stop_act v.links (λ l seat. (refl, tt))) (refl, tt)
+none_raised : (v : View) (a : Act) → may OfAttempt a ≡ false → Each NoDial (at_once v a)
+none_raised v a never = each_map (IsRaised a) NoDial (at_once v a) (λ b. no_dial a b never) (raises v a)
 
 -- AT MOST ONE, AT THE HEAD
 
@@ -97,28 +65,23 @@ tries_one : (row : Option Pause) → OneDial (tries_again row)
 tries_one None = tt
 tries_one (Some p) = tt
 
-rung_one : (v : View) (a : Alarm) → OneDial (rung v a)
-rung_one v (Retry l) = tries_one (v.addresses.pause l)
-rung_one v (Wake who) = tt
-rung_one v (KeepAlive l) = each_drop NoDial (keeps_alive l (v.links.live l)) (keeps_none l (v.links.live l))
-rung_one v CheckIdle = each_drop NoDial (over_links (idle_act v) v.links) (over_each NoDial (idle_act v) v.links (idle_none v))
+rings_one : (v : View) (l : ℕ) → OneDial (at_once v (Comes (Rings (Retry l))))
+rings_one v l = one_either (rings v.now (Retry l) v.alarms) (tries_again (v.addresses.pause l)) [] (tries_one (v.addresses.pause l)) tt
 
-performs_one : (v : View) (who : Who) (action : Action) → OneDial (performs v who action)
-performs_one v who (Get p) =
-    one_either (is_reachable p) (gets_from who p (base_of v p).series) (tells who outcome.NotFound) (from_one who p (base_of v p).series) tt
-performs_one v who StopAll = each_drop NoDial (performs v who StopAll) (stops_none v who)
-performs_one v who _ = tt
+gets_one : (v : View) (who : Who) (p : Place) → OneDial (at_once v (Does who (Get p)))
+gets_one v who p = one_either (is_reachable p) (gets_from who p (base_of v p).series) (tells who outcome.NotFound) (from_one who p (base_of v p).series) tt
+
+by_kind : (v : View) (a : Act) (b : Bool) → may OfAttempt a ≡ b → OneDial (at_once v a)
+by_kind v (Comes (Rings (Retry l))) b h = rings_one v l
+by_kind v (Does who (Get p)) b h = gets_one v who p
+by_kind v a false h = each_drop NoDial (at_once v a) (none_raised v a h)
+by_kind v a true h = absurd cc
 
 once_one : (v : View) (a : Act) → OneDial (at_once v a)
-once_one v (Comes (Calls asked)) = each_drop NoDial (called v.chosen v.calls asked) (called_none v.chosen v.calls asked)
-once_one v (Comes (ToLink l Reads)) = each_drop NoDial (breaks_at l (arrival_at (v.links.live l))) (breaks_none l (arrival_at (v.links.live l)))
-once_one v (Comes (Rings a)) = one_either (rings v.now a v.alarms) (rung v a) [] (rung_one v a) tt
-once_one v (Starts who p) = each_drop NoDial (follows who (begins p)) (follows_none who (begins p))
-once_one v (Told n) = each_drop NoDial (at_once v (Told n)) (some_none n.who (told_some (v.stand n.who) n.outcome))
-once_one v (Does who action) = performs_one v who action
-once_one v _ = tt
+once_one v a = by_kind v a (may OfAttempt a) refl
 
-rest_none : (now : List Act) (here : List Notice) (behind : List (List Notice)) (parts : List Part) → OneDial now → Each NoDial (rest_of now here behind parts).now
+rest_none : (now : List Act) (here : List Notice) (behind : List (List Notice)) (parts : List Part) → OneDial now →
+    Each NoDial (rest_of now here behind parts).now
 rest_none (a ∷ now) here behind parts k = k
 rest_none [] (n ∷ here) behind parts k = tt
 rest_none [] [] (cause ∷ behind) parts k = rest_none [] cause behind parts tt
@@ -128,7 +91,7 @@ one_append : (xs ys : List Act) → OneDial xs → Each NoDial ys → OneDial (x
 one_append [] ys p q = each_drop NoDial ys q
 one_append (x ∷ xs) ys p q = each_append NoDial xs ys p q
 
-pub one_now : (o : Chosen) (log : List Entry) → OneDial (agenda o log).now
+pub one_now : (o : Options) (log : List Entry) → OneDial (agenda o log).now
 one_now o [] = tt
 one_now o (Begins e ∷ log) = tt
 one_now o (Then a ∷ log) =
@@ -168,7 +131,8 @@ few_on : (v : View) (k : ℕ) (x : LinkAct) (at : Option Seat) (l : ℕ) (row : 
 few_on v k x None l row q = q
 few_on v k x (Some seat) l row q =
     let t : Turned = turned_by v.chosen v.addresses v.now k x seat in
-    few_put v.chosen.connection.max_retries t.pause t.link l row (few_for v.chosen x t.change seat.address (v.addresses.base (address_key seat.address)).series) q
+    few_put v.chosen.connection.max_retries t.pause t.link l row
+    (few_for v.chosen x t.change seat.address (v.addresses.base (address_key seat.address)).series) q
 
 few_rung : (most : ℕ) (b : Bool) (a : Alarm) (l : ℕ) (row : Option Pause) → FewRetries most row → FewRetries most (pause_rung b a l row)
 few_rung most b (Retry k) l row q = elim (b && (l == k)) as (λ c. FewRetries most (cond c None row)) [ true ↦ tt | false ↦ q ]
@@ -181,17 +145,19 @@ few_after v (Comes (Rings a)) l row q = few_rung v.chosen.connection.max_retries
 few_after v (Does who StopAll) l row q = tt
 few_after v _ l row q = q
 
-pub few_retries : (o : Chosen) (log : List Entry) (l : ℕ) → FewRetries o.connection.max_retries ((view o log).addresses.pause l)
+pub few_retries : (o : Options) (log : List Entry) (l : ℕ) → FewRetries o.chosen.connection.max_retries ((view o log).addresses.pause l)
 few_retries o [] l = tt
 few_retries o (Begins e ∷ log) l =
-    subst (FewRetries o.connection.max_retries) (sym (begun_same (λ v. v.addresses.pause l) e (view o log) refl)) (few_retries o log l)
+    subst (FewRetries o.chosen.connection.max_retries) (sym (begun_same (λ v. v.addresses.pause l) e (view o log) refl)) (few_retries o log l)
 few_retries o (Then a ∷ log) l =
-    subst (λ c. FewRetries c.connection.max_retries ((view o log).addresses.pause l) → FewRetries c.connection.max_retries (pause_after (view o log) a l ((view o log).addresses.pause l)))
+    subst
+    (λ c. FewRetries c.connection.max_retries ((view o log).addresses.pause l) →
+        FewRetries c.connection.max_retries (pause_after (view o log) a l ((view o log).addresses.pause l)))
     (chosen_same o log) (few_after (view o log) a l ((view o log).addresses.pause l)) (few_retries o log l)
 
 -- ITS CAUSE
 
-module _ (o : Chosen) (older : List Entry) (p : Place) (starter : Who) (n : ℕ) where
+module _ (o : Options) (older : List Entry) (p : Place) (starter : Who) (n : ℕ) where
   abbrev v : View
   v = view o older
 
@@ -201,7 +167,8 @@ module _ (o : Chosen) (older : List Entry) (p : Place) (starter : Who) (n : ℕ)
   not_raised : (xs ys : List Act) → Each NoDial xs → xs ≡ Dials p starter n ∷ ys → ⊥
   not_raised xs ys k e = let no : Each NoDial (Dials p starter n ∷ ys) = subst (Each NoDial) e k in let f : true ≡ false = no.0 in cc
 
-  from_begun : (who : Who) (q : Place) (s : Series) (ys : List Act) → is_reachable q ≡ true → (base_of v q).series ≡ s → gets_from who q s ≡ Dials p starter n ∷ ys →
+  from_begun : (who : Who) (q : Place) (s : Series) (ys : List Act) → is_reachable q ≡ true → (base_of v q).series ≡ s →
+      gets_from who q s ≡ Dials p starter n ∷ ys →
       CausedBy (Does who (Get q))
   from_begun who q Nobody ys r e h =
       let a : q ≡ p = cc in
@@ -222,7 +189,7 @@ module _ (o : Chosen) (older : List Entry) (p : Place) (starter : Who) (n : ℕ)
   at_most before most h = grind (arith, nat_tests)
 
   followed : (l : ℕ) (row : Option Pause) (ys : List Act) → rings v.now (Retry l) v.alarms ≡ true → v.addresses.pause l ≡ row →
-      FewRetries o.connection.max_retries row → tries_again row ≡ Dials p starter n ∷ ys → CausedBy (Comes (Rings (Retry l)))
+      FewRetries o.chosen.connection.max_retries row → tries_again row ≡ Dials p starter n ∷ ys → CausedBy (Comes (Rings (Retry l)))
   followed l None ys r e few h = absurd cc
   followed l (Some q) ys r e few h =
       let a : q.address ≡ p = cc in
@@ -235,29 +202,23 @@ module _ (o : Chosen) (older : List Entry) (p : Place) (starter : Who) (n : ℕ)
         r,
         e ∙ (λ i. Some (record { address = a i; starter = b i; retries = q.retries })),
         c,
-        subst (λ m. m ≤ o.connection.max_retries) (sym c) (at_most q.retries o.connection.max_retries few),
+        subst (λ m. m ≤ o.chosen.connection.max_retries) (sym c) (at_most q.retries o.chosen.connection.max_retries few),
       )
 
-  rung_caused : (a : Alarm) (ys : List Act) → rings v.now a v.alarms ≡ true → rung v a ≡ Dials p starter n ∷ ys → CausedBy (Comes (Rings a))
-  rung_caused (Retry l) ys r h = followed l (v.addresses.pause l) ys r refl (few_retries o older l) h
-  rung_caused (Wake who) ys r h = absurd cc
-  rung_caused (KeepAlive l) ys r h = absurd (not_raised (keeps_alive l (v.links.live l)) ys (keeps_none l (v.links.live l)) h)
-  rung_caused CheckIdle ys r h = absurd (not_raised (over_links (idle_act v) v.links) ys (over_each NoDial (idle_act v) v.links (idle_none v)) h)
+  rings_caused : (l : ℕ) (b : Bool) (ys : List Act) → rings v.now (Retry l) v.alarms ≡ b →
+      cond b (tries_again (v.addresses.pause l)) [] ≡ Dials p starter n ∷ ys →
+      CausedBy (Comes (Rings (Retry l)))
+  rings_caused l true ys r h = followed l (v.addresses.pause l) ys r refl (few_retries o older l) h
+  rings_caused l false ys r h = absurd cc
 
-  rings_caused : (a : Alarm) (b : Bool) (ys : List Act) → rings v.now a v.alarms ≡ b → cond b (rung v a) [] ≡ Dials p starter n ∷ ys → CausedBy (Comes (Rings a))
-  rings_caused a true ys r h = rung_caused a ys r h
-  rings_caused a false ys r h = absurd cc
+  kind_caused : (a : Act) (b : Bool) (ys : List Act) → may OfAttempt a ≡ b → at_once v a ≡ Dials p starter n ∷ ys → CausedBy a
+  kind_caused (Comes (Rings (Retry l))) b ys m h = rings_caused l (rings v.now (Retry l) v.alarms) ys refl h
+  kind_caused (Does who (Get q)) b ys m h = begun who q (is_reachable q) ys refl h
+  kind_caused a false ys m h = absurd (not_raised (at_once v a) ys (none_raised v a m) h)
+  kind_caused a true ys m h = absurd cc
 
   once_caused : (a : Act) (ys : List Act) → at_once v a ≡ Dials p starter n ∷ ys → CausedBy a
-  once_caused (Comes (Calls asked)) ys h = absurd (not_raised (called v.chosen v.calls asked) ys (called_none v.chosen v.calls asked) h)
-  once_caused (Comes (ToLink l Reads)) ys h = absurd (not_raised (breaks_at l (arrival_at (v.links.live l))) ys (breaks_none l (arrival_at (v.links.live l))) h)
-  once_caused (Comes (Rings a)) ys h = rings_caused a (rings v.now a v.alarms) ys refl h
-  once_caused (Starts who q) ys h = absurd (not_raised (follows who (begins q)) ys (follows_none who (begins q)) h)
-  once_caused (Told m) ys h = absurd (not_raised (at_once v (Told m)) ys (some_none m.who (told_some (v.stand m.who) m.outcome)) h)
-  once_caused (Does who (Get q)) ys h = begun who q (is_reachable q) ys refl h
-  once_caused (Does who StopAll) ys h = absurd (not_raised (performs v who StopAll) ys (stops_none v who) h)
-  once_caused (Does who _) ys h = absurd cc
-  once_caused _ ys h = absurd cc
+  once_caused a ys h = kind_caused a (may OfAttempt a) ys refl h
 
   head_raised : (a : Act) (xs ys zs : List Act) → xs ≡ at_once v a → Each NoDial ys → xs ++ ys ≡ Dials p starter n ∷ zs → CausedBy a
   head_raised a [] ys zs is k h = absurd (not_raised ys zs k h)

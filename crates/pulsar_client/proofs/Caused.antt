@@ -1,36 +1,31 @@
 -- Whatever one is told has its cause before, in the same step.
-use Rattle.std.proofs.Common.{◌≡◌, ◌⊎◌, inl, inr, ◌∙◌, sym, ap, subst, ℕ, List, [], ◌∷◌, ◌++◌, refl, map, Bool, true, false, cond, Option, Some, None, Result, Ok, Err}
-use Rattle.std.proofs.lemmas.Bool.{cases_Bool}
+use Rattle.std.proofs.Common.{◌≡◌, ◌⊎◌, inl, inr, ◌∙◌, sym, ap, subst, ℕ, List, ◌∷◌, ◌++◌, refl, map, Bool, true, false, cond, Option, Some, None, Result, Ok, Err, []}
 use Rattle.std.specs.List.{filter_map, flat_map}
-use Rattle.std.specs.Option.{option_map}
+use Rattle.std.specs.Option.{option_map, option_to_list}
 use Rattle.pulsar_run.specs.Laws.{Arises, In, InOne, InThisStep}
 use Rattle.pulsar_run.proofs.Arising.{acts_arise_lem}
 use Rattle.pulsar_wire.specs.declared.error.ConnectionError.{ConnectionError}
 use Rattle.pulsar_wire.specs.declared.error.IoKind.{IoKind}
-use Rattle.pulsar_wire.specs.declared.error.IoKind.TheVariants as io_kind
 use Rattle.pulsar_messages.specs.Words.{Words}
 use Rattle.pulsar_session.specs.declared.states.Asked.{Asked as Placed}
-use Rattle.pulsar_session.specs.declared.states.Asked.TheVariants as placed
-use Rattle.pulsar_session.specs.Failures.{Fault}
-use Rattle.pulsar_session.specs.Link as session
-use Rattle.pulsar_session.specs.Link.{Came, came, ends, is_spent}
+use Rattle.pulsar_session.specs.Failures.{Fault, Disconnected, Exhausted}
+use Rattle.pulsar_session.specs.Link.{Came, came, ends}
 use Rattle.pulsar_link.specs.Messages.{read}
 use Rattle.pulsar_client.specs.declared.act.Act.{Act}
-use Rattle.pulsar_client.specs.declared.act.Act.TheVariants.{Comes, Starts, Told, Does, Dials}
+use Rattle.pulsar_client.specs.declared.act.Act.TheVariants.{Comes, Starts, Told, Does}
 use Rattle.pulsar_client.specs.declared.act.Action.{Action}
-use Rattle.pulsar_client.specs.declared.act.Action.TheVariants.{Get, Ask, StopAll, Rest}
+use Rattle.pulsar_client.specs.declared.act.Action.TheVariants.{Get, Ask, StopAll, Rest, Draw, Find, Number, PassTurn, Recall, TakeTurn, Tell, Wait, Remake, Shut}
 use Rattle.pulsar_client.specs.declared.act.Alarm.{Alarm}
 use Rattle.pulsar_client.specs.declared.act.Alarm.TheVariants.{Retry, Wake, KeepAlive, CheckIdle}
 use Rattle.pulsar_client.specs.declared.act.Arrival.{Arrival}
-use Rattle.pulsar_client.specs.declared.act.Arrival.TheVariants.{Readied, Bad}
+use Rattle.pulsar_client.specs.declared.act.Arrival.TheVariants.{Readied}
 use Rattle.pulsar_client.specs.declared.act.End.{End}
 use Rattle.pulsar_client.specs.declared.act.End.TheVariants.{Unopened, Lost, Overdue, Broken, Idles, Stops}
-use Rattle.pulsar_client.specs.declared.act.LinkAct.TheVariants.{Reads, Drains, Pings, Ends}
+use Rattle.pulsar_client.specs.declared.act.LinkAct.TheVariants.{Reads, Drains, Ends}
 use Rattle.pulsar_client.specs.declared.act.Notice.{Notice}
 use Rattle.pulsar_client.specs.declared.act.Outcome.{Outcome}
-use Rattle.pulsar_client.specs.declared.act.Outcome.TheVariants as outcome
 use Rattle.pulsar_client.specs.declared.act.Part.{Part}
-use Rattle.pulsar_client.specs.declared.act.Part.TheVariants.{Calls, ToLink, Rings}
+use Rattle.pulsar_client.specs.declared.act.Part.TheVariants.{ToLink, Rings}
 use Rattle.pulsar_client.specs.declared.act.Verdict.{Verdict}
 use Rattle.pulsar_client.specs.declared.act.Who.{Who}
 use Rattle.pulsar_client.specs.declared.addresses.Pause.{Pause}
@@ -41,24 +36,38 @@ use Rattle.pulsar_client.specs.declared.plans.plan.Turn.{Turn}
 use Rattle.pulsar_client.specs.declared.plans.plan.Turn.TheVariants.{Stays, Gives}
 use Rattle.pulsar_plans.specs.Address.{Place, address_key, is_reachable}
 use Rattle.pulsar_client.specs.Alarms.{rings}
-use Rattle.pulsar_client.specs.Content.{Asked}
-use Rattle.pulsar_client.specs.Laws.{AttemptEnds, Cause, OutcomesAreCaused, LineEnds, RequestEnds, base_of}
-use Rattle.pulsar_client.specs.Links as links
+use Rattle.pulsar_client.specs.Laws.{AttemptEnds, Cause, OutcomesAreCaused, LineEnds, RequestEnds, base_of, IsToldBy, GrantsSo}
 use Rattle.pulsar_client.specs.Links.{arrival, change_at, change_in, closed_by, line_places, new_places, times_out}
-use Rattle.pulsar_client.specs.Plan.{begins}
-use Rattle.pulsar_client.specs.Rules.{alone, answered_by, answered_on, at_once, breaks_at, called, caused, causes, does, dropped, ended_by, ended_on, failed, failed_by, failed_on, failed_over, failed_so, fails_so, follows, follows_some, further, gets_from, idle_act, is_idle, keeps_alive, lost, lost_so, lost_with, may_ping, moved_on, notice, opens, over_links, parts, rung, served_by, served_on, stop_act, stopped_at, stopped_with, tells, tells_asker, told_at, tries_again, waiters_of, woken}
-use Rattle.pulsar_client.specs.Run.{Entry, Begins, Then, rules, view}
-use Rattle.pulsar_client.specs.View.{Addresses, Chosen, Seat, Tickets, View, answer_at, arrival_at, pause_for, pause_of, told_some, turned_by}
+use Rattle.pulsar_client.specs.Plan.{told, begins}
+use Rattle.pulsar_client.specs.Rules.{alone, answered_by, answered_on, at_once, caused, causes, dropped, ended_by, ended_on, failed, failed_by, failed_on, failed_over, failed_so, fails_so, follows, follows_some, further, gets_from, lost, lost_so, lost_with, moved_on, notice, opens, over_links, parts, served_by, served_on, stop_act, stopped_at, stopped_with, tells, tells_asker, told_at, waiters_of, woken, draw_outcome, draw_said, finds, grants, joins, number_said, recalls, stopped_one, takes_turn, turn_notice}
+use Rattle.pulsar_client.specs.Run.{Entry, Begins, Then, rules, view, IsRun}
+use Rattle.pulsar_client.specs.View.{Addresses, Options, Seat, View, answer_at, pause_for, pause_of, told_some, turned_by, room_of}
 use Rattle.pulsar_client.specs.Who.{is_same}
-use Rattle.pulsar_client.proofs.Acts.{Each, chosen_same, each_either, over_each}
+use Rattle.pulsar_client.specs.declared.act.Who.TheVariants.{Call}
+use Rattle.pulsar_plans.specs.declared.making.Command.{Command}
+use Rattle.pulsar_producer.specs.declared.deed.Drawn.{Drawn}
+use Rattle.pulsar_client.specs.declared.act.Procedure.{Procedure}
+use Rattle.pulsar_client.specs.declared.producers.Topic.{Topic}
+use Rattle.pulsar_client.specs.Producers.{drawn, link_at, number_drawn, recalled, turn_passed, turn_taken, waiting, waiting_at}
+use Rattle.pulsar_wire.specs.declared.error.IoKind.TheVariants as io_kind
+use Rattle.pulsar_session.specs.declared.states.Asked.TheVariants as placed
+use Rattle.pulsar_session.specs.Link as session
+use Rattle.pulsar_client.specs.declared.act.Outcome.TheVariants as outcome
+use Rattle.pulsar_client.specs.Links as links
+use Rattle.pulsar_client.specs.declared.act.Procedure.TheVariants as procedure
+use Rattle.pulsar_producer.specs.declared.deed.News.TheVariants as news
+use Rattle.pulsar_client.proofs.Acts.{Each, chosen_same, over_each}
+use Rattle.pulsar_client.proofs.Raising.{IsRaised, may, raises, OfDeed, OfNotice}
+use Rattle.pulsar_client.proofs.Fitting.{begins_fits, is_said, is_stop, says_so, spot, told_fits, Fits}
 
 -- LISTS
 
-step_map : (P Q : Entry → List Entry → Type 0) → ((e : Entry) (older : List Entry) → P e older → Q e older) → (log : List Entry) → InThisStep P log → InThisStep Q log
-step_map P Q f [] h = absurd h
-step_map P Q f (Begins e ∷ log) h = f (Begins e) log h
-step_map P Q f (Then a ∷ log) (inl h) = inl (f (Then a) log h)
-step_map P Q f (Then a ∷ log) (inr h) = inr (step_map P Q f log h)
+step_map : (o : Options) (P Q : Entry → List Entry → Type 0) → ((e : Entry) (older : List Entry) → IsRun o (e ∷ older) → P e older → Q e older) →
+    (log : List Entry) → IsRun o log → InThisStep P log → InThisStep Q log
+step_map o P Q f [] run h = absurd h
+step_map o P Q f (Begins e ∷ log) run h = f (Begins e) log run h
+step_map o P Q f (Then a ∷ log) run (inl h) = inl (f (Then a) log run h)
+step_map o P Q f (Then a ∷ log) run (inr h) = inr (step_map o P Q f log run.0 h)
 
 in_append : {A : Type 0} (x : A) (xs ys : List A) → In x (xs ++ ys) → In x xs ⊎ In x ys
 in_append x [] ys h = inr h
@@ -69,6 +78,16 @@ in_append x (y ∷ xs) ys (inr h) = elim (in_append x xs ys h) [ inl i ↦ inl (
 in_flat : {A B : Type 0} (f : A → List B) (y : B) (xs : List A) → In y (flat_map f xs) → (x : A) × In y (f x)
 in_flat f y [] h = absurd h
 in_flat f y (x ∷ xs) h = elim (in_append y (f x) (flat_map f xs) h) [ inl i ↦ (x, i) | inr i ↦ in_flat f y xs i ]
+
+in_each : {A : Type 0} (P : A → Type 0) (x : A) (xs : List A) → In x xs → Each P xs → P x
+in_each P x [] i k = absurd i
+in_each P x (y ∷ xs) (inl e) k = subst P (sym e) k.0
+in_each P x (y ∷ xs) (inr i) k = in_each P x xs i k.1
+
+in_map : {A : Type 0} (f : A → Notice) (n : Notice) (xs : List A) → In n (map f xs) → (x : A) × In x xs × (n ≡ f x)
+in_map f n [] h = absurd h
+in_map f n (x ∷ xs) (inl e) = (x, inl refl, e)
+in_map f n (x ∷ xs) (inr h) = let k = in_map f n xs h in (k.0, inr k.1, k.2)
 
 -- what is told is a notice of the list
 in_told : (n : Notice) (ns : List Notice) → In (Told n) (map Told ns) → In n ns
@@ -95,14 +114,16 @@ record IsAsker (says : ℕ → Outcome) (askers : ℕ → Option Who) (places : 
   asker : askers place ≡ Some n.who
   told : n.outcome ≡ says place
 
-in_askers : (says : ℕ → Outcome) (askers : ℕ → Option Who) (places : List ℕ) (n : Notice) → In n (filter_map (tells_asker says askers) places) → IsAsker says askers places n
+in_askers : (says : ℕ → Outcome) (askers : ℕ → Option Who) (places : List ℕ) (n : Notice) → In n (filter_map (tells_asker says askers) places) →
+    IsAsker says askers places n
 in_askers says askers [] n h = absurd h
 in_askers says askers (p ∷ ps) n h = one (askers p) refl (in_askers says askers ps n) h
   where
     later : IsAsker says askers ps n → IsAsker says askers (p ∷ ps) n
     later k = record { place = k.place; listed = inr k.listed; asker = k.asker; told = k.told }
 
-    one : (r : Option Who) → askers p ≡ r → (In n (filter_map (tells_asker says askers) ps) → IsAsker says askers ps n) → In n (filter_map (tells_asker says askers) (p ∷ ps)) →
+    one : (r : Option Who) → askers p ≡ r → (In n (filter_map (tells_asker says askers) ps) → IsAsker says askers ps n) →
+        In n (filter_map (tells_asker says askers) (p ∷ ps)) →
         IsAsker says askers (p ∷ ps) n
     one None e more h = later (more (rw e at h))
     one (Some w) e more h = split (rw e at h)
@@ -111,64 +132,88 @@ in_askers says askers (p ∷ ps) n h = one (askers p) refl (in_askers says asker
         split (inl f) = record { place = p; listed = inl refl; asker = e ∙ ap Some (sym (ap (λ m. m.who) f)); told = ap (λ m. m.outcome) f }
         split (inr i) = later (more i)
 
--- WHAT TELLS NOBODY
+-- WHO IS TOLD AT ONCE
 
-abbrev is_told : Act → Bool
-is_told (Told n) = true
-is_told _ = false
+-- only an action tells at once
+none_told : (v : View) (a : Act) (n : Notice) → may OfNotice a ≡ false → In (Told n) (at_once v a) → ⊥
+none_told v a n never h =
+    (let told : may OfNotice a ≡ true = in_each (IsRaised a) (Told n) (at_once v a) h (raises v a) in let f : true ≡ false = sym told ∙ never in absurd cc)
 
-abbrev IsMute : Act → Type 0
-IsMute a = is_told a ≡ false
+-- what comes of a link is no notice
+mute_told : (n : Notice) (ps : List Part) → In (Told n) (map Comes ps) → ⊥
+mute_told n [] h = h
+mute_told n (p ∷ ps) (inl e) = absurd cc
+mute_told n (p ∷ ps) (inr h) = mute_told n ps h
 
-none_told : (n : Notice) (xs : List Act) → Each IsMute xs → In (Told n) xs → ⊥
-none_told n [] k h = h
-none_told n (x ∷ xs) k (inl e) = let f : true ≡ false = ap is_told e ∙ k.0 in absurd cc
-none_told n (x ∷ xs) k (inr h) = none_told n xs k.1 h
+-- WHAT ONE TELLS ANOTHER
 
-comes_mute : (ps : List Part) → Each IsMute (map Comes ps)
-comes_mute [] = tt
-comes_mute (p ∷ ps) = (refl, comes_mute ps)
+-- whatever a plan tells is what a part of a call says
+abbrev SaysSo : Act → Type 0
+SaysSo (Does who (Tell n)) = is_said n.outcome ≡ true
+SaysSo a = Unit {0}
 
-called_mute : (o : Chosen) (c : Tickets) (asked : Asked) → Each IsMute (called o c asked)
-called_mute o c asked = elim (cases_Bool (is_spent c.drawn)) [ inl e ↦ rw e (refl, tt) | inr e ↦ rw e (refl, tt) ]
+turn_says : (who : Who) (turn : Turn Plan Verdict) → Fits turn → Each SaysSo (follows who turn)
+turn_says who (Gives verdict) h = (tt, tt)
+turn_says who (Stays plan (Tell n)) h = (says_so (spot plan) n h, tt)
+turn_says who (Stays plan Rest) h = tt
+turn_says who (Stays plan action) h = (tt, tt)
 
-does_mute : (who : Who) (action : Action) → Each IsMute (does who action)
-does_mute who Rest = tt
-does_mute who _ = (refl, tt)
+begins_says : (who : Who) (p : Procedure) (b : Bool) → is_stop p ≡ b → Each SaysSo (follows who (begins p))
+begins_says who p false h = turn_says who (begins p) (begins_fits p h)
+begins_says who procedure.Stop true h = (tt, tt)
+begins_says who p true h = absurd cc
 
-follows_mute : (who : Who) (t : Turn Plan Verdict) → Each IsMute (follows who t)
-follows_mute who (Stays plan action) = does_mute who action
-follows_mute who (Gives verdict) = (refl, tt)
+some_says : (who : Who) (row : Option Plan) (u : Outcome) → Each SaysSo (follows_some who (told_some row u))
+some_says who None u = tt
+some_says who (Some plan) u = turn_says who (told plan u) (told_fits plan u)
 
-some_mute : (who : Who) (t : Option (Turn Plan Verdict)) → Each IsMute (follows_some who t)
-some_mute who None = tt
-some_mute who (Some t) = follows_mute who t
+-- only plans act
+no_deed : (v : View) (a : Act) → may OfDeed a ≡ false → (w : Who) (action : Action) → In (Does w action) (at_once v a) → ⊥
+no_deed v a never w action h =
+    (let did : may OfDeed a ≡ true = in_each (IsRaised a) (Does w action) (at_once v a) h (raises v a) in let f : true ≡ false = sym did ∙ never in absurd cc)
 
-breaks_mute : (l : ℕ) (a : Arrival) → Each IsMute (breaks_at l a)
-breaks_mute l (Bad cause) = (refl, tt)
-breaks_mute l _ = tt
+mute_did : (w : Who) (action : Action) (ps : List Part) → In (Does w action) (map Comes ps) → ⊥
+mute_did w action [] h = h
+mute_did w action (p ∷ ps) (inl e) = absurd cc
+mute_did w action (p ∷ ps) (inr h) = mute_did w action ps h
 
-tries_mute : (row : Option Pause) → Each IsMute (tries_again row)
-tries_mute None = tt
-tries_mute (Some p) = (refl, tt)
+told_did : (w : Who) (action : Action) (ns : List Notice) → In (Does w action) (map Told ns) → ⊥
+told_did w action [] h = h
+told_did w action (n ∷ ns) (inl e) = absurd cc
+told_did w action (n ∷ ns) (inr h) = told_did w action ns h
 
-keeps_mute : (l : ℕ) (row : Option Seat) → Each IsMute (keeps_alive l row)
-keeps_mute l row = each_either IsMute (may_ping row) (Comes (ToLink l Pings) ∷ []) [] (refl, tt) tt
+one_did : (w : Who) (action : Action) (nss : List (List Notice)) → InOne (Does w action) (map (map Told) nss) → ⊥
+one_did w action [] h = h
+one_did w action (ns ∷ nss) (inl h) = told_did w action ns h
+one_did w action (ns ∷ nss) (inr h) = one_did w action nss h
 
-idle_mute : (v : View) (l : ℕ) (seat : Seat) → Each IsMute (idle_act v l seat)
-idle_mute v l seat = each_either IsMute (is_idle v l seat) (Comes (ToLink l (Ends Idles)) ∷ []) [] (refl, tt) tt
+once_says : (v : View) (a : Act) (w : Who) (n : Notice) → In (Does w (Tell n)) (at_once v a) → is_said n.outcome ≡ true
+once_says v (Starts who p) w n h = in_each SaysSo (Does w (Tell n)) (follows who (begins p)) h (begins_says who p (is_stop p) refl)
+once_says v (Told m) w n h = in_each SaysSo (Does w (Tell n)) (at_once v (Told m)) h (some_says m.who (v.stand m.who) m.outcome)
+once_says v a w n h = absurd (no_deed v a refl w (Tell n) h)
 
-rung_mute : (v : View) (a : Alarm) → Each IsMute (rung v a)
-rung_mute v (Retry l) = tries_mute (v.addresses.pause l)
-rung_mute v (Wake who) = tt
-rung_mute v (KeepAlive l) = keeps_mute l (v.links.live l)
-rung_mute v CheckIdle = over_each IsMute (idle_act v) v.links (idle_mute v)
+arises_says : (o : Options) (w : Who) (n : Notice) (e : Entry) (older : List Entry) → Arises rules o (Does w (Tell n)) e older → is_said n.outcome ≡ true
+arises_says o w n (Begins e) older h = absurd (mute_did w (Tell n) (parts o (view o older) e) h)
+arises_says o w n (Then b) older (inl h) = once_says (view o older) b w n h
+arises_says o w n (Then b) older (inr (inl h)) = absurd (told_did w (Tell n) (joins (view o older) b) h)
+arises_says o w n (Then b) older (inr (inr (inl h))) = absurd (one_did w (Tell n) (causes (view o older) b) h)
+arises_says o w n (Then b) older (inr (inr (inr h))) = absurd (mute_did w (Tell n) (further (view o older) b) h)
 
-comes_once_mute : (v : View) (p : Part) → Each IsMute (at_once v (Comes p))
-comes_once_mute v (Calls asked) = called_mute v.chosen v.calls asked
-comes_once_mute v (ToLink l Reads) = breaks_mute l (arrival_at (v.links.live l))
-comes_once_mute v (Rings a) = each_either IsMute (rings v.now a v.alarms) (rung v a) [] (rung_mute v a) tt
-comes_once_mute v _ = tt
+step_says : (A : Type 0) (P : Entry → List Entry → Type 0) → ((e : Entry) (older : List Entry) → P e older → A) → (log : List Entry) → InThisStep P log → A
+step_says A P f [] h = absurd h
+step_says A P f (Begins e ∷ log) h = f (Begins e) log h
+step_says A P f (Then a ∷ log) (inl h) = f (Then a) log h
+step_says A P f (Then a ∷ log) (inr h) = step_says A P f log h
+
+run_says : (o : Options) (w : Who) (n : Notice) (log : List Entry) → IsRun o (Then (Does w (Tell n)) ∷ log) → is_said n.outcome ≡ true
+run_says o w n log run =
+    step_says (is_said n.outcome ≡ true) (Arises rules o (Does w (Tell n))) (arises_says o w n) log
+    (acts_arise_lem _ _ _ _ _ _ _ rules o (Does w (Tell n)) log run)
+
+said_caused : (o : Options) (who : Who) (u : Outcome) (e : Entry) (older : List Entry) → is_said u ≡ true → IsToldBy who u e older → Cause o who u e older
+said_caused o who (outcome.Parted ticket f) e older h k = k
+said_caused o who outcome.Stopped e older h k = inr (inr (inr k))
+said_caused o who u e older h k = absurd cc
 
 -- WHAT THE STOP TELLS
 
@@ -202,7 +247,7 @@ loss_with (Overdue below) b = loss_so b
 loss_with Stops b = inr (inr refl)
 loss_with _ b = inr (inl refl)
 
-module _ (o : Chosen) (who : Who) (u : Outcome) (older : List Entry) where
+module _ (o : Options) (who : Who) (u : Outcome) (older : List Entry) where
   abbrev it : Notice
   it = record { who = who; outcome = u }
 
@@ -224,7 +269,8 @@ module _ (o : Chosen) (who : Who) (u : Outcome) (older : List Entry) where
 
   from_caused : (w : Who) (p : Place) (s : Series) → is_reachable p ≡ true → (base_of v p).series ≡ s → In (Told it) (gets_from w p s) →
       Cause o who u (Then (Does w (Get p))) older
-  from_caused w p Nobody r q h = absurd (none_told it (Dials p w 0 ∷ []) (refl, tt) h)
+  from_caused w p Nobody r q (inl e) = absurd cc
+  from_caused w p Nobody r q (inr h) = absurd h
   from_caused w p (Runs starter retries l) r q h = absurd h
   from_caused w p (Pauses l) r q h = absurd h
   from_caused w p (Serves l) r q h =
@@ -242,23 +288,115 @@ module _ (o : Chosen) (who : Who) (u : Outcome) (older : List Entry) where
   asks_so w l request (Ok (placed.Waiting place)) c a b =
       named (Then (Does w (Ask l request))) outcome.InLine b (l, request, did w (Ask l request) a, (place, c))
   asks_so w l request (Err x) c a b =
-      named (Then (Does w (Ask l request))) (told_at (Err x)) b (l, request, did w (Ask l request) a, (x, c, refl))
+      named (Then (Does w (Ask l request))) (told_at (Err x)) b (inl (l, request, did w (Ask l request) a, (x, c, refl)))
+
+  abbrev IsOther : Act → Type 0
+  IsOther a = Told it ≡ a → ⊥
 
   stops_caused : (w : Who) → In (Told it) (over_links stop_act v.links ++ tells w outcome.Stopped) → Cause o who u (Then (Does w StopAll)) older
   stops_caused w h = elim (in_append (Told it) (over_links stop_act v.links) (tells w outcome.Stopped) h) [
-    | inl i ↦ absurd (none_told it (over_links stop_act v.links) (over_each IsMute stop_act v.links (λ l seat. (refl, tt))) i)
+    | inl i ↦ absurd (in_each IsOther (Told it) (over_links stop_act v.links) i (over_each IsOther stop_act v.links (λ l seat. ((λ e. absurd cc), tt))) refl)
     | inr i ↦ (let k = told_is w outcome.Stopped i in named (Then (Does w StopAll)) outcome.Stopped k.1 (inl (w, refl, inl k.0)))
   ]
 
+  -- WHAT ONE ASKS OF A TOPIC PRODUCER, or of their numbers
+
+  takes_some : (w : Who) (n : ℕ) (t : Topic) (r : Option (Option (List ℕ))) → turn_taken (v.producers.topics n) ≡ r →
+      In (Told it) (flat_map (λ version. grants w (news.HasTurn version)) (option_to_list r)) → Cause o who u (Then (Does w (TakeTurn n))) older
+  takes_some w n t None e h = absurd h
+  takes_some w n t (Some version) e h =
+      let k = told_is w (outcome.Granted (news.HasTurn version)) h in
+      named (Then (Does w (TakeTurn n))) (outcome.Granted (news.HasTurn version)) k.1 (inl (TakeTurn n, did w (TakeTurn n) k.0, e))
+
+  takes_caused : (w : Who) (n : ℕ) (row : Option Topic) → v.producers.topics n ≡ row → In (Told it) (takes_turn w row) →
+      Cause o who u (Then (Does w (TakeTurn n))) older
+  takes_caused w n None e h =
+      let k = told_is w outcome.Disconnected h in
+      named (Then (Does w (TakeTurn n))) outcome.Disconnected k.1 (inr (inr (TakeTurn n, did w (TakeTurn n) k.0, e)))
+  takes_caused w n (Some t) e h = takes_some w n t (turn_taken (Some t)) (ap turn_taken e) h
+
+  draws_caused : (w : Who) (n : ℕ) (room : Option Bool) → room_of v n ≡ room → In (Told it) (tells w (draw_outcome room (v.producers.topics n))) →
+      Cause o who u (Then (Does w (Draw n))) older
+  draws_caused w n None e h =
+      let k = told_is w (outcome.Refused Disconnected) h in
+      named (Then (Does w (Draw n))) (outcome.Refused Disconnected) k.1 (inr (Draw n, did w (Draw n) k.0, e))
+  draws_caused w n (Some room) e h = by (drawn room (v.producers.topics n)) refl h
+    where
+      by : (d : Option Drawn) → drawn room (v.producers.topics n) ≡ d → In (Told it) (tells w (draw_said d)) → Cause o who u (Then (Does w (Draw n))) older
+      by None f i =
+          let k = told_is w (outcome.Refused Exhausted) i in
+          named (Then (Does w (Draw n))) (outcome.Refused Exhausted) k.1 (inr (Draw n, did w (Draw n) k.0, (room, e, f)))
+      by (Some d) f i =
+          let k = told_is w (outcome.Granted (news.Drew d)) i in
+          named (Then (Does w (Draw n))) (outcome.Granted (news.Drew d)) k.1 (inl (Draw n, did w (Draw n) k.0, (room, e, f)))
+
+  recalls_caused : (w : Who) (n : ℕ) (row : Option Command) → recalled v.producers n ≡ row → In (Told it) (recalls w row) →
+      Cause o who u (Then (Does w (Recall n))) older
+  recalls_caused w n None e h =
+      let k = told_is w outcome.Disconnected h in named (Then (Does w (Recall n))) outcome.Disconnected k.1 (inr (inr (Recall n, did w (Recall n) k.0, e)))
+  recalls_caused w n (Some c) e h =
+      let k = told_is w (outcome.Granted (news.Recalled c)) h in
+      named (Then (Does w (Recall n))) (outcome.Granted (news.Recalled c)) k.1 (inl (Recall n, did w (Recall n) k.0, e))
+
+  numbers_caused : (w : Who) (row : Option ℕ) → number_drawn v.producers ≡ row → In (Told it) (tells w (number_said row)) →
+      Cause o who u (Then (Does w Number)) older
+  numbers_caused w None e h =
+      let k = told_is w (outcome.Refused Exhausted) h in named (Then (Does w Number)) (outcome.Refused Exhausted) k.1 (inr (Number, did w Number k.0, e))
+  numbers_caused w (Some n) e h =
+      let k = told_is w (outcome.Granted (news.Numbered n)) h in
+      named (Then (Does w Number)) (outcome.Granted (news.Numbered n)) k.1 (inl (Number, did w Number k.0, e))
+
+  finds_caused : (w : Who) (n : ℕ) (row : Option Topic) → v.producers.topics n ≡ row → In (Told it) (finds w (link_at row)) →
+      Cause o who u (Then (Does w (Find n))) older
+  finds_caused w n None e h =
+      let k = told_is w outcome.Disconnected h in named (Then (Does w (Find n))) outcome.Disconnected k.1 (inr (inr (Find n, did w (Find n) k.0, e)))
+  finds_caused w n (Some t) e h =
+      let k = told_is w (outcome.GotLink t.seen.link) h in
+      named (Then (Does w (Find n))) (outcome.GotLink t.seen.link) k.1 (inr (inr (Find n, did w (Find n) k.0, ap link_at e)))
+
+  done_caused : (w : Who) (action : Action) → GrantsSo news.Done action v → In (Told it) (grants w news.Done) → Cause o who u (Then (Does w action)) older
+  done_caused w action is h =
+      let k = told_is w (outcome.Granted news.Done) h in named (Then (Does w action)) (outcome.Granted news.Done) k.1 (inl (action, did w action k.0, is))
+
   once_caused : (b : Act) → In (Told it) (at_once v b) → Cause o who u (Then b) older
-  once_caused (Comes p) h = absurd (none_told it (at_once v (Comes p)) (comes_once_mute v p) h)
-  once_caused (Starts w p) h = absurd (none_told it (follows w (begins p)) (follows_mute w (begins p)) h)
-  once_caused (Told n) h = absurd (none_told it (at_once v (Told n)) (some_mute n.who (told_some (v.stand n.who) n.outcome)) h)
   once_caused (Does w (Get p)) h = gets_caused w p (is_reachable p) refl h
   once_caused (Does w (Ask l request)) h =
       let k = told_is w (told_at (answer_at v.now request (v.links.live l))) h in asks_so w l request (answer_at v.now request (v.links.live l)) refl k.0 k.1
   once_caused (Does w StopAll) h = stops_caused w h
-  once_caused _ h = absurd h
+  once_caused (Does w (TakeTurn n)) h = takes_caused w n (v.producers.topics n) refl h
+  once_caused (Does w (PassTurn n)) h = done_caused w (PassTurn n) tt h
+  once_caused (Does w (Draw n)) h = draws_caused w n (room_of v n) refl h
+  once_caused (Does w (Recall n)) h = recalls_caused w n (recalled v.producers n) refl h
+  once_caused (Does w (Remake r)) h = done_caused w (Remake r) tt h
+  once_caused (Does w Number) h = numbers_caused w (number_drawn v.producers) refl h
+  once_caused (Does w (Find n)) h = finds_caused w n (v.producers.topics n) refl h
+  once_caused (Does w (Shut t)) h = done_caused w (Shut t) tt h
+  once_caused (Does w (Tell n)) h = done_caused w (Tell n) tt h
+  once_caused (Does w (Wait delay)) h = absurd h
+  once_caused (Does w Rest) h = absurd h
+  once_caused b h = absurd (none_told v b it refl h)
+
+  -- ONE JOINS
+
+  passed_caused : (w : Who) (n : ℕ) (row : Option (ℕ × Option (List ℕ))) → turn_passed (v.producers.topics n) ≡ row →
+      In it (option_to_list (option_map turn_notice row)) → Cause o who u (Then (Does w (PassTurn n))) older
+  passed_caused w n None e h = absurd h
+  passed_caused w n (Some next) e (inr h) = absurd h
+  passed_caused w n (Some next) e (inl is) =
+      let a : who ≡ Call next.0 = ap (λ m. m.who) is in
+      let b : u ≡ outcome.Granted (news.HasTurn next.1) = ap (λ m. m.outcome) is in
+      named (Then (Does w (PassTurn n))) (outcome.Granted (news.HasTurn next.1)) b
+      (inr (w, n, next.0, next.1, refl, a, refl, e))
+
+  tells_caused : (w : Who) (n : Notice) → is_said n.outcome ≡ true → In it (n ∷ []) → Cause o who u (Then (Does w (Tell n))) older
+  tells_caused w n said (inr h) = absurd h
+  tells_caused w n said (inl is) =
+      said_caused o who u (Then (Does w (Tell n))) older (ap (λ m. is_said m.outcome) is ∙ said) (w, ap (λ m. Then (Does w (Tell m))) (sym is))
+
+  joins_caused : (b : Act) → IsRun o (Then b ∷ older) → In it (joins v b) → Cause o who u (Then b) older
+  joins_caused (Does w (PassTurn n)) run h = passed_caused w n (turn_passed (v.producers.topics n)) refl h
+  joins_caused (Does w (Tell n)) run h = tells_caused w n (run_says o w n older run) h
+  joins_caused b run h = absurd h
 
   -- A MOMENT COMES, AND THE CLIENT IS STOPPED
 
@@ -280,11 +418,20 @@ module _ (o : Chosen) (who : Who) (u : Outcome) (older : List Entry) where
   abbrev stopped_all : List Notice
   stopped_all = flat_map (λ e. stopped_with v.addresses e.0) v.alarms
 
-  all_stopped : (w : Who) → In it stopped_all → Cause o who u (Then (Does w StopAll)) older
-  all_stopped w h =
-      let a = in_flat (λ e. stopped_with v.addresses e.0) it v.alarms h in
-      let is : u ≡ outcome.Stopped = stopped_by it v.addresses a.0.0 a.1 in
-      named (Then (Does w StopAll)) outcome.Stopped is (inl (w, refl, inr (subst (λ y. In (notice who y) stopped_all) is h)))
+  abbrev waiting_all : List Notice
+  waiting_all = map stopped_one (waiting v.producers)
+
+  all_stopped : (w : Who) → In it (stopped_all ++ waiting_all) → Cause o who u (Then (Does w StopAll)) older
+  all_stopped w h = elim (in_append it stopped_all waiting_all h) [
+    | inl i ↦
+        (let a = in_flat (λ e. stopped_with v.addresses e.0) it v.alarms i in
+        let is : u ≡ outcome.Stopped = stopped_by it v.addresses a.0.0 a.1 in
+        named (Then (Does w StopAll)) outcome.Stopped is (inl (w, refl, inr (inl (subst (λ y. In (notice who y) stopped_all) is i)))))
+    | inr i ↦
+        (let k = in_map stopped_one it (waiting v.producers) i in
+        let at = in_flat (λ n. waiting_at (v.producers.topics n)) k.0 v.producers.numbers k.1 in
+        named (Then (Does w StopAll)) outcome.Stopped (ap (λ m. m.outcome) k.2) (inl (w, refl, inr (inr (at.0, k.0, ap (λ m. m.who) k.2, at.1)))))
+  ]
 
   module _ (l : ℕ) where
     -- A FRAME IS READ
@@ -310,7 +457,7 @@ module _ (o : Chosen) (who : Who) (u : Outcome) (older : List Entry) where
     served_caused : (seat : Seat) (a : Arrival) → v.links.live l ≡ Some seat → arrival seat.seen ≡ a →
         In it (served_by l (change_in a) (base_of v seat.address).waiting) → Cause o who u reads older
     served_caused seat Readied e c h =
-        let k = ready_in (base_of v seat.address).waiting h in named reads (outcome.GotLink l) k.1 (inr (seat, refl, e, c, k.0))
+        let k = ready_in (base_of v seat.address).waiting h in named reads (outcome.GotLink l) k.1 (inr (inl (seat, refl, e, c, k.0)))
     served_caused seat _ e c h = absurd h
 
     waited_caused : (row : Option Seat) → v.links.live l ≡ row →
@@ -329,7 +476,8 @@ module _ (o : Chosen) (who : Who) (u : Outcome) (older : List Entry) where
 
     -- FRAMES MOVE UP
 
-    moved_caused : (most : ℕ) (row : Option Seat) → v.links.live l ≡ row → In it (moved_on most v.now row) → Cause o who u (Then (Comes (ToLink l (Drains most)))) older
+    moved_caused : (most : ℕ) (row : Option Seat) → v.links.live l ≡ row → In it (moved_on most v.now row) →
+        Cause o who u (Then (Comes (ToLink l (Drains most)))) older
     moved_caused most None a h = absurd h
     moved_caused most (Some seat) a h =
         let k = in_askers (λ place. outcome.Queued) seat.askers (new_places seat.seen (links.after (Drains most) v.now seat.seen)) it h in
@@ -366,7 +514,7 @@ module _ (o : Chosen) (who : Who) (u : Outcome) (older : List Entry) where
             let b : who ≡ w = ap (λ n. n.who) e in (inl b, ap (λ n. n.outcome) e ∙ ap (λ y. fails_so end (is_same y starter)) (sym b))
         failed_in starter (w ∷ ws) (inr h) = let k = failed_in starter ws h in (inr k.0, k.1)
 
-        attempt_ends : (s : Series) → (base_of v seat.address).series ≡ s → (pause : Option Pause) → pause_of o end seat.address s ≡ pause →
+        attempt_ends : (s : Series) → (base_of v seat.address).series ≡ s → (pause : Option Pause) → pause_of o.chosen end seat.address s ≡ pause →
             In it (failed_over end pause (record { series = s; waiting = (base_of v seat.address).waiting })) →
             AttemptEnds o who u ends_there older × (b : Bool) × (u ≡ fails_so end b)
         attempt_ends s q (Some p) n h = absurd h
@@ -382,7 +530,8 @@ module _ (o : Chosen) (who : Who) (u : Outcome) (older : List Entry) where
     dropped_caused : (end : End) (cause : Fault) (seat : Seat) → v.links.live l ≡ Some seat → closed_by end v.now seat.seen ≡ Some cause →
         IsAsker (λ place. dropped end) seat.askers (line_places seat.seen) it → Cause o who u (Then (Comes (ToLink l (Ends end)))) older
     dropped_caused Stops cause seat a c k = named (ends_there Stops) outcome.Stopped k.told (inr (inl (line_ends Stops cause seat a c outcome.Stopped refl k)))
-    dropped_caused end cause seat a c k = named (ends_there end) outcome.Disconnected k.told (inr (line_ends end cause seat a c outcome.Disconnected refl k))
+    dropped_caused end cause seat a c k =
+        named (ends_there end) outcome.Disconnected k.told (inr (inl (line_ends end cause seat a c outcome.Disconnected refl k)))
 
     failed_caused : (e : Entry) (kind : IoKind) (b : Bool) → u ≡ failed_so kind b → AttemptEnds o who u e older → Cause o who u e older
     failed_caused e kind true d k = named e (outcome.Failed kind) d (subst (λ y. AttemptEnds o who y e older) d k)
@@ -394,16 +543,17 @@ module _ (o : Chosen) (who : Who) (u : Outcome) (older : List Entry) where
     attempt_caused e (Overdue below) b d k = failed_caused e io_kind.TimedOut b d k
     attempt_caused e (Broken cause) b d k = failed_caused e io_kind.Other b d k
     attempt_caused e Idles b d k = failed_caused e io_kind.Other b d k
-    attempt_caused e Stops b d k = named e outcome.Stopped d (inr (inr (subst (λ y. AttemptEnds o who y e older) d k)))
+    attempt_caused e Stops b d k = named e outcome.Stopped d (inr (inr (inl (subst (λ y. AttemptEnds o who y e older) d k))))
 
     -- those who wait for its address, and those who asked on it
     over_caused : (end : End) (seat : Seat) (r : Option Fault) → v.links.live l ≡ Some seat → closed_by end v.now seat.seen ≡ r →
-        In it (failed_by end (change_at r) (pause_for v.chosen (Ends end) (change_at r) seat.address (base_of v seat.address).series) (base_of v seat.address)) →
+        In it (failed_by end (change_at r) (pause_for v.chosen (Ends end) (change_at r) seat.address (base_of v seat.address).series)
+        (base_of v seat.address)) →
         Cause o who u (Then (Comes (ToLink l (Ends end)))) older
     over_caused end seat None a c h = absurd h
     over_caused end seat (Some cause) a c h =
         let pause : Option Pause = pause_of v.chosen end seat.address (base_of v seat.address).series in
-        let is : pause_of o end seat.address (base_of v seat.address).series ≡ pause =
+        let is : pause_of o.chosen end seat.address (base_of v seat.address).series ≡ pause =
         ap (λ x. pause_of x end seat.address (base_of v seat.address).series) (sym (chosen_same o older)) in
         let k = attempt_ends end cause seat a c (base_of v seat.address).series refl pause is h in
         attempt_caused (Then (Comes (ToLink l (Ends end)))) end k.1 k.2 k.0
@@ -438,17 +588,18 @@ module _ (o : Chosen) (who : Who) (u : Outcome) (older : List Entry) where
       let waiters : List Notice = waiters_of (failed_on end) v.addresses (option_map (turned_by v.chosen v.addresses v.now l (Ends end)) (v.links.live l)) in
       ends_caused l end (v.links.live l) refl (in_opened it (ended_on end v.now (v.links.live l) ++ waiters) h)
   cause_caused (Comes (Rings a)) h = rings_caused a (rings v.now a v.alarms) refl h
-  cause_caused (Does w StopAll) h = all_stopped w (in_opened it stopped_all h)
+  cause_caused (Does w StopAll) h = all_stopped w (in_opened it (stopped_all ++ waiting_all) h)
   cause_caused _ h = absurd h
 
-  is_caused : (e : Entry) → Arises rules o (Told it) e older → Cause o who u e older
-  is_caused (Begins e) h = absurd (none_told it (map Comes (parts v e)) (comes_mute (parts v e)) h)
-  is_caused (Then b) (inl h) = once_caused b h
-  is_caused (Then b) (inr (inl h)) = absurd h
-  is_caused (Then b) (inr (inr (inl h))) = cause_caused b h
-  is_caused (Then b) (inr (inr (inr h))) = absurd (none_told it (map Comes (further v b)) (comes_mute (further v b)) h)
+  is_caused : (e : Entry) → IsRun o (e ∷ older) → Arises rules o (Told it) e older → Cause o who u e older
+  is_caused (Begins e) run h = absurd (mute_told it (parts o v e) h)
+  is_caused (Then b) run (inl h) = once_caused b h
+  is_caused (Then b) run (inr (inl h)) = joins_caused b run (in_told it (joins v b) h)
+  is_caused (Then b) run (inr (inr (inl h))) = cause_caused b h
+  is_caused (Then b) run (inr (inr (inr h))) = absurd (mute_told it (further v b) h)
 
 pub outcomes_are_caused_lem : OutcomesAreCaused
-outcomes_are_caused_lem o log who u r =
-    step_map (Arises rules o (Told (record { who = who; outcome = u }))) (Cause o who u) (λ e older h. is_caused o who u older e h) log
-    (acts_arise_lem _ _ _ _ _ _ _ rules o (Told (record { who = who; outcome = u })) log r)
+outcomes_are_caused_lem o log who u run =
+    let told : Act = Told (record { who = who; outcome = u }) in
+    step_map o (Arises rules o told) (Cause o who u) (λ e older run h. is_caused o who u older e run h) log run.0
+    (acts_arise_lem _ _ _ _ _ _ _ rules o told log run)

@@ -1,7 +1,6 @@
--- The tickets that are drawn are the calls of the history.
-use Rattle.std.proofs.Common.{◌≡◌, ◌∙◌, ℕ, ◌+◌, sym, ap, List, [], ◌∷◌, ◌++◌, refl, map, Some, None, Bool, true, false, cond}
+-- The tickets that are drawn are those of the calls of the history and of their parts.
+use Rattle.std.proofs.Common.{◌≡◌, ◌∙◌, ℕ, sym, ap, List, [], ◌∷◌, ◌++◌, refl, map, Some, None, true, false, cond}
 use Rattle.pulsar_run.specs.Run.{in_order, steps_done, with_effects}
-use Rattle.pulsar_session.specs.Link.{is_spent}
 use Rattle.pulsar_client.specs.declared.act.Act.{Act}
 use Rattle.pulsar_client.specs.declared.act.Act.TheVariants.{Comes, Told}
 use Rattle.pulsar_client.specs.declared.act.Notice.{Notice}
@@ -12,9 +11,9 @@ use Rattle.pulsar_client.specs.Content.{Heard, Shown, Called, Ticked}
 use Rattle.pulsar_client.specs.Effects.{effect_below, effects}
 use Rattle.pulsar_client.specs.Laws.{TicketsCount}
 use Rattle.pulsar_client.specs.Rules.{at_once, brings, further, parts}
-use Rattle.pulsar_client.specs.Run.{Entry, Begins, Then, IsRun, Step, agenda, calls_in, first_of, is_call, rest, rest_of, rules, steps, view}
+use Rattle.pulsar_client.specs.Run.{Entry, Begins, Then, IsRun, Step, agenda, first_of, heard_to, rest, rest_of, rules, steps, tickets_in, view}
 use Rattle.pulsar_client.specs.Tables.{Stands}
-use Rattle.pulsar_client.specs.View.{Chosen, View, drawn_after, is_live}
+use Rattle.pulsar_client.specs.View.{Options, View, drawn_after, is_live}
 use Rattle.pulsar_client.proofs.Acts.{Each, begun_same}
 use Rattle.pulsar_client.proofs.Made.{IsMany, NoSingle, at_once_many, further_many, ticks_many}
 
@@ -31,7 +30,7 @@ parts_drawn (p ∷ ps) n = parts_drawn ps (drawn_after (Comes p) n)
 -- what may come beside others, and what arises at once, draws none
 
 part_draws : (p : Part) (n : ℕ) → IsMany p → drawn_after (Comes p) n ≡ n
-part_draws (Calls asked) n h = absurd cc
+part_draws (Calls asked advice) n h = absurd cc
 part_draws _ n h = refl
 
 act_draws : (a : Act) (n : ℕ) → NoSingle a → drawn_after a n ≡ n
@@ -53,7 +52,8 @@ only_none (p ∷ ps) n k = ap (parts_drawn ps) (part_draws p n k.0) ∙ only_non
 -- what is first has drawn
 moved : (now : List Act) (here : List Notice) (behind : List (List Notice)) (ps : List Part) (a : Act) (n : ℕ) → first_of now here behind ps ≡ Some a →
     parts_drawn (rest_of now here behind ps).parts (acts_drawn (rest_of now here behind ps).now (drawn_after a n)) ≡ parts_drawn ps (acts_drawn now n)
-moved (b ∷ now) here behind ps a n h = let e : b ≡ a = (let f : Some b ≡ Some a = h in cc) in ap (λ x. parts_drawn ps (acts_drawn now (drawn_after x n))) (sym e)
+moved (b ∷ now) here behind ps a n h = let e : b ≡ a = (let f : Some b ≡ Some a = h in cc) in
+    ap (λ x. parts_drawn ps (acts_drawn now (drawn_after x n))) (sym e)
 moved [] (m ∷ here) behind ps a n h = let e : Told m ≡ a = (let f : Some (Told m) ≡ Some a = h in cc) in ap (λ x. parts_drawn ps (drawn_after x n)) (sym e)
 moved [] [] (cause ∷ behind) ps a n h = moved [] cause behind ps a n h
 moved [] [] [] (p ∷ ps) a n h = let e : Comes p ≡ a = (let f : Some (Comes p) ≡ Some a = h in cc) in ap (λ x. parts_drawn ps (drawn_after x n)) (sym e)
@@ -69,31 +69,28 @@ rested [] [] [] [] n h = refl
 
 -- EVENTS
 
--- one more call, if it is one
-abbrev one_more : Bool → ℕ → ℕ
-one_more b n = cond b (cond (is_spent n) n (n + 1)) n
-
-event_drawn : (v : View) (e : Heard) (n : ℕ) → parts_drawn (parts v e) n ≡ one_more (is_call e) n
-event_drawn v (Called asked) n = refl
-event_drawn v (Ticked now) n =
-    elim (is_live v (Ticked now)) as (λ b. parts_drawn (cond b (brings v (Ticked now)) []) n ≡ n)
-    [ true ↦ only_none (brings v (Ticked now)) n (ticks_many v now) | false ↦ refl ]
-event_drawn v e n = elim (is_live v e) as (λ b. parts_drawn (cond b (brings v e) []) n ≡ n) [ true ↦ refl | false ↦ refl ]
+event_drawn : (o : Options) (v : View) (e : Heard) (n : ℕ) → parts_drawn (parts o v e) n ≡ heard_to e n
+event_drawn o v (Called asked) n = refl
+event_drawn o v (Ticked now) n =
+    elim (is_live v (Ticked now)) as (λ b. parts_drawn (cond b (brings o.policies v (Ticked now)) []) n ≡ n)
+    [ true ↦ only_none (brings o.policies v (Ticked now)) n (ticks_many o.policies v now) | false ↦ refl ]
+event_drawn o v e n = elim (is_live v e) as (λ b. parts_drawn (cond b (brings o.policies v e) []) n ≡ n) [ true ↦ refl | false ↦ refl ]
 
 -- ALL
 
-calls_same : (xs : List Shown) (ss : List Step) → calls_in (map (in_order effect_below) (with_effects xs ss)) ≡ calls_in (map (in_order effect_below) ss)
-calls_same xs [] = refl
-calls_same xs (s ∷ ss) = refl
+tickets_same : (xs : List Shown) (ss : List Step) → tickets_in (map (in_order effect_below) (with_effects xs ss)) ≡ tickets_in (map (in_order effect_below) ss)
+tickets_same xs [] = refl
+tickets_same xs (s ∷ ss) = refl
 
-counted : (o : Chosen) (log : List Entry) → IsRun o log → parts_drawn (agenda o log).parts (acts_drawn (agenda o log).now (view o log).calls.drawn) ≡ calls_in (steps o log)
+counted : (o : Options) (log : List Entry) → IsRun o log →
+    parts_drawn (agenda o log).parts (acts_drawn (agenda o log).now (view o log).calls.drawn) ≡ tickets_in (steps o log)
 counted o [] run = refl
 counted o (Begins e ∷ log) (run, rests) =
     let g = agenda o log in
     let v = view o log in
-    let so_far : v.calls.drawn ≡ calls_in (steps o log) = sym (rested g.now g.here g.behind g.parts v.calls.drawn rests) ∙ counted o log run in
+    let so_far : v.calls.drawn ≡ tickets_in (steps o log) = sym (rested g.now g.here g.behind g.parts v.calls.drawn rests) ∙ counted o log run in
     let same : (view o (Begins e ∷ log)).calls.drawn ≡ v.calls.drawn = begun_same (λ u. u.calls.drawn) e v refl in
-    event_drawn v e (view o (Begins e ∷ log)).calls.drawn ∙ ap (one_more (is_call e)) (same ∙ so_far)
+    event_drawn o v e (view o (Begins e ∷ log)).calls.drawn ∙ ap (heard_to e) (same ∙ so_far)
 counted o (Then a ∷ log) (run, first_is) =
     let g = agenda o log in
     let v = view o log in
@@ -101,13 +98,13 @@ counted o (Then a ∷ log) (run, first_is) =
     ∙ ap (parts_drawn (rest g).parts) (acts_none (at_once v a) (rest g).now (drawn_after a v.calls.drawn) (at_once_many v a))
     ∙ moved g.now g.here g.behind g.parts a v.calls.drawn first_is
     ∙ counted o log run
-    ∙ sym (calls_same (effects v a) (steps_done rules o log))
+    ∙ sym (tickets_same (effects v a) (steps_done rules o log))
 
 pub tickets_count_lem : TicketsCount
 tickets_count_lem o log run rests =
     let g = agenda o log in
     sym (rested g.now g.here g.behind g.parts (view o log).calls.drawn rests) ∙ counted o log run
 
--- the tickets of tables are the calls of a history that they stand for
-pub ticket_is : (c : Tables) {o : Chosen} {h : List Step} → Stands o c h → c.tickets ≡ calls_in h
-ticket_is c {o} {h} s = ap (λ v. v.calls.drawn) s.sees ∙ tickets_count_lem o s.log s.run s.rests ∙ ap calls_in (sym s.same)
+-- the tickets of tables are those of a history that they stand for
+pub ticket_is : (c : Tables) {o : Options} {h : List Step} → Stands o c h → c.tickets ≡ tickets_in h
+ticket_is c {o} {h} s = ap (λ v. v.calls.drawn) s.sees ∙ tickets_count_lem o s.log s.run s.rests ∙ ap tickets_in (sym s.same)

@@ -1,6 +1,6 @@
 -- A deadline comes to a link only in a tick at which the link was due, and an alarm only in one at which it rang. So a sign of life and
 -- an end for want of use come only where their alarm rings.
-use Rattle.std.proofs.Common.{◌≡◌, ◌⊎◌, inl, inr, ◌∙◌, sym, ap, subst, ℕ, List, [], ◌∷◌, refl, map, Bool, true, false, cond, Option, Some, None}
+use Rattle.std.proofs.Common.{◌≡◌, ◌⊎◌, inl, inr, ◌∙◌, sym, ap, subst, ℕ, List, ◌∷◌, refl, map, Bool, true, false, cond, Option, Some, None, []}
 use Rattle.std.specs.Option.{is_none}
 use Rattle.pulsar_run.specs.Laws.{Arises, In, InOne}
 use Rattle.pulsar_run.proofs.Arising.{acts_arise_lem}
@@ -14,12 +14,13 @@ use Rattle.pulsar_client.specs.declared.act.LinkAct.TheVariants.{Ends, Pings}
 use Rattle.pulsar_client.specs.declared.act.Notice.{Notice}
 use Rattle.pulsar_client.specs.declared.act.Part.{Part}
 use Rattle.pulsar_client.specs.declared.act.Part.TheVariants.{ToLink, Rings}
+use Rattle.pulsar_producer.specs.Routing.{Policy}
 use Rattle.pulsar_client.specs.Alarms.{ringing, rings}
 use Rattle.pulsar_client.specs.Content.{Heard, Ticked}
 use Rattle.pulsar_client.specs.Laws.{AlarmsAreTicked, DeadlinesAreTicked, IdleEnds, IsDueAt, IsIdleAt, IsQuietAt, RingsAt, SignsOfLife}
 use Rattle.pulsar_client.specs.Rules.{brings, due_part, idle_act, is_idle, keeps_alive, may_ping, over_links, rung}
 use Rattle.pulsar_client.specs.Run.{Entry, Begins, Then, rules, view}
-use Rattle.pulsar_client.specs.View.{Chosen, Seat, View, is_live}
+use Rattle.pulsar_client.specs.View.{Options, Seat, View, is_live}
 use Rattle.pulsar_client.proofs.Sources.{Any, Check, Fits, Keeping, Source, Tick, arises_fits, gives, in_append, in_links, in_map, in_one, source, step_more}
 
 -- WHAT COMES FROM ELSEWHERE
@@ -48,27 +49,28 @@ then_no_tick _ = refl
 -- WITH A TICK
 
 -- a part of a tick is a deadline of a link that is due, or an alarm that rings
-ticked : (v : View) (now : ℕ) (p : Part) (b : Bool) → In (Comes p) (map Comes (cond b (brings v (Ticked now)) [])) →
+ticked : (policies : List Policy) (v : View) (now : ℕ) (p : Part) (b : Bool) → In (Comes p) (map Comes (cond b (brings policies v (Ticked now)) [])) →
     ((l : ℕ) × (seat : Seat) × (v.links.live l ≡ Some seat) × (due now seat.seen ≡ true) × (p ≡ ToLink l (Ends (Overdue seat.seen.waits.queued))))
     ⊎ ((a : Alarm) × In a (ringing now v.alarms) × (p ≡ Rings a))
-ticked v now p true i =
-    let k = in_map Comes (Comes p) (brings v (Ticked now)) i in
+ticked policies v now p true i =
+    let k = in_map Comes (Comes p) (brings policies v (Ticked now)) i in
     let same : k.0 ≡ p = cc in
-    elim (in_append p (over_links (due_part now) v.links) (map Rings (ringing now v.alarms)) (subst (λ q. In q (brings v (Ticked now))) same k.1)) [
+    elim (in_append p (over_links (due_part now) v.links) (map Rings (ringing now v.alarms)) (subst (λ q. In q (brings policies v (Ticked now))) same k.1)) [
       | inl j ↦
           (let d = in_links (due_part now) p v.links j in
           let e = in_one (due now d.1.seen) (ToLink d.0 (Ends (Overdue d.1.seen.waits.queued))) p d.3 in
           inl (d.0, d.1, d.2, e.0, e.1))
       | inr j ↦ inr (in_map Rings p (ringing now v.alarms) j)
     ]
-ticked v now p false i = absurd i
+ticked policies v now p false i = absurd i
 
-module _ (o : Chosen) (l queued : ℕ) where
+module _ (o : Options) (l queued : ℕ) where
   abbrev overdue : Act
   overdue = Comes (ToLink l (Ends (Overdue queued)))
 
   due_at : (e : Entry) (older : List Entry) → Arises rules o overdue e older → IsDueAt o l queued e older
-  due_at (Begins (Ticked now)) older i = elim (ticked (view o older) now (ToLink l (Ends (Overdue queued))) (is_live (view o older) (Ticked now)) i) [
+  due_at (Begins (Ticked now)) older i =
+      elim (ticked o.policies (view o older) now (ToLink l (Ends (Overdue queued))) (is_live (view o older) (Ticked now)) i) [
     | inl d ↦
         (let same = d.4 in
         let link : l ≡ d.0 = cc in
@@ -84,9 +86,9 @@ deadlines_are_ticked_lem o log l queued run =
     step_more (Arises rules o (Comes (ToLink l (Ends (Overdue queued))))) (IsDueAt o l queued) (due_at o l queued) log
     (acts_arise_lem _ _ _ _ _ _ _ rules o (Comes (ToLink l (Ends (Overdue queued)))) log run)
 
-module _ (o : Chosen) (a : Alarm) where
+module _ (o : Options) (a : Alarm) where
   rings_at : (e : Entry) (older : List Entry) → Arises rules o (Comes (Rings a)) e older → RingsAt o a e older
-  rings_at (Begins (Ticked now)) older i = elim (ticked (view o older) now (Rings a) (is_live (view o older) (Ticked now)) i) [
+  rings_at (Begins (Ticked now)) older i = elim (ticked o.policies (view o older) now (Rings a) (is_live (view o older) (Ticked now)) i) [
     | inl d ↦ (let no = d.4 in absurd cc)
     | inr k ↦
         (let is = k.2 in
@@ -108,7 +110,7 @@ none_told {X} p (ns ∷ nss) (inl i) = let k = in_map Told (Comes p) ns i in let
 none_told {X} p (ns ∷ nss) (inr i) = none_told p nss i
 
 -- what comes to a link at an alarm comes at once, and the alarm rings
-at_alarm : (o : Chosen) (a : Alarm) (p : Part) (older : List Entry) → Arises rules o (Comes p) (Then (Comes (Rings a))) older →
+at_alarm : (o : Options) (a : Alarm) (p : Part) (older : List Entry) → Arises rules o (Comes p) (Then (Comes (Rings a))) older →
     (rings (view o older).now a (view o older).alarms ≡ true) × In (Comes p) (rung (view o older) a)
 at_alarm o a p older (inl i) = by (rings (view o older).now a (view o older).alarms) i
   where
@@ -131,7 +133,7 @@ no_ping : (place : Option ℕ) → is_none place ≡ true → place ≡ None
 no_ping None h = refl
 no_ping (Some place) h = absurd cc
 
-module _ (o : Chosen) (l : ℕ) where
+module _ (o : Options) (l : ℕ) where
   abbrev idles : Act
   idles = Comes (ToLink l (Ends Idles))
 
@@ -174,4 +176,5 @@ idle_ends_lem o log l run =
 
 pub signs_of_life_lem : SignsOfLife
 signs_of_life_lem o log l run =
-    step_more (Arises rules o (Comes (ToLink l Pings))) (IsQuietAt o l) (quiet_at o l) log (acts_arise_lem _ _ _ _ _ _ _ rules o (Comes (ToLink l Pings)) log run)
+    step_more (Arises rules o (Comes (ToLink l Pings))) (IsQuietAt o l) (quiet_at o l) log
+    (acts_arise_lem _ _ _ _ _ _ _ rules o (Comes (ToLink l Pings)) log run)

@@ -8,9 +8,9 @@ use Rattle.pulsar_client.specs.declared.act.Act.TheVariants.{Comes, Told}
 use Rattle.pulsar_client.specs.declared.act.Notice.{Notice}
 use Rattle.pulsar_client.specs.declared.act.Part.{Part}
 use Rattle.pulsar_client.specs.Laws.{AllIsDone, AreActs}
-use Rattle.pulsar_client.specs.Rules.{at_once, below, causes, further}
+use Rattle.pulsar_client.specs.Rules.{at_once, below, causes, further, joins}
 use Rattle.pulsar_client.specs.Run.{Entry, Begins, Then, IsRun, agenda, rules, view}
-use Rattle.pulsar_client.specs.View.{Chosen}
+use Rattle.pulsar_client.specs.View.{Options}
 
 in_left : {A : Type 0} (x : A) (xs ys : List A) → In x xs → In x (xs ++ ys)
 in_left x [] ys h = absurd h
@@ -97,7 +97,8 @@ module _ (a : Act) where
   first_done [] [] [] (p ∷ ps) b f (inr (inr (inr (inr i)))) = inr (inr (inr (inr i)))
   first_done [] [] [] [] b f k = absurd cc
 
-  none_left : (now : List Act) (here : List Notice) (behind : List (List Notice)) (ps : List Part) → first_of rules now here behind ps ≡ None → IsLeft now here behind ps → ⊥
+  none_left : (now : List Act) (here : List Notice) (behind : List (List Notice)) (ps : List Part) → first_of rules now here behind ps ≡ None →
+      IsLeft now here behind ps → ⊥
   none_left (x ∷ now) here behind ps f k = absurd cc
   none_left [] (n ∷ here) behind ps f k = absurd cc
   none_left [] [] (cause ∷ behind) ps f (inl i) = i
@@ -111,7 +112,7 @@ module _ (a : Act) where
   none_left [] [] [] [] f (inr (inr (inl i))) = i
   none_left [] [] [] [] f (inr (inr (inr i))) = i
 
-  module _ (o : Chosen) where
+  module _ (o : Options) where
     abbrev IsLeftIn : List Entry → Type 0
     IsLeftIn log = IsLeft (agenda o log).now (agenda o log).here (agenda o log).behind (agenda o log).parts
 
@@ -119,7 +120,7 @@ module _ (a : Act) where
     arises : (e : Entry) (older : List Entry) → Arises rules o a e older → IsLeftIn (e ∷ older)
     arises (Begins e) older h = inr (inr (inr h))
     arises (Then b) older (inl i) = inl (in_left a (at_once (view o older) b) (rest (agenda o older)).now i)
-    arises (Then b) older (inr (inl i)) = absurd i
+    arises (Then b) older (inr (inl i)) = inr (inl (all_put (joins (view o older) b) (rest (agenda o older)).here i))
     arises (Then b) older (inr (inr (inl k))) =
         inr (inr (inl (one_right (rest (agenda o older)).behind (map (arranged below) (causes (view o older) b)) (one_arranged (causes (view o older) b) k))))
     arises (Then b) older (inr (inr (inr i))) = inr (inr (inr (comes_left (further (view o older) b) (rest (agenda o older)).parts i)))
@@ -128,7 +129,7 @@ module _ (a : Act) where
     stays : (b : Act) (log : List Entry) →
         IsLeft (rest (agenda o log)).now (rest (agenda o log)).here (rest (agenda o log)).behind (rest (agenda o log)).parts → IsLeftIn (Then b ∷ log)
     stays b log (inl i) = inl (in_right a (at_once (view o log) b) (rest (agenda o log)).now i)
-    stays b log (inr (inl i)) = inr (inl i)
+    stays b log (inr (inl i)) = inr (inl (all_others (joins (view o log) b) (rest (agenda o log)).here i))
     stays b log (inr (inr (inl k))) = inr (inr (inl (one_left (rest (agenda o log)).behind (map (arranged below) (causes (view o log) b)) k)))
     stays b log (inr (inr (inr i))) = inr (inr (inr (comes_right (further (view o log) b) (rest (agenda o log)).parts i)))
 

@@ -1,8 +1,7 @@
 -- Plans follow their outcomes.
-use Rattle.std.proofs.Common.{◌≡◌, ℕ, ◌∙◌, sym, ap, subst, List, [], ◌∷◌, ◌++◌, refl, arith, drop, Bool, true, false, cond, Option, Some, None, inl, inr, ◌==◌, append-nil, append_assoc}
+use Rattle.std.proofs.Common.{◌≡◌, ℕ, ◌∙◌, sym, ap, subst, ◌+◌, ◌-◌, ◌^◌, List, [], ◌∷◌, ◌++◌, refl, arith, drop, Bool, true, false, cond, Option, Some, None, inl, inr, ◌==◌, append-nil, append_assoc}
 use Rattle.std.proofs.lemmas.Bool.{cases_Bool, eqb-true}
 use Rattle.pulsar_run.specs.Run.{rest}
-use Rattle.pulsar_session.specs.Link.{is_spent}
 use Rattle.pulsar_client.specs.declared.act.Act.{Act}
 use Rattle.pulsar_client.specs.declared.act.Act.TheVariants.{Comes, Starts, Told, Does, Answers}
 use Rattle.pulsar_client.specs.declared.act.Action.{Action}
@@ -18,14 +17,15 @@ use Rattle.pulsar_client.specs.declared.act.Who.TheVariants.{Call}
 use Rattle.pulsar_client.specs.declared.plans.plan.Plan.{Plan}
 use Rattle.pulsar_client.specs.declared.plans.plan.Turn.{Turn}
 use Rattle.pulsar_client.specs.declared.plans.plan.Turn.TheVariants.{Stays, Gives}
-use Rattle.pulsar_client.specs.Content.{Asked}
+use Rattle.pulsar_client.specs.Content.{Asked, lacks_tickets, shares}
 use Rattle.pulsar_client.specs.Laws.{AnswersOnce, Deed, Answered, PlansFollow, acted, course, deed_of, deeds, outcomes, started, verdicts_in}
 use Rattle.pulsar_client.specs.Plan.{begins, told}
-use Rattle.pulsar_client.specs.Rules.{at_once, called, does, follows, follows_some, performs}
+use Rattle.pulsar_client.specs.Rules.{at_once, called, does, follows, follows_some, performs, starts}
 use Rattle.pulsar_client.specs.Run.{Entry, Begins, Then, IsRun, Agenda, agenda, first, view}
-use Rattle.pulsar_client.specs.View.{Chosen, Tickets, View, stays, stays_some, told_some}
+use Rattle.pulsar_client.specs.View.{Options, View, stays, stays_some, told_some}
 use Rattle.pulsar_client.specs.Who.{is_same, rank}
-use Rattle.pulsar_client.proofs.Acts.{Each, IsQuiet, begun_same, comes_quiet, each_append, each_drop, each_map, first_case, is_served, none_now, performs_quiet}
+use Rattle.pulsar_client.proofs.Acts.{Each, StartsIn, begun_same, each_append, each_drop, each_map, first_case, is_served, none_now, starts_in}
+use Rattle.pulsar_client.proofs.Quiet.{IsQuiet, comes_quiet, performs_quiet}
 use Rattle.pulsar_client.proofs.Ticketed.{Began, apart, has_begun}
 
 -- WHO
@@ -69,11 +69,24 @@ served_no_deed _ h = refl
 pub performs_none : (v : View) (who : Who) (action : Action) → Each NoDeed (performs v who action)
 performs_none v who action = each_map IsQuiet NoDeed (performs v who action) quiet_no_deed (performs_quiet v who action)
 
-called_one : (o : Chosen) (c : Tickets) (asked : Asked) → Each NoDeed (drop 1 (called o c asked))
-called_one o c asked = elim (cases_Bool (is_spent c.drawn)) [ inl e ↦ rw e tt | inr e ↦ rw e tt ]
+start_no_deed : (from to : ℕ) (a : Act) → StartsIn from to a → NoDeed a
+start_no_deed from to (Starts who p) k = refl
+start_no_deed from to _ k = absurd k
+
+pub starts_none : (v : View) (advice : List (Option ℕ)) (asked : Asked) → Each NoDeed (starts v advice asked)
+starts_none v advice asked =
+    each_map (StartsIn v.calls.drawn (v.calls.drawn + 1 + shares asked)) NoDeed (starts v advice asked)
+    (start_no_deed v.calls.drawn (v.calls.drawn + 1 + shares asked))
+    (starts_in v advice asked)
+
+called_one : (v : View) (advice : List (Option ℕ)) (asked : Asked) → Each NoDeed (drop 1 (called v advice asked))
+called_one v advice asked = elim (cases_Bool (lacks_tickets v.calls.drawn (shares asked))) [
+  | inl e ↦ rw e tt
+  | inr e ↦ rw e (each_drop NoDeed (starts v advice asked) (starts_none v advice asked))
+]
 
 comes_one : (v : View) (p : Part) → Each NoDeed (drop 1 (at_once v (Comes p)))
-comes_one v (Calls asked) = called_one v.chosen v.calls asked
+comes_one v (Calls asked advice) = called_one v advice asked
 comes_one v p = each_drop NoDeed (at_once v (Comes p)) (each_map IsQuiet NoDeed (at_once v (Comes p)) quiet_no_deed (comes_quiet v p refl))
 
 -- LISTS OF ACTS
@@ -100,14 +113,14 @@ head_on [] ys p q = each_drop NoDeed ys q
 head_on (x ∷ xs) ys p q = each_append NoDeed xs ys p q
 
 -- to one who began, a call gives at most its start
-called_none : (w : Who) (o : Chosen) (c : Tickets) (asked : Asked) → Began w → due_deeds w (called o c asked) ≡ []
-called_none w o c asked k = elim (cases_Bool (is_spent c.drawn)) [
-  | inl e ↦ (let other : is_same w (Call c.drawn) ≡ false = apart w c.drawn k e in rw (e, other) refl)
-  | inr e ↦ rw e refl
+called_none : (w : Who) (v : View) (advice : List (Option ℕ)) (asked : Asked) → Began w → due_deeds w (called v advice asked) ≡ []
+called_none w v advice asked k = elim (cases_Bool (lacks_tickets v.calls.drawn (shares asked))) [
+  | inl e ↦ (let other : is_same w (Call (2 ^ 64 - 1)) ≡ false = apart w (2 ^ 64 - 1) k refl in rw (e, other) refl)
+  | inr e ↦ rw e (none_due w (starts v advice asked) (starts_none v advice asked))
 ]
 
 comes_none : (v : View) (w : Who) (p : Part) → Began w → due_deeds w (at_once v (Comes p)) ≡ []
-comes_none v w (Calls asked) k = called_none w v.chosen v.calls asked k
+comes_none v w (Calls asked advice) k = called_none w v advice asked k
 comes_none v w p k = none_due w (at_once v (Comes p)) (each_map IsQuiet NoDeed (at_once v (Comes p)) quiet_no_deed (comes_quiet v p refl))
 
 -- COURSES
@@ -173,12 +186,12 @@ some_here : (w who : Who) (t : Turn Plan Verdict) (o : Outcome) → is_same w wh
 some_here w who (Gives verdict) o h = refl
 some_here w who (Stays plan action) o h = follows_due w who (told plan o) ∙ ap (λ b. cond b (first_deed (told plan o)) []) h
 
-pub record Follows (o : Chosen) (log : List Entry) : Type 0 where
+pub record Follows (o : Options) (log : List Entry) : Type 0 where
   head : Each NoDeed (drop 1 (agenda o log).now)
   each : (w : Who) (p : Procedure) → Began w → started w log ≡ Some p → deeds w log ++ due_deeds w (agenda o log).now ≡ course (begins p) (outcomes w log)
   stands : (w : Who) (p : Procedure) → started w log ≡ Some p → (view o log).stand w ≡ stays (along (begins p) (outcomes w log))
 
-module _ (o : Chosen) (log : List Entry) (a : Act) (k : Follows o log) (fits : first (agenda o log) ≡ Some a) where
+module _ (o : Options) (log : List Entry) (a : Act) (k : Follows o log) (fits : first (agenda o log) ≡ Some a) where
   g : Agenda
   g = agenda o log
 
@@ -202,8 +215,10 @@ module _ (o : Chosen) (log : List Entry) (a : Act) (k : Follows o log) (fits : f
   due_then w xs = due_append w xs left ∙ ap (λ ds. due_deeds w xs ++ ds) (none_due w left left_plain) ∙ append-nil (due_deeds w xs)
 
   -- an act that starts no plan and tells none
-  simple_on : Each NoDeed (drop 1 (at_once (view o log) a)) → ((w : Who) → Began w → due_deeds w (at_once (view o log) a) ≡ []) → ((w : Who) → started w (Then a ∷ log) ≡ started w log) → ((w : Who) → outcomes w (Then a ∷ log) ≡ outcomes w log) →
-      ((w : Who) → deeds w (Then a ∷ log) ≡ deeds w log ++ deed_of w a) → ((w : Who) → (view o (Then a ∷ log)).stand w ≡ (view o log).stand w) → Follows o (Then a ∷ log)
+  simple_on : Each NoDeed (drop 1 (at_once (view o log) a)) → ((w : Who) → Began w → due_deeds w (at_once (view o log) a) ≡ []) →
+      ((w : Who) → started w (Then a ∷ log) ≡ started w log) → ((w : Who) → outcomes w (Then a ∷ log) ≡ outcomes w log) →
+      ((w : Who) → deeds w (Then a ∷ log) ≡ deeds w log ++ deed_of w a) → ((w : Who) → (view o (Then a ∷ log)).stand w ≡ (view o log).stand w) →
+      Follows o (Then a ∷ log)
   simple_on one plain same_started same_outcomes more same_stand = record {
     head = head_on (at_once (view o log) a) left one left_plain;
     each = λ w p t h.
@@ -215,7 +230,7 @@ module _ (o : Chosen) (log : List Entry) (a : Act) (k : Follows o log) (fits : f
     stands = λ w p h. same_stand w ∙ k.stands w p (sym (same_started w) ∙ h) ∙ ap (λ os. stays (along (begins p) os)) (sym (same_outcomes w));
   }
 
-told_on : (o : Chosen) (log : List Entry) (n : Notice) → Follows o log → first (agenda o log) ≡ Some (Told n) → Follows o (Then (Told n) ∷ log)
+told_on : (o : Options) (log : List Entry) (n : Notice) → Follows o log → first (agenda o log) ≡ Some (Told n) → Follows o (Then (Told n) ∷ log)
 told_on o log n k fits = record {
   head = head_on xs (left o log (Told n) k fits) (some_one n.who (told_some ((view o log).stand n.who) n.outcome)) (left_plain o log (Told n) k fits);
   each = λ w p t h.
@@ -247,7 +262,8 @@ told_on o log n k fits = record {
         ∙ append-nil (course (begins p) (outcomes w log))
         ∙ ap (λ b. course (begins p) (cond b (outcomes w log ++ n.outcome ∷ []) (outcomes w log))) (sym e)
 
-starts_on : (o : Chosen) (log : List Entry) (who : Who) (q : Procedure) → Follows o log → first (agenda o log) ≡ Some (Starts who q) → Follows o (Then (Starts who q) ∷ log)
+starts_on : (o : Options) (log : List Entry) (who : Who) (q : Procedure) → Follows o log → first (agenda o log) ≡ Some (Starts who q) →
+    Follows o (Then (Starts who q) ∷ log)
 starts_on o log who q k fits = record {
   head = head_on xs (left o log (Starts who q) k fits) (follows_one who (begins q)) (left_plain o log (Starts who q) k fits);
   each = λ w p t h.
@@ -268,26 +284,32 @@ starts_on o log who q k fits = record {
     nil : (t : Turn Plan Verdict) → along t [] ≡ t
     nil t = along_nil t
 
-pub follows_run : (o : Chosen) (log : List Entry) → IsRun o log → Follows o log
+pub follows_run : (o : Options) (log : List Entry) → IsRun o log → Follows o log
 follows_run o [] r = record { head = tt; each = λ w p t h. absurd cc; stands = λ w p h. absurd cc }
 follows_run o (Begins e ∷ log) r =
     let k : Follows o log = follows_run o log r.0 in
     record {
       head = tt;
-      each = λ w p t h. ap (λ ds. deeds w log ++ ds) (sym (ap (due_deeds w) (none_now (agenda o log).now (agenda o log).here (agenda o log).behind (agenda o log).parts r.1))) ∙ k.each w p t h;
+      each = λ w p t h. ap (λ ds. deeds w log ++ ds)
+          (sym (ap (due_deeds w) (none_now (agenda o log).now (agenda o log).here (agenda o log).behind (agenda o log).parts r.1))) ∙ k.each w p t h;
       stands = λ w p h. begun_same (λ v. v.stand w) e (view o log) refl ∙ k.stands w p h;
     }
 follows_run o (Then (Starts who p) ∷ log) r = starts_on o log who p (follows_run o log r.0) r.1
 follows_run o (Then (Told n) ∷ log) r = told_on o log n (follows_run o log r.0) r.1
-follows_run o (Then (Comes p) ∷ log) r = simple_on o log (Comes p) (follows_run o log r.0) r.1 (comes_one (view o log) p) (λ w t. comes_none (view o log) w p t) (λ w. refl) (λ w. refl) (λ w. refl) (λ w. refl)
-follows_run o (Then (Does w a) ∷ log) r = simple_on o log (Does w a) (follows_run o log r.0) r.1 (each_drop NoDeed (performs (view o log) w a) (performs_none (view o log) w a)) (λ u t. none_due u (performs (view o log) w a) (performs_none (view o log) w a)) (λ u. refl) (λ u. refl) (λ u. refl) (λ u. refl)
+follows_run o (Then (Comes p) ∷ log) r =
+    simple_on o log (Comes p) (follows_run o log r.0) r.1 (comes_one (view o log) p) (λ w t. comes_none (view o log) w p t) (λ w. refl) (λ w. refl)
+    (λ w. refl) (λ w. refl)
+follows_run o (Then (Does w a) ∷ log) r =
+    simple_on o log (Does w a) (follows_run o log r.0) r.1 (each_drop NoDeed (performs (view o log) w a) (performs_none (view o log) w a))
+    (λ u t. none_due u (performs (view o log) w a) (performs_none (view o log) w a)) (λ u. refl) (λ u. refl) (λ u. refl) (λ u. refl)
 follows_run o (Then a ∷ log) r = simple_on o log a (follows_run o log r.0) r.1 tt (λ u t. refl) (λ u. refl) (λ u. refl) (λ u. refl) (λ u. refl)
 
 pub plans_follow_lem : PlansFollow
 plans_follow_lem o log w p r rests h =
     let k : Follows o log = follows_run o log r in
     let t : Began w = has_begun o log w p r h in
-    sym (append-nil (deeds w log)) ∙ ap (λ ds. deeds w log ++ ds) (sym (ap (due_deeds w) (none_now (agenda o log).now (agenda o log).here (agenda o log).behind (agenda o log).parts rests))) ∙ k.each w p t h
+    sym (append-nil (deeds w log)) ∙ ap (λ ds. deeds w log ++ ds)
+    (sym (ap (due_deeds w) (none_now (agenda o log).now (agenda o log).here (agenda o log).behind (agenda o log).parts rests))) ∙ k.each w p t h
 
 -- ANSWERS
 

@@ -22,7 +22,7 @@ use Rattle.pulsar_client.specs.Content.{Heard}
 use Rattle.pulsar_client.specs.Laws.{ConsumersHearToTheirEnd, EndsOnce, Continues, counted, end_of, ends_at, has_end, last_arrival}
 use Rattle.pulsar_client.specs.Run.{Entry, Begins, Then, IsRun, view}
 use Rattle.pulsar_client.specs.Subscriptions.{Subscription, after_frame, after_poll, closes_it, ended, ended_at, ended_on, hears, is_last}
-use Rattle.pulsar_client.specs.View.{Chosen, View, answer_at, arrival_at, begun, begun_live, closing, hears_ask, is_asked, is_live, made}
+use Rattle.pulsar_client.specs.View.{Options, View, answer_at, arrival_at, begun, begun_live, closing, hears_ask, is_asked, is_live, made}
 use Rattle.pulsar_client.specs.Who.{is_same}
 use Rattle.pulsar_client.proofs.Ticketed.{older_ticket}
 
@@ -47,7 +47,7 @@ polled_none true row h = ap (option_map after_poll) h
 polled_none false row h = h
 
 -- a call that has not ended has no consumer
-unmade : (o : Chosen) (t : ℕ) (log : List Entry) → counted (end_of t) log ≡ 0 → (view o log).consumers t ≡ None
+unmade : (o : Options) (t : ℕ) (log : List Entry) → counted (end_of t) log ≡ 0 → (view o log).consumers t ≡ None
 unmade o t [] h = refl
 unmade o t (Begins e ∷ log) h = begun_consumers e (view o log) t ∙ unmade o t log h
 unmade o t (Then (Answers who verdict) ∷ log) h =
@@ -65,7 +65,7 @@ unmade o t (Then (Does who (Ask l request)) ∷ log) h =
 unmade o t (Then _ ∷ log) h = unmade o t log (none_left (counted (end_of t) log) 0 h)
 
 -- so where a call ends it has none: it ends once
-pub none_before : EndsOnce → (o : Chosen) (t : ℕ) (log : List Entry) (who : Who) (verdict : Verdict) → is_spent t ≡ false → IsRun o (Then (Answers who verdict) ∷ log) →
+pub none_before : EndsOnce → (o : Options) (t : ℕ) (log : List Entry) (who : Who) (verdict : Verdict) → is_spent t ≡ false → IsRun o (Then (Answers who verdict) ∷ log) →
     is_same (Call t) who ≡ true → (view o log).consumers t ≡ None
 none_before once o t log who verdict unspent run e =
     let k : counted (end_of t) log + cond (is_same (Call t) who) 1 0 ≤ 1 = (once o (Then (Answers who verdict) ∷ log) t run).1 unspent in
@@ -170,7 +170,7 @@ polled_on s is_live false c w = w
 same_on : (s : Subscription) (has : Bool) (c : Option Subscription) → Continues s (s.is_live && not has) c → Continues s (s.is_live && not (has || false)) c
 same_on s has c w = subst (λ b. Continues s b c) (or_false s.is_live has) w
 
-hears_on : EndsOnce → (o : Chosen) (later older : List Entry) (t : ℕ) (s : Subscription) → is_spent t ≡ false → IsRun o (later ++ older) → (view o older).consumers t ≡ Some s →
+hears_on : EndsOnce → (o : Options) (later older : List Entry) (t : ℕ) (s : Subscription) → is_spent t ≡ false → IsRun o (later ++ older) → (view o older).consumers t ≡ Some s →
     Continues s (s.is_live && not (has_end o s later older)) ((view o (later ++ older)).consumers t)
 hears_on once o [] older t s un r e = subst (Continues s (s.is_live && true)) (sym e) (at_first s)
 hears_on once o (Begins x ∷ later) older t s un r e =

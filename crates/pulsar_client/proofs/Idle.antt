@@ -1,5 +1,5 @@
 -- Links that nothing uses, and what their ends are.
-use Rattle.std.proofs.Common.{◌≡◌, ◌≤◌, ◌<◌, ◌+◌, ◌==◌, ◌∙◌, ℕ, zero, suc, ◌&&◌, ◌||◌, not, nat_lt, ◌↔◌, sym, ap, refl, arith, Bool, true, false, List, [], ◌∷◌, ◌++◌, Option, Some, None, inl, inr}
+use Rattle.std.proofs.Common.{◌≡◌, ◌≤◌, ◌<◌, ◌+◌, ◌==◌, ◌∙◌, ℕ, zero, suc, ◌&&◌, ◌||◌, not, nat_lt, ◌↔◌, sym, ap, refl, arith, Bool, true, false, List, ◌∷◌, ◌++◌, Option, Some, None, inl, inr, []}
 use Rattle.std.proofs.lemmas.Bool.{cases_Bool, cases_lt, false≢true, or_right}
 use Rattle.std.proofs.lemmas.Bool.Decides.{nat_tests}
 use Rattle.std.proofs.lemmas.Cmp.{nat_cmp_total}
@@ -62,22 +62,25 @@ module _ (consumers : ℕ → Option Subscription) (drawn l : ℕ) (ticketed : A
     ]
   ]
 
--- a link rests, and none hears on it
+-- a link rests, none hears on it, and no topic producer is there
 none_stand : (standing : ℕ) → (standing == 0) ≡ not (nat_lt 0 standing)
 none_stand standing = grind (arith, nat_tests)
 
-idle_by : (ready late empty some heard : Bool) →
-    ((ready && (late && (empty && not some))) && not heard) ≡ (ready && (late && not (not empty || (some || heard))))
-idle_by false late empty some heard = refl
-idle_by true false empty some heard = refl
-idle_by true true false some heard = refl
-idle_by true true true true heard = refl
-idle_by true true true false heard = refl
+idle_by : (ready late empty some heard held : Bool) →
+    (((ready && (late && (empty && not some))) && not heard) && not held) ≡ (ready && (late && not (not empty || (some || (heard || held)))))
+idle_by false late empty some heard held = refl
+idle_by true false empty some heard held = refl
+idle_by true true false some heard held = refl
+idle_by true true true true heard held = refl
+idle_by true true true false true held = refl
+idle_by true true true false false held = refl
 
-pub idle_is : (ready late empty heard : Bool) (standing : ℕ) →
-    ((ready && (late && (empty && (standing == 0)))) && not heard) ≡ (ready && (late && not (not empty || (nat_lt 0 standing || heard))))
-idle_is ready late empty heard standing =
-    ap (λ b. (ready && (late && (empty && b))) && not heard) (none_stand standing) ∙ idle_by ready late empty (nat_lt 0 standing) heard
+pub idle_is : (ready late empty heard held : Bool) (standing : ℕ) →
+    (((ready && (late && (empty && (standing == 0)))) && not heard) && not held)
+    ≡ (ready && (late && not (not empty || (nat_lt 0 standing || (heard || held)))))
+idle_is ready late empty heard held standing =
+    ap (λ b. ((ready && (late && (empty && b))) && not heard) && not held) (none_stand standing)
+    ∙ idle_by ready late empty (nat_lt 0 standing) heard held
 
 -- WHAT EACH LINK GIVES
 

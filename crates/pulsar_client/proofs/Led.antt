@@ -1,10 +1,9 @@
 -- What one does comes right behind the start of its plan, or the outcome that leads to it.
-use Rattle.std.proofs.Common.{◌≡◌, ◌⊎◌, inl, inr, ◌∙◌, sym, ap, subst, List, [], ◌∷◌, ◌++◌, refl, Bool, true, false, cond, Option, Some, None}
+use Rattle.std.proofs.Common.{◌≡◌, ◌⊎◌, inl, inr, ◌∙◌, sym, ap, subst, ℕ, ◌-◌, ◌^◌, List, [], ◌∷◌, ◌++◌, refl, Bool, true, false, cond, Option, Some, None}
 use Rattle.pulsar_run.specs.Run.{rest}
 use Rattle.pulsar_session.specs.Failures.{Exhausted}
-use Rattle.pulsar_session.specs.Link.{is_spent}
 use Rattle.pulsar_client.specs.declared.act.Act.{Act}
-use Rattle.pulsar_client.specs.declared.act.Act.TheVariants.{Comes, Starts, Told, Does, Answers}
+use Rattle.pulsar_client.specs.declared.act.Act.TheVariants.{Comes, Starts, Told, Does}
 use Rattle.pulsar_client.specs.declared.act.Action.TheVariants.{Rest}
 use Rattle.pulsar_client.specs.declared.act.Notice.{Notice}
 use Rattle.pulsar_client.specs.declared.act.Part.TheVariants.{Calls}
@@ -15,14 +14,15 @@ use Rattle.pulsar_client.specs.declared.act.Verdict.{Verdict}
 use Rattle.pulsar_client.specs.declared.plans.plan.Plan.{Plan}
 use Rattle.pulsar_client.specs.declared.plans.plan.Turn.{Turn}
 use Rattle.pulsar_client.specs.declared.plans.plan.Turn.TheVariants.{Stays, Gives}
-use Rattle.pulsar_client.specs.Content.{Asked}
+use Rattle.pulsar_client.specs.Content.{Asked, lacks_tickets, shares}
 use Rattle.pulsar_client.specs.Laws.{Deed, Acted, Answered, ComesLate, DeedsFollow, IsToldSo, Leads, StartsSo, act_of}
 use Rattle.pulsar_client.specs.Plan.{begins, fails, told}
-use Rattle.pulsar_client.specs.Rules.{at_once, follows, follows_some, performs, procedure_for}
+use Rattle.pulsar_client.specs.Rules.{at_once, follows, follows_some, performs, starts}
 use Rattle.pulsar_client.specs.Run.{Entry, Begins, Then, agenda, view}
-use Rattle.pulsar_client.specs.View.{Chosen, View, told_some}
-use Rattle.pulsar_client.proofs.Acts.{Each, IsQuiet, comes_quiet, each_map, first_case, is_served}
-use Rattle.pulsar_client.proofs.Follow.{NoDeed, follows_run, is_deed, left_plain, performs_none, quiet_no_deed}
+use Rattle.pulsar_client.specs.View.{Options, View, told_some}
+use Rattle.pulsar_client.proofs.Acts.{Each, each_map, first_case, is_served, late}
+use Rattle.pulsar_client.proofs.Follow.{NoDeed, follows_run, is_deed, left_plain, performs_none, quiet_no_deed, starts_none}
+use Rattle.pulsar_client.proofs.Quiet.{IsQuiet, comes_quiet}
 
 is_one : (w : Who) (d : Deed) → is_deed (act_of w d) ≡ true
 is_one w (Acted action) = refl
@@ -50,7 +50,7 @@ led who w (Answered verdict) (Stays plan action) ys h = absurd cc
 led who w (Acted b) (Gives verdict) ys h = absurd cc
 led who w (Answered v) (Gives verdict) ys h = record { same = cc; leads = ap Gives (let e : verdict ≡ v = cc in e) }
 
-module _ (o : Chosen) (older : List Entry) (w : Who) (d : Deed) where
+module _ (o : Options) (older : List Entry) (w : Who) (d : Deed) where
   abbrev v : View
   v = view o older
 
@@ -60,31 +60,26 @@ module _ (o : Chosen) (older : List Entry) (w : Who) (d : Deed) where
   starts_so : (who : Who) (p : Procedure) → Led who w d (begins p) → IsLedBy (Starts who p)
   starts_so who p k = inl (p, ap (λ x. Then (Starts x p)) k.same, k.leads)
 
-  told_so : (n : Notice) (row : Option Plan) (ys : List Act) → v.stand n.who ≡ row → follows_some n.who (told_some row n.outcome) ≡ act_of w d ∷ ys → IsLedBy (Told n)
+  told_so : (n : Notice) (row : Option Plan) (ys : List Act) → v.stand n.who ≡ row → follows_some n.who (told_some row n.outcome) ≡ act_of w d ∷ ys →
+      IsLedBy (Told n)
   told_so n None ys e h = absurd cc
   told_so n (Some plan) ys e h =
       let k = led n.who w d (told plan n.outcome) ys h in
       inr (inl (n.outcome, plan, ap (λ x. Then (Told (record { who = x; outcome = n.outcome }))) k.same, ap v.stand (sym k.same) ∙ e, k.leads))
 
-  late_so : (asked : Asked) (b : Bool) (ys : List Act) → is_spent v.calls.drawn ≡ b →
-      cond b (Answers (Call v.calls.drawn) (fails Exhausted) ∷ []) (Starts (Call v.calls.drawn) (procedure_for v.chosen v.calls asked) ∷ []) ≡ act_of w d ∷ ys →
-      IsLedBy (Comes (Calls asked))
-  late_so asked true ys e h = let k = late d h in inr (inr (asked, refl, k.0, k.1, k.2))
+  late_so : (asked : Asked) (said : List (Option ℕ)) (b : Bool) (ys : List Act) → lacks_tickets v.calls.drawn (shares asked) ≡ b →
+      cond b (late ∷ []) (starts v said asked) ≡ act_of w d ∷ ys → IsLedBy (Comes (Calls asked said))
+  late_so asked said true ys e h = let k = is_late d h in inr (inr (asked, said, refl, k.0, e, k.1))
     where
-      late : (x : Deed) → Answers (Call v.calls.drawn) (fails Exhausted) ∷ [] ≡ act_of w x ∷ ys →
-          (w ≡ Call v.calls.drawn) × (is_spent v.calls.drawn ≡ true) × (x ≡ Answered (fails Exhausted))
-      late (Acted action) f = absurd cc
-      late (Answered verdict) f = (cc, e, ap Answered (let g : verdict ≡ fails Exhausted = cc in g))
-  late_so asked false ys e h =
-      let f : false ≡ true = (λ i. is_deed_first (h i)) ∙ is_one w d in absurd cc
-    where
-      is_deed_first : List Act → Bool
-      is_deed_first [] = false
-      is_deed_first (x ∷ xs) = is_deed x
+      is_late : (x : Deed) → late ∷ [] ≡ act_of w x ∷ ys → (w ≡ Call (2 ^ 64 - 1)) × (x ≡ Answered (fails Exhausted))
+      is_late (Acted action) f = absurd cc
+      is_late (Answered verdict) f = (cc, ap Answered (let g : verdict ≡ fails Exhausted = cc in g))
+  late_so asked said false ys e h = absurd (not_deed w d (starts v said asked) ys (starts_none v said asked) h)
 
   once_led : (a : Act) (ys : List Act) → at_once v a ≡ act_of w d ∷ ys → IsLedBy a
-  once_led (Comes (Calls asked)) ys h = late_so asked (is_spent v.calls.drawn) ys refl h
-  once_led (Comes p) ys h = absurd (not_deed w d (at_once v (Comes p)) ys (each_map IsQuiet NoDeed (at_once v (Comes p)) quiet_no_deed (comes_quiet v p refl)) h)
+  once_led (Comes (Calls asked said)) ys h = late_so asked said (lacks_tickets v.calls.drawn (shares asked)) ys refl h
+  once_led (Comes p) ys h = absurd (not_deed w d (at_once v (Comes p)) ys (each_map IsQuiet NoDeed (at_once v (Comes p)) quiet_no_deed (comes_quiet v p refl))
+      h)
   once_led (Starts who p) ys h = starts_so who p (led who w d (begins p) ys h)
   once_led (Told n) ys h = told_so n (v.stand n.who) ys refl h
   once_led (Does who action) ys h = absurd (not_deed w d (performs v who action) ys (performs_none v who action) h)

@@ -27,7 +27,7 @@ use Rattle.pulsar_client.specs.Content.{Heard, Bytes}
 use Rattle.pulsar_client.specs.Laws.{Attempted, AttemptsFollow, Begun, OneLinkEach, base_of, names_link}
 use Rattle.pulsar_client.specs.Links.{Change, Remains, Becomes, IsOver, arrival, change_at, change_by, change_in, closed_by}
 use Rattle.pulsar_client.specs.Run.{Entry, Begins, Then, IsRun, view}
-use Rattle.pulsar_client.specs.View.{Base, Chosen, Seat, Turned, View, after, base_on, base_turned, begun, begun_live, dialed, got_at, is_for, is_live, is_to_follow, link_got, live_begun, may_retry, nobody, pause_for, pause_on, pause_put, pause_rung, pause_with, seat_asked, seat_fed, seat_got, took, took_end, took_some, turned, turned_by, waits_for, waits_on}
+use Rattle.pulsar_client.specs.View.{Chosen, Base, Options, Seat, Turned, View, after, base_on, base_turned, begun, begun_live, dialed, got_at, is_for, is_live, is_to_follow, link_got, live_begun, may_retry, nobody, pause_for, pause_on, pause_put, pause_rung, pause_with, seat_asked, seat_fed, seat_got, took, took_end, took_some, turned, turned_by, waits_for, waits_on}
 use Rattle.pulsar_client.proofs.Alone.{no_some, some_is}
 
 abbrev series_at : View → List ℕ → Series
@@ -392,7 +392,7 @@ paused_free v p k e none is = record {
       no_some (sym none ∙ ap v.addresses.pause link ∙ h));
 }
 
-module _ (o : Chosen) (p : Place) (starter : Who) (n : ℕ) where
+module _ (o : Options) (p : Place) (starter : Who) (n : ℕ) where
   begun_free : (older : List Entry) → Begun o p starter (Then (Does starter (Get p))) older → Is (view o (Then (Does starter (Get p)) ∷ older)) →
       IsFree (view o (Then (Does starter (Get p)) ∷ older)) p
   begun_free older b is = nobody_free (view o (Then (Does starter (Get p)) ∷ older)) p ((gets_same (view o older) starter p).series (address_key p) ∙ b.2) is
@@ -423,21 +423,21 @@ module _ (o : Chosen) (p : Place) (starter : Who) (n : ℕ) where
 
 -- ALONG A LOG
 
-dialed_on : AttemptsFollow → (o : Chosen) (p : Place) (starter : Who) (n : ℕ) (log : List Entry) → IsRun o (Then (Dials p starter n) ∷ log) →
+dialed_on : AttemptsFollow → (o : Options) (p : Place) (starter : Who) (n : ℕ) (log : List Entry) → IsRun o (Then (Dials p starter n) ∷ log) →
     ((e : Entry) (older : List Entry) → log ≡ e ∷ older → Is (view o older)) → Is (view o log) → Is (view o (Then (Dials p starter n) ∷ log))
 dialed_on follow o p starter n [] run was is = let a = follow o [] p starter n run in let no = a.2 in absurd cc
 dialed_on follow o p starter n (e ∷ older) run was is =
     dials (view o (e ∷ older)) p starter n (attempted_free o p starter n e older (follow o (e ∷ older) p starter n run) (was e older refl) is) is
 
 -- what holds of a log, and of the log before its newest entry
-record Both (o : Chosen) (log : List Entry) : Type 0 where
+record Both (o : Options) (log : List Entry) : Type 0 where
   is : Is (view o log)
   was : (e : Entry) (older : List Entry) → log ≡ e ∷ older → Is (view o older)
 
-more : (o : Chosen) (e : Entry) (log : List Entry) → Both o log → Is (view o (e ∷ log)) → Both o (e ∷ log)
+more : (o : Options) (e : Entry) (log : List Entry) → Both o log → Is (view o (e ∷ log)) → Both o (e ∷ log)
 more o e log k is = record { is = is; was = λ x older same. (let rest : log ≡ older = cc in subst (λ xs. Is (view o xs)) rest k.is) }
 
-both : AttemptsFollow → (o : Chosen) (log : List Entry) → IsRun o log → Both o log
+both : AttemptsFollow → (o : Options) (log : List Entry) → IsRun o log → Both o log
 both follow o [] run = record {
   is = record { pauses = λ l p h. absurd (no_some h); links = λ l seat h. absurd (no_some h) };
   was = λ e older same. absurd cc;

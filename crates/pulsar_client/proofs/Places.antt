@@ -20,15 +20,16 @@ places_end first zero = ap (λ k. k ∷ []) (omega arith)
 places_end first (suc n) =
     ap (λ ps. first ∷ ps) (places_end (suc first) n) ∙ ap (λ k. first ∷ (numbers_from (suc first) n ++ k ∷ [])) (omega arith)
 
--- of one place more
-pub next_place : {A : Type 0} (f : ℕ → Option A) (first i : ℕ) → first ≤ i →
-    filter_map f (numbers_from first (i + 1 - first)) ≡ filter_map f (numbers_from first (i - first)) ++ option_to_list (f i)
-next_place f first i le =
+-- one place more
+pub next_number : (first i : ℕ) → first ≤ i → numbers_from first (i + 1 - first) ≡ numbers_from first (i - first) ++ i ∷ []
+next_number first i le =
     let more : i + 1 - first ≡ suc (i - first) = omega arith in
     let at : first + (i - first) ≡ i = omega arith in
-    ap (λ n. filter_map f (numbers_from first n)) more ∙ ap (filter_map f) (places_end first (i - first))
-    ∙ filter_map_end f (numbers_from first (i - first)) (first + (i - first))
-    ∙ ap (λ k. filter_map f (numbers_from first (i - first)) ++ option_to_list (f k)) at
+    ap (numbers_from first) more ∙ places_end first (i - first) ∙ ap (λ k. numbers_from first (i - first) ++ k ∷ []) at
+
+pub next_place : {A : Type 0} (f : ℕ → Option A) (first i : ℕ) → first ≤ i →
+    filter_map f (numbers_from first (i + 1 - first)) ≡ filter_map f (numbers_from first (i - first)) ++ option_to_list (f i)
+next_place f first i le = ap (filter_map f) (next_number first i le) ∙ filter_map_end f (numbers_from first (i - first)) i
 
 -- WHAT IS GIVEN BY SOME OF THE NUMBERS
 

@@ -30,7 +30,7 @@ use Rattle.pulsar_client.specs.Effects.{asked_at, effect_below, effect_rank, eff
 use Rattle.pulsar_client.specs.Laws.{EndsOnce, PollsAreAnswered, PollsFollow, brought, brought_by, given_by, items_come, items_given}
 use Rattle.pulsar_client.specs.Run.{Entry, Begins, Then, IsRun, Step, first_of, is_empty, rules, steps, view}
 use Rattle.pulsar_client.specs.Subscriptions.{Subscription, after_came, after_poll, closes_it, ended, ended_at, hears, is_heard_on, is_last, polled, polled_from}
-use Rattle.pulsar_client.specs.View.{Chosen, Seat, View, answer_at, arrival_at, closing, hears_ask, is_asked, made, turned}
+use Rattle.pulsar_client.specs.View.{Options, Seat, View, answer_at, arrival_at, closing, hears_ask, is_asked, made, turned}
 use Rattle.pulsar_client.specs.Who.{is_same}
 use Rattle.pulsar_client.proofs.Acts.{Each, each_append, each_map}
 use Rattle.pulsar_client.proofs.Hearing.{begun_consumers, none_before}
@@ -151,7 +151,7 @@ with_none : (t : ℕ) (xs : List Shown) (ss : List Step) → NoItems t xs → it
 with_none t xs [] p = refl
 with_none t xs (s ∷ ss) p = ap (λ items. items_given t ss ++ items) (gives_none t s.effects xs p)
 
-given_same : (o : Chosen) (t : ℕ) (a : Act) (log : List Entry) → NoItems t (effects (view o log) a) → items_given t (steps o (Then a ∷ log)) ≡ items_given t (steps o log)
+given_same : (o : Options) (t : ℕ) (a : Act) (log : List Entry) → NoItems t (effects (view o log) a) → items_given t (steps o (Then a ∷ log)) ≡ items_given t (steps o log)
 given_same o t a log p =
     given_done t (steps_done rules o (Then a ∷ log))
     ∙ with_none t (effects (view o log) a) (steps_done rules o log) p
@@ -258,7 +258,7 @@ poll_gives t k c s given come is false e g =
     subst (λ x. Gives c x come) (sym (ap (λ x. given ++ x) (others t k s.topic s.is_live s.unread e) ∙ append-nil given)) g
 
 -- the newest step gives what the poll gives
-poll_given : (o : Chosen) (t k : ℕ) (s : Subscription) (log older : List Entry) → log ≡ Begins (Poll k) ∷ older →
+poll_given : (o : Options) (t k : ℕ) (s : Subscription) (log older : List Entry) → log ≡ Begins (Poll k) ∷ older →
     steps o (Then (Comes (Polls k)) ∷ log) ≡ record { event = Poll k; effects = polled k s ∷ [] } ∷ steps o older →
     items_given t (steps o (Then (Comes (Polls k)) ∷ log)) ≡ items_given t (steps o log) ++ given_by t (polled k s)
 poll_given o t k s log older is step =
@@ -266,10 +266,10 @@ poll_given o t k s log older is step =
     ∙ ap (λ x. items_given t (steps o older) ++ x) (append-nil (given_by t (polled k s)))
     ∙ ap (λ x. x ++ given_by t (polled k s)) (sym (ap (λ x. items_given t (steps o x)) is ∙ append-nil (items_given t (steps o older))))
 
-abbrev Follows : Chosen → ℕ → List Entry → Type 0
+abbrev Follows : Options → ℕ → List Entry → Type 0
 Follows o t log = Gives ((view o log).consumers t) (items_given t (steps o log)) (items_come o t log)
 
-polls_on : (o : Chosen) (t k : ℕ) (log : List Entry) → IsRun o (Then (Comes (Polls k)) ∷ log) → Follows o t log → Follows o t (Then (Comes (Polls k)) ∷ log)
+polls_on : (o : Options) (t k : ℕ) (log : List Entry) → IsRun o (Then (Comes (Polls k)) ∷ log) → Follows o t log → Follows o t (Then (Comes (Polls k)) ∷ log)
 polls_on o t k log r g =
     let w = polls_are_answered_lem o log k r in
     let own : (view o log).consumers k ≡ Some w.1 = ap (λ l. (view o l).consumers k) w.2 ∙ begun_consumers (Poll k) (view o w.0) k ∙ w.3 in
@@ -277,16 +277,16 @@ polls_on o t k log r g =
     (poll_gives t k ((view o log).consumers t) w.1 (items_given t (steps o log)) (items_come o t log) (λ e. ap (λ m. (view o log).consumers m) e ∙ own) (t == k) refl g)
 
 -- an act whose effects give no item
-on : (o : Chosen) (t : ℕ) (a : Act) (log : List Entry) → NoItems t (effects (view o log) a) →
+on : (o : Options) (t : ℕ) (a : Act) (log : List Entry) → NoItems t (effects (view o log) a) →
     Gives ((view o (Then a ∷ log)).consumers t) (items_given t (steps o log)) (items_come o t (Then a ∷ log)) → Follows o t (Then a ∷ log)
 on o t a log none g = subst (λ x. Gives ((view o (Then a ∷ log)).consumers t) x (items_come o t (Then a ∷ log))) (sym (given_same o t a log none)) g
 
-begins_on : (o : Chosen) (t : ℕ) (e : Heard) (log : List Entry) → Follows o t log → Follows o t (Begins e ∷ log)
+begins_on : (o : Options) (t : ℕ) (e : Heard) (log : List Entry) → Follows o t log → Follows o t (Begins e ∷ log)
 begins_on o t e log g =
     subst (λ c. Gives c (items_given t (steps o log) ++ []) (items_come o t log)) (sym (begun_consumers e (view o log) t))
     (subst (λ x. Gives ((view o log).consumers t) x (items_come o t log)) (sym (append-nil (items_given t (steps o log)))) g)
 
-follows : EndsOnce → (o : Chosen) (t : ℕ) (log : List Entry) → is_spent t ≡ false → IsRun o log → Follows o t log
+follows : EndsOnce → (o : Options) (t : ℕ) (log : List Entry) → is_spent t ≡ false → IsRun o log → Follows o t log
 follows once o t [] un r = (refl, refl)
 follows once o t (Begins e ∷ log) un r = begins_on o t e log (follows once o t log un r.0)
 follows once o t (Then (Comes (ToLink l Reads)) ∷ log) un r =

@@ -2,40 +2,27 @@
 use Rattle.std.proofs.Common.{◌≡◌, ◌⊎◌, inl, inr, sym, subst, ℕ, List, [], ◌∷◌, ◌++◌, refl, map, Bool, true, false, cond, Option, Some, None}
 use Rattle.std.specs.List.{flat_map}
 use Rattle.std.specs.Option.{option_to_list}
-use Rattle.pulsar_plans.specs.Address.{Place, address_key, is_reachable}
 use Rattle.pulsar_run.specs.Laws.{Arises, In, InOne, InThisStep}
-use Rattle.pulsar_session.specs.Failures.{Exhausted}
-use Rattle.pulsar_session.specs.Link.{due, is_spent}
+use Rattle.pulsar_session.specs.Link.{due}
+use Rattle.pulsar_producer.specs.Routing.{Policy}
 use Rattle.pulsar_client.specs.declared.act.Act.{Act}
-use Rattle.pulsar_client.specs.declared.act.Act.TheVariants.{Comes, Starts, Told, Does, Answers}
-use Rattle.pulsar_client.specs.declared.act.Action.{Action}
-use Rattle.pulsar_client.specs.declared.act.Action.TheVariants.{Get, StopAll, Ask, Rest}
+use Rattle.pulsar_client.specs.declared.act.Act.TheVariants.{Comes, Told}
 use Rattle.pulsar_client.specs.declared.act.Alarm.{Alarm}
-use Rattle.pulsar_client.specs.declared.act.Alarm.TheVariants.{Retry, Wake, KeepAlive, CheckIdle}
+use Rattle.pulsar_client.specs.declared.act.Alarm.TheVariants.{KeepAlive, CheckIdle}
 use Rattle.pulsar_client.specs.declared.act.Arrival.{Arrival}
 use Rattle.pulsar_client.specs.declared.act.Arrival.TheVariants.{Bad, Nothing}
 use Rattle.pulsar_client.specs.declared.act.End.TheVariants.{Overdue, Idles}
 use Rattle.pulsar_client.specs.declared.act.LinkAct.TheVariants.{Ends, Pings, Reads}
 use Rattle.pulsar_client.specs.declared.act.Notice.{Notice}
-use Rattle.pulsar_client.specs.declared.act.Outcome.TheVariants as outcome
-use Rattle.pulsar_client.specs.declared.act.Part.TheVariants.{Calls, ToLink, Rings}
-use Rattle.pulsar_client.specs.declared.act.Verdict.{Verdict}
-use Rattle.pulsar_client.specs.declared.act.Who.{Who}
-use Rattle.pulsar_client.specs.declared.act.Who.TheVariants.{Call}
-use Rattle.pulsar_client.specs.declared.addresses.Pause.{Pause}
-use Rattle.pulsar_client.specs.declared.addresses.Series.{Series}
-use Rattle.pulsar_client.specs.declared.addresses.Series.TheVariants.{Nobody, Runs, Pauses, Serves}
-use Rattle.pulsar_client.specs.declared.plans.plan.Plan.{Plan}
-use Rattle.pulsar_client.specs.declared.plans.plan.Turn.{Turn}
-use Rattle.pulsar_client.specs.declared.plans.plan.Turn.TheVariants.{Stays, Gives}
-use Rattle.pulsar_client.specs.Alarms.{ringing, rings}
-use Rattle.pulsar_client.specs.Content.{Asked, Heard, Ticked}
+use Rattle.pulsar_client.specs.declared.act.Part.TheVariants.{ToLink, Rings}
+use Rattle.pulsar_client.specs.Alarms.{ringing}
+use Rattle.pulsar_client.specs.Content.{Heard, Ticked}
 use Rattle.pulsar_client.specs.Links.{numbers_from}
-use Rattle.pulsar_client.specs.Plan.{begins, fails}
-use Rattle.pulsar_client.specs.Rules.{at_once, breaks_at, brings, called, does, due_part, follows, follows_some, further, gets_from, idle_act, is_idle, may_ping, on_link, over_links, parts, performs, procedure_for, reads_on, rung, stop_act, tells, tries_again}
-use Rattle.pulsar_client.specs.Run.{Entry, Begins, Then, rules, view}
-use Rattle.pulsar_client.specs.View.{Chosen, Links, Seat, Tickets, View, arrival_at, is_live, told_some}
-use Rattle.pulsar_client.proofs.Acts.{Each, each_append, each_map, over_each}
+use Rattle.pulsar_client.specs.Rules.{at_once, brings, due_part, further, joins, on_link, over_links, parts, reads_on}
+use Rattle.pulsar_client.specs.Run.{Entry, Begins, Then, IsRun, rules, view}
+use Rattle.pulsar_client.specs.View.{Options, Links, Seat, View, arrival_at, is_live}
+use Rattle.pulsar_client.proofs.Acts.{Each, each_append, each_either, each_map, over_each}
+use Rattle.pulsar_client.proofs.Raising.{IsRaised, raises}
 
 -- WHAT IS IN A LIST
 
@@ -58,7 +45,8 @@ in_some f y None i = absurd i
 in_some f y (Some x) i = elim (in_append y (f x) [] i) [ inl j ↦ (x, refl, j) | inr j ↦ absurd j ]
 
 -- what all live links give, one of them gives
-pub in_links : {A : Type 0} (f : ℕ → Seat → List A) (y : A) (ls : Links) → In y (over_links f ls) → (l : ℕ) × (seat : Seat) × (ls.live l ≡ Some seat) × In y (f l seat)
+pub in_links : {A : Type 0} (f : ℕ → Seat → List A) (y : A) (ls : Links) → In y (over_links f ls) →
+    (l : ℕ) × (seat : Seat) × (ls.live l ≡ Some seat) × In y (f l seat)
 in_links f y ls i =
     let k = in_flat_map (on_link f ls.live) y (numbers_from 0 ls.started) i in
     let s = in_some (f k.0) y (ls.live k.0) k.1 in
@@ -70,7 +58,7 @@ in_one true x y (inl e) = (refl, e)
 in_one true x y (inr i) = absurd i
 in_one false x y i = absurd i
 
-in_each : {A : Type 0} (P : A → Type 0) (x : A) (xs : List A) → In x xs → Each P xs → P x
+pub in_each : {A : Type 0} (P : A → Type 0) (x : A) (xs : List A) → In x xs → Each P xs → P x
 in_each P x [] i k = absurd i
 in_each P x (y ∷ xs) (inl e) k = subst P (sym e) k.0
 in_each P x (y ∷ xs) (inr i) k = in_each P x xs i k.1
@@ -100,70 +88,20 @@ gives _ = Any
 abbrev pub Fits : Source → Act → Type 0
 Fits s a = (source a ≡ Any) ⊎ (source a ≡ s)
 
-abbrev IsAny : Act → Type 0
-IsAny a = source a ≡ Any
-
-any_fits : (s : Source) (xs : List Act) → Each IsAny xs → Each (Fits s) xs
-any_fits s xs k = each_map IsAny (Fits s) xs (λ a e. inl e) k
-
-either : {A : Type 0} (P : A → Type 0) (b : Bool) (xs ys : List A) → Each P xs → Each P ys → Each P (cond b xs ys)
-either P true xs ys p q = p
-either P false xs ys p q = q
-
-does_any : (who : Who) (action : Action) → Each IsAny (does who action)
-does_any who Rest = tt
-does_any who _ = (refl, tt)
-
-follows_any : (who : Who) (turn : Turn Plan Verdict) → Each IsAny (follows who turn)
-follows_any who (Stays plan action) = does_any who action
-follows_any who (Gives verdict) = (refl, tt)
-
-some_any : (who : Who) (turn : Option (Turn Plan Verdict)) → Each IsAny (follows_some who turn)
-some_any who None = tt
-some_any who (Some turn) = follows_any who turn
-
-called_any : (o : Chosen) (c : Tickets) (asked : Asked) → Each IsAny (called o c asked)
-called_any o c asked =
-    either IsAny (is_spent c.drawn) (Answers (Call c.drawn) (fails Exhausted) ∷ []) (Starts (Call c.drawn) (procedure_for o c asked) ∷ []) (refl, tt) (refl, tt)
-
-from_any : (who : Who) (p : Place) (s : Series) → Each IsAny (gets_from who p s)
-from_any who p Nobody = (refl, tt)
-from_any who p (Runs starter retries l) = tt
-from_any who p (Pauses l) = tt
-from_any who p (Serves l) = (refl, tt)
-
-performs_any : (v : View) (who : Who) (action : Action) → Each IsAny (performs v who action)
-performs_any v who (Get p) =
-    let s : Series = (v.addresses.base (address_key p)).series in
-    either IsAny (is_reachable p) (gets_from who p s) (tells who outcome.NotFound) (from_any who p s) (refl, tt)
-performs_any v who (Ask l request) = (refl, tt)
-performs_any v who StopAll = each_append IsAny (over_links stop_act v.links) (tells who outcome.Stopped) (over_each IsAny stop_act v.links (λ l seat. (refl, tt))) (refl, tt)
-performs_any v who _ = tt
-
-breaks_any : (l : ℕ) (a : Arrival) → Each IsAny (breaks_at l a)
-breaks_any l (Bad cause) = (refl, tt)
-breaks_any l _ = tt
-
-tries_any : (row : Option Pause) → Each IsAny (tries_again row)
-tries_any None = tt
-tries_any (Some p) = (refl, tt)
-
-rung_fits : (v : View) (a : Alarm) → Each (Fits (gives (Then (Comes (Rings a))))) (rung v a)
-rung_fits v (Retry l) = any_fits Any (tries_again (v.addresses.pause l)) (tries_any (v.addresses.pause l))
-rung_fits v (Wake who) = tt
-rung_fits v (KeepAlive l) = either (Fits Keeping) (may_ping (v.links.live l)) (Comes (ToLink l Pings) ∷ []) [] (inr refl, tt) tt
-rung_fits v CheckIdle = over_each (Fits Check) (idle_act v) v.links
-    (λ l seat. either (Fits Check) (is_idle v l seat) (Comes (ToLink l (Ends Idles)) ∷ []) [] (inr refl, tt) tt)
+raised_fits : (a b : Act) → IsRaised a b → Fits (gives (Then a)) b
+raised_fits (Comes (Rings CheckIdle)) (Comes (ToLink l (Ends Idles))) h = inr refl
+raised_fits a (Comes (ToLink l (Ends Idles))) h = absurd cc
+raised_fits (Comes (Rings (KeepAlive k))) (Comes (ToLink l Pings)) h = inr refl
+raised_fits a (Comes (ToLink l Pings)) h = absurd cc
+raised_fits a (Comes (ToLink l (Ends (Overdue queued)))) h = absurd cc
+raised_fits a (Comes (Rings x)) h = absurd cc
+raised_fits a _ h = inl refl
 
 at_once_fits : (v : View) (a : Act) → Each (Fits (gives (Then a))) (at_once v a)
-at_once_fits v (Comes (Calls asked)) = any_fits Any (called v.chosen v.calls asked) (called_any v.chosen v.calls asked)
-at_once_fits v (Comes (ToLink l Reads)) = any_fits Any (breaks_at l (arrival_at (v.links.live l))) (breaks_any l (arrival_at (v.links.live l)))
-at_once_fits v (Comes (Rings a)) =
-    either (Fits (gives (Then (Comes (Rings a))))) (rings v.now a v.alarms) (rung v a) [] (rung_fits v a) tt
-at_once_fits v (Starts who p) = any_fits Any (follows who (begins p)) (follows_any who (begins p))
-at_once_fits v (Told n) = any_fits Any (follows_some n.who (told_some (v.stand n.who) n.outcome)) (some_any n.who (told_some (v.stand n.who) n.outcome))
-at_once_fits v (Does who action) = any_fits Any (performs v who action) (performs_any v who action)
-at_once_fits v _ = tt
+at_once_fits v a = each_map (IsRaised a) (Fits (gives (Then a))) (at_once v a) (raised_fits a) (raises v a)
+
+abbrev IsAny : Act → Type 0
+IsAny a = source a ≡ Any
 
 reads_any : (l : ℕ) (a : Arrival) → Each IsAny (map Comes (reads_on l a))
 reads_any l Nothing = tt
@@ -184,34 +122,55 @@ one_told a (ns ∷ nss) (inl i) = in_each IsAny a (map Told ns) i (told_any ns)
 one_told a (ns ∷ nss) (inr i) = one_told a nss i
 
 due_fits : (now l : ℕ) (seat : Seat) → Each (λ p. Fits Tick (Comes p)) (due_part now l seat)
-due_fits now l seat = either (λ p. Fits Tick (Comes p)) (due now seat.seen) (ToLink l (Ends (Overdue seat.seen.waits.queued)) ∷ []) [] (inr refl, tt) tt
+due_fits now l seat = each_either (λ p. Fits Tick (Comes p)) (due now seat.seen) (ToLink l (Ends (Overdue seat.seen.waits.queued)) ∷ []) [] (inr refl, tt) tt
 
 rings_fit : (alarms : List Alarm) → Each (λ p. Fits Tick (Comes p)) (map Rings alarms)
 rings_fit [] = tt
 rings_fit (a ∷ alarms) = (inr refl, rings_fit alarms)
 
-brings_fits : (v : View) (e : Heard) → Each (λ p. Fits (gives (Begins e)) (Comes p)) (brings v e)
-brings_fits v (Ticked now) =
+brings_fits : (policies : List Policy) (v : View) (e : Heard) → Each (λ p. Fits (gives (Begins e)) (Comes p)) (brings policies v e)
+brings_fits policies v (Ticked now) =
     each_append (λ p. Fits Tick (Comes p)) (over_links (due_part now) v.links) (map Rings (ringing now v.alarms))
     (over_each (λ p. Fits Tick (Comes p)) (due_part now) v.links (due_fits now)) (rings_fit (ringing now v.alarms))
-brings_fits v _ = (inl refl, tt)
+brings_fits policies v _ = (inl refl, tt)
 
-parts_fits : (v : View) (e : Heard) → Each (λ p. Fits (gives (Begins e)) (Comes p)) (parts v e)
-parts_fits v e = either (λ p. Fits (gives (Begins e)) (Comes p)) (is_live v e) (brings v e) [] (brings_fits v e) tt
+parts_fits : (o : Options) (v : View) (e : Heard) → Each (λ p. Fits (gives (Begins e)) (Comes p)) (parts o v e)
+parts_fits o v e = each_either (λ p. Fits (gives (Begins e)) (Comes p)) (is_live v e) (brings o.policies v e) [] (brings_fits o.policies v e) tt
 
 -- whatever arises at an entry comes from anywhere, or from this entry
-pub arises_fits : (o : Chosen) (a : Act) (e : Entry) (older : List Entry) → Arises rules o a e older → Fits (gives e) a
+pub arises_fits : (o : Options) (a : Act) (e : Entry) (older : List Entry) → Arises rules o a e older → Fits (gives e) a
 arises_fits o a (Begins e) older i =
-    let p = in_map Comes a (parts (view o older) e) i in
-    subst (Fits (gives (Begins e))) (sym p.2) (in_each (λ q. Fits (gives (Begins e)) (Comes q)) p.0 (parts (view o older) e) p.1 (parts_fits (view o older) e))
+    let p = in_map Comes a (parts o (view o older) e) i in
+    subst (Fits (gives (Begins e))) (sym p.2)
+    (in_each (λ q. Fits (gives (Begins e)) (Comes q)) p.0 (parts o (view o older) e) p.1 (parts_fits o (view o older) e))
 arises_fits o a (Then b) older (inl i) = in_each (Fits (gives (Then b))) a (at_once (view o older) b) i (at_once_fits (view o older) b)
-arises_fits o a (Then b) older (inr (inl i)) = absurd i
+arises_fits o a (Then b) older (inr (inl i)) = inl (in_each IsAny a (map Told (joins (view o older) b)) i (told_any (joins (view o older) b)))
 arises_fits o a (Then b) older (inr (inr (inl i))) = inl (one_told a (rules.causes (view o older) b) i)
 arises_fits o a (Then b) older (inr (inr (inr i))) = inl (in_each IsAny a (map Comes (further (view o older) b)) i (further_any (view o older) b))
 
 -- each entry of a step that is so is such
-pub step_more : (P Q : Entry → List Entry → Type 0) → ((e : Entry) (older : List Entry) → P e older → Q e older) → (log : List Entry) → InThisStep P log → InThisStep Q log
+pub step_more : (P Q : Entry → List Entry → Type 0) → ((e : Entry) (older : List Entry) → P e older → Q e older) → (log : List Entry) → InThisStep P log →
+    InThisStep Q log
 step_more P Q f [] i = absurd i
 step_more P Q f (Begins e ∷ log) i = f (Begins e) log i
 step_more P Q f (Then a ∷ log) (inl i) = inl (f (Then a) log i)
 step_more P Q f (Then a ∷ log) (inr i) = inr (step_more P Q f log i)
+
+-- an entry of a step that is so, with the run up to it
+pub step_runs : (o : Options) (P : Entry → List Entry → Type 0) (log : List Entry) → IsRun o log → InThisStep P log →
+    InThisStep (λ e older. IsRun o (e ∷ older) × P e older) log
+step_runs o P [] run i = absurd i
+step_runs o P (Begins e ∷ log) run i = (run, i)
+step_runs o P (Then a ∷ log) run (inl i) = inl (run, i)
+step_runs o P (Then a ∷ log) run (inr i) = inr (step_runs o P log run.0 i)
+
+pub record SomeEntry (P : Entry → List Entry → Type 0) : Type 0 where
+  pub entry : Entry
+  pub older : List Entry
+  pub holds : P entry older
+
+pub step_some : (P : Entry → List Entry → Type 0) (log : List Entry) → InThisStep P log → SomeEntry P
+step_some P [] i = absurd i
+step_some P (Begins e ∷ log) i = record { entry = Begins e; older = log; holds = i }
+step_some P (Then a ∷ log) (inl i) = record { entry = Then a; older = log; holds = i }
+step_some P (Then a ∷ log) (inr i) = step_some P log i

@@ -6,14 +6,12 @@ use Rattle.pulsar_run.proofs.Unique.{one_log}
 use Rattle.pulsar_run.specs.Run.{Begins, only}
 use Rattle.pulsar_client.specs.declared.effect.Effect.{Effect}
 use Rattle.pulsar_client.specs.declared.event.Event.{Event}
-use Rattle.pulsar_client.specs.declared.pulsar.Pulsar.{Pulsar}
 use Rattle.pulsar_client.specs.declared.tables.Tables.{Tables}
-use Rattle.pulsar_client.specs.Client.{IsDead}
 use Rattle.pulsar_client.specs.Content.{Heard, heard, shown}
 use Rattle.pulsar_client.specs.Rules.{brings}
 use Rattle.pulsar_client.specs.Run.{Agenda, Good, Step, first, rules, view}
 use Rattle.pulsar_client.specs.Tables.{Stands, answered, step, view_of}
-use Rattle.pulsar_client.specs.View.{Chosen, begun_live, is_live}
+use Rattle.pulsar_client.specs.View.{Options, begun_live, is_live}
 
 answered_more : (es : List Event) (xs : List (Vec Effect)) (e : Event) (x : Vec Effect) → length xs ≡ length es →
     answered (es ++ e ∷ []) (xs ++ x ∷ []) ≡ answered es xs ++ step e x.items ∷ []
@@ -35,23 +33,21 @@ pub nothing_arises : (g : Agenda) → g ≡ record g { behind = g.behind ++ [] }
 nothing_arises g i = record { now = g.now; here = g.here; behind = sym (append-nil g.behind) i; parts = g.parts }
 
 -- an event that isn't live changes nothing, and nothing is left to do
-pub dead_step : {o : Chosen} (c : Tables) {h : List Step} (e : Heard) → is_live (view_of c) e ≡ false → Stands o c h → Stands o c (record { event = e; effects = [] } ∷ h)
+pub dead_step : {o : Options} (c : Tables) {h : List Step} (e : Heard) → is_live (view_of c) e ≡ false → Stands o c h → Stands o c (record { event = e; effects = [] } ∷ h)
 dead_step {o} c {h} e dead s =
     let v = view o s.log in
     let dead_there : is_live v e ≡ false = ap (λ x. is_live x e) (sym s.sees) ∙ dead in
     record {
       log = Begins e ∷ s.log;
       run = (s.run, s.rests);
-      rests = ap (λ b. first (only (cond b (brings v e) []))) dead_there;
+      rests = ap (λ b. first (only (cond b (brings o.policies v e) []))) dead_there;
       same = ap (λ x. record { event = e; effects = [] } ∷ x) s.same;
       sees = s.sees ∙ sym (ap (λ b. cond b (begun_live e v) v) dead_there);
     }
 
-pub not_live : (c : Pulsar) (e : Heard) → IsDead c e → is_live (view_of c.tables) e ≡ false
-not_live c e d =
-    let s = d.2.stands in
-    ap (λ v. is_live v e) s.sees ∙ d.3 (record { log = s.log; run = s.run; rests = s.rests; same = s.same })
+pub not_live : (c : Tables) (e : Heard) {o : Options} {h : List Step} → Stands o c h → ((g : Good o h) → is_live (view o g.log) e ≡ false) → is_live (view_of c) e ≡ false
+not_live c e s dead = ap (λ v. is_live v e) s.sees ∙ dead (record { log = s.log; run = s.run; rests = s.rests; same = s.same })
 
 -- what is seen of the tables of a client is what is seen after the run of each history that it stands for
-pub seen_of : (c : Tables) {o : Chosen} {h : List Step} → Stands o c h → (g : Good o h) → view_of c ≡ view o g.log
+pub seen_of : (c : Tables) {o : Options} {h : List Step} → Stands o c h → (g : Good o h) → view_of c ≡ view o g.log
 seen_of c {o} {h} s g = s.sees ∙ ap (view o) (one_log rules o h h (record { log = s.log; run = s.run; rests = s.rests; same = s.same }) g refl)

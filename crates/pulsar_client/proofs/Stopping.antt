@@ -1,36 +1,31 @@
 -- From a Stop on no attempt begins. The stop is asked for where nothing else is left to do; in its step the links end one after the other,
 -- and whatever a plan is told is its last word; behind it no link is left, no alarm is set, and each call is refused.
-use Rattle.std.proofs.Common.{◌≡◌, ◌⊎◌, inl, inr, ◌∙◌, sym, ap, subst, ℕ, zero, suc, ◌+◌, ◌≤◌, nat_lt, List, [], ◌∷◌, ◌++◌, refl, arith, map, Bool, true, false, ◌&&◌, ◌==◌, not, cond, Option, Some, None, Result}
+use Rattle.std.proofs.Common.{◌≡◌, ◌⊎◌, inl, inr, ◌∙◌, sym, ap, subst, ℕ, zero, suc, ◌+◌, ◌≤◌, nat_lt, List, ◌∷◌, ◌++◌, refl, arith, map, Bool, true, false, ◌&&◌, ◌==◌, not, cond, Option, Some, None, [], ◌^◌, ◌-◌}
 use Rattle.std.proofs.lemmas.Bool.{cases_Bool, eqb-true}
 use Rattle.std.proofs.lemmas.Bool.Decides.{nat_tests}
 use Rattle.std.specs.List.{filter_map, flat_map}
-use Rattle.std.specs.Option.{option_map}
+use Rattle.std.specs.Option.{option_map, is_some}
 use Rattle.pulsar_run.specs.Laws.{In}
 use Rattle.pulsar_run.specs.Order.{arranged, put, put_all}
 use Rattle.pulsar_run.specs.Run.{first_of, rest, rest_of}
-use Rattle.pulsar_link.specs.Request.{is_answered}
-use Rattle.pulsar_session.specs.Failures.{Exhausted, Failure}
-use Rattle.pulsar_session.specs.Link.{ends, is_spent}
+use Rattle.pulsar_session.specs.Failures.{Exhausted, Failure, OfConnection}
+use Rattle.pulsar_session.specs.Link.{ends}
 use Rattle.pulsar_plans.specs.Address.{Place, address_key}
 use Rattle.pulsar_client.specs.declared.act.Act.{Act}
 use Rattle.pulsar_client.specs.declared.act.Act.TheVariants.{Comes, Starts, Told, Does, Answers, Dials}
-use Rattle.pulsar_client.specs.declared.act.Action.TheVariants.{Get, Ask, StopAll, Rest}
+use Rattle.pulsar_client.specs.declared.act.Action.TheVariants.{Get, Ask, StopAll, Tell}
 use Rattle.pulsar_client.specs.declared.act.Alarm.{Alarm}
 use Rattle.pulsar_client.specs.declared.act.Alarm.TheVariants.{Retry, Wake, KeepAlive, CheckIdle}
 use Rattle.pulsar_client.specs.declared.act.End.TheVariants.{Stops}
 use Rattle.pulsar_client.specs.declared.act.LinkAct.{LinkAct}
 use Rattle.pulsar_client.specs.declared.act.LinkAct.TheVariants.{Opens, Reads, Drains, Pings, Ends}
 use Rattle.pulsar_client.specs.declared.act.Makes.{Makes}
-use Rattle.pulsar_client.specs.declared.act.Makes.TheVariants.{Nothing, Client, Consumer}
+use Rattle.pulsar_client.specs.declared.act.Makes.TheVariants.{Nothing, Client, Consumer, Producer}
 use Rattle.pulsar_client.specs.declared.act.Notice.{Notice}
 use Rattle.pulsar_client.specs.declared.act.Outcome.{Outcome}
-use Rattle.pulsar_client.specs.declared.act.Outcome.TheVariants as outcome
 use Rattle.pulsar_client.specs.declared.act.Part.{Part}
 use Rattle.pulsar_client.specs.declared.act.Part.TheVariants.{Calls, ToLink, Rings, Polls}
-use Rattle.pulsar_client.specs.declared.act.Place.TheVariants as place
 use Rattle.pulsar_client.specs.declared.act.Procedure.{Procedure}
-use Rattle.pulsar_client.specs.declared.act.Procedure.TheVariants as procedure
-use Rattle.pulsar_client.specs.declared.act.Says.TheVariants as says
 use Rattle.pulsar_client.specs.declared.act.Verdict.{Verdict}
 use Rattle.pulsar_client.specs.declared.act.Who.{Who}
 use Rattle.pulsar_client.specs.declared.act.Who.TheVariants.{Call}
@@ -38,29 +33,36 @@ use Rattle.pulsar_client.specs.declared.addresses.Pause.{Pause}
 use Rattle.pulsar_client.specs.declared.addresses.Series.{Series}
 use Rattle.pulsar_client.specs.declared.addresses.Series.TheVariants.{Nobody, Runs, Pauses, Serves}
 use Rattle.pulsar_client.specs.declared.plans.plan.Plan.{Plan}
-use Rattle.pulsar_client.specs.declared.plans.plan.Plan.TheVariants.{Building, Getting, Asking, Awaiting, Searching, Stopping}
 use Rattle.pulsar_client.specs.declared.plans.plan.Turn.{Turn}
 use Rattle.pulsar_client.specs.declared.plans.plan.Turn.TheVariants.{Stays, Gives}
-use Rattle.pulsar_plans.specs.Plans as search
-use Rattle.pulsar_plans.specs.declared.plan.Answer.{Answer}
-use Rattle.pulsar_plans.specs.declared.plan.Plan.{Plan as Search}
-use Rattle.pulsar_plans.specs.declared.plan.Procedure.TheVariants as sought
-use Rattle.pulsar_plans.specs.declared.turn.Turn.{Turn as SearchTurn}
-use Rattle.pulsar_plans.specs.declared.turn.Turn.TheVariants as search_turn
 use Rattle.pulsar_plans.specs.declared.turn.Ways.{Ways}
-use Rattle.pulsar_plans.specs.declared.turn.Action.TheVariants as wish
 use Rattle.pulsar_client.specs.Alarms.{clear, rings}
-use Rattle.pulsar_client.specs.Content as content
-use Rattle.pulsar_client.specs.Content.{Asked, Bytes, Heard}
+use Rattle.pulsar_client.specs.Content.{Asked, Bytes, Heard, lacks_tickets, shares}
 use Rattle.pulsar_client.specs.Laws.{NoneAfterStop, stopped}
 use Rattle.pulsar_client.specs.Links.{line_places, numbers_from}
-use Rattle.pulsar_client.specs.Plan.{fails, goes, news_in, told, verdict}
-use Rattle.pulsar_client.specs.Rules.{asks_topics, at_once, below, builds_with, called, causes, dropped, ended_on, failed_at, failed_on, failed_over, follows, follows_some, from_base, is_open, lost, notice, on_link, opens, over_links, procedure_for, searches, stop_act, stopped_at, stopped_with, tells, tells_asker, unless_refused, waiters_of}
+use Rattle.pulsar_client.specs.Plan.{fault_of, fails, told, verdict, halted_with}
+use Rattle.pulsar_client.specs.Rules.{closes, gathers, asks_topics, at_once, below, builds_with, called, causes, dropped, ended_on, failed_at, failed_on, failed_over, follows, follows_some, from_base, lost, notice, on_link, opens, over_links, procedure_for, searches, stop_act, stopped_at, stopped_with, tells, tells_asker, unless_refused, waiters_of, asks_raw, checks, flushes, joins, parts_of, produces, sends, shares_unless, starts, stopped_one, why_no_sends}
 use Rattle.pulsar_client.specs.Run.{Agenda, Entry, Begins, Then, IsRun, agenda, first, rules, view}
-use Rattle.pulsar_client.specs.View.{Addresses, Base, Chosen, Links, Seat, Tickets, View, alarms_after, alarms_built, alarms_on, alarms_over, begun, begun_live, builds, calls_after, got_at, is_live, link_got, live_after, live_begun, pause_after, pause_of, pause_on, pause_put, pause_rung, told_some, took_some, turned_by, ways_of}
-use Rattle.pulsar_client.proofs.Acts.{Each, IsQuiet, begun_same, comes_quiet, each_append, each_either, each_first, each_flat, each_map, each_rest, first_case, is_served, none_now, over_each, performs_quiet}
+use Rattle.pulsar_client.specs.View.{after, Addresses, Base, Options, Links, Seat, Tickets, View, alarms_after, alarms_built, alarms_on, alarms_over, begun, begun_live, builds, calls_after, got_at, is_live, link_got, live_after, live_begun, pause_after, pause_of, pause_on, pause_put, pause_rung, told_some, took_some, turned_by, ways_of, Chosen, may_call, stand_after, stays, stays_some}
+use Rattle.pulsar_producer.specs.declared.sending.Sending.{Sending as Send}
+use Rattle.pulsar_producer.specs.declared.sending.Errand.{Errand}
+use Rattle.pulsar_client.specs.declared.plans.plan.Plan.TheVariants.{Leaving, Reporting, Sending}
+use Rattle.pulsar_messages.specs.Content.{ProducerMessageValues}
+use Rattle.pulsar_client.specs.Producers.{Producers, next_advice, waiting, why_not}
+use Rattle.pulsar_client.specs.declared.act.Refusal.{Refusal}
+use Rattle.pulsar_client.specs.declared.act.Share.{Share}
+use Rattle.pulsar_client.specs.Who.{is_same}
+use Rattle.pulsar_client.specs.declared.act.Refusal.TheVariants as refusal
+use Rattle.pulsar_client.specs.declared.act.Outcome.TheVariants as outcome
+use Rattle.pulsar_client.specs.declared.act.Procedure.TheVariants as procedure
+use Rattle.pulsar_plans.specs.declared.plan.Procedure.TheVariants as sought
+use Rattle.pulsar_client.specs.Content as content
+use Rattle.pulsar_producer.specs.declared.sending.Sending.TheVariants as send
+use Rattle.pulsar_client.proofs.Asked.{stop_clear}
+use Rattle.pulsar_client.proofs.Acts.{Each, begun_same, each_append, each_either, each_flat, each_rest, first_case, none_now, over_each}
 use Rattle.pulsar_client.proofs.Attempts.{is_dial}
-use Rattle.pulsar_client.proofs.Made.{NoSingle, is_single, comes_single, now_many}
+use Rattle.pulsar_client.proofs.Fitting.{Leaves, Spot, spot}
+use Rattle.pulsar_client.proofs.Spots.{calm_stop, is_calm, same_self, same_who, spot_of}
 
 -- LISTS
 
@@ -128,7 +130,7 @@ begun_dead e l v h =
     elim (is_live v e) as (λ b. (cond b (begun_live e v) v).links.live l ≡ None) [ true ↦ ap (live_begun e l) h ∙ live_none e l | false ↦ h ]
 
 -- a link that was not started is none
-not_started : (o : Chosen) (log : List Entry) (l : ℕ) → (view o log).links.started ≤ l → (view o log).links.live l ≡ None
+not_started : (o : Options) (log : List Entry) (l : ℕ) → (view o log).links.started ≤ l → (view o log).links.live l ≡ None
 not_started o [] l h = refl
 not_started o (Begins e ∷ log) l h =
     begun_dead e l (view o log) (not_started o log l (subst (λ n. n ≤ l) (begun_same (λ v. v.links.started) e (view o log) refl) h))
@@ -139,7 +141,7 @@ not_started o (Then (Dials p starter n) ∷ log) l h =
 not_started o (Then a ∷ log) l h =
     let v = view o log in ap (live_after v.chosen v.addresses v.now v.links.started a l) (not_started o log l h) ∙ stays_dead v a l refl
 
-is_started : (o : Chosen) (log : List Entry) (l : ℕ) (seat : Seat) → (view o log).links.live l ≡ Some seat → nat_lt l (view o log).links.started ≡ true
+is_started : (o : Options) (log : List Entry) (l : ℕ) (seat : Seat) → (view o log).links.live l ≡ Some seat → nat_lt l (view o log).links.started ≡ true
 is_started o log l seat h = elim (cases_Bool (nat_lt l (view o log).links.started)) [
   | inl e ↦ e
   | inr e ↦
@@ -147,147 +149,6 @@ is_started o log l seat h = elim (cases_Bool (nat_lt l (view o log).links.starte
       let f : None ≡ Some seat = sym (not_started o log l more) ∙ h in
       absurd cc)
 ]
-
--- THE STOP IS ASKED FOR ALONE
-
-abbrev is_stopping : Act → Bool
-is_stopping (Does who StopAll) = true
-is_stopping (Starts who procedure.Stop) = true
-is_stopping _ = false
-
-abbrev NoStop : Act → Type 0
-NoStop a = is_stopping a ≡ false
-
-quiet_no_stop : (a : Act) → IsQuiet a → NoStop a
-quiet_no_stop (Does who StopAll) h = absurd cc
-quiet_no_stop (Starts who procedure.Stop) h = absurd cc
-quiet_no_stop _ h = refl
-
-served_no_stop : (a : Act) → is_served a ≡ true → NoStop a
-served_no_stop (Does who StopAll) h = absurd cc
-served_no_stop (Starts who procedure.Stop) h = absurd cc
-served_no_stop _ h = refl
-
-goes_no_stop : (who : Who) (w : Ways) (turn : SearchTurn Search (Result Answer Failure)) → Each NoStop (follows who (goes w turn))
-goes_no_stop who w (search_turn.Stays s (wish.Get p)) = (refl, tt)
-goes_no_stop who w (search_turn.Stays s (wish.Ask l request)) = (refl, tt)
-goes_no_stop who w (search_turn.Stays s (wish.Wait delay)) = (refl, tt)
-goes_no_stop who w (search_turn.Gives a) = (refl, tt)
-
-follows_either : (who : Who) (b : Bool) (x y : Turn Plan Verdict) → Each NoStop (follows who x) → Each NoStop (follows who y) → Each NoStop (follows who (cond b x y))
-follows_either who true x y p q = p
-follows_either who false x y p q = q
-
-told_no_stop : (who : Who) (plan : Plan) (u : Outcome) → Each NoStop (follows who (told plan u))
-told_no_stop who Building (outcome.GotLink l) = (refl, tt)
-told_no_stop who Building u = (refl, tt)
-told_no_stop who (Getting request s) (outcome.GotLink l) = (refl, tt)
-told_no_stop who (Getting request s) u = (refl, tt)
-told_no_stop who (Asking w) outcome.Queued = follows_either who (is_answered w.number) (Stays (Awaiting w) Rest) (Gives (verdict Nothing content.Done)) tt (refl, tt)
-told_no_stop who (Asking w) outcome.InLine = follows_either who (is_answered w.number) (Stays (Asking w) Rest) (Gives (verdict Nothing content.Done)) tt (refl, tt)
-told_no_stop who (Asking w) u = (refl, tt)
-told_no_stop who (Awaiting w) (outcome.Replied r) = (refl, tt)
-told_no_stop who (Awaiting w) u = (refl, tt)
-told_no_stop who (Searching w s) outcome.Queued = tt
-told_no_stop who (Searching w s) outcome.InLine = tt
-told_no_stop who (Searching w s) outcome.Cut = (refl, tt)
-told_no_stop who (Searching w s) outcome.Stopped = (refl, tt)
-told_no_stop who (Searching w s) u = goes_no_stop who w (search.told w s (news_in u))
-told_no_stop who Stopping outcome.Stopped = (refl, tt)
-told_no_stop who Stopping u = (refl, tt)
-
-some_no_stop : (who : Who) (row : Option Plan) (u : Outcome) → Each NoStop (follows_some who (told_some row u))
-some_no_stop who None u = tt
-some_no_stop who (Some plan) u = told_no_stop who plan u
-
--- nothing at all is left but parts
-record IsClear (g : Agenda) : Type 0 where
-  now : g.now ≡ []
-  here : g.here ≡ []
-  behind : g.behind ≡ []
-
-clear_part : (now : List Act) (here : List Notice) (behind : List (List Notice)) (ps : List Part) (p : Part) → is_single p ≡ true → Each NoSingle now →
-    first_of rules now here behind ps ≡ Some (Comes p) → IsClear (rest_of now here behind ps)
-clear_part (a ∷ now) here behind ps p s k h =
-    (let e : a ≡ Comes p = cc in let f : comes_single a ≡ true = ap comes_single e ∙ s in let g : true ≡ false = sym f ∙ k.0 in absurd cc)
-clear_part [] (n ∷ here) behind ps p s k h = absurd cc
-clear_part [] [] (cause ∷ behind) ps p s k h = clear_part [] cause behind ps p s tt h
-clear_part [] [] [] (q ∷ ps) p s k h = record { now = refl; here = refl; behind = refl }
-clear_part [] [] [] [] p s k h = absurd cc
-
--- one act is all that is left but parts
-record Alone (o : Chosen) (log : List Entry) : Type 0 where
-  act : Act
-  now : (agenda o log).now ≡ act ∷ []
-  here : (agenda o log).here ≡ []
-  behind : (agenda o log).behind ≡ []
-
-clear_one : (now : List Act) (here : List Notice) (behind : List (List Notice)) (ps : List Part) (a : Act) → now ≡ a ∷ [] → here ≡ [] → behind ≡ [] →
-    IsClear (rest_of now here behind ps)
-clear_one (b ∷ now) here behind ps a e h k = record { now = (let f : now ≡ [] = cc in f); here = h; behind = k }
-clear_one [] here behind ps a e h k = absurd cc
-
-alone_rest : (o : Chosen) (log : List Entry) → Alone o log → IsClear (rest (agenda o log))
-alone_rest o log k = clear_one (agenda o log).now (agenda o log).here (agenda o log).behind (agenda o log).parts k.act k.now k.here k.behind
-
--- an act of which one arises, and no cause, where nothing else is left
-alone_on : (o : Chosen) (log : List Entry) (a b : Act) → IsClear (rest (agenda o log)) → at_once (view o log) a ≡ b ∷ [] → causes (view o log) a ≡ [] → Alone o (Then a ∷ log)
-alone_on o log a b k once none = record {
-  act = b;
-  now = (λ i. once i ++ k.now i);
-  here = k.here;
-  behind = (λ i. k.behind i ++ map (arranged below) (none i));
-}
-
-called_one : (o : Chosen) (c : Tickets) (asked : Asked) → (b : Act) × (called o c asked ≡ b ∷ [])
-called_one o c asked = elim (is_spent c.drawn) as (λ s. (b : Act) × (cond s (Answers (Call c.drawn) (fails Exhausted) ∷ []) (Starts (Call c.drawn) (procedure_for o c asked) ∷ []) ≡ b ∷ [])) [
-  | true ↦ (Answers (Call c.drawn) (fails Exhausted), refl)
-  | false ↦ (Starts (Call c.drawn) (procedure_for o c asked), refl)
-]
-
-module _ (o : Chosen) (log : List Entry) (before : Each NoStop (agenda o log).now ⊎ Alone o log) where
-  left_stops : Each NoStop (rest (agenda o log)).now
-  left_stops = elim before [
-    | inl k ↦ each_rest NoStop (agenda o log).now (agenda o log).here (agenda o log).behind (agenda o log).parts k
-    | inr k ↦ subst (Each NoStop) (sym (alone_rest o log k).now) tt
-  ]
-
-  plain_stops : (a : Act) → Each NoStop (at_once (view o log) a) → Each NoStop (agenda o (Then a ∷ log)).now ⊎ Alone o (Then a ∷ log)
-  plain_stops a k = inl (each_append NoStop (at_once (view o log) a) (rest (agenda o log)).now k left_stops)
-
-  quiet_stops : (a : Act) → Each IsQuiet (at_once (view o log) a) → Each NoStop (agenda o (Then a ∷ log)).now ⊎ Alone o (Then a ∷ log)
-  quiet_stops a k = plain_stops a (each_map IsQuiet NoStop (at_once (view o log) a) quiet_no_stop k)
-
-  -- what is first stops the client only where it is alone
-  stop_alone : (a : Act) → is_stopping a ≡ true → first (agenda o log) ≡ Some a → IsClear (rest (agenda o log))
-  stop_alone a is fits = elim before [
-    | inl k ↦
-        (let no : NoStop a = each_first NoStop (agenda o log).now (agenda o log).here (agenda o log).behind (agenda o log).parts a served_no_stop k fits in
-        let f : true ≡ false = sym is ∙ no in
-        absurd cc)
-    | inr k ↦ alone_rest o log k
-  ]
-
-  stops_on : (a : Act) → first (agenda o log) ≡ Some a → Each NoStop (agenda o (Then a ∷ log)).now ⊎ Alone o (Then a ∷ log)
-  stops_on (Comes (Calls asked)) fits =
-      let k = clear_part (agenda o log).now (agenda o log).here (agenda o log).behind (agenda o log).parts (Calls asked) refl (now_many o log) fits in
-      let one = called_one (view o log).chosen (view o log).calls asked in
-      inr (alone_on o log (Comes (Calls asked)) one.0 k one.1 refl)
-  stops_on (Comes p) fits = quiet_stops (Comes p) (comes_quiet (view o log) p refl)
-  stops_on (Starts who procedure.Stop) fits = inr (alone_on o log (Starts who procedure.Stop) (Does who StopAll) (stop_alone (Starts who procedure.Stop) refl fits) refl refl)
-  stops_on (Starts who (procedure.Build base)) fits = plain_stops (Starts who (procedure.Build base)) (refl, tt)
-  stops_on (Starts who (procedure.Ask (place.At p) request s)) fits = plain_stops (Starts who (procedure.Ask (place.At p) request s)) (refl, tt)
-  stops_on (Starts who (procedure.Ask (place.Link l) request s)) fits = plain_stops (Starts who (procedure.Ask (place.Link l) request s)) (refl, tt)
-  stops_on (Starts who (procedure.Search w what)) fits = plain_stops (Starts who (procedure.Search w what)) (goes_no_stop who w (search.begins w what))
-  stops_on (Starts who (procedure.Refuse r)) fits = plain_stops (Starts who (procedure.Refuse r)) (refl, tt)
-  stops_on (Told n) fits = plain_stops (Told n) (some_no_stop n.who ((view o log).stand n.who) n.outcome)
-  stops_on (Does who action) fits = quiet_stops (Does who action) (performs_quiet (view o log) who action)
-  stops_on a fits = plain_stops a tt
-
-stops_come : (o : Chosen) (log : List Entry) → IsRun o log → Each NoStop (agenda o log).now ⊎ Alone o log
-stops_come o [] run = inl tt
-stops_come o (Begins e ∷ log) run = inl tt
-stops_come o (Then a ∷ log) run = stops_on o log (stops_come o log run.0) a run.1
 
 -- LAST WORDS
 
@@ -318,45 +179,137 @@ IsLast a = is_last a ≡ true
 abbrev IsLastNotice : Notice → Type 0
 IsLastNotice n = is_last_word n.outcome ≡ true
 
-last_told : (who : Who) (plan : Plan) (u : Outcome) → is_last_word u ≡ true → Each IsLast (follows who (told plan u))
-last_told who Building outcome.Cut is = (refl, tt)
-last_told who Building outcome.Stopped is = (refl, tt)
-last_told who (Getting request s) outcome.Cut is = (refl, tt)
-last_told who (Getting request s) outcome.Stopped is = (refl, tt)
-last_told who (Asking w) outcome.Cut is = (refl, tt)
-last_told who (Asking w) outcome.Stopped is = (refl, tt)
-last_told who (Awaiting w) outcome.Cut is = (refl, tt)
-last_told who (Awaiting w) outcome.Stopped is = (refl, tt)
-last_told who (Searching w s) outcome.Cut is = (refl, tt)
-last_told who (Searching w s) outcome.Stopped is = (refl, tt)
-last_told who Stopping outcome.Cut is = (refl, tt)
-last_told who Stopping outcome.Stopped is = (refl, tt)
-last_told who plan u is = absurd cc
+-- one whose plan leaves tells it to the call of which it is a part, or is told that it is done
+abbrev is_leaving : Spot → Bool
+is_leaving Leaves = true
+is_leaving _ = false
 
-last_some : (who : Who) (row : Option Plan) (u : Outcome) → is_last_word u ≡ true → Each IsLast (follows_some who (told_some row u))
-last_some who None u is = tt
-last_some who (Some plan) u is = last_told who plan u is
+abbrev IsParting : (Who → Option Plan) → Act → Type 0
+IsParting stand (Does who (Tell n)) = (is_last_word n.outcome ≡ true) × (is_leaving (spot_of (stand who)) ≡ true)
+IsParting stand (Told n) = is_leaving (spot_of (stand n.who)) ≡ true
+IsParting stand a = ⊥
+
+-- such a one may be first of what is left, and no other
+abbrev AreLast : (Who → Option Plan) → List Act → Type 0
+AreLast stand [] = Unit {0}
+AreLast stand (a ∷ now) = (IsLast a ⊎ IsParting stand a) × Each IsLast now
+
+each_last : (stand : Who → Option Plan) (xs : List Act) → Each IsLast xs → AreLast stand xs
+each_last stand [] k = tt
+each_last stand (a ∷ xs) k = (inl k.0, k.1)
+
+last_append : (stand : Who → Option Plan) (xs ys : List Act) → AreLast stand xs → Each IsLast ys → AreLast stand (xs ++ ys)
+last_append stand [] ys p q = each_last stand ys q
+last_append stand (x ∷ xs) ys p q = (p.0, each_append IsLast xs ys p.1 q)
+
+last_rest : (stand : Who → Option Plan) (now : List Act) (here : List Notice) (behind : List (List Notice)) (ps : List Part) → AreLast stand now →
+    Each IsLast (rest_of now here behind ps).now
+last_rest stand (a ∷ now) here behind ps k = k.1
+last_rest stand [] here behind ps k = each_rest IsLast [] here behind ps tt
+
+-- what a plan does that is told its last word
+abbrev IsLastTurn : Turn Plan Verdict → Type 0
+IsLastTurn (Gives verdict) = makes_nothing verdict.makes ≡ true
+IsLastTurn (Stays (Leaving f) (Tell n)) = is_last_word n.outcome ≡ true
+IsLastTurn _ = ⊥
+
+halted_last : (share : Option Share) (f : Failure) → IsLastTurn (halted_with share f)
+halted_last None f = refl
+halted_last (Some s) f = refl
+
+sending_last : (w : Ways) (e : Errand) (share : Option Share) (s : Send) (u : Outcome) → is_last_word u ≡ true → is_calm (spot (Sending w e share s)) ≡ true →
+    IsLastTurn (told (Sending w e share s) u)
+sending_last w e None send.Sent outcome.Cut is c = refl
+sending_last w e None send.Sent outcome.Stopped is c = refl
+sending_last w e (Some share) send.Sent outcome.Cut is c = absurd cc
+sending_last w e (Some share) send.Sent outcome.Stopped is c = absurd cc
+sending_last w e share s outcome.Cut is c = halted_last share (OfConnection (fault_of outcome.Cut))
+sending_last w e share s outcome.Stopped is c = halted_last share (OfConnection (fault_of outcome.Stopped))
+sending_last w e share s u is c = absurd cc
+
+last_told : (plan : Plan) (u : Outcome) → is_last_word u ≡ true → is_calm (spot plan) ≡ true → IsLastTurn (told plan u)
+last_told (Sending w e share s) u is c = sending_last w e share s u is c
+last_told (Reporting w e) u is c = absurd cc
+last_told plan outcome.Cut is c = refl
+last_told plan outcome.Stopped is c = refl
+last_told plan u is c = absurd cc
+
+last_turn : (stand : Who → Option Plan) (who : Who) (turn : Turn Plan Verdict) → stand who ≡ stays turn → IsLastTurn turn → AreLast stand (follows who turn)
+last_turn stand who (Gives verdict) e h = (inl h, tt)
+last_turn stand who (Stays (Leaving f) (Tell n)) e h = (inr (h, ap (λ row. is_leaving (spot_of row)) e), tt)
+last_turn stand who (Stays plan action) e h = absurd h
+
+last_some : (stand : Who → Option Plan) (who : Who) (row : Option Plan) (u : Outcome) → stand who ≡ stays_some (told_some row u) → is_last_word u ≡ true →
+    is_calm (spot_of row) ≡ true → AreLast stand (follows_some who (told_some row u))
+last_some stand who None u e is c = tt
+last_some stand who (Some plan) u e is c = last_turn stand who (told plan u) e (last_told plan u is c)
+
+last_calm : (turn : Turn Plan Verdict) → IsLastTurn turn → is_calm (spot_of (stays turn)) ≡ true
+last_calm (Gives verdict) h = refl
+last_calm (Stays (Leaving f) (Tell n)) h = refl
+last_calm (Stays plan action) h = absurd h
+
+some_calm : (row : Option Plan) (u : Outcome) → is_last_word u ≡ true → is_calm (spot_of row) ≡ true → is_calm (spot_of (stays_some (told_some row u))) ≡ true
+some_calm None u is c = refl
+some_calm (Some plan) u is c = last_calm (told plan u) (last_told plan u is c)
+
+-- one whose plan leaves has left, whatever it is told
+leaves_so : (plan : Plan) → is_leaving (spot plan) ≡ true → (f : Failure) × (plan ≡ Leaving f)
+leaves_so (Leaving f) h = (f, refl)
+leaves_so (Sending w e None s) h = absurd cc
+leaves_so (Sending w e (Some share) send.Sent) h = absurd cc
+leaves_so (Sending w e (Some share) s) h = absurd cc
+leaves_so plan h = absurd cc
+
+left_some : (stand : Who → Option Plan) (who : Who) (row : Option Plan) (u : Outcome) → is_leaving (spot_of row) ≡ true →
+    AreLast stand (follows_some who (told_some row u))
+left_some stand who None u h = absurd cc
+left_some stand who (Some plan) u h =
+    let k = leaves_so plan h in subst (λ x. AreLast stand (follows who (told x u))) (sym k.1) (inl refl, tt)
+
+left_calm : (row : Option Plan) (u : Outcome) → is_leaving (spot_of row) ≡ true → is_calm (spot_of (stays_some (told_some row u))) ≡ true
+left_calm None u h = absurd cc
+left_calm (Some plan) u h = let k = leaves_so plan h in subst (λ x. is_calm (spot_of (stays (told x u))) ≡ true) (sym k.1) refl
 
 -- each call is refused
 refused_unless : (who : Who) (b : Bool) (p : Procedure) → b ≡ false → IsLast (Starts who (unless_refused b p))
 refused_unless who b p h = rw h refl
 
-not_open : (c : Tickets) → c.is_stopped ≡ true → is_open c ≡ false
+not_open : (c : Tickets) → c.is_stopped ≡ true → may_call c ≡ false
 not_open c h = rw h (elim c.is_built as (λ b. (b && false) ≡ false) [ true ↦ refl | false ↦ refl ])
 
-last_call : (o : Chosen) (c : Tickets) (asked : Asked) (who : Who) → c.is_stopped ≡ true → IsLast (Starts who (procedure_for o c asked))
-last_call o c content.Build who h = refused_unless who (not c.is_stopped) (builds_with o.outbound o.base) (ap not h)
-last_call o c content.Stop who h = refused_unless who (is_open c) procedure.Stop (not_open c h)
-last_call o c (content.Topics namespace mode) who h = refused_unless who (is_open c) (from_base o.base (asks_topics namespace mode)) (not_open c h)
-last_call o c (content.Lookup t) who h = refused_unless who (is_open c) (searches (ways_of o) (sought.Look t)) (not_open c h)
-last_call o c (content.Partitions t) who h = refused_unless who (is_open c) (searches (ways_of o) (sought.CountPartitions t)) (not_open c h)
-last_call o c (content.Brokers t) who h = refused_unless who (is_open c) (searches (ways_of o) (sought.Name t)) (not_open c h)
-last_call o c (content.Raw l request) who h = refused_unless who (is_open c) (procedure.Ask (place.Link l) request says.Bodies) (not_open c h)
+last_call : (o : Chosen) (c : Tickets) (ps : Producers) (advice : List (Option ℕ)) (asked : Asked) (who : Who) → c.is_stopped ≡ true →
+    IsLast (Starts who (procedure_for o c ps advice asked))
+last_call o c ps advice content.Build who h = refused_unless who (not c.is_stopped) (builds_with o.outbound o.base) (ap not h)
+last_call o c ps advice content.Stop who h = refused_unless who (may_call c) procedure.Stop (not_open c h)
+last_call o c ps advice (content.Topics namespace mode) who h = refused_unless who (may_call c) (from_base o.base (asks_topics namespace mode)) (not_open c h)
+last_call o c ps advice (content.Lookup t) who h = refused_unless who (may_call c) (searches (ways_of o) (sought.Look t)) (not_open c h)
+last_call o c ps advice (content.Partitions t) who h = refused_unless who (may_call c) (searches (ways_of o) (sought.CountPartitions t)) (not_open c h)
+last_call o c ps advice (content.Brokers t) who h = refused_unless who (may_call c) (searches (ways_of o) (sought.Name t)) (not_open c h)
+last_call o c ps advice (content.Producer wanted) who h = refused_unless who (may_call c) (produces o wanted) (not_open c h)
+last_call o c ps advice (content.Send t m) who h = refused_unless who (may_call c) (sends o ps (next_advice advice) t m) (not_open c h)
+last_call o c ps advice (content.SendAll t ms) who h = refused_unless who (may_call c) (gathers c ps t ms) (not_open c h)
+last_call o c ps advice (content.Flush t) who h = refused_unless who (may_call c) (flushes ps t) (not_open c h)
+last_call o c ps advice (content.CheckProducer t) who h = refused_unless who (may_call c) (checks ps t) (not_open c h)
+last_call o c ps advice (content.CloseProducer t) who h = refused_unless who (may_call c) (closes ps t) (not_open c h)
+last_call o c ps advice (content.Raw l request) who h = refused_unless who (may_call c) (asks_raw ps l request) (not_open c h)
 
-last_called : (o : Chosen) (c : Tickets) (asked : Asked) → c.is_stopped ≡ true → Each IsLast (called o c asked)
-last_called o c asked h =
-    each_either IsLast (is_spent c.drawn) (Answers (Call c.drawn) (fails Exhausted) ∷ []) (Starts (Call c.drawn) (procedure_for o c asked) ∷ []) (refl, tt)
-    (last_call o c asked (Call c.drawn) h, tt)
+-- and has no parts
+last_shares : (why : Option Refusal) (v : View) (advice : List (Option ℕ)) (t : ℕ) (ms : List ProducerMessageValues) → is_some why ≡ true →
+    Each IsLast (shares_unless why v advice t ms)
+last_shares (Some r) v advice t ms h = tt
+last_shares None v advice t ms h = absurd cc
+
+last_parts : (v : View) (advice : List (Option ℕ)) (asked : Asked) → v.calls.is_stopped ≡ true → Each IsLast (parts_of v advice asked)
+last_parts v advice (content.SendAll t ms) h =
+    last_shares (why_no_sends v.calls v.producers t) v advice t ms
+    (ap (λ b. is_some (cond b (why_not v.producers t) (Some refusal.Shutdown))) (not_open v.calls h))
+last_parts v advice _ h = tt
+
+last_called : (v : View) (advice : List (Option ℕ)) (asked : Asked) → v.calls.is_stopped ≡ true → Each IsLast (called v advice asked)
+last_called v advice asked h =
+    each_either IsLast (lacks_tickets v.calls.drawn (shares asked)) (Answers (Call (2 ^ 64 - 1)) (fails Exhausted) ∷ []) (starts v advice asked) (refl, tt)
+    (last_call v.chosen v.calls v.producers advice asked (Call v.calls.drawn) h, last_parts v advice asked h)
 
 -- whoever asked on a link that the stop ends, or waits for its address
 last_askers : (says : ℕ → Outcome) (askers : ℕ → Option Who) (places : List ℕ) → ((p : ℕ) → is_last_word (says p) ≡ true) →
@@ -364,7 +317,8 @@ last_askers : (says : ℕ → Outcome) (askers : ℕ → Option Who) (places : L
 last_askers says askers [] is = tt
 last_askers says askers (p ∷ ps) is = one (askers p) refl (last_askers says askers ps is)
   where
-    one : (r : Option Who) → askers p ≡ r → Each IsLastNotice (filter_map (tells_asker says askers) ps) → Each IsLastNotice (filter_map (tells_asker says askers) (p ∷ ps))
+    one : (r : Option Who) → askers p ≡ r → Each IsLastNotice (filter_map (tells_asker says askers) ps) →
+        Each IsLastNotice (filter_map (tells_asker says askers) (p ∷ ps))
     one None e more = rw e more
     one (Some w) e more = rw e (is p, more)
 
@@ -391,7 +345,8 @@ last_over : (pause : Option Pause) (b : Base) → Each IsLastNotice (failed_over
 last_over None b = last_failed b.series b.waiting
 last_over (Some p) b = tt
 
-last_waiters : (v : View) (l : ℕ) (row : Option Seat) → Each IsLastNotice (waiters_of (failed_on Stops) v.addresses (option_map (turned_by v.chosen v.addresses v.now l (Ends Stops)) row))
+last_waiters : (v : View) (l : ℕ) (row : Option Seat) →
+    Each IsLastNotice (waiters_of (failed_on Stops) v.addresses (option_map (turned_by v.chosen v.addresses v.now l (Ends Stops)) row))
 last_waiters v l None = tt
 last_waiters v l (Some seat) =
     let b : Base = v.addresses.base (address_key seat.address) in last_over (pause_of v.chosen Stops seat.address b.series) b
@@ -428,7 +383,8 @@ no_pause_on v l k (Some seat) = ap (λ pause. pause_put pause l k None) (no_paus
 no_alarm_on : (v : View) (l : ℕ) (row : Option Seat) → alarms_on v.chosen v.now (option_map (turned_by v.chosen v.addresses v.now l (Ends Stops)) row) [] ≡ []
 no_alarm_on v l None = refl
 no_alarm_on v l (Some seat) =
-    ap (λ pause. alarms_over v.chosen v.now l pause (clear (KeepAlive l) [])) (no_pause v.chosen seat.address (v.addresses.base (address_key seat.address)).series)
+    ap (λ pause. alarms_over v.chosen v.now l pause (clear (KeepAlive l) []))
+    (no_pause v.chosen seat.address (v.addresses.base (address_key seat.address)).series)
 
 took_stops : (now : ℕ) (row : Option Seat) → took_some (Ends Stops) now row ≡ None
 took_stops now None = refl
@@ -440,16 +396,18 @@ none_built true Nothing is = refl
 none_built false Nothing is = refl
 none_built b Client is = absurd cc
 none_built b (Consumer l number topic) is = absurd cc
+none_built b (Producer building) is = absurd cc
 
 -- WHERE THE CLIENT IS STOPPED
 
-record Over (o : Chosen) (log : List Entry) : Type 0 where
-  now : Each IsLast (agenda o log).now
+record Over (o : Options) (log : List Entry) : Type 0 where
+  now : AreLast (view o log).stand (agenda o log).now
   here : Each IsLastNotice (agenda o log).here
   behind : Each (Each IsLastNotice) (agenda o log).behind
   pauses : (l : ℕ) → (view o log).addresses.pause l ≡ None
   alarms : (view o log).alarms ≡ []
   is_stopped : (view o log).calls.is_stopped ≡ true
+  calm : (w : Who) → is_calm (spot_of ((view o log).stand w)) ≡ true
   links : (l : ℕ) → ((view o log).links.live l ≡ None) ⊎ In (Comes (ToLink l (Ends Stops))) (agenda o log).now
 
 -- a part that comes, where nothing else is left at once
@@ -458,13 +416,16 @@ record PartComes (a : Act) (now : List Act) : Type 0 where
   is_it : a ≡ Comes part
   none : now ≡ []
 
-last_first : (now : List Act) (here : List Notice) (behind : List (List Notice)) (ps : List Part) (a : Act) → Each IsLast now → Each IsLastNotice here →
-    Each (Each IsLastNotice) behind → first_of rules now here behind ps ≡ Some a → IsLast a ⊎ PartComes a now
-last_first (b ∷ now) here behind ps a n h c fits = inl (subst IsLast (let e : b ≡ a = cc in e) n.0)
-last_first [] (m ∷ here) behind ps a n h c fits = inl (subst IsLast (let e : Told m ≡ a = cc in e) h.0)
-last_first [] [] (cause ∷ behind) ps a n h c fits = last_first [] cause behind ps a tt c.0 c.1 fits
-last_first [] [] [] (p ∷ ps) a n h c fits = inr (record { part = p; is_it = (let e : a ≡ Comes p = cc in e); none = refl })
-last_first [] [] [] [] a n h c fits = absurd cc
+last_first : (stand : Who → Option Plan) (now : List Act) (here : List Notice) (behind : List (List Notice)) (ps : List Part) (a : Act) → AreLast stand now →
+    Each IsLastNotice here → Each (Each IsLastNotice) behind → first_of rules now here behind ps ≡ Some a → IsLast a ⊎ (IsParting stand a ⊎ PartComes a now)
+last_first stand (b ∷ now) here behind ps a n h c fits = elim n.0 [
+  | inl is ↦ inl (subst IsLast (let e : b ≡ a = cc in e) is)
+  | inr is ↦ inr (inl (subst (IsParting stand) (let e : b ≡ a = cc in e) is))
+]
+last_first stand [] (m ∷ here) behind ps a n h c fits = inl (subst IsLast (let e : Told m ≡ a = cc in e) h.0)
+last_first stand [] [] (cause ∷ behind) ps a n h c fits = last_first stand [] cause behind ps a tt c.0 c.1 fits
+last_first stand [] [] [] (p ∷ ps) a n h c fits = inr (inr (record { part = p; is_it = (let e : a ≡ Comes p = cc in e); none = refl }))
+last_first stand [] [] [] [] a n h c fits = absurd cc
 
 rest_here : (now : List Act) (here : List Notice) (behind : List (List Notice)) (ps : List Part) → Each IsLastNotice here → Each (Each IsLastNotice) behind →
     Each IsLastNotice (rest_of now here behind ps).here
@@ -480,7 +441,7 @@ rest_behind [] (m ∷ here) behind ps c = c
 rest_behind [] [] (cause ∷ behind) ps c = rest_behind [] cause behind ps c.1
 rest_behind [] [] [] ps c = tt
 
-module _ (o : Chosen) (log : List Entry) (k : Over o log) where
+module _ (o : Options) (log : List Entry) (k : Over o log) where
   abbrev v : View
   v = view o log
 
@@ -495,23 +456,27 @@ module _ (o : Chosen) (log : List Entry) (k : Over o log) where
   still_stopped (Does who StopAll) = refl
   still_stopped _ = k.is_stopped
 
-  left_of : (a : Act) (l : ℕ) → first g ≡ Some a → In (Comes (ToLink l (Ends Stops))) g.now → (Comes (ToLink l (Ends Stops)) ≡ a) ⊎ In (Comes (ToLink l (Ends Stops))) (rest g).now
+  left_of : (a : Act) (l : ℕ) → first g ≡ Some a → In (Comes (ToLink l (Ends Stops))) g.now →
+      (Comes (ToLink l (Ends Stops)) ≡ a) ⊎ In (Comes (ToLink l (Ends Stops))) (rest g).now
   left_of a l fits i = elim (first_case g.now g.here g.behind g.parts a fits) [
     | inl e ↦ subst (In (Comes (ToLink l (Ends Stops)))) e i
     | inr e ↦ absurd (subst (In (Comes (ToLink l (Ends Stops)))) e.0 i)
   ]
 
-  goes_over : (a : Act) → first g ≡ Some a → is_dial a ≡ false → Each IsLast (at_once v a) → Each (Each IsLastNotice) (causes v a) → ((l : ℕ) → pause_after v a l None ≡ None) →
-      alarms_after v a ≡ [] → ((l : ℕ) → Comes (ToLink l (Ends Stops)) ≡ a → live_after v.chosen v.addresses v.now v.links.started a l (v.links.live l) ≡ None) → Over o (Then a ∷ log)
-  goes_over a fits no_dial once caused pauses alarms own = record {
-    now = each_append IsLast (at_once v a) (rest g).now once (each_rest IsLast g.now g.here g.behind g.parts k.now);
-    here = rest_here g.now g.here g.behind g.parts k.here k.behind;
+  goes_over : (a : Act) → first g ≡ Some a → is_dial a ≡ false → AreLast (after a v).stand (at_once v a) → Each IsLastNotice (joins v a) →
+      Each (Each IsLastNotice) (causes v a) → ((l : ℕ) → pause_after v a l None ≡ None) → alarms_after v a ≡ [] →
+      ((w : Who) → is_calm (spot_of (stand_after a w (v.stand w))) ≡ true) →
+      ((l : ℕ) → Comes (ToLink l (Ends Stops)) ≡ a → live_after v.chosen v.addresses v.now v.links.started a l (v.links.live l) ≡ None) → Over o (Then a ∷ log)
+  goes_over a fits no_dial once join caused pauses alarms calm own = record {
+    now = last_append (after a v).stand (at_once v a) (rest g).now once (last_rest v.stand g.now g.here g.behind g.parts k.now);
+    here = each_put_all IsLastNotice (joins v a) (rest g).here join (rest_here g.now g.here g.behind g.parts k.here k.behind);
     behind =
         each_append (Each IsLastNotice) (rest g).behind (map (arranged below) (causes v a)) (rest_behind g.now g.here g.behind g.parts k.behind)
         (each_arranged IsLastNotice (causes v a) caused);
     pauses = λ l. ap (pause_after v a l) (k.pauses l) ∙ pauses l;
     alarms = alarms;
     is_stopped = still_stopped a;
+    calm = calm;
     links = λ l. elim (k.links l) [
       | inl e ↦ inl (ap (live_after v.chosen v.addresses v.now v.links.started a l) e ∙ stays_dead v a l no_dial)
       | inr i ↦ elim (left_of a l fits i) [
@@ -521,10 +486,32 @@ module _ (o : Chosen) (log : List Entry) (k : Over o log) where
     ];
   }
 
+  -- one is told
+  abbrev told_stand : Notice → Who → Option Plan
+  told_stand n w = stand_after (Told n) w (v.stand w)
+
+  own_stand : (n : Notice) → told_stand n n.who ≡ stays_some (told_some (v.stand n.who) n.outcome)
+  own_stand n = ap (λ b. cond b (stays_some (told_some (v.stand n.who) n.outcome)) (v.stand n.who)) (same_self n.who)
+
+  told_calm : (n : Notice) (w : Who) → (w ≡ n.who → is_calm (spot_of (stays_some (told_some (v.stand w) n.outcome))) ≡ true) →
+      is_calm (spot_of (told_stand n w)) ≡ true
+  told_calm n w c = by (is_same w n.who) refl
+    where
+      by : (b : Bool) → is_same w n.who ≡ b → is_calm (spot_of (cond b (stays_some (told_some (v.stand w) n.outcome)) (v.stand w))) ≡ true
+      by true e = c (same_who w n.who e)
+      by false e = k.calm w
+
+  refused_calm : (who w : Who) (r : Refusal) → is_calm (spot_of (stand_after (Starts who (procedure.Refuse r)) w (v.stand w))) ≡ true
+  refused_calm who w r = by (is_same w who)
+    where
+      by : (b : Bool) → is_calm (spot_of (cond b None (v.stand w))) ≡ true
+      by true = refl
+      by false = k.calm w
+
   last_on : (a : Act) → first g ≡ Some a → IsLast a → Over o (Then a ∷ log)
   last_on (Comes (ToLink l (Ends Stops))) fits is =
-      goes_over (Comes (ToLink l (Ends Stops))) fits refl tt (last_caused v l) (λ j. no_pause_on v l j (v.links.live l))
-      (ap (alarms_after_end l) k.alarms ∙ no_alarm_on v l (v.links.live l)) own
+      goes_over (Comes (ToLink l (Ends Stops))) fits refl tt tt (last_caused v l) (λ j. no_pause_on v l j (v.links.live l))
+      (ap (alarms_after_end l) k.alarms ∙ no_alarm_on v l (v.links.live l)) k.calm own
     where
       alarms_after_end : ℕ → List (Alarm × ℕ) → List (Alarm × ℕ)
       alarms_after_end l alarms = alarms_on v.chosen v.now (option_map (turned_by v.chosen v.addresses v.now l (Ends Stops)) (v.links.live l)) alarms
@@ -533,16 +520,26 @@ module _ (o : Chosen) (log : List Entry) (k : Over o log) where
           cond (j == l) (took_some (Ends Stops) v.now (v.links.live j)) (v.links.live j) ≡ None
       own j e = let same : j ≡ l = cc in let d : (j == l) ≡ true = rw same (grind (arith, nat_tests)) in rw d (took_stops v.now (v.links.live j))
   last_on (Told n) fits is =
-      goes_over (Told n) fits refl (last_some n.who (v.stand n.who) n.outcome is) tt (λ l. refl) k.alarms (λ l e. absurd cc)
+      goes_over (Told n) fits refl (last_some (told_stand n) n.who (v.stand n.who) n.outcome (own_stand n) is (k.calm n.who)) tt tt (λ l. refl) k.alarms
+      (λ w. told_calm n w (λ e. some_calm (v.stand w) n.outcome is (k.calm w))) (λ l e. absurd cc)
   last_on (Answers who verdict) fits is =
-      goes_over (Answers who verdict) fits refl tt tt (λ l. refl)
-      (ap (λ b. alarms_built v.now b v.alarms) (none_built (not v.calls.is_built) verdict.makes is) ∙ k.alarms) (λ l e. absurd cc)
-  last_on (Starts who (procedure.Refuse r)) fits is = goes_over (Starts who (procedure.Refuse r)) fits refl (refl, tt) tt (λ l. refl) k.alarms (λ l e. absurd cc)
+      goes_over (Answers who verdict) fits refl tt tt tt (λ l. refl)
+      (ap (λ b. alarms_built v.now b v.alarms) (none_built (not v.calls.is_built) verdict.makes is) ∙ k.alarms) k.calm (λ l e. absurd cc)
+  last_on (Starts who (procedure.Refuse r)) fits is =
+      goes_over (Starts who (procedure.Refuse r)) fits refl (inl refl, tt) tt tt (λ l. refl) k.alarms (λ w. refused_calm who w r) (λ l e. absurd cc)
   last_on a fits is = absurd cc
+
+  -- one leaves
+  parts_on : (a : Act) → first g ≡ Some a → IsParting v.stand a → Over o (Then a ∷ log)
+  parts_on (Does who (Tell n)) fits is = goes_over (Does who (Tell n)) fits refl (inr is.1, tt) (is.0, tt) tt (λ l. refl) k.alarms k.calm (λ l e. absurd cc)
+  parts_on (Told n) fits is =
+      goes_over (Told n) fits refl (left_some (told_stand n) n.who (v.stand n.who) n.outcome is) tt tt (λ l. refl) k.alarms
+      (λ w. told_calm n w (λ e. left_calm (v.stand w) n.outcome (subst (λ x. is_leaving (spot_of (v.stand x)) ≡ true) (sym e) is))) (λ l e. absurd cc)
+  parts_on a fits is = absurd is
 
   -- what comes to a link that has ended
   module _ (l : ℕ) (dead : v.links.live l ≡ None) where
-    dead_once : (x : LinkAct) → Each IsLast (at_once v (Comes (ToLink l x)))
+    dead_once : (x : LinkAct) → AreLast v.stand (at_once v (Comes (ToLink l x)))
     dead_once Reads = rw dead tt
     dead_once _ = tt
 
@@ -567,21 +564,26 @@ module _ (o : Chosen) (log : List Entry) (k : Over o log) where
   rung_pause b _ l = refl
 
   part_on : (p : Part) → first g ≡ Some (Comes p) → g.now ≡ [] → Over o (Then (Comes p) ∷ log)
-  part_on (Calls asked) fits none =
-      goes_over (Comes (Calls asked)) fits refl (last_called v.chosen v.calls asked k.is_stopped) tt (λ l. refl) k.alarms (λ l e. absurd cc)
+  part_on (Calls asked advice) fits none =
+      goes_over (Comes (Calls asked advice)) fits refl
+      (each_last v.stand (called v advice asked) (last_called v advice asked k.is_stopped)) tt tt (λ l. refl) k.alarms k.calm
+      (λ l e. absurd cc)
   part_on (ToLink l x) fits none =
       let dead = all_dead none l in
-      goes_over (Comes (ToLink l x)) fits refl (dead_once l dead x) (dead_causes l dead x) (dead_pause l dead x) (dead_alarms l dead x)
+      goes_over (Comes (ToLink l x)) fits refl (dead_once l dead x) tt (dead_causes l dead x) (dead_pause l dead x) (dead_alarms l dead x) k.calm
       (λ j e. ap (live_after v.chosen v.addresses v.now v.links.started (Comes (ToLink l x)) j) (all_dead none j) ∙ stays_dead v (Comes (ToLink l x)) j refl)
   part_on (Rings a) fits none =
       let e = no_alarm a in
-      goes_over (Comes (Rings a)) fits refl (rw e tt) (rw e tt) (λ l. rung_pause (rings v.now a v.alarms) a l) (rw e k.alarms) (λ l e. absurd cc)
-  part_on (Polls t) fits none = goes_over (Comes (Polls t)) fits refl tt tt (λ l. refl) k.alarms (λ l e. absurd cc)
+      goes_over (Comes (Rings a)) fits refl (rw e tt) tt (rw e tt) (λ l. rung_pause (rings v.now a v.alarms) a l) (rw e k.alarms) k.calm (λ l e. absurd cc)
+  part_on (Polls t) fits none = goes_over (Comes (Polls t)) fits refl tt tt tt (λ l. refl) k.alarms k.calm (λ l e. absurd cc)
 
   over_on : (a : Act) → first g ≡ Some a → Over o (Then a ∷ log)
-  over_on a fits = elim (last_first g.now g.here g.behind g.parts a k.now k.here k.behind fits) [
+  over_on a fits = elim (last_first v.stand g.now g.here g.behind g.parts a k.now k.here k.behind fits) [
     | inl is ↦ last_on a fits is
-    | inr p ↦ subst (λ b. Over o (Then b ∷ log)) (sym p.is_it) (part_on p.part (fits ∙ ap Some p.is_it) p.none)
+    | inr q ↦ elim q [
+      | inl is ↦ parts_on a fits is
+      | inr p ↦ subst (λ b. Over o (Then b ∷ log)) (sym p.is_it) (part_on p.part (fits ∙ ap Some p.is_it) p.none)
+    ]
   ]
 
   over_begins : (e : Heard) → first g ≡ None → Over o (Begins e ∷ log)
@@ -592,6 +594,7 @@ module _ (o : Chosen) (log : List Entry) (k : Over o log) where
     pauses = λ l. begun_same (λ u. u.addresses.pause l) e v refl ∙ k.pauses l;
     alarms = begun_same (λ u. u.alarms) e v refl ∙ k.alarms;
     is_stopped = begun_same (λ u. u.calls.is_stopped) e v refl ∙ k.is_stopped;
+    calm = λ w. ap (λ row. is_calm (spot_of row)) (begun_same (λ u. u.stand w) e v refl) ∙ k.calm w;
     links = λ l. inl (begun_dead e l v (all_dead (none_now g.now g.here g.behind g.parts rests) l));
   }
 
@@ -603,28 +606,38 @@ in_over ls l seat h lt =
     let below_all : nat_lt l (0 + ls.started) ≡ true = grind (arith, nat_tests) in
     in_flat (on_link stop_act ls.live) l (Comes (ToLink l (Ends Stops))) (numbers_from 0 ls.started) (in_numbers ls.started 0 l (omega arith) below_all) own
 
-over_starts : (o : Chosen) (log : List Entry) (who : Who) → IsRun o log → first (agenda o log) ≡ Some (Does who StopAll) → Over o (Then (Does who StopAll) ∷ log)
+over_starts : (o : Options) (log : List Entry) (who : Who) → IsRun o log → first (agenda o log) ≡ Some (Does who StopAll) →
+    Over o (Then (Does who StopAll) ∷ log)
 over_starts o log who run fits =
     let v = view o log in
-    let clear = stop_alone o log (stops_come o log run) (Does who StopAll) refl fits in
+    let clear = stop_clear o log who run fits in
     let stops : List Act = over_links stop_act v.links in
     let ends : List Act = stops ++ tells who outcome.Stopped in
     let told : List Notice = flat_map (λ e. stopped_with v.addresses e.0) v.alarms in
+    let waits : List Notice = map stopped_one (waiting v.producers) in
     record {
-      now =
-          each_append IsLast ends (rest (agenda o log)).now
+      now = each_last v.stand (ends ++ (rest (agenda o log)).now)
+          (each_append IsLast ends (rest (agenda o log)).now
           (each_append IsLast stops (tells who outcome.Stopped) (over_each IsLast stop_act v.links (λ l seat. (refl, tt))) (refl, tt))
-          (subst (Each IsLast) (sym clear.now) tt);
+          (subst (Each IsLast) (sym clear.now) tt));
       here = subst (Each IsLastNotice) (sym clear.here) tt;
       behind =
-          each_append (Each IsLastNotice) (rest (agenda o log)).behind (map (arranged below) (opens told)) (subst (Each (Each IsLastNotice)) (sym clear.behind) tt)
-          (each_arranged IsLastNotice (opens told) (each_opens IsLastNotice told (each_flat IsLastNotice (λ e. stopped_with v.addresses e.0) v.alarms (λ e. last_with v.addresses e.0))));
+          each_append (Each IsLastNotice) (rest (agenda o log)).behind (map (arranged below) (opens (told ++ waits)))
+          (subst (Each (Each IsLastNotice)) (sym clear.behind) tt)
+          (each_arranged IsLastNotice (opens (told ++ waits)) (each_opens IsLastNotice (told ++ waits)
+          (each_append IsLastNotice told waits (each_flat IsLastNotice (λ e. stopped_with v.addresses e.0) v.alarms (λ e. last_with v.addresses e.0))
+          (all_wait (waiting v.producers)))));
       pauses = λ l. refl;
       alarms = refl;
       is_stopped = refl;
+      calm = λ w. calm_stop o w who log run fits;
       links = λ l. links_of l (v.links.live l) refl;
     }
   where
+    all_wait : (ts : List ℕ) → Each IsLastNotice (map stopped_one ts)
+    all_wait [] = tt
+    all_wait (t ∷ ts) = (refl, all_wait ts)
+
     links_of : (l : ℕ) (row : Option Seat) → (view o log).links.live l ≡ row →
         ((view o (Then (Does who StopAll) ∷ log)).links.live l ≡ None) ⊎ In (Comes (ToLink l (Ends Stops))) (agenda o (Then (Does who StopAll) ∷ log)).now
     links_of l None e = inl e
@@ -633,7 +646,7 @@ over_starts o log who run fits =
         inr (in_left (Comes (ToLink l (Ends Stops))) (over_links stop_act ls ++ tells who outcome.Stopped) (rest (agenda o log)).now
         (in_left (Comes (ToLink l (Ends Stops))) (over_links stop_act ls) (tells who outcome.Stopped) (in_over ls l seat e (is_started o log l seat e))))
 
-over_run : (o : Chosen) (log : List Entry) → IsRun o log → stopped log ≡ true → Over o log
+over_run : (o : Options) (log : List Entry) → IsRun o log → stopped log ≡ true → Over o log
 over_run o [] run h = absurd cc
 over_run o (Begins e ∷ log) run h = over_begins o log (over_run o log run.0 h) e run.1
 over_run o (Then (Does who StopAll) ∷ log) run h = over_starts o log who run.0 run.1
@@ -644,9 +657,12 @@ none_after_stop_lem o log p starter n run = elim (cases_Bool (stopped log)) [
   | inl e ↦
       (let k = over_run o log run.0 e in
       let g = agenda o log in
-      elim (last_first g.now g.here g.behind g.parts (Dials p starter n) k.now k.here k.behind run.1) [
+      elim (last_first (view o log).stand g.now g.here g.behind g.parts (Dials p starter n) k.now k.here k.behind run.1) [
         | inl is ↦ (let f : false ≡ true = is in absurd cc)
-        | inr q ↦ (let f : Dials p starter n ≡ Comes q.part = q.is_it in absurd cc)
+        | inr q ↦ elim q [
+          | inl left ↦ absurd left
+          | inr k ↦ (let f : Dials p starter n ≡ Comes k.part = k.is_it in absurd cc)
+        ]
       ])
   | inr e ↦ e
 ]

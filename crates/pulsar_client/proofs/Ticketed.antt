@@ -1,6 +1,7 @@
 -- A call that begins has a ticket that was drawn, and never the greatest; and a consumer has that of a call that began.
 use Rattle.std.proofs.Common.{◌≡◌, ◌∙◌, sym, ap, subst, ℕ, ◌+◌, ◌<◌, arith, List, [], ◌∷◌, ◌++◌, refl, true, false, cond, ◌==◌, Option, Some, None, inl, inr}
 use Rattle.std.proofs.lemmas.Bool.{cases_Bool, eqb-true}
+use Rattle.std.proofs.lemmas.Bool.Decides.{nat_tests}
 use Rattle.std.specs.Option.{option_map}
 use Rattle.pulsar_run.specs.Run.{rest}
 use Rattle.pulsar_session.specs.Failures.{Fault}
@@ -23,7 +24,7 @@ use Rattle.pulsar_client.specs.declared.plans.plan.Plan.{Plan}
 use Rattle.pulsar_client.specs.declared.plans.plan.Turn.{Turn}
 use Rattle.pulsar_client.specs.declared.plans.plan.Turn.TheVariants.{Stays, Gives}
 use Rattle.pulsar_client.specs.declared.tables.Tables.{Tables}
-use Rattle.pulsar_client.specs.Content.{Asked, Heard, Shown}
+use Rattle.pulsar_client.specs.Content.{Asked, Heard, Shown, lacks_tickets, shares}
 use Rattle.pulsar_client.specs.Kept.{AreTicketed}
 use Rattle.pulsar_client.specs.Laws.{started}
 use Rattle.pulsar_client.specs.Plan.{begins, told}
@@ -32,9 +33,10 @@ use Rattle.pulsar_client.specs.Run.{Agenda, Entry, Begins, Then, IsRun, Step, ag
 use Rattle.pulsar_client.specs.Subscribers.{subscription_at}
 use Rattle.pulsar_client.specs.Subscriptions.{Subscription, ended_at}
 use Rattle.pulsar_client.specs.Tables.{InStep}
-use Rattle.pulsar_client.specs.View.{Chosen, Tickets, View, closing, consumer_after, drawn_after, made, stand_after, stays_some, told_some}
+use Rattle.pulsar_client.specs.View.{Options, View, closing, consumer_after, drawn_after, made, stand_after, stays_some, told_some}
 use Rattle.pulsar_client.specs.Who.{is_same}
-use Rattle.pulsar_client.proofs.Acts.{Each, IsQuiet, begun_same, comes_quiet, each_append, each_first, each_map, each_rest, is_served, performs_quiet}
+use Rattle.pulsar_client.proofs.Acts.{Each, StartsIn, begun_same, called_each, each_append, each_first, each_map, each_rest, is_served}
+use Rattle.pulsar_client.proofs.Quiet.{IsQuiet, comes_quiet, performs_quiet}
 
 -- one whose ticket is not the greatest
 abbrev pub Began : Who → Type 0
@@ -62,7 +64,8 @@ same_has n (Call t) (Call u) h k = subst (λ m. Has n (Call m)) (sym (eqb-true t
 
 -- what was drawn stays so
 has_more : (a : Act) (n : ℕ) (who : Who) → Has n who → Has (drawn_after a n) who
-has_more (Comes (Calls asked)) n (Call t) k = (k.0, (let d : t < n = k.1 in elim (is_spent n) as (λ b. t < cond b n (n + 1)) [ true ↦ d | false ↦ omega (arith, d) ]))
+has_more (Comes (Calls asked advice)) n (Call t) k =
+    (k.0, (let d : t < n = k.1 in elim (lacks_tickets n (shares asked)) as (λ b. t < cond b n (n + 1 + shares asked)) [ true ↦ d | false ↦ omega (arith, d) ]))
 has_more _ n who k = k
 
 -- such a one starts, and makes a consumer
@@ -108,24 +111,36 @@ follows_due : (n : ℕ) (who : Who) (turn : Turn Plan Verdict) → Has n who →
 follows_due n who (Stays plan action) k = does_due n who action
 follows_due n who (Gives verdict) k = (makes_so n who verdict.makes k, tt)
 
-some_due : (n : ℕ) (who : Who) (row : Option Plan) (o : Outcome) → ((plan : Plan) → row ≡ Some plan → Has n who) → Each (IsDue n) (follows_some who (told_some row o))
+some_due : (n : ℕ) (who : Who) (row : Option Plan) (o : Outcome) → ((plan : Plan) → row ≡ Some plan → Has n who) →
+    Each (IsDue n) (follows_some who (told_some row o))
 some_due n who None o k = tt
 some_due n who (Some plan) o k = follows_due n who (told plan o) (k plan refl)
 
-called_due : (o : Chosen) (c : Tickets) (asked : Asked) → Each (IsDue (drawn_after (Comes (Calls asked)) c.drawn)) (called o c asked)
-called_due o c asked = elim (cases_Bool (is_spent c.drawn)) [
-  | inl e ↦ rw e (tt, tt)
-  | inr e ↦ rw e ((e, omega arith), tt)
-]
+-- none of the tickets that a call draws is the greatest
+pub not_spent : (t drawn n : ℕ) → lacks_tickets drawn n ≡ false → t < drawn + 1 + n → is_spent t ≡ false
+not_spent t drawn n left low = grind (arith, nat_tests)
+
+start_due : (n k : ℕ) → lacks_tickets n k ≡ false → (a : Act) → StartsIn n (n + 1 + k) a → IsDue (n + 1 + k) a
+start_due n k left (Starts (Call t) p) in_them = (not_spent t n k left in_them.1, in_them.1)
+start_due n k left _ in_them = absurd in_them
+
+called_due : (v : View) (advice : List (Option ℕ)) (asked : Asked) →
+    Each (IsDue (drawn_after (Comes (Calls asked advice)) v.calls.drawn)) (called v advice asked)
+called_due v advice asked =
+    called_each (IsDue (drawn_after (Comes (Calls asked advice)) v.calls.drawn)) v advice asked (λ e. tt)
+    (λ e. subst (λ b. (a : Act) → StartsIn v.calls.drawn (v.calls.drawn + 1 + shares asked) a →
+    IsDue (cond b v.calls.drawn (v.calls.drawn + 1 + shares asked)) a) (sym e)
+    (start_due v.calls.drawn (shares asked) e))
 
 comes_due : (v : View) (p : Part) → Each (IsDue (drawn_after (Comes p) v.calls.drawn)) (at_once v (Comes p))
-comes_due v (Calls asked) = called_due v.chosen v.calls asked
-comes_due v p = each_map IsQuiet (IsDue (drawn_after (Comes p) v.calls.drawn)) (at_once v (Comes p)) (quiet_due (drawn_after (Comes p) v.calls.drawn)) (comes_quiet v p refl)
+comes_due v (Calls asked advice) = called_due v advice asked
+comes_due v p = each_map IsQuiet (IsDue (drawn_after (Comes p) v.calls.drawn)) (at_once v (Comes p)) (quiet_due (drawn_after (Comes p) v.calls.drawn))
+    (comes_quiet v p refl)
 
 -- ALONG A LOG
 
 -- who has a plan, and who is due
-record IsTicketed (o : Chosen) (log : List Entry) : Type 0 where
+record IsTicketed (o : Options) (log : List Entry) : Type 0 where
   stands : (w : Who) (plan : Plan) → (view o log).stand w ≡ Some plan → Has (view o log).calls.drawn w
   due : Each (IsDue (view o log).calls.drawn) (agenda o log).now
   consumers : (t : ℕ) (s : Subscription) → (view o log).consumers t ≡ Some s → Has (view o log).calls.drawn (Call t)
@@ -142,7 +157,7 @@ told_was : (row : Option Plan) (o : Outcome) (plan : Plan) → stays_some (told_
 told_was None o plan h = absurd (none_some h)
 told_was (Some old) o plan h = (old, refl)
 
-module _ (o : Chosen) (log : List Entry) (k : IsTicketed o log) where
+module _ (o : Options) (log : List Entry) (k : IsTicketed o log) where
   abbrev drawn : ℕ
   drawn = (view o log).calls.drawn
 
@@ -165,7 +180,8 @@ module _ (o : Chosen) (log : List Entry) (k : IsTicketed o log) where
   arises (Does who action) is_due = each_map IsQuiet (IsDue drawn) (performs (view o log) who action) (quiet_due drawn) (performs_quiet (view o log) who action)
   arises _ is_due = tt
 
-  from_made : (who : Who) (makes : Makes) → MakesSo drawn who makes → (t : ℕ) (s : Subscription) → made who makes t ((view o log).consumers t) ≡ Some s → Has drawn (Call t)
+  from_made : (who : Who) (makes : Makes) → MakesSo drawn who makes → (t : ℕ) (s : Subscription) → made who makes t ((view o log).consumers t) ≡ Some s →
+      Has drawn (Call t)
   from_made who (Consumer link number topic) is_due t s h = elim (cases_Bool (is_same (Call t) who)) [
     | inl e ↦ same_has drawn (Call t) who e is_due
     | inr e ↦ k.consumers t s (rw e at h)
@@ -179,7 +195,8 @@ module _ (o : Chosen) (log : List Entry) (k : IsTicketed o log) where
   from_ended l None t s h = k.consumers t s h
   from_ended l (Some cause) t s h = from_map _ t s h
 
-  next_consumers : (a : Act) → IsDue drawn a → (t : ℕ) (s : Subscription) → consumer_after (view o log).now (view o log).links.live a t ((view o log).consumers t) ≡ Some s →
+  next_consumers : (a : Act) → IsDue drawn a → (t : ℕ) (s : Subscription) →
+      consumer_after (view o log).now (view o log).links.live a t ((view o log).consumers t) ≡ Some s →
       Has (drawn_after a drawn) (Call t)
   next_consumers (Comes (ToLink l Reads)) is_due t s h = from_map _ t s h
   next_consumers (Comes (ToLink l (Ends end))) is_due t s h = from_ended l (closing end (view o log).now ((view o log).links.live l)) t s h
@@ -187,7 +204,7 @@ module _ (o : Chosen) (log : List Entry) (k : IsTicketed o log) where
     | inl e ↦ from_map _ t s (rw e at h)
     | inr e ↦ k.consumers t s (rw e at h)
   ]
-  next_consumers (Comes (Calls asked)) is_due t s h = has_more (Comes (Calls asked)) drawn (Call t) (k.consumers t s h)
+  next_consumers (Comes (Calls asked advice)) is_due t s h = has_more (Comes (Calls asked advice)) drawn (Call t) (k.consumers t s h)
   next_consumers (Does who (Ask l request)) is_due t s h = from_map _ t s h
   next_consumers (Answers who verdict) is_due t s h = from_made who verdict.makes is_due t s h
   next_consumers _ is_due t s h = k.consumers t s h
@@ -207,7 +224,7 @@ module _ (o : Chosen) (log : List Entry) (k : IsTicketed o log) where
         consumers = next_consumers a is_due;
       }
 
-begins_ticketed : (o : Chosen) (log : List Entry) (e : Heard) → IsTicketed o log → IsTicketed o (Begins e ∷ log)
+begins_ticketed : (o : Options) (log : List Entry) (e : Heard) → IsTicketed o log → IsTicketed o (Begins e ∷ log)
 begins_ticketed o log e k =
     let s = begun_same (λ v. v.stand) e (view o log) refl in
     let m = begun_same (λ v. v.consumers) e (view o log) refl in
@@ -218,12 +235,12 @@ begins_ticketed o log e k =
       consumers = λ t sub h. subst (λ n. Has n (Call t)) (sym d) (k.consumers t sub (sym (ap (λ f. f t) m) ∙ h));
     }
 
-is_ticketed : (o : Chosen) (log : List Entry) → IsRun o log → IsTicketed o log
+is_ticketed : (o : Options) (log : List Entry) → IsRun o log → IsTicketed o log
 is_ticketed o [] run = record { stands = λ w plan h. absurd (none_some h); due = tt; consumers = λ t s h. absurd (none_some h) }
 is_ticketed o (Begins e ∷ log) run = begins_ticketed o log e (is_ticketed o log run.0)
 is_ticketed o (Then a ∷ log) run = next_ticketed o log (is_ticketed o log run.0) a run.1
 
-pub consumer_ticket : (o : Chosen) (log : List Entry) (t : ℕ) (s : Subscription) → IsRun o log → (view o log).consumers t ≡ Some s → is_spent t ≡ false
+pub consumer_ticket : (o : Options) (log : List Entry) (t : ℕ) (s : Subscription) → IsRun o log → (view o log).consumers t ≡ Some s → is_spent t ≡ false
 consumer_ticket o log t s run h = ((is_ticketed o log run).consumers t s h).0
 
 no_row : {A : Type 0} (row : Option A) → ((x : A) → row ≡ Some x → ⊥) → row ≡ None
@@ -231,30 +248,32 @@ no_row None none = refl
 no_row (Some x) none = absurd (none x refl)
 
 -- no consumer has a ticket that was not drawn yet
-are_ticketed : (o : Chosen) (log : List Entry) → IsRun o log → AreTicketed (view o log).calls.drawn (view o log).consumers
+are_ticketed : (o : Options) (log : List Entry) → IsRun o log → AreTicketed (view o log).calls.drawn (view o log).consumers
 are_ticketed o log run t h = no_row ((view o log).consumers t) (λ s is.
     let d : t < (view o log).calls.drawn = ((is_ticketed o log run).consumers t s is).1 in
     omega (arith, d, h))
 
-pub ticketed_in : (c : Tables) {o : Chosen} {g : Agenda} {e : Heard} {out : List Shown} {h : List Step} → InStep o c g e out h →
+pub ticketed_in : (c : Tables) {o : Options} {g : Agenda} {e : Heard} {out : List Shown} {h : List Step} → InStep o c g e out h →
     AreTicketed c.tickets (subscription_at c.subscribers)
 ticketed_in c {o} s = subst (λ v. AreTicketed v.calls.drawn v.consumers) (sym s.sees) (are_ticketed o s.log s.run)
 
-older_run : (o : Chosen) (later older : List Entry) → IsRun o (later ++ older) → IsRun o older
+older_run : (o : Options) (later older : List Entry) → IsRun o (later ++ older) → IsRun o older
 older_run o [] older run = run
 older_run o (Begins e ∷ later) older run = older_run o later older run.0
 older_run o (Then a ∷ later) older run = older_run o later older run.0
 
-pub older_ticket : (o : Chosen) (later older : List Entry) (t : ℕ) (s : Subscription) → IsRun o (later ++ older) → (view o older).consumers t ≡ Some s → is_spent t ≡ false
+pub older_ticket : (o : Options) (later older : List Entry) (t : ℕ) (s : Subscription) → IsRun o (later ++ older) → (view o older).consumers t ≡ Some s →
+    is_spent t ≡ false
 older_ticket o later older t s run h = consumer_ticket o older t s (older_run o later older run) h
 
 -- who starts, and who has started
-start_began : (o : Chosen) (log : List Entry) (who : Who) (p : Procedure) → IsRun o (Then (Starts who p) ∷ log) → Began who
+start_began : (o : Options) (log : List Entry) (who : Who) (p : Procedure) → IsRun o (Then (Starts who p) ∷ log) → Began who
 start_began o log who p run =
     let n = (view o log).calls.drawn in
-    (each_first (IsDue n) (agenda o log).now (agenda o log).here (agenda o log).behind (agenda o log).parts (Starts who p) (served_due n) (is_ticketed o log run.0).due run.1).0
+    (each_first (IsDue n) (agenda o log).now (agenda o log).here (agenda o log).behind (agenda o log).parts (Starts who p) (served_due n)
+    (is_ticketed o log run.0).due run.1).0
 
-pub has_begun : (o : Chosen) (log : List Entry) (w : Who) (p : Procedure) → IsRun o log → started w log ≡ Some p → Began w
+pub has_begun : (o : Options) (log : List Entry) (w : Who) (p : Procedure) → IsRun o log → started w log ≡ Some p → Began w
 has_begun o [] w p run h = absurd (none_some h)
 has_begun o (Begins e ∷ log) w p run h = has_begun o log w p run.0 h
 has_begun o (Then (Starts who q) ∷ log) w p run h = elim (cases_Bool (is_same w who)) [

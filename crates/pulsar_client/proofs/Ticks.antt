@@ -25,7 +25,7 @@ use Rattle.pulsar_client.specs.Laws.{TicksInOrder, part_below, part_rank}
 use Rattle.pulsar_client.specs.Links.{Change, Remains, Becomes, IsOver, numbers_from}
 use Rattle.pulsar_client.specs.Rules.{due_part, on_link, over_links}
 use Rattle.pulsar_client.specs.Run.{Entry, Begins, Then, view}
-use Rattle.pulsar_client.specs.View.{Chosen, Seat, Turned, View, alarms_after, alarms_on, alarms_over, alarms_rung, alarms_turned, builds, delay_of, idle_period, later, turned}
+use Rattle.pulsar_client.specs.View.{Chosen, Options, Seat, Turned, View, alarms_after, alarms_on, alarms_over, alarms_rung, alarms_turned, builds, delay_of, idle_period, later, turned}
 use Rattle.pulsar_client.proofs.Acts.{Each, begun_same, each_append, each_map}
 use Rattle.pulsar_client.proofs.Instances.{one_way3, chain3}
 use Rattle.pulsar_client.proofs.Sorting.{cmp3, lt3}
@@ -174,7 +174,7 @@ sorted_after v (Answers who verdict) k =
     (sorted_set CheckIdle (later v.now idle_period) v.alarms k) k
 sorted_after v _ k = k
 
-pub sorted : (o : Chosen) (log : List Entry) → Sorted (view o log).alarms
+pub sorted : (o : Options) (log : List Entry) → Sorted (view o log).alarms
 sorted o [] = tt
 sorted o (Begins e ∷ log) = subst Sorted (sym (begun_same (λ v. v.alarms) e (view o log) refl)) (sorted o log)
 sorted o (Then a ∷ log) = sorted_after (view o log) a (sorted o log)

@@ -1,10 +1,9 @@
 -- At the end of a step no whole frame of a link is left unread: what came is read on, until less than a frame is in front, or the link ends.
-use Rattle.std.proofs.Common.{◌≡◌, ◌⊎◌, inl, inr, ◌∙◌, sym, ap, subst, ℕ, List, [], ◌∷◌, ◌++◌, refl, drop, Bool, true, false, cond, ◌==◌, Option, Some, None, Result, Ok, Err, append-nil}
+use Rattle.std.proofs.Common.{◌≡◌, ◌⊎◌, inl, inr, ◌∙◌, sym, ap, subst, ℕ, List, ◌∷◌, ◌++◌, refl, drop, Bool, true, false, cond, ◌==◌, Option, Some, None, Result, Ok, Err, append-nil, []}
 use Rattle.std.proofs.lemmas.Bool.{cases_Bool, eqb-true, eq-eqb}
 use Rattle.std.specs.Option.{option_map}
 use Rattle.pulsar_wire.specs.declared.error.ConnectionError.{ConnectionError}
 use Rattle.pulsar_wire.specs.declared.key.RequestKey.{RequestKey}
-use Rattle.pulsar_wire.specs.declared.key.RequestKey.TheVariants as keys
 use Rattle.pulsar_frame.specs.Frame.{Front, Short, Refused, Whole, cut, front}
 use Rattle.pulsar_frame.specs.Key.{key}
 use Rattle.pulsar_frame.specs.Message.{MessageValues}
@@ -19,8 +18,7 @@ use Rattle.pulsar_session.specs.declared.states.Stage.TheVariants.{Dialing, Hand
 use Rattle.pulsar_session.specs.Answers.{is}
 use Rattle.pulsar_session.specs.Failures.{Fault}
 use Rattle.pulsar_session.specs.Laws.{messages_taken}
-use Rattle.pulsar_session.specs.Link as session
-use Rattle.pulsar_session.specs.Link.{Act as Act', Asks, Closes, Came, Feeds, Seen, Setup, after_of, answered_to, asks_for, came, came_by, came_in, drawn, for_consumer, greeted, greeted_by, greets_with, has_room, is_open, is_over, moved_up, number_for, opens_in, queue, request, settled_by, Standing, taken_in, ticked, unasked}
+use Rattle.pulsar_session.specs.Link.{Act as Act', Asks, Closes, Came, Feeds, Seen, Setup, after_of, answered_to, came, came_by, came_in, drawn, for_consumer, greeted, greeted_by, greets_with, has_room, is_open, is_over, moved_up, number_for, opens_in, queue, request, settled_by, Standing, taken_in, ticked, unasked}
 use Rattle.pulsar_session.proofs.Pieces.{asks_for_apart, unless_stage}
 use Rattle.pulsar_session.proofs.Still.{asked_of, moving, opening}
 use Rattle.pulsar_session.proofs.Streams.{taken_are_cut}
@@ -28,7 +26,6 @@ use Rattle.pulsar_client.specs.declared.act.Act.{Act}
 use Rattle.pulsar_client.specs.declared.act.Act.TheVariants.{Comes, Does, Dials}
 use Rattle.pulsar_client.specs.declared.act.Action.TheVariants.{Get, Ask}
 use Rattle.pulsar_client.specs.declared.act.Arrival.{Arrival}
-use Rattle.pulsar_client.specs.declared.act.Arrival.TheVariants as arrivals
 use Rattle.pulsar_client.specs.declared.act.End.{End}
 use Rattle.pulsar_client.specs.declared.act.End.TheVariants.{Broken}
 use Rattle.pulsar_client.specs.declared.act.LinkAct.{LinkAct}
@@ -42,7 +39,10 @@ use Rattle.pulsar_client.specs.Laws.{FramesAreCut, calls_of, dialed_with}
 use Rattle.pulsar_client.specs.Links.{arrives, closed_by}
 use Rattle.pulsar_client.specs.Rules.{at_once, breaks_at, brings, further, reads_on}
 use Rattle.pulsar_client.specs.Run.{Entry, Begins, Then, IsRun, agenda, first, rules, view}
-use Rattle.pulsar_client.specs.View.{Chosen, Seat, arrival_at, begun_live, dialed, got_at, is_dialing, is_live, link_got, live_begun, seat_asked, seat_got, took_end, took_some}
+use Rattle.pulsar_client.specs.View.{Options, Seat, arrival_at, begun_live, dialed, got_at, is_dialing, is_live, link_got, live_begun, seat_asked, seat_got, took_end, took_some}
+use Rattle.pulsar_wire.specs.declared.key.RequestKey.TheVariants as keys
+use Rattle.pulsar_session.specs.Link as session
+use Rattle.pulsar_client.specs.declared.act.Arrival.TheVariants as arrivals
 use Rattle.pulsar_client.proofs.Acts.{none_now}
 use Rattle.pulsar_client.proofs.Alone.{Made, alone, no_some, some_is}
 
@@ -232,7 +232,7 @@ is_done_by l _ = false
 own_link : (l : ℕ) → (l == l) ≡ true
 own_link l = eq-eqb l l refl
 
-module _ (o : Chosen) (l : ℕ) (log : List Entry) where
+module _ (o : Options) (l : ℕ) (log : List Entry) where
   abbrev Left : Type 0
   Left = IsLeft l (agenda o log).now (agenda o log).parts
 
@@ -256,7 +256,7 @@ module _ (o : Chosen) (l : ℕ) (log : List Entry) where
 
 -- ALONG A LOG
 
-abbrev Reading : Chosen → ℕ → List Entry → Type 0
+abbrev Reading : Options → ℕ → List Entry → Type 0
 Reading o l log = (seat : Seat) → (view o log).links.live l ≡ Some seat → IsRead seat.seen ⊎ IsLeft l (agenda o log).now (agenda o log).parts
 
 -- a seat whose bytes are those of one before
@@ -306,7 +306,7 @@ took_holds Opens now (Some r) p seat h =
 took_holds (Drains most) now (Some r) p seat h = (r, refl, ap (λ (s : Seat). s.seen.unread) (sym (some_is h)) ∙ drained_unread most now r.seen)
 took_holds Pings now (Some r) p seat h = (r, refl, ap (λ (s : Seat). s.seen.unread) (sym (some_is h)) ∙ asked_unread now SendPing r.seen)
 
-module _ (o : Chosen) (l : ℕ) (log : List Entry) (k : Reading o l log) where
+module _ (o : Options) (l : ℕ) (log : List Entry) (k : Reading o l log) where
   -- where its bytes stay, and it is not read
   carried : (a : Act) → first (agenda o log) ≡ Some a → is_done_by l a ≡ false → Holds ((view o log).links.live l) ((view o (Then a ∷ log)).links.live l) → Reading o l (Then a ∷ log)
   carried a h other holds seat live =
@@ -404,18 +404,18 @@ module _ (o : Chosen) (l : ℕ) (log : List Entry) (k : Reading o l log) where
       was_read : (old : Seat) → (view o log).links.live l ≡ Some old → IsRead old.seen
       was_read old h = elim (k old h) [ inl short ↦ short | inr left ↦ resting o l log rests left ]
 
-      fed : (x : Heard) → live_begun x l ((view o log).links.live l) ≡ Some seat → IsRead seat.seen ⊎ IsLeft l [] (brings (view o log) x)
+      fed : (x : Heard) → live_begun x l ((view o log).links.live l) ≡ Some seat → IsRead seat.seen ⊎ IsLeft l [] (brings o.policies (view o log) x)
       fed (Bytes m piece) h = elim (cases_Bool (l == m)) [
         | inl d ↦ inr (inl (inl (ap (λ j. ToLink j Reads) (eqb-true l m d))))
         | inr d ↦ inl (was_read seat (rw d at h))
       ]
       fed x h = inl (was_read seat h)
 
-      by : (b : Bool) → (cond b (begun_live e (view o log)) (view o log)).links.live l ≡ Some seat → IsRead seat.seen ⊎ IsLeft l [] (cond b (brings (view o log) e) [])
+      by : (b : Bool) → (cond b (begun_live e (view o log)) (view o log)).links.live l ≡ Some seat → IsRead seat.seen ⊎ IsLeft l [] (cond b (brings o.policies (view o log) e) [])
       by true h = fed e h
       by false h = inl (was_read seat h)
 
-reading : (o : Chosen) (l : ℕ) (log : List Entry) → IsRun o log → Reading o l log
+reading : (o : Options) (l : ℕ) (log : List Entry) → IsRun o log → Reading o l log
 reading o l [] run = λ seat h. absurd (no_some h)
 reading o l (Begins e ∷ log) run = begins o l log (reading o l log run.0) e run.1
 reading o l (Then (Comes (ToLink m x)) ∷ log) run = to_link o l log (reading o l log run.0) m x run.1

@@ -9,7 +9,7 @@ use Rattle.pulsar_client.specs.declared.tables.Tables.{Tables}
 use Rattle.pulsar_client.specs.Run.{Good, Step, view}
 use Rattle.pulsar_client.specs.Tables.{Stands, view_of}
 use Rattle.pulsar_client.proofs.Steps.{seen_of}
-use Rattle.pulsar_client.specs.View.{Chosen, Seat, View, Waits, is_at, is_busy, is_handshaking}
+use Rattle.pulsar_client.specs.View.{Options, Seat, View, Waits, is_at, is_busy, is_handshaking}
 
 abbrev stage_of : Option Seat → Option Stage
 stage_of row = option_map (λ seat. seat.seen.stage) row
@@ -67,5 +67,5 @@ module _ (v : View) (l : ℕ) (b : Bool) where
   )
 
 -- and then of what is seen after the run of each history that the tables stand for
-pub right_of : (c : Tables) {o : Chosen} {h : List Step} (l : ℕ) (b : Bool) → Right (view_of c) l b → Stands o c h → (g : Good o h) → IsTrue b ↔ Waits l (view o g.log)
+pub right_of : (c : Tables) {o : Options} {h : List Step} (l : ℕ) (b : Bool) → Right (view_of c) l b → Stands o c h → (g : Good o h) → IsTrue b ↔ Waits l (view o g.log)
 right_of c l b is s g = subst (λ v. IsTrue b ↔ Waits l v) (seen_of c s g) is

@@ -32,7 +32,7 @@ use Rattle.pulsar_client.specs.Links as links
 use Rattle.pulsar_client.specs.Links.{close, closed_by, ended, is_own_end, lost, queues, queues_at, new_places, settled_in, settles, write}
 use Rattle.pulsar_client.specs.Run.{Entry, Begins, Then, IsRun, Step, rules, view}
 use Rattle.pulsar_client.specs.Subscriptions.{Subscription, polled, polled_from}
-use Rattle.pulsar_client.specs.View.{Chosen, Seat, View, begun_live, dialed, got_at, is_live, link_got, live_begun, seat_asked, seat_fed, seat_got, took, took_end, took_some, turned}
+use Rattle.pulsar_client.specs.View.{Chosen, Options, Seat, View, begun_live, dialed, got_at, is_live, link_got, live_begun, seat_asked, seat_fed, seat_got, took, took_end, took_some, turned}
 use Rattle.pulsar_client.proofs.Acts.{Each, each_append, each_map}
 use Rattle.pulsar_client.proofs.Alone.{Made, alone, is_close, more, no_some, over_stays, some_is}
 use Rattle.pulsar_client.proofs.Instances.{effect_order}
@@ -497,16 +497,16 @@ module _ (l n : ℕ) (start : Option Setup) (calls : List Act') (s : Step) (ss :
 
 -- ALL LINKS
 
-abbrev Writes : Chosen → List Entry → Type 0
+abbrev Writes : Options → List Entry → Type 0
 Writes o log = (l : ℕ) → Wrote l (view o log).links.started ((view o log).links.live l) (steps_done rules o log)
 
 -- an act stands in a step
-record InAStep (o : Chosen) (log : List Entry) : Type 0 where
+record InAStep (o : Options) (log : List Entry) : Type 0 where
   newest : Step
   older : List Step
   done : steps_done rules o log ≡ newest ∷ older
 
-in_a_step : (o : Chosen) (a : Act) (log : List Entry) → IsRun o (Then a ∷ log) → InAStep o log
+in_a_step : (o : Options) (a : Act) (log : List Entry) → IsRun o (Then a ∷ log) → InAStep o log
 in_a_step o a [] run = absurd cc
 in_a_step o a (Begins e ∷ log) run = record { newest = record { event = e; effects = [] }; older = steps_done rules o log; done = refl }
 in_a_step o a (Then b ∷ log) run =
@@ -517,7 +517,7 @@ in_a_step o a (Then b ∷ log) run =
       done = ap (with_effects (effects (view o log) b)) k.done;
     }
 
-module _ (o : Chosen) (log : List Entry) (w : Writes o log) (k : InAStep o log) where
+module _ (o : Options) (log : List Entry) (w : Writes o log) (k : InAStep o log) where
   abbrev n : ℕ
   n = (view o log).links.started
 
@@ -614,7 +614,7 @@ live_on l n row (Bytes m piece) ss k =
     [ true ↦ fed_begun l n piece row (Bytes m piece) ss k | false ↦ same_begun l n row (Bytes m piece) ss k ]
 live_on l n row e ss k = same_begun l n row e ss k
 
-begins_on : (o : Chosen) (log : List Entry) (e : Heard) → Writes o log → Writes o (Begins e ∷ log)
+begins_on : (o : Options) (log : List Entry) (e : Heard) → Writes o log → Writes o (Begins e ∷ log)
 begins_on o log e w l =
     let v : View = view o log in
     elim (is_live v e) as (λ b. Wrote l (cond b (begun_live e v) v).links.started ((cond b (begun_live e v) v).links.live l) (record { event = e; effects = [] } ∷ steps_done rules o log)) [
@@ -622,7 +622,7 @@ begins_on o log e w l =
       | false ↦ same_begun l v.links.started (v.links.live l) e (steps_done rules o log) (w l)
     ]
 
-writes : (o : Chosen) (log : List Entry) → IsRun o log → Writes o log
+writes : (o : Options) (log : List Entry) → IsRun o log → Writes o log
 writes o [] run = λ l. record {
   places = 0;
   left = [];

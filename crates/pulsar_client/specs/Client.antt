@@ -1,17 +1,23 @@
 -- What a client stands for.
-use Rattle.std.specs.Prelude.{◌≡◌, true, false, List, string_bytes}
+use Rattle.std.specs.Prelude.{◌≡◌, ◌<◌, ℕ, true, false, List, map, string_bytes}
+use Rattle.std.specs.declared.alloc.Global.{Global}
+use Rattle.std.specs.declared.dyn_box.DynBox.{DynBox}
 use Rattle.pulsar_client.specs.declared.options.ClientOptions.{ClientOptions}
 use Rattle.pulsar_client.specs.declared.pulsar.Pulsar.{Pulsar}
 use Rattle.std.specs.Option.{option_map}
 use Rattle.pulsar_messages.specs.Content.{authentication_values}
+use Rattle.pulsar_producer.specs.Routing.{Policy}
 use Rattle.pulsar_client.specs.Address.{base_in}
 use Rattle.pulsar_client.specs.Content.{Heard}
-use Rattle.pulsar_client.specs.Run.{Good, Step, view}
+use Rattle.pulsar_client.specs.Run.{Good, Step, tickets_in, view}
 use Rattle.pulsar_client.specs.Tables.{Stands}
-use Rattle.pulsar_client.specs.View.{Chosen, is_live}
+use Rattle.pulsar_client.specs.Taken.{held_but, held_in, is_in}
+use Rattle.pulsar_client.specs.View.{Chosen, Options, is_live}
+
+-- Options hold policies in boxes, of whatever types X and d, and `routes` says what function a policy is.
 
 -- what the options choose
-abbrev pub chosen : ClientOptions → Chosen
+abbrev pub chosen : {X : Type 0} {d : X → Type 0} → ClientOptions X d → Chosen
 chosen options =
     record {
       base = base_in (string_bytes options.url);
@@ -24,24 +30,28 @@ chosen options =
       now = options.now;
     }
 
+-- this, and the policies
+abbrev pub options : {X : Type 0} {d : X → Type 0} → (routes : DynBox X Global d → Policy) → ClientOptions X d → Options
+options routes given = record { chosen = chosen given; policies = map routes given.policies.items }
+
 -- the options that a client was made with
-abbrev pub options_of : Pulsar → ClientOptions
-options_of c = c.options
+abbrev pub options_of : {X : Type 0} {d : X → Type 0} → Pulsar X d → ClientOptions X d
+options_of c = c.options.value
 
 -- a step ran out of memory
-abbrev pub HasFailed : Pulsar → Type 0
+abbrev pub HasFailed : {X : Type 0} {d : X → Type 0} → Pulsar X d → Type 0
 HasFailed c = c.failed ≡ true
 
--- a client stands for a history where its tables do, with what its options choose, and it has not run out of memory
-pub record StandsFor (o : Chosen) (c : Pulsar) (history : List Step) : Type 0 where
-  pub made : o ≡ chosen (options_of c)
+-- A client stands for a history, and for the tickets whose answers were taken, where its tables do, with what its options choose, what it
+-- holds of a ticket is what the history says and was not taken, those that were taken had been drawn, and it has not run out of memory.
+pub record StandsFor {X : Type 0} {d : X → Type 0} (routes : DynBox X Global d → Policy) (o : Options) (c : Pulsar X d) (history : List Step) (taken : List ℕ) : Type 0 where
+  pub made : o ≡ options routes (options_of c)
   pub stands : Stands o c.tables history
+  pub answers : (t : ℕ) → held_in c.answers.held t ≡ held_but taken t history
+  pub drawn : (t : ℕ) → is_in t taken ≡ true → t < tickets_in history
   pub whole : c.failed ≡ false
 
 -- the event names no live link, no state that the link is in, or no consumer, after any run of a history that the client stands for
-abbrev pub IsDead : Pulsar → Heard → Type 0
-IsDead c e = (o : Chosen) × (h : List Step) × StandsFor o c h × ((g : Good o h) → is_live (view o g.log) e ≡ false)
-
--- every history that a client stands for is good
-abbrev pub StoodForIsGood : Type 0
-StoodForIsGood = (o : Chosen) (c : Pulsar) (h : List Step) → StandsFor o c h → Good o h
+abbrev pub IsDead : {X : Type 0} {d : X → Type 0} → (routes : DynBox X Global d → Policy) → Pulsar X d → Heard → Type 0
+IsDead routes c e =
+    (o : Options) × (h : List Step) × (taken : List ℕ) × StandsFor routes o c h taken × ((g : Good o h) → is_live (view o g.log) e ≡ false)

@@ -2,8 +2,8 @@
 --
 -- A link is an attempt to connect, and the connection that comes of it. Links are numbered from 0, in the order of the effects Connect.
 -- The place of a frame is its index among all frames that were queued on its link. A ticket is the number of a call: calls are counted
--- from 0. A raw consumer has the ticket of the call that made it.
-use Rattle.std.specs.Prelude.{ℕ, List, map, string_bytes, Result, Ok, Err}
+-- from 0. A raw consumer, and a producer, has the ticket of the call that made it. The parts of a call have the tickets behind its own.
+use Rattle.std.specs.Prelude.{ℕ, ◌+◌, ◌-◌, ◌^◌, nat_le, Bool, List, [], ◌∷◌, length, map, string_bytes, Option, Some, None, Result, Ok, Err}
 use Rattle.pulsar_wire.specs.Row.{spelling}
 use Rattle.pulsar_wire.specs.Rows.{message_id, message_metadata, send_receipt}
 use Rattle.pulsar_wire.specs.Views.{body_values, message_id_values, message_metadata_values, send_receipt_values}
@@ -13,7 +13,9 @@ use Rattle.pulsar_wire.specs.declared.error.IoKind.{IoKind}
 use Rattle.pulsar_session.specs.Failures.{Failure, failure}
 use Rattle.pulsar_link.specs.Messages.{Written, written}
 use Rattle.pulsar_link.specs.RawCall.{words_of}
+use Rattle.pulsar_messages.specs.Content.{ProducerMessageValues, message_content}
 use Rattle.pulsar_messages.specs.Words.{Words}
+use Rattle.pulsar_producer.specs.Wanted.{ProducerWanted, producer_wanted}
 use Rattle.pulsar_plans.specs.Address.{Place, Named, named, place}
 use Rattle.pulsar_client.specs.declared.event.Call.{Call}
 use Rattle.pulsar_client.specs.declared.event.Call.TheVariants as call
@@ -34,6 +36,12 @@ pub data Asked : Type 0 where
   Lookup : (topic : List ℕ) → Asked
   Partitions : (topic : List ℕ) → Asked
   Brokers : (topic : List ℕ) → Asked
+  Producer : ProducerWanted → Asked
+  Send : (producer : ℕ) (message : ProducerMessageValues) → Asked
+  SendAll : (producer : ℕ) (messages : List ProducerMessageValues) → Asked
+  Flush : (producer : ℕ) → Asked
+  CheckProducer : (producer : ℕ) → Asked
+  CloseProducer : (producer : ℕ) → Asked
   Raw : (link : ℕ) (words : Words) → Asked
 
 -- what happens to the client
@@ -48,7 +56,7 @@ pub data Heard : Type 0 where
   Poll : (ticket : ℕ) → Heard
 
 -- What a call ends with: where a topic is served, how many partitions it has, each of its names with where it is served; a receipt by its
--- bytes, and other bodies of the broker by their numbers and their bytes.
+-- bytes, the tickets of messages that were sent together, and other bodies of the broker by their numbers and their bytes.
 pub data Said : Type 0 where
   Done : Said
   Names : List (List ℕ) → Said
@@ -56,6 +64,7 @@ pub data Said : Type 0 where
   Count : ℕ → Said
   Addresses : List Named → Said
   Receipt : List ℕ → Said
+  Sends : (tickets : List ℕ) → Said
   Replies : List Written → Said
   Failed : Failure → Said
 
@@ -81,7 +90,49 @@ asked (call.Topics namespace mode) = Topics (string_bytes namespace) mode
 asked (call.Lookup topic) = Lookup (string_bytes topic)
 asked (call.Partitions topic) = Partitions (string_bytes topic)
 asked (call.Brokers topic) = Brokers (string_bytes topic)
+asked (call.Producer builder) = Producer (producer_wanted builder)
+asked (call.Send producer message) = Send producer (message_content message)
+asked (call.SendAll producer messages) = SendAll producer (map message_content messages.items)
+asked (call.Flush producer) = Flush producer
+asked (call.CheckProducer producer) = CheckProducer producer
+asked (call.CloseProducer producer) = CloseProducer producer
 asked (call.Raw link c) = Raw link (words_of c)
+
+-- how many parts a call has, each with a ticket of its own
+abbrev pub shares : Asked → ℕ
+shares Build = 0
+shares Stop = 0
+shares (Topics namespace mode) = 0
+shares (Lookup topic) = 0
+shares (Partitions topic) = 0
+shares (Brokers topic) = 0
+shares (Producer wanted) = 0
+shares (Send producer message) = 0
+shares (SendAll producer messages) = length messages
+shares (Flush producer) = 0
+shares (CheckProducer producer) = 0
+shares (CloseProducer producer) = 0
+shares (Raw link words) = 0
+
+-- the messages that a call sends, by the producer of a ticket
+abbrev pub sent_by : Asked → Option (ℕ × List ProducerMessageValues)
+sent_by Build = None
+sent_by Stop = None
+sent_by (Topics namespace mode) = None
+sent_by (Lookup topic) = None
+sent_by (Partitions topic) = None
+sent_by (Brokers topic) = None
+sent_by (Producer wanted) = None
+sent_by (Send producer message) = Some (producer, message ∷ [])
+sent_by (SendAll producer messages) = Some (producer, messages)
+sent_by (Flush producer) = None
+sent_by (CheckProducer producer) = None
+sent_by (CloseProducer producer) = None
+sent_by (Raw link words) = None
+
+-- Fewer tickets are left than a call and its parts need: the greatest is never drawn.
+abbrev pub lacks_tickets : (drawn shares : ℕ) → Bool
+lacks_tickets drawn shares = nat_le (2 ^ 64 - 1) (drawn + shares)
 
 abbrev pub heard : Event → Heard
 heard (event.Call c) = Called (asked c)
@@ -100,6 +151,7 @@ answered (answer.Address a) = Address (place a)
 answered (answer.Count n) = Count n
 answered (answer.Addresses names) = Addresses (map named names.items)
 answered (answer.Receipt receipt) = Receipt (spelling send_receipt (send_receipt_values receipt))
+answered (answer.Sends tickets) = Sends tickets.items
 answered (answer.Replies bodies) = Replies (map (λ b. written (body_values b)) bodies.items)
 
 abbrev pub said : Result Answer Error → Said

@@ -1,8 +1,7 @@
 -- What follows from the definition of a good run, in plain words.
-use Rattle.std.specs.Prelude.{◌≡◌, ◌⊎◌, ℕ, pos, ◌+◌, ◌≤◌, ◌==◌, bytes_eq, ◌&&◌, ◌||◌, not, Bool, true, false, if◌then◌else◌, List, [], ◌∷◌, ◌++◌, Option, Some, None, Result, Ok, Err}
-use Rattle.std.specs.List.{flat_map}
+use Rattle.std.specs.Prelude.{◌≡◌, ◌⊎◌, ℕ, ◌+◌, ◌-◌, ◌^◌, ◌≤◌, ◌==◌, bytes_eq, ◌&&◌, ◌||◌, not, Bool, true, false, if◌then◌else◌, List, [], ◌∷◌, ◌++◌, Option, Some, None, Result, Ok, Err, pos}
+use Rattle.std.specs.List.{flat_map, list_any}
 use Rattle.std.specs.Option.{is_some, option_to_list}
-use Rattle.pulsar_run.specs.Laws as run
 use Rattle.pulsar_run.specs.Laws.{Arises, In, InThisStep}
 use Rattle.pulsar_run.specs.Order.{AllInOrder, InOrder, arranged}
 use Rattle.pulsar_run.specs.Run.{events, steps_done}
@@ -12,25 +11,24 @@ use Rattle.pulsar_frame.specs.Message.{MessageValues}
 use Rattle.pulsar_messages.specs.Words.{Words}
 use Rattle.pulsar_requests.specs.Waits.{later_of}
 use Rattle.pulsar_session.specs.declared.states.Asked.{Asked as Placed}
-use Rattle.pulsar_session.specs.declared.states.Asked.TheVariants as placed
-use Rattle.pulsar_session.specs.Failures.{DiscoveryConnection, DiscoveryCanceled, DiscoveryFault, DiscoveryNotFound, DiscoveryShutdown, DnsLookup, Dummy, Exhausted, Failure, Fault, OfConnection, OfDiscovery, Query, fault}
+use Rattle.pulsar_session.specs.Failures.{DiscoveryConnection, DiscoveryCanceled, DiscoveryFault, DiscoveryNotFound, DiscoveryShutdown, DnsLookup, Dummy, Exhausted, Failure, Fault, OfConnection, OfDiscovery, OfPartialSend, Query, fault, Disconnected}
 use Rattle.pulsar_session.specs.Laws.{bytes_fed, messages_taken}
-use Rattle.pulsar_session.specs.Link as session
 use Rattle.pulsar_session.specs.Link.{Act as Act', Asks, Feeds, Setup, came, due, ends, is_spent}
 use Rattle.pulsar_link.specs.Items.{Item, Given, Faulty}
 use Rattle.pulsar_link.specs.Messages.{Reply, read}
 use Rattle.pulsar_link.specs.Request.{closed_consumer, request_number}
 use Rattle.pulsar_plans.specs.Address.{Place, address_key, is_reachable}
+use Rattle.pulsar_plans.specs.Replies.{in_discovery, query, unexpected, fails_by, is_choice, place_at}
+use Rattle.pulsar_producer.specs.Errors.{in_producer}
+use Rattle.pulsar_producer.specs.declared.deed.News.{News}
 use Rattle.pulsar_plans.specs.Backoff.{allow_retry}
-use Rattle.pulsar_plans.specs.Replies.{fails_by, in_discovery, is_choice, place_at, query, unexpected}
-use Rattle.pulsar_plans.specs.declared.plan.Procedure.{Procedure as Sought}
 use Rattle.pulsar_plans.specs.declared.turn.Ways.{Ways}
 use Rattle.pulsar_session.specs.Reply.{Reply as Content, is_body}
 use Rattle.pulsar_client.specs.Alarms.{ringing, rings}
 use Rattle.pulsar_client.specs.declared.act.Act.{Act}
 use Rattle.pulsar_client.specs.declared.act.Act.TheVariants.{Comes, Starts, Told, Does, Answers, Dials}
 use Rattle.pulsar_client.specs.declared.act.Action.{Action}
-use Rattle.pulsar_client.specs.declared.act.Action.TheVariants.{Get, Ask, StopAll, Rest}
+use Rattle.pulsar_client.specs.declared.act.Action.TheVariants.{Get, Ask, TakeTurn, PassTurn, Draw, Recall, Remake, Number, Find, Shut, Tell, StopAll, Rest}
 use Rattle.pulsar_client.specs.declared.act.Alarm.{Alarm}
 use Rattle.pulsar_client.specs.declared.act.Alarm.TheVariants.{Retry, Wake, KeepAlive, CheckIdle}
 use Rattle.pulsar_client.specs.declared.act.Arrival.{Arrival}
@@ -40,13 +38,12 @@ use Rattle.pulsar_client.specs.declared.act.End.TheVariants.{Overdue, Idles}
 use Rattle.pulsar_client.specs.declared.act.LinkAct.{LinkAct}
 use Rattle.pulsar_client.specs.declared.act.LinkAct.TheVariants.{Reads, Drains, Pings, Ends}
 use Rattle.pulsar_client.specs.declared.act.Makes.{Makes}
+use Rattle.pulsar_client.specs.declared.act.Share.{Share}
 use Rattle.pulsar_client.specs.declared.act.Notice.{Notice}
 use Rattle.pulsar_client.specs.declared.act.Outcome.{Outcome}
-use Rattle.pulsar_client.specs.declared.act.Outcome.TheVariants as outcome
 use Rattle.pulsar_client.specs.declared.act.Part.{Part}
 use Rattle.pulsar_client.specs.declared.act.Part.TheVariants.{Calls, ToLink, Rings, Polls}
 use Rattle.pulsar_client.specs.declared.act.Procedure.{Procedure}
-use Rattle.pulsar_client.specs.declared.act.Procedure.TheVariants as procedure
 use Rattle.pulsar_client.specs.declared.act.Refusal.{Refusal}
 use Rattle.pulsar_client.specs.declared.act.Says.{Says}
 use Rattle.pulsar_client.specs.declared.act.Verdict.{Verdict}
@@ -57,31 +54,39 @@ use Rattle.pulsar_client.specs.declared.addresses.Series.{Series}
 use Rattle.pulsar_client.specs.declared.addresses.Series.TheVariants.{Nobody, Runs, Pauses, Serves}
 use Rattle.pulsar_client.specs.declared.plans.plan.Plan.{Plan}
 use Rattle.pulsar_client.specs.declared.plans.plan.Turn.{Turn}
-use Rattle.pulsar_client.specs.declared.plans.plan.Turn.TheVariants as turn
-use Rattle.pulsar_client.specs.Content.{Asked, Called, Bytes, Ticked, Poll, Shown, Queued, Write, Hands, Faults, Failed}
+use Rattle.pulsar_client.specs.Content.{Asked, Bytes, Ticked, Poll, Shown, Queued, Write, Hands, Faults, Failed, lacks_tickets, shares}
 use Rattle.pulsar_client.specs.Effects.{effect_below, is_before3}
-use Rattle.pulsar_client.specs.Links as links
-use Rattle.pulsar_client.specs.Links.{Change, Remains, Becomes, IsOver, arrival, call_of, closed_by, line_places, new_places}
+use Rattle.pulsar_client.specs.Links.{Change, Remains, Becomes, IsOver, arrival, call_of, closed_by, line_places, new_places, numbers_from}
+use Rattle.pulsar_client.specs.Parts.{outcomes_of}
+use Rattle.pulsar_client.specs.Producers.{advice, turn_passed, drawn, link_at, number_drawn, recalled, turn_taken, waiting_at}
 use Rattle.pulsar_client.specs.Plan.{begins, failure_of, fails, fault_of, reply_says, told}
-use Rattle.pulsar_client.specs.Rules.{below, dropped, fails_so, is_idle, lost, notice, procedure_for, stopped_with, brings}
-use Rattle.pulsar_client.specs.Run.{Entry, Begins, Then, Good, IsRun, Rests, Step, agenda, calls_in, rules, steps, view}
+use Rattle.pulsar_client.specs.Rules.{below, call_part, dropped, fails_so, is_idle, lost, notice, starts, stopped_with, brings}
+use Rattle.pulsar_client.specs.Run.{Entry, Begins, Then, Good, IsRun, Rests, Step, agenda, rules, steps, tickets_in, view}
 use Rattle.pulsar_client.specs.Subscriptions.{Subscription, closes_it, is_heard_on, is_last, polled}
-use Rattle.pulsar_client.specs.View.{Base, Chosen, Seat, Turned, View, answer_at, arrival_at, builds, closing, is_asked, pause_of, setup, turned, waits_on}
+use Rattle.pulsar_client.specs.View.{Base, Options, Seat, Turned, View, answer_at, arrival_at, builds, closing, is_asked, pause_of, setup, turned, waits_on, room_of}
 use Rattle.pulsar_client.specs.Who.{is_same, rank}
+use Rattle.pulsar_run.specs.Laws as run
+use Rattle.pulsar_session.specs.declared.states.Asked.TheVariants as placed
+use Rattle.pulsar_session.specs.Link as session
+use Rattle.pulsar_producer.specs.declared.deed.News.TheVariants as news
+use Rattle.pulsar_client.specs.declared.act.Outcome.TheVariants as outcome
+use Rattle.pulsar_client.specs.declared.act.Procedure.TheVariants as procedure
+use Rattle.pulsar_client.specs.declared.plans.plan.Turn.TheVariants as turn
+use Rattle.pulsar_client.specs.Links as links
 
 -- THE RUN
 
 -- options and events determine the effects of a good run
 abbrev pub Determined : Type 0
-Determined = (o : Chosen) (h h' : List Step) → Good o h → Good o h' → events h ≡ events h' → h ≡ h'
+Determined = (o : Options) (h h' : List Step) → Good o h → Good o h' → events h ≡ events h' → h ≡ h'
 
 -- the effects of each step stand in order, and they are just those of its acts, each once
 abbrev pub EffectsArranged : Type 0
-EffectsArranged = (o : Chosen) (log : List Entry) → run.ArrangeSteps effect_below (steps_done rules o log) (steps o log)
+EffectsArranged = (o : Options) (log : List Entry) → run.ArrangeSteps effect_below (steps_done rules o log) (steps o log)
 
 -- the present cause serves by rank, and so do the causes that wait: calls by ticket
 abbrev pub CausesInOrder : Type 0
-CausesInOrder = (o : Chosen) (log : List Entry) → InOrder below (agenda o log).here × AllInOrder below (agenda o log).behind
+CausesInOrder = (o : Options) (log : List Entry) → InOrder below (agenda o log).here × AllInOrder below (agenda o log).behind
 
 -- these entries are acts, all of one step
 abbrev pub AreActs : List Entry → Type 0
@@ -92,16 +97,19 @@ AreActs (Then a ∷ log) = AreActs log
 -- Whatever arises from an event or an act, at once, as what one is told or as a part, is done before the next event begins: nothing is
 -- missing.
 abbrev pub AllIsDone : Type 0
-AllIsDone = (o : Chosen) (newer older : List Entry) (e : Entry) (a : Act) →
+AllIsDone = (o : Options) (newer older : List Entry) (e : Entry) (a : Act) →
     IsRun o (newer ++ e ∷ older) → Rests o (newer ++ e ∷ older) → AreActs newer → Arises rules o a e older → In (Then a) newer
 
 -- CALLS
 
--- a call is made where the user asks for it, with the next ticket, which is never the greatest, by the procedure for it
+-- A call is made where the user asks for it, with the next ticket, by the procedure for it; and its parts with those behind it, by their
+-- own. None is the greatest.
 abbrev pub CallsAreMade : Type 0
-CallsAreMade = (o : Chosen) (log : List Entry) (t : ℕ) (p : Procedure) → IsRun o (Then (Starts (Call t) p) ∷ log) →
-    (asked : Asked) × (older : List Entry) × (log ≡ Then (Comes (Calls asked)) ∷ Begins (Called asked) ∷ older)
-    × (t ≡ (view o older).calls.drawn) × (is_spent t ≡ false) × (p ≡ procedure_for o (view o older).calls asked)
+CallsAreMade = (o : Options) (log : List Entry) (t : ℕ) (p : Procedure) → IsRun o (Then (Starts (Call t) p) ∷ log) →
+    (is_spent t ≡ false)
+    × InThisStep (λ e older. (asked : Asked) × (e ≡ Then (Comes (call_part o.policies (view o older) asked)))
+    × (lacks_tickets (view o older).calls.drawn (shares asked) ≡ false)
+    × In (Starts (Call t) p) (starts (view o older) (advice o.policies (view o older).producers asked) asked)) log
 
 -- the newest procedure that one who has a plan started, and the outcomes that it was told since then, oldest first
 abbrev pub started : Who → List Entry → Option Procedure
@@ -144,7 +152,7 @@ course (turn.Stays plan action) (o ∷ os) = acted action ++ course (told plan o
 -- Wherever nothing is left to do, that is at the end of each step, each of those who have plans has done what its plan gives along
 -- its outcomes: each action, and the verdict, in the step of its outcome, none more and none less.
 abbrev pub PlansFollow : Type 0
-PlansFollow = (o : Chosen) (log : List Entry) (w : Who) (p : Procedure) →
+PlansFollow = (o : Options) (log : List Entry) (w : Who) (p : Procedure) →
     IsRun o log → Rests o log → started w log ≡ Some p → deeds w log ≡ course (begins p) (outcomes w log)
 
 -- the act of a deed
@@ -161,22 +169,22 @@ Leads (Answered verdict) t = t ≡ turn.Gives verdict
 abbrev pub StartsSo : Who → Deed → Entry → Type 0
 StartsSo w d e = (p : Procedure) × (e ≡ Then (Starts w p)) × Leads d (begins p)
 
-abbrev pub IsToldSo : Chosen → Who → Deed → Entry → List Entry → Type 0
+abbrev pub IsToldSo : Options → Who → Deed → Entry → List Entry → Type 0
 IsToldSo o w d e older =
     (u : Outcome) × (plan : Plan) × (e ≡ Then (Told (record { who = w; outcome = u }))) × ((view o older).stand w ≡ Some plan) × Leads d (told plan u)
 
-abbrev pub ComesLate : Chosen → Who → Deed → Entry → List Entry → Type 0
+abbrev pub ComesLate : Options → Who → Deed → Entry → List Entry → Type 0
 ComesLate o w d e older =
-    (asked : Asked) × (e ≡ Then (Comes (Calls asked))) × (w ≡ Call (view o older).calls.drawn) × (is_spent (view o older).calls.drawn ≡ true)
+    (asked : Asked) × (said : List (Option ℕ)) × (e ≡ Then (Comes (Calls asked said))) × (w ≡ Call (2 ^ 64 - 1)) × (lacks_tickets (view o older).calls.drawn (shares asked) ≡ true)
     × (d ≡ Answered (fails Exhausted))
 
 -- Each action of a plan, and its verdict, comes right behind the start of the plan or the outcome that leads to it. So it stands in the
 -- step of its cause, and nothing comes between.
-abbrev pub IsLed : Chosen → Who → Deed → List Entry → Type 0
+abbrev pub IsLed : Options → Who → Deed → List Entry → Type 0
 IsLed o w d log = (e : Entry) × (older : List Entry) × (log ≡ e ∷ older) × (StartsSo w d e ⊎ (IsToldSo o w d e older ⊎ ComesLate o w d e older))
 
 abbrev pub DeedsFollow : Type 0
-DeedsFollow = (o : Chosen) (log : List Entry) (w : Who) (d : Deed) → IsRun o (Then (act_of w d) ∷ log) → IsLed o w d log
+DeedsFollow = (o : Options) (log : List Entry) (w : Who) (d : Deed) → IsRun o (Then (act_of w d) ∷ log) → IsLed o w d log
 
 -- a plan gives one verdict, and does nothing after it
 abbrev pub verdicts_in : List Deed → ℕ
@@ -204,12 +212,12 @@ counted f (Then a ∷ log) = counted f log + f a
 -- The call of a ticket begins at most once, and ends at most once. The greatest ticket begins no call: it stands for all calls for which
 -- none is left, and each of these ends at once.
 abbrev pub EndsOnce : Type 0
-EndsOnce = (o : Chosen) (log : List Entry) (t : ℕ) → IsRun o log → (counted (start_of t) log ≤ 1) × (is_spent t ≡ false → counted (end_of t) log ≤ 1)
+EndsOnce = (o : Options) (log : List Entry) (t : ℕ) → IsRun o log → (counted (start_of t) log ≤ 1) × (is_spent t ≡ false → counted (end_of t) log ≤ 1)
 
 -- WHY A CALL IS TOLD AN OUTCOME
 
 -- An entry of the log, with the older ones before it, is such: one gets a link of an address, and what is seen there is so.
-abbrev pub Gets : Chosen → Who → (Place → View → Type 0) → Entry → List Entry → Type 0
+abbrev pub Gets : Options → Who → (Place → View → Type 0) → Entry → List Entry → Type 0
 Gets o who P e older = (p : Place) × (e ≡ Then (Does who (Get p))) × P p (view o older)
 
 -- what is seen of the address of a link, or of another
@@ -217,86 +225,143 @@ abbrev pub base_of : View → Place → Base
 base_of v p = v.addresses.base (address_key p)
 
 -- one asks for a request on a link, and this is answered
-abbrev pub AsksSo : Chosen → Who → (Result Placed ConnectionError → Type 0) → Entry → List Entry → Type 0
+abbrev pub AsksSo : Options → Who → (Result Placed ConnectionError → Type 0) → Entry → List Entry → Type 0
 AsksSo o who P e older =
     (l : ℕ) × (request : Words) × (e ≡ Then (Does who (Ask l request))) × P (answer_at (view o older).now request ((view o older).links.live l))
 
 -- a link becomes ready, while this one waits for its address
-abbrev pub BecomesReady : Chosen → Who → (link : ℕ) → Entry → List Entry → Type 0
+abbrev pub BecomesReady : Options → Who → (link : ℕ) → Entry → List Entry → Type 0
 BecomesReady o who l e older =
     (seat : Seat) × (e ≡ Then (Comes (ToLink l Reads))) × ((view o older).links.live l ≡ Some seat) × (arrival seat.seen ≡ Readied)
     × In who (base_of (view o older) seat.address).waiting
 
 -- a link ends, and what is seen of it there is so
-abbrev pub EndsSo : Chosen → (End → View → Seat → Type 0) → Entry → List Entry → Type 0
+abbrev pub EndsSo : Options → (End → View → Seat → Type 0) → Entry → List Entry → Type 0
 EndsSo o P e older =
     (l : ℕ) × (end : End) × (cause : Fault) × (seat : Seat) × (e ≡ Then (Comes (ToLink l (Ends end)))) × ((view o older).links.live l ≡ Some seat)
     × (closed_by end (view o older).now seat.seen ≡ Some cause) × P end (view o older) seat
 
 -- an attempt ends for which this one waits, and none follows: whether it started the series, and what it is told
-abbrev pub AttemptEnds : Chosen → Who → Outcome → Entry → List Entry → Type 0
+abbrev pub AttemptEnds : Options → Who → Outcome → Entry → List Entry → Type 0
 AttemptEnds o who u e older =
     EndsSo o (λ end v seat. (starter : Who) × (retries link : ℕ) × ((base_of v seat.address).series ≡ Runs starter retries link)
-    × (pause_of o end seat.address (Runs starter retries link) ≡ None) × In who (base_of v seat.address).waiting
+    × (pause_of o.chosen end seat.address (Runs starter retries link) ≡ None) × In who (base_of v seat.address).waiting
     × (u ≡ fails_so end (is_same who starter))) e older
 
 -- a request that this one asked for ends with its link, and this is told
-abbrev pub RequestEnds : Chosen → Who → Outcome → Entry → List Entry → Type 0
+abbrev pub RequestEnds : Options → Who → Outcome → Entry → List Entry → Type 0
 RequestEnds o who u e older =
     EndsSo o (λ end v seat. (place : ℕ) × In place (ends seat.seen) × (seat.askers place ≡ Some who) × (u ≡ lost end v.now seat.seen place)) e older
 
 -- and a frame of it that stands in the line
-abbrev pub LineEnds : Chosen → Who → Outcome → Entry → List Entry → Type 0
+abbrev pub LineEnds : Options → Who → Outcome → Entry → List Entry → Type 0
 LineEnds o who u e older =
     EndsSo o (λ end v seat. (place : ℕ) × In place (line_places seat.seen) × (seat.askers place ≡ Some who) × (u ≡ dropped end)) e older
 
 -- a frame that this one asked for moves up from the line
-abbrev pub MovesUp : Chosen → Who → Entry → List Entry → Type 0
+abbrev pub MovesUp : Options → Who → Entry → List Entry → Type 0
 MovesUp o who e older =
     (l most place : ℕ) × (seat : Seat) × (e ≡ Then (Comes (ToLink l (Drains most)))) × ((view o older).links.live l ≡ Some seat)
     × In place (new_places seat.seen (links.after (Drains most) (view o older).now seat.seen)) × (seat.askers place ≡ Some who)
 
 -- a request that this one asked for is settled by this reply
-abbrev pub IsReplied : Chosen → Who → Reply → Entry → List Entry → Type 0
+abbrev pub IsReplied : Options → Who → Reply → Entry → List Entry → Type 0
 IsReplied o who r e older =
     (l : ℕ) × (seat : Seat) × (places : List ℕ) × (m : MessageValues) × (place : ℕ) × (e ≡ Then (Comes (ToLink l Reads)))
     × ((view o older).links.live l ≡ Some seat) × (came seat.seen ≡ session.Settles places m) × In place places × (seat.askers place ≡ Some who)
     × (r ≡ read m)
 
 -- the moment came for which this one waited
-abbrev pub IsWoken : Chosen → Who → Entry → List Entry → Type 0
+abbrev pub IsWoken : Options → Who → Entry → List Entry → Type 0
 IsWoken o who e older = (e ≡ Then (Comes (Rings (Wake who)))) × (rings (view o older).now (Wake who) (view o older).alarms ≡ true)
 
--- this one stops the client, or waits for a moment or for an attempt that is to follow while another does
-abbrev pub IsStopped : Chosen → Who → Entry → List Entry → Type 0
+-- this one stops the client; or it waits for a moment or for an attempt that is to follow, or for its turn at a topic producer, while
+-- another does
+abbrev pub IsStopped : Options → Who → Entry → List Entry → Type 0
 IsStopped o who e older =
     (stopper : Who) × (e ≡ Then (Does stopper StopAll))
-    × ((who ≡ stopper) ⊎ In (notice who outcome.Stopped) (flat_map (λ a. stopped_with (view o older).addresses a.0) (view o older).alarms))
+    × ((who ≡ stopper) ⊎ In (notice who outcome.Stopped) (flat_map (λ a. stopped_with (view o older).addresses a.0) (view o older).alarms)
+    ⊎ ((number ticket : ℕ) × (who ≡ Call ticket) × In ticket (waiting_at ((view o older).producers.topics number))))
 
--- GotLink: it got a link of an address, which serves, or that became ready while it waited. NotFound: the address cannot be reached.
--- Failed, Canceled: the last attempt that it waited for ended, of a series that it or another started. Queued: it asked, and its frame was
--- queued at once or moved up. InLine, Refused: it asked, and the link said so. Replied: its request was answered. Woken: its moment came.
--- TimedOut, Disconnected, Cut, Stopped: its request, its frame in the line or the attempt that it waited for ended so; or the client was
--- stopped.
-abbrev pub Cause : Chosen → Who → Outcome → Entry → List Entry → Type 0
-Cause o who (outcome.GotLink link) e older = Gets o who (λ p v. (is_reachable p ≡ true) × ((base_of v p).series ≡ Serves link)) e older ⊎ BecomesReady o who link e older
+-- its plan does this, and what is seen there is so
+abbrev pub Acts : Options → Who → (Action → View → Type 0) → Entry → List Entry → Type 0
+Acts o who P e older = (action : Action) × (e ≡ Then (Does who action)) × P action (view o older)
+
+-- What it asks of a topic producer, or of their numbers, is done at once, and gives this: the turn, which nobody else has, with the version of the
+-- schema; the number of a message, where the link is ready; the command by which the producer is made again; the number of a new one; or
+-- nothing more.
+abbrev pub GrantsSo : News → Action → View → Type 0
+GrantsSo (news.HasTurn version) (TakeTurn n) v = turn_taken (v.producers.topics n) ≡ Some version
+GrantsSo (news.Drew d) (Draw n) v = (room : Bool) × (room_of v n ≡ Some room) × (drawn room (v.producers.topics n) ≡ Some d)
+GrantsSo (news.Recalled c) (Recall n) v = recalled v.producers n ≡ Some c
+GrantsSo (news.Numbered number) Number v = number_drawn v.producers ≡ Some number
+GrantsSo news.Done (PassTurn n) v = Unit {0}
+GrantsSo news.Done (Remake r) v = Unit {0}
+GrantsSo news.Done (Shut t) v = Unit {0}
+GrantsSo news.Done (Tell n) v = Unit {0}
+GrantsSo _ _ v = ⊥
+
+-- the link of a topic producer is not ready, or its numbers are spent, or those of new producers are
+abbrev pub DrawsNone : Fault → Action → View → Type 0
+DrawsNone Disconnected (Draw n) v = room_of v n ≡ None
+DrawsNone Exhausted (Draw n) v = (room : Bool) × (room_of v n ≡ Some room) × (drawn room (v.producers.topics n) ≡ None)
+DrawsNone Exhausted Number v = number_drawn v.producers ≡ None
+DrawsNone _ _ v = ⊥
+
+-- it asks for the link of a topic producer, which is this
+abbrev pub Finds : (link : ℕ) → Action → View → Type 0
+Finds link (Find n) v = link_at (v.producers.topics n) ≡ Some link
+Finds link _ v = ⊥
+
+-- it asks of a topic producer that is not known
+abbrev pub IsUnknown : Action → View → Type 0
+IsUnknown (TakeTurn n) v = v.producers.topics n ≡ None
+IsUnknown (Recall n) v = recalled v.producers n ≡ None
+IsUnknown (Find n) v = v.producers.topics n ≡ None
+IsUnknown _ v = ⊥
+
+-- another passes the turn of a topic producer on to it, with this version of the schema
+abbrev pub GetsTurn : Options → Who → News → Entry → List Entry → Type 0
+GetsTurn o who n e older =
+    (other : Who) × (number ticket : ℕ) × (version : Option (List ℕ)) × (e ≡ Then (Does other (PassTurn number))) × (who ≡ Call ticket)
+    × (n ≡ news.HasTurn version) × (turn_passed ((view o older).producers.topics number) ≡ Some (ticket, version))
+
+-- another tells it this
+abbrev pub IsToldBy : Who → Outcome → Entry → List Entry → Type 0
+IsToldBy who u e older = (other : Who) × (e ≡ Then (Does other (Tell (notice who u))))
+
+-- GotLink: it got a link of an address, which serves, or that became ready while it waited; or it found that of a topic producer. NotFound:
+-- the address cannot be reached. Failed, Canceled: the last attempt that it waited for ended, of a series that it or another started. Queued:
+-- it asked, and its frame was queued at once or moved up. InLine, Refused: it asked, and the link said so; Refused also: it drew a number, and
+-- there was none. Replied: its request was answered. Woken: its moment came. TimedOut, Disconnected, Cut, Stopped: its request, its frame in the
+-- line or the attempt that it waited for ended so; Disconnected also: there is no such topic producer; Stopped also: the client was stopped, or a
+-- part of it says so. Granted: it asked for a turn, for a number or the like, or its turn came. Parted: a part of it says so.
+abbrev pub Cause : Options → Who → Outcome → Entry → List Entry → Type 0
+Cause o who (outcome.GotLink link) e older =
+    Gets o who (λ p v. (is_reachable p ≡ true) × ((base_of v p).series ≡ Serves link)) e older
+    ⊎ (BecomesReady o who link e older ⊎ Acts o who (Finds link) e older)
+Cause o who (outcome.Granted n) e older = Acts o who (GrantsSo n) e older ⊎ GetsTurn o who n e older
+Cause o who (outcome.Parted ticket f) e older = IsToldBy who (outcome.Parted ticket f) e older
 Cause o who outcome.NotFound e older = Gets o who (λ p v. is_reachable p ≡ false) e older
 Cause o who (outcome.Failed kind) e older = AttemptEnds o who (outcome.Failed kind) e older
 Cause o who outcome.Canceled e older = AttemptEnds o who outcome.Canceled e older
 Cause o who outcome.Queued e older = AsksSo o who (λ a. (place : ℕ) × (a ≡ Ok (placed.Queued place))) e older ⊎ MovesUp o who e older
 Cause o who outcome.InLine e older = AsksSo o who (λ a. (place : ℕ) × (a ≡ Ok (placed.Waiting place))) e older
-Cause o who (outcome.Refused cause) e older = AsksSo o who (λ a. (x : ConnectionError) × (a ≡ Err x) × (fault x ≡ cause)) e older
+Cause o who (outcome.Refused cause) e older =
+    AsksSo o who (λ a. (x : ConnectionError) × (a ≡ Err x) × (fault x ≡ cause)) e older ⊎ Acts o who (DrawsNone cause) e older
 Cause o who (outcome.Replied r) e older = IsReplied o who r e older
 Cause o who outcome.TimedOut e older = RequestEnds o who outcome.TimedOut e older
-Cause o who outcome.Disconnected e older = RequestEnds o who outcome.Disconnected e older ⊎ LineEnds o who outcome.Disconnected e older
+Cause o who outcome.Disconnected e older =
+    RequestEnds o who outcome.Disconnected e older ⊎ (LineEnds o who outcome.Disconnected e older ⊎ Acts o who IsUnknown e older)
 Cause o who outcome.Woken e older = IsWoken o who e older
 Cause o who outcome.Cut e older = RequestEnds o who outcome.Cut e older
 Cause o who outcome.Stopped e older =
-    IsStopped o who e older ⊎ (LineEnds o who outcome.Stopped e older ⊎ AttemptEnds o who outcome.Stopped e older)
+    IsStopped o who e older
+    ⊎ (LineEnds o who outcome.Stopped e older ⊎ (AttemptEnds o who outcome.Stopped e older ⊎ IsToldBy who outcome.Stopped e older))
 
 -- whatever one is told has its cause before, in the same step
 abbrev pub OutcomesAreCaused : Type 0
-OutcomesAreCaused = (o : Chosen) (log : List Entry) (who : Who) (u : Outcome) →
+OutcomesAreCaused = (o : Options) (log : List Entry) (who : Who) (u : Outcome) →
     IsRun o (Then (Told (record { who = who; outcome = u })) ∷ log) → InThisStep (Cause o who u) log
 
 -- the number of the body of a procedure's request
@@ -305,6 +370,12 @@ number_in (procedure.Build base) = None
 number_in procedure.Stop = None
 number_in (procedure.Ask place request s) = Some (request_number request)
 number_in (procedure.Search ways what) = None
+number_in (procedure.Produce ways order) = None
+number_in (procedure.Send ways errand share message) = None
+number_in (procedure.FailShare share r) = None
+number_in (procedure.Gather first count) = None
+number_in (procedure.Go round numbers) = None
+number_in (procedure.Close ticket numbers) = None
 number_in (procedure.Refuse r) = None
 
 -- A reply tells that the search failed, or nothing of how it went, and after so many retries it is not to be asked again.
@@ -331,18 +402,58 @@ DeniesSo w DiscoveryCanceled r = ⊥
 DeniesSo w DiscoveryShutdown r = ⊥
 DeniesSo w Dummy r = ⊥
 
+-- how a procedure looks for brokers, where it does
+abbrev pub ways_in : Procedure → Option Ways
+ways_in (procedure.Build base) = None
+ways_in procedure.Stop = None
+ways_in (procedure.Ask place request s) = None
+ways_in (procedure.Search ways what) = Some ways
+ways_in (procedure.Produce ways order) = Some ways
+ways_in (procedure.Send ways errand share message) = Some ways
+ways_in (procedure.FailShare share r) = None
+ways_in (procedure.Gather first count) = None
+ways_in (procedure.Go round numbers) = None
+ways_in (procedure.Close ticket numbers) = None
+ways_in (procedure.Refuse r) = None
+
+-- it fails as a producer
+abbrev pub fails_in_producer : Procedure → Bool
+fails_in_producer (procedure.Build base) = false
+fails_in_producer procedure.Stop = false
+fails_in_producer (procedure.Ask place request s) = false
+fails_in_producer (procedure.Search ways what) = false
+fails_in_producer (procedure.Produce ways order) = false
+fails_in_producer (procedure.Send ways errand share message) = true
+fails_in_producer (procedure.FailShare share r) = false
+fails_in_producer (procedure.Gather first count) = false
+fails_in_producer (procedure.Go round numbers) = false
+fails_in_producer (procedure.Close ticket numbers) = true
+fails_in_producer (procedure.Refuse r) = false
+
+-- a part of it failed before it was queued
+abbrev pub has_failed : Outcome → Bool
+has_failed (outcome.Parted ticket f) = is_some f
+has_failed _ = false
+
 -- a call fails where it is refused, and else with the fault of an outcome that it was told, or of a reply to its request; a search with
--- these as faults of its own
+-- these as faults of its own, and a send and a close as a producer; one with parts where some of them failed
 pub data FailsSo (p : Procedure) (os : List Outcome) (f : Failure) : Type 0 where
   IsRefused : (r : Refusal) → p ≡ procedure.Refuse r → f ≡ failure_of r → FailsSo p os f
+  IsRefusedShare : (s : Share) (r : Refusal) → p ≡ procedure.FailShare s r → f ≡ failure_of r → FailsSo p os f
   IsTold : (u : Outcome) → In u os → f ≡ OfConnection (fault_of u) → FailsSo p os f
-  IsTurned : (w : Ways) (what : Sought) (u : Outcome) → p ≡ procedure.Search w what → In u os → f ≡ in_discovery (fault_of u) → FailsSo p os f
-  IsDenied : (w : Ways) (what : Sought) (r : Reply) (d : DiscoveryFault) →
-      p ≡ procedure.Search w what → In (outcome.Replied r) os → f ≡ OfDiscovery d → DeniesSo w d r.content → FailsSo p os f
+  IsTurned : (u : Outcome) → is_some (ways_in p) ≡ true → In u os → f ≡ in_discovery (fault_of u) → FailsSo p os f
+  IsDenied : (w : Ways) (r : Reply) (d : DiscoveryFault) →
+      ways_in p ≡ Some w → In (outcome.Replied r) os → f ≡ OfDiscovery d → DeniesSo w d r.content → FailsSo p os f
+  IsUnexpected : (r : Reply) → In (outcome.Replied r) os → f ≡ OfConnection (unexpected r.content r.content.body) → FailsSo p os f
+  IsInProducer : (u : Outcome) → fails_in_producer p ≡ true → In u os → f ≡ in_producer (fault_of u) → FailsSo p os f
+  IsUnexpectedInProducer : (r : Reply) → fails_in_producer p ≡ true → In (outcome.Replied r) os →
+      f ≡ in_producer (unexpected r.content r.content.body) → FailsSo p os f
+  IsPartial : (first count : ℕ) (failures : List (ℕ × Failure)) → p ≡ procedure.Gather first count → list_any has_failed os ≡ true →
+      f ≡ OfPartialSend (outcomes_of failures (numbers_from first count)) → FailsSo p os f
   IsAnswered : (r : Reply) (number : ℕ) (s : Says) → In (outcome.Replied r) os → number_in p ≡ Some number → Failed f ≡ reply_says s number r → FailsSo p os f
 
 abbrev pub FailuresAreTold : Type 0
-FailuresAreTold = (o : Chosen) (log : List Entry) (w : Who) (p : Procedure) (m : Makes) (f : Failure) →
+FailuresAreTold = (o : Options) (log : List Entry) (w : Who) (p : Procedure) (m : Makes) (f : Failure) →
     IsRun o log → Rests o log → started w log ≡ Some p → In (Answered (record { makes = m; said = Failed f })) (deeds w log) → FailsSo p (outcomes w log) f
 
 -- THE CLIENT AND THE ADDRESS
@@ -354,7 +465,7 @@ built (Then (Answers who verdict) ∷ log) = builds verdict.makes (built log)
 built (_ ∷ log) = built log
 
 abbrev pub BuiltIs : Type 0
-BuiltIs = (o : Chosen) (log : List Entry) → (view o log).calls.is_built ≡ built log
+BuiltIs = (o : Options) (log : List Entry) → (view o log).calls.is_built ≡ built log
 
 -- a plan has ended every link
 abbrev pub stopped : List Entry → Bool
@@ -364,7 +475,7 @@ stopped (_ ∷ log) = stopped log
 
 -- The client is stopped from there on; so each later call is refused.
 abbrev pub StoppedIs : Type 0
-StoppedIs = (o : Chosen) (log : List Entry) → (view o log).calls.is_stopped ≡ stopped log
+StoppedIs = (o : Options) (log : List Entry) → (view o log).calls.is_stopped ≡ stopped log
 
 -- THE CLOCK
 
@@ -375,10 +486,10 @@ clock start (Begins (Ticked now) ∷ log) = later_of (clock start log) now
 clock start (_ ∷ log) = clock start log
 
 abbrev pub ClockIs : Type 0
-ClockIs = (o : Chosen) (log : List Entry) → (view o log).now ≡ clock o.now log
+ClockIs = (o : Options) (log : List Entry) → (view o log).now ≡ clock o.chosen.now log
 
 -- A tick begins at which this link is due, with so many frames queued.
-abbrev pub IsDueAt : Chosen → (link queued : ℕ) → Entry → List Entry → Type 0
+abbrev pub IsDueAt : Options → (link queued : ℕ) → Entry → List Entry → Type 0
 IsDueAt o l queued e older =
     (now : ℕ) × (seat : Seat) × (e ≡ Begins (Ticked now)) × ((view o older).links.live l ≡ Some seat) × (due now seat.seen ≡ true)
     × (queued ≡ seat.seen.waits.queued)
@@ -386,15 +497,15 @@ IsDueAt o l queued e older =
 -- A deadline comes to a link only in a tick at whose beginning the link was due, and those requests may time out whose frames were queued
 -- then: what is started in a tick waits for the next.
 abbrev pub DeadlinesAreTicked : Type 0
-DeadlinesAreTicked = (o : Chosen) (log : List Entry) (l queued : ℕ) →
+DeadlinesAreTicked = (o : Options) (log : List Entry) (l queued : ℕ) →
     IsRun o (Then (Comes (ToLink l (Ends (Overdue queued)))) ∷ log) → InThisStep (IsDueAt o l queued) log
 
 -- An alarm comes only in a tick at whose beginning it rang: what is set in a tick waits for the next.
-abbrev pub RingsAt : Chosen → Alarm → Entry → List Entry → Type 0
+abbrev pub RingsAt : Options → Alarm → Entry → List Entry → Type 0
 RingsAt o a e older = (now : ℕ) × (e ≡ Begins (Ticked now)) × In a (ringing now (view o older).alarms)
 
 abbrev pub AlarmsAreTicked : Type 0
-AlarmsAreTicked = (o : Chosen) (log : List Entry) (a : Alarm) → IsRun o (Then (Comes (Rings a)) ∷ log) → InThisStep (RingsAt o a) log
+AlarmsAreTicked = (o : Options) (log : List Entry) (a : Alarm) → IsRun o (Then (Comes (Rings a)) ∷ log) → InThisStep (RingsAt o a) log
 
 -- What a tick brings comes in this order: the deadlines of links, by link; the attempts that follow others, by the link of the one before;
 -- those who have waited, by their rank; the signs of life, by link; then the idle check.
@@ -404,14 +515,14 @@ part_rank (Rings (Retry l)) = (1, 0, l)
 part_rank (Rings (Wake who)) = (2, (rank who).0, (rank who).1)
 part_rank (Rings (KeepAlive l)) = (3, 0, l)
 part_rank (Rings CheckIdle) = (4, 0, 0)
-part_rank (Calls asked) = (5, 0, 0)
+part_rank (Calls asked advice) = (5, 0, 0)
 part_rank (Polls ticket) = (5, 0, ticket)
 
 abbrev pub part_below : Part → Part → Bool
 part_below a b = is_before3 (part_rank a) (part_rank b)
 
 abbrev pub TicksInOrder : Type 0
-TicksInOrder = (o : Chosen) (log : List Entry) (now : ℕ) → InOrder part_below (brings (view o log) (Ticked now))
+TicksInOrder = (o : Options) (log : List Entry) (now : ℕ) → InOrder part_below (brings o.policies (view o log) (Ticked now))
 
 -- THE ADDRESSES
 
@@ -429,7 +540,7 @@ abbrev pub turn_on : (key : List ℕ) → Option Turned → Series → Series
 turn_on key None s = s
 turn_on key (Some t) s = if bytes_eq t.key key then turn_of t.link t.change t.pause s else s
 
-abbrev pub newest_turn : Chosen → (key : List ℕ) → List Entry → Series
+abbrev pub newest_turn : Options → (key : List ℕ) → List Entry → Series
 newest_turn o key [] = Nobody
 newest_turn o key (Then (Dials p starter retries) ∷ log) =
     if bytes_eq (address_key p) key then Runs starter retries (view o log).links.started else newest_turn o key log
@@ -439,31 +550,31 @@ newest_turn o key (Then (Does who StopAll) ∷ log) =
 newest_turn o key (_ ∷ log) = newest_turn o key log
 
 abbrev pub SeriesIsNewest : Type 0
-SeriesIsNewest = (o : Chosen) (log : List Entry) (key : List ℕ) → ((view o log).addresses.base key).series ≡ newest_turn o key log
+SeriesIsNewest = (o : Options) (log : List Entry) (key : List ℕ) → ((view o log).addresses.base key).series ≡ newest_turn o key log
 
 -- An attempt begins a series where one gets a link of an address that can be reached and for which nothing runs; or it follows one that
 -- failed so that this may help, once its alarm has rung, and at most as many times as the options allow.
-abbrev pub Begun : Chosen → Place → Who → Entry → List Entry → Type 0
+abbrev pub Begun : Options → Place → Who → Entry → List Entry → Type 0
 Begun o p starter e older =
     (e ≡ Then (Does starter (Get p))) × (is_reachable p ≡ true) × ((base_of (view o older) p).series ≡ Nobody)
 
-abbrev pub Followed : Chosen → Place → Who → (retries : ℕ) → Entry → List Entry → Type 0
+abbrev pub Followed : Options → Place → Who → (retries : ℕ) → Entry → List Entry → Type 0
 Followed o p starter n e older =
     (l before : ℕ) × (e ≡ Then (Comes (Rings (Retry l)))) × (rings (view o older).now (Retry l) (view o older).alarms ≡ true)
     × ((view o older).addresses.pause l ≡ Some (record { address = p; starter = starter; retries = before }))
-    × (n ≡ before + 1) × (n ≤ o.connection.max_retries)
+    × (n ≡ before + 1) × (n ≤ o.chosen.connection.max_retries)
 
-abbrev pub Attempted : Chosen → Place → Who → (retries : ℕ) → List Entry → Type 0
+abbrev pub Attempted : Options → Place → Who → (retries : ℕ) → List Entry → Type 0
 Attempted o p starter n log =
     (e : Entry) × (older : List Entry) × (log ≡ e ∷ older) × ((Begun o p starter e older × (n ≡ 0)) ⊎ Followed o p starter n e older)
 
 abbrev pub AttemptsFollow : Type 0
-AttemptsFollow = (o : Chosen) (log : List Entry) (p : Place) (starter : Who) (n : ℕ) →
+AttemptsFollow = (o : Options) (log : List Entry) (p : Place) (starter : Who) (n : ℕ) →
     IsRun o (Then (Dials p starter n) ∷ log) → Attempted o p starter n log
 
 -- from a Stop on no attempt begins
 abbrev pub NoneAfterStop : Type 0
-NoneAfterStop = (o : Chosen) (log : List Entry) (p : Place) (starter : Who) (n : ℕ) → IsRun o (Then (Dials p starter n) ∷ log) → stopped log ≡ false
+NoneAfterStop = (o : Options) (log : List Entry) (p : Place) (starter : Who) (n : ℕ) → IsRun o (Then (Dials p starter n) ∷ log) → stopped log ≡ false
 
 -- one link at a time is of an address: the one that its series names
 abbrev pub names_link : ℕ → Series → Bool
@@ -473,27 +584,27 @@ names_link l (Pauses link) = false
 names_link l (Serves link) = link == l
 
 abbrev pub OneLinkEach : Type 0
-OneLinkEach = (o : Chosen) (log : List Entry) (l : ℕ) (seat : Seat) → IsRun o log → (view o log).links.live l ≡ Some seat →
+OneLinkEach = (o : Options) (log : List Entry) (l : ℕ) (seat : Seat) → IsRun o log → (view o log).links.live l ≡ Some seat →
     names_link l (base_of (view o log) seat.address).series ≡ true
 
 -- a link ends for want of use only where it is ready, was not got for so long, and nothing uses it, as the check for that comes
-abbrev pub IsIdleAt : Chosen → (link : ℕ) → Entry → List Entry → Type 0
+abbrev pub IsIdleAt : Options → (link : ℕ) → Entry → List Entry → Type 0
 IsIdleAt o l e older =
     (seat : Seat) × (e ≡ Then (Comes (Rings CheckIdle))) × (rings (view o older).now CheckIdle (view o older).alarms ≡ true)
     × ((view o older).links.live l ≡ Some seat) × (is_idle (view o older) l seat ≡ true)
 
 abbrev pub IdleEnds : Type 0
-IdleEnds = (o : Chosen) (log : List Entry) (l : ℕ) → IsRun o (Then (Comes (ToLink l (Ends Idles))) ∷ log) →
+IdleEnds = (o : Options) (log : List Entry) (l : ℕ) → IsRun o (Then (Comes (ToLink l (Ends Idles))) ∷ log) →
     InThisStep (IsIdleAt o l) log
 
 -- A link is asked for a sign of life only where the alarm for that rings, and none that it was asked for earlier is waited for.
-abbrev pub IsQuietAt : Chosen → (link : ℕ) → Entry → List Entry → Type 0
+abbrev pub IsQuietAt : Options → (link : ℕ) → Entry → List Entry → Type 0
 IsQuietAt o l e older =
     (seat : Seat) × (e ≡ Then (Comes (Rings (KeepAlive l)))) × (rings (view o older).now (KeepAlive l) (view o older).alarms ≡ true)
     × ((view o older).links.live l ≡ Some seat) × (seat.ping ≡ None)
 
 abbrev pub SignsOfLife : Type 0
-SignsOfLife = (o : Chosen) (log : List Entry) (l : ℕ) → IsRun o (Then (Comes (ToLink l Pings)) ∷ log) → InThisStep (IsQuietAt o l) log
+SignsOfLife = (o : Options) (log : List Entry) (l : ℕ) → IsRun o (Then (Comes (ToLink l Pings)) ∷ log) → InThisStep (IsQuietAt o l) log
 
 -- LINKS
 
@@ -503,7 +614,7 @@ call_at x now None = []
 call_at x now (Some seat) = option_to_list (call_of x now seat.seen)
 
 -- the calls of the connection of a link since it was dialed, newest first
-abbrev pub calls_of : Chosen → ℕ → List Entry → List Act'
+abbrev pub calls_of : Options → ℕ → List Entry → List Act'
 calls_of o l [] = []
 calls_of o l (Begins (Bytes k piece) ∷ log) = if l == k then Feeds piece ∷ calls_of o l log else calls_of o l log
 calls_of o l (Then (Comes (ToLink k x)) ∷ log) =
@@ -513,22 +624,22 @@ calls_of o l (Then (Dials p starter retries) ∷ log) = if l == (view o log).lin
 calls_of o l (_ ∷ log) = calls_of o l log
 
 -- what it was dialed with
-abbrev pub dialed_with : Chosen → ℕ → List Entry → Option Setup
+abbrev pub dialed_with : Options → ℕ → List Entry → Option Setup
 dialed_with o l [] = None
 dialed_with o l (Then (Dials p starter retries) ∷ log) =
-    if l == (view o log).links.started then Some (setup o l (view o log).now p) else dialed_with o l log
+    if l == (view o log).links.started then Some (setup o.chosen l (view o log).now p) else dialed_with o l log
 dialed_with o l (_ ∷ log) = dialed_with o l log
 
 -- A link that has not ended is what the calls of its connection made of it, and nothing else. So all that holds of a connection over
 -- any acts holds of it: its requests are settled by the first later frame that bears their key, what is written is the first of what
 -- was queued, the line moves up in order, and what was read is what its bytes are cut into.
 abbrev pub LinksAlone : Type 0
-LinksAlone = (o : Chosen) (log : List Entry) (l : ℕ) (seat : Seat) → (view o log).links.live l ≡ Some seat →
+LinksAlone = (o : Options) (log : List Entry) (l : ℕ) (seat : Seat) → (view o log).links.live l ≡ Some seat →
     (s : Setup) × (dialed_with o l log ≡ Some s) × (seat.seen ≡ session.seen s (calls_of o l log))
 
 -- At the end of a step no whole frame is left unread: the messages that were taken from a link are those that all its bytes are cut into.
 abbrev pub FramesAreCut : Type 0
-FramesAreCut = (o : Chosen) (log : List Entry) (l : ℕ) (seat : Seat) → IsRun o log → Rests o log → (view o log).links.live l ≡ Some seat →
+FramesAreCut = (o : Options) (log : List Entry) (l : ℕ) (seat : Seat) → IsRun o log → Rests o log → (view o log).links.live l ≡ Some seat →
     (s : Setup) × (dialed_with o l log ≡ Some s) × (messages_taken s (calls_of o l log) ≡ cut (bytes_fed s (calls_of o l log)))
 
 -- a list begins with another
@@ -551,7 +662,7 @@ bytes_of f (s ∷ h) = bytes_of f h ++ flat_map f s.effects
 
 -- the bytes that a good history writes to a connection are the first of those that it queued there, in order
 abbrev pub WritesFollow : Type 0
-WritesFollow = (o : Chosen) (h : List Step) (l : ℕ) → Good o h → IsPrefix (bytes_of (written_on l) h) (bytes_of (queued_on l) h)
+WritesFollow = (o : Options) (h : List Step) (l : ℕ) → Good o h → IsPrefix (bytes_of (written_on l) h) (bytes_of (queued_on l) h)
 
 -- CONSUMERS
 
@@ -565,14 +676,14 @@ last_arrival (Gives consumer reply) number = (consumer == number) && is_last rep
 last_arrival Passes number = false
 last_arrival (Bad cause) number = false
 
-abbrev pub ends_at : Chosen → Subscription → Entry → List Entry → Bool
+abbrev pub ends_at : Options → Subscription → Entry → List Entry → Bool
 ends_at o s (Then (Comes (ToLink l Reads))) older = (s.link == l) && last_arrival (arrival_at ((view o older).links.live l)) s.number
 ends_at o s (Then (Comes (ToLink l (Ends end)))) older = (s.link == l) && is_some (closing end (view o older).now ((view o older).links.live l))
 ends_at o s (Then (Does who (Ask l request))) older =
     (s.link == l) && (is_asked (answer_at (view o older).now request ((view o older).links.live l)) && closes_it (closed_consumer request) s.number)
 ends_at o s _ older = false
 
-abbrev pub has_end : Chosen → Subscription → (later older : List Entry) → Bool
+abbrev pub has_end : Options → Subscription → (later older : List Entry) → Bool
 has_end o s [] older = false
 has_end o s (e ∷ later) older = has_end o s later older || ends_at o s e (later ++ older)
 
@@ -583,7 +694,7 @@ Continues s is_live later =
 
 -- a consumer remains what it is, and hears up to the first of its ends, and never again
 abbrev pub ConsumersHearToTheirEnd : Type 0
-ConsumersHearToTheirEnd = (o : Chosen) (later older : List Entry) (t : ℕ) (s : Subscription) →
+ConsumersHearToTheirEnd = (o : Options) (later older : List Entry) (t : ℕ) (s : Subscription) →
     IsRun o (later ++ older) → (view o older).consumers t ≡ Some s →
     Continues s (s.is_live && not (has_end o s later older)) ((view o (later ++ older)).consumers t)
 
@@ -601,7 +712,7 @@ brought l a None = []
 brought l a (Some s) = if is_heard_on l s then brought_by a s.number else []
 
 -- the items that have come to the consumer of a ticket, in order
-abbrev pub items_come : Chosen → ℕ → List Entry → List Item
+abbrev pub items_come : Options → ℕ → List Entry → List Item
 items_come o t [] = []
 items_come o t (Then (Comes (ToLink l Reads)) ∷ log) =
     items_come o t log ++ brought l (arrival_at ((view o log).links.live l)) ((view o log).consumers t)
@@ -621,13 +732,13 @@ items_given t (s ∷ h) = items_given t h ++ flat_map (given_by t) s.effects
 -- The polls of a consumer give the items that have come to it, in order, each once and without gap: behind what they gave
 -- stands what it has not given yet.
 abbrev pub PollsFollow : Type 0
-PollsFollow = (o : Chosen) (log : List Entry) (t : ℕ) (s : Subscription) →
+PollsFollow = (o : Options) (log : List Entry) (t : ℕ) (s : Subscription) →
     IsRun o log → (view o log).consumers t ≡ Some s → items_given t (steps o log) ++ s.unread ≡ items_come o t log
 
 -- A consumer is polled where the user asks for it. The one effect of that step is its first item, and where it has none the
 -- end, once it hears no more, and else that there is nothing yet.
 abbrev pub PollsAreAnswered : Type 0
-PollsAreAnswered = (o : Chosen) (log : List Entry) (t : ℕ) → IsRun o (Then (Comes (Polls t)) ∷ log) →
+PollsAreAnswered = (o : Options) (log : List Entry) (t : ℕ) → IsRun o (Then (Comes (Polls t)) ∷ log) →
     (older : List Entry) × (s : Subscription) × (log ≡ Begins (Poll t) ∷ older) × ((view o older).consumers t ≡ Some s)
     × (steps o (Then (Comes (Polls t)) ∷ log) ≡ record { event = Poll t; effects = polled t s ∷ [] } ∷ steps o older)
 
@@ -640,6 +751,6 @@ disconnects t = record { who = Call t; outcome = outcome.Disconnected }
 abbrev pub ServedByTicket : Type 0
 ServedByTicket = arranged below (disconnects 3 ∷ disconnects 1 ∷ disconnects 2 ∷ []) ≡ disconnects 1 ∷ disconnects 2 ∷ disconnects 3 ∷ []
 
--- the ticket of the next call is the count of the calls so far, in whatever run a history is that of
+-- the next ticket is the count of the calls so far and of their parts, in whatever run a history is that of
 abbrev pub TicketsCount : Type 0
-TicketsCount = (o : Chosen) (log : List Entry) → IsRun o log → Rests o log → (view o log).calls.drawn ≡ calls_in (steps o log)
+TicketsCount = (o : Options) (log : List Entry) → IsRun o log → Rests o log → (view o log).calls.drawn ≡ tickets_in (steps o log)

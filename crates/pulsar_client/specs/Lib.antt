@@ -5,10 +5,13 @@ pub mod Links
 pub mod Subscriptions
 pub mod Alarms
 pub mod Who
+pub mod Parts
+pub mod Producers
 pub mod View
 pub mod Rules
 pub mod Effects
 pub mod Run
+pub mod Taken
 pub mod Subscribers
 pub mod Due
 pub mod Kept
@@ -16,4 +19,5 @@ pub mod Tables
 pub mod Client
 pub mod Outside
 pub mod Laws
+pub mod ProducerLaws
 pub mod Traces

@@ -1,8 +1,8 @@
 -- What an event brings, and what arises from an act: at once, as further parts, among those whom the present cause still serves, or as
 -- causes of their own.
-use Rattle.std.specs.Prelude.{ℕ, ◌+◌, nat_le, nat_lt, Bool, false, ◌&&◌, ◌||◌, not, ◌==◌, if◌then◌else◌, List, [], ◌∷◌, ◌++◌, length, map, Option, Some, None, Result, Ok, Err}
+use Rattle.std.specs.Prelude.{ℕ, ◌+◌, ◌-◌, ◌^◌, nat_le, nat_lt, Bool, false, ◌&&◌, ◌||◌, not, ◌==◌, if◌then◌else◌, List, [], ◌∷◌, ◌++◌, drop, length, map, Option, Some, None, Result, Ok, Err}
 use Rattle.std.specs.List.{filter_map, flat_map}
-use Rattle.std.specs.Option.{is_none, option_map, option_to_list}
+use Rattle.std.specs.Option.{is_none, is_some, option_map, option_to_list}
 use Rattle.pulsar_wire.specs.declared.error.ConnectionError.{ConnectionError}
 use Rattle.pulsar_wire.specs.declared.error.IoKind.{IoKind}
 use Rattle.pulsar_wire.specs.declared.error.IoKind.TheVariants as io_kind
@@ -12,14 +12,14 @@ use Rattle.pulsar_messages.specs.Words as words
 use Rattle.pulsar_messages.specs.Words.{Words}
 use Rattle.pulsar_session.specs.declared.states.Asked.{Asked}
 use Rattle.pulsar_session.specs.declared.states.Asked.TheVariants as asked
-use Rattle.pulsar_session.specs.Failures.{Fault, Exhausted, fault}
+use Rattle.pulsar_session.specs.Failures.{Fault, Disconnected, Exhausted, fault}
 use Rattle.pulsar_session.specs.Link as session
-use Rattle.pulsar_session.specs.Link.{Came, Seen, came, due, ends, is_ready, is_spent}
+use Rattle.pulsar_session.specs.Link.{Came, Seen, came, due, ends, is_ready}
 use Rattle.pulsar_link.specs.Messages.{read}
 use Rattle.pulsar_client.specs.declared.act.Act.{Act}
 use Rattle.pulsar_client.specs.declared.act.Act.TheVariants.{Comes, Starts, Told, Does, Answers, Dials}
 use Rattle.pulsar_client.specs.declared.act.Action.{Action}
-use Rattle.pulsar_client.specs.declared.act.Action.TheVariants.{Get, Ask, Wait, StopAll, Rest}
+use Rattle.pulsar_client.specs.declared.act.Action.TheVariants.{Get, Ask, Wait, TakeTurn, PassTurn, Draw, Recall, Remake, Number, Find, Shut, Tell, StopAll, Rest}
 use Rattle.pulsar_client.specs.declared.act.Alarm.{Alarm}
 use Rattle.pulsar_client.specs.declared.act.Alarm.TheVariants.{Retry, Wake, KeepAlive, CheckIdle}
 use Rattle.pulsar_client.specs.declared.act.Arrival.{Arrival}
@@ -37,7 +37,10 @@ use Rattle.pulsar_client.specs.declared.act.Part.TheVariants.{Calls, ToLink, Rin
 use Rattle.pulsar_client.specs.declared.act.Place.TheVariants as place
 use Rattle.pulsar_client.specs.declared.act.Procedure.{Procedure}
 use Rattle.pulsar_client.specs.declared.act.Procedure.TheVariants as procedure
+use Rattle.pulsar_client.specs.declared.act.Refusal.{Refusal}
 use Rattle.pulsar_client.specs.declared.act.Refusal.TheVariants as refusal
+use Rattle.pulsar_client.specs.declared.act.Round.TheVariants.{Checks}
+use Rattle.pulsar_client.specs.declared.act.Share.{Share}
 use Rattle.pulsar_client.specs.declared.act.Says.TheVariants as says
 use Rattle.pulsar_client.specs.declared.act.Verdict.{Verdict}
 use Rattle.pulsar_client.specs.declared.act.Who.{Who}
@@ -48,17 +51,29 @@ use Rattle.pulsar_client.specs.declared.addresses.Series.TheVariants.{Nobody, Ru
 use Rattle.pulsar_client.specs.declared.plans.plan.Plan.{Plan}
 use Rattle.pulsar_client.specs.declared.plans.plan.Turn.{Turn}
 use Rattle.pulsar_client.specs.declared.plans.plan.Turn.TheVariants.{Stays, Gives}
+use Rattle.pulsar_client.specs.declared.producers.Topic.{Topic}
+use Rattle.pulsar_link.specs.Request.{named_producer}
+use Rattle.pulsar_messages.specs.Content.{ProducerMessageValues}
+use Rattle.pulsar_plans.specs.declared.making.Command.{Command}
+use Rattle.pulsar_producer.specs.Routing.{Policy}
+use Rattle.pulsar_producer.specs.Wanted.{ProducerWanted}
+use Rattle.pulsar_producer.specs.declared.building.Order.{Order}
+use Rattle.pulsar_producer.specs.declared.deed.Drawn.{Drawn}
+use Rattle.pulsar_producer.specs.declared.deed.News.{News}
+use Rattle.pulsar_producer.specs.declared.deed.News.TheVariants as news
+use Rattle.pulsar_producer.specs.declared.sending.Errand.{Errand}
 use Rattle.pulsar_plans.specs.Address.{Place, address_key, is_reachable}
 use Rattle.pulsar_plans.specs.declared.plan.Procedure.{Procedure as Sought}
 use Rattle.pulsar_plans.specs.declared.plan.Procedure.TheVariants as sought
 use Rattle.pulsar_plans.specs.declared.turn.Ways.{Ways}
 use Rattle.pulsar_client.specs.Alarms.{ringing, rings}
 use Rattle.pulsar_client.specs.Content as content
-use Rattle.pulsar_client.specs.Content.{Asked as Asking, Heard, Called, Opened, FailedToOpen, Bytes, Lost as Loses, Drain, Ticked, Poll}
+use Rattle.pulsar_client.specs.Content.{Asked as Asking, Heard, Called, Opened, FailedToOpen, Bytes, Lost as Loses, Drain, Ticked, Poll, lacks_tickets, shares}
 use Rattle.pulsar_client.specs.Links.{Change, Remains, Becomes, IsOver, closed_by, line_places, new_places, numbers_from, times_out}
 use Rattle.pulsar_client.specs.Links as links
 use Rattle.pulsar_client.specs.Plan.{begins, fails}
-use Rattle.pulsar_client.specs.View.{Addresses, Base, Chosen, Links, Seat, Tickets, Turned, View, answer_at, arrival_at, is_live, later, told_some, turned, ways_of}
+use Rattle.pulsar_client.specs.Producers.{Producers, advice, drawn, errand_of, is_held, link_at, next_advice, number_drawn, numbers_at, recalled, routed, turn_passed, turn_taken, waiting, why_not}
+use Rattle.pulsar_client.specs.View.{Addresses, Base, Chosen, Links, Options, Seat, Tickets, Turned, View, answer_at, arrival_at, is_live, later, may_call, room_of, told_some, turned, ways_of}
 use Rattle.pulsar_client.specs.Subscriptions.{Subscription, is_heard}
 use Rattle.pulsar_client.specs.Who.{is_before, is_same, rank}
 
@@ -75,19 +90,23 @@ over_links f ls = flat_map (on_link f ls.live) (numbers_from 0 ls.started)
 abbrev pub due_part : (now link : ℕ) → Seat → List Part
 due_part now l seat = if due now seat.seen then ToLink l (Ends (Overdue seat.seen.waits.queued)) ∷ [] else []
 
-abbrev pub brings : View → Heard → List Part
-brings v (Called asked) = Calls asked ∷ []
-brings v (Opened l) = ToLink l link.Opens ∷ []
-brings v (FailedToOpen l kind) = ToLink l (Ends (Unopened kind)) ∷ []
-brings v (Bytes l piece) = ToLink l Reads ∷ []
-brings v (Loses l) = ToLink l (Ends Lost) ∷ []
-brings v (Drain l most) = ToLink l (Drains most) ∷ []
-brings v (Ticked now) = over_links (due_part now) v.links ++ map Rings (ringing now v.alarms)
-brings v (Poll ticket) = Polls ticket ∷ []
+-- a call, for which the policies were asked
+abbrev pub call_part : List Policy → View → Asking → Part
+call_part policies v asked = Calls asked (advice policies v.producers asked)
+
+abbrev pub brings : List Policy → View → Heard → List Part
+brings policies v (Called asked) = call_part policies v asked ∷ []
+brings policies v (Opened l) = ToLink l link.Opens ∷ []
+brings policies v (FailedToOpen l kind) = ToLink l (Ends (Unopened kind)) ∷ []
+brings policies v (Bytes l piece) = ToLink l Reads ∷ []
+brings policies v (Loses l) = ToLink l (Ends Lost) ∷ []
+brings policies v (Drain l most) = ToLink l (Drains most) ∷ []
+brings policies v (Ticked now) = over_links (due_part now) v.links ++ map Rings (ringing now v.alarms)
+brings policies v (Poll ticket) = Polls ticket ∷ []
 
 -- an event that isn't live brings nothing
-abbrev pub parts : View → Heard → List Part
-parts v e = if is_live v e then brings v e else []
+abbrev pub parts : Options → View → Heard → List Part
+parts o v e = if is_live v e then brings o.policies v e else []
 
 -- AT ONCE
 
@@ -111,10 +130,6 @@ notice who o = record { who = who; outcome = o }
 abbrev pub tells : Who → Outcome → List Act
 tells who o = Told (notice who o) ∷ []
 
--- calls are made once the client is built, and until it is stopped
-abbrev pub is_open : Tickets → Bool
-is_open c = c.is_built && not c.is_stopped
-
 abbrev pub unless_refused : Bool → Procedure → Procedure
 unless_refused may p = if may then p else procedure.Refuse refusal.Shutdown
 
@@ -134,20 +149,123 @@ builds_with outbound base = if outbound == 0 then procedure.Refuse refusal.NoOut
 abbrev pub asks_topics : (namespace : List ℕ) → Mode → Place → Procedure
 asks_topics namespace mode base = procedure.Ask (place.At base) (words.GetTopicsOfNamespace namespace mode) says.Names
 
--- the procedure of a call
-abbrev pub procedure_for : Chosen → Tickets → Asking → Procedure
-procedure_for o c content.Build = unless_refused (not c.is_stopped) (builds_with o.outbound o.base)
-procedure_for o c content.Stop = unless_refused (is_open c) procedure.Stop
-procedure_for o c (content.Topics namespace mode) = unless_refused (is_open c) (from_base o.base (asks_topics namespace mode))
-procedure_for o c (content.Lookup topic) = unless_refused (is_open c) (searches (ways_of o) (sought.Look topic))
-procedure_for o c (content.Partitions topic) = unless_refused (is_open c) (searches (ways_of o) (sought.CountPartitions topic))
-procedure_for o c (content.Brokers topic) = unless_refused (is_open c) (searches (ways_of o) (sought.Name topic))
-procedure_for o c (content.Raw l request) = unless_refused (is_open c) (procedure.Ask (place.Link l) request says.Bodies)
+-- CALLS ON PRODUCERS. One names a producer by the ticket of the call that built it.
 
--- a call is made with the next ticket, unless the tickets are spent
-abbrev pub called : Chosen → Tickets → Asking → List Act
-called o c asked =
-    if is_spent c.drawn then Answers (Call c.drawn) (fails Exhausted) ∷ [] else Starts (Call c.drawn) (procedure_for o c asked) ∷ []
+abbrev pub unless : Option Refusal → Procedure → Procedure
+unless None p = p
+unless (Some r) p = procedure.Refuse r
+
+-- it is built, where it is said to what it sends
+abbrev pub order_of : (topic : List ℕ) → ProducerWanted → Order
+order_of topic w = record { topic = topic; name = w.name; options = w.options }
+
+abbrev pub produces_by : Option Ways → Order → Procedure
+produces_by None order = procedure.Refuse refusal.NoAddress
+produces_by (Some ways) order = procedure.Produce ways order
+
+abbrev pub produces_from : Option Ways → Option (List ℕ) → ProducerWanted → Procedure
+produces_from ways None w = procedure.Refuse refusal.NoTopic
+produces_from ways (Some topic) w = produces_by ways (order_of topic w)
+
+abbrev pub produces : Chosen → ProducerWanted → Procedure
+produces o w = produces_from (ways_of o) w.topic w
+
+-- a message goes to a topic producer, unless none is found for it; as a part of another call it fails there
+abbrev pub fails_as : Option Share → Refusal → Procedure
+fails_as None r = procedure.Refuse r
+fails_as (Some s) r = procedure.FailShare s r
+
+abbrev pub sends_by : Option Share → ProducerMessageValues → Option Ways → Option Errand → Procedure
+sends_by share m ways None = fails_as share refusal.NoPartition
+sends_by share m None (Some e) = fails_as share refusal.NoAddress
+sends_by share m (Some ways) (Some e) = procedure.Send ways e share m
+
+abbrev pub sends_as : Chosen → Producers → Option Share → (advice : Option ℕ) → (producer : ℕ) → ProducerMessageValues → Procedure
+sends_as o ps share advice t m = sends_by share m (ways_of o) (errand_of advice m (ps.built t))
+
+abbrev pub sends : Chosen → Producers → (advice : Option ℕ) → (producer : ℕ) → ProducerMessageValues → Procedure
+sends o ps advice t m = unless (why_not ps t) (sends_as o ps None advice t m)
+
+-- several messages are sent one by one, each by the next ticket, behind a call that waits for them
+abbrev pub share : (of ticket : ℕ) → Option Share
+share of ticket = Some (record { of = of; ticket = ticket })
+
+abbrev pub shares_of : Chosen → Producers → (of ticket : ℕ) → List (Option ℕ) → (producer : ℕ) → List ProducerMessageValues → List Act
+shares_of o ps of ticket advice t [] = []
+shares_of o ps of ticket advice t (m ∷ ms) =
+    Starts (Call ticket) (sends_as o ps (share of ticket) (next_advice advice) t m)
+    ∷ shares_of o (routed t m ps) of (ticket + 1) (drop 1 advice) t ms
+
+abbrev pub why_no_sends : Tickets → Producers → (producer : ℕ) → Option Refusal
+why_no_sends c ps t = if may_call c then why_not ps t else Some refusal.Shutdown
+
+abbrev pub shares_unless : Option Refusal → View → List (Option ℕ) → (producer : ℕ) → List ProducerMessageValues → List Act
+shares_unless (Some r) v advice t ms = []
+shares_unless None v advice t ms = shares_of v.chosen v.producers v.calls.drawn (v.calls.drawn + 1) advice t ms
+
+abbrev pub gathers : Tickets → Producers → (producer : ℕ) → List ProducerMessageValues → Procedure
+gathers c ps t ms = unless (why_not ps t) (procedure.Gather (c.drawn + 1) (length ms))
+
+-- nothing is held back for a batch
+abbrev pub flushes : Producers → (producer : ℕ) → Procedure
+flushes ps t = unless (why_not ps t) (procedure.Refuse refusal.NoBatches)
+
+abbrev pub checks : Producers → (producer : ℕ) → Procedure
+checks ps t = unless (why_not ps t) (procedure.Go Checks (numbers_at (ps.built t)))
+
+-- one that was closed is asked to close again
+abbrev pub closes : Producers → (producer : ℕ) → Procedure
+closes ps t = if is_some (ps.built t) then procedure.Close t (numbers_at (ps.built t)) else procedure.Refuse refusal.UnknownTicket
+
+-- a raw call leaves the numbers of the client's producers alone
+abbrev pub is_taken : Producers → Option ℕ → Bool
+is_taken ps None = false
+is_taken ps (Some number) = is_some (ps.topics number)
+
+abbrev pub asks_raw : Producers → (link : ℕ) → Words → Procedure
+asks_raw ps l request =
+    if is_taken ps (named_producer request) then procedure.Refuse refusal.NumberInUse else procedure.Ask (place.Link l) request says.Bodies
+
+-- the procedure of a call, and its parts
+abbrev pub procedure_for : Chosen → Tickets → Producers → List (Option ℕ) → Asking → Procedure
+procedure_for o c ps advice content.Build = unless_refused (not c.is_stopped) (builds_with o.outbound o.base)
+procedure_for o c ps advice content.Stop = unless_refused (may_call c) procedure.Stop
+procedure_for o c ps advice (content.Topics namespace mode) = unless_refused (may_call c) (from_base o.base (asks_topics namespace mode))
+procedure_for o c ps advice (content.Lookup topic) = unless_refused (may_call c) (searches (ways_of o) (sought.Look topic))
+procedure_for o c ps advice (content.Partitions topic) = unless_refused (may_call c) (searches (ways_of o) (sought.CountPartitions topic))
+procedure_for o c ps advice (content.Brokers topic) = unless_refused (may_call c) (searches (ways_of o) (sought.Name topic))
+procedure_for o c ps advice (content.Producer wanted) = unless_refused (may_call c) (produces o wanted)
+procedure_for o c ps advice (content.Send t m) = unless_refused (may_call c) (sends o ps (next_advice advice) t m)
+procedure_for o c ps advice (content.SendAll t ms) = unless_refused (may_call c) (gathers c ps t ms)
+procedure_for o c ps advice (content.Flush t) = unless_refused (may_call c) (flushes ps t)
+procedure_for o c ps advice (content.CheckProducer t) = unless_refused (may_call c) (checks ps t)
+procedure_for o c ps advice (content.CloseProducer t) = unless_refused (may_call c) (closes ps t)
+procedure_for o c ps advice (content.Raw l request) = unless_refused (may_call c) (asks_raw ps l request)
+
+abbrev pub parts_of : View → List (Option ℕ) → Asking → List Act
+parts_of v advice content.Build = []
+parts_of v advice content.Stop = []
+parts_of v advice (content.Topics namespace mode) = []
+parts_of v advice (content.Lookup topic) = []
+parts_of v advice (content.Partitions topic) = []
+parts_of v advice (content.Brokers topic) = []
+parts_of v advice (content.Producer wanted) = []
+parts_of v advice (content.Send t m) = []
+parts_of v advice (content.SendAll t ms) = shares_unless (why_no_sends v.calls v.producers t) v advice t ms
+parts_of v advice (content.Flush t) = []
+parts_of v advice (content.CheckProducer t) = []
+parts_of v advice (content.CloseProducer t) = []
+parts_of v advice (content.Raw l request) = []
+
+abbrev pub starts : View → List (Option ℕ) → Asking → List Act
+starts v advice asked =
+    Starts (Call v.calls.drawn) (procedure_for v.chosen v.calls v.producers advice asked) ∷ parts_of v advice asked
+
+-- A call is made with the next ticket, and its parts with those behind it. Where fewer are left it ends as that of the greatest ticket, which
+-- is never drawn.
+abbrev pub called : View → List (Option ℕ) → Asking → List Act
+called v advice asked =
+    if lacks_tickets v.calls.drawn (shares asked) then Answers (Call (2 ^ 64 - 1)) (fails Exhausted) ∷ [] else starts v advice asked
 
 -- A link of an address: a ready one serves at once, an attempt that runs or is to follow is waited for, else one is started. None is
 -- found where the address cannot be reached.
@@ -166,6 +284,40 @@ told_at (Ok (asked.Queued place)) = outcome.Queued
 told_at (Ok (asked.Waiting place)) = outcome.InLine
 told_at (Err e) = outcome.Refused (fault e)
 
+-- WHAT PLANS ASK OF TOPIC PRODUCERS is told at once.
+
+abbrev pub grants : Who → News → List Act
+grants who n = tells who (outcome.Granted n)
+
+abbrev pub tells_lost : Who → List Act
+tells_lost who = tells who outcome.Disconnected
+
+-- the turn, where nobody else has it
+abbrev pub takes_turn : Who → Option Topic → List Act
+takes_turn who None = tells_lost who
+takes_turn who (Some t) = flat_map (λ version. grants who (news.HasTurn version)) (option_to_list (turn_taken (Some t)))
+
+-- the number of a message: none is drawn where the link is not ready, and none is left where they are spent
+abbrev pub draw_said : Option Drawn → Outcome
+draw_said None = outcome.Refused Exhausted
+draw_said (Some d) = outcome.Granted (news.Drew d)
+
+abbrev pub draw_outcome : Option Bool → Option Topic → Outcome
+draw_outcome None row = outcome.Refused Disconnected
+draw_outcome (Some room) row = draw_said (drawn room row)
+
+abbrev pub recalls : Who → Option Command → List Act
+recalls who None = tells_lost who
+recalls who (Some c) = grants who (news.Recalled c)
+
+abbrev pub number_said : Option ℕ → Outcome
+number_said None = outcome.Refused Exhausted
+number_said (Some n) = outcome.Granted (news.Numbered n)
+
+abbrev pub finds : Who → Option ℕ → List Act
+finds who None = tells_lost who
+finds who (Some l) = tells who (outcome.GotLink l)
+
 -- every live link ends, and who stops the client is told
 abbrev pub stop_act : ℕ → Seat → List Act
 stop_act l seat = Comes (ToLink l (Ends Stops)) ∷ []
@@ -178,6 +330,15 @@ performs v who (Get p) = gets who p (v.addresses.base (address_key p)).series
 performs v who (Ask l request) = tells who (told_at (answer_at v.now request (v.links.live l)))
 performs v who StopAll = stops who v.links
 performs v who (Wait delay) = []
+performs v who (TakeTurn n) = takes_turn who (v.producers.topics n)
+performs v who (PassTurn n) = grants who news.Done
+performs v who (Draw n) = tells who (draw_outcome (room_of v n) (v.producers.topics n))
+performs v who (Recall n) = recalls who (recalled v.producers n)
+performs v who (Remake r) = grants who news.Done
+performs v who Number = tells who (number_said (number_drawn v.producers))
+performs v who (Find n) = finds who (link_at (v.producers.topics n))
+performs v who (Shut t) = grants who news.Done
+performs v who (Tell n) = grants who news.Done
 performs v who Rest = []
 
 -- a link on which something bad came ends with that
@@ -202,23 +363,25 @@ may_ping (Some seat) = is_none seat.ping
 abbrev pub keeps_alive : ℕ → Option Seat → List Act
 keeps_alive l row = if may_ping row then Comes (ToLink l Pings) ∷ [] else []
 
--- a link is used by a request that waits, by a frame in its line, and by a consumer that hears, which has one of the tickets so far
-abbrev pub is_used : (drawn : ℕ) → (ℕ → Option Subscription) → ℕ → Seat → Bool
-is_used drawn consumers l seat = not (is_empty seat.seen.waits.waiting) || (nat_lt 0 (length seat.seen.line) || is_heard drawn consumers l)
+-- a link is used by a request that waits, by a frame in its line, by a consumer that hears, which has one of the tickets so far, and by a
+-- topic producer that is not closed
+abbrev pub is_used : (drawn : ℕ) → (ℕ → Option Subscription) → Producers → ℕ → Seat → Bool
+is_used drawn consumers ps l seat =
+    not (is_empty seat.seen.waits.waiting) || (nat_lt 0 (length seat.seen.line) || (is_heard drawn consumers l || is_held ps l))
 
 -- a ready link that was not got for so long, and that nothing uses, ends
-abbrev pub is_idle_at : (now most drawn : ℕ) → (ℕ → Option Subscription) → ℕ → Seat → Bool
-is_idle_at now most drawn consumers l seat =
-    is_ready seat.seen.stage && (nat_le (later seat.got most) now && not (is_used drawn consumers l seat))
+abbrev pub is_idle_at : (now most drawn : ℕ) → (ℕ → Option Subscription) → Producers → ℕ → Seat → Bool
+is_idle_at now most drawn consumers ps l seat =
+    is_ready seat.seen.stage && (nat_le (later seat.got most) now && not (is_used drawn consumers ps l seat))
 
-abbrev pub idle_act_at : (now most drawn : ℕ) → (ℕ → Option Subscription) → ℕ → Seat → List Act
-idle_act_at now most drawn consumers l seat = if is_idle_at now most drawn consumers l seat then Comes (ToLink l (Ends Idles)) ∷ [] else []
+abbrev pub idle_act_at : (now most drawn : ℕ) → (ℕ → Option Subscription) → Producers → ℕ → Seat → List Act
+idle_act_at now most drawn consumers ps l seat = if is_idle_at now most drawn consumers ps l seat then Comes (ToLink l (Ends Idles)) ∷ [] else []
 
 abbrev pub is_idle : View → ℕ → Seat → Bool
-is_idle v l seat = is_idle_at v.now v.chosen.connection.connection_max_idle v.calls.drawn v.consumers l seat
+is_idle v l seat = is_idle_at v.now v.chosen.connection.connection_max_idle v.calls.drawn v.consumers v.producers l seat
 
 abbrev pub idle_act : View → ℕ → Seat → List Act
-idle_act v l seat = idle_act_at v.now v.chosen.connection.connection_max_idle v.calls.drawn v.consumers l seat
+idle_act v l seat = idle_act_at v.now v.chosen.connection.connection_max_idle v.calls.drawn v.consumers v.producers l seat
 
 -- what an alarm that rings brings at once
 abbrev pub rung : View → Alarm → List Act
@@ -228,7 +391,7 @@ rung v (KeepAlive l) = keeps_alive l (v.links.live l)
 rung v CheckIdle = over_links (idle_act v) v.links
 
 abbrev pub at_once : View → Act → List Act
-at_once v (Comes (Calls asked)) = called v.chosen v.calls asked
+at_once v (Comes (Calls asked advice)) = called v advice asked
 at_once v (Comes (ToLink l Reads)) = breaks_at l (arrival_at (v.links.live l))
 at_once v (Comes (Rings a)) = if rings v.now a v.alarms then rung v a else []
 at_once v (Starts who p) = follows who (begins p)
@@ -257,9 +420,14 @@ further v _ = []
 abbrev pub below : Notice → Notice → Bool
 below a b = is_before (rank a.who) (rank b.who)
 
--- nobody joins yet
+-- the one who has the turn of a topic producer next, and one whom a plan tells something
+abbrev pub turn_notice : ℕ × Option (List ℕ) → Notice
+turn_notice next = notice (Call next.0) (outcome.Granted (news.HasTurn next.1))
+
 abbrev pub joins : View → Act → List Notice
-joins v a = []
+joins v (Does who (PassTurn n)) = option_to_list (option_map turn_notice (turn_passed (v.producers.topics n)))
+joins v (Does who (Tell n)) = n ∷ []
+joins v _ = []
 
 -- CAUSES OF THEIR OWN
 
@@ -409,8 +577,12 @@ stopped_with known (Wake who) = notice who outcome.Stopped ∷ []
 stopped_with known (KeepAlive l) = []
 stopped_with known CheckIdle = []
 
+-- and so are those that wait for a turn
+abbrev pub stopped_one : (ticket : ℕ) → Notice
+stopped_one t = notice (Call t) outcome.Stopped
+
 abbrev pub causes : View → Act → List (List Notice)
 causes v (Comes (ToLink l x)) = caused v l x
 causes v (Comes (Rings a)) = if rings v.now a v.alarms then opens (woken a) else []
-causes v (Does who StopAll) = opens (flat_map (λ e. stopped_with v.addresses e.0) v.alarms)
+causes v (Does who StopAll) = opens (flat_map (λ e. stopped_with v.addresses e.0) v.alarms ++ map stopped_one (waiting v.producers))
 causes v _ = []

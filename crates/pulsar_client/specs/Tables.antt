@@ -1,5 +1,5 @@
 -- For the code's contracts alone: what is seen of the tables of a client, and the histories that they stand for.
-use Rattle.std.specs.Prelude.{ℕ, List, [], ◌∷◌, map, Option, Some, None, true, false, if◌then◌else◌}
+use Rattle.std.specs.Prelude.{ℕ, List, [], ◌∷◌, map, Option, Some, None, true, if◌then◌else◌}
 use Rattle.std.specs.BTreeMap.{get}
 use Rattle.std.specs.Global.{Vec}
 use Rattle.std.specs.Option.{option_map}
@@ -22,9 +22,9 @@ use Rattle.pulsar_client.specs.declared.tables.Tables.{Tables}
 use Rattle.pulsar_client.specs.Content.{Heard, Shown, Retry, heard, shown}
 use Rattle.pulsar_client.specs.Alarms.{set}
 use Rattle.pulsar_client.specs.Run.{Agenda, Step, rules}
-use Rattle.pulsar_client.specs.Kept.{addresses_of, links_in}
+use Rattle.pulsar_client.specs.Kept.{addresses_of, links_in, producers_of}
 use Rattle.pulsar_client.specs.Subscribers.{subscription_at}
-use Rattle.pulsar_client.specs.View.{Chosen, Seat, Tickets, Turned, View, alarms_on, alarms_rung, base_on, delay_with, later, nobody, pause_on, pause_rung, waits_on}
+use Rattle.pulsar_client.specs.View.{Chosen, Options, Seat, Turned, View, alarms_on, alarms_rung, base_on, delay_with, later, nobody, pause_on, pause_rung, waits_on}
 use Rattle.pulsar_client.specs.Links.{change_in}
 
 -- THE THINGS
@@ -56,11 +56,8 @@ view_of c =
       addresses = addresses_of c.addresses;
       alarms = c.alarms;
       consumers = subscription_at c.subscribers;
+      producers = producers_of c.producers;
     }
-
--- the calls of a client that is built and was not stopped
-abbrev pub opened_calls : Tickets
-opened_calls = record { drawn = 0; is_built = true; is_stopped = false }
 
 -- what a link turns whose next frame was read
 abbrev pub welcomed : (link : ℕ) → Arrival → Option Seat → Option Turned
@@ -107,11 +104,11 @@ agenda_of t = record { now = t.now.items; here = t.here.items; behind = map (λ 
 -- HISTORIES
 
 -- the tables stand for a history
-abbrev pub Stands : Chosen → Tables → List Step → Type 0
+abbrev pub Stands : Options → Tables → List Step → Type 0
 Stands o c history = standing.Stands rules o (view_of c) history
 
 -- inside a step: what is left to do, and the effects so far
-abbrev pub InStep : Chosen → Tables → Agenda → Heard → List Shown → List Step → Type 0
+abbrev pub InStep : Options → Tables → Agenda → Heard → List Shown → List Step → Type 0
 InStep o c g event out history = standing.InStep rules o (view_of c) g event out history
 
 -- a step of a history

@@ -1,4 +1,4 @@
--- Nine small runs, by their histories, oldest step first. Each is good.
+-- Ten small runs, by their histories, oldest step first. Each is good.
 use Rattle.std.specs.Prelude.{◌≡◌, ℕ, true, false, List, [], ◌∷◌, ◌++◌, reverse, codes, Some, None}
 use Rattle.url.specs.declared.host.Host.TheVariants.{Domain}
 use Rattle.pulsar_plans.specs.Address.{Place}
@@ -7,17 +7,18 @@ use Rattle.pulsar_wire.specs.declared.error.IoKind.TheVariants.{ConnectionRefuse
 use Rattle.pulsar_wire.specs.declared.commands.topics.Mode.TheVariants as modes
 use Rattle.pulsar_wire.specs.declared.commands.enumerations.SubType.TheVariants.{Exclusive}
 use Rattle.pulsar_frame.specs.Frame.{frame_bytes}
-use Rattle.pulsar_messages.specs.Content.{empty_consumer_options}
+use Rattle.pulsar_messages.specs.Content.{ProducerMessageValues, empty_consumer_options, empty_message, empty_producer_options}
 use Rattle.pulsar_messages.specs.Messages.{connect_command}
 use Rattle.pulsar_messages.specs.Words.{Words, GetTopicsOfNamespace, LookupTopic, Subscribe}
+use Rattle.pulsar_producer.specs.Wanted.{ProducerWanted}
 use Rattle.pulsar_session.specs.Failures.{Io, Canceled, Disconnected, Shutdown}
 use Rattle.pulsar_session.specs.Link.{bare, message_of}
 use Rattle.pulsar_client.specs.Address.{base_in}
 use Rattle.pulsar_client.specs.declared.effect.Settlement.TheVariants as settlement
-use Rattle.pulsar_client.specs.Content.{Heard, Called, Build, Stop, Topics, Lookup, Raw, Opened, FailedToOpen, Bytes, Drain, Ticked, Poll, Shown, Connect, Queued, Write, Retry, Settles, Ends, Close, Hands, FindsNothing, Done, Names, Address, Replies}
+use Rattle.pulsar_client.specs.Content.{Heard, Called, Build, Stop, Topics, Lookup, Producer, Send, Raw, Opened, FailedToOpen, Bytes, Drain, Ticked, Poll, Shown, Connect, Queued, Write, Retry, Settles, Ends, Close, Hands, FindsNothing, Done, Names, Address, Receipt, Replies}
 use Rattle.pulsar_client.specs.Plan.{failed}
 use Rattle.pulsar_client.specs.Run.{Good, Step}
-use Rattle.pulsar_client.specs.View.{Chosen}
+use Rattle.pulsar_client.specs.View.{Chosen, Options}
 
 -- the host and the port of the service
 abbrev pub local_host : List ℕ
@@ -49,8 +50,8 @@ abbrev pub LocalIsKnown : Type 0
 LocalIsKnown = base_in (codes "pulsar://127.0.0.1:6650") ≡ Some local
 
 -- the options, with this address and room for so many frames: requests are numbered from 0, at moment 0, and are due after half a minute
-abbrev pub options : (outbound : ℕ) → Chosen
-options outbound =
+abbrev pub chosen : (outbound : ℕ) → Chosen
+chosen outbound =
     record {
       base = Some local;
       auth = None;
@@ -61,6 +62,10 @@ options outbound =
       first_number = 0;
       now = 0;
     }
+
+-- and no policies
+abbrev pub options : (outbound : ℕ) → Options
+options outbound = record { chosen = chosen outbound; policies = [] }
 
 -- an event with its effects
 abbrev pub step_of : Heard → List Shown → Step
@@ -223,6 +228,58 @@ lookup_is_redirected =
     ∷ step_of (Opened 1) (Queued 1 0 greeting_frame ∷ [])
     ∷ step_of (Bytes 1 connected) (Queued 1 1 (frame_of 0 (LookupTopic (codes "t") true)) ∷ [])
     ∷ step_of (Bytes 1 (pointed 1)) (Settles 1 1 settlement.Reply ∷ Ends 1 (Address another) ∷ [])
+    ∷ [])
+
+-- a producer of topic t, with the name p
+abbrev pub producer_p : ProducerWanted
+producer_p = record { topic = Some (codes "t"); name = Some (codes "p"); options = empty_producer_options }
+
+-- a message: a
+abbrev pub message_a : ProducerMessageValues
+message_a = record empty_message { payload = codes "a" }
+
+-- what builds it, frame by frame: it asks for the partitions of the topic, and there are none; for its broker, which this one is; and for
+-- a producer of number 0, which it gets
+abbrev pub asks_partitions : List ℕ
+asks_partitions = 0 ∷ 0 ∷ 0 ∷ 14 ∷ 0 ∷ 0 ∷ 0 ∷ 10 ∷ 8 ∷ 21 ∷ 170 ∷ 1 ∷ 5 ∷ 10 ∷ 1 ∷ 116 ∷ 16 ∷ 0 ∷ []
+
+abbrev pub has_none : List ℕ
+has_none = 0 ∷ 0 ∷ 0 ∷ 15 ∷ 0 ∷ 0 ∷ 0 ∷ 11 ∷ 8 ∷ 22 ∷ 178 ∷ 1 ∷ 6 ∷ 8 ∷ 0 ∷ 16 ∷ 0 ∷ 24 ∷ 0 ∷ []
+
+abbrev pub asks_broker : List ℕ
+asks_broker = 0 ∷ 0 ∷ 0 ∷ 16 ∷ 0 ∷ 0 ∷ 0 ∷ 12 ∷ 8 ∷ 23 ∷ 186 ∷ 1 ∷ 7 ∷ 10 ∷ 1 ∷ 116 ∷ 16 ∷ 1 ∷ 24 ∷ 0 ∷ []
+
+abbrev pub is_this_one : List ℕ
+is_this_one =
+    0 ∷ 0 ∷ 0 ∷ 40 ∷ 0 ∷ 0 ∷ 0 ∷ 36 ∷ 8 ∷ 24 ∷ 194 ∷ 1 ∷ 31 ∷ 10 ∷ 23 ∷ (codes "pulsar://127.0.0.1:6650" ++ 24 ∷ 1 ∷ 32 ∷ 1 ∷ 40 ∷ 1 ∷ [])
+
+abbrev pub asks_producer : List ℕ
+asks_producer = 0 ∷ 0 ∷ 0 ∷ 18 ∷ 0 ∷ 0 ∷ 0 ∷ 14 ∷ 8 ∷ 5 ∷ 42 ∷ 10 ∷ 10 ∷ 1 ∷ 116 ∷ 16 ∷ 0 ∷ 24 ∷ 2 ∷ 34 ∷ 1 ∷ 112 ∷ []
+
+abbrev pub gets_producer : List ℕ
+gets_producer = 0 ∷ 0 ∷ 0 ∷ 14 ∷ 0 ∷ 0 ∷ 0 ∷ 10 ∷ 8 ∷ 17 ∷ 138 ∷ 1 ∷ 5 ∷ 8 ∷ 2 ∷ 18 ∷ 1 ∷ 112 ∷ []
+
+-- then its first message, number 0, and the receipt of that, at entry 1 of ledger 1
+abbrev pub sends_message : List ℕ
+sends_message =
+    0 ∷ 0 ∷ 0 ∷ 30 ∷ 0 ∷ 0 ∷ 0 ∷ 8 ∷ 8 ∷ 6 ∷ 50 ∷ 4 ∷ 8 ∷ 0 ∷ 16 ∷ 0 ∷ 14 ∷ 1 ∷ 75 ∷ 192 ∷ 230 ∷ 190
+    ∷ 0 ∷ 0 ∷ 0 ∷ 7 ∷ 10 ∷ 1 ∷ 112 ∷ 16 ∷ 0 ∷ 24 ∷ 0 ∷ 97 ∷ []
+
+abbrev pub receipt : List ℕ
+receipt = 8 ∷ 0 ∷ 16 ∷ 0 ∷ 26 ∷ 4 ∷ 8 ∷ 1 ∷ 16 ∷ 1 ∷ []
+
+abbrev pub gets_receipt : List ℕ
+gets_receipt = 0 ∷ 0 ∷ 0 ∷ 18 ∷ 0 ∷ 0 ∷ 0 ∷ 14 ∷ 8 ∷ 7 ∷ 58 ∷ 10 ∷ receipt
+
+-- a producer is built, and sends a message, which its receipt answers
+abbrev pub message_is_sent : List Step
+message_is_sent =
+    builds ++ (step_of (Called (Producer producer_p)) (Queued 0 1 asks_partitions ∷ [])
+    ∷ step_of (Bytes 0 has_none) (Settles 0 1 settlement.Reply ∷ Queued 0 2 asks_broker ∷ [])
+    ∷ step_of (Bytes 0 is_this_one) (Settles 0 2 settlement.Reply ∷ Queued 0 3 asks_producer ∷ [])
+    ∷ step_of (Bytes 0 gets_producer) (Settles 0 3 settlement.Reply ∷ Ends 1 Done ∷ [])
+    ∷ step_of (Called (Send 1 message_a)) (Queued 0 4 sends_message ∷ [])
+    ∷ step_of (Bytes 0 gets_receipt) (Settles 0 4 settlement.Reply ∷ Ends 2 (Receipt receipt) ∷ [])
     ∷ [])
 
 -- a history, oldest step first, is good with room for so many frames

@@ -21,11 +21,11 @@ use Rattle.pulsar_session.specs.declared.states.Stage.{Stage}
 use Rattle.pulsar_session.specs.declared.states.Stage.TheVariants.{Dialing, Handshaking}
 use Rattle.pulsar_session.specs.Failures.{Fault}
 use Rattle.pulsar_session.specs.Link as session
-use Rattle.pulsar_session.specs.Link.{Asks, Feeds, Seen, Setup, came, is_open, is_spent}
+use Rattle.pulsar_session.specs.Link.{Asks, Feeds, Seen, Setup, came, has_room, is_open, is_ready}
 use Rattle.pulsar_link.specs.Request.{closed_consumer, is_answered, request_number}
 use Rattle.pulsar_client.specs.declared.act.Act.{Act}
 use Rattle.pulsar_client.specs.declared.act.Act.TheVariants.{Comes, Starts, Told, Does, Answers, Dials}
-use Rattle.pulsar_client.specs.declared.act.Action.TheVariants.{Get, Ask, Wait, StopAll}
+use Rattle.pulsar_client.specs.declared.act.Action.TheVariants.{Get, Ask, Wait, TakeTurn, PassTurn, Draw, Remake, Number, Shut, StopAll}
 use Rattle.pulsar_client.specs.declared.act.Alarm.{Alarm}
 use Rattle.pulsar_client.specs.declared.act.Alarm.TheVariants.{Retry, Wake, KeepAlive, CheckIdle}
 use Rattle.pulsar_client.specs.declared.act.Arrival.{Arrival}
@@ -35,7 +35,7 @@ use Rattle.pulsar_client.specs.declared.act.End.TheVariants.{Unopened, Lost, Ove
 use Rattle.pulsar_client.specs.declared.act.LinkAct.{LinkAct}
 use Rattle.pulsar_client.specs.declared.act.LinkAct.TheVariants.{Opens, Reads, Drains, Pings, Ends}
 use Rattle.pulsar_client.specs.declared.act.Makes.{Makes}
-use Rattle.pulsar_client.specs.declared.act.Makes.TheVariants.{Nothing, Client, Consumer}
+use Rattle.pulsar_client.specs.declared.act.Makes.TheVariants.{Nothing, Client, Consumer, Producer}
 use Rattle.pulsar_client.specs.declared.act.Outcome.{Outcome}
 use Rattle.pulsar_client.specs.declared.act.Part.TheVariants.{Calls, ToLink, Rings, Polls}
 use Rattle.pulsar_client.specs.declared.act.Verdict.{Verdict}
@@ -49,16 +49,20 @@ use Rattle.pulsar_client.specs.declared.plans.plan.Turn.{Turn}
 use Rattle.pulsar_client.specs.declared.plans.plan.Turn.TheVariants.{Stays, Gives}
 use Rattle.pulsar_client.specs.Alarms.{clear, rings, set}
 use Rattle.pulsar_client.specs.Content as content
-use Rattle.pulsar_client.specs.Content.{Heard, Called, Opened, FailedToOpen, Bytes, Drain, Ticked, Poll}
+use Rattle.pulsar_client.specs.Content.{Heard, Called, Opened, FailedToOpen, Bytes, Drain, Ticked, Poll, lacks_tickets, shares}
 use Rattle.pulsar_client.specs.Links.{Change, Remains, Becomes, IsOver, arrival, change_by, change_in, closed_by, settled_in}
 use Rattle.pulsar_client.specs.Links as links
 use Rattle.pulsar_client.specs.Plan.{begins, told}
+use Rattle.pulsar_client.specs.Producers.{Producers, called_on, changed, joined, link_at, none, numbered, shut}
+use Rattle.pulsar_producer.specs.Routing.{Policy}
+use Rattle.pulsar_producer.specs.Topic as topic
 use Rattle.pulsar_client.specs.Subscriptions.{IsHeard, Subscription, after_poll, closed_at, ended_at, fresh, hears}
-use Rattle.pulsar_client.specs.Who.{is_same}
+use Rattle.pulsar_client.specs.Who.{is_same, rank}
 
 -- What a client's options say of a run: the address of the service, where their URL has one; the credential; how connections are
 -- attempted and kept, and how long requests wait, in milliseconds; how many frames of a link may be queued and not written; what random
--- words are drawn from; the number of the first request of each link; and the time of the start, in milliseconds since 1970.
+-- words are drawn from; the number of the first request of each link, of the first producer, and of the first message of each producer; and
+-- the time of the start, in milliseconds since 1970.
 pub record Chosen : Type 0 where
   pub base : Option Place
   pub auth : Option AuthenticationValues
@@ -68,6 +72,11 @@ pub record Chosen : Type 0 where
   pub seed : ℕ
   pub first_number : ℕ
   pub now : ℕ
+
+-- these, and the policies by which producers choose partitions
+pub record Options : Type 0 where
+  pub chosen : Chosen
+  pub policies : List Policy
 
 -- THINGS
 
@@ -105,7 +114,8 @@ pub record Addresses : Type 0 where
   pub base : (key : List ℕ) → Base
   pub pause : (link : ℕ) → Option Pause
 
--- all: the options, the clock, where each plan stands, the calls, the links, the addresses, the alarms, and the raw consumers by ticket
+-- all: the options, the clock, where each plan stands, the calls, the links, the addresses, the alarms, the raw consumers by ticket, and
+-- the producers
 pub record View : Type 0 where
   pub chosen : Chosen
   pub now : ℕ
@@ -115,19 +125,21 @@ pub record View : Type 0 where
   pub addresses : Addresses
   pub alarms : List (Alarm × ℕ)
   pub consumers : ℕ → Option Subscription
+  pub producers : Producers
 
 -- at first
-abbrev pub new : Chosen → View
+abbrev pub new : Options → View
 new o =
     record {
-      chosen = o;
-      now = o.now;
+      chosen = o.chosen;
+      now = o.chosen.now;
       stand = λ w. None;
       calls = record { drawn = 0; is_built = false; is_stopped = false };
       links = record { started = 0; live = λ l. None };
       addresses = record { base = λ key. nobody; pause = λ l. None };
       alarms = [];
       consumers = λ t. None;
+      producers = none o.chosen.first_number;
     }
 
 -- a moment that is so far from another
@@ -207,16 +219,21 @@ stand_after _ w row = row
 
 -- CALLS
 
--- the greatest number is never drawn
+-- a call has a ticket, and so has each of its parts
 abbrev pub drawn_after : Act → ℕ → ℕ
-drawn_after (Comes (Calls asked)) n = if is_spent n then n else n + 1
+drawn_after (Comes (Calls asked advice)) n = if lacks_tickets n (shares asked) then n else n + 1 + shares asked
 drawn_after _ n = n
+
+-- calls are made once the client is built, and until it is stopped
+abbrev pub may_call : Tickets → Bool
+may_call c = c.is_built && not c.is_stopped
 
 -- the client is built where a verdict makes it
 abbrev pub builds : Makes → Bool → Bool
 builds Nothing b = b
 builds Client b = true
 builds (Consumer link number topic) b = b
+builds (Producer made) b = b
 
 abbrev pub built_after : Act → Bool → Bool
 built_after (Answers who verdict) b = builds verdict.makes b
@@ -567,6 +584,7 @@ hears_ask l now request row s = closed_at l (closed_consumer request) (is_asked 
 abbrev pub made : Who → Makes → ℕ → Option Subscription → Option Subscription
 made who Nothing t row = row
 made who Client t row = row
+made who (Producer building) t row = row
 made who (Consumer link number topic) t row = if is_same (Call t) who then Some (fresh link number topic) else row
 
 abbrev pub consumer_after : (now : ℕ) → (ℕ → Option Seat) → Act → ℕ → Option Subscription → Option Subscription
@@ -576,6 +594,48 @@ consumer_after now live (Comes (Polls ticket)) t row = if t == ticket then optio
 consumer_after now live (Does who (Ask l request)) t row = option_map (hears_ask l now request (live l)) row
 consumer_after now live (Answers who verdict) t row = made who verdict.makes t row
 consumer_after now live _ t row = row
+
+-- PRODUCERS
+
+-- whether there is room on a link, where it is ready
+abbrev pub room_in : Seat → Option Bool
+room_in seat = if is_ready seat.seen.stage then Some (has_room seat.seen) else None
+
+abbrev pub room_at : Option Seat → Option Bool
+room_at None = None
+room_at (Some seat) = room_in seat
+
+-- and on that of a topic producer
+abbrev pub room_on : (ℕ → Option Seat) → Option ℕ → Option Bool
+room_on live None = None
+room_on live (Some l) = room_at (live l)
+
+abbrev pub room_of : View → (number : ℕ) → Option Bool
+room_of v n = room_on v.links.live (link_at (v.producers.topics n))
+
+-- a number is drawn only where the link is ready
+abbrev pub draws_on : Option Bool → (number : ℕ) → Producers → Producers
+draws_on None n ps = ps
+draws_on (Some room) n ps = changed n topic.Draws ps
+
+-- the producer that a verdict makes has the ticket of its call
+abbrev pub producers_made : Chosen → Who → Makes → Producers → Producers
+producers_made o who Nothing ps = ps
+producers_made o who Client ps = ps
+producers_made o who (Consumer link number topic) ps = ps
+producers_made o who (Producer made) ps = joined (rank who).1 made o.seed o.first_number ps
+
+abbrev pub producers_after : View → Act → Producers
+producers_after v (Comes (Calls asked advice)) =
+    if lacks_tickets v.calls.drawn (shares asked) then v.producers else called_on (may_call v.calls) asked v.producers
+producers_after v (Does who (TakeTurn n)) = changed n (topic.Takes (rank who).1) v.producers
+producers_after v (Does who (PassTurn n)) = changed n topic.Passes v.producers
+producers_after v (Does who (Draw n)) = draws_on (room_of v n) n v.producers
+producers_after v (Does who (Remake r)) = changed r.number (topic.Remakes r.link r.given) v.producers
+producers_after v (Does who Number) = numbered v.producers
+producers_after v (Does who (Shut t)) = shut t v.producers
+producers_after v (Answers who verdict) = producers_made v.chosen who verdict.makes v.producers
+producers_after v _ = v.producers
 
 -- WHAT A LINK IS WAITED FOR
 
@@ -602,4 +662,5 @@ after a v =
       addresses = addresses_after v a;
       alarms = alarms_after v a;
       consumers = λ t. consumer_after v.now v.links.live a t (v.consumers t);
+      producers = producers_after v a;
     }

@@ -1,11 +1,14 @@
 //! What a step is made of: acts, each one thing that happens. There are six kinds of act, and all that is special to a kind of
 //! call, thing or event stands one level below them.
 
-use crate::content::{Asking, Cause, Said};
+use crate::content::{Advice, Asking, Cause, Granted, Made, Numbers, Remade, Said};
 use pulsar_link::content::{Received, Request, Text};
-use pulsar_plans::content::Address;
+use pulsar_plans::content::{Address, Refusal as Failure};
 use pulsar_plans::plan::Procedure as Sought;
 use pulsar_plans::turn::Ways;
+use pulsar_producer::building::Order;
+use pulsar_producer::content::Outgoing;
+use pulsar_producer::sending::Errand;
 use pulsar_wire::error::IoKind;
 
 /// One that has a plan. A cause serves them in the order of their ranks.
@@ -40,6 +43,13 @@ pub enum Outcome {
     Disconnected,
     /// The moment for which it waited came.
     Woken,
+    /// What it asked of a topic producer, or of their numbers, is done, and gives this.
+    Granted(Granted),
+    /// The send of this ticket, which is a part of it, was queued, or it failed so before.
+    Parted {
+        ticket: u64,
+        failure: Option<Failure>,
+    },
     /// The client was stopped while its request waited for a reply.
     Cut,
     /// The client was stopped, and no request of it was queued.
@@ -80,6 +90,34 @@ pub enum Refusal {
     NoOutbound,
     /// The options have no address.
     NoAddress,
+    /// There is no such thing of this ticket.
+    UnknownTicket,
+    /// It is not said to what a producer sends.
+    NoTopic,
+    /// The producer was closed.
+    Closed,
+    /// The producer makes no batches.
+    NoBatches,
+    /// A policy, or the partition that it names, is not there.
+    NoPartition,
+    /// A producer of the client has the number.
+    NumberInUse,
+}
+
+/// A send that is a part of another call: the tickets of that call, and of the send.
+#[derive(Clone, Copy)]
+pub struct Share {
+    pub of: u64,
+    pub ticket: u64,
+}
+
+/// What is asked of each topic producer of a producer, one after the other.
+#[derive(Clone, Copy)]
+pub enum Round {
+    /// A sign of life of its link.
+    Checks,
+    /// Its close.
+    Closes,
 }
 
 /// What is to be done for a call.
@@ -100,6 +138,38 @@ pub enum Procedure {
         ways: Ways,
         what: Sought,
     },
+    /// Build a producer.
+    Produce {
+        ways: Ways,
+        order: Order,
+    },
+    /// Send a message in the turn of a topic producer.
+    Send {
+        ways: Ways,
+        errand: Errand,
+        share: Option<Share>,
+        message: Outgoing,
+    },
+    /// Fail, as a part of another call.
+    FailShare {
+        share: Share,
+        refusal: Refusal,
+    },
+    /// Wait for so many sends, whose tickets begin with this one: each is a part.
+    Gather {
+        first: u64,
+        count: u64,
+    },
+    /// Ask each of these topic producers, in its turn.
+    Go {
+        round: Round,
+        numbers: Numbers,
+    },
+    /// Close the producer of this ticket, whose topic producers these are.
+    Close {
+        producer: u64,
+        numbers: Numbers,
+    },
     /// Fail.
     Refuse(Refusal),
 }
@@ -113,6 +183,24 @@ pub enum Action {
     Ask { link: u64, request: Request },
     /// Wait for so many milliseconds.
     Wait(u64),
+    /// Take its turn at the topic producer of this number, or wait for it.
+    TakeTurn(u64),
+    /// Its turn at a topic producer is over.
+    PassTurn(u64),
+    /// Draw the number of a message of a topic producer, where the link of that is ready.
+    Draw(u64),
+    /// Find the command by which a topic producer is made again.
+    Recall(u64),
+    /// A topic producer was made again.
+    Remake(Remade),
+    /// Draw the number of a new topic producer.
+    Number,
+    /// Find the link of a topic producer.
+    Find(u64),
+    /// The producer of this ticket takes no sends from now on.
+    Shut(u64),
+    /// Tell another one, who joins those whom the present cause serves.
+    Tell(Notice),
     /// End every link.
     StopAll,
     /// Nothing.
@@ -127,6 +215,8 @@ pub enum Makes {
     Client,
     /// A raw consumer, whose messages bear this number on this link.
     Consumer { link: u64, number: u64, topic: Text },
+    /// A producer.
+    Producer(Made),
 }
 
 /// What a plan gives at its end.
@@ -201,7 +291,7 @@ pub enum Alarm {
 /// What an event brings. Each part comes where nothing is left of the one before.
 #[derive(Drop)]
 pub enum Part {
-    Calls(Asking),
+    Calls(Asking, Advice),
     ToLink { link: u64, act: LinkAct },
     /// What was due as the tick came.
     Rings(Alarm),

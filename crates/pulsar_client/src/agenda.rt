@@ -1,14 +1,16 @@
 //! What is left to do in a step.
 
-ghost use Rattle.std.specs.Prelude.{◌≡◌, ◌++◌, ◌∷◌, [], map, IfOk, OnOk};
-ghost use Rattle.pulsar_run.specs.Order.{arranged};
+ghost use Rattle.std.specs.Prelude.{◌≡◌, ◌≤◌, ◌++◌, ◌∷◌, [], drop, map, take, IfOk, OnOk};
+ghost use Rattle.std.specs.VecDeque.{deque_len};
+ghost use Rattle.pulsar_run.specs.Order.{arranged, put};
 ghost use Rattle.pulsar_run.specs.Run.{only};
 ghost use Rattle.pulsar_client.specs.Rules.{alone, below, opens};
 ghost use Rattle.pulsar_client.specs.Run.{first, first_of, rest, rest_of};
 ghost use Rattle.pulsar_client.specs.Tables.{agenda_of};
+ghost use Rattle.pulsar_client.specs.declared.act.Notice.{Notice as Meant};
 
-use crate::act::{Act, Notice, Part};
-use crate::who::rank;
+use crate::act::{Act, Notice, Part, Who};
+use crate::who::{is_before, rank};
 use pulsar_wire::error::NoMemory;
 use std::alloc::Global;
 use std::collections::VecDeque;
@@ -88,6 +90,15 @@ impl Tasks {
         Ok(())
     }
 
+    /// This one joins those whom the present cause still serves, by rank: behind those that rank as high.
+    pub fn join(&mut self, notice: Notice) -> Result<(), NoMemory>
+        ensures { OnOk result (agenda_of self.new ≡ record (agenda_of self.old) { here = put below notice self.old.here.items }) }
+    {
+        let place = place_in(&self.here, notice.who);
+        self.here.insert(place, notice)?;
+        Ok(())
+    }
+
     /// This part comes before the others.
     pub fn bring(&mut self, part: Part) -> Result<(), NoMemory>
         ensures { OnOk result (agenda_of self.new ≡ record (agenda_of self.old) { parts = part ∷ self.old.parts.items }) }
@@ -119,6 +130,19 @@ impl Tasks {
         self.behind.push_back(cause)?;
         Ok(())
     }
+}
+
+/// How many of those whom a cause serves come before this one.
+fn place_in(here: &VecDeque<Notice>, who: Who) -> usize
+    ensures within { result ≤ deque_len here.now }
+    ensures put { (n : Meant) → n.who ≡ who → put below n here.now.items ≡ take result here.now.items ++ n ∷ drop result here.now.items }
+{
+    for place in 0..here.len() {
+        if is_before(who, here[place].who) {
+            return place;
+        }
+    }
+    here.len()
 }
 
 /// Those whom a cause serves, by rank.

@@ -32,6 +32,8 @@ pub enum Answer {
     Addresses(Vec<(String, BrokerAddress)>),
     /// The receipt of a message that was sent.
     Receipt(CommandSendReceipt),
+    /// The tickets of messages that were sent together.
+    Sends(Vec<u64>),
     /// What the broker replied to a raw call.
     Replies(Vec<Body>),
 }

@@ -1,9 +1,12 @@
 //! What comes to a client.
 
-ghost use Rattle.std.specs.Prelude.{◌≡◌, IfOk};
+ghost use Rattle.std.specs.Prelude.{◌≡◌, IfOk, map};
+ghost use Rattle.pulsar_messages.specs.Content.{message_content};
 ghost use Rattle.pulsar_client.specs.Content.{asked, heard};
 
 use pulsar_link::raw_call::RawCall;
+use pulsar_messages::Message;
+use pulsar_producer::ProducerBuilder;
 use pulsar_wire::commands::topics::Mode;
 use pulsar_wire::error::{IoKind, NoMemory};
 
@@ -15,15 +18,51 @@ pub enum Call {
     /// Ends every connection, and all that waits. Every later call is refused.
     Stop,
     /// Asks for the topics of a namespace.
-    Topics { namespace: String, mode: Mode },
+    Topics {
+        namespace: String,
+        mode: Mode,
+    },
     /// Finds the broker that serves a topic.
-    Lookup { topic: String },
+    Lookup {
+        topic: String,
+    },
     /// Finds how many partitions a topic has.
-    Partitions { topic: String },
+    Partitions {
+        topic: String,
+    },
     /// Finds the names of a topic, the topic itself or its partitions, with the broker of each.
-    Brokers { topic: String },
+    Brokers {
+        topic: String,
+    },
+    /// Builds a producer.
+    Producer(ProducerBuilder),
+    /// Sends a message by the producer that the call of this ticket built. It ends with the receipt.
+    Send {
+        producer: u64,
+        message: Message,
+    },
+    /// Sends messages one by one, each by a ticket of its own: the next ones. It ends once each was queued, or failed before.
+    SendAll {
+        producer: u64,
+        messages: Vec<Message>,
+    },
+    /// Sends what a producer holds back for a batch.
+    Flush {
+        producer: u64,
+    },
+    /// Asks for a sign of life of the connection of each partition of a producer.
+    CheckProducer {
+        producer: u64,
+    },
+    /// Closes a producer: it takes no sends from now on.
+    CloseProducer {
+        producer: u64,
+    },
     /// Asks on this connection by itself.
-    Raw { link: u64, call: RawCall },
+    Raw {
+        link: u64,
+        call: RawCall,
+    },
 }
 
 /// What happens to the client, one at a time. Connections are numbered from 0 in the order of their Connect effects.
@@ -68,12 +107,40 @@ impl Call {
             Call::Brokers { topic } => Ok(Call::Brokers {
                 topic: topic.clone()?,
             }),
+            Call::Producer(builder) => Ok(Call::Producer(builder.copy()?)),
+            Call::Send { producer, message } => Ok(Call::Send {
+                producer: *producer,
+                message: message.copy()?,
+            }),
+            Call::SendAll { producer, messages } => Ok(Call::SendAll {
+                producer: *producer,
+                messages: copy_all(messages)?,
+            }),
+            Call::Flush { producer } => Ok(Call::Flush {
+                producer: *producer,
+            }),
+            Call::CheckProducer { producer } => Ok(Call::CheckProducer {
+                producer: *producer,
+            }),
+            Call::CloseProducer { producer } => Ok(Call::CloseProducer {
+                producer: *producer,
+            }),
             Call::Raw { link, call } => Ok(Call::Raw {
                 link: *link,
                 call: call.copy()?,
             }),
         }
     }
+}
+
+fn copy_all(messages: &Vec<Message>) -> Result<Vec<Message>, NoMemory>
+    ensures { IfOk result (λ ms. map message_content ms.items ≡ map message_content messages.now.items) }
+{
+    let mut copies = Vec::with_capacity(*messages.allocator(), messages.len())?;
+    for message in messages {
+        copies.push(message.copy()?)?;
+    }
+    Ok(copies)
 }
 
 impl Event {

@@ -1,9 +1,14 @@
 //! What follows from the definition of a good run: each contract is a law, and its body is empty.
 
 ghost use Rattle.pulsar_client.specs.Address.{KnownAddresses};
-ghost use Rattle.pulsar_client.specs.Client.{StoodForIsGood};
+ghost use Rattle.pulsar_client.specs.Client.{StandsFor};
 ghost use Rattle.pulsar_client.specs.Laws.{AlarmsAreTicked, AllIsDone, AnswersOnce, AttemptsFollow, BuiltIs, CallsAreMade, CausesInOrder, ClockIs, ConsumersHearToTheirEnd, DeadlinesAreTicked, DeedsFollow, Determined, EffectsArranged, EndsOnce, FailuresAreTold, FramesAreCut, IdleEnds, LinksAlone, NoneAfterStop, OneLinkEach, OutcomesAreCaused, PlansFollow, PollsAreAnswered, PollsFollow, SeriesIsNewest, ServedByTicket, SignsOfLife, StoppedIs, TicketsCount, TicksInOrder, WritesFollow};
-ghost use Rattle.pulsar_client.specs.Traces.{IsGood, LocalIsKnown, attempt_fails, attempt_is_retried, client_is_stopped, consumer_is_polled, deadline_comes, line_moves_up, lookup_is_redirected, reply_comes_early, request_is_answered};
+ghost use Rattle.pulsar_client.specs.Traces.{IsGood, LocalIsKnown, attempt_fails, attempt_is_retried, client_is_stopped, consumer_is_polled, deadline_comes, line_moves_up, lookup_is_redirected, message_is_sent, reply_comes_early, request_is_answered};
+ghost use Rattle.pulsar_client.specs.Run.{Good, Step};
+ghost use Rattle.pulsar_client.specs.View.{Options};
+ghost use Rattle.std.specs.Prelude.{ℕ, List};
+
+use crate::pulsar::Pulsar;
 
 /// Options and events determine the effects of a good run.
 pub fn determined()
@@ -11,8 +16,8 @@ pub fn determined()
 {}
 
 /// Every history that a client stands for is good.
-pub fn stood_for_is_good()
-    ensures { StoodForIsGood }
+pub fn stood_for_is_good(client: &Pulsar)
+    ensures { (o : Options) (h : List Step) (taken : List ℕ) → StandsFor (λ p. routes p) o client.now h taken → Good o h }
 {}
 
 /// The effects of each step stand in their order, and are just those of its acts, each once.
@@ -173,7 +178,7 @@ pub fn addresses_are_known()
     ensures { KnownAddresses }
 {}
 
-/// Nine small runs are good, at the address of a URL.
+/// Ten small runs are good, at the address of a URL.
 pub fn small_runs_are_good()
     ensures answered { IsGood 8 request_is_answered }
     ensures early { IsGood 8 reply_comes_early }
@@ -184,5 +189,6 @@ pub fn small_runs_are_good()
     ensures stopped { IsGood 8 client_is_stopped }
     ensures retried { IsGood 8 attempt_is_retried }
     ensures redirected { IsGood 8 lookup_is_redirected }
+    ensures sent { IsGood 8 message_is_sent }
     ensures address { LocalIsKnown }
 {}

@@ -6,25 +6,32 @@ mod address;
 mod addresses;
 mod agenda;
 mod alarms;
+mod answers;
 mod consumers;
 mod content;
+mod copying;
 mod due;
 pub mod effect;
 pub mod event;
+pub mod future;
 pub mod laws;
 mod links;
 pub mod options;
 mod order;
 pub mod outside;
 mod plans;
+pub mod producer_laws;
+mod producers;
 pub mod pulsar;
 mod row;
 mod settings;
 mod tables;
 mod who;
 
+pub use crate::answers::Taken;
 pub use crate::effect::{Answer, Effect, Handed, Settlement};
 pub use crate::event::{Call, Event};
+pub use crate::future::SendFuture;
 pub use crate::options::ClientOptions;
 pub use crate::outside::Failed;
 pub use crate::outside::sink::{FailingSink, MemorySink, Sink};
@@ -35,3 +42,7 @@ pub use pulsar_messages::{
     Authentication, ConsumerOptions, Message, ProducerMessage, ProducerOptions, RoutingPolicy,
 };
 pub use pulsar_plans::{BrokerAddress, ConnectionRetryOptions, OperationRetryOptions};
+pub use pulsar_producer::{
+    CustomRoutingPolicy, MessageBuilder, PartitionedProducer, Producer, ProducerBuilder,
+    SerializeMessage, message_from_bytes, message_from_text,
+};

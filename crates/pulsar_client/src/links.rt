@@ -1,6 +1,6 @@
 //! The links of a client, and who asked on each.
 
-ghost use Rattle.std.specs.Prelude.{◌≡◌, ◌==◌, ◌+◌, ◌++◌, ◌∷◌, [], ℕ, false, IfOk, OnOk, None, Some, not, map, if◌then◌else◌};
+ghost use Rattle.std.specs.Prelude.{◌≡◌, ◌==◌, ◌&&◌, ◌+◌, ◌++◌, ◌∷◌, [], ℕ, false, IfOk, OnOk, None, Some, not, map, if◌then◌else◌};
 ghost use Rattle.std.specs.BTreeMap.{IsOrdered, keys};
 ghost use Rattle.std.specs.List.{flat_map};
 ghost use Rattle.std.specs.List.Sorted.{IsStrictlySortedBy};
@@ -9,17 +9,18 @@ ghost use Rattle.std.specs.Ordering.{nat_cmp};
 ghost use Rattle.pulsar_client.specs.Content.{shown};
 ghost use Rattle.pulsar_client.specs.Effects.{asked_at, given_at};
 ghost use Rattle.pulsar_client.specs.Due.{moment_at};
-ghost use Rattle.pulsar_client.specs.Kept.{AreStarted, AreTicketed, AreTimed, IsEnd, is_due, links_in, live_in, seat_of};
+ghost use Rattle.pulsar_client.specs.Kept.{AreStarted, AreTicketed, AreTimed, IsEnd, is_due, links_in, live_in, producers_of, seat_of};
 ghost use Rattle.pulsar_requests.specs.Soonest.{has_come};
 ghost use Rattle.pulsar_client.specs.Subscribers.{subscription_at};
-ghost use Rattle.pulsar_client.specs.Rules.{answered_on, due_part, idle_act_at, is_idle_at, may_ping, moved_on, on_link, over_links, stop_act, told_at};
-ghost use Rattle.pulsar_client.specs.View.{answer_at, arrival_at, got_at, has_ended, is_asked, is_busy, seat_asked, seat_got, seat_of_fresh, seat_fed, took_some};
+ghost use Rattle.pulsar_client.specs.Rules.{answered_on, due_part, idle_act_at, may_ping, moved_on, on_link, over_links, stop_act, told_at, is_idle_at};
+ghost use Rattle.pulsar_client.specs.View.{answer_at, arrival_at, got_at, room_at, has_ended, is_asked, is_busy, seat_asked, seat_got, seat_of_fresh, seat_fed, took_some};
 
 use crate::act::{Act, Arrival, End, LinkAct, Notice, Outcome, Part, Who};
 use crate::consumers::subscribers::Subscribers;
 use crate::content::Cause;
 use crate::due::DueMoments;
 use crate::effect::Effect;
+use crate::producers::Producers;
 use crate::row::Row;
 use pulsar_link::content::Request;
 use pulsar_plans::content::Address;
@@ -72,6 +73,16 @@ impl Links {
         ensures { result ≡ has_ended link (links_in self.now.started self.now.live) }
     {
         link < self.started && !self.live.contains_key(&link)
+    }
+
+    /// Whether there is room on a link, where it is ready.
+    pub fn room(&self, link: u64) -> Option<bool>
+        ensures { result ≡ room_at (live_in self.now.live link) }
+    {
+        match self.live.get(&link) {
+            Some(row) => row.room(),
+            None => None,
+        }
     }
 
     /// A request waits on a link that has not ended.
@@ -166,14 +177,15 @@ impl Links {
         now: u64,
         most: u64,
         subscribers: &Subscribers,
+        producers: &Producers,
     ) -> Result<VecDeque<Act>, NoMemory>
         ensures { IfOk result (λ acts. (drawn : ℕ) → AreTicketed drawn (subscription_at subscribers.now)
-            → acts.items ≡ over_links (idle_act_at now most drawn (subscription_at subscribers.now)) (links_in self.now.started self.now.live)) }
+            → acts.items ≡ over_links (idle_act_at now most drawn (subscription_at subscribers.now) (producers_of producers.now)) (links_in self.now.started self.now.live)) }
     {
         if self.failed {
             return Err(NoMemory);
         }
-        let acts = ends_idle(self.alloc, &self.live, now, most, subscribers)?;
+        let acts = ends_idle(self.alloc, &self.live, now, most, subscribers, producers)?;
         Ok(acts)
     }
 
@@ -376,27 +388,42 @@ fn ends_idle(
     now: u64,
     most: u64,
     subscribers: &Subscribers,
+    producers: &Producers,
 ) -> Result<VecDeque<Act>, NoMemory>
     ensures ends { IfOk result (λ acts. (drawn : ℕ) → AreTicketed drawn (subscription_at subscribers.now)
-        → acts.items ≡ flat_map (on_link (idle_act_at now most drawn (subscription_at subscribers.now)) (live_in live.now)) (keys live.now)) }
+        → acts.items ≡ flat_map (on_link (idle_act_at now most drawn (subscription_at subscribers.now) (producers_of producers.now)) (live_in live.now)) (keys live.now)) }
     ensures ordered { OnOk result (IsOrdered nat_cmp live.now) }
 {
     let mut acts = VecDeque::new(alloc);
     for (link, row) in live {
-        let is_idle = is_idle(row, *link, now, most, subscribers);
+        let is_idle = is_idle(row, *link, now, most, subscribers, producers);
         end_idle(&mut acts, *link, is_idle)?;
     }
     Ok(acts)
 }
 
 /// Nothing uses a link, and it was not got for so long.
-fn is_idle(row: &Row, link: u64, now: u64, most: u64, subscribers: &Subscribers) -> bool
+fn is_idle(
+    row: &Row,
+    link: u64,
+    now: u64,
+    most: u64,
+    subscribers: &Subscribers,
+    producers: &Producers,
+) -> bool
     ensures { (drawn : ℕ) → AreTicketed drawn (subscription_at subscribers.now)
-        → result ≡ is_idle_at now most drawn (subscription_at subscribers.now) link (seat_of row.now) }
+        → result ≡ is_idle_at now most drawn (subscription_at subscribers.now) (producers_of producers.now) link (seat_of row.now) }
 {
     let rests = row.rests(now, most);
     let is_heard = subscribers.hears_on(link);
-    rests && !is_heard
+    let is_held = producers.holds(link);
+    is_unused(rests, is_heard, is_held)
+}
+
+fn is_unused(rests: bool, is_heard: bool, is_held: bool) -> bool
+    ensures { result ≡ ((rests && not is_heard) && not is_held) }
+{
+    rests && !is_heard && !is_held
 }
 
 /// A link that is idle ends.

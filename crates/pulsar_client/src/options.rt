@@ -2,9 +2,10 @@
 
 use pulsar_messages::Authentication;
 use pulsar_plans::{ConnectionRetryOptions, OperationRetryOptions};
+use pulsar_producer::CustomRoutingPolicy;
 
 /// The options of a client.
-#[derive(Debug, Drop)]
+#[derive(Drop)]
 pub struct ClientOptions {
     /// The address of the service, as `pulsar://HOST:PORT`; without a port it is 6650. With any other URL, and with a text that
     /// is no URL, a Build ends with ConnectionError::NotFound.
@@ -15,10 +16,14 @@ pub struct ClientOptions {
     pub operation_retry: OperationRetryOptions,
     /// How many frames of a connection may be queued and not written. With 0 a Build ends with Error::Custom.
     pub outbound_channel_size: usize,
-    /// What random numbers are drawn from: the jitter of each retry, and the id of each connection.
+    /// What random numbers are drawn from: the jitter of each retry, the id of each connection, and the index with which a producer of
+    /// several partitions begins.
     pub seed: u64,
     /// The time at which the client is made, in milliseconds since 1970.
     pub now: u64,
-    /// The number of the first request of each connection. It is 0 but in tests.
+    /// The number of the first request of each connection, of the first producer, and of the first message of each producer. It is 0
+    /// but in tests.
     pub first_number: u64,
+    /// By these a producer chooses partitions, where its options say so.
+    pub policies: Vec<Box<dyn CustomRoutingPolicy>>,
 }

@@ -1,17 +1,23 @@
 //! The client.
 
-ghost use Rattle.std.specs.Prelude.{◌≡◌, ◌∷◌, [], List, OnErr, IfOk, IsErr, IsTrue, ◌↔◌, length, map, reverse};
+ghost use Rattle.std.specs.Prelude.{◌≡◌, ◌∷◌, [], ℕ, List, OnErr, IfOk, IsErr, IsTrue, ◌↔◌, length, map, reverse};
 ghost use Rattle.pulsar_client.specs.Content.{Called, asked, heard, shown};
-ghost use Rattle.pulsar_client.specs.Run.{Good, Step, calls_in, view};
-ghost use Rattle.pulsar_client.specs.View.{Chosen, Waits, has_ended};
+ghost use Rattle.pulsar_client.specs.Run.{Good, Step, ticket_for, tickets_in, view};
+ghost use Rattle.pulsar_client.specs.View.{Options, Waits, has_ended};
 ghost use Rattle.pulsar_client.specs.Tables.{answered, step};
-ghost use Rattle.pulsar_client.specs.Client.{HasFailed, IsDead, StandsFor, chosen, options_of};
+ghost use Rattle.std.specs.Option.{option_copied};
+ghost use Rattle.pulsar_producer.specs.Wanted.{no_producer, producer_wanted};
+ghost use Rattle.pulsar_client.specs.Client as meaning;
+ghost use Rattle.pulsar_client.specs.Client.{HasFailed, IsDead, StandsFor, options_of};
+ghost use Rattle.pulsar_client.specs.Taken.{IsTaken, taken_with};
 
+use crate::answers::{Answers, Taken};
 use crate::effect::Effect;
 use crate::event::{Call, Event};
 use crate::options::ClientOptions;
 use crate::settings::Settings;
 use crate::tables::Tables;
+use pulsar_producer::{Producer, ProducerBuilder};
 use pulsar_session::states::Stage;
 use pulsar_wire::error::NoMemory;
 use std::alloc::Global;
@@ -19,8 +25,9 @@ use std::alloc::Global;
 /// A client of Apache Pulsar: an event goes in, and its effects come out. It is driven by one caller.
 #[derive(Drop)]
 pub struct Pulsar {
-    options: ClientOptions,
+    options: Box<ClientOptions>,
     tables: Tables,
+    answers: Answers,
     // a step ran out of memory
     failed: bool,
 }
@@ -28,14 +35,15 @@ pub struct Pulsar {
 impl Pulsar {
     /// A client to which nothing has happened. A URL that is too long to be read counts as want of memory.
     pub fn new(alloc: Global, options: ClientOptions) -> Result<Pulsar, NoMemory>
-        ensures stands { IfOk result (λ c. StandsFor (chosen options) c []) }
+        ensures stands { IfOk result (λ c. StandsFor (λ p. routes p) (meaning.options (λ p. routes p) options) c [] []) }
         ensures options { IfOk result (λ c. options_of c ≡ options) }
     {
+        let options = Box::new(alloc, options)?;
         let settings = Settings::new(alloc, &options)?;
-        let tables = Tables::new(alloc, settings);
         Ok(Pulsar {
             options,
-            tables,
+            tables: Tables::new(alloc, settings),
+            answers: Answers::new(alloc),
             failed: false,
         })
     }
@@ -46,7 +54,7 @@ impl Pulsar {
         options: ClientOptions,
         events: &[Event],
     ) -> Result<Vec<Vec<Effect>>, NoMemory>
-        ensures run { IfOk result (λ all. Good (chosen options) (reverse (answered events.now all.items))) }
+        ensures run { IfOk result (λ all. Good (meaning.options (λ p. routes p) options) (reverse (answered events.now all.items))) }
         ensures one_each { IfOk result (λ all. length all.items ≡ length events.now) }
     {
         let mut client = Pulsar::new(alloc, options)?;
@@ -58,10 +66,10 @@ impl Pulsar {
     /// One event, with all that arises from it. After want of memory every later step answers want of memory. An event
     /// that names no live link, a state that the link is not in, or no consumer, changes nothing and has no effect.
     pub fn step(&mut self, event: Event) -> Result<Vec<Effect>, NoMemory>
-        ensures ok { IfOk result (λ out. (o : Chosen) (h : List Step) → StandsFor o self.old h → StandsFor o self.new (step event out.items ∷ h)) }
+        ensures ok { IfOk result (λ out. (o : Options) (h : List Step) (taken : List ℕ) → StandsFor (λ p. routes p) o self.old h taken → StandsFor (λ p. routes p) o self.new (step event out.items ∷ h) taken) }
         ensures failed { OnErr result (HasFailed self.new) }
         ensures stays { HasFailed self.old → IsErr result × HasFailed self.new }
-        ensures dead { IsDead self.old (heard event) → (self.new ≡ self.old) × IfOk result (λ out. out.items ≡ []) }
+        ensures dead { IsDead (λ p. routes p) self.old (heard event) → (self.new ≡ self.old) × IfOk result (λ out. out.items ≡ []) }
         ensures options { options_of self.new ≡ options_of self.old }
     {
         self.take(event)
@@ -69,13 +77,13 @@ impl Pulsar {
 
     /// A step with this call, and its ticket.
     pub fn submit(&mut self, call: Call) -> Result<(u64, Vec<Effect>), NoMemory>
-        ensures ok { IfOk result (λ r. (o : Chosen) (h : List Step) → StandsFor o self.old h → StandsFor o self.new (record { event = Called (asked call); effects = map shown r.1.items } ∷ h)) }
-        ensures ticket { IfOk result (λ r. (o : Chosen) (h : List Step) → StandsFor o self.old h → r.0 ≡ calls_in h) }
+        ensures ok { IfOk result (λ r. (o : Options) (h : List Step) (taken : List ℕ) → StandsFor (λ p. routes p) o self.old h taken → StandsFor (λ p. routes p) o self.new (record { event = Called (asked call); effects = map shown r.1.items } ∷ h) taken) }
+        ensures ticket { IfOk result (λ r. (o : Options) (h : List Step) (taken : List ℕ) → StandsFor (λ p. routes p) o self.old h taken → r.0 ≡ ticket_for (asked call) (tickets_in h)) }
         ensures failed { OnErr result (HasFailed self.new) }
         ensures stays { HasFailed self.old → IsErr result × HasFailed self.new }
         ensures options { options_of self.new ≡ options_of self.old }
     {
-        let ticket = self.tables.tickets;
+        let ticket = self.tables.ticket_for(&call);
         let effects = self.take(Event::Call(call))?;
         Ok((ticket, effects))
     }
@@ -83,14 +91,43 @@ impl Pulsar {
     /// The options that it was made with.
     pub fn options(&self) -> &ClientOptions
         ensures options { result.now ≡ options_of self.now }
-        ensures chosen { (o : Chosen) (h : List Step) → StandsFor o self.now h → o ≡ chosen result.now }
+        ensures chosen { (o : Options) (h : List Step) (taken : List ℕ) → StandsFor (λ p. routes p) o self.now h taken → o ≡ meaning.options (λ p. routes p) result.now }
     {
         &self.options
     }
 
+    /// What a call ended with. It is told once.
+    pub fn take_answer(&mut self, ticket: u64) -> Taken
+        ensures taken { (o : Options) (h : List Step) (taken : List ℕ) → StandsFor (λ p. routes p) o self.old h taken → IsTaken result ticket h taken }
+        ensures stands { (o : Options) (h : List Step) (taken : List ℕ) → StandsFor (λ p. routes p) o self.old h taken → StandsFor (λ p. routes p) o self.new h (taken_with ticket h taken) }
+        ensures failed { HasFailed self.old → HasFailed self.new }
+        ensures options { options_of self.new ≡ options_of self.old }
+    {
+        self.answers.take(ticket)
+    }
+
+    /// A producer that is to be built.
+    pub fn producer(&self) -> ProducerBuilder
+        ensures { producer_wanted result ≡ no_producer }
+    {
+        ProducerBuilder::new(self.tables.alloc)
+    }
+
+    /// The producer that the call of this ticket built.
+    pub fn producer_at(&self, ticket: u64) -> Option<&Producer>
+        ensures { (o : Options) (h : List Step) (taken : List ℕ) → StandsFor (λ p. routes p) o self.now h taken → (g : Good o h) → option_copied result ≡ (view o g.log).producers.built ticket }
+    {
+        self.tables.producers.built.get(&ticket)
+    }
+
+    /// Where its memory comes from.
+    pub(crate) fn allocator(&self) -> Global {
+        self.tables.alloc
+    }
+
     /// A link of this number has ended. It takes no memory.
     pub fn link_ended(&self, link: u64) -> bool
-        ensures { (o : Chosen) (h : List Step) → StandsFor o self.now h → (g : Good o h) → result ≡ has_ended link (view o g.log).links }
+        ensures { (o : Options) (h : List Step) (taken : List ℕ) → StandsFor (λ p. routes p) o self.now h taken → (g : Good o h) → result ≡ has_ended link (view o g.log).links }
     {
         self.tables.links.has_ended(link)
     }
@@ -98,7 +135,7 @@ impl Pulsar {
     /// A link of this number is open, and something waits for it: it is not ready yet, or a request of it waits for a reply, or
     /// a raw consumer on it hears. It takes no memory.
     pub fn link_waits(&self, link: u64) -> bool
-        ensures { (o : Chosen) (h : List Step) → StandsFor o self.now h → (g : Good o h) → IsTrue result ↔ Waits link (view o g.log) }
+        ensures { (o : Options) (h : List Step) (taken : List ℕ) → StandsFor (λ p. routes p) o self.now h taken → (g : Good o h) → IsTrue result ↔ Waits link (view o g.log) }
     {
         match self.tables.links.stage(link) {
             Some(Stage::Handshaking) => true,
@@ -113,7 +150,7 @@ impl Pulsar {
 
     /// Each event in turn.
     fn take_all(&mut self, alloc: Global, events: &[Event]) -> Result<Vec<Vec<Effect>>, NoMemory>
-        ensures stands { IfOk result (λ all. (o : Chosen) → StandsFor o self.old [] → StandsFor o self.new (reverse (answered events.now all.items))) }
+        ensures stands { IfOk result (λ all. (o : Options) (taken : List ℕ) → StandsFor (λ p. routes p) o self.old [] taken → StandsFor (λ p. routes p) o self.new (reverse (answered events.now all.items)) taken) }
         ensures one_each { IfOk result (λ all. length all.items ≡ length events.now) }
     {
         let mut all = Vec::new(alloc);
@@ -124,10 +161,10 @@ impl Pulsar {
     }
 
     fn take(&mut self, event: Event) -> Result<Vec<Effect>, NoMemory>
-        ensures ok { IfOk result (λ out. (o : Chosen) (h : List Step) → StandsFor o self.old h → StandsFor o self.new (step event out.items ∷ h)) }
+        ensures ok { IfOk result (λ out. (o : Options) (h : List Step) (taken : List ℕ) → StandsFor (λ p. routes p) o self.old h taken → StandsFor (λ p. routes p) o self.new (step event out.items ∷ h) taken) }
         ensures failed { OnErr result (HasFailed self.new) }
         ensures stays { HasFailed self.old → IsErr result × HasFailed self.new }
-        ensures dead { IsDead self.old (heard event) → (self.new ≡ self.old) × IfOk result (λ out. out.items ≡ []) }
+        ensures dead { IsDead (λ p. routes p) self.old (heard event) → (self.new ≡ self.old) × IfOk result (λ out. out.items ≡ []) }
         ensures options { options_of self.new ≡ options_of self.old }
     {
         if self.failed {
@@ -139,7 +176,9 @@ impl Pulsar {
             return Ok(Vec::new(self.tables.alloc));
         }
         self.failed = true;
-        let out = self.tables.step(event)?;
+        let from = self.tables.tickets;
+        let out = self.tables.step(event, self.options.policies.as_slice())?;
+        self.answers.note(from, self.tables.tickets, &out)?;
         self.failed = false;
         Ok(out)
     }

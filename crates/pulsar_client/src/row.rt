@@ -14,7 +14,7 @@ ghost use Rattle.pulsar_client.specs.Links as links;
 ghost use Rattle.pulsar_client.specs.Rules as rules;
 ghost use Rattle.pulsar_client.specs.Rules.{answered_by, dropped, ended_places, lost_with, moved_up, tells_asker, told_at};
 ghost use Rattle.pulsar_client.specs.Kept.{seat_of, settled};
-ghost use Rattle.pulsar_client.specs.View.{asker_at, askers_left, got_since, is_asked, later, ping_left, place_of, seat_asked, seat_of_fresh, took};
+ghost use Rattle.pulsar_client.specs.View.{asker_at, askers_left, got_since, is_asked, later, ping_left, place_of, room_in, seat_asked, seat_of_fresh, took};
 
 use crate::act::{Arrival, End, LinkAct, Notice, Outcome, Who};
 use crate::content::Cause;
@@ -180,6 +180,16 @@ impl Row {
             && self.got.saturating_add(most) <= now
             && self.connection.is_idle()
             && self.connection.standing() == 0
+    }
+
+    /// Whether there is room on it, where it is ready.
+    pub fn room(&self) -> Option<bool>
+        ensures { result ≡ room_in (seat_of self.now) }
+    {
+        match self.connection.stage() {
+            Stage::Ready => Some(self.connection.has_room()),
+            Stage::Dialing | Stage::Handshaking | Stage::Over => None,
+        }
     }
 
     /// An end closes it: a deadline only where it is due still.

@@ -1,6 +1,6 @@
 //! What the options of a client say of its run.
 
-ghost use Rattle.std.specs.Prelude.{◌≡◌, ◌++◌, IfOk, OnOk, map};
+ghost use Rattle.std.specs.Prelude.{◌≡◌, IfOk};
 ghost use Rattle.std.specs.Option.{option_map};
 ghost use Rattle.pulsar_messages.specs.Content.{authentication_values};
 ghost use Rattle.pulsar_session.specs.Link.{fresh};

@@ -40,6 +40,29 @@ closed_consumer (Unsubscribe consumer) = None
 closed_consumer (CloseConsumer consumer) = Some consumer
 closed_consumer (CloseConsumerUnawaited consumer) = Some consumer
 
+-- the producer that it names, by its number
+abbrev pub named_producer : Words → Option ℕ
+named_producer SendPing = None
+named_producer SendPong = None
+named_producer (AuthChallenge auth) = None
+named_producer (LookupTopic topic authoritative) = None
+named_producer (LookupPartitionedTopic topic) = None
+named_producer (GetTopicsOfNamespace namespace mode) = None
+named_producer (GetSchema topic version) = None
+named_producer (CreateProducer topic producer name options) = Some producer
+named_producer (Send producer name sequence message block) = Some producer
+named_producer (CloseProducer producer) = Some producer
+named_producer (Subscribe topic subscription sub_type consumer name options) = None
+named_producer (SendFlow consumer permits) = None
+named_producer (SendAck consumer ids cumulative) = None
+named_producer (SendRedeliver consumer ids) = None
+named_producer (Seek consumer id time) = None
+named_producer (GetLastMessageId consumer) = None
+named_producer (GetConsumerStats consumer) = None
+named_producer (Unsubscribe consumer) = None
+named_producer (CloseConsumer consumer) = None
+named_producer (CloseConsumerUnawaited consumer) = None
+
 -- the consumer that its success makes: its number, and its topic
 abbrev pub subscribed : Words → Option Subscribed
 subscribed SendPing = None

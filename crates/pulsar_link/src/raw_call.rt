@@ -5,7 +5,7 @@ ghost use Rattle.std.specs.Option.{option_map};
 ghost use Rattle.pulsar_messages.specs.Content.{consumer_options_values, producer_message_values, producer_options_values};
 ghost use Rattle.pulsar_messages.specs.Words.{CreateProducer, Send, Subscribe};
 ghost use Rattle.pulsar_link.specs.RawCall.{words_of};
-ghost use Rattle.pulsar_link.specs.Request.{closed_consumer, request_number, subscribed};
+ghost use Rattle.pulsar_link.specs.Request.{closed_consumer, named_producer, request_number, subscribed};
 
 use crate::content::{Subscribed, Text};
 use pulsar_session::{Authentication, ConsumerOptions, ProducerMessage, ProducerOptions};
@@ -241,6 +241,32 @@ impl RawCall {
         match self {
             RawCall::CloseConsumer { consumer_id } => Some(*consumer_id),
             _ => None,
+        }
+    }
+
+    /// The number of the producer that it names, where it names one.
+    pub fn named_producer(&self) -> Option<u64>
+        ensures { result ≡ named_producer (words_of self.now) }
+    {
+        match self {
+            RawCall::Send { producer_id, .. }
+            | RawCall::CreateProducer { producer_id, .. }
+            | RawCall::CloseProducer { producer_id } => Some(*producer_id),
+            RawCall::SendPing
+            | RawCall::LookupTopic { .. }
+            | RawCall::LookupPartitionedTopic { .. }
+            | RawCall::GetConsumerStats { .. }
+            | RawCall::GetLastMessageId { .. }
+            | RawCall::GetTopicsOfNamespace { .. }
+            | RawCall::Subscribe { .. }
+            | RawCall::SendFlow { .. }
+            | RawCall::SendAck { .. }
+            | RawCall::SendRedeliver { .. }
+            | RawCall::CloseConsumer { .. }
+            | RawCall::Seek { .. }
+            | RawCall::Unsubscribe { .. }
+            | RawCall::AuthChallenge { .. }
+            | RawCall::GetSchema { .. } => None,
         }
     }
 

@@ -118,7 +118,7 @@ fn after_retry(
 }
 
 /// What an outcome says to a command that is answered by the body of this number.
-fn verdict(
+pub fn verdict(
     alloc: Global,
     answer: u32,
     outcome: Outcome,

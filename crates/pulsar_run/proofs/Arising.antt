@@ -91,7 +91,7 @@ module _ {O H V A N P E : Type 0} (r : Rules O H V A N P E) where
     now_is = tt;
     here_is = tt;
     behind_is = tt;
-    parts_are = each_in (Arisen o (Begins e ∷ log)) r.comes (r.parts (view r o log) e) (λ y i. i);
+    parts_are = each_in (Arisen o (Begins e ∷ log)) r.comes (r.parts o (view r o log) e) (λ y i. i);
   }
   left_is o (Then a ∷ log) =
       let g = agenda r o log in

@@ -22,12 +22,12 @@ module _ {O H V A N P E : Type 0} {r : Rules O H V A N P E} where
   }
 
   -- an event begins where nothing is left to do
-  pub began : {o : O} {v v' : V} {g : Agenda A N P} {h : List (Step H E)} (e : H) → Stands r o v h → g ≡ only (r.parts v e) → v' ≡ r.begun e v → InStep r o v' g e [] h
+  pub began : {o : O} {v v' : V} {g : Agenda A N P} {h : List (Step H E)} (e : H) → Stands r o v h → g ≡ only (r.parts o v e) → v' ≡ r.begun e v → InStep r o v' g e [] h
   began {o} {v} {v'} {g} {h} e s p w = record {
     log = Begins e ∷ s.log;
     older = steps_done r o s.log;
     run = (s.run, s.rests);
-    left = ap (λ x. only (r.parts x e)) (sym s.sees) ∙ sym p;
+    left = ap (λ x. only (r.parts o x e)) (sym s.sees) ∙ sym p;
     newest = refl;
     same = s.same;
     sees = w ∙ ap (r.begun e) s.sees;

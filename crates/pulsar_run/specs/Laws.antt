@@ -53,7 +53,7 @@ InThisStep P (Then a ∷ log) = P (Then a) log ⊎ InThisStep P log
 
 -- an act arises from an event, as a part of it, and from an act: at once, as the notice of one whom a cause serves, or as a further part
 abbrev pub Arises : {O H V A N P E : Type 0} → Rules O H V A N P E → O → A → Entry H A → List (Entry H A) → Type 0
-Arises r o a (Begins e) older = In a (map r.comes (r.parts (view r o older) e))
+Arises r o a (Begins e) older = In a (map r.comes (r.parts o (view r o older) e))
 Arises r o a (Then b) older =
     In a (r.at_once (view r o older) b)
     ⊎ (In a (map r.told (r.joins (view r o older) b))

@@ -16,8 +16,8 @@ pub record Rules (O H V A N P E : Type 0) : Type 0 where
   pub new : O → V
   pub begun : H → V → V
   pub after : A → V → V
-  -- what an event brings, from what is seen before it
-  pub parts : V → H → List P
+  -- what an event brings, from the options and what is seen before it
+  pub parts : O → V → H → List P
   -- what arises from an act, and its effects, from what is seen before it
   pub at_once : V → A → List A
   pub joins : V → A → List N
@@ -92,7 +92,7 @@ goes_on r v a g =
 -- what is left to do after a log
 abbrev pub agenda : {O H V A N P E : Type 0} → Rules O H V A N P E → O → List (Entry H A) → Agenda A N P
 agenda r o [] = only []
-agenda r o (Begins e ∷ log) = only (r.parts (view r o log) e)
+agenda r o (Begins e ∷ log) = only (r.parts o (view r o log) e)
 agenda r o (Then a ∷ log) = goes_on r (view r o log) a (rest (agenda r o log))
 
 -- each act is the first that is left to do, and an event begins where nothing is left

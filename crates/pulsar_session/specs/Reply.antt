@@ -2,7 +2,7 @@
 use Rattle.std.specs.Prelude.{ℕ, ℤ, Bool, false, List, [], Option, Some, None, ◌==◌, if◌then◌else◌}
 use Rattle.pulsar_wire.specs.At.{flag_at, int32_at, text_at, texts_at}
 use Rattle.pulsar_wire.specs.Command.{BodyValues}
-use Rattle.pulsar_wire.specs.Row.{Optional, Text, Uint32, Int32, Row, End, Plain, Embedded, Numbers, Values, spelling}
+use Rattle.pulsar_wire.specs.Row.{Optional, Bytes, Text, Uint32, Int32, Row, End, Plain, Embedded, Numbers, Values, spelling}
 use Rattle.pulsar_wire.specs.declared.key.RequestKey.{RequestKey}
 use Rattle.pulsar_frame.specs.Key.{key}
 use Rattle.pulsar_frame.specs.Message.{MessageValues}
@@ -31,6 +31,14 @@ maybe_text_at n (Plain m r k row) vs = maybe_text_at n row vs.1
 maybe_text_at n (Embedded m r inner row) vs = maybe_text_at n row vs.1
 maybe_text_at n (Numbers m row) vs = maybe_text_at n row vs.1
 
+-- the bytes in field n, which may be absent
+abbrev pub maybe_bytes_at : ℕ → (row : Row) → Values row → Option (List ℕ)
+maybe_bytes_at n End vs = None
+maybe_bytes_at n (Plain m Optional Bytes row) vs = if m == n then vs.0 else maybe_bytes_at n row vs.1
+maybe_bytes_at n (Plain m r k row) vs = maybe_bytes_at n row vs.1
+maybe_bytes_at n (Embedded m r inner row) vs = maybe_bytes_at n row vs.1
+maybe_bytes_at n (Numbers m row) vs = maybe_bytes_at n row vs.1
+
 -- a body by its number, as it is written
 pub record Written : Type 0 where
   pub number : ℕ
@@ -39,8 +47,8 @@ pub record Written : Type 0 where
 abbrev pub written : BodyValues → Written
 written b = record { number = b.number; bytes = spelling b.row b.values }
 
--- Its body and its key; the number and the text of the error that it tells; the topics that it names; and what the answers to
--- partition_metadata and lookup_topic say.
+-- Its body and its key; the number and the text of the error that it tells; the topics that it names; what the answers to
+-- partition_metadata and lookup_topic say; and the name of a producer, with the version of its schema.
 pub record Reply : Type 0 where
   pub body : Option Written
   pub key : Option RequestKey
@@ -52,6 +60,8 @@ pub record Reply : Type 0 where
   pub url : Option (List ℕ)
   pub authority : Option Bool
   pub proxy : Option Bool
+  pub name : Option (List ℕ)
+  pub version : Option (List ℕ)
 
 -- error (14), partition_metadata_response (22) and lookup_topic_response (24) tell errors
 abbrev pub error_in : BodyValues → Option ℤ
@@ -90,6 +100,13 @@ authority_in b = if b.number == 24 then flag_at 5 b.row b.values else None
 abbrev pub proxy_in : BodyValues → Option Bool
 proxy_in b = if b.number == 24 then flag_at 8 b.row b.values else None
 
+-- of a producer_success
+abbrev pub name_in : BodyValues → Option (List ℕ)
+name_in b = if b.number == 17 then text_at 2 b.row b.values else None
+
+abbrev pub version_in : BodyValues → Option (List ℕ)
+version_in b = if b.number == 17 then maybe_bytes_at 4 b.row b.values else None
+
 -- what is read of a body
 abbrev pub read_body : Option RequestKey → Option BodyValues → Reply
 read_body k None =
@@ -104,6 +121,8 @@ read_body k None =
       url = None;
       authority = None;
       proxy = None;
+      name = None;
+      version = None;
     }
 read_body k (Some b) =
     record {
@@ -117,6 +136,8 @@ read_body k (Some b) =
       url = url_in b;
       authority = authority_in b;
       proxy = proxy_in b;
+      name = name_in b;
+      version = version_in b;
     }
 
 abbrev pub reply : MessageValues → Reply

@@ -10,7 +10,7 @@ ghost use Rattle.pulsar_requests.specs.Soonest.{has_come};
 ghost use Rattle.pulsar_requests.specs.Waits.{is_empty, is_overdue};
 ghost use Rattle.pulsar_session.specs.Failures.{fault};
 ghost use Rattle.pulsar_session.specs.Kept.{OnAnswer, arrives, came_of};
-ghost use Rattle.pulsar_session.specs.Link.{Asks, Closes, Drains, Feeds, Opens, Takes, after, asked, came, due, ends, frame_at, fresh, written};
+ghost use Rattle.pulsar_session.specs.Link.{Asks, Closes, Drains, Feeds, Opens, Takes, after, asked, came, due, ends, frame_at, fresh, has_room, written};
 ghost use Rattle.pulsar_session.specs.Soonest.{due_at};
 
 use crate::frames::{Arrival, command_frame, message_frame};
@@ -222,6 +222,13 @@ impl Connection {
         ensures { result ≡ length self.now.line }
     {
         self.link.line.len() as u64
+    }
+
+    /// One more frame may be queued at once.
+    pub fn has_room(&self) -> bool
+        ensures { result ≡ has_room self.now }
+    {
+        self.link.has_room()
     }
 
     /// How many frames were queued.

@@ -107,7 +107,7 @@ impl Link {
         }
     }
 
-    fn has_room(&self) -> bool
+    pub fn has_room(&self) -> bool
         ensures { result ≡ has_room (table self.now) }
     {
         self.unwritten.len() < self.setup.outbound

@@ -3,10 +3,12 @@
 ghost use Rattle.std.specs.Prelude.{◌≡◌, IfOk, map, string_bytes};
 ghost use Rattle.std.specs.Option.{option_map};
 ghost use Rattle.pulsar_client.specs.Content.{asked, heard};
-ghost use Rattle.pulsar_cli.specs.Grammar.{brokers, build, bytes, call, called, drain, event, failed, line, lookup, lost, on_link, opened, partitions, poll, stop, tick, topic, topics, words_line};
+ghost use Rattle.pulsar_cli.specs.Grammar.{brokers, build, builds, bytes, call, called, check_producer, close_producer, drain, event, failed, flush, line, lookup, lost, on_link, opened, partitions, poll, producer_call, send, send_all, stop, tick, ticket, topic, topics, words_line};
 ghost use Rattle.pulsar_cli.specs.Parsed.{line_of};
 
 use crate::grammar::choice::{kind, mode};
+use crate::grammar::message::{message, messages};
+use crate::grammar::producer::producer;
 use crate::grammar::raw::raw_call;
 use crate::grammar::setting::{Setting, set};
 use crate::grammar::word::{hex_bytes, is, number, text, words};
@@ -195,8 +197,105 @@ fn call(alloc: Global, words: &[&[u8]]) -> Result<Option<Call>, NoMemory>
     } else if is(word, "link") {
         on_link(alloc, rest)
     } else {
+        producer_call(alloc, word, rest)
+    }
+}
+
+/// A word that belongs to a producer, and what follows it.
+fn producer_call(alloc: Global, word: &[u8], words: &[&[u8]]) -> Result<Option<Call>, NoMemory>
+    ensures { IfOk result (λ c. option_map asked c ≡ producer_call word.now (map (λ w. w.now) words.now)) }
+{
+    if is(word, "producer") {
+        builds(alloc, words)
+    } else if is(word, "send") {
+        send(alloc, words)
+    } else if is(word, "send-all") {
+        send_all(alloc, words)
+    } else if is(word, "flush") {
+        Ok(flush(words))
+    } else if is(word, "check-producer") {
+        Ok(check_producer(words))
+    } else if is(word, "close-producer") {
+        Ok(close_producer(words))
+    } else {
         Ok(None)
     }
+}
+
+/// `call producer ..`
+fn builds(alloc: Global, words: &[&[u8]]) -> Result<Option<Call>, NoMemory>
+    ensures { IfOk result (λ c. option_map asked c ≡ builds (map (λ w. w.now) words.now)) }
+{
+    match producer(alloc, words)? {
+        Some(builder) => Ok(Some(Call::Producer(builder))),
+        None => Ok(None),
+    }
+}
+
+/// `call send TICKET MESSAGE`
+fn send(alloc: Global, words: &[&[u8]]) -> Result<Option<Call>, NoMemory>
+    ensures { IfOk result (λ c. option_map asked c ≡ send (map (λ w. w.now) words.now)) }
+{
+    let Some((producer, rest)) = words.split_first() else {
+        return Ok(None);
+    };
+    let Some(producer) = number(producer) else {
+        return Ok(None);
+    };
+    match message(alloc, rest)? {
+        Some(message) => Ok(Some(Call::Send { producer, message })),
+        None => Ok(None),
+    }
+}
+
+/// `call send-all TICKET MESSAGE / MESSAGE ..`
+fn send_all(alloc: Global, words: &[&[u8]]) -> Result<Option<Call>, NoMemory>
+    ensures { IfOk result (λ c. option_map asked c ≡ send_all (map (λ w. w.now) words.now)) }
+{
+    let Some((producer, rest)) = words.split_first() else {
+        return Ok(None);
+    };
+    let Some(producer) = number(producer) else {
+        return Ok(None);
+    };
+    match messages(alloc, rest)? {
+        Some(messages) => Ok(Some(Call::SendAll { producer, messages })),
+        None => Ok(None),
+    }
+}
+
+/// `call flush TICKET`
+fn flush(words: &[&[u8]]) -> Option<Call>
+    ensures { option_map asked result ≡ flush (map (λ w. w.now) words.now) }
+{
+    let producer = ticket(words)?;
+    Some(Call::Flush { producer })
+}
+
+/// `call check-producer TICKET`
+fn check_producer(words: &[&[u8]]) -> Option<Call>
+    ensures { option_map asked result ≡ check_producer (map (λ w. w.now) words.now) }
+{
+    let producer = ticket(words)?;
+    Some(Call::CheckProducer { producer })
+}
+
+/// `call close-producer TICKET`
+fn close_producer(words: &[&[u8]]) -> Option<Call>
+    ensures { option_map asked result ≡ close_producer (map (λ w. w.now) words.now) }
+{
+    let producer = ticket(words)?;
+    Some(Call::CloseProducer { producer })
+}
+
+/// A ticket alone.
+fn ticket(words: &[&[u8]]) -> Option<u64>
+    ensures { result ≡ ticket (map (λ w. w.now) words.now) }
+{
+    let [word] = words else {
+        return None;
+    };
+    number(word)
 }
 
 /// `call build`

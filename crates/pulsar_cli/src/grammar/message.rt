@@ -1,26 +1,26 @@
 //! The words of a message that is sent.
 
-ghost use Rattle.std.specs.Prelude.{◌≡◌, IfOk, map, string_bytes};
+ghost use Rattle.std.specs.Prelude.{◌≡◌, [], IfOk, Some, map, string_bytes};
 ghost use Rattle.std.specs.Option.{option_map};
-ghost use Rattle.pulsar_messages.specs.Content.{producer_message_values};
-ghost use Rattle.pulsar_cli.specs.MessageWords.{all, blank, cluster, cut, delivery, event_time, message, minus, one, ordering_key, part, partition_key, payload, plus, property, schema_version, signed, with_property, with_word};
+ghost use Rattle.pulsar_messages.specs.Content.{message_content};
+ghost use Rattle.pulsar_cli.specs.MessageWords.{all, all_messages, blank, cluster, cut, delivery, event_time, message, messages, minus, one, ordering_key, part, parts, partition_key, payload, plus, property, schema_version, signed, with_message, with_property, with_word};
 ghost use Rattle.pulsar_cli.specs.Parsed.{draft_of};
 
 use crate::grammar::word::{find, is, number, text, word_bytes};
-use pulsar_client::ProducerMessage;
+use pulsar_client::Message;
 use pulsar_wire::NoMemory;
-use std::alloc::Global;
+use std::alloc::{AllocError, Global};
 
 /// What the words so far say.
 #[derive(Drop)]
 pub struct Draft {
-    pub message: ProducerMessage,
+    pub message: Message,
     pub has_data: bool,
 }
 
 /// The message of these words.
-pub fn message(alloc: Global, words: &[&[u8]]) -> Result<Option<ProducerMessage>, NoMemory>
-    ensures { IfOk result (λ m. option_map producer_message_values m ≡ message (map (λ w. w.now) words.now)) }
+pub fn message(alloc: Global, words: &[&[u8]]) -> Result<Option<Message>, NoMemory>
+    ensures { IfOk result (λ m. option_map message_content m ≡ message (map (λ w. w.now) words.now)) }
 {
     match all(alloc, words)? {
         Some(draft) => Ok(Some(draft.into_message())),
@@ -53,8 +53,8 @@ fn more(alloc: Global, draft: Option<Draft>, word: &[u8]) -> Result<Option<Draft
 }
 
 impl Draft {
-    fn into_message(self) -> ProducerMessage
-        ensures { producer_message_values result ≡ (draft_of self).message }
+    fn into_message(self) -> Message
+        ensures { message_content result ≡ (draft_of self).message }
     {
         let Draft {
             message,
@@ -68,7 +68,7 @@ fn blank(alloc: Global) -> Draft
     ensures { draft_of result ≡ blank }
 {
     Draft {
-        message: ProducerMessage::new(alloc),
+        message: Message::new(alloc),
         has_data: false,
     }
 }
@@ -233,7 +233,7 @@ fn with_property(draft: Draft, name: String, value: String) -> Result<Draft, NoM
 }
 
 /// What stands in front of the first `=`, and behind it.
-fn cut(word: &[u8]) -> Option<(&[u8], &[u8])>
+pub fn cut(word: &[u8]) -> Option<(&[u8], &[u8])>
     ensures { option_map (λ p. (p.0.now, p.1.now)) result ≡ cut word.now }
 {
     let Some(at) = find(word, b'=') else {
@@ -263,4 +263,50 @@ fn minus(number: u64) -> Option<i64>
     ensures { result ≡ minus number }
 {
     i64::try_from(-i128::from(number)).ok()
+}
+
+/// Messages with a `/` between two.
+pub fn messages(alloc: Global, words: &[&[u8]]) -> Result<Option<Vec<Message>>, NoMemory>
+    ensures { IfOk result (λ ms. option_map (λ v. map message_content v.items) ms ≡ messages (map (λ w. w.now) words.now)) }
+{
+    let parts = parts(alloc, words)?;
+    all_messages(alloc, &parts)
+}
+
+/// The words between two `/`.
+fn parts<'a>(alloc: Global, words: &'a [&'a [u8]]) -> Result<Vec<&'a [&'a [u8]]>, AllocError>
+    ensures { IfOk result (λ ps. map (λ p. map (λ w. w.now) p.now) ps.items ≡ parts (map (λ w. w.now) words.now)) }
+{
+    words.split(|word| is(word, "/")).collect(alloc)
+}
+
+/// A message of each of these words.
+fn all_messages(alloc: Global, parts: &[&[&[u8]]]) -> Result<Option<Vec<Message>>, NoMemory>
+    ensures { IfOk result (λ ms. option_map (λ v. map message_content v.items) ms
+        ≡ all_messages (Some []) (map (λ p. map (λ w. w.now) p.now) parts.now)) }
+{
+    let mut messages = Some(Vec::new(alloc));
+    for part in parts {
+        messages = with_message(alloc, messages, part)?;
+    }
+    Ok(messages)
+}
+
+/// A message more, unless one was refused.
+fn with_message(
+    alloc: Global,
+    messages: Option<Vec<Message>>,
+    words: &[&[u8]],
+) -> Result<Option<Vec<Message>>, NoMemory>
+    ensures { IfOk result (λ ms. option_map (λ v. map message_content v.items) ms
+        ≡ with_message (option_map (λ v. map message_content v.items) messages) (map (λ w. w.now) words.now)) }
+{
+    let Some(mut messages) = messages else {
+        return Ok(None);
+    };
+    let Some(message) = message(alloc, words)? else {
+        return Ok(None);
+    };
+    messages.push(message)?;
+    Ok(Some(messages))
 }

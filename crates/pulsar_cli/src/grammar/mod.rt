@@ -3,6 +3,7 @@
 pub mod choice;
 pub mod line;
 pub mod message;
+pub mod producer;
 pub mod raw;
 pub mod setting;
 pub mod word;

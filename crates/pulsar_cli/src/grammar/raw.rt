@@ -12,11 +12,12 @@ ghost use Rattle.pulsar_cli.specs.RawLines.{ack, auth, close_consumer, close_pro
 
 use crate::grammar::choice::{cumulative, flag, mode, sub_type};
 use crate::grammar::message::message;
+use crate::grammar::producer::options;
 use crate::grammar::word::{
     hex_bytes, is, number, optional_bytes, optional_number, optional_text, small_number, text,
     word_bytes,
 };
-use pulsar_client::{Authentication, ConsumerOptions, ProducerOptions, RawCall};
+use pulsar_client::{Authentication, ConsumerOptions, RawCall};
 use pulsar_wire::encoding::message::decode;
 use pulsar_wire::encoding::read_error::ReadError;
 use pulsar_wire::{MessageIdData, NoMemory};
@@ -175,7 +176,7 @@ fn schema(alloc: Global, words: &[&[u8]]) -> Result<Option<RawCall>, NoMemory>
     Ok(Some(RawCall::GetSchema { topic, version }))
 }
 
-/// `producer TOPIC NUMBER NAME`
+/// `producer TOPIC NUMBER NAME ..`
 fn create_producer(alloc: Global, words: &[&[u8]]) -> Result<Option<RawCall>, NoMemory>
     ensures { IfOk result (λ c. option_map words_of c ≡ create_producer (map (λ w. w.now) words.now)) }
 {
@@ -188,7 +189,7 @@ fn create_producer(alloc: Global, words: &[&[u8]]) -> Result<Option<RawCall>, No
 fn producer_on(alloc: Global, topic: &[u8], words: &[&[u8]]) -> Result<Option<RawCall>, NoMemory>
     ensures { IfOk result (λ c. option_map words_of c ≡ producer_on topic.now (map (λ w. w.now) words.now)) }
 {
-    let [producer_id, word] = words else {
+    let [producer_id, word, rest @ ..] = words else {
         return Ok(None);
     };
     let Some(topic) = text(alloc, topic)? else {
@@ -200,11 +201,14 @@ fn producer_on(alloc: Global, topic: &[u8], words: &[&[u8]]) -> Result<Option<Ra
     let Some(name) = optional_text(alloc, word)? else {
         return Ok(None);
     };
+    let Some(options) = options(alloc, rest)? else {
+        return Ok(None);
+    };
     Ok(Some(RawCall::CreateProducer {
         topic,
         producer_id,
         name,
-        options: ProducerOptions::new(alloc),
+        options,
     }))
 }
 
@@ -234,7 +238,7 @@ fn send(alloc: Global, words: &[&[u8]]) -> Result<Option<RawCall>, NoMemory>
         producer_id,
         name,
         sequence_id,
-        message,
+        message: message.into(),
         block,
     }))
 }

@@ -4,7 +4,7 @@ ghost use Rattle.std.specs.Prelude.{◌≡◌, ◌∷◌, ◌++◌, Ok, OnOk, ma
 ghost use Rattle.pulsar_wire.specs.Row.{spelling};
 ghost use Rattle.pulsar_wire.specs.Rows.{send_receipt};
 ghost use Rattle.pulsar_wire.specs.Views.{body_values, send_receipt_values};
-ghost use Rattle.pulsar_client.specs.Content.{Addresses, Connect, Ends, Names, Queued, Receipt, Replies, Settles, Write, hands, said, shown};
+ghost use Rattle.pulsar_client.specs.Content.{Addresses, Connect, Ends, Names, Queued, Receipt, Replies, Sends, Settles, Write, hands, said, shown};
 ghost use Rattle.pulsar_plans.specs.Address.{named, place};
 ghost use Rattle.pulsar_link.specs.Messages.{body_bytes, written};
 ghost use Rattle.pulsar_cli.specs.Text as printed;
@@ -124,6 +124,7 @@ fn push_answer(out: &mut String, answer: &Result<Answer, Error>) -> Result<(), A
         Ok(Answer::Count(count)) => write!(out, "ok count {count}")?,
         Ok(Answer::Addresses(names)) => push_addresses(out, names)?,
         Ok(Answer::Receipt(receipt)) => push_receipt(out, receipt)?,
+        Ok(Answer::Sends(tickets)) => push_tickets(out, tickets)?,
         Ok(Answer::Replies(bodies)) => push_replies(out, bodies)?,
         Err(error) => {
             out.push_str("err ")?;
@@ -249,6 +250,18 @@ fn push_handed(out: &mut String, ticket: u64, handed: &Handed) -> Result<(), All
     push_hex(out, &metadata)?;
     out.push(' ')?;
     push_word(out, &handed.payload.bytes)
+}
+
+/// The tickets of messages that were sent together.
+fn push_tickets(out: &mut String, tickets: &[u64]) -> Result<(), AllocError>
+    ensures { OnOk result (string_bytes out.new ≡ string_bytes out.old ++ printed.answer (Sends tickets.now)) }
+{
+    let count = tickets.len();
+    write!(out, "ok sends {count}")?;
+    for ticket in tickets {
+        write!(out, " {ticket}")?;
+    }
+    Ok(())
 }
 
 /// The refusal of a line.

@@ -1,7 +1,12 @@
 //! The plans of those that have them.
 
 pub mod answers;
+pub mod gathering;
 pub mod plan;
+pub mod producing;
 pub mod search;
 pub mod search_state;
+pub mod sends;
+pub mod states;
 pub mod table;
+pub mod visiting;

@@ -101,7 +101,7 @@ fn stays(
 }
 
 /// What a search does.
-fn wished(alloc: Global, wish: Wish) -> Result<Action, NoMemory>
+pub fn wished(alloc: Global, wish: Wish) -> Result<Action, NoMemory>
     ensures { IfOk result (λ a. a ≡ wished wish) }
 {
     match wish {
@@ -168,7 +168,7 @@ fn asked(alloc: Global, request: Wanted) -> Result<Request, NoMemory>
 }
 
 /// What a search is told.
-fn news_in(alloc: Global, outcome: Outcome) -> Result<News, NoMemory>
+pub fn news_in(alloc: Global, outcome: Outcome) -> Result<News, NoMemory>
     ensures { IfOk result (λ n. n ≡ news_in outcome) }
 {
     match outcome {

@@ -24,6 +24,7 @@ impl Tables {
     pub(super) fn rings(&mut self, alarm: Alarm, tasks: &mut Tasks) -> Result<(), NoMemory>
         ensures left { OnOk result (AreTicketed self.old.tickets (subscription_at self.old.subscribers) → agenda_of tasks.new ≡ goes_on (view_of self.old) (Act.Comes (Part.Rings alarm)) (agenda_of tasks.old)) }
         ensures sees { OnOk result (view_of self.new ≡ after (Act.Comes (Part.Rings alarm)) (view_of self.old)) }
+        ensures settings { self.new.settings ≡ self.old.settings }
     {
         if !self.alarms.rings(self.clock, alarm) {
             return Ok(());
@@ -40,6 +41,7 @@ impl Tables {
     fn tries_again(&mut self, link: u64, tasks: &mut Tasks) -> Result<(), NoMemory>
         ensures left { OnOk result (agenda_of tasks.new ≡ record (agenda_of tasks.old) { now = rung (view_of self.old) (Alarm.Retry link) ++ tasks.old.now.items }) }
         ensures sees { OnOk result (view_of self.new ≡ rung_view (Alarm.Retry link) (view_of self.old)) }
+        ensures settings { self.new.settings ≡ self.old.settings }
     {
         self.alarms.clear(Alarm::Retry(link))?;
         let Some(pause) = self.addresses.take_pause(link) else {
@@ -61,6 +63,7 @@ impl Tables {
     fn wakes(&mut self, who: Who, tasks: &mut Tasks) -> Result<(), NoMemory>
         ensures left { OnOk result (agenda_of tasks.new ≡ record (agenda_of tasks.old) { behind = (agenda_of tasks.old).behind ++ map (arranged below) (opens (woken (Alarm.Wake who))) }) }
         ensures sees { OnOk result (view_of self.new ≡ rung_view (Alarm.Wake who) (view_of self.old)) }
+        ensures settings { self.new.settings ≡ self.old.settings }
     {
         self.alarms.clear(Alarm::Wake(who))?;
         let mut notices = Vec::new(self.alloc);
@@ -75,6 +78,7 @@ impl Tables {
     fn keeps_alive(&mut self, link: u64, tasks: &mut Tasks) -> Result<(), NoMemory>
         ensures left { OnOk result (agenda_of tasks.new ≡ record (agenda_of tasks.old) { now = rung (view_of self.old) (Alarm.KeepAlive link) ++ tasks.old.now.items }) }
         ensures sees { OnOk result (view_of self.new ≡ rung_view (Alarm.KeepAlive link) (view_of self.old)) }
+        ensures settings { self.new.settings ≡ self.old.settings }
     {
         let moment = later(self.clock, self.settings.connection.keep_alive);
         self.alarms.set(Alarm::KeepAlive(link), moment)?;
@@ -91,11 +95,14 @@ impl Tables {
     fn checks_idle(&mut self, tasks: &mut Tasks) -> Result<(), NoMemory>
         ensures left { OnOk result (AreTicketed self.old.tickets (subscription_at self.old.subscribers) → agenda_of tasks.new ≡ record (agenda_of tasks.old) { now = rung (view_of self.old) Alarm.CheckIdle ++ tasks.old.now.items }) }
         ensures sees { OnOk result (view_of self.new ≡ rung_view Alarm.CheckIdle (view_of self.old)) }
+        ensures settings { self.new.settings ≡ self.old.settings }
     {
         self.alarms
             .set(Alarm::CheckIdle, later(self.clock, IDLE_PERIOD))?;
         let most = self.settings.connection.connection_max_idle;
-        let acts = self.links.idle_acts(self.clock, most, &self.subscribers)?;
+        let acts = self
+            .links
+            .idle_acts(self.clock, most, &self.subscribers, &self.producers)?;
         tasks.put_all(acts)
     }
 
@@ -103,9 +110,11 @@ impl Tables {
     pub(super) fn stops(&mut self, who: Who, tasks: &mut Tasks) -> Result<(), NoMemory>
         ensures left { OnOk result (agenda_of tasks.new ≡ goes_on (view_of self.old) (Act.Does who Action.StopAll) (agenda_of tasks.old)) }
         ensures sees { OnOk result (view_of self.new ≡ after (Act.Does who Action.StopAll) (view_of self.old)) }
+        ensures settings { self.new.settings ≡ self.old.settings }
     {
         self.is_stopped = true;
-        let notices = self.stop_alarms()?;
+        let mut notices = self.stop_alarms()?;
+        self.producers.stop(&mut notices)?;
         tell(who, Outcome::Stopped, tasks)?;
         tasks.put_all(self.links.stop_acts()?)?;
         tasks.open(notices)
@@ -115,6 +124,7 @@ impl Tables {
     fn stop_alarms(&mut self) -> Result<Vec<Notice>, NoMemory>
         ensures notices { IfOk result (λ ns. ns.items ≡ flat_map (λ e. stopped_with (addresses_of self.old.addresses) e.0) self.old.alarms) }
         ensures sees { OnOk result (view_of self.new ≡ unset_view (view_of self.old)) }
+        ensures settings { self.new.settings ≡ self.old.settings }
     {
         let all = self.alarms.all()?;
         let notices = stopped_with(self.alloc, &self.addresses, &all)?;

@@ -1,14 +1,16 @@
 //! Calls and their plans.
 
-ghost use Rattle.std.specs.Prelude.{◌≡◌, ◌==◌, ◌++◌, ◌∷◌, ℕ, map, IfOk, None, OnOk, string_bytes, true, if◌then◌else◌};
+ghost use Rattle.std.specs.Prelude.{◌≡◌, ◌==◌, ◌+◌, ◌&&◌, ◌++◌, ◌∷◌, not, map, IfOk, MatchBool, None, Some, OnOk, string_bytes, true, false, if◌then◌else◌};
 ghost use Rattle.pulsar_client.specs.Alarms.{set};
-ghost use Rattle.pulsar_client.specs.Content.{asked, shown};
+ghost use Rattle.pulsar_client.specs.Content.{Build, asked, lacks_tickets, shares, shown};
 ghost use Rattle.pulsar_client.specs.Effects.{effects};
-ghost use Rattle.pulsar_client.specs.Rules.{asks_topics, builds_with, does, follows, from_base, notice, procedure_for, searches, unless_refused};
-ghost use Rattle.pulsar_client.specs.Run.{goes_on};
-ghost use Rattle.pulsar_client.specs.Subscribers.{subscription_at};
-ghost use Rattle.pulsar_client.specs.Tables.{agenda_of, chosen_of, opened_calls, stand_of, view_of};
-ghost use Rattle.pulsar_client.specs.View.{after, builds, later, made, stays, ways_of};
+ghost use Rattle.pulsar_link.specs.RawCall.{words_of};
+ghost use Rattle.pulsar_link.specs.Request.{named_producer};
+ghost use Rattle.pulsar_client.specs.Producers.{called_on, names_in, opened_on};
+ghost use Rattle.pulsar_client.specs.Rules.{asks_raw, asks_topics, builds_with, does, follows, from_base, is_taken, notice, parts_of, procedure_for, searches, unless_refused};
+ghost use Rattle.pulsar_client.specs.Run.{goes_on, ticket_for};
+ghost use Rattle.pulsar_client.specs.Tables.{agenda_of, chosen_of, stand_of, view_of};
+ghost use Rattle.pulsar_client.specs.View.{after, alarms_built, builds, later, may_call, stays, ways_of};
 ghost use Rattle.pulsar_client.specs.Who.{is_same};
 ghost use Rattle.pulsar_client.specs.declared.act.Who.{Who as Meant};
 
@@ -17,9 +19,7 @@ use crate::act::{
 };
 use crate::addresses::Series;
 use crate::agenda::Tasks;
-use crate::consumers::subscriber::Subscriber;
-use crate::consumers::subscribers::Subscribers;
-use crate::content::Asking;
+use crate::content::{Advice, Asking};
 use crate::effect::Effect;
 use crate::event::Call;
 use crate::plans::plan::{Plan, Turn, begins, failure, told};
@@ -32,38 +32,70 @@ use pulsar_plans::content::{Address, Text as Topic};
 use pulsar_plans::plan::Procedure as Sought;
 use pulsar_wire::commands::topics::Mode;
 use pulsar_wire::error::{ConnectionError, NoMemory};
-use std::alloc::Global;
+use std::collections::VecDeque;
 
 impl Tables {
-    /// A call is made with the next ticket, unless the tickets are spent.
-    pub(super) fn calls(&mut self, asking: Asking, tasks: &mut Tasks) -> Result<(), NoMemory>
-        ensures left { OnOk result (agenda_of tasks.new ≡ goes_on (view_of self.old) (Act.Comes (Part.Calls asking)) (agenda_of tasks.old)) }
-        ensures sees { OnOk result (view_of self.new ≡ after (Act.Comes (Part.Calls asking)) (view_of self.old)) }
+    /// A call is made with the next ticket, and its parts with those behind it, unless fewer are left.
+    pub(super) fn calls(
+        &mut self,
+        asking: Asking,
+        advice: Advice,
+        tasks: &mut Tasks,
+    ) -> Result<(), NoMemory>
+        ensures left { OnOk result (agenda_of tasks.new ≡ goes_on (view_of self.old) (Act.Comes (Part.Calls asking advice)) (agenda_of tasks.old)) }
+        ensures sees { OnOk result (view_of self.new ≡ after (Act.Comes (Part.Calls asking advice)) (view_of self.old)) }
+        ensures settings { self.new.settings ≡ self.old.settings }
     {
-        let who = Who::Call(self.tickets);
-        if self.tickets == u64::MAX {
+        let Some(next) = next_ticket(self.tickets, shares(asking.call())) else {
+            let who = Who::Call(u64::MAX);
             let verdict = failure(self.alloc, ConnectionError::Exhausted)?;
             return tasks.put(Act::Answers { who, verdict });
-        }
-        let procedure = self.procedure_for(asking)?;
-        self.tickets += 1;
+        };
+        let who = Who::Call(self.tickets);
+        let mut parts = VecDeque::new(self.alloc);
+        let procedure = self.procedure_for(asking, advice, &mut parts)?;
+        self.tickets = next;
+        tasks.put_all(parts)?;
         tasks.put(Act::Starts { who, procedure })
     }
 
-    /// The procedure of a call.
-    fn procedure_for(&self, asking: Asking) -> Result<Procedure, NoMemory>
-        ensures { IfOk result (λ p. p ≡ procedure_for (view_of self.now).chosen (view_of self.now).calls asking) }
+    /// The ticket of a call that comes next: the greatest where too few are left.
+    pub fn ticket_for(&self, call: &Call) -> u64
+        ensures { result ≡ ticket_for (asked call.now) self.now.tickets }
     {
-        let is_open = self.is_built && !self.is_stopped;
-        match asking.into_inner() {
-            Call::Build => self.builds_if(!self.is_stopped),
-            call => {
-                if !is_open {
-                    return Ok(Procedure::Refuse(Refusal::Shutdown));
-                }
-                self.opened(call)
-            }
+        match next_ticket(self.tickets, shares(call)) {
+            Some(_) => self.tickets,
+            None => u64::MAX,
         }
+    }
+
+    /// The client is built, and was not stopped.
+    pub(super) fn is_open(&self) -> bool
+        ensures { result ≡ may_call (view_of self.now).calls }
+    {
+        self.is_built && !self.is_stopped
+    }
+
+    /// The procedure of a call, and how its parts begin. A send finds its partition.
+    fn procedure_for(
+        &mut self,
+        asking: Asking,
+        advice: Advice,
+        parts: &mut VecDeque<Act>,
+    ) -> Result<Procedure, NoMemory>
+        requires { lacks_tickets self.old.tickets (shares asking) ≡ false }
+        ensures procedure { IfOk result (λ p. p ≡ procedure_for (view_of self.old).chosen (view_of self.old).calls (view_of self.old).producers advice asking) }
+        ensures parts { OnOk result (parts.new.items ≡ parts.old.items ++ parts_of (view_of self.old) advice asking) }
+        ensures after { OnOk result (view_of self.new ≡ record (view_of self.old) { producers = called_on (may_call (view_of self.old).calls) asking (view_of self.old).producers }) }
+        ensures settings { self.new.settings ≡ self.old.settings }
+    {
+        if is_build(asking.call()) {
+            return self.builds_if(!self.is_stopped);
+        }
+        if !self.is_open() {
+            return Ok(Procedure::Refuse(Refusal::Shutdown));
+        }
+        self.opened(asking, advice, parts)
     }
 
     /// A Build, unless it is refused.
@@ -82,23 +114,69 @@ impl Tables {
         }
     }
 
-    /// The procedure of a call that an open client makes.
-    fn opened(&self, call: Call) -> Result<Procedure, NoMemory>
-        ensures { IfOk result (λ p. p ≡ procedure_for (view_of self.now).chosen opened_calls (asked call)) }
+    /// The same of a call that an open client makes.
+    fn opened(
+        &mut self,
+        asking: Asking,
+        mut advice: Advice,
+        parts: &mut VecDeque<Act>,
+    ) -> Result<Procedure, NoMemory>
+        requires allowed { may_call (view_of self.old).calls ≡ true }
+        requires tickets { lacks_tickets self.old.tickets (shares asking) ≡ false }
+        ensures procedure { IfOk result (λ p. p ≡ procedure_for (view_of self.old).chosen (view_of self.old).calls (view_of self.old).producers advice asking) }
+        ensures parts { OnOk result (parts.new.items ≡ parts.old.items ++ parts_of (view_of self.old) advice asking) }
+        ensures after { OnOk result (view_of self.new ≡ record (view_of self.old) { producers = opened_on asking (view_of self.old).producers }) }
+        ensures settings { self.new.settings ≡ self.old.settings }
     {
-        match call {
+        match asking.into_inner() {
             Call::Build => self.builds_if(true),
             Call::Stop => Ok(Procedure::Stop),
             Call::Topics { namespace, mode } => self.topics(namespace, mode),
             Call::Lookup { topic } => self.searches(Sought::Look(Topic::new(topic))),
             Call::Partitions { topic } => self.searches(Sought::CountPartitions(Topic::new(topic))),
             Call::Brokers { topic } => self.searches(Sought::Name(Topic::new(topic))),
-            Call::Raw { link, call } => Ok(Procedure::Ask {
-                place: Place::Link(link),
-                request: Request::new(self.alloc, call)?,
-                says: Says::Bodies,
-            }),
+            Call::Producer(builder) => self.produces(builder),
+            Call::Send { producer, message } => self.sends(producer, message, advice.next()),
+            Call::SendAll { producer, messages } => {
+                self.sends_all(producer, messages, advice, parts)
+            }
+            Call::Flush { producer } => Ok(self.flushes(producer)),
+            Call::CheckProducer { producer } => self.checks(producer),
+            Call::CloseProducer { producer } => self.closes(producer),
+            Call::Raw { link, call } => self.raw(link, call),
         }
+    }
+
+    /// A request on a link. A number of a producer that it names is not given to a producer of the client, and not one of those.
+    fn raw(&mut self, link: u64, call: RawCall) -> Result<Procedure, NoMemory>
+        ensures procedure { IfOk result (λ p. p ≡ asks_raw (view_of self.old).producers link (words_of call)) }
+        ensures after { OnOk result (view_of self.new ≡ record (view_of self.old) { producers = names_in (named_producer (words_of call)) (view_of self.old).producers }) }
+        ensures settings { self.new.settings ≡ self.old.settings }
+    {
+        let number = call.named_producer();
+        let request = Request::new(self.alloc, call)?;
+        if self.names(number)? {
+            return Ok(Procedure::Refuse(Refusal::NumberInUse));
+        }
+        Ok(Procedure::Ask {
+            place: Place::Link(link),
+            request,
+            says: Says::Bodies,
+        })
+    }
+
+    /// A raw call names a number of a producer, or none. A producer of the client has it.
+    fn names(&mut self, number: Option<u64>) -> Result<bool, NoMemory>
+        ensures taken { IfOk result (λ b. b ≡ is_taken (view_of self.old).producers number) }
+        ensures after { OnOk result (view_of self.new ≡ record (view_of self.old) { producers = names_in number (view_of self.old).producers }) }
+        ensures settings { self.new.settings ≡ self.old.settings }
+    {
+        let Some(number) = number else {
+            return Ok(false);
+        };
+        let is_used = self.producers.is_used(number);
+        self.producers.name(number)?;
+        Ok(is_used)
     }
 
     /// The topics of a namespace, from the address of the service.
@@ -137,6 +215,7 @@ impl Tables {
     ) -> Result<(), NoMemory>
         ensures left { OnOk result (agenda_of tasks.new ≡ goes_on (view_of self.old) (Act.Starts who procedure) (agenda_of tasks.old)) }
         ensures sees { OnOk result (view_of self.new ≡ after (Act.Starts who procedure) (view_of self.old)) }
+        ensures settings { self.new.settings ≡ self.old.settings }
     {
         let turn = begins(self.alloc, procedure)?;
         follow(&mut self.plans, who, turn, tasks)
@@ -151,6 +230,7 @@ impl Tables {
     ) -> Result<(), NoMemory>
         ensures left { OnOk result (agenda_of tasks.new ≡ goes_on (view_of self.old) (Act.Told (record { who = who; outcome = outcome })) (agenda_of tasks.old)) }
         ensures sees { OnOk result (view_of self.new ≡ after (Act.Told (record { who = who; outcome = outcome })) (view_of self.old)) }
+        ensures settings { self.new.settings ≡ self.old.settings }
     {
         let Some(plan) = self.plans.remove(who) else {
             return Ok(());
@@ -170,11 +250,21 @@ impl Tables {
         ensures out { OnOk result (map shown out.new.items ≡ map shown out.old.items ++ effects (view_of self.old) (Act.Does who action)) }
         ensures left { OnOk result (agenda_of tasks.new ≡ goes_on (view_of self.old) (Act.Does who action) (agenda_of tasks.old)) }
         ensures sees { OnOk result (view_of self.new ≡ after (Act.Does who action) (view_of self.old)) }
+        ensures settings { self.new.settings ≡ self.old.settings }
     {
         match action {
             Action::Get(address) => self.gets(who, address, tasks),
             Action::Ask { link, request } => self.asks(who, link, request, tasks, out),
             Action::Wait(delay) => self.alarms.set(Alarm::Wake(who), later(self.clock, delay)),
+            Action::TakeTurn(number) => self.takes_turn(who, number, tasks),
+            Action::PassTurn(number) => self.passes_turn(who, number, tasks),
+            Action::Draw(number) => self.draws(who, number, tasks),
+            Action::Recall(number) => self.recalls(who, number, tasks),
+            Action::Remake(remade) => self.remakes(who, remade, tasks),
+            Action::Number => self.numbers(who, tasks),
+            Action::Find(number) => self.finds(who, number, tasks),
+            Action::Shut(producer) => self.shuts(who, producer, tasks),
+            Action::Tell(notice) => self.tells(who, notice, tasks),
             Action::StopAll => self.stops(who, tasks),
             Action::Rest => Ok(()),
         }
@@ -185,6 +275,7 @@ impl Tables {
     fn gets(&mut self, who: Who, address: Address, tasks: &mut Tasks) -> Result<(), NoMemory>
         ensures left { OnOk result (agenda_of tasks.new ≡ goes_on (view_of self.old) (Act.Does who (Action.Get address)) (agenda_of tasks.old)) }
         ensures sees { OnOk result (view_of self.new ≡ after (Act.Does who (Action.Get address)) (view_of self.old)) }
+        ensures settings { self.new.settings ≡ self.old.settings }
     {
         if !address.is_reachable() {
             return tell(who, Outcome::NotFound, tasks);
@@ -221,6 +312,7 @@ impl Tables {
         ensures out { OnOk result (map shown out.new.items ≡ map shown out.old.items ++ effects (view_of self.old) (Act.Does who (Action.Ask link request))) }
         ensures left { OnOk result (agenda_of tasks.new ≡ goes_on (view_of self.old) (Act.Does who (Action.Ask link request)) (agenda_of tasks.old)) }
         ensures sees { OnOk result (view_of self.new ≡ after (Act.Does who (Action.Ask link request)) (view_of self.old)) }
+        ensures settings { self.new.settings ≡ self.old.settings }
     {
         let closed = request.closed_consumer();
         let (is_asked, outcome) = self.links.ask(self.clock, who, link, request, out)?;
@@ -237,14 +329,11 @@ impl Tables {
     ) -> Result<(), NoMemory>
         ensures out { OnOk result (map shown out.new.items ≡ map shown out.old.items ++ effects (view_of self.old) (Act.Answers who verdict)) }
         ensures sees { OnOk result (view_of self.new ≡ after (Act.Answers who verdict) (view_of self.old)) }
+        ensures settings { self.new.settings ≡ self.old.settings }
     {
         let Verdict { makes, said } = verdict;
-        if builds(&makes, false) && !self.is_built {
-            self.alarms
-                .set(Alarm::CheckIdle, later(self.clock, IDLE_PERIOD))?;
-        }
-        self.is_built = builds(&makes, self.is_built);
-        make(&mut self.subscribers, self.alloc, who, makes)?;
+        self.builds(&makes)?;
+        self.makes(who, makes)?;
         match who {
             Who::Call(ticket) => out.push(Effect::Ended {
                 ticket,
@@ -252,6 +341,22 @@ impl Tables {
             })?,
         }
         Ok(())
+    }
+
+    /// The client is built where a verdict makes it. With the first such the idle check begins.
+    fn builds(&mut self, makes: &Makes) -> Result<(), NoMemory>
+        ensures sees { OnOk result (view_of self.new ≡ record (view_of self.old) { calls = record { drawn = self.old.tickets; is_built = builds makes.now self.old.is_built; is_stopped = self.old.is_stopped }; alarms = alarms_built self.old.clock (not self.old.is_built && builds makes.now false) self.old.alarms }) }
+        ensures settings { self.new.settings ≡ self.old.settings }
+    {
+        if self.is_built {
+            return Ok(());
+        }
+        if !builds(makes, false) {
+            return Ok(());
+        }
+        self.is_built = true;
+        self.alarms
+            .set(Alarm::CheckIdle, later(self.clock, IDLE_PERIOD))
     }
 }
 
@@ -299,30 +404,46 @@ fn builds(makes: &Makes, is_built: bool) -> bool
 {
     match makes {
         Makes::Client => true,
-        Makes::Nothing | Makes::Consumer { .. } => is_built,
+        Makes::Nothing | Makes::Consumer { .. } | Makes::Producer(_) => is_built,
     }
 }
 
-/// The consumer that a verdict makes has the ticket of its call.
-fn make(
-    subscribers: &mut Subscribers,
-    alloc: Global,
-    who: Who,
-    makes: Makes,
-) -> Result<(), NoMemory>
-    ensures { OnOk result ((t : ℕ) → subscription_at subscribers.new t ≡ made who makes t (subscription_at subscribers.old t)) }
+fn is_build(call: &Call) -> bool
+    ensures { MatchBool result (asked call.now ≡ Build) (asked call.now ≡ Build → ⊥) }
 {
-    match makes {
-        Makes::Nothing | Makes::Client => Ok(()),
-        Makes::Consumer {
-            link,
-            number,
-            topic,
-        } => match who {
-            Who::Call(ticket) => {
-                let subscriber = Subscriber::new(alloc, link, number, topic);
-                subscribers.join(alloc, ticket, subscriber)
-            }
-        },
+    match call {
+        Call::Build => true,
+        _ => false,
     }
+}
+
+/// How many parts a call has, each with a ticket of its own.
+fn shares(call: &Call) -> u64
+    ensures { result ≡ shares (asked call.now) }
+{
+    match call {
+        Call::SendAll {
+            producer: _,
+            messages,
+        } => messages.len() as u64,
+        Call::Build
+        | Call::Stop
+        | Call::Topics { .. }
+        | Call::Lookup { .. }
+        | Call::Partitions { .. }
+        | Call::Brokers { .. }
+        | Call::Producer(_)
+        | Call::Send { .. }
+        | Call::Flush { .. }
+        | Call::CheckProducer { .. }
+        | Call::CloseProducer { .. }
+        | Call::Raw { .. } => 0,
+    }
+}
+
+/// The ticket behind that of a call and those of its parts. There is none where fewer are left: the greatest is never drawn.
+fn next_ticket(ticket: u64, shares: u64) -> Option<u64>
+    ensures { result ≡ (if lacks_tickets ticket shares then None else Some (ticket + 1 + shares)) }
+{
+    ticket.checked_add(shares)?.checked_add(1)
 }

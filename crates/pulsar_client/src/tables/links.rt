@@ -1,7 +1,7 @@
 //! What comes to links.
 
 ghost use Rattle.std.specs.Option.{option_map};
-ghost use Rattle.std.specs.Prelude.{◌≡◌, ◌++◌, ◌∷◌, [], ℕ, List, map, OnOk};
+ghost use Rattle.std.specs.Prelude.{◌≡◌, ◌++◌, ◌∷◌, [], ℕ, map, OnOk};
 ghost use Rattle.pulsar_client.specs.Content.{shown};
 ghost use Rattle.pulsar_client.specs.Effects.{effects};
 ghost use Rattle.pulsar_client.specs.Kept.{addresses_of, live_in};
@@ -33,6 +33,7 @@ impl Tables {
         ensures out { OnOk result (map shown out.new.items ≡ map shown out.old.items ++ effects (view_of self.old) (Act.Comes (Part.ToLink link act))) }
         ensures left { OnOk result (agenda_of tasks.new ≡ goes_on (view_of self.old) (Act.Comes (Part.ToLink link act)) (agenda_of tasks.old)) }
         ensures sees { OnOk result (view_of self.new ≡ after (Act.Comes (Part.ToLink link act)) (view_of self.old)) }
+        ensures settings { self.new.settings ≡ self.old.settings }
     {
         match act {
             LinkAct::Opens => self.opens(link, out),
@@ -47,6 +48,7 @@ impl Tables {
     fn pings(&mut self, link: u64, out: &mut Vec<Effect>) -> Result<(), NoMemory>
         ensures out { OnOk result (map shown out.new.items ≡ map shown out.old.items ++ effects (view_of self.old) (Act.Comes (Part.ToLink link LinkAct.Pings))) }
         ensures sees { OnOk result (view_of self.new ≡ after (Act.Comes (Part.ToLink link LinkAct.Pings)) (view_of self.old)) }
+        ensures settings { self.new.settings ≡ self.old.settings }
     {
         self.links.ping(self.clock, link, out)
     }
@@ -55,6 +57,7 @@ impl Tables {
     fn opens(&mut self, link: u64, out: &mut Vec<Effect>) -> Result<(), NoMemory>
         ensures out { OnOk result (map shown out.new.items ≡ map shown out.old.items ++ effects (view_of self.old) (Act.Comes (Part.ToLink link LinkAct.Opens))) }
         ensures sees { OnOk result (view_of self.new ≡ after (Act.Comes (Part.ToLink link LinkAct.Opens)) (view_of self.old)) }
+        ensures settings { self.new.settings ≡ self.old.settings }
     {
         self.links.open(self.clock, link, out)
     }
@@ -64,6 +67,7 @@ impl Tables {
         ensures out { OnOk result (map shown out.new.items ≡ map shown out.old.items ++ effects (view_of self.old) (Act.Comes (Part.ToLink link LinkAct.Reads))) }
         ensures left { OnOk result (agenda_of tasks.new ≡ goes_on (view_of self.old) (Act.Comes (Part.ToLink link LinkAct.Reads)) (agenda_of tasks.old)) }
         ensures sees { OnOk result (view_of self.new ≡ after (Act.Comes (Part.ToLink link LinkAct.Reads)) (view_of self.old)) }
+        ensures settings { self.new.settings ≡ self.old.settings }
     {
         let (arrival, mut notices) = self.links.read(self.clock, link, out)?;
         self.welcomes(link, &arrival, &mut notices)?;
@@ -81,6 +85,7 @@ impl Tables {
     ) -> Result<(), NoMemory>
         ensures notices { OnOk result (notices.new.items ≡ notices.old.items ++ waiters_of served_on (addresses_of self.old.addresses) (welcomed link arrival.now (live_in self.old.links.live link))) }
         ensures sees { OnOk result (view_of self.new ≡ turned_view (welcomed link arrival.now (live_in self.old.links.live link)) (view_of self.old)) }
+        ensures settings { self.new.settings ≡ self.old.settings }
     {
         match arrival {
             Arrival::Readied => self.readied(link, notices),
@@ -95,6 +100,7 @@ impl Tables {
     fn readied(&mut self, link: u64, notices: &mut Vec<Notice>) -> Result<(), NoMemory>
         ensures notices { OnOk result (notices.new.items ≡ notices.old.items ++ waiters_of served_on (addresses_of self.old.addresses) (welcomed link Arrival.Readied (live_in self.old.links.live link))) }
         ensures sees { OnOk result (view_of self.new ≡ turned_view (welcomed link Arrival.Readied (live_in self.old.links.live link)) (view_of self.old)) }
+        ensures settings { self.new.settings ≡ self.old.settings }
     {
         let Some(address) = self.links.address(link)? else {
             return Ok(());
@@ -109,6 +115,7 @@ impl Tables {
         ensures left { OnOk result (agenda_of tasks.new ≡ record (agenda_of tasks.old) { now = breaks_at link arrival ++ tasks.old.now.items }) }
         ensures heard { OnOk result ((t : ℕ) → subscription_at self.new.subscribers t ≡ option_map (hears link arrival) (subscription_at self.old.subscribers t)) }
         ensures sees { OnOk result (view_of self.new ≡ record (view_of self.old) { consumers = subscription_at self.new.subscribers }) }
+        ensures settings { self.new.settings ≡ self.old.settings }
     {
         match arrival {
             Arrival::Bad(cause) => tasks.put(Act::Comes(Part::ToLink {
@@ -130,6 +137,7 @@ impl Tables {
         ensures out { OnOk result (map shown out.new.items ≡ map shown out.old.items ++ effects (view_of self.old) (Act.Comes (Part.ToLink link (LinkAct.Drains most)))) }
         ensures left { OnOk result (agenda_of tasks.new ≡ goes_on (view_of self.old) (Act.Comes (Part.ToLink link (LinkAct.Drains most))) (agenda_of tasks.old)) }
         ensures sees { OnOk result (view_of self.new ≡ after (Act.Comes (Part.ToLink link (LinkAct.Drains most))) (view_of self.old)) }
+        ensures settings { self.new.settings ≡ self.old.settings }
     {
         let notices = self.links.drain(self.clock, link, most, out)?;
         tasks.open_each(notices)
@@ -146,6 +154,7 @@ impl Tables {
         ensures out { OnOk result (map shown out.new.items ≡ map shown out.old.items ++ effects (view_of self.old) (Act.Comes (Part.ToLink link (LinkAct.Ends end)))) }
         ensures left { OnOk result (agenda_of tasks.new ≡ goes_on (view_of self.old) (Act.Comes (Part.ToLink link (LinkAct.Ends end))) (agenda_of tasks.old)) }
         ensures sees { OnOk result (view_of self.new ≡ after (Act.Comes (Part.ToLink link (LinkAct.Ends end))) (view_of self.old)) }
+        ensures settings { self.new.settings ≡ self.old.settings }
     {
         let Some((address, mut notices)) = self.links.end(self.clock, link, &end, out)? else {
             return Ok(());
@@ -167,6 +176,7 @@ impl Tables {
     ) -> Result<(), NoMemory>
         ensures out { OnOk result (map shown out.new.items ≡ map shown out.old.items ++ retry_shown (chosen_of self.old.settings) link again) }
         ensures sees { OnOk result (view_of self.new ≡ record (view_of self.old) { alarms = retry_set (chosen_of self.old.settings) self.old.clock link again self.old.alarms }) }
+        ensures settings { self.new.settings ≡ self.old.settings }
     {
         let Some(retries) = again else {
             return Ok(());
@@ -187,6 +197,7 @@ impl Tables {
     ) -> Result<(), NoMemory>
         ensures out { OnOk result (map shown out.new.items ≡ map shown out.old.items ++ effects (view_of self.old) (Act.Dials address starter retries)) }
         ensures sees { OnOk result (view_of self.new ≡ after (Act.Dials address starter retries) (view_of self.old)) }
+        ensures settings { self.new.settings ≡ self.old.settings }
     {
         let link = self.links.started;
         connect(self.alloc, &address, link, out)?;

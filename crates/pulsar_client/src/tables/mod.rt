@@ -2,18 +2,22 @@
 
 ghost use Rattle.std.specs.Prelude.{◌≡◌, ◌++◌, ◌∷◌, [], List, map, IfOk, None, OnOk, true};
 ghost use Rattle.pulsar_run.specs.Order.{arranged};
-ghost use Rattle.pulsar_client.specs.Content.{Heard, heard, shown};
+ghost use Rattle.pulsar_client.specs.Content.{Heard, asked, heard, shown};
 ghost use Rattle.pulsar_client.specs.Effects.{effect_below, effects};
 ghost use Rattle.pulsar_client.specs.Kept.{AreTicketed};
-ghost use Rattle.pulsar_client.specs.Rules.{parts};
+ghost use Rattle.pulsar_client.specs.Rules.{brings, call_part};
 ghost use Rattle.pulsar_client.specs.Run.{Step, goes_on};
+ghost use Rattle.pulsar_producer.specs.Routing.{Policy};
 ghost use Rattle.pulsar_client.specs.Subscribers.{subscription_at};
 ghost use Rattle.pulsar_client.specs.Tables.{InStep, Stands, agenda_of, chosen_of, step, view_of};
-ghost use Rattle.pulsar_client.specs.View.{Chosen, after, begun, is_live};
+ghost use Rattle.pulsar_client.specs.View.{Options, after, begun, is_live};
 
 mod alarms;
 mod calls;
 mod links;
+mod making;
+mod producers;
+mod sends;
 
 use crate::act::{Act, Alarm, End, LinkAct, Notice, Part};
 use crate::addresses::Addresses;
@@ -26,7 +30,9 @@ use crate::event::{Call, Event};
 use crate::links::Links;
 use crate::order::arrange;
 use crate::plans::table::Plans;
+use crate::producers::Producers;
 use crate::settings::Settings;
+use pulsar_producer::CustomRoutingPolicy;
 use pulsar_session::states::Stage;
 use pulsar_wire::error::NoMemory;
 use std::alloc::Global;
@@ -50,13 +56,15 @@ pub struct Tables {
     pub addresses: Addresses,
     pub alarms: Alarms,
     pub subscribers: Subscribers,
+    pub producers: Producers,
 }
 
 impl Tables {
     pub fn new(alloc: Global, settings: Settings) -> Tables
-        ensures { Stands (chosen_of settings) result [] }
+        ensures { (policies : List Policy) → Stands (record { chosen = chosen_of settings; policies = policies }) result [] }
     {
         let clock = settings.start;
+        let first_number = settings.first_number;
         Tables {
             alloc,
             settings,
@@ -69,6 +77,7 @@ impl Tables {
             addresses: Addresses::new(alloc),
             alarms: Alarms::new(alloc),
             subscribers: Subscribers::new(alloc),
+            producers: Producers::new(alloc, first_number),
         }
     }
 
@@ -94,12 +103,17 @@ impl Tables {
     }
 
     /// One live event, with all that arises from it.
-    pub fn step(&mut self, event: Event) -> Result<Vec<Effect>, NoMemory>
+    pub fn step(
+        &mut self,
+        event: Event,
+        policies: &[Box<dyn CustomRoutingPolicy>],
+    ) -> Result<Vec<Effect>, NoMemory>
         requires { is_live (view_of self.old) (heard event) ≡ true }
-        ensures { IfOk result (λ out. (o : Chosen) (h : List Step) → Stands o self.old h → Stands o self.new (step event out.items ∷ h)) }
+        ensures stands { IfOk result (λ out. (o : Options) (h : List Step) → o.policies ≡ map (λ p. routes p) policies.now → Stands o self.old h → Stands o self.new (step event out.items ∷ h)) }
+        ensures settings { self.new.settings ≡ self.old.settings }
     {
         let mut out = Vec::new(self.alloc);
-        let parts = self.begins(event)?;
+        let parts = self.begins(event, policies)?;
         let mut tasks = Tasks::new(self.alloc, parts);
         self.work(&mut tasks, &mut out)?;
         arrange(&mut out)?;
@@ -107,13 +121,18 @@ impl Tables {
     }
 
     /// A live event begins: what it brings.
-    fn begins(&mut self, event: Event) -> Result<VecDeque<Part>, NoMemory>
+    fn begins(
+        &mut self,
+        event: Event,
+        policies: &[Box<dyn CustomRoutingPolicy>],
+    ) -> Result<VecDeque<Part>, NoMemory>
         requires { is_live (view_of self.old) (heard event) ≡ true }
-        ensures parts { IfOk result (λ ps. ps.items ≡ parts (view_of self.old) (heard event)) }
+        ensures parts { IfOk result (λ ps. ps.items ≡ brings (map (λ p. routes p) policies.now) (view_of self.old) (heard event)) }
         ensures sees { OnOk result (view_of self.new ≡ begun (heard event) (view_of self.old)) }
+        ensures settings { self.new.settings ≡ self.old.settings }
     {
         match event {
-            Event::Call(call) => one(self.alloc, Part::Calls(Asking::new(self.alloc, call)?)),
+            Event::Call(call) => one(self.alloc, self.call_part(call, policies)?),
             Event::Opened(link) => to_link(self.alloc, link, LinkAct::Opens),
             Event::Failed(link, kind) => ends(self.alloc, link, End::Unopened(kind)),
             Event::Bytes(link, piece) => {
@@ -131,9 +150,23 @@ impl Tables {
         }
     }
 
+    /// A call, for which the policies are asked.
+    fn call_part(
+        &self,
+        call: Call,
+        policies: &[Box<dyn CustomRoutingPolicy>],
+    ) -> Result<Part, NoMemory>
+        ensures { IfOk result (λ p. p ≡ call_part (map (λ p. routes p) policies.now) (view_of self.now) (asked call)) }
+    {
+        let asking = Asking::new(self.alloc, call)?;
+        let advice = self.advice(asking.call(), policies)?;
+        Ok(Part::Calls(asking, advice))
+    }
+
     /// Does all that is left to do, and all that arises from it.
     fn work(&mut self, tasks: &mut Tasks, out: &mut Vec<Effect>) -> Result<(), NoMemory>
-        ensures { OnOk result ((o : Chosen) (e : Heard) (h : List Step) → InStep o self.old (agenda_of tasks.old) e (map shown out.old.items) h → Stands o self.new (record { event = e; effects = arranged effect_below (map shown out.new.items) } ∷ h)) }
+        ensures stands { OnOk result ((o : Options) (e : Heard) (h : List Step) → InStep o self.old (agenda_of tasks.old) e (map shown out.old.items) h → Stands o self.new (record { event = e; effects = arranged effect_below (map shown out.new.items) } ∷ h)) }
+        ensures settings { self.new.settings ≡ self.old.settings }
     {
         for _ in 0..u64::MAX {
             match tasks.next() {
@@ -149,9 +182,10 @@ impl Tables {
         ensures out { OnOk result (map shown out.new.items ≡ map shown out.old.items ++ effects (view_of self.old) act) }
         ensures left { OnOk result (AreTicketed self.old.tickets (subscription_at self.old.subscribers) → agenda_of tasks.new ≡ goes_on (view_of self.old) act (agenda_of tasks.old)) }
         ensures sees { OnOk result (view_of self.new ≡ after act (view_of self.old)) }
+        ensures settings { self.new.settings ≡ self.old.settings }
     {
         match act {
-            Act::Comes(Part::Calls(asking)) => self.calls(asking, tasks),
+            Act::Comes(Part::Calls(asking, advice)) => self.calls(asking, advice, tasks),
             Act::Comes(Part::ToLink { link, act }) => self.to_link(link, act, tasks, out),
             Act::Comes(Part::Rings(alarm)) => self.rings(alarm, tasks),
             Act::Comes(Part::Polls(ticket)) => self.polls(ticket, out),
@@ -171,6 +205,7 @@ impl Tables {
     fn polls(&mut self, ticket: u64, out: &mut Vec<Effect>) -> Result<(), NoMemory>
         ensures out { OnOk result (map shown out.new.items ≡ map shown out.old.items ++ effects (view_of self.old) (Act.Comes (Part.Polls ticket))) }
         ensures sees { OnOk result (view_of self.new ≡ after (Act.Comes (Part.Polls ticket)) (view_of self.old)) }
+        ensures settings { self.new.settings ≡ self.old.settings }
     {
         if let Some(effect) = self.subscribers.poll(ticket)? {
             out.push(effect)?;

@@ -1,4 +1,4 @@
-use Rattle.pulsar_client.proofs.Traces.{answered_good, deadline_good, early_good, failed_good, line_good, local_known, polled_good, redirected_good, retried_good, stopped_good}
+use Rattle.pulsar_client.proofs.Traces.{answered_good, deadline_good, early_good, failed_good, line_good, local_known, polled_good, redirected_good, retried_good, sent_good, stopped_good}
 use Rattle.pulsar_client.proofs.laws.small_runs_are_good.Goals as goal
 
 pub returns : goal.returns
@@ -12,5 +12,6 @@ returns c = record {
   stopped = stopped_good;
   retried = retried_good;
   redirected = redirected_good;
+  sent = sent_good;
   address = local_known;
 }

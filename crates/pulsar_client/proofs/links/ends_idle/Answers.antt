@@ -9,7 +9,7 @@ use Rattle.pulsar_client.specs.declared.act.Act.TheVariants.{Comes}
 use Rattle.pulsar_client.specs.declared.act.End.TheVariants.{Idles}
 use Rattle.pulsar_client.specs.declared.act.LinkAct.TheVariants.{Ends}
 use Rattle.pulsar_client.specs.declared.act.Part.TheVariants.{ToLink}
-use Rattle.pulsar_client.specs.Kept.{seat_of}
+use Rattle.pulsar_client.specs.Kept.{producers_of, seat_of}
 use Rattle.pulsar_client.specs.Rules.{idle_act_at}
 use Rattle.pulsar_client.specs.Subscribers.{subscription_at}
 use Rattle.pulsar_client.proofs.Idle.{all_give}
@@ -18,7 +18,7 @@ use Rattle.pulsar_client.proofs.links.ends_idle.Goals as goal
 pub loop-link-preserved : goal.loop-link-preserved
 loop-link-preserved c = λ drawn ticketed.
     let subs = subscription_at c.args.subscribers.now in
-    let gives = λ (e : ℕ × Row). idle_act_at c.args.now c.args.most drawn subs e.0 (seat_of e.1) in
+    let gives = λ (e : ℕ × Row). idle_act_at c.args.now c.args.most drawn subs (producers_of c.args.producers.now) e.0 (seat_of e.1) in
     let seen = map deref_pair c.loop-link.yielded in
     let link = c.in-Some.link.now in
     let one : ℕ × Row = (link, c.in-Some.row.now) in
@@ -32,7 +32,7 @@ loop-link-preserved c = λ drawn ticketed.
 pub returns-clause-ends : goal.returns-clause-ends
 returns-clause-ends c = λ drawn ticketed.
     let live = c.args.live.now in
-    let idles = idle_act_at c.args.now c.args.most drawn (subscription_at c.args.subscribers.now) in
+    let idles = idle_act_at c.args.now c.args.most drawn (subscription_at c.args.subscribers.now) (producers_of c.args.producers.now) in
     let gives = c.into_iter-link-iterator.ensures.into_iter_gives in
     let whole = iter_end deref_pair live.entries c.loop-link.yielded _ _ _ _ gives.0 c.loop-link.yielded_by c.in-None.is c.next.ensures.steps in
     c.loop-link.invariant drawn ticketed ∙ ap (flat_map (λ e. idles e.0 (seat_of e.1))) whole.0 ∙ all_give idles live gives.5

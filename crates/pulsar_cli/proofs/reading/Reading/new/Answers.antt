@@ -3,4 +3,4 @@ use Rattle.pulsar_cli.proofs.Readings.{new-running}
 use Rattle.pulsar_cli.proofs.reading.Reading.new.Goals as goal
 
 pub returns : goal.returns
-returns c = new-running _ refl (search rules) refl refl (search rules) (search rules)
+returns c = λ ps o. new-running ps o _ c.in_ok-choice.ensures refl refl (search rules) (search rules)

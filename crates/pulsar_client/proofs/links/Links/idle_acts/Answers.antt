@@ -1,4 +1,5 @@
 use Rattle.std.proofs.Common.{◌∙◌}
+use Rattle.pulsar_client.specs.Kept.{producers_of}
 use Rattle.pulsar_client.specs.Rules.{idle_act_at}
 use Rattle.pulsar_client.specs.Subscribers.{subscription_at}
 use Rattle.pulsar_client.proofs.Timing.{all_live}
@@ -8,5 +9,5 @@ pub returns : goal.returns
 returns c = λ drawn ticketed.
     let links = c.args.self.now in
     c.in_ok-acts.ensures.ends drawn ticketed
-    ∙ all_live (idle_act_at c.args.now c.args.most drawn (subscription_at c.args.subscribers.now)) links.started links.live (links.fresh c.if-self.false)
+    ∙ all_live (idle_act_at c.args.now c.args.most drawn (subscription_at c.args.subscribers.now) (producers_of c.args.producers.now)) links.started links.live (links.fresh c.if-self.false)
     c.in_ok-acts.ensures.ordered

@@ -4,4 +4,4 @@ use Rattle.pulsar_client.proofs.Steps.{seen_of}
 use Rattle.pulsar_client.proofs.pulsar.Pulsar.link_ended.Goals as goal
 
 pub returns : goal.returns
-returns c = λ o h s g. c.has_ended.ensures ∙ ap (λ v. has_ended c.args.link v.links) (seen_of c.args.self.now.tables s.stands g)
+returns g c = λ o h taken s run. c.has_ended.ensures ∙ ap (λ v. has_ended c.args.link v.links) (seen_of c.args.self.now.tables s.stands run)

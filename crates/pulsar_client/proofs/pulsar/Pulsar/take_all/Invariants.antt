@@ -1,11 +1,14 @@
-use Rattle.std.proofs.Common.{◌≡◌, take, reverse, length, []}
-use Rattle.pulsar_client.specs.View.{Chosen}
+use Rattle.std.proofs.Common.{◌≡◌, ℕ, List, take, reverse, length, []}
+use Rattle.pulsar_client.specs.View.{Options}
 use Rattle.pulsar_client.specs.Client.{StandsFor}
 use Rattle.pulsar_client.specs.Tables.{answered}
 use Rattle.pulsar_client.proofs.pulsar.Pulsar.take_all.Given as goal
 
 abbrev pub invariant-loop-event : goal.invariant-loop-event
-invariant-loop-event l = record {
-  stands : (o : Chosen) → StandsFor o l.fn.self [] → StandsFor o l.self (reverse (answered (take l.event-index l.events) l.all.items));
+invariant-loop-event g l = record {
+  stands : (o : Options) (taken : List ℕ) →
+      StandsFor (λ p. (goal.CustomRoutingPolicy-dyn g (p.vtable, p.value)).routes p.value) o l.fn.self [] taken →
+      StandsFor (λ p. (goal.CustomRoutingPolicy-dyn g (p.vtable, p.value)).routes p.value) o l.self
+      (reverse (answered (take l.event-index l.events) l.all.items)) taken;
   count : length l.all.items ≡ l.event-index;
 }

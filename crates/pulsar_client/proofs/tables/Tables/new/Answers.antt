@@ -4,7 +4,7 @@ use Rattle.pulsar_run.proofs.Steps.{at_first}
 use Rattle.pulsar_client.proofs.tables.Tables.new.Goals as goal
 
 pub returns : goal.returns
-returns c = at_first (λ i. record {
+returns c = λ policies. at_first (λ i. record {
   chosen = chosen_of c.args.settings;
   now = c.args.settings.start;
   stand = λ w. c.new.ensures w i;
@@ -13,4 +13,5 @@ returns c = at_first (λ i. record {
   addresses = record { base = λ key. c.new-3.ensures.bases key i; pause = λ l. c.new-3.ensures.pauses l i };
   alarms = c.new-4.ensures i;
   consumers = λ t. c.new-5.ensures t i;
+  producers = c.new-6.ensures i;
 })

@@ -1,7 +1,8 @@
-use Rattle.std.proofs.Common.{◌∙◌, ◌++◌, ap, append_assoc, map, sym}
+use Rattle.std.proofs.Common.{◌≡◌, ◌∙◌, ◌++◌, ap, append_assoc, map, sym}
 use Rattle.std.proofs.lemmas.Result.{on_ok_weaker}
 use Rattle.pulsar_run.specs.Order.{arranged}
-use Rattle.pulsar_client.specs.Rules.{below, opens, over_links, stop_act, tells}
+use Rattle.pulsar_client.specs.Producers.{waiting}
+use Rattle.pulsar_client.specs.Rules.{below, opens, over_links, stop_act, stopped_one, tells}
 use Rattle.pulsar_client.specs.declared.act.Outcome.TheVariants.{Stopped}
 use Rattle.pulsar_client.specs.Run.{Agenda}
 use Rattle.pulsar_client.specs.Tables.{agenda_of, view_of}
@@ -14,13 +15,17 @@ returns-clause-left c =
     let g = agenda_of c.args.tasks.now in
     let ends = c.in_ok-stop_acts.ensures ∙ ap (λ (x : View). over_links stop_act x.links) c.in_ok-notices.ensures.sees in
     let told = c.in_ok-put_all.ensures ∙ ap (λ (x : Agenda). record x { now = c.in_ok-stop_acts.field-0.items ++ x.now }) c.in_ok-tell.ensures in
+    let notices =
+    c.in_ok-stop.ensures
+    ∙ (λ i. c.in_ok-notices.ensures.notices i ++ map stopped_one (waiting (c.in_ok-notices.ensures.sees i).producers))
+    in
     on_ok_weaker c.open.result
     (λ opened. opened
-    ∙ ap (λ (x : Agenda). record x { behind = x.behind ++ map (arranged below) (opens c.in_ok-notices.notices.items) }) told
-    ∙ (λ i. record g {
-      now = (ap (λ acts. acts ++ (tells c.args.who Stopped ++ g.now)) ends ∙ sym (append_assoc (over_links stop_act v.links) (tells c.args.who Stopped) g.now)) i;
-      behind = g.behind ++ map (arranged below) (opens (c.in_ok-notices.ensures.notices i));
-    }))
+        ∙ ap (λ (x : Agenda). record x { behind = x.behind ++ map (arranged below) (opens c.stop.new.notices.items) }) told
+        ∙ (λ i. record g {
+          now = (ap (λ acts. acts ++ (tells c.args.who Stopped ++ g.now)) ends ∙ sym (append_assoc (over_links stop_act v.links) (tells c.args.who Stopped) g.now)) i;
+          behind = g.behind ++ map (arranged below) (opens (notices i));
+        }))
     c.open.ensures
 
 pub returns-clause-sees : goal.returns-clause-sees

@@ -6,10 +6,13 @@ use Rattle.pulsar_client.proofs.Ticketed.{ticketed_in}
 use Rattle.pulsar_client.proofs.tables.Tables.work.Goals as goal
 
 pub loop-preserved : goal.loop-preserved
-loop-preserved c = λ o e h s.
-    let so_far = c.loop.invariant o e h s in
-    treated so_far (sym c.in-Some.ensures.first) c.in_ok-treat-in-Some.ensures.out
-    (c.in_ok-treat-in-Some.ensures.left (ticketed_in c.loop.self so_far) ∙ ap (goes_on (view_of c.loop.self) _) c.in-Some.ensures.rest) c.in_ok-treat-in-Some.ensures.sees
+loop-preserved c = record {
+  stands = λ o e h s.
+      let so_far = c.loop.invariant.stands o e h s in
+      treated so_far (sym c.in-Some.ensures.first) c.in_ok-treat-in-Some.ensures.out
+      (c.in_ok-treat-in-Some.ensures.left (ticketed_in c.loop.self so_far) ∙ ap (goes_on (view_of c.loop.self) _) c.in-Some.ensures.rest) c.in_ok-treat-in-Some.ensures.sees;
+  settings = c.in_ok-treat-in-Some.ensures.settings ∙ c.loop.invariant.settings;
+}
 
-pub returns-in-None : goal.returns-in-None
-returns-in-None c = λ o e h s. ended (c.loop.invariant o e h s) (sym c.in-None.ensures.first) refl
+pub returns-in-None-clause-stands : goal.returns-in-None-clause-stands
+returns-in-None-clause-stands c = λ o e h s. ended (c.loop.invariant.stands o e h s) (sym c.in-None.ensures.first) refl

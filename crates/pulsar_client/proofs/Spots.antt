@@ -1,0 +1,178 @@
+-- Along a run, one whose plan reports does so next, and no plan stands where a queued part of a call has not reported.
+use Rattle.std.proofs.Common.{◌≡◌, ◌∙◌, sym, ap, subst, List, ◌∷◌, ◌++◌, refl, Bool, true, false, cond, Option, Some, None, []}
+use Rattle.std.proofs.lemmas.Bool.{eqb-true, eq-eqb}
+use Rattle.pulsar_run.specs.Run.{first_of, rest}
+use Rattle.pulsar_client.specs.declared.act.Act.{Act}
+use Rattle.pulsar_client.specs.declared.act.Act.TheVariants.{Starts, Told, Does}
+use Rattle.pulsar_client.specs.declared.act.Action.{Action}
+use Rattle.pulsar_client.specs.declared.act.Action.TheVariants.{StopAll, Tell}
+use Rattle.pulsar_client.specs.declared.act.Notice.{Notice}
+use Rattle.pulsar_client.specs.declared.act.Outcome.{Outcome}
+use Rattle.pulsar_client.specs.declared.act.Part.{Part}
+use Rattle.pulsar_client.specs.declared.act.Procedure.{Procedure}
+use Rattle.pulsar_client.specs.declared.act.Verdict.{Verdict}
+use Rattle.pulsar_client.specs.declared.act.Who.{Who}
+use Rattle.pulsar_client.specs.declared.act.Who.TheVariants.{Call}
+use Rattle.pulsar_client.specs.declared.plans.plan.Plan.{Plan}
+use Rattle.pulsar_client.specs.declared.plans.plan.Turn.{Turn}
+use Rattle.pulsar_client.specs.declared.plans.plan.Turn.TheVariants.{Stays, Gives}
+use Rattle.pulsar_client.specs.Plan.{begins, told}
+use Rattle.pulsar_client.specs.Rules.{at_once, does, follows, follows_some, grants}
+use Rattle.pulsar_client.specs.Run.{Agenda, Entry, Begins, Then, IsRun, agenda, first, rules, view}
+use Rattle.pulsar_client.specs.View.{Options, View, stand_after, stays, stays_some, told_some}
+use Rattle.pulsar_client.specs.Who.{is_same}
+use Rattle.pulsar_producer.specs.declared.deed.News.TheVariants as news
+use Rattle.pulsar_client.specs.declared.act.Procedure.TheVariants as procedure
+use Rattle.pulsar_client.proofs.Acts.{begun_same, none_now}
+use Rattle.pulsar_client.proofs.Fitting.{Fits, Leaves, Nowhere, Reports, Spot, Usual, begins_fits, fits, is_stop, spot, told_fits}
+
+-- who has plans
+pub same_self : (w : Who) → is_same w w ≡ true
+same_self (Call t) = eq-eqb t t refl
+
+pub same_who : (w u : Who) → is_same w u ≡ true → w ≡ u
+same_who (Call s) (Call t) h = ap Call (eqb-true s t h)
+
+-- THE FIRST OF WHAT IS LEFT
+
+-- this one tells another, or is told
+abbrev IsNext : Who → Act → Type 0
+IsNext w (Does who (Tell n)) = who ≡ w
+IsNext w (Told n) = n.who ≡ w
+IsNext w a = ⊥
+
+abbrev IsFirst : Who → List Act → Type 0
+IsFirst w [] = ⊥
+IsFirst w (a ∷ now) = IsNext w a
+
+abbrev pub spot_of : Option Plan → Spot
+spot_of None = Usual
+spot_of (Some plan) = spot plan
+
+abbrev SoundAt : Spot → Who → List Act → Type 0
+SoundAt Usual w now = Unit {0}
+SoundAt Reports w now = IsFirst w now
+SoundAt Leaves w now = Unit {0}
+SoundAt Nowhere w now = ⊥
+
+head_is : (w : Who) (now : List Act) (here : List Notice) (behind : List (List Notice)) (parts : List Part) (a : Act) →
+    first_of rules now here behind parts ≡ Some a →
+    IsFirst w now → IsNext w a
+head_is w [] here behind parts a h k = absurd k
+head_is w (b ∷ now) here behind parts a h k = subst (IsNext w) (let e : b ≡ a = cc in e) k
+
+-- WHAT A PLAN DOES
+
+at_spot : (w who : Who) (s : Spot) (action : Action) (left : List Act) → who ≡ w → fits s action ≡ true → SoundAt s w (does who action ++ left)
+at_spot w who Usual action left is h = tt
+at_spot w who Reports (Tell n) left is h = is
+at_spot w who Reports action left is h = absurd cc
+at_spot w who Leaves action left is h = tt
+at_spot w who Nowhere action left is h = absurd cc
+
+turn_sound : (w who : Who) (turn : Turn Plan Verdict) (left : List Act) → who ≡ w → Fits turn → SoundAt (spot_of (stays turn)) w (follows who turn ++ left)
+turn_sound w who (Gives verdict) left is h = tt
+turn_sound w who (Stays plan action) left is h = at_spot w who (spot plan) action left is h
+
+start_sound : (w who : Who) (p : Procedure) (b : Bool) (left : List Act) → is_stop p ≡ b → who ≡ w →
+    SoundAt (spot_of (stays (begins p))) w (follows who (begins p) ++ left)
+start_sound w who p false left h is = turn_sound w who (begins p) left is (begins_fits p h)
+start_sound w who procedure.Stop true left h is = tt
+start_sound w who p true left h is = absurd cc
+
+some_sound : (who : Who) (row : Option Plan) (u : Outcome) (left : List Act) →
+    SoundAt (spot_of (stays_some (told_some row u))) who (follows_some who (told_some row u) ++ left)
+some_sound who None u left = tt
+some_sound who (Some plan) u left = turn_sound who who (told plan u) left refl (told_fits plan u)
+
+-- ALONG A RUN
+
+module _ (o : Options) (w : Who) (log : List Entry) (k : SoundAt (spot_of ((view o log).stand w)) w (agenda o log).now) where
+  abbrev v : View
+  v = view o log
+
+  abbrev g : Agenda
+  g = agenda o log
+
+  abbrev left : List Act
+  left = (rest g).now
+
+  -- where another act is first, this one does not report
+  elsewhere : (s : Spot) (a : Act) (later : List Act) → first g ≡ Some a → (IsNext w a → ⊥) → SoundAt s w g.now → SoundAt s w later
+  elsewhere Usual a later fits other k = tt
+  elsewhere Reports a later fits other k = absurd (other (head_is w g.now g.here g.behind g.parts a fits k))
+  elsewhere Leaves a later fits other k = tt
+  elsewhere Nowhere a later fits other k = absurd k
+
+  others : (a : Act) (later : List Act) → first g ≡ Some a → (IsNext w a → ⊥) → SoundAt (spot_of (v.stand w)) w later
+  others a later fits other = elsewhere (spot_of (v.stand w)) a later fits other k
+
+  starts_on : (who : Who) (p : Procedure) → first g ≡ Some (Starts who p) →
+      SoundAt (spot_of (stand_after (Starts who p) w (v.stand w))) w (follows who (begins p) ++ left)
+  starts_on who p f = by (is_same w who) refl
+    where
+      by : (b : Bool) → is_same w who ≡ b → SoundAt (spot_of (cond b (stays (begins p)) (v.stand w))) w (follows who (begins p) ++ left)
+      by true e = start_sound w who p (is_stop p) left refl (sym (same_who w who e))
+      by false e = others (Starts who p) (follows who (begins p) ++ left) f (λ none. none)
+
+  told_on : (n : Notice) → first g ≡ Some (Told n) →
+      SoundAt (spot_of (stand_after (Told n) w (v.stand w))) w (follows_some n.who (told_some (v.stand n.who) n.outcome) ++ left)
+  told_on n f = by (is_same w n.who) refl
+    where
+      acts : List Act
+      acts = follows_some n.who (told_some (v.stand n.who) n.outcome) ++ left
+
+      not_it : is_same w n.who ≡ false → n.who ≡ w → ⊥
+      not_it e is = (let no : false ≡ true = sym e ∙ ap (is_same w) is ∙ same_self w in absurd cc)
+
+      by : (b : Bool) → is_same w n.who ≡ b → SoundAt (spot_of (cond b (stays_some (told_some (v.stand w) n.outcome)) (v.stand w))) w acts
+      by true e =
+          subst (λ x. SoundAt (spot_of (stays_some (told_some (v.stand x) n.outcome))) x acts) (sym (same_who w n.who e))
+          (some_sound n.who (v.stand n.who) n.outcome left)
+      by false e = others (Told n) acts f (not_it e)
+
+  tells_on : (who : Who) (n : Notice) → first g ≡ Some (Does who (Tell n)) → SoundAt (spot_of (v.stand w)) w (grants who news.Done ++ left)
+  tells_on who n f = by (spot_of (v.stand w)) k
+    where
+      by : (s : Spot) → SoundAt s w g.now → SoundAt s w (grants who news.Done ++ left)
+      by Usual j = tt
+      by Reports j = head_is w g.now g.here g.behind g.parts (Does who (Tell n)) f j
+      by Leaves j = tt
+      by Nowhere j = absurd j
+
+  sound_on : (a : Act) → first g ≡ Some a → SoundAt (spot_of (stand_after a w (v.stand w))) w (at_once v a ++ left)
+  sound_on (Starts who p) f = starts_on who p f
+  sound_on (Told n) f = told_on n f
+  sound_on (Does who (Tell n)) f = tells_on who n f
+  sound_on (Does who action) f = others (Does who action) (at_once v (Does who action) ++ left) f (λ none. none)
+  sound_on a f = others a (at_once v a ++ left) f (λ none. none)
+
+sound : (o : Options) (w : Who) (log : List Entry) → IsRun o log → SoundAt (spot_of ((view o log).stand w)) w (agenda o log).now
+sound o w [] run = tt
+sound o w (Begins e ∷ log) run =
+    let g : Agenda = agenda o log in
+    subst (λ row. SoundAt (spot_of row) w []) (sym (begun_same (λ v. v.stand w) e (view o log) refl))
+    (subst (SoundAt (spot_of ((view o log).stand w)) w) (none_now g.now g.here g.behind g.parts run.1) (sound o w log run.0))
+sound o w (Then a ∷ log) run = sound_on o w log (sound o w log run.0) a run.1
+
+-- AT THE STOP
+
+-- none reports
+abbrev pub is_calm : Spot → Bool
+is_calm Usual = true
+is_calm Reports = false
+is_calm Leaves = true
+is_calm Nowhere = false
+
+pub calm_stop : (o : Options) (w who : Who) (log : List Entry) → IsRun o log → first (agenda o log) ≡ Some (Does who StopAll) →
+    is_calm (spot_of ((view o log).stand w)) ≡ true
+calm_stop o w who log run f = by (spot_of ((view o log).stand w)) (sound o w log run)
+  where
+    g : Agenda
+    g = agenda o log
+
+    by : (s : Spot) → SoundAt s w g.now → is_calm s ≡ true
+    by Usual k = refl
+    by Reports k = absurd (head_is w g.now g.here g.behind g.parts (Does who StopAll) f k)
+    by Leaves k = refl
+    by Nowhere k = absurd k

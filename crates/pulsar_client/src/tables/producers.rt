@@ -1,0 +1,225 @@
+//! What plans ask of topic producers.
+
+ghost use Rattle.std.specs.Prelude.{◌≡◌, ◌++◌, IfOk, OnOk, map};
+ghost use Rattle.std.specs.Option.{option_map, option_to_list};
+ghost use Rattle.pulsar_run.specs.Order.{put_all};
+ghost use Rattle.pulsar_session.specs.Failures.{fault};
+ghost use Rattle.pulsar_client.specs.Content.{asked};
+ghost use Rattle.pulsar_client.specs.Kept.{producers_of};
+ghost use Rattle.pulsar_client.specs.Producers.{advice};
+ghost use Rattle.pulsar_client.specs.Rules.{below, grants, tells, turn_notice};
+ghost use Rattle.pulsar_client.specs.Run.{goes_on};
+ghost use Rattle.pulsar_client.specs.Tables.{agenda_of, view_of};
+ghost use Rattle.pulsar_client.specs.View.{after, room_of};
+ghost use Rattle.pulsar_client.specs.declared.act.Act.{Act};
+
+use crate::act::{Action, Notice, Outcome, Who};
+use crate::agenda::Tasks;
+use crate::content::{Advice, Cause, Granted, Remade};
+use crate::event::Call;
+use crate::tables::Tables;
+use crate::tables::calls::tell;
+use crate::who::ticket_of;
+use pulsar_producer::CustomRoutingPolicy;
+use pulsar_producer::content::Version;
+use pulsar_producer::deed::News;
+use pulsar_wire::error::{ConnectionError, NoMemory};
+use std::alloc::Global;
+use std::slice;
+
+impl Tables {
+    /// What the policies say of the messages that a call sends, one by one.
+    pub(super) fn advice(
+        &self,
+        call: &Call,
+        policies: &[Box<dyn CustomRoutingPolicy>],
+    ) -> Result<Advice, NoMemory>
+        ensures { IfOk result (λ a. a ≡ advice (map (λ p. routes p) policies.now) (producers_of self.now.producers) (asked call.now)) }
+    {
+        match call {
+            Call::Send { producer, message } => {
+                self.producers
+                    .advice(*producer, slice::from_ref(message), policies)
+            }
+            Call::SendAll { producer, messages } => {
+                self.producers
+                    .advice(*producer, messages.as_slice(), policies)
+            }
+            Call::Build
+            | Call::Stop
+            | Call::Topics { .. }
+            | Call::Lookup { .. }
+            | Call::Partitions { .. }
+            | Call::Brokers { .. }
+            | Call::Producer(_)
+            | Call::Flush { .. }
+            | Call::CheckProducer { .. }
+            | Call::CloseProducer { .. }
+            | Call::Raw { .. } => Ok(Advice::new(self.alloc)),
+        }
+    }
+
+    /// One wants its turn at a topic producer, and has it where nobody else has it.
+    pub(super) fn takes_turn(
+        &mut self,
+        who: Who,
+        number: u64,
+        tasks: &mut Tasks,
+    ) -> Result<(), NoMemory>
+        ensures left { OnOk result (agenda_of tasks.new ≡ goes_on (view_of self.old) (Act.Does who (Action.TakeTurn number)) (agenda_of tasks.old)) }
+        ensures sees { OnOk result (view_of self.new ≡ after (Act.Does who (Action.TakeTurn number)) (view_of self.old)) }
+        ensures settings { self.new.settings ≡ self.old.settings }
+    {
+        if !self.producers.is_used(number) {
+            return tell(who, Outcome::Disconnected, tasks);
+        }
+        match self.producers.take_turn(number, ticket_of(who))? {
+            Some(version) => self.grants(who, News::HasTurn(version), tasks),
+            None => Ok(()),
+        }
+    }
+
+    /// A turn is over: the next one who waits for it has it.
+    pub(super) fn passes_turn(
+        &mut self,
+        who: Who,
+        number: u64,
+        tasks: &mut Tasks,
+    ) -> Result<(), NoMemory>
+        ensures left { OnOk result (agenda_of tasks.new ≡ goes_on (view_of self.old) (Act.Does who (Action.PassTurn number)) (agenda_of tasks.old)) }
+        ensures sees { OnOk result (view_of self.new ≡ after (Act.Does who (Action.PassTurn number)) (view_of self.old)) }
+        ensures settings { self.new.settings ≡ self.old.settings }
+    {
+        let next = self.producers.pass_turn(number)?;
+        join_next(self.alloc, next, tasks)?;
+        self.grants(who, News::Done, tasks)
+    }
+
+    /// The number of a message is drawn.
+    pub(super) fn draws(&mut self, who: Who, number: u64, tasks: &mut Tasks) -> Result<(), NoMemory>
+        ensures left { OnOk result (agenda_of tasks.new ≡ goes_on (view_of self.old) (Act.Does who (Action.Draw number)) (agenda_of tasks.old)) }
+        ensures sees { OnOk result (view_of self.new ≡ after (Act.Does who (Action.Draw number)) (view_of self.old)) }
+        ensures settings { self.new.settings ≡ self.old.settings }
+    {
+        let Some(room) = self.room_for(number) else {
+            return self.refuses(who, ConnectionError::Disconnected, tasks);
+        };
+        match self.producers.draw(number, room)? {
+            Some(drawn) => self.grants(who, News::Drew(drawn), tasks),
+            None => self.refuses(who, ConnectionError::Exhausted, tasks),
+        }
+    }
+
+    /// Whether there is room on the link of a topic producer, where that is ready.
+    fn room_for(&self, number: u64) -> Option<bool>
+        ensures { result ≡ room_of (view_of self.now) number }
+    {
+        let link = self.producers.link(number)?;
+        self.links.room(link)
+    }
+
+    /// The command by which a topic producer is made again.
+    pub(super) fn recalls(
+        &mut self,
+        who: Who,
+        number: u64,
+        tasks: &mut Tasks,
+    ) -> Result<(), NoMemory>
+        ensures left { OnOk result (agenda_of tasks.new ≡ goes_on (view_of self.old) (Act.Does who (Action.Recall number)) (agenda_of tasks.old)) }
+        ensures sees { OnOk result (view_of self.new ≡ after (Act.Does who (Action.Recall number)) (view_of self.old)) }
+        ensures settings { self.new.settings ≡ self.old.settings }
+    {
+        match self.producers.recall(number)? {
+            Some(command) => self.grants(who, News::Recalled(command), tasks),
+            None => tell(who, Outcome::Disconnected, tasks),
+        }
+    }
+
+    /// A topic producer was made again.
+    pub(super) fn remakes(
+        &mut self,
+        who: Who,
+        remade: Remade,
+        tasks: &mut Tasks,
+    ) -> Result<(), NoMemory>
+        ensures left { OnOk result (agenda_of tasks.new ≡ goes_on (view_of self.old) (Act.Does who (Action.Remake remade)) (agenda_of tasks.old)) }
+        ensures sees { OnOk result (view_of self.new ≡ after (Act.Does who (Action.Remake remade)) (view_of self.old)) }
+        ensures settings { self.new.settings ≡ self.old.settings }
+    {
+        self.producers.remake(remade.into_inner());
+        self.grants(who, News::Done, tasks)
+    }
+
+    /// The number of a new topic producer is drawn.
+    pub(super) fn numbers(&mut self, who: Who, tasks: &mut Tasks) -> Result<(), NoMemory>
+        ensures left { OnOk result (agenda_of tasks.new ≡ goes_on (view_of self.old) (Act.Does who Action.Number) (agenda_of tasks.old)) }
+        ensures sees { OnOk result (view_of self.new ≡ after (Act.Does who Action.Number) (view_of self.old)) }
+        ensures settings { self.new.settings ≡ self.old.settings }
+    {
+        match self.producers.draw_number() {
+            Some(number) => self.grants(who, News::Numbered(number), tasks),
+            None => self.refuses(who, ConnectionError::Exhausted, tasks),
+        }
+    }
+
+    /// The link of a topic producer is told.
+    pub(super) fn finds(&mut self, who: Who, number: u64, tasks: &mut Tasks) -> Result<(), NoMemory>
+        ensures left { OnOk result (agenda_of tasks.new ≡ goes_on (view_of self.old) (Act.Does who (Action.Find number)) (agenda_of tasks.old)) }
+        ensures sees { OnOk result (view_of self.new ≡ after (Act.Does who (Action.Find number)) (view_of self.old)) }
+        ensures settings { self.new.settings ≡ self.old.settings }
+    {
+        match self.producers.link(number) {
+            Some(link) => tell(who, Outcome::GotLink(link), tasks),
+            None => tell(who, Outcome::Disconnected, tasks),
+        }
+    }
+
+    /// A producer takes no sends from now on.
+    pub(super) fn shuts(
+        &mut self,
+        who: Who,
+        producer: u64,
+        tasks: &mut Tasks,
+    ) -> Result<(), NoMemory>
+        ensures left { OnOk result (agenda_of tasks.new ≡ goes_on (view_of self.old) (Act.Does who (Action.Shut producer)) (agenda_of tasks.old)) }
+        ensures sees { OnOk result (view_of self.new ≡ after (Act.Does who (Action.Shut producer)) (view_of self.old)) }
+        ensures settings { self.new.settings ≡ self.old.settings }
+    {
+        self.producers.shut(producer);
+        self.grants(who, News::Done, tasks)
+    }
+
+    /// What it asked of a topic producer is done, and gives this.
+    pub(super) fn grants(&self, who: Who, news: News, tasks: &mut Tasks) -> Result<(), NoMemory>
+        ensures { OnOk result (agenda_of tasks.new ≡ record (agenda_of tasks.old) { now = grants who news ++ tasks.old.now.items }) }
+    {
+        let granted = Granted::new(self.alloc, news)?;
+        tell(who, Outcome::Granted(granted), tasks)
+    }
+
+    /// It is refused so.
+    fn refuses(&self, who: Who, error: ConnectionError, tasks: &mut Tasks) -> Result<(), NoMemory>
+        ensures { OnOk result (agenda_of tasks.new ≡ record (agenda_of tasks.old) { now = tells who (Outcome.Refused (fault error)) ++ tasks.old.now.items }) }
+    {
+        let cause = Cause::new(self.alloc, error)?;
+        tell(who, Outcome::Refused(cause), tasks)
+    }
+}
+
+/// The one who has the turn next joins those whom the present cause serves.
+fn join_next(
+    alloc: Global,
+    next: Option<(u64, Option<Version>)>,
+    tasks: &mut Tasks,
+) -> Result<(), NoMemory>
+    ensures { OnOk result (agenda_of tasks.new ≡ record (agenda_of tasks.old) { here = put_all below (option_to_list (option_map turn_notice next)) tasks.old.here.items }) }
+{
+    let Some((ticket, version)) = next else {
+        return Ok(());
+    };
+    let granted = Granted::new(alloc, News::HasTurn(version))?;
+    tasks.join(Notice {
+        who: Who::Call(ticket),
+        outcome: Outcome::Granted(granted),
+    })
+}

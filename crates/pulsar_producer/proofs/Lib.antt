@@ -1,0 +1,5 @@
+pub mod Numbers
+pub mod Properties
+pub mod Routes
+pub mod Sends
+pub mod Turns

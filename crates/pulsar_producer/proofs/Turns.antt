@@ -1,0 +1,161 @@
+-- Turns at a topic producer.
+use Rattle.std.proofs.Common.{◌≡◌, ◌∙◌, sym, ap, refl, subst, ℕ, ◌<◌, ◌==◌, ◌&&◌, ◌||◌, nat_lt, Bool, true, false, cond, List, [], ◌∷◌, ◌++◌, Option, Some, None, arith}
+use Rattle.std.proofs.lemmas.Bool.{eq-eqb}
+use Rattle.std.proofs.lemmas.Bool.Decides.{nat_tests}
+use Rattle.std.specs.BTreeSet.{insert_key}
+use Rattle.std.specs.List.{list_all, list_any}
+use Rattle.std.specs.Option.{is_none}
+use Rattle.std.specs.Ordering.{match_ordering, nat_cmp}
+use Rattle.std.specs.declared.cmp.Ordering.TheVariants.{Less, Equal, Greater}
+use Rattle.pulsar_session.specs.Link.{is_spent}
+use Rattle.pulsar_producer.specs.Topic.{Act, Takes, Passes, Draws, Remakes, Closes, Seen, Setup, after, first_of, is_free, rest_of, seen, takes_in}
+use Rattle.pulsar_producer.specs.Laws.{AreAbove, LowestIsNext, NobodyWaitsForFree, OneAtATime, WaitsInLine, gives_turn, is_listed, keeps, turn_if}
+
+-- THE WAITING TICKETS RISE
+
+abbrev Rises : List ℕ → Type 0
+Rises [] = Unit {0}
+Rises (t ∷ ts) = AreAbove t ts × Rises ts
+
+above_more : (k x : ℕ) (xs : List ℕ) → k < x → AreAbove x xs → AreAbove k xs
+above_more k x [] lt all = tt
+above_more k x (y ∷ ys) lt all = let up = all.0 in (omega (arith, lt, up), above_more k x ys lt all.1)
+
+above_insert : (t k : ℕ) (xs : List ℕ) → t < k → AreAbove t xs → AreAbove t (insert_key nat_cmp xs k)
+above_insert t k [] lt all = (lt, tt)
+above_insert t k (x ∷ xs) lt all = by (nat_lt k x) (k == x) (above_insert t k xs lt all.1)
+  where
+    by : (a b : Bool) → AreAbove t (insert_key nat_cmp xs k) → AreAbove t (match_ordering (cond a Less (cond b Equal Greater)) (k ∷ x ∷ xs) (x ∷ xs) (x ∷ insert_key nat_cmp xs k))
+    by true b more = (lt, all)
+    by false true more = all
+    by false false more = (all.0, more)
+
+rises_insert : (k : ℕ) (xs : List ℕ) → Rises xs → Rises (insert_key nat_cmp xs k)
+rises_insert k [] all = (tt, tt)
+rises_insert k (x ∷ xs) all = by (nat_lt k x) refl (k == x) refl (rises_insert k xs all.1)
+  where
+    by : (a : Bool) → nat_lt k x ≡ a → (b : Bool) → (k == x) ≡ b → Rises (insert_key nat_cmp xs k)
+        → Rises (match_ordering (cond a Less (cond b Equal Greater)) (k ∷ x ∷ xs) (x ∷ xs) (x ∷ insert_key nat_cmp xs k))
+    by true e b f more = let lt : k < x = grind (arith, nat_tests) in ((lt, above_more k x xs lt all.0), all)
+    by false e true f more = all
+    by false e false f more = let gt : x < k = grind (arith, nat_tests) in (above_insert x k xs gt all.0, more)
+
+rises_rest : (xs : List ℕ) → Rises xs → Rises (rest_of xs)
+rises_rest [] all = tt
+rises_rest (x ∷ xs) all = all.1
+
+takes_rises : (o : Option ℕ) (t : ℕ) (v : Seen) → Rises v.waiting → Rises (takes_in o t v).waiting
+takes_rises None t v all = all
+takes_rises (Some other) t v all = rises_insert t v.waiting all
+
+draws_same : (b : Bool) (v w : Seen) → w.waiting ≡ v.waiting → (cond b v w).waiting ≡ v.waiting
+draws_same true v w e = refl
+draws_same false v w e = e
+
+rises_after : (act : Act) (v : Seen) → Rises v.waiting → Rises (after act v).waiting
+rises_after (Takes t) v all = takes_rises v.holder t v all
+rises_after Passes v all = rises_rest v.waiting all
+rises_after Draws v all = subst Rises (sym (draws_same (is_spent v.next) v _ refl)) all
+rises_after (Remakes l g) v all = all
+rises_after Closes v all = all
+
+rises : (s : Setup) (h : List Act) → Rises (seen s h).waiting
+rises s [] = tt
+rises s (act ∷ h) = rises_after act (seen s h) (rises s h)
+
+lowest : (ts : List ℕ) (t : ℕ) → Rises ts → first_of ts ≡ Some t → AreAbove t (rest_of ts) × (ts ≡ t ∷ rest_of ts)
+lowest [] t all is = absurd cc
+lowest (u ∷ us) t all is = let same : u ≡ t = cc in (subst (λ k. AreAbove k us) same all.0, ap (λ k. k ∷ us) same)
+
+pub lowest_is_next : LowestIsNext
+lowest_is_next s h t is = lowest (seen s h).waiting t (rises s h) is
+
+-- ONE WAITS
+
+or_true : (a b : Bool) → b ≡ true → (a || b) ≡ true
+or_true true b e = refl
+or_true false b e = e
+
+listed_new : (t : ℕ) (xs : List ℕ) → list_any (λ u. t == u) (insert_key nat_cmp xs t) ≡ true
+listed_new t [] = ap (λ b. b || false) (eq-eqb t t refl)
+listed_new t (x ∷ xs) = by (nat_lt t x) (t == x) refl (listed_new t xs)
+  where
+    by : (a b : Bool) → (t == x) ≡ b → list_any (λ u. t == u) (insert_key nat_cmp xs t) ≡ true
+        → list_any (λ u. t == u) (match_ordering (cond a Less (cond b Equal Greater)) (t ∷ x ∷ xs) (x ∷ xs) (x ∷ insert_key nat_cmp xs t)) ≡ true
+    by true b f more = ap (λ c. c || list_any (λ u. t == u) (x ∷ xs)) (eq-eqb t t refl)
+    by false true f more = ap (λ c. c || list_any (λ u. t == u) xs) f
+    by false false f more = or_true (t == x) (list_any (λ u. t == u) (insert_key nat_cmp xs t)) more
+
+taken_waits : (o : Option ℕ) (t : ℕ) (v : Seen) → is_none o ≡ false → is_listed t (takes_in o t v).waiting ≡ true
+taken_waits None t v e = absurd cc
+taken_waits (Some other) t v e = listed_new t v.waiting
+
+pub waits_in_line : WaitsInLine
+waits_in_line s h t e = taken_waits (seen s h).holder t (seen s h) e
+
+-- ONE HAS IT
+
+takes_keeps : (o : Option ℕ) (u t : ℕ) (v : Seen) → o ≡ Some t → v.holder ≡ Some t → (takes_in o u v).holder ≡ Some t
+takes_keeps None u t v e f = absurd cc
+takes_keeps (Some other) u t v e f = f
+
+draws_holder : (b : Bool) (v w : Seen) → w.holder ≡ v.holder → (cond b v w).holder ≡ v.holder
+draws_holder true v w e = refl
+draws_holder false v w e = e
+
+keeps_holder : (act : Act) (v : Seen) (t : ℕ) → keeps act ≡ true → v.holder ≡ Some t → (after act v).holder ≡ Some t
+keeps_holder (Takes u) v t k e = takes_keeps v.holder u t v e e
+keeps_holder Passes v t k e = absurd cc
+keeps_holder Draws v t k e = draws_holder (is_spent v.next) v _ refl ∙ e
+keeps_holder (Remakes l g) v t k e = e
+keeps_holder Closes v t k e = e
+
+not_given : (o : Option ℕ) (u t : ℕ) → o ≡ Some t → turn_if o u ≡ None
+not_given None u t e = absurd cc
+not_given (Some other) u t e = refl
+
+gives_none : (act : Act) (v : Seen) (t : ℕ) → keeps act ≡ true → v.holder ≡ Some t → gives_turn act v ≡ None
+gives_none (Takes u) v t k e = not_given v.holder u t e
+gives_none Passes v t k e = absurd cc
+gives_none Draws v t k e = refl
+gives_none (Remakes l g) v t k e = refl
+gives_none Closes v t k e = refl
+
+both : (a b : Bool) → (a && b) ≡ true → (a ≡ true) × (b ≡ true)
+both true b e = (refl, e)
+both false b e = absurd cc
+
+holds : (s : Setup) (later h : List Act) (t : ℕ) → (seen s h).holder ≡ Some t → list_all keeps later ≡ true → (seen s (later ++ h)).holder ≡ Some t
+holds s [] h t e k = e
+holds s (act ∷ later) h t e k =
+    let two = both (keeps act) (list_all keeps later) k in
+    keeps_holder act (seen s (later ++ h)) t two.0 (holds s later h t e two.1)
+
+pub one_at_a_time : OneAtATime
+one_at_a_time s later h t e k =
+    let still = holds s later h t e k in (still, λ act a. gives_none act (seen s (later ++ h)) t a still)
+
+-- NOBODY WAITS FOR A FREE TURN
+
+takes_free : (o : Option ℕ) (t : ℕ) (v : Seen) → v.holder ≡ o → is_none (takes_in o t v).holder ≡ true → (takes_in o t v).waiting ≡ []
+takes_free None t v e f = absurd cc
+takes_free (Some other) t v e f = absurd (let no : is_none (Some other) ≡ true = ap is_none (sym e) ∙ f in cc)
+
+passes_free : (ts : List ℕ) → is_none (first_of ts) ≡ true → rest_of ts ≡ []
+passes_free [] e = refl
+passes_free (t ∷ ts) e = absurd cc
+
+draws_free : (b : Bool) (v w : Seen) → w.holder ≡ v.holder → w.waiting ≡ v.waiting → (is_none v.holder ≡ true → v.waiting ≡ []) → is_none (cond b v w).holder ≡ true → (cond b v w).waiting ≡ []
+draws_free true v w e f all free = all free
+draws_free false v w e f all free = f ∙ all (ap is_none (sym e) ∙ free)
+
+free_after : (act : Act) (v : Seen) → (is_free v ≡ true → v.waiting ≡ []) → is_free (after act v) ≡ true → (after act v).waiting ≡ []
+free_after (Takes t) v all free = takes_free v.holder t v refl free
+free_after Passes v all free = passes_free v.waiting free
+free_after Draws v all free = draws_free (is_spent v.next) v _ refl refl all free
+free_after (Remakes l g) v all free = all free
+free_after Closes v all free = all free
+
+pub nobody_waits_for_free : NobodyWaitsForFree
+nobody_waits_for_free s [] free = refl
+nobody_waits_for_free s (act ∷ h) free = free_after act (seen s h) (nobody_waits_for_free s h) free

@@ -1,0 +1,13 @@
+pub mod Errors
+pub mod Message
+pub mod Composed
+pub mod Wanted
+pub mod Routing
+pub mod Producer
+pub mod Random
+pub mod Replies
+pub mod Topic
+pub mod Kept
+pub mod Commands
+pub mod Plans
+pub mod Laws

@@ -1,0 +1,247 @@
+//! What owns memory in the plans of producers. It is boxed, so that what carries it is small. Contracts see it by its content.
+
+ghost use Rattle.std.specs.Prelude.{◌≡◌, [], ◌∷◌, ◌++◌, IfOk, MatchOption};
+ghost use Rattle.std.specs.Option.{option_map};
+ghost use Rattle.pulsar_messages.specs.Content.{message_content, producer_message_values, producer_options_values};
+ghost use Rattle.pulsar_producer.specs.Message.{with_version};
+
+use crate::replies::Given;
+use pulsar_messages::{Message, ProducerMessage, ProducerOptions};
+use pulsar_plans::BrokerAddress;
+use pulsar_plans::content::{Address, Names, Text};
+use pulsar_wire::error::NoMemory;
+use std::alloc::Global;
+use std::collections::VecDeque;
+use std::marker::Model;
+
+/// The version of a schema.
+#[derive(Drop)]
+pub struct Version {
+    bytes: Vec<u8>,
+}
+
+impl Model for Version {
+    ghost use Rattle.std.specs.Prelude.{ℕ, List};
+
+    ghost Value = { List ℕ };
+
+    ghost view = { λ v. v.bytes.items };
+}
+
+impl Version {
+    /// These bytes.
+    pub fn new(bytes: Vec<u8>) -> Version
+        ensures { result ≡ bytes.items }
+    {
+        Version { bytes }
+    }
+
+    /// The same version once more.
+    pub fn copy(&self) -> Result<Version, NoMemory>
+        ensures { IfOk result (λ v. v ≡ self.now) }
+    {
+        let bytes = self.bytes.clone()?;
+        Ok(Version { bytes })
+    }
+
+    /// The version as its bytes.
+    pub fn into_inner(self) -> Vec<u8>
+        ensures { result.items ≡ self }
+    {
+        let Version { bytes } = self;
+        bytes
+    }
+}
+
+/// A message that is to be sent, or several as a batch.
+#[derive(Drop)]
+pub struct Outgoing {
+    message: Box<ProducerMessage>,
+}
+
+impl Model for Outgoing {
+    ghost use Rattle.pulsar_messages.specs.Content.{ProducerMessageValues, producer_message_values};
+
+    ghost Value = { ProducerMessageValues };
+
+    ghost view = { λ o. producer_message_values o.message.value };
+}
+
+impl Outgoing {
+    /// This message.
+    pub fn new(alloc: Global, message: ProducerMessage) -> Result<Outgoing, NoMemory>
+        ensures { IfOk result (λ o. o ≡ producer_message_values message) }
+    {
+        let message = Box::new(alloc, message)?;
+        Ok(Outgoing { message })
+    }
+
+    /// What an application sends.
+    pub fn of_message(alloc: Global, message: Message) -> Result<Outgoing, NoMemory>
+        ensures { IfOk result (λ o. o ≡ message_content message) }
+    {
+        Outgoing::new(alloc, message.into())
+    }
+
+    /// The message with this schema version, where it has none.
+    pub fn with_version(self, version: Option<Version>) -> Outgoing
+        ensures { result ≡ with_version version self }
+    {
+        let Outgoing { mut message } = self;
+        if message.schema_version.is_none() {
+            message.schema_version = into_bytes(version);
+        }
+        Outgoing { message }
+    }
+
+    /// The same message once more.
+    pub fn copy(&self, alloc: Global) -> Result<Outgoing, NoMemory>
+        ensures { IfOk result (λ o. o ≡ self.now) }
+    {
+        Outgoing::new(alloc, self.message.copy()?)
+    }
+
+    /// The message without its box.
+    pub fn into_inner(self) -> ProducerMessage
+        ensures { producer_message_values result ≡ self }
+    {
+        let Outgoing { message } = self;
+        Box::into_inner(message)
+    }
+}
+
+/// How a producer is made, and how it sends.
+#[derive(Drop)]
+pub struct Settings {
+    options: Box<ProducerOptions>,
+}
+
+impl Model for Settings {
+    ghost use Rattle.pulsar_messages.specs.Content.{ProducerOptionsValues, producer_options_values};
+
+    ghost Value = { ProducerOptionsValues };
+
+    ghost view = { λ s. producer_options_values s.options.value };
+}
+
+impl Settings {
+    /// These options.
+    pub fn new(alloc: Global, options: ProducerOptions) -> Result<Settings, NoMemory>
+        ensures { IfOk result (λ s. s ≡ producer_options_values options) }
+    {
+        let options = Box::new(alloc, options)?;
+        Ok(Settings { options })
+    }
+
+    /// The options to be read.
+    pub fn options(&self) -> &ProducerOptions
+        ensures { producer_options_values result.now ≡ self.now }
+    {
+        &self.options
+    }
+}
+
+/// Names of a topic, each with the broker that serves it, for which no producer is made yet.
+#[derive(Drop)]
+pub struct Left {
+    names: VecDeque<(String, BrokerAddress)>,
+}
+
+impl Model for Left {
+    ghost use Rattle.std.specs.Prelude.{List, map};
+    ghost use Rattle.pulsar_plans.specs.Address.{Named, named};
+
+    ghost Value = { List Named };
+
+    ghost view = { λ l. map named l.names.items };
+}
+
+impl Left {
+    /// These names.
+    pub fn new(names: Names) -> Left
+        ensures { result ≡ names }
+    {
+        Left {
+            names: VecDeque::from_vec(names.into_inner()),
+        }
+    }
+
+    /// The first name, which is left no longer.
+    pub fn next(&mut self, alloc: Global) -> Result<Option<(Text, Address)>, NoMemory>
+        ensures { IfOk result (λ first. MatchOption first (self.old ≡ [])
+            (λ f. self.old ≡ record { name = f.0; place = f.1 } ∷ self.new)) }
+    {
+        match self.names.pop_front() {
+            Some((name, address)) => Ok(Some((Text::new(name), Address::new(alloc, address)?))),
+            None => Ok(None),
+        }
+    }
+}
+
+/// A topic producer as it is made: its topic, its number, its link, and what its broker says of it.
+#[derive(Drop)]
+pub struct Built {
+    pub topic: Text,
+    pub number: u64,
+    pub link: u64,
+    pub given: Given,
+}
+
+/// Topic producers that are made, in order.
+#[derive(Drop)]
+pub struct Parts {
+    all: VecDeque<Built>,
+}
+
+impl Model for Parts {
+    ghost use Rattle.std.specs.Prelude.{List};
+    ghost use Rattle.pulsar_producer.specs.declared.content.Built.{Built};
+
+    ghost Value = { List Built };
+
+    ghost view = { λ p. p.all.items };
+}
+
+impl Parts {
+    /// None.
+    pub fn new(alloc: Global) -> Parts
+        ensures { result ≡ [] }
+    {
+        Parts {
+            all: VecDeque::new(alloc),
+        }
+    }
+
+    /// One more behind these.
+    pub fn with(self, part: Built) -> Result<Parts, NoMemory>
+        ensures { IfOk result (λ p. p ≡ self ++ part ∷ []) }
+    {
+        let Parts { mut all } = self;
+        all.push_back(part)?;
+        Ok(Parts { all })
+    }
+
+    /// The first, which is taken out.
+    pub fn next(&mut self) -> Option<Built>
+        ensures { MatchOption result (self.old ≡ []) (λ p. self.old ≡ p ∷ self.new) }
+    {
+        self.all.pop_front()
+    }
+
+    /// All of them.
+    pub fn into_inner(self) -> VecDeque<Built>
+        ensures { result.items ≡ self }
+    {
+        let Parts { all } = self;
+        all
+    }
+}
+
+fn into_bytes(version: Option<Version>) -> Option<Vec<u8>>
+    ensures { option_map (λ v. v.items) result ≡ version }
+{
+    match version {
+        Some(version) => Some(version.into_inner()),
+        None => None,
+    }
+}

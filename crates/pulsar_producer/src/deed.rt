@@ -1,0 +1,113 @@
+//! What the plans of producers do, and what they are told.
+
+ghost use Rattle.std.specs.Prelude.{◌≡◌, IfOk};
+ghost use Rattle.pulsar_session.specs.Failures.{fault};
+ghost use Rattle.pulsar_producer.specs.Errors.{in_producer};
+ghost use Rattle.pulsar_producer.specs.Plans.{fault_told};
+
+use crate::content::{Outgoing, Version};
+use crate::replies::Given;
+use pulsar_plans::content::{Refusal, Text};
+use pulsar_plans::making::Command;
+use pulsar_plans::turn::{self, Action, Outcome};
+use pulsar_wire::error::{ConnectionError, Error, NoMemory, ProducerError};
+use std::alloc::Global;
+
+/// A message as it is asked of a link. Where `block` is not set, it is refused where there is no room.
+#[derive(Drop)]
+pub struct Send {
+    pub producer: u64,
+    pub name: Text,
+    pub sequence: u64,
+    pub message: Outgoing,
+    pub block: bool,
+}
+
+/// What a plan does next. Then it waits for news. Topic producers are named by their numbers.
+#[derive(Drop)]
+pub enum Deed {
+    /// What a search does, or a command.
+    Does(Action),
+    /// Take its turn at a topic producer, or wait for it.
+    TakesTurn(u64),
+    /// Draw the number of a message, where the link of the topic producer is ready.
+    Draws(u64),
+    /// Ask for a message on the link.
+    Sends {
+        link: u64,
+        send: Send,
+    },
+    /// Its turn is over.
+    PassesTurn(u64),
+    /// Find the command by which a topic producer is made again.
+    Recalls(u64),
+    /// A topic producer was made again, on this link.
+    Remakes {
+        number: u64,
+        link: u64,
+        given: Given,
+    },
+    /// Draw the number of a new topic producer.
+    Numbers,
+    /// Close the topic producer of this number on the link.
+    ClosesProducer {
+        link: u64,
+        number: u64,
+    },
+    /// Nothing.
+    Rests,
+}
+
+/// The number that was drawn for a message, its link, and whether there is room on it; and the name of its producer.
+#[derive(Drop)]
+pub struct Drawn {
+    pub number: u64,
+    pub link: u64,
+    pub room: bool,
+    pub name: Text,
+}
+
+/// What a plan is told.
+#[derive(Drop)]
+pub enum News {
+    /// What came of an action or of a request. A link that is not ready, and numbers that are spent, fail a draw.
+    Told(Outcome),
+    /// Its frame is queued.
+    Queued,
+    /// Its frame stands in the line.
+    InLine,
+    /// It has its turn. The schema version of the topic producer is this.
+    HasTurn(Option<Version>),
+    /// It drew the number of a message.
+    Drew(Drawn),
+    /// A topic producer is made again by this command.
+    Recalled(Command),
+    /// It drew the number of a new topic producer.
+    Numbered(u64),
+    /// What it did is done.
+    Done,
+}
+
+/// A plan stays, in this state, and does this, or it ends and gives its value.
+#[derive(Drop)]
+pub enum Step<S, A> {
+    Stays(S, Deed),
+    Gives(A),
+}
+
+/// Why a plan fails at news.
+pub fn error_told(news: News) -> ConnectionError
+    ensures { fault result ≡ fault_told news }
+{
+    match news {
+        News::Told(outcome) => turn::error_of(outcome),
+        _ => ConnectionError::Disconnected,
+    }
+}
+
+/// An error of a connection as one of a producer.
+pub fn in_producer(alloc: Global, error: ConnectionError) -> Result<Refusal, NoMemory>
+    ensures { IfOk result (λ r. r ≡ in_producer (fault error)) }
+{
+    Refusal::new(alloc, Error::Producer(ProducerError::Connection(error)))
+}

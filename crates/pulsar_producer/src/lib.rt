@@ -1,0 +1,24 @@
+//! Producers: what is sent, to which partition, in whose turn, and the plans by which a producer is made and sends.
+#![tactic(auto)]
+
+pub mod building;
+pub mod content;
+pub mod deed;
+pub mod laws;
+pub mod message_builder;
+pub mod producer;
+pub mod producer_builder;
+pub mod random;
+pub mod replies;
+pub mod routing;
+pub mod sending;
+pub mod serialize;
+pub mod topic_producer;
+
+pub use message_builder::MessageBuilder;
+pub use producer::Producer;
+pub use producer_builder::ProducerBuilder;
+pub use pulsar_messages::{Message, ProducerMessage, ProducerOptions, RoutingPolicy};
+pub use routing::{CustomRoutingPolicy, PartitionedProducer};
+pub use serialize::{SerializeMessage, message_from_bytes, message_from_text};
+pub use topic_producer::TopicProducer;

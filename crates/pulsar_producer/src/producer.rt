@@ -1,0 +1,143 @@
+//! A producer as its user sees it.
+
+ghost use Rattle.std.specs.Prelude.{◌≡◌, ◌⊎◌, map, Some, None, IfOk, MatchResult, string_bytes};
+ghost use Rattle.std.specs.Option.{option_map};
+ghost use Rattle.pulsar_messages.specs.Content.{message_content, producer_options_values};
+ghost use Rattle.pulsar_session.specs.Failures.{failure};
+ghost use Rattle.pulsar_producer.specs.Errors.{IsNoMemory, no_such_index};
+ghost use Rattle.pulsar_producer.specs.Producer.{advice, after, is_single, made, names, number_for, number_on};
+
+use crate::content::Settings;
+use crate::routing::{CustomRoutingPolicy, Partition, PartitionedProducer};
+use pulsar_messages::{Message, ProducerOptions};
+use pulsar_plans::content::Text;
+use pulsar_wire::error::{Error, NoMemory};
+use std::marker::Model;
+
+/// A producer of a topic: a single one, or one of several partitions.
+#[derive(Drop)]
+pub struct Producer {
+    topic: Text,
+    settings: Settings,
+    routes: PartitionedProducer,
+}
+
+impl Model for Producer {
+    ghost use Rattle.pulsar_producer.specs.Producer.{Seen};
+
+    ghost Value = { Seen };
+
+    ghost view = { λ p. record { topic = p.topic; options = p.settings; routes = p.routes } };
+}
+
+impl Producer {
+    /// The producer of these partitions, or of the one topic, where there is one. `last` is the index of the partition that counts as
+    /// the last used one.
+    pub fn new(
+        topic: Text,
+        settings: Settings,
+        partitions: Vec<Partition>,
+        last: usize,
+    ) -> Option<Producer>
+        ensures { result ≡ made topic settings partitions.items last }
+    {
+        let policy = settings.options().routing_policy;
+        let routes = PartitionedProducer::new(partitions, policy, last)?;
+        Some(Producer {
+            topic,
+            settings,
+            routes,
+        })
+    }
+
+    /// Its topic.
+    pub fn topic(&self) -> &str
+        ensures { result.now ≡ self.now.topic }
+    {
+        self.topic.as_str()
+    }
+
+    /// The names of its partitions in order. A single producer has none.
+    pub fn partitions(&self) -> Result<Option<Vec<String>>, NoMemory>
+        ensures { IfOk result (λ ps. option_map (λ v. map string_bytes v.items) ps ≡ names self.now) }
+    {
+        if self.is_single() {
+            return Ok(None);
+        }
+        Ok(Some(self.routes.names()?))
+    }
+
+    /// How it was made, and how it sends.
+    pub fn options(&self) -> &ProducerOptions
+        ensures { producer_options_values result.now ≡ self.now.options }
+    {
+        self.settings.options()
+    }
+
+    /// How it was made, for the commands that make its topic producers again.
+    pub fn settings(&self) -> &Settings
+        ensures { result.now ≡ self.now.options }
+    {
+        &self.settings
+    }
+
+    /// Its partitions in order, or the one topic.
+    pub fn as_slice(&self) -> &[Partition]
+        ensures { result.now ≡ self.now.routes.partitions }
+    {
+        self.routes.as_slice()
+    }
+
+    /// It has one partition, or its topic has none.
+    pub fn is_single(&self) -> bool
+        ensures { result ≡ is_single self.now }
+    {
+        self.routes.as_slice().len() == 1
+    }
+
+    /// The number of the topic producer that a message goes to. `policies` are those of the client.
+    pub fn number_for(
+        &mut self,
+        message: &Message,
+        policies: &[Box<dyn CustomRoutingPolicy>],
+    ) -> Result<u64, Error>
+        ensures number { MatchResult result
+            (λ n. number_for (map (λ p. routes p) policies.now) (message_content message.now) self.old ≡ Some n)
+            (λ e. IsNoMemory (failure e) ⊎ ((number_for (map (λ p. routes p) policies.now) (message_content message.now) self.old ≡ None)
+            × (failure e ≡ no_such_index))) }
+        ensures after { self.new ≡ after (message_content message.now) self.old }
+    {
+        let advice = self.advice(message, policies);
+        match self.target(message, advice) {
+            Some(number) => Ok(number),
+            None => Err(self.routes.no_such_index()),
+        }
+    }
+
+    /// What the policy of the client says of a message, where the producer has such a policy: an index that is there. It takes no memory.
+    pub fn advice(
+        &self,
+        message: &Message,
+        policies: &[Box<dyn CustomRoutingPolicy>],
+    ) -> Option<usize>
+        ensures { result ≡ advice (map (λ p. routes p) policies.now) (message_content message.now) self.now }
+    {
+        if self.is_single() {
+            return None;
+        }
+        self.routes.advice(message, policies)
+    }
+
+    /// The number of the topic producer that a message goes to by this advice, where it is there. It takes no memory.
+    pub fn target(&mut self, message: &Message, advice: Option<usize>) -> Option<u64>
+        ensures number { result ≡ number_on advice (message_content message.now) self.old }
+        ensures after { self.new ≡ after (message_content message.now) self.old }
+    {
+        let index = if self.is_single() {
+            Some(0)
+        } else {
+            self.routes.choose_on(message, advice)
+        };
+        self.routes.number_at(index)
+    }
+}

@@ -1,0 +1,9 @@
+//! Worked cases of producers.
+#![tactic(auto)]
+
+#[cfg(test)]
+mod messages;
+#[cfg(test)]
+mod plans;
+#[cfg(test)]
+mod routes;

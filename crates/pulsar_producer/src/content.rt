@@ -245,3 +245,62 @@ fn into_bytes(version: Option<Version>) -> Option<Vec<u8>>
         None => None,
     }
 }
+
+/// The items of a batch, in order.
+#[derive(Drop)]
+pub struct Batch {
+    items: Vec<BatchItem>,
+}
+
+impl Model for Batch {
+    ghost use Rattle.std.specs.Prelude.{List, map};
+    ghost use Rattle.pulsar_producer.specs.Storage.{Item, item_of};
+
+    ghost Value = { List Item };
+
+    ghost view = { λ b. map item_of b.items.items };
+}
+
+/// Those that are told what becomes of a batch, in order.
+#[derive(Drop)]
+pub struct Members {
+    all: Vec<Member>,
+}
+
+impl Model for Members {
+    ghost use Rattle.std.specs.Prelude.{List};
+    ghost use Rattle.pulsar_producer.specs.declared.batch.Member.{Member};
+
+    ghost Value = { List Member };
+
+    ghost view = { λ m. m.all.items };
+}
+
+/// What those of a batch are told, in order.
+#[derive(Drop)]
+pub struct Reports {
+    all: VecDeque<Report>,
+}
+
+impl Model for Reports {
+    ghost use Rattle.std.specs.Prelude.{List};
+    ghost use Rattle.pulsar_producer.specs.declared.batch.Report.{Report};
+
+    ghost Value = { List Report };
+
+    ghost view = { λ r. r.all.items };
+}
+
+/// A message as an entry of a batch.
+#[derive(Drop)]
+pub struct Entry {
+    message: Box<BatchedMessage>,
+}
+
+impl Model for Entry {
+    ghost use Rattle.pulsar_frame.specs.Batch.{EntryValues, entry_values};
+
+    ghost Value = { EntryValues };
+
+    ghost view = { λ e. entry_values e.message.value };
+}

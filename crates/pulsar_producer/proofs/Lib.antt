@@ -1,4 +1,5 @@
 pub mod Numbers
+pub mod PartialSends
 pub mod Properties
 pub mod Routes
 pub mod Sends

@@ -1,8 +1,8 @@
 //! What a producer of batches stores, until it is cut into a batch.
 
-ghost use Rattle.std.specs.Prelude.{◌≡◌, [], IfOk, OnOk, map};
-ghost use Rattle.pulsar_frame.specs.Batch.{entry_values};
-ghost use Rattle.pulsar_producer.specs.Storage.{empty, emptied, ends_in_flush, entry_size, is_flush, is_ready, item_of, pushed, reaches, size_of, size_said};
+ghost use Rattle.std.specs.Prelude.{◌≡◌, ◌++◌, IfOk, OnErr, OnOk, map};
+ghost use Rattle.pulsar_producer.specs.Storage.{empty, emptied, ends_in_flush, is_ready, item_of, pushed, size_of};
+ghost use Rattle.pulsar_producer.specs.Topic.{is_nothing, ticket_of};
 
 use pulsar_frame::batch::BatchedMessage;
 use pulsar_wire::error::NoMemory;
@@ -108,6 +108,21 @@ impl BatchStorage {
     {
         self.items.is_empty()
     }
+
+    /// What is stored is dropped.
+    pub fn clear(&mut self)
+        ensures { self.new ≡ emptied self.old }
+    {
+        self.items.clear();
+        self.bytes = 0;
+    }
+
+    /// The tickets of those that wait for what is stored, behind others.
+    pub fn push_tickets(&self, tickets: &mut Vec<u64>) -> Result<(), NoMemory>
+        ensures { OnOk result (tickets.new.items ≡ tickets.old.items ++ map ticket_of self.now.items) }
+    {
+        push_tickets(&self.items, tickets)
+    }
 }
 
 /// The last item is a flush.
@@ -130,5 +145,25 @@ fn size_of(item: &BatchItem) -> usize
             usize::try_from(message.metadata.payload_size).unwrap_or(0)
         }
         BatchItem::Flush(_) => 0,
+    }
+}
+
+/// The tickets of these items, behind others.
+pub(crate) fn push_tickets(items: &[BatchItem], tickets: &mut Vec<u64>) -> Result<(), NoMemory>
+    ensures { OnOk result (tickets.new.items ≡ tickets.old.items ++ map ticket_of (map item_of items.now)) }
+{
+    for item in items {
+        tickets.push(ticket_of(item))?;
+    }
+    Ok(())
+}
+
+/// Who waits for an item.
+fn ticket_of(item: &BatchItem) -> u64
+    ensures { result ≡ ticket_of (item_of item.now) }
+{
+    match item {
+        BatchItem::SingleMessage(ticket, _) => *ticket,
+        BatchItem::Flush(ticket) => *ticket,
     }
 }

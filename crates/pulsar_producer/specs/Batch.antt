@@ -59,13 +59,13 @@ entry_refusal e =
     then (if nat_lt (length e.payload) (2 ^ 31) then None else Some reason.Batch)
     else Some reason.Frame
 
-abbrev pub first_refusal : List EntryValues → Option Reason
-first_refusal [] = None
-first_refusal (e ∷ es) = refusal_or (entry_refusal e) (first_refusal es)
-
 abbrev pub refusal_or : Option Reason → Option Reason → Option Reason
 refusal_or None more = more
 refusal_or (Some r) more = Some r
+
+abbrev pub first_refusal : List EntryValues → Option Reason
+first_refusal [] = None
+first_refusal (e ∷ es) = refusal_or (entry_refusal e) (first_refusal es)
 
 abbrev pub unless_refused : Option Reason → ProducerMessageValues → Result ProducerMessageValues Reason
 unless_refused None m = Ok m
@@ -119,12 +119,12 @@ abbrev pub reports : (n : ℕ) → Fate → List Member → List Report
 reports n f ms = reports_from 0 n f ms
 
 -- a reply that is a receipt is what became of the batch
-abbrev pub receipt_fate : Reply → Fate
-receipt_fate r = receipt_or_lost r.receipt
-
 abbrev pub receipt_or_lost : Option (Values rows.send_receipt) → Fate
 receipt_or_lost (Some receipt) = fate.Receipt receipt
 receipt_or_lost None = fate.Failed (OfBatch (in_producer Disconnected))
+
+abbrev pub receipt_fate : Reply → Fate
+receipt_fate r = receipt_or_lost r.receipt
 
 -- why it failed
 abbrev pub failed : Failure → Fate

@@ -14,6 +14,6 @@ seen_of i =
       waiting = i.waiting.keys;
       is_closed = i.is_closed;
       storage = i.storage;
-      cut = map (λ b. b) i.cut.items;
+      cut = i.cut.items;
       is_under_way = i.is_under_way;
     }

@@ -1,12 +1,12 @@
 //! How messages become a batch, and what each sender is told of that.
 
-ghost use Rattle.std.specs.Prelude.{◌≡◌, not, [], ◌∷◌, ◌++◌, IfOk, Some, None, map, length};
+ghost use Rattle.std.specs.Prelude.{◌≡◌, [], ◌∷◌, ◌++◌, IfOk, Some, None, map, length};
 ghost use Rattle.pulsar_frame.specs.Batch.{batch_bytes, entry_bytes, entry_values};
 ghost use Rattle.pulsar_messages.specs.Content.{message_content};
 ghost use Rattle.pulsar_session.specs.Reply.{receipt_in};
 ghost use Rattle.pulsar_wire.specs.Views.{body_values, message_id_values, send_receipt_values};
 ghost use Rattle.pulsar_producer.specs.Batch as meaning;
-ghost use Rattle.pulsar_producer.specs.Storage.{is_flush, item_of};
+ghost use Rattle.pulsar_producer.specs.Storage.{item_of};
 
 use crate::content::Outgoing;
 use crate::copying::copy_refusal;
@@ -178,19 +178,17 @@ pub(crate) fn count(items: &[BatchItem]) -> usize
 {
     let mut count = 0;
     for item in items {
-        if is_message(item) {
-            count += 1;
-        }
+        count += messages_in(item);
     }
     count
 }
 
-fn is_message(item: &BatchItem) -> bool
-    ensures { result ≡ not (is_flush (item_of item.now)) }
+fn messages_in(item: &BatchItem) -> usize
+    ensures { result ≡ length (meaning.entries_in (item_of item.now ∷ [])) }
 {
     match item {
-        BatchItem::SingleMessage(_, _) => true,
-        BatchItem::Flush(_) => false,
+        BatchItem::SingleMessage(_, _) => 1,
+        BatchItem::Flush(_) => 0,
     }
 }
 
@@ -324,13 +322,21 @@ fn report_at(
 fn placed(receipt: CommandSendReceipt, index: usize, count: usize) -> CommandSendReceipt
     ensures { send_receipt_values result ≡ meaning.placed index count (send_receipt_values receipt) }
 {
-    let message_id = match receipt.message_id {
+    let CommandSendReceipt {
+        producer_id,
+        sequence_id,
+        message_id,
+        highest_sequence_id,
+    } = receipt;
+    let message_id = match message_id {
         Some(id) => Some(placed_id(id, index, count)),
         None => None,
     };
     CommandSendReceipt {
+        producer_id,
+        sequence_id,
         message_id,
-        ..receipt
+        highest_sequence_id,
     }
 }
 

@@ -263,6 +263,13 @@ impl Parts {
         self.all.pop_front()
     }
 
+    /// All of them to be read.
+    pub fn all(&self) -> &VecDeque<Built>
+        ensures { result.now.items ≡ self.now }
+    {
+        &self.all
+    }
+
     /// All of them.
     pub fn into_inner(self) -> VecDeque<Built>
         ensures { result.items ≡ self }
@@ -367,9 +374,13 @@ pub struct Reports {
 
 impl Model for Reports {
     ghost use Rattle.std.specs.Prelude.{List};
+    ghost use Rattle.std.specs.Coded.{codes};
+    ghost use Rattle.pulsar_plans.specs.contracts.content.Refusal as refusal;
     ghost use Rattle.pulsar_producer.specs.declared.batch.Report.{Report};
 
     ghost Value = { List Report };
+
+    ghost coded = { Prim.hlevel (codes, refusal.the_row.coded) };
 
     ghost view = { λ r. r.all.items };
 }

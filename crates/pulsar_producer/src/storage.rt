@@ -137,6 +137,7 @@ fn ends_in_flush(items: &[BatchItem]) -> bool
 }
 
 /// The bytes of an item, as it says; a negative number counts as none.
+#[tactic(auto, unfolding(pulsar_wire::specs::Views::single_message_metadata_values))]
 fn size_of(item: &BatchItem) -> usize
     ensures { result ≡ size_of (item_of item.now) }
 {

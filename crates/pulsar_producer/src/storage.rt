@@ -1,7 +1,7 @@
 //! What a producer of batches stores, until it is cut into a batch.
 
-ghost use Rattle.std.specs.Prelude.{◌≡◌, ◌++◌, IfOk, OnErr, OnOk, map};
-ghost use Rattle.pulsar_producer.specs.Storage.{empty, emptied, ends_in_flush, is_ready, item_of, pushed, size_of};
+ghost use Rattle.std.specs.Prelude.{◌≡◌, ◌++◌, IfOk, OnErr, OnOk, Some, map};
+ghost use Rattle.pulsar_producer.specs.Storage.{empty, emptied, ends_in_flush, is_ready, item_of, pushed, size_of, size_said};
 ghost use Rattle.pulsar_producer.specs.Topic.{is_nothing, ticket_of};
 
 use pulsar_frame::batch::BatchedMessage;
@@ -142,11 +142,15 @@ fn size_of(item: &BatchItem) -> usize
     ensures { result ≡ size_of (item_of item.now) }
 {
     match item {
-        BatchItem::SingleMessage(_, message) => {
-            usize::try_from(message.metadata.payload_size).unwrap_or(0)
-        }
+        BatchItem::SingleMessage(_, message) => size_said(message.metadata.payload_size),
         BatchItem::Flush(_) => 0,
     }
+}
+
+fn size_said(size: i32) -> usize
+    ensures { result ≡ size_said (Some size) }
+{
+    usize::try_from(size).unwrap_or(0)
 }
 
 /// The tickets of these items, behind others.

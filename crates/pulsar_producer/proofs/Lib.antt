@@ -1,8 +1,10 @@
+pub mod Cutting
 pub mod Entries
 pub mod Numbers
 pub mod PartialSends
 pub mod Properties
 pub mod Routes
 pub mod Sends
+pub mod Storages
 pub mod Turns
 pub mod Untouched

@@ -298,7 +298,7 @@ module _ (w : Ways) (e : Errand) where
 
   batch_fits : (b : Batches) (u : Outcome) → Fits (told (Batching w e b) u)
   batch_fits b u =
-      either_fits (overrides u && not (batches.is_sent b)) (batches_on w e (batches.halted b)) (batches_on w e (batches.told w e b (news_of u)))
+      either_fits (overrides u) (batches_on w e (batches.halted b)) (batches_on w e (batches.told w e b (news_of u)))
       (halting_fits b) (batching_fits b (news_of u))
 
 -- ALL PLANS

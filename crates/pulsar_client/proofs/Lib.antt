@@ -19,6 +19,7 @@ pub mod Quiet
 pub mod Left
 pub mod Natures
 pub mod Granted
+pub mod Batchers
 pub mod Numbering
 pub mod Slow
 pub mod Instances

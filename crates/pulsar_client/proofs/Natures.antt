@@ -239,7 +239,7 @@ next_goes w e x = (refl, deed_tells x.deed)
 
 batching_goes : (w : Ways) (e : Errand) (b : Batches) (u : Outcome) → StaysSo (Goes is_batching) (told_batch w e b u)
 batching_goes w e b u =
-    either_so (Goes is_batching) (overrides u && not (batches.is_sent b)) _ _ (next_goes w e (batches.halted b)) (next_goes w e (batches.told w e b (news_of u)))
+    either_so (Goes is_batching) (overrides u) _ _ (next_goes w e (batches.halted b)) (next_goes w e (batches.told w e b (news_of u)))
 
 -- A ROUND
 

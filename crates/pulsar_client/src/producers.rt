@@ -362,9 +362,10 @@ impl Producers {
     pub fn halt(&mut self)
         ensures { producers_of self.new ≡ meaning.halted (producers_of self.old) }
     {
-        for topic in self.topics.values_mut() {
+        self.topics.retain(|_, topic| {
             topic.seen.halt();
-        }
+            true
+        });
     }
 
     /// The producer of this ticket sends batches.

@@ -128,10 +128,7 @@ impl Tables {
     {
         self.alarms.clear(Alarm::Batch(number))?;
         let is_ready = self.producers.cut(number)?;
-        let mut notices = Vec::new(self.alloc);
-        if is_ready {
-            notices.push(ready(self.alloc, number)?)?;
-        }
+        let notices = readied(self.alloc, number, is_ready)?;
         tasks.open(notices)
     }
 
@@ -199,6 +196,17 @@ fn ready(alloc: Global, number: u64) -> Result<Notice, NoMemory>
         who: Who::Producer(number),
         outcome: Outcome::Granted(Granted::new(alloc, News::Ready)?),
     })
+}
+
+/// The same where it is one whom an act serves.
+fn readied(alloc: Global, number: u64, is_ready: bool) -> Result<Vec<Notice>, NoMemory>
+    ensures { IfOk result (λ ns. ns.items ≡ (if is_ready then ready_notice number ∷ [] else [])) }
+{
+    let mut notices = Vec::new(alloc);
+    if is_ready {
+        notices.push(ready(alloc, number)?)?;
+    }
+    Ok(notices)
 }
 
 fn join_ready(

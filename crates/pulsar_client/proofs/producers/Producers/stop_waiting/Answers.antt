@@ -6,7 +6,7 @@ use Rattle.std.specs.Ordering.{nat_cmp}
 use Rattle.pulsar_client.specs.Producers.{waiting_at}
 use Rattle.pulsar_client.specs.Rules.{stopped_one}
 use Rattle.pulsar_client.proofs.Grown.{flat_map_end}
-use Rattle.pulsar_client.proofs.producers.Producers.stop.Goals as goal
+use Rattle.pulsar_client.proofs.producers.Producers.stop_waiting.Goals as goal
 
 pub loop-number-preserved : goal.loop-number-preserved
 loop-number-preserved c =

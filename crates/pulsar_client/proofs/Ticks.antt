@@ -54,14 +54,18 @@ abbrev alarm_below : Alarm → Alarm → Bool
 alarm_below a b = part_below (Rings a) (Rings b)
 
 same_cmp : (a b : Alarm) → alarm_cmp a b ≡ cmp3 (part_rank (Rings a)) (part_rank (Rings b))
+same_cmp (Retry k) (Retry l) = refl
+same_cmp (Retry k) (Wake (Call u)) = refl
 same_cmp (Retry k) _ = refl
 same_cmp (Wake (Call t)) (Wake (Call u)) = refl
-same_cmp (Wake (Call t)) (Wake (Producer u)) = refl
+same_cmp (Wake (Call t)) _ = refl
 same_cmp (Wake (Producer t)) (Wake (Call u)) = refl
-same_cmp (Wake (Producer t)) (Wake (Producer u)) = refl
-same_cmp (Wake w) _ = refl
+same_cmp (Wake (Producer t)) _ = refl
+same_cmp (Batch n) (Wake (Call u)) = refl
 same_cmp (Batch n) _ = refl
+same_cmp (KeepAlive k) (Wake (Call u)) = refl
 same_cmp (KeepAlive k) _ = refl
+same_cmp CheckIdle (Wake (Call u)) = refl
 same_cmp CheckIdle _ = refl
 
 below_is : (a b : Alarm) (o : Ordering) → alarm_cmp a b ≡ o → alarm_below a b ≡ is_lt o

@@ -85,4 +85,5 @@ pub mod Queued
 pub mod Sharing
 pub mod Telling
 pub mod Gathering
+pub mod Users
 pub mod Idlers

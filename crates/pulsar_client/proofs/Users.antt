@@ -486,7 +486,7 @@ module _ (P : ℕ → Type 0) where
 
   told_turns : (plan : Plan) (u : Outcome) → PlanSo plan → NewsSo (news_of u) → StaysSo TurnSo (told plan u)
   told_turns (Batching w e b) u k h =
-      either_so TurnSo (overrides u && not (batches.is_sent b)) _ _ (on_so w e (batches.halted b) (halted_so b k))
+      either_so TurnSo (overrides u) _ _ (on_so w e (batches.halted b) (halted_so b k))
       (on_so w e (batches.told w e b (news_of u)) (goes_so w e b (news_of u) k h))
   told_turns plan u k h = other_so plan (told plan u) refl (told_goes plan u) (told_alone plan u refl)
 

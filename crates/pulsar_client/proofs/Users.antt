@@ -1,5 +1,5 @@
 -- Tickets at a topic producer: whoever waits there, or is told what becomes of a batch, took a turn there, stored a message or flushed it.
-use Rattle.std.proofs.Common.{◌≡◌, ◌⊎◌, inl, inr, ◌∙◌, sym, ap, subst, ℕ, ◌==◌, List, [], ◌∷◌, ◌++◌, refl, map, length, Bool, true, false, ◌&&◌, not, cond, Option, Some, None, Result, Ok, Err}
+use Rattle.std.proofs.Common.{◌≡◌, ◌⊎◌, inl, inr, ◌∙◌, sym, ap, subst, ℕ, ◌+◌, ◌==◌, List, [], ◌∷◌, ◌++◌, refl, map, length, Bool, true, false, ◌&&◌, not, cond, Option, Some, None, Result, Ok, Err}
 use Rattle.std.proofs.lemmas.Bool.{cases_Bool}
 use Rattle.std.specs.BTreeSet.{insert_key}
 use Rattle.std.specs.List.{flat_map}
@@ -31,6 +31,7 @@ use Rattle.pulsar_plans.specs.declared.turn.Turn.TheVariants as search_turn
 use Rattle.pulsar_plans.specs.declared.turn.Ways.{Ways}
 use Rattle.pulsar_producer.specs.Batch.{batch_of, entries_in, failed, member_of, not_written, receipt_fate, reports, reports_from}
 use Rattle.pulsar_producer.specs.Batching as batches
+use Rattle.pulsar_producer.specs.Commands.{command}
 use Rattle.pulsar_producer.specs.Plans as produce
 use Rattle.pulsar_producer.specs.Plans.{Builds, Sent, build_closes, build_makes, build_names, build_next}
 use Rattle.pulsar_producer.specs.Storage.{Item, SingleMessage, Flush as FlushItem, is_ready, pushed}
@@ -145,7 +146,7 @@ names_within (search_turn.Gives (Err f)) = tt
 build_within : (w : Ways) (o : Order) (b : Build) (y : News) → BuildWithin (produce.build_told w o b y)
 build_within w o (build.Naming n) (news.Told x) = names_within (search.names_told w o.topic n x)
 build_within w o (build.Naming n) _ = refl
-build_within w o (build.Numbering p) (news.Numbered number) = makes_within _ number p.left p.made (search.made_gets 0 p.place)
+build_within w o (build.Numbering p) (news.Numbered number) = makes_within (command p.topic number o.name o.options) number p.left p.made (search.made_gets 0 p.place)
 build_within w o (build.Numbering p) y = closes_within p.made _
 build_within w o (build.Making c k number left made) (news.Told x) = makes_within c number left made (search.made_told w c k x)
 build_within w o (build.Making c k number left made) _ = refl
@@ -604,8 +605,8 @@ module _ (P : ℕ → Type 0) where
   then_so o log _ run k so w p h = so w p h
 
   plans_so : (o : Options) (log : List Entry) → IsRun o log → LogSo log → PlansSo o log
-  plans_so o [] run k w p h = absurd (none_some h)
-  plans_so o (Begins e ∷ log) run k w p h = plans_so o log run.0 k w p (sym (begun_same (λ v. v.stand w) e (view o log) refl) ∙ h)
+  plans_so o [] run k = λ w p h. absurd (none_some h)
+  plans_so o (Begins e ∷ log) run k = λ w p h. plans_so o log run.0 k w p (sym (begun_same (λ v. v.stand w) e (view o log) refl) ∙ h)
   plans_so o (Then a ∷ log) run k = then_so o log a run k.1 (plans_so o log run.0 k.1)
 
   turn_tells : (t : Turn Plan Verdict) (plan : Plan) (action : Action) → StaysSo TurnSo t → t ≡ Stays plan action → TellsSo action

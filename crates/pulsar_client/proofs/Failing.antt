@@ -269,7 +269,7 @@ module _ (p : Procedure) (all : List Outcome) where
   in_stored_holds u i = with_failure (OfConnection (fault_of u)) (IsTold u i refl)
 
   batch_holds : (w : Ways) (e : Errand) (b : Batches) (u : Outcome) → TurnHolds (told_batch w e b u)
-  batch_holds w e b u = either_holds (overrides u && not (batches.is_sent b)) _ _ tt tt
+  batch_holds w e b u = either_holds (overrides u) _ _ tt tt
 
   -- A CALL WITH PARTS
 

@@ -42,7 +42,7 @@ use Rattle.pulsar_client.specs.Laws.{Cause, FailuresAreTold, IsToldBy, OutcomesA
 use Rattle.pulsar_client.specs.Plan.{begins}
 use Rattle.pulsar_producer.specs.Batch.{entry_of}
 use Rattle.pulsar_client.specs.Producers.{Producers, batches_in, errand_of, next_advice, numbers_at, routed, why_not}
-use Rattle.pulsar_client.specs.Rules.{asks_raw, asks_topics, at_once, builds_with, called, checks, closes, does, fails_as, flushes, flushes_all, follows, follows_some, from_base, gathers, is_taken, notice, order_of, parts_of, performs, procedure_for, produces, produces_by, produces_from, searches, sends, sends_as, sends_by, share, shares_of, shares_unless, starts, stores_as, unless, unless_refused, why_no_sends}
+use Rattle.pulsar_client.specs.Rules.{asks_raw, asks_topics, at_once, builds_with, checks, closes, does, fails_as, flushes, flushes_all, follows, follows_some, from_base, gathers, is_taken, notice, order_of, parts_of, performs, procedure_for, produces, produces_by, produces_from, searches, sends, sends_as, sends_by, share, shares_of, shares_unless, starts, stores_as, unless, unless_refused, why_no_sends}
 use Rattle.pulsar_client.specs.Run.{Entry, Begins, Then, IsRun, agenda, view}
 use Rattle.pulsar_client.specs.View.{Chosen, Options, Tickets, View, may_call, told_some, ways_of}
 use Rattle.pulsar_client.specs.Who.{is_same}
@@ -51,7 +51,7 @@ use Rattle.pulsar_client.proofs.Failing.{Fails, IsMade, begins_holds, course_fai
 use Rattle.pulsar_client.proofs.Follow.{plans_follow_lem}
 use Rattle.pulsar_client.proofs.Led.{tells_so}
 use Rattle.pulsar_client.proofs.Left.{left_each}
-use Rattle.pulsar_client.proofs.Natures.{IsOfBatch, is_granted, is_of_batch}
+use Rattle.pulsar_client.proofs.Natures.{IsOfBatch}
 use Rattle.pulsar_client.proofs.Quiet.{IsQuiet, comes_quiet, performs_quiet}
 use Rattle.pulsar_client.proofs.Searches.{is_sought}
 use Rattle.pulsar_client.proofs.Sources.{in_append, in_each}

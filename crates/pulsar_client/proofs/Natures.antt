@@ -239,7 +239,7 @@ next_goes w e x = (refl, deed_tells x.deed)
 
 batching_goes : (w : Ways) (e : Errand) (b : Batches) (u : Outcome) → StaysSo (Goes is_batching) (told_batch w e b u)
 batching_goes w e b u =
-    either_so (Goes is_batching) (overrides u && not (batches.is_sent b)) _ _ (next_goes w e (batches.halted b)) (next_goes w e (batches.told w e b (news_of u)))
+    either_so (Goes is_batching) (overrides u) _ _ (next_goes w e (batches.halted b)) (next_goes w e (batches.told w e b (news_of u)))
 
 -- A ROUND
 
@@ -300,7 +300,7 @@ visit_goes r n left at.Passing u = passing_goes r n left u
 visit_goes r n left at.Awaiting u = awaiting_goes r n left u
 
 shut_goes : (ns : List ℕ) (u : Outcome) → StaysSo (Goes is_visiting) (told (Shutting ns) u)
-shut_goes ns (outcome.Granted news.Done) = round_goes _ ns
+shut_goes ns (outcome.Granted news.Done) = round_goes Closes ns
 shut_goes ns (outcome.Granted _) = tt
 shut_goes ns _ = tt
 

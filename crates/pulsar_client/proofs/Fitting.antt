@@ -1,6 +1,7 @@
--- Where a plan may stand as it does something. It tells another only where it reports or leaves, and only what a part of a call says; none
--- but a Stop ends every link; and a send that is a part of another call has reported once it is queued.
-use Rattle.std.proofs.Common.{◌≡◌, ℕ, ◌-◌, ◌==◌, List, ◌∷◌, refl, Bool, true, false, ◌&&◌, not, cond, Option, Some, None, Result, Ok, Err, []}
+-- Where a plan may stand as it does something. It tells another alone only where it reports, leaves or is stored, and only what a part of a
+-- call says, and others together only what becomes of a batch; none but a Stop ends every link; and a send that is a part of another call has
+-- reported once it is queued.
+use Rattle.std.proofs.Common.{◌≡◌, ℕ, ◌-◌, ◌==◌, List, ◌∷◌, map, refl, Bool, true, false, ◌&&◌, not, cond, Option, Some, None, Result, Ok, Err, []}
 use Rattle.pulsar_link.specs.Messages.{Reply}
 use Rattle.pulsar_link.specs.Refusals.{refused}
 use Rattle.pulsar_link.specs.Request.{is_answered, request_number}
@@ -10,6 +11,10 @@ use Rattle.pulsar_plans.specs.declared.plan.Plan.{Plan as Search}
 use Rattle.pulsar_plans.specs.declared.turn.Action.{Action as Wish}
 use Rattle.pulsar_plans.specs.declared.turn.Turn.{Turn as SearchTurn}
 use Rattle.pulsar_plans.specs.declared.turn.Ways.{Ways}
+use Rattle.pulsar_producer.specs.Batching as batches
+use Rattle.pulsar_producer.specs.declared.batch.Fate.TheVariants as fate
+use Rattle.pulsar_producer.specs.declared.batch.Report.{Report}
+use Rattle.pulsar_producer.specs.declared.batching.Batching.{Batching as Batches}
 use Rattle.pulsar_producer.specs.declared.building.Building.{Building as Build}
 use Rattle.pulsar_producer.specs.declared.building.Order.{Order}
 use Rattle.pulsar_producer.specs.declared.content.Built.{Built}
@@ -18,23 +23,23 @@ use Rattle.pulsar_producer.specs.declared.deed.Step.{Step}
 use Rattle.pulsar_producer.specs.declared.sending.Errand.{Errand}
 use Rattle.pulsar_producer.specs.declared.sending.Sending.{Sending as Send}
 use Rattle.pulsar_client.specs.declared.act.Action.{Action}
-use Rattle.pulsar_client.specs.declared.act.Action.TheVariants.{Rest, StopAll, Tell}
+use Rattle.pulsar_client.specs.declared.act.Action.TheVariants.{Rest, StopAll, Tell, TellAll}
 use Rattle.pulsar_client.specs.declared.act.Makes.TheVariants.{Nothing}
 use Rattle.pulsar_client.specs.declared.act.Notice.{Notice}
 use Rattle.pulsar_client.specs.declared.act.Outcome.{Outcome}
 use Rattle.pulsar_client.specs.declared.act.Procedure.{Procedure}
 use Rattle.pulsar_client.specs.declared.act.Round.{Round}
-use Rattle.pulsar_client.specs.declared.act.Round.TheVariants.{Closes}
+use Rattle.pulsar_client.specs.declared.act.Round.TheVariants.{Checks, Closes, Flushes}
 use Rattle.pulsar_client.specs.declared.act.Share.{Share}
 use Rattle.pulsar_client.specs.declared.act.Verdict.{Verdict}
 use Rattle.pulsar_client.specs.declared.plans.plan.At.{At}
 use Rattle.pulsar_client.specs.declared.plans.plan.Plan.{Plan}
-use Rattle.pulsar_client.specs.declared.plans.plan.Plan.TheVariants.{Building, Getting, Asking, Awaiting, Searching, Producing, Sending, Reporting, Leaving, Gathering, Shutting, Visiting, Stopping}
+use Rattle.pulsar_client.specs.declared.plans.plan.Plan.TheVariants.{Building, Getting, Asking, Awaiting, Searching, Producing, Sending, Reporting, Storing, Stored, Batching, Leaving, Gathering, Shutting, Visiting, Stopping}
 use Rattle.pulsar_client.specs.declared.plans.plan.Turn.{Turn}
 use Rattle.pulsar_client.specs.declared.plans.plan.Turn.TheVariants.{Stays, Gives}
 use Rattle.pulsar_client.specs.Content.{Done}
 use Rattle.pulsar_client.specs.Parts.{failed_with, sent_from}
-use Rattle.pulsar_client.specs.Plan.{action_of, asks_of, begins, builds, fails, fails_in, fault_of, gathers, goes, goes_on_sending, goes_round, halted, halted_with, is_answer, is_sent, leaves, news_in, news_of, overrides, sends_stay, told, told_at, verdict, visited, wished}
+use Rattle.pulsar_client.specs.Plan.{action_of, asks_of, batches_on, begins, builds, fails, fails_in, fault_of, gathers, goes, goes_on_sending, goes_round, halted, halted_with, is_answer, is_sent, is_settled, leaves, news_in, news_of, overrides, sends_stay, stored, told, told_at, told_of, told_to, verdict, visited, visits, wished}
 use Rattle.pulsar_plans.specs.Plans as search
 use Rattle.pulsar_plans.specs.declared.turn.Action.TheVariants as wish
 use Rattle.pulsar_plans.specs.declared.turn.Turn.TheVariants as search_turn
@@ -48,17 +53,20 @@ use Rattle.pulsar_client.specs.declared.act.Place.TheVariants as place
 use Rattle.pulsar_client.specs.declared.act.Procedure.TheVariants as procedure
 use Rattle.pulsar_client.specs.declared.plans.plan.At.TheVariants as at
 
--- where it stands: it tells that it was queued, or leaves behind what it tells; or it stands elsewhere, but nowhere as a queued part
+-- where it stands: it tells that it was queued, or leaves behind what it tells, or is stored; or it stands elsewhere, but nowhere as a queued
+-- part
 pub data Spot : Type 0 where
   Usual : Spot
   Reports : Spot
   Leaves : Spot
+  Keeps : Spot
   Nowhere : Spot
 
 abbrev pub spot : Plan → Spot
 spot (Sending w e (Some share) send.Sent) = Nowhere
 spot (Reporting w e) = Reports
 spot (Leaving f) = Leaves
+spot Stored = Keeps
 spot plan = Usual
 
 -- what a part of a call says to it
@@ -67,8 +75,20 @@ is_said (outcome.Parted ticket f) = true
 is_said outcome.Stopped = true
 is_said _ = false
 
+-- what a batch says to those whose messages and flushes were in it
+abbrev pub is_settling : Outcome → Bool
+is_settling (outcome.Settled f) = true
+is_settling outcome.Stopped = true
+is_settling (outcome.Granted granting.Done) = true
+is_settling _ = false
+
+abbrev pub all_settling : List Notice → Bool
+all_settling [] = true
+all_settling (n ∷ ns) = is_settling n.outcome && all_settling ns
+
 abbrev pub is_own : Action → Bool
 is_own (Tell n) = false
+is_own (TellAll ns) = all_settling ns
 is_own StopAll = false
 is_own _ = true
 
@@ -77,8 +97,9 @@ fits Usual action = is_own action
 fits Reports (Tell n) = is_said n.outcome
 fits Reports action = false
 fits Leaves (Tell n) = is_said n.outcome
-fits Leaves StopAll = false
-fits Leaves action = true
+fits Leaves action = is_own action
+fits Keeps (Tell n) = is_said n.outcome
+fits Keeps action = is_own action
 fits Nowhere action = false
 
 abbrev pub Fits : Turn Plan Verdict → Type 0
@@ -90,7 +111,15 @@ pub says_so : (s : Spot) (n : Notice) → fits s (Tell n) ≡ true → is_said n
 says_so Usual n h = absurd cc
 says_so Reports n h = h
 says_so Leaves n h = h
+says_so Keeps n h = h
 says_so Nowhere n h = absurd cc
+
+pub settles_so : (s : Spot) (ns : List Notice) → fits s (TellAll ns) ≡ true → all_settling ns ≡ true
+settles_so Usual ns h = h
+settles_so Reports ns h = absurd cc
+settles_so Leaves ns h = h
+settles_so Keeps ns h = h
+settles_so Nowhere ns h = absurd cc
 
 either_fits : (b : Bool) (x y : Turn Plan Verdict) → Fits x → Fits y → Fits (cond b x y)
 either_fits true x y p q = p
@@ -103,8 +132,19 @@ wish_own (wish.Get p) = refl
 wish_own (wish.Ask l request) = refl
 wish_own (wish.Wait delay) = refl
 
+report_settles : (r : Report) → is_settling (told_of r.fate) ≡ true
+report_settles (record { ticket = t; fate = fate.Receipt receipt }) = refl
+report_settles (record { ticket = t; fate = fate.Failed f }) = refl
+report_settles (record { ticket = t; fate = fate.Halted }) = refl
+report_settles (record { ticket = t; fate = fate.Flushed }) = refl
+
+reports_settle : (rs : List Report) → all_settling (map told_to rs) ≡ true
+reports_settle [] = refl
+reports_settle (r ∷ rs) = rw (report_settles r) (reports_settle rs)
+
 deed_own : (d : Deed) → is_own (action_of d) ≡ true
 deed_own (deed.Does x) = wish_own x
+deed_own (deed.Settles reports) = reports_settle reports
 deed_own _ = refl
 
 goes_fits : (w : Ways) (turn : SearchTurn Search (Result Answer Failure)) → Fits (goes w turn)
@@ -140,9 +180,19 @@ gathers_fits first count left failures =
 
 -- ROUNDS
 
+visits_fits : (r : Round) (n : ℕ) (left : List ℕ) → Fits (visits r n left)
+visits_fits Checks n left = refl
+visits_fits Flushes n left = refl
+visits_fits Closes n left = refl
+
 round_fits : (r : Round) (numbers : List ℕ) → Fits (goes_round r numbers)
 round_fits r [] = tt
-round_fits r (n ∷ left) = refl
+round_fits r (n ∷ left) = visits_fits r n left
+
+settled_fits : (r : Round) (n : ℕ) (left : List ℕ) → Fits (is_settled r n left)
+settled_fits Checks n left = refl
+settled_fits Flushes n left = round_fits Flushes left
+settled_fits Closes n left = refl
 
 visited_fits : (r : Round) (left : List ℕ) (n : ℕ) (reply : Reply) → Fits (visited r left n reply)
 visited_fits r left n reply =
@@ -150,6 +200,8 @@ visited_fits r left n reply =
     (fails_in r (refused reply reply.content.body)) (round_fits r left) tt
 
 visit_fits : (r : Round) (n : ℕ) (left : List ℕ) (x : At) (u : Outcome) → Fits (told_at r n left x u)
+visit_fits r n left at.Settling (outcome.Granted granting.Done) = settled_fits r n left
+visit_fits r n left at.Settling u = tt
 visit_fits r n left at.Turning (outcome.Granted (granting.HasTurn version)) = refl
 visit_fits r n left at.Turning u = tt
 visit_fits r n left at.Finding u = finding u
@@ -169,6 +221,18 @@ visit_fits r n left at.Awaiting (outcome.Replied reply) = visited_fits r left n 
 visit_fits r n left at.Awaiting outcome.Queued = refl
 visit_fits r n left at.Awaiting u = tt
 
+-- BATCHES
+
+stored_fits : (share : Option Share) → Fits (stored share)
+stored_fits None = refl
+stored_fits (Some s) = refl
+
+batch_fits : (w : Ways) (e : Errand) (b : Batches) (u : Outcome) → Fits (told (Batching w e b) u)
+batch_fits w e b u =
+    let h = batches.halted b in
+    let x = batches.told w e b (news_of u) in
+    either_fits (overrides u && not (batches.is_sent b)) (batches_on w e h) (batches_on w e x) (deed_own h.deed) (deed_own x.deed)
+
 -- ALL PLANS
 
 abbrev pub is_stop : Procedure → Bool
@@ -183,6 +247,8 @@ begins_fits (procedure.Ask (place.Link l) request s) h = refl
 begins_fits (procedure.Search w what) h = goes_fits w (search.begins w what)
 begins_fits (procedure.Produce w order) h = builds_fits w order (produce.build_begins w order)
 begins_fits (procedure.Send w e share m) h = sends_fits w e share (produce.send_begins e m)
+begins_fits (procedure.Store n share entry) h = refl
+begins_fits (procedure.Batch w e) h = deed_own batches.begins.deed
 begins_fits (procedure.FailShare share r) h = refl
 begins_fits (procedure.Gather first count) h = gathers_fits first count count []
 begins_fits (procedure.Go round numbers) h = round_fits round numbers
@@ -212,6 +278,13 @@ told_fits (Sending w e share s) u =
     either_fits (overrides u && not (is_sent s)) (halted share u) (goes_on_sending w e share x)
     (halted_fits share (OfConnection (fault_of u))) (sends_fits w e share x)
 told_fits (Reporting w e) u = refl
+told_fits (Storing share) (outcome.Granted granting.Done) = stored_fits share
+told_fits (Storing share) u = tt
+told_fits Stored (outcome.Settled (Ok receipt)) = tt
+told_fits Stored (outcome.Settled (Err f)) = tt
+told_fits Stored (outcome.Granted granting.Done) = refl
+told_fits Stored u = tt
+told_fits (Batching w e b) u = batch_fits w e b u
 told_fits (Leaving f) u = tt
 told_fits (Gathering first count left failures) (outcome.Parted ticket f) = gathers_fits first count (left - 1) (failed_with ticket f failures)
 told_fits (Gathering first count left failures) u = tt

@@ -18,6 +18,7 @@ pub mod Acts
 pub mod Quiet
 pub mod Natures
 pub mod Granted
+pub mod Batchers
 pub mod Numbering
 pub mod Slow
 pub mod Instances

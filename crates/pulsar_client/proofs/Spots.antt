@@ -12,7 +12,7 @@ use Rattle.pulsar_client.specs.declared.act.Part.{Part}
 use Rattle.pulsar_client.specs.declared.act.Procedure.{Procedure}
 use Rattle.pulsar_client.specs.declared.act.Verdict.{Verdict}
 use Rattle.pulsar_client.specs.declared.act.Who.{Who}
-use Rattle.pulsar_client.specs.declared.act.Who.TheVariants.{Call}
+use Rattle.pulsar_client.specs.declared.act.Who.TheVariants.{Call, Producer}
 use Rattle.pulsar_client.specs.declared.plans.plan.Plan.{Plan}
 use Rattle.pulsar_client.specs.declared.plans.plan.Turn.{Turn}
 use Rattle.pulsar_client.specs.declared.plans.plan.Turn.TheVariants.{Stays, Gives}
@@ -24,14 +24,18 @@ use Rattle.pulsar_client.specs.Who.{is_same}
 use Rattle.pulsar_producer.specs.declared.deed.News.TheVariants as news
 use Rattle.pulsar_client.specs.declared.act.Procedure.TheVariants as procedure
 use Rattle.pulsar_client.proofs.Acts.{begun_same, none_now}
-use Rattle.pulsar_client.proofs.Fitting.{Fits, Leaves, Nowhere, Reports, Spot, Usual, begins_fits, fits, is_stop, spot, told_fits}
+use Rattle.pulsar_client.proofs.Fitting.{Fits, Keeps, Leaves, Nowhere, Reports, Spot, Usual, begins_fits, fits, is_stop, spot, told_fits}
 
 -- who has plans
 pub same_self : (w : Who) → is_same w w ≡ true
 same_self (Call t) = eq-eqb t t refl
+same_self (Producer n) = eq-eqb n n refl
 
 pub same_who : (w u : Who) → is_same w u ≡ true → w ≡ u
 same_who (Call s) (Call t) h = ap Call (eqb-true s t h)
+same_who (Producer m) (Producer n) h = ap Producer (eqb-true m n h)
+same_who (Call s) (Producer n) h = absurd cc
+same_who (Producer m) (Call t) h = absurd cc
 
 -- THE FIRST OF WHAT IS LEFT
 
@@ -53,6 +57,7 @@ abbrev SoundAt : Spot → Who → List Act → Type 0
 SoundAt Usual w now = Unit {0}
 SoundAt Reports w now = IsFirst w now
 SoundAt Leaves w now = Unit {0}
+SoundAt Keeps w now = Unit {0}
 SoundAt Nowhere w now = ⊥
 
 head_is : (w : Who) (now : List Act) (here : List Notice) (behind : List (List Notice)) (parts : List Part) (a : Act) →
@@ -68,6 +73,7 @@ at_spot w who Usual action left is h = tt
 at_spot w who Reports (Tell n) left is h = is
 at_spot w who Reports action left is h = absurd cc
 at_spot w who Leaves action left is h = tt
+at_spot w who Keeps action left is h = tt
 at_spot w who Nowhere action left is h = absurd cc
 
 turn_sound : (w who : Who) (turn : Turn Plan Verdict) (left : List Act) → who ≡ w → Fits turn → SoundAt (spot_of (stays turn)) w (follows who turn ++ left)
@@ -102,6 +108,7 @@ module _ (o : Options) (w : Who) (log : List Entry) (k : SoundAt (spot_of ((view
   elsewhere Usual a later fits other k = tt
   elsewhere Reports a later fits other k = absurd (other (head_is w g.now g.here g.behind g.parts a fits k))
   elsewhere Leaves a later fits other k = tt
+  elsewhere Keeps a later fits other k = tt
   elsewhere Nowhere a later fits other k = absurd k
 
   others : (a : Act) (later : List Act) → first g ≡ Some a → (IsNext w a → ⊥) → SoundAt (spot_of (v.stand w)) w later
@@ -138,6 +145,7 @@ module _ (o : Options) (w : Who) (log : List Entry) (k : SoundAt (spot_of ((view
       by Usual j = tt
       by Reports j = head_is w g.now g.here g.behind g.parts (Does who (Tell n)) f j
       by Leaves j = tt
+      by Keeps j = tt
       by Nowhere j = absurd j
 
   sound_on : (a : Act) → first g ≡ Some a → SoundAt (spot_of (stand_after a w (v.stand w))) w (at_once v a ++ left)
@@ -162,6 +170,7 @@ abbrev pub is_calm : Spot → Bool
 is_calm Usual = true
 is_calm Reports = false
 is_calm Leaves = true
+is_calm Keeps = true
 is_calm Nowhere = false
 
 pub calm_stop : (o : Options) (w who : Who) (log : List Entry) → IsRun o log → first (agenda o log) ≡ Some (Does who StopAll) →
@@ -175,4 +184,5 @@ calm_stop o w who log run f = by (spot_of ((view o log).stand w)) (sound o w log
     by Usual k = refl
     by Reports k = absurd (head_is w g.now g.here g.behind g.parts (Does who StopAll) f k)
     by Leaves k = refl
+    by Keeps k = refl
     by Nowhere k = absurd k

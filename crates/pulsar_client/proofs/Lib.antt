@@ -19,6 +19,8 @@ pub mod Quiet
 pub mod Natures
 pub mod Granted
 pub mod Batchers
+pub mod Batched
+pub mod BatchRun
 pub mod Numbering
 pub mod Slow
 pub mod Instances

@@ -15,7 +15,9 @@ use Rattle.pulsar_plans.specs.declared.turn.Action.TheVariants as wish
 use Rattle.pulsar_plans.specs.declared.turn.Turn.{Turn as SearchTurn}
 use Rattle.pulsar_plans.specs.declared.turn.Turn.TheVariants as search_turn
 use Rattle.pulsar_plans.specs.declared.turn.Ways.{Ways}
+use Rattle.pulsar_producer.specs.Batching as batches
 use Rattle.pulsar_producer.specs.Plans as produce
+use Rattle.pulsar_producer.specs.declared.batching.Batching.{Batching as Batches}
 use Rattle.pulsar_producer.specs.declared.building.Building.{Building as Build}
 use Rattle.pulsar_producer.specs.declared.building.Order.{Order}
 use Rattle.pulsar_producer.specs.declared.content.Built.{Built}
@@ -35,16 +37,17 @@ use Rattle.pulsar_client.specs.declared.act.Place.TheVariants.{At, Link}
 use Rattle.pulsar_client.specs.declared.act.Procedure.{Procedure}
 use Rattle.pulsar_client.specs.declared.act.Procedure.TheVariants as procedure
 use Rattle.pulsar_client.specs.declared.act.Round.{Round}
+use Rattle.pulsar_client.specs.declared.act.Round.TheVariants.{Checks, Flushes, Closes}
 use Rattle.pulsar_client.specs.declared.act.Share.{Share}
 use Rattle.pulsar_client.specs.declared.act.Verdict.{Verdict}
 use Rattle.pulsar_client.specs.declared.plans.plan.At.{At as Spot}
 use Rattle.pulsar_client.specs.declared.plans.plan.At.TheVariants as at
 use Rattle.pulsar_client.specs.declared.plans.plan.Plan.{Plan}
-use Rattle.pulsar_client.specs.declared.plans.plan.Plan.TheVariants.{Building, Getting, Asking, Awaiting, Searching, Producing, Sending, Reporting, Leaving, Gathering, Shutting, Visiting, Stopping}
+use Rattle.pulsar_client.specs.declared.plans.plan.Plan.TheVariants.{Building, Getting, Asking, Awaiting, Searching, Producing, Sending, Reporting, Storing, Stored, Batching, Leaving, Gathering, Shutting, Visiting, Stopping}
 use Rattle.pulsar_client.specs.declared.plans.plan.Turn.{Turn}
 use Rattle.pulsar_client.specs.declared.plans.plan.Turn.TheVariants.{Stays, Gives}
 use Rattle.pulsar_client.specs.declared.plans.plan.Wanted.{Wanted}
-use Rattle.pulsar_client.specs.Plan.{action_of, asks_of, begins, builds, fails_in, goes, goes_on_sending, goes_round, gathers, halted, in_asking, in_awaiting, in_finding, in_passing, in_turning, is_answer, is_sent, leaves, news_in, news_of, overrides, sends_stay, stands, told, told_at, told_send, visited, waits, wished}
+use Rattle.pulsar_client.specs.Plan.{action_of, asks_of, batches_on, begins, builds, fails_in, goes, goes_on_sending, goes_round, gathers, halted, in_asking, in_awaiting, in_finding, in_passing, in_settling, in_turning, is_answer, is_sent, leaves, news_in, news_of, overrides, sends_stay, stands, stored, told, told_at, told_batch, told_send, visited, visits, waits, wished}
 
 -- where a turn stays, the plan and what it does are so
 abbrev pub StaysSo : (Plan → Action → Type 0) → Turn Plan Verdict → Type 0
@@ -71,6 +74,16 @@ is_sending (Reporting w e) = true
 is_sending (Leaving f) = true
 is_sending _ = false
 
+-- one that stores a message, or is stored; and one of the batches of a topic producer
+abbrev pub is_storing : Plan → Bool
+is_storing (Storing share) = true
+is_storing Stored = true
+is_storing _ = false
+
+abbrev pub is_batching : Plan → Bool
+is_batching (Batching w e b) = true
+is_batching _ = false
+
 abbrev pub is_visiting : Plan → Bool
 is_visiting (Shutting ns) = true
 is_visiting (Visiting r n left x) = true
@@ -96,6 +109,9 @@ abbrev pub KindOf : Plan → (Plan → Bool)
 KindOf (Producing w o b) = is_producing
 KindOf (Sending w e share s) = is_sending
 KindOf (Reporting w e) = is_sending
+KindOf (Storing share) = is_storing
+KindOf Stored = is_storing
+KindOf (Batching w e b) = is_batching
 KindOf (Leaving f) = is_leaving
 KindOf (Shutting ns) = is_visiting
 KindOf (Visiting r n left x) = is_visiting
@@ -107,6 +123,7 @@ abbrev pub is_granted : Outcome → Bool
 is_granted (outcome.Granted n) = true
 is_granted _ = false
 
+-- but by that of a batch
 abbrev pub TellsSo : Action → Type 0
 TellsSo (Tell n) = is_granted n.outcome ≡ false
 TellsSo _ = Unit {0}
@@ -159,14 +176,37 @@ waits_goes w = either_so (Goes is_other) (is_answered w.number) _ _ (refl, tt) t
 stands_goes : (w : Wanted) → StaysSo (Goes is_other) (stands w)
 stands_goes w = either_so (Goes is_other) (is_answered w.number) _ _ (refl, tt) tt
 
+stored_goes : (share : Option Share) → StaysSo (Goes is_storing) (stored share)
+stored_goes None = (refl, tt)
+stored_goes (Some s) = (refl, refl)
+
+batch_goes : (w : Ways) (e : Errand) (b : Batches) (u : Outcome) → StaysSo (Goes is_batching) (told_batch w e b u)
+batch_goes w e b u =
+    let h = batches.halted b in
+    let x = batches.told w e b (news_of u) in
+    either_so (Goes is_batching) (overrides u && not (batches.is_sent b)) (batches_on w e h) (batches_on w e x) (refl, deed_tells h.deed)
+    (refl, deed_tells x.deed)
+
 gathers_goes : (first count left : ℕ) (failures : List (ℕ × Failure)) → StaysSo (Goes is_gathering) (gathers first count left failures)
 gathers_goes first count left failures = either_so (Goes is_gathering) (left == 0) _ _ tt (refl, tt)
 
 -- A ROUND
 
+visits_goes : (r : Round) (n : ℕ) (ns : List ℕ) → StaysSo (Goes is_visiting) (visits r n ns)
+visits_goes Checks n ns = (refl, tt)
+visits_goes Flushes n ns = (refl, tt)
+visits_goes Closes n ns = (refl, tt)
+
 round_goes : (r : Round) (ns : List ℕ) → StaysSo (Goes is_visiting) (goes_round r ns)
 round_goes r [] = tt
-round_goes r (n ∷ ns) = (refl, tt)
+round_goes r (n ∷ ns) = visits_goes r n ns
+
+settling_goes : (r : Round) (n : ℕ) (left : List ℕ) (u : Outcome) → StaysSo (Goes is_visiting) (in_settling r n left u)
+settling_goes Checks n left (outcome.Granted news.Done) = (refl, tt)
+settling_goes Flushes n left (outcome.Granted news.Done) = round_goes Flushes left
+settling_goes Closes n left (outcome.Granted news.Done) = (refl, tt)
+settling_goes r n left (outcome.Granted _) = tt
+settling_goes r n left _ = tt
 
 turning_goes : (r : Round) (n : ℕ) (left : List ℕ) (u : Outcome) → StaysSo (Goes is_visiting) (in_turning r n left u)
 turning_goes r n left (outcome.Granted (news.HasTurn version)) = (refl, tt)
@@ -198,6 +238,7 @@ awaiting_goes r n left outcome.Queued = (refl, tt)
 awaiting_goes r n left _ = tt
 
 visit_goes : (r : Round) (n : ℕ) (left : List ℕ) (x : Spot) (u : Outcome) → StaysSo (Goes is_visiting) (told_at r n left x u)
+visit_goes r n left at.Settling u = settling_goes r n left u
 visit_goes r n left at.Turning u = turning_goes r n left u
 visit_goes r n left at.Finding u = finding_goes r n left u
 visit_goes r n left at.Asking u = asking_goes r n left u
@@ -229,6 +270,15 @@ told_goes (Searching w s) u = search_goes w (search.told w s (news_in u))
 told_goes (Producing w o b) u = either_so (Goes is_producing) (overrides u) _ _ tt (build_goes w o (produce.build_told w o b (news_of u)))
 told_goes (Sending w e share s) u = sending_goes w e share s u
 told_goes (Reporting w e) u = (refl, tt)
+told_goes (Storing share) (outcome.Granted news.Done) = stored_goes share
+told_goes (Storing share) (outcome.Granted _) = tt
+told_goes (Storing share) _ = tt
+told_goes Stored (outcome.Settled (Ok receipt)) = tt
+told_goes Stored (outcome.Settled (Err f)) = tt
+told_goes Stored (outcome.Granted news.Done) = (refl, tt)
+told_goes Stored (outcome.Granted _) = tt
+told_goes Stored _ = tt
+told_goes (Batching w e b) u = batch_goes w e b u
 told_goes (Leaving f) u = tt
 told_goes (Gathering first count left failures) (outcome.Parted t f) = gathers_goes first count _ _
 told_goes (Gathering first count left failures) _ = tt
@@ -241,6 +291,8 @@ told_goes Stopping _ = tt
 abbrev pub KindBegun : Procedure → (Plan → Bool)
 KindBegun (procedure.Produce w o) = is_producing
 KindBegun (procedure.Send w e share m) = is_sending
+KindBegun (procedure.Store n share e) = is_storing
+KindBegun (procedure.Batch w e) = is_batching
 KindBegun (procedure.FailShare share r) = is_sending
 KindBegun (procedure.Gather first count) = is_gathering
 KindBegun (procedure.Go round ns) = is_visiting
@@ -255,6 +307,8 @@ begins_goes (procedure.Ask (Link l) request s) = (refl, tt)
 begins_goes (procedure.Search w what) = search_goes w (search.begins w what)
 begins_goes (procedure.Produce w o) = build_goes w o (produce.build_begins w o)
 begins_goes (procedure.Send w e share m) = send_goes w e share (produce.send_begins e m)
+begins_goes (procedure.Store n share e) = (refl, tt)
+begins_goes (procedure.Batch w e) = (refl, tt)
 begins_goes (procedure.FailShare share r) = (refl, refl)
 begins_goes (procedure.Gather first count) = gathers_goes first count count []
 begins_goes (procedure.Go round ns) = round_goes round ns

@@ -7,11 +7,10 @@ use Rattle.pulsar_run.specs.Run.{rest}
 use Rattle.pulsar_messages.specs.Content.{ProducerMessageValues}
 use Rattle.pulsar_plans.specs.declared.turn.Ways.{Ways}
 use Rattle.pulsar_producer.specs.Batch.{batch_of, entries_in, member_of, reports}
-use Rattle.pulsar_producer.specs.Storage.{Item, is_batching}
+use Rattle.pulsar_producer.specs.Storage.{Item}
 use Rattle.pulsar_producer.specs.declared.batch.Member.{Member}
 use Rattle.pulsar_producer.specs.declared.batching.Batching.{Batching as Batches}
 use Rattle.pulsar_producer.specs.declared.batching.Batching.TheVariants as batching
-use Rattle.pulsar_producer.specs.declared.content.Built.{Built}
 use Rattle.pulsar_producer.specs.declared.deed.News.TheVariants as news
 use Rattle.pulsar_producer.specs.declared.sending.Errand.{Errand}
 use Rattle.pulsar_producer.specs.declared.sending.Sending.{Sending as Send}
@@ -19,8 +18,6 @@ use Rattle.pulsar_client.specs.declared.act.Act.{Act}
 use Rattle.pulsar_client.specs.declared.act.Act.TheVariants.{Comes, Starts, Told, Does, Answers, Dials}
 use Rattle.pulsar_client.specs.declared.act.Action.{Action}
 use Rattle.pulsar_client.specs.declared.act.Action.TheVariants.{TakeBatch, TellAll, Rest}
-use Rattle.pulsar_client.specs.declared.act.Makes.{Makes}
-use Rattle.pulsar_client.specs.declared.act.Makes.TheVariants as makes
 use Rattle.pulsar_client.specs.declared.act.Notice.{Notice}
 use Rattle.pulsar_client.specs.declared.act.Outcome.{Outcome}
 use Rattle.pulsar_client.specs.declared.act.Outcome.TheVariants as outcome
@@ -30,7 +27,6 @@ use Rattle.pulsar_client.specs.declared.act.Procedure.TheVariants as procedure
 use Rattle.pulsar_client.specs.declared.act.Verdict.{Verdict}
 use Rattle.pulsar_client.specs.declared.act.Who.{Who}
 use Rattle.pulsar_client.specs.declared.act.Who.TheVariants.{Call, Producer}
-use Rattle.pulsar_client.specs.declared.content.Building.{Building}
 use Rattle.pulsar_client.specs.declared.plans.plan.Plan.{Plan}
 use Rattle.pulsar_client.specs.declared.plans.plan.Plan.TheVariants.{Batching}
 use Rattle.pulsar_client.specs.declared.plans.plan.Turn.{Turn}
@@ -39,70 +35,20 @@ use Rattle.pulsar_client.specs.BatchLaws.{BatchesOneByOne, MayTake, under_way}
 use Rattle.pulsar_client.specs.Content.{Heard}
 use Rattle.pulsar_client.specs.Plan.{begins, overrides, told, told_batch, told_to}
 use Rattle.pulsar_client.specs.Producers.{next_batch_at}
-use Rattle.pulsar_client.specs.Rules.{at_once, batches_by, batches_from, does, follows, follows_some, left_with, notice, performs}
+use Rattle.pulsar_client.specs.Rules.{at_once, does, follows, follows_some, notice, performs}
 use Rattle.pulsar_client.specs.Run.{Entry, Begins, Then, IsRun, agenda, first, first_of, rules, view}
-use Rattle.pulsar_client.specs.View.{Options, View, stays, stays_some, told_some, ways_of}
+use Rattle.pulsar_client.specs.View.{Options, View, stays, stays_some, told_some}
 use Rattle.pulsar_client.specs.Who.{is_same}
-use Rattle.pulsar_client.proofs.Acts.{Each, begun_same, each_append, each_either, each_first, each_map, each_rest, is_served}
+use Rattle.pulsar_client.proofs.Acts.{begun_same}
 use Rattle.pulsar_client.proofs.Batched.{BatchSo, IsRested, IsSending, IsSettling, IsTaking, StepTo, batch_goes, is_batch, takes_where, tells_where}
 use Rattle.pulsar_client.proofs.Drawing.{Every, here}
 use Rattle.pulsar_client.proofs.Follow.{same_is}
 use Rattle.pulsar_client.proofs.Granted.{BeginsSo, IsLedSo, does_from}
 use Rattle.pulsar_client.proofs.Natures.{StaysSo}
-use Rattle.pulsar_client.proofs.Raising.{IsRaised, raises}
+use Rattle.pulsar_client.proofs.Owned.{OwnBatches, starts_own}
 
 none_some : {A : Type 0} {x : A} → None ≡ Some x → ⊥
 none_some {A} {x} h = cc
-
--- WHAT BEGINS FOR A TOPIC PRODUCER is the plan of its own batches
-
-abbrev pub OwnBatches : ℕ → Procedure → Type 0
-OwnBatches n p = (w : Ways) × (block : Bool) × (p ≡ procedure.Batch w (record { producer = n; block = block }))
-
-abbrev IsOwn : Act → Type 0
-IsOwn (Starts (Producer n) p) = OwnBatches n p
-IsOwn _ = Unit {0}
-
-served_own : (a : Act) → is_served a ≡ true → IsOwn a
-served_own (Starts who p) h = absurd cc
-served_own _ h = tt
-
-abbrev is_verdict : Act → Bool
-is_verdict (Answers who verdict) = true
-is_verdict _ = false
-
-raised_own : (a b : Act) → is_verdict a ≡ false → IsRaised a b → IsOwn b
-raised_own (Answers who verdict) b other h = absurd cc
-raised_own a (Starts (Producer n) p) other h = absurd cc
-raised_own a _ other h = tt
-
-made_own : (ways : Ways) (block : Bool) (bs : List Built) → Each IsOwn (map (batches_by ways block) bs)
-made_own ways block [] = tt
-made_own ways block (b ∷ bs) = ((ways, block, refl), made_own ways block bs)
-
-from_own : (ways : Option Ways) (b : Building) → Each IsOwn (batches_from ways b)
-from_own None b = tt
-from_own (Some ways) b = made_own ways b.settings.block_queue_if_full b.parts
-
-left_own : (ways : Option Ways) (m : Makes) → Each IsOwn (left_with ways m)
-left_own ways (makes.Producer b) = each_either IsOwn (is_batching b.settings) (batches_from ways b) [] (from_own ways b) tt
-left_own ways _ = tt
-
-once_own : (v : View) (a : Act) → Each IsOwn (at_once v a)
-once_own v (Answers who verdict) = left_own (ways_of v.chosen) verdict.makes
-once_own v a = each_map (IsRaised a) IsOwn (at_once v a) (λ b. raised_own a b refl) (raises v a)
-
-own_due : (o : Options) (log : List Entry) → IsRun o log → Each IsOwn (agenda o log).now
-own_due o [] run = tt
-own_due o (Begins e ∷ log) run = tt
-own_due o (Then a ∷ log) run =
-    let g = agenda o log in
-    each_append IsOwn (at_once (view o log) a) (rest g).now (once_own (view o log) a) (each_rest IsOwn g.now g.here g.behind g.parts (own_due o log run.0))
-
-pub starts_own : (o : Options) (log : List Entry) (n : ℕ) (p : Procedure) → IsRun o (Then (Starts (Producer n) p) ∷ log) → OwnBatches n p
-starts_own o log n p run =
-    let g = agenda o log in
-    each_first IsOwn g.now g.here g.behind g.parts (Starts (Producer n) p) served_own (own_due o log run.0) run.1
 
 -- WHAT IS DONE AT ONCE
 

@@ -1,6 +1,5 @@
 -- What one step makes of the plan that sends the batches of a topic producer.
-use Rattle.std.proofs.Common.{◌≡◌, ◌⊎◌, inl, inr, ◌∙◌, sym, ap, subst, ℕ, List, [], ◌∷◌, refl, length, map, Bool, true, false, ◌&&◌, cond, Option, Some, None, Result, Ok, Err}
-use Rattle.std.specs.Prelude.{not}
+use Rattle.std.proofs.Common.{◌≡◌, ◌⊎◌, inl, inr, ◌∙◌, sym, ap, subst, ℕ, List, [], ◌∷◌, refl, length, map, Bool, true, false, cond, Option, Some, None, Result, Ok, Err}
 use Rattle.pulsar_frame.specs.Batch.{EntryValues}
 use Rattle.pulsar_messages.specs.Content.{ProducerMessageValues}
 use Rattle.pulsar_session.specs.Failures.{Failure, Fault}
@@ -167,10 +166,6 @@ abbrev pub BatchSo : Ways → Errand → Batches → Outcome → Plan → Action
 BatchSo w e b u (Batching v x q) a = (v ≡ w) × (x ≡ e) × StepTo w e b u q a
 BatchSo w e b u _ a = ⊥
 
-both : (x y : Bool) → (x && not y) ≡ true → x ≡ true
-both true y h = refl
-both false y h = absurd cc
-
 not_batch : (u : Outcome) → overrides u ≡ true → is_batch u ≡ false
 not_batch (outcome.Granted n) h = absurd cc
 not_batch _ h = refl
@@ -236,9 +231,8 @@ module _ (w : Ways) (e : Errand) where
 
   pub batch_goes : (b : Batches) (u : Outcome) → StaysSo (BatchSo w e b u) (told_batch w e b u)
   batch_goes b u =
-      either_when (BatchSo w e b u) (overrides u && not (batches.is_sent b)) (batches_on w e (batches.halted b))
-      (batches_on w e (batches.told w e b (news_of u)))
-      (λ h. (refl, refl, halted_goes b u (both (overrides u) (batches.is_sent b) h))) (λ h. (refl, refl, told_goes b u))
+      either_when (BatchSo w e b u) (overrides u) (batches_on w e (batches.halted b)) (batches_on w e (batches.told w e b (news_of u)))
+      (λ h. (refl, refl, halted_goes b u h)) (λ h. (refl, refl, told_goes b u))
 
 -- WHAT IT DOES NOT
 

@@ -91,7 +91,7 @@ batch_told : (w : Ways) (e : Errand) (b : Batches) (u : Outcome) → StaysBatche
 batch_told w e b u =
     let h = batches.halted b in
     let x = batches.told w e b (news_of u) in
-    either_batcher (overrides u && not (batches.is_sent b)) (Stays (Batching w e h.state) (action_of h.deed)) (Stays (Batching w e x.state) (action_of x.deed))
+    either_batcher (overrides u) (Stays (Batching w e h.state) (action_of h.deed)) (Stays (Batching w e x.state) (action_of x.deed))
     (refl, h.deed, refl) (refl, x.deed, refl)
 
 batcher_told : (plan : Plan) (u : Outcome) → is_batcher plan ≡ true → StaysBatcher (told plan u)

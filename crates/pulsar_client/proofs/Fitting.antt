@@ -231,7 +231,7 @@ batch_fits : (w : Ways) (e : Errand) (b : Batches) (u : Outcome) → Fits (told 
 batch_fits w e b u =
     let h = batches.halted b in
     let x = batches.told w e b (news_of u) in
-    either_fits (overrides u && not (batches.is_sent b)) (batches_on w e h) (batches_on w e x) (deed_own h.deed) (deed_own x.deed)
+    either_fits (overrides u) (batches_on w e h) (batches_on w e x) (deed_own h.deed) (deed_own x.deed)
 
 -- ALL PLANS
 

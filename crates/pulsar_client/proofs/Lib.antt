@@ -19,6 +19,7 @@ pub mod Quiet
 pub mod Natures
 pub mod Granted
 pub mod Batchers
+pub mod Owned
 pub mod Batched
 pub mod BatchRun
 pub mod Numbering

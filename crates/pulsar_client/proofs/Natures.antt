@@ -184,7 +184,7 @@ batch_goes : (w : Ways) (e : Errand) (b : Batches) (u : Outcome) → StaysSo (Go
 batch_goes w e b u =
     let h = batches.halted b in
     let x = batches.told w e b (news_of u) in
-    either_so (Goes is_batching) (overrides u && not (batches.is_sent b)) (batches_on w e h) (batches_on w e x) (refl, deed_tells h.deed)
+    either_so (Goes is_batching) (overrides u) (batches_on w e h) (batches_on w e x) (refl, deed_tells h.deed)
     (refl, deed_tells x.deed)
 
 gathers_goes : (first count left : ℕ) (failures : List (ℕ × Failure)) → StaysSo (Goes is_gathering) (gathers first count left failures)

@@ -342,7 +342,7 @@ module _ (o : Options) (who : Who) (u : Outcome) (older : List Entry) where
       let a : who ≡ in_turn n next.0 = ap (λ m. m.who) is in
       let b : u ≡ outcome.Granted (news.HasTurn next.1) = ap (λ m. m.outcome) is in
       named (Then (Does w (PassTurn n))) (outcome.Granted (news.HasTurn next.1)) b
-      (inr (w, n, next.0, next.1, refl, a, refl, e))
+      (inr (inl (w, n, next.0, next.1, refl, a, refl, e)))
 
   tells_caused : (w : Who) (n : Notice) → is_said n.outcome ≡ true → In it (n ∷ []) → Cause o who u (Then (Does w (Tell n))) older
   tells_caused w n said (inr h) = absurd h

@@ -1,7 +1,7 @@
 -- Where a plan may stand as it does something. It tells another alone only where it reports, leaves or is stored, and only what a part of a
 -- call says, and others together only what becomes of a batch; none but a Stop ends every link; and a send that is a part of another call has
 -- reported once it is queued.
-use Rattle.std.proofs.Common.{◌≡◌, ℕ, ◌-◌, ◌==◌, List, ◌∷◌, map, refl, Bool, true, false, ◌&&◌, not, cond, Option, Some, None, Result, Ok, Err, []}
+use Rattle.std.proofs.Common.{◌≡◌, ℕ, ◌-◌, ◌==◌, List, ◌∷◌, length, map, refl, Bool, true, false, ◌&&◌, not, cond, Option, Some, None, Result, Ok, Err, []}
 use Rattle.pulsar_link.specs.Messages.{Reply}
 use Rattle.pulsar_link.specs.Refusals.{refused}
 use Rattle.pulsar_link.specs.Request.{is_answered, request_number}
@@ -12,18 +12,26 @@ use Rattle.pulsar_plans.specs.declared.turn.Action.{Action as Wish}
 use Rattle.pulsar_plans.specs.declared.turn.Turn.{Turn as SearchTurn}
 use Rattle.pulsar_plans.specs.declared.turn.Ways.{Ways}
 use Rattle.pulsar_producer.specs.Batching as batches
+use Rattle.pulsar_frame.specs.Batch.{EntryValues}
+use Rattle.pulsar_messages.specs.Content.{ProducerMessageValues}
+use Rattle.pulsar_wire.specs.declared.error.Reason.{Reason}
+use Rattle.pulsar_producer.specs.Batch.{batch_of, entries_in, failed, member_of, not_written, receipt_fate, reports}
+use Rattle.pulsar_producer.specs.declared.batch.Fate.{Fate}
 use Rattle.pulsar_producer.specs.declared.batch.Fate.TheVariants as fate
+use Rattle.pulsar_producer.specs.declared.batch.Member.{Member}
 use Rattle.pulsar_producer.specs.declared.batch.Report.{Report}
 use Rattle.pulsar_producer.specs.declared.batching.Batching.{Batching as Batches}
+use Rattle.pulsar_producer.specs.declared.batching.Batching.TheVariants as batching
 use Rattle.pulsar_producer.specs.declared.building.Building.{Building as Build}
 use Rattle.pulsar_producer.specs.declared.building.Order.{Order}
 use Rattle.pulsar_producer.specs.declared.content.Built.{Built}
 use Rattle.pulsar_producer.specs.declared.deed.Deed.{Deed}
+use Rattle.pulsar_producer.specs.declared.deed.News.{News}
 use Rattle.pulsar_producer.specs.declared.deed.Step.{Step}
 use Rattle.pulsar_producer.specs.declared.sending.Errand.{Errand}
 use Rattle.pulsar_producer.specs.declared.sending.Sending.{Sending as Send}
 use Rattle.pulsar_client.specs.declared.act.Action.{Action}
-use Rattle.pulsar_client.specs.declared.act.Action.TheVariants.{Rest, StopAll, Tell, TellAll}
+use Rattle.pulsar_client.specs.declared.act.Action.TheVariants.{Ask, Find, PassTurn, Rest, Shut, StopAll, Store, TakeBatch, Tell, TellAll}
 use Rattle.pulsar_client.specs.declared.act.Makes.TheVariants.{Nothing}
 use Rattle.pulsar_client.specs.declared.act.Notice.{Notice}
 use Rattle.pulsar_client.specs.declared.act.Outcome.{Outcome}
@@ -53,13 +61,14 @@ use Rattle.pulsar_client.specs.declared.act.Place.TheVariants as place
 use Rattle.pulsar_client.specs.declared.act.Procedure.TheVariants as procedure
 use Rattle.pulsar_client.specs.declared.plans.plan.At.TheVariants as at
 
--- where it stands: it tells that it was queued, or leaves behind what it tells, or is stored; or it stands elsewhere, but nowhere as a queued
--- part
+-- where it stands: it tells that it was queued, or leaves behind what it tells, or is stored; it holds what it is told of at once; or it stands
+-- elsewhere, but nowhere as a queued part
 pub data Spot : Type 0 where
   Usual : Spot
   Reports : Spot
   Leaves : Spot
   Keeps : Spot
+  Holds : Spot
   Nowhere : Spot
 
 abbrev pub spot : Plan → Spot
@@ -67,6 +76,13 @@ spot (Sending w e (Some share) send.Sent) = Nowhere
 spot (Reporting w e) = Reports
 spot (Leaving f) = Leaves
 spot Stored = Keeps
+spot (Storing share) = Holds
+spot (Batching w e batching.Taking) = Holds
+spot (Batching w e batching.Settling) = Holds
+spot (Shutting numbers) = Holds
+spot (Visiting r n left at.Finding) = Holds
+spot (Visiting r n left at.Asking) = Holds
+spot (Visiting r n left at.Passing) = Holds
 spot plan = Usual
 
 -- what a part of a call says to it
@@ -92,6 +108,18 @@ is_own (TellAll ns) = all_settling ns
 is_own StopAll = false
 is_own _ = true
 
+-- it is told at once what became of it
+abbrev pub is_quick : Action → Bool
+is_quick (Tell n) = true
+is_quick (TellAll ns) = true
+is_quick (TakeBatch n) = true
+is_quick (Store n entry) = true
+is_quick (Shut t) = true
+is_quick (Find n) = true
+is_quick (Ask l request) = true
+is_quick (PassTurn n) = true
+is_quick _ = false
+
 abbrev pub fits : Spot → Action → Bool
 fits Usual action = is_own action
 fits Reports (Tell n) = is_said n.outcome
@@ -100,6 +128,7 @@ fits Leaves (Tell n) = is_said n.outcome
 fits Leaves action = is_own action
 fits Keeps (Tell n) = is_said n.outcome
 fits Keeps action = is_own action
+fits Holds action = is_quick action && is_own action
 fits Nowhere action = false
 
 abbrev pub Fits : Turn Plan Verdict → Type 0
@@ -112,6 +141,7 @@ says_so Usual n h = absurd cc
 says_so Reports n h = h
 says_so Leaves n h = h
 says_so Keeps n h = h
+says_so Holds n h = absurd cc
 says_so Nowhere n h = absurd cc
 
 pub settles_so : (s : Spot) (ns : List Notice) → fits s (TellAll ns) ≡ true → all_settling ns ≡ true
@@ -119,6 +149,7 @@ settles_so Usual ns h = h
 settles_so Reports ns h = absurd cc
 settles_so Leaves ns h = h
 settles_so Keeps ns h = h
+settles_so Holds ns h = h
 settles_so Nowhere ns h = absurd cc
 
 either_fits : (b : Bool) (x y : Turn Plan Verdict) → Fits x → Fits y → Fits (cond b x y)
@@ -132,15 +163,15 @@ wish_own (wish.Get p) = refl
 wish_own (wish.Ask l request) = refl
 wish_own (wish.Wait delay) = refl
 
-report_settles : (r : Report) → is_settling (told_of r.fate) ≡ true
-report_settles (record { ticket = t; fate = fate.Receipt receipt }) = refl
-report_settles (record { ticket = t; fate = fate.Failed f }) = refl
-report_settles (record { ticket = t; fate = fate.Halted }) = refl
-report_settles (record { ticket = t; fate = fate.Flushed }) = refl
+fate_settles : (f : Fate) → is_settling (told_of f) ≡ true
+fate_settles (fate.Receipt receipt) = refl
+fate_settles (fate.Failed f) = refl
+fate_settles fate.Halted = refl
+fate_settles fate.Flushed = refl
 
 reports_settle : (rs : List Report) → all_settling (map told_to rs) ≡ true
 reports_settle [] = refl
-reports_settle (r ∷ rs) = rw (report_settles r) (reports_settle rs)
+reports_settle (r ∷ rs) = rw (fate_settles r.fate) (reports_settle rs)
 
 deed_own : (d : Deed) → is_own (action_of d) ≡ true
 deed_own (deed.Does x) = wish_own x
@@ -227,11 +258,48 @@ stored_fits : (share : Option Share) → Fits (stored share)
 stored_fits None = refl
 stored_fits (Some s) = refl
 
-batch_fits : (w : Ways) (e : Errand) (b : Batches) (u : Outcome) → Fits (told (Batching w e b) u)
-batch_fits w e b u =
-    let h = batches.halted b in
-    let x = batches.told w e b (news_of u) in
-    either_fits (overrides u) (batches_on w e h) (batches_on w e x) (deed_own h.deed) (deed_own x.deed)
+module _ (w : Ways) (e : Errand) where
+  settles_fits : (ms : List Member) (count : ℕ) (f : Fate) → Fits (batches_on w e (batches.settles ms count f))
+  settles_fits ms count f = reports_settle (reports count f ms)
+
+  sending_fits : (ms : List Member) (count : ℕ) (x : produce.Sent) → Fits (batches_on w e (batches.sends ms count x))
+  sending_fits ms count (step.Stays s d) = deed_own d
+  sending_fits ms count (step.Gives (Ok reply)) = settles_fits ms count (receipt_fate reply)
+  sending_fits ms count (step.Gives (Err f)) = settles_fits ms count (failed f)
+
+  batched_fits : (ms : List Member) (count : ℕ) (r : Result ProducerMessageValues Reason) → Fits (batches_on w e (batches.sends_batch e ms count r))
+  batched_fits ms count (Ok m) = sending_fits ms count (produce.send_begins e m)
+  batched_fits ms count (Err r) = settles_fits ms count (not_written r)
+
+  starts_fits : (ms : List Member) (xs : List EntryValues) → Fits (batches_on w e (batches.starts_with e ms xs))
+  starts_fits ms [] = settles_fits ms 0 fate.Flushed
+  starts_fits ms (x ∷ xs) = batched_fits ms (length (x ∷ xs)) (batch_of (x ∷ xs))
+
+  resting_fits : (n : News) → Fits (batches_on w e (batches.in_resting e n))
+  resting_fits granting.Ready = refl
+  resting_fits _ = refl
+
+  taking_fits : (n : News) → Fits (batches_on w e (batches.in_taking e n))
+  taking_fits (granting.HasBatch (Some items)) = starts_fits (map member_of items) (entries_in items)
+  taking_fits (granting.HasBatch None) = refl
+  taking_fits _ = refl
+
+  batching_fits : (b : Batches) (n : News) → Fits (batches_on w e (batches.told w e b n))
+  batching_fits batching.Resting n = resting_fits n
+  batching_fits batching.Taking n = taking_fits n
+  batching_fits (batching.Sending ms count s) n = sending_fits ms count (produce.send_told w e s n)
+  batching_fits batching.Settling n = refl
+
+  halting_fits : (b : Batches) → Fits (batches_on w e (batches.halted b))
+  halting_fits batching.Resting = refl
+  halting_fits batching.Taking = refl
+  halting_fits (batching.Sending ms count s) = settles_fits ms count fate.Halted
+  halting_fits batching.Settling = refl
+
+  batch_fits : (b : Batches) (u : Outcome) → Fits (told (Batching w e b) u)
+  batch_fits b u =
+      either_fits (overrides u) (batches_on w e (batches.halted b)) (batches_on w e (batches.told w e b (news_of u)))
+      (halting_fits b) (batching_fits b (news_of u))
 
 -- ALL PLANS
 
@@ -248,7 +316,7 @@ begins_fits (procedure.Search w what) h = goes_fits w (search.begins w what)
 begins_fits (procedure.Produce w order) h = builds_fits w order (produce.build_begins w order)
 begins_fits (procedure.Send w e share m) h = sends_fits w e share (produce.send_begins e m)
 begins_fits (procedure.Store n share entry) h = refl
-begins_fits (procedure.Batch w e) h = deed_own batches.begins.deed
+begins_fits (procedure.Batch w e) h = refl
 begins_fits (procedure.FailShare share r) h = refl
 begins_fits (procedure.Gather first count) h = gathers_fits first count count []
 begins_fits (procedure.Go round numbers) h = round_fits round numbers

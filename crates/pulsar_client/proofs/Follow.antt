@@ -1,5 +1,5 @@
 -- Plans follow their outcomes.
-use Rattle.std.proofs.Common.{◌≡◌, ℕ, ◌∙◌, sym, ap, subst, ◌+◌, ◌-◌, ◌^◌, List, [], ◌∷◌, ◌++◌, refl, arith, drop, Bool, true, false, cond, Option, Some, None, inl, inr, ◌==◌, append-nil, append_assoc}
+use Rattle.std.proofs.Common.{◌≡◌, ℕ, zero, suc, ◌∙◌, sym, ap, subst, ◌+◌, ◌-◌, ◌^◌, List, [], ◌∷◌, ◌++◌, refl, arith, drop, Bool, true, false, cond, Option, Some, None, inl, inr, ◌==◌, append-nil, append_assoc}
 use Rattle.std.proofs.lemmas.Bool.{cases_Bool, eqb-true}
 use Rattle.pulsar_run.specs.Run.{rest}
 use Rattle.pulsar_client.specs.declared.act.Act.{Act}
@@ -13,7 +13,7 @@ use Rattle.pulsar_client.specs.declared.act.Part.TheVariants.{Calls}
 use Rattle.pulsar_client.specs.declared.act.Procedure.{Procedure}
 use Rattle.pulsar_client.specs.declared.act.Verdict.{Verdict}
 use Rattle.pulsar_client.specs.declared.act.Who.{Who}
-use Rattle.pulsar_client.specs.declared.act.Who.TheVariants.{Call}
+use Rattle.pulsar_client.specs.declared.act.Who.TheVariants.{Call, Producer}
 use Rattle.pulsar_client.specs.declared.plans.plan.Plan.{Plan}
 use Rattle.pulsar_client.specs.declared.plans.plan.Turn.{Turn}
 use Rattle.pulsar_client.specs.declared.plans.plan.Turn.TheVariants.{Stays, Gives}
@@ -26,15 +26,18 @@ use Rattle.pulsar_client.specs.View.{Options, View, stays, stays_some, told_some
 use Rattle.pulsar_client.specs.Who.{is_same, rank}
 use Rattle.pulsar_client.proofs.Acts.{Each, StartsIn, begun_same, each_append, each_drop, each_map, first_case, is_served, none_now, starts_in}
 use Rattle.pulsar_client.proofs.Quiet.{IsQuiet, comes_quiet, performs_quiet}
+use Rattle.pulsar_client.proofs.Raising.{IsRaised, raises}
 use Rattle.pulsar_client.proofs.Ticketed.{Began, apart, has_begun}
 
 -- WHO
 
 abbrev who_of : ℕ → ℕ → Who
-who_of k n = Call n
+who_of zero n = Call n
+who_of (suc k) n = Producer n
 
 who_is : (w : Who) → who_of (rank w).0 (rank w).1 ≡ w
 who_is (Call t) = refl
+who_is (Producer n) = refl
 
 pub same_is : (w u : Who) → is_same w u ≡ true → w ≡ u
 same_is w u h = elim (cases_Bool ((rank w).0 == (rank u).0)) [
@@ -68,6 +71,16 @@ served_no_deed _ h = refl
 
 pub performs_none : (v : View) (who : Who) (action : Action) → Each NoDeed (performs v who action)
 performs_none v who action = each_map IsQuiet NoDeed (performs v who action) quiet_no_deed (performs_quiet v who action)
+
+-- a verdict leaves no deed behind
+left_no_deed : (who : Who) (verdict : Verdict) (a : Act) → IsRaised (Answers who verdict) a → NoDeed a
+left_no_deed who verdict (Does w action) h = absurd cc
+left_no_deed who verdict (Answers w u) h = absurd cc
+left_no_deed who verdict _ h = refl
+
+pub answers_none : (v : View) (who : Who) (verdict : Verdict) → Each NoDeed (at_once v (Answers who verdict))
+answers_none v who verdict =
+    each_map (IsRaised (Answers who verdict)) NoDeed (at_once v (Answers who verdict)) (left_no_deed who verdict) (raises v (Answers who verdict))
 
 start_no_deed : (from to : ℕ) (a : Act) → StartsIn from to a → NoDeed a
 start_no_deed from to (Starts who p) k = refl
@@ -302,6 +315,10 @@ follows_run o (Then (Comes p) ∷ log) r =
 follows_run o (Then (Does w a) ∷ log) r =
     simple_on o log (Does w a) (follows_run o log r.0) r.1 (each_drop NoDeed (performs (view o log) w a) (performs_none (view o log) w a))
     (λ u t. none_due u (performs (view o log) w a) (performs_none (view o log) w a)) (λ u. refl) (λ u. refl) (λ u. refl) (λ u. refl)
+follows_run o (Then (Answers who verdict) ∷ log) r =
+    let k = answers_none (view o log) who verdict in
+    simple_on o log (Answers who verdict) (follows_run o log r.0) r.1 (each_drop NoDeed (at_once (view o log) (Answers who verdict)) k)
+    (λ u t. none_due u (at_once (view o log) (Answers who verdict)) k) (λ u. refl) (λ u. refl) (λ u. refl) (λ u. refl)
 follows_run o (Then a ∷ log) r = simple_on o log a (follows_run o log r.0) r.1 tt (λ u t. refl) (λ u. refl) (λ u. refl) (λ u. refl) (λ u. refl)
 
 pub plans_follow_lem : PlansFollow

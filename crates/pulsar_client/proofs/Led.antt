@@ -3,7 +3,7 @@ use Rattle.std.proofs.Common.{◌≡◌, ◌⊎◌, inl, inr, ◌∙◌, sym, ap
 use Rattle.pulsar_run.specs.Run.{rest}
 use Rattle.pulsar_session.specs.Failures.{Exhausted}
 use Rattle.pulsar_client.specs.declared.act.Act.{Act}
-use Rattle.pulsar_client.specs.declared.act.Act.TheVariants.{Comes, Starts, Told, Does}
+use Rattle.pulsar_client.specs.declared.act.Act.TheVariants.{Answers, Comes, Starts, Told, Does}
 use Rattle.pulsar_client.specs.declared.act.Action.TheVariants.{Rest}
 use Rattle.pulsar_client.specs.declared.act.Notice.{Notice}
 use Rattle.pulsar_client.specs.declared.act.Part.TheVariants.{Calls}
@@ -21,7 +21,7 @@ use Rattle.pulsar_client.specs.Rules.{at_once, follows, follows_some, performs, 
 use Rattle.pulsar_client.specs.Run.{Entry, Begins, Then, agenda, view}
 use Rattle.pulsar_client.specs.View.{Options, View, told_some}
 use Rattle.pulsar_client.proofs.Acts.{Each, each_map, first_case, is_served, late}
-use Rattle.pulsar_client.proofs.Follow.{NoDeed, follows_run, is_deed, left_plain, performs_none, quiet_no_deed, starts_none}
+use Rattle.pulsar_client.proofs.Follow.{NoDeed, answers_none, follows_run, is_deed, left_plain, performs_none, quiet_no_deed, starts_none}
 use Rattle.pulsar_client.proofs.Quiet.{IsQuiet, comes_quiet}
 
 is_one : (w : Who) (d : Deed) → is_deed (act_of w d) ≡ true
@@ -83,6 +83,7 @@ module _ (o : Options) (older : List Entry) (w : Who) (d : Deed) where
   once_led (Starts who p) ys h = starts_so who p (led who w d (begins p) ys h)
   once_led (Told n) ys h = told_so n (v.stand n.who) ys refl h
   once_led (Does who action) ys h = absurd (not_deed w d (performs v who action) ys (performs_none v who action) h)
+  once_led (Answers who verdict) ys h = absurd (not_deed w d (at_once v (Answers who verdict)) ys (answers_none v who verdict) h)
   once_led _ ys h = absurd cc
 
   head_led : (a : Act) (xs ys zs : List Act) → xs ≡ at_once v a → Each NoDeed ys → xs ++ ys ≡ act_of w d ∷ zs → IsLedBy a

@@ -20,6 +20,9 @@ pub mod Left
 pub mod Natures
 pub mod Granted
 pub mod Batchers
+pub mod Owned
+pub mod Batched
+pub mod BatchRun
 pub mod Numbering
 pub mod Slow
 pub mod Instances

@@ -39,7 +39,7 @@ use Rattle.pulsar_client.specs.declared.act.Procedure.TheVariants as procedure
 use Rattle.pulsar_client.specs.Content as content
 use Rattle.pulsar_client.proofs.Acts.{Each, each_append, each_either, each_first, each_map, each_rest, is_served}
 use Rattle.pulsar_client.proofs.Raising.{IsRaised, kind, may, raises, OfBatches, OfDeed, OfPart, OfStart}
-use Rattle.pulsar_client.proofs.Fitting.{fits, Fits, Holds, Keeps, Leaves, Nowhere, Reports, Spot, Usual, begins_fits, is_stop, spot, told_fits}
+use Rattle.pulsar_client.proofs.Fitting.{fits, Fits, Holds, Keeps, Leaves, Nowhere, Reports, Spot, Stores, Usual, begins_fits, is_stop, spot, told_fits}
 
 abbrev is_stopping : Act → Bool
 is_stopping (Does who StopAll) = true
@@ -67,6 +67,7 @@ no_stop_at Reports h = cc
 no_stop_at Leaves h = cc
 no_stop_at Keeps h = cc
 no_stop_at Holds h = cc
+no_stop_at Stores h = cc
 no_stop_at Nowhere h = cc
 
 turn_no_stop : (who : Who) (turn : Turn Plan Verdict) → Fits turn → Each NoStop (follows who turn)

@@ -16,6 +16,7 @@ pub mod Steps
 pub mod Sorting
 pub mod Acts
 pub mod Quiet
+pub mod Left
 pub mod Natures
 pub mod Granted
 pub mod Batchers

@@ -20,6 +20,7 @@ pub mod Left
 pub mod Natures
 pub mod Granted
 pub mod Batchers
+pub mod Keepers
 pub mod Numbering
 pub mod Slow
 pub mod Instances
@@ -36,6 +37,7 @@ pub mod Raising
 pub mod Fitting
 pub mod Spots
 pub mod Asked
+pub mod LastWords
 pub mod Stopping
 pub mod Counting
 pub mod Built

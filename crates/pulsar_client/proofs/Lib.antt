@@ -23,6 +23,7 @@ pub mod Batchers
 pub mod Owned
 pub mod Batched
 pub mod BatchRun
+pub mod Keepers
 pub mod Numbering
 pub mod Slow
 pub mod Instances
@@ -39,6 +40,7 @@ pub mod Raising
 pub mod Fitting
 pub mod Spots
 pub mod Asked
+pub mod LastWords
 pub mod Stopping
 pub mod Counting
 pub mod Built

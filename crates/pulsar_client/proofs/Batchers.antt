@@ -166,10 +166,12 @@ batcher_does o log n action run = elim (does_from o log (Producer n) action run)
     begun k =
         let r : IsRun o (Then (Starts (Producer n) k.procedure) ∷ k.older) = subst (IsRun o) k.is_there run.0 in
         let is : is_batch k.procedure ≡ true = first_batch o k.older (Starts (Producer n) k.procedure) (are_batchers o k.older r.0) r.1 in
-        (subst StaysBatcher k.leads (batcher_begins k.procedure is)).1
+        let b = subst StaysBatcher k.leads (batcher_begins k.procedure is) in
+        (b.1, b.2)
 
     led : IsLedSo o log (Producer n) action → (d : Deed) × (action ≡ action_of d)
     led k =
         let r : IsRun o (Then (Told (record { who = Producer n; outcome = k.outcome })) ∷ k.older) = subst (IsRun o) k.is_there run.0 in
         let is : is_batcher k.before ≡ true = batcher_stands o k.older n k.before r.0 k.stood in
-        (subst StaysBatcher k.leads (batcher_told k.before k.outcome is)).1
+        let b = subst StaysBatcher k.leads (batcher_told k.before k.outcome is) in
+        (b.1, b.2)

@@ -15,7 +15,7 @@ use Rattle.pulsar_producer.specs.Batching as batches
 use Rattle.pulsar_frame.specs.Batch.{EntryValues}
 use Rattle.pulsar_messages.specs.Content.{ProducerMessageValues}
 use Rattle.pulsar_wire.specs.declared.error.Reason.{Reason}
-use Rattle.pulsar_producer.specs.Batch.{batch_of, entries_in, failed, member_of, not_written, receipt_fate, reports}
+use Rattle.pulsar_producer.specs.Batch.{batch_of, cut_report, entries_in, failed, member_of, not_written, receipt_fate, reports}
 use Rattle.pulsar_producer.specs.declared.batch.Fate.{Fate}
 use Rattle.pulsar_producer.specs.declared.batch.Fate.TheVariants as fate
 use Rattle.pulsar_producer.specs.declared.batch.Member.{Member}
@@ -290,10 +290,14 @@ module _ (w : Ways) (e : Errand) where
   batching_fits (batching.Sending ms count s) n = sending_fits ms count (produce.send_told w e s n)
   batching_fits batching.Settling n = refl
 
+  cutting_fits : (ms : List Member) (count : ℕ) (is_sent : Bool) → Fits (batches_on w e (batches.cuts_off is_sent ms count))
+  cutting_fits ms count true = reports_settle (map cut_report ms)
+  cutting_fits ms count false = settles_fits ms count fate.Halted
+
   halting_fits : (b : Batches) → Fits (batches_on w e (batches.halted b))
   halting_fits batching.Resting = refl
   halting_fits batching.Taking = refl
-  halting_fits (batching.Sending ms count s) = settles_fits ms count fate.Halted
+  halting_fits (batching.Sending ms count s) = cutting_fits ms count (batches.is_sent_send s)
   halting_fits batching.Settling = refl
 
   batch_fits : (b : Batches) (u : Outcome) → Fits (told (Batching w e b) u)

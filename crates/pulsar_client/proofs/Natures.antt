@@ -1,7 +1,9 @@
 -- What kind of plan a plan is, and that it stays one of that kind; and what plans tell one another.
-use Rattle.std.proofs.Common.{◌≡◌, ◌⊎◌, ℕ, List, [], ◌∷◌, refl, Bool, true, false, cond, Option, Some, None, Result, Ok, Err, ◌==◌}
+use Rattle.std.proofs.Common.{◌≡◌, ◌⊎◌, ℕ, List, [], ◌∷◌, refl, map, Bool, true, false, cond, Option, Some, None, Result, Ok, Err, ◌==◌}
 use Rattle.std.proofs.lemmas.Bool.{cases_Bool}
 use Rattle.std.specs.Prelude.{◌&&◌, not}
+use Rattle.pulsar_wire.specs.Row.{Values}
+use Rattle.pulsar_wire.specs.Rows.{send_receipt}
 use Rattle.pulsar_session.specs.Failures.{Failure, Fault}
 use Rattle.pulsar_session.specs.Reply.{Reply as Content}
 use Rattle.pulsar_link.specs.Messages.{Reply}
@@ -17,7 +19,11 @@ use Rattle.pulsar_plans.specs.declared.turn.Turn.TheVariants as search_turn
 use Rattle.pulsar_plans.specs.declared.turn.Ways.{Ways}
 use Rattle.pulsar_producer.specs.Batching as batches
 use Rattle.pulsar_producer.specs.Plans as produce
+use Rattle.pulsar_producer.specs.declared.batch.Fate.{Fate}
+use Rattle.pulsar_producer.specs.declared.batch.Fate.TheVariants as fate
+use Rattle.pulsar_producer.specs.declared.batch.Report.{Report}
 use Rattle.pulsar_producer.specs.declared.batching.Batching.{Batching as Batches}
+use Rattle.pulsar_producer.specs.declared.batching.Goes.{Goes as Next}
 use Rattle.pulsar_producer.specs.declared.building.Building.{Building as Build}
 use Rattle.pulsar_producer.specs.declared.building.Order.{Order}
 use Rattle.pulsar_producer.specs.declared.content.Built.{Built}
@@ -30,7 +36,8 @@ use Rattle.pulsar_producer.specs.declared.deed.Step.TheVariants as step
 use Rattle.pulsar_producer.specs.declared.sending.Errand.{Errand}
 use Rattle.pulsar_producer.specs.declared.sending.Sending.{Sending as Send}
 use Rattle.pulsar_client.specs.declared.act.Action.{Action}
-use Rattle.pulsar_client.specs.declared.act.Action.TheVariants.{Tell}
+use Rattle.pulsar_client.specs.declared.act.Action.TheVariants.{Tell, TellAll}
+use Rattle.pulsar_client.specs.declared.act.Notice.{Notice}
 use Rattle.pulsar_client.specs.declared.act.Outcome.{Outcome}
 use Rattle.pulsar_client.specs.declared.act.Outcome.TheVariants as outcome
 use Rattle.pulsar_client.specs.declared.act.Place.TheVariants.{At, Link}
@@ -40,6 +47,8 @@ use Rattle.pulsar_client.specs.declared.act.Round.{Round}
 use Rattle.pulsar_client.specs.declared.act.Round.TheVariants.{Checks, Flushes, Closes}
 use Rattle.pulsar_client.specs.declared.act.Share.{Share}
 use Rattle.pulsar_client.specs.declared.act.Verdict.{Verdict}
+use Rattle.pulsar_client.specs.declared.act.Who.{Who}
+use Rattle.pulsar_client.specs.declared.act.Who.TheVariants.{Call}
 use Rattle.pulsar_client.specs.declared.plans.plan.At.{At as Spot}
 use Rattle.pulsar_client.specs.declared.plans.plan.At.TheVariants as at
 use Rattle.pulsar_client.specs.declared.plans.plan.Plan.{Plan}
@@ -47,7 +56,8 @@ use Rattle.pulsar_client.specs.declared.plans.plan.Plan.TheVariants.{Building, G
 use Rattle.pulsar_client.specs.declared.plans.plan.Turn.{Turn}
 use Rattle.pulsar_client.specs.declared.plans.plan.Turn.TheVariants.{Stays, Gives}
 use Rattle.pulsar_client.specs.declared.plans.plan.Wanted.{Wanted}
-use Rattle.pulsar_client.specs.Plan.{action_of, asks_of, batches_on, begins, builds, fails_in, goes, goes_on_sending, goes_round, gathers, halted, in_asking, in_awaiting, in_finding, in_passing, in_settling, in_turning, is_answer, is_sent, leaves, news_in, news_of, overrides, sends_stay, stands, stored, told, told_at, told_batch, told_send, visited, visits, waits, wished}
+use Rattle.pulsar_client.specs.Plan.{action_of, asks_of, batches_on, begins, builds, fails_in, goes, goes_on_sending, goes_round, gathers, halted, in_asking, in_awaiting, in_finding, in_passing, in_settling, in_stored, in_storing, in_turning, is_answer, is_sent, is_settled, leaves, news_in, news_of, overrides, sends_stay, settled, stands, stored, told, told_at, told_batch, told_of, told_send, told_to, visited, visits, waits, wished}
+use Rattle.pulsar_client.proofs.Acts.{Each}
 
 -- where a turn stays, the plan and what it does are so
 abbrev pub StaysSo : (Plan → Action → Type 0) → Turn Plan Verdict → Type 0
@@ -74,16 +84,6 @@ is_sending (Reporting w e) = true
 is_sending (Leaving f) = true
 is_sending _ = false
 
--- one that stores a message, or is stored; and one of the batches of a topic producer
-abbrev pub is_storing : Plan → Bool
-is_storing (Storing share) = true
-is_storing Stored = true
-is_storing _ = false
-
-abbrev pub is_batching : Plan → Bool
-is_batching (Batching w e b) = true
-is_batching _ = false
-
 abbrev pub is_visiting : Plan → Bool
 is_visiting (Shutting ns) = true
 is_visiting (Visiting r n left x) = true
@@ -93,6 +93,15 @@ is_visiting _ = false
 abbrev pub is_gathering : Plan → Bool
 is_gathering (Gathering first count left failures) = true
 is_gathering _ = false
+
+abbrev pub is_storing : Plan → Bool
+is_storing (Storing share) = true
+is_storing Stored = true
+is_storing _ = false
+
+abbrev pub is_batching : Plan → Bool
+is_batching (Batching w e b) = true
+is_batching _ = false
 
 -- a plan of none of these
 abbrev pub is_other : Plan → Bool
@@ -109,23 +118,37 @@ abbrev pub KindOf : Plan → (Plan → Bool)
 KindOf (Producing w o b) = is_producing
 KindOf (Sending w e share s) = is_sending
 KindOf (Reporting w e) = is_sending
-KindOf (Storing share) = is_storing
-KindOf Stored = is_storing
-KindOf (Batching w e b) = is_batching
 KindOf (Leaving f) = is_leaving
 KindOf (Shutting ns) = is_visiting
 KindOf (Visiting r n left x) = is_visiting
 KindOf (Gathering first count left failures) = is_gathering
+KindOf (Storing share) = is_storing
+KindOf Stored = is_storing
+KindOf (Batching w e b) = is_batching
 KindOf _ = is_other
 
--- and what it tells: nobody is granted anything by a plan
+-- And what it tells: nobody is granted anything by a plan, but by the plan of batches, which tells calls what became of a batch, and that
+-- their flush is done.
 abbrev pub is_granted : Outcome → Bool
 is_granted (outcome.Granted n) = true
 is_granted _ = false
 
--- but by that of a batch
+abbrev pub is_of_batch : Outcome → Bool
+is_of_batch (outcome.Settled f) = true
+is_of_batch outcome.Stopped = true
+is_of_batch (outcome.Granted news.Done) = true
+is_of_batch _ = false
+
+abbrev pub is_call : Who → Bool
+is_call (Call t) = true
+is_call _ = false
+
+abbrev pub IsOfBatch : Notice → Type 0
+IsOfBatch n = (is_call n.who ≡ true) × (is_of_batch n.outcome ≡ true)
+
 abbrev pub TellsSo : Action → Type 0
 TellsSo (Tell n) = is_granted n.outcome ≡ false
+TellsSo (TellAll ns) = Each IsOfBatch ns
 TellsSo _ = Unit {0}
 
 abbrev pub Goes : (Plan → Bool) → Plan → Action → Type 0
@@ -136,8 +159,19 @@ wish_tells (wish.Get p) = tt
 wish_tells (wish.Ask l request) = tt
 wish_tells (wish.Wait delay) = tt
 
+fate_tells : (f : Fate) → is_of_batch (told_of f) ≡ true
+fate_tells (fate.Receipt receipt) = refl
+fate_tells (fate.Failed f) = refl
+fate_tells fate.Halted = refl
+fate_tells fate.Flushed = refl
+
+reports_tell : (rs : List Report) → Each IsOfBatch (map told_to rs)
+reports_tell [] = tt
+reports_tell (r ∷ rs) = ((refl, fate_tells r.fate), reports_tell rs)
+
 deed_tells : (d : Deed) → TellsSo (action_of d)
 deed_tells (deed.Does x) = wish_tells x
+deed_tells (deed.Settles reports) = reports_tell reports
 deed_tells _ = tt
 
 search_goes : (w : Ways) (t : SearchTurn Search (Result Answer Failure)) → StaysSo (Goes is_other) (goes w t)
@@ -176,35 +210,55 @@ waits_goes w = either_so (Goes is_other) (is_answered w.number) _ _ (refl, tt) t
 stands_goes : (w : Wanted) → StaysSo (Goes is_other) (stands w)
 stands_goes w = either_so (Goes is_other) (is_answered w.number) _ _ (refl, tt) tt
 
+gathers_goes : (first count left : ℕ) (failures : List (ℕ × Failure)) → StaysSo (Goes is_gathering) (gathers first count left failures)
+gathers_goes first count left failures = either_so (Goes is_gathering) (left == 0) _ _ tt (refl, tt)
+
+-- A MESSAGE THAT IS STORED, AND BATCHES
+
 stored_goes : (share : Option Share) → StaysSo (Goes is_storing) (stored share)
 stored_goes None = (refl, tt)
 stored_goes (Some s) = (refl, refl)
 
-batch_goes : (w : Ways) (e : Errand) (b : Batches) (u : Outcome) → StaysSo (Goes is_batching) (told_batch w e b u)
-batch_goes w e b u =
-    let h = batches.halted b in
-    let x = batches.told w e b (news_of u) in
-    either_so (Goes is_batching) (overrides u) (batches_on w e h) (batches_on w e x) (refl, deed_tells h.deed)
-    (refl, deed_tells x.deed)
+storing_goes : (share : Option Share) (u : Outcome) → StaysSo (Goes is_storing) (in_storing share u)
+storing_goes share (outcome.Granted news.Done) = stored_goes share
+storing_goes share (outcome.Granted _) = tt
+storing_goes share _ = tt
 
-gathers_goes : (first count left : ℕ) (failures : List (ℕ × Failure)) → StaysSo (Goes is_gathering) (gathers first count left failures)
-gathers_goes first count left failures = either_so (Goes is_gathering) (left == 0) _ _ tt (refl, tt)
+fate_goes : (f : Result (Values send_receipt) Failure) → StaysSo (Goes is_storing) (settled f)
+fate_goes (Ok receipt) = tt
+fate_goes (Err f) = tt
+
+in_stored_goes : (u : Outcome) → StaysSo (Goes is_storing) (in_stored u)
+in_stored_goes (outcome.Settled f) = fate_goes f
+in_stored_goes (outcome.Granted news.Done) = (refl, tt)
+in_stored_goes (outcome.Granted _) = tt
+in_stored_goes _ = tt
+
+next_goes : (w : Ways) (e : Errand) (x : Next) → StaysSo (Goes is_batching) (batches_on w e x)
+next_goes w e x = (refl, deed_tells x.deed)
+
+batching_goes : (w : Ways) (e : Errand) (b : Batches) (u : Outcome) → StaysSo (Goes is_batching) (told_batch w e b u)
+batching_goes w e b u =
+    either_so (Goes is_batching) (overrides u) _ _ (next_goes w e (batches.halted b)) (next_goes w e (batches.told w e b (news_of u)))
 
 -- A ROUND
 
-visits_goes : (r : Round) (n : ℕ) (ns : List ℕ) → StaysSo (Goes is_visiting) (visits r n ns)
-visits_goes Checks n ns = (refl, tt)
-visits_goes Flushes n ns = (refl, tt)
-visits_goes Closes n ns = (refl, tt)
+visits_goes : (r : Round) (n : ℕ) (left : List ℕ) → StaysSo (Goes is_visiting) (visits r n left)
+visits_goes Checks n left = (refl, tt)
+visits_goes Flushes n left = (refl, tt)
+visits_goes Closes n left = (refl, tt)
 
 round_goes : (r : Round) (ns : List ℕ) → StaysSo (Goes is_visiting) (goes_round r ns)
 round_goes r [] = tt
 round_goes r (n ∷ ns) = visits_goes r n ns
 
+settled_goes : (r : Round) (n : ℕ) (left : List ℕ) → StaysSo (Goes is_visiting) (is_settled r n left)
+settled_goes Checks n left = (refl, tt)
+settled_goes Flushes n left = round_goes Flushes left
+settled_goes Closes n left = (refl, tt)
+
 settling_goes : (r : Round) (n : ℕ) (left : List ℕ) (u : Outcome) → StaysSo (Goes is_visiting) (in_settling r n left u)
-settling_goes Checks n left (outcome.Granted news.Done) = (refl, tt)
-settling_goes Flushes n left (outcome.Granted news.Done) = round_goes Flushes left
-settling_goes Closes n left (outcome.Granted news.Done) = (refl, tt)
+settling_goes r n left (outcome.Granted news.Done) = settled_goes r n left
 settling_goes r n left (outcome.Granted _) = tt
 settling_goes r n left _ = tt
 
@@ -246,7 +300,7 @@ visit_goes r n left at.Passing u = passing_goes r n left u
 visit_goes r n left at.Awaiting u = awaiting_goes r n left u
 
 shut_goes : (ns : List ℕ) (u : Outcome) → StaysSo (Goes is_visiting) (told (Shutting ns) u)
-shut_goes ns (outcome.Granted news.Done) = round_goes _ ns
+shut_goes ns (outcome.Granted news.Done) = round_goes Closes ns
 shut_goes ns (outcome.Granted _) = tt
 shut_goes ns _ = tt
 
@@ -270,15 +324,9 @@ told_goes (Searching w s) u = search_goes w (search.told w s (news_in u))
 told_goes (Producing w o b) u = either_so (Goes is_producing) (overrides u) _ _ tt (build_goes w o (produce.build_told w o b (news_of u)))
 told_goes (Sending w e share s) u = sending_goes w e share s u
 told_goes (Reporting w e) u = (refl, tt)
-told_goes (Storing share) (outcome.Granted news.Done) = stored_goes share
-told_goes (Storing share) (outcome.Granted _) = tt
-told_goes (Storing share) _ = tt
-told_goes Stored (outcome.Settled (Ok receipt)) = tt
-told_goes Stored (outcome.Settled (Err f)) = tt
-told_goes Stored (outcome.Granted news.Done) = (refl, tt)
-told_goes Stored (outcome.Granted _) = tt
-told_goes Stored _ = tt
-told_goes (Batching w e b) u = batch_goes w e b u
+told_goes (Storing share) u = storing_goes share u
+told_goes Stored u = in_stored_goes u
+told_goes (Batching w e b) u = batching_goes w e b u
 told_goes (Leaving f) u = tt
 told_goes (Gathering first count left failures) (outcome.Parted t f) = gathers_goes first count _ _
 told_goes (Gathering first count left failures) _ = tt
@@ -308,7 +356,7 @@ begins_goes (procedure.Search w what) = search_goes w (search.begins w what)
 begins_goes (procedure.Produce w o) = build_goes w o (produce.build_begins w o)
 begins_goes (procedure.Send w e share m) = send_goes w e share (produce.send_begins e m)
 begins_goes (procedure.Store n share e) = (refl, tt)
-begins_goes (procedure.Batch w e) = (refl, tt)
+begins_goes (procedure.Batch w e) = next_goes w e batches.begins
 begins_goes (procedure.FailShare share r) = (refl, refl)
 begins_goes (procedure.Gather first count) = gathers_goes first count count []
 begins_goes (procedure.Go round ns) = round_goes round ns

@@ -20,6 +20,11 @@ pub mod Left
 pub mod Natures
 pub mod Granted
 pub mod Batchers
+pub mod Left
+pub mod Owned
+pub mod Batched
+pub mod BatchRun
+pub mod Keepers
 pub mod Numbering
 pub mod Slow
 pub mod Instances
@@ -36,6 +41,7 @@ pub mod Raising
 pub mod Fitting
 pub mod Spots
 pub mod Asked
+pub mod LastWords
 pub mod Stopping
 pub mod Counting
 pub mod Built
@@ -82,8 +88,10 @@ pub mod Rise
 pub mod TurnRun
 pub mod Gathered
 pub mod Parted
+pub mod Unbatched
 pub mod Queued
 pub mod Sharing
 pub mod Telling
 pub mod Gathering
+pub mod Users
 pub mod Idlers

@@ -6,7 +6,7 @@ use Rattle.pulsar_run.specs.Laws.{In}
 use Rattle.pulsar_run.specs.Run.{rest}
 use Rattle.pulsar_messages.specs.Content.{ProducerMessageValues}
 use Rattle.pulsar_plans.specs.declared.turn.Ways.{Ways}
-use Rattle.pulsar_producer.specs.Batch.{batch_of, entries_in, member_of, reports}
+use Rattle.pulsar_producer.specs.Batch.{batch_of, cut_report, entries_in, member_of, reports}
 use Rattle.pulsar_producer.specs.Storage.{Item}
 use Rattle.pulsar_producer.specs.declared.batch.Member.{Member}
 use Rattle.pulsar_producer.specs.declared.batching.Batching.{Batching as Batches}
@@ -115,9 +115,9 @@ Batched o log = (n : ℕ) (p : Plan) → (view o log).stand (Producer n) ≡ Som
 -- WHAT IS FIRST
 
 first_is : (now : List Act) (here : List Notice) (behind : List (List Notice)) (parts : List Part) (x a : Act) (xs : List Act) → now ≡ x ∷ xs →
-    first_of rules now here behind parts ≡ Some a → x ≡ a
+    first_of now here behind parts ≡ Some a → x ≡ a
 first_is now here behind parts x a xs e h =
-    let f : Some x ≡ Some a = ap (λ ys. first_of rules ys here behind parts) (sym e) ∙ h in cc
+    let f : Some x ≡ Some a = ap (λ ys. first_of ys here behind parts) (sym e) ∙ h in cc
 
 fits_first : (o : Options) (log : List Entry) (x a : Act) (xs : List Act) → (agenda o log).now ≡ x ∷ xs → first (agenda o log) ≡ Some a → x ≡ a
 fits_first o log x a xs e h = let g = agenda o log in first_is g.now g.here g.behind g.parts x a xs e h
@@ -125,26 +125,26 @@ fits_first o log x a xs e h = let g = agenda o log in first_is g.now g.here g.be
 none_first : (o : Options) (log : List Entry) (x : Act) (xs : List Act) → (agenda o log).now ≡ x ∷ xs → first (agenda o log) ≡ None → ⊥
 none_first o log x xs e h =
     let g = agenda o log in
-    let f : Some x ≡ None = ap (λ ys. first_of rules ys g.here g.behind g.parts) (sym e) ∙ h in
+    let f : Some x ≡ None = ap (λ ys. first_of ys g.here g.behind g.parts) (sym e) ∙ h in
     cc
 
-outcome_in : Outcome → Act → Outcome
+abbrev outcome_in : Outcome → Act → Outcome
 outcome_in u (Told n) = n.outcome
 outcome_in u _ = u
 
-action_in : Action → Act → Action
-action_in b (Does who a) = a
-action_in b _ = b
+abbrev told_who : Who → Act → Who
+told_who w (Told n) = n.who
+told_who w _ = w
 
-who_in : Who → Act → Who
-who_in w (Does who a) = who
-who_in w _ = w
+abbrev turn_action : Action → Turn Plan Verdict → Action
+turn_action a (Stays p b) = b
+turn_action a (Gives verdict) = a
 
-is_told : Act → Bool
+abbrev is_told : Act → Bool
 is_told (Told n) = true
 is_told _ = false
 
-is_does : Act → Bool
+abbrev is_does : Act → Bool
 is_does (Does who a) = true
 is_does _ = false
 
@@ -176,7 +176,7 @@ took_now o log n u k =
     let w : under_way o n log ≡ row = ap (under_way o n) l ∙ ap (λ c. cond c row (under_way o n k.older)) (self_same n) in
     k.said ∙ ap (says (view o k.older)) a ∙ ap (λ r. outcome.Granted (news.HasBatch r)) (sym w)
 
-batch_in : Outcome → Option (List Item)
+abbrev batch_in : Outcome → Option (List Item)
 batch_in (outcome.Granted (news.HasBatch items)) = items
 batch_in _ = None
 
@@ -212,7 +212,8 @@ none_now o log n u k =
 settles_all : (w : Ways) (e : Errand) (a : Action) (b : Batches) (u : Outcome) → IsSettling w e a b u → (ns : List Notice) × (a ≡ TellAll ns)
 settles_all w e a batching.Resting u k = absurd k
 settles_all w e a batching.Taking u k = (map told_to (reports (length (entries_in k.0)) k.1 (map member_of k.0)), k.4)
-settles_all w e a (batching.Sending ms c s) u k = (map told_to (reports c k.0 ms), k.2)
+settles_all w e a (batching.Sending ms c s) u (inl k) = (map told_to (map cut_report ms), k.1)
+settles_all w e a (batching.Sending ms c s) u (inr k) = (map told_to (reports c k.0 ms), k.2)
 settles_all w e a batching.Settling u k = absurd k
 
 module _ (o : Options) (log : List Entry) (n : ℕ) (u : Outcome) (run : IsRun o (Then (Told (notice (Producer n) u)) ∷ log)) where
@@ -243,8 +244,8 @@ module _ (o : Options) (log : List Entry) (n : ℕ) (u : Outcome) (run : IsRun o
     sent : (b : Batches) (ms : List Member) (c : ℕ) (x : Send) (a : Action) → PromptSo o log n b → StateSo o log n b → IsSending w e ms c x a b u →
         StateSo o later n (batching.Sending ms c x)
     sent batching.Resting ms c x a p s k = absurd k
-    sent batching.Taking ms c x a p s k = (k.0, some_batch o log n u k.0 (was_done o log n batching.Taking u p run.1) k.2, k.3, k.4, k.1, k.5)
-    sent (batching.Sending ns d y) ms c x a p s k = (s.0, s.1, k.0 ∙ s.2.0, k.1 ∙ s.2.1, s.2.2, s.2.3)
+    sent batching.Taking ms c x a p s k = (k.0, some_batch o log n u k.0 (was_done o log n batching.Taking u p run.1) k.2, (k.3, k.4, k.1, k.5))
+    sent (batching.Sending ns d y) ms c x a p s k = (s.0, s.1, (k.0 ∙ s.2.0, k.1 ∙ s.2.1, s.2.2, s.2.3))
     sent batching.Settling ms c x a p s k = absurd k
 
     state_then : (b q : Batches) (a : Action) → PromptSo o log n b → StateSo o log n b → StepTo w e b u q a → StateSo o later n q
@@ -338,23 +339,7 @@ deed_at o log n a run k = elim (does_from o log (Producer n) a run) [ inl b ↦ 
         let s = starts_own o b.older n b.procedure r in
         let e : Errand = record { producer = n; block = s.1 } in
         let f : Stays (Batching s.0 e batching.Resting) Rest ≡ Stays b.plan a = sym (ap begins s.2) ∙ b.leads in
-        sym (ap (action_of_turn a) f)
-      where
-        action_of_turn : Action → Turn Plan Verdict → Action
-        action_of_turn x (Stays p y) = y
-        action_of_turn x (Gives v) = x
-
-    led : IsLedSo o log (Producer n) a → AtDeed o log n a
-    led l =
-        let r : IsRun o (Then (Told (notice (Producer n) l.outcome)) ∷ l.older) = subst (IsRun o) l.is_there run.0 in
-        let every : Every (Batched o) (Then (Told (notice (Producer n) l.outcome)) ∷ l.older) = subst (Every (Batched o)) l.is_there k in
-        let s = here (Batched o) l.older every.1 n l.before l.stood in
-        let g : StaysSo (BatchSo s.ways s.errand s.state l.outcome) (told l.before l.outcome) =
-        subst (λ x. StaysSo (BatchSo s.ways s.errand s.state l.outcome) (told x l.outcome)) (sym s.is_it) (batch_goes s.ways s.errand s.state l.outcome) in
-        let b : BatchSo s.ways s.errand s.state l.outcome l.plan a = subst (StaysSo (BatchSo s.ways s.errand s.state l.outcome)) l.leads g in
-        let now : (view o log).stand (Producer n) ≡ Some l.plan =
-        ap (λ x. (view o x).stand (Producer n)) l.is_there ∙ row_then o l.older n l.outcome r (Some l.before) l.stood ∙ ap stays l.leads in
-        from l s r l.plan b now
+        sym (ap (turn_action a) f)
 
     from : (l : IsLedSo o log (Producer n) a) (s : StandsSo o l.older n l.before) → IsRun o (Then (Told (notice (Producer n) l.outcome)) ∷ l.older) →
         (q : Plan) → BatchSo s.ways s.errand s.state l.outcome q a → (view o log).stand (Producer n) ≡ Some q → AtDeed o log n a
@@ -371,6 +356,18 @@ deed_at o log n a run k = elim (does_from o log (Producer n) a run) [ inl b ↦ 
       step = g.2;
     }
     from l s r _ g now = absurd g
+
+    led : IsLedSo o log (Producer n) a → AtDeed o log n a
+    led l =
+        let r : IsRun o (Then (Told (notice (Producer n) l.outcome)) ∷ l.older) = subst (IsRun o) l.is_there run.0 in
+        let every : Every (Batched o) (Then (Told (notice (Producer n) l.outcome)) ∷ l.older) = subst (Every (Batched o)) l.is_there k in
+        let s = here (Batched o) l.older every.1 n l.before l.stood in
+        let g : StaysSo (BatchSo s.ways s.errand s.state l.outcome) (told l.before l.outcome) =
+        subst (λ x. StaysSo (BatchSo s.ways s.errand s.state l.outcome) (told x l.outcome)) (sym s.is_it) (batch_goes s.ways s.errand s.state l.outcome) in
+        let b : BatchSo s.ways s.errand s.state l.outcome l.plan a = subst (StaysSo (BatchSo s.ways s.errand s.state l.outcome)) l.leads g in
+        let now : (view o log).stand (Producer n) ≡ Some l.plan =
+        ap (λ x. (view o x).stand (Producer n)) l.is_there ∙ row_then o l.older n l.outcome r (Some l.before) l.stood ∙ ap stays l.leads in
+        from l s r l.plan b now
 
 -- OTHER ACTS
 
@@ -512,10 +509,6 @@ told_then o log m run k n p h = elim (cases_Bool (is_same (Producer n) m.who)) [
         let f : m.who ≡ Producer n = ap (told_who (Producer n)) q in
         let g : true ≡ false = sym (self_same n) ∙ ap (is_same (Producer n)) (sym f) ∙ e in
         cc
-      where
-        told_who : Who → Act → Who
-        told_who w (Told x) = x.who
-        told_who w _ = w
 
     other : is_same (Producer n) m.who ≡ false → StandsSo o (Then (Told m) ∷ log) n p
     other e =
@@ -615,15 +608,17 @@ one_by_one : (o : Options) (log older : List Entry) (n : ℕ) (u : Outcome) (b :
     IsRun o (Then (Told (notice (Producer n) u)) ∷ older) → PromptSo o older n b → StateSo o older n b → IsTaking b u →
     (under_way o n log ≡ None) × MayTake n log
 one_by_one o log older n u batching.Resting there run p s t =
-    (ap (under_way o n) there ∙ s, older, inl (there ∙ ap (λ x. Then (Told (notice (Producer n) x)) ∷ older) t))
+    (ap (under_way o n) there ∙ s, (older, inl (there ∙ ap (λ x. Then (Told (notice (Producer n) x)) ∷ older) t)))
 one_by_one o log older n u batching.Taking there run p s t = absurd t
 one_by_one o log older n u (batching.Sending ms c x) there run p s t = absurd t
 one_by_one o log older n u batching.Settling there run p s t =
     let d = none_now o older n u (was_done o older n batching.Settling u p run.1) in (
       ap (under_way o n) there ∙ d.1,
-      d.2,
-      inr (d.3, there ∙ ap (λ x. Then (Told (notice (Producer n) x)) ∷ older) d.0
-          ∙ ap (λ x. Then (Told (notice (Producer n) (outcome.Granted news.Done))) ∷ x) d.4),
+      (
+        d.2,
+        inr (d.3, there ∙ ap (λ x. Then (Told (notice (Producer n) x)) ∷ older) d.0
+            ∙ ap (λ x. Then (Told (notice (Producer n) (outcome.Granted news.Done))) ∷ x) d.4),
+      ),
     )
 
 pub batches_one_by_one_lem : BatchesOneByOne

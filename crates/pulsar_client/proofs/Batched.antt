@@ -16,7 +16,7 @@ use Rattle.pulsar_plans.specs.declared.turn.Action.TheVariants as wish
 use Rattle.pulsar_plans.specs.declared.turn.Turn.{Turn as SearchTurn}
 use Rattle.pulsar_plans.specs.declared.turn.Turn.TheVariants as search_turn
 use Rattle.pulsar_plans.specs.declared.turn.Ways.{Ways}
-use Rattle.pulsar_producer.specs.Batch.{batch_of, entries_in, failed, member_of, not_written, receipt_fate, reports}
+use Rattle.pulsar_producer.specs.Batch.{batch_of, cut_report, entries_in, failed, member_of, not_written, receipt_fate, reports}
 use Rattle.pulsar_producer.specs.Batching as batches
 use Rattle.pulsar_producer.specs.Plans as produce
 use Rattle.pulsar_producer.specs.Plans.{Sent, fault_told, not_drawn, not_queued, receipt, send_looks, send_makes}
@@ -153,7 +153,9 @@ IsSettling w e a batching.Resting u = ⊥
 IsSettling w e a batching.Taking u =
     (items : List Item) × (f : Fate) × (u ≡ outcome.Granted (news.HasBatch (Some items))) × Unsent items f
     × (a ≡ TellAll (map told_to (reports (length (entries_in items)) f (map member_of items))))
-IsSettling w e a (batching.Sending ms c s) u = (f : Fate) × Comes w e s u f × (a ≡ TellAll (map told_to (reports c f ms)))
+IsSettling w e a (batching.Sending ms c s) u =
+    ((overrides u ≡ true) × (a ≡ TellAll (map told_to (map cut_report ms))))
+    ⊎ ((f : Fate) × Comes w e s u f × (a ≡ TellAll (map told_to (reports c f ms))))
 IsSettling w e a batching.Settling u = ⊥
 
 abbrev pub StepTo : Ways → Errand → Batches → Outcome → Batches → Action → Type 0
@@ -178,10 +180,15 @@ module _ (w : Ways) (e : Errand) where
   abbrev GoesTo : Batches → Outcome → Goes → Type 0
   GoesTo b u g = StepTo w e b u g.state (action_of g.deed)
 
+  cuts_goes : (ms : List Member) (c : ℕ) (s : Send) (u : Outcome) (b : Bool) → overrides u ≡ true →
+      GoesTo (batching.Sending ms c s) u (batches.cuts_off b ms c)
+  cuts_goes ms c s u true h = inl (h, refl)
+  cuts_goes ms c s u false h = inr (fate.Halted, inl (h, refl), refl)
+
   halted_goes : (b : Batches) (u : Outcome) → overrides u ≡ true → GoesTo b u (batches.halted b)
   halted_goes batching.Resting u h = (refl, tt)
   halted_goes batching.Taking u h = (refl, not_batch u h)
-  halted_goes (batching.Sending ms c s) u h = (fate.Halted, inl (h, refl), refl)
+  halted_goes (batching.Sending ms c s) u h = cuts_goes ms c s u (batches.is_sent_send s) h
   halted_goes batching.Settling u h = (refl, h)
 
   resting_goes : (u : Outcome) → GoesTo batching.Resting u (batches.in_resting e (news_of u))
@@ -219,9 +226,9 @@ module _ (w : Ways) (e : Errand) where
 
   sends_goes : (ms : List Member) (c : ℕ) (s : Send) (u : Outcome) (x : Sent) → produce.send_told w e s (news_of u) ≡ x →
       GoesTo (batching.Sending ms c s) u (batches.sends ms c x)
-  sends_goes ms c s u (step.Stays q d) h = (refl, refl, d, h, refl)
-  sends_goes ms c s u (step.Gives (Ok r)) h = (receipt_fate r, inr (inl (r, h, refl)), refl)
-  sends_goes ms c s u (step.Gives (Err g)) h = (failed g, inr (inr (g, h, refl)), refl)
+  sends_goes ms c s u (step.Stays q d) h = (refl, refl, (d, h, refl))
+  sends_goes ms c s u (step.Gives (Ok r)) h = inr (receipt_fate r, inr (inl (r, h, refl)), refl)
+  sends_goes ms c s u (step.Gives (Err g)) h = inr (failed g, inr (inr (g, h, refl)), refl)
 
   told_goes : (b : Batches) (u : Outcome) → GoesTo b u (batches.told w e b (news_of u))
   told_goes batching.Resting u = resting_goes u
@@ -274,7 +281,8 @@ takes_where w e b u batching.Settling m k = absurd (settling b k)
     settling : (b : Batches) → IsSettling w e (TakeBatch m) b u → ⊥
     settling batching.Resting k = k
     settling batching.Taking k = (let f : is_take (TakeBatch m) ≡ false = ap is_take k.4 in absurd cc)
-    settling (batching.Sending ms c s) k = (let f : is_take (TakeBatch m) ≡ false = ap is_take k.2 in absurd cc)
+    settling (batching.Sending ms c s) (inl k) = (let f : is_take (TakeBatch m) ≡ false = ap is_take k.1 in absurd cc)
+    settling (batching.Sending ms c s) (inr k) = (let f : is_take (TakeBatch m) ≡ false = ap is_take k.2 in absurd cc)
     settling batching.Settling k = k
 
 pub tells_where : (w : Ways) (e : Errand) (b : Batches) (u : Outcome) (q : Batches) (ns : List Notice) → StepTo w e b u q (TellAll ns) →

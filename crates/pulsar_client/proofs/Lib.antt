@@ -20,6 +20,7 @@ pub mod Left
 pub mod Natures
 pub mod Granted
 pub mod Batchers
+pub mod Left
 pub mod Owned
 pub mod Batched
 pub mod BatchRun
@@ -86,6 +87,7 @@ pub mod Rise
 pub mod TurnRun
 pub mod Gathered
 pub mod Parted
+pub mod Unbatched
 pub mod Queued
 pub mod Sharing
 pub mod Telling

@@ -230,7 +230,7 @@ module _ (Q : ℕ → Type 0) where
   visit_sound r n left at.Awaiting u = awaiting_sound r n left u
 
   shut_sound : (ns : List ℕ) (u : Outcome) → TurnSound Q (told (Shutting ns) u)
-  shut_sound ns (outcome.Granted news.Done) = round_sound _ ns
+  shut_sound ns (outcome.Granted news.Done) = round_sound Closes ns
   shut_sound ns (outcome.Granted _) = tt
   shut_sound ns _ = tt
 

@@ -6,7 +6,7 @@ use Rattle.pulsar_messages.specs.Content.{ProducerMessageValues}
 use Rattle.pulsar_messages.specs.Words as words
 use Rattle.pulsar_session.specs.Failures.{Failure}
 use Rattle.pulsar_link.specs.Messages.{Reply, is_body}
-use Rattle.pulsar_producer.specs.Batch.{batch_of, entries_in, failed, member_of, receipt_fate, reports}
+use Rattle.pulsar_producer.specs.Batch.{batch_of, cut_report, entries_in, failed, member_of, receipt_fate, reports}
 use Rattle.pulsar_producer.specs.Message.{with_version}
 use Rattle.pulsar_producer.specs.Storage.{Item}
 use Rattle.pulsar_producer.specs.declared.batch.Fate.{Fate}
@@ -66,7 +66,7 @@ AskedAs n s log =
     (l : ℕ) × (name : List ℕ) × (m : ProducerMessageValues) × (block : Bool)
     × In (Then (Does (Producer n) (Ask l (words.Send n name s m block)))) log
 
--- a receipt of its frame came; or its send failed, for this cause; or the client was stopped before its frame was queued; or there was no message in it
+-- a receipt of its frame came; or its send failed, for this cause; or the client was stopped; or there was no message in it
 abbrev pub IsFateOf : (number : ℕ) → List Entry → List Item → Outcome → Fate → Type 0
 IsFateOf n log items u f =
     ((r : Reply) × (s : ℕ) × (u ≡ outcome.Replied r) × (is_body 7 r.content.body ≡ true) × (r.content.key ≡ Some (key.ProducerSend n s))
@@ -76,12 +76,12 @@ IsFateOf n log items u f =
     ⊎ ((entries_in items ≡ []) × (f ≡ fate.Flushed))
 
 -- Those of a batch are told together, right behind what its producer is told of it: each what became of its message, with its place in the
--- batch and the count of its messages.
+-- batch and the count of its messages. Where the client is stopped while its frame waits for a receipt, its messages are lost.
 abbrev pub MembersAreTold : Type 0
 MembersAreTold = (o : Options) (log : List Entry) (n : ℕ) (ns : List Notice) → IsRun o (Then (Does (Producer n) (TellAll ns)) ∷ log) →
-    (items : List Item) × (u : Outcome) × (f : Fate) × (older : List Entry) × (under_way o n log ≡ Some items)
-    × (log ≡ Then (Told (notice (Producer n) u)) ∷ older) × IsFateOf n log items u f
-    × (ns ≡ map told_to (reports (length (entries_in items)) f (map member_of items)))
+    (items : List Item) × (u : Outcome) × (older : List Entry) × (under_way o n log ≡ Some items) × (log ≡ Then (Told (notice (Producer n) u)) ∷ older)
+    × (((f : Fate) × IsFateOf n log items u f × (ns ≡ map told_to (reports (length (entries_in items)) f (map member_of items))))
+    ⊎ ((overrides u ≡ true) × (ns ≡ map told_to (map cut_report (map member_of items)))))
 
 -- THE FRAME OF A BATCH
 

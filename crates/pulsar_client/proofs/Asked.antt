@@ -20,7 +20,7 @@ use Rattle.pulsar_client.specs.declared.plans.plan.Turn.TheVariants.{Stays, Give
 use Rattle.pulsar_plans.specs.declared.turn.Ways.{Ways}
 use Rattle.pulsar_client.specs.Content.{Asked, lacks_tickets, shares}
 use Rattle.pulsar_client.specs.Plan.{fails, told, verdict, begins}
-use Rattle.pulsar_client.specs.Rules.{share, at_once, batches_by, batches_from, below, called, fails_as, causes, follows, follows_some, procedure_for, unless_refused, joins, left_with, sends_by, sends_with, stores_as, shares_of, shares_unless, starts, why_no_sends, unless}
+use Rattle.pulsar_client.specs.Rules.{share, at_once, below, called, fails_as, causes, follows, follows_some, procedure_for, unless_refused, joins, left_with, sends_by, sends_with, stores_as, shares_of, shares_unless, starts, why_no_sends, unless}
 use Rattle.pulsar_client.specs.Run.{Agenda, Entry, Begins, Then, IsRun, agenda, first, rules, view}
 use Rattle.pulsar_client.specs.View.{Options, View, told_some, ways_of, Chosen, may_call}
 use Rattle.pulsar_producer.specs.declared.sending.Errand.{Errand}
@@ -29,17 +29,14 @@ use Rattle.pulsar_client.specs.Producers.{Producers, batches_in, errand_of, next
 use Rattle.pulsar_client.specs.declared.act.Refusal.{Refusal}
 use Rattle.pulsar_client.specs.declared.act.Share.{Share}
 use Rattle.pulsar_client.specs.declared.act.Makes.{Makes}
-use Rattle.pulsar_client.specs.declared.act.Makes.TheVariants as makes
-use Rattle.pulsar_client.specs.declared.content.Building.{Building}
 use Rattle.pulsar_frame.specs.Batch.{EntryValues}
 use Rattle.pulsar_producer.specs.Batch.{entry_of}
-use Rattle.pulsar_producer.specs.Storage.{is_batching}
-use Rattle.pulsar_producer.specs.declared.content.Built.{Built}
 use Rattle.pulsar_client.specs.declared.act.Procedure.TheVariants as procedure
 use Rattle.pulsar_client.specs.Content as content
-use Rattle.pulsar_client.proofs.Acts.{Each, each_append, each_either, each_first, each_map, each_rest, is_served}
+use Rattle.pulsar_client.proofs.Acts.{Each, each_append, each_first, each_map, each_rest, is_served}
+use Rattle.pulsar_client.proofs.Left.{left_each}
 use Rattle.pulsar_client.proofs.Raising.{IsRaised, kind, may, raises, OfBatches, OfDeed, OfPart, OfStart}
-use Rattle.pulsar_client.proofs.Fitting.{fits, Fits, Holds, Keeps, Leaves, Nowhere, Reports, Spot, Usual, begins_fits, is_stop, spot, told_fits}
+use Rattle.pulsar_client.proofs.Fitting.{fits, Fits, Holds, Keeps, Leaves, Nowhere, Reports, Spot, Stores, Usual, begins_fits, is_stop, spot, told_fits}
 
 abbrev is_stopping : Act → Bool
 is_stopping (Does who StopAll) = true
@@ -67,6 +64,7 @@ no_stop_at Reports h = cc
 no_stop_at Leaves h = cc
 no_stop_at Keeps h = cc
 no_stop_at Holds h = cc
+no_stop_at Stores h = cc
 no_stop_at Nowhere h = cc
 
 turn_no_stop : (who : Who) (turn : Turn Plan Verdict) → Fits turn → Each NoStop (follows who turn)
@@ -140,17 +138,8 @@ called_so v advice asked = by (lacks_tickets v.calls.drawn (shares asked))
     by false = starts_so v advice asked
 
 -- nor is what a verdict leaves behind
-made_no_stop : (ways : Ways) (block : Bool) (bs : List Built) → Each NoStop (map (batches_by ways block) bs)
-made_no_stop ways block [] = tt
-made_no_stop ways block (b ∷ bs) = (refl, made_no_stop ways block bs)
-
-from_no_stop : (ways : Option Ways) (b : Building) → Each NoStop (batches_from ways b)
-from_no_stop None b = tt
-from_no_stop (Some ways) b = made_no_stop ways b.settings.block_queue_if_full b.parts
-
 left_no_stop : (ways : Option Ways) (m : Makes) → Each NoStop (left_with ways m)
-left_no_stop ways (makes.Producer b) = each_either NoStop (is_batching b.settings) (batches_from ways b) [] (from_no_stop ways b) tt
-left_no_stop ways _ = tt
+left_no_stop ways m = left_each NoStop ways m (λ w e. refl)
 
 -- nothing at all is left but parts
 pub record IsClear (g : Agenda) : Type 0 where

@@ -4,34 +4,30 @@ use Rattle.std.proofs.lemmas.Bool.{cases_Bool}
 use Rattle.pulsar_run.specs.Run.{rest}
 use Rattle.pulsar_plans.specs.declared.turn.Ways.{Ways}
 use Rattle.pulsar_producer.specs.Batching as batches
-use Rattle.pulsar_producer.specs.Storage.{is_batching}
 use Rattle.pulsar_producer.specs.declared.batching.Batching.{Batching as Batches}
-use Rattle.pulsar_producer.specs.declared.content.Built.{Built}
 use Rattle.pulsar_producer.specs.declared.deed.Deed.{Deed}
 use Rattle.pulsar_producer.specs.declared.sending.Errand.{Errand}
 use Rattle.pulsar_client.specs.declared.act.Act.{Act}
 use Rattle.pulsar_client.specs.declared.act.Act.TheVariants.{Starts, Told, Does, Answers}
 use Rattle.pulsar_client.specs.declared.act.Action.{Action}
-use Rattle.pulsar_client.specs.declared.act.Makes.{Makes}
-use Rattle.pulsar_client.specs.declared.act.Makes.TheVariants as makes
 use Rattle.pulsar_client.specs.declared.act.Outcome.{Outcome}
 use Rattle.pulsar_client.specs.declared.act.Procedure.{Procedure}
 use Rattle.pulsar_client.specs.declared.act.Procedure.TheVariants as procedure
 use Rattle.pulsar_client.specs.declared.act.Verdict.{Verdict}
 use Rattle.pulsar_client.specs.declared.act.Who.{Who}
 use Rattle.pulsar_client.specs.declared.act.Who.TheVariants.{Call, Producer}
-use Rattle.pulsar_client.specs.declared.content.Building.{Building}
 use Rattle.pulsar_client.specs.declared.plans.plan.Plan.{Plan}
 use Rattle.pulsar_client.specs.declared.plans.plan.Plan.TheVariants.{Batching}
 use Rattle.pulsar_client.specs.declared.plans.plan.Turn.{Turn}
 use Rattle.pulsar_client.specs.declared.plans.plan.Turn.TheVariants.{Stays, Gives}
 use Rattle.pulsar_client.specs.Plan.{action_of, begins, news_of, overrides, told}
-use Rattle.pulsar_client.specs.Rules.{at_once, batches_by, batches_from, left_with}
+use Rattle.pulsar_client.specs.Rules.{at_once}
 use Rattle.pulsar_client.specs.Run.{Entry, Begins, Then, IsRun, agenda, first, view}
 use Rattle.pulsar_client.specs.View.{Options, View, stand_after, stays, stays_some, told_some, ways_of}
 use Rattle.pulsar_client.specs.Who.{is_same}
-use Rattle.pulsar_client.proofs.Acts.{Each, begun_same, each_append, each_either, each_first, each_map, each_rest, is_served}
+use Rattle.pulsar_client.proofs.Acts.{Each, begun_same, each_append, each_first, each_map, each_rest, is_served}
 use Rattle.pulsar_client.proofs.Granted.{BeginsSo, IsLedSo, does_from}
+use Rattle.pulsar_client.proofs.Left.{left_each}
 use Rattle.pulsar_client.proofs.Raising.{IsRaised, raises}
 
 abbrev is_batch : Procedure → Bool
@@ -56,20 +52,8 @@ raised_batch (Answers who verdict) b other h = absurd cc
 raised_batch a (Starts (Producer n) p) other h = absurd cc
 raised_batch a _ other h = tt
 
-made_batch : (ways : Ways) (block : Bool) (bs : List Built) → Each IsBatch (map (batches_by ways block) bs)
-made_batch ways block [] = tt
-made_batch ways block (b ∷ bs) = (refl, made_batch ways block bs)
-
-from_batch : (ways : Option Ways) (b : Building) → Each IsBatch (batches_from ways b)
-from_batch None b = tt
-from_batch (Some ways) b = made_batch ways b.settings.block_queue_if_full b.parts
-
-left_batch : (ways : Option Ways) (m : Makes) → Each IsBatch (left_with ways m)
-left_batch ways (makes.Producer b) = each_either IsBatch (is_batching b.settings) (batches_from ways b) [] (from_batch ways b) tt
-left_batch ways _ = tt
-
 once_batch : (v : View) (a : Act) → Each IsBatch (at_once v a)
-once_batch v (Answers who verdict) = left_batch (ways_of v.chosen) verdict.makes
+once_batch v (Answers who verdict) = left_each IsBatch (ways_of v.chosen) verdict.makes (λ w e. refl)
 once_batch v a = each_map (IsRaised a) IsBatch (at_once v a) (λ b. raised_batch a b refl) (raises v a)
 
 -- PLANS
@@ -166,12 +150,12 @@ batcher_does o log n action run = elim (does_from o log (Producer n) action run)
     begun k =
         let r : IsRun o (Then (Starts (Producer n) k.procedure) ∷ k.older) = subst (IsRun o) k.is_there run.0 in
         let is : is_batch k.procedure ≡ true = first_batch o k.older (Starts (Producer n) k.procedure) (are_batchers o k.older r.0) r.1 in
-        let b = subst StaysBatcher k.leads (batcher_begins k.procedure is) in
-        (b.1, b.2)
+        let x = subst StaysBatcher k.leads (batcher_begins k.procedure is) in
+        (x.1, x.2)
 
     led : IsLedSo o log (Producer n) action → (d : Deed) × (action ≡ action_of d)
     led k =
         let r : IsRun o (Then (Told (record { who = Producer n; outcome = k.outcome })) ∷ k.older) = subst (IsRun o) k.is_there run.0 in
         let is : is_batcher k.before ≡ true = batcher_stands o k.older n k.before r.0 k.stood in
-        let b = subst StaysBatcher k.leads (batcher_told k.before k.outcome is) in
-        (b.1, b.2)
+        let x = subst StaysBatcher k.leads (batcher_told k.before k.outcome is) in
+        (x.1, x.2)

@@ -61,14 +61,15 @@ use Rattle.pulsar_client.specs.declared.act.Place.TheVariants as place
 use Rattle.pulsar_client.specs.declared.act.Procedure.TheVariants as procedure
 use Rattle.pulsar_client.specs.declared.plans.plan.At.TheVariants as at
 
--- where it stands: it tells that it was queued, or leaves behind what it tells, or is stored; it holds what it is told of at once; or it stands
--- elsewhere, but nowhere as a queued part
+-- where it stands: it tells that it was queued, or leaves behind what it tells, or is stored; it holds what it is told of at once, or stores it; or
+-- it stands elsewhere, but nowhere as a queued part
 pub data Spot : Type 0 where
   Usual : Spot
   Reports : Spot
   Leaves : Spot
   Keeps : Spot
   Holds : Spot
+  Stores : Spot
   Nowhere : Spot
 
 abbrev pub spot : Plan → Spot
@@ -76,7 +77,7 @@ spot (Sending w e (Some share) send.Sent) = Nowhere
 spot (Reporting w e) = Reports
 spot (Leaving f) = Leaves
 spot Stored = Keeps
-spot (Storing share) = Holds
+spot (Storing share) = Stores
 spot (Batching w e batching.Taking) = Holds
 spot (Batching w e batching.Settling) = Holds
 spot (Shutting numbers) = Holds
@@ -105,6 +106,7 @@ all_settling (n ∷ ns) = is_settling n.outcome && all_settling ns
 abbrev pub is_own : Action → Bool
 is_own (Tell n) = false
 is_own (TellAll ns) = all_settling ns
+is_own (Store n entry) = false
 is_own StopAll = false
 is_own _ = true
 
@@ -129,6 +131,8 @@ fits Leaves action = is_own action
 fits Keeps (Tell n) = is_said n.outcome
 fits Keeps action = is_own action
 fits Holds action = is_quick action && is_own action
+fits Stores (Store n entry) = true
+fits Stores action = false
 fits Nowhere action = false
 
 abbrev pub Fits : Turn Plan Verdict → Type 0
@@ -142,6 +146,7 @@ says_so Reports n h = h
 says_so Leaves n h = h
 says_so Keeps n h = h
 says_so Holds n h = absurd cc
+says_so Stores n h = absurd cc
 says_so Nowhere n h = absurd cc
 
 pub settles_so : (s : Spot) (ns : List Notice) → fits s (TellAll ns) ≡ true → all_settling ns ≡ true
@@ -150,7 +155,38 @@ settles_so Reports ns h = absurd cc
 settles_so Leaves ns h = h
 settles_so Keeps ns h = h
 settles_so Holds ns h = h
+settles_so Stores ns h = absurd cc
 settles_so Nowhere ns h = absurd cc
+
+-- one that stores stands so
+stores_at : (s : Spot) (n : ℕ) (entry : EntryValues) → fits s (Store n entry) ≡ true → s ≡ Stores
+stores_at Stores n entry h = refl
+stores_at Usual n entry h = absurd cc
+stores_at Reports n entry h = absurd cc
+stores_at Leaves n entry h = absurd cc
+stores_at Keeps n entry h = absurd cc
+stores_at Holds n entry h = absurd cc
+stores_at Nowhere n entry h = absurd cc
+
+spot_stores : (plan : Plan) → spot plan ≡ Stores → (share : Option Share) × (plan ≡ Storing share)
+spot_stores (Storing share) h = (share, refl)
+spot_stores (Sending w e None s) h = absurd cc
+spot_stores (Sending w e (Some share) send.Sent) h = absurd cc
+spot_stores (Sending w e (Some share) s) h = absurd cc
+spot_stores (Batching w e batching.Resting) h = absurd cc
+spot_stores (Batching w e batching.Taking) h = absurd cc
+spot_stores (Batching w e (batching.Sending ms count s)) h = absurd cc
+spot_stores (Batching w e batching.Settling) h = absurd cc
+spot_stores (Visiting r n left at.Settling) h = absurd cc
+spot_stores (Visiting r n left at.Turning) h = absurd cc
+spot_stores (Visiting r n left at.Finding) h = absurd cc
+spot_stores (Visiting r n left at.Asking) h = absurd cc
+spot_stores (Visiting r n left at.Passing) h = absurd cc
+spot_stores (Visiting r n left at.Awaiting) h = absurd cc
+spot_stores plan h = absurd cc
+
+pub stores_so : (plan : Plan) (n : ℕ) (entry : EntryValues) → fits (spot plan) (Store n entry) ≡ true → (share : Option Share) × (plan ≡ Storing share)
+stores_so plan n entry h = spot_stores plan (stores_at (spot plan) n entry h)
 
 either_fits : (b : Bool) (x y : Turn Plan Verdict) → Fits x → Fits y → Fits (cond b x y)
 either_fits true x y p q = p
@@ -290,14 +326,14 @@ module _ (w : Ways) (e : Errand) where
   batching_fits (batching.Sending ms count s) n = sending_fits ms count (produce.send_told w e s n)
   batching_fits batching.Settling n = refl
 
-  cutting_fits : (ms : List Member) (count : ℕ) (is_sent : Bool) → Fits (batches_on w e (batches.cuts_off is_sent ms count))
-  cutting_fits ms count true = reports_settle (map cut_report ms)
-  cutting_fits ms count false = settles_fits ms count fate.Halted
+  cuts_fits : (is_sent : Bool) (ms : List Member) (count : ℕ) → Fits (batches_on w e (batches.cuts_off is_sent ms count))
+  cuts_fits true ms count = reports_settle (map cut_report ms)
+  cuts_fits false ms count = settles_fits ms count fate.Halted
 
   halting_fits : (b : Batches) → Fits (batches_on w e (batches.halted b))
   halting_fits batching.Resting = refl
   halting_fits batching.Taking = refl
-  halting_fits (batching.Sending ms count s) = cutting_fits ms count (batches.is_sent_send s)
+  halting_fits (batching.Sending ms count s) = cuts_fits (batches.is_sent_send s) ms count
   halting_fits batching.Settling = refl
 
   batch_fits : (b : Batches) (u : Outcome) → Fits (told (Batching w e b) u)

@@ -53,10 +53,11 @@ use Rattle.pulsar_client.specs.Who.{turn_of}
 use Rattle.pulsar_client.specs.Producers.{drawn, is_settled_at, is_woken, link_at, next_batch_at, number_drawn, numbers_at, recalled, stored_by, turn_passed, turn_taken, unsent, waiting}
 use Rattle.pulsar_client.specs.Rules.{alone, answered_by, answered_on, at_once, below, caused, causes, draw_outcome, draw_said, dropped, ended_by, ended_on, ended_places, failed, failed_at, failed_by, failed_on, failed_over, failed_so, fails_so, finds, gets_from, grants, joins, lost, lost_so, lost_with, moved_on, notice, number_said, opens, over_links, performs, readied, ready_notice, recalls, served_by, served_on, stop_act, stopped_at, stopped_call, stopped_one, stopped_with, takes_turn, tells, tells_asker, told_at, turn_notice, waiters_of, woken}
 use Rattle.pulsar_client.specs.Run.{Entry, Begins, Then, IsRun, agenda, rules, view}
-use Rattle.pulsar_client.specs.View.{Addresses, Base, Options, Seat, Turned, View, answer_at, room_of, turned_by}
+use Rattle.pulsar_client.specs.View.{Addresses, Base, Options, Seat, Turned, View, after, answer_at, room_of, stays, stays_some, told_some, turned_by}
 use Rattle.pulsar_client.proofs.Acts.{Each, each_append, each_drop, each_either, each_flat, each_map, over_each}
 use Rattle.pulsar_client.proofs.Raising.{IsRaised, raises}
 use Rattle.pulsar_client.proofs.Led.{deeds_follow_lem}
+use Rattle.pulsar_client.proofs.Spots.{same_self}
 use Rattle.pulsar_client.proofs.Fitting.{Fits, all_settling, begins_fits, fits, is_said, is_settling, is_stop, says_so, settles_so, spot, told_fits}
 
 -- what one is granted only by what it does; a turn, that a batch was cut, and that all is settled come by others too
@@ -286,14 +287,29 @@ does_from o log w action run =
 
 -- what a plan does fits where it stands then, but for a Stop
 pub does_fit : (o : Options) (log : List Entry) (w : Who) (action : Action) → is_stopping action ≡ false → IsRun o (Then (Does w action) ∷ log) →
-    (plan : Plan) × (fits (spot plan) action ≡ true)
+    (plan : Plan) × (fits (spot plan) action ≡ true) × ((view o log).stand w ≡ Some plan)
 does_fit o log w action other run = elim (does_from o log w action run) [
-  | inl k ↦ begun k.procedure (is_stop k.procedure) refl k.plan k.leads
-  | inr k ↦ (k.plan, subst Fits k.leads (told_fits k.before k.outcome))
+  | inl k ↦
+      (let f = begun k.procedure (is_stop k.procedure) refl k.plan k.leads in
+      (k.plan, f, subst (λ l. (view o l).stand w ≡ Some k.plan) (sym k.is_there) (begun_stand (view o k.older) k.procedure ∙ ap stays k.leads)))
+  | inr k ↦ (
+    k.plan,
+    subst Fits k.leads (told_fits k.before k.outcome),
+    subst (λ l. (view o l).stand w ≡ Some k.plan) (sym k.is_there)
+        (told_stand (view o k.older) k.outcome
+        ∙ ap (λ row. stays_some (told_some row k.outcome)) k.stood
+        ∙ ap stays k.leads),
+  )
 ]
   where
-    begun : (p : Procedure) (b : Bool) → is_stop p ≡ b → (plan : Plan) → begins p ≡ Stays plan action → (plan : Plan) × (fits (spot plan) action ≡ true)
-    begun p false h plan leads = (plan, subst Fits leads (begins_fits p h))
+    begun_stand : (v : View) (p : Procedure) → (after (Starts w p) v).stand w ≡ stays (begins p)
+    begun_stand v p = ap (λ b. cond b (stays (begins p)) (v.stand w)) (same_self w)
+
+    told_stand : (v : View) (u : Outcome) → (after (Told (notice w u)) v).stand w ≡ stays_some (told_some (v.stand w) u)
+    told_stand v u = ap (λ b. cond b (stays_some (told_some (v.stand w) u)) (v.stand w)) (same_self w)
+
+    begun : (p : Procedure) (b : Bool) → is_stop p ≡ b → (plan : Plan) → begins p ≡ Stays plan action → fits (spot plan) action ≡ true
+    begun p false h plan leads = subst Fits leads (begins_fits p h)
     begun procedure.Stop true h plan leads = (let e : action ≡ StopAll = cc in let f : false ≡ true = sym other ∙ ap is_stopping e in absurd cc)
     begun p true h plan leads = absurd cc
 

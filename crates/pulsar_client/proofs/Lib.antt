@@ -16,13 +16,14 @@ pub mod Steps
 pub mod Sorting
 pub mod Acts
 pub mod Quiet
+pub mod Left
 pub mod Natures
 pub mod Granted
 pub mod Batchers
-pub mod Left
 pub mod Owned
 pub mod Batched
 pub mod BatchRun
+pub mod Keepers
 pub mod Numbering
 pub mod Slow
 pub mod Instances
@@ -39,6 +40,7 @@ pub mod Raising
 pub mod Fitting
 pub mod Spots
 pub mod Asked
+pub mod LastWords
 pub mod Stopping
 pub mod Counting
 pub mod Built
@@ -89,4 +91,5 @@ pub mod Queued
 pub mod Sharing
 pub mod Telling
 pub mod Gathering
+pub mod Users
 pub mod Idlers

@@ -8,9 +8,9 @@ use Rattle.pulsar_client.specs.declared.act.Alarm.TheVariants.{Retry, Wake, Batc
 use Rattle.pulsar_client.specs.declared.act.Part.TheVariants.{Rings}
 use Rattle.pulsar_client.specs.declared.addresses.Pause.{Pause}
 use Rattle.pulsar_client.specs.Alarms.{rings}
+use Rattle.pulsar_client.specs.Producers.{Producers}
 use Rattle.pulsar_client.specs.Rules.{below, opens, rung, woken}
 use Rattle.pulsar_client.specs.Run.{Agenda, goes_on}
-use Rattle.pulsar_client.specs.Producers.{Producers}
 use Rattle.pulsar_client.specs.View.{View, after, alarms_rung, pause_rung, producers_rung}
 
 -- what is left, and what is seen

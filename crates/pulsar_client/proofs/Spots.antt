@@ -26,7 +26,7 @@ use Rattle.pulsar_client.specs.Who.{is_same}
 use Rattle.pulsar_producer.specs.declared.deed.News.TheVariants as news
 use Rattle.pulsar_client.specs.declared.act.Procedure.TheVariants as procedure
 use Rattle.pulsar_client.proofs.Acts.{begun_same, none_now}
-use Rattle.pulsar_client.proofs.Fitting.{Fits, Holds, Keeps, Leaves, Nowhere, Reports, Spot, Usual, begins_fits, fits, is_own, is_quick, is_stop, spot, told_fits}
+use Rattle.pulsar_client.proofs.Fitting.{Fits, Holds, Keeps, Leaves, Nowhere, Reports, Spot, Stores, Usual, begins_fits, fits, is_own, is_quick, is_stop, spot, told_fits}
 
 -- who has plans
 pub same_self : (w : Who) → is_same w w ≡ true
@@ -61,6 +61,7 @@ SoundAt Reports w now = IsFirst w now
 SoundAt Leaves w now = Unit {0}
 SoundAt Keeps w now = Unit {0}
 SoundAt Holds w now = IsFirst w now
+SoundAt Stores w now = IsFirst w now
 SoundAt Nowhere w now = ⊥
 
 head_is : (w : Who) (now : List Act) (here : List Notice) (behind : List (List Notice)) (parts : List Part) (a : Act) →
@@ -85,6 +86,8 @@ at_spot w who Reports (Tell n) left is h = (is, refl)
 at_spot w who Reports action left is h = absurd cc
 at_spot w who Leaves action left is h = tt
 at_spot w who Keeps action left is h = tt
+at_spot w who Stores (Store n entry) left is h = (is, refl)
+at_spot w who Stores action left is h = absurd cc
 at_spot w who Holds action left is h = holds_on w who action left is (both (is_quick action) (is_own action) h).0
 at_spot w who Nowhere action left is h = absurd cc
 
@@ -121,6 +124,7 @@ module _ (o : Options) (w : Who) (log : List Entry) (k : SoundAt (spot_of ((view
   elsewhere Reports a later fits other k = absurd (other (head_is w g.now g.here g.behind g.parts a fits k))
   elsewhere Leaves a later fits other k = tt
   elsewhere Keeps a later fits other k = tt
+  elsewhere Stores a later fits other k = absurd (other (head_is w g.now g.here g.behind g.parts a fits k))
   elsewhere Holds a later fits other k = absurd (other (head_is w g.now g.here g.behind g.parts a fits k))
   elsewhere Nowhere a later fits other k = absurd k
 
@@ -179,6 +183,7 @@ module _ (o : Options) (w : Who) (log : List Entry) (k : SoundAt (spot_of ((view
       by u Leaves j = tt
       by u Keeps j = tt
       by u Holds j = (head_is w g.now g.here g.behind g.parts (Does who action) f j).0
+      by u Stores j = (head_is w g.now g.here g.behind g.parts (Does who action) f j).0
       by u Nowhere j = absurd j
 
   does_on : (who : Who) (action : Action) (b : Bool) → is_quick action ≡ b → first g ≡ Some (Does who action) →
@@ -210,6 +215,7 @@ is_calm Reports = false
 is_calm Leaves = true
 is_calm Keeps = true
 is_calm Holds = false
+is_calm Stores = false
 is_calm Nowhere = false
 
 pub calm_stop : (o : Options) (w who : Who) (log : List Entry) → IsRun o log → first (agenda o log) ≡ Some (Does who StopAll) →
@@ -228,4 +234,5 @@ calm_stop o w who log run f = by (spot_of ((view o log).stand w)) (sound o w log
     by Leaves k = refl
     by Keeps k = refl
     by Holds k = absurd (never (head_is w g.now g.here g.behind g.parts (Does who StopAll) f k))
+    by Stores k = absurd (never (head_is w g.now g.here g.behind g.parts (Does who StopAll) f k))
     by Nowhere k = absurd k

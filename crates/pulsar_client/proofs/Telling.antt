@@ -375,7 +375,7 @@ once_no v t u (Does who action) = sum_none NoPart (told_of t u) (performs v who 
 once_no v t u a = sum_none (IsRaised a) (told_of t u) (at_once v a) (λ b r. act_none t u b (raised_no a b refl r)) (raises v a)
 
 -- the batches of a topic producer tell of no part
-no_tell : (d : Deed) (n : Notice) → Tell n ≡ action_of d → ⊥
+pub no_tell : (d : Deed) (n : Notice) → Tell n ≡ action_of d → ⊥
 no_tell (deed.Does (wish.Get p)) n h = cc
 no_tell (deed.Does (wish.Ask l request)) n h = cc
 no_tell (deed.Does (wish.Wait delay)) n h = cc

@@ -2,12 +2,13 @@
 use Rattle.std.proofs.Common.{◌≡◌, ◌∙◌, sym, ap, subst, ℕ, zero, suc, ◌≤◌, List, [], ◌∷◌, ◌++◌, refl, arith, map, Bool, true, false, ◌&&◌, not, cond, nat_le, Option, Some, None}
 use Rattle.std.proofs.lemmas.Bool.Decides.{nat_tests}
 use Rattle.std.specs.List.{filter, flat_map}
-use Rattle.std.specs.Option.{option_to_list}
+use Rattle.std.specs.Option.{option_map, option_to_list}
 use Rattle.std.specs.Ordering.{is_lt, match_ordering}
 use Rattle.std.specs.declared.cmp.Ordering.{Ordering}
 use Rattle.std.specs.declared.cmp.Ordering.TheVariants.{Less, Equal, Greater}
 use Rattle.pulsar_run.specs.Order.{InOrder, NoneBelow}
 use Rattle.pulsar_session.specs.Link.{due}
+use Rattle.pulsar_producer.specs.Topic as topic
 use Rattle.pulsar_client.specs.declared.act.Act.{Act}
 use Rattle.pulsar_client.specs.declared.act.Act.TheVariants.{Comes, Does, Answers}
 use Rattle.pulsar_client.specs.declared.act.Action.TheVariants.{Wait, Shut, Store, Flush, StopAll}
@@ -19,14 +20,16 @@ use Rattle.pulsar_client.specs.declared.act.Part.{Part}
 use Rattle.pulsar_client.specs.declared.act.Part.TheVariants.{ToLink, Rings}
 use Rattle.pulsar_client.specs.declared.act.Who.TheVariants.{Call, Producer}
 use Rattle.pulsar_client.specs.declared.addresses.Pause.{Pause}
+use Rattle.pulsar_client.specs.declared.producers.Topic.{Topic}
+use Rattle.pulsar_client.specs.Who.{turn_of}
 use Rattle.pulsar_client.specs.Alarms.{alarm_cmp, clear, is_same_alarm, ringing, rings, set}
 use Rattle.pulsar_client.specs.Effects.{is_before3}
 use Rattle.pulsar_client.specs.Laws.{TicksInOrder, part_below, part_rank}
 use Rattle.pulsar_client.specs.Links.{Change, Remains, Becomes, IsOver, numbers_from}
-use Rattle.pulsar_client.specs.Producers.{numbers_at}
+use Rattle.pulsar_client.specs.Producers.{is_bare, numbers_at, timeout_at, topic_after}
 use Rattle.pulsar_client.specs.Rules.{due_part, on_link, over_links}
 use Rattle.pulsar_client.specs.Run.{Entry, Begins, Then, view}
-use Rattle.pulsar_client.specs.View.{Chosen, Options, Seat, Turned, View, alarms_after, alarms_on, alarms_over, alarms_rung, alarms_turned, alarms_waiting, builds, clear_all, delay_of, idle_period, later, turned, waits_from}
+use Rattle.pulsar_client.specs.View.{Chosen, Options, Seat, Turned, View, alarms_after, alarms_on, alarms_on_topic, alarms_over, alarms_rung, alarms_turned, alarms_waiting, builds, clear_all, delay_of, idle_period, later, turned, waits_from}
 use Rattle.pulsar_client.proofs.Acts.{Each, begun_same, each_append, each_map}
 use Rattle.pulsar_client.proofs.Instances.{one_way3, chain3}
 use Rattle.pulsar_client.proofs.Sorting.{cmp3, lt3}
@@ -172,6 +175,11 @@ sorted_waiting now timeout n was true es k = sorted_clear (Batch n) es k
 sorted_waiting now timeout n true false es k = sorted_from now timeout n es k
 sorted_waiting now timeout n false false es k = k
 
+sorted_topic : (v : View) (n : ℕ) (act : topic.Act) → Sorted v.alarms → Sorted (alarms_on_topic v n act)
+sorted_topic v n act k =
+    let row : Option Topic = v.producers.topics n in
+    sorted_waiting v.now (timeout_at v.producers row) n (is_bare row) (is_bare (option_map (topic_after act) row)) v.alarms k
+
 sorted_all : (ns : List ℕ) (es : List (Alarm × ℕ)) → Sorted es → Sorted (clear_all ns es)
 sorted_all [] es k = k
 sorted_all (n ∷ ns) es k = sorted_all ns (clear (Batch n) es) (sorted_clear (Batch n) es k)
@@ -181,8 +189,8 @@ sorted_after v (Comes (ToLink l x)) k = sorted_on v.chosen v.now (turned v (Come
 sorted_after v (Comes (Rings a)) k =
     sorted_either (rings v.now a v.alarms) (alarms_rung v.chosen v.now a v.alarms) v.alarms (sorted_rung v.chosen v.now a v.alarms k) k
 sorted_after v (Does who (Wait delay)) k = sorted_set (Wake who) (later v.now delay) v.alarms k
-sorted_after v (Does who (Store n e)) k = sorted_waiting v.now _ n _ _ v.alarms k
-sorted_after v (Does who (Flush n)) k = sorted_waiting v.now _ n _ _ v.alarms k
+sorted_after v (Does who (Store n e)) k = sorted_topic v n (topic.Stores (turn_of who) e) k
+sorted_after v (Does who (Flush n)) k = sorted_topic v n (topic.Flushes (turn_of who)) k
 sorted_after v (Does who (Shut t)) k = sorted_all (numbers_at (v.producers.built t)) v.alarms k
 sorted_after v (Does who StopAll) k = tt
 sorted_after v (Answers who verdict) k =

@@ -80,6 +80,6 @@ retries_set o now l p (Some w) alarms = refl
 pub follows_same : (a b : Addresses) → ((l : ℕ) → a.pause l ≡ b.pause l) → (key : List ℕ) (alarm : Alarm) → is_to_follow a key alarm ≡ is_to_follow b key alarm
 follows_same a b h key (Retry l) = ap (is_for key) (h l)
 follows_same a b h key (Wake who) = refl
-follows_same a b h key (Batch n) = refl
 follows_same a b h key (KeepAlive l) = refl
+follows_same a b h key (Batch n) = refl
 follows_same a b h key CheckIdle = refl

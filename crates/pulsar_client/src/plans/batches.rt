@@ -174,11 +174,11 @@ fn goes(
 }
 
 /// Those of a batch are told what became of it.
-pub fn tells_all(alloc: Global, reports: Reports) -> Result<Action, NoMemory>
+pub fn tells_all(alloc: Global, mut reports: Reports) -> Result<Action, NoMemory>
     ensures { IfOk result (λ a. a ≡ Action.TellAll (map told_to reports)) }
 {
     let mut notices = Notices::new(alloc);
-    for report in reports.into_inner() {
+    while let Some(report) = reports.next() {
         notices = notices.with(notice_of(alloc, report)?)?;
     }
     Ok(Action::TellAll(notices))

@@ -20,7 +20,6 @@ pub mod Left
 pub mod Natures
 pub mod Granted
 pub mod Batchers
-pub mod Left
 pub mod Owned
 pub mod Batched
 pub mod BatchRun

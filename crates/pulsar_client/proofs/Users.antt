@@ -28,7 +28,7 @@ use Rattle.pulsar_plans.specs.declared.turn.Action.TheVariants as wish
 use Rattle.pulsar_plans.specs.declared.turn.Turn.{Turn as SearchTurn}
 use Rattle.pulsar_plans.specs.declared.turn.Turn.TheVariants as search_turn
 use Rattle.pulsar_plans.specs.declared.turn.Ways.{Ways}
-use Rattle.pulsar_producer.specs.Batch.{batch_of, entries_in, failed, member_of, not_written, receipt_fate, reports_from}
+use Rattle.pulsar_producer.specs.Batch.{batch_of, cut_report, entries_in, failed, member_of, not_written, receipt_fate, reports_from}
 use Rattle.pulsar_producer.specs.Batching as batches
 use Rattle.pulsar_producer.specs.Commands.{command}
 use Rattle.pulsar_producer.specs.Plans as produce
@@ -434,10 +434,19 @@ module _ (P : ℕ → Type 0) where
   goes_so w e (batching.Sending ms count s) y k h = sends_so ms count (produce.send_told w e s y) k (step_within w e s y)
   goes_so w e batching.Settling y k h = (tt, tt)
 
+  cuts_members : (ms : List Member) → Each MemberSo ms → Each ReportSo (map cut_report ms)
+  cuts_members [] k = tt
+  cuts_members (member.Message t ∷ ms) k = (k.0, cuts_members ms k.1)
+  cuts_members (member.Flush t ∷ ms) k = (k.0, cuts_members ms k.1)
+
+  cuts_off_so : (b : Bool) (ms : List Member) (count : ℕ) → Each MemberSo ms → GoesSo (batches.cuts_off b ms count)
+  cuts_off_so true ms count k = (tt, cuts_members ms k)
+  cuts_off_so false ms count k = (tt, reports_so 0 count fate.Halted ms k)
+
   halted_so : (b : Batches) → StateSo b → GoesSo (batches.halted b)
   halted_so batching.Resting k = (tt, tt)
   halted_so batching.Taking k = (tt, tt)
-  halted_so (batching.Sending ms count s) k = (tt, reports_so 0 count fate.Halted ms k)
+  halted_so (batching.Sending ms count s) k = cuts_off_so (batches.is_sent_send s) ms count k
   halted_so batching.Settling k = (tt, tt)
 
   -- ANY PLAN

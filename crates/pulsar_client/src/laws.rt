@@ -106,7 +106,8 @@ pub fn alarms_are_ticked()
     ensures { AlarmsAreTicked }
 {}
 
-/// What a tick brings comes in order: deadlines, attempts, those who have waited, signs of life, the idle check.
+/// What a tick brings comes in order: deadlines, attempts, those who have waited, batches, signs of life, the idle
+/// check.
 pub fn ticks_in_order()
     ensures { TicksInOrder }
 {}

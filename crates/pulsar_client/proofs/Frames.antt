@@ -297,7 +297,7 @@ topic_now o log older behind t n note x p q h = ap (λ y. (view o y).producers.t
 stand_now : (o : Options) (log older : List Entry) (t : ℕ) (u : Outcome) (before plan q : Plan) (a : Action) →
     log ≡ Then (Told (notice (Call t) u)) ∷ older → (view o older).stand (Call t) ≡ Some before → told before u ≡ Stays plan a → plan ≡ q →
     (view o log).stand (Call t) ≡ Some q
-stand_now o log older t u before plan q a p s h e = ap (λ y. (view o y).stand (Call t)) p ∙ stand_told o older t u before plan a s h ∙ ap Some e
+stand_now o log older t u before plan q a p s h e = ap (λ y. (view o y).stand (Call t)) p ∙ stand_told o older (Call t) u before plan a s h ∙ ap Some e
 
 -- THE LAW
 

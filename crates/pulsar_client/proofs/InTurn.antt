@@ -364,7 +364,7 @@ holds_none (Batching w e b) n h = batches b h
     batches _ h = absurd (none_some h)
 holds_none _ n h = absurd cc
 
-not_all : (t : ℕ) → IsTicket t → t ≡ behind_all → ⊥
+pub not_all : (t : ℕ) → IsTicket t → t ≡ behind_all → ⊥
 not_all t k e = let f : true ≡ false = sym (ap is_spent e) ∙ k in cc
 
 call_passing : (o : Options) (log : List Entry) (t n : ℕ) → Every (AllTurns o) log → IsRun o (Then (Does (Call t) (PassTurn n)) ∷ log) →

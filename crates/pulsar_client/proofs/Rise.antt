@@ -4,8 +4,8 @@ use Rattle.pulsar_messages.specs.Content.{ProducerMessageValues}
 use Rattle.pulsar_messages.specs.Words as words
 use Rattle.pulsar_session.specs.Link.{is_spent}
 use Rattle.pulsar_plans.specs.declared.turn.Ways.{Ways}
-use Rattle.pulsar_producer.specs.Storage.{Item, Flush, SingleMessage, is_ready, pushed}
 use Rattle.pulsar_producer.specs.Topic as topic
+use Rattle.pulsar_producer.specs.Storage.{Item, SingleMessage, Flush, is_ready, pushed}
 use Rattle.pulsar_producer.specs.Topic.{Act as Deed, Takes, Passes, Draws, Remakes, Closes, Stores, Flushes, Cuts, TakesBatch, Halts, Seen, cuts, is_nothing, is_settled, left_of, stores, takes_in}
 use Rattle.pulsar_producer.specs.declared.sending.Errand.{Errand}
 use Rattle.pulsar_client.specs.declared.act.Act.{Act}
@@ -27,12 +27,16 @@ use Rattle.pulsar_client.proofs.Topics.{all_after, row_as, topic_all}
 
 -- THE NEXT NUMBER IS NOT LESS
 
+either_next : (n : ℕ) (b : Bool) (x y : Seen) → n ≤ x.next → n ≤ y.next → n ≤ (cond b x y).next
+either_next n true x y p q = p
+either_next n false x y p q = q
+
 stores_next : (x : Item) (v : Seen) → v.next ≤ (stores x v).next
 stores_next x v =
     let w : Seen = record v { storage = pushed x v.storage } in
-    elim (is_ready w.storage) as (λ b. v.next ≤ (cond b (cuts w) w).next) [ true ↦ omega arith | false ↦ omega arith ]
+    either_next v.next (is_ready w.storage) (cuts w) w (omega arith) (omega arith)
 
-left_next : (batches : List (List Item)) (v : Seen) → v.next ≤ (left_of batches v).next
+left_next : (bs : List (List Item)) (v : Seen) → v.next ≤ (left_of bs v).next
 left_next [] v = omega arith
 left_next (b ∷ bs) v = omega arith
 
@@ -47,10 +51,8 @@ one_next Draws v = elim (is_spent v.next) as (λ b. v.next ≤ (cond b v (record
 one_next (Remakes l g) v = omega arith
 one_next Closes v = omega arith
 one_next (Stores t e) v = stores_next (SingleMessage t e) v
-one_next (Flushes t) v =
-    let more : v.next ≤ (stores (Flush t) v).next = stores_next (Flush t) v in
-    elim (is_settled v) as (λ b. v.next ≤ (cond b v (stores (Flush t) v)).next) [ true ↦ omega arith | false ↦ more ]
-one_next Cuts v = elim (is_nothing v.storage.items) as (λ b. v.next ≤ (cond b v (cuts v)).next) [ true ↦ omega arith | false ↦ omega arith ]
+one_next (Flushes t) v = either_next v.next (is_settled v) v (stores (Flush t) v) (omega arith) (stores_next (Flush t) v)
+one_next Cuts v = either_next v.next (is_nothing v.storage.items) v (cuts v) (omega arith) (omega arith)
 one_next TakesBatch v = left_next v.cut v
 one_next Halts v = omega arith
 

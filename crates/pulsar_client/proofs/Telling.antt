@@ -195,7 +195,7 @@ telling o log w n run k = elim (does_from o log (Call w) (Tell n) run) [ inl b �
           own = was.own w l.before x.0 l.stood x.1;
           room = g;
           out = out_of ((view o (Then (Told (notice (Call w) l.outcome)) ∷ l.older)).stand (Call w)) l.plan
-              (stand_told o l.older w l.outcome l.before l.plan (Tell n) l.stood l.leads) x.4;
+              (stand_told o l.older (Call w) l.outcome l.before l.plan (Tell n) l.stood l.leads) x.4;
         })
 
 tell_tells : (o : Options) (log : List Entry) (w : ℕ) (n : Notice) → IsRun o (Then (Does (Call w) (Tell n)) ∷ log) → Every (Tells o) log →

@@ -87,15 +87,15 @@ abbrev Framed : Options → List Entry → Type 0
 Framed o log = (n : ℕ) (p : Plan) → (view o log).stand (Producer n) ≡ Some p → PlanSo o log n p
 
 -- behind a further entry
-frame_more : (o : Options) (log : List Entry) (x : Entry) (n : ℕ) (e : Errand) (b : Batches) →
-    (calm_at (Batching _ e b) ≡ true → under_way o n (x ∷ log) ≡ under_way o n log) → FrameSo o log n e b → FrameSo o (x ∷ log) n e b
-frame_more o log x n e (batching.Sending ms c s) same k =
+frame_more : (o : Options) (log : List Entry) (x : Entry) (n : ℕ) (w : Ways) (e : Errand) (b : Batches) →
+    (calm_at (Batching w e b) ≡ true → under_way o n (x ∷ log) ≡ under_way o n log) → FrameSo o log n e b → FrameSo o (x ∷ log) n e b
+frame_more o log x n w e (batching.Sending ms c s) same k =
     (k.0, k.1, same refl ∙ k.2, k.3, message_more e k.1 (TurnTold log n) (TurnTold (x ∷ log) n) (λ v i. inr i) s k.4)
-frame_more o log x n e _ same k = tt
+frame_more o log x n w e _ same k = tt
 
 plan_more : (o : Options) (log : List Entry) (x : Entry) (n : ℕ) (p : Plan) → (calm_at p ≡ true → under_way o n (x ∷ log) ≡ under_way o n log) →
     PlanSo o log n p → PlanSo o (x ∷ log) n p
-plan_more o log x n (Batching w e b) same k = frame_more o log x n e b same k
+plan_more o log x n (Batching w e b) same k = frame_more o log x n w e b same k
 plan_more o log x n _ same k = tt
 
 -- what is told of turns and commands

@@ -212,27 +212,34 @@ notices_in ns _ = ns
 
 module _ (o : Options) (log : List Entry) (n : ℕ) (ns : List Notice) (run : IsRun o (Then (Does (Producer n) (TellAll ns)) ∷ log)) where
   -- the one whose receipt came
+  receipt_from : (older before : List Entry) (reply : Reply) (l : ℕ) (k : IsSentFor before (Producer n) l reply.content.key) →
+      log ≡ Then (Told (notice (Producer n) (outcome.Replied reply))) ∷ older →
+      In (Then (Does (Producer n) (Ask l (words.Send k.producer k.name k.sequence k.message k.block)))) older →
+      (s : ℕ) × (reply.content.key ≡ Some (keys.ProducerSend n s)) × AskedAs n s log
+  receipt_from older before reply l k there i =
+      let r : IsRun o (Then (Told (notice (Producer n) (outcome.Replied reply))) ∷ older) = subst (IsRun o) there run.0 in
+      let own : k.producer ≡ n = asked_own o older n l k.producer k.sequence k.name k.message k.block r.0 i in
+      let j : In (Then (Does (Producer n) (Ask l (words.Send k.producer k.name k.sequence k.message k.block)))) log =
+      subst (In (Then (Does (Producer n) (Ask l (words.Send k.producer k.name k.sequence k.message k.block))))) (sym there) (inr i) in (
+        k.sequence,
+        k.bears ∙ ap (λ m. Some (keys.ProducerSend m k.sequence)) own,
+        (
+          l,
+          k.name,
+          k.message,
+          k.block,
+          subst (λ m. In (Then (Does (Producer n) (Ask l (words.Send m k.name k.sequence k.message k.block)))) log) own j,
+        ),
+      )
+
   receipt_bears : (older : List Entry) (reply : Reply) → log ≡ Then (Told (notice (Producer n) (outcome.Replied reply))) ∷ older →
       is_body 7 reply.content.body ≡ true → (s : ℕ) × (reply.content.key ≡ Some (keys.ProducerSend n s)) × AskedAs n s log
   receipt_bears older reply there body =
       let r : IsRun o (Then (Told (notice (Producer n) (outcome.Replied reply))) ∷ older) = subst (IsRun o) there run.0 in
       let step = in_step (Cause o (Producer n) (outcome.Replied reply)) older (outcomes_are_caused_lem o older (Producer n) (outcome.Replied reply) r) in
       let x = receipt_for o step.1 (Producer n) reply step.0 step.2 body in
-      from x.0 x.1 (step.3 (Then (Does (Producer n) (Ask x.0 (words.Send x.1.producer x.1.name x.1.sequence x.1.message x.1.block)))) x.1.listed)
-    where
-      from : (l : ℕ) (k : IsSentFor _ (Producer n) l reply.content.key) →
-          In (Then (Does (Producer n) (Ask l (words.Send k.producer k.name k.sequence k.message k.block)))) older →
-          (s : ℕ) × (reply.content.key ≡ Some (keys.ProducerSend n s)) × AskedAs n s log
-      from l k i =
-          let r : IsRun o (Then (Told (notice (Producer n) (outcome.Replied reply))) ∷ older) = subst (IsRun o) there run.0 in
-          let own : k.producer ≡ n = asked_own o older n l k.producer k.sequence k.name k.message k.block r.0 i in
-          let j : In (Then (Does (Producer n) (Ask l (words.Send k.producer k.name k.sequence k.message k.block)))) log =
-          subst (In (Then (Does (Producer n) (Ask l (words.Send k.producer k.name k.sequence k.message k.block))))) (sym there) (inr i) in (
-            k.sequence,
-            k.bears ∙ ap (λ m. Some (keys.ProducerSend m k.sequence)) own,
-            (l, k.name, k.message, k.block,
-              subst (λ m. In (Then (Does (Producer n) (Ask l (words.Send m k.name k.sequence k.message k.block)))) log) own j),
-          )
+      receipt_from older step.1 reply x.0 x.1 there
+      (step.3 (Then (Does (Producer n) (Ask x.0 (words.Send x.1.producer x.1.name x.1.sequence x.1.message x.1.block)))) x.1.listed)
 
   fate_of : (older : List Entry) (items : List Item) (u : Outcome) (w : Ways) (e : Errand) (s : Send) (f : Fate) →
       log ≡ Then (Told (notice (Producer n) u)) ∷ older → Comes w e s u f → IsFateOf n log items u f

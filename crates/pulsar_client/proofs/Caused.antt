@@ -40,7 +40,6 @@ use Rattle.pulsar_client.specs.Run.{Entry, Begins, Then, rules, view, IsRun}
 use Rattle.pulsar_client.specs.View.{Addresses, Options, Seat, View, answer_at, pause_for, pause_of, turned_by, room_of}
 use Rattle.pulsar_client.specs.Who.{in_turn, is_same, turn_of}
 use Rattle.pulsar_producer.specs.Topic as topic
-use Rattle.pulsar_client.specs.declared.act.Who.TheVariants.{Call}
 use Rattle.pulsar_plans.specs.declared.making.Command.{Command}
 use Rattle.pulsar_producer.specs.declared.deed.Drawn.{Drawn}
 use Rattle.pulsar_client.specs.declared.producers.Topic.{Topic}

@@ -1,5 +1,5 @@
 -- Those whose messages a topic producer stores, or has in a batch, wait for what becomes of them, or have ended.
-use Rattle.std.proofs.Common.{◌≡◌, ◌⊎◌, inl, inr, ◌∙◌, sym, ap, subst, ℕ, ◌+◌, ◌≤◌, ◌==◌, arith, List, [], ◌∷◌, ◌++◌, refl, map, Bool, true, false, cond, Option, Some, None, Result, Ok, Err}
+use Rattle.std.proofs.Common.{◌≡◌, inl, inr, ◌∙◌, sym, ap, subst, ℕ, ◌+◌, ◌≤◌, ◌==◌, arith, List, [], ◌∷◌, ◌++◌, refl, map, Bool, true, false, cond, Option, Some, None, Result, Ok, Err}
 use Rattle.std.proofs.lemmas.Bool.{cases_Bool}
 use Rattle.std.specs.Option.{is_some}
 use Rattle.pulsar_run.specs.Laws.{In}
@@ -48,7 +48,6 @@ use Rattle.pulsar_client.specs.Laws.{counted, start_of}
 use Rattle.pulsar_client.specs.Plan.{action_of, batches_on, begins, news_of, overrides, told}
 use Rattle.pulsar_client.specs.ProducerLaws.{acts_on, drawn_by, rung_by, shut_by, topic_acts}
 use Rattle.pulsar_client.specs.Producers.{next_batch_at, numbers_at}
-use Rattle.pulsar_client.specs.Rules.{notice}
 use Rattle.pulsar_client.specs.Run.{Entry, Begins, Then, IsRun, view}
 use Rattle.pulsar_client.specs.View.{Options, View, room_of, stays, stays_some, told_some}
 use Rattle.pulsar_client.specs.Who.{is_same, turn_of}

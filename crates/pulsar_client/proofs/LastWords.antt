@@ -1,8 +1,7 @@
 -- What one is told last: that the client is stopped, or what became of a batch; and what a plan does then.
-use Rattle.std.proofs.Common.{◌≡◌, ◌⊎◌, inl, inr, ◌∙◌, sym, ap, subst, ℕ, ◌+◌, List, ◌∷◌, ◌++◌, refl, map, Bool, true, false, Option, Some, None, [], ◌-◌, Ok, Err}
+use Rattle.std.proofs.Common.{◌≡◌, ◌⊎◌, inl, inr, ◌∙◌, sym, ap, subst, ℕ, ◌+◌, List, ◌∷◌, ◌++◌, refl, map, Bool, true, false, Option, Some, None, [], Ok, Err}
 use Rattle.pulsar_run.specs.Run.{rest_of}
 use Rattle.pulsar_session.specs.Failures.{Failure, OfConnection}
-use Rattle.pulsar_session.specs.Link.{ends}
 use Rattle.pulsar_client.specs.declared.act.Act.{Act}
 use Rattle.pulsar_client.specs.declared.act.Act.TheVariants.{Comes, Starts, Told, Does, Answers}
 use Rattle.pulsar_client.specs.declared.act.Action.TheVariants.{Rest, TakeBatch, Tell, TellAll}
@@ -22,10 +21,8 @@ use Rattle.pulsar_client.specs.declared.plans.plan.Plan.{Plan}
 use Rattle.pulsar_client.specs.declared.plans.plan.Turn.{Turn}
 use Rattle.pulsar_client.specs.declared.plans.plan.Turn.TheVariants.{Stays, Gives}
 use Rattle.pulsar_plans.specs.declared.turn.Ways.{Ways}
-use Rattle.pulsar_client.specs.Laws.{stopped}
 use Rattle.pulsar_client.specs.Plan.{batches_on, fault_of, told, told_to, verdict, halted_with}
-use Rattle.pulsar_client.specs.Rules.{follows, follows_some, tells}
-use Rattle.pulsar_client.specs.Run.{first}
+use Rattle.pulsar_client.specs.Rules.{follows, follows_some}
 use Rattle.pulsar_client.specs.View.{told_some, stays, stays_some}
 use Rattle.pulsar_producer.specs.declared.sending.Sending.{Sending as Send}
 use Rattle.pulsar_producer.specs.declared.sending.Errand.{Errand}

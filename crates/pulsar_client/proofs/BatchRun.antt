@@ -180,7 +180,7 @@ abbrev batch_in : Outcome → Option (List Item)
 batch_in (outcome.Granted (news.HasBatch items)) = items
 batch_in _ = None
 
-some_batch : (o : Options) (log : List Entry) (n : ℕ) (u : Outcome) (items : List Item) → WasDone o log n batching.Taking u →
+pub some_batch : (o : Options) (log : List Entry) (n : ℕ) (u : Outcome) (items : List Item) → WasDone o log n batching.Taking u →
     u ≡ outcome.Granted (news.HasBatch (Some items)) → under_way o n log ≡ Some items
 some_batch o log n u items k h = ap batch_in (sym (took_now o log n u k) ∙ h)
 
@@ -209,7 +209,7 @@ none_now o log n u k =
 
 -- IT IS TOLD SOMETHING
 
-settles_all : (w : Ways) (e : Errand) (a : Action) (b : Batches) (u : Outcome) → IsSettling w e a b u → (ns : List Notice) × (a ≡ TellAll ns)
+pub settles_all : (w : Ways) (e : Errand) (a : Action) (b : Batches) (u : Outcome) → IsSettling w e a b u → (ns : List Notice) × (a ≡ TellAll ns)
 settles_all w e a batching.Resting u k = absurd k
 settles_all w e a batching.Taking u k = (map told_to (reports (length (entries_in k.0)) k.1 (map member_of k.0)), k.4)
 settles_all w e a (batching.Sending ms c s) u (inl k) = (map told_to (map cut_report ms), k.1)
@@ -223,12 +223,12 @@ module _ (o : Options) (log : List Entry) (n : ℕ) (u : Outcome) (run : IsRun o
   abbrev left : List Act
   left = (rest (agenda o log)).now
 
-  row_then : (row : Option Plan) → (view o log).stand (Producer n) ≡ row → (view o later).stand (Producer n) ≡ stays_some (told_some row u)
+  pub row_then : (row : Option Plan) → (view o log).stand (Producer n) ≡ row → (view o later).stand (Producer n) ≡ stays_some (told_some row u)
   row_then row e =
       ap (λ c. cond c (stays_some (told_some ((view o log).stand (Producer n)) u)) ((view o log).stand (Producer n))) (self_same n)
       ∙ ap (λ r. stays_some (told_some r u)) e
 
-  now_then : (row : Option Plan) → (view o log).stand (Producer n) ≡ row → (agenda o later).now ≡ follows_some (Producer n) (told_some row u) ++ left
+  pub now_then : (row : Option Plan) → (view o log).stand (Producer n) ≡ row → (agenda o later).now ≡ follows_some (Producer n) (told_some row u) ++ left
   now_then row e = ap (λ r. follows_some (Producer n) (told_some r u) ++ left) e
 
   module _ (w : Ways) (e : Errand) (own : e.producer ≡ n) where
@@ -383,7 +383,7 @@ is_calm batching.Taking = false
 is_calm (batching.Sending ms c s) = true
 is_calm batching.Settling = false
 
-abbrev calm_at : Plan → Bool
+abbrev pub calm_at : Plan → Bool
 calm_at (Batching w e b) = is_calm b
 calm_at _ = false
 
@@ -407,6 +407,20 @@ under_same : (o : Options) (log : List Entry) (n : ℕ) (who : Who) (a : Action)
 under_same o log n who (TakeBatch m) other = elim (cases_Bool (is_same (Producer n) who)) [ inl e ↦ absurd (other e refl) | inr e ↦ rw e refl ]
 under_same o log n who (TellAll ns) other = elim (cases_Bool (is_same (Producer n) who)) [ inl e ↦ absurd (other e refl) | inr e ↦ rw e refl ]
 under_same o log n who _ other = refl
+
+-- what one does leaves the batch under way where a topic producer rests or sends
+pub under_kept : (o : Options) (log : List Entry) (who : Who) (a : Action) (n : ℕ) (p : Plan) → IsRun o (Then (Does who a) ∷ log) → Every (Batched o) log →
+    (view o log).stand (Producer n) ≡ Some p → calm_at p ≡ true → under_way o n (Then (Does who a) ∷ log) ≡ under_way o n log
+under_kept o log who a n p run k h calm = under_same o log n who a other
+  where
+    other : is_same (Producer n) who ≡ true → is_batch_deed a ≡ true → ⊥
+    other same b =
+        let r : IsRun o (Then (Does (Producer n) a) ∷ log) =
+        subst (λ (w : Who). IsRun o (Then (Does w a) ∷ log)) (sym (same_is (Producer n) who same)) run in
+        elim (deed_at o log n a r k) [
+          | inl d ↦ (let f : true ≡ false = sym calm ∙ not_calm o log n a b d p h in cc)
+          | inr rests ↦ (let f : true ≡ false = sym b ∙ ap is_batch_deed rests in cc)
+        ]
 
 -- what is seen of the batch under way stays
 state_kept : (o : Options) (log : List Entry) (e : Entry) (n : ℕ) (b : Batches) → (is_calm b ≡ true → under_way o n (e ∷ log) ≡ under_way o n log) →
@@ -477,18 +491,8 @@ does_then o log who a run k n p h =
       is_it = s.is_it;
       own = s.own;
       prompt = does_prompt o log n who a run.1 s.state s.prompt;
-      so = state_kept o log (Then (Does who a)) n s.state (λ calm. under_same o log n who a (other s calm)) s.so;
+      so = state_kept o log (Then (Does who a)) n s.state (λ calm. under_kept o log who a n p run k h (ap calm_at s.is_it ∙ calm)) s.so;
     }
-  where
-    other : (s : StandsSo o log n p) → is_calm s.state ≡ true → is_same (Producer n) who ≡ true → is_batch_deed a ≡ true → ⊥
-    other s calm same b =
-        let r : IsRun o (Then (Does (Producer n) a) ∷ log) =
-        subst (λ (w : Who). IsRun o (Then (Does w a) ∷ log)) (sym (same_is (Producer n) who same)) run in
-        elim (deed_at o log n a r k) [
-          | inl d ↦
-              (let f : true ≡ false = sym calm ∙ sym (ap calm_at s.is_it) ∙ not_calm o log n a b d p h in cc)
-          | inr rests ↦ (let f : true ≡ false = sym b ∙ ap is_batch_deed rests in cc)
-        ]
 
 told_then : (o : Options) (log : List Entry) (m : Notice) → IsRun o (Then (Told m) ∷ log) → Batched o log → Batched o (Then (Told m) ∷ log)
 told_then o log m run k n p h = elim (cases_Bool (is_same (Producer n) m.who)) [

@@ -10,7 +10,7 @@ use Rattle.pulsar_wire.specs.declared.key.RequestKey.TheVariants as keys
 use Rattle.pulsar_link.specs.Messages.{Reply}
 use Rattle.pulsar_plans.specs.Address.{Place}
 use Rattle.pulsar_plans.specs.Plans as search
-use Rattle.pulsar_plans.specs.Replies.{answered}
+use Rattle.pulsar_plans.specs.Replies.{unexpected}
 use Rattle.pulsar_plans.specs.declared.look.Looking.{Looking}
 use Rattle.pulsar_plans.specs.declared.making.Command.{Command}
 use Rattle.pulsar_plans.specs.declared.making.Making.{Making}
@@ -38,7 +38,7 @@ use Rattle.pulsar_producer.specs.declared.sending.Sending.{Sending as Send}
 use Rattle.pulsar_producer.specs.declared.sending.Sending.TheVariants as send
 use Rattle.pulsar_client.specs.declared.act.Act.TheVariants.{Does, Told}
 use Rattle.pulsar_client.specs.declared.act.Action.{Action}
-use Rattle.pulsar_client.specs.declared.act.Action.TheVariants.{Ask, Rest, TellAll}
+use Rattle.pulsar_client.specs.declared.act.Action.TheVariants.{Ask, Draw, Find, Flush, Get, Number, PassTurn, Recall, Remake, Rest, Shut, StopAll, Store, TakeBatch, TakeTurn, Tell, TellAll, Wait}
 use Rattle.pulsar_client.specs.declared.act.Notice.{Notice}
 use Rattle.pulsar_client.specs.declared.act.Outcome.{Outcome}
 use Rattle.pulsar_client.specs.declared.act.Outcome.TheVariants as outcome
@@ -49,10 +49,12 @@ use Rattle.pulsar_client.specs.Laws.{Cause}
 use Rattle.pulsar_client.specs.Plan.{news_in, news_of, overrides, told_to}
 use Rattle.pulsar_client.specs.Rules.{notice}
 use Rattle.pulsar_client.specs.Run.{Entry, Begins, Then, IsRun, view}
-use Rattle.pulsar_client.specs.View.{Options}
-use Rattle.pulsar_client.proofs.Batched.{Comes, IsSettling, Unsent, asks_own, tells_where}
+use Rattle.pulsar_client.specs.View.{Options, View}
+use Rattle.pulsar_client.proofs.Batched.{Comes, IsSettling, Unsent, tells_where}
+use Rattle.pulsar_client.proofs.BatchFrames.{asked_own}
 use Rattle.pulsar_client.proofs.BatchRun.{AtDeed, PromptSo, StateSo, batched_run, deed_at, some_batch, was_done}
 use Rattle.pulsar_client.proofs.Caused.{outcomes_are_caused_lem}
+use Rattle.pulsar_client.proofs.Granted.{GivenBy, granted_by, grants_given}
 use Rattle.pulsar_client.proofs.Receipts.{IsSentFor, Split, in_step, receipt_for, run_behind, split_in}
 
 none_some : {A : Type 0} {x : A} → None ≡ Some x → ⊥
@@ -117,6 +119,14 @@ ok_in r (Err f) = r
 abbrev sent_in : Content → Sent → Content
 sent_in r (step.Gives (Ok x)) = x
 sent_in r _ = r
+
+abbrev heard_in : Content → Heard → Content
+heard_in r (heard.Replied q) = q
+heard_in r _ = r
+
+abbrev is_reply : Heard → Bool
+is_reply (heard.Replied q) = true
+is_reply _ = false
 
 receipt_is : (x : Heard) (r : Content) → receipt (search.verdict 7 x) ≡ step.Gives (Ok r) → (x ≡ heard.Replied r) × (is_body 7 r.body ≡ true)
 receipt_is (heard.Replied q) r h = by (is_body 7 q.body) refl h
@@ -196,30 +206,91 @@ never_told o log who u run = by u run
 
 -- THE LAW
 
-notices_in : List Notice → Action → List Notice
+abbrev notices_in : List Notice → Action → List Notice
 notices_in ns (TellAll ms) = ms
 notices_in ns _ = ns
 
 module _ (o : Options) (log : List Entry) (n : ℕ) (ns : List Notice) (run : IsRun o (Then (Does (Producer n) (TellAll ns)) ∷ log)) where
   -- the one whose receipt came
+  receipt_from : (older before : List Entry) (reply : Reply) (l : ℕ) (k : IsSentFor before (Producer n) l reply.content.key) →
+      log ≡ Then (Told (notice (Producer n) (outcome.Replied reply))) ∷ older →
+      In (Then (Does (Producer n) (Ask l (words.Send k.producer k.name k.sequence k.message k.block)))) older →
+      (s : ℕ) × (reply.content.key ≡ Some (keys.ProducerSend n s)) × AskedAs n s log
+  receipt_from older before reply l k there i =
+      let r : IsRun o (Then (Told (notice (Producer n) (outcome.Replied reply))) ∷ older) = subst (IsRun o) there run.0 in
+      let own : k.producer ≡ n = asked_own o older n l k.producer k.sequence k.name k.message k.block r.0 i in
+      let j : In (Then (Does (Producer n) (Ask l (words.Send k.producer k.name k.sequence k.message k.block)))) log =
+      subst (In (Then (Does (Producer n) (Ask l (words.Send k.producer k.name k.sequence k.message k.block))))) (sym there) (inr i) in (
+        k.sequence,
+        k.bears ∙ ap (λ m. Some (keys.ProducerSend m k.sequence)) own,
+        (
+          l,
+          k.name,
+          k.message,
+          k.block,
+          subst (λ m. In (Then (Does (Producer n) (Ask l (words.Send m k.name k.sequence k.message k.block)))) log) own j,
+        ),
+      )
+
   receipt_bears : (older : List Entry) (reply : Reply) → log ≡ Then (Told (notice (Producer n) (outcome.Replied reply))) ∷ older →
       is_body 7 reply.content.body ≡ true → (s : ℕ) × (reply.content.key ≡ Some (keys.ProducerSend n s)) × AskedAs n s log
   receipt_bears older reply there body =
       let r : IsRun o (Then (Told (notice (Producer n) (outcome.Replied reply))) ∷ older) = subst (IsRun o) there run.0 in
       let step = in_step (Cause o (Producer n) (outcome.Replied reply)) older (outcomes_are_caused_lem o older (Producer n) (outcome.Replied reply) r) in
       let x = receipt_for o step.1 (Producer n) reply step.0 step.2 body in
-      from x.0 x.1 (step.3 (Then (Does (Producer n) (Ask x.0 (words.Send x.1.producer x.1.name x.1.sequence x.1.message x.1.block)))) x.1.listed)
-    where
-      from : (l : ℕ) (k : IsSentFor _ (Producer n) l reply.content.key) →
-          In (Then (Does (Producer n) (Ask l (words.Send k.producer k.name k.sequence k.message k.block)))) older →
-          (s : ℕ) × (reply.content.key ≡ Some (keys.ProducerSend n s)) × AskedAs n s log
-      from l k i =
-          let r : IsRun o (Then (Told (notice (Producer n) (outcome.Replied reply))) ∷ older) = subst (IsRun o) there run.0 in
-          let own : k.producer ≡ n = asked_own o older n l k.producer k.sequence k.name k.message k.block r.0 i in
-          let j : In (Then (Does (Producer n) (Ask l (words.Send k.producer k.name k.sequence k.message k.block)))) log =
-          subst (In (Then (Does (Producer n) (Ask l (words.Send k.producer k.name k.sequence k.message k.block))))) (sym there) (inr i) in (
-            k.sequence,
-            k.bears ∙ ap (λ m. Some (keys.ProducerSend m k.sequence)) own,
-            (l, k.name, k.message, k.block,
-              subst (λ m. In (Then (Does (Producer n) (Ask l (words.Send m k.name k.sequence k.message k.block)))) log) own j),
-          )
+      receipt_from older step.1 reply x.0 x.1 there
+      (step.3 (Then (Does (Producer n) (Ask x.0 (words.Send x.1.producer x.1.name x.1.sequence x.1.message x.1.block)))) x.1.listed)
+
+  fate_of : (older : List Entry) (items : List Item) (u : Outcome) (w : Ways) (e : Errand) (s : Send) (f : Fate) →
+      log ≡ Then (Told (notice (Producer n) u)) ∷ older → Comes w e s u f → IsFateOf n log items u f
+  fate_of older items u w e s f there (inl h) = inr (inr (inl h))
+  fate_of older items u w e s f there (inr (inr h)) = inr (inl (h.0, h.2))
+  fate_of older items u w e s f there (inr (inl h)) =
+      let r : IsRun o (Then (Told (notice (Producer n) u)) ∷ older) = subst (IsRun o) there run.0 in
+      let q = gives_told w e s u h.0 (never_told o older (Producer n) u r) h.1 in
+      let body : is_body 7 q.0.content.body ≡ true = ap (λ x. is_body 7 x.body) q.2 ∙ q.3 in
+      let k = receipt_bears older q.0 (there ∙ ap (λ x. Then (Told (notice (Producer n) x)) ∷ older) q.1) body in
+      inl (q.0, k.0, q.1, body, k.1, k.2, h.2 ∙ ap receipt_fate (sym q.2))
+
+  unsent_fate : (items : List Item) (u : Outcome) (f : Fate) → Unsent items f → IsFateOf n log items u f
+  unsent_fate items u f (inl h) = inr (inr (inr h))
+  unsent_fate items u f (inr h) = inr (inl (in_producer (Encoding h.0), h.2))
+
+  abbrev IsTold : List Item → Outcome → Type 0
+  IsTold items u =
+      ((f : Fate) × IsFateOf n log items u f × (ns ≡ map told_to (reports (length (entries_in items)) f (map member_of items))))
+      ⊎ ((overrides u ≡ true) × (ns ≡ map told_to (map cut_report (map member_of items))))
+
+  told_from : (older : List Entry) (u : Outcome) (w : Ways) (e : Errand) (b : Batches) → log ≡ Then (Told (notice (Producer n) u)) ∷ older →
+      IsRun o (Then (Told (notice (Producer n) u)) ∷ older) → PromptSo o older n b → StateSo o older n b → IsSettling w e (TellAll ns) b u →
+      (items : List Item) × (under_way o n log ≡ Some items) × IsTold items u
+  told_from older u w e batching.Resting there r p s k = absurd k
+  told_from older u w e batching.Settling there r p s k = absurd k
+  told_from older u w e batching.Taking there r p s k = (
+    k.0,
+    ap (under_way o n) there ∙ some_batch o older n u k.0 (was_done o older n batching.Taking u p r.1) k.2,
+    inl (k.1, unsent_fate k.0 u k.1 k.3, ap (notices_in ns) k.4),
+  )
+  told_from older u w e (batching.Sending ms c x) there r p s (inl k) = (
+    s.0,
+    ap (under_way o n) there ∙ s.1,
+    inr (k.0, ap (notices_in ns) k.1 ∙ ap (λ y. map told_to (map cut_report y)) s.2.0),
+  )
+  told_from older u w e (batching.Sending ms c x) there r p s (inr k) = (
+    s.0,
+    ap (under_way o n) there ∙ s.1,
+    inl (
+      k.0,
+      fate_of older s.0 u w e x k.0 there k.1,
+      ap (notices_in ns) k.2 ∙ ap (λ y. map told_to (reports c k.0 y)) s.2.0 ∙ ap (λ y. map told_to (reports y k.0 (map member_of s.0))) s.2.1,
+    ),
+  )
+
+pub members_are_told_lem : MembersAreTold
+members_are_told_lem o log n ns run = elim (deed_at o log n (TellAll ns) run (batched_run o log run.0)) [
+  | inl d ↦
+      (let t = tells_where d.was.ways d.was.errand d.was.state d.outcome d.state ns d.step in
+      let x = told_from o log n ns run d.older d.outcome d.was.ways d.was.errand d.was.state d.there d.run d.was.prompt d.was.so t.1 in
+      (x.0, d.outcome, d.older, x.1, d.there, x.2))
+  | inr r ↦ (let f : TellAll ns ≡ Rest = r in absurd cc)
+]

@@ -179,7 +179,7 @@ module _ (o : Options) (t first count : ℕ) where
       begun : BeginsSo o log (Call t) a → a ≡ Rest
       begun b =
           let only : OnlyStarts t (procedure.Gather first count) (Then (Starts (Call t) b.procedure) ∷ b.older) =
-              subst (OnlyStarts t (procedure.Gather first count)) b.is_there k in
+          subst (OnlyStarts t (procedure.Gather first count)) b.is_there k in
           let is : b.procedure ≡ procedure.Gather first count = only.0 (same_self (Call t)) in
           gathers_rest o t first count count [] b.plan a (sym (ap begins is) ∙ b.leads)
 

@@ -23,6 +23,11 @@ pub mod Batchers
 pub mod Owned
 pub mod Batched
 pub mod BatchRun
+pub mod BatchFrames
+pub mod BatchTold
+pub mod BatchSent
+pub mod Closed
+pub mod Stores
 pub mod Keepers
 pub mod Numbering
 pub mod Slow

@@ -1,12 +1,13 @@
 -- What follows of the batches of producers, in plain words.
 use Rattle.std.specs.Prelude.{◌≡◌, ◌⊎◌, ℕ, ◌+◌, ◌≤◌, ◌&&◌, Bool, true, false, if◌then◌else◌, List, [], ◌∷◌, ◌++◌, length, map, Option, Some, None, Result, Ok, Err}
-use Rattle.pulsar_run.specs.Laws.{In}
+use Rattle.pulsar_run.specs.Laws.{In, InThisStep}
+use Rattle.pulsar_frame.specs.Batch.{EntryValues}
 use Rattle.pulsar_wire.specs.declared.key.RequestKey.TheVariants as key
 use Rattle.pulsar_messages.specs.Content.{ProducerMessageValues}
 use Rattle.pulsar_messages.specs.Words as words
 use Rattle.pulsar_session.specs.Failures.{Failure}
 use Rattle.pulsar_link.specs.Messages.{Reply, is_body}
-use Rattle.pulsar_producer.specs.Batch.{batch_of, cut_report, entries_in, failed, member_of, receipt_fate, reports}
+use Rattle.pulsar_producer.specs.Batch.{batch_of, cut_report, entries_in, entry_of, failed, member_of, receipt_fate, reports}
 use Rattle.pulsar_producer.specs.Message.{with_version}
 use Rattle.pulsar_producer.specs.Storage.{Item}
 use Rattle.pulsar_producer.specs.declared.batch.Fate.{Fate}
@@ -15,21 +16,24 @@ use Rattle.pulsar_producer.specs.declared.batching.Batching.{Batching}
 use Rattle.pulsar_producer.specs.declared.batching.Batching.TheVariants as batching
 use Rattle.pulsar_producer.specs.declared.deed.News.TheVariants as news
 use Rattle.pulsar_client.specs.declared.act.Act.{Act}
-use Rattle.pulsar_client.specs.declared.act.Act.TheVariants.{Starts, Told, Does}
-use Rattle.pulsar_client.specs.declared.act.Action.TheVariants.{Ask, Shut, TakeBatch, TellAll}
+use Rattle.pulsar_client.specs.declared.act.Act.TheVariants.{Comes, Starts, Told, Does}
+use Rattle.pulsar_client.specs.declared.act.Action.TheVariants.{Ask, Shut, Store, TakeBatch, TellAll}
 use Rattle.pulsar_client.specs.declared.act.Notice.{Notice}
 use Rattle.pulsar_client.specs.declared.act.Outcome.{Outcome}
 use Rattle.pulsar_client.specs.declared.act.Outcome.TheVariants as outcome
+use Rattle.pulsar_client.specs.declared.act.Procedure.TheVariants as procedure
+use Rattle.pulsar_client.specs.declared.act.Share.{Share}
 use Rattle.pulsar_client.specs.declared.act.Who.{Who}
-use Rattle.pulsar_client.specs.declared.act.Who.TheVariants.{Producer}
+use Rattle.pulsar_client.specs.declared.act.Who.TheVariants.{Call, Producer}
 use Rattle.pulsar_client.specs.declared.plans.plan.Plan.{Plan}
 use Rattle.pulsar_client.specs.declared.plans.plan.Plan.TheVariants as plan
 use Rattle.pulsar_client.specs.declared.producers.Topic.{Topic}
+use Rattle.pulsar_client.specs.Content.{Asked, sent_by}
 use Rattle.pulsar_client.specs.Laws.{AreActs}
 use Rattle.pulsar_client.specs.Plan.{closed_notice, overrides, told_to}
 use Rattle.pulsar_client.specs.ProducerLaws.{asks_in, is_queued}
 use Rattle.pulsar_client.specs.Producers.{is_bare, next_batch_at, numbers_at, stored_at}
-use Rattle.pulsar_client.specs.Rules.{joins, notice, ready_notice}
+use Rattle.pulsar_client.specs.Rules.{call_part, notice, ready_notice}
 use Rattle.pulsar_client.specs.Run.{Entry, Begins, Then, IsRun, Rests, view}
 use Rattle.pulsar_client.specs.View.{Options, View}
 use Rattle.pulsar_client.specs.Who.{behind_all, is_same}
@@ -122,3 +126,17 @@ ClosedWithTheProducer = (o : Options) (newer older : List Entry) (who : Who) (t 
     In n (numbers_at ((view o older).producers.built t)) →
     (In ticket (stored_at ((view o older).producers.topics n)) → In (Then (Told (closed_notice ticket))) newer)
     × (is_bare ((view o (Then (Does who (Shut t)) ∷ older)).producers.topics n) ≡ true)
+
+-- WHAT IS STORED
+
+-- a call sends a message that has this entry
+abbrev pub BringsEntry : Options → EntryValues → Entry → List Entry → Type 0
+BringsEntry o x e older =
+    (asked : Asked) × (sent : ℕ × List ProducerMessageValues) × (m : ProducerMessageValues)
+    × (e ≡ Then (Comes (call_part o.policies (view o older) asked))) × (sent_by asked ≡ Some sent) × In m sent.1 × (entry_of m ≡ Some x)
+
+-- A call stores its own message, in the step in which it is made, as the first thing that it does.
+abbrev pub StoredAtOnce : Type 0
+StoredAtOnce = (o : Options) (log : List Entry) (t n : ℕ) (x : EntryValues) → IsRun o (Then (Does (Call t) (Store n x)) ∷ log) →
+    (share : Option Share) × (older : List Entry) × (log ≡ Then (Starts (Call t) (procedure.Store n share x)) ∷ older)
+    × InThisStep (BringsEntry o x) older

@@ -1,6 +1,6 @@
 //! What follows of the batches of producers from the definition of a good run: each contract is a law, and its body is empty.
 
-ghost use Rattle.pulsar_client.specs.BatchLaws.{BatchSentOnce, BatchesOneByOne, ClosedWithTheProducer, FramesOfBatches, MembersAreTold};
+ghost use Rattle.pulsar_client.specs.BatchLaws.{BatchSentOnce, BatchesOneByOne, ClosedWithTheProducer, FramesOfBatches, MembersAreTold, StoredAtOnce};
 
 /// A topic producer takes its next batch once all of the one before were told, so that one is under way at a time.
 pub fn batches_one_by_one()
@@ -25,4 +25,9 @@ pub fn batch_sent_once()
 /// What a producer stores is settled as it is closed.
 pub fn closed_with_the_producer()
     ensures { ClosedWithTheProducer }
+{}
+
+/// A call on a producer that sends batches stores its own message, in the step in which it is made.
+pub fn stored_at_once()
+    ensures { StoredAtOnce }
 {}

@@ -1,6 +1,6 @@
 //! Batches of topic producers: what is stored, what waits for its time, and what is sent.
 
-ghost use Rattle.std.specs.Prelude.{◌≡◌, ◌∷◌, [], ◌++◌, IfOk, OnOk, if◌then◌else◌, map};
+ghost use Rattle.std.specs.Prelude.{◌≡◌, ◌∷◌, [], ◌++◌, IfOk, OnOk, if◌then◌else◌, map, true};
 ghost use Rattle.pulsar_run.specs.Order.{arranged, put_all};
 ghost use Rattle.pulsar_client.specs.Kept.{producers_of};
 ghost use Rattle.pulsar_client.specs.Plan.{closed_notice};

@@ -92,6 +92,10 @@ pub fn script<S: Source, K: Sink>(
         drop(found);
         return NO_MEMORY;
     };
+    let Ok(client) = Box::new(alloc, client) else {
+        drop(found);
+        return NO_MEMORY;
+    };
     steps(client, &mut reading, &mut feed, found, source, sink)
 }
 
@@ -109,7 +113,7 @@ fn begin(alloc: Global) -> Result<(Reading, Feed), Stop>
 
 /// The events from this one on, each by a step of the client.
 fn steps<S: Source, K: Sink>(
-    client: Pulsar,
+    client: Box<Pulsar>,
     reading: &mut Reading,
     feed: &mut Feed,
     found: Next,
@@ -118,7 +122,7 @@ fn steps<S: Source, K: Sink>(
 ) -> Status
     ensures { (ps : List Policy) (o : Options) (h : List Step) (content held : Option (List ℕ)) (faults count : ℕ)
         → Awaits ps o h reading.old feed.old (since content faults S.left S.faults source.old) (since held count K.holds K.faults sink.old) (heard found.event) found.last
-        → o ≡ options_in ps reading.old → StandsFor (λ p. routes (p.vtable, p.value)) o client h []
+        → o ≡ options_in ps reading.old → StandsFor (λ p. routes (p.vtable, p.value)) o client.value h []
         → Ran ps result (since content faults S.left S.faults source.new) (since held count K.holds K.faults sink.new) }
 {
     let mut client = client;

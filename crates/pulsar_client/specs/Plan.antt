@@ -349,14 +349,14 @@ in_stored o = fails_with (OfConnection (fault_of o))
 abbrev pub closed_notice : (ticket : ℕ) → Notice
 closed_notice t = record { who = Call t; outcome = Settled (Err (OfProducer ProducerClosed)) }
 
--- THE BATCHES of a topic producer have a plan of their own. The stop of the client overrides it, until their frame is queued.
+-- THE BATCHES of a topic producer have a plan of their own. The stop of the client overrides it.
 
 abbrev pub batches_on : Ways → Errand → Goes → Turn Plan Verdict
 batches_on w e g = Stays (Batching w e g.state) (action_of g.deed)
 
 abbrev pub told_batch : Ways → Errand → Batches → Outcome → Turn Plan Verdict
 told_batch w e b o =
-    if overrides o && not (batches.is_sent b) then batches_on w e (batches.halted b) else batches_on w e (batches.told w e b (news_of o))
+    if overrides o then batches_on w e (batches.halted b) else batches_on w e (batches.told w e b (news_of o))
 
 -- A CALL WITH PARTS ends once each was queued, or failed before.
 

@@ -14,3 +14,4 @@ pub mod Commands
 pub mod Plans
 pub mod Batching
 pub mod Laws
+pub mod BatchLaws

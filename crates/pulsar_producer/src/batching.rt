@@ -79,14 +79,36 @@ pub fn told(
     }
 }
 
-/// The client is stopped: what is not sent yet fails.
+/// The client is stopped.
 pub fn halted(alloc: Global, state: Batching) -> Result<Goes, NoMemory>
     ensures { IfOk result (λ goes. goes ≡ meaning.halted state) }
 {
     match state {
-        Batching::Sending { members, count, .. } => settles(alloc, &members, count, &Fate::Halted),
+        Batching::Sending {
+            members,
+            count,
+            sending,
+        } => cuts_off(alloc, sending.is_sent(), &members, count),
         Batching::Resting | Batching::Taking | Batching::Settling => Ok(rests()),
     }
+}
+
+/// What is not sent yet is halted; a batch whose receipt is waited for fails with its connection.
+fn cuts_off(
+    alloc: Global,
+    is_sent: bool,
+    members: &Members,
+    count: usize,
+) -> Result<Goes, NoMemory>
+    ensures { IfOk result (λ goes. goes ≡ meaning.cuts_off is_sent members.now count) }
+{
+    if !is_sent {
+        return settles(alloc, members, count, &Fate::Halted);
+    }
+    Ok(Goes {
+        state: Batching::Settling,
+        deed: Deed::Settles(members.cut(alloc)?),
+    })
 }
 
 /// It waits until a batch was cut.
@@ -130,8 +152,15 @@ fn in_taking(alloc: Global, errand: Errand, news: News) -> Result<Goes, NoMemory
 fn starts(alloc: Global, errand: Errand, batch: Batch) -> Result<Goes, NoMemory>
     ensures { IfOk result (λ goes. goes ≡ meaning.starts errand batch) }
 {
-    drop(batch);
-    Err(NoMemory)
+    let members = batch.members()?;
+    let count = batch.count();
+    if count == 0 {
+        return settles(alloc, &members, 0, &Fate::Flushed);
+    }
+    match batch.message(alloc)? {
+        Ok(message) => sends(alloc, members, count, sending::begins(errand, message)),
+        Err(reason) => settles(alloc, &members, count, &Fate::not_written(alloc, reason)?),
+    }
 }
 
 /// A batch is sent as one message.

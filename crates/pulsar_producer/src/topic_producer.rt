@@ -243,7 +243,12 @@ impl TopicProducer {
     pub fn unsent(&self) -> Result<Vec<u64>, NoMemory>
         ensures { IfOk result (λ tickets. tickets.items ≡ unsent_tickets self.now) }
     {
-        Err(NoMemory)
+        let mut tickets = Vec::new(*self.cut.allocator());
+        for batch in &self.cut {
+            batch.push_tickets(&mut tickets)?;
+        }
+        self.storage.push_tickets(&mut tickets)?;
+        Ok(tickets)
     }
 
     /// One more item is stored, and what is stored becomes a batch where that is ready.

@@ -107,7 +107,7 @@ pub fn begins(alloc: Global, ways: Ways, errand: Errand) -> Result<Turn<Plan, Ve
     goes(alloc, ways, errand, batching::begins())
 }
 
-/// What an outcome makes of it. The stop of the client overrides it, until the frame of its batch is queued.
+/// What an outcome makes of it. The stop of the client overrides it.
 pub fn told(
     alloc: Global,
     ways: Ways,
@@ -117,7 +117,7 @@ pub fn told(
 ) -> Result<Turn<Plan, Verdict>, NoMemory>
     ensures { IfOk result (λ turn. turn ≡ told_batch ways errand batching outcome) }
 {
-    if overrides(&outcome) && !batching.is_sent() {
+    if overrides(&outcome) {
         drop(outcome);
         halts(alloc, ways, errand, batching)
     } else {
@@ -174,11 +174,11 @@ fn goes(
 }
 
 /// Those of a batch are told what became of it.
-pub fn tells_all(alloc: Global, reports: Reports) -> Result<Action, NoMemory>
+pub fn tells_all(alloc: Global, mut reports: Reports) -> Result<Action, NoMemory>
     ensures { IfOk result (λ a. a ≡ Action.TellAll (map told_to reports)) }
 {
     let mut notices = Notices::new(alloc);
-    for report in reports.into_inner() {
+    while let Some(report) = reports.next() {
         notices = notices.with(notice_of(alloc, report)?)?;
     }
     Ok(Action::TellAll(notices))

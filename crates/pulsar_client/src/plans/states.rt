@@ -1,8 +1,7 @@
 //! Where buildings and sends stand, in boxes, so that plans are small. Contracts see them as they are.
 
 ghost use Rattle.std.specs.Prelude.{◌≡◌, IfOk};
-ghost use Rattle.pulsar_client.specs.Plan.{is_sent as is_sent_send};
-ghost use Rattle.pulsar_producer.specs.Batching.{is_sent};
+ghost use Rattle.pulsar_client.specs.Plan.{is_sent};
 
 use pulsar_producer::batching::Batching;
 use pulsar_producer::building::Building;
@@ -80,7 +79,7 @@ impl SendState {
 
     /// Its frame is queued.
     pub fn is_sent(&self) -> bool
-        ensures { result ≡ is_sent_send self.now }
+        ensures { result ≡ is_sent self.now }
     {
         is_sent(&self.sending)
     }
@@ -88,7 +87,7 @@ impl SendState {
 
 /// The frame of a send is queued.
 pub fn is_sent(sending: &Sending) -> bool
-    ensures { result ≡ is_sent_send sending.now }
+    ensures { result ≡ is_sent sending.now }
 {
     match sending {
         Sending::Sent => true,
@@ -134,12 +133,5 @@ impl BatchState {
     {
         let BatchState { batching } = self;
         Box::into_inner(batching)
-    }
-
-    /// The frame of the batch that is sent is queued.
-    pub fn is_sent(&self) -> bool
-        ensures { result ≡ is_sent self.now }
-    {
-        self.batching.is_sent()
     }
 }

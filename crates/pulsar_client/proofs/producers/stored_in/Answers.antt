@@ -1,18 +1,17 @@
-use Rattle.std.proofs.Common.{◌∙◌, ◌++◌, ap, map, sym, take}
+use Rattle.std.proofs.Common.{◌∙◌, ◌++◌, ℕ, ap, map, sym, take}
+use Rattle.std.specs.BTreeMap.{get}
 use Rattle.std.specs.List.{flat_map}
+use Rattle.std.specs.Ordering.{nat_cmp}
 use Rattle.pulsar_producer.specs.declared.routing.Partition.{Partition}
-use Rattle.pulsar_client.specs.Kept.{producers_of}
-use Rattle.pulsar_client.specs.Producers.{stored_at, stored_by}
-use Rattle.std.proofs.Common.{ℕ}
+use Rattle.pulsar_client.specs.Producers.{stored_at}
 use Rattle.pulsar_client.proofs.Grown.{flat_map_end, map_more}
-use Rattle.pulsar_client.proofs.producers.Producers.stored_by.Goals as goal
+use Rattle.pulsar_client.proofs.producers.stored_in.Goals as goal
 
 pub loop-partition-preserved : goal.loop-partition-preserved
 loop-partition-preserved c =
-    let ps = producers_of c.args.self.now in
-    let stores = λ (n : ℕ). stored_at (ps.topics n) in
+    let stores = λ (n : ℕ). stored_at (get nat_cmp c.args.topics.now n) in
     let number = λ (q : Partition). q.number in
-    let qs = c.in-Some.producer.now.routes.partitions in
+    let qs = c.args.partitions.now in
     let i = c.loop-partition.partition-index in
     let q = c.partition-item.result in
     c.in_ok-store_tickets.ensures

@@ -1,4 +1,3 @@
-use Rattle.std.proofs.Common.{◌≡◌}
 use Rattle.pulsar_client.specs.Content.{heard}
 use Rattle.pulsar_cli.proofs.Events.{ran-awaits}
 use Rattle.pulsar_cli.proofs.program.drive.Goals as goal

@@ -1,5 +1,5 @@
 -- The entries of items, what they weigh, and what is written of them.
-use Rattle.std.proofs.Common.{◌≡◌, ◌∙◌, ap, sym, refl, ℕ, suc, ◌+◌, ◌≤◌, ◌^◌, ◌-◌, add-zero, arith, append_assoc, append-nil, map, length, length-append, min, List, [], ◌∷◌, ◌++◌, Option, Some, None}
+use Rattle.std.proofs.Common.{◌≡◌, ◌∙◌, ap, sym, refl, ℕ, suc, ◌+◌, ◌≤◌, ◌-◌, add-zero, arith, append-nil, map, length, length-append, List, [], ◌∷◌, ◌++◌, Option, Some, None}
 use Rattle.std.proofs.lemmas.Grind.{flat_map-append}
 use Rattle.std.proofs.lemmas.List.{map-append}
 use Rattle.pulsar_wire.specs.Sink.{capped}

@@ -1,6 +1,6 @@
 -- What follows of every history of a topic producer that sends batches, of every run of its batches, and of every batch, in plain words. `h`
 -- has the acts of a history, newest first, and `ns` the news of a run, oldest first.
-use Rattle.std.specs.Prelude.{◌≡◌, ◌≢◌, ℕ, ◌+◌, ◌-◌, ◌<◌, ◌^◌, ℤ, pos, nat_lt, ◌⊎◌, Bool, true, false, if◌then◌else◌, List, [], ◌∷◌, ◌++◌, length, map, take, Option, Some, None, Ok}
+use Rattle.std.specs.Prelude.{◌≡◌, ℕ, ◌-◌, ◌<◌, ◌^◌, ℤ, pos, nat_lt, ◌⊎◌, Bool, true, false, if◌then◌else◌, List, [], ◌∷◌, ◌++◌, length, map, take, Option, Some, None, Ok}
 use Rattle.std.specs.List.{AllByRecursion, flat_map, slice_get}
 use Rattle.std.specs.Option.{option_map, option_to_list}
 use Rattle.pulsar_wire.specs.Fits.{InRange}
@@ -12,7 +12,7 @@ use Rattle.pulsar_messages.specs.Messages.{properties_values}
 use Rattle.pulsar_plans.specs.declared.turn.Ways.{Ways}
 use Rattle.pulsar_producer.specs.Batch.{batch_of, entry_of, placed, placed_id, report_at, reports}
 use Rattle.pulsar_producer.specs.Batching.{begins, told}
-use Rattle.pulsar_producer.specs.Storage.{Item, SingleMessage, Flush, Storage, is_ready, pushed}
+use Rattle.pulsar_producer.specs.Storage.{Item, SingleMessage, Flush, is_ready, pushed}
 use Rattle.pulsar_producer.specs.Topic.{Act, Takes, Passes, Draws, Remakes, Closes, Stores, Flushes, Cuts, TakesBatch, Halts, Seen, Setup, is_nothing, is_settled, next_batch, seen, ticket_of, unsent_tickets}
 use Rattle.pulsar_producer.specs.declared.batch.Fate.{Fate}
 use Rattle.pulsar_producer.specs.declared.batch.Member.{Member}

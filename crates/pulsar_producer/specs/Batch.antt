@@ -132,3 +132,8 @@ failed f = fate.Failed (OfBatch f)
 
 abbrev pub not_written : Reason → Fate
 not_written r = failed (in_producer (Encoding r))
+
+-- The client is stopped while the frame of a batch waits for its receipt: its messages fail with their connection, and a flush is halted.
+abbrev pub cut_report : Member → Report
+cut_report (member.Message ticket) = record { ticket = ticket; fate = failed (in_producer Disconnected) }
+cut_report (member.Flush ticket) = record { ticket = ticket; fate = fate.Halted }

@@ -1,11 +1,11 @@
 -- The batches of a topic producer, as a machine over news: one after the other is taken, sent, and settled. It has no end.
 -- (Pulsar binary protocol, Batch messages)
-use Rattle.std.specs.Prelude.{ℕ, List, [], ◌∷◌, length, map, Some, None, Result, Ok, Err, Bool, true, false}
+use Rattle.std.specs.Prelude.{ℕ, List, [], ◌∷◌, length, map, Some, None, Result, Ok, Err, Bool, true, false, if◌then◌else◌}
 use Rattle.pulsar_frame.specs.Batch.{EntryValues}
 use Rattle.pulsar_messages.specs.Content.{ProducerMessageValues}
 use Rattle.pulsar_plans.specs.declared.turn.Ways.{Ways}
 use Rattle.pulsar_wire.specs.declared.error.Reason.{Reason}
-use Rattle.pulsar_producer.specs.Batch.{batch_of, entries_in, failed, member_of, not_written, receipt_fate, reports}
+use Rattle.pulsar_producer.specs.Batch.{batch_of, cut_report, entries_in, failed, member_of, not_written, receipt_fate, reports}
 use Rattle.pulsar_producer.specs.Plans.{Sent, send_begins, send_told}
 use Rattle.pulsar_producer.specs.Storage.{Item}
 use Rattle.pulsar_producer.specs.declared.batch.Fate.{Fate}
@@ -90,7 +90,7 @@ told w e Taking n = in_taking e n
 told w e (Sending ms count s) n = sends ms count (send_told w e s n)
 told w e Settling n = takes e
 
--- A batch whose frame is queued is not halted by the stop of the client: what becomes of its frame is its end.
+-- the frame of a batch is queued, and its receipt is waited for
 abbrev pub is_sent_send : Send → Bool
 is_sent_send send.Sent = true
 is_sent_send (send.Waiting m) = false
@@ -109,8 +109,11 @@ is_sent (Sending ms count s) = is_sent_send s
 is_sent Settling = false
 
 -- the client is stopped
+abbrev pub cuts_off : (is_sent : Bool) → List Member → (count : ℕ) → Goes
+cuts_off is_sent ms n = if is_sent then goes Settling (Settles (map cut_report ms)) else settles ms n fate.Halted
+
 abbrev pub halted : Batching → Goes
 halted Resting = rests
 halted Taking = rests
-halted (Sending ms count s) = settles ms count fate.Halted
+halted (Sending ms count s) = cuts_off (is_sent_send s) ms count
 halted Settling = rests

@@ -377,3 +377,32 @@ fn receipt_of(alloc: Global, body: &Body) -> Result<Option<Receipt>, NoMemory>
         _ => Ok(None),
     }
 }
+
+/// What those of a batch are told whose receipt is waited for, where the client is stopped.
+pub(crate) fn cut_reports(alloc: Global, members: &[Member]) -> Result<VecDeque<Report>, NoMemory>
+    ensures { IfOk result (λ all. all.items ≡ map meaning.cut_report members.now) }
+{
+    let mut all = VecDeque::new(alloc);
+    for member in members {
+        all.push_back(cut_report(alloc, *member)?)?;
+    }
+    Ok(all)
+}
+
+fn cut_report(alloc: Global, member: Member) -> Result<Report, NoMemory>
+    ensures { IfOk result (λ r. r ≡ meaning.cut_report member) }
+{
+    match member {
+        Member::Message(ticket) => {
+            let cause = in_producer(alloc, ConnectionError::Disconnected)?;
+            Ok(Report {
+                ticket,
+                fate: Fate::failed(alloc, cause)?,
+            })
+        }
+        Member::Flush(ticket) => Ok(Report {
+            ticket,
+            fate: Fate::Halted,
+        }),
+    }
+}

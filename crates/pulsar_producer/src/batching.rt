@@ -79,14 +79,36 @@ pub fn told(
     }
 }
 
-/// The client is stopped: what is not sent yet fails.
+/// The client is stopped.
 pub fn halted(alloc: Global, state: Batching) -> Result<Goes, NoMemory>
     ensures { IfOk result (λ goes. goes ≡ meaning.halted state) }
 {
     match state {
-        Batching::Sending { members, count, .. } => settles(alloc, &members, count, &Fate::Halted),
+        Batching::Sending {
+            members,
+            count,
+            sending,
+        } => cuts_off(alloc, sending.is_sent(), &members, count),
         Batching::Resting | Batching::Taking | Batching::Settling => Ok(rests()),
     }
+}
+
+/// What is not sent yet is halted; a batch whose receipt is waited for fails with its connection.
+fn cuts_off(
+    alloc: Global,
+    is_sent: bool,
+    members: &Members,
+    count: usize,
+) -> Result<Goes, NoMemory>
+    ensures { IfOk result (λ goes. goes ≡ meaning.cuts_off is_sent members.now count) }
+{
+    if !is_sent {
+        return settles(alloc, members, count, &Fate::Halted);
+    }
+    Ok(Goes {
+        state: Batching::Settling,
+        deed: Deed::Settles(members.cut(alloc)?),
+    })
 }
 
 /// It waits until a batch was cut.

@@ -4,12 +4,12 @@ ghost use Rattle.std.specs.Prelude.{◌≡◌, [], ◌∷◌, ◌++◌, IfOk, Ma
 ghost use Rattle.std.specs.Option.{option_map};
 ghost use Rattle.pulsar_frame.specs.Batch.{entry_values};
 ghost use Rattle.pulsar_messages.specs.Content.{message_content, producer_message_values, producer_options_values};
-ghost use Rattle.pulsar_producer.specs.Batch.{batch_of, entries_in, entry_of, member_of, reports};
+ghost use Rattle.pulsar_producer.specs.Batch.{batch_of, cut_report, entries_in, entry_of, member_of, reports};
 ghost use Rattle.pulsar_producer.specs.Message.{with_version};
 ghost use Rattle.pulsar_producer.specs.Storage.{is_batching, item_of, limits_of};
 ghost use Rattle.pulsar_producer.specs.Topic.{ticket_of};
 
-use crate::batch::{Fate, Member, Report, count, entry_of, members, message, reports, size_in_i32};
+use crate::batch::{Fate, Member, Report, count, cut_reports, entry_of, members, message, reports, size_in_i32};
 use crate::replies::Given;
 use crate::storage::{BatchItem, Limits, push_tickets};
 use pulsar_frame::batch::BatchedMessage;
@@ -362,6 +362,14 @@ impl Members {
         ensures { IfOk result (λ r. r ≡ reports count fate.now self.now) }
     {
         let all = reports(alloc, &self.all, count, fate)?;
+        Ok(Reports { all })
+    }
+
+    /// What each of them is told where the client is stopped while the receipt of the batch is waited for.
+    pub fn cut(&self, alloc: Global) -> Result<Reports, NoMemory>
+        ensures { IfOk result (λ r. r ≡ map cut_report self.now) }
+    {
+        let all = cut_reports(alloc, &self.all)?;
         Ok(Reports { all })
     }
 }

@@ -9,6 +9,7 @@ ghost use Rattle.pulsar_client.specs.View.{made, producers_made};
 use crate::act::{Makes, Who};
 use crate::consumers::subscriber::Subscriber;
 use crate::tables::Tables;
+use crate::who::rank;
 use pulsar_wire::error::NoMemory;
 
 impl Tables {
@@ -19,7 +20,7 @@ impl Tables {
         ensures sees { OnOk result (view_of self.new ≡ record (view_of self.old) { consumers = subscription_at self.new.subscribers; producers = producers_of self.new.producers }) }
         ensures settings { self.new.settings ≡ self.old.settings }
     {
-        let Who::Call(ticket) = who;
+        let (_, ticket) = rank(who);
         match makes {
             Makes::Nothing | Makes::Client => Ok(()),
             Makes::Consumer {

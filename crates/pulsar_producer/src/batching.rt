@@ -94,12 +94,7 @@ pub fn halted(alloc: Global, state: Batching) -> Result<Goes, NoMemory>
 }
 
 /// What is not sent yet is halted; a batch whose receipt is waited for fails with its connection.
-fn cuts_off(
-    alloc: Global,
-    is_sent: bool,
-    members: &Members,
-    count: usize,
-) -> Result<Goes, NoMemory>
+fn cuts_off(alloc: Global, is_sent: bool, members: &Members, count: usize) -> Result<Goes, NoMemory>
     ensures { IfOk result (λ goes. goes ≡ meaning.cuts_off is_sent members.now count) }
 {
     if !is_sent {

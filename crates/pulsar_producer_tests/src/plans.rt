@@ -25,10 +25,10 @@ const SERVED: &[u8] =
 
 const MADE: &[u8] = b"\x00\x00\x00\x0e\x00\x00\x00\x0a\x08\x11\x8a\x01\x05\x08\x00\x12\x01p";
 
-pub(crate) const RECEIPT: &[u8] =
+const RECEIPT: &[u8] =
     b"\x00\x00\x00\x0c\x00\x00\x00\x08\x08\x07\x3a\x04\x08\x00\x10\x00";
 
-pub(crate) fn ways(alloc: Global) -> Result<Ways, Fail> {
+fn ways(alloc: Global) -> Result<Ways, Fail> {
     let url = Url::parse(alloc, "pulsar://127.0.0.1:6650")?;
     let base = BrokerAddress::base(alloc, &url)?.ok_or(ConnectionError::NotFound)?;
     Ok(Ways {
@@ -39,7 +39,7 @@ pub(crate) fn ways(alloc: Global) -> Result<Ways, Fail> {
 }
 
 /// The reply in a frame.
-pub(crate) fn reply(alloc: Global, frame: &[u8]) -> Result<News, Fail> {
+fn reply(alloc: Global, frame: &[u8]) -> Result<News, Fail> {
     let mut frames = FrameReader::new(alloc);
     frames.feed(frame)?;
     let message = frames.next()?.ok_or(ConnectionError::NotFound)?;
@@ -55,7 +55,7 @@ fn link() -> News {
     News::Told(Outcome::GotLink(0))
 }
 
-pub(crate) fn drawn(alloc: Global, number: u64, room: bool) -> Result<News, Fail> {
+fn drawn(alloc: Global, number: u64, room: bool) -> Result<News, Fail> {
     let name = Text::new(String::from_str(alloc, "p")?);
     Ok(News::Drew(Drawn {
         number,
@@ -66,7 +66,7 @@ pub(crate) fn drawn(alloc: Global, number: u64, room: bool) -> Result<News, Fail
 }
 
 /// A deed by its name.
-pub(crate) fn name(deed: &Deed) -> &'static str {
+fn name(deed: &Deed) -> &'static str {
     match deed {
         Deed::Does(Action::Get(_)) => "get",
         Deed::Does(Action::Ask { .. }) => "ask",
@@ -85,13 +85,13 @@ pub(crate) fn name(deed: &Deed) -> &'static str {
     }
 }
 
-pub(crate) fn write(text: &mut String, word: &str) -> Result<(), Fail> {
+fn write(text: &mut String, word: &str) -> Result<(), Fail> {
     text.push_str(word)?;
     text.push(' ')?;
     Ok(())
 }
 
-pub(crate) fn errand() -> Errand {
+fn errand() -> Errand {
     Errand {
         producer: 0,
         block: true,
@@ -331,7 +331,7 @@ fn limits() -> Limits {
 }
 
 /// A topic producer whose first message has the number 7.
-pub(crate) fn producer(alloc: Global) -> Result<TopicProducer, Fail> {
+fn producer(alloc: Global) -> Result<TopicProducer, Fail> {
     let mut text = String::new(alloc);
     let mut parts = built(alloc, &mut text)?;
     match parts.next() {

@@ -36,6 +36,27 @@ topic d word = unless (is_some d.wanted.topic) (text word >>= λ t. Some (record
 abbrev pub name : Draft → List ℕ → Option Draft
 name d word = unless (is_some d.wanted.name) (text word >>= λ t. Some (record d { wanted = record d.wanted { name = Some t } }))
 
+-- batch=NUMBER, which fits 32 bits
+abbrev pub unsigned_32 : ℕ → Option ℕ
+unsigned_32 n = if nat_lt n (2 ^ 32) then Some n else None
+
+abbrev pub batch : Draft → List ℕ → Option Draft
+batch d word =
+    unless (is_some d.wanted.options.batch_size)
+    (number word >>= λ n. unsigned_32 n >>= λ m. Some (with_options d (record d.wanted.options { batch_size = Some m })))
+
+-- bytes=NUMBER
+abbrev pub bytes : Draft → List ℕ → Option Draft
+bytes d word =
+    unless (is_some d.wanted.options.batch_byte_size)
+    (number word >>= λ n. Some (with_options d (record d.wanted.options { batch_byte_size = Some n })))
+
+-- batch-timeout=NUMBER
+abbrev pub batch_timeout : Draft → List ℕ → Option Draft
+batch_timeout d word =
+    unless (is_some d.wanted.options.batch_timeout)
+    (number word >>= λ n. Some (with_options d (record d.wanted.options { batch_timeout = Some n })))
+
 -- access=NUMBER
 abbrev pub signed_32 : ℕ → Option ℤ
 signed_32 n = if nat_lt n (2 ^ 31) then Some (pos n) else None
@@ -98,7 +119,10 @@ schema d word =
 -- a word of its options
 abbrev pub option_part : Draft → (name value : List ℕ) → Option Draft
 option_part d name value =
-    if bytes_eq name (codes "access") then access d value
+    if bytes_eq name (codes "batch") then batch d value
+    else if bytes_eq name (codes "bytes") then bytes d value
+    else if bytes_eq name (codes "batch-timeout") then batch_timeout d value
+    else if bytes_eq name (codes "access") then access d value
     else if bytes_eq name (codes "block") then block d value
     else if bytes_eq name (codes "route") then route d value
     else if bytes_eq name (codes "encrypted") then encrypted d value

@@ -13,26 +13,30 @@ use Rattle.pulsar_client.specs.declared.act.Part.TheVariants.{Calls}
 use Rattle.pulsar_client.specs.declared.act.Procedure.{Procedure}
 use Rattle.pulsar_client.specs.declared.act.Verdict.{Verdict}
 use Rattle.pulsar_client.specs.declared.act.Who.{Who}
-use Rattle.pulsar_client.specs.declared.act.Who.TheVariants.{Call}
+use Rattle.pulsar_client.specs.declared.act.Who.TheVariants.{Call, Producer}
 use Rattle.pulsar_client.specs.declared.plans.plan.Plan.{Plan}
 use Rattle.pulsar_client.specs.declared.plans.plan.Turn.{Turn}
 use Rattle.pulsar_client.specs.declared.plans.plan.Turn.TheVariants.{Stays, Gives}
 use Rattle.pulsar_plans.specs.declared.turn.Ways.{Ways}
 use Rattle.pulsar_client.specs.Content.{Asked, lacks_tickets, shares}
 use Rattle.pulsar_client.specs.Plan.{fails, told, verdict, begins}
-use Rattle.pulsar_client.specs.Rules.{share, at_once, below, called, causes, follows, follows_some, procedure_for, unless_refused, joins, sends_by, shares_of, shares_unless, starts, why_no_sends, unless}
+use Rattle.pulsar_client.specs.Rules.{share, at_once, below, called, fails_as, causes, follows, follows_some, procedure_for, unless_refused, joins, left_with, sends_by, sends_with, stores_as, shares_of, shares_unless, starts, why_no_sends, unless}
 use Rattle.pulsar_client.specs.Run.{Agenda, Entry, Begins, Then, IsRun, agenda, first, rules, view}
 use Rattle.pulsar_client.specs.View.{Options, View, told_some, ways_of, Chosen, may_call}
 use Rattle.pulsar_producer.specs.declared.sending.Errand.{Errand}
 use Rattle.pulsar_messages.specs.Content.{ProducerMessageValues}
-use Rattle.pulsar_client.specs.Producers.{Producers, errand_of, next_advice, why_not, routed}
+use Rattle.pulsar_client.specs.Producers.{Producers, batches_in, errand_of, next_advice, why_not, routed}
 use Rattle.pulsar_client.specs.declared.act.Refusal.{Refusal}
 use Rattle.pulsar_client.specs.declared.act.Share.{Share}
+use Rattle.pulsar_client.specs.declared.act.Makes.{Makes}
+use Rattle.pulsar_frame.specs.Batch.{EntryValues}
+use Rattle.pulsar_producer.specs.Batch.{entry_of}
 use Rattle.pulsar_client.specs.declared.act.Procedure.TheVariants as procedure
 use Rattle.pulsar_client.specs.Content as content
 use Rattle.pulsar_client.proofs.Acts.{Each, each_append, each_first, each_map, each_rest, is_served}
-use Rattle.pulsar_client.proofs.Raising.{IsRaised, kind, may, raises, OfDeed, OfPart, OfStart}
-use Rattle.pulsar_client.proofs.Fitting.{fits, Fits, Leaves, Nowhere, Reports, Spot, Usual, begins_fits, is_stop, spot, told_fits}
+use Rattle.pulsar_client.proofs.Left.{left_each}
+use Rattle.pulsar_client.proofs.Raising.{IsRaised, kind, may, raises, OfBatches, OfDeed, OfPart, OfStart}
+use Rattle.pulsar_client.proofs.Fitting.{fits, Fits, Holds, Keeps, Leaves, Nowhere, Reports, Spot, Stores, Usual, begins_fits, is_stop, spot, told_fits}
 
 abbrev is_stopping : Act → Bool
 is_stopping (Does who StopAll) = true
@@ -48,15 +52,19 @@ served_no_stop (Starts who procedure.Stop) h = absurd cc
 served_no_stop _ h = refl
 
 -- only plans act, and only calls start plans
-raised_no_stop : (a b : Act) → may OfDeed a ≡ false → may OfStart a ≡ false → IsRaised a b → NoStop b
-raised_no_stop a (Does who action) d s h = (let f : true ≡ false = sym h ∙ d in absurd cc)
-raised_no_stop a (Starts who p) d s h = (let f : true ≡ false = sym h ∙ s in absurd cc)
-raised_no_stop a _ d s h = refl
+raised_no_stop : (a b : Act) → may OfDeed a ≡ false → may OfStart a ≡ false → may OfBatches a ≡ false → IsRaised a b → NoStop b
+raised_no_stop a (Does who action) d s m h = (let f : true ≡ false = sym h ∙ d in absurd cc)
+raised_no_stop a (Starts (Call t) p) d s m h = (let f : true ≡ false = sym h ∙ s in absurd cc)
+raised_no_stop a (Starts (Producer n) p) d s m h = (let f : true ≡ false = sym h ∙ m in absurd cc)
+raised_no_stop a _ d s m h = refl
 
 no_stop_at : (s : Spot) → fits s StopAll ≡ true → ⊥
 no_stop_at Usual h = cc
 no_stop_at Reports h = cc
 no_stop_at Leaves h = cc
+no_stop_at Keeps h = cc
+no_stop_at Holds h = cc
+no_stop_at Stores h = cc
 no_stop_at Nowhere h = cc
 
 turn_no_stop : (who : Who) (turn : Turn Plan Verdict) → Fits turn → Each NoStop (follows who turn)
@@ -70,19 +78,30 @@ some_no_stop who None u = tt
 some_no_stop who (Some plan) u = turn_no_stop who (told plan u) (told_fits plan u)
 
 -- no part of a call is a stop, nor is a call that has parts
-sends_no_stop : (who : Who) (share : Option Share) (m : ProducerMessageValues) (ways : Option Ways) (e : Option Errand) →
-    NoStop (Starts who (sends_by share m ways e))
-sends_no_stop who None m ways None = refl
-sends_no_stop who (Some s) m ways None = refl
-sends_no_stop who None m None (Some e) = refl
-sends_no_stop who (Some s) m None (Some e) = refl
-sends_no_stop who share m (Some ways) (Some e) = refl
+fails_no_stop : (who : Who) (share : Option Share) (r : Refusal) → NoStop (Starts who (fails_as share r))
+fails_no_stop who None r = refl
+fails_no_stop who (Some s) r = refl
+
+stores_no_stop : (who : Who) (n : ℕ) (share : Option Share) (entry : Option EntryValues) → NoStop (Starts who (stores_as n share entry))
+stores_no_stop who n share None = fails_no_stop who share _
+stores_no_stop who n share (Some entry) = refl
+
+with_no_stop : (who : Who) (batches : Bool) (ways : Ways) (e : Errand) (share : Option Share) (m : ProducerMessageValues) →
+    NoStop (Starts who (sends_with batches ways e share m))
+with_no_stop who true ways e share m = stores_no_stop who e.producer share (entry_of m)
+with_no_stop who false ways e share m = refl
+
+sends_no_stop : (who : Who) (batches : Bool) (share : Option Share) (m : ProducerMessageValues) (ways : Option Ways) (e : Option Errand) →
+    NoStop (Starts who (sends_by batches share m ways e))
+sends_no_stop who batches share m ways None = fails_no_stop who share _
+sends_no_stop who batches share m None (Some e) = fails_no_stop who share _
+sends_no_stop who batches share m (Some ways) (Some e) = with_no_stop who batches ways e share m
 
 shares_no_stop : (o : Chosen) (ps : Producers) (of ticket : ℕ) (advice : List (Option ℕ)) (t : ℕ) (ms : List ProducerMessageValues) →
     Each NoStop (shares_of o ps of ticket advice t ms)
 shares_no_stop o ps of ticket advice t [] = tt
 shares_no_stop o ps of ticket advice t (m ∷ ms) = (
-  sends_no_stop (Call ticket) (share of ticket) m (ways_of o) (errand_of (next_advice advice) m (ps.built t)),
+  sends_no_stop (Call ticket) (batches_in (ps.built t)) (share of ticket) m (ways_of o) (errand_of (next_advice advice) m (ps.built t)),
   shares_no_stop o (routed t m ps) of (ticket + 1) (drop 1 advice) t ms,
 )
 
@@ -117,6 +136,10 @@ called_so v advice asked = by (lacks_tickets v.calls.drawn (shares asked))
     by : (b : Bool) → Each NoStop (cond b late (starts v advice asked)) ⊎ OneAct (cond b late (starts v advice asked))
     by true = inl (refl, tt)
     by false = starts_so v advice asked
+
+-- nor is what a verdict leaves behind
+left_no_stop : (ways : Option Ways) (m : Makes) → Each NoStop (left_with ways m)
+left_no_stop ways m = left_each NoStop ways m (λ w e. refl)
 
 -- nothing at all is left but parts
 pub record IsClear (g : Agenda) : Type 0 where
@@ -182,8 +205,9 @@ module _ (o : Options) (log : List Entry) (before : Each NoStop (agenda o log).n
   plain_stops : (a : Act) → Each NoStop (at_once (view o log) a) → Each NoStop (agenda o (Then a ∷ log)).now ⊎ Alone o (Then a ∷ log)
   plain_stops a k = inl (each_append NoStop (at_once (view o log) a) (rest (agenda o log)).now k left_stops)
 
-  raised_stops : (a : Act) → may OfDeed a ≡ false → may OfStart a ≡ false → Each NoStop (agenda o (Then a ∷ log)).now ⊎ Alone o (Then a ∷ log)
-  raised_stops a d s = plain_stops a (each_map (IsRaised a) NoStop (at_once (view o log) a) (λ b. raised_no_stop a b d s) (raises (view o log) a))
+  raised_stops : (a : Act) → may OfDeed a ≡ false → may OfStart a ≡ false → may OfBatches a ≡ false →
+      Each NoStop (agenda o (Then a ∷ log)).now ⊎ Alone o (Then a ∷ log)
+  raised_stops a d s m = plain_stops a (each_map (IsRaised a) NoStop (at_once (view o log) a) (λ b. raised_no_stop a b d s m) (raises (view o log) a))
 
   -- what is first stops the client only where it is alone
   stop_alone : (a : Act) → is_stopping a ≡ true → first (agenda o log) ≡ Some a → IsClear (rest (agenda o log))
@@ -214,10 +238,11 @@ module _ (o : Options) (log : List Entry) (before : Each NoStop (agenda o log).n
 
   stops_on : (a : Act) → first (agenda o log) ≡ Some a → Each NoStop (agenda o (Then a ∷ log)).now ⊎ Alone o (Then a ∷ log)
   stops_on (Comes (Calls asked advice)) fits = call_stops asked advice fits
-  stops_on (Comes p) fits = raised_stops (Comes p) refl refl
+  stops_on (Comes p) fits = raised_stops (Comes p) refl refl refl
   stops_on (Starts who p) fits = start_stops who p (is_stop p) refl fits
   stops_on (Told n) fits = plain_stops (Told n) (some_no_stop n.who ((view o log).stand n.who) n.outcome)
-  stops_on (Does who action) fits = raised_stops (Does who action) refl refl
+  stops_on (Does who action) fits = raised_stops (Does who action) refl refl refl
+  stops_on (Answers who verdict) fits = plain_stops (Answers who verdict) (left_no_stop (ways_of (view o log).chosen) verdict.makes)
   stops_on a fits = plain_stops a tt
 
 stops_come : (o : Options) (log : List Entry) → IsRun o log → Each NoStop (agenda o log).now ⊎ Alone o log

@@ -8,15 +8,15 @@ use Rattle.pulsar_wire.specs.declared.error.ConnectionError.{ConnectionError}
 use Rattle.pulsar_wire.specs.declared.error.IoKind.{IoKind}
 use Rattle.pulsar_messages.specs.Words.{Words}
 use Rattle.pulsar_session.specs.declared.states.Asked.{Asked as Placed}
-use Rattle.pulsar_session.specs.Failures.{Fault, Disconnected, Exhausted}
+use Rattle.pulsar_session.specs.Failures.{Fault, Disconnected, Exhausted, OfProducer, ProducerClosed}
 use Rattle.pulsar_session.specs.Link.{Came, came, ends}
 use Rattle.pulsar_link.specs.Messages.{read}
 use Rattle.pulsar_client.specs.declared.act.Act.{Act}
-use Rattle.pulsar_client.specs.declared.act.Act.TheVariants.{Comes, Starts, Told, Does}
+use Rattle.pulsar_client.specs.declared.act.Act.TheVariants.{Comes, Told, Does}
 use Rattle.pulsar_client.specs.declared.act.Action.{Action}
-use Rattle.pulsar_client.specs.declared.act.Action.TheVariants.{Get, Ask, StopAll, Rest, Draw, Find, Number, PassTurn, Recall, TakeTurn, Tell, Wait, Remake, Shut}
+use Rattle.pulsar_client.specs.declared.act.Action.TheVariants.{Get, Ask, StopAll, Rest, Draw, Find, Flush, Number, PassTurn, Recall, Store, TakeBatch, TakeTurn, Tell, TellAll, Wait, Remake, Shut}
 use Rattle.pulsar_client.specs.declared.act.Alarm.{Alarm}
-use Rattle.pulsar_client.specs.declared.act.Alarm.TheVariants.{Retry, Wake, KeepAlive, CheckIdle}
+use Rattle.pulsar_client.specs.declared.act.Alarm.TheVariants.{Retry, Wake, Batch, KeepAlive, CheckIdle}
 use Rattle.pulsar_client.specs.declared.act.Arrival.{Arrival}
 use Rattle.pulsar_client.specs.declared.act.Arrival.TheVariants.{Readied}
 use Rattle.pulsar_client.specs.declared.act.End.{End}
@@ -26,39 +26,34 @@ use Rattle.pulsar_client.specs.declared.act.Notice.{Notice}
 use Rattle.pulsar_client.specs.declared.act.Outcome.{Outcome}
 use Rattle.pulsar_client.specs.declared.act.Part.{Part}
 use Rattle.pulsar_client.specs.declared.act.Part.TheVariants.{ToLink, Rings}
-use Rattle.pulsar_client.specs.declared.act.Verdict.{Verdict}
 use Rattle.pulsar_client.specs.declared.act.Who.{Who}
 use Rattle.pulsar_client.specs.declared.addresses.Pause.{Pause}
 use Rattle.pulsar_client.specs.declared.addresses.Series.{Series}
 use Rattle.pulsar_client.specs.declared.addresses.Series.TheVariants.{Nobody, Runs, Pauses, Serves}
-use Rattle.pulsar_client.specs.declared.plans.plan.Plan.{Plan}
-use Rattle.pulsar_client.specs.declared.plans.plan.Turn.{Turn}
-use Rattle.pulsar_client.specs.declared.plans.plan.Turn.TheVariants.{Stays, Gives}
 use Rattle.pulsar_plans.specs.Address.{Place, address_key, is_reachable}
 use Rattle.pulsar_client.specs.Alarms.{rings}
-use Rattle.pulsar_client.specs.Laws.{AttemptEnds, Cause, OutcomesAreCaused, LineEnds, RequestEnds, base_of, IsToldBy, GrantsSo}
+use Rattle.pulsar_client.specs.Laws.{AttemptEnds, Cause, CutsSo, OutcomesAreCaused, LineEnds, RequestEnds, base_of, IsToldBy, GrantsSo}
 use Rattle.pulsar_client.specs.Links.{arrival, change_at, change_in, closed_by, line_places, new_places, times_out}
-use Rattle.pulsar_client.specs.Plan.{told, begins}
-use Rattle.pulsar_client.specs.Rules.{alone, answered_by, answered_on, at_once, caused, causes, dropped, ended_by, ended_on, failed, failed_by, failed_on, failed_over, failed_so, fails_so, follows, follows_some, further, gets_from, lost, lost_so, lost_with, moved_on, notice, opens, over_links, parts, served_by, served_on, stop_act, stopped_at, stopped_with, tells, tells_asker, told_at, waiters_of, woken, draw_outcome, draw_said, finds, grants, joins, number_said, recalls, stopped_one, takes_turn, turn_notice}
+use Rattle.pulsar_client.specs.Plan.{closed_notice}
+use Rattle.pulsar_client.specs.Rules.{alone, answered_by, answered_on, at_once, caused, causes, dropped, ended_by, ended_on, failed, failed_by, failed_on, failed_over, failed_so, fails_so, further, gets_from, lost, lost_so, lost_with, moved_on, notice, opens, over_links, parts, served_by, served_on, stop_act, stopped_at, stopped_with, tells, tells_asker, told_at, waiters_of, woken, draw_outcome, draw_said, finds, grants, joins, number_said, readied, ready_notice, recalls, stopped_call, stopped_one, takes_turn, turn_notice}
 use Rattle.pulsar_client.specs.Run.{Entry, Begins, Then, rules, view, IsRun}
-use Rattle.pulsar_client.specs.View.{Addresses, Options, Seat, View, answer_at, pause_for, pause_of, told_some, turned_by, room_of}
-use Rattle.pulsar_client.specs.Who.{is_same}
-use Rattle.pulsar_client.specs.declared.act.Who.TheVariants.{Call}
+use Rattle.pulsar_client.specs.View.{Addresses, Options, Seat, View, answer_at, pause_for, pause_of, turned_by, room_of}
+use Rattle.pulsar_client.specs.Who.{in_turn, is_same, turn_of}
+use Rattle.pulsar_producer.specs.Topic as topic
 use Rattle.pulsar_plans.specs.declared.making.Command.{Command}
 use Rattle.pulsar_producer.specs.declared.deed.Drawn.{Drawn}
-use Rattle.pulsar_client.specs.declared.act.Procedure.{Procedure}
 use Rattle.pulsar_client.specs.declared.producers.Topic.{Topic}
-use Rattle.pulsar_client.specs.Producers.{drawn, link_at, number_drawn, recalled, turn_passed, turn_taken, waiting, waiting_at}
+use Rattle.pulsar_client.specs.Producers.{drawn, is_settled_at, is_woken, link_at, next_batch_at, number_drawn, numbers_at, recalled, stored_at, stored_by, turn_passed, turn_taken, unsent, unsent_at, waiting, waiting_at}
 use Rattle.pulsar_wire.specs.declared.error.IoKind.TheVariants as io_kind
 use Rattle.pulsar_session.specs.declared.states.Asked.TheVariants as placed
 use Rattle.pulsar_session.specs.Link as session
 use Rattle.pulsar_client.specs.declared.act.Outcome.TheVariants as outcome
 use Rattle.pulsar_client.specs.Links as links
-use Rattle.pulsar_client.specs.declared.act.Procedure.TheVariants as procedure
 use Rattle.pulsar_producer.specs.declared.deed.News.TheVariants as news
 use Rattle.pulsar_client.proofs.Acts.{Each, chosen_same, over_each}
-use Rattle.pulsar_client.proofs.Raising.{IsRaised, may, raises, OfDeed, OfNotice}
-use Rattle.pulsar_client.proofs.Fitting.{begins_fits, is_said, is_stop, says_so, spot, told_fits, Fits}
+use Rattle.pulsar_client.proofs.Raising.{IsRaised, may, raises, OfNotice}
+use Rattle.pulsar_client.proofs.Fitting.{is_said, is_settling}
+use Rattle.pulsar_client.proofs.Granted.{tell_said, tell_settling}
 
 -- LISTS
 
@@ -75,9 +70,12 @@ in_append x (y ∷ xs) ys (inl e) = inl (inl e)
 in_append x (y ∷ xs) ys (inr h) = elim (in_append x xs ys h) [ inl i ↦ inl (inr i) | inr i ↦ inr i ]
 
 -- what is in a list of lists is in one of them
-in_flat : {A B : Type 0} (f : A → List B) (y : B) (xs : List A) → In y (flat_map f xs) → (x : A) × In y (f x)
+in_flat : {A B : Type 0} (f : A → List B) (y : B) (xs : List A) → In y (flat_map f xs) → (x : A) × In x xs × In y (f x)
 in_flat f y [] h = absurd h
-in_flat f y (x ∷ xs) h = elim (in_append y (f x) (flat_map f xs) h) [ inl i ↦ (x, i) | inr i ↦ in_flat f y xs i ]
+in_flat f y (x ∷ xs) h = elim (in_append y (f x) (flat_map f xs) h) [
+  | inl i ↦ (x, inl refl, i)
+  | inr i ↦ let k = in_flat f y xs i in (k.0, inr k.1, k.2)
+]
 
 in_each : {A : Type 0} (P : A → Type 0) (x : A) (xs : List A) → In x xs → Each P xs → P x
 in_each P x [] i k = absurd i
@@ -147,73 +145,17 @@ mute_told n (p ∷ ps) (inr h) = mute_told n ps h
 
 -- WHAT ONE TELLS ANOTHER
 
--- whatever a plan tells is what a part of a call says
-abbrev SaysSo : Act → Type 0
-SaysSo (Does who (Tell n)) = is_said n.outcome ≡ true
-SaysSo a = Unit {0}
-
-turn_says : (who : Who) (turn : Turn Plan Verdict) → Fits turn → Each SaysSo (follows who turn)
-turn_says who (Gives verdict) h = (tt, tt)
-turn_says who (Stays plan (Tell n)) h = (says_so (spot plan) n h, tt)
-turn_says who (Stays plan Rest) h = tt
-turn_says who (Stays plan action) h = (tt, tt)
-
-begins_says : (who : Who) (p : Procedure) (b : Bool) → is_stop p ≡ b → Each SaysSo (follows who (begins p))
-begins_says who p false h = turn_says who (begins p) (begins_fits p h)
-begins_says who procedure.Stop true h = (tt, tt)
-begins_says who p true h = absurd cc
-
-some_says : (who : Who) (row : Option Plan) (u : Outcome) → Each SaysSo (follows_some who (told_some row u))
-some_says who None u = tt
-some_says who (Some plan) u = turn_says who (told plan u) (told_fits plan u)
-
--- only plans act
-no_deed : (v : View) (a : Act) → may OfDeed a ≡ false → (w : Who) (action : Action) → In (Does w action) (at_once v a) → ⊥
-no_deed v a never w action h =
-    (let did : may OfDeed a ≡ true = in_each (IsRaised a) (Does w action) (at_once v a) h (raises v a) in let f : true ≡ false = sym did ∙ never in absurd cc)
-
-mute_did : (w : Who) (action : Action) (ps : List Part) → In (Does w action) (map Comes ps) → ⊥
-mute_did w action [] h = h
-mute_did w action (p ∷ ps) (inl e) = absurd cc
-mute_did w action (p ∷ ps) (inr h) = mute_did w action ps h
-
-told_did : (w : Who) (action : Action) (ns : List Notice) → In (Does w action) (map Told ns) → ⊥
-told_did w action [] h = h
-told_did w action (n ∷ ns) (inl e) = absurd cc
-told_did w action (n ∷ ns) (inr h) = told_did w action ns h
-
-one_did : (w : Who) (action : Action) (nss : List (List Notice)) → InOne (Does w action) (map (map Told) nss) → ⊥
-one_did w action [] h = h
-one_did w action (ns ∷ nss) (inl h) = told_did w action ns h
-one_did w action (ns ∷ nss) (inr h) = one_did w action nss h
-
-once_says : (v : View) (a : Act) (w : Who) (n : Notice) → In (Does w (Tell n)) (at_once v a) → is_said n.outcome ≡ true
-once_says v (Starts who p) w n h = in_each SaysSo (Does w (Tell n)) (follows who (begins p)) h (begins_says who p (is_stop p) refl)
-once_says v (Told m) w n h = in_each SaysSo (Does w (Tell n)) (at_once v (Told m)) h (some_says m.who (v.stand m.who) m.outcome)
-once_says v a w n h = absurd (no_deed v a refl w (Tell n) h)
-
-arises_says : (o : Options) (w : Who) (n : Notice) (e : Entry) (older : List Entry) → Arises rules o (Does w (Tell n)) e older → is_said n.outcome ≡ true
-arises_says o w n (Begins e) older h = absurd (mute_did w (Tell n) (parts o (view o older) e) h)
-arises_says o w n (Then b) older (inl h) = once_says (view o older) b w n h
-arises_says o w n (Then b) older (inr (inl h)) = absurd (told_did w (Tell n) (joins (view o older) b) h)
-arises_says o w n (Then b) older (inr (inr (inl h))) = absurd (one_did w (Tell n) (causes (view o older) b) h)
-arises_says o w n (Then b) older (inr (inr (inr h))) = absurd (mute_did w (Tell n) (further (view o older) b) h)
-
-step_says : (A : Type 0) (P : Entry → List Entry → Type 0) → ((e : Entry) (older : List Entry) → P e older → A) → (log : List Entry) → InThisStep P log → A
-step_says A P f [] h = absurd h
-step_says A P f (Begins e ∷ log) h = f (Begins e) log h
-step_says A P f (Then a ∷ log) (inl h) = f (Then a) log h
-step_says A P f (Then a ∷ log) (inr h) = step_says A P f log h
-
-run_says : (o : Options) (w : Who) (n : Notice) (log : List Entry) → IsRun o (Then (Does w (Tell n)) ∷ log) → is_said n.outcome ≡ true
-run_says o w n log run =
-    step_says (is_said n.outcome ≡ true) (Arises rules o (Does w (Tell n))) (arises_says o w n) log
-    (acts_arise_lem _ _ _ _ _ _ _ rules o (Does w (Tell n)) log run)
-
 said_caused : (o : Options) (who : Who) (u : Outcome) (e : Entry) (older : List Entry) → is_said u ≡ true → IsToldBy who u e older → Cause o who u e older
 said_caused o who (outcome.Parted ticket f) e older h k = k
 said_caused o who outcome.Stopped e older h k = inr (inr (inr k))
 said_caused o who u e older h k = absurd cc
+
+settling_caused : (o : Options) (who : Who) (u : Outcome) (e : Entry) (older : List Entry) → is_settling u ≡ true → IsToldBy who u e older →
+    Cause o who u e older
+settling_caused o who (outcome.Settled f) e older h k = inl k
+settling_caused o who outcome.Stopped e older h k = inr (inr (inr k))
+settling_caused o who (outcome.Granted n) e older h k = inr (inr (inr k))
+settling_caused o who u e older h k = absurd cc
 
 -- WHAT THE STOP TELLS
 
@@ -230,6 +172,7 @@ stopped_by : (n : Notice) (known : Addresses) (a : Alarm) → In n (stopped_with
 stopped_by n known (Retry l) h = stopped_in n known (known.pause l) h
 stopped_by n known (Wake w) (inl e) = ap (λ m. m.outcome) e
 stopped_by n known (Wake w) (inr h) = absurd h
+stopped_by n known (Batch k) h = absurd h
 stopped_by n known (KeepAlive l) h = absurd h
 stopped_by n known CheckIdle h = absurd h
 
@@ -358,6 +301,11 @@ module _ (o : Options) (who : Who) (u : Outcome) (older : List Entry) where
   done_caused w action is h =
       let k = told_is w (outcome.Granted news.Done) h in named (Then (Does w action)) (outcome.Granted news.Done) k.1 (inl (action, did w action k.0, is))
 
+  settled_caused : (w : Who) (n : ℕ) (b : Bool) → is_settled_at (v.producers.topics n) ≡ b → In (Told it) (cond b (grants w news.Done) []) →
+      Cause o who u (Then (Does w (Flush n))) older
+  settled_caused w n true e h = done_caused w (Flush n) e h
+  settled_caused w n false e h = absurd h
+
   once_caused : (b : Act) → In (Told it) (at_once v b) → Cause o who u (Then b) older
   once_caused (Does w (Get p)) h = gets_caused w p (is_reachable p) refl h
   once_caused (Does w (Ask l request)) h =
@@ -371,7 +319,14 @@ module _ (o : Options) (who : Who) (u : Outcome) (older : List Entry) where
   once_caused (Does w Number) h = numbers_caused w (number_drawn v.producers) refl h
   once_caused (Does w (Find n)) h = finds_caused w n (v.producers.topics n) refl h
   once_caused (Does w (Shut t)) h = done_caused w (Shut t) tt h
+  once_caused (Does w (Store n entry)) h = done_caused w (Store n entry) tt h
+  once_caused (Does w (Flush n)) h = settled_caused w n (is_settled_at (v.producers.topics n)) refl h
+  once_caused (Does w (TakeBatch n)) h =
+      let y : Outcome = outcome.Granted (news.HasBatch (next_batch_at (v.producers.topics n))) in
+      let k = told_is w y h in
+      named (Then (Does w (TakeBatch n))) y k.1 (inl (TakeBatch n, did w (TakeBatch n) k.0, refl))
   once_caused (Does w (Tell n)) h = done_caused w (Tell n) tt h
+  once_caused (Does w (TellAll ns)) h = done_caused w (TellAll ns) tt h
   once_caused (Does w (Wait delay)) h = absurd h
   once_caused (Does w Rest) h = absurd h
   once_caused b h = absurd (none_told v b it refl h)
@@ -379,40 +334,72 @@ module _ (o : Options) (who : Who) (u : Outcome) (older : List Entry) where
   -- ONE JOINS
 
   passed_caused : (w : Who) (n : ℕ) (row : Option (ℕ × Option (List ℕ))) → turn_passed (v.producers.topics n) ≡ row →
-      In it (option_to_list (option_map turn_notice row)) → Cause o who u (Then (Does w (PassTurn n))) older
+      In it (option_to_list (option_map (turn_notice n) row)) → Cause o who u (Then (Does w (PassTurn n))) older
   passed_caused w n None e h = absurd h
   passed_caused w n (Some next) e (inr h) = absurd h
   passed_caused w n (Some next) e (inl is) =
-      let a : who ≡ Call next.0 = ap (λ m. m.who) is in
+      let a : who ≡ in_turn n next.0 = ap (λ m. m.who) is in
       let b : u ≡ outcome.Granted (news.HasTurn next.1) = ap (λ m. m.outcome) is in
       named (Then (Does w (PassTurn n))) (outcome.Granted (news.HasTurn next.1)) b
-      (inr (w, n, next.0, next.1, refl, a, refl, e))
+      (inr (inl (w, n, next.0, next.1, refl, a, refl, e)))
 
   tells_caused : (w : Who) (n : Notice) → is_said n.outcome ≡ true → In it (n ∷ []) → Cause o who u (Then (Does w (Tell n))) older
   tells_caused w n said (inr h) = absurd h
   tells_caused w n said (inl is) =
-      said_caused o who u (Then (Does w (Tell n))) older (ap (λ m. is_said m.outcome) is ∙ said) (w, ap (λ m. Then (Does w (Tell m))) (sym is))
+      said_caused o who u (Then (Does w (Tell n))) older (ap (λ m. is_said m.outcome) is ∙ said) (w, inl (ap (λ m. Then (Does w (Tell m))) (sym is)))
+
+  all_caused : (w : Who) (ns : List Notice) → Each (λ n. is_settling n.outcome ≡ true) ns → In it ns → Cause o who u (Then (Does w (TellAll ns))) older
+  all_caused w ns k h =
+      settling_caused o who u (Then (Does w (TellAll ns))) older (in_each (λ n. is_settling n.outcome ≡ true) it ns h k) (w, inr (ns, refl, h))
+
+  -- a batch is cut, and none was under way
+  readied_so : (n : ℕ) (act : topic.Act) (e : Entry) → CutsSo o n act e older → (b : Bool) → is_woken act (v.producers.topics n) ≡ b →
+      In it (cond b (ready_notice n ∷ []) []) → Cause o who u e older
+  readied_so n act e cuts true w (inl is) =
+      named e (outcome.Granted news.Ready) (ap (λ m. m.outcome) is) (inr (inr (inl (n, act, ap (λ m. m.who) is, refl, w, cuts))))
+  readied_so n act e cuts true w (inr h) = absurd h
+  readied_so n act e cuts false w h = absurd h
+
+  readied_caused : (n : ℕ) (act : topic.Act) (e : Entry) → CutsSo o n act e older → In it (readied n act (v.producers.topics n)) → Cause o who u e older
+  readied_caused n act e cuts h = readied_so n act e cuts (is_woken act (v.producers.topics n)) refl h
+
+  -- a producer is closed, with what it stores
+  shut_caused : (w : Who) (t : ℕ) → In it (map closed_notice (stored_by v.producers (numbers_at (v.producers.built t)))) →
+      Cause o who u (Then (Does w (Shut t))) older
+  shut_caused w t h =
+      let ns : List ℕ = numbers_at (v.producers.built t) in
+      let k = in_map closed_notice it (stored_by v.producers ns) h in
+      let at = in_flat (λ n. stored_at (v.producers.topics n)) k.0 ns k.1 in
+      let so : Outcome = outcome.Settled (Err (OfProducer ProducerClosed)) in
+      named (Then (Does w (Shut t))) so (ap (λ m. m.outcome) k.2)
+      (inr (w, t, at.0, k.0, refl, ap (λ m. m.who) k.2, at.1, at.2, refl))
 
   joins_caused : (b : Act) → IsRun o (Then b ∷ older) → In it (joins v b) → Cause o who u (Then b) older
   joins_caused (Does w (PassTurn n)) run h = passed_caused w n (turn_passed (v.producers.topics n)) refl h
-  joins_caused (Does w (Tell n)) run h = tells_caused w n (run_says o w n older run) h
+  joins_caused (Does w (Store n entry)) run h =
+      readied_caused n (topic.Stores (turn_of w) entry) (Then (Does w (Store n entry))) (w, refl, refl) h
+  joins_caused (Does w (Flush n)) run h = readied_caused n (topic.Flushes (turn_of w)) (Then (Does w (Flush n))) (w, refl, refl) h
+  joins_caused (Does w (Shut t)) run h = shut_caused w t h
+  joins_caused (Does w (Tell n)) run h = tells_caused w n (tell_said o older w n run) h
+  joins_caused (Does w (TellAll ns)) run h = all_caused w ns (tell_settling o older w ns run) h
   joins_caused b run h = absurd h
 
   -- A MOMENT COMES, AND THE CLIENT IS STOPPED
 
-  woken_caused : (a : Alarm) → rings v.now a v.alarms ≡ true → In it (woken a) → Cause o who u (Then (Comes (Rings a))) older
+  woken_caused : (a : Alarm) → rings v.now a v.alarms ≡ true → In it (woken v a) → Cause o who u (Then (Comes (Rings a))) older
   woken_caused (Wake w) r (inl e) =
       let same : who ≡ w = ap (λ n. n.who) e in
       named (Then (Comes (Rings (Wake w)))) outcome.Woken (ap (λ n. n.outcome) e)
       (ap (λ x. Then (Comes (Rings (Wake x)))) (sym same), ap (λ x. rings v.now (Wake x) v.alarms) same ∙ r)
   woken_caused (Wake w) r (inr h) = absurd h
+  woken_caused (Batch n) r h = readied_caused n topic.Cuts (Then (Comes (Rings (Batch n)))) (refl, r) h
   woken_caused (Retry l) r h = absurd h
   woken_caused (KeepAlive l) r h = absurd h
   woken_caused CheckIdle r h = absurd h
 
-  rings_caused : (a : Alarm) (b : Bool) → rings v.now a v.alarms ≡ b → InOne (Told it) (map (map Told) (cond b (opens (woken a)) [])) →
+  rings_caused : (a : Alarm) (b : Bool) → rings v.now a v.alarms ≡ b → InOne (Told it) (map (map Told) (cond b (opens (woken v a)) [])) →
       Cause o who u (Then (Comes (Rings a))) older
-  rings_caused a true r h = woken_caused a r (in_opened it (woken a) h)
+  rings_caused a true r h = woken_caused a r (in_opened it (woken v a) h)
   rings_caused a false r h = absurd h
 
   abbrev stopped_all : List Notice
@@ -421,16 +408,33 @@ module _ (o : Options) (who : Who) (u : Outcome) (older : List Entry) where
   abbrev waiting_all : List Notice
   waiting_all = map stopped_one (waiting v.producers)
 
-  all_stopped : (w : Who) → In it (stopped_all ++ waiting_all) → Cause o who u (Then (Does w StopAll)) older
-  all_stopped w h = elim (in_append it stopped_all waiting_all h) [
+  abbrev unsent_all : List Notice
+  unsent_all = map stopped_call (unsent v.producers)
+
+  abbrev all_waits : List Notice
+  all_waits = waiting_all ++ unsent_all
+
+  waits_stopped : (w : Who) → In it waiting_all → Cause o who u (Then (Does w StopAll)) older
+  waits_stopped w i =
+      let k = in_map stopped_one it (waiting v.producers) i in
+      let at = in_flat (λ n. waiting_at n (v.producers.topics n)) k.0 v.producers.numbers k.1 in
+      let same : who ≡ k.0 = ap (λ m. m.who) k.2 in
+      let listed : In who (waiting_at at.0 (v.producers.topics at.0)) = subst (λ x. In x (waiting_at at.0 (v.producers.topics at.0))) (sym same) at.2 in
+      named (Then (Does w StopAll)) outcome.Stopped (ap (λ m. m.outcome) k.2) (inl (w, refl, inr (inr (inl (at.0, listed)))))
+
+  unsent_stopped : (w : Who) → In it unsent_all → Cause o who u (Then (Does w StopAll)) older
+  unsent_stopped w i =
+      let k = in_map stopped_call it (unsent v.producers) i in
+      let at = in_flat (λ n. unsent_at (v.producers.topics n)) k.0 v.producers.numbers k.1 in
+      named (Then (Does w StopAll)) outcome.Stopped (ap (λ m. m.outcome) k.2) (inl (w, refl, inr (inr (inr (at.0, k.0, ap (λ m. m.who) k.2, at.2)))))
+
+  all_stopped : (w : Who) → In it (stopped_all ++ all_waits) → Cause o who u (Then (Does w StopAll)) older
+  all_stopped w h = elim (in_append it stopped_all all_waits h) [
     | inl i ↦
         (let a = in_flat (λ e. stopped_with v.addresses e.0) it v.alarms i in
-        let is : u ≡ outcome.Stopped = stopped_by it v.addresses a.0.0 a.1 in
+        let is : u ≡ outcome.Stopped = stopped_by it v.addresses a.0.0 a.2 in
         named (Then (Does w StopAll)) outcome.Stopped is (inl (w, refl, inr (inl (subst (λ y. In (notice who y) stopped_all) is i)))))
-    | inr i ↦
-        (let k = in_map stopped_one it (waiting v.producers) i in
-        let at = in_flat (λ n. waiting_at (v.producers.topics n)) k.0 v.producers.numbers k.1 in
-        named (Then (Does w StopAll)) outcome.Stopped (ap (λ m. m.outcome) k.2) (inl (w, refl, inr (inr (at.0, k.0, ap (λ m. m.who) k.2, at.1)))))
+    | inr i ↦ elim (in_append it waiting_all unsent_all i) [ inl j ↦ waits_stopped w j | inr j ↦ unsent_stopped w j ]
   ]
 
   module _ (l : ℕ) where
@@ -588,7 +592,7 @@ module _ (o : Options) (who : Who) (u : Outcome) (older : List Entry) where
       let waiters : List Notice = waiters_of (failed_on end) v.addresses (option_map (turned_by v.chosen v.addresses v.now l (Ends end)) (v.links.live l)) in
       ends_caused l end (v.links.live l) refl (in_opened it (ended_on end v.now (v.links.live l) ++ waiters) h)
   cause_caused (Comes (Rings a)) h = rings_caused a (rings v.now a v.alarms) refl h
-  cause_caused (Does w StopAll) h = all_stopped w (in_opened it (stopped_all ++ waiting_all) h)
+  cause_caused (Does w StopAll) h = all_stopped w (in_opened it (stopped_all ++ all_waits) h)
   cause_caused _ h = absurd h
 
   is_caused : (e : Entry) → IsRun o (e ∷ older) → Arises rules o (Told it) e older → Cause o who u e older

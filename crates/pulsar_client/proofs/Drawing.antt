@@ -10,22 +10,27 @@ use Rattle.pulsar_session.specs.Link.{is_spent}
 use Rattle.pulsar_link.specs.Request.{named_producer}
 use Rattle.pulsar_producer.specs.Producer as producer
 use Rattle.pulsar_producer.specs.Topic as topic
-use Rattle.pulsar_producer.specs.Topic.{Act as Deed, Closes, fresh}
+use Rattle.pulsar_producer.specs.Storage.{limits_of}
+use Rattle.pulsar_producer.specs.Topic.{Act as Deed, Closes, Halts, fresh}
 use Rattle.pulsar_producer.specs.declared.content.Built.{Built}
+use Rattle.pulsar_producer.specs.declared.storage.Limits.{Limits}
 use Rattle.pulsar_producer.specs.declared.deed.News.TheVariants as news
 use Rattle.pulsar_client.specs.declared.act.Act.{Act}
 use Rattle.pulsar_client.specs.declared.act.Act.TheVariants.{Comes, Starts, Told, Does, Answers, Dials}
 use Rattle.pulsar_client.specs.declared.act.Action.{Action}
-use Rattle.pulsar_client.specs.declared.act.Action.TheVariants.{Get, Ask, Wait, TakeTurn, PassTurn, Draw, Recall, Remake, Number, Find, Shut, Tell, StopAll, Rest}
+use Rattle.pulsar_client.specs.declared.act.Action.TheVariants.{Get, Ask, Wait, TakeTurn, PassTurn, Draw, Recall, Remake, Number, Find, Shut, Store, Flush, TakeBatch, Tell, TellAll, StopAll, Rest}
+use Rattle.pulsar_client.specs.declared.act.Alarm.{Alarm}
+use Rattle.pulsar_client.specs.declared.act.Alarm.TheVariants.{Batch}
 use Rattle.pulsar_client.specs.declared.act.Makes.{Makes}
 use Rattle.pulsar_client.specs.declared.act.Makes.TheVariants.{Producer}
 use Rattle.pulsar_client.specs.declared.act.Notice.{Notice}
 use Rattle.pulsar_client.specs.declared.act.Outcome.{Outcome}
 use Rattle.pulsar_client.specs.declared.act.Outcome.TheVariants as outcome
-use Rattle.pulsar_client.specs.declared.act.Part.TheVariants.{Calls}
+use Rattle.pulsar_client.specs.declared.act.Part.TheVariants.{Calls, Rings}
 use Rattle.pulsar_client.specs.declared.act.Procedure.{Procedure}
 use Rattle.pulsar_client.specs.declared.act.Verdict.{Verdict}
 use Rattle.pulsar_client.specs.declared.act.Who.{Who}
+use Rattle.pulsar_client.specs.declared.act.Who.TheVariants as one
 use Rattle.pulsar_client.specs.declared.act.Who.TheVariants.{Call}
 use Rattle.pulsar_client.specs.declared.content.Building.{Building}
 use Rattle.pulsar_client.specs.declared.plans.plan.Plan.{Plan}
@@ -37,18 +42,21 @@ use Rattle.pulsar_client.specs.Content as content
 use Rattle.pulsar_client.specs.Content.{Asked, Heard, lacks_tickets, shares}
 use Rattle.pulsar_client.specs.Laws.{Answered, counted, end_of, started}
 use Rattle.pulsar_client.specs.Plan.{begins, fails, told}
-use Rattle.pulsar_client.specs.Producers.{Producers, all_routed, called_on, changed, free_from, made_of, names_in, next_free, number_drawn, numbered, numbers_at, opened_on, routed, sent_on, shut_all, topic_after, why_not, with_built, with_topic, with_topics}
+use Rattle.pulsar_client.specs.Producers.{Producers, all_routed, called_on, changed, free_from, halted, made_of, names_in, next_free, number_drawn, numbered, numbers_at, opened_on, routed, sent_on, shut_all, topic_after, why_not, with_built, with_topic, with_topics}
 use Rattle.pulsar_client.specs.Rules.{notice, performs}
+use Rattle.pulsar_client.specs.Alarms.{rings}
 use Rattle.pulsar_client.specs.Run.{Entry, Begins, Then, IsRun, view}
-use Rattle.pulsar_client.specs.View.{Options, View, draws_on, may_call, producers_made, room_of, stays, stays_some, told_some}
+use Rattle.pulsar_client.specs.View.{Options, View, draws_on, may_call, producers_made, producers_rung, room_of, stays, stays_some, told_some}
 use Rattle.pulsar_client.specs.View as seen
-use Rattle.pulsar_client.specs.Who.{is_same, rank}
+use Rattle.pulsar_client.specs.Who.{is_same, rank, turn_of}
 use Rattle.pulsar_client.proofs.Acts.{Each, begun_same, each_map}
+use Rattle.pulsar_client.proofs.Batchers.{batcher_stands}
 use Rattle.pulsar_client.proofs.Follow.{same_is}
 use Rattle.pulsar_client.proofs.Granted.{GivenBy, IsGrantedBy, granted_by, grants_given, in_each, is_grant}
 use Rattle.pulsar_client.proofs.Led.{deeds_follow_lem}
 use Rattle.pulsar_client.proofs.Numbering.{IsSound, MakesSound, TurnSound, begins_sound, drawn_in, number_of, told_sound}
 use Rattle.pulsar_client.proofs.Once.{ends_once_lem}
+use Rattle.pulsar_client.proofs.Owned.{batcher_told, batches_begun, starts_own}
 use Rattle.pulsar_client.proofs.Ticketed.{Began, has_begun}
 
 -- ALL THAT IS SO ALONG A LOG
@@ -90,20 +98,20 @@ called_kept v asked advice =
     (either_kept (may_call v.calls) v.producers (opened_on asked v.producers) v.producers (opened_kept asked v.producers) (refl, refl))
 
 -- several topic producers join: one that is there is new, or was there
-pub record IsNew (owner first_number n : ℕ) (bs : List Built) (t : Topic) : Type 0 where
+pub record IsNew (owner first_number : ℕ) (limits : Limits) (n : ℕ) (bs : List Built) (t : Topic) : Type 0 where
   pub built : Built
   pub listed : In n (map number_of bs)
   pub number : built.number ≡ n
-  pub is_it : record { owner = owner; seen = fresh (record { built = built; first_number = first_number }) } ≡ t
+  pub is_it : record { owner = owner; seen = fresh (record { built = built; first_number = first_number; limits = limits }) } ≡ t
 
-pub joined_row : (owner f n : ℕ) (bs : List Built) (ps : Producers) (t : Topic) → (with_topics owner f bs ps).topics n ≡ Some t →
-    IsNew owner f n bs t ⊎ (ps.topics n ≡ Some t)
-joined_row owner f n [] ps t h = inr h
-joined_row owner f n (b ∷ bs) ps t h = elim (joined_row owner f n bs (with_topic owner f b ps) t h) [
+pub joined_row : (owner f : ℕ) (limits : Limits) (n : ℕ) (bs : List Built) (ps : Producers) (t : Topic) →
+    (with_topics owner f limits bs ps).topics n ≡ Some t → IsNew owner f limits n bs t ⊎ (ps.topics n ≡ Some t)
+joined_row owner f limits n [] ps t h = inr h
+joined_row owner f limits n (b ∷ bs) ps t h = elim (joined_row owner f limits n bs (with_topic owner f limits b ps) t h) [
   | inl k ↦ inl (record { built = k.built; listed = inr k.listed; number = k.number; is_it = k.is_it })
   | inr e ↦ elim (cases_Bool (n == b.number)) [
     | inl q ↦
-        (let is : Some (record { owner = owner; seen = fresh (record { built = b; first_number = f }) }) ≡ Some t = rw q at e in
+        (let is : Some (record { owner = owner; seen = fresh (record { built = b; first_number = f; limits = limits }) }) ≡ Some t = rw q at e in
         inl (record { built = b; listed = inl (eqb-true n b.number q); number = sym (eqb-true n b.number q); is_it = cc }))
     | inr q ↦ inr (rw q at e)
   ]
@@ -113,9 +121,9 @@ pub built_topics : (t : ℕ) (r : Option producer.Seen) (ps : Producers) → (wi
 built_topics t None ps = refl
 built_topics t (Some p) ps = refl
 
-next_joined : (owner f : ℕ) (bs : List Built) (ps : Producers) → (with_topics owner f bs ps).next ≡ ps.next
-next_joined owner f [] ps = refl
-next_joined owner f (b ∷ bs) ps = next_joined owner f bs (with_topic owner f b ps)
+next_joined : (owner f : ℕ) (limits : Limits) (bs : List Built) (ps : Producers) → (with_topics owner f limits bs ps).next ≡ ps.next
+next_joined owner f limits [] ps = refl
+next_joined owner f limits (b ∷ bs) ps = next_joined owner f limits bs (with_topic owner f limits b ps)
 
 next_built : (t : ℕ) (r : Option producer.Seen) (ps : Producers) → (with_built t r ps).next ≡ ps.next
 next_built t None ps = refl
@@ -155,6 +163,17 @@ draws_row : (room : Option Bool) (m : ℕ) (ps : Producers) (n : ℕ) (t : Topic
 draws_row None m ps n t h = same_row ps n t h
 draws_row (Some room) m ps n t h = changed_row m topic.Draws ps n t h
 
+-- what rings cuts what is stored at one of them, and a Stop drops it at all
+rung_row : (b : Bool) (a : Alarm) (ps : Producers) (n : ℕ) (t : Topic) → (producers_rung b a ps).topics n ≡ Some t → WasThere ps n t
+rung_row true (Batch m) ps n t h = changed_row m topic.Cuts ps n t h
+rung_row false (Batch m) ps n t h = same_row ps n t h
+rung_row b _ ps n t h = same_row ps n t h
+
+rung_next : (b : Bool) (a : Alarm) (ps : Producers) → (producers_rung b a ps).next ≡ ps.next
+rung_next true (Batch m) ps = refl
+rung_next false (Batch m) ps = refl
+rung_next b _ ps = refl
+
 -- it joins with a verdict
 pub record Joins (v : View) (a : Act) (n : ℕ) (t : Topic) : Type 0 where
   pub who : Who
@@ -162,16 +181,16 @@ pub record Joins (v : View) (a : Act) (n : ℕ) (t : Topic) : Type 0 where
   pub building : Building
   pub is_act : a ≡ Answers who verdict
   pub makes : verdict.makes ≡ Producer building
-  pub is_new : IsNew (rank who).1 v.chosen.first_number n building.parts t
+  pub is_new : IsNew (rank who).1 v.chosen.first_number (limits_of building.settings) n building.parts t
 
 made_row : (v : View) (who : Who) (verdict : Verdict) (m : Makes) → verdict.makes ≡ m → (n : ℕ) (t : Topic) →
     (producers_made v.chosen who m v.producers).topics n ≡ Some t →
     WasThere v.producers n t ⊎ Joins v (Answers who verdict) n t
 made_row v who verdict (Producer b) e n t h =
     let f : ℕ = v.chosen.first_number in
-    let ps : Producers = with_topics (rank who).1 f b.parts v.producers in
+    let ps : Producers = with_topics (rank who).1 f (limits_of b.settings) b.parts v.producers in
     let r : Option producer.Seen = made_of v.chosen.seed (rank who).1 b in
-    elim (joined_row (rank who).1 f n b.parts v.producers t (ap (λ g. g n) (sym (built_topics (rank who).1 r ps)) ∙ h)) [
+    elim (joined_row (rank who).1 f (limits_of b.settings) n b.parts v.producers t (ap (λ g. g n) (sym (built_topics (rank who).1 r ps)) ∙ h)) [
       | inl k ↦ inr (record { who = who; verdict = verdict; building = b; is_act = refl; makes = e; is_new = k })
       | inr k ↦ inl (same_row v.producers n t k)
     ]
@@ -179,7 +198,12 @@ made_row v who verdict _ e n t h = inl (same_row v.producers n t h)
 
 pub row_from : (v : View) (a : Act) (n : ℕ) (t : Topic) → (seen.after a v).producers.topics n ≡ Some t → WasThere v.producers n t ⊎ Joins v a n t
 row_from v (Comes (Calls asked advice)) n t h = inl (same_row v.producers n t (ap (λ f. f n) (sym (called_kept v asked advice).0) ∙ h))
-row_from v (Does who (TakeTurn m)) n t h = inl (changed_row m (topic.Takes (rank who).1) v.producers n t h)
+row_from v (Comes (Rings a)) n t h = inl (rung_row (rings v.now a v.alarms) a v.producers n t h)
+row_from v (Does who (TakeTurn m)) n t h = inl (changed_row m (topic.Takes (turn_of who)) v.producers n t h)
+row_from v (Does who (Store m e)) n t h = inl (changed_row m (topic.Stores (turn_of who) e) v.producers n t h)
+row_from v (Does who (Flush m)) n t h = inl (changed_row m (topic.Flushes (turn_of who)) v.producers n t h)
+row_from v (Does who (TakeBatch m)) n t h = inl (changed_row m topic.TakesBatch v.producers n t h)
+row_from v (Does who StopAll) n t h = inl (map_row Halts v.producers n t (v.producers.topics n) refl h)
 row_from v (Does who (PassTurn m)) n t h = inl (changed_row m topic.Passes v.producers n t h)
 row_from v (Does who (Draw m)) n t h = inl (draws_row (room_of v m) m v.producers n t h)
 row_from v (Does who (Remake r)) n t h = inl (changed_row r.number (topic.Remakes r.link r.given) v.producers n t h)
@@ -208,8 +232,9 @@ free_more (k ∷ ks) n = elim ((k == n) && nat_lt n (2 ^ 64 - 1)) as (λ b. n �
 
 made_next : (v : View) (who : Who) (m : Makes) → (producers_made v.chosen who m v.producers).next ≡ v.producers.next
 made_next v who (Producer b) =
-    next_built (rank who).1 (made_of v.chosen.seed (rank who).1 b) (with_topics (rank who).1 v.chosen.first_number b.parts v.producers)
-    ∙ next_joined (rank who).1 v.chosen.first_number b.parts v.producers
+    next_built (rank who).1 (made_of v.chosen.seed (rank who).1 b)
+    (with_topics (rank who).1 v.chosen.first_number (limits_of b.settings) b.parts v.producers)
+    ∙ next_joined (rank who).1 v.chosen.first_number (limits_of b.settings) b.parts v.producers
 made_next v who _ = refl
 
 draws_next : (room : Option Bool) (m : ℕ) (ps : Producers) → (draws_on room m ps).next ≡ ps.next
@@ -223,6 +248,7 @@ next_more ps =
 
 pub next_after : (v : View) (a : Act) → v.producers.next ≤ (seen.after a v).producers.next
 next_after v (Comes (Calls asked advice)) = let e = (called_kept v asked advice).1 in rw e (omega arith)
+next_after v (Comes (Rings a)) = let e = rung_next (rings v.now a v.alarms) a v.producers in rw e (omega arith)
 next_after v (Does who (Draw m)) = let e = draws_next (room_of v m) m v.producers in rw e (omega arith)
 next_after v (Does who (Shut u)) = let e = next_shut (numbers_at (v.producers.built u)) v.producers in rw e (omega arith)
 next_after v (Does who Number) = next_more v.producers
@@ -395,8 +421,25 @@ owned_in Q n m b e k i = let s : MakesSound Q (Producer b) = subst (MakesSound Q
 self_same : (t : ℕ) → is_same (Call t) (Call t) ≡ true
 self_same t = grind (arith, nat_tests)
 
-who_call : (w : Who) → w ≡ Call (rank w).1
-who_call (Call t) = refl
+-- a topic producer makes no producer
+no_producer : (o : Options) (log : List Entry) (m : ℕ) (verdict : Verdict) (b : Building) → verdict.makes ≡ Producer b →
+    IsRun o (Then (Answers (one.Producer m) verdict) ∷ log) → ⊥
+no_producer o log m verdict b makes run = elim (answers_from o log (one.Producer m) verdict run) [
+  | inl t ↦
+      (let r : IsRun o (Then (Told (notice (one.Producer m) t.outcome)) ∷ t.older) = subst (IsRun o) t.is_there run.0 in
+      batcher_told t.before t.outcome verdict (batcher_stands o t.older m t.before r.0 t.stood) t.leads)
+  | inr x ↦ elim x [
+    | inl k ↦
+        (let r : IsRun o (Then (Starts (one.Producer m) k.procedure) ∷ k.older) = subst (IsRun o) k.is_there run.0 in
+        batches_begun m k.procedure verdict (starts_own o k.older m k.procedure r) k.leads)
+    | inr e ↦ (let f : (fails Exhausted).makes ≡ Producer b = sym (ap (λ y. y.makes) e) ∙ makes in absurd cc)
+  ]
+]
+
+who_call : (o : Options) (log : List Entry) (w : Who) (verdict : Verdict) (b : Building) → verdict.makes ≡ Producer b →
+    IsRun o (Then (Answers w verdict) ∷ log) → w ≡ Call (rank w).1
+who_call o log (Call t) verdict b makes run = refl
+who_call o log (one.Producer m) verdict b makes run = absurd (no_producer o log m verdict b makes run)
 
 end_self : (w : Who) (verdict : Verdict) (t : ℕ) → w ≡ Call t → end_of t (Answers w verdict) ≡ 1
 end_self w verdict t e = ap (λ x. end_of t (Answers x verdict)) e ∙ ap (λ b. cond b 1 0) (self_same t)
@@ -454,6 +497,7 @@ joins_new o log k (Call t) verdict b n row makes run i h =
     let before : 1 ≤ counted (end_of t) log = subst (λ u. 1 ≤ counted (end_of u) log) (sym w) was.1 in
     let total : counted (end_of t) log + end_of t (Answers (Call t) verdict) ≤ 1 = once in
     omega (arith, one, before, total)
+joins_new o log k (one.Producer m) verdict b n row makes run i h = absurd (no_producer o log m verdict b makes run)
 
 topics_on : (o : Options) (log : List Entry) → Every (Drawn o) log → (a : Act) → IsRun o (Then a ∷ log) → (n : ℕ) (row : Topic) →
     (view o (Then a ∷ log)).producers.topics n ≡ Some row →
@@ -465,15 +509,16 @@ topics_on o log k a run n row h = elim (row_from (view o log) a n row h) [
         drew_more o log (here (Drawn o) log k) a n (Call row.owner) (was.0 ∙ ap (λ u. Some (Call u)) w.owner),
         omega (arith, c),
       ))
-  | inr j ↦ (
-    subst (λ (x : Act). drew o n (Then x ∷ log) ≡ Some (Call row.owner)) (sym j.is_act)
-        (owned_in (λ m. drew o m log ≡ Some j.who) n j.verdict.makes j.building j.makes
-        (joins_own o log k j.who j.verdict (subst (λ (x : Act). IsRun o (Then x ∷ log)) j.is_act run)) j.is_new.listed
-        ∙ ap Some (who_call j.who)
-        ∙ ap (λ x. Some (Call x.owner)) j.is_new.is_it),
-    (let one : end_of row.owner (Answers j.who j.verdict) ≡ 1 = end_self j.who j.verdict row.owner (who_call j.who ∙ ap (λ x. Call x.owner) j.is_new.is_it) in
-        subst (λ (x : Act). 1 ≤ counted (end_of row.owner) (Then x ∷ log)) (sym j.is_act) (omega (arith, one))),
-  )
+  | inr j ↦ (let is_call : j.who ≡ Call (rank j.who).1 =
+      who_call o log j.who j.verdict j.building j.makes (subst (λ (x : Act). IsRun o (Then x ∷ log)) j.is_act run) in (
+        subst (λ (x : Act). drew o n (Then x ∷ log) ≡ Some (Call row.owner)) (sym j.is_act)
+            (owned_in (λ m. drew o m log ≡ Some j.who) n j.verdict.makes j.building j.makes
+            (joins_own o log k j.who j.verdict (subst (λ (x : Act). IsRun o (Then x ∷ log)) j.is_act run)) j.is_new.listed
+            ∙ ap Some is_call
+            ∙ ap (λ x. Some (Call x.owner)) j.is_new.is_it),
+        (let one : end_of row.owner (Answers j.who j.verdict) ≡ 1 = end_self j.who j.verdict row.owner (is_call ∙ ap (λ x. Call x.owner) j.is_new.is_it) in
+            subst (λ (x : Act). 1 ≤ counted (end_of row.owner) (Then x ∷ log)) (sym j.is_act) (omega (arith, one))),
+      ))
 ]
 
 drawn_begins : (o : Options) (log : List Entry) (e : Heard) → Drawn o log → Drawn o (Begins e ∷ log)

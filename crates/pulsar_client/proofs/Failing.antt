@@ -5,6 +5,8 @@ use Rattle.std.specs.Option.{is_some}
 use Rattle.pulsar_run.specs.Laws.{In}
 use Rattle.pulsar_session.specs.Failures.{DiscoveryFault, Failure, OfConnection, OfDiscovery, OfPartialSend}
 use Rattle.pulsar_session.specs.Reply.{Reply as Content}
+use Rattle.pulsar_wire.specs.Row.{Values}
+use Rattle.pulsar_wire.specs.Rows.{send_receipt}
 use Rattle.pulsar_link.specs.Messages.{Reply, Written}
 use Rattle.pulsar_link.specs.Refusals.{refused}
 use Rattle.pulsar_link.specs.Request.{is_answered, request_number}
@@ -19,8 +21,10 @@ use Rattle.pulsar_plans.specs.declared.turn.Turn.{Turn as SearchTurn}
 use Rattle.pulsar_plans.specs.declared.turn.Turn.TheVariants as search_turn
 use Rattle.pulsar_plans.specs.declared.turn.Ways.{Ways}
 use Rattle.pulsar_producer.specs.Errors.{in_producer}
+use Rattle.pulsar_producer.specs.Batching as batches
 use Rattle.pulsar_producer.specs.Plans as produce
 use Rattle.pulsar_producer.specs.Plans.{fault_told}
+use Rattle.pulsar_producer.specs.declared.batching.Batching.{Batching as Batches}
 use Rattle.pulsar_producer.specs.declared.building.Building.{Building as Build}
 use Rattle.pulsar_producer.specs.declared.building.Order.{Order}
 use Rattle.pulsar_producer.specs.declared.content.Built.{Built}
@@ -36,25 +40,25 @@ use Rattle.pulsar_client.specs.declared.act.Makes.{Makes}
 use Rattle.pulsar_client.specs.declared.act.Makes.TheVariants.{Nothing}
 use Rattle.pulsar_client.specs.declared.act.Outcome.{Outcome}
 use Rattle.pulsar_client.specs.declared.act.Outcome.TheVariants as outcome
-use Rattle.pulsar_client.specs.declared.act.Outcome.TheVariants.{GotLink, Queued, InLine, Replied, Granted, Parted, Cut, Stopped}
+use Rattle.pulsar_client.specs.declared.act.Outcome.TheVariants.{GotLink, Queued, InLine, Replied, Granted, Parted, Settled, Cut, Stopped}
 use Rattle.pulsar_client.specs.declared.act.Place.TheVariants.{At, Link}
 use Rattle.pulsar_client.specs.declared.act.Procedure.{Procedure}
 use Rattle.pulsar_client.specs.declared.act.Procedure.TheVariants as procedure
 use Rattle.pulsar_client.specs.declared.act.Round.{Round}
-use Rattle.pulsar_client.specs.declared.act.Round.TheVariants.{Checks, Closes}
+use Rattle.pulsar_client.specs.declared.act.Round.TheVariants.{Checks, Flushes, Closes}
 use Rattle.pulsar_client.specs.declared.act.Share.{Share}
 use Rattle.pulsar_client.specs.declared.act.Verdict.{Verdict}
 use Rattle.pulsar_client.specs.declared.plans.plan.At.{At as Point}
 use Rattle.pulsar_client.specs.declared.plans.plan.At.TheVariants as point
 use Rattle.pulsar_client.specs.declared.plans.plan.Plan.{Plan}
-use Rattle.pulsar_client.specs.declared.plans.plan.Plan.TheVariants.{Building, Getting, Asking, Awaiting, Searching, Producing, Sending, Reporting, Leaving, Gathering, Shutting, Visiting, Stopping}
+use Rattle.pulsar_client.specs.declared.plans.plan.Plan.TheVariants.{Building, Getting, Asking, Awaiting, Searching, Producing, Sending, Reporting, Storing, Stored, Batching, Leaving, Gathering, Shutting, Visiting, Stopping}
 use Rattle.pulsar_client.specs.declared.plans.plan.Turn.{Turn}
 use Rattle.pulsar_client.specs.declared.plans.plan.Turn.TheVariants.{Stays, Gives}
 use Rattle.pulsar_client.specs.Content.{Said, Done, Receipt, Replies, Failed}
-use Rattle.pulsar_client.specs.Laws.{Deed, Acted, Answered, FailsSo, IsRefused, IsRefusedShare, IsTold, IsTurned, IsDenied, IsUnexpected, IsInProducer, IsUnexpectedInProducer, IsPartial, IsAnswered, DeniesSo, acted, course, fails_in_producer, has_failed, number_in, ways_in}
+use Rattle.pulsar_client.specs.Laws.{Deed, Acted, Answered, FailsSo, IsRefused, IsRefusedShare, IsTold, IsTurned, IsDenied, IsUnexpected, IsInProducer, IsUnexpectedInProducer, IsSettled, IsPartial, IsAnswered, DeniesSo, acted, course, fails_in_producer, has_failed, number_in, ways_in}
 use Rattle.pulsar_client.specs.Links.{numbers_from}
 use Rattle.pulsar_client.specs.Parts.{failed_with, outcomes_of, sent_from}
-use Rattle.pulsar_client.specs.Plan.{asks_of, begins, builds, fails, fails_in, fails_with, failure_in, failure_of, fault_of, found, gathers, goes, goes_on_sending, goes_round, halted, is_answer, is_sent, leaves, news_in, news_of, overrides, parted, receipt_said, sends_stay, told, told_at, tells, verdict, visited}
+use Rattle.pulsar_client.specs.Plan.{asks_of, begins, builds, fails, fails_in, fails_with, failure_in, failure_of, fault_of, found, gathers, goes, goes_on_sending, goes_round, halted, in_stored, in_storing, is_answer, is_sent, is_settled, leaves, news_in, news_of, overrides, parted, receipt_said, sends_stay, settled, stored, told, told_at, told_batch, tells, verdict, visited, visits}
 use Rattle.pulsar_client.proofs.Productions.{AllowsBreaks, AllowsReply, BuildKeeps, Ends, SendKeeps, building_begins, building_ends, sending_ends}
 use Rattle.pulsar_client.proofs.Searches.{Breaks, ByFault, BySearch, ByReply, Keeps, Turns, is_search, is_sought, keeps_begins, keeps_told}
 
@@ -124,6 +128,7 @@ module _ (p : Procedure) (all : List Outcome) where
   -- what a plan keeps, by where it stands
   abbrev RoundKeeps : Round → Type 0
   RoundKeeps Checks = Unit {0}
+  RoundKeeps Flushes = Unit {0}
   RoundKeeps Closes = fails_in_producer p ≡ true
 
   abbrev Holds : Plan → Type 0
@@ -135,6 +140,9 @@ module _ (p : Procedure) (all : List Outcome) where
   Holds (Producing w order b) = (ways_in p ≡ Some w) × BuildKeeps Fails' b
   Holds (Sending w e share s) = (ways_in p ≡ Some w) × (fails_in_producer p ≡ true) × SendKeeps Fails' s
   Holds (Reporting w e) = (ways_in p ≡ Some w) × (fails_in_producer p ≡ true)
+  Holds (Storing share) = Unit {0}
+  Holds Stored = Unit {0}
+  Holds (Batching w e b) = Unit {0}
   Holds (Leaving f) = FailsSo p all f
   Holds (Gathering first count left failures) = (p ≡ procedure.Gather first count) × ((failures ≡ []) ⊎ (list_any has_failed all ≡ true))
   Holds (Shutting numbers) = fails_in_producer p ≡ true
@@ -241,6 +249,28 @@ module _ (p : Procedure) (all : List Outcome) where
   sends_hold w e share (step.Gives (Ok r)) is fs k = says_receipt r.body
   sends_hold w e share (step.Gives (Err f)) is fs k = leaves_hold share f k
 
+  -- A MESSAGE THAT IS STORED, AND BATCHES
+
+  stored_holds : (share : Option Share) → TurnHolds (stored share)
+  stored_holds None = tt
+  stored_holds (Some s) = tt
+
+  storing_holds : (share : Option Share) (u : Outcome) → In u all → TurnHolds (in_storing share u)
+  storing_holds share (Granted granting.Done) i = stored_holds share
+  storing_holds share u i = with_failure (OfConnection (fault_of u)) (IsTold u i refl)
+
+  settled_holds : (f : Result (Values send_receipt) Failure) → In (Settled f) all → TurnHolds (settled f)
+  settled_holds (Ok receipt) i = λ f h. absurd cc
+  settled_holds (Err f) i = with_failure f (IsSettled i)
+
+  in_stored_holds : (u : Outcome) → In u all → TurnHolds (in_stored u)
+  in_stored_holds (Settled f) i = settled_holds f i
+  in_stored_holds (Granted granting.Done) i = tt
+  in_stored_holds u i = with_failure (OfConnection (fault_of u)) (IsTold u i refl)
+
+  batch_holds : (w : Ways) (e : Errand) (b : Batches) (u : Outcome) → TurnHolds (told_batch w e b u)
+  batch_holds w e b u = either_holds (overrides u) _ _ tt tt
+
   -- A CALL WITH PARTS
 
   says_sent : (first count : ℕ) (failures : List (ℕ × Failure)) → p ≡ procedure.Gather first count → (failures ≡ []) ⊎ (list_any has_failed all ≡ true) →
@@ -267,6 +297,7 @@ module _ (p : Procedure) (all : List Outcome) where
 
   fails_round : (r : Round) (u : Outcome) → RoundKeeps r → In u all → FailsSo p all (failure_in r (fault_of u))
   fails_round Checks u k i = IsTold u i refl
+  fails_round Flushes u k i = IsTold u i refl
   fails_round Closes u k i = IsInProducer u k i refl
 
   round_fails : (r : Round) (u : Outcome) → RoundKeeps r → In u all → TurnHolds (fails_in r (fault_of u))
@@ -274,11 +305,22 @@ module _ (p : Procedure) (all : List Outcome) where
 
   round_refused : (r : Round) (reply : Reply) → RoundKeeps r → In (Replied reply) all → FailsSo p all (failure_in r (refused reply reply.content.body))
   round_refused Checks reply k i = IsUnexpected reply i (ap OfConnection (refused_same reply reply.content.body))
+  round_refused Flushes reply k i = IsUnexpected reply i (ap OfConnection (refused_same reply reply.content.body))
   round_refused Closes reply k i = IsUnexpectedInProducer reply k i (ap in_producer (refused_same reply reply.content.body))
+
+  next_holds : (r : Round) (n : ℕ) (left : List ℕ) → RoundKeeps r → TurnHolds (visits r n left)
+  next_holds Checks n left k = k
+  next_holds Flushes n left k = k
+  next_holds Closes n left k = k
 
   round_holds : (r : Round) (numbers : List ℕ) → RoundKeeps r → TurnHolds (goes_round r numbers)
   round_holds r [] k = says_done
-  round_holds r (n ∷ left) k = k
+  round_holds r (n ∷ left) k = next_holds r n left k
+
+  settles_hold : (r : Round) (n : ℕ) (left : List ℕ) → RoundKeeps r → TurnHolds (is_settled r n left)
+  settles_hold Checks n left k = k
+  settles_hold Flushes n left k = round_holds Flushes left k
+  settles_hold Closes n left k = k
 
   visited_holds : (r : Round) (left : List ℕ) (n : ℕ) (reply : Reply) → RoundKeeps r → In (Replied reply) all → TurnHolds (visited r left n reply)
   visited_holds r left n reply k i =
@@ -287,6 +329,8 @@ module _ (p : Procedure) (all : List Outcome) where
       (with_failure (failure_in r (refused reply reply.content.body)) (round_refused r reply k i))
 
   visits_hold : (r : Round) (n : ℕ) (left : List ℕ) (x : Point) (u : Outcome) → RoundKeeps r → In u all → TurnHolds (told_at r n left x u)
+  visits_hold r n left point.Settling (Granted granting.Done) k i = settles_hold r n left k
+  visits_hold r n left point.Settling u k i = round_fails r u k i
   visits_hold r n left point.Turning (Granted (granting.HasTurn version)) k i = k
   visits_hold r n left point.Turning u k i = round_fails r u k i
   visits_hold r n left point.Finding (GotLink link) k i = k
@@ -328,6 +372,9 @@ module _ (p : Procedure) (all : List Outcome) where
       (sending_ends Fails' w e s (news_of u) (IsInProducer u k.1 i (ap in_producer (told_same u))) (allows_breaks w u k.0 i proper)
       (allows_reply u k.1 i proper) k.2))
   told_holds (Reporting w e) u k i proper = (k.0, k.1, tt)
+  told_holds (Storing share) u k i proper = storing_holds share u i
+  told_holds Stored u k i proper = in_stored_holds u i
+  told_holds (Batching w e b) u k i proper = batch_holds w e b u
   told_holds (Leaving f) u k i proper = with_failure f k
   told_holds (Gathering first count left failures) (Parted ticket f) k i proper =
       gathers_hold first count (left - 1) (failed_with ticket f failures) k.0 (failed_more ticket f failures i k.1)
@@ -376,9 +423,12 @@ begins_holds (procedure.Search w what) all is =
 begins_holds (procedure.Produce w order) all is =
     builds_hold (procedure.Produce w order) all w order (produce.build_begins w order) refl (building_begins (FailsSo (procedure.Produce w order) all) w order)
 begins_holds (procedure.Send w e share m) all is = sends_hold (procedure.Send w e share m) all w e share (produce.send_begins e m) refl refl tt
+begins_holds (procedure.Store n share e) all is = tt
+begins_holds (procedure.Batch w e) all is = tt
 begins_holds (procedure.FailShare share r) all is = IsRefusedShare share r refl refl
 begins_holds (procedure.Gather first count) all is = gathers_hold (procedure.Gather first count) all first count count [] refl (inl refl)
 begins_holds (procedure.Go Checks numbers) all is = round_holds (procedure.Go Checks numbers) all Checks numbers tt
+begins_holds (procedure.Go Flushes numbers) all is = round_holds (procedure.Go Flushes numbers) all Flushes numbers tt
 begins_holds (procedure.Go Closes numbers) all is = absurd is
 begins_holds (procedure.Close ticket numbers) all is = refl
 begins_holds (procedure.Refuse r) all is = says_failed (procedure.Refuse r) all (failure_of r) (IsRefused r refl refl)

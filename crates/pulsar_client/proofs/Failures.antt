@@ -2,7 +2,9 @@
 use Rattle.std.proofs.Common.{◌≡◌, inl, inr, ◌∙◌, ap, subst, ℕ, ◌+◌, List, [], ◌∷◌, ◌++◌, refl, Bool, true, false, not, cond, drop, Option, Some, None, ◌==◌}
 use Rattle.std.proofs.lemmas.Bool.{cases_Bool}
 use Rattle.std.specs.Option.{is_some}
-use Rattle.pulsar_run.specs.Laws.{In}
+use Rattle.pulsar_run.specs.Laws.{In, InThisStep}
+use Rattle.pulsar_run.specs.Run.{rest}
+use Rattle.pulsar_frame.specs.Batch.{EntryValues}
 use Rattle.pulsar_messages.specs.Content.{ProducerMessageValues}
 use Rattle.pulsar_link.specs.Request.{named_producer}
 use Rattle.pulsar_plans.specs.Address.{Place}
@@ -15,34 +17,44 @@ use Rattle.pulsar_producer.specs.declared.building.Order.{Order}
 use Rattle.pulsar_producer.specs.declared.deed.News.TheVariants as granting
 use Rattle.pulsar_producer.specs.declared.sending.Errand.{Errand}
 use Rattle.pulsar_client.specs.declared.act.Act.{Act}
-use Rattle.pulsar_client.specs.declared.act.Act.TheVariants.{Starts, Told}
+use Rattle.pulsar_client.specs.declared.act.Act.TheVariants.{Comes, Starts, Told, Does, Answers}
+use Rattle.pulsar_client.specs.declared.act.Action.{Action}
+use Rattle.pulsar_client.specs.declared.act.Action.TheVariants.{Rest, Tell, TellAll}
 use Rattle.pulsar_client.specs.declared.act.Outcome.{Outcome}
 use Rattle.pulsar_client.specs.declared.act.Outcome.TheVariants.{Granted}
+use Rattle.pulsar_client.specs.declared.act.Part.TheVariants.{Calls}
 use Rattle.pulsar_client.specs.declared.act.Place.TheVariants.{Link}
 use Rattle.pulsar_client.specs.declared.act.Procedure.{Procedure}
 use Rattle.pulsar_client.specs.declared.act.Procedure.TheVariants as procedure
 use Rattle.pulsar_client.specs.declared.act.Refusal.{Refusal}
 use Rattle.pulsar_client.specs.declared.act.Refusal.TheVariants as refusal
-use Rattle.pulsar_client.specs.declared.act.Round.TheVariants.{Checks}
+use Rattle.pulsar_client.specs.declared.act.Round.TheVariants.{Checks, Flushes}
 use Rattle.pulsar_client.specs.declared.act.Says.TheVariants as says
 use Rattle.pulsar_client.specs.declared.act.Share.{Share}
+use Rattle.pulsar_client.specs.declared.act.Verdict.{Verdict}
 use Rattle.pulsar_client.specs.declared.act.Who.{Who}
-use Rattle.pulsar_client.specs.declared.act.Who.TheVariants.{Call}
+use Rattle.pulsar_client.specs.declared.plans.plan.Plan.{Plan}
+use Rattle.pulsar_client.specs.declared.plans.plan.Turn.{Turn}
+use Rattle.pulsar_client.specs.declared.plans.plan.Turn.TheVariants.{Stays, Gives}
 use Rattle.pulsar_client.specs.Content as content
-use Rattle.pulsar_client.specs.Content.{Asked}
-use Rattle.pulsar_client.specs.Laws.{Cause, FailuresAreTold, OutcomesAreCaused, outcomes, started}
+use Rattle.pulsar_client.specs.Content.{Asked, lacks_tickets, shares}
+use Rattle.pulsar_client.specs.Laws.{Cause, FailuresAreTold, IsToldBy, OutcomesAreCaused, outcomes, started}
 use Rattle.pulsar_client.specs.Plan.{begins}
-use Rattle.pulsar_client.specs.Producers.{Producers, advice, errand_of, next_advice, numbers_at, routed, why_not}
-use Rattle.pulsar_client.specs.Rules.{asks_raw, asks_topics, builds_with, checks, closes, fails_as, flushes, from_base, gathers, is_taken, order_of, parts_of, procedure_for, produces, produces_by, produces_from, searches, sends, sends_as, sends_by, share, shares_of, shares_unless, starts, unless, unless_refused, why_no_sends}
-use Rattle.pulsar_client.specs.Run.{Entry, Begins, Then, IsRun, view}
-use Rattle.pulsar_client.specs.View.{Chosen, Options, Tickets, View, may_call, ways_of}
+use Rattle.pulsar_producer.specs.Batch.{entry_of}
+use Rattle.pulsar_client.specs.Producers.{Producers, batches_in, errand_of, next_advice, numbers_at, routed, why_not}
+use Rattle.pulsar_client.specs.Rules.{asks_raw, asks_topics, at_once, builds_with, checks, closes, does, fails_as, flushes, flushes_all, follows, follows_some, from_base, gathers, is_taken, notice, order_of, parts_of, performs, procedure_for, produces, produces_by, produces_from, searches, sends, sends_as, sends_by, share, shares_of, shares_unless, starts, stores_as, unless, unless_refused, why_no_sends}
+use Rattle.pulsar_client.specs.Run.{Entry, Begins, Then, IsRun, agenda, view}
+use Rattle.pulsar_client.specs.View.{Chosen, Options, Tickets, View, may_call, told_some, ways_of}
 use Rattle.pulsar_client.specs.Who.{is_same}
-use Rattle.pulsar_client.proofs.Acts.{Each}
+use Rattle.pulsar_client.proofs.Acts.{Each, each_append, each_either, each_first, each_map, each_rest, is_served, late}
 use Rattle.pulsar_client.proofs.Failing.{Fails, IsMade, begins_holds, course_fails, is_proper}
 use Rattle.pulsar_client.proofs.Follow.{plans_follow_lem}
-use Rattle.pulsar_client.proofs.Made.{IsMadeAt, calls_are_made_lem}
+use Rattle.pulsar_client.proofs.Led.{tells_so}
+use Rattle.pulsar_client.proofs.Left.{left_each}
+use Rattle.pulsar_client.proofs.Natures.{IsOfBatch}
+use Rattle.pulsar_client.proofs.Quiet.{IsQuiet, comes_quiet, performs_quiet}
 use Rattle.pulsar_client.proofs.Searches.{is_sought}
-use Rattle.pulsar_client.proofs.Sources.{in_append, in_each, step_some}
+use Rattle.pulsar_client.proofs.Sources.{in_append, in_each}
 
 -- THE PROCEDURES OF CALLS
 
@@ -82,13 +94,18 @@ fails_made : (s : Option Share) (r : Refusal) → IsMade (fails_as s r)
 fails_made None r = tt
 fails_made (Some s) r = tt
 
-sends_made : (s : Option Share) (m : ProducerMessageValues) (ways : Option Ways) (e : Option Errand) → IsMade (sends_by s m ways e)
-sends_made s m ways None = fails_made s refusal.NoPartition
-sends_made s m None (Some e) = fails_made s refusal.NoAddress
-sends_made s m (Some w) (Some e) = tt
+stores_made : (n : ℕ) (s : Option Share) (e : Option EntryValues) → IsMade (stores_as n s e)
+stores_made n s None = fails_made s refusal.TooLarge
+stores_made n s (Some e) = tt
+
+sends_made : (b : Bool) (s : Option Share) (m : ProducerMessageValues) (ways : Option Ways) (e : Option Errand) → IsMade (sends_by b s m ways e)
+sends_made b s m ways None = fails_made s refusal.NoPartition
+sends_made b s m None (Some e) = fails_made s refusal.NoAddress
+sends_made b s m (Some w) (Some e) =
+    either_made b (stores_as e.producer s (entry_of m)) (procedure.Send w e s m) (stores_made e.producer s (entry_of m)) tt
 
 errand_made : (o : Chosen) (ps : Producers) (s : Option Share) (advised : Option ℕ) (t : ℕ) (m : ProducerMessageValues) → IsMade (sends_as o ps s advised t m)
-errand_made o ps s advised t m = sends_made s m (ways_of o) (errand_of advised m (ps.built t))
+errand_made o ps s advised t m = sends_made (batches_in (ps.built t)) s m (ways_of o) (errand_of advised m (ps.built t))
 
 call_made : (o : Chosen) (c : Tickets) (ps : Producers) (advised : List (Option ℕ)) (asked : Asked) → IsMade (procedure_for o c ps advised asked)
 call_made o c ps advised content.Build = open_made (not c.is_stopped) (builds_with o.outbound o.base) (builds_made o.outbound o.base)
@@ -104,7 +121,11 @@ call_made o c ps advised (content.Send t m) =
     open_made (may_call c) (sends o ps (next_advice advised) t m)
     (unless_made (why_not ps t) (sends_as o ps None (next_advice advised) t m) (errand_made o ps None (next_advice advised) t m))
 call_made o c ps advised (content.SendAll t ms) = open_made (may_call c) (gathers c ps t ms) (unless_made (why_not ps t) _ tt)
-call_made o c ps advised (content.Flush t) = open_made (may_call c) (flushes ps t) (unless_made (why_not ps t) (procedure.Refuse refusal.NoBatches) tt)
+call_made o c ps advised (content.Flush t) =
+    let ns : List ℕ = numbers_at (ps.built t) in
+    open_made (may_call c) (flushes ps t)
+    (unless_made (why_not ps t) (flushes_all (batches_in (ps.built t)) ns)
+    (either_made (batches_in (ps.built t)) (procedure.Go Flushes ns) (procedure.Refuse refusal.NoBatches) tt tt))
 call_made o c ps advised (content.CheckProducer t) =
     open_made (may_call c) (checks ps t) (unless_made (why_not ps t) (procedure.Go Checks (numbers_at (ps.built t))) tt)
 call_made o c ps advised (content.CloseProducer t) =
@@ -137,41 +158,100 @@ parts_made v advised _ = tt
 starts_made : (v : View) (advised : List (Option ℕ)) (asked : Asked) → Each StartsMade (starts v advised asked)
 starts_made v advised asked = (call_made v.chosen v.calls v.producers advised asked, parts_made v advised asked)
 
-start_made : (o : Options) (log : List Entry) (t : ℕ) (p : Procedure) → IsRun o (Then (Starts (Call t) p) ∷ log) → IsMade p
-start_made o log t p run =
-    let made = step_some (IsMadeAt o t p) log (calls_are_made_lem o log t p run).1 in
-    made_there made.entry made.older made.holds
-  where
-    made_there : (e : Entry) (older : List Entry) → IsMadeAt o t p e older → IsMade p
-    made_there e older (asked, is, left, i) =
-        let v = view o older in
-        in_each StartsMade (Starts (Call t) p) (starts v (advice o.policies v.producers asked) asked) i
-        (starts_made v (advice o.policies v.producers asked) asked)
+-- all that starts is made so: by a call, or as a producer was built
+quiet_made : (a : Act) → IsQuiet a → StartsMade a
+quiet_made (Starts who p) h = absurd cc
+quiet_made _ h = tt
+
+served_made : (a : Act) → is_served a ≡ true → StartsMade a
+served_made (Starts who p) h = absurd cc
+served_made _ h = tt
+
+does_made : (who : Who) (action : Action) → Each StartsMade (does who action)
+does_made who Rest = tt
+does_made who _ = (tt, tt)
+
+follows_made : (who : Who) (turn : Turn Plan Verdict) → Each StartsMade (follows who turn)
+follows_made who (Stays plan action) = does_made who action
+follows_made who (Gives verdict) = (tt, tt)
+
+some_made : (who : Who) (turn : Option (Turn Plan Verdict)) → Each StartsMade (follows_some who turn)
+some_made who None = tt
+some_made who (Some turn) = follows_made who turn
+
+arises_made : (v : View) (a : Act) → Each StartsMade (at_once v a)
+arises_made v (Comes (Calls asked advised)) =
+    each_either StartsMade (lacks_tickets v.calls.drawn (shares asked)) (late ∷ []) (starts v advised asked) (tt, tt) (starts_made v advised asked)
+arises_made v (Comes p) = each_map IsQuiet StartsMade (at_once v (Comes p)) quiet_made (comes_quiet v p refl)
+arises_made v (Starts who p) = follows_made who (begins p)
+arises_made v (Told n) = some_made n.who (told_some (v.stand n.who) n.outcome)
+arises_made v (Does who action) = each_map IsQuiet StartsMade (performs v who action) quiet_made (performs_quiet v who action)
+arises_made v (Answers who verdict) = left_each StartsMade (ways_of v.chosen) verdict.makes (λ w e. tt)
+arises_made v _ = tt
+
+due_made : (o : Options) (log : List Entry) → IsRun o log → Each StartsMade (agenda o log).now
+due_made o [] run = tt
+due_made o (Begins e ∷ log) run = tt
+due_made o (Then a ∷ log) run =
+    let g = agenda o log in
+    each_append StartsMade (at_once (view o log) a) (rest g).now (arises_made (view o log) a)
+    (each_rest StartsMade g.now g.here g.behind g.parts (due_made o log run.0))
+
+start_made : (o : Options) (log : List Entry) (who : Who) (p : Procedure) → IsRun o (Then (Starts who p) ∷ log) → IsMade p
+start_made o log who p run =
+    let g = agenda o log in
+    each_first StartsMade g.now g.here g.behind g.parts (Starts who p) served_made (due_made o log run.0) run.1
 
 started_made : (o : Options) (log : List Entry) (w : Who) (p : Procedure) → IsRun o log → started w log ≡ Some p → IsMade p
 started_made o [] w p run h = absurd cc
 started_made o (Begins e ∷ log) w p run h = started_made o log w p run.0 h
-started_made o (Then (Starts (Call t) q) ∷ log) w p run h = elim (cases_Bool (is_same w (Call t))) [
+started_made o (Then (Starts who q) ∷ log) w p run h = elim (cases_Bool (is_same w who)) [
   | inl e ↦
       (let f : Some q ≡ Some p = rw e at h in
       let d : q ≡ p = cc in
-      subst IsMade d (start_made o log t q run))
+      subst IsMade d (start_made o log who q run))
   | inr e ↦ started_made o log w p run.0 (rw e at h)
 ]
 started_made o (Then a ∷ log) w p run h = started_made o log w p run.0 h
 
 -- WHAT ONE IS TOLD
 
--- what is granted arises from what was asked, or is a turn
+-- an entry of this step, with its run
+record SomeRun (o : Options) (P : Entry → List Entry → Type 0) : Type 0 where
+  entry : Entry
+  older : List Entry
+  run : IsRun o (entry ∷ older)
+  holds : P entry older
+
+some_run : (o : Options) (P : Entry → List Entry → Type 0) (log : List Entry) → IsRun o log → InThisStep P log → SomeRun o P
+some_run o P [] run i = absurd i
+some_run o P (Begins e ∷ log) run i = record { entry = Begins e; older = log; run = run; holds = i }
+some_run o P (Then a ∷ log) run (inl i) = record { entry = Then a; older = log; run = run; holds = i }
+some_run o P (Then a ∷ log) run (inr i) = some_run o P log run.0 i
+
+-- what is granted arises from what was asked, is a turn, or says that a batch is cut or a flush done
 module _ (o : Options) (caused : OutcomesAreCaused) where
-  not_granted : {X : Type 0} (who : Who) (x : News) (e : Entry) (older : List Entry) → Cause o who (Granted (granting.Told x)) e older → X
-  not_granted who x e older (inl (action, is, none)) = absurd none
-  not_granted who x e older (inr (other, number, ticket, version, is, same, turn, next)) = absurd cc
+  not_told : {X : Type 0} (who : Who) (x : News) (e : Entry) (older : List Entry) → IsRun o (e ∷ older) →
+      IsToldBy who (Granted (granting.Told x)) e older → X
+  not_told who x e older run (other, inl is) =
+      let n = notice who (Granted (granting.Told x)) in
+      let k : true ≡ false = tells_so o older other (Tell n) (subst (λ y. IsRun o (y ∷ older)) is run) in
+      absurd cc
+  not_told who x e older run (other, inr (ns, is, i)) =
+      let k : Each IsOfBatch ns = tells_so o older other (TellAll ns) (subst (λ y. IsRun o (y ∷ older)) is run) in
+      let m : false ≡ true = (in_each IsOfBatch (notice who (Granted (granting.Told x))) ns i k).1 in
+      absurd cc
+
+  not_granted : {X : Type 0} (who : Who) (x : News) (e : Entry) (older : List Entry) → IsRun o (e ∷ older) → Cause o who (Granted (granting.Told x)) e older → X
+  not_granted who x e older run (inl (action, is, none)) = absurd none
+  not_granted who x e older run (inr (inl (other, number, turn, version, is, same, granted, next))) = absurd cc
+  not_granted who x e older run (inr (inr (inl (number, act, same, ready, woken, cuts)))) = absurd cc
+  not_granted who x e older run (inr (inr (inr told))) = not_told who x e older run told
 
   told_proper : (log : List Entry) (who : Who) (u : Outcome) → IsRun o (Then (Told (record { who = who; outcome = u })) ∷ log) → is_proper u ≡ true
   told_proper log who (Granted (granting.Told x)) run =
-      let some = step_some (Cause o who (Granted (granting.Told x))) log (caused o log who (Granted (granting.Told x)) run) in
-      not_granted who x some.entry some.older some.holds
+      let some = some_run o (Cause o who (Granted (granting.Told x))) log run.0 (caused o log who (Granted (granting.Told x)) run) in
+      not_granted who x some.entry some.older some.run some.holds
   told_proper log who (Granted n) run = refl
   told_proper log who u run = refl
 

@@ -11,30 +11,34 @@ use Rattle.pulsar_client.specs.declared.act.Outcome.{Outcome}
 use Rattle.pulsar_client.specs.declared.act.Part.{Part}
 use Rattle.pulsar_client.specs.declared.act.Part.TheVariants.{Calls}
 use Rattle.pulsar_client.specs.declared.act.Procedure.{Procedure}
+use Rattle.pulsar_client.specs.declared.act.Makes.{Makes}
 use Rattle.pulsar_client.specs.declared.act.Verdict.{Verdict}
 use Rattle.pulsar_client.specs.declared.act.Who.{Who}
-use Rattle.pulsar_client.specs.declared.act.Who.TheVariants.{Call}
+use Rattle.pulsar_client.specs.declared.act.Who.TheVariants.{Call, Producer}
 use Rattle.pulsar_client.specs.declared.plans.plan.Plan.{Plan}
 use Rattle.pulsar_client.specs.declared.plans.plan.Turn.{Turn}
 use Rattle.pulsar_client.specs.declared.plans.plan.Turn.TheVariants.{Stays, Gives}
 use Rattle.pulsar_client.specs.Content.{Asked, lacks_tickets, shares}
 use Rattle.pulsar_client.specs.Laws.{AnswersOnce, Deed, Answered, PlansFollow, acted, course, deed_of, deeds, outcomes, started, verdicts_in}
 use Rattle.pulsar_client.specs.Plan.{begins, told}
-use Rattle.pulsar_client.specs.Rules.{at_once, called, does, follows, follows_some, performs, starts}
+use Rattle.pulsar_client.specs.Rules.{at_once, called, does, follows, follows_some, left_with, performs, starts}
 use Rattle.pulsar_client.specs.Run.{Entry, Begins, Then, IsRun, Agenda, agenda, first, view}
-use Rattle.pulsar_client.specs.View.{Options, View, stays, stays_some, told_some}
+use Rattle.pulsar_client.specs.View.{Options, View, stays, stays_some, told_some, ways_of}
 use Rattle.pulsar_client.specs.Who.{is_same, rank}
 use Rattle.pulsar_client.proofs.Acts.{Each, StartsIn, begun_same, each_append, each_drop, each_map, first_case, is_served, none_now, starts_in}
+use Rattle.pulsar_client.proofs.Left.{left_each}
 use Rattle.pulsar_client.proofs.Quiet.{IsQuiet, comes_quiet, performs_quiet}
+use Rattle.pulsar_plans.specs.declared.turn.Ways.{Ways}
 use Rattle.pulsar_client.proofs.Ticketed.{Began, apart, has_begun}
 
 -- WHO
 
 abbrev who_of : ℕ → ℕ → Who
-who_of k n = Call n
+who_of k n = cond (k == 0) (Call n) (Producer n)
 
 who_is : (w : Who) → who_of (rank w).0 (rank w).1 ≡ w
 who_is (Call t) = refl
+who_is (Producer n) = refl
 
 pub same_is : (w u : Who) → is_same w u ≡ true → w ≡ u
 same_is w u h = elim (cases_Bool ((rank w).0 == (rank u).0)) [
@@ -68,6 +72,9 @@ served_no_deed _ h = refl
 
 pub performs_none : (v : View) (who : Who) (action : Action) → Each NoDeed (performs v who action)
 performs_none v who action = each_map IsQuiet NoDeed (performs v who action) quiet_no_deed (performs_quiet v who action)
+
+pub left_no_deed : (ways : Option Ways) (makes : Makes) → Each NoDeed (left_with ways makes)
+left_no_deed ways makes = left_each NoDeed ways makes (λ w e. refl)
 
 start_no_deed : (from to : ℕ) (a : Act) → StartsIn from to a → NoDeed a
 start_no_deed from to (Starts who p) k = refl
@@ -302,6 +309,10 @@ follows_run o (Then (Comes p) ∷ log) r =
 follows_run o (Then (Does w a) ∷ log) r =
     simple_on o log (Does w a) (follows_run o log r.0) r.1 (each_drop NoDeed (performs (view o log) w a) (performs_none (view o log) w a))
     (λ u t. none_due u (performs (view o log) w a) (performs_none (view o log) w a)) (λ u. refl) (λ u. refl) (λ u. refl) (λ u. refl)
+follows_run o (Then (Answers w a) ∷ log) r =
+    let none : Each NoDeed (left_with (ways_of (view o log).chosen) a.makes) = left_no_deed (ways_of (view o log).chosen) a.makes in
+    simple_on o log (Answers w a) (follows_run o log r.0) r.1 (each_drop NoDeed (left_with (ways_of (view o log).chosen) a.makes) none)
+    (λ u t. none_due u (left_with (ways_of (view o log).chosen) a.makes) none) (λ u. refl) (λ u. refl) (λ u. refl) (λ u. refl)
 follows_run o (Then a ∷ log) r = simple_on o log a (follows_run o log r.0) r.1 tt (λ u t. refl) (λ u. refl) (λ u. refl) (λ u. refl) (λ u. refl)
 
 pub plans_follow_lem : PlansFollow

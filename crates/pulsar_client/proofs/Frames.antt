@@ -70,7 +70,7 @@ module _ (e : Errand) (given : ProducerMessageValues) (V W : Option (List ℕ) �
   kept_more None h = tt
   kept_more (Some m) h = more m h
 
-  message_more : (s : Send) → MessageSo e given V s → MessageSo e given W s
+  pub message_more : (s : Send) → MessageSo e given V s → MessageSo e given W s
   message_more (send.Waiting m) h = h
   message_more (send.Drawing m) h = more m h
   message_more (send.Asked k) h = kept_more k h
@@ -88,7 +88,7 @@ module _ (e : Errand) (given : ProducerMessageValues) (V W : Option (List ℕ) �
   plan_more _ k = absurd k
 
 -- what is told of commands asks for no message
-recall_plain : (v : View) (action : Action) (c : Command) → GivenBy v action (news.Recalled c) → is_message c.request ≡ false
+pub recall_plain : (v : View) (action : Action) (c : Command) → GivenBy v action (news.Recalled c) → is_message c.request ≡ false
 recall_plain v (Recall n) c h = at_row (v.producers.topics n) h
   where
     by : (t : Topic) (r : Option producer.Seen) → recalled_by t r ≡ Some c → is_message c.request ≡ false
@@ -221,15 +221,15 @@ send_led o log t w e share given action run take h = elim (does_from o log (Call
         record { led = l; asks = subst (λ x. AsksSo e given (WasTold x t) l.outcome l.plan action) (sym l.is_there) k.1 }
 
 -- what was drawn
-record IsDrawn (room : Bool) (row : Option Topic) (d : Drawn) : Type 0 where
-  topic : Topic
-  is_it : row ≡ Some topic
-  left : is_spent topic.seen.next ≡ false
-  number : d.number ≡ topic.seen.next
-  link : d.link ≡ topic.seen.link
-  name : d.name ≡ topic.seen.given.name
+pub record IsDrawn (room : Bool) (row : Option Topic) (d : Drawn) : Type 0 where
+  pub topic : Topic
+  pub is_it : row ≡ Some topic
+  pub left : is_spent topic.seen.next ≡ false
+  pub number : d.number ≡ topic.seen.next
+  pub link : d.link ≡ topic.seen.link
+  pub name : d.name ≡ topic.seen.given.name
 
-is_drawn : (room : Bool) (row : Option Topic) (d : Drawn) → drawn room row ≡ Some d → IsDrawn room row d
+pub is_drawn : (room : Bool) (row : Option Topic) (d : Drawn) → drawn room row ≡ Some d → IsDrawn room row d
 is_drawn room None d h = absurd (none_some h)
 is_drawn room (Some t) d h = elim (cases_Bool (is_spent t.seen.next)) [
   | inl s ↦ (let f : None ≡ Some d = rw s at h in absurd cc)
@@ -246,7 +246,7 @@ is_drawn room (Some t) d h = elim (cases_Bool (is_spent t.seen.next)) [
       })
 ]
 
-draw_by : (v : View) (action : Action) (d : Drawn) → GivenBy v action (news.Drew d) →
+pub draw_by : (v : View) (action : Action) (d : Drawn) → GivenBy v action (news.Drew d) →
     (n : ℕ) × (action ≡ Draw n) × (room : Bool) × (room_of v n ≡ Some room) × (drawn room (v.producers.topics n) ≡ Some d)
 draw_by v (Draw n) d h = (n, refl, h.0, h.1, h.2)
 draw_by v _ d h = absurd h
@@ -297,7 +297,7 @@ topic_now o log older behind t n note x p q h = ap (λ y. (view o y).producers.t
 stand_now : (o : Options) (log older : List Entry) (t : ℕ) (u : Outcome) (before plan q : Plan) (a : Action) →
     log ≡ Then (Told (notice (Call t) u)) ∷ older → (view o older).stand (Call t) ≡ Some before → told before u ≡ Stays plan a → plan ≡ q →
     (view o log).stand (Call t) ≡ Some q
-stand_now o log older t u before plan q a p s h e = ap (λ y. (view o y).stand (Call t)) p ∙ stand_told o older t u before plan a s h ∙ ap Some e
+stand_now o log older t u before plan q a p s h e = ap (λ y. (view o y).stand (Call t)) p ∙ stand_told o older (Call t) u before plan a s h ∙ ap Some e
 
 -- THE LAW
 

@@ -63,7 +63,7 @@ abbrev pub is_message : Words → Bool
 is_message (words.Send n name s m block) = true
 is_message _ = false
 
-abbrev IsPlainWish : Wish → Type 0
+abbrev pub IsPlainWish : Wish → Type 0
 IsPlainWish (wish.Ask l request) = is_message request ≡ false
 IsPlainWish _ = Unit {0}
 
@@ -147,7 +147,7 @@ module _ (e : Errand) (given : ProducerMessageValues) (V : Option (List ℕ) →
   MessageSo (send.Ending f) = Unit {0}
 
   -- what it does behind news
-  abbrev DeedSo : News → Send → Deed → Type 0
+  abbrev pub DeedSo : News → Send → Deed → Type 0
   DeedSo y s (deed.Sends l x) =
       (d : Drawn) × (y ≡ news.Drew d) × (l ≡ d.link) × (x.producer ≡ e.producer) × (x.name ≡ d.name) × (x.sequence ≡ d.number) × (x.block ≡ e.block)
       × Versioned x.message × (k : Option ProducerMessageValues) × (s ≡ send.Asked k)
@@ -155,7 +155,7 @@ module _ (e : Errand) (given : ProducerMessageValues) (V : Option (List ℕ) →
   DeedSo y s (deed.Does x) = IsPlainWish x
   DeedSo y s d = Unit {0}
 
-  abbrev StepSo : News → Sent → Type 0
+  abbrev pub StepSo : News → Sent → Type 0
   StepSo y (step.Stays s d) = MessageSo s × DeedSo y s d
   StepSo y (step.Gives a) = Unit {0}
 
@@ -197,7 +197,7 @@ module _ (e : Errand) (given : ProducerMessageValues) (V : Option (List ℕ) →
   NewsSo (news.Recalled c) = is_message c.request ≡ false
   NewsSo _ = Unit {0}
 
-  step_so : (w : Ways) (s : Send) (y : News) → MessageSo s → NewsSo y → StepSo y (produce.send_told w e s y)
+  pub step_so : (w : Ways) (s : Send) (y : News) → MessageSo s → NewsSo y → StepSo y (produce.send_told w e s y)
   step_so w (send.Waiting m) (news.HasTurn version) k h = ((version, ap (with_version version) k, h), refl)
   step_so w (send.Waiting m) _ k h = tt
   step_so w (send.Drawing m) (news.Drew d) k h = (kept_so d.room m k, (d, refl, refl, refl, refl, refl, refl, k, kept e d.room m, refl))
@@ -244,7 +244,7 @@ module _ (e : Errand) (given : ProducerMessageValues) (V : Option (List ℕ) →
   wish_asks u q (wish.Ask l request) h = plain_asks u q l request h
   wish_asks u q (wish.Wait delay) h = tt
 
-  drew_told : (u : Outcome) (d : Drawn) → news_of u ≡ news.Drew d → u ≡ outcome.Granted (news.Drew d)
+  pub drew_told : (u : Outcome) (d : Drawn) → news_of u ≡ news.Drew d → u ≡ outcome.Granted (news.Drew d)
   drew_told (outcome.Granted n) d h = ap outcome.Granted h
   drew_told outcome.Queued d h = absurd cc
   drew_told outcome.InLine d h = absurd cc

@@ -12,15 +12,19 @@ use Rattle.pulsar_session.specs.Link.{is_spent}
 use Rattle.pulsar_link.specs.Request.{named_producer}
 use Rattle.pulsar_producer.specs.Producer as producer
 use Rattle.pulsar_producer.specs.Topic.{Closes}
+use Rattle.pulsar_producer.specs.Storage.{limits_of}
 use Rattle.pulsar_producer.specs.declared.content.Built.{Built}
+use Rattle.pulsar_producer.specs.declared.storage.Limits.{Limits}
 use Rattle.pulsar_producer.specs.declared.deed.News.TheVariants as news
 use Rattle.pulsar_client.specs.declared.act.Act.{Act}
 use Rattle.pulsar_client.specs.declared.act.Act.TheVariants.{Comes, Told, Does, Answers}
 use Rattle.pulsar_client.specs.declared.act.Action.TheVariants.{Draw, Number, Shut}
+use Rattle.pulsar_client.specs.declared.act.Alarm.{Alarm}
+use Rattle.pulsar_client.specs.declared.act.Alarm.TheVariants.{Batch}
 use Rattle.pulsar_client.specs.declared.act.Makes.{Makes}
 use Rattle.pulsar_client.specs.declared.act.Makes.TheVariants.{Producer}
 use Rattle.pulsar_client.specs.declared.act.Outcome.TheVariants as outcome
-use Rattle.pulsar_client.specs.declared.act.Part.TheVariants.{Calls}
+use Rattle.pulsar_client.specs.declared.act.Part.TheVariants.{Calls, Rings}
 use Rattle.pulsar_client.specs.declared.act.Who.{Who}
 use Rattle.pulsar_client.specs.declared.producers.Topic.{Topic}
 use Rattle.pulsar_client.specs.Content as content
@@ -28,8 +32,9 @@ use Rattle.pulsar_client.specs.Content.{Asked, lacks_tickets, shares}
 use Rattle.pulsar_client.specs.Producers.{Producers, all_routed, called_on, changed, free_from, made_of, names_in, next_free, number_drawn, numbered, numbers_at, opened_on, routed, sent_on, shut_all, why_not, with_built, with_topic, with_topics}
 use Rattle.pulsar_client.specs.ProducerLaws.{NumbersAreFree}
 use Rattle.pulsar_client.specs.Rules.{notice}
+use Rattle.pulsar_client.specs.Alarms.{rings}
 use Rattle.pulsar_client.specs.Run.{Entry, Begins, Then, IsRun, view}
-use Rattle.pulsar_client.specs.View.{Options, View, draws_on, may_call, producers_made, room_of}
+use Rattle.pulsar_client.specs.View.{Options, View, draws_on, may_call, producers_made, producers_rung, room_of}
 use Rattle.pulsar_client.specs.View as seen
 use Rattle.pulsar_client.specs.Who.{rank}
 use Rattle.pulsar_client.proofs.Acts.{begun_same}
@@ -158,9 +163,9 @@ shut_kept : (ns : List ℕ) (ps : Producers) → Kept ps (shut_all ns ps)
 shut_kept [] ps = (refl, refl)
 shut_kept (n ∷ ns) ps = shut_kept ns (changed n Closes ps)
 
-joined_kept : (owner f : ℕ) (bs : List Built) (ps : Producers) → Kept ps (with_topics owner f bs ps)
-joined_kept owner f [] ps = (refl, refl)
-joined_kept owner f (b ∷ bs) ps = joined_kept owner f bs (with_topic owner f b ps)
+joined_kept : (owner f : ℕ) (limits : Limits) (bs : List Built) (ps : Producers) → Kept ps (with_topics owner f limits bs ps)
+joined_kept owner f limits [] ps = (refl, refl)
+joined_kept owner f limits (b ∷ bs) ps = joined_kept owner f limits bs (with_topic owner f limits b ps)
 
 built_kept : (t : ℕ) (r : Option producer.Seen) (ps : Producers) → Kept ps (with_built t r ps)
 built_kept t None ps = (refl, refl)
@@ -169,9 +174,9 @@ built_kept t (Some p) ps = (refl, refl)
 made_low : (v : View) (who : Who) (m : Makes) → IsLow v.producers → IsLow (producers_made v.chosen who m v.producers)
 made_low v who (Producer b) h =
     let f : ℕ = v.chosen.first_number in
-    let ps : Producers = with_topics (rank who).1 f b.parts v.producers in
+    let ps : Producers = with_topics (rank who).1 f (limits_of b.settings) b.parts v.producers in
     kept_low ps (with_built (rank who).1 (made_of v.chosen.seed (rank who).1 b) ps) (built_kept (rank who).1 (made_of v.chosen.seed (rank who).1 b) ps)
-    (kept_low v.producers ps (joined_kept (rank who).1 f b.parts v.producers) h)
+    (kept_low v.producers ps (joined_kept (rank who).1 f (limits_of b.settings) b.parts v.producers) h)
 made_low v who _ h = h
 
 numbered_low : (ps : Producers) → IsLow ps → IsLow (numbered ps)
@@ -184,10 +189,16 @@ numbered_low ps h = (
     low : next_free ps < 2 ^ 64
     low = (free_low ps.named ps.next h.1).1
 
+rung_low : (v : View) (b : Bool) (a : Alarm) → IsLow v.producers → IsLow (producers_rung b a v.producers)
+rung_low v true (Batch m) h = h
+rung_low v false (Batch m) h = h
+rung_low v b _ h = h
+
 after_low : (v : View) (a : Act) → IsLow v.producers → IsLow (seen.after a v).producers
 after_low v (Comes (Calls asked advice)) h =
     either_low (lacks_tickets v.calls.drawn (shares asked)) v.producers (called_on (may_call v.calls) asked v.producers) h
     (either_low (may_call v.calls) (opened_on asked v.producers) v.producers (opened_low asked v.producers h) h)
+after_low v (Comes (Rings a)) h = rung_low v (rings v.now a v.alarms) a h
 after_low v (Does who (Draw m)) h = kept_low v.producers (draws_on (room_of v m) m v.producers) (draws_kept (room_of v m) m v.producers) h
 after_low v (Does who (Shut u)) h =
     kept_low v.producers (shut_all (numbers_at (v.producers.built u)) v.producers) (shut_kept (numbers_at (v.producers.built u)) v.producers) h

@@ -5,14 +5,14 @@ use Rattle.std.proofs.lemmas.Bool.Decides.{nat_tests}
 use Rattle.pulsar_run.specs.Laws.{In}
 use Rattle.pulsar_session.specs.Failures.{Failure}
 use Rattle.pulsar_client.specs.declared.act.Act.TheVariants.{Starts, Told, Does}
-use Rattle.pulsar_client.specs.declared.act.Action.TheVariants.{Tell}
+use Rattle.pulsar_client.specs.declared.act.Action.TheVariants.{Tell, TellAll}
 use Rattle.pulsar_client.specs.declared.act.Makes.TheVariants.{Nothing}
 use Rattle.pulsar_client.specs.declared.act.Notice.{Notice}
 use Rattle.pulsar_client.specs.declared.act.Outcome.{Outcome}
 use Rattle.pulsar_client.specs.declared.act.Outcome.TheVariants as outcome
 use Rattle.pulsar_client.specs.declared.act.Procedure.TheVariants as procedure
 use Rattle.pulsar_client.specs.declared.act.Who.{Who}
-use Rattle.pulsar_client.specs.declared.act.Who.TheVariants.{Call}
+use Rattle.pulsar_client.specs.declared.act.Who.TheVariants.{Call, Producer}
 use Rattle.pulsar_client.specs.Laws.{Answered, Cause, counted, outcomes, started}
 use Rattle.pulsar_client.specs.Plan.{verdict}
 use Rattle.pulsar_client.specs.ProducerLaws.{PartsAreGathered}
@@ -23,11 +23,14 @@ use Rattle.pulsar_client.specs.Who.{is_same}
 use Rattle.pulsar_client.proofs.Acts.{Each, each_append, each_map}
 use Rattle.pulsar_client.proofs.Caused.{outcomes_are_caused_lem}
 use Rattle.pulsar_client.proofs.Follow.{plans_follow_lem, same_is}
-use Rattle.pulsar_client.proofs.Fitting.{is_said}
+use Rattle.pulsar_client.proofs.Batchers.{batcher_does}
+use Rattle.pulsar_client.proofs.Fitting.{is_said, is_settling}
 use Rattle.pulsar_client.proofs.Gathering.{AtMostOnce, IsAmong, IsSaid, gathered, is_of}
+use Rattle.pulsar_client.proofs.Granted.{tell_settling}
+use Rattle.pulsar_client.proofs.Sources.{in_each}
 use Rattle.pulsar_client.proofs.Parted.{parts_at, parts_behind, parts_run, step_behind}
 use Rattle.pulsar_client.proofs.Receipts.{run_behind}
-use Rattle.pulsar_client.proofs.Telling.{part_of, tells_own, told_of, told_once}
+use Rattle.pulsar_client.proofs.Telling.{no_tell, part_of, tells_own, told_of, told_once}
 use Rattle.pulsar_client.proofs.Turns.{sum, sum_append}
 
 none_some : {A : Type 0} {x : A} → None ≡ Some x → ⊥
@@ -49,10 +52,23 @@ part_row o log t c k f run h =
     let s = step_behind (Cause o (Call t) (outcome.Parted k f)) log (outcomes_are_caused_lem o log (Call t) (outcome.Parted k f) run) in
     let older : List Entry = s.2 in
     let other : Who = s.4.0 in
-    let tell : Entry = Then (Does other (Tell (notice (Call t) (outcome.Parted k f)))) in
-    let there : log ≡ s.0 ++ tell ∷ older = s.3 ∙ ap (λ e. s.0 ++ e ∷ older) s.4.1 in
-    by s.0 older other there (run_behind o s.0 (tell ∷ older) (subst (IsRun o) there run.0))
+    elim s.4.1 [
+      | inl is ↦
+          (let tell : Entry = Then (Does other (Tell (notice (Call t) (outcome.Parted k f)))) in
+          let there : log ≡ s.0 ++ tell ∷ older = s.3 ∙ ap (λ e. s.0 ++ e ∷ older) is in
+          by s.0 older other there (run_behind o s.0 (tell ∷ older) (subst (IsRun o) there run.0)))
+      | inr m ↦
+          (let tell : Entry = Then (Does other (TellAll m.0)) in
+          let there : log ≡ s.0 ++ tell ∷ older = s.3 ∙ ap (λ e. s.0 ++ e ∷ older) m.1 in
+          absurd (not_settled older other m.0 m.2 (run_behind o s.0 (tell ∷ older) (subst (IsRun o) there run.0))))
+    ]
   where
+    -- no batch says so
+    not_settled : (older : List Entry) (w : Who) (ns : List Notice) → In (notice (Call t) (outcome.Parted k f)) ns →
+        IsRun o (Then (Does w (TellAll ns)) ∷ older) → ⊥
+    not_settled older w ns i r =
+        let g : false ≡ true = in_each (λ n. is_settling n.outcome ≡ true) (notice (Call t) (outcome.Parted k f)) ns i (tell_settling o older w ns r) in cc
+
     by : (newer older : List Entry) (w : Who) → log ≡ newer ++ Then (Does w (Tell (notice (Call t) (outcome.Parted k f)))) ∷ older →
         IsRun o (Then (Does w (Tell (notice (Call t) (outcome.Parted k f)))) ∷ older) → (t < k) × (k < t + 1 + c)
     by newer older (Call w) there r =
@@ -67,6 +83,8 @@ part_row o log t c k f run h =
         let lo : x.share.of < w = x.own.3 in
         let hi : w < x.share.of + 1 + x.own.1 = x.own.4 in
         (omega (arith, of, it, lo), omega (arith, of, it, hi, same))
+    by newer older (Producer m) there r =
+        let d = batcher_does o older m (Tell (notice (Call t) (outcome.Parted k f))) r in absurd (no_tell d.0 (notice (Call t) (outcome.Parted k f)) d.1)
 
 outcome_row : (o : Options) (log : List Entry) (t c : ℕ) (u : Outcome) → IsRun o (Then (Told (notice (Call t) u)) ∷ log) → parts_at o t log ≡ Some c →
     RowOf t c u

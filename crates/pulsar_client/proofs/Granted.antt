@@ -1,5 +1,5 @@
--- What plans do comes right behind what leads to it, and what they are granted, but for a turn, right behind what they do.
-use Rattle.std.proofs.Common.{◌≡◌, ◌⊎◌, inl, inr, ◌∙◌, sym, ap, subst, ℕ, List, [], ◌∷◌, ◌++◌, refl, map, drop, Bool, true, false, cond, Option, Some, None, Result, Ok, Err}
+-- What plans do comes right behind what leads to it, and numbers, commands and batches that they are granted right behind what they do.
+use Rattle.std.proofs.Common.{◌≡◌, ◌⊎◌, inl, inr, ◌∙◌, sym, ap, subst, ℕ, List, [], ◌∷◌, ◌++◌, refl, map, drop, Bool, true, false, ◌&&◌, cond, Option, Some, None, Result, Ok, Err}
 use Rattle.std.proofs.lemmas.Bool.{cases_Bool}
 use Rattle.std.specs.List.{cons_option, filter_map, flat_map}
 use Rattle.std.specs.Option.{option_map, option_to_list}
@@ -22,55 +22,68 @@ use Rattle.pulsar_producer.specs.declared.deed.News.TheVariants as news
 use Rattle.pulsar_client.specs.declared.act.Act.{Act}
 use Rattle.pulsar_client.specs.declared.act.Act.TheVariants.{Comes, Starts, Told, Does, Answers, Dials}
 use Rattle.pulsar_client.specs.declared.act.Action.{Action}
-use Rattle.pulsar_client.specs.declared.act.Action.TheVariants.{Get, Ask, Wait, TakeTurn, PassTurn, Draw, Recall, Remake, Number, Find, Shut, Tell, StopAll, Rest}
+use Rattle.pulsar_client.specs.declared.act.Action.TheVariants.{Get, Ask, Wait, TakeTurn, PassTurn, Draw, Recall, Remake, Number, Find, Shut, Store, Flush, TakeBatch, Tell, TellAll, StopAll, Rest}
 use Rattle.pulsar_client.specs.declared.act.Alarm.{Alarm}
-use Rattle.pulsar_client.specs.declared.act.Alarm.TheVariants.{Retry, Wake, KeepAlive, CheckIdle}
+use Rattle.pulsar_client.specs.declared.act.Alarm.TheVariants.{Retry, Wake, Batch}
 use Rattle.pulsar_client.specs.declared.act.End.{End}
 use Rattle.pulsar_client.specs.declared.act.End.TheVariants.{Unopened, Lost, Overdue, Broken, Idles, Stops}
-use Rattle.pulsar_client.specs.declared.act.LinkAct.TheVariants as link
-use Rattle.pulsar_client.specs.declared.act.LinkAct.TheVariants.{Reads, Drains, Pings, Ends}
+use Rattle.pulsar_client.specs.declared.act.LinkAct.TheVariants.{Reads, Drains, Ends}
 use Rattle.pulsar_client.specs.declared.act.Notice.{Notice}
 use Rattle.pulsar_client.specs.declared.act.Outcome.{Outcome}
 use Rattle.pulsar_client.specs.declared.act.Outcome.TheVariants as outcome
 use Rattle.pulsar_client.specs.declared.act.Part.{Part}
-use Rattle.pulsar_client.specs.declared.act.Part.TheVariants.{Calls, ToLink, Rings, Polls}
+use Rattle.pulsar_client.specs.declared.act.Part.TheVariants.{ToLink, Rings}
 use Rattle.pulsar_client.specs.declared.act.Procedure.{Procedure}
-use Rattle.pulsar_client.specs.declared.act.Verdict.{Verdict}
+use Rattle.pulsar_client.specs.declared.act.Procedure.TheVariants as procedure
 use Rattle.pulsar_client.specs.declared.act.Who.{Who}
 use Rattle.pulsar_client.specs.declared.addresses.Pause.{Pause}
 use Rattle.pulsar_client.specs.declared.addresses.Series.{Series}
 use Rattle.pulsar_client.specs.declared.addresses.Series.TheVariants.{Nobody, Runs, Pauses, Serves}
 use Rattle.pulsar_client.specs.declared.plans.plan.Plan.{Plan}
-use Rattle.pulsar_client.specs.declared.plans.plan.Turn.TheVariants.{Stays, Gives}
+use Rattle.pulsar_client.specs.declared.plans.plan.Turn.TheVariants.{Stays}
 use Rattle.pulsar_client.specs.declared.producers.Topic.{Topic}
 use Rattle.pulsar_client.specs.Alarms.{rings}
-use Rattle.pulsar_client.specs.Laws.{Acted, Answered, ComesLate, IsToldSo, StartsSo}
-use Rattle.pulsar_client.specs.Links.{Change, Remains, Becomes, IsOver}
-use Rattle.pulsar_client.specs.Plan.{begins, told}
-use Rattle.pulsar_client.specs.Producers.{drawn, link_at, number_drawn, recalled, turn_passed, turn_taken, waiting}
-use Rattle.pulsar_client.specs.Rules.{alone, answered_by, answered_on, at_once, below, caused, causes, draw_outcome, draw_said, dropped, ended_by, ended_on, ended_places, failed, failed_at, failed_by, failed_on, failed_over, failed_so, fails_so, finds, gets_from, grants, joins, lost, lost_so, lost_with, moved_on, notice, number_said, opens, over_links, performs, recalls, served_by, served_on, stop_act, stopped_at, stopped_one, stopped_with, takes_turn, tells, tells_asker, told_at, turn_notice, waiters_of, woken}
+use Rattle.pulsar_client.specs.Laws.{Acted, Answered}
+use Rattle.pulsar_client.specs.Links.{Change, Becomes, IsOver}
+use Rattle.pulsar_client.specs.Plan.{begins, closed_notice, told}
+use Rattle.pulsar_producer.specs.Topic as topic
+use Rattle.pulsar_client.specs.Who.{turn_of}
+use Rattle.pulsar_client.specs.Producers.{drawn, is_settled_at, is_woken, link_at, next_batch_at, number_drawn, numbers_at, recalled, stored_by, turn_passed, turn_taken, unsent, waiting}
+use Rattle.pulsar_client.specs.Rules.{alone, answered_by, answered_on, at_once, below, caused, causes, draw_outcome, draw_said, dropped, ended_by, ended_on, failed, failed_at, failed_by, failed_on, failed_over, fails_so, finds, gets_from, grants, joins, lost, lost_so, lost_with, moved_on, notice, number_said, opens, over_links, performs, readied, ready_notice, recalls, served_by, served_on, stop_act, stopped_at, stopped_call, stopped_one, stopped_with, takes_turn, tells, tells_asker, told_at, turn_notice, waiters_of, woken}
 use Rattle.pulsar_client.specs.Run.{Entry, Begins, Then, IsRun, agenda, rules, view}
-use Rattle.pulsar_client.specs.View.{Addresses, Base, Options, Seat, Turned, View, answer_at, room_of, turned_by}
+use Rattle.pulsar_client.specs.View.{Addresses, Base, Options, Seat, Turned, View, after, answer_at, room_of, stays, stays_some, told_some, turned_by}
 use Rattle.pulsar_client.proofs.Acts.{Each, each_append, each_drop, each_either, each_flat, each_map, over_each}
 use Rattle.pulsar_client.proofs.Raising.{IsRaised, raises}
 use Rattle.pulsar_client.proofs.Led.{deeds_follow_lem}
-use Rattle.pulsar_client.proofs.Natures.{KindBegun, KindOf, Goes, StaysSo, begins_goes, is_granted, told_goes}
+use Rattle.pulsar_client.proofs.Spots.{same_self}
+use Rattle.pulsar_client.proofs.Fitting.{Fits, all_settling, begins_fits, fits, is_said, is_settling, is_stop, says_so, settles_so, spot, told_fits}
 
--- more than a turn
+-- what one is granted only by what it does; a turn, that a batch was cut, and that all is settled come by others too
 abbrev pub is_grant : Outcome → Bool
 is_grant (outcome.Granted (news.HasTurn version)) = false
+is_grant (outcome.Granted news.Ready) = false
+is_grant (outcome.Granted news.Done) = false
 is_grant (outcome.Granted n) = true
 is_grant _ = false
 
--- one is granted nothing, or a turn at most
+-- that, or a turn
+abbrev pub is_given : Outcome → Bool
+is_given (outcome.Granted news.Ready) = false
+is_given (outcome.Granted news.Done) = false
+is_given (outcome.Granted n) = true
+is_given _ = false
+
+-- one is granted none of these, or a turn at most
 abbrev pub IsFree : Notice → Type 0
-IsFree n = is_granted n.outcome ≡ false
+IsFree n = is_given n.outcome ≡ false
 
 abbrev pub IsTurn : Notice → Type 0
 IsTurn n = is_grant n.outcome ≡ false
 
-free_turn : (u : Outcome) → is_granted u ≡ false → is_grant u ≡ false
-free_turn (outcome.Granted n) h = absurd cc
+free_turn : (u : Outcome) → is_given u ≡ false → is_grant u ≡ false
+free_turn (outcome.Granted news.Ready) h = refl
+free_turn (outcome.Granted news.Done) h = refl
+free_turn (outcome.Granted _) h = absurd cc
 free_turn _ h = refl
 
 abbrev grants_more : Act → Bool
@@ -80,9 +93,10 @@ grants_more _ = false
 abbrev IsPlain : Act → Type 0
 IsPlain a = grants_more a ≡ false
 
--- CAUSES GRANT NOTHING, and they tell of no part of a call
+-- CAUSES GRANT at most that a batch was cut, and they tell of no part of a call
 
 abbrev pub is_inner : Outcome → Bool
+is_inner (outcome.Granted news.Ready) = false
 is_inner (outcome.Granted n) = true
 is_inner (outcome.Parted ticket f) = true
 is_inner _ = false
@@ -172,9 +186,13 @@ waiters_free : (f : Turned → Base → List Notice) (known : Addresses) (g : Se
 waiters_free f known g None free = tt
 waiters_free f known g (Some seat) free = free (g seat) _
 
-woken_free : (a : Alarm) → Each IsCaused (woken a)
-woken_free (Wake who) = (refl, tt)
-woken_free _ = tt
+readied_free : (n : ℕ) (act : topic.Act) (row : Option Topic) → Each IsCaused (readied n act row)
+readied_free n act row = each_either IsCaused (is_woken act row) (ready_notice n ∷ []) [] (refl, tt) tt
+
+woken_free : (v : View) (a : Alarm) → Each IsCaused (woken v a)
+woken_free v (Wake who) = (refl, tt)
+woken_free v (Batch n) = readied_free n topic.Cuts (v.producers.topics n)
+woken_free v _ = tt
 
 pause_free : (known : Addresses) (row : Option Pause) → Each IsCaused (stopped_at known row)
 pause_free known None = tt
@@ -205,14 +223,15 @@ caused_free v l _ = tt
 
 pub causes_inner : (v : View) (a : Act) → Each (Each IsCaused) (causes v a)
 causes_inner v (Comes (ToLink l x)) = caused_free v l x
-causes_inner v (Comes (Rings a)) = each_either (Each IsCaused) (rings v.now a v.alarms) (opens (woken a)) [] (opens_free (woken a) (woken_free a)) tt
+causes_inner v (Comes (Rings a)) = each_either (Each IsCaused) (rings v.now a v.alarms) (opens (woken v a)) [] (opens_free (woken v a) (woken_free v a)) tt
 causes_inner v (Does who StopAll) =
     opens_free _ (each_append IsCaused _ _ (each_flat IsCaused (λ e. stopped_with v.addresses e.0) v.alarms (λ e. stopped_free v.addresses e.0))
-    (each_of stopped_one (λ t. refl) (waiting v.producers)))
+    (each_append IsCaused _ _ (each_of stopped_one (λ w. refl) (waiting v.producers)) (each_of stopped_call (λ t. refl) (unsent v.producers))))
 causes_inner v _ = tt
 
-inner_free : (u : Outcome) → is_inner u ≡ false → is_granted u ≡ false
-inner_free (outcome.Granted n) h = absurd cc
+inner_free : (u : Outcome) → is_inner u ≡ false → is_given u ≡ false
+inner_free (outcome.Granted news.Ready) h = refl
+inner_free (outcome.Granted _) h = absurd cc
 inner_free (outcome.Parted ticket f) h = absurd cc
 inner_free _ h = refl
 
@@ -221,6 +240,10 @@ causes_free v a =
     each_map (Each IsCaused) (Each IsFree) (causes v a) (λ ns k. each_map IsCaused IsFree ns (λ n h. inner_free n.outcome h) k) (causes_inner v a)
 
 -- WHAT ONE DOES
+
+abbrev pub is_stopping : Action → Bool
+is_stopping StopAll = true
+is_stopping _ = false
 
 -- it begins with this, or was told what leads to it
 pub record BeginsSo (o : Options) (log : List Entry) (w : Who) (action : Action) : Type 0 where
@@ -260,11 +283,66 @@ does_from o log w action run =
       ]
     ]
 
-pub tell_free : (o : Options) (log : List Entry) (w : Who) (n : Notice) → IsRun o (Then (Does w (Tell n)) ∷ log) → IsFree n
-tell_free o log w n run = elim (does_from o log w (Tell n) run) [
-  | inl k ↦ (subst (StaysSo (Goes (KindBegun k.procedure))) k.leads (begins_goes k.procedure)).1
-  | inr k ↦ (subst (StaysSo (Goes (KindOf k.before))) k.leads (told_goes k.before k.outcome)).1
+-- what a plan does fits where it stands then, but for a Stop
+pub does_fit : (o : Options) (log : List Entry) (w : Who) (action : Action) → is_stopping action ≡ false → IsRun o (Then (Does w action) ∷ log) →
+    (plan : Plan) × (fits (spot plan) action ≡ true) × ((view o log).stand w ≡ Some plan)
+does_fit o log w action other run = elim (does_from o log w action run) [
+  | inl k ↦
+      (let f = begun k.procedure (is_stop k.procedure) refl k.plan k.leads in
+      (k.plan, f, subst (λ l. (view o l).stand w ≡ Some k.plan) (sym k.is_there) (begun_stand (view o k.older) k.procedure ∙ ap stays k.leads)))
+  | inr k ↦ (
+    k.plan,
+    subst Fits k.leads (told_fits k.before k.outcome),
+    subst (λ l. (view o l).stand w ≡ Some k.plan) (sym k.is_there)
+        (told_stand (view o k.older) k.outcome
+        ∙ ap (λ row. stays_some (told_some row k.outcome)) k.stood
+        ∙ ap stays k.leads),
+  )
 ]
+  where
+    begun_stand : (v : View) (p : Procedure) → (after (Starts w p) v).stand w ≡ stays (begins p)
+    begun_stand v p = ap (λ b. cond b (stays (begins p)) (v.stand w)) (same_self w)
+
+    told_stand : (v : View) (u : Outcome) → (after (Told (notice w u)) v).stand w ≡ stays_some (told_some (v.stand w) u)
+    told_stand v u = ap (λ b. cond b (stays_some (told_some (v.stand w) u)) (v.stand w)) (same_self w)
+
+    begun : (p : Procedure) (b : Bool) → is_stop p ≡ b → (plan : Plan) → begins p ≡ Stays plan action → fits (spot plan) action ≡ true
+    begun p false h plan leads = subst Fits leads (begins_fits p h)
+    begun procedure.Stop true h plan leads = (let e : action ≡ StopAll = cc in let f : false ≡ true = sym other ∙ ap is_stopping e in absurd cc)
+    begun p true h plan leads = absurd cc
+
+said_free : (u : Outcome) → is_said u ≡ true → is_given u ≡ false
+said_free (outcome.Parted ticket f) h = refl
+said_free outcome.Stopped h = refl
+said_free _ h = absurd cc
+
+settling_free : (u : Outcome) → is_settling u ≡ true → is_given u ≡ false
+settling_free (outcome.Settled f) h = refl
+settling_free outcome.Stopped h = refl
+settling_free (outcome.Granted news.Done) h = refl
+settling_free (outcome.Granted _) h = absurd cc
+settling_free _ h = absurd cc
+
+both : (a b : Bool) → (a && b) ≡ true → (a ≡ true) × (b ≡ true)
+both true b h = (refl, h)
+both false b h = absurd cc
+
+each_settling : (ns : List Notice) → all_settling ns ≡ true → Each (λ n. is_settling n.outcome ≡ true) ns
+each_settling [] h = tt
+each_settling (n ∷ ns) h = let k = both (is_settling n.outcome) (all_settling ns) h in (k.0, each_settling ns k.1)
+
+pub tell_said : (o : Options) (log : List Entry) (w : Who) (n : Notice) → IsRun o (Then (Does w (Tell n)) ∷ log) → is_said n.outcome ≡ true
+tell_said o log w n run = let k = does_fit o log w (Tell n) refl run in says_so (spot k.0) n k.1
+
+pub tell_settling : (o : Options) (log : List Entry) (w : Who) (ns : List Notice) → IsRun o (Then (Does w (TellAll ns)) ∷ log) →
+    Each (λ n. is_settling n.outcome ≡ true) ns
+tell_settling o log w ns run = let k = does_fit o log w (TellAll ns) refl run in each_settling ns (settles_so (spot k.0) ns k.1)
+
+pub tell_free : (o : Options) (log : List Entry) (w : Who) (n : Notice) → IsRun o (Then (Does w (Tell n)) ∷ log) → IsFree n
+tell_free o log w n run = said_free n.outcome (tell_said o log w n run)
+
+pub all_free : (o : Options) (log : List Entry) (w : Who) (ns : List Notice) → IsRun o (Then (Does w (TellAll ns)) ∷ log) → Each IsFree ns
+all_free o log w ns run = each_map (λ n. is_settling n.outcome ≡ true) IsFree ns (λ n h. settling_free n.outcome h) (tell_settling o log w ns run)
 
 -- what it is told at once
 performs_each : (P : Act → Type 0) (who : Who) → ((u : Outcome) → P (Told (notice who u))) → ((p : Place) (n : _) → P (Dials p who n)) →
@@ -294,6 +372,7 @@ performs_each P who t d s v (Find n) = finds_so (link_at (v.producers.topics n))
     finds_so (Some l) = (t _, tt)
 performs_each P who t d s v StopAll = each_append P (over_links stop_act v.links) (tells who outcome.Stopped)
     (over_each P stop_act v.links (λ l seat. (s l, tt))) (t _, tt)
+performs_each P who t d s v (Flush n) = each_either P (is_settled_at (v.producers.topics n)) (grants who news.Done) [] (t _, tt) tt
 performs_each P who t d s v Rest = tt
 performs_each P who t d s v _ = (t _, tt)
 
@@ -322,6 +401,8 @@ performs_plain v who (TakeTurn n) = takes (v.producers.topics n)
     ]
 performs_plain v who (Recall n) = elim (recalled v.producers n) as (λ r. Each IsPlain (drop 1 (recalls who r))) [ None ↦ tt | Some c ↦ tt ]
 performs_plain v who (Find n) = elim (link_at (v.producers.topics n)) as (λ r. Each IsPlain (drop 1 (finds who r))) [ None ↦ tt | Some l ↦ tt ]
+performs_plain v who (Flush n) =
+    elim (is_settled_at (v.producers.topics n)) as (λ b. Each IsPlain (drop 1 (cond b (grants who news.Done) []))) [ true ↦ tt | false ↦ tt ]
 performs_plain v who StopAll =
     each_drop IsPlain (performs v who StopAll)
     (each_append IsPlain (over_links stop_act v.links) (tells who outcome.Stopped) (over_each IsPlain stop_act v.links (λ l seat. (refl, tt))) (refl, tt))
@@ -362,7 +443,7 @@ pub each_arranged : {A : Type 0} (P : A → Type 0) (f : A → A → Bool) (xss 
 each_arranged P f [] p = tt
 each_arranged P f (xs ∷ xss) p = (each_put_all P f xs [] p.0 tt, each_arranged P f xss p.1)
 
--- of what is left, at most the first of what arose at once grants more than a turn, and causes that wait grant nothing
+-- of what is left, only the first of what arose at once gives a number, a command or a batch, and causes that wait give no turn either
 pub record IsClean (now : List Act) (here : List Notice) (behind : List (List Notice)) : Type 0 where
   pub at_head : Each IsPlain (drop 1 now)
   pub served : Each IsTurn here
@@ -385,13 +466,24 @@ head_on : (xs ys : List Act) → Each IsPlain (drop 1 xs) → Each IsPlain ys �
 head_on [] ys p q = each_drop IsPlain ys q
 head_on (x ∷ xs) ys p q = each_append IsPlain xs ys p q
 
-passed_turn : (r : Option (ℕ × Option (List ℕ))) → Each IsTurn (option_to_list (option_map turn_notice r))
-passed_turn None = tt
-passed_turn (Some next) = (refl, tt)
+passed_turn : (n : ℕ) (r : Option (ℕ × Option (List ℕ))) → Each IsTurn (option_to_list (option_map (turn_notice n) r))
+passed_turn n None = tt
+passed_turn n (Some next) = (refl, tt)
+
+readied_turn : (n : ℕ) (act : topic.Act) (row : Option Topic) → Each IsTurn (readied n act row)
+readied_turn n act row = each_either IsTurn (is_woken act row) (ready_notice n ∷ []) [] (refl, tt) tt
+
+closed_turn : (ts : List ℕ) → Each IsTurn (map closed_notice ts)
+closed_turn [] = tt
+closed_turn (t ∷ ts) = (refl, closed_turn ts)
 
 joins_turn : (o : Options) (log : List Entry) (a : Act) → IsRun o (Then a ∷ log) → Each IsTurn (joins (view o log) a)
-joins_turn o log (Does who (PassTurn n)) run = passed_turn (turn_passed ((view o log).producers.topics n))
+joins_turn o log (Does who (PassTurn n)) run = passed_turn n (turn_passed ((view o log).producers.topics n))
+joins_turn o log (Does who (Store n entry)) run = readied_turn n (topic.Stores (turn_of who) entry) ((view o log).producers.topics n)
+joins_turn o log (Does who (Flush n)) run = readied_turn n (topic.Flushes (turn_of who)) ((view o log).producers.topics n)
+joins_turn o log (Does who (Shut t)) run = closed_turn (stored_by (view o log).producers (numbers_at ((view o log).producers.built t)))
 joins_turn o log (Does who (Tell n)) run = (free_turn n.outcome (tell_free o log who n run), tt)
+joins_turn o log (Does who (TellAll ns)) run = each_map IsFree IsTurn ns (λ n h. free_turn n.outcome h) (all_free o log who ns run)
 joins_turn o log _ run = tt
 
 abbrev pub IsCleanAt : Options → List Entry → Type 0
@@ -422,7 +514,11 @@ GivenBy v (Recall n) (news.Recalled c) = recalled v.producers n ≡ Some c
 GivenBy v (Remake r) news.Done = Unit {0}
 GivenBy v Number (news.Numbered n) = number_drawn v.producers ≡ Some n
 GivenBy v (Shut t) news.Done = Unit {0}
+GivenBy v (Store n entry) news.Done = Unit {0}
+GivenBy v (Flush n) news.Done = is_settled_at (v.producers.topics n) ≡ true
+GivenBy v (TakeBatch n) (news.HasBatch items) = next_batch_at (v.producers.topics n) ≡ items
 GivenBy v (Tell n) news.Done = Unit {0}
+GivenBy v (TellAll ns) news.Done = Unit {0}
 GivenBy v action n = ⊥
 
 abbrev pub SaysSo : View → Action → Outcome → Type 0
@@ -474,6 +570,10 @@ module _ (v : View) (who : Who) where
   finds_so n None = (tt, tt)
   finds_so n (Some l) = (tt, tt)
 
+  flushes_so : (n : ℕ) (b : Bool) → is_settled_at (v.producers.topics n) ≡ b → Each (GivesSo v (Flush n)) (cond b (grants who news.Done) [])
+  flushes_so n true e = (e, tt)
+  flushes_so n false e = tt
+
   pub gives_so : (action : Action) → Each (GivesSo v action) (performs v who action)
   gives_so (Get p) = each_either (GivesSo v (Get p)) (is_reachable p) _ _ (gets_so p (v.addresses.base (address_key p)).series) (tt, tt)
   gives_so (Ask l request) = asks_so l request (answer_at v.now request (v.links.live l))
@@ -489,7 +589,11 @@ module _ (v : View) (who : Who) where
   gives_so Number = numbers_so (number_drawn v.producers) refl
   gives_so (Find n) = finds_so n (link_at (v.producers.topics n))
   gives_so (Shut t) = (tt, tt)
+  gives_so (Store n entry) = (tt, tt)
+  gives_so (Flush n) = flushes_so n (is_settled_at (v.producers.topics n)) refl
+  gives_so (TakeBatch n) = (refl, tt)
   gives_so (Tell n) = (tt, tt)
+  gives_so (TellAll ns) = (tt, tt)
   gives_so Rest = tt
 
 pub in_each : {A : Type 0} (P : A → Type 0) (x : A) (xs : List A) → Each P xs → In x xs → P x

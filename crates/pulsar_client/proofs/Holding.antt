@@ -1,5 +1,5 @@
 -- What a plan has the turn of, and how it comes to it and leaves it: one step of a plan.
-use Rattle.std.proofs.Common.{◌≡◌, ◌⊎◌, inl, inr, ◌∙◌, sym, ap, ℕ, ◌-◌, ◌==◌, List, [], ◌∷◌, ◌++◌, refl, Bool, true, false, ◌&&◌, cond, Option, Some, None, Result, Ok, Err}
+use Rattle.std.proofs.Common.{◌≡◌, ◌⊎◌, inl, inr, ◌∙◌, sym, ap, ℕ, ◌-◌, ◌==◌, List, [], ◌∷◌, ◌++◌, refl, length, map, Bool, true, false, ◌&&◌, cond, Option, Some, None, Result, Ok, Err}
 use Rattle.std.specs.Prelude.{not}
 use Rattle.pulsar_messages.specs.Content.{ProducerMessageValues}
 use Rattle.pulsar_session.specs.Failures.{Failure, Fault, OfConnection}
@@ -24,7 +24,17 @@ use Rattle.pulsar_plans.specs.declared.turn.Turn.TheVariants as search_turn
 use Rattle.pulsar_plans.specs.declared.turn.Ways.{Ways}
 use Rattle.pulsar_producer.specs.Commands.{command}
 use Rattle.pulsar_producer.specs.Errors.{in_producer}
+use Rattle.pulsar_frame.specs.Batch.{EntryValues}
+use Rattle.pulsar_wire.specs.declared.error.Reason.{Reason}
+use Rattle.pulsar_producer.specs.Batch.{batch_of, entries_in, failed, member_of, not_written, receipt_fate}
+use Rattle.pulsar_producer.specs.Batching as batches
 use Rattle.pulsar_producer.specs.Plans as produce
+use Rattle.pulsar_producer.specs.declared.batch.Fate.{Fate}
+use Rattle.pulsar_producer.specs.declared.batch.Fate.TheVariants as fate
+use Rattle.pulsar_producer.specs.declared.batch.Member.{Member}
+use Rattle.pulsar_producer.specs.declared.batching.Batching.{Batching as Batches}
+use Rattle.pulsar_producer.specs.declared.batching.Batching.TheVariants as batching
+use Rattle.pulsar_producer.specs.declared.batching.Goes.{Goes}
 use Rattle.pulsar_producer.specs.Plans.{fault_told, Builds, Sent, build_closes, build_made, build_makes, build_names, build_next, in_looking, in_making, not_drawn, not_queued, receipt, send_ends, send_looks, send_makes}
 use Rattle.pulsar_producer.specs.declared.building.Building.{Building as Build}
 use Rattle.pulsar_producer.specs.declared.building.Building.TheVariants as build
@@ -46,19 +56,19 @@ use Rattle.pulsar_client.specs.declared.act.Place.TheVariants.{At, Link}
 use Rattle.pulsar_client.specs.declared.act.Procedure.{Procedure}
 use Rattle.pulsar_client.specs.declared.act.Procedure.TheVariants as procedure
 use Rattle.pulsar_client.specs.declared.act.Round.{Round}
-use Rattle.pulsar_client.specs.declared.act.Round.TheVariants.{Closes}
+use Rattle.pulsar_client.specs.declared.act.Round.TheVariants.{Checks, Flushes, Closes}
 use Rattle.pulsar_client.specs.declared.act.Share.{Share}
 use Rattle.pulsar_client.specs.declared.act.Verdict.{Verdict}
 use Rattle.pulsar_client.specs.declared.plans.plan.At.{At as Spot}
 use Rattle.pulsar_client.specs.declared.plans.plan.At.TheVariants as at
 use Rattle.pulsar_client.specs.declared.plans.plan.Plan.{Plan}
-use Rattle.pulsar_client.specs.declared.plans.plan.Plan.TheVariants.{Building, Getting, Asking, Awaiting, Searching, Producing, Sending, Reporting, Leaving, Gathering, Shutting, Visiting, Stopping}
+use Rattle.pulsar_client.specs.declared.plans.plan.Plan.TheVariants.{Building, Getting, Asking, Awaiting, Searching, Producing, Sending, Reporting, Storing, Stored, Batching, Leaving, Gathering, Shutting, Visiting, Stopping}
 use Rattle.pulsar_client.specs.declared.plans.plan.Turn.{Turn}
 use Rattle.pulsar_client.specs.declared.plans.plan.Turn.TheVariants.{Stays, Gives}
 use Rattle.pulsar_client.specs.declared.plans.plan.Wanted.{Wanted}
 use Rattle.pulsar_client.specs.Parts.{failed_with}
-use Rattle.pulsar_client.specs.Plan.{action_of, asks, asks_of, begins, builds, fails, fails_in, fault_of, gathers, goes, goes_on_sending, goes_round, halted, in_asking, in_awaiting, in_finding, in_passing, in_turning, is_answer, is_sent, leaves, news_in, news_of, overrides, sends_stay, stands, told, told_at, told_send, visited, waits, wished}
-use Rattle.pulsar_client.specs.ProducerLaws.{turn_of}
+use Rattle.pulsar_client.specs.Plan.{action_of, asks, asks_of, batches_on, begins, builds, fails, fails_in, fault_of, gathers, goes, goes_on_sending, goes_round, halted, in_asking, in_awaiting, in_finding, in_passing, in_settling, in_turning, is_answer, is_sent, leaves, news_in, news_of, overrides, sends_stay, stands, stored, told, told_at, told_send, visited, visits, waits, wished}
+use Rattle.pulsar_client.specs.ProducerLaws.{turn_in, turn_of}
 use Rattle.pulsar_client.proofs.Natures.{StaysSo, either_so, is_leaving}
 
 -- what one has the turn of; a part of a call that is queued has it until it has told so
@@ -83,8 +93,13 @@ holds_at n at.Finding = Some n
 holds_at n at.Asking = Some n
 holds_at n _ = None
 
+abbrev pub holds_batch : Errand → Batches → Option ℕ
+holds_batch e (batching.Sending ms c s) = holds_in e s
+holds_batch e _ = None
+
 abbrev pub holds : Plan → Option ℕ
 holds (Sending w e share s) = holds_as e share s
+holds (Batching w e b) = holds_batch e b
 holds (Reporting w e) = Some e.producer
 holds (Visiting r n left x) = holds_at n x
 holds _ = None
@@ -97,6 +112,12 @@ abbrev pub is_turn_told : Outcome → Bool
 is_turn_told (outcome.Granted n) = is_turn_news n
 is_turn_told _ = false
 
+-- a plan that leaves, and that of batches, which the stop of the client overrides
+abbrev pub is_past : Plan → Bool
+is_past (Leaving f) = true
+is_past (Batching w e b) = true
+is_past _ = false
+
 -- one comes to a turn where it is told so, passes on what it has, and takes one where it waits for none and has none
 abbrev PassesSo : Plan → Plan → Action → Type 0
 PassesSo p q (PassTurn n) = (holds p ≡ Some n) × (holds q ≡ None)
@@ -105,7 +126,7 @@ PassesSo p q _ = Unit {0}
 
 pub record GoesSo (p : Plan) (u : Outcome) (q : Plan) (a : Action) : Type 0 where
   pub has : (m : ℕ) → holds q ≡ Some m → (holds p ≡ Some m) ⊎ ((turn_of p ≡ Some m) × (is_turn_told u ≡ true))
-  pub waits : (m : ℕ) → turn_of p ≡ Some m → is_turn_told u ≡ false → is_leaving q ≡ true
+  pub waits : (m : ℕ) → turn_of p ≡ Some m → is_turn_told u ≡ false → is_past q ≡ true
   pub passes : PassesSo p q a
 
 -- PLANS THAT HAVE NO TURN
@@ -399,9 +420,25 @@ sending_goes w e share (send.Remaking m) u = within_goes w e share (send.Remakin
 
 -- A ROUND
 
+visits_goes : (p : Plan) (u : Outcome) (r : Round) (n : ℕ) (ns : List ℕ) → turn_of p ≡ None → is_leaving p ≡ false → StaysSo (GoesSo p u) (visits r n ns)
+visits_goes p u Checks n ns t l =
+    record { has = λ m h. absurd (none_some h); waits = λ m h x. absurd (none_some (sym t ∙ h)); passes = (refl, t, l, refl) }
+visits_goes p u Flushes n ns t l = record { has = λ m h. absurd (none_some h); waits = λ m h x. absurd (none_some (sym t ∙ h)); passes = tt }
+visits_goes p u Closes n ns t l = record { has = λ m h. absurd (none_some h); waits = λ m h x. absurd (none_some (sym t ∙ h)); passes = tt }
+
 round_goes : (p : Plan) (u : Outcome) (r : Round) (ns : List ℕ) → turn_of p ≡ None → is_leaving p ≡ false → StaysSo (GoesSo p u) (goes_round r ns)
 round_goes p u r [] t l = tt
-round_goes p u r (n ∷ ns) t l = record { has = λ m h. absurd (none_some h); waits = λ m h x. absurd (none_some (sym t ∙ h)); passes = (refl, t, l, refl) }
+round_goes p u r (n ∷ ns) t l = visits_goes p u r n ns t l
+
+settling_goes : (r : Round) (n : ℕ) (left : List ℕ) (u : Outcome) → StaysSo (GoesSo (Visiting r n left at.Settling) u) (in_settling r n left u)
+settling_goes Checks n left (outcome.Granted news.Done) =
+    record { has = λ m h. absurd (none_some h); waits = λ m h x. absurd (none_some h); passes = (refl, refl, refl, refl) }
+settling_goes Flushes n left (outcome.Granted news.Done) =
+    round_goes (Visiting Flushes n left at.Settling) (outcome.Granted news.Done) Flushes left refl refl
+settling_goes Closes n left (outcome.Granted news.Done) =
+    record { has = λ m h. absurd (none_some h); waits = λ m h x. absurd (none_some h); passes = (refl, refl, refl, refl) }
+settling_goes r n left (outcome.Granted _) = tt
+settling_goes r n left _ = tt
 
 module _ (r : Round) (n : ℕ) (left : List ℕ) where
   turning_goes : (u : Outcome) → StaysSo (GoesSo (Visiting r n left at.Turning) u) (in_turning r n left u)
@@ -432,6 +469,7 @@ module _ (r : Round) (n : ℕ) (left : List ℕ) where
   awaiting_goes _ = tt
 
   visit_goes : (x : Spot) (u : Outcome) → StaysSo (GoesSo (Visiting r n left x) u) (told_at r n left x u)
+  visit_goes at.Settling u = settling_goes r n left u
   visit_goes at.Turning u = turning_goes u
   visit_goes at.Finding u = finding_goes u
   visit_goes at.Asking u = asking_goes u
@@ -442,6 +480,110 @@ shut_goes : (ns : List ℕ) (u : Outcome) → StaysSo (GoesSo (Shutting ns) u) (
 shut_goes ns (outcome.Granted news.Done) = round_goes (Shutting ns) (outcome.Granted news.Done) Closes ns refl refl
 shut_goes ns (outcome.Granted _) = tt
 shut_goes ns _ = tt
+
+-- BATCHES
+
+stored_apart : (share : Option Share) → StaysSo Apart (stored share)
+stored_apart None = ((refl, refl), refl)
+stored_apart (Some s) = ((refl, refl), refl)
+
+module _ (w : Ways) (e : Errand) (u : Outcome) where
+  abbrev GoesBatch : Batches → Goes → Type 0
+  GoesBatch b g = GoesSo (Batching w e b) u (Batching w e g.state) (action_of g.deed)
+
+  -- those of a batch are told, whoever has the turn
+  settles_holds : (b : Batches) (ms : List Member) (c : ℕ) (f : Fate) → GoesBatch b (batches.settles ms c f)
+  settles_holds b ms c f = record { has = λ m h. absurd (none_some h); waits = λ m h t. refl; passes = tt }
+
+  cuts_holds : (b : Batches) (is_sent : Bool) (ms : List Member) (c : ℕ) → GoesBatch b (batches.cuts_off is_sent ms c)
+  cuts_holds b true ms c = record { has = λ m h. absurd (none_some h); waits = λ m h t. refl; passes = tt }
+  cuts_holds b false ms c = record { has = λ m h. absurd (none_some h); waits = λ m h t. refl; passes = tt }
+
+  rests_holds : (b : Batches) → GoesBatch b batches.rests
+  rests_holds b = record { has = λ m h. absurd (none_some h); waits = λ m h t. refl; passes = tt }
+
+  takes_holds : (b : Batches) → GoesBatch b (batches.takes e)
+  takes_holds b = record { has = λ m h. absurd (none_some h); waits = λ m h t. refl; passes = tt }
+
+  -- a send that has its turn keeps it, or passes it on
+  module _ (ms : List Member) (c : ℕ) (s : Send) (hp : holds_in e s ≡ Some e.producer) where
+    within_batch : (x : Sent) → StepKept e x → GoesBatch (batching.Sending ms c s) (batches.sends ms c x)
+    within_batch (step.Stays q d) k = record {
+      has = λ m h. inl (hp ∙ ap Some (own_turn e q m h));
+      waits = λ m h t. refl;
+      passes = passes_kept (Batching w e (batching.Sending ms c s)) e q (Batching w e (batching.Sending ms c q)) d hp k (λ h. h);
+    }
+    within_batch (step.Gives (Ok r)) k = settles_holds (batching.Sending ms c s) ms c (receipt_fate r)
+    within_batch (step.Gives (Err f)) k = settles_holds (batching.Sending ms c s) ms c (failed f)
+
+    keeps_batch : turn_in e s ≡ None → GoesBatch (batching.Sending ms c s) (batches.sends ms c (produce.send_told w e s (news_of u)))
+    keeps_batch tp = within_batch (produce.send_told w e s (news_of u)) (step_kept w e s (news_of u) (inr tp))
+
+  received_batch : (ms : List Member) (c : ℕ) (s : Send) (r : Result Content Fault) → GoesBatch (batching.Sending ms c s) (batches.sends ms c (receipt r))
+  received_batch ms c s (Ok r) = settles_holds (batching.Sending ms c s) ms c (receipt_fate r)
+  received_batch ms c s (Err f) = settles_holds (batching.Sending ms c s) ms c (failed (in_producer f))
+
+waiting_batch : (w : Ways) (e : Errand) (ms : List Member) (c : ℕ) (m : ProducerMessageValues) (u : Outcome) →
+    GoesBatch w e u (batching.Sending ms c (send.Waiting m)) (batches.sends ms c (produce.send_told w e (send.Waiting m) (news_of u)))
+waiting_batch w e ms c m (outcome.Granted (news.HasTurn version)) = record { has = λ n h. inr (h, refl); waits = λ n h t. refl; passes = tt }
+waiting_batch w e ms c m (outcome.Granted y) =
+    settles_holds w e (outcome.Granted y) (batching.Sending ms c (send.Waiting m)) ms c (failed (in_producer (fault_told y)))
+waiting_batch w e ms c m u = settles_holds w e u (batching.Sending ms c (send.Waiting m)) ms c (failed (in_producer (fault_told (news_of u))))
+
+sent_batch : (w : Ways) (e : Errand) (ms : List Member) (c : ℕ) (u : Outcome) (y : News) →
+    GoesBatch w e u (batching.Sending ms c send.Sent) (batches.sends ms c (produce.send_told w e send.Sent y))
+sent_batch w e ms c u (news.Told x) = received_batch w e u ms c send.Sent (search.verdict 7 x)
+sent_batch w e ms c u _ = record { has = λ m h. absurd (none_some h); waits = λ m h t. refl; passes = tt }
+
+send_batch : (w : Ways) (e : Errand) (ms : List Member) (c : ℕ) (s : Send) (u : Outcome) →
+    GoesBatch w e u (batching.Sending ms c s) (batches.sends ms c (produce.send_told w e s (news_of u)))
+send_batch w e ms c (send.Waiting m) u = waiting_batch w e ms c m u
+send_batch w e ms c send.Sent u = sent_batch w e ms c u (news_of u)
+send_batch w e ms c (send.Ending f) u = settles_holds w e u (batching.Sending ms c (send.Ending f)) ms c (failed f)
+send_batch w e ms c (send.Drawing m) u = keeps_batch w e u ms c (send.Drawing m) refl refl
+send_batch w e ms c (send.Asked k) u = keeps_batch w e u ms c (send.Asked k) refl refl
+send_batch w e ms c (send.Recalling m) u = keeps_batch w e u ms c (send.Recalling m) refl refl
+send_batch w e ms c (send.Looking m x l) u = keeps_batch w e u ms c (send.Looking m x l) refl refl
+send_batch w e ms c (send.Making m x k) u = keeps_batch w e u ms c (send.Making m x k) refl refl
+send_batch w e ms c (send.Remaking m) u = keeps_batch w e u ms c (send.Remaking m) refl refl
+
+resting_batch : (w : Ways) (e : Errand) (u : Outcome) → GoesBatch w e u batching.Resting (batches.in_resting e (news_of u))
+resting_batch w e (outcome.Granted news.Ready) = takes_holds w e (outcome.Granted news.Ready) batching.Resting
+resting_batch w e (outcome.Granted y) = rested y
+  where
+    rested : (y : News) → GoesBatch w e (outcome.Granted y) batching.Resting (batches.in_resting e y)
+    rested news.Ready = takes_holds w e (outcome.Granted news.Ready) batching.Resting
+    rested _ = record { has = λ m h. absurd (none_some h); waits = λ m h t. refl; passes = tt }
+resting_batch w e u = rests_holds w e u batching.Resting
+
+taking_batch : (w : Ways) (e : Errand) (u : Outcome) → GoesBatch w e u batching.Taking (batches.in_taking e (news_of u))
+taking_batch w e (outcome.Granted (news.HasBatch (Some items))) = taken (entries_in items)
+  where
+    written : (c : ℕ) (r : Result ProducerMessageValues Reason) →
+        GoesBatch w e (outcome.Granted (news.HasBatch (Some items))) batching.Taking (batches.sends_batch e (map member_of items) c r)
+    written c (Ok m) = record { has = λ n h. absurd (none_some h); waits = λ n h t. refl; passes = (refl, refl, refl, refl) }
+    written c (Err r) =
+        settles_holds w e (outcome.Granted (news.HasBatch (Some items))) batching.Taking (map member_of items) c (not_written r)
+
+    taken : (xs : List EntryValues) →
+        GoesBatch w e (outcome.Granted (news.HasBatch (Some items))) batching.Taking (batches.starts_with e (map member_of items) xs)
+    taken [] = settles_holds w e (outcome.Granted (news.HasBatch (Some items))) batching.Taking (map member_of items) 0 fate.Flushed
+    taken (x ∷ xs) = written (length (x ∷ xs)) (batch_of (x ∷ xs))
+taking_batch w e (outcome.Granted (news.HasBatch None)) = rests_holds w e (outcome.Granted (news.HasBatch None)) batching.Taking
+taking_batch w e (outcome.Granted _) = record { has = λ m h. absurd (none_some h); waits = λ m h t. refl; passes = tt }
+taking_batch w e _ = record { has = λ m h. absurd (none_some h); waits = λ m h t. refl; passes = tt }
+
+batch_told : (w : Ways) (e : Errand) (b : Batches) (u : Outcome) → GoesBatch w e u b (batches.told w e b (news_of u))
+batch_told w e batching.Resting u = resting_batch w e u
+batch_told w e batching.Taking u = taking_batch w e u
+batch_told w e (batching.Sending ms c s) u = send_batch w e ms c s u
+batch_told w e batching.Settling u = takes_holds w e u batching.Settling
+
+batch_halted : (w : Ways) (e : Errand) (b : Batches) (u : Outcome) → GoesBatch w e u b (batches.halted b)
+batch_halted w e batching.Resting u = rests_holds w e u batching.Resting
+batch_halted w e batching.Taking u = rests_holds w e u batching.Taking
+batch_halted w e (batching.Sending ms c s) u = cuts_holds w e u (batching.Sending ms c s) (batches.is_sent_send s) ms c
+batch_halted w e batching.Settling u = rests_holds w e u batching.Settling
 
 -- ALL
 
@@ -466,6 +608,17 @@ told_holds (Producing w o b) u =
     (builds_apart w o (produce.build_told w o b (news_of u)) (build_idle w o b (news_of u))))
 told_holds (Sending w e share s) u = sending_goes w e share s u
 told_holds (Reporting w e) u = record { has = λ m h. absurd (none_some h); waits = λ m h t. absurd (none_some h); passes = (refl, refl) }
+told_holds (Storing share) (outcome.Granted news.Done) = apart_goes (Storing share) (outcome.Granted news.Done) (stored share) refl (stored_apart share)
+told_holds (Storing share) (outcome.Granted _) = tt
+told_holds (Storing share) _ = tt
+told_holds Stored (outcome.Settled (Ok receipt)) = tt
+told_holds Stored (outcome.Settled (Err f)) = tt
+told_holds Stored (outcome.Granted news.Done) = apart_goes Stored (outcome.Granted news.Done) (Stays Stored Rest) refl ((refl, refl), refl)
+told_holds Stored (outcome.Granted _) = tt
+told_holds Stored _ = tt
+told_holds (Batching w e b) u =
+    either_so (GoesSo (Batching w e b) u) (overrides u) (batches_on w e (batches.halted b)) (batches_on w e (batches.told w e b (news_of u)))
+    (batch_halted w e b u) (batch_told w e b u)
 told_holds (Leaving f) u = tt
 told_holds (Gathering first count left failures) (outcome.Parted t f) =
     apart_goes (Gathering first count left failures) (outcome.Parted t f) (gathers first count (left - 1) (failed_with t f failures)) refl
@@ -505,9 +658,13 @@ begins_holds (procedure.Produce w o) =
     apart_begins (builds w o (produce.build_begins w o)) (builds_apart w o (produce.build_begins w o) (names_idle (search.names_begins w o.topic)))
 begins_holds (procedure.Send w e None m) = (refl, refl)
 begins_holds (procedure.Send w e (Some share) m) = (refl, refl)
+begins_holds (procedure.Store n share e) = (refl, tt)
+begins_holds (procedure.Batch w e) = (refl, tt)
 begins_holds (procedure.FailShare share r) = (refl, tt)
 begins_holds (procedure.Gather first count) = apart_begins (gathers first count count []) (gathers_apart first count count [])
 begins_holds (procedure.Go round []) = tt
-begins_holds (procedure.Go round (n ∷ ns)) = (refl, refl)
+begins_holds (procedure.Go Checks (n ∷ ns)) = (refl, refl)
+begins_holds (procedure.Go Flushes (n ∷ ns)) = (refl, tt)
+begins_holds (procedure.Go Closes (n ∷ ns)) = (refl, tt)
 begins_holds (procedure.Close t ns) = (refl, tt)
 begins_holds (procedure.Refuse r) = tt

@@ -1,11 +1,10 @@
 -- One that does nothing waits for nothing. So all that it is told is what parts of calls say.
-use Rattle.std.proofs.Common.{◌≡◌, ◌⊎◌, inl, inr, ◌∙◌, sym, ap, subst, ℕ, ◌+◌, ◌≤◌, ◌==◌, arith, List, [], ◌∷◌, ◌++◌, refl, Bool, true, false, cond, nat_lt, not, Option, Some, None}
+use Rattle.std.proofs.Common.{◌≡◌, ◌⊎◌, inl, inr, ◌∙◌, sym, ap, subst, ℕ, ◌+◌, ◌≤◌, ◌==◌, arith, List, [], ◌∷◌, ◌++◌, refl, Bool, true, false, cond, not, Option, Some, None}
 use Rattle.std.proofs.lemmas.Bool.{cases_Bool}
 use Rattle.std.specs.BTreeMap.{insert_entry}
-use Rattle.std.specs.BTreeSet.{insert_key}
 use Rattle.std.specs.Map.{lookup}
-use Rattle.std.specs.Option.{is_some, option_map}
-use Rattle.std.specs.Ordering.{match_ordering, nat_cmp}
+use Rattle.std.specs.Option.{option_map}
+use Rattle.std.specs.Ordering.{match_ordering}
 use Rattle.std.specs.declared.cmp.Ordering.{Ordering}
 use Rattle.std.specs.declared.cmp.Ordering.TheVariants.{Less, Equal, Greater}
 use Rattle.pulsar_run.specs.Laws.{In, InThisStep}
@@ -14,16 +13,16 @@ use Rattle.pulsar_messages.specs.Words.{Words}
 use Rattle.pulsar_session.specs.Link.{is_spent}
 use Rattle.pulsar_plans.specs.Address.{Place}
 use Rattle.pulsar_producer.specs.Topic as topic
-use Rattle.pulsar_producer.specs.Topic.{Act as TopicAct, Setup, Takes, Passes, Draws, Remakes, Closes, Seen, rest_of}
+use Rattle.pulsar_producer.specs.Topic.{Act as TopicAct}
 use Rattle.pulsar_producer.specs.declared.deed.News.{News}
 use Rattle.pulsar_producer.specs.declared.deed.News.TheVariants as news
 use Rattle.pulsar_requests.specs.Soonest.{has_come}
 use Rattle.pulsar_client.specs.declared.act.Act.{Act}
 use Rattle.pulsar_client.specs.declared.act.Act.TheVariants.{Comes, Starts, Told, Does, Answers, Dials}
 use Rattle.pulsar_client.specs.declared.act.Action.{Action}
-use Rattle.pulsar_client.specs.declared.act.Action.TheVariants.{Get, Ask, Wait, TakeTurn, PassTurn, Rest, StopAll}
+use Rattle.pulsar_client.specs.declared.act.Action.TheVariants.{Get, Ask, Wait, TakeTurn, Shut, Store, Flush, Tell, TellAll, Rest, StopAll}
 use Rattle.pulsar_client.specs.declared.act.Alarm.{Alarm}
-use Rattle.pulsar_client.specs.declared.act.Alarm.TheVariants.{Retry, Wake, KeepAlive, CheckIdle}
+use Rattle.pulsar_client.specs.declared.act.Alarm.TheVariants.{Retry, Wake, Batch, KeepAlive, CheckIdle}
 use Rattle.pulsar_client.specs.declared.act.LinkAct.{LinkAct}
 use Rattle.pulsar_client.specs.declared.act.LinkAct.TheVariants.{Opens, Reads, Drains, Pings, Ends}
 use Rattle.pulsar_client.specs.declared.act.Outcome.{Outcome}
@@ -33,7 +32,7 @@ use Rattle.pulsar_client.specs.declared.act.Procedure.{Procedure}
 use Rattle.pulsar_client.specs.declared.act.Procedure.TheVariants as procedure
 use Rattle.pulsar_client.specs.declared.act.Verdict.{Verdict}
 use Rattle.pulsar_client.specs.declared.act.Who.{Who}
-use Rattle.pulsar_client.specs.declared.act.Who.TheVariants.{Call}
+use Rattle.pulsar_client.specs.declared.act.Who.TheVariants.{Call, Producer}
 use Rattle.pulsar_client.specs.declared.addresses.Pause.{Pause}
 use Rattle.pulsar_client.specs.declared.addresses.Series.{Series}
 use Rattle.pulsar_client.specs.declared.addresses.Series.TheVariants.{Nobody, Runs, Pauses, Serves}
@@ -44,28 +43,27 @@ use Rattle.pulsar_client.specs.declared.plans.plan.Turn.TheVariants.{Stays, Give
 use Rattle.pulsar_client.specs.declared.producers.Topic.{Topic}
 use Rattle.pulsar_client.specs.Alarms.{alarm_cmp, clear, is_same_alarm, moment_of, rings, set}
 use Rattle.pulsar_client.specs.Content.{Heard, Bytes}
-use Rattle.pulsar_client.specs.Laws.{Acts, AttemptEnds, BecomesReady, Cause, DrawsNone, Finds, GetsTurn, GrantsSo, IsReplied, IsUnknown, IsWoken, LineEnds, MovesUp, RequestEnds, counted, start_of, started}
+use Rattle.pulsar_client.specs.Laws.{Acts, AttemptEnds, BecomesReady, Cause, DrawsNone, Finds, GetsTurn, GrantsSo, IsDropped, IsReady, IsReplied, IsToldBy, IsUnknown, IsWoken, LineEnds, MovesUp, RequestEnds, counted, start_of, started}
 use Rattle.pulsar_client.specs.Links.{Change, Remains, Becomes, IsOver}
 use Rattle.pulsar_client.specs.Plan.{begins, gathers, told}
-use Rattle.pulsar_client.specs.Producers.{turn_passed}
-use Rattle.pulsar_client.specs.ProducerLaws.{acts_on, topic_acts}
+use Rattle.pulsar_client.specs.Producers.{is_bare, numbers_at, stored_at, timeout_at, topic_after, turn_passed}
 use Rattle.pulsar_client.specs.Rules.{notice}
 use Rattle.pulsar_client.specs.Run.{Entry, Begins, Then, IsRun, view}
-use Rattle.pulsar_client.specs.View.{Addresses, Base, Chosen, Options, Seat, Turned, View, after, alarms_after, alarms_on, alarms_over, alarms_rung, alarms_turned, asker_at, base_after, base_on, base_turned, begun_live, got_at, is_live, link_got, live_after, live_begun, nobody, seat_asked, seat_fed, seat_got, stays, stays_some, told_some, took_end, took_some, turned, waits_for, waits_on}
-use Rattle.pulsar_client.specs.Who.{is_same}
+use Rattle.pulsar_client.specs.View.{Addresses, Base, Chosen, Options, Seat, Turned, View, after, alarms_after, alarms_on, alarms_on_topic, alarms_over, alarms_rung, alarms_turned, alarms_waiting, asker_at, base_after, base_on, base_turned, begun_live, clear_all, got_at, is_live, link_got, live_after, live_begun, nobody, seat_asked, seat_fed, seat_got, stays, stays_some, told_some, took_end, took_some, turned, waits_for, waits_from, waits_on}
+use Rattle.pulsar_client.specs.Who.{behind_all, in_turn, is_same, turn_of}
 use Rattle.pulsar_client.proofs.Acts.{Each, begun_same}
 use Rattle.pulsar_client.proofs.Caused.{outcomes_are_caused_lem}
 use Rattle.pulsar_client.proofs.Fitting.{is_said}
 use Rattle.pulsar_client.proofs.Follow.{same_is}
 use Rattle.pulsar_client.proofs.Gathered.{GatherTold}
-use Rattle.pulsar_client.proofs.Granted.{BeginsSo, IsLedSo, does_from}
+use Rattle.pulsar_client.proofs.Granted.{BeginsSo, IsLedSo, does_from, tell_said}
 use Rattle.pulsar_client.proofs.Once.{ends_once_lem}
 use Rattle.pulsar_client.proofs.Natures.{Goes, StaysSo, begins_goes, is_gathering, told_goes}
 use Rattle.pulsar_client.proofs.Ringing.{is_this}
-use Rattle.pulsar_client.proofs.Sources.{in_append, in_each, in_one, step_some}
+use Rattle.pulsar_client.proofs.Sources.{in_append, in_each, step_some}
 use Rattle.pulsar_client.proofs.Spots.{same_self}
-use Rattle.pulsar_client.proofs.Topics.{topics_alone_lem}
-use Rattle.pulsar_client.proofs.Turns.{LeavesTurn, acts_left, passes_it, takes_it}
+use Rattle.pulsar_client.proofs.Ticketed.{has_begun}
+use Rattle.pulsar_client.proofs.Users.{DoesSo, LogSo, NoticeSo, stored_so, tells_so, waits_so}
 
 none_some : {A : Type 0} {x : A} → None ≡ Some x → ⊥
 none_some {A} {x} h = cc
@@ -181,7 +179,7 @@ module _ (o : Options) (t first count : ℕ) where
       begun : BeginsSo o log (Call t) a → a ≡ Rest
       begun b =
           let only : OnlyStarts t (procedure.Gather first count) (Then (Starts (Call t) b.procedure) ∷ b.older) =
-              subst (OnlyStarts t (procedure.Gather first count)) b.is_there k in
+          subst (OnlyStarts t (procedure.Gather first count)) b.is_there k in
           let is : b.procedure ≡ procedure.Gather first count = only.0 (same_self (Call t)) in
           gathers_rest o t first count count [] b.plan a (sym (ap begins is) ∙ b.leads)
 
@@ -360,6 +358,7 @@ alarms_on_absent t o now (Some x) es k = change_absent t o now x.link x.change x
 rung_absent : (t : ℕ) (o : Chosen) (now : ℕ) (a : Alarm) (es : List (Alarm × ℕ)) → Each (NotWake t) es → Each (NotWake t) (alarms_rung o now a es)
 rung_absent t o now (Retry l) es k = clear_absent t (Retry l) es k
 rung_absent t o now (Wake who) es k = clear_absent t (Wake who) es k
+rung_absent t o now (Batch n) es k = clear_absent t (Batch n) es k
 rung_absent t o now (KeepAlive l) es k = set_absent t (KeepAlive l) _ es refl k
 rung_absent t o now CheckIdle es k = set_absent t CheckIdle _ es refl k
 
@@ -367,12 +366,35 @@ either_alarms : (t : ℕ) (b : Bool) (xs ys : List (Alarm × ℕ)) → Each (Not
 either_alarms t true xs ys h k = h
 either_alarms t false xs ys h k = k
 
+-- what is stored waits, or nothing is stored any longer
+from_absent : (t now : ℕ) (timeout : Option ℕ) (n : ℕ) (es : List (Alarm × ℕ)) → Each (NotWake t) es → Each (NotWake t) (waits_from now timeout n es)
+from_absent t now None n es k = k
+from_absent t now (Some delay) n es k = set_absent t (Batch n) _ es refl k
+
+waiting_absent : (t now : ℕ) (timeout : Option ℕ) (n : ℕ) (was is : Bool) (es : List (Alarm × ℕ)) → Each (NotWake t) es →
+    Each (NotWake t) (alarms_waiting now timeout n was is es)
+waiting_absent t now timeout n was true es k = clear_absent t (Batch n) es k
+waiting_absent t now timeout n true false es k = from_absent t now timeout n es k
+waiting_absent t now timeout n false false es k = k
+
+topic_absent : (t : ℕ) (v : View) (n : ℕ) (act : TopicAct) → Each (NotWake t) v.alarms → Each (NotWake t) (alarms_on_topic v n act)
+topic_absent t v n act k =
+    let row : Option Topic = v.producers.topics n in
+    waiting_absent t v.now (timeout_at v.producers row) n (is_bare row) (is_bare (option_map (topic_after act) row)) v.alarms k
+
+all_absent : (t : ℕ) (ns : List ℕ) (es : List (Alarm × ℕ)) → Each (NotWake t) es → Each (NotWake t) (clear_all ns es)
+all_absent t [] es k = k
+all_absent t (n ∷ ns) es k = all_absent t ns (clear (Batch n) es) (clear_absent t (Batch n) es k)
+
 alarms_absent : (t : ℕ) (v : View) (a : Act) → MuteBy t a → Each (NotWake t) v.alarms → Each (NotWake t) (alarms_after v a)
 alarms_absent t v (Comes (ToLink l x)) mute k = alarms_on_absent t v.chosen v.now (turned v (Comes (ToLink l x))) v.alarms k
 alarms_absent t v (Comes (Rings a)) mute k =
     either_alarms t (rings v.now a v.alarms) (alarms_rung v.chosen v.now a v.alarms) v.alarms (rung_absent t v.chosen v.now a v.alarms k) k
 alarms_absent t v (Does who (Wait delay)) mute k =
     set_absent t (Wake who) _ v.alarms (other_wake t who (other_does t who (Wait delay) mute (λ e. (let no : Wait delay ≡ Rest = e in cc)))) k
+alarms_absent t v (Does who (Store n x)) mute k = topic_absent t v n (topic.Stores (turn_of who) x) k
+alarms_absent t v (Does who (Flush n)) mute k = topic_absent t v n (topic.Flushes (turn_of who)) k
+alarms_absent t v (Does who (Shut u)) mute k = all_absent t (numbers_at (v.producers.built u)) v.alarms k
 alarms_absent t v (Does who StopAll) mute k = tt
 alarms_absent t v (Answers who verdict) mute k = either_alarms t _ _ v.alarms (set_absent t CheckIdle _ v.alarms refl k) k
 alarms_absent t v _ mute k = k
@@ -394,75 +416,34 @@ absent_run o t (Begins e ∷ log) mute =
     ]
 absent_run o t (Then a ∷ log) mute = then_absent t (view o log) a mute.0 (absent_run o t log mute.1)
 
--- TURNS
+-- TURNS AND BATCHES
 
-in_insert : (t k : ℕ) (xs : List ℕ) → In t (insert_key nat_cmp xs k) → In t xs ⊎ (t ≡ k)
-in_insert t k [] (inl e) = inr e
-in_insert t k [] (inr h) = absurd h
-in_insert t k (x ∷ xs) h = by (nat_lt k x) (k == x) (in_insert t k xs) h
-  where
-    by : (a b : Bool) → (In t (insert_key nat_cmp xs k) → In t xs ⊎ (t ≡ k)) →
-        In t (match_ordering (cond a Less (cond b Equal Greater)) (k ∷ x ∷ xs) (x ∷ xs) (x ∷ insert_key nat_cmp xs k)) → In t (x ∷ xs) ⊎ (t ≡ k)
-    by true b more (inl e) = inr e
-    by true b more (inr h) = inl h
-    by false true more h = inl h
-    by false false more (inl e) = inl (inl e)
-    by false false more (inr h) = elim (more h) [ inl i ↦ inl (inr i) | inr e ↦ inr e ]
+-- what it takes, stores or flushes has not its ticket
+abbrev Other : ℕ → ℕ → Type 0
+Other t u = t ≡ u → ⊥
 
-in_rest : (t : ℕ) (xs : List ℕ) → In t (rest_of xs) → In t xs
-in_rest t [] h = h
-in_rest t (x ∷ xs) h = inr h
+turn_other : (t : ℕ) (who : Who) → is_spent t ≡ false → (Call t ≡ who → ⊥) → Other t (turn_of who)
+turn_other t (Call u) unspent other e = other (ap Call e)
+turn_other t (Producer n) unspent other e = let f : false ≡ true = sym unspent ∙ ap is_spent e in absurd cc
 
-one_waits : (t : ℕ) (a : TopicAct) (v : Seen) → In t (topic.after a v).waiting → In t v.waiting ⊎ (a ≡ Takes t)
-one_waits t (Takes x) v h = by v.holder h
-  where
-    by : (r : Option ℕ) → In t (topic.takes_in r x v).waiting → In t v.waiting ⊎ (Takes x ≡ Takes t)
-    by None i = inl i
-    by (Some other) i = elim (in_insert t x v.waiting i) [ inl j ↦ inl j | inr e ↦ inr (ap Takes (sym e)) ]
-one_waits t Passes v h = inl (in_rest t v.waiting h)
-one_waits t Draws v h = inl (by (is_spent v.next) h)
-  where
-    by : (b : Bool) → In t (cond b v (record v { next = v.next + 1 })).waiting → In t v.waiting
-    by true i = i
-    by false i = i
-one_waits t (Remakes l g) v h = inl h
-one_waits t Closes v h = inl h
+mute_does : (t : ℕ) → is_spent t ≡ false → (a : Act) → MuteBy t a → DoesSo (Other t) a
+mute_does t unspent (Does who (TakeTurn n)) mute =
+    turn_other t who unspent (other_does t who (TakeTurn n) mute (λ e. (let no : TakeTurn n ≡ Rest = e in cc)))
+mute_does t unspent (Does who (Store n x)) mute = turn_other t who unspent (other_does t who (Store n x) mute (λ e. (let no : Store n x ≡ Rest = e in cc)))
+mute_does t unspent (Does who (Flush n)) mute = turn_other t who unspent (other_does t who (Flush n) mute (λ e. (let no : Flush n ≡ Rest = e in cc)))
+mute_does t unspent _ mute = tt
 
--- who waits has taken
-waits_took : (t : ℕ) (s : Setup) (acts : List TopicAct) → In t (topic.seen s acts).waiting → In (Takes t) acts
-waits_took t s [] h = absurd h
-waits_took t s (a ∷ acts) h = elim (one_waits t a (topic.seen s acts) h) [ inl i ↦ inr (waits_took t s acts i) | inr e ↦ inl (sym e) ]
+mute_log : (t : ℕ) → is_spent t ≡ false → (log : List Entry) → Mute t log → LogSo (Other t) log
+mute_log t unspent [] mute = tt
+mute_log t unspent (Begins e ∷ log) mute = mute_log t unspent log mute
+mute_log t unspent (Then a ∷ log) mute = (mute_does t unspent a mute.0, mute_log t unspent log mute.1)
 
-none_took : (t : ℕ) (v : View) (n : ℕ) (a : Act) → takes_it a ≡ false → passes_it a ≡ false → In (Takes t) (topic_acts v n a) → ⊥
-none_took t v n a x y i =
-    let f : LeavesTurn (Takes t) = in_each LeavesTurn (Takes t) (topic_acts v n a) i (acts_left v n a x y) in let g : false ≡ true = f in cc
-
-act_took : (t : ℕ) (v : View) (n : ℕ) (a : Act) → MuteBy t a → In (Takes t) (topic_acts v n a) → ⊥
-act_took t v n (Does (Call u) (TakeTurn m)) mute i =
-    let k = in_one (n == m) (Takes u) (Takes t) i in
-    let e : t ≡ u = (let f : Takes t ≡ Takes u = k.1 in cc) in
-    other_does t (Call u) (TakeTurn m) mute (λ e. (let no : TakeTurn m ≡ Rest = e in cc)) (ap Call e)
-act_took t v n (Does who (PassTurn m)) mute i =
-    let k = in_one (n == m) Passes (Takes t) i in let f : Takes t ≡ Passes = k.1 in cc
-act_took t v n (Does who x) mute i = none_took t v n (Does who x) refl refl i
-act_took t v n a mute i = none_took t v n a refl refl i
-
-acts_took : (o : Options) (t n : ℕ) (log : List Entry) → Mute t log → In (Takes t) (acts_on o n log) → ⊥
-acts_took o t n [] mute i = i
-acts_took o t n (Begins e ∷ log) mute i = acts_took o t n log mute i
-acts_took o t n (Then a ∷ log) mute i = by (is_some ((view o log).producers.topics n)) (acts_took o t n log mute.1) i
-  where
-    by : (b : Bool) → (In (Takes t) (acts_on o n log) → ⊥) → In (Takes t) (cond b (topic_acts (view o log) n a ++ acts_on o n log) []) → ⊥
-    by true more j = elim (in_append (Takes t) (topic_acts (view o log) n a) (acts_on o n log) j)
-        [ inl h ↦ act_took t (view o log) n a mute.0 h | inr h ↦ more h ]
-    by false more j = j
-
-no_turn : (o : Options) (t n : ℕ) (log : List Entry) (row : Topic) → IsRun o log → Mute t log → (view o log).producers.topics n ≡ Some row →
-    In t row.seen.waiting → ⊥
-no_turn o t n log row run mute is i =
-    let k = topics_alone_lem o log n row run is in
-    let s : Setup = record { built = k.0; first_number = o.chosen.first_number } in
-    acts_took o t n log mute (waits_took t s (acts_on o n log) (subst (λ v. In t v.waiting) k.2 i))
+-- a call has a turn by its ticket
+is_turn : (t number turn : ℕ) → Call t ≡ in_turn number turn → t ≡ turn
+is_turn t number turn h = elim (cases_Bool (turn == behind_all)) [
+  | inl e ↦ (let f : Call t ≡ Producer number = rw e at h in absurd cc)
+  | inr e ↦ (let f : Call t ≡ Call turn = rw e at h in cc)
+]
 
 abbrev with_version : Option (List ℕ) → ℕ → ℕ × Option (List ℕ)
 with_version version ticket = (ticket, version)
@@ -495,7 +476,8 @@ no_draw Disconnected v h = h
 no_draw Exhausted v h = h
 no_draw _ v h = h
 
-module _ (o : Options) (t : ℕ) (e : Entry) (older : List Entry) (run : IsRun o older) (mute : Mute t (e ∷ older)) where
+module _ (o : Options) (t : ℕ) (unspent : is_spent t ≡ false) (e : Entry) (older : List Entry) (run : IsRun o older) (here : IsRun o (e ∷ older))
+    (mute : Mute t (e ∷ older)) where
   abbrev v : View
   v = view o older
 
@@ -541,18 +523,45 @@ module _ (o : Options) (t : ℕ) (e : Entry) (older : List Entry) (run : IsRun o
   no_wake : IsWoken o (Call t) e older → ⊥
   no_wake (is, r) = let f : false ≡ true = sym (ap (has_come v.now) (moment_none t v.alarms absent.alarm)) ∙ r in cc
 
+  others : LogSo (Other t) older
+  others = mute_log t unspent older before
+
   no_turn_given : (n : News) → GetsTurn o (Call t) n e older → ⊥
-  no_turn_given n (other, number, ticket, version, is, same, d, next) =
-      let k = passed_waits ticket version (v.producers.topics number) next in
-      let own : t ≡ ticket = cc in
-      no_turn o t number older k.0 run before k.1 (subst (λ x. In x k.0.seen.waiting) (sym own) k.2)
+  no_turn_given n (other, number, turn, version, is, same, d, next) =
+      let k = passed_waits turn version (v.producers.topics number) next in
+      waits_so (Other t) o number turn older k.0 run others k.1 k.2 (is_turn t number turn same)
+
+  no_batch : (n : News) → IsReady o (Call t) n e older → ⊥
+  no_batch n k = let f : Call t ≡ Producer k.0 = k.2 in cc
+
+  not_said : (u : Outcome) → is_said u ≡ false → IsToldBy (Call t) u e older → ⊥
+  not_said u other (w, inl is) =
+      let r : IsRun o (Then (Does w (Tell (notice (Call t) u))) ∷ older) = subst (λ x. IsRun o (x ∷ older)) is here in
+      let f : false ≡ true = sym other ∙ tell_said o older w (notice (Call t) u) r in
+      cc
+  not_said u other (w, inr (ns, is, i)) =
+      let r : IsRun o (Then (Does w (TellAll ns)) ∷ older) = subst (λ x. IsRun o (x ∷ older)) is here in
+      (in_each (NoticeSo (Other t)) (notice (Call t) u) ns i (tells_so (Other t) o older w ns r others)) refl
+
+  not_stored : (number ticket : ℕ) (row : Option Topic) → v.producers.topics number ≡ row → Call t ≡ Call ticket → In ticket (stored_at row) → ⊥
+  not_stored number ticket None there same i = i
+  not_stored number ticket (Some row) there same i =
+      stored_so (Other t) o number ticket older row run others there i (let f : t ≡ ticket = cc in f)
+
+  not_dropped : (u : Outcome) → IsDropped o (Call t) u e older → ⊥
+  not_dropped u (other, producer, number, ticket, is, same, among, stored, d) =
+      not_stored number ticket (v.producers.topics number) refl same stored
 
   only_said : (u : Outcome) → Cause o (Call t) u e older → is_said u ≡ true
   only_said (outcome.GotLink l) (inl (p, is, h)) = absurd (no_get p is)
   only_said (outcome.GotLink l) (inr (inl h)) = absurd (no_ready l h)
   only_said (outcome.GotLink l) (inr (inr h)) = absurd (no_act (Finds l) (λ x. x) h)
   only_said (outcome.Granted n) (inl h) = absurd (no_act (GrantsSo n) (no_grant n v) h)
-  only_said (outcome.Granted n) (inr h) = absurd (no_turn_given n h)
+  only_said (outcome.Granted n) (inr (inl h)) = absurd (no_turn_given n h)
+  only_said (outcome.Granted n) (inr (inr (inl h))) = absurd (no_batch n h)
+  only_said (outcome.Granted n) (inr (inr (inr h))) = absurd (not_said (outcome.Granted n) refl h)
+  only_said (outcome.Settled f) (inl h) = absurd (not_said (outcome.Settled f) refl h)
+  only_said (outcome.Settled f) (inr h) = absurd (not_dropped (outcome.Settled f) h)
   only_said (outcome.Parted u f) h = refl
   only_said outcome.NotFound (p, is, h) = absurd (no_get p is)
   only_said (outcome.Failed kind) h = absurd (no_attempt (outcome.Failed kind) h)
@@ -572,17 +581,18 @@ module _ (o : Options) (t : ℕ) (e : Entry) (older : List Entry) (run : IsRun o
   only_said outcome.Stopped h = refl
 
 step_mute : (o : Options) (t : ℕ) (P : Entry → List Entry → Type 0) (log : List Entry) → IsRun o log → Mute t log → InThisStep P log →
-    InThisStep (λ e older. IsRun o older × Mute t (e ∷ older) × P e older) log
+    InThisStep (λ e older. IsRun o older × IsRun o (e ∷ older) × Mute t (e ∷ older) × P e older) log
 step_mute o t P [] run mute i = absurd i
-step_mute o t P (Begins e ∷ log) run mute i = (run.0, mute, i)
-step_mute o t P (Then a ∷ log) run mute (inl i) = inl (run.0, mute, i)
+step_mute o t P (Begins e ∷ log) run mute i = (run.0, run, mute, i)
+step_mute o t P (Then a ∷ log) run mute (inl i) = inl (run.0, run, mute, i)
 step_mute o t P (Then a ∷ log) run mute (inr i) = inr (step_mute o t P log run.0 mute.1 i)
 
-told_said : (o : Options) (t : ℕ) (u : Outcome) (log : List Entry) → IsRun o (Then (Told (notice (Call t) u)) ∷ log) → Mute t log → is_said u ≡ true
-told_said o t u log run mute =
-    let some = step_some (λ e older. IsRun o older × Mute t (e ∷ older) × Cause o (Call t) u e older) log
+told_said : (o : Options) (t : ℕ) (u : Outcome) (log : List Entry) → is_spent t ≡ false → IsRun o (Then (Told (notice (Call t) u)) ∷ log) → Mute t log →
+    is_said u ≡ true
+told_said o t u log unspent run mute =
+    let some = step_some (λ e older. IsRun o older × IsRun o (e ∷ older) × Mute t (e ∷ older) × Cause o (Call t) u e older) log
     (step_mute o t (Cause o (Call t) u) log run.0 mute (outcomes_are_caused_lem o log (Call t) u run)) in
-    only_said o t some.entry some.older some.holds.0 some.holds.1 u some.holds.2
+    only_said o t unspent some.entry some.older some.holds.0 some.holds.1 some.holds.2 u some.holds.3
 
 said_is : (u : Outcome) → is_said u ≡ true → (u ≡ outcome.Stopped) ⊎ ((ticket : ℕ) × (f : Option Failure) × (u ≡ outcome.Parted ticket f))
 said_is (outcome.Parted ticket f) h = inr (ticket, f, refl)
@@ -593,4 +603,4 @@ pub gather_told : GatherTold
 gather_told o log t u first count run h =
     let once : counted (start_of t) log ≤ 1 = (ends_once_lem o log t run.0).0 in
     let mute : Mute t log = mute_run o t first count log run.0 (only_start t (procedure.Gather first count) log h once) in
-    said_is u (told_said o t u log run mute)
+    said_is u (told_said o t u log (has_begun o log (Call t) (procedure.Gather first count) run.0 h) run mute)

@@ -3,7 +3,8 @@ use Rattle.std.proofs.Common.{◌≡◌, ◌⊎◌, inl, inr, ◌∙◌, sym, ap
 use Rattle.pulsar_run.specs.Run.{rest}
 use Rattle.pulsar_session.specs.Failures.{Exhausted}
 use Rattle.pulsar_client.specs.declared.act.Act.{Act}
-use Rattle.pulsar_client.specs.declared.act.Act.TheVariants.{Comes, Starts, Told, Does}
+use Rattle.pulsar_client.specs.declared.act.Act.TheVariants.{Comes, Starts, Told, Does, Answers}
+use Rattle.pulsar_client.specs.declared.act.Action.{Action}
 use Rattle.pulsar_client.specs.declared.act.Action.TheVariants.{Rest}
 use Rattle.pulsar_client.specs.declared.act.Notice.{Notice}
 use Rattle.pulsar_client.specs.declared.act.Part.TheVariants.{Calls}
@@ -17,11 +18,12 @@ use Rattle.pulsar_client.specs.declared.plans.plan.Turn.TheVariants.{Stays, Give
 use Rattle.pulsar_client.specs.Content.{Asked, lacks_tickets, shares}
 use Rattle.pulsar_client.specs.Laws.{Deed, Acted, Answered, ComesLate, DeedsFollow, IsToldSo, Leads, StartsSo, act_of}
 use Rattle.pulsar_client.specs.Plan.{begins, fails, told}
-use Rattle.pulsar_client.specs.Rules.{at_once, follows, follows_some, performs, starts}
-use Rattle.pulsar_client.specs.Run.{Entry, Begins, Then, agenda, view}
-use Rattle.pulsar_client.specs.View.{Options, View, told_some}
+use Rattle.pulsar_client.specs.Rules.{at_once, follows, follows_some, left_with, performs, starts}
+use Rattle.pulsar_client.specs.Run.{Entry, Begins, Then, IsRun, agenda, view}
+use Rattle.pulsar_client.specs.View.{Options, View, told_some, ways_of}
 use Rattle.pulsar_client.proofs.Acts.{Each, each_map, first_case, is_served, late}
-use Rattle.pulsar_client.proofs.Follow.{NoDeed, follows_run, is_deed, left_plain, performs_none, quiet_no_deed, starts_none}
+use Rattle.pulsar_client.proofs.Follow.{NoDeed, follows_run, is_deed, left_no_deed, left_plain, performs_none, quiet_no_deed, starts_none}
+use Rattle.pulsar_client.proofs.Natures.{Goes, KindBegun, KindOf, StaysSo, TellsSo, begins_goes, told_goes}
 use Rattle.pulsar_client.proofs.Quiet.{IsQuiet, comes_quiet}
 
 is_one : (w : Who) (d : Deed) → is_deed (act_of w d) ≡ true
@@ -83,6 +85,8 @@ module _ (o : Options) (older : List Entry) (w : Who) (d : Deed) where
   once_led (Starts who p) ys h = starts_so who p (led who w d (begins p) ys h)
   once_led (Told n) ys h = told_so n (v.stand n.who) ys refl h
   once_led (Does who action) ys h = absurd (not_deed w d (performs v who action) ys (performs_none v who action) h)
+  once_led (Answers who verdict) ys h =
+      absurd (not_deed w d (left_with (ways_of v.chosen) verdict.makes) ys (left_no_deed (ways_of v.chosen) verdict.makes) h)
   once_led _ ys h = absurd cc
 
   head_led : (a : Act) (xs ys zs : List Act) → xs ≡ at_once v a → Each NoDeed ys → xs ++ ys ≡ act_of w d ∷ zs → IsLedBy a
@@ -108,4 +112,16 @@ deeds_follow_lem o (Then a ∷ older) w d run =
             (left_plain o older a (follows_run o older run.0.0) run.0.1) h,
       )
       | inr h ↦ absurd (not_served w d h.2)
+    ]
+
+-- so what a plan tells others is such as its kind tells
+pub tells_so : (o : Options) (log : List Entry) (w : Who) (action : Action) → IsRun o (Then (Does w action) ∷ log) → TellsSo action
+tells_so o log w action run =
+    let k = deeds_follow_lem o log w (Acted action) run in
+    elim k.3 [
+      | inl s ↦ (subst (StaysSo (Goes (KindBegun s.0))) s.2.1 (begins_goes s.0)).1
+      | inr m ↦ elim m [
+        | inl t ↦ (subst (StaysSo (Goes (KindOf t.1))) t.4.1 (told_goes t.1 t.0)).1
+        | inr late ↦ (let f : Acted action ≡ Answered _ = late.5 in absurd cc)
+      ]
     ]

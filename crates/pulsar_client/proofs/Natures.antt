@@ -1,7 +1,9 @@
 -- What kind of plan a plan is, and that it stays one of that kind; and what plans tell one another.
-use Rattle.std.proofs.Common.{◌≡◌, ◌⊎◌, ℕ, List, [], ◌∷◌, refl, Bool, true, false, cond, Option, Some, None, Result, Ok, Err, ◌==◌}
+use Rattle.std.proofs.Common.{◌≡◌, ◌⊎◌, ℕ, List, [], ◌∷◌, refl, map, Bool, true, false, cond, Option, Some, None, Result, Ok, Err, ◌==◌}
 use Rattle.std.proofs.lemmas.Bool.{cases_Bool}
 use Rattle.std.specs.Prelude.{◌&&◌, not}
+use Rattle.pulsar_wire.specs.Row.{Values}
+use Rattle.pulsar_wire.specs.Rows.{send_receipt}
 use Rattle.pulsar_session.specs.Failures.{Failure, Fault}
 use Rattle.pulsar_session.specs.Reply.{Reply as Content}
 use Rattle.pulsar_link.specs.Messages.{Reply}
@@ -15,7 +17,13 @@ use Rattle.pulsar_plans.specs.declared.turn.Action.TheVariants as wish
 use Rattle.pulsar_plans.specs.declared.turn.Turn.{Turn as SearchTurn}
 use Rattle.pulsar_plans.specs.declared.turn.Turn.TheVariants as search_turn
 use Rattle.pulsar_plans.specs.declared.turn.Ways.{Ways}
+use Rattle.pulsar_producer.specs.Batching as batches
 use Rattle.pulsar_producer.specs.Plans as produce
+use Rattle.pulsar_producer.specs.declared.batch.Fate.{Fate}
+use Rattle.pulsar_producer.specs.declared.batch.Fate.TheVariants as fate
+use Rattle.pulsar_producer.specs.declared.batch.Report.{Report}
+use Rattle.pulsar_producer.specs.declared.batching.Batching.{Batching as Batches}
+use Rattle.pulsar_producer.specs.declared.batching.Goes.{Goes as Next}
 use Rattle.pulsar_producer.specs.declared.building.Building.{Building as Build}
 use Rattle.pulsar_producer.specs.declared.building.Order.{Order}
 use Rattle.pulsar_producer.specs.declared.content.Built.{Built}
@@ -28,23 +36,28 @@ use Rattle.pulsar_producer.specs.declared.deed.Step.TheVariants as step
 use Rattle.pulsar_producer.specs.declared.sending.Errand.{Errand}
 use Rattle.pulsar_producer.specs.declared.sending.Sending.{Sending as Send}
 use Rattle.pulsar_client.specs.declared.act.Action.{Action}
-use Rattle.pulsar_client.specs.declared.act.Action.TheVariants.{Tell}
+use Rattle.pulsar_client.specs.declared.act.Action.TheVariants.{Tell, TellAll}
+use Rattle.pulsar_client.specs.declared.act.Notice.{Notice}
 use Rattle.pulsar_client.specs.declared.act.Outcome.{Outcome}
 use Rattle.pulsar_client.specs.declared.act.Outcome.TheVariants as outcome
 use Rattle.pulsar_client.specs.declared.act.Place.TheVariants.{At, Link}
 use Rattle.pulsar_client.specs.declared.act.Procedure.{Procedure}
 use Rattle.pulsar_client.specs.declared.act.Procedure.TheVariants as procedure
 use Rattle.pulsar_client.specs.declared.act.Round.{Round}
+use Rattle.pulsar_client.specs.declared.act.Round.TheVariants.{Checks, Flushes, Closes}
 use Rattle.pulsar_client.specs.declared.act.Share.{Share}
 use Rattle.pulsar_client.specs.declared.act.Verdict.{Verdict}
+use Rattle.pulsar_client.specs.declared.act.Who.{Who}
+use Rattle.pulsar_client.specs.declared.act.Who.TheVariants.{Call}
 use Rattle.pulsar_client.specs.declared.plans.plan.At.{At as Spot}
 use Rattle.pulsar_client.specs.declared.plans.plan.At.TheVariants as at
 use Rattle.pulsar_client.specs.declared.plans.plan.Plan.{Plan}
-use Rattle.pulsar_client.specs.declared.plans.plan.Plan.TheVariants.{Building, Getting, Asking, Awaiting, Searching, Producing, Sending, Reporting, Leaving, Gathering, Shutting, Visiting, Stopping}
+use Rattle.pulsar_client.specs.declared.plans.plan.Plan.TheVariants.{Building, Getting, Asking, Awaiting, Searching, Producing, Sending, Reporting, Storing, Stored, Batching, Leaving, Gathering, Shutting, Visiting, Stopping}
 use Rattle.pulsar_client.specs.declared.plans.plan.Turn.{Turn}
 use Rattle.pulsar_client.specs.declared.plans.plan.Turn.TheVariants.{Stays, Gives}
 use Rattle.pulsar_client.specs.declared.plans.plan.Wanted.{Wanted}
-use Rattle.pulsar_client.specs.Plan.{action_of, asks_of, begins, builds, fails_in, goes, goes_on_sending, goes_round, gathers, halted, in_asking, in_awaiting, in_finding, in_passing, in_turning, is_answer, is_sent, leaves, news_in, news_of, overrides, sends_stay, stands, told, told_at, told_send, visited, waits, wished}
+use Rattle.pulsar_client.specs.Plan.{action_of, asks_of, batches_on, begins, builds, fails_in, goes, goes_on_sending, goes_round, gathers, halted, in_asking, in_awaiting, in_finding, in_passing, in_settling, in_stored, in_storing, in_turning, is_answer, is_sent, is_settled, leaves, news_in, news_of, overrides, sends_stay, settled, stands, stored, told, told_at, told_batch, told_of, told_send, told_to, visited, visits, waits, wished}
+use Rattle.pulsar_client.proofs.Acts.{Each}
 
 -- where a turn stays, the plan and what it does are so
 abbrev pub StaysSo : (Plan → Action → Type 0) → Turn Plan Verdict → Type 0
@@ -81,6 +94,15 @@ abbrev pub is_gathering : Plan → Bool
 is_gathering (Gathering first count left failures) = true
 is_gathering _ = false
 
+abbrev pub is_storing : Plan → Bool
+is_storing (Storing share) = true
+is_storing Stored = true
+is_storing _ = false
+
+abbrev pub is_batching : Plan → Bool
+is_batching (Batching w e b) = true
+is_batching _ = false
+
 -- a plan of none of these
 abbrev pub is_other : Plan → Bool
 is_other Building = true
@@ -100,15 +122,33 @@ KindOf (Leaving f) = is_leaving
 KindOf (Shutting ns) = is_visiting
 KindOf (Visiting r n left x) = is_visiting
 KindOf (Gathering first count left failures) = is_gathering
+KindOf (Storing share) = is_storing
+KindOf Stored = is_storing
+KindOf (Batching w e b) = is_batching
 KindOf _ = is_other
 
--- and what it tells: nobody is granted anything by a plan
+-- And what it tells: nobody is granted anything by a plan, but by the plan of batches, which tells calls what became of a batch, and that
+-- their flush is done.
 abbrev pub is_granted : Outcome → Bool
 is_granted (outcome.Granted n) = true
 is_granted _ = false
 
+abbrev pub is_of_batch : Outcome → Bool
+is_of_batch (outcome.Settled f) = true
+is_of_batch outcome.Stopped = true
+is_of_batch (outcome.Granted news.Done) = true
+is_of_batch _ = false
+
+abbrev pub is_call : Who → Bool
+is_call (Call t) = true
+is_call _ = false
+
+abbrev pub IsOfBatch : Notice → Type 0
+IsOfBatch n = (is_call n.who ≡ true) × (is_of_batch n.outcome ≡ true)
+
 abbrev pub TellsSo : Action → Type 0
 TellsSo (Tell n) = is_granted n.outcome ≡ false
+TellsSo (TellAll ns) = Each IsOfBatch ns
 TellsSo _ = Unit {0}
 
 abbrev pub Goes : (Plan → Bool) → Plan → Action → Type 0
@@ -119,8 +159,19 @@ wish_tells (wish.Get p) = tt
 wish_tells (wish.Ask l request) = tt
 wish_tells (wish.Wait delay) = tt
 
+fate_tells : (f : Fate) → is_of_batch (told_of f) ≡ true
+fate_tells (fate.Receipt receipt) = refl
+fate_tells (fate.Failed f) = refl
+fate_tells fate.Halted = refl
+fate_tells fate.Flushed = refl
+
+reports_tell : (rs : List Report) → Each IsOfBatch (map told_to rs)
+reports_tell [] = tt
+reports_tell (r ∷ rs) = ((refl, fate_tells r.fate), reports_tell rs)
+
 deed_tells : (d : Deed) → TellsSo (action_of d)
 deed_tells (deed.Does x) = wish_tells x
+deed_tells (deed.Settles reports) = reports_tell reports
 deed_tells _ = tt
 
 search_goes : (w : Ways) (t : SearchTurn Search (Result Answer Failure)) → StaysSo (Goes is_other) (goes w t)
@@ -162,11 +213,54 @@ stands_goes w = either_so (Goes is_other) (is_answered w.number) _ _ (refl, tt) 
 gathers_goes : (first count left : ℕ) (failures : List (ℕ × Failure)) → StaysSo (Goes is_gathering) (gathers first count left failures)
 gathers_goes first count left failures = either_so (Goes is_gathering) (left == 0) _ _ tt (refl, tt)
 
+-- A MESSAGE THAT IS STORED, AND BATCHES
+
+stored_goes : (share : Option Share) → StaysSo (Goes is_storing) (stored share)
+stored_goes None = (refl, tt)
+stored_goes (Some s) = (refl, refl)
+
+storing_goes : (share : Option Share) (u : Outcome) → StaysSo (Goes is_storing) (in_storing share u)
+storing_goes share (outcome.Granted news.Done) = stored_goes share
+storing_goes share (outcome.Granted _) = tt
+storing_goes share _ = tt
+
+fate_goes : (f : Result (Values send_receipt) Failure) → StaysSo (Goes is_storing) (settled f)
+fate_goes (Ok receipt) = tt
+fate_goes (Err f) = tt
+
+in_stored_goes : (u : Outcome) → StaysSo (Goes is_storing) (in_stored u)
+in_stored_goes (outcome.Settled f) = fate_goes f
+in_stored_goes (outcome.Granted news.Done) = (refl, tt)
+in_stored_goes (outcome.Granted _) = tt
+in_stored_goes _ = tt
+
+next_goes : (w : Ways) (e : Errand) (x : Next) → StaysSo (Goes is_batching) (batches_on w e x)
+next_goes w e x = (refl, deed_tells x.deed)
+
+batching_goes : (w : Ways) (e : Errand) (b : Batches) (u : Outcome) → StaysSo (Goes is_batching) (told_batch w e b u)
+batching_goes w e b u =
+    either_so (Goes is_batching) (overrides u) _ _ (next_goes w e (batches.halted b)) (next_goes w e (batches.told w e b (news_of u)))
+
 -- A ROUND
+
+visits_goes : (r : Round) (n : ℕ) (left : List ℕ) → StaysSo (Goes is_visiting) (visits r n left)
+visits_goes Checks n left = (refl, tt)
+visits_goes Flushes n left = (refl, tt)
+visits_goes Closes n left = (refl, tt)
 
 round_goes : (r : Round) (ns : List ℕ) → StaysSo (Goes is_visiting) (goes_round r ns)
 round_goes r [] = tt
-round_goes r (n ∷ ns) = (refl, tt)
+round_goes r (n ∷ ns) = visits_goes r n ns
+
+settled_goes : (r : Round) (n : ℕ) (left : List ℕ) → StaysSo (Goes is_visiting) (is_settled r n left)
+settled_goes Checks n left = (refl, tt)
+settled_goes Flushes n left = round_goes Flushes left
+settled_goes Closes n left = (refl, tt)
+
+settling_goes : (r : Round) (n : ℕ) (left : List ℕ) (u : Outcome) → StaysSo (Goes is_visiting) (in_settling r n left u)
+settling_goes r n left (outcome.Granted news.Done) = settled_goes r n left
+settling_goes r n left (outcome.Granted _) = tt
+settling_goes r n left _ = tt
 
 turning_goes : (r : Round) (n : ℕ) (left : List ℕ) (u : Outcome) → StaysSo (Goes is_visiting) (in_turning r n left u)
 turning_goes r n left (outcome.Granted (news.HasTurn version)) = (refl, tt)
@@ -198,6 +292,7 @@ awaiting_goes r n left outcome.Queued = (refl, tt)
 awaiting_goes r n left _ = tt
 
 visit_goes : (r : Round) (n : ℕ) (left : List ℕ) (x : Spot) (u : Outcome) → StaysSo (Goes is_visiting) (told_at r n left x u)
+visit_goes r n left at.Settling u = settling_goes r n left u
 visit_goes r n left at.Turning u = turning_goes r n left u
 visit_goes r n left at.Finding u = finding_goes r n left u
 visit_goes r n left at.Asking u = asking_goes r n left u
@@ -205,7 +300,7 @@ visit_goes r n left at.Passing u = passing_goes r n left u
 visit_goes r n left at.Awaiting u = awaiting_goes r n left u
 
 shut_goes : (ns : List ℕ) (u : Outcome) → StaysSo (Goes is_visiting) (told (Shutting ns) u)
-shut_goes ns (outcome.Granted news.Done) = round_goes _ ns
+shut_goes ns (outcome.Granted news.Done) = round_goes Closes ns
 shut_goes ns (outcome.Granted _) = tt
 shut_goes ns _ = tt
 
@@ -229,6 +324,9 @@ told_goes (Searching w s) u = search_goes w (search.told w s (news_in u))
 told_goes (Producing w o b) u = either_so (Goes is_producing) (overrides u) _ _ tt (build_goes w o (produce.build_told w o b (news_of u)))
 told_goes (Sending w e share s) u = sending_goes w e share s u
 told_goes (Reporting w e) u = (refl, tt)
+told_goes (Storing share) u = storing_goes share u
+told_goes Stored u = in_stored_goes u
+told_goes (Batching w e b) u = batching_goes w e b u
 told_goes (Leaving f) u = tt
 told_goes (Gathering first count left failures) (outcome.Parted t f) = gathers_goes first count _ _
 told_goes (Gathering first count left failures) _ = tt
@@ -241,6 +339,8 @@ told_goes Stopping _ = tt
 abbrev pub KindBegun : Procedure → (Plan → Bool)
 KindBegun (procedure.Produce w o) = is_producing
 KindBegun (procedure.Send w e share m) = is_sending
+KindBegun (procedure.Store n share e) = is_storing
+KindBegun (procedure.Batch w e) = is_batching
 KindBegun (procedure.FailShare share r) = is_sending
 KindBegun (procedure.Gather first count) = is_gathering
 KindBegun (procedure.Go round ns) = is_visiting
@@ -255,6 +355,8 @@ begins_goes (procedure.Ask (Link l) request s) = (refl, tt)
 begins_goes (procedure.Search w what) = search_goes w (search.begins w what)
 begins_goes (procedure.Produce w o) = build_goes w o (produce.build_begins w o)
 begins_goes (procedure.Send w e share m) = send_goes w e share (produce.send_begins e m)
+begins_goes (procedure.Store n share e) = (refl, tt)
+begins_goes (procedure.Batch w e) = next_goes w e batches.begins
 begins_goes (procedure.FailShare share r) = (refl, refl)
 begins_goes (procedure.Gather first count) = gathers_goes first count count []
 begins_goes (procedure.Go round ns) = round_goes round ns

@@ -24,6 +24,7 @@ use Rattle.pulsar_plans.specs.declared.turn.Turn.{Turn as SearchTurn}
 use Rattle.pulsar_plans.specs.declared.turn.Turn.TheVariants as search_turn
 use Rattle.pulsar_plans.specs.declared.turn.Ways.{Ways}
 use Rattle.pulsar_producer.specs.Commands.{command}
+use Rattle.pulsar_producer.specs.Batching as batches
 use Rattle.pulsar_producer.specs.Plans as produce
 use Rattle.pulsar_producer.specs.Plans.{fault_told, Builds, build_closes, build_made, build_makes, build_names, build_next}
 use Rattle.pulsar_producer.specs.Producer as producer
@@ -47,16 +48,17 @@ use Rattle.pulsar_client.specs.declared.act.Place.TheVariants.{At, Link}
 use Rattle.pulsar_client.specs.declared.act.Procedure.{Procedure}
 use Rattle.pulsar_client.specs.declared.act.Procedure.TheVariants as procedure
 use Rattle.pulsar_client.specs.declared.act.Round.{Round}
+use Rattle.pulsar_client.specs.declared.act.Round.TheVariants.{Checks, Flushes, Closes}
 use Rattle.pulsar_client.specs.declared.act.Share.{Share}
 use Rattle.pulsar_client.specs.declared.act.Verdict.{Verdict}
 use Rattle.pulsar_client.specs.declared.plans.plan.At.{At as Spot}
 use Rattle.pulsar_client.specs.declared.plans.plan.At.TheVariants as at
 use Rattle.pulsar_client.specs.declared.plans.plan.Plan.{Plan}
-use Rattle.pulsar_client.specs.declared.plans.plan.Plan.TheVariants.{Building, Getting, Asking, Awaiting, Searching, Producing, Sending, Reporting, Leaving, Gathering, Shutting, Visiting, Stopping}
+use Rattle.pulsar_client.specs.declared.plans.plan.Plan.TheVariants.{Building, Getting, Asking, Awaiting, Searching, Producing, Sending, Reporting, Storing, Stored, Batching, Leaving, Gathering, Shutting, Visiting, Stopping}
 use Rattle.pulsar_client.specs.declared.plans.plan.Turn.{Turn}
 use Rattle.pulsar_client.specs.declared.plans.plan.Turn.TheVariants.{Stays, Gives}
 use Rattle.pulsar_client.specs.declared.plans.plan.Wanted.{Wanted}
-use Rattle.pulsar_client.specs.Plan.{asks_of, begins, builds, fails_in, gathers, goes, goes_on_sending, goes_round, halted, in_asking, in_awaiting, in_finding, in_passing, in_turning, is_answer, is_sent, leaves, makes_of, news_in, news_of, overrides, sends_stay, stands, told, told_at, told_send, visited, waits}
+use Rattle.pulsar_client.specs.Plan.{asks_of, batches_on, begins, builds, fails_in, gathers, goes, goes_on_sending, goes_round, halted, in_asking, in_awaiting, in_finding, in_passing, in_settling, in_turning, is_answer, is_sent, leaves, makes_of, news_in, news_of, overrides, sends_stay, stands, stored, told, told_at, told_send, visited, visits, waits}
 use Rattle.pulsar_client.proofs.Acts.{Each, each_append}
 
 -- WHAT A PLAN HAS DRAWN
@@ -170,9 +172,25 @@ module _ (Q : ℕ → Type 0) where
   send_sound w e share (step.Gives (Ok r)) = tt
   send_sound w e share (step.Gives (Err f)) = leaves_sound share f
 
+  stored_sound : (share : Option Share) → TurnSound Q (stored share)
+  stored_sound None = tt
+  stored_sound (Some s) = tt
+
+  visits_sound : (r : Round) (n : ℕ) (ns : List ℕ) → TurnSound Q (visits r n ns)
+  visits_sound Checks n ns = tt
+  visits_sound Flushes n ns = tt
+  visits_sound Closes n ns = tt
+
   round_sound : (r : Round) (ns : List ℕ) → TurnSound Q (goes_round r ns)
   round_sound r [] = tt
-  round_sound r (n ∷ ns) = tt
+  round_sound r (n ∷ ns) = visits_sound r n ns
+
+  settling_sound : (r : Round) (n : ℕ) (left : List ℕ) (u : Outcome) → TurnSound Q (in_settling r n left u)
+  settling_sound Checks n left (outcome.Granted news.Done) = tt
+  settling_sound Flushes n left (outcome.Granted news.Done) = round_sound Flushes left
+  settling_sound Closes n left (outcome.Granted news.Done) = tt
+  settling_sound r n left (outcome.Granted _) = tt
+  settling_sound r n left _ = tt
 
   visited_sound : (r : Round) (left : List ℕ) (n : ℕ) (reply : Reply) → TurnSound Q (visited r left n reply)
   visited_sound r left n reply =
@@ -204,6 +222,7 @@ module _ (Q : ℕ → Type 0) where
   awaiting_sound r n left _ = tt
 
   visit_sound : (r : Round) (n : ℕ) (left : List ℕ) (x : Spot) (u : Outcome) → TurnSound Q (told_at r n left x u)
+  visit_sound r n left at.Settling u = settling_sound r n left u
   visit_sound r n left at.Turning u = turning_sound r n left u
   visit_sound r n left at.Finding u = finding_sound r n left u
   visit_sound r n left at.Asking u = asking_sound r n left u
@@ -211,7 +230,7 @@ module _ (Q : ℕ → Type 0) where
   visit_sound r n left at.Awaiting u = awaiting_sound r n left u
 
   shut_sound : (ns : List ℕ) (u : Outcome) → TurnSound Q (told (Shutting ns) u)
-  shut_sound ns (outcome.Granted news.Done) = round_sound _ ns
+  shut_sound ns (outcome.Granted news.Done) = round_sound Closes ns
   shut_sound ns (outcome.Granted _) = tt
   shut_sound ns _ = tt
 
@@ -261,6 +280,16 @@ module _ (Q : ℕ → Type 0) where
   told_sound (Sending w e share s) u k q =
       either_sound (overrides u && _) _ _ (halted_sound share u) (send_sound w e share (produce.send_told w e s (news_of u)))
   told_sound (Reporting w e) u k q = tt
+  told_sound (Storing share) (outcome.Granted news.Done) k q = stored_sound share
+  told_sound (Storing share) (outcome.Granted _) k q = tt
+  told_sound (Storing share) _ k q = tt
+  told_sound Stored (outcome.Settled (Ok receipt)) k q = tt
+  told_sound Stored (outcome.Settled (Err f)) k q = tt
+  told_sound Stored (outcome.Granted news.Done) k q = tt
+  told_sound Stored (outcome.Granted _) k q = tt
+  told_sound Stored _ k q = tt
+  told_sound (Batching w e b) u k q =
+      either_sound (overrides u) (batches_on w e (batches.halted b)) (batches_on w e (batches.told w e b (news_of u))) tt tt
   told_sound (Leaving f) u k q = tt
   told_sound (Gathering first count left failures) (outcome.Parted t f) k q = either_sound (left - 1 == 0) _ _ tt tt
   told_sound (Gathering first count left failures) _ k q = tt
@@ -277,6 +306,8 @@ module _ (Q : ℕ → Type 0) where
   begins_sound (procedure.Search w what) = goes_sound w (search.begins w what)
   begins_sound (procedure.Produce w o) = builds_sound w o (produce.build_begins w o) (names_sound (search.names_begins w o.topic))
   begins_sound (procedure.Send w e share m) = send_sound w e share (produce.send_begins e m)
+  begins_sound (procedure.Store n share e) = tt
+  begins_sound (procedure.Batch w e) = tt
   begins_sound (procedure.FailShare share r) = tt
   begins_sound (procedure.Gather first count) = either_sound (count == 0) _ _ tt tt
   begins_sound (procedure.Go round ns) = round_sound round ns

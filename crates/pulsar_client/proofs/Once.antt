@@ -6,6 +6,8 @@ use Rattle.std.proofs.lemmas.Bool.Decides.{nat_tests}
 use Rattle.std.proofs.lemmas.Grind.{common_steps}
 use Rattle.pulsar_run.specs.Run.{rest}
 use Rattle.pulsar_session.specs.Link.{is_spent}
+use Rattle.pulsar_plans.specs.declared.turn.Ways.{Ways}
+use Rattle.pulsar_producer.specs.declared.sending.Errand.{Errand}
 use Rattle.pulsar_client.specs.declared.act.Act.{Act}
 use Rattle.pulsar_client.specs.declared.act.Act.TheVariants.{Comes, Starts, Told, Does, Answers}
 use Rattle.pulsar_client.specs.declared.act.Action.{Action}
@@ -13,11 +15,13 @@ use Rattle.pulsar_client.specs.declared.act.Action.TheVariants.{Rest}
 use Rattle.pulsar_client.specs.declared.act.Notice.{Notice}
 use Rattle.pulsar_client.specs.declared.act.Outcome.{Outcome}
 use Rattle.pulsar_client.specs.declared.act.Part.TheVariants.{Calls}
+use Rattle.pulsar_client.specs.declared.act.Makes.{Makes}
 use Rattle.pulsar_client.specs.declared.act.Procedure.{Procedure}
+use Rattle.pulsar_client.specs.declared.act.Procedure.TheVariants.{Batch}
 use Rattle.pulsar_client.specs.declared.act.Refusal.{Refusal}
 use Rattle.pulsar_client.specs.declared.act.Verdict.{Verdict}
 use Rattle.pulsar_client.specs.declared.act.Who.{Who}
-use Rattle.pulsar_client.specs.declared.act.Who.TheVariants.{Call}
+use Rattle.pulsar_client.specs.declared.act.Who.TheVariants.{Call, Producer}
 use Rattle.pulsar_client.specs.declared.plans.plan.Plan.{Plan}
 use Rattle.pulsar_client.specs.declared.plans.plan.Turn.{Turn}
 use Rattle.pulsar_client.specs.declared.plans.plan.Turn.TheVariants.{Stays, Gives}
@@ -27,12 +31,13 @@ use Rattle.pulsar_client.specs.Content.{Asked, Heard, lacks_tickets, shares}
 use Rattle.pulsar_client.specs.Laws.{EndsOnce, counted, end_of, start_of}
 use Rattle.pulsar_client.specs.Plan.{begins, told}
 use Rattle.pulsar_client.specs.Producers.{Producers, routed}
-use Rattle.pulsar_client.specs.Rules.{at_once, called, does, follows, follows_some, parts_of, shares_of, shares_unless, starts, why_no_sends}
+use Rattle.pulsar_client.specs.Rules.{at_once, called, does, follows, follows_some, left_with, parts_of, shares_of, shares_unless, starts, why_no_sends}
 use Rattle.pulsar_client.specs.Run.{Entry, Begins, Then, IsRun, agenda, first, view}
-use Rattle.pulsar_client.specs.View.{Chosen, Options, View, stays, stays_some, told_some}
+use Rattle.pulsar_client.specs.View.{Chosen, Options, View, stays, stays_some, told_some, ways_of}
 use Rattle.pulsar_client.specs.Who.{is_same}
 use Rattle.pulsar_client.proofs.Acts.{Each, StartsIn, begun_same, first_case, is_served, starts_in}
 use Rattle.pulsar_client.proofs.Follow.{same_is}
+use Rattle.pulsar_client.proofs.Left.{left_each}
 use Rattle.pulsar_client.proofs.Quiet.{IsQuiet, comes_quiet, performs_quiet}
 use Rattle.pulsar_client.proofs.Ticketed.{apart}
 
@@ -67,6 +72,11 @@ quiet_end t _ h = refl
 none_in : (f : Act → ℕ) (xs : List Act) (P : Act → Type 0) → ((a : Act) → P a → f a ≡ 0) → Each P xs → due f xs ≡ 0
 none_in f [] P none k = refl
 none_in f (x ∷ xs) P none k = (λ i. none x k.0 i + none_in f xs P none k.1 i)
+
+-- a plan of batches is no call
+left_due : (f : Act → ℕ) (ways : Option Ways) (makes : Makes) → ((w : Ways) (e : Errand) → f (Starts (Producer e.producer) (Batch w e)) ≡ 0) →
+    due f (left_with ways makes) ≡ 0
+left_due f ways makes none = none_in f (left_with ways makes) (λ a. f a ≡ 0) (λ a h. h) (left_each (λ a. f a ≡ 0) ways makes none)
 
 none_due : (f : Act → ℕ) (xs : List Act) → ((a : Act) → IsQuiet a → f a ≡ 0) → Each IsQuiet xs → due f xs ≡ 0
 none_due f xs none k = none_in f xs IsQuiet none k
@@ -310,6 +320,9 @@ few_run o (Then (Comes p) ∷ log) t r = quiet_on o log (Comes p) t (few_run o l
 few_run o (Then (Starts who p) ∷ log) t r = starts_on o log who p t (few_run o log t r.0) r.1
 few_run o (Then (Told n) ∷ log) t r = told_on o log n t (few_run o log t r.0) r.1
 few_run o (Then (Does w a) ∷ log) t r = quiet_on o log (Does w a) t (few_run o log t r.0) r.1 (performs_quiet (view o log) w a) refl refl
+few_run o (Then (Answers w a) ∷ log) t r =
+    simple_on o log (Answers w a) t (few_run o log t r.0) r.1 (left_due (start_of t) (ways_of (view o log).chosen) a.makes (λ u e. refl))
+    (left_due (end_of t) (ways_of (view o log).chosen) a.makes (λ u e. refl)) refl refl
 few_run o (Then a ∷ log) t r = quiet_on o log a t (few_run o log t r.0) r.1 tt refl refl
 
 one_at_most : (b : Bool) (x y : ℕ) → x + y ≤ cond b 1 0 → x ≤ 1

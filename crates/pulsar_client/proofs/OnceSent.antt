@@ -24,7 +24,7 @@ use Rattle.pulsar_client.specs.declared.act.Verdict.{Verdict}
 use Rattle.pulsar_client.specs.declared.act.Who.{Who}
 use Rattle.pulsar_client.specs.declared.act.Who.TheVariants.{Call}
 use Rattle.pulsar_client.specs.declared.plans.plan.Plan.{Plan}
-use Rattle.pulsar_client.specs.declared.plans.plan.Plan.TheVariants.{Building, Getting, Asking, Awaiting, Searching, Producing, Sending, Reporting, Leaving, Gathering, Shutting, Visiting, Stopping}
+use Rattle.pulsar_client.specs.declared.plans.plan.Plan.TheVariants.{Building, Getting, Asking, Awaiting, Searching, Producing, Sending, Reporting, Storing, Stored, Batching, Leaving, Gathering, Shutting, Visiting, Stopping}
 use Rattle.pulsar_client.specs.declared.plans.plan.Turn.{Turn}
 use Rattle.pulsar_client.specs.declared.plans.plan.Turn.TheVariants.{Stays, Gives}
 use Rattle.pulsar_client.specs.Laws.{counted, start_of}
@@ -34,7 +34,7 @@ use Rattle.pulsar_client.specs.Run.{Entry, Begins, Then, IsRun, view}
 use Rattle.pulsar_client.specs.View.{Options, stays, stays_some, told_some}
 use Rattle.pulsar_client.specs.Who.{is_same}
 use Rattle.pulsar_client.proofs.Acts.{begun_same}
-use Rattle.pulsar_client.proofs.Natures.{Goes, StaysSo, is_gathering, is_other, is_producing, is_visiting, told_goes}
+use Rattle.pulsar_client.proofs.Natures.{Goes, StaysSo, is_batching, is_gathering, is_other, is_producing, is_storing, is_visiting, told_goes}
 use Rattle.pulsar_client.proofs.Once.{ends_once_lem}
 
 -- a plan may be told so still
@@ -106,6 +106,14 @@ gathering_none : (q : Plan) → is_gathering q ≡ true → left q ≡ 0
 gathering_none (Sending w e share s) h = absurd cc
 gathering_none _ h = refl
 
+storing_none : (q : Plan) → is_storing q ≡ true → left q ≡ 0
+storing_none (Sending w e share s) h = absurd cc
+storing_none _ h = refl
+
+batching_none : (q : Plan) → is_batching q ≡ true → left q ≡ 0
+batching_none (Sending w e share s) h = absurd cc
+batching_none _ h = refl
+
 out_left : (p : Plan) (u : Outcome) → left p ≡ 0 → left_some (stays (told p u)) ≡ 0
 out_left (Sending w e share send.Sent) u h =
     either_left (overrides u && false) (halted share u) (goes_on_sending w e share (produce.send_told w e send.Sent (news_of u))) (halted_left share u)
@@ -113,6 +121,9 @@ out_left (Sending w e share send.Sent) u h =
 out_left (Sending w e share s) u h = absurd cc
 out_left (Reporting w e) u h = refl
 out_left (Leaving f) u h = refl
+out_left (Storing share) u h = none_of is_storing (Storing share) (told (Storing share) u) storing_none (told_goes (Storing share) u)
+out_left Stored u h = none_of is_storing Stored (told Stored u) storing_none (told_goes Stored u)
+out_left (Batching w e b) u h = none_of is_batching (Batching w e b) (told (Batching w e b) u) batching_none (told_goes (Batching w e b) u)
 out_left Building u h = none_of is_other Building (told Building u) other_none (told_goes Building u)
 out_left (Getting request s) u h = none_of is_other (Getting request s) (told (Getting request s) u) other_none (told_goes (Getting request s) u)
 out_left (Asking w) u h = none_of is_other (Asking w) (told (Asking w) u) other_none (told_goes (Asking w) u)

@@ -12,7 +12,7 @@ use Rattle.pulsar_client.specs.declared.act.Act.{Act}
 use Rattle.pulsar_client.specs.declared.act.Act.TheVariants.{Comes, Does, Dials}
 use Rattle.pulsar_client.specs.declared.act.Action.TheVariants.{Get, Ask, StopAll}
 use Rattle.pulsar_client.specs.declared.act.Alarm.{Alarm}
-use Rattle.pulsar_client.specs.declared.act.Alarm.TheVariants.{Retry, Wake, KeepAlive, CheckIdle}
+use Rattle.pulsar_client.specs.declared.act.Alarm.TheVariants.{Retry, Wake, Batch, KeepAlive, CheckIdle}
 use Rattle.pulsar_client.specs.declared.act.Arrival.{Arrival}
 use Rattle.pulsar_client.specs.declared.act.Arrival.TheVariants.{Readied}
 use Rattle.pulsar_client.specs.declared.act.LinkAct.{LinkAct}
@@ -284,6 +284,7 @@ unless_rung false row p h = h
 rung_left : (b : Bool) (a : Alarm) (l : ℕ) (row : Option Pause) (p : Pause) → pause_rung b a l row ≡ Some p → row ≡ Some p
 rung_left b (Retry k) l row p h = unless_rung (b && (l == k)) row p h
 rung_left b (Wake who) l row p h = h
+rung_left b (Batch n) l row p h = h
 rung_left b (KeepAlive k) l row p h = h
 rung_left b CheckIdle l row p h = h
 
@@ -317,6 +318,7 @@ follows_for v key (e ∷ es) h = elim (either_is (is_to_follow v.addresses key e
     by : (a : Alarm) → is_to_follow v.addresses key a ≡ true → (l : ℕ) × (p : Pause) × (v.addresses.pause l ≡ Some p) × (bytes_eq (address_key p.address) key ≡ true)
     by (Retry l) g = for_some l (v.addresses.pause l) refl g
     by (Wake who) g = absurd cc
+    by (Batch n) g = absurd cc
     by (KeepAlive l) g = absurd cc
     by CheckIdle g = absurd cc
 

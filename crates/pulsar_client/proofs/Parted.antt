@@ -10,6 +10,8 @@ use Rattle.pulsar_plans.specs.Address.{Place}
 use Rattle.pulsar_plans.specs.declared.plan.Procedure.{Procedure as Sought}
 use Rattle.pulsar_plans.specs.declared.plan.Procedure.TheVariants as sought
 use Rattle.pulsar_plans.specs.declared.turn.Ways.{Ways}
+use Rattle.pulsar_frame.specs.Batch.{EntryValues}
+use Rattle.pulsar_producer.specs.Batch.{entry_of}
 use Rattle.pulsar_producer.specs.Wanted.{ProducerWanted}
 use Rattle.pulsar_producer.specs.declared.sending.Errand.{Errand}
 use Rattle.pulsar_run.specs.Laws.{In, InThisStep}
@@ -21,7 +23,7 @@ use Rattle.pulsar_client.specs.declared.act.Procedure.{Procedure}
 use Rattle.pulsar_client.specs.declared.act.Procedure.TheVariants as procedure
 use Rattle.pulsar_client.specs.declared.act.Refusal.{Refusal}
 use Rattle.pulsar_client.specs.declared.act.Refusal.TheVariants as refusal
-use Rattle.pulsar_client.specs.declared.act.Round.TheVariants.{Checks}
+use Rattle.pulsar_client.specs.declared.act.Round.TheVariants.{Checks, Flushes}
 use Rattle.pulsar_client.specs.declared.act.Says.TheVariants as says
 use Rattle.pulsar_client.specs.declared.act.Share.{Share}
 use Rattle.pulsar_client.specs.declared.act.Who.{Who}
@@ -29,8 +31,8 @@ use Rattle.pulsar_client.specs.declared.act.Who.TheVariants.{Call}
 use Rattle.pulsar_client.specs.Content as content
 use Rattle.pulsar_client.specs.Content.{Asked, lacks_tickets, shares}
 use Rattle.pulsar_client.specs.Laws.{started}
-use Rattle.pulsar_client.specs.Producers.{Producers, advice, errand_of, next_advice, numbers_at, routed, why_not}
-use Rattle.pulsar_client.specs.Rules.{asks_raw, asks_topics, builds_with, call_part, checks, closes, fails_as, flushes, from_base, gathers, is_taken, parts_of, procedure_for, produces, produces_by, produces_from, searches, sends, sends_as, sends_by, shares_of, shares_unless, starts, unless, unless_refused, why_no_sends}
+use Rattle.pulsar_client.specs.Producers.{Producers, advice, batches_in, errand_of, next_advice, numbers_at, routed, why_not}
+use Rattle.pulsar_client.specs.Rules.{asks_raw, asks_topics, builds_with, call_part, checks, closes, fails_as, flushes, flushes_all, from_base, gathers, is_taken, parts_of, procedure_for, produces, produces_by, produces_from, searches, sends, sends_as, sends_by, shares_of, shares_unless, starts, stores_as, unless, unless_refused, why_no_sends}
 use Rattle.pulsar_client.specs.Run.{Entry, Begins, Then, IsRun, view}
 use Rattle.pulsar_client.specs.View.{Chosen, Options, Tickets, View, drawn_after, may_call, ways_of}
 use Rattle.pulsar_client.specs.Who.{is_same}
@@ -48,18 +50,32 @@ none_some {A} {x} h = cc
 
 abbrev is_plain : Procedure → Bool
 is_plain (procedure.Send w e (Some s) m) = false
+is_plain (procedure.Store n (Some s) e) = false
+is_plain (procedure.Batch w e) = false
 is_plain (procedure.FailShare s r) = false
 is_plain (procedure.Gather first count) = false
 is_plain _ = true
+
+-- the plan of batches is that of no call
+abbrev pub is_batches : Procedure → Bool
+is_batches (procedure.Batch w e) = true
+is_batches _ = false
+
+plain_batches : (p : Procedure) → is_plain p ≡ true → is_batches p ≡ false
+plain_batches (procedure.Batch w e) h = absurd cc
+plain_batches _ h = refl
 
 -- of a call that has so many parts, and drew this ticket
 pub record IsOf (d c : ℕ) (u : ℕ) (p : Procedure) : Type 0 where
   pub share : (s : Share) → share_in p ≡ Some s → (s.ticket ≡ u) × (s.of ≡ d) × (d < u) × (u < d + 1 + c)
   pub gather : (first count : ℕ) → p ≡ procedure.Gather first count → (first ≡ u + 1) × (count ≡ c) × (u ≡ d)
+  pub call : is_batches p ≡ false
 
 plain_share : (p : Procedure) → is_plain p ≡ true → share_in p ≡ None
 plain_share (procedure.Send w e None m) h = refl
 plain_share (procedure.Send w e (Some s) m) h = absurd cc
+plain_share (procedure.Store n None e) h = refl
+plain_share (procedure.Store n (Some s) e) h = absurd cc
 plain_share (procedure.FailShare s r) h = absurd cc
 plain_share _ h = refl
 
@@ -67,6 +83,7 @@ plain_of : (d c u : ℕ) (p : Procedure) → is_plain p ≡ true → IsOf d c u 
 plain_of d c u p h = record {
   share = λ s e. absurd (none_some (sym (plain_share p h) ∙ e));
   gather = λ first count e. (let f : true ≡ false = sym h ∙ ap is_plain e in absurd cc);
+  call = plain_batches p h;
 }
 
 either_of : (d c u : ℕ) (b : Bool) (p q : Procedure) → IsOf d c u p → IsOf d c u q → IsOf d c u (cond b p q)
@@ -91,18 +108,29 @@ module _ (d c u : ℕ) where
   produce_of None (Some t) x = plain_of d c u (procedure.Refuse refusal.NoAddress) refl
   produce_of (Some w) (Some t) x = plain_of d c u (procedure.Produce w _) refl
 
-  send_of : (m : ProducerMessageValues) (w : Option Ways) (e : Option Errand) → IsOf d c u (sends_by None m w e)
-  send_of m w None = plain_of d c u (procedure.Refuse refusal.NoPartition) refl
-  send_of m None (Some e) = plain_of d c u (procedure.Refuse refusal.NoAddress) refl
-  send_of m (Some w) (Some e) = plain_of d c u (procedure.Send w e None m) refl
+  stores_of : (n : ℕ) (r : Option EntryValues) → IsOf d c u (stores_as n None r)
+  stores_of n None = plain_of d c u (procedure.Refuse refusal.TooLarge) refl
+  stores_of n (Some e) = plain_of d c u (procedure.Store n None e) refl
+
+  send_of : (b : Bool) (m : ProducerMessageValues) (w : Option Ways) (e : Option Errand) → IsOf d c u (sends_by b None m w e)
+  send_of b m w None = plain_of d c u (procedure.Refuse refusal.NoPartition) refl
+  send_of b m None (Some e) = plain_of d c u (procedure.Refuse refusal.NoAddress) refl
+  send_of b m (Some w) (Some e) =
+      either_of d c u b (stores_as e.producer None (entry_of m)) (procedure.Send w e None m) (stores_of e.producer (entry_of m))
+      (plain_of d c u (procedure.Send w e None m) refl)
 
   may_of : (b : Bool) (p : Procedure) → IsOf d c u p → IsOf d c u (unless_refused b p)
   may_of b p x = either_of d c u b p (procedure.Refuse refusal.Shutdown) x (plain_of d c u (procedure.Refuse refusal.Shutdown) refl)
 
--- a send that is a part
+-- a send that is a part, of a message that is stored or is not
 abbrev is_gather : Procedure → Bool
 is_gather (procedure.Gather first count) = true
+is_gather (procedure.Batch w e) = true
 is_gather _ = false
+
+no_batches : (p : Procedure) → is_gather p ≡ false → is_batches p ≡ false
+no_batches (procedure.Batch w e) h = absurd cc
+no_batches _ h = refl
 
 part_is : (d c u : ℕ) (s : Share) (p : Procedure) → share_in p ≡ Some s → is_gather p ≡ false → s.ticket ≡ u → s.of ≡ d → d < u → u < d + 1 + c → IsOf d c u p
 part_is d c u s p h g a b x y = record {
@@ -110,13 +138,21 @@ part_is d c u s p h g a b x y = record {
       let q : s ≡ r = cc in
       (sym (ap (λ z. z.ticket) q) ∙ a, sym (ap (λ z. z.of) q) ∙ b, x, y));
   gather = λ first count e. (let f : true ≡ false = sym (ap is_gather e) ∙ g in absurd cc);
+  call = no_batches p g;
 }
 
-part_send : (d c u : ℕ) (s : Share) (m : ProducerMessageValues) (w : Option Ways) (e : Option Errand) → s.ticket ≡ u → s.of ≡ d → d < u → u < d + 1 + c →
-    IsOf d c u (sends_by (Some s) m w e)
-part_send d c u s m w None a b x y = part_is d c u s (procedure.FailShare s refusal.NoPartition) refl refl a b x y
-part_send d c u s m None (Some e) a b x y = part_is d c u s (procedure.FailShare s refusal.NoAddress) refl refl a b x y
-part_send d c u s m (Some w) (Some e) a b x y = part_is d c u s (procedure.Send w e (Some s) m) refl refl a b x y
+part_stores : (d c u : ℕ) (s : Share) (n : ℕ) (r : Option EntryValues) → s.ticket ≡ u → s.of ≡ d → d < u → u < d + 1 + c →
+    IsOf d c u (stores_as n (Some s) r)
+part_stores d c u s n None a b x y = part_is d c u s (procedure.FailShare s refusal.TooLarge) refl refl a b x y
+part_stores d c u s n (Some e) a b x y = part_is d c u s (procedure.Store n (Some s) e) refl refl a b x y
+
+part_send : (d c u : ℕ) (s : Share) (t : Bool) (m : ProducerMessageValues) (w : Option Ways) (e : Option Errand) → s.ticket ≡ u → s.of ≡ d → d < u →
+    u < d + 1 + c → IsOf d c u (sends_by t (Some s) m w e)
+part_send d c u s t m w None a b x y = part_is d c u s (procedure.FailShare s refusal.NoPartition) refl refl a b x y
+part_send d c u s t m None (Some e) a b x y = part_is d c u s (procedure.FailShare s refusal.NoAddress) refl refl a b x y
+part_send d c u s t m (Some w) (Some e) a b x y =
+    either_of d c u t (stores_as e.producer (Some s) (entry_of m)) (procedure.Send w e (Some s) m)
+    (part_stores d c u s e.producer (entry_of m) a b x y) (part_is d c u s (procedure.Send w e (Some s) m) refl refl a b x y)
 
 abbrev pub StartSo : (d c : ℕ) → Act → Type 0
 StartSo d c (Starts (Call u) p) = IsOf d c u p
@@ -127,7 +163,8 @@ parts_so : (d c : ℕ) (o : Chosen) (ps : Producers) (k : ℕ) (advised : List (
     Each (StartSo d c) (shares_of o ps d k advised t ms)
 parts_so d c o ps k advised t [] x y = tt
 parts_so d c o ps k advised t (m ∷ ms) x y = (
-  part_send d c k (record { of = d; ticket = k }) m (ways_of o) (errand_of (next_advice advised) m (ps.built t)) refl refl x (omega (arith, y)),
+  part_send d c k (record { of = d; ticket = k }) (batches_in (ps.built t)) m (ways_of o) (errand_of (next_advice advised) m (ps.built t)) refl refl x
+      (omega (arith, y)),
   parts_so d c o (routed t m ps) (k + 1) (drop 1 advised) t ms (omega (arith, x)) (omega (arith, y)),
 )
 
@@ -145,6 +182,7 @@ gathers_of d u c ms e f = record {
   share = λ s h. absurd (none_some h);
   gather = λ first count h.
       (let x : d + 1 ≡ first = cc in let y : length ms ≡ count = cc in (sym x ∙ ap (λ z. z + 1) (sym e), sym y ∙ sym f, e));
+  call = refl;
 }
 
 head_of : (v : View) (advised : List (Option ℕ)) (asked : Asked) →
@@ -174,15 +212,19 @@ head_of v advised (content.Producer wanted) =
 head_of v advised (content.Send t m) =
     may_of v.calls.drawn 0 v.calls.drawn (may_call v.calls) (sends v.chosen v.producers (next_advice advised) t m)
     (unless_of v.calls.drawn 0 v.calls.drawn (why_not v.producers t) (sends_as v.chosen v.producers None (next_advice advised) t m)
-    (send_of v.calls.drawn 0 v.calls.drawn m (ways_of v.chosen) (errand_of (next_advice advised) m (v.producers.built t))))
+    (send_of v.calls.drawn 0 v.calls.drawn (batches_in (v.producers.built t)) m (ways_of v.chosen) (errand_of (next_advice advised) m (v.producers.built t))))
 head_of v advised (content.SendAll t ms) =
     may_of v.calls.drawn (length ms) v.calls.drawn (may_call v.calls) (gathers v.calls v.producers t ms)
     (unless_of v.calls.drawn (length ms) v.calls.drawn (why_not v.producers t) (procedure.Gather (v.calls.drawn + 1) (length ms))
     (gathers_of v.calls.drawn v.calls.drawn (length ms) ms refl refl))
 head_of v advised (content.Flush t) =
+    let b : Bool = batches_in (v.producers.built t) in
+    let ns : List ℕ = numbers_at (v.producers.built t) in
     may_of v.calls.drawn 0 v.calls.drawn (may_call v.calls) (flushes v.producers t)
-    (unless_of v.calls.drawn 0 v.calls.drawn (why_not v.producers t) (procedure.Refuse refusal.NoBatches)
-    (plain_of v.calls.drawn 0 v.calls.drawn (procedure.Refuse refusal.NoBatches) refl))
+    (unless_of v.calls.drawn 0 v.calls.drawn (why_not v.producers t) (flushes_all b ns)
+    (either_of v.calls.drawn 0 v.calls.drawn b (procedure.Go Flushes ns) (procedure.Refuse refusal.NoBatches)
+    (plain_of v.calls.drawn 0 v.calls.drawn (procedure.Go Flushes ns) refl)
+    (plain_of v.calls.drawn 0 v.calls.drawn (procedure.Refuse refusal.NoBatches) refl)))
 head_of v advised (content.CheckProducer t) =
     may_of v.calls.drawn 0 v.calls.drawn (may_call v.calls) (checks v.producers t)
     (unless_of v.calls.drawn 0 v.calls.drawn (why_not v.producers t) (procedure.Go Checks (numbers_at (v.producers.built t)))
@@ -257,11 +299,13 @@ parts_behind o (e ∷ newer) older d c h = parts_more o (newer ++ older) e d c (
 pub record IsPart (o : Options) (log : List Entry) (u : ℕ) (p : Procedure) : Type 0 where
   pub share : (s : Share) → share_in p ≡ Some s → (s.ticket ≡ u) × (c : ℕ) × (parts_at o s.of log ≡ Some c) × (s.of < u) × (u < s.of + 1 + c)
   pub gather : (first count : ℕ) → p ≡ procedure.Gather first count → (first ≡ u + 1) × (parts_at o u log ≡ Some count)
+  pub call : is_batches p ≡ false
 
 part_more : (o : Options) (log : List Entry) (e : Entry) (u : ℕ) (p : Procedure) → IsPart o log u p → IsPart o (e ∷ log) u p
 part_more o log e u p k = record {
   share = λ s h. (let x = k.share s h in (x.0, x.1, parts_more o log e s.of x.1 x.2, x.3, x.4));
   gather = λ first count h. (let x = k.gather first count h in (x.0, parts_more o log e u count x.1));
+  call = k.call;
 }
 
 -- the step's entries before one that is so
@@ -305,6 +349,7 @@ starts_part o log u p run =
         subst (λ y. u < y + 1 + shares asked) (sym x.1) x.3,
       ));
       gather = λ first count h. (let x = of.gather first count h in (x.0, ap (λ y. parts_at o y log) x.2 ∙ now ∙ ap Some (sym x.1)));
+      call = of.call;
     }
 
 abbrev PartsSo : Options → List Entry → Type 0

@@ -6,7 +6,7 @@ use Rattle.pulsar_client.specs.declared.act.Act.TheVariants.{Comes, Does, Answer
 use Rattle.pulsar_client.specs.declared.act.Action.TheVariants.{Ask}
 use Rattle.pulsar_client.specs.declared.act.Part.TheVariants as part
 use Rattle.pulsar_client.specs.declared.act.Who.{Who}
-use Rattle.pulsar_client.specs.declared.act.Who.TheVariants.{Call}
+use Rattle.pulsar_client.specs.declared.act.Who.TheVariants.{Call, Producer}
 use Rattle.pulsar_client.specs.declared.addresses.Pause.{Pause}
 use Rattle.pulsar_client.specs.Address.{leads_to}
 use Rattle.pulsar_client.specs.Content.{Said, Shown, Queued, Write, Hands, Faults}
@@ -30,6 +30,7 @@ some_plain f (Some x) h = (h x, tt)
 
 ends_plain : (who : Who) (said : Said) → ArePlain (ends who said)
 ends_plain (Call t) said = (refl, tt)
+ends_plain (Producer n) said = tt
 
 connects_plain : (l : ℕ) (reached : Option (List ℕ × ℕ)) → ArePlain (connects_to l reached)
 connects_plain l None = tt

@@ -347,12 +347,12 @@ claimed_send _ id c p s h e = absurd (replies_not id c p s h e)
 
 -- ALONG A LOG
 
-record Split (x : Entry) (log : List Entry) : Type 0 where
-  newer : List Entry
-  older : List Entry
-  is_it : log ≡ newer ++ x ∷ older
+pub record Split (x : Entry) (log : List Entry) : Type 0 where
+  pub newer : List Entry
+  pub older : List Entry
+  pub is_it : log ≡ newer ++ x ∷ older
 
-split_in : (x : Entry) (log : List Entry) → In x log → Split x log
+pub split_in : (x : Entry) (log : List Entry) → In x log → Split x log
 split_in x [] h = absurd h
 split_in x (e ∷ log) (inl q) = record { newer = []; older = log; is_it = ap (λ y. y ∷ log) (sym q) }
 split_in x (e ∷ log) (inr h) = let k = split_in x log h in record { newer = e ∷ k.newer; older = k.older; is_it = ap (λ y. e ∷ y) k.is_it }
@@ -403,7 +403,7 @@ acts_begun o older t action run = elim (does_from o older (Call t) action run) [
 ]
 
 -- an entry of this step, with those before it
-in_step : (P : Entry → List Entry → Type 0) (log : List Entry) → InThisStep P log →
+pub in_step : (P : Entry → List Entry → Type 0) (log : List Entry) → InThisStep P log →
     (e : Entry) × (older : List Entry) × P e older × ((x : Entry) → In x older → In x log)
 in_step P [] h = absurd h
 in_step P (Begins e ∷ log) h = (Begins e, log, h, λ x i. inr i)
@@ -411,29 +411,29 @@ in_step P (Then a ∷ log) (inl h) = (Then a, log, h, λ x i. inr i)
 in_step P (Then a ∷ log) (inr h) = let k = in_step P log h in (k.0, k.1, k.2, λ x i. inr (k.3 x i))
 
 -- what settles was asked for
-replied_for : (o : Options) (older : List Entry) (t l : ℕ) (seat : Seat) (ps : List ℕ) (m : MessageValues) (place : ℕ) →
+replied_for : (o : Options) (older : List Entry) (who : Who) (l : ℕ) (seat : Seat) (ps : List ℕ) (m : MessageValues) (place : ℕ) →
     (view o older).links.live l ≡ Some seat →
-    came seat.seen ≡ Settles ps m → In place ps → seat.askers place ≡ Some (Call t) → (a : Awaited) × (answers m a ≡ true) × AskedFor older l (Call t) a
-replied_for o older t l seat ps m place h c i w =
+    came seat.seen ≡ Settles ps m → In place ps → seat.askers place ≡ Some who → (a : Awaited) × (answers m a ≡ true) × AskedFor older l who a
+replied_for o older who l seat ps m place h c i w =
     let k : Sits older l seat = subst (SitsAt older l) h (sits o older l) in
     let these : ps ≡ places (settled_by m seat.seen) = settles_these seat.seen.stage (front seat.seen.unread) seat.seen ps m c in
     let s = settled_one (AskedFor older l) seat.askers m place seat.seen.waits.waiting k.waiting (subst (In place) these i) in
-    (s.awaits, s.answered, s.known_of (Call t) w)
+    (s.awaits, s.answered, s.known_of who w)
 
 -- the message whose receipt this is
-record IsSentFor (log : List Entry) (t l : ℕ) (k : Option RequestKey) : Type 0 where
-  producer : ℕ
-  sequence : ℕ
-  name : List ℕ
-  message : ProducerMessageValues
-  block : Bool
-  listed : In (Then (Does (Call t) (Ask l (words.Send producer name sequence message block)))) log
-  bears : k ≡ Some (keys.ProducerSend producer sequence)
+pub record IsSentFor (log : List Entry) (who : Who) (l : ℕ) (k : Option RequestKey) : Type 0 where
+  pub producer : ℕ
+  pub sequence : ℕ
+  pub name : List ℕ
+  pub message : ProducerMessageValues
+  pub block : Bool
+  pub listed : In (Then (Does who (Ask l (words.Send producer name sequence message block)))) log
+  pub bears : k ≡ Some (keys.ProducerSend producer sequence)
 
-sent_for : (older : List Entry) (t l : ℕ) (m : MessageValues) (b : BodyValues) (a : Awaited) (request : Words) (id : ℕ) (c : Claim) →
+sent_for : (older : List Entry) (who : Who) (l : ℕ) (m : MessageValues) (b : BodyValues) (a : Awaited) (request : Words) (id : ℕ) (c : Claim) →
     m.command.body ≡ Some b → b.number ≡ 7 → answers m a ≡ true → claim id request ≡ Some c → c.awaits ≡ a →
-    In (Then (Does (Call t) (Ask l request))) older → IsSentFor older t l (key m)
-sent_for older t l m b a request id c e n answered is awaits i =
+    In (Then (Does who (Ask l request))) older → IsSentFor older who l (key m)
+sent_for older who l m b a request id c e n answered is awaits i =
     let q = receipt_of m b a e n answered in
     let x = claimed_send request id c q.producer q.sequence is (awaits ∙ q.is_it) in
     record {
@@ -442,28 +442,28 @@ sent_for older t l m b a request id c e n answered is awaits i =
       name = x.name;
       message = x.message;
       block = x.block;
-      listed = subst (λ (y : Words). In (Then (Does (Call t) (Ask l y))) older) x.is_it i;
+      listed = subst (λ (y : Words). In (Then (Does who (Ask l y))) older) x.is_it i;
       bears = q.bears;
     }
 
-replied_send : (o : Options) (older : List Entry) (t l : ℕ) (seat : Seat) (ps : List ℕ) (m : MessageValues) (place : ℕ) (b : BodyValues) →
-    (view o older).links.live l ≡ Some seat → came seat.seen ≡ Settles ps m → In place ps → seat.askers place ≡ Some (Call t) → m.command.body ≡ Some b →
-    b.number ≡ 7 → IsSentFor older t l (key m)
-replied_send o older t l seat ps m place b live c i w e n =
-    let f = replied_for o older t l seat ps m place live c i w in
-    sent_for older t l m b f.0 f.2.0 f.2.1 f.2.2 e n f.1 f.2.3 f.2.4 f.2.5
+replied_send : (o : Options) (older : List Entry) (who : Who) (l : ℕ) (seat : Seat) (ps : List ℕ) (m : MessageValues) (place : ℕ) (b : BodyValues) →
+    (view o older).links.live l ≡ Some seat → came seat.seen ≡ Settles ps m → In place ps → seat.askers place ≡ Some who → m.command.body ≡ Some b →
+    b.number ≡ 7 → IsSentFor older who l (key m)
+replied_send o older who l seat ps m place b live c i w e n =
+    let f = replied_for o older who l seat ps m place live c i w in
+    sent_for older who l m b f.0 f.2.0 f.2.1 f.2.2 e n f.1 f.2.3 f.2.4 f.2.5
 
-receipt_for : (o : Options) (older : List Entry) (t : ℕ) (r : Reply) (e : Entry) → Cause o (Call t) (outcome.Replied r) e older →
+pub receipt_for : (o : Options) (older : List Entry) (who : Who) (r : Reply) (e : Entry) → Cause o who (outcome.Replied r) e older →
     is_body 7 r.content.body ≡ true →
-    (l : ℕ) × IsSentFor older t l r.content.key
-receipt_for o older t r e c body = by c.0 c.1 c.2 c.3 c.4 c.6 c.7 c.8 c.9 c.10
+    (l : ℕ) × IsSentFor older who l r.content.key
+receipt_for o older who r e c body = by c.0 c.1 c.2 c.3 c.4 c.6 c.7 c.8 c.9 c.10
   where
     by : (l : ℕ) (seat : Seat) (ps : List ℕ) (m : MessageValues) (place : ℕ) → (view o older).links.live l ≡ Some seat → came seat.seen ≡ Settles ps m →
-        In place ps → seat.askers place ≡ Some (Call t) → r ≡ read m → (l : ℕ) × IsSentFor older t l r.content.key
+        In place ps → seat.askers place ≡ Some who → r ≡ read m → (l : ℕ) × IsSentFor older who l r.content.key
     by l seat ps m place live settles i w is =
         let b = body_seven m m.command.body refl (subst (λ y. is_body 7 y.content.body ≡ true) is body) in
         let k : r.content.key ≡ key m = ap (λ y. y.content.key) is ∙ key_of_read m m.command.body refl in
-        (l, subst (IsSentFor older t l) (sym k) (replied_send o older t l seat ps m place b.0 live settles i w b.1 b.2))
+        (l, subst (IsSentFor older who l) (sym k) (replied_send o older who l seat ps m place b.0 live settles i w b.1 b.2))
 
 -- a message that a send asked for is of its errand
 sent_own : (o : Options) (log : List Entry) (t l n s : ℕ) (name : List ℕ) (message : ProducerMessageValues) (block : Bool) (w : Ways) (e : Errand)
@@ -489,12 +489,12 @@ sent_own o log t l n s name message block w e share m run i h = by k.newer k.old
         (f.3, f.4)
 
 pub receipts_are_own_lem : ReceiptsAreOwn
-receipts_are_own_lem o log t r w e share m run h body = by step.1 step.3 (receipt_for o step.1 t r step.0 step.2 body)
+receipts_are_own_lem o log t r w e share m run h body = by step.1 step.3 (receipt_for o step.1 (Call t) r step.0 step.2 body)
   where
     step : (x : Entry) × (older : List Entry) × Cause o (Call t) (outcome.Replied r) x older × ((y : Entry) → In y older → In y log)
     step = in_step (Cause o (Call t) (outcome.Replied r)) log (outcomes_are_caused_lem o log (Call t) (outcome.Replied r) run)
 
-    by : (older : List Entry) → ((y : Entry) → In y older → In y log) → (l : ℕ) × IsSentFor older t l r.content.key → (l s : ℕ) × (name : List ℕ)
+    by : (older : List Entry) → ((y : Entry) → In y older → In y log) → (l : ℕ) × IsSentFor older (Call t) l r.content.key → (l s : ℕ) × (name : List ℕ)
         × (sent : ProducerMessageValues) × In (Then (Does (Call t) (Ask l (words.Send e.producer name s sent e.block)))) log
         × (r.content.key ≡ Some (keys.ProducerSend e.producer s))
     by older more k =

@@ -5,7 +5,8 @@ use Rattle.pulsar_messages.specs.Words as words
 use Rattle.pulsar_session.specs.Link.{is_spent}
 use Rattle.pulsar_plans.specs.declared.turn.Ways.{Ways}
 use Rattle.pulsar_producer.specs.Topic as topic
-use Rattle.pulsar_producer.specs.Topic.{Act as Deed, Takes, Passes, Draws, Remakes, Closes, Seen, takes_in}
+use Rattle.pulsar_producer.specs.Storage.{Item, SingleMessage, Flush, is_ready, pushed}
+use Rattle.pulsar_producer.specs.Topic.{Act as Deed, Takes, Passes, Draws, Remakes, Closes, Stores, Flushes, Cuts, TakesBatch, Halts, Seen, cuts, is_nothing, is_settled, left_of, stores, takes_in}
 use Rattle.pulsar_producer.specs.declared.sending.Errand.{Errand}
 use Rattle.pulsar_client.specs.declared.act.Act.{Act}
 use Rattle.pulsar_client.specs.declared.act.Act.TheVariants.{Told, Does}
@@ -26,6 +27,19 @@ use Rattle.pulsar_client.proofs.Topics.{all_after, row_as, topic_all}
 
 -- THE NEXT NUMBER IS NOT LESS
 
+either_next : (n : ℕ) (b : Bool) (x y : Seen) → n ≤ x.next → n ≤ y.next → n ≤ (cond b x y).next
+either_next n true x y p q = p
+either_next n false x y p q = q
+
+stores_next : (x : Item) (v : Seen) → v.next ≤ (stores x v).next
+stores_next x v =
+    let w : Seen = record v { storage = pushed x v.storage } in
+    either_next v.next (is_ready w.storage) (cuts w) w (omega arith) (omega arith)
+
+left_next : (bs : List (List Item)) (v : Seen) → v.next ≤ (left_of bs v).next
+left_next [] v = omega arith
+left_next (b ∷ bs) v = omega arith
+
 one_next : (d : Deed) (v : Seen) → v.next ≤ (topic.after d v).next
 one_next (Takes t) v = takes v.holder
   where
@@ -36,6 +50,11 @@ one_next Passes v = omega arith
 one_next Draws v = elim (is_spent v.next) as (λ b. v.next ≤ (cond b v (record v { next = v.next + 1 })).next) [ true ↦ omega arith | false ↦ omega arith ]
 one_next (Remakes l g) v = omega arith
 one_next Closes v = omega arith
+one_next (Stores t e) v = stores_next (SingleMessage t e) v
+one_next (Flushes t) v = either_next v.next (is_settled v) v (stores (Flush t) v) (omega arith) (stores_next (Flush t) v)
+one_next Cuts v = either_next v.next (is_nothing v.storage.items) v (cuts v) (omega arith) (omega arith)
+one_next TakesBatch v = left_next v.cut v
+one_next Halts v = omega arith
 
 all_next : (ds : List Deed) (v : Seen) → v.next ≤ (all_after ds v).next
 all_next [] v = omega arith

@@ -13,6 +13,7 @@ use Rattle.pulsar_plans.specs.declared.turn.Action.TheVariants as wish
 use Rattle.pulsar_plans.specs.declared.turn.Turn.{Turn as SearchTurn}
 use Rattle.pulsar_plans.specs.declared.turn.Turn.TheVariants as search_turn
 use Rattle.pulsar_plans.specs.declared.turn.Ways.{Ways}
+use Rattle.pulsar_producer.specs.Batching as batches
 use Rattle.pulsar_producer.specs.Plans as produce
 use Rattle.pulsar_producer.specs.declared.building.Building.{Building as Build}
 use Rattle.pulsar_producer.specs.declared.building.Order.{Order}
@@ -32,24 +33,25 @@ use Rattle.pulsar_client.specs.declared.act.Place.TheVariants.{At, Link}
 use Rattle.pulsar_client.specs.declared.act.Procedure.{Procedure}
 use Rattle.pulsar_client.specs.declared.act.Procedure.TheVariants as procedure
 use Rattle.pulsar_client.specs.declared.act.Round.{Round}
-use Rattle.pulsar_client.specs.declared.act.Round.TheVariants.{Closes}
+use Rattle.pulsar_client.specs.declared.act.Round.TheVariants.{Checks, Flushes, Closes}
 use Rattle.pulsar_client.specs.declared.act.Share.{Share}
 use Rattle.pulsar_client.specs.declared.act.Verdict.{Verdict}
 use Rattle.pulsar_client.specs.declared.act.Who.TheVariants.{Call}
 use Rattle.pulsar_client.specs.declared.plans.plan.At.{At as Spot}
 use Rattle.pulsar_client.specs.declared.plans.plan.At.TheVariants as at
 use Rattle.pulsar_client.specs.declared.plans.plan.Plan.{Plan}
-use Rattle.pulsar_client.specs.declared.plans.plan.Plan.TheVariants.{Building, Getting, Asking, Awaiting, Searching, Producing, Sending, Reporting, Leaving, Gathering, Shutting, Visiting, Stopping}
+use Rattle.pulsar_client.specs.declared.plans.plan.Plan.TheVariants.{Building, Getting, Asking, Awaiting, Searching, Producing, Sending, Reporting, Storing, Stored, Batching, Leaving, Gathering, Shutting, Visiting, Stopping}
 use Rattle.pulsar_client.specs.declared.plans.plan.Turn.{Turn}
 use Rattle.pulsar_client.specs.declared.plans.plan.Turn.TheVariants.{Stays, Gives}
 use Rattle.pulsar_client.specs.declared.plans.plan.Wanted.{Wanted}
 use Rattle.pulsar_client.specs.Parts.{failed_with}
-use Rattle.pulsar_client.specs.Plan.{action_of, asks_of, begins, builds, fails, fails_in, fault_of, gathers, goes, goes_on_sending, goes_round, halted, in_asking, in_awaiting, in_finding, in_passing, in_turning, is_answer, is_sent, leaves, news_in, news_of, overrides, sends_stay, stands, told, told_at, told_send, visited, waits, wished}
+use Rattle.pulsar_client.specs.Plan.{action_of, asks_of, batches_on, begins, builds, fails, fails_in, fault_of, gathers, goes, goes_on_sending, goes_round, halted, in_asking, in_awaiting, in_finding, in_passing, in_settling, in_turning, is_answer, is_sent, leaves, news_in, news_of, overrides, sends_stay, stands, stored, told, told_at, told_send, visited, visits, waits, wished}
 use Rattle.pulsar_client.proofs.Natures.{StaysSo, either_so}
 
 -- of which call a plan is a part
 abbrev pub shares_of : Plan → Option Share
 shares_of (Sending w e share s) = share
+shares_of (Storing share) = share
 shares_of _ = None
 
 abbrev pub is_tell : Action → Bool
@@ -113,9 +115,21 @@ stands_mute w = either_so Mute (is_answered w.number) _ _ (refl, refl) tt
 gathers_mute : (first count left : ℕ) (failures : List (ℕ × Failure)) → StaysSo Mute (gathers first count left failures)
 gathers_mute first count left failures = either_so Mute (left == 0) _ _ tt (refl, refl)
 
+visits_mute : (r : Round) (n : ℕ) (ns : List ℕ) → StaysSo Mute (visits r n ns)
+visits_mute Checks n ns = (refl, refl)
+visits_mute Flushes n ns = (refl, refl)
+visits_mute Closes n ns = (refl, refl)
+
 round_mute : (r : Round) (ns : List ℕ) → StaysSo Mute (goes_round r ns)
 round_mute r [] = tt
-round_mute r (n ∷ ns) = (refl, refl)
+round_mute r (n ∷ ns) = visits_mute r n ns
+
+settling_mute : (r : Round) (n : ℕ) (left : List ℕ) (u : Outcome) → StaysSo Mute (in_settling r n left u)
+settling_mute Checks n left (outcome.Granted news.Done) = (refl, refl)
+settling_mute Flushes n left (outcome.Granted news.Done) = round_mute Flushes left
+settling_mute Closes n left (outcome.Granted news.Done) = (refl, refl)
+settling_mute r n left (outcome.Granted _) = tt
+settling_mute r n left _ = tt
 
 module _ (r : Round) (n : ℕ) (left : List ℕ) where
   turning_mute : (u : Outcome) → StaysSo Mute (in_turning r n left u)
@@ -145,6 +159,7 @@ module _ (r : Round) (n : ℕ) (left : List ℕ) where
   awaiting_mute _ = tt
 
   visit_mute : (x : Spot) (u : Outcome) → StaysSo Mute (told_at r n left x u)
+  visit_mute at.Settling u = settling_mute r n left u
   visit_mute at.Turning u = turning_mute u
   visit_mute at.Finding u = finding_mute u
   visit_mute at.Asking u = asking_mute u
@@ -177,6 +192,12 @@ sends_shares w e share (step.Stays s d) = stay_shares w e share s d
 sends_shares w e share (step.Gives (Ok r)) = tt
 sends_shares w e share (step.Gives (Err f)) = leaves_shares share f
 
+-- A MESSAGE THAT IS STORED
+
+stored_shares : (share : Option Share) → StaysSo (SharesSo share) (stored share)
+stored_shares None = record { keeps = λ x h. absurd (none_some h); tells = tt }
+stored_shares (Some s) = record { keeps = λ x h. absurd (none_some h); tells = (s, refl, refl, refl, refl) }
+
 -- ALL
 
 pub told_shares : (p : Plan) (u : Outcome) → StaysSo (SharesSo (shares_of p)) (told p u)
@@ -203,6 +224,19 @@ told_shares (Sending w e share s) u =
     (halted_shares share u)
     (sends_shares w e share (produce.send_told w e s (news_of u)))
 told_shares (Reporting w e) u = record { keeps = λ x h. absurd (none_some h); tells = tt }
+told_shares (Storing share) (outcome.Granted news.Done) = stored_shares share
+told_shares (Storing share) (outcome.Granted _) = tt
+told_shares (Storing share) _ = tt
+told_shares Stored (outcome.Settled (Ok receipt)) = tt
+told_shares Stored (outcome.Settled (Err f)) = tt
+told_shares Stored (outcome.Granted news.Done) = record { keeps = λ x h. absurd (none_some h); tells = tt }
+told_shares Stored (outcome.Granted _) = tt
+told_shares Stored _ = tt
+told_shares (Batching w e b) u =
+    let h = batches.halted b in
+    let x = batches.told w e b (news_of u) in
+    mute_shares None (told (Batching w e b) u)
+    (either_so Mute (overrides u) (batches_on w e h) (batches_on w e x) (refl, deed_mute h.deed) (refl, deed_mute x.deed))
 told_shares (Leaving f) u = tt
 told_shares (Gathering first count left failures) (outcome.Parted t f) =
     mute_shares None (gathers first count (left - 1) (failed_with t f failures)) (gathers_mute first count (left - 1) (failed_with t f failures))
@@ -217,6 +251,7 @@ told_shares Stopping _ = tt
 -- and of which a procedure is
 abbrev pub share_in : Procedure → Option Share
 share_in (procedure.Send w e share m) = share
+share_in (procedure.Store n share e) = share
 share_in (procedure.FailShare s r) = Some s
 share_in _ = None
 
@@ -228,6 +263,8 @@ begins_shares (procedure.Ask (Link l) request s) = record { keeps = λ x h. absu
 begins_shares (procedure.Search w what) = mute_shares None (goes w (search.begins w what)) (goes_mute w (search.begins w what))
 begins_shares (procedure.Produce w o) = mute_shares None (builds w o (produce.build_begins w o)) (builds_mute w o (produce.build_begins w o))
 begins_shares (procedure.Send w e share m) = sends_shares w e share (produce.send_begins e m)
+begins_shares (procedure.Store n share e) = record { keeps = λ x h. h; tells = tt }
+begins_shares (procedure.Batch w e) = record { keeps = λ x h. absurd (none_some h); tells = tt }
 begins_shares (procedure.FailShare s r) = record { keeps = λ x h. absurd (none_some h); tells = (s, refl, refl, refl, refl) }
 begins_shares (procedure.Gather first count) = mute_shares None (gathers first count count []) (gathers_mute first count count [])
 begins_shares (procedure.Go round ns) = mute_shares None (goes_round round ns) (round_mute round ns)

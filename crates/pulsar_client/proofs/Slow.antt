@@ -1,18 +1,16 @@
 -- A send that finds no room, and is not to wait, leaves all as it was.
-use Rattle.std.proofs.Common.{◌≡◌, ◌∙◌, ap, ℕ, List, ◌∷◌, refl, Bool, true, false, ◌&&◌, ◌==◌, cond, Option, Some, None, Err, inl, inr}
+use Rattle.std.proofs.Common.{◌≡◌, ◌∙◌, ap, ℕ, refl, ◌==◌, cond, Option, Some, None, Err, inl, inr}
 use Rattle.std.proofs.lemmas.Bool.{cases_Bool, eqb-true}
 use Rattle.std.specs.Option.{option_map}
 use Rattle.pulsar_wire.specs.declared.error.ConnectionError.TheVariants as error
 use Rattle.pulsar_messages.specs.Words.{Words}
 use Rattle.pulsar_session.proofs.Others.{slow_down_changes_nothing}
 use Rattle.pulsar_link.specs.Request.{closed_consumer, is_answered, request_number}
-use Rattle.pulsar_client.specs.declared.act.Act.TheVariants.{Does}
-use Rattle.pulsar_client.specs.declared.act.Action.TheVariants.{Ask}
 use Rattle.pulsar_client.specs.declared.act.Who.{Who}
-use Rattle.pulsar_client.specs.ProducerLaws.{SlowDownLeavesAll, seat_ticked, with_time}
-use Rattle.pulsar_client.specs.Run.{Entry, Then, view}
+use Rattle.pulsar_client.specs.ProducerLaws.{SlowDownLeavesAll, seat_ticked}
+use Rattle.pulsar_client.specs.Run.{view}
 use Rattle.pulsar_client.specs.Subscriptions.{Subscription, closed_at}
-use Rattle.pulsar_client.specs.View.{Options, Seat, View, answer_at, asker_at, hears_ask, is_asked, place_of, seat_asked}
+use Rattle.pulsar_client.specs.View.{Seat, View, answer_at, asker_at, hears_ask, is_asked, place_of, seat_asked}
 
 module _ (who : Who) (now l : ℕ) (request : Words) where
   seat_slow : (row : Option Seat) → answer_at now request row ≡ Err error.SlowDown →

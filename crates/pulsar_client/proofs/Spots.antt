@@ -1,43 +1,49 @@
 -- Along a run, one whose plan reports does so next, and no plan stands where a queued part of a call has not reported.
-use Rattle.std.proofs.Common.{◌≡◌, ◌∙◌, sym, ap, subst, List, ◌∷◌, ◌++◌, refl, Bool, true, false, cond, Option, Some, None, []}
+use Rattle.std.proofs.Common.{◌≡◌, ◌∙◌, sym, ap, subst, ℕ, List, ◌∷◌, ◌++◌, refl, Bool, true, false, ◌&&◌, cond, Option, Some, None, []}
 use Rattle.std.proofs.lemmas.Bool.{eqb-true, eq-eqb}
 use Rattle.pulsar_run.specs.Run.{first_of, rest}
 use Rattle.pulsar_client.specs.declared.act.Act.{Act}
 use Rattle.pulsar_client.specs.declared.act.Act.TheVariants.{Starts, Told, Does}
 use Rattle.pulsar_client.specs.declared.act.Action.{Action}
-use Rattle.pulsar_client.specs.declared.act.Action.TheVariants.{StopAll, Tell}
+use Rattle.pulsar_client.specs.declared.act.Action.TheVariants.{Ask, Find, PassTurn, Rest, Shut, StopAll, Store, TakeBatch, Tell, TellAll}
 use Rattle.pulsar_client.specs.declared.act.Notice.{Notice}
 use Rattle.pulsar_client.specs.declared.act.Outcome.{Outcome}
+use Rattle.pulsar_client.specs.declared.act.Outcome.TheVariants as outcome
 use Rattle.pulsar_client.specs.declared.act.Part.{Part}
 use Rattle.pulsar_client.specs.declared.act.Procedure.{Procedure}
 use Rattle.pulsar_client.specs.declared.act.Verdict.{Verdict}
 use Rattle.pulsar_client.specs.declared.act.Who.{Who}
-use Rattle.pulsar_client.specs.declared.act.Who.TheVariants.{Call}
+use Rattle.pulsar_client.specs.declared.act.Who.TheVariants.{Call, Producer}
 use Rattle.pulsar_client.specs.declared.plans.plan.Plan.{Plan}
 use Rattle.pulsar_client.specs.declared.plans.plan.Turn.{Turn}
 use Rattle.pulsar_client.specs.declared.plans.plan.Turn.TheVariants.{Stays, Gives}
 use Rattle.pulsar_client.specs.Plan.{begins, told}
-use Rattle.pulsar_client.specs.Rules.{at_once, does, follows, follows_some, grants}
+use Rattle.pulsar_client.specs.Producers.{link_at, next_batch_at}
+use Rattle.pulsar_client.specs.Rules.{at_once, does, finds, follows, follows_some, tells, told_at}
 use Rattle.pulsar_client.specs.Run.{Agenda, Entry, Begins, Then, IsRun, agenda, first, rules, view}
-use Rattle.pulsar_client.specs.View.{Options, View, stand_after, stays, stays_some, told_some}
+use Rattle.pulsar_client.specs.View.{Options, View, answer_at, stand_after, stays, stays_some, told_some}
 use Rattle.pulsar_client.specs.Who.{is_same}
 use Rattle.pulsar_producer.specs.declared.deed.News.TheVariants as news
 use Rattle.pulsar_client.specs.declared.act.Procedure.TheVariants as procedure
 use Rattle.pulsar_client.proofs.Acts.{begun_same, none_now}
-use Rattle.pulsar_client.proofs.Fitting.{Fits, Leaves, Nowhere, Reports, Spot, Usual, begins_fits, fits, is_stop, spot, told_fits}
+use Rattle.pulsar_client.proofs.Fitting.{Fits, Holds, Keeps, Leaves, Nowhere, Reports, Spot, Stores, Usual, begins_fits, fits, is_own, is_quick, is_stop, spot, told_fits}
 
 -- who has plans
 pub same_self : (w : Who) → is_same w w ≡ true
 same_self (Call t) = eq-eqb t t refl
+same_self (Producer n) = eq-eqb n n refl
 
 pub same_who : (w u : Who) → is_same w u ≡ true → w ≡ u
 same_who (Call s) (Call t) h = ap Call (eqb-true s t h)
+same_who (Producer m) (Producer n) h = ap Producer (eqb-true m n h)
+same_who (Call s) (Producer n) h = absurd cc
+same_who (Producer m) (Call t) h = absurd cc
 
 -- THE FIRST OF WHAT IS LEFT
 
--- this one tells another, or is told
+-- this one does what it is told of at once, or is told
 abbrev IsNext : Who → Act → Type 0
-IsNext w (Does who (Tell n)) = who ≡ w
+IsNext w (Does who action) = (who ≡ w) × (is_quick action ≡ true)
 IsNext w (Told n) = n.who ≡ w
 IsNext w a = ⊥
 
@@ -53,6 +59,9 @@ abbrev SoundAt : Spot → Who → List Act → Type 0
 SoundAt Usual w now = Unit {0}
 SoundAt Reports w now = IsFirst w now
 SoundAt Leaves w now = Unit {0}
+SoundAt Keeps w now = Unit {0}
+SoundAt Holds w now = IsFirst w now
+SoundAt Stores w now = IsFirst w now
 SoundAt Nowhere w now = ⊥
 
 head_is : (w : Who) (now : List Act) (here : List Notice) (behind : List (List Notice)) (parts : List Part) (a : Act) →
@@ -63,11 +72,23 @@ head_is w (b ∷ now) here behind parts a h k = subst (IsNext w) (let e : b ≡ 
 
 -- WHAT A PLAN DOES
 
+both : (a b : Bool) → (a && b) ≡ true → (a ≡ true) × (b ≡ true)
+both true b h = (refl, h)
+both false b h = absurd cc
+
+holds_on : (w who : Who) (action : Action) (left : List Act) → who ≡ w → is_quick action ≡ true → IsFirst w (does who action ++ left)
+holds_on w who Rest left is h = absurd cc
+holds_on w who action left is h = (is, h)
+
 at_spot : (w who : Who) (s : Spot) (action : Action) (left : List Act) → who ≡ w → fits s action ≡ true → SoundAt s w (does who action ++ left)
 at_spot w who Usual action left is h = tt
-at_spot w who Reports (Tell n) left is h = is
+at_spot w who Reports (Tell n) left is h = (is, refl)
 at_spot w who Reports action left is h = absurd cc
 at_spot w who Leaves action left is h = tt
+at_spot w who Keeps action left is h = tt
+at_spot w who Stores (Store n entry) left is h = (is, refl)
+at_spot w who Stores action left is h = absurd cc
+at_spot w who Holds action left is h = holds_on w who action left is (both (is_quick action) (is_own action) h).0
 at_spot w who Nowhere action left is h = absurd cc
 
 turn_sound : (w who : Who) (turn : Turn Plan Verdict) (left : List Act) → who ≡ w → Fits turn → SoundAt (spot_of (stays turn)) w (follows who turn ++ left)
@@ -102,6 +123,9 @@ module _ (o : Options) (w : Who) (log : List Entry) (k : SoundAt (spot_of ((view
   elsewhere Usual a later fits other k = tt
   elsewhere Reports a later fits other k = absurd (other (head_is w g.now g.here g.behind g.parts a fits k))
   elsewhere Leaves a later fits other k = tt
+  elsewhere Keeps a later fits other k = tt
+  elsewhere Stores a later fits other k = absurd (other (head_is w g.now g.here g.behind g.parts a fits k))
+  elsewhere Holds a later fits other k = absurd (other (head_is w g.now g.here g.behind g.parts a fits k))
   elsewhere Nowhere a later fits other k = absurd k
 
   others : (a : Act) (later : List Act) → first g ≡ Some a → (IsNext w a → ⊥) → SoundAt (spot_of (v.stand w)) w later
@@ -131,20 +155,47 @@ module _ (o : Options) (w : Who) (log : List Entry) (k : SoundAt (spot_of ((view
           (some_sound n.who (v.stand n.who) n.outcome left)
       by false e = others (Told n) acts f (not_it e)
 
-  tells_on : (who : Who) (n : Notice) → first g ≡ Some (Does who (Tell n)) → SoundAt (spot_of (v.stand w)) w (grants who news.Done ++ left)
-  tells_on who n f = by (spot_of (v.stand w)) k
+  -- one who does what it is told of at once is told next
+  told_next : (who : Who) (action : Action) → is_quick action ≡ true → (u : Outcome) × (at_once v (Does who action) ≡ tells who u)
+  told_next who (Tell n) q = (outcome.Granted news.Done, refl)
+  told_next who (TellAll ns) q = (outcome.Granted news.Done, refl)
+  told_next who (TakeBatch n) q = (outcome.Granted (news.HasBatch (next_batch_at (v.producers.topics n))), refl)
+  told_next who (Store n entry) q = (outcome.Granted news.Done, refl)
+  told_next who (Shut t) q = (outcome.Granted news.Done, refl)
+  told_next who (Find n) q = found (link_at (v.producers.topics n))
     where
-      by : (s : Spot) → SoundAt s w g.now → SoundAt s w (grants who news.Done ++ left)
-      by Usual j = tt
-      by Reports j = head_is w g.now g.here g.behind g.parts (Does who (Tell n)) f j
-      by Leaves j = tt
-      by Nowhere j = absurd j
+      found : (r : Option ℕ) → (u : Outcome) × (finds who r ≡ tells who u)
+      found None = (outcome.Disconnected, refl)
+      found (Some l) = (outcome.GotLink l, refl)
+  told_next who (Ask l request) q = (told_at (answer_at v.now request (v.links.live l)), refl)
+  told_next who (PassTurn n) q = (outcome.Granted news.Done, refl)
+  told_next who action q = absurd cc
+
+  quick_on : (who : Who) (action : Action) → is_quick action ≡ true → first g ≡ Some (Does who action) →
+      SoundAt (spot_of (v.stand w)) w (at_once v (Does who action) ++ left)
+  quick_on who action q f =
+      let t = told_next who action q in
+      subst (λ xs. SoundAt (spot_of (v.stand w)) w (xs ++ left)) (sym t.1) (by t.0 (spot_of (v.stand w)) k)
+    where
+      by : (u : Outcome) (s : Spot) → SoundAt s w g.now → SoundAt s w (tells who u ++ left)
+      by u Usual j = tt
+      by u Reports j = (head_is w g.now g.here g.behind g.parts (Does who action) f j).0
+      by u Leaves j = tt
+      by u Keeps j = tt
+      by u Holds j = (head_is w g.now g.here g.behind g.parts (Does who action) f j).0
+      by u Stores j = (head_is w g.now g.here g.behind g.parts (Does who action) f j).0
+      by u Nowhere j = absurd j
+
+  does_on : (who : Who) (action : Action) (b : Bool) → is_quick action ≡ b → first g ≡ Some (Does who action) →
+      SoundAt (spot_of (v.stand w)) w (at_once v (Does who action) ++ left)
+  does_on who action true q f = quick_on who action q f
+  does_on who action false q f =
+      others (Does who action) (at_once v (Does who action) ++ left) f (λ next. let no : false ≡ true = sym q ∙ next.1 in absurd cc)
 
   sound_on : (a : Act) → first g ≡ Some a → SoundAt (spot_of (stand_after a w (v.stand w))) w (at_once v a ++ left)
   sound_on (Starts who p) f = starts_on who p f
   sound_on (Told n) f = told_on n f
-  sound_on (Does who (Tell n)) f = tells_on who n f
-  sound_on (Does who action) f = others (Does who action) (at_once v (Does who action) ++ left) f (λ none. none)
+  sound_on (Does who action) f = does_on who action (is_quick action) refl f
   sound_on a f = others a (at_once v a ++ left) f (λ none. none)
 
 sound : (o : Options) (w : Who) (log : List Entry) → IsRun o log → SoundAt (spot_of ((view o log).stand w)) w (agenda o log).now
@@ -157,11 +208,14 @@ sound o w (Then a ∷ log) run = sound_on o w log (sound o w log run.0) a run.1
 
 -- AT THE STOP
 
--- none reports
+-- none reports, and none holds what it is told of at once
 abbrev pub is_calm : Spot → Bool
 is_calm Usual = true
 is_calm Reports = false
 is_calm Leaves = true
+is_calm Keeps = true
+is_calm Holds = false
+is_calm Stores = false
 is_calm Nowhere = false
 
 pub calm_stop : (o : Options) (w who : Who) (log : List Entry) → IsRun o log → first (agenda o log) ≡ Some (Does who StopAll) →
@@ -171,8 +225,14 @@ calm_stop o w who log run f = by (spot_of ((view o log).stand w)) (sound o w log
     g : Agenda
     g = agenda o log
 
+    never : IsNext w (Does who StopAll) → ⊥
+    never next = (let no : false ≡ true = next.1 in absurd cc)
+
     by : (s : Spot) → SoundAt s w g.now → is_calm s ≡ true
     by Usual k = refl
-    by Reports k = absurd (head_is w g.now g.here g.behind g.parts (Does who StopAll) f k)
+    by Reports k = absurd (never (head_is w g.now g.here g.behind g.parts (Does who StopAll) f k))
     by Leaves k = refl
+    by Keeps k = refl
+    by Holds k = absurd (never (head_is w g.now g.here g.behind g.parts (Does who StopAll) f k))
+    by Stores k = absurd (never (head_is w g.now g.here g.behind g.parts (Does who StopAll) f k))
     by Nowhere k = absurd k

@@ -1,5 +1,6 @@
 -- From a Stop on no attempt begins. The stop is asked for where nothing else is left to do; in its step the links end one after the other,
--- and whatever a plan is told is its last word; behind it no link is left, no alarm is set, and each call is refused.
+-- and whatever a plan is told is its last word, or what became of a batch; behind it no link is left, no alarm is set, and each call is
+-- refused.
 use Rattle.std.proofs.Common.{◌≡◌, ◌⊎◌, inl, inr, ◌∙◌, sym, ap, subst, ℕ, zero, suc, ◌+◌, ◌≤◌, nat_lt, List, ◌∷◌, ◌++◌, refl, arith, map, Bool, true, false, ◌&&◌, ◌==◌, not, cond, Option, Some, None, [], ◌^◌, ◌-◌}
 use Rattle.std.proofs.lemmas.Bool.{cases_Bool, eqb-true}
 use Rattle.std.proofs.lemmas.Bool.Decides.{nat_tests}
@@ -8,14 +9,14 @@ use Rattle.std.specs.Option.{option_map, is_some}
 use Rattle.pulsar_run.specs.Laws.{In}
 use Rattle.pulsar_run.specs.Order.{arranged, put, put_all}
 use Rattle.pulsar_run.specs.Run.{first_of, rest, rest_of}
-use Rattle.pulsar_session.specs.Failures.{Exhausted, Failure, OfConnection}
+use Rattle.pulsar_session.specs.Failures.{Exhausted}
 use Rattle.pulsar_session.specs.Link.{ends}
 use Rattle.pulsar_plans.specs.Address.{Place, address_key}
 use Rattle.pulsar_client.specs.declared.act.Act.{Act}
 use Rattle.pulsar_client.specs.declared.act.Act.TheVariants.{Comes, Starts, Told, Does, Answers, Dials}
-use Rattle.pulsar_client.specs.declared.act.Action.TheVariants.{Get, Ask, StopAll, Tell}
+use Rattle.pulsar_client.specs.declared.act.Action.TheVariants.{Get, Ask, StopAll, TakeBatch, Tell, TellAll}
 use Rattle.pulsar_client.specs.declared.act.Alarm.{Alarm}
-use Rattle.pulsar_client.specs.declared.act.Alarm.TheVariants.{Retry, Wake, KeepAlive, CheckIdle}
+use Rattle.pulsar_client.specs.declared.act.Alarm.TheVariants.{Retry, Wake, Batch, KeepAlive, CheckIdle}
 use Rattle.pulsar_client.specs.declared.act.End.TheVariants.{Stops}
 use Rattle.pulsar_client.specs.declared.act.LinkAct.{LinkAct}
 use Rattle.pulsar_client.specs.declared.act.LinkAct.TheVariants.{Opens, Reads, Drains, Pings, Ends}
@@ -26,43 +27,40 @@ use Rattle.pulsar_client.specs.declared.act.Outcome.{Outcome}
 use Rattle.pulsar_client.specs.declared.act.Part.{Part}
 use Rattle.pulsar_client.specs.declared.act.Part.TheVariants.{Calls, ToLink, Rings, Polls}
 use Rattle.pulsar_client.specs.declared.act.Procedure.{Procedure}
-use Rattle.pulsar_client.specs.declared.act.Verdict.{Verdict}
 use Rattle.pulsar_client.specs.declared.act.Who.{Who}
 use Rattle.pulsar_client.specs.declared.act.Who.TheVariants.{Call}
 use Rattle.pulsar_client.specs.declared.addresses.Pause.{Pause}
 use Rattle.pulsar_client.specs.declared.addresses.Series.{Series}
 use Rattle.pulsar_client.specs.declared.addresses.Series.TheVariants.{Nobody, Runs, Pauses, Serves}
 use Rattle.pulsar_client.specs.declared.plans.plan.Plan.{Plan}
-use Rattle.pulsar_client.specs.declared.plans.plan.Turn.{Turn}
-use Rattle.pulsar_client.specs.declared.plans.plan.Turn.TheVariants.{Stays, Gives}
 use Rattle.pulsar_plans.specs.declared.turn.Ways.{Ways}
 use Rattle.pulsar_client.specs.Alarms.{clear, rings}
 use Rattle.pulsar_client.specs.Content.{Asked, Bytes, Heard, lacks_tickets, shares}
 use Rattle.pulsar_client.specs.Laws.{NoneAfterStop, stopped}
 use Rattle.pulsar_client.specs.Links.{line_places, numbers_from}
-use Rattle.pulsar_client.specs.Plan.{fault_of, fails, told, verdict, halted_with}
-use Rattle.pulsar_client.specs.Rules.{closes, gathers, asks_topics, at_once, below, builds_with, called, causes, dropped, ended_on, failed_at, failed_on, failed_over, follows, follows_some, from_base, lost, notice, on_link, opens, over_links, procedure_for, searches, stop_act, stopped_at, stopped_with, tells, tells_asker, unless_refused, waiters_of, asks_raw, checks, flushes, joins, parts_of, produces, sends, shares_unless, starts, stopped_one, why_no_sends}
+use Rattle.pulsar_client.specs.Plan.{fails, verdict}
+use Rattle.pulsar_client.specs.Rules.{closes, gathers, asks_topics, at_once, below, builds_with, called, causes, dropped, ended_on, failed_at, failed_on, failed_over, follows_some, from_base, lost, notice, on_link, opens, over_links, procedure_for, searches, stop_act, stopped_at, stopped_with, tells, tells_asker, unless_refused, waiters_of, asks_raw, checks, flushes, joins, left_with, parts_of, produces, sends, shares_unless, starts, stopped_all, stopped_call, stopped_one, why_no_sends}
 use Rattle.pulsar_client.specs.Run.{Agenda, Entry, Begins, Then, IsRun, agenda, first, rules, view}
-use Rattle.pulsar_client.specs.View.{after, Addresses, Base, Options, Links, Seat, Tickets, View, alarms_after, alarms_built, alarms_on, alarms_over, begun, begun_live, builds, calls_after, got_at, is_live, link_got, live_after, live_begun, pause_after, pause_of, pause_on, pause_put, pause_rung, told_some, took_some, turned_by, ways_of, Chosen, may_call, stand_after, stays, stays_some}
-use Rattle.pulsar_producer.specs.declared.sending.Sending.{Sending as Send}
-use Rattle.pulsar_producer.specs.declared.sending.Errand.{Errand}
-use Rattle.pulsar_client.specs.declared.plans.plan.Plan.TheVariants.{Leaving, Reporting, Sending}
+use Rattle.pulsar_client.specs.View.{after, Addresses, Base, Options, Links, Seat, Tickets, View, alarms_after, alarms_built, alarms_on, alarms_over, begun, begun_live, builds, calls_after, got_at, is_live, link_got, live_after, live_begun, pause_after, pause_of, pause_on, pause_put, pause_rung, told_some, took_some, turned_by, ways_of, Chosen, may_call, producers_after, producers_made, producers_rung, stand_after, stays_some}
+use Rattle.pulsar_client.specs.declared.producers.Topic.{Topic}
+use Rattle.pulsar_producer.specs.Storage.{Item}
+use Rattle.pulsar_producer.specs.Topic.{Halts, Seen, TakesBatch, left_of, next_of}
+use Rattle.pulsar_producer.specs.declared.deed.News.TheVariants as news
 use Rattle.pulsar_messages.specs.Content.{ProducerMessageValues}
-use Rattle.pulsar_client.specs.Producers.{Producers, next_advice, waiting, why_not}
+use Rattle.pulsar_client.specs.Producers.{Producers, called_on, changed, next_advice, next_batch_at, topic_after, unsent, waiting, why_not}
 use Rattle.pulsar_client.specs.declared.act.Refusal.{Refusal}
-use Rattle.pulsar_client.specs.declared.act.Share.{Share}
 use Rattle.pulsar_client.specs.Who.{is_same}
 use Rattle.pulsar_client.specs.declared.act.Refusal.TheVariants as refusal
 use Rattle.pulsar_client.specs.declared.act.Outcome.TheVariants as outcome
 use Rattle.pulsar_client.specs.declared.act.Procedure.TheVariants as procedure
 use Rattle.pulsar_plans.specs.declared.plan.Procedure.TheVariants as sought
 use Rattle.pulsar_client.specs.Content as content
-use Rattle.pulsar_producer.specs.declared.sending.Sending.TheVariants as send
 use Rattle.pulsar_client.proofs.Asked.{stop_clear}
-use Rattle.pulsar_client.proofs.Acts.{Each, begun_same, each_append, each_either, each_flat, each_rest, first_case, none_now, over_each}
+use Rattle.pulsar_client.proofs.Acts.{Each, begun_same, each_append, each_either, each_flat, each_map, first_case, none_now, over_each}
 use Rattle.pulsar_client.proofs.Attempts.{is_dial}
-use Rattle.pulsar_client.proofs.Fitting.{Leaves, Spot, spot}
-use Rattle.pulsar_client.proofs.Spots.{calm_stop, is_calm, same_self, same_who, spot_of}
+use Rattle.pulsar_client.proofs.Keepers.{Keeps, RowSo, batch_keeps, ends_settled, settled_some}
+use Rattle.pulsar_client.proofs.Spots.{calm_stop, same_self, same_who, spot_of}
+use Rattle.pulsar_client.proofs.LastWords.{AreLast, batch_fine, batch_some, batch_told, calm_fine, each_last, ends_fine, ends_some, is_fine, is_last_word, is_leaving, IsLast, IsLastNotice, IsLate, IsParting, last_append, last_rest, last_some, left_fine, left_some, makes_nothing, settling_told, some_fine, taking_told}
 
 -- LISTS
 
@@ -150,128 +148,8 @@ is_started o log l seat h = elim (cases_Bool (nat_lt l (view o log).links.starte
       absurd cc)
 ]
 
--- LAST WORDS
+-- EACH CALL IS REFUSED
 
-abbrev is_last_word : Outcome → Bool
-is_last_word outcome.Cut = true
-is_last_word outcome.Stopped = true
-is_last_word _ = false
-
-abbrev makes_nothing : Makes → Bool
-makes_nothing Nothing = true
-makes_nothing _ = false
-
-abbrev is_refused : Procedure → Bool
-is_refused (procedure.Refuse r) = true
-is_refused _ = false
-
--- what may be left where the client is stopped
-abbrev is_last : Act → Bool
-is_last (Comes (ToLink l (Ends Stops))) = true
-is_last (Told n) = is_last_word n.outcome
-is_last (Answers who verdict) = makes_nothing verdict.makes
-is_last (Starts who p) = is_refused p
-is_last _ = false
-
-abbrev IsLast : Act → Type 0
-IsLast a = is_last a ≡ true
-
-abbrev IsLastNotice : Notice → Type 0
-IsLastNotice n = is_last_word n.outcome ≡ true
-
--- one whose plan leaves tells it to the call of which it is a part, or is told that it is done
-abbrev is_leaving : Spot → Bool
-is_leaving Leaves = true
-is_leaving _ = false
-
-abbrev IsParting : (Who → Option Plan) → Act → Type 0
-IsParting stand (Does who (Tell n)) = (is_last_word n.outcome ≡ true) × (is_leaving (spot_of (stand who)) ≡ true)
-IsParting stand (Told n) = is_leaving (spot_of (stand n.who)) ≡ true
-IsParting stand a = ⊥
-
--- such a one may be first of what is left, and no other
-abbrev AreLast : (Who → Option Plan) → List Act → Type 0
-AreLast stand [] = Unit {0}
-AreLast stand (a ∷ now) = (IsLast a ⊎ IsParting stand a) × Each IsLast now
-
-each_last : (stand : Who → Option Plan) (xs : List Act) → Each IsLast xs → AreLast stand xs
-each_last stand [] k = tt
-each_last stand (a ∷ xs) k = (inl k.0, k.1)
-
-last_append : (stand : Who → Option Plan) (xs ys : List Act) → AreLast stand xs → Each IsLast ys → AreLast stand (xs ++ ys)
-last_append stand [] ys p q = each_last stand ys q
-last_append stand (x ∷ xs) ys p q = (p.0, each_append IsLast xs ys p.1 q)
-
-last_rest : (stand : Who → Option Plan) (now : List Act) (here : List Notice) (behind : List (List Notice)) (ps : List Part) → AreLast stand now →
-    Each IsLast (rest_of now here behind ps).now
-last_rest stand (a ∷ now) here behind ps k = k.1
-last_rest stand [] here behind ps k = each_rest IsLast [] here behind ps tt
-
--- what a plan does that is told its last word
-abbrev IsLastTurn : Turn Plan Verdict → Type 0
-IsLastTurn (Gives verdict) = makes_nothing verdict.makes ≡ true
-IsLastTurn (Stays (Leaving f) (Tell n)) = is_last_word n.outcome ≡ true
-IsLastTurn _ = ⊥
-
-halted_last : (share : Option Share) (f : Failure) → IsLastTurn (halted_with share f)
-halted_last None f = refl
-halted_last (Some s) f = refl
-
-sending_last : (w : Ways) (e : Errand) (share : Option Share) (s : Send) (u : Outcome) → is_last_word u ≡ true → is_calm (spot (Sending w e share s)) ≡ true →
-    IsLastTurn (told (Sending w e share s) u)
-sending_last w e None send.Sent outcome.Cut is c = refl
-sending_last w e None send.Sent outcome.Stopped is c = refl
-sending_last w e (Some share) send.Sent outcome.Cut is c = absurd cc
-sending_last w e (Some share) send.Sent outcome.Stopped is c = absurd cc
-sending_last w e share s outcome.Cut is c = halted_last share (OfConnection (fault_of outcome.Cut))
-sending_last w e share s outcome.Stopped is c = halted_last share (OfConnection (fault_of outcome.Stopped))
-sending_last w e share s u is c = absurd cc
-
-last_told : (plan : Plan) (u : Outcome) → is_last_word u ≡ true → is_calm (spot plan) ≡ true → IsLastTurn (told plan u)
-last_told (Sending w e share s) u is c = sending_last w e share s u is c
-last_told (Reporting w e) u is c = absurd cc
-last_told plan outcome.Cut is c = refl
-last_told plan outcome.Stopped is c = refl
-last_told plan u is c = absurd cc
-
-last_turn : (stand : Who → Option Plan) (who : Who) (turn : Turn Plan Verdict) → stand who ≡ stays turn → IsLastTurn turn → AreLast stand (follows who turn)
-last_turn stand who (Gives verdict) e h = (inl h, tt)
-last_turn stand who (Stays (Leaving f) (Tell n)) e h = (inr (h, ap (λ row. is_leaving (spot_of row)) e), tt)
-last_turn stand who (Stays plan action) e h = absurd h
-
-last_some : (stand : Who → Option Plan) (who : Who) (row : Option Plan) (u : Outcome) → stand who ≡ stays_some (told_some row u) → is_last_word u ≡ true →
-    is_calm (spot_of row) ≡ true → AreLast stand (follows_some who (told_some row u))
-last_some stand who None u e is c = tt
-last_some stand who (Some plan) u e is c = last_turn stand who (told plan u) e (last_told plan u is c)
-
-last_calm : (turn : Turn Plan Verdict) → IsLastTurn turn → is_calm (spot_of (stays turn)) ≡ true
-last_calm (Gives verdict) h = refl
-last_calm (Stays (Leaving f) (Tell n)) h = refl
-last_calm (Stays plan action) h = absurd h
-
-some_calm : (row : Option Plan) (u : Outcome) → is_last_word u ≡ true → is_calm (spot_of row) ≡ true → is_calm (spot_of (stays_some (told_some row u))) ≡ true
-some_calm None u is c = refl
-some_calm (Some plan) u is c = last_calm (told plan u) (last_told plan u is c)
-
--- one whose plan leaves has left, whatever it is told
-leaves_so : (plan : Plan) → is_leaving (spot plan) ≡ true → (f : Failure) × (plan ≡ Leaving f)
-leaves_so (Leaving f) h = (f, refl)
-leaves_so (Sending w e None s) h = absurd cc
-leaves_so (Sending w e (Some share) send.Sent) h = absurd cc
-leaves_so (Sending w e (Some share) s) h = absurd cc
-leaves_so plan h = absurd cc
-
-left_some : (stand : Who → Option Plan) (who : Who) (row : Option Plan) (u : Outcome) → is_leaving (spot_of row) ≡ true →
-    AreLast stand (follows_some who (told_some row u))
-left_some stand who None u h = absurd cc
-left_some stand who (Some plan) u h =
-    let k = leaves_so plan h in subst (λ x. AreLast stand (follows who (told x u))) (sym k.1) (inl refl, tt)
-
-left_calm : (row : Option Plan) (u : Outcome) → is_leaving (spot_of row) ≡ true → is_calm (spot_of (stays_some (told_some row u))) ≡ true
-left_calm None u h = absurd cc
-left_calm (Some plan) u h = let k = leaves_so plan h in subst (λ x. is_calm (spot_of (stays (told x u))) ≡ true) (sym k.1) refl
-
--- each call is refused
 refused_unless : (who : Who) (b : Bool) (p : Procedure) → b ≡ false → IsLast (Starts who (unless_refused b p))
 refused_unless who b p h = rw h refl
 
@@ -365,6 +243,7 @@ last_at known (Some p) = last_map outcome.Stopped (known.base (address_key p.add
 last_with : (known : Addresses) (a : Alarm) → Each IsLastNotice (stopped_with known a)
 last_with known (Retry l) = last_at known (known.pause l)
 last_with known (Wake who) = (refl, tt)
+last_with known (Batch n) = tt
 last_with known (KeepAlive l) = tt
 last_with known CheckIdle = tt
 
@@ -391,6 +270,10 @@ took_stops now None = refl
 took_stops now (Some seat) = refl
 
 -- no check of idle links begins with a verdict that makes nothing
+none_left : (ways : Option Ways) (m : Makes) → makes_nothing m ≡ true → Each IsLast (left_with ways m)
+none_left ways Nothing is = tt
+none_left ways m is = absurd cc
+
 none_built : (b : Bool) (m : Makes) → makes_nothing m ≡ true → (b && builds m false) ≡ false
 none_built true Nothing is = refl
 none_built false Nothing is = refl
@@ -402,12 +285,13 @@ none_built b (Producer building) is = absurd cc
 
 record Over (o : Options) (log : List Entry) : Type 0 where
   now : AreLast (view o log).stand (agenda o log).now
-  here : Each IsLastNotice (agenda o log).here
-  behind : Each (Each IsLastNotice) (agenda o log).behind
+  here : Each (IsLate (view o log).stand) (agenda o log).here
+  behind : Each (Each (IsLate (view o log).stand)) (agenda o log).behind
   pauses : (l : ℕ) → (view o log).addresses.pause l ≡ None
   alarms : (view o log).alarms ≡ []
   is_stopped : (view o log).calls.is_stopped ≡ true
-  calm : (w : Who) → is_calm (spot_of ((view o log).stand w)) ≡ true
+  fine : (w : Who) → is_fine ((view o log).stand w) ≡ true
+  bare : (m : ℕ) → next_batch_at ((view o log).producers.topics m) ≡ None
   links : (l : ℕ) → ((view o log).links.live l ≡ None) ⊎ In (Comes (ToLink l (Ends Stops))) (agenda o log).now
 
 -- a part that comes, where nothing else is left at once
@@ -417,31 +301,62 @@ record PartComes (a : Act) (now : List Act) : Type 0 where
   none : now ≡ []
 
 last_first : (stand : Who → Option Plan) (now : List Act) (here : List Notice) (behind : List (List Notice)) (ps : List Part) (a : Act) → AreLast stand now →
-    Each IsLastNotice here → Each (Each IsLastNotice) behind → first_of rules now here behind ps ≡ Some a → IsLast a ⊎ (IsParting stand a ⊎ PartComes a now)
+    Each (IsLate stand) here → Each (Each (IsLate stand)) behind → first_of rules now here behind ps ≡ Some a →
+    IsLast a ⊎ (IsParting stand a ⊎ PartComes a now)
 last_first stand (b ∷ now) here behind ps a n h c fits = elim n.0 [
   | inl is ↦ inl (subst IsLast (let e : b ≡ a = cc in e) is)
   | inr is ↦ inr (inl (subst (IsParting stand) (let e : b ≡ a = cc in e) is))
 ]
-last_first stand [] (m ∷ here) behind ps a n h c fits = inl (subst IsLast (let e : Told m ≡ a = cc in e) h.0)
+last_first stand [] (m ∷ here) behind ps a n h c fits =
+    let e : Told m ≡ a = cc in
+    elim h.0 [ inl is ↦ inl (subst IsLast e is) | inr is ↦ inr (inl (subst (IsParting stand) e (inr (inr is)))) ]
 last_first stand [] [] (cause ∷ behind) ps a n h c fits = last_first stand [] cause behind ps a tt c.0 c.1 fits
 last_first stand [] [] [] (p ∷ ps) a n h c fits = inr (inr (record { part = p; is_it = (let e : a ≡ Comes p = cc in e); none = refl }))
 last_first stand [] [] [] [] a n h c fits = absurd cc
 
-rest_here : (now : List Act) (here : List Notice) (behind : List (List Notice)) (ps : List Part) → Each IsLastNotice here → Each (Each IsLastNotice) behind →
-    Each IsLastNotice (rest_of now here behind ps).here
-rest_here (a ∷ now) here behind ps h c = h
-rest_here [] (m ∷ here) behind ps h c = h.1
-rest_here [] [] (cause ∷ behind) ps h c = rest_here [] cause behind ps c.0 c.1
-rest_here [] [] [] ps h c = tt
+module _ (P : Notice → Type 0) where
+  rest_here : (now : List Act) (here : List Notice) (behind : List (List Notice)) (ps : List Part) → Each P here → Each (Each P) behind →
+      Each P (rest_of now here behind ps).here
+  rest_here (a ∷ now) here behind ps h c = h
+  rest_here [] (m ∷ here) behind ps h c = h.1
+  rest_here [] [] (cause ∷ behind) ps h c = rest_here [] cause behind ps c.0 c.1
+  rest_here [] [] [] ps h c = tt
 
-rest_behind : (now : List Act) (here : List Notice) (behind : List (List Notice)) (ps : List Part) → Each (Each IsLastNotice) behind →
-    Each (Each IsLastNotice) (rest_of now here behind ps).behind
-rest_behind (a ∷ now) here behind ps c = c
-rest_behind [] (m ∷ here) behind ps c = c
-rest_behind [] [] (cause ∷ behind) ps c = rest_behind [] cause behind ps c.1
-rest_behind [] [] [] ps c = tt
+  rest_behind : (now : List Act) (here : List Notice) (behind : List (List Notice)) (ps : List Part) → Each (Each P) behind →
+      Each (Each P) (rest_of now here behind ps).behind
+  rest_behind (a ∷ now) here behind ps c = c
+  rest_behind [] (m ∷ here) behind ps c = c
+  rest_behind [] [] (cause ∷ behind) ps c = rest_behind [] cause behind ps c.1
+  rest_behind [] [] [] ps c = tt
 
-module _ (o : Options) (log : List Entry) (k : Over o log) where
+-- no batch is found where none was cut
+bare_left : (c : List (List Item)) (v : Seen) → next_of c ≡ None → next_of v.cut ≡ None → next_of (left_of c v).cut ≡ None
+bare_left [] v h k = k
+bare_left (b ∷ bs) v h k = absurd cc
+
+bare_taken : (row : Option Topic) → next_batch_at row ≡ None → next_batch_at (option_map (topic_after TakesBatch) row) ≡ None
+bare_taken None h = refl
+bare_taken (Some t) h = bare_left t.seen.cut t.seen h h
+
+bare_changed : (n m : ℕ) (ps : Producers) → next_batch_at (ps.topics m) ≡ None → next_batch_at ((changed n TakesBatch ps).topics m) ≡ None
+bare_changed n m ps h = elim (m == n) as (λ b. next_batch_at (cond b (option_map (topic_after TakesBatch) (ps.topics m)) (ps.topics m)) ≡ None) [
+  | true ↦ bare_taken (ps.topics m) h
+  | false ↦ h
+]
+
+bare_halted : (row : Option Topic) → next_batch_at (option_map (topic_after Halts) row) ≡ None
+bare_halted None = refl
+bare_halted (Some t) = refl
+
+made_none : (o : Chosen) (who : Who) (m : Makes) (ps : Producers) → makes_nothing m ≡ true → producers_made o who m ps ≡ ps
+made_none o who Nothing ps h = refl
+made_none o who m ps h = absurd cc
+
+none_rung : (a : Alarm) (ps : Producers) → producers_rung false a ps ≡ ps
+none_rung (Batch n) ps = refl
+none_rung _ ps = refl
+
+module _ (o : Options) (log : List Entry) (run : IsRun o log) (k : Over o log) where
   abbrev v : View
   v = view o log
 
@@ -456,35 +371,53 @@ module _ (o : Options) (log : List Entry) (k : Over o log) where
   still_stopped (Does who StopAll) = refl
   still_stopped _ = k.is_stopped
 
-  left_of : (a : Act) (l : ℕ) → first g ≡ Some a → In (Comes (ToLink l (Ends Stops))) g.now →
+  left_of_now : (a : Act) (l : ℕ) → first g ≡ Some a → In (Comes (ToLink l (Ends Stops))) g.now →
       (Comes (ToLink l (Ends Stops)) ≡ a) ⊎ In (Comes (ToLink l (Ends Stops))) (rest g).now
-  left_of a l fits i = elim (first_case g.now g.here g.behind g.parts a fits) [
+  left_of_now a l fits i = elim (first_case g.now g.here g.behind g.parts a fits) [
     | inl e ↦ subst (In (Comes (ToLink l (Ends Stops)))) e i
     | inr e ↦ absurd (subst (In (Comes (ToLink l (Ends Stops)))) e.0 i)
   ]
 
-  goes_over : (a : Act) → first g ≡ Some a → is_dial a ≡ false → AreLast (after a v).stand (at_once v a) → Each IsLastNotice (joins v a) →
-      Each (Each IsLastNotice) (causes v a) → ((l : ℕ) → pause_after v a l None ≡ None) → alarms_after v a ≡ [] →
-      ((w : Who) → is_calm (spot_of (stand_after a w (v.stand w))) ≡ true) →
+  -- one whose message is stored ends with that, whatever it is told
+  abbrev StaysEnding : Act → Type 0
+  StaysEnding a = (w : Who) → ends_settled (v.stand w) ≡ true → ends_settled (stand_after a w (v.stand w)) ≡ true
+
+  late_more : (a : Act) → StaysEnding a → (n : Notice) → IsLate v.stand n → IsLate (after a v).stand n
+  late_more a ends n (inl is) = inl is
+  late_more a ends n (inr s) = inr (s.0, ends n.who s.1)
+
+  lasts_late : (stand : Who → Option Plan) (nss : List (List Notice)) → Each (Each IsLastNotice) nss → Each (Each (IsLate stand)) nss
+  lasts_late stand nss c = each_map (Each IsLastNotice) (Each (IsLate stand)) nss (λ ns h. each_map IsLastNotice (IsLate stand) ns (λ n is. inl is) h) c
+
+  goes_over : (a : Act) → first g ≡ Some a → is_dial a ≡ false → StaysEnding a → AreLast (after a v).stand (at_once v a) →
+      Each (IsLate (after a v).stand) (joins v a) → Each (Each IsLastNotice) (causes v a) → ((l : ℕ) → pause_after v a l None ≡ None) →
+      alarms_after v a ≡ [] → ((w : Who) → is_fine (stand_after a w (v.stand w)) ≡ true) →
+      ((m : ℕ) → next_batch_at ((producers_after v a).topics m) ≡ None) →
       ((l : ℕ) → Comes (ToLink l (Ends Stops)) ≡ a → live_after v.chosen v.addresses v.now v.links.started a l (v.links.live l) ≡ None) → Over o (Then a ∷ log)
-  goes_over a fits no_dial once join caused pauses alarms calm own = record {
-    now = last_append (after a v).stand (at_once v a) (rest g).now once (last_rest v.stand g.now g.here g.behind g.parts k.now);
-    here = each_put_all IsLastNotice (joins v a) (rest g).here join (rest_here g.now g.here g.behind g.parts k.here k.behind);
-    behind =
-        each_append (Each IsLastNotice) (rest g).behind (map (arranged below) (causes v a)) (rest_behind g.now g.here g.behind g.parts k.behind)
-        (each_arranged IsLastNotice (causes v a) caused);
-    pauses = λ l. ap (pause_after v a l) (k.pauses l) ∙ pauses l;
-    alarms = alarms;
-    is_stopped = still_stopped a;
-    calm = calm;
-    links = λ l. elim (k.links l) [
-      | inl e ↦ inl (ap (live_after v.chosen v.addresses v.now v.links.started a l) e ∙ stays_dead v a l no_dial)
-      | inr i ↦ elim (left_of a l fits i) [
-        | inl e ↦ inl (own l e)
-        | inr j ↦ inr (in_right (Comes (ToLink l (Ends Stops))) (at_once v a) (rest g).now j)
-      ]
-    ];
-  }
+  goes_over a fits no_dial ends once join caused pauses alarms fine bare own =
+      let late = late_more a ends in
+      let P : Notice → Type 0 = IsLate v.stand in
+      let Q : Notice → Type 0 = IsLate (after a v).stand in
+      record {
+        now = last_append (after a v).stand (at_once v a) (rest g).now once (last_rest v.stand g.now g.here g.behind g.parts k.now);
+        here = each_put_all Q (joins v a) (rest g).here join (each_map P Q (rest g).here late (rest_here P g.now g.here g.behind g.parts k.here k.behind));
+        behind =
+            each_append (Each Q) (rest g).behind (map (arranged below) (causes v a))
+            (each_map (Each P) (Each Q) (rest g).behind (λ ns h. each_map P Q ns late h) (rest_behind P g.now g.here g.behind g.parts k.behind))
+            (each_arranged Q (causes v a) (lasts_late (after a v).stand (causes v a) caused));
+        pauses = λ l. ap (pause_after v a l) (k.pauses l) ∙ pauses l;
+        alarms = alarms;
+        is_stopped = still_stopped a;
+        fine = fine;
+        bare = bare;
+        links = λ l. elim (k.links l) [
+          | inl e ↦ inl (ap (live_after v.chosen v.addresses v.now v.links.started a l) e ∙ stays_dead v a l no_dial)
+          | inr i ↦ elim (left_of_now a l fits i) [
+            | inl e ↦ inl (own l e)
+            | inr j ↦ inr (in_right (Comes (ToLink l (Ends Stops))) (at_once v a) (rest g).now j)
+          ]
+        ];
+      }
 
   -- one is told
   abbrev told_stand : Notice → Who → Option Plan
@@ -493,25 +426,37 @@ module _ (o : Options) (log : List Entry) (k : Over o log) where
   own_stand : (n : Notice) → told_stand n n.who ≡ stays_some (told_some (v.stand n.who) n.outcome)
   own_stand n = ap (λ b. cond b (stays_some (told_some (v.stand n.who) n.outcome)) (v.stand n.who)) (same_self n.who)
 
-  told_calm : (n : Notice) (w : Who) → (w ≡ n.who → is_calm (spot_of (stays_some (told_some (v.stand w) n.outcome))) ≡ true) →
-      is_calm (spot_of (told_stand n w)) ≡ true
-  told_calm n w c = by (is_same w n.who) refl
-    where
-      by : (b : Bool) → is_same w n.who ≡ b → is_calm (spot_of (cond b (stays_some (told_some (v.stand w) n.outcome)) (v.stand w))) ≡ true
-      by true e = c (same_who w n.who e)
-      by false e = k.calm w
+  told_ends : (n : Notice) → StaysEnding (Told n)
+  told_ends n w h = elim (is_same w n.who) as (λ b. ends_settled (cond b (stays_some (told_some (v.stand w) n.outcome)) (v.stand w)) ≡ true) [
+    | true ↦ settled_some (v.stand w) n.outcome h
+    | false ↦ h
+  ]
 
-  refused_calm : (who w : Who) (r : Refusal) → is_calm (spot_of (stand_after (Starts who (procedure.Refuse r)) w (v.stand w))) ≡ true
-  refused_calm who w r = by (is_same w who)
+  told_fine : (n : Notice) (w : Who) → (w ≡ n.who → is_fine (stays_some (told_some (v.stand w) n.outcome)) ≡ true) → is_fine (told_stand n w) ≡ true
+  told_fine n w c = by (is_same w n.who) refl
     where
-      by : (b : Bool) → is_calm (spot_of (cond b None (v.stand w))) ≡ true
-      by true = refl
-      by false = k.calm w
+      by : (b : Bool) → is_same w n.who ≡ b → is_fine (cond b (stays_some (told_some (v.stand w) n.outcome)) (v.stand w)) ≡ true
+      by true e = c (same_who w n.who e)
+      by false e = k.fine w
+
+  -- what holds of the one who is told holds of whom it is
+  of_told : (n : Notice) (w : Who) (test : Option Plan → Bool) → test (v.stand n.who) ≡ true → w ≡ n.who → test (v.stand w) ≡ true
+  of_told n w test h e = ap (λ x. test (v.stand x)) e ∙ h
+
+  refused_fine : (who w : Who) (r : Refusal) → is_fine (stand_after (Starts who (procedure.Refuse r)) w (v.stand w)) ≡ true
+  refused_fine who w r = elim (is_same w who) as (λ b. is_fine (cond b None (v.stand w)) ≡ true) [ true ↦ refl | false ↦ k.fine w ]
+
+  refused_ends : (who : Who) (r : Refusal) → StaysEnding (Starts who (procedure.Refuse r))
+  refused_ends who r w h = elim (is_same w who) as (λ b. ends_settled (cond b None (v.stand w)) ≡ true) [ true ↦ refl | false ↦ h ]
+
+  -- how each who waits for a batch stands
+  abbrev kept_rows : (w : Who) → RowSo (Keeps o log) (v.stand w)
+  kept_rows w = batch_keeps o log w run
 
   last_on : (a : Act) → first g ≡ Some a → IsLast a → Over o (Then a ∷ log)
   last_on (Comes (ToLink l (Ends Stops))) fits is =
-      goes_over (Comes (ToLink l (Ends Stops))) fits refl tt tt (last_caused v l) (λ j. no_pause_on v l j (v.links.live l))
-      (ap (alarms_after_end l) k.alarms ∙ no_alarm_on v l (v.links.live l)) k.calm own
+      goes_over (Comes (ToLink l (Ends Stops))) fits refl (λ w h. h) tt tt (last_caused v l) (λ j. no_pause_on v l j (v.links.live l))
+      (ap (alarms_after_end l) k.alarms ∙ no_alarm_on v l (v.links.live l)) k.fine k.bare own
     where
       alarms_after_end : ℕ → List (Alarm × ℕ) → List (Alarm × ℕ)
       alarms_after_end l alarms = alarms_on v.chosen v.now (option_map (turned_by v.chosen v.addresses v.now l (Ends Stops)) (v.links.live l)) alarms
@@ -520,21 +465,49 @@ module _ (o : Options) (log : List Entry) (k : Over o log) where
           cond (j == l) (took_some (Ends Stops) v.now (v.links.live j)) (v.links.live j) ≡ None
       own j e = let same : j ≡ l = cc in let d : (j == l) ≡ true = rw same (grind (arith, nat_tests)) in rw d (took_stops v.now (v.links.live j))
   last_on (Told n) fits is =
-      goes_over (Told n) fits refl (last_some (told_stand n) n.who (v.stand n.who) n.outcome (own_stand n) is (k.calm n.who)) tt tt (λ l. refl) k.alarms
-      (λ w. told_calm n w (λ e. some_calm (v.stand w) n.outcome is (k.calm w))) (λ l e. absurd cc)
+      goes_over (Told n) fits refl (told_ends n)
+      (last_some (Keeps o log) (told_stand n) n.who (v.stand n.who) n.outcome (λ t p. told_ends n (Call t) p.waits) (own_stand n) is (k.fine n.who)
+      (kept_rows n.who)) tt tt (λ l. refl) k.alarms
+      (λ w. told_fine n w (λ e. some_fine (Keeps o log) (v.stand w) n.outcome is (k.fine w) (kept_rows w))) k.bare (λ l e. absurd cc)
   last_on (Answers who verdict) fits is =
-      goes_over (Answers who verdict) fits refl tt tt tt (λ l. refl)
-      (ap (λ b. alarms_built v.now b v.alarms) (none_built (not v.calls.is_built) verdict.makes is) ∙ k.alarms) k.calm (λ l e. absurd cc)
+      goes_over (Answers who verdict) fits refl (λ w h. h)
+      (each_last v.stand (left_with (ways_of v.chosen) verdict.makes) (none_left (ways_of v.chosen) verdict.makes is)) tt tt (λ l. refl)
+      (ap (λ b. alarms_built v.now b v.alarms) (none_built (not v.calls.is_built) verdict.makes is) ∙ k.alarms) k.fine
+      (λ m. ap (λ ps. next_batch_at (ps.topics m)) (made_none v.chosen who verdict.makes v.producers is) ∙ k.bare m) (λ l e. absurd cc)
   last_on (Starts who (procedure.Refuse r)) fits is =
-      goes_over (Starts who (procedure.Refuse r)) fits refl (inl refl, tt) tt tt (λ l. refl) k.alarms (λ w. refused_calm who w r) (λ l e. absurd cc)
+      goes_over (Starts who (procedure.Refuse r)) fits refl (refused_ends who r) (inl refl, tt) tt tt (λ l. refl) k.alarms (λ w. refused_fine who w r) k.bare
+      (λ l e. absurd cc)
   last_on a fits is = absurd cc
 
-  -- one leaves
+  -- one leaves, or a plan of batches goes on, or one is told what became of its message
+  told_on : (n : Notice) → first g ≡ Some (Told n) → AreLast (told_stand n) (follows_some n.who (told_some (v.stand n.who) n.outcome)) →
+      ((w : Who) → w ≡ n.who → is_fine (stays_some (told_some (v.stand w) n.outcome)) ≡ true) → Over o (Then (Told n) ∷ log)
+  told_on n fits once fine =
+      goes_over (Told n) fits refl (told_ends n) once tt tt (λ l. refl) k.alarms (λ w. told_fine n w (fine w)) k.bare (λ l e. absurd cc)
+
+  parts_told : (n : Notice) → first g ≡ Some (Told n) → IsParting v.stand (Told n) → Over o (Then (Told n) ∷ log)
+  parts_told n fits (inl is) =
+      told_on n fits (left_some (told_stand n) n.who (v.stand n.who) n.outcome is)
+      (λ w e. left_fine (v.stand w) n.outcome (of_told n w (λ row. is_leaving (spot_of row)) is e))
+  parts_told n fits (inr (inl is)) =
+      told_on n fits (batch_some (told_stand n) n.who (v.stand n.who) n.outcome (own_stand n) is)
+      (λ w e. batch_fine (v.stand w) n.outcome (of_told n w (λ row. batch_told row n.outcome) is e))
+  parts_told n fits (inr (inr s)) =
+      told_on n fits (ends_some (told_stand n) n.who (v.stand n.who) n.outcome s.0 s.1)
+      (λ w e. ends_fine (v.stand w) n.outcome s.0 (of_told n w ends_settled s.1 e))
+
   parts_on : (a : Act) → first g ≡ Some a → IsParting v.stand a → Over o (Then a ∷ log)
-  parts_on (Does who (Tell n)) fits is = goes_over (Does who (Tell n)) fits refl (inr is.1, tt) (is.0, tt) tt (λ l. refl) k.alarms k.calm (λ l e. absurd cc)
-  parts_on (Told n) fits is =
-      goes_over (Told n) fits refl (left_some (told_stand n) n.who (v.stand n.who) n.outcome is) tt tt (λ l. refl) k.alarms
-      (λ w. told_calm n w (λ e. left_calm (v.stand w) n.outcome (subst (λ x. is_leaving (spot_of (v.stand x)) ≡ true) (sym e) is))) (λ l e. absurd cc)
+  parts_on (Does who (Tell n)) fits is =
+      goes_over (Does who (Tell n)) fits refl (λ w h. h) (inr (inl is.1), tt) (inl is.0, tt) tt (λ l. refl) k.alarms k.fine k.bare (λ l e. absurd cc)
+  parts_on (Does who (TellAll ns)) fits is =
+      goes_over (Does who (TellAll ns)) fits refl (λ w h. h) (inr (inr (inl (settling_told (v.stand who) is.1))), tt) is.0 tt (λ l. refl) k.alarms k.fine
+      k.bare (λ l e. absurd cc)
+  parts_on (Does who (TakeBatch m)) fits is =
+      let none : batch_told (v.stand who) (outcome.Granted (news.HasBatch (next_batch_at (v.producers.topics m)))) ≡ true =
+      ap (λ r. batch_told (v.stand who) (outcome.Granted (news.HasBatch r))) (k.bare m) ∙ taking_told (v.stand who) is in
+      goes_over (Does who (TakeBatch m)) fits refl (λ w h. h) (inr (inr (inl none)), tt) tt tt (λ l. refl) k.alarms k.fine
+      (λ n. bare_changed m n v.producers (k.bare n)) (λ l e. absurd cc)
+  parts_on (Told n) fits is = parts_told n fits is
   parts_on a fits is = absurd is
 
   -- what comes to a link that has ended
@@ -563,19 +536,30 @@ module _ (o : Options) (log : List Entry) (k : Over o log) where
   rung_pause b (Retry j) l = same_either (b && (l == j)) None
   rung_pause b _ l = refl
 
+  none_called : (asked : Asked) →
+      cond (lacks_tickets v.calls.drawn (shares asked)) v.producers (called_on (may_call v.calls) asked v.producers) ≡ v.producers
+  none_called asked =
+      ap (λ b. cond (lacks_tickets v.calls.drawn (shares asked)) v.producers (called_on b asked v.producers)) (not_open v.calls k.is_stopped)
+      ∙ same_either (lacks_tickets v.calls.drawn (shares asked)) v.producers
+
   part_on : (p : Part) → first g ≡ Some (Comes p) → g.now ≡ [] → Over o (Then (Comes p) ∷ log)
   part_on (Calls asked advice) fits none =
-      goes_over (Comes (Calls asked advice)) fits refl
-      (each_last v.stand (called v advice asked) (last_called v advice asked k.is_stopped)) tt tt (λ l. refl) k.alarms k.calm
-      (λ l e. absurd cc)
+      goes_over (Comes (Calls asked advice)) fits refl (λ w h. h)
+      (each_last v.stand (called v advice asked) (last_called v advice asked k.is_stopped)) tt tt (λ l. refl) k.alarms k.fine
+      (λ m. ap (λ ps. next_batch_at (ps.topics m)) (none_called asked) ∙ k.bare m) (λ l e. absurd cc)
   part_on (ToLink l x) fits none =
       let dead = all_dead none l in
-      goes_over (Comes (ToLink l x)) fits refl (dead_once l dead x) tt (dead_causes l dead x) (dead_pause l dead x) (dead_alarms l dead x) k.calm
+      goes_over (Comes (ToLink l x)) fits refl (λ w h. h) (dead_once l dead x) tt (dead_causes l dead x) (dead_pause l dead x) (dead_alarms l dead x) k.fine
+      k.bare
       (λ j e. ap (live_after v.chosen v.addresses v.now v.links.started (Comes (ToLink l x)) j) (all_dead none j) ∙ stays_dead v (Comes (ToLink l x)) j refl)
   part_on (Rings a) fits none =
       let e = no_alarm a in
-      goes_over (Comes (Rings a)) fits refl (rw e tt) tt (rw e tt) (λ l. rung_pause (rings v.now a v.alarms) a l) (rw e k.alarms) k.calm (λ l e. absurd cc)
-  part_on (Polls t) fits none = goes_over (Comes (Polls t)) fits refl tt tt tt (λ l. refl) k.alarms k.calm (λ l e. absurd cc)
+      goes_over (Comes (Rings a)) fits refl (λ w h. h) (rw e tt) tt (rw e tt) (λ l. rung_pause (rings v.now a v.alarms) a l) (rw e k.alarms) k.fine
+      (λ m. ap (λ b. next_batch_at ((producers_rung b a v.producers).topics m)) e
+      ∙ ap (λ ps. next_batch_at (ps.topics m)) (none_rung a v.producers)
+      ∙ k.bare m)
+      (λ l e. absurd cc)
+  part_on (Polls t) fits none = goes_over (Comes (Polls t)) fits refl (λ w h. h) tt tt tt (λ l. refl) k.alarms k.fine k.bare (λ l e. absurd cc)
 
   over_on : (a : Act) → first g ≡ Some a → Over o (Then a ∷ log)
   over_on a fits = elim (last_first v.stand g.now g.here g.behind g.parts a k.now k.here k.behind fits) [
@@ -594,7 +578,8 @@ module _ (o : Options) (log : List Entry) (k : Over o log) where
     pauses = λ l. begun_same (λ u. u.addresses.pause l) e v refl ∙ k.pauses l;
     alarms = begun_same (λ u. u.alarms) e v refl ∙ k.alarms;
     is_stopped = begun_same (λ u. u.calls.is_stopped) e v refl ∙ k.is_stopped;
-    calm = λ w. ap (λ row. is_calm (spot_of row)) (begun_same (λ u. u.stand w) e v refl) ∙ k.calm w;
+    fine = λ w. ap is_fine (begun_same (λ u. u.stand w) e v refl) ∙ k.fine w;
+    bare = λ m. ap (λ ps. next_batch_at (ps.topics m)) (begun_same (λ u. u.producers) e v refl) ∙ k.bare m;
     links = λ l. inl (begun_dead e l v (all_dead (none_now g.now g.here g.behind g.parts rests) l));
   }
 
@@ -614,29 +599,35 @@ over_starts o log who run fits =
     let stops : List Act = over_links stop_act v.links in
     let ends : List Act = stops ++ tells who outcome.Stopped in
     let told : List Notice = flat_map (λ e. stopped_with v.addresses e.0) v.alarms in
-    let waits : List Notice = map stopped_one (waiting v.producers) in
+    let waits : List Notice = stopped_all v.producers in
+    let P : Notice → Type 0 = IsLate v.stand in
     record {
       now = each_last v.stand (ends ++ (rest (agenda o log)).now)
           (each_append IsLast ends (rest (agenda o log)).now
           (each_append IsLast stops (tells who outcome.Stopped) (over_each IsLast stop_act v.links (λ l seat. (refl, tt))) (refl, tt))
           (subst (Each IsLast) (sym clear.now) tt));
-      here = subst (Each IsLastNotice) (sym clear.here) tt;
+      here = subst (Each P) (sym clear.here) tt;
       behind =
-          each_append (Each IsLastNotice) (rest (agenda o log)).behind (map (arranged below) (opens (told ++ waits)))
-          (subst (Each (Each IsLastNotice)) (sym clear.behind) tt)
-          (each_arranged IsLastNotice (opens (told ++ waits)) (each_opens IsLastNotice (told ++ waits)
+          each_append (Each P) (rest (agenda o log)).behind (map (arranged below) (opens (told ++ waits))) (subst (Each (Each P)) (sym clear.behind) tt)
+          (each_arranged P (opens (told ++ waits)) (each_opens P (told ++ waits) (each_map IsLastNotice P (told ++ waits) (λ n is. inl is)
           (each_append IsLastNotice told waits (each_flat IsLastNotice (λ e. stopped_with v.addresses e.0) v.alarms (λ e. last_with v.addresses e.0))
-          (all_wait (waiting v.producers)))));
+          (each_append IsLastNotice (map stopped_one (waiting v.producers)) (map stopped_call (unsent v.producers)) (all_wait (waiting v.producers))
+          (all_unsent (unsent v.producers)))))));
       pauses = λ l. refl;
       alarms = refl;
       is_stopped = refl;
-      calm = λ w. calm_stop o w who log run fits;
+      fine = λ w. calm_fine (v.stand w) (calm_stop o w who log run fits);
+      bare = λ m. bare_halted (v.producers.topics m);
       links = λ l. links_of l (v.links.live l) refl;
     }
   where
-    all_wait : (ts : List ℕ) → Each IsLastNotice (map stopped_one ts)
+    all_wait : (ws : List Who) → Each IsLastNotice (map stopped_one ws)
     all_wait [] = tt
-    all_wait (t ∷ ts) = (refl, all_wait ts)
+    all_wait (w ∷ ws) = (refl, all_wait ws)
+
+    all_unsent : (ts : List ℕ) → Each IsLastNotice (map stopped_call ts)
+    all_unsent [] = tt
+    all_unsent (t ∷ ts) = (refl, all_unsent ts)
 
     links_of : (l : ℕ) (row : Option Seat) → (view o log).links.live l ≡ row →
         ((view o (Then (Does who StopAll) ∷ log)).links.live l ≡ None) ⊎ In (Comes (ToLink l (Ends Stops))) (agenda o (Then (Does who StopAll) ∷ log)).now
@@ -648,9 +639,9 @@ over_starts o log who run fits =
 
 over_run : (o : Options) (log : List Entry) → IsRun o log → stopped log ≡ true → Over o log
 over_run o [] run h = absurd cc
-over_run o (Begins e ∷ log) run h = over_begins o log (over_run o log run.0 h) e run.1
+over_run o (Begins e ∷ log) run h = over_begins o log run.0 (over_run o log run.0 h) e run.1
 over_run o (Then (Does who StopAll) ∷ log) run h = over_starts o log who run.0 run.1
-over_run o (Then a ∷ log) run h = over_on o log (over_run o log run.0 h) a run.1
+over_run o (Then a ∷ log) run h = over_on o log run.0 (over_run o log run.0 h) a run.1
 
 pub none_after_stop_lem : NoneAfterStop
 none_after_stop_lem o log p starter n run = elim (cases_Bool (stopped log)) [

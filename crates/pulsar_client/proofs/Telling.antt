@@ -17,7 +17,7 @@ use Rattle.pulsar_producer.specs.declared.deed.News.TheVariants as news
 use Rattle.pulsar_client.specs.declared.act.Act.{Act}
 use Rattle.pulsar_client.specs.declared.act.Act.TheVariants.{Comes, Starts, Told, Does, Answers, Dials}
 use Rattle.pulsar_client.specs.declared.act.Action.{Action}
-use Rattle.pulsar_client.specs.declared.act.Action.TheVariants.{Get, Ask, Wait, TakeTurn, PassTurn, Draw, Recall, Remake, Number, Find, Shut, Tell, StopAll, Rest}
+use Rattle.pulsar_client.specs.declared.act.Action.TheVariants.{Get, Ask, Wait, TakeTurn, PassTurn, Draw, Recall, Remake, Number, Find, Shut, Store, Flush, TakeBatch, Tell, TellAll, StopAll, Rest}
 use Rattle.pulsar_client.specs.declared.act.Notice.{Notice}
 use Rattle.pulsar_client.specs.declared.act.Outcome.{Outcome}
 use Rattle.pulsar_client.specs.declared.act.Outcome.TheVariants as outcome
@@ -26,7 +26,7 @@ use Rattle.pulsar_client.specs.declared.act.Procedure.{Procedure}
 use Rattle.pulsar_client.specs.declared.act.Share.{Share}
 use Rattle.pulsar_client.specs.declared.act.Verdict.{Verdict}
 use Rattle.pulsar_client.specs.declared.act.Who.{Who}
-use Rattle.pulsar_client.specs.declared.act.Who.TheVariants.{Call}
+use Rattle.pulsar_client.specs.declared.act.Who.TheVariants.{Call, Producer}
 use Rattle.pulsar_client.specs.declared.addresses.Series.{Series}
 use Rattle.pulsar_client.specs.declared.addresses.Series.TheVariants.{Nobody, Runs, Pauses, Serves}
 use Rattle.pulsar_client.specs.declared.plans.plan.Plan.{Plan}
@@ -34,16 +34,22 @@ use Rattle.pulsar_client.specs.declared.plans.plan.Turn.{Turn}
 use Rattle.pulsar_client.specs.declared.plans.plan.Turn.TheVariants.{Stays, Gives}
 use Rattle.pulsar_client.specs.declared.producers.Topic.{Topic}
 use Rattle.pulsar_client.specs.Laws.{counted, start_of}
-use Rattle.pulsar_client.specs.Plan.{begins, told}
-use Rattle.pulsar_client.specs.Producers.{drawn, link_at, number_drawn, recalled, turn_passed, turn_taken}
-use Rattle.pulsar_client.specs.Rules.{at_once, below, causes, draw_outcome, draw_said, finds, gets_from, grants, joins, notice, number_said, over_links, performs, recalls, stop_act, takes_turn, tells, told_at, turn_notice}
+use Rattle.pulsar_client.specs.Plan.{action_of, begins, closed_notice, told}
+use Rattle.pulsar_client.specs.Producers.{drawn, is_settled_at, is_woken, link_at, number_drawn, numbers_at, recalled, stored_by, turn_passed, turn_taken}
+use Rattle.pulsar_client.specs.Rules.{at_once, below, causes, draw_outcome, draw_said, finds, gets_from, grants, joins, notice, number_said, over_links, performs, readied, ready_notice, recalls, stop_act, takes_turn, tells, told_at, turn_notice}
 use Rattle.pulsar_client.specs.Run.{Entry, Begins, Then, IsRun, agenda, rules, view}
 use Rattle.pulsar_client.specs.View.{Options, View, answer_at, room_of, stays, stays_some, told_some}
-use Rattle.pulsar_client.specs.Who.{is_same}
+use Rattle.pulsar_client.specs.Who.{is_same, turn_of}
+use Rattle.pulsar_producer.specs.Topic as topic
+use Rattle.pulsar_producer.specs.declared.deed.Deed.{Deed}
+use Rattle.pulsar_producer.specs.declared.deed.Deed.TheVariants as deed
+use Rattle.pulsar_plans.specs.declared.turn.Action.TheVariants as wish
 use Rattle.pulsar_client.proofs.Acts.{Each, begun_same, each_append, each_either, over_each}
 use Rattle.pulsar_client.proofs.Drawing.{Every, here}
 use Rattle.pulsar_client.proofs.Follow.{same_is}
-use Rattle.pulsar_client.proofs.Granted.{BeginsSo, IsCaused, IsLedSo, causes_inner, does_from, each_arranged, is_inner}
+use Rattle.pulsar_client.proofs.Batchers.{batcher_does}
+use Rattle.pulsar_client.proofs.Fitting.{is_settling}
+use Rattle.pulsar_client.proofs.Granted.{BeginsSo, IsCaused, IsLedSo, causes_inner, does_from, each_arranged, is_inner, tell_settling}
 use Rattle.pulsar_client.proofs.InTurn.{self_same, stand_starts, stand_told}
 use Rattle.pulsar_client.proofs.Natures.{StaysSo}
 use Rattle.pulsar_client.proofs.Once.{ends_once_lem}
@@ -62,7 +68,7 @@ part_of u (outcome.Parted k f) = cond (k == u) 1 0
 part_of u _ = 0
 
 abbrev pub tell_of : (ticket : ℕ) → Act → ℕ
-tell_of u (Does who (Tell n)) = part_of u n.outcome
+tell_of u (Does (Call w) (Tell n)) = part_of u n.outcome
 tell_of u _ = 0
 
 abbrev can_in : Option Share → ℕ
@@ -189,7 +195,7 @@ telling o log w n run k = elim (does_from o log (Call w) (Tell n) run) [ inl b �
           own = was.own w l.before x.0 l.stood x.1;
           room = g;
           out = out_of ((view o (Then (Told (notice (Call w) l.outcome)) ∷ l.older)).stand (Call w)) l.plan
-              (stand_told o l.older w l.outcome l.before l.plan (Tell n) l.stood l.leads) x.4;
+              (stand_told o l.older (Call w) l.outcome l.before l.plan (Tell n) l.stood l.leads) x.4;
         })
 
 tell_tells : (o : Options) (log : List Entry) (w : ℕ) (n : Notice) → IsRun o (Then (Does (Call w) (Tell n)) ∷ log) → Every (Tells o) log →
@@ -344,7 +350,11 @@ module _ (v : View) (who : Who) where
   performs_no Number = numbers_no (number_drawn v.producers)
   performs_no (Find n) = finds_no (link_at (v.producers.topics n))
   performs_no (Shut t) = (refl, tt)
+  performs_no (Store n entry) = (refl, tt)
+  performs_no (Flush n) = each_either NoPart (is_settled_at (v.producers.topics n)) (grants who news.Done) [] (refl, tt) tt
+  performs_no (TakeBatch n) = (refl, tt)
   performs_no (Tell n) = (refl, tt)
+  performs_no (TellAll ns) = (refl, tt)
   performs_no Rest = tt
 
 abbrev does_it : Act → Bool
@@ -364,16 +374,48 @@ once_no : (v : View) (t u : ℕ) (a : Act) → sum (told_of t u) (at_once v a) �
 once_no v t u (Does who action) = sum_none NoPart (told_of t u) (performs v who action) (act_none t u) (performs_no v who action)
 once_no v t u a = sum_none (IsRaised a) (told_of t u) (at_once v a) (λ b r. act_none t u b (raised_no a b refl r)) (raises v a)
 
--- what joins is what is told
-joins_few : (v : View) (t u : ℕ) (a : Act) → sum (note t u) (joins v a) ≤ tell_of u a
-joins_few v t u (Does who (Tell n)) =
-    elim (is_same (Call t) n.who) as (λ b. cond b (part_of u n.outcome) 0 + 0 ≤ part_of u n.outcome) [ true ↦ omega arith | false ↦ omega arith ]
-joins_few v t u (Does who (PassTurn n)) = by (turn_passed (v.producers.topics n))
+-- the batches of a topic producer tell of no part
+pub no_tell : (d : Deed) (n : Notice) → Tell n ≡ action_of d → ⊥
+no_tell (deed.Does (wish.Get p)) n h = cc
+no_tell (deed.Does (wish.Ask l request)) n h = cc
+no_tell (deed.Does (wish.Wait delay)) n h = cc
+no_tell _ n h = cc
+
+settling_part : (u : ℕ) (y : Outcome) → is_settling y ≡ true → part_of u y ≡ 0
+settling_part u (outcome.Parted k f) h = absurd cc
+settling_part u _ h = refl
+
+readied_none : (t u n : ℕ) (act : topic.Act) (row : Option Topic) → sum (note t u) (readied n act row) ≡ 0
+readied_none t u n act row =
+    sum_none IsCaused (note t u) (readied n act row) (caused_note t u) (each_either IsCaused (is_woken act row) (ready_notice n ∷ []) [] (refl, tt) tt)
+
+closed_none : (t u : ℕ) (ts : List ℕ) → sum (note t u) (map closed_notice ts) ≡ 0
+closed_none t u ts = sum_none IsCaused (note t u) (map closed_notice ts) (caused_note t u) (closed ts)
   where
-    by : (r : Option (ℕ × Option (List ℕ))) → sum (note t u) (option_to_list (option_map turn_notice r)) ≤ 0
+    closed : (ts : List ℕ) → Each IsCaused (map closed_notice ts)
+    closed [] = tt
+    closed (x ∷ xs) = (refl, closed xs)
+
+-- what joins is what is told
+joins_few : (o : Options) (log : List Entry) (t u : ℕ) (a : Act) → IsRun o (Then a ∷ log) → sum (note t u) (joins (view o log) a) ≤ tell_of u a
+joins_few o log t u (Does (Call w) (Tell n)) run =
+    elim (is_same (Call t) n.who) as (λ b. cond b (part_of u n.outcome) 0 + 0 ≤ part_of u n.outcome) [ true ↦ omega arith | false ↦ omega arith ]
+joins_few o log t u (Does (Producer w) (Tell n)) run = let k = batcher_does o log w (Tell n) run in absurd (no_tell k.0 n k.1)
+joins_few o log t u (Does who (PassTurn n)) run = by (turn_passed ((view o log).producers.topics n))
+  where
+    by : (r : Option (ℕ × Option (List ℕ))) → sum (note t u) (option_to_list (option_map (turn_notice n) r)) ≤ 0
     by None = omega arith
-    by (Some next) = let z : note t u (turn_notice next) ≡ 0 = note_none t u (turn_notice next) refl in omega (arith, z)
-joins_few v t u _ = omega arith
+    by (Some next) = let z : note t u (turn_notice n next) ≡ 0 = note_none t u (turn_notice n next) refl in omega (arith, z)
+joins_few o log t u (Does who (Store n entry)) run =
+    let z = readied_none t u n (topic.Stores (turn_of who) entry) ((view o log).producers.topics n) in omega (arith, z)
+joins_few o log t u (Does who (Flush n)) run =
+    let z = readied_none t u n (topic.Flushes (turn_of who)) ((view o log).producers.topics n) in omega (arith, z)
+joins_few o log t u (Does who (Shut p)) run =
+    let z = closed_none t u (stored_by (view o log).producers (numbers_at ((view o log).producers.built p))) in omega (arith, z)
+joins_few o log t u (Does who (TellAll ns)) run =
+    let z = sum_none (λ n. is_settling n.outcome ≡ true) (note t u) ns (λ n h. note_none t u n (settling_part u n.outcome h)) (tell_settling o log who ns run) in
+    omega (arith, z)
+joins_few o log t u _ run = omega arith
 
 -- ALONG A LOG
 
@@ -440,7 +482,7 @@ told_few o (Then a ∷ log) t u run =
     let y : sum (note t u) (put_all below (joins v a) (rest g).here) ≡ sum (note t u) (joins v a) + sum (note t u) (rest g).here =
     sum_put_all (note t u) below (joins v a) (rest g).here in
     let once : sum (told_of t u) (at_once v a) ≡ 0 = once_no v t u a in
-    let joined : sum (note t u) (joins v a) ≤ tell_of u a = joins_few v t u a in
+    let joined : sum (note t u) (joins v a) ≤ tell_of u a = joins_few o log t u a run in
     omega (arith, f, p, x, y, once, joined)
 
 -- so it is told of each part at most once

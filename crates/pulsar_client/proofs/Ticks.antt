@@ -2,30 +2,34 @@
 use Rattle.std.proofs.Common.{◌≡◌, ◌∙◌, sym, ap, subst, ℕ, zero, suc, ◌≤◌, List, [], ◌∷◌, ◌++◌, refl, arith, map, Bool, true, false, ◌&&◌, not, cond, nat_le, Option, Some, None}
 use Rattle.std.proofs.lemmas.Bool.Decides.{nat_tests}
 use Rattle.std.specs.List.{filter, flat_map}
-use Rattle.std.specs.Option.{option_to_list}
+use Rattle.std.specs.Option.{option_map, option_to_list}
 use Rattle.std.specs.Ordering.{is_lt, match_ordering}
 use Rattle.std.specs.declared.cmp.Ordering.{Ordering}
 use Rattle.std.specs.declared.cmp.Ordering.TheVariants.{Less, Equal, Greater}
 use Rattle.pulsar_run.specs.Order.{InOrder, NoneBelow}
 use Rattle.pulsar_session.specs.Link.{due}
+use Rattle.pulsar_producer.specs.Topic as topic
 use Rattle.pulsar_client.specs.declared.act.Act.{Act}
 use Rattle.pulsar_client.specs.declared.act.Act.TheVariants.{Comes, Does, Answers}
-use Rattle.pulsar_client.specs.declared.act.Action.TheVariants.{Wait, StopAll}
+use Rattle.pulsar_client.specs.declared.act.Action.TheVariants.{Wait, Shut, Store, Flush, StopAll}
 use Rattle.pulsar_client.specs.declared.act.Alarm.{Alarm}
-use Rattle.pulsar_client.specs.declared.act.Alarm.TheVariants.{Retry, Wake, KeepAlive, CheckIdle}
+use Rattle.pulsar_client.specs.declared.act.Alarm.TheVariants.{Retry, Wake, Batch, KeepAlive, CheckIdle}
 use Rattle.pulsar_client.specs.declared.act.End.TheVariants.{Overdue}
 use Rattle.pulsar_client.specs.declared.act.LinkAct.TheVariants.{Ends}
 use Rattle.pulsar_client.specs.declared.act.Part.{Part}
 use Rattle.pulsar_client.specs.declared.act.Part.TheVariants.{ToLink, Rings}
-use Rattle.pulsar_client.specs.declared.act.Who.TheVariants.{Call}
+use Rattle.pulsar_client.specs.declared.act.Who.TheVariants.{Call, Producer}
 use Rattle.pulsar_client.specs.declared.addresses.Pause.{Pause}
+use Rattle.pulsar_client.specs.declared.producers.Topic.{Topic}
+use Rattle.pulsar_client.specs.Who.{turn_of}
 use Rattle.pulsar_client.specs.Alarms.{alarm_cmp, clear, is_same_alarm, ringing, rings, set}
 use Rattle.pulsar_client.specs.Effects.{is_before3}
 use Rattle.pulsar_client.specs.Laws.{TicksInOrder, part_below, part_rank}
 use Rattle.pulsar_client.specs.Links.{Change, Remains, Becomes, IsOver, numbers_from}
+use Rattle.pulsar_client.specs.Producers.{is_bare, numbers_at, timeout_at, topic_after}
 use Rattle.pulsar_client.specs.Rules.{due_part, on_link, over_links}
 use Rattle.pulsar_client.specs.Run.{Entry, Begins, Then, view}
-use Rattle.pulsar_client.specs.View.{Chosen, Options, Seat, Turned, View, alarms_after, alarms_on, alarms_over, alarms_rung, alarms_turned, builds, delay_of, idle_period, later, turned}
+use Rattle.pulsar_client.specs.View.{Chosen, Options, Seat, Turned, View, alarms_after, alarms_on, alarms_on_topic, alarms_over, alarms_rung, alarms_turned, alarms_waiting, builds, clear_all, delay_of, idle_period, later, turned, waits_from}
 use Rattle.pulsar_client.proofs.Acts.{Each, begun_same, each_append, each_map}
 use Rattle.pulsar_client.proofs.Instances.{one_way3, chain3}
 use Rattle.pulsar_client.proofs.Sorting.{cmp3, lt3}
@@ -55,20 +59,17 @@ alarm_below a b = part_below (Rings a) (Rings b)
 same_cmp : (a b : Alarm) → alarm_cmp a b ≡ cmp3 (part_rank (Rings a)) (part_rank (Rings b))
 same_cmp (Retry k) (Retry l) = refl
 same_cmp (Retry k) (Wake (Call u)) = refl
-same_cmp (Retry k) (KeepAlive l) = refl
-same_cmp (Retry k) CheckIdle = refl
-same_cmp (Wake (Call t)) (Retry l) = refl
+same_cmp (Retry k) _ = refl
 same_cmp (Wake (Call t)) (Wake (Call u)) = refl
-same_cmp (Wake (Call t)) (KeepAlive l) = refl
-same_cmp (Wake (Call t)) CheckIdle = refl
-same_cmp (KeepAlive k) (Retry l) = refl
+same_cmp (Wake (Call t)) _ = refl
+same_cmp (Wake (Producer t)) (Wake (Call u)) = refl
+same_cmp (Wake (Producer t)) _ = refl
+same_cmp (Batch n) (Wake (Call u)) = refl
+same_cmp (Batch n) _ = refl
 same_cmp (KeepAlive k) (Wake (Call u)) = refl
-same_cmp (KeepAlive k) (KeepAlive l) = refl
-same_cmp (KeepAlive k) CheckIdle = refl
-same_cmp CheckIdle (Retry l) = refl
+same_cmp (KeepAlive k) _ = refl
 same_cmp CheckIdle (Wake (Call u)) = refl
-same_cmp CheckIdle (KeepAlive l) = refl
-same_cmp CheckIdle CheckIdle = refl
+same_cmp CheckIdle _ = refl
 
 below_is : (a b : Alarm) (o : Ordering) → alarm_cmp a b ≡ o → alarm_below a b ≡ is_lt o
 below_is a b o e = sym (lt3 (part_rank (Rings a)) (part_rank (Rings b))) ∙ ap is_lt (sym (same_cmp a b) ∙ e)
@@ -160,14 +161,37 @@ sorted_on o now (Some t) es k = sorted_turned o now t.link t.change t.pause es k
 sorted_rung : (o : Chosen) (now : ℕ) (a : Alarm) (es : List (Alarm × ℕ)) → Sorted es → Sorted (alarms_rung o now a es)
 sorted_rung o now (Retry l) es k = sorted_clear (Retry l) es k
 sorted_rung o now (Wake who) es k = sorted_clear (Wake who) es k
+sorted_rung o now (Batch n) es k = sorted_clear (Batch n) es k
 sorted_rung o now (KeepAlive l) es k = sorted_set (KeepAlive l) (later now o.connection.keep_alive) es k
 sorted_rung o now CheckIdle es k = sorted_set CheckIdle (later now idle_period) es k
+
+-- what is stored waits, or nothing is stored any longer
+sorted_from : (now : ℕ) (timeout : Option ℕ) (n : ℕ) (es : List (Alarm × ℕ)) → Sorted es → Sorted (waits_from now timeout n es)
+sorted_from now None n es k = k
+sorted_from now (Some delay) n es k = sorted_set (Batch n) (later now delay) es k
+
+sorted_waiting : (now : ℕ) (timeout : Option ℕ) (n : ℕ) (was is : Bool) (es : List (Alarm × ℕ)) → Sorted es → Sorted (alarms_waiting now timeout n was is es)
+sorted_waiting now timeout n was true es k = sorted_clear (Batch n) es k
+sorted_waiting now timeout n true false es k = sorted_from now timeout n es k
+sorted_waiting now timeout n false false es k = k
+
+sorted_topic : (v : View) (n : ℕ) (act : topic.Act) → Sorted v.alarms → Sorted (alarms_on_topic v n act)
+sorted_topic v n act k =
+    let row : Option Topic = v.producers.topics n in
+    sorted_waiting v.now (timeout_at v.producers row) n (is_bare row) (is_bare (option_map (topic_after act) row)) v.alarms k
+
+sorted_all : (ns : List ℕ) (es : List (Alarm × ℕ)) → Sorted es → Sorted (clear_all ns es)
+sorted_all [] es k = k
+sorted_all (n ∷ ns) es k = sorted_all ns (clear (Batch n) es) (sorted_clear (Batch n) es k)
 
 sorted_after : (v : View) (a : Act) → Sorted v.alarms → Sorted (alarms_after v a)
 sorted_after v (Comes (ToLink l x)) k = sorted_on v.chosen v.now (turned v (Comes (ToLink l x))) v.alarms k
 sorted_after v (Comes (Rings a)) k =
     sorted_either (rings v.now a v.alarms) (alarms_rung v.chosen v.now a v.alarms) v.alarms (sorted_rung v.chosen v.now a v.alarms k) k
 sorted_after v (Does who (Wait delay)) k = sorted_set (Wake who) (later v.now delay) v.alarms k
+sorted_after v (Does who (Store n e)) k = sorted_topic v n (topic.Stores (turn_of who) e) k
+sorted_after v (Does who (Flush n)) k = sorted_topic v n (topic.Flushes (turn_of who)) k
+sorted_after v (Does who (Shut t)) k = sorted_all (numbers_at (v.producers.built t)) v.alarms k
 sorted_after v (Does who StopAll) k = tt
 sorted_after v (Answers who verdict) k =
     sorted_either (not v.calls.is_built && builds verdict.makes false) (set CheckIdle (later v.now idle_period) v.alarms) v.alarms
@@ -206,6 +230,7 @@ IsFrom first p = (l : ℕ) × (first ≤ l) × IsFor l p
 rings_behind : (a : Alarm) (l : ℕ) → is_before3 (part_rank (Rings a)) (0, 0, l) ≡ false
 rings_behind (Retry k) l = refl
 rings_behind (Wake who) l = refl
+rings_behind (Batch n) l = refl
 rings_behind (KeepAlive k) l = refl
 rings_behind CheckIdle l = refl
 

@@ -6,6 +6,7 @@ use Rattle.std.specs.Fmt.{digits}
 use Rattle.pulsar_wire.specs.Field.{bytes_at, fields, fields_within, field_at, value_at, varint_within}
 use Rattle.pulsar_wire.specs.Row.{reading, value, spelling, varint_in, varints, varints_within}
 use Rattle.pulsar_wire.specs.Command.{command_reading, some_body}
+use Rattle.pulsar_frame.specs.Batch.{batch_bytes, entry_bytes}
 use Rattle.pulsar_frame.specs.Checksum.{after_bit, after_byte, crc32c}
 use Rattle.pulsar_frame.specs.Payload.{covered_bytes, payload_at, payload_bytes}
 use Rattle.pulsar_frame.specs.Sized.{sized_at, with_size}
@@ -15,7 +16,7 @@ use Rattle.pulsar_frame.specs.Frame.{content, counted_bytes, front, frame_bytes}
 use Rattle.url.proofs.OnLiterals.{url_on_literals}
 use Rattle.pulsar_plans.specs.Plans.{mentions}
 use Rattle.pulsar_plans.specs.Replies.{count_in, place_heard}
-use Rattle.pulsar_client.specs.Traces.{IsGood, LocalIsKnown, attempt_fails, attempt_is_retried, client_is_stopped, consumer_is_polled, deadline_comes, line_moves_up, lookup_is_redirected, message_is_sent, options, reply_comes_early, request_is_answered}
+use Rattle.pulsar_client.specs.Traces.{IsGood, LocalIsKnown, attempt_fails, attempt_is_retried, batch_is_sent, client_is_stopped, consumer_is_polled, deadline_comes, line_moves_up, lookup_is_redirected, message_is_sent, options, reply_comes_early, request_is_answered}
 use Rattle.pulsar_client.proofs.Driving.{computed}
 
 pub answered_good : IsGood 8 request_is_answered
@@ -57,6 +58,10 @@ redirected_good = computed (options 8) 20 (reverse lookup_is_redirected) refl
 pub sent_good : IsGood 8 message_is_sent
 unfolding front content counted_bytes frame_bytes sized_at with_size bytes_at command_reading fields fields_within field_at value_at varint_within some_body reading value spelling varint_in key is_utf8 chars encode_utf8 digits payload_bytes covered_bytes crc32c after_byte after_bit mentions count_in place_heard url_on_literals
 sent_good = computed (options 8) 20 (reverse message_is_sent) refl
+
+pub batched_good : IsGood 8 batch_is_sent
+unfolding front content counted_bytes frame_bytes sized_at with_size bytes_at command_reading fields fields_within field_at value_at varint_within some_body reading value spelling varint_in key is_utf8 chars encode_utf8 digits payload_bytes covered_bytes crc32c after_byte after_bit mentions count_in place_heard url_on_literals batch_bytes entry_bytes
+batched_good = computed (options 8) 30 (reverse batch_is_sent) refl
 
 -- and their address is that of a URL
 pub local_known : LocalIsKnown

@@ -12,43 +12,48 @@ use Rattle.pulsar_run.specs.Order.{put, put_all}
 use Rattle.pulsar_run.specs.Run.{first_of, rest, rest_of}
 use Rattle.pulsar_session.specs.Link.{is_spent}
 use Rattle.pulsar_producer.specs.Topic as topic
-use Rattle.pulsar_producer.specs.Topic.{Act as Deed, Takes, Passes, Draws, Remakes, Closes, Seen}
+use Rattle.pulsar_producer.specs.Storage.{Item, SingleMessage, Flush as Flush', is_ready, pushed}
+use Rattle.pulsar_producer.specs.Topic.{Act as Deed, Takes, Passes, Draws, Remakes, Closes, Stores, Flushes, Cuts, TakesBatch, Halts, Seen, cuts, cuts_ready, is_nothing, is_settled, left_of, stores}
 use Rattle.pulsar_producer.specs.declared.deed.News.{News}
 use Rattle.pulsar_producer.specs.declared.deed.News.TheVariants as news
 use Rattle.pulsar_client.specs.declared.act.Act.{Act}
 use Rattle.pulsar_client.specs.declared.act.Act.TheVariants.{Comes, Starts, Told, Does, Answers, Dials}
 use Rattle.pulsar_client.specs.declared.act.Action.{Action}
-use Rattle.pulsar_client.specs.declared.act.Action.TheVariants.{Get, Ask, Wait, TakeTurn, PassTurn, Draw, Recall, Remake, Number, Find, Shut, Tell, StopAll, Rest}
+use Rattle.pulsar_client.specs.declared.act.Action.TheVariants.{Get, Ask, Wait, TakeTurn, PassTurn, Draw, Recall, Remake, Number, Find, Shut, Store, Flush, TakeBatch, Tell, TellAll, StopAll, Rest}
+use Rattle.pulsar_client.specs.declared.act.Alarm.TheVariants.{Batch}
 use Rattle.pulsar_client.specs.declared.act.Notice.{Notice}
 use Rattle.pulsar_client.specs.declared.act.Outcome.{Outcome}
 use Rattle.pulsar_client.specs.declared.act.Outcome.TheVariants as outcome
 use Rattle.pulsar_client.specs.declared.act.Part.{Part}
+use Rattle.pulsar_client.specs.declared.act.Part.TheVariants.{Rings}
 use Rattle.pulsar_client.specs.declared.act.Procedure.{Procedure}
 use Rattle.pulsar_client.specs.declared.act.Who.{Who}
 use Rattle.pulsar_client.specs.declared.act.Who.TheVariants.{Call}
 use Rattle.pulsar_client.specs.declared.plans.plan.Plan.{Plan}
 use Rattle.pulsar_client.specs.declared.producers.Topic.{Topic}
 use Rattle.pulsar_client.specs.Laws.{counted, start_of}
-use Rattle.pulsar_client.specs.Producers.{numbers_at, topic_after, turn_passed, turn_taken}
-use Rattle.pulsar_client.specs.ProducerLaws.{HasTurn, drawn_by, shut_by, topic_acts, turn_of}
-use Rattle.pulsar_client.specs.Rules.{at_once, below, grants, joins, notice, performs, takes_turn, turn_notice}
+use Rattle.pulsar_client.specs.Producers.{is_woken, numbers_at, stored_by, topic_after, turn_passed, turn_taken}
+use Rattle.pulsar_client.specs.ProducerLaws.{HasTurn, drawn_by, rung_by, shut_by, topic_acts, turn_of}
+use Rattle.pulsar_client.specs.Rules.{at_once, below, grants, joins, notice, performs, readied, ready_notice, takes_turn, turn_notice}
 use Rattle.pulsar_client.specs.Run.{Entry, Begins, Then, IsRun, agenda, rules, view}
 use Rattle.pulsar_client.specs.View.{Options, View, room_of, stays_some, told_some}
-use Rattle.pulsar_client.specs.Who.{is_same}
+use Rattle.pulsar_client.specs.Alarms.{rings}
+use Rattle.pulsar_client.specs.Plan.{closed_notice}
+use Rattle.pulsar_client.specs.Who.{is_same, turn_of as taken_as}
 use Rattle.pulsar_client.proofs.Acts.{Each, each_either}
 use Rattle.pulsar_client.proofs.Drawing.{Drawn, Every, here, drawn_run, row_from}
-use Rattle.pulsar_client.proofs.Granted.{GivenBy, GivesSo, IsFree, SaysSo, causes_free, clean_run, gives_so, tell_free}
+use Rattle.pulsar_client.proofs.Granted.{GivenBy, GivesSo, IsFree, SaysSo, all_free, causes_free, clean_run, gives_so, is_given, tell_free}
 use Rattle.pulsar_client.proofs.Holding.{is_turn_told}
-use Rattle.pulsar_client.proofs.Natures.{is_granted, is_leaving}
+use Rattle.pulsar_client.proofs.Natures.{is_leaving}
 use Rattle.pulsar_client.proofs.Raising.{IsRaised, raises}
 use Rattle.pulsar_client.proofs.Topics.{all_after, row_as, topic_all}
 
 -- WHO IS TO BE TOLD OF A TURN
 
-abbrev pub turn_note : ℕ → Notice → ℕ
-turn_note t n = cond (is_same (Call t) n.who && is_turn_told n.outcome) 1 0
+abbrev pub turn_note : Who → Notice → ℕ
+turn_note t n = cond (is_same t n.who && is_turn_told n.outcome) 1 0
 
-abbrev pub turn_act : ℕ → Act → ℕ
+abbrev pub turn_act : Who → Act → ℕ
 turn_act t (Told n) = turn_note t n
 turn_act t _ = 0
 
@@ -78,21 +83,23 @@ pub sum_none : {A : Type 0} (P : A → Type 0) (f : A → ℕ) (xs : List A) →
 sum_none P f [] none k = refl
 sum_none P f (x ∷ xs) none k = let a : f x ≡ 0 = none x k.0 in let b : sum f xs ≡ 0 = sum_none P f xs none k.1 in omega (arith, a, b)
 
-pub not_turn : (u : Outcome) → is_granted u ≡ false → is_turn_told u ≡ false
-not_turn (outcome.Granted n) h = absurd cc
+pub not_turn : (u : Outcome) → is_given u ≡ false → is_turn_told u ≡ false
+not_turn (outcome.Granted news.Ready) h = refl
+not_turn (outcome.Granted news.Done) h = refl
+not_turn (outcome.Granted _) h = absurd cc
 not_turn _ h = refl
 
-no_note : (t : ℕ) (n : Notice) → is_turn_told n.outcome ≡ false → turn_note t n ≡ 0
-no_note t n h = ap (λ b. cond (is_same (Call t) n.who && b) 1 0) h
-    ∙ (elim (is_same (Call t) n.who) as (λ b. ◌≡◌ {A = ℕ} (cond (b && false) 1 0) 0) [ true ↦ refl | false ↦ refl ])
+no_note : (t : Who) (n : Notice) → is_turn_told n.outcome ≡ false → turn_note t n ≡ 0
+no_note t n h = ap (λ b. cond (is_same t n.who && b) 1 0) h
+    ∙ (elim (is_same t n.who) as (λ b. ◌≡◌ {A = ℕ} (cond (b && false) 1 0) 0) [ true ↦ refl | false ↦ refl ])
 
-free_note : (t : ℕ) (n : Notice) → IsFree n → turn_note t n ≡ 0
+free_note : (t : Who) (n : Notice) → IsFree n → turn_note t n ≡ 0
 free_note t n h = no_note t n (not_turn n.outcome h)
 
-abbrev pub pend : ℕ → List Act → List Notice → ℕ
+abbrev pub pend : Who → List Act → List Notice → ℕ
 pend t now here = sum (turn_act t) now + sum (turn_note t) here
 
-pend_rest : (t : ℕ) (now : List Act) (here : List Notice) (behind : List (List Notice)) (parts : List Part) (a : Act) → Each (Each IsFree) behind →
+pend_rest : (t : Who) (now : List Act) (here : List Notice) (behind : List (List Notice)) (parts : List Part) (a : Act) → Each (Each IsFree) behind →
     first_of rules now here behind parts ≡ Some a →
     pend t now here ≡ turn_act t a + pend t (rest_of now here behind parts).now (rest_of now here behind parts).here
 pend_rest t (b ∷ now) here behind parts a free h =
@@ -131,7 +138,7 @@ says_none v action (outcome.Granted (news.HasTurn version)) t h = absurd (no_tur
 says_none v action (outcome.Granted _) t h = refl
 says_none v action _ t h = refl
 
-gives_none : (v : View) (action : Action) (t : ℕ) (a : Act) → is_take action ≡ false → GivesSo v action a → turn_act t a ≡ 0
+gives_none : (v : View) (action : Action) (t : Who) (a : Act) → is_take action ≡ false → GivesSo v action a → turn_act t a ≡ 0
 gives_none v action t (Told n) k h = no_note t n (says_none v action n.outcome k h)
 gives_none v action t _ k h = refl
 
@@ -139,7 +146,7 @@ abbrev does_it : Act → Bool
 does_it (Does who action) = true
 does_it _ = false
 
-raised_none : (t : ℕ) (a b : Act) → does_it a ≡ false → IsRaised a b → turn_act t b ≡ 0
+raised_none : (t : Who) (a b : Act) → does_it a ≡ false → IsRaised a b → turn_act t b ≡ 0
 raised_none t (Does who action) (Told n) d r = absurd cc
 raised_none t (Comes p) (Told n) d r = absurd cc
 raised_none t (Starts who p) (Told n) d r = absurd cc
@@ -152,7 +159,7 @@ abbrev pub takes_it : Act → Bool
 takes_it (Does who (TakeTurn n)) = true
 takes_it _ = false
 
-pub once_none : (v : View) (t : ℕ) (a : Act) → takes_it a ≡ false → sum (turn_act t) (at_once v a) ≡ 0
+pub once_none : (v : View) (t : Who) (a : Act) → takes_it a ≡ false → sum (turn_act t) (at_once v a) ≡ 0
 once_none v t (Does who (TakeTurn n)) h = absurd cc
 once_none v t (Does who action) h = sum_none (GivesSo v action) (turn_act t) (performs v who action) (λ b k. gives_none v action t b refl k)
     (gives_so v who action)
@@ -162,17 +169,34 @@ abbrev pub passes_it : Act → Bool
 passes_it (Does who (PassTurn n)) = true
 passes_it _ = false
 
-pub joins_none : (o : Options) (log : List Entry) (t : ℕ) (a : Act) → passes_it a ≡ false → IsRun o (Then a ∷ log) →
+readied_none : (t : Who) (n : ℕ) (act : Deed) (row : Option Topic) → sum (turn_note t) (readied n act row) ≡ 0
+readied_none t n act row = elim (is_woken act row) as (λ b. sum (turn_note t) (cond b (ready_notice n ∷ []) []) ≡ 0) [
+  | true ↦ (let e : turn_note t (ready_notice n) ≡ 0 = no_note t (ready_notice n) refl in omega (arith, e))
+  | false ↦ refl
+]
+
+closed_none : (t : Who) (ts : List ℕ) → sum (turn_note t) (map closed_notice ts) ≡ 0
+closed_none t [] = refl
+closed_none t (u ∷ ts) =
+    let e : turn_note t (closed_notice u) ≡ 0 = no_note t (closed_notice u) refl in
+    let f : sum (turn_note t) (map closed_notice ts) ≡ 0 = closed_none t ts in
+    omega (arith, e, f)
+
+pub joins_none : (o : Options) (log : List Entry) (t : Who) (a : Act) → passes_it a ≡ false → IsRun o (Then a ∷ log) →
     sum (turn_note t) (joins (view o log) a) ≡ 0
 joins_none o log t (Does who (PassTurn n)) h run = absurd cc
+joins_none o log t (Does who (Store n entry)) h run = readied_none t n (Stores (taken_as who) entry) ((view o log).producers.topics n)
+joins_none o log t (Does who (Flush n)) h run = readied_none t n (Flushes (taken_as who)) ((view o log).producers.topics n)
+joins_none o log t (Does who (Shut u)) h run = closed_none t (stored_by (view o log).producers (numbers_at ((view o log).producers.built u)))
 joins_none o log t (Does who (Tell n)) h run = let e : turn_note t n ≡ 0 = free_note t n (tell_free o log who n run) in omega (arith, e)
+joins_none o log t (Does who (TellAll ns)) h run = sum_none IsFree (turn_note t) ns (free_note t) (all_free o log who ns run)
 joins_none o log t _ h run = refl
 
-abbrev pub pending : Options → List Entry → ℕ → ℕ
+abbrev pub pending : Options → List Entry → Who → ℕ
 pending o log t = pend t (agenda o log).now (agenda o log).here
 
 -- what is pending behind an act
-pub pend_then : (o : Options) (log : List Entry) (t : ℕ) (a : Act) → IsRun o (Then a ∷ log) →
+pub pend_then : (o : Options) (log : List Entry) (t : Who) (a : Act) → IsRun o (Then a ∷ log) →
     pending o log t + sum (turn_act t) (at_once (view o log) a) + sum (turn_note t) (joins (view o log) a) ≡ turn_act t a + pending o (Then a ∷ log) t
 pend_then o log t a run =
     let g = agenda o log in
@@ -184,7 +208,7 @@ pend_then o log t a run =
     sum_put_all (turn_note t) below (joins v a) (rest g).here in
     omega (arith, k, x, y)
 
-pub pend_kept : (o : Options) (log : List Entry) (t : ℕ) (a : Act) → takes_it a ≡ false → passes_it a ≡ false → IsRun o (Then a ∷ log) →
+pub pend_kept : (o : Options) (log : List Entry) (t : Who) (a : Act) → takes_it a ≡ false → passes_it a ≡ false → IsRun o (Then a ∷ log) →
     pending o log t ≡ turn_act t a + pending o (Then a ∷ log) t
 pend_kept o log t a h p run =
     let k = pend_then o log t a run in
@@ -203,21 +227,41 @@ leaves_turn _ = true
 abbrev pub LeavesTurn : Deed → Type 0
 LeavesTurn d = leaves_turn d ≡ true
 
-one_left : (d : Deed) (v : Seen) → LeavesTurn d → ((topic.after d v).holder ≡ v.holder) × ((topic.after d v).waiting ≡ v.waiting)
+abbrev SameTurn : Seen → Seen → Type 0
+SameTurn v w = (w.holder ≡ v.holder) × (w.waiting ≡ v.waiting)
+
+either_left : (v : Seen) (b : Bool) (x y : Seen) → SameTurn v x → SameTurn v y → SameTurn v (cond b x y)
+either_left v true x y p q = p
+either_left v false x y p q = q
+
+cuts_left : (v w : Seen) → SameTurn v w → SameTurn v (cuts_ready w)
+cuts_left v w k = either_left v (is_ready w.storage) (cuts w) w k k
+
+left_left : (bs : List (List Item)) (v : Seen) → SameTurn v (left_of bs v)
+left_left [] v = (refl, refl)
+left_left (b ∷ bs) v = (refl, refl)
+
+stores_left : (x : Item) (v : Seen) → SameTurn v (stores x v)
+stores_left x v = cuts_left v (record v { storage = pushed x v.storage }) (refl, refl)
+
+one_left : (d : Deed) (v : Seen) → LeavesTurn d → SameTurn v (topic.after d v)
 one_left (Takes t) v h = absurd cc
 one_left Passes v h = absurd cc
-one_left Draws v h = elim (is_spent v.next) as
-    (λ b. ((cond b v (record v { next = v.next + 1 })).holder ≡ v.holder) × ((cond b v (record v { next = v.next + 1 })).waiting ≡ v.waiting)) [
-      | true ↦
-          (refl, refl)
-      | false ↦ (refl, refl)
-    ]
+one_left Draws v h = either_left v (is_spent v.next) v (record v { next = v.next + 1 }) (refl, refl) (refl, refl)
 one_left (Remakes l g) v h = (refl, refl)
 one_left Closes v h = (refl, refl)
+one_left (Stores t e) v h = stores_left (SingleMessage t e) v
+one_left (Flushes t) v h = either_left v (is_settled v) v (stores (Flush' t) v) (refl, refl) (stores_left (Flush' t) v)
+one_left Cuts v h = either_left v (is_nothing v.storage.items) v (cuts v) (refl, refl) (refl, refl)
+one_left TakesBatch v h = left_left v.cut v
+one_left Halts v h = (refl, refl)
 
 pub all_left : (ds : List Deed) (v : Seen) → Each LeavesTurn ds → ((all_after ds v).holder ≡ v.holder) × ((all_after ds v).waiting ≡ v.waiting)
 all_left [] v h = (refl, refl)
 all_left (d ∷ ds) v h = let k = all_left ds v h.1 in let j = one_left d (all_after ds v) h.0 in (j.0 ∙ k.0, j.1 ∙ k.1)
+
+rung_left : (b : Bool) → Each LeavesTurn (rung_by b)
+rung_left b = each_either LeavesTurn b (Cuts ∷ []) [] (refl, tt) tt
 
 drawn_left : (room : Option Bool) → Each LeavesTurn (drawn_by room)
 drawn_left None = tt
@@ -230,6 +274,12 @@ shut_left n (m ∷ ns) = each_either LeavesTurn (n == m) (Closes ∷ shut_by n n
 pub acts_left : (v : View) (n : ℕ) (a : Act) → takes_it a ≡ false → passes_it a ≡ false → Each LeavesTurn (topic_acts v n a)
 acts_left v n (Does who (TakeTurn m)) t p = absurd cc
 acts_left v n (Does who (PassTurn m)) t p = absurd cc
+acts_left v n (Comes (Rings (Batch m))) t p =
+    each_either LeavesTurn (n == m) (rung_by (rings v.now (Batch m) v.alarms)) [] (rung_left (rings v.now (Batch m) v.alarms)) tt
+acts_left v n (Does who (Store m e)) t p = each_either LeavesTurn (n == m) (Stores (taken_as who) e ∷ []) [] (refl, tt) tt
+acts_left v n (Does who (Flush m)) t p = each_either LeavesTurn (n == m) (Flushes (taken_as who) ∷ []) [] (refl, tt) tt
+acts_left v n (Does who (TakeBatch m)) t p = each_either LeavesTurn (n == m) (TakesBatch ∷ []) [] (refl, tt) tt
+acts_left v n (Does who StopAll) t p = (refl, tt)
 acts_left v n (Does who (Draw m)) t p = each_either LeavesTurn (n == m) (drawn_by (room_of v m)) [] (drawn_left (room_of v m)) tt
 acts_left v n (Does who (Remake r)) t p = each_either LeavesTurn (n == r.number) (Remakes r.link r.given ∷ []) [] (refl, tt) tt
 acts_left v n (Does who (Shut u)) t p = shut_left n (numbers_at (v.producers.built u))

@@ -11,7 +11,7 @@ use Rattle.pulsar_client.specs.declared.act.LinkAct.{LinkAct}
 use Rattle.pulsar_client.specs.declared.act.Part.TheVariants.{ToLink, Polls}
 use Rattle.pulsar_client.specs.declared.act.Who.{Who}
 use Rattle.pulsar_client.specs.declared.addresses.Pause.{Pause}
-use Rattle.pulsar_client.specs.declared.act.Who.TheVariants.{Call}
+use Rattle.pulsar_client.specs.declared.act.Who.TheVariants.{Call, Producer}
 use Rattle.pulsar_client.specs.Address.{leads_to}
 use Rattle.pulsar_plans.specs.Address.{Place}
 use Rattle.pulsar_client.specs.Content.{Said, Shown, Connect, Queued, Write, Settles, Ends, Retry, Close, Hands, Faults, FindsNothing, FindsEnd}
@@ -31,6 +31,7 @@ asked_at l now request (Some seat) = links.queues l seat.seen (session.after (As
 -- calls
 abbrev pub ends : Who → Said → List Shown
 ends (Call ticket) said = Ends ticket said ∷ []
+ends (Producer number) said = []
 
 -- an attempt asks for a connection to where its address leads
 abbrev pub connects_to : ℕ → Option (List ℕ × ℕ) → List Shown

@@ -6,12 +6,13 @@ use Rattle.pulsar_run.specs.Laws.{Arises, In, InThisStep}
 use Rattle.pulsar_run.specs.Order.{AllInOrder, InOrder, arranged}
 use Rattle.pulsar_run.specs.Run.{events, steps_done}
 use Rattle.pulsar_wire.specs.declared.error.ConnectionError.{ConnectionError}
+use Rattle.pulsar_frame.specs.Batch.{EntryValues}
 use Rattle.pulsar_frame.specs.Frame.{cut}
 use Rattle.pulsar_frame.specs.Message.{MessageValues}
 use Rattle.pulsar_messages.specs.Words.{Words}
 use Rattle.pulsar_requests.specs.Waits.{later_of}
 use Rattle.pulsar_session.specs.declared.states.Asked.{Asked as Placed}
-use Rattle.pulsar_session.specs.Failures.{DiscoveryConnection, DiscoveryCanceled, DiscoveryFault, DiscoveryNotFound, DiscoveryShutdown, DnsLookup, Dummy, Exhausted, Failure, Fault, OfConnection, OfDiscovery, OfPartialSend, Query, fault, Disconnected}
+use Rattle.pulsar_session.specs.Failures.{ProducerClosed, OfProducer, DiscoveryConnection, DiscoveryCanceled, DiscoveryFault, DiscoveryNotFound, DiscoveryShutdown, DnsLookup, Dummy, Exhausted, Failure, Fault, OfConnection, OfDiscovery, OfPartialSend, Query, fault, Disconnected}
 use Rattle.pulsar_session.specs.Laws.{bytes_fed, messages_taken}
 use Rattle.pulsar_session.specs.Link.{Act as Act', Asks, Feeds, Setup, came, due, ends, is_spent}
 use Rattle.pulsar_link.specs.Items.{Item, Given, Faulty}
@@ -28,9 +29,9 @@ use Rattle.pulsar_client.specs.Alarms.{ringing, rings}
 use Rattle.pulsar_client.specs.declared.act.Act.{Act}
 use Rattle.pulsar_client.specs.declared.act.Act.TheVariants.{Comes, Starts, Told, Does, Answers, Dials}
 use Rattle.pulsar_client.specs.declared.act.Action.{Action}
-use Rattle.pulsar_client.specs.declared.act.Action.TheVariants.{Get, Ask, TakeTurn, PassTurn, Draw, Recall, Remake, Number, Find, Shut, Tell, StopAll, Rest}
+use Rattle.pulsar_client.specs.declared.act.Action.TheVariants.{Get, Ask, TakeTurn, PassTurn, Draw, Recall, Remake, Number, Find, Shut, Store, Flush, TakeBatch, Tell, TellAll, StopAll, Rest}
 use Rattle.pulsar_client.specs.declared.act.Alarm.{Alarm}
-use Rattle.pulsar_client.specs.declared.act.Alarm.TheVariants.{Retry, Wake, KeepAlive, CheckIdle}
+use Rattle.pulsar_client.specs.declared.act.Alarm.TheVariants.{Retry, Wake, Batch, KeepAlive, CheckIdle}
 use Rattle.pulsar_client.specs.declared.act.Arrival.{Arrival}
 use Rattle.pulsar_client.specs.declared.act.Arrival.TheVariants.{Nothing, Readied, Settles, Gives, Passes, Bad}
 use Rattle.pulsar_client.specs.declared.act.End.{End}
@@ -48,7 +49,7 @@ use Rattle.pulsar_client.specs.declared.act.Refusal.{Refusal}
 use Rattle.pulsar_client.specs.declared.act.Says.{Says}
 use Rattle.pulsar_client.specs.declared.act.Verdict.{Verdict}
 use Rattle.pulsar_client.specs.declared.act.Who.{Who}
-use Rattle.pulsar_client.specs.declared.act.Who.TheVariants.{Call}
+use Rattle.pulsar_client.specs.declared.act.Who.TheVariants.{Call, Producer}
 use Rattle.pulsar_client.specs.declared.addresses.Pause.{Pause}
 use Rattle.pulsar_client.specs.declared.addresses.Series.{Series}
 use Rattle.pulsar_client.specs.declared.addresses.Series.TheVariants.{Nobody, Runs, Pauses, Serves}
@@ -58,13 +59,14 @@ use Rattle.pulsar_client.specs.Content.{Asked, Bytes, Ticked, Poll, Shown, Queue
 use Rattle.pulsar_client.specs.Effects.{effect_below, is_before3}
 use Rattle.pulsar_client.specs.Links.{Change, Remains, Becomes, IsOver, arrival, call_of, closed_by, line_places, new_places, numbers_from}
 use Rattle.pulsar_client.specs.Parts.{outcomes_of}
-use Rattle.pulsar_client.specs.Producers.{advice, turn_passed, drawn, link_at, number_drawn, recalled, turn_taken, waiting_at}
+use Rattle.pulsar_client.specs.Producers.{advice, turn_passed, drawn, is_settled_at, is_woken, link_at, next_batch_at, number_drawn, numbers_at, recalled, stored_at, turn_taken, unsent_at, waiting_at}
+use Rattle.pulsar_producer.specs.Topic as topic
 use Rattle.pulsar_client.specs.Plan.{begins, failure_of, fails, fault_of, reply_says, told}
 use Rattle.pulsar_client.specs.Rules.{below, call_part, dropped, fails_so, is_idle, lost, notice, starts, stopped_with, brings}
 use Rattle.pulsar_client.specs.Run.{Entry, Begins, Then, Good, IsRun, Rests, Step, agenda, rules, steps, tickets_in, view}
 use Rattle.pulsar_client.specs.Subscriptions.{Subscription, closes_it, is_heard_on, is_last, polled}
 use Rattle.pulsar_client.specs.View.{Base, Options, Seat, Turned, View, answer_at, arrival_at, builds, closing, is_asked, pause_of, setup, turned, waits_on, room_of}
-use Rattle.pulsar_client.specs.Who.{is_same, rank}
+use Rattle.pulsar_client.specs.Who.{in_turn, is_same, rank, turn_of as taken_as}
 use Rattle.pulsar_run.specs.Laws as run
 use Rattle.pulsar_session.specs.declared.states.Asked.TheVariants as placed
 use Rattle.pulsar_session.specs.Link as session
@@ -84,7 +86,7 @@ Determined = (o : Options) (h h' : List Step) → Good o h → Good o h' → eve
 abbrev pub EffectsArranged : Type 0
 EffectsArranged = (o : Options) (log : List Entry) → run.ArrangeSteps effect_below (steps_done rules o log) (steps o log)
 
--- the present cause serves by rank, and so do the causes that wait: calls by ticket
+-- the present cause serves by rank, and so do the causes that wait: calls by ticket, then producers by number
 abbrev pub CausesInOrder : Type 0
 CausesInOrder = (o : Options) (log : List Entry) → InOrder below (agenda o log).here × AllInOrder below (agenda o log).behind
 
@@ -275,21 +277,22 @@ IsReplied o who r e older =
 abbrev pub IsWoken : Options → Who → Entry → List Entry → Type 0
 IsWoken o who e older = (e ≡ Then (Comes (Rings (Wake who)))) × (rings (view o older).now (Wake who) (view o older).alarms ≡ true)
 
--- this one stops the client; or it waits for a moment or for an attempt that is to follow, or for its turn at a topic producer, while
--- another does
+-- this one stops the client; or it waits for a moment or for an attempt that is to follow, for its turn at a topic producer, or for a batch
+-- that is not under way, while another does
 abbrev pub IsStopped : Options → Who → Entry → List Entry → Type 0
 IsStopped o who e older =
     (stopper : Who) × (e ≡ Then (Does stopper StopAll))
     × ((who ≡ stopper) ⊎ In (notice who outcome.Stopped) (flat_map (λ a. stopped_with (view o older).addresses a.0) (view o older).alarms)
-    ⊎ ((number ticket : ℕ) × (who ≡ Call ticket) × In ticket (waiting_at ((view o older).producers.topics number))))
+    ⊎ ((number : ℕ) × In who (waiting_at number ((view o older).producers.topics number)))
+    ⊎ ((number ticket : ℕ) × (who ≡ Call ticket) × In ticket (unsent_at ((view o older).producers.topics number))))
 
 -- its plan does this, and what is seen there is so
 abbrev pub Acts : Options → Who → (Action → View → Type 0) → Entry → List Entry → Type 0
 Acts o who P e older = (action : Action) × (e ≡ Then (Does who action)) × P action (view o older)
 
 -- What it asks of a topic producer, or of their numbers, is done at once, and gives this: the turn, which nobody else has, with the version of the
--- schema; the number of a message, where the link is ready; the command by which the producer is made again; the number of a new one; or
--- nothing more.
+-- schema; the number of a message, where the link is ready; the command by which the producer is made again; the number of a new one; the
+-- next batch; or nothing more. A flush is done at once only where all is settled.
 abbrev pub GrantsSo : News → Action → View → Type 0
 GrantsSo (news.HasTurn version) (TakeTurn n) v = turn_taken (v.producers.topics n) ≡ Some version
 GrantsSo (news.Drew d) (Draw n) v = (room : Bool) × (room_of v n ≡ Some room) × (drawn room (v.producers.topics n) ≡ Some d)
@@ -298,7 +301,11 @@ GrantsSo (news.Numbered number) Number v = number_drawn v.producers ≡ Some num
 GrantsSo news.Done (PassTurn n) v = Unit {0}
 GrantsSo news.Done (Remake r) v = Unit {0}
 GrantsSo news.Done (Shut t) v = Unit {0}
+GrantsSo (news.HasBatch items) (TakeBatch n) v = next_batch_at (v.producers.topics n) ≡ items
+GrantsSo news.Done (Store n e) v = Unit {0}
+GrantsSo news.Done (Flush n) v = is_settled_at (v.producers.topics n) ≡ true
 GrantsSo news.Done (Tell n) v = Unit {0}
+GrantsSo news.Done (TellAll ns) v = Unit {0}
 GrantsSo _ _ v = ⊥
 
 -- the link of a topic producer is not ready, or its numbers are spent, or those of new producers are
@@ -323,24 +330,50 @@ IsUnknown _ v = ⊥
 -- another passes the turn of a topic producer on to it, with this version of the schema
 abbrev pub GetsTurn : Options → Who → News → Entry → List Entry → Type 0
 GetsTurn o who n e older =
-    (other : Who) × (number ticket : ℕ) × (version : Option (List ℕ)) × (e ≡ Then (Does other (PassTurn number))) × (who ≡ Call ticket)
-    × (n ≡ news.HasTurn version) × (turn_passed ((view o older).producers.topics number) ≡ Some (ticket, version))
+    (other : Who) × (number turn : ℕ) × (version : Option (List ℕ)) × (e ≡ Then (Does other (PassTurn number))) × (who ≡ in_turn number turn)
+    × (n ≡ news.HasTurn version) × (turn_passed ((view o older).producers.topics number) ≡ Some (turn, version))
 
--- another tells it this
+-- what is stored at a topic producer is cut into a batch, and none was under way: by another message, by a flush, or since it has waited
+abbrev pub CutsSo : Options → (number : ℕ) → (act : topic.Act) → Entry → List Entry → Type 0
+CutsSo o n (topic.Stores turn entry) e older = (other : Who) × (e ≡ Then (Does other (Store n entry))) × (turn ≡ taken_as other)
+CutsSo o n (topic.Flushes turn) e older = (other : Who) × (e ≡ Then (Does other (Flush n))) × (turn ≡ taken_as other)
+CutsSo o n topic.Cuts e older =
+    (e ≡ Then (Comes (Rings (Batch n)))) × (rings (view o older).now (Batch n) (view o older).alarms ≡ true)
+CutsSo o n _ e older = ⊥
+
+abbrev pub IsReady : Options → Who → News → Entry → List Entry → Type 0
+IsReady o who n e older =
+    (number : ℕ) × (act : topic.Act) × (who ≡ Producer number) × (n ≡ news.Ready)
+    × (is_woken act ((view o older).producers.topics number) ≡ true) × CutsSo o number act e older
+
+-- another tells it this, alone or with others
 abbrev pub IsToldBy : Who → Outcome → Entry → List Entry → Type 0
-IsToldBy who u e older = (other : Who) × (e ≡ Then (Does other (Tell (notice who u))))
+IsToldBy who u e older =
+    (other : Who)
+    × ((e ≡ Then (Does other (Tell (notice who u)))) ⊎ ((ns : List Notice) × (e ≡ Then (Does other (TellAll ns))) × In (notice who u) ns))
+
+-- its message is stored at a producer that is closed
+abbrev pub IsDropped : Options → Who → Outcome → Entry → List Entry → Type 0
+IsDropped o who u e older =
+    (other : Who) × (producer number ticket : ℕ) × (e ≡ Then (Does other (Shut producer))) × (who ≡ Call ticket)
+    × In number (numbers_at ((view o older).producers.built producer)) × In ticket (stored_at ((view o older).producers.topics number))
+    × (u ≡ outcome.Settled (Err (OfProducer ProducerClosed)))
 
 -- GotLink: it got a link of an address, which serves, or that became ready while it waited; or it found that of a topic producer. NotFound:
 -- the address cannot be reached. Failed, Canceled: the last attempt that it waited for ended, of a series that it or another started. Queued:
 -- it asked, and its frame was queued at once or moved up. InLine, Refused: it asked, and the link said so; Refused also: it drew a number, and
 -- there was none. Replied: its request was answered. Woken: its moment came. TimedOut, Disconnected, Cut, Stopped: its request, its frame in the
 -- line or the attempt that it waited for ended so; Disconnected also: there is no such topic producer; Stopped also: the client was stopped, or a
--- part of it says so. Granted: it asked for a turn, for a number or the like, or its turn came. Parted: a part of it says so.
+-- part of it, or its batch, says so. Granted: it asked for a turn, for a number or the like, or its turn came; a batch was cut, or its flush is
+-- settled. Parted: a part of it says so. Settled: its batch says so, or its producer is closed.
 abbrev pub Cause : Options → Who → Outcome → Entry → List Entry → Type 0
 Cause o who (outcome.GotLink link) e older =
     Gets o who (λ p v. (is_reachable p ≡ true) × ((base_of v p).series ≡ Serves link)) e older
     ⊎ (BecomesReady o who link e older ⊎ Acts o who (Finds link) e older)
-Cause o who (outcome.Granted n) e older = Acts o who (GrantsSo n) e older ⊎ GetsTurn o who n e older
+Cause o who (outcome.Granted n) e older =
+    Acts o who (GrantsSo n) e older
+    ⊎ (GetsTurn o who n e older ⊎ (IsReady o who n e older ⊎ IsToldBy who (outcome.Granted n) e older))
+Cause o who (outcome.Settled f) e older = IsToldBy who (outcome.Settled f) e older ⊎ IsDropped o who (outcome.Settled f) e older
 Cause o who (outcome.Parted ticket f) e older = IsToldBy who (outcome.Parted ticket f) e older
 Cause o who outcome.NotFound e older = Gets o who (λ p v. is_reachable p ≡ false) e older
 Cause o who (outcome.Failed kind) e older = AttemptEnds o who (outcome.Failed kind) e older
@@ -372,6 +405,8 @@ number_in (procedure.Ask place request s) = Some (request_number request)
 number_in (procedure.Search ways what) = None
 number_in (procedure.Produce ways order) = None
 number_in (procedure.Send ways errand share message) = None
+number_in (procedure.Store number share entry) = None
+number_in (procedure.Batch ways errand) = None
 number_in (procedure.FailShare share r) = None
 number_in (procedure.Gather first count) = None
 number_in (procedure.Go round numbers) = None
@@ -410,6 +445,8 @@ ways_in (procedure.Ask place request s) = None
 ways_in (procedure.Search ways what) = Some ways
 ways_in (procedure.Produce ways order) = Some ways
 ways_in (procedure.Send ways errand share message) = Some ways
+ways_in (procedure.Store number share entry) = None
+ways_in (procedure.Batch ways errand) = Some ways
 ways_in (procedure.FailShare share r) = None
 ways_in (procedure.Gather first count) = None
 ways_in (procedure.Go round numbers) = None
@@ -424,6 +461,8 @@ fails_in_producer (procedure.Ask place request s) = false
 fails_in_producer (procedure.Search ways what) = false
 fails_in_producer (procedure.Produce ways order) = false
 fails_in_producer (procedure.Send ways errand share message) = true
+fails_in_producer (procedure.Store number share entry) = false
+fails_in_producer (procedure.Batch ways errand) = false
 fails_in_producer (procedure.FailShare share r) = false
 fails_in_producer (procedure.Gather first count) = false
 fails_in_producer (procedure.Go round numbers) = false
@@ -436,7 +475,8 @@ has_failed (outcome.Parted ticket f) = is_some f
 has_failed _ = false
 
 -- a call fails where it is refused, and else with the fault of an outcome that it was told, or of a reply to its request; a search with
--- these as faults of its own, and a send and a close as a producer; one with parts where some of them failed
+-- these as faults of its own, and a send and a close as a producer; one with parts where some of them failed; and a message that is stored
+-- with what it is told
 pub data FailsSo (p : Procedure) (os : List Outcome) (f : Failure) : Type 0 where
   IsRefused : (r : Refusal) → p ≡ procedure.Refuse r → f ≡ failure_of r → FailsSo p os f
   IsRefusedShare : (s : Share) (r : Refusal) → p ≡ procedure.FailShare s r → f ≡ failure_of r → FailsSo p os f
@@ -448,6 +488,7 @@ pub data FailsSo (p : Procedure) (os : List Outcome) (f : Failure) : Type 0 wher
   IsInProducer : (u : Outcome) → fails_in_producer p ≡ true → In u os → f ≡ in_producer (fault_of u) → FailsSo p os f
   IsUnexpectedInProducer : (r : Reply) → fails_in_producer p ≡ true → In (outcome.Replied r) os →
       f ≡ in_producer (unexpected r.content r.content.body) → FailsSo p os f
+  IsSettled : In (outcome.Settled (Err f)) os → FailsSo p os f
   IsPartial : (first count : ℕ) (failures : List (ℕ × Failure)) → p ≡ procedure.Gather first count → list_any has_failed os ≡ true →
       f ≡ OfPartialSend (outcomes_of failures (numbers_from first count)) → FailsSo p os f
   IsAnswered : (r : Reply) (number : ℕ) (s : Says) → In (outcome.Replied r) os → number_in p ≡ Some number → Failed f ≡ reply_says s number r → FailsSo p os f
@@ -508,15 +549,16 @@ abbrev pub AlarmsAreTicked : Type 0
 AlarmsAreTicked = (o : Options) (log : List Entry) (a : Alarm) → IsRun o (Then (Comes (Rings a)) ∷ log) → InThisStep (RingsAt o a) log
 
 -- What a tick brings comes in this order: the deadlines of links, by link; the attempts that follow others, by the link of the one before;
--- those who have waited, by their rank; the signs of life, by link; then the idle check.
+-- those who have waited, by their rank; the batches, by producer; the signs of life, by link; then the idle check.
 abbrev pub part_rank : Part → ℕ × ℕ × ℕ
 part_rank (ToLink l x) = (0, 0, l)
 part_rank (Rings (Retry l)) = (1, 0, l)
 part_rank (Rings (Wake who)) = (2, (rank who).0, (rank who).1)
-part_rank (Rings (KeepAlive l)) = (3, 0, l)
-part_rank (Rings CheckIdle) = (4, 0, 0)
-part_rank (Calls asked advice) = (5, 0, 0)
-part_rank (Polls ticket) = (5, 0, ticket)
+part_rank (Rings (Batch n)) = (3, 0, n)
+part_rank (Rings (KeepAlive l)) = (4, 0, l)
+part_rank (Rings CheckIdle) = (5, 0, 0)
+part_rank (Calls asked advice) = (6, 0, 0)
+part_rank (Polls ticket) = (6, 0, ticket)
 
 abbrev pub part_below : Part → Part → Bool
 part_below a b = is_before3 (part_rank a) (part_rank b)

@@ -20,4 +20,5 @@ pub mod Client
 pub mod Outside
 pub mod Laws
 pub mod ProducerLaws
+pub mod BatchLaws
 pub mod Traces

@@ -1,28 +1,29 @@
 -- Plans. A procedure is what is to be done for a call, and a plan is where it stands: a state of a machine. It is told outcomes, one after
 -- the other. Each leads to the next state, with the action that is done there, or gives the verdict: the answer, and what the call leaves
 -- behind.  (Pulsar binary protocol, Topic lookup; Producer; Consumer; Keep alive: what answers a request)
-use Rattle.std.specs.Prelude.{ℕ, ◌-◌, Bool, true, false, ◌&&◌, not, List, [], ◌∷◌, Option, Some, None, Result, Ok, Err, codes, ◌==◌, if◌then◌else◌}
+use Rattle.std.specs.Prelude.{ℕ, ◌-◌, Bool, true, false, ◌&&◌, not, List, [], ◌∷◌, map, Option, Some, None, Result, Ok, Err, codes, ◌==◌, if◌then◌else◌}
 use Rattle.std.specs.Option.{option_to_list}
 use Rattle.pulsar_wire.specs.declared.error.IoKind.TheVariants as io_kind
 use Rattle.pulsar_messages.specs.Words.{Words}
 use Rattle.pulsar_messages.specs.Words as words
-use Rattle.pulsar_session.specs.Failures.{Failure, Fault, Io, Disconnected, Canceled, Shutdown, OfConnection, OfProducer, NotFound, Custom, ProducerClosed, ProducerCustom}
+use Rattle.pulsar_session.specs.Failures.{Failure, Fault, Io, Disconnected, Encoding, Canceled, Shutdown, OfConnection, OfProducer, NotFound, Custom, ProducerClosed, ProducerCustom}
 use Rattle.pulsar_session.specs.Reply as session
 use Rattle.pulsar_link.specs.declared.content.Subscribed.{Subscribed}
 use Rattle.pulsar_link.specs.Messages.{Reply, Written, is_body}
 use Rattle.pulsar_link.specs.Refusals.{refused}
 use Rattle.pulsar_link.specs.Request.{answer_of, is_answered, request_number, subscribed}
 use Rattle.pulsar_client.specs.declared.act.Action.{Action}
-use Rattle.pulsar_client.specs.declared.act.Action.TheVariants.{Get, Ask, Wait, TakeTurn, PassTurn, Draw, Recall, Remake, Number, Find, Shut, Tell, StopAll, Rest}
+use Rattle.pulsar_client.specs.declared.act.Action.TheVariants.{Get, Ask, Wait, TakeTurn, PassTurn, Draw, Recall, Remake, Number, Find, Shut, Store, Flush, TakeBatch, Tell, TellAll, StopAll, Rest}
 use Rattle.pulsar_client.specs.declared.act.Makes.{Makes}
 use Rattle.pulsar_client.specs.declared.act.Makes.TheVariants.{Nothing, Client, Consumer, Producer}
 use Rattle.pulsar_client.specs.declared.act.Round.{Round}
-use Rattle.pulsar_client.specs.declared.act.Round.TheVariants.{Checks, Closes}
+use Rattle.pulsar_client.specs.declared.act.Notice.{Notice}
+use Rattle.pulsar_client.specs.declared.act.Round.TheVariants.{Checks, Flushes, Closes}
 use Rattle.pulsar_client.specs.declared.act.Share.{Share}
 use Rattle.pulsar_client.specs.declared.act.Who.TheVariants.{Call}
 use Rattle.pulsar_client.specs.declared.act.Outcome.{Outcome}
 use Rattle.pulsar_client.specs.declared.act.Outcome.TheVariants as outcome
-use Rattle.pulsar_client.specs.declared.act.Outcome.TheVariants.{GotLink, Queued, InLine, Replied, Woken, Granted, Parted, Cut, Stopped}
+use Rattle.pulsar_client.specs.declared.act.Outcome.TheVariants.{GotLink, Queued, InLine, Replied, Woken, Granted, Parted, Settled, Cut, Stopped}
 use Rattle.pulsar_client.specs.declared.act.Place.TheVariants.{At, Link}
 use Rattle.pulsar_client.specs.declared.act.Procedure.{Procedure}
 use Rattle.pulsar_client.specs.declared.act.Procedure.TheVariants as procedure
@@ -34,7 +35,7 @@ use Rattle.pulsar_client.specs.declared.act.Verdict.{Verdict}
 use Rattle.pulsar_client.specs.declared.plans.plan.Plan.{Plan}
 use Rattle.pulsar_client.specs.declared.plans.plan.At.{At as Stage}
 use Rattle.pulsar_client.specs.declared.plans.plan.At.TheVariants as at
-use Rattle.pulsar_client.specs.declared.plans.plan.Plan.TheVariants.{Building, Getting, Asking, Awaiting, Searching, Producing, Sending, Reporting, Leaving, Gathering, Shutting, Visiting, Stopping}
+use Rattle.pulsar_client.specs.declared.plans.plan.Plan.TheVariants.{Building, Getting, Asking, Awaiting, Searching, Producing, Sending, Reporting, Storing, Stored, Batching, Leaving, Gathering, Shutting, Visiting, Stopping}
 use Rattle.pulsar_client.specs.declared.plans.plan.Turn.{Turn}
 use Rattle.pulsar_client.specs.declared.plans.plan.Turn.TheVariants.{Stays, Gives}
 use Rattle.pulsar_client.specs.declared.plans.plan.Wanted.{Wanted}
@@ -50,8 +51,17 @@ use Rattle.pulsar_plans.specs.declared.turn.Turn.{Turn as SearchTurn}
 use Rattle.pulsar_plans.specs.declared.turn.Turn.TheVariants as search_turn
 use Rattle.pulsar_plans.specs.declared.turn.Ways.{Ways}
 use Rattle.pulsar_producer.specs.Errors.{in_producer}
+use Rattle.pulsar_wire.specs.declared.error.Reason.TheVariants as reason
+use Rattle.pulsar_wire.specs.Row.{Values, spelling}
+use Rattle.pulsar_wire.specs.Rows.{send_receipt}
+use Rattle.pulsar_producer.specs.Batching as batches
 use Rattle.pulsar_producer.specs.Plans as produce
 use Rattle.pulsar_producer.specs.Plans.{fault_told}
+use Rattle.pulsar_producer.specs.declared.batch.Fate.{Fate}
+use Rattle.pulsar_producer.specs.declared.batch.Fate.TheVariants as fate
+use Rattle.pulsar_producer.specs.declared.batch.Report.{Report}
+use Rattle.pulsar_producer.specs.declared.batching.Batching.{Batching as Batches}
+use Rattle.pulsar_producer.specs.declared.batching.Goes.{Goes}
 use Rattle.pulsar_producer.specs.declared.building.Building.{Building as Build}
 use Rattle.pulsar_producer.specs.declared.building.Order.{Order}
 use Rattle.pulsar_producer.specs.declared.content.Built.{Built}
@@ -115,6 +125,7 @@ failure_of refusal.Closed = OfProducer ProducerClosed
 failure_of refusal.NoBatches = OfProducer (ProducerCustom (codes "not a batching producer"))
 failure_of refusal.NoPartition = OfProducer (ProducerCustom (codes "routing index out of range"))
 failure_of refusal.NumberInUse = OfProducer (ProducerCustom (codes "number in use"))
+failure_of refusal.TooLarge = in_producer (Encoding reason.Batch)
 
 -- Why a plan fails at an outcome. An outcome that it doesn't wait for counts as the loss of what it waits for.
 abbrev pub fault_of : Outcome → Fault
@@ -131,6 +142,7 @@ fault_of outcome.Disconnected = Disconnected
 fault_of Woken = Disconnected
 fault_of (Granted n) = fault_told n
 fault_of (Parted ticket f) = Disconnected
+fault_of (Settled f) = Disconnected
 fault_of Cut = Disconnected
 fault_of Stopped = Shutdown
 
@@ -194,6 +206,16 @@ goes w (search_turn.Gives a) = Gives (verdict Nothing (found_so a))
 
 -- PRODUCERS. Their plans are machines of pulsar_producer, along the same outcomes. What they do at a topic producer is told at once.
 
+-- what becomes of a message in a batch, and of a flush, as it is told
+abbrev pub told_of : Fate → Outcome
+told_of (fate.Receipt receipt) = Settled (Ok receipt)
+told_of (fate.Failed f) = Settled (Err f)
+told_of fate.Halted = Stopped
+told_of fate.Flushed = Granted granting.Done
+
+abbrev pub told_to : Report → Notice
+told_to r = record { who = Call r.ticket; outcome = told_of r.fate }
+
 -- what one does
 abbrev pub action_of : Deed → Action
 action_of (deed.Does wish) = wished wish
@@ -205,6 +227,8 @@ action_of (deed.Recalls n) = Recall n
 action_of (deed.Remakes n link given) = Remake (record { number = n; link = link; given = given })
 action_of deed.Numbers = Number
 action_of (deed.ClosesProducer link n) = Ask link (words.CloseProducer n)
+action_of (deed.TakesBatch n) = TakeBatch n
+action_of (deed.Settles reports) = TellAll (map told_to reports)
 action_of deed.Rests = Rest
 
 -- what it is told
@@ -296,10 +320,43 @@ overrides outcome.Disconnected = false
 overrides Woken = false
 overrides (Granted n) = false
 overrides (Parted ticket f) = false
+overrides (Settled f) = false
 
 abbrev pub told_send : Ways → Errand → Option Share → Send → Outcome → Turn Plan Verdict
 told_send w e share s o =
     if overrides o && not (is_sent s) then halted share o else goes_on_sending w e share (produce.send_told w e s (news_of o))
+
+-- A MESSAGE THAT IS STORED waits for what becomes of its batch. Where it is a part of another call, that is told at once.
+
+abbrev pub stored : Option Share → Turn Plan Verdict
+stored None = Stays Stored Rest
+stored (Some s) = Stays Stored (tells s (parted s None))
+
+abbrev pub in_storing : Option Share → Outcome → Turn Plan Verdict
+in_storing share (Granted granting.Done) = stored share
+in_storing share o = fails_with (OfConnection (fault_of o))
+
+abbrev pub settled : Result (Values send_receipt) Failure → Turn Plan Verdict
+settled (Ok receipt) = Gives (verdict Nothing (Receipt (spelling send_receipt receipt)))
+settled (Err f) = fails_with f
+
+abbrev pub in_stored : Outcome → Turn Plan Verdict
+in_stored (Settled f) = settled f
+in_stored (Granted granting.Done) = Stays Stored Rest
+in_stored o = fails_with (OfConnection (fault_of o))
+
+-- one that is stored when its producer is closed
+abbrev pub closed_notice : (ticket : ℕ) → Notice
+closed_notice t = record { who = Call t; outcome = Settled (Err (OfProducer ProducerClosed)) }
+
+-- THE BATCHES of a topic producer have a plan of their own. The stop of the client overrides it.
+
+abbrev pub batches_on : Ways → Errand → Goes → Turn Plan Verdict
+batches_on w e g = Stays (Batching w e g.state) (action_of g.deed)
+
+abbrev pub told_batch : Ways → Errand → Batches → Outcome → Turn Plan Verdict
+told_batch w e b o =
+    if overrides o then batches_on w e (batches.halted b) else batches_on w e (batches.told w e b (news_of o))
 
 -- A CALL WITH PARTS ends once each was queued, or failed before.
 
@@ -311,10 +368,12 @@ gathers first count left failures =
 
 abbrev pub asks_of : Round → (number : ℕ) → Words
 asks_of Checks n = words.SendPing
+asks_of Flushes n = words.SendPing
 asks_of Closes n = words.CloseProducer n
 
 abbrev pub failure_in : Round → Fault → Failure
 failure_in Checks f = OfConnection f
+failure_in Flushes f = OfConnection f
 failure_in Closes f = in_producer f
 
 abbrev pub fails_in : Round → Fault → Turn Plan Verdict
@@ -327,9 +386,24 @@ stays_at r n left x action = Stays (Visiting r n left x) action
 abbrev pub quits : Round → (number : ℕ) → Fault → Turn Plan Verdict
 quits r n f = Stays (Leaving (failure_in r f)) (PassTurn n)
 
+-- what a topic producer stores is settled before it is closed, and before its flush is done
+abbrev pub visits : Round → (number : ℕ) → List ℕ → Turn Plan Verdict
+visits Checks n left = stays_at Checks n left at.Turning (TakeTurn n)
+visits Flushes n left = stays_at Flushes n left at.Settling (Flush n)
+visits Closes n left = stays_at Closes n left at.Settling (Flush n)
+
 abbrev pub goes_round : Round → List ℕ → Turn Plan Verdict
 goes_round r [] = Gives (verdict Nothing Done)
-goes_round r (n ∷ left) = stays_at r n left at.Turning (TakeTurn n)
+goes_round r (n ∷ left) = visits r n left
+
+abbrev pub is_settled : Round → (number : ℕ) → List ℕ → Turn Plan Verdict
+is_settled Checks n left = stays_at Checks n left at.Turning (TakeTurn n)
+is_settled Flushes n left = goes_round Flushes left
+is_settled Closes n left = stays_at Closes n left at.Turning (TakeTurn n)
+
+abbrev pub in_settling : Round → (number : ℕ) → List ℕ → Outcome → Turn Plan Verdict
+in_settling r n left (Granted granting.Done) = is_settled r n left
+in_settling r n left o = fails_in r (fault_of o)
 
 abbrev pub in_turning : Round → (number : ℕ) → List ℕ → Outcome → Turn Plan Verdict
 in_turning r n left (Granted (granting.HasTurn version)) = stays_at r n left at.Finding (Find n)
@@ -359,6 +433,7 @@ in_awaiting r n left Queued = stays_at r n left at.Awaiting Rest
 in_awaiting r n left o = fails_in r (fault_of o)
 
 abbrev pub told_at : Round → (number : ℕ) → List ℕ → Stage → Outcome → Turn Plan Verdict
+told_at r n left at.Settling o = in_settling r n left o
 told_at r n left at.Turning o = in_turning r n left o
 told_at r n left at.Finding o = in_finding r n left o
 told_at r n left at.Asking o = in_asking r n left o
@@ -376,6 +451,8 @@ begins (procedure.Ask (Link link) request s) = asks link request s
 begins (procedure.Search ways what) = goes ways (search.begins ways what)
 begins (procedure.Produce ways order) = builds ways order (produce.build_begins ways order)
 begins (procedure.Send ways errand share message) = goes_on_sending ways errand share (produce.send_begins errand message)
+begins (procedure.Store n share e) = Stays (Storing share) (Store n e)
+begins (procedure.Batch ways errand) = batches_on ways errand batches.begins
 begins (procedure.FailShare share r) = leaves (Some share) (failure_of r)
 begins (procedure.Gather first count) = gathers first count count []
 begins (procedure.Go round numbers) = goes_round round numbers
@@ -401,6 +478,9 @@ told (Searching w s) o = goes w (search.told w s (news_in o))
 told (Producing w order b) o = if overrides o then Gives (fails (fault_of o)) else builds w order (produce.build_told w order b (news_of o))
 told (Sending w e share s) o = told_send w e share s o
 told (Reporting w e) o = reported w e
+told (Storing share) o = in_storing share o
+told Stored o = in_stored o
+told (Batching w e b) o = told_batch w e b o
 told (Leaving f) o = fails_with f
 told (Gathering first count left failures) (Parted ticket f) = gathers first count (left - 1) (failed_with ticket f failures)
 told (Gathering first count left failures) o = Gives (fails (fault_of o))

@@ -26,14 +26,20 @@ use Rattle.pulsar_producer.specs.Laws.{AreAbove}
 use Rattle.pulsar_producer.specs.Topic as topic
 use Rattle.pulsar_producer.specs.Topic.{Act as TopicAct}
 use Rattle.pulsar_producer.specs.declared.content.Built.{Built}
+use Rattle.pulsar_producer.specs.declared.storage.Limits.{Limits}
 use Rattle.pulsar_producer.specs.declared.deed.News.TheVariants as news
 use Rattle.pulsar_producer.specs.declared.sending.Errand.{Errand}
 use Rattle.pulsar_producer.specs.declared.sending.Sending.{Sending}
 use Rattle.pulsar_producer.specs.declared.sending.Sending.TheVariants as send
+use Rattle.pulsar_producer.specs.declared.batching.Batching.{Batching}
+use Rattle.pulsar_producer.specs.declared.batching.Batching.TheVariants as batching
 use Rattle.pulsar_plans.specs.declared.turn.Ways.{Ways}
 use Rattle.pulsar_client.specs.declared.act.Act.{Act}
-use Rattle.pulsar_client.specs.declared.act.Act.TheVariants.{Told, Does}
-use Rattle.pulsar_client.specs.declared.act.Action.TheVariants.{Ask, TakeTurn, PassTurn, Draw, Remake, Shut}
+use Rattle.pulsar_client.specs.declared.act.Act.TheVariants.{Comes, Told, Does}
+use Rattle.pulsar_client.specs.declared.act.Alarm.TheVariants.{Batch}
+use Rattle.pulsar_client.specs.declared.act.Part.TheVariants.{Rings}
+use Rattle.pulsar_client.specs.Alarms.{rings}
+use Rattle.pulsar_client.specs.declared.act.Action.TheVariants.{Ask, TakeTurn, PassTurn, Draw, Remake, Shut, Store, Flush, TakeBatch, StopAll}
 use Rattle.pulsar_client.specs.declared.act.Makes.TheVariants as makes
 use Rattle.pulsar_client.specs.declared.act.Share.{Share}
 use Rattle.pulsar_client.specs.declared.act.Outcome.{Outcome}
@@ -54,7 +60,7 @@ use Rattle.pulsar_client.specs.Plan.{told}
 use Rattle.pulsar_client.specs.Rules.{joins, notice}
 use Rattle.pulsar_client.specs.Run.{Entry, Begins, Then, IsRun, Rests, view}
 use Rattle.pulsar_client.specs.View.{Options, Seat, View, answer_at, room_of}
-use Rattle.pulsar_client.specs.Who.{is_same, rank}
+use Rattle.pulsar_client.specs.Who.{in_turn, is_same, turn_of as taken_as}
 use Rattle.pulsar_client.specs.Laws.{started, outcomes, deeds, Answered}
 
 -- what is told of a frame that is queued
@@ -80,15 +86,23 @@ abbrev pub drawn_by : Option Bool → List TopicAct
 drawn_by None = []
 drawn_by (Some room) = topic.Draws ∷ []
 
+abbrev pub rung_by : (rings : Bool) → List TopicAct
+rung_by rings = if rings then topic.Cuts ∷ [] else []
+
 abbrev pub shut_by : (number : ℕ) → List ℕ → List TopicAct
 shut_by n [] = []
 shut_by n (m ∷ ms) = if n == m then topic.Closes ∷ shut_by n ms else shut_by n ms
 
 abbrev pub topic_acts : View → (number : ℕ) → Act → List TopicAct
-topic_acts v n (Does who (TakeTurn m)) = if n == m then topic.Takes (rank who).1 ∷ [] else []
+topic_acts v n (Comes (Rings (Batch m))) = if n == m then rung_by (rings v.now (Batch m) v.alarms) else []
+topic_acts v n (Does who (TakeTurn m)) = if n == m then topic.Takes (taken_as who) ∷ [] else []
 topic_acts v n (Does who (PassTurn m)) = if n == m then topic.Passes ∷ [] else []
 topic_acts v n (Does who (Draw m)) = if n == m then drawn_by (room_of v m) else []
 topic_acts v n (Does who (Remake r)) = if n == r.number then topic.Remakes r.link r.given ∷ [] else []
+topic_acts v n (Does who (Store m e)) = if n == m then topic.Stores (taken_as who) e ∷ [] else []
+topic_acts v n (Does who (Flush m)) = if n == m then topic.Flushes (taken_as who) ∷ [] else []
+topic_acts v n (Does who (TakeBatch m)) = if n == m then topic.TakesBatch ∷ [] else []
+topic_acts v n (Does who StopAll) = topic.Halts ∷ []
 topic_acts v n (Does who (Shut t)) = shut_by n (numbers_at (v.producers.built t))
 topic_acts v n _ = []
 
@@ -99,10 +113,11 @@ acts_on o n (Begins e ∷ log) = acts_on o n log
 acts_on o n (Then a ∷ log) = if is_some ((view o log).producers.topics n) then topic_acts (view o log) n a ++ acts_on o n log else []
 
 -- A topic producer is what these made of it, and nothing else. So all that holds of one over any acts holds of it: the numbers that it draws
--- rise, one has its turn at a time, and the turn goes to the lowest ticket of those that wait.
+-- rise, one has its turn at a time, the turn goes to the lowest ticket of those that wait, and what is stored is cut where it is ready.
 abbrev pub TopicsAlone : Type 0
 TopicsAlone = (o : Options) (log : List Entry) (n : ℕ) (t : Topic) → IsRun o log → (view o log).producers.topics n ≡ Some t →
-    (b : Built) × (b.number ≡ n) × (t.seen ≡ topic.seen (record { built = b; first_number = o.chosen.first_number }) (acts_on o n log))
+    (b : Built) × (limits : Limits) × (b.number ≡ n)
+    × (t.seen ≡ topic.seen (record { built = b; first_number = o.chosen.first_number; limits = limits }) (acts_on o n log))
 
 -- The number of a new topic producer is none that a raw call has named before, no other one has it, and none that was drawn before is as great:
 -- so none is drawn twice.
@@ -188,36 +203,41 @@ abbrev pub turn_in : Errand → Sending → Option ℕ
 turn_in e (send.Waiting m) = Some e.producer
 turn_in e _ = None
 
+abbrev pub turn_in_batch : Errand → Batching → Option ℕ
+turn_in_batch e (batching.Sending ms count s) = turn_in e s
+turn_in_batch e _ = None
+
 abbrev pub turn_at : (number : ℕ) → At → Option ℕ
 turn_at n at.Turning = Some n
 turn_at n _ = None
 
 abbrev pub turn_of : Plan → Option ℕ
 turn_of (plan.Sending w e share s) = turn_in e s
+turn_of (plan.Batching w e b) = turn_in_batch e b
 turn_of (plan.Visiting r n left x) = turn_at n x
 turn_of _ = None
 
 -- one has the turn of a topic producer
-abbrev pub HasTurn : View → (ticket number : ℕ) → Type 0
-HasTurn v t n = (row : Topic) × (v.producers.topics n ≡ Some row) × (row.seen.holder ≡ Some t)
+abbrev pub HasTurn : View → Who → (number : ℕ) → Type 0
+HasTurn v who n = (row : Topic) × (v.producers.topics n ≡ Some row) × (row.seen.holder ≡ Some (taken_as who))
 
 -- The turn is passed on by the one that has it, to the lowest ticket of those that wait, which is told so.
 abbrev pub PassedInTurn : Type 0
-PassedInTurn = (o : Options) (log : List Entry) (t n : ℕ) → IsRun o (Then (Does (Call t) (PassTurn n)) ∷ log) →
-    (row : Topic) × ((view o log).producers.topics n ≡ Some row) × (row.seen.holder ≡ Some t)
+PassedInTurn = (o : Options) (log : List Entry) (who : Who) (n : ℕ) → IsRun o (Then (Does who (PassTurn n)) ∷ log) →
+    (row : Topic) × ((view o log).producers.topics n ≡ Some row) × (row.seen.holder ≡ Some (taken_as who))
     × ((next : ℕ) (left : List ℕ) → row.seen.waiting ≡ next ∷ left → AreAbove next left
-    × In (notice (Call next) (outcome.Granted (news.HasTurn row.seen.given.version))) (joins (view o log) (Does (Call t) (PassTurn n))))
+    × In (notice (in_turn n next) (outcome.Granted (news.HasTurn row.seen.given.version))) (joins (view o log) (Does who (PassTurn n))))
 
 -- One that is told that its turn has come has it, if it waits for it still.
 abbrev pub ToldInTurn : Type 0
-ToldInTurn = (o : Options) (log : List Entry) (t n : ℕ) (version : Option (List ℕ)) (p : Plan) →
-    IsRun o (Then (Told (notice (Call t) (outcome.Granted (news.HasTurn version)))) ∷ log) → (view o log).stand (Call t) ≡ Some p → turn_of p ≡ Some n →
-    HasTurn (view o log) t n
+ToldInTurn = (o : Options) (log : List Entry) (who : Who) (n : ℕ) (version : Option (List ℕ)) (p : Plan) →
+    IsRun o (Then (Told (notice who (outcome.Granted (news.HasTurn version)))) ∷ log) → (view o log).stand who ≡ Some p → turn_of p ≡ Some n →
+    HasTurn (view o log) who n
 
 -- A send has its turn until it is told that its frame is queued: so the frames of a topic producer are queued in the order of the turns.
 abbrev pub QueuedInTurn : Type 0
 QueuedInTurn = (o : Options) (log : List Entry) (t : ℕ) (w : Ways) (e : Errand) (share : Option Share) (m : Option ProducerMessageValues) →
-    IsRun o log → (view o log).stand (Call t) ≡ Some (plan.Sending w e share (send.Asked m)) → HasTurn (view o log) t e.producer
+    IsRun o log → (view o log).stand (Call t) ≡ Some (plan.Sending w e share (send.Asked m)) → HasTurn (view o log) (Call t) e.producer
 
 -- A call with parts ends once each of them was queued, or failed before, with what became of each: none of them failed, or just these did. Where the
 -- client is stopped before, it fails so.

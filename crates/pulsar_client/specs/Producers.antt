@@ -1,5 +1,5 @@
 -- The producers of a client: what is seen of them, and what becomes of that.  (Pulsar binary protocol, Producer)
-use Rattle.std.specs.Prelude.{ℕ, ◌+◌, ◌==◌, ◌&&◌, not, nat_lt, ◌^◌, ◌-◌, Bool, false, if◌then◌else◌, List, [], ◌∷◌, ◌++◌, length, map, Option, Some, None}
+use Rattle.std.specs.Prelude.{ℕ, ◌+◌, ◌==◌, ◌&&◌, not, nat_lt, ◌^◌, ◌-◌, Bool, true, false, if◌then◌else◌, List, [], ◌∷◌, ◌++◌, length, map, Option, Some, None}
 use Rattle.std.specs.BTreeSet.{insert_key}
 use Rattle.std.specs.List.{flat_map, list_any}
 use Rattle.std.specs.Option.{is_some, option_map}
@@ -14,17 +14,21 @@ use Rattle.pulsar_producer.specs.Producer.{number_on}
 use Rattle.pulsar_producer.specs.Random.{first_index}
 use Rattle.pulsar_producer.specs.Routing.{Policy}
 use Rattle.pulsar_producer.specs.Topic as topic
-use Rattle.pulsar_producer.specs.Topic.{Act, Takes, Passes, Draws, Remakes, Closes, fresh, is_free, next_holder}
+use Rattle.pulsar_producer.specs.Storage.{Item, is_batching, limits_of}
+use Rattle.pulsar_producer.specs.Topic.{Act, Takes, Passes, Draws, Remakes, Closes, Stores, Flushes, Cuts, TakesBatch, Halts, fresh, is_free, is_nothing, is_settled, next_batch, next_holder, stored_tickets, unsent_tickets, wakes}
 use Rattle.pulsar_producer.specs.declared.content.Built.{Built}
 use Rattle.pulsar_producer.specs.declared.deed.Drawn.{Drawn}
 use Rattle.pulsar_producer.specs.declared.routing.Partition.{Partition}
 use Rattle.pulsar_producer.specs.declared.sending.Errand.{Errand}
+use Rattle.pulsar_producer.specs.declared.storage.Limits.{Limits}
 use Rattle.pulsar_client.specs.declared.act.Refusal.{Refusal}
 use Rattle.pulsar_client.specs.declared.act.Refusal.TheVariants as refusal
 use Rattle.pulsar_client.specs.declared.content.Building.{Building}
+use Rattle.pulsar_client.specs.declared.act.Who.{Who}
 use Rattle.pulsar_client.specs.declared.producers.Topic.{Topic}
 use Rattle.pulsar_client.specs.Content as content
 use Rattle.pulsar_client.specs.Content.{Asked, sent_by}
+use Rattle.pulsar_client.specs.Who.{in_turn}
 
 -- The producers, by the tickets of the calls that built them; their topic producers by number, and these numbers in the order in which they
 -- were made; the numbers that raw calls have named, in order; and the number from which on the next one is drawn.
@@ -88,13 +92,13 @@ abbrev pub drawn : (room : Bool) → Option Topic → Option Drawn
 drawn room None = None
 drawn room (Some t) = drawn_in room t
 
--- those that wait for a turn, by their tickets
-abbrev pub waiting_at : Option Topic → List ℕ
-waiting_at None = []
-waiting_at (Some t) = t.seen.waiting
+-- those that wait for a turn
+abbrev pub waiting_at : (number : ℕ) → Option Topic → List Who
+waiting_at n None = []
+waiting_at n (Some t) = map (in_turn n) t.seen.waiting
 
-abbrev pub waiting : Producers → List ℕ
-waiting ps = flat_map (λ n. waiting_at (ps.topics n)) ps.numbers
+abbrev pub waiting : Producers → List Who
+waiting ps = flat_map (λ n. waiting_at n (ps.topics n)) ps.numbers
 
 -- the command by which one is made again, with the options of its producer
 abbrev pub recalled_by : Topic → Option producer.Seen → Option Command
@@ -106,6 +110,58 @@ recalled_at ps (Some t) = recalled_by t (ps.built t.owner)
 
 abbrev pub recalled : Producers → (number : ℕ) → Option Command
 recalled ps number = recalled_at ps (ps.topics number)
+
+-- BATCHES
+
+-- a batch is to be sent where none was under way
+abbrev pub is_woken : Act → Option Topic → Bool
+is_woken act None = false
+is_woken act (Some t) = wakes act t.seen
+
+-- all that was stored is settled; one that is not there has nothing to settle
+abbrev pub is_settled_at : Option Topic → Bool
+is_settled_at None = true
+is_settled_at (Some t) = is_settled t.seen
+
+-- the batch that is sent next
+abbrev pub next_batch_at : Option Topic → Option (List Item)
+next_batch_at None = None
+next_batch_at (Some t) = next_batch t.seen
+
+-- nothing is stored
+abbrev pub is_bare : Option Topic → Bool
+is_bare None = true
+is_bare (Some t) = is_nothing t.seen.storage.items
+
+-- the tickets of what is stored, and of all that is not under way
+abbrev pub stored_at : Option Topic → List ℕ
+stored_at None = []
+stored_at (Some t) = stored_tickets t.seen
+
+abbrev pub unsent_at : Option Topic → List ℕ
+unsent_at None = []
+unsent_at (Some t) = unsent_tickets t.seen
+
+abbrev pub unsent : Producers → List ℕ
+unsent ps = flat_map (λ n. unsent_at (ps.topics n)) ps.numbers
+
+-- how long what is stored waits, by the options of its producer
+abbrev pub timeout_in : Option producer.Seen → Option ℕ
+timeout_in None = None
+timeout_in (Some p) = p.options.batch_timeout
+
+abbrev pub timeout_at : Producers → Option Topic → Option ℕ
+timeout_at ps None = None
+timeout_at ps (Some t) = timeout_in (ps.built t.owner)
+
+-- the client is stopped: nothing is stored any longer
+abbrev pub halted : Producers → Producers
+halted ps = record ps { topics = λ n. option_map (topic_after Halts) (ps.topics n) }
+
+-- a producer that sends batches
+abbrev pub batches_in : Option producer.Seen → Bool
+batches_in None = false
+batches_in (Some p) = is_batching p.options
 
 -- THEIR NUMBERS
 
@@ -152,6 +208,10 @@ abbrev pub numbers_at : Option producer.Seen → List ℕ
 numbers_at None = []
 numbers_at (Some p) = map (λ q. q.number) p.routes.partitions
 
+-- the tickets of what its topic producers store
+abbrev pub stored_by : Producers → List ℕ → List ℕ
+stored_by ps ns = flat_map (λ n. stored_at (ps.topics n)) ns
+
 -- it takes no sends from now on
 abbrev pub shut_all : List ℕ → Producers → Producers
 shut_all [] ps = ps
@@ -196,16 +256,20 @@ all_routed t [] ps = ps
 all_routed t (m ∷ ms) ps = all_routed t ms (routed t m ps)
 
 -- one is built, with its topic producers
-abbrev pub with_topic : (owner first_number : ℕ) → Built → Producers → Producers
-with_topic owner first_number b ps =
+abbrev pub fresh_topic : (owner first_number : ℕ) → Limits → Built → Topic
+fresh_topic owner first_number limits b =
+    record { owner = owner; seen = fresh (record { built = b; first_number = first_number; limits = limits }) }
+
+abbrev pub with_topic : (owner first_number : ℕ) → Limits → Built → Producers → Producers
+with_topic owner first_number limits b ps =
     record ps {
-      topics = λ n. if n == b.number then Some (record { owner = owner; seen = fresh (record { built = b; first_number = first_number }) }) else ps.topics n;
+      topics = λ n. if n == b.number then Some (fresh_topic owner first_number limits b) else ps.topics n;
       numbers = ps.numbers ++ b.number ∷ [];
     }
 
-abbrev pub with_topics : (owner first_number : ℕ) → List Built → Producers → Producers
-with_topics owner first_number [] ps = ps
-with_topics owner first_number (b ∷ bs) ps = with_topics owner first_number bs (with_topic owner first_number b ps)
+abbrev pub with_topics : (owner first_number : ℕ) → Limits → List Built → Producers → Producers
+with_topics owner first_number limits [] ps = ps
+with_topics owner first_number limits (b ∷ bs) ps = with_topics owner first_number limits bs (with_topic owner first_number limits b ps)
 
 abbrev pub partition_of : Built → Partition
 partition_of b = record { name = b.topic; number = b.number }
@@ -220,7 +284,7 @@ with_built t None ps = ps
 with_built t (Some p) ps = record ps { built = λ u. if u == t then Some p else ps.built u }
 
 abbrev pub joined : (ticket : ℕ) → Building → (seed first_number : ℕ) → Producers → Producers
-joined t b seed first_number ps = with_built t (made_of seed t b) (with_topics t first_number b.parts ps)
+joined t b seed first_number ps = with_built t (made_of seed t b) (with_topics t first_number (limits_of b.settings) b.parts ps)
 
 -- CALLS
 

@@ -19,9 +19,9 @@ use Rattle.pulsar_link.specs.Messages.{read}
 use Rattle.pulsar_client.specs.declared.act.Act.{Act}
 use Rattle.pulsar_client.specs.declared.act.Act.TheVariants.{Comes, Starts, Told, Does, Answers, Dials}
 use Rattle.pulsar_client.specs.declared.act.Action.{Action}
-use Rattle.pulsar_client.specs.declared.act.Action.TheVariants.{Get, Ask, Wait, TakeTurn, PassTurn, Draw, Recall, Remake, Number, Find, Shut, Tell, StopAll, Rest}
+use Rattle.pulsar_client.specs.declared.act.Action.TheVariants.{Get, Ask, Wait, TakeTurn, PassTurn, Draw, Recall, Remake, Number, Find, Shut, Store, Flush, TakeBatch, Tell, TellAll, StopAll, Rest}
 use Rattle.pulsar_client.specs.declared.act.Alarm.{Alarm}
-use Rattle.pulsar_client.specs.declared.act.Alarm.TheVariants.{Retry, Wake, KeepAlive, CheckIdle}
+use Rattle.pulsar_client.specs.declared.act.Alarm.TheVariants.{Retry, Wake, Batch, KeepAlive, CheckIdle}
 use Rattle.pulsar_client.specs.declared.act.Arrival.{Arrival}
 use Rattle.pulsar_client.specs.declared.act.Arrival.TheVariants.{Nothing, Readied, Settles, Gives as GivesTo, Passes, Bad}
 use Rattle.pulsar_client.specs.declared.act.End.{End}
@@ -39,12 +39,15 @@ use Rattle.pulsar_client.specs.declared.act.Procedure.{Procedure}
 use Rattle.pulsar_client.specs.declared.act.Procedure.TheVariants as procedure
 use Rattle.pulsar_client.specs.declared.act.Refusal.{Refusal}
 use Rattle.pulsar_client.specs.declared.act.Refusal.TheVariants as refusal
-use Rattle.pulsar_client.specs.declared.act.Round.TheVariants.{Checks}
+use Rattle.pulsar_client.specs.declared.act.Makes.{Makes}
+use Rattle.pulsar_client.specs.declared.act.Makes.TheVariants as makes
+use Rattle.pulsar_client.specs.declared.act.Round.TheVariants.{Checks, Flushes}
 use Rattle.pulsar_client.specs.declared.act.Share.{Share}
 use Rattle.pulsar_client.specs.declared.act.Says.TheVariants as says
 use Rattle.pulsar_client.specs.declared.act.Verdict.{Verdict}
 use Rattle.pulsar_client.specs.declared.act.Who.{Who}
-use Rattle.pulsar_client.specs.declared.act.Who.TheVariants.{Call}
+use Rattle.pulsar_client.specs.declared.act.Who.TheVariants.{Call, Producer}
+use Rattle.pulsar_client.specs.declared.content.Building.{Building}
 use Rattle.pulsar_client.specs.declared.addresses.Pause.{Pause}
 use Rattle.pulsar_client.specs.declared.addresses.Series.{Series}
 use Rattle.pulsar_client.specs.declared.addresses.Series.TheVariants.{Nobody, Runs, Pauses, Serves}
@@ -56,8 +59,14 @@ use Rattle.pulsar_link.specs.Request.{named_producer}
 use Rattle.pulsar_messages.specs.Content.{ProducerMessageValues}
 use Rattle.pulsar_plans.specs.declared.making.Command.{Command}
 use Rattle.pulsar_producer.specs.Routing.{Policy}
+use Rattle.pulsar_frame.specs.Batch.{EntryValues}
+use Rattle.pulsar_messages.specs.Content.{ProducerOptionsValues}
+use Rattle.pulsar_producer.specs.Batch.{entry_of}
+use Rattle.pulsar_producer.specs.Storage.{is_batching}
+use Rattle.pulsar_producer.specs.Topic as topic
 use Rattle.pulsar_producer.specs.Wanted.{ProducerWanted}
 use Rattle.pulsar_producer.specs.declared.building.Order.{Order}
+use Rattle.pulsar_producer.specs.declared.content.Built.{Built}
 use Rattle.pulsar_producer.specs.declared.deed.Drawn.{Drawn}
 use Rattle.pulsar_producer.specs.declared.deed.News.{News}
 use Rattle.pulsar_producer.specs.declared.deed.News.TheVariants as news
@@ -71,11 +80,11 @@ use Rattle.pulsar_client.specs.Content as content
 use Rattle.pulsar_client.specs.Content.{Asked as Asking, Heard, Called, Opened, FailedToOpen, Bytes, Lost as Loses, Drain, Ticked, Poll, lacks_tickets, shares}
 use Rattle.pulsar_client.specs.Links.{Change, Remains, Becomes, IsOver, closed_by, line_places, new_places, numbers_from, times_out}
 use Rattle.pulsar_client.specs.Links as links
-use Rattle.pulsar_client.specs.Plan.{begins, fails}
-use Rattle.pulsar_client.specs.Producers.{Producers, advice, drawn, errand_of, is_held, link_at, next_advice, number_drawn, numbers_at, recalled, routed, turn_passed, turn_taken, waiting, why_not}
+use Rattle.pulsar_client.specs.Plan.{begins, closed_notice, fails}
+use Rattle.pulsar_client.specs.Producers.{Producers, advice, batches_in, drawn, errand_of, is_held, is_settled_at, is_woken, link_at, next_advice, next_batch_at, number_drawn, numbers_at, recalled, routed, stored_by, turn_passed, turn_taken, unsent, waiting, why_not}
 use Rattle.pulsar_client.specs.View.{Addresses, Base, Chosen, Links, Options, Seat, Tickets, Turned, View, answer_at, arrival_at, is_live, later, may_call, room_of, told_some, turned, ways_of}
 use Rattle.pulsar_client.specs.Subscriptions.{Subscription, is_heard}
-use Rattle.pulsar_client.specs.Who.{is_before, is_same, rank}
+use Rattle.pulsar_client.specs.Who.{in_turn, is_before, is_same, rank, turn_of}
 
 -- EVENTS
 
@@ -175,13 +184,21 @@ abbrev pub fails_as : Option Share → Refusal → Procedure
 fails_as None r = procedure.Refuse r
 fails_as (Some s) r = procedure.FailShare s r
 
-abbrev pub sends_by : Option Share → ProducerMessageValues → Option Ways → Option Errand → Procedure
-sends_by share m ways None = fails_as share refusal.NoPartition
-sends_by share m None (Some e) = fails_as share refusal.NoAddress
-sends_by share m (Some ways) (Some e) = procedure.Send ways e share m
+-- it is stored, where the producer sends batches
+abbrev pub stores_as : (number : ℕ) → Option Share → Option EntryValues → Procedure
+stores_as n share None = fails_as share refusal.TooLarge
+stores_as n share (Some e) = procedure.Store n share e
+
+abbrev pub sends_with : (batches : Bool) → Ways → Errand → Option Share → ProducerMessageValues → Procedure
+sends_with batches ways e share m = if batches then stores_as e.producer share (entry_of m) else procedure.Send ways e share m
+
+abbrev pub sends_by : (batches : Bool) → Option Share → ProducerMessageValues → Option Ways → Option Errand → Procedure
+sends_by batches share m ways None = fails_as share refusal.NoPartition
+sends_by batches share m None (Some e) = fails_as share refusal.NoAddress
+sends_by batches share m (Some ways) (Some e) = sends_with batches ways e share m
 
 abbrev pub sends_as : Chosen → Producers → Option Share → (advice : Option ℕ) → (producer : ℕ) → ProducerMessageValues → Procedure
-sends_as o ps share advice t m = sends_by share m (ways_of o) (errand_of advice m (ps.built t))
+sends_as o ps share advice t m = sends_by (batches_in (ps.built t)) share m (ways_of o) (errand_of advice m (ps.built t))
 
 abbrev pub sends : Chosen → Producers → (advice : Option ℕ) → (producer : ℕ) → ProducerMessageValues → Procedure
 sends o ps advice t m = unless (why_not ps t) (sends_as o ps None advice t m)
@@ -206,9 +223,12 @@ shares_unless None v advice t ms = shares_of v.chosen v.producers v.calls.drawn 
 abbrev pub gathers : Tickets → Producers → (producer : ℕ) → List ProducerMessageValues → Procedure
 gathers c ps t ms = unless (why_not ps t) (procedure.Gather (c.drawn + 1) (length ms))
 
--- nothing is held back for a batch
+-- what each of its topic producers stores is sent, where it sends batches
+abbrev pub flushes_all : (batches : Bool) → List ℕ → Procedure
+flushes_all batches ns = if batches then procedure.Go Flushes ns else procedure.Refuse refusal.NoBatches
+
 abbrev pub flushes : Producers → (producer : ℕ) → Procedure
-flushes ps t = unless (why_not ps t) (procedure.Refuse refusal.NoBatches)
+flushes ps t = unless (why_not ps t) (flushes_all (batches_in (ps.built t)) (numbers_at (ps.built t)))
 
 abbrev pub checks : Producers → (producer : ℕ) → Procedure
 checks ps t = unless (why_not ps t) (procedure.Go Checks (numbers_at (ps.built t)))
@@ -318,6 +338,10 @@ abbrev pub finds : Who → Option ℕ → List Act
 finds who None = tells_lost who
 finds who (Some l) = tells who (outcome.GotLink l)
 
+-- what is asked to be settled is so at once where nothing waits for that
+abbrev pub flushes_at : Who → Option Topic → List Act
+flushes_at who row = if is_settled_at row then grants who news.Done else []
+
 -- every live link ends, and who stops the client is told
 abbrev pub stop_act : ℕ → Seat → List Act
 stop_act l seat = Comes (ToLink l (Ends Stops)) ∷ []
@@ -338,7 +362,11 @@ performs v who (Remake r) = grants who news.Done
 performs v who Number = tells who (number_said (number_drawn v.producers))
 performs v who (Find n) = finds who (link_at (v.producers.topics n))
 performs v who (Shut t) = grants who news.Done
+performs v who (Store n e) = grants who news.Done
+performs v who (Flush n) = flushes_at who (v.producers.topics n)
+performs v who (TakeBatch n) = grants who (news.HasBatch (next_batch_at (v.producers.topics n)))
 performs v who (Tell n) = grants who news.Done
+performs v who (TellAll ns) = grants who news.Done
 performs v who Rest = []
 
 -- a link on which something bad came ends with that
@@ -387,8 +415,26 @@ idle_act v l seat = idle_act_at v.now v.chosen.connection.connection_max_idle v.
 abbrev pub rung : View → Alarm → List Act
 rung v (Retry l) = tries_again (v.addresses.pause l)
 rung v (Wake who) = []
+rung v (Batch n) = []
 rung v (KeepAlive l) = keeps_alive l (v.links.live l)
 rung v CheckIdle = over_links (idle_act v) v.links
+
+-- Each topic producer of a producer that sends batches sends them by a plan of its own, which begins with it.
+abbrev pub batches_by : Ways → (block : Bool) → Built → Act
+batches_by ways block b = Starts (Producer b.number) (procedure.Batch ways (record { producer = b.number; block = block }))
+
+abbrev pub batches_from : Option Ways → Building → List Act
+batches_from None b = []
+batches_from (Some ways) b = map (batches_by ways b.settings.block_queue_if_full) b.parts
+
+abbrev pub batches_made : Option Ways → Building → List Act
+batches_made ways b = if is_batching b.settings then batches_from ways b else []
+
+abbrev pub left_with : Option Ways → Makes → List Act
+left_with ways makes.Nothing = []
+left_with ways makes.Client = []
+left_with ways (makes.Consumer link number topic) = []
+left_with ways (makes.Producer b) = batches_made ways b
 
 abbrev pub at_once : View → Act → List Act
 at_once v (Comes (Calls asked advice)) = called v advice asked
@@ -397,6 +443,7 @@ at_once v (Comes (Rings a)) = if rings v.now a v.alarms then rung v a else []
 at_once v (Starts who p) = follows who (begins p)
 at_once v (Told n) = follows_some n.who (told_some (v.stand n.who) n.outcome)
 at_once v (Does who action) = performs v who action
+at_once v (Answers who verdict) = left_with (ways_of v.chosen) verdict.makes
 at_once v _ = []
 
 -- FURTHER PARTS
@@ -416,17 +463,28 @@ further v _ = []
 
 -- AMONG THOSE WHOM THE PRESENT CAUSE STILL SERVES
 
--- the order in which a cause serves: calls by ticket
+-- the order in which a cause serves: calls by ticket, then producers by number
 abbrev pub below : Notice → Notice → Bool
 below a b = is_before (rank a.who) (rank b.who)
 
 -- the one who has the turn of a topic producer next, and one whom a plan tells something
-abbrev pub turn_notice : ℕ × Option (List ℕ) → Notice
-turn_notice next = notice (Call next.0) (outcome.Granted (news.HasTurn next.1))
+abbrev pub turn_notice : (number : ℕ) → ℕ × Option (List ℕ) → Notice
+turn_notice n next = notice (in_turn n next.0) (outcome.Granted (news.HasTurn next.1))
+
+-- a topic producer that has a batch to send, and none under way
+abbrev pub ready_notice : (number : ℕ) → Notice
+ready_notice n = notice (Producer n) (outcome.Granted news.Ready)
+
+abbrev pub readied : (number : ℕ) → topic.Act → Option Topic → List Notice
+readied n act row = if is_woken act row then ready_notice n ∷ [] else []
 
 abbrev pub joins : View → Act → List Notice
-joins v (Does who (PassTurn n)) = option_to_list (option_map turn_notice (turn_passed (v.producers.topics n)))
+joins v (Does who (PassTurn n)) = option_to_list (option_map (turn_notice n) (turn_passed (v.producers.topics n)))
+joins v (Does who (Store n e)) = readied n (topic.Stores (turn_of who) e) (v.producers.topics n)
+joins v (Does who (Flush n)) = readied n (topic.Flushes (turn_of who)) (v.producers.topics n)
+joins v (Does who (Shut t)) = map closed_notice (stored_by v.producers (numbers_at (v.producers.built t)))
 joins v (Does who (Tell n)) = n ∷ []
+joins v (Does who (TellAll ns)) = ns
 joins v _ = []
 
 -- CAUSES OF THEIR OWN
@@ -560,11 +618,12 @@ caused v l Pings = []
 caused v l (Ends end) = opens (ended_on end v.now (v.links.live l) ++ waiters_of (failed_on end) v.addresses (turned v (Comes (ToLink l (Ends end)))))
 
 -- one whose moment has come is told so
-abbrev pub woken : Alarm → List Notice
-woken (Retry l) = []
-woken (Wake who) = notice who outcome.Woken ∷ []
-woken (KeepAlive l) = []
-woken CheckIdle = []
+abbrev pub woken : View → Alarm → List Notice
+woken v (Retry l) = []
+woken v (Wake who) = notice who outcome.Woken ∷ []
+woken v (Batch n) = readied n topic.Cuts (v.producers.topics n)
+woken v (KeepAlive l) = []
+woken v CheckIdle = []
 
 -- those who wait for a moment, or for an attempt that is to follow, are told that the client is stopped
 abbrev pub stopped_at : Addresses → Option Pause → List Notice
@@ -574,15 +633,22 @@ stopped_at known (Some p) = map (λ who. notice who outcome.Stopped) (known.base
 abbrev pub stopped_with : Addresses → Alarm → List Notice
 stopped_with known (Retry l) = stopped_at known (known.pause l)
 stopped_with known (Wake who) = notice who outcome.Stopped ∷ []
+stopped_with known (Batch n) = []
 stopped_with known (KeepAlive l) = []
 stopped_with known CheckIdle = []
 
--- and so are those that wait for a turn
-abbrev pub stopped_one : (ticket : ℕ) → Notice
-stopped_one t = notice (Call t) outcome.Stopped
+-- and so are those that wait for a turn, or for a batch that is not under way
+abbrev pub stopped_one : Who → Notice
+stopped_one who = notice who outcome.Stopped
+
+abbrev pub stopped_call : (ticket : ℕ) → Notice
+stopped_call t = notice (Call t) outcome.Stopped
+
+abbrev pub stopped_all : Producers → List Notice
+stopped_all ps = map stopped_one (waiting ps) ++ map stopped_call (unsent ps)
 
 abbrev pub causes : View → Act → List (List Notice)
 causes v (Comes (ToLink l x)) = caused v l x
-causes v (Comes (Rings a)) = if rings v.now a v.alarms then opens (woken a) else []
-causes v (Does who StopAll) = opens (flat_map (λ e. stopped_with v.addresses e.0) v.alarms ++ map stopped_one (waiting v.producers))
+causes v (Comes (Rings a)) = if rings v.now a v.alarms then opens (woken v a) else []
+causes v (Does who StopAll) = opens (flat_map (λ e. stopped_with v.addresses e.0) v.alarms ++ stopped_all v.producers)
 causes v _ = []

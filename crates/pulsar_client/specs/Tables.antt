@@ -11,7 +11,7 @@ use Rattle.pulsar_client.specs.declared.act.Alarm.{Alarm}
 use Rattle.pulsar_client.specs.declared.act.Alarm.TheVariants as alarm
 use Rattle.pulsar_client.specs.declared.act.Arrival.{Arrival}
 use Rattle.pulsar_client.specs.declared.act.Who.{Who}
-use Rattle.pulsar_client.specs.declared.act.Who.TheVariants.{Call}
+use Rattle.pulsar_client.specs.declared.act.Who.TheVariants.{Call, Producer}
 use Rattle.pulsar_client.specs.declared.agenda.Tasks.{Tasks}
 use Rattle.pulsar_client.specs.declared.effect.Effect.{Effect}
 use Rattle.pulsar_client.specs.declared.event.Event.{Event}
@@ -44,6 +44,7 @@ chosen_of s =
 
 abbrev pub stand_of : Plans → Who → Option Plan
 stand_of p (Call ticket) = get nat_cmp p.calls ticket
+stand_of p (Producer number) = get nat_cmp p.producers number
 
 abbrev pub view_of : Tables → View
 view_of c =

@@ -1,4 +1,4 @@
--- Ten small runs, by their histories, oldest step first. Each is good.
+-- Eleven small runs, by their histories, oldest step first. Each is good.
 use Rattle.std.specs.Prelude.{◌≡◌, ℕ, true, false, List, [], ◌∷◌, ◌++◌, reverse, codes, Some, None}
 use Rattle.url.specs.declared.host.Host.TheVariants.{Domain}
 use Rattle.pulsar_plans.specs.Address.{Place}
@@ -280,6 +280,37 @@ message_is_sent =
     ∷ step_of (Bytes 0 gets_producer) (Settles 0 3 settlement.Reply ∷ Ends 1 Done ∷ [])
     ∷ step_of (Called (Send 1 message_a)) (Queued 0 4 sends_message ∷ [])
     ∷ step_of (Bytes 0 gets_receipt) (Settles 0 4 settlement.Reply ∷ Ends 2 (Receipt receipt) ∷ [])
+    ∷ [])
+
+-- a producer that sends two messages at a time
+abbrev pub producer_of_two : ProducerWanted
+producer_of_two = record { topic = Some (codes "t"); name = Some (codes "p"); options = record empty_producer_options { batch_size = Some 2 } }
+
+-- another message: b
+abbrev pub message_b : ProducerMessageValues
+message_b = record empty_message { payload = codes "b" }
+
+-- both in one frame, number 0, which says that they are two: each behind its size
+abbrev pub sends_both : List ℕ
+sends_both =
+    0 ∷ 0 ∷ 0 ∷ 47 ∷ 0 ∷ 0 ∷ 0 ∷ 10 ∷ 8 ∷ 6 ∷ 50 ∷ 6 ∷ 8 ∷ 0 ∷ 16 ∷ 0 ∷ 24 ∷ 2 ∷ 14 ∷ 1 ∷ 98 ∷ 66 ∷ 114 ∷ 189
+    ∷ 0 ∷ 0 ∷ 0 ∷ 9 ∷ 10 ∷ 1 ∷ 112 ∷ 16 ∷ 0 ∷ 24 ∷ 0 ∷ 88 ∷ 2
+    ∷ 0 ∷ 0 ∷ 0 ∷ 2 ∷ 24 ∷ 1 ∷ 97 ∷ 0 ∷ 0 ∷ 0 ∷ 2 ∷ 24 ∷ 1 ∷ 98 ∷ []
+
+-- the receipt of each: its place in the batch, of two
+abbrev pub receipt_in_batch : (index : ℕ) → List ℕ
+receipt_in_batch i = 8 ∷ 0 ∷ 16 ∷ 0 ∷ 26 ∷ 8 ∷ 8 ∷ 1 ∷ 16 ∷ 1 ∷ 32 ∷ i ∷ 48 ∷ 2 ∷ []
+
+-- a message is stored until a second one comes; then both are sent in one frame, and its receipt answers both
+abbrev pub batch_is_sent : List Step
+batch_is_sent =
+    builds ++ (step_of (Called (Producer producer_of_two)) (Queued 0 1 asks_partitions ∷ [])
+    ∷ step_of (Bytes 0 has_none) (Settles 0 1 settlement.Reply ∷ Queued 0 2 asks_broker ∷ [])
+    ∷ step_of (Bytes 0 is_this_one) (Settles 0 2 settlement.Reply ∷ Queued 0 3 asks_producer ∷ [])
+    ∷ step_of (Bytes 0 gets_producer) (Settles 0 3 settlement.Reply ∷ Ends 1 Done ∷ [])
+    ∷ step_of (Called (Send 1 message_a)) []
+    ∷ step_of (Called (Send 1 message_b)) (Queued 0 4 sends_both ∷ [])
+    ∷ step_of (Bytes 0 gets_receipt) (Settles 0 4 settlement.Reply ∷ Ends 2 (Receipt (receipt_in_batch 0)) ∷ Ends 3 (Receipt (receipt_in_batch 1)) ∷ [])
     ∷ [])
 
 -- a history, oldest step first, is good with room for so many frames

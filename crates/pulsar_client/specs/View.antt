@@ -25,9 +25,9 @@ use Rattle.pulsar_session.specs.Link.{Asks, Feeds, Seen, Setup, came, has_room, 
 use Rattle.pulsar_link.specs.Request.{closed_consumer, is_answered, request_number}
 use Rattle.pulsar_client.specs.declared.act.Act.{Act}
 use Rattle.pulsar_client.specs.declared.act.Act.TheVariants.{Comes, Starts, Told, Does, Answers, Dials}
-use Rattle.pulsar_client.specs.declared.act.Action.TheVariants.{Get, Ask, Wait, TakeTurn, PassTurn, Draw, Remake, Number, Shut, StopAll}
+use Rattle.pulsar_client.specs.declared.act.Action.TheVariants.{Get, Ask, Wait, TakeTurn, PassTurn, Draw, Remake, Number, Shut, Store, Flush, TakeBatch, StopAll}
 use Rattle.pulsar_client.specs.declared.act.Alarm.{Alarm}
-use Rattle.pulsar_client.specs.declared.act.Alarm.TheVariants.{Retry, Wake, KeepAlive, CheckIdle}
+use Rattle.pulsar_client.specs.declared.act.Alarm.TheVariants.{Retry, Wake, Batch, KeepAlive, CheckIdle}
 use Rattle.pulsar_client.specs.declared.act.Arrival.{Arrival}
 use Rattle.pulsar_client.specs.declared.act.Arrival.TheVariants as arrivals
 use Rattle.pulsar_client.specs.declared.act.End.{End}
@@ -53,11 +53,12 @@ use Rattle.pulsar_client.specs.Content.{Heard, Called, Opened, FailedToOpen, Byt
 use Rattle.pulsar_client.specs.Links.{Change, Remains, Becomes, IsOver, arrival, change_by, change_in, closed_by, settled_in}
 use Rattle.pulsar_client.specs.Links as links
 use Rattle.pulsar_client.specs.Plan.{begins, told}
-use Rattle.pulsar_client.specs.Producers.{Producers, called_on, changed, joined, link_at, none, numbered, shut}
+use Rattle.pulsar_client.specs.declared.producers.Topic.{Topic}
+use Rattle.pulsar_client.specs.Producers.{Producers, called_on, changed, halted, is_bare, joined, link_at, none, numbered, numbers_at, shut, timeout_at, topic_after}
 use Rattle.pulsar_producer.specs.Routing.{Policy}
 use Rattle.pulsar_producer.specs.Topic as topic
 use Rattle.pulsar_client.specs.Subscriptions.{IsHeard, Subscription, after_poll, closed_at, ended_at, fresh, hears}
-use Rattle.pulsar_client.specs.Who.{is_same, rank}
+use Rattle.pulsar_client.specs.Who.{is_same, rank, turn_of}
 
 -- What a client's options say of a run: the address of the service, where their URL has one; the credential; how connections are
 -- attempted and kept, and how long requests wait, in milliseconds; how many frames of a link may be queued and not written; what random
@@ -497,6 +498,7 @@ is_for key (Some p) = bytes_eq (address_key p.address) key
 abbrev pub is_to_follow : Addresses → (key : List ℕ) → Alarm → Bool
 is_to_follow known key (Retry l) = is_for key (known.pause l)
 is_to_follow known key (Wake who) = false
+is_to_follow known key (Batch n) = false
 is_to_follow known key (KeepAlive l) = false
 is_to_follow known key CheckIdle = false
 
@@ -522,6 +524,7 @@ pause_on (Some t) l row = pause_put t.pause t.link l row
 abbrev pub pause_rung : (rings : Bool) → Alarm → ℕ → Option Pause → Option Pause
 pause_rung rings (Retry k) l row = if rings && (l == k) then None else row
 pause_rung rings (Wake who) l row = row
+pause_rung rings (Batch n) l row = row
 pause_rung rings (KeepAlive k) l row = row
 pause_rung rings CheckIdle l row = row
 
@@ -559,6 +562,7 @@ alarms_on o now (Some t) alarms = alarms_turned o now t.link t.change t.pause al
 abbrev pub alarms_rung : Chosen → (now : ℕ) → Alarm → List (Alarm × ℕ) → List (Alarm × ℕ)
 alarms_rung o now (Retry l) alarms = clear (Retry l) alarms
 alarms_rung o now (Wake who) alarms = clear (Wake who) alarms
+alarms_rung o now (Batch n) alarms = clear (Batch n) alarms
 alarms_rung o now (KeepAlive l) alarms = set (KeepAlive l) (later now o.connection.keep_alive) alarms
 alarms_rung o now CheckIdle alarms = set CheckIdle (later now idle_period) alarms
 
@@ -566,10 +570,31 @@ alarms_rung o now CheckIdle alarms = set CheckIdle (later now idle_period) alarm
 abbrev pub alarms_built : (now : ℕ) → (is_first : Bool) → List (Alarm × ℕ) → List (Alarm × ℕ)
 alarms_built now is_first alarms = if is_first then set CheckIdle (later now idle_period) alarms else alarms
 
+-- What is stored waits from its first message on, so long as its producer says. Where nothing is stored any longer nothing waits.
+abbrev pub waits_from : (now : ℕ) → (timeout : Option ℕ) → (number : ℕ) → List (Alarm × ℕ) → List (Alarm × ℕ)
+waits_from now None n alarms = alarms
+waits_from now (Some delay) n alarms = set (Batch n) (later now delay) alarms
+
+abbrev pub alarms_waiting : (now : ℕ) → (timeout : Option ℕ) → (number : ℕ) → (was_bare is_bare : Bool) → List (Alarm × ℕ) → List (Alarm × ℕ)
+alarms_waiting now timeout n was_bare is_bare alarms =
+    if is_bare then clear (Batch n) alarms else (if was_bare then waits_from now timeout n alarms else alarms)
+
+abbrev pub alarms_on_topic : View → (number : ℕ) → topic.Act → List (Alarm × ℕ)
+alarms_on_topic v n act =
+    alarms_waiting v.now (timeout_at v.producers (v.producers.topics n)) n (is_bare (v.producers.topics n))
+    (is_bare (option_map (topic_after act) (v.producers.topics n))) v.alarms
+
+abbrev pub clear_all : List ℕ → List (Alarm × ℕ) → List (Alarm × ℕ)
+clear_all [] alarms = alarms
+clear_all (n ∷ ns) alarms = clear_all ns (clear (Batch n) alarms)
+
 abbrev pub alarms_after : View → Act → List (Alarm × ℕ)
 alarms_after v (Comes (ToLink l x)) = alarms_on v.chosen v.now (turned v (Comes (ToLink l x))) v.alarms
 alarms_after v (Comes (Rings a)) = if rings v.now a v.alarms then alarms_rung v.chosen v.now a v.alarms else v.alarms
 alarms_after v (Does who (Wait delay)) = set (Wake who) (later v.now delay) v.alarms
+alarms_after v (Does who (Store n e)) = alarms_on_topic v n (topic.Stores (turn_of who) e)
+alarms_after v (Does who (Flush n)) = alarms_on_topic v n (topic.Flushes (turn_of who))
+alarms_after v (Does who (Shut t)) = clear_all (numbers_at (v.producers.built t)) v.alarms
 alarms_after v (Does who StopAll) = []
 alarms_after v (Answers who verdict) = alarms_built v.now (not v.calls.is_built && builds verdict.makes false) v.alarms
 alarms_after v _ = v.alarms
@@ -625,15 +650,28 @@ producers_made o who Client ps = ps
 producers_made o who (Consumer link number topic) ps = ps
 producers_made o who (Producer made) ps = joined (rank who).1 made o.seed o.first_number ps
 
+-- what is stored is cut once it has waited
+abbrev pub producers_rung : (rings : Bool) → Alarm → Producers → Producers
+producers_rung rings (Batch n) ps = if rings then changed n topic.Cuts ps else ps
+producers_rung rings (Retry l) ps = ps
+producers_rung rings (Wake who) ps = ps
+producers_rung rings (KeepAlive l) ps = ps
+producers_rung rings CheckIdle ps = ps
+
 abbrev pub producers_after : View → Act → Producers
 producers_after v (Comes (Calls asked advice)) =
     if lacks_tickets v.calls.drawn (shares asked) then v.producers else called_on (may_call v.calls) asked v.producers
-producers_after v (Does who (TakeTurn n)) = changed n (topic.Takes (rank who).1) v.producers
+producers_after v (Comes (Rings a)) = producers_rung (rings v.now a v.alarms) a v.producers
+producers_after v (Does who (TakeTurn n)) = changed n (topic.Takes (turn_of who)) v.producers
 producers_after v (Does who (PassTurn n)) = changed n topic.Passes v.producers
 producers_after v (Does who (Draw n)) = draws_on (room_of v n) n v.producers
 producers_after v (Does who (Remake r)) = changed r.number (topic.Remakes r.link r.given) v.producers
 producers_after v (Does who Number) = numbered v.producers
 producers_after v (Does who (Shut t)) = shut t v.producers
+producers_after v (Does who (Store n e)) = changed n (topic.Stores (turn_of who) e) v.producers
+producers_after v (Does who (Flush n)) = changed n (topic.Flushes (turn_of who)) v.producers
+producers_after v (Does who (TakeBatch n)) = changed n topic.TakesBatch v.producers
+producers_after v (Does who StopAll) = halted v.producers
 producers_after v (Answers who verdict) = producers_made v.chosen who verdict.makes v.producers
 producers_after v _ = v.producers
 

@@ -1,13 +1,14 @@
 //! What a step is made of: acts, each one thing that happens. There are six kinds of act, and all that is special to a kind of
 //! call, thing or event stands one level below them.
 
-use crate::content::{Advice, Asking, Cause, Granted, Made, Numbers, Remade, Said};
+use crate::content::{Advice, Asking, Cause, Granted, Made, Notices, Numbers, Remade, Said};
 use pulsar_link::content::{Received, Request, Text};
 use pulsar_plans::content::{Address, Refusal as Failure};
 use pulsar_plans::plan::Procedure as Sought;
 use pulsar_plans::turn::Ways;
+use pulsar_producer::Receipt;
 use pulsar_producer::building::Order;
-use pulsar_producer::content::Outgoing;
+use pulsar_producer::content::{Entry, Outgoing};
 use pulsar_producer::sending::Errand;
 use pulsar_wire::error::IoKind;
 
@@ -16,6 +17,8 @@ use pulsar_wire::error::IoKind;
 pub enum Who {
     /// The call of this ticket.
     Call(u64),
+    /// The topic producer of this number, which sends batches.
+    Producer(u64),
 }
 
 /// What a plan is told.
@@ -50,6 +53,8 @@ pub enum Outcome {
         ticket: u64,
         failure: Option<Failure>,
     },
+    /// What became of the batch in which its message went, or of its message before that.
+    Settled(Result<Receipt, Failure>),
     /// The client was stopped while its request waited for a reply.
     Cut,
     /// The client was stopped, and no request of it was queued.
@@ -102,6 +107,8 @@ pub enum Refusal {
     NoPartition,
     /// A producer of the client has the number.
     NumberInUse,
+    /// The payload is too large for a batch.
+    TooLarge,
 }
 
 /// A send that is a part of another call: the tickets of that call, and of the send.
@@ -116,6 +123,8 @@ pub struct Share {
 pub enum Round {
     /// A sign of life of its link.
     Checks,
+    /// What it stores.
+    Flushes,
     /// Its close.
     Closes,
 }
@@ -149,6 +158,17 @@ pub enum Procedure {
         errand: Errand,
         share: Option<Share>,
         message: Outgoing,
+    },
+    /// Store a message until it is sent as a part of a batch of this topic producer.
+    Store {
+        number: u64,
+        share: Option<Share>,
+        entry: Entry,
+    },
+    /// Send the batches of a topic producer, one after the other.
+    Batch {
+        ways: Ways,
+        errand: Errand,
     },
     /// Fail, as a part of another call.
     FailShare {
@@ -199,8 +219,16 @@ pub enum Action {
     Find(u64),
     /// The producer of this ticket takes no sends from now on.
     Shut(u64),
+    /// Store a message at the topic producer of this number.
+    Store { number: u64, entry: Entry },
+    /// Wait until all that this topic producer has taken is settled.
+    Flush(u64),
+    /// Take the next batch of a topic producer.
+    TakeBatch(u64),
     /// Tell another one, who joins those whom the present cause serves.
     Tell(Notice),
+    /// Tell several others, who do so.
+    TellAll(Notices),
     /// End every link.
     StopAll,
     /// Nothing.
@@ -282,6 +310,8 @@ pub enum Alarm {
     Retry(u64),
     /// This one has waited.
     Wake(Who),
+    /// What this topic producer stores has waited.
+    Batch(u64),
     /// This link is to be asked for a sign of life.
     KeepAlive(u64),
     /// Links that nothing uses are to be ended.

@@ -10,6 +10,7 @@ ghost use Rattle.pulsar_client.specs.Parts.{failed_with, outcome_at, outcomes_of
 ghost use Rattle.pulsar_wire.specs.declared.error.Error.{Error as Meant};
 ghost use Rattle.pulsar_session.specs.Failures.{fault, sent};
 
+use crate::act::Notice;
 use crate::effect::Answer;
 use crate::event::Call;
 use pulsar_plans::content::{Refusal, Text};
@@ -221,6 +222,13 @@ impl Made {
         Ok(Made { building })
     }
 
+    /// The producer to be looked at.
+    pub fn building(&self) -> &Building
+        ensures { result.now ≡ self.now }
+    {
+        &self.building
+    }
+
     pub fn into_inner(self) -> Building
         ensures { result ≡ self }
     {
@@ -267,6 +275,53 @@ impl Numbers {
         ensures { MatchOption result (self.old ≡ []) (λ n. self.old ≡ n ∷ self.new) }
     {
         self.all.pop_front()
+    }
+}
+
+/// What others are told, in order.
+#[derive(Drop)]
+pub struct Notices {
+    all: VecDeque<Notice>,
+}
+
+impl Model for Notices {
+    ghost use Rattle.std.specs.Prelude.{List};
+    ghost use Rattle.pulsar_client.specs.declared.act.Notice.{Notice};
+    ghost use Rattle.pulsar_session.specs.FailureCode.{failure_code};
+    ghost use Rattle.std.specs.Coded.{codes};
+
+    ghost Value = { List Notice };
+
+    ghost coded = { Prim.hlevel (codes, failure_code (Prim.hlevel codes)) };
+
+    ghost view = { λ n. n.all.items };
+}
+
+impl Notices {
+    /// None.
+    pub fn new(alloc: Global) -> Notices
+        ensures { result ≡ [] }
+    {
+        Notices {
+            all: VecDeque::new(alloc),
+        }
+    }
+
+    /// One more behind these.
+    pub fn with(self, notice: Notice) -> Result<Notices, NoMemory>
+        ensures { IfOk result (λ n. n ≡ self ++ notice ∷ []) }
+    {
+        let Notices { mut all } = self;
+        all.push_back(notice)?;
+        Ok(Notices { all })
+    }
+
+    /// All of them.
+    pub fn into_inner(self) -> VecDeque<Notice>
+        ensures { result.items ≡ self }
+    {
+        let Notices { all } = self;
+        all
     }
 }
 

@@ -1,7 +1,6 @@
-//! Answers and errors once more.
+//! Answers once more.
 
 ghost use Rattle.std.specs.Prelude.{◌≡◌, IfOk, map};
-ghost use Rattle.pulsar_session.specs.Failures.{OfConsumer, OfDiscovery, consumer_fault, discovery_fault, failure, fault, of_producer, sent};
 ghost use Rattle.pulsar_plans.specs.Address.{named};
 ghost use Rattle.pulsar_wire.specs.Views.{body_values};
 ghost use Rattle.pulsar_client.specs.Content.{answered, said};
@@ -9,11 +8,10 @@ ghost use Rattle.pulsar_client.specs.Content.{answered, said};
 use crate::effect::Answer;
 use pulsar_plans::BrokerAddress;
 use pulsar_plans::content::Refusal;
+use pulsar_producer::copying::{copy_error, copy_refusal};
 use pulsar_wire::commands::base::Body;
-use pulsar_wire::encoding::copying::{copy_optional, copy_values};
-use pulsar_wire::error::{
-    ConnectionError, ConsumerError, Error, NoMemory, ProducerError, ServiceDiscoveryError,
-};
+use pulsar_wire::encoding::copying::copy_values;
+use pulsar_wire::error::{Error, NoMemory};
 use std::alloc::Global;
 
 /// What a call ends with, once more.
@@ -71,131 +69,6 @@ fn copy_bodies(alloc: Global, bodies: &[Body]) -> Result<Vec<Body>, NoMemory>
 pub fn twice(alloc: Global, refusal: Refusal) -> Result<(Refusal, Refusal), NoMemory>
     ensures { IfOk result (λ both. (both.0 ≡ refusal) × (both.1 ≡ refusal)) }
 {
-    let error = refusal.into_inner();
-    let copy = once_more(alloc, &error)?;
-    Ok((Refusal::new(alloc, error)?, copy))
-}
-
-fn once_more(alloc: Global, error: &Error) -> Result<Refusal, NoMemory>
-    ensures { IfOk result (λ copy. copy ≡ failure error.now) }
-{
-    Refusal::new(alloc, copy_error(alloc, error)?)
-}
-
-/// An error once more.
-#[cycle(copies)]
-pub fn copy_error(alloc: Global, error: &Error) -> Result<Error, NoMemory>
-    ensures { IfOk result (λ copy. failure copy ≡ failure error.now) }
-{
-    match error {
-        Error::Connection(error) => Ok(Error::Connection(copy_connection(error)?)),
-        Error::Consumer(error) => Ok(Error::Consumer(copy_consumer(error)?)),
-        Error::Producer(error) => Ok(Error::Producer(copy_producer(alloc, error)?)),
-        Error::ServiceDiscovery(error) => Ok(Error::ServiceDiscovery(copy_discovery(error)?)),
-        Error::Authentication(error) => Ok(Error::Authentication(error.copy()?)),
-        Error::Custom(text) => Ok(Error::Custom(text.clone()?)),
-        Error::Executor => Ok(Error::Executor),
-    }
-}
-
-fn copy_connection(error: &ConnectionError) -> Result<ConnectionError, NoMemory>
-    ensures { IfOk result (λ copy. fault copy ≡ fault error.now) }
-{
-    match error {
-        ConnectionError::Io(kind) => Ok(ConnectionError::Io(*kind)),
-        ConnectionError::SlowDown => Ok(ConnectionError::SlowDown),
-        ConnectionError::Disconnected => Ok(ConnectionError::Disconnected),
-        ConnectionError::PulsarError(code, text) => Ok(ConnectionError::PulsarError(
-            *code,
-            copy_optional(text)?,
-        )),
-        ConnectionError::Unexpected(text) => Ok(ConnectionError::Unexpected(text.clone()?)),
-        ConnectionError::Decoding(reason) => Ok(ConnectionError::Decoding(*reason)),
-        ConnectionError::Encoding(reason) => Ok(ConnectionError::Encoding(*reason)),
-        ConnectionError::SocketAddr(text) => Ok(ConnectionError::SocketAddr(text.clone()?)),
-        ConnectionError::UnexpectedResponse(body) => {
-            Ok(ConnectionError::UnexpectedResponse(body.clone()?))
-        }
-        ConnectionError::Authentication(error) => {
-            Ok(ConnectionError::Authentication(error.copy()?))
-        }
-        ConnectionError::NotFound => Ok(ConnectionError::NotFound),
-        ConnectionError::Canceled => Ok(ConnectionError::Canceled),
-        ConnectionError::Shutdown => Ok(ConnectionError::Shutdown),
-        ConnectionError::Exhausted => Ok(ConnectionError::Exhausted),
-        ConnectionError::NoMemory => Ok(ConnectionError::NoMemory),
-    }
-}
-
-fn copy_consumer(error: &ConsumerError) -> Result<ConsumerError, NoMemory>
-    ensures { IfOk result (λ copy. consumer_fault copy ≡ consumer_fault error.now) }
-{
-    match error {
-        ConsumerError::Connection(error) => {
-            Ok(ConsumerError::Connection(copy_connection(error)?))
-        }
-        ConsumerError::MissingPayload(text) => Ok(ConsumerError::MissingPayload(text.clone()?)),
-        ConsumerError::Io(kind) => Ok(ConsumerError::Io(*kind)),
-        ConsumerError::ChannelFull => Ok(ConsumerError::ChannelFull),
-        ConsumerError::Closed => Ok(ConsumerError::Closed),
-        ConsumerError::BuildError => Ok(ConsumerError::BuildError),
-    }
-}
-
-fn copy_discovery(error: &ServiceDiscoveryError) -> Result<ServiceDiscoveryError, NoMemory>
-    ensures { IfOk result (λ copy. discovery_fault copy ≡ discovery_fault error.now) }
-{
-    match error {
-        ServiceDiscoveryError::Connection(error) => Ok(ServiceDiscoveryError::Connection(
-            copy_connection(error)?,
-        )),
-        ServiceDiscoveryError::Query(code, text) => Ok(ServiceDiscoveryError::Query(
-            *code,
-            copy_optional(text)?,
-        )),
-        ServiceDiscoveryError::NotFound => Ok(ServiceDiscoveryError::NotFound),
-        ServiceDiscoveryError::DnsLookupError => Ok(ServiceDiscoveryError::DnsLookupError),
-        ServiceDiscoveryError::Canceled => Ok(ServiceDiscoveryError::Canceled),
-        ServiceDiscoveryError::Shutdown => Ok(ServiceDiscoveryError::Shutdown),
-        ServiceDiscoveryError::Dummy => Ok(ServiceDiscoveryError::Dummy),
-    }
-}
-
-#[cycle(copies)]
-fn copy_producer(alloc: Global, error: &ProducerError) -> Result<ProducerError, NoMemory>
-    ensures { IfOk result (λ copy. of_producer copy ≡ of_producer error.now) }
-{
-    match error {
-        ProducerError::Connection(error) => {
-            Ok(ProducerError::Connection(copy_connection(error)?))
-        }
-        ProducerError::Custom(text) => Ok(ProducerError::Custom(text.clone()?)),
-        ProducerError::Io(kind) => Ok(ProducerError::Io(*kind)),
-        ProducerError::PartialSend(all) => {
-            Ok(ProducerError::PartialSend(copy_partial(alloc, all)?))
-        }
-        ProducerError::Batch(error) => {
-            let copy = copy_error(alloc, error)?;
-            Ok(ProducerError::Batch(Box::new(alloc, copy)?))
-        }
-        ProducerError::Fenced => Ok(ProducerError::Fenced),
-        ProducerError::Closed => Ok(ProducerError::Closed),
-    }
-}
-
-#[cycle(copies)]
-fn copy_partial(
-    alloc: Global,
-    all: &[Result<u64, Error>],
-) -> Result<Vec<Result<u64, Error>>, NoMemory>
-    ensures { IfOk result (λ copy. sent copy.items ≡ sent all.now) }
-{
-    let mut copy = Vec::new(alloc);
-    for one in all {
-        copy.push(match one {
-            Ok(ticket) => Ok(*ticket),
-            Err(error) => Err(copy_error(alloc, error)?),
-        })?;
-    }
-    Ok(copy)
+    let copy = copy_refusal(alloc, &refusal)?;
+    Ok((refusal, copy))
 }

@@ -3,7 +3,7 @@
 ghost use Rattle.pulsar_client.specs.Address.{KnownAddresses};
 ghost use Rattle.pulsar_client.specs.Client.{StandsFor};
 ghost use Rattle.pulsar_client.specs.Laws.{AlarmsAreTicked, AllIsDone, AnswersOnce, AttemptsFollow, BuiltIs, CallsAreMade, CausesInOrder, ClockIs, ConsumersHearToTheirEnd, DeadlinesAreTicked, DeedsFollow, Determined, EffectsArranged, EndsOnce, FailuresAreTold, FramesAreCut, IdleEnds, LinksAlone, NoneAfterStop, OneLinkEach, OutcomesAreCaused, PlansFollow, PollsAreAnswered, PollsFollow, SeriesIsNewest, ServedByTicket, SignsOfLife, StoppedIs, TicketsCount, TicksInOrder, WritesFollow};
-ghost use Rattle.pulsar_client.specs.Traces.{IsGood, LocalIsKnown, attempt_fails, attempt_is_retried, client_is_stopped, consumer_is_polled, deadline_comes, line_moves_up, lookup_is_redirected, message_is_sent, reply_comes_early, request_is_answered};
+ghost use Rattle.pulsar_client.specs.Traces.{IsGood, LocalIsKnown, attempt_fails, attempt_is_retried, batch_is_sent, client_is_stopped, consumer_is_polled, deadline_comes, line_moves_up, lookup_is_redirected, message_is_sent, reply_comes_early, request_is_answered};
 ghost use Rattle.pulsar_client.specs.Run.{Good, Step};
 ghost use Rattle.pulsar_client.specs.View.{Options};
 ghost use Rattle.std.specs.Prelude.{ℕ, List};
@@ -106,7 +106,8 @@ pub fn alarms_are_ticked()
     ensures { AlarmsAreTicked }
 {}
 
-/// What a tick brings comes in order: deadlines, attempts, those who have waited, signs of life, the idle check.
+/// What a tick brings comes in order: deadlines, attempts, those who have waited, batches, signs of life, the idle
+/// check.
 pub fn ticks_in_order()
     ensures { TicksInOrder }
 {}
@@ -178,7 +179,7 @@ pub fn addresses_are_known()
     ensures { KnownAddresses }
 {}
 
-/// Ten small runs are good, at the address of a URL.
+/// Eleven small runs are good, at the address of a URL.
 pub fn small_runs_are_good()
     ensures answered { IsGood 8 request_is_answered }
     ensures early { IsGood 8 reply_comes_early }
@@ -190,5 +191,6 @@ pub fn small_runs_are_good()
     ensures retried { IsGood 8 attempt_is_retried }
     ensures redirected { IsGood 8 lookup_is_redirected }
     ensures sent { IsGood 8 message_is_sent }
+    ensures batched { IsGood 8 batch_is_sent }
     ensures address { LocalIsKnown }
 {}

@@ -7,6 +7,7 @@ mod addresses;
 mod agenda;
 mod alarms;
 mod answers;
+pub mod batch_laws;
 mod consumers;
 mod content;
 mod copying;

@@ -2,7 +2,7 @@
 
 ghost use Rattle.std.specs.Prelude.{◌≡◌, ◌==◌, ◌&&◌, ◌+◌, ◌-◌, ◌^◌, nat_lt, ◌++◌, ℕ, IfOk, OnOk, Some, length, map, if◌then◌else◌};
 ghost use Rattle.std.specs.BTreeMap.{get};
-ghost use Rattle.std.specs.List.{list_any};
+ghost use Rattle.std.specs.List.{flat_map, list_any};
 ghost use Rattle.std.specs.Option.{is_some, option_map};
 ghost use Rattle.std.specs.Ordering.{nat_cmp};
 ghost use Rattle.pulsar_messages.specs.Content.{message_content};
@@ -11,19 +11,22 @@ ghost use Rattle.pulsar_producer.specs.Random.{first_index};
 ghost use Rattle.pulsar_producer.specs.Topic as topic;
 ghost use Rattle.pulsar_client.specs.Producers as meaning;
 ghost use Rattle.pulsar_client.specs.Producers.{Producers as Seen};
-ghost use Rattle.pulsar_client.specs.Rules.{stopped_one};
+ghost use Rattle.pulsar_client.specs.Rules.{stopped_all, stopped_call, stopped_one};
+ghost use Rattle.pulsar_client.specs.Who.{in_turn};
 ghost use Rattle.pulsar_client.specs.Kept.{producers_of};
 
 use crate::act::{Notice, Outcome, Who};
 use crate::content::{Advice, Building, Numbers, Remaking};
+use crate::who::in_turn;
 use pulsar_messages::Message;
 use pulsar_plans::content::Text;
 use pulsar_plans::making::Command;
-use pulsar_producer::content::{Built, Parts, Settings, Version};
+use pulsar_producer::content::{Batch, Built, Entry, Parts, Settings, Version};
 use pulsar_producer::deed::Drawn;
 use pulsar_producer::random::first_index;
 use pulsar_producer::routing::Partition;
 use pulsar_producer::sending::Errand;
+use pulsar_producer::storage::Limits;
 use pulsar_producer::{CustomRoutingPolicy, Producer, TopicProducer};
 use pulsar_wire::error::NoMemory;
 use std::alloc::Global;
@@ -276,7 +279,8 @@ impl Producers {
             settings,
             parts,
         } = building;
-        let partitions = self.make_all(ticket, parts, first_number)?;
+        let limits = settings.limits();
+        let partitions = self.make_all(ticket, limits, parts, first_number)?;
         match made_of(seed, ticket, topic, settings, partitions) {
             Some(producer) => drop(self.built.insert(ticket, producer)?),
             None => {}
@@ -288,25 +292,32 @@ impl Producers {
     fn make_all(
         &mut self,
         owner: u64,
+        limits: Limits,
         parts: Parts,
         first_number: u64,
     ) -> Result<Vec<Partition>, NoMemory>
         ensures partitions { IfOk result (λ ps. ps.items ≡ map meaning.partition_of parts) }
-        ensures after { OnOk result (producers_of self.new ≡ meaning.with_topics owner first_number parts (producers_of self.old)) }
+        ensures after { OnOk result (producers_of self.new ≡ meaning.with_topics owner first_number limits parts (producers_of self.old)) }
     {
         let mut partitions = Vec::new(self.alloc);
         for built in parts.into_inner() {
             partitions.push(partition_of(&built)?)?;
-            self.make(owner, built, first_number)?;
+            self.make(owner, limits, built, first_number)?;
         }
         Ok(partitions)
     }
 
-    fn make(&mut self, owner: u64, built: Built, first_number: u64) -> Result<(), NoMemory>
-        ensures { OnOk result (producers_of self.new ≡ meaning.with_topic owner first_number built (producers_of self.old)) }
+    fn make(
+        &mut self,
+        owner: u64,
+        limits: Limits,
+        built: Built,
+        first_number: u64,
+    ) -> Result<(), NoMemory>
+        ensures { OnOk result (producers_of self.new ≡ meaning.with_topic owner first_number limits built (producers_of self.old)) }
     {
         let number = built.number;
-        let seen = TopicProducer::new(self.alloc, built, first_number);
+        let seen = TopicProducer::new(self.alloc, built, first_number, limits);
         self.numbers.push(number)?;
         self.topics.insert(number, Topic { owner, seen })?;
         Ok(())
@@ -319,14 +330,136 @@ impl Producers {
         is_held(&self.numbers, &self.topics, link)
     }
 
-    /// Those that wait for a turn are told that the client is stopped.
+    /// Those that wait for a turn, or for a batch that is not under way, are told that the client is stopped.
     pub fn stop(&self, notices: &mut Vec<Notice>) -> Result<(), NoMemory>
+        ensures { OnOk result (notices.new.items ≡ notices.old.items ++ stopped_all (producers_of self.now)) }
+    {
+        self.stop_waiting(notices)?;
+        self.stop_unsent(notices)
+    }
+
+    /// Those that wait for a turn.
+    fn stop_waiting(&self, notices: &mut Vec<Notice>) -> Result<(), NoMemory>
         ensures { OnOk result (notices.new.items ≡ notices.old.items ++ map stopped_one (meaning.waiting (producers_of self.now))) }
     {
         for number in &self.numbers {
             stop_at(&self.topics, *number, notices)?;
         }
         Ok(())
+    }
+
+    /// Those that wait for a batch that is not under way.
+    fn stop_unsent(&self, notices: &mut Vec<Notice>) -> Result<(), NoMemory>
+        ensures { OnOk result (notices.new.items ≡ notices.old.items ++ map stopped_call (meaning.unsent (producers_of self.now))) }
+    {
+        for number in &self.numbers {
+            stop_unsent_at(&self.topics, *number, notices)?;
+        }
+        Ok(())
+    }
+
+    /// The client is stopped: nothing is stored any longer.
+    pub fn halt(&mut self)
+        ensures { producers_of self.new ≡ meaning.halted (producers_of self.old) }
+    {
+        self.topics.retain(|_, topic| {
+            topic.seen.halt();
+            true
+        });
+    }
+
+    /// The producer of this ticket sends batches.
+    pub fn batches(&self, ticket: u64) -> bool
+        ensures { result ≡ meaning.batches_in ((producers_of self.now).built ticket) }
+    {
+        match self.built.get(&ticket) {
+            Some(producer) => producer.settings().is_batching(),
+            None => false,
+        }
+    }
+
+    /// How long what a topic producer stores waits.
+    pub fn timeout(&self, number: u64) -> Option<u64>
+        ensures { result ≡ meaning.timeout_at (producers_of self.now) ((producers_of self.now).topics number) }
+    {
+        let topic = self.topics.get(&number)?;
+        let producer = self.built.get(&topic.owner)?;
+        producer.settings().batch_timeout()
+    }
+
+    /// A topic producer stores nothing.
+    pub fn is_bare(&self, number: u64) -> bool
+        ensures { result ≡ meaning.is_bare ((producers_of self.now).topics number) }
+    {
+        match self.topics.get(&number) {
+            Some(topic) => topic.seen.stores_nothing(),
+            None => true,
+        }
+    }
+
+    /// All that a topic producer has taken is settled.
+    pub fn is_settled(&self, number: u64) -> bool
+        ensures { result ≡ meaning.is_settled_at ((producers_of self.now).topics number) }
+    {
+        match self.topics.get(&number) {
+            Some(topic) => topic.seen.is_settled(),
+            None => true,
+        }
+    }
+
+    /// A topic producer stores a message. It has a batch to send, and none was under way.
+    pub fn store(&mut self, number: u64, turn: u64, entry: Entry) -> Result<bool, NoMemory>
+        ensures woken { IfOk result (λ w. w ≡ meaning.is_woken (topic.Stores turn entry) ((producers_of self.old).topics number)) }
+        ensures after { OnOk result (producers_of self.new ≡ meaning.changed number (topic.Stores turn entry) (producers_of self.old)) }
+    {
+        match self.topics.get_mut(&number) {
+            Some(topic) => topic.seen.store(turn, entry),
+            None => {
+                drop(entry);
+                Ok(false)
+            }
+        }
+    }
+
+    /// All that a topic producer has taken is to be settled. It has a batch to send, and none was under way.
+    pub fn flush(&mut self, number: u64, turn: u64) -> Result<bool, NoMemory>
+        ensures woken { IfOk result (λ w. w ≡ meaning.is_woken (topic.Flushes turn) ((producers_of self.old).topics number)) }
+        ensures after { OnOk result (producers_of self.new ≡ meaning.changed number (topic.Flushes turn) (producers_of self.old)) }
+    {
+        match self.topics.get_mut(&number) {
+            Some(topic) => topic.seen.flush(turn),
+            None => Ok(false),
+        }
+    }
+
+    /// What a topic producer stores has waited for its time. It has a batch to send, and none was under way.
+    pub fn cut(&mut self, number: u64) -> Result<bool, NoMemory>
+        ensures woken { IfOk result (λ w. w ≡ meaning.is_woken topic.Cuts ((producers_of self.old).topics number)) }
+        ensures after { OnOk result (producers_of self.new ≡ meaning.changed number topic.Cuts (producers_of self.old)) }
+    {
+        match self.topics.get_mut(&number) {
+            Some(topic) => topic.seen.cut(),
+            None => Ok(false),
+        }
+    }
+
+    /// The batch that a topic producer sends next.
+    pub fn take_batch(&mut self, number: u64) -> Option<Batch>
+        ensures batch { result ≡ meaning.next_batch_at ((producers_of self.old).topics number) }
+        ensures after { producers_of self.new ≡ meaning.changed number topic.TakesBatch (producers_of self.old) }
+    {
+        let topic = self.topics.get_mut(&number)?;
+        topic.seen.take_batch()
+    }
+
+    /// The tickets of the messages that the topic producers of a producer store.
+    pub fn stored_by(&self, ticket: u64) -> Result<Vec<u64>, NoMemory>
+        ensures { IfOk result (λ ts. ts.items ≡ meaning.stored_by (producers_of self.now) (meaning.numbers_at ((producers_of self.now).built ticket))) }
+    {
+        match self.built.get(&ticket) {
+            Some(producer) => stored_in(self.alloc, &self.topics, producer.as_slice()),
+            None => Ok(Vec::new(self.alloc)),
+        }
     }
 }
 
@@ -446,22 +579,86 @@ fn stop_at(
     number: u64,
     notices: &mut Vec<Notice>,
 ) -> Result<(), NoMemory>
-    ensures { OnOk result (notices.new.items ≡ notices.old.items ++ map stopped_one (meaning.waiting_at (get nat_cmp topics.now number))) }
+    ensures { OnOk result (notices.new.items ≡ notices.old.items ++ map stopped_one (meaning.waiting_at number (get nat_cmp topics.now number))) }
 {
     match topics.get(&number) {
-        Some(topic) => stop_all(topic.seen.waiting(), notices),
+        Some(topic) => stop_all(number, topic.seen.waiting(), notices),
         None => Ok(()),
     }
 }
 
-fn stop_all(waiting: &BTreeSet<u64>, notices: &mut Vec<Notice>) -> Result<(), NoMemory>
-    ensures { OnOk result (notices.new.items ≡ notices.old.items ++ map stopped_one waiting.now.keys) }
+fn stop_all(number: u64, waiting: &BTreeSet<u64>, notices: &mut Vec<Notice>) -> Result<(), NoMemory>
+    ensures { OnOk result (notices.new.items ≡ notices.old.items ++ map stopped_one (map (in_turn number) waiting.now.keys)) }
 {
-    for ticket in waiting {
+    for turn in waiting {
         notices.push(Notice {
-            who: Who::Call(*ticket),
+            who: in_turn(number, *turn),
             outcome: Outcome::Stopped,
         })?;
+    }
+    Ok(())
+}
+
+/// Those that wait for a batch of this topic producer that is not under way.
+fn stop_unsent_at(
+    topics: &BTreeMap<u64, Topic>,
+    number: u64,
+    notices: &mut Vec<Notice>,
+) -> Result<(), NoMemory>
+    ensures { OnOk result (notices.new.items ≡ notices.old.items ++ map stopped_call (meaning.unsent_at (get nat_cmp topics.now number))) }
+{
+    match topics.get(&number) {
+        Some(topic) => stop_calls(topic.seen.unsent()?, notices),
+        None => Ok(()),
+    }
+}
+
+fn stop_calls(tickets: Vec<u64>, notices: &mut Vec<Notice>) -> Result<(), NoMemory>
+    ensures { OnOk result (notices.new.items ≡ notices.old.items ++ map stopped_call tickets.items) }
+{
+    for ticket in tickets {
+        notices.push(Notice {
+            who: Who::Call(ticket),
+            outcome: Outcome::Stopped,
+        })?;
+    }
+    Ok(())
+}
+
+/// The tickets of the messages that the topic producers of these partitions store.
+fn stored_in(
+    alloc: Global,
+    topics: &BTreeMap<u64, Topic>,
+    partitions: &[Partition],
+) -> Result<Vec<u64>, NoMemory>
+    ensures { IfOk result (λ ts. ts.items ≡ flat_map (λ n. meaning.stored_at (get nat_cmp topics.now n)) (map (λ q. q.number) partitions.now)) }
+{
+    let mut all = Vec::new(alloc);
+    for partition in partitions {
+        store_tickets(topics, partition.number, &mut all)?;
+    }
+    Ok(all)
+}
+
+/// The tickets of the messages that a topic producer stores, behind others.
+fn store_tickets(
+    topics: &BTreeMap<u64, Topic>,
+    number: u64,
+    all: &mut Vec<u64>,
+) -> Result<(), NoMemory>
+    ensures { OnOk result (all.new.items ≡ all.old.items ++ meaning.stored_at (get nat_cmp topics.now number)) }
+{
+    match topics.get(&number) {
+        Some(topic) => add_all(topic.seen.stored()?, all),
+        None => Ok(()),
+    }
+}
+
+fn add_all(tickets: Vec<u64>, all: &mut Vec<u64>) -> Result<(), NoMemory>
+    ensures { OnOk result (all.new.items ≡ all.old.items ++ tickets.items) }
+{
+    for ticket in tickets {
+        all.push(ticket)?;
     }
     Ok(())
 }

@@ -1,7 +1,7 @@
 //! The order of those that have plans.
 
 ghost use Rattle.std.specs.Prelude.{◌≡◌};
-ghost use Rattle.pulsar_client.specs.Who.{is_before, is_same, rank};
+ghost use Rattle.pulsar_client.specs.Who.{in_turn, is_before, is_same, rank, turn_of};
 
 use crate::act::Who;
 
@@ -11,15 +11,31 @@ pub fn rank(who: Who) -> (u64, u64)
 {
     match who {
         Who::Call(ticket) => (0, ticket),
+        Who::Producer(number) => (1, number),
     }
 }
 
-/// Their ticket.
-pub fn ticket_of(who: Who) -> u64
-    ensures { result ≡ (rank who).1 }
+/// The batches of a topic producer take their turn behind all tickets: the greatest is never drawn.
+const BEHIND_ALL: u64 = u64::MAX;
+
+/// By what they take their turn at a topic producer.
+pub fn turn_of(who: Who) -> u64
+    ensures { result ≡ turn_of who }
 {
     match who {
         Who::Call(ticket) => ticket,
+        Who::Producer(_) => BEHIND_ALL,
+    }
+}
+
+/// Who has this turn at the topic producer of a number.
+pub fn in_turn(number: u64, turn: u64) -> Who
+    ensures { result ≡ in_turn number turn }
+{
+    if turn == BEHIND_ALL {
+        Who::Producer(number)
+    } else {
+        Who::Call(turn)
     }
 }
 

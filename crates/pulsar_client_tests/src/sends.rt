@@ -95,7 +95,7 @@ fn send(alloc: Global) -> Result<[Told; 4], NoMemory> {
     let sending = sending(alloc)?;
     let receipt = RECEIPT.to_vec(alloc)?;
     let options = options(String::from_str(alloc, LOCAL)?, Vec::new(alloc));
-    let mut client = Box::new(alloc, Pulsar::new(alloc, options)?)?;
+    let mut client = Pulsar::new(alloc, options)?;
     for event in events {
         drop(client.step(event));
     }
@@ -128,7 +128,7 @@ fn is_built(producer: Option<&Producer>) -> bool {
 fn lends(alloc: Global) -> Result<bool, NoMemory> {
     let events = building(alloc)?;
     let options = options(String::from_str(alloc, LOCAL)?, Vec::new(alloc));
-    let mut client = Box::new(alloc, Pulsar::new(alloc, options)?)?;
+    let mut client = Pulsar::new(alloc, options)?;
     for event in events {
         drop(client.step(event));
     }

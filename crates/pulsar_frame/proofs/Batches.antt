@@ -47,13 +47,13 @@ entries-done done n bytes e = rw e (ap (λ (l : List EntryValues). some l) (appe
 
 -- ---- writing
 
--- an entry, put together piece by piece
-pub entry-written : (e : EntryValues) (none described payload whole copy old new : List ℕ)
-    → none ≡ [] → described ≡ none ++ with_size (spelling single_message_metadata e.metadata) → payload ≡ e.payload → whole ≡ described ++ payload
-    → copy ≡ whole → new ≡ old ++ copy → new ≡ old ++ entry_bytes e
+-- an entry, written piece by piece
+pub entry-written : (e : EntryValues) (none described payload head first old new : List ℕ)
+    → none ≡ [] → described ≡ none ++ with_size (spelling single_message_metadata e.metadata) → head ≡ described → first ≡ old ++ head
+    → payload ≡ e.payload → new ≡ first ++ payload → new ≡ old ++ entry_bytes e
 unfolding entry_bytes
-entry-written e none described payload whole copy old new empty spelled paid all copied put =
-    rw (put, copied, all, paid, spelled, empty) refl
+entry-written e none described payload head first old new empty spelled same one paid two =
+    rw (two, paid, one, same, spelled, empty) (append_assoc old (with_size (spelling single_message_metadata e.metadata)) e.payload)
 
 -- ---- what was written is read
 

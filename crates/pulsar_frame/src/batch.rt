@@ -41,10 +41,15 @@ impl BatchedMessage {
         if self.payload.len() > MAX_PAYLOAD {
             return Err(ConnectionError::Encoding(Reason::Batch));
         }
-        let mut entry = Vec::new(*w.allocator());
-        write_sized(size, &self.metadata, &mut entry)?;
-        entry.extend_from_slice(&self.payload)?;
-        w.extend_from_slice(&entry)?;
+        let mut head = Vec::new(*w.allocator());
+        write_sized(size, &self.metadata, &mut head)?;
+        let len = w.len();
+        w.extend_from_slice(&head)?;
+        // the payload is copied once, so what stands before it is taken back where there is no memory for it
+        if let Err(error) = w.extend_from_slice(&self.payload) {
+            w.truncate(len);
+            return Err(error.into());
+        }
         Ok(())
     }
 }

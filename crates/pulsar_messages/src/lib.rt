@@ -16,4 +16,5 @@ pub use consumer_options::ConsumerOptions;
 pub use messages::MessageParts;
 pub use producer_message::{Message, ProducerMessage};
 pub use producer_options::ProducerOptions;
+pub use properties::into_properties;
 pub use routing_policy::RoutingPolicy;

@@ -10,9 +10,9 @@ use pulsar_wire::error::NoMemory;
 use std::alloc::Global;
 use std::collections::BTreeMap;
 
-/// The properties in key order.
+/// The properties as a command has them: in key order. Their texts are moved, and not copied.
 #[tactic(auto, unfolding(pulsar_wire::specs::Views::key_value_values))]
-pub(crate) fn into_properties(
+pub fn into_properties(
     alloc: Global,
     properties: BTreeMap<String, String>,
 ) -> Result<Vec<KeyValue>, NoMemory>

@@ -225,6 +225,13 @@ impl Refusal {
         Refusal::new(alloc, Error::Connection(error))
     }
 
+    /// The error to be read.
+    pub fn error(&self) -> &Error
+        ensures { failure result.now ≡ self.now }
+    {
+        &self.error
+    }
+
     /// The error without its box.
     pub fn into_inner(self) -> Error
         ensures { failure result ≡ self }

@@ -1,5 +1,12 @@
+pub mod Cutting
+pub mod Entries
 pub mod Numbers
+pub mod PartialSends
 pub mod Properties
+pub mod Reading
 pub mod Routes
 pub mod Sends
+pub mod Storages
+pub mod Telling
 pub mod Turns
+pub mod Untouched

@@ -2,8 +2,10 @@
 use Rattle.std.proofs.Common.{◌≡◌, ◌∙◌, sym, ap, refl, ℕ, ◌+◌, ◌≤◌, add-zero, Bool, true, false, cond, List, [], ◌∷◌, ◌++◌, Option, Some, None, arith}
 use Rattle.std.specs.Option.{is_some}
 use Rattle.pulsar_session.specs.Link.{is_spent}
-use Rattle.pulsar_producer.specs.Topic.{Act, Takes, Passes, Draws, Remakes, Closes, Seen, Setup, after, drawn, passes, seen, takes_in}
+use Rattle.pulsar_producer.specs.Storage.{SingleMessage}
+use Rattle.pulsar_producer.specs.Topic.{Act, Takes, Passes, Draws, Remakes, Closes, Stores, Flushes, Cuts, TakesBatch, Halts, Seen, Setup, after, drawn, passes, seen, takes_in}
 use Rattle.pulsar_producer.specs.Laws.{NumbersCount, NumbersRise, RefusedSpendsItsNumber, draws_of, given_by}
+use Rattle.pulsar_producer.proofs.Untouched.{stores_keeps, flushes_keeps, cuts_keeps, takes_batch_keeps}
 
 takes_next : (o : Option ℕ) (t : ℕ) (v : Seen) → (takes_in o t v).next ≡ v.next
 takes_next None t v = refl
@@ -20,6 +22,11 @@ next_after Passes v = sym (add-zero v.next)
 next_after Draws v = draws_next (is_spent v.next) v
 next_after (Remakes l g) v = sym (add-zero v.next)
 next_after Closes v = sym (add-zero v.next)
+next_after (Stores t e) v = (stores_keeps (SingleMessage t e) v).0 ∙ sym (add-zero v.next)
+next_after (Flushes t) v = (flushes_keeps t v).0 ∙ sym (add-zero v.next)
+next_after Cuts v = (cuts_keeps v).0 ∙ sym (add-zero v.next)
+next_after TakesBatch v = (takes_batch_keeps v.cut v).0 ∙ sym (add-zero v.next)
+next_after Halts v = sym (add-zero v.next)
 
 next_of : (s : Setup) (h : List Act) → (seen s h).next ≡ s.first_number + draws_of s h
 next_of s [] = sym (add-zero s.first_number)

@@ -19,7 +19,7 @@ use Rattle.pulsar_producer.specs.Laws.{EachFrameHasItsNumber, QueuedIsNotAskedAg
 use Rattle.pulsar_producer.specs.declared.deed.Deed.TheVariants.{Sends}
 use Rattle.pulsar_producer.specs.declared.deed.Drawn.{Drawn}
 use Rattle.pulsar_producer.specs.declared.deed.News.{News}
-use Rattle.pulsar_producer.specs.declared.deed.News.TheVariants.{Told, Queued, InLine, HasTurn, Drew, Recalled, Numbered, Done}
+use Rattle.pulsar_producer.specs.declared.deed.News.TheVariants.{Told, Queued, InLine, HasTurn, Drew, Recalled, Numbered, Ready, HasBatch, Done}
 use Rattle.pulsar_producer.specs.declared.deed.Send.{Send}
 use Rattle.pulsar_producer.specs.declared.sending.Errand.{Errand}
 use Rattle.pulsar_producer.specs.declared.sending.Sending.{Sending}
@@ -67,6 +67,8 @@ in_waiting_none e m (HasTurn version) link s is = cc
 in_waiting_none e m (Drew d) link s is = cc
 in_waiting_none e m (Recalled again) link s is = cc
 in_waiting_none e m (Numbered number) link s is = cc
+in_waiting_none e m Ready link s is = cc
+in_waiting_none e m (HasBatch items) link s is = cc
 in_waiting_none e m Done link s is = cc
 
 in_asked_none : (e : Errand) (kept : Option ProducerMessageValues) (n : News) (link : ℕ) (s : Send) → deeds_in (in_asked e kept n) ≡ Sends link s ∷ [] → ⊥
@@ -77,6 +79,8 @@ in_asked_none e kept (HasTurn version) link s is = not_queued_none e kept (fault
 in_asked_none e kept (Drew d) link s is = not_queued_none e kept (fault_told (Drew d)) link s is
 in_asked_none e kept (Recalled again) link s is = not_queued_none e kept (fault_told (Recalled again)) link s is
 in_asked_none e kept (Numbered number) link s is = not_queued_none e kept (fault_told (Numbered number)) link s is
+in_asked_none e kept Ready link s is = not_queued_none e kept (fault_told Ready) link s is
+in_asked_none e kept (HasBatch items) link s is = not_queued_none e kept (fault_told (HasBatch items)) link s is
 in_asked_none e kept Done link s is = not_queued_none e kept (fault_told Done) link s is
 
 in_sent_none : (n : News) (link : ℕ) (s : Send) → deeds_in (in_sent n) ≡ Sends link s ∷ [] → ⊥
@@ -87,6 +91,8 @@ in_sent_none (HasTurn version) link s is = cc
 in_sent_none (Drew d) link s is = cc
 in_sent_none (Recalled again) link s is = cc
 in_sent_none (Numbered number) link s is = cc
+in_sent_none Ready link s is = cc
+in_sent_none (HasBatch items) link s is = cc
 in_sent_none Done link s is = cc
 
 in_recalling_none : (w : Ways) (e : Errand) (m : ProducerMessageValues) (n : News) (link : ℕ) (s : Send) → deeds_in (in_recalling w e m n) ≡ Sends link s ∷ [] → ⊥
@@ -97,6 +103,8 @@ in_recalling_none w e m (HasTurn version) link s is = cc
 in_recalling_none w e m (Drew d) link s is = cc
 in_recalling_none w e m (Recalled again) link s is = looks_none e m again (look_begins w) link s is
 in_recalling_none w e m (Numbered number) link s is = cc
+in_recalling_none w e m Ready link s is = cc
+in_recalling_none w e m (HasBatch items) link s is = cc
 in_recalling_none w e m Done link s is = cc
 
 in_looking_none : (w : Ways) (e : Errand) (m : ProducerMessageValues) (c : Command) (l : Looking) (n : News) (link : ℕ) (s : Send) → deeds_in (in_looking w e m c l n) ≡ Sends link s ∷ [] → ⊥
@@ -107,6 +115,8 @@ in_looking_none w e m c l (HasTurn version) link s is = cc
 in_looking_none w e m c l (Drew d) link s is = cc
 in_looking_none w e m c l (Recalled again) link s is = cc
 in_looking_none w e m c l (Numbered number) link s is = cc
+in_looking_none w e m c l Ready link s is = cc
+in_looking_none w e m c l (HasBatch items) link s is = cc
 in_looking_none w e m c l Done link s is = cc
 
 in_making_none : (w : Ways) (e : Errand) (m : ProducerMessageValues) (c : Command) (k : Making) (n : News) (link : ℕ) (s : Send) → deeds_in (in_making w e m c k n) ≡ Sends link s ∷ [] → ⊥
@@ -117,6 +127,8 @@ in_making_none w e m c k (HasTurn version) link s is = cc
 in_making_none w e m c k (Drew d) link s is = cc
 in_making_none w e m c k (Recalled again) link s is = cc
 in_making_none w e m c k (Numbered number) link s is = cc
+in_making_none w e m c k Ready link s is = cc
+in_making_none w e m c k (HasBatch items) link s is = cc
 in_making_none w e m c k Done link s is = cc
 
 in_remaking_none : (e : Errand) (m : ProducerMessageValues) (n : News) (link : ℕ) (s : Send) → deeds_in (in_remaking e m n) ≡ Sends link s ∷ [] → ⊥
@@ -127,6 +139,8 @@ in_remaking_none e m (HasTurn version) link s is = cc
 in_remaking_none e m (Drew d) link s is = cc
 in_remaking_none e m (Recalled again) link s is = cc
 in_remaking_none e m (Numbered number) link s is = cc
+in_remaking_none e m Ready link s is = cc
+in_remaking_none e m (HasBatch items) link s is = cc
 in_remaking_none e m Done link s is = cc
 
 -- only one that draws, and drew
@@ -139,6 +153,8 @@ in_drawing_frame w e m (HasTurn version) link s is = absurd (not_drawn_none e m 
 in_drawing_frame w e m (Drew d) link s is = frame_of e d m link s is
 in_drawing_frame w e m (Recalled again) link s is = absurd (not_drawn_none e m (fault_told (Recalled again)) link s is)
 in_drawing_frame w e m (Numbered number) link s is = absurd (not_drawn_none e m (fault_told (Numbered number)) link s is)
+in_drawing_frame w e m Ready link s is = absurd (not_drawn_none e m (fault_told Ready) link s is)
+in_drawing_frame w e m (HasBatch items) link s is = absurd (not_drawn_none e m (fault_told (HasBatch items)) link s is)
 in_drawing_frame w e m Done link s is = absurd (not_drawn_none e m (fault_told Done) link s is)
 
 each_frame : EachFrameHasItsNumber
@@ -177,6 +193,8 @@ sent_none w e (HasTurn version ∷ ns) = sent_none w e ns
 sent_none w e (Drew d ∷ ns) = sent_none w e ns
 sent_none w e (Recalled c ∷ ns) = sent_none w e ns
 sent_none w e (Numbered n ∷ ns) = sent_none w e ns
+sent_none w e (Ready ∷ ns) = sent_none w e ns
+sent_none w e (HasBatch items ∷ ns) = sent_none w e ns
 sent_none w e (Done ∷ ns) = sent_none w e ns
 
 pub queued_is_not_asked_again : QueuedIsNotAskedAgain

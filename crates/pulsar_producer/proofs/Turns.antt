@@ -8,8 +8,10 @@ use Rattle.std.specs.Option.{is_none}
 use Rattle.std.specs.Ordering.{match_ordering, nat_cmp}
 use Rattle.std.specs.declared.cmp.Ordering.TheVariants.{Less, Equal, Greater}
 use Rattle.pulsar_session.specs.Link.{is_spent}
-use Rattle.pulsar_producer.specs.Topic.{Act, Takes, Passes, Draws, Remakes, Closes, Seen, Setup, after, first_of, is_free, rest_of, seen, takes_in}
+use Rattle.pulsar_producer.specs.Storage.{SingleMessage}
+use Rattle.pulsar_producer.specs.Topic.{Act, Takes, Passes, Draws, Remakes, Closes, Stores, Flushes, Cuts, TakesBatch, Halts, Seen, Setup, after, first_of, is_free, rest_of, seen, takes_in}
 use Rattle.pulsar_producer.specs.Laws.{AreAbove, LowestIsNext, NobodyWaitsForFree, OneAtATime, WaitsInLine, gives_turn, is_listed, keeps, turn_if}
+use Rattle.pulsar_producer.proofs.Untouched.{KeepsTurns, stores_keeps, flushes_keeps, cuts_keeps, takes_batch_keeps}
 
 -- THE WAITING TICKETS RISE
 
@@ -58,6 +60,11 @@ rises_after Passes v all = rises_rest v.waiting all
 rises_after Draws v all = subst Rises (sym (draws_same (is_spent v.next) v _ refl)) all
 rises_after (Remakes l g) v all = all
 rises_after Closes v all = all
+rises_after (Stores u m) v all = subst Rises (sym (stores_keeps (SingleMessage u m) v).2) all
+rises_after (Flushes u) v all = subst Rises (sym (flushes_keeps u v).2) all
+rises_after Cuts v all = subst Rises (sym (cuts_keeps v).2) all
+rises_after TakesBatch v all = subst Rises (sym (takes_batch_keeps v.cut v).2) all
+rises_after Halts v all = all
 
 rises : (s : Setup) (h : List Act) → Rises (seen s h).waiting
 rises s [] = tt
@@ -109,6 +116,11 @@ keeps_holder Passes v t k e = absurd cc
 keeps_holder Draws v t k e = draws_holder (is_spent v.next) v _ refl ∙ e
 keeps_holder (Remakes l g) v t k e = e
 keeps_holder Closes v t k e = e
+keeps_holder (Stores u m) v t k e = (stores_keeps (SingleMessage u m) v).1 ∙ e
+keeps_holder (Flushes u) v t k e = (flushes_keeps u v).1 ∙ e
+keeps_holder Cuts v t k e = (cuts_keeps v).1 ∙ e
+keeps_holder TakesBatch v t k e = (takes_batch_keeps v.cut v).1 ∙ e
+keeps_holder Halts v t k e = e
 
 not_given : (o : Option ℕ) (u t : ℕ) → o ≡ Some t → turn_if o u ≡ None
 not_given None u t e = absurd cc
@@ -120,6 +132,11 @@ gives_none Passes v t k e = absurd cc
 gives_none Draws v t k e = refl
 gives_none (Remakes l g) v t k e = refl
 gives_none Closes v t k e = refl
+gives_none (Stores u m) v t k e = refl
+gives_none (Flushes u) v t k e = refl
+gives_none Cuts v t k e = refl
+gives_none TakesBatch v t k e = refl
+gives_none Halts v t k e = refl
 
 both : (a b : Bool) → (a && b) ≡ true → (a ≡ true) × (b ≡ true)
 both true b e = (refl, e)
@@ -149,12 +166,20 @@ draws_free : (b : Bool) (v w : Seen) → w.holder ≡ v.holder → w.waiting ≡
 draws_free true v w e f all free = all free
 draws_free false v w e f all free = f ∙ all (ap is_none (sym e) ∙ free)
 
+still_free : (v w : Seen) → KeepsTurns v w → (is_free v ≡ true → v.waiting ≡ []) → is_free w ≡ true → w.waiting ≡ []
+still_free v w k all free = k.2 ∙ all (ap is_none (sym k.1) ∙ free)
+
 free_after : (act : Act) (v : Seen) → (is_free v ≡ true → v.waiting ≡ []) → is_free (after act v) ≡ true → (after act v).waiting ≡ []
 free_after (Takes t) v all free = takes_free v.holder t v refl free
 free_after Passes v all free = passes_free v.waiting free
 free_after Draws v all free = draws_free (is_spent v.next) v _ refl refl all free
 free_after (Remakes l g) v all free = all free
 free_after Closes v all free = all free
+free_after (Stores u m) v all free = still_free v (after (Stores u m) v) (stores_keeps (SingleMessage u m) v) all free
+free_after (Flushes u) v all free = still_free v (after (Flushes u) v) (flushes_keeps u v) all free
+free_after Cuts v all free = still_free v (after Cuts v) (cuts_keeps v) all free
+free_after TakesBatch v all free = still_free v (after TakesBatch v) (takes_batch_keeps v.cut v) all free
+free_after Halts v all free = all free
 
 pub nobody_waits_for_free : NobodyWaitsForFree
 nobody_waits_for_free s [] free = refl

@@ -13,4 +13,7 @@ seen_of i =
       holder = i.holder;
       waiting = i.waiting.keys;
       is_closed = i.is_closed;
+      storage = i.storage;
+      cut = i.cut.items;
+      is_under_way = i.is_under_way;
     }

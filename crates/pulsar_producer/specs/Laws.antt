@@ -7,9 +7,9 @@ use Rattle.pulsar_messages.specs.Content.{ProducerMessageValues}
 use Rattle.pulsar_plans.specs.declared.turn.Ways.{Ways}
 use Rattle.pulsar_producer.specs.Plans.{Sent, send_of, send_told}
 use Rattle.pulsar_producer.specs.Routing.{Policy, Routed, IsRouted, chosen, count}
-use Rattle.pulsar_producer.specs.Topic.{Act, Takes, Passes, Draws, Remakes, Closes, Seen, Setup, drawn, is_free, next_holder, seen}
+use Rattle.pulsar_producer.specs.Topic.{Act, Takes, Passes, Draws, Remakes, Closes, Stores, Flushes, Cuts, TakesBatch, Halts, Seen, Setup, drawn, is_free, next_holder, seen}
 use Rattle.pulsar_producer.specs.declared.deed.Deed.{Deed}
-use Rattle.pulsar_producer.specs.declared.deed.Deed.TheVariants.{Does, TakesTurn, Sends, PassesTurn, Recalls, Numbers, ClosesProducer, Rests}
+use Rattle.pulsar_producer.specs.declared.deed.Deed.TheVariants.{Does, TakesTurn, Sends, PassesTurn, Recalls, Numbers, ClosesProducer, Settles, Rests}
 use Rattle.pulsar_producer.specs.declared.deed.Deed.TheVariants as deed
 use Rattle.pulsar_producer.specs.declared.deed.Drawn.{Drawn}
 use Rattle.pulsar_producer.specs.declared.deed.News.{News}
@@ -40,6 +40,11 @@ given_by Passes v = 0
 given_by Draws v = if is_some (drawn v) then 1 else 0
 given_by (Remakes l g) v = 0
 given_by Closes v = 0
+given_by (Stores t e) v = 0
+given_by (Flushes t) v = 0
+given_by Cuts v = 0
+given_by TakesBatch v = 0
+given_by Halts v = 0
 
 abbrev pub draws_of : Setup → List Act → ℕ
 draws_of s [] = 0
@@ -67,6 +72,11 @@ gives_turn Passes v = next_holder v
 gives_turn Draws v = None
 gives_turn (Remakes l g) v = None
 gives_turn Closes v = None
+gives_turn (Stores t e) v = None
+gives_turn (Flushes t) v = None
+gives_turn Cuts v = None
+gives_turn TakesBatch v = None
+gives_turn Halts v = None
 
 -- each of these is greater
 abbrev pub AreAbove : ℕ → List ℕ → Type 0
@@ -93,6 +103,11 @@ keeps (Takes t) = true
 keeps Draws = true
 keeps (Remakes l g) = true
 keeps Closes = true
+keeps (Stores t e) = true
+keeps (Flushes t) = true
+keeps Cuts = true
+keeps TakesBatch = true
+keeps Halts = true
 
 -- One has the turn at a time: who has it keeps it until it is passed on, and meanwhile nobody is given it.
 abbrev pub OneAtATime : Type 0
@@ -135,6 +150,8 @@ is_send (Recalls n) = false
 is_send (deed.Remakes n link g) = false
 is_send Numbers = false
 is_send (ClosesProducer link n) = false
+is_send (deed.TakesBatch n) = false
+is_send (Settles reports) = false
 is_send Rests = false
 
 -- A send that was told that its frame is queued asks for no frame of its message again, whatever it is told.

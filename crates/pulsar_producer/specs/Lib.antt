@@ -6,8 +6,12 @@ pub mod Routing
 pub mod Producer
 pub mod Random
 pub mod Replies
+pub mod Storage
+pub mod Batch
 pub mod Topic
 pub mod Kept
 pub mod Commands
 pub mod Plans
+pub mod Batching
 pub mod Laws
+pub mod BatchLaws

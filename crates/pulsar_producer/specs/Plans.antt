@@ -22,7 +22,7 @@ use Rattle.pulsar_producer.specs.declared.content.Built.{Built}
 use Rattle.pulsar_producer.specs.declared.deed.Deed.TheVariants.{Does, TakesTurn, Draws, Sends, PassesTurn, Recalls, Remakes, Numbers, ClosesProducer, Rests}
 use Rattle.pulsar_producer.specs.declared.deed.Drawn.{Drawn}
 use Rattle.pulsar_producer.specs.declared.deed.News.{News}
-use Rattle.pulsar_producer.specs.declared.deed.News.TheVariants.{Told, Queued, InLine, HasTurn, Drew, Recalled, Numbered, Done}
+use Rattle.pulsar_producer.specs.declared.deed.News.TheVariants.{Told, Queued, InLine, HasTurn, Drew, Recalled, Numbered, Ready, HasBatch, Done}
 use Rattle.pulsar_producer.specs.declared.deed.Send.{Send}
 use Rattle.pulsar_producer.specs.declared.deed.Step.{Step}
 use Rattle.pulsar_producer.specs.declared.deed.Step.TheVariants.{Stays, Gives}
@@ -56,6 +56,8 @@ fault_told (HasTurn version) = Disconnected
 fault_told (Drew d) = Disconnected
 fault_told (Recalled c) = Disconnected
 fault_told (Numbered n) = Disconnected
+fault_told Ready = Disconnected
+fault_told (HasBatch items) = Disconnected
 fault_told Done = Disconnected
 
 -- A SEND. Its turn is over once its frame is queued, and then its outcome is the answer: it is not asked for again. Where its link is not

@@ -1,12 +1,17 @@
 -- A topic producer: what is done to it, what is seen of it, and what it answers. It knows the tickets of those that use it, and no
--- messages.  (Pulsar binary protocol, Producer: sequence_id, producer_name)
-use Rattle.std.specs.Prelude.{ℕ, ◌+◌, Bool, true, false, if◌then◌else◌, List, [], ◌∷◌, Option, Some, None}
+-- messages but those that it stores until they are sent as a batch.
+-- (Pulsar binary protocol, Producer: sequence_id, producer_name; Batch messages)
+use Rattle.std.specs.Prelude.{ℕ, ◌+◌, ◌&&◌, not, Bool, true, false, if◌then◌else◌, List, [], ◌∷◌, ◌++◌, map, Option, Some, None}
+use Rattle.std.specs.List.{flat_map}
 use Rattle.std.specs.BTreeSet.{insert_key}
 use Rattle.std.specs.Option.{is_none}
 use Rattle.std.specs.Ordering.{nat_cmp}
+use Rattle.pulsar_frame.specs.Batch.{EntryValues}
 use Rattle.pulsar_session.specs.Link.{is_spent}
+use Rattle.pulsar_producer.specs.Storage.{Item, SingleMessage, Flush, Storage, empty, emptied, is_ready, pushed}
 use Rattle.pulsar_producer.specs.declared.content.Built.{Built}
 use Rattle.pulsar_producer.specs.declared.replies.Given.{Given}
+use Rattle.pulsar_producer.specs.declared.storage.Limits.{Limits}
 
 -- WHAT IS DONE TO IT: an act for each call that changes it
 
@@ -19,18 +24,30 @@ pub data Act : Type 0 where
   Draws : Act
   -- it was made again, on this link
   Remakes : (link : ℕ) (given : Given) → Act
-  -- no message is taken from now on
+  -- no message is taken from now on, and what is stored is dropped
   Closes : Act
+  -- a message is stored
+  Stores : (ticket : ℕ) (entry : EntryValues) → Act
+  -- all that was taken is to be settled
+  Flushes : (ticket : ℕ) → Act
+  -- what is stored has waited for its time
+  Cuts : Act
+  -- the next batch is to be sent
+  TakesBatch : Act
+  -- the client is stopped
+  Halts : Act
 
 -- WHAT IS SEEN OF IT
 
--- how it was made, and the number of its first message
+-- how it was made, the number of its first message, and how much a batch has
 pub record Setup : Type 0 where
   pub built : Built
   pub first_number : ℕ
+  pub limits : Limits
 
 -- Its topic, its own number, its link, and what its broker says of it; the number of the next message; who has its turn, and the tickets
--- of those that wait for theirs, the lowest first; and whether it is closed.
+-- of those that wait for theirs, the lowest first; whether it is closed; what it stores; the batches that were cut and wait; and whether
+-- one is under way.
 pub record Seen : Type 0 where
   pub topic : List ℕ
   pub number : ℕ
@@ -40,6 +57,9 @@ pub record Seen : Type 0 where
   pub holder : Option ℕ
   pub waiting : List ℕ
   pub is_closed : Bool
+  pub storage : Storage
+  pub cut : List (List Item)
+  pub is_under_way : Bool
 
 abbrev pub fresh : Setup → Seen
 fresh s =
@@ -52,6 +72,9 @@ fresh s =
       holder = None;
       waiting = [];
       is_closed = false;
+      storage = empty s.limits;
+      cut = [];
+      is_under_way = false;
     }
 
 -- TURNS. One has it at a time, and then the lowest ticket of those that wait.
@@ -88,6 +111,65 @@ drawn v = if is_spent v.next then None else Some v.next
 abbrev pub draws : Seen → Seen
 draws v = if is_spent v.next then v else record v { next = v.next + 1 }
 
+-- BATCHES. What is stored is cut into a batch once it is ready, and batches are under way one at a time.
+
+-- nothing is stored
+abbrev pub is_nothing : List Item → Bool
+is_nothing [] = true
+is_nothing (x ∷ xs) = false
+
+-- all that was stored is settled
+abbrev pub is_settled : Seen → Bool
+is_settled v = not v.is_under_way && is_nothing v.storage.items
+
+abbrev pub cuts : Seen → Seen
+cuts v = record v { storage = emptied v.storage; cut = v.cut ++ v.storage.items ∷ []; is_under_way = true }
+
+abbrev pub cuts_ready : Seen → Seen
+cuts_ready v = if is_ready v.storage then cuts v else v
+
+abbrev pub stores : Item → Seen → Seen
+stores x v = cuts_ready (record v { storage = pushed x v.storage })
+
+-- a flush waits for what is stored and all before it, where there is any
+abbrev pub flushes : (ticket : ℕ) → Seen → Seen
+flushes ticket v = if is_settled v then v else stores (Flush ticket) v
+
+abbrev pub cuts_some : Seen → Seen
+cuts_some v = if is_nothing v.storage.items then v else cuts v
+
+-- the batch that is sent next, and what is left
+abbrev pub next_of : List (List Item) → Option (List Item)
+next_of [] = None
+next_of (b ∷ bs) = Some b
+
+abbrev pub next_batch : Seen → Option (List Item)
+next_batch v = next_of v.cut
+
+abbrev pub left_of : List (List Item) → Seen → Seen
+left_of [] v = record v { is_under_way = false }
+left_of (b ∷ bs) v = record v { cut = bs }
+
+abbrev pub takes_batch : Seen → Seen
+takes_batch v = left_of v.cut v
+
+abbrev pub closes : Seen → Seen
+closes v = record v { is_closed = true; storage = emptied v.storage }
+
+abbrev pub halts : Seen → Seen
+halts v = record v { storage = emptied v.storage; cut = [] }
+
+-- who waits for what is stored, and for all that was cut and isn't under way
+abbrev pub ticket_of : Item → ℕ
+ticket_of (SingleMessage ticket e) = ticket
+ticket_of (Flush ticket) = ticket
+
+abbrev pub stored_tickets : Seen → List ℕ
+stored_tickets v = map ticket_of v.storage.items
+
+abbrev pub unsent_tickets : Seen → List ℕ
+unsent_tickets v = map ticket_of (flat_map (λ b. b) v.cut ++ v.storage.items)
+
 -- WHAT A HISTORY SAYS. Its acts, newest first.
 
 abbrev pub after : Act → Seen → Seen
@@ -95,7 +177,16 @@ after (Takes ticket) v = takes_in v.holder ticket v
 after Passes v = passes v
 after Draws v = draws v
 after (Remakes link given) v = record v { link = link; given = given }
-after Closes v = record v { is_closed = true }
+after Closes v = closes v
+after (Stores ticket e) v = stores (SingleMessage ticket e) v
+after (Flushes ticket) v = flushes ticket v
+after Cuts v = cuts_some v
+after TakesBatch v = takes_batch v
+after Halts v = halts v
+
+-- an act by which a batch is to be sent where none was under way
+abbrev pub wakes : Act → Seen → Bool
+wakes act v = not v.is_under_way && (after act v).is_under_way
 
 abbrev pub seen : Setup → List Act → Seen
 seen s [] = fresh s

@@ -1,15 +1,24 @@
 //! What owns memory in the plans of producers. It is boxed, so that what carries it is small. Contracts see it by its content.
 
-ghost use Rattle.std.specs.Prelude.{◌≡◌, [], ◌∷◌, ◌++◌, IfOk, MatchOption};
+ghost use Rattle.std.specs.Prelude.{◌≡◌, [], ◌∷◌, ◌++◌, IfOk, MatchOption, OnOk, length, map};
 ghost use Rattle.std.specs.Option.{option_map};
+ghost use Rattle.pulsar_frame.specs.Batch.{entry_values};
 ghost use Rattle.pulsar_messages.specs.Content.{message_content, producer_message_values, producer_options_values};
+ghost use Rattle.pulsar_producer.specs.Batch.{batch_of, cut_report, entries_in, entry_of, member_of, reports};
 ghost use Rattle.pulsar_producer.specs.Message.{with_version};
+ghost use Rattle.pulsar_producer.specs.Storage.{is_batching, item_of, limits_of};
+ghost use Rattle.pulsar_producer.specs.Topic.{ticket_of};
 
+use crate::batch::{
+    Fate, Member, Report, count, cut_reports, entry_of, members, message, reports, size_in_i32,
+};
 use crate::replies::Given;
+use crate::storage::{BatchItem, Limits, push_tickets};
+use pulsar_frame::batch::BatchedMessage;
 use pulsar_messages::{Message, ProducerMessage, ProducerOptions};
 use pulsar_plans::BrokerAddress;
 use pulsar_plans::content::{Address, Names, Text};
-use pulsar_wire::error::NoMemory;
+use pulsar_wire::error::{NoMemory, Reason};
 use std::alloc::Global;
 use std::collections::VecDeque;
 use std::marker::Model;
@@ -139,6 +148,34 @@ impl Settings {
     {
         &self.options
     }
+
+    /// It sends messages as batches: a batch may have more than one, or where that is not said, how many bytes it has is, or how long it
+    /// waits.
+    pub fn is_batching(&self) -> bool
+        ensures { result ≡ is_batching self.now }
+    {
+        match self.options.batch_size {
+            Some(most) => most > 1,
+            None => self.options.batch_byte_size.is_some() || self.options.batch_timeout.is_some(),
+        }
+    }
+
+    /// How much a batch has.
+    pub fn limits(&self) -> Limits
+        ensures { result ≡ limits_of self.now }
+    {
+        Limits {
+            max_size: self.options.batch_size,
+            max_byte_size: self.options.batch_byte_size,
+        }
+    }
+
+    /// A batch is sent so many milliseconds after its first message.
+    pub fn batch_timeout(&self) -> Option<u64>
+        ensures { result ≡ self.now.batch_timeout }
+    {
+        self.options.batch_timeout
+    }
 }
 
 /// Names of a topic, each with the broker that serves it, for which no producer is made yet.
@@ -228,6 +265,13 @@ impl Parts {
         self.all.pop_front()
     }
 
+    /// All of them to be read.
+    pub fn all(&self) -> &VecDeque<Built>
+        ensures { result.now.items ≡ self.now }
+    {
+        &self.all
+    }
+
     /// All of them.
     pub fn into_inner(self) -> VecDeque<Built>
         ensures { result.items ≡ self }
@@ -243,5 +287,165 @@ fn into_bytes(version: Option<Version>) -> Option<Vec<u8>>
     match version {
         Some(version) => Some(version.into_inner()),
         None => None,
+    }
+}
+
+/// The items of a batch, in order.
+#[derive(Drop)]
+pub struct Batch {
+    items: Vec<BatchItem>,
+}
+
+impl Model for Batch {
+    ghost use Rattle.std.specs.Prelude.{List, map};
+    ghost use Rattle.pulsar_producer.specs.Storage.{Item, item_of};
+
+    ghost Value = { List Item };
+
+    ghost view = { λ b. map item_of b.items.items };
+}
+
+impl Batch {
+    /// These items.
+    pub fn new(items: Vec<BatchItem>) -> Batch
+        ensures { result ≡ map item_of items.items }
+    {
+        Batch { items }
+    }
+
+    /// How many messages it has.
+    pub fn count(&self) -> usize
+        ensures { result ≡ length (entries_in self.now) }
+    {
+        count(&self.items)
+    }
+
+    /// Those that are told what becomes of it.
+    pub fn members(&self) -> Result<Members, NoMemory>
+        ensures { IfOk result (λ m. m ≡ map member_of self.now) }
+    {
+        let all = members(*self.items.allocator(), &self.items)?;
+        Ok(Members { all })
+    }
+
+    /// Its message, or why that can't be written.
+    pub fn message(&self, alloc: Global) -> Result<Result<Outgoing, Reason>, NoMemory>
+        ensures { IfOk result (λ m. m ≡ batch_of (entries_in self.now)) }
+    {
+        message(alloc, &self.items)
+    }
+
+    /// The tickets of those that wait for it, behind others.
+    pub fn push_tickets(&self, tickets: &mut Vec<u64>) -> Result<(), NoMemory>
+        ensures { OnOk result (tickets.new.items ≡ tickets.old.items ++ map ticket_of self.now) }
+    {
+        push_tickets(&self.items, tickets)
+    }
+}
+
+/// Those that are told what becomes of a batch, in order.
+#[derive(Drop)]
+pub struct Members {
+    all: Vec<Member>,
+}
+
+impl Model for Members {
+    ghost use Rattle.std.specs.Prelude.{List};
+    ghost use Rattle.pulsar_producer.specs.declared.batch.Member.{Member};
+
+    ghost Value = { List Member };
+
+    ghost view = { λ m. m.all.items };
+}
+
+impl Members {
+    /// What each of them is told of a batch of so many messages.
+    pub fn reports(&self, alloc: Global, count: usize, fate: &Fate) -> Result<Reports, NoMemory>
+        ensures { IfOk result (λ r. r ≡ reports count fate.now self.now) }
+    {
+        let all = reports(alloc, &self.all, count, fate)?;
+        Ok(Reports { all })
+    }
+
+    /// What each of them is told where the client is stopped while the receipt of the batch is waited for.
+    pub fn cut(&self, alloc: Global) -> Result<Reports, NoMemory>
+        ensures { IfOk result (λ r. r ≡ map cut_report self.now) }
+    {
+        let all = cut_reports(alloc, &self.all)?;
+        Ok(Reports { all })
+    }
+}
+
+/// What those of a batch are told, in order.
+#[derive(Drop)]
+pub struct Reports {
+    all: VecDeque<Report>,
+}
+
+impl Model for Reports {
+    ghost use Rattle.std.specs.Prelude.{List};
+    ghost use Rattle.std.specs.Coded.{codes};
+    ghost use Rattle.pulsar_plans.specs.contracts.content.Refusal as refusal;
+    ghost use Rattle.pulsar_producer.specs.declared.batch.Report.{Report};
+
+    ghost Value = { List Report };
+
+    ghost coded = { Prim.hlevel (codes, refusal.the_row.coded) };
+
+    ghost view = { λ r. r.all.items };
+}
+
+impl Reports {
+    /// The first, which is taken out.
+    pub fn next(&mut self) -> Option<Report>
+        ensures { MatchOption result (self.old ≡ []) (λ r. self.old ≡ r ∷ self.new) }
+    {
+        self.all.pop_front()
+    }
+
+    /// All of them.
+    pub fn into_inner(self) -> VecDeque<Report>
+        ensures { result.items ≡ self }
+    {
+        let Reports { all } = self;
+        all
+    }
+}
+
+/// A message as an entry of a batch.
+#[derive(Drop)]
+pub struct Entry {
+    message: Box<BatchedMessage>,
+}
+
+impl Model for Entry {
+    ghost use Rattle.pulsar_frame.specs.Batch.{EntryValues, entry_values};
+
+    ghost Value = { EntryValues };
+
+    ghost view = { λ e. entry_values e.message.value };
+}
+
+impl Entry {
+    /// What an application sends. There is none exactly where an i32 does not hold the size of the payload. What the message has is moved,
+    /// and not copied.
+    pub fn of_message(alloc: Global, message: Message) -> Result<Option<Entry>, NoMemory>
+        ensures { IfOk result (λ e. e ≡ entry_of (message_content message)) }
+    {
+        match size_in_i32(message.payload.len()) {
+            Some(size) => {
+                let message = Box::new(alloc, entry_of(alloc, size, message)?)?;
+                Ok(Some(Entry { message }))
+            }
+            None => Ok(None),
+        }
+    }
+
+    /// The entry without its box.
+    pub fn into_inner(self) -> BatchedMessage
+        ensures { entry_values result ≡ self }
+    {
+        let Entry { message } = self;
+        Box::into_inner(message)
     }
 }

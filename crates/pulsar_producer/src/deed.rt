@@ -5,7 +5,7 @@ ghost use Rattle.pulsar_session.specs.Failures.{fault};
 ghost use Rattle.pulsar_producer.specs.Errors.{in_producer};
 ghost use Rattle.pulsar_producer.specs.Plans.{fault_told};
 
-use crate::content::{Outgoing, Version};
+use crate::content::{Batch, Outgoing, Reports, Version};
 use crate::replies::Given;
 use pulsar_plans::content::{Refusal, Text};
 use pulsar_plans::making::Command;
@@ -54,6 +54,10 @@ pub enum Deed {
         link: u64,
         number: u64,
     },
+    /// Take the next batch of a topic producer.
+    TakesBatch(u64),
+    /// Tell those whose messages were in a batch what became of it.
+    Settles(Reports),
     /// Nothing.
     Rests,
 }
@@ -84,6 +88,10 @@ pub enum News {
     Recalled(Command),
     /// It drew the number of a new topic producer.
     Numbered(u64),
+    /// A batch was cut, and none was under way.
+    Ready,
+    /// The next batch, where one was cut.
+    HasBatch(Option<Batch>),
     /// What it did is done.
     Done,
 }

@@ -3,6 +3,7 @@
 ghost use Rattle.std.specs.Prelude.{◌≡◌, IfOk};
 ghost use Rattle.pulsar_session.specs.Failures.{fault};
 ghost use Rattle.pulsar_plans.specs.Plans.{verdict};
+ghost use Rattle.pulsar_producer.specs.Batching.{is_sent_send};
 ghost use Rattle.pulsar_producer.specs.Errors.{in_producer};
 ghost use Rattle.pulsar_producer.specs.Plans as meaning;
 
@@ -68,6 +69,15 @@ pub enum Sending {
     Ending {
         refusal: Refusal,
     },
+}
+
+impl Sending {
+    /// Its frame is queued, and what becomes of that is waited for.
+    pub fn is_sent(&self) -> bool
+        ensures { result ≡ is_sent_send self.now }
+    {
+        matches!(self, Sending::Sent)
+    }
 }
 
 /// What a send gives at its end: its receipt.

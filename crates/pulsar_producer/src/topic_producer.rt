@@ -1,20 +1,24 @@
-//! A producer of one topic, or of one partition: in whose turn it sends, and which number each message has.
+//! A producer of one topic, or of one partition: in whose turn it sends, which number each message has, and what it stores until that is
+//! sent as a batch.
 
-ghost use Rattle.std.specs.Prelude.{◌≡◌, IfOk, OnOk};
+ghost use Rattle.std.specs.Prelude.{◌≡◌, not, ◌&&◌, IfOk, OnOk};
 ghost use Rattle.pulsar_producer.specs.Commands.{command, command_of};
-ghost use Rattle.pulsar_producer.specs.Topic.{Closes, Draws, Passes, Remakes, Takes, after, drawn, fresh, is_free, next_holder};
+ghost use Rattle.pulsar_producer.specs.Storage.{item_of};
+ghost use Rattle.pulsar_producer.specs.Topic.{Closes, Cuts, Draws, Flushes, Halts, Passes, Remakes, Stores, Takes, TakesBatch, after, cuts, drawn, fresh, is_free, is_nothing, is_settled, next_batch, next_holder, stored_tickets, stores, unsent_tickets, wakes};
 
-use crate::content::{Built, Settings, Version};
+use crate::content::{Batch, Built, Entry, Settings, Version};
 use crate::replies::Given;
+use crate::storage::{BatchItem, BatchStorage, Limits};
 use pulsar_plans::content::Text;
 use pulsar_plans::making::Command;
 use pulsar_plans::question::{Question, Request};
 use pulsar_wire::error::NoMemory;
 use std::alloc::Global;
-use std::collections::BTreeSet;
+use std::collections::{BTreeSet, VecDeque};
 use std::marker::Model;
 
-/// A producer of one topic, or of one partition. It knows the tickets of those that use it, and no messages.
+/// A producer of one topic, or of one partition. It knows the tickets of those that use it, and no messages but those that it stores until
+/// they are sent as a batch.
 #[derive(Drop)]
 pub struct TopicProducer {
     topic: Text,
@@ -25,6 +29,9 @@ pub struct TopicProducer {
     holder: Option<u64>,
     waiting: BTreeSet<u64>,
     is_closed: bool,
+    storage: BatchStorage,
+    cut: VecDeque<Batch>,
+    is_under_way: bool,
 }
 
 impl Model for TopicProducer {
@@ -37,9 +44,9 @@ impl Model for TopicProducer {
 }
 
 impl TopicProducer {
-    /// One that was made so. The numbers of its messages begin with this.
-    pub fn new(alloc: Global, built: Built, first_number: u64) -> TopicProducer
-        ensures { result ≡ fresh (record { built = built; first_number = first_number }) }
+    /// One that was made so. The numbers of its messages begin with this, and so much has a batch.
+    pub fn new(alloc: Global, built: Built, first_number: u64, limits: Limits) -> TopicProducer
+        ensures { result ≡ fresh (record { built = built; first_number = first_number; limits = limits }) }
     {
         TopicProducer {
             topic: built.topic,
@@ -50,6 +57,9 @@ impl TopicProducer {
             holder: None,
             waiting: BTreeSet::new(alloc),
             is_closed: false,
+            storage: BatchStorage::new(alloc, limits.max_size, limits.max_byte_size),
+            cut: VecDeque::new(alloc),
+            is_under_way: false,
         }
     }
 
@@ -147,11 +157,123 @@ impl TopicProducer {
         self.given = given;
     }
 
-    /// No message is taken from now on.
+    /// No message is taken from now on, and what is stored is dropped.
     pub fn close(&mut self)
         ensures { self.new ≡ after Closes self.old }
     {
         self.is_closed = true;
+        self.storage.clear();
+    }
+
+    /// The client is stopped: what is stored is dropped, and what was cut and isn't under way.
+    pub fn halt(&mut self)
+        ensures { self.new ≡ after Halts self.old }
+    {
+        self.storage.clear();
+        self.cut.clear();
+    }
+
+    /// A message is stored for the one of this ticket. The answer says whether a batch is to be sent where none was under way.
+    pub fn store(&mut self, ticket: u64, entry: Entry) -> Result<bool, NoMemory>
+        ensures wakes { IfOk result (λ w. w ≡ wakes (Stores ticket entry) self.old) }
+        ensures after { OnOk result (self.new ≡ after (Stores ticket entry) self.old) }
+    {
+        self.push(BatchItem::SingleMessage(ticket, entry.into_inner()))
+    }
+
+    /// The one of this ticket waits until all is settled that is stored or under way. Where it is, nothing changes. The answer says whether
+    /// a batch is to be sent where none was under way.
+    pub fn flush(&mut self, ticket: u64) -> Result<bool, NoMemory>
+        ensures wakes { IfOk result (λ w. w ≡ wakes (Flushes ticket) self.old) }
+        ensures after { OnOk result (self.new ≡ after (Flushes ticket) self.old) }
+    {
+        if self.is_settled() {
+            return Ok(false);
+        }
+        self.push(BatchItem::Flush(ticket))
+    }
+
+    /// What is stored becomes a batch, where there is any. The answer says whether that is to be sent, since none was under way.
+    pub fn cut(&mut self) -> Result<bool, NoMemory>
+        ensures wakes { IfOk result (λ w. w ≡ wakes Cuts self.old) }
+        ensures after { OnOk result (self.new ≡ after Cuts self.old) }
+    {
+        if self.storage.is_empty() {
+            return Ok(false);
+        }
+        self.cut_stored()
+    }
+
+    /// The batch that is sent next. Where there is none, none is under way any longer.
+    pub fn take_batch(&mut self) -> Option<Batch>
+        ensures batch { result ≡ next_batch self.old }
+        ensures after { self.new ≡ after TakesBatch self.old }
+    {
+        let batch = self.cut.pop_front();
+        if batch.is_none() {
+            self.is_under_way = false;
+        }
+        batch
+    }
+
+    /// All that was stored is settled.
+    pub fn is_settled(&self) -> bool
+        ensures { result ≡ is_settled self.now }
+    {
+        !self.is_under_way && self.storage.is_empty()
+    }
+
+    /// Nothing is stored.
+    pub fn stores_nothing(&self) -> bool
+        ensures { result ≡ is_nothing self.now.storage.items }
+    {
+        self.storage.is_empty()
+    }
+
+    /// The tickets of those that wait for what is stored.
+    pub fn stored(&self) -> Result<Vec<u64>, NoMemory>
+        ensures { IfOk result (λ tickets. tickets.items ≡ stored_tickets self.now) }
+    {
+        let mut tickets = Vec::new(*self.cut.allocator());
+        self.storage.push_tickets(&mut tickets)?;
+        Ok(tickets)
+    }
+
+    /// The tickets of those that wait for what was cut and isn't under way, and for what is stored.
+    pub fn unsent(&self) -> Result<Vec<u64>, NoMemory>
+        ensures { IfOk result (λ tickets. tickets.items ≡ unsent_tickets self.now) }
+    {
+        let mut tickets = Vec::new(*self.cut.allocator());
+        for batch in &self.cut {
+            batch.push_tickets(&mut tickets)?;
+        }
+        self.storage.push_tickets(&mut tickets)?;
+        Ok(tickets)
+    }
+
+    /// One more item is stored, and what is stored becomes a batch where that is ready.
+    fn push(&mut self, item: BatchItem) -> Result<bool, NoMemory>
+        ensures wakes { IfOk result (λ w. w ≡ (not self.old.is_under_way && (stores (item_of item) self.old).is_under_way)) }
+        ensures after { OnOk result (self.new ≡ stores (item_of item) self.old) }
+    {
+        self.storage.push_back(item)?;
+        if self.storage.ready_to_flush() {
+            self.cut_stored()
+        } else {
+            Ok(false)
+        }
+    }
+
+    /// What is stored becomes a batch. The answer says whether none was under way.
+    fn cut_stored(&mut self) -> Result<bool, NoMemory>
+        ensures first { IfOk result (λ first. first ≡ not self.old.is_under_way) }
+        ensures after { OnOk result (self.new ≡ cuts self.old) }
+    {
+        let items = self.storage.get_messages()?;
+        self.cut.push_back(Batch::new(items))?;
+        let is_first = !self.is_under_way;
+        self.is_under_way = true;
+        Ok(is_first)
     }
 }
 

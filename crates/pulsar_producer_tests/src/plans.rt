@@ -9,6 +9,7 @@ use pulsar_producer::building::{self, Builds, Order};
 use pulsar_producer::content::{Outgoing, Parts, Settings};
 use pulsar_producer::deed::{Deed, Drawn, News, Step};
 use pulsar_producer::sending::{self, Errand, Sent};
+use pulsar_producer::storage::Limits;
 use pulsar_producer::topic_producer::TopicProducer;
 use pulsar_session::Received;
 use pulsar_wire::error::{ConnectionError, NoMemory};
@@ -77,6 +78,8 @@ fn name(deed: &Deed) -> &'static str {
         Deed::Remakes { .. } => "remake",
         Deed::Numbers => "number",
         Deed::ClosesProducer { .. } => "close",
+        Deed::TakesBatch(_) => "batch",
+        Deed::Settles(_) => "settle",
         Deed::Rests => "rest",
     }
 }
@@ -318,12 +321,20 @@ fn built(alloc: Global, text: &mut String) -> Result<Parts, Fail> {
     build(alloc, news, text)
 }
 
+/// A batch has three items at most.
+fn limits() -> Limits {
+    Limits {
+        max_size: Some(3),
+        max_byte_size: None,
+    }
+}
+
 /// A topic producer whose first message has the number 7.
 fn producer(alloc: Global) -> Result<TopicProducer, Fail> {
     let mut text = String::new(alloc);
     let mut parts = built(alloc, &mut text)?;
     match parts.next() {
-        Some(built) => Ok(TopicProducer::new(alloc, built, 7)),
+        Some(built) => Ok(TopicProducer::new(alloc, built, 7, limits())),
         None => Err(Fail::new("no producer")),
     }
 }

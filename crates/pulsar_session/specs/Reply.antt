@@ -2,7 +2,8 @@
 use Rattle.std.specs.Prelude.{ℕ, ℤ, Bool, false, List, [], Option, Some, None, ◌==◌, if◌then◌else◌}
 use Rattle.pulsar_wire.specs.At.{flag_at, int32_at, text_at, texts_at}
 use Rattle.pulsar_wire.specs.Command.{BodyValues}
-use Rattle.pulsar_wire.specs.Row.{Optional, Bytes, Text, Uint32, Int32, Row, End, Plain, Embedded, Numbers, Values, spelling}
+use Rattle.pulsar_wire.specs.Row.{Required, Optional, Bytes, Text, Uint32, Uint64, Int32, Row, End, Plain, Embedded, Numbers, Values, spelling}
+use Rattle.pulsar_wire.specs.Rows as rows
 use Rattle.pulsar_wire.specs.declared.key.RequestKey.{RequestKey}
 use Rattle.pulsar_frame.specs.Key.{key}
 use Rattle.pulsar_frame.specs.Message.{MessageValues}
@@ -39,6 +40,16 @@ maybe_bytes_at n (Plain m r k row) vs = maybe_bytes_at n row vs.1
 maybe_bytes_at n (Embedded m r inner row) vs = maybe_bytes_at n row vs.1
 maybe_bytes_at n (Numbers m row) vs = maybe_bytes_at n row vs.1
 
+-- the values of a body that has the fields of a send_receipt  (PulsarApi.proto, CommandSendReceipt, MessageIdData)
+abbrev pub receipt_at : (row : Row) → Values row → Option (Values rows.send_receipt)
+receipt_at
+    (Plain a Required Uint64 (Plain b Required Uint64 (Embedded c Optional
+    (Plain d Required Uint64 (Plain e Required Uint64 (Plain f Optional Int32 (Plain g Optional Int32 (Numbers h (Plain i Optional Int32 End))))))
+    (Plain j Optional Uint64 End))))
+    vs =
+    Some vs
+receipt_at row vs = None
+
 -- a body by its number, as it is written
 pub record Written : Type 0 where
   pub number : ℕ
@@ -48,7 +59,7 @@ abbrev pub written : BodyValues → Written
 written b = record { number = b.number; bytes = spelling b.row b.values }
 
 -- Its body and its key; the number and the text of the error that it tells; the topics that it names; what the answers to
--- partition_metadata and lookup_topic say; and the name of a producer, with the version of its schema.
+-- partition_metadata and lookup_topic say; the name of a producer, with the version of its schema; and what a send_receipt says.
 pub record Reply : Type 0 where
   pub body : Option Written
   pub key : Option RequestKey
@@ -62,6 +73,7 @@ pub record Reply : Type 0 where
   pub proxy : Option Bool
   pub name : Option (List ℕ)
   pub version : Option (List ℕ)
+  pub receipt : Option (Values rows.send_receipt)
 
 -- error (14), partition_metadata_response (22) and lookup_topic_response (24) tell errors
 abbrev pub error_in : BodyValues → Option ℤ
@@ -107,6 +119,9 @@ name_in b = if b.number == 17 then text_at 2 b.row b.values else None
 abbrev pub version_in : BodyValues → Option (List ℕ)
 version_in b = if b.number == 17 then maybe_bytes_at 4 b.row b.values else None
 
+abbrev pub receipt_in : BodyValues → Option (Values rows.send_receipt)
+receipt_in b = if b.number == 7 then receipt_at b.row b.values else None
+
 -- what is read of a body
 abbrev pub read_body : Option RequestKey → Option BodyValues → Reply
 read_body k None =
@@ -123,6 +138,7 @@ read_body k None =
       proxy = None;
       name = None;
       version = None;
+      receipt = None;
     }
 read_body k (Some b) =
     record {
@@ -138,6 +154,7 @@ read_body k (Some b) =
       proxy = proxy_in b;
       name = name_in b;
       version = version_in b;
+      receipt = receipt_in b;
     }
 
 abbrev pub reply : MessageValues → Reply

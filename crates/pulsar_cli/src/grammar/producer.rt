@@ -4,7 +4,7 @@ ghost use Rattle.std.specs.Prelude.{◌≡◌, IfOk, map, string_bytes};
 ghost use Rattle.std.specs.Option.{option_map};
 ghost use Rattle.pulsar_messages.specs.Content.{producer_options_values};
 ghost use Rattle.pulsar_cli.specs.Parsed.{producer_draft_of};
-ghost use Rattle.pulsar_cli.specs.ProducerWords.{access, all, blank, block, encrypted, meta, name, one, options, option_part, part, policy, producer, route, schema, schema_of, topic, with_meta, with_word};
+ghost use Rattle.pulsar_cli.specs.ProducerWords.{access, all, batch, batch_timeout, blank, bytes, block, encrypted, meta, name, one, options, option_part, part, policy, producer, route, schema, schema_of, topic, with_meta, with_word};
 ghost use Rattle.pulsar_wire.specs.Views.{schema_values};
 ghost use Rattle.pulsar_producer.specs.Wanted.{producer_wanted};
 
@@ -112,7 +112,13 @@ fn option_part(
 ) -> Result<Option<Draft>, NoMemory>
     ensures { IfOk result (λ d. option_map producer_draft_of d ≡ option_part (producer_draft_of draft) name.now value.now) }
 {
-    if is(name, "access") {
+    if is(name, "batch") {
+        Ok(batch(draft, value))
+    } else if is(name, "bytes") {
+        Ok(bytes(draft, value))
+    } else if is(name, "batch-timeout") {
+        Ok(batch_timeout(draft, value))
+    } else if is(name, "access") {
         Ok(access(draft, value))
     } else if is(name, "block") {
         Ok(block(draft, value))
@@ -157,6 +163,45 @@ fn with_name(alloc: Global, draft: Draft, word: &[u8]) -> Result<Option<Draft>, 
     let mut draft = draft;
     draft.builder.name = Some(value);
     Ok(Some(draft))
+}
+
+/// `batch=NUMBER`
+fn batch(draft: Draft, word: &[u8]) -> Option<Draft>
+    ensures { option_map producer_draft_of result ≡ batch (producer_draft_of draft) word.now }
+{
+    if draft.builder.options.batch_size.is_some() {
+        return None;
+    }
+    let value = u32::try_from(number(word)?).ok()?;
+    let mut draft = draft;
+    draft.builder.options.batch_size = Some(value);
+    Some(draft)
+}
+
+/// `bytes=NUMBER`
+fn bytes(draft: Draft, word: &[u8]) -> Option<Draft>
+    ensures { option_map producer_draft_of result ≡ bytes (producer_draft_of draft) word.now }
+{
+    if draft.builder.options.batch_byte_size.is_some() {
+        return None;
+    }
+    let value = number(word)? as usize;
+    let mut draft = draft;
+    draft.builder.options.batch_byte_size = Some(value);
+    Some(draft)
+}
+
+/// `batch-timeout=NUMBER`
+fn batch_timeout(draft: Draft, word: &[u8]) -> Option<Draft>
+    ensures { option_map producer_draft_of result ≡ batch_timeout (producer_draft_of draft) word.now }
+{
+    if draft.builder.options.batch_timeout.is_some() {
+        return None;
+    }
+    let value = number(word)?;
+    let mut draft = draft;
+    draft.builder.options.batch_timeout = Some(value);
+    Some(draft)
 }
 
 /// `access=NUMBER`

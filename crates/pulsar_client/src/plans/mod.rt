@@ -1,6 +1,7 @@
 //! The plans of those that have them.
 
 pub mod answers;
+pub mod batches;
 pub mod gathering;
 pub mod plan;
 pub mod producing;

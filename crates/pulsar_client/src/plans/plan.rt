@@ -9,15 +9,15 @@ use crate::act::{Action, Makes, Outcome, Place, Procedure, Refusal, Round, Says,
 use crate::content::{Failures, Numbers, Said};
 use crate::effect::Answer;
 use crate::plans::search_state::SearchState;
-use crate::plans::states::{BuildState, SendState};
-use crate::plans::{answers, gathering, producing, search, sends, visiting};
+use crate::plans::states::{BatchState, BuildState, SendState};
+use crate::plans::{answers, batches, gathering, producing, search, sends, visiting};
 use pulsar_link::content::{Received, Request, Subscribed};
 use pulsar_plans::content::Refusal as Failure;
 use pulsar_plans::turn::Ways;
 use pulsar_producer::building::Order;
 use pulsar_producer::deed;
 use pulsar_producer::sending::Errand;
-use pulsar_wire::error::{ConnectionError, Error, IoKind, NoMemory, ProducerError};
+use pulsar_wire::error::{ConnectionError, Error, IoKind, NoMemory, ProducerError, Reason};
 use std::alloc::Global;
 
 /// A plan stays, in this state, and does this action, or it ends and gives its verdict.
@@ -70,6 +70,16 @@ pub enum Plan {
         ways: Ways,
         errand: Errand,
     },
+    /// It stores a message. Where it is a part of another call, that is told.
+    Storing(Option<Share>),
+    /// Its message is stored, and waits for what becomes of its batch.
+    Stored,
+    /// It sends the batches of a topic producer.
+    Batching {
+        ways: Ways,
+        errand: Errand,
+        batching: BatchState,
+    },
     /// It fails so, and does one thing before.
     Leaving(Failure),
     /// It waits for so many sends, of those whose tickets begin with this one.
@@ -95,6 +105,8 @@ pub enum Plan {
 /// Where a visit to a topic producer stands.
 #[derive(Clone, Copy)]
 pub enum At {
+    /// It waits until all that was stored is settled.
+    Settling,
     /// It waits for its turn.
     Turning,
     /// It finds the link.
@@ -133,6 +145,12 @@ pub fn begins(alloc: Global, procedure: Procedure) -> Result<Turn<Plan, Verdict>
             share,
             message,
         } => sends::begins(alloc, ways, errand, share, message),
+        Procedure::Store {
+            number,
+            share,
+            entry,
+        } => Ok(Turn::Stays(Plan::Storing(share), Action::Store { number, entry })),
+        Procedure::Batch { ways, errand } => batches::begins(alloc, ways, errand),
         Procedure::FailShare { share, refusal } => {
             let error = refusal_error(alloc, refusal)?;
             sends::leaves(alloc, Some(share), Failure::new(alloc, error)?)
@@ -169,6 +187,13 @@ pub fn told(alloc: Global, plan: Plan, outcome: Outcome) -> Result<Turn<Plan, Ve
             sending,
         } => sends::told(alloc, ways, errand, share, sending, outcome),
         Plan::Reporting { ways, errand } => sends::reported(alloc, ways, errand),
+        Plan::Storing(share) => batches::stores(alloc, share, outcome),
+        Plan::Stored => batches::stored(alloc, outcome),
+        Plan::Batching {
+            ways,
+            errand,
+            batching,
+        } => batches::told(alloc, ways, errand, batching, outcome),
         Plan::Leaving(failure) => left(alloc, failure),
         Plan::Gathering {
             first,
@@ -340,6 +365,9 @@ fn refusal_error(alloc: Global, refusal: Refusal) -> Result<Error, NoMemory>
         Refusal::NoBatches => custom_in_producer(alloc, "not a batching producer"),
         Refusal::NoPartition => custom_in_producer(alloc, "routing index out of range"),
         Refusal::NumberInUse => custom_in_producer(alloc, "number in use"),
+        Refusal::TooLarge => Ok(Error::Producer(ProducerError::Connection(ConnectionError::Encoding(
+            Reason::Batch,
+        )))),
     }
 }
 
@@ -402,7 +430,8 @@ pub fn overrides(outcome: &Outcome) -> bool
         | Outcome::Disconnected
         | Outcome::Woken
         | Outcome::Granted(_)
-        | Outcome::Parted { .. } => false,
+        | Outcome::Parted { .. }
+        | Outcome::Settled(_) => false,
     }
 }
 
@@ -424,6 +453,7 @@ pub fn error_of(outcome: Outcome) -> ConnectionError
         | Outcome::Replied(_)
         | Outcome::Woken
         | Outcome::Parted { .. }
+        | Outcome::Settled(_)
         | Outcome::Cut
         | Outcome::Disconnected => ConnectionError::Disconnected,
     }

@@ -10,6 +10,7 @@ ghost use Rattle.pulsar_client.specs.declared.plans.plan.Plan.TheVariants.{Produ
 use crate::act::{Action, Makes, Outcome, Verdict};
 use crate::content::{Building as Built, Made, Remade, Remaking, Said};
 use crate::effect::Answer;
+use crate::plans::batches::tells_all;
 use crate::plans::plan::{Plan, Turn, error_of, fails, left, overrides};
 use crate::plans::search::{news_in, wished};
 use crate::plans::states::BuildState;
@@ -155,6 +156,8 @@ pub fn action_of(alloc: Global, deed: Deed) -> Result<Action, NoMemory>
             link,
             request: closes(alloc, number)?,
         }),
+        Deed::TakesBatch(number) => Ok(Action::TakeBatch(number)),
+        Deed::Settles(reports) => tells_all(alloc, reports),
         Deed::Rests => Ok(Action::Rest),
     }
 }

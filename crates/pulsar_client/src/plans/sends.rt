@@ -186,7 +186,7 @@ fn halted(
 }
 
 /// The call that it is a part of is told.
-fn tell(share: Share, outcome: Outcome) -> Action
+pub fn tell(share: Share, outcome: Outcome) -> Action
     ensures { result ≡ Action.Tell (record { who = Who.Call share.of; outcome = outcome }) }
 {
     Action::Tell(Notice {
@@ -196,7 +196,7 @@ fn tell(share: Share, outcome: Outcome) -> Action
 }
 
 /// It was queued, or it failed so before.
-fn parted(share: Share, failure: Option<Refusal>) -> Outcome
+pub fn parted(share: Share, failure: Option<Refusal>) -> Outcome
     ensures { result ≡ parted share failure }
 {
     Outcome::Parted {

@@ -3,6 +3,7 @@
 ghost use Rattle.std.specs.Prelude.{◌≡◌, IfOk};
 ghost use Rattle.pulsar_client.specs.Plan.{is_sent};
 
+use pulsar_producer::batching::Batching;
 use pulsar_producer::building::Building;
 use pulsar_producer::sending::Sending;
 use pulsar_wire::error::NoMemory;
@@ -98,5 +99,39 @@ pub fn is_sent(sending: &Sending) -> bool
         | Sending::Making { .. }
         | Sending::Remaking { .. }
         | Sending::Ending { .. } => false,
+    }
+}
+
+/// Where the batches of a topic producer stand.
+#[derive(Drop)]
+pub struct BatchState {
+    batching: Box<Batching>,
+}
+
+impl Model for BatchState {
+    ghost use Rattle.pulsar_plans.specs.contracts.content.Refusal as refusal;
+    ghost use Rattle.pulsar_producer.specs.declared.batching.Batching.{Batching};
+    ghost use Rattle.std.specs.Coded.{codes};
+
+    ghost Value = { Batching };
+
+    ghost coded = { Prim.hlevel (codes, refusal.the_row.coded) };
+
+    ghost view = { λ s. s.batching.value };
+}
+
+impl BatchState {
+    pub fn new(alloc: Global, batching: Batching) -> Result<BatchState, NoMemory>
+        ensures { IfOk result (λ s. s ≡ batching) }
+    {
+        let batching = Box::new(alloc, batching)?;
+        Ok(BatchState { batching })
+    }
+
+    pub fn into_inner(self) -> Batching
+        ensures { result ≡ self }
+    {
+        let BatchState { batching } = self;
+        Box::into_inner(batching)
     }
 }

@@ -18,6 +18,8 @@ use std::collections::BTreeMap;
 pub struct Plans {
     /// Those of the calls, by ticket.
     pub calls: BTreeMap<u64, Plan>,
+    /// Those of the topic producers that send batches, by number.
+    pub producers: BTreeMap<u64, Plan>,
 }
 
 impl Plans {
@@ -26,6 +28,7 @@ impl Plans {
     {
         Plans {
             calls: BTreeMap::new(alloc),
+            producers: BTreeMap::new(alloc),
         }
     }
 
@@ -36,6 +39,7 @@ impl Plans {
     {
         match who {
             Who::Call(ticket) => self.calls.remove(&ticket),
+            Who::Producer(number) => self.producers.remove(&number),
         }
     }
 
@@ -45,6 +49,7 @@ impl Plans {
     {
         match who {
             Who::Call(ticket) => set_in(&mut self.calls, ticket, plan),
+            Who::Producer(number) => set_in(&mut self.producers, number, plan),
         }
     }
 }

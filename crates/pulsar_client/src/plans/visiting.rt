@@ -3,7 +3,7 @@
 ghost use Rattle.std.specs.Prelude.{◌≡◌, IfOk};
 ghost use Rattle.pulsar_session.specs.Failures.{fault};
 ghost use Rattle.pulsar_link.specs.Request.{request_number};
-ghost use Rattle.pulsar_client.specs.Plan.{asks_of, failure_in, fails_in, goes_round, in_asking, in_awaiting, in_finding, in_passing, in_turning, quits, stays_at, told, told_at};
+ghost use Rattle.pulsar_client.specs.Plan.{asks_of, failure_in, fails_in, goes_round, in_asking, in_awaiting, in_finding, in_passing, in_settling, in_turning, is_settled, quits, stays_at, told, told_at, visits};
 ghost use Rattle.pulsar_client.specs.declared.plans.plan.Plan.TheVariants.{Shutting, Visiting};
 
 use crate::act::{Action, Makes, Outcome, Round, Verdict};
@@ -24,8 +24,20 @@ pub fn next(alloc: Global, round: Round, mut left: Numbers) -> Result<Turn<Plan,
     ensures { IfOk result (λ turn. turn ≡ goes_round round left) }
 {
     match left.next() {
-        Some(number) => Ok(stays(round, number, left, At::Turning, Action::TakeTurn(number))),
+        Some(number) => Ok(visits(round, number, left)),
         None => done(alloc, Makes::Nothing),
+    }
+}
+
+/// What a topic producer stores is settled before it is closed, and before its flush is done.
+fn visits(round: Round, number: u64, left: Numbers) -> Turn<Plan, Verdict>
+    ensures { result ≡ visits round number left }
+{
+    match round {
+        Round::Checks => stays(round, number, left, At::Turning, Action::TakeTurn(number)),
+        Round::Flushes | Round::Closes => {
+            stays(round, number, left, At::Settling, Action::Flush(number))
+        }
     }
 }
 
@@ -81,11 +93,59 @@ fn goes_on(
     ensures { IfOk result (λ turn. turn ≡ told_at round number left at outcome) }
 {
     match at {
+        At::Settling => in_settling(alloc, round, number, left, outcome),
         At::Turning => in_turning(alloc, round, number, left, outcome),
         At::Finding => in_finding(alloc, round, number, left, outcome),
         At::Asking => in_asking(alloc, round, number, left, outcome),
         At::Passing => in_passing(alloc, round, number, left, outcome),
         At::Awaiting => in_awaiting(alloc, round, number, left, outcome),
+    }
+}
+
+/// All that was stored is settled.
+fn in_settling(
+    alloc: Global,
+    round: Round,
+    number: u64,
+    left: Numbers,
+    outcome: Outcome,
+) -> Result<Turn<Plan, Verdict>, NoMemory>
+    ensures { IfOk result (λ turn. turn ≡ in_settling round number left outcome) }
+{
+    match outcome {
+        Outcome::Granted(granted) => settled(alloc, round, number, left, granted.into_inner()),
+        outcome => failed(alloc, round, error_of(outcome)),
+    }
+}
+
+fn settled(
+    alloc: Global,
+    round: Round,
+    number: u64,
+    left: Numbers,
+    news: News,
+) -> Result<Turn<Plan, Verdict>, NoMemory>
+    ensures { IfOk result (λ turn. turn ≡ in_settling round number left (Outcome.Granted news)) }
+{
+    match news {
+        News::Done => is_settled(alloc, round, number, left),
+        news => failed(alloc, round, error_told(news)),
+    }
+}
+
+fn is_settled(
+    alloc: Global,
+    round: Round,
+    number: u64,
+    left: Numbers,
+) -> Result<Turn<Plan, Verdict>, NoMemory>
+    ensures { IfOk result (λ turn. turn ≡ is_settled round number left) }
+{
+    match round {
+        Round::Flushes => next(alloc, round, left),
+        Round::Checks | Round::Closes => {
+            Ok(stays(round, number, left, At::Turning, Action::TakeTurn(number)))
+        }
     }
 }
 
@@ -249,7 +309,7 @@ fn refusal_of(alloc: Global, round: Round, error: ConnectionError) -> Result<Ref
     ensures { IfOk result (λ r. r ≡ failure_in round (fault error)) }
 {
     match round {
-        Round::Checks => Refusal::in_connection(alloc, error),
+        Round::Checks | Round::Flushes => Refusal::in_connection(alloc, error),
         Round::Closes => in_producer(alloc, error),
     }
 }
@@ -259,7 +319,7 @@ fn asks(alloc: Global, round: Round, number: u64) -> Result<Request, NoMemory>
     ensures { IfOk result (λ r. r ≡ asks_of round number) }
 {
     match round {
-        Round::Checks => Request::new(alloc, RawCall::SendPing),
+        Round::Checks | Round::Flushes => Request::new(alloc, RawCall::SendPing),
         Round::Closes => closes(alloc, number),
     }
 }
@@ -269,7 +329,7 @@ fn body_of(round: Round) -> u32
     ensures { (n : _) → result ≡ request_number (asks_of round n) }
 {
     match round {
-        Round::Checks => bodies::PING,
+        Round::Checks | Round::Flushes => bodies::PING,
         Round::Closes => bodies::CLOSE_PRODUCER,
     }
 }

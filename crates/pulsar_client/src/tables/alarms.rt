@@ -32,6 +32,7 @@ impl Tables {
         match alarm {
             Alarm::Retry(link) => self.tries_again(link, tasks),
             Alarm::Wake(who) => self.wakes(who, tasks),
+            Alarm::Batch(number) => self.cuts(number, tasks),
             Alarm::KeepAlive(link) => self.keeps_alive(link, tasks),
             Alarm::CheckIdle => self.checks_idle(tasks),
         }
@@ -61,7 +62,7 @@ impl Tables {
 
     /// One has waited.
     fn wakes(&mut self, who: Who, tasks: &mut Tasks) -> Result<(), NoMemory>
-        ensures left { OnOk result (agenda_of tasks.new ≡ record (agenda_of tasks.old) { behind = (agenda_of tasks.old).behind ++ map (arranged below) (opens (woken (Alarm.Wake who))) }) }
+        ensures left { OnOk result (agenda_of tasks.new ≡ record (agenda_of tasks.old) { behind = (agenda_of tasks.old).behind ++ map (arranged below) (opens (woken (view_of self.old) (Alarm.Wake who))) }) }
         ensures sees { OnOk result (view_of self.new ≡ rung_view (Alarm.Wake who) (view_of self.old)) }
         ensures settings { self.new.settings ≡ self.old.settings }
     {
@@ -115,6 +116,7 @@ impl Tables {
         self.is_stopped = true;
         let mut notices = self.stop_alarms()?;
         self.producers.stop(&mut notices)?;
+        self.producers.halt();
         tell(who, Outcome::Stopped, tasks)?;
         tasks.put_all(self.links.stop_acts()?)?;
         tasks.open(notices)
@@ -162,7 +164,7 @@ fn stop_one(addresses: &Addresses, alarm: Alarm, notices: &mut Vec<Notice>) -> R
             })?;
             Ok(())
         }
-        Alarm::KeepAlive(_) | Alarm::CheckIdle => Ok(()),
+        Alarm::Batch(_) | Alarm::KeepAlive(_) | Alarm::CheckIdle => Ok(()),
     }
 }
 
@@ -183,7 +185,7 @@ fn forget_one(addresses: &mut Addresses, alarm: Alarm) -> Result<(), NoMemory>
 {
     match alarm {
         Alarm::Retry(link) => addresses.forget(link),
-        Alarm::Wake(_) | Alarm::KeepAlive(_) | Alarm::CheckIdle => Ok(()),
+        Alarm::Wake(_) | Alarm::Batch(_) | Alarm::KeepAlive(_) | Alarm::CheckIdle => Ok(()),
     }
 }
 

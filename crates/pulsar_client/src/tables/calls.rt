@@ -3,7 +3,7 @@
 ghost use Rattle.std.specs.Prelude.{◌≡◌, ◌==◌, ◌+◌, ◌&&◌, ◌++◌, ◌∷◌, not, map, IfOk, MatchBool, None, Some, OnOk, string_bytes, true, false, if◌then◌else◌};
 ghost use Rattle.pulsar_client.specs.Alarms.{set};
 ghost use Rattle.pulsar_client.specs.Content.{Build, asked, lacks_tickets, shares, shown};
-ghost use Rattle.pulsar_client.specs.Effects.{effects};
+ghost use Rattle.pulsar_client.specs.Effects.{effects, ends};
 ghost use Rattle.pulsar_link.specs.RawCall.{words_of};
 ghost use Rattle.pulsar_link.specs.Request.{named_producer};
 ghost use Rattle.pulsar_client.specs.Producers.{called_on, names_in, opened_on};
@@ -19,7 +19,7 @@ use crate::act::{
 };
 use crate::addresses::Series;
 use crate::agenda::Tasks;
-use crate::content::{Advice, Asking};
+use crate::content::{Advice, Asking, Said};
 use crate::effect::Effect;
 use crate::event::Call;
 use crate::plans::plan::{Plan, Turn, begins, failure, told};
@@ -140,7 +140,7 @@ impl Tables {
             Call::SendAll { producer, messages } => {
                 self.sends_all(producer, messages, advice, parts)
             }
-            Call::Flush { producer } => Ok(self.flushes(producer)),
+            Call::Flush { producer } => self.flushes(producer),
             Call::CheckProducer { producer } => self.checks(producer),
             Call::CloseProducer { producer } => self.closes(producer),
             Call::Raw { link, call } => self.raw(link, call),
@@ -264,7 +264,11 @@ impl Tables {
             Action::Number => self.numbers(who, tasks),
             Action::Find(number) => self.finds(who, number, tasks),
             Action::Shut(producer) => self.shuts(who, producer, tasks),
+            Action::Store { number, entry } => self.stores(who, number, entry, tasks),
+            Action::Flush(number) => self.flushes_at(who, number, tasks),
+            Action::TakeBatch(number) => self.takes_batch(who, number, tasks),
             Action::Tell(notice) => self.tells(who, notice, tasks),
+            Action::TellAll(notices) => self.tells_all(who, notices, tasks),
             Action::StopAll => self.stops(who, tasks),
             Action::Rest => Ok(()),
         }
@@ -320,27 +324,24 @@ impl Tables {
         tell(who, outcome, tasks)
     }
 
-    /// A plan ends.
+    /// A plan ends. The topic producers of a producer that it makes send their batches from now on.
     pub(super) fn answers(
         &mut self,
         who: Who,
         verdict: Verdict,
+        tasks: &mut Tasks,
         out: &mut Vec<Effect>,
     ) -> Result<(), NoMemory>
+        ensures left { OnOk result (agenda_of tasks.new ≡ goes_on (view_of self.old) (Act.Answers who verdict) (agenda_of tasks.old)) }
         ensures out { OnOk result (map shown out.new.items ≡ map shown out.old.items ++ effects (view_of self.old) (Act.Answers who verdict)) }
         ensures sees { OnOk result (view_of self.new ≡ after (Act.Answers who verdict) (view_of self.old)) }
         ensures settings { self.new.settings ≡ self.old.settings }
     {
         let Verdict { makes, said } = verdict;
+        tasks.put_all(self.batches_of(&makes)?)?;
         self.builds(&makes)?;
         self.makes(who, makes)?;
-        match who {
-            Who::Call(ticket) => out.push(Effect::Ended {
-                ticket,
-                answer: said.into_inner(),
-            })?,
-        }
-        Ok(())
+        tell_end(who, said, out)
     }
 
     /// The client is built where a verdict makes it. With the first such the idle check begins.
@@ -358,6 +359,20 @@ impl Tables {
         self.alarms
             .set(Alarm::CheckIdle, later(self.clock, IDLE_PERIOD))
     }
+}
+
+/// What a call ends with is told; a topic producer has no end.
+fn tell_end(who: Who, said: Said, out: &mut Vec<Effect>) -> Result<(), NoMemory>
+    ensures { OnOk result (map shown out.new.items ≡ map shown out.old.items ++ ends who said) }
+{
+    match who {
+        Who::Call(ticket) => out.push(Effect::Ended {
+            ticket,
+            answer: said.into_inner(),
+        })?,
+        Who::Producer(_) => drop(said),
+    }
+    Ok(())
 }
 
 pub(super) fn tell(who: Who, outcome: Outcome, tasks: &mut Tasks) -> Result<(), NoMemory>

@@ -13,6 +13,7 @@ ghost use Rattle.pulsar_client.specs.Tables.{InStep, Stands, agenda_of, chosen_o
 ghost use Rattle.pulsar_client.specs.View.{Options, after, begun, is_live};
 
 mod alarms;
+mod batches;
 mod calls;
 mod links;
 mod making;
@@ -192,7 +193,7 @@ impl Tables {
             Act::Starts { who, procedure } => self.starts(who, procedure, tasks),
             Act::Told(Notice { who, outcome }) => self.told(who, outcome, tasks),
             Act::Does { who, action } => self.does(who, action, tasks, out),
-            Act::Answers { who, verdict } => self.answers(who, verdict, out),
+            Act::Answers { who, verdict } => self.answers(who, verdict, tasks, out),
             Act::Dials {
                 address,
                 starter,

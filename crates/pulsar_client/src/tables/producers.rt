@@ -18,8 +18,9 @@ use crate::agenda::Tasks;
 use crate::content::{Advice, Cause, Granted, Remade};
 use crate::event::Call;
 use crate::tables::Tables;
+use crate::tables::batches::join_closed;
 use crate::tables::calls::tell;
-use crate::who::ticket_of;
+use crate::who::{in_turn, turn_of};
 use pulsar_producer::CustomRoutingPolicy;
 use pulsar_producer::content::Version;
 use pulsar_producer::deed::News;
@@ -73,7 +74,7 @@ impl Tables {
         if !self.producers.is_used(number) {
             return tell(who, Outcome::Disconnected, tasks);
         }
-        match self.producers.take_turn(number, ticket_of(who))? {
+        match self.producers.take_turn(number, turn_of(who))? {
             Some(version) => self.grants(who, News::HasTurn(version), tasks),
             None => Ok(()),
         }
@@ -91,7 +92,7 @@ impl Tables {
         ensures settings { self.new.settings ≡ self.old.settings }
     {
         let next = self.producers.pass_turn(number)?;
-        join_next(self.alloc, next, tasks)?;
+        join_next(self.alloc, number, next, tasks)?;
         self.grants(who, News::Done, tasks)
     }
 
@@ -174,7 +175,7 @@ impl Tables {
         }
     }
 
-    /// A producer takes no sends from now on.
+    /// A producer takes no sends from now on. Those whose messages it stores are told so.
     pub(super) fn shuts(
         &mut self,
         who: Who,
@@ -185,7 +186,10 @@ impl Tables {
         ensures sees { OnOk result (view_of self.new ≡ after (Act.Does who (Action.Shut producer)) (view_of self.old)) }
         ensures settings { self.new.settings ≡ self.old.settings }
     {
+        let stored = self.producers.stored_by(producer)?;
+        self.clear_batches(producer)?;
         self.producers.shut(producer);
+        join_closed(self.alloc, stored, tasks)?;
         self.grants(who, News::Done, tasks)
     }
 
@@ -209,17 +213,18 @@ impl Tables {
 /// The one who has the turn next joins those whom the present cause serves.
 fn join_next(
     alloc: Global,
+    number: u64,
     next: Option<(u64, Option<Version>)>,
     tasks: &mut Tasks,
 ) -> Result<(), NoMemory>
-    ensures { OnOk result (agenda_of tasks.new ≡ record (agenda_of tasks.old) { here = put_all below (option_to_list (option_map turn_notice next)) tasks.old.here.items }) }
+    ensures { OnOk result (agenda_of tasks.new ≡ record (agenda_of tasks.old) { here = put_all below (option_to_list (option_map (turn_notice number) next)) tasks.old.here.items }) }
 {
-    let Some((ticket, version)) = next else {
+    let Some((turn, version)) = next else {
         return Ok(());
     };
     let granted = Granted::new(alloc, News::HasTurn(version))?;
     tasks.join(Notice {
-        who: Who::Call(ticket),
+        who: in_turn(number, turn),
         outcome: Outcome::Granted(granted),
     })
 }

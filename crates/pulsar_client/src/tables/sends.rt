@@ -3,6 +3,7 @@
 ghost use Rattle.std.specs.Prelude.{◌≡◌, ◌+◌, ◌++◌, ◌∷◌, [], IfOk, OnOk, Some, None, map, length, string_bytes, true, false};
 ghost use Rattle.std.specs.Option.{option_map};
 ghost use Rattle.pulsar_messages.specs.Content.{message_content};
+ghost use Rattle.pulsar_producer.specs.Batch.{entry_of};
 ghost use Rattle.pulsar_producer.specs.Wanted.{producer_wanted};
 ghost use Rattle.pulsar_client.specs.Kept.{producers_of};
 ghost use Rattle.pulsar_client.specs.Content.{SendAll, lacks_tickets};
@@ -21,9 +22,10 @@ use pulsar_messages::Message;
 use pulsar_plans::content::Text;
 use pulsar_producer::ProducerBuilder;
 use pulsar_producer::building::Order;
-use pulsar_producer::content::{Outgoing, Settings};
+use pulsar_producer::content::{Entry, Outgoing, Settings};
 use pulsar_producer::deed::News;
 use pulsar_wire::error::NoMemory;
+use std::alloc::Global;
 use std::collections::VecDeque;
 
 impl Tables {
@@ -102,6 +104,10 @@ impl Tables {
         let Some(ways) = self.settings.ways(self.alloc)? else {
             return Ok(fails(share, Refusal::NoAddress));
         };
+        if self.producers.batches(producer) {
+            drop(ways);
+            return stores_as(self.alloc, errand.producer, share, message);
+        }
         Ok(Procedure::Send {
             ways,
             errand,
@@ -182,14 +188,20 @@ impl Tables {
         Ok(())
     }
 
-    /// Nothing is held back for a batch.
-    pub(super) fn flushes(&self, producer: u64) -> Procedure
-        ensures { result ≡ rules.flushes (producers_of self.now.producers) producer }
+    /// What each topic producer of a producer stores is sent, where it sends batches.
+    pub(super) fn flushes(&self, producer: u64) -> Result<Procedure, NoMemory>
+        ensures { IfOk result (λ p. p ≡ rules.flushes (producers_of self.now.producers) producer) }
     {
-        match self.why_not(producer) {
-            Some(refusal) => Procedure::Refuse(refusal),
-            None => Procedure::Refuse(Refusal::NoBatches),
+        if let Some(refusal) = self.why_not(producer) {
+            return Ok(Procedure::Refuse(refusal));
         }
+        if !self.producers.batches(producer) {
+            return Ok(Procedure::Refuse(Refusal::NoBatches));
+        }
+        Ok(Procedure::Go {
+            round: Round::Flushes,
+            numbers: self.producers.numbers_of(producer)?,
+        })
     }
 
     /// The connection of each partition is asked for a sign of life.
@@ -231,6 +243,25 @@ impl Tables {
     {
         tasks.join(notice)?;
         self.grants(who, News::Done, tasks)
+    }
+}
+
+/// A message is stored, unless it is too large for a batch.
+fn stores_as(
+    alloc: Global,
+    number: u64,
+    share: Option<Share>,
+    message: Message,
+) -> Result<Procedure, NoMemory>
+    ensures { IfOk result (λ p. p ≡ rules.stores_as number share (entry_of (message_content message))) }
+{
+    match Entry::of_message(alloc, message)? {
+        Some(entry) => Ok(Procedure::Store {
+            number,
+            share,
+            entry,
+        }),
+        None => Ok(fails(share, Refusal::TooLarge)),
     }
 }
 

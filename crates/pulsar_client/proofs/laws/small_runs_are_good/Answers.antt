@@ -1,4 +1,4 @@
-use Rattle.pulsar_client.proofs.Traces.{answered_good, deadline_good, early_good, failed_good, line_good, local_known, polled_good, redirected_good, retried_good, sent_good, stopped_good}
+use Rattle.pulsar_client.proofs.Traces.{answered_good, batched_good, deadline_good, early_good, failed_good, line_good, local_known, polled_good, redirected_good, retried_good, sent_good, stopped_good}
 use Rattle.pulsar_client.proofs.laws.small_runs_are_good.Goals as goal
 
 pub returns : goal.returns
@@ -13,5 +13,6 @@ returns c = record {
   retried = retried_good;
   redirected = redirected_good;
   sent = sent_good;
+  batched = batched_good;
   address = local_known;
 }

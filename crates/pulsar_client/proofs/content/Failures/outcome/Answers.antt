@@ -3,7 +3,8 @@ use Rattle.std.proofs.lemmas.Bool.{false≢true}
 use Rattle.pulsar_session.specs.Failures.{OfPartialSend}
 use Rattle.pulsar_client.specs.Content.{Failed}
 use Rattle.pulsar_client.specs.Links.{numbers_from}
-use Rattle.pulsar_client.proofs.Parting.{partial_send, some_failed}
+use Rattle.pulsar_client.proofs.Parting.{some_failed}
+use Rattle.pulsar_producer.proofs.PartialSends.{partial_send}
 use Rattle.pulsar_client.proofs.content.Failures.outcome.Goals as goal
 
 pub returns : goal.returns

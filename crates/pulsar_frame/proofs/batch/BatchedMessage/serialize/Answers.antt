@@ -9,9 +9,9 @@ returns-clause-entry c =
     let fits : FitsSize entry = omega (arith, c.encoded_len.ensures, c.in-Ok.ensures) in
     let small : FitsPayload entry = omega (arith, c.if-len-gt-MAX_PAYLOAD.false) in
     let whole =
-    entry-written entry c.new-entry.result.items c.write_sized.new.out.items _ c.extend_from_slice.new.self.items _ c.args.w.now.items _
-    c.new-entry.ensures.items c.in_ok-write_sized.ensures.ok c.deref.ensures.value
-    c.in_ok-extend_from_slice.ensures.items c.deref-2.ensures.value c.in_ok-extend_from_slice-2.ensures.items in
+    entry-written entry c.new-head.result.items c.write_sized.new.out.items _ _ c.extend_from_slice.new.self.items c.args.w.now.items _
+    c.new-head.ensures.items c.in_ok-write_sized.ensures.ok c.deref.ensures.value c.in_ok-extend_from_slice.ensures.items
+    c.deref-2.ensures.value c.in_default-extend_from_slice.ensures.items in
     (fits, small, whole)
 
 pub returns-clause-again : goal.returns-clause-again

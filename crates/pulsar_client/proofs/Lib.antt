@@ -77,6 +77,7 @@ pub mod Traces
 pub mod Taking
 pub mod Calling
 pub mod Granting
+pub mod Storing
 pub mod Sending
 pub mod Drawing
 pub mod Free

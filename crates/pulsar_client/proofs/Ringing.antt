@@ -17,8 +17,8 @@ use Rattle.std.specs.declared.cmp.Ordering.TheVariants.{Less}
 use Rattle.pulsar_requests.specs.Soonest.{has_come}
 use Rattle.pulsar_client.specs.contracts.act.AlarmOrd.TheImpl.Laws.{total-law}
 use Rattle.pulsar_client.specs.declared.act.Alarm.{Alarm}
-use Rattle.pulsar_client.specs.declared.act.Alarm.TheVariants.{Retry, Wake, KeepAlive, CheckIdle}
-use Rattle.pulsar_client.specs.declared.act.Who.TheVariants.{Call}
+use Rattle.pulsar_client.specs.declared.act.Alarm.TheVariants.{Retry, Wake, Batch, KeepAlive, CheckIdle}
+use Rattle.pulsar_client.specs.declared.act.Who.TheVariants.{Call, Producer}
 use Rattle.pulsar_client.specs.Alarms.{alarm_cmp, is_same_alarm, moment_of, ringing}
 use Rattle.pulsar_client.specs.Due.{is_moment}
 use Rattle.pulsar_client.proofs.Lists.{any_end}
@@ -26,20 +26,11 @@ use Rattle.pulsar_client.proofs.Lists.{any_end}
 pub exact_alarm : CmpEqualImpliesEq alarm_cmp
 exact_alarm (Retry l) (Retry k) h = ap Retry (exact_unsigned l k h)
 exact_alarm (Wake (Call s)) (Wake (Call t)) h = ap (λ x. Wake (Call x)) (exact_unsigned s t h)
+exact_alarm (Wake (Producer m)) (Wake (Producer n)) h = ap (λ x. Wake (Producer x)) (exact_unsigned m n h)
+exact_alarm (Batch m) (Batch n) h = ap Batch (exact_unsigned m n h)
 exact_alarm (KeepAlive l) (KeepAlive k) h = ap KeepAlive (exact_unsigned l k h)
 exact_alarm CheckIdle CheckIdle h = refl
-exact_alarm (Retry l) (Wake who) h = absurd cc
-exact_alarm (Retry l) (KeepAlive k) h = absurd cc
-exact_alarm (Retry l) CheckIdle h = absurd cc
-exact_alarm (Wake who) (Retry l) h = absurd cc
-exact_alarm (Wake who) (KeepAlive k) h = absurd cc
-exact_alarm (Wake who) CheckIdle h = absurd cc
-exact_alarm (KeepAlive l) (Retry k) h = absurd cc
-exact_alarm (KeepAlive l) (Wake who) h = absurd cc
-exact_alarm (KeepAlive l) CheckIdle h = absurd cc
-exact_alarm CheckIdle (Retry k) h = absurd cc
-exact_alarm CheckIdle (Wake who) h = absurd cc
-exact_alarm CheckIdle (KeepAlive l) h = absurd cc
+exact_alarm _ _ h = absurd cc
 
 pub alarm_total : IsTotalOrder alarm_cmp
 alarm_total = total-law

@@ -2,7 +2,7 @@
 
 ghost use Rattle.std.specs.Prelude.{◌≡◌, ◌==◌, ◌&&◌, ◌+◌, ◌-◌, ◌^◌, nat_lt, ◌++◌, ℕ, IfOk, OnOk, Some, length, map, if◌then◌else◌};
 ghost use Rattle.std.specs.BTreeMap.{get};
-ghost use Rattle.std.specs.List.{list_any};
+ghost use Rattle.std.specs.List.{flat_map, list_any};
 ghost use Rattle.std.specs.Option.{is_some, option_map};
 ghost use Rattle.std.specs.Ordering.{nat_cmp};
 ghost use Rattle.pulsar_messages.specs.Content.{message_content};
@@ -362,9 +362,10 @@ impl Producers {
     pub fn halt(&mut self)
         ensures { producers_of self.new ≡ meaning.halted (producers_of self.old) }
     {
-        for topic in self.topics.values_mut() {
+        self.topics.retain(|_, topic| {
             topic.seen.halt();
-        }
+            true
+        });
     }
 
     /// The producer of this ticket sends batches.
@@ -455,14 +456,10 @@ impl Producers {
     pub fn stored_by(&self, ticket: u64) -> Result<Vec<u64>, NoMemory>
         ensures { IfOk result (λ ts. ts.items ≡ meaning.stored_by (producers_of self.now) (meaning.numbers_at ((producers_of self.now).built ticket))) }
     {
-        let mut all = Vec::new(self.alloc);
-        let Some(producer) = self.built.get(&ticket) else {
-            return Ok(all);
-        };
-        for partition in producer.as_slice() {
-            store_tickets(&self.topics, partition.number, &mut all)?;
+        match self.built.get(&ticket) {
+            Some(producer) => stored_in(self.alloc, &self.topics, producer.as_slice()),
+            None => Ok(Vec::new(self.alloc)),
         }
-        Ok(all)
     }
 }
 
@@ -630,6 +627,21 @@ fn stop_calls(tickets: Vec<u64>, notices: &mut Vec<Notice>) -> Result<(), NoMemo
         })?;
     }
     Ok(())
+}
+
+/// The tickets of the messages that the topic producers of these partitions store.
+fn stored_in(
+    alloc: Global,
+    topics: &BTreeMap<u64, Topic>,
+    partitions: &[Partition],
+) -> Result<Vec<u64>, NoMemory>
+    ensures { IfOk result (λ ts. ts.items ≡ flat_map (λ n. meaning.stored_at (get nat_cmp topics.now n)) (map (λ q. q.number) partitions.now)) }
+{
+    let mut all = Vec::new(alloc);
+    for partition in partitions {
+        store_tickets(topics, partition.number, &mut all)?;
+    }
+    Ok(all)
 }
 
 /// The tickets of the messages that a topic producer stores, behind others.

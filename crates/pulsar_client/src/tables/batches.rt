@@ -1,11 +1,11 @@
 //! Batches of topic producers: what is stored, what waits for its time, and what is sent.
 
-ghost use Rattle.std.specs.Prelude.{◌≡◌, ◌∷◌, [], ◌++◌, IfOk, OnOk, if◌then◌else◌, map};
+ghost use Rattle.std.specs.Prelude.{◌≡◌, ◌∷◌, [], ◌++◌, IfOk, OnOk, if◌then◌else◌, map, true, Some};
 ghost use Rattle.pulsar_run.specs.Order.{arranged, put_all};
 ghost use Rattle.pulsar_client.specs.Kept.{producers_of};
 ghost use Rattle.pulsar_client.specs.Plan.{closed_notice};
 ghost use Rattle.pulsar_client.specs.Producers.{is_bare, numbers_at, timeout_at};
-ghost use Rattle.pulsar_client.specs.Rules.{batches_made, batches_from, below, left_with, opens, ready_notice, woken};
+ghost use Rattle.pulsar_client.specs.Rules.{batches_by, batches_from, batches_made, below, left_with, opens, ready_notice, woken};
 ghost use Rattle.pulsar_client.specs.Run.{goes_on};
 ghost use Rattle.pulsar_client.specs.Tables.{agenda_of, chosen_of, rung_view, view_of};
 ghost use Rattle.pulsar_client.specs.View.{after, alarms_waiting, clear_all, producers_rung, ways_of};
@@ -19,7 +19,7 @@ use crate::tables::alarms::later;
 use crate::who::turn_of;
 use pulsar_plans::content::Refusal;
 use pulsar_plans::turn::Ways;
-use pulsar_producer::content::Entry;
+use pulsar_producer::content::{Built, Entry};
 use pulsar_producer::deed::News;
 use pulsar_producer::sending::Errand;
 use pulsar_wire::error::{Error, NoMemory, ProducerError};
@@ -128,10 +128,7 @@ impl Tables {
     {
         self.alarms.clear(Alarm::Batch(number))?;
         let is_ready = self.producers.cut(number)?;
-        let mut notices = Vec::new(self.alloc);
-        if is_ready {
-            notices.push(ready(self.alloc, number)?)?;
-        }
+        let notices = readied(self.alloc, number, is_ready)?;
         tasks.open(notices)
     }
 
@@ -162,32 +159,41 @@ impl Tables {
     fn batches_made(&self, building: &Building) -> Result<VecDeque<Deed>, NoMemory>
         ensures { IfOk result (λ acts. acts.items ≡ batches_made (ways_of (chosen_of self.now.settings)) building.now) }
     {
-        let mut acts = VecDeque::new(self.alloc);
         if !building.settings.is_batching() {
-            return Ok(acts);
+            return Ok(VecDeque::new(self.alloc));
         }
-        let block = building.settings.options().block_queue_if_full;
-        for built in building.parts.all() {
-            let Some(ways) = self.settings.ways(self.alloc)? else {
-                return Ok(acts);
-            };
-            acts.push_back(batches_by(ways, block, built.number))?;
+        match self.settings.ways(self.alloc)? {
+            Some(ways) => batches_from(self.alloc, &ways, building),
+            None => Ok(VecDeque::new(self.alloc)),
         }
-        Ok(acts)
     }
 }
 
-/// A topic producer sends its batches by a plan of its own.
-fn batches_by(ways: Ways, block: bool, number: u64) -> Deed {
+/// Each topic producer of a producer sends its batches by a plan of its own.
+fn batches_from(
+    alloc: Global,
+    ways: &Ways,
+    building: &Building,
+) -> Result<VecDeque<Deed>, NoMemory>
+    ensures { IfOk result (λ acts. acts.items ≡ batches_from (Some ways.now) building.now) }
+{
+    let mut acts = VecDeque::new(alloc);
+    for built in building.parts.all() {
+        acts.push_back(batches_by(ways.copy(alloc)?, building, built))?;
+    }
+    Ok(acts)
+}
+
+fn batches_by(ways: Ways, building: &Building, built: &Built) -> Deed
+    ensures { result ≡ batches_by ways building.now.settings.block_queue_if_full built.now }
+{
+    let errand = Errand {
+        producer: built.number,
+        block: building.settings.options().block_queue_if_full,
+    };
     Deed::Starts {
-        who: Who::Producer(number),
-        procedure: Procedure::Batch {
-            ways,
-            errand: Errand {
-                producer: number,
-                block,
-            },
-        },
+        who: Who::Producer(built.number),
+        procedure: Procedure::Batch { ways, errand },
     }
 }
 
@@ -199,6 +205,17 @@ fn ready(alloc: Global, number: u64) -> Result<Notice, NoMemory>
         who: Who::Producer(number),
         outcome: Outcome::Granted(Granted::new(alloc, News::Ready)?),
     })
+}
+
+/// The same where it is one whom an act serves.
+fn readied(alloc: Global, number: u64, is_ready: bool) -> Result<Vec<Notice>, NoMemory>
+    ensures { IfOk result (λ ns. ns.items ≡ (if is_ready then ready_notice number ∷ [] else [])) }
+{
+    let mut notices = Vec::new(alloc);
+    if is_ready {
+        notices.push(ready(alloc, number)?)?;
+    }
+    Ok(notices)
 }
 
 fn join_ready(

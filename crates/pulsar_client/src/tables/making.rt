@@ -1,10 +1,11 @@
 //! What verdicts make.
 
-ghost use Rattle.std.specs.Prelude.{◌≡◌, ℕ, OnOk};
+ghost use Rattle.std.specs.Prelude.{◌≡◌, ℕ, OnOk, Some, if◌then◌else◌};
 ghost use Rattle.pulsar_client.specs.Kept.{producers_of};
-ghost use Rattle.pulsar_client.specs.Subscribers.{subscription_at};
+ghost use Rattle.pulsar_client.specs.Subscribers.{fresh_in, subscription_at};
 ghost use Rattle.pulsar_client.specs.Tables.{chosen_of, view_of};
 ghost use Rattle.pulsar_client.specs.View.{made, producers_made};
+ghost use Rattle.pulsar_client.specs.Who.{is_same};
 
 use crate::act::{Makes, Who};
 use crate::consumers::subscriber::Subscriber;
@@ -20,23 +21,35 @@ impl Tables {
         ensures sees { OnOk result (view_of self.new ≡ record (view_of self.old) { consumers = subscription_at self.new.subscribers; producers = producers_of self.new.producers }) }
         ensures settings { self.new.settings ≡ self.old.settings }
     {
-        let (_, ticket) = rank(who);
         match makes {
             Makes::Nothing | Makes::Client => Ok(()),
             Makes::Consumer {
                 link,
                 number,
                 topic,
-            } => {
-                let subscriber = Subscriber::new(self.alloc, link, number, topic);
-                self.subscribers.join(self.alloc, ticket, subscriber)
-            }
+            } => self.subscribes(who, Subscriber::new(self.alloc, link, number, topic)),
             Makes::Producer(made) => self.producers.join(
-                ticket,
+                rank(who).1,
                 made.into_inner(),
                 self.settings.seed,
                 self.settings.first_number,
             ),
+        }
+    }
+
+    /// A consumer has the ticket of the call that makes it.
+    fn subscribes(&mut self, who: Who, subscriber: Subscriber) -> Result<(), NoMemory>
+        ensures consumers { OnOk result ((t : ℕ) → subscription_at self.new.subscribers t ≡ (if is_same (Who.Call t) who then Some (fresh_in subscriber) else subscription_at self.old.subscribers t)) }
+        ensures sees { OnOk result (view_of self.new ≡ record (view_of self.old) { consumers = subscription_at self.new.subscribers }) }
+        ensures producers { self.new.producers ≡ self.old.producers }
+        ensures settings { self.new.settings ≡ self.old.settings }
+    {
+        match who {
+            Who::Call(ticket) => self.subscribers.join(self.alloc, ticket, subscriber),
+            Who::Producer(_) => {
+                drop(subscriber);
+                Ok(())
+            }
         }
     }
 }

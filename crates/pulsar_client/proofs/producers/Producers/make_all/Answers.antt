@@ -9,6 +9,7 @@ pub loop-built-preserved : goal.loop-built-preserved
 loop-built-preserved c =
     let owner = c.args.owner in
     let first = c.args.first_number in
+    let limits = c.args.limits in
     let seen = c.loop-built.yielded in
     let built = c.in-Some.built in
     record {
@@ -17,6 +18,6 @@ loop-built-preserved c =
           ∙ ap (λ qs. qs ++ partition_of built ∷ []) c.loop-built.invariant.partitions
           ∙ sym (map_end partition_of seen built);
       after = c.in_ok-make.ensures
-          ∙ ap (with_topic owner first built) c.loop-built.invariant.after
-          ∙ sym (topics_end owner first seen built (producers_of c.args.self.now));
+          ∙ ap (with_topic owner first limits built) c.loop-built.invariant.after
+          ∙ sym (topics_end owner first limits seen built (producers_of c.args.self.now));
     }

@@ -35,3 +35,15 @@ returns-in-Shut-clause-sees c = rw c.in-Shut.is c.shuts.ensures.sees
 
 pub returns-in-Tell-clause-sees : goal.returns-in-Tell-clause-sees
 returns-in-Tell-clause-sees c = rw c.in-Tell.is c.tells.ensures.sees
+
+pub returns-in-Store-clause-sees : goal.returns-in-Store-clause-sees
+returns-in-Store-clause-sees c = rw c.in-Store.is c.stores.ensures.sees
+
+pub returns-in-Flush-clause-sees : goal.returns-in-Flush-clause-sees
+returns-in-Flush-clause-sees c = rw c.in-Flush.is c.flushes_at.ensures.sees
+
+pub returns-in-TakeBatch-clause-sees : goal.returns-in-TakeBatch-clause-sees
+returns-in-TakeBatch-clause-sees c = rw c.in-TakeBatch.is c.takes_batch.ensures.sees
+
+pub returns-in-TellAll-clause-sees : goal.returns-in-TellAll-clause-sees
+returns-in-TellAll-clause-sees c = rw c.in-TellAll.is c.tells_all.ensures.sees

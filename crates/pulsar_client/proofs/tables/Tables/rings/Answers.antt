@@ -1,6 +1,6 @@
 use Rattle.std.proofs.Common.{◌≡◌, ◌∙◌, ap, refl, sym, true}
 use Rattle.std.proofs.lemmas.Result.{on_ok_weaker}
-use Rattle.pulsar_client.specs.declared.act.Alarm.TheVariants.{Retry, Wake, KeepAlive, CheckIdle}
+use Rattle.pulsar_client.specs.declared.act.Alarm.TheVariants.{Retry, Wake, Batch, KeepAlive, CheckIdle}
 use Rattle.pulsar_client.specs.Alarms.{rings}
 use Rattle.pulsar_client.specs.Tables.{agenda_of, view_of}
 use Rattle.pulsar_client.proofs.Rings.{rest_left, rest_sees, ring_acts, ring_sees, ring_tells}
@@ -36,6 +36,18 @@ returns-in-Wake-clause-sees c =
     let v = view_of c.args.self.now in
     let h : rings v.now (Wake c.in-Wake.who) v.alarms ≡ true = ap (λ a. rings v.now a v.alarms) (sym c.in-Wake.is) ∙ sym c.rings.ensures ∙ c.if-not-rings.false in
     rw c.in-Wake.is (on_ok_weaker c.wakes.result (λ sees. sees ∙ ring_sees v (Wake c.in-Wake.who) h) c.wakes.ensures.sees)
+
+pub returns-in-Batch-clause-left : goal.returns-in-Batch-clause-left
+returns-in-Batch-clause-left c =
+    let v = view_of c.args.self.now in
+    let h : rings v.now (Batch c.in-Batch.number) v.alarms ≡ true = ap (λ a. rings v.now a v.alarms) (sym c.in-Batch.is) ∙ sym c.rings.ensures ∙ c.if-not-rings.false in
+    rw c.in-Batch.is (on_ok_weaker c.cuts.result (λ left ticketed. left ∙ ring_tells v (Batch c.in-Batch.number) (agenda_of c.args.tasks.now) h refl) c.cuts.ensures.left)
+
+pub returns-in-Batch-clause-sees : goal.returns-in-Batch-clause-sees
+returns-in-Batch-clause-sees c =
+    let v = view_of c.args.self.now in
+    let h : rings v.now (Batch c.in-Batch.number) v.alarms ≡ true = ap (λ a. rings v.now a v.alarms) (sym c.in-Batch.is) ∙ sym c.rings.ensures ∙ c.if-not-rings.false in
+    rw c.in-Batch.is (on_ok_weaker c.cuts.result (λ sees. sees ∙ ring_sees v (Batch c.in-Batch.number) h) c.cuts.ensures.sees)
 
 pub returns-in-KeepAlive-clause-left : goal.returns-in-KeepAlive-clause-left
 returns-in-KeepAlive-clause-left c =

@@ -1,8 +1,8 @@
 use Rattle.std.proofs.Common.{◌≡◌, ◌∙◌, ◌++◌, ap, append_assoc, map, sym}
 use Rattle.std.proofs.lemmas.Result.{on_ok_weaker}
 use Rattle.pulsar_run.specs.Order.{arranged}
-use Rattle.pulsar_client.specs.Producers.{waiting}
-use Rattle.pulsar_client.specs.Rules.{below, opens, over_links, stop_act, stopped_one, tells}
+use Rattle.pulsar_client.specs.Producers.{halted}
+use Rattle.pulsar_client.specs.Rules.{below, opens, over_links, stop_act, stopped_all, tells}
 use Rattle.pulsar_client.specs.declared.act.Outcome.TheVariants.{Stopped}
 use Rattle.pulsar_client.specs.Run.{Agenda}
 use Rattle.pulsar_client.specs.Tables.{agenda_of, view_of}
@@ -17,7 +17,7 @@ returns-clause-left c =
     let told = c.in_ok-put_all.ensures ∙ ap (λ (x : Agenda). record x { now = c.in_ok-stop_acts.field-0.items ++ x.now }) c.in_ok-tell.ensures in
     let notices =
     c.in_ok-stop.ensures
-    ∙ (λ i. c.in_ok-notices.ensures.notices i ++ map stopped_one (waiting (c.in_ok-notices.ensures.sees i).producers))
+    ∙ (λ i. c.in_ok-notices.ensures.notices i ++ stopped_all (c.in_ok-notices.ensures.sees i).producers)
     in
     on_ok_weaker c.open.result
     (λ opened. opened
@@ -29,4 +29,8 @@ returns-clause-left c =
     c.open.ensures
 
 pub returns-clause-sees : goal.returns-clause-sees
-returns-clause-sees c = on_ok_weaker c.open.result (λ left. c.in_ok-notices.ensures.sees) c.open.ensures
+returns-clause-sees c =
+    on_ok_weaker c.open.result
+    (λ left. (λ i. record (view_of c.stop_alarms.new.self) { producers = c.halt.ensures i })
+    ∙ ap (λ (x : View). record x { producers = halted x.producers }) c.in_ok-notices.ensures.sees)
+    c.open.ensures

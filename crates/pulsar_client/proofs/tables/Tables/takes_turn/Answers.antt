@@ -3,7 +3,7 @@ use Rattle.std.proofs.lemmas.Result.{on_ok_weaker}
 use Rattle.pulsar_producer.specs.Topic.{Takes}
 use Rattle.pulsar_client.specs.Producers.{changed}
 use Rattle.pulsar_client.specs.Tables.{agenda_of, view_of}
-use Rattle.pulsar_client.specs.Who.{rank}
+use Rattle.pulsar_client.specs.Who.{turn_of}
 use Rattle.pulsar_client.proofs.Granting.{in_front, no_topic, turn_had, turn_lost, turn_waits, unchanged}
 use Rattle.pulsar_client.proofs.tables.Tables.takes_turn.Goals as goal
 
@@ -17,7 +17,7 @@ pub returns-then-not-is_used-clause-sees : goal.returns-then-not-is_used-clause-
 returns-then-not-is_used-clause-sees c =
     let v = view_of c.args.self.now in
     let none = no_topic (v.producers.topics c.args.number) (sym c.is_used.ensures ∙ c.if-not-is_used.true) in
-    on_ok_weaker c.tell.result (λ told. ap (λ ps. record v { producers = ps }) (unchanged c.args.number (Takes (rank c.args.who).1) v.producers none)) c.tell.ensures
+    on_ok_weaker c.tell.result (λ told. ap (λ ps. record v { producers = ps }) (unchanged c.args.number (Takes (turn_of c.args.who)) v.producers none)) c.tell.ensures
 
 pub returns-in-Some-clause-left : goal.returns-in-Some-clause-left
 returns-in-Some-clause-left c =
@@ -29,7 +29,7 @@ pub returns-in-Some-clause-sees : goal.returns-in-Some-clause-sees
 returns-in-Some-clause-sees c =
     let v = view_of c.args.self.now in
     on_ok_weaker c.grants.result
-    (λ told. ap (λ ps. record v { producers = ps }) (c.in_ok-version.ensures.after ∙ ap (λ t. changed c.args.number (Takes t) v.producers) c.ticket_of.ensures)) c.grants.ensures
+    (λ told. ap (λ ps. record v { producers = ps }) (c.in_ok-version.ensures.after ∙ ap (λ t. changed c.args.number (Takes t) v.producers) c.turn_of.ensures)) c.grants.ensures
 
 pub returns-in-None-clause-left : goal.returns-in-None-clause-left
 returns-in-None-clause-left c =
@@ -40,4 +40,4 @@ returns-in-None-clause-left c =
 pub returns-in-None-clause-sees : goal.returns-in-None-clause-sees
 returns-in-None-clause-sees c =
     let v = view_of c.args.self.now in
-    ap (λ ps. record v { producers = ps }) (c.in_ok-version.ensures.after ∙ ap (λ t. changed c.args.number (Takes t) v.producers) c.ticket_of.ensures)
+    ap (λ ps. record v { producers = ps }) (c.in_ok-version.ensures.after ∙ ap (λ t. changed c.args.number (Takes t) v.producers) c.turn_of.ensures)

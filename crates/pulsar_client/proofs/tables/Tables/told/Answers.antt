@@ -5,7 +5,7 @@ use Rattle.pulsar_client.specs.declared.act.Act.TheVariants.{Told}
 use Rattle.pulsar_client.specs.declared.act.Outcome.{Outcome}
 use Rattle.pulsar_client.specs.declared.act.Verdict.{Verdict}
 use Rattle.pulsar_client.specs.declared.act.Who.{Who}
-use Rattle.pulsar_client.specs.declared.act.Who.TheVariants.{Call}
+use Rattle.pulsar_client.specs.declared.act.Who.TheVariants.{Call, Producer}
 use Rattle.pulsar_client.specs.declared.plans.plan.Plan.{Plan}
 use Rattle.pulsar_client.specs.declared.plans.plan.Turn.{Turn}
 use Rattle.pulsar_client.specs.Plan.{told}
@@ -17,6 +17,8 @@ use Rattle.pulsar_client.proofs.tables.Tables.told.Goals as goal
 
 same : (w who : Who) → is_same w who ≡ true → w ≡ who
 same (Call t) (Call u) h = ap (λ n. Call n) (eqb-true t u h)
+same (Producer m) (Producer n) h = ap (λ n. Producer n) (eqb-true m n h)
+same _ _ h = absurd cc
 
 -- the plan that was taken out stands where its turn leaves it
 stands : (old taken new : Who → Option Plan) (who : Who) (plan : Plan) (o : Outcome) (turn : Turn Plan Verdict) →

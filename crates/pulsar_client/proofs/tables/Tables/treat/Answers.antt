@@ -50,7 +50,7 @@ returns-in-Does-clause-sees c = rw c.in-Does.is c.does.ensures.sees
 
 pub returns-in-Answers-clause-left : goal.returns-in-Answers-clause-left
 returns-in-Answers-clause-left c =
-    rw c.in-Answers.is (on_ok_weaker c.answers.result (λ sees. λ ticketed. nothing_arises (agenda_of c.args.tasks.now)) c.answers.ensures.sees)
+    rw c.in-Answers.is (on_ok_weaker c.answers.result (λ left. λ ticketed. left) c.answers.ensures.left)
 
 pub returns-in-Answers-clause-sees : goal.returns-in-Answers-clause-sees
 returns-in-Answers-clause-sees c = rw c.in-Answers.is c.answers.ensures.sees

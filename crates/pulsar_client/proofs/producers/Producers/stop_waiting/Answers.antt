@@ -6,11 +6,11 @@ use Rattle.std.specs.Ordering.{nat_cmp}
 use Rattle.pulsar_client.specs.Producers.{waiting_at}
 use Rattle.pulsar_client.specs.Rules.{stopped_one}
 use Rattle.pulsar_client.proofs.Grown.{flat_map_end}
-use Rattle.pulsar_client.proofs.producers.Producers.stop.Goals as goal
+use Rattle.pulsar_client.proofs.producers.Producers.stop_waiting.Goals as goal
 
 pub loop-number-preserved : goal.loop-number-preserved
 loop-number-preserved c =
-    let waits = λ (n : ℕ). waiting_at (get nat_cmp c.args.self.now.topics n) in
+    let waits = λ (n : ℕ). waiting_at n (get nat_cmp c.args.self.now.topics n) in
     let before = c.args.notices.now.items in
     let ns = c.deref-number-items.result.now in
     let same = c.deref-number-items.ensures.value in

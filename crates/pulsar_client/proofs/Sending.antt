@@ -7,6 +7,7 @@ use Rattle.std.specs.Option.{is_some, option_map}
 use Rattle.pulsar_messages.specs.Content.{ProducerMessageValues}
 use Rattle.pulsar_plans.specs.declared.turn.Ways.{Ways}
 use Rattle.pulsar_producer.specs.Producer as producer
+use Rattle.pulsar_producer.specs.Routing as routing
 use Rattle.pulsar_producer.specs.Storage.{is_batching}
 use Rattle.pulsar_producer.specs.declared.sending.Errand.{Errand}
 use Rattle.pulsar_client.specs.declared.act.Act.{Act}
@@ -56,7 +57,7 @@ same_batches t m ps =
     of_row : (row : Option producer.Seen) → batches_in (option_map (producer.after m) row) ≡ batches_in row
     of_row None = refl
     of_row (Some p) =
-        elim (producer.is_single p) as (λ b. is_batching (cond b p (record p { routes = producer.routed m p.routes })).options ≡ is_batching p.options)
+        elim (producer.is_single p) as (λ b. is_batching (cond b p (record p { routes = routing.routed m p.routes })).options ≡ is_batching p.options)
         [ true ↦ refl | false ↦ refl ]
 
 -- by whether they are sent in batches, where there are an address and a topic producer

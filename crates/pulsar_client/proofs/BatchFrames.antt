@@ -214,9 +214,11 @@ then_framed o log a run k = λ n p h. plan_more o log (Then a) n p (λ calm. ref
 framed_run : (o : Options) (log : List Entry) → IsRun o log → Every (Framed o) log
 framed_run o [] run = λ n p h. absurd (none_some h)
 framed_run o (Begins e ∷ log) run =
-    let k = framed_run o log run.0 in
-    (λ n p h. plan_more o log (Begins e) n p (λ calm. refl)
-    (here (Framed o) log k n p (sym (begun_same (λ v. v.stand (Producer n)) e (view o log) refl) ∙ h)), k)
+    let k = framed_run o log run.0 in (
+      λ n p h. plan_more o log (Begins e) n p (λ calm. refl)
+          (here (Framed o) log k n p (sym (begun_same (λ v. v.stand (Producer n)) e (view o log) refl) ∙ h)),
+      k,
+    )
 framed_run o (Then a ∷ log) run = let k = framed_run o log run.0 in (then_framed o log a run k, k)
 
 -- AS IT DOES SOMETHING within a send

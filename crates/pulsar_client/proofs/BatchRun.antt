@@ -620,8 +620,11 @@ one_by_one o log older n u batching.Settling there run p s t =
       ap (under_way o n) there ∙ d.1,
       (
         d.2,
-        inr (d.3, there ∙ ap (λ x. Then (Told (notice (Producer n) x)) ∷ older) d.0
-            ∙ ap (λ x. Then (Told (notice (Producer n) (outcome.Granted news.Done))) ∷ x) d.4),
+        inr (
+          d.3,
+          there ∙ ap (λ x. Then (Told (notice (Producer n) x)) ∷ older) d.0
+              ∙ ap (λ x. Then (Told (notice (Producer n) (outcome.Granted news.Done))) ∷ x) d.4,
+        ),
       ),
     )
 

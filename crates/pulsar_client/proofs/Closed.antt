@@ -53,12 +53,12 @@ map_in f x [] h = absurd h
 map_in f x (y ∷ xs) (inl e) = inl (ap f e)
 map_in f x (y ∷ xs) (inr h) = inr (map_in f x xs h)
 
-append_left : {A : Type 0} (x : A) (xs ys : List A) → In x xs → In x (xs ++ ys)
+pub append_left : {A : Type 0} (x : A) (xs ys : List A) → In x xs → In x (xs ++ ys)
 append_left x [] ys h = absurd h
 append_left x (y ∷ xs) ys (inl e) = inl e
 append_left x (y ∷ xs) ys (inr h) = inr (append_left x xs ys h)
 
-append_right : {A : Type 0} (x : A) (xs ys : List A) → In x ys → In x (xs ++ ys)
+pub append_right : {A : Type 0} (x : A) (xs ys : List A) → In x ys → In x (xs ++ ys)
 append_right x [] ys h = h
 append_right x (y ∷ xs) ys h = inr (append_right x xs ys h)
 

@@ -510,15 +510,15 @@ topics_on o log k a run n row h = elim (row_from (view o log) a n row h) [
         omega (arith, c),
       ))
   | inr j ↦ (let is_call : j.who ≡ Call (rank j.who).1 =
-    who_call o log j.who j.verdict j.building j.makes (subst (λ (x : Act). IsRun o (Then x ∷ log)) j.is_act run) in (
-    subst (λ (x : Act). drew o n (Then x ∷ log) ≡ Some (Call row.owner)) (sym j.is_act)
-        (owned_in (λ m. drew o m log ≡ Some j.who) n j.verdict.makes j.building j.makes
-        (joins_own o log k j.who j.verdict (subst (λ (x : Act). IsRun o (Then x ∷ log)) j.is_act run)) j.is_new.listed
-        ∙ ap Some is_call
-        ∙ ap (λ x. Some (Call x.owner)) j.is_new.is_it),
-    (let one : end_of row.owner (Answers j.who j.verdict) ≡ 1 = end_self j.who j.verdict row.owner (is_call ∙ ap (λ x. Call x.owner) j.is_new.is_it) in
-        subst (λ (x : Act). 1 ≤ counted (end_of row.owner) (Then x ∷ log)) (sym j.is_act) (omega (arith, one))),
-  ))
+      who_call o log j.who j.verdict j.building j.makes (subst (λ (x : Act). IsRun o (Then x ∷ log)) j.is_act run) in (
+        subst (λ (x : Act). drew o n (Then x ∷ log) ≡ Some (Call row.owner)) (sym j.is_act)
+            (owned_in (λ m. drew o m log ≡ Some j.who) n j.verdict.makes j.building j.makes
+            (joins_own o log k j.who j.verdict (subst (λ (x : Act). IsRun o (Then x ∷ log)) j.is_act run)) j.is_new.listed
+            ∙ ap Some is_call
+            ∙ ap (λ x. Some (Call x.owner)) j.is_new.is_it),
+        (let one : end_of row.owner (Answers j.who j.verdict) ≡ 1 = end_self j.who j.verdict row.owner (is_call ∙ ap (λ x. Call x.owner) j.is_new.is_it) in
+            subst (λ (x : Act). 1 ≤ counted (end_of row.owner) (Then x ∷ log)) (sym j.is_act) (omega (arith, one))),
+      ))
 ]
 
 drawn_begins : (o : Options) (log : List Entry) (e : Heard) → Drawn o log → Drawn o (Begins e ∷ log)

@@ -28,6 +28,9 @@ pub mod BatchTold
 pub mod BatchSent
 pub mod Closed
 pub mod Stores
+pub mod Takers
+pub mod Flushing
+pub mod Settled
 pub mod Keepers
 pub mod Numbering
 pub mod Slow

@@ -58,7 +58,6 @@ use Rattle.pulsar_client.specs.declared.plans.plan.Turn.TheVariants.{Stays, Give
 use Rattle.pulsar_client.specs.declared.plans.plan.Wanted.{Wanted}
 use Rattle.pulsar_client.specs.Plan.{action_of, asks_of, batches_on, begins, builds, fails_in, goes, goes_on_sending, goes_round, gathers, halted, in_asking, in_awaiting, in_finding, in_passing, in_settling, in_stored, in_storing, in_turning, is_answer, is_sent, is_settled, leaves, news_in, news_of, overrides, sends_stay, settled, stands, stored, told, told_at, told_batch, told_of, told_send, told_to, visited, visits, waits, wished}
 use Rattle.pulsar_client.proofs.Acts.{Each}
-
 use Rattle.std.proofs.Common.{◌∙◌, sym, ap, subst, inl, inr, ◌+◌, drop, length, ◌++◌}
 use Rattle.std.specs.Option.{is_some}
 use Rattle.pulsar_run.specs.Laws.{In, InThisStep}
@@ -262,7 +261,6 @@ told_none (Shutting ns) u = shut_none ns u
 told_none (Visiting r n left x) u = either_so NoStore (overrides u) _ _ tt (visit_none r n left x u)
 told_none Stopping outcome.Stopped = tt
 told_none Stopping _ = tt
-
 
 abbrev action_in : Action → Turn Plan Verdict → Action
 action_in a (Stays p b) = b

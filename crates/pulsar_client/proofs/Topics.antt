@@ -33,7 +33,7 @@ abbrev pub all_after : List Deed → Seen → Seen
 all_after [] v = v
 all_after (a ∷ h) v = topic.after a (all_after h v)
 
-seen_more : (s : Setup) (as' h : List Deed) → topic.seen s (as' ++ h) ≡ all_after as' (topic.seen s h)
+pub seen_more : (s : Setup) (as' h : List Deed) → topic.seen s (as' ++ h) ≡ all_after as' (topic.seen s h)
 seen_more s [] h = refl
 seen_more s (a ∷ as') h = ap (topic.after a) (seen_more s as' h)
 
@@ -122,10 +122,10 @@ module _ (o : Options) (log : List Entry) (k : Every (Drawn o) log) (n : ℕ) (t
 
 -- ALONG A LOG
 
-none_acts : (o : Options) (log : List Entry) (n : ℕ) (a : Act) → (view o log).producers.topics n ≡ None → acts_on o n (Then a ∷ log) ≡ []
+pub none_acts : (o : Options) (log : List Entry) (n : ℕ) (a : Act) → (view o log).producers.topics n ≡ None → acts_on o n (Then a ∷ log) ≡ []
 none_acts o log n a h = ap (λ r. cond (is_some r) (topic_acts (view o log) n a ++ acts_on o n log) []) h
 
-some_acts : (o : Options) (log : List Entry) (n : ℕ) (a : Act) (t : Topic) → (view o log).producers.topics n ≡ Some t →
+pub some_acts : (o : Options) (log : List Entry) (n : ℕ) (a : Act) (t : Topic) → (view o log).producers.topics n ≡ Some t →
     acts_on o n (Then a ∷ log) ≡ topic_acts (view o log) n a ++ acts_on o n log
 some_acts o log n a t h = ap (λ r. cond (is_some r) (topic_acts (view o log) n a ++ acts_on o n log) []) h
 

@@ -958,9 +958,9 @@ module _ (o : Options) (log : List Entry) (who : Who) (n : ℕ) (run : IsRun o (
       last_turns = record {
         calls = pass_step
             (λ u. (let p = pends_next (Call u) in
-                let z : turn_note (Call u) note ≡ 0 = last_not u in
-                let f : pending o log (Call u) ≤ 1 = k.calls.few u in
-                omega (arith, p, z, f)))
+            let z : turn_note (Call u) note ≡ 0 = last_not u in
+            let f : pending o log (Call u) ≤ 1 = k.calls.few u in
+            omega (arith, p, z, f)))
             (λ u one. inl (let p = pends_next (Call u) in let z : turn_note (Call u) note ≡ 0 = last_not u in omega (arith, p, z, one)));
         own = record {
           held = λ m j p h d. elim (cases_Bool (is_same (Producer m) (Producer n))) [

@@ -2,36 +2,42 @@
 use Rattle.std.specs.Prelude.{◌≡◌, ◌⊎◌, ℕ, ◌+◌, ◌≤◌, ◌&&◌, Bool, true, false, if◌then◌else◌, List, [], ◌∷◌, ◌++◌, length, map, Option, Some, None, Result, Ok, Err}
 use Rattle.pulsar_run.specs.Laws.{In, InThisStep}
 use Rattle.pulsar_frame.specs.Batch.{EntryValues}
+use Rattle.pulsar_wire.specs.Row.{Values, spelling}
+use Rattle.pulsar_wire.specs.Rows.{send_receipt}
 use Rattle.pulsar_wire.specs.declared.key.RequestKey.TheVariants as key
 use Rattle.pulsar_messages.specs.Content.{ProducerMessageValues}
 use Rattle.pulsar_messages.specs.Words as words
 use Rattle.pulsar_session.specs.Failures.{Failure}
 use Rattle.pulsar_link.specs.Messages.{Reply, is_body}
 use Rattle.pulsar_producer.specs.Batch.{batch_of, cut_report, entries_in, entry_of, failed, member_of, receipt_fate, reports}
+use Rattle.pulsar_producer.specs.BatchLaws.{items_of, joined, taken_of}
 use Rattle.pulsar_producer.specs.Message.{with_version}
-use Rattle.pulsar_producer.specs.Storage.{Item}
+use Rattle.pulsar_producer.specs.Storage.{Item, Flush}
+use Rattle.pulsar_producer.specs.Topic.{Setup, seen}
 use Rattle.pulsar_producer.specs.declared.batch.Fate.{Fate}
 use Rattle.pulsar_producer.specs.declared.batch.Fate.TheVariants as fate
 use Rattle.pulsar_producer.specs.declared.batching.Batching.{Batching}
 use Rattle.pulsar_producer.specs.declared.batching.Batching.TheVariants as batching
 use Rattle.pulsar_producer.specs.declared.deed.News.TheVariants as news
 use Rattle.pulsar_client.specs.declared.act.Act.{Act}
-use Rattle.pulsar_client.specs.declared.act.Act.TheVariants.{Comes, Starts, Told, Does}
+use Rattle.pulsar_client.specs.declared.act.Act.TheVariants.{Answers, Comes, Starts, Told, Does}
 use Rattle.pulsar_client.specs.declared.act.Action.TheVariants.{Ask, Shut, Store, TakeBatch, TellAll}
+use Rattle.pulsar_client.specs.declared.act.Makes.TheVariants.{Nothing}
 use Rattle.pulsar_client.specs.declared.act.Notice.{Notice}
 use Rattle.pulsar_client.specs.declared.act.Outcome.{Outcome}
 use Rattle.pulsar_client.specs.declared.act.Outcome.TheVariants as outcome
 use Rattle.pulsar_client.specs.declared.act.Procedure.TheVariants as procedure
 use Rattle.pulsar_client.specs.declared.act.Share.{Share}
+use Rattle.pulsar_client.specs.declared.act.Verdict.{Verdict}
 use Rattle.pulsar_client.specs.declared.act.Who.{Who}
 use Rattle.pulsar_client.specs.declared.act.Who.TheVariants.{Call, Producer}
 use Rattle.pulsar_client.specs.declared.plans.plan.Plan.{Plan}
 use Rattle.pulsar_client.specs.declared.plans.plan.Plan.TheVariants as plan
 use Rattle.pulsar_client.specs.declared.producers.Topic.{Topic}
-use Rattle.pulsar_client.specs.Content.{Asked, sent_by}
-use Rattle.pulsar_client.specs.Laws.{AreActs}
-use Rattle.pulsar_client.specs.Plan.{closed_notice, overrides, told_to}
-use Rattle.pulsar_client.specs.ProducerLaws.{asks_in, is_queued}
+use Rattle.pulsar_client.specs.Content.{Asked, Failed, Receipt, sent_by}
+use Rattle.pulsar_client.specs.Laws.{AreActs, started}
+use Rattle.pulsar_client.specs.Plan.{closed_notice, overrides, told_to, verdict}
+use Rattle.pulsar_client.specs.ProducerLaws.{acts_on, asks_in, is_queued}
 use Rattle.pulsar_client.specs.Producers.{is_bare, next_batch_at, numbers_at, stored_at}
 use Rattle.pulsar_client.specs.Rules.{call_part, notice, ready_notice}
 use Rattle.pulsar_client.specs.Run.{Entry, Begins, Then, IsRun, Rests, view}
@@ -140,3 +146,27 @@ abbrev pub StoredAtOnce : Type 0
 StoredAtOnce = (o : Options) (log : List Entry) (t n : ℕ) (x : EntryValues) → IsRun o (Then (Does (Call t) (Store n x)) ∷ log) →
     (share : Option Share) × (older : List Entry) × (log ≡ Then (Starts (Call t) (procedure.Store n share x)) ∷ older)
     × InThisStep (BringsEntry o x) older
+
+-- a topic producer tells a call the receipt of its message, with all who are in the batch (MembersAreTold)
+abbrev pub TellsReceipt : (ticket : ℕ) → Values send_receipt → Entry → List Entry → Type 0
+TellsReceipt t r e older =
+    (n : ℕ) × (ns : List Notice) × (e ≡ Then (Does (Producer n) (TellAll ns))) × In (notice (Call t) (outcome.Settled (Ok r))) ns
+
+-- The call of a message that is stored fails, or it ends with the receipt that it is told of its batch.
+abbrev pub StoredEndsByItsBatch : Type 0
+StoredEndsByItsBatch = (o : Options) (log : List Entry) (t n : ℕ) (share : Option Share) (x : EntryValues) (v : Verdict) →
+    IsRun o (Then (Answers (Call t) v) ∷ log) → started (Call t) log ≡ Some (procedure.Store n share x) →
+    ((f : Failure) × (v ≡ verdict Nothing (Failed f)))
+    ⊎ ((r : Values send_receipt) × (older : List Entry) × (v ≡ verdict Nothing (Receipt (spelling send_receipt r)))
+    × (log ≡ Then (Told (notice (Call t) (outcome.Settled (Ok r)))) ∷ older) × InThisStep (TellsReceipt t r) older)
+
+-- FLUSHES
+
+-- A flush ends its batch, with which it is told. All that its topic producer stored before it stands in that batch, or in those that were taken
+-- before, and told (BatchesOneByOne): what waits still, cut or not, was stored behind it.
+abbrev pub FlushesWait : Type 0
+FlushesWait = (o : Options) (log : List Entry) (n t : ℕ) (ns : List Notice) (items : List Item) →
+    IsRun o (Then (Does (Producer n) (TellAll ns)) ∷ log) → under_way o n log ≡ Some items → In (Flush t) items →
+    (s : Setup) × (row : Topic) × (before : List (List Item)) × (left : List Item) × ((view o log).producers.topics n ≡ Some row)
+    × (row.seen ≡ seen s (acts_on o n log)) × (items ≡ left ++ Flush t ∷ []) × (taken_of s (acts_on o n log) ≡ before ++ items ∷ [])
+    × (items_of s (acts_on o n log) ≡ joined before ++ (items ++ (joined row.seen.cut ++ row.seen.storage.items)))

@@ -1,21 +1,28 @@
 -- What arises at once, by its kind, and which acts give rise to it. A further kind of act or action is told of here, and nowhere else.
-use Rattle.std.proofs.Common.{◌≡◌, ℕ, ◌+◌, List, ◌∷◌, refl, Bool, true, false, Option, Some, None, []}
+use Rattle.std.proofs.Common.{◌≡◌, ℕ, ◌+◌, List, ◌∷◌, refl, Bool, true, false, Option, Some, None, [], map}
 use Rattle.std.specs.Option.{option_to_list}
 use Rattle.pulsar_plans.specs.Address.{Place, address_key, is_reachable}
 use Rattle.pulsar_plans.specs.declared.making.Command.{Command}
+use Rattle.pulsar_plans.specs.declared.turn.Ways.{Ways}
+use Rattle.pulsar_producer.specs.Storage.{is_batching}
+use Rattle.pulsar_producer.specs.declared.content.Built.{Built}
+use Rattle.pulsar_client.specs.declared.content.Building.{Building}
 use Rattle.pulsar_client.specs.declared.act.Act.{Act}
 use Rattle.pulsar_client.specs.declared.act.Act.TheVariants.{Comes, Starts, Told, Does, Answers, Dials}
 use Rattle.pulsar_client.specs.declared.act.Action.{Action}
-use Rattle.pulsar_client.specs.declared.act.Action.TheVariants.{Get, Wait, TakeTurn, Recall, Find, StopAll, Rest}
+use Rattle.pulsar_client.specs.declared.act.Action.TheVariants.{Get, Wait, TakeTurn, Recall, Find, Flush, StopAll, Rest}
 use Rattle.pulsar_client.specs.declared.act.Alarm.{Alarm}
-use Rattle.pulsar_client.specs.declared.act.Alarm.TheVariants.{Retry, Wake, KeepAlive, CheckIdle}
+use Rattle.pulsar_client.specs.declared.act.Alarm.TheVariants.{Retry, Wake, Batch, KeepAlive, CheckIdle}
 use Rattle.pulsar_client.specs.declared.act.Arrival.{Arrival}
 use Rattle.pulsar_client.specs.declared.act.Arrival.TheVariants.{Bad}
 use Rattle.pulsar_client.specs.declared.act.End.TheVariants.{Broken, Idles, Stops}
 use Rattle.pulsar_client.specs.declared.act.LinkAct.TheVariants.{Reads, Pings, Ends}
 use Rattle.pulsar_client.specs.declared.act.Part.TheVariants.{Calls, ToLink, Rings}
+use Rattle.pulsar_client.specs.declared.act.Makes.{Makes}
+use Rattle.pulsar_client.specs.declared.act.Makes.TheVariants as makes
 use Rattle.pulsar_client.specs.declared.act.Verdict.{Verdict}
 use Rattle.pulsar_client.specs.declared.act.Who.{Who}
+use Rattle.pulsar_client.specs.declared.act.Who.TheVariants.{Call, Producer}
 use Rattle.pulsar_client.specs.declared.addresses.Pause.{Pause}
 use Rattle.pulsar_client.specs.declared.addresses.Series.{Series}
 use Rattle.pulsar_client.specs.declared.addresses.Series.TheVariants.{Nobody, Runs, Pauses, Serves}
@@ -26,17 +33,18 @@ use Rattle.pulsar_client.specs.declared.producers.Topic.{Topic}
 use Rattle.pulsar_client.specs.Alarms.{rings}
 use Rattle.pulsar_client.specs.Content.{Asked, shares}
 use Rattle.pulsar_client.specs.Plan.{begins}
-use Rattle.pulsar_client.specs.Producers.{link_at, recalled, turn_taken}
-use Rattle.pulsar_client.specs.Rules.{at_once, breaks_at, called, does, finds, follows, follows_some, gets_from, grants, idle_act, is_idle, keeps_alive, may_ping, over_links, performs, recalls, rung, stop_act, takes_turn, tells, tries_again}
-use Rattle.pulsar_client.specs.View.{Seat, View, arrival_at, told_some}
+use Rattle.pulsar_client.specs.Producers.{is_settled_at, link_at, recalled, turn_taken}
+use Rattle.pulsar_client.specs.Rules.{at_once, batches_by, batches_from, batches_made, breaks_at, called, does, finds, flushes_at, follows, follows_some, gets_from, grants, idle_act, is_idle, keeps_alive, left_with, may_ping, over_links, performs, recalls, rung, stop_act, takes_turn, tells, tries_again}
+use Rattle.pulsar_client.specs.View.{Seat, View, arrival_at, told_some, ways_of}
 use Rattle.pulsar_producer.specs.declared.deed.News.TheVariants as news
 use Rattle.pulsar_client.specs.declared.act.Outcome.TheVariants as outcome
 use Rattle.pulsar_client.proofs.Acts.{Each, StartsIn, called_each, each_append, each_either, each_flat, over_each}
 
--- a plan begins, does something, or ends; one is told something; an attempt begins; a link ends by what came on it, for want of use or
+-- the plan of a call begins, or that of a topic producer's batches; one does something, or ends; one is told something; an attempt begins; a link ends by what came on it, for want of use or
 -- with the client, or is asked for a sign of life; and what never arises at once
 pub data Kind : Type 0 where
   OfStart : Kind
+  OfBatches : Kind
   OfDeed : Kind
   OfVerdict : Kind
   OfNotice : Kind
@@ -48,7 +56,8 @@ pub data Kind : Type 0 where
   OfPart : Kind
 
 abbrev pub kind : Act → Kind
-kind (Starts who p) = OfStart
+kind (Starts (Call t) p) = OfStart
+kind (Starts (Producer n) p) = OfBatches
 kind (Does who action) = OfDeed
 kind (Answers who verdict) = OfVerdict
 kind (Told n) = OfNotice
@@ -62,6 +71,7 @@ kind (Comes part) = OfPart
 -- an act may give rise to this
 abbrev pub may : Kind → Act → Bool
 may OfStart (Comes (Calls asked advice)) = true
+may OfBatches (Answers who verdict) = true
 may OfDeed (Starts who p) = true
 may OfDeed (Told n) = true
 may OfVerdict (Comes (Calls asked advice)) = true
@@ -82,7 +92,7 @@ IsRaised a b = may (kind b) a ≡ true
 -- CALLS
 
 call_raised : (asked : Asked) (advice : List (Option ℕ)) (from to : ℕ) (a : Act) → StartsIn from to a → IsRaised (Comes (Calls asked advice)) a
-call_raised asked advice from to (Starts who p) k = refl
+call_raised asked advice from to (Starts (Call t) p) k = refl
 call_raised asked advice from to _ k = absurd k
 
 called_raised : (v : View) (advice : List (Option ℕ)) (asked : Asked) → Each (IsRaised (Comes (Calls asked advice))) (called v advice asked)
@@ -134,6 +144,8 @@ performs_raised v who (Wait delay) = tt
 performs_raised v who (TakeTurn n) = takes_raised who n (v.producers.topics n)
 performs_raised v who (Recall n) = recalls_raised who n (recalled v.producers n)
 performs_raised v who (Find n) = finds_raised who n (link_at (v.producers.topics n))
+performs_raised v who (Flush n) =
+    each_either (IsRaised (Does who (Flush n))) (is_settled_at (v.producers.topics n)) (grants who news.Done) [] (refl, tt) tt
 performs_raised v who StopAll =
     each_append (IsRaised (Does who StopAll)) (over_links stop_act v.links) (tells who outcome.Stopped)
     (over_each (IsRaised (Does who StopAll)) stop_act v.links (λ l seat. (refl, tt))) (refl, tt)
@@ -159,8 +171,25 @@ idle_raised v l seat = each_either (IsRaised (Comes (Rings CheckIdle))) (is_idle
 rung_raised : (v : View) (a : Alarm) → Each (IsRaised (Comes (Rings a))) (rung v a)
 rung_raised v (Retry l) = tries_raised l (v.addresses.pause l)
 rung_raised v (Wake who) = tt
+rung_raised v (Batch n) = tt
 rung_raised v (KeepAlive l) = keeps_raised l (v.links.live l)
 rung_raised v CheckIdle = over_each (IsRaised (Comes (Rings CheckIdle))) (idle_act v) v.links (idle_raised v)
+
+-- WHAT A VERDICT LEAVES BEHIND
+
+batches_raised : (who : Who) (verdict : Verdict) (ways : Ways) (block : Bool) (bs : List Built) →
+    Each (IsRaised (Answers who verdict)) (map (batches_by ways block) bs)
+batches_raised who verdict ways block [] = tt
+batches_raised who verdict ways block (b ∷ bs) = (refl, batches_raised who verdict ways block bs)
+
+from_each : (who : Who) (verdict : Verdict) (ways : Option Ways) (b : Building) → Each (IsRaised (Answers who verdict)) (batches_from ways b)
+from_each who verdict None b = tt
+from_each who verdict (Some ways) b = batches_raised who verdict ways b.settings.block_queue_if_full b.parts
+
+left_raised : (who : Who) (verdict : Verdict) (ways : Option Ways) (m : Makes) → Each (IsRaised (Answers who verdict)) (left_with ways m)
+left_raised who verdict ways (makes.Producer b) =
+    each_either (IsRaised (Answers who verdict)) (is_batching b.settings) (batches_from ways b) [] (from_each who verdict ways b) tt
+left_raised who verdict ways _ = tt
 
 -- ALL
 
@@ -171,4 +200,5 @@ raises v (Comes (Rings a)) = each_either (IsRaised (Comes (Rings a))) (rings v.n
 raises v (Starts who p) = follows_raised (Starts who p) who (begins p) refl refl
 raises v (Told n) = some_raised (Told n) n.who (told_some (v.stand n.who) n.outcome) refl refl
 raises v (Does who action) = performs_raised v who action
+raises v (Answers who verdict) = left_raised who verdict (ways_of v.chosen) verdict.makes
 raises v _ = tt

@@ -1,19 +1,25 @@
 -- Sends: refused or made, and several of them one after the other.
 use Rattle.std.proofs.Common.{◌≡◌, ◌∙◌, ap, sym, ℕ, ◌+◌, arith, Bool, true, false, cond, List, [], ◌∷◌, ◌++◌, refl, drop, length, map, zero, suc, Option, Some, None}
 use Rattle.std.proofs.Math.Seq.{drop-nil}
+use Rattle.std.proofs.lemmas.Bool.{eq-eqb}
 use Rattle.std.proofs.lemmas.List.{length-map, map-append}
-use Rattle.std.specs.Option.{is_some}
+use Rattle.std.specs.Option.{is_some, option_map}
 use Rattle.pulsar_messages.specs.Content.{ProducerMessageValues}
+use Rattle.pulsar_plans.specs.declared.turn.Ways.{Ways}
+use Rattle.pulsar_producer.specs.Producer as producer
+use Rattle.pulsar_producer.specs.Storage.{is_batching}
+use Rattle.pulsar_producer.specs.declared.sending.Errand.{Errand}
 use Rattle.pulsar_client.specs.declared.act.Act.{Act}
 use Rattle.pulsar_client.specs.declared.act.Act.TheVariants.{Starts}
 use Rattle.pulsar_client.specs.declared.act.Procedure.{Procedure}
 use Rattle.pulsar_client.specs.declared.act.Procedure.TheVariants as procedure
 use Rattle.pulsar_client.specs.declared.act.Refusal.{Refusal}
 use Rattle.pulsar_client.specs.declared.act.Refusal.TheVariants as refusal
+use Rattle.pulsar_client.specs.declared.act.Share.{Share}
 use Rattle.pulsar_client.specs.declared.act.Who.TheVariants.{Call}
 use Rattle.pulsar_client.specs.Content.{SendAll}
-use Rattle.pulsar_client.specs.Producers.{Producers, all_routed, next_advice, routed, sent_on, why_not}
-use Rattle.pulsar_client.specs.Rules.{parts_of, sends_as, share, shares_of, shares_unless, unless}
+use Rattle.pulsar_client.specs.Producers.{Producers, all_routed, batches_in, next_advice, routed, sent_on, why_not}
+use Rattle.pulsar_client.specs.Rules.{parts_of, sends_as, sends_by, sends_with, share, shares_of, shares_unless, unless}
 use Rattle.pulsar_client.specs.View.{Chosen, View, may_call}
 
 -- REFUSED OR MADE
@@ -39,6 +45,24 @@ pub parts_all : (v : View) (advice : List (Option ℕ)) (t : ℕ) (ms : List Pro
     shares_of v.chosen v.producers v.calls.drawn (v.calls.drawn + 1) advice t ms ≡ parts_of v advice (SendAll t ms)
 parts_all v advice t ms allowed h =
     sym (ap (λ b. shares_unless (cond b (why_not v.producers t) (Some refusal.Shutdown)) v advice t ms) allowed ∙ ap (λ x. shares_unless x v advice t ms) h)
+
+-- BATCHED OR ALONE
+
+-- a producer that has routed a message sends batches as before
+pub same_batches : (t : ℕ) (m : ProducerMessageValues) (ps : Producers) → batches_in ((routed t m ps).built t) ≡ batches_in (ps.built t)
+same_batches t m ps =
+    ap (λ b. batches_in (cond b (option_map (producer.after m) (ps.built t)) (ps.built t))) (eq-eqb t t refl) ∙ of_row (ps.built t)
+  where
+    of_row : (row : Option producer.Seen) → batches_in (option_map (producer.after m) row) ≡ batches_in row
+    of_row None = refl
+    of_row (Some p) =
+        elim (producer.is_single p) as (λ b. is_batching (cond b p (record p { routes = producer.routed m p.routes })).options ≡ is_batching p.options)
+        [ true ↦ refl | false ↦ refl ]
+
+-- by whether they are sent in batches, where there are an address and a topic producer
+pub sent_so : (batches : Bool) (share : Option Share) (m : ProducerMessageValues) (w : Option Ways) (e : Option Errand) (is_batched : Bool) (ways : Ways) (errand : Errand) →
+    batches ≡ is_batched → w ≡ Some ways → e ≡ Some errand → sends_with is_batched ways errand share m ≡ sends_by batches share m w e
+sent_so batches share m w e is_batched ways errand b is so = sym (λ i. sends_by (b i) share m (is i) (so i))
 
 -- ONE AFTER THE OTHER
 

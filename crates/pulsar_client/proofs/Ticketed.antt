@@ -19,7 +19,7 @@ use Rattle.pulsar_client.specs.declared.act.LinkAct.TheVariants.{Reads, Ends}
 use Rattle.pulsar_client.specs.declared.act.Procedure.{Procedure}
 use Rattle.pulsar_client.specs.declared.act.Verdict.{Verdict}
 use Rattle.pulsar_client.specs.declared.act.Who.{Who}
-use Rattle.pulsar_client.specs.declared.act.Who.TheVariants.{Call}
+use Rattle.pulsar_client.specs.declared.act.Who.TheVariants.{Call, Producer}
 use Rattle.pulsar_client.specs.declared.plans.plan.Plan.{Plan}
 use Rattle.pulsar_client.specs.declared.plans.plan.Turn.{Turn}
 use Rattle.pulsar_client.specs.declared.plans.plan.Turn.TheVariants.{Stays, Gives}
@@ -37,13 +37,17 @@ use Rattle.pulsar_client.specs.View.{Options, View, closing, consumer_after, dra
 use Rattle.pulsar_client.specs.Who.{is_same}
 use Rattle.pulsar_client.proofs.Acts.{Each, StartsIn, begun_same, called_each, each_append, each_first, each_map, each_rest, is_served}
 use Rattle.pulsar_client.proofs.Quiet.{IsQuiet, comes_quiet, performs_quiet}
+use Rattle.pulsar_client.proofs.Raising.{IsRaised, raises}
 
--- one whose ticket is not the greatest
+-- a call whose ticket is not the greatest, or another than a call
 abbrev pub Began : Who → Type 0
 Began (Call t) = is_spent t ≡ false
+Began (Producer n) = Unit {0}
 
 same_began : (w who : Who) → is_same w who ≡ true → Began who → Began w
 same_began (Call t) (Call u) h k = subst (λ n. is_spent n ≡ false) (sym (eqb-true t u h)) k
+same_began (Call t) (Producer n) h k = absurd cc
+same_began (Producer m) who h k = tt
 
 -- the greatest ticket is that of another
 pub apart : (w : Who) (n : ℕ) → Began w → is_spent n ≡ true → is_same w (Call n) ≡ false
@@ -51,21 +55,26 @@ apart (Call t) n k h = elim (cases_Bool (t == n)) [
   | inl e ↦ (let f : true ≡ false = sym h ∙ sym (ap is_spent (eqb-true t n e)) ∙ k in absurd cc)
   | inr e ↦ e
 ]
+apart (Producer m) n k h = refl
 
 -- one with such a ticket, which was drawn: so many were
 abbrev IsDrawn : ℕ → Who → Type 0
 IsDrawn n (Call t) = t < n
+IsDrawn n (Producer m) = Unit {0}
 
 abbrev Has : ℕ → Who → Type 0
 Has n who = Began who × IsDrawn n who
 
 same_has : (n : ℕ) (w who : Who) → is_same w who ≡ true → Has n who → Has n w
 same_has n (Call t) (Call u) h k = subst (λ m. Has n (Call m)) (sym (eqb-true t u h)) k
+same_has n (Call t) (Producer m) h k = absurd cc
+same_has n (Producer m) who h k = (tt, tt)
 
 -- what was drawn stays so
 has_more : (a : Act) (n : ℕ) (who : Who) → Has n who → Has (drawn_after a n) who
 has_more (Comes (Calls asked advice)) n (Call t) k =
     (k.0, (let d : t < n = k.1 in elim (lacks_tickets n (shares asked)) as (λ b. t < cond b n (n + 1 + shares asked)) [ true ↦ d | false ↦ omega (arith, d) ]))
+has_more (Comes (Calls asked advice)) n (Producer m) k = (tt, tt)
 has_more _ n who k = k
 
 -- such a one starts, and makes a consumer
@@ -132,6 +141,13 @@ called_due v advice asked =
     IsDue (cond b v.calls.drawn (v.calls.drawn + 1 + shares asked)) a) (sym e)
     (start_due v.calls.drawn (shares asked) e))
 
+-- a verdict leaves only topic producers behind that begin
+left_due : (n : ℕ) (who : Who) (verdict : Verdict) (a : Act) → IsRaised (Answers who verdict) a → IsDue n a
+left_due n who verdict (Starts (Call t) p) h = absurd cc
+left_due n who verdict (Starts (Producer m) p) h = (tt, tt)
+left_due n who verdict (Answers w u) h = absurd cc
+left_due n who verdict _ h = tt
+
 comes_due : (v : View) (p : Part) → Each (IsDue (drawn_after (Comes p) v.calls.drawn)) (at_once v (Comes p))
 comes_due v (Calls asked advice) = called_due v advice asked
 comes_due v p = each_map IsQuiet (IsDue (drawn_after (Comes p) v.calls.drawn)) (at_once v (Comes p)) (quiet_due (drawn_after (Comes p) v.calls.drawn))
@@ -178,6 +194,9 @@ module _ (o : Options) (log : List Entry) (k : IsTicketed o log) where
   arises (Starts who p) is_due = follows_due drawn who (begins p) is_due
   arises (Told n) is_due = some_due drawn n.who ((view o log).stand n.who) n.outcome (λ plan h. k.stands n.who plan h)
   arises (Does who action) is_due = each_map IsQuiet (IsDue drawn) (performs (view o log) who action) (quiet_due drawn) (performs_quiet (view o log) who action)
+  arises (Answers who verdict) is_due =
+      each_map (IsRaised (Answers who verdict)) (IsDue drawn) (at_once (view o log) (Answers who verdict)) (left_due drawn who verdict)
+      (raises (view o log) (Answers who verdict))
   arises _ is_due = tt
 
   from_made : (who : Who) (makes : Makes) → MakesSo drawn who makes → (t : ℕ) (s : Subscription) → made who makes t ((view o log).consumers t) ≡ Some s →

@@ -24,8 +24,12 @@ impl Model for Queue {
     ghost use Rattle.pulsar_run.specs.Order.{InOrder};
     ghost use Rattle.pulsar_client.specs.Rules.{below};
     ghost use Rattle.pulsar_client.specs.declared.act.Notice.{Notice as Meant};
+    ghost use Rattle.pulsar_session.specs.FailureCode.{failure_code};
+    ghost use Rattle.std.specs.Coded.{codes};
 
     ghost Value = { List Meant };
+
+    ghost coded = { Prim.hlevel (codes, failure_code (Prim.hlevel codes)) };
 
     ghost view = { λ i. i.notices.items };
 

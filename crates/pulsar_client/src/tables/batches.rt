@@ -224,7 +224,7 @@ fn join_ready(
     is_ready: bool,
     tasks: &mut Tasks,
 ) -> Result<(), NoMemory>
-    ensures { OnOk result (agenda_of tasks.new ≡ record (agenda_of tasks.old) { here = put_all below (if is_ready then ready_notice number ∷ [] else []) tasks.old.here.items }) }
+    ensures { OnOk result (agenda_of tasks.new ≡ record (agenda_of tasks.old) { here = put_all below (if is_ready then ready_notice number ∷ [] else []) tasks.old.here }) }
 {
     if is_ready {
         tasks.join(ready(alloc, number)?)
@@ -239,7 +239,7 @@ pub(super) fn join_closed(
     tickets: Vec<u64>,
     tasks: &mut Tasks,
 ) -> Result<(), NoMemory>
-    ensures { OnOk result (agenda_of tasks.new ≡ record (agenda_of tasks.old) { here = put_all below (map closed_notice tickets.items) tasks.old.here.items }) }
+    ensures { OnOk result (agenda_of tasks.new ≡ record (agenda_of tasks.old) { here = put_all below (map closed_notice tickets.items) tasks.old.here }) }
 {
     for ticket in tickets {
         tasks.join(closed(alloc, ticket)?)?;

@@ -1,6 +1,6 @@
 -- Where a reading comes to an event, and where it is told.
-use Rattle.std.proofs.Common.{◌≡◌, ℕ, ◌+◌, ◌-◌, ◌≤◌, ◌<◌, ◌∙◌, sym, ap, Bool, true, false, List, [], ◌∷◌, ◌++◌, refl, arith, Option, length, append_assoc, append-nil, length-append}
-use Rattle.std.specs.Prelude.{string_bytes, Result, Ok, Err, OnOk, OnErr}
+use Rattle.std.proofs.Common.{◌≡◌, ℕ, ◌+◌, ◌≤◌, ◌<◌, ◌∙◌, sym, ap, Bool, true, false, List, [], ◌∷◌, ◌++◌, refl, arith, append_assoc, append-nil}
+use Rattle.std.specs.Prelude.{string_bytes}
 use Rattle.pulsar_producer.specs.Routing.{Policy}
 use Rattle.std.specs.declared.alloc.Global.{Global}
 use Rattle.std.specs.declared.dyn_box.DynBox.{DynBox}
@@ -16,8 +16,6 @@ use Rattle.pulsar_cli.specs.Shown.{Awaits, GoesTo, GoesToLast, Going, HasTold, o
 use Rattle.pulsar_cli.specs.Text.{step}
 use Rattle.pulsar_cli.specs.declared.feed.Feed.{Feed}
 use Rattle.pulsar_cli.specs.declared.reading.Reading.{Reading}
-use Rattle.pulsar_cli.specs.declared.stop.Stop.{Stop}
-use Rattle.pulsar_cli.specs.declared.stop.Stop.TheVariants as stop
 use Rattle.pulsar_cli.proofs.Gives.{given, given-whole, left-behind, ran-done}
 use Rattle.pulsar_cli.proofs.Prints.{printed-stopped, run-of, stopped, stopped-front}
 use Rattle.pulsar_cli.proofs.Readings.{reads-step}

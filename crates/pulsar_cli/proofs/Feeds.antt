@@ -4,7 +4,7 @@ use Rattle.std.proofs.lemmas.List.{drop-drop, length-drop, length-take-le}
 use Rattle.std.proofs.Math.Seq.{take-add, take-append_seam}
 use Rattle.pulsar_client.specs.Outside.{Rose, Takes}
 use Rattle.pulsar_cli.specs.Script.{Seen, limit}
-use Rattle.pulsar_cli.specs.Shown.{Fed, Gave, IsFull, unread}
+use Rattle.pulsar_cli.specs.Shown.{Fed, IsFull, unread}
 use Rattle.pulsar_cli.specs.declared.feed.Feed.{Feed}
 use Rattle.pulsar_cli.specs.declared.stop.Stop.TheVariants as stop
 use Rattle.pulsar_cli.proofs.Gives.{gave-more, gave-none, gave-same}

@@ -1,5 +1,5 @@
 -- What a reading has printed, where it goes on and where it stops.
-use Rattle.std.proofs.Common.{◌⊎◌, ◌≡◌, ℕ, ◌+◌, ◌≤◌, ◌∙◌, sym, ap, List, [], ◌∷◌, ◌++◌, refl, arith, Option, Some, None, length, take, drop, append_assoc, append-nil, length-append}
+use Rattle.std.proofs.Common.{◌⊎◌, ◌≡◌, ℕ, ◌+◌, ◌≤◌, ◌∙◌, sym, ap, List, [], ◌∷◌, ◌++◌, refl, arith, Option, length, take, drop, append_assoc, append-nil, length-append}
 use Rattle.std.specs.Prelude.{string_bytes, Result, Ok, Err, OnOk, OnErr, IfErr}
 use Rattle.std.proofs.lemmas.List.{length-drop, length-take-le}
 use Rattle.std.proofs.Math.Seq.{take-length}
@@ -10,7 +10,7 @@ use Rattle.pulsar_client.specs.Run.{Step}
 use Rattle.pulsar_client.specs.View.{Options}
 use Rattle.pulsar_cli.specs.Grammar.{Happens, line as meaning, lines}
 use Rattle.pulsar_cli.specs.Text.{refusal}
-use Rattle.pulsar_cli.specs.Script.{Adds, AddsFront, IsDone, IsRunOf, IsStopped, IsRefused, Printed, blank, script_of, text}
+use Rattle.pulsar_cli.specs.Script.{Adds, AddsFront, IsDone, IsRunOf, IsStopped, IsRefused, Printed, blank, text}
 use Rattle.pulsar_cli.specs.Shown.{Faults, Halts, InTurn, IsLast, IsNoScriptWith, Prints, Reads, Refuses, Refusing, Running, options_in, read_status, said, status_of}
 use Rattle.pulsar_cli.specs.declared.reading.Reading.{Reading}
 use Rattle.pulsar_cli.specs.declared.stop.Stop.{Stop}

@@ -17,8 +17,8 @@ use Rattle.pulsar_cli.specs.WordText.{word}
 use Rattle.pulsar_cli.specs.Choices.{kind as kind_in}
 use Rattle.pulsar_cli.specs.ErrorText.{io_kind}
 use Rattle.pulsar_cli.specs.Grammar.{Setting, Url, Auth, Outbound, Timeout, RetryDelay, OpRetries, Retries, MinBackoff, MaxBackoff, ConnectionTimeout, KeepAlive, MaxIdle, Seed, First, Now, Sets, Happens, line, words_line}
-use Rattle.pulsar_cli.specs.Written.{CanBeAsked, CanBeSet, CanBeWritten, IsCount, written, written_setting}
-use Rattle.pulsar_cli.specs.WrittenRaw.{CanBeMade, CanBeSaid, CanBeSent, IsText, Where, credential_words, message_words, messages_words, mode_word, producer_words, raw_words}
+use Rattle.pulsar_cli.specs.Written.{CanBeAsked, CanBeSet, CanBeWritten, written, written_setting}
+use Rattle.pulsar_cli.specs.WrittenRaw.{CanBeMade, CanBeSaid, CanBeSent, IsCount, IsText, Where, credential_words, message_words, messages_words, mode_word, producer_words, raw_words}
 use Rattle.pulsar_cli.proofs.WrittenLines.{IsWithinWord, one-word, first-word, decimal-within, number-decimal, hex-within, hex-encoded, word-within, text-word}
 use Rattle.pulsar_cli.proofs.WrittenRaw.{credential-reads, credential-within, message-reads, message-said, mode-reads, tested-within, words-behind}
 use Rattle.pulsar_cli.proofs.WrittenAsked.{raw-reads, raw-within}

@@ -1,6 +1,6 @@
 -- How a reading finds its next event.
-use Rattle.std.proofs.Common.{inl, inr, ◌⊎◌, ◌≡◌, ℕ, ◌+◌, ◌-◌, ◌≤◌, ◌<◌, ◌∙◌, sym, ap, subst, Bool, true, false, List, [], ◌∷◌, ◌++◌, refl, arith, Option, Some, None, length, append_assoc, append-nil}
-use Rattle.std.specs.Prelude.{◌↔◌, string_bytes, Result, Ok, Err, IfErr, IfOk, IfSome, MatchOption, MatchResult}
+use Rattle.std.proofs.Common.{inl, inr, ◌⊎◌, ◌≡◌, ℕ, ◌≤◌, ◌∙◌, sym, ap, subst, Bool, true, false, List, [], ◌++◌, refl, arith, Option, Some, None, length, append_assoc, append-nil}
+use Rattle.std.specs.Prelude.{string_bytes, Result, Ok, Err, IfErr, IfOk, IfSome, MatchOption, MatchResult}
 use Rattle.pulsar_producer.specs.Routing.{Policy}
 use Rattle.pulsar_client.specs.Outside.{Rose}
 use Rattle.pulsar_client.specs.Content.{Heard, heard}
@@ -8,7 +8,7 @@ use Rattle.pulsar_client.specs.declared.event.Event.{Event}
 use Rattle.pulsar_client.specs.Run.{Step}
 use Rattle.pulsar_client.specs.View.{Options}
 use Rattle.pulsar_cli.specs.Script.{Adds, AddsFront, IsDone, Seen, limit}
-use Rattle.pulsar_cli.specs.Shown.{Awaits, Faults, Fed, Gave, GoesTo, GoesToLast, Going, Halts, HasConsumed, HasFound, HasRead, InTurn, IsAtEnd, IsFull, IsLast, Prints, Refuses, Running, status_of, unread}
+use Rattle.pulsar_cli.specs.Shown.{Awaits, Faults, Fed, Gave, GoesTo, Going, Halts, HasConsumed, HasFound, HasRead, InTurn, IsAtEnd, IsFull, IsLast, Prints, Refuses, Running, status_of, unread}
 use Rattle.pulsar_cli.specs.declared.feed.Feed.{Feed}
 use Rattle.pulsar_cli.specs.declared.feed.Next.{Next}
 use Rattle.pulsar_cli.specs.declared.reading.Reading.{Reading}

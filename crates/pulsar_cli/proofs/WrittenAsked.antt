@@ -1,5 +1,5 @@
 -- What is asked of one connection is read back.
-use Rattle.std.proofs.Common.{◌≡◌, ◌^◌, ◌<◌, ◌∷◌, arith, codes, refl, Some}
+use Rattle.std.proofs.Common.{◌≡◌, ◌^◌, ◌<◌, arith, codes, refl, Some}
 use Rattle.std.specs.List.{AllByRecursion}
 use Rattle.pulsar_messages.specs.Words.{Words, SendPing, SendPong, AuthChallenge, LookupTopic, LookupPartitionedTopic, GetTopicsOfNamespace, GetSchema, CreateProducer, Send, CloseProducer, Subscribe, SendFlow, SendAck, SendRedeliver, Seek, GetLastMessageId, GetConsumerStats, Unsubscribe, CloseConsumer, CloseConsumerUnawaited}
 use Rattle.pulsar_cli.specs.RawLines.{raw_call}

@@ -1,5 +1,5 @@
 -- Messages with a `/` between two are read back.
-use Rattle.std.proofs.Common.{◌≡◌, ℕ, ◌<◌, ◌∙◌, ap, sym, List, [], ◌∷◌, ◌++◌, refl, arith, false, map, Option, Some, length, codes, append_assoc}
+use Rattle.std.proofs.Common.{◌≡◌, ℕ, ◌<◌, ◌∙◌, ap, List, [], ◌∷◌, ◌++◌, refl, arith, false, map, Some, length, codes, append_assoc}
 use Rattle.std.specs.List.{All as Each, AllByRecursion, slice_split}
 use Rattle.std.specs.Option.{option_to_list}
 use Rattle.std.specs.Str.{bytes_eq}

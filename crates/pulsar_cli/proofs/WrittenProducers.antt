@@ -1,5 +1,5 @@
 -- What is said of a producer is read back.
-use Rattle.std.proofs.Common.{◌≡◌, ◌==◌, ℕ, ℤ, pos, negsuc, ◌+◌, ◌^◌, ◌<◌, ◌∙◌, sym, ap, subst, List, [], ◌∷◌, ◌++◌, refl, arith, Bool, true, false, map, Option, Some, None, length, codes, append-nil, append_assoc}
+use Rattle.std.proofs.Common.{◌≡◌, ◌==◌, ℕ, ℤ, pos, negsuc, ◌^◌, ◌<◌, ◌∙◌, sym, ap, List, [], ◌∷◌, ◌++◌, refl, arith, Bool, true, false, map, Option, Some, None, length, codes, append-nil, append_assoc}
 use Rattle.std.specs.Cmp.Lexicographic.{slice_cmp}
 use Rattle.std.specs.Fmt.{decimal}
 use Rattle.std.specs.List.{AllByRecursion}
@@ -9,7 +9,7 @@ use Rattle.std.specs.Ordering.{nat_cmp}
 use Rattle.std.proofs.lemmas.Bool.Decides.{nat_tests}
 use Rattle.std.proofs.lemmas.List.Elements.{All-append}
 use Rattle.std.proofs.lemmas.Option.{none-some}
-use Rattle.hex.specs.Hex.{IsBytes, encode_lower}
+use Rattle.hex.specs.Hex.{encode_lower}
 use Rattle.pulsar_wire.specs.Field.{◌>>=◌}
 use Rattle.pulsar_wire.specs.Row.{Values, reading, spelling, varint_in}
 use Rattle.pulsar_wire.specs.Rows as rows
@@ -18,9 +18,9 @@ use Rattle.pulsar_messages.specs.Content.{ProducerOptionsValues, Property, empty
 use Rattle.pulsar_messages.specs.declared.routing_policy.RoutingPolicy.{RoutingPolicy}
 use Rattle.pulsar_messages.specs.declared.routing_policy.RoutingPolicy.TheVariants.{RoundRobin, Single, Custom}
 use Rattle.pulsar_producer.specs.Wanted.{ProducerWanted}
-use Rattle.pulsar_cli.specs.ProducerWords.{Draft, all, blank, one, options, options_in, policy, producer, schema_of, signed_32, with_meta, with_options}
+use Rattle.pulsar_cli.specs.ProducerWords.{Draft, all, blank, one, options, options_in, policy, producer, schema_of, signed_32, unsigned_32, with_meta, with_options}
 use Rattle.pulsar_cli.specs.WordText.{word}
-use Rattle.pulsar_cli.specs.WrittenRaw.{CanBeMade, IsMode, IsNumber, IsPolicy, IsProperty, IsSchema, IsText, Where, block_words, flag_word, meta_word, option_words, policy_word, producer_words, signed_word}
+use Rattle.pulsar_cli.specs.WrittenRaw.{CanBeMade, IsCount, IsMode, IsNumber, IsPolicy, IsProperty, IsSchema, IsText, Where, block_words, flag_word, meta_word, option_words, policy_word, producer_words, signed_word}
 use Rattle.pulsar_cli.proofs.WrittenLines.{IsWithinWord, decimal-within, hex-encoded, hex-within, number-decimal, same-some, text-word, word-within}
 use Rattle.pulsar_cli.proofs.WrittenRaw.{AreBelow, NoEquals, all-both, all-map, cut-at, flag-reads, flag-within, front-within, more-below, none-below, stands-last, tested-within, word-free}
 
@@ -63,6 +63,34 @@ name-reads d None can none = record { is = ap (λ o. Some (record d { wanted = r
 name-reads d (Some t) can none =
     say-word d _ (codes "name=" ++ word t) (front-within (codes "name=") (word t) refl (word-within t can.0))
     (rw (cut-at (codes "name") (word t) (refl, (refl, (refl, (refl, tt)))), none, text-word t can.0 can.1) refl)
+
+counted : (n : ℕ) → IsCount n → unsigned_32 n ≡ Some n
+counted n lt = grind (arith, nat_tests)
+
+batch-reads : (d : Draft) (o : Option ℕ) → Where IsCount o → d.wanted.options.batch_size ≡ None →
+    Say (map (λ n. codes "batch=" ++ decimal n) (option_to_list o)) d (with_options d (record d.wanted.options { batch_size = o }))
+batch-reads d None can none = record { is = ap (λ o. Some (with_options d (record d.wanted.options { batch_size = o }))) none; within = tt }
+batch-reads d (Some n) can none =
+    let wide : n < 2 ^ 64 = omega (arith, can) in
+    say-word d _ (codes "batch=" ++ decimal n) (front-within (codes "batch=") (decimal n) refl (decimal-within n wide))
+    (rw (cut-at (codes "batch") (decimal n) (refl, (refl, (refl, (refl, (refl, tt))))), none, number-decimal n wide, counted n can) refl)
+
+bytes-reads : (d : Draft) (o : Option ℕ) → Where IsNumber o → d.wanted.options.batch_byte_size ≡ None →
+    Say (map (λ n. codes "bytes=" ++ decimal n) (option_to_list o)) d (with_options d (record d.wanted.options { batch_byte_size = o }))
+bytes-reads d None can none = record { is = ap (λ o. Some (with_options d (record d.wanted.options { batch_byte_size = o }))) none; within = tt }
+bytes-reads d (Some n) can none =
+    say-word d _ (codes "bytes=" ++ decimal n) (front-within (codes "bytes=") (decimal n) refl (decimal-within n can))
+    (rw (cut-at (codes "bytes") (decimal n) (refl, (refl, (refl, (refl, (refl, tt))))), none, number-decimal n can) refl)
+
+timeout-free : NoEquals (codes "batch-timeout")
+timeout-free = (refl, (refl, (refl, (refl, (refl, (refl, (refl, (refl, (refl, (refl, (refl, (refl, (refl, tt)))))))))))))
+
+timeout-reads : (d : Draft) (o : Option ℕ) → Where IsNumber o → d.wanted.options.batch_timeout ≡ None →
+    Say (map (λ n. codes "batch-timeout=" ++ decimal n) (option_to_list o)) d (with_options d (record d.wanted.options { batch_timeout = o }))
+timeout-reads d None can none = record { is = ap (λ o. Some (with_options d (record d.wanted.options { batch_timeout = o }))) none; within = tt }
+timeout-reads d (Some n) can none =
+    say-word d _ (codes "batch-timeout=" ++ decimal n) (front-within (codes "batch-timeout=") (decimal n) refl (decimal-within n can))
+    (rw (cut-at (codes "batch-timeout") (decimal n) timeout-free, none, number-decimal n can) refl)
 
 small : (n : ℕ) → n < 2 ^ 31 → signed_32 n ≡ Some (pos n)
 small n lt = grind (arith, nat_tests)
@@ -162,30 +190,21 @@ schema-reads d (Some s) can none =
 abbrev begun : (topic name : Option (List ℕ)) → Draft
 begun topic name = record { wanted = record { topic = topic; name = name; options = empty_producer_options }; has_block = false }
 
-abbrev without_batches : ProducerOptionsValues → ProducerOptionsValues
-without_batches o = record o { batch_size = None; batch_byte_size = None; batch_timeout = None }
-
 abbrev made : (topic name : Option (List ℕ)) → ProducerOptionsValues → Draft
 made topic name o = record { wanted = record { topic = topic; name = name; options = o }; has_block = o.block_queue_if_full }
 
-same-options : (o : ProducerOptionsValues) → CanBeMade o → without_batches o ≡ o
-same-options o can =
-    ap (λ b. record o { batch_size = b; batch_byte_size = None; batch_timeout = None }) (sym can.no_batches.0)
-    ∙ ap (λ b. record o { batch_byte_size = b; batch_timeout = None }) (sym can.no_batches.1)
-    ∙ ap (λ b. record o { batch_timeout = b }) (sym can.no_batches.2)
-
-options-said : (topic name : Option (List ℕ)) (o : ProducerOptionsValues) → CanBeMade o → Say (option_words o) (begun topic name) (made topic name (without_batches o))
-options-said topic name o can =
-    say-both (say-both (say-both (say-both (say-both
-    (access-reads (begun topic name) o.access_mode can.access_mode refl)
+options-told : (topic name : Option (List ℕ)) (o : ProducerOptionsValues) → CanBeMade o → Say (option_words o) (begun topic name) (made topic name o)
+options-told topic name o can =
+    say-both (say-both (say-both (say-both (say-both (say-both (say-both (say-both
+    (batch-reads (begun topic name) o.batch_size can.batch_size refl)
+    (bytes-reads _ o.batch_byte_size can.batch_byte_size refl))
+    (timeout-reads _ o.batch_timeout can.batch_timeout refl))
+    (access-reads _ o.access_mode can.access_mode refl))
     (block-reads _ o.block_queue_if_full refl refl))
     (route-reads _ o.routing_policy can.routing_policy refl))
     (encrypted-reads _ o.encrypted refl))
     (metadata-say _ o.metadata can.metadata can.ordered (none-below o.metadata)))
     (schema-reads _ o.schema can.schema refl)
-
-options-told : (topic name : Option (List ℕ)) (o : ProducerOptionsValues) → CanBeMade o → Say (option_words o) (begun topic name) (made topic name o)
-options-told topic name o can = subst (λ t. Say (option_words o) (begun topic name) (made topic name t)) (same-options o can) (options-said topic name o can)
 
 pub options-within : (o : ProducerOptionsValues) → CanBeMade o → AllByRecursion IsWithinWord (option_words o)
 options-within o can = (options-told None None o can).within

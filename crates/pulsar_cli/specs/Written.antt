@@ -1,5 +1,5 @@
 -- The line of a setting or an event, as one writes it: it reads back as that setting or event.
-use Rattle.std.specs.Prelude.{◌≡◌, ℕ, ◌<◌, ◌^◌, List, ◌∷◌, ◌++◌, length, codes}
+use Rattle.std.specs.Prelude.{◌≡◌, ℕ, ◌<◌, List, ◌∷◌, ◌++◌, length, codes}
 use Rattle.std.specs.Fmt.{decimal}
 use Rattle.std.specs.List.{AllByRecursion}
 use Rattle.hex.specs.Hex.{IsBytes, encode_lower}
@@ -7,7 +7,7 @@ use Rattle.pulsar_client.specs.Content.{Asked, Build, Stop, Topics, Lookup, Part
 use Rattle.pulsar_cli.specs.Grammar.{Setting, Url, Auth, Outbound, Timeout, RetryDelay, OpRetries, Retries, MinBackoff, MaxBackoff, ConnectionTimeout, KeepAlive, MaxIdle, Seed, First, Now, Sets, Happens, line}
 use Rattle.pulsar_cli.specs.ErrorText.{io_kind}
 use Rattle.pulsar_cli.specs.WordText.{word}
-use Rattle.pulsar_cli.specs.WrittenRaw.{CanBeMade, CanBeSaid, CanBeSent, IsCredential, IsNumber, IsText, Where, behind_blanks, credential_words, message_words, messages_words, mode_word, producer_words, raw_words}
+use Rattle.pulsar_cli.specs.WrittenRaw.{CanBeMade, CanBeSaid, CanBeSent, IsCount, IsCredential, IsNumber, IsText, Where, behind_blanks, credential_words, message_words, messages_words, mode_word, producer_words, raw_words}
 
 -- the words behind `call`
 abbrev pub call_words : Asked → List ℕ
@@ -79,10 +79,6 @@ written_setting (MaxIdle time) = codes "set max-idle " ++ decimal time
 written_setting (Seed seed) = codes "set seed " ++ decimal seed
 written_setting (First number) = codes "set first " ++ decimal number
 written_setting (Now time) = codes "set now " ++ decimal time
-
--- a number has 32 bits
-abbrev pub IsCount : ℕ → Type 0
-IsCount n = n < 2 ^ 32
 
 -- a setting has a line where its text is UTF-8, and its number has 64 bits, or 32 where it says how often something is done
 abbrev pub CanBeSet : Setting → Type 0

@@ -90,7 +90,10 @@ block_words false = []
 
 abbrev pub option_words : ProducerOptionsValues → List (List ℕ)
 option_words o =
-    map (λ z. codes "access=" ++ signed_word z) (option_to_list o.access_mode)
+    map (λ n. codes "batch=" ++ decimal n) (option_to_list o.batch_size)
+    ++ map (λ n. codes "bytes=" ++ decimal n) (option_to_list o.batch_byte_size)
+    ++ map (λ n. codes "batch-timeout=" ++ decimal n) (option_to_list o.batch_timeout)
+    ++ map (λ z. codes "access=" ++ signed_word z) (option_to_list o.access_mode)
     ++ block_words o.block_queue_if_full
     ++ map (λ p. codes "route=" ++ policy_word p) (option_to_list o.routing_policy)
     ++ map (λ b. codes "encrypted=" ++ flag_word b) (option_to_list o.encrypted)
@@ -141,6 +144,10 @@ behind_blanks ws = flat_map (λ w. 32 ∷ w) ws
 
 abbrev pub IsNumber : ℕ → Type 0
 IsNumber n = n < 2 ^ 64
+
+-- a number has 32 bits
+abbrev pub IsCount : ℕ → Type 0
+IsCount n = n < 2 ^ 32
 
 abbrev pub IsText : List ℕ → Type 0
 IsText t = IsBytes t × (is_utf8 t ≡ true)
@@ -201,9 +208,11 @@ IsPolicy RoundRobin = Unit {0}
 IsPolicy Single = Unit {0}
 IsPolicy (Custom n) = IsNumber n
 
--- a producer makes no batches, its texts are UTF-8, its metadata stands in the order of the names, and its numbers are in range
+-- the texts of a producer are UTF-8, its metadata stands in the order of the names, and its numbers are in range
 pub record CanBeMade (o : ProducerOptionsValues) : Type 0 where
-  pub no_batches : (o.batch_size ≡ None) × (o.batch_byte_size ≡ None) × (o.batch_timeout ≡ None)
+  pub batch_size : Where IsCount o.batch_size
+  pub batch_byte_size : Where IsNumber o.batch_byte_size
+  pub batch_timeout : Where IsNumber o.batch_timeout
   pub access_mode : Where IsMode o.access_mode
   pub routing_policy : Where IsPolicy o.routing_policy
   pub metadata : AllByRecursion IsProperty o.metadata

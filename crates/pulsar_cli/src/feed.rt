@@ -70,7 +70,8 @@ impl Feed {
 
     /// The next piece, once all was read. None is there where the source has ended.
     pub fn refill<S: Source>(&mut self, source: &mut S) -> Result<bool, Stop>
-        ensures fed { IfOk result (λ _. (content : Option (List ℕ)) (faults : ℕ) (bytes : List ℕ) → Fed self.old (since content faults S.left S.faults source.old) bytes
+        ensures fed { IfOk result (λ _. (content : Option (List ℕ)) (faults : ℕ) (bytes : List ℕ)
+            → Fed self.old (since content faults S.left S.faults source.old) bytes
             → Fed self.new (since content faults S.left S.faults source.new) (bytes ++ unread self.old)) }
         ensures ends { IfOk result (λ more. more ≡ false → (content : Option (List ℕ)) (faults : ℕ) (bytes : List ℕ)
             → Fed self.old (since content faults S.left S.faults source.old) bytes

@@ -92,7 +92,7 @@ pub fn script<S: Source, K: Sink>(
         drop(found);
         return NO_MEMORY;
     };
-    steps(client, &mut reading, &mut feed, found, source, sink)
+    drive(client, &mut reading, &mut feed, found, source, sink)
 }
 
 /// Nothing is read yet.
@@ -107,8 +107,8 @@ fn begin(alloc: Global) -> Result<(Reading, Feed), Stop>
     Ok((reading, feed))
 }
 
-/// The events from this one on, each by a step of the client.
-fn steps<S: Source, K: Sink>(
+/// The events from this one on. The client is put into a box, since a loop holds it, and it keeps much.
+fn drive<S: Source, K: Sink>(
     client: Pulsar,
     reading: &mut Reading,
     feed: &mut Feed,
@@ -119,6 +119,27 @@ fn steps<S: Source, K: Sink>(
     ensures { (ps : List Policy) (o : Options) (h : List Step) (content held : Option (List ℕ)) (faults count : ℕ)
         → Awaits ps o h reading.old feed.old (since content faults S.left S.faults source.old) (since held count K.holds K.faults sink.old) (heard found.event) found.last
         → o ≡ options_in ps reading.old → StandsFor (λ p. routes (p.vtable, p.value)) o client h []
+        → Ran ps result (since content faults S.left S.faults source.new) (since held count K.holds K.faults sink.new) }
+{
+    let Ok(client) = Box::new(reading.alloc, client) else {
+        drop(found);
+        return NO_MEMORY;
+    };
+    steps(client, reading, feed, found, source, sink)
+}
+
+/// Each event by a step of the client.
+fn steps<S: Source, K: Sink>(
+    client: Box<Pulsar>,
+    reading: &mut Reading,
+    feed: &mut Feed,
+    found: Next,
+    source: &mut S,
+    sink: &mut K,
+) -> Status
+    ensures { (ps : List Policy) (o : Options) (h : List Step) (content held : Option (List ℕ)) (faults count : ℕ)
+        → Awaits ps o h reading.old feed.old (since content faults S.left S.faults source.old) (since held count K.holds K.faults sink.old) (heard found.event) found.last
+        → o ≡ options_in ps reading.old → StandsFor (λ p. routes (p.vtable, p.value)) o client.value h []
         → Ran ps result (since content faults S.left S.faults source.new) (since held count K.holds K.faults sink.new) }
 {
     let mut client = client;

@@ -56,7 +56,8 @@ impl Reading {
     /// event, the front of the next line too.
     pub fn piece(&mut self, piece: &[u8]) -> Result<Option<(Event, usize)>, Stop>
         ensures less { IfOk result (λ found. IfSome found (λ p. p.1 < length piece.now)) }
-        ensures ok { IfOk result (λ found. (policies : List Policy) (o : Options) (h : List Step) (put consumed : List ℕ) → Running policies o h self.old put consumed
+        ensures ok { IfOk result (λ found. (policies : List Policy) (o : Options) (h : List Step) (put consumed : List ℕ)
+            → Running policies o h self.old put consumed
             → MatchOption found (Running policies o h self.new put (consumed ++ piece.now))
             (λ p. HasConsumed policies o h self.new put (consumed ++ take (length piece.now - p.1) piece.now) (heard p.0))) }
         ensures stop { IfErr result (λ stop. (stop ≡ Stop.Refused) ⊎ (stop ≡ Stop.NoMemory)) }

@@ -1,15 +1,17 @@
 -- The entries of items, what they weigh, and what is written of them.
-use Rattle.std.proofs.Common.{◌≡◌, ◌∙◌, ap, sym, refl, ℕ, suc, ◌+◌, ◌≤◌, ◌^◌, ◌-◌, add-zero, arith, append_assoc, append-nil, map, length, length-append, min, List, [], ◌∷◌, ◌++◌, Option, Some, None}
+use Rattle.std.proofs.Common.{◌≡◌, ◌∙◌, ap, sym, refl, ℕ, suc, ◌+◌, ◌<◌, ◌≤◌, ◌-◌, add-zero, arith, append-nil, get_or, map, length, length-append, take, List, [], ◌∷◌, ◌++◌, Option, Some, None}
 use Rattle.std.proofs.lemmas.Grind.{flat_map-append}
-use Rattle.std.proofs.lemmas.List.{map-append}
+use Rattle.std.proofs.lemmas.List.{length-take-le, map-append, take_more}
+use Rattle.std.specs.List.{slice_get}
 use Rattle.pulsar_wire.specs.Sink.{capped}
 use Rattle.pulsar_wire.specs.declared.error.Reason.{Reason}
 use Rattle.pulsar_frame.specs.Batch.{EntryValues, batch_bytes, entry_bytes}
-use Rattle.std.specs.List.{slice_get}
-use Rattle.pulsar_producer.specs.Batch.{entries_in, entry_refusal, first_refusal, refusal_or, report_at, reports_from}
+use Rattle.pulsar_producer.specs.Batch.{entries_in, entry_refusal, first_refusal, refusal_or, report_at, reports, reports_from}
 use Rattle.pulsar_producer.specs.Storage.{Item, SingleMessage, Flush, bytes_of, ends_in_flush, is_flush, item_of, size_of}
 use Rattle.pulsar_producer.specs.declared.batch.Fate.{Fate}
 use Rattle.pulsar_producer.specs.declared.batch.Member.{Member}
+use Rattle.pulsar_producer.specs.declared.batch.Member.TheVariants.{Message}
+use Rattle.pulsar_producer.specs.declared.batch.Report.{Report}
 use Rattle.pulsar_producer.specs.declared.storage.BatchItem.{BatchItem}
 
 pub entries_append : (xs ys : List Item) → entries_in (xs ++ ys) ≡ entries_in xs ++ entries_in ys
@@ -81,6 +83,18 @@ reports_more i n f [] m = ap (λ k. report_at k n f m ∷ []) (sym (add-zero i))
 reports_more i n f (x ∷ ms) m =
     ap (λ rs. report_at i n f x ∷ rs) (reports_more (i + 1) n f ms m)
     ∙ ap (λ k. report_at i n f x ∷ (reports_from (i + 1) n f ms ++ report_at k n f m ∷ [])) (let e : (i + 1) + length ms ≡ i + length (x ∷ ms) = omega arith in e)
+
+-- the report of the next one, behind those of the ones before
+pub reports_next : (i n : ℕ) (f : Fate) (ms : List Member) (rs : List Report) (r : Report) → i < length ms → rs ≡ reports n f (take i ms) →
+    r ≡ report_at i n f (get_or ms i (Message 0)) → rs ++ r ∷ [] ≡ reports n f (take (i + 1) ms)
+reports_next i n f ms rs r lt before now =
+    let m = get_or ms i (Message 0) in
+    let taken = length-take-le i ms (omega (arith, lt)) in
+    let there : 0 + length (take i ms) ≡ i = omega (arith, taken) in
+    ap (λ xs. xs ++ r ∷ []) before
+    ∙ ap (λ x. reports n f (take i ms) ++ x ∷ []) (now ∙ ap (λ k. report_at k n f m) (sym there))
+    ∙ sym (reports_more 0 n f (take i ms) m)
+    ∙ ap (reports n f) (sym (take_more ms i (Message 0) lt))
 
 -- WHAT IS STORED
 

@@ -1,10 +1,9 @@
 -- The payload of a batch gives its messages again.
-use Rattle.std.proofs.Common.{◌≡◌, ◌∙◌, sym, ap, refl, subst, ℕ, ◌<◌, ◌^◌, nat_lt, Bool, true, false, cond, List, [], ◌∷◌, length, Option, Some, None, Result, Ok, Err, arith, append-nil}
+use Rattle.std.proofs.Common.{◌≡◌, ◌∙◌, sym, ap, refl, subst, ℕ, ◌^◌, nat_lt, Bool, true, false, cond, List, [], ◌∷◌, length, Option, Some, None, Ok, arith, append-nil}
 use Rattle.std.proofs.lemmas.Bool.Decides.{nat_tests}
 use Rattle.std.specs.Prelude.{ℤ, pos}
 use Rattle.std.specs.List.{AllByRecursion}
 use Rattle.std.specs.Option.{option_map}
-use Rattle.pulsar_wire.specs.At.{int32_at}
 use Rattle.pulsar_wire.specs.Row.{spelling}
 use Rattle.pulsar_wire.specs.Rows.{single_message_metadata}
 use Rattle.pulsar_wire.specs.declared.error.Reason.{Reason}
@@ -12,7 +11,7 @@ use Rattle.pulsar_wire.specs.declared.error.Reason.TheVariants as reason
 use Rattle.pulsar_frame.specs.Batch.{EntryValues, FitsSize, IsSound, SaysItsSize, batch_bytes, entries}
 use Rattle.pulsar_frame.proofs.Batches.{batch-again}
 use Rattle.pulsar_messages.specs.Content.{ProducerMessageValues}
-use Rattle.pulsar_producer.specs.Batch.{batch_counted, batch_of, batch_with, entry_of, entry_refusal, entry_with, first_refusal, refusal_or, size_in_i32, unless_refused}
+use Rattle.pulsar_producer.specs.Batch.{batch_counted, batch_with, entry_of, entry_refusal, entry_with, first_refusal, refusal_or, size_in_i32, unless_refused}
 use Rattle.pulsar_producer.specs.BatchLaws.{BatchIsReadAgain, EntrySaysItsMessage, IsEntry}
 
 sized : (n : ℕ) (z : ℤ) → size_in_i32 n ≡ Some z → z ≡ pos n
@@ -70,7 +69,8 @@ counted es m (Some z) f is =
 
 pub batch_is_read_again : BatchIsReadAgain
 batch_is_read_again es m is all =
-    let both = counted es m (size_in_i32 (length es)) refl is in
-    (ap (λ x. x.num_messages_in_batch) both.1,
-    ap (λ x. entries (length es) x.payload) both.1 ∙ ap (entries (length es)) (sym (append-nil (batch_bytes es)))
-    ∙ batch-again es [] (all_sound es both.0 all))
+    let both = counted es m (size_in_i32 (length es)) refl is in (
+      ap (λ x. x.num_messages_in_batch) both.1,
+      ap (λ x. entries (length es) x.payload) both.1 ∙ ap (entries (length es)) (sym (append-nil (batch_bytes es)))
+          ∙ batch-again es [] (all_sound es both.0 all),
+    )

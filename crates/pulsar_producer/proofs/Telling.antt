@@ -17,20 +17,19 @@ use Rattle.pulsar_plans.specs.declared.making.Served.{Served}
 use Rattle.pulsar_plans.specs.declared.turn.Turn.{Turn}
 use Rattle.pulsar_plans.specs.declared.turn.Turn.TheVariants as turn
 use Rattle.pulsar_plans.specs.declared.turn.Ways.{Ways}
-use Rattle.pulsar_producer.specs.Batch.{batch_of, entries_in, member_of, report_at, reports_from}
-use Rattle.pulsar_producer.specs.Batching.{begins, sends, sends_batch, settles, starts_with, told}
-use Rattle.pulsar_producer.specs.BatchLaws.{EachHasItsPlace, EachHasItsReport, EachIsTold, TakesWhereSettled, ToldInOrder, batching_after, given_at, given_from, items_of, joined, taken_of, ticket_in, told_by, told_from, under_way}
+use Rattle.pulsar_producer.specs.Batch.{batch_of, cut_report, entries_in, member_of, report_at, reports_from}
+use Rattle.pulsar_producer.specs.Batching.{begins, cuts_off, is_sent_send, sends, sends_batch, settles, starts_with, told}
+use Rattle.pulsar_producer.specs.BatchLaws.{EachHasItsPlace, EachHasItsReport, EachIsTold, HaltTellsAll, TakesWhereSettled, ToldInOrder, batching_after, given_at, given_from, joined, taken_of, ticket_in, told_by, told_from, under_way}
 use Rattle.pulsar_producer.specs.Errors.{in_producer}
 use Rattle.pulsar_producer.specs.Plans.{Sent, fault_told, in_asked, in_drawing, in_looking, in_making, in_recalling, in_remaking, in_sent, in_waiting, not_drawn, not_queued, receipt, send_begins, send_ends, send_looks, send_makes, send_recalls, send_told}
 use Rattle.pulsar_producer.specs.Storage.{Item, SingleMessage, Flush}
-use Rattle.pulsar_producer.specs.Topic.{Act, Seen, Setup, seen, ticket_of, unsent_tickets}
+use Rattle.pulsar_producer.specs.Topic.{seen, ticket_of, unsent_tickets}
 use Rattle.pulsar_producer.specs.declared.batch.Fate.{Fate}
 use Rattle.pulsar_producer.specs.declared.batch.Fate.TheVariants as fate
 use Rattle.pulsar_producer.specs.declared.batch.Member.{Member}
 use Rattle.pulsar_producer.specs.declared.batch.Member.TheVariants as member
 use Rattle.pulsar_producer.specs.declared.batching.Batching.{Batching}
 use Rattle.pulsar_producer.specs.declared.batching.Batching.TheVariants.{Resting, Taking, Sending, Settling}
-use Rattle.pulsar_producer.specs.declared.deed.Deed.{Deed}
 use Rattle.pulsar_producer.specs.declared.deed.Deed.TheVariants as deed
 use Rattle.pulsar_producer.specs.declared.deed.News.{News}
 use Rattle.pulsar_producer.specs.declared.deed.News.TheVariants.{Told, Queued, InLine, HasTurn, Drew, Recalled, Numbered, Ready, HasBatch, Done}
@@ -206,6 +205,26 @@ each_is_told w e state (n ∷ ns) =
     ∙ append_assoc (told_by g.deed) (under_way g.state) later
     ∙ ap (λ ts. told_by g.deed ++ ts) (each_is_told w e g.state ns)
     ∙ sym (append_assoc (told_by g.deed) (told_from w e g.state ns) (under_way (batching_after w e g.state ns)))
+
+-- THE STOP
+
+cut_ticket : (m : Member) → (cut_report m).ticket ≡ ticket_in m
+cut_ticket (member.Message ticket) = refl
+cut_ticket (member.Flush ticket) = refl
+
+cut_tickets : (ms : List Member) → map (λ r. r.ticket) (map cut_report ms) ≡ map ticket_in ms
+cut_tickets [] = refl
+cut_tickets (m ∷ ms) = ap (λ t. t ∷ map (λ r. r.ticket) (map cut_report ms)) (cut_ticket m) ∙ ap (λ ts. ticket_in m ∷ ts) (cut_tickets ms)
+
+halt_step : (is_sent : Bool) (ms : List Member) (count : ℕ) → (told_by (cuts_off is_sent ms count).deed ≡ map ticket_in ms) × (under_way (cuts_off is_sent ms count).state ≡ [])
+halt_step true ms count = (cut_tickets ms, refl)
+halt_step false ms count = (each_has_its_report count fate.Halted ms, refl)
+
+pub halt_tells_all : HaltTellsAll
+halt_tells_all Resting = (refl, refl)
+halt_tells_all Taking = (refl, refl)
+halt_tells_all (Sending ms count s) = halt_step (is_sent_send s) ms count
+halt_tells_all Settling = (refl, refl)
 
 -- THE NEXT BATCH
 

@@ -1,5 +1,5 @@
 -- Batches: how messages become entries of one message, and what each sender is told of that.  (Pulsar binary protocol, Batch messages)
-use Rattle.std.specs.Prelude.{ℕ, ◌+◌, ◌-◌, ◌^◌, ℤ, pos, min, nat_lt, Bool, if◌then◌else◌, List, [], ◌∷◌, length, map, Option, Some, None, Result, Ok, Err}
+use Rattle.std.specs.Prelude.{ℕ, ◌+◌, ◌-◌, ◌^◌, ℤ, pos, min, nat_lt, if◌then◌else◌, List, [], ◌∷◌, length, Option, Some, None, Result, Ok, Err}
 use Rattle.std.specs.Option.{option_map}
 use Rattle.pulsar_wire.specs.Row.{Values, ◌&◌, spelling}
 use Rattle.pulsar_wire.specs.Rows as rows

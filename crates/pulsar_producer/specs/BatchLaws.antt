@@ -1,6 +1,6 @@
 -- What follows of every history of a topic producer that sends batches, of every run of its batches, and of every batch, in plain words. `h`
 -- has the acts of a history, newest first, and `ns` the news of a run, oldest first.
-use Rattle.std.specs.Prelude.{◌≡◌, ◌≢◌, ℕ, ◌+◌, ◌-◌, ◌<◌, ◌^◌, ℤ, pos, nat_lt, ◌⊎◌, Bool, true, false, if◌then◌else◌, List, [], ◌∷◌, ◌++◌, length, map, take, Option, Some, None, Ok}
+use Rattle.std.specs.Prelude.{◌≡◌, ℕ, ◌-◌, ◌<◌, ◌^◌, ℤ, pos, nat_lt, ◌⊎◌, Bool, true, false, if◌then◌else◌, List, [], ◌∷◌, ◌++◌, length, map, take, Option, Some, None, Ok}
 use Rattle.std.specs.List.{AllByRecursion, flat_map, slice_get}
 use Rattle.std.specs.Option.{option_map, option_to_list}
 use Rattle.pulsar_wire.specs.Fits.{InRange}
@@ -11,8 +11,8 @@ use Rattle.pulsar_messages.specs.Content.{ProducerMessageValues}
 use Rattle.pulsar_messages.specs.Messages.{properties_values}
 use Rattle.pulsar_plans.specs.declared.turn.Ways.{Ways}
 use Rattle.pulsar_producer.specs.Batch.{batch_of, entry_of, placed, placed_id, report_at, reports}
-use Rattle.pulsar_producer.specs.Batching.{begins, told}
-use Rattle.pulsar_producer.specs.Storage.{Item, SingleMessage, Flush, Storage, is_ready, pushed}
+use Rattle.pulsar_producer.specs.Batching.{begins, halted, told}
+use Rattle.pulsar_producer.specs.Storage.{Item, SingleMessage, Flush, is_ready, pushed}
 use Rattle.pulsar_producer.specs.Topic.{Act, Takes, Passes, Draws, Remakes, Closes, Stores, Flushes, Cuts, TakesBatch, Halts, Seen, Setup, is_nothing, is_settled, next_batch, seen, ticket_of, unsent_tickets}
 use Rattle.pulsar_producer.specs.declared.batch.Fate.{Fate}
 use Rattle.pulsar_producer.specs.declared.batch.Member.{Member}
@@ -201,6 +201,10 @@ under_way Settling = []
 abbrev pub EachIsTold : Type 0
 EachIsTold = (w : Ways) (e : Errand) (state : Batching) (ns : List News) →
     under_way state ++ map ticket_of (joined (given_from w e state ns)) ≡ told_from w e state ns ++ under_way (batching_after w e state ns)
+
+-- Where the client is stopped, those of the batch that is under way are told, each once and in order.
+abbrev pub HaltTellsAll : Type 0
+HaltTellsAll = (state : Batching) → (told_by (halted state).deed ≡ under_way state) × (under_way (halted state).state ≡ [])
 
 -- The next batch is taken only where those of the one before were told.
 abbrev pub TakesWhereSettled : Type 0

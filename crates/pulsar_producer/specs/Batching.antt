@@ -1,6 +1,6 @@
 -- The batches of a topic producer, as a machine over news: one after the other is taken, sent, and settled. It has no end.
 -- (Pulsar binary protocol, Batch messages)
-use Rattle.std.specs.Prelude.{ℕ, List, [], ◌∷◌, length, map, Option, Some, None, Result, Ok, Err, Bool, true, false, if◌then◌else◌}
+use Rattle.std.specs.Prelude.{ℕ, List, [], ◌∷◌, length, map, Some, None, Result, Ok, Err, Bool, true, false, if◌then◌else◌}
 use Rattle.pulsar_frame.specs.Batch.{EntryValues}
 use Rattle.pulsar_messages.specs.Content.{ProducerMessageValues}
 use Rattle.pulsar_plans.specs.declared.turn.Ways.{Ways}

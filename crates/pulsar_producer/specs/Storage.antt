@@ -1,5 +1,5 @@
 -- What a producer of batches stores, until it is cut into a batch.  (Pulsar binary protocol, Batch messages)
-use Rattle.std.specs.Prelude.{ℕ, ◌+◌, ℤ, pos, negsuc, nat_le, nat_lt, ◌||◌, Bool, true, false, List, [], ◌∷◌, ◌++◌, length, map, Option, Some, None}
+use Rattle.std.specs.Prelude.{ℕ, ◌+◌, ℤ, pos, negsuc, nat_le, nat_lt, ◌||◌, Bool, true, false, List, [], ◌∷◌, ◌++◌, length, Option, Some, None}
 use Rattle.std.specs.Option.{is_some}
 use Rattle.pulsar_wire.specs.At.{int32_at}
 use Rattle.pulsar_wire.specs.Rows.{single_message_metadata}

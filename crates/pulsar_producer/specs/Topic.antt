@@ -1,7 +1,7 @@
 -- A topic producer: what is done to it, what is seen of it, and what it answers. It knows the tickets of those that use it, and no
 -- messages but those that it stores until they are sent as a batch.
 -- (Pulsar binary protocol, Producer: sequence_id, producer_name; Batch messages)
-use Rattle.std.specs.Prelude.{ℕ, ◌+◌, ◌^◌, ◌-◌, ◌&&◌, not, Bool, true, false, if◌then◌else◌, List, [], ◌∷◌, ◌++◌, map, Option, Some, None}
+use Rattle.std.specs.Prelude.{ℕ, ◌+◌, ◌&&◌, not, Bool, true, false, if◌then◌else◌, List, [], ◌∷◌, ◌++◌, map, Option, Some, None}
 use Rattle.std.specs.List.{flat_map}
 use Rattle.std.specs.BTreeSet.{insert_key}
 use Rattle.std.specs.Option.{is_none}

@@ -107,7 +107,10 @@ impl Fate {
     pub fn not_written(alloc: Global, reason: Reason) -> Result<Fate, NoMemory>
         ensures { IfOk result (λ f. f ≡ meaning.not_written reason) }
     {
-        Fate::failed(alloc, in_producer(alloc, ConnectionError::Encoding(reason))?)
+        Fate::failed(
+            alloc,
+            in_producer(alloc, ConnectionError::Encoding(reason))?,
+        )
     }
 
     /// What the reply to a batch says: a receipt, or nothing that is waited for.
@@ -266,10 +269,7 @@ fn write_item(item: &BatchItem, payload: &mut Vec<u8>) -> Result<Option<Reason>,
     }
 }
 
-fn write_entry(
-    message: &BatchedMessage,
-    payload: &mut Vec<u8>,
-) -> Result<Option<Reason>, NoMemory>
+fn write_entry(message: &BatchedMessage, payload: &mut Vec<u8>) -> Result<Option<Reason>, NoMemory>
     ensures refusal { IfOk result (λ r. r ≡ meaning.entry_refusal (entry_values message.now)) }
     ensures written { IfOk result (λ r. r ≡ None → payload.new.items ≡ payload.old.items ++ entry_bytes (entry_values message.now)) }
 {

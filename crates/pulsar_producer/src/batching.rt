@@ -94,12 +94,7 @@ pub fn halted(alloc: Global, state: Batching) -> Result<Goes, NoMemory>
 }
 
 /// What is not sent yet is halted; a batch whose receipt is waited for fails with its connection.
-fn cuts_off(
-    alloc: Global,
-    is_sent: bool,
-    members: &Members,
-    count: usize,
-) -> Result<Goes, NoMemory>
+fn cuts_off(alloc: Global, is_sent: bool, members: &Members, count: usize) -> Result<Goes, NoMemory>
     ensures { IfOk result (λ goes. goes ≡ meaning.cuts_off is_sent members.now count) }
 {
     if !is_sent {
@@ -164,12 +159,7 @@ fn starts(alloc: Global, errand: Errand, batch: Batch) -> Result<Goes, NoMemory>
 }
 
 /// A batch is sent as one message.
-fn sends(
-    alloc: Global,
-    members: Members,
-    count: usize,
-    step: Sent,
-) -> Result<Goes, NoMemory>
+fn sends(alloc: Global, members: Members, count: usize, step: Sent) -> Result<Goes, NoMemory>
     ensures { IfOk result (λ goes. goes ≡ meaning.sends members count step) }
 {
     match step {
@@ -182,17 +172,17 @@ fn sends(
             deed,
         }),
         Step::Gives(Ok(reply)) => settles(alloc, &members, count, &Fate::of_reply(alloc, &reply)?),
-        Step::Gives(Err(refusal)) => settles(alloc, &members, count, &Fate::failed(alloc, refusal)?),
+        Step::Gives(Err(refusal)) => settles(
+            alloc,
+            &members,
+            count,
+            &Fate::failed(alloc, refusal)?,
+        ),
     }
 }
 
 /// Those whose messages were in a batch are told what became of it.
-fn settles(
-    alloc: Global,
-    members: &Members,
-    count: usize,
-    fate: &Fate,
-) -> Result<Goes, NoMemory>
+fn settles(alloc: Global, members: &Members, count: usize, fate: &Fate) -> Result<Goes, NoMemory>
     ensures { IfOk result (λ goes. goes ≡ meaning.settles members.now count fate.now) }
 {
     let reports = members.reports(alloc, count, fate)?;

@@ -9,7 +9,9 @@ ghost use Rattle.pulsar_producer.specs.Message.{with_version};
 ghost use Rattle.pulsar_producer.specs.Storage.{is_batching, item_of, limits_of};
 ghost use Rattle.pulsar_producer.specs.Topic.{ticket_of};
 
-use crate::batch::{Fate, Member, Report, count, cut_reports, entry_of, members, message, reports, size_in_i32};
+use crate::batch::{
+    Fate, Member, Report, count, cut_reports, entry_of, members, message, reports, size_in_i32,
+};
 use crate::replies::Given;
 use crate::storage::{BatchItem, Limits, push_tickets};
 use pulsar_frame::batch::BatchedMessage;

@@ -1,6 +1,6 @@
 //! What follows of every history of a topic producer and of every plan: each contract is a law, and its body is empty.
 
-ghost use Rattle.pulsar_producer.specs.BatchLaws.{BatchIsReadAgain, BatchesInOrder, CutInTime, EachHasItsPlace, EachHasItsReport, EachIsTold, EntrySaysItsMessage, FlushIsLast, IdSaysItsPlace, ItemsInOrder, NeverReady, ReceiptIsTheSame, StoredIsNotReady, TakesWhereSettled, ToldInOrder};
+ghost use Rattle.pulsar_producer.specs.BatchLaws.{BatchIsReadAgain, BatchesInOrder, CutInTime, EachHasItsPlace, EachHasItsReport, EachIsTold, EntrySaysItsMessage, FlushIsLast, HaltTellsAll, IdSaysItsPlace, ItemsInOrder, NeverReady, ReceiptIsTheSame, StoredIsNotReady, TakesWhereSettled, ToldInOrder};
 ghost use Rattle.pulsar_producer.specs.Laws.{EachFrameHasItsNumber, LowestIsNext, NobodyWaitsForFree, NumbersCount, NumbersRise, OneAtATime, PartitionIsThere, QueuedIsNotAskedAgain, RefusedSpendsItsNumber, WaitsInLine};
 
 /// The numbers of the messages of a topic producer rise, and none is drawn twice: each is the first and how many were drawn before.
@@ -58,6 +58,7 @@ pub fn batches_are_cut_in_time()
 /// Those of a batch are told what became of it, each once, before the next batch is taken, and in the order in which they came.
 pub fn each_is_told_in_order()
     ensures told { EachIsTold }
+    ensures halt { HaltTellsAll }
     ensures next { TakesWhereSettled }
     ensures order { ToldInOrder }
 {}

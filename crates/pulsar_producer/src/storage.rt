@@ -46,11 +46,7 @@ impl Model for BatchStorage {
 
 impl BatchStorage {
     /// Nothing is stored. A batch has at most `max_size` items, a flush among them, and is sent from `max_byte_size` bytes on.
-    pub fn new(
-        alloc: Global,
-        max_size: Option<u32>,
-        max_byte_size: Option<usize>,
-    ) -> BatchStorage
+    pub fn new(alloc: Global, max_size: Option<u32>, max_byte_size: Option<usize>) -> BatchStorage
         ensures { result ≡ empty (record { max_size = max_size; max_byte_size = max_byte_size }) }
     {
         BatchStorage {

@@ -9,6 +9,7 @@ use pulsar_producer::building::{self, Builds, Order};
 use pulsar_producer::content::{Outgoing, Parts, Settings};
 use pulsar_producer::deed::{Deed, Drawn, News, Step};
 use pulsar_producer::sending::{self, Errand, Sent};
+use pulsar_producer::storage::Limits;
 use pulsar_producer::topic_producer::TopicProducer;
 use pulsar_session::Received;
 use pulsar_wire::error::{ConnectionError, NoMemory};
@@ -24,7 +25,8 @@ const SERVED: &[u8] =
 
 const MADE: &[u8] = b"\x00\x00\x00\x0e\x00\x00\x00\x0a\x08\x11\x8a\x01\x05\x08\x00\x12\x01p";
 
-const RECEIPT: &[u8] = b"\x00\x00\x00\x0c\x00\x00\x00\x08\x08\x07\x3a\x04\x08\x00\x10\x00";
+const RECEIPT: &[u8] =
+    b"\x00\x00\x00\x0c\x00\x00\x00\x08\x08\x07\x3a\x04\x08\x00\x10\x00";
 
 fn ways(alloc: Global) -> Result<Ways, Fail> {
     let url = Url::parse(alloc, "pulsar://127.0.0.1:6650")?;
@@ -77,6 +79,8 @@ fn name(deed: &Deed) -> &'static str {
         Deed::Remakes { .. } => "remake",
         Deed::Numbers => "number",
         Deed::ClosesProducer { .. } => "close",
+        Deed::TakesBatch(_) => "batch",
+        Deed::Settles(_) => "settle",
         Deed::Rests => "rest",
     }
 }
@@ -318,12 +322,20 @@ fn built(alloc: Global, text: &mut String) -> Result<Parts, Fail> {
     build(alloc, news, text)
 }
 
+/// A batch has three items at most.
+fn limits() -> Limits {
+    Limits {
+        max_size: Some(3),
+        max_byte_size: None,
+    }
+}
+
 /// A topic producer whose first message has the number 7.
 fn producer(alloc: Global) -> Result<TopicProducer, Fail> {
     let mut text = String::new(alloc);
     let mut parts = built(alloc, &mut text)?;
     match parts.next() {
-        Some(built) => Ok(TopicProducer::new(alloc, built, 7)),
+        Some(built) => Ok(TopicProducer::new(alloc, built, 7, limits())),
         None => Err(Fail::new("no producer")),
     }
 }

@@ -1,4 +1,4 @@
-use Rattle.std.proofs.Common.{rules, arith, ◌≡◌, ◌≤◌, ◌++◌, sym, ap, refl, false, Ok, Err, None}
+use Rattle.std.proofs.Common.{rules, arith, ◌≡◌, ◌++◌, sym, ap, refl, false, Ok, Err, None}
 use Rattle.pulsar_cli.specs.Script.{since}
 use Rattle.pulsar_cli.specs.Shown.{Fed, IsFull, unread}
 use Rattle.pulsar_cli.specs.declared.stop.Stop.TheVariants as stop

@@ -46,4 +46,4 @@ returns g c =
     let inner : c.in-Ok-Some.field-0 ≡ Some c.in-Ok-Some.found = search rules in
     let awaits = found-some (map (λ p. (goal.CustomRoutingPolicy-dyn g (p.vtable, p.value)).routes p.value) c.args.policies.items) o [] c.next.new.reading c.next.new.feed (since (g.S.Source.left c.args.source.now) (g.S.Source.faults c.args.source.now) g.S.Source.left g.S.Source.faults c.next.new.source) (since (g.K.Sink.holds c.args.sink.now) (g.K.Sink.faults c.args.sink.now) g.K.Sink.holds g.K.Sink.faults c.next.new.sink) c.next.result c.in-Ok-Some.found (c.in-Ok-Some.is ∙ ap Ok inner) (c.next.ensures.found (map (λ p. (goal.CustomRoutingPolicy-dyn g (p.vtable, p.value)).routes p.value) c.args.policies.items) o [] (g.S.Source.left c.args.source.now) (g.K.Sink.holds c.args.sink.now) (g.S.Source.faults c.args.source.now) (g.K.Sink.faults c.args.sink.now) going) in
     let stands = subst (λ x. StandsFor (λ p. (goal.CustomRoutingPolicy-dyn g (p.vtable, p.value)).routes p.value) x c.in-Ok-new.client [] []) c.in-Ok-options.ensures c.in-Ok-new.ensures.stands in
-    c.steps.ensures (map (λ p. (goal.CustomRoutingPolicy-dyn g (p.vtable, p.value)).routes p.value) c.args.policies.items) o [] (g.S.Source.left c.args.source.now) (g.K.Sink.holds c.args.sink.now) (g.S.Source.faults c.args.source.now) (g.K.Sink.faults c.args.sink.now) awaits refl stands
+    c.drive.ensures (map (λ p. (goal.CustomRoutingPolicy-dyn g (p.vtable, p.value)).routes p.value) c.args.policies.items) o [] (g.S.Source.left c.args.source.now) (g.K.Sink.holds c.args.sink.now) (g.S.Source.faults c.args.source.now) (g.K.Sink.faults c.args.sink.now) awaits refl stands

@@ -24,7 +24,7 @@ returns-then-last g c = λ ps o h content held faults count awaits same stands.
     let told = c.in-Ok-tells.ensures in
     let tells : Tells c.loop-effects.reading c.tells.new.self (map shown c.in-Ok.effects.items) =
     record { out = rw (sym value) told.out; events = told.events; line = told.line; choice = told.choice; pending = told.pending } in
-    let next = c.in-Ok.ensures.ok o inv.0 [] inv.3 in
+    let next = c.in-Ok.ensures.ok o inv.0 [] (rw c.deref_mut.ensures.value inv.3) in
     let good = good-of next in
     c.finish.ensures.runs ps o _ _ held count (told-end c.loop-effects.feed c.loop-effects.found.last c.if-last.true inv.1 tells (sym inv.2) good)
 
@@ -35,7 +35,7 @@ returns-in-Ok-None g c = λ ps o h content held faults count awaits same stands.
     let told = c.in-Ok-tells.ensures in
     let tells : Tells c.loop-effects.reading c.tells.new.self (map shown c.in-Ok.effects.items) =
     record { out = rw (sym value) told.out; events = told.events; line = told.line; choice = told.choice; pending = told.pending } in
-    let next = c.in-Ok.ensures.ok o inv.0 [] inv.3 in
+    let next = c.in-Ok.ensures.ok o inv.0 [] (rw c.deref_mut.ensures.value inv.3) in
     let good = good-of next in
     let going = told-on c.loop-effects.found.last c.if-last.false inv.1 tells (sym inv.2) good in
     let inner : c.in-Ok-None.field-0 ≡ None = search rules in
@@ -48,7 +48,7 @@ returns-in-Err g c = λ ps o h content held faults count awaits same stands.
     let told = c.in-Ok-tells.ensures in
     let tells : Tells c.loop-effects.reading c.tells.new.self (map shown c.in-Ok.effects.items) =
     record { out = rw (sym value) told.out; events = told.events; line = told.line; choice = told.choice; pending = told.pending } in
-    let next = c.in-Ok.ensures.ok o inv.0 [] inv.3 in
+    let next = c.in-Ok.ensures.ok o inv.0 [] (rw c.deref_mut.ensures.value inv.3) in
     let good = good-of next in
     let going = told-on c.loop-effects.found.last c.if-last.false inv.1 tells (sym inv.2) good in
     let read = c.in-Err.ensures.found ps o _ content held faults count going in
@@ -63,7 +63,7 @@ loop-effects-preserved g c = λ ps o h content held faults count awaits same sta
     let told = c.in-Ok-tells.ensures in
     let tells : Tells c.loop-effects.reading c.tells.new.self (map shown c.in-Ok.effects.items) =
     record { out = rw (sym value) told.out; events = told.events; line = told.line; choice = told.choice; pending = told.pending } in
-    let next = c.in-Ok.ensures.ok o inv.0 [] inv.3 in
+    let next = c.in-Ok.ensures.ok o inv.0 [] (rw c.deref_mut.ensures.value inv.3) in
     let good = good-of next in
     let going = told-on c.loop-effects.found.last c.if-last.false inv.1 tells (sym inv.2) good in
     let inner : c.in-Ok-Some.field-0 ≡ Some c.in-Ok-Some.found = search rules in

@@ -12,10 +12,10 @@ abbrev pub invariant-loop-effects : goal.invariant-loop-effects
 invariant-loop-effects g l =
     (ps : List Policy) (o : Options) (h : List Step) (content held : Option (List ℕ)) (faults count : ℕ)
     → Awaits ps o h l.fn.reading l.fn.feed (since content faults g.S.Source.left g.S.Source.faults l.fn.source) (since held count g.K.Sink.holds g.K.Sink.faults l.fn.sink) (heard l.fn.found.event) l.fn.found.last
-    → o ≡ options_in ps l.fn.reading → StandsFor (λ p. (goal.CustomRoutingPolicy-dyn g (p.vtable, p.value)).routes p.value) o l.fn.client h []
+    → o ≡ options_in ps l.fn.reading → StandsFor (λ p. (goal.CustomRoutingPolicy-dyn g (p.vtable, p.value)).routes p.value) o l.fn.client.value h []
     → (next : List Step)
     × Awaits ps o next l.reading l.feed (since content faults g.S.Source.left g.S.Source.faults l.source) (since held count g.K.Sink.holds g.K.Sink.faults l.sink) (heard l.found.event) l.found.last
-    × (o ≡ options_in ps l.reading) × StandsFor (λ p. (goal.CustomRoutingPolicy-dyn g (p.vtable, p.value)).routes p.value) o l.client next []
+    × (o ≡ options_in ps l.reading) × StandsFor (λ p. (goal.CustomRoutingPolicy-dyn g (p.vtable, p.value)).routes p.value) o l.client.value next []
 
 abbrev pub decreases-loop-effects : goal.decreases-loop-effects
 decreases-loop-effects g l = steps_left l.feed l.found.last

@@ -1,6 +1,5 @@
-use Rattle.std.proofs.Common.{◌≡◌, ◌∙◌, ◌++◌, ◌∷◌, [], ◌+◌, ap, sym, refl, append-nil, append_assoc, map, take, drop}
+use Rattle.std.proofs.Common.{◌∙◌, ◌++◌, ◌∷◌, [], ◌+◌, ap, sym, refl, append-nil, append_assoc, map, take, drop}
 use Rattle.std.proofs.lemmas.List.{take-append-drop, take_more}
-use Rattle.std.specs.Prelude.{Some}
 use Rattle.pulsar_frame.specs.Batch.{batch_bytes}
 use Rattle.pulsar_producer.specs.Batch.{entries_in, first_refusal}
 use Rattle.pulsar_producer.specs.Storage.{item_of}
@@ -26,10 +25,11 @@ loop-item-preserved c =
     let i = c.loop-item.item-index in
     let x = c.item-item.result in
     let next = ap (λ z. take i xs ++ z ∷ []) c.item-item.is ∙ sym (take_more xs i x c.loop-item-test.true) in
-    let none = none_of c.in_ok-reason.field-0 c.in_default.not-Some in
-    (ap (λ ys. first_refusal (entries_in (map item_of ys))) (sym next)
-    ∙ none_refused (take i xs) x c.loop-item.invariant.0 ∙ sym c.in_ok-reason.ensures.refusal ∙ none,
-    c.in_ok-reason.ensures.written none
-    ∙ ap (λ bs. bs ++ batch_bytes (entries_in (item_of x ∷ []))) c.loop-item.invariant.1
-    ∙ append_assoc c.args.payload.now.items (batch_bytes (entries_in (map item_of (take i xs)))) (batch_bytes (entries_in (item_of x ∷ [])))
-    ∙ ap (λ bs. c.args.payload.now.items ++ bs) (sym (bytes_more (take i xs) x) ∙ ap (λ ys. batch_bytes (entries_in (map item_of ys))) next))
+    let none = none_of c.in_ok-reason.field-0 c.in_default.not-Some in (
+      ap (λ ys. first_refusal (entries_in (map item_of ys))) (sym next)
+          ∙ none_refused (take i xs) x c.loop-item.invariant.0 ∙ sym c.in_ok-reason.ensures.refusal ∙ none,
+      c.in_ok-reason.ensures.written none
+          ∙ ap (λ bs. bs ++ batch_bytes (entries_in (item_of x ∷ []))) c.loop-item.invariant.1
+          ∙ append_assoc c.args.payload.now.items (batch_bytes (entries_in (map item_of (take i xs)))) (batch_bytes (entries_in (item_of x ∷ [])))
+          ∙ ap (λ bs. c.args.payload.now.items ++ bs) (sym (bytes_more (take i xs) x) ∙ ap (λ ys. batch_bytes (entries_in (map item_of ys))) next),
+    )

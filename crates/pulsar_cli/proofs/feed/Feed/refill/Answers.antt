@@ -1,4 +1,4 @@
-use Rattle.std.proofs.Common.{rules, arith, ◌≡◌, ◌+◌, ◌≤◌, ◌<◌, ◌∙◌, refl, sym, ap, ℕ, List, [], Some, length, drop}
+use Rattle.std.proofs.Common.{arith, ◌≡◌, ◌<◌, ◌∙◌, refl, sym, ap, ℕ, List, [], Some, length, drop}
 use Rattle.std.proofs.lemmas.Bool.Decides.{nat_tests}
 use Rattle.pulsar_cli.proofs.Feeds.{fed-more, fed-over}
 use Rattle.pulsar_cli.proofs.Prints.{written}

@@ -1,4 +1,4 @@
-use Rattle.std.proofs.Common.{rules, ◌≡◌, ◌+◌, ◌-◌, ◌∷◌, ◌++◌, ◌∙◌, sym, ap, refl, [], ℕ, List, Err, None, length, take, append_assoc}
+use Rattle.std.proofs.Common.{rules, ◌≡◌, ◌∷◌, ◌++◌, ◌∙◌, sym, [], Err, None}
 use Rattle.pulsar_cli.specs.Parsed.{IsWithinLine}
 use Rattle.pulsar_cli.specs.declared.stop.Stop.TheVariants as stop
 use Rattle.pulsar_cli.proofs.Readings.{behind-line, event-read, line-happens, line-read, nothing-read, refuses-here, runs-on, same-front}

@@ -152,7 +152,7 @@ few_retries o (Begins e ∷ log) l =
 few_retries o (Then a ∷ log) l =
     subst
     (λ c. FewRetries c.connection.max_retries ((view o log).addresses.pause l) →
-        FewRetries c.connection.max_retries (pause_after (view o log) a l ((view o log).addresses.pause l)))
+    FewRetries c.connection.max_retries (pause_after (view o log) a l ((view o log).addresses.pause l)))
     (chosen_same o log) (few_after (view o log) a l ((view o log).addresses.pause l)) (few_retries o log l)
 
 -- ITS CAUSE

@@ -71,13 +71,13 @@ module _ (o : Options) (l queued : ℕ) where
   due_at : (e : Entry) (older : List Entry) → Arises rules o overdue e older → IsDueAt o l queued e older
   due_at (Begins (Ticked now)) older i =
       elim (ticked o.policies (view o older) now (ToLink l (Ends (Overdue queued))) (is_live (view o older) (Ticked now)) i) [
-    | inl d ↦
-        (let same = d.4 in
-        let link : l ≡ d.0 = cc in
-        let count : queued ≡ d.1.seen.waits.queued = cc in
-        (now, d.1, refl, ap (view o older).links.live link ∙ d.2, d.3, count))
-    | inr a ↦ (let no = a.2 in absurd cc)
-  ]
+        | inl d ↦
+            (let same = d.4 in
+            let link : l ≡ d.0 = cc in
+            let count : queued ≡ d.1.seen.waits.queued = cc in
+            (now, d.1, refl, ap (view o older).links.live link ∙ d.2, d.3, count))
+        | inr a ↦ (let no = a.2 in absurd cc)
+      ]
   due_at (Begins e) older i = none is_tick overdue (gives (Begins e)) refl refl refl (arises_fits o overdue (Begins e) older i)
   due_at (Then b) older i = none is_tick overdue (gives (Then b)) refl refl (then_no_tick b) (arises_fits o overdue (Then b) older i)
 

@@ -196,7 +196,7 @@ insert_other u v x (e ∷ fs) h = by (insert_other u v x fs h) (nat_lt v e.0) re
   where
     by : at u (insert_entry nat_cmp fs v x) ≡ at u fs → (a : Bool) → nat_lt v e.0 ≡ a → (b : Bool) → (v == e.0) ≡ b →
         at u (match_ordering (cond (nat_lt v e.0) Less (cond (v == e.0) Equal Greater)) ((v, x) ∷ e ∷ fs) ((e.0, x) ∷ fs) (e ∷ insert_entry nat_cmp fs v x))
-            ≡ at u (e ∷ fs)
+        ≡ at u (e ∷ fs)
     by more true d b f = rw d (ap (λ c. cond c (Some x) (at u (e ∷ fs))) (at_is u v ∙ h))
     by more false d true f =
         let same : v ≡ e.0 = eqb-true v e.0 f in
@@ -210,7 +210,7 @@ insert_here u x (e ∷ fs) = by (insert_here u x fs) (nat_lt u e.0) refl (u == e
   where
     by : at u (insert_entry nat_cmp fs u x) ≡ Some x → (a : Bool) → nat_lt u e.0 ≡ a → (b : Bool) → (u == e.0) ≡ b →
         at u (match_ordering (cond (nat_lt u e.0) Less (cond (u == e.0) Equal Greater)) ((u, x) ∷ e ∷ fs) ((e.0, x) ∷ fs) (e ∷ insert_entry nat_cmp fs u x))
-            ≡ Some x
+        ≡ Some x
     by more true d b f = rw d (ap (λ c. cond c (Some x) (at u (e ∷ fs))) (at_is u u ∙ (let g : (u == u) ≡ true = grind (arith, nat_tests) in g)))
     by more false d true f = rw (d, f) (ap (λ c. cond c (Some x) (at u fs)) (at_is u e.0 ∙ f))
     by more false d false f = rw (d, f) (ap (λ c. cond c (Some e.1) (at u (insert_entry nat_cmp fs u x))) (at_is u e.0 ∙ f) ∙ more)
@@ -306,9 +306,9 @@ ended : (first count : ℕ) (os : List Outcome) (said : Said) → AtMostOnce os 
     IsGathered first count os said
 ended first count os said once among k =
     let few : AtMostOnce k.taken = λ u. (
-      let a : sum (is_of u) k.taken ≤ sum (is_of u) (k.taken ++ k.more) = sum_front u k.taken k.more in
-      let b : sum (is_of u) (k.taken ++ k.more) ≤ 1 = subst (λ xs. sum (is_of u) xs ≤ 1) k.is_all (once u) in
-      omega (arith, a, b)) in
+    let a : sum (is_of u) k.taken ≤ sum (is_of u) (k.taken ++ k.more) = sum_front u k.taken k.more in
+    let b : sum (is_of u) (k.taken ++ k.more) ≤ 1 = subst (λ xs. sum (is_of u) xs ≤ 1) k.is_all (once u) in
+    omega (arith, a, b)) in
     let within : Each (IsAmong first count) k.taken = each_front (IsAmong first count) k.taken k.more (subst (Each (IsAmong first count)) k.is_all among) in
     let full : held first count k.taken ≡ count = held_all first count k.taken k.parts within ∙ k.enough in (
       folded [] k.taken,

@@ -17,10 +17,10 @@ ghost use Rattle.pulsar_client.specs.Kept.{producers_of};
 
 use crate::act::{Notice, Outcome, Who};
 use crate::content::{Advice, Building, Numbers, Remaking};
+use crate::who::in_turn;
 use pulsar_messages::Message;
 use pulsar_plans::content::Text;
 use pulsar_plans::making::Command;
-use crate::who::in_turn;
 use pulsar_producer::content::{Batch, Built, Entry, Parts, Settings, Version};
 use pulsar_producer::deed::Drawn;
 use pulsar_producer::random::first_index;
@@ -587,11 +587,7 @@ fn stop_at(
     }
 }
 
-fn stop_all(
-    number: u64,
-    waiting: &BTreeSet<u64>,
-    notices: &mut Vec<Notice>,
-) -> Result<(), NoMemory>
+fn stop_all(number: u64, waiting: &BTreeSet<u64>, notices: &mut Vec<Notice>) -> Result<(), NoMemory>
     ensures { OnOk result (notices.new.items ≡ notices.old.items ++ map stopped_one (map (in_turn number) waiting.now.keys)) }
 {
     for turn in waiting {

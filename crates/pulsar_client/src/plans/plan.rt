@@ -149,10 +149,7 @@ pub fn begins(alloc: Global, procedure: Procedure) -> Result<Turn<Plan, Verdict>
             number,
             share,
             entry,
-        } => Ok(Turn::Stays(
-            Plan::Storing(share),
-            Action::Store { number, entry },
-        )),
+        } => Ok(Turn::Stays(Plan::Storing(share), Action::Store { number, entry })),
         Procedure::Batch { ways, errand } => batches::begins(alloc, ways, errand),
         Procedure::FailShare { share, refusal } => {
             let error = refusal_error(alloc, refusal)?;
@@ -368,9 +365,9 @@ fn refusal_error(alloc: Global, refusal: Refusal) -> Result<Error, NoMemory>
         Refusal::NoBatches => custom_in_producer(alloc, "not a batching producer"),
         Refusal::NoPartition => custom_in_producer(alloc, "routing index out of range"),
         Refusal::NumberInUse => custom_in_producer(alloc, "number in use"),
-        Refusal::TooLarge => Ok(Error::Producer(ProducerError::Connection(
-            ConnectionError::Encoding(Reason::Batch),
-        ))),
+        Refusal::TooLarge => Ok(Error::Producer(ProducerError::Connection(ConnectionError::Encoding(
+            Reason::Batch,
+        )))),
     }
 }
 

@@ -170,11 +170,7 @@ impl Tables {
 }
 
 /// Each topic producer of a producer sends its batches by a plan of its own.
-fn batches_from(
-    alloc: Global,
-    ways: &Ways,
-    building: &Building,
-) -> Result<VecDeque<Deed>, NoMemory>
+fn batches_from(alloc: Global, ways: &Ways, building: &Building) -> Result<VecDeque<Deed>, NoMemory>
     ensures { IfOk result (λ acts. acts.items ≡ batches_from (Some ways.now) building.now) }
 {
     let mut acts = VecDeque::new(alloc);
@@ -218,12 +214,7 @@ fn readied(alloc: Global, number: u64, is_ready: bool) -> Result<Vec<Notice>, No
     Ok(notices)
 }
 
-fn join_ready(
-    alloc: Global,
-    number: u64,
-    is_ready: bool,
-    tasks: &mut Tasks,
-) -> Result<(), NoMemory>
+fn join_ready(alloc: Global, number: u64, is_ready: bool, tasks: &mut Tasks) -> Result<(), NoMemory>
     ensures { OnOk result (agenda_of tasks.new ≡ record (agenda_of tasks.old) { here = put_all below (if is_ready then ready_notice number ∷ [] else []) tasks.old.here }) }
 {
     if is_ready {

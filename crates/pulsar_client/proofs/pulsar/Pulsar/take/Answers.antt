@@ -18,7 +18,7 @@ returns-clause-ok g c = λ o h taken s.
       answers = λ t.
           c.in_ok-note.ensures t
           ∙ (λ i. ended_in (map shown (c.deref-2.ensures.value i)) t
-            (drawn_to (ticket_is c.args.self.now.tables s.stands i) (ticket_is c.step.new.self stands i) t (s.answers t i)))
+          (drawn_to (ticket_is c.args.self.now.tables s.stands i) (ticket_is c.step.new.self stands i) t (s.answers t i)))
           ∙ held_on taken t new h (s.drawn t);
       drawn = λ t k. drawn_more t new h (s.drawn t k);
       whole = refl;

@@ -21,11 +21,11 @@ returns-clause-left c =
     in
     on_ok_weaker c.open.result
     (λ opened. opened
-        ∙ ap (λ (x : Agenda). record x { behind = x.behind ++ map (arranged below) (opens c.stop.new.notices.items) }) told
-        ∙ (λ i. record g {
-          now = (ap (λ acts. acts ++ (tells c.args.who Stopped ++ g.now)) ends ∙ sym (append_assoc (over_links stop_act v.links) (tells c.args.who Stopped) g.now)) i;
-          behind = g.behind ++ map (arranged below) (opens (notices i));
-        }))
+    ∙ ap (λ (x : Agenda). record x { behind = x.behind ++ map (arranged below) (opens c.stop.new.notices.items) }) told
+    ∙ (λ i. record g {
+      now = (ap (λ acts. acts ++ (tells c.args.who Stopped ++ g.now)) ends ∙ sym (append_assoc (over_links stop_act v.links) (tells c.args.who Stopped) g.now)) i;
+      behind = g.behind ++ map (arranged below) (opens (notices i));
+    }))
     c.open.ensures
 
 pub returns-clause-sees : goal.returns-clause-sees

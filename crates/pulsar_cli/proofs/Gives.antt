@@ -7,15 +7,11 @@ use Rattle.std.proofs.Math.Seq.{drop-append_seam, drop-length}
 use Rattle.pulsar_producer.specs.Routing.{Policy}
 use Rattle.pulsar_client.specs.Outside.{Rose, Takes}
 use Rattle.pulsar_cli.specs.Script.{Given, HasFault, IsDone, Printed, Ran, Seen, limit}
-use Rattle.pulsar_cli.specs.Shown.{Faults, Halts, HasRead, Routes, Told, read_status, status_of}
+use Rattle.pulsar_cli.specs.Shown.{Faults, Gave, Halts, HasRead, Told, read_status, status_of}
 use Rattle.pulsar_cli.specs.declared.reading.Reading.{Reading}
 use Rattle.pulsar_cli.specs.declared.stop.Stop.{Stop}
 use Rattle.pulsar_cli.specs.declared.stop.Stop.TheVariants as stop
 use Rattle.pulsar_cli.proofs.Prints.{printed-done, printed-stopped, stopped-new}
-
--- these bytes were taken
-abbrev pub Gave : Option (List ℕ) → Option (List ℕ) → List ℕ → Type 0
-Gave old new bytes = (all : List ℕ) → old ≡ Some all → (rest : List ℕ) × (all ≡ bytes ++ rest) × (new ≡ Some rest)
 
 pub gave-none : (now : Option (List ℕ)) → Gave now now []
 gave-none now all h = (all, refl, h)
@@ -68,7 +64,7 @@ given-whole source bytes g end =
     }
 
 -- the reading stopped behind these bytes
-pub read-halts : {X : Type 0} {d : X → Type 0} {routes : Routes d} {ps : List Policy} (s : Stop) {r : Reading X d} (source sink : Seen) (bytes : List ℕ) → Gave source.before source.after bytes → ((rest : List ℕ) → Halts routes ps s r sink.before sink.after (bytes ++ rest)) → Faults s source.faults_before source.faults_after sink.faults_before sink.faults_after → ((status_of s ≡ 6) ↔ (limit < length bytes)) → HasRead routes ps (Err s) r source sink
+pub read-halts : {ps : List Policy} {r : Reading} (s : Stop) (source sink : Seen) (bytes : List ℕ) → Gave source.before source.after bytes → ((rest : List ℕ) → Halts ps s r sink.before sink.after (bytes ++ rest)) → Faults s source.faults_before source.faults_after sink.faults_before sink.faults_after → ((status_of s ≡ 6) ↔ (limit < length bytes)) → HasRead ps (Err s) r source sink
 read-halts s source sink bytes g halts faults limits =
     record {
       given = given source bytes g;
@@ -79,7 +75,7 @@ read-halts s source sink bytes g halts faults limits =
     }
 
 -- the reading came to the end of the source
-pub read-ends : {X : Type 0} {d : X → Type 0} {routes : Routes d} {ps : List Policy} (result : Result (Unit {0}) Stop) {r : Reading X d} (source sink : Seen) (bytes : List ℕ) → Gave source.before source.after bytes → ((all : List ℕ) → source.before ≡ Some all → source.after ≡ Some []) → length bytes ≤ limit → MatchResult result (λ done. IsDone ps bytes sink.before sink.after) (λ s. Halts routes ps s r sink.before sink.after bytes) → IfErr result (λ s. Faults s source.faults_before source.faults_after sink.faults_before sink.faults_after) → (read_status result ≡ 6 → ⊥) → HasRead routes ps result r source sink
+pub read-ends : {ps : List Policy} {r : Reading} (result : Result (Unit {0}) Stop) (source sink : Seen) (bytes : List ℕ) → Gave source.before source.after bytes → ((all : List ℕ) → source.before ≡ Some all → source.after ≡ Some []) → length bytes ≤ limit → MatchResult result (λ done. IsDone ps bytes sink.before sink.after) (λ s. Halts ps s r sink.before sink.after bytes) → IfErr result (λ s. Faults s source.faults_before source.faults_after sink.faults_before sink.faults_after) → (read_status result ≡ 6 → ⊥) → HasRead ps result r source sink
 read-ends (Ok done) source sink bytes g end le ends faults within =
     record {
       given = given-whole source bytes g end;
@@ -112,7 +108,7 @@ ran-new ps source sink same kept =
     }
 
 -- all was read
-pub ran-done : {X : Type 0} {d : X → Type 0} {routes : Routes d} {ps : List Policy} {r : Reading X d} {source sink : Seen} → HasRead routes ps (Ok tt) r source sink → Ran ps 0 source sink
+pub ran-done : {ps : List Policy} {r : Reading} {source sink : Seen} → HasRead ps (Ok tt) r source sink → Ran ps 0 source sink
 ran-done h =
     record {
       known = (omega arith, λ e. absurd (omega (arith, e)));
@@ -171,7 +167,7 @@ told-limits result s (inl e) l = rw e l
 told-limits result s (inr t) l = (λ e. absurd (omega (arith, t.1, e)), λ p. absurd (omega (arith, ap status_of t.0, l.1 p)))
 
 -- the reading stopped
-pub ran-halted : {X : Type 0} {d : X → Type 0} {routes : Routes d} {ps : List Policy} {r : Reading X d} (result : ℕ) (s : Stop) (source mid sink : Seen) (h : HasRead routes ps (Err s) r source mid) → Told result s → mid.faults_before ≡ sink.faults_before → ((s ≡ stop.Refused → ⊥) → sink.faults_after ≡ mid.faults_after) → Printed ps result h.given.bytes sink.before sink.after (HasFault sink → ⊥) → Ran ps result source sink
+pub ran-halted : {ps : List Policy} {r : Reading} (result : ℕ) (s : Stop) (source mid sink : Seen) (h : HasRead ps (Err s) r source mid) → Told result s → mid.faults_before ≡ sink.faults_before → ((s ≡ stop.Refused → ⊥) → sink.faults_after ≡ mid.faults_after) → Printed ps result h.given.bytes sink.before sink.after (HasFault sink → ⊥) → Ran ps result source sink
 ran-halted result s source mid sink h told same kept printed =
     record {
       known = told-known result s told;

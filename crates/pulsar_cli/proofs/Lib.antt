@@ -15,3 +15,6 @@ pub mod Producers
 pub mod ReadBack
 pub mod Folds
 pub mod Gives
+pub mod Events
+pub mod Feeds
+pub mod Turns

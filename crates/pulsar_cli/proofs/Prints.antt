@@ -5,31 +5,25 @@ use Rattle.std.proofs.lemmas.List.{length-drop, length-take-le}
 use Rattle.std.proofs.Math.Seq.{take-length}
 use Rattle.std.proofs.Math.ListN.{drop_of_length-le}
 use Rattle.pulsar_producer.specs.Routing.{Policy}
-use Rattle.pulsar_client.specs.Run.{Good, Step}
+use Rattle.pulsar_client.specs.Content.{Heard}
+use Rattle.pulsar_client.specs.Run.{Step}
 use Rattle.pulsar_client.specs.View.{Options}
-use Rattle.pulsar_cli.specs.Grammar.{lines}
+use Rattle.pulsar_cli.specs.Grammar.{Happens, line as meaning, lines}
 use Rattle.pulsar_cli.specs.Text.{refusal}
 use Rattle.pulsar_cli.specs.Script.{Adds, AddsFront, IsDone, IsRunOf, IsStopped, IsRefused, Printed, blank, script_of, text}
-use Rattle.pulsar_cli.specs.Shown.{Faults, Halts, InTurn, IsClient, IsNoScriptWith, Prints, Reads, Refuses, Refusing, Routes, Running, read_status, said, status_of}
+use Rattle.pulsar_cli.specs.Shown.{Faults, Halts, InTurn, IsLast, IsNoScriptWith, Prints, Reads, Refuses, Refusing, Running, options_in, read_status, said, status_of}
 use Rattle.pulsar_cli.specs.declared.reading.Reading.{Reading}
-use Rattle.pulsar_cli.specs.declared.reading.Stage.{Stage}
-use Rattle.pulsar_cli.specs.declared.reading.Stage.TheVariants as stage
 use Rattle.pulsar_cli.specs.declared.stop.Stop.{Stop}
 use Rattle.pulsar_cli.specs.declared.stop.Stop.TheVariants as stop
 use Rattle.pulsar_cli.proofs.Lines.{last-line}
 use Rattle.pulsar_cli.proofs.Sinks.{adds-more, adds-nil, rose-from}
 
--- a client's history is good
-client-good : {X : Type 0} {d : X → Type 0} {routes : Routes d} (o : Options) (t : Option (Stage X d)) (h : List Step) → IsClient routes o t h → Good o h
-client-good o None h is = absurd is
-client-good o (Some (stage.Chooses given)) h is = rw is.1 (record { log = []; run = tt; rests = refl; same = refl })
-client-good o (Some (stage.Runs c)) h is = let s = is.0.stands in record { log = s.log; run = s.run; rests = s.rests; same = s.same }
-
-pub run-of : {X : Type 0} {d : X → Type 0} {routes : Routes d} {ps : List Policy} {r : Reading X d} {put : List ℕ} {read : List (List ℕ)} {h : List Step} → Reads routes ps r put read h → IsRunOf ps read h
-run-of {r = r} {h = h} reads = record { script = said reads.options h; is = reads.script; events = refl; good = client-good reads.options r.stage h reads.client }
+-- the run of the lines that were read
+pub run-of : {ps : List Policy} {o : Options} {r : Reading} {put : List ℕ} {read : List (List ℕ)} {h : List Step} → Reads ps o r put read h → IsRunOf ps read h
+run-of {ps = ps} {r = r} {h = h} reads = record { script = said (options_in ps r) h; is = reads.script; events = refl; good = reads.good }
 
 -- text that waits is the back of the run's text
-stopped : {X : Type 0} {d : X → Type 0} {routes : Routes d} {ps : List Policy} {r : Reading X d} {put bytes : List ℕ} {read : List (List ℕ)} {h : List Step} {old now : Option (List ℕ)} (after : List (List ℕ)) → Reads routes ps r put read h → Adds old now put → lines bytes ≡ read ++ after → IsStopped ps bytes old now
+pub stopped : {ps : List Policy} {o : Options} {r : Reading} {put bytes : List ℕ} {read : List (List ℕ)} {h : List Step} {old now : Option (List ℕ)} (after : List (List ℕ)) → Reads ps o r put read h → Adds old now put → lines bytes ≡ read ++ after → IsStopped ps bytes old now
 stopped {r = r} {put = put} {read = read} {h = h} after reads adds apart =
     record {
       before = read;
@@ -41,7 +35,7 @@ stopped {r = r} {put = put} {read = read} {h = h} after reads adds apart =
     }
 
 -- a part of the text that waited was put
-stopped-front : {X : Type 0} {d : X → Type 0} {routes : Routes d} {ps : List Policy} {r : Reading X d} {put bytes : List ℕ} {read : List (List ℕ)} {h : List Step} {old now new : Option (List ℕ)} (after : List (List ℕ)) → Reads routes ps r put read h → Adds old now put → AddsFront now new (string_bytes r.out) → lines bytes ≡ read ++ after → IsStopped ps bytes old new
+pub stopped-front : {ps : List Policy} {o : Options} {r : Reading} {put bytes : List ℕ} {read : List (List ℕ)} {h : List Step} {old now new : Option (List ℕ)} (after : List (List ℕ)) → Reads ps o r put read h → Adds old now put → AddsFront now new (string_bytes r.out) → lines bytes ≡ read ++ after → IsStopped ps bytes old new
 stopped-front {r = r} {put = put} {read = read} {h = h} after reads adds more apart =
     record {
       before = read;
@@ -58,18 +52,19 @@ stopped-front {r = r} {put = put} {read = read} {h = h} after reads adds more ap
     }
 
 -- a reading stops within the bytes
-pub prints-stopped : {X : Type 0} {d : X → Type 0} {routes : Routes d} {ps : List Policy} {r : Reading X d} {old now : Option (List ℕ)} {consumed : List ℕ} (future : List ℕ) → Prints routes ps r old now consumed → IsStopped ps (consumed ++ future) old now
+pub prints-stopped : {ps : List Policy} {o : Options} {h : List Step} {r : Reading} {old now : Option (List ℕ)} {consumed : List ℕ} (future : List ℕ) → Prints ps o h r old now consumed → IsStopped ps (consumed ++ future) old now
 prints-stopped {r = r} future p = stopped (lines (r.pending.items ++ future)) p.running.reads p.adds (p.running.splits.apart future)
 
-pub prints-front : {X : Type 0} {d : X → Type 0} {routes : Routes d} {ps : List Policy} {r : Reading X d} {old now new : Option (List ℕ)} {consumed : List ℕ} (future : List ℕ) → Prints routes ps r old now consumed → AddsFront now new (string_bytes r.out) → IsStopped ps (consumed ++ future) old new
+pub prints-front : {ps : List Policy} {o : Options} {h : List Step} {r : Reading} {old now new : Option (List ℕ)} {consumed : List ℕ} (future : List ℕ) → Prints ps o h r old now consumed → AddsFront now new (string_bytes r.out) → IsStopped ps (consumed ++ future) old new
 prints-front {r = r} future p more = stopped-front (lines (r.pending.items ++ future)) p.running.reads p.adds more (p.running.splits.apart future)
 
 -- a turn stops by a line or by want of memory
-pub halts-piece : {X : Type 0} {d : X → Type 0} {routes : Routes d} {ps : List Policy} {r r' : Reading X d} {old now : Option (List ℕ)} {consumed : List ℕ} (piece future : List ℕ) (s : Stop) → Prints routes ps r old now consumed → ((s ≡ stop.Refused) ⊎ (s ≡ stop.NoMemory)) → (s ≡ stop.Refused → (put x : List ℕ) → Running routes ps r put x → Refuses routes ps r' put (x ++ piece)) → Halts routes ps s r' old now (consumed ++ (piece ++ future))
-halts-piece piece future stop.Refused p either refuses =
-    let bad = refuses refl p.put consumed p.running in
+pub halts-piece : {ps : List Policy} {o : Options} {h : List Step} {r r' : Reading} {old now : Option (List ℕ)} {consumed : List ℕ} (piece future : List ℕ) (s : Stop) (p : Prints ps o h r old now consumed) → ((s ≡ stop.Refused) ⊎ (s ≡ stop.NoMemory)) → (s ≡ stop.Refused → Refuses ps r' p.put (consumed ++ piece)) → Halts ps s r' old now (consumed ++ (piece ++ future))
+halts-piece {consumed = consumed} piece future stop.Refused p either refuses =
+    let bad = refuses refl in
     let rest = bad.apart future in
     record {
+      o = bad.o;
       put = p.put;
       read = bad.read;
       history = bad.history;
@@ -86,16 +81,17 @@ halts-piece piece future stop.Sink p either refuses = prints-stopped (piece ++ f
 halts-piece piece future stop.TooLong p either refuses = prints-stopped (piece ++ future) p
 
 -- the last line stops it
-pub halts-line : {X : Type 0} {d : X → Type 0} {routes : Routes d} {ps : List Policy} {r r' : Reading X d} {old now : Option (List ℕ)} {consumed : List ℕ} (s : Stop) → Prints routes ps r old now consumed → (s ≡ stop.Refused → (r' ≡ r) × IsNoScriptWith routes r r.pending.items) → Halts routes ps s r' old now consumed
-halts-line {ps = ps} {r = r} stop.Refused p refuses =
+pub halts-line : {ps : List Policy} {o : Options} {h : List Step} {r r' : Reading} {old now : Option (List ℕ)} {consumed : List ℕ} (s : Stop) → Prints ps o h r old now consumed → (s ≡ stop.Refused → (r' ≡ r) × IsNoScriptWith r r.pending.items) → Halts ps s r' old now consumed
+halts-line {ps = ps} {o = o} {h = h} {r = r} stop.Refused p refuses =
     let bad = refuses refl in
     record {
+      o = o;
       put = p.put;
       read = p.running.read;
-      history = p.running.history;
+      history = h;
       reads = rw bad.0 p.running.reads;
       bad = r.pending.items;
-      refused = bad.1 ps p.put p.running.read p.running.history p.running.reads;
+      refused = bad.1 ps o p.put p.running.read h p.running.reads;
       after = [];
       apart = last-line p.running.splits;
       adds = p.adds;
@@ -106,16 +102,26 @@ halts-line {r = r} stop.Sink p refuses = stopped (r.pending.items ∷ []) p.runn
 halts-line {r = r} stop.TooLong p refuses = stopped (r.pending.items ∷ []) p.running.reads p.adds (last-line p.running.splits)
 
 -- the last line was read, and the sink failed
-pub halts-end : {X : Type 0} {d : X → Type 0} {routes : Routes d} {ps : List Policy} {r r' : Reading X d} {old now new : Option (List ℕ)} {consumed : List ℕ} {next : List Step} (p : Prints routes ps r old now consumed) → Reads routes ps r' p.put (p.running.read ++ r.pending.items ∷ []) next → AddsFront now new (string_bytes r'.out) → IsStopped ps consumed old new
+pub halts-end : {ps : List Policy} {o : Options} {h : List Step} {r r' : Reading} {old now new : Option (List ℕ)} {consumed : List ℕ} (p : Prints ps o h r old now consumed) → Reads ps o r' p.put (p.running.read ++ r.pending.items ∷ []) h → AddsFront now new (string_bytes r'.out) → IsStopped ps consumed old new
 halts-end {r = r} p reads more = stopped-front [] reads p.adds more (last-line p.running.splits ∙ sym (append-nil (p.running.read ++ r.pending.items ∷ [])))
 
 -- the last line was read
-pub ends-here : {X : Type 0} {d : X → Type 0} {routes : Routes d} {ps : List Policy} {r r' : Reading X d} {old now new : Option (List ℕ)} {consumed : List ℕ} {next : List Step} (p : Prints routes ps r old now consumed) → Reads routes ps r' p.put (p.running.read ++ r.pending.items ∷ []) next → Adds now new (string_bytes r'.out) → IsDone ps consumed old new
-ends-here {next = next} p reads more =
+pub ends-here : {ps : List Policy} {o : Options} {h : List Step} {r r' : Reading} {old now new : Option (List ℕ)} {consumed : List ℕ} (p : Prints ps o h r old now consumed) → Reads ps o r' p.put (p.running.read ++ r.pending.items ∷ []) h → Adds now new (string_bytes r'.out) → IsDone ps consumed old new
+ends-here {h = h} p reads more =
     record {
-      history = next;
+      history = h;
       run = rw (last-line p.running.splits) (run-of reads);
       prints = rw (sym reads.text) (adds-more p.put _ p.adds more);
+    }
+
+-- the last line is an event
+pub last-happens : {ps : List Policy} {o : Options} {h : List Step} {r r' : Reading} {old now : Option (List ℕ)} {consumed : List ℕ} {e : Heard} (p : Prints ps o h r old now consumed) → Reads ps o r' p.put p.running.read h → meaning r.pending.items ≡ Happens e → IsLast ps o h r' old now consumed e
+last-happens {r = r} p reads happens =
+    record {
+      put = p.put;
+      comes = record { read = p.running.read; reads = reads; line = r.pending.items; happens = happens };
+      whole = last-line p.running.splits;
+      adds = p.adds;
     }
 
 pub printed-done : {ps : List Policy} {bytes : List ℕ} {old new : Option (List ℕ)} {faultless : Type 0} → IsDone ps bytes old new → Printed ps 0 bytes old new faultless
@@ -128,23 +134,23 @@ pub printed-stopped : {ps : List Policy} {bytes : List ℕ} {old new : Option (L
 printed-stopped status ge d = record { done = λ e. absurd (omega (arith, e, ge)); refused = λ e. absurd (omega (arith, e, ge)); stopped = λ le. d }
 
 -- a line isn't in the grammar, and memory runs out before its refusal
-pub refusing-stopped : {X : Type 0} {d : X → Type 0} {routes : Routes d} {ps : List Policy} {r : Reading X d} {old now : Option (List ℕ)} {bytes : List ℕ} → Refusing routes ps r old now bytes → IsStopped ps bytes old now
+pub refusing-stopped : {ps : List Policy} {r : Reading} {old now : Option (List ℕ)} {bytes : List ℕ} → Refusing ps r old now bytes → IsStopped ps bytes old now
 refusing-stopped p = stopped (p.bad ∷ p.after) p.reads p.adds p.apart
 
 -- the text of the lines before, and the refusal
-refused-text : {X : Type 0} {d : X → Type 0} {routes : Routes d} {ps : List Policy} {r : Reading X d} {old now : Option (List ℕ)} {bytes : List ℕ} (held : List ℕ) (p : Refusing routes ps r old now bytes) → held ≡ string_bytes r.out ++ refusal r.line → text p.history ++ refusal (length p.read + 1) ≡ p.put ++ held
+refused-text : {ps : List Policy} {r : Reading} {old now : Option (List ℕ)} {bytes : List ℕ} (held : List ℕ) (p : Refusing ps r old now bytes) → held ≡ string_bytes r.out ++ refusal r.line → text p.history ++ refusal (length p.read + 1) ≡ p.put ++ held
 refused-text {r = r} held p out =
     ap (λ (t : List ℕ). t ++ refusal (length p.read + 1)) (sym p.reads.text)
     ∙ append_assoc p.put (string_bytes r.out) (refusal (length p.read + 1))
     ∙ ap (λ n. p.put ++ (string_bytes r.out ++ refusal n)) (sym p.reads.number)
     ∙ ap (λ (t : List ℕ). p.put ++ t) (sym out)
 
-refused-here : {X : Type 0} {d : X → Type 0} {routes : Routes d} {ps : List Policy} {r : Reading X d} {old now new : Option (List ℕ)} {bytes : List ℕ} {faultless : Type 0} (p : Refusing routes ps r old now bytes) → (faultless → Adds old new (text p.history ++ refusal (length p.read + 1))) → AddsFront old new (text p.history ++ refusal (length p.read + 1)) → IsRefused ps bytes old new faultless
+refused-here : {ps : List Policy} {r : Reading} {old now new : Option (List ℕ)} {bytes : List ℕ} {faultless : Type 0} (p : Refusing ps r old now bytes) → (faultless → Adds old new (text p.history ++ refusal (length p.read + 1))) → AddsFront old new (text p.history ++ refusal (length p.read + 1)) → IsRefused ps bytes old new faultless
 refused-here p prints begins =
     record { before = p.read; bad = p.bad; after = p.after; apart = p.apart; refused = p.refused; history = p.history; run = run-of p.reads; prints = prints; begins = begins }
 
 -- the refusal was put, or the sink failed
-pub refused-put : {X : Type 0} {d : X → Type 0} {routes : Routes d} {ps : List Policy} {r : Reading X d} {old now new : Option (List ℕ)} {bytes : List ℕ} {rose : Type 0} (held : List ℕ) (result : Result (Unit {0}) Stop) (p : Refusing routes ps r old now bytes) → held ≡ string_bytes r.out ++ refusal r.line → OnOk result (Adds now new held) → OnErr result (AddsFront now new held) → OnErr result rose → IsRefused ps bytes old new (rose → ⊥)
+pub refused-put : {ps : List Policy} {r : Reading} {old now new : Option (List ℕ)} {bytes : List ℕ} {rose : Type 0} (held : List ℕ) (result : Result (Unit {0}) Stop) (p : Refusing ps r old now bytes) → held ≡ string_bytes r.out ++ refusal r.line → OnOk result (Adds now new held) → OnErr result (AddsFront now new held) → OnErr result rose → IsRefused ps bytes old new (rose → ⊥)
 refused-put held (Ok done) p out put more rises =
     let e = refused-text held p out in
     let adds = adds-more p.put held p.adds put in
@@ -153,7 +159,7 @@ refused-put held (Err s) p out put more rises =
     let e = refused-text held p out in
     refused-here p (λ faultless. absurd (faultless rises)) (rw e (record { front = p.put ++ more.front; back = more.back; whole = ap (λ (t : List ℕ). p.put ++ t) more.whole ∙ sym (append_assoc p.put more.front more.back); adds = adds-more p.put more.front p.adds more.adds }))
 
-pub prints-new : {X : Type 0} {d : X → Type 0} {routes : Routes d} {ps : List Policy} {r : Reading X d} (now : Option (List ℕ)) → Running routes ps r [] [] → Prints routes ps r now now []
+pub prints-new : {ps : List Policy} {o : Options} {h : List Step} {r : Reading} (now : Option (List ℕ)) → Running ps o h r [] [] → Prints ps o h r now now []
 prints-new now run = record { put = []; running = run; adds = adds-nil now }
 
 -- a turn's faults are those of the sink

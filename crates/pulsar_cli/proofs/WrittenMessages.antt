@@ -23,16 +23,17 @@ every f each-one (x ∷ xs) = (each-one x, every f each-one xs)
 
 -- no word of a message is one
 no-slash : (m : ProducerMessageValues) → AllByRecursion IsNoSlash (message_words m)
-no-slash m =
-    (refl,
-    all-both IsNoSlash _ _ (all-both IsNoSlash _ _ (all-both IsNoSlash _ _ (all-both IsNoSlash _ _ (all-both IsNoSlash _ _ (all-both IsNoSlash _ _
-    (every property_word (λ p. refl) m.properties)
-    (every (λ t. codes "pk=" ++ word t) (λ t. refl) (option_to_list m.partition_key)))
-    (every (λ t. codes "ok=" ++ word t) (λ t. refl) (option_to_list m.ordering_key)))
-    (every (λ t. codes "rep=" ++ word t) (λ t. refl) m.replicate_to))
-    (every (λ n. codes "et=" ++ decimal n) (λ n. refl) (option_to_list m.event_time)))
-    (every (λ t. codes "sv=" ++ word t) (λ t. refl) (option_to_list m.schema_version)))
-    (every (λ z. codes "at=" ++ signed_word z) (λ z. refl) (option_to_list m.deliver_at_time)))
+no-slash m = (
+  refl,
+  all-both IsNoSlash _ _ (all-both IsNoSlash _ _ (all-both IsNoSlash _ _ (all-both IsNoSlash _ _ (all-both IsNoSlash _ _ (all-both IsNoSlash _ _
+      (every property_word (λ p. refl) m.properties)
+      (every (λ t. codes "pk=" ++ word t) (λ t. refl) (option_to_list m.partition_key)))
+      (every (λ t. codes "ok=" ++ word t) (λ t. refl) (option_to_list m.ordering_key)))
+      (every (λ t. codes "rep=" ++ word t) (λ t. refl) m.replicate_to))
+      (every (λ n. codes "et=" ++ decimal n) (λ n. refl) (option_to_list m.event_time)))
+      (every (λ t. codes "sv=" ++ word t) (λ t. refl) (option_to_list m.schema_version)))
+      (every (λ z. codes "at=" ++ signed_word z) (λ z. refl) (option_to_list m.deliver_at_time)),
+)
 
 each-of : (ws : List (List ℕ)) → AllByRecursion IsNoSlash ws → Each IsNoSlash ws
 each-of [] h = All-nil IsNoSlash

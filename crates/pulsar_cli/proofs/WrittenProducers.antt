@@ -81,7 +81,7 @@ block-reads : (d : Draft) (b : Bool) → d.wanted.options.block_queue_if_full �
 block-reads d false waits none =
     record {
       is = ap (λ b. Some (record { wanted = record d.wanted { options = record d.wanted.options { block_queue_if_full = b } }; has_block = d.has_block })) waits
-        ∙ ap (λ b. Some (record { wanted = record d.wanted { options = record d.wanted.options { block_queue_if_full = false } }; has_block = b })) none;
+          ∙ ap (λ b. Some (record { wanted = record d.wanted { options = record d.wanted.options { block_queue_if_full = false } }; has_block = b })) none;
       within = tt;
     }
 block-reads d true waits none = say-word d _ (codes "block=true") (tested-within (codes "block=true") refl) (rw none refl)

@@ -6,7 +6,10 @@ use Rattle.pulsar_wire.specs.Rows.{message_id}
 use Rattle.pulsar_wire.specs.Views.{message_id_values}
 use Rattle.pulsar_wire.specs.declared.commands.ids.MessageIdData.{MessageIdData}
 use Rattle.pulsar_messages.specs.Content.{authentication_values, message_content}
+use Rattle.std.specs.Option.{option_map}
+use Rattle.pulsar_client.specs.Address.{base_in}
 use Rattle.pulsar_client.specs.Content.{heard}
+use Rattle.pulsar_client.specs.View.{Chosen}
 use Rattle.pulsar_cli.specs.Words.{digits_from, in_range}
 use Rattle.pulsar_producer.specs.Wanted.{producer_wanted}
 use Rattle.pulsar_cli.specs.MessageWords.{Draft}
@@ -17,6 +20,7 @@ use Rattle.pulsar_cli.specs.declared.grammar.line.Line.TheVariants as parsed
 use Rattle.pulsar_cli.specs.declared.grammar.message.Draft.{Draft as ParsedDraft}
 use Rattle.pulsar_cli.specs.declared.grammar.producer.Draft.{Draft as ParsedProducer}
 use Rattle.pulsar_cli.specs.declared.grammar.setting.Setting.{Setting as ParsedSetting}
+use Rattle.pulsar_cli.specs.declared.options.Choice.{Choice}
 use Rattle.pulsar_cli.specs.declared.grammar.setting.Setting.TheVariants as setting
 
 -- the ids of a list
@@ -48,6 +52,20 @@ setting_of (setting.MaxIdle time) = MaxIdle time
 setting_of (setting.Seed seed) = Seed seed
 setting_of (setting.First number) = First number
 setting_of (setting.Now time) = Now time
+
+-- what a choice is
+abbrev pub choice_of : Choice → Chosen
+choice_of c =
+    record {
+      base = base_in (string_bytes c.url);
+      auth = option_map authentication_values c.auth;
+      connection = c.connection_retry;
+      operation = c.operation_retry;
+      outbound = c.outbound_channel_size;
+      seed = c.seed;
+      first_number = c.first_number;
+      now = c.now;
+    }
 
 abbrev pub line_of : Parsed → Line
 line_of parsed.Nothing = Nothing

@@ -113,9 +113,12 @@ pub record Seen : Type 0 where
   pub faults_before : ℕ
   pub faults_after : ℕ
 
+-- since what was seen first
+abbrev pub since : {A : Type 0} → Option (List ℕ) → ℕ → (A → Option (List ℕ)) → (A → ℕ) → A → Seen
+since first count content faults now = record { before = first; after = content now; faults_before = count; faults_after = faults now }
+
 abbrev pub seen : {A : Type 0} → (A → Option (List ℕ)) → (A → ℕ) → A → A → Seen
-seen content faults old new =
-    record { before = content old; after = content new; faults_before = faults old; faults_after = faults new }
+seen content faults old new = since (content old) (faults old) content faults new
 
 abbrev pub HasFault : Seen → Type 0
 HasFault s = Rose s.faults_before s.faults_after

@@ -1,6 +1,7 @@
 //! Scripts: what stands on the lines of one, the run of a client that it describes, and the text of that run.
 #![tactic(auto)]
 
+mod feed;
 mod grammar;
 pub mod laws;
 mod options;

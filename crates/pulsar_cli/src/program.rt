@@ -1,15 +1,21 @@
 //! The top call: the words of the command line, and a script's run.
 
-ghost use Rattle.std.specs.Prelude.{◌≡◌, ◌++◌, ◌≤◌, ◌↔◌, ◌⊎◌, false, [], ℕ, List, Option, MatchResult, OnErr, OnOk, IfErr, map, string_bytes};
+ghost use Rattle.std.specs.Prelude.{◌≡◌, ◌<◌, ◌++◌, ◌≤◌, ◌↔◌, ◌⊎◌, false, true, [], ℕ, List, Option, Ok, Err, None, MatchOption, MatchResult, OnErr, OnOk, IfErr, IfOk, IfSome, map, string_bytes};
+ghost use Rattle.pulsar_client.specs.Client.{StandsFor};
+ghost use Rattle.pulsar_client.specs.Content.{heard};
 ghost use Rattle.pulsar_client.specs.Outside.{Rose};
+ghost use Rattle.pulsar_client.specs.Run.{Step};
+ghost use Rattle.pulsar_client.specs.View.{Options};
 ghost use Rattle.pulsar_producer.specs.Routing.{Policy};
-ghost use Rattle.pulsar_cli.specs.Script.{Adds, AddsFront, IsDone, Printed, Ran, is_script, seen};
-ghost use Rattle.pulsar_cli.specs.Shown.{HasRead, Halts, InTurn, Prints, Refusing, Running, Told};
+ghost use Rattle.pulsar_cli.specs.Script.{Adds, AddsFront, IsDone, Printed, Ran, Seen, is_script, seen, since};
+ghost use Rattle.pulsar_cli.specs.Shown.{Awaits, Fed, Going, Halts, HasConsumed, HasFound, HasTold, InTurn, IsLast, Prints, Refuses, Refusing, Running, Told, options_in, remaining, unread};
 
+use crate::feed::{Feed, Next};
+use crate::options::options;
 use crate::printing::effect::push_refusal;
 use crate::reading::Reading;
 use crate::stop::Stop;
-use pulsar_client::{CustomRoutingPolicy, Sink, Source};
+use pulsar_client::{CustomRoutingPolicy, Event, Pulsar, Sink, Source};
 use std::alloc::Global;
 
 /// How a run ended: 0 done, 1 a line is not in the grammar, 2 the words are no form of the program, 3 want of memory, 4
@@ -29,12 +35,6 @@ pub const SOURCE_FAILED: Status = 4;
 pub const SINK_FAILED: Status = 5;
 
 pub const TOO_LONG: Status = 6;
-
-/// The most bytes that a script may have.
-pub const LIMIT: u64 = 268_435_456;
-
-/// How many bytes are taken from the source at a time.
-const PIECE: usize = 65_536;
 
 /// Runs the program with these words, and a client with these policies.
 pub fn run<S: Source, K: Sink>(
@@ -66,7 +66,8 @@ fn is_script(words: &[String]) -> bool
     }
 }
 
-/// Reads a script from the source and prints its run to the sink. Its client has these policies.
+/// Reads a script from the source and prints its run to the sink. Its client has these policies. It is made here, and driven where it is held:
+/// whoever lends out a client of another crate hides what is said of its policies.
 pub fn script<S: Source, K: Sink>(
     alloc: Global,
     source: &mut S,
@@ -75,22 +76,147 @@ pub fn script<S: Source, K: Sink>(
 ) -> Status
     ensures { Ran (map (λ p. routes p) policies.items) result (seen S.left S.faults source.old source.new) (seen K.holds K.faults sink.old sink.new) }
 {
-    let Ok(mut reading) = Reading::new(alloc, policies) else {
+    let Ok((mut reading, mut feed)) = begin(alloc) else {
         return NO_MEMORY;
     };
-    let status = read_through(&mut reading, source, sink);
-    drop(reading);
-    status
+    let found = match next(&mut reading, &mut feed, source, sink) {
+        Ok(Some(found)) => found,
+        Ok(None) => return DONE,
+        Err(stop) => return halt(stop, &mut reading, sink),
+    };
+    let Ok(options) = options(&reading.choice, policies) else {
+        drop(found);
+        return NO_MEMORY;
+    };
+    let Ok(client) = Pulsar::new(alloc, options) else {
+        drop(found);
+        return NO_MEMORY;
+    };
+    steps(client, &mut reading, &mut feed, found, source, sink)
 }
 
-/// Reads the source to its end, or to where that stops, and prints what it says.
-fn read_through<S: Source, K: Sink>(reading: &mut Reading, source: &mut S, sink: &mut K) -> Status
-    ensures { (ps : List Policy) → Running (λ p. routes (p.vtable, p.value)) ps reading.old [] []
-        → Ran ps result (seen S.left S.faults source.old source.new) (seen K.holds K.faults sink.old sink.new) }
+/// Nothing is read yet.
+fn begin(alloc: Global) -> Result<(Reading, Feed), Stop>
+    ensures { IfOk result (λ p. (policies : List Policy) (o : Options) (content held : Option (List ℕ)) (faults count : ℕ)
+        → Going policies o [] p.0 p.1 (since content faults (λ _. content) (λ _. faults) p.1) (since held count (λ _. held) (λ _. count) p.1)) }
 {
-    match read(reading, source, sink) {
+    let Ok(reading) = Reading::new(alloc) else {
+        return Err(Stop::NoMemory);
+    };
+    let feed = Feed::new(alloc)?;
+    Ok((reading, feed))
+}
+
+/// The events from this one on, each by a step of the client.
+fn steps<S: Source, K: Sink>(
+    client: Pulsar,
+    reading: &mut Reading,
+    feed: &mut Feed,
+    found: Next,
+    source: &mut S,
+    sink: &mut K,
+) -> Status
+    ensures { (ps : List Policy) (o : Options) (h : List Step) (content held : Option (List ℕ)) (faults count : ℕ)
+        → Awaits ps o h reading.old feed.old (since content faults S.left S.faults source.old) (since held count K.holds K.faults sink.old) (heard found.event) found.last
+        → o ≡ options_in ps reading.old → StandsFor (λ p. routes (p.vtable, p.value)) o client h []
+        → Ran ps result (since content faults S.left S.faults source.new) (since held count K.holds K.faults sink.new) }
+{
+    let mut client = client;
+    let mut found = found;
+    loop {
+        let Next { event, last } = found;
+        let Ok(effects) = client.step(event) else {
+            return NO_MEMORY;
+        };
+        let Ok(()) = reading.tells(&effects) else {
+            return NO_MEMORY;
+        };
+        if last {
+            return finish(reading, sink);
+        }
+        found = match next(reading, feed, source, sink) {
+            Ok(Some(found)) => found,
+            Ok(None) => return DONE,
+            Err(stop) => return halt(stop, reading, sink),
+        };
+    }
+}
+
+/// The next event. The text that waits is put before another piece is taken.
+fn next<S: Source, K: Sink>(
+    reading: &mut Reading,
+    feed: &mut Feed,
+    source: &mut S,
+    sink: &mut K,
+) -> Result<Option<Next>, Stop>
+    ensures found { (ps : List Policy) (o : Options) (h : List Step) (content held : Option (List ℕ)) (faults count : ℕ)
+        → Going ps o h reading.old feed.old (since content faults S.left S.faults source.old) (since held count K.holds K.faults sink.old)
+        → HasFound ps o h reading.new feed.new (since content faults S.left S.faults source.new) (since held count K.holds K.faults sink.new) result }
+    ensures less { IfOk result (λ found. IfSome found (λ n. n.last ≡ false → remaining feed.new < remaining feed.old)) }
+    ensures grows { K.faults sink.old ≤ K.faults sink.new }
+{
+    loop {
+        if let Some(event) = event_of(reading, feed)? {
+            return Ok(Some(Next { event, last: false }));
+        }
+        flush(reading, sink)?;
+        if !feed.refill(source)? {
+            return last(reading, sink);
+        }
+    }
+}
+
+/// The next event of the piece.
+fn event_of(reading: &mut Reading, feed: &mut Feed) -> Result<Option<Event>, Stop>
+    ensures found { IfOk result (λ found. (ps : List Policy) (o : Options) (h : List Step) (put bytes : List ℕ) (source : Seen)
+        → Running ps o h reading.old put bytes → Fed feed.old source bytes
+        → MatchOption found (Running ps o h reading.new put (bytes ++ unread feed.old))
+        (λ event. (front : List ℕ) × HasConsumed ps o h reading.new put front (heard event) × Fed feed.new source front)) }
+    ensures none { result ≡ Ok None → feed.new ≡ feed.old }
+    ensures less { IfOk result (λ found. IfSome found (λ _. remaining feed.new < remaining feed.old)) }
+    ensures stop { IfErr result (λ stop. (stop ≡ Stop.Refused) ⊎ (stop ≡ Stop.NoMemory)) }
+    ensures refused { result ≡ Err Stop.Refused → (ps : List Policy) (o : Options) (h : List Step) (put bytes : List ℕ) (source : Seen)
+        → Running ps o h reading.old put bytes → Fed feed.old source bytes → Refuses ps reading.new put (bytes ++ unread feed.old) }
+    ensures taken { IfErr result (λ _. feed.new ≡ feed.old) }
+{
+    match reading.piece(feed.unread())? {
+        Some((event, count)) => {
+            feed.keep(count);
+            Ok(Some(event))
+        }
+        None => Ok(None),
+    }
+}
+
+/// The source has ended, and so does the last line.
+fn last<K: Sink>(reading: &mut Reading, sink: &mut K) -> Result<Option<Next>, Stop>
+    ensures runs { (ps : List Policy) (o : Options) (h : List Step) (old : Option (List ℕ)) (bytes : List ℕ)
+        → Prints ps o h reading.old old (K.holds sink.old) bytes
+        → MatchResult result (λ found. MatchOption found (IsDone ps bytes old (K.holds sink.new))
+        (λ n. IsLast ps o h reading.new old (K.holds sink.new) bytes (heard n.event)))
+        (λ stop. Halts ps stop reading.new old (K.holds sink.new) bytes) }
+    ensures last { IfOk result (λ found. IfSome found (λ n. n.last ≡ true)) }
+    ensures stop { IfErr result (λ stop. InTurn stop (K.faults sink.old) (K.faults sink.new)) }
+    ensures grows { K.faults sink.old ≤ K.faults sink.new }
+{
+    match reading.line()? {
+        Some(event) => Ok(Some(Next { event, last: true })),
+        None => {
+            flush(reading, sink)?;
+            Ok(None)
+        }
+    }
+}
+
+/// All was read and told: the text that waits is put.
+fn finish<K: Sink>(reading: &mut Reading, sink: &mut K) -> Status
+    ensures runs { (ps : List Policy) (o : Options) (h : List Step) (source : Seen) (held : Option (List ℕ)) (count : ℕ)
+        → HasTold ps o h reading.old source (since held count K.holds K.faults sink.old)
+        → Ran ps result source (since held count K.holds K.faults sink.new) }
+{
+    match flush(reading, sink) {
         Ok(()) => DONE,
-        Err(stop) => halt(stop, reading, sink),
+        Err(_) => SINK_FAILED,
     }
 }
 
@@ -98,7 +224,7 @@ fn read_through<S: Source, K: Sink>(reading: &mut Reading, source: &mut S, sink:
 fn halt<K: Sink>(stop: Stop, reading: &mut Reading, sink: &mut K) -> Status
     ensures told { Told result stop }
     ensures runs { (ps : List Policy) (old : Option (List ℕ)) (bytes : List ℕ) (faults : ℕ) → faults ≤ K.faults sink.old
-        → Halts (λ p. routes (p.vtable, p.value)) ps stop reading.old old (K.holds sink.old) bytes
+        → Halts ps stop reading.old old (K.holds sink.old) bytes
         → Printed ps result bytes old (K.holds sink.new) (Rose faults (K.faults sink.new) → ⊥) }
     ensures kept { (stop ≡ Stop.Refused → ⊥) → sink.new ≡ sink.old }
 {
@@ -111,62 +237,10 @@ fn halt<K: Sink>(stop: Stop, reading: &mut Reading, sink: &mut K) -> Status
     }
 }
 
-/// Takes the source's bytes piece by piece, and puts the run of each before the next.
-fn read<S: Source, K: Sink>(reading: &mut Reading, source: &mut S, sink: &mut K) -> Result<(), Stop>
-    ensures has_read { (ps : List Policy) → Running (λ p. routes (p.vtable, p.value)) ps reading.old [] [] → HasRead (λ p. routes (p.vtable, p.value)) ps result reading.new
-        (seen S.left S.faults source.old source.new) (seen K.holds K.faults sink.old sink.new) }
-    ensures grows { K.faults sink.old ≤ K.faults sink.new }
-{
-    let Ok(mut buf) = vec![in reading.alloc; 0u8; PIECE] else {
-        return Err(Stop::NoMemory);
-    };
-    let mut left = LIMIT;
-    loop {
-        let Ok(n) = source.take(&mut buf) else {
-            return Err(Stop::Source);
-        };
-        let Some(after) = left.checked_sub(n as u64) else {
-            return Err(Stop::TooLong);
-        };
-        if n == 0 {
-            return ends(reading, sink);
-        }
-        left = after;
-        turn(reading, &buf[..n], sink)?;
-    }
-}
-
-/// The lines that end in a piece, with their text.
-fn turn<K: Sink>(reading: &mut Reading, piece: &[u8], sink: &mut K) -> Result<(), Stop>
-    ensures runs { (ps : List Policy) (old : Option (List ℕ)) (consumed future : List ℕ)
-        → Prints (λ p. routes (p.vtable, p.value)) ps reading.old old (K.holds sink.old) consumed
-        → MatchResult result (λ _. Prints (λ p. routes (p.vtable, p.value)) ps reading.new old (K.holds sink.new) (consumed ++ piece.now))
-        (λ stop. Halts (λ p. routes (p.vtable, p.value)) ps stop reading.new old (K.holds sink.new) (consumed ++ (piece.now ++ future))) }
-    ensures stop { IfErr result (λ stop. InTurn stop (K.faults sink.old) (K.faults sink.new)) }
-    ensures grows { K.faults sink.old ≤ K.faults sink.new }
-{
-    reading.piece(piece)?;
-    flush(reading, sink)?;
-    Ok(())
-}
-
-/// The source has ended, and so does the last line.
-fn ends<K: Sink>(reading: &mut Reading, sink: &mut K) -> Result<(), Stop>
-    ensures runs { (ps : List Policy) (old : Option (List ℕ)) (consumed : List ℕ)
-        → Prints (λ p. routes (p.vtable, p.value)) ps reading.old old (K.holds sink.old) consumed
-        → MatchResult result (λ _. IsDone ps consumed old (K.holds sink.new))
-        (λ stop. Halts (λ p. routes (p.vtable, p.value)) ps stop reading.new old (K.holds sink.new) consumed) }
-    ensures stop { IfErr result (λ stop. InTurn stop (K.faults sink.old) (K.faults sink.new)) }
-    ensures grows { K.faults sink.old ≤ K.faults sink.new }
-{
-    reading.line()?;
-    flush(reading, sink)?;
-    Ok(())
-}
-
 /// A line is not in the grammar: the text of the lines before is put, and then the refusal.
 fn refused<K: Sink>(reading: &mut Reading, sink: &mut K) -> Status
-    ensures runs { (ps : List Policy) (old : Option (List ℕ)) (bytes : List ℕ) → Refusing (λ p. routes (p.vtable, p.value)) ps reading.old old (K.holds sink.old) bytes
+    ensures runs { (ps : List Policy) (old : Option (List ℕ)) (bytes : List ℕ)
+        → Refusing ps reading.old old (K.holds sink.old) bytes
         → Printed ps result bytes old (K.holds sink.new) (Rose (K.faults sink.old) (K.faults sink.new) → ⊥) }
     ensures status { (result ≡ 1) ⊎ (result ≡ 3) }
     ensures grows { K.faults sink.old ≤ K.faults sink.new }
@@ -181,8 +255,8 @@ fn refused<K: Sink>(reading: &mut Reading, sink: &mut K) -> Status
 /// Puts the text that is there.
 fn flush<K: Sink>(reading: &mut Reading, sink: &mut K) -> Result<(), Stop>
     ensures ok { OnOk result (Adds (K.holds sink.old) (K.holds sink.new) (string_bytes reading.old.out)) }
-    ensures kept { OnOk result ((ps : List Policy) (put consumed : List ℕ) → Running (λ p. routes (p.vtable, p.value)) ps reading.old put consumed
-        → Running (λ p. routes (p.vtable, p.value)) ps reading.new (put ++ string_bytes reading.old.out) consumed) }
+    ensures kept { OnOk result ((ps : List Policy) (o : Options) (h : List Step) (put consumed : List ℕ) → Running ps o h reading.old put consumed
+        → Running ps o h reading.new (put ++ string_bytes reading.old.out) consumed) }
     ensures stop { IfErr result (λ stop. stop ≡ Stop.Sink) }
     ensures front { OnErr result (AddsFront (K.holds sink.old) (K.holds sink.new) (string_bytes reading.old.out)) }
     ensures rises { OnErr result (Rose (K.faults sink.old) (K.faults sink.new)) }

@@ -1,40 +1,31 @@
-//! A script that is being read, and its run.
+//! A script that is being read, and the text of its run.
 
-ghost use Rattle.std.specs.Prelude.{◌≡◌, ◌⊎◌, ◌+◌, ◌++◌, [], ℕ, List, Err, IfErr, IfOk, OnOk, false, map, ◌∷◌};
-ghost use Rattle.pulsar_client.specs.Client.{StandsFor, options as meaning};
-ghost use Rattle.pulsar_client.specs.Content.{heard};
-ghost use Rattle.pulsar_client.specs.Run.{Step, is_empty};
+ghost use Rattle.std.specs.Prelude.{◌≡◌, ◌⊎◌, ◌+◌, ◌-◌, ◌<◌, ◌++◌, [], ℕ, List, Err, IfErr, IfOk, IfSome, MatchOption, OnOk, length, map, string_bytes, take};
+ghost use Rattle.pulsar_client.specs.Content.{heard, shown};
+ghost use Rattle.pulsar_client.specs.Run.{Step};
 ghost use Rattle.pulsar_client.specs.View.{Options};
 ghost use Rattle.pulsar_producer.specs.Routing.{Policy};
-ghost use Rattle.pulsar_client.specs.Tables.{step};
-ghost use Rattle.pulsar_cli.specs.Grammar.{line as line_meaning};
-ghost use Rattle.pulsar_cli.specs.Parsed.{line_of, setting_of};
-ghost use Rattle.pulsar_cli.specs.Script.{sets};
-ghost use Rattle.pulsar_cli.specs.Shown.{IsClient, IsNoScriptWith, KeepsReading, KeepsText, ReadsMore, Refuses, Running, Steps};
+ghost use Rattle.pulsar_cli.specs.Grammar.{Happens, line as meaning};
+ghost use Rattle.pulsar_cli.specs.Parsed.{choice_of, line_of, setting_of};
+ghost use Rattle.pulsar_cli.specs.Script.{chooses};
+ghost use Rattle.pulsar_cli.specs.Shown.{HasConsumed, IsNoScriptWith, KeepsReading, KeepsText, ReadsMore, Refuses, Running};
+ghost use Rattle.pulsar_cli.specs.Text.{step};
 
 use crate::grammar::line::{Line, parse};
 use crate::grammar::setting::Setting;
 use crate::grammar::word::cut_line;
-use crate::options::{choose, defaults};
+use crate::options::{Choice, choose, defaults};
 use crate::printing::effect::push_step;
 use crate::stop::Stop;
-use pulsar_client::{ClientOptions, CustomRoutingPolicy, Effect, Event, Pulsar};
+use pulsar_client::{Effect, Event};
 use pulsar_wire::NoMemory;
 use std::alloc::Global;
 
-/// The client of a script: its options are chosen, until the first event comes.
-#[derive(Drop)]
-pub enum Stage {
-    Chooses(ClientOptions),
-    Runs(Pulsar),
-}
-
-/// A script that is being read.
+/// A script that is being read. Its client is outside.
 #[derive(Drop)]
 pub struct Reading {
     pub alloc: Global,
-    // it is taken out while it makes a step
-    pub stage: Option<Stage>,
+    pub choice: Choice,
     // the front of a line whose end has not come
     pub pending: Vec<u8>,
     // text that is not yet put
@@ -46,17 +37,14 @@ pub struct Reading {
 }
 
 impl Reading {
-    /// Nothing is read yet. The client is to have these policies.
-    pub fn new(
-        alloc: Global,
-        policies: Vec<Box<dyn CustomRoutingPolicy>>,
-    ) -> Result<Reading, NoMemory>
-        ensures { IfOk result (λ r. Running (λ p. routes p) (map (λ p. routes p) policies.items) r [] []) }
+    /// Nothing is read yet.
+    pub fn new(alloc: Global) -> Result<Reading, NoMemory>
+        ensures { IfOk result (λ r. (policies : List Policy) (o : Options) → Running policies o [] r [] []) }
     {
-        let options = defaults(alloc, policies)?;
+        let choice = defaults(alloc)?;
         Ok(Reading {
             alloc,
-            stage: Some(Stage::Chooses(options)),
+            choice,
             pending: Vec::new(alloc),
             out: String::new(alloc),
             events: 0,
@@ -64,28 +52,33 @@ impl Reading {
         })
     }
 
-    /// The lines that end in a piece, and the front of the next.
-    pub fn piece(&mut self, piece: &[u8]) -> Result<(), Stop>
-        ensures ok { OnOk result ((policies : List Policy) (put consumed : List ℕ) → Running (λ p. routes (p.vtable, p.value)) policies self.old put consumed
-            → Running (λ p. routes (p.vtable, p.value)) policies self.new put (consumed ++ piece.now)) }
+    /// The lines that end in a piece, up to the first that is an event, which is given with the count of the bytes behind it. Where none is an
+    /// event, the front of the next line too.
+    pub fn piece(&mut self, piece: &[u8]) -> Result<Option<(Event, usize)>, Stop>
+        ensures less { IfOk result (λ found. IfSome found (λ p. p.1 < length piece.now)) }
+        ensures ok { IfOk result (λ found. (policies : List Policy) (o : Options) (h : List Step) (put consumed : List ℕ) → Running policies o h self.old put consumed
+            → MatchOption found (Running policies o h self.new put (consumed ++ piece.now))
+            (λ p. HasConsumed policies o h self.new put (consumed ++ take (length piece.now - p.1) piece.now) (heard p.0))) }
         ensures stop { IfErr result (λ stop. (stop ≡ Stop.Refused) ⊎ (stop ≡ Stop.NoMemory)) }
-        ensures refused { result ≡ Err Stop.Refused → (policies : List Policy) (put consumed : List ℕ) → Running (λ p. routes (p.vtable, p.value)) policies self.old put consumed
-            → Refuses (λ p. routes (p.vtable, p.value)) policies self.new put (consumed ++ piece.now) }
+        ensures refused { result ≡ Err Stop.Refused → (policies : List Policy) (o : Options) (h : List Step) (put consumed : List ℕ)
+            → Running policies o h self.old put consumed → Refuses policies self.new put (consumed ++ piece.now) }
     {
         let mut rest = piece;
         while let Some((end, after)) = cut_line(rest) {
             self.more(end)?;
-            self.line()?;
+            if let Some(event) = self.line()? {
+                return Ok(Some((event, after.len())));
+            }
             rest = after;
         }
         self.more(rest)?;
-        Ok(())
+        Ok(None)
     }
 
     /// The bytes of a line go on.
     fn more(&mut self, bytes: &[u8]) -> Result<(), Stop>
         ensures ok { OnOk result (self.new.pending.items ≡ self.old.pending.items ++ bytes.now) }
-        ensures kept { OnOk result (KeepsReading (λ p. routes (p.vtable, p.value)) self.old self.new) }
+        ensures kept { OnOk result (KeepsReading self.old self.new) }
         ensures err { IfErr result (λ stop. stop ≡ Stop.NoMemory) }
     {
         match self.pending.extend_from_slice(bytes) {
@@ -94,46 +87,44 @@ impl Reading {
         }
     }
 
-    /// A line has ended.
-    pub fn line(&mut self) -> Result<(), Stop>
+    /// A line has ended. An event that it is is given, and not counted yet.
+    pub fn line(&mut self) -> Result<Option<Event>, Stop>
         ensures ok { OnOk result (self.new.pending.items ≡ []) }
-        ensures reads { OnOk result (ReadsMore (λ p. routes (p.vtable, p.value)) self.old self.new self.old.pending.items) }
+        ensures reads { IfOk result (λ found. MatchOption found (ReadsMore self.old self.new self.old.pending.items)
+            (λ event. (meaning self.old.pending.items ≡ Happens (heard event)) × KeepsReading self.old self.new)) }
         ensures stop { IfErr result (λ stop. (stop ≡ Stop.Refused) ⊎ (stop ≡ Stop.NoMemory)) }
         ensures refused { result ≡ Err Stop.Refused
-            → (self.new ≡ self.old) × IsNoScriptWith (λ p. routes (p.vtable, p.value)) self.old self.old.pending.items }
+            → (self.new ≡ self.old) × IsNoScriptWith self.old self.old.pending.items }
     {
         let Ok(line) = parse(self.alloc, &self.pending) else {
             return Err(Stop::NoMemory);
         };
-        self.take(line)?;
+        let found = self.take(line)?;
         self.pending.clear();
-        Ok(())
+        Ok(found)
     }
 
-    /// A line is nothing, or a setting, or a step, or not of the grammar.
-    fn take(&mut self, line: Line) -> Result<(), Stop>
-        ensures reads { OnOk result ((bytes : List ℕ) → line_meaning bytes ≡ line_of line
-            → ReadsMore (λ p. routes (p.vtable, p.value)) self.old self.new bytes) }
+    /// A line is nothing, or a setting, or an event, or not of the grammar.
+    fn take(&mut self, line: Line) -> Result<Option<Event>, Stop>
+        ensures reads { IfOk result (λ found. (bytes : List ℕ) → meaning bytes ≡ line_of line
+            → MatchOption found (ReadsMore self.old self.new bytes)
+            (λ event. (meaning bytes ≡ Happens (heard event)) × (self.new ≡ self.old))) }
         ensures stop { IfErr result (λ stop. (stop ≡ Stop.Refused) ⊎ (stop ≡ Stop.NoMemory)) }
         ensures refused { result ≡ Err Stop.Refused
             → (self.new ≡ self.old) × ((bytes : List ℕ)
-            → line_meaning bytes ≡ line_of line → IsNoScriptWith (λ p. routes (p.vtable, p.value)) self.old bytes) }
+            → meaning bytes ≡ line_of line → IsNoScriptWith self.old bytes) }
     {
         match line {
             Line::Nothing => {
                 self.counts()?;
-                Ok(())
+                Ok(None)
             }
             Line::Sets(setting) => {
                 self.set(setting)?;
                 self.counts()?;
-                Ok(())
+                Ok(None)
             }
-            Line::Happens(event) => {
-                self.step(event)?;
-                self.counts()?;
-                Ok(())
-            }
+            Line::Happens(event) => Ok(Some(event)),
             Line::Refused => Err(Stop::Refused),
         }
     }
@@ -141,7 +132,7 @@ impl Reading {
     /// The next line comes.
     fn counts(&mut self) -> Result<(), Stop>
         ensures ok { OnOk result (self.new.line ≡ self.old.line + 1) }
-        ensures client { OnOk result (self.new.stage ≡ self.old.stage) }
+        ensures choice { OnOk result (self.new.choice ≡ self.old.choice) }
         ensures text { OnOk result (KeepsText self.old self.new) }
         ensures err { IfErr result (λ stop. stop ≡ Stop.NoMemory) }
     {
@@ -149,81 +140,36 @@ impl Reading {
         Ok(())
     }
 
-    /// An option is chosen. It is refused where the client has been made.
+    /// An option is chosen. It is refused behind an event.
     fn set(&mut self, setting: Setting) -> Result<(), Stop>
-        ensures ok { OnOk result ((o : Options) → IsClient (λ p. routes (p.vtable, p.value)) o self.old.stage [] → IsClient (λ p. routes (p.vtable, p.value)) (sets (setting_of setting) o) self.new.stage []) }
-        ensures unmade { OnOk result ((o : Options) (h : List Step) → IsClient (λ p. routes (p.vtable, p.value)) o self.old.stage h → h ≡ []) }
+        ensures ok { OnOk result (choice_of self.new.choice ≡ chooses (setting_of setting) (choice_of self.old.choice)) }
+        ensures first { OnOk result (self.old.events ≡ 0) }
         ensures text { OnOk result (KeepsText self.old self.new) }
         ensures line { OnOk result (self.new.line ≡ self.old.line) }
-        ensures refused { IfErr result (λ stop. (stop ≡ Stop.Refused) × (self.new ≡ self.old)
-            × ((o : Options) (h : List Step) → IsClient (λ p. routes (p.vtable, p.value)) o self.old.stage h → is_empty h ≡ false)) }
+        ensures refused { IfErr result (λ stop. (stop ≡ Stop.Refused) × (self.new ≡ self.old) × (self.old.events ≡ 0 → ⊥)) }
     {
-        match &mut self.stage {
-            Some(Stage::Chooses(options)) => {
-                choose(options, setting);
-                Ok(())
-            }
-            Some(Stage::Runs(_)) | None => Err(Stop::Refused),
+        if self.events != 0 {
+            return Err(Stop::Refused);
         }
-    }
-
-    /// An event, and the text of its step.
-    fn step(&mut self, event: Event) -> Result<(), Stop>
-        ensures line { OnOk result (self.new.line ≡ self.old.line) }
-        ensures events { OnOk result (self.new.events ≡ self.old.events + 1) }
-        ensures history { OnOk result (Steps (λ p. routes (p.vtable, p.value)) self.old self.new (heard event)) }
-        ensures err { IfErr result (λ stop. stop ≡ Stop.NoMemory) }
-    {
-        let effects = self.effects(event)?;
-        let Ok(()) = push_step(&mut self.out, self.events, &effects) else {
-            drop(effects);
-            return Err(Stop::NoMemory);
-        };
-        drop(effects);
-        self.events = next(self.events)?;
+        choose(&mut self.choice, setting);
         Ok(())
     }
 
-    /// The effects of an event.
-    fn effects(&mut self, event: Event) -> Result<Vec<Effect>, Stop>
-        ensures client { IfOk result (λ out. (o : Options) (h : List Step) → IsClient (λ p. routes (p.vtable, p.value)) o self.old.stage h
-            → IsClient (λ p. routes (p.vtable, p.value)) o self.new.stage (step event out.items ∷ h)) }
-        ensures text { OnOk result (KeepsText self.old self.new) }
-        ensures line { OnOk result (self.new.line ≡ self.old.line) }
+    /// The event of a line has had these effects: its text, and the next line comes.
+    pub fn tells(&mut self, effects: &[Effect]) -> Result<(), Stop>
+        ensures out { OnOk result (string_bytes self.new.out ≡ string_bytes self.old.out ++ step self.old.events (map shown effects.now)) }
+        ensures events { OnOk result (self.new.events ≡ self.old.events + 1) }
+        ensures line { OnOk result (self.new.line ≡ self.old.line + 1) }
+        ensures choice { OnOk result (self.new.choice ≡ self.old.choice) }
+        ensures pending { OnOk result (self.new.pending ≡ self.old.pending) }
         ensures err { IfErr result (λ stop. stop ≡ Stop.NoMemory) }
     {
-        let mut client = self.started()?;
-        let effects = client.step(event);
-        drop(self.stage.replace(Stage::Runs(client)));
-        match effects {
-            Ok(effects) => Ok(effects),
-            Err(_) => Err(Stop::NoMemory),
-        }
-    }
-
-    /// The client, taken out; it is made where the first event comes.
-    fn started(&mut self) -> Result<Pulsar, Stop>
-        ensures client { IfOk result (λ c. (o : Options) (h : List Step) → IsClient (λ p. routes (p.vtable, p.value)) o self.old.stage h → StandsFor (λ p. routes (p.vtable, p.value)) o c h []) }
-        ensures text { OnOk result (KeepsText self.old self.new) }
-        ensures line { OnOk result (self.new.line ≡ self.old.line) }
-        ensures err { IfErr result (λ stop. stop ≡ Stop.NoMemory) }
-    {
-        match self.stage.take() {
-            Some(Stage::Runs(client)) => Ok(client),
-            Some(Stage::Chooses(options)) => made(self.alloc, options),
-            None => Err(Stop::NoMemory),
-        }
-    }
-}
-
-/// A client with these options, to which nothing has happened.
-fn made(alloc: Global, options: ClientOptions) -> Result<Pulsar, Stop>
-    ensures ok { IfOk result (λ c. StandsFor (λ p. routes (p.vtable, p.value)) (meaning (λ p. routes (p.vtable, p.value)) options) c [] []) }
-    ensures err { IfErr result (λ stop. stop ≡ Stop.NoMemory) }
-{
-    match Pulsar::new(alloc, options) {
-        Ok(client) => Ok(client),
-        Err(_) => Err(Stop::NoMemory),
+        let Ok(()) = push_step(&mut self.out, self.events, effects) else {
+            return Err(Stop::NoMemory);
+        };
+        self.events = next(self.events)?;
+        self.line = next(self.line)?;
+        Ok(())
     }
 }
 

@@ -27,7 +27,7 @@ fn ends(
     }
     let mut source = source(alloc, b"call build\n")?;
     let mut sink = MemorySink::new(alloc);
-    let ended = run(alloc, &owned, &mut source, &mut sink);
+    let ended = run(alloc, &owned, &mut source, &mut sink, Vec::new(alloc));
     assert_eq!(rt; ended, status, "{words:?}");
     assert_eq!(rt; sink.bytes(), text, "{words:?}");
     Ok(())

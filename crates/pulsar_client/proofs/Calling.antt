@@ -1,10 +1,14 @@
 -- What a call leaves to do, and what is seen after it: by whether tickets are left for it, and whether the client is open.
-use Rattle.std.proofs.Common.{◌≡◌, ◌∙◌, ap, sym, ℕ, ◌+◌, ◌-◌, ◌^◌, Bool, true, false, cond, not, List, [], ◌∷◌, ◌++◌, refl, Option, Some, None}
+use Rattle.std.proofs.Common.{◌≡◌, ◌∙◌, ap, sym, ℕ, ◌+◌, ◌-◌, ◌^◌, Bool, true, false, cond, not, ◌&&◌, List, [], ◌∷◌, ◌++◌, refl, Option, Some, None}
 use Rattle.std.proofs.lemmas.List.{append-nil}
 use Rattle.pulsar_session.specs.Failures.{Exhausted}
 use Rattle.pulsar_client.specs.declared.act.Act.{Act}
 use Rattle.pulsar_client.specs.declared.act.Act.TheVariants.{Comes, Answers}
+use Rattle.pulsar_client.specs.declared.act.Alarm.TheVariants.{CheckIdle}
+use Rattle.pulsar_client.specs.declared.act.Makes.{Makes}
+use Rattle.pulsar_client.specs.declared.act.Makes.TheVariants.{Nothing, Client, Consumer, Producer}
 use Rattle.pulsar_client.specs.declared.act.Part.TheVariants.{Calls}
+use Rattle.pulsar_client.specs.Alarms.{set}
 use Rattle.pulsar_client.specs.declared.act.Procedure.{Procedure}
 use Rattle.pulsar_client.specs.declared.act.Procedure.TheVariants as procedure
 use Rattle.pulsar_client.specs.declared.act.Refusal.TheVariants as refusal
@@ -17,7 +21,7 @@ use Rattle.pulsar_client.specs.Plan.{fails}
 use Rattle.pulsar_client.specs.Producers.{Producers, called_on, opened_on, why_not}
 use Rattle.pulsar_client.specs.Rules.{parts_of, procedure_for, shares_unless, starts, unless_refused}
 use Rattle.pulsar_client.specs.Run.{Agenda, goes_on}
-use Rattle.pulsar_client.specs.View.{Chosen, Tickets, View, after, may_call}
+use Rattle.pulsar_client.specs.View.{Chosen, Tickets, View, after, alarms_built, builds, idle_period, later, may_call}
 
 -- TICKETS
 
@@ -130,3 +134,44 @@ may_so b p h = sym (ap (λ b. unless_refused b p) h)
 pub open_same : (v : View) (a : Asked) → may_call v.calls ≡ true →
     record v { producers = opened_on a v.producers } ≡ record v { producers = called_on (may_call v.calls) a v.producers }
 open_same v a h = sym (ap (λ b. record v { producers = called_on b a v.producers }) h)
+
+-- WHERE A VERDICT HAS MADE SOMETHING
+
+module _ (v : View) (m : Makes) where
+  abbrev built_with : (is_built is_first : Bool) → View
+  built_with is_built is_first =
+      record v {
+        calls = record { drawn = v.calls.drawn; is_built = is_built; is_stopped = v.calls.is_stopped };
+        alarms = alarms_built v.now is_first v.alarms;
+      }
+
+  abbrev is_first : Bool
+  is_first = not v.calls.is_built && builds m false
+
+  keeps : (m : Makes) → builds m true ≡ true
+  keeps Nothing = refl
+  keeps Client = refl
+  keeps (Consumer link number topic) = refl
+  keeps (Producer made) = refl
+
+  pub built_before : v.calls.is_built ≡ true → v ≡ built_with (builds m v.calls.is_built) is_first
+  built_before e =
+      let same : v.calls.is_built ≡ builds m v.calls.is_built = e ∙ sym (keeps m) ∙ sym (ap (builds m) e) in
+      let none : false ≡ is_first = sym (ap (λ b. not b && builds m false) e) in
+      λ i. built_with (same i) (none i)
+
+  pub built_never : v.calls.is_built ≡ false → builds m false ≡ false → v ≡ built_with (builds m v.calls.is_built) is_first
+  built_never e h =
+      let same : v.calls.is_built ≡ builds m v.calls.is_built = e ∙ sym h ∙ sym (ap (builds m) e) in
+      let none : false ≡ is_first = sym h ∙ sym (ap (λ b. not b && builds m false) e) in
+      λ i. built_with (same i) (none i)
+
+  pub built_first : v.calls.is_built ≡ false → builds m false ≡ true →
+      record v {
+        calls = record { drawn = v.calls.drawn; is_built = true; is_stopped = v.calls.is_stopped };
+        alarms = set CheckIdle (later v.now idle_period) v.alarms;
+      } ≡ built_with (builds m v.calls.is_built) is_first
+  built_first e h =
+      let same : true ≡ builds m v.calls.is_built = sym h ∙ sym (ap (builds m) e) in
+      let first : true ≡ is_first = sym h ∙ sym (ap (λ b. not b && builds m false) e) in
+      λ i. built_with (same i) (first i)

@@ -164,7 +164,8 @@ pub record Joins (v : View) (a : Act) (n : ℕ) (t : Topic) : Type 0 where
   pub makes : verdict.makes ≡ Producer building
   pub is_new : IsNew (rank who).1 v.chosen.first_number n building.parts t
 
-made_row : (v : View) (who : Who) (verdict : Verdict) (m : Makes) → verdict.makes ≡ m → (n : ℕ) (t : Topic) → (producers_made v.chosen who m v.producers).topics n ≡ Some t →
+made_row : (v : View) (who : Who) (verdict : Verdict) (m : Makes) → verdict.makes ≡ m → (n : ℕ) (t : Topic) →
+    (producers_made v.chosen who m v.producers).topics n ≡ Some t →
     WasThere v.producers n t ⊎ Joins v (Answers who verdict) n t
 made_row v who verdict (Producer b) e n t h =
     let f : ℕ = v.chosen.first_number in
@@ -251,11 +252,13 @@ number_by : (v : View) (action : Action) (m : ℕ) → GivenBy v action (news.Nu
 number_by v Number m h = (refl, h)
 number_by v _ m h = absurd h
 
-drew_self : (o : Options) (older : List Entry) (who : Who) (m : ℕ) → number_drawn (view o older).producers ≡ Some m → drew o m (Then (Does who Number) ∷ older) ≡ Some who
+drew_self : (o : Options) (older : List Entry) (who : Who) (m : ℕ) → number_drawn (view o older).producers ≡ Some m →
+    drew o m (Then (Does who Number) ∷ older) ≡ Some who
 drew_self o older who m h =
     ap (λ r. drew_by r who m (drew o m older)) h ∙ (let e : (m == m) ≡ true = grind (arith, nat_tests) in ap (λ b. cond b (Some who) (drew o m older)) e)
 
-pub told_number : (o : Options) (log : List Entry) (n : Notice) (m : ℕ) → IsRun o (Then (Told n) ∷ log) → n.outcome ≡ outcome.Granted (news.Numbered m) → drew o m log ≡ Some n.who
+pub told_number : (o : Options) (log : List Entry) (n : Notice) (m : ℕ) → IsRun o (Then (Told n) ∷ log) → n.outcome ≡ outcome.Granted (news.Numbered m) →
+    drew o m log ≡ Some n.who
 told_number o log n m run e =
     let k = granted_by o log n (ap is_grant e) run in
     let g : GivenBy (view o k.older) k.action (news.Numbered m) = grants_given o log n k (news.Numbered m) e in
@@ -399,7 +402,7 @@ end_self : (w : Who) (verdict : Verdict) (t : ℕ) → w ≡ Call t → end_of t
 end_self w verdict t e = ap (λ x. end_of t (Answers x verdict)) e ∙ ap (λ b. cond b 1 0) (self_same t)
 
 -- one that ends had begun
-began_on : (o : Options) (log : List Entry) (w : Who) (p : Plan) → (view o log).stand w ≡ Some p → (q : Procedure) × (started w log ≡ Some q)
+pub began_on : (o : Options) (log : List Entry) (w : Who) (p : Plan) → (view o log).stand w ≡ Some p → (q : Procedure) × (started w log ≡ Some q)
 began_on o [] w p h = absurd cc
 began_on o (Begins e ∷ log) w p h = began_on o log w p (sym (begun_same (λ v. v.stand w) e (view o log) refl) ∙ h)
 began_on o (Then (Starts who q) ∷ log) w p h = elim (cases_Bool (is_same w who)) [
@@ -420,7 +423,8 @@ began_on o (Then a ∷ log) w p h = began_on o log w p h
 unspent : (t : ℕ) → Began (Call t) → is_spent t ≡ false
 unspent t k = k
 
-ends_began : (o : Options) (log : List Entry) (t : ℕ) (verdict : Verdict) (b : Building) → verdict.makes ≡ Producer b → IsRun o (Then (Answers (Call t) verdict) ∷ log) → is_spent t ≡ false
+ends_began : (o : Options) (log : List Entry) (t : ℕ) (verdict : Verdict) (b : Building) → verdict.makes ≡ Producer b →
+    IsRun o (Then (Answers (Call t) verdict) ∷ log) → is_spent t ≡ false
 ends_began o log t verdict b makes run = elim (answers_from o log (Call t) verdict run) [
   | inl k ↦
       (let r : IsRun o (Then (Told (notice (Call t) k.outcome)) ∷ k.older) = subst (IsRun o) k.is_there run.0 in
@@ -429,26 +433,30 @@ ends_began o log t verdict b makes run = elim (answers_from o log (Call t) verdi
   | inr m ↦ elim m [
     | inl k ↦
         (let r : IsRun o (Then (Starts (Call t) k.procedure) ∷ k.older) = subst (IsRun o) k.is_there run.0 in
-        unspent t (has_begun o (Then (Starts (Call t) k.procedure) ∷ k.older) (Call t) k.procedure r (ap (λ x. cond x (Some k.procedure) (started (Call t) k.older)) (self_same t))))
+        unspent t (has_begun o (Then (Starts (Call t) k.procedure) ∷ k.older) (Call t) k.procedure r
+        (ap (λ x. cond x (Some k.procedure) (started (Call t) k.older)) (self_same t))))
     | inr e ↦ (let f : (fails Exhausted).makes ≡ Producer b = sym (ap (λ x. x.makes) e) ∙ makes in absurd cc)
   ]
 ]
 
 -- A topic producer that joins has a number that no other has.
-pub joins_new : (o : Options) (log : List Entry) → Every (Drawn o) log → (who : Who) (verdict : Verdict) (b : Building) (n : ℕ) (row : Topic) → verdict.makes ≡ Producer b →
+pub joins_new : (o : Options) (log : List Entry) → Every (Drawn o) log → (who : Who) (verdict : Verdict) (b : Building) (n : ℕ) (row : Topic) →
+    verdict.makes ≡ Producer b →
     IsRun o (Then (Answers who verdict) ∷ log) → In n (map number_of b.parts) → (view o log).producers.topics n ≡ Some row → ⊥
 joins_new o log k (Call t) verdict b n row makes run i h =
     let own : drew o n log ≡ Some (Call t) = owned_in (λ m. drew o m log ≡ Some (Call t)) n verdict.makes b makes (joins_own o log k (Call t) verdict run) i in
     let was = (here (Drawn o) log k).topics n row h in
     let same : Some (Call t) ≡ Some (Call row.owner) = sym own ∙ was.0 in
     let w : t ≡ row.owner = cc in
-    let once : counted (end_of t) (Then (Answers (Call t) verdict) ∷ log) ≤ 1 = (ends_once_lem o (Then (Answers (Call t) verdict) ∷ log) t run).1 (ends_began o log t verdict b makes run) in
+    let once : counted (end_of t) (Then (Answers (Call t) verdict) ∷ log) ≤ 1 = (ends_once_lem o (Then (Answers (Call t) verdict) ∷ log) t run).1
+    (ends_began o log t verdict b makes run) in
     let one : end_of t (Answers (Call t) verdict) ≡ 1 = end_self (Call t) verdict t refl in
     let before : 1 ≤ counted (end_of t) log = subst (λ u. 1 ≤ counted (end_of u) log) (sym w) was.1 in
     let total : counted (end_of t) log + end_of t (Answers (Call t) verdict) ≤ 1 = once in
     omega (arith, one, before, total)
 
-topics_on : (o : Options) (log : List Entry) → Every (Drawn o) log → (a : Act) → IsRun o (Then a ∷ log) → (n : ℕ) (row : Topic) → (view o (Then a ∷ log)).producers.topics n ≡ Some row →
+topics_on : (o : Options) (log : List Entry) → Every (Drawn o) log → (a : Act) → IsRun o (Then a ∷ log) → (n : ℕ) (row : Topic) →
+    (view o (Then a ∷ log)).producers.topics n ≡ Some row →
     (drew o n (Then a ∷ log) ≡ Some (Call row.owner)) × (1 ≤ counted (end_of row.owner) (Then a ∷ log))
 topics_on o log k a run n row h = elim (row_from (view o log) a n row h) [
   | inl w ↦
@@ -459,12 +467,12 @@ topics_on o log k a run n row h = elim (row_from (view o log) a n row h) [
       ))
   | inr j ↦ (
     subst (λ (x : Act). drew o n (Then x ∷ log) ≡ Some (Call row.owner)) (sym j.is_act)
-    (owned_in (λ m. drew o m log ≡ Some j.who) n j.verdict.makes j.building j.makes
-    (joins_own o log k j.who j.verdict (subst (λ (x : Act). IsRun o (Then x ∷ log)) j.is_act run)) j.is_new.listed
-    ∙ ap Some (who_call j.who)
-    ∙ ap (λ x. Some (Call x.owner)) j.is_new.is_it),
+        (owned_in (λ m. drew o m log ≡ Some j.who) n j.verdict.makes j.building j.makes
+        (joins_own o log k j.who j.verdict (subst (λ (x : Act). IsRun o (Then x ∷ log)) j.is_act run)) j.is_new.listed
+        ∙ ap Some (who_call j.who)
+        ∙ ap (λ x. Some (Call x.owner)) j.is_new.is_it),
     (let one : end_of row.owner (Answers j.who j.verdict) ≡ 1 = end_self j.who j.verdict row.owner (who_call j.who ∙ ap (λ x. Call x.owner) j.is_new.is_it) in
-    subst (λ (x : Act). 1 ≤ counted (end_of row.owner) (Then x ∷ log)) (sym j.is_act) (omega (arith, one))),
+        subst (λ (x : Act). 1 ≤ counted (end_of row.owner) (Then x ∷ log)) (sym j.is_act) (omega (arith, one))),
   )
 ]
 

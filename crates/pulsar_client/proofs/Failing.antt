@@ -56,7 +56,6 @@ use Rattle.pulsar_client.specs.Links.{numbers_from}
 use Rattle.pulsar_client.specs.Parts.{failed_with, outcomes_of, sent_from}
 use Rattle.pulsar_client.specs.Plan.{asks_of, begins, builds, fails, fails_in, fails_with, failure_in, failure_of, fault_of, found, gathers, goes, goes_on_sending, goes_round, halted, is_answer, is_sent, leaves, news_in, news_of, overrides, parted, receipt_said, sends_stay, told, told_at, tells, verdict, visited}
 use Rattle.pulsar_client.proofs.Productions.{AllowsBreaks, AllowsReply, BuildKeeps, Ends, SendKeeps, building_begins, building_ends, sending_ends}
-use Rattle.pulsar_client.proofs.Proper.{is_proper}
 use Rattle.pulsar_client.proofs.Searches.{Breaks, ByFault, BySearch, ByReply, Keeps, Turns, is_search, is_sought, keeps_begins, keeps_told}
 
 -- FAULTS
@@ -80,7 +79,12 @@ unfolding unexpected
 refused_same r None = refl
 refused_same r (Some b) = refl
 
--- what a plan within a plan is told is what its outcome is
+-- what is granted is nothing that another outcome tells
+abbrev pub is_proper : Outcome → Bool
+is_proper (Granted (granting.Told x)) = false
+is_proper _ = true
+
+-- so what a plan within a plan is told is what its outcome is
 news_same : (u : Outcome) (x : News) → is_proper u ≡ true → news_of u ≡ granting.Told x → x ≡ news_in u
 news_same Queued x p h = absurd cc
 news_same InLine x p h = absurd cc

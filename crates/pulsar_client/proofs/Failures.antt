@@ -33,15 +33,14 @@ use Rattle.pulsar_client.specs.Content.{Asked}
 use Rattle.pulsar_client.specs.Laws.{Cause, FailuresAreTold, OutcomesAreCaused, outcomes, started}
 use Rattle.pulsar_client.specs.Plan.{begins}
 use Rattle.pulsar_client.specs.Producers.{Producers, advice, errand_of, next_advice, numbers_at, routed, why_not}
-use Rattle.pulsar_client.specs.Rules.{asks_raw, asks_topics, builds_with, checks, closes, fails_as, flushes, from_base, gathers, is_taken, notice, order_of, parts_of, performs, procedure_for, produces, produces_by, produces_from, searches, sends, sends_as, sends_by, share, shares_of, shares_unless, starts, unless, unless_refused, why_no_sends}
+use Rattle.pulsar_client.specs.Rules.{asks_raw, asks_topics, builds_with, checks, closes, fails_as, flushes, from_base, gathers, is_taken, order_of, parts_of, procedure_for, produces, produces_by, produces_from, searches, sends, sends_as, sends_by, share, shares_of, shares_unless, starts, unless, unless_refused, why_no_sends}
 use Rattle.pulsar_client.specs.Run.{Entry, Begins, Then, IsRun, view}
 use Rattle.pulsar_client.specs.View.{Chosen, Options, Tickets, View, may_call, ways_of}
 use Rattle.pulsar_client.specs.Who.{is_same}
 use Rattle.pulsar_client.proofs.Acts.{Each}
-use Rattle.pulsar_client.proofs.Failing.{Fails, IsMade, begins_holds, course_fails}
+use Rattle.pulsar_client.proofs.Failing.{Fails, IsMade, begins_holds, course_fails, is_proper}
 use Rattle.pulsar_client.proofs.Follow.{plans_follow_lem}
 use Rattle.pulsar_client.proofs.Made.{IsMadeAt, calls_are_made_lem}
-use Rattle.pulsar_client.proofs.Proper.{IsProper, is_proper, performs_proper}
 use Rattle.pulsar_client.proofs.Searches.{is_sought}
 use Rattle.pulsar_client.proofs.Sources.{in_append, in_each, step_some}
 
@@ -166,10 +165,7 @@ started_made o (Then a ∷ log) w p run h = started_made o log w p run.0 h
 -- what is granted arises from what was asked, or is a turn
 module _ (o : Options) (caused : OutcomesAreCaused) where
   not_granted : {X : Type 0} (who : Who) (x : News) (e : Entry) (older : List Entry) → Cause o who (Granted (granting.Told x)) e older → X
-  not_granted who x e older (inl (action, is, i)) =
-      let no : false ≡ true = in_each IsProper (Told (notice who (Granted (granting.Told x)))) (performs (view o older) who action) i
-      (performs_proper (view o older) who action) in
-      absurd cc
+  not_granted who x e older (inl (action, is, none)) = absurd none
   not_granted who x e older (inr (other, number, ticket, version, is, same, turn, next)) = absurd cc
 
   told_proper : (log : List Entry) (who : Who) (u : Outcome) → IsRun o (Then (Told (record { who = who; outcome = u })) ∷ log) → is_proper u ≡ true

@@ -175,7 +175,11 @@ made_low v who (Producer b) h =
 made_low v who _ h = h
 
 numbered_low : (ps : Producers) → IsLow ps → IsLow (numbered ps)
-numbered_low ps h = (h.0, elim (cases_Bool (is_spent (next_free ps))) [ inl e ↦ rw e low | inr e ↦ (let l : next_free ps < 2 ^ 64 = low in rw e (grind (arith, nat_tests))) ])
+numbered_low ps h = (
+  h.0,
+  elim
+      (cases_Bool (is_spent (next_free ps))) [ inl e ↦ rw e low | inr e ↦ (let l : next_free ps < 2 ^ 64 = low in rw e (grind (arith, nat_tests))) ],
+)
   where
     low : next_free ps < 2 ^ 64
     low = (free_low ps.named ps.next h.1).1

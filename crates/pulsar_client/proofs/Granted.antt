@@ -80,39 +80,47 @@ grants_more _ = false
 abbrev IsPlain : Act → Type 0
 IsPlain a = grants_more a ≡ false
 
--- CAUSES GRANT NOTHING
+-- CAUSES GRANT NOTHING, and they tell of no part of a call
 
-askers_free : (says : ℕ → Outcome) (askers : ℕ → Option Who) → ((place : ℕ) → is_granted (says place) ≡ false) → (places : List ℕ) →
-    Each IsFree (filter_map (tells_asker says askers) places)
+abbrev pub is_inner : Outcome → Bool
+is_inner (outcome.Granted n) = true
+is_inner (outcome.Parted ticket f) = true
+is_inner _ = false
+
+abbrev pub IsCaused : Notice → Type 0
+IsCaused n = is_inner n.outcome ≡ false
+
+askers_free : (says : ℕ → Outcome) (askers : ℕ → Option Who) → ((place : ℕ) → is_inner (says place) ≡ false) → (places : List ℕ) →
+    Each IsCaused (filter_map (tells_asker says askers) places)
 askers_free says askers free [] = tt
 askers_free says askers free (p ∷ ps) =
-    let more : Each IsFree (filter_map (tells_asker says askers) ps) = askers_free says askers free ps in
-    elim (askers p) as (λ r. Each IsFree (cons_option (option_map (λ who. notice who (says p)) r) (filter_map (tells_asker says askers) ps))) [
+    let more : Each IsCaused (filter_map (tells_asker says askers) ps) = askers_free says askers free ps in
+    elim (askers p) as (λ r. Each IsCaused (cons_option (option_map (λ who. notice who (says p)) r) (filter_map (tells_asker says askers) ps))) [
       | None ↦ more
       | Some w ↦ (free p, more)
     ]
 
-each_of : {A : Type 0} (f : A → Notice) → ((x : A) → IsFree (f x)) → (xs : List A) → Each IsFree (map f xs)
+each_of : {A : Type 0} (f : A → Notice) → ((x : A) → IsCaused (f x)) → (xs : List A) → Each IsCaused (map f xs)
 each_of f free [] = tt
 each_of f free (x ∷ xs) = (free x, each_of f free xs)
 
-lost_free : (end : End) (b : Bool) → is_granted (lost_with end b) ≡ false
+lost_free : (end : End) (b : Bool) → is_inner (lost_with end b) ≡ false
 lost_free (Unopened kind) b = refl
 lost_free Lost b = refl
-lost_free (Overdue below) b = elim b as (λ c. is_granted (lost_so c) ≡ false) [ true ↦ refl | false ↦ refl ]
+lost_free (Overdue below) b = elim b as (λ c. is_inner (lost_so c) ≡ false) [ true ↦ refl | false ↦ refl ]
 lost_free (Broken cause) b = refl
 lost_free Idles b = refl
 lost_free Stops b = refl
 
-dropped_free : (end : End) → is_granted (dropped end) ≡ false
+dropped_free : (end : End) → is_inner (dropped end) ≡ false
 dropped_free Stops = refl
 dropped_free _ = refl
 
-either_free : (b : Bool) (u y : Outcome) → is_granted u ≡ false → is_granted y ≡ false → is_granted (cond b u y) ≡ false
+either_free : (b : Bool) (u y : Outcome) → is_inner u ≡ false → is_inner y ≡ false → is_inner (cond b u y) ≡ false
 either_free true u y p q = p
 either_free false u y p q = q
 
-fails_free : (end : End) (b : Bool) → is_granted (fails_so end b) ≡ false
+fails_free : (end : End) (b : Bool) → is_inner (fails_so end b) ≡ false
 fails_free (Unopened kind) b = either_free b _ _ refl refl
 fails_free Lost b = either_free b _ _ refl refl
 fails_free (Overdue below) b = either_free b _ _ refl refl
@@ -120,87 +128,97 @@ fails_free (Broken cause) b = either_free b _ _ refl refl
 fails_free Idles b = either_free b _ _ refl refl
 fails_free Stops b = refl
 
-answered_free : (c : Came) (askers : ℕ → Option Who) → Each IsFree (answered_by c askers)
+answered_free : (c : Came) (askers : ℕ → Option Who) → Each IsCaused (answered_by c askers)
 answered_free (session.Settles places m) askers = askers_free (λ place. outcome.Replied (read m)) askers (λ place. refl) places
 answered_free _ askers = tt
 
-on_free : (row : Option Seat) → Each IsFree (answered_on row)
+on_free : (row : Option Seat) → Each IsCaused (answered_on row)
 on_free None = tt
 on_free (Some seat) = answered_free (came seat.seen) seat.askers
 
-served_free : (l : ℕ) (c : Change) (ws : List Who) → Each IsFree (served_by l c ws)
+served_free : (l : ℕ) (c : Change) (ws : List Who) → Each IsCaused (served_by l c ws)
 served_free l Becomes ws = each_of (λ who. notice who (outcome.GotLink l)) (λ w. refl) ws
 served_free l _ ws = tt
 
-series_free : (end : End) (s : Series) (ws : List Who) → Each IsFree (failed_at end s ws)
+series_free : (end : End) (s : Series) (ws : List Who) → Each IsCaused (failed_at end s ws)
 series_free end (Runs starter retries l) ws = each_of (failed end starter) (λ w. fails_free end _) ws
 series_free end _ ws = tt
 
-over_free : (end : End) (pause : Option Pause) (b : Base) → Each IsFree (failed_over end pause b)
+over_free : (end : End) (pause : Option Pause) (b : Base) → Each IsCaused (failed_over end pause b)
 over_free end None b = series_free end b.series b.waiting
 over_free end (Some p) b = tt
 
-failed_free : (end : End) (c : Change) (pause : Option Pause) (b : Base) → Each IsFree (failed_by end c pause b)
+failed_free : (end : End) (c : Change) (pause : Option Pause) (b : Base) → Each IsCaused (failed_by end c pause b)
 failed_free end IsOver pause b = over_free end pause b
 failed_free end _ pause b = tt
 
-ended_free : (end : End) (now : ℕ) (cause : Option Fault) (seat : Seat) → Each IsFree (ended_by end now cause seat)
+ended_free : (end : End) (now : ℕ) (cause : Option Fault) (seat : Seat) → Each IsCaused (ended_by end now cause seat)
 ended_free end now None seat = tt
 ended_free end now (Some cause) seat =
-    each_append IsFree _ _ (askers_free (lost end now seat.seen) seat.askers (λ place. lost_free end _) (ends seat.seen))
+    each_append IsCaused _ _ (askers_free (lost end now seat.seen) seat.askers (λ place. lost_free end _) (ends seat.seen))
     (askers_free (λ place. dropped end) seat.askers (λ place. dropped_free end) _)
 
-row_free : (end : End) (now : ℕ) (row : Option Seat) → Each IsFree (ended_on end now row)
+row_free : (end : End) (now : ℕ) (row : Option Seat) → Each IsCaused (ended_on end now row)
 row_free end now None = tt
 row_free end now (Some seat) = ended_free end now _ seat
 
-moved_free : (most now : ℕ) (row : Option Seat) → Each IsFree (moved_on most now row)
+moved_free : (most now : ℕ) (row : Option Seat) → Each IsCaused (moved_on most now row)
 moved_free most now None = tt
 moved_free most now (Some seat) = askers_free (λ place. outcome.Queued) seat.askers (λ place. refl) _
 
-waiters_free : (f : Turned → Base → List Notice) (known : Addresses) (g : Seat → Turned) (row : Option Seat) → ((t : Turned) (b : Base) → Each IsFree (f t b)) →
-    Each IsFree (waiters_of f known (option_map g row))
+waiters_free : (f : Turned → Base → List Notice) (known : Addresses) (g : Seat → Turned) (row : Option Seat) →
+    ((t : Turned) (b : Base) → Each IsCaused (f t b)) →
+    Each IsCaused (waiters_of f known (option_map g row))
 waiters_free f known g None free = tt
 waiters_free f known g (Some seat) free = free (g seat) _
 
-woken_free : (a : Alarm) → Each IsFree (woken a)
+woken_free : (a : Alarm) → Each IsCaused (woken a)
 woken_free (Wake who) = (refl, tt)
 woken_free _ = tt
 
-pause_free : (known : Addresses) (row : Option Pause) → Each IsFree (stopped_at known row)
+pause_free : (known : Addresses) (row : Option Pause) → Each IsCaused (stopped_at known row)
 pause_free known None = tt
 pause_free known (Some p) = each_of (λ who. notice who outcome.Stopped) (λ w. refl) _
 
-stopped_free : (known : Addresses) (a : Alarm) → Each IsFree (stopped_with known a)
+stopped_free : (known : Addresses) (a : Alarm) → Each IsCaused (stopped_with known a)
 stopped_free known (Retry l) = pause_free known (known.pause l)
 stopped_free known (Wake who) = (refl, tt)
 stopped_free known _ = tt
 
-opens_free : (ns : List Notice) → Each IsFree ns → Each (Each IsFree) (opens ns)
+opens_free : (ns : List Notice) → Each IsCaused ns → Each (Each IsCaused) (opens ns)
 opens_free [] k = tt
 opens_free (n ∷ ns) k = (k, tt)
 
-alone_free : (ns : List Notice) → Each IsFree ns → Each (Each IsFree) (map alone ns)
+alone_free : (ns : List Notice) → Each IsCaused ns → Each (Each IsCaused) (map alone ns)
 alone_free [] k = tt
 alone_free (n ∷ ns) k = ((k.0, tt), alone_free ns k.1)
 
-caused_free : (v : View) (l : ℕ) (x : _) → Each (Each IsFree) (caused v l x)
+caused_free : (v : View) (l : ℕ) (x : _) → Each (Each IsCaused) (caused v l x)
 caused_free v l Reads =
-    opens_free _ (each_append IsFree (answered_on (v.links.live l)) _ (on_free (v.links.live l))
+    opens_free _ (each_append IsCaused (answered_on (v.links.live l)) _ (on_free (v.links.live l))
     (waiters_free served_on v.addresses (turned_by v.chosen v.addresses v.now l Reads) (v.links.live l) (λ t b. served_free t.link t.change b.waiting)))
 caused_free v l (Drains most) = alone_free _ (moved_free most v.now (v.links.live l))
 caused_free v l (Ends end) =
-    opens_free _ (each_append IsFree (ended_on end v.now (v.links.live l)) _ (row_free end v.now (v.links.live l))
+    opens_free _ (each_append IsCaused (ended_on end v.now (v.links.live l)) _ (row_free end v.now (v.links.live l))
     (waiters_free (failed_on end) v.addresses (turned_by v.chosen v.addresses v.now l (Ends end)) (v.links.live l) (λ t b. failed_free end t.change t.pause b)))
 caused_free v l _ = tt
 
-pub causes_free : (v : View) (a : Act) → Each (Each IsFree) (causes v a)
-causes_free v (Comes (ToLink l x)) = caused_free v l x
-causes_free v (Comes (Rings a)) = each_either (Each IsFree) (rings v.now a v.alarms) (opens (woken a)) [] (opens_free (woken a) (woken_free a)) tt
-causes_free v (Does who StopAll) =
-    opens_free _ (each_append IsFree _ _ (each_flat IsFree (λ e. stopped_with v.addresses e.0) v.alarms (λ e. stopped_free v.addresses e.0))
+pub causes_inner : (v : View) (a : Act) → Each (Each IsCaused) (causes v a)
+causes_inner v (Comes (ToLink l x)) = caused_free v l x
+causes_inner v (Comes (Rings a)) = each_either (Each IsCaused) (rings v.now a v.alarms) (opens (woken a)) [] (opens_free (woken a) (woken_free a)) tt
+causes_inner v (Does who StopAll) =
+    opens_free _ (each_append IsCaused _ _ (each_flat IsCaused (λ e. stopped_with v.addresses e.0) v.alarms (λ e. stopped_free v.addresses e.0))
     (each_of stopped_one (λ t. refl) (waiting v.producers)))
-causes_free v _ = tt
+causes_inner v _ = tt
+
+inner_free : (u : Outcome) → is_inner u ≡ false → is_granted u ≡ false
+inner_free (outcome.Granted n) h = absurd cc
+inner_free (outcome.Parted ticket f) h = absurd cc
+inner_free _ h = refl
+
+pub causes_free : (v : View) (a : Act) → Each (Each IsFree) (causes v a)
+causes_free v a =
+    each_map (Each IsCaused) (Each IsFree) (causes v a) (λ ns k. each_map IsCaused IsFree ns (λ n h. inner_free n.outcome h) k) (causes_inner v a)
 
 -- WHAT ONE DOES
 
@@ -221,7 +239,8 @@ pub record IsLedSo (o : Options) (log : List Entry) (w : Who) (action : Action) 
   pub plan : Plan
   pub leads : told before outcome ≡ Stays plan action
 
-pub does_from : (o : Options) (log : List Entry) (w : Who) (action : Action) → IsRun o (Then (Does w action) ∷ log) → BeginsSo o log w action ⊎ IsLedSo o log w action
+pub does_from : (o : Options) (log : List Entry) (w : Who) (action : Action) → IsRun o (Then (Does w action) ∷ log) →
+    BeginsSo o log w action ⊎ IsLedSo o log w action
 does_from o log w action run =
     let k = deeds_follow_lem o log w (Acted action) run in
     let there = k.2 in
@@ -241,7 +260,7 @@ does_from o log w action run =
       ]
     ]
 
-tell_free : (o : Options) (log : List Entry) (w : Who) (n : Notice) → IsRun o (Then (Does w (Tell n)) ∷ log) → IsFree n
+pub tell_free : (o : Options) (log : List Entry) (w : Who) (n : Notice) → IsRun o (Then (Does w (Tell n)) ∷ log) → IsFree n
 tell_free o log w n run = elim (does_from o log w (Tell n) run) [
   | inl k ↦ (subst (StaysSo (Goes (KindBegun k.procedure))) k.leads (begins_goes k.procedure)).1
   | inr k ↦ (subst (StaysSo (Goes (KindOf k.before))) k.leads (told_goes k.before k.outcome)).1
@@ -273,7 +292,8 @@ performs_each P who t d s v (Find n) = finds_so (link_at (v.producers.topics n))
     finds_so : (row : Option ℕ) → Each P (finds who row)
     finds_so None = (t _, tt)
     finds_so (Some l) = (t _, tt)
-performs_each P who t d s v StopAll = each_append P (over_links stop_act v.links) (tells who outcome.Stopped) (over_each P stop_act v.links (λ l seat. (s l, tt))) (t _, tt)
+performs_each P who t d s v StopAll = each_append P (over_links stop_act v.links) (tells who outcome.Stopped)
+    (over_each P stop_act v.links (λ l seat. (s l, tt))) (t _, tt)
 performs_each P who t d s v Rest = tt
 performs_each P who t d s v _ = (t _, tt)
 
@@ -353,7 +373,8 @@ record LeftClean (now : List Act) (here : List Notice) (behind : List (List Noti
   served : Each IsTurn here
   waits : Each (Each IsFree) behind
 
-clean_rest : (now : List Act) (here : List Notice) (behind : List (List Notice)) (parts : List Part) → Each IsPlain (drop 1 now) → Each IsTurn here → Each (Each IsFree) behind →
+clean_rest : (now : List Act) (here : List Notice) (behind : List (List Notice)) (parts : List Part) → Each IsPlain (drop 1 now) → Each IsTurn here →
+    Each (Each IsFree) behind →
     LeftClean (rest_of now here behind parts).now (rest_of now here behind parts).here (rest_of now here behind parts).behind
 clean_rest (a ∷ now) here behind parts k h b = record { now_is = k; served = h; waits = b }
 clean_rest [] (n ∷ here) behind parts k h b = record { now_is = tt; served = h.1; waits = b }
@@ -457,7 +478,8 @@ module _ (v : View) (who : Who) where
   gives_so (Get p) = each_either (GivesSo v (Get p)) (is_reachable p) _ _ (gets_so p (v.addresses.base (address_key p)).series) (tt, tt)
   gives_so (Ask l request) = asks_so l request (answer_at v.now request (v.links.live l))
   gives_so StopAll =
-      each_append (GivesSo v StopAll) (over_links stop_act v.links) (tells who outcome.Stopped) (over_each (GivesSo v StopAll) stop_act v.links (λ l seat. (tt, tt))) (tt, tt)
+      each_append (GivesSo v StopAll) (over_links stop_act v.links) (tells who outcome.Stopped)
+      (over_each (GivesSo v StopAll) stop_act v.links (λ l seat. (tt, tt))) (tt, tt)
   gives_so (Wait delay) = tt
   gives_so (TakeTurn n) = turns_so n (v.producers.topics n) refl
   gives_so (PassTurn n) = (tt, tt)
@@ -523,13 +545,15 @@ granted_by o (Begins e ∷ log) n g run =
     let k = grant_first [] [] [] (agenda o (Begins e ∷ log)).parts n g tt tt run.1 in (let f : [] ≡ Told n ∷ k.left = k.is_it in absurd cc)
 granted_by o (Then b ∷ older) n g run =
     let k = clean_run o (Then b ∷ older) run.0 in
-    let f = grant_first (agenda o (Then b ∷ older)).now (agenda o (Then b ∷ older)).here (agenda o (Then b ∷ older)).behind (agenda o (Then b ∷ older)).parts n g k.served k.waits run.1 in
+    let f = grant_first (agenda o (Then b ∷ older)).now (agenda o (Then b ∷ older)).here (agenda o (Then b ∷ older)).behind
+    (agenda o (Then b ∷ older)).parts n g k.served k.waits run.1 in
     let c = clean_run o older run.0.0 in
     let h = agenda o older in
     let left = clean_rest h.now h.here h.behind h.parts c.at_head c.served c.waits in
     head_granted o older n g b (at_once (view o older) b) (rest (agenda o older)).now f.left refl left.now_is f.is_it
 
-pub grants_given : (o : Options) (log : List Entry) (n : Notice) (k : IsGrantedBy o log n) (y : News) → n.outcome ≡ outcome.Granted y → GivenBy (view o k.older) k.action y
+pub grants_given : (o : Options) (log : List Entry) (n : Notice) (k : IsGrantedBy o log n) (y : News) → n.outcome ≡ outcome.Granted y →
+    GivenBy (view o k.older) k.action y
 grants_given o log n k y e =
     subst (SaysSo (view o k.older) k.action) e
     (in_each (GivesSo (view o k.older) k.action) (Told n) (performs (view o k.older) n.who k.action) (gives_so (view o k.older) n.who k.action) k.told)

@@ -1,5 +1,5 @@
 -- Lists, and what they give, as they grow by one.
-use Rattle.std.proofs.Common.{◌≡◌, ◌<◌, ◌+◌, ◌∙◌, ℕ, ap, sym, refl, List, [], ◌∷◌, ◌++◌, append-nil, length, map, take, get_or}
+use Rattle.std.proofs.Common.{◌≡◌, ◌<◌, ◌+◌, ◌∙◌, ℕ, ap, sym, List, [], ◌∷◌, ◌++◌, append-nil, length, map, take, get_or}
 use Rattle.std.proofs.lemmas.Grind.{flat_map-append}
 use Rattle.std.proofs.lemmas.List.{map-append, take_more}
 use Rattle.std.specs.List.{flat_map}

@@ -165,7 +165,8 @@ next_idle : (left : List Named) (made : List Built) → IsBuildDeed (build_next 
 next_idle [] made = tt
 next_idle (n ∷ left) made = refl
 
-makes_idle : (c : Command) (m : ℕ) (left : List Named) (made : List Built) (x : SearchTurn Making (Result Served Failure)) → IsBuildDeed (build_makes c m left made x)
+makes_idle : (c : Command) (m : ℕ) (left : List Named) (made : List Built) (x : SearchTurn Making (Result Served Failure)) →
+    IsBuildDeed (build_makes c m left made x)
 makes_idle c m left made (search_turn.Stays s a) = wish_idle a
 makes_idle c m left made (search_turn.Gives (Ok s)) = next_idle left (made ++ produce.built c.topic m s ∷ [])
 makes_idle c m left made (search_turn.Gives (Err f)) = closes_idle made f
@@ -227,7 +228,8 @@ receipt_kept e (Ok r) = tt
 receipt_kept e (Err f) = tt
 
 -- whether it has its turn or not, but for one that waits
-pub step_kept : (w : Ways) (e : Errand) (s : Send) (y : News) → (is_turn_news y ≡ true) ⊎ (turn_of (Sending w e None s) ≡ None) → StepKept e (produce.send_told w e s y)
+pub step_kept : (w : Ways) (e : Errand) (s : Send) (y : News) → (is_turn_news y ≡ true) ⊎ (turn_of (Sending w e None s) ≡ None) →
+    StepKept e (produce.send_told w e s y)
 step_kept w e (send.Waiting m) (news.HasTurn version) h = tt
 step_kept w e (send.Waiting m) _ h = tt
 step_kept w e (send.Drawing m) (news.Drew d) h = tt
@@ -326,7 +328,8 @@ passes_kept p e s q (deed.TakesTurn n) hp k f = absurd k
 passes_kept p e s q (deed.Does x) hp k f = idle_passes p q (wished x) (wish_idle x)
 passes_kept p e s q _ hp k f = tt
 
-module _ (w : Ways) (e : Errand) (share : Option Share) (s : Send) (u : Outcome) (hp : holds_as e share s ≡ Some e.producer) (tp : turn_of (Sending w e share s) ≡ None) where
+module _ (w : Ways) (e : Errand) (share : Option Share) (s : Send) (u : Outcome) (hp : holds_as e share s ≡ Some e.producer)
+    (tp : turn_of (Sending w e share s) ≡ None) where
   abbrev p : Plan
   p = Sending w e share s
 
@@ -362,11 +365,14 @@ waiting_goes w e share m (outcome.Granted y) = leaves_goes (Sending w e share (s
 waiting_goes w e share m outcome.Queued = leaves_goes (Sending w e share (send.Waiting m)) outcome.Queued share (in_producer (fault_told news.Queued))
 waiting_goes w e share m outcome.InLine = leaves_goes (Sending w e share (send.Waiting m)) outcome.InLine share (in_producer (fault_told news.InLine))
 waiting_goes w e share m u =
-    either_so (GoesSo (Sending w e share (send.Waiting m)) u) (overrides u && true) (halted share u) (leaves share (in_producer (fault_told (news.Told (news_in u)))))
-    (halted_goes (Sending w e share (send.Waiting m)) u share u) (leaves_goes (Sending w e share (send.Waiting m)) u share (in_producer (fault_told (news.Told (news_in u)))))
+    either_so (GoesSo (Sending w e share (send.Waiting m)) u) (overrides u && true) (halted share u)
+    (leaves share (in_producer (fault_told (news.Told (news_in u)))))
+    (halted_goes (Sending w e share (send.Waiting m)) u share u)
+    (leaves_goes (Sending w e share (send.Waiting m)) u share (in_producer (fault_told (news.Told (news_in u)))))
 
 -- one that is queued
-sent_on : (w : Ways) (e : Errand) (u : Outcome) (y : News) → StaysSo (GoesSo (Sending w e None send.Sent) u) (goes_on_sending w e None (produce.send_told w e send.Sent y))
+sent_on : (w : Ways) (e : Errand) (u : Outcome) (y : News) →
+    StaysSo (GoesSo (Sending w e None send.Sent) u) (goes_on_sending w e None (produce.send_told w e send.Sent y))
 sent_on w e u (news.Told x) = received (search.verdict 7 x)
   where
     received : (r : Result Content Fault) → StaysSo (GoesSo (Sending w e None send.Sent) u) (goes_on_sending w e None (receipt r))
@@ -377,7 +383,8 @@ sent_on w e u _ = record { has = λ m h. absurd (none_some h); waits = λ m h t.
 sending_goes : (w : Ways) (e : Errand) (share : Option Share) (s : Send) (u : Outcome) → StaysSo (GoesSo (Sending w e share s) u) (told_send w e share s u)
 sending_goes w e share (send.Waiting m) u = waiting_goes w e share m u
 sending_goes w e None send.Sent u =
-    either_so (GoesSo (Sending w e None send.Sent) u) (overrides u && false) (halted None u) (goes_on_sending w e None (produce.send_told w e send.Sent (news_of u))) tt
+    either_so (GoesSo (Sending w e None send.Sent) u) (overrides u && false) (halted None u)
+    (goes_on_sending w e None (produce.send_told w e send.Sent (news_of u))) tt
     (sent_on w e u (news_of u))
 sending_goes w e (Some share) send.Sent u = within_goes w e (Some share) send.Sent u refl refl
 sending_goes w e share (send.Ending f) u =
@@ -418,7 +425,8 @@ module _ (r : Round) (n : ℕ) (left : List ℕ) where
 
   awaiting_goes : (u : Outcome) → StaysSo (GoesSo (Visiting r n left at.Awaiting) u) (in_awaiting r n left u)
   awaiting_goes (outcome.Replied reply) =
-      either_so (GoesSo (Visiting r n left at.Awaiting) (outcome.Replied reply)) (is_answer (request_number (asks_of r n)) reply.content.body) (goes_round r left)
+      either_so (GoesSo (Visiting r n left at.Awaiting) (outcome.Replied reply)) (is_answer (request_number (asks_of r n)) reply.content.body)
+      (goes_round r left)
       (fails_in r (refused reply reply.content.body)) (round_goes (Visiting r n left at.Awaiting) (outcome.Replied reply) r left refl refl) tt
   awaiting_goes outcome.Queued = record { has = λ m h. absurd (none_some h); waits = λ m h t. absurd (none_some h); passes = tt }
   awaiting_goes _ = tt

@@ -16,7 +16,6 @@ pub mod Steps
 pub mod Sorting
 pub mod Acts
 pub mod Quiet
-pub mod Proper
 pub mod Natures
 pub mod Granted
 pub mod Numbering
@@ -69,3 +68,19 @@ pub mod Free
 pub mod Topics
 pub mod Holding
 pub mod Turns
+pub mod Claiming
+pub mod Early
+pub mod Frames
+pub mod Framing
+pub mod InTurn
+pub mod OnceSent
+pub mod Receipts
+pub mod Rise
+pub mod TurnRun
+pub mod Gathered
+pub mod Parted
+pub mod Queued
+pub mod Sharing
+pub mod Telling
+pub mod Gathering
+pub mod Idlers

@@ -188,8 +188,9 @@ passing_goes r n left (outcome.Granted _) = tt
 passing_goes r n left _ = tt
 
 visited_goes : (r : Round) (left : List ℕ) (n : ℕ) (reply : Reply) → StaysSo (Goes is_visiting) (visited r left n reply)
-visited_goes r left n reply = 
-    either_so (Goes is_visiting) (is_answer (request_number (asks_of r n)) reply.content.body) (goes_round r left) (fails_in r (refused reply reply.content.body)) (round_goes r left) tt
+visited_goes r left n reply =
+    either_so (Goes is_visiting) (is_answer (request_number (asks_of r n)) reply.content.body) (goes_round r left)
+    (fails_in r (refused reply reply.content.body)) (round_goes r left) tt
 
 awaiting_goes : (r : Round) (n : ℕ) (left : List ℕ) (u : Outcome) → StaysSo (Goes is_visiting) (in_awaiting r n left u)
 awaiting_goes r n left (outcome.Replied reply) = visited_goes r left n reply

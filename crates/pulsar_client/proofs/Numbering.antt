@@ -113,10 +113,12 @@ module _ (Q : ℕ → Type 0) where
   next_sound [] made k = k
   next_sound (n ∷ left) made k = k
 
-  made_sound : (t : List ℕ) (m : ℕ) (left : List Named) (made : List Built) (s : Served) → Each Q (map number_of made ++ m ∷ []) → BuildSound Q (build_made t m left made s)
+  made_sound : (t : List ℕ) (m : ℕ) (left : List Named) (made : List Built) (s : Served) → Each Q (map number_of made ++ m ∷ []) →
+      BuildSound Q (build_made t m left made s)
   made_sound t m left made s k = next_sound left _ (subst (Each Q) (sym (map_end made (produce.built t m s))) k)
 
-  makes_sound : (c : Command) (m : ℕ) (left : List Named) (made : List Built) (x : SearchTurn Making (Result Served Failure)) → Each Q (map number_of made ++ m ∷ []) →
+  makes_sound : (c : Command) (m : ℕ) (left : List Named) (made : List Built) (x : SearchTurn Making (Result Served Failure)) →
+      Each Q (map number_of made ++ m ∷ []) →
       BuildSound Q (build_makes c m left made x)
   makes_sound c m left made (search_turn.Stays s a) k = k
   makes_sound c m left made (search_turn.Gives (Ok s)) k = made_sound c.topic m left made s k
@@ -127,11 +129,13 @@ module _ (Q : ℕ → Type 0) where
   names_sound (search_turn.Gives (Ok names)) = next_sound names [] tt
   names_sound (search_turn.Gives (Err f)) = tt
 
-  build_sound : (w : Ways) (o : Order) (b : Build) (y : News) → Each Q (drawn_in b) → ((m : ℕ) → y ≡ news.Numbered m → Q m) → BuildSound Q (produce.build_told w o b y)
+  build_sound : (w : Ways) (o : Order) (b : Build) (y : News) → Each Q (drawn_in b) → ((m : ℕ) → y ≡ news.Numbered m → Q m) →
+      BuildSound Q (produce.build_told w o b y)
   build_sound w o (build.Naming n) (news.Told x) k q = names_sound (search.names_told w o.topic n x)
   build_sound w o (build.Naming n) _ k q = tt
   build_sound w o (build.Numbering p) (news.Numbered m) k q =
-      makes_sound (command p.topic m o.name o.options) m p.left p.made (search.made_gets 0 p.place) (each_append Q (map number_of p.made) (m ∷ []) k (q m refl, tt))
+      makes_sound (command p.topic m o.name o.options) m p.left p.made (search.made_gets 0 p.place)
+      (each_append Q (map number_of p.made) (m ∷ []) k (q m refl, tt))
   build_sound w o (build.Numbering p) y k q = closes_sound p.made (OfConnection (fault_told y))
   build_sound w o (build.Making c x m left made) (news.Told y) k q = makes_sound c m left made (search.made_told w c x y) k
   build_sound w o (build.Making c x m left made) _ k q = k
@@ -171,8 +175,9 @@ module _ (Q : ℕ → Type 0) where
   round_sound r (n ∷ ns) = tt
 
   visited_sound : (r : Round) (left : List ℕ) (n : ℕ) (reply : Reply) → TurnSound Q (visited r left n reply)
-  visited_sound r left n reply = 
-      either_sound (is_answer (request_number (asks_of r n)) reply.content.body) (goes_round r left) (fails_in r (refused reply reply.content.body)) (round_sound r left) tt
+  visited_sound r left n reply =
+      either_sound (is_answer (request_number (asks_of r n)) reply.content.body) (goes_round r left) (fails_in r (refused reply reply.content.body))
+      (round_sound r left) tt
 
   turning_sound : (r : Round) (n : ℕ) (left : List ℕ) (u : Outcome) → TurnSound Q (in_turning r n left u)
   turning_sound r n left (outcome.Granted (news.HasTurn version)) = tt
@@ -245,7 +250,8 @@ module _ (Q : ℕ → Type 0) where
   told_sound (Searching w s) outcome.Stopped k q = tt
   told_sound (Searching w s) u k q = goes_sound w (search.told w s (news_in u))
   told_sound (Producing w o b) u k q =
-      either_sound (overrides u) _ _ tt (builds_sound w o (produce.build_told w o b (news_of u)) (build_sound w o b (news_of u) k (λ m h. q m (of_number u m h))))
+      either_sound (overrides u) _ _ tt
+      (builds_sound w o (produce.build_told w o b (news_of u)) (build_sound w o b (news_of u) k (λ m h. q m (of_number u m h))))
     where
       of_number : (u : Outcome) (m : ℕ) → news_of u ≡ news.Numbered m → u ≡ outcome.Granted (news.Numbered m)
       of_number (outcome.Granted n) m h = ap outcome.Granted h

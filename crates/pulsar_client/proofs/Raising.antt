@@ -87,7 +87,8 @@ call_raised asked advice from to _ k = absurd k
 
 called_raised : (v : View) (advice : List (Option ℕ)) (asked : Asked) → Each (IsRaised (Comes (Calls asked advice))) (called v advice asked)
 called_raised v advice asked =
-    called_each (IsRaised (Comes (Calls asked advice))) v advice asked (λ e. refl) (λ e. call_raised asked advice v.calls.drawn (v.calls.drawn + 1 + shares asked))
+    called_each (IsRaised (Comes (Calls asked advice))) v advice asked (λ e. refl)
+    (λ e. call_raised asked advice v.calls.drawn (v.calls.drawn + 1 + shares asked))
 
 -- PLANS
 

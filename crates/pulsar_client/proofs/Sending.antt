@@ -1,6 +1,7 @@
 -- Sends: refused or made, and several of them one after the other.
-use Rattle.std.proofs.Common.{◌≡◌, ◌∙◌, ap, sym, ℕ, ◌+◌, arith, Bool, true, false, cond, List, [], ◌∷◌, ◌++◌, refl, drop, length, suc, Option, Some, None}
+use Rattle.std.proofs.Common.{◌≡◌, ◌∙◌, ap, sym, ℕ, ◌+◌, arith, Bool, true, false, cond, List, [], ◌∷◌, ◌++◌, refl, drop, length, map, zero, suc, Option, Some, None}
 use Rattle.std.proofs.Math.Seq.{drop-nil}
+use Rattle.std.proofs.lemmas.List.{length-map, map-append}
 use Rattle.std.specs.Option.{is_some}
 use Rattle.pulsar_messages.specs.Content.{ProducerMessageValues}
 use Rattle.pulsar_client.specs.declared.act.Act.{Act}
@@ -68,3 +69,24 @@ module _ (o : Chosen) (of t : ℕ) where
       ap (λ acts. begins ps n advice x ∷ acts)
       (shares_more (routed t x ps) (n + 1) (drop 1 advice) ms m
       ∙ (λ i. shares_of o (routed t x ps) of (n + 1) (drop 1 advice) t ms ++ begins (all_routed t ms (routed t x ps)) (more i) (later i) m ∷ []))
+
+-- with the messages as the code has them
+module _ {M : Type 0} (f : M → ProducerMessageValues) (o : Chosen) (of t : ℕ) where
+  pub shares_end : (ps : Producers) (advice : List (Option ℕ)) (xs : List M) (x : M) (n : ℕ) → n ≡ of + length xs + 1 →
+      shares_of o ps of (of + 1) advice t (map f (xs ++ x ∷ []))
+      ≡ shares_of o ps of (of + 1) advice t (map f xs) ++ begins o of t (all_routed t (map f xs) ps) n (drop (length xs) advice) (f x) ∷ []
+  shares_end ps advice xs x n e =
+      let counts : length (map f xs) ≡ length xs = length-map xs f in
+      let same : of + 1 + length (map f xs) ≡ n = omega (arith, counts, e) in
+      ap (shares_of o ps of (of + 1) advice t) (map-append f xs (x ∷ []))
+      ∙ shares_more o of t ps (of + 1) advice (map f xs) (f x)
+      ∙ (λ i. shares_of o ps of (of + 1) advice t (map f xs) ++ begins o of t (all_routed t (map f xs) ps) (same i) (drop (counts i) advice) (f x) ∷ [])
+
+  pub routed_end : (ps : Producers) (xs : List M) (x : M) → all_routed t (map f (xs ++ x ∷ [])) ps ≡ routed t (f x) (all_routed t (map f xs) ps)
+  routed_end ps xs x = ap (λ ms. all_routed t ms ps) (map-append f xs (x ∷ [])) ∙ all_routed_more t (map f xs) (f x) ps
+
+-- what is said of the message behind so many
+pub drop_next : {A : Type 0} (k : ℕ) (xs : List A) → drop 1 (drop k xs) ≡ drop (k + 1) xs
+drop_next zero xs = refl
+drop_next (suc k) [] = drop-nil 1 ∙ sym (drop-nil (suc k + 1))
+drop_next (suc k) (x ∷ xs) = let e : suc (k + 1) ≡ suc k + 1 = omega arith in drop_next k xs ∙ ap (λ n. drop n (x ∷ xs)) e

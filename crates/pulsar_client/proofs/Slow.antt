@@ -15,7 +15,8 @@ use Rattle.pulsar_client.specs.Subscriptions.{Subscription, closed_at}
 use Rattle.pulsar_client.specs.View.{Options, Seat, View, answer_at, asker_at, hears_ask, is_asked, place_of, seat_asked}
 
 module _ (who : Who) (now l : ℕ) (request : Words) where
-  seat_slow : (row : Option Seat) → answer_at now request row ≡ Err error.SlowDown → option_map (seat_asked who now request) row ≡ option_map (seat_ticked now) row
+  seat_slow : (row : Option Seat) → answer_at now request row ≡ Err error.SlowDown →
+      option_map (seat_asked who now request) row ≡ option_map (seat_ticked now) row
   seat_slow None h i = None
   seat_slow (Some seat) h i = Some (record {
     address = seat.address;

@@ -3,7 +3,14 @@ use Rattle.std.proofs.Common.{◌≡◌, ◌∙◌, ap, sym, subst, ℕ, ◌+◌
 use Rattle.std.proofs.lemmas.Bool.{cases_Bool, eq-eqb, eqb-false, eqb-true, lt-leb, ltb-true, ne_eqb}
 use Rattle.pulsar_client.specs.Content.{Asked, Heard, Shown, Ends, Called, Opened, FailedToOpen, Bytes, Lost, Drain, Ticked, Poll, Said, lacks_tickets, shares}
 use Rattle.pulsar_client.specs.Run.{Step, called_to, heard_to, tickets_in}
-use Rattle.pulsar_client.specs.View.{View, is_live}
+use Rattle.std.specs.declared.alloc.Global.{Global}
+use Rattle.std.specs.declared.dyn_box.DynBox.{DynBox}
+use Rattle.pulsar_producer.specs.Routing.{Policy}
+use Rattle.pulsar_client.specs.declared.pulsar.Pulsar.{Pulsar}
+use Rattle.pulsar_client.specs.declared.tables.Tables.{Tables}
+use Rattle.pulsar_client.specs.Client.{StandsFor}
+use Rattle.pulsar_client.specs.Tables.{Stands}
+use Rattle.pulsar_client.specs.View.{Chosen, Options, View, is_live}
 use Rattle.pulsar_client.specs.Taken.{Held, drawn_to, ended_in, held, held_but, is_in, left_after, taken_left, taken_with, with_taken}
 
 -- TICKETS
@@ -152,3 +159,13 @@ drawn_by ticket t h ts (Some (Some answer)) e drawn k = elim (cases_Bool (ticket
 pub taken_drawn : (ticket t : ℕ) (h : List Step) (ts : List ℕ) → ((u : ℕ) → is_in u ts ≡ true → u < tickets_in h) →
     is_in t (taken_with ticket h ts) ≡ true → t < tickets_in h
 taken_drawn ticket t h ts drawn k = drawn_by ticket t h ts (held_but ts ticket h) refl drawn k
+
+-- WHAT A CLIENT STANDS FOR
+
+pub stands_same : {X : Type 0} {d : X → Type 0} {routes : DynBox X Global d → Policy} {o : Options} {c : Pulsar X d} {taken : List ℕ} (h k : List Step) →
+    h ≡ k → StandsFor routes o c h taken → StandsFor routes o c k taken
+stands_same {X} {d} {routes} {o} {c} {taken} h k e s = subst (λ x. StandsFor routes o c x taken) e s
+
+pub new_stands : (c : Tables) (a b : Chosen) (ps : List Policy) → a ≡ b → Stands (record { chosen = a; policies = ps }) c [] →
+    Stands (record { chosen = b; policies = ps }) c []
+new_stands c a b ps e s = subst (λ x. Stands (record { chosen = x; policies = ps }) c []) e s

@@ -78,7 +78,8 @@ module _ (o : Options) (log : List Entry) (k : Every (Drawn o) log) (n : ℕ) (t
       stays : (bs : List Built) (ps : Producers) (u : Topic) → ps.topics n ≡ Some u → (with_topics (rank who).1 v.chosen.first_number bs ps).topics n ≡ None → ⊥
       stays [] ps u e q = let f : Some u ≡ None = sym e ∙ q in absurd cc
       stays (x ∷ bs) ps u e q = elim (cases_Bool (n == x.number)) [
-        | inl d ↦ stays bs (with_topic (rank who).1 v.chosen.first_number x ps) (record { owner = (rank who).1; seen = topic.fresh (record { built = x; first_number = v.chosen.first_number }) }) (rw d refl) q
+        | inl d ↦ stays bs (with_topic (rank who).1 v.chosen.first_number x ps)
+            (record { owner = (rank who).1; seen = topic.fresh (record { built = x; first_number = v.chosen.first_number }) }) (rw d refl) q
         | inr d ↦ stays bs (with_topic (rank who).1 v.chosen.first_number x ps) u (rw d e) q
       ]
 
@@ -113,25 +114,27 @@ some_acts o log n a t h = ap (λ r. cond (is_some r) (topic_acts (view o log) n 
 abbrev StandsSo : Options → List Entry → ℕ → Topic → Type 0
 StandsSo o log n t = (b : Built) × (b.number ≡ n) × (t.seen ≡ topic.seen (record { built = b; first_number = o.chosen.first_number }) (acts_on o n log))
 
-new_stands : (o : Options) (log : List Entry) (n : ℕ) (a : Act) (t : Topic) → (view o log).producers.topics n ≡ None → Joins (view o log) a n t → StandsSo o (Then a ∷ log) n t
+new_stands : (o : Options) (log : List Entry) (n : ℕ) (a : Act) (t : Topic) → (view o log).producers.topics n ≡ None → Joins (view o log) a n t →
+    StandsSo o (Then a ∷ log) n t
 new_stands o log n a t h j = (
   j.is_new.built,
   j.is_new.number,
   sym (ap (λ x. x.seen) j.is_new.is_it)
-  ∙ ap (λ f. topic.fresh (record { built = j.is_new.built; first_number = f })) (ap (λ c. c.first_number) (chosen_same o log))
-  ∙ ap (topic.seen (record { built = j.is_new.built; first_number = o.chosen.first_number })) (sym (none_acts o log n a h)),
+      ∙ ap (λ f. topic.fresh (record { built = j.is_new.built; first_number = f })) (ap (λ c. c.first_number) (chosen_same o log))
+      ∙ ap (topic.seen (record { built = j.is_new.built; first_number = o.chosen.first_number })) (sym (none_acts o log n a h)),
 )
 
-old_stands : (o : Options) (log : List Entry) (n : ℕ) (a : Act) (t u : Topic) → (view o log).producers.topics n ≡ Some u → t ≡ topic_all (topic_acts (view o log) n a) u →
+old_stands : (o : Options) (log : List Entry) (n : ℕ) (a : Act) (t u : Topic) → (view o log).producers.topics n ≡ Some u →
+    t ≡ topic_all (topic_acts (view o log) n a) u →
     StandsSo o log n u → StandsSo o (Then a ∷ log) n t
 old_stands o log n a t u h e k =
     let s : Setup = record { built = k.0; first_number = o.chosen.first_number } in (
       k.0,
       k.1,
       ap (λ x. x.seen) e
-      ∙ ap (all_after (topic_acts (view o log) n a)) k.2
-      ∙ sym (seen_more s (topic_acts (view o log) n a) (acts_on o n log))
-      ∙ ap (topic.seen s) (sym (some_acts o log n a u h)),
+          ∙ ap (all_after (topic_acts (view o log) n a)) k.2
+          ∙ sym (seen_more s (topic_acts (view o log) n a) (acts_on o n log))
+          ∙ ap (topic.seen s) (sym (some_acts o log n a u h)),
     )
 
 pub topics_alone_lem : TopicsAlone

@@ -56,7 +56,7 @@ abbrev pub sum : {A : Type 0} → (A → ℕ) → List A → ℕ
 sum f [] = 0
 sum f (x ∷ xs) = f x + sum f xs
 
-sum_append : {A : Type 0} (f : A → ℕ) (xs ys : List A) → sum f (xs ++ ys) ≡ sum f xs + sum f ys
+pub sum_append : {A : Type 0} (f : A → ℕ) (xs ys : List A) → sum f (xs ++ ys) ≡ sum f xs + sum f ys
 sum_append f [] ys = omega arith
 sum_append f (x ∷ xs) ys = let e : sum f (xs ++ ys) ≡ sum f xs + sum f ys = sum_append f xs ys in omega (arith, e)
 
@@ -67,23 +67,24 @@ sum_put f lt x (y ∷ ys) = elim (lt x y) as (λ b. sum f (cond b (x ∷ y ∷ y
   | false ↦ (let e : sum f (put lt x ys) ≡ f x + sum f ys = sum_put f lt x ys in omega (arith, e))
 ]
 
-sum_put_all : {A : Type 0} (f : A → ℕ) (lt : A → A → Bool) (xs ys : List A) → sum f (put_all lt xs ys) ≡ sum f xs + sum f ys
+pub sum_put_all : {A : Type 0} (f : A → ℕ) (lt : A → A → Bool) (xs ys : List A) → sum f (put_all lt xs ys) ≡ sum f xs + sum f ys
 sum_put_all f lt [] ys = omega arith
 sum_put_all f lt (x ∷ xs) ys =
     let a : sum f (put_all lt xs (put lt x ys)) ≡ sum f xs + sum f (put lt x ys) = sum_put_all f lt xs (put lt x ys) in
     let b : sum f (put lt x ys) ≡ f x + sum f ys = sum_put f lt x ys in
     omega (arith, a, b)
 
-sum_none : {A : Type 0} (P : A → Type 0) (f : A → ℕ) (xs : List A) → ((x : A) → P x → f x ≡ 0) → Each P xs → sum f xs ≡ 0
+pub sum_none : {A : Type 0} (P : A → Type 0) (f : A → ℕ) (xs : List A) → ((x : A) → P x → f x ≡ 0) → Each P xs → sum f xs ≡ 0
 sum_none P f [] none k = refl
 sum_none P f (x ∷ xs) none k = let a : f x ≡ 0 = none x k.0 in let b : sum f xs ≡ 0 = sum_none P f xs none k.1 in omega (arith, a, b)
 
-not_turn : (u : Outcome) → is_granted u ≡ false → is_turn_told u ≡ false
+pub not_turn : (u : Outcome) → is_granted u ≡ false → is_turn_told u ≡ false
 not_turn (outcome.Granted n) h = absurd cc
 not_turn _ h = refl
 
 no_note : (t : ℕ) (n : Notice) → is_turn_told n.outcome ≡ false → turn_note t n ≡ 0
-no_note t n h = ap (λ b. cond (is_same (Call t) n.who && b) 1 0) h ∙ (elim (is_same (Call t) n.who) as (λ b. cond (b && false) 1 0 ≡ 0) [ true ↦ refl | false ↦ refl ])
+no_note t n h = ap (λ b. cond (is_same (Call t) n.who && b) 1 0) h
+    ∙ (elim (is_same (Call t) n.who) as (λ b. ◌≡◌ {A = ℕ} (cond (b && false) 1 0) 0) [ true ↦ refl | false ↦ refl ])
 
 free_note : (t : ℕ) (n : Notice) → IsFree n → turn_note t n ≡ 0
 free_note t n h = no_note t n (not_turn n.outcome h)
@@ -92,7 +93,8 @@ abbrev pub pend : ℕ → List Act → List Notice → ℕ
 pend t now here = sum (turn_act t) now + sum (turn_note t) here
 
 pend_rest : (t : ℕ) (now : List Act) (here : List Notice) (behind : List (List Notice)) (parts : List Part) (a : Act) → Each (Each IsFree) behind →
-    first_of rules now here behind parts ≡ Some a → pend t now here ≡ turn_act t a + pend t (rest_of now here behind parts).now (rest_of now here behind parts).here
+    first_of rules now here behind parts ≡ Some a →
+    pend t now here ≡ turn_act t a + pend t (rest_of now here behind parts).now (rest_of now here behind parts).here
 pend_rest t (b ∷ now) here behind parts a free h =
     let e : b ≡ a = cc in
     let f : turn_act t b ≡ turn_act t a = ap (turn_act t) e in
@@ -150,16 +152,18 @@ abbrev pub takes_it : Act → Bool
 takes_it (Does who (TakeTurn n)) = true
 takes_it _ = false
 
-once_none : (v : View) (t : ℕ) (a : Act) → takes_it a ≡ false → sum (turn_act t) (at_once v a) ≡ 0
+pub once_none : (v : View) (t : ℕ) (a : Act) → takes_it a ≡ false → sum (turn_act t) (at_once v a) ≡ 0
 once_none v t (Does who (TakeTurn n)) h = absurd cc
-once_none v t (Does who action) h = sum_none (GivesSo v action) (turn_act t) (performs v who action) (λ b k. gives_none v action t b refl k) (gives_so v who action)
+once_none v t (Does who action) h = sum_none (GivesSo v action) (turn_act t) (performs v who action) (λ b k. gives_none v action t b refl k)
+    (gives_so v who action)
 once_none v t a h = sum_none (IsRaised a) (turn_act t) (at_once v a) (λ b k. raised_none t a b refl k) (raises v a)
 
 abbrev pub passes_it : Act → Bool
 passes_it (Does who (PassTurn n)) = true
 passes_it _ = false
 
-joins_none : (o : Options) (log : List Entry) (t : ℕ) (a : Act) → passes_it a ≡ false → IsRun o (Then a ∷ log) → sum (turn_note t) (joins (view o log) a) ≡ 0
+pub joins_none : (o : Options) (log : List Entry) (t : ℕ) (a : Act) → passes_it a ≡ false → IsRun o (Then a ∷ log) →
+    sum (turn_note t) (joins (view o log) a) ≡ 0
 joins_none o log t (Does who (PassTurn n)) h run = absurd cc
 joins_none o log t (Does who (Tell n)) h run = let e : turn_note t n ≡ 0 = free_note t n (tell_free o log who n run) in omega (arith, e)
 joins_none o log t _ h run = refl
@@ -168,18 +172,19 @@ abbrev pub pending : Options → List Entry → ℕ → ℕ
 pending o log t = pend t (agenda o log).now (agenda o log).here
 
 -- what is pending behind an act
-pend_then : (o : Options) (log : List Entry) (t : ℕ) (a : Act) → IsRun o (Then a ∷ log) →
+pub pend_then : (o : Options) (log : List Entry) (t : ℕ) (a : Act) → IsRun o (Then a ∷ log) →
     pending o log t + sum (turn_act t) (at_once (view o log) a) + sum (turn_note t) (joins (view o log) a) ≡ turn_act t a + pending o (Then a ∷ log) t
 pend_then o log t a run =
     let g = agenda o log in
     let v : View = view o log in
     let k = pend_rest t g.now g.here g.behind g.parts a (clean_run o log run.0).waits run.1 in
-    let x : sum (turn_act t) (at_once v a ++ (rest g).now) ≡ sum (turn_act t) (at_once v a) + sum (turn_act t) (rest g).now = sum_append (turn_act t) (at_once v a) (rest g).now in
+    let x : sum (turn_act t) (at_once v a ++ (rest g).now) ≡ sum (turn_act t) (at_once v a) + sum (turn_act t) (rest g).now = sum_append (turn_act t)
+    (at_once v a) (rest g).now in
     let y : sum (turn_note t) (put_all below (joins v a) (rest g).here) ≡ sum (turn_note t) (joins v a) + sum (turn_note t) (rest g).here =
     sum_put_all (turn_note t) below (joins v a) (rest g).here in
     omega (arith, k, x, y)
 
-pend_kept : (o : Options) (log : List Entry) (t : ℕ) (a : Act) → takes_it a ≡ false → passes_it a ≡ false → IsRun o (Then a ∷ log) →
+pub pend_kept : (o : Options) (log : List Entry) (t : ℕ) (a : Act) → takes_it a ≡ false → passes_it a ≡ false → IsRun o (Then a ∷ log) →
     pending o log t ≡ turn_act t a + pending o (Then a ∷ log) t
 pend_kept o log t a h p run =
     let k = pend_then o log t a run in
@@ -190,22 +195,27 @@ pend_kept o log t a h p run =
 -- ROWS
 
 -- acts that leave the turn where it is
-abbrev leaves_turn : Deed → Bool
+abbrev pub leaves_turn : Deed → Bool
 leaves_turn (Takes t) = false
 leaves_turn Passes = false
 leaves_turn _ = true
 
-abbrev LeavesTurn : Deed → Type 0
+abbrev pub LeavesTurn : Deed → Type 0
 LeavesTurn d = leaves_turn d ≡ true
 
 one_left : (d : Deed) (v : Seen) → LeavesTurn d → ((topic.after d v).holder ≡ v.holder) × ((topic.after d v).waiting ≡ v.waiting)
 one_left (Takes t) v h = absurd cc
 one_left Passes v h = absurd cc
-one_left Draws v h = elim (is_spent v.next) as (λ b. ((cond b v (record v { next = v.next + 1 })).holder ≡ v.holder) × ((cond b v (record v { next = v.next + 1 })).waiting ≡ v.waiting)) [ true ↦ (refl, refl) | false ↦ (refl, refl) ]
+one_left Draws v h = elim (is_spent v.next) as
+    (λ b. ((cond b v (record v { next = v.next + 1 })).holder ≡ v.holder) × ((cond b v (record v { next = v.next + 1 })).waiting ≡ v.waiting)) [
+      | true ↦
+          (refl, refl)
+      | false ↦ (refl, refl)
+    ]
 one_left (Remakes l g) v h = (refl, refl)
 one_left Closes v h = (refl, refl)
 
-all_left : (ds : List Deed) (v : Seen) → Each LeavesTurn ds → ((all_after ds v).holder ≡ v.holder) × ((all_after ds v).waiting ≡ v.waiting)
+pub all_left : (ds : List Deed) (v : Seen) → Each LeavesTurn ds → ((all_after ds v).holder ≡ v.holder) × ((all_after ds v).waiting ≡ v.waiting)
 all_left [] v h = (refl, refl)
 all_left (d ∷ ds) v h = let k = all_left ds v h.1 in let j = one_left d (all_after ds v) h.0 in (j.0 ∙ k.0, j.1 ∙ k.1)
 
@@ -217,7 +227,7 @@ shut_left : (n : ℕ) (ns : List ℕ) → Each LeavesTurn (shut_by n ns)
 shut_left n [] = tt
 shut_left n (m ∷ ns) = each_either LeavesTurn (n == m) (Closes ∷ shut_by n ns) (shut_by n ns) (refl, shut_left n ns) (shut_left n ns)
 
-acts_left : (v : View) (n : ℕ) (a : Act) → takes_it a ≡ false → passes_it a ≡ false → Each LeavesTurn (topic_acts v n a)
+pub acts_left : (v : View) (n : ℕ) (a : Act) → takes_it a ≡ false → passes_it a ≡ false → Each LeavesTurn (topic_acts v n a)
 acts_left v n (Does who (TakeTurn m)) t p = absurd cc
 acts_left v n (Does who (PassTurn m)) t p = absurd cc
 acts_left v n (Does who (Draw m)) t p = each_either LeavesTurn (n == m) (drawn_by (room_of v m)) [] (drawn_left (room_of v m)) tt

@@ -58,7 +58,7 @@ use Rattle.pulsar_client.specs.Content.{Asked, Bytes, Ticked, Poll, Shown, Queue
 use Rattle.pulsar_client.specs.Effects.{effect_below, is_before3}
 use Rattle.pulsar_client.specs.Links.{Change, Remains, Becomes, IsOver, arrival, call_of, closed_by, line_places, new_places, numbers_from}
 use Rattle.pulsar_client.specs.Parts.{outcomes_of}
-use Rattle.pulsar_client.specs.Producers.{advice, turn_passed, waiting, drawn, link_at, number_drawn, recalled, turn_taken, waiting_at}
+use Rattle.pulsar_client.specs.Producers.{advice, turn_passed, drawn, link_at, number_drawn, recalled, turn_taken, waiting_at}
 use Rattle.pulsar_client.specs.Plan.{begins, failure_of, fails, fault_of, reply_says, told}
 use Rattle.pulsar_client.specs.Rules.{below, call_part, dropped, fails_so, is_idle, lost, notice, starts, stopped_with, brings}
 use Rattle.pulsar_client.specs.Run.{Entry, Begins, Then, Good, IsRun, Rests, Step, agenda, rules, steps, tickets_in, view}

@@ -1,5 +1,5 @@
 -- What follows of producers, in plain words.
-use Rattle.std.specs.Prelude.{◌≡◌, ◌⊎◌, ℕ, ◌+◌, ◌-◌, ◌^◌, ◌≤◌, ◌<◌, ◌==◌, ◌&&◌, ◌||◌, not, Bool, true, false, if◌then◌else◌, List, [], ◌∷◌, ◌++◌, Option, Some, None, Err}
+use Rattle.std.specs.Prelude.{◌≡◌, ◌⊎◌, ℕ, ◌+◌, ◌-◌, ◌^◌, ◌≤◌, ◌<◌, ◌==◌, ◌&&◌, ◌||◌, not, Bool, true, false, if◌then◌else◌, List, [], ◌∷◌, ◌++◌, Option, Some, None, Ok, Err}
 use Rattle.std.specs.BTreeMap.{is_at}
 use Rattle.std.specs.List.{list_any}
 use Rattle.std.specs.Map.{lookup}
@@ -8,12 +8,19 @@ use Rattle.std.specs.Option.{is_some, option_map}
 use Rattle.pulsar_run.specs.Laws.{In}
 use Rattle.pulsar_wire.specs.declared.error.ConnectionError.TheVariants as error
 use Rattle.pulsar_wire.specs.declared.key.RequestKey.TheVariants as key
+use Rattle.pulsar_wire.specs.Fits.{CommandInRange}
+use Rattle.pulsar_frame.specs.Frame.{FitsFrame, Whole, frame_bytes, front}
+use Rattle.pulsar_frame.specs.Message.{MessageValues}
+use Rattle.pulsar_frame.specs.Payload.{PayloadInRange}
 use Rattle.pulsar_messages.specs.Content.{ProducerMessageValues}
+use Rattle.pulsar_messages.specs.Messages.{metadata_of}
 use Rattle.pulsar_messages.specs.Words as words
 use Rattle.pulsar_messages.specs.Words.{Words}
-use Rattle.pulsar_session.specs.Failures.{Failure}
-use Rattle.pulsar_session.specs.Link.{ticked}
-use Rattle.pulsar_link.specs.Messages.{Reply}
+use Rattle.pulsar_session.specs.Failures.{Failure, OfConnection, Shutdown}
+use Rattle.pulsar_session.specs.declared.states.Asked.TheVariants as placed
+use Rattle.pulsar_session.specs.Link as session
+use Rattle.pulsar_session.specs.Link.{Asks, frame_at, frame_for, message_of, ticked}
+use Rattle.pulsar_link.specs.Messages.{Reply, is_body}
 use Rattle.pulsar_producer.specs.Message.{with_version}
 use Rattle.pulsar_producer.specs.Laws.{AreAbove}
 use Rattle.pulsar_producer.specs.Topic as topic
@@ -39,7 +46,7 @@ use Rattle.pulsar_client.specs.declared.plans.plan.At.TheVariants as at
 use Rattle.pulsar_client.specs.declared.plans.plan.Plan.{Plan}
 use Rattle.pulsar_client.specs.declared.plans.plan.Plan.TheVariants as plan
 use Rattle.pulsar_client.specs.declared.producers.Topic.{Topic}
-use Rattle.pulsar_client.specs.Content.{Said}
+use Rattle.pulsar_client.specs.Content.{Said, Failed}
 use Rattle.pulsar_client.specs.Links as links
 use Rattle.pulsar_client.specs.Parts.{sent_from}
 use Rattle.pulsar_client.specs.Producers.{number_drawn, numbers_at}
@@ -105,13 +112,29 @@ NumbersAreFree = (o : Options) (log : List Entry) (n : ℕ) → o.chosen.first_n
     × ((who : Who) (m : ℕ) → In (Then (Told (notice who (outcome.Granted (news.Numbered m))))) log → m < n)
 
 -- Where a send of a call asks for its frame, it is the call's own message by the name that its topic producer has then, on its link and in its
--- turn; it has the version of the schema that this had as the turn came, where the message has none.
+-- turn. Its number is the one that was drawn last. Where the message has no version of the schema, it has the one that it was told with its turn.
 abbrev pub FramesAreOfTheirSends : Type 0
 FramesAreOfTheirSends = (o : Options) (log : List Entry) (t l n s : ℕ) (name : List ℕ) (m : ProducerMessageValues) (block : Bool)
     (w : Ways) (e : Errand) (share : Option Share) (given : ProducerMessageValues) →
     IsRun o (Then (Does (Call t) (Ask l (words.Send n name s m block))) ∷ log) → started (Call t) log ≡ Some (procedure.Send w e share given) →
     (row : Topic) × (version : Option (List ℕ)) × ((view o log).producers.topics n ≡ Some row) × (n ≡ e.producer) × (block ≡ e.block)
     × (row.seen.holder ≡ Some t) × (row.seen.link ≡ l) × (row.seen.given.name ≡ name) × (row.seen.next ≡ s + 1) × (m ≡ with_version version given)
+    × In (Then (Told (notice (Call t) (outcome.Granted (news.HasTurn version))))) log
+
+-- The frame that is queued for it spells these words, and nothing else does at that place,
+abbrev pub QueuedAsAsked : Type 0
+QueuedAsAsked = (o : Options) (log : List Entry) (l place : ℕ) (seat : Seat) (request : Words) → (view o log).links.live l ≡ Some seat →
+    answer_at (view o log).now request (Some seat) ≡ Ok (placed.Queued place) →
+    (id : ℕ) × (frame : List ℕ) × (frame_for (message_of id (view o log).now request) ≡ Some frame)
+    × (frame_at place (session.after (Asks (view o log).now request) seat.seen) ≡ Some frame)
+
+-- and whoever decodes it reads the message: its payload, and what it says of that, under the producer's name and the number.
+abbrev pub FramesAreReadAgain : Type 0
+FramesAreReadAgain = (id now n s : ℕ) (name : List ℕ) (m : ProducerMessageValues) (block : Bool) (behind : List ℕ) →
+    FitsFrame (message_of id now (words.Send n name s m block)) → CommandInRange (message_of id now (words.Send n name s m block)).command →
+    PayloadInRange (message_of id now (words.Send n name s m block)).payload →
+    (read : MessageValues) × (front (frame_bytes (message_of id now (words.Send n name s m block)) ++ behind) ≡ Whole read behind)
+    × (read.payload ≡ Some (record { metadata = metadata_of now name s m; bytes = m.payload }))
 
 -- how often the frame of a send is queued: at once, or as it moves up from the line
 abbrev pub queues_at : Options → (ticket : ℕ) → List Entry → Act → ℕ
@@ -127,13 +150,21 @@ queued_times o t (Then a ∷ log) = queued_times o t log + queues_at o t log a
 abbrev pub SentOnce : Type 0
 SentOnce = (o : Options) (log : List Entry) (t : ℕ) → IsRun o log → queued_times o t log ≤ 1
 
--- The receipt with which a send ends is the reply to its frame: it bears the topic producer and the number of that.
+-- A receipt that a send is told is the reply to a frame that it asked for: it bears the topic producer and the number of that.
 abbrev pub ReceiptsAreOwn : Type 0
 ReceiptsAreOwn = (o : Options) (log : List Entry) (t : ℕ) (r : Reply) (w : Ways) (e : Errand) (share : Option Share) (m : ProducerMessageValues) →
     IsRun o (Then (Told (notice (Call t) (outcome.Replied r))) ∷ log) → started (Call t) log ≡ Some (procedure.Send w e share m) →
-    (view o log).stand (Call t) ≡ Some (plan.Sending w e None send.Sent) →
+    is_body 7 r.content.body ≡ true →
     (l s : ℕ) × (name : List ℕ) × (sent : ProducerMessageValues) × In (Then (Does (Call t) (Ask l (words.Send e.producer name s sent e.block)))) log
     × (r.content.key ≡ Some (key.ProducerSend e.producer s))
+
+-- The numbers of the frames that are asked for by a topic producer rise: so a receipt is that of one send.
+abbrev pub NumbersOfFramesRise : Type 0
+NumbersOfFramesRise = (o : Options) (newer older : List Entry) (t u l k n s r : ℕ) (name alias : List ℕ) (m other : ProducerMessageValues) (block waits : Bool)
+    (w v : Ways) (e f : Errand) (share part : Option Share) (given told : ProducerMessageValues) →
+    IsRun o (Then (Does (Call t) (Ask l (words.Send n name s m block))) ∷ (newer ++ Then (Does (Call u) (Ask k (words.Send n alias r other waits))) ∷ older)) →
+    started (Call t) (newer ++ Then (Does (Call u) (Ask k (words.Send n alias r other waits))) ∷ older) ≡ Some (procedure.Send w e share given) →
+    started (Call u) older ≡ Some (procedure.Send v f part told) → r < s
 
 -- what is seen where a link is told the time, and nothing else comes to it
 abbrev pub seat_ticked : (now : ℕ) → Seat → Seat
@@ -177,21 +208,25 @@ PassedInTurn = (o : Options) (log : List Entry) (t n : ℕ) → IsRun o (Then (D
     × ((next : ℕ) (left : List ℕ) → row.seen.waiting ≡ next ∷ left → AreAbove next left
     × In (notice (Call next) (outcome.Granted (news.HasTurn row.seen.given.version))) (joins (view o log) (Does (Call t) (PassTurn n))))
 
--- One that is told that its turn has come has it, if it waits for it still; and it keeps it until its frame is queued.
+-- One that is told that its turn has come has it, if it waits for it still.
 abbrev pub ToldInTurn : Type 0
 ToldInTurn = (o : Options) (log : List Entry) (t n : ℕ) (version : Option (List ℕ)) (p : Plan) →
     IsRun o (Then (Told (notice (Call t) (outcome.Granted (news.HasTurn version)))) ∷ log) → (view o log).stand (Call t) ≡ Some p → turn_of p ≡ Some n →
     HasTurn (view o log) t n
 
+-- A send has its turn until it is told that its frame is queued: so the frames of a topic producer are queued in the order of the turns.
 abbrev pub QueuedInTurn : Type 0
 QueuedInTurn = (o : Options) (log : List Entry) (t : ℕ) (w : Ways) (e : Errand) (share : Option Share) (m : Option ProducerMessageValues) →
     IsRun o log → (view o log).stand (Call t) ≡ Some (plan.Sending w e share (send.Asked m)) → HasTurn (view o log) t e.producer
 
--- A call with parts ends once each of them was queued, or failed before, with what became of each.
+-- A call with parts ends once each of them was queued, or failed before, with what became of each: none of them failed, or just these did. Where the
+-- client is stopped before, it fails so.
 abbrev pub PartsAreGathered : Type 0
 PartsAreGathered = (o : Options) (log : List Entry) (t first count : ℕ) (said : Said) →
     IsRun o log → Rests o log → started (Call t) log ≡ Some (procedure.Gather first count) →
-    In (Answered (record { makes = makes.Nothing; said = said })) (deeds (Call t) log) → In outcome.Stopped (outcomes (Call t) log) ⊎
+    In (Answered (record { makes = makes.Nothing; said = said })) (deeds (Call t) log) →
+    (In outcome.Stopped (outcomes (Call t) log) × (said ≡ Failed (OfConnection Shutdown))) ⊎
     ((failures : List (ℕ × Failure)) × (said ≡ sent_from first count failures)
     × ((u : ℕ) → first ≤ u → u < first + count → (f : Option Failure) × In (outcome.Parted u f) (outcomes (Call t) log)
-    × (lookup (is_at (nat_cmp u)) failures ≡ f)))
+    × (lookup (is_at (nat_cmp u)) failures ≡ f))
+    × ((x : ℕ × Failure) → In x failures → (first ≤ x.0) × (x.0 < first + count) × In (outcome.Parted x.0 (Some x.1)) (outcomes (Call t) log)))

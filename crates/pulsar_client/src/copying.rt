@@ -72,8 +72,14 @@ pub fn twice(alloc: Global, refusal: Refusal) -> Result<(Refusal, Refusal), NoMe
     ensures { IfOk result (λ both. (both.0 ≡ refusal) × (both.1 ≡ refusal)) }
 {
     let error = refusal.into_inner();
-    let copy = copy_error(alloc, &error)?;
-    Ok((Refusal::new(alloc, error)?, Refusal::new(alloc, copy)?))
+    let copy = once_more(alloc, &error)?;
+    Ok((Refusal::new(alloc, error)?, copy))
+}
+
+fn once_more(alloc: Global, error: &Error) -> Result<Refusal, NoMemory>
+    ensures { IfOk result (λ copy. copy ≡ failure error.now) }
+{
+    Refusal::new(alloc, copy_error(alloc, error)?)
 }
 
 /// An error once more.

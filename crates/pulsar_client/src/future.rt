@@ -1,11 +1,12 @@
 //! A send that has been asked for.
 
-ghost use Rattle.std.specs.Prelude.{◌≡◌, ◌⊎◌, ℕ, List};
+ghost use Rattle.std.specs.Prelude.{◌≡◌, ◌⊎◌, ℕ, List, MatchOption, MatchResult, Ok, Err};
 ghost use Rattle.pulsar_session.specs.Failures.{failure};
 ghost use Rattle.pulsar_producer.specs.Errors.{IsNoMemory};
 ghost use Rattle.pulsar_client.specs.Client.{StandsFor};
+ghost use Rattle.pulsar_client.specs.Content.{answered, said};
 ghost use Rattle.pulsar_client.specs.Run.{Step};
-ghost use Rattle.pulsar_client.specs.Taken.{IsPolled, is_lost, taken_with};
+ghost use Rattle.pulsar_client.specs.Taken.{IsPolled, IsTaken, is_lost, poll_said, polled_answer, taken_with};
 ghost use Rattle.pulsar_client.specs.View.{Options};
 
 use crate::answers::Taken;
@@ -29,23 +30,49 @@ impl SendFuture {
         ensures stands { (o : Options) (h : List Step) (taken : List ℕ) → StandsFor (λ p. routes p) o client.old h taken → StandsFor (λ p. routes p) o client.new h (taken_with self.old.ticket h taken) }
         ensures same { self.new ≡ self.old }
     {
-        match client.take_answer(self.ticket) {
-            Taken::Waiting => None,
-            Taken::Answer(Ok(Answer::Receipt(receipt))) => Some(Ok(receipt)),
-            Taken::Answer(Err(error)) => Some(Err(error)),
-            Taken::Answer(
-                Ok(
-                    Answer::Done
-                    | Answer::Topics(_)
-                    | Answer::Address(_)
-                    | Answer::Count(_)
-                    | Answer::Addresses(_)
-                    | Answer::Sends(_)
-                    | Answer::Replies(_),
-                ),
-            )
-            | Taken::Unknown => Some(Err(lost(client.allocator()))),
-        }
+        let taken = client.take_answer(self.ticket);
+        told(client.allocator(), taken)
+    }
+}
+
+/// What there is of the ticket of a send.
+fn told(alloc: Global, taken: Taken) -> Option<Result<CommandSendReceipt, Error>>
+    ensures { (t : ℕ) (h : List Step) (ts : List ℕ) → IsTaken taken t h ts → IsPolled result t h ts }
+{
+    match taken {
+        Taken::Waiting => None,
+        Taken::Answer(answer) => Some(receipt_in(alloc, answer)),
+        Taken::Unknown => Some(Err(lost(alloc))),
+    }
+}
+
+/// The receipt in what a send ended with.
+fn receipt_in(alloc: Global, answer: Result<Answer, Error>) -> Result<CommandSendReceipt, Error>
+    ensures { MatchResult result
+        (λ r. polled_answer (said answer) ≡ poll_said (Ok r))
+        (λ e. (polled_answer (said answer) ≡ Err (failure e)) ⊎ (IsNoMemory (failure e) × (polled_answer (said answer) ≡ Err is_lost))) }
+{
+    match answer {
+        Ok(answer) => match receipt_of(answer) {
+            Some(receipt) => Ok(receipt),
+            None => Err(lost(alloc)),
+        },
+        Err(error) => Err(error),
+    }
+}
+
+fn receipt_of(answer: Answer) -> Option<CommandSendReceipt>
+    ensures { MatchOption result (polled_answer (answered answer) ≡ Err is_lost) (λ r. polled_answer (answered answer) ≡ poll_said (Ok r)) }
+{
+    match answer {
+        Answer::Receipt(receipt) => Some(receipt),
+        Answer::Done => None,
+        Answer::Topics(_) => None,
+        Answer::Address(_) => None,
+        Answer::Count(_) => None,
+        Answer::Addresses(_) => None,
+        Answer::Sends(_) => None,
+        Answer::Replies(_) => None,
     }
 }
 

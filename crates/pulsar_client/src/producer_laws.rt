@@ -1,6 +1,6 @@
 //! What follows of producers from the definition of a good run: each contract is a law, and its body is empty.
 
-ghost use Rattle.pulsar_client.specs.ProducerLaws.{FramesAreOfTheirSends, NumbersAreFree, PartsAreGathered, PassedInTurn, QueuedInTurn, ReceiptsAreOwn, SentOnce, SlowDownLeavesAll, ToldInTurn, TopicsAlone};
+ghost use Rattle.pulsar_client.specs.ProducerLaws.{FramesAreOfTheirSends, FramesAreReadAgain, NumbersAreFree, NumbersOfFramesRise, PartsAreGathered, PassedInTurn, QueuedAsAsked, QueuedInTurn, ReceiptsAreOwn, SentOnce, SlowDownLeavesAll, ToldInTurn, TopicsAlone};
 
 /// A topic producer is what the acts on it made of it since it was built, and nothing else.
 pub fn topics_alone()
@@ -20,9 +20,12 @@ pub fn turns_by_ticket()
     ensures queued { QueuedInTurn }
 {}
 
-/// The frame that a send asks for is its own message, by what its topic producer has then, in its turn.
+/// The frame that a send asks for is its own message, by what its topic producer has then, in its turn. What is queued at its
+/// place spells that, and is read again as the message.
 pub fn frames_are_of_their_sends()
-    ensures { FramesAreOfTheirSends }
+    ensures asked { FramesAreOfTheirSends }
+    ensures queued { QueuedAsAsked }
+    ensures read { FramesAreReadAgain }
 {}
 
 /// The send of a ticket is queued at most once, over all links.
@@ -30,9 +33,10 @@ pub fn sent_once()
     ensures { SentOnce }
 {}
 
-/// A receipt answers the send whose topic producer and number it bears.
+/// A receipt answers the send whose topic producer and number it bears, and no other one has asked for a frame that bears them.
 pub fn receipts_are_own()
-    ensures { ReceiptsAreOwn }
+    ensures own { ReceiptsAreOwn }
+    ensures rise { NumbersOfFramesRise }
 {}
 
 /// A send that finds no room and is not to wait leaves all as it was.

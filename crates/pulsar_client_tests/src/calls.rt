@@ -3,7 +3,9 @@
 use pulsar_client::effect::Effect;
 use pulsar_client::event::{Call, Event};
 use pulsar_client::pulsar::Pulsar;
-use pulsar_client::{ClientOptions, ConnectionRetryOptions, OperationRetryOptions};
+use pulsar_client::{
+    ClientOptions, ConnectionRetryOptions, CustomRoutingPolicy, OperationRetryOptions,
+};
 use pulsar_wire::{ConnectionError, Error, NoMemory};
 use std::alloc::Global;
 use std::test::Fail;
@@ -14,9 +16,10 @@ const REPLY: &[u8] = b"\x00\x00\x00\x0e\x00\x00\x00\x0a\x08\x21\x8a\x02\x05\x08\
 /// A connected command.
 pub const CONNECTED: &[u8] = b"\x00\x00\x00\x0a\x00\x00\x00\x06\x08\x03\x1a\x02\x0a\x00";
 
-pub fn options(alloc: Global, url: &str) -> Result<ClientOptions, NoMemory> {
-    Ok(ClientOptions {
-        url: String::from_str(alloc, url)?,
+/// The options where none is set but the URL and the policies.
+pub fn options(url: String, policies: Vec<Box<dyn CustomRoutingPolicy>>) -> ClientOptions {
+    ClientOptions {
+        url,
         auth: None,
         connection_retry: ConnectionRetryOptions::default(),
         operation_retry: OperationRetryOptions::default(),
@@ -24,43 +27,36 @@ pub fn options(alloc: Global, url: &str) -> Result<ClientOptions, NoMemory> {
         seed: 0,
         now: 0,
         first_number: 0,
-        policies: Vec::new(alloc),
-    })
-}
-
-/// Lends the value, and lets it go.
-fn lend<T: Drop, R, F: FnOnce(&mut T) -> R>(value: T, f: F) -> R
-    requires { F.IsAlwaysCallable f }
-{
-    let mut value = value;
-    f(&mut value)
-}
-
-/// The ticket of a Build, and how many effects it has.
-fn built(client: &mut Result<Pulsar, NoMemory>) -> Result<(u64, usize), NoMemory> {
-    match client {
-        Ok(client) => {
-            let (ticket, effects) = client.submit(Call::Build)?;
-            Ok((ticket, effects.len()))
-        }
-        Err(NoMemory) => Err(NoMemory),
+        policies,
     }
 }
 
-/// The same of two Builds by one client.
-fn both_built(
-    client: &mut Result<Pulsar, NoMemory>,
-) -> Result<((u64, usize), (u64, usize)), NoMemory> {
-    Ok((built(client)?, built(client)?))
+/// The URL of the clients whose address does not matter.
+pub const LOCAL: &str = "pulsar://127.0.0.1:6650";
+
+/// The tickets of two Builds of one client, and how many effects each has.
+fn both_built(alloc: Global) -> Result<((u64, usize), (u64, usize)), NoMemory> {
+    let options = options(String::from_str(alloc, LOCAL)?, Vec::new(alloc));
+    let mut client = Pulsar::new(alloc, options)?;
+    let first = client.submit(Call::Build);
+    let second = client.submit(Call::Build);
+    drop(client);
+    let (first, connects) = first?;
+    let (second, nothing) = second?;
+    Ok(((first, connects.len()), (second, nothing.len())))
 }
 
 #[test]
 fn calls_get_tickets(rt: HostRuntime) -> Result<(), Fail> {
-    let alloc = rt.alloc();
-    let options = options(alloc, "pulsar://127.0.0.1:6650")?;
-    let seen = lend(Pulsar::new(alloc, options), |client| both_built(client))?;
+    let seen = both_built(rt.alloc())?;
     assert!(rt; seen == ((0, 1), (1, 0)));
     Ok(())
+}
+
+/// The effects of each event.
+fn driven(alloc: Global, events: &[Event]) -> Result<Vec<Vec<Effect>>, NoMemory> {
+    let options = options(String::from_str(alloc, LOCAL)?, Vec::new(alloc));
+    Pulsar::drive(alloc, options, events)
 }
 
 /// Two Builds, an attempt that goes well, and a frame that ends it.
@@ -74,28 +70,20 @@ fn events(alloc: Global) -> Result<Vec<Event>, NoMemory> {
 }
 
 /// Whether there are so many effects of each event.
-fn are_all(steps: &Result<Vec<Vec<Effect>>, NoMemory>) -> bool {
+fn are_all(steps: &[Vec<Effect>]) -> bool {
     match steps {
-        Ok(steps) => match steps.as_slice() {
-            [first, second, opened, last] => {
-                first.len() == 1 && second.is_empty() && opened.len() == 1 && last.len() == 3
-            }
-            _ => false,
-        },
-        Err(NoMemory) => false,
+        [first, second, opened, last] => {
+            first.len() == 1 && second.is_empty() && opened.len() == 1 && last.len() == 3
+        }
+        _ => false,
     }
 }
 
 #[test]
 fn events_are_taken_together(rt: HostRuntime) -> Result<(), Fail> {
     let alloc = rt.alloc();
-    let options = options(alloc, "pulsar://127.0.0.1:6650")?;
-    let events = events(alloc)?;
-    let driven = lend(
-        Pulsar::drive(alloc, options, &events),
-        |steps| are_all(steps),
-    );
-    assert!(rt; driven);
+    let steps = driven(alloc, &events(alloc)?)?;
+    assert!(rt; are_all(&steps));
     Ok(())
 }
 
@@ -118,49 +106,35 @@ fn searches(alloc: Global) -> Result<Vec<Event>, NoMemory> {
 }
 
 /// Whether each search asks one thing, and the stop ends all of them and the connection.
-fn are_stopped(steps: &Result<Vec<Vec<Effect>>, NoMemory>) -> bool {
+fn are_stopped(steps: &[Vec<Effect>]) -> bool {
     match steps {
-        Ok(steps) => match steps.as_slice() {
-            [_, _, built, first, second, third, stopped] => {
-                built.len() == 1
-                    && first.len() == 1
-                    && second.len() == 1
-                    && third.len() == 1
-                    && stopped.len() == 8
-            }
-            _ => false,
-        },
-        Err(NoMemory) => false,
+        [_, _, built, first, second, third, stopped] => {
+            built.len() == 1
+                && first.len() == 1
+                && second.len() == 1
+                && third.len() == 1
+                && stopped.len() == 8
+        }
+        _ => false,
     }
 }
 
 #[test]
 fn searches_are_taken_together(rt: HostRuntime) -> Result<(), Fail> {
     let alloc = rt.alloc();
-    let options = options(alloc, "pulsar://127.0.0.1:6650")?;
-    let events = searches(alloc)?;
-    let driven = lend(
-        Pulsar::drive(alloc, options, &events),
-        |steps| are_stopped(steps),
-    );
-    assert!(rt; driven);
+    let steps = driven(alloc, &searches(alloc)?)?;
+    assert!(rt; are_stopped(&steps));
     Ok(())
 }
 
-/// Whether the effects of a Build by this client are so.
-fn build_is<F: FnOnce(&[Effect]) -> bool>(
-    client: &mut Result<Pulsar, NoMemory>,
-    is_so: F,
-) -> Result<bool, NoMemory>
-    requires { F.IsAlwaysCallable is_so }
-{
-    match client {
-        Ok(client) => {
-            let (_, effects) = client.submit(Call::Build)?;
-            Ok(is_so(&effects))
-        }
-        Err(NoMemory) => Err(NoMemory),
-    }
+/// The effects of a Build by a client with this URL.
+fn built(alloc: Global, url: &str) -> Result<Vec<Effect>, NoMemory> {
+    let options = options(String::from_str(alloc, url)?, Vec::new(alloc));
+    let mut client = Pulsar::new(alloc, options)?;
+    let built = client.submit(Call::Build);
+    drop(client);
+    let (_, effects) = built?;
+    Ok(effects)
 }
 
 fn is_connect(effects: &[Effect], host: &str, port: u16) -> bool {
@@ -188,22 +162,6 @@ fn is_not_found(effects: &[Effect]) -> bool {
     }
 }
 
-/// Whether a client with this URL connects to this host and port.
-fn connects(alloc: Global, url: &str, host: &str, port: u16) -> Result<bool, NoMemory> {
-    let options = options(alloc, url)?;
-    lend(Pulsar::new(alloc, options), |client| {
-        build_is(client, |effects| is_connect(effects, host, port))
-    })
-}
-
-/// Whether a client with this URL finds no address.
-fn finds_none(alloc: Global, url: &str) -> Result<bool, NoMemory> {
-    let options = options(alloc, url)?;
-    lend(Pulsar::new(alloc, options), |client| {
-        build_is(client, |effects| is_not_found(effects))
-    })
-}
-
 #[test]
 fn the_address_is_that_of_the_url(rt: HostRuntime) -> Result<(), Fail> {
     for (url, host, port) in [
@@ -214,7 +172,7 @@ fn the_address_is_that_of_the_url(rt: HostRuntime) -> Result<(), Fail> {
         ("pulsar://u:p@h:0", "h", 0),
         ("pulsar://[::1]:65535", "[::1]", 65535),
     ] {
-        assert!(rt; connects(rt.alloc(), url, host, port)?, "{url}");
+        assert!(rt; is_connect(&built(rt.alloc(), url)?, host, port), "{url}");
     }
     Ok(())
 }
@@ -239,7 +197,7 @@ fn other_urls_have_no_address(rt: HostRuntime) -> Result<(), Fail> {
         "http://h:6650",
         "pulsars://h",
     ] {
-        assert!(rt; finds_none(rt.alloc(), url)?, "{url}");
+        assert!(rt; is_not_found(&built(rt.alloc(), url)?), "{url}");
     }
     Ok(())
 }

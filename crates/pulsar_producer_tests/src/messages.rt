@@ -7,14 +7,25 @@ use pulsar_producer::{
 use std::alloc::Global;
 use std::test::Fail;
 
+fn put_texts(alloc: Global, message: &mut Message) -> Result<(), Fail> {
+    message.partition_key = Some(String::from_str(alloc, "x")?);
+    message.replicate_to.push(String::from_str(alloc, "c")?)?;
+    message.properties.insert(String::from_str(alloc, "a")?, String::from_str(alloc, "1")?)?;
+    Ok(())
+}
+
+fn put_bytes(alloc: Global, message: &mut Message) -> Result<(), Fail> {
+    message.ordering_key = Some(b"ok".to_vec(alloc)?);
+    message.schema_version = Some(b"v1".to_vec(alloc)?);
+    Ok(())
+}
+
+/// A message with each of its fields.
 fn full(alloc: Global) -> Result<Message, Fail> {
     let mut message = message_from_bytes(alloc, b"abc")?;
-    message.properties.insert(String::from_str(alloc, "a")?, String::from_str(alloc, "1")?)?;
-    message.partition_key = Some(String::from_str(alloc, "x")?);
-    message.ordering_key = Some(b"ok".to_vec(alloc)?);
-    message.replicate_to.push(String::from_str(alloc, "c")?)?;
+    put_texts(alloc, &mut message)?;
+    put_bytes(alloc, &mut message)?;
     message.event_time = Some(40);
-    message.schema_version = Some(b"v1".to_vec(alloc)?);
     message.deliver_at_time = Some(-5);
     Ok(message)
 }
@@ -63,26 +74,34 @@ fn what_a_builder_says_counts(rt: HostRuntime) -> Result<(), Fail> {
     Ok(())
 }
 
-#[test]
-fn a_message_is_built(rt: HostRuntime) -> Result<(), Fail> {
-    let alloc = rt.alloc();
-    let (_, sent) = MessageBuilder::new(alloc, 0)
-        .with_content(String::from_str(alloc, "abc")?)
+fn built(alloc: Global) -> Result<Message, Fail> {
+    let builder = MessageBuilder::new(alloc, 0).with_content(String::from_str(alloc, "abc")?);
+    let builder = builder
         .with_key("k")?
         .with_property("a", "1")?
-        .with_property("a", "2")?
-        .delay(u64::MAX, 1)
-        .event_time(7)
-        .send()?;
+        .with_property("a", "2")?;
+    let (_, message) = builder.delay(u64::MAX, 1).event_time(7).send()?;
+    Ok(message)
+}
+
+#[test]
+fn a_message_is_built(rt: HostRuntime) -> Result<(), Fail> {
+    let sent = built(rt.alloc())?;
     assert!(rt; is_text(&sent.partition_key, "k"));
     assert!(rt; sent.payload.as_slice() == b"abc".as_slice());
     assert!(rt; sent.properties.len() == 1);
     assert!(rt; sent.event_time == Some(7));
     assert!(rt; sent.deliver_at_time == Some(i64::MAX));
+    Ok(())
+}
+
+#[test]
+fn a_text_is_sent_as_its_bytes(rt: HostRuntime) -> Result<(), Fail> {
+    let alloc = rt.alloc();
     let empty = <() as SerializeMessage>::serialize_message(alloc, ())?;
     assert!(rt; empty.payload.is_empty());
     let text = message_from_text(alloc, "t")?;
-    assert!(rt; text.payload.len() == 1);
+    assert!(rt; text.payload.as_slice() == b"t".as_slice());
     Ok(())
 }
 

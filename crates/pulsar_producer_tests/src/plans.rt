@@ -5,13 +5,13 @@ use pulsar_messages::{ProducerMessage, ProducerOptions};
 use pulsar_plans::BrokerAddress;
 use pulsar_plans::content::{Address, Cause, Text};
 use pulsar_plans::turn::{Action, Outcome, Ways};
-use pulsar_producer::building::{self, Order};
+use pulsar_producer::building::{self, Builds, Order};
 use pulsar_producer::content::{Outgoing, Parts, Settings};
 use pulsar_producer::deed::{Deed, Drawn, News, Step};
-use pulsar_producer::sending::{self, Errand, Sending};
+use pulsar_producer::sending::{self, Errand, Sent};
 use pulsar_producer::topic_producer::TopicProducer;
 use pulsar_session::Received;
-use pulsar_wire::error::ConnectionError;
+use pulsar_wire::error::{ConnectionError, NoMemory};
 use std::alloc::Global;
 use std::test::Fail;
 use url::Url;
@@ -81,44 +81,85 @@ fn name(deed: &Deed) -> &'static str {
     }
 }
 
-/// What a send does at each of these news, and how it ends.
-fn send(alloc: Global, news: Vec<News>) -> Result<String, Fail> {
-    let ways = ways(alloc)?;
-    let errand = Errand {
+fn write(text: &mut String, word: &str) -> Result<(), Fail> {
+    text.push_str(word)?;
+    text.push(' ')?;
+    Ok(())
+}
+
+fn errand() -> Errand {
+    Errand {
         producer: 0,
         block: true,
-    };
-    let message = Outgoing::new(alloc, ProducerMessage::new(alloc))?;
-    let mut text = String::new(alloc);
-    let mut step = sending::begins(errand, message);
-    for news in news {
-        step = match step {
-            Step::Stays(sending, deed) => {
-                text.push_str(name(&deed))?;
-                text.push(' ')?;
-                sending::told(alloc, &ways, errand, sending, news)?
-            }
-            Step::Gives(answer) => Step::Gives(answer),
-        };
     }
-    text.push_str(match &step {
+}
+
+/// What a send does, or how it ends.
+fn name_sent(step: &Sent) -> &'static str {
+    match step {
         Step::Stays(_, deed) => name(deed),
         Step::Gives(Ok(_)) => "receipt",
         Step::Gives(Err(_)) => "error",
-    })?;
+    }
+}
+
+fn tell_sent(alloc: Global, ways: &Ways, step: Sent, news: News) -> Result<Sent, NoMemory> {
+    match step {
+        Step::Stays(sending, _) => sending::told(alloc, ways, errand(), sending, news),
+        Step::Gives(answer) => Ok(Step::Gives(answer)),
+    }
+}
+
+/// What the news make of a send. What it did before them is written.
+fn hear_sent(
+    alloc: Global,
+    ways: &Ways,
+    step: Sent,
+    news: News,
+    text: &mut String,
+) -> Result<Sent, Fail> {
+    write(text, name_sent(&step))?;
+    Ok(tell_sent(alloc, ways, step, news)?)
+}
+
+fn begun(alloc: Global) -> Result<Sent, Fail> {
+    let message = Outgoing::new(alloc, ProducerMessage::new(alloc))?;
+    Ok(sending::begins(errand(), message))
+}
+
+fn sends(alloc: Global, ways: &Ways, news: Vec<News>, text: &mut String) -> Result<(), Fail> {
+    let mut step = begun(alloc)?;
+    for news in news {
+        step = hear_sent(alloc, ways, step, news, text)?;
+    }
+    write(text, name_sent(&step))
+}
+
+/// What a send does at each of these news, and how it ends.
+fn send(alloc: Global, news: Vec<News>) -> Result<String, Fail> {
+    let ways = ways(alloc)?;
+    let mut text = String::new(alloc);
+    sends(alloc, &ways, news, &mut text)?;
     Ok(text)
+}
+
+/// The frame of a message is queued.
+fn push_queued(alloc: Global, news: &mut Vec<News>) -> Result<(), Fail> {
+    news.push(News::HasTurn(None))?;
+    news.push(drawn(alloc, 0, true)?)?;
+    news.push(News::Queued)?;
+    news.push(News::Done)?;
+    Ok(())
 }
 
 #[test]
 fn a_send_has_its_receipt(rt: HostRuntime) -> Result<(), Fail> {
     let alloc = rt.alloc();
     let mut news = Vec::new(alloc);
-    news.push(News::HasTurn(None))?;
-    news.push(drawn(alloc, 0, true)?)?;
-    news.push(News::Queued)?;
-    news.push(News::Done)?;
+    push_queued(alloc, &mut news)?;
     news.push(reply(alloc, RECEIPT)?)?;
-    assert!(rt; send(alloc, news)?.as_str() == "take draw send pass rest receipt");
+    let text = send(alloc, news)?;
+    assert!(rt; text.as_str() == "take draw send pass rest receipt ");
     Ok(())
 }
 
@@ -126,12 +167,28 @@ fn a_send_has_its_receipt(rt: HostRuntime) -> Result<(), Fail> {
 fn a_send_that_was_queued_is_lost_with_its_link(rt: HostRuntime) -> Result<(), Fail> {
     let alloc = rt.alloc();
     let mut news = Vec::new(alloc);
-    news.push(News::HasTurn(None))?;
-    news.push(drawn(alloc, 0, true)?)?;
-    news.push(News::Queued)?;
-    news.push(News::Done)?;
+    push_queued(alloc, &mut news)?;
     news.push(lost(alloc)?)?;
-    assert!(rt; send(alloc, news)?.as_str() == "take draw send pass rest error");
+    let text = send(alloc, news)?;
+    assert!(rt; text.as_str() == "take draw send pass rest error ");
+    Ok(())
+}
+
+/// The frame of a message stands in the line, and the link is lost.
+fn push_in_line(alloc: Global, news: &mut Vec<News>) -> Result<(), Fail> {
+    news.push(News::HasTurn(None))?;
+    news.push(drawn(alloc, 0, false)?)?;
+    news.push(News::InLine)?;
+    news.push(lost(alloc)?)?;
+    Ok(())
+}
+
+/// The command of the producer is found.
+fn push_recalled(alloc: Global, news: &mut Vec<News>) -> Result<(), Fail> {
+    let options = Settings::new(alloc, ProducerOptions::new(alloc))?;
+    let producer = producer(alloc)?;
+    let command = producer.command(alloc, &options)?;
+    news.push(News::Recalled(command))?;
     Ok(())
 }
 
@@ -145,57 +202,105 @@ fn push_made(alloc: Global, news: &mut Vec<News>) -> Result<(), Fail> {
     Ok(())
 }
 
-#[test]
-fn a_send_that_stood_in_the_line_is_asked_again(rt: HostRuntime) -> Result<(), Fail> {
-    let alloc = rt.alloc();
-    let producer = producer(alloc)?;
-    let options = Settings::new(alloc, ProducerOptions::new(alloc))?;
-    let mut news = Vec::new(alloc);
-    news.push(News::HasTurn(None))?;
-    news.push(drawn(alloc, 0, false)?)?;
-    news.push(News::InLine)?;
-    news.push(lost(alloc)?)?;
-    news.push(News::Recalled(producer.command(alloc, &options)?))?;
-    push_made(alloc, &mut news)?;
+/// The frame is asked for under the next number.
+fn push_again(alloc: Global, news: &mut Vec<News>) -> Result<(), Fail> {
     news.push(News::Done)?;
     news.push(drawn(alloc, 1, true)?)?;
     news.push(News::Queued)?;
+    Ok(())
+}
+
+#[test]
+fn a_send_that_stood_in_the_line_is_asked_again(rt: HostRuntime) -> Result<(), Fail> {
+    let alloc = rt.alloc();
+    let mut news = Vec::new(alloc);
+    push_in_line(alloc, &mut news)?;
+    push_recalled(alloc, &mut news)?;
+    push_made(alloc, &mut news)?;
+    push_again(alloc, &mut news)?;
+    let text = send(alloc, news)?;
     assert!(rt;
-        send(alloc, news)?.as_str()
-            == "take draw send rest recall get ask get get ask remake draw send pass"
+        text.as_str() == "take draw send rest recall get ask get get ask remake draw send pass "
     );
     Ok(())
 }
 
-/// What a building does at each of these news, and the topic producers that it makes.
-fn build(alloc: Global, news: Vec<News>) -> Result<(String, Parts), Fail> {
-    let ways = ways(alloc)?;
-    let order = Order {
+/// What a building does, or how it ends.
+fn name_built(step: &Builds) -> &'static str {
+    match step {
+        Step::Stays(_, deed) => name(deed),
+        Step::Gives(Ok(_)) => "made",
+        Step::Gives(Err(_)) => "error",
+    }
+}
+
+fn tell_built(
+    alloc: Global,
+    ways: &Ways,
+    order: &Order,
+    step: Builds,
+    news: News,
+) -> Result<Builds, NoMemory> {
+    match step {
+        Step::Stays(building, _) => building::told(alloc, ways, order, building, news),
+        Step::Gives(answer) => Ok(Step::Gives(answer)),
+    }
+}
+
+/// What the news make of a building. What it did before them is written.
+fn hear_built(
+    alloc: Global,
+    ways: &Ways,
+    order: &Order,
+    step: Builds,
+    news: News,
+    text: &mut String,
+) -> Result<Builds, Fail> {
+    write(text, name_built(&step))?;
+    Ok(tell_built(alloc, ways, order, step, news)?)
+}
+
+fn builds(
+    alloc: Global,
+    ways: &Ways,
+    order: &Order,
+    news: Vec<News>,
+    text: &mut String,
+) -> Result<Builds, Fail> {
+    let mut step = building::begins(alloc, ways, order)?;
+    for news in news {
+        step = hear_built(alloc, ways, order, step, news, text)?;
+    }
+    Ok(step)
+}
+
+fn order(alloc: Global) -> Result<Order, Fail> {
+    let options = Settings::new(alloc, ProducerOptions::new(alloc))?;
+    Ok(Order {
         topic: Text::new(String::from_str(alloc, "t")?),
         name: None,
-        options: Settings::new(alloc, ProducerOptions::new(alloc))?,
-    };
-    let mut text = String::new(alloc);
-    let mut step = building::begins(alloc, &ways, &order)?;
-    for news in news {
-        step = match step {
-            Step::Stays(building, deed) => {
-                text.push_str(name(&deed))?;
-                text.push(' ')?;
-                building::told(alloc, &ways, &order, building, news)?
-            }
-            Step::Gives(answer) => Step::Gives(answer),
-        };
-    }
+        options,
+    })
+}
+
+fn parts_of(step: Builds) -> Result<Parts, Fail> {
     match step {
-        Step::Gives(Ok(parts)) => Ok((text, parts)),
+        Step::Gives(Ok(parts)) => Ok(parts),
         Step::Gives(Err(refusal)) => Err(refusal.into_inner().into()),
         Step::Stays(..) => Err(Fail::new("it stays")),
     }
 }
 
-fn built(alloc: Global) -> Result<(String, Parts), Fail> {
-    let mut news = Vec::new(alloc);
+/// The topic producers that a building makes of these news. What it does at each is written.
+fn build(alloc: Global, news: Vec<News>, text: &mut String) -> Result<Parts, Fail> {
+    let ways = ways(alloc)?;
+    let order = order(alloc)?;
+    let step = builds(alloc, &ways, &order, news, text)?;
+    parts_of(step)
+}
+
+/// One topic is found, and its producer is made.
+fn push_built(alloc: Global, news: &mut Vec<News>) -> Result<(), Fail> {
     news.push(link())?;
     news.push(reply(alloc, NO_PARTITIONS)?)?;
     news.push(link())?;
@@ -204,12 +309,19 @@ fn built(alloc: Global) -> Result<(String, Parts), Fail> {
     news.push(News::Numbered(0))?;
     news.push(link())?;
     news.push(reply(alloc, MADE)?)?;
-    build(alloc, news)
+    Ok(())
+}
+
+fn built(alloc: Global, text: &mut String) -> Result<Parts, Fail> {
+    let mut news = Vec::new(alloc);
+    push_built(alloc, &mut news)?;
+    build(alloc, news, text)
 }
 
 /// A topic producer whose first message has the number 7.
 fn producer(alloc: Global) -> Result<TopicProducer, Fail> {
-    let (_, mut parts) = built(alloc)?;
+    let mut text = String::new(alloc);
+    let mut parts = built(alloc, &mut text)?;
     match parts.next() {
         Some(built) => Ok(TopicProducer::new(alloc, built, 7)),
         None => Err(Fail::new("no producer")),
@@ -218,7 +330,9 @@ fn producer(alloc: Global) -> Result<TopicProducer, Fail> {
 
 #[test]
 fn a_producer_is_built(rt: HostRuntime) -> Result<(), Fail> {
-    let (text, mut parts) = built(rt.alloc())?;
+    let alloc = rt.alloc();
+    let mut text = String::new(alloc);
+    let mut parts = built(alloc, &mut text)?;
     assert!(rt; text.as_str() == "get ask get ask get number get ask ");
     match parts.next() {
         Some(built) => {

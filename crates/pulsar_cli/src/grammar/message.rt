@@ -298,7 +298,8 @@ fn with_message(
     messages: Option<Vec<Message>>,
     words: &[&[u8]],
 ) -> Result<Option<Vec<Message>>, NoMemory>
-    ensures { IfOk result (λ ms. option_map (λ v. map message_content v.items) ms ≡ with_message (option_map (λ v. map message_content v.items) messages) (map (λ w. w.now) words.now)) }
+    ensures { IfOk result (λ ms. option_map (λ v. map message_content v.items) ms
+        ≡ with_message (option_map (λ v. map message_content v.items) messages) (map (λ w. w.now) words.now)) }
 {
     let Some(mut messages) = messages else {
         return Ok(None);

@@ -1,10 +1,10 @@
 //! The words of a producer: its topic, its name, and how it is made and sends.
 
-ghost use Rattle.std.specs.Prelude.{◌≡◌, IfOk, map};
+ghost use Rattle.std.specs.Prelude.{◌≡◌, IfOk, map, string_bytes};
 ghost use Rattle.std.specs.Option.{option_map};
 ghost use Rattle.pulsar_messages.specs.Content.{producer_options_values};
 ghost use Rattle.pulsar_cli.specs.Parsed.{producer_draft_of};
-ghost use Rattle.pulsar_cli.specs.ProducerWords.{access, all, blank, block, encrypted, meta, name, one, options, option_part, part, policy, producer, route, schema, schema_of, topic, with_word};
+ghost use Rattle.pulsar_cli.specs.ProducerWords.{access, all, blank, block, encrypted, meta, name, one, options, option_part, part, policy, producer, route, schema, schema_of, topic, with_meta, with_word};
 ghost use Rattle.pulsar_wire.specs.Views.{schema_values};
 ghost use Rattle.pulsar_producer.specs.Wanted.{producer_wanted};
 
@@ -41,10 +41,11 @@ pub fn options(alloc: Global, words: &[&[u8]]) -> Result<Option<ProducerOptions>
     let Some(draft) = all(alloc, words)? else {
         return Ok(None);
     };
-    if draft.builder.topic.is_some() || draft.builder.name.is_some() {
+    let builder = draft.builder;
+    if builder.topic.is_some() || builder.name.is_some() {
         return Ok(None);
     }
-    Ok(Some(draft.builder.options))
+    Ok(Some(builder.options))
 }
 
 /// What all words say.
@@ -238,9 +239,17 @@ fn meta(alloc: Global, draft: Draft, word: &[u8]) -> Result<Option<Draft>, NoMem
     let Some(value) = text(alloc, value)? else {
         return Ok(None);
     };
+    Ok(Some(with_meta(draft, name, value)?))
+}
+
+/// A name of the metadata has this value.
+fn with_meta(draft: Draft, name: String, value: String) -> Result<Draft, NoMemory>
+    ensures { IfOk result (λ d. producer_draft_of d
+        ≡ with_meta (producer_draft_of draft) (string_bytes name) (string_bytes value)) }
+{
     let mut draft = draft;
     draft.builder.options.metadata.insert(name, value)?;
-    Ok(Some(draft))
+    Ok(draft)
 }
 
 /// `schema=HEX`

@@ -1,9 +1,10 @@
 //! The building of producers as plans of calls, and what plans of producers do and are told.
 
-ghost use Rattle.std.specs.Prelude.{◌≡◌, IfOk, Ok};
+ghost use Rattle.std.specs.Prelude.{◌≡◌, IfOk};
 ghost use Rattle.pulsar_messages.specs.Words.{CloseProducer, Send as Sends};
 ghost use Rattle.pulsar_producer.specs.Plans as meaning;
-ghost use Rattle.pulsar_client.specs.Plan.{action_of, builds, news_of, told};
+ghost use Rattle.pulsar_client.specs.Content.{Done};
+ghost use Rattle.pulsar_client.specs.Plan.{action_of, built_of, builds, news_of, told, verdict};
 ghost use Rattle.pulsar_client.specs.declared.plans.plan.Plan.TheVariants.{Producing};
 
 use crate::act::{Action, Makes, Outcome, Verdict};
@@ -101,7 +102,7 @@ fn stays(
 
 /// A producer was built.
 fn made(alloc: Global, order: Order, parts: Parts) -> Result<Turn<Plan, Verdict>, NoMemory>
-    ensures { IfOk result (λ turn. (w : _) → turn ≡ builds w order (Step.Gives (Ok parts))) }
+    ensures { IfOk result (λ turn. turn ≡ Turn.Gives (verdict (built_of order parts) Done)) }
 {
     let Order {
         topic,

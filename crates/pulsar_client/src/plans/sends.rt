@@ -6,7 +6,7 @@ ghost use Rattle.pulsar_wire.specs.Views.{body_values};
 ghost use Rattle.pulsar_link.specs.Messages.{written};
 ghost use Rattle.pulsar_producer.specs.Plans as meaning;
 ghost use Rattle.pulsar_client.specs.Content.{Replies};
-ghost use Rattle.pulsar_client.specs.Plan.{goes_on_sending, halted, leaves, news_of, parted, receipt_said, receipted, reported, sends_stay, told};
+ghost use Rattle.pulsar_client.specs.Plan.{action_of, goes_on_sending, halted, leaves, news_of, parted, receipt_said, receipted, reported, sends_stay, told};
 ghost use Rattle.pulsar_client.specs.declared.plans.plan.Plan.TheVariants.{Sending as InSending};
 
 use crate::act::{Action, Makes, Notice, Outcome, Share, Verdict, Who};
@@ -108,20 +108,32 @@ fn stays(
             Plan::Reporting { ways, errand },
             tell(share, parted(share, None)),
         )),
-        share => {
-            let sending = SendState::new(alloc, sending)?;
-            let action = action_of(alloc, deed)?;
-            Ok(Turn::Stays(
-                Plan::Sending {
-                    ways,
-                    errand,
-                    share,
-                    sending,
-                },
-                action,
-            ))
-        }
+        share => stands(alloc, ways, errand, share, sending, deed),
     }
+}
+
+/// It stands there, and does this.
+fn stands(
+    alloc: Global,
+    ways: Ways,
+    errand: Errand,
+    share: Option<Share>,
+    sending: Sending,
+    deed: Deed,
+) -> Result<Turn<Plan, Verdict>, NoMemory>
+    ensures { IfOk result (λ turn. turn ≡ Turn.Stays (InSending ways errand share sending) (action_of deed)) }
+{
+    let sending = SendState::new(alloc, sending)?;
+    let action = action_of(alloc, deed)?;
+    Ok(Turn::Stays(
+        Plan::Sending {
+            ways,
+            errand,
+            share,
+            sending,
+        },
+        action,
+    ))
 }
 
 /// It has told that it is queued: its turn is over.
@@ -214,7 +226,7 @@ fn receipt_in(alloc: Global, body: Option<Body>) -> Result<Said, NoMemory>
 {
     match body {
         Some(body) => receipt_of(alloc, body),
-        None => nothing(alloc),
+        None => Said::new(alloc, Ok(Answer::Replies(Vec::new(alloc)))),
     }
 }
 
@@ -223,13 +235,14 @@ fn receipt_of(alloc: Global, body: Body) -> Result<Said, NoMemory>
 {
     match body {
         Body::SendReceipt(receipt) => Said::new(alloc, Ok(Answer::Receipt(receipt))),
-        _ => nothing(alloc),
+        body => nothing(alloc, body),
     }
 }
 
-/// A reply that is no receipt.
-fn nothing(alloc: Global) -> Result<Said, NoMemory>
+/// A body that is no receipt.
+fn nothing(alloc: Global, body: Body) -> Result<Said, NoMemory>
     ensures { IfOk result (λ s. s ≡ Replies []) }
 {
+    drop(body);
     Said::new(alloc, Ok(Answer::Replies(Vec::new(alloc))))
 }

@@ -53,12 +53,8 @@ fn set_in(plans: &mut BTreeMap<u64, Plan>, number: u64, plan: Option<Plan>) -> R
     ensures { OnOk result ((n : ℕ) → get nat_cmp plans.new n ≡ (if n == number then plan else get nat_cmp plans.old n)) }
 {
     match plan {
-        None => {
-            let _ = plans.remove(&number);
-        }
-        Some(plan) => {
-            plans.insert(number, plan)?;
-        }
+        None => drop(plans.remove(&number)),
+        Some(plan) => drop(plans.insert(number, plan)?),
     }
     Ok(())
 }

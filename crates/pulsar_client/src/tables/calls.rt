@@ -1,16 +1,16 @@
 //! Calls and their plans.
 
-ghost use Rattle.std.specs.Prelude.{◌≡◌, ◌==◌, ◌++◌, ◌∷◌, map, IfOk, MatchBool, None, OnOk, string_bytes, true, false, if◌then◌else◌};
+ghost use Rattle.std.specs.Prelude.{◌≡◌, ◌==◌, ◌+◌, ◌&&◌, ◌++◌, ◌∷◌, not, map, IfOk, MatchBool, None, Some, OnOk, string_bytes, true, false, if◌then◌else◌};
 ghost use Rattle.pulsar_client.specs.Alarms.{set};
 ghost use Rattle.pulsar_client.specs.Content.{Build, asked, lacks_tickets, shares, shown};
 ghost use Rattle.pulsar_client.specs.Effects.{effects};
 ghost use Rattle.pulsar_link.specs.RawCall.{words_of};
 ghost use Rattle.pulsar_link.specs.Request.{named_producer};
 ghost use Rattle.pulsar_client.specs.Producers.{called_on, names_in, opened_on};
-ghost use Rattle.pulsar_client.specs.Rules.{asks_raw, asks_topics, builds_with, does, follows, from_base, notice, parts_of, procedure_for, searches, unless_refused};
+ghost use Rattle.pulsar_client.specs.Rules.{asks_raw, asks_topics, builds_with, does, follows, from_base, is_taken, notice, parts_of, procedure_for, searches, unless_refused};
 ghost use Rattle.pulsar_client.specs.Run.{goes_on, ticket_for};
 ghost use Rattle.pulsar_client.specs.Tables.{agenda_of, chosen_of, stand_of, view_of};
-ghost use Rattle.pulsar_client.specs.View.{after, builds, later, may_call, stays, ways_of};
+ghost use Rattle.pulsar_client.specs.View.{after, alarms_built, builds, later, may_call, stays, ways_of};
 ghost use Rattle.pulsar_client.specs.Who.{is_same};
 ghost use Rattle.pulsar_client.specs.declared.act.Who.{Who as Meant};
 
@@ -153,17 +153,30 @@ impl Tables {
         ensures after { OnOk result (view_of self.new ≡ record (view_of self.old) { producers = names_in (named_producer (words_of call)) (view_of self.old).producers }) }
         ensures settings { self.new.settings ≡ self.old.settings }
     {
-        if let Some(number) = call.named_producer() {
-            self.producers.name(number)?;
-            if self.producers.is_used(number) {
-                return Ok(Procedure::Refuse(Refusal::NumberInUse));
-            }
+        let number = call.named_producer();
+        let request = Request::new(self.alloc, call)?;
+        if self.names(number)? {
+            return Ok(Procedure::Refuse(Refusal::NumberInUse));
         }
         Ok(Procedure::Ask {
             place: Place::Link(link),
-            request: Request::new(self.alloc, call)?,
+            request,
             says: Says::Bodies,
         })
+    }
+
+    /// A raw call names a number of a producer, or none. A producer of the client has it.
+    fn names(&mut self, number: Option<u64>) -> Result<bool, NoMemory>
+        ensures taken { IfOk result (λ b. b ≡ is_taken (view_of self.old).producers number) }
+        ensures after { OnOk result (view_of self.new ≡ record (view_of self.old) { producers = names_in number (view_of self.old).producers }) }
+        ensures settings { self.new.settings ≡ self.old.settings }
+    {
+        let Some(number) = number else {
+            return Ok(false);
+        };
+        let is_used = self.producers.is_used(number);
+        self.producers.name(number)?;
+        Ok(is_used)
     }
 
     /// The topics of a namespace, from the address of the service.
@@ -319,11 +332,7 @@ impl Tables {
         ensures settings { self.new.settings ≡ self.old.settings }
     {
         let Verdict { makes, said } = verdict;
-        if builds(&makes, false) && !self.is_built {
-            self.alarms
-                .set(Alarm::CheckIdle, later(self.clock, IDLE_PERIOD))?;
-        }
-        self.is_built = builds(&makes, self.is_built);
+        self.builds(&makes)?;
         self.makes(who, makes)?;
         match who {
             Who::Call(ticket) => out.push(Effect::Ended {
@@ -332,6 +341,22 @@ impl Tables {
             })?,
         }
         Ok(())
+    }
+
+    /// The client is built where a verdict makes it. With the first such the idle check begins.
+    fn builds(&mut self, makes: &Makes) -> Result<(), NoMemory>
+        ensures sees { OnOk result (view_of self.new ≡ record (view_of self.old) { calls = record { drawn = self.old.tickets; is_built = builds makes.now self.old.is_built; is_stopped = self.old.is_stopped }; alarms = alarms_built self.old.clock (not self.old.is_built && builds makes.now false) self.old.alarms }) }
+        ensures settings { self.new.settings ≡ self.old.settings }
+    {
+        if self.is_built {
+            return Ok(());
+        }
+        if !builds(makes, false) {
+            return Ok(());
+        }
+        self.is_built = true;
+        self.alarms
+            .set(Alarm::CheckIdle, later(self.clock, IDLE_PERIOD))
     }
 }
 

@@ -2,10 +2,10 @@
 
 ghost use Rattle.std.specs.Prelude.{◌≡◌, ◌++◌, ◌∷◌, [], List, map, IfOk, None, OnOk, true};
 ghost use Rattle.pulsar_run.specs.Order.{arranged};
-ghost use Rattle.pulsar_client.specs.Content.{Heard, heard, shown};
+ghost use Rattle.pulsar_client.specs.Content.{Heard, asked, heard, shown};
 ghost use Rattle.pulsar_client.specs.Effects.{effect_below, effects};
 ghost use Rattle.pulsar_client.specs.Kept.{AreTicketed};
-ghost use Rattle.pulsar_client.specs.Rules.{brings};
+ghost use Rattle.pulsar_client.specs.Rules.{brings, call_part};
 ghost use Rattle.pulsar_client.specs.Run.{Step, goes_on};
 ghost use Rattle.pulsar_producer.specs.Routing.{Policy};
 ghost use Rattle.pulsar_client.specs.Subscribers.{subscription_at};
@@ -132,13 +132,7 @@ impl Tables {
         ensures settings { self.new.settings ≡ self.old.settings }
     {
         match event {
-            Event::Call(call) => {
-                let advice = self.advice(&call, policies)?;
-                one(
-                    self.alloc,
-                    Part::Calls(Asking::new(self.alloc, call)?, advice),
-                )
-            }
+            Event::Call(call) => one(self.alloc, self.call_part(call, policies)?),
             Event::Opened(link) => to_link(self.alloc, link, LinkAct::Opens),
             Event::Failed(link, kind) => ends(self.alloc, link, End::Unopened(kind)),
             Event::Bytes(link, piece) => {
@@ -154,6 +148,19 @@ impl Tables {
             }
             Event::Poll(ticket) => one(self.alloc, Part::Polls(ticket)),
         }
+    }
+
+    /// A call, for which the policies are asked.
+    fn call_part(
+        &self,
+        call: Call,
+        policies: &[Box<dyn CustomRoutingPolicy>],
+    ) -> Result<Part, NoMemory>
+        ensures { IfOk result (λ p. p ≡ call_part (map (λ p. routes p) policies.now) (view_of self.now) (asked call)) }
+    {
+        let asking = Asking::new(self.alloc, call)?;
+        let advice = self.advice(asking.call(), policies)?;
+        Ok(Part::Calls(asking, advice))
     }
 
     /// Does all that is left to do, and all that arises from it.

@@ -11,6 +11,7 @@ ghost use Rattle.pulsar_client.specs.Rules.{below, grants, tells, turn_notice};
 ghost use Rattle.pulsar_client.specs.Run.{goes_on};
 ghost use Rattle.pulsar_client.specs.Tables.{agenda_of, view_of};
 ghost use Rattle.pulsar_client.specs.View.{after, room_of};
+ghost use Rattle.pulsar_client.specs.declared.act.Act.{Act};
 
 use crate::act::{Action, Notice, Outcome, Who};
 use crate::agenda::Tasks;

@@ -6,6 +6,7 @@ ghost use Rattle.pulsar_messages.specs.Content.{message_content};
 ghost use Rattle.pulsar_producer.specs.Wanted.{producer_wanted};
 ghost use Rattle.pulsar_client.specs.Kept.{producers_of};
 ghost use Rattle.pulsar_client.specs.Content.{SendAll, lacks_tickets};
+ghost use Rattle.pulsar_client.specs.declared.act.Action.{Action};
 ghost use Rattle.pulsar_client.specs.Producers.{all_routed, routed, sent_on, why_not};
 ghost use Rattle.pulsar_client.specs.Rules as rules;
 ghost use Rattle.pulsar_client.specs.Run.{goes_on};
@@ -30,18 +31,24 @@ impl Tables {
     pub(super) fn produces(&self, builder: ProducerBuilder) -> Result<Procedure, NoMemory>
         ensures { IfOk result (λ p. p ≡ rules.produces (chosen_of self.now.settings) (producer_wanted builder)) }
     {
-        let Some(topic) = builder.topic else {
+        let ProducerBuilder {
+            topic,
+            name,
+            options,
+            ..
+        } = builder;
+        let Some(topic) = topic else {
             return Ok(Procedure::Refuse(Refusal::NoTopic));
         };
         let Some(ways) = self.settings.ways(self.alloc)? else {
             return Ok(Procedure::Refuse(Refusal::NoAddress));
         };
-        let options = Settings::new(self.alloc, builder.options)?;
+        let options = Settings::new(self.alloc, options)?;
         Ok(Procedure::Produce {
             ways,
             order: Order {
                 topic: Text::new(topic),
-                name: text(builder.name),
+                name: text(name),
                 options,
             },
         })
@@ -156,24 +163,21 @@ impl Tables {
         mut advice: Advice,
         parts: &mut VecDeque<Act>,
     ) -> Result<(), NoMemory>
-        requires { lacks_tickets of (length messages.items) ≡ false }
         ensures parts { OnOk result (parts.new.items ≡ parts.old.items ++ rules.shares_of (chosen_of self.old.settings) (producers_of self.old.producers) of (of + 1) advice producer (map message_content messages.items)) }
         ensures after { OnOk result (view_of self.new ≡ record (view_of self.old) { producers = all_routed producer (map message_content messages.items) (producers_of self.old.producers) }) }
         ensures settings { self.new.settings ≡ self.old.settings }
     {
-        let mut ticket = of;
+        let mut ticket = following(of)?;
         for message in messages {
-            ticket = ticket.saturating_add(1);
-            let procedure = self.sends_as(
-                Some(Share { of, ticket }),
-                producer,
-                message,
-                advice.next(),
-            )?;
+            let said = advice.next();
+            let share = Some(Share { of, ticket });
+            let procedure = self.sends_as(share, producer, message, said)?;
             parts.push_back(Act::Starts {
                 who: Who::Call(ticket),
                 procedure,
             })?;
+            let next = following(ticket)?;
+            ticket = next;
         }
         Ok(())
     }
@@ -238,6 +242,12 @@ fn fails(share: Option<Share>, refusal: Refusal) -> Procedure
         Some(share) => Procedure::FailShare { share, refusal },
         None => Procedure::Refuse(refusal),
     }
+}
+
+fn following(ticket: u64) -> Result<u64, NoMemory>
+    ensures { IfOk result (λ t. t ≡ ticket + 1) }
+{
+    ticket.checked_add(1).ok_or(NoMemory)
 }
 
 fn text(name: Option<String>) -> Option<Text>

@@ -3,4 +3,4 @@ use Rattle.pulsar_cli.proofs.Readings.{new-running}
 use Rattle.pulsar_cli.proofs.reading.Reading.new.Goals as goal
 
 pub returns : goal.returns
-returns g c = new-running _ c.in_ok-options.field-0.0 refl c.in_ok-options.ensures refl refl (search rules) (search rules)
+returns c = λ ps o. new-running ps o _ c.in_ok-choice.ensures refl refl (search rules) (search rules)

@@ -1,12 +1,14 @@
-use Rattle.std.proofs.Common.{[], refl, subst, absurd}
-use Rattle.pulsar_client.specs.Tables.{Stands}
+use Rattle.std.proofs.Common.{◌∙◌, ap, refl, sym}
+use Rattle.pulsar_client.specs.Client.{chosen, options}
+use Rattle.pulsar_client.proofs.Taking.{new_stands}
 use Rattle.pulsar_client.proofs.pulsar.Pulsar.new.Goals as goal
 
 pub returns-clause-stands : goal.returns-clause-stands
 returns-clause-stands g c = record {
-  made = refl;
-  stands = subst (λ x. Stands (record { chosen = x; policies = _ }) c.new-tables.result []) c.in_ok-settings.ensures (c.new-tables.ensures _);
-  answers = λ t. c.new-answers.ensures t;
+  made = ap (options _) (sym c.in_ok-options.ensures.ok);
+  stands =
+      new_stands c.new-3.result _ _ _ (c.in_ok-settings.ensures ∙ ap chosen c.deref.ensures ∙ ap chosen c.in_ok-options.ensures.ok) (c.new-3.ensures _);
+  answers = λ t. c.new-4.ensures t;
   drawn = λ t k. absurd cc;
   whole = refl;
 }

@@ -11,14 +11,14 @@ use Rattle.pulsar_client.proofs.pulsar.Pulsar.take.Goals as goal
 pub returns-clause-ok : goal.returns-clause-ok
 returns-clause-ok g c = λ o h taken s.
     let new = step c.args.event c.in_ok-out.out.items in
-    let stands = c.in_ok-out.ensures.stands o h (ap (λ (x : Options). x.policies) s.made ∙ sym (ap (map _) c.as_slice.ensures.value)) s.stands in
+    let stands = c.in_ok-out.ensures.stands o h (ap (λ (x : Options). x.policies) s.made ∙ sym (ap (map _) (c.as_slice.ensures.value ∙ ap (λ x. x.policies.items) c.deref.ensures))) s.stands in
     record {
       made = s.made;
       stands = stands;
       answers = λ t.
           c.in_ok-note.ensures t
-          ∙ (λ i. ended_in (map shown (c.deref.ensures.value i)) t
-            (drawn_to (ticket_is c.args.self.now.tables s.stands i) (ticket_is c.step-out.new.self stands i) t (s.answers t i)))
+          ∙ (λ i. ended_in (map shown (c.deref-2.ensures.value i)) t
+            (drawn_to (ticket_is c.args.self.now.tables s.stands i) (ticket_is c.step.new.self stands i) t (s.answers t i)))
           ∙ held_on taken t new h (s.drawn t);
       drawn = λ t k. drawn_more t new h (s.drawn t k);
       whole = refl;

@@ -21,11 +21,11 @@ returns-in_default-clause-left c =
     c.next_ticket.ensures ∙ ap (λ k. cond (lacks_tickets n k) None (Some (n + 1 + k))) (c.shares.ensures ∙ ap shares c.call.ensures)
     in
     let lacks = none_lacks (lacks_tickets n (shares c.args.asking)) _ _ next (none_left _ c.in_default.not-Some) in
-    on_ok_weaker c.put-in_default.result
+    on_ok_weaker c.put.result
     (λ put. put
     ∙ ap (λ verdict. record g { now = Answers (Call (2 ^ 64 - 1)) verdict ∷ g.now }) c.in_ok-verdict.ensures
     ∙ spent_left v c.args.advice c.args.asking g lacks)
-    c.put-in_default.ensures
+    c.put.ensures
 
 pub returns-in_default-clause-sees : goal.returns-in_default-clause-sees
 returns-in_default-clause-sees c =
@@ -35,7 +35,7 @@ returns-in_default-clause-sees c =
     c.next_ticket.ensures ∙ ap (λ k. cond (lacks_tickets n k) None (Some (n + 1 + k))) (c.shares.ensures ∙ ap shares c.call.ensures)
     in
     let lacks = none_lacks (lacks_tickets n (shares c.args.asking)) _ _ next (none_left _ c.in_default.not-Some) in
-    on_ok_weaker c.put-in_default.result (λ put. spent_sees v c.args.advice c.args.asking lacks) c.put-in_default.ensures
+    on_ok_weaker c.put.result (λ put. spent_sees v c.args.advice c.args.asking lacks) c.put.ensures
 
 pub returns-clause-left : goal.returns-clause-left
 returns-clause-left c =
@@ -51,12 +51,12 @@ returns-clause-left c =
     c.in_ok-procedure.ensures.parts
     ∙ ap (λ acts. acts ++ parts_of v c.args.advice c.args.asking) c.new-parts.ensures.items
     in
-    on_ok_weaker c.put.result
+    on_ok_weaker c.put-2.result
     (λ put. put
     ∙ ap (λ (x : Agenda). record x { now = Starts (Call n) c.in_ok-procedure.procedure ∷ x.now }) c.in_ok-put_all.ensures
     ∙ (λ i. record g { now = Starts (Call n) (is i) ∷ (parts i ++ g.now) })
     ∙ begun_left v c.args.advice c.args.asking g lacks)
-    c.put.ensures
+    c.put-2.ensures
 
 pub returns-clause-sees : goal.returns-clause-sees
 returns-clause-sees c =
@@ -67,7 +67,7 @@ returns-clause-sees c =
     in
     let lacks = some_lacks (lacks_tickets n (shares c.args.asking)) _ _ _ next c.in-Some.is in
     let is = some_next (lacks_tickets n (shares c.args.asking)) _ _ _ next c.in-Some.is in
-    on_ok_weaker c.put.result
+    on_ok_weaker c.put-2.result
     (λ put. ap (λ (x : View). record x { calls = record { drawn = c.in-Some.next; is_built = x.calls.is_built; is_stopped = x.calls.is_stopped } })
     c.in_ok-procedure.ensures.after
     ∙ (λ i. record v {
@@ -75,4 +75,4 @@ returns-clause-sees c =
       producers = called_on (may_call v.calls) c.args.asking v.producers;
     })
     ∙ begun_sees v c.args.advice c.args.asking lacks)
-    c.put.ensures
+    c.put-2.ensures

@@ -1,7 +1,8 @@
-use Rattle.std.proofs.Common.{◌∙◌, ◌++◌, ap, map, sym}
-use Rattle.std.proofs.lemmas.List.{append-nil}
+use Rattle.std.proofs.Common.{◌∙◌, ◌+◌, ◌++◌, ap, map, sym}
+use Rattle.std.proofs.lemmas.List.{append-nil, length-map}
 use Rattle.std.proofs.lemmas.Result.{MatchResult-weaker, on_ok_weaker}
 use Rattle.pulsar_messages.specs.Content.{message_content}
+use Rattle.pulsar_client.specs.declared.act.Procedure.TheVariants.{Gather}
 use Rattle.pulsar_client.specs.Tables.{view_of}
 use Rattle.pulsar_client.proofs.Sending.{made_so, parts_all, parts_none, refused_so, sent_all, sent_none}
 use Rattle.pulsar_client.proofs.tables.Tables.sends_all.Goals as goal
@@ -24,7 +25,11 @@ returns-in-Some-clause-after c =
 
 pub returns-in-None-clause-procedure : goal.returns-in-None-clause-procedure
 returns-in-None-clause-procedure c =
-    MatchResult-weaker c.gathers.result c.gathers.ensures.procedure (λ p is. is ∙ made_so _ _ (sym c.why_not.ensures ∙ c.in-None.is)) (λ e u. u)
+    MatchResult-weaker c.gathers.result c.gathers.ensures.procedure
+    (λ p is. is
+    ∙ ap (Gather (c.args.self.now.tickets + 1)) (sym (length-map c.args.messages.items message_content))
+    ∙ made_so _ _ (sym c.why_not.ensures ∙ c.in-None.is))
+    (λ e u. u)
 
 pub returns-in-None-clause-parts : goal.returns-in-None-clause-parts
 returns-in-None-clause-parts c =

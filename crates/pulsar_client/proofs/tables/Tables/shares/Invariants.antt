@@ -8,7 +8,7 @@ use Rattle.pulsar_client.proofs.tables.Tables.shares.Given as goal
 
 abbrev pub invariant-loop-message : goal.invariant-loop-message
 invariant-loop-message l = record {
-  ticket : l.ticket ≡ l.of + length l.yielded;
+  ticket : l.ticket ≡ l.of + length l.yielded + 1;
   advice : l.advice ≡ drop (length l.yielded) l.fn.advice;
   parts : l.parts.items ≡ l.fn.parts.items
       ++ shares_of (chosen_of l.fn.self.settings) (producers_of l.fn.self.producers) l.of (l.of + 1) l.fn.advice l.producer (map message_content l.yielded);

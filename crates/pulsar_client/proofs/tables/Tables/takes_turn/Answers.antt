@@ -23,21 +23,21 @@ pub returns-in-Some-clause-left : goal.returns-in-Some-clause-left
 returns-in-Some-clause-left c =
     let row = (view_of c.args.self.now).producers.topics c.args.number in
     on_ok_weaker c.grants.result
-    (λ told. told ∙ in_front (agenda_of c.args.tasks.now) _ _ (turn_had c.args.who row c.in-Some.version (sym c.in_ok-take_turn.ensures.version ∙ c.in-Some.is))) c.grants.ensures
+    (λ told. told ∙ in_front (agenda_of c.args.tasks.now) _ _ (turn_had c.args.who row c.in-Some.version (sym c.in_ok-version.ensures.version ∙ c.in-Some.is))) c.grants.ensures
 
 pub returns-in-Some-clause-sees : goal.returns-in-Some-clause-sees
 returns-in-Some-clause-sees c =
     let v = view_of c.args.self.now in
     on_ok_weaker c.grants.result
-    (λ told. ap (λ ps. record v { producers = ps }) (c.in_ok-take_turn.ensures.after ∙ ap (λ t. changed c.args.number (Takes t) v.producers) c.ticket_of.ensures)) c.grants.ensures
+    (λ told. ap (λ ps. record v { producers = ps }) (c.in_ok-version.ensures.after ∙ ap (λ t. changed c.args.number (Takes t) v.producers) c.ticket_of.ensures)) c.grants.ensures
 
 pub returns-in-None-clause-left : goal.returns-in-None-clause-left
 returns-in-None-clause-left c =
     let row = (view_of c.args.self.now).producers.topics c.args.number in
     in_front (agenda_of c.args.tasks.now) [] _
-    (turn_waits c.args.who row (sym c.is_used.ensures ∙ c.if-not-is_used.false) (sym c.in_ok-take_turn.ensures.version ∙ c.in-None.is))
+    (turn_waits c.args.who row (sym c.is_used.ensures ∙ c.if-not-is_used.false) (sym c.in_ok-version.ensures.version ∙ c.in-None.is))
 
 pub returns-in-None-clause-sees : goal.returns-in-None-clause-sees
 returns-in-None-clause-sees c =
     let v = view_of c.args.self.now in
-    ap (λ ps. record v { producers = ps }) (c.in_ok-take_turn.ensures.after ∙ ap (λ t. changed c.args.number (Takes t) v.producers) c.ticket_of.ensures)
+    ap (λ ps. record v { producers = ps }) (c.in_ok-version.ensures.after ∙ ap (λ t. changed c.args.number (Takes t) v.producers) c.ticket_of.ensures)

@@ -1,0 +1,12 @@
+use Rattle.std.proofs.Common.{◌∙◌, ap, sym}
+use Rattle.std.proofs.lemmas.Result.{on_ok_weaker}
+use Rattle.pulsar_client.specs.Content.{asked}
+use Rattle.pulsar_client.specs.Producers.{opened_on}
+use Rattle.pulsar_client.specs.Tables.{view_of}
+use Rattle.pulsar_client.proofs.tables.Tables.opened.Goals as goal
+
+pub returns-in-Send-clause-after : goal.returns-in-Send-clause-after
+returns-in-Send-clause-after c =
+    let v = view_of c.args.self.now in
+    on_ok_weaker c.sends.result
+    (λ sees. sees ∙ ap (λ a. record v { producers = opened_on a v.producers }) (sym (ap asked c.in-Send.is) ∙ c.into_inner.ensures)) c.sends.ensures.after

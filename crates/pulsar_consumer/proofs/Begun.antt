@@ -1,14 +1,13 @@
 -- Which frames are begun.
-use Rattle.std.proofs.Common.{◌≡◌, ◌∙◌, sym, ap, refl, subst, ℕ, suc, ◌+◌, ◌-◌, ◌<◌, ◌≤◌, nat_lt, min, Bool, true, false, cond, List, [], ◌∷◌, ◌++◌, length, take, drop, Option, Some, None, arith}
+use Rattle.std.proofs.Common.{◌≡◌, ◌∙◌, sym, ap, refl, subst, ℕ, suc, ◌+◌, ◌-◌, ◌<◌, ◌≤◌, nat_lt, Bool, true, false, cond, List, [], ◌∷◌, ◌++◌, length, take, Some, None, arith}
 use Rattle.std.proofs.lemmas.Bool.Decides.{nat_tests}
 use Rattle.std.proofs.lemmas.List.{append-nil, append_assoc, length-append, length-drop, length-take}
-use Rattle.std.specs.Option.{option_map}
 use Rattle.pulsar_link.specs.Items.{Item}
 use Rattle.pulsar_consumer.specs.Frames.{Frame, failed}
-use Rattle.pulsar_consumer.specs.Laws.{FramesBeginInTurn, arrivals, arrives_by, begun, begun_in, given, given_by, item_in, queue}
-use Rattle.pulsar_consumer.specs.Topic.{Act, Lives, Hears, Loses, Fails, Ends, Polls, Asks, Engine, Seen, Setup, after, asked, begin, begins, ends, finish, first_of, gives, gives_from, goes_on, hears, is_ended, lives_on, loses, no_items, places, polled, seen, subscribed}
+use Rattle.pulsar_consumer.specs.Laws.{FramesBeginInTurn, arrivals, arrives_by, begun_in, given, given_by, item_in}
+use Rattle.pulsar_consumer.specs.Topic.{Act, Lives, Hears, Loses, Fails, Ends, Polls, Asks, Engine, Seen, Setup, after, ends, finish, first_of, gives, gives_from, goes_on, hears, is_ended, lives_on, no_items, places, polled, seen, subscribed}
 use Rattle.pulsar_consumer.specs.declared.polled.Ending.TheVariants.{LinkLost, NotSubscribed}
-use Rattle.pulsar_consumer.proofs.Held.{IsFull, IsSettled, bare_of, next_of, none_left, one_of, places_full}
+use Rattle.pulsar_consumer.proofs.Held.{IsFull, IsSettled, bare_of, next_of, none_left, one_of, places_full, some_in}
 use Rattle.pulsar_consumer.proofs.Histories.{counted_same, polled_one, settled, sizes}
 
 -- how many items frames have
@@ -206,10 +205,6 @@ split s (act ∷ h) =
     subst (λ n. Split n (arrivals s h ++ arrives_by act (seen s h)) (after act (seen s h)).engine) (sym (length-append (given s h) (given_by act (seen s h))))
     (split_after (length (given s h)) (arrivals s h) act (seen s h) (settled s h).0.0 (split s h))
 
-some_of : (xs : List Item) → no_items xs ≡ false → 0 < length xs
-some_of [] none = absurd cc
-some_of (y ∷ ys) none = omega arith
-
 begun_is : (k : ℕ) (all : List Frame) (e : Engine) → IsSettled e → (x : Split k all e) → begun_in (k + e.queue) all ≡ x.frames
 begun_is k all e set x = by (no_items e.rest) refl
   where
@@ -218,7 +213,7 @@ begun_is k all e set x = by (no_items e.rest) refl
         ap (begun_in (k + e.queue)) (x.parts ∙ ap (λ xs. x.frames ++ xs) (set.1 none) ∙ append-nil x.frames) ∙ x.fits
     by false more =
         let full : length e.unread ≡ e.queue = set.0.1 more in
-        let some : 0 < length e.rest = some_of e.rest more in
+        let some : 0 < length e.rest = some_in e.rest more in
         let size = x.size in
         ap (begun_in (k + e.queue)) x.parts ∙ no_more_begun (k + e.queue) x.frames e.waiting (omega (arith, full, some, size)) x.fits
 

@@ -1,6 +1,6 @@
 -- What an engine holds: its items are kept in order, and as many are placed as there is room for.
-use Rattle.std.proofs.Common.{◌≡◌, ◌∙◌, sym, ap, refl, subst, ℕ, suc, ◌+◌, ◌-◌, ◌<◌, ◌≤◌, min, Bool, true, false, cond, List, [], ◌∷◌, ◌++◌, length, take, drop, Option, Some, None, arith}
-use Rattle.std.proofs.lemmas.List.{append-nil, append_assoc, drop_all, flat_map_more, length-append, length-drop, length-take, take-append-drop, take-append-le, take_all}
+use Rattle.std.proofs.Common.{◌≡◌, ◌∙◌, sym, ap, refl, ℕ, suc, ◌+◌, ◌-◌, ◌<◌, ◌≤◌, min, Bool, true, false, cond, List, [], ◌∷◌, ◌++◌, length, take, drop, Option, Some, None, arith}
+use Rattle.std.proofs.lemmas.List.{append-nil, append_assoc, flat_map_more, length-append, length-drop, length-take, take-append-drop, take-append-le, take_all}
 use Rattle.std.specs.List.{flat_map}
 use Rattle.std.specs.Option.{option_map}
 use Rattle.pulsar_link.specs.Items.{Item}
@@ -71,6 +71,10 @@ gives_from_holds (x ∷ xs) e w =
 
 pub gives_holds : (e : Engine) → one_of (first_of e.unread) ++ held (gives e) ≡ held e
 gives_holds e = gives_from_holds e.unread e refl
+
+pub some_in : (xs : List Item) → no_items xs ≡ false → 0 < length xs
+some_in [] none = absurd cc
+some_in (y ∷ ys) none = omega arith
 
 -- AS MANY ARE PLACED AS THERE IS ROOM FOR
 

@@ -1,18 +1,17 @@
 -- What an act keeps, and so every history.
-use Rattle.std.proofs.Common.{◌≡◌, ◌∙◌, sym, ap, refl, subst, ℕ, ◌+◌, ◌-◌, ◌<◌, ◌≤◌, ◌==◌, Bool, true, false, cond, List, [], ◌∷◌, ◌++◌, length, take, drop, Option, Some, None, arith}
+use Rattle.std.proofs.Common.{◌≡◌, ◌∙◌, sym, ap, refl, subst, ℕ, ◌+◌, ◌<◌, ◌≤◌, ◌==◌, Bool, true, false, cond, List, [], ◌∷◌, ◌++◌, length, take, drop, Option, Some, None, arith}
 use Rattle.std.proofs.lemmas.Bool.Decides.{nat_tests}
-use Rattle.std.proofs.lemmas.List.{append-nil, append_assoc, drop_at}
+use Rattle.std.proofs.lemmas.List.{append-nil, append_assoc, drop_at, length-append}
 use Rattle.std.specs.Option.{is_some, option_map, option_or}
 use Rattle.url.specs.Parts.{Parts}
 use Rattle.pulsar_wire.specs.Sink.{capped}
 use Rattle.pulsar_link.specs.Items.{Item}
-use Rattle.pulsar_consumer.specs.Content.{ConfigValues}
 use Rattle.pulsar_consumer.specs.Frames.{Frame, failed}
-use Rattle.pulsar_consumer.specs.Topic.{Act, Lives, Hears, Loses, Fails, Ends, Polls, Asks, Engine, Live, Seen, Setup, after, asked, batch_size, counts, counts_first, ends, first_of, gives, half, hears, idle, is_ended, is_message, is_on, link_of, lives_on, loses, no_items, places, polled, polled_from, queue_of, seen, subscribed}
-use Rattle.pulsar_consumer.specs.Laws.{EndIsFinal, IsFinished, PermitsInBounds, PollsGiveArrivals, PollsGiveTheNext, QueueIsKept, RawAsksForNothing, arrivals, arrives_by, given, given_by, item_in, items_of, left, queue}
+use Rattle.pulsar_consumer.specs.Topic.{Act, Lives, Hears, Loses, Fails, Ends, Polls, Asks, Engine, Live, Seen, Setup, after, asked, batch_size, counts_first, ends, first_of, gives, half, hears, idle, is_ended, is_message, is_on, lives_on, loses, no_items, places, polled, polled_from, queue_of, seen, subscribed}
+use Rattle.pulsar_consumer.specs.Laws.{EndIsFinal, PermitsInBounds, PollsGiveArrivals, PollsGiveTheNext, QueueIsKept, RawAsksForNothing, arrivals, arrives_by, given, given_by, item_in, items_of, left, queue}
 use Rattle.pulsar_consumer.specs.declared.polled.Ending.{Ending}
 use Rattle.pulsar_consumer.specs.declared.polled.Ending.TheVariants.{LinkLost, NotSubscribed}
-use Rattle.pulsar_consumer.proofs.Held.{IsSettled, first_held, gives_holds, gives_settled, hears_holds, hears_settled, held, of_frames, one_of, placed}
+use Rattle.pulsar_consumer.proofs.Held.{IsSettled, first_held, gives_holds, gives_settled, hears_holds, hears_settled, held, of_frames, one_of, placed, some_in}
 use Rattle.pulsar_consumer.proofs.Permits.{Bounded, InBounds, Keeps, Quiet, Weightless, asked_quiet, gives_bounded, gives_dead, gives_keeps, gives_quiet, goes_quiet, hears_bounded, hears_keeps, subscribed_bounded}
 
 -- counting a message leaves the engine as it is, and why it has ended
@@ -186,7 +185,7 @@ queue_is_kept s h =
 -- PERMITS
 
 -- what an engine that grants permits keeps
-abbrev Grants : ℕ → Engine → Type 0
+abbrev pub Grants : ℕ → Engine → Type 0
 Grants batch e = (e.batch ≡ Some batch) × InBounds batch e
 
 lives_bounded : (o : Option ℕ) (batch link : ℕ) (url : Parts) → o ≡ Some batch → Bounded batch (Some (subscribed o link url)) × ((subscribed o link url).weight ≡ 0)
@@ -216,16 +215,27 @@ granted_first : (b : Bool) (batch : ℕ) → b ≡ false → cond b None (Some b
 granted_first true batch is = absurd cc
 granted_first false batch is = refl
 
-grants : (s : Setup) (h : List Act) → s.is_raw ≡ false → Grants (batch_size s.config) (seen s h).engine
+pub grants : (s : Setup) (h : List Act) → s.is_raw ≡ false → Grants (batch_size s.config) (seen s h).engine
 grants s h is =
     kept (Grants (batch_size s.config)) (grants_kept (batch_size s.config)) s h (granted_first s.is_raw (batch_size s.config) is, (tt, λ none. tt))
+
+-- each item is placed where no more are left than the queue holds
+all_placed : (e : Engine) → IsSettled e → length (held e) ≤ e.queue → (b : Bool) → no_items e.rest ≡ b → no_items e.rest ≡ true
+all_placed e all fits true same = same
+all_placed e all fits false same =
+    let full : length e.unread ≡ e.queue = all.0.1 same in
+    let both = length-append e.unread (e.rest ++ of_frames e.waiting) in
+    let more = length-append e.rest (of_frames e.waiting) in
+    let some = some_in e.rest same in
+    absurd (omega (arith, full, fits, both, more, some))
 
 pub permits_in_bounds : PermitsInBounds
 permits_in_bounds s h l raw is =
     let all = (grants s h raw).1 in
     let two : Bounded (batch_size s.config) (Some l) = subst (Bounded (batch_size s.config)) is all.0 in
     (two.0, λ done.
-      let none : no_items (seen s h).engine.rest ≡ true = ap no_items done.0 in
+      let room : length (held (seen s h).engine) ≤ (seen s h).engine.queue = subst (λ n. length (held (seen s h).engine) ≤ n) (sym (sizes s h).0) (subst (λ xs. length xs ≤ queue s) (left_is s h) done) in
+      let none : no_items (seen s h).engine.rest ≡ true = all_placed (seen s h).engine (settled s h) room (no_items (seen s h).engine.rest) refl in
       let zero : l.weight ≡ 0 = subst Weightless is (all.1 none) in
       let least = two.1 in
       omega (arith, zero, least))

@@ -1,12 +1,12 @@
 -- Permits: what remains of them stays in its bounds, whatever an engine does.
-use Rattle.std.proofs.Common.{◌≡◌, ◌∙◌, sym, ap, refl, subst, ℕ, ◌+◌, ◌-◌, ◌/◌, ◌^◌, ◌<◌, ◌≤◌, nat_lt, Bool, true, false, cond, List, [], ◌∷◌, ◌++◌, Option, Some, None, arith}
+use Rattle.std.proofs.Common.{◌≡◌, ◌∙◌, sym, ap, refl, subst, ℕ, ◌+◌, ◌-◌, ◌≤◌, nat_lt, Bool, true, false, cond, List, [], ◌∷◌, ◌++◌, Option, Some, None, arith}
 use Rattle.std.proofs.lemmas.Bool.Decides.{nat_tests}
 use Rattle.std.specs.Option.{option_map}
 use Rattle.pulsar_link.specs.Items.{Item}
 use Rattle.pulsar_consumer.specs.Frames.{Frame}
 use Rattle.pulsar_consumer.specs.Laws.{FlowsFit}
 use Rattle.pulsar_consumer.proofs.Held.{next_of}
-use Rattle.pulsar_consumer.specs.Topic.{Engine, Live, advances, asked, begin, begins, behind, finish, finishes, finishes_by, gives, gives_from, goes_on, half, hears, no_items, permits, places}
+use Rattle.pulsar_consumer.specs.Topic.{Engine, Live, asked, begins, behind, finish, finishes, finishes_by, gives, gives_from, goes_on, half, hears, no_items, permits, places}
 
 -- WHAT AN ENGINE KEEPS
 
@@ -87,14 +87,14 @@ finishes_by_bounded batch l most least = by (nat_lt l.level (half batch + l.weig
         let above : half batch + l.weight ≤ l.level = grind (arith, nat_tests) in
         ((omega (arith, most), omega (arith, above)), refl)
 
-finish_bounded : (o : Option ℕ) (batch : ℕ) (l : Option Live) → o ≡ Some batch → Bounded batch l → Bounded batch (option_map (finishes o) l) × Weightless (option_map (finishes o) l)
+pub finish_bounded : (o : Option ℕ) (batch : ℕ) (l : Option Live) → o ≡ Some batch → Bounded batch l → Bounded batch (option_map (finishes o) l) × Weightless (option_map (finishes o) l)
 finish_bounded None batch l is all = absurd cc
 finish_bounded (Some b) batch None is all = (tt, tt)
 finish_bounded (Some b) batch (Some l) is all =
     let same : b ≡ batch = cc in
     subst (λ n. Bounded batch (Some (finishes_by n l)) × ((finishes_by n l).weight ≡ 0)) (sym same) (finishes_by_bounded batch l all.0 all.1)
 
-begin_bounded : (batch weight : ℕ) (l : Option Live) → Bounded batch l → Bounded batch (option_map (begins weight) l)
+pub begin_bounded : (batch weight : ℕ) (l : Option Live) → Bounded batch l → Bounded batch (option_map (begins weight) l)
 begin_bounded batch weight None all = tt
 begin_bounded batch weight (Some l) all = all
 

@@ -1,10 +1,10 @@
 -- What follows of every history of a consumer, in plain words. `h` has the acts of a history, newest first, and `later` those behind them.
-use Rattle.std.specs.Prelude.{◌≡◌, ℕ, ◌+◌, ◌-◌, ◌^◌, ◌<◌, ◌≤◌, nat_lt, Bool, true, false, if◌then◌else◌, List, [], ◌∷◌, ◌++◌, length, take, drop, Option, Some, None}
-use Rattle.std.specs.List.{flat_map}
+use Rattle.std.specs.Prelude.{◌≡◌, ℕ, ◌+◌, ◌-◌, ◌^◌, ◌<◌, ◌≤◌, nat_lt, Bool, true, false, if◌then◌else◌, List, [], ◌∷◌, ◌++◌, length, take, drop, Option, Some, None, unwrap_or}
+use Rattle.std.specs.List.{All, flat_map, sum, sum_by}
 use Rattle.pulsar_frame.specs.Message.{MessageValues}
 use Rattle.pulsar_link.specs.Items.{Item, items_in}
 use Rattle.pulsar_consumer.specs.Frames.{Frame, failed, frame}
-use Rattle.pulsar_consumer.specs.Topic.{Act, Lives, Hears, Loses, Fails, Ends, Polls, Asks, Live, Seen, Setup, batch_size, first_of, half, is_ended, link_of, lives_on, no_items, permits, polled, polled_from, queue_of, seen}
+use Rattle.pulsar_consumer.specs.Topic.{Act, Lives, Hears, Loses, Fails, Ends, Polls, Asks, Live, Seen, Setup, batch_size, first_due, first_of, half, is_ended, link_of, lives_on, no_items, permits, polled, polled_from, queue_of, seen}
 use Rattle.pulsar_consumer.specs.declared.polled.Ending.{Ending}
 use Rattle.pulsar_consumer.specs.declared.polled.Polled.{Polled}
 use Rattle.pulsar_consumer.specs.declared.polled.Polled.TheVariants as poll
@@ -92,15 +92,48 @@ FramesBeginInTurn = (s : Setup) (h : List Act) → arrivals s h ≡ begun s h ++
 
 -- PERMITS
 
--- each arrival is finished: each of its items is placed
-abbrev pub IsFinished : Seen → Type 0
-IsFinished v = (v.engine.rest ≡ []) × (v.engine.waiting ≡ [])
+-- each arrival is finished: each of its items was given or is placed
+abbrev pub IsFinished : Setup → List Act → Type 0
+IsFinished s h = length (left s h) ≤ queue s
 
 -- What remains of the permits of a live subscription is never more than the batch size, and at least half of it where each arrival is
 -- finished. It is what was left when the frame that is begun was begun, less what that frame costs, of whichever subscription it came.
 abbrev pub PermitsInBounds : Type 0
 PermitsInBounds = (s : Setup) (h : List Act) (l : Live) → s.is_raw ≡ false → (seen s h).engine.live ≡ Some l →
-    (l.level ≤ batch_size s.config) × (IsFinished (seen s h) → half (batch_size s.config) ≤ l.level - l.weight)
+    (l.level ≤ batch_size s.config) × (IsFinished s h → half (batch_size s.config) ≤ l.level - l.weight)
+
+-- what frames weigh together
+abbrev pub weights : List Frame → ℕ
+weights fs = sum_by (λ f. f.weight) fs
+
+-- the flows that were asked for since the subscription that is live was made
+abbrev pub asked_since : Setup → List Act → ℕ
+asked_since s [] = 0
+asked_since s (Lives link url ∷ h) = if is_ended (seen s h) then asked_since s h else 0
+asked_since s (Hears link f ∷ h) = asked_since s h
+asked_since s (Loses link ∷ h) = asked_since s h
+asked_since s (Fails f ∷ h) = asked_since s h
+asked_since s (Ends why ∷ h) = asked_since s h
+asked_since s (Polls clock ∷ h) = asked_since s h
+asked_since s (Asks ∷ h) = asked_since s h + unwrap_or (first_due (seen s h).engine.live) 0
+
+-- what the frames weigh that were begun before it was made
+abbrev pub weighed_before : Setup → List Act → ℕ
+weighed_before s [] = 0
+weighed_before s (Lives link url ∷ h) = if is_ended (seen s h) then weighed_before s h else weights (begun s h)
+weighed_before s (Hears link f ∷ h) = weighed_before s h
+weighed_before s (Loses link ∷ h) = weighed_before s h
+weighed_before s (Fails f ∷ h) = weighed_before s h
+weighed_before s (Ends why ∷ h) = weighed_before s h
+weighed_before s (Polls clock ∷ h) = weighed_before s h
+weighed_before s (Asks ∷ h) = weighed_before s h
+
+-- What remains of the permits of a live subscription: its flows, those that were asked for since it was made and those that are due, less
+-- what the frames weigh that were begun since then. A batch size has 32 bits, and what a frame weighs is a number of entries.
+abbrev pub PermitsAreCounted : Type 0
+PermitsAreCounted = (s : Setup) (h : List Act) (l : Live) → s.is_raw ≡ false → batch_size s.config < 2 ^ 32 →
+    All (λ f. f.weight < 2 ^ 31) (arrivals s h) → (seen s h).engine.live ≡ Some l →
+    l.level + weights (begun s h) ≡ l.weight + (asked_since s h + sum l.due) + weighed_before s h
 
 -- The permits of a flow fit 32 bits, so none is cut.
 abbrev pub FlowsFit : Type 0

@@ -175,6 +175,7 @@ fn is_placed(rest: &VecDeque<Unread>) -> bool
 }
 
 /// Items are placed while fewer than this are unread.
+#[tactic(auto, using(crate::proofs::Placing::placed_more, crate::proofs::Placing::left_more))]
 fn place(
     unread: &mut VecDeque<Unread>,
     rest: &mut VecDeque<Unread>,

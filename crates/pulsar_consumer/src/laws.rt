@@ -1,6 +1,6 @@
 //! What follows of every history of a consumer: each contract is a law, and its body is empty.
 
-ghost use Rattle.pulsar_consumer.specs.Laws.{EndIsFinal, FlowsFit, FramesBeginInTurn, FramesGiveItems, PermitsInBounds, PollsGiveArrivals, PollsGiveTheNext, QueueIsKept, RawAsksForNothing};
+ghost use Rattle.pulsar_consumer.specs.Laws.{EndIsFinal, FlowsFit, FramesBeginInTurn, FramesGiveItems, PermitsAreCounted, PermitsInBounds, PollsGiveArrivals, PollsGiveTheNext, QueueIsKept, RawAsksForNothing};
 
 /// A message gives the items of its frame.
 pub fn frames_give_items()
@@ -19,8 +19,10 @@ pub fn queue_is_kept()
     ensures begun { FramesBeginInTurn }
 {}
 
-/// What remains of the permits is at most the batch size, and at least half of it where each arrival is finished.
+/// What remains of the permits is what was granted less what was begun; it is at most the batch size, and at least half of it where each
+/// arrival is finished.
 pub fn permits_in_bounds()
+    ensures counted { PermitsAreCounted }
     ensures bounds { PermitsInBounds }
     ensures fit { FlowsFit }
     ensures raw { RawAsksForNothing }

@@ -1,3 +1,4 @@
+use Rattle.pulsar_consumer.proofs.Counted.{permits_are_counted}
 use Rattle.pulsar_consumer.proofs.Histories.{permits_in_bounds, raw_asks_for_nothing}
 use Rattle.pulsar_consumer.proofs.Permits.{flows_fit}
 use Rattle.pulsar_consumer.proofs.laws.permits_in_bounds.Goals as goal
@@ -10,3 +11,6 @@ returns-clause-fit c = flows_fit
 
 pub returns-clause-raw : goal.returns-clause-raw
 returns-clause-raw c = raw_asks_for_nothing
+
+pub returns-clause-counted : goal.returns-clause-counted
+returns-clause-counted c = permits_are_counted

@@ -122,7 +122,16 @@ fn id_in(command: &BaseCommand) -> Result<Option<MessageIdData>, NoMemory>
     ensures { IfOk result (λ id. option_map message_id_values id ≡ meaning.id_of (option_map body_values command.now.body)) }
 {
     match &command.body {
-        Some(Body::Message(message)) => Ok(Some(id_of(message)?)),
+        Some(body) => id_behind(body),
+        None => Ok(None),
+    }
+}
+
+fn id_behind(body: &Body) -> Result<Option<MessageIdData>, NoMemory>
+    ensures { IfOk result (λ id. option_map message_id_values id ≡ meaning.id_of (Some (body_values body.now))) }
+{
+    match body {
+        Body::Message(message) => Ok(Some(id_of(message)?)),
         _ => Ok(None),
     }
 }

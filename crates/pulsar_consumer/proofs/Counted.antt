@@ -32,8 +32,10 @@ finishes_counted all flows batch waiting l fits most least is = by (nat_lt l.lev
   where
     more : Live
     more = record l { level = batch; weight = 0; due = l.due ++ permits (batch + l.weight - l.level) ∷ [] }
+
     less : Live
     less = record l { level = l.level - l.weight; weight = 0 }
+
     by : (c : Bool) → nat_lt l.level (half batch + l.weight) ≡ c → Counted all flows waiting (Some (cond c more less)) × ((cond c more less).weight ≡ 0)
     by true low =
         let whole = flows_fit batch l.level l.weight fits is.0 least in
@@ -75,14 +77,15 @@ goes_counted all flows batch [] e w size fits small bounds is = by (no_items e.r
   where
     same : Counted all flows e.waiting e.live
     same = subst (λ fs. Counted all flows fs e.live) (sym w) is
+
     by : (b : Bool) → Counted all flows (cond b (finish e) e).waiting (cond b (finish e) e).live
     by true = counted_light all flows e.waiting (finish e).live (finish_counted all flows e.batch batch e.waiting e.live size fits bounds same)
     by false = same
 goes_counted all flows batch (f ∷ fs) e w size fits small bounds is =
     by (no_items e.rest)
     (goes_counted all flows batch fs (next_of f fs e) refl size fits (All-tail IsSmall f fs small)
-      (begin_bounded batch f.weight (finish e).live (finish_bounded e.batch batch e.live size bounds).0)
-      (begin_counted all flows f fs (finish e).live (All-head IsSmall f fs small) (finish_counted all flows e.batch batch (f ∷ fs) e.live size fits bounds is)))
+    (begin_bounded batch f.weight (finish e).live (finish_bounded e.batch batch e.live size bounds).0)
+    (begin_counted all flows f fs (finish e).live (All-head IsSmall f fs small) (finish_counted all flows e.batch batch (f ∷ fs) e.live size fits bounds is)))
   where
     by : (b : Bool) → Counted all flows (goes_on fs (next_of f fs e)).waiting (goes_on fs (next_of f fs e)).live →
         Counted all flows (cond b (goes_on fs (next_of f fs e)) e).waiting (cond b (goes_on fs (next_of f fs e)) e).live
@@ -165,21 +168,25 @@ module _ (s : Setup) (raw : s.is_raw ≡ false) (fits : batch_size s.config < 2 
     where
       v : Seen
       v = seen s h
+
       lived : Holds (arrivals s h ++ []) (0 + weights (begun s h)) (record v.engine { live = Some (subscribed v.engine.batch link url) })
       lived =
           subst (λ fs. Holds fs (0 + weights (begun s h)) (record v.engine { live = Some (subscribed v.engine.batch link url) })) (sym (frames_begin_in_turn s h) ∙ sym (append-nil (arrivals s h)))
           (lives_counted (0 + weights (begun s h)) (batch_size s.config) link url v.engine.batch (begun s h) v.engine.waiting (grants s h raw).0 refl)
+
       by : (b : Bool) → Holds (arrivals s h) (asked_since s h + weighed_before s h) v.engine →
           Holds (arrivals s h ++ []) (cond b (asked_since s h) 0 + cond b (weighed_before s h) (weights (begun s h)))
-            (cond b v (record v { engine = record v.engine { live = Some (subscribed v.engine.batch link url) } })).engine
+          (cond b v (record v { engine = record v.engine { live = Some (subscribed v.engine.batch link url) } })).engine
       by true is = as_before (arrivals s h) _ _ v.engine refl is
       by false is = lived
   counted (Hears link f ∷ h) small = by (lives_on link v) small (λ few. counted h few)
     where
       v : Seen
       v = seen s h
+
       flows : ℕ
       flows = asked_since s h + weighed_before s h
+
       by : (b : Bool) → All IsSmall (arrivals s h ++ cond b (f ∷ []) []) → (All IsSmall (arrivals s h) → Holds (arrivals s h) flows v.engine) →
           Holds (arrivals s h ++ cond b (f ∷ []) []) flows (cond b (record v { engine = hears f v.engine }) v).engine
       by true small is = heard h f flows small (is (small_left (arrivals s h) (f ∷ []) small))
@@ -188,8 +195,10 @@ module _ (s : Setup) (raw : s.is_raw ≡ false) (fits : batch_size s.config < 2 
     where
       v : Seen
       v = seen s h
+
       flows : ℕ
       flows = asked_since s h + weighed_before s h
+
       by : (b c : Bool) → Holds (arrivals s h) flows v.engine →
           Holds (arrivals s h ++ []) flows (cond b (cond c (ends LinkLost v) (record v { engine = record v.engine { live = None } })) v).engine
       by true true is = tt
@@ -199,8 +208,10 @@ module _ (s : Setup) (raw : s.is_raw ≡ false) (fits : batch_size s.config < 2 
     where
       v : Seen
       v = seen s h
+
       flows : ℕ
       flows = asked_since s h + weighed_before s h
+
       by : (b : Bool) → All IsSmall (arrivals s h ++ cond b [] (failed f ∷ [])) → (All IsSmall (arrivals s h) → Holds (arrivals s h) flows v.engine) →
           Holds (arrivals s h ++ cond b [] (failed f ∷ [])) flows (cond b v (ends NotSubscribed (record v { engine = hears (failed f) v.engine }))).engine
       by true small is = as_before (arrivals s h) flows flows v.engine refl (is (small_left (arrivals s h) [] small))

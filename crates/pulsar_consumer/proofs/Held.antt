@@ -100,12 +100,16 @@ places_full e le = (fits, full)
   where
     room : ℕ
     room = e.queue - length e.unread
+
     both : length (e.unread ++ take room e.rest) ≡ length e.unread + length (take room e.rest)
     both = length-append e.unread (take room e.rest)
+
     taken : length (take room e.rest) ≡ min room (length e.rest)
     taken = length-take room e.rest
+
     fits : length (e.unread ++ take room e.rest) ≤ e.queue
     fits = grind (arith, both, taken, le)
+
     full : no_items (drop room e.rest) ≡ false → length (e.unread ++ take room e.rest) ≡ e.queue
     full none = let more = some_left room e.rest none in grind (arith, both, taken, le, more)
 

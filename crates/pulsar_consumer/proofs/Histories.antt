@@ -143,8 +143,8 @@ flows_after (Ends why) v = append-nil (held v.engine)
 flows_after (Polls clock) v =
     append-nil (held v.engine)
     ∙ sym (ap (λ e. item_in (polled v) ++ held e) (counted_same (first_of v.engine.unread) clock (record v { engine = gives v.engine })).0
-      ∙ ap (λ g. g ++ held (gives v.engine)) (polled_one (first_of v.engine.unread) v.ended)
-      ∙ gives_holds v.engine)
+    ∙ ap (λ g. g ++ held (gives v.engine)) (polled_one (first_of v.engine.unread) v.ended)
+    ∙ gives_holds v.engine)
 flows_after Asks v = append-nil (held v.engine)
 
 of_more : (xs ys : List Frame) → items_of (xs ++ ys) ≡ items_of xs ++ items_of ys
@@ -232,13 +232,15 @@ all_placed e all fits false same =
 pub permits_in_bounds : PermitsInBounds
 permits_in_bounds s h l raw is =
     let all = (grants s h raw).1 in
-    let two : Bounded (batch_size s.config) (Some l) = subst (Bounded (batch_size s.config)) is all.0 in
-    (two.0, λ done.
-      let room : length (held (seen s h).engine) ≤ (seen s h).engine.queue = subst (λ n. length (held (seen s h).engine) ≤ n) (sym (sizes s h).0) (subst (λ xs. length xs ≤ queue s) (left_is s h) done) in
-      let none : no_items (seen s h).engine.rest ≡ true = all_placed (seen s h).engine (settled s h) room (no_items (seen s h).engine.rest) refl in
-      let zero : l.weight ≡ 0 = subst Weightless is (all.1 none) in
-      let least = two.1 in
-      omega (arith, zero, least))
+    let two : Bounded (batch_size s.config) (Some l) = subst (Bounded (batch_size s.config)) is all.0 in (
+      two.0,
+      λ done.
+          let room : length (held (seen s h).engine) ≤ (seen s h).engine.queue = subst (λ n. length (held (seen s h).engine) ≤ n) (sym (sizes s h).0) (subst (λ xs. length xs ≤ queue s) (left_is s h) done) in
+          let none : no_items (seen s h).engine.rest ≡ true = all_placed (seen s h).engine (settled s h) room (no_items (seen s h).engine.rest) refl in
+          let zero : l.weight ≡ 0 = subst Weightless is (all.1 none) in
+          let least = two.1 in
+          omega (arith, zero, least),
+    )
 
 -- A RAW ONE
 

@@ -1,5 +1,5 @@
 -- What a message gives is what is said of its frame.
-use Rattle.std.proofs.Common.{◌≡◌, ◌==◌, refl, sym, Bool, true, false, cond, List, [], Option, Some, None}
+use Rattle.std.proofs.Common.{◌≡◌, ◌==◌, refl, sym, Bool, true, false, cond, [], Option, Some, None}
 use Rattle.pulsar_wire.specs.Command.{BodyValues}
 use Rattle.pulsar_wire.specs.Row.{Values}
 use Rattle.pulsar_wire.specs.Rows.{message_id}

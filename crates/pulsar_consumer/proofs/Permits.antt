@@ -79,8 +79,10 @@ finishes_by_bounded batch l most least = by (nat_lt l.level (half batch + l.weig
   where
     more : Live
     more = record l { level = batch; weight = 0; due = l.due ++ permits (batch + l.weight - l.level) ∷ [] }
+
     less : Live
     less = record l { level = l.level - l.weight; weight = 0 }
+
     by : (c : Bool) → nat_lt l.level (half batch + l.weight) ≡ c → Bounded batch (Some (cond c more less)) × ((cond c more less).weight ≡ 0)
     by true low = ((omega arith, half_below batch), refl)
     by false enough =

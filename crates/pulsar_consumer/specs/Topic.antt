@@ -1,7 +1,7 @@
 -- A consumer of one topic: what is done to it, what is seen of it, and what it answers. It knows links and numbers, and never who asks.
 -- (Pulsar binary protocol, Consumer: Flow control; PulsarApi.proto, CommandFlow)
 use Rattle.std.specs.Prelude.{ℕ, ◌+◌, ◌-◌, ◌/◌, ◌^◌, nat_lt, min, Bool, true, false, not, ◌&&◌, ◌==◌, if◌then◌else◌, List, [], ◌∷◌, ◌++◌, length, take, drop, Option, Some, None, unwrap_or}
-use Rattle.std.specs.Option.{is_none, is_some, option_map, option_or}
+use Rattle.std.specs.Option.{is_some, option_map, option_or}
 use Rattle.url.specs.Parts.{Parts}
 use Rattle.pulsar_wire.specs.Sink.{capped}
 use Rattle.pulsar_link.specs.Items.{Item, Given, Faulty}

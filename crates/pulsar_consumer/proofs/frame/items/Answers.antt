@@ -1,4 +1,4 @@
-use Rattle.std.proofs.Common.{◌≡◌, ◌∙◌, ◌∷◌, [], IfOk, sym, subst}
+use Rattle.std.proofs.Common.{◌≡◌, ◌∙◌, IfOk, sym, subst}
 use Rattle.pulsar_link.proofs.Yields.{single}
 use Rattle.pulsar_consumer.proofs.frame.items.Goals as goal
 

@@ -50,12 +50,14 @@ fn a_copy_of_an_id_is_equal(rt: HostRuntime) -> Result<(), Fail> {
     Ok(())
 }
 
+fn is_text(alloc: Global, bytes: &[u8]) -> Result<bool, Fail> {
+    let text = String::deserialize_message(&payload(alloc, bytes)?)?;
+    Ok(text.is_ok())
+}
+
 #[test]
 fn a_payload_is_read_as_a_text(rt: HostRuntime) -> Result<(), Fail> {
-    let alloc = rt.alloc();
-    let good = String::deserialize_message(&payload(alloc, b"a\xc3\xa4")?)?;
-    assert!(rt; good.is_ok());
-    let cut = String::deserialize_message(&payload(alloc, b"a\xc3")?)?;
-    assert!(rt; cut.is_err());
+    assert!(rt; is_text(rt.alloc(), b"a\xc3\xa4")?);
+    assert!(rt; !is_text(rt.alloc(), b"a\xc3")?);
     Ok(())
 }

@@ -1,15 +1,17 @@
 //! Plans of consumers, news by news.
 
-use pulsar_consumer::building::{self, Built, Deed, News, Order};
+use pulsar_consumer::building::{self, Builds, Deed, News, Order};
+use pulsar_consumer::resuming::{self, Resumes};
 use pulsar_consumer::settings::Settings;
-use pulsar_consumer::{ConsumerConfig, TopicConsumer, resuming};
+use pulsar_consumer::{ConsumerConfig, TopicConsumer};
 use pulsar_frame::reader::FrameReader;
 use pulsar_plans::BrokerAddress;
 use pulsar_plans::closing::Step;
-use pulsar_plans::content::{Address, Refusal, Text};
+use pulsar_plans::content::{Address, Text};
+use pulsar_plans::making::Command;
 use pulsar_plans::turn::{Action, Outcome, Turn, Ways};
 use pulsar_session::Received;
-use pulsar_wire::error::{ConnectionError, ConsumerError, Error};
+use pulsar_wire::error::{ConnectionError, ConsumerError, Error, NoMemory};
 use std::alloc::Global;
 use std::test::Fail;
 use url::Url;
@@ -66,36 +68,69 @@ fn act(action: &Action) -> &'static str {
     }
 }
 
-/// A deed by its name.
-fn name(deed: &Deed) -> &'static str {
-    match deed {
-        Deed::Does(action) => act(action),
-        Deed::Numbers(None) => "draw",
-        Deed::Numbers(Some(_)) => "number",
-        Deed::Rests => "rest",
+fn write(text: &mut String, word: &str) -> Result<(), Fail> {
+    text.push_str(word)?;
+    text.push(' ')?;
+    Ok(())
+}
+
+/// What a building does, or how it ends.
+fn name(step: &Builds) -> &'static str {
+    match step {
+        Step::Stays(_, Deed::Does(action)) => act(action),
+        Step::Stays(_, Deed::Numbers(None)) => "draw",
+        Step::Stays(_, Deed::Numbers(Some(_))) => "number",
+        Step::Stays(_, Deed::Rests) => "rest",
+        Step::Gives(Ok(_)) => "built",
+        Step::Gives(Err(_)) => "refused",
     }
 }
 
-/// What a building does at each of these news, and how it ends.
-fn build(alloc: Global, news: Vec<News>) -> Result<(String, Option<Result<Built, Refusal>>), Fail> {
+fn tell(
+    alloc: Global,
+    ways: &Ways,
+    order: &Order,
+    step: Builds,
+    news: News,
+) -> Result<Builds, NoMemory> {
+    match step {
+        Step::Stays(building, _) => building::told(alloc, ways, order, building, news),
+        Step::Gives(answer) => Ok(Step::Gives(answer)),
+    }
+}
+
+/// What the news make of a building. What it did before them is written.
+fn hear(
+    alloc: Global,
+    ways: &Ways,
+    order: &Order,
+    step: Builds,
+    news: News,
+    text: &mut String,
+) -> Result<Builds, Fail> {
+    write(text, name(&step))?;
+    Ok(tell(alloc, ways, order, step, news)?)
+}
+
+fn drive(
+    alloc: Global,
+    ways: &Ways,
+    order: &Order,
+    news: Vec<News>,
+    text: &mut String,
+) -> Result<Builds, Fail> {
+    let mut step = building::begins(alloc, ways, order)?;
+    for news in news {
+        step = hear(alloc, ways, order, step, news, text)?;
+    }
+    Ok(step)
+}
+
+/// Where a building stands after these news, and what it did before.
+fn build(alloc: Global, news: Vec<News>, text: &mut String) -> Result<Builds, Fail> {
     let ways = ways(alloc)?;
     let order = order(alloc)?;
-    let mut text = String::new(alloc);
-    let mut step = building::begins(alloc, &ways, &order)?;
-    for news in news {
-        step = match step {
-            Step::Stays(building, deed) => {
-                text.push_str(name(&deed))?;
-                text.push(' ')?;
-                building::told(alloc, &ways, &order, building, news)?
-            }
-            Step::Gives(answer) => Step::Gives(answer),
-        };
-    }
-    match step {
-        Step::Stays(_, _) => Ok((text, None)),
-        Step::Gives(answer) => Ok((text, Some(answer))),
-    }
+    drive(alloc, &ways, &order, news, text)
 }
 
 /// The news of a topic of one name, up to its number.
@@ -109,6 +144,22 @@ fn found(alloc: Global) -> Result<Vec<News>, Fail> {
     Ok(news)
 }
 
+/// The number of the consumer, and its link, where it is built.
+fn built(step: &Builds) -> Option<(u64, u64)> {
+    match step {
+        Step::Gives(Ok(built)) => Some((built.number, built.link)),
+        _ => None,
+    }
+}
+
+/// Why it is not built.
+fn refused(step: Builds) -> Option<Error> {
+    match step {
+        Step::Gives(Err(refusal)) => Some(refusal.into_inner()),
+        _ => None,
+    }
+}
+
 #[test]
 fn a_consumer_is_built(rt: HostRuntime) -> Result<(), Fail> {
     let alloc = rt.alloc();
@@ -116,15 +167,11 @@ fn a_consumer_is_built(rt: HostRuntime) -> Result<(), Fail> {
     news.push(News::Numbered(4))?;
     news.push(link())?;
     news.push(heard(alloc, SUCCESS)?)?;
-    let (text, answer) = build(alloc, news)?;
+    let mut text = String::new(alloc);
+    let step = build(alloc, news, &mut text)?;
     assert!(rt; text.as_str() == "get ask get ask get draw get ask ");
-    match answer {
-        Some(Ok(built)) => {
-            assert!(rt; built.topic.as_str() == "t" && built.number == 4 && built.link == 0);
-            Ok(())
-        }
-        _ => Err(Fail::new("no consumer")),
-    }
+    assert!(rt; built(&step) == Some((4, 0)));
+    Ok(())
 }
 
 #[test]
@@ -132,75 +179,125 @@ fn a_number_in_use_is_refused(rt: HostRuntime) -> Result<(), Fail> {
     let alloc = rt.alloc();
     let mut news = found(alloc)?;
     news.push(News::InUse)?;
-    let (_, answer) = build(alloc, news)?;
-    match answer {
-        Some(Err(refusal)) => {
-            let is_so = matches!(
-                refusal.into_inner(),
-                Error::Consumer(ConsumerError::BuildError)
-            );
-            assert!(rt; is_so);
-            Ok(())
-        }
-        _ => Err(Fail::new("no refusal")),
+    let why = refused(build(alloc, news, &mut String::new(alloc))?);
+    let is_so = matches!(why, Some(Error::Consumer(ConsumerError::BuildError)));
+    assert!(rt; is_so);
+    Ok(())
+}
+
+/// A partition is looked up.
+fn push_looked(alloc: Global, news: &mut Vec<News>) -> Result<(), Fail> {
+    news.push(link())?;
+    news.push(heard(alloc, SERVED)?)?;
+    news.push(link())?;
+    Ok(())
+}
+
+fn partitioned(alloc: Global) -> Result<Vec<News>, Fail> {
+    let mut news = Vec::new(alloc);
+    news.push(link())?;
+    news.push(heard(alloc, TWO_PARTITIONS)?)?;
+    push_looked(alloc, &mut news)?;
+    push_looked(alloc, &mut news)?;
+    Ok(news)
+}
+
+fn is_custom(why: Option<Error>, wanted: &str) -> bool {
+    match why {
+        Some(Error::Custom(text)) => text.as_str() == wanted,
+        _ => false,
     }
 }
 
 #[test]
 fn several_names_are_refused(rt: HostRuntime) -> Result<(), Fail> {
     let alloc = rt.alloc();
-    let mut news = Vec::new(alloc);
-    news.push(link())?;
-    news.push(heard(alloc, TWO_PARTITIONS)?)?;
-    for _ in 0..2 {
-        news.push(link())?;
-        news.push(heard(alloc, SERVED)?)?;
-        news.push(link())?;
-    }
-    let (text, answer) = build(alloc, news)?;
+    let news = partitioned(alloc)?;
+    let mut text = String::new(alloc);
+    let why = refused(build(alloc, news, &mut text)?);
     assert!(rt; text.as_str() == "get ask get ask get get ask get ");
-    match answer {
-        Some(Err(refusal)) => match refusal.into_inner() {
-            Error::Custom(why) => {
-                assert!(rt; why.as_str() == "Unable to create consumer - topic not found");
-                Ok(())
-            }
-            _ => Err(Fail::new("another refusal")),
-        },
-        _ => Err(Fail::new("no refusal")),
+    assert!(rt; is_custom(why, "Unable to create consumer - topic not found"));
+    Ok(())
+}
+
+/// What a resubscription does, or how it ends.
+fn name_resumed(turn: &Resumes) -> &'static str {
+    match turn {
+        Turn::Stays(_, action) => act(action),
+        Turn::Gives(Ok(_)) => "subscribed",
+        Turn::Gives(Err(_)) => "refused",
     }
 }
 
-#[test]
-fn a_lost_subscription_is_made_again(rt: HostRuntime) -> Result<(), Fail> {
-    let alloc = rt.alloc();
+fn tell_resumed(
+    alloc: Global,
+    ways: &Ways,
+    command: &Command,
+    turn: Resumes,
+    outcome: Outcome,
+) -> Result<Resumes, NoMemory> {
+    match turn {
+        Turn::Stays(resuming, _) => resuming::told(alloc, ways, command, resuming, outcome),
+        Turn::Gives(answer) => Ok(Turn::Gives(answer)),
+    }
+}
+
+/// What an outcome makes of a resubscription. What it did before is written.
+fn hear_resumed(
+    alloc: Global,
+    ways: &Ways,
+    command: &Command,
+    turn: Resumes,
+    outcome: Outcome,
+    text: &mut String,
+) -> Result<Resumes, Fail> {
+    write(text, name_resumed(&turn))?;
+    Ok(tell_resumed(alloc, ways, command, turn, outcome)?)
+}
+
+fn resume(
+    alloc: Global,
+    command: &Command,
+    outcomes: Vec<Outcome>,
+    text: &mut String,
+) -> Result<Resumes, Fail> {
     let ways = ways(alloc)?;
-    let order = order(alloc)?;
-    let command = TopicConsumer::new(alloc, order.topic, 4, order.config, false).command()?;
+    let mut turn = resuming::begins(alloc, &ways)?;
+    for outcome in outcomes {
+        turn = hear_resumed(alloc, &ways, command, turn, outcome, text)?;
+    }
+    Ok(turn)
+}
+
+/// The link of the new subscription.
+fn resumed(turn: &Resumes) -> Option<u64> {
+    match turn {
+        Turn::Gives(Ok(link)) => Some(*link),
+        _ => None,
+    }
+}
+
+fn outcomes(alloc: Global) -> Result<Vec<Outcome>, Fail> {
     let mut outcomes = Vec::new(alloc);
     outcomes.push(Outcome::GotLink(1))?;
     outcomes.push(reply(alloc, SERVED)?)?;
     outcomes.push(Outcome::GotLink(1))?;
     outcomes.push(Outcome::GotLink(1))?;
     outcomes.push(reply(alloc, SUCCESS)?)?;
+    Ok(outcomes)
+}
+
+fn command(alloc: Global) -> Result<Command, Fail> {
+    let Order { topic, config } = order(alloc)?;
+    Ok(TopicConsumer::new(alloc, topic, 4, config, false).command()?)
+}
+
+#[test]
+fn a_lost_subscription_is_made_again(rt: HostRuntime) -> Result<(), Fail> {
+    let alloc = rt.alloc();
     let mut text = String::new(alloc);
-    let mut turn = resuming::begins(alloc, &ways)?;
-    for outcome in outcomes {
-        turn = match turn {
-            Turn::Stays(resuming, action) => {
-                text.push_str(act(&action))?;
-                text.push(' ')?;
-                resuming::told(alloc, &ways, &command, resuming, outcome)?
-            }
-            Turn::Gives(answer) => Turn::Gives(answer),
-        };
-    }
+    let turn = resume(alloc, &command(alloc)?, outcomes(alloc)?, &mut text)?;
     assert!(rt; text.as_str() == "get ask get get ask ");
-    match turn {
-        Turn::Gives(Ok(link)) => {
-            assert!(rt; link == 1);
-            Ok(())
-        }
-        _ => Err(Fail::new("no link")),
-    }
+    assert!(rt; resumed(&turn) == Some(1));
+    Ok(())
 }

@@ -19,13 +19,24 @@ fn url(alloc: Global) -> Result<Url, Fail> {
     Ok(Url::parse(alloc, "pulsar://127.0.0.1:6650")?)
 }
 
-fn consumer(alloc: Global, queue: Option<u32>) -> Result<TopicConsumer, Fail> {
+fn settings(alloc: Global, queue: Option<u32>, batch: Option<u32>) -> Result<Settings, Fail> {
     let mut config = ConsumerConfig::new(alloc);
     config.options.receiver_queue_size = queue;
+    config.batch_size = batch;
+    Ok(Settings::new(alloc, config)?)
+}
+
+/// One whose subscription is live on link 0.
+fn subscribed(alloc: Global, settings: Settings) -> Result<Box<TopicConsumer>, Fail> {
     let topic = Text::new(String::from_str(alloc, "t")?);
-    let mut consumer = TopicConsumer::new(alloc, topic, 0, Settings::new(alloc, config)?, false);
+    let consumer = TopicConsumer::new(alloc, topic, 0, settings, false);
+    let mut consumer = Box::new(alloc, consumer)?;
     consumer.subscribe(0, url(alloc)?)?;
     Ok(consumer)
+}
+
+fn consumer(alloc: Global, queue: Option<u32>) -> Result<Box<TopicConsumer>, Fail> {
+    subscribed(alloc, settings(alloc, queue, None)?)
 }
 
 /// A message of so many entries, and this payload.
@@ -124,18 +135,25 @@ fn what_came_is_given_behind_a_lost_link(rt: HostRuntime) -> Result<(), Fail> {
 }
 
 #[test]
-fn an_ended_consumer_takes_no_subscription(rt: HostRuntime) -> Result<(), Fail> {
+fn what_came_is_given_behind_the_end(rt: HostRuntime) -> Result<(), Fail> {
     let alloc = rt.alloc();
     let mut consumer = consumer(alloc, None)?;
     consumer.hear(0, message(alloc, None, b"a")?)?;
     consumer.end(Ending::TopicEnded);
-    consumer.end(Ending::Closed);
-    consumer.subscribe(1, url(alloc)?)?;
-    assert!(rt; consumer.link().is_none());
-    assert!(rt; consumer.ask().is_none());
-    assert!(rt; consumer.ending() == Some(Ending::TopicEnded));
     assert!(rt; polls(&mut consumer)? == 2);
     assert!(rt; polls(&mut consumer)? == 1);
+    Ok(())
+}
+
+#[test]
+fn an_ended_consumer_takes_no_subscription(rt: HostRuntime) -> Result<(), Fail> {
+    let alloc = rt.alloc();
+    let mut consumer = consumer(alloc, None)?;
+    consumer.end(Ending::TopicEnded);
+    consumer.end(Ending::Closed);
+    consumer.subscribe(1, url(alloc)?)?;
+    assert!(rt; consumer.link().is_none() && consumer.ask().is_none());
+    assert!(rt; consumer.ending() == Some(Ending::TopicEnded));
     Ok(())
 }
 
@@ -158,14 +176,8 @@ fn one_poll_may_finish_two_frames(rt: HostRuntime) -> Result<(), Fail> {
 }
 
 /// One that lets the broker send one message at once, and holds one.
-fn small(alloc: Global) -> Result<TopicConsumer, Fail> {
-    let mut config = ConsumerConfig::new(alloc);
-    config.options.receiver_queue_size = Some(1);
-    config.batch_size = Some(1);
-    let topic = Text::new(String::from_str(alloc, "t")?);
-    let mut consumer = TopicConsumer::new(alloc, topic, 0, Settings::new(alloc, config)?, false);
-    consumer.subscribe(0, url(alloc)?)?;
-    Ok(consumer)
+fn small(alloc: Global) -> Result<Box<TopicConsumer>, Fail> {
+    subscribed(alloc, settings(alloc, Some(1), Some(1))?)
 }
 
 /// A message command without a payload.

@@ -38,13 +38,15 @@ fn is_policy(policy: &Option<DeadLetterPolicy>) -> bool {
 fn texts(alloc: Global, wanted: ConsumerBuilder) -> Result<ConsumerBuilder, Fail> {
     let mut more = Vec::new(alloc);
     more.push(text(alloc, "u")?)?;
-    Ok(wanted
-        .with_topic("t")?
-        .with_topics(&more)?
-        .with_topic_prefix("p")?
-        .with_subscription("s")?
-        .with_lookup_namespace("n")?
-        .with_consumer_name("c")?)
+    Ok(
+        wanted
+            .with_topic("t")?
+            .with_topics(&more)?
+            .with_topic_prefix("p")?
+            .with_subscription("s")?
+            .with_lookup_namespace("n")?
+            .with_consumer_name("c")?,
+    )
 }
 
 fn numbers(wanted: ConsumerBuilder) -> ConsumerBuilder {

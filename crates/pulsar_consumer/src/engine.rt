@@ -93,11 +93,13 @@ impl ConsumerEngine {
         ensures item { IfOk result (λ item. item ≡ meaning.first_of self.old.unread) }
         ensures after { OnOk result (self.new ≡ meaning.gives self.old) }
     {
-        let Some(item) = self.unread.pop_front() else {
-            return Ok(None);
-        };
-        ConsumerEngine::advance(self)?;
-        Ok(Some(item))
+        match self.unread.pop_front() {
+            Some(item) => {
+                self.advance()?;
+                Ok(Some(item))
+            }
+            None => Ok(None),
+        }
     }
 
     /// The flow that is to be asked for next. It counts as asked for.

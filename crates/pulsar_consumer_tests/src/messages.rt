@@ -37,7 +37,17 @@ fn a_message_says_what_it_is(rt: HostRuntime) -> Result<(), Fail> {
     assert!(rt; message.key() == Some("k"));
     assert!(rt; message.message_id().entry_id == 7);
     assert!(rt; message.metadata().sequence_id == 0);
-    let bytes = message.deserialize()?;
+    Ok(())
+}
+
+fn bytes(alloc: Global) -> Result<Vec<u8>, Fail> {
+    let message: Message<Vec<u8>> = message(alloc, b"abc")?;
+    Ok(message.deserialize()?)
+}
+
+#[test]
+fn a_payload_is_read_as_its_bytes(rt: HostRuntime) -> Result<(), Fail> {
+    let bytes = bytes(rt.alloc())?;
     assert!(rt; bytes.as_slice() == b"abc".as_slice());
     Ok(())
 }

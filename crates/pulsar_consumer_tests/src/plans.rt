@@ -144,6 +144,22 @@ fn found(alloc: Global) -> Result<Vec<News>, Fail> {
     Ok(news)
 }
 
+/// A number is drawn, and the subscription made.
+fn subscribed(alloc: Global) -> Result<Vec<News>, Fail> {
+    let mut news = found(alloc)?;
+    news.push(News::Numbered(4))?;
+    news.push(link())?;
+    news.push(heard(alloc, SUCCESS)?)?;
+    Ok(news)
+}
+
+/// The number is in use.
+fn taken(alloc: Global) -> Result<Vec<News>, Fail> {
+    let mut news = found(alloc)?;
+    news.push(News::InUse)?;
+    Ok(news)
+}
+
 /// The number of the consumer, and its link, where it is built.
 fn built(step: &Builds) -> Option<(u64, u64)> {
     match step {
@@ -163,10 +179,7 @@ fn refused(step: Builds) -> Option<Error> {
 #[test]
 fn a_consumer_is_built(rt: HostRuntime) -> Result<(), Fail> {
     let alloc = rt.alloc();
-    let mut news = found(alloc)?;
-    news.push(News::Numbered(4))?;
-    news.push(link())?;
-    news.push(heard(alloc, SUCCESS)?)?;
+    let news = subscribed(alloc)?;
     let mut text = String::new(alloc);
     let step = build(alloc, news, &mut text)?;
     assert!(rt; text.as_str() == "get ask get ask get draw get ask ");
@@ -177,8 +190,7 @@ fn a_consumer_is_built(rt: HostRuntime) -> Result<(), Fail> {
 #[test]
 fn a_number_in_use_is_refused(rt: HostRuntime) -> Result<(), Fail> {
     let alloc = rt.alloc();
-    let mut news = found(alloc)?;
-    news.push(News::InUse)?;
+    let news = taken(alloc)?;
     let why = refused(build(alloc, news, &mut String::new(alloc))?);
     let is_so = matches!(why, Some(Error::Consumer(ConsumerError::BuildError)));
     assert!(rt; is_so);

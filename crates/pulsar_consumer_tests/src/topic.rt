@@ -93,11 +93,15 @@ const ABC: &[u8] = b"\x00\x00\x00\x02\x18\x01a\x00\x00\x00\x02\x18\x01b\x00\x00\
 /// The first byte of the message that a poll gives.
 fn letter(consumer: &mut TopicConsumer) -> Result<Option<u8>, Fail> {
     match consumer.poll(7)? {
-        Polled::Item(item) => match item.into_inner() {
-            Item::Message { payload, .. } => Ok(payload.bytes.first().copied()),
-            Item::Failure(_) => Ok(None),
-        },
+        Polled::Item(item) => Ok(first(item.into_inner())),
         Polled::Empty | Polled::End => Ok(None),
+    }
+}
+
+fn first(item: Item) -> Option<u8> {
+    match item {
+        Item::Message { payload, .. } => payload.bytes.first().copied(),
+        Item::Failure(_) => None,
     }
 }
 
@@ -116,21 +120,37 @@ fn a_queue_of_one_gives_a_batch_in_order(rt: HostRuntime) -> Result<(), Fail> {
 }
 
 #[test]
+fn a_frame_of_another_link_is_not_heard(rt: HostRuntime) -> Result<(), Fail> {
+    let alloc = rt.alloc();
+    let mut consumer = consumer(alloc, None)?;
+    consumer.hear(1, message(alloc, None, b"a")?)?;
+    assert!(rt; polls(&mut consumer)? == 0);
+    Ok(())
+}
+
+#[test]
 fn what_came_is_given_behind_a_lost_link(rt: HostRuntime) -> Result<(), Fail> {
     let alloc = rt.alloc();
     let mut consumer = consumer(alloc, Some(0))?;
     consumer.hear(0, message(alloc, None, b"a")?)?;
-    consumer.hear(1, message(alloc, None, b"b")?)?;
     assert!(rt; consumer.resubscribes(0));
     consumer.lose(0);
     assert!(rt; consumer.link().is_none());
     consumer.hear(0, message(alloc, None, b"b")?)?;
     assert!(rt; polls(&mut consumer)? == 2);
     assert!(rt; polls(&mut consumer)? == 0);
+    Ok(())
+}
+
+#[test]
+fn why_it_is_not_subscribed_again_is_its_last_item(rt: HostRuntime) -> Result<(), Fail> {
+    let alloc = rt.alloc();
+    let mut consumer = consumer(alloc, None)?;
+    consumer.lose(0);
     consumer.fail(Refusal::in_connection(alloc, ConnectionError::NotFound)?)?;
     assert!(rt; polls(&mut consumer)? == 3);
     assert!(rt; polls(&mut consumer)? == 1);
-    assert!(rt; consumer.messages_received() == 1);
+    assert!(rt; consumer.messages_received() == 0);
     Ok(())
 }
 

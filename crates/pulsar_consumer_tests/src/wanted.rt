@@ -72,14 +72,16 @@ fn a_builder_says_what_it_is_told(rt: HostRuntime) -> Result<(), Fail> {
     Ok(())
 }
 
+fn with_policy(alloc: Global) -> Result<ConsumerBuilder, Fail> {
+    let policy = policy(alloc)?;
+    let options = ConsumerOptions::new(alloc).with_receiver_queue_size(0);
+    let wanted = ConsumerBuilder::new(alloc);
+    Ok(wanted.with_options(options).with_dead_letter_policy(policy))
+}
+
 #[test]
 fn a_builder_is_copied(rt: HostRuntime) -> Result<(), Fail> {
-    let alloc = rt.alloc();
-    let options = ConsumerOptions::new(alloc).with_receiver_queue_size(0);
-    let wanted = ConsumerBuilder::new(alloc)
-        .with_options(options)
-        .with_dead_letter_policy(policy(alloc)?);
-    let copy = wanted.copy()?;
+    let copy = with_policy(rt.alloc())?.copy()?;
     assert!(rt; copy.options.receiver_queue_size == Some(1000));
     assert!(rt; is_policy(&copy.dead_letter_policy));
     Ok(())

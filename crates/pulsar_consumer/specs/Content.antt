@@ -1,6 +1,6 @@
 -- What is said of a consumer, and what it hands out, by its content: a text is the list of its bytes.
 -- (Pulsar binary protocol, Consumer; PulsarApi.proto, CommandSubscribe)
-use Rattle.std.specs.Prelude.{ℕ, ℤ, List, [], map, Option, None, string_bytes}
+use Rattle.std.specs.Prelude.{ℕ, ℤ, List, [], ◌++◌, map, Option, None, string_bytes}
 use Rattle.std.specs.Option.{option_map}
 use Rattle.pulsar_wire.specs.Row.{Values}
 use Rattle.pulsar_wire.specs.Rows.{message_id}
@@ -97,6 +97,10 @@ consumer_wanted b =
       dead_letter_policy = option_map dead_letter_values b.dead_letter_policy;
       unacked_message_resend_delay = b.unacked_message_resend_delay;
     }
+
+-- these topics too
+abbrev pub also_reads : (more : List (List ℕ)) → ConsumerWanted → ConsumerWanted
+also_reads more w = record w { topics = w.topics ++ more }
 
 abbrev pub no_consumer : ConsumerWanted
 no_consumer =

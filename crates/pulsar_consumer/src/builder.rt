@@ -2,7 +2,7 @@
 
 ghost use Rattle.std.specs.Prelude.{◌≡◌, ◌++◌, [], ◌∷◌, Some, IfOk, OnOk, map, string_bytes};
 ghost use Rattle.pulsar_messages.specs.Content.{consumer_options_values};
-ghost use Rattle.pulsar_consumer.specs.Content.{consumer_wanted, dead_letter_values, no_consumer};
+ghost use Rattle.pulsar_consumer.specs.Content.{also_reads, consumer_wanted, dead_letter_values, no_consumer};
 
 use crate::config::{DeadLetterPolicy, copy_policy};
 use pulsar_messages::ConsumerOptions;
@@ -15,21 +15,27 @@ use std::alloc::Global;
 #[derive(Debug, Drop)]
 pub struct ConsumerBuilder {
     alloc: Global,
-    /// What it reads.
+    /// The topics that it reads.
     pub topics: Vec<String>,
     /// It reads each topic of its namespace whose name begins so.
     pub topic_prefix: Option<String>,
+    /// The name of its subscription. One is drawn where it is absent.
     pub subscription: Option<String>,
+    /// The type of its subscription, shared where it is absent.
     pub subscription_type: Option<SubType>,
     /// Where topics of the prefix are looked for.
     pub namespace: Option<String>,
     /// How often they are looked for, in milliseconds.
     pub topic_refresh: Option<u64>,
+    /// Its number on the wire. One is drawn where it is absent.
     pub consumer_id: Option<u64>,
+    /// Its name. One is drawn where it is absent.
     pub consumer_name: Option<String>,
-    /// How many messages it lets the broker send at once.
+    /// How many messages it lets the broker send at once, 1000 where it is absent.
     pub batch_size: Option<u32>,
+    /// What else is said to the broker, and the size of its receiver queue.
     pub options: ConsumerOptions,
+    /// What becomes of messages that are given again and again.
     pub dead_letter_policy: Option<DeadLetterPolicy>,
     /// After so many milliseconds a message that is not acknowledged is asked for again.
     pub unacked_message_resend_delay: Option<u64>,
@@ -59,7 +65,7 @@ impl ConsumerBuilder {
 
     /// It reads this topic too.
     pub fn with_topic(mut self, topic: &str) -> Result<Self, NoMemory>
-        ensures { IfOk result (λ b. consumer_wanted b ≡ record (consumer_wanted self) { topics = map string_bytes self.topics.items ++ topic.now ∷ [] }) }
+        ensures { IfOk result (λ b. consumer_wanted b ≡ also_reads (topic.now ∷ []) (consumer_wanted self)) }
     {
         add_topic(&mut self.topics, self.alloc, topic)?;
         Ok(self)
@@ -67,7 +73,7 @@ impl ConsumerBuilder {
 
     /// It reads these topics too.
     pub fn with_topics(mut self, topics: &[String]) -> Result<Self, NoMemory>
-        ensures { IfOk result (λ b. consumer_wanted b ≡ record (consumer_wanted self) { topics = map string_bytes self.topics.items ++ map string_bytes topics.now }) }
+        ensures { IfOk result (λ b. consumer_wanted b ≡ also_reads (map string_bytes topics.now) (consumer_wanted self)) }
     {
         add_topics(&mut self.topics, topics)?;
         Ok(self)
@@ -137,7 +143,7 @@ impl ConsumerBuilder {
         self
     }
 
-    /// It is made so.
+    /// It is made with these options.
     pub fn with_options(mut self, options: ConsumerOptions) -> Self
         ensures { consumer_wanted result ≡ record (consumer_wanted self) { options = consumer_options_values options } }
     {
@@ -145,7 +151,7 @@ impl ConsumerBuilder {
         self
     }
 
-    /// This becomes of messages that are given again and again.
+    /// Messages that are given again and again go by this policy.
     pub fn with_dead_letter_policy(mut self, policy: DeadLetterPolicy) -> Self
         ensures { consumer_wanted result ≡ record (consumer_wanted self) { dead_letter_policy = Some (dead_letter_values policy) } }
     {

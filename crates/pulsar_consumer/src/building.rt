@@ -23,15 +23,20 @@ const SUCCESS: u32 = 13;
 /// The consumer that is to be built.
 #[derive(Drop)]
 pub struct Order {
+    /// Its topic, as that was asked for.
     pub topic: Text,
+    /// How it is to be made.
     pub config: Settings,
 }
 
 /// A consumer whose subscription was made on this link.
 #[derive(Drop)]
 pub struct Built {
+    /// The name of its topic.
     pub topic: Text,
+    /// Its number on the wire.
     pub number: u64,
+    /// The link of its subscription.
     pub link: u64,
 }
 

@@ -15,6 +15,7 @@ use std::alloc::Global;
 pub struct DeadLetterPolicy {
     /// How often it is given again before it goes to the dead letter topic.
     pub max_redeliver_count: usize,
+    /// The topic to which it goes then.
     pub dead_letter_topic: String,
 }
 
@@ -35,15 +36,19 @@ impl DeadLetterPolicy {
 pub struct ConsumerConfig {
     /// The name of its subscription.
     pub subscription: String,
+    /// The type of its subscription.
     pub sub_type: SubType,
-    /// How many messages it lets the broker send at once.
+    /// How many messages it lets the broker send at once, 1000 where it is absent.
     pub batch_size: Option<u32>,
+    /// Its name.
     pub consumer_name: Option<String>,
     /// The number that was asked for.
     pub consumer_id: Option<u64>,
     /// After so many milliseconds a message that is not acknowledged is asked for again.
     pub unacked_message_redelivery_delay: Option<u64>,
+    /// What else is said to the broker, and the size of its receiver queue.
     pub options: ConsumerOptions,
+    /// What becomes of messages that are given again and again.
     pub dead_letter_policy: Option<DeadLetterPolicy>,
 }
 

@@ -1,6 +1,6 @@
 //! A message of the broker as a consumer takes it.
 
-ghost use Rattle.std.specs.Prelude.{◌≡◌, ◌∷◌, [], map, Some, IfOk};
+ghost use Rattle.std.specs.Prelude.{◌≡◌, ◌<◌, ◌^◌, ◌∷◌, [], map, Some, IfOk};
 ghost use Rattle.pulsar_link.specs.Held.{item_of};
 ghost use Rattle.std.specs.Option.{option_map};
 ghost use Rattle.pulsar_wire.specs.Views.{body_values, message_id_values};
@@ -45,9 +45,10 @@ impl Model for Frame {
 }
 
 impl Frame {
-    /// What this message gives.
+    /// What this message gives. It costs less than 2^31 permits.
     pub fn new(alloc: Global, message: Message) -> Result<Frame, NoMemory>
-        ensures { IfOk result (λ f. f ≡ meaning.frame (message_values message)) }
+        ensures says { IfOk result (λ f. f ≡ meaning.frame (message_values message)) }
+        ensures small { IfOk result (λ f. f.weight < 2 ^ 31) }
     {
         let Message { command, payload } = message;
         let Some(payload) = payload else {
@@ -99,14 +100,16 @@ impl Frame {
 /// How many permits a payload costs.
 #[tactic(auto, unfolding(pulsar_wire::specs::Views::message_metadata_values))]
 fn weight_of(payload: &Payload) -> u32
-    ensures { result ≡ meaning.weight_behind (Some (payload_values payload.now)) }
+    ensures says { result ≡ meaning.weight_behind (Some (payload_values payload.now)) }
+    ensures small { result < 2 ^ 31 }
 {
     weight(payload.metadata.num_messages_in_batch)
 }
 
 /// How many permits a payload of so many entries costs.
 fn weight(count: Option<i32>) -> u32
-    ensures { result ≡ meaning.weight_of count }
+    ensures says { result ≡ meaning.weight_of count }
+    ensures small { result < 2 ^ 31 }
 {
     match count {
         Some(count) => match u32::try_from(count) {

@@ -14,7 +14,9 @@ use std::marker::PhantomData;
 /// The id of a message, and how many entries its batch has.
 #[derive(Debug, PartialEq, Eq, Hash, Drop)]
 pub struct MessageData {
+    /// The id of the message.
     pub id: MessageIdData,
+    /// How many entries its batch has, where it came in one.
     pub batch_size: Option<i32>,
 }
 
@@ -33,8 +35,11 @@ impl MessageData {
 /// A message of a topic, whose payload is read as a `T`.
 #[derive(Drop)]
 pub struct Message<T> {
+    /// The topic from which it came.
     pub topic: String,
+    /// Its bytes, and what is said of them.
     pub payload: Payload,
+    /// Its id, and the size of its batch.
     pub message_id: MessageData,
     of: PhantomData<T>,
 }

@@ -20,6 +20,7 @@ pub enum Ending {
 /// What a consumer gives to a poll.
 #[derive(Drop)]
 pub enum Polled {
+    /// Its first unread item.
     Item(Unread),
     /// There is no item now.
     Empty,

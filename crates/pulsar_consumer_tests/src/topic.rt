@@ -120,15 +120,6 @@ fn a_queue_of_one_gives_a_batch_in_order(rt: HostRuntime) -> Result<(), Fail> {
 }
 
 #[test]
-fn a_frame_of_another_link_is_not_heard(rt: HostRuntime) -> Result<(), Fail> {
-    let alloc = rt.alloc();
-    let mut consumer = consumer(alloc, None)?;
-    consumer.hear(1, message(alloc, None, b"a")?)?;
-    assert!(rt; polls(&mut consumer)? == 0);
-    Ok(())
-}
-
-#[test]
 fn what_came_is_given_behind_a_lost_link(rt: HostRuntime) -> Result<(), Fail> {
     let alloc = rt.alloc();
     let mut consumer = consumer(alloc, Some(0))?;

@@ -168,6 +168,10 @@ fn built(step: &Builds) -> Option<(u64, u64)> {
     }
 }
 
+fn built_by(alloc: Global, news: Vec<News>, text: &mut String) -> Result<Option<(u64, u64)>, Fail> {
+    Ok(built(&build(alloc, news, text)?))
+}
+
 /// Why it is not built.
 fn refused(step: Builds) -> Option<Error> {
     match step {
@@ -179,22 +183,26 @@ fn refused(step: Builds) -> Option<Error> {
 #[test]
 fn a_consumer_is_built(rt: HostRuntime) -> Result<(), Fail> {
     let alloc = rt.alloc();
-    let news = subscribed(alloc)?;
     let mut text = String::new(alloc);
-    let step = build(alloc, news, &mut text)?;
+    let built = built_by(alloc, subscribed(alloc)?, &mut text)?;
     assert!(rt; text.as_str() == "get ask get ask get draw get ask ");
-    assert!(rt; built(&step) == Some((4, 0)));
+    assert!(rt; built == Some((4, 0)));
     Ok(())
 }
 
 #[test]
 fn a_number_in_use_is_refused(rt: HostRuntime) -> Result<(), Fail> {
     let alloc = rt.alloc();
-    let news = taken(alloc)?;
-    let why = refused(build(alloc, news, &mut String::new(alloc))?);
-    let is_so = matches!(why, Some(Error::Consumer(ConsumerError::BuildError)));
-    assert!(rt; is_so);
+    let step = build(alloc, taken(alloc)?, &mut String::new(alloc))?;
+    assert!(rt; is_in_use(refused(step)));
     Ok(())
+}
+
+fn is_in_use(why: Option<Error>) -> bool {
+    match why {
+        Some(Error::Consumer(ConsumerError::BuildError)) => true,
+        _ => false,
+    }
 }
 
 /// A partition is looked up.
@@ -304,12 +312,21 @@ fn command(alloc: Global) -> Result<Command, Fail> {
     Ok(TopicConsumer::new(alloc, topic, 4, config, false).command()?)
 }
 
+fn resumed_by(
+    alloc: Global,
+    outcomes: Vec<Outcome>,
+    text: &mut String,
+) -> Result<Option<u64>, Fail> {
+    let command = command(alloc)?;
+    Ok(resumed(&resume(alloc, &command, outcomes, text)?))
+}
+
 #[test]
 fn a_lost_subscription_is_made_again(rt: HostRuntime) -> Result<(), Fail> {
     let alloc = rt.alloc();
     let mut text = String::new(alloc);
-    let turn = resume(alloc, &command(alloc)?, outcomes(alloc)?, &mut text)?;
+    let link = resumed_by(alloc, outcomes(alloc)?, &mut text)?;
     assert!(rt; text.as_str() == "get ask get get ask ");
-    assert!(rt; resumed(&turn) == Some(1));
+    assert!(rt; link == Some(1));
     Ok(())
 }

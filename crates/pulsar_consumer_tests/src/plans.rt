@@ -194,11 +194,11 @@ fn a_consumer_is_built(rt: HostRuntime) -> Result<(), Fail> {
 fn a_number_in_use_is_refused(rt: HostRuntime) -> Result<(), Fail> {
     let alloc = rt.alloc();
     let step = build(alloc, taken(alloc)?, &mut String::new(alloc))?;
-    assert!(rt; is_in_use(refused(step)));
+    assert!(rt; is_in_use(&refused(step)));
     Ok(())
 }
 
-fn is_in_use(why: Option<Error>) -> bool {
+fn is_in_use(why: &Option<Error>) -> bool {
     match why {
         Some(Error::Consumer(ConsumerError::BuildError)) => true,
         _ => false,

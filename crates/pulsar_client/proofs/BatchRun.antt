@@ -119,10 +119,10 @@ first_is : (now : List Act) (here : List Notice) (behind : List (List Notice)) (
 first_is now here behind parts x a xs e h =
     let f : Some x ≡ Some a = ap (λ ys. first_of ys here behind parts) (sym e) ∙ h in cc
 
-fits_first : (o : Options) (log : List Entry) (x a : Act) (xs : List Act) → (agenda o log).now ≡ x ∷ xs → first (agenda o log) ≡ Some a → x ≡ a
+pub fits_first : (o : Options) (log : List Entry) (x a : Act) (xs : List Act) → (agenda o log).now ≡ x ∷ xs → first (agenda o log) ≡ Some a → x ≡ a
 fits_first o log x a xs e h = let g = agenda o log in first_is g.now g.here g.behind g.parts x a xs e h
 
-none_first : (o : Options) (log : List Entry) (x : Act) (xs : List Act) → (agenda o log).now ≡ x ∷ xs → first (agenda o log) ≡ None → ⊥
+pub none_first : (o : Options) (log : List Entry) (x : Act) (xs : List Act) → (agenda o log).now ≡ x ∷ xs → first (agenda o log) ≡ None → ⊥
 none_first o log x xs e h =
     let g = agenda o log in
     let f : Some x ≡ None = ap (λ ys. first_of ys g.here g.behind g.parts) (sym e) ∙ h in

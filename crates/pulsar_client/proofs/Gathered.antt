@@ -45,10 +45,10 @@ abbrev RowOf : ℕ → ℕ → Outcome → Type 0
 RowOf t c (outcome.Parted k f) = (t < k) × (k < t + 1 + c)
 RowOf t c _ = Unit {0}
 
-part_row : (o : Options) (log : List Entry) (t c k : ℕ) (f : Option Failure) → IsRun o (Then (Told (notice (Call t) (outcome.Parted k f))) ∷ log) →
-    parts_at o t log ≡ Some c →
-    (t < k) × (k < t + 1 + c)
-part_row o log t c k f run h =
+-- by one of its parts
+pub part_from : (o : Options) (log : List Entry) (t k : ℕ) (f : Option Failure) → IsRun o (Then (Told (notice (Call t) (outcome.Parted k f))) ∷ log) →
+    (c : ℕ) × (parts_at o t log ≡ Some c) × (t < k) × (k < t + 1 + c)
+part_from o log t k f run =
     let s = step_behind (Cause o (Call t) (outcome.Parted k f)) log (outcomes_are_caused_lem o log (Call t) (outcome.Parted k f) run) in
     let older : List Entry = s.2 in
     let other : Who = s.4.0 in
@@ -70,7 +70,8 @@ part_row o log t c k f run h =
         let g : false ≡ true = in_each (λ n. is_settling n.outcome ≡ true) (notice (Call t) (outcome.Parted k f)) ns i (tell_settling o older w ns r) in cc
 
     by : (newer older : List Entry) (w : Who) → log ≡ newer ++ Then (Does w (Tell (notice (Call t) (outcome.Parted k f)))) ∷ older →
-        IsRun o (Then (Does w (Tell (notice (Call t) (outcome.Parted k f)))) ∷ older) → (t < k) × (k < t + 1 + c)
+        IsRun o (Then (Does w (Tell (notice (Call t) (outcome.Parted k f)))) ∷ older) →
+        (c : ℕ) × (parts_at o t log ≡ Some c) × (t < k) × (k < t + 1 + c)
     by newer older (Call w) there r =
         let x = tells_own o older w (notice (Call t) (outcome.Parted k f)) r in
         let of : t ≡ x.share.of = (let g : Call t ≡ Call x.share.of = x.to in cc) in
@@ -78,13 +79,22 @@ part_row o log t c k f run h =
         let at : parts_at o t older ≡ Some x.own.1 = ap (λ y. parts_at o y older) of ∙ x.own.2 in
         let now : parts_at o t log ≡ Some x.own.1 =
         ap (parts_at o t) there ∙ parts_behind o newer (Then (Does (Call w) (Tell (notice (Call t) (outcome.Parted k f)))) ∷ older) t x.own.1 at in
-        let g : Some x.own.1 ≡ Some c = sym now ∙ h in
-        let same : x.own.1 ≡ c = cc in
         let lo : x.share.of < w = x.own.3 in
         let hi : w < x.share.of + 1 + x.own.1 = x.own.4 in
-        (omega (arith, of, it, lo), omega (arith, of, it, hi, same))
+        (x.own.1, now, omega (arith, of, it, lo), omega (arith, of, it, hi))
     by newer older (Producer m) there r =
         let d = batcher_does o older m (Tell (notice (Call t) (outcome.Parted k f))) r in absurd (no_tell d.0 (notice (Call t) (outcome.Parted k f)) d.1)
+
+part_row : (o : Options) (log : List Entry) (t c k : ℕ) (f : Option Failure) → IsRun o (Then (Told (notice (Call t) (outcome.Parted k f))) ∷ log) →
+    parts_at o t log ≡ Some c →
+    (t < k) × (k < t + 1 + c)
+part_row o log t c k f run h =
+    let x = part_from o log t k f run in
+    let g : Some x.0 ≡ Some c = sym x.1 ∙ h in
+    let same : x.0 ≡ c = cc in
+    let lo : t < k = x.2 in
+    let hi : k < t + 1 + x.0 = x.3 in
+    (lo, omega (arith, same, hi))
 
 outcome_row : (o : Options) (log : List Entry) (t c : ℕ) (u : Outcome) → IsRun o (Then (Told (notice (Call t) u)) ∷ log) → parts_at o t log ≡ Some c →
     RowOf t c u

@@ -1,4 +1,5 @@
--- One that does nothing waits for nothing. So all that it is told is what parts of calls say.
+-- One that does nothing but to store and to tell waits for no link, request or moment. One that does nothing at all is told only what parts of
+-- calls say.
 use Rattle.std.proofs.Common.{◌≡◌, ◌⊎◌, inl, inr, ◌∙◌, sym, ap, subst, ℕ, ◌+◌, ◌≤◌, ◌==◌, arith, List, [], ◌∷◌, ◌++◌, refl, Bool, true, false, cond, not, Option, Some, None}
 use Rattle.std.proofs.lemmas.Bool.{cases_Bool}
 use Rattle.std.specs.BTreeMap.{insert_entry}
@@ -20,7 +21,7 @@ use Rattle.pulsar_requests.specs.Soonest.{has_come}
 use Rattle.pulsar_client.specs.declared.act.Act.{Act}
 use Rattle.pulsar_client.specs.declared.act.Act.TheVariants.{Comes, Starts, Told, Does, Answers, Dials}
 use Rattle.pulsar_client.specs.declared.act.Action.{Action}
-use Rattle.pulsar_client.specs.declared.act.Action.TheVariants.{Get, Ask, Wait, TakeTurn, Shut, Store, Flush, Tell, TellAll, Rest, StopAll}
+use Rattle.pulsar_client.specs.declared.act.Action.TheVariants.{Get, Ask, Wait, TakeTurn, Draw, Recall, Number, Find, Shut, Store, Flush, Tell, TellAll, Rest, StopAll}
 use Rattle.pulsar_client.specs.declared.act.Alarm.{Alarm}
 use Rattle.pulsar_client.specs.declared.act.Alarm.TheVariants.{Retry, Wake, Batch, KeepAlive, CheckIdle}
 use Rattle.pulsar_client.specs.declared.act.LinkAct.{LinkAct}
@@ -85,11 +86,11 @@ mute_older t (Begins e) older k = k
 mute_older t (Then a) older k = k.1
 
 -- whatever starts by this ticket is this
-abbrev StartsBy : ℕ → Procedure → Act → Type 0
+abbrev pub StartsBy : ℕ → Procedure → Act → Type 0
 StartsBy t p (Starts who q) = is_same (Call t) who ≡ true → q ≡ p
 StartsBy t p _ = Unit {0}
 
-abbrev OnlyStarts : ℕ → Procedure → List Entry → Type 0
+abbrev pub OnlyStarts : ℕ → Procedure → List Entry → Type 0
 OnlyStarts t p [] = Unit {0}
 OnlyStarts t p (Begins e ∷ log) = OnlyStarts t p log
 OnlyStarts t p (Then a ∷ log) = StartsBy t p a × OnlyStarts t p log
@@ -106,7 +107,7 @@ no_start t p (Then (Starts who q) ∷ log) h = elim (cases_Bool (is_same (Call t
 ]
 no_start t p (Then a ∷ log) h = (tt, no_start t p log (let n : ℕ = counted (start_of t) log in let f : n + 0 ≡ 0 = h in omega (arith, f)))
 
-only_start : (t : ℕ) (p : Procedure) (log : List Entry) → started (Call t) log ≡ Some p → counted (start_of t) log ≤ 1 → OnlyStarts t p log
+pub only_start : (t : ℕ) (p : Procedure) (log : List Entry) → started (Call t) log ≡ Some p → counted (start_of t) log ≤ 1 → OnlyStarts t p log
 only_start t p [] h k = tt
 only_start t p (Begins e ∷ log) h k = only_start t p log h k
 only_start t p (Then (Starts who q) ∷ log) h k = elim (cases_Bool (is_same (Call t) who)) [
@@ -200,6 +201,38 @@ module _ (o : Options) (t first count : ℕ) where
   mute_run (Begins e ∷ log) run k = mute_run log run.0 k
   mute_run (Then a ∷ log) run k = (mute_by log a run k.1, mute_run log run.0 k.1)
 
+-- ONE THAT IS IDLE
+
+-- what nobody answers
+abbrev pub is_idle : Action → Bool
+is_idle Rest = true
+is_idle (Store n x) = true
+is_idle (Tell n) = true
+is_idle _ = false
+
+-- it does nothing else
+abbrev pub IdleBy : ℕ → Act → Type 0
+IdleBy t (Does who a) = is_same (Call t) who ≡ true → is_idle a ≡ true
+IdleBy t _ = Unit {0}
+
+abbrev pub Idle : ℕ → List Entry → Type 0
+Idle t [] = Unit {0}
+Idle t (Begins e ∷ log) = Idle t log
+Idle t (Then a ∷ log) = IdleBy t a × Idle t log
+
+pub idle_older : (t : ℕ) (e : Entry) (older : List Entry) → Idle t (e ∷ older) → Idle t older
+idle_older t (Begins e) older k = k
+idle_older t (Then a) older k = k.1
+
+idle_by : (t : ℕ) (a : Act) → MuteBy t a → IdleBy t a
+idle_by t (Does who a) k = λ same. ap is_idle (k same)
+idle_by t _ k = tt
+
+mute_idle : (t : ℕ) (log : List Entry) → Mute t log → Idle t log
+mute_idle t [] k = tt
+mute_idle t (Begins e ∷ log) k = mute_idle t log k
+mute_idle t (Then a ∷ log) k = (idle_by t a k.0, mute_idle t log k.1)
+
 -- WHERE IT DOES NOT WAIT
 
 abbrev NotIn : ℕ → List Who → Type 0
@@ -219,6 +252,11 @@ record Absent (t : ℕ) (v : View) : Type 0 where
 
 other_does : (t : ℕ) (who : Who) (a : Action) → MuteBy t (Does who a) → (a ≡ Rest → ⊥) → Call t ≡ who → ⊥
 other_does t who a mute not same = not (mute (subst (λ w. is_same (Call t) w ≡ true) same (same_self (Call t))))
+
+other_idle : (t : ℕ) (who : Who) (a : Action) → IdleBy t (Does who a) → is_idle a ≡ false → Call t ≡ who → ⊥
+other_idle t who a idle not same =
+    let f : false ≡ true = sym not ∙ idle (subst (λ w. is_same (Call t) w ≡ true) same (same_self (Call t))) in
+    absurd cc
 
 -- addresses
 turned_absent : (t l : ℕ) (c : Change) (pause : Option Pause) (b : Base) → NotIn t b.waiting → NotIn t (base_turned l c pause b).waiting
@@ -248,14 +286,14 @@ waits_absent t (Runs starter retries l) who ws other h = end_absent t who ws oth
 waits_absent t (Pauses l) who ws other h = end_absent t who ws other h
 waits_absent t (Serves l) who ws other h = h
 
-base_absent : (t : ℕ) (v : View) (a : Act) (key : List ℕ) (b : Base) → MuteBy t a → NotIn t b.waiting → NotIn t (base_after v a key b).waiting
-base_absent t v (Comes (ToLink l x)) key b mute h = on_absent t (turned v (Comes (ToLink l x))) key b h
-base_absent t v (Does who (Get p)) key b mute h =
+base_absent : (t : ℕ) (v : View) (a : Act) (key : List ℕ) (b : Base) → IdleBy t a → NotIn t b.waiting → NotIn t (base_after v a key b).waiting
+base_absent t v (Comes (ToLink l x)) key b idle h = on_absent t (turned v (Comes (ToLink l x))) key b h
+base_absent t v (Does who (Get p)) key b idle h =
     either_absent t _ (record { series = b.series; waiting = waits_for b.series who b.waiting }) b
-    (waits_absent t b.series who b.waiting (other_does t who (Get p) mute (λ e. (let no : Get p ≡ Rest = e in cc))) h) h
-base_absent t v (Does who StopAll) key b mute h = either_absent t (waits_on v.addresses v.alarms key) nobody b (λ i. i) h
-base_absent t v (Dials p starter retries) key b mute h = either_absent t _ _ b h h
-base_absent t v _ key b mute h = h
+    (waits_absent t b.series who b.waiting (other_idle t who (Get p) idle refl) h) h
+base_absent t v (Does who StopAll) key b idle h = either_absent t (waits_on v.addresses v.alarms key) nobody b (λ i. i) h
+base_absent t v (Dials p starter retries) key b idle h = either_absent t _ _ b h h
+base_absent t v _ key b idle h = h
 
 -- links
 either_free : (t : ℕ) (c : Bool) (a b : Option Seat) → AskerFree t a → AskerFree t b → AskerFree t (cond c a b)
@@ -295,17 +333,17 @@ at_free t true who (Some place) askers other h p e = elim (cases_Bool (p == plac
   | inr q ↦ h p (rw q at e)
 ]
 
-live_absent : (t : ℕ) (o : Chosen) (known : Addresses) (now n : ℕ) (a : Act) (l : ℕ) (row : Option Seat) → MuteBy t a → AskerFree t row →
+live_absent : (t : ℕ) (o : Chosen) (known : Addresses) (now n : ℕ) (a : Act) (l : ℕ) (row : Option Seat) → IdleBy t a → AskerFree t row →
     AskerFree t (live_after o known now n a l row)
-live_absent t o known now n (Comes (ToLink k x)) l row mute h = either_free t (l == k) (took_some x now row) row (took_free t x now row h) h
-live_absent t o known now n (Does who (Get p)) l row mute h = got_free t (link_got known (Does who (Get p))) now l row h
-live_absent t o known now n (Does who (Ask k request)) l row mute h = either_free t (l == k) (option_map (seat_asked who now request) row) row (by row h) h
+live_absent t o known now n (Comes (ToLink k x)) l row idle h = either_free t (l == k) (took_some x now row) row (took_free t x now row h) h
+live_absent t o known now n (Does who (Get p)) l row idle h = got_free t (link_got known (Does who (Get p))) now l row h
+live_absent t o known now n (Does who (Ask k request)) l row idle h = either_free t (l == k) (option_map (seat_asked who now request) row) row (by row h) h
   where
     by : (r : Option Seat) → AskerFree t r → AskerFree t (option_map (seat_asked who now request) r)
     by None h = tt
-    by (Some seat) h = at_free t _ who _ seat.askers (other_does t who (Ask k request) mute (λ e. (let no : Ask k request ≡ Rest = e in cc))) h
-live_absent t o known now n (Dials p starter retries) l row mute h = either_free t (l == n) _ row (λ place e. none_some e) h
-live_absent t o known now n _ l row mute h = h
+    by (Some seat) h = at_free t _ who _ seat.askers (other_idle t who (Ask k request) idle refl) h
+live_absent t o known now n (Dials p starter retries) l row idle h = either_free t (l == n) _ row (λ place e. none_some e) h
+live_absent t o known now n _ l row idle h = h
 
 begun_free : (t : ℕ) (e : Heard) (l : ℕ) (row : Option Seat) → AskerFree t row → AskerFree t (live_begun e l row)
 begun_free t (Bytes k piece) l row h = either_free t (l == k) (option_map (seat_fed piece) row) row (by row h) h
@@ -386,54 +424,64 @@ all_absent : (t : ℕ) (ns : List ℕ) (es : List (Alarm × ℕ)) → Each (NotW
 all_absent t [] es k = k
 all_absent t (n ∷ ns) es k = all_absent t ns (clear (Batch n) es) (clear_absent t (Batch n) es k)
 
-alarms_absent : (t : ℕ) (v : View) (a : Act) → MuteBy t a → Each (NotWake t) v.alarms → Each (NotWake t) (alarms_after v a)
-alarms_absent t v (Comes (ToLink l x)) mute k = alarms_on_absent t v.chosen v.now (turned v (Comes (ToLink l x))) v.alarms k
-alarms_absent t v (Comes (Rings a)) mute k =
+alarms_absent : (t : ℕ) (v : View) (a : Act) → IdleBy t a → Each (NotWake t) v.alarms → Each (NotWake t) (alarms_after v a)
+alarms_absent t v (Comes (ToLink l x)) idle k = alarms_on_absent t v.chosen v.now (turned v (Comes (ToLink l x))) v.alarms k
+alarms_absent t v (Comes (Rings a)) idle k =
     either_alarms t (rings v.now a v.alarms) (alarms_rung v.chosen v.now a v.alarms) v.alarms (rung_absent t v.chosen v.now a v.alarms k) k
-alarms_absent t v (Does who (Wait delay)) mute k =
-    set_absent t (Wake who) _ v.alarms (other_wake t who (other_does t who (Wait delay) mute (λ e. (let no : Wait delay ≡ Rest = e in cc)))) k
-alarms_absent t v (Does who (Store n x)) mute k = topic_absent t v n (topic.Stores (turn_of who) x) k
-alarms_absent t v (Does who (Flush n)) mute k = topic_absent t v n (topic.Flushes (turn_of who)) k
-alarms_absent t v (Does who (Shut u)) mute k = all_absent t (numbers_at (v.producers.built u)) v.alarms k
-alarms_absent t v (Does who StopAll) mute k = tt
-alarms_absent t v (Answers who verdict) mute k = either_alarms t _ _ v.alarms (set_absent t CheckIdle _ v.alarms refl k) k
-alarms_absent t v _ mute k = k
+alarms_absent t v (Does who (Wait delay)) idle k =
+    set_absent t (Wake who) _ v.alarms (other_wake t who (other_idle t who (Wait delay) idle refl)) k
+alarms_absent t v (Does who (Store n x)) idle k = topic_absent t v n (topic.Stores (turn_of who) x) k
+alarms_absent t v (Does who (Flush n)) idle k = topic_absent t v n (topic.Flushes (turn_of who)) k
+alarms_absent t v (Does who (Shut u)) idle k = all_absent t (numbers_at (v.producers.built u)) v.alarms k
+alarms_absent t v (Does who StopAll) idle k = tt
+alarms_absent t v (Answers who verdict) idle k = either_alarms t _ _ v.alarms (set_absent t CheckIdle _ v.alarms refl k) k
+alarms_absent t v _ idle k = k
 
-then_absent : (t : ℕ) (v : View) (a : Act) → MuteBy t a → Absent t v → Absent t (after a v)
-then_absent t v a mute k = record {
-  base = λ key. base_absent t v a key (v.addresses.base key) mute (k.base key);
-  asker = λ l. live_absent t v.chosen v.addresses v.now v.links.started a l (v.links.live l) mute (k.asker l);
-  alarm = alarms_absent t v a mute k.alarm;
+then_absent : (t : ℕ) (v : View) (a : Act) → IdleBy t a → Absent t v → Absent t (after a v)
+then_absent t v a idle k = record {
+  base = λ key. base_absent t v a key (v.addresses.base key) idle (k.base key);
+  asker = λ l. live_absent t v.chosen v.addresses v.now v.links.started a l (v.links.live l) idle (k.asker l);
+  alarm = alarms_absent t v a idle k.alarm;
 }
 
-absent_run : (o : Options) (t : ℕ) (log : List Entry) → Mute t log → Absent t (view o log)
-absent_run o t [] mute = record { base = λ key i. i; asker = λ l. tt; alarm = tt }
-absent_run o t (Begins e ∷ log) mute =
-    let k : Absent t (view o log) = absent_run o t log mute in
+absent_run : (o : Options) (t : ℕ) (log : List Entry) → Idle t log → Absent t (view o log)
+absent_run o t [] idle = record { base = λ key i. i; asker = λ l. tt; alarm = tt }
+absent_run o t (Begins e ∷ log) idle =
+    let k : Absent t (view o log) = absent_run o t log idle in
     elim (is_live (view o log) e) as (λ b. Absent t (cond b (begun_live e (view o log)) (view o log))) [
       | true ↦ record { base = k.base; asker = λ l. begun_free t e l ((view o log).links.live l) (k.asker l); alarm = k.alarm }
       | false ↦ k
     ]
-absent_run o t (Then a ∷ log) mute = then_absent t (view o log) a mute.0 (absent_run o t log mute.1)
+absent_run o t (Then a ∷ log) idle = then_absent t (view o log) a idle.0 (absent_run o t log idle.1)
 
 -- TURNS AND BATCHES
 
 -- what it takes, stores or flushes has not its ticket
-abbrev Other : ℕ → ℕ → Type 0
+abbrev pub Other : ℕ → ℕ → Type 0
 Other t u = t ≡ u → ⊥
 
 turn_other : (t : ℕ) (who : Who) → is_spent t ≡ false → (Call t ≡ who → ⊥) → Other t (turn_of who)
 turn_other t (Call u) unspent other e = other (ap Call e)
 turn_other t (Producer n) unspent other e = let f : false ≡ true = sym unspent ∙ ap is_spent e in absurd cc
 
-mute_does : (t : ℕ) → is_spent t ≡ false → (a : Act) → MuteBy t a → DoesSo (Other t) a
+mute_does : (t : ℕ) → is_spent t ≡ false → (a : Act) → MuteBy t a → DoesSo (Other t) (Other t) a
 mute_does t unspent (Does who (TakeTurn n)) mute =
     turn_other t who unspent (other_does t who (TakeTurn n) mute (λ e. (let no : TakeTurn n ≡ Rest = e in cc)))
 mute_does t unspent (Does who (Store n x)) mute = turn_other t who unspent (other_does t who (Store n x) mute (λ e. (let no : Store n x ≡ Rest = e in cc)))
 mute_does t unspent (Does who (Flush n)) mute = turn_other t who unspent (other_does t who (Flush n) mute (λ e. (let no : Flush n ≡ Rest = e in cc)))
 mute_does t unspent _ mute = tt
 
-mute_log : (t : ℕ) → is_spent t ≡ false → (log : List Entry) → Mute t log → LogSo (Other t) log
+-- and one that is idle takes no turn
+idle_does : (t : ℕ) → is_spent t ≡ false → (a : Act) → IdleBy t a → DoesSo (Other t) (λ u. Unit {0}) a
+idle_does t unspent (Does who (TakeTurn n)) idle = turn_other t who unspent (other_idle t who (TakeTurn n) idle refl)
+idle_does t unspent _ idle = tt
+
+pub idle_log : (t : ℕ) → is_spent t ≡ false → (log : List Entry) → Idle t log → LogSo (Other t) (λ u. Unit {0}) log
+idle_log t unspent [] idle = tt
+idle_log t unspent (Begins e ∷ log) idle = idle_log t unspent log idle
+idle_log t unspent (Then a ∷ log) idle = (idle_does t unspent a idle.0, idle_log t unspent log idle.1)
+
+mute_log : (t : ℕ) → is_spent t ≡ false → (log : List Entry) → Mute t log → LogSo (Other t) (Other t) log
 mute_log t unspent [] mute = tt
 mute_log t unspent (Begins e ∷ log) mute = mute_log t unspent log mute
 mute_log t unspent (Then a ∷ log) mute = (mute_does t unspent a mute.0, mute_log t unspent log mute.1)
@@ -471,33 +519,55 @@ no_grant (news.Numbered m) v h = h
 no_grant news.Done v h = h
 no_grant _ v h = h
 
-no_draw : (f : Fault) (v : View) → DrawsNone f Rest v → ⊥
-no_draw Disconnected v h = h
-no_draw Exhausted v h = h
-no_draw _ v h = h
+-- none passes it a turn, where it takes none
+pub no_turn_given : (P : ℕ → Type 0) (o : Options) (t : ℕ) (e : Entry) (older : List Entry) → IsRun o older → LogSo (Other t) P older → (n : News) →
+    GetsTurn o (Call t) n e older → ⊥
+no_turn_given P o t e older run others n (other, number, turn, version, is, same, d, next) =
+    let k = passed_waits turn version ((view o older).producers.topics number) next in
+    waits_so (Other t) P o number turn older k.0 run others k.1 k.2 (is_turn t number turn same)
 
-module _ (o : Options) (t : ℕ) (unspent : is_spent t ≡ false) (e : Entry) (older : List Entry) (run : IsRun o older) (here : IsRun o (e ∷ older))
-    (mute : Mute t (e ∷ older)) where
+no_find : (l : ℕ) (a : Action) (v : View) → is_idle a ≡ true → Finds l a v → ⊥
+no_find l (Find n) v h k = absurd cc
+no_find l a v h k = k
+
+no_draw : (f : Fault) (a : Action) (v : View) → is_idle a ≡ true → DrawsNone f a v → ⊥
+no_draw Disconnected (Draw n) v h k = absurd cc
+no_draw Exhausted (Draw n) v h k = absurd cc
+no_draw Exhausted Number v h k = absurd cc
+no_draw f a v h k = k
+
+all_known : (a : Action) (v : View) → is_idle a ≡ true → IsUnknown a v → ⊥
+all_known (TakeTurn n) v h k = absurd cc
+all_known (Recall n) v h k = absurd cc
+all_known (Find n) v h k = absurd cc
+all_known a v h k = k
+
+-- what comes from elsewhere than a link, a request or a moment
+abbrev pub is_open : Outcome → Bool
+is_open (outcome.Granted n) = true
+is_open (outcome.Settled f) = true
+is_open (outcome.Parted u f) = true
+is_open outcome.Stopped = true
+is_open _ = false
+
+module _ (o : Options) (t : ℕ) (e : Entry) (older : List Entry) (idle : Idle t (e ∷ older)) where
   abbrev v : View
   v = view o older
 
-  before : Mute t older
-  before = mute_older t e older mute
-
   absent : Absent t v
-  absent = absent_run o t older before
+  absent = absent_run o t older (idle_older t e older idle)
 
-  did_rest : (a : Action) → e ≡ Then (Does (Call t) a) → a ≡ Rest
-  did_rest a is = let k : Mute t (Then (Does (Call t) a) ∷ older) = subst (λ x. Mute t (x ∷ older)) is mute in k.0 (same_self (Call t))
+  pub did_idle : (a : Action) → e ≡ Then (Does (Call t) a) → is_idle a ≡ true
+  did_idle a is = let k : Idle t (Then (Does (Call t) a) ∷ older) = subst (λ x. Idle t (x ∷ older)) is idle in k.0 (same_self (Call t))
 
   no_get : (p : Place) → e ≡ Then (Does (Call t) (Get p)) → ⊥
-  no_get p is = let no : Get p ≡ Rest = did_rest (Get p) is in cc
+  no_get p is = let f : false ≡ true = did_idle (Get p) is in absurd cc
 
   no_ask : (l : ℕ) (request : Words) → e ≡ Then (Does (Call t) (Ask l request)) → ⊥
-  no_ask l request is = let no : Ask l request ≡ Rest = did_rest (Ask l request) is in cc
+  no_ask l request is = let f : false ≡ true = did_idle (Ask l request) is in absurd cc
 
-  no_act : (P : Action → View → Type 0) → (P Rest v → ⊥) → Acts o (Call t) P e older → ⊥
-  no_act P none (a, is, h) = none (subst (λ x. P x v) (did_rest a is) h)
+  no_act : (P : Action → View → Type 0) → ((a : Action) → is_idle a ≡ true → P a v → ⊥) → Acts o (Call t) P e older → ⊥
+  no_act P none (a, is, h) = none a (did_idle a is) h
 
   no_asker : (l place : ℕ) (seat : Seat) → v.links.live l ≡ Some seat → seat.askers place ≡ Some (Call t) → ⊥
   no_asker l place seat live h = (subst (AskerFree t) live (absent.asker l)) place h
@@ -523,16 +593,49 @@ module _ (o : Options) (t : ℕ) (unspent : is_spent t ≡ false) (e : Entry) (o
   no_wake : IsWoken o (Call t) e older → ⊥
   no_wake (is, r) = let f : false ≡ true = sym (ap (has_come v.now) (moment_none t v.alarms absent.alarm)) ∙ r in cc
 
-  others : LogSo (Other t) older
-  others = mute_log t unspent older before
-
-  no_turn_given : (n : News) → GetsTurn o (Call t) n e older → ⊥
-  no_turn_given n (other, number, turn, version, is, same, d, next) =
-      let k = passed_waits turn version (v.producers.topics number) next in
-      waits_so (Other t) o number turn older k.0 run others k.1 k.2 (is_turn t number turn same)
-
-  no_batch : (n : News) → IsReady o (Call t) n e older → ⊥
+  pub no_batch : (n : News) → IsReady o (Call t) n e older → ⊥
   no_batch n k = let f : Call t ≡ Producer k.0 = k.2 in cc
+
+  pub only_open : (u : Outcome) → Cause o (Call t) u e older → is_open u ≡ true
+  only_open (outcome.GotLink l) (inl (p, is, h)) = absurd (no_get p is)
+  only_open (outcome.GotLink l) (inr (inl h)) = absurd (no_ready l h)
+  only_open (outcome.GotLink l) (inr (inr h)) = absurd (no_act (Finds l) (λ a k x. no_find l a v k x) h)
+  only_open (outcome.Granted n) h = refl
+  only_open (outcome.Settled f) h = refl
+  only_open (outcome.Parted u f) h = refl
+  only_open outcome.NotFound (p, is, h) = absurd (no_get p is)
+  only_open (outcome.Failed kind) h = absurd (no_attempt (outcome.Failed kind) h)
+  only_open outcome.Canceled h = absurd (no_attempt outcome.Canceled h)
+  only_open outcome.Queued (inl (l, request, is, h)) = absurd (no_ask l request is)
+  only_open outcome.Queued (inr h) = absurd (no_move h)
+  only_open outcome.InLine (l, request, is, h) = absurd (no_ask l request is)
+  only_open (outcome.Refused cause) (inl (l, request, is, h)) = absurd (no_ask l request is)
+  only_open (outcome.Refused cause) (inr h) = absurd (no_act (DrawsNone cause) (λ a k x. no_draw cause a v k x) h)
+  only_open (outcome.Replied r) h = absurd (no_reply r h)
+  only_open outcome.TimedOut h = absurd (no_request outcome.TimedOut h)
+  only_open outcome.Disconnected (inl h) = absurd (no_request outcome.Disconnected h)
+  only_open outcome.Disconnected (inr (inl h)) = absurd (no_line outcome.Disconnected h)
+  only_open outcome.Disconnected (inr (inr h)) = absurd (no_act IsUnknown (λ a k x. all_known a v k x) h)
+  only_open outcome.Woken h = absurd (no_wake h)
+  only_open outcome.Cut h = absurd (no_request outcome.Cut h)
+  only_open outcome.Stopped h = refl
+
+module _ (o : Options) (t : ℕ) (unspent : is_spent t ≡ false) (e : Entry) (older : List Entry) (run : IsRun o older) (here : IsRun o (e ∷ older))
+    (mute : Mute t (e ∷ older)) where
+  abbrev seen_so : View
+  seen_so = view o older
+
+  before : Mute t older
+  before = mute_older t e older mute
+
+  did_rest : (a : Action) → e ≡ Then (Does (Call t) a) → a ≡ Rest
+  did_rest a is = let k : Mute t (Then (Does (Call t) a) ∷ older) = subst (λ x. Mute t (x ∷ older)) is mute in k.0 (same_self (Call t))
+
+  no_grants : (n : News) → Acts o (Call t) (GrantsSo n) e older → ⊥
+  no_grants n (a, is, h) = no_grant n seen_so (subst (λ x. GrantsSo n x seen_so) (did_rest a is) h)
+
+  others : LogSo (Other t) (Other t) older
+  others = mute_log t unspent older before
 
   not_said : (u : Outcome) → is_said u ≡ false → IsToldBy (Call t) u e older → ⊥
   not_said u other (w, inl is) =
@@ -541,44 +644,30 @@ module _ (o : Options) (t : ℕ) (unspent : is_spent t ≡ false) (e : Entry) (o
       cc
   not_said u other (w, inr (ns, is, i)) =
       let r : IsRun o (Then (Does w (TellAll ns)) ∷ older) = subst (λ x. IsRun o (x ∷ older)) is here in
-      (in_each (NoticeSo (Other t)) (notice (Call t) u) ns i (tells_so (Other t) o older w ns r others)) refl
+      (in_each (NoticeSo (Other t) (Other t)) (notice (Call t) u) ns i (tells_so (Other t) (Other t) o older w ns r others)) refl
 
-  not_stored : (number ticket : ℕ) (row : Option Topic) → v.producers.topics number ≡ row → Call t ≡ Call ticket → In ticket (stored_at row) → ⊥
+  not_stored : (number ticket : ℕ) (row : Option Topic) → seen_so.producers.topics number ≡ row → Call t ≡ Call ticket → In ticket (stored_at row) → ⊥
   not_stored number ticket None there same i = i
   not_stored number ticket (Some row) there same i =
-      stored_so (Other t) o number ticket older row run others there i (let f : t ≡ ticket = cc in f)
+      stored_so (Other t) (Other t) o number ticket older row run others there i (let f : t ≡ ticket = cc in f)
 
   not_dropped : (u : Outcome) → IsDropped o (Call t) u e older → ⊥
   not_dropped u (other, producer, number, ticket, is, same, among, stored, d) =
-      not_stored number ticket (v.producers.topics number) refl same stored
+      not_stored number ticket (seen_so.producers.topics number) refl same stored
+
+  no_more : (u : Outcome) → is_open u ≡ false → Cause o (Call t) u e older → is_said u ≡ true
+  no_more u closed h = let f : false ≡ true = sym closed ∙ only_open o t e older (mute_idle t (e ∷ older) mute) u h in absurd cc
 
   only_said : (u : Outcome) → Cause o (Call t) u e older → is_said u ≡ true
-  only_said (outcome.GotLink l) (inl (p, is, h)) = absurd (no_get p is)
-  only_said (outcome.GotLink l) (inr (inl h)) = absurd (no_ready l h)
-  only_said (outcome.GotLink l) (inr (inr h)) = absurd (no_act (Finds l) (λ x. x) h)
-  only_said (outcome.Granted n) (inl h) = absurd (no_act (GrantsSo n) (no_grant n v) h)
-  only_said (outcome.Granted n) (inr (inl h)) = absurd (no_turn_given n h)
-  only_said (outcome.Granted n) (inr (inr (inl h))) = absurd (no_batch n h)
+  only_said (outcome.Granted n) (inl h) = absurd (no_grants n h)
+  only_said (outcome.Granted n) (inr (inl h)) = absurd (no_turn_given (Other t) o t e older run others n h)
+  only_said (outcome.Granted n) (inr (inr (inl h))) = absurd (no_batch o t e older (mute_idle t (e ∷ older) mute) n h)
   only_said (outcome.Granted n) (inr (inr (inr h))) = absurd (not_said (outcome.Granted n) refl h)
   only_said (outcome.Settled f) (inl h) = absurd (not_said (outcome.Settled f) refl h)
   only_said (outcome.Settled f) (inr h) = absurd (not_dropped (outcome.Settled f) h)
   only_said (outcome.Parted u f) h = refl
-  only_said outcome.NotFound (p, is, h) = absurd (no_get p is)
-  only_said (outcome.Failed kind) h = absurd (no_attempt (outcome.Failed kind) h)
-  only_said outcome.Canceled h = absurd (no_attempt outcome.Canceled h)
-  only_said outcome.Queued (inl (l, request, is, h)) = absurd (no_ask l request is)
-  only_said outcome.Queued (inr h) = absurd (no_move h)
-  only_said outcome.InLine (l, request, is, h) = absurd (no_ask l request is)
-  only_said (outcome.Refused cause) (inl (l, request, is, h)) = absurd (no_ask l request is)
-  only_said (outcome.Refused cause) (inr h) = absurd (no_act (DrawsNone cause) (no_draw cause v) h)
-  only_said (outcome.Replied r) h = absurd (no_reply r h)
-  only_said outcome.TimedOut h = absurd (no_request outcome.TimedOut h)
-  only_said outcome.Disconnected (inl h) = absurd (no_request outcome.Disconnected h)
-  only_said outcome.Disconnected (inr (inl h)) = absurd (no_line outcome.Disconnected h)
-  only_said outcome.Disconnected (inr (inr h)) = absurd (no_act IsUnknown (λ x. x) h)
-  only_said outcome.Woken h = absurd (no_wake h)
-  only_said outcome.Cut h = absurd (no_request outcome.Cut h)
   only_said outcome.Stopped h = refl
+  only_said u h = no_more u refl h
 
 step_mute : (o : Options) (t : ℕ) (P : Entry → List Entry → Type 0) (log : List Entry) → IsRun o log → Mute t log → InThisStep P log →
     InThisStep (λ e older. IsRun o older × IsRun o (e ∷ older) × Mute t (e ∷ older) × P e older) log

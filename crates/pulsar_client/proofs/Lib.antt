@@ -14,6 +14,7 @@ pub mod Waiting
 pub mod Saying
 pub mod Steps
 pub mod Sorting
+pub mod Ranking
 pub mod Acts
 pub mod Quiet
 pub mod Left

@@ -50,7 +50,7 @@ none_some {A} {x} h = cc
 
 abbrev is_plain : Procedure → Bool
 is_plain (procedure.Send w e (Some s) m) = false
-is_plain (procedure.Store n (Some s) e) = false
+is_plain (procedure.Store n share e) = false
 is_plain (procedure.Batch w e) = false
 is_plain (procedure.FailShare s r) = false
 is_plain (procedure.Gather first count) = false
@@ -65,17 +65,25 @@ plain_batches : (p : Procedure) → is_plain p ≡ true → is_batches p ≡ fal
 plain_batches (procedure.Batch w e) h = absurd cc
 plain_batches _ h = refl
 
+abbrev pub is_store : Procedure → Bool
+is_store (procedure.Store n share e) = true
+is_store _ = false
+
+plain_store : (p : Procedure) → is_plain p ≡ true → is_store p ≡ false
+plain_store (procedure.Store n share e) h = absurd cc
+plain_store _ h = refl
+
 -- of a call that has so many parts, and drew this ticket
 pub record IsOf (d c : ℕ) (u : ℕ) (p : Procedure) : Type 0 where
   pub share : (s : Share) → share_in p ≡ Some s → (s.ticket ≡ u) × (s.of ≡ d) × (d < u) × (u < d + 1 + c)
   pub gather : (first count : ℕ) → p ≡ procedure.Gather first count → (first ≡ u + 1) × (count ≡ c) × (u ≡ d)
+  pub stored : is_store p ≡ true → ((u ≡ d) × (c ≡ 0)) ⊎ ((d < u) × (u < d + 1 + c))
   pub call : is_batches p ≡ false
 
 plain_share : (p : Procedure) → is_plain p ≡ true → share_in p ≡ None
 plain_share (procedure.Send w e None m) h = refl
 plain_share (procedure.Send w e (Some s) m) h = absurd cc
-plain_share (procedure.Store n None e) h = refl
-plain_share (procedure.Store n (Some s) e) h = absurd cc
+plain_share (procedure.Store n share e) h = absurd cc
 plain_share (procedure.FailShare s r) h = absurd cc
 plain_share _ h = refl
 
@@ -83,7 +91,17 @@ plain_of : (d c u : ℕ) (p : Procedure) → is_plain p ≡ true → IsOf d c u 
 plain_of d c u p h = record {
   share = λ s e. absurd (none_some (sym (plain_share p h) ∙ e));
   gather = λ first count e. (let f : true ≡ false = sym h ∙ ap is_plain e in absurd cc);
+  stored = λ e. (let f : false ≡ true = sym (plain_store p h) ∙ e in absurd cc);
   call = plain_batches p h;
+}
+
+-- a message that is stored by itself is no part, and has none
+lone_store : (d c u n : ℕ) (e : EntryValues) → u ≡ d → c ≡ 0 → IsOf d c u (procedure.Store n None e)
+lone_store d c u n e same none = record {
+  share = λ s h. absurd (none_some h);
+  gather = λ first count h. (let f : true ≡ false = ap is_store h in absurd cc);
+  stored = λ h. inl (same, none);
+  call = refl;
 }
 
 either_of : (d c u : ℕ) (b : Bool) (p q : Procedure) → IsOf d c u p → IsOf d c u q → IsOf d c u (cond b p q)
@@ -108,15 +126,15 @@ module _ (d c u : ℕ) where
   produce_of None (Some t) x = plain_of d c u (procedure.Refuse refusal.NoAddress) refl
   produce_of (Some w) (Some t) x = plain_of d c u (procedure.Produce w _) refl
 
-  stores_of : (n : ℕ) (r : Option EntryValues) → IsOf d c u (stores_as n None r)
-  stores_of n None = plain_of d c u (procedure.Refuse refusal.TooLarge) refl
-  stores_of n (Some e) = plain_of d c u (procedure.Store n None e) refl
+  stores_of : (n : ℕ) (r : Option EntryValues) → u ≡ d → c ≡ 0 → IsOf d c u (stores_as n None r)
+  stores_of n None same none = plain_of d c u (procedure.Refuse refusal.TooLarge) refl
+  stores_of n (Some e) same none = lone_store d c u n e same none
 
-  send_of : (b : Bool) (m : ProducerMessageValues) (w : Option Ways) (e : Option Errand) → IsOf d c u (sends_by b None m w e)
-  send_of b m w None = plain_of d c u (procedure.Refuse refusal.NoPartition) refl
-  send_of b m None (Some e) = plain_of d c u (procedure.Refuse refusal.NoAddress) refl
-  send_of b m (Some w) (Some e) =
-      either_of d c u b (stores_as e.producer None (entry_of m)) (procedure.Send w e None m) (stores_of e.producer (entry_of m))
+  send_of : (b : Bool) (m : ProducerMessageValues) (w : Option Ways) (e : Option Errand) → u ≡ d → c ≡ 0 → IsOf d c u (sends_by b None m w e)
+  send_of b m w None same none = plain_of d c u (procedure.Refuse refusal.NoPartition) refl
+  send_of b m None (Some e) same none = plain_of d c u (procedure.Refuse refusal.NoAddress) refl
+  send_of b m (Some w) (Some e) same none =
+      either_of d c u b (stores_as e.producer None (entry_of m)) (procedure.Send w e None m) (stores_of e.producer (entry_of m) same none)
       (plain_of d c u (procedure.Send w e None m) refl)
 
   may_of : (b : Bool) (p : Procedure) → IsOf d c u p → IsOf d c u (unless_refused b p)
@@ -138,6 +156,7 @@ part_is d c u s p h g a b x y = record {
       let q : s ≡ r = cc in
       (sym (ap (λ z. z.ticket) q) ∙ a, sym (ap (λ z. z.of) q) ∙ b, x, y));
   gather = λ first count e. (let f : true ≡ false = sym (ap is_gather e) ∙ g in absurd cc);
+  stored = λ e. inr (x, y);
   call = no_batches p g;
 }
 
@@ -182,6 +201,7 @@ gathers_of d u c ms e f = record {
   share = λ s h. absurd (none_some h);
   gather = λ first count h.
       (let x : d + 1 ≡ first = cc in let y : length ms ≡ count = cc in (sym x ∙ ap (λ z. z + 1) (sym e), sym y ∙ sym f, e));
+  stored = λ h. (let g : false ≡ true = h in absurd cc);
   call = refl;
 }
 
@@ -212,7 +232,7 @@ head_of v advised (content.Producer wanted) =
 head_of v advised (content.Send t m) =
     may_of v.calls.drawn 0 v.calls.drawn (may_call v.calls) (sends v.chosen v.producers (next_advice advised) t m)
     (unless_of v.calls.drawn 0 v.calls.drawn (why_not v.producers t) (sends_as v.chosen v.producers None (next_advice advised) t m)
-    (send_of v.calls.drawn 0 v.calls.drawn (batches_in (v.producers.built t)) m (ways_of v.chosen) (errand_of (next_advice advised) m (v.producers.built t))))
+    (send_of v.calls.drawn 0 v.calls.drawn (batches_in (v.producers.built t)) m (ways_of v.chosen) (errand_of (next_advice advised) m (v.producers.built t)) refl refl))
 head_of v advised (content.SendAll t ms) =
     may_of v.calls.drawn (length ms) v.calls.drawn (may_call v.calls) (gathers v.calls v.producers t ms)
     (unless_of v.calls.drawn (length ms) v.calls.drawn (why_not v.producers t) (procedure.Gather (v.calls.drawn + 1) (length ms))
@@ -256,7 +276,7 @@ parts_at o d (Then (Comes (Calls asked advised)) ∷ log) =
 parts_at o d (_ ∷ log) = parts_at o d log
 
 abbrev IsMade : Options → List Entry → Type 0
-IsMade o log = (d c : ℕ) → parts_at o d log ≡ Some c → d < (view o log).calls.drawn
+IsMade o log = (d c : ℕ) → parts_at o d log ≡ Some c → d + 1 + c ≤ (view o log).calls.drawn
 
 made_then : (o : Options) (log : List Entry) (a : Act) → IsMade o log → IsMade o (Then a ∷ log)
 made_then o log (Comes (Calls asked advised)) k d c h = elim (cases_Bool (lacks_tickets (view o log).calls.drawn (shares asked))) [
@@ -264,17 +284,21 @@ made_then o log (Comes (Calls asked advised)) k d c h = elim (cases_Bool (lacks_
   | inr e ↦ (let g : cond ((view o log).calls.drawn == d) (Some (shares asked)) (parts_at o d log) ≡ Some c = rw e at h in rw e (by g))
 ]
   where
-    by : cond ((view o log).calls.drawn == d) (Some (shares asked)) (parts_at o d log) ≡ Some c → d < (view o log).calls.drawn + 1 + shares asked
+    by : cond ((view o log).calls.drawn == d) (Some (shares asked)) (parts_at o d log) ≡ Some c → d + 1 + c ≤ (view o log).calls.drawn + 1 + shares asked
     by g = elim (cases_Bool ((view o log).calls.drawn == d)) [
-      | inl q ↦ (let same : (view o log).calls.drawn ≡ d = eqb-true (view o log).calls.drawn d q in omega (arith, same))
-      | inr q ↦ (let lt : d < (view o log).calls.drawn = k d c (rw q at g) in omega (arith, lt))
+      | inl q ↦
+          (let same : (view o log).calls.drawn ≡ d = eqb-true (view o log).calls.drawn d q in
+          let f : Some (shares asked) ≡ Some c = rw q at g in
+          let as_many : shares asked ≡ c = cc in
+          omega (arith, same, as_many))
+      | inr q ↦ (let lt : d + 1 + c ≤ (view o log).calls.drawn = k d c (rw q at g) in omega (arith, lt))
     ]
 made_then o log (Comes p) k d c h = k d c h
 made_then o log a k d c h = k d c h
 
 made_run : (o : Options) (log : List Entry) → IsMade o log
 made_run o [] d c h = absurd (none_some h)
-made_run o (Begins e ∷ log) d c h = subst (λ n. d < n) (sym (begun_same (λ v. v.calls.drawn) e (view o log) refl)) (made_run o log d c h)
+made_run o (Begins e ∷ log) d c h = subst (λ n. d + 1 + c ≤ n) (sym (begun_same (λ v. v.calls.drawn) e (view o log) refl)) (made_run o log d c h)
 made_run o (Then a ∷ log) d c h = made_then o log a (made_run o log) d c h
 
 -- that stays so
@@ -283,7 +307,8 @@ parts_more o log (Begins e) d c h = h
 parts_more o log (Then (Comes (Calls asked advised))) d c h = elim (cases_Bool (lacks_tickets (view o log).calls.drawn (shares asked))) [
   | inl e ↦ rw e h
   | inr e ↦
-      (let lt : d < (view o log).calls.drawn = made_run o log d c h in
+      (let below : d + 1 + c ≤ (view o log).calls.drawn = made_run o log d c h in
+      let lt : d < (view o log).calls.drawn = omega (arith, below) in
       let q : ((view o log).calls.drawn == d) ≡ false = grind (arith, nat_tests) in
       rw e (rw q h))
 ]
@@ -294,17 +319,52 @@ pub parts_behind : (o : Options) (newer older : List Entry) (d c : ℕ) → part
 parts_behind o [] older d c h = h
 parts_behind o (e ∷ newer) older d c h = parts_more o (newer ++ older) e d c (parts_behind o newer older d c h)
 
+-- no other call was made among the parts of one
+pub parts_apart : (o : Options) (log : List Entry) (d c u e : ℕ) → parts_at o d log ≡ Some c → parts_at o u log ≡ Some e → d < u → u < d + 1 + c → ⊥
+parts_apart o [] d c u e h k lo hi = none_some h
+parts_apart o (Begins x ∷ log) d c u e h k lo hi = parts_apart o log d c u e h k lo hi
+parts_apart o (Then (Comes (Calls asked advised)) ∷ log) d c u e h k lo hi =
+    elim (cases_Bool (lacks_tickets (view o log).calls.drawn (shares asked))) [
+      | inl b ↦ parts_apart o log d c u e (rw b at h) (rw b at k) lo hi
+      | inr b ↦ made (rw b at h) (rw b at k) (λ x y. parts_apart o log d c u e x y lo hi)
+    ]
+  where
+    made : cond ((view o log).calls.drawn == d) (Some (shares asked)) (parts_at o d log) ≡ Some c →
+        cond ((view o log).calls.drawn == u) (Some (shares asked)) (parts_at o u log) ≡ Some e →
+        (parts_at o d log ≡ Some c → parts_at o u log ≡ Some e → ⊥) → ⊥
+    made f g rest = elim (cases_Bool ((view o log).calls.drawn == d)) [
+      | inl p ↦
+          (let same : (view o log).calls.drawn ≡ d = eqb-true (view o log).calls.drawn d p in
+          let q : ((view o log).calls.drawn == u) ≡ false = grind (arith, nat_tests) in
+          let below : u + 1 + e ≤ (view o log).calls.drawn = made_run o log u e (rw q at g) in
+          omega (arith, same, below, lo))
+      | inr p ↦ elim (cases_Bool ((view o log).calls.drawn == u)) [
+        | inl q ↦
+            (let same : (view o log).calls.drawn ≡ u = eqb-true (view o log).calls.drawn u q in
+            let below : d + 1 + c ≤ (view o log).calls.drawn = made_run o log d c (rw p at f) in
+            omega (arith, same, below, hi))
+        | inr q ↦ rest (rw p at f) (rw q at g)
+      ]
+    ]
+parts_apart o (Then (Comes p) ∷ log) d c u e h k lo hi = parts_apart o log d c u e h k lo hi
+parts_apart o (Then a ∷ log) d c u e h k lo hi = parts_apart o log d c u e h k lo hi
+
 -- WHO STARTED
 
 pub record IsPart (o : Options) (log : List Entry) (u : ℕ) (p : Procedure) : Type 0 where
   pub share : (s : Share) → share_in p ≡ Some s → (s.ticket ≡ u) × (c : ℕ) × (parts_at o s.of log ≡ Some c) × (s.of < u) × (u < s.of + 1 + c)
   pub gather : (first count : ℕ) → p ≡ procedure.Gather first count → (first ≡ u + 1) × (parts_at o u log ≡ Some count)
+  pub stored : is_store p ≡ true → (parts_at o u log ≡ Some 0) ⊎ ((d c : ℕ) × (parts_at o d log ≡ Some c) × (d < u) × (u < d + 1 + c))
   pub call : is_batches p ≡ false
 
 part_more : (o : Options) (log : List Entry) (e : Entry) (u : ℕ) (p : Procedure) → IsPart o log u p → IsPart o (e ∷ log) u p
 part_more o log e u p k = record {
   share = λ s h. (let x = k.share s h in (x.0, x.1, parts_more o log e s.of x.1 x.2, x.3, x.4));
   gather = λ first count h. (let x = k.gather first count h in (x.0, parts_more o log e u count x.1));
+  stored = λ h. elim (k.stored h) [
+    | inl x ↦ inl (parts_more o log e u 0 x)
+    | inr x ↦ inr (x.0, x.1, parts_more o log e x.0 x.1 x.2, x.3, x.4)
+  ];
   call = k.call;
 }
 
@@ -349,6 +409,10 @@ starts_part o log u p run =
         subst (λ y. u < y + 1 + shares asked) (sym x.1) x.3,
       ));
       gather = λ first count h. (let x = of.gather first count h in (x.0, ap (λ y. parts_at o y log) x.2 ∙ now ∙ ap Some (sym x.1)));
+      stored = λ h. elim (of.stored h) [
+        | inl x ↦ inl (ap (λ y. parts_at o y log) x.0 ∙ now ∙ ap Some x.1)
+        | inr x ↦ inr (d, shares asked, now, x.0, x.1)
+      ];
       call = of.call;
     }
 

@@ -296,7 +296,7 @@ none_begun (procedure.Batch v f) q h k = absurd cc
 none_begun p (Batching w e b) h k = absurd cc
 none_begun p q h k = refl
 
--- TICKETS THAT ARE SO: those of all that was done at a topic producer
+-- TICKETS THAT ARE SO: those of all that was done at a topic producer. Those of turns are so, and those of what is stored.
 
 each_insert : (P : ℕ → Type 0) (k : ℕ) (xs : List ℕ) → P k → Each P xs → Each P (insert_key nat_cmp xs k)
 each_insert P k [] p ps = (p, tt)
@@ -312,10 +312,10 @@ each_in P x [] i k = absurd i
 each_in P x (y ∷ xs) (inl e) k = subst P (sym e) k.0
 each_in P x (y ∷ xs) (inr i) k = each_in P x xs i k.1
 
-module _ (P : ℕ → Type 0) where
+module _ (T P : ℕ → Type 0) where
   -- what is done to one
   abbrev pub ActSo : TopicAct → Type 0
-  ActSo (topic.Takes t) = P t
+  ActSo (topic.Takes t) = T t
   ActSo (topic.Stores t e) = P t
   ActSo (topic.Flushes t) = P t
   ActSo _ = Unit {0}
@@ -325,17 +325,17 @@ module _ (P : ℕ → Type 0) where
 
   -- what is seen of it
   abbrev pub SeenSo : Seen → Type 0
-  SeenSo v = Each P v.waiting × Each ItemSo v.storage.items × Each (Each ItemSo) v.cut
+  SeenSo v = Each T v.waiting × Each ItemSo v.storage.items × Each (Each ItemSo) v.cut
 
   either_seen : (b : Bool) (v w : Seen) → SeenSo v → SeenSo w → SeenSo (cond b v w)
   either_seen true v w p q = p
   either_seen false v w p q = q
 
-  takes_so : (t : ℕ) (holder : Option ℕ) (v : Seen) → P t → SeenSo v → SeenSo (topic.takes_in holder t v)
+  takes_so : (t : ℕ) (holder : Option ℕ) (v : Seen) → T t → SeenSo v → SeenSo (topic.takes_in holder t v)
   takes_so t None v p k = k
-  takes_so t (Some other) v p k = (each_insert P t v.waiting p k.0, k.1, k.2)
+  takes_so t (Some other) v p k = (each_insert T t v.waiting p k.0, k.1, k.2)
 
-  rest_so : (ts : List ℕ) → Each P ts → Each P (topic.rest_of ts)
+  rest_so : (ts : List ℕ) → Each T ts → Each T (topic.rest_of ts)
   rest_so [] k = tt
   rest_so (t ∷ ts) k = k.1
 
@@ -510,7 +510,7 @@ module _ (P : ℕ → Type 0) where
   -- ALONG A LOG in which whoever uses a topic producer is so
 
   abbrev pub DoesSo : Act → Type 0
-  DoesSo (Does who (TakeTurn n)) = P (turn_of who)
+  DoesSo (Does who (TakeTurn n)) = T (turn_of who)
   DoesSo (Does who (Store n e)) = P (turn_of who)
   DoesSo (Does who (Flush n)) = P (turn_of who)
   DoesSo _ = Unit {0}
@@ -636,8 +636,8 @@ module _ (P : ℕ → Type 0) where
 
   -- who waits there, and who has stored something
   pub waits_so : (o : Options) (n t : ℕ) (log : List Entry) (row : Topic) → IsRun o log → LogSo log → (view o log).producers.topics n ≡ Some row →
-      In t row.seen.waiting → P t
-  waits_so o n t log row run k is i = each_in P t row.seen.waiting i (row_so o n log row run k is).0
+      In t row.seen.waiting → T t
+  waits_so o n t log row run k is i = each_in T t row.seen.waiting i (row_so o n log row run k is).0
 
   items_tickets : (xs : List Item) → Each ItemSo xs → Each P (map ticket_of xs)
   items_tickets [] k = tt

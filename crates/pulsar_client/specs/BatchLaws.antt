@@ -7,7 +7,7 @@ use Rattle.pulsar_wire.specs.Rows.{send_receipt}
 use Rattle.pulsar_wire.specs.declared.key.RequestKey.TheVariants as key
 use Rattle.pulsar_messages.specs.Content.{ProducerMessageValues}
 use Rattle.pulsar_messages.specs.Words as words
-use Rattle.pulsar_session.specs.Failures.{Failure}
+use Rattle.pulsar_session.specs.Failures.{Failure, Shutdown}
 use Rattle.pulsar_link.specs.Messages.{Reply, is_body}
 use Rattle.pulsar_producer.specs.Batch.{batch_of, cut_report, entries_in, entry_of, failed, member_of, receipt_fate, reports}
 use Rattle.pulsar_producer.specs.BatchLaws.{items_of, joined, taken_of}
@@ -35,8 +35,8 @@ use Rattle.pulsar_client.specs.declared.plans.plan.Plan.{Plan}
 use Rattle.pulsar_client.specs.declared.plans.plan.Plan.TheVariants as plan
 use Rattle.pulsar_client.specs.declared.producers.Topic.{Topic}
 use Rattle.pulsar_client.specs.Content.{Asked, Failed, Receipt, sent_by}
-use Rattle.pulsar_client.specs.Laws.{AreActs, started}
-use Rattle.pulsar_client.specs.Plan.{closed_notice, overrides, told_to, verdict}
+use Rattle.pulsar_client.specs.Laws.{AreActs, IsDropped, started}
+use Rattle.pulsar_client.specs.Plan.{closed_notice, fails, overrides, told_to, verdict}
 use Rattle.pulsar_client.specs.ProducerLaws.{acts_on, asks_in, is_queued}
 use Rattle.pulsar_client.specs.Producers.{is_bare, next_batch_at, numbers_at, stored_at}
 use Rattle.pulsar_client.specs.Rules.{call_part, notice, ready_notice}
@@ -147,18 +147,25 @@ StoredAtOnce = (o : Options) (log : List Entry) (t n : ℕ) (x : EntryValues) �
     (share : Option Share) × (older : List Entry) × (log ≡ Then (Starts (Call t) (procedure.Store n share x)) ∷ older)
     × InThisStep (BringsEntry o x) older
 
--- a topic producer tells a call the receipt of its message, with all who are in the batch (MembersAreTold)
-abbrev pub TellsReceipt : (ticket : ℕ) → Values send_receipt → Entry → List Entry → Type 0
-TellsReceipt t r e older =
-    (n : ℕ) × (ns : List Notice) × (e ≡ Then (Does (Producer n) (TellAll ns))) × In (notice (Call t) (outcome.Settled (Ok r))) ns
+-- a topic producer tells a call what became of its message, with all who are in the batch (MembersAreTold)
+abbrev pub TellsFate : (ticket : ℕ) → Result (Values send_receipt) Failure → Entry → List Entry → Type 0
+TellsFate t f e older =
+    (n : ℕ) × (ns : List Notice) × (e ≡ Then (Does (Producer n) (TellAll ns))) × In (notice (Call t) (outcome.Settled f)) ns
 
--- The call of a message that is stored fails, or it ends with the receipt that it is told of its batch.
+-- which is the receipt, or why it failed
+abbrev pub ends_with : Result (Values send_receipt) Failure → Verdict
+ends_with (Ok r) = verdict Nothing (Receipt (spelling send_receipt r))
+ends_with (Err f) = verdict Nothing (Failed f)
+
+-- The call of a message that is stored ends right behind what it is told: what became of its message, in the step in which its topic producer says
+-- so, or in which its producer is closed; or that the client is stopped. It ends by nothing else.
 abbrev pub StoredEndsByItsBatch : Type 0
 StoredEndsByItsBatch = (o : Options) (log : List Entry) (t n : ℕ) (share : Option Share) (x : EntryValues) (v : Verdict) →
     IsRun o (Then (Answers (Call t) v) ∷ log) → started (Call t) log ≡ Some (procedure.Store n share x) →
-    ((f : Failure) × (v ≡ verdict Nothing (Failed f)))
-    ⊎ ((r : Values send_receipt) × (older : List Entry) × (v ≡ verdict Nothing (Receipt (spelling send_receipt r)))
-    × (log ≡ Then (Told (notice (Call t) (outcome.Settled (Ok r)))) ∷ older) × InThisStep (TellsReceipt t r) older)
+    (u : Outcome) × (older : List Entry) × (log ≡ Then (Told (notice (Call t) u)) ∷ older)
+    × (((f : Result (Values send_receipt) Failure) × (u ≡ outcome.Settled f) × (v ≡ ends_with f)
+    × InThisStep (λ e behind. TellsFate t f e behind ⊎ IsDropped o (Call t) (outcome.Settled f) e behind) older)
+    ⊎ ((u ≡ outcome.Stopped) × (v ≡ fails Shutdown)))
 
 -- FLUSHES
 

@@ -100,7 +100,7 @@ unset_view v =
 -- WHAT IS LEFT TO DO
 
 abbrev pub agenda_of : Tasks → Agenda
-agenda_of t = record { now = t.now.items; here = t.here.items; behind = map (λ cause. cause.items) t.behind.items; parts = t.parts.items }
+agenda_of t = record { now = t.now.items; here = t.here; behind = t.behind.items; parts = t.parts.items }
 
 -- HISTORIES
 

@@ -1,16 +1,14 @@
 //! What is left to do in a step.
 
-ghost use Rattle.std.specs.Prelude.{◌≡◌, ◌≤◌, ◌++◌, ◌∷◌, [], drop, map, take, IfOk, OnOk};
-ghost use Rattle.std.specs.VecDeque.{deque_len};
+ghost use Rattle.std.specs.Prelude.{◌≡◌, ◌++◌, ◌∷◌, [], map, OnOk};
 ghost use Rattle.pulsar_run.specs.Order.{arranged, put};
 ghost use Rattle.pulsar_run.specs.Run.{only};
 ghost use Rattle.pulsar_client.specs.Rules.{alone, below, opens};
 ghost use Rattle.pulsar_client.specs.Run.{first, first_of, rest, rest_of};
 ghost use Rattle.pulsar_client.specs.Tables.{agenda_of};
-ghost use Rattle.pulsar_client.specs.declared.act.Notice.{Notice as Meant};
 
-use crate::act::{Act, Notice, Part, Who};
-use crate::who::{is_before, rank};
+use crate::act::{Act, Notice, Part};
+use crate::queue::Queue;
 use pulsar_wire::error::NoMemory;
 use std::alloc::Global;
 use std::collections::VecDeque;
@@ -20,8 +18,8 @@ use std::collections::VecDeque;
 pub struct Tasks {
     pub alloc: Global,
     pub now: VecDeque<Act>,
-    pub here: VecDeque<Notice>,
-    pub behind: VecDeque<VecDeque<Notice>>,
+    pub here: Queue,
+    pub behind: VecDeque<Queue>,
     pub parts: VecDeque<Part>,
 }
 
@@ -32,7 +30,7 @@ impl Tasks {
         Tasks {
             alloc,
             now: VecDeque::new(alloc),
-            here: VecDeque::new(alloc),
+            here: Queue::new(alloc),
             behind: VecDeque::new(alloc),
             parts,
         }
@@ -47,7 +45,7 @@ impl Tasks {
             return Some(act);
         }
         self.turn_to_next();
-        match self.here.pop_front() {
+        match self.here.next() {
             Some(notice) => Some(Act::Told(notice)),
             None => match self.parts.pop_front() {
                 Some(part) => Some(Act::Comes(part)),
@@ -60,9 +58,9 @@ impl Tasks {
     fn turn_to_next(&mut self)
         ensures now { self.new.now ≡ self.old.now }
         ensures parts { self.new.parts ≡ self.old.parts }
-        ensures first { first_of [] self.new.here.items (map (λ c. c.items) self.new.behind.items) self.new.parts.items ≡ first_of [] self.old.here.items (map (λ c. c.items) self.old.behind.items) self.old.parts.items }
-        ensures rest { rest_of [] self.new.here.items (map (λ c. c.items) self.new.behind.items) self.new.parts.items ≡ rest_of [] self.old.here.items (map (λ c. c.items) self.old.behind.items) self.old.parts.items }
-        ensures none { self.new.here.items ≡ [] → self.new.behind.items ≡ [] }
+        ensures first { first_of [] self.new.here self.new.behind.items self.new.parts.items ≡ first_of [] self.old.here self.old.behind.items self.old.parts.items }
+        ensures rest { rest_of [] self.new.here self.new.behind.items self.new.parts.items ≡ rest_of [] self.old.here self.old.behind.items self.old.parts.items }
+        ensures none { self.new.here ≡ [] → self.new.behind.items ≡ [] }
     {
         while self.here.is_empty() {
             match self.behind.pop_front() {
@@ -92,11 +90,9 @@ impl Tasks {
 
     /// This one joins those whom the present cause still serves, by rank: behind those that rank as high.
     pub fn join(&mut self, notice: Notice) -> Result<(), NoMemory>
-        ensures { OnOk result (agenda_of self.new ≡ record (agenda_of self.old) { here = put below notice self.old.here.items }) }
+        ensures { OnOk result (agenda_of self.new ≡ record (agenda_of self.old) { here = put below notice self.old.here }) }
     {
-        let place = place_in(&self.here, notice.who);
-        self.here.insert(place, notice)?;
-        Ok(())
+        self.here.join(notice)
     }
 
     /// This part comes before the others.
@@ -112,9 +108,7 @@ impl Tasks {
         ensures { OnOk result (agenda_of self.new ≡ record (agenda_of self.old) { behind = (agenda_of self.old).behind ++ map (arranged below) (map alone notices.items) }) }
     {
         for notice in notices {
-            let mut cause = VecDeque::new(self.alloc);
-            cause.push_back(notice)?;
-            self.behind.push_back(cause)?;
+            self.behind.push_back(Queue::of_one(self.alloc, notice)?)?;
         }
         Ok(())
     }
@@ -126,40 +120,7 @@ impl Tasks {
         if notices.is_empty() {
             return Ok(());
         }
-        let cause = ranked(self.alloc, notices)?;
-        self.behind.push_back(cause)?;
+        self.behind.push_back(Queue::ranked(self.alloc, notices)?)?;
         Ok(())
     }
-}
-
-/// How many of those whom a cause serves come before this one.
-fn place_in(here: &VecDeque<Notice>, who: Who) -> usize
-    ensures within { result ≤ deque_len here.now }
-    ensures put { (n : Meant) → n.who ≡ who → put below n here.now.items ≡ take result here.now.items ++ n ∷ drop result here.now.items }
-{
-    for place in 0..here.len() {
-        if is_before(who, here[place].who) {
-            return place;
-        }
-    }
-    here.len()
-}
-
-/// Those whom a cause serves, by rank.
-fn ranked(alloc: Global, mut notices: Vec<Notice>) -> Result<VecDeque<Notice>, NoMemory>
-    ensures { IfOk result (λ cause. cause.items ≡ arranged below notices.items) }
-{
-    sort(&mut notices)?;
-    let mut cause = VecDeque::new(alloc);
-    for notice in notices {
-        cause.push_back(notice)?;
-    }
-    Ok(cause)
-}
-
-fn sort(notices: &mut Vec<Notice>) -> Result<(), NoMemory>
-    ensures { OnOk result (notices.new.items ≡ arranged below notices.old.items) }
-{
-    notices.sort_by_key(|n| rank(n.who))?;
-    Ok(())
 }

@@ -24,6 +24,7 @@ mod plans;
 pub mod producer_laws;
 mod producers;
 pub mod pulsar;
+mod queue;
 mod row;
 mod settings;
 mod tables;

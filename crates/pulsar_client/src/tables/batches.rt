@@ -215,7 +215,7 @@ fn readied(alloc: Global, number: u64, is_ready: bool) -> Result<Vec<Notice>, No
 }
 
 fn join_ready(alloc: Global, number: u64, is_ready: bool, tasks: &mut Tasks) -> Result<(), NoMemory>
-    ensures { OnOk result (agenda_of tasks.new ≡ record (agenda_of tasks.old) { here = put_all below (if is_ready then ready_notice number ∷ [] else []) tasks.old.here.items }) }
+    ensures { OnOk result (agenda_of tasks.new ≡ record (agenda_of tasks.old) { here = put_all below (if is_ready then ready_notice number ∷ [] else []) tasks.old.here }) }
 {
     if is_ready {
         tasks.join(ready(alloc, number)?)
@@ -230,7 +230,7 @@ pub(super) fn join_closed(
     tickets: Vec<u64>,
     tasks: &mut Tasks,
 ) -> Result<(), NoMemory>
-    ensures { OnOk result (agenda_of tasks.new ≡ record (agenda_of tasks.old) { here = put_all below (map closed_notice tickets.items) tasks.old.here.items }) }
+    ensures { OnOk result (agenda_of tasks.new ≡ record (agenda_of tasks.old) { here = put_all below (map closed_notice tickets.items) tasks.old.here }) }
 {
     for ticket in tickets {
         tasks.join(closed(alloc, ticket)?)?;

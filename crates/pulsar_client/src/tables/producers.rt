@@ -217,7 +217,7 @@ fn join_next(
     next: Option<(u64, Option<Version>)>,
     tasks: &mut Tasks,
 ) -> Result<(), NoMemory>
-    ensures { OnOk result (agenda_of tasks.new ≡ record (agenda_of tasks.old) { here = put_all below (option_to_list (option_map (turn_notice number) next)) tasks.old.here.items }) }
+    ensures { OnOk result (agenda_of tasks.new ≡ record (agenda_of tasks.old) { here = put_all below (option_to_list (option_map (turn_notice number) next)) tasks.old.here }) }
 {
     let Some((turn, version)) = next else {
         return Ok(());

@@ -11,20 +11,17 @@ alone_more ns n = ap (map (arranged below)) (map-append alone ns (n ∷ [])) ∙
 
 pub loop-notice-preserved : goal.loop-notice-preserved
 loop-notice-preserved c =
-    let before = c.loop-notice.self.behind.items in
-    let cause = c.push_back.new.self in
-    let old = map (λ x. x.items) c.args.self.now.behind.items in
+    let cause = c.in_ok-of_one.field-0 in
+    let old = c.args.self.now.behind.items in
     let done = map (arranged below) (map alone c.loop-notice.yielded) in
-    let is : cause.items ≡ c.in-Some.notice ∷ [] = c.in_ok-push_back.ensures.items ∙ ap (λ xs. xs ++ c.in-Some.notice ∷ []) c.new-cause.ensures.items in
     record {
       now = c.loop-notice.invariant.now;
       here = c.loop-notice.invariant.here;
       behind =
-          ap (map (λ x. x.items)) c.in_ok-push_back-2.ensures.items
-          ∙ map-append (λ x. x.items) before (cause ∷ [])
-          ∙ ap (λ xs. xs ++ cause.items ∷ []) c.loop-notice.invariant.behind
-          ∙ append_assoc old done (cause.items ∷ [])
-          ∙ ap (λ xs. old ++ (done ++ xs ∷ [])) is
+          c.in_ok-push_back.ensures.items
+          ∙ ap (λ xs. xs ++ cause ∷ []) c.loop-notice.invariant.behind
+          ∙ append_assoc old done (cause ∷ [])
+          ∙ ap (λ xs. old ++ (done ++ xs ∷ [])) c.in_ok-of_one.ensures
           ∙ sym (ap (λ xs. old ++ xs) (alone_more c.loop-notice.yielded c.in-Some.notice));
       parts = c.loop-notice.invariant.parts;
     }

@@ -7,6 +7,6 @@ abbrev pub invariant-loop-notice : goal.invariant-loop-notice
 invariant-loop-notice l = record {
   now : l.self.now ≡ l.fn.self.now;
   here : l.self.here ≡ l.fn.self.here;
-  behind : map (λ c. c.items) l.self.behind.items ≡ map (λ c. c.items) l.fn.self.behind.items ++ map (arranged below) (map alone l.yielded);
+  behind : l.self.behind.items ≡ l.fn.self.behind.items ++ map (arranged below) (map alone l.yielded);
   parts : l.self.parts ≡ l.fn.self.parts;
 }

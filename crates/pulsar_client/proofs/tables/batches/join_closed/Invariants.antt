@@ -7,4 +7,4 @@ use Rattle.pulsar_client.proofs.tables.batches.join_closed.Given as goal
 
 abbrev pub invariant-loop-ticket : goal.invariant-loop-ticket
 invariant-loop-ticket l =
-    agenda_of l.tasks ≡ record (agenda_of l.fn.tasks) { here = put_all below (map closed_notice l.yielded) l.fn.tasks.here.items }
+    agenda_of l.tasks ≡ record (agenda_of l.fn.tasks) { here = put_all below (map closed_notice l.yielded) l.fn.tasks.here }

@@ -1,0 +1,8 @@
+pub mod Begun
+pub mod Counted
+pub mod Going
+pub mod Held
+pub mod Histories
+pub mod Items
+pub mod Permits
+pub mod Placing

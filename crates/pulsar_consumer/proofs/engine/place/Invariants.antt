@@ -1,0 +1,11 @@
+use Rattle.std.proofs.Common.{◌≡◌, ◌++◌, ◌-◌, length, take, drop}
+use Rattle.pulsar_consumer.proofs.engine.place.Given as goal
+
+abbrev pub invariant-items : goal.invariant-items
+invariant-items l = record {
+  unread : l.unread.items ++ take (l.queue - length l.unread.items) l.rest.items ≡ l.fn.unread.items ++ take (l.fn.queue - length l.fn.unread.items) l.fn.rest.items;
+  rest : drop (l.queue - length l.unread.items) l.rest.items ≡ drop (l.fn.queue - length l.fn.unread.items) l.fn.rest.items;
+}
+
+abbrev pub decreases-items : goal.decreases-items
+decreases-items l = length l.rest.items

@@ -1,0 +1,11 @@
+pub mod Content
+pub mod Frames
+pub mod Topic
+pub mod Consumer
+pub mod Commands
+pub mod Plans
+pub mod KeptFrame
+pub mod KeptLive
+pub mod KeptEngine
+pub mod Kept
+pub mod Laws

@@ -1,0 +1,115 @@
+-- The plans by which a consumer is made, and subscribed again: machines over what they are told. A line is a rule of the protocol.
+-- (Pulsar binary protocol, Topic lookup; Partitioned topics discovery; Consumer)
+use Rattle.std.specs.Prelude.{ℕ, List, [], ◌∷◌, codes, Option, Some, None, Result, Ok, Err}
+use Rattle.pulsar_session.specs.Failures.{Failure, OfConnection, OfConsumer, ConsumerBuild, Custom}
+use Rattle.pulsar_plans.specs.Address.{Place, Named}
+use Rattle.pulsar_plans.specs.Plans.{and_then, fault_of, look_begins, look_told, made_gets, made_told, names_begins, names_told}
+use Rattle.pulsar_plans.specs.declared.closing.Step.{Step}
+use Rattle.pulsar_plans.specs.declared.closing.Step.TheVariants.{Stays, Gives}
+use Rattle.pulsar_plans.specs.declared.look.Looking.{Looking}
+use Rattle.pulsar_plans.specs.declared.making.Command.{Command}
+use Rattle.pulsar_plans.specs.declared.making.Making.{Making}
+use Rattle.pulsar_plans.specs.declared.making.Served.{Served}
+use Rattle.pulsar_plans.specs.declared.names.Naming.{Naming}
+use Rattle.pulsar_plans.specs.declared.turn.Outcome.{Outcome}
+use Rattle.pulsar_plans.specs.declared.turn.Turn.{Turn}
+use Rattle.pulsar_plans.specs.declared.turn.Turn.TheVariants as turn
+use Rattle.pulsar_plans.specs.declared.turn.Ways.{Ways}
+use Rattle.pulsar_consumer.specs.Commands.{command}
+use Rattle.pulsar_consumer.specs.declared.building.Building.{Building}
+use Rattle.pulsar_consumer.specs.declared.building.Building.TheVariants as build
+use Rattle.pulsar_consumer.specs.declared.building.Built.{Built}
+use Rattle.pulsar_consumer.specs.declared.building.Deed.{Deed}
+use Rattle.pulsar_consumer.specs.declared.building.Deed.TheVariants.{Does, Numbers, Rests}
+use Rattle.pulsar_consumer.specs.declared.building.Found.{Found}
+use Rattle.pulsar_consumer.specs.declared.building.News.{News}
+use Rattle.pulsar_consumer.specs.declared.building.News.TheVariants.{Told, Numbered, InUse}
+use Rattle.pulsar_consumer.specs.declared.building.Order.{Order}
+use Rattle.pulsar_consumer.specs.declared.resuming.Resuming.{Resuming}
+use Rattle.pulsar_consumer.specs.declared.resuming.Resuming.TheVariants as resume
+
+-- A RESUBSCRIPTION: the broker of the topic is looked for, and the consumer subscribes there again. It gives the link.
+
+abbrev pub Resumes : Type 0
+Resumes = Turn Resuming (Result ℕ Failure)
+
+abbrev pub resume_makes : Turn Making (Result Served Failure) → Resumes
+resume_makes t = and_then t resume.Making (λ s. turn.Gives (Ok s.link))
+
+abbrev pub resume_looks : Turn Looking (Result Place Failure) → Resumes
+resume_looks t = and_then t resume.Looking (λ place. resume_makes (made_gets 0 place))
+
+abbrev pub resume_begins : Ways → Resumes
+resume_begins w = resume_looks (look_begins w)
+
+abbrev pub resume_told : Ways → Command → Resuming → Outcome → Resumes
+resume_told w c (resume.Looking l) o = resume_looks (look_told w c.topic l o)
+resume_told w c (resume.Making m) o = resume_makes (made_told w c m o)
+
+-- A BUILDING: the name of the topic is found, a number is drawn for it, and a subscription is made. A consumer of several names is not
+-- made.
+
+abbrev pub Builds : Type 0
+Builds = Step Building Deed (Result Built Failure)
+
+abbrev pub build_fails : Failure → Builds
+build_fails f = Gives (Err f)
+
+-- a plan within it; where that fails, so does the building
+abbrev pub build_then : {S A : Type 0} → Turn S (Result A Failure) → (S → Building) → (A → Builds) → Builds
+build_then (turn.Stays s action) within on = Stays (within s) (Does action)
+build_then (turn.Gives (Ok a)) within on = on a
+build_then (turn.Gives (Err f)) within on = build_fails f
+
+abbrev pub not_found : Failure
+not_found = Custom (codes "Unable to create consumer - topic not found")
+
+abbrev pub in_use : Failure
+in_use = OfConsumer ConsumerBuild
+
+-- the one name
+abbrev pub found : Found → Named
+found f = record { name = f.name; place = f.place }
+
+abbrev pub only : List Named → Option Named
+only [] = None
+only (n ∷ []) = Some n
+only (n ∷ m ∷ names) = None
+
+-- its number is the one that was asked for, where there is one
+abbrev pub build_numbers : Order → Option Named → Builds
+build_numbers o None = build_fails not_found
+build_numbers o (Some n) = Stays (build.Numbering n.name n.place) (Numbers o.config.consumer_id)
+
+abbrev pub build_names : Order → Turn Naming (Result (List Named) Failure) → Builds
+build_names o t = build_then t build.Naming (λ names. build_numbers o (only names))
+
+abbrev pub build_begins : Ways → Order → Builds
+build_begins w o = build_names o (names_begins w o.topic)
+
+abbrev pub built : Command → (number : ℕ) → Served → Built
+built c number s = record { topic = c.topic; number = number; link = s.link }
+
+abbrev pub build_makes : Command → (number : ℕ) → Turn Making (Result Served Failure) → Builds
+build_makes c number t = build_then t (λ k. build.Making c k number) (λ s. Gives (Ok (built c number s)))
+
+abbrev pub in_naming : Ways → Order → Naming → News → Builds
+in_naming w o n (Told x) = build_names o (names_told w o.topic n x)
+in_naming w o n (Numbered number) = Stays (build.Naming n) Rests
+in_naming w o n InUse = Stays (build.Naming n) Rests
+
+-- a number that a live consumer has can't be had
+abbrev pub in_numbering : Order → (topic : List ℕ) → Place → News → Builds
+in_numbering o topic place (Told x) = build_fails (OfConnection (fault_of x))
+in_numbering o topic place (Numbered number) = build_makes (command topic number o.config) number (made_gets 0 place)
+in_numbering o topic place InUse = build_fails in_use
+
+abbrev pub in_making : Ways → Command → Making → (number : ℕ) → News → Builds
+in_making w c k number (Told x) = build_makes c number (made_told w c k x)
+in_making w c k number (Numbered m) = Stays (build.Making c k number) Rests
+in_making w c k number InUse = Stays (build.Making c k number) Rests
+
+abbrev pub build_told : Ways → Order → Building → News → Builds
+build_told w o (build.Naming n) y = in_naming w o n y
+build_told w o (build.Numbering topic place) y = in_numbering o topic place y
+build_told w o (build.Making c k number) y = in_making w c k number y

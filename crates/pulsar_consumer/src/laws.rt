@@ -1,0 +1,34 @@
+//! What follows of every history of a consumer: each contract is a law, and its body is empty.
+
+ghost use Rattle.pulsar_consumer.specs.Laws.{EndIsFinal, FlowsFit, FramesBeginInTurn, FramesGiveItems, PermitsAreCounted, PermitsInBounds, PollsGiveArrivals, PollsGiveTheNext, QueueIsKept, RawAsksForNothing};
+
+/// A message gives the items of its frame.
+pub fn frames_give_items()
+    ensures { FramesGiveItems }
+{}
+
+/// Polls give just the items of the arrivals, in order, without gap: each the next, and none only where none is left.
+pub fn polls_give_arrivals()
+    ensures all { PollsGiveArrivals }
+    ensures next { PollsGiveTheNext }
+{}
+
+/// As many items are placed as the receiver queue holds, and frames are begun in turn.
+pub fn queue_is_kept()
+    ensures placed { QueueIsKept }
+    ensures begun { FramesBeginInTurn }
+{}
+
+/// What remains of the permits is what was granted less what was begun; it is at most the batch size, and at least half of it where each
+/// arrival is finished.
+pub fn permits_in_bounds()
+    ensures counted { PermitsAreCounted }
+    ensures bounds { PermitsInBounds }
+    ensures fit { FlowsFit }
+    ensures raw { RawAsksForNothing }
+{}
+
+/// Nothing arrives behind the end.
+pub fn end_is_final()
+    ensures { EndIsFinal }
+{}

@@ -1,0 +1,74 @@
+//! A subscription that was lost is made again.
+
+ghost use Rattle.std.specs.Prelude.{◌≡◌, IfOk};
+ghost use Rattle.pulsar_consumer.specs.Plans as meaning;
+
+use pulsar_plans::content::{Address, Refusal};
+use pulsar_plans::look::{self, Looking};
+use pulsar_plans::making::{self, Command, Making, Served};
+use pulsar_plans::turn::{Outcome, Turn, Ways};
+use pulsar_wire::error::NoMemory;
+use std::alloc::Global;
+
+/// Where it stands.
+#[derive(Drop)]
+pub enum Resuming {
+    /// It looks for the broker of the topic.
+    Looking(Looking),
+    /// It subscribes there.
+    Making(Making),
+}
+
+/// What it gives at its end: the link of the new subscription.
+pub type Resumes = Turn<Resuming, Result<u64, Refusal>>;
+
+/// Where it begins.
+pub fn begins(alloc: Global, ways: &Ways) -> Result<Resumes, NoMemory>
+    ensures { IfOk result (λ turn. turn ≡ meaning.resume_begins ways.now) }
+{
+    Ok(looks(look::begins(alloc, ways)?))
+}
+
+/// What an outcome makes of it. The consumer subscribes by this command.
+pub fn told(
+    alloc: Global,
+    ways: &Ways,
+    command: &Command,
+    resuming: Resuming,
+    outcome: Outcome,
+) -> Result<Resumes, NoMemory>
+    ensures { IfOk result (λ turn. turn ≡ meaning.resume_told ways.now command.now resuming outcome) }
+{
+    match resuming {
+        Resuming::Looking(looking) => Ok(looks(look::told(
+            alloc,
+            ways,
+            &command.topic,
+            looking,
+            outcome,
+        )?)),
+        Resuming::Making(making) => Ok(makes(making::told(alloc, ways, command, making, outcome)?)),
+    }
+}
+
+/// The broker of the topic is looked for.
+fn looks(turn: Turn<Looking, Result<Address, Refusal>>) -> Resumes
+    ensures { result ≡ meaning.resume_looks turn }
+{
+    match turn {
+        Turn::Stays(looking, action) => Turn::Stays(Resuming::Looking(looking), action),
+        Turn::Gives(Ok(address)) => makes(making::gets(0, address)),
+        Turn::Gives(Err(refusal)) => Turn::Gives(Err(refusal)),
+    }
+}
+
+/// The consumer subscribes.
+fn makes(turn: Turn<Making, Result<Served, Refusal>>) -> Resumes
+    ensures { result ≡ meaning.resume_makes turn }
+{
+    match turn {
+        Turn::Stays(making, action) => Turn::Stays(Resuming::Making(making), action),
+        Turn::Gives(Ok(served)) => Turn::Gives(Ok(served.link)),
+        Turn::Gives(Err(refusal)) => Turn::Gives(Err(refusal)),
+    }
+}

@@ -1,0 +1,289 @@
+//! A consumer of one topic, or of one partition.
+
+ghost use Rattle.std.specs.Prelude.{◌≡◌, None, IfOk, OnOk};
+ghost use Rattle.std.specs.Option.{option_map};
+ghost use Rattle.pulsar_consumer.specs.Commands.{command_of};
+ghost use Rattle.pulsar_consumer.specs.Content.{config_values};
+ghost use Rattle.pulsar_consumer.specs.Topic.{Asks, Ends, Fails, Hears, Lives, Loses, Polls, after, first_due, fresh, is_ended, link_of, lives_on, polled, queue_of, resubscribes};
+ghost use Rattle.pulsar_consumer.specs.Topic as meaning;
+
+use crate::building::command;
+use crate::config::ConsumerConfig;
+use crate::engine::ConsumerEngine;
+use crate::frame::Frame;
+use crate::polled::{Ending, Polled};
+use crate::settings::Settings;
+use crate::unread::Unread;
+use pulsar_plans::content::{Refusal, Text};
+use pulsar_plans::making::Command;
+use pulsar_wire::error::NoMemory;
+use std::alloc::Global;
+use std::marker::Model;
+use url::Url;
+
+/// How many messages the broker may send at once where nothing is said of it.
+const DEFAULT_BATCH_SIZE: u32 = 1000;
+
+/// How many items may be unread where nothing is said of it.
+const DEFAULT_QUEUE_SIZE: u32 = 1000;
+
+/// A consumer of one topic, or of one partition. It knows links and numbers, and never who asks.
+#[derive(Drop)]
+pub struct TopicConsumer {
+    alloc: Global,
+    topic: Text,
+    number: u64,
+    config: Settings,
+    is_raw: bool,
+    engine: ConsumerEngine,
+    ended: Option<Ending>,
+    received: u64,
+    last: Option<u64>,
+}
+
+impl Model for TopicConsumer {
+    ghost use Rattle.pulsar_consumer.specs.Kept.{seen_of};
+    ghost use Rattle.pulsar_consumer.specs.Topic.{Seen};
+    ghost use Rattle.pulsar_session.specs.FailureCode.{failure_code};
+    ghost use Rattle.std.specs.Coded.{codes};
+
+    ghost Value = { Seen };
+
+    ghost coded = { Prim.hlevel (codes, failure_code (Prim.hlevel codes)) };
+
+    ghost view = { seen_of };
+}
+
+impl TopicConsumer {
+    /// One that was made so, and has heard nothing. A raw one grants no permits, and is not subscribed again.
+    pub fn new(
+        alloc: Global,
+        topic: Text,
+        number: u64,
+        config: Settings,
+        is_raw: bool,
+    ) -> TopicConsumer
+        ensures { result ≡ fresh (record { topic = topic; number = number; config = config; is_raw = is_raw }) }
+    {
+        let queue = queue_of(config.get().options.receiver_queue_size);
+        let batch = if is_raw {
+            None
+        } else {
+            Some(config.get().batch_size.unwrap_or(DEFAULT_BATCH_SIZE))
+        };
+        TopicConsumer {
+            alloc,
+            topic,
+            number,
+            config,
+            is_raw,
+            engine: ConsumerEngine::new(alloc, queue as usize, batch),
+            ended: None,
+            received: 0,
+            last: None,
+        }
+    }
+
+    /// Its topic.
+    pub fn topic(&self) -> &str
+        ensures { result.now ≡ self.now.topic }
+    {
+        self.topic.as_str()
+    }
+
+    /// Its number on the wire.
+    pub fn number(&self) -> u64
+        ensures { result ≡ self.now.number }
+    {
+        self.number
+    }
+
+    /// How it was made.
+    pub fn config(&self) -> &ConsumerConfig
+        ensures { config_values result.now ≡ self.now.config }
+    {
+        self.config.get()
+    }
+
+    /// The URL of its live subscription.
+    pub fn connection(&self) -> Option<&Url>
+        ensures { option_map (λ u. u.now) result ≡ option_map (λ l. l.url) self.now.engine.live }
+    {
+        match self.engine.live() {
+            Some(live) => Some(live.url()),
+            None => None,
+        }
+    }
+
+    /// When it gave its last message.
+    pub fn last_message_received(&self) -> Option<u64>
+        ensures { result ≡ self.now.last }
+    {
+        self.last
+    }
+
+    /// How many messages it gave.
+    pub fn messages_received(&self) -> u64
+        ensures { result ≡ self.now.received }
+    {
+        self.received
+    }
+
+    /// The link of its live subscription. Acknowledgements, flows and its closing frame are asked for there, and nowhere else.
+    pub fn link(&self) -> Option<u64>
+        ensures { result ≡ link_of self.now }
+    {
+        match self.engine.live() {
+            Some(live) => Some(live.link()),
+            None => None,
+        }
+    }
+
+    /// A subscription of it is live on this link.
+    pub fn lives_on(&self, link: u64) -> bool
+        ensures { result ≡ lives_on link self.now }
+    {
+        self.link() == Some(link)
+    }
+
+    /// It is to be subscribed again once its subscription on this link is lost.
+    pub fn resubscribes(&self, link: u64) -> bool
+        ensures { result ≡ resubscribes link self.now }
+    {
+        self.lives_on(link) && !self.is_raw
+    }
+
+    /// The command by which it is subscribed again.
+    pub fn command(&self) -> Result<Command, NoMemory>
+        ensures { IfOk result (λ c. c ≡ command_of self.now) }
+    {
+        command(self.alloc, &self.topic, self.number, &self.config)
+    }
+
+    /// It has ended.
+    pub fn is_ended(&self) -> bool
+        ensures { result ≡ is_ended self.now }
+    {
+        self.ended.is_some()
+    }
+
+    /// Why it has ended.
+    pub fn ending(&self) -> Option<Ending>
+        ensures { result ≡ self.now.ended }
+    {
+        self.ended
+    }
+
+    /// A subscription of it was made, on this link to this address. One that has ended takes none.
+    pub fn subscribe(&mut self, link: u64, url: Url) -> Result<(), NoMemory>
+        ensures { OnOk result (self.new ≡ after (Lives link url) self.old) }
+    {
+        if self.is_ended() {
+            return Ok(());
+        }
+        self.engine.subscribe(link, url)?;
+        Ok(())
+    }
+
+    /// A message for it came on this link.
+    pub fn hear(&mut self, link: u64, frame: Frame) -> Result<(), NoMemory>
+        ensures { OnOk result (self.new ≡ after (Hears link frame) self.old) }
+    {
+        if self.lives_on(link) {
+            self.engine.hear(frame)?;
+        }
+        Ok(())
+    }
+
+    /// Its subscription on this link ends: the link has ended, or the broker has closed it.
+    pub fn lose(&mut self, link: u64)
+        ensures { self.new ≡ after (Loses link) self.old }
+    {
+        if !self.lives_on(link) {
+            return;
+        }
+        self.lose_it();
+    }
+
+    /// It could not be subscribed again: that is its last item, and it ends.
+    pub fn fail(&mut self, refusal: Refusal) -> Result<(), NoMemory>
+        ensures { OnOk result (self.new ≡ after (Fails refusal) self.old) }
+    {
+        if self.is_ended() {
+            return Ok(());
+        }
+        self.engine.hear(Frame::failed(self.alloc, refusal)?)?;
+        self.end(Ending::NotSubscribed);
+        Ok(())
+    }
+
+    /// It ends. What came is still given.
+    pub fn end(&mut self, why: Ending)
+        ensures { self.new ≡ after (Ends why) self.old }
+    {
+        self.engine.lose();
+        self.ended = self.ended.or(Some(why));
+    }
+
+    /// What it gives to a poll at this moment.
+    pub fn poll(&mut self, clock: u64) -> Result<Polled, NoMemory>
+        ensures given { IfOk result (λ p. p ≡ polled self.old) }
+        ensures after { OnOk result (self.new ≡ after (Polls clock) self.old) }
+    {
+        match self.engine.give()? {
+            Some(item) => {
+                self.count(clock, &item);
+                Ok(Polled::Item(item))
+            }
+            None => Ok(self.without_item()),
+        }
+    }
+
+    /// The flow that is to be asked for next. It counts as asked for.
+    pub fn ask(&mut self) -> Option<u32>
+        ensures flow { result ≡ first_due self.old.engine.live }
+        ensures after { self.new ≡ after Asks self.old }
+    {
+        self.engine.ask()
+    }
+
+    fn lose_it(&mut self)
+        ensures { self.new ≡ meaning.loses self.old }
+    {
+        if self.is_raw {
+            self.end(Ending::LinkLost);
+        } else {
+            self.engine.lose();
+        }
+    }
+
+    fn count(&mut self, clock: u64, item: &Unread)
+        ensures { self.new ≡ meaning.counts clock item.now self.old }
+    {
+        if item.is_message() {
+            self.received = self.received.saturating_add(1);
+            self.last = Some(clock);
+        }
+    }
+
+    fn without_item(&self) -> Polled
+        ensures { result ≡ meaning.polled_from None self.now.ended }
+    {
+        if self.is_ended() {
+            Polled::End
+        } else {
+            Polled::Empty
+        }
+    }
+}
+
+/// How many items may be unread.
+fn queue_of(size: Option<u32>) -> u32
+    ensures { result ≡ queue_of size }
+{
+    match size {
+        Some(0) => 1,
+        Some(size) => size,
+        None => DEFAULT_QUEUE_SIZE,
+    }
+}

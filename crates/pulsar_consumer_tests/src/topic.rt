@@ -1,0 +1,207 @@
+//! Consumers of one topic, frame by frame and poll by poll.
+
+use pulsar_consumer::frame::Frame;
+use pulsar_consumer::settings::Settings;
+use pulsar_consumer::{ConsumerConfig, Ending, Polled, TopicConsumer};
+use pulsar_frame::message::Message;
+use pulsar_frame::payload::Payload;
+use pulsar_link::items::Unread as Item;
+use pulsar_plans::content::{Refusal, Text};
+use pulsar_wire::commands::base::{BaseCommand, Body};
+use pulsar_wire::commands::consumer::delivery::CommandMessage;
+use pulsar_wire::commands::metadata::MessageMetadata;
+use pulsar_wire::error::ConnectionError;
+use std::alloc::Global;
+use std::test::Fail;
+use url::Url;
+
+fn url(alloc: Global) -> Result<Url, Fail> {
+    Ok(Url::parse(alloc, "pulsar://127.0.0.1:6650")?)
+}
+
+fn settings(alloc: Global, queue: Option<u32>, batch: Option<u32>) -> Result<Settings, Fail> {
+    let mut config = ConsumerConfig::new(alloc);
+    config.options.receiver_queue_size = queue;
+    config.batch_size = batch;
+    Ok(Settings::new(alloc, config)?)
+}
+
+/// One whose subscription is live on link 0.
+fn subscribed(alloc: Global, settings: Settings) -> Result<Box<TopicConsumer>, Fail> {
+    let topic = Text::new(String::from_str(alloc, "t")?);
+    let consumer = TopicConsumer::new(alloc, topic, 0, settings, false);
+    let mut consumer = Box::new(alloc, consumer)?;
+    consumer.subscribe(0, url(alloc)?)?;
+    Ok(consumer)
+}
+
+fn consumer(alloc: Global, queue: Option<u32>) -> Result<Box<TopicConsumer>, Fail> {
+    subscribed(alloc, settings(alloc, queue, None)?)
+}
+
+/// A message of so many entries, and this payload.
+fn message(alloc: Global, count: Option<i32>, bytes: &[u8]) -> Result<Frame, Fail> {
+    let mut metadata = MessageMetadata::new(alloc);
+    metadata.num_messages_in_batch = count;
+    let payload = Payload {
+        metadata,
+        bytes: bytes.to_vec(alloc)?,
+    };
+    let body = Body::Message(CommandMessage::new(alloc));
+    let command = BaseCommand {
+        kind: 9,
+        body: Some(body),
+    };
+    Ok(Frame::new(
+        alloc,
+        Message {
+            command,
+            payload: Some(payload),
+        },
+    )?)
+}
+
+/// 0: there is nothing now; 1: the end; 2: a message; 3: an error.
+fn polls(consumer: &mut TopicConsumer) -> Result<u8, Fail> {
+    match consumer.poll(7)? {
+        Polled::Empty => Ok(0),
+        Polled::End => Ok(1),
+        Polled::Item(item) => { if item.is_message() { Ok(2) } else { Ok(3) } }
+    }
+}
+
+/// One frame of 501 messages leaves 499 permits of 1000, and one of 2124 leaves 1124 too few.
+#[test]
+fn a_flow_makes_up_what_a_frame_cost(rt: HostRuntime) -> Result<(), Fail> {
+    let alloc = rt.alloc();
+    let mut consumer = consumer(alloc, None)?;
+    assert!(rt; consumer.ask() == Some(1000));
+    assert!(rt; consumer.ask().is_none());
+    consumer.hear(0, message(alloc, Some(500), b"")?)?;
+    assert!(rt; consumer.ask().is_none());
+    consumer.hear(0, message(alloc, None, b"a")?)?;
+    assert!(rt; consumer.ask() == Some(501));
+    consumer.hear(0, message(alloc, Some(2124), b"")?)?;
+    assert!(rt; consumer.ask() == Some(2124));
+    assert!(rt; consumer.ask().is_none());
+    Ok(())
+}
+
+/// Each entry: the size of what it says, the length of its payload, and a letter.
+const ABC: &[u8] = b"\x00\x00\x00\x02\x18\x01a\x00\x00\x00\x02\x18\x01b\x00\x00\x00\x02\x18\x01c";
+
+/// The first byte of the message that a poll gives.
+fn letter(consumer: &mut TopicConsumer) -> Result<Option<u8>, Fail> {
+    match consumer.poll(7)? {
+        Polled::Item(item) => Ok(first(item.into_inner())),
+        Polled::Empty | Polled::End => Ok(None),
+    }
+}
+
+fn first(item: Item) -> Option<u8> {
+    match item {
+        Item::Message { payload, .. } => payload.bytes.first().copied(),
+        Item::Failure(_) => None,
+    }
+}
+
+#[test]
+fn a_queue_of_one_gives_a_batch_in_order(rt: HostRuntime) -> Result<(), Fail> {
+    let alloc = rt.alloc();
+    let mut consumer = consumer(alloc, Some(1))?;
+    consumer.hear(0, message(alloc, Some(3), ABC)?)?;
+    assert!(rt; letter(&mut consumer)? == Some(b'a'));
+    assert!(rt; letter(&mut consumer)? == Some(b'b'));
+    assert!(rt; letter(&mut consumer)? == Some(b'c'));
+    assert!(rt; polls(&mut consumer)? == 0);
+    assert!(rt; consumer.messages_received() == 3);
+    assert!(rt; consumer.last_message_received() == Some(7));
+    Ok(())
+}
+
+#[test]
+fn what_came_is_given_behind_a_lost_link(rt: HostRuntime) -> Result<(), Fail> {
+    let alloc = rt.alloc();
+    let mut consumer = consumer(alloc, Some(0))?;
+    consumer.hear(0, message(alloc, None, b"a")?)?;
+    assert!(rt; consumer.resubscribes(0));
+    consumer.lose(0);
+    assert!(rt; consumer.link().is_none());
+    consumer.hear(0, message(alloc, None, b"b")?)?;
+    assert!(rt; polls(&mut consumer)? == 2);
+    assert!(rt; polls(&mut consumer)? == 0);
+    Ok(())
+}
+
+#[test]
+fn why_it_is_not_subscribed_again_is_its_last_item(rt: HostRuntime) -> Result<(), Fail> {
+    let alloc = rt.alloc();
+    let mut consumer = consumer(alloc, None)?;
+    consumer.lose(0);
+    consumer.fail(Refusal::in_connection(alloc, ConnectionError::NotFound)?)?;
+    assert!(rt; polls(&mut consumer)? == 3);
+    assert!(rt; polls(&mut consumer)? == 1);
+    assert!(rt; consumer.messages_received() == 0);
+    Ok(())
+}
+
+#[test]
+fn what_came_is_given_behind_the_end(rt: HostRuntime) -> Result<(), Fail> {
+    let alloc = rt.alloc();
+    let mut consumer = consumer(alloc, None)?;
+    consumer.hear(0, message(alloc, None, b"a")?)?;
+    consumer.end(Ending::TopicEnded);
+    assert!(rt; polls(&mut consumer)? == 2);
+    assert!(rt; polls(&mut consumer)? == 1);
+    Ok(())
+}
+
+#[test]
+fn an_ended_consumer_takes_no_subscription(rt: HostRuntime) -> Result<(), Fail> {
+    let alloc = rt.alloc();
+    let mut consumer = consumer(alloc, None)?;
+    consumer.end(Ending::TopicEnded);
+    consumer.end(Ending::Closed);
+    consumer.subscribe(1, url(alloc)?)?;
+    assert!(rt; consumer.link().is_none() && consumer.ask().is_none());
+    assert!(rt; consumer.ending() == Some(Ending::TopicEnded));
+    Ok(())
+}
+
+/// A frame without a payload costs one permit, and waits behind a full queue like each other.
+#[test]
+fn one_poll_may_finish_two_frames(rt: HostRuntime) -> Result<(), Fail> {
+    let alloc = rt.alloc();
+    let mut consumer = small(alloc)?;
+    assert!(rt; consumer.ask() == Some(1));
+    consumer.hear(0, message(alloc, None, b"a")?)?;
+    assert!(rt; consumer.ask() == Some(1));
+    consumer.hear(0, message(alloc, None, b"b")?)?;
+    consumer.hear(0, bare(alloc)?)?;
+    assert!(rt; consumer.ask().is_none());
+    assert!(rt; polls(&mut consumer)? == 2);
+    assert!(rt; consumer.ask() == Some(1));
+    assert!(rt; consumer.ask() == Some(1));
+    assert!(rt; consumer.ask().is_none());
+    Ok(())
+}
+
+/// One that lets the broker send one message at once, and holds one.
+fn small(alloc: Global) -> Result<Box<TopicConsumer>, Fail> {
+    subscribed(alloc, settings(alloc, Some(1), Some(1))?)
+}
+
+/// A message command without a payload.
+fn bare(alloc: Global) -> Result<Frame, Fail> {
+    let command = BaseCommand {
+        kind: 9,
+        body: Some(Body::Message(CommandMessage::new(alloc))),
+    };
+    Ok(Frame::new(
+        alloc,
+        Message {
+            command,
+            payload: None,
+        },
+    )?)
+}

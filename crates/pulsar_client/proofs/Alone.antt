@@ -11,14 +11,14 @@ use Rattle.pulsar_session.specs.Answers.{is}
 use Rattle.pulsar_session.specs.Failures.{Fault}
 use Rattle.pulsar_session.specs.Link.{Act as Act', Opens, Feeds, Takes, Asks, Drains, Closes, Seen, Setup, answered_to, greeted, is_open, is_over, moved_up, number_for, settled_by, taken_in, ticked}
 use Rattle.pulsar_session.proofs.Still.{asked_of, moving, opening, unless}
-use Rattle.pulsar_client.specs.declared.act.Act.TheVariants.{Comes, Does, Dials}
-use Rattle.pulsar_client.specs.declared.act.Action.TheVariants.{Get, Ask}
-use Rattle.pulsar_client.specs.declared.act.LinkAct.{LinkAct}
-use Rattle.pulsar_client.specs.declared.act.LinkAct.TheVariants.{Ends}
-use Rattle.pulsar_client.specs.declared.act.Part.TheVariants.{ToLink}
-use Rattle.pulsar_client.specs.declared.act.Who.{Who}
+use Rattle.pulsar_calls.specs.declared.act.Act.TheVariants.{Comes, Does, Dials}
+use Rattle.pulsar_calls.specs.declared.act.Action.TheVariants.{Get, Ask}
+use Rattle.pulsar_calls.specs.declared.act.LinkAct.{LinkAct}
+use Rattle.pulsar_calls.specs.declared.act.LinkAct.TheVariants.{Ends}
+use Rattle.pulsar_calls.specs.declared.act.Part.TheVariants.{ToLink}
+use Rattle.pulsar_calls.specs.declared.act.Who.{Who}
 use Rattle.pulsar_plans.specs.Address.{Place}
-use Rattle.pulsar_client.specs.Content.{Heard, Bytes}
+use Rattle.pulsar_calls.specs.Content.{Heard, Bytes}
 use Rattle.pulsar_client.specs.Laws.{LinksAlone, call_at, calls_of, dialed_with}
 use Rattle.pulsar_client.specs.Links.{call_of, called, closed_by}
 use Rattle.pulsar_client.specs.Run.{Entry, Begins, Then, view}

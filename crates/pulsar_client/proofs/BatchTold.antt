@@ -36,17 +36,17 @@ use Rattle.pulsar_producer.specs.declared.deed.Step.TheVariants as step
 use Rattle.pulsar_producer.specs.declared.sending.Errand.{Errand}
 use Rattle.pulsar_producer.specs.declared.sending.Sending.{Sending as Send}
 use Rattle.pulsar_producer.specs.declared.sending.Sending.TheVariants as send
-use Rattle.pulsar_client.specs.declared.act.Act.TheVariants.{Does, Told}
-use Rattle.pulsar_client.specs.declared.act.Action.{Action}
-use Rattle.pulsar_client.specs.declared.act.Action.TheVariants.{Ask, Draw, Find, Flush, Get, Number, PassTurn, Recall, Remake, Rest, Shut, StopAll, Store, TakeBatch, TakeTurn, Tell, TellAll, Wait}
-use Rattle.pulsar_client.specs.declared.act.Notice.{Notice}
-use Rattle.pulsar_client.specs.declared.act.Outcome.{Outcome}
-use Rattle.pulsar_client.specs.declared.act.Outcome.TheVariants as outcome
-use Rattle.pulsar_client.specs.declared.act.Who.{Who}
-use Rattle.pulsar_client.specs.declared.act.Who.TheVariants.{Producer}
+use Rattle.pulsar_calls.specs.declared.act.Act.TheVariants.{Does, Told}
+use Rattle.pulsar_calls.specs.declared.act.Action.{Action}
+use Rattle.pulsar_calls.specs.declared.act.Action.TheVariants.{Ask, Draw, Find, Flush, Get, Number, PassTurn, Recall, Remake, Rest, Shut, StopAll, Store, TakeBatch, TakeTurn, Tell, TellAll, Wait}
+use Rattle.pulsar_calls.specs.declared.act.Notice.{Notice}
+use Rattle.pulsar_calls.specs.declared.act.Outcome.{Outcome}
+use Rattle.pulsar_calls.specs.declared.act.Outcome.TheVariants as outcome
+use Rattle.pulsar_calls.specs.declared.act.Who.{Who}
+use Rattle.pulsar_calls.specs.declared.act.Who.TheVariants.{Producer}
 use Rattle.pulsar_client.specs.BatchLaws.{AskedAs, IsFateOf, MembersAreTold, under_way}
 use Rattle.pulsar_client.specs.Laws.{Cause}
-use Rattle.pulsar_client.specs.Plan.{news_in, news_of, overrides, told_to}
+use Rattle.pulsar_calls.specs.Plan.{news_in, news_of, overrides, told_to}
 use Rattle.pulsar_client.specs.Rules.{notice}
 use Rattle.pulsar_client.specs.Run.{Entry, Begins, Then, IsRun, view}
 use Rattle.pulsar_client.specs.View.{Options, View}

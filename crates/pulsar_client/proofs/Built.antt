@@ -1,7 +1,7 @@
 -- What is seen of the calls is what the log's entries say.
 use Rattle.std.proofs.Common.{◌∙◌, ap, [], ◌∷◌, refl}
-use Rattle.pulsar_client.specs.declared.act.Act.TheVariants.{Does, Answers}
-use Rattle.pulsar_client.specs.declared.act.Action.TheVariants.{StopAll}
+use Rattle.pulsar_calls.specs.declared.act.Act.TheVariants.{Does, Answers}
+use Rattle.pulsar_calls.specs.declared.act.Action.TheVariants.{StopAll}
 use Rattle.pulsar_client.specs.Laws.{BuiltIs, StoppedIs}
 use Rattle.pulsar_client.specs.Run.{Begins, Then, view}
 use Rattle.pulsar_client.specs.View.{builds}

@@ -24,7 +24,7 @@ use Rattle.pulsar_session.specs.Laws.{IsInLine}
 use Rattle.pulsar_session.specs.Link.{Asks, Drains, Feeds, Opens, Request, Seen, Standing, Takes, after, after_of, answer_of, answered, answered_to, asked, asks_for, can_wait, challenged, claim, drained, drawn, feeds, frame_for, greeted, greeting, greets_with, has_room, is_open, is_ready, moved_up, named_by, number_for, opens_in, place_in, pongs, put_frame, put_in, queue, reacts, reacts_unless, received, request, responds, settled_by, taken_in, ticked, unready_in}
 use Rattle.pulsar_session.specs.Link as session
 use Rattle.pulsar_link.specs.Request.{is_answered, request_number}
-use Rattle.pulsar_client.specs.declared.act.Who.{Who}
+use Rattle.pulsar_calls.specs.declared.act.Who.{Who}
 use Rattle.pulsar_client.specs.View.{askers_left, asker_at, place_of}
 use Rattle.pulsar_client.proofs.Acts.{Each, each_append, each_map}
 

@@ -6,13 +6,13 @@ use Rattle.std.specs.List.{flat_map}
 use Rattle.std.specs.Option.{option_map}
 use Rattle.pulsar_run.specs.Laws.{In}
 use Rattle.pulsar_producer.specs.Topic.{Closes}
-use Rattle.pulsar_client.specs.declared.act.Act.{Act}
-use Rattle.pulsar_client.specs.declared.act.Act.TheVariants.{Does, Told}
-use Rattle.pulsar_client.specs.declared.act.Action.TheVariants.{Shut}
-use Rattle.pulsar_client.specs.declared.act.Notice.{Notice}
+use Rattle.pulsar_calls.specs.declared.act.Act.{Act}
+use Rattle.pulsar_calls.specs.declared.act.Act.TheVariants.{Does, Told}
+use Rattle.pulsar_calls.specs.declared.act.Action.TheVariants.{Shut}
+use Rattle.pulsar_calls.specs.declared.act.Notice.{Notice}
 use Rattle.pulsar_client.specs.declared.producers.Topic.{Topic}
 use Rattle.pulsar_client.specs.BatchLaws.{ClosedWithTheProducer}
-use Rattle.pulsar_client.specs.Plan.{closed_notice}
+use Rattle.pulsar_calls.specs.Plan.{closed_notice}
 use Rattle.pulsar_client.specs.Producers.{Producers, changed, is_bare, numbers_at, shut_all, stored_at, stored_by, topic_after}
 use Rattle.pulsar_client.specs.Rules.{joins}
 use Rattle.pulsar_client.specs.Run.{Entry, Then, view}

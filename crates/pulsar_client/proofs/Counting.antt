@@ -1,13 +1,13 @@
 -- The tickets that are drawn are those of the calls of the history and of their parts.
 use Rattle.std.proofs.Common.{◌≡◌, ◌∙◌, ℕ, sym, ap, List, [], ◌∷◌, ◌++◌, refl, map, Some, None, true, false, cond}
 use Rattle.pulsar_run.specs.Run.{in_order, steps_done, with_effects}
-use Rattle.pulsar_client.specs.declared.act.Act.{Act}
-use Rattle.pulsar_client.specs.declared.act.Act.TheVariants.{Comes, Told}
-use Rattle.pulsar_client.specs.declared.act.Notice.{Notice}
-use Rattle.pulsar_client.specs.declared.act.Part.{Part}
-use Rattle.pulsar_client.specs.declared.act.Part.TheVariants.{Calls}
+use Rattle.pulsar_calls.specs.declared.act.Act.{Act}
+use Rattle.pulsar_calls.specs.declared.act.Act.TheVariants.{Comes, Told}
+use Rattle.pulsar_calls.specs.declared.act.Notice.{Notice}
+use Rattle.pulsar_calls.specs.declared.act.Part.{Part}
+use Rattle.pulsar_calls.specs.declared.act.Part.TheVariants.{Calls}
 use Rattle.pulsar_client.specs.declared.tables.Tables.{Tables}
-use Rattle.pulsar_client.specs.Content.{Heard, Shown, Called, Ticked}
+use Rattle.pulsar_calls.specs.Content.{Heard, Shown, Called, Ticked}
 use Rattle.pulsar_client.specs.Effects.{effect_below, effects}
 use Rattle.pulsar_client.specs.Laws.{TicketsCount}
 use Rattle.pulsar_client.specs.Rules.{at_once, brings, further, parts}

@@ -5,18 +5,18 @@ use Rattle.std.specs.Option.{is_none}
 use Rattle.pulsar_run.specs.Laws.{Arises, In, InOne}
 use Rattle.pulsar_run.proofs.Arising.{acts_arise_lem}
 use Rattle.pulsar_session.specs.Link.{due}
-use Rattle.pulsar_client.specs.declared.act.Act.{Act}
-use Rattle.pulsar_client.specs.declared.act.Act.TheVariants.{Comes, Told}
-use Rattle.pulsar_client.specs.declared.act.Alarm.{Alarm}
-use Rattle.pulsar_client.specs.declared.act.Alarm.TheVariants.{KeepAlive, CheckIdle}
-use Rattle.pulsar_client.specs.declared.act.End.TheVariants.{Overdue, Idles}
-use Rattle.pulsar_client.specs.declared.act.LinkAct.TheVariants.{Ends, Pings}
-use Rattle.pulsar_client.specs.declared.act.Notice.{Notice}
-use Rattle.pulsar_client.specs.declared.act.Part.{Part}
-use Rattle.pulsar_client.specs.declared.act.Part.TheVariants.{ToLink, Rings}
+use Rattle.pulsar_calls.specs.declared.act.Act.{Act}
+use Rattle.pulsar_calls.specs.declared.act.Act.TheVariants.{Comes, Told}
+use Rattle.pulsar_calls.specs.declared.act.Alarm.{Alarm}
+use Rattle.pulsar_calls.specs.declared.act.Alarm.TheVariants.{KeepAlive, CheckIdle}
+use Rattle.pulsar_calls.specs.declared.act.End.TheVariants.{Overdue, Idles}
+use Rattle.pulsar_calls.specs.declared.act.LinkAct.TheVariants.{Ends, Pings}
+use Rattle.pulsar_calls.specs.declared.act.Notice.{Notice}
+use Rattle.pulsar_calls.specs.declared.act.Part.{Part}
+use Rattle.pulsar_calls.specs.declared.act.Part.TheVariants.{ToLink, Rings}
 use Rattle.pulsar_producer.specs.Routing.{Policy}
 use Rattle.pulsar_client.specs.Alarms.{ringing, rings}
-use Rattle.pulsar_client.specs.Content.{Heard, Ticked}
+use Rattle.pulsar_calls.specs.Content.{Heard, Ticked}
 use Rattle.pulsar_client.specs.Laws.{AlarmsAreTicked, DeadlinesAreTicked, IdleEnds, IsDueAt, IsIdleAt, IsQuietAt, RingsAt, SignsOfLife}
 use Rattle.pulsar_client.specs.Rules.{brings, due_part, idle_act, is_idle, keeps_alive, may_ping, over_links, rung}
 use Rattle.pulsar_client.specs.Run.{Entry, Begins, Then, rules, view}

@@ -3,10 +3,10 @@ use Rattle.std.proofs.Common.{◌≡◌, ◌⊎◌, inl, inr, ◌∙◌, ap, Lis
 use Rattle.pulsar_run.specs.Laws.{Arises, In, InOne}
 use Rattle.pulsar_run.specs.Order.{arranged, put, put_all}
 use Rattle.pulsar_run.specs.Run.{first_of, rest, rest_of}
-use Rattle.pulsar_client.specs.declared.act.Act.{Act}
-use Rattle.pulsar_client.specs.declared.act.Act.TheVariants.{Comes, Told}
-use Rattle.pulsar_client.specs.declared.act.Notice.{Notice}
-use Rattle.pulsar_client.specs.declared.act.Part.{Part}
+use Rattle.pulsar_calls.specs.declared.act.Act.{Act}
+use Rattle.pulsar_calls.specs.declared.act.Act.TheVariants.{Comes, Told}
+use Rattle.pulsar_calls.specs.declared.act.Notice.{Notice}
+use Rattle.pulsar_calls.specs.declared.act.Part.{Part}
 use Rattle.pulsar_client.specs.Laws.{AllIsDone, AreActs}
 use Rattle.pulsar_client.specs.Rules.{at_once, below, causes, further, joins}
 use Rattle.pulsar_client.specs.Run.{Entry, Begins, Then, IsRun, agenda, rules, view}

@@ -1,8 +1,8 @@
 -- A run, computed from its events: behind each event, the acts that are first, one after the other.
 use Rattle.std.proofs.Common.{◌≡◌, ◌∙◌, sym, ap, ℕ, zero, suc, List, ◌∷◌, refl, map, Option, Some, None, []}
 use Rattle.pulsar_run.specs.Run.{events, in_order, only, steps_done, with_effects}
-use Rattle.pulsar_client.specs.declared.act.Act.{Act}
-use Rattle.pulsar_client.specs.Content.{Heard}
+use Rattle.pulsar_calls.specs.declared.act.Act.{Act}
+use Rattle.pulsar_calls.specs.Content.{Heard}
 use Rattle.pulsar_client.specs.Effects.{effect_below, effects}
 use Rattle.pulsar_client.specs.Rules.{parts}
 use Rattle.pulsar_client.specs.Run.{Agenda, Entry, Begins, Then, Good, IsRun, Step, agenda, first, goes_on, rest, rules, view}

@@ -16,36 +16,37 @@ use Rattle.pulsar_producer.specs.Wanted.{ProducerWanted}
 use Rattle.pulsar_producer.specs.declared.building.Order.{Order}
 use Rattle.pulsar_producer.specs.declared.deed.News.TheVariants as granting
 use Rattle.pulsar_producer.specs.declared.sending.Errand.{Errand}
-use Rattle.pulsar_client.specs.declared.act.Act.{Act}
-use Rattle.pulsar_client.specs.declared.act.Act.TheVariants.{Comes, Starts, Told, Does, Answers}
-use Rattle.pulsar_client.specs.declared.act.Action.{Action}
-use Rattle.pulsar_client.specs.declared.act.Action.TheVariants.{Rest, Tell, TellAll}
-use Rattle.pulsar_client.specs.declared.act.Outcome.{Outcome}
-use Rattle.pulsar_client.specs.declared.act.Outcome.TheVariants.{Granted}
-use Rattle.pulsar_client.specs.declared.act.Part.TheVariants.{Calls}
-use Rattle.pulsar_client.specs.declared.act.Place.TheVariants.{Link}
-use Rattle.pulsar_client.specs.declared.act.Procedure.{Procedure}
-use Rattle.pulsar_client.specs.declared.act.Procedure.TheVariants as procedure
-use Rattle.pulsar_client.specs.declared.act.Refusal.{Refusal}
-use Rattle.pulsar_client.specs.declared.act.Refusal.TheVariants as refusal
-use Rattle.pulsar_client.specs.declared.act.Round.TheVariants.{Checks, Flushes}
-use Rattle.pulsar_client.specs.declared.act.Says.TheVariants as says
-use Rattle.pulsar_client.specs.declared.act.Share.{Share}
-use Rattle.pulsar_client.specs.declared.act.Verdict.{Verdict}
-use Rattle.pulsar_client.specs.declared.act.Who.{Who}
-use Rattle.pulsar_client.specs.declared.plans.plan.Plan.{Plan}
-use Rattle.pulsar_client.specs.declared.plans.plan.Turn.{Turn}
-use Rattle.pulsar_client.specs.declared.plans.plan.Turn.TheVariants.{Stays, Gives}
-use Rattle.pulsar_client.specs.Content as content
-use Rattle.pulsar_client.specs.Content.{Asked, lacks_tickets, shares}
+use Rattle.pulsar_calls.specs.declared.act.Act.{Act}
+use Rattle.pulsar_calls.specs.declared.act.Act.TheVariants.{Comes, Starts, Told, Does, Answers}
+use Rattle.pulsar_calls.specs.declared.act.Action.{Action}
+use Rattle.pulsar_calls.specs.declared.act.Action.TheVariants.{Rest, Tell, TellAll}
+use Rattle.pulsar_calls.specs.declared.act.Outcome.{Outcome}
+use Rattle.pulsar_calls.specs.declared.act.Outcome.TheVariants.{Granted}
+use Rattle.pulsar_calls.specs.declared.act.Part.TheVariants.{Calls}
+use Rattle.pulsar_calls.specs.declared.act.Place.TheVariants.{Link}
+use Rattle.pulsar_calls.specs.declared.act.Procedure.{Procedure}
+use Rattle.pulsar_calls.specs.declared.act.Procedure.TheVariants as procedure
+use Rattle.pulsar_calls.specs.declared.act.Refusal.{Refusal}
+use Rattle.pulsar_calls.specs.declared.act.Refusal.TheVariants as refusal
+use Rattle.pulsar_calls.specs.declared.act.Round.TheVariants.{Checks, Flushes}
+use Rattle.pulsar_calls.specs.declared.act.Says.TheVariants as says
+use Rattle.pulsar_calls.specs.declared.act.Share.{Share}
+use Rattle.pulsar_calls.specs.declared.act.Verdict.{Verdict}
+use Rattle.pulsar_calls.specs.declared.act.Who.{Who}
+use Rattle.pulsar_calls.specs.declared.plans.plan.Plan.{Plan}
+use Rattle.pulsar_calls.specs.declared.plans.plan.Turn.{Turn}
+use Rattle.pulsar_calls.specs.declared.plans.plan.Turn.TheVariants.{Stays, Gives}
+use Rattle.pulsar_calls.specs.Content as content
+use Rattle.pulsar_calls.specs.Content.{Asked, lacks_tickets, shares}
 use Rattle.pulsar_client.specs.Laws.{Cause, FailuresAreTold, IsToldBy, OutcomesAreCaused, outcomes, started}
-use Rattle.pulsar_client.specs.Plan.{begins}
+use Rattle.pulsar_calls.specs.Plan.{begins}
 use Rattle.pulsar_producer.specs.Batch.{entry_of}
-use Rattle.pulsar_client.specs.Producers.{Producers, batches_in, errand_of, next_advice, numbers_at, routed, why_not}
+use Rattle.pulsar_client.specs.Producers.{Producers, batches_in, errand_of, numbers_at, routed, why_not}
+use Rattle.pulsar_calls.specs.Content.{next_advice}
 use Rattle.pulsar_client.specs.Rules.{asks_raw, asks_topics, at_once, builds_with, checks, closes, does, fails_as, flushes, flushes_all, follows, follows_some, from_base, gathers, is_taken, notice, order_of, parts_of, performs, procedure_for, produces, produces_by, produces_from, searches, sends, sends_as, sends_by, share, shares_of, shares_unless, starts, stores_as, unless, unless_refused, why_no_sends}
 use Rattle.pulsar_client.specs.Run.{Entry, Begins, Then, IsRun, agenda, view}
 use Rattle.pulsar_client.specs.View.{Chosen, Options, Tickets, View, may_call, told_some, ways_of}
-use Rattle.pulsar_client.specs.Who.{is_same}
+use Rattle.pulsar_calls.specs.Who.{is_same}
 use Rattle.pulsar_client.proofs.Acts.{Each, each_append, each_either, each_first, each_map, each_rest, is_served, late}
 use Rattle.pulsar_client.proofs.Failing.{Fails, IsMade, begins_holds, course_fails, is_proper}
 use Rattle.pulsar_client.proofs.Follow.{plans_follow_lem}

@@ -9,26 +9,26 @@ use Rattle.pulsar_producer.specs.Topic as topic
 use Rattle.pulsar_producer.specs.Topic.{Act as Deed, Takes, Passes, Draws, Remakes, Closes, Stores, Flushes, Cuts, TakesBatch, Halts, Seen, Setup, is_nothing, is_settled, next_batch}
 use Rattle.pulsar_producer.specs.declared.content.Built.{Built}
 use Rattle.pulsar_producer.proofs.Cutting.{batches_in_order, flush_is_last, items_in_order, joined_append, joined_one}
-use Rattle.pulsar_client.specs.declared.act.Act.{Act}
-use Rattle.pulsar_client.specs.declared.act.Act.TheVariants.{Comes, Starts, Told, Does, Answers}
-use Rattle.pulsar_client.specs.declared.act.Action.{Action}
-use Rattle.pulsar_client.specs.declared.act.Action.TheVariants.{TakeTurn, PassTurn, Draw, Remake, Shut, Store, StopAll, TakeBatch, TellAll}
-use Rattle.pulsar_client.specs.declared.act.Action.TheVariants as action
-use Rattle.pulsar_client.specs.declared.act.Alarm.TheVariants.{Batch}
-use Rattle.pulsar_client.specs.declared.act.Notice.{Notice}
-use Rattle.pulsar_client.specs.declared.act.Part.TheVariants.{Rings}
-use Rattle.pulsar_client.specs.declared.act.Procedure.{Procedure}
-use Rattle.pulsar_client.specs.declared.act.Who.{Who}
-use Rattle.pulsar_client.specs.declared.act.Who.TheVariants.{Producer}
+use Rattle.pulsar_calls.specs.declared.act.Act.{Act}
+use Rattle.pulsar_calls.specs.declared.act.Act.TheVariants.{Comes, Starts, Told, Does, Answers}
+use Rattle.pulsar_calls.specs.declared.act.Action.{Action}
+use Rattle.pulsar_calls.specs.declared.act.Action.TheVariants.{TakeTurn, PassTurn, Draw, Remake, Shut, Store, StopAll, TakeBatch, TellAll}
+use Rattle.pulsar_calls.specs.declared.act.Action.TheVariants as action
+use Rattle.pulsar_calls.specs.declared.act.Alarm.TheVariants.{Batch}
+use Rattle.pulsar_calls.specs.declared.act.Notice.{Notice}
+use Rattle.pulsar_calls.specs.declared.act.Part.TheVariants.{Rings}
+use Rattle.pulsar_calls.specs.declared.act.Procedure.{Procedure}
+use Rattle.pulsar_calls.specs.declared.act.Who.{Who}
+use Rattle.pulsar_calls.specs.declared.act.Who.TheVariants.{Producer}
 use Rattle.pulsar_client.specs.declared.producers.Topic.{Topic}
 use Rattle.pulsar_client.specs.Alarms.{rings}
 use Rattle.pulsar_client.specs.BatchLaws.{FlushesWait, under_way}
-use Rattle.pulsar_client.specs.Content.{Heard}
+use Rattle.pulsar_calls.specs.Content.{Heard}
 use Rattle.pulsar_client.specs.Producers.{next_batch_at, numbers_at}
 use Rattle.pulsar_client.specs.ProducerLaws.{acts_on, drawn_by, rung_by, shut_by, topic_acts}
 use Rattle.pulsar_client.specs.Run.{Entry, Begins, Then, IsRun, view}
 use Rattle.pulsar_client.specs.View.{Options, View, room_of}
-use Rattle.pulsar_client.specs.Who.{is_same, turn_of}
+use Rattle.pulsar_calls.specs.Who.{is_same, turn_of}
 use Rattle.pulsar_client.proofs.Acts.{Each, begun_same, each_append, each_either}
 use Rattle.pulsar_client.proofs.Closed.{append_left, append_right}
 use Rattle.pulsar_client.proofs.Drawing.{Every, here, drawn_run, row_from}

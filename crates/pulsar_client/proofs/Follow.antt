@@ -2,29 +2,29 @@
 use Rattle.std.proofs.Common.{◌≡◌, ℕ, ◌∙◌, sym, ap, subst, ◌+◌, ◌-◌, ◌^◌, List, [], ◌∷◌, ◌++◌, refl, arith, drop, Bool, true, false, cond, Option, Some, None, inl, inr, ◌==◌, append-nil, append_assoc}
 use Rattle.std.proofs.lemmas.Bool.{cases_Bool, eqb-true}
 use Rattle.pulsar_run.specs.Run.{rest}
-use Rattle.pulsar_client.specs.declared.act.Act.{Act}
-use Rattle.pulsar_client.specs.declared.act.Act.TheVariants.{Comes, Starts, Told, Does, Answers}
-use Rattle.pulsar_client.specs.declared.act.Action.{Action}
-use Rattle.pulsar_client.specs.declared.act.Action.TheVariants.{Rest}
-use Rattle.pulsar_client.specs.declared.act.Notice.{Notice}
-use Rattle.pulsar_client.specs.declared.act.Outcome.{Outcome}
-use Rattle.pulsar_client.specs.declared.act.Part.{Part}
-use Rattle.pulsar_client.specs.declared.act.Part.TheVariants.{Calls}
-use Rattle.pulsar_client.specs.declared.act.Procedure.{Procedure}
-use Rattle.pulsar_client.specs.declared.act.Makes.{Makes}
-use Rattle.pulsar_client.specs.declared.act.Verdict.{Verdict}
-use Rattle.pulsar_client.specs.declared.act.Who.{Who}
-use Rattle.pulsar_client.specs.declared.act.Who.TheVariants.{Call, Producer}
-use Rattle.pulsar_client.specs.declared.plans.plan.Plan.{Plan}
-use Rattle.pulsar_client.specs.declared.plans.plan.Turn.{Turn}
-use Rattle.pulsar_client.specs.declared.plans.plan.Turn.TheVariants.{Stays, Gives}
-use Rattle.pulsar_client.specs.Content.{Asked, lacks_tickets, shares}
+use Rattle.pulsar_calls.specs.declared.act.Act.{Act}
+use Rattle.pulsar_calls.specs.declared.act.Act.TheVariants.{Comes, Starts, Told, Does, Answers}
+use Rattle.pulsar_calls.specs.declared.act.Action.{Action}
+use Rattle.pulsar_calls.specs.declared.act.Action.TheVariants.{Rest}
+use Rattle.pulsar_calls.specs.declared.act.Notice.{Notice}
+use Rattle.pulsar_calls.specs.declared.act.Outcome.{Outcome}
+use Rattle.pulsar_calls.specs.declared.act.Part.{Part}
+use Rattle.pulsar_calls.specs.declared.act.Part.TheVariants.{Calls}
+use Rattle.pulsar_calls.specs.declared.act.Procedure.{Procedure}
+use Rattle.pulsar_calls.specs.declared.act.Makes.{Makes}
+use Rattle.pulsar_calls.specs.declared.act.Verdict.{Verdict}
+use Rattle.pulsar_calls.specs.declared.act.Who.{Who}
+use Rattle.pulsar_calls.specs.declared.act.Who.TheVariants.{Call, Producer}
+use Rattle.pulsar_calls.specs.declared.plans.plan.Plan.{Plan}
+use Rattle.pulsar_calls.specs.declared.plans.plan.Turn.{Turn}
+use Rattle.pulsar_calls.specs.declared.plans.plan.Turn.TheVariants.{Stays, Gives}
+use Rattle.pulsar_calls.specs.Content.{Asked, lacks_tickets, shares}
 use Rattle.pulsar_client.specs.Laws.{AnswersOnce, Deed, Answered, PlansFollow, acted, course, deed_of, deeds, outcomes, started, verdicts_in}
-use Rattle.pulsar_client.specs.Plan.{begins, told}
+use Rattle.pulsar_calls.specs.Plan.{begins, told}
 use Rattle.pulsar_client.specs.Rules.{at_once, called, does, follows, follows_some, left_with, performs, starts}
 use Rattle.pulsar_client.specs.Run.{Entry, Begins, Then, IsRun, Agenda, agenda, first, view}
 use Rattle.pulsar_client.specs.View.{Options, View, stays, stays_some, told_some, ways_of}
-use Rattle.pulsar_client.specs.Who.{is_same, rank}
+use Rattle.pulsar_calls.specs.Who.{is_same, rank}
 use Rattle.pulsar_client.proofs.Acts.{Each, StartsIn, begun_same, each_append, each_drop, each_map, first_case, is_served, none_now, starts_in}
 use Rattle.pulsar_client.proofs.Left.{left_each}
 use Rattle.pulsar_client.proofs.Quiet.{IsQuiet, comes_quiet, performs_quiet}

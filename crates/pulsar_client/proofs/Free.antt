@@ -16,19 +16,19 @@ use Rattle.pulsar_producer.specs.Storage.{limits_of}
 use Rattle.pulsar_producer.specs.declared.content.Built.{Built}
 use Rattle.pulsar_producer.specs.declared.storage.Limits.{Limits}
 use Rattle.pulsar_producer.specs.declared.deed.News.TheVariants as news
-use Rattle.pulsar_client.specs.declared.act.Act.{Act}
-use Rattle.pulsar_client.specs.declared.act.Act.TheVariants.{Comes, Told, Does, Answers}
-use Rattle.pulsar_client.specs.declared.act.Action.TheVariants.{Draw, Number, Shut}
-use Rattle.pulsar_client.specs.declared.act.Alarm.{Alarm}
-use Rattle.pulsar_client.specs.declared.act.Alarm.TheVariants.{Batch}
-use Rattle.pulsar_client.specs.declared.act.Makes.{Makes}
-use Rattle.pulsar_client.specs.declared.act.Makes.TheVariants.{Producer}
-use Rattle.pulsar_client.specs.declared.act.Outcome.TheVariants as outcome
-use Rattle.pulsar_client.specs.declared.act.Part.TheVariants.{Calls, Rings}
-use Rattle.pulsar_client.specs.declared.act.Who.{Who}
+use Rattle.pulsar_calls.specs.declared.act.Act.{Act}
+use Rattle.pulsar_calls.specs.declared.act.Act.TheVariants.{Comes, Told, Does, Answers}
+use Rattle.pulsar_calls.specs.declared.act.Action.TheVariants.{Draw, Number, Shut}
+use Rattle.pulsar_calls.specs.declared.act.Alarm.{Alarm}
+use Rattle.pulsar_calls.specs.declared.act.Alarm.TheVariants.{Batch}
+use Rattle.pulsar_calls.specs.declared.act.Makes.{Makes}
+use Rattle.pulsar_calls.specs.declared.act.Makes.TheVariants.{Producer}
+use Rattle.pulsar_calls.specs.declared.act.Outcome.TheVariants as outcome
+use Rattle.pulsar_calls.specs.declared.act.Part.TheVariants.{Calls, Rings}
+use Rattle.pulsar_calls.specs.declared.act.Who.{Who}
 use Rattle.pulsar_client.specs.declared.producers.Topic.{Topic}
-use Rattle.pulsar_client.specs.Content as content
-use Rattle.pulsar_client.specs.Content.{Asked, lacks_tickets, shares}
+use Rattle.pulsar_calls.specs.Content as content
+use Rattle.pulsar_calls.specs.Content.{Asked, lacks_tickets, shares}
 use Rattle.pulsar_client.specs.Producers.{Producers, all_routed, called_on, changed, free_from, made_of, names_in, next_free, number_drawn, numbered, numbers_at, opened_on, routed, sent_on, shut_all, why_not, with_built, with_topic, with_topics}
 use Rattle.pulsar_client.specs.ProducerLaws.{NumbersAreFree}
 use Rattle.pulsar_client.specs.Rules.{notice}
@@ -36,7 +36,7 @@ use Rattle.pulsar_client.specs.Alarms.{rings}
 use Rattle.pulsar_client.specs.Run.{Entry, Begins, Then, IsRun, view}
 use Rattle.pulsar_client.specs.View.{Options, View, draws_on, may_call, producers_made, producers_rung, room_of}
 use Rattle.pulsar_client.specs.View as seen
-use Rattle.pulsar_client.specs.Who.{rank}
+use Rattle.pulsar_calls.specs.Who.{rank}
 use Rattle.pulsar_client.proofs.Acts.{begun_same}
 use Rattle.pulsar_client.proofs.Drawing.{Drawn, Every, drawn_run, drew, here, next_after, told_number}
 

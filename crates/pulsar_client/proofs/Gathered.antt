@@ -4,22 +4,22 @@ use Rattle.std.proofs.lemmas.Bool.{cases_Bool}
 use Rattle.std.proofs.lemmas.Bool.Decides.{nat_tests}
 use Rattle.pulsar_run.specs.Laws.{In}
 use Rattle.pulsar_session.specs.Failures.{Failure}
-use Rattle.pulsar_client.specs.declared.act.Act.TheVariants.{Starts, Told, Does}
-use Rattle.pulsar_client.specs.declared.act.Action.TheVariants.{Tell, TellAll}
-use Rattle.pulsar_client.specs.declared.act.Makes.TheVariants.{Nothing}
-use Rattle.pulsar_client.specs.declared.act.Notice.{Notice}
-use Rattle.pulsar_client.specs.declared.act.Outcome.{Outcome}
-use Rattle.pulsar_client.specs.declared.act.Outcome.TheVariants as outcome
-use Rattle.pulsar_client.specs.declared.act.Procedure.TheVariants as procedure
-use Rattle.pulsar_client.specs.declared.act.Who.{Who}
-use Rattle.pulsar_client.specs.declared.act.Who.TheVariants.{Call, Producer}
+use Rattle.pulsar_calls.specs.declared.act.Act.TheVariants.{Starts, Told, Does}
+use Rattle.pulsar_calls.specs.declared.act.Action.TheVariants.{Tell, TellAll}
+use Rattle.pulsar_calls.specs.declared.act.Makes.TheVariants.{Nothing}
+use Rattle.pulsar_calls.specs.declared.act.Notice.{Notice}
+use Rattle.pulsar_calls.specs.declared.act.Outcome.{Outcome}
+use Rattle.pulsar_calls.specs.declared.act.Outcome.TheVariants as outcome
+use Rattle.pulsar_calls.specs.declared.act.Procedure.TheVariants as procedure
+use Rattle.pulsar_calls.specs.declared.act.Who.{Who}
+use Rattle.pulsar_calls.specs.declared.act.Who.TheVariants.{Call, Producer}
 use Rattle.pulsar_client.specs.Laws.{Answered, Cause, counted, outcomes, started}
-use Rattle.pulsar_client.specs.Plan.{verdict}
+use Rattle.pulsar_calls.specs.Plan.{verdict}
 use Rattle.pulsar_client.specs.ProducerLaws.{PartsAreGathered}
 use Rattle.pulsar_client.specs.Rules.{notice}
 use Rattle.pulsar_client.specs.Run.{Entry, Begins, Then, IsRun}
 use Rattle.pulsar_client.specs.View.{Options}
-use Rattle.pulsar_client.specs.Who.{is_same}
+use Rattle.pulsar_calls.specs.Who.{is_same}
 use Rattle.pulsar_client.proofs.Acts.{Each, each_append, each_map}
 use Rattle.pulsar_client.proofs.Caused.{outcomes_are_caused_lem}
 use Rattle.pulsar_client.proofs.Follow.{plans_follow_lem, same_is}

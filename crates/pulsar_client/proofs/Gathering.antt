@@ -8,13 +8,13 @@ use Rattle.std.specs.Ordering.{match_ordering, nat_cmp, is_eq}
 use Rattle.std.specs.declared.cmp.Ordering.TheVariants.{Less, Equal, Greater}
 use Rattle.pulsar_run.specs.Laws.{In}
 use Rattle.pulsar_session.specs.Failures.{Failure, OfConnection, Shutdown}
-use Rattle.pulsar_client.specs.declared.act.Makes.TheVariants.{Nothing}
-use Rattle.pulsar_client.specs.declared.act.Outcome.{Outcome}
-use Rattle.pulsar_client.specs.declared.act.Outcome.TheVariants as outcome
-use Rattle.pulsar_client.specs.Content.{Said, Failed}
+use Rattle.pulsar_calls.specs.declared.act.Makes.TheVariants.{Nothing}
+use Rattle.pulsar_calls.specs.declared.act.Outcome.{Outcome}
+use Rattle.pulsar_calls.specs.declared.act.Outcome.TheVariants as outcome
+use Rattle.pulsar_calls.specs.Content.{Said, Failed}
 use Rattle.pulsar_client.specs.Laws.{Answered, course}
-use Rattle.pulsar_client.specs.Parts.{failed_with, sent_from}
-use Rattle.pulsar_client.specs.Plan.{fails, gathers, verdict}
+use Rattle.pulsar_calls.specs.Parts.{failed_with, sent_from}
+use Rattle.pulsar_calls.specs.Plan.{fails, gathers, verdict}
 use Rattle.pulsar_client.proofs.Acts.{Each}
 use Rattle.pulsar_client.proofs.Fitting.{is_said}
 use Rattle.pulsar_client.proofs.Sources.{in_each}

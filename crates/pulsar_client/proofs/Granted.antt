@@ -19,35 +19,35 @@ use Rattle.pulsar_plans.specs.declared.making.Command.{Command}
 use Rattle.pulsar_producer.specs.declared.deed.Drawn.{Drawn}
 use Rattle.pulsar_producer.specs.declared.deed.News.{News}
 use Rattle.pulsar_producer.specs.declared.deed.News.TheVariants as news
-use Rattle.pulsar_client.specs.declared.act.Act.{Act}
-use Rattle.pulsar_client.specs.declared.act.Act.TheVariants.{Comes, Starts, Told, Does, Answers, Dials}
-use Rattle.pulsar_client.specs.declared.act.Action.{Action}
-use Rattle.pulsar_client.specs.declared.act.Action.TheVariants.{Get, Ask, Wait, TakeTurn, PassTurn, Draw, Recall, Remake, Number, Find, Shut, Store, Flush, TakeBatch, Tell, TellAll, StopAll, Rest}
-use Rattle.pulsar_client.specs.declared.act.Alarm.{Alarm}
-use Rattle.pulsar_client.specs.declared.act.Alarm.TheVariants.{Retry, Wake, Batch}
-use Rattle.pulsar_client.specs.declared.act.End.{End}
-use Rattle.pulsar_client.specs.declared.act.End.TheVariants.{Unopened, Lost, Overdue, Broken, Idles, Stops}
-use Rattle.pulsar_client.specs.declared.act.LinkAct.TheVariants.{Reads, Drains, Ends}
-use Rattle.pulsar_client.specs.declared.act.Notice.{Notice}
-use Rattle.pulsar_client.specs.declared.act.Outcome.{Outcome}
-use Rattle.pulsar_client.specs.declared.act.Outcome.TheVariants as outcome
-use Rattle.pulsar_client.specs.declared.act.Part.{Part}
-use Rattle.pulsar_client.specs.declared.act.Part.TheVariants.{ToLink, Rings}
-use Rattle.pulsar_client.specs.declared.act.Procedure.{Procedure}
-use Rattle.pulsar_client.specs.declared.act.Procedure.TheVariants as procedure
-use Rattle.pulsar_client.specs.declared.act.Who.{Who}
+use Rattle.pulsar_calls.specs.declared.act.Act.{Act}
+use Rattle.pulsar_calls.specs.declared.act.Act.TheVariants.{Comes, Starts, Told, Does, Answers, Dials}
+use Rattle.pulsar_calls.specs.declared.act.Action.{Action}
+use Rattle.pulsar_calls.specs.declared.act.Action.TheVariants.{Get, Ask, Wait, TakeTurn, PassTurn, Draw, Recall, Remake, Number, Find, Shut, Store, Flush, TakeBatch, Tell, TellAll, StopAll, Rest}
+use Rattle.pulsar_calls.specs.declared.act.Alarm.{Alarm}
+use Rattle.pulsar_calls.specs.declared.act.Alarm.TheVariants.{Retry, Wake, Batch}
+use Rattle.pulsar_calls.specs.declared.act.End.{End}
+use Rattle.pulsar_calls.specs.declared.act.End.TheVariants.{Unopened, Lost, Overdue, Broken, Idles, Stops}
+use Rattle.pulsar_calls.specs.declared.act.LinkAct.TheVariants.{Reads, Drains, Ends}
+use Rattle.pulsar_calls.specs.declared.act.Notice.{Notice}
+use Rattle.pulsar_calls.specs.declared.act.Outcome.{Outcome}
+use Rattle.pulsar_calls.specs.declared.act.Outcome.TheVariants as outcome
+use Rattle.pulsar_calls.specs.declared.act.Part.{Part}
+use Rattle.pulsar_calls.specs.declared.act.Part.TheVariants.{ToLink, Rings}
+use Rattle.pulsar_calls.specs.declared.act.Procedure.{Procedure}
+use Rattle.pulsar_calls.specs.declared.act.Procedure.TheVariants as procedure
+use Rattle.pulsar_calls.specs.declared.act.Who.{Who}
 use Rattle.pulsar_client.specs.declared.addresses.Pause.{Pause}
 use Rattle.pulsar_client.specs.declared.addresses.Series.{Series}
 use Rattle.pulsar_client.specs.declared.addresses.Series.TheVariants.{Nobody, Runs, Pauses, Serves}
-use Rattle.pulsar_client.specs.declared.plans.plan.Plan.{Plan}
-use Rattle.pulsar_client.specs.declared.plans.plan.Turn.TheVariants.{Stays}
+use Rattle.pulsar_calls.specs.declared.plans.plan.Plan.{Plan}
+use Rattle.pulsar_calls.specs.declared.plans.plan.Turn.TheVariants.{Stays}
 use Rattle.pulsar_client.specs.declared.producers.Topic.{Topic}
 use Rattle.pulsar_client.specs.Alarms.{rings}
 use Rattle.pulsar_client.specs.Laws.{Acted, Answered}
 use Rattle.pulsar_client.specs.Links.{Change, Becomes, IsOver}
-use Rattle.pulsar_client.specs.Plan.{begins, closed_notice, told}
+use Rattle.pulsar_calls.specs.Plan.{begins, closed_notice, told}
 use Rattle.pulsar_producer.specs.Topic as topic
-use Rattle.pulsar_client.specs.Who.{turn_of}
+use Rattle.pulsar_calls.specs.Who.{turn_of}
 use Rattle.pulsar_client.specs.Producers.{drawn, is_settled_at, is_woken, link_at, next_batch_at, number_drawn, numbers_at, recalled, stored_by, turn_passed, turn_taken, unsent, waiting}
 use Rattle.pulsar_client.specs.Rules.{alone, answered_by, answered_on, at_once, below, caused, causes, draw_outcome, draw_said, dropped, ended_by, ended_on, failed, failed_at, failed_by, failed_on, failed_over, fails_so, finds, gets_from, grants, joins, lost, lost_so, lost_with, moved_on, notice, number_said, opens, over_links, performs, readied, ready_notice, recalls, served_by, served_on, stop_act, stopped_at, stopped_call, stopped_one, stopped_with, takes_turn, tells, tells_asker, told_at, turn_notice, waiters_of, woken}
 use Rattle.pulsar_client.specs.Run.{Entry, Begins, Then, IsRun, agenda, rules, view}

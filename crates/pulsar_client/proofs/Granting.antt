@@ -9,9 +9,9 @@ use Rattle.pulsar_producer.specs.declared.deed.Drawn.{Drawn}
 use Rattle.pulsar_producer.specs.declared.deed.News.TheVariants as news
 use Rattle.pulsar_plans.specs.declared.making.Command.{Command}
 use Rattle.pulsar_session.specs.Failures.{Disconnected, Exhausted}
-use Rattle.pulsar_client.specs.declared.act.Act.{Act}
-use Rattle.pulsar_client.specs.declared.act.Outcome.TheVariants as outcome
-use Rattle.pulsar_client.specs.declared.act.Who.{Who}
+use Rattle.pulsar_calls.specs.declared.act.Act.{Act}
+use Rattle.pulsar_calls.specs.declared.act.Outcome.TheVariants as outcome
+use Rattle.pulsar_calls.specs.declared.act.Who.{Who}
 use Rattle.pulsar_client.specs.declared.producers.Topic.{Topic}
 use Rattle.pulsar_client.specs.Producers.{Producers, changed, drawn, topic_after, turn_taken}
 use Rattle.pulsar_client.specs.Rules.{draw_outcome, draw_said, finds, grants, number_said, recalls, takes_turn, tells, tells_lost}

@@ -7,23 +7,23 @@ use Rattle.pulsar_session.specs.Link.{is_spent}
 use Rattle.pulsar_link.specs.Items.{Item}
 use Rattle.pulsar_link.specs.Messages.{Reply}
 use Rattle.pulsar_link.specs.Request.{closed_consumer}
-use Rattle.pulsar_client.specs.declared.act.Act.TheVariants.{Comes, Does, Answers}
-use Rattle.pulsar_client.specs.declared.act.Action.TheVariants.{Ask}
-use Rattle.pulsar_client.specs.declared.act.Arrival.{Arrival}
-use Rattle.pulsar_client.specs.declared.act.Arrival.TheVariants.{Gives}
-use Rattle.pulsar_client.specs.declared.act.LinkAct.TheVariants.{Reads, Ends}
-use Rattle.pulsar_client.specs.declared.act.Makes.{Makes}
-use Rattle.pulsar_client.specs.declared.act.Makes.TheVariants.{Consumer}
-use Rattle.pulsar_client.specs.declared.act.Part.TheVariants.{ToLink, Polls}
-use Rattle.pulsar_client.specs.declared.act.Verdict.{Verdict}
-use Rattle.pulsar_client.specs.declared.act.Who.{Who}
-use Rattle.pulsar_client.specs.declared.act.Who.TheVariants.{Call}
-use Rattle.pulsar_client.specs.Content.{Heard}
+use Rattle.pulsar_calls.specs.declared.act.Act.TheVariants.{Comes, Does, Answers}
+use Rattle.pulsar_calls.specs.declared.act.Action.TheVariants.{Ask}
+use Rattle.pulsar_calls.specs.declared.act.Arrival.{Arrival}
+use Rattle.pulsar_calls.specs.declared.act.Arrival.TheVariants.{Gives}
+use Rattle.pulsar_calls.specs.declared.act.LinkAct.TheVariants.{Reads, Ends}
+use Rattle.pulsar_calls.specs.declared.act.Makes.{Makes}
+use Rattle.pulsar_calls.specs.declared.act.Makes.TheVariants.{Consumer}
+use Rattle.pulsar_calls.specs.declared.act.Part.TheVariants.{ToLink, Polls}
+use Rattle.pulsar_calls.specs.declared.act.Verdict.{Verdict}
+use Rattle.pulsar_calls.specs.declared.act.Who.{Who}
+use Rattle.pulsar_calls.specs.declared.act.Who.TheVariants.{Call}
+use Rattle.pulsar_calls.specs.Content.{Heard}
 use Rattle.pulsar_client.specs.Laws.{ConsumersHearToTheirEnd, EndsOnce, Continues, counted, end_of, ends_at, has_end, last_arrival}
 use Rattle.pulsar_client.specs.Run.{Entry, Begins, Then, IsRun, view}
 use Rattle.pulsar_client.specs.Subscriptions.{Subscription, after_frame, after_poll, closes_it, ended, ended_at, ended_on, hears, is_last}
 use Rattle.pulsar_client.specs.View.{Options, View, answer_at, arrival_at, begun, begun_live, closing, hears_ask, is_asked, is_live, made}
-use Rattle.pulsar_client.specs.Who.{is_same}
+use Rattle.pulsar_calls.specs.Who.{is_same}
 use Rattle.pulsar_client.proofs.Ticketed.{older_ticket}
 
 -- WHO MAKES A CONSUMER

@@ -48,26 +48,26 @@ use Rattle.pulsar_producer.specs.declared.deed.Step.TheVariants as step
 use Rattle.pulsar_producer.specs.declared.sending.Errand.{Errand}
 use Rattle.pulsar_producer.specs.declared.sending.Sending.{Sending as Send}
 use Rattle.pulsar_producer.specs.declared.sending.Sending.TheVariants as send
-use Rattle.pulsar_client.specs.declared.act.Action.{Action}
-use Rattle.pulsar_client.specs.declared.act.Action.TheVariants.{TakeTurn, PassTurn, Rest}
-use Rattle.pulsar_client.specs.declared.act.Outcome.{Outcome}
-use Rattle.pulsar_client.specs.declared.act.Outcome.TheVariants as outcome
-use Rattle.pulsar_client.specs.declared.act.Place.TheVariants.{At, Link}
-use Rattle.pulsar_client.specs.declared.act.Procedure.{Procedure}
-use Rattle.pulsar_client.specs.declared.act.Procedure.TheVariants as procedure
-use Rattle.pulsar_client.specs.declared.act.Round.{Round}
-use Rattle.pulsar_client.specs.declared.act.Round.TheVariants.{Checks, Flushes, Closes}
-use Rattle.pulsar_client.specs.declared.act.Share.{Share}
-use Rattle.pulsar_client.specs.declared.act.Verdict.{Verdict}
-use Rattle.pulsar_client.specs.declared.plans.plan.At.{At as Spot}
-use Rattle.pulsar_client.specs.declared.plans.plan.At.TheVariants as at
-use Rattle.pulsar_client.specs.declared.plans.plan.Plan.{Plan}
-use Rattle.pulsar_client.specs.declared.plans.plan.Plan.TheVariants.{Building, Getting, Asking, Awaiting, Searching, Producing, Sending, Reporting, Storing, Stored, Batching, Leaving, Gathering, Shutting, Visiting, Stopping}
-use Rattle.pulsar_client.specs.declared.plans.plan.Turn.{Turn}
-use Rattle.pulsar_client.specs.declared.plans.plan.Turn.TheVariants.{Stays, Gives}
-use Rattle.pulsar_client.specs.declared.plans.plan.Wanted.{Wanted}
-use Rattle.pulsar_client.specs.Parts.{failed_with}
-use Rattle.pulsar_client.specs.Plan.{action_of, asks, asks_of, batches_on, begins, builds, fails, fails_in, fault_of, gathers, goes, goes_on_sending, goes_round, halted, in_asking, in_awaiting, in_finding, in_passing, in_settling, in_turning, is_answer, is_sent, leaves, news_in, news_of, overrides, sends_stay, stands, stored, told, told_at, told_send, visited, visits, waits, wished}
+use Rattle.pulsar_calls.specs.declared.act.Action.{Action}
+use Rattle.pulsar_calls.specs.declared.act.Action.TheVariants.{TakeTurn, PassTurn, Rest}
+use Rattle.pulsar_calls.specs.declared.act.Outcome.{Outcome}
+use Rattle.pulsar_calls.specs.declared.act.Outcome.TheVariants as outcome
+use Rattle.pulsar_calls.specs.declared.act.Place.TheVariants.{At, Link}
+use Rattle.pulsar_calls.specs.declared.act.Procedure.{Procedure}
+use Rattle.pulsar_calls.specs.declared.act.Procedure.TheVariants as procedure
+use Rattle.pulsar_calls.specs.declared.act.Round.{Round}
+use Rattle.pulsar_calls.specs.declared.act.Round.TheVariants.{Checks, Flushes, Closes}
+use Rattle.pulsar_calls.specs.declared.act.Share.{Share}
+use Rattle.pulsar_calls.specs.declared.act.Verdict.{Verdict}
+use Rattle.pulsar_calls.specs.declared.plans.plan.At.{At as Spot}
+use Rattle.pulsar_calls.specs.declared.plans.plan.At.TheVariants as at
+use Rattle.pulsar_calls.specs.declared.plans.plan.Plan.{Plan}
+use Rattle.pulsar_calls.specs.declared.plans.plan.Plan.TheVariants.{Building, Getting, Asking, Awaiting, Searching, Producing, Sending, Reporting, Storing, Stored, Batching, Leaving, Gathering, Shutting, Visiting, Stopping}
+use Rattle.pulsar_calls.specs.declared.plans.plan.Turn.{Turn}
+use Rattle.pulsar_calls.specs.declared.plans.plan.Turn.TheVariants.{Stays, Gives}
+use Rattle.pulsar_calls.specs.declared.plans.plan.Wanted.{Wanted}
+use Rattle.pulsar_calls.specs.Parts.{failed_with}
+use Rattle.pulsar_calls.specs.Plan.{action_of, asks, asks_of, batches_on, begins, builds, fails, fails_in, fault_of, gathers, goes, goes_on_sending, goes_round, halted, in_asking, in_awaiting, in_finding, in_passing, in_settling, in_turning, is_answer, is_sent, leaves, news_in, news_of, overrides, sends_stay, stands, stored, told, told_at, told_send, visited, visits, waits, wished}
 use Rattle.pulsar_client.specs.ProducerLaws.{turn_in, turn_of}
 use Rattle.pulsar_client.proofs.Natures.{StaysSo, either_so, is_leaving}
 

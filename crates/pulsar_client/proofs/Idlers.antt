@@ -18,40 +18,40 @@ use Rattle.pulsar_producer.specs.Topic.{Act as TopicAct}
 use Rattle.pulsar_producer.specs.declared.deed.News.{News}
 use Rattle.pulsar_producer.specs.declared.deed.News.TheVariants as news
 use Rattle.pulsar_requests.specs.Soonest.{has_come}
-use Rattle.pulsar_client.specs.declared.act.Act.{Act}
-use Rattle.pulsar_client.specs.declared.act.Act.TheVariants.{Comes, Starts, Told, Does, Answers, Dials}
-use Rattle.pulsar_client.specs.declared.act.Action.{Action}
-use Rattle.pulsar_client.specs.declared.act.Action.TheVariants.{Get, Ask, Wait, TakeTurn, Draw, Recall, Number, Find, Shut, Store, Flush, Tell, TellAll, Rest, StopAll}
-use Rattle.pulsar_client.specs.declared.act.Alarm.{Alarm}
-use Rattle.pulsar_client.specs.declared.act.Alarm.TheVariants.{Retry, Wake, Batch, KeepAlive, CheckIdle}
-use Rattle.pulsar_client.specs.declared.act.LinkAct.{LinkAct}
-use Rattle.pulsar_client.specs.declared.act.LinkAct.TheVariants.{Opens, Reads, Drains, Pings, Ends}
-use Rattle.pulsar_client.specs.declared.act.Outcome.{Outcome}
-use Rattle.pulsar_client.specs.declared.act.Outcome.TheVariants as outcome
-use Rattle.pulsar_client.specs.declared.act.Part.TheVariants.{ToLink, Rings}
-use Rattle.pulsar_client.specs.declared.act.Procedure.{Procedure}
-use Rattle.pulsar_client.specs.declared.act.Procedure.TheVariants as procedure
-use Rattle.pulsar_client.specs.declared.act.Verdict.{Verdict}
-use Rattle.pulsar_client.specs.declared.act.Who.{Who}
-use Rattle.pulsar_client.specs.declared.act.Who.TheVariants.{Call, Producer}
+use Rattle.pulsar_calls.specs.declared.act.Act.{Act}
+use Rattle.pulsar_calls.specs.declared.act.Act.TheVariants.{Comes, Starts, Told, Does, Answers, Dials}
+use Rattle.pulsar_calls.specs.declared.act.Action.{Action}
+use Rattle.pulsar_calls.specs.declared.act.Action.TheVariants.{Get, Ask, Wait, TakeTurn, Draw, Recall, Number, Find, Shut, Store, Flush, Tell, TellAll, Rest, StopAll}
+use Rattle.pulsar_calls.specs.declared.act.Alarm.{Alarm}
+use Rattle.pulsar_calls.specs.declared.act.Alarm.TheVariants.{Retry, Wake, Batch, KeepAlive, CheckIdle}
+use Rattle.pulsar_calls.specs.declared.act.LinkAct.{LinkAct}
+use Rattle.pulsar_calls.specs.declared.act.LinkAct.TheVariants.{Opens, Reads, Drains, Pings, Ends}
+use Rattle.pulsar_calls.specs.declared.act.Outcome.{Outcome}
+use Rattle.pulsar_calls.specs.declared.act.Outcome.TheVariants as outcome
+use Rattle.pulsar_calls.specs.declared.act.Part.TheVariants.{ToLink, Rings}
+use Rattle.pulsar_calls.specs.declared.act.Procedure.{Procedure}
+use Rattle.pulsar_calls.specs.declared.act.Procedure.TheVariants as procedure
+use Rattle.pulsar_calls.specs.declared.act.Verdict.{Verdict}
+use Rattle.pulsar_calls.specs.declared.act.Who.{Who}
+use Rattle.pulsar_calls.specs.declared.act.Who.TheVariants.{Call, Producer}
 use Rattle.pulsar_client.specs.declared.addresses.Pause.{Pause}
 use Rattle.pulsar_client.specs.declared.addresses.Series.{Series}
 use Rattle.pulsar_client.specs.declared.addresses.Series.TheVariants.{Nobody, Runs, Pauses, Serves}
-use Rattle.pulsar_client.specs.declared.plans.plan.Plan.{Plan}
-use Rattle.pulsar_client.specs.declared.plans.plan.Plan.TheVariants.{Gathering}
-use Rattle.pulsar_client.specs.declared.plans.plan.Turn.{Turn}
-use Rattle.pulsar_client.specs.declared.plans.plan.Turn.TheVariants.{Stays, Gives}
+use Rattle.pulsar_calls.specs.declared.plans.plan.Plan.{Plan}
+use Rattle.pulsar_calls.specs.declared.plans.plan.Plan.TheVariants.{Gathering}
+use Rattle.pulsar_calls.specs.declared.plans.plan.Turn.{Turn}
+use Rattle.pulsar_calls.specs.declared.plans.plan.Turn.TheVariants.{Stays, Gives}
 use Rattle.pulsar_client.specs.declared.producers.Topic.{Topic}
 use Rattle.pulsar_client.specs.Alarms.{alarm_cmp, clear, is_same_alarm, moment_of, rings, set}
-use Rattle.pulsar_client.specs.Content.{Heard, Bytes}
+use Rattle.pulsar_calls.specs.Content.{Heard, Bytes}
 use Rattle.pulsar_client.specs.Laws.{Acts, AttemptEnds, BecomesReady, Cause, DrawsNone, Finds, GetsTurn, GrantsSo, IsDropped, IsReady, IsReplied, IsToldBy, IsUnknown, IsWoken, LineEnds, MovesUp, RequestEnds, counted, start_of, started}
 use Rattle.pulsar_client.specs.Links.{Change, Remains, Becomes, IsOver}
-use Rattle.pulsar_client.specs.Plan.{begins, gathers, told}
+use Rattle.pulsar_calls.specs.Plan.{begins, gathers, told}
 use Rattle.pulsar_client.specs.Producers.{is_bare, numbers_at, stored_at, timeout_at, topic_after, turn_passed}
 use Rattle.pulsar_client.specs.Rules.{notice}
 use Rattle.pulsar_client.specs.Run.{Entry, Begins, Then, IsRun, view}
 use Rattle.pulsar_client.specs.View.{Addresses, Base, Chosen, Options, Seat, Turned, View, after, alarms_after, alarms_on, alarms_on_topic, alarms_over, alarms_rung, alarms_turned, alarms_waiting, asker_at, base_after, base_on, base_turned, begun_live, clear_all, got_at, is_live, link_got, live_after, live_begun, nobody, seat_asked, seat_fed, seat_got, stays, stays_some, told_some, took_end, took_some, turned, waits_for, waits_from, waits_on}
-use Rattle.pulsar_client.specs.Who.{behind_all, in_turn, is_same, turn_of}
+use Rattle.pulsar_calls.specs.Who.{behind_all, in_turn, is_same, turn_of}
 use Rattle.pulsar_client.proofs.Acts.{Each, begun_same}
 use Rattle.pulsar_client.proofs.Caused.{outcomes_are_caused_lem}
 use Rattle.pulsar_client.proofs.Fitting.{is_said}

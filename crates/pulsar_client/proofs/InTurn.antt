@@ -21,34 +21,34 @@ use Rattle.pulsar_producer.specs.declared.sending.Errand.{Errand}
 use Rattle.pulsar_producer.specs.declared.sending.Sending.{Sending as Send}
 use Rattle.pulsar_producer.specs.declared.sending.Sending.TheVariants as send
 use Rattle.pulsar_producer.proofs.Turns.{lowest_is_next}
-use Rattle.pulsar_client.specs.declared.act.Act.{Act}
-use Rattle.pulsar_client.specs.declared.act.Act.TheVariants.{Comes, Starts, Told, Does, Answers, Dials}
-use Rattle.pulsar_client.specs.declared.act.Action.{Action}
-use Rattle.pulsar_client.specs.declared.act.Action.TheVariants.{TakeTurn, PassTurn, Rest}
-use Rattle.pulsar_client.specs.declared.act.Notice.{Notice}
-use Rattle.pulsar_client.specs.declared.act.Outcome.{Outcome}
-use Rattle.pulsar_client.specs.declared.act.Outcome.TheVariants as outcome
-use Rattle.pulsar_client.specs.declared.act.Procedure.{Procedure}
-use Rattle.pulsar_client.specs.declared.act.Verdict.{Verdict}
-use Rattle.pulsar_client.specs.declared.act.Who.{Who}
-use Rattle.pulsar_client.specs.declared.act.Who.TheVariants.{Call, Producer}
-use Rattle.pulsar_client.specs.declared.act.Share.{Share}
-use Rattle.pulsar_client.specs.declared.plans.plan.At.{At as Spot}
-use Rattle.pulsar_client.specs.declared.plans.plan.At.TheVariants as at
-use Rattle.pulsar_client.specs.declared.plans.plan.Plan.{Plan}
-use Rattle.pulsar_client.specs.declared.plans.plan.Plan.TheVariants.{Batching, Leaving, Reporting, Sending, Visiting}
-use Rattle.pulsar_client.specs.declared.plans.plan.Turn.{Turn}
-use Rattle.pulsar_client.specs.declared.plans.plan.Turn.TheVariants.{Stays, Gives}
+use Rattle.pulsar_calls.specs.declared.act.Act.{Act}
+use Rattle.pulsar_calls.specs.declared.act.Act.TheVariants.{Comes, Starts, Told, Does, Answers, Dials}
+use Rattle.pulsar_calls.specs.declared.act.Action.{Action}
+use Rattle.pulsar_calls.specs.declared.act.Action.TheVariants.{TakeTurn, PassTurn, Rest}
+use Rattle.pulsar_calls.specs.declared.act.Notice.{Notice}
+use Rattle.pulsar_calls.specs.declared.act.Outcome.{Outcome}
+use Rattle.pulsar_calls.specs.declared.act.Outcome.TheVariants as outcome
+use Rattle.pulsar_calls.specs.declared.act.Procedure.{Procedure}
+use Rattle.pulsar_calls.specs.declared.act.Verdict.{Verdict}
+use Rattle.pulsar_calls.specs.declared.act.Who.{Who}
+use Rattle.pulsar_calls.specs.declared.act.Who.TheVariants.{Call, Producer}
+use Rattle.pulsar_calls.specs.declared.act.Share.{Share}
+use Rattle.pulsar_calls.specs.declared.plans.plan.At.{At as Spot}
+use Rattle.pulsar_calls.specs.declared.plans.plan.At.TheVariants as at
+use Rattle.pulsar_calls.specs.declared.plans.plan.Plan.{Plan}
+use Rattle.pulsar_calls.specs.declared.plans.plan.Plan.TheVariants.{Batching, Leaving, Reporting, Sending, Visiting}
+use Rattle.pulsar_calls.specs.declared.plans.plan.Turn.{Turn}
+use Rattle.pulsar_calls.specs.declared.plans.plan.Turn.TheVariants.{Stays, Gives}
 use Rattle.pulsar_client.specs.declared.producers.Topic.{Topic}
-use Rattle.pulsar_client.specs.Content.{Heard}
+use Rattle.pulsar_calls.specs.Content.{Heard}
 use Rattle.pulsar_client.specs.Laws.{counted, start_of, started}
-use Rattle.pulsar_client.specs.Plan.{begins, told}
+use Rattle.pulsar_calls.specs.Plan.{begins, told}
 use Rattle.pulsar_client.specs.Producers.{topic_after, turn_passed}
 use Rattle.pulsar_client.specs.ProducerLaws.{HasTurn, acts_on, turn_in, turn_of}
 use Rattle.pulsar_client.specs.Rules.{at_once, joins, notice, turn_notice}
 use Rattle.pulsar_client.specs.Run.{Entry, Begins, Then, IsRun, agenda, view}
 use Rattle.pulsar_client.specs.View.{Options, View, stand_after, stays, stays_some, told_some}
-use Rattle.pulsar_client.specs.Who.{behind_all, is_same, turn_of as taken_as}
+use Rattle.pulsar_calls.specs.Who.{behind_all, is_same, turn_of as taken_as}
 use Rattle.pulsar_client.proofs.Acts.{begun_same}
 use Rattle.pulsar_client.proofs.BatchRun.{Batched, batched_run}
 use Rattle.pulsar_client.proofs.Drawing.{Every, began_on, drawn_run, here, row_from}

@@ -9,7 +9,7 @@ use Rattle.pulsar_client.specs.Effects.{effect_below, effect_rank, is_before3}
 use Rattle.pulsar_client.specs.Laws.{CausesInOrder, Determined, EffectsArranged}
 use Rattle.pulsar_client.specs.Rules.{below}
 use Rattle.pulsar_client.specs.Run.{rules}
-use Rattle.pulsar_client.specs.Who.{is_before, rank}
+use Rattle.pulsar_calls.specs.Who.{is_before, rank}
 
 one_way2 : (a b c d : ℕ) → is_before (a, b) (c, d) ≡ true → is_before (c, d) (a, b) ≡ false
 one_way2 a b c d h = grind (arith, nat_tests, common_steps)

@@ -2,32 +2,32 @@
 use Rattle.std.proofs.Common.{◌≡◌, ◌⊎◌, inl, inr, ◌∙◌, sym, ap, subst, ℕ, ◌+◌, List, ◌∷◌, ◌++◌, refl, map, Bool, true, false, Option, Some, None, [], Ok, Err}
 use Rattle.pulsar_run.specs.Run.{rest_of}
 use Rattle.pulsar_session.specs.Failures.{Failure, OfConnection}
-use Rattle.pulsar_client.specs.declared.act.Act.{Act}
-use Rattle.pulsar_client.specs.declared.act.Act.TheVariants.{Comes, Starts, Told, Does, Answers}
-use Rattle.pulsar_client.specs.declared.act.Action.TheVariants.{Rest, TakeBatch, Tell, TellAll}
-use Rattle.pulsar_client.specs.declared.act.End.TheVariants.{Stops}
-use Rattle.pulsar_client.specs.declared.act.LinkAct.TheVariants.{Ends}
-use Rattle.pulsar_client.specs.declared.act.Makes.{Makes}
-use Rattle.pulsar_client.specs.declared.act.Makes.TheVariants.{Nothing}
-use Rattle.pulsar_client.specs.declared.act.Notice.{Notice}
-use Rattle.pulsar_client.specs.declared.act.Outcome.{Outcome}
-use Rattle.pulsar_client.specs.declared.act.Part.{Part}
-use Rattle.pulsar_client.specs.declared.act.Part.TheVariants.{ToLink}
-use Rattle.pulsar_client.specs.declared.act.Procedure.{Procedure}
-use Rattle.pulsar_client.specs.declared.act.Verdict.{Verdict}
-use Rattle.pulsar_client.specs.declared.act.Who.{Who}
-use Rattle.pulsar_client.specs.declared.act.Who.TheVariants.{Call}
-use Rattle.pulsar_client.specs.declared.plans.plan.Plan.{Plan}
-use Rattle.pulsar_client.specs.declared.plans.plan.Turn.{Turn}
-use Rattle.pulsar_client.specs.declared.plans.plan.Turn.TheVariants.{Stays, Gives}
+use Rattle.pulsar_calls.specs.declared.act.Act.{Act}
+use Rattle.pulsar_calls.specs.declared.act.Act.TheVariants.{Comes, Starts, Told, Does, Answers}
+use Rattle.pulsar_calls.specs.declared.act.Action.TheVariants.{Rest, TakeBatch, Tell, TellAll}
+use Rattle.pulsar_calls.specs.declared.act.End.TheVariants.{Stops}
+use Rattle.pulsar_calls.specs.declared.act.LinkAct.TheVariants.{Ends}
+use Rattle.pulsar_calls.specs.declared.act.Makes.{Makes}
+use Rattle.pulsar_calls.specs.declared.act.Makes.TheVariants.{Nothing}
+use Rattle.pulsar_calls.specs.declared.act.Notice.{Notice}
+use Rattle.pulsar_calls.specs.declared.act.Outcome.{Outcome}
+use Rattle.pulsar_calls.specs.declared.act.Part.{Part}
+use Rattle.pulsar_calls.specs.declared.act.Part.TheVariants.{ToLink}
+use Rattle.pulsar_calls.specs.declared.act.Procedure.{Procedure}
+use Rattle.pulsar_calls.specs.declared.act.Verdict.{Verdict}
+use Rattle.pulsar_calls.specs.declared.act.Who.{Who}
+use Rattle.pulsar_calls.specs.declared.act.Who.TheVariants.{Call}
+use Rattle.pulsar_calls.specs.declared.plans.plan.Plan.{Plan}
+use Rattle.pulsar_calls.specs.declared.plans.plan.Turn.{Turn}
+use Rattle.pulsar_calls.specs.declared.plans.plan.Turn.TheVariants.{Stays, Gives}
 use Rattle.pulsar_plans.specs.declared.turn.Ways.{Ways}
-use Rattle.pulsar_client.specs.Plan.{batches_on, fault_of, told, told_to, verdict, halted_with}
+use Rattle.pulsar_calls.specs.Plan.{batches_on, fault_of, told, told_to, verdict, halted_with}
 use Rattle.pulsar_client.specs.Rules.{follows, follows_some}
 use Rattle.pulsar_client.specs.View.{told_some, stays, stays_some}
 use Rattle.pulsar_producer.specs.declared.sending.Sending.{Sending as Send}
 use Rattle.pulsar_producer.specs.declared.sending.Errand.{Errand}
-use Rattle.pulsar_client.specs.declared.plans.plan.Plan.TheVariants.{Batching, Leaving, Reporting, Sending, Stored, Storing, Visiting}
-use Rattle.pulsar_client.specs.declared.plans.plan.At.TheVariants as at
+use Rattle.pulsar_calls.specs.declared.plans.plan.Plan.TheVariants.{Batching, Leaving, Reporting, Sending, Stored, Storing, Visiting}
+use Rattle.pulsar_calls.specs.declared.plans.plan.At.TheVariants as at
 use Rattle.pulsar_producer.specs.Batch.{cut_report, reports_from}
 use Rattle.pulsar_producer.specs.Batching as batches
 use Rattle.pulsar_producer.specs.declared.batch.Fate.TheVariants as fate
@@ -36,9 +36,9 @@ use Rattle.pulsar_producer.specs.declared.batch.Member.TheVariants as member
 use Rattle.pulsar_producer.specs.declared.batching.Batching.{Batching as Batches}
 use Rattle.pulsar_producer.specs.declared.batching.Batching.TheVariants as batching
 use Rattle.pulsar_producer.specs.declared.deed.News.TheVariants as news
-use Rattle.pulsar_client.specs.declared.act.Share.{Share}
-use Rattle.pulsar_client.specs.declared.act.Outcome.TheVariants as outcome
-use Rattle.pulsar_client.specs.declared.act.Procedure.TheVariants as procedure
+use Rattle.pulsar_calls.specs.declared.act.Share.{Share}
+use Rattle.pulsar_calls.specs.declared.act.Outcome.TheVariants as outcome
+use Rattle.pulsar_calls.specs.declared.act.Procedure.TheVariants as procedure
 use Rattle.pulsar_producer.specs.declared.sending.Sending.TheVariants as send
 use Rattle.pulsar_client.proofs.Acts.{Each, each_append, each_map, each_rest}
 use Rattle.pulsar_client.proofs.Fitting.{Leaves, Spot, spot}

@@ -1,7 +1,5 @@
-pub mod Lists
 pub mod Places
 pub mod Grown
-pub mod Parting
 pub mod Producing
 pub mod Answering
 pub mod Moments
@@ -11,7 +9,6 @@ pub mod Deliveries
 pub mod Listening
 pub mod Idle
 pub mod Waiting
-pub mod Saying
 pub mod Steps
 pub mod Sorting
 pub mod Ranking

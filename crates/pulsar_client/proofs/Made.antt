@@ -6,19 +6,19 @@ use Rattle.pulsar_run.specs.Run.{first_of, rest, rest_of}
 use Rattle.pulsar_run.proofs.Arising.{acts_arise_lem}
 use Rattle.pulsar_session.specs.Link.{due, is_spent}
 use Rattle.pulsar_producer.specs.Routing.{Policy}
-use Rattle.pulsar_client.specs.declared.act.Act.{Act}
-use Rattle.pulsar_client.specs.declared.act.Act.TheVariants.{Comes, Starts, Told}
-use Rattle.pulsar_client.specs.declared.act.Alarm.{Alarm}
-use Rattle.pulsar_client.specs.declared.act.Arrival.{Arrival}
-use Rattle.pulsar_client.specs.declared.act.Arrival.TheVariants.{Nothing, Bad}
-use Rattle.pulsar_client.specs.declared.act.LinkAct.TheVariants.{Reads}
-use Rattle.pulsar_client.specs.declared.act.Notice.{Notice}
-use Rattle.pulsar_client.specs.declared.act.Part.{Part}
-use Rattle.pulsar_client.specs.declared.act.Part.TheVariants.{Calls, ToLink, Rings, Polls}
-use Rattle.pulsar_client.specs.declared.act.Procedure.{Procedure}
-use Rattle.pulsar_client.specs.declared.act.Who.TheVariants.{Call}
+use Rattle.pulsar_calls.specs.declared.act.Act.{Act}
+use Rattle.pulsar_calls.specs.declared.act.Act.TheVariants.{Comes, Starts, Told}
+use Rattle.pulsar_calls.specs.declared.act.Alarm.{Alarm}
+use Rattle.pulsar_calls.specs.declared.act.Arrival.{Arrival}
+use Rattle.pulsar_calls.specs.declared.act.Arrival.TheVariants.{Nothing, Bad}
+use Rattle.pulsar_calls.specs.declared.act.LinkAct.TheVariants.{Reads}
+use Rattle.pulsar_calls.specs.declared.act.Notice.{Notice}
+use Rattle.pulsar_calls.specs.declared.act.Part.{Part}
+use Rattle.pulsar_calls.specs.declared.act.Part.TheVariants.{Calls, ToLink, Rings, Polls}
+use Rattle.pulsar_calls.specs.declared.act.Procedure.{Procedure}
+use Rattle.pulsar_calls.specs.declared.act.Who.TheVariants.{Call}
 use Rattle.pulsar_client.specs.Alarms.{ringing}
-use Rattle.pulsar_client.specs.Content.{Asked, Heard, Called, Ticked, Poll, lacks_tickets, shares}
+use Rattle.pulsar_calls.specs.Content.{Asked, Heard, Called, Ticked, Poll, lacks_tickets, shares}
 use Rattle.pulsar_client.specs.Laws.{CallsAreMade}
 use Rattle.pulsar_client.specs.Producers.{advice}
 use Rattle.pulsar_client.specs.Rules.{at_once, brings, call_part, called, causes, due_part, further, joins, over_links, parts, reads_on, starts}

@@ -4,14 +4,14 @@ use Rattle.std.proofs.lemmas.Bool.Decides.{nat_tests}
 use Rattle.std.proofs.lemmas.Grind.{common_steps}
 use Rattle.std.specs.Str.{bytes_eq}
 use Rattle.pulsar_requests.specs.Waits.{later_of}
-use Rattle.pulsar_client.specs.declared.act.Act.TheVariants.{Comes, Does, Dials}
-use Rattle.pulsar_client.specs.declared.act.Action.TheVariants.{Get, StopAll}
-use Rattle.pulsar_client.specs.declared.act.Part.TheVariants.{ToLink}
-use Rattle.pulsar_client.specs.declared.act.Who.{Who}
+use Rattle.pulsar_calls.specs.declared.act.Act.TheVariants.{Comes, Does, Dials}
+use Rattle.pulsar_calls.specs.declared.act.Action.TheVariants.{Get, StopAll}
+use Rattle.pulsar_calls.specs.declared.act.Part.TheVariants.{ToLink}
+use Rattle.pulsar_calls.specs.declared.act.Who.{Who}
 use Rattle.pulsar_client.specs.declared.addresses.Pause.{Pause}
 use Rattle.pulsar_client.specs.declared.addresses.Series.{Series}
 use Rattle.pulsar_client.specs.declared.addresses.Series.TheVariants.{Nobody, Runs}
-use Rattle.pulsar_client.specs.Content.{Ticked}
+use Rattle.pulsar_calls.specs.Content.{Ticked}
 use Rattle.pulsar_client.specs.Laws.{ClockIs, SeriesIsNewest, newest_turn, turn_of, turn_on, turn_over}
 use Rattle.pulsar_client.specs.Links.{Change, Remains, Becomes, IsOver}
 use Rattle.pulsar_client.specs.Run.{Begins, Then, view}

@@ -6,11 +6,11 @@ use Rattle.pulsar_messages.specs.Words.{Words}
 use Rattle.pulsar_session.specs.Failures.{Fault}
 use Rattle.pulsar_session.specs.Link as session
 use Rattle.pulsar_session.specs.Link.{Asks, Seen, came, ends, frame_at, written}
-use Rattle.pulsar_client.specs.declared.act.End.{End}
-use Rattle.pulsar_client.specs.declared.act.LinkAct.{LinkAct}
-use Rattle.pulsar_client.specs.declared.act.LinkAct.TheVariants.{Opens, Reads, Drains, Pings, Ends}
-use Rattle.pulsar_client.specs.declared.effect.Settlement.TheVariants as settlement
-use Rattle.pulsar_client.specs.Content.{Shown, Queued, Write, Settles, Close}
+use Rattle.pulsar_calls.specs.declared.act.End.{End}
+use Rattle.pulsar_calls.specs.declared.act.LinkAct.{LinkAct}
+use Rattle.pulsar_calls.specs.declared.act.LinkAct.TheVariants.{Opens, Reads, Drains, Pings, Ends}
+use Rattle.pulsar_calls.specs.declared.effect.Settlement.TheVariants as settlement
+use Rattle.pulsar_calls.specs.Content.{Shown, Queued, Write, Settles, Close}
 use Rattle.pulsar_client.specs.Effects.{asked_at, given_at}
 use Rattle.pulsar_client.specs.Links.{after, close, closed_by, effects, ended, is_own_end, lost, new_places, queues, queues_at, settled_in, settles, write}
 use Rattle.pulsar_client.specs.View.{Seat}

@@ -8,22 +8,22 @@ use Rattle.std.specs.Str.{bytes_eq}
 use Rattle.pulsar_messages.specs.Words.{Words}
 use Rattle.pulsar_plans.specs.Address.{Place, address_key, is_reachable}
 use Rattle.pulsar_session.specs.Failures.{Fault}
-use Rattle.pulsar_client.specs.declared.act.Act.{Act}
-use Rattle.pulsar_client.specs.declared.act.Act.TheVariants.{Comes, Does, Dials}
-use Rattle.pulsar_client.specs.declared.act.Action.TheVariants.{Get, Ask, StopAll}
-use Rattle.pulsar_client.specs.declared.act.Alarm.{Alarm}
-use Rattle.pulsar_client.specs.declared.act.Alarm.TheVariants.{Retry, Wake, Batch, KeepAlive, CheckIdle}
-use Rattle.pulsar_client.specs.declared.act.Arrival.{Arrival}
-use Rattle.pulsar_client.specs.declared.act.Arrival.TheVariants.{Readied}
-use Rattle.pulsar_client.specs.declared.act.LinkAct.{LinkAct}
-use Rattle.pulsar_client.specs.declared.act.LinkAct.TheVariants.{Opens, Reads, Drains, Pings, Ends}
-use Rattle.pulsar_client.specs.declared.act.Part.TheVariants.{ToLink, Rings}
-use Rattle.pulsar_client.specs.declared.act.Who.{Who}
+use Rattle.pulsar_calls.specs.declared.act.Act.{Act}
+use Rattle.pulsar_calls.specs.declared.act.Act.TheVariants.{Comes, Does, Dials}
+use Rattle.pulsar_calls.specs.declared.act.Action.TheVariants.{Get, Ask, StopAll}
+use Rattle.pulsar_calls.specs.declared.act.Alarm.{Alarm}
+use Rattle.pulsar_calls.specs.declared.act.Alarm.TheVariants.{Retry, Wake, Batch, KeepAlive, CheckIdle}
+use Rattle.pulsar_calls.specs.declared.act.Arrival.{Arrival}
+use Rattle.pulsar_calls.specs.declared.act.Arrival.TheVariants.{Readied}
+use Rattle.pulsar_calls.specs.declared.act.LinkAct.{LinkAct}
+use Rattle.pulsar_calls.specs.declared.act.LinkAct.TheVariants.{Opens, Reads, Drains, Pings, Ends}
+use Rattle.pulsar_calls.specs.declared.act.Part.TheVariants.{ToLink, Rings}
+use Rattle.pulsar_calls.specs.declared.act.Who.{Who}
 use Rattle.pulsar_client.specs.declared.addresses.Pause.{Pause}
 use Rattle.pulsar_client.specs.declared.addresses.Series.{Series}
 use Rattle.pulsar_client.specs.declared.addresses.Series.TheVariants.{Nobody, Runs, Pauses, Serves}
 use Rattle.pulsar_client.specs.Alarms.{rings}
-use Rattle.pulsar_client.specs.Content.{Heard, Bytes}
+use Rattle.pulsar_calls.specs.Content.{Heard, Bytes}
 use Rattle.pulsar_client.specs.Laws.{Attempted, AttemptsFollow, Begun, OneLinkEach, base_of, names_link}
 use Rattle.pulsar_client.specs.Links.{Change, Remains, Becomes, IsOver, arrival, change_at, change_by, change_in, closed_by}
 use Rattle.pulsar_client.specs.Run.{Entry, Begins, Then, IsRun, view}

@@ -15,27 +15,28 @@ use Rattle.pulsar_producer.specs.Batch.{entry_of}
 use Rattle.pulsar_producer.specs.Wanted.{ProducerWanted}
 use Rattle.pulsar_producer.specs.declared.sending.Errand.{Errand}
 use Rattle.pulsar_run.specs.Laws.{In, InThisStep}
-use Rattle.pulsar_client.specs.declared.act.Act.{Act}
-use Rattle.pulsar_client.specs.declared.act.Act.TheVariants.{Comes, Starts, Told, Does, Answers, Dials}
-use Rattle.pulsar_client.specs.declared.act.Part.TheVariants.{Calls}
-use Rattle.pulsar_client.specs.declared.act.Place.TheVariants.{Link}
-use Rattle.pulsar_client.specs.declared.act.Procedure.{Procedure}
-use Rattle.pulsar_client.specs.declared.act.Procedure.TheVariants as procedure
-use Rattle.pulsar_client.specs.declared.act.Refusal.{Refusal}
-use Rattle.pulsar_client.specs.declared.act.Refusal.TheVariants as refusal
-use Rattle.pulsar_client.specs.declared.act.Round.TheVariants.{Checks, Flushes}
-use Rattle.pulsar_client.specs.declared.act.Says.TheVariants as says
-use Rattle.pulsar_client.specs.declared.act.Share.{Share}
-use Rattle.pulsar_client.specs.declared.act.Who.{Who}
-use Rattle.pulsar_client.specs.declared.act.Who.TheVariants.{Call}
-use Rattle.pulsar_client.specs.Content as content
-use Rattle.pulsar_client.specs.Content.{Asked, lacks_tickets, shares}
+use Rattle.pulsar_calls.specs.declared.act.Act.{Act}
+use Rattle.pulsar_calls.specs.declared.act.Act.TheVariants.{Comes, Starts, Told, Does, Answers, Dials}
+use Rattle.pulsar_calls.specs.declared.act.Part.TheVariants.{Calls}
+use Rattle.pulsar_calls.specs.declared.act.Place.TheVariants.{Link}
+use Rattle.pulsar_calls.specs.declared.act.Procedure.{Procedure}
+use Rattle.pulsar_calls.specs.declared.act.Procedure.TheVariants as procedure
+use Rattle.pulsar_calls.specs.declared.act.Refusal.{Refusal}
+use Rattle.pulsar_calls.specs.declared.act.Refusal.TheVariants as refusal
+use Rattle.pulsar_calls.specs.declared.act.Round.TheVariants.{Checks, Flushes}
+use Rattle.pulsar_calls.specs.declared.act.Says.TheVariants as says
+use Rattle.pulsar_calls.specs.declared.act.Share.{Share}
+use Rattle.pulsar_calls.specs.declared.act.Who.{Who}
+use Rattle.pulsar_calls.specs.declared.act.Who.TheVariants.{Call}
+use Rattle.pulsar_calls.specs.Content as content
+use Rattle.pulsar_calls.specs.Content.{Asked, lacks_tickets, shares}
 use Rattle.pulsar_client.specs.Laws.{started}
-use Rattle.pulsar_client.specs.Producers.{Producers, advice, batches_in, errand_of, next_advice, numbers_at, routed, why_not}
+use Rattle.pulsar_client.specs.Producers.{Producers, advice, batches_in, errand_of, numbers_at, routed, why_not}
+use Rattle.pulsar_calls.specs.Content.{next_advice}
 use Rattle.pulsar_client.specs.Rules.{asks_raw, asks_topics, builds_with, call_part, checks, closes, fails_as, flushes, flushes_all, from_base, gathers, is_taken, parts_of, procedure_for, produces, produces_by, produces_from, searches, sends, sends_as, sends_by, shares_of, shares_unless, starts, stores_as, unless, unless_refused, why_no_sends}
 use Rattle.pulsar_client.specs.Run.{Entry, Begins, Then, IsRun, view}
 use Rattle.pulsar_client.specs.View.{Chosen, Options, Tickets, View, drawn_after, may_call, ways_of}
-use Rattle.pulsar_client.specs.Who.{is_same}
+use Rattle.pulsar_calls.specs.Who.{is_same}
 use Rattle.pulsar_client.proofs.Acts.{Each, begun_same}
 use Rattle.pulsar_client.proofs.Drawing.{Every, here}
 use Rattle.pulsar_client.proofs.Follow.{same_is}

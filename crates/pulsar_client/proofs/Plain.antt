@@ -1,15 +1,15 @@
 -- Effects that neither write nor queue a frame, nor give an item to a poll.
 use Rattle.std.proofs.Common.{◌≡◌, ℕ, List, [], ◌∷◌, refl, Bool, true, false, Option, Some, None}
 use Rattle.std.specs.Option.{option_map, option_to_list}
-use Rattle.pulsar_client.specs.declared.act.Act.{Act}
-use Rattle.pulsar_client.specs.declared.act.Act.TheVariants.{Comes, Does, Answers, Dials}
-use Rattle.pulsar_client.specs.declared.act.Action.TheVariants.{Ask}
-use Rattle.pulsar_client.specs.declared.act.Part.TheVariants as part
-use Rattle.pulsar_client.specs.declared.act.Who.{Who}
-use Rattle.pulsar_client.specs.declared.act.Who.TheVariants.{Call, Producer}
+use Rattle.pulsar_calls.specs.declared.act.Act.{Act}
+use Rattle.pulsar_calls.specs.declared.act.Act.TheVariants.{Comes, Does, Answers, Dials}
+use Rattle.pulsar_calls.specs.declared.act.Action.TheVariants.{Ask}
+use Rattle.pulsar_calls.specs.declared.act.Part.TheVariants as part
+use Rattle.pulsar_calls.specs.declared.act.Who.{Who}
+use Rattle.pulsar_calls.specs.declared.act.Who.TheVariants.{Call, Producer}
 use Rattle.pulsar_client.specs.declared.addresses.Pause.{Pause}
 use Rattle.pulsar_client.specs.Address.{leads_to}
-use Rattle.pulsar_client.specs.Content.{Said, Shown, Queued, Write, Hands, Faults}
+use Rattle.pulsar_calls.specs.Content.{Said, Shown, Queued, Write, Hands, Faults}
 use Rattle.pulsar_client.specs.Effects.{connects_to, effects, ends, retries, retries_on}
 use Rattle.pulsar_client.specs.View.{Chosen, Turned, View}
 

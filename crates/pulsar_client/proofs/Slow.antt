@@ -6,7 +6,7 @@ use Rattle.pulsar_wire.specs.declared.error.ConnectionError.TheVariants as error
 use Rattle.pulsar_messages.specs.Words.{Words}
 use Rattle.pulsar_session.proofs.Others.{slow_down_changes_nothing}
 use Rattle.pulsar_link.specs.Request.{closed_consumer, is_answered, request_number}
-use Rattle.pulsar_client.specs.declared.act.Who.{Who}
+use Rattle.pulsar_calls.specs.declared.act.Who.{Who}
 use Rattle.pulsar_client.specs.ProducerLaws.{SlowDownLeavesAll, seat_ticked}
 use Rattle.pulsar_client.specs.Run.{view}
 use Rattle.pulsar_client.specs.Subscriptions.{Subscription, closed_at}

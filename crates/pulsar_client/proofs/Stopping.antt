@@ -12,33 +12,34 @@ use Rattle.pulsar_run.specs.Run.{first_of, rest, rest_of}
 use Rattle.pulsar_session.specs.Failures.{Exhausted}
 use Rattle.pulsar_session.specs.Link.{ends}
 use Rattle.pulsar_plans.specs.Address.{Place, address_key}
-use Rattle.pulsar_client.specs.declared.act.Act.{Act}
-use Rattle.pulsar_client.specs.declared.act.Act.TheVariants.{Comes, Starts, Told, Does, Answers, Dials}
-use Rattle.pulsar_client.specs.declared.act.Action.TheVariants.{Get, Ask, StopAll, TakeBatch, Tell, TellAll}
-use Rattle.pulsar_client.specs.declared.act.Alarm.{Alarm}
-use Rattle.pulsar_client.specs.declared.act.Alarm.TheVariants.{Retry, Wake, Batch, KeepAlive, CheckIdle}
-use Rattle.pulsar_client.specs.declared.act.End.TheVariants.{Stops}
-use Rattle.pulsar_client.specs.declared.act.LinkAct.{LinkAct}
-use Rattle.pulsar_client.specs.declared.act.LinkAct.TheVariants.{Opens, Reads, Drains, Pings, Ends}
-use Rattle.pulsar_client.specs.declared.act.Makes.{Makes}
-use Rattle.pulsar_client.specs.declared.act.Makes.TheVariants.{Nothing, Client, Consumer, Producer}
-use Rattle.pulsar_client.specs.declared.act.Notice.{Notice}
-use Rattle.pulsar_client.specs.declared.act.Outcome.{Outcome}
-use Rattle.pulsar_client.specs.declared.act.Part.{Part}
-use Rattle.pulsar_client.specs.declared.act.Part.TheVariants.{Calls, ToLink, Rings, Polls}
-use Rattle.pulsar_client.specs.declared.act.Procedure.{Procedure}
-use Rattle.pulsar_client.specs.declared.act.Who.{Who}
-use Rattle.pulsar_client.specs.declared.act.Who.TheVariants.{Call}
+use Rattle.pulsar_calls.specs.declared.act.Act.{Act}
+use Rattle.pulsar_calls.specs.declared.act.Act.TheVariants.{Comes, Starts, Told, Does, Answers, Dials}
+use Rattle.pulsar_calls.specs.declared.act.Action.TheVariants.{Get, Ask, StopAll, TakeBatch, Tell, TellAll}
+use Rattle.pulsar_calls.specs.declared.act.Alarm.{Alarm}
+use Rattle.pulsar_calls.specs.declared.act.Alarm.TheVariants.{Retry, Wake, Batch, KeepAlive, CheckIdle}
+use Rattle.pulsar_calls.specs.declared.act.End.TheVariants.{Stops}
+use Rattle.pulsar_calls.specs.declared.act.LinkAct.{LinkAct}
+use Rattle.pulsar_calls.specs.declared.act.LinkAct.TheVariants.{Opens, Reads, Drains, Pings, Ends}
+use Rattle.pulsar_calls.specs.declared.act.Makes.{Makes}
+use Rattle.pulsar_calls.specs.declared.act.Makes.TheVariants.{Nothing, Client, Consumer, Producer}
+use Rattle.pulsar_calls.specs.declared.act.Notice.{Notice}
+use Rattle.pulsar_calls.specs.declared.act.Outcome.{Outcome}
+use Rattle.pulsar_calls.specs.declared.act.Part.{Part}
+use Rattle.pulsar_calls.specs.declared.act.Part.TheVariants.{Calls, ToLink, Rings, Polls}
+use Rattle.pulsar_calls.specs.declared.act.Procedure.{Procedure}
+use Rattle.pulsar_calls.specs.declared.act.Who.{Who}
+use Rattle.pulsar_calls.specs.declared.act.Who.TheVariants.{Call}
 use Rattle.pulsar_client.specs.declared.addresses.Pause.{Pause}
 use Rattle.pulsar_client.specs.declared.addresses.Series.{Series}
 use Rattle.pulsar_client.specs.declared.addresses.Series.TheVariants.{Nobody, Runs, Pauses, Serves}
-use Rattle.pulsar_client.specs.declared.plans.plan.Plan.{Plan}
+use Rattle.pulsar_calls.specs.declared.plans.plan.Plan.{Plan}
 use Rattle.pulsar_plans.specs.declared.turn.Ways.{Ways}
 use Rattle.pulsar_client.specs.Alarms.{clear, rings}
-use Rattle.pulsar_client.specs.Content.{Asked, Bytes, Heard, lacks_tickets, shares}
+use Rattle.pulsar_calls.specs.Content.{Asked, Bytes, Heard, lacks_tickets, shares}
 use Rattle.pulsar_client.specs.Laws.{NoneAfterStop, stopped}
-use Rattle.pulsar_client.specs.Links.{line_places, numbers_from}
-use Rattle.pulsar_client.specs.Plan.{fails, verdict}
+use Rattle.pulsar_client.specs.Links.{line_places}
+use Rattle.pulsar_calls.specs.Content.{numbers_from}
+use Rattle.pulsar_calls.specs.Plan.{fails, verdict}
 use Rattle.pulsar_client.specs.Rules.{closes, gathers, asks_topics, at_once, below, builds_with, called, causes, dropped, ended_on, failed_at, failed_on, failed_over, follows_some, from_base, lost, notice, on_link, opens, over_links, procedure_for, searches, stop_act, stopped_at, stopped_with, tells, tells_asker, unless_refused, waiters_of, asks_raw, checks, flushes, joins, left_with, parts_of, produces, sends, shares_unless, starts, stopped_all, stopped_call, stopped_one, why_no_sends}
 use Rattle.pulsar_client.specs.Run.{Agenda, Entry, Begins, Then, IsRun, agenda, first, rules, view}
 use Rattle.pulsar_client.specs.View.{after, Addresses, Base, Options, Links, Seat, Tickets, View, alarms_after, alarms_built, alarms_on, alarms_over, begun, begun_live, builds, calls_after, got_at, is_live, link_got, live_after, live_begun, pause_after, pause_of, pause_on, pause_put, pause_rung, told_some, took_some, turned_by, ways_of, Chosen, may_call, producers_after, producers_made, producers_rung, stand_after, stays_some}
@@ -47,14 +48,15 @@ use Rattle.pulsar_producer.specs.Storage.{Item}
 use Rattle.pulsar_producer.specs.Topic.{Halts, Seen, TakesBatch, left_of, next_of}
 use Rattle.pulsar_producer.specs.declared.deed.News.TheVariants as news
 use Rattle.pulsar_messages.specs.Content.{ProducerMessageValues}
-use Rattle.pulsar_client.specs.Producers.{Producers, called_on, changed, next_advice, next_batch_at, topic_after, unsent, waiting, why_not}
-use Rattle.pulsar_client.specs.declared.act.Refusal.{Refusal}
-use Rattle.pulsar_client.specs.Who.{is_same}
-use Rattle.pulsar_client.specs.declared.act.Refusal.TheVariants as refusal
-use Rattle.pulsar_client.specs.declared.act.Outcome.TheVariants as outcome
-use Rattle.pulsar_client.specs.declared.act.Procedure.TheVariants as procedure
+use Rattle.pulsar_client.specs.Producers.{Producers, called_on, changed, next_batch_at, topic_after, unsent, waiting, why_not}
+use Rattle.pulsar_calls.specs.Content.{next_advice}
+use Rattle.pulsar_calls.specs.declared.act.Refusal.{Refusal}
+use Rattle.pulsar_calls.specs.Who.{is_same}
+use Rattle.pulsar_calls.specs.declared.act.Refusal.TheVariants as refusal
+use Rattle.pulsar_calls.specs.declared.act.Outcome.TheVariants as outcome
+use Rattle.pulsar_calls.specs.declared.act.Procedure.TheVariants as procedure
 use Rattle.pulsar_plans.specs.declared.plan.Procedure.TheVariants as sought
-use Rattle.pulsar_client.specs.Content as content
+use Rattle.pulsar_calls.specs.Content as content
 use Rattle.pulsar_client.proofs.Asked.{stop_clear}
 use Rattle.pulsar_client.proofs.Acts.{Each, begun_same, each_append, each_either, each_flat, each_map, first_case, none_now, over_each}
 use Rattle.pulsar_client.proofs.Attempts.{is_dial}

@@ -35,28 +35,28 @@ use Rattle.pulsar_producer.specs.declared.deed.Step.{Step}
 use Rattle.pulsar_producer.specs.declared.deed.Step.TheVariants as step
 use Rattle.pulsar_producer.specs.declared.sending.Errand.{Errand}
 use Rattle.pulsar_producer.specs.declared.sending.Sending.{Sending as Send}
-use Rattle.pulsar_client.specs.declared.act.Action.{Action}
-use Rattle.pulsar_client.specs.declared.act.Action.TheVariants.{Store}
-use Rattle.pulsar_client.specs.declared.act.Notice.{Notice}
-use Rattle.pulsar_client.specs.declared.act.Outcome.{Outcome}
-use Rattle.pulsar_client.specs.declared.act.Outcome.TheVariants as outcome
-use Rattle.pulsar_client.specs.declared.act.Place.TheVariants.{At, Link}
-use Rattle.pulsar_client.specs.declared.act.Procedure.{Procedure}
-use Rattle.pulsar_client.specs.declared.act.Procedure.TheVariants as procedure
-use Rattle.pulsar_client.specs.declared.act.Round.{Round}
-use Rattle.pulsar_client.specs.declared.act.Round.TheVariants.{Checks, Flushes, Closes}
-use Rattle.pulsar_client.specs.declared.act.Share.{Share}
-use Rattle.pulsar_client.specs.declared.act.Verdict.{Verdict}
-use Rattle.pulsar_client.specs.declared.act.Who.{Who}
-use Rattle.pulsar_client.specs.declared.act.Who.TheVariants.{Call}
-use Rattle.pulsar_client.specs.declared.plans.plan.At.{At as Spot}
-use Rattle.pulsar_client.specs.declared.plans.plan.At.TheVariants as at
-use Rattle.pulsar_client.specs.declared.plans.plan.Plan.{Plan}
-use Rattle.pulsar_client.specs.declared.plans.plan.Plan.TheVariants.{Building, Getting, Asking, Awaiting, Searching, Producing, Sending, Reporting, Storing, Stored, Batching, Leaving, Gathering, Shutting, Visiting, Stopping}
-use Rattle.pulsar_client.specs.declared.plans.plan.Turn.{Turn}
-use Rattle.pulsar_client.specs.declared.plans.plan.Turn.TheVariants.{Stays, Gives}
-use Rattle.pulsar_client.specs.declared.plans.plan.Wanted.{Wanted}
-use Rattle.pulsar_client.specs.Plan.{action_of, asks_of, batches_on, begins, builds, fails_in, goes, goes_on_sending, goes_round, gathers, halted, in_asking, in_awaiting, in_finding, in_passing, in_settling, in_stored, in_storing, in_turning, is_answer, is_sent, is_settled, leaves, news_in, news_of, overrides, sends_stay, settled, stands, stored, told, told_at, told_batch, told_of, told_send, told_to, visited, visits, waits, wished}
+use Rattle.pulsar_calls.specs.declared.act.Action.{Action}
+use Rattle.pulsar_calls.specs.declared.act.Action.TheVariants.{Store}
+use Rattle.pulsar_calls.specs.declared.act.Notice.{Notice}
+use Rattle.pulsar_calls.specs.declared.act.Outcome.{Outcome}
+use Rattle.pulsar_calls.specs.declared.act.Outcome.TheVariants as outcome
+use Rattle.pulsar_calls.specs.declared.act.Place.TheVariants.{At, Link}
+use Rattle.pulsar_calls.specs.declared.act.Procedure.{Procedure}
+use Rattle.pulsar_calls.specs.declared.act.Procedure.TheVariants as procedure
+use Rattle.pulsar_calls.specs.declared.act.Round.{Round}
+use Rattle.pulsar_calls.specs.declared.act.Round.TheVariants.{Checks, Flushes, Closes}
+use Rattle.pulsar_calls.specs.declared.act.Share.{Share}
+use Rattle.pulsar_calls.specs.declared.act.Verdict.{Verdict}
+use Rattle.pulsar_calls.specs.declared.act.Who.{Who}
+use Rattle.pulsar_calls.specs.declared.act.Who.TheVariants.{Call}
+use Rattle.pulsar_calls.specs.declared.plans.plan.At.{At as Spot}
+use Rattle.pulsar_calls.specs.declared.plans.plan.At.TheVariants as at
+use Rattle.pulsar_calls.specs.declared.plans.plan.Plan.{Plan}
+use Rattle.pulsar_calls.specs.declared.plans.plan.Plan.TheVariants.{Building, Getting, Asking, Awaiting, Searching, Producing, Sending, Reporting, Storing, Stored, Batching, Leaving, Gathering, Shutting, Visiting, Stopping}
+use Rattle.pulsar_calls.specs.declared.plans.plan.Turn.{Turn}
+use Rattle.pulsar_calls.specs.declared.plans.plan.Turn.TheVariants.{Stays, Gives}
+use Rattle.pulsar_calls.specs.declared.plans.plan.Wanted.{Wanted}
+use Rattle.pulsar_calls.specs.Plan.{action_of, asks_of, batches_on, begins, builds, fails_in, goes, goes_on_sending, goes_round, gathers, halted, in_asking, in_awaiting, in_finding, in_passing, in_settling, in_stored, in_storing, in_turning, is_answer, is_sent, is_settled, leaves, news_in, news_of, overrides, sends_stay, settled, stands, stored, told, told_at, told_batch, told_of, told_send, told_to, visited, visits, waits, wished}
 use Rattle.pulsar_client.proofs.Acts.{Each}
 use Rattle.std.proofs.Common.{◌∙◌, sym, ap, subst, inl, inr, ◌+◌, drop, length, ◌++◌}
 use Rattle.std.specs.Option.{is_some}
@@ -70,14 +70,15 @@ use Rattle.pulsar_plans.specs.declared.plan.Procedure.TheVariants as sought
 use Rattle.pulsar_producer.specs.Batch.{entry_of}
 use Rattle.pulsar_producer.specs.Wanted.{ProducerWanted}
 use Rattle.pulsar_client.specs.BatchLaws.{BringsEntry, StoredAtOnce}
-use Rattle.pulsar_client.specs.declared.act.Act.{Act}
-use Rattle.pulsar_client.specs.declared.act.Act.TheVariants.{Comes, Starts}
-use Rattle.pulsar_client.specs.declared.act.Refusal.{Refusal}
-use Rattle.pulsar_client.specs.declared.act.Refusal.TheVariants as refusal
-use Rattle.pulsar_client.specs.declared.act.Says.TheVariants as says
-use Rattle.pulsar_client.specs.Content as content
-use Rattle.pulsar_client.specs.Content.{Asked, lacks_tickets, sent_by, shares}
-use Rattle.pulsar_client.specs.Producers.{Producers, advice, batches_in, errand_of, next_advice, numbers_at, routed, why_not}
+use Rattle.pulsar_calls.specs.declared.act.Act.{Act}
+use Rattle.pulsar_calls.specs.declared.act.Act.TheVariants.{Comes, Starts}
+use Rattle.pulsar_calls.specs.declared.act.Refusal.{Refusal}
+use Rattle.pulsar_calls.specs.declared.act.Refusal.TheVariants as refusal
+use Rattle.pulsar_calls.specs.declared.act.Says.TheVariants as says
+use Rattle.pulsar_calls.specs.Content as content
+use Rattle.pulsar_calls.specs.Content.{Asked, lacks_tickets, sent_by, shares}
+use Rattle.pulsar_client.specs.Producers.{Producers, advice, batches_in, errand_of, numbers_at, routed, why_not}
+use Rattle.pulsar_calls.specs.Content.{next_advice}
 use Rattle.pulsar_client.specs.Rules.{asks_raw, asks_topics, builds_with, call_part, checks, closes, fails_as, flushes, flushes_all, from_base, gathers as gathers_by, is_taken, parts_of, procedure_for, produces, produces_from, searches, sends, sends_as, sends_by, share, shares_of, shares_unless, starts, stores_as, unless, unless_refused, why_no_sends}
 use Rattle.pulsar_client.specs.Run.{Entry, Begins, Then, IsRun, view}
 use Rattle.pulsar_client.specs.View.{Chosen, Options, View, may_call, ways_of}

@@ -9,23 +9,24 @@ use Rattle.std.specs.declared.cmp.Ordering.TheVariants.{Less, Equal, Greater}
 use Rattle.pulsar_run.specs.Order.{InOrder, NoneBelow}
 use Rattle.pulsar_session.specs.Link.{due}
 use Rattle.pulsar_producer.specs.Topic as topic
-use Rattle.pulsar_client.specs.declared.act.Act.{Act}
-use Rattle.pulsar_client.specs.declared.act.Act.TheVariants.{Comes, Does, Answers}
-use Rattle.pulsar_client.specs.declared.act.Action.TheVariants.{Wait, Shut, Store, Flush, StopAll}
-use Rattle.pulsar_client.specs.declared.act.Alarm.{Alarm}
-use Rattle.pulsar_client.specs.declared.act.Alarm.TheVariants.{Retry, Wake, Batch, KeepAlive, CheckIdle}
-use Rattle.pulsar_client.specs.declared.act.End.TheVariants.{Overdue}
-use Rattle.pulsar_client.specs.declared.act.LinkAct.TheVariants.{Ends}
-use Rattle.pulsar_client.specs.declared.act.Part.{Part}
-use Rattle.pulsar_client.specs.declared.act.Part.TheVariants.{ToLink, Rings}
-use Rattle.pulsar_client.specs.declared.act.Who.TheVariants.{Call, Producer}
+use Rattle.pulsar_calls.specs.declared.act.Act.{Act}
+use Rattle.pulsar_calls.specs.declared.act.Act.TheVariants.{Comes, Does, Answers}
+use Rattle.pulsar_calls.specs.declared.act.Action.TheVariants.{Wait, Shut, Store, Flush, StopAll}
+use Rattle.pulsar_calls.specs.declared.act.Alarm.{Alarm}
+use Rattle.pulsar_calls.specs.declared.act.Alarm.TheVariants.{Retry, Wake, Batch, KeepAlive, CheckIdle}
+use Rattle.pulsar_calls.specs.declared.act.End.TheVariants.{Overdue}
+use Rattle.pulsar_calls.specs.declared.act.LinkAct.TheVariants.{Ends}
+use Rattle.pulsar_calls.specs.declared.act.Part.{Part}
+use Rattle.pulsar_calls.specs.declared.act.Part.TheVariants.{ToLink, Rings}
+use Rattle.pulsar_calls.specs.declared.act.Who.TheVariants.{Call, Producer}
 use Rattle.pulsar_client.specs.declared.addresses.Pause.{Pause}
 use Rattle.pulsar_client.specs.declared.producers.Topic.{Topic}
-use Rattle.pulsar_client.specs.Who.{turn_of}
+use Rattle.pulsar_calls.specs.Who.{turn_of}
 use Rattle.pulsar_client.specs.Alarms.{alarm_cmp, clear, is_same_alarm, ringing, rings, set}
 use Rattle.pulsar_client.specs.Effects.{is_before3}
 use Rattle.pulsar_client.specs.Laws.{TicksInOrder, part_below, part_rank}
-use Rattle.pulsar_client.specs.Links.{Change, Remains, Becomes, IsOver, numbers_from}
+use Rattle.pulsar_client.specs.Links.{Change, Remains, Becomes, IsOver}
+use Rattle.pulsar_calls.specs.Content.{numbers_from}
 use Rattle.pulsar_client.specs.Producers.{is_bare, numbers_at, timeout_at, topic_after}
 use Rattle.pulsar_client.specs.Rules.{due_part, on_link, over_links}
 use Rattle.pulsar_client.specs.Run.{Entry, Begins, Then, view}

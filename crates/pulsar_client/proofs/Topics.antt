@@ -8,15 +8,15 @@ use Rattle.pulsar_producer.specs.Storage.{limits_of}
 use Rattle.pulsar_producer.specs.Topic.{Act as Deed, Closes, Halts, Seen, Setup}
 use Rattle.pulsar_producer.specs.declared.content.Built.{Built}
 use Rattle.pulsar_producer.specs.declared.storage.Limits.{Limits}
-use Rattle.pulsar_client.specs.declared.act.Act.{Act}
-use Rattle.pulsar_client.specs.declared.act.Act.TheVariants.{Comes, Does, Answers}
-use Rattle.pulsar_client.specs.declared.act.Action.TheVariants.{TakeTurn, PassTurn, Draw, Remake, Shut, Store, Flush, TakeBatch, StopAll}
-use Rattle.pulsar_client.specs.declared.act.Alarm.TheVariants.{Batch}
-use Rattle.pulsar_client.specs.declared.act.Makes.{Makes}
-use Rattle.pulsar_client.specs.declared.act.Makes.TheVariants.{Producer}
-use Rattle.pulsar_client.specs.declared.act.Part.TheVariants.{Calls, Rings}
-use Rattle.pulsar_client.specs.declared.act.Verdict.{Verdict}
-use Rattle.pulsar_client.specs.declared.act.Who.{Who}
+use Rattle.pulsar_calls.specs.declared.act.Act.{Act}
+use Rattle.pulsar_calls.specs.declared.act.Act.TheVariants.{Comes, Does, Answers}
+use Rattle.pulsar_calls.specs.declared.act.Action.TheVariants.{TakeTurn, PassTurn, Draw, Remake, Shut, Store, Flush, TakeBatch, StopAll}
+use Rattle.pulsar_calls.specs.declared.act.Alarm.TheVariants.{Batch}
+use Rattle.pulsar_calls.specs.declared.act.Makes.{Makes}
+use Rattle.pulsar_calls.specs.declared.act.Makes.TheVariants.{Producer}
+use Rattle.pulsar_calls.specs.declared.act.Part.TheVariants.{Calls, Rings}
+use Rattle.pulsar_calls.specs.declared.act.Verdict.{Verdict}
+use Rattle.pulsar_calls.specs.declared.act.Who.{Who}
 use Rattle.pulsar_client.specs.declared.producers.Topic.{Topic}
 use Rattle.pulsar_client.specs.Producers.{Producers, changed, made_of, numbers_at, shut_all, topic_after, with_topic, with_topics}
 use Rattle.pulsar_client.specs.ProducerLaws.{TopicsAlone, acts_on, drawn_by, rung_by, shut_by, topic_acts}
@@ -24,7 +24,7 @@ use Rattle.pulsar_client.specs.Run.{Entry, Begins, Then, IsRun, view}
 use Rattle.pulsar_client.specs.Alarms.{rings}
 use Rattle.pulsar_client.specs.View.{Options, View, draws_on, producers_made, producers_rung, room_of}
 use Rattle.pulsar_client.specs.View as seen
-use Rattle.pulsar_client.specs.Who.{rank, turn_of}
+use Rattle.pulsar_calls.specs.Who.{rank, turn_of}
 use Rattle.pulsar_client.proofs.Acts.{begun_same, chosen_same}
 use Rattle.pulsar_client.proofs.Drawing.{Every, Drawn, IsNew, Joins, built_topics, called_kept, drawn_run, joined_row, joins_new, row_from}
 

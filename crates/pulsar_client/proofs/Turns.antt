@@ -16,20 +16,20 @@ use Rattle.pulsar_producer.specs.Storage.{Item, SingleMessage, Flush as Flush', 
 use Rattle.pulsar_producer.specs.Topic.{Act as Deed, Takes, Passes, Draws, Remakes, Closes, Stores, Flushes, Cuts, TakesBatch, Halts, Seen, cuts, cuts_ready, is_nothing, is_settled, left_of, stores}
 use Rattle.pulsar_producer.specs.declared.deed.News.{News}
 use Rattle.pulsar_producer.specs.declared.deed.News.TheVariants as news
-use Rattle.pulsar_client.specs.declared.act.Act.{Act}
-use Rattle.pulsar_client.specs.declared.act.Act.TheVariants.{Comes, Starts, Told, Does, Answers, Dials}
-use Rattle.pulsar_client.specs.declared.act.Action.{Action}
-use Rattle.pulsar_client.specs.declared.act.Action.TheVariants.{Get, Ask, Wait, TakeTurn, PassTurn, Draw, Recall, Remake, Number, Find, Shut, Store, Flush, TakeBatch, Tell, TellAll, StopAll, Rest}
-use Rattle.pulsar_client.specs.declared.act.Alarm.TheVariants.{Batch}
-use Rattle.pulsar_client.specs.declared.act.Notice.{Notice}
-use Rattle.pulsar_client.specs.declared.act.Outcome.{Outcome}
-use Rattle.pulsar_client.specs.declared.act.Outcome.TheVariants as outcome
-use Rattle.pulsar_client.specs.declared.act.Part.{Part}
-use Rattle.pulsar_client.specs.declared.act.Part.TheVariants.{Rings}
-use Rattle.pulsar_client.specs.declared.act.Procedure.{Procedure}
-use Rattle.pulsar_client.specs.declared.act.Who.{Who}
-use Rattle.pulsar_client.specs.declared.act.Who.TheVariants.{Call}
-use Rattle.pulsar_client.specs.declared.plans.plan.Plan.{Plan}
+use Rattle.pulsar_calls.specs.declared.act.Act.{Act}
+use Rattle.pulsar_calls.specs.declared.act.Act.TheVariants.{Comes, Starts, Told, Does, Answers, Dials}
+use Rattle.pulsar_calls.specs.declared.act.Action.{Action}
+use Rattle.pulsar_calls.specs.declared.act.Action.TheVariants.{Get, Ask, Wait, TakeTurn, PassTurn, Draw, Recall, Remake, Number, Find, Shut, Store, Flush, TakeBatch, Tell, TellAll, StopAll, Rest}
+use Rattle.pulsar_calls.specs.declared.act.Alarm.TheVariants.{Batch}
+use Rattle.pulsar_calls.specs.declared.act.Notice.{Notice}
+use Rattle.pulsar_calls.specs.declared.act.Outcome.{Outcome}
+use Rattle.pulsar_calls.specs.declared.act.Outcome.TheVariants as outcome
+use Rattle.pulsar_calls.specs.declared.act.Part.{Part}
+use Rattle.pulsar_calls.specs.declared.act.Part.TheVariants.{Rings}
+use Rattle.pulsar_calls.specs.declared.act.Procedure.{Procedure}
+use Rattle.pulsar_calls.specs.declared.act.Who.{Who}
+use Rattle.pulsar_calls.specs.declared.act.Who.TheVariants.{Call}
+use Rattle.pulsar_calls.specs.declared.plans.plan.Plan.{Plan}
 use Rattle.pulsar_client.specs.declared.producers.Topic.{Topic}
 use Rattle.pulsar_client.specs.Laws.{counted, start_of}
 use Rattle.pulsar_client.specs.Producers.{is_woken, numbers_at, stored_by, topic_after, turn_passed, turn_taken}
@@ -38,8 +38,8 @@ use Rattle.pulsar_client.specs.Rules.{at_once, below, grants, joins, notice, per
 use Rattle.pulsar_client.specs.Run.{Entry, Begins, Then, IsRun, agenda, rules, view}
 use Rattle.pulsar_client.specs.View.{Options, View, room_of, stays_some, told_some}
 use Rattle.pulsar_client.specs.Alarms.{rings}
-use Rattle.pulsar_client.specs.Plan.{closed_notice}
-use Rattle.pulsar_client.specs.Who.{is_same, turn_of as taken_as}
+use Rattle.pulsar_calls.specs.Plan.{closed_notice}
+use Rattle.pulsar_calls.specs.Who.{is_same, turn_of as taken_as}
 use Rattle.pulsar_client.proofs.Acts.{Each, each_either}
 use Rattle.pulsar_client.proofs.Drawing.{Drawn, Every, here, drawn_run, row_from}
 use Rattle.pulsar_client.proofs.Granted.{GivenBy, GivesSo, IsFree, SaysSo, all_free, causes_free, clean_run, gives_so, is_given, tell_free}

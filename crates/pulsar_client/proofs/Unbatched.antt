@@ -1,22 +1,22 @@
 -- No call has the plan of batches.
 use Rattle.std.proofs.Common.{◌≡◌, sym, ap, subst, ℕ, List, [], ◌∷◌, refl, Bool, true, false, cond, Option, Some, None, inl, inr}
 use Rattle.std.proofs.lemmas.Bool.{cases_Bool}
-use Rattle.pulsar_client.specs.declared.act.Act.TheVariants.{Starts, Told}
-use Rattle.pulsar_client.specs.declared.act.Action.{Action}
-use Rattle.pulsar_client.specs.declared.act.Outcome.{Outcome}
-use Rattle.pulsar_client.specs.declared.act.Procedure.{Procedure}
-use Rattle.pulsar_client.specs.declared.act.Procedure.TheVariants as procedure
-use Rattle.pulsar_client.specs.declared.act.Verdict.{Verdict}
-use Rattle.pulsar_client.specs.declared.act.Who.TheVariants.{Call}
-use Rattle.pulsar_client.specs.declared.plans.plan.Plan.{Plan}
-use Rattle.pulsar_client.specs.declared.plans.plan.Plan.TheVariants.{Batching}
-use Rattle.pulsar_client.specs.declared.plans.plan.Turn.{Turn}
-use Rattle.pulsar_client.specs.declared.plans.plan.Turn.TheVariants.{Stays, Gives}
+use Rattle.pulsar_calls.specs.declared.act.Act.TheVariants.{Starts, Told}
+use Rattle.pulsar_calls.specs.declared.act.Action.{Action}
+use Rattle.pulsar_calls.specs.declared.act.Outcome.{Outcome}
+use Rattle.pulsar_calls.specs.declared.act.Procedure.{Procedure}
+use Rattle.pulsar_calls.specs.declared.act.Procedure.TheVariants as procedure
+use Rattle.pulsar_calls.specs.declared.act.Verdict.{Verdict}
+use Rattle.pulsar_calls.specs.declared.act.Who.TheVariants.{Call}
+use Rattle.pulsar_calls.specs.declared.plans.plan.Plan.{Plan}
+use Rattle.pulsar_calls.specs.declared.plans.plan.Plan.TheVariants.{Batching}
+use Rattle.pulsar_calls.specs.declared.plans.plan.Turn.{Turn}
+use Rattle.pulsar_calls.specs.declared.plans.plan.Turn.TheVariants.{Stays, Gives}
 use Rattle.pulsar_client.specs.Laws.{started}
-use Rattle.pulsar_client.specs.Plan.{begins, told}
+use Rattle.pulsar_calls.specs.Plan.{begins, told}
 use Rattle.pulsar_client.specs.Run.{Entry, Begins, Then, IsRun, view}
 use Rattle.pulsar_client.specs.View.{Options, stays, stays_some, told_some}
-use Rattle.pulsar_client.specs.Who.{is_same}
+use Rattle.pulsar_calls.specs.Who.{is_same}
 use Rattle.pulsar_client.proofs.Acts.{begun_same}
 use Rattle.pulsar_client.proofs.Natures.{Goes, KindBegun, KindOf, StaysSo, begins_goes, is_batching, told_goes}
 use Rattle.pulsar_client.proofs.Parted.{is_batches, parts_run}

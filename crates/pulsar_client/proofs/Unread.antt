@@ -22,19 +22,19 @@ use Rattle.pulsar_session.specs.Link.{Act as Act', Asks, Closes, Came, Feeds, Se
 use Rattle.pulsar_session.proofs.Pieces.{asks_for_apart, unless_stage}
 use Rattle.pulsar_session.proofs.Still.{asked_of, moving, opening}
 use Rattle.pulsar_session.proofs.Streams.{taken_are_cut}
-use Rattle.pulsar_client.specs.declared.act.Act.{Act}
-use Rattle.pulsar_client.specs.declared.act.Act.TheVariants.{Comes, Does, Dials}
-use Rattle.pulsar_client.specs.declared.act.Action.TheVariants.{Get, Ask}
-use Rattle.pulsar_client.specs.declared.act.Arrival.{Arrival}
-use Rattle.pulsar_client.specs.declared.act.End.{End}
-use Rattle.pulsar_client.specs.declared.act.End.TheVariants.{Broken}
-use Rattle.pulsar_client.specs.declared.act.LinkAct.{LinkAct}
-use Rattle.pulsar_client.specs.declared.act.LinkAct.TheVariants.{Opens, Reads, Drains, Pings, Ends}
-use Rattle.pulsar_client.specs.declared.act.Notice.{Notice}
-use Rattle.pulsar_client.specs.declared.act.Part.{Part}
-use Rattle.pulsar_client.specs.declared.act.Part.TheVariants.{ToLink}
-use Rattle.pulsar_client.specs.declared.act.Who.{Who}
-use Rattle.pulsar_client.specs.Content.{Heard, Bytes}
+use Rattle.pulsar_calls.specs.declared.act.Act.{Act}
+use Rattle.pulsar_calls.specs.declared.act.Act.TheVariants.{Comes, Does, Dials}
+use Rattle.pulsar_calls.specs.declared.act.Action.TheVariants.{Get, Ask}
+use Rattle.pulsar_calls.specs.declared.act.Arrival.{Arrival}
+use Rattle.pulsar_calls.specs.declared.act.End.{End}
+use Rattle.pulsar_calls.specs.declared.act.End.TheVariants.{Broken}
+use Rattle.pulsar_calls.specs.declared.act.LinkAct.{LinkAct}
+use Rattle.pulsar_calls.specs.declared.act.LinkAct.TheVariants.{Opens, Reads, Drains, Pings, Ends}
+use Rattle.pulsar_calls.specs.declared.act.Notice.{Notice}
+use Rattle.pulsar_calls.specs.declared.act.Part.{Part}
+use Rattle.pulsar_calls.specs.declared.act.Part.TheVariants.{ToLink}
+use Rattle.pulsar_calls.specs.declared.act.Who.{Who}
+use Rattle.pulsar_calls.specs.Content.{Heard, Bytes}
 use Rattle.pulsar_client.specs.Laws.{FramesAreCut, calls_of, dialed_with}
 use Rattle.pulsar_client.specs.Links.{arrives, closed_by}
 use Rattle.pulsar_client.specs.Rules.{at_once, breaks_at, brings, further, reads_on}
@@ -42,7 +42,7 @@ use Rattle.pulsar_client.specs.Run.{Entry, Begins, Then, IsRun, agenda, first, r
 use Rattle.pulsar_client.specs.View.{Options, Seat, arrival_at, begun_live, dialed, got_at, is_dialing, is_live, link_got, live_begun, seat_asked, seat_got, took_end, took_some}
 use Rattle.pulsar_wire.specs.declared.key.RequestKey.TheVariants as keys
 use Rattle.pulsar_session.specs.Link as session
-use Rattle.pulsar_client.specs.declared.act.Arrival.TheVariants as arrivals
+use Rattle.pulsar_calls.specs.declared.act.Arrival.TheVariants as arrivals
 use Rattle.pulsar_client.proofs.Acts.{none_now}
 use Rattle.pulsar_client.proofs.Alone.{Made, alone, no_some, some_is}
 

@@ -8,8 +8,9 @@ use Rattle.pulsar_session.specs.Laws.{frames_queued, frames_written, left_in, qu
 use Rattle.pulsar_session.specs.Link.{Act, Seen, Setup, frame_at, is_over, seen}
 use Rattle.pulsar_session.proofs.Placing.{frame_of_place}
 use Rattle.pulsar_session.proofs.Settled.{places_count, written_in_order}
-use Rattle.pulsar_client.specs.Content.{Shown, Queued}
-use Rattle.pulsar_client.specs.Links.{numbers_from, queues, queues_at}
+use Rattle.pulsar_calls.specs.Content.{Shown, Queued}
+use Rattle.pulsar_client.specs.Links.{queues, queues_at}
+use Rattle.pulsar_calls.specs.Content.{numbers_from}
 
 -- frames that are queued one after the other, from a place on
 abbrev pub numbered : (link place : ℕ) → List (List ℕ) → List Shown

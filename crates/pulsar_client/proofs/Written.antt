@@ -14,17 +14,17 @@ use Rattle.pulsar_session.specs.Failures.{Fault}
 use Rattle.pulsar_session.specs.Laws.{queued_in, written_in}
 use Rattle.pulsar_session.specs.Link as session
 use Rattle.pulsar_session.specs.Link.{Act as Act', Opens, Feeds, Takes, Asks, Drains, Seen, Setup, came, ends, frame_at, is_open, is_over, written}
-use Rattle.pulsar_client.specs.declared.act.Act.{Act}
-use Rattle.pulsar_client.specs.declared.act.Act.TheVariants.{Comes, Does, Dials}
-use Rattle.pulsar_client.specs.declared.act.Action.TheVariants.{Get, Ask}
-use Rattle.pulsar_client.specs.declared.act.End.{End}
-use Rattle.pulsar_client.specs.declared.act.LinkAct.{LinkAct}
-use Rattle.pulsar_client.specs.declared.act.LinkAct.TheVariants as link
-use Rattle.pulsar_client.specs.declared.act.Part.TheVariants.{ToLink, Polls}
-use Rattle.pulsar_client.specs.declared.act.Who.{Who}
-use Rattle.pulsar_client.specs.declared.effect.Settlement.TheVariants as settlement
+use Rattle.pulsar_calls.specs.declared.act.Act.{Act}
+use Rattle.pulsar_calls.specs.declared.act.Act.TheVariants.{Comes, Does, Dials}
+use Rattle.pulsar_calls.specs.declared.act.Action.TheVariants.{Get, Ask}
+use Rattle.pulsar_calls.specs.declared.act.End.{End}
+use Rattle.pulsar_calls.specs.declared.act.LinkAct.{LinkAct}
+use Rattle.pulsar_calls.specs.declared.act.LinkAct.TheVariants as link
+use Rattle.pulsar_calls.specs.declared.act.Part.TheVariants.{ToLink, Polls}
+use Rattle.pulsar_calls.specs.declared.act.Who.{Who}
+use Rattle.pulsar_calls.specs.declared.effect.Settlement.TheVariants as settlement
 use Rattle.pulsar_plans.specs.Address.{Place}
-use Rattle.pulsar_client.specs.Content.{Heard, Bytes, Shown, Queued, Write}
+use Rattle.pulsar_calls.specs.Content.{Heard, Bytes, Shown, Queued, Write}
 use Rattle.pulsar_client.specs.Effects.{asked_at, connects, effect_below, effects, given_at, is_before3, retries_on}
 use Rattle.pulsar_link.specs.Items.{Item, Given, Faulty}
 use Rattle.pulsar_client.specs.Laws.{IsPrefix, WritesFollow, bytes_of, queued_on, written_on}

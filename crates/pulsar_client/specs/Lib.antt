@@ -1,11 +1,7 @@
 pub mod Address
-pub mod Content
-pub mod Plan
 pub mod Links
 pub mod Subscriptions
 pub mod Alarms
-pub mod Who
-pub mod Parts
 pub mod Producers
 pub mod View
 pub mod Rules

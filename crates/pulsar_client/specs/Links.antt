@@ -12,16 +12,16 @@ use Rattle.pulsar_session.specs.Failures.{Fault, Io, Disconnected}
 use Rattle.pulsar_session.specs.Link as session
 use Rattle.pulsar_session.specs.Link.{Act, Asks, Takes, Closes, Came, Seen, came, due, ends, frame_at, written}
 use Rattle.pulsar_link.specs.Messages.{read}
-use Rattle.pulsar_client.specs.declared.act.Arrival.{Arrival}
-use Rattle.pulsar_client.specs.declared.act.Arrival.TheVariants.{Nothing, Readied, Settles, Gives, Passes, Bad}
-use Rattle.pulsar_client.specs.declared.act.End.{End}
-use Rattle.pulsar_client.specs.declared.act.End.TheVariants.{Unopened, Lost, Overdue, Broken, Idles, Stops}
-use Rattle.pulsar_client.specs.declared.act.LinkAct.{LinkAct}
-use Rattle.pulsar_client.specs.declared.act.LinkAct.TheVariants.{Opens, Reads, Drains, Pings, Ends}
-use Rattle.pulsar_client.specs.declared.effect.Settlement.{Settlement}
-use Rattle.pulsar_client.specs.declared.effect.Settlement.TheVariants as settlement
-use Rattle.pulsar_client.specs.Content as content
-use Rattle.pulsar_client.specs.Content.{Shown, Queued, Write, Close}
+use Rattle.pulsar_calls.specs.declared.act.Arrival.{Arrival}
+use Rattle.pulsar_calls.specs.declared.act.Arrival.TheVariants.{Nothing, Readied, Settles, Gives, Passes, Bad}
+use Rattle.pulsar_calls.specs.declared.act.End.{End}
+use Rattle.pulsar_calls.specs.declared.act.End.TheVariants.{Unopened, Lost, Overdue, Broken, Idles, Stops}
+use Rattle.pulsar_calls.specs.declared.act.LinkAct.{LinkAct}
+use Rattle.pulsar_calls.specs.declared.act.LinkAct.TheVariants.{Opens, Reads, Drains, Pings, Ends}
+use Rattle.pulsar_calls.specs.declared.effect.Settlement.{Settlement}
+use Rattle.pulsar_calls.specs.declared.effect.Settlement.TheVariants as settlement
+use Rattle.pulsar_calls.specs.Content as content
+use Rattle.pulsar_calls.specs.Content.{Shown, Queued, Write, Close}
 
 -- THE CALL OF THE CONNECTION
 
@@ -104,11 +104,6 @@ is_own_end Idles = true
 is_own_end Stops = true
 
 -- FRAMES
-
--- so many numbers from one on
-abbrev pub numbers_from : (first count : ℕ) → List ℕ
-numbers_from first zero = []
-numbers_from first (suc n) = first ∷ numbers_from (suc first) n
 
 -- the places of the frames that were queued between
 abbrev pub new_places : (before after : Seen) → List ℕ

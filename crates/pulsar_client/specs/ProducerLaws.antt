@@ -34,33 +34,33 @@ use Rattle.pulsar_producer.specs.declared.sending.Sending.TheVariants as send
 use Rattle.pulsar_producer.specs.declared.batching.Batching.{Batching}
 use Rattle.pulsar_producer.specs.declared.batching.Batching.TheVariants as batching
 use Rattle.pulsar_plans.specs.declared.turn.Ways.{Ways}
-use Rattle.pulsar_client.specs.declared.act.Act.{Act}
-use Rattle.pulsar_client.specs.declared.act.Act.TheVariants.{Comes, Told, Does}
-use Rattle.pulsar_client.specs.declared.act.Alarm.TheVariants.{Batch}
-use Rattle.pulsar_client.specs.declared.act.Part.TheVariants.{Rings}
+use Rattle.pulsar_calls.specs.declared.act.Act.{Act}
+use Rattle.pulsar_calls.specs.declared.act.Act.TheVariants.{Comes, Told, Does}
+use Rattle.pulsar_calls.specs.declared.act.Alarm.TheVariants.{Batch}
+use Rattle.pulsar_calls.specs.declared.act.Part.TheVariants.{Rings}
 use Rattle.pulsar_client.specs.Alarms.{rings}
-use Rattle.pulsar_client.specs.declared.act.Action.TheVariants.{Ask, TakeTurn, PassTurn, Draw, Remake, Shut, Store, Flush, TakeBatch, StopAll}
-use Rattle.pulsar_client.specs.declared.act.Makes.TheVariants as makes
-use Rattle.pulsar_client.specs.declared.act.Share.{Share}
-use Rattle.pulsar_client.specs.declared.act.Outcome.{Outcome}
-use Rattle.pulsar_client.specs.declared.act.Outcome.TheVariants as outcome
-use Rattle.pulsar_client.specs.declared.act.Procedure.TheVariants as procedure
-use Rattle.pulsar_client.specs.declared.act.Who.{Who}
-use Rattle.pulsar_client.specs.declared.act.Who.TheVariants.{Call}
-use Rattle.pulsar_client.specs.declared.plans.plan.At.{At}
-use Rattle.pulsar_client.specs.declared.plans.plan.At.TheVariants as at
-use Rattle.pulsar_client.specs.declared.plans.plan.Plan.{Plan}
-use Rattle.pulsar_client.specs.declared.plans.plan.Plan.TheVariants as plan
+use Rattle.pulsar_calls.specs.declared.act.Action.TheVariants.{Ask, TakeTurn, PassTurn, Draw, Remake, Shut, Store, Flush, TakeBatch, StopAll}
+use Rattle.pulsar_calls.specs.declared.act.Makes.TheVariants as makes
+use Rattle.pulsar_calls.specs.declared.act.Share.{Share}
+use Rattle.pulsar_calls.specs.declared.act.Outcome.{Outcome}
+use Rattle.pulsar_calls.specs.declared.act.Outcome.TheVariants as outcome
+use Rattle.pulsar_calls.specs.declared.act.Procedure.TheVariants as procedure
+use Rattle.pulsar_calls.specs.declared.act.Who.{Who}
+use Rattle.pulsar_calls.specs.declared.act.Who.TheVariants.{Call}
+use Rattle.pulsar_calls.specs.declared.plans.plan.At.{At}
+use Rattle.pulsar_calls.specs.declared.plans.plan.At.TheVariants as at
+use Rattle.pulsar_calls.specs.declared.plans.plan.Plan.{Plan}
+use Rattle.pulsar_calls.specs.declared.plans.plan.Plan.TheVariants as plan
 use Rattle.pulsar_client.specs.declared.producers.Topic.{Topic}
-use Rattle.pulsar_client.specs.Content.{Said, Failed}
+use Rattle.pulsar_calls.specs.Content.{Said, Failed}
 use Rattle.pulsar_client.specs.Links as links
-use Rattle.pulsar_client.specs.Parts.{sent_from}
+use Rattle.pulsar_calls.specs.Parts.{sent_from}
 use Rattle.pulsar_client.specs.Producers.{number_drawn, numbers_at}
-use Rattle.pulsar_client.specs.Plan.{told}
+use Rattle.pulsar_calls.specs.Plan.{told}
 use Rattle.pulsar_client.specs.Rules.{joins, notice}
 use Rattle.pulsar_client.specs.Run.{Entry, Begins, Then, IsRun, Rests, view}
 use Rattle.pulsar_client.specs.View.{Options, Seat, View, answer_at, room_of}
-use Rattle.pulsar_client.specs.Who.{in_turn, is_same, turn_of as taken_as}
+use Rattle.pulsar_calls.specs.Who.{in_turn, is_same, turn_of as taken_as}
 use Rattle.pulsar_client.specs.Laws.{started, outcomes, deeds, Answered}
 
 -- what is told of a frame that is queued

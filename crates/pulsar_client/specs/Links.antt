@@ -22,6 +22,7 @@ use Rattle.pulsar_calls.specs.declared.effect.Settlement.{Settlement}
 use Rattle.pulsar_calls.specs.declared.effect.Settlement.TheVariants as settlement
 use Rattle.pulsar_calls.specs.Content as content
 use Rattle.pulsar_calls.specs.Content.{Shown, Queued, Write, Close}
+use Rattle.pulsar_calls.specs.Content.{numbers_from}
 
 -- THE CALL OF THE CONNECTION
 

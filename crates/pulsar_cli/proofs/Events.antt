@@ -7,7 +7,7 @@ use Rattle.std.specs.declared.dyn_box.DynBox.{DynBox}
 use Rattle.pulsar_client.specs.Client.{StandsFor}
 use Rattle.pulsar_client.specs.declared.pulsar.Pulsar.{Pulsar}
 use Rattle.pulsar_client.specs.Outside.{Rose}
-use Rattle.pulsar_client.specs.Content.{Heard, Shown}
+use Rattle.pulsar_calls.specs.Content.{Heard, Shown}
 use Rattle.pulsar_client.specs.Run.{Good, Step}
 use Rattle.pulsar_client.specs.View.{Options}
 use Rattle.pulsar_cli.specs.Grammar.{lines}

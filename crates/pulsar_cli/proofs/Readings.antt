@@ -5,8 +5,8 @@ use Rattle.std.proofs.Math.Seq.{take-append_seam}
 use Rattle.std.proofs.lemmas.Option.{none-some}
 use Rattle.pulsar_wire.specs.Field.{◌>>=◌}
 use Rattle.pulsar_producer.specs.Routing.{Policy}
-use Rattle.pulsar_client.specs.Content.{Heard, Shown, heard}
-use Rattle.pulsar_client.specs.declared.event.Event.{Event}
+use Rattle.pulsar_calls.specs.Content.{Heard, Shown, heard}
+use Rattle.pulsar_calls.specs.declared.event.Event.{Event}
 use Rattle.pulsar_client.specs.Run.{Good, Step, is_empty}
 use Rattle.pulsar_client.specs.View.{Options}
 use Rattle.pulsar_cli.specs.Grammar.{Setting, Line, Nothing, Sets, Happens, line, lines}

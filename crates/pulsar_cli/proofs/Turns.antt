@@ -3,8 +3,8 @@ use Rattle.std.proofs.Common.{inl, inr, ◌⊎◌, ◌≡◌, ℕ, ◌≤◌, �
 use Rattle.std.specs.Prelude.{string_bytes, Result, Ok, Err, IfErr, IfOk, IfSome, MatchOption, MatchResult}
 use Rattle.pulsar_producer.specs.Routing.{Policy}
 use Rattle.pulsar_client.specs.Outside.{Rose}
-use Rattle.pulsar_client.specs.Content.{Heard, heard}
-use Rattle.pulsar_client.specs.declared.event.Event.{Event}
+use Rattle.pulsar_calls.specs.Content.{Heard, heard}
+use Rattle.pulsar_calls.specs.declared.event.Event.{Event}
 use Rattle.pulsar_client.specs.Run.{Step}
 use Rattle.pulsar_client.specs.View.{Options}
 use Rattle.pulsar_cli.specs.Script.{Adds, AddsFront, IsDone, Seen, limit}

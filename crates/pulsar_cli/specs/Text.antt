@@ -2,9 +2,9 @@
 use Rattle.std.specs.Prelude.{ℕ, Bool, if◌then◌else◌, List, [], ◌∷◌, ◌++◌, length, codes}
 use Rattle.std.specs.List.{flat_map}
 use Rattle.std.specs.Fmt.{decimal}
-use Rattle.pulsar_client.specs.declared.effect.Settlement.{Settlement}
-use Rattle.pulsar_client.specs.declared.effect.Settlement.TheVariants as settlement
-use Rattle.pulsar_client.specs.Content.{Said, Done, Names, Address, Count, Addresses, Receipt, Sends, Replies, Failed, Shown, Connect, Queued, Write, Retry, Close, Settles, Ends, Hands, Faults, FindsNothing, FindsEnd}
+use Rattle.pulsar_calls.specs.declared.effect.Settlement.{Settlement}
+use Rattle.pulsar_calls.specs.declared.effect.Settlement.TheVariants as settlement
+use Rattle.pulsar_calls.specs.Content.{Said, Done, Names, Address, Count, Addresses, Receipt, Sends, Replies, Failed, Shown, Connect, Queued, Write, Retry, Close, Settles, Ends, Hands, Faults, FindsNothing, FindsEnd}
 use Rattle.url.specs.Parts.{serialize}
 use Rattle.pulsar_plans.specs.Address.{Named, Place}
 use Rattle.pulsar_cli.specs.WordText.{hex, word}

@@ -1,7 +1,7 @@
 //! A script that is being read, and the text of its run.
 
 ghost use Rattle.std.specs.Prelude.{◌≡◌, ◌⊎◌, ◌+◌, ◌-◌, ◌<◌, ◌++◌, [], ℕ, List, Err, IfErr, IfOk, IfSome, MatchOption, OnOk, length, map, string_bytes, take};
-ghost use Rattle.pulsar_client.specs.Content.{heard, shown};
+ghost use Rattle.pulsar_calls.specs.Content.{heard, shown};
 ghost use Rattle.pulsar_client.specs.Run.{Step};
 ghost use Rattle.pulsar_client.specs.View.{Options};
 ghost use Rattle.pulsar_producer.specs.Routing.{Policy};

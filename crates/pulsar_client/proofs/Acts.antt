@@ -5,16 +5,16 @@ use Rattle.std.specs.Option.{option_to_list}
 use Rattle.pulsar_run.specs.Run.{first_of, rest_of}
 use Rattle.pulsar_messages.specs.Content.{ProducerMessageValues}
 use Rattle.pulsar_session.specs.Failures.{Exhausted}
-use Rattle.pulsar_client.specs.declared.act.Act.{Act}
-use Rattle.pulsar_client.specs.declared.act.Act.TheVariants.{Comes, Starts, Told, Answers}
-use Rattle.pulsar_client.specs.declared.act.Notice.{Notice}
-use Rattle.pulsar_client.specs.declared.act.Part.{Part}
-use Rattle.pulsar_client.specs.declared.act.Refusal.{Refusal}
-use Rattle.pulsar_client.specs.declared.act.Who.TheVariants.{Call}
-use Rattle.pulsar_client.specs.Content as content
-use Rattle.pulsar_client.specs.Content.{Asked, Heard, lacks_tickets, shares}
-use Rattle.pulsar_client.specs.Links.{numbers_from}
-use Rattle.pulsar_client.specs.Plan.{fails}
+use Rattle.pulsar_calls.specs.declared.act.Act.{Act}
+use Rattle.pulsar_calls.specs.declared.act.Act.TheVariants.{Comes, Starts, Told, Answers}
+use Rattle.pulsar_calls.specs.declared.act.Notice.{Notice}
+use Rattle.pulsar_calls.specs.declared.act.Part.{Part}
+use Rattle.pulsar_calls.specs.declared.act.Refusal.{Refusal}
+use Rattle.pulsar_calls.specs.declared.act.Who.TheVariants.{Call}
+use Rattle.pulsar_calls.specs.Content as content
+use Rattle.pulsar_calls.specs.Content.{Asked, Heard, lacks_tickets, shares}
+use Rattle.pulsar_calls.specs.Content.{numbers_from}
+use Rattle.pulsar_calls.specs.Plan.{fails}
 use Rattle.pulsar_client.specs.Producers.{Producers, routed}
 use Rattle.pulsar_client.specs.Rules.{called, on_link, over_links, parts_of, shares_of, shares_unless, starts, why_no_sends}
 use Rattle.pulsar_client.specs.Run.{Entry, Begins, Then, rules, view}

@@ -2,22 +2,21 @@
 use Rattle.std.proofs.Common.{◌≡◌, ◌∙◌, ap, sym, ℕ, ◌+◌, ◌-◌, ◌^◌, Bool, true, false, cond, not, ◌&&◌, List, [], ◌∷◌, ◌++◌, refl, Option, Some, None}
 use Rattle.std.proofs.lemmas.List.{append-nil}
 use Rattle.pulsar_session.specs.Failures.{Exhausted}
-use Rattle.pulsar_client.specs.declared.act.Act.{Act}
-use Rattle.pulsar_client.specs.declared.act.Act.TheVariants.{Comes, Answers}
-use Rattle.pulsar_client.specs.declared.act.Alarm.TheVariants.{CheckIdle}
-use Rattle.pulsar_client.specs.declared.act.Makes.{Makes}
-use Rattle.pulsar_client.specs.declared.act.Makes.TheVariants.{Nothing, Client, Consumer, Producer}
-use Rattle.pulsar_client.specs.declared.act.Part.TheVariants.{Calls}
+use Rattle.pulsar_calls.specs.declared.act.Act.TheVariants.{Comes, Answers}
+use Rattle.pulsar_calls.specs.declared.act.Alarm.TheVariants.{CheckIdle}
+use Rattle.pulsar_calls.specs.declared.act.Makes.{Makes}
+use Rattle.pulsar_calls.specs.declared.act.Makes.TheVariants.{Nothing, Client, Consumer, Producer}
+use Rattle.pulsar_calls.specs.declared.act.Part.TheVariants.{Calls}
 use Rattle.pulsar_client.specs.Alarms.{set}
-use Rattle.pulsar_client.specs.declared.act.Procedure.{Procedure}
-use Rattle.pulsar_client.specs.declared.act.Procedure.TheVariants as procedure
-use Rattle.pulsar_client.specs.declared.act.Refusal.TheVariants as refusal
-use Rattle.pulsar_client.specs.declared.act.Who.TheVariants.{Call}
-use Rattle.pulsar_client.specs.declared.event.Call.{Call as Wanted}
-use Rattle.pulsar_client.specs.declared.event.Call.TheVariants as call
-use Rattle.pulsar_client.specs.Content as content
-use Rattle.pulsar_client.specs.Content.{Asked, asked, lacks_tickets, shares}
-use Rattle.pulsar_client.specs.Plan.{fails}
+use Rattle.pulsar_calls.specs.declared.act.Procedure.{Procedure}
+use Rattle.pulsar_calls.specs.declared.act.Procedure.TheVariants as procedure
+use Rattle.pulsar_calls.specs.declared.act.Refusal.TheVariants as refusal
+use Rattle.pulsar_calls.specs.declared.act.Who.TheVariants.{Call}
+use Rattle.pulsar_calls.specs.declared.event.Call.{Call as Wanted}
+use Rattle.pulsar_calls.specs.declared.event.Call.TheVariants as call
+use Rattle.pulsar_calls.specs.Content as content
+use Rattle.pulsar_calls.specs.Content.{Asked, asked, lacks_tickets, shares}
+use Rattle.pulsar_calls.specs.Plan.{fails}
 use Rattle.pulsar_client.specs.Producers.{Producers, called_on, opened_on, why_not}
 use Rattle.pulsar_client.specs.Rules.{parts_of, procedure_for, shares_unless, starts, unless_refused}
 use Rattle.pulsar_client.specs.Run.{Agenda, goes_on}

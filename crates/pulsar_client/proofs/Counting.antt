@@ -1,21 +1,20 @@
 -- The tickets that are drawn are those of the calls of the history and of their parts.
 use Rattle.std.proofs.Common.{◌≡◌, ◌∙◌, ℕ, sym, ap, List, [], ◌∷◌, ◌++◌, refl, map, Some, None, true, false, cond}
 use Rattle.pulsar_run.specs.Run.{in_order, steps_done, with_effects}
-use Rattle.pulsar_client.specs.declared.act.Act.{Act}
-use Rattle.pulsar_client.specs.declared.act.Act.TheVariants.{Comes, Told}
-use Rattle.pulsar_client.specs.declared.act.Notice.{Notice}
-use Rattle.pulsar_client.specs.declared.act.Part.{Part}
-use Rattle.pulsar_client.specs.declared.act.Part.TheVariants.{Calls}
+use Rattle.pulsar_calls.specs.declared.act.Act.{Act}
+use Rattle.pulsar_calls.specs.declared.act.Act.TheVariants.{Comes, Told}
+use Rattle.pulsar_calls.specs.declared.act.Notice.{Notice}
+use Rattle.pulsar_calls.specs.declared.act.Part.{Part}
+use Rattle.pulsar_calls.specs.declared.act.Part.TheVariants.{Calls}
 use Rattle.pulsar_client.specs.declared.tables.Tables.{Tables}
-use Rattle.pulsar_client.specs.Content.{Heard, Shown, Called, Ticked}
+use Rattle.pulsar_calls.specs.Content.{Heard, Shown, Called, Ticked}
 use Rattle.pulsar_client.specs.Effects.{effect_below, effects}
-use Rattle.pulsar_client.specs.Laws.{TicketsCount}
 use Rattle.pulsar_client.specs.Rules.{at_once, brings, further, parts}
-use Rattle.pulsar_client.specs.Run.{Entry, Begins, Then, IsRun, Step, agenda, first_of, heard_to, rest, rest_of, rules, steps, tickets_in, view}
+use Rattle.pulsar_client.specs.Run.{Entry, Begins, Then, IsRun, Rests, Step, agenda, first_of, heard_to, rest, rest_of, rules, steps, tickets_in, view}
 use Rattle.pulsar_client.specs.Tables.{Stands}
 use Rattle.pulsar_client.specs.View.{Options, View, drawn_after, is_live}
 use Rattle.pulsar_client.proofs.Acts.{Each, begun_same}
-use Rattle.pulsar_client.proofs.Made.{IsMany, NoSingle, at_once_many, further_many, ticks_many}
+use Rattle.pulsar_client.proofs.Single.{IsMany, NoSingle, at_once_many, further_many, ticks_many}
 
 -- WHAT IS LEFT TO DRAW
 
@@ -100,11 +99,11 @@ counted o (Then a ∷ log) (run, first_is) =
     ∙ counted o log run
     ∙ sym (tickets_same (effects v a) (steps_done rules o log))
 
-pub tickets_count_lem : TicketsCount
-tickets_count_lem o log run rests =
+pub tickets_are : (o : Options) (log : List Entry) → IsRun o log → Rests o log → (view o log).calls.drawn ≡ tickets_in (steps o log)
+tickets_are o log run rests =
     let g = agenda o log in
     sym (rested g.now g.here g.behind g.parts (view o log).calls.drawn rests) ∙ counted o log run
 
 -- the tickets of tables are those of a history that they stand for
 pub ticket_is : (c : Tables) {o : Options} {h : List Step} → Stands o c h → c.tickets ≡ tickets_in h
-ticket_is c {o} {h} s = ap (λ v. v.calls.drawn) s.sees ∙ tickets_count_lem o s.log s.run s.rests ∙ ap tickets_in (sym s.same)
+ticket_is c {o} {h} s = ap (λ v. v.calls.drawn) s.sees ∙ tickets_are o s.log s.run s.rests ∙ ap tickets_in (sym s.same)

@@ -13,7 +13,7 @@ use Rattle.std.specs.declared.cmp.Ordering.TheVariants.{Less}
 use Rattle.std.specs.Option.{option_map}
 use Rattle.pulsar_link.specs.Items.{Item}
 use Rattle.pulsar_link.specs.Messages.{Reply}
-use Rattle.pulsar_client.specs.declared.act.Arrival.TheVariants.{Gives}
+use Rattle.pulsar_calls.specs.declared.act.Arrival.TheVariants.{Gives}
 use Rattle.pulsar_client.specs.declared.consumers.subscriber.Subscriber.{Subscriber}
 use Rattle.pulsar_client.specs.Subscribers.{fresh_in, given_at, is_listed, live_at, seen_in, with_items}
 use Rattle.pulsar_client.specs.Subscriptions.{Subscription, hears, is_last}

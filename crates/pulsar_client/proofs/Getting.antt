@@ -3,9 +3,9 @@ use Rattle.std.proofs.Common.{◌≡◌, ◌∙◌, ap, sym, ℕ, Bool, true, fa
 use Rattle.std.proofs.lemmas.Bool.{cases_Bool}
 use Rattle.std.proofs.lemmas.Slice.Eq.{bytes_eq-Decides}
 use Rattle.pulsar_plans.specs.Address.{Place, address_key, is_reachable}
-use Rattle.pulsar_client.specs.declared.act.Act.TheVariants.{Does}
-use Rattle.pulsar_client.specs.declared.act.Action.TheVariants.{Get}
-use Rattle.pulsar_client.specs.declared.act.Who.{Who}
+use Rattle.pulsar_calls.specs.declared.act.Act.TheVariants.{Does}
+use Rattle.pulsar_calls.specs.declared.act.Action.TheVariants.{Get}
+use Rattle.pulsar_calls.specs.declared.act.Who.{Who}
 use Rattle.pulsar_client.specs.declared.addresses.Series.{Series}
 use Rattle.pulsar_client.specs.declared.addresses.Series.TheVariants.{Serves}
 use Rattle.pulsar_client.specs.View.{Base, View, after, base_waiting, got_at, serving, waits_for}

@@ -1,20 +1,16 @@
 -- What plans ask of topic producers: what is left to do, and what is seen of the producers afterwards.
-use Rattle.std.proofs.Common.{◌≡◌, ◌∙◌, ap, sym, ℕ, ◌==◌, Bool, true, false, cond, List, [], ◌∷◌, ◌++◌, refl, Option, Some, None, inl, inr}
+use Rattle.std.proofs.Common.{◌≡◌, ◌∙◌, ap, sym, ℕ, ◌==◌, true, false, cond, List, [], ◌∷◌, ◌++◌, refl, Option, Some, None, inl, inr}
 use Rattle.std.proofs.lemmas.Bool.{cases_Bool, eqb-true}
 use Rattle.std.proofs.lemmas.List.{append-nil}
 use Rattle.std.specs.List.{flat_map}
 use Rattle.std.specs.Option.{is_some, option_map, option_to_list}
 use Rattle.pulsar_producer.specs.Topic.{Act as Deed}
-use Rattle.pulsar_producer.specs.declared.deed.Drawn.{Drawn}
 use Rattle.pulsar_producer.specs.declared.deed.News.TheVariants as news
-use Rattle.pulsar_plans.specs.declared.making.Command.{Command}
-use Rattle.pulsar_session.specs.Failures.{Disconnected, Exhausted}
-use Rattle.pulsar_client.specs.declared.act.Act.{Act}
-use Rattle.pulsar_client.specs.declared.act.Outcome.TheVariants as outcome
-use Rattle.pulsar_client.specs.declared.act.Who.{Who}
+use Rattle.pulsar_calls.specs.declared.act.Act.{Act}
+use Rattle.pulsar_calls.specs.declared.act.Who.{Who}
 use Rattle.pulsar_client.specs.declared.producers.Topic.{Topic}
-use Rattle.pulsar_client.specs.Producers.{Producers, changed, drawn, topic_after, turn_taken}
-use Rattle.pulsar_client.specs.Rules.{draw_outcome, draw_said, finds, grants, number_said, recalls, takes_turn, tells, tells_lost}
+use Rattle.pulsar_client.specs.Producers.{Producers, changed, topic_after, turn_taken}
+use Rattle.pulsar_client.specs.Rules.{grants, takes_turn, tells_lost}
 use Rattle.pulsar_client.specs.Run.{Agenda}
 
 -- what comes at once stands in front

@@ -13,7 +13,7 @@ use Rattle.std.specs.Option.{option_map, option_to_list}
 use Rattle.std.specs.Ordering.{nat_cmp}
 use Rattle.pulsar_client.specs.declared.row.Row.{Row}
 use Rattle.pulsar_client.specs.Kept.{AreTicketed, live_in, seat_of}
-use Rattle.pulsar_client.specs.Links.{numbers_from}
+use Rattle.pulsar_calls.specs.Content.{numbers_from}
 use Rattle.pulsar_client.specs.Rules.{on_link}
 use Rattle.pulsar_client.specs.Subscriptions.{IsHeard, Subscription, hears_at, is_heard, is_heard_at}
 use Rattle.pulsar_client.specs.View.{Seat}

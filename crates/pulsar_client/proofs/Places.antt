@@ -11,21 +11,10 @@ use Rattle.std.specs.Option.{option_to_list}
 use Rattle.std.specs.Ordering.{nat_cmp}
 use Rattle.std.specs.declared.cmp.Ordering.TheVariants.{Less}
 use Rattle.pulsar_requests.proofs.Awaiting.{is_at-eqb}
-use Rattle.pulsar_client.specs.Links.{numbers_from}
+use Rattle.pulsar_calls.specs.Content.{numbers_from}
 use Rattle.pulsar_client.specs.Subscribers.{is_listed}
-use Rattle.pulsar_client.proofs.Lists.{filter_map_end}
-
-places_end : (first n : ℕ) → numbers_from first (suc n) ≡ numbers_from first n ++ (first + n) ∷ []
-places_end first zero = ap (λ k. k ∷ []) (omega arith)
-places_end first (suc n) =
-    ap (λ ps. first ∷ ps) (places_end (suc first) n) ∙ ap (λ k. first ∷ (numbers_from (suc first) n ++ k ∷ [])) (omega arith)
-
--- one place more
-pub next_number : (first i : ℕ) → first ≤ i → numbers_from first (i + 1 - first) ≡ numbers_from first (i - first) ++ i ∷ []
-next_number first i le =
-    let more : i + 1 - first ≡ suc (i - first) = omega arith in
-    let at : first + (i - first) ≡ i = omega arith in
-    ap (numbers_from first) more ∙ places_end first (i - first) ∙ ap (λ k. numbers_from first (i - first) ++ k ∷ []) at
+use Rattle.pulsar_calls.proofs.Counted.{next_number}
+use Rattle.pulsar_calls.proofs.Lists.{filter_map_end}
 
 pub next_place : {A : Type 0} (f : ℕ → Option A) (first i : ℕ) → first ≤ i →
     filter_map f (numbers_from first (i + 1 - first)) ≡ filter_map f (numbers_from first (i - first)) ++ option_to_list (f i)

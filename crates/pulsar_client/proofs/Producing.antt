@@ -16,7 +16,7 @@ use Rattle.pulsar_producer.specs.Topic.{Act, Closes, Seen, fresh}
 use Rattle.pulsar_producer.specs.declared.content.Built.{Built}
 use Rattle.pulsar_producer.specs.declared.routing.Partition.{Partition}
 use Rattle.pulsar_producer.specs.declared.storage.Limits.{Limits}
-use Rattle.pulsar_client.specs.declared.content.Building.{Building}
+use Rattle.pulsar_calls.specs.declared.content.Building.{Building}
 use Rattle.pulsar_client.specs.declared.producers.Topic.{Topic}
 use Rattle.pulsar_client.specs.Producers.{Producers, changed, joined, made_of, partition_of, routed, shut_all, topic_after, with_built, with_topic, with_topics}
 

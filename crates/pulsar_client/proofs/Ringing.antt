@@ -15,13 +15,13 @@ use Rattle.std.specs.Map.{keys_of, remove_entry}
 use Rattle.std.specs.Option.{is_some}
 use Rattle.std.specs.declared.cmp.Ordering.TheVariants.{Less}
 use Rattle.pulsar_requests.specs.Soonest.{has_come}
-use Rattle.pulsar_client.specs.contracts.act.AlarmOrd.TheImpl.Laws.{total-law}
-use Rattle.pulsar_client.specs.declared.act.Alarm.{Alarm}
-use Rattle.pulsar_client.specs.declared.act.Alarm.TheVariants.{Retry, Wake, Batch, KeepAlive, CheckIdle}
-use Rattle.pulsar_client.specs.declared.act.Who.TheVariants.{Call, Producer}
+use Rattle.pulsar_calls.specs.contracts.act.AlarmOrd.TheImpl.Laws.{total-law}
+use Rattle.pulsar_calls.specs.declared.act.Alarm.{Alarm}
+use Rattle.pulsar_calls.specs.declared.act.Alarm.TheVariants.{Retry, Wake, Batch, KeepAlive, CheckIdle}
+use Rattle.pulsar_calls.specs.declared.act.Who.TheVariants.{Call, Producer}
 use Rattle.pulsar_client.specs.Alarms.{alarm_cmp, is_same_alarm, moment_of, ringing}
 use Rattle.pulsar_client.specs.Due.{is_moment}
-use Rattle.pulsar_client.proofs.Lists.{any_end}
+use Rattle.pulsar_calls.proofs.Lists.{any_end}
 
 pub exact_alarm : CmpEqualImpliesEq alarm_cmp
 exact_alarm (Retry l) (Retry k) h = ap Retry (exact_unsigned l k h)

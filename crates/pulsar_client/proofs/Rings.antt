@@ -2,10 +2,10 @@
 use Rattle.std.proofs.Common.{◌≡◌, ◌∙◌, ap, sym, ℕ, Bool, true, false, cond, [], ◌++◌, refl, map, Option}
 use Rattle.std.proofs.lemmas.List.{append-nil}
 use Rattle.pulsar_run.specs.Order.{arranged}
-use Rattle.pulsar_client.specs.declared.act.Act.TheVariants.{Comes}
-use Rattle.pulsar_client.specs.declared.act.Alarm.{Alarm}
-use Rattle.pulsar_client.specs.declared.act.Alarm.TheVariants.{Retry, Wake, Batch, KeepAlive, CheckIdle}
-use Rattle.pulsar_client.specs.declared.act.Part.TheVariants.{Rings}
+use Rattle.pulsar_calls.specs.declared.act.Act.TheVariants.{Comes}
+use Rattle.pulsar_calls.specs.declared.act.Alarm.{Alarm}
+use Rattle.pulsar_calls.specs.declared.act.Alarm.TheVariants.{Retry, Wake, Batch, KeepAlive, CheckIdle}
+use Rattle.pulsar_calls.specs.declared.act.Part.TheVariants.{Rings}
 use Rattle.pulsar_client.specs.declared.addresses.Pause.{Pause}
 use Rattle.pulsar_client.specs.Alarms.{rings}
 use Rattle.pulsar_client.specs.Producers.{Producers}

@@ -9,13 +9,13 @@ use Rattle.std.specs.declared.cmp.Ordering.TheVariants.{Less, Equal, Greater}
 use Rattle.std.specs.Cmp.{IsStrictWeakOrder}
 use Rattle.pulsar_run.specs.Order.{arranged}
 use Rattle.pulsar_run.proofs.Orders.{arranged_from_sort, arranged_map}
-use Rattle.pulsar_client.specs.declared.act.Notice.{Notice}
-use Rattle.pulsar_client.specs.declared.effect.Effect.{Effect}
-use Rattle.pulsar_client.specs.Content.{shown}
+use Rattle.pulsar_calls.specs.declared.act.Notice.{Notice}
+use Rattle.pulsar_calls.specs.declared.effect.Effect.{Effect}
+use Rattle.pulsar_calls.specs.Content.{shown}
 use Rattle.pulsar_client.specs.Effects.{effect_below, effect_rank, is_before3}
 use Rattle.pulsar_client.specs.Rules.{below}
-use Rattle.pulsar_client.specs.Who.{is_before, rank}
-use Rattle.pulsar_client.proofs.Instances.{below_order, effect_order}
+use Rattle.pulsar_calls.specs.Who.{is_before, rank}
+use Rattle.pulsar_client.proofs.Orders.{below_order, effect_order}
 
 abbrev cmp2 : ℕ × ℕ → ℕ × ℕ → Ordering
 cmp2 x y = ordering_then (nat_cmp x.0 y.0) (nat_cmp x.1 y.1)

@@ -5,19 +5,19 @@ use Rattle.std.specs.Option.{option_to_list}
 use Rattle.pulsar_run.specs.Laws.{Arises, In, InOne, InThisStep}
 use Rattle.pulsar_session.specs.Link.{due}
 use Rattle.pulsar_producer.specs.Routing.{Policy}
-use Rattle.pulsar_client.specs.declared.act.Act.{Act}
-use Rattle.pulsar_client.specs.declared.act.Act.TheVariants.{Comes, Told}
-use Rattle.pulsar_client.specs.declared.act.Alarm.{Alarm}
-use Rattle.pulsar_client.specs.declared.act.Alarm.TheVariants.{KeepAlive, CheckIdle}
-use Rattle.pulsar_client.specs.declared.act.Arrival.{Arrival}
-use Rattle.pulsar_client.specs.declared.act.Arrival.TheVariants.{Bad, Nothing}
-use Rattle.pulsar_client.specs.declared.act.End.TheVariants.{Overdue, Idles}
-use Rattle.pulsar_client.specs.declared.act.LinkAct.TheVariants.{Ends, Pings, Reads}
-use Rattle.pulsar_client.specs.declared.act.Notice.{Notice}
-use Rattle.pulsar_client.specs.declared.act.Part.TheVariants.{ToLink, Rings}
+use Rattle.pulsar_calls.specs.declared.act.Act.{Act}
+use Rattle.pulsar_calls.specs.declared.act.Act.TheVariants.{Comes, Told}
+use Rattle.pulsar_calls.specs.declared.act.Alarm.{Alarm}
+use Rattle.pulsar_calls.specs.declared.act.Alarm.TheVariants.{KeepAlive, CheckIdle}
+use Rattle.pulsar_calls.specs.declared.act.Arrival.{Arrival}
+use Rattle.pulsar_calls.specs.declared.act.Arrival.TheVariants.{Bad, Nothing}
+use Rattle.pulsar_calls.specs.declared.act.End.TheVariants.{Overdue, Idles}
+use Rattle.pulsar_calls.specs.declared.act.LinkAct.TheVariants.{Ends, Pings, Reads}
+use Rattle.pulsar_calls.specs.declared.act.Notice.{Notice}
+use Rattle.pulsar_calls.specs.declared.act.Part.TheVariants.{ToLink, Rings}
 use Rattle.pulsar_client.specs.Alarms.{ringing}
-use Rattle.pulsar_client.specs.Content.{Heard, Ticked}
-use Rattle.pulsar_client.specs.Links.{numbers_from}
+use Rattle.pulsar_calls.specs.Content.{Heard, Ticked}
+use Rattle.pulsar_calls.specs.Content.{numbers_from}
 use Rattle.pulsar_client.specs.Rules.{at_once, brings, due_part, further, joins, on_link, over_links, parts, reads_on}
 use Rattle.pulsar_client.specs.Run.{Entry, Begins, Then, IsRun, rules, view}
 use Rattle.pulsar_client.specs.View.{Options, Links, Seat, View, arrival_at, is_live}

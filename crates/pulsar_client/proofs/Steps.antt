@@ -4,10 +4,10 @@ use Rattle.std.proofs.lemmas.List.{append-nil, reverse-append}
 use Rattle.std.specs.Global.{Vec}
 use Rattle.pulsar_run.proofs.Unique.{one_log}
 use Rattle.pulsar_run.specs.Run.{Begins, only}
-use Rattle.pulsar_client.specs.declared.effect.Effect.{Effect}
-use Rattle.pulsar_client.specs.declared.event.Event.{Event}
+use Rattle.pulsar_calls.specs.declared.effect.Effect.{Effect}
+use Rattle.pulsar_calls.specs.declared.event.Event.{Event}
 use Rattle.pulsar_client.specs.declared.tables.Tables.{Tables}
-use Rattle.pulsar_client.specs.Content.{Heard, heard, shown}
+use Rattle.pulsar_calls.specs.Content.{Heard, heard, shown}
 use Rattle.pulsar_client.specs.Rules.{brings}
 use Rattle.pulsar_client.specs.Run.{Agenda, Good, Step, first, rules, view}
 use Rattle.pulsar_client.specs.Tables.{Stands, answered, step, view_of}

@@ -5,7 +5,7 @@ use Rattle.std.specs.Option.{option_map}
 use Rattle.pulsar_run.specs.Order.{put, put_all}
 use Rattle.pulsar_producer.specs.Topic.{Act}
 use Rattle.pulsar_client.specs.declared.producers.Topic.{Topic}
-use Rattle.pulsar_client.specs.declared.act.Alarm.TheVariants.{Batch}
+use Rattle.pulsar_calls.specs.declared.act.Alarm.TheVariants.{Batch}
 use Rattle.pulsar_client.specs.Alarms.{clear, set}
 use Rattle.pulsar_client.specs.Producers.{Producers, changed, is_bare, timeout_at, topic_after}
 use Rattle.pulsar_client.specs.View.{View, alarms_on_topic, alarms_waiting, later, waits_from}

@@ -1,7 +1,7 @@
 -- What is held of a ticket behind a step, and where its answer is taken.
-use Rattle.std.proofs.Common.{◌≡◌, ◌∙◌, ap, sym, subst, ℕ, ◌+◌, ◌<◌, ◌≤◌, ◌==◌, ◌&&◌, ◌||◌, ◌⊎◌, nat_le, nat_lt, arith, Bool, true, false, cond, List, [], ◌∷◌, refl, Option, Some, None, inl, inr}
+use Rattle.std.proofs.Common.{◌≡◌, ◌∙◌, ap, sym, subst, ℕ, ◌+◌, ◌<◌, ◌≤◌, ◌==◌, ◌&&◌, ◌||◌, ◌⊎◌, nat_le, nat_lt, arith, true, false, cond, List, [], ◌∷◌, refl, Option, Some, None, inl, inr}
 use Rattle.std.proofs.lemmas.Bool.{cases_Bool, eq-eqb, eqb-false, eqb-true, lt-leb, ltb-true, ne_eqb}
-use Rattle.pulsar_client.specs.Content.{Asked, Heard, Shown, Ends, Called, Opened, FailedToOpen, Bytes, Lost, Drain, Ticked, Poll, Said, lacks_tickets, shares}
+use Rattle.pulsar_calls.specs.Content.{Asked, Heard, Shown, Ends, Called, Opened, FailedToOpen, Bytes, Lost, Drain, Ticked, Poll, Said, lacks_tickets, shares}
 use Rattle.pulsar_client.specs.Run.{Step, called_to, heard_to, tickets_in}
 use Rattle.std.specs.declared.alloc.Global.{Global}
 use Rattle.std.specs.declared.dyn_box.DynBox.{DynBox}

@@ -6,35 +6,33 @@ use Rattle.std.specs.Option.{option_map}
 use Rattle.pulsar_run.specs.Run.{rest}
 use Rattle.pulsar_session.specs.Failures.{Fault}
 use Rattle.pulsar_session.specs.Link.{is_spent}
-use Rattle.pulsar_client.specs.declared.act.Act.{Act}
-use Rattle.pulsar_client.specs.declared.act.Act.TheVariants.{Comes, Starts, Told, Does, Answers}
-use Rattle.pulsar_client.specs.declared.act.Action.{Action}
-use Rattle.pulsar_client.specs.declared.act.Action.TheVariants.{Ask, Rest}
-use Rattle.pulsar_client.specs.declared.act.Makes.{Makes}
-use Rattle.pulsar_client.specs.declared.act.Makes.TheVariants.{Consumer}
-use Rattle.pulsar_client.specs.declared.act.Outcome.{Outcome}
-use Rattle.pulsar_client.specs.declared.act.Part.{Part}
-use Rattle.pulsar_client.specs.declared.act.Part.TheVariants.{Calls, ToLink, Polls}
-use Rattle.pulsar_client.specs.declared.act.LinkAct.TheVariants.{Reads, Ends}
-use Rattle.pulsar_client.specs.declared.act.Procedure.{Procedure}
-use Rattle.pulsar_client.specs.declared.act.Verdict.{Verdict}
-use Rattle.pulsar_client.specs.declared.act.Who.{Who}
-use Rattle.pulsar_client.specs.declared.act.Who.TheVariants.{Call, Producer}
-use Rattle.pulsar_client.specs.declared.plans.plan.Plan.{Plan}
-use Rattle.pulsar_client.specs.declared.plans.plan.Turn.{Turn}
-use Rattle.pulsar_client.specs.declared.plans.plan.Turn.TheVariants.{Stays, Gives}
+use Rattle.pulsar_calls.specs.declared.act.Act.{Act}
+use Rattle.pulsar_calls.specs.declared.act.Act.TheVariants.{Comes, Starts, Told, Does, Answers}
+use Rattle.pulsar_calls.specs.declared.act.Action.{Action}
+use Rattle.pulsar_calls.specs.declared.act.Action.TheVariants.{Ask, Rest}
+use Rattle.pulsar_calls.specs.declared.act.Makes.{Makes}
+use Rattle.pulsar_calls.specs.declared.act.Makes.TheVariants.{Consumer}
+use Rattle.pulsar_calls.specs.declared.act.Outcome.{Outcome}
+use Rattle.pulsar_calls.specs.declared.act.Part.{Part}
+use Rattle.pulsar_calls.specs.declared.act.Part.TheVariants.{Calls, ToLink, Polls}
+use Rattle.pulsar_calls.specs.declared.act.LinkAct.TheVariants.{Reads, Ends}
+use Rattle.pulsar_calls.specs.declared.act.Verdict.{Verdict}
+use Rattle.pulsar_calls.specs.declared.act.Who.{Who}
+use Rattle.pulsar_calls.specs.declared.act.Who.TheVariants.{Call, Producer}
+use Rattle.pulsar_calls.specs.declared.plans.plan.Plan.{Plan}
+use Rattle.pulsar_calls.specs.declared.plans.plan.Turn.{Turn}
+use Rattle.pulsar_calls.specs.declared.plans.plan.Turn.TheVariants.{Stays, Gives}
 use Rattle.pulsar_client.specs.declared.tables.Tables.{Tables}
-use Rattle.pulsar_client.specs.Content.{Asked, Heard, Shown, lacks_tickets, shares}
+use Rattle.pulsar_calls.specs.Content.{Asked, Heard, Shown, lacks_tickets, shares}
 use Rattle.pulsar_client.specs.Kept.{AreTicketed}
-use Rattle.pulsar_client.specs.Laws.{started}
-use Rattle.pulsar_client.specs.Plan.{begins, told}
+use Rattle.pulsar_calls.specs.Plan.{begins, told}
 use Rattle.pulsar_client.specs.Rules.{at_once, called, does, follows, follows_some, performs}
 use Rattle.pulsar_client.specs.Run.{Agenda, Entry, Begins, Then, IsRun, Step, agenda, first, view}
 use Rattle.pulsar_client.specs.Subscribers.{subscription_at}
 use Rattle.pulsar_client.specs.Subscriptions.{Subscription, ended_at}
 use Rattle.pulsar_client.specs.Tables.{InStep}
 use Rattle.pulsar_client.specs.View.{Options, View, closing, consumer_after, drawn_after, made, stand_after, stays_some, told_some}
-use Rattle.pulsar_client.specs.Who.{is_same}
+use Rattle.pulsar_calls.specs.Who.{is_same}
 use Rattle.pulsar_client.proofs.Acts.{Each, StartsIn, begun_same, called_each, each_append, each_first, each_map, each_rest, is_served}
 use Rattle.pulsar_client.proofs.Quiet.{IsQuiet, comes_quiet, performs_quiet}
 use Rattle.pulsar_client.proofs.Raising.{IsRaised, raises}
@@ -44,7 +42,7 @@ abbrev pub Began : Who → Type 0
 Began (Call t) = is_spent t ≡ false
 Began (Producer n) = Unit {0}
 
-same_began : (w who : Who) → is_same w who ≡ true → Began who → Began w
+pub same_began : (w who : Who) → is_same w who ≡ true → Began who → Began w
 same_began (Call t) (Call u) h k = subst (λ n. is_spent n ≡ false) (sym (eqb-true t u h)) k
 same_began (Call t) (Producer n) h k = absurd cc
 same_began (Producer m) who h k = tt
@@ -62,7 +60,7 @@ abbrev IsDrawn : ℕ → Who → Type 0
 IsDrawn n (Call t) = t < n
 IsDrawn n (Producer m) = Unit {0}
 
-abbrev Has : ℕ → Who → Type 0
+abbrev pub Has : ℕ → Who → Type 0
 Has n who = Began who × IsDrawn n who
 
 same_has : (n : ℕ) (w who : Who) → is_same w who ≡ true → Has n who → Has n w
@@ -82,12 +80,12 @@ abbrev MakesSo : ℕ → Who → Makes → Type 0
 MakesSo n who (Consumer link number topic) = Has n who
 MakesSo n who _ = Unit {0}
 
-abbrev IsDue : ℕ → Act → Type 0
+abbrev pub IsDue : ℕ → Act → Type 0
 IsDue n (Starts who p) = Has n who
 IsDue n (Answers who verdict) = MakesSo n who verdict.makes
 IsDue n _ = Unit {0}
 
-served_due : (n : ℕ) (a : Act) → is_served a ≡ true → IsDue n a
+pub served_due : (n : ℕ) (a : Act) → is_served a ≡ true → IsDue n a
 served_due n (Starts who p) h = absurd cc
 served_due n (Answers who verdict) h = absurd cc
 served_due n _ h = tt
@@ -156,12 +154,12 @@ comes_due v p = each_map IsQuiet (IsDue (drawn_after (Comes p) v.calls.drawn)) (
 -- ALONG A LOG
 
 -- who has a plan, and who is due
-record IsTicketed (o : Options) (log : List Entry) : Type 0 where
+pub record IsTicketed (o : Options) (log : List Entry) : Type 0 where
   stands : (w : Who) (plan : Plan) → (view o log).stand w ≡ Some plan → Has (view o log).calls.drawn w
-  due : Each (IsDue (view o log).calls.drawn) (agenda o log).now
+  pub due : Each (IsDue (view o log).calls.drawn) (agenda o log).now
   consumers : (t : ℕ) (s : Subscription) → (view o log).consumers t ≡ Some s → Has (view o log).calls.drawn (Call t)
 
-none_some : {A : Type 0} {x : A} → None ≡ Some x → ⊥
+pub none_some : {A : Type 0} {x : A} → None ≡ Some x → ⊥
 none_some {A} {x} h = cc
 
 -- what a row was made of was there
@@ -254,7 +252,7 @@ begins_ticketed o log e k =
       consumers = λ t sub h. subst (λ n. Has n (Call t)) (sym d) (k.consumers t sub (sym (ap (λ f. f t) m) ∙ h));
     }
 
-is_ticketed : (o : Options) (log : List Entry) → IsRun o log → IsTicketed o log
+pub is_ticketed : (o : Options) (log : List Entry) → IsRun o log → IsTicketed o log
 is_ticketed o [] run = record { stands = λ w plan h. absurd (none_some h); due = tt; consumers = λ t s h. absurd (none_some h) }
 is_ticketed o (Begins e ∷ log) run = begins_ticketed o log e (is_ticketed o log run.0)
 is_ticketed o (Then a ∷ log) run = next_ticketed o log (is_ticketed o log run.0) a run.1
@@ -284,19 +282,3 @@ older_run o (Then a ∷ later) older run = older_run o later older run.0
 pub older_ticket : (o : Options) (later older : List Entry) (t : ℕ) (s : Subscription) → IsRun o (later ++ older) → (view o older).consumers t ≡ Some s →
     is_spent t ≡ false
 older_ticket o later older t s run h = consumer_ticket o older t s (older_run o later older run) h
-
--- who starts, and who has started
-start_began : (o : Options) (log : List Entry) (who : Who) (p : Procedure) → IsRun o (Then (Starts who p) ∷ log) → Began who
-start_began o log who p run =
-    let n = (view o log).calls.drawn in
-    (each_first (IsDue n) (agenda o log).now (agenda o log).here (agenda o log).behind (agenda o log).parts (Starts who p) (served_due n)
-    (is_ticketed o log run.0).due run.1).0
-
-pub has_begun : (o : Options) (log : List Entry) (w : Who) (p : Procedure) → IsRun o log → started w log ≡ Some p → Began w
-has_begun o [] w p run h = absurd (none_some h)
-has_begun o (Begins e ∷ log) w p run h = has_begun o log w p run.0 h
-has_begun o (Then (Starts who q) ∷ log) w p run h = elim (cases_Bool (is_same w who)) [
-  | inl e ↦ same_began w who e (start_began o log who q run)
-  | inr e ↦ has_begun o log w p run.0 (rw e at h)
-]
-has_begun o (Then a ∷ log) w p run h = has_begun o log w p run.0 h

@@ -16,13 +16,13 @@ use Rattle.pulsar_requests.proofs.Awaiting.{is_at-eqb}
 use Rattle.pulsar_requests.specs.Soonest.{has_come}
 use Rattle.pulsar_session.specs.Failures.{Fault}
 use Rattle.pulsar_plans.specs.Address.{Place}
-use Rattle.pulsar_client.specs.declared.act.Act.{Act}
-use Rattle.pulsar_client.specs.declared.act.Act.TheVariants.{Comes}
-use Rattle.pulsar_client.specs.declared.act.End.{End}
-use Rattle.pulsar_client.specs.declared.act.End.TheVariants.{Stops}
-use Rattle.pulsar_client.specs.declared.act.LinkAct.TheVariants.{Ends}
-use Rattle.pulsar_client.specs.declared.act.Notice.{Notice}
-use Rattle.pulsar_client.specs.declared.act.Part.TheVariants.{ToLink}
+use Rattle.pulsar_calls.specs.declared.act.Act.{Act}
+use Rattle.pulsar_calls.specs.declared.act.Act.TheVariants.{Comes}
+use Rattle.pulsar_calls.specs.declared.act.End.{End}
+use Rattle.pulsar_calls.specs.declared.act.End.TheVariants.{Stops}
+use Rattle.pulsar_calls.specs.declared.act.LinkAct.TheVariants.{Ends}
+use Rattle.pulsar_calls.specs.declared.act.Notice.{Notice}
+use Rattle.pulsar_calls.specs.declared.act.Part.TheVariants.{ToLink}
 use Rattle.pulsar_client.specs.declared.row.Row.{Row}
 use Rattle.pulsar_client.specs.Due.{moment_at}
 use Rattle.pulsar_client.specs.Kept.{AreStarted, AreTimed, is_due, links_in, live_in, seat_of}

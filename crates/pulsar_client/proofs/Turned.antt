@@ -2,13 +2,13 @@
 use Rattle.std.proofs.Common.{◌≡◌, ◌∙◌, ◌==◌, ap, sym, ℕ, cond, List, [], refl, Option, Some, None, Result, Ok, Err, OnOk}
 use Rattle.std.specs.Option.{option_map}
 use Rattle.pulsar_plans.specs.Address.{Place}
-use Rattle.pulsar_client.specs.declared.act.Act.TheVariants.{Comes}
-use Rattle.pulsar_client.specs.declared.act.Alarm.{Alarm}
-use Rattle.pulsar_client.specs.declared.act.Alarm.TheVariants.{Retry, Wake, Batch, KeepAlive, CheckIdle}
-use Rattle.pulsar_client.specs.declared.act.Arrival.{Arrival}
-use Rattle.pulsar_client.specs.declared.act.LinkAct.{LinkAct}
-use Rattle.pulsar_client.specs.declared.act.Part.TheVariants.{ToLink}
-use Rattle.pulsar_client.specs.declared.act.Who.{Who}
+use Rattle.pulsar_calls.specs.declared.act.Act.TheVariants.{Comes}
+use Rattle.pulsar_calls.specs.declared.act.Alarm.{Alarm}
+use Rattle.pulsar_calls.specs.declared.act.Alarm.TheVariants.{Retry, Wake, Batch, KeepAlive, CheckIdle}
+use Rattle.pulsar_calls.specs.declared.act.Arrival.{Arrival}
+use Rattle.pulsar_calls.specs.declared.act.LinkAct.{LinkAct}
+use Rattle.pulsar_calls.specs.declared.act.Part.TheVariants.{ToLink}
+use Rattle.pulsar_calls.specs.declared.act.Who.{Who}
 use Rattle.pulsar_client.specs.Effects.{retries}
 use Rattle.pulsar_client.specs.Links.{Remains, change_in}
 use Rattle.pulsar_client.specs.Rules.{served_on, waiters_of}

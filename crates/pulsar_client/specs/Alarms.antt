@@ -4,8 +4,8 @@ use Rattle.std.specs.declared.cmp.Ordering.{Ordering}
 use Rattle.std.specs.BTreeMap.{insert_entry, is_at}
 use Rattle.std.specs.Map.{lookup}
 use Rattle.pulsar_requests.specs.Soonest.{has_come}
-use Rattle.pulsar_client.specs.contracts.act.AlarmOrd.TheImpl.{cmp-value}
-use Rattle.pulsar_client.specs.declared.act.Alarm.{Alarm}
+use Rattle.pulsar_calls.specs.contracts.act.AlarmOrd.TheImpl.{cmp-value}
+use Rattle.pulsar_calls.specs.declared.act.Alarm.{Alarm}
 
 -- by kind, in the order in which the kinds are declared, and then by number
 abbrev pub alarm_cmp : Alarm → Alarm → Ordering

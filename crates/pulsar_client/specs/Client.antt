@@ -8,7 +8,7 @@ use Rattle.std.specs.Option.{option_map}
 use Rattle.pulsar_messages.specs.Content.{authentication_values}
 use Rattle.pulsar_producer.specs.Routing.{Policy}
 use Rattle.pulsar_client.specs.Address.{base_in}
-use Rattle.pulsar_client.specs.Content.{Heard}
+use Rattle.pulsar_calls.specs.Content.{Heard}
 use Rattle.pulsar_client.specs.Run.{Good, Step, tickets_in, view}
 use Rattle.pulsar_client.specs.Tables.{Stands}
 use Rattle.pulsar_client.specs.Taken.{held_but, held_in, is_in}

@@ -4,17 +4,17 @@ use Rattle.std.specs.Option.{option_map, option_to_list}
 use Rattle.pulsar_messages.specs.Words.{Words}
 use Rattle.pulsar_session.specs.Link as session
 use Rattle.pulsar_session.specs.Link.{Asks}
-use Rattle.pulsar_client.specs.declared.act.Act.{Act}
-use Rattle.pulsar_client.specs.declared.act.Act.TheVariants.{Comes, Does, Answers, Dials}
-use Rattle.pulsar_client.specs.declared.act.Action.TheVariants.{Ask}
-use Rattle.pulsar_client.specs.declared.act.LinkAct.{LinkAct}
-use Rattle.pulsar_client.specs.declared.act.Part.TheVariants.{ToLink, Polls}
-use Rattle.pulsar_client.specs.declared.act.Who.{Who}
+use Rattle.pulsar_calls.specs.declared.act.Act.{Act}
+use Rattle.pulsar_calls.specs.declared.act.Act.TheVariants.{Comes, Does, Answers, Dials}
+use Rattle.pulsar_calls.specs.declared.act.Action.TheVariants.{Ask}
+use Rattle.pulsar_calls.specs.declared.act.LinkAct.{LinkAct}
+use Rattle.pulsar_calls.specs.declared.act.Part.TheVariants.{ToLink, Polls}
+use Rattle.pulsar_calls.specs.declared.act.Who.{Who}
 use Rattle.pulsar_client.specs.declared.addresses.Pause.{Pause}
-use Rattle.pulsar_client.specs.declared.act.Who.TheVariants.{Call, Producer}
+use Rattle.pulsar_calls.specs.declared.act.Who.TheVariants.{Call, Producer}
 use Rattle.pulsar_client.specs.Address.{leads_to}
 use Rattle.pulsar_plans.specs.Address.{Place}
-use Rattle.pulsar_client.specs.Content.{Said, Shown, Connect, Queued, Write, Settles, Ends, Retry, Close, Hands, Faults, FindsNothing, FindsEnd}
+use Rattle.pulsar_calls.specs.Content.{Said, Shown, Connect, Queued, Write, Settles, Ends, Retry, Close, Hands, Faults, FindsNothing, FindsEnd}
 use Rattle.pulsar_client.specs.Links as links
 use Rattle.pulsar_client.specs.Subscriptions.{polled}
 use Rattle.pulsar_client.specs.View.{Chosen, Seat, Turned, View, delay_of, turned}

@@ -10,9 +10,9 @@ use Rattle.pulsar_requests.specs.Soonest.{has_come}
 use Rattle.pulsar_session.specs.Failures.{Fault}
 use Rattle.pulsar_session.specs.Link.{due}
 use Rattle.pulsar_plans.specs.Address.{Place, address_key}
-use Rattle.pulsar_client.specs.declared.act.Alarm.{Alarm}
-use Rattle.pulsar_client.specs.declared.act.End.{End}
-use Rattle.pulsar_client.specs.declared.act.Notice.{Notice}
+use Rattle.pulsar_calls.specs.declared.act.Alarm.{Alarm}
+use Rattle.pulsar_calls.specs.declared.act.End.{End}
+use Rattle.pulsar_calls.specs.declared.act.Notice.{Notice}
 use Rattle.pulsar_client.specs.declared.addresses.Addresses.{Addresses as KeptAddresses}
 use Rattle.pulsar_client.specs.declared.addresses.Base.{Base as Kept}
 use Rattle.pulsar_client.specs.declared.addresses.Pause.{Pause}

@@ -1,11 +1,7 @@
 pub mod Address
-pub mod Content
-pub mod Plan
 pub mod Links
 pub mod Subscriptions
 pub mod Alarms
-pub mod Who
-pub mod Parts
 pub mod Producers
 pub mod View
 pub mod Rules
@@ -18,7 +14,3 @@ pub mod Kept
 pub mod Tables
 pub mod Client
 pub mod Outside
-pub mod Laws
-pub mod ProducerLaws
-pub mod BatchLaws
-pub mod Traces

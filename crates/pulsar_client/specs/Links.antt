@@ -1,6 +1,6 @@
 -- What comes to a link. Each act is one call of its connection: what that settles, which frames it queues and writes, and what becomes
 -- of the link.  (Pulsar binary protocol, Connection establishment, Keep alive)
-use Rattle.std.specs.Prelude.{ℕ, zero, suc, ◌-◌, nat_lt, Bool, true, false, ◌&&◌, if◌then◌else◌, List, [], ◌∷◌, ◌++◌, length, map, Option, Some, None}
+use Rattle.std.specs.Prelude.{ℕ, ◌-◌, nat_lt, Bool, true, false, ◌&&◌, if◌then◌else◌, List, [], ◌∷◌, ◌++◌, length, map, Option, Some, None}
 use Rattle.std.specs.List.{filter_map, flat_map}
 use Rattle.std.specs.Option.{option_map}
 use Rattle.pulsar_wire.specs.declared.error.IoKind.TheVariants as io_kind
@@ -12,16 +12,17 @@ use Rattle.pulsar_session.specs.Failures.{Fault, Io, Disconnected}
 use Rattle.pulsar_session.specs.Link as session
 use Rattle.pulsar_session.specs.Link.{Act, Asks, Takes, Closes, Came, Seen, came, due, ends, frame_at, written}
 use Rattle.pulsar_link.specs.Messages.{read}
-use Rattle.pulsar_client.specs.declared.act.Arrival.{Arrival}
-use Rattle.pulsar_client.specs.declared.act.Arrival.TheVariants.{Nothing, Readied, Settles, Gives, Passes, Bad}
-use Rattle.pulsar_client.specs.declared.act.End.{End}
-use Rattle.pulsar_client.specs.declared.act.End.TheVariants.{Unopened, Lost, Overdue, Broken, Idles, Stops}
-use Rattle.pulsar_client.specs.declared.act.LinkAct.{LinkAct}
-use Rattle.pulsar_client.specs.declared.act.LinkAct.TheVariants.{Opens, Reads, Drains, Pings, Ends}
-use Rattle.pulsar_client.specs.declared.effect.Settlement.{Settlement}
-use Rattle.pulsar_client.specs.declared.effect.Settlement.TheVariants as settlement
-use Rattle.pulsar_client.specs.Content as content
-use Rattle.pulsar_client.specs.Content.{Shown, Queued, Write, Close}
+use Rattle.pulsar_calls.specs.declared.act.Arrival.{Arrival}
+use Rattle.pulsar_calls.specs.declared.act.Arrival.TheVariants.{Nothing, Readied, Settles, Gives, Passes, Bad}
+use Rattle.pulsar_calls.specs.declared.act.End.{End}
+use Rattle.pulsar_calls.specs.declared.act.End.TheVariants.{Unopened, Lost, Overdue, Broken, Idles, Stops}
+use Rattle.pulsar_calls.specs.declared.act.LinkAct.{LinkAct}
+use Rattle.pulsar_calls.specs.declared.act.LinkAct.TheVariants.{Opens, Reads, Drains, Pings, Ends}
+use Rattle.pulsar_calls.specs.declared.effect.Settlement.{Settlement}
+use Rattle.pulsar_calls.specs.declared.effect.Settlement.TheVariants as settlement
+use Rattle.pulsar_calls.specs.Content as content
+use Rattle.pulsar_calls.specs.Content.{Shown, Queued, Write, Close}
+use Rattle.pulsar_calls.specs.Content.{numbers_from}
 
 -- THE CALL OF THE CONNECTION
 
@@ -104,11 +105,6 @@ is_own_end Idles = true
 is_own_end Stops = true
 
 -- FRAMES
-
--- so many numbers from one on
-abbrev pub numbers_from : (first count : ℕ) → List ℕ
-numbers_from first zero = []
-numbers_from first (suc n) = first ∷ numbers_from (suc first) n
 
 -- the places of the frames that were queued between
 abbrev pub new_places : (before after : Seen) → List ℕ

@@ -15,20 +15,20 @@ use Rattle.pulsar_producer.specs.Random.{first_index}
 use Rattle.pulsar_producer.specs.Routing.{Policy}
 use Rattle.pulsar_producer.specs.Topic as topic
 use Rattle.pulsar_producer.specs.Storage.{Item, is_batching, limits_of}
-use Rattle.pulsar_producer.specs.Topic.{Act, Takes, Passes, Draws, Remakes, Closes, Stores, Flushes, Cuts, TakesBatch, Halts, fresh, is_free, is_nothing, is_settled, next_batch, next_holder, stored_tickets, unsent_tickets, wakes}
+use Rattle.pulsar_producer.specs.Topic.{Act, Closes, Halts, fresh, is_free, is_nothing, is_settled, next_batch, next_holder, stored_tickets, unsent_tickets, wakes}
 use Rattle.pulsar_producer.specs.declared.content.Built.{Built}
 use Rattle.pulsar_producer.specs.declared.deed.Drawn.{Drawn}
 use Rattle.pulsar_producer.specs.declared.routing.Partition.{Partition}
 use Rattle.pulsar_producer.specs.declared.sending.Errand.{Errand}
 use Rattle.pulsar_producer.specs.declared.storage.Limits.{Limits}
-use Rattle.pulsar_client.specs.declared.act.Refusal.{Refusal}
-use Rattle.pulsar_client.specs.declared.act.Refusal.TheVariants as refusal
-use Rattle.pulsar_client.specs.declared.content.Building.{Building}
-use Rattle.pulsar_client.specs.declared.act.Who.{Who}
+use Rattle.pulsar_calls.specs.declared.act.Refusal.{Refusal}
+use Rattle.pulsar_calls.specs.declared.act.Refusal.TheVariants as refusal
+use Rattle.pulsar_calls.specs.declared.content.Building.{Building}
+use Rattle.pulsar_calls.specs.declared.act.Who.{Who}
 use Rattle.pulsar_client.specs.declared.producers.Topic.{Topic}
-use Rattle.pulsar_client.specs.Content as content
-use Rattle.pulsar_client.specs.Content.{Asked, sent_by}
-use Rattle.pulsar_client.specs.Who.{in_turn}
+use Rattle.pulsar_calls.specs.Content as content
+use Rattle.pulsar_calls.specs.Content.{Asked, sent_by}
+use Rattle.pulsar_calls.specs.Who.{in_turn}
 
 -- The producers, by the tickets of the calls that built them; their topic producers by number, and these numbers in the order in which they
 -- were made; the numbers that raw calls have named, in order; and the number from which on the next one is drawn.
@@ -232,11 +232,6 @@ advice_to policies ps (Some sent) = advice_in policies (ps.built sent.0) sent.1
 -- policies are asked as a call begins
 abbrev pub advice : List Policy → Producers → Asked → List (Option ℕ)
 advice policies ps asked = advice_to policies ps (sent_by asked)
-
--- what they say of the next message
-abbrev pub next_advice : List (Option ℕ) → Option ℕ
-next_advice [] = None
-next_advice (index ∷ left) = index
 
 -- how a message is sent, by what its policy says: by which topic producer, and whether it waits for room
 abbrev pub errand_in : (advice : Option ℕ) → ProducerMessageValues → producer.Seen → Option Errand

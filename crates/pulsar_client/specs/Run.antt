@@ -2,11 +2,11 @@
 use Rattle.std.specs.Prelude.{ℕ, ◌+◌, ◌-◌, ◌^◌, Bool, true, false, if◌then◌else◌, List, [], ◌∷◌, Option}
 use Rattle.pulsar_run.specs.Run as run
 pub use Rattle.pulsar_run.specs.Run.{Begins, Then}
-use Rattle.pulsar_client.specs.declared.act.Act.{Act}
-use Rattle.pulsar_client.specs.declared.act.Act.TheVariants.{Comes, Told}
-use Rattle.pulsar_client.specs.declared.act.Notice.{Notice}
-use Rattle.pulsar_client.specs.declared.act.Part.{Part}
-use Rattle.pulsar_client.specs.Content.{Asked, lacks_tickets, shares, Heard, Called, Opened, FailedToOpen, Bytes, Lost, Drain, Ticked, Poll, Shown}
+use Rattle.pulsar_calls.specs.declared.act.Act.{Act}
+use Rattle.pulsar_calls.specs.declared.act.Act.TheVariants.{Comes, Told}
+use Rattle.pulsar_calls.specs.declared.act.Notice.{Notice}
+use Rattle.pulsar_calls.specs.declared.act.Part.{Part}
+use Rattle.pulsar_calls.specs.Content.{Asked, lacks_tickets, shares, Heard, Called, Opened, FailedToOpen, Bytes, Lost, Drain, Ticked, Poll, Shown}
 use Rattle.pulsar_client.specs.Effects.{effects, effect_below}
 use Rattle.pulsar_client.specs.Rules.{at_once, below, causes, further, joins, parts}
 use Rattle.pulsar_client.specs.View.{Options, View, after, begun, new}

@@ -1,31 +1,26 @@
 -- For the code's contracts alone: what is seen of the tables of a client, and the histories that they stand for.
 use Rattle.std.specs.Prelude.{ℕ, List, [], ◌∷◌, map, Option, Some, None, true, if◌then◌else◌}
-use Rattle.std.specs.BTreeMap.{get}
 use Rattle.std.specs.Global.{Vec}
 use Rattle.std.specs.Option.{option_map}
-use Rattle.std.specs.Ordering.{nat_cmp}
 use Rattle.pulsar_messages.specs.Content.{authentication_values}
 use Rattle.pulsar_run.specs.Standing as standing
 use Rattle.pulsar_plans.specs.Address.{address_key}
-use Rattle.pulsar_client.specs.declared.act.Alarm.{Alarm}
-use Rattle.pulsar_client.specs.declared.act.Alarm.TheVariants as alarm
-use Rattle.pulsar_client.specs.declared.act.Arrival.{Arrival}
-use Rattle.pulsar_client.specs.declared.act.Who.{Who}
-use Rattle.pulsar_client.specs.declared.act.Who.TheVariants.{Call, Producer}
+use Rattle.pulsar_calls.specs.declared.act.Alarm.{Alarm}
+use Rattle.pulsar_calls.specs.declared.act.Alarm.TheVariants as alarm
+use Rattle.pulsar_calls.specs.declared.act.Arrival.{Arrival}
 use Rattle.pulsar_client.specs.declared.agenda.Tasks.{Tasks}
-use Rattle.pulsar_client.specs.declared.effect.Effect.{Effect}
-use Rattle.pulsar_client.specs.declared.event.Event.{Event}
-use Rattle.pulsar_client.specs.declared.plans.plan.Plan.{Plan}
-use Rattle.pulsar_client.specs.declared.plans.table.Plans.{Plans}
+use Rattle.pulsar_calls.specs.declared.effect.Effect.{Effect}
+use Rattle.pulsar_calls.specs.declared.event.Event.{Event}
 use Rattle.pulsar_client.specs.declared.settings.Settings.{Settings}
 use Rattle.pulsar_client.specs.declared.tables.Tables.{Tables}
-use Rattle.pulsar_client.specs.Content.{Heard, Shown, Retry, heard, shown}
+use Rattle.pulsar_calls.specs.Content.{Heard, Shown, Retry, heard, shown}
 use Rattle.pulsar_client.specs.Alarms.{set}
 use Rattle.pulsar_client.specs.Run.{Agenda, Step, rules}
 use Rattle.pulsar_client.specs.Kept.{addresses_of, links_in, producers_of}
 use Rattle.pulsar_client.specs.Subscribers.{subscription_at}
 use Rattle.pulsar_client.specs.View.{Chosen, Options, Seat, Turned, View, alarms_on, alarms_rung, base_on, delay_with, later, nobody, pause_on, pause_rung, waits_on}
 use Rattle.pulsar_client.specs.Links.{change_in}
+use Rattle.pulsar_calls.specs.Standing.{stand_of}
 
 -- THE THINGS
 
@@ -41,10 +36,6 @@ chosen_of s =
       first_number = s.first_number;
       now = s.start;
     }
-
-abbrev pub stand_of : Plans → Who → Option Plan
-stand_of p (Call ticket) = get nat_cmp p.calls ticket
-stand_of p (Producer number) = get nat_cmp p.producers number
 
 abbrev pub view_of : Tables → View
 view_of c =

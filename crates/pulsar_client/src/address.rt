@@ -2,11 +2,11 @@
 
 ghost use Rattle.std.specs.Prelude.{◌≡◌, ◌++◌, IfOk, OnOk, map};
 ghost use Rattle.pulsar_client.specs.Address.{base_in};
-ghost use Rattle.pulsar_client.specs.Content.{shown};
+ghost use Rattle.pulsar_calls.specs.Content.{shown};
 ghost use Rattle.pulsar_client.specs.Effects.{connects};
 ghost use Rattle.pulsar_plans.specs.Address.{base_of};
 
-use crate::effect::Effect;
+use pulsar_calls::effect::Effect;
 use pulsar_plans::BrokerAddress;
 use pulsar_plans::content::Address;
 use pulsar_wire::error::NoMemory;

@@ -8,8 +8,8 @@ ghost use Rattle.pulsar_client.specs.Links.{Becomes};
 ghost use Rattle.pulsar_client.specs.Rules.{failed, failed_at, failed_over, failed_so, fails_so, notice, served_by, stopped_at};
 ghost use Rattle.pulsar_client.specs.View.{base_dialed, base_over, base_turned, base_waiting, is_for, is_passing, is_retryable, may_retry, nobody, pause_put};
 
-use crate::act::{End, Notice, Outcome, Who};
-use crate::who::is_same;
+use pulsar_calls::act::{End, Notice, Outcome, Who};
+use pulsar_calls::who::is_same;
 use pulsar_plans::content::Address;
 use pulsar_wire::error::{IoKind, NoMemory};
 use std::alloc::Global;

@@ -7,8 +7,8 @@ ghost use Rattle.pulsar_client.specs.Rules.{alone, below, opens};
 ghost use Rattle.pulsar_client.specs.Run.{first, first_of, rest, rest_of};
 ghost use Rattle.pulsar_client.specs.Tables.{agenda_of};
 
-use crate::act::{Act, Notice, Part};
 use crate::queue::Queue;
+use pulsar_calls::act::{Act, Notice, Part};
 use pulsar_wire::error::NoMemory;
 use std::alloc::Global;
 use std::collections::VecDeque;

@@ -7,9 +7,9 @@ ghost use Rattle.std.specs.Ordering.{nat_cmp};
 ghost use Rattle.pulsar_client.specs.Alarms.{alarm_cmp, clear, is_same_alarm, ringing, rings, set};
 ghost use Rattle.pulsar_client.specs.Due.{is_moment};
 ghost use Rattle.pulsar_client.specs.Kept.{is_in};
-ghost use Rattle.pulsar_client.specs.declared.act.Alarm.{Alarm as Meant};
+ghost use Rattle.pulsar_calls.specs.declared.act.Alarm.{Alarm as Meant};
 
-use crate::act::Alarm;
+use pulsar_calls::act::Alarm;
 use pulsar_wire::error::NoMemory;
 use std::alloc::Global;
 use std::collections::{BTreeMap, BTreeSet};
@@ -29,7 +29,7 @@ pub struct Alarms {
 impl Model for Alarms {
     ghost use Rattle.std.specs.Prelude.{ℕ, List};
     ghost use Rattle.pulsar_client.specs.Kept.{AreSet};
-    ghost use Rattle.pulsar_client.specs.declared.act.Alarm.{Alarm as Meant};
+    ghost use Rattle.pulsar_calls.specs.declared.act.Alarm.{Alarm as Meant};
 
     // the alarms with their moments, in their order
     ghost Value = { List (Meant × ℕ) };

@@ -2,12 +2,12 @@
 
 ghost use Rattle.std.specs.Prelude.{◌≡◌, ◌==◌, ℕ, IfOk, List, None, OnOk, Some, if◌then◌else◌, map};
 ghost use Rattle.std.specs.Option.{option_map};
-ghost use Rattle.pulsar_client.specs.Content.{said, shown};
+ghost use Rattle.pulsar_calls.specs.Content.{said, shown};
 ghost use Rattle.pulsar_client.specs.Taken.{Held, drawn_to, ended_in, held_in, left_after, taken_left, taken_of};
 
-use crate::content::Said;
-use crate::copying::copy_answer;
-use crate::effect::{Answer, Effect};
+use pulsar_calls::content::Said;
+use pulsar_calls::copying::copy_answer;
+use pulsar_calls::effect::{Answer, Effect};
 use pulsar_wire::error::{Error, NoMemory};
 use std::alloc::Global;
 use std::collections::BTreeMap;

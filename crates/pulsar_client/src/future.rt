@@ -4,14 +4,14 @@ ghost use Rattle.std.specs.Prelude.{◌≡◌, ◌⊎◌, ℕ, List, MatchOption
 ghost use Rattle.pulsar_session.specs.Failures.{failure};
 ghost use Rattle.pulsar_producer.specs.Errors.{IsNoMemory};
 ghost use Rattle.pulsar_client.specs.Client.{StandsFor};
-ghost use Rattle.pulsar_client.specs.Content.{answered, said};
+ghost use Rattle.pulsar_calls.specs.Content.{answered, said};
 ghost use Rattle.pulsar_client.specs.Run.{Step};
 ghost use Rattle.pulsar_client.specs.Taken.{IsPolled, IsTaken, is_lost, poll_said, polled_answer, taken_with};
 ghost use Rattle.pulsar_client.specs.View.{Options};
 
 use crate::answers::Taken;
-use crate::effect::Answer;
 use crate::pulsar::Pulsar;
+use pulsar_calls::effect::Answer;
 use pulsar_wire::commands::producer::CommandSendReceipt;
 use pulsar_wire::error::{ConnectionError, Error, ProducerError};
 use std::alloc::Global;

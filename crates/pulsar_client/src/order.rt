@@ -2,10 +2,10 @@
 
 ghost use Rattle.std.specs.Prelude.{◌≡◌, OnOk, map};
 ghost use Rattle.pulsar_run.specs.Order.{arranged};
-ghost use Rattle.pulsar_client.specs.Content.{shown};
+ghost use Rattle.pulsar_calls.specs.Content.{shown};
 ghost use Rattle.pulsar_client.specs.Effects.{effect_below, effect_rank};
 
-use crate::effect::Effect;
+use pulsar_calls::effect::Effect;
 use pulsar_wire::error::NoMemory;
 
 /// The rank of an effect in its step: its kind, then its link or ticket, then its place.

@@ -12,12 +12,12 @@ ghost use Rattle.pulsar_producer.specs.Topic as topic;
 ghost use Rattle.pulsar_client.specs.Producers as meaning;
 ghost use Rattle.pulsar_client.specs.Producers.{Producers as Seen};
 ghost use Rattle.pulsar_client.specs.Rules.{stopped_all, stopped_call, stopped_one};
-ghost use Rattle.pulsar_client.specs.Who.{in_turn};
+ghost use Rattle.pulsar_calls.specs.Who.{in_turn};
 ghost use Rattle.pulsar_client.specs.Kept.{producers_of};
 
-use crate::act::{Notice, Outcome, Who};
-use crate::content::{Advice, Building, Numbers, Remaking};
-use crate::who::in_turn;
+use pulsar_calls::act::{Notice, Outcome, Who};
+use pulsar_calls::content::{Advice, Building, Numbers, Remaking};
+use pulsar_calls::who::in_turn;
 use pulsar_messages::Message;
 use pulsar_plans::content::Text;
 use pulsar_plans::making::Command;

@@ -1,7 +1,7 @@
 //! The client.
 
 ghost use Rattle.std.specs.Prelude.{◌≡◌, ◌∷◌, [], ℕ, List, OnErr, IfOk, IsErr, IsTrue, ◌↔◌, length, map, reverse};
-ghost use Rattle.pulsar_client.specs.Content.{Called, asked, heard, shown};
+ghost use Rattle.pulsar_calls.specs.Content.{Called, asked, heard, shown};
 ghost use Rattle.pulsar_client.specs.Run.{Good, Step, ticket_for, tickets_in, view};
 ghost use Rattle.pulsar_client.specs.View.{Options, Waits, has_ended};
 ghost use Rattle.pulsar_client.specs.Tables.{answered, step};
@@ -12,11 +12,11 @@ ghost use Rattle.pulsar_client.specs.Client.{HasFailed, IsDead, StandsFor, optio
 ghost use Rattle.pulsar_client.specs.Taken.{IsTaken, taken_with};
 
 use crate::answers::{Answers, Taken};
-use crate::effect::Effect;
-use crate::event::{Call, Event};
 use crate::options::ClientOptions;
 use crate::settings::Settings;
 use crate::tables::Tables;
+use pulsar_calls::effect::Effect;
+use pulsar_calls::event::{Call, Event};
 use pulsar_producer::{Producer, ProducerBuilder};
 use pulsar_session::states::Stage;
 use pulsar_wire::error::NoMemory;

@@ -4,10 +4,10 @@ ghost use Rattle.std.specs.Prelude.{◌≡◌, ◌≤◌, ◌++◌, ◌∷◌, [
 ghost use Rattle.std.specs.VecDeque.{deque_len};
 ghost use Rattle.pulsar_run.specs.Order.{InOrder, arranged, put};
 ghost use Rattle.pulsar_client.specs.Rules.{below};
-ghost use Rattle.pulsar_client.specs.declared.act.Notice.{Notice as Meant};
+ghost use Rattle.pulsar_calls.specs.declared.act.Notice.{Notice as Meant};
 
-use crate::act::{Notice, Who};
-use crate::who::{is_before, rank};
+use pulsar_calls::act::{Notice, Who};
+use pulsar_calls::who::{is_before, rank};
 use pulsar_wire::error::NoMemory;
 use std::alloc::Global;
 use std::collections::VecDeque;
@@ -23,7 +23,7 @@ impl Model for Queue {
     ghost use Rattle.std.specs.Prelude.{List};
     ghost use Rattle.pulsar_run.specs.Order.{InOrder};
     ghost use Rattle.pulsar_client.specs.Rules.{below};
-    ghost use Rattle.pulsar_client.specs.declared.act.Notice.{Notice as Meant};
+    ghost use Rattle.pulsar_calls.specs.declared.act.Notice.{Notice as Meant};
     ghost use Rattle.pulsar_session.specs.FailureCode.{failure_code};
     ghost use Rattle.std.specs.Coded.{codes};
 

@@ -1,7 +1,6 @@
 //! Calls that no script makes, where there is memory, and URLs beside their addresses.
 
-use pulsar_client::effect::Effect;
-use pulsar_client::event::{Call, Event};
+use pulsar_calls::{Call, Effect, Event};
 use pulsar_client::pulsar::Pulsar;
 use pulsar_client::{
     ClientOptions, ConnectionRetryOptions, CustomRoutingPolicy, OperationRetryOptions,

@@ -2,7 +2,7 @@
 
 ghost use Rattle.std.specs.Prelude.{◌≡◌, IfOk, map, string_bytes};
 ghost use Rattle.std.specs.Option.{option_map};
-ghost use Rattle.pulsar_client.specs.Content.{asked, heard};
+ghost use Rattle.pulsar_calls.specs.Content.{asked, heard};
 ghost use Rattle.pulsar_cli.specs.Grammar.{brokers, build, builds, bytes, call, called, check_producer, close_producer, drain, event, failed, flush, line, lookup, lost, on_link, opened, partitions, poll, producer_call, send, send_all, stop, tick, ticket, topic, topics, words_line};
 ghost use Rattle.pulsar_cli.specs.Parsed.{line_of};
 

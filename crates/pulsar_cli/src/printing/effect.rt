@@ -4,7 +4,7 @@ ghost use Rattle.std.specs.Prelude.{◌≡◌, ◌∷◌, ◌++◌, Ok, OnOk, ma
 ghost use Rattle.pulsar_wire.specs.Row.{spelling};
 ghost use Rattle.pulsar_wire.specs.Rows.{send_receipt};
 ghost use Rattle.pulsar_wire.specs.Views.{body_values, send_receipt_values};
-ghost use Rattle.pulsar_client.specs.Content.{Addresses, Connect, Ends, Names, Queued, Receipt, Replies, Sends, Settles, Write, hands, said, shown};
+ghost use Rattle.pulsar_calls.specs.Content.{Addresses, Connect, Ends, Names, Queued, Receipt, Replies, Sends, Settles, Write, hands, said, shown};
 ghost use Rattle.pulsar_plans.specs.Address.{named, place};
 ghost use Rattle.pulsar_link.specs.Messages.{body_bytes, written};
 ghost use Rattle.pulsar_cli.specs.Text as printed;

@@ -1,12 +1,12 @@
 //! One raw consumer.
 
 ghost use Rattle.std.specs.Prelude.{◌≡◌, IfOk, OnOk, map};
-ghost use Rattle.pulsar_client.specs.Content.{shown};
+ghost use Rattle.pulsar_calls.specs.Content.{shown};
 ghost use Rattle.pulsar_client.specs.Subscribers.{fresh_in};
 ghost use Rattle.pulsar_link.specs.Held.{item_of};
 ghost use Rattle.pulsar_client.specs.Subscriptions.{after_poll, fresh, polled_from, polled_item};
 
-use crate::effect::{Effect, Handed};
+use pulsar_calls::effect::{Effect, Handed};
 use pulsar_link::content::Text;
 use pulsar_link::items::Unread;
 use pulsar_wire::error::NoMemory;

@@ -6,13 +6,13 @@ ghost use Rattle.std.specs.BTreeSet.{insert_key};
 ghost use Rattle.std.specs.List.{All};
 ghost use Rattle.std.specs.Option.{is_some, option_copied, option_map};
 ghost use Rattle.std.specs.Ordering.{nat_cmp};
-ghost use Rattle.pulsar_client.specs.Content.{shown};
+ghost use Rattle.pulsar_calls.specs.Content.{shown};
 ghost use Rattle.pulsar_client.specs.Subscribers.{fresh_in, given_at, has_one, has_one_of, is_listed, is_of, kept_at, live_at, subscription_at, tickets_of, with_items};
 ghost use Rattle.pulsar_client.specs.Subscriptions.{IsHeard, after_poll, closed_at, ended_on, hears, is_last, polled};
 
-use crate::act::Arrival;
 use crate::consumers::subscriber::Subscriber;
-use crate::effect::Effect;
+use pulsar_calls::act::Arrival;
+use pulsar_calls::effect::Effect;
 use pulsar_link::content::Received;
 use pulsar_wire::bodies;
 use pulsar_wire::error::NoMemory;

@@ -2,30 +2,31 @@
 
 ghost use Rattle.std.specs.Prelude.{◌≡◌, ◌==◌, ◌+◌, ◌&&◌, ◌++◌, ◌∷◌, not, map, IfOk, MatchBool, None, Some, OnOk, string_bytes, true, false, if◌then◌else◌};
 ghost use Rattle.pulsar_client.specs.Alarms.{set};
-ghost use Rattle.pulsar_client.specs.Content.{Build, asked, lacks_tickets, shares, shown};
+ghost use Rattle.pulsar_calls.specs.Content.{Build, asked, lacks_tickets, shares, shown};
 ghost use Rattle.pulsar_client.specs.Effects.{effects, ends};
 ghost use Rattle.pulsar_link.specs.RawCall.{words_of};
 ghost use Rattle.pulsar_link.specs.Request.{named_producer};
 ghost use Rattle.pulsar_client.specs.Producers.{called_on, names_in, opened_on};
 ghost use Rattle.pulsar_client.specs.Rules.{asks_raw, asks_topics, builds_with, does, follows, from_base, is_taken, notice, parts_of, procedure_for, searches, unless_refused};
 ghost use Rattle.pulsar_client.specs.Run.{goes_on, ticket_for};
-ghost use Rattle.pulsar_client.specs.Tables.{agenda_of, chosen_of, stand_of, view_of};
+ghost use Rattle.pulsar_client.specs.Tables.{agenda_of, chosen_of, view_of};
+ghost use Rattle.pulsar_calls.specs.Standing.{stand_of};
 ghost use Rattle.pulsar_client.specs.View.{after, alarms_built, builds, later, may_call, stays, ways_of};
-ghost use Rattle.pulsar_client.specs.Who.{is_same};
-ghost use Rattle.pulsar_client.specs.declared.act.Who.{Who as Meant};
+ghost use Rattle.pulsar_calls.specs.Who.{is_same};
+ghost use Rattle.pulsar_calls.specs.declared.act.Who.{Who as Meant};
 
-use crate::act::{
-    Act, Action, Alarm, Makes, Notice, Outcome, Part, Place, Procedure, Refusal, Says, Verdict, Who,
-};
 use crate::addresses::Series;
 use crate::agenda::Tasks;
-use crate::content::{Advice, Asking, Said};
-use crate::effect::Effect;
-use crate::event::Call;
-use crate::plans::plan::{Plan, Turn, begins, failure, told};
-use crate::plans::table::Plans;
 use crate::tables::Tables;
 use crate::tables::alarms::{IDLE_PERIOD, later};
+use pulsar_calls::act::{
+    Act, Action, Alarm, Makes, Notice, Outcome, Part, Place, Procedure, Refusal, Says, Verdict, Who,
+};
+use pulsar_calls::content::{Advice, Asking, Said};
+use pulsar_calls::effect::Effect;
+use pulsar_calls::event::Call;
+use pulsar_calls::plans::plan::{Plan, Turn, begins, failure, told};
+use pulsar_calls::plans::table::Plans;
 use pulsar_link::content::Request;
 use pulsar_link::raw_call::RawCall;
 use pulsar_plans::content::{Address, Text as Topic};

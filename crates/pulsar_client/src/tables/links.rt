@@ -2,7 +2,7 @@
 
 ghost use Rattle.std.specs.Option.{option_map};
 ghost use Rattle.std.specs.Prelude.{◌≡◌, ◌++◌, ◌∷◌, [], ℕ, map, OnOk};
-ghost use Rattle.pulsar_client.specs.Content.{shown};
+ghost use Rattle.pulsar_calls.specs.Content.{shown};
 ghost use Rattle.pulsar_client.specs.Effects.{effects};
 ghost use Rattle.pulsar_client.specs.Kept.{addresses_of, live_in};
 ghost use Rattle.pulsar_client.specs.Rules.{breaks_at, reads_on, served_on, waiters_of};
@@ -12,12 +12,12 @@ ghost use Rattle.pulsar_client.specs.Subscriptions.{hears};
 ghost use Rattle.pulsar_client.specs.Tables.{agenda_of, chosen_of, retry_set, retry_shown, turned_view, view_of, welcomed};
 ghost use Rattle.pulsar_client.specs.View.{after};
 
-use crate::act::{Act, Alarm, Arrival, End, LinkAct, Notice, Part, Who};
 use crate::address::connect;
 use crate::agenda::Tasks;
-use crate::effect::Effect;
 use crate::tables::Tables;
 use crate::tables::alarms::later;
+use pulsar_calls::act::{Act, Alarm, Arrival, End, LinkAct, Notice, Part, Who};
+use pulsar_calls::effect::Effect;
 use pulsar_plans::content::Address;
 use pulsar_wire::error::NoMemory;
 

@@ -5,12 +5,12 @@ ghost use Rattle.pulsar_client.specs.Kept.{producers_of};
 ghost use Rattle.pulsar_client.specs.Subscribers.{fresh_in, subscription_at};
 ghost use Rattle.pulsar_client.specs.Tables.{chosen_of, view_of};
 ghost use Rattle.pulsar_client.specs.View.{made, producers_made};
-ghost use Rattle.pulsar_client.specs.Who.{is_same};
+ghost use Rattle.pulsar_calls.specs.Who.{is_same};
 
-use crate::act::{Makes, Who};
 use crate::consumers::subscriber::Subscriber;
 use crate::tables::Tables;
-use crate::who::rank;
+use pulsar_calls::act::{Makes, Who};
+use pulsar_calls::who::rank;
 use pulsar_wire::error::NoMemory;
 
 impl Tables {

@@ -2,7 +2,7 @@
 
 ghost use Rattle.std.specs.Prelude.{◌≡◌, ◌++◌, ◌∷◌, [], List, map, IfOk, None, OnOk, true};
 ghost use Rattle.pulsar_run.specs.Order.{arranged};
-ghost use Rattle.pulsar_client.specs.Content.{Heard, asked, heard, shown};
+ghost use Rattle.pulsar_calls.specs.Content.{Heard, asked, heard, shown};
 ghost use Rattle.pulsar_client.specs.Effects.{effect_below, effects};
 ghost use Rattle.pulsar_client.specs.Kept.{AreTicketed};
 ghost use Rattle.pulsar_client.specs.Rules.{brings, call_part};
@@ -20,19 +20,19 @@ mod making;
 mod producers;
 mod sends;
 
-use crate::act::{Act, Alarm, End, LinkAct, Notice, Part};
 use crate::addresses::Addresses;
 use crate::agenda::Tasks;
 use crate::alarms::Alarms;
 use crate::consumers::subscribers::Subscribers;
-use crate::content::Asking;
-use crate::effect::Effect;
-use crate::event::{Call, Event};
 use crate::links::Links;
 use crate::order::arrange;
-use crate::plans::table::Plans;
 use crate::producers::Producers;
 use crate::settings::Settings;
+use pulsar_calls::act::{Act, Alarm, End, LinkAct, Notice, Part};
+use pulsar_calls::content::Asking;
+use pulsar_calls::effect::Effect;
+use pulsar_calls::event::{Call, Event};
+use pulsar_calls::plans::table::Plans;
 use pulsar_producer::CustomRoutingPolicy;
 use pulsar_session::states::Stage;
 use pulsar_wire::error::NoMemory;

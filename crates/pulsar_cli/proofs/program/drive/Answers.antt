@@ -1,4 +1,4 @@
-use Rattle.pulsar_client.specs.Content.{heard}
+use Rattle.pulsar_calls.specs.Content.{heard}
 use Rattle.pulsar_cli.proofs.Events.{ran-awaits}
 use Rattle.pulsar_cli.proofs.program.drive.Goals as goal
 

@@ -1,6 +1,6 @@
 use Rattle.std.proofs.Common.{rules, arith, ◌≡◌, ◌-◌, ◌<◌, ◌++◌, ◌∙◌, sym, subst, Err, length, take}
 use Rattle.std.specs.Prelude.{IfSome, MatchOption}
-use Rattle.pulsar_client.specs.Content.{heard}
+use Rattle.pulsar_calls.specs.Content.{heard}
 use Rattle.pulsar_cli.specs.Shown.{HasConsumed, Running}
 use Rattle.pulsar_cli.specs.declared.stop.Stop.TheVariants as stop
 use Rattle.pulsar_cli.proofs.Feeds.{fed-front, unread-inside}

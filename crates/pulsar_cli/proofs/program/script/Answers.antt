@@ -1,6 +1,6 @@
 use Rattle.std.proofs.Common.{rules, ◌≡◌, ◌∙◌, [], refl, ap, map, subst, Ok, Some, None}
 use Rattle.pulsar_client.specs.Client.{StandsFor}
-use Rattle.pulsar_client.specs.Content.{heard}
+use Rattle.pulsar_calls.specs.Content.{heard}
 use Rattle.pulsar_cli.specs.Shown.{options_in}
 use Rattle.pulsar_cli.proofs.Events.{ran-awaits}
 use Rattle.pulsar_cli.specs.Script.{since}

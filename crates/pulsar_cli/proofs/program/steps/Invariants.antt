@@ -1,7 +1,7 @@
 use Rattle.std.proofs.Common.{◌≡◌, [], Option, List, ℕ}
 use Rattle.pulsar_producer.specs.Routing.{Policy}
 use Rattle.pulsar_client.specs.Client.{StandsFor}
-use Rattle.pulsar_client.specs.Content.{heard}
+use Rattle.pulsar_calls.specs.Content.{heard}
 use Rattle.pulsar_client.specs.Run.{Step}
 use Rattle.pulsar_client.specs.View.{Options}
 use Rattle.pulsar_cli.specs.Script.{since}

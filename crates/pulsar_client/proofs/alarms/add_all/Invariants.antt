@@ -2,7 +2,7 @@ use Rattle.std.proofs.Common.{◌≡◌, ◌||◌, map}
 use Rattle.std.specs.BTreeSet.{contains}
 use Rattle.std.specs.List.{list_any}
 use Rattle.pulsar_client.specs.Alarms.{alarm_cmp, is_same_alarm}
-use Rattle.pulsar_client.specs.declared.act.Alarm.{Alarm}
+use Rattle.pulsar_calls.specs.declared.act.Alarm.{Alarm}
 use Rattle.pulsar_client.proofs.alarms.add_all.Given as goal
 
 abbrev pub invariant-loop-alarm : goal.invariant-loop-alarm

@@ -1,5 +1,5 @@
 use Rattle.std.proofs.Common.{◌∙◌, ap, sym}
-use Rattle.pulsar_client.specs.Content.{said}
+use Rattle.pulsar_calls.specs.Content.{said}
 use Rattle.pulsar_client.specs.Taken.{IsSaid, polled, taken_of}
 use Rattle.pulsar_client.proofs.Answering.{told_answer, told_lost}
 use Rattle.pulsar_client.proofs.future.told.Goals as goal

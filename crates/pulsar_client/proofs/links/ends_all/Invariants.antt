@@ -1,9 +1,9 @@
 use Rattle.std.proofs.Common.{◌≡◌, map}
 use Rattle.std.specs.Map.Iter.{deref_pair}
-use Rattle.pulsar_client.specs.declared.act.Act.TheVariants.{Comes}
-use Rattle.pulsar_client.specs.declared.act.End.TheVariants.{Stops}
-use Rattle.pulsar_client.specs.declared.act.LinkAct.TheVariants.{Ends}
-use Rattle.pulsar_client.specs.declared.act.Part.TheVariants.{ToLink}
+use Rattle.pulsar_calls.specs.declared.act.Act.TheVariants.{Comes}
+use Rattle.pulsar_calls.specs.declared.act.End.TheVariants.{Stops}
+use Rattle.pulsar_calls.specs.declared.act.LinkAct.TheVariants.{Ends}
+use Rattle.pulsar_calls.specs.declared.act.Part.TheVariants.{ToLink}
 use Rattle.pulsar_client.proofs.links.ends_all.Given as goal
 
 abbrev pub invariant-loop-link : goal.invariant-loop-link

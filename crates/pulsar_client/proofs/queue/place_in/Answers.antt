@@ -1,8 +1,7 @@
 use Rattle.std.proofs.Common.{◌≡◌, ◌∙◌, ◌+◌, ◌-◌, ap, arith, sym}
-use Rattle.pulsar_client.specs.declared.act.Notice.{Notice}
 use Rattle.pulsar_client.specs.Rules.{below}
-use Rattle.pulsar_client.specs.Who.{is_before, rank}
-use Rattle.pulsar_client.proofs.Instances.{below_order}
+use Rattle.pulsar_calls.specs.Who.{is_before, rank}
+use Rattle.pulsar_client.proofs.Orders.{below_order}
 use Rattle.pulsar_client.proofs.Ranking.{put_next}
 use Rattle.pulsar_client.proofs.queue.place_in.Goals as goal
 

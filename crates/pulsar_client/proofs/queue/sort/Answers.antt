@@ -1,7 +1,7 @@
 use Rattle.std.proofs.Common.{rules}
 use Rattle.std.proofs.lemmas.List.Sorted.{answers_always}
-use Rattle.pulsar_client.specs.declared.act.Notice.{Notice}
-use Rattle.pulsar_client.specs.Who.{rank}
+use Rattle.pulsar_calls.specs.declared.act.Notice.{Notice}
+use Rattle.pulsar_calls.specs.Who.{rank}
 use Rattle.pulsar_client.proofs.Sorting.{notices_sorted}
 use Rattle.pulsar_client.proofs.queue.sort.Goals as goal
 

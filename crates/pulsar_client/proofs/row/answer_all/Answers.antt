@@ -3,9 +3,9 @@ use Rattle.std.specs.BTreeMap.{get}
 use Rattle.std.specs.List.{filter_map}
 use Rattle.std.specs.Option.{option_to_list}
 use Rattle.std.specs.Ordering.{nat_cmp}
-use Rattle.pulsar_client.specs.declared.act.Outcome.TheVariants.{Replied}
+use Rattle.pulsar_calls.specs.declared.act.Outcome.TheVariants.{Replied}
 use Rattle.pulsar_client.specs.Rules.{tells_asker}
-use Rattle.pulsar_client.proofs.Lists.{filter_map_end}
+use Rattle.pulsar_calls.proofs.Lists.{filter_map_end}
 use Rattle.pulsar_client.proofs.row.answer_all.Goals as goal
 
 pub returns : goal.returns

@@ -2,7 +2,7 @@ use Rattle.std.proofs.Common.{◌≡◌, take}
 use Rattle.std.specs.BTreeMap.{get}
 use Rattle.std.specs.List.{filter_map}
 use Rattle.std.specs.Ordering.{nat_cmp}
-use Rattle.pulsar_client.specs.declared.act.Outcome.TheVariants.{Replied}
+use Rattle.pulsar_calls.specs.declared.act.Outcome.TheVariants.{Replied}
 use Rattle.pulsar_client.specs.Rules.{tells_asker}
 use Rattle.pulsar_client.proofs.row.answer_by_copies.Given as goal
 

@@ -3,7 +3,7 @@ use Rattle.std.specs.BTreeMap.{get}
 use Rattle.std.specs.List.{filter_map}
 use Rattle.std.specs.Option.{option_to_list}
 use Rattle.std.specs.Ordering.{nat_cmp}
-use Rattle.pulsar_client.specs.Links.{numbers_from}
+use Rattle.pulsar_calls.specs.Content.{numbers_from}
 use Rattle.pulsar_client.specs.Rules.{dropped, tells_asker}
 use Rattle.pulsar_client.proofs.Places.{next_place}
 use Rattle.pulsar_client.proofs.row.drop_all.Goals as goal

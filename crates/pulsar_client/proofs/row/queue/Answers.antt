@@ -1,8 +1,9 @@
 use Rattle.std.proofs.Common.{◌∙◌, ◌-◌, ap, sym, ◌++◌, map, append_assoc, arith}
 use Rattle.std.specs.List.{filter_map}
 use Rattle.std.specs.Option.{option_to_list}
-use Rattle.pulsar_client.specs.Content.{shown}
-use Rattle.pulsar_client.specs.Links.{numbers_from, queues_at}
+use Rattle.pulsar_calls.specs.Content.{shown}
+use Rattle.pulsar_client.specs.Links.{queues_at}
+use Rattle.pulsar_calls.specs.Content.{numbers_from}
 use Rattle.pulsar_client.proofs.Places.{next_place}
 use Rattle.pulsar_client.proofs.row.queue.Goals as goal
 

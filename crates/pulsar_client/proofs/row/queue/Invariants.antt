@@ -1,7 +1,8 @@
 use Rattle.std.proofs.Common.{◌≡◌, ◌≤◌, ◌++◌, ◌-◌, map}
 use Rattle.std.specs.List.{filter_map}
-use Rattle.pulsar_client.specs.Content.{shown}
-use Rattle.pulsar_client.specs.Links.{numbers_from, queues_at}
+use Rattle.pulsar_calls.specs.Content.{shown}
+use Rattle.pulsar_client.specs.Links.{queues_at}
+use Rattle.pulsar_calls.specs.Content.{numbers_from}
 use Rattle.pulsar_client.proofs.row.queue.Given as goal
 
 abbrev pub invariant-loop-place : goal.invariant-loop-place

@@ -1,6 +1,6 @@
 use Rattle.std.proofs.Common.{◌≡◌, ◌++◌, map, take}
-use Rattle.pulsar_client.specs.declared.effect.Settlement.TheVariants.{Reply}
-use Rattle.pulsar_client.specs.Content.{shown}
+use Rattle.pulsar_calls.specs.declared.effect.Settlement.TheVariants.{Reply}
+use Rattle.pulsar_calls.specs.Content.{shown}
 use Rattle.pulsar_client.specs.Links.{settles}
 use Rattle.pulsar_client.proofs.row.settle_all.Given as goal
 

@@ -2,8 +2,8 @@ use Rattle.std.proofs.Common.{◌≡◌, ◌≤◌, ◌-◌}
 use Rattle.std.specs.BTreeMap.{get}
 use Rattle.std.specs.List.{filter_map}
 use Rattle.std.specs.Ordering.{nat_cmp}
-use Rattle.pulsar_client.specs.declared.act.Outcome.TheVariants.{Queued}
-use Rattle.pulsar_client.specs.Links.{numbers_from}
+use Rattle.pulsar_calls.specs.declared.act.Outcome.TheVariants.{Queued}
+use Rattle.pulsar_calls.specs.Content.{numbers_from}
 use Rattle.pulsar_client.specs.Rules.{tells_asker}
 use Rattle.pulsar_client.proofs.row.tell_queued.Given as goal
 

@@ -1,5 +1,5 @@
 use Rattle.std.proofs.Common.{◌≡◌, ◌++◌, map}
-use Rattle.pulsar_client.specs.declared.act.Part.TheVariants.{Rings}
+use Rattle.pulsar_calls.specs.declared.act.Part.TheVariants.{Rings}
 use Rattle.pulsar_client.proofs.tables.with_alarms.Given as goal
 
 abbrev pub invariant-loop-alarm : goal.invariant-loop-alarm

@@ -2,7 +2,7 @@ use Rattle.std.proofs.Common.{◌≡◌, ◌++◌, take, map}
 use Rattle.std.specs.Prelude.{string_bytes, codes}
 use Rattle.std.specs.Fmt.{decimal}
 use Rattle.std.specs.List.{flat_map}
-use Rattle.pulsar_client.specs.Content.{shown}
+use Rattle.pulsar_calls.specs.Content.{shown}
 use Rattle.pulsar_cli.specs.Text.{effect, line}
 use Rattle.pulsar_cli.proofs.printing.effect.push_step.Given as goal
 

@@ -1,7 +1,7 @@
 use Rattle.std.proofs.Common.{◌≡◌, ◌∙◌, ◌++◌, ◌∷◌, [], ap, sym, map, List, append_assoc}
 use Rattle.std.proofs.lemmas.List.{map-append}
 use Rattle.pulsar_run.specs.Order.{arranged}
-use Rattle.pulsar_client.specs.declared.act.Notice.{Notice}
+use Rattle.pulsar_calls.specs.declared.act.Notice.{Notice}
 use Rattle.pulsar_client.specs.Rules.{alone, below}
 use Rattle.pulsar_client.proofs.agenda.Tasks.open_each.Goals as goal
 

@@ -1,4 +1,4 @@
-use Rattle.std.proofs.Common.{◌≡◌, [], map, length}
+use Rattle.std.proofs.Common.{◌≡◌, [], length}
 use Rattle.pulsar_client.specs.Run.{first_of, rest_of}
 use Rattle.pulsar_client.proofs.agenda.Tasks.turn_to_next.Given as goal
 

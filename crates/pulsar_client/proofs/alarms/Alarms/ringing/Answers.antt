@@ -7,10 +7,10 @@ use Rattle.std.specs.List.{list_any}
 use Rattle.std.specs.Map.Iter.{deref_pair}
 use Rattle.std.specs.Ordering.{is_lt, nat_cmp}
 use Rattle.pulsar_requests.specs.Soonest.{has_come}
-use Rattle.pulsar_client.specs.declared.act.Alarm.{Alarm}
+use Rattle.pulsar_calls.specs.declared.act.Alarm.{Alarm}
 use Rattle.pulsar_client.specs.Alarms.{alarm_cmp, moment_of, ringing}
 use Rattle.pulsar_client.specs.Kept.{is_in}
-use Rattle.pulsar_client.proofs.Lists.{any_end, any_map}
+use Rattle.pulsar_calls.proofs.Lists.{any_end, any_map}
 use Rattle.pulsar_client.proofs.Moments.{all_come}
 use Rattle.pulsar_client.proofs.Ringing.{ringing_keys, with_both}
 use Rattle.pulsar_client.proofs.alarms.Alarms.ringing.Goals as goal

@@ -1,5 +1,5 @@
 use Rattle.std.proofs.Common.{◌∙◌, ap, sym, map, take}
-use Rattle.pulsar_client.specs.Content.{shown}
+use Rattle.pulsar_calls.specs.Content.{shown}
 use Rattle.pulsar_client.specs.Taken.{drawn_to, ended_in, held_in, left_after}
 use Rattle.pulsar_client.proofs.Answering.{ended_end}
 use Rattle.pulsar_client.proofs.Grown.{map_more}

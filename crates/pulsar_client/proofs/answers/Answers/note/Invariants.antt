@@ -1,5 +1,5 @@
 use Rattle.std.proofs.Common.{◌≡◌, ◌≤◌, ◌-◌, ℕ, map, take}
-use Rattle.pulsar_client.specs.Content.{shown}
+use Rattle.pulsar_calls.specs.Content.{shown}
 use Rattle.pulsar_client.specs.Taken.{drawn_to, ended_in, held_in}
 use Rattle.pulsar_client.proofs.answers.Answers.note.Given as goal
 

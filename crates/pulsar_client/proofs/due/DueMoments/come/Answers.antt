@@ -8,7 +8,7 @@ use Rattle.std.specs.Map.Iter.{deref_pair}
 use Rattle.std.specs.Ordering.{is_lt, nat_cmp}
 use Rattle.pulsar_requests.specs.Soonest.{has_come}
 use Rattle.pulsar_client.specs.Due.{is_in, moment_at}
-use Rattle.pulsar_client.proofs.Lists.{any_end, any_map}
+use Rattle.pulsar_calls.proofs.Lists.{any_end, any_map}
 use Rattle.pulsar_client.proofs.Moments.{all_come}
 use Rattle.pulsar_client.proofs.due.DueMoments.come.Goals as goal
 

@@ -1,5 +1,5 @@
 use Rattle.std.proofs.Common.{◌∙◌, ap}
-use Rattle.pulsar_client.specs.Content.{asked}
+use Rattle.pulsar_calls.specs.Content.{asked}
 use Rattle.pulsar_client.specs.Run.{ticket_for}
 use Rattle.pulsar_client.proofs.Counting.{ticket_is}
 use Rattle.pulsar_client.proofs.pulsar.Pulsar.submit.Goals as goal

@@ -1,5 +1,5 @@
 use Rattle.std.proofs.Common.{◌≡◌, ◌∙◌, ◌∷◌, ap, map, refl, sym, true, false}
-use Rattle.pulsar_client.specs.Content.{heard, shown}
+use Rattle.pulsar_calls.specs.Content.{heard, shown}
 use Rattle.pulsar_client.specs.Tables.{step, view_of}
 use Rattle.pulsar_client.specs.Taken.{drawn_to, ended_in, held_but}
 use Rattle.pulsar_client.specs.View.{Options}

@@ -2,7 +2,7 @@ use Rattle.std.proofs.Common.{◌∙◌, ◌∷◌, [], refl, subst, sym}
 use Rattle.pulsar_run.proofs.Orders.{put_all_order}
 use Rattle.pulsar_run.specs.Order.{InOrder}
 use Rattle.pulsar_client.specs.Rules.{below}
-use Rattle.pulsar_client.proofs.Instances.{below_order}
+use Rattle.pulsar_client.proofs.Orders.{below_order}
 use Rattle.pulsar_client.proofs.queue.Queue.join.Goals as goal
 
 pub invariant_of-self-2 : goal.invariant_of-self-2

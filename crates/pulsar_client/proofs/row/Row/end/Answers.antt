@@ -3,10 +3,10 @@ use Rattle.std.proofs.lemmas.List.{map-append}
 use Rattle.std.specs.BTreeMap.{get}
 use Rattle.std.specs.Option.{option_to_list}
 use Rattle.std.specs.Ordering.{nat_cmp}
-use Rattle.pulsar_client.specs.Content.{shown}
+use Rattle.pulsar_calls.specs.Content.{shown}
 use Rattle.pulsar_client.specs.Links as links
 use Rattle.pulsar_client.specs.Rules.{lost, tells_asker}
-use Rattle.pulsar_client.proofs.Lists.{filter_map_end}
+use Rattle.pulsar_calls.proofs.Lists.{filter_map_end}
 use Rattle.pulsar_client.proofs.row.Row.end.Goals as goal
 
 pub loop-place-preserved : goal.loop-place-preserved

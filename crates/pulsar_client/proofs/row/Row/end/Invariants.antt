@@ -2,7 +2,7 @@ use Rattle.std.proofs.Common.{◌≡◌, ◌++◌, map}
 use Rattle.std.specs.BTreeMap.{get}
 use Rattle.std.specs.List.{filter_map}
 use Rattle.std.specs.Ordering.{nat_cmp}
-use Rattle.pulsar_client.specs.Content.{shown}
+use Rattle.pulsar_calls.specs.Content.{shown}
 use Rattle.pulsar_client.specs.Links as links
 use Rattle.pulsar_client.specs.Rules.{lost, tells_asker}
 use Rattle.pulsar_client.proofs.row.Row.end.Given as goal

@@ -1,8 +1,8 @@
 use Rattle.std.proofs.Common.{◌≡◌, ◌∙◌, ◌+◌, ◌-◌, ◌^◌, ◌∷◌, ◌++◌, ap, cond, Some, None}
 use Rattle.std.proofs.lemmas.Result.{on_ok_weaker}
-use Rattle.pulsar_client.specs.declared.act.Act.TheVariants.{Answers, Starts}
-use Rattle.pulsar_client.specs.declared.act.Who.TheVariants.{Call}
-use Rattle.pulsar_client.specs.Content.{lacks_tickets, shares}
+use Rattle.pulsar_calls.specs.declared.act.Act.TheVariants.{Answers, Starts}
+use Rattle.pulsar_calls.specs.declared.act.Who.TheVariants.{Call}
+use Rattle.pulsar_calls.specs.Content.{lacks_tickets, shares}
 use Rattle.pulsar_client.specs.Producers.{called_on}
 use Rattle.pulsar_client.specs.Rules.{parts_of}
 use Rattle.pulsar_client.specs.Run.{Agenda}

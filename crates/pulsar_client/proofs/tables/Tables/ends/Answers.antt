@@ -5,12 +5,12 @@ use Rattle.std.specs.Option.{option_map}
 use Rattle.pulsar_plans.specs.Address.{address_key}
 use Rattle.pulsar_run.specs.Order.{arranged}
 use Rattle.pulsar_session.specs.Failures.{Fault}
-use Rattle.pulsar_client.specs.declared.act.Act.TheVariants.{Comes}
-use Rattle.pulsar_client.specs.declared.act.Alarm.TheVariants.{KeepAlive}
-use Rattle.pulsar_client.specs.declared.act.LinkAct.TheVariants.{Ends}
-use Rattle.pulsar_client.specs.declared.act.Part.TheVariants.{ToLink}
+use Rattle.pulsar_calls.specs.declared.act.Act.TheVariants.{Comes}
+use Rattle.pulsar_calls.specs.declared.act.Alarm.TheVariants.{KeepAlive}
+use Rattle.pulsar_calls.specs.declared.act.LinkAct.TheVariants.{Ends}
+use Rattle.pulsar_calls.specs.declared.act.Part.TheVariants.{ToLink}
 use Rattle.pulsar_client.specs.Alarms.{clear}
-use Rattle.pulsar_client.specs.Content.{shown}
+use Rattle.pulsar_calls.specs.Content.{shown}
 use Rattle.pulsar_client.specs.Effects.{given_at, retries_on}
 use Rattle.pulsar_client.specs.Kept.{IsEnd}
 use Rattle.pulsar_client.specs.Rules.{below, ended_on, failed_on, failed_over, opens, waiters_of}

@@ -1,6 +1,6 @@
 use Rattle.std.proofs.Common.{◌∙◌, refl}
 use Rattle.std.proofs.lemmas.Result.{on_ok_weaker}
-use Rattle.pulsar_client.specs.declared.act.LinkAct.TheVariants.{Pings}
+use Rattle.pulsar_calls.specs.declared.act.LinkAct.TheVariants.{Pings}
 use Rattle.pulsar_client.specs.Tables.{view_of}
 use Rattle.pulsar_client.proofs.Turned.{both, linked, still_sees}
 use Rattle.pulsar_client.proofs.Turning.{nothing_more, retries_still, still}

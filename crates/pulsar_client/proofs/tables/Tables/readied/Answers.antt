@@ -1,8 +1,8 @@
 use Rattle.std.proofs.Common.{◌∙◌, ◌++◌, ap, sym}
 use Rattle.std.proofs.lemmas.List.{append-nil}
 use Rattle.std.proofs.lemmas.Result.{on_ok_weaker}
-use Rattle.pulsar_client.specs.declared.act.Alarm.TheVariants.{KeepAlive}
-use Rattle.pulsar_client.specs.declared.act.Arrival.TheVariants.{Readied}
+use Rattle.pulsar_calls.specs.declared.act.Alarm.TheVariants.{KeepAlive}
+use Rattle.pulsar_calls.specs.declared.act.Arrival.TheVariants.{Readied}
 use Rattle.pulsar_client.specs.Alarms.{set}
 use Rattle.pulsar_client.specs.Kept.{pause_at}
 use Rattle.pulsar_client.specs.Rules.{served_on, waiters_of}

@@ -3,9 +3,9 @@ use Rattle.std.proofs.lemmas.Bool.{eq-eqb}
 use Rattle.std.proofs.lemmas.Result.{on_ok_weaker}
 use Rattle.std.specs.Option.{option_map}
 use Rattle.pulsar_run.specs.Order.{arranged}
-use Rattle.pulsar_client.specs.declared.act.Act.TheVariants.{Comes}
-use Rattle.pulsar_client.specs.declared.act.LinkAct.TheVariants.{Reads}
-use Rattle.pulsar_client.specs.declared.act.Part.TheVariants.{ToLink}
+use Rattle.pulsar_calls.specs.declared.act.Act.TheVariants.{Comes}
+use Rattle.pulsar_calls.specs.declared.act.LinkAct.TheVariants.{Reads}
+use Rattle.pulsar_calls.specs.declared.act.Part.TheVariants.{ToLink}
 use Rattle.pulsar_client.specs.Kept.{live_in}
 use Rattle.pulsar_client.specs.Rules.{answered_on, below, breaks_at, opens, reads_on, served_on, waiters_of}
 use Rattle.pulsar_client.specs.Run.{Agenda}

@@ -2,7 +2,7 @@ use Rattle.std.proofs.Common.{◌∙◌, ◌+◌, ◌++◌, ap, map, sym}
 use Rattle.std.proofs.lemmas.List.{append-nil, length-map}
 use Rattle.std.proofs.lemmas.Result.{MatchResult-weaker, on_ok_weaker}
 use Rattle.pulsar_messages.specs.Content.{message_content}
-use Rattle.pulsar_client.specs.declared.act.Procedure.TheVariants.{Gather}
+use Rattle.pulsar_calls.specs.declared.act.Procedure.TheVariants.{Gather}
 use Rattle.pulsar_client.specs.Tables.{view_of}
 use Rattle.pulsar_client.proofs.Sending.{made_so, parts_all, parts_none, refused_so, sent_all, sent_none}
 use Rattle.pulsar_client.proofs.tables.Tables.sends_all.Goals as goal

@@ -1,7 +1,7 @@
-use Rattle.std.proofs.Common.{◌≡◌, ◌∙◌, Bool, Some, ap, false, sym, true}
+use Rattle.std.proofs.Common.{◌≡◌, ◌∙◌, ap, false, sym, true}
 use Rattle.std.proofs.lemmas.Result.{MatchResult-weaker}
 use Rattle.pulsar_messages.specs.Content.{message_content}
-use Rattle.pulsar_client.specs.declared.act.Procedure.TheVariants.{Send}
+use Rattle.pulsar_calls.specs.declared.act.Procedure.TheVariants.{Send}
 use Rattle.pulsar_client.specs.Producers.{Producers, batches_in, errand_of}
 use Rattle.pulsar_client.specs.Tables.{chosen_of, view_of}
 use Rattle.pulsar_client.specs.View.{ways_of}

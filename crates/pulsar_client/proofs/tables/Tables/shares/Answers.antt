@@ -3,10 +3,11 @@ use Rattle.std.proofs.lemmas.Iterator.Adapters.{YieldsList-from_vec}
 use Rattle.std.proofs.lemmas.Iterator.Consumers.{YieldsList-end}
 use Rattle.std.proofs.lemmas.List.{length_push, map-id}
 use Rattle.pulsar_messages.specs.Content.{message_content}
-use Rattle.pulsar_client.specs.declared.act.Act.TheVariants.{Starts}
-use Rattle.pulsar_client.specs.declared.act.Who.TheVariants.{Call}
+use Rattle.pulsar_calls.specs.declared.act.Act.TheVariants.{Starts}
+use Rattle.pulsar_calls.specs.declared.act.Who.TheVariants.{Call}
 use Rattle.pulsar_client.specs.Kept.{producers_of}
-use Rattle.pulsar_client.specs.Producers.{all_routed, next_advice, routed}
+use Rattle.pulsar_client.specs.Producers.{all_routed, routed}
+use Rattle.pulsar_calls.specs.Content.{next_advice}
 use Rattle.pulsar_client.specs.Rules.{sends_as, share, shares_of}
 use Rattle.pulsar_client.specs.Tables.{chosen_of, view_of}
 use Rattle.pulsar_client.specs.View.{View}

@@ -9,7 +9,7 @@ use Rattle.pulsar_client.specs.Producers.{changed, is_woken}
 use Rattle.pulsar_client.specs.Rules.{below, grants, ready_notice}
 use Rattle.pulsar_client.specs.Run.{Agenda}
 use Rattle.pulsar_client.specs.Tables.{agenda_of, view_of}
-use Rattle.pulsar_client.specs.Who.{turn_of}
+use Rattle.pulsar_calls.specs.Who.{turn_of}
 use Rattle.pulsar_client.proofs.Storing.{waits_on}
 use Rattle.pulsar_client.proofs.tables.Tables.stores.Goals as goal
 

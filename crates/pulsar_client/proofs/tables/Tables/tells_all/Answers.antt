@@ -1,5 +1,5 @@
 use Rattle.std.proofs.Common.{◌∙◌, ◌++◌, ap, sym}
-use Rattle.pulsar_run.specs.Order.{put, put_all}
+use Rattle.pulsar_run.specs.Order.{put}
 use Rattle.pulsar_client.specs.Rules.{below}
 use Rattle.pulsar_client.specs.Run.{Agenda}
 use Rattle.pulsar_client.specs.Tables.{agenda_of}

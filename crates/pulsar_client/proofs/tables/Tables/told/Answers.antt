@@ -1,18 +1,19 @@
 use Rattle.std.proofs.Common.{◌≡◌, ◌∙◌, ap, subst, sym, true, cond, Option, Some, None, inl, inr}
 use Rattle.std.proofs.lemmas.Bool.{cases_Bool, eqb-true}
 use Rattle.std.proofs.lemmas.Result.{on_ok_weaker}
-use Rattle.pulsar_client.specs.declared.act.Act.TheVariants.{Told}
-use Rattle.pulsar_client.specs.declared.act.Outcome.{Outcome}
-use Rattle.pulsar_client.specs.declared.act.Verdict.{Verdict}
-use Rattle.pulsar_client.specs.declared.act.Who.{Who}
-use Rattle.pulsar_client.specs.declared.act.Who.TheVariants.{Call, Producer}
-use Rattle.pulsar_client.specs.declared.plans.plan.Plan.{Plan}
-use Rattle.pulsar_client.specs.declared.plans.plan.Turn.{Turn}
-use Rattle.pulsar_client.specs.Plan.{told}
+use Rattle.pulsar_calls.specs.declared.act.Act.TheVariants.{Told}
+use Rattle.pulsar_calls.specs.declared.act.Outcome.{Outcome}
+use Rattle.pulsar_calls.specs.declared.act.Verdict.{Verdict}
+use Rattle.pulsar_calls.specs.declared.act.Who.{Who}
+use Rattle.pulsar_calls.specs.declared.act.Who.TheVariants.{Call, Producer}
+use Rattle.pulsar_calls.specs.declared.plans.plan.Plan.{Plan}
+use Rattle.pulsar_calls.specs.declared.plans.plan.Turn.{Turn}
+use Rattle.pulsar_calls.specs.Plan.{told}
 use Rattle.pulsar_client.specs.Rules.{notice}
-use Rattle.pulsar_client.specs.Tables.{stand_of, view_of}
+use Rattle.pulsar_client.specs.Tables.{view_of}
+use Rattle.pulsar_calls.specs.Standing.{stand_of}
 use Rattle.pulsar_client.specs.View.{stand_after, stays, stays_some, told_some}
-use Rattle.pulsar_client.specs.Who.{is_same}
+use Rattle.pulsar_calls.specs.Who.{is_same}
 use Rattle.pulsar_client.proofs.tables.Tables.told.Goals as goal
 
 same : (w who : Who) → is_same w who ≡ true → w ≡ who

@@ -1,5 +1,5 @@
 use Rattle.std.proofs.Common.{◌≡◌, List, map}
-use Rattle.pulsar_client.specs.Content.{Heard, shown}
+use Rattle.pulsar_calls.specs.Content.{Heard, shown}
 use Rattle.pulsar_client.specs.Run.{Step}
 use Rattle.pulsar_client.specs.Tables.{InStep, agenda_of}
 use Rattle.pulsar_client.specs.View.{Options}

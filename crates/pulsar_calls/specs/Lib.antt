@@ -1,0 +1,5 @@
+pub mod Who
+pub mod Content
+pub mod Parts
+pub mod Plan
+pub mod Standing

@@ -1,0 +1,29 @@
+-- Those that have plans, and the order in which a cause serves them.
+use Rattle.std.specs.Prelude.{ℕ, ◌==◌, ◌-◌, ◌^◌, nat_lt, Bool, ◌&&◌, if◌then◌else◌}
+use Rattle.pulsar_calls.specs.declared.act.Who.{Who}
+use Rattle.pulsar_calls.specs.declared.act.Who.TheVariants.{Call, Producer}
+
+-- their kind, and their number
+abbrev pub rank : Who → ℕ × ℕ
+rank (Call ticket) = (0, ticket)
+rank (Producer number) = (1, number)
+
+abbrev pub is_same : Who → Who → Bool
+is_same a b = ((rank a).0 == (rank b).0) && ((rank a).1 == (rank b).1)
+
+-- kind by kind, and then by number
+abbrev pub is_before : ℕ × ℕ → ℕ × ℕ → Bool
+is_before a b = if a.0 == b.0 then nat_lt a.1 b.1 else nat_lt a.0 b.0
+
+-- A turn at a topic producer is taken by the ticket of a call. The batches of the topic producer itself take theirs behind all tickets: the
+-- greatest is never drawn.
+abbrev pub behind_all : ℕ
+behind_all = 2 ^ 64 - 1
+
+abbrev pub turn_of : Who → ℕ
+turn_of (Call ticket) = ticket
+turn_of (Producer number) = behind_all
+
+-- who has this turn at the topic producer of a number
+abbrev pub in_turn : (number turn : ℕ) → Who
+in_turn number turn = if turn == behind_all then Producer number else Call turn

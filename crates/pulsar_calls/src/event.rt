@@ -1,0 +1,162 @@
+//! What comes to a client.
+
+ghost use Rattle.std.specs.Prelude.{◌≡◌, IfOk, map};
+ghost use Rattle.pulsar_messages.specs.Content.{message_content};
+ghost use Rattle.pulsar_calls.specs.Content.{asked, heard};
+
+use pulsar_link::raw_call::RawCall;
+use pulsar_messages::Message;
+use pulsar_producer::ProducerBuilder;
+use pulsar_wire::commands::topics::Mode;
+use pulsar_wire::error::{IoKind, NoMemory};
+
+/// What a user asks of the client.
+#[derive(Debug, Drop)]
+pub enum Call {
+    /// Connects to the service. Other calls are refused until a Build has ended Ok.
+    Build,
+    /// Ends every connection, and all that waits. Every later call is refused.
+    Stop,
+    /// Asks for the topics of a namespace.
+    Topics {
+        namespace: String,
+        mode: Mode,
+    },
+    /// Finds the broker that serves a topic.
+    Lookup {
+        topic: String,
+    },
+    /// Finds how many partitions a topic has.
+    Partitions {
+        topic: String,
+    },
+    /// Finds the names of a topic, the topic itself or its partitions, with the broker of each.
+    Brokers {
+        topic: String,
+    },
+    /// Builds a producer.
+    Producer(ProducerBuilder),
+    /// Sends a message by the producer that the call of this ticket built. It ends with the receipt.
+    Send {
+        producer: u64,
+        message: Message,
+    },
+    /// Sends messages one by one, each by a ticket of its own: the next ones. It ends once each was queued, or failed before.
+    SendAll {
+        producer: u64,
+        messages: Vec<Message>,
+    },
+    /// Sends what a producer holds back for a batch.
+    Flush {
+        producer: u64,
+    },
+    /// Asks for a sign of life of the connection of each partition of a producer.
+    CheckProducer {
+        producer: u64,
+    },
+    /// Closes a producer: it takes no sends from now on.
+    CloseProducer {
+        producer: u64,
+    },
+    /// Asks on this connection by itself.
+    Raw {
+        link: u64,
+        call: RawCall,
+    },
+}
+
+/// What happens to the client, one at a time. Connections are numbered from 0 in the order of their Connect effects.
+#[derive(Debug, Drop)]
+pub enum Event {
+    /// A call, which gets the next ticket.
+    Call(Call),
+    /// The connection is open.
+    Opened(u64),
+    /// The connection could not be opened.
+    Failed(u64, IoKind),
+    /// The next bytes that came on the connection, cut anywhere.
+    Bytes(u64, Vec<u8>),
+    /// The connection was lost: nothing comes on it any more, and nothing can be written.
+    Lost(u64),
+    /// As many queued frames as this may be written to the connection.
+    Drain(u64, usize),
+    /// It is this moment now, in milliseconds since 1970.
+    Tick(u64),
+    /// The raw consumer that the call of this ticket made is asked for an item.
+    Poll(u64),
+}
+
+impl Call {
+    /// A call with the same content.
+    pub fn copy(&self) -> Result<Call, NoMemory>
+        ensures { IfOk result (λ c. asked c ≡ asked self.now) }
+    {
+        match self {
+            Call::Build => Ok(Call::Build),
+            Call::Stop => Ok(Call::Stop),
+            Call::Topics { namespace, mode } => Ok(Call::Topics {
+                namespace: namespace.clone()?,
+                mode: *mode,
+            }),
+            Call::Lookup { topic } => Ok(Call::Lookup {
+                topic: topic.clone()?,
+            }),
+            Call::Partitions { topic } => Ok(Call::Partitions {
+                topic: topic.clone()?,
+            }),
+            Call::Brokers { topic } => Ok(Call::Brokers {
+                topic: topic.clone()?,
+            }),
+            Call::Producer(builder) => Ok(Call::Producer(builder.copy()?)),
+            Call::Send { producer, message } => Ok(Call::Send {
+                producer: *producer,
+                message: message.copy()?,
+            }),
+            Call::SendAll { producer, messages } => Ok(Call::SendAll {
+                producer: *producer,
+                messages: copy_all(messages)?,
+            }),
+            Call::Flush { producer } => Ok(Call::Flush {
+                producer: *producer,
+            }),
+            Call::CheckProducer { producer } => Ok(Call::CheckProducer {
+                producer: *producer,
+            }),
+            Call::CloseProducer { producer } => Ok(Call::CloseProducer {
+                producer: *producer,
+            }),
+            Call::Raw { link, call } => Ok(Call::Raw {
+                link: *link,
+                call: call.copy()?,
+            }),
+        }
+    }
+}
+
+fn copy_all(messages: &Vec<Message>) -> Result<Vec<Message>, NoMemory>
+    ensures { IfOk result (λ ms. map message_content ms.items ≡ map message_content messages.now.items) }
+{
+    let mut copies = Vec::with_capacity(*messages.allocator(), messages.len())?;
+    for message in messages {
+        copies.push(message.copy()?)?;
+    }
+    Ok(copies)
+}
+
+impl Event {
+    /// An event with the same content.
+    pub fn copy(&self) -> Result<Event, NoMemory>
+        ensures { IfOk result (λ e. heard e ≡ heard self.now) }
+    {
+        match self {
+            Event::Call(call) => Ok(Event::Call(call.copy()?)),
+            Event::Opened(link) => Ok(Event::Opened(*link)),
+            Event::Failed(link, kind) => Ok(Event::Failed(*link, *kind)),
+            Event::Bytes(link, piece) => Ok(Event::Bytes(*link, piece.clone()?)),
+            Event::Lost(link) => Ok(Event::Lost(*link)),
+            Event::Drain(link, most) => Ok(Event::Drain(*link, *most)),
+            Event::Tick(now) => Ok(Event::Tick(*now)),
+            Event::Poll(ticket) => Ok(Event::Poll(*ticket)),
+        }
+    }
+}

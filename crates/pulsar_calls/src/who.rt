@@ -1,0 +1,55 @@
+//! The order of those that have plans.
+
+ghost use Rattle.std.specs.Prelude.{◌≡◌};
+ghost use Rattle.pulsar_calls.specs.Who.{in_turn, is_before, is_same, rank, turn_of};
+
+use crate::act::Who;
+
+/// Their kind, and their number.
+pub fn rank(who: Who) -> (u64, u64)
+    ensures { result ≡ rank who }
+{
+    match who {
+        Who::Call(ticket) => (0, ticket),
+        Who::Producer(number) => (1, number),
+    }
+}
+
+/// The batches of a topic producer take their turn behind all tickets: the greatest is never drawn.
+const BEHIND_ALL: u64 = u64::MAX;
+
+/// By what they take their turn at a topic producer.
+pub fn turn_of(who: Who) -> u64
+    ensures { result ≡ turn_of who }
+{
+    match who {
+        Who::Call(ticket) => ticket,
+        Who::Producer(_) => BEHIND_ALL,
+    }
+}
+
+/// Who has this turn at the topic producer of a number.
+pub fn in_turn(number: u64, turn: u64) -> Who
+    ensures { result ≡ in_turn number turn }
+{
+    if turn == BEHIND_ALL {
+        Who::Producer(number)
+    } else {
+        Who::Call(turn)
+    }
+}
+
+pub fn is_same(a: Who, b: Who) -> bool
+    ensures { result ≡ is_same a b }
+{
+    let (x, y) = (rank(a), rank(b));
+    x.0 == y.0 && x.1 == y.1
+}
+
+/// One is served before the other.
+pub fn is_before(a: Who, b: Who) -> bool
+    ensures { result ≡ is_before (rank a) (rank b) }
+{
+    let (x, y) = (rank(a), rank(b));
+    if x.0 == y.0 { x.1 < y.1 } else { x.0 < y.0 }
+}

@@ -1,5 +1,0 @@
-use Rattle.pulsar_client.proofs.BatchRun.{batches_one_by_one_lem}
-use Rattle.pulsar_client.proofs.batch_laws.batches_one_by_one.Goals as goal
-
-pub returns : goal.returns
-returns c = λ o log n m run. batches_one_by_one_lem o log n m run

@@ -1,5 +1,0 @@
-use Rattle.pulsar_client.proofs.Flushing.{flushes_wait_lem}
-use Rattle.pulsar_client.proofs.batch_laws.flushes_wait.Goals as goal
-
-pub returns : goal.returns
-returns c = λ o log n t ns items run way i. flushes_wait_lem o log n t ns items run way i

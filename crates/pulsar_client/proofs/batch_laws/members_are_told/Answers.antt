@@ -1,5 +1,0 @@
-use Rattle.pulsar_client.proofs.BatchTold.{members_are_told_lem}
-use Rattle.pulsar_client.proofs.batch_laws.members_are_told.Goals as goal
-
-pub returns : goal.returns
-returns c = λ o log n ns run. members_are_told_lem o log n ns run

@@ -1,5 +1,0 @@
-use Rattle.pulsar_client.proofs.Stores.{stored_at_once_lem}
-use Rattle.pulsar_client.proofs.batch_laws.stored_at_once.Goals as goal
-
-pub returns : goal.returns
-returns c = λ o log t n x run. stored_at_once_lem o log t n x run

@@ -1,5 +1,0 @@
-use Rattle.pulsar_client.proofs.Settled.{stored_ends_lem}
-use Rattle.pulsar_client.proofs.batch_laws.stored_ends_by_its_batch.Goals as goal
-
-pub returns : goal.returns
-returns c = λ o log t n share x v run s. stored_ends_lem o log t n share x v run s

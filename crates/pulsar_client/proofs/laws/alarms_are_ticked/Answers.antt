@@ -1,5 +1,0 @@
-use Rattle.pulsar_client.proofs.Deadlines.{alarms_are_ticked_lem}
-use Rattle.pulsar_client.proofs.laws.alarms_are_ticked.Goals as goal
-
-pub returns : goal.returns
-returns c = λ o log a run. alarms_are_ticked_lem o log a run

@@ -1,5 +1,0 @@
-use Rattle.pulsar_client.proofs.Attempts.{attempts_follow_lem}
-use Rattle.pulsar_client.proofs.laws.attempts_follow.Goals as goal
-
-pub returns : goal.returns
-returns c = λ o log p starter n run. attempts_follow_lem o log p starter n run

@@ -1,5 +1,0 @@
-use Rattle.pulsar_client.proofs.Built.{built_is_lem}
-use Rattle.pulsar_client.proofs.laws.built_is.Goals as goal
-
-pub returns : goal.returns
-returns c = λ o log. built_is_lem o log

@@ -1,5 +1,0 @@
-use Rattle.pulsar_client.proofs.Made.{calls_are_made_lem}
-use Rattle.pulsar_client.proofs.laws.calls_are_made.Goals as goal
-
-pub returns : goal.returns
-returns c = λ o log t p run. calls_are_made_lem o log t p run

@@ -1,5 +1,0 @@
-use Rattle.pulsar_client.proofs.Instances.{causes_in_order_lem}
-use Rattle.pulsar_client.proofs.laws.causes_in_order.Goals as goal
-
-pub returns : goal.returns
-returns c = λ o log. causes_in_order_lem o log

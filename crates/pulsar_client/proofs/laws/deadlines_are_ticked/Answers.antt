@@ -1,5 +1,0 @@
-use Rattle.pulsar_client.proofs.Deadlines.{deadlines_are_ticked_lem}
-use Rattle.pulsar_client.proofs.laws.deadlines_are_ticked.Goals as goal
-
-pub returns : goal.returns
-returns c = λ o log l queued r. deadlines_are_ticked_lem o log l queued r

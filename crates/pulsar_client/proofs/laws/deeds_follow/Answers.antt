@@ -1,5 +1,0 @@
-use Rattle.pulsar_client.proofs.Led.{deeds_follow_lem}
-use Rattle.pulsar_client.proofs.laws.deeds_follow.Goals as goal
-
-pub returns : goal.returns
-returns c = λ o log w d run. deeds_follow_lem o log w d run

@@ -1,5 +1,0 @@
-use Rattle.pulsar_client.proofs.Instances.{determined_lem}
-use Rattle.pulsar_client.proofs.laws.determined.Goals as goal
-
-pub returns : goal.returns
-returns c = λ o h h' p q e. determined_lem o h h' p q e

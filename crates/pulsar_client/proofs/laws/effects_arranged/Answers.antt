@@ -1,5 +1,0 @@
-use Rattle.pulsar_client.proofs.Instances.{effects_arranged_lem}
-use Rattle.pulsar_client.proofs.laws.effects_arranged.Goals as goal
-
-pub returns : goal.returns
-returns c = λ o log. effects_arranged_lem o log

@@ -1,5 +1,0 @@
-use Rattle.pulsar_client.proofs.Once.{ends_once_lem}
-use Rattle.pulsar_client.proofs.laws.ends_once.Goals as goal
-
-pub returns : goal.returns
-returns c = λ o log t run. ends_once_lem o log t run

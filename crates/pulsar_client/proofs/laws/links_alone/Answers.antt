@@ -1,5 +1,0 @@
-use Rattle.pulsar_client.proofs.Alone.{links_alone_lem}
-use Rattle.pulsar_client.proofs.laws.links_alone.Goals as goal
-
-pub returns : goal.returns
-returns c = λ o log l seat h. links_alone_lem o log l seat h

@@ -1,6 +1,0 @@
-use Rattle.pulsar_client.proofs.Attempts.{attempts_follow_lem}
-use Rattle.pulsar_client.proofs.OneEach.{one_link_each_lem}
-use Rattle.pulsar_client.proofs.laws.one_link_each.Goals as goal
-
-pub returns : goal.returns
-returns c = λ o log l seat run live. one_link_each_lem attempts_follow_lem o log l seat run live

@@ -1,5 +1,0 @@
-use Rattle.pulsar_client.proofs.Caused.{outcomes_are_caused_lem}
-use Rattle.pulsar_client.proofs.laws.outcomes_are_caused.Goals as goal
-
-pub returns : goal.returns
-returns c = λ o log who u r. outcomes_are_caused_lem o log who u r

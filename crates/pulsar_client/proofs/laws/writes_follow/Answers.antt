@@ -1,5 +1,0 @@
-use Rattle.pulsar_client.proofs.Written.{writes_follow_lem}
-use Rattle.pulsar_client.proofs.laws.writes_follow.Goals as goal
-
-pub returns : goal.returns
-returns c = λ o h l good. writes_follow_lem o h l good

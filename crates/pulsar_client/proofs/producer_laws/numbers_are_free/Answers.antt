@@ -1,5 +1,0 @@
-use Rattle.pulsar_client.proofs.Free.{numbers_are_free_lem}
-use Rattle.pulsar_client.proofs.producer_laws.numbers_are_free.Goals as goal
-
-pub returns : goal.returns
-returns c = λ o log n lt run h. numbers_are_free_lem o log n lt run h

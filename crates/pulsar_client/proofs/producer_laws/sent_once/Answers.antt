@@ -1,5 +1,0 @@
-use Rattle.pulsar_client.proofs.OnceSent.{sent_once_lem}
-use Rattle.pulsar_client.proofs.producer_laws.sent_once.Goals as goal
-
-pub returns : goal.returns
-returns c = λ o log t run. sent_once_lem o log t run

@@ -1,5 +1,0 @@
-use Rattle.pulsar_client.proofs.Slow.{slow_down_lem}
-use Rattle.pulsar_client.proofs.producer_laws.slow_down_leaves_all.Goals as goal
-
-pub returns : goal.returns
-returns c = λ o log who l request h. slow_down_lem o log who l request h

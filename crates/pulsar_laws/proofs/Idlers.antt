@@ -1,0 +1,695 @@
+-- One that does nothing but to store and to tell waits for no link, request or moment. One that does nothing at all is told only what parts of
+-- calls say.
+use Rattle.std.proofs.Common.{◌≡◌, ◌⊎◌, inl, inr, ◌∙◌, sym, ap, subst, ℕ, ◌+◌, ◌≤◌, ◌==◌, arith, List, [], ◌∷◌, ◌++◌, refl, Bool, true, false, cond, not, Option, Some, None}
+use Rattle.std.proofs.lemmas.Bool.{cases_Bool}
+use Rattle.std.specs.BTreeMap.{insert_entry}
+use Rattle.std.specs.Map.{lookup}
+use Rattle.std.specs.Option.{option_map}
+use Rattle.std.specs.Ordering.{match_ordering}
+use Rattle.std.specs.declared.cmp.Ordering.{Ordering}
+use Rattle.std.specs.declared.cmp.Ordering.TheVariants.{Less, Equal, Greater}
+use Rattle.pulsar_run.specs.Laws.{In, InThisStep}
+use Rattle.pulsar_session.specs.Failures.{Disconnected, Exhausted, Failure, Fault}
+use Rattle.pulsar_messages.specs.Words.{Words}
+use Rattle.pulsar_session.specs.Link.{is_spent}
+use Rattle.pulsar_plans.specs.Address.{Place}
+use Rattle.pulsar_producer.specs.Topic as topic
+use Rattle.pulsar_producer.specs.Topic.{Act as TopicAct}
+use Rattle.pulsar_producer.specs.declared.deed.News.{News}
+use Rattle.pulsar_producer.specs.declared.deed.News.TheVariants as news
+use Rattle.pulsar_requests.specs.Soonest.{has_come}
+use Rattle.pulsar_calls.specs.declared.act.Act.{Act}
+use Rattle.pulsar_calls.specs.declared.act.Act.TheVariants.{Comes, Starts, Told, Does, Answers, Dials}
+use Rattle.pulsar_calls.specs.declared.act.Action.{Action}
+use Rattle.pulsar_calls.specs.declared.act.Action.TheVariants.{Get, Ask, Wait, TakeTurn, Draw, Recall, Number, Find, Shut, Store, Flush, Tell, TellAll, Rest, StopAll}
+use Rattle.pulsar_calls.specs.declared.act.Alarm.{Alarm}
+use Rattle.pulsar_calls.specs.declared.act.Alarm.TheVariants.{Retry, Wake, Batch, KeepAlive, CheckIdle}
+use Rattle.pulsar_calls.specs.declared.act.LinkAct.{LinkAct}
+use Rattle.pulsar_calls.specs.declared.act.LinkAct.TheVariants.{Opens, Reads, Drains, Pings, Ends}
+use Rattle.pulsar_calls.specs.declared.act.Outcome.{Outcome}
+use Rattle.pulsar_calls.specs.declared.act.Outcome.TheVariants as outcome
+use Rattle.pulsar_calls.specs.declared.act.Part.TheVariants.{ToLink, Rings}
+use Rattle.pulsar_calls.specs.declared.act.Procedure.{Procedure}
+use Rattle.pulsar_calls.specs.declared.act.Procedure.TheVariants as procedure
+use Rattle.pulsar_calls.specs.declared.act.Verdict.{Verdict}
+use Rattle.pulsar_calls.specs.declared.act.Who.{Who}
+use Rattle.pulsar_calls.specs.declared.act.Who.TheVariants.{Call, Producer}
+use Rattle.pulsar_client.specs.declared.addresses.Pause.{Pause}
+use Rattle.pulsar_client.specs.declared.addresses.Series.{Series}
+use Rattle.pulsar_client.specs.declared.addresses.Series.TheVariants.{Nobody, Runs, Pauses, Serves}
+use Rattle.pulsar_calls.specs.declared.plans.plan.Plan.{Plan}
+use Rattle.pulsar_calls.specs.declared.plans.plan.Plan.TheVariants.{Gathering}
+use Rattle.pulsar_calls.specs.declared.plans.plan.Turn.{Turn}
+use Rattle.pulsar_calls.specs.declared.plans.plan.Turn.TheVariants.{Stays, Gives}
+use Rattle.pulsar_client.specs.declared.producers.Topic.{Topic}
+use Rattle.pulsar_client.specs.Alarms.{alarm_cmp, clear, is_same_alarm, moment_of, rings, set}
+use Rattle.pulsar_calls.specs.Content.{Heard, Bytes}
+use Rattle.pulsar_laws.specs.Laws.{Acts, AttemptEnds, BecomesReady, Cause, DrawsNone, Finds, GetsTurn, GrantsSo, IsDropped, IsReady, IsReplied, IsToldBy, IsUnknown, IsWoken, LineEnds, MovesUp, RequestEnds, counted, start_of, started}
+use Rattle.pulsar_client.specs.Links.{Change, Remains, Becomes, IsOver}
+use Rattle.pulsar_calls.specs.Plan.{begins, gathers, told}
+use Rattle.pulsar_client.specs.Producers.{is_bare, numbers_at, stored_at, timeout_at, topic_after, turn_passed}
+use Rattle.pulsar_client.specs.Rules.{notice}
+use Rattle.pulsar_client.specs.Run.{Entry, Begins, Then, IsRun, view}
+use Rattle.pulsar_client.specs.View.{Addresses, Base, Chosen, Options, Seat, Turned, View, after, alarms_after, alarms_on, alarms_on_topic, alarms_over, alarms_rung, alarms_turned, alarms_waiting, asker_at, base_after, base_on, base_turned, begun_live, clear_all, got_at, is_live, link_got, live_after, live_begun, nobody, seat_asked, seat_fed, seat_got, stays, stays_some, told_some, took_end, took_some, turned, waits_for, waits_from, waits_on}
+use Rattle.pulsar_calls.specs.Who.{behind_all, in_turn, is_same, turn_of}
+use Rattle.pulsar_client.proofs.Acts.{Each, begun_same}
+use Rattle.pulsar_laws.proofs.Caused.{outcomes_are_caused_lem}
+use Rattle.pulsar_laws.proofs.Fitting.{is_said}
+use Rattle.pulsar_laws.proofs.Follow.{same_is}
+use Rattle.pulsar_laws.proofs.Gathered.{GatherTold}
+use Rattle.pulsar_laws.proofs.Granted.{BeginsSo, IsLedSo, does_from, tell_said}
+use Rattle.pulsar_laws.proofs.Once.{ends_once_lem}
+use Rattle.pulsar_laws.proofs.Natures.{Goes, StaysSo, begins_goes, is_gathering, told_goes}
+use Rattle.pulsar_client.proofs.Ringing.{is_this}
+use Rattle.pulsar_client.proofs.Sources.{in_append, in_each, step_some}
+use Rattle.pulsar_laws.proofs.Spots.{same_self}
+use Rattle.pulsar_laws.proofs.Begun.{has_begun}
+use Rattle.pulsar_laws.proofs.Users.{DoesSo, LogSo, NoticeSo, stored_so, tells_so, waits_so}
+
+none_some : {A : Type 0} {x : A} → None ≡ Some x → ⊥
+none_some {A} {x} h = cc
+
+-- A CALL THAT GATHERS DOES NOTHING
+
+-- it rests, whenever it does something
+abbrev MuteBy : ℕ → Act → Type 0
+MuteBy t (Does who a) = is_same (Call t) who ≡ true → a ≡ Rest
+MuteBy t _ = Unit {0}
+
+abbrev Mute : ℕ → List Entry → Type 0
+Mute t [] = Unit {0}
+Mute t (Begins e ∷ log) = Mute t log
+Mute t (Then a ∷ log) = MuteBy t a × Mute t log
+
+mute_older : (t : ℕ) (e : Entry) (older : List Entry) → Mute t (e ∷ older) → Mute t older
+mute_older t (Begins e) older k = k
+mute_older t (Then a) older k = k.1
+
+-- whatever starts by this ticket is this
+abbrev pub StartsBy : ℕ → Procedure → Act → Type 0
+StartsBy t p (Starts who q) = is_same (Call t) who ≡ true → q ≡ p
+StartsBy t p _ = Unit {0}
+
+abbrev pub OnlyStarts : ℕ → Procedure → List Entry → Type 0
+OnlyStarts t p [] = Unit {0}
+OnlyStarts t p (Begins e ∷ log) = OnlyStarts t p log
+OnlyStarts t p (Then a ∷ log) = StartsBy t p a × OnlyStarts t p log
+
+not_same : {X : Type 0} (t : ℕ) (who : Who) → is_same (Call t) who ≡ false → is_same (Call t) who ≡ true → X
+not_same t who e f = let g : false ≡ true = sym e ∙ f in absurd cc
+
+no_start : (t : ℕ) (p : Procedure) (log : List Entry) → counted (start_of t) log ≡ 0 → OnlyStarts t p log
+no_start t p [] h = tt
+no_start t p (Begins e ∷ log) h = no_start t p log h
+no_start t p (Then (Starts who q) ∷ log) h = elim (cases_Bool (is_same (Call t) who)) [
+  | inl e ↦ (let n : ℕ = counted (start_of t) log in let f : n + 1 ≡ 0 = rw e at h in absurd (let g : ⊥ = omega (arith, f) in g))
+  | inr e ↦ (let n : ℕ = counted (start_of t) log in let f : n + 0 ≡ 0 = rw e at h in (not_same t who e, no_start t p log (omega (arith, f))))
+]
+no_start t p (Then a ∷ log) h = (tt, no_start t p log (let n : ℕ = counted (start_of t) log in let f : n + 0 ≡ 0 = h in omega (arith, f)))
+
+pub only_start : (t : ℕ) (p : Procedure) (log : List Entry) → started (Call t) log ≡ Some p → counted (start_of t) log ≤ 1 → OnlyStarts t p log
+only_start t p [] h k = tt
+only_start t p (Begins e ∷ log) h k = only_start t p log h k
+only_start t p (Then (Starts who q) ∷ log) h k = elim (cases_Bool (is_same (Call t) who)) [
+  | inl e ↦
+      (let f : Some q ≡ Some p = rw e at h in
+      let is : q ≡ p = cc in
+      let n : ℕ = counted (start_of t) log in
+      let g : n + 1 ≤ 1 = rw e at k in
+      ((λ s. is), no_start t p log (omega (arith, g))))
+  | inr e ↦
+      (let n : ℕ = counted (start_of t) log in
+      let g : n + 0 ≤ 1 = rw e at k in
+      (not_same t who e, only_start t p log (rw e at h) (omega (arith, g))))
+]
+only_start t p (Then a ∷ log) h k = (tt, only_start t p log h (let n : ℕ = counted (start_of t) log in let f : n + 0 ≤ 1 = k in omega (arith, f)))
+
+abbrev GathersAt : Option Plan → Type 0
+GathersAt None = Unit {0}
+GathersAt (Some p) = is_gathering p ≡ true
+
+stays_gathers : (x : Turn Plan Verdict) → StaysSo (Goes is_gathering) x → GathersAt (stays x)
+stays_gathers (Stays p a) k = k.0
+stays_gathers (Gives verdict) k = tt
+
+told_gathers : (p : Plan) (u : Outcome) → is_gathering p ≡ true → GathersAt (stays (told p u))
+told_gathers (Gathering first count left failures) u h =
+    stays_gathers (told (Gathering first count left failures) u) (told_goes (Gathering first count left failures) u)
+told_gathers _ u h = absurd cc
+
+module _ (o : Options) (t first count : ℕ) where
+  abbrev it : Procedure
+  it = procedure.Gather first count
+
+  then_gathers : (log : List Entry) (a : Act) → StartsBy t it a → GathersAt ((view o log).stand (Call t)) → GathersAt ((view o (Then a ∷ log)).stand (Call t))
+  then_gathers log (Starts who q) only k = elim (cases_Bool (is_same (Call t) who)) [
+    | inl e ↦ rw e (subst (λ x. GathersAt (stays (begins x))) (sym (only e)) (stays_gathers (begins it) (begins_goes it)))
+    | inr e ↦ rw e k
+  ]
+  then_gathers log (Told n) only k = elim (cases_Bool (is_same (Call t) n.who)) [
+    | inl e ↦ rw e (row ((view o log).stand (Call t)) k)
+    | inr e ↦ rw e k
+  ]
+    where
+      row : (r : Option Plan) → GathersAt r → GathersAt (stays_some (told_some r n.outcome))
+      row None h = tt
+      row (Some p) h = told_gathers p n.outcome h
+  then_gathers log (Comes x) only k = k
+  then_gathers log a only k = k
+
+  gathers_at : (log : List Entry) → OnlyStarts t it log → GathersAt ((view o log).stand (Call t))
+  gathers_at [] k = tt
+  gathers_at (Begins e ∷ log) k = subst GathersAt (sym (begun_same (λ v. v.stand (Call t)) e (view o log) refl)) (gathers_at log k)
+  gathers_at (Then a ∷ log) k = then_gathers log a k.0 (gathers_at log k.1)
+
+  gathers_rest : (left : ℕ) (fs : List _) (p : Plan) (a : Action) → gathers first count left fs ≡ Stays p a → a ≡ Rest
+  gathers_rest left fs p a h = elim (cases_Bool (left == 0)) [
+    | inl e ↦ (let f = rw e at h in absurd cc)
+    | inr e ↦ (let f : Stays (Gathering first count left fs) Rest ≡ Stays p a = rw e at h in cc)
+  ]
+
+told_rest : (o : Options) (q : Plan) (u : Outcome) (p : Plan) (a : Action) → is_gathering q ≡ true → told q u ≡ Stays p a → a ≡ Rest
+told_rest o (Gathering first count left fs) (outcome.Parted v f) p a g h = gathers_rest o 0 first count _ _ p a h
+told_rest o (Gathering first count left fs) _ p a g h = absurd cc
+told_rest o _ u p a g h = absurd cc
+
+module _ (o : Options) (t first count : ℕ) where
+  does_rest : (log : List Entry) (a : Action) → IsRun o (Then (Does (Call t) a) ∷ log) → OnlyStarts t (it o t first count) log → a ≡ Rest
+  does_rest log a run k = elim (does_from o log (Call t) a run) [ inl b ↦ begun b | inr l ↦ led l ]
+    where
+      begun : BeginsSo o log (Call t) a → a ≡ Rest
+      begun b =
+          let only : OnlyStarts t (procedure.Gather first count) (Then (Starts (Call t) b.procedure) ∷ b.older) =
+          subst (OnlyStarts t (procedure.Gather first count)) b.is_there k in
+          let is : b.procedure ≡ procedure.Gather first count = only.0 (same_self (Call t)) in
+          gathers_rest o t first count count [] b.plan a (sym (ap begins is) ∙ b.leads)
+
+      led : IsLedSo o log (Call t) a → a ≡ Rest
+      led l =
+          let only : OnlyStarts t (procedure.Gather first count) (Then (Told (notice (Call t) l.outcome)) ∷ l.older) =
+          subst (OnlyStarts t (procedure.Gather first count)) l.is_there k in
+          let g : is_gathering l.before ≡ true = subst GathersAt l.stood (gathers_at o t first count l.older only.1) in
+          told_rest o l.before l.outcome l.plan a g l.leads
+
+  mute_by : (log : List Entry) (a : Act) → IsRun o (Then a ∷ log) → OnlyStarts t (procedure.Gather first count) log → MuteBy t a
+  mute_by log (Does who a) run k = λ same.
+      does_rest log a (subst (λ w. IsRun o (Then (Does w a) ∷ log)) (sym (same_is (Call t) who same)) run) k
+  mute_by log _ run k = tt
+
+  mute_run : (log : List Entry) → IsRun o log → OnlyStarts t (procedure.Gather first count) log → Mute t log
+  mute_run [] run k = tt
+  mute_run (Begins e ∷ log) run k = mute_run log run.0 k
+  mute_run (Then a ∷ log) run k = (mute_by log a run k.1, mute_run log run.0 k.1)
+
+-- ONE THAT IS IDLE
+
+-- what nobody answers
+abbrev pub is_idle : Action → Bool
+is_idle Rest = true
+is_idle (Store n x) = true
+is_idle (Tell n) = true
+is_idle _ = false
+
+-- it does nothing else
+abbrev pub IdleBy : ℕ → Act → Type 0
+IdleBy t (Does who a) = is_same (Call t) who ≡ true → is_idle a ≡ true
+IdleBy t _ = Unit {0}
+
+abbrev pub Idle : ℕ → List Entry → Type 0
+Idle t [] = Unit {0}
+Idle t (Begins e ∷ log) = Idle t log
+Idle t (Then a ∷ log) = IdleBy t a × Idle t log
+
+pub idle_older : (t : ℕ) (e : Entry) (older : List Entry) → Idle t (e ∷ older) → Idle t older
+idle_older t (Begins e) older k = k
+idle_older t (Then a) older k = k.1
+
+idle_by : (t : ℕ) (a : Act) → MuteBy t a → IdleBy t a
+idle_by t (Does who a) k = λ same. ap is_idle (k same)
+idle_by t _ k = tt
+
+mute_idle : (t : ℕ) (log : List Entry) → Mute t log → Idle t log
+mute_idle t [] k = tt
+mute_idle t (Begins e ∷ log) k = mute_idle t log k
+mute_idle t (Then a ∷ log) k = (idle_by t a k.0, mute_idle t log k.1)
+
+-- WHERE IT DOES NOT WAIT
+
+abbrev NotIn : ℕ → List Who → Type 0
+NotIn t ws = In (Call t) ws → ⊥
+
+abbrev AskerFree : ℕ → Option Seat → Type 0
+AskerFree t None = Unit {0}
+AskerFree t (Some seat) = (place : ℕ) → seat.askers place ≡ Some (Call t) → ⊥
+
+abbrev NotWake : ℕ → Alarm × ℕ → Type 0
+NotWake t e = is_same_alarm (Wake (Call t)) e.0 ≡ false
+
+record Absent (t : ℕ) (v : View) : Type 0 where
+  base : (key : List ℕ) → NotIn t (v.addresses.base key).waiting
+  asker : (l : ℕ) → AskerFree t (v.links.live l)
+  alarm : Each (NotWake t) v.alarms
+
+other_does : (t : ℕ) (who : Who) (a : Action) → MuteBy t (Does who a) → (a ≡ Rest → ⊥) → Call t ≡ who → ⊥
+other_does t who a mute not same = not (mute (subst (λ w. is_same (Call t) w ≡ true) same (same_self (Call t))))
+
+other_idle : (t : ℕ) (who : Who) (a : Action) → IdleBy t (Does who a) → is_idle a ≡ false → Call t ≡ who → ⊥
+other_idle t who a idle not same =
+    let f : false ≡ true = sym not ∙ idle (subst (λ w. is_same (Call t) w ≡ true) same (same_self (Call t))) in
+    absurd cc
+
+-- addresses
+turned_absent : (t l : ℕ) (c : Change) (pause : Option Pause) (b : Base) → NotIn t b.waiting → NotIn t (base_turned l c pause b).waiting
+turned_absent t l Remains pause b h = h
+turned_absent t l Becomes pause b h = λ i. i
+turned_absent t l IsOver None b h = λ i. i
+turned_absent t l IsOver (Some p) b h = h
+
+either_absent : (t : ℕ) (c : Bool) (a b : Base) → NotIn t a.waiting → NotIn t b.waiting → NotIn t (cond c a b).waiting
+either_absent t true a b h k = h
+either_absent t false a b h k = k
+
+on_absent : (t : ℕ) (r : Option Turned) (key : List ℕ) (b : Base) → NotIn t b.waiting → NotIn t (base_on r key b).waiting
+on_absent t None key b h = h
+on_absent t (Some x) key b h = either_absent t _ (base_turned x.link x.change x.pause b) b (turned_absent t x.link x.change x.pause b h) h
+
+end_absent : (t : ℕ) (who : Who) (ws : List Who) → (Call t ≡ who → ⊥) → NotIn t ws → NotIn t (ws ++ who ∷ [])
+end_absent t who ws other h i = elim (in_append (Call t) ws (who ∷ []) i) [ inl j ↦ h j | inr j ↦ last j ]
+  where
+    last : In (Call t) (who ∷ []) → ⊥
+    last (inl e) = other e
+    last (inr j) = j
+
+waits_absent : (t : ℕ) (s : Series) (who : Who) (ws : List Who) → (Call t ≡ who → ⊥) → NotIn t ws → NotIn t (waits_for s who ws)
+waits_absent t Nobody who ws other h = end_absent t who ws other h
+waits_absent t (Runs starter retries l) who ws other h = end_absent t who ws other h
+waits_absent t (Pauses l) who ws other h = end_absent t who ws other h
+waits_absent t (Serves l) who ws other h = h
+
+base_absent : (t : ℕ) (v : View) (a : Act) (key : List ℕ) (b : Base) → IdleBy t a → NotIn t b.waiting → NotIn t (base_after v a key b).waiting
+base_absent t v (Comes (ToLink l x)) key b idle h = on_absent t (turned v (Comes (ToLink l x))) key b h
+base_absent t v (Does who (Get p)) key b idle h =
+    either_absent t _ (record { series = b.series; waiting = waits_for b.series who b.waiting }) b
+    (waits_absent t b.series who b.waiting (other_idle t who (Get p) idle refl) h) h
+base_absent t v (Does who StopAll) key b idle h = either_absent t (waits_on v.addresses v.alarms key) nobody b (λ i. i) h
+base_absent t v (Dials p starter retries) key b idle h = either_absent t _ _ b h h
+base_absent t v _ key b idle h = h
+
+-- links
+either_free : (t : ℕ) (c : Bool) (a b : Option Seat) → AskerFree t a → AskerFree t b → AskerFree t (cond c a b)
+either_free t true a b h k = h
+either_free t false a b h k = k
+
+left_free : (c : Bool) (r : Option Who) (w : Who) → (r ≡ Some w → ⊥) → cond c None r ≡ Some w → ⊥
+left_free true r w h e = none_some e
+left_free false r w h e = h e
+
+end_free : (t : ℕ) (cause : Option Fault) (seat : Seat) → AskerFree t (Some seat) → AskerFree t (took_end cause seat)
+end_free t None seat h = h
+end_free t (Some cause) seat h = tt
+
+took_free : (t : ℕ) (x : LinkAct) (now : ℕ) (row : Option Seat) → AskerFree t row → AskerFree t (took_some x now row)
+took_free t x now None h = tt
+took_free t Opens now (Some seat) h = h
+took_free t Reads now (Some seat) h = λ place e. left_free _ (seat.askers place) (Call t) (h place) e
+took_free t (Drains most) now (Some seat) h = h
+took_free t Pings now (Some seat) h = h
+took_free t (Ends end) now (Some seat) h = end_free t _ seat h
+
+got_free : (t : ℕ) (k : Option ℕ) (now l : ℕ) (row : Option Seat) → AskerFree t row → AskerFree t (got_at k now l row)
+got_free t None now l row h = h
+got_free t (Some k) now l row h = either_free t (l == k) (option_map (seat_got now) row) row (by row h) h
+  where
+    by : (r : Option Seat) → AskerFree t r → AskerFree t (option_map (seat_got now) r)
+    by None h = tt
+    by (Some seat) h = h
+
+at_free : (t : ℕ) (is : Bool) (who : Who) (place : Option ℕ) (askers : ℕ → Option Who) → (Call t ≡ who → ⊥) → ((p : ℕ) → askers p ≡ Some (Call t) → ⊥) →
+    (p : ℕ) → asker_at is who place askers p ≡ Some (Call t) → ⊥
+at_free t is who None askers other h p e = h p e
+at_free t false who (Some place) askers other h p e = h p e
+at_free t true who (Some place) askers other h p e = elim (cases_Bool (p == place)) [
+  | inl q ↦ (let f : Some who ≡ Some (Call t) = rw q at e in other (let g : Call t ≡ who = cc in g))
+  | inr q ↦ h p (rw q at e)
+]
+
+live_absent : (t : ℕ) (o : Chosen) (known : Addresses) (now n : ℕ) (a : Act) (l : ℕ) (row : Option Seat) → IdleBy t a → AskerFree t row →
+    AskerFree t (live_after o known now n a l row)
+live_absent t o known now n (Comes (ToLink k x)) l row idle h = either_free t (l == k) (took_some x now row) row (took_free t x now row h) h
+live_absent t o known now n (Does who (Get p)) l row idle h = got_free t (link_got known (Does who (Get p))) now l row h
+live_absent t o known now n (Does who (Ask k request)) l row idle h = either_free t (l == k) (option_map (seat_asked who now request) row) row (by row h) h
+  where
+    by : (r : Option Seat) → AskerFree t r → AskerFree t (option_map (seat_asked who now request) r)
+    by None h = tt
+    by (Some seat) h = at_free t _ who _ seat.askers (other_idle t who (Ask k request) idle refl) h
+live_absent t o known now n (Dials p starter retries) l row idle h = either_free t (l == n) _ row (λ place e. none_some e) h
+live_absent t o known now n _ l row idle h = h
+
+begun_free : (t : ℕ) (e : Heard) (l : ℕ) (row : Option Seat) → AskerFree t row → AskerFree t (live_begun e l row)
+begun_free t (Bytes k piece) l row h = either_free t (l == k) (option_map (seat_fed piece) row) row (by row h) h
+  where
+    by : (r : Option Seat) → AskerFree t r → AskerFree t (option_map (seat_fed piece) r)
+    by None h = tt
+    by (Some seat) h = h
+begun_free t _ l row h = h
+
+-- alarms
+set_absent : (t : ℕ) (a : Alarm) (moment : ℕ) (es : List (Alarm × ℕ)) → is_same_alarm (Wake (Call t)) a ≡ false → Each (NotWake t) es →
+    Each (NotWake t) (set a moment es)
+set_absent t a moment [] n k = (n, tt)
+set_absent t a moment (e ∷ es) n k = by (alarm_cmp a e.0) (set_absent t a moment es n k.1)
+  where
+    by : (c : Ordering) → Each (NotWake t) (insert_entry alarm_cmp es a moment) →
+        Each (NotWake t) (match_ordering c ((a, moment) ∷ e ∷ es) ((e.0, moment) ∷ es) (e ∷ insert_entry alarm_cmp es a moment))
+    by Less more = (n, k)
+    by Equal more = (k.0, k.1)
+    by Greater more = (k.0, more)
+
+clear_absent : (t : ℕ) (a : Alarm) (es : List (Alarm × ℕ)) → Each (NotWake t) es → Each (NotWake t) (clear a es)
+clear_absent t a [] k = tt
+clear_absent t a (e ∷ es) k = elim (not (is_same_alarm a e.0)) as (λ b. Each (NotWake t) (cond b (e ∷ clear a es) (clear a es))) [
+  | true ↦ (k.0, clear_absent t a es k.1)
+  | false ↦ clear_absent t a es k.1
+]
+
+other_wake : (t : ℕ) (who : Who) → (Call t ≡ who → ⊥) → is_same_alarm (Wake (Call t)) (Wake who) ≡ false
+other_wake t who other = elim (cases_Bool (is_same_alarm (Wake (Call t)) (Wake who))) [
+  | inl e ↦ absurd (other (let f : Wake (Call t) ≡ Wake who = is_this (Wake (Call t)) (Wake who) e in let g : Call t ≡ who = cc in g))
+  | inr e ↦ e
+]
+
+over_absent : (t : ℕ) (o : Chosen) (now l : ℕ) (pause : Option Pause) (es : List (Alarm × ℕ)) → Each (NotWake t) es →
+    Each (NotWake t) (alarms_over o now l pause es)
+over_absent t o now l None es k = k
+over_absent t o now l (Some p) es k = set_absent t (Retry l) _ es refl k
+
+change_absent : (t : ℕ) (o : Chosen) (now l : ℕ) (c : Change) (pause : Option Pause) (es : List (Alarm × ℕ)) → Each (NotWake t) es →
+    Each (NotWake t) (alarms_turned o now l c pause es)
+change_absent t o now l Remains pause es k = k
+change_absent t o now l Becomes pause es k = set_absent t (KeepAlive l) _ es refl k
+change_absent t o now l IsOver pause es k = over_absent t o now l pause (clear (KeepAlive l) es) (clear_absent t (KeepAlive l) es k)
+
+alarms_on_absent : (t : ℕ) (o : Chosen) (now : ℕ) (r : Option Turned) (es : List (Alarm × ℕ)) → Each (NotWake t) es → Each (NotWake t) (alarms_on o now r es)
+alarms_on_absent t o now None es k = k
+alarms_on_absent t o now (Some x) es k = change_absent t o now x.link x.change x.pause es k
+
+rung_absent : (t : ℕ) (o : Chosen) (now : ℕ) (a : Alarm) (es : List (Alarm × ℕ)) → Each (NotWake t) es → Each (NotWake t) (alarms_rung o now a es)
+rung_absent t o now (Retry l) es k = clear_absent t (Retry l) es k
+rung_absent t o now (Wake who) es k = clear_absent t (Wake who) es k
+rung_absent t o now (Batch n) es k = clear_absent t (Batch n) es k
+rung_absent t o now (KeepAlive l) es k = set_absent t (KeepAlive l) _ es refl k
+rung_absent t o now CheckIdle es k = set_absent t CheckIdle _ es refl k
+
+either_alarms : (t : ℕ) (b : Bool) (xs ys : List (Alarm × ℕ)) → Each (NotWake t) xs → Each (NotWake t) ys → Each (NotWake t) (cond b xs ys)
+either_alarms t true xs ys h k = h
+either_alarms t false xs ys h k = k
+
+-- what is stored waits, or nothing is stored any longer
+from_absent : (t now : ℕ) (timeout : Option ℕ) (n : ℕ) (es : List (Alarm × ℕ)) → Each (NotWake t) es → Each (NotWake t) (waits_from now timeout n es)
+from_absent t now None n es k = k
+from_absent t now (Some delay) n es k = set_absent t (Batch n) _ es refl k
+
+waiting_absent : (t now : ℕ) (timeout : Option ℕ) (n : ℕ) (was is : Bool) (es : List (Alarm × ℕ)) → Each (NotWake t) es →
+    Each (NotWake t) (alarms_waiting now timeout n was is es)
+waiting_absent t now timeout n was true es k = clear_absent t (Batch n) es k
+waiting_absent t now timeout n true false es k = from_absent t now timeout n es k
+waiting_absent t now timeout n false false es k = k
+
+topic_absent : (t : ℕ) (v : View) (n : ℕ) (act : TopicAct) → Each (NotWake t) v.alarms → Each (NotWake t) (alarms_on_topic v n act)
+topic_absent t v n act k =
+    let row : Option Topic = v.producers.topics n in
+    waiting_absent t v.now (timeout_at v.producers row) n (is_bare row) (is_bare (option_map (topic_after act) row)) v.alarms k
+
+all_absent : (t : ℕ) (ns : List ℕ) (es : List (Alarm × ℕ)) → Each (NotWake t) es → Each (NotWake t) (clear_all ns es)
+all_absent t [] es k = k
+all_absent t (n ∷ ns) es k = all_absent t ns (clear (Batch n) es) (clear_absent t (Batch n) es k)
+
+alarms_absent : (t : ℕ) (v : View) (a : Act) → IdleBy t a → Each (NotWake t) v.alarms → Each (NotWake t) (alarms_after v a)
+alarms_absent t v (Comes (ToLink l x)) idle k = alarms_on_absent t v.chosen v.now (turned v (Comes (ToLink l x))) v.alarms k
+alarms_absent t v (Comes (Rings a)) idle k =
+    either_alarms t (rings v.now a v.alarms) (alarms_rung v.chosen v.now a v.alarms) v.alarms (rung_absent t v.chosen v.now a v.alarms k) k
+alarms_absent t v (Does who (Wait delay)) idle k =
+    set_absent t (Wake who) _ v.alarms (other_wake t who (other_idle t who (Wait delay) idle refl)) k
+alarms_absent t v (Does who (Store n x)) idle k = topic_absent t v n (topic.Stores (turn_of who) x) k
+alarms_absent t v (Does who (Flush n)) idle k = topic_absent t v n (topic.Flushes (turn_of who)) k
+alarms_absent t v (Does who (Shut u)) idle k = all_absent t (numbers_at (v.producers.built u)) v.alarms k
+alarms_absent t v (Does who StopAll) idle k = tt
+alarms_absent t v (Answers who verdict) idle k = either_alarms t _ _ v.alarms (set_absent t CheckIdle _ v.alarms refl k) k
+alarms_absent t v _ idle k = k
+
+then_absent : (t : ℕ) (v : View) (a : Act) → IdleBy t a → Absent t v → Absent t (after a v)
+then_absent t v a idle k = record {
+  base = λ key. base_absent t v a key (v.addresses.base key) idle (k.base key);
+  asker = λ l. live_absent t v.chosen v.addresses v.now v.links.started a l (v.links.live l) idle (k.asker l);
+  alarm = alarms_absent t v a idle k.alarm;
+}
+
+absent_run : (o : Options) (t : ℕ) (log : List Entry) → Idle t log → Absent t (view o log)
+absent_run o t [] idle = record { base = λ key i. i; asker = λ l. tt; alarm = tt }
+absent_run o t (Begins e ∷ log) idle =
+    let k : Absent t (view o log) = absent_run o t log idle in
+    elim (is_live (view o log) e) as (λ b. Absent t (cond b (begun_live e (view o log)) (view o log))) [
+      | true ↦ record { base = k.base; asker = λ l. begun_free t e l ((view o log).links.live l) (k.asker l); alarm = k.alarm }
+      | false ↦ k
+    ]
+absent_run o t (Then a ∷ log) idle = then_absent t (view o log) a idle.0 (absent_run o t log idle.1)
+
+-- TURNS AND BATCHES
+
+-- what it takes, stores or flushes has not its ticket
+abbrev pub Other : ℕ → ℕ → Type 0
+Other t u = t ≡ u → ⊥
+
+turn_other : (t : ℕ) (who : Who) → is_spent t ≡ false → (Call t ≡ who → ⊥) → Other t (turn_of who)
+turn_other t (Call u) unspent other e = other (ap Call e)
+turn_other t (Producer n) unspent other e = let f : false ≡ true = sym unspent ∙ ap is_spent e in absurd cc
+
+mute_does : (t : ℕ) → is_spent t ≡ false → (a : Act) → MuteBy t a → DoesSo (Other t) (Other t) a
+mute_does t unspent (Does who (TakeTurn n)) mute =
+    turn_other t who unspent (other_does t who (TakeTurn n) mute (λ e. (let no : TakeTurn n ≡ Rest = e in cc)))
+mute_does t unspent (Does who (Store n x)) mute = turn_other t who unspent (other_does t who (Store n x) mute (λ e. (let no : Store n x ≡ Rest = e in cc)))
+mute_does t unspent (Does who (Flush n)) mute = turn_other t who unspent (other_does t who (Flush n) mute (λ e. (let no : Flush n ≡ Rest = e in cc)))
+mute_does t unspent _ mute = tt
+
+-- and one that is idle takes no turn
+idle_does : (t : ℕ) → is_spent t ≡ false → (a : Act) → IdleBy t a → DoesSo (Other t) (λ u. Unit {0}) a
+idle_does t unspent (Does who (TakeTurn n)) idle = turn_other t who unspent (other_idle t who (TakeTurn n) idle refl)
+idle_does t unspent _ idle = tt
+
+pub idle_log : (t : ℕ) → is_spent t ≡ false → (log : List Entry) → Idle t log → LogSo (Other t) (λ u. Unit {0}) log
+idle_log t unspent [] idle = tt
+idle_log t unspent (Begins e ∷ log) idle = idle_log t unspent log idle
+idle_log t unspent (Then a ∷ log) idle = (idle_does t unspent a idle.0, idle_log t unspent log idle.1)
+
+mute_log : (t : ℕ) → is_spent t ≡ false → (log : List Entry) → Mute t log → LogSo (Other t) (Other t) log
+mute_log t unspent [] mute = tt
+mute_log t unspent (Begins e ∷ log) mute = mute_log t unspent log mute
+mute_log t unspent (Then a ∷ log) mute = (mute_does t unspent a mute.0, mute_log t unspent log mute.1)
+
+-- a call has a turn by its ticket
+is_turn : (t number turn : ℕ) → Call t ≡ in_turn number turn → t ≡ turn
+is_turn t number turn h = elim (cases_Bool (turn == behind_all)) [
+  | inl e ↦ (let f : Call t ≡ Producer number = rw e at h in absurd cc)
+  | inr e ↦ (let f : Call t ≡ Call turn = rw e at h in cc)
+]
+
+abbrev with_version : Option (List ℕ) → ℕ → ℕ × Option (List ℕ)
+with_version version ticket = (ticket, version)
+
+passed_waits : (ticket : ℕ) (version : Option (List ℕ)) (r : Option Topic) → turn_passed r ≡ Some (ticket, version) →
+    (row : Topic) × (r ≡ Some row) × In ticket row.seen.waiting
+passed_waits ticket version None h = absurd (none_some h)
+passed_waits ticket version (Some row) h = (row, refl, by row.seen.waiting h)
+  where
+    by : (ws : List ℕ) → option_map (with_version row.seen.given.version) (topic.first_of ws) ≡ Some (with_version version ticket) → In ticket ws
+    by [] e = absurd (none_some e)
+    by (w ∷ ws) e = inl (let f : with_version row.seen.given.version w ≡ with_version version ticket = cc in sym (ap (λ x. x.0) f))
+
+-- WHAT IT IS TOLD
+
+moment_none : (t : ℕ) (es : List (Alarm × ℕ)) → Each (NotWake t) es → moment_of (Wake (Call t)) es ≡ None
+moment_none t [] k = refl
+moment_none t (e ∷ es) k = ap (λ b. cond b (Some e.1) (lookup (is_same_alarm (Wake (Call t))) es)) k.0 ∙ moment_none t es k.1
+
+no_grant : (n : News) (v : View) → GrantsSo n Rest v → ⊥
+no_grant (news.HasTurn version) v h = h
+no_grant (news.Drew d) v h = h
+no_grant (news.Recalled c) v h = h
+no_grant (news.Numbered m) v h = h
+no_grant news.Done v h = h
+no_grant _ v h = h
+
+-- none passes it a turn, where it takes none
+pub no_turn_given : (P : ℕ → Type 0) (o : Options) (t : ℕ) (e : Entry) (older : List Entry) → IsRun o older → LogSo (Other t) P older → (n : News) →
+    GetsTurn o (Call t) n e older → ⊥
+no_turn_given P o t e older run others n (other, number, turn, version, is, same, d, next) =
+    let k = passed_waits turn version ((view o older).producers.topics number) next in
+    waits_so (Other t) P o number turn older k.0 run others k.1 k.2 (is_turn t number turn same)
+
+no_find : (l : ℕ) (a : Action) (v : View) → is_idle a ≡ true → Finds l a v → ⊥
+no_find l (Find n) v h k = absurd cc
+no_find l a v h k = k
+
+no_draw : (f : Fault) (a : Action) (v : View) → is_idle a ≡ true → DrawsNone f a v → ⊥
+no_draw Disconnected (Draw n) v h k = absurd cc
+no_draw Exhausted (Draw n) v h k = absurd cc
+no_draw Exhausted Number v h k = absurd cc
+no_draw f a v h k = k
+
+all_known : (a : Action) (v : View) → is_idle a ≡ true → IsUnknown a v → ⊥
+all_known (TakeTurn n) v h k = absurd cc
+all_known (Recall n) v h k = absurd cc
+all_known (Find n) v h k = absurd cc
+all_known a v h k = k
+
+-- what comes from elsewhere than a link, a request or a moment
+abbrev pub is_open : Outcome → Bool
+is_open (outcome.Granted n) = true
+is_open (outcome.Settled f) = true
+is_open (outcome.Parted u f) = true
+is_open outcome.Stopped = true
+is_open _ = false
+
+module _ (o : Options) (t : ℕ) (e : Entry) (older : List Entry) (idle : Idle t (e ∷ older)) where
+  abbrev v : View
+  v = view o older
+
+  absent : Absent t v
+  absent = absent_run o t older (idle_older t e older idle)
+
+  pub did_idle : (a : Action) → e ≡ Then (Does (Call t) a) → is_idle a ≡ true
+  did_idle a is = let k : Idle t (Then (Does (Call t) a) ∷ older) = subst (λ x. Idle t (x ∷ older)) is idle in k.0 (same_self (Call t))
+
+  no_get : (p : Place) → e ≡ Then (Does (Call t) (Get p)) → ⊥
+  no_get p is = let f : false ≡ true = did_idle (Get p) is in absurd cc
+
+  no_ask : (l : ℕ) (request : Words) → e ≡ Then (Does (Call t) (Ask l request)) → ⊥
+  no_ask l request is = let f : false ≡ true = did_idle (Ask l request) is in absurd cc
+
+  no_act : (P : Action → View → Type 0) → ((a : Action) → is_idle a ≡ true → P a v → ⊥) → Acts o (Call t) P e older → ⊥
+  no_act P none (a, is, h) = none a (did_idle a is) h
+
+  no_asker : (l place : ℕ) (seat : Seat) → v.links.live l ≡ Some seat → seat.askers place ≡ Some (Call t) → ⊥
+  no_asker l place seat live h = (subst (AskerFree t) live (absent.asker l)) place h
+
+  no_ready : (l : ℕ) → BecomesReady o (Call t) l e older → ⊥
+  no_ready l (seat, is, live, a, i) = absent.base _ i
+
+  no_attempt : (u : Outcome) → AttemptEnds o (Call t) u e older → ⊥
+  no_attempt u (l, end, cause, seat, is, live, c, (starter, retries, link, s, p, i, d)) = absent.base _ i
+
+  no_request : (u : Outcome) → RequestEnds o (Call t) u e older → ⊥
+  no_request u (l, end, cause, seat, is, live, c, (place, i, asker, d)) = no_asker l place seat live asker
+
+  no_line : (u : Outcome) → LineEnds o (Call t) u e older → ⊥
+  no_line u (l, end, cause, seat, is, live, c, (place, i, asker, d)) = no_asker l place seat live asker
+
+  no_move : MovesUp o (Call t) e older → ⊥
+  no_move (l, most, place, seat, is, live, i, asker) = no_asker l place seat live asker
+
+  no_reply : (r : _) → IsReplied o (Call t) r e older → ⊥
+  no_reply r (l, seat, places, m, place, is, live, c, i, asker, d) = no_asker l place seat live asker
+
+  no_wake : IsWoken o (Call t) e older → ⊥
+  no_wake (is, r) = let f : false ≡ true = sym (ap (has_come v.now) (moment_none t v.alarms absent.alarm)) ∙ r in cc
+
+  pub no_batch : (n : News) → IsReady o (Call t) n e older → ⊥
+  no_batch n k = let f : Call t ≡ Producer k.0 = k.2 in cc
+
+  pub only_open : (u : Outcome) → Cause o (Call t) u e older → is_open u ≡ true
+  only_open (outcome.GotLink l) (inl (p, is, h)) = absurd (no_get p is)
+  only_open (outcome.GotLink l) (inr (inl h)) = absurd (no_ready l h)
+  only_open (outcome.GotLink l) (inr (inr h)) = absurd (no_act (Finds l) (λ a k x. no_find l a v k x) h)
+  only_open (outcome.Granted n) h = refl
+  only_open (outcome.Settled f) h = refl
+  only_open (outcome.Parted u f) h = refl
+  only_open outcome.NotFound (p, is, h) = absurd (no_get p is)
+  only_open (outcome.Failed kind) h = absurd (no_attempt (outcome.Failed kind) h)
+  only_open outcome.Canceled h = absurd (no_attempt outcome.Canceled h)
+  only_open outcome.Queued (inl (l, request, is, h)) = absurd (no_ask l request is)
+  only_open outcome.Queued (inr h) = absurd (no_move h)
+  only_open outcome.InLine (l, request, is, h) = absurd (no_ask l request is)
+  only_open (outcome.Refused cause) (inl (l, request, is, h)) = absurd (no_ask l request is)
+  only_open (outcome.Refused cause) (inr h) = absurd (no_act (DrawsNone cause) (λ a k x. no_draw cause a v k x) h)
+  only_open (outcome.Replied r) h = absurd (no_reply r h)
+  only_open outcome.TimedOut h = absurd (no_request outcome.TimedOut h)
+  only_open outcome.Disconnected (inl h) = absurd (no_request outcome.Disconnected h)
+  only_open outcome.Disconnected (inr (inl h)) = absurd (no_line outcome.Disconnected h)
+  only_open outcome.Disconnected (inr (inr h)) = absurd (no_act IsUnknown (λ a k x. all_known a v k x) h)
+  only_open outcome.Woken h = absurd (no_wake h)
+  only_open outcome.Cut h = absurd (no_request outcome.Cut h)
+  only_open outcome.Stopped h = refl
+
+module _ (o : Options) (t : ℕ) (unspent : is_spent t ≡ false) (e : Entry) (older : List Entry) (run : IsRun o older) (here : IsRun o (e ∷ older))
+    (mute : Mute t (e ∷ older)) where
+  abbrev seen_so : View
+  seen_so = view o older
+
+  before : Mute t older
+  before = mute_older t e older mute
+
+  did_rest : (a : Action) → e ≡ Then (Does (Call t) a) → a ≡ Rest
+  did_rest a is = let k : Mute t (Then (Does (Call t) a) ∷ older) = subst (λ x. Mute t (x ∷ older)) is mute in k.0 (same_self (Call t))
+
+  no_grants : (n : News) → Acts o (Call t) (GrantsSo n) e older → ⊥
+  no_grants n (a, is, h) = no_grant n seen_so (subst (λ x. GrantsSo n x seen_so) (did_rest a is) h)
+
+  others : LogSo (Other t) (Other t) older
+  others = mute_log t unspent older before
+
+  not_said : (u : Outcome) → is_said u ≡ false → IsToldBy (Call t) u e older → ⊥
+  not_said u other (w, inl is) =
+      let r : IsRun o (Then (Does w (Tell (notice (Call t) u))) ∷ older) = subst (λ x. IsRun o (x ∷ older)) is here in
+      let f : false ≡ true = sym other ∙ tell_said o older w (notice (Call t) u) r in
+      cc
+  not_said u other (w, inr (ns, is, i)) =
+      let r : IsRun o (Then (Does w (TellAll ns)) ∷ older) = subst (λ x. IsRun o (x ∷ older)) is here in
+      (in_each (NoticeSo (Other t) (Other t)) (notice (Call t) u) ns i (tells_so (Other t) (Other t) o older w ns r others)) refl
+
+  not_stored : (number ticket : ℕ) (row : Option Topic) → seen_so.producers.topics number ≡ row → Call t ≡ Call ticket → In ticket (stored_at row) → ⊥
+  not_stored number ticket None there same i = i
+  not_stored number ticket (Some row) there same i =
+      stored_so (Other t) (Other t) o number ticket older row run others there i (let f : t ≡ ticket = cc in f)
+
+  not_dropped : (u : Outcome) → IsDropped o (Call t) u e older → ⊥
+  not_dropped u (other, producer, number, ticket, is, same, among, stored, d) =
+      not_stored number ticket (seen_so.producers.topics number) refl same stored
+
+  no_more : (u : Outcome) → is_open u ≡ false → Cause o (Call t) u e older → is_said u ≡ true
+  no_more u closed h = let f : false ≡ true = sym closed ∙ only_open o t e older (mute_idle t (e ∷ older) mute) u h in absurd cc
+
+  only_said : (u : Outcome) → Cause o (Call t) u e older → is_said u ≡ true
+  only_said (outcome.Granted n) (inl h) = absurd (no_grants n h)
+  only_said (outcome.Granted n) (inr (inl h)) = absurd (no_turn_given (Other t) o t e older run others n h)
+  only_said (outcome.Granted n) (inr (inr (inl h))) = absurd (no_batch o t e older (mute_idle t (e ∷ older) mute) n h)
+  only_said (outcome.Granted n) (inr (inr (inr h))) = absurd (not_said (outcome.Granted n) refl h)
+  only_said (outcome.Settled f) (inl h) = absurd (not_said (outcome.Settled f) refl h)
+  only_said (outcome.Settled f) (inr h) = absurd (not_dropped (outcome.Settled f) h)
+  only_said (outcome.Parted u f) h = refl
+  only_said outcome.Stopped h = refl
+  only_said u h = no_more u refl h
+
+step_mute : (o : Options) (t : ℕ) (P : Entry → List Entry → Type 0) (log : List Entry) → IsRun o log → Mute t log → InThisStep P log →
+    InThisStep (λ e older. IsRun o older × IsRun o (e ∷ older) × Mute t (e ∷ older) × P e older) log
+step_mute o t P [] run mute i = absurd i
+step_mute o t P (Begins e ∷ log) run mute i = (run.0, run, mute, i)
+step_mute o t P (Then a ∷ log) run mute (inl i) = inl (run.0, run, mute, i)
+step_mute o t P (Then a ∷ log) run mute (inr i) = inr (step_mute o t P log run.0 mute.1 i)
+
+told_said : (o : Options) (t : ℕ) (u : Outcome) (log : List Entry) → is_spent t ≡ false → IsRun o (Then (Told (notice (Call t) u)) ∷ log) → Mute t log →
+    is_said u ≡ true
+told_said o t u log unspent run mute =
+    let some = step_some (λ e older. IsRun o older × IsRun o (e ∷ older) × Mute t (e ∷ older) × Cause o (Call t) u e older) log
+    (step_mute o t (Cause o (Call t) u) log run.0 mute (outcomes_are_caused_lem o log (Call t) u run)) in
+    only_said o t unspent some.entry some.older some.holds.0 some.holds.1 some.holds.2 u some.holds.3
+
+said_is : (u : Outcome) → is_said u ≡ true → (u ≡ outcome.Stopped) ⊎ ((ticket : ℕ) × (f : Option Failure) × (u ≡ outcome.Parted ticket f))
+said_is (outcome.Parted ticket f) h = inr (ticket, f, refl)
+said_is outcome.Stopped h = inl refl
+said_is u h = absurd cc
+
+pub gather_told : GatherTold
+gather_told o log t u first count run h =
+    let once : counted (start_of t) log ≤ 1 = (ends_once_lem o log t run.0).0 in
+    let mute : Mute t log = mute_run o t first count log run.0 (only_start t (procedure.Gather first count) log h once) in
+    said_is u (told_said o t u log (has_begun o log (Call t) (procedure.Gather first count) run.0 h) run mute)

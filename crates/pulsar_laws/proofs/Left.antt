@@ -1,0 +1,31 @@
+-- What a verdict gives rise to: the plans of batches of a producer that was built.
+use Rattle.std.proofs.Common.{ℕ, List, [], ◌∷◌, map, Bool, Option, Some, None}
+use Rattle.pulsar_plans.specs.declared.turn.Ways.{Ways}
+use Rattle.pulsar_producer.specs.Storage.{is_batching}
+use Rattle.pulsar_producer.specs.declared.content.Built.{Built}
+use Rattle.pulsar_producer.specs.declared.sending.Errand.{Errand}
+use Rattle.pulsar_calls.specs.declared.act.Act.{Act}
+use Rattle.pulsar_calls.specs.declared.act.Act.TheVariants.{Starts}
+use Rattle.pulsar_calls.specs.declared.act.Makes.{Makes}
+use Rattle.pulsar_calls.specs.declared.act.Makes.TheVariants.{Producer}
+use Rattle.pulsar_calls.specs.declared.act.Procedure.TheVariants as procedure
+use Rattle.pulsar_calls.specs.declared.act.Who.TheVariants as who
+use Rattle.pulsar_calls.specs.declared.content.Building.{Building}
+use Rattle.pulsar_client.specs.Rules.{batches_by, batches_from, left_with}
+use Rattle.pulsar_client.proofs.Acts.{Each, each_either}
+
+parts_each : (P : Act → Type 0) (w : Ways) (block : Bool) (bs : List Built) →
+    ((e : Errand) → P (Starts (who.Producer e.producer) (procedure.Batch w e))) → Each P (map (batches_by w block) bs)
+parts_each P w block [] h = tt
+parts_each P w block (b ∷ bs) h = (h (record { producer = b.number; block = block }), parts_each P w block bs h)
+
+from_each : (P : Act → Type 0) (ways : Option Ways) (b : Building) →
+    ((w : Ways) (e : Errand) → P (Starts (who.Producer e.producer) (procedure.Batch w e))) → Each P (batches_from ways b)
+from_each P None b h = tt
+from_each P (Some w) b h = parts_each P w b.settings.block_queue_if_full b.parts (h w)
+
+-- each of them is such, where each start of a plan of batches is
+pub left_each : (P : Act → Type 0) (ways : Option Ways) (makes : Makes) →
+    ((w : Ways) (e : Errand) → P (Starts (who.Producer e.producer) (procedure.Batch w e))) → Each P (left_with ways makes)
+left_each P ways (Producer b) h = each_either P (is_batching b.settings) (batches_from ways b) [] (from_each P ways b h) tt
+left_each P ways _ h = tt

@@ -1,0 +1,60 @@
+-- Effects that neither write nor queue a frame, nor give an item to a poll.
+use Rattle.std.proofs.Common.{◌≡◌, ℕ, List, [], ◌∷◌, refl, Bool, true, false, Option, Some, None}
+use Rattle.std.specs.Option.{option_map, option_to_list}
+use Rattle.pulsar_calls.specs.declared.act.Act.{Act}
+use Rattle.pulsar_calls.specs.declared.act.Act.TheVariants.{Comes, Does, Answers, Dials}
+use Rattle.pulsar_calls.specs.declared.act.Action.TheVariants.{Ask}
+use Rattle.pulsar_calls.specs.declared.act.Part.TheVariants as part
+use Rattle.pulsar_calls.specs.declared.act.Who.{Who}
+use Rattle.pulsar_calls.specs.declared.act.Who.TheVariants.{Call, Producer}
+use Rattle.pulsar_client.specs.declared.addresses.Pause.{Pause}
+use Rattle.pulsar_client.specs.Address.{leads_to}
+use Rattle.pulsar_calls.specs.Content.{Said, Shown, Queued, Write, Hands, Faults}
+use Rattle.pulsar_client.specs.Effects.{connects_to, effects, ends, retries, retries_on}
+use Rattle.pulsar_client.specs.View.{Chosen, Turned, View}
+
+abbrev pub is_plain : Shown → Bool
+is_plain (Write l bytes) = false
+is_plain (Queued l place bytes) = false
+is_plain (Hands ticket topic id metadata payload) = false
+is_plain (Faults ticket fault) = false
+is_plain _ = true
+
+abbrev pub ArePlain : List Shown → Type 0
+ArePlain [] = Unit {0}
+ArePlain (x ∷ xs) = (is_plain x ≡ true) × ArePlain xs
+
+some_plain : {A : Type 0} (f : A → Shown) (row : Option A) → ((x : A) → is_plain (f x) ≡ true) → ArePlain (option_to_list (option_map f row))
+some_plain f None h = tt
+some_plain f (Some x) h = (h x, tt)
+
+ends_plain : (who : Who) (said : Said) → ArePlain (ends who said)
+ends_plain (Call t) said = (refl, tt)
+ends_plain (Producer n) said = tt
+
+connects_plain : (l : ℕ) (reached : Option (List ℕ × ℕ)) → ArePlain (connects_to l reached)
+connects_plain l None = tt
+connects_plain l (Some reached) = (refl, tt)
+
+retries_plain : (o : Chosen) (l : ℕ) (pause : Option Pause) → ArePlain (retries o l pause)
+retries_plain o l None = tt
+retries_plain o l (Some p) = (refl, tt)
+
+pub turned_plain : (o : Chosen) (turned : Option Turned) → ArePlain (retries_on o turned)
+turned_plain o None = tt
+turned_plain o (Some t) = retries_plain o t.link t.pause
+
+-- the acts that may have others
+abbrev pub is_loud : Act → Bool
+is_loud (Comes (part.ToLink l x)) = true
+is_loud (Comes (part.Polls t)) = true
+is_loud (Does who (Ask l request)) = true
+is_loud _ = false
+
+pub effects_plain : (v : View) (a : Act) → is_loud a ≡ false → ArePlain (effects v a)
+effects_plain v (Comes (part.ToLink l x)) h = absurd cc
+effects_plain v (Comes (part.Polls t)) h = absurd cc
+effects_plain v (Does who (Ask l request)) h = absurd cc
+effects_plain v (Answers who verdict) h = ends_plain who verdict.said
+effects_plain v (Dials p starter retries) h = connects_plain v.links.started (leads_to p)
+effects_plain v _ h = tt

@@ -1,0 +1,433 @@
+-- A call that stores its message does nothing else, and so it is told only what becomes of its message, or that the client is stopped.
+use Rattle.std.proofs.Common.{◌≡◌, ◌⊎◌, inl, inr, ◌∙◌, sym, ap, subst, ℕ, ◌+◌, ◌≤◌, ◌<◌, arith, List, [], ◌∷◌, ◌++◌, refl, Bool, true, false, Option, Some, None, Result, Ok, Err}
+use Rattle.std.proofs.lemmas.Bool.{cases_Bool}
+use Rattle.pulsar_run.specs.Laws.{InThisStep}
+use Rattle.pulsar_wire.specs.Row.{Values}
+use Rattle.pulsar_wire.specs.Rows.{send_receipt}
+use Rattle.pulsar_frame.specs.Batch.{EntryValues}
+use Rattle.pulsar_session.specs.Failures.{Failure, Shutdown}
+use Rattle.pulsar_session.specs.Link.{is_spent}
+use Rattle.pulsar_producer.specs.declared.deed.News.{News}
+use Rattle.pulsar_producer.specs.declared.deed.News.TheVariants as news
+use Rattle.pulsar_calls.specs.declared.act.Act.{Act}
+use Rattle.pulsar_calls.specs.declared.act.Act.TheVariants.{Comes, Starts, Told, Does}
+use Rattle.pulsar_calls.specs.declared.act.Action.{Action}
+use Rattle.pulsar_calls.specs.declared.act.Action.TheVariants.{Store, Tell, TellAll, Rest}
+use Rattle.pulsar_calls.specs.declared.act.Notice.{Notice}
+use Rattle.pulsar_calls.specs.declared.act.Outcome.{Outcome}
+use Rattle.pulsar_calls.specs.declared.act.Outcome.TheVariants as outcome
+use Rattle.pulsar_calls.specs.declared.act.Procedure.{Procedure}
+use Rattle.pulsar_calls.specs.declared.act.Procedure.TheVariants as procedure
+use Rattle.pulsar_calls.specs.declared.act.Share.{Share}
+use Rattle.pulsar_calls.specs.declared.act.Verdict.{Verdict}
+use Rattle.pulsar_calls.specs.declared.act.Who.{Who}
+use Rattle.pulsar_calls.specs.declared.act.Who.TheVariants.{Call, Producer}
+use Rattle.pulsar_calls.specs.declared.plans.plan.Plan.{Plan}
+use Rattle.pulsar_calls.specs.declared.plans.plan.Plan.TheVariants.{Stored, Storing}
+use Rattle.pulsar_calls.specs.declared.plans.plan.Turn.{Turn}
+use Rattle.pulsar_calls.specs.declared.plans.plan.Turn.TheVariants.{Stays, Gives}
+use Rattle.pulsar_laws.specs.BatchLaws.{StoredEndsByItsBatch, TellsFate, ends_with}
+use Rattle.pulsar_laws.specs.Laws.{Answered, Cause, ComesLate, GrantsSo, IsDropped, IsToldSo, StartsSo, counted, start_of, started}
+use Rattle.pulsar_calls.specs.Plan.{begins, fails, fault_of, in_stored, stored, told}
+use Rattle.pulsar_client.specs.Rules.{notice}
+use Rattle.pulsar_client.specs.Run.{Entry, Begins, Then, IsRun, agenda, first, rest, view}
+use Rattle.pulsar_client.specs.View.{Options, View, stays, stays_some, told_some}
+use Rattle.pulsar_calls.specs.Who.{is_same}
+use Rattle.pulsar_client.proofs.Acts.{begun_same}
+use Rattle.pulsar_laws.proofs.BatchRun.{fits_first, none_first}
+use Rattle.pulsar_laws.proofs.Caused.{outcomes_are_caused_lem}
+use Rattle.pulsar_laws.proofs.Fitting.{is_settling}
+use Rattle.pulsar_laws.proofs.Follow.{same_is}
+use Rattle.pulsar_laws.proofs.Gathered.{part_from}
+use Rattle.pulsar_laws.proofs.Granted.{BeginsSo, IsLedSo, does_from, tell_said, tell_settling}
+use Rattle.pulsar_laws.proofs.Idlers.{Idle, IdleBy, OnlyStarts, StartsBy, did_idle, idle_log, idle_older, is_idle, no_batch, no_turn_given, only_open, only_start}
+use Rattle.pulsar_laws.proofs.InTurn.{self_same}
+use Rattle.pulsar_laws.proofs.Led.{deeds_follow_lem}
+use Rattle.pulsar_laws.proofs.Once.{ends_once_lem}
+use Rattle.pulsar_laws.proofs.Parted.{parts_apart, parts_run}
+use Rattle.pulsar_client.proofs.Sources.{SomeEntry, in_each, step_some}
+use Rattle.pulsar_laws.proofs.Spots.{same_self}
+use Rattle.pulsar_laws.proofs.Takers.{told_by_own}
+use Rattle.pulsar_laws.proofs.Begun.{has_begun}
+
+none_some : {A : Type 0} {x : A} → None ≡ Some x → ⊥
+none_some {A} {x} h = cc
+
+-- WHERE IT STANDS: its message is stored next, or it is told so next, or it waits
+
+abbrev Due : (number ticket : ℕ) → EntryValues → List Act → Type 0
+Due n t x now = (xs : List Act) × ((now ≡ Does (Call t) (Store n x) ∷ xs) ⊎ (now ≡ Told (notice (Call t) (outcome.Granted news.Done)) ∷ xs))
+
+abbrev NextSo : (number ticket : ℕ) → EntryValues → Option Plan → List Act → Type 0
+NextSo n t x None now = Unit {0}
+NextSo n t x (Some (Storing share)) now = Due n t x now
+NextSo n t x (Some Stored) now = Unit {0}
+NextSo n t x (Some _) now = ⊥
+
+abbrev is_does : Act → Bool
+is_does (Does who a) = true
+is_does _ = false
+
+abbrev told_here : ℕ → Act → Bool
+told_here t (Told m) = is_same (Call t) m.who
+told_here t _ = false
+
+abbrev told_what : Act → Outcome
+told_what (Told m) = m.outcome
+told_what _ = outcome.Stopped
+
+abbrev stays_on : Turn Plan Verdict → Bool
+stays_on (Stays p a) = true
+stays_on (Gives w) = false
+
+abbrev action_in : Turn Plan Verdict → Action
+action_in (Stays p a) = a
+action_in (Gives w) = Rest
+
+module _ (o : Options) (t n : ℕ) (share : Option Share) (x : EntryValues) where
+  abbrev it : Procedure
+  it = procedure.Store n share x
+
+  abbrev Stands : Option Plan → List Entry → Type 0
+  Stands row log = NextSo n t x row (agenda o log).now
+
+  next_so : (log : List Entry) (a : Act) → first (agenda o log) ≡ Some a → Due n t x (agenda o log).now →
+      (a ≡ Does (Call t) (Store n x)) ⊎ (a ≡ Told (notice (Call t) (outcome.Granted news.Done)))
+  next_so log a fits (xs, inl e) = inl (sym (fits_first o log (Does (Call t) (Store n x)) a xs e fits))
+  next_so log a fits (xs, inr e) = inr (sym (fits_first o log (Told (notice (Call t) (outcome.Granted news.Done))) a xs e fits))
+
+  -- nothing else comes between
+  none_between : (log : List Entry) (a : Act) → first (agenda o log) ≡ Some a → is_does a ≡ false → told_here t a ≡ false →
+      Due n t x (agenda o log).now → ⊥
+  none_between log a fits d e due = elim (next_so log a fits due) [
+    | inl f ↦ (let g : true ≡ false = sym (ap is_does f) ∙ d in absurd cc)
+    | inr f ↦ (let g : true ≡ false = sym (self_same t) ∙ sym (ap (told_here t) f) ∙ e in absurd cc)
+  ]
+
+  kept : (log : List Entry) (a : Act) → first (agenda o log) ≡ Some a → is_does a ≡ false → told_here t a ≡ false → (row : Option Plan) →
+      Stands row log → Stands row (Then a ∷ log)
+  kept log a fits d e None k = tt
+  kept log a fits d e (Some (Storing s)) k = absurd (none_between log a fits d e k)
+  kept log a fits d e (Some Stored) k = tt
+  kept log a fits d e (Some _) k = absurd k
+
+  begun_row : (log : List Entry) (e : _) → first (agenda o log) ≡ None → (row : Option Plan) → Stands row log → Stands row (Begins e ∷ log)
+  begun_row log e rests None k = tt
+  begun_row log e rests (Some (Storing s)) (xs, inl f) = absurd (none_first o log (Does (Call t) (Store n x)) xs f rests)
+  begun_row log e rests (Some (Storing s)) (xs, inr f) = absurd (none_first o log (Told (notice (Call t) (outcome.Granted news.Done))) xs f rests)
+  begun_row log e rests (Some Stored) k = tt
+  begun_row log e rests (Some _) k = absurd k
+
+  does_row : (log : List Entry) (who : Who) (action : Action) → first (agenda o log) ≡ Some (Does who action) → (row : Option Plan) →
+      Stands row log → Stands row (Then (Does who action) ∷ log)
+  does_row log who action fits None k = tt
+  does_row log who action fits (Some (Storing s)) k = elim (next_so log (Does who action) fits k) [
+    | inl e ↦ subst (λ a. Stands (Some (Storing s)) (Then a ∷ log)) (sym e) ((rest (agenda o log)).now, inr refl)
+    | inr e ↦ (let f : true ≡ false = ap is_does e in absurd cc)
+  ]
+  does_row log who action fits (Some Stored) k = tt
+  does_row log who action fits (Some _) k = absurd k
+
+  stored_row : (s : Option Share) (log : List Entry) → Stands (stays (stored s)) log
+  stored_row None log = tt
+  stored_row (Some s) log = tt
+
+  granted_row : (y : News) (log : List Entry) → Stands (stays (in_stored (outcome.Granted y))) log
+  granted_row news.Done log = tt
+  granted_row _ log = tt
+
+  settled_row : (u : Outcome) (log : List Entry) → Stands (stays (in_stored u)) log
+  settled_row (outcome.Settled (Ok r)) log = tt
+  settled_row (outcome.Settled (Err f)) log = tt
+  settled_row (outcome.Granted y) log = granted_row y log
+  settled_row _ log = tt
+
+  told_row : (log : List Entry) (m : Notice) → first (agenda o log) ≡ Some (Told m) → (row : Option Plan) → Stands row log →
+      Stands (stays_some (told_some row m.outcome)) (Then (Told m) ∷ log)
+  told_row log m fits None k = tt
+  told_row log m fits (Some (Storing s)) k = elim (next_so log (Told m) fits k) [
+    | inl e ↦ (let f : false ≡ true = ap is_does e in absurd cc)
+    | inr e ↦ subst (λ u. Stands (stays (told (Storing s) u)) (Then (Told m) ∷ log)) (sym (ap told_what e)) (stored_row s (Then (Told m) ∷ log))
+  ]
+  told_row log m fits (Some Stored) k = settled_row m.outcome (Then (Told m) ∷ log)
+  told_row log m fits (Some _) k = absurd k
+
+  began : (log : List Entry) (who : Who) (q : Procedure) → q ≡ it → Call t ≡ who → Stands (stays (begins q)) (Then (Starts who q) ∷ log)
+  began log who q is w =
+      subst (λ z. Stands (stays (begins z)) (Then (Starts who z) ∷ log)) (sym is)
+      (subst (λ y. Stands (stays (begins it)) (Then (Starts y it) ∷ log)) w ((rest (agenda o log)).now, inl refl))
+
+  then_stands : (log : List Entry) (a : Act) → IsRun o (Then a ∷ log) → StartsBy t it a → Stands ((view o log).stand (Call t)) log →
+      Stands ((view o (Then a ∷ log)).stand (Call t)) (Then a ∷ log)
+  then_stands log (Starts who q) run only k = elim (cases_Bool (is_same (Call t) who)) [
+    | inl e ↦ rw e (began log who q (only e) (same_is (Call t) who e))
+    | inr e ↦ rw e (kept log (Starts who q) run.1 refl refl ((view o log).stand (Call t)) k)
+  ]
+  then_stands log (Told m) run only k = elim (cases_Bool (is_same (Call t) m.who)) [
+    | inl e ↦ rw e (told_row log m run.1 ((view o log).stand (Call t)) k)
+    | inr e ↦ rw e (kept log (Told m) run.1 refl e ((view o log).stand (Call t)) k)
+  ]
+  then_stands log (Does who action) run only k = does_row log who action run.1 ((view o log).stand (Call t)) k
+  then_stands log (Comes p) run only k = kept log (Comes p) run.1 refl refl ((view o log).stand (Call t)) k
+  then_stands log a run only k = kept log a run.1 refl refl ((view o log).stand (Call t)) k
+
+  stands_run : (log : List Entry) → IsRun o log → OnlyStarts t it log → Stands ((view o log).stand (Call t)) log
+  stands_run [] run k = tt
+  stands_run (Begins e ∷ log) run k =
+      subst (λ row. Stands row (Begins e ∷ log)) (sym (begun_same (λ v. v.stand (Call t)) e (view o log) refl))
+      (begun_row log e run.1 ((view o log).stand (Call t)) (stands_run log run.0 k))
+  stands_run (Then a ∷ log) run k = then_stands log a run k.0 (stands_run log run.0 k.1)
+
+  -- WHAT IT DOES
+
+  stays_idle : (y : Turn Plan Verdict) → is_idle (action_in y) ≡ true → (q : Plan) (a : Action) → y ≡ Stays q a → is_idle a ≡ true
+  stays_idle y k q a h = sym (ap (λ z. is_idle (action_in z)) h) ∙ k
+
+  stored_idle : (s : Option Share) → is_idle (action_in (stored s)) ≡ true
+  stored_idle None = refl
+  stored_idle (Some s) = refl
+
+  storing_idle : (s : Option Share) (y : News) → is_idle (action_in (told (Storing s) (outcome.Granted y))) ≡ true
+  storing_idle s news.Done = stored_idle s
+  storing_idle s _ = refl
+
+  granted_idle : (y : News) → is_idle (action_in (told Stored (outcome.Granted y))) ≡ true
+  granted_idle news.Done = refl
+  granted_idle _ = refl
+
+  told_idle : (p : Plan) (u : Outcome) (now : List Act) → NextSo n t x (Some p) now → is_idle (action_in (told p u)) ≡ true
+  told_idle (Storing s) (outcome.Granted y) now k = storing_idle s y
+  told_idle (Storing s) _ now k = refl
+  told_idle Stored (outcome.Settled (Ok r)) now k = refl
+  told_idle Stored (outcome.Settled (Err f)) now k = refl
+  told_idle Stored (outcome.Granted y) now k = granted_idle y
+  told_idle Stored _ now k = refl
+  told_idle _ u now k = absurd k
+
+  does_idle : (log : List Entry) (a : Action) → IsRun o (Then (Does (Call t) a) ∷ log) → OnlyStarts t it log → is_idle a ≡ true
+  does_idle log a run k = elim (does_from o log (Call t) a run) [ inl b ↦ begun b | inr l ↦ led l ]
+    where
+      begun : BeginsSo o log (Call t) a → is_idle a ≡ true
+      begun b =
+          let only : OnlyStarts t (procedure.Store n share x) (Then (Starts (Call t) b.procedure) ∷ b.older) =
+          subst (OnlyStarts t (procedure.Store n share x)) b.is_there k in
+          let is : b.procedure ≡ procedure.Store n share x = only.0 (same_self (Call t)) in
+          stays_idle (begins (procedure.Store n share x)) refl b.plan a (sym (ap begins is) ∙ b.leads)
+
+      led : IsLedSo o log (Call t) a → is_idle a ≡ true
+      led l =
+          let only : OnlyStarts t (procedure.Store n share x) (Then (Told (notice (Call t) l.outcome)) ∷ l.older) =
+          subst (OnlyStarts t (procedure.Store n share x)) l.is_there k in
+          let r : IsRun o (Then (Told (notice (Call t) l.outcome)) ∷ l.older) = subst (IsRun o) l.is_there run.0 in
+          let so : NextSo n t x (Some l.before) (agenda o l.older).now =
+          subst (λ row. NextSo n t x row (agenda o l.older).now) l.stood (stands_run l.older r.0 only.1) in
+          stays_idle (told l.before l.outcome) (told_idle l.before l.outcome (agenda o l.older).now so) l.plan a l.leads
+
+  idle_by : (log : List Entry) (a : Act) → IsRun o (Then a ∷ log) → OnlyStarts t it log → IdleBy t a
+  idle_by log (Does who a) run k = λ same.
+      does_idle log a (subst (λ w. IsRun o (Then (Does w a) ∷ log)) (sym (same_is (Call t) who same)) run) k
+  idle_by log _ run k = tt
+
+  idle_run : (log : List Entry) → IsRun o log → OnlyStarts t it log → Idle t log
+  idle_run [] run k = tt
+  idle_run (Begins e ∷ log) run k = idle_run log run.0 k
+  idle_run (Then a ∷ log) run k = (idle_by log a run k.1, idle_run log run.0 k.1)
+
+-- WHAT IT IS TOLD
+
+idle_done : (y : News) (a : Action) (v : View) → is_idle a ≡ true → GrantsSo y a v → y ≡ news.Done
+idle_done news.Done a v k h = refl
+idle_done y Rest v k h = absurd h
+idle_done y (Store n x) v k h = absurd h
+idle_done y (Tell m) v k h = absurd h
+idle_done y _ v k h = absurd cc
+
+settling_done : (y : News) → is_settling (outcome.Granted y) ≡ true → y ≡ news.Done
+settling_done news.Done h = refl
+settling_done _ h = absurd cc
+
+abbrev OpenSo : Outcome → Type 0
+OpenSo u = (u ≡ outcome.Granted news.Done) ⊎ (((f : Result (Values send_receipt) Failure) × (u ≡ outcome.Settled f)) ⊎ (u ≡ outcome.Stopped))
+
+abbrev is_parted : Outcome → Bool
+is_parted (outcome.Parted k f) = true
+is_parted _ = false
+
+module _ (o : Options) (t : ℕ) (unspent : is_spent t ≡ false) (e : Entry) (older : List Entry) (run : IsRun o older) (here : IsRun o (e ∷ older))
+    (idle : Idle t (e ∷ older)) where
+  granted_done : (y : News) → Cause o (Call t) (outcome.Granted y) e older → y ≡ news.Done
+  granted_done y (inl (a, is, h)) = idle_done y a (view o older) (did_idle o t e older idle a is) h
+  granted_done y (inr (inl h)) =
+      absurd (no_turn_given (λ u. Unit {0}) o t e older run (idle_log t unspent older (idle_older t e older idle)) y h)
+  granted_done y (inr (inr (inl h))) = absurd (no_batch o t e older idle y h)
+  granted_done y (inr (inr (inr (w, inl is)))) =
+      let r : IsRun o (Then (Does w (Tell (notice (Call t) (outcome.Granted y)))) ∷ older) = subst (λ z. IsRun o (z ∷ older)) is here in
+      let f : false ≡ true = tell_said o older w (notice (Call t) (outcome.Granted y)) r in
+      absurd cc
+  granted_done y (inr (inr (inr (w, inr (ns, is, i))))) =
+      let r : IsRun o (Then (Does w (TellAll ns)) ∷ older) = subst (λ z. IsRun o (z ∷ older)) is here in
+      settling_done y (in_each (λ m. is_settling m.outcome ≡ true) (notice (Call t) (outcome.Granted y)) ns i (tell_settling o older w ns r))
+
+  opens : (u : Outcome) → is_parted u ≡ false → Cause o (Call t) u e older → OpenSo u
+  opens (outcome.Granted y) p c = inl (ap outcome.Granted (granted_done y c))
+  opens (outcome.Settled f) p c = inr (inl (f, refl))
+  opens outcome.Stopped p c = inr (inr refl)
+  opens (outcome.Parted k f) p c = absurd cc
+  opens u p c = (let f : false ≡ true = only_open o t e older idle u c in absurd cc)
+
+step_idle : (o : Options) (t : ℕ) (P : Entry → List Entry → Type 0) (log : List Entry) → IsRun o log → Idle t log → InThisStep P log →
+    InThisStep (λ e older. IsRun o older × IsRun o (e ∷ older) × Idle t (e ∷ older) × P e older) log
+step_idle o t P [] run idle i = absurd i
+step_idle o t P (Begins e ∷ log) run idle i = (run.0, run, idle, i)
+step_idle o t P (Then a ∷ log) run idle (inl i) = inl (run.0, run, idle, i)
+step_idle o t P (Then a ∷ log) run idle (inr i) = inr (step_idle o t P log run.0 idle.1 i)
+
+-- it has no parts
+not_parted : (o : Options) (log : List Entry) (t n : ℕ) (share : Option Share) (x : EntryValues) (u : Outcome) → IsRun o (Then (Told (notice (Call t) u)) ∷ log) →
+    started (Call t) log ≡ Some (procedure.Store n share x) → is_parted u ≡ false
+not_parted o log t n share x (outcome.Parted k f) run s =
+    let p = part_from o log t k f run in
+    let lo : t < k = p.2 in
+    let hi : k < t + 1 + p.0 = p.3 in
+    absurd (elim ((parts_run o log run.0 t (procedure.Store n share x) s).stored refl) [
+      | inl none ↦ (let g : Some 0 ≡ Some p.0 = sym none ∙ p.1 in let same : 0 ≡ p.0 = cc in omega (arith, same, lo, hi))
+      | inr part ↦ parts_apart o log part.0 part.1 t p.0 part.2 p.1 part.3 part.4
+    ])
+not_parted o log t n share x _ run s = refl
+
+told_open : (o : Options) (log : List Entry) (t n : ℕ) (share : Option Share) (x : EntryValues) (u : Outcome) → IsRun o (Then (Told (notice (Call t) u)) ∷ log) →
+    started (Call t) log ≡ Some (procedure.Store n share x) → OnlyStarts t (procedure.Store n share x) log → OpenSo u
+told_open o log t n share x u run s only =
+    let idle : Idle t log = idle_run o t n share x log run.0 only in
+    let some : SomeEntry (λ e older. IsRun o older × IsRun o (e ∷ older) × Idle t (e ∷ older) × Cause o (Call t) u e older) =
+    step_some (λ e older. IsRun o older × IsRun o (e ∷ older) × Idle t (e ∷ older) × Cause o (Call t) u e older) log
+    (step_idle o t (Cause o (Call t) u) log run.0 idle (outcomes_are_caused_lem o log (Call t) u run)) in
+    opens o t (has_begun o log (Call t) (procedure.Store n share x) run.0 s) some.entry some.older some.holds.0 some.holds.1 some.holds.2 u
+    (not_parted o log t n share x u run s) some.holds.3
+
+-- HOW IT ENDS
+
+abbrev verdict_in : Verdict → Turn Plan Verdict → Verdict
+verdict_in v (Gives w) = w
+verdict_in v (Stays p a) = v
+
+abbrev is_more : News → Bool
+is_more news.Done = false
+is_more _ = true
+
+abbrev is_fatal : Outcome → Bool
+is_fatal (outcome.Settled f) = false
+is_fatal (outcome.Granted y) = is_more y
+is_fatal _ = true
+
+abbrev EndsSo : Outcome → Verdict → Type 0
+EndsSo u v =
+    ((f : Result (Values send_receipt) Failure) × (u ≡ outcome.Settled f) × (v ≡ ends_with f))
+    ⊎ ((is_fatal u ≡ true) × (v ≡ fails (fault_of u)))
+
+stored_on : (s : Option Share) (v : Verdict) → stored s ≡ Gives v → ⊥
+stored_on None v h = let f : true ≡ false = ap stays_on h in cc
+stored_on (Some s) v h = let f : true ≡ false = ap stays_on h in cc
+
+stored_granted : (y : News) (v : Verdict) → told Stored (outcome.Granted y) ≡ Gives v → EndsSo (outcome.Granted y) v
+stored_granted news.Done v h = (let f : true ≡ false = ap stays_on h in absurd cc)
+stored_granted y v h = inr (refl, sym (ap (verdict_in v) h))
+
+stored_ends : (u : Outcome) (v : Verdict) → told Stored u ≡ Gives v → EndsSo u v
+stored_ends (outcome.Settled (Ok r)) v h = inl (Ok r, refl, sym (ap (verdict_in v) h))
+stored_ends (outcome.Settled (Err f)) v h = inl (Err f, refl, sym (ap (verdict_in v) h))
+stored_ends (outcome.Granted y) v h = stored_granted y v h
+stored_ends u v h = inr (refl, sym (ap (verdict_in v) h))
+
+ends_so : (o : Options) (log : List Entry) (t n : ℕ) (share : Option Share) (x : EntryValues) (p : Plan) (u : Outcome) (v : Verdict) →
+    NextSo n t x (Some p) (agenda o log).now →
+    first (agenda o log) ≡ Some (Told (notice (Call t) u)) →
+    told p u ≡ Gives v →
+    EndsSo u v
+ends_so o log t n share x (Storing s) u v k fits h = elim (next_so o t n share x log (Told (notice (Call t) u)) fits k) [
+  | inl e ↦ (let f : false ≡ true = ap is_does e in absurd cc)
+  | inr e ↦ absurd (stored_on s v (ap (told (Storing s)) (sym (ap told_what e)) ∙ h))
+]
+ends_so o log t n share x Stored u v k fits h = stored_ends u v h
+ends_so o log t n share x _ u v k fits h = absurd k
+
+-- WHO TELLS IT
+
+tells_one : (o : Options) (e : Entry) (older : List Entry) (t : ℕ) (f : Result (Values send_receipt) Failure) → IsRun o (e ∷ older) →
+    Cause o (Call t) (outcome.Settled f) e older →
+    TellsFate t f e older ⊎ IsDropped o (Call t) (outcome.Settled f) e older
+tells_one o e older t f run (inl (other, inl is)) =
+    let m : Notice = notice (Call t) (outcome.Settled f) in
+    let k : IsRun o (Then (Does other (Tell m)) ∷ older) = subst (λ z. IsRun o (z ∷ older)) is run in
+    let g : false ≡ true = tell_said o older other m k in
+    absurd cc
+tells_one o e older t f run (inl (other, inr (ns, is, i))) =
+    let k : IsRun o (Then (Does other (TellAll ns)) ∷ older) = subst (λ z. IsRun o (z ∷ older)) is run in
+    let w = told_by_own o older other ns k in
+    inl (w.0, ns, is ∙ ap (λ (y : Who). Then (Does y (TellAll ns))) w.1, i)
+tells_one o e older t f run (inr d) = inr d
+
+step_tells : (o : Options) (log : List Entry) (t : ℕ) (f : Result (Values send_receipt) Failure) → IsRun o log →
+    InThisStep (Cause o (Call t) (outcome.Settled f)) log →
+    InThisStep (λ e behind. TellsFate t f e behind ⊎ IsDropped o (Call t) (outcome.Settled f) e behind) log
+step_tells o [] t f run h = absurd h
+step_tells o (Begins e ∷ log) t f run h = tells_one o (Begins e) log t f run h
+step_tells o (Then a ∷ log) t f run (inl h) = inl (tells_one o (Then a) log t f run h)
+step_tells o (Then a ∷ log) t f run (inr h) = inr (step_tells o log t f run.0 h)
+
+-- THE LAW
+
+abbrev spent_in : Who → Bool
+spent_in (Call t) = is_spent t
+spent_in (Producer n) = false
+
+abbrev Ends : Options → List Entry → (ticket : ℕ) → Verdict → Type 0
+Ends o log t v =
+    (u : Outcome) × (older : List Entry) × (log ≡ Then (Told (notice (Call t) u)) ∷ older)
+    × (((f : Result (Values send_receipt) Failure) × (u ≡ outcome.Settled f) × (v ≡ ends_with f)
+    × InThisStep (λ e behind. TellsFate t f e behind ⊎ IsDropped o (Call t) (outcome.Settled f) e behind) older)
+    ⊎ ((u ≡ outcome.Stopped) × (v ≡ fails Shutdown)))
+
+pub stored_ends_lem : StoredEndsByItsBatch
+stored_ends_lem o log t n share x v run s =
+    let p : Procedure = procedure.Store n share x in
+    let once : counted (start_of t) log ≤ 1 = (ends_once_lem o log t run.0).0 in
+    let only : OnlyStarts t (procedure.Store n share x) log = only_start t (procedure.Store n share x) log s once in
+    let k = deeds_follow_lem o log (Call t) (Answered v) run in
+    elim k.3 [ inl b ↦ begun k.0 k.1 k.2 only b | inr m ↦ elim m [ inl l ↦ led k.0 k.1 k.2 only l | inr late ↦ later k.0 k.1 late ] ]
+  where
+    begun : (e : Entry) (older : List Entry) → log ≡ e ∷ older → OnlyStarts t (procedure.Store n share x) log → StartsSo (Call t) (Answered v) e → Ends o log t v
+    begun e older there only b =
+        let at : OnlyStarts t (procedure.Store n share x) (Then (Starts (Call t) b.0) ∷ older) =
+        subst (OnlyStarts t (procedure.Store n share x)) (there ∙ ap (λ y. y ∷ older) b.1) only in
+        let is : b.0 ≡ procedure.Store n share x = at.0 (same_self (Call t)) in
+        let f : true ≡ false = ap stays_on (sym (ap begins is) ∙ b.2) in
+        absurd cc
+
+    later : (e : Entry) (older : List Entry) → ComesLate o (Call t) (Answered v) e older → Ends o log t v
+    later e older l =
+        let unspent : is_spent t ≡ false = has_begun o log (Call t) (procedure.Store n share x) run.0 s in
+        let f : false ≡ true = sym unspent ∙ ap spent_in l.3 in
+        absurd cc
+
+    ends : (older : List Entry) (u : Outcome) → log ≡ Then (Told (notice (Call t) u)) ∷ older → IsRun o (Then (Told (notice (Call t) u)) ∷ older) → OpenSo u →
+        EndsSo u v → Ends o log t v
+    ends older u there r k (inl g) =
+        let told_it : IsRun o (Then (Told (notice (Call t) (outcome.Settled g.0))) ∷ older) =
+        subst (λ y. IsRun o (Then (Told (notice (Call t) y)) ∷ older)) g.1 r in
+        (u, older, there, inl (g.0, g.1, g.2, step_tells o older t g.0 r.0 (outcomes_are_caused_lem o older (Call t) (outcome.Settled g.0) told_it)))
+    ends older u there r (inl done) (inr g) = (let f : true ≡ false = sym g.0 ∙ ap is_fatal done in absurd cc)
+    ends older u there r (inr (inl settled)) (inr g) = (let f : true ≡ false = sym g.0 ∙ ap is_fatal settled.1 in absurd cc)
+    ends older u there r (inr (inr stop)) (inr g) = (u, older, there, inr (stop, g.1 ∙ ap (λ y. fails (fault_of y)) stop))
+
+    led : (e : Entry) (older : List Entry) → log ≡ e ∷ older → OnlyStarts t (procedure.Store n share x) log → IsToldSo o (Call t) (Answered v) e older → Ends o log t v
+    led e older at only l =
+        let u : Outcome = l.0 in
+        let there : log ≡ Then (Told (notice (Call t) u)) ∷ older = at ∙ ap (λ y. y ∷ older) l.2 in
+        let r : IsRun o (Then (Told (notice (Call t) u)) ∷ older) = subst (IsRun o) there run.0 in
+        let before : OnlyStarts t (procedure.Store n share x) (Then (Told (notice (Call t) u)) ∷ older) =
+        subst (OnlyStarts t (procedure.Store n share x)) there only in
+        let s0 : started (Call t) older ≡ Some (procedure.Store n share x) = ap (started (Call t)) (sym there) ∙ s in
+        let so : NextSo n t x (Some l.1) (agenda o older).now =
+        subst (λ row. NextSo n t x row (agenda o older).now) l.3 (stands_run o t n share x older r.0 before.1) in
+        ends older u there r (told_open o older t n share x u r s0 before.1) (ends_so o older t n share x l.1 u v so r.1 l.4)

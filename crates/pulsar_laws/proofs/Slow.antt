@@ -1,0 +1,51 @@
+-- A send that finds no room, and is not to wait, leaves all as it was.
+use Rattle.std.proofs.Common.{◌≡◌, ◌∙◌, ap, ℕ, refl, ◌==◌, cond, Option, Some, None, Err, inl, inr}
+use Rattle.std.proofs.lemmas.Bool.{cases_Bool, eqb-true}
+use Rattle.std.specs.Option.{option_map}
+use Rattle.pulsar_wire.specs.declared.error.ConnectionError.TheVariants as error
+use Rattle.pulsar_messages.specs.Words.{Words}
+use Rattle.pulsar_session.proofs.Others.{slow_down_changes_nothing}
+use Rattle.pulsar_link.specs.Request.{closed_consumer, is_answered, request_number}
+use Rattle.pulsar_calls.specs.declared.act.Who.{Who}
+use Rattle.pulsar_laws.specs.ProducerLaws.{SlowDownLeavesAll, seat_ticked}
+use Rattle.pulsar_client.specs.Run.{view}
+use Rattle.pulsar_client.specs.Subscriptions.{Subscription, closed_at}
+use Rattle.pulsar_client.specs.View.{Seat, View, answer_at, asker_at, hears_ask, is_asked, place_of, seat_asked}
+
+module _ (who : Who) (now l : ℕ) (request : Words) where
+  seat_slow : (row : Option Seat) → answer_at now request row ≡ Err error.SlowDown →
+      option_map (seat_asked who now request) row ≡ option_map (seat_ticked now) row
+  seat_slow None h i = None
+  seat_slow (Some seat) h i = Some (record {
+    address = seat.address;
+    seen = slow_down_changes_nothing now request seat.seen h i;
+    askers = (ap (λ r. asker_at (is_answered (request_number request)) who (place_of r) seat.askers) h) i;
+    got = seat.got;
+    ping = seat.ping;
+  })
+
+  row_slow : (live : ℕ → Option Seat) (k : ℕ) → answer_at now request (live l) ≡ Err error.SlowDown →
+      cond (k == l) (option_map (seat_asked who now request) (live k)) (live k) ≡ cond (k == l) (option_map (seat_ticked now) (live k)) (live k)
+  row_slow live k h = elim (cases_Bool (k == l)) [
+    | inl e ↦ rw e (seat_slow (live k) (ap (λ n. answer_at now request (live n)) (eqb-true k l e) ∙ h))
+    | inr e ↦ rw e refl
+  ]
+
+  hears_slow : (row : Option Seat) (s : Option Subscription) → answer_at now request row ≡ Err error.SlowDown → option_map (hears_ask l now request row) s ≡ s
+  hears_slow row None h = refl
+  hears_slow row (Some s) h = ap (λ r. Some (closed_at l (closed_consumer request) (is_asked r) s)) h
+
+pub slow_down_lem : SlowDownLeavesAll
+slow_down_lem o log who l request h i =
+    let v : View = view o log in
+    record {
+      chosen = v.chosen;
+      now = v.now;
+      stand = v.stand;
+      calls = v.calls;
+      links = record { started = v.links.started; live = λ k. row_slow who v.now l request v.links.live k h i };
+      addresses = v.addresses;
+      alarms = v.alarms;
+      consumers = λ t. hears_slow who v.now l request (v.links.live l) (v.consumers t) h i;
+      producers = v.producers;
+    }

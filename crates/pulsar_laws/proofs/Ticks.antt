@@ -1,0 +1,289 @@
+-- What a tick brings stands in order: the alarms do in every view.
+use Rattle.std.proofs.Common.{◌≡◌, ◌∙◌, sym, ap, subst, ℕ, zero, suc, ◌≤◌, List, [], ◌∷◌, ◌++◌, refl, arith, map, Bool, true, false, ◌&&◌, not, cond, nat_le, Option, Some, None}
+use Rattle.std.proofs.lemmas.Bool.Decides.{nat_tests}
+use Rattle.std.specs.List.{filter, flat_map}
+use Rattle.std.specs.Option.{option_map, option_to_list}
+use Rattle.std.specs.Ordering.{is_lt, match_ordering}
+use Rattle.std.specs.declared.cmp.Ordering.{Ordering}
+use Rattle.std.specs.declared.cmp.Ordering.TheVariants.{Less, Equal, Greater}
+use Rattle.pulsar_run.specs.Order.{InOrder, NoneBelow}
+use Rattle.pulsar_session.specs.Link.{due}
+use Rattle.pulsar_producer.specs.Topic as topic
+use Rattle.pulsar_calls.specs.declared.act.Act.{Act}
+use Rattle.pulsar_calls.specs.declared.act.Act.TheVariants.{Comes, Does, Answers}
+use Rattle.pulsar_calls.specs.declared.act.Action.TheVariants.{Wait, Shut, Store, Flush, StopAll}
+use Rattle.pulsar_calls.specs.declared.act.Alarm.{Alarm}
+use Rattle.pulsar_calls.specs.declared.act.Alarm.TheVariants.{Retry, Wake, Batch, KeepAlive, CheckIdle}
+use Rattle.pulsar_calls.specs.declared.act.End.TheVariants.{Overdue}
+use Rattle.pulsar_calls.specs.declared.act.LinkAct.TheVariants.{Ends}
+use Rattle.pulsar_calls.specs.declared.act.Part.{Part}
+use Rattle.pulsar_calls.specs.declared.act.Part.TheVariants.{ToLink, Rings}
+use Rattle.pulsar_calls.specs.declared.act.Who.TheVariants.{Call, Producer}
+use Rattle.pulsar_client.specs.declared.addresses.Pause.{Pause}
+use Rattle.pulsar_client.specs.declared.producers.Topic.{Topic}
+use Rattle.pulsar_calls.specs.Who.{turn_of}
+use Rattle.pulsar_client.specs.Alarms.{alarm_cmp, clear, is_same_alarm, ringing, rings, set}
+use Rattle.pulsar_client.specs.Effects.{is_before3}
+use Rattle.pulsar_laws.specs.Laws.{TicksInOrder, part_below, part_rank}
+use Rattle.pulsar_client.specs.Links.{Change, Remains, Becomes, IsOver}
+use Rattle.pulsar_calls.specs.Content.{numbers_from}
+use Rattle.pulsar_client.specs.Producers.{is_bare, numbers_at, timeout_at, topic_after}
+use Rattle.pulsar_client.specs.Rules.{due_part, on_link, over_links}
+use Rattle.pulsar_client.specs.Run.{Entry, Begins, Then, view}
+use Rattle.pulsar_client.specs.View.{Chosen, Options, Seat, Turned, View, alarms_after, alarms_on, alarms_on_topic, alarms_over, alarms_rung, alarms_turned, alarms_waiting, builds, clear_all, delay_of, idle_period, later, turned, waits_from}
+use Rattle.pulsar_client.proofs.Acts.{Each, begun_same, each_append, each_map}
+use Rattle.pulsar_client.proofs.Orders.{one_way3, chain3}
+use Rattle.pulsar_client.proofs.Sorting.{cmp3, lt3}
+
+-- LISTS IN ORDER
+
+module _ {A : Type 0} (below : A → A → Bool) where
+  none_append : (x : A) (xs ys : List A) → NoneBelow below x xs → NoneBelow below x ys → NoneBelow below x (xs ++ ys)
+  none_append x [] ys p q = q
+  none_append x (z ∷ xs) ys p q = (p.0, none_append x xs ys p.1 q)
+
+  none_each : (Q : A → Type 0) (x : A) (ys : List A) → ((y : A) → Q y → below y x ≡ false) → Each Q ys → NoneBelow below x ys
+  none_each Q x [] f k = tt
+  none_each Q x (y ∷ ys) f k = (f y k.0, none_each Q x ys f k.1)
+
+  order_append : (P Q : A → Type 0) (xs ys : List A) → ((x y : A) → P x → Q y → below y x ≡ false) → Each P xs → Each Q ys → InOrder below xs → InOrder below ys →
+      InOrder below (xs ++ ys)
+  order_append P Q [] ys f p q o r = r
+  order_append P Q (x ∷ xs) ys f p q o r =
+      (none_append x xs ys o.0 (none_each Q x ys (λ y k. f x y p.0 k) q), order_append P Q xs ys f p.1 q o.1 r)
+
+-- THE ORDER OF ALARMS
+
+abbrev alarm_below : Alarm → Alarm → Bool
+alarm_below a b = part_below (Rings a) (Rings b)
+
+same_cmp : (a b : Alarm) → alarm_cmp a b ≡ cmp3 (part_rank (Rings a)) (part_rank (Rings b))
+same_cmp (Retry k) (Retry l) = refl
+same_cmp (Retry k) (Wake (Call u)) = refl
+same_cmp (Retry k) _ = refl
+same_cmp (Wake (Call t)) (Wake (Call u)) = refl
+same_cmp (Wake (Call t)) _ = refl
+same_cmp (Wake (Producer t)) (Wake (Call u)) = refl
+same_cmp (Wake (Producer t)) _ = refl
+same_cmp (Batch n) (Wake (Call u)) = refl
+same_cmp (Batch n) _ = refl
+same_cmp (KeepAlive k) (Wake (Call u)) = refl
+same_cmp (KeepAlive k) _ = refl
+same_cmp CheckIdle (Wake (Call u)) = refl
+same_cmp CheckIdle _ = refl
+
+below_is : (a b : Alarm) (o : Ordering) → alarm_cmp a b ≡ o → alarm_below a b ≡ is_lt o
+below_is a b o e = sym (lt3 (part_rank (Rings a)) (part_rank (Rings b))) ∙ ap is_lt (sym (same_cmp a b) ∙ e)
+
+one_way : (a b : Alarm) → alarm_below a b ≡ true → alarm_below b a ≡ false
+one_way a b h =
+    let x = part_rank (Rings a) in
+    let y = part_rank (Rings b) in
+    one_way3 x.0 x.1 x.2 y.0 y.1 y.2 h
+
+chain : (a b c : Alarm) → alarm_below a b ≡ false → alarm_below b c ≡ false → alarm_below a c ≡ false
+chain a b c h k =
+    let x = part_rank (Rings a) in
+    let y = part_rank (Rings b) in
+    let z = part_rank (Rings c) in
+    chain3 x.0 x.1 x.2 y.0 y.1 y.2 z.0 z.1 z.2 h k
+
+-- ALARMS STAND IN ORDER
+
+abbrev names : List (Alarm × ℕ) → List Alarm
+names alarms = map (λ e. e.0) alarms
+
+abbrev Sorted : List (Alarm × ℕ) → Type 0
+Sorted alarms = InOrder alarm_below (names alarms)
+
+none_through : (a b : Alarm) (xs : List Alarm) → alarm_below b a ≡ false → NoneBelow alarm_below b xs → NoneBelow alarm_below a xs
+none_through a b [] h k = tt
+none_through a b (x ∷ xs) h k = (chain x b a k.0 h, none_through a b xs h k.1)
+
+module _ (a : Alarm) (moment : ℕ) where
+  none_set : (x : Alarm) (es : List (Alarm × ℕ)) → alarm_below a x ≡ false → NoneBelow alarm_below x (names es) → NoneBelow alarm_below x (names (set a moment es))
+  none_set x [] h k = (h, tt)
+  none_set x (e ∷ es) h k = by (alarm_cmp a e.0) (none_set x es h k.1)
+    where
+      by : (o : Ordering) → NoneBelow alarm_below x (names (set a moment es)) →
+          NoneBelow alarm_below x (names (match_ordering o ((a, moment) ∷ e ∷ es) ((e.0, moment) ∷ es) (e ∷ set a moment es)))
+      by Less more = (h, (k.0, k.1))
+      by Equal more = (k.0, k.1)
+      by Greater more = (k.0, more)
+
+  sorted_set : (es : List (Alarm × ℕ)) → Sorted es → Sorted (set a moment es)
+  sorted_set [] k = (tt, tt)
+  sorted_set (e ∷ es) k = by (alarm_cmp a e.0) refl (sorted_set es k.1)
+    where
+      by : (o : Ordering) → alarm_cmp a e.0 ≡ o → Sorted (set a moment es) → Sorted (match_ordering o ((a, moment) ∷ e ∷ es) ((e.0, moment) ∷ es) (e ∷ set a moment es))
+      by Less h more =
+          let before : alarm_below e.0 a ≡ false = one_way a e.0 (below_is a e.0 Less h) in
+          ((before, none_through a e.0 (names es) before k.0), (k.0, k.1))
+      by Equal h more = (k.0, k.1)
+      by Greater h more = (none_set e.0 es (below_is a e.0 Greater h) k.0, more)
+
+module _ (test : Alarm × ℕ → Bool) where
+  none_filter : (x : Alarm) (es : List (Alarm × ℕ)) → NoneBelow alarm_below x (names es) → NoneBelow alarm_below x (names (filter test es))
+  none_filter x [] k = tt
+  none_filter x (e ∷ es) k = by (test e) (none_filter x es k.1)
+    where
+      by : (b : Bool) → NoneBelow alarm_below x (names (filter test es)) → NoneBelow alarm_below x (names (cond b (e ∷ filter test es) (filter test es)))
+      by true more = (k.0, more)
+      by false more = more
+
+  sorted_filter : (es : List (Alarm × ℕ)) → Sorted es → Sorted (filter test es)
+  sorted_filter [] k = tt
+  sorted_filter (e ∷ es) k = by (test e) (sorted_filter es k.1)
+    where
+      by : (b : Bool) → Sorted (filter test es) → Sorted (cond b (e ∷ filter test es) (filter test es))
+      by true more = (none_filter e.0 es k.0, more)
+      by false more = more
+
+sorted_clear : (a : Alarm) (es : List (Alarm × ℕ)) → Sorted es → Sorted (clear a es)
+sorted_clear a es k = sorted_filter (λ e. not (is_same_alarm a e.0)) es k
+
+sorted_either : (b : Bool) (xs ys : List (Alarm × ℕ)) → Sorted xs → Sorted ys → Sorted (cond b xs ys)
+sorted_either true xs ys p q = p
+sorted_either false xs ys p q = q
+
+sorted_over : (o : Chosen) (now l : ℕ) (pause : Option Pause) (es : List (Alarm × ℕ)) → Sorted es → Sorted (alarms_over o now l pause es)
+sorted_over o now l None es k = k
+sorted_over o now l (Some p) es k = sorted_set (Retry l) (later now (delay_of o l p)) es k
+
+sorted_turned : (o : Chosen) (now l : ℕ) (change : Change) (pause : Option Pause) (es : List (Alarm × ℕ)) → Sorted es → Sorted (alarms_turned o now l change pause es)
+sorted_turned o now l Remains pause es k = k
+sorted_turned o now l Becomes pause es k = sorted_set (KeepAlive l) (later now o.connection.keep_alive) es k
+sorted_turned o now l IsOver pause es k = sorted_over o now l pause (clear (KeepAlive l) es) (sorted_clear (KeepAlive l) es k)
+
+sorted_on : (o : Chosen) (now : ℕ) (t : Option Turned) (es : List (Alarm × ℕ)) → Sorted es → Sorted (alarms_on o now t es)
+sorted_on o now None es k = k
+sorted_on o now (Some t) es k = sorted_turned o now t.link t.change t.pause es k
+
+sorted_rung : (o : Chosen) (now : ℕ) (a : Alarm) (es : List (Alarm × ℕ)) → Sorted es → Sorted (alarms_rung o now a es)
+sorted_rung o now (Retry l) es k = sorted_clear (Retry l) es k
+sorted_rung o now (Wake who) es k = sorted_clear (Wake who) es k
+sorted_rung o now (Batch n) es k = sorted_clear (Batch n) es k
+sorted_rung o now (KeepAlive l) es k = sorted_set (KeepAlive l) (later now o.connection.keep_alive) es k
+sorted_rung o now CheckIdle es k = sorted_set CheckIdle (later now idle_period) es k
+
+-- what is stored waits, or nothing is stored any longer
+sorted_from : (now : ℕ) (timeout : Option ℕ) (n : ℕ) (es : List (Alarm × ℕ)) → Sorted es → Sorted (waits_from now timeout n es)
+sorted_from now None n es k = k
+sorted_from now (Some delay) n es k = sorted_set (Batch n) (later now delay) es k
+
+sorted_waiting : (now : ℕ) (timeout : Option ℕ) (n : ℕ) (was is : Bool) (es : List (Alarm × ℕ)) → Sorted es → Sorted (alarms_waiting now timeout n was is es)
+sorted_waiting now timeout n was true es k = sorted_clear (Batch n) es k
+sorted_waiting now timeout n true false es k = sorted_from now timeout n es k
+sorted_waiting now timeout n false false es k = k
+
+sorted_topic : (v : View) (n : ℕ) (act : topic.Act) → Sorted v.alarms → Sorted (alarms_on_topic v n act)
+sorted_topic v n act k =
+    let row : Option Topic = v.producers.topics n in
+    sorted_waiting v.now (timeout_at v.producers row) n (is_bare row) (is_bare (option_map (topic_after act) row)) v.alarms k
+
+sorted_all : (ns : List ℕ) (es : List (Alarm × ℕ)) → Sorted es → Sorted (clear_all ns es)
+sorted_all [] es k = k
+sorted_all (n ∷ ns) es k = sorted_all ns (clear (Batch n) es) (sorted_clear (Batch n) es k)
+
+sorted_after : (v : View) (a : Act) → Sorted v.alarms → Sorted (alarms_after v a)
+sorted_after v (Comes (ToLink l x)) k = sorted_on v.chosen v.now (turned v (Comes (ToLink l x))) v.alarms k
+sorted_after v (Comes (Rings a)) k =
+    sorted_either (rings v.now a v.alarms) (alarms_rung v.chosen v.now a v.alarms) v.alarms (sorted_rung v.chosen v.now a v.alarms k) k
+sorted_after v (Does who (Wait delay)) k = sorted_set (Wake who) (later v.now delay) v.alarms k
+sorted_after v (Does who (Store n e)) k = sorted_topic v n (topic.Stores (turn_of who) e) k
+sorted_after v (Does who (Flush n)) k = sorted_topic v n (topic.Flushes (turn_of who)) k
+sorted_after v (Does who (Shut t)) k = sorted_all (numbers_at (v.producers.built t)) v.alarms k
+sorted_after v (Does who StopAll) k = tt
+sorted_after v (Answers who verdict) k =
+    sorted_either (not v.calls.is_built && builds verdict.makes false) (set CheckIdle (later v.now idle_period) v.alarms) v.alarms
+    (sorted_set CheckIdle (later v.now idle_period) v.alarms k) k
+sorted_after v _ k = k
+
+pub sorted : (o : Options) (log : List Entry) → Sorted (view o log).alarms
+sorted o [] = tt
+sorted o (Begins e ∷ log) = subst Sorted (sym (begun_same (λ v. v.alarms) e (view o log) refl)) (sorted o log)
+sorted o (Then a ∷ log) = sorted_after (view o log) a (sorted o log)
+
+-- WHAT A TICK BRINGS
+
+rings_order : (xs : List Alarm) → InOrder alarm_below xs → InOrder part_below (map Rings xs)
+rings_order [] k = tt
+rings_order (a ∷ xs) k = (none xs k.0, rings_order xs k.1)
+  where
+    none : (bs : List Alarm) → NoneBelow alarm_below a bs → NoneBelow part_below (Rings a) (map Rings bs)
+    none [] n = tt
+    none (b ∷ bs) n = (n.0, none bs n.1)
+
+abbrev IsRinging : Part → Type 0
+IsRinging p = (a : Alarm) × (p ≡ Rings a)
+
+all_ring : (xs : List Alarm) → Each IsRinging (map Rings xs)
+all_ring [] = tt
+all_ring (a ∷ xs) = ((a, refl), all_ring xs)
+
+-- deadlines come before all else, link by link
+abbrev IsFor : ℕ → Part → Type 0
+IsFor l p = part_rank p ≡ (0, 0, l)
+
+abbrev IsFrom : ℕ → Part → Type 0
+IsFrom first p = (l : ℕ) × (first ≤ l) × IsFor l p
+
+rings_behind : (a : Alarm) (l : ℕ) → is_before3 (part_rank (Rings a)) (0, 0, l) ≡ false
+rings_behind (Retry k) l = refl
+rings_behind (Wake who) l = refl
+rings_behind (Batch n) l = refl
+rings_behind (KeepAlive k) l = refl
+rings_behind CheckIdle l = refl
+
+behind_due : (first : ℕ) (x y : Part) → IsFrom first x → IsRinging y → part_below y x ≡ false
+behind_due first x y p q = (λ i. is_before3 (part_rank (q.1 i)) (p.2 i)) ∙ rings_behind q.0 p.0
+
+later_link : (first l : ℕ) → suc first ≤ l → is_before3 (0, 0, l) (0, 0, first) ≡ false
+later_link first l le = grind (arith, nat_tests)
+
+by_link : (first : ℕ) (x y : Part) → IsFor first x → IsFrom (suc first) y → part_below y x ≡ false
+by_link first x y p q = (λ i. is_before3 (q.2 i) (p i)) ∙ later_link first q.0 q.1
+
+module _ (now : ℕ) (live : ℕ → Option Seat) where
+  abbrev due_on : ℕ → List Part
+  due_on l = on_link (due_part now) live l
+
+  due_for : (l : ℕ) (row : Option Seat) → Each (IsFor l) (flat_map (due_part now l) (option_to_list row))
+  due_for l None = tt
+  due_for l (Some seat) = by (due now seat.seen)
+    where
+      by : (b : Bool) → Each (IsFor l) (cond b (ToLink l (Ends (Overdue seat.seen.waits.queued)) ∷ []) [] ++ [])
+      by true = (refl, tt)
+      by false = tt
+
+  one_due : (l : ℕ) (row : Option Seat) → InOrder part_below (flat_map (due_part now l) (option_to_list row))
+  one_due l None = tt
+  one_due l (Some seat) = by (due now seat.seen)
+    where
+      by : (b : Bool) → InOrder part_below (cond b (ToLink l (Ends (Overdue seat.seen.waits.queued)) ∷ []) [] ++ [])
+      by true = (tt, tt)
+      by false = tt
+
+  due_from : (first count : ℕ) → Each (IsFrom first) (flat_map due_on (numbers_from first count))
+  due_from first zero = tt
+  due_from first (suc n) =
+      each_append (IsFrom first) (due_on first) (flat_map due_on (numbers_from (suc first) n))
+      (each_map (IsFor first) (IsFrom first) (due_on first) (λ p e. (first, omega arith, e)) (due_for first (live first)))
+      (each_map (IsFrom (suc first)) (IsFrom first) (flat_map due_on (numbers_from (suc first) n)) (λ p k. (k.0, less k.0 k.1, k.2)) (due_from (suc first) n))
+    where
+      less : (l : ℕ) → suc first ≤ l → first ≤ l
+      less l le = omega (arith, le)
+
+  due_order : (first count : ℕ) → InOrder part_below (flat_map due_on (numbers_from first count))
+  due_order first zero = tt
+  due_order first (suc n) =
+      order_append part_below (IsFor first) (IsFrom (suc first)) (due_on first) (flat_map due_on (numbers_from (suc first) n)) (by_link first)
+      (due_for first (live first)) (due_from (suc first) n) (one_due first (live first)) (due_order (suc first) n)
+
+pub ticks_in_order_lem : TicksInOrder
+ticks_in_order_lem o log now =
+    let v : View = view o log in
+    order_append part_below (IsFrom 0) IsRinging (over_links (due_part now) v.links) (map Rings (ringing now v.alarms)) (behind_due 0)
+    (due_from now v.links.live 0 v.links.started) (all_ring (ringing now v.alarms))
+    (due_order now v.links.live 0 v.links.started)
+    (rings_order (ringing now v.alarms) (sorted_filter (λ e. nat_le e.1 now) v.alarms (sorted o log)))

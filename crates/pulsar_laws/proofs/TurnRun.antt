@@ -1,0 +1,1116 @@
+-- Turns along a log: each kind of act keeps what is so of them.
+use Rattle.std.proofs.Common.{◌≡◌, ◌⊎◌, inl, inr, ◌∙◌, sym, ap, subst, ℕ, ◌+◌, ◌<◌, ◌≤◌, ◌==◌, arith, List, [], ◌∷◌, ◌++◌, refl, Bool, true, false, ◌&&◌, nat_lt, cond, Option, Some, None}
+use Rattle.std.proofs.lemmas.Bool.{cases_Bool, eqb-true}
+use Rattle.std.proofs.lemmas.Bool.Decides.{nat_tests}
+use Rattle.std.specs.BTreeSet.{insert_key}
+use Rattle.std.specs.List.{flat_map}
+use Rattle.std.specs.Option.{is_none, option_map, option_to_list}
+use Rattle.std.specs.Ordering.{match_ordering, nat_cmp}
+use Rattle.std.specs.declared.cmp.Ordering.TheVariants.{Less, Equal, Greater}
+use Rattle.pulsar_run.specs.Laws.{In}
+use Rattle.pulsar_session.specs.Link.{is_spent}
+use Rattle.pulsar_producer.specs.Laws.{AreAbove}
+use Rattle.pulsar_producer.specs.Topic as topic
+use Rattle.pulsar_producer.specs.Topic.{Setup, Takes, Passes, first_of, next_holder, rest_of, takes_in}
+use Rattle.pulsar_producer.specs.declared.deed.News.TheVariants as news
+use Rattle.pulsar_producer.specs.declared.sending.Sending.TheVariants as send
+use Rattle.pulsar_producer.proofs.Turns.{lowest_is_next}
+use Rattle.pulsar_calls.specs.declared.act.Act.{Act}
+use Rattle.pulsar_calls.specs.declared.act.Act.TheVariants.{Starts, Told, Does}
+use Rattle.pulsar_calls.specs.declared.act.Action.TheVariants.{TakeTurn, PassTurn}
+use Rattle.pulsar_calls.specs.declared.act.Notice.{Notice}
+use Rattle.pulsar_calls.specs.declared.act.Outcome.{Outcome}
+use Rattle.pulsar_calls.specs.declared.act.Outcome.TheVariants as outcome
+use Rattle.pulsar_calls.specs.declared.act.Procedure.{Procedure}
+use Rattle.pulsar_calls.specs.declared.act.Verdict.{Verdict}
+use Rattle.pulsar_calls.specs.declared.act.Who.{Who}
+use Rattle.pulsar_calls.specs.declared.act.Who.TheVariants.{Call, Producer}
+use Rattle.pulsar_calls.specs.declared.act.Share.{Share}
+use Rattle.pulsar_calls.specs.declared.plans.plan.Plan.{Plan}
+use Rattle.pulsar_calls.specs.declared.plans.plan.Plan.TheVariants.{Batching, Leaving, Sending}
+use Rattle.pulsar_calls.specs.declared.plans.plan.Turn.{Turn}
+use Rattle.pulsar_calls.specs.declared.plans.plan.Turn.TheVariants.{Stays, Gives}
+use Rattle.pulsar_client.specs.declared.producers.Topic.{Topic}
+use Rattle.pulsar_calls.specs.Content.{Heard}
+use Rattle.pulsar_laws.specs.Laws.{counted, start_of}
+use Rattle.pulsar_calls.specs.Plan.{begins, told}
+use Rattle.pulsar_client.specs.Producers.{Producers, changed, topic_after, turn_passed}
+use Rattle.pulsar_laws.specs.ProducerLaws.{HasTurn, PassedInTurn, QueuedInTurn, ToldInTurn, acts_on, topic_acts, turn_of}
+use Rattle.pulsar_client.specs.Rules.{at_once, grants, notice, takes_turn, turn_notice}
+use Rattle.pulsar_client.specs.Run.{Entry, Begins, Then, IsRun, view}
+use Rattle.pulsar_client.specs.View.{Options, stays, stays_some, told_some}
+use Rattle.pulsar_calls.specs.Who.{behind_all, in_turn, is_same, turn_of as taken_as}
+use Rattle.pulsar_client.proofs.Acts.{begun_same}
+use Rattle.pulsar_laws.proofs.Drawing.{Every, drawn_run, here, row_from}
+use Rattle.pulsar_laws.proofs.Follow.{same_is}
+use Rattle.pulsar_laws.proofs.Holding.{GoesSo, begins_holds, holds, is_past, is_turn_told, told_holds}
+use Rattle.pulsar_laws.proofs.Holding as holding
+use Rattle.pulsar_laws.proofs.InTurn.{AllTurns, IsAt, IsPassing, IsPending, IsTaking, IsTicket, OwnTurns, Turns, at_most_none, leaving_gives, leaving_none, not_all, not_begun, own_taking, own_waits, passing, self_same, stood_begun, stood_ticket, taking, who_same}
+use Rattle.pulsar_laws.proofs.Natures.{StaysSo, is_batching, is_leaving}
+use Rattle.pulsar_laws.proofs.Topics.{row_as, topic_all, topics_alone_lem}
+use Rattle.pulsar_laws.proofs.Unbatched.{calls_unbatched}
+use Rattle.pulsar_laws.proofs.Turns.{acts_left, all_left, once_none, passes_it, pend_kept, pend_then, pending, sum, takes_it, turn_act, turn_note}
+
+none_some : {A : Type 0} {x : A} → None ≡ Some x → ⊥
+none_some {A} {x} h = cc
+
+-- ONE ACT
+
+abbrev Waits : Options → List Entry → ℕ → ℕ → Type 0
+Waits o log t n = (row : Topic) × ((view o log).producers.topics n ≡ Some row) × In t row.seen.waiting
+
+-- those whose turns stay where they are, and who waits now
+record Step (o : Options) (log : List Entry) (a : Act) (Keeper : ℕ → Type 0) (New : ℕ → ℕ → Type 0) : Type 0 where
+  stand : (t : ℕ) → (view o (Then a ∷ log)).stand (Call t) ≡ (view o log).stand (Call t)
+  keeps : (t n : ℕ) → Keeper t → HasTurn (view o log) (Call t) n → HasTurn (view o (Then a ∷ log)) (Call t) n
+  holder : (t n : ℕ) (p : Plan) → (view o log).stand (Call t) ≡ Some p → holds p ≡ Some n → Keeper t
+  pender : (t : ℕ) → 1 ≤ pending o log (Call t) → Keeper t
+  back : (t n : ℕ) (row : Topic) → IsTicket t → (view o (Then a ∷ log)).producers.topics n ≡ Some row → In t row.seen.waiting → Waits o log t n ⊎ New t n
+  new_at : (t n : ℕ) → New t n → IsAt n ((view o log).stand (Call t))
+  new_apart : (t n m : ℕ) → New t n → Waits o log t m → ⊥
+  new_one : (t n m : ℕ) → New t n → New t m → n ≡ m
+  new_begun : (t n : ℕ) → New t n → 1 ≤ counted (start_of t) log
+  few : (t : ℕ) → pending o (Then a ∷ log) (Call t) ≤ 1
+  told : (t : ℕ) → 1 ≤ pending o (Then a ∷ log) (Call t) →
+      ((1 ≤ pending o log (Call t)) × ((n : ℕ) → New t n → ⊥)) ⊎ IsPending o (Then a ∷ log) t
+
+count_more : (t : ℕ) (a : Act) (log : List Entry) → 1 ≤ counted (start_of t) log → 1 ≤ counted (start_of t) (Then a ∷ log)
+count_more t a log h = let s : ℕ = start_of t a in let g : 1 ≤ counted (start_of t) log + s = omega (arith, h) in g
+
+step_turns : (o : Options) (log : List Entry) (a : Act) (Keeper : ℕ → Type 0) (New : ℕ → ℕ → Type 0) → Turns o log → Step o log a Keeper New →
+    Turns o (Then a ∷ log)
+step_turns o log a Keeper New k s = record {
+  held = λ t n p h e.
+      (let was : (view o log).stand (Call t) ≡ Some p = sym (s.stand t) ∙ h in s.keeps t n (s.holder t n p was e) (k.held t n p was e));
+  waits = λ t n row x e i. subst (IsAt n) (sym (s.stand t)) (elim (s.back t n row x e i) [ inl w ↦ k.waits t n w.0 x w.1 w.2 | inr w ↦ s.new_at t n w ]);
+  one = λ t n m row other x e f i j. elim (s.back t n row x e i) [
+    | inl w ↦ elim (s.back t m other x f j) [ inl y ↦ k.one t n m w.0 y.0 x w.1 y.1 w.2 y.2 | inr y ↦ absurd (s.new_apart t m n y w) ]
+    | inr w ↦ elim (s.back t m other x f j) [ inl y ↦ absurd (s.new_apart t n m w y) | inr y ↦ s.new_one t n m w y ]
+  ];
+  begun = λ t n row x e i. count_more t a log (elim (s.back t n row x e i) [ inl w ↦ k.begun t n w.0 x w.1 w.2 | inr w ↦ s.new_begun t n w ]);
+  few = s.few;
+  told = λ t one. elim (s.told t one) [
+    | inl was ↦
+        (let i = k.told t was.0 in
+        record {
+          number = i.number;
+          has = s.keeps t i.number (s.pender t was.0) i.has;
+          stands = subst (IsAt i.number) (sym (s.stand t)) i.stands;
+          apart = λ n row e j. elim (s.back t n row i.ticket e j) [ inl w ↦ i.apart n w.0 w.1 w.2 | inr w ↦ was.1 n w ];
+          begun = count_more t a log i.begun;
+          ticket = i.ticket;
+        })
+    | inr i ↦ i
+  ];
+}
+
+-- ACTS THAT LEAVE TURNS
+
+abbrev Everyone : ℕ → Type 0
+Everyone t = Unit {0}
+
+abbrev Nobody : ℕ → ℕ → Type 0
+Nobody t n = ⊥
+
+kept_row : (o : Options) (log : List Entry) (a : Act) → IsRun o (Then a ∷ log) → takes_it a ≡ false → passes_it a ≡ false → (w : Who) (n : ℕ) →
+    HasTurn (view o log) w n →
+    HasTurn (view o (Then a ∷ log)) w n
+kept_row o log a run x y w n h = (
+  topic_all (topic_acts (view o log) n a) h.0,
+  row_as o log (drawn_run o log run.0) n h.0 h.1 a run,
+  (all_left (topic_acts (view o log) n a) h.0.seen (acts_left (view o log) n a x y)).0 ∙ h.2,
+)
+
+back_row : (o : Options) (log : List Entry) (a : Act) → IsRun o (Then a ∷ log) → takes_it a ≡ false → passes_it a ≡ false → (t n : ℕ) (row : Topic) →
+    (view o (Then a ∷ log)).producers.topics n ≡ Some row → In t row.seen.waiting → Waits o log t n
+back_row o log a run x y t n row e i = from ((view o log).producers.topics n) refl
+  where
+    from : (r : Option Topic) → (view o log).producers.topics n ≡ r → Waits o log t n
+    from (Some old) f =
+        let is : Some row ≡ Some (topic_all (topic_acts (view o log) n a) old) = sym e ∙ row_as o log (drawn_run o log run.0) n old f a run in
+        let same : row ≡ topic_all (topic_acts (view o log) n a) old = cc in
+        let w : row.seen.waiting ≡ old.seen.waiting =
+        ap (λ r. r.seen.waiting) same ∙ (all_left (topic_acts (view o log) n a) old.seen (acts_left (view o log) n a x y)).1 in
+        (old, f, subst (In t) w i)
+    from None f = elim (row_from (view o log) a n row e) [
+      | inl was ↦ (let no : Some was.row ≡ None = sym was.was ∙ f in absurd cc)
+      | inr j ↦ (let w : row.seen.waiting ≡ [] = sym (ap (λ r. r.seen.waiting) j.is_new.is_it) in absurd (subst (In t) w i))
+    ]
+
+left_turns : (o : Options) (log : List Entry) (a : Act) → IsRun o (Then a ∷ log) → takes_it a ≡ false → passes_it a ≡ false →
+    ((w : Who) → (view o (Then a ∷ log)).stand w ≡ (view o log).stand w) → AllTurns o log → AllTurns o (Then a ∷ log)
+left_turns o log a run x y same k = record {
+  calls = step_turns o log a Everyone Nobody k.calls (record {
+    stand = λ t. same (Call t);
+    keeps = λ t n q h. kept_row o log a run x y (Call t) n h;
+    holder = λ t n p s h. tt;
+    pender = λ t h. tt;
+    back = λ t n row z e i. inl (back_row o log a run x y t n row e i);
+    new_at = λ t n h. absurd h;
+    new_apart = λ t n m h w. absurd h;
+    new_one = λ t n m h w. absurd h;
+    new_begun = λ t n h. absurd h;
+    few = λ t. (let e = pend_kept o log (Call t) a x y run in let f : pending o log (Call t) ≤ 1 = k.calls.few t in omega (arith, e, f));
+    told = λ t one. inl ((let e = pend_kept o log (Call t) a x y run in omega (arith, e, one)), λ n h. h);
+  });
+  own = record {
+    held = λ m n p h e.
+        (let was = k.own.held m n p (sym (same (Producer m)) ∙ h) e in
+        let d = pend_kept o log (Producer m) a x y run in
+        let z : pending o log (Producer m) ≡ 0 = was.1 in
+        (kept_row o log a run x y (Producer m) m was.0, omega (arith, d, z)));
+    few = λ m.
+        (let e = pend_kept o log (Producer m) a x y run in let f : pending o log (Producer m) ≤ 1 = k.own.few m in omega (arith, e, f));
+    told = λ m one.
+        (let e = pend_kept o log (Producer m) a x y run in
+        let f : 1 ≤ pending o log (Producer m) = omega (arith, e, one) in
+        kept_row o log a run x y (Producer m) m (k.own.told m f));
+  };
+}
+
+-- ONE IS TOLD SOMETHING
+
+-- a plan that is not of batches leaves where it is past turns
+past_leaves : (p : Plan) → is_past p ≡ true → is_batching p ≡ false → is_leaving p ≡ true
+past_leaves (Leaving f) h b = refl
+past_leaves (Batching w e x) h b = absurd cc
+past_leaves _ h b = absurd cc
+
+module _ (o : Options) (log : List Entry) (n : Notice) (run : IsRun o (Then (Told n) ∷ log)) (k : AllTurns o log) where
+  abbrev after_told : Who → Option Plan
+  after_told w = (view o (Then (Told n) ∷ log)).stand w
+
+  pends : (w : Who) → pending o log w ≡ turn_note w n + pending o (Then (Told n) ∷ log) w
+  pends w = pend_kept o log w (Told n) refl refl run
+
+  -- for another nothing changes
+  other_stands : (w : Who) → is_same w n.who ≡ false → after_told w ≡ (view o log).stand w
+  other_stands w e = ap (λ b. cond b (stays_some (told_some ((view o log).stand w) n.outcome)) ((view o log).stand w)) e
+
+  it_stands : (w : Who) (r : Option Plan) → is_same w n.who ≡ true → (view o log).stand w ≡ r → after_told w ≡ stays_some (told_some r n.outcome)
+  it_stands w r e h =
+      ap (λ b. cond b (stays_some (told_some ((view o log).stand w) n.outcome)) ((view o log).stand w)) e
+      ∙ ap (λ x. stays_some (told_some x n.outcome)) h
+
+  note_one : (w : Who) → is_same w n.who ≡ true → is_turn_told n.outcome ≡ true → turn_note w n ≡ 1
+  note_one w e f = ap (λ b. cond (b && is_turn_told n.outcome) 1 0) e ∙ ap (λ b. cond b 1 0) f
+
+  pends_one : (w : Who) → is_same w n.who ≡ true → is_turn_told n.outcome ≡ true → 1 ≤ pending o log w
+  pends_one w e f = let a : turn_note w n ≡ 1 = note_one w e f in let b = pends w in omega (arith, a, b)
+
+  -- of one that was told no turn
+  at_stays : (t m : ℕ) (p : Plan) (x : Turn Plan Verdict) → told p n.outcome ≡ x → after_told (Call t) ≡ stays x → is_turn_told n.outcome ≡ false →
+      IsAt m (Some p) → IsAt m (stays x)
+  at_stays t m p (Gives verdict) e s f h = tt
+  at_stays t m p (Stays q a) e s f (inl w) =
+      inr (past_leaves q ((subst (StaysSo (GoesSo p n.outcome)) e (told_holds p n.outcome)).waits m w f)
+      (calls_unbatched o (Then (Told n) ∷ log) t q run s))
+  at_stays t m p (Stays q a) e s f (inr l) = absurd (leaving_gives p n.outcome q a l e)
+
+  at_told : (t m : ℕ) (r : Option Plan) → is_same (Call t) n.who ≡ true → (view o log).stand (Call t) ≡ r → is_turn_told n.outcome ≡ false → IsAt m r →
+      IsAt m (after_told (Call t))
+  at_told t m None e s f h = subst (IsAt m) (sym (it_stands (Call t) None e s)) tt
+  at_told t m (Some p) e s f h =
+      subst (IsAt m) (sym (it_stands (Call t) (Some p) e s)) (at_stays t m p (told p n.outcome) refl (it_stands (Call t) (Some p) e s) f h)
+
+  held_stays : (t m : ℕ) (p q : Plan) (x : Turn Plan Verdict) → told p n.outcome ≡ x → is_same (Call t) n.who ≡ true → (view o log).stand (Call t) ≡ Some p →
+      stays x ≡ Some q →
+      holds q ≡ Some m → HasTurn (view o log) (Call t) m
+  held_stays t m p q (Gives verdict) e same s h d = absurd (none_some h)
+  held_stays t m p q (Stays r a) e same s h d =
+      let g : GoesSo p n.outcome r a = subst (StaysSo (GoesSo p n.outcome)) e (told_holds p n.outcome) in
+      let is : r ≡ q = (let f : Some r ≡ Some q = h in cc) in
+      elim (g.has m (ap holds is ∙ d)) [
+        | inl was ↦ k.calls.held t m p s was
+        | inr new ↦
+            (let i = k.calls.told t (pends_one (Call t) same new.1) in
+            let at : IsAt i.number (Some p) = subst (IsAt i.number) s i.stands in
+            elim at [
+              | inl w ↦ (let f : Some i.number ≡ Some m = sym w ∙ new.0 in let num : i.number ≡ m = cc in subst (HasTurn (view o log) (Call t)) num i.has)
+              | inr l ↦ absurd (none_some (sym (leaving_none p l).0 ∙ new.0))
+            ])
+      ]
+
+  held_told : (t m : ℕ) (q : Plan) (r : Option Plan) → is_same (Call t) n.who ≡ true → (view o log).stand (Call t) ≡ r → after_told (Call t) ≡ Some q →
+      holds q ≡ Some m →
+      HasTurn (view o log) (Call t) m
+  held_told t m q None e s h d = absurd (none_some (sym (it_stands (Call t) None e s) ∙ h))
+  held_told t m q (Some p) e s h d = held_stays t m p q (told p n.outcome) refl e s (sym (it_stands (Call t) (Some p) e s) ∙ h) d
+
+  waits_told : (t m : ℕ) (row : Topic) → IsTicket t → (view o log).producers.topics m ≡ Some row → In t row.seen.waiting → is_same (Call t) n.who ≡ true →
+      IsAt m (after_told (Call t))
+  waits_told t m row x e i same = elim (cases_Bool (is_turn_told n.outcome)) [
+    | inl f ↦ absurd ((k.calls.told t (pends_one (Call t) same f)).apart m row e i)
+    | inr f ↦ at_told t m ((view o log).stand (Call t)) same refl f (k.calls.waits t m row x e i)
+  ]
+
+  at_after : (t m : ℕ) → turn_note (Call t) n ≡ 0 → IsAt m ((view o log).stand (Call t)) → IsAt m (after_told (Call t))
+  at_after t m z h = elim (cases_Bool (is_same (Call t) n.who)) [
+    | inl e ↦ elim (cases_Bool (is_turn_told n.outcome)) [
+      | inl f ↦ (let o : turn_note (Call t) n ≡ 1 = note_one (Call t) e f in let no : ◌≡◌ {A = ℕ} 1 0 = sym o ∙ z in absurd cc)
+      | inr f ↦ at_told t m ((view o log).stand (Call t)) e refl f h
+    ]
+    | inr e ↦ subst (IsAt m) (sym (other_stands (Call t) e)) h
+  ]
+
+  -- of a topic producer
+  abbrev HasOwn : ℕ → Type 0
+  HasOwn m = HasTurn (view o log) (Producer m) m × (pending o (Then (Told n) ∷ log) (Producer m) ≡ 0)
+
+  own_stays : (m j : ℕ) (p q : Plan) (x : Turn Plan Verdict) → told p n.outcome ≡ x → is_same (Producer m) n.who ≡ true →
+      (view o log).stand (Producer m) ≡ Some p → stays x ≡ Some q → holds q ≡ Some j → HasOwn m
+  own_stays m j p q (Gives verdict) e same s h d = absurd (none_some h)
+  own_stays m j p q (Stays r a) e same s h d =
+      let g : GoesSo p n.outcome r a = subst (StaysSo (GoesSo p n.outcome)) e (told_holds p n.outcome) in
+      let is : r ≡ q = (let f : Some r ≡ Some q = h in cc) in
+      let b = pends (Producer m) in
+      elim (g.has j (ap holds is ∙ d)) [
+        | inl was ↦ (let w = k.own.held m j p s was in let z : pending o log (Producer m) ≡ 0 = w.1 in (w.0, omega (arith, b, z)))
+        | inr new ↦
+            (let y : turn_note (Producer m) n ≡ 1 = note_one (Producer m) same new.1 in
+            let f : pending o log (Producer m) ≤ 1 = k.own.few m in
+            (k.own.told m (pends_one (Producer m) same new.1), omega (arith, b, y, f)))
+      ]
+
+  own_told : (m j : ℕ) (q : Plan) (r : Option Plan) → is_same (Producer m) n.who ≡ true → (view o log).stand (Producer m) ≡ r →
+      after_told (Producer m) ≡ Some q → holds q ≡ Some j → HasOwn m
+  own_told m j q None e s h d = absurd (none_some (sym (it_stands (Producer m) None e s) ∙ h))
+  own_told m j q (Some p) e s h d = own_stays m j p q (told p n.outcome) refl e s (sym (it_stands (Producer m) (Some p) e s) ∙ h) d
+
+  told_turns : AllTurns o (Then (Told n) ∷ log)
+  told_turns = record {
+    calls = record {
+      held = λ t m q h d. elim (cases_Bool (is_same (Call t) n.who)) [
+        | inl e ↦ held_told t m q ((view o log).stand (Call t)) e refl h d
+        | inr e ↦ k.calls.held t m q (sym (other_stands (Call t) e) ∙ h) d
+      ];
+      waits = λ t m row x e i. elim (cases_Bool (is_same (Call t) n.who)) [
+        | inl same ↦ waits_told t m row x e i same
+        | inr same ↦ subst (IsAt m) (sym (other_stands (Call t) same)) (k.calls.waits t m row x e i)
+      ];
+      one = k.calls.one;
+      begun = λ t m row x e i. count_more t (Told n) log (k.calls.begun t m row x e i);
+      few = λ t. (let e = pends (Call t) in let f : pending o log (Call t) ≤ 1 = k.calls.few t in omega (arith, e, f));
+      told = λ t one.
+          (let e = pends (Call t) in
+          let f : pending o log (Call t) ≤ 1 = k.calls.few t in
+          let z : turn_note (Call t) n ≡ 0 = omega (arith, e, f, one) in
+          let was : 1 ≤ pending o log (Call t) = omega (arith, e, one) in
+          let i = k.calls.told t was in
+          record {
+            number = i.number;
+            has = i.has;
+            stands = at_after t i.number z i.stands;
+            apart = i.apart;
+            begun = count_more t (Told n) log i.begun;
+            ticket = i.ticket;
+          });
+    };
+    own = record {
+      held = λ m j q h d. elim (cases_Bool (is_same (Producer m) n.who)) [
+        | inl e ↦ own_told m j q ((view o log).stand (Producer m)) e refl h d
+        | inr e ↦
+            (let w = k.own.held m j q (sym (other_stands (Producer m) e) ∙ h) d in
+            let b = pends (Producer m) in
+            let z : pending o log (Producer m) ≡ 0 = w.1 in
+            (w.0, omega (arith, b, z)))
+      ];
+      few = λ m. (let e = pends (Producer m) in let f : pending o log (Producer m) ≤ 1 = k.own.few m in omega (arith, e, f));
+      told = λ m one. k.own.told m (let e = pends (Producer m) in omega (arith, e, one));
+    };
+  }
+
+-- A PLAN STARTS
+
+starts_turns : (o : Options) (log : List Entry) (who : Who) (p : Procedure) → IsRun o (Then (Starts who p) ∷ log) → AllTurns o log →
+    AllTurns o (Then (Starts who p) ∷ log)
+starts_turns o log who p run k = record {
+  calls = record {
+    held = λ t m q h d. elim (cases_Bool (is_same (Call t) who)) [
+      | inl e ↦ absurd (none_held (begins p) refl m q (rw e at h) d)
+      | inr e ↦ k.calls.held t m q (rw e at h) d
+    ];
+    waits = λ t m row x e i. elim (cases_Bool (is_same (Call t) who)) [
+      | inl same ↦ absurd (new t same (k.calls.begun t m row x e i))
+      | inr same ↦ rw same (k.calls.waits t m row x e i)
+    ];
+    one = k.calls.one;
+    begun = λ t m row x e i. count_more t (Starts who p) log (k.calls.begun t m row x e i);
+    few = λ t. (let e = pends (Call t) in let f : pending o log (Call t) ≤ 1 = k.calls.few t in omega (arith, e, f));
+    told = λ t one.
+        (let e = pends (Call t) in
+        let was : 1 ≤ pending o log (Call t) = omega (arith, e, one) in
+        let i = k.calls.told t was in
+        record {
+          number = i.number;
+          has = i.has;
+          stands = elim (cases_Bool (is_same (Call t) who)) [ inl same ↦ absurd (new t same i.begun) | inr same ↦ rw same i.stands ];
+          apart = i.apart;
+          begun = count_more t (Starts who p) log i.begun;
+          ticket = i.ticket;
+        });
+  };
+  own = record {
+    held = λ m j q h d. elim (cases_Bool (is_same (Producer m) who)) [
+      | inl e ↦ absurd (none_held (begins p) refl j q (rw e at h) d)
+      | inr e ↦
+          (let g : (view o log).stand (Producer m) ≡ Some q = rw e at h in
+          let w = k.own.held m j q g d in
+          let b = pends (Producer m) in
+          let z : pending o log (Producer m) ≡ 0 = w.1 in
+          (w.0, omega (arith, b, z)))
+    ];
+    few = λ m. (let e = pends (Producer m) in let f : pending o log (Producer m) ≤ 1 = k.own.few m in omega (arith, e, f));
+    told = λ m one. k.own.told m (let e = pends (Producer m) in omega (arith, e, one));
+  };
+}
+  where
+    pends : (w : Who) → pending o log w ≡ 0 + pending o (Then (Starts who p) ∷ log) w
+    pends w = pend_kept o log w (Starts who p) refl refl run
+
+    new : (t : ℕ) → is_same (Call t) who ≡ true → 1 ≤ counted (start_of t) log → ⊥
+    new t e h = not_begun o log t p (subst (λ (w : Who). IsRun o (Then (Starts w p) ∷ log)) (sym (same_is (Call t) who e)) run) h
+
+    none_held : (x : Turn Plan Verdict) → begins p ≡ x → (m : ℕ) (q : Plan) → stays x ≡ Some q → holds q ≡ Some m → ⊥
+    none_held (Gives verdict) e m q h d = none_some h
+    none_held (Stays r a) e m q h d =
+        let g : holding.BeginsSo r a = subst (StaysSo holding.BeginsSo) e (begins_holds p) in
+        let is : r ≡ q = (let f : Some r ≡ Some q = h in cc) in
+        none_some (sym g.0 ∙ ap holds is ∙ d)
+
+-- ONE ROW CHANGES
+
+equal_self : (n : ℕ) → (n == n) ≡ true
+equal_self n = grind (arith, nat_tests)
+
+module _ (act : topic.Act) (ps : Producers) (n : ℕ) (row : Topic) (is : ps.topics n ≡ Some row) where
+  pub changed_at : (changed n act ps).topics n ≡ Some (topic_after act row)
+  changed_at = ap (λ b. cond b (option_map (topic_after act) (ps.topics n)) (ps.topics n)) (equal_self n) ∙ ap (option_map (topic_after act)) is
+
+  pub changed_not : (m : ℕ) → (m == n) ≡ false → (changed n act ps).topics m ≡ ps.topics m
+  changed_not m e = ap (λ b. cond b (option_map (topic_after act) (ps.topics m)) (ps.topics m)) e
+
+  changed_from : (m : ℕ) (other : Topic) → (changed n act ps).topics m ≡ Some other →
+      ((m ≡ n) × (other ≡ topic_after act row)) ⊎ (((m == n) ≡ false) × (ps.topics m ≡ Some other))
+  changed_from m other h = elim (cases_Bool (m == n)) [
+    | inl e ↦
+        (let q : m ≡ n = eqb-true m n e in
+        let f : Some other ≡ Some (topic_after act row) = sym h ∙ ap (changed n act ps).topics q ∙ changed_at in
+        inl (q, cc))
+    | inr e ↦ inr (e, sym (changed_not m e) ∙ h)
+  ]
+
+in_insert : (t k : ℕ) (xs : List ℕ) → In t (insert_key nat_cmp xs k) → In t xs ⊎ (t ≡ k)
+in_insert t k [] (inl e) = inr e
+in_insert t k [] (inr h) = absurd h
+in_insert t k (x ∷ xs) h = by (nat_lt k x) (k == x) (in_insert t k xs) h
+  where
+    by : (a b : Bool) → (In t (insert_key nat_cmp xs k) → In t xs ⊎ (t ≡ k)) →
+        In t (match_ordering (cond a Less (cond b Equal Greater)) (k ∷ x ∷ xs) (x ∷ xs) (x ∷ insert_key nat_cmp xs k)) → In t (x ∷ xs) ⊎ (t ≡ k)
+    by true b more (inl e) = inr e
+    by true b more (inr h) = inl h
+    by false true more h = inl h
+    by false false more (inl e) = inl (inl e)
+    by false false more (inr h) = elim (more h) [ inl i ↦ inl (inr i) | inr e ↦ inr e ]
+
+-- ONE TAKES ITS TURN
+
+no_note_of : (w who : Who) (x : Outcome) → is_turn_told x ≡ false → turn_note w (notice who x) ≡ 0
+no_note_of w who x h = ap (λ b. cond (is_same w who && b) 1 0) h
+    ∙ (elim (is_same w who) as (λ b. ◌≡◌ {A = ℕ} (cond (b && false) 1 0) 0) [ true ↦ refl | false ↦ refl ])
+
+-- of the one that takes it, be it a call or a topic producer
+record Taker (o : Options) (log : List Entry) (who : Who) (n : ℕ) : Type 0 where
+  calls : (u : ℕ) → is_same (Call u) who ≡ true → IsTaking o log u n × (taken_as who ≡ u)
+  is_own : (u : ℕ) → IsTicket u → u ≡ taken_as who → is_same (Call u) who ≡ true
+  producers : (m : ℕ) → is_same (Producer m) who ≡ true →
+      (n ≡ m) × (taken_as who ≡ behind_all) × ((p : Plan) → (view o log).stand (Producer m) ≡ Some p → holds p ≡ None)
+
+taker : (o : Options) (log : List Entry) (who : Who) (n : ℕ) → Every (AllTurns o) log → IsRun o (Then (Does who (TakeTurn n)) ∷ log) → Taker o log who n
+taker o log (Call t) n k run = record {
+  calls = λ u s. (let e : u ≡ t = eqb-true u t s in (subst (λ y. IsTaking o log y n) (sym e) (taking o log t n k run), sym e));
+  is_own = λ u x y. subst (λ z. is_same (Call z) (Call t) ≡ true) (sym y) (self_same t);
+  producers = λ m s. absurd cc;
+}
+taker o log (Producer j) n k run = record {
+  calls = λ u s. absurd cc;
+  is_own = λ u x y. absurd (not_all u x y);
+  producers = λ m s.
+      (let e : m ≡ j = eqb-true m j s in
+      let x = own_taking o log j n run in
+      (x.number ∙ sym e, refl, λ p h. plain p x.plan x.none_held (sym (ap (λ y. (view o log).stand (Producer y)) e) ∙ h) x.stood));
+}
+  where
+    plain : (p q : Plan) → holds q ≡ None → (view o log).stand (Producer j) ≡ Some p → (view o log).stand (Producer j) ≡ Some q → holds p ≡ None
+    plain p q h e f = let g : Some p ≡ Some q = sym e ∙ f in let i : p ≡ q = cc in ap holds i ∙ h
+
+module _ (o : Options) (log : List Entry) (who : Who) (n : ℕ) (run : IsRun o (Then (Does who (TakeTurn n)) ∷ log)) (k : AllTurns o log)
+    (x : Taker o log who n) where
+  abbrev ps : Producers
+  ps = (view o log).producers
+
+  abbrev t : ℕ
+  t = taken_as who
+
+  abbrev it : Act
+  it = Does who (TakeTurn n)
+
+  took : (w : Who) (xs : List Act) → takes_turn who (ps.topics n) ≡ xs → pending o log w + sum (turn_act w) xs + 0 ≡ 0 + pending o (Then it ∷ log) w
+  took w xs e = subst (λ ys. pending o log w + sum (turn_act w) ys + 0 ≡ 0 + pending o (Then it ∷ log) w) e (pend_then o log w it run)
+
+  -- there is no such topic producer
+  module _ (none : ps.topics n ≡ None) where
+    same_topics : (m : ℕ) → (view o (Then it ∷ log)).producers.topics m ≡ ps.topics m
+    same_topics m = elim (cases_Bool (m == n)) [
+      | inl e ↦ (let f : ps.topics m ≡ None = ap ps.topics (eqb-true m n e) ∙ none in rw e (ap (option_map (topic_after (Takes t))) f ∙ sym f))
+      | inr e ↦ rw e refl
+    ]
+
+    pends_same : (w : Who) → pending o log w ≡ pending o (Then it ∷ log) w
+    pends_same w =
+        let e = took w (takes_turn who None) (ap (takes_turn who) none) in
+        let z : turn_note w (notice who outcome.Disconnected) ≡ 0 = no_note_of w who outcome.Disconnected refl in
+        omega (arith, e, z)
+
+    unknown_turns : AllTurns o (Then it ∷ log)
+    unknown_turns = record {
+      calls = step_turns o log it Everyone Nobody k.calls (record {
+        stand = λ u. refl;
+        keeps = λ u m q h. (h.0, same_topics m ∙ h.1, h.2);
+        holder = λ u m p s h. tt;
+        pender = λ u h. tt;
+        back = λ u m row y e i. inl (row, sym (same_topics m) ∙ e, i);
+        new_at = λ u m h. absurd h;
+        new_apart = λ u m j h w. absurd h;
+        new_one = λ u m j h w. absurd h;
+        new_begun = λ u m h. absurd h;
+        few = λ u. (let e = pends_same (Call u) in let f : pending o log (Call u) ≤ 1 = k.calls.few u in omega (arith, e, f));
+        told = λ u one. inl ((let e = pends_same (Call u) in omega (arith, e, one)), λ m h. h);
+      });
+      own = record {
+        held = λ m j p h e.
+            (let w = k.own.held m j p h e in
+            let d = pends_same (Producer m) in
+            let z : pending o log (Producer m) ≡ 0 = w.1 in
+            ((w.0.0, same_topics m ∙ w.0.1, w.0.2), omega (arith, d, z)));
+        few = λ m. (let e = pends_same (Producer m) in let f : pending o log (Producer m) ≤ 1 = k.own.few m in omega (arith, e, f));
+        told = λ m one.
+            (let e = pends_same (Producer m) in
+            let w = k.own.told m (omega (arith, e, one)) in
+            (w.0, same_topics m ∙ w.1, w.2));
+      };
+    }
+
+  module _ (row : Topic) (is : ps.topics n ≡ Some row) where
+    -- nobody has the turn
+    module _ (free : row.seen.holder ≡ None) where
+      abbrev given : Notice
+      given = notice who (outcome.Granted (news.HasTurn row.seen.given.version))
+
+      given_now : takes_turn who (ps.topics n) ≡ Told given ∷ []
+      given_now =
+          ap (takes_turn who) is
+          ∙ ap (λ h. flat_map (λ version. grants who (news.HasTurn version)) (option_to_list (cond (is_none h) (Some row.seen.given.version) None))) free
+
+      pends_more : (w : Who) → pending o log w + turn_note w given ≡ pending o (Then it ∷ log) w
+      pends_more w = let e = took w (Told given ∷ []) given_now in omega (arith, e)
+
+      note_self : (w : Who) → is_same w who ≡ true → turn_note w given ≡ 1
+      note_self w e = ap (λ b. cond (b && true) 1 0) e
+
+      note_other : (w : Who) → is_same w who ≡ false → turn_note w given ≡ 0
+      note_other w e = ap (λ b. cond (b && true) 1 0) e
+
+      now_held : (topic_after (Takes t) row).seen.holder ≡ Some t
+      now_held = ap (λ h. (takes_in h t row.seen).holder) free
+
+      same_waiting : (topic_after (Takes t) row).seen.waiting ≡ row.seen.waiting
+      same_waiting = ap (λ h. (takes_in h t row.seen).waiting) free
+
+      back_free : (u m : ℕ) (other : Topic) → (view o (Then it ∷ log)).producers.topics m ≡ Some other → In u other.seen.waiting → Waits o log u m
+      back_free u m other e i = elim (changed_from (Takes t) ps n row is m other e) [
+        | inl q ↦ (row, ap ps.topics q.0 ∙ is, subst (In u) (ap (λ r. r.seen.waiting) q.1 ∙ same_waiting) i)
+        | inr q ↦ (other, q.1, i)
+      ]
+
+      none_has : (w : Who) (m : ℕ) → (m == n) ≡ true → HasTurn (view o log) w m → ⊥
+      none_has w m e h =
+          let f : Some h.0 ≡ Some row = sym h.1 ∙ ap ps.topics (eqb-true m n e) ∙ is in
+          let same : h.0 ≡ row = cc in
+          none_some (sym free ∙ sym (ap (λ r. r.seen.holder) same) ∙ h.2)
+
+      keeps_free : (w : Who) (m : ℕ) → HasTurn (view o log) w m → HasTurn (view o (Then it ∷ log)) w m
+      keeps_free w m h = elim (cases_Bool (m == n)) [
+        | inl e ↦ absurd (none_has w m e h)
+        | inr e ↦ (h.0, changed_not (Takes t) ps n row is m e ∙ h.1, h.2)
+      ]
+
+      now_has : (topic : Topic) × ((view o (Then it ∷ log)).producers.topics n ≡ Some topic) × (topic.seen.holder ≡ Some t)
+      now_has = (topic_after (Takes t) row, changed_at (Takes t) ps n row is, now_held)
+
+      told_free : (u : ℕ) → is_same (Call u) who ≡ true → IsPending o (Then it ∷ log) u
+      told_free u s =
+          let y = x.calls u s in
+          record {
+            number = n;
+            has = (now_has.0, now_has.1, now_has.2 ∙ ap Some y.1);
+            stands = subst (IsAt n) (sym y.0.stood) (inl y.0.wants);
+            apart = λ m other e i. (let w = back_free u m other e i in y.0.clear.apart m w.0 w.1 w.2);
+            begun = count_more u it log (stood_begun o log u y.0.plan y.0.stood);
+            ticket = stood_ticket o log u y.0.plan run.0 y.0.stood;
+          }
+
+      own_none : (m : ℕ) → is_same (Producer m) who ≡ true → pending o log (Producer m) ≡ 0
+      own_none m s = at_most_none (pending o log (Producer m))
+          (λ one. let e : n ≡ m = (x.producers m s).0 in none_has (Producer m) m (subst (λ y. (y == n) ≡ true) e (equal_self n)) (k.own.told m one))
+
+      own_free : OwnTurns o (Then it ∷ log)
+      own_free = record {
+        held = λ m j p h e. elim (cases_Bool (is_same (Producer m) who)) [
+          | inl s ↦ absurd (none_some (sym ((x.producers m s).2 p h) ∙ e))
+          | inr s ↦
+              (let w = k.own.held m j p h e in
+              let d = pends_more (Producer m) in
+              let f : turn_note (Producer m) given ≡ 0 = note_other (Producer m) s in
+              let z : pending o log (Producer m) ≡ 0 = w.1 in
+              (keeps_free (Producer m) m w.0, omega (arith, d, f, z)))
+        ];
+        few = λ m. elim (cases_Bool (is_same (Producer m) who)) [
+          | inl s ↦
+              (let z : pending o log (Producer m) ≡ 0 = own_none m s in
+              let e = pends_more (Producer m) in
+              let f : turn_note (Producer m) given ≡ 1 = note_self (Producer m) s in
+              omega (arith, z, e, f))
+          | inr s ↦
+              (let e = pends_more (Producer m) in
+              let z : turn_note (Producer m) given ≡ 0 = note_other (Producer m) s in
+              let f : pending o log (Producer m) ≤ 1 = k.own.few m in
+              omega (arith, e, z, f))
+        ];
+        told = λ m one. elim (cases_Bool (is_same (Producer m) who)) [
+          | inl s ↦
+              (let y = x.producers m s in
+              subst (HasTurn (view o (Then it ∷ log)) (Producer m)) y.0 (now_has.0, now_has.1, now_has.2 ∙ ap Some y.1))
+          | inr s ↦
+              (let e = pends_more (Producer m) in
+              let z : turn_note (Producer m) given ≡ 0 = note_other (Producer m) s in
+              keeps_free (Producer m) m (k.own.told m (omega (arith, e, z, one))))
+        ];
+      }
+
+      free_turns : AllTurns o (Then it ∷ log)
+      free_turns = record {
+        calls = step_turns o log it Everyone Nobody k.calls (record {
+          stand = λ u. refl;
+          keeps = λ u m q h. keeps_free (Call u) m h;
+          holder = λ u m p s h. tt;
+          pender = λ u h. tt;
+          back = λ u m other y e i. inl (back_free u m other e i);
+          new_at = λ u m h. absurd h;
+          new_apart = λ u m j h w. absurd h;
+          new_one = λ u m j h w. absurd h;
+          new_begun = λ u m h. absurd h;
+          few = λ u. elim (cases_Bool (is_same (Call u) who)) [
+            | inl s ↦
+                (let z : pending o log (Call u) ≡ 0 = (x.calls u s).0.clear.none_pends in
+                let e = pends_more (Call u) in
+                let f : turn_note (Call u) given ≡ 1 = note_self (Call u) s in
+                omega (arith, z, e, f))
+            | inr s ↦
+                (let e = pends_more (Call u) in
+                let z : turn_note (Call u) given ≡ 0 = note_other (Call u) s in
+                let f : pending o log (Call u) ≤ 1 = k.calls.few u in
+                omega (arith, e, z, f))
+          ];
+          told = λ u one. elim (cases_Bool (is_same (Call u) who)) [
+            | inl s ↦ inr (told_free u s)
+            | inr s ↦
+                inl ((let e = pends_more (Call u) in let z : turn_note (Call u) given ≡ 0 = note_other (Call u) s in omega (arith, e, z, one)), λ m h. h)
+          ];
+        });
+        own = own_free;
+      }
+
+    -- another has it
+    module _ (other : ℕ) (busy : row.seen.holder ≡ Some other) where
+      nothing_now : takes_turn who (ps.topics n) ≡ []
+      nothing_now =
+          ap (takes_turn who) is
+          ∙ ap (λ h. flat_map (λ version. grants who (news.HasTurn version)) (option_to_list (cond (is_none h) (Some row.seen.given.version) None))) busy
+
+      pends_busy : (w : Who) → pending o log w ≡ pending o (Then it ∷ log) w
+      pends_busy w = let e = took w [] nothing_now in omega (arith, e)
+
+      same_holder : (topic_after (Takes t) row).seen.holder ≡ row.seen.holder
+      same_holder = ap (λ h. (takes_in h t row.seen).holder) busy
+
+      more_waiting : (topic_after (Takes t) row).seen.waiting ≡ insert_key nat_cmp row.seen.waiting t
+      more_waiting = ap (λ h. (takes_in h t row.seen).waiting) busy
+
+      abbrev Joined : ℕ → ℕ → Type 0
+      Joined u m = (is_same (Call u) who ≡ true) × (m ≡ n)
+
+      back_busy : (u m : ℕ) (r : Topic) → IsTicket u → (view o (Then it ∷ log)).producers.topics m ≡ Some r → In u r.seen.waiting →
+          Waits o log u m ⊎ Joined u m
+      back_busy u m r y e i = elim (changed_from (Takes t) ps n row is m r e) [
+        | inl q ↦ elim (in_insert u t row.seen.waiting (subst (In u) (ap (λ z. z.seen.waiting) q.1 ∙ more_waiting) i)) [
+          | inl j ↦ inl (row, ap ps.topics q.0 ∙ is, j)
+          | inr j ↦ inr (x.is_own u y j, q.0)
+        ]
+        | inr q ↦ inl (r, q.1, i)
+      ]
+
+      keeps_busy : (w : Who) (m : ℕ) → HasTurn (view o log) w m → HasTurn (view o (Then it ∷ log)) w m
+      keeps_busy w m h = elim (cases_Bool (m == n)) [
+        | inl e ↦
+            (let q : m ≡ n = eqb-true m n e in
+            let f : Some h.0 ≡ Some row = sym h.1 ∙ ap ps.topics q ∙ is in
+            let same : h.0 ≡ row = cc in
+            subst (HasTurn (view o (Then it ∷ log)) w) (sym q)
+            (topic_after (Takes t) row, changed_at (Takes t) ps n row is, same_holder ∙ sym (ap (λ r. r.seen.holder) same) ∙ h.2))
+        | inr e ↦ (h.0, changed_not (Takes t) ps n row is m e ∙ h.1, h.2)
+      ]
+
+      own_busy : OwnTurns o (Then it ∷ log)
+      own_busy = record {
+        held = λ m j p h e.
+            (let w = k.own.held m j p h e in
+            let d = pends_busy (Producer m) in
+            let z : pending o log (Producer m) ≡ 0 = w.1 in
+            (keeps_busy (Producer m) m w.0, omega (arith, d, z)));
+        few = λ m. (let e = pends_busy (Producer m) in let f : pending o log (Producer m) ≤ 1 = k.own.few m in omega (arith, e, f));
+        told = λ m one. (let e = pends_busy (Producer m) in keeps_busy (Producer m) m (k.own.told m (omega (arith, e, one))));
+      }
+
+      busy_turns : AllTurns o (Then it ∷ log)
+      busy_turns = record {
+        calls = step_turns o log it Everyone Joined k.calls (record {
+          stand = λ u. refl;
+          keeps = λ u m q h. keeps_busy (Call u) m h;
+          holder = λ u m p s h. tt;
+          pender = λ u h. tt;
+          back = back_busy;
+          new_at = λ u m h. (let y = (x.calls u h.0).0 in subst (IsAt m) (sym y.stood) (inl (y.wants ∙ ap Some (sym h.1))));
+          new_apart = λ u m j h w. (x.calls u h.0).0.clear.apart j w.0 w.1 w.2;
+          new_one = λ u m j h w. h.1 ∙ sym w.1;
+          new_begun = λ u m h. (let y = (x.calls u h.0).0 in stood_begun o log u y.plan y.stood);
+          few = λ u. (let e = pends_busy (Call u) in let f : pending o log (Call u) ≤ 1 = k.calls.few u in omega (arith, e, f));
+          told = λ u one. inl (
+            (let e = pends_busy (Call u) in omega (arith, e, one)),
+            λ m h.
+                (let e = pends_busy (Call u) in
+                let z : pending o log (Call u) ≡ 0 = (x.calls u h.0).0.clear.none_pends in
+                omega (arith, e, z, one)),
+          );
+        });
+        own = own_busy;
+      }
+
+    row_turns : (h : Option ℕ) → row.seen.holder ≡ h → AllTurns o (Then it ∷ log)
+    row_turns None e = free_turns e
+    row_turns (Some other) e = busy_turns other e
+
+  take_turns : (r : Option Topic) → ps.topics n ≡ r → AllTurns o (Then it ∷ log)
+  take_turns None e = unknown_turns e
+  take_turns (Some row) e = row_turns row e row.seen.holder refl
+
+-- ONE PASSES ITS TURN ON
+
+above_not : (x : ℕ) (xs : List ℕ) → AreAbove x xs → In x xs → ⊥
+above_not x [] h i = i
+above_not x (y ∷ xs) h (inl e) = let lt : x < y = h.0 in let q : x ≡ y = e in absurd
+    (let f : 1 ≤ 0 = omega (arith, lt, q) in (let g : ⊥ = omega (arith, f) in g))
+above_not x (y ∷ xs) h (inr i) = above_not x xs h.1 i
+
+-- the first of those that wait is the lowest
+pub lowest : (o : Options) (log : List Entry) (n : ℕ) (row : Topic) (x : ℕ) (xs : List ℕ) → IsRun o log → (view o log).producers.topics n ≡ Some row →
+    row.seen.waiting ≡ x ∷ xs →
+    AreAbove x xs
+lowest o log n row x xs run is w =
+    let a = topics_alone_lem o log n row run is in
+    let s : Setup = record { built = a.0; first_number = o.chosen.first_number; limits = a.1 } in
+    let h = acts_on o n log in
+    let wait : (topic.seen s h).waiting ≡ x ∷ xs = sym (ap (λ v. v.waiting) a.3) ∙ w in
+    let next : next_holder (topic.seen s h) ≡ Some x = ap first_of wait in
+    subst (AreAbove x) (ap rest_of wait) (lowest_is_next s h x next).0
+
+module _ (o : Options) (log : List Entry) (who : Who) (n : ℕ) (run : IsRun o (Then (Does who (PassTurn n)) ∷ log)) (k : AllTurns o log)
+    (y : IsPassing o log who n) where
+  abbrev was : Producers
+  was = (view o log).producers
+
+  abbrev pass : Act
+  pass = Does who (PassTurn n)
+
+  abbrev row : Topic
+  row = y.has.0
+
+  is_row : was.topics n ≡ Some row
+  is_row = y.has.1
+
+  told_next : (r : Option (ℕ × Option (List ℕ))) → turn_passed (was.topics n) ≡ r → (w : Who) →
+      pending o log w + 0 + sum (turn_note w) (option_to_list (option_map (turn_notice n) r)) ≡ 0 + pending o (Then pass ∷ log) w
+  told_next r e w =
+      let p = pend_then o log w pass run in
+      let z : sum (turn_act w) (at_once (view o log) pass) ≡ 0 = once_none (view o log) w pass refl in
+      let q : pending o log w + 0 + sum (turn_note w) (option_to_list (option_map (turn_notice n) (turn_passed (was.topics n)))) ≡ 0 + pending o
+      (Then pass ∷ log) w =
+      omega (arith, p, z) in
+      subst (λ q. pending o log w + 0 + sum (turn_note w) (option_to_list (option_map (turn_notice n) q)) ≡ 0 + pending o (Then pass ∷ log) w) e q
+
+  abbrev Others : ℕ → Type 0
+  Others u = u ≡ taken_as who → ⊥
+
+  -- who has the turn there is the one
+  holds_it : (w : Who) (m : ℕ) → (m == n) ≡ true → HasTurn (view o log) w m → taken_as w ≡ taken_as who
+  holds_it w m e h =
+      let f : Some h.0 ≡ Some row = sym h.1 ∙ ap was.topics (eqb-true m n e) ∙ is_row in
+      let same : h.0 ≡ row = cc in
+      let g : Some (taken_as w) ≡ Some (taken_as who) = sym h.2 ∙ ap (λ r. r.seen.holder) same ∙ y.has.2 in
+      cc
+
+  -- for others nothing is lost
+  keeps_pass : (w : Who) (m : ℕ) → (taken_as w ≡ taken_as who → (m == n) ≡ true → ⊥) → HasTurn (view o log) w m → HasTurn (view o (Then pass ∷ log)) w m
+  keeps_pass w m apart h = elim (cases_Bool (m == n)) [
+    | inl e ↦ absurd (apart (holds_it w m e h) e)
+    | inr e ↦ (h.0, changed_not Passes was n row is_row m e ∙ h.1, h.2)
+  ]
+
+  holder_pass : (u m : ℕ) (p : Plan) → (view o log).stand (Call u) ≡ Some p → holds p ≡ Some m → Others u
+  holder_pass u m p s h e =
+      let it : Call u ≡ who = y.is_own u (stood_ticket o log u p run.0 s) e in
+      let f : Some p ≡ Some y.plan = sym s ∙ ap (view o log).stand it ∙ y.stood in
+      let same : p ≡ y.plan = cc in
+      none_some (sym y.no_more ∙ sym (ap holds same) ∙ h)
+
+  pender_pass : (u : ℕ) → 1 ≤ pending o log (Call u) → Others u
+  pender_pass u one e =
+      let it : Call u ≡ who = y.is_own u (k.calls.told u one).ticket e in
+      let z : pending o log who ≡ 0 = y.none_pends in
+      let f : 1 ≤ pending o log who = subst (λ w. 1 ≤ pending o log w) it one in
+      absurd (let g : ⊥ = omega (arith, z, f) in g)
+
+  in_rest : (u : ℕ) (ts : List ℕ) → In u (rest_of ts) → In u ts
+  in_rest u [] h = h
+  in_rest u (x ∷ xs) h = inr h
+
+  back_pass : (u m : ℕ) (r : Topic) → (view o (Then pass ∷ log)).producers.topics m ≡ Some r → In u r.seen.waiting → Waits o log u m
+  back_pass u m r e i = elim (changed_from Passes was n row is_row m r e) [
+    | inl q ↦ (row, ap was.topics q.0 ∙ is_row, in_rest u row.seen.waiting (subst (In u) (ap (λ z. z.seen.waiting) q.1) i))
+    | inr q ↦ (r, q.1, i)
+  ]
+
+  pass_step : ((u : ℕ) → pending o (Then pass ∷ log) (Call u) ≤ 1) →
+      ((u : ℕ) → 1 ≤ pending o (Then pass ∷ log) (Call u) → (1 ≤ pending o log (Call u)) ⊎ IsPending o (Then pass ∷ log) u) →
+      Turns o (Then pass ∷ log)
+  pass_step few told = step_turns o log pass Others Nobody k.calls (record {
+    stand = λ u. refl;
+    keeps = λ u m apart h. keeps_pass (Call u) m (λ e f. apart e) h;
+    holder = holder_pass;
+    pender = pender_pass;
+    back = λ u m r x e i. inl (back_pass u m r e i);
+    new_at = λ u m h. absurd h;
+    new_apart = λ u m j h w. absurd h;
+    new_one = λ u m j h w. absurd h;
+    new_begun = λ u m h. absurd h;
+    few = few;
+    told = λ u one. elim (told u one) [ inl e ↦ inl (e, λ m h. h) | inr i ↦ inr i ];
+  })
+
+  -- of topic producers: the one that passes its turn on has none, and is told of none
+  is_passer : (m : ℕ) → taken_as (Producer m) ≡ taken_as who → (m == n) ≡ true → Producer m ≡ who
+  is_passer m e f = let x : m ≡ n = eqb-true m n f in ap Producer x ∙ sym (y.is_producer (sym e))
+
+  own_keeps : (m : ℕ) → (Producer m ≡ who → ⊥) → HasTurn (view o log) (Producer m) m → HasTurn (view o (Then pass ∷ log)) (Producer m) m
+  own_keeps m apart h = keeps_pass (Producer m) m (λ e f. apart (is_passer m e f)) h
+
+  own_apart : (m j : ℕ) (p : Plan) → (view o log).stand (Producer m) ≡ Some p → holds p ≡ Some j → Producer m ≡ who → ⊥
+  own_apart m j p s h e =
+      let f : Some p ≡ Some y.plan = sym s ∙ ap (view o log).stand e ∙ y.stood in
+      let same : p ≡ y.plan = cc in
+      none_some (sym y.no_more ∙ sym (ap holds same) ∙ h)
+
+  pends_apart : (m : ℕ) → 1 ≤ pending o log (Producer m) → Producer m ≡ who → ⊥
+  pends_apart m one e =
+      let z : pending o log who ≡ 0 = y.none_pends in
+      let f : 1 ≤ pending o log who = subst (λ w. 1 ≤ pending o log w) e one in
+      (let g : ⊥ = omega (arith, z, f) in g)
+
+  -- where nothing is told of a turn to topic producers
+  own_same : ((m : ℕ) → pending o log (Producer m) ≡ pending o (Then pass ∷ log) (Producer m)) → OwnTurns o (Then pass ∷ log)
+  own_same same = record {
+    held = λ m j p h e.
+        (let w = k.own.held m j p h e in
+        let d = same m in
+        let z : pending o log (Producer m) ≡ 0 = w.1 in
+        (own_keeps m (own_apart m j p h e) w.0, omega (arith, d, z)));
+    few = λ m. (let d = same m in let f : pending o log (Producer m) ≤ 1 = k.own.few m in omega (arith, d, f));
+    told = λ m one.
+        (let d = same m in
+        let f : 1 ≤ pending o log (Producer m) = omega (arith, d, one) in
+        own_keeps m (pends_apart m f) (k.own.told m f));
+  }
+
+  passed_as : (ts : List ℕ) → row.seen.waiting ≡ ts → turn_passed (was.topics n) ≡ option_map (λ ticket. (ticket, row.seen.given.version)) (first_of ts)
+  passed_as ts e = ap turn_passed is_row ∙ ap (λ z. option_map (λ ticket. (ticket, row.seen.given.version)) (first_of z)) e
+
+  -- nobody waits
+  none_waits : row.seen.waiting ≡ [] → AllTurns o (Then pass ∷ log)
+  none_waits e = record {
+    calls = pass_step
+        (λ u. (let p = told_next None (passed_as [] e) (Call u) in let f : pending o log (Call u) ≤ 1 = k.calls.few u in omega (arith, p, f)))
+        (λ u one. inl (let p = told_next None (passed_as [] e) (Call u) in omega (arith, p, one)));
+    own = own_same (λ m. (let p = told_next None (passed_as [] e) (Producer m) in omega (arith, p)));
+  }
+
+  -- the first of those that wait has it now
+  module _ (x : ℕ) (xs : List ℕ) (e : row.seen.waiting ≡ x ∷ xs) where
+    abbrev note : Notice
+    note = turn_notice n (x, row.seen.given.version)
+
+    pends_next : (w : Who) → pending o log w + turn_note w note ≡ pending o (Then pass ∷ log) w
+    pends_next w = let p = told_next (Some (x, row.seen.given.version)) (passed_as (x ∷ xs) e) w in omega (arith, p)
+
+    first_waits : In x row.seen.waiting
+    first_waits = subst (In x) (sym e) (inl refl)
+
+    next_held : (topic : Topic) × ((view o (Then pass ∷ log)).producers.topics n ≡ Some topic) × (topic.seen.holder ≡ Some x)
+    next_held = (topic_after Passes row, changed_at Passes was n row is_row, ap first_of e)
+
+    note_of : (w : Who) (b : Bool) → is_spent x ≡ b → turn_note w note ≡ cond (is_same w (cond b (Producer n) (Call x)) && true) 1 0
+    note_of w b s = ap (λ c. cond (is_same w (cond c (Producer n) (Call x)) && true) 1 0) s
+
+    -- a call
+    module _ (ticket : IsTicket x) where
+      not_told : pending o log (Call x) ≡ 0
+      not_told = at_most_none (pending o log (Call x)) (λ one. (k.calls.told x one).apart n row is_row first_waits)
+
+      note_is : (u : ℕ) → is_same (Call u) (Call x) ≡ true → turn_note (Call u) note ≡ 1
+      note_is u s = note_of (Call u) false ticket ∙ ap (λ b. cond (b && true) 1 0) s
+
+      note_not : (w : Who) → is_same w (Call x) ≡ false → turn_note w note ≡ 0
+      note_not w s = note_of w false ticket ∙ ap (λ b. cond (b && true) 1 0) s
+
+      no_more_waits : (m : ℕ) (r : Topic) → (view o (Then pass ∷ log)).producers.topics m ≡ Some r → In x r.seen.waiting → ⊥
+      no_more_waits m r f i = elim (changed_from Passes was n row is_row m r f) [
+        | inl q ↦
+            (let j : In x (rest_of row.seen.waiting) = subst (In x) (ap (λ z. z.seen.waiting) q.1) i in
+            above_not x xs (lowest o log n row x xs run.0 is_row e) (subst (λ ts. In x (rest_of ts)) e j))
+        | inr q ↦
+            (let same : m ≡ n = k.calls.one x m n r row ticket q.1 is_row i first_waits in
+            let d : (m == n) ≡ true = subst (λ z. (m == z) ≡ true) same (equal_self m) in
+            let f : true ≡ false = sym d ∙ q.0 in absurd cc)
+      ]
+
+      told_x : (u : ℕ) → u ≡ x → IsPending o (Then pass ∷ log) u
+      told_x u q = subst (IsPending o (Then pass ∷ log)) (sym q) (record {
+        number = n;
+        has = next_held;
+        stands = k.calls.waits x n row ticket is_row first_waits;
+        apart = no_more_waits;
+        begun = count_more x pass log (k.calls.begun x n row ticket is_row first_waits);
+        ticket = ticket;
+      })
+
+      call_turns : AllTurns o (Then pass ∷ log)
+      call_turns = record {
+        calls = pass_step
+            (λ u. elim (cases_Bool (is_same (Call u) (Call x))) [
+              | inl s ↦
+                  (let q : u ≡ x = eqb-true u x s in
+                  let p = pends_next (Call u) in
+                  let z : pending o log (Call u) ≡ 0 = subst (λ w. pending o log (Call w) ≡ 0) (sym q) not_told in
+                  let f : turn_note (Call u) note ≡ 1 = note_is u s in
+                  omega (arith, p, z, f))
+              | inr s ↦
+                  (let p = pends_next (Call u) in
+                  let z : turn_note (Call u) note ≡ 0 = note_not (Call u) s in
+                  let f : pending o log (Call u) ≤ 1 = k.calls.few u in
+                  omega (arith, p, z, f))
+            ])
+            (λ u one. elim (cases_Bool (is_same (Call u) (Call x))) [
+              | inl s ↦ inr (told_x u (eqb-true u x s))
+              | inr s ↦ inl (let p = pends_next (Call u) in let z : turn_note (Call u) note ≡ 0 = note_not (Call u) s in omega (arith, p, z, one))
+            ]);
+        own = own_same (λ m.
+            (let p = pends_next (Producer m) in let z : turn_note (Producer m) note ≡ 0 = note_not (Producer m) refl in omega (arith, p, z)));
+      }
+
+    -- the topic producer itself
+    module _ (last : is_spent x ≡ true) where
+      last_not : (u : ℕ) → turn_note (Call u) note ≡ 0
+      last_not u = note_of (Call u) true last
+
+      last_is : (m : ℕ) → is_same (Producer m) (Producer n) ≡ true → turn_note (Producer m) note ≡ 1
+      last_is m s = note_of (Producer m) true last ∙ ap (λ b. cond (b && true) 1 0) s
+
+      last_other : (m : ℕ) → is_same (Producer m) (Producer n) ≡ false → turn_note (Producer m) note ≡ 0
+      last_other m s = note_of (Producer m) true last ∙ ap (λ b. cond (b && true) 1 0) s
+
+      -- it has not had it, but as the one that passes it on
+      last_none : (m : ℕ) → is_same (Producer m) (Producer n) ≡ true → pending o log (Producer m) ≡ 0
+      last_none m s = at_most_none (pending o log (Producer m))
+          (λ one. pends_apart m one (is_passer m (holds_it (Producer m) m s (k.own.told m one)) s))
+
+      last_turns : AllTurns o (Then pass ∷ log)
+      last_turns = record {
+        calls = pass_step
+            (λ u. (let p = pends_next (Call u) in
+            let z : turn_note (Call u) note ≡ 0 = last_not u in
+            let f : pending o log (Call u) ≤ 1 = k.calls.few u in
+            omega (arith, p, z, f)))
+            (λ u one. inl (let p = pends_next (Call u) in let z : turn_note (Call u) note ≡ 0 = last_not u in omega (arith, p, z, one)));
+        own = record {
+          held = λ m j p h d. elim (cases_Bool (is_same (Producer m) (Producer n))) [
+            | inl s ↦
+                (let w = k.own.held m j p h d in
+                absurd (own_apart m j p h d (is_passer m (holds_it (Producer m) m s w.0) s)))
+            | inr s ↦
+                (let w = k.own.held m j p h d in
+                let q = pends_next (Producer m) in
+                let f : turn_note (Producer m) note ≡ 0 = last_other m s in
+                let z : pending o log (Producer m) ≡ 0 = w.1 in
+                (own_keeps m (own_apart m j p h d) w.0, omega (arith, q, f, z)))
+          ];
+          few = λ m. elim (cases_Bool (is_same (Producer m) (Producer n))) [
+            | inl s ↦
+                (let z : pending o log (Producer m) ≡ 0 = last_none m s in
+                let q = pends_next (Producer m) in
+                let f : turn_note (Producer m) note ≡ 1 = last_is m s in
+                omega (arith, z, q, f))
+            | inr s ↦
+                (let q = pends_next (Producer m) in
+                let z : turn_note (Producer m) note ≡ 0 = last_other m s in
+                let f : pending o log (Producer m) ≤ 1 = k.own.few m in
+                omega (arith, q, z, f))
+          ];
+          told = λ m one. elim (cases_Bool (is_same (Producer m) (Producer n))) [
+            | inl s ↦
+                subst (HasTurn (view o (Then pass ∷ log)) (Producer m)) (sym (eqb-true m n s))
+                (next_held.0, next_held.1, next_held.2 ∙ ap Some (eqb-true x behind_all last))
+            | inr s ↦
+                (let q = pends_next (Producer m) in
+                let z : turn_note (Producer m) note ≡ 0 = last_other m s in
+                let f : 1 ≤ pending o log (Producer m) = omega (arith, q, z, one) in
+                own_keeps m (pends_apart m f) (k.own.told m f))
+          ];
+        };
+      }
+
+    next_turns : AllTurns o (Then pass ∷ log)
+    next_turns = elim (cases_Bool (is_spent x)) [ inl s ↦ last_turns s | inr s ↦ call_turns s ]
+
+  pass_turns : (ts : List ℕ) → row.seen.waiting ≡ ts → AllTurns o (Then pass ∷ log)
+  pass_turns [] e = none_waits e
+  pass_turns (x ∷ xs) e = next_turns x xs e
+
+-- ALONG A LOG
+
+begins_turns : (o : Options) (log : List Entry) (e : Heard) → AllTurns o log → AllTurns o (Begins e ∷ log)
+begins_turns o log e k =
+    let p = begun_same (λ v. v.producers) e (view o log) refl in
+    let s = begun_same (λ v. v.stand) e (view o log) refl in
+    let has : (w : Who) (n : ℕ) → HasTurn (view o log) w n → HasTurn (view o (Begins e ∷ log)) w n = λ w n h. (h.0, ap (λ q. q.topics n) p ∙ h.1, h.2) in
+    let row : (n : ℕ) (r : Topic) → (view o (Begins e ∷ log)).producers.topics n ≡ Some r →
+    (view o log).producers.topics n ≡ Some r = λ n r h. sym (ap (λ q. q.topics n) p) ∙ h in
+    record {
+      calls = record {
+        held = λ t n q h d. has (Call t) n (k.calls.held t n q (sym (ap (λ f. f (Call t)) s) ∙ h) d);
+        waits = λ t n r x h i. subst (IsAt n) (sym (ap (λ f. f (Call t)) s)) (k.calls.waits t n r x (row n r h) i);
+        one = λ t n m r q x h j i w. k.calls.one t n m r q x (row n r h) (row m q j) i w;
+        begun = λ t n r x h i. k.calls.begun t n r x (row n r h) i;
+        few = λ t. omega arith;
+        told = λ t one. absurd (let f : ⊥ = omega (arith, one) in f);
+      };
+      own = record {
+        held = λ m n q h d. (has (Producer m) m (k.own.held m n q (sym (ap (λ f. f (Producer m)) s) ∙ h) d).0, refl);
+        few = λ m. omega arith;
+        told = λ m one. absurd (let f : ⊥ = omega (arith, one) in f);
+      };
+    }
+
+then_turns : (o : Options) (log : List Entry) (a : Act) → IsRun o (Then a ∷ log) → Every (AllTurns o) log → AllTurns o (Then a ∷ log)
+then_turns o log (Told n) run k = told_turns o log n run (here (AllTurns o) log k)
+then_turns o log (Starts who p) run k = starts_turns o log who p run (here (AllTurns o) log k)
+then_turns o log (Does who (TakeTurn n)) run k =
+    take_turns o log who n run (here (AllTurns o) log k) (taker o log who n k run) ((view o log).producers.topics n) refl
+then_turns o log (Does who (PassTurn n)) run k =
+    let y = passing o log who n k run in pass_turns o log who n run (here (AllTurns o) log k) y y.has.0.seen.waiting refl
+then_turns o log (Does who a) run k = left_turns o log (Does who a) run refl refl (λ w. refl) (here (AllTurns o) log k)
+then_turns o log a run k = left_turns o log a run refl refl (λ w. refl) (here (AllTurns o) log k)
+
+pub turns_run : (o : Options) (log : List Entry) → IsRun o log → Every (AllTurns o) log
+turns_run o [] run = record {
+  calls = record {
+    held = λ t n p h d. absurd (none_some h);
+    waits = λ t n r x h i. absurd (none_some h);
+    one = λ t n m r q x h j i w. absurd (none_some h);
+    begun = λ t n r x h i. absurd (none_some h);
+    few = λ t. omega arith;
+    told = λ t one. absurd (let f : ⊥ = omega (arith, one) in f);
+  };
+  own = record {
+    held = λ m n p h d. absurd (none_some h);
+    few = λ m. omega arith;
+    told = λ m one. absurd (let f : ⊥ = omega (arith, one) in f);
+  };
+}
+turns_run o (Begins e ∷ log) run = let k = turns_run o log run.0 in (begins_turns o log e (here (AllTurns o) log k), k)
+turns_run o (Then a ∷ log) run = let k = turns_run o log run.0 in (then_turns o log a run k, k)
+
+-- THE LAWS
+
+pub passed_in_turn_lem : PassedInTurn
+passed_in_turn_lem o log who n run =
+    let y = passing o log who n (turns_run o log run.0) run in
+    let row : Topic = y.has.0 in (
+      row,
+      y.has.1,
+      y.has.2,
+      λ next left e. (
+        lowest o log n row next left run.0 y.has.1 e,
+        subst (λ r. In (notice (in_turn n next) (outcome.Granted (news.HasTurn row.seen.given.version))) (option_to_list (option_map (turn_notice n) r)))
+            (sym (passed_as o log who n run (here (AllTurns o) log (turns_run o log run.0)) y (next ∷ left) e)) (inl refl),
+      ),
+    )
+
+told_call : (o : Options) (log : List Entry) (t n : ℕ) (version : Option (List ℕ)) (p : Plan) →
+    IsRun o (Then (Told (notice (Call t) (outcome.Granted (news.HasTurn version)))) ∷ log) → (view o log).stand (Call t) ≡ Some p → turn_of p ≡ Some n →
+    HasTurn (view o log) (Call t) n
+told_call o log t n version p run s w =
+    let k = (here (AllTurns o) log (turns_run o log run.0)).calls in
+    let it : Notice = notice (Call t) (outcome.Granted (news.HasTurn version)) in
+    let e = pend_kept o log (Call t) (Told it) refl refl run in
+    let f : turn_note (Call t) it ≡ 1 = ap (λ b. cond (b && true) 1 0) (self_same t) in
+    let i = k.told t (omega (arith, e, f)) in
+    elim (subst (IsAt i.number) s i.stands) [
+      | inl q ↦ (let g : Some i.number ≡ Some n = sym q ∙ w in let num : i.number ≡ n = cc in subst (HasTurn (view o log) (Call t)) num i.has)
+      | inr l ↦ absurd (none_some (sym (leaving_none p l).0 ∙ w))
+    ]
+
+told_producer : (o : Options) (log : List Entry) (m n : ℕ) (version : Option (List ℕ)) (p : Plan) →
+    IsRun o (Then (Told (notice (Producer m) (outcome.Granted (news.HasTurn version)))) ∷ log) → (view o log).stand (Producer m) ≡ Some p →
+    turn_of p ≡ Some n → HasTurn (view o log) (Producer m) n
+told_producer o log m n version p run s w =
+    let k = (here (AllTurns o) log (turns_run o log run.0)).own in
+    let it : Notice = notice (Producer m) (outcome.Granted (news.HasTurn version)) in
+    let e = pend_kept o log (Producer m) (Told it) refl refl run in
+    let f : turn_note (Producer m) it ≡ 1 = ap (λ b. cond (b && true) 1 0) (who_same (Producer m)) in
+    subst (HasTurn (view o log) (Producer m)) (sym (own_waits o log m n p run.0 s w)) (k.told m (omega (arith, e, f)))
+
+pub told_in_turn_lem : ToldInTurn
+told_in_turn_lem o log (Call t) n version p run s w = told_call o log t n version p run s w
+told_in_turn_lem o log (Producer m) n version p run s w = told_producer o log m n version p run s w
+
+pub queued_in_turn_lem : QueuedInTurn
+queued_in_turn_lem o log t w e share m run s =
+    (here (AllTurns o) log (turns_run o log run)).calls.held t e.producer (Sending w e share (send.Asked m)) s (asked share)
+  where
+    asked : (x : Option Share) → holds (Sending w e x (send.Asked m)) ≡ Some e.producer
+    asked None = refl
+    asked (Some y) = refl
+
+-- a topic producer has its turn from where it is told so until it passes it on
+pub own_in_turn : (o : Options) (log : List Entry) (m n : ℕ) (p : Plan) → IsRun o log → (view o log).stand (Producer m) ≡ Some p → holds p ≡ Some n →
+    HasTurn (view o log) (Producer m) m
+own_in_turn o log m n p run s h = ((here (AllTurns o) log (turns_run o log run)).own.held m n p s h).0

@@ -1,0 +1,12 @@
+use Rattle.pulsar_laws.proofs.Frames.{frames_are_of_their_sends_lem}
+use Rattle.pulsar_laws.proofs.Queued.{frames_are_read_again_lem, queued_as_asked_lem}
+use Rattle.pulsar_laws.proofs.producers.frames_are_of_their_sends.Goals as goal
+
+pub returns-clause-asked : goal.returns-clause-asked
+returns-clause-asked c = λ o log t l n s name m block w e share given run h. frames_are_of_their_sends_lem o log t l n s name m block w e share given run h
+
+pub returns-clause-queued : goal.returns-clause-queued
+returns-clause-queued c = λ o log l place seat request live h. queued_as_asked_lem o log l place seat request live h
+
+pub returns-clause-read : goal.returns-clause-read
+returns-clause-read c = λ id now n s name m block behind fits command payload. frames_are_read_again_lem id now n s name m block behind fits command payload

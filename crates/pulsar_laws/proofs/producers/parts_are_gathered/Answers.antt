@@ -1,0 +1,6 @@
+use Rattle.pulsar_laws.proofs.Gathered.{parts_are_gathered_from}
+use Rattle.pulsar_laws.proofs.Idlers.{gather_told}
+use Rattle.pulsar_laws.proofs.producers.parts_are_gathered.Goals as goal
+
+pub returns : goal.returns
+returns c = λ o log t first count said run rests h ans. parts_are_gathered_from gather_told o log t first count said run rests h ans

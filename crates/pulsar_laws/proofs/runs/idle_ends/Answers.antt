@@ -1,0 +1,5 @@
+use Rattle.pulsar_laws.proofs.Deadlines.{idle_ends_lem}
+use Rattle.pulsar_laws.proofs.runs.idle_ends.Goals as goal
+
+pub returns : goal.returns
+returns c = λ o log l run. idle_ends_lem o log l run

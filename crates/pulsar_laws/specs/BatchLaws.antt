@@ -1,0 +1,197 @@
+-- What follows of the batches of producers, in plain words.
+use Rattle.std.specs.Prelude.{◌≡◌, ◌⊎◌, ℕ, ◌+◌, ◌≤◌, ◌&&◌, Bool, true, false, if◌then◌else◌, List, [], ◌∷◌, ◌++◌, length, map, Option, Some, None, Result, Ok, Err}
+use Rattle.pulsar_run.specs.Laws.{In, InThisStep}
+use Rattle.pulsar_frame.specs.Batch.{EntryValues}
+use Rattle.pulsar_wire.specs.Row.{Values, spelling}
+use Rattle.pulsar_wire.specs.Rows.{send_receipt}
+use Rattle.pulsar_wire.specs.declared.key.RequestKey.TheVariants as key
+use Rattle.pulsar_messages.specs.Content.{ProducerMessageValues}
+use Rattle.pulsar_messages.specs.Words as words
+use Rattle.pulsar_plans.specs.declared.turn.Ways.{Ways}
+use Rattle.pulsar_session.specs.Failures.{Failure, Shutdown}
+use Rattle.pulsar_wire.specs.declared.error.Reason.{Reason}
+use Rattle.pulsar_link.specs.Messages.{Reply, is_body}
+use Rattle.pulsar_producer.specs.Batch.{batch_of, cut_report, entries_in, entry_of, failed, member_of, not_written, receipt_fate, reports}
+use Rattle.pulsar_producer.specs.BatchLaws.{items_of, joined, taken_of}
+use Rattle.pulsar_producer.specs.Message.{with_version}
+use Rattle.pulsar_producer.specs.Storage.{Item, Flush}
+use Rattle.pulsar_producer.specs.Topic.{Setup, seen}
+use Rattle.pulsar_producer.specs.declared.batch.Fate.{Fate}
+use Rattle.pulsar_producer.specs.declared.batch.Fate.TheVariants as fate
+use Rattle.pulsar_producer.specs.declared.batching.Batching.{Batching}
+use Rattle.pulsar_producer.specs.declared.batching.Batching.TheVariants as batching
+use Rattle.pulsar_producer.specs.declared.deed.News.TheVariants as news
+use Rattle.pulsar_producer.specs.declared.sending.Errand.{Errand}
+use Rattle.pulsar_calls.specs.declared.act.Act.TheVariants.{Answers, Comes, Starts, Told, Does}
+use Rattle.pulsar_calls.specs.declared.act.Action.TheVariants.{Ask, Shut, Store, TakeBatch, TellAll}
+use Rattle.pulsar_calls.specs.declared.act.Makes.TheVariants.{Nothing}
+use Rattle.pulsar_calls.specs.declared.act.Notice.{Notice}
+use Rattle.pulsar_calls.specs.declared.act.Outcome.{Outcome}
+use Rattle.pulsar_calls.specs.declared.act.Outcome.TheVariants as outcome
+use Rattle.pulsar_calls.specs.declared.act.Procedure.TheVariants as procedure
+use Rattle.pulsar_calls.specs.declared.act.Share.{Share}
+use Rattle.pulsar_calls.specs.declared.act.Verdict.{Verdict}
+use Rattle.pulsar_calls.specs.declared.act.Who.{Who}
+use Rattle.pulsar_calls.specs.declared.act.Who.TheVariants.{Call, Producer}
+use Rattle.pulsar_calls.specs.declared.plans.plan.Plan.{Plan}
+use Rattle.pulsar_calls.specs.declared.plans.plan.Plan.TheVariants as plan
+use Rattle.pulsar_client.specs.declared.producers.Topic.{Topic}
+use Rattle.pulsar_calls.specs.Content.{Asked, Failed, Receipt, sent_by}
+use Rattle.pulsar_laws.specs.Laws.{AreActs, FailsSo, IsDropped, started}
+use Rattle.pulsar_calls.specs.Plan.{closed_notice, fails, overrides, told_to, verdict}
+use Rattle.pulsar_laws.specs.ProducerLaws.{acts_on, asks_in, is_queued}
+use Rattle.pulsar_client.specs.Producers.{is_bare, next_batch_at, numbers_at, stored_at}
+use Rattle.pulsar_client.specs.Rules.{call_part, notice, ready_notice}
+use Rattle.pulsar_client.specs.Run.{Entry, Then, IsRun, Rests, view}
+use Rattle.pulsar_client.specs.View.{Options}
+use Rattle.pulsar_calls.specs.Who.{behind_all, is_same}
+
+-- ONE BATCH AFTER THE OTHER
+
+-- the batch that is under way at the topic producer of a number: the one that it took last, until those of it are told
+abbrev pub under_way : Options → (number : ℕ) → List Entry → Option (List Item)
+under_way o n [] = None
+under_way o n (Then (Starts who p) ∷ log) = if is_same (Producer n) who then None else under_way o n log
+under_way o n (Then (Does who (TakeBatch m)) ∷ log) =
+    if is_same (Producer n) who then next_batch_at ((view o log).producers.topics m) else under_way o n log
+under_way o n (Then (Does who (TellAll ns)) ∷ log) = if is_same (Producer n) who then None else under_way o n log
+under_way o n (_ ∷ log) = under_way o n log
+
+-- it is told so where one is ready, or has just told those of the batch before
+abbrev pub MayTake : (number : ℕ) → List Entry → Type 0
+MayTake n log =
+    (older : List Entry)
+    × ((log ≡ Then (Told (ready_notice n)) ∷ older)
+    ⊎ ((ns : List Notice)
+    × (log ≡ Then (Told (notice (Producer n) (outcome.Granted news.Done))) ∷ Then (Does (Producer n) (TellAll ns)) ∷ older)))
+
+-- A topic producer takes its next batch only where none is under way: all of the one before were told.
+abbrev pub BatchesOneByOne : Type 0
+BatchesOneByOne = (o : Options) (log : List Entry) (n m : ℕ) → IsRun o (Then (Does (Producer n) (TakeBatch m)) ∷ log) →
+    (m ≡ n) × (under_way o n log ≡ None) × MayTake n log
+
+-- WHAT BECOMES OF A BATCH
+
+-- the one who is told what becomes of a batch asked for a frame that bears this number
+abbrev pub AskedAs : (number sequence : ℕ) → List Entry → Type 0
+AskedAs n s log =
+    (l : ℕ) × (name : List ℕ) × (m : ProducerMessageValues) × (block : Bool)
+    × In (Then (Does (Producer n) (Ask l (words.Send n name s m block)))) log
+
+-- what a topic producer was told since it took a batch, newest first
+abbrev pub told_since : (number : ℕ) → List Entry → List Outcome
+told_since n [] = []
+told_since n (Then (Told x) ∷ log) = if is_same (Producer n) x.who then x.outcome ∷ told_since n log else told_since n log
+told_since n (Then (Does who (TakeBatch m)) ∷ log) = if is_same (Producer n) who then [] else told_since n log
+told_since n (_ ∷ log) = told_since n log
+
+-- The batch of these items failed as the send of its one message does: with the fault of an outcome that its topic producer was told since it
+-- took the batch, or of a reply among these.
+abbrev pub FailedSo : (number : ℕ) → List Entry → List Item → Failure → Type 0
+FailedSo n log items cause =
+    (w : Ways) × (e : Errand) × (m : ProducerMessageValues) × (e.producer ≡ n) × (batch_of (entries_in items) ≡ Ok m)
+    × FailsSo (procedure.Send w e None m) (told_since n log) cause
+
+-- a receipt of its frame came; or its send failed, for this cause; or it could not be written; or the client was stopped; or there was no
+-- message in it
+abbrev pub IsFateOf : (number : ℕ) → List Entry → List Item → Outcome → Fate → Type 0
+IsFateOf n log items u f =
+    ((r : Reply) × (s : ℕ) × (u ≡ outcome.Replied r) × (is_body 7 r.content.body ≡ true) × (r.content.key ≡ Some (key.ProducerSend n s))
+    × AskedAs n s log × (f ≡ receipt_fate r.content))
+    ⊎ ((cause : Failure) × FailedSo n log items cause × (f ≡ failed cause))
+    ⊎ ((r : Reason) × (batch_of (entries_in items) ≡ Err r) × (f ≡ not_written r))
+    ⊎ ((overrides u ≡ true) × (f ≡ fate.Halted))
+    ⊎ ((entries_in items ≡ []) × (f ≡ fate.Flushed))
+
+-- Those of a batch are told together, right behind what its producer is told of it: each what became of its message, with its place in the
+-- batch and the count of its messages. Where the client is stopped while its frame waits for a receipt, its messages are lost.
+abbrev pub MembersAreTold : Type 0
+MembersAreTold = (o : Options) (log : List Entry) (n : ℕ) (ns : List Notice) → IsRun o (Then (Does (Producer n) (TellAll ns)) ∷ log) →
+    (items : List Item) × (u : Outcome) × (older : List Entry) × (under_way o n log ≡ Some items) × (log ≡ Then (Told (notice (Producer n) u)) ∷ older)
+    × (((f : Fate) × IsFateOf n log items u f × (ns ≡ map told_to (reports (length (entries_in items)) f (map member_of items))))
+    ⊎ ((overrides u ≡ true) × (ns ≡ map told_to (map cut_report (map member_of items)))))
+
+-- THE FRAME OF A BATCH
+
+-- The message of a frame that a topic producer asks for is that of the batch under way, with the version of the schema that it was told with its
+-- turn; it has its turn. The frame goes to its link, bears its name, and the number that was drawn last.
+abbrev pub FramesOfBatches : Type 0
+FramesOfBatches = (o : Options) (log : List Entry) (n l k s : ℕ) (name : List ℕ) (m : ProducerMessageValues) (block : Bool) →
+    IsRun o (Then (Does (Producer n) (Ask l (words.Send k name s m block))) ∷ log) →
+    (items : List Item) × (whole : ProducerMessageValues) × (version : Option (List ℕ)) × (row : Topic) × (under_way o n log ≡ Some items)
+    × (batch_of (entries_in items) ≡ Ok whole) × (m ≡ with_version version whole) × (k ≡ n) × ((view o log).producers.topics n ≡ Some row)
+    × (row.seen.holder ≡ Some behind_all) × (row.seen.link ≡ l) × (row.seen.given.name ≡ name) × (row.seen.next ≡ s + 1)
+    × In (Then (Told (notice (Producer n) (outcome.Granted (news.HasTurn version))))) log
+
+-- how often a frame was queued for the batch that was taken last
+abbrev pub asks_batch : Option Plan → Bool
+asks_batch (Some (plan.Batching w e (batching.Sending ms count s))) = asks_in s
+asks_batch _ = false
+
+abbrev pub frames_queued : Options → (number : ℕ) → List Entry → ℕ
+frames_queued o n [] = 0
+frames_queued o n (Then (Told x) ∷ log) =
+    if is_same (Producer n) x.who && (is_queued x.outcome && asks_batch ((view o log).stand (Producer n)))
+    then frames_queued o n log + 1 else frames_queued o n log
+frames_queued o n (Then (Does who (TakeBatch m)) ∷ log) = if is_same (Producer n) who then 0 else frames_queued o n log
+frames_queued o n (_ ∷ log) = frames_queued o n log
+
+-- The frame of a batch is queued at most once, over all links.
+abbrev pub BatchSentOnce : Type 0
+BatchSentOnce = (o : Options) (log : List Entry) (n : ℕ) → IsRun o log → frames_queued o n log ≤ 1
+
+-- WHERE ITS PRODUCER IS CLOSED
+
+-- As a producer is closed, each message that one of its topic producers stores is settled in that step: its send fails. Nothing is stored there any
+-- more.
+abbrev pub ClosedWithTheProducer : Type 0
+ClosedWithTheProducer = (o : Options) (newer older : List Entry) (who : Who) (t n ticket : ℕ) →
+    IsRun o (newer ++ Then (Does who (Shut t)) ∷ older) → Rests o (newer ++ Then (Does who (Shut t)) ∷ older) → AreActs newer →
+    In n (numbers_at ((view o older).producers.built t)) →
+    (In ticket (stored_at ((view o older).producers.topics n)) → In (Then (Told (closed_notice ticket))) newer)
+    × (is_bare ((view o (Then (Does who (Shut t)) ∷ older)).producers.topics n) ≡ true)
+
+-- WHAT IS STORED
+
+-- a call sends a message that has this entry
+abbrev pub BringsEntry : Options → EntryValues → Entry → List Entry → Type 0
+BringsEntry o x e older =
+    (asked : Asked) × (sent : ℕ × List ProducerMessageValues) × (m : ProducerMessageValues)
+    × (e ≡ Then (Comes (call_part o.policies (view o older) asked))) × (sent_by asked ≡ Some sent) × In m sent.1 × (entry_of m ≡ Some x)
+
+-- A call stores its own message, in the step in which it is made, as the first thing that it does.
+abbrev pub StoredAtOnce : Type 0
+StoredAtOnce = (o : Options) (log : List Entry) (t n : ℕ) (x : EntryValues) → IsRun o (Then (Does (Call t) (Store n x)) ∷ log) →
+    (share : Option Share) × (older : List Entry) × (log ≡ Then (Starts (Call t) (procedure.Store n share x)) ∷ older)
+    × InThisStep (BringsEntry o x) older
+
+-- a topic producer tells a call what became of its message, with all who are in the batch (MembersAreTold)
+abbrev pub TellsFate : (ticket : ℕ) → Result (Values send_receipt) Failure → Entry → List Entry → Type 0
+TellsFate t f e older =
+    (n : ℕ) × (ns : List Notice) × (e ≡ Then (Does (Producer n) (TellAll ns))) × In (notice (Call t) (outcome.Settled f)) ns
+
+-- which is the receipt, or why it failed
+abbrev pub ends_with : Result (Values send_receipt) Failure → Verdict
+ends_with (Ok r) = verdict Nothing (Receipt (spelling send_receipt r))
+ends_with (Err f) = verdict Nothing (Failed f)
+
+-- The call of a message that is stored ends right behind what it is told: what became of its message, in the step in which its topic producer says
+-- so, or in which its producer is closed; or that the client is stopped. It ends by nothing else.
+abbrev pub StoredEndsByItsBatch : Type 0
+StoredEndsByItsBatch = (o : Options) (log : List Entry) (t n : ℕ) (share : Option Share) (x : EntryValues) (v : Verdict) →
+    IsRun o (Then (Answers (Call t) v) ∷ log) → started (Call t) log ≡ Some (procedure.Store n share x) →
+    (u : Outcome) × (older : List Entry) × (log ≡ Then (Told (notice (Call t) u)) ∷ older)
+    × (((f : Result (Values send_receipt) Failure) × (u ≡ outcome.Settled f) × (v ≡ ends_with f)
+    × InThisStep (λ e behind. TellsFate t f e behind ⊎ IsDropped o (Call t) (outcome.Settled f) e behind) older)
+    ⊎ ((u ≡ outcome.Stopped) × (v ≡ fails Shutdown)))
+
+-- FLUSHES
+
+-- A flush ends its batch, with which it is told. All that its topic producer stored before it stands in that batch, or in those that were taken
+-- before, and told (BatchesOneByOne): what waits still, cut or not, was stored behind it.
+abbrev pub FlushesWait : Type 0
+FlushesWait = (o : Options) (log : List Entry) (n t : ℕ) (ns : List Notice) (items : List Item) →
+    IsRun o (Then (Does (Producer n) (TellAll ns)) ∷ log) → under_way o n log ≡ Some items → In (Flush t) items →
+    (s : Setup) × (row : Topic) × (before : List (List Item)) × (left : List Item) × ((view o log).producers.topics n ≡ Some row)
+    × (row.seen ≡ seen s (acts_on o n log)) × (items ≡ left ++ Flush t ∷ []) × (taken_of s (acts_on o n log) ≡ before ++ items ∷ [])
+    × (items_of s (acts_on o n log) ≡ joined before ++ (items ++ (joined row.seen.cut ++ row.seen.storage.items)))

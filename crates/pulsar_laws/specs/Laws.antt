@@ -1,0 +1,798 @@
+-- What follows from the definition of a good run, in plain words.
+use Rattle.std.specs.Prelude.{◌≡◌, ◌⊎◌, ℕ, ◌+◌, ◌-◌, ◌^◌, ◌≤◌, ◌==◌, bytes_eq, ◌&&◌, ◌||◌, not, Bool, true, false, if◌then◌else◌, List, [], ◌∷◌, ◌++◌, Option, Some, None, Result, Ok, Err, pos}
+use Rattle.std.specs.List.{flat_map, list_any}
+use Rattle.std.specs.Option.{is_some, option_to_list}
+use Rattle.pulsar_run.specs.Laws.{Arises, In, InThisStep}
+use Rattle.pulsar_run.specs.Order.{AllInOrder, InOrder, arranged}
+use Rattle.pulsar_run.specs.Run.{events, steps_done}
+use Rattle.pulsar_wire.specs.declared.error.ConnectionError.{ConnectionError}
+use Rattle.pulsar_frame.specs.Frame.{cut}
+use Rattle.pulsar_frame.specs.Message.{MessageValues}
+use Rattle.pulsar_messages.specs.Words.{Words}
+use Rattle.pulsar_requests.specs.Waits.{later_of}
+use Rattle.pulsar_session.specs.declared.states.Asked.{Asked as Placed}
+use Rattle.pulsar_session.specs.Failures.{ProducerClosed, OfProducer, DiscoveryConnection, DiscoveryCanceled, DiscoveryFault, DiscoveryNotFound, DiscoveryShutdown, DnsLookup, Dummy, Exhausted, Failure, Fault, OfConnection, OfDiscovery, OfPartialSend, Query, fault, Disconnected}
+use Rattle.pulsar_session.specs.Laws.{bytes_fed, messages_taken}
+use Rattle.pulsar_session.specs.Link.{Act as Act', Asks, Feeds, Setup, came, due, ends, is_spent}
+use Rattle.pulsar_link.specs.Items.{Item, Given, Faulty}
+use Rattle.pulsar_link.specs.Messages.{Reply, read}
+use Rattle.pulsar_link.specs.Request.{closed_consumer, request_number}
+use Rattle.pulsar_plans.specs.Address.{Place, address_key, is_reachable}
+use Rattle.pulsar_plans.specs.Replies.{in_discovery, query, unexpected, fails_by, is_choice, place_at}
+use Rattle.pulsar_producer.specs.Errors.{in_producer}
+use Rattle.pulsar_producer.specs.declared.deed.News.{News}
+use Rattle.pulsar_plans.specs.Backoff.{allow_retry}
+use Rattle.pulsar_plans.specs.declared.turn.Ways.{Ways}
+use Rattle.pulsar_session.specs.Reply.{Reply as Content, is_body}
+use Rattle.pulsar_client.specs.Alarms.{ringing, rings}
+use Rattle.pulsar_calls.specs.declared.act.Act.{Act}
+use Rattle.pulsar_calls.specs.declared.act.Act.TheVariants.{Comes, Starts, Told, Does, Answers, Dials}
+use Rattle.pulsar_calls.specs.declared.act.Action.{Action}
+use Rattle.pulsar_calls.specs.declared.act.Action.TheVariants.{Get, Ask, TakeTurn, PassTurn, Draw, Recall, Remake, Number, Find, Shut, Store, Flush, TakeBatch, Tell, TellAll, StopAll, Rest}
+use Rattle.pulsar_calls.specs.declared.act.Alarm.{Alarm}
+use Rattle.pulsar_calls.specs.declared.act.Alarm.TheVariants.{Retry, Wake, Batch, KeepAlive, CheckIdle}
+use Rattle.pulsar_calls.specs.declared.act.Arrival.{Arrival}
+use Rattle.pulsar_calls.specs.declared.act.Arrival.TheVariants.{Nothing, Readied, Settles, Gives, Passes, Bad}
+use Rattle.pulsar_calls.specs.declared.act.End.{End}
+use Rattle.pulsar_calls.specs.declared.act.End.TheVariants.{Overdue, Idles}
+use Rattle.pulsar_calls.specs.declared.act.LinkAct.{LinkAct}
+use Rattle.pulsar_calls.specs.declared.act.LinkAct.TheVariants.{Reads, Drains, Pings, Ends}
+use Rattle.pulsar_calls.specs.declared.act.Makes.{Makes}
+use Rattle.pulsar_calls.specs.declared.act.Share.{Share}
+use Rattle.pulsar_calls.specs.declared.act.Notice.{Notice}
+use Rattle.pulsar_calls.specs.declared.act.Outcome.{Outcome}
+use Rattle.pulsar_calls.specs.declared.act.Part.{Part}
+use Rattle.pulsar_calls.specs.declared.act.Part.TheVariants.{Calls, ToLink, Rings, Polls}
+use Rattle.pulsar_calls.specs.declared.act.Procedure.{Procedure}
+use Rattle.pulsar_calls.specs.declared.act.Refusal.{Refusal}
+use Rattle.pulsar_calls.specs.declared.act.Says.{Says}
+use Rattle.pulsar_calls.specs.declared.act.Verdict.{Verdict}
+use Rattle.pulsar_calls.specs.declared.act.Who.{Who}
+use Rattle.pulsar_calls.specs.declared.act.Who.TheVariants.{Call, Producer}
+use Rattle.pulsar_client.specs.declared.addresses.Pause.{Pause}
+use Rattle.pulsar_client.specs.declared.addresses.Series.{Series}
+use Rattle.pulsar_client.specs.declared.addresses.Series.TheVariants.{Nobody, Runs, Pauses, Serves}
+use Rattle.pulsar_calls.specs.declared.plans.plan.Plan.{Plan}
+use Rattle.pulsar_calls.specs.declared.plans.plan.Turn.{Turn}
+use Rattle.pulsar_calls.specs.Content.{Asked, Bytes, Ticked, Poll, Shown, Queued, Write, Hands, Faults, Failed, lacks_tickets, shares}
+use Rattle.pulsar_client.specs.Effects.{effect_below, is_before3}
+use Rattle.pulsar_client.specs.Links.{Change, Remains, Becomes, IsOver, arrival, call_of, closed_by, line_places, new_places}
+use Rattle.pulsar_calls.specs.Content.{numbers_from}
+use Rattle.pulsar_calls.specs.Parts.{outcomes_of}
+use Rattle.pulsar_client.specs.Producers.{advice, turn_passed, drawn, is_settled_at, is_woken, link_at, next_batch_at, number_drawn, numbers_at, recalled, stored_at, turn_taken, unsent_at, waiting_at}
+use Rattle.pulsar_producer.specs.Topic as topic
+use Rattle.pulsar_calls.specs.Plan.{begins, failure_of, fails, fault_of, reply_says, told}
+use Rattle.pulsar_client.specs.Rules.{below, call_part, dropped, fails_so, is_idle, lost, notice, starts, stopped_with, brings}
+use Rattle.pulsar_client.specs.Run.{Entry, Begins, Then, Good, IsRun, Rests, Step, agenda, rules, steps, tickets_in, view}
+use Rattle.pulsar_client.specs.Subscriptions.{Subscription, closes_it, is_heard_on, is_last, polled}
+use Rattle.pulsar_client.specs.View.{Base, Options, Seat, Turned, View, answer_at, arrival_at, builds, closing, is_asked, pause_of, setup, turned, waits_on, room_of}
+use Rattle.pulsar_calls.specs.Who.{in_turn, is_same, rank, turn_of as taken_as}
+use Rattle.pulsar_run.specs.Laws as run
+use Rattle.pulsar_session.specs.declared.states.Asked.TheVariants as placed
+use Rattle.pulsar_session.specs.Link as session
+use Rattle.pulsar_producer.specs.declared.deed.News.TheVariants as news
+use Rattle.pulsar_calls.specs.declared.act.Outcome.TheVariants as outcome
+use Rattle.pulsar_calls.specs.declared.act.Procedure.TheVariants as procedure
+use Rattle.pulsar_calls.specs.declared.plans.plan.Turn.TheVariants as turn
+use Rattle.pulsar_client.specs.Links as links
+
+-- THE RUN
+
+-- options and events determine the effects of a good run
+abbrev pub Determined : Type 0
+Determined = (o : Options) (h h' : List Step) → Good o h → Good o h' → events h ≡ events h' → h ≡ h'
+
+-- the effects of each step stand in order, and they are just those of its acts, each once
+abbrev pub EffectsArranged : Type 0
+EffectsArranged = (o : Options) (log : List Entry) → run.ArrangeSteps effect_below (steps_done rules o log) (steps o log)
+
+-- the present cause serves by rank, and so do the causes that wait: calls by ticket, then producers by number
+abbrev pub CausesInOrder : Type 0
+CausesInOrder = (o : Options) (log : List Entry) → InOrder below (agenda o log).here × AllInOrder below (agenda o log).behind
+
+-- these entries are acts, all of one step
+abbrev pub AreActs : List Entry → Type 0
+AreActs [] = Unit {0}
+AreActs (Begins e ∷ log) = ⊥
+AreActs (Then a ∷ log) = AreActs log
+
+-- Whatever arises from an event or an act, at once, as what one is told or as a part, is done before the next event begins: nothing is
+-- missing.
+abbrev pub AllIsDone : Type 0
+AllIsDone = (o : Options) (newer older : List Entry) (e : Entry) (a : Act) →
+    IsRun o (newer ++ e ∷ older) → Rests o (newer ++ e ∷ older) → AreActs newer → Arises rules o a e older → In (Then a) newer
+
+-- CALLS
+
+-- A call is made where the user asks for it, with the next ticket, by the procedure for it; and its parts with those behind it, by their
+-- own. None is the greatest.
+abbrev pub CallsAreMade : Type 0
+CallsAreMade = (o : Options) (log : List Entry) (t : ℕ) (p : Procedure) → IsRun o (Then (Starts (Call t) p) ∷ log) →
+    (is_spent t ≡ false)
+    × InThisStep (λ e older. (asked : Asked) × (e ≡ Then (Comes (call_part o.policies (view o older) asked)))
+    × (lacks_tickets (view o older).calls.drawn (shares asked) ≡ false)
+    × In (Starts (Call t) p) (starts (view o older) (advice o.policies (view o older).producers asked) asked)) log
+
+-- the newest procedure that one who has a plan started, and the outcomes that it was told since then, oldest first
+abbrev pub started : Who → List Entry → Option Procedure
+started w [] = None
+started w (Then (Starts who p) ∷ log) = if is_same w who then Some p else started w log
+started w (_ ∷ log) = started w log
+
+abbrev pub outcomes : Who → List Entry → List Outcome
+outcomes w [] = []
+outcomes w (Then (Starts who p) ∷ log) = if is_same w who then [] else outcomes w log
+outcomes w (Then (Told n) ∷ log) = if is_same w n.who then outcomes w log ++ n.outcome ∷ [] else outcomes w log
+outcomes w (_ ∷ log) = outcomes w log
+
+-- what it did since then: its actions, and its verdict
+pub data Deed : Type 0 where
+  Acted : Action → Deed
+  Answered : Verdict → Deed
+
+abbrev pub deed_of : Who → Act → List Deed
+deed_of w (Does who action) = if is_same w who then Acted action ∷ [] else []
+deed_of w (Answers who verdict) = if is_same w who then Answered verdict ∷ [] else []
+deed_of w _ = []
+
+abbrev pub deeds : Who → List Entry → List Deed
+deeds w [] = []
+deeds w (Begins e ∷ log) = deeds w log
+deeds w (Then (Starts who p) ∷ log) = if is_same w who then [] else deeds w log
+deeds w (Then a ∷ log) = deeds w log ++ deed_of w a
+
+-- what its plan gives along these outcomes
+abbrev pub acted : Action → List Deed
+acted Rest = []
+acted action = Acted action ∷ []
+
+abbrev pub course : Turn Plan Verdict → List Outcome → List Deed
+course (turn.Gives verdict) os = Answered verdict ∷ []
+course (turn.Stays plan action) [] = acted action
+course (turn.Stays plan action) (o ∷ os) = acted action ++ course (told plan o) os
+
+-- Wherever nothing is left to do, that is at the end of each step, each of those who have plans has done what its plan gives along
+-- its outcomes: each action, and the verdict, in the step of its outcome, none more and none less.
+abbrev pub PlansFollow : Type 0
+PlansFollow = (o : Options) (log : List Entry) (w : Who) (p : Procedure) →
+    IsRun o log → Rests o log → started w log ≡ Some p → deeds w log ≡ course (begins p) (outcomes w log)
+
+-- the act of a deed
+abbrev pub act_of : Who → Deed → Act
+act_of w (Acted action) = Does w action
+act_of w (Answered verdict) = Answers w verdict
+
+-- a plan comes to where this is done, or gives this verdict
+abbrev pub Leads : Deed → Turn Plan Verdict → Type 0
+Leads (Acted action) t = (plan : Plan) × (t ≡ turn.Stays plan action)
+Leads (Answered verdict) t = t ≡ turn.Gives verdict
+
+-- a plan starts so; it is told an outcome that leads there; or a call comes for which no ticket is left, and ends with no plan
+abbrev pub StartsSo : Who → Deed → Entry → Type 0
+StartsSo w d e = (p : Procedure) × (e ≡ Then (Starts w p)) × Leads d (begins p)
+
+abbrev pub IsToldSo : Options → Who → Deed → Entry → List Entry → Type 0
+IsToldSo o w d e older =
+    (u : Outcome) × (plan : Plan) × (e ≡ Then (Told (record { who = w; outcome = u }))) × ((view o older).stand w ≡ Some plan) × Leads d (told plan u)
+
+abbrev pub ComesLate : Options → Who → Deed → Entry → List Entry → Type 0
+ComesLate o w d e older =
+    (asked : Asked) × (said : List (Option ℕ)) × (e ≡ Then (Comes (Calls asked said))) × (w ≡ Call (2 ^ 64 - 1)) × (lacks_tickets (view o older).calls.drawn (shares asked) ≡ true)
+    × (d ≡ Answered (fails Exhausted))
+
+-- Each action of a plan, and its verdict, comes right behind the start of the plan or the outcome that leads to it. So it stands in the
+-- step of its cause, and nothing comes between.
+abbrev pub IsLed : Options → Who → Deed → List Entry → Type 0
+IsLed o w d log = (e : Entry) × (older : List Entry) × (log ≡ e ∷ older) × (StartsSo w d e ⊎ (IsToldSo o w d e older ⊎ ComesLate o w d e older))
+
+abbrev pub DeedsFollow : Type 0
+DeedsFollow = (o : Options) (log : List Entry) (w : Who) (d : Deed) → IsRun o (Then (act_of w d) ∷ log) → IsLed o w d log
+
+-- a plan gives one verdict, and does nothing after it
+abbrev pub verdicts_in : List Deed → ℕ
+verdicts_in [] = 0
+verdicts_in (Acted action ∷ ds) = verdicts_in ds
+verdicts_in (Answered verdict ∷ ds) = verdicts_in ds + 1
+
+abbrev pub AnswersOnce : Type 0
+AnswersOnce = (turn : Turn Plan Verdict) (os : List Outcome) → verdicts_in (course turn os) ≤ 1
+
+-- how often a call began, and how often it ended
+abbrev pub start_of : ℕ → Act → ℕ
+start_of t (Starts who p) = if is_same (Call t) who then 1 else 0
+start_of t _ = 0
+
+abbrev pub end_of : ℕ → Act → ℕ
+end_of t (Answers who verdict) = if is_same (Call t) who then 1 else 0
+end_of t _ = 0
+
+abbrev pub counted : (Act → ℕ) → List Entry → ℕ
+counted f [] = 0
+counted f (Begins e ∷ log) = counted f log
+counted f (Then a ∷ log) = counted f log + f a
+
+-- The call of a ticket begins at most once, and ends at most once. The greatest ticket begins no call: it stands for all calls for which
+-- none is left, and each of these ends at once.
+abbrev pub EndsOnce : Type 0
+EndsOnce = (o : Options) (log : List Entry) (t : ℕ) → IsRun o log → (counted (start_of t) log ≤ 1) × (is_spent t ≡ false → counted (end_of t) log ≤ 1)
+
+-- WHY A CALL IS TOLD AN OUTCOME
+
+-- An entry of the log, with the older ones before it, is such: one gets a link of an address, and what is seen there is so.
+abbrev pub Gets : Options → Who → (Place → View → Type 0) → Entry → List Entry → Type 0
+Gets o who P e older = (p : Place) × (e ≡ Then (Does who (Get p))) × P p (view o older)
+
+-- what is seen of the address of a link, or of another
+abbrev pub base_of : View → Place → Base
+base_of v p = v.addresses.base (address_key p)
+
+-- one asks for a request on a link, and this is answered
+abbrev pub AsksSo : Options → Who → (Result Placed ConnectionError → Type 0) → Entry → List Entry → Type 0
+AsksSo o who P e older =
+    (l : ℕ) × (request : Words) × (e ≡ Then (Does who (Ask l request))) × P (answer_at (view o older).now request ((view o older).links.live l))
+
+-- a link becomes ready, while this one waits for its address
+abbrev pub BecomesReady : Options → Who → (link : ℕ) → Entry → List Entry → Type 0
+BecomesReady o who l e older =
+    (seat : Seat) × (e ≡ Then (Comes (ToLink l Reads))) × ((view o older).links.live l ≡ Some seat) × (arrival seat.seen ≡ Readied)
+    × In who (base_of (view o older) seat.address).waiting
+
+-- a link ends, and what is seen of it there is so
+abbrev pub EndsSo : Options → (End → View → Seat → Type 0) → Entry → List Entry → Type 0
+EndsSo o P e older =
+    (l : ℕ) × (end : End) × (cause : Fault) × (seat : Seat) × (e ≡ Then (Comes (ToLink l (Ends end)))) × ((view o older).links.live l ≡ Some seat)
+    × (closed_by end (view o older).now seat.seen ≡ Some cause) × P end (view o older) seat
+
+-- an attempt ends for which this one waits, and none follows: whether it started the series, and what it is told
+abbrev pub AttemptEnds : Options → Who → Outcome → Entry → List Entry → Type 0
+AttemptEnds o who u e older =
+    EndsSo o (λ end v seat. (starter : Who) × (retries link : ℕ) × ((base_of v seat.address).series ≡ Runs starter retries link)
+    × (pause_of o.chosen end seat.address (Runs starter retries link) ≡ None) × In who (base_of v seat.address).waiting
+    × (u ≡ fails_so end (is_same who starter))) e older
+
+-- a request that this one asked for ends with its link, and this is told
+abbrev pub RequestEnds : Options → Who → Outcome → Entry → List Entry → Type 0
+RequestEnds o who u e older =
+    EndsSo o (λ end v seat. (place : ℕ) × In place (ends seat.seen) × (seat.askers place ≡ Some who) × (u ≡ lost end v.now seat.seen place)) e older
+
+-- and a frame of it that stands in the line
+abbrev pub LineEnds : Options → Who → Outcome → Entry → List Entry → Type 0
+LineEnds o who u e older =
+    EndsSo o (λ end v seat. (place : ℕ) × In place (line_places seat.seen) × (seat.askers place ≡ Some who) × (u ≡ dropped end)) e older
+
+-- a frame that this one asked for moves up from the line
+abbrev pub MovesUp : Options → Who → Entry → List Entry → Type 0
+MovesUp o who e older =
+    (l most place : ℕ) × (seat : Seat) × (e ≡ Then (Comes (ToLink l (Drains most)))) × ((view o older).links.live l ≡ Some seat)
+    × In place (new_places seat.seen (links.after (Drains most) (view o older).now seat.seen)) × (seat.askers place ≡ Some who)
+
+-- a request that this one asked for is settled by this reply
+abbrev pub IsReplied : Options → Who → Reply → Entry → List Entry → Type 0
+IsReplied o who r e older =
+    (l : ℕ) × (seat : Seat) × (places : List ℕ) × (m : MessageValues) × (place : ℕ) × (e ≡ Then (Comes (ToLink l Reads)))
+    × ((view o older).links.live l ≡ Some seat) × (came seat.seen ≡ session.Settles places m) × In place places × (seat.askers place ≡ Some who)
+    × (r ≡ read m)
+
+-- the moment came for which this one waited
+abbrev pub IsWoken : Options → Who → Entry → List Entry → Type 0
+IsWoken o who e older = (e ≡ Then (Comes (Rings (Wake who)))) × (rings (view o older).now (Wake who) (view o older).alarms ≡ true)
+
+-- this one stops the client; or it waits for a moment or for an attempt that is to follow, for its turn at a topic producer, or for a batch
+-- that is not under way, while another does
+abbrev pub IsStopped : Options → Who → Entry → List Entry → Type 0
+IsStopped o who e older =
+    (stopper : Who) × (e ≡ Then (Does stopper StopAll))
+    × ((who ≡ stopper) ⊎ In (notice who outcome.Stopped) (flat_map (λ a. stopped_with (view o older).addresses a.0) (view o older).alarms)
+    ⊎ ((number : ℕ) × In who (waiting_at number ((view o older).producers.topics number)))
+    ⊎ ((number ticket : ℕ) × (who ≡ Call ticket) × In ticket (unsent_at ((view o older).producers.topics number))))
+
+-- its plan does this, and what is seen there is so
+abbrev pub Acts : Options → Who → (Action → View → Type 0) → Entry → List Entry → Type 0
+Acts o who P e older = (action : Action) × (e ≡ Then (Does who action)) × P action (view o older)
+
+-- What it asks of a topic producer, or of their numbers, is done at once, and gives this: the turn, which nobody else has, with the version of the
+-- schema; the number of a message, where the link is ready; the command by which the producer is made again; the number of a new one; the
+-- next batch; or nothing more. A flush is done at once only where all is settled.
+abbrev pub GrantsSo : News → Action → View → Type 0
+GrantsSo (news.HasTurn version) (TakeTurn n) v = turn_taken (v.producers.topics n) ≡ Some version
+GrantsSo (news.Drew d) (Draw n) v = (room : Bool) × (room_of v n ≡ Some room) × (drawn room (v.producers.topics n) ≡ Some d)
+GrantsSo (news.Recalled c) (Recall n) v = recalled v.producers n ≡ Some c
+GrantsSo (news.Numbered number) Number v = number_drawn v.producers ≡ Some number
+GrantsSo news.Done (PassTurn n) v = Unit {0}
+GrantsSo news.Done (Remake r) v = Unit {0}
+GrantsSo news.Done (Shut t) v = Unit {0}
+GrantsSo (news.HasBatch items) (TakeBatch n) v = next_batch_at (v.producers.topics n) ≡ items
+GrantsSo news.Done (Store n e) v = Unit {0}
+GrantsSo news.Done (Flush n) v = is_settled_at (v.producers.topics n) ≡ true
+GrantsSo news.Done (Tell n) v = Unit {0}
+GrantsSo news.Done (TellAll ns) v = Unit {0}
+GrantsSo _ _ v = ⊥
+
+-- the link of a topic producer is not ready, or its numbers are spent, or those of new producers are
+abbrev pub DrawsNone : Fault → Action → View → Type 0
+DrawsNone Disconnected (Draw n) v = room_of v n ≡ None
+DrawsNone Exhausted (Draw n) v = (room : Bool) × (room_of v n ≡ Some room) × (drawn room (v.producers.topics n) ≡ None)
+DrawsNone Exhausted Number v = number_drawn v.producers ≡ None
+DrawsNone _ _ v = ⊥
+
+-- it asks for the link of a topic producer, which is this
+abbrev pub Finds : (link : ℕ) → Action → View → Type 0
+Finds link (Find n) v = link_at (v.producers.topics n) ≡ Some link
+Finds link _ v = ⊥
+
+-- it asks of a topic producer that is not known
+abbrev pub IsUnknown : Action → View → Type 0
+IsUnknown (TakeTurn n) v = v.producers.topics n ≡ None
+IsUnknown (Recall n) v = recalled v.producers n ≡ None
+IsUnknown (Find n) v = v.producers.topics n ≡ None
+IsUnknown _ v = ⊥
+
+-- another passes the turn of a topic producer on to it, with this version of the schema
+abbrev pub GetsTurn : Options → Who → News → Entry → List Entry → Type 0
+GetsTurn o who n e older =
+    (other : Who) × (number turn : ℕ) × (version : Option (List ℕ)) × (e ≡ Then (Does other (PassTurn number))) × (who ≡ in_turn number turn)
+    × (n ≡ news.HasTurn version) × (turn_passed ((view o older).producers.topics number) ≡ Some (turn, version))
+
+-- what is stored at a topic producer is cut into a batch, and none was under way: by another message, by a flush, or since it has waited
+abbrev pub CutsSo : Options → (number : ℕ) → (act : topic.Act) → Entry → List Entry → Type 0
+CutsSo o n (topic.Stores turn entry) e older = (other : Who) × (e ≡ Then (Does other (Store n entry))) × (turn ≡ taken_as other)
+CutsSo o n (topic.Flushes turn) e older = (other : Who) × (e ≡ Then (Does other (Flush n))) × (turn ≡ taken_as other)
+CutsSo o n topic.Cuts e older =
+    (e ≡ Then (Comes (Rings (Batch n)))) × (rings (view o older).now (Batch n) (view o older).alarms ≡ true)
+CutsSo o n _ e older = ⊥
+
+abbrev pub IsReady : Options → Who → News → Entry → List Entry → Type 0
+IsReady o who n e older =
+    (number : ℕ) × (act : topic.Act) × (who ≡ Producer number) × (n ≡ news.Ready)
+    × (is_woken act ((view o older).producers.topics number) ≡ true) × CutsSo o number act e older
+
+-- another tells it this, alone or with others
+abbrev pub IsToldBy : Who → Outcome → Entry → List Entry → Type 0
+IsToldBy who u e older =
+    (other : Who)
+    × ((e ≡ Then (Does other (Tell (notice who u)))) ⊎ ((ns : List Notice) × (e ≡ Then (Does other (TellAll ns))) × In (notice who u) ns))
+
+-- its message is stored at a producer that is closed
+abbrev pub IsDropped : Options → Who → Outcome → Entry → List Entry → Type 0
+IsDropped o who u e older =
+    (other : Who) × (producer number ticket : ℕ) × (e ≡ Then (Does other (Shut producer))) × (who ≡ Call ticket)
+    × In number (numbers_at ((view o older).producers.built producer)) × In ticket (stored_at ((view o older).producers.topics number))
+    × (u ≡ outcome.Settled (Err (OfProducer ProducerClosed)))
+
+-- GotLink: it got a link of an address, which serves, or that became ready while it waited; or it found that of a topic producer. NotFound:
+-- the address cannot be reached. Failed, Canceled: the last attempt that it waited for ended, of a series that it or another started. Queued:
+-- it asked, and its frame was queued at once or moved up. InLine, Refused: it asked, and the link said so; Refused also: it drew a number, and
+-- there was none. Replied: its request was answered. Woken: its moment came. TimedOut, Disconnected, Cut, Stopped: its request, its frame in the
+-- line or the attempt that it waited for ended so; Disconnected also: there is no such topic producer; Stopped also: the client was stopped, or a
+-- part of it, or its batch, says so. Granted: it asked for a turn, for a number or the like, or its turn came; a batch was cut, or its flush is
+-- settled. Parted: a part of it says so. Settled: its batch says so, or its producer is closed.
+abbrev pub Cause : Options → Who → Outcome → Entry → List Entry → Type 0
+Cause o who (outcome.GotLink link) e older =
+    Gets o who (λ p v. (is_reachable p ≡ true) × ((base_of v p).series ≡ Serves link)) e older
+    ⊎ (BecomesReady o who link e older ⊎ Acts o who (Finds link) e older)
+Cause o who (outcome.Granted n) e older =
+    Acts o who (GrantsSo n) e older
+    ⊎ (GetsTurn o who n e older ⊎ (IsReady o who n e older ⊎ IsToldBy who (outcome.Granted n) e older))
+Cause o who (outcome.Settled f) e older = IsToldBy who (outcome.Settled f) e older ⊎ IsDropped o who (outcome.Settled f) e older
+Cause o who (outcome.Parted ticket f) e older = IsToldBy who (outcome.Parted ticket f) e older
+Cause o who outcome.NotFound e older = Gets o who (λ p v. is_reachable p ≡ false) e older
+Cause o who (outcome.Failed kind) e older = AttemptEnds o who (outcome.Failed kind) e older
+Cause o who outcome.Canceled e older = AttemptEnds o who outcome.Canceled e older
+Cause o who outcome.Queued e older = AsksSo o who (λ a. (place : ℕ) × (a ≡ Ok (placed.Queued place))) e older ⊎ MovesUp o who e older
+Cause o who outcome.InLine e older = AsksSo o who (λ a. (place : ℕ) × (a ≡ Ok (placed.Waiting place))) e older
+Cause o who (outcome.Refused cause) e older =
+    AsksSo o who (λ a. (x : ConnectionError) × (a ≡ Err x) × (fault x ≡ cause)) e older ⊎ Acts o who (DrawsNone cause) e older
+Cause o who (outcome.Replied r) e older = IsReplied o who r e older
+Cause o who outcome.TimedOut e older = RequestEnds o who outcome.TimedOut e older
+Cause o who outcome.Disconnected e older =
+    RequestEnds o who outcome.Disconnected e older ⊎ (LineEnds o who outcome.Disconnected e older ⊎ Acts o who IsUnknown e older)
+Cause o who outcome.Woken e older = IsWoken o who e older
+Cause o who outcome.Cut e older = RequestEnds o who outcome.Cut e older
+Cause o who outcome.Stopped e older =
+    IsStopped o who e older
+    ⊎ (LineEnds o who outcome.Stopped e older ⊎ (AttemptEnds o who outcome.Stopped e older ⊎ IsToldBy who outcome.Stopped e older))
+
+-- whatever one is told has its cause before, in the same step
+abbrev pub OutcomesAreCaused : Type 0
+OutcomesAreCaused = (o : Options) (log : List Entry) (who : Who) (u : Outcome) →
+    IsRun o (Then (Told (record { who = who; outcome = u })) ∷ log) → InThisStep (Cause o who u) log
+
+-- the number of the body of a procedure's request
+abbrev pub number_in : Procedure → Option ℕ
+number_in (procedure.Build base) = None
+number_in procedure.Stop = None
+number_in (procedure.Ask place request s) = Some (request_number request)
+number_in (procedure.Search ways what) = None
+number_in (procedure.Produce ways order) = None
+number_in (procedure.Send ways errand share message) = None
+number_in (procedure.Store number share entry) = None
+number_in (procedure.Batch ways errand) = None
+number_in (procedure.FailShare share r) = None
+number_in (procedure.Gather first count) = None
+number_in (procedure.Go round numbers) = None
+number_in (procedure.Close ticket numbers) = None
+number_in (procedure.Refuse r) = None
+
+-- A reply tells that the search failed, or nothing of how it went, and after so many retries it is not to be asked again.
+abbrev pub Refuses : Ways → Content → Type 0
+Refuses w r =
+    (((is_body 22 r.body ≡ true) × (fails_by (pos 1) r.response ≡ true)) ⊎ ((is_body 24 r.body ≡ true) × (fails_by (pos 2) r.response ≡ true)))
+    × (retries : ℕ) × ((is_choice (pos 6) r.error && allow_retry w.max_retries retries) ≡ false)
+
+-- a reply that lacks the number of partitions, and one that names no address
+abbrev pub LacksPartitions : Content → Type 0
+LacksPartitions r = (is_body 22 r.body ≡ true) × (r.partitions ≡ None)
+
+abbrev pub NamesNone : Content → Type 0
+NamesNone r = (is_body 24 r.body ≡ true) × ((base : Place) (proxy : Bool) → place_at base proxy r.url ≡ None)
+
+-- what a reply says to a search that fails by it: it is another body than was asked for, it tells the broker's error, or it names no
+-- address
+abbrev pub DeniesSo : Ways → DiscoveryFault → Content → Type 0
+DeniesSo w (DiscoveryConnection f) r = f ≡ unexpected r r.body
+DeniesSo w (Query error text) r = (OfDiscovery (Query error text) ≡ query r.error r.text) × (Refuses w r ⊎ LacksPartitions r)
+DeniesSo w DiscoveryNotFound r = NamesNone r
+DeniesSo w DnsLookup r = ⊥
+DeniesSo w DiscoveryCanceled r = ⊥
+DeniesSo w DiscoveryShutdown r = ⊥
+DeniesSo w Dummy r = ⊥
+
+-- how a procedure looks for brokers, where it does
+abbrev pub ways_in : Procedure → Option Ways
+ways_in (procedure.Build base) = None
+ways_in procedure.Stop = None
+ways_in (procedure.Ask place request s) = None
+ways_in (procedure.Search ways what) = Some ways
+ways_in (procedure.Produce ways order) = Some ways
+ways_in (procedure.Send ways errand share message) = Some ways
+ways_in (procedure.Store number share entry) = None
+ways_in (procedure.Batch ways errand) = Some ways
+ways_in (procedure.FailShare share r) = None
+ways_in (procedure.Gather first count) = None
+ways_in (procedure.Go round numbers) = None
+ways_in (procedure.Close ticket numbers) = None
+ways_in (procedure.Refuse r) = None
+
+-- it fails as a producer
+abbrev pub fails_in_producer : Procedure → Bool
+fails_in_producer (procedure.Build base) = false
+fails_in_producer procedure.Stop = false
+fails_in_producer (procedure.Ask place request s) = false
+fails_in_producer (procedure.Search ways what) = false
+fails_in_producer (procedure.Produce ways order) = false
+fails_in_producer (procedure.Send ways errand share message) = true
+fails_in_producer (procedure.Store number share entry) = false
+fails_in_producer (procedure.Batch ways errand) = false
+fails_in_producer (procedure.FailShare share r) = false
+fails_in_producer (procedure.Gather first count) = false
+fails_in_producer (procedure.Go round numbers) = false
+fails_in_producer (procedure.Close ticket numbers) = true
+fails_in_producer (procedure.Refuse r) = false
+
+-- a part of it failed before it was queued
+abbrev pub has_failed : Outcome → Bool
+has_failed (outcome.Parted ticket f) = is_some f
+has_failed _ = false
+
+-- a call fails where it is refused, and else with the fault of an outcome that it was told, or of a reply to its request; a search with
+-- these as faults of its own, and a send and a close as a producer; one with parts where some of them failed; and a message that is stored
+-- with what it is told
+pub data FailsSo (p : Procedure) (os : List Outcome) (f : Failure) : Type 0 where
+  IsRefused : (r : Refusal) → p ≡ procedure.Refuse r → f ≡ failure_of r → FailsSo p os f
+  IsRefusedShare : (s : Share) (r : Refusal) → p ≡ procedure.FailShare s r → f ≡ failure_of r → FailsSo p os f
+  IsTold : (u : Outcome) → In u os → f ≡ OfConnection (fault_of u) → FailsSo p os f
+  IsTurned : (u : Outcome) → is_some (ways_in p) ≡ true → In u os → f ≡ in_discovery (fault_of u) → FailsSo p os f
+  IsDenied : (w : Ways) (r : Reply) (d : DiscoveryFault) →
+      ways_in p ≡ Some w → In (outcome.Replied r) os → f ≡ OfDiscovery d → DeniesSo w d r.content → FailsSo p os f
+  IsUnexpected : (r : Reply) → In (outcome.Replied r) os → f ≡ OfConnection (unexpected r.content r.content.body) → FailsSo p os f
+  IsInProducer : (u : Outcome) → fails_in_producer p ≡ true → In u os → f ≡ in_producer (fault_of u) → FailsSo p os f
+  IsUnexpectedInProducer : (r : Reply) → fails_in_producer p ≡ true → In (outcome.Replied r) os →
+      f ≡ in_producer (unexpected r.content r.content.body) → FailsSo p os f
+  IsSettled : In (outcome.Settled (Err f)) os → FailsSo p os f
+  IsPartial : (first count : ℕ) (failures : List (ℕ × Failure)) → p ≡ procedure.Gather first count → list_any has_failed os ≡ true →
+      f ≡ OfPartialSend (outcomes_of failures (numbers_from first count)) → FailsSo p os f
+  IsAnswered : (r : Reply) (number : ℕ) (s : Says) → In (outcome.Replied r) os → number_in p ≡ Some number → Failed f ≡ reply_says s number r → FailsSo p os f
+
+abbrev pub FailuresAreTold : Type 0
+FailuresAreTold = (o : Options) (log : List Entry) (w : Who) (p : Procedure) (m : Makes) (f : Failure) →
+    IsRun o log → Rests o log → started w log ≡ Some p → In (Answered (record { makes = m; said = Failed f })) (deeds w log) → FailsSo p (outcomes w log) f
+
+-- THE CLIENT AND THE ADDRESS
+
+-- a Build has ended Ok
+abbrev pub built : List Entry → Bool
+built [] = false
+built (Then (Answers who verdict) ∷ log) = builds verdict.makes (built log)
+built (_ ∷ log) = built log
+
+abbrev pub BuiltIs : Type 0
+BuiltIs = (o : Options) (log : List Entry) → (view o log).calls.is_built ≡ built log
+
+-- a plan has ended every link
+abbrev pub stopped : List Entry → Bool
+stopped [] = false
+stopped (Then (Does who StopAll) ∷ log) = true
+stopped (_ ∷ log) = stopped log
+
+-- The client is stopped from there on; so each later call is refused.
+abbrev pub StoppedIs : Type 0
+StoppedIs = (o : Options) (log : List Entry) → (view o log).calls.is_stopped ≡ stopped log
+
+-- THE CLOCK
+
+-- the greatest of the moment of the options and of the ticks
+abbrev pub clock : (start : ℕ) → List Entry → ℕ
+clock start [] = start
+clock start (Begins (Ticked now) ∷ log) = later_of (clock start log) now
+clock start (_ ∷ log) = clock start log
+
+abbrev pub ClockIs : Type 0
+ClockIs = (o : Options) (log : List Entry) → (view o log).now ≡ clock o.chosen.now log
+
+-- A tick begins at which this link is due, with so many frames queued.
+abbrev pub IsDueAt : Options → (link queued : ℕ) → Entry → List Entry → Type 0
+IsDueAt o l queued e older =
+    (now : ℕ) × (seat : Seat) × (e ≡ Begins (Ticked now)) × ((view o older).links.live l ≡ Some seat) × (due now seat.seen ≡ true)
+    × (queued ≡ seat.seen.waits.queued)
+
+-- A deadline comes to a link only in a tick at whose beginning the link was due, and those requests may time out whose frames were queued
+-- then: what is started in a tick waits for the next.
+abbrev pub DeadlinesAreTicked : Type 0
+DeadlinesAreTicked = (o : Options) (log : List Entry) (l queued : ℕ) →
+    IsRun o (Then (Comes (ToLink l (Ends (Overdue queued)))) ∷ log) → InThisStep (IsDueAt o l queued) log
+
+-- An alarm comes only in a tick at whose beginning it rang: what is set in a tick waits for the next.
+abbrev pub RingsAt : Options → Alarm → Entry → List Entry → Type 0
+RingsAt o a e older = (now : ℕ) × (e ≡ Begins (Ticked now)) × In a (ringing now (view o older).alarms)
+
+abbrev pub AlarmsAreTicked : Type 0
+AlarmsAreTicked = (o : Options) (log : List Entry) (a : Alarm) → IsRun o (Then (Comes (Rings a)) ∷ log) → InThisStep (RingsAt o a) log
+
+-- What a tick brings comes in this order: the deadlines of links, by link; the attempts that follow others, by the link of the one before;
+-- those who have waited, by their rank; the batches, by producer; the signs of life, by link; then the idle check.
+abbrev pub part_rank : Part → ℕ × ℕ × ℕ
+part_rank (ToLink l x) = (0, 0, l)
+part_rank (Rings (Retry l)) = (1, 0, l)
+part_rank (Rings (Wake who)) = (2, (rank who).0, (rank who).1)
+part_rank (Rings (Batch n)) = (3, 0, n)
+part_rank (Rings (KeepAlive l)) = (4, 0, l)
+part_rank (Rings CheckIdle) = (5, 0, 0)
+part_rank (Calls asked advice) = (6, 0, 0)
+part_rank (Polls ticket) = (6, 0, ticket)
+
+abbrev pub part_below : Part → Part → Bool
+part_below a b = is_before3 (part_rank a) (part_rank b)
+
+abbrev pub TicksInOrder : Type 0
+TicksInOrder = (o : Options) (log : List Entry) (now : ℕ) → InOrder part_below (brings o.policies (view o log) (Ticked now))
+
+-- THE ADDRESSES
+
+-- what runs for an address, by the newest of these: an attempt began, a link of it became ready, a link of it ended, the client was stopped
+abbrev pub turn_over : (link : ℕ) → Option Pause → Series
+turn_over l None = Nobody
+turn_over l (Some p) = Pauses l
+
+abbrev pub turn_of : (link : ℕ) → Change → Option Pause → Series → Series
+turn_of l Remains pause s = s
+turn_of l Becomes pause s = Serves l
+turn_of l IsOver pause s = turn_over l pause
+
+abbrev pub turn_on : (key : List ℕ) → Option Turned → Series → Series
+turn_on key None s = s
+turn_on key (Some t) s = if bytes_eq t.key key then turn_of t.link t.change t.pause s else s
+
+abbrev pub newest_turn : Options → (key : List ℕ) → List Entry → Series
+newest_turn o key [] = Nobody
+newest_turn o key (Then (Dials p starter retries) ∷ log) =
+    if bytes_eq (address_key p) key then Runs starter retries (view o log).links.started else newest_turn o key log
+newest_turn o key (Then (Comes (ToLink l x)) ∷ log) = turn_on key (turned (view o log) (Comes (ToLink l x))) (newest_turn o key log)
+newest_turn o key (Then (Does who StopAll) ∷ log) =
+    if waits_on (view o log).addresses (view o log).alarms key then Nobody else newest_turn o key log
+newest_turn o key (_ ∷ log) = newest_turn o key log
+
+abbrev pub SeriesIsNewest : Type 0
+SeriesIsNewest = (o : Options) (log : List Entry) (key : List ℕ) → ((view o log).addresses.base key).series ≡ newest_turn o key log
+
+-- An attempt begins a series where one gets a link of an address that can be reached and for which nothing runs; or it follows one that
+-- failed so that this may help, once its alarm has rung, and at most as many times as the options allow.
+abbrev pub Begun : Options → Place → Who → Entry → List Entry → Type 0
+Begun o p starter e older =
+    (e ≡ Then (Does starter (Get p))) × (is_reachable p ≡ true) × ((base_of (view o older) p).series ≡ Nobody)
+
+abbrev pub Followed : Options → Place → Who → (retries : ℕ) → Entry → List Entry → Type 0
+Followed o p starter n e older =
+    (l before : ℕ) × (e ≡ Then (Comes (Rings (Retry l)))) × (rings (view o older).now (Retry l) (view o older).alarms ≡ true)
+    × ((view o older).addresses.pause l ≡ Some (record { address = p; starter = starter; retries = before }))
+    × (n ≡ before + 1) × (n ≤ o.chosen.connection.max_retries)
+
+abbrev pub Attempted : Options → Place → Who → (retries : ℕ) → List Entry → Type 0
+Attempted o p starter n log =
+    (e : Entry) × (older : List Entry) × (log ≡ e ∷ older) × ((Begun o p starter e older × (n ≡ 0)) ⊎ Followed o p starter n e older)
+
+abbrev pub AttemptsFollow : Type 0
+AttemptsFollow = (o : Options) (log : List Entry) (p : Place) (starter : Who) (n : ℕ) →
+    IsRun o (Then (Dials p starter n) ∷ log) → Attempted o p starter n log
+
+-- from a Stop on no attempt begins
+abbrev pub NoneAfterStop : Type 0
+NoneAfterStop = (o : Options) (log : List Entry) (p : Place) (starter : Who) (n : ℕ) → IsRun o (Then (Dials p starter n) ∷ log) → stopped log ≡ false
+
+-- one link at a time is of an address: the one that its series names
+abbrev pub names_link : ℕ → Series → Bool
+names_link l Nobody = false
+names_link l (Runs starter retries link) = link == l
+names_link l (Pauses link) = false
+names_link l (Serves link) = link == l
+
+abbrev pub OneLinkEach : Type 0
+OneLinkEach = (o : Options) (log : List Entry) (l : ℕ) (seat : Seat) → IsRun o log → (view o log).links.live l ≡ Some seat →
+    names_link l (base_of (view o log) seat.address).series ≡ true
+
+-- a link ends for want of use only where it is ready, was not got for so long, and nothing uses it, as the check for that comes
+abbrev pub IsIdleAt : Options → (link : ℕ) → Entry → List Entry → Type 0
+IsIdleAt o l e older =
+    (seat : Seat) × (e ≡ Then (Comes (Rings CheckIdle))) × (rings (view o older).now CheckIdle (view o older).alarms ≡ true)
+    × ((view o older).links.live l ≡ Some seat) × (is_idle (view o older) l seat ≡ true)
+
+abbrev pub IdleEnds : Type 0
+IdleEnds = (o : Options) (log : List Entry) (l : ℕ) → IsRun o (Then (Comes (ToLink l (Ends Idles))) ∷ log) →
+    InThisStep (IsIdleAt o l) log
+
+-- A link is asked for a sign of life only where the alarm for that rings, and none that it was asked for earlier is waited for.
+abbrev pub IsQuietAt : Options → (link : ℕ) → Entry → List Entry → Type 0
+IsQuietAt o l e older =
+    (seat : Seat) × (e ≡ Then (Comes (Rings (KeepAlive l)))) × (rings (view o older).now (KeepAlive l) (view o older).alarms ≡ true)
+    × ((view o older).links.live l ≡ Some seat) × (seat.ping ≡ None)
+
+abbrev pub SignsOfLife : Type 0
+SignsOfLife = (o : Options) (log : List Entry) (l : ℕ) → IsRun o (Then (Comes (ToLink l Pings)) ∷ log) → InThisStep (IsQuietAt o l) log
+
+-- LINKS
+
+-- the call of its connection, where something comes to a link that has not ended
+abbrev pub call_at : LinkAct → (now : ℕ) → Option Seat → List Act'
+call_at x now None = []
+call_at x now (Some seat) = option_to_list (call_of x now seat.seen)
+
+-- the calls of the connection of a link since it was dialed, newest first
+abbrev pub calls_of : Options → ℕ → List Entry → List Act'
+calls_of o l [] = []
+calls_of o l (Begins (Bytes k piece) ∷ log) = if l == k then Feeds piece ∷ calls_of o l log else calls_of o l log
+calls_of o l (Then (Comes (ToLink k x)) ∷ log) =
+    if l == k then call_at x (view o log).now ((view o log).links.live l) ++ calls_of o l log else calls_of o l log
+calls_of o l (Then (Does who (Ask k request)) ∷ log) = if l == k then Asks (view o log).now request ∷ calls_of o l log else calls_of o l log
+calls_of o l (Then (Dials p starter retries) ∷ log) = if l == (view o log).links.started then [] else calls_of o l log
+calls_of o l (_ ∷ log) = calls_of o l log
+
+-- what it was dialed with
+abbrev pub dialed_with : Options → ℕ → List Entry → Option Setup
+dialed_with o l [] = None
+dialed_with o l (Then (Dials p starter retries) ∷ log) =
+    if l == (view o log).links.started then Some (setup o.chosen l (view o log).now p) else dialed_with o l log
+dialed_with o l (_ ∷ log) = dialed_with o l log
+
+-- A link that has not ended is what the calls of its connection made of it, and nothing else. So all that holds of a connection over
+-- any acts holds of it: its requests are settled by the first later frame that bears their key, what is written is the first of what
+-- was queued, the line moves up in order, and what was read is what its bytes are cut into.
+abbrev pub LinksAlone : Type 0
+LinksAlone = (o : Options) (log : List Entry) (l : ℕ) (seat : Seat) → (view o log).links.live l ≡ Some seat →
+    (s : Setup) × (dialed_with o l log ≡ Some s) × (seat.seen ≡ session.seen s (calls_of o l log))
+
+-- At the end of a step no whole frame is left unread: the messages that were taken from a link are those that all its bytes are cut into.
+abbrev pub FramesAreCut : Type 0
+FramesAreCut = (o : Options) (log : List Entry) (l : ℕ) (seat : Seat) → IsRun o log → Rests o log → (view o log).links.live l ≡ Some seat →
+    (s : Setup) × (dialed_with o l log ≡ Some s) × (messages_taken s (calls_of o l log) ≡ cut (bytes_fed s (calls_of o l log)))
+
+-- a list begins with another
+abbrev pub IsPrefix : {A : Type 0} → List A → List A → Type 0
+IsPrefix {A} xs ys = (rest : List A) × (xs ++ rest ≡ ys)
+
+-- the bytes that an effect writes to a link, and those of the frame that it queues there
+abbrev pub written_on : ℕ → Shown → List ℕ
+written_on l (Write k bytes) = if l == k then bytes else []
+written_on l _ = []
+
+abbrev pub queued_on : ℕ → Shown → List ℕ
+queued_on l (Queued k place bytes) = if l == k then bytes else []
+queued_on l _ = []
+
+-- the bytes of all effects of a history, in order
+abbrev pub bytes_of : (Shown → List ℕ) → List Step → List ℕ
+bytes_of f [] = []
+bytes_of f (s ∷ h) = bytes_of f h ++ flat_map f s.effects
+
+-- the bytes that a good history writes to a connection are the first of those that it queued there, in order
+abbrev pub WritesFollow : Type 0
+WritesFollow = (o : Options) (h : List Step) (l : ℕ) → Good o h → IsPrefix (bytes_of (written_on l) h) (bytes_of (queued_on l) h)
+
+-- CONSUMERS
+
+-- A consumer ends at an entry: by a frame of its link for it that ends its topic or is the close of the broker; where its own close is
+-- asked for; with its link.
+abbrev pub last_arrival : Arrival → (number : ℕ) → Bool
+last_arrival Nothing number = false
+last_arrival Readied number = false
+last_arrival Settles number = false
+last_arrival (Gives consumer reply) number = (consumer == number) && is_last reply
+last_arrival Passes number = false
+last_arrival (Bad cause) number = false
+
+abbrev pub ends_at : Options → Subscription → Entry → List Entry → Bool
+ends_at o s (Then (Comes (ToLink l Reads))) older = (s.link == l) && last_arrival (arrival_at ((view o older).links.live l)) s.number
+ends_at o s (Then (Comes (ToLink l (Ends end)))) older = (s.link == l) && is_some (closing end (view o older).now ((view o older).links.live l))
+ends_at o s (Then (Does who (Ask l request))) older =
+    (s.link == l) && (is_asked (answer_at (view o older).now request ((view o older).links.live l)) && closes_it (closed_consumer request) s.number)
+ends_at o s _ older = false
+
+abbrev pub has_end : Options → Subscription → (later older : List Entry) → Bool
+has_end o s [] older = false
+has_end o s (e ∷ later) older = has_end o s later older || ends_at o s e (later ++ older)
+
+-- this consumer, whether it hears or not, and whatever it has not given yet
+abbrev pub Continues : Subscription → (is_live : Bool) → Option Subscription → Type 0
+Continues s is_live later =
+    (unread : List Item) × (later ≡ Some (record { link = s.link; number = s.number; topic = s.topic; is_live = is_live; unread = unread }))
+
+-- a consumer remains what it is, and hears up to the first of its ends, and never again
+abbrev pub ConsumersHearToTheirEnd : Type 0
+ConsumersHearToTheirEnd = (o : Options) (later older : List Entry) (t : ℕ) (s : Subscription) →
+    IsRun o (later ++ older) → (view o older).consumers t ≡ Some s →
+    Continues s (s.is_live && not (has_end o s later older)) ((view o (later ++ older)).consumers t)
+
+-- what comes to a link brings to a consumer: the items of a frame for it on its link while it hears
+abbrev pub brought_by : Arrival → (number : ℕ) → List Item
+brought_by Nothing number = []
+brought_by Readied number = []
+brought_by Settles number = []
+brought_by (Gives consumer reply) number = if consumer == number then reply.items else []
+brought_by Passes number = []
+brought_by (Bad cause) number = []
+
+abbrev pub brought : ℕ → Arrival → Option Subscription → List Item
+brought l a None = []
+brought l a (Some s) = if is_heard_on l s then brought_by a s.number else []
+
+-- the items that have come to the consumer of a ticket, in order
+abbrev pub items_come : Options → ℕ → List Entry → List Item
+items_come o t [] = []
+items_come o t (Then (Comes (ToLink l Reads)) ∷ log) =
+    items_come o t log ++ brought l (arrival_at ((view o log).links.live l)) ((view o log).consumers t)
+items_come o t (_ ∷ log) = items_come o t log
+
+-- the item that an effect gives to a poll of a ticket
+abbrev pub given_by : ℕ → Shown → List Item
+given_by t (Hands ticket topic id metadata payload) = if t == ticket then Given id metadata payload ∷ [] else []
+given_by t (Faults ticket fault) = if t == ticket then Faulty fault ∷ [] else []
+given_by t _ = []
+
+-- those that the effects of a history give, in order
+abbrev pub items_given : ℕ → List Step → List Item
+items_given t [] = []
+items_given t (s ∷ h) = items_given t h ++ flat_map (given_by t) s.effects
+
+-- The polls of a consumer give the items that have come to it, in order, each once and without gap: behind what they gave
+-- stands what it has not given yet.
+abbrev pub PollsFollow : Type 0
+PollsFollow = (o : Options) (log : List Entry) (t : ℕ) (s : Subscription) →
+    IsRun o log → (view o log).consumers t ≡ Some s → items_given t (steps o log) ++ s.unread ≡ items_come o t log
+
+-- A consumer is polled where the user asks for it. The one effect of that step is its first item, and where it has none the
+-- end, once it hears no more, and else that there is nothing yet.
+abbrev pub PollsAreAnswered : Type 0
+PollsAreAnswered = (o : Options) (log : List Entry) (t : ℕ) → IsRun o (Then (Comes (Polls t)) ∷ log) →
+    (older : List Entry) × (s : Subscription) × (log ≡ Begins (Poll t) ∷ older) × ((view o older).consumers t ≡ Some s)
+    × (steps o (Then (Comes (Polls t)) ∷ log) ≡ record { event = Poll t; effects = polled t s ∷ [] } ∷ steps o older)
+
+-- TICKETS
+
+-- a cause serves calls by their tickets, in whatever order their requests end
+abbrev pub disconnects : ℕ → Notice
+disconnects t = record { who = Call t; outcome = outcome.Disconnected }
+
+abbrev pub ServedByTicket : Type 0
+ServedByTicket = arranged below (disconnects 3 ∷ disconnects 1 ∷ disconnects 2 ∷ []) ≡ disconnects 1 ∷ disconnects 2 ∷ disconnects 3 ∷ []
+
+-- the next ticket is the count of the calls so far and of their parts, in whatever run a history is that of
+abbrev pub TicketsCount : Type 0
+TicketsCount = (o : Options) (log : List Entry) → IsRun o log → Rests o log → (view o log).calls.drawn ≡ tickets_in (steps o log)

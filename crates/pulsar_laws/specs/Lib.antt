@@ -1,0 +1,4 @@
+pub mod Laws
+pub mod ProducerLaws
+pub mod BatchLaws
+pub mod Traces

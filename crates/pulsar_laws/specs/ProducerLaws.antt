@@ -1,0 +1,252 @@
+-- What follows of producers, in plain words.
+use Rattle.std.specs.Prelude.{◌≡◌, ◌⊎◌, ℕ, ◌+◌, ◌-◌, ◌^◌, ◌≤◌, ◌<◌, ◌==◌, ◌&&◌, ◌||◌, not, Bool, true, false, if◌then◌else◌, List, [], ◌∷◌, ◌++◌, Option, Some, None, Ok, Err}
+use Rattle.std.specs.BTreeMap.{is_at}
+use Rattle.std.specs.List.{list_any}
+use Rattle.std.specs.Map.{lookup}
+use Rattle.std.specs.Ordering.{nat_cmp}
+use Rattle.std.specs.Option.{is_some, option_map}
+use Rattle.pulsar_run.specs.Laws.{In}
+use Rattle.pulsar_wire.specs.declared.error.ConnectionError.TheVariants as error
+use Rattle.pulsar_wire.specs.declared.key.RequestKey.TheVariants as key
+use Rattle.pulsar_wire.specs.Fits.{CommandInRange}
+use Rattle.pulsar_frame.specs.Frame.{FitsFrame, Whole, frame_bytes, front}
+use Rattle.pulsar_frame.specs.Message.{MessageValues}
+use Rattle.pulsar_frame.specs.Payload.{PayloadInRange}
+use Rattle.pulsar_messages.specs.Content.{ProducerMessageValues}
+use Rattle.pulsar_messages.specs.Messages.{metadata_of}
+use Rattle.pulsar_messages.specs.Words as words
+use Rattle.pulsar_messages.specs.Words.{Words}
+use Rattle.pulsar_session.specs.Failures.{Failure, OfConnection, Shutdown}
+use Rattle.pulsar_session.specs.declared.states.Asked.TheVariants as placed
+use Rattle.pulsar_session.specs.Link as session
+use Rattle.pulsar_session.specs.Link.{Asks, frame_at, frame_for, message_of, ticked}
+use Rattle.pulsar_link.specs.Messages.{Reply, is_body}
+use Rattle.pulsar_producer.specs.Message.{with_version}
+use Rattle.pulsar_producer.specs.Laws.{AreAbove}
+use Rattle.pulsar_producer.specs.Topic as topic
+use Rattle.pulsar_producer.specs.Topic.{Act as TopicAct}
+use Rattle.pulsar_producer.specs.declared.content.Built.{Built}
+use Rattle.pulsar_producer.specs.declared.storage.Limits.{Limits}
+use Rattle.pulsar_producer.specs.declared.deed.News.TheVariants as news
+use Rattle.pulsar_producer.specs.declared.sending.Errand.{Errand}
+use Rattle.pulsar_producer.specs.declared.sending.Sending.{Sending}
+use Rattle.pulsar_producer.specs.declared.sending.Sending.TheVariants as send
+use Rattle.pulsar_producer.specs.declared.batching.Batching.{Batching}
+use Rattle.pulsar_producer.specs.declared.batching.Batching.TheVariants as batching
+use Rattle.pulsar_plans.specs.declared.turn.Ways.{Ways}
+use Rattle.pulsar_calls.specs.declared.act.Act.{Act}
+use Rattle.pulsar_calls.specs.declared.act.Act.TheVariants.{Comes, Told, Does}
+use Rattle.pulsar_calls.specs.declared.act.Alarm.TheVariants.{Batch}
+use Rattle.pulsar_calls.specs.declared.act.Part.TheVariants.{Rings}
+use Rattle.pulsar_client.specs.Alarms.{rings}
+use Rattle.pulsar_calls.specs.declared.act.Action.TheVariants.{Ask, TakeTurn, PassTurn, Draw, Remake, Shut, Store, Flush, TakeBatch, StopAll}
+use Rattle.pulsar_calls.specs.declared.act.Makes.TheVariants as makes
+use Rattle.pulsar_calls.specs.declared.act.Share.{Share}
+use Rattle.pulsar_calls.specs.declared.act.Outcome.{Outcome}
+use Rattle.pulsar_calls.specs.declared.act.Outcome.TheVariants as outcome
+use Rattle.pulsar_calls.specs.declared.act.Procedure.TheVariants as procedure
+use Rattle.pulsar_calls.specs.declared.act.Who.{Who}
+use Rattle.pulsar_calls.specs.declared.act.Who.TheVariants.{Call}
+use Rattle.pulsar_calls.specs.declared.plans.plan.At.{At}
+use Rattle.pulsar_calls.specs.declared.plans.plan.At.TheVariants as at
+use Rattle.pulsar_calls.specs.declared.plans.plan.Plan.{Plan}
+use Rattle.pulsar_calls.specs.declared.plans.plan.Plan.TheVariants as plan
+use Rattle.pulsar_client.specs.declared.producers.Topic.{Topic}
+use Rattle.pulsar_calls.specs.Content.{Said, Failed}
+use Rattle.pulsar_client.specs.Links as links
+use Rattle.pulsar_calls.specs.Parts.{sent_from}
+use Rattle.pulsar_client.specs.Producers.{number_drawn, numbers_at}
+use Rattle.pulsar_calls.specs.Plan.{told}
+use Rattle.pulsar_client.specs.Rules.{joins, notice}
+use Rattle.pulsar_client.specs.Run.{Entry, Begins, Then, IsRun, Rests, view}
+use Rattle.pulsar_client.specs.View.{Options, Seat, View, answer_at, room_of}
+use Rattle.pulsar_calls.specs.Who.{in_turn, is_same, turn_of as taken_as}
+use Rattle.pulsar_laws.specs.Laws.{started, outcomes, deeds, Answered}
+
+-- what is told of a frame that is queued
+abbrev pub is_queued : Outcome → Bool
+is_queued outcome.Queued = true
+is_queued _ = false
+
+-- a plan has asked for the frame of a message
+abbrev pub asks_in : Sending → Bool
+asks_in (send.Asked kept) = true
+asks_in _ = false
+
+abbrev pub asks_at : Plan → Bool
+asks_at (plan.Sending w e share s) = asks_in s
+asks_at _ = false
+
+abbrev pub asks_send : Option Plan → Bool
+asks_send None = false
+asks_send (Some p) = asks_at p
+
+-- what an act does to the topic producer of a number
+abbrev pub drawn_by : Option Bool → List TopicAct
+drawn_by None = []
+drawn_by (Some room) = topic.Draws ∷ []
+
+abbrev pub rung_by : (rings : Bool) → List TopicAct
+rung_by rings = if rings then topic.Cuts ∷ [] else []
+
+abbrev pub shut_by : (number : ℕ) → List ℕ → List TopicAct
+shut_by n [] = []
+shut_by n (m ∷ ms) = if n == m then topic.Closes ∷ shut_by n ms else shut_by n ms
+
+abbrev pub topic_acts : View → (number : ℕ) → Act → List TopicAct
+topic_acts v n (Comes (Rings (Batch m))) = if n == m then rung_by (rings v.now (Batch m) v.alarms) else []
+topic_acts v n (Does who (TakeTurn m)) = if n == m then topic.Takes (taken_as who) ∷ [] else []
+topic_acts v n (Does who (PassTurn m)) = if n == m then topic.Passes ∷ [] else []
+topic_acts v n (Does who (Draw m)) = if n == m then drawn_by (room_of v m) else []
+topic_acts v n (Does who (Remake r)) = if n == r.number then topic.Remakes r.link r.given ∷ [] else []
+topic_acts v n (Does who (Store m e)) = if n == m then topic.Stores (taken_as who) e ∷ [] else []
+topic_acts v n (Does who (Flush m)) = if n == m then topic.Flushes (taken_as who) ∷ [] else []
+topic_acts v n (Does who (TakeBatch m)) = if n == m then topic.TakesBatch ∷ [] else []
+topic_acts v n (Does who StopAll) = topic.Halts ∷ []
+topic_acts v n (Does who (Shut t)) = shut_by n (numbers_at (v.producers.built t))
+topic_acts v n _ = []
+
+-- all that was done to it since it was built, newest first
+abbrev pub acts_on : Options → (number : ℕ) → List Entry → List TopicAct
+acts_on o n [] = []
+acts_on o n (Begins e ∷ log) = acts_on o n log
+acts_on o n (Then a ∷ log) = if is_some ((view o log).producers.topics n) then topic_acts (view o log) n a ++ acts_on o n log else []
+
+-- A topic producer is what these made of it, and nothing else. So all that holds of one over any acts holds of it: the numbers that it draws
+-- rise, one has its turn at a time, the turn goes to the lowest ticket of those that wait, and what is stored is cut where it is ready.
+abbrev pub TopicsAlone : Type 0
+TopicsAlone = (o : Options) (log : List Entry) (n : ℕ) (t : Topic) → IsRun o log → (view o log).producers.topics n ≡ Some t →
+    (b : Built) × (limits : Limits) × (b.number ≡ n)
+    × (t.seen ≡ topic.seen (record { built = b; first_number = o.chosen.first_number; limits = limits }) (acts_on o n log))
+
+-- The number of a new topic producer is none that a raw call has named before, no other one has it, and none that was drawn before is as great:
+-- so none is drawn twice.
+abbrev pub NumbersAreFree : Type 0
+NumbersAreFree = (o : Options) (log : List Entry) (n : ℕ) → o.chosen.first_number < 2 ^ 64 → IsRun o log → number_drawn (view o log).producers ≡ Some n →
+    (list_any (λ k. k == n) (view o log).producers.named ≡ false) × ((view o log).producers.topics n ≡ None)
+    × ((who : Who) (m : ℕ) → In (Then (Told (notice who (outcome.Granted (news.Numbered m))))) log → m < n)
+
+-- Where a send of a call asks for its frame, it is the call's own message by the name that its topic producer has then, on its link and in its
+-- turn. Its number is the one that was drawn last. Where the message has no version of the schema, it has the one that it was told with its turn.
+abbrev pub FramesAreOfTheirSends : Type 0
+FramesAreOfTheirSends = (o : Options) (log : List Entry) (t l n s : ℕ) (name : List ℕ) (m : ProducerMessageValues) (block : Bool)
+    (w : Ways) (e : Errand) (share : Option Share) (given : ProducerMessageValues) →
+    IsRun o (Then (Does (Call t) (Ask l (words.Send n name s m block))) ∷ log) → started (Call t) log ≡ Some (procedure.Send w e share given) →
+    (row : Topic) × (version : Option (List ℕ)) × ((view o log).producers.topics n ≡ Some row) × (n ≡ e.producer) × (block ≡ e.block)
+    × (row.seen.holder ≡ Some t) × (row.seen.link ≡ l) × (row.seen.given.name ≡ name) × (row.seen.next ≡ s + 1) × (m ≡ with_version version given)
+    × In (Then (Told (notice (Call t) (outcome.Granted (news.HasTurn version))))) log
+
+-- The frame that is queued for it spells these words, and nothing else does at that place,
+abbrev pub QueuedAsAsked : Type 0
+QueuedAsAsked = (o : Options) (log : List Entry) (l place : ℕ) (seat : Seat) (request : Words) → (view o log).links.live l ≡ Some seat →
+    answer_at (view o log).now request (Some seat) ≡ Ok (placed.Queued place) →
+    (id : ℕ) × (frame : List ℕ) × (frame_for (message_of id (view o log).now request) ≡ Some frame)
+    × (frame_at place (session.after (Asks (view o log).now request) seat.seen) ≡ Some frame)
+
+-- and whoever decodes it reads the message: its payload, and what it says of that, under the producer's name and the number.
+abbrev pub FramesAreReadAgain : Type 0
+FramesAreReadAgain = (id now n s : ℕ) (name : List ℕ) (m : ProducerMessageValues) (block : Bool) (behind : List ℕ) →
+    FitsFrame (message_of id now (words.Send n name s m block)) → CommandInRange (message_of id now (words.Send n name s m block)).command →
+    PayloadInRange (message_of id now (words.Send n name s m block)).payload →
+    (read : MessageValues) × (front (frame_bytes (message_of id now (words.Send n name s m block)) ++ behind) ≡ Whole read behind)
+    × (read.payload ≡ Some (record { metadata = metadata_of now name s m; bytes = m.payload }))
+
+-- how often the frame of a send is queued: at once, or as it moves up from the line
+abbrev pub queues_at : Options → (ticket : ℕ) → List Entry → Act → ℕ
+queues_at o t log (Told n) = if is_same (Call t) n.who && (is_queued n.outcome && asks_send ((view o log).stand (Call t))) then 1 else 0
+queues_at o t log _ = 0
+
+abbrev pub queued_times : Options → (ticket : ℕ) → List Entry → ℕ
+queued_times o t [] = 0
+queued_times o t (Begins e ∷ log) = queued_times o t log
+queued_times o t (Then a ∷ log) = queued_times o t log + queues_at o t log a
+
+-- The send of a ticket is queued at most once, over all links.
+abbrev pub SentOnce : Type 0
+SentOnce = (o : Options) (log : List Entry) (t : ℕ) → IsRun o log → queued_times o t log ≤ 1
+
+-- A receipt that a send is told is the reply to a frame that it asked for: it bears the topic producer and the number of that.
+abbrev pub ReceiptsAreOwn : Type 0
+ReceiptsAreOwn = (o : Options) (log : List Entry) (t : ℕ) (r : Reply) (w : Ways) (e : Errand) (share : Option Share) (m : ProducerMessageValues) →
+    IsRun o (Then (Told (notice (Call t) (outcome.Replied r))) ∷ log) → started (Call t) log ≡ Some (procedure.Send w e share m) →
+    is_body 7 r.content.body ≡ true →
+    (l s : ℕ) × (name : List ℕ) × (sent : ProducerMessageValues) × In (Then (Does (Call t) (Ask l (words.Send e.producer name s sent e.block)))) log
+    × (r.content.key ≡ Some (key.ProducerSend e.producer s))
+
+-- The numbers of the frames that are asked for by a topic producer rise: so a receipt is that of one send.
+abbrev pub NumbersOfFramesRise : Type 0
+NumbersOfFramesRise = (o : Options) (newer older : List Entry) (t u l k n s r : ℕ) (name alias : List ℕ) (m other : ProducerMessageValues) (block waits : Bool)
+    (w v : Ways) (e f : Errand) (share part : Option Share) (given told : ProducerMessageValues) →
+    IsRun o (Then (Does (Call t) (Ask l (words.Send n name s m block))) ∷ (newer ++ Then (Does (Call u) (Ask k (words.Send n alias r other waits))) ∷ older)) →
+    started (Call t) (newer ++ Then (Does (Call u) (Ask k (words.Send n alias r other waits))) ∷ older) ≡ Some (procedure.Send w e share given) →
+    started (Call u) older ≡ Some (procedure.Send v f part told) → r < s
+
+-- what is seen where a link is told the time, and nothing else comes to it
+abbrev pub seat_ticked : (now : ℕ) → Seat → Seat
+seat_ticked now seat = record seat { seen = ticked now seat.seen }
+
+abbrev pub with_time : (link : ℕ) → View → View
+with_time l v =
+    record v {
+      links = record { started = v.links.started; live = λ k. if k == l then option_map (seat_ticked v.now) (v.links.live k) else v.links.live k };
+    }
+
+-- A send that finds no room and is not to wait leaves all as it was: what is queued, the line, the requests that wait, all that others do. Its
+-- number is spent, since it was drawn before (FramesAreOfTheirSends).
+abbrev pub SlowDownLeavesAll : Type 0
+SlowDownLeavesAll = (o : Options) (log : List Entry) (who : Who) (l : ℕ) (request : Words) →
+    answer_at (view o log).now request ((view o log).links.live l) ≡ Err error.SlowDown →
+    view o (Then (Does who (Ask l request)) ∷ log) ≡ with_time l (view o log)
+
+-- what a plan waits for the turn of
+abbrev pub turn_in : Errand → Sending → Option ℕ
+turn_in e (send.Waiting m) = Some e.producer
+turn_in e _ = None
+
+abbrev pub turn_in_batch : Errand → Batching → Option ℕ
+turn_in_batch e (batching.Sending ms count s) = turn_in e s
+turn_in_batch e _ = None
+
+abbrev pub turn_at : (number : ℕ) → At → Option ℕ
+turn_at n at.Turning = Some n
+turn_at n _ = None
+
+abbrev pub turn_of : Plan → Option ℕ
+turn_of (plan.Sending w e share s) = turn_in e s
+turn_of (plan.Batching w e b) = turn_in_batch e b
+turn_of (plan.Visiting r n left x) = turn_at n x
+turn_of _ = None
+
+-- one has the turn of a topic producer
+abbrev pub HasTurn : View → Who → (number : ℕ) → Type 0
+HasTurn v who n = (row : Topic) × (v.producers.topics n ≡ Some row) × (row.seen.holder ≡ Some (taken_as who))
+
+-- The turn is passed on by the one that has it, to the lowest ticket of those that wait, which is told so.
+abbrev pub PassedInTurn : Type 0
+PassedInTurn = (o : Options) (log : List Entry) (who : Who) (n : ℕ) → IsRun o (Then (Does who (PassTurn n)) ∷ log) →
+    (row : Topic) × ((view o log).producers.topics n ≡ Some row) × (row.seen.holder ≡ Some (taken_as who))
+    × ((next : ℕ) (left : List ℕ) → row.seen.waiting ≡ next ∷ left → AreAbove next left
+    × In (notice (in_turn n next) (outcome.Granted (news.HasTurn row.seen.given.version))) (joins (view o log) (Does who (PassTurn n))))
+
+-- One that is told that its turn has come has it, if it waits for it still.
+abbrev pub ToldInTurn : Type 0
+ToldInTurn = (o : Options) (log : List Entry) (who : Who) (n : ℕ) (version : Option (List ℕ)) (p : Plan) →
+    IsRun o (Then (Told (notice who (outcome.Granted (news.HasTurn version)))) ∷ log) → (view o log).stand who ≡ Some p → turn_of p ≡ Some n →
+    HasTurn (view o log) who n
+
+-- A send has its turn until it is told that its frame is queued: so the frames of a topic producer are queued in the order of the turns.
+abbrev pub QueuedInTurn : Type 0
+QueuedInTurn = (o : Options) (log : List Entry) (t : ℕ) (w : Ways) (e : Errand) (share : Option Share) (m : Option ProducerMessageValues) →
+    IsRun o log → (view o log).stand (Call t) ≡ Some (plan.Sending w e share (send.Asked m)) → HasTurn (view o log) (Call t) e.producer
+
+-- A call with parts ends once each of them was queued, or failed before, with what became of each: none of them failed, or just these did. Where the
+-- client is stopped before, it fails so.
+abbrev pub PartsAreGathered : Type 0
+PartsAreGathered = (o : Options) (log : List Entry) (t first count : ℕ) (said : Said) →
+    IsRun o log → Rests o log → started (Call t) log ≡ Some (procedure.Gather first count) →
+    In (Answered (record { makes = makes.Nothing; said = said })) (deeds (Call t) log) →
+    (In outcome.Stopped (outcomes (Call t) log) × (said ≡ Failed (OfConnection Shutdown))) ⊎
+    ((failures : List (ℕ × Failure)) × (said ≡ sent_from first count failures)
+    × ((u : ℕ) → first ≤ u → u < first + count → (f : Option Failure) × In (outcome.Parted u f) (outcomes (Call t) log)
+    × (lookup (is_at (nat_cmp u)) failures ≡ f))
+    × ((x : ℕ × Failure) → In x failures → (first ≤ x.0) × (x.0 < first + count) × In (outcome.Parted x.0 (Some x.1)) (outcomes (Call t) log)))

@@ -1,0 +1,43 @@
+//! What follows of the batches of producers from the definition of a good run: each contract is a law, and its body is empty.
+
+ghost use Rattle.pulsar_laws.specs.BatchLaws.{BatchSentOnce, BatchesOneByOne, ClosedWithTheProducer, FlushesWait, FramesOfBatches, MembersAreTold, StoredAtOnce, StoredEndsByItsBatch};
+
+/// A topic producer takes its next batch once all of the one before were told, so that one is under way at a time.
+pub fn batches_one_by_one()
+    ensures { BatchesOneByOne }
+{}
+
+/// Those of a batch are told what became of it, each with its place in the batch and the count of its messages.
+pub fn members_are_told()
+    ensures { MembersAreTold }
+{}
+
+/// The frame that a topic producer asks for is that of the batch that it took last.
+pub fn frames_of_batches()
+    ensures { FramesOfBatches }
+{}
+
+/// The frame of a batch is queued at most once, over all links.
+pub fn batch_sent_once()
+    ensures { BatchSentOnce }
+{}
+
+/// What a producer stores is settled as it is closed.
+pub fn closed_with_the_producer()
+    ensures { ClosedWithTheProducer }
+{}
+
+/// A call on a producer that sends batches stores its own message, in the step in which it is made.
+pub fn stored_at_once()
+    ensures { StoredAtOnce }
+{}
+
+/// A flush is told that it is done with its batch, behind which nothing waits that was stored before it.
+pub fn flushes_wait()
+    ensures { FlushesWait }
+{}
+
+/// A call that stores its message fails, or ends with the receipt that it is told of its batch.
+pub fn stored_ends_by_its_batch()
+    ensures { StoredEndsByItsBatch }
+{}

@@ -1,0 +1,6 @@
+//! What every good run of a client has, in the words of its users. Each contract is a law, and its body is empty.
+#![tactic(auto)]
+
+pub mod batches;
+pub mod producers;
+pub mod runs;

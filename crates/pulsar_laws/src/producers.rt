@@ -1,0 +1,50 @@
+//! What follows of producers from the definition of a good run: each contract is a law, and its body is empty.
+
+ghost use Rattle.pulsar_laws.specs.ProducerLaws.{FramesAreOfTheirSends, FramesAreReadAgain, NumbersAreFree, NumbersOfFramesRise, PartsAreGathered, PassedInTurn, QueuedAsAsked, QueuedInTurn, ReceiptsAreOwn, SentOnce, SlowDownLeavesAll, ToldInTurn, TopicsAlone};
+
+/// A topic producer is what the acts on it made of it since it was built, and nothing else.
+pub fn topics_alone()
+    ensures { TopicsAlone }
+{}
+
+/// The number of a new topic producer is none that a raw call has named, and none that was drawn before.
+pub fn numbers_are_free()
+    ensures { NumbersAreFree }
+{}
+
+/// The turn of a topic producer is passed on by the one that has it, to the lowest ticket of those that wait, and one that is told
+/// that it has its turn has it, until its frame is queued.
+pub fn turns_by_ticket()
+    ensures passed { PassedInTurn }
+    ensures told { ToldInTurn }
+    ensures queued { QueuedInTurn }
+{}
+
+/// The frame that a send asks for is its own message, by what its topic producer has then, in its turn. What is queued at its
+/// place spells that, and is read again as the message.
+pub fn frames_are_of_their_sends()
+    ensures asked { FramesAreOfTheirSends }
+    ensures queued { QueuedAsAsked }
+    ensures read { FramesAreReadAgain }
+{}
+
+/// The send of a ticket is queued at most once, over all links.
+pub fn sent_once()
+    ensures { SentOnce }
+{}
+
+/// A receipt answers the send whose topic producer and number it bears, and no other one has asked for a frame that bears them.
+pub fn receipts_are_own()
+    ensures own { ReceiptsAreOwn }
+    ensures rise { NumbersOfFramesRise }
+{}
+
+/// A send that finds no room and is not to wait leaves all as it was.
+pub fn slow_down_leaves_all()
+    ensures { SlowDownLeavesAll }
+{}
+
+/// A call with parts ends once each of them was queued, or failed before, with what became of each.
+pub fn parts_are_gathered()
+    ensures { PartsAreGathered }
+{}

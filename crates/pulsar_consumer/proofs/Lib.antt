@@ -3,6 +3,5 @@ pub mod Counted
 pub mod Going
 pub mod Held
 pub mod Histories
-pub mod Items
 pub mod Permits
 pub mod Placing

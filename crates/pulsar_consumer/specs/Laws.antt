@@ -1,9 +1,8 @@
 -- What follows of every history of a consumer, in plain words. `h` has the acts of a history, newest first, and `later` those behind them.
 use Rattle.std.specs.Prelude.{◌≡◌, ℕ, ◌+◌, ◌-◌, ◌^◌, ◌<◌, ◌≤◌, nat_lt, true, false, if◌then◌else◌, List, [], ◌∷◌, ◌++◌, length, take, drop, Some, None, unwrap_or}
 use Rattle.std.specs.List.{All, flat_map, sum, sum_by}
-use Rattle.pulsar_frame.specs.Message.{MessageValues}
-use Rattle.pulsar_link.specs.Items.{Item, items_in}
-use Rattle.pulsar_consumer.specs.Frames.{Frame, failed, frame}
+use Rattle.pulsar_link.specs.Items.{Item}
+use Rattle.pulsar_consumer.specs.Frames.{Frame, failed}
 use Rattle.pulsar_consumer.specs.Topic.{Act, Lives, Hears, Loses, Fails, Ends, Polls, Asks, Live, Seen, Setup, batch_size, first_due, first_of, half, is_ended, link_of, lives_on, permits, polled, polled_from, queue_of, seen}
 use Rattle.pulsar_consumer.specs.declared.polled.Ending.{Ending}
 use Rattle.pulsar_consumer.specs.declared.polled.Polled.{Polled}
@@ -16,10 +15,6 @@ abbrev pub StandsFor : Seen → Setup → List Act → Type 0
 StandsFor v s h = v ≡ seen s h
 
 -- ITEMS
-
--- A message gives what is said of its frame.
-abbrev pub FramesGiveItems : Type 0
-FramesGiveItems = (m : MessageValues) → (frame m).items ≡ items_in m
 
 -- what arrives by an act: a message on the link of its live subscription, or why it could not be subscribed again
 abbrev pub arrives_by : Act → Seen → List Frame

@@ -5,6 +5,7 @@ use Rattle.std.specs.Option.{is_some, option_map, option_or}
 use Rattle.url.specs.Parts.{Parts}
 use Rattle.pulsar_wire.specs.Sink.{capped}
 use Rattle.pulsar_link.specs.Items.{Item, Given, Faulty}
+use Rattle.pulsar_link.specs.Request.{Subscribed}
 use Rattle.pulsar_session.specs.Failures.{Failure}
 use Rattle.pulsar_consumer.specs.Content.{ConfigValues}
 use Rattle.pulsar_consumer.specs.Frames.{Frame, failed}
@@ -149,6 +150,26 @@ pub record Setup : Type 0 where
   pub config : ConfigValues
   pub is_raw : Bool
 
+-- the consumer that a raw call makes
+abbrev pub of_raw : Subscribed → Setup
+of_raw s =
+    record {
+      topic = s.topic;
+      number = s.consumer;
+      config =
+          record {
+            subscription = s.subscription;
+            sub_type = s.sub_type;
+            batch_size = None;
+            consumer_name = s.name;
+            consumer_id = Some s.consumer;
+            unacked_message_redelivery_delay = None;
+            options = s.options;
+            dead_letter_policy = None;
+          };
+      is_raw = true;
+    }
+
 -- and why it has ended, how many messages it gave, and when it gave the last
 pub record Seen : Type 0 where
   pub topic : List ℕ
@@ -199,6 +220,10 @@ is_on link (Some l) = l == link
 
 abbrev pub lives_on : (link : ℕ) → Seen → Bool
 lives_on link v = is_on link (link_of v)
+
+-- a flow is to be asked for
+abbrev pub is_due : Seen → Bool
+is_due v = is_some (first_due v.engine.live)
 
 -- it has ended, or a subscription of it is to be made again once the one on this link is lost
 abbrev pub is_ended : Seen → Bool

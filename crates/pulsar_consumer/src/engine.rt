@@ -1,7 +1,7 @@
 //! What a consumer holds: the frames that came for it, as far as they are not given, and the permits of its subscription.
 
 ghost use Rattle.std.specs.Prelude.{◌≡◌, ◌++◌, ◌-◌, [], take, drop, length, None, Some, IfOk, OnOk};
-ghost use Rattle.std.specs.Option.{option_map};
+ghost use Rattle.std.specs.Option.{is_some, option_map};
 ghost use Rattle.pulsar_consumer.specs.Topic as meaning;
 
 use crate::frame::Frame;
@@ -99,6 +99,16 @@ impl ConsumerEngine {
                 Ok(Some(item))
             }
             None => Ok(None),
+        }
+    }
+
+    /// A flow is to be asked for.
+    pub(crate) fn is_due(&self) -> bool
+        ensures { result ≡ is_some (meaning.first_due self.now.live) }
+    {
+        match &self.live {
+            Some(live) => live.is_due(),
+            None => false,
         }
     }
 

@@ -1,6 +1,7 @@
 //! A subscription that is live, and what remains of its permits.
 
 ghost use Rattle.std.specs.Prelude.{◌≡◌, ◌+◌, ◌-◌, nat_lt, IfOk, OnOk};
+ghost use Rattle.std.specs.Option.{is_some};
 ghost use Rattle.pulsar_consumer.specs.Topic as meaning;
 
 use pulsar_wire::error::NoMemory;
@@ -92,6 +93,13 @@ impl Live {
         }
         self.weight = 0;
         Ok(())
+    }
+
+    /// A flow is to be asked for.
+    pub fn is_due(&self) -> bool
+        ensures { result ≡ is_some (meaning.first_in self.now.due) }
+    {
+        self.due.front().is_some()
     }
 
     /// The flow that is to be asked for next. It counts as asked for.

@@ -1,5 +1,6 @@
--- What a message of the broker gives to a consumer.  (Pulsar binary protocol, Consumer: Message; Batch messages)
-use Rattle.std.specs.Prelude.{ℕ, zero, ℤ, pos, Bool, true, false, List, [], ◌∷◌, map, Option, Some, None, ◌==◌, if◌then◌else◌}
+-- What a message of the broker gives to a consumer, and what it costs.  (Pulsar binary protocol, Consumer: Message; Flow control; Batch
+-- messages)
+use Rattle.std.specs.Prelude.{ℕ, zero, ℤ, pos, negsuc, Bool, true, false, List, [], ◌∷◌, map, Option, Some, None, ◌==◌, if◌then◌else◌}
 use Rattle.pulsar_wire.specs.Field.{◌>>=◌}
 use Rattle.pulsar_wire.specs.Row.{Required, Optional, Int32, Row, End, Plain, Embedded, Numbers, Values, spelling, ◌&◌}
 use Rattle.pulsar_wire.specs.Rows.{message_id, message_metadata}
@@ -99,3 +100,23 @@ items_with p (Some b) = if b.number == 9 then items_behind (id_of_body b) p else
 
 abbrev pub items_in : MessageValues → List Item
 items_in m = items_with m.payload m.command.body
+
+-- PERMITS
+
+-- a message costs as many permits as its batch has entries, none where that number is negative, and one where it is no batch
+abbrev pub weight_of : (count : Option ℤ) → ℕ
+weight_of None = 1
+weight_of (Some (pos n)) = n
+weight_of (Some (negsuc n)) = 0
+
+abbrev pub weight_behind : Option PayloadValues → ℕ
+weight_behind None = 1
+weight_behind (Some p) = weight_of (num_messages_in_batch p.metadata)
+
+-- a message command alone costs permits
+abbrev pub weight_with : Option PayloadValues → Option BodyValues → ℕ
+weight_with p None = 0
+weight_with p (Some b) = if b.number == 9 then weight_behind p else 0
+
+abbrev pub weight_in : MessageValues → ℕ
+weight_in m = weight_with m.payload m.command.body

@@ -244,7 +244,7 @@ polled v = polled_from (first_of v.engine.unread) v.ended
 
 -- an item that is no error counts as a message that was received
 abbrev pub is_message : Item → Bool
-is_message (Given id metadata payload) = true
+is_message (Given id batch_size metadata payload) = true
 is_message (Faulty f) = false
 
 abbrev pub counts : (clock : ℕ) → Item → Seen → Seen

@@ -23,6 +23,7 @@ pub struct MessageData {
 
 impl MessageData {
     /// That of a message: its batch has as many entries as is said of its payload.
+    #[tactic(auto, unfolding(pulsar_wire::specs::Views::message_metadata_values))]
     pub fn of(id: MessageIdData, payload: &Payload) -> MessageData
         ensures { message_data_values result ≡ data_of (message_id_values id) (payload_values payload.now) }
     {

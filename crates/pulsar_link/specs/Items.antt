@@ -14,9 +14,10 @@ use Rattle.pulsar_frame.specs.Message.{MessageValues}
 use Rattle.pulsar_frame.specs.Payload.{PayloadValues}
 use Rattle.pulsar_session.specs.Failures.{Failure, OfConnection, OfConsumer, ConsumerIo, Decoding}
 
--- what a consumer is given: a message, with its id and its metadata as they are written, or why there is none
+-- what a consumer is given: a message, with its id and its metadata as they are written and with the number of entries of its batch, or
+-- why there is none
 pub data Item : Type 0 where
-  Given : (id metadata payload : List ℕ) → Item
+  Given : (id : List ℕ) (batch_size : Option ℤ) (metadata payload : List ℕ) → Item
   Faulty : Failure → Item
 
 -- THE ID OF A MESSAGE
@@ -64,7 +65,7 @@ id_of_body b = inner_at 2 b.row b.values >>= id_in
 
 -- a message by itself
 abbrev pub given : batch.Item → Item
-given x = Given (spelling message_id x.0) (spelling message_metadata x.1.metadata) x.1.bytes
+given x = Given (spelling message_id x.0) (num_messages_in_batch x.1.metadata) (spelling message_metadata x.1.metadata) x.1.bytes
 
 -- a compression other than none, which is 0
 abbrev pub is_compressed : Option ℤ → Bool

@@ -1,7 +1,7 @@
 use Rattle.std.proofs.Common.{rules, ◌∙◌, ◌<◌, [], ◌∷◌, sym, ap, map, take, get_or, length}
 use Rattle.std.proofs.lemmas.List.{map-append}
 use Rattle.pulsar_wire.specs.Row.{each}
-use Rattle.pulsar_cli.specs.RawLines.{id}
+use Rattle.pulsar_cli.specs.Encoded.{id}
 use Rattle.pulsar_cli.proofs.Folds.{ids_step, take_more}
 use Rattle.pulsar_cli.proofs.grammar.raw.ids.Goals as goal
 

@@ -3,7 +3,7 @@
 -- A link is an attempt to connect, and the connection that comes of it. Links are numbered from 0, in the order of the effects Connect.
 -- The place of a frame is its index among all frames that were queued on its link. A ticket is the number of a call: calls are counted
 -- from 0. A consumer, and a producer, has the ticket of the call that made it. The parts of a call have the tickets behind its own.
-use Rattle.std.specs.Prelude.{ℕ, zero, suc, ◌+◌, ◌-◌, ◌^◌, nat_le, Bool, List, [], ◌∷◌, length, map, string_bytes, Option, Some, None, Result, Ok, Err}
+use Rattle.std.specs.Prelude.{ℕ, ℤ, zero, suc, ◌+◌, ◌-◌, ◌^◌, nat_le, Bool, List, [], ◌∷◌, length, map, string_bytes, Option, Some, None, Result, Ok, Err}
 use Rattle.pulsar_wire.specs.Row.{Values, spelling}
 use Rattle.pulsar_wire.specs.Rows.{message_id, message_metadata, send_receipt}
 use Rattle.pulsar_wire.specs.Views.{body_values, message_id_values, message_metadata_values, send_receipt_values}
@@ -73,8 +73,8 @@ pub data Said : Type 0 where
   Replies : List Written → Said
   Failed : Failure → Said
 
--- What the client wants done, and tells. A poll hands a message with its id and its metadata as they are written, or tells why there is
--- none; it finds nothing where none is there yet, and the end where none will come.
+-- What the client wants done, and tells. A poll hands a message with its id and its metadata as they are written, and the size of its batch, or
+-- tells why there is none; it finds nothing where none is there yet, and the end where none will come.
 pub data Shown : Type 0 where
   Connect : (link : ℕ) (host : List ℕ) (port : ℕ) → Shown
   Queued : (link place : ℕ) (bytes : List ℕ) → Shown
@@ -83,7 +83,7 @@ pub data Shown : Type 0 where
   Close : (link : ℕ) → Shown
   Settles : (link place : ℕ) (outcome : Settlement) → Shown
   Ends : (ticket : ℕ) (answer : Said) → Shown
-  Hands : (ticket : ℕ) (topic id metadata payload : List ℕ) → Shown
+  Hands : (ticket : ℕ) (topic id : List ℕ) (batch_size : Option ℤ) (metadata payload : List ℕ) → Shown
   Faults : (ticket : ℕ) (fault : Failure) → Shown
   FindsNothing : (ticket : ℕ) → Shown
   FindsEnd : (ticket : ℕ) → Shown
@@ -178,7 +178,7 @@ said (Err e) = Failed (failure e)
 -- what a poll hands
 abbrev pub hands : ℕ → Result Handed Error → Shown
 hands ticket (Ok h) =
-    Hands ticket (string_bytes h.topic) (spelling message_id (message_id_values h.id.id))
+    Hands ticket (string_bytes h.topic) (spelling message_id (message_id_values h.id.id)) h.id.batch_size
     (spelling message_metadata (message_metadata_values h.payload.metadata)) h.payload.bytes.items
 hands ticket (Err e) = Faults ticket (failure e)
 

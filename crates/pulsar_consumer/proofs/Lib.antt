@@ -5,3 +5,4 @@ pub mod Held
 pub mod Histories
 pub mod Permits
 pub mod Placing
+pub mod Yields

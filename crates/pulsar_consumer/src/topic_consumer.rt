@@ -119,6 +119,13 @@ impl TopicConsumer {
         self.number
     }
 
+    /// A raw call made it.
+    pub fn is_raw(&self) -> bool
+        ensures { result ≡ self.now.is_raw }
+    {
+        self.is_raw
+    }
+
     /// How it was made.
     pub fn config(&self) -> &ConsumerConfig
         ensures { config_values result.now ≡ self.now.config }

@@ -6,6 +6,7 @@ use Rattle.pulsar_frame.specs.Key.{answers}
 use Rattle.pulsar_messages.specs.Content.{ConsumerOptionsValues}
 use Rattle.pulsar_messages.specs.Messages.{body_of}
 use Rattle.pulsar_messages.specs.Words.{Words, SendPing, SendPong, AuthChallenge, LookupTopic, LookupPartitionedTopic, GetTopicsOfNamespace, GetSchema, CreateProducer, Send, CloseProducer, Subscribe, SendFlow, SendAck, SendRedeliver, Seek, GetLastMessageId, GetConsumerStats, Unsubscribe, CloseConsumer, CloseConsumerUnawaited}
+use Rattle.pulsar_session.specs.Link.{claim}
 
 -- the number of its body, which its request number doesn't change
 abbrev pub request_number : Words → ℕ
@@ -17,6 +18,10 @@ answer_of request = if request == 18 then Some 19 else answers request
 
 abbrev pub is_answered : (request : ℕ) → Bool
 is_answered request = is_some (answer_of request)
+
+-- whether its answer is waited for: the close of a consumer has an answer, and may be asked for by nobody who waits
+abbrev pub is_awaited : Words → Bool
+is_awaited words = is_some (claim 0 words)
 
 -- the consumer that it closes, by its number
 abbrev pub closed_consumer : Words → Option ℕ

@@ -1,17 +1,15 @@
 //! What owns memory on its way to a connection and from it. It is boxed, so that what carries it is small. Contracts see it by its
 //! content.
 
-ghost use Rattle.std.specs.Prelude.{◌≡◌, ◌++◌, ℕ, List, IfOk, OnOk, map, string_bytes};
+ghost use Rattle.std.specs.Prelude.{◌≡◌, ℕ, List, IfOk, string_bytes};
 ghost use Rattle.pulsar_frame.specs.Shown.{message_values};
 ghost use Rattle.pulsar_link.specs.Messages.{Reply, is_body, read};
 ghost use Rattle.pulsar_session.specs.Failures.{fault};
 ghost use Rattle.pulsar_link.specs.Refusals.{refused};
 ghost use Rattle.pulsar_messages.specs.Words.{CloseConsumerUnawaited};
 ghost use Rattle.pulsar_link.specs.RawCall.{subscribed_by, words_in, words_of};
-ghost use Rattle.pulsar_link.specs.Request.{closed_consumer, named_consumer, request_number, subscribed};
-ghost use Rattle.pulsar_link.specs.Held.{item_of};
+ghost use Rattle.pulsar_link.specs.Request.{closed_consumer, is_awaited, named_consumer, request_number, subscribed};
 
-use crate::items::{Unread, give_with};
 use crate::raw_call::{RawCall, Subscription};
 use crate::refusal::{refused, unexpected};
 use pulsar_frame::message::Message;
@@ -19,7 +17,6 @@ use pulsar_wire::bodies;
 use pulsar_wire::error::{ConnectionError, NoMemory};
 use pulsar_wire::key::RequestKey;
 use std::alloc::Global;
-use std::collections::VecDeque;
 use std::marker::Model;
 
 /// A text.
@@ -149,6 +146,16 @@ impl Request {
         }
     }
 
+    /// Its answer is waited for.
+    pub fn is_awaited(&self) -> bool
+        ensures { result ≡ is_awaited self.now }
+    {
+        match &self.kind {
+            Kind::Call(call) => call.is_awaited(),
+            Kind::Closing(_) => false,
+        }
+    }
+
     /// The number of the consumer that it closes, where it closes one.
     pub fn closed_consumer(&self) -> Option<u64>
         ensures { result ≡ closed_consumer self.now }
@@ -247,16 +254,6 @@ impl Received {
         match &self.message.command.body {
             Some(body) => body.number() == number,
             None => false,
-        }
-    }
-
-    /// What it gives to a consumer is put behind what is there.
-    pub fn give(&self, unread: &mut VecDeque<Unread>) -> Result<(), NoMemory>
-        ensures { OnOk result (map item_of unread.new.items ≡ map item_of unread.old.items ++ self.now.items) }
-    {
-        match &self.message.command.body {
-            Some(body) => give_with(unread, &self.message.payload, body),
-            None => Ok(()),
         }
     }
 

@@ -5,7 +5,7 @@ ghost use Rattle.std.specs.Option.{option_map};
 ghost use Rattle.pulsar_messages.specs.Content.{consumer_options_values, producer_message_values, producer_options_values};
 ghost use Rattle.pulsar_messages.specs.Words.{CreateProducer, Send, Subscribe};
 ghost use Rattle.pulsar_link.specs.RawCall.{subscribed_by, words_of};
-ghost use Rattle.pulsar_link.specs.Request.{closed_consumer, named_consumer, named_producer, request_number, subscribed};
+ghost use Rattle.pulsar_link.specs.Request.{closed_consumer, is_awaited, named_consumer, named_producer, request_number, subscribed};
 
 use pulsar_session::{Authentication, ConsumerOptions, ProducerMessage, ProducerOptions};
 use pulsar_wire::bodies;
@@ -242,6 +242,32 @@ impl RawCall {
             RawCall::Unsubscribe { .. } => bodies::UNSUBSCRIBE,
             RawCall::AuthChallenge { .. } => bodies::AUTH_RESPONSE,
             RawCall::GetSchema { .. } => bodies::GET_SCHEMA,
+        }
+    }
+
+    /// Its answer is waited for.
+    pub fn is_awaited(&self) -> bool
+        ensures { result ≡ is_awaited (words_of self.now) }
+    {
+        match self {
+            RawCall::SendFlow { .. }
+            | RawCall::SendAck { .. }
+            | RawCall::SendRedeliver { .. }
+            | RawCall::AuthChallenge { .. } => false,
+            RawCall::Send { .. }
+            | RawCall::SendPing
+            | RawCall::LookupTopic { .. }
+            | RawCall::LookupPartitionedTopic { .. }
+            | RawCall::GetConsumerStats { .. }
+            | RawCall::GetLastMessageId { .. }
+            | RawCall::CreateProducer { .. }
+            | RawCall::GetTopicsOfNamespace { .. }
+            | RawCall::CloseProducer { .. }
+            | RawCall::Subscribe { .. }
+            | RawCall::CloseConsumer { .. }
+            | RawCall::Seek { .. }
+            | RawCall::Unsubscribe { .. }
+            | RawCall::GetSchema { .. } => true,
         }
     }
 

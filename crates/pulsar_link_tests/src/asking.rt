@@ -202,11 +202,12 @@ fn a_call_names_its_consumer(rt: HostRuntime) -> Result<(), Fail> {
         consumer_id: 7,
         permits: 1,
     };
-    assert!(rt; flow.named_consumer() == Some(7));
+    assert!(rt; flow.named_consumer() == Some(7) && !flow.is_awaited());
     let close = RawCall::CloseProducer { producer_id: 7 };
     assert!(rt; close.named_consumer() == None);
     let request = Request::new(alloc, close)?;
     assert!(rt; request.named_consumer() == None && request.subscribed(alloc)?.is_none());
+    assert!(rt; request.is_awaited());
     Ok(())
 }
 
@@ -216,7 +217,7 @@ fn a_consumer_is_closed_and_nobody_waits(rt: HostRuntime) -> Result<(), Fail> {
     let alloc = rt.alloc();
     let mut connection = ready(alloc)?;
     let request = Request::closing(7).copy(alloc)?;
-    assert!(rt; request.number() == 16);
+    assert!(rt; request.number() == 16 && !request.is_awaited());
     assert!(rt; request.closed_consumer() == Some(7) && request.named_consumer() == Some(7));
     assert!(rt; request.subscribed(alloc)?.is_none());
     let asked = ask(&mut connection, 0, request);

@@ -11,12 +11,6 @@ use Rattle.pulsar_frame.specs.Payload.{payload_values}
 use Rattle.pulsar_frame.specs.declared.payload.Payload.{Payload}
 use Rattle.pulsar_session.specs.Failures.{OfConsumer, ConsumerIo}
 use Rattle.pulsar_link.specs.Items.{Item, Faulty, counted, given, int32_in, is_compressed, items_of, opened}
-use Rattle.pulsar_link.specs.Held.{item_of}
-use Rattle.pulsar_link.specs.declared.items.Unread.{Unread}
-
--- one more item at the end
-pub item_more : (old new : List Unread) (x : Unread) → new ≡ old ++ x ∷ [] → map item_of new ≡ map item_of old ++ item_of x ∷ []
-item_more old new x h = ap (map item_of) h ∙ map-append item_of old (x ∷ [])
 
 compression_is : (m : MessageMetadata) → int32_in 8 message_metadata (message_metadata_values m) ≡ m.compression
 unfolding message_metadata_values

@@ -1,0 +1,37 @@
+-- For the code's contracts alone: the consumers, as the code keeps them. Their tickets are listed by their numbers.
+use Rattle.std.specs.Prelude.{◌≡◌, ◌==◌, ℕ, Bool, true, List, [], Option, Some, None}
+use Rattle.std.specs.BTreeMap.{BTreeMap, get, keys}
+use Rattle.std.specs.BTreeSet.{BTreeSet}
+use Rattle.std.specs.List.{list_any}
+use Rattle.std.specs.Option.{option_map}
+use Rattle.std.specs.Ordering.{nat_cmp}
+use Rattle.pulsar_client.specs.declared.consumers.table.Consumers.{Consumers as KeptConsumers}
+use Rattle.pulsar_client.specs.declared.consumers.row.ConsumerRow.{ConsumerRow}
+use Rattle.pulsar_client.specs.Consumers.{Consumers, Member, has_number}
+
+abbrev pub member_in : ConsumerRow → Member
+member_in r = record { seen = r.consumer.inner; seekers = r.seekers.items }
+
+abbrev pub rows_in : BTreeMap ℕ ConsumerRow → ℕ → Option Member
+rows_in rows t = option_map member_in (get nat_cmp rows t)
+
+abbrev pub consumers_of : KeptConsumers → Consumers
+consumers_of c =
+    record { rows = rows_in c.rows; tickets = keys c.rows; held = c.numbers.held.entries; named = c.numbers.named.keys; next = c.numbers.next }
+
+-- THE LISTING
+
+-- the tickets that are listed of a number
+abbrev pub tickets_of : Option (BTreeSet ℕ) → List ℕ
+tickets_of None = []
+tickets_of (Some tickets) = tickets.keys
+
+abbrev pub listed_at : BTreeMap ℕ (BTreeSet ℕ) → (number : ℕ) → List ℕ
+listed_at listing n = tickets_of (get nat_cmp listing n)
+
+abbrev pub is_listed : ℕ → List ℕ → Bool
+is_listed t tickets = list_any (λ u. u == t) tickets
+
+-- whoever has a number is listed under it; others may be listed too
+abbrev pub AreListed : BTreeMap ℕ (BTreeSet ℕ) → (ℕ → Option Member) → Type 0
+AreListed listing rows = (t n : ℕ) → has_number n (rows t) ≡ true → is_listed t (listed_at listing n) ≡ true

@@ -72,10 +72,14 @@ over_rows f cs = flat_map (at_row f cs.rows) cs.tickets
 abbrev pub member_after : Act → Member → Member
 member_after act m = record m { seen = topic.after act m.seen }
 
--- the link of its live subscription, and who it is where it has a plan
+-- the link of its live subscription, its number, and who it is where it has a plan
 abbrev pub link_at : Option Member → Option ℕ
 link_at None = None
 link_at (Some m) = link_of m.seen
+
+abbrev pub number_at : Option Member → ℕ
+number_at None = 0
+number_at (Some m) = m.seen.number
 
 abbrev pub who_of : (ticket : ℕ) → Member → Who
 who_of t m = who.Consumer m.seen.number t
@@ -102,7 +106,7 @@ abbrev pub hears : (link : ℕ) → Arrival → Member → Member
 hears l Nothing m = m
 hears l Readied m = m
 hears l Settles m = m
-hears l (Gives number reply) m = if number == m.seen.number then hears_frame l reply m else m
+hears l (Gives number reply) m = if m.seen.number == number then hears_frame l reply m else m
 hears l Passes m = m
 hears l (Bad cause) m = m
 
@@ -121,7 +125,7 @@ abbrev pub word_of : (link : ℕ) → Arrival → Member → Option Word
 word_of l Nothing m = None
 word_of l Readied m = None
 word_of l Settles m = None
-word_of l (Gives number reply) m = if number == m.seen.number then word_of_frame l reply m else None
+word_of l (Gives number reply) m = if m.seen.number == number then word_of_frame l reply m else None
 word_of l Passes m = None
 word_of l (Bad cause) m = None
 
@@ -137,9 +141,13 @@ word_of_loss l (Some cause) m = word_if (resubscribes l m.seen) word.Lost
 
 -- IT IS CLOSED where its close is asked for on its link, whether that is queued or stands in the line
 
+abbrev pub lives_with : (number link : ℕ) → Option Member → Bool
+lives_with n l None = false
+lives_with n l (Some m) = (m.seen.number == n) && lives_on l m.seen
+
 abbrev pub is_closed_by : (closed : Option ℕ) → (link : ℕ) → Member → Bool
 is_closed_by None l m = false
-is_closed_by (Some number) l m = (number == m.seen.number) && lives_on l m.seen
+is_closed_by (Some number) l m = lives_with number l (Some m)
 
 abbrev pub closes : (closed : Option ℕ) → (link : ℕ) → (is_asked : Bool) → Member → Member
 closes closed l is_asked m = if is_asked && is_closed_by closed l m then member_after (Ends Closed) m else m

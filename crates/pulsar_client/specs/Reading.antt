@@ -65,16 +65,12 @@ abbrev pub subscribes : Chosen → (ticket : ℕ) → ConsumerWanted → Procedu
 subscribes o t w = subscribes_by (ways_of o) (order_of o.seed t w)
 
 -- what is said of messages is asked for on the link of its live subscription, where one is
-abbrev pub number_of : Option Member → ℕ
-number_of None = 0
-number_of (Some m) = m.seen.number
-
 abbrev pub acknowledges : Consumers → (ticket : ℕ) → (ℕ → Words) → Procedure
 acknowledges cs t says =
-    unless (consumer.why_not cs t) (procedure.Acknowledge (consumer.link_at (cs.rows t)) (says (number_of (cs.rows t))))
+    unless (consumer.why_not cs t) (procedure.Acknowledge (consumer.link_at (cs.rows t)) (says (consumer.number_at (cs.rows t))))
 
 abbrev pub leaves : Consumers → (ticket : ℕ) → Procedure
-leaves cs t = unless (consumer.why_not cs t) (procedure.Leave t (number_of (cs.rows t)))
+leaves cs t = unless (consumer.why_not cs t) (procedure.Leave t (consumer.number_at (cs.rows t)))
 
 -- WHAT PLANS ASK OF CONSUMERS is told at once, but for the link of one that is being subscribed again.
 

@@ -33,6 +33,10 @@ pub use pulsar_link::raw_call::RawCall;
 pub use pulsar_messages::{
     Authentication, ConsumerOptions, Message, ProducerMessage, ProducerOptions, RoutingPolicy,
 };
+pub use pulsar_consumer::{
+    Consumer, ConsumerBuilder, ConsumerConfig, DeadLetterPolicy, DeserializeMessage, InitialPosition,
+    MessageData, SubType, TopicConsumer,
+};
 pub use pulsar_plans::{BrokerAddress, ConnectionRetryOptions, OperationRetryOptions};
 pub use pulsar_producer::{
     CustomRoutingPolicy, MessageBuilder, PartitionedProducer, Producer, ProducerBuilder,

@@ -7,7 +7,7 @@ ghost use Rattle.std.specs.Option.{option_map, option_to_list};
 ghost use Rattle.pulsar_calls.specs.Content.{shown};
 ghost use Rattle.pulsar_consumer.specs.Topic.{Asks, Ends, Loses, Polls, lives_on, resubscribes};
 ghost use Rattle.pulsar_client.specs.Consumers as meaning;
-ghost use Rattle.pulsar_client.specs.Consumers.{at_row, flow_at, hears_frame, is_closed_by, lives_at, member_after, polled, sought, word_if, word_of_frame};
+ghost use Rattle.pulsar_client.specs.Consumers.{at_row, flow_at, hears_frame, lives_at, member_after, polled, sought, word_if, word_of_frame};
 ghost use Rattle.pulsar_client.specs.KeptConsumers.{is_listed, listed_at, member_in, rows_in};
 ghost use Rattle.pulsar_client.specs.Reading.{again, again_at, due_at, polled_due, revived_at, stopped_one, stopped_seekers, word_to};
 
@@ -30,7 +30,7 @@ pub fn living(
     number: u64,
     link: u64,
 ) -> Result<Vec<u64>, NoMemory>
-    ensures { IfOk result (λ ts. ts.items ≡ filter (λ t. is_closed_at number link (rows_in rows.now t)) (listed_at listing.now number)) }
+    ensures { IfOk result (λ ts. ts.items ≡ filter (λ t. meaning.lives_with number link (rows_in rows.now t)) (listed_at listing.now number)) }
 {
     let mut living = Vec::new(alloc);
     let Some(tickets) = listed(listing, number) else {
@@ -45,10 +45,10 @@ pub fn living(
 }
 
 fn lives(rows: &BTreeMap<u64, ConsumerRow>, ticket: u64, number: u64, link: u64) -> bool
-    ensures { result ≡ meaning.is_closed_at number link (rows_in rows.now ticket) }
+    ensures { result ≡ meaning.lives_with number link (rows_in rows.now ticket) }
 {
     match rows.get(&ticket) {
-        Some(row) => row.is_closed_by(number, link),
+        Some(row) => row.lives_with(number, link),
         None => false,
     }
 }
@@ -143,7 +143,7 @@ pub fn lose_all(
 }
 
 fn number_at(rows: &BTreeMap<u64, ConsumerRow>, ticket: u64) -> u64
-    ensures { result ≡ meaning.number_in (rows_in rows.now ticket) }
+    ensures { result ≡ meaning.number_at (rows_in rows.now ticket) }
 {
     match rows.get(&ticket) {
         Some(row) => row.consumer.inner.number(),

@@ -7,7 +7,7 @@ ghost use Rattle.pulsar_consumer.specs.Commands.{command_of};
 ghost use Rattle.pulsar_consumer.specs.Topic.{Ends, Hears, Lives, Loses, Polls, is_ended, link_of, lives_on};
 ghost use Rattle.pulsar_consumer.specs.Frames.{frame_in};
 ghost use Rattle.pulsar_client.specs.Consumers as meaning;
-ghost use Rattle.pulsar_client.specs.Consumers.{ends_on, failed, flow_at, hears_frame, is_closed_by, member_after, polled, polled_item, polled_so, revived, seeks, sought, stopped, subscribed_on, unsought, who_of, word_if, word_of_frame};
+ghost use Rattle.pulsar_client.specs.Consumers.{ends_on, failed, flow_at, hears_frame, member_after, polled, polled_item, polled_so, revived, seeks, sought, stopped, subscribed_on, unsought, who_of, word_if, word_of_frame};
 ghost use Rattle.pulsar_client.specs.KeptConsumers.{member_in};
 
 use pulsar_calls::act::{Who, Word};
@@ -133,9 +133,9 @@ impl ConsumerRow {
         word_if(is_served, Word::Lost)
     }
 
-    /// Its close was asked for on a link, where it is of this number.
-    pub fn is_closed_by(&self, number: u64, link: u64) -> bool
-        ensures { result ≡ ((number == (member_in self.now).seen.number) && lives_on link (member_in self.now).seen) }
+    /// It has this number, and lives on this link.
+    pub fn lives_with(&self, number: u64, link: u64) -> bool
+        ensures { result ≡ (((member_in self.now).seen.number == number) && lives_on link (member_in self.now).seen) }
     {
         self.consumer.inner.number() == number && self.consumer.inner.lives_on(link)
     }

@@ -6,9 +6,9 @@ ghost use Rattle.std.specs.Option.{is_some, option_copied, option_map, option_to
 ghost use Rattle.pulsar_calls.specs.Content.{shown};
 ghost use Rattle.pulsar_consumer.specs.Topic.{Polls};
 ghost use Rattle.pulsar_client.specs.Consumers as meaning;
-ghost use Rattle.pulsar_client.specs.Consumers.{IsHeard, all_changed, changed, closes, hears, is_ended_at, is_in_use, is_passed, joined, link_at, loses_by, member_after, member_of, names_in, next_free, none, numbered, numbering, over_rows, polled, some_row, sought, why_not};
+ghost use Rattle.pulsar_client.specs.Consumers.{IsHeard, all_changed, changed, closes, hears, is_ended_at, is_in_use, is_passed, joined, link_at, loses_by, member_after, member_of, names_in, next_free, none, number_at, numbered, numbering, over_rows, polled, some_row, sought, why_not};
 ghost use Rattle.pulsar_client.specs.KeptConsumers.{AreListed, consumers_of, listed_at, member_in, rows_in};
-ghost use Rattle.pulsar_client.specs.Reading.{again_at, heard_at, number_of, polled_due, revived_at, stopped_seekers, word_to};
+ghost use Rattle.pulsar_client.specs.Reading.{again_at, heard_at, polled_due, revived_at, stopped_seekers, word_to};
 
 use crate::consumers::hearing::{
     close_all, fail_at, hear_all, living, living_on, lose_all, poll_at, prune_all, revive_at, seek_at,
@@ -444,7 +444,7 @@ impl Consumers {
 
     /// The number of a consumer.
     pub fn number_of(&self, ticket: u64) -> u64
-        ensures { result ≡ number_of ((consumers_of self.now).rows ticket) }
+        ensures { result ≡ number_at ((consumers_of self.now).rows ticket) }
     {
         match self.rows.get(&ticket) {
             Some(row) => row.consumer.inner.number(),

@@ -56,6 +56,10 @@ impl Tables {
             | Call::Flush { .. }
             | Call::CheckProducer { .. }
             | Call::CloseProducer { .. }
+            | Call::Consumer(_)
+            | Call::Ack { .. }
+            | Call::Nack { .. }
+            | Call::CloseConsumer { .. }
             | Call::Raw { .. } => Ok(Advice::new(self.alloc)),
         }
     }

@@ -23,7 +23,7 @@ use Rattle.pulsar_session.specs.declared.states.Stage.TheVariants.{Dialing, Hand
 use Rattle.pulsar_session.specs.Failures.{Fault}
 use Rattle.pulsar_session.specs.Link as session
 use Rattle.pulsar_session.specs.Link.{Asks, Feeds, Seen, Setup, came, has_room, is_open, is_ready}
-use Rattle.pulsar_link.specs.Request.{closed_consumer, is_answered, request_number}
+use Rattle.pulsar_link.specs.Request.{closed_consumer, is_awaited}
 use Rattle.pulsar_calls.specs.declared.act.Act.{Act}
 use Rattle.pulsar_calls.specs.declared.act.Act.TheVariants.{Comes, Starts, Told, Does, Answers, Dials}
 use Rattle.pulsar_calls.specs.declared.act.Action.TheVariants.{Get, Ask, Wait, TakeTurn, PassTurn, Draw, Remake, Number, Shut, Store, Flush, TakeBatch, TakeNumber, FindConsumer, TakeFlow, Revive, FailConsumer, StopAll}
@@ -361,7 +361,7 @@ seat_asked who now request seat =
     record {
       address = seat.address;
       seen = session.after (Asks now request) seat.seen;
-      askers = asker_at (is_answered (request_number request)) who (place_of (session.asked now request seat.seen)) seat.askers;
+      askers = asker_at (is_awaited request) who (place_of (session.asked now request seat.seen)) seat.askers;
       got = seat.got;
       ping = seat.ping;
     }

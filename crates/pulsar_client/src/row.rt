@@ -20,7 +20,6 @@ ghost use Rattle.pulsar_client.specs.View.{asker_at, askers_left, got_since, is_
 use pulsar_calls::act::{Arrival, End, LinkAct, Notice, Outcome, Who};
 use pulsar_calls::content::Cause;
 use pulsar_calls::effect::{Effect, Settlement};
-use pulsar_calls::plans::answers::is_answered;
 use pulsar_link::ask::ask;
 use pulsar_link::content::{Received, Request};
 use pulsar_plans::content::Address;
@@ -274,7 +273,7 @@ impl Row {
         ensures sees { OnOk result (seat_of self.new ≡ seat_asked who now request (seat_of self.old)) }
     {
         let before = self.connection.queued();
-        let is_asker = is_answered(request.number());
+        let is_asker = request.is_awaited();
         let answer = ask(&mut self.connection, now, request);
         let place = place_of(&answer);
         let told = told_at(alloc, answer)?;

@@ -41,7 +41,7 @@ pub fn in_turn(number: u64, turn: u64) -> Who
 }
 
 /// The ticket of the call that made it: several consumers may have had one number.
-fn ticket_of(who: Who) -> u64
+pub fn ticket_of(who: Who) -> u64
     ensures { result ≡ ticket_of who }
 {
     match who {

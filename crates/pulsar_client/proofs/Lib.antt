@@ -5,8 +5,6 @@ pub mod Answering
 pub mod Moments
 pub mod Ringing
 pub mod Timing
-pub mod Deliveries
-pub mod Listening
 pub mod Idle
 pub mod Waiting
 pub mod Steps

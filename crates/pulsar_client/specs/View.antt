@@ -620,12 +620,17 @@ setup_of j = record { topic = j.topic; number = j.number; config = j.config; is_
 abbrev pub member_on : (ℕ → Option Seat) → (link : ℕ) → Setup → Member
 member_on live l s = consumer.member_of s l (url_at (live l))
 
+abbrev pub joins_as : Who → Member → Consumers → Consumers
+joins_as (who.Call t) m cs = consumer.joined t m cs
+joins_as (who.Consumer n t) m cs = cs
+joins_as (who.Producer n) m cs = cs
+
 abbrev pub consumers_made : (ℕ → Option Seat) → Who → Makes → Consumers → Consumers
 consumers_made live w Nothing cs = cs
 consumers_made live w Client cs = cs
 consumers_made live w (Producer made) cs = cs
-consumers_made live w (Consumer made) cs = consumer.joined (rank w).1 (member_on live made.link (setup_of made)) cs
-consumers_made live w (RawConsumer l made) cs = consumer.joined (rank w).1 (member_on live l (of_raw made)) cs
+consumers_made live w (Consumer made) cs = joins_as w (member_on live made.link (setup_of made)) cs
+consumers_made live w (RawConsumer l made) cs = joins_as w (member_on live l (of_raw made)) cs
 
 -- and a call that has ended holds no number
 abbrev pub consumers_left : Who → Consumers → Consumers

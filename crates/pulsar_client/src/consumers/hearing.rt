@@ -242,7 +242,7 @@ pub fn poll_at(
 }
 
 /// A flow of it is due: it is told so.
-fn due(row: &ConsumerRow, ticket: u64) -> Option<Notice>
+pub fn due(row: &ConsumerRow, ticket: u64) -> Option<Notice>
     ensures { option_to_list result ≡ due_at ticket (Some (member_in row.now)) }
 {
     match row.due() {

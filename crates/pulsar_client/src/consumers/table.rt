@@ -4,6 +4,7 @@ ghost use Rattle.std.specs.Prelude.{◌≡◌, ◌==◌, ◌&&◌, ◌||◌, ◌
 ghost use Rattle.std.specs.List.{flat_map, list_any};
 ghost use Rattle.std.specs.Option.{is_some, option_copied, option_map, option_to_list};
 ghost use Rattle.pulsar_calls.specs.Content.{shown};
+ghost use Rattle.pulsar_calls.specs.declared.act.Word.{Word};
 ghost use Rattle.pulsar_consumer.specs.Topic.{Polls};
 ghost use Rattle.pulsar_client.specs.Consumers as meaning;
 ghost use Rattle.pulsar_client.specs.Consumers.{IsHeard, all_changed, changed, closes, hears, is_ended_at, is_in_use, is_passed, joined, link_at, loses_by, member_after, member_of, names_in, next_free, none, number_at, numbered, numbering, over_rows, polled, some_row, sought, why_not};
@@ -17,9 +18,9 @@ use crate::consumers::hearing::{
 use crate::consumers::listing::{Listing, list, listed};
 use crate::consumers::numbers::{Numbering, Numbers};
 use crate::consumers::row::{ConsumerRow, Sought};
-use pulsar_calls::act::{Arrival, Notice, Refusal, Who, Word};
+use pulsar_calls::act::{Arrival, Notice, Refusal, Who};
 use pulsar_calls::effect::Effect;
-use pulsar_consumer::{Consumer, TopicConsumer};
+use pulsar_consumer::Consumer;
 use pulsar_link::content::Received;
 use pulsar_plans::content::Refusal as Failure;
 use pulsar_plans::making::Command;
@@ -74,28 +75,19 @@ impl Consumers {
         Some(&row.consumer)
     }
 
-    /// One more consumer, whose subscription on a link to this address is live: what it is told.
-    pub fn join(
-        &mut self,
-        ticket: u64,
-        consumer: TopicConsumer,
-        link: u64,
-        url: Option<Url>,
-    ) -> Result<Option<Word>, NoMemory>
-        ensures word { IfOk result (λ w. w ≡ meaning.word_if (meaning.is_flow_due (meaning.subscribed_on link url (record { seen = consumer; seekers = [] })).seen) Word.Due) }
-        ensures after { OnOk result (consumers_of self.new ≡ joined ticket (meaning.subscribed_on link url (record { seen = consumer; seekers = [] })) (consumers_of self.old)) }
+    /// One more consumer.
+    pub fn join(&mut self, ticket: u64, row: ConsumerRow) -> Result<(), NoMemory>
+        ensures { OnOk result (consumers_of self.new ≡ joined ticket (member_in row) (consumers_of self.old)) }
     {
         if self.failed {
             return Err(NoMemory);
         }
         self.failed = true;
-        let number = consumer.number();
-        let row = ConsumerRow::new(self.alloc, consumer, link, url)?;
-        let word = row.due();
+        let number = row.consumer.inner.number();
         list(&mut self.listing, self.alloc, number, ticket)?;
         self.rows.insert(ticket, row)?;
         self.failed = false;
-        Ok(word)
+        Ok(())
     }
 
     /// What a consumer gives to a poll at this moment, and what it is told then, if there is one.

@@ -1,20 +1,20 @@
 //! What verdicts make.
 
-ghost use Rattle.std.specs.Prelude.{◌≡◌, ◌∷◌, [], IfOk, OnOk, None};
+ghost use Rattle.std.specs.Prelude.{◌≡◌, IfOk, OnOk};
 ghost use Rattle.std.specs.Option.{option_to_list};
-ghost use Rattle.pulsar_client.specs.Consumers.{Consumers, joined};
 ghost use Rattle.pulsar_client.specs.Kept.{live_in, producers_of};
-ghost use Rattle.pulsar_client.specs.KeptConsumers.{consumers_of};
+ghost use Rattle.pulsar_client.specs.KeptConsumers.{consumers_of, member_in};
 ghost use Rattle.pulsar_client.specs.Reading.{due_to, made_due, serves_by};
 ghost use Rattle.pulsar_client.specs.Rules.{left_with};
 ghost use Rattle.pulsar_client.specs.Tables.{chosen_of, view_of};
-ghost use Rattle.pulsar_client.specs.View.{consumers_left, consumers_made, member_on, producers_made, setup_of, ways_of};
+ghost use Rattle.pulsar_client.specs.View.{consumers_left, consumers_made, joins_as, member_on, producers_made, setup_of, ways_of};
 ghost use Rattle.pulsar_consumer.specs.Topic.{of_raw};
-ghost use Rattle.pulsar_calls.specs.Who.{rank, ticket_of};
-ghost use Rattle.pulsar_calls.specs.declared.act.Act.{Act};
+ghost use Rattle.pulsar_calls.specs.Who.{ticket_of};
 
+use crate::consumers::hearing::due;
+use crate::consumers::row::ConsumerRow;
 use crate::tables::Tables;
-use pulsar_calls::act::{Act as Deed, Makes, Notice, Outcome, Procedure, Who};
+use pulsar_calls::act::{Act as Deed, Makes, Notice, Procedure, Who};
 use pulsar_calls::content::{Joined, Joining};
 use pulsar_calls::who::{rank, ticket_of};
 use pulsar_consumer::TopicConsumer;
@@ -62,15 +62,10 @@ impl Tables {
         } = joined.into_inner();
         let url = self.links.url(link)?;
         let consumer = TopicConsumer::new(self.alloc, topic, number, config, false);
-        let word = self.consumers.join(rank(who).1, consumer, link, url)?;
-        let ticket = ticket_of(who);
-        match word {
-            Some(word) => Ok(Some(Notice {
-                who: Who::Consumer { number, ticket },
-                outcome: Outcome::Word(word),
-            })),
-            None => Ok(None),
-        }
+        let row = ConsumerRow::new(self.alloc, consumer, link, url)?;
+        let notice = due(&row, ticket_of(who));
+        self.joins_as(who, row)?;
+        Ok(notice)
     }
 
     /// A raw consumer was made.
@@ -80,8 +75,22 @@ impl Tables {
     {
         let url = self.links.url(link)?;
         let consumer = TopicConsumer::of_raw(self.alloc, made)?;
-        drop(self.consumers.join(rank(who).1, consumer, link, url)?);
-        Ok(())
+        let row = ConsumerRow::new(self.alloc, consumer, link, url)?;
+        self.joins_as(who, row)
+    }
+
+    /// A consumer has the ticket of the call that makes it.
+    fn joins_as(&mut self, who: Who, row: ConsumerRow) -> Result<(), NoMemory>
+        ensures sees { OnOk result (view_of self.new ≡ record (view_of self.old) { consumers = joins_as who (member_in row) (consumers_of self.old.consumers) }) }
+        ensures settings { self.new.settings ≡ self.old.settings }
+    {
+        match who {
+            Who::Call(ticket) => self.consumers.join(ticket, row),
+            Who::Consumer { .. } | Who::Producer(_) => {
+                drop(row);
+                Ok(())
+            }
+        }
     }
 
     /// A call that has ended holds no number.

@@ -16,7 +16,7 @@ use Rattle.pulsar_wire.specs.declared.commands.enumerations.InitialPosition.TheV
 use Rattle.pulsar_wire.specs.declared.commands.enumerations.SubType.{SubType}
 use Rattle.pulsar_messages.specs.Content.{ConsumerOptionsValues, Property, empty_consumer_options}
 use Rattle.pulsar_consumer.specs.Content.{ConsumerWanted, also_reads, no_consumer}
-use Rattle.pulsar_cli.specs.ConsumerWords.{Draft, Subscriber, all, blank, consumer, level, one, subscriber, subscriber_in, with_meta, with_options}
+use Rattle.pulsar_cli.specs.ConsumerWords.{Draft, Subscriber, all, blank, consumer, level, one, subscriber_in, who_subscribes, with_meta, with_options}
 use Rattle.pulsar_cli.specs.WordText.{word}
 use Rattle.pulsar_cli.specs.WrittenRaw.{CanConsume, CanSubscribe, IsCount, IsId, IsNumber, IsProperty, IsSchema, IsText, IsUnsigned, Where, consumer_words, flag_word, id_word, meta_word, position_words, signed_word, sub_type_word, subscriber_words}
 use Rattle.pulsar_cli.proofs.WrittenLines.{IsWithinWord, decimal-within, hex-within, number-decimal, same-some, text-word, word-within}
@@ -237,7 +237,7 @@ subscriber-within name o can = (subscriber-told no_consumer name o can).within
 says-no-more : (name : Option (List ℕ)) (o : ConsumerOptionsValues) → o.receiver_queue_size ≡ None → subscriber_in (made no_consumer name o).wanted ≡ Some (record { name = name; options = o })
 says-no-more name o none = rw none refl
 
-pub subscriber-reads : (name : Option (List ℕ)) (o : ConsumerOptionsValues) → CanSubscribe name o → o.receiver_queue_size ≡ None → subscriber (subscriber_words name o) ≡ Some (record { name = name; options = o })
+pub subscriber-reads : (name : Option (List ℕ)) (o : ConsumerOptionsValues) → CanSubscribe name o → o.receiver_queue_size ≡ None → who_subscribes (subscriber_words name o) ≡ Some (record { name = name; options = o })
 subscriber-reads name o can none =
     ap (λ (t : Option Draft). (t >>= λ d. Some d.wanted) >>= subscriber_in) (alone name o can none).is ∙ says-no-more name o none
 

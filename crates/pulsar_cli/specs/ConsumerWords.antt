@@ -177,5 +177,5 @@ abbrev pub subscriber_in : ConsumerWanted → Option Subscriber
 subscriber_in w = if says_more w then None else Some (record { name = w.consumer_name; options = w.options })
 
 -- words that say nothing else
-abbrev pub subscriber : List (List ℕ) → Option Subscriber
-subscriber ws = consumer ws >>= subscriber_in
+abbrev pub who_subscribes : List (List ℕ) → Option Subscriber
+who_subscribes ws = consumer ws >>= subscriber_in

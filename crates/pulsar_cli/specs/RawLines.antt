@@ -9,7 +9,7 @@ use Rattle.pulsar_messages.specs.Words as raw
 use Rattle.pulsar_messages.specs.Words.{Words}
 use Rattle.pulsar_cli.specs.Words.{number, optional, small_number, text, word_bytes}
 use Rattle.pulsar_cli.specs.Choices.{cumulative, flag, mode, sub_type}
-use Rattle.pulsar_cli.specs.ConsumerWords.{subscriber}
+use Rattle.pulsar_cli.specs.ConsumerWords.{who_subscribes}
 use Rattle.pulsar_cli.specs.Encoded.{id}
 use Rattle.pulsar_cli.specs.MessageWords.{message}
 use Rattle.pulsar_cli.specs.ProducerWords.{options}
@@ -107,7 +107,7 @@ subscribe (t ∷ s ∷ k ∷ c ∷ ws) = do
   subscription ← text s
   kind ← sub_type k
   consumer ← number c
-  who ← subscriber ws
+  who ← who_subscribes ws
   Some (raw.Subscribe topic subscription kind consumer who.name who.options)
 subscribe _ = None
 

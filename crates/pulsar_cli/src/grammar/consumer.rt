@@ -3,7 +3,7 @@
 ghost use Rattle.std.specs.Prelude.{◌≡◌, Some, IfOk, OnOk, map, string_bytes};
 ghost use Rattle.std.specs.Option.{option_map};
 ghost use Rattle.pulsar_consumer.specs.Content.{consumer_wanted};
-ghost use Rattle.pulsar_cli.specs.ConsumerWords.{all, batch, blank, compacted, consumer, consumer_id, durable, initial_position, kind, level, meta, name, namespace, one, option_part, part, priority, queue, says_more, schema, start, subscriber, subscription, topic, with_meta};
+ghost use Rattle.pulsar_cli.specs.ConsumerWords.{all, batch, blank, compacted, consumer, consumer_id, durable, initial_position, kind, level, meta, name, namespace, one, option_part, part, priority, queue, says_more, schema, start, subscription, topic, who_subscribes, with_meta};
 ghost use Rattle.pulsar_cli.specs.Parsed.{consumer_draft_of, subscriber_of, taken_in};
 
 use crate::grammar::choice::{flag, position, sub_type};
@@ -40,8 +40,8 @@ pub fn consumer(alloc: Global, words: &[&[u8]]) -> Result<Option<ConsumerBuilder
 }
 
 /// Who these words say subscribes, which say nothing else.
-pub fn subscriber(alloc: Global, words: &[&[u8]]) -> Result<Option<Subscriber>, NoMemory>
-    ensures { IfOk result (λ s. option_map subscriber_of s ≡ subscriber (map (λ w. w.now) words.now)) }
+pub fn who_subscribes(alloc: Global, words: &[&[u8]]) -> Result<Option<Subscriber>, NoMemory>
+    ensures { IfOk result (λ s. option_map subscriber_of s ≡ who_subscribes (map (λ w. w.now) words.now)) }
 {
     let Some(builder) = consumer(alloc, words)? else {
         return Ok(None);

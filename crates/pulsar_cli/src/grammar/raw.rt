@@ -12,7 +12,7 @@ ghost use Rattle.pulsar_cli.specs.Parsed.{ids_of};
 ghost use Rattle.pulsar_cli.specs.RawLines.{ack, auth, close_consumer, close_producer, consumer_call, create_producer, credential, flow, last_id, lookup, member_call, partitions, ping, producer_on, raw_call, redeliver, schema, seek, send, stats, subscribe, topics_on, unsubscribe, with_id};
 
 use crate::grammar::choice::{cumulative, flag, mode, sub_type};
-use crate::grammar::consumer::subscriber;
+use crate::grammar::consumer::who_subscribes;
 use crate::grammar::encoded::id;
 use crate::grammar::message::message;
 use crate::grammar::producer::options;
@@ -274,7 +274,7 @@ fn subscribe(alloc: Global, words: &[&[u8]]) -> Result<Option<RawCall>, NoMemory
     let Some(consumer_id) = number(consumer_id) else {
         return Ok(None);
     };
-    let Some(who) = subscriber(alloc, rest)? else {
+    let Some(who) = who_subscribes(alloc, rest)? else {
         return Ok(None);
     };
     Ok(Some(RawCall::Subscribe {

@@ -1,5 +1,6 @@
 pub mod Begun
 pub mod Counted
+pub mod Drawing
 pub mod Going
 pub mod Held
 pub mod Histories

@@ -12,7 +12,7 @@ use Rattle.std.specs.Ordering.{nat_cmp}
 use Rattle.std.specs.declared.cmp.Ordering.TheVariants.{Less}
 use Rattle.pulsar_requests.proofs.Awaiting.{is_at-eqb}
 use Rattle.pulsar_calls.specs.Content.{numbers_from}
-use Rattle.pulsar_client.specs.Subscribers.{is_listed}
+use Rattle.pulsar_client.specs.KeptConsumers.{is_listed}
 use Rattle.pulsar_calls.proofs.Counted.{next_number}
 use Rattle.pulsar_calls.proofs.Lists.{filter_map_end}
 

@@ -1,5 +1,5 @@
 -- For the code's contracts alone: the consumers, as the code keeps them. Their tickets are listed by their numbers.
-use Rattle.std.specs.Prelude.{◌≡◌, ◌==◌, ℕ, Bool, true, List, [], Option, Some, None}
+use Rattle.std.specs.Prelude.{◌≡◌, ◌==◌, ℕ, Bool, true, if◌then◌else◌, List, [], Option, Some, None}
 use Rattle.std.specs.BTreeMap.{BTreeMap, get, keys}
 use Rattle.std.specs.BTreeSet.{BTreeSet}
 use Rattle.std.specs.List.{list_any}
@@ -31,6 +31,13 @@ listed_at listing n = tickets_of (get nat_cmp listing n)
 
 abbrev pub is_listed : ℕ → List ℕ → Bool
 is_listed t tickets = list_any (λ u. u == t) tickets
+
+-- one of them is changed, and some are
+abbrev pub one_changed : (ticket : ℕ) → (Member → Member) → (ℕ → Option Member) → ℕ → Option Member
+one_changed ticket f rows t = if t == ticket then option_map f (rows t) else rows t
+
+abbrev pub some_changed : (tickets : List ℕ) → (Member → Member) → (ℕ → Option Member) → ℕ → Option Member
+some_changed tickets f rows t = if is_listed t tickets then option_map f (rows t) else rows t
 
 -- whoever has a number is listed under it; others may be listed too
 abbrev pub AreListed : BTreeMap ℕ (BTreeSet ℕ) → (ℕ → Option Member) → Type 0

@@ -1,14 +1,17 @@
 //! What is done to consumers of a client, one or several of them.
 
 ghost use Rattle.std.specs.Prelude.{◌≡◌, ◌==◌, ◌&&◌, ◌++◌, ◌∷◌, [], ℕ, not, true, filter, IfOk, OnOk, None, Some, map, if◌then◌else◌};
-ghost use Rattle.std.specs.BTreeMap.{get, keys};
-ghost use Rattle.std.specs.List.{flat_map, list_any};
+ghost use Rattle.std.specs.BTreeMap.{keys};
+ghost use Rattle.std.specs.List.{flat_map};
+ghost use Rattle.std.specs.List.Sorted.{IsStrictlySortedBy};
 ghost use Rattle.std.specs.Option.{option_map, option_to_list};
+ghost use Rattle.std.specs.Ordering.{nat_cmp};
 ghost use Rattle.pulsar_calls.specs.Content.{shown};
+ghost use Rattle.pulsar_consumer.specs.declared.polled.Ending.{Ending};
 ghost use Rattle.pulsar_consumer.specs.Topic.{Asks, Ends, Loses, Polls, lives_on, resubscribes};
 ghost use Rattle.pulsar_client.specs.Consumers as meaning;
 ghost use Rattle.pulsar_client.specs.Consumers.{at_row, flow_at, hears_frame, lives_at, member_after, polled, sought, word_if, word_of_frame};
-ghost use Rattle.pulsar_client.specs.KeptConsumers.{is_listed, listed_at, member_in, rows_in};
+ghost use Rattle.pulsar_client.specs.KeptConsumers.{is_listed, listed_at, member_in, one_changed, rows_in, some_changed};
 ghost use Rattle.pulsar_client.specs.Reading.{again, again_at, due_at, polled_due, revived_at, stopped_one, stopped_seekers, word_to};
 
 use crate::consumers::listing::{Listing, listed, unlist};
@@ -30,7 +33,8 @@ pub fn living(
     number: u64,
     link: u64,
 ) -> Result<Vec<u64>, NoMemory>
-    ensures { IfOk result (λ ts. ts.items ≡ filter (λ t. meaning.lives_with number link (rows_in rows.now t)) (listed_at listing.now number)) }
+    ensures tickets { IfOk result (λ ts. ts.items ≡ filter (λ t. meaning.lives_with number link (rows_in rows.now t)) (listed_at listing.now number)) }
+    ensures sorted { IfOk result (λ ts. IsStrictlySortedBy nat_cmp ts.items) }
 {
     let mut living = Vec::new(alloc);
     let Some(tickets) = listed(listing, number) else {
@@ -59,7 +63,8 @@ pub fn living_on(
     rows: &BTreeMap<u64, ConsumerRow>,
     link: u64,
 ) -> Result<Vec<u64>, NoMemory>
-    ensures { IfOk result (λ ts. ts.items ≡ filter (λ t. lives_at link (rows_in rows.now t)) (keys rows.now)) }
+    ensures tickets { IfOk result (λ ts. ts.items ≡ filter (λ t. lives_at link (rows_in rows.now t)) (keys rows.now)) }
+    ensures sorted { IfOk result (λ ts. IsStrictlySortedBy nat_cmp ts.items) }
 {
     let mut living = Vec::new(alloc);
     for (ticket, row) in rows {
@@ -95,17 +100,40 @@ pub fn hear_all(
     tickets: &[u64],
     link: u64,
     reply: Received,
-) -> Result<Vec<Notice>, NoMemory> {
+) -> Result<Vec<Notice>, NoMemory>
+    requires { IsStrictlySortedBy nat_cmp tickets.now }
+    ensures notices { IfOk result (λ ns. ns.items ≡ flat_map (at_row (λ t m. word_to t m (word_of_frame link reply m)) (rows_in rows.old)) tickets.now) }
+    ensures rows { OnOk result ((t : ℕ) → rows_in rows.new t ≡ some_changed tickets.now (hears_frame link reply) (rows_in rows.old) t) }
+    ensures tickets { OnOk result (keys rows.new ≡ keys rows.old) }
+{
     let mut notices = Vec::new(alloc);
     let Some((last, others)) = tickets.split_last() else {
         return Ok(notices);
     };
-    for ticket in others {
-        let copy = reply.copy(alloc)?;
-        hear_at(alloc, rows, *ticket, link, copy, &mut notices)?;
-    }
+    hear_copies(alloc, rows, others, link, &reply, &mut notices)?;
     hear_at(alloc, rows, *last, link, reply, &mut notices)?;
     Ok(notices)
+}
+
+/// Each of these hears a copy of a frame.
+fn hear_copies(
+    alloc: Global,
+    rows: &mut BTreeMap<u64, ConsumerRow>,
+    tickets: &[u64],
+    link: u64,
+    reply: &Received,
+    notices: &mut Vec<Notice>,
+) -> Result<(), NoMemory>
+    requires { IsStrictlySortedBy nat_cmp tickets.now }
+    ensures notices { OnOk result (notices.new.items ≡ notices.old.items ++ flat_map (at_row (λ t m. word_to t m (word_of_frame link reply.now m)) (rows_in rows.old)) tickets.now) }
+    ensures rows { OnOk result ((t : ℕ) → rows_in rows.new t ≡ some_changed tickets.now (hears_frame link reply.now) (rows_in rows.old) t) }
+    ensures tickets { OnOk result (keys rows.new ≡ keys rows.old) }
+{
+    for ticket in tickets {
+        let copy = reply.copy(alloc)?;
+        hear_at(alloc, rows, *ticket, link, copy, notices)?;
+    }
+    Ok(())
 }
 
 fn hear_at(
@@ -117,7 +145,8 @@ fn hear_at(
     notices: &mut Vec<Notice>,
 ) -> Result<(), NoMemory>
     ensures notices { OnOk result (notices.new.items ≡ notices.old.items ++ at_row (λ t m. word_to t m (word_of_frame link reply m)) (rows_in rows.old) ticket) }
-    ensures rows { OnOk result ((t : ℕ) → rows_in rows.new t ≡ (if t == ticket then option_map (hears_frame link reply) (rows_in rows.old t) else rows_in rows.old t)) }
+    ensures rows { OnOk result ((t : ℕ) → rows_in rows.new t ≡ one_changed ticket (hears_frame link reply) (rows_in rows.old) t) }
+    ensures tickets { OnOk result (keys rows.new ≡ keys rows.old) }
 {
     let Some(row) = rows.get_mut(&ticket) else {
         return Ok(());
@@ -130,16 +159,33 @@ fn hear_at(
 pub fn lose_all(
     alloc: Global,
     rows: &mut BTreeMap<u64, ConsumerRow>,
-    listing: &mut Listing,
     tickets: &[u64],
     link: u64,
-) -> Result<Vec<Notice>, NoMemory> {
+) -> Result<Vec<Notice>, NoMemory>
+    requires { IsStrictlySortedBy nat_cmp tickets.now }
+    ensures notices { IfOk result (λ ns. ns.items ≡ flat_map (at_row (λ t m. word_to t m (word_if (resubscribes link m.seen) Word.Lost)) (rows_in rows.old)) tickets.now) }
+    ensures rows { OnOk result ((t : ℕ) → rows_in rows.new t ≡ some_changed tickets.now (member_after (Loses link)) (rows_in rows.old) t) }
+    ensures tickets { OnOk result (keys rows.new ≡ keys rows.old) }
+{
     let mut notices = Vec::new(alloc);
     for ticket in tickets {
         lose_at(rows, *ticket, link, &mut notices)?;
-        prune(listing, rows, number_at(rows, *ticket), *ticket)?;
     }
     Ok(notices)
+}
+
+/// Those of these that have ended are listed no more, whatever their numbers.
+pub fn prune_each(
+    listing: &mut Listing,
+    rows: &BTreeMap<u64, ConsumerRow>,
+    tickets: &[u64],
+) -> Result<(), NoMemory>
+    ensures { OnOk result ((t n : ℕ) → meaning.has_number n (rows_in rows.now t) ≡ true → is_listed t (listed_at listing.old n) ≡ true → is_listed t (listed_at listing.new n) ≡ true) }
+{
+    for ticket in tickets {
+        prune(listing, rows, number_at(rows, *ticket), *ticket)?;
+    }
+    Ok(())
 }
 
 fn number_at(rows: &BTreeMap<u64, ConsumerRow>, ticket: u64) -> u64
@@ -158,7 +204,8 @@ fn lose_at(
     notices: &mut Vec<Notice>,
 ) -> Result<(), NoMemory>
     ensures notices { OnOk result (notices.new.items ≡ notices.old.items ++ at_row (λ t m. word_to t m (word_if (resubscribes link m.seen) Word.Lost)) (rows_in rows.old) ticket) }
-    ensures rows { OnOk result ((t : ℕ) → rows_in rows.new t ≡ (if t == ticket then option_map (member_after (Loses link)) (rows_in rows.old t) else rows_in rows.old t)) }
+    ensures rows { OnOk result ((t : ℕ) → rows_in rows.new t ≡ one_changed ticket (member_after (Loses link)) (rows_in rows.old) t) }
+    ensures tickets { OnOk result (keys rows.new ≡ keys rows.old) }
 {
     let Some(row) = rows.get_mut(&ticket) else {
         return Ok(());
@@ -172,7 +219,12 @@ pub fn close_all(
     alloc: Global,
     rows: &mut BTreeMap<u64, ConsumerRow>,
     tickets: &[u64],
-) -> Result<Vec<Notice>, NoMemory> {
+) -> Result<Vec<Notice>, NoMemory>
+    requires { IsStrictlySortedBy nat_cmp tickets.now }
+    ensures notices { IfOk result (λ ns. ns.items ≡ flat_map (at_row (λ t m. word_to t m (word_if (not m.seen.is_raw) Word.Over)) (rows_in rows.old)) tickets.now) }
+    ensures rows { OnOk result ((t : ℕ) → rows_in rows.new t ≡ some_changed tickets.now (member_after (Ends Ending.Closed)) (rows_in rows.old) t) }
+    ensures tickets { OnOk result (keys rows.new ≡ keys rows.old) }
+{
     let mut notices = Vec::new(alloc);
     for ticket in tickets {
         close_at(rows, *ticket, &mut notices)?;
@@ -186,7 +238,8 @@ fn close_at(
     notices: &mut Vec<Notice>,
 ) -> Result<(), NoMemory>
     ensures notices { OnOk result (notices.new.items ≡ notices.old.items ++ at_row (λ t m. word_to t m (word_if (not m.seen.is_raw) Word.Over)) (rows_in rows.old) ticket) }
-    ensures rows { OnOk result ((t : ℕ) → rows_in rows.new t ≡ (if t == ticket then option_map (member_after (Ends Ending.Closed)) (rows_in rows.old t) else rows_in rows.old t)) }
+    ensures rows { OnOk result ((t : ℕ) → rows_in rows.new t ≡ one_changed ticket (member_after (Ends Ending.Closed)) (rows_in rows.old) t) }
+    ensures tickets { OnOk result (keys rows.new ≡ keys rows.old) }
 {
     let Some(row) = rows.get_mut(&ticket) else {
         return Ok(());
@@ -201,7 +254,9 @@ pub fn prune_all(
     rows: &BTreeMap<u64, ConsumerRow>,
     number: u64,
     tickets: &[u64],
-) -> Result<(), NoMemory> {
+) -> Result<(), NoMemory>
+    ensures { OnOk result ((t n : ℕ) → meaning.has_number n (rows_in rows.now t) ≡ true → is_listed t (listed_at listing.old n) ≡ true → is_listed t (listed_at listing.new n) ≡ true) }
+{
     for ticket in tickets {
         prune(listing, rows, number, *ticket)?;
     }
@@ -232,7 +287,8 @@ pub fn poll_at(
 ) -> Result<Option<(Effect, Option<Notice>)>, NoMemory>
     ensures effect { IfOk result (λ r. option_map (λ x. shown x.0) r ≡ option_map (polled ticket) (rows_in rows.old ticket)) }
     ensures due { IfOk result (λ r. flat_map (λ x. option_to_list x.1) (option_to_list r) ≡ polled_due clock ticket (rows_in rows.old ticket)) }
-    ensures rows { OnOk result ((t : ℕ) → rows_in rows.new t ≡ (if t == ticket then option_map (member_after (Polls clock)) (rows_in rows.old t) else rows_in rows.old t)) }
+    ensures rows { OnOk result ((t : ℕ) → rows_in rows.new t ≡ one_changed ticket (member_after (Polls clock)) (rows_in rows.old) t) }
+    ensures tickets { OnOk result (keys rows.new ≡ keys rows.old) }
 {
     let Some(row) = rows.get_mut(&ticket) else {
         return Ok(None);
@@ -261,7 +317,8 @@ pub fn seek_at(
     who: Who,
 ) -> Result<Sought, NoMemory>
     ensures sought { IfOk result (λ s. s ≡ sought (rows_in rows.old ticket)) }
-    ensures rows { OnOk result ((t : ℕ) → rows_in rows.new t ≡ (if t == ticket then option_map (meaning.seeks who) (rows_in rows.old t) else rows_in rows.old t)) }
+    ensures rows { OnOk result ((t : ℕ) → rows_in rows.new t ≡ one_changed ticket (meaning.seeks who) (rows_in rows.old) t) }
+    ensures tickets { OnOk result (keys rows.new ≡ keys rows.old) }
 {
     match rows.get_mut(&ticket) {
         Some(row) => row.seek(who),
@@ -272,7 +329,8 @@ pub fn seek_at(
 /// The flow of a consumer that is to be asked for next, with its link.
 pub fn take_flow_at(rows: &mut BTreeMap<u64, ConsumerRow>, ticket: u64) -> Option<(u64, u32)>
     ensures flow { result ≡ flow_at (rows_in rows.old ticket) }
-    ensures rows { (t : ℕ) → rows_in rows.new t ≡ (if t == ticket then option_map (member_after Asks) (rows_in rows.old t) else rows_in rows.old t) }
+    ensures rows { (t : ℕ) → rows_in rows.new t ≡ one_changed ticket (member_after Asks) (rows_in rows.old) t }
+    ensures tickets { keys rows.new ≡ keys rows.old }
 {
     match rows.get_mut(&ticket) {
         Some(row) => row.take_flow(),
@@ -289,7 +347,8 @@ pub fn revive_at(
     url: Option<Url>,
 ) -> Result<Vec<Notice>, NoMemory>
     ensures notices { IfOk result (λ ns. ns.items ≡ revived_at link url ticket (rows_in rows.old ticket)) }
-    ensures rows { OnOk result ((t : ℕ) → rows_in rows.new t ≡ (if t == ticket then option_map (meaning.revived link url) (rows_in rows.old t) else rows_in rows.old t)) }
+    ensures rows { OnOk result ((t : ℕ) → rows_in rows.new t ≡ one_changed ticket (meaning.revived link url) (rows_in rows.old) t) }
+    ensures tickets { OnOk result (keys rows.new ≡ keys rows.old) }
 {
     let mut notices = Vec::new(alloc);
     let Some(row) = rows.get_mut(&ticket) else {
@@ -325,7 +384,8 @@ pub fn fail_at(
     refusal: Refusal,
 ) -> Result<Vec<Notice>, NoMemory>
     ensures notices { IfOk result (λ ns. ns.items ≡ again_at (rows_in rows.old ticket)) }
-    ensures rows { OnOk result ((t : ℕ) → rows_in rows.new t ≡ (if t == ticket then option_map (meaning.failed refusal) (rows_in rows.old t) else rows_in rows.old t)) }
+    ensures rows { OnOk result ((t : ℕ) → rows_in rows.new t ≡ one_changed ticket (meaning.failed refusal) (rows_in rows.old) t) }
+    ensures tickets { OnOk result (keys rows.new ≡ keys rows.old) }
     ensures listed { OnOk result ((t n : ℕ) → meaning.has_number n (rows_in rows.new t) ≡ true → is_listed t (listed_at listing.old n) ≡ true → is_listed t (listed_at listing.new n) ≡ true) }
 {
     let mut notices = Vec::new(alloc);

@@ -12,7 +12,7 @@ ghost use Rattle.pulsar_client.specs.KeptConsumers.{AreListed, consumers_of, lis
 ghost use Rattle.pulsar_client.specs.Reading.{again_at, heard_at, polled_due, revived_at, stopped_seekers, word_to};
 
 use crate::consumers::hearing::{
-    close_all, fail_at, hear_all, living, living_on, lose_all, poll_at, prune_all, revive_at, seek_at,
+    close_all, fail_at, hear_all, living, living_on, lose_all, poll_at, prune_all, prune_each, revive_at, seek_at,
     stop_all, stop_seekers, take_flow_at,
 };
 use crate::consumers::listing::{Listing, list, listed};
@@ -165,7 +165,8 @@ impl Consumers {
         }
         self.failed = true;
         let tickets = living_on(self.alloc, &self.rows, link)?;
-        let notices = lose_all(self.alloc, &mut self.rows, &mut self.listing, &tickets, link)?;
+        let notices = lose_all(self.alloc, &mut self.rows, &tickets, link)?;
+        prune_each(&mut self.listing, &self.rows, &tickets)?;
         self.failed = false;
         Ok(notices)
     }

@@ -6,14 +6,18 @@ use Rattle.std.specs.List.{flat_map, list_any}
 use Rattle.std.specs.List.Sorted.{IsStrictlySortedBy}
 use Rattle.std.specs.Option.{option_map, option_to_list}
 use Rattle.std.specs.Ordering.{nat_cmp}
-use Rattle.pulsar_link.specs.Messages.{Reply}
+use Rattle.pulsar_requests.proofs.Awaiting.{is_at-eqb}
+use Rattle.pulsar_link.specs.Messages.{Reply, is_body}
 use Rattle.pulsar_calls.specs.declared.act.Arrival.TheVariants.{Gives}
 use Rattle.pulsar_calls.specs.declared.act.Notice.{Notice}
 use Rattle.pulsar_calls.specs.declared.act.Word.{Word}
 use Rattle.pulsar_calls.specs.declared.act.Word.TheVariants as word
-use Rattle.pulsar_consumer.specs.Topic.{Loses, lives_on, resubscribes}
-use Rattle.pulsar_client.specs.Consumers.{Member, at_row, closes, hears, hears_frame, lives_at, lives_with, member_after, word_if, word_of_close, word_of_frame}
-use Rattle.pulsar_client.specs.KeptConsumers.{is_listed, some_changed}
+use Rattle.pulsar_consumer.specs.Frames.{frame_in}
+use Rattle.pulsar_consumer.specs.Topic as topic
+use Rattle.pulsar_consumer.specs.Topic.{Hears, Ends, Loses, is_due as is_flow_due, lives_on, resubscribes}
+use Rattle.pulsar_consumer.specs.declared.polled.Ending.TheVariants.{TopicEnded}
+use Rattle.pulsar_client.specs.Consumers.{Member, at_row, ends_on, hears, hears_frame, lives_with, member_after, word_if, word_of_frame}
+use Rattle.pulsar_client.specs.KeptConsumers.{is_listed}
 use Rattle.pulsar_client.specs.Reading.{heard_at, word_to}
 use Rattle.pulsar_client.proofs.Places.{by_keys}
 
@@ -26,7 +30,7 @@ most (n ∷ ns) = suc (n + most ns)
 most_over : (ns : List ℕ) (t : ℕ) → list_any (is_at (nat_cmp t)) ns ≡ true → t < most ns
 most_over [] t h = absurd (false≢true h)
 most_over (n ∷ ns) t h = elim (cases_Bool (is_at (nat_cmp t) n)) [
-  | inl e ↦ (let same : t ≡ n = grind (arith, common_steps, e) in omega (arith, same))
+  | inl e ↦ (let same : t ≡ n = eqb-true t n (sym (is_at-eqb t n) ∙ e) in omega (arith, same))
   | inr e ↦ (let below : t < most ns = most_over ns t (rw e at h) in omega (arith, below))
 ]
 
@@ -37,3 +41,101 @@ pub same_gives : {A : Type 0} (g : ℕ → List A) (ks ls : List ℕ) → IsStri
 same_gives g ks ls k l none_k none_l =
     by_keys g (most ks + most ls) ks k (λ t h. let below : t < most ks = most_over ks t h in omega (arith, below)) none_k
     ∙ sym (by_keys g (most ks + most ls) ls l (λ t h. let below : t < most ls = most_over ls t h in omega (arith, below)) none_l)
+
+-- WHO IS LISTED, AMONG THOSE THAT PASS A TEST
+
+filtered : (test : ℕ → Bool) (ts : List ℕ) (t : ℕ) → is_listed t (filter test ts) ≡ (is_listed t ts && test t)
+filtered test [] t = refl
+filtered test (u ∷ ts) t = elim (cases_Bool (u == t)) [
+  | inl e ↦
+      (let same : u ≡ t = eqb-true u t e in
+      let test_same : test u ≡ test t = ap test same in
+      elim (cases_Bool (test t)) [
+        | inl y ↦ rw (test_same ∙ y) (rw e (rw y refl))
+        | inr n ↦ rw (test_same ∙ n) (filtered test ts t ∙ rw e (rw n (none_and (is_listed t ts))))
+      ])
+  | inr e ↦ elim (cases_Bool (test u)) [
+    | inl y ↦ rw y (rw e (filtered test ts t))
+    | inr n ↦ rw n (rw e (filtered test ts t))
+  ]
+]
+  where
+    none_and : (b : Bool) → (b && false) ≡ false
+    none_and true = refl
+    none_and false = refl
+
+-- where those that fail it give nothing, those that pass it give what all give
+pub filtered_gives : {A : Type 0} (g : ℕ → List A) (test : ℕ → Bool) (ts : List ℕ) → ((t : ℕ) → test t ≡ false → g t ≡ []) →
+    flat_map g (filter test ts) ≡ flat_map g ts
+filtered_gives g test [] none = refl
+filtered_gives g test (t ∷ ts) none = elim (cases_Bool (test t)) [
+  | inl y ↦ rw y (ap (λ xs. g t ++ xs) (filtered_gives g test ts none))
+  | inr n ↦ rw n (filtered_gives g test ts none ∙ sym (ap (λ xs. xs ++ flat_map g ts) (none t n)))
+]
+
+pub filtered_same : {A : Type 0} (g g' : ℕ → List A) (test : ℕ → Bool) (ts : List ℕ) → ((t : ℕ) → test t ≡ true → g t ≡ g' t) →
+    flat_map g (filter test ts) ≡ flat_map g' (filter test ts)
+filtered_same g g' test [] same = refl
+filtered_same g g' test (t ∷ ts) same = elim (cases_Bool (test t)) [
+  | inl y ↦ rw y (ap (λ xs. xs ++ flat_map g (filter test ts)) (same t y) ∙ ap (λ xs. g' t ++ xs) (filtered_same g g' test ts same))
+  | inr n ↦ rw n (filtered_same g g' test ts same)
+]
+
+-- A FRAME: one that does not live on the link hears nothing, and is told nothing
+
+module _ (l : ℕ) (r : Reply) (m : Member) (h : lives_on l m.seen ≡ false) where
+  unheard : hears_frame l r m ≡ m
+  unheard = by (is_body 9 r.content.body) (is_body 27 r.content.body) (is_body 16 r.content.body)
+    where
+      by : (b c d : Bool) → cond b (member_after (Hears l (frame_in r)) m) (cond c (ends_on l TopicEnded m) (cond d (member_after (Loses l) m) m)) ≡ m
+      by true c d = ap (λ e. record m { seen = cond e (record m.seen { engine = topic.hears (frame_in r) m.seen.engine }) m.seen }) h
+      by false true d = ap (λ e. cond e (member_after (Ends TopicEnded) m) m) h
+      by false false true = ap (λ e. record m { seen = cond e (topic.loses m.seen) m.seen }) h
+      by false false false = refl
+
+  untold : word_of_frame l r m ≡ None
+  untold = by (is_body 9 r.content.body) (is_body 27 r.content.body) (is_body 16 r.content.body)
+    where
+      by : (b c d : Bool) →
+          cond b (word_if (lives_on l m.seen && is_flow_due (hears_frame l r m).seen) word.Due)
+          (cond c (word_if (resubscribes l m.seen) (word.TopicEnded l)) (cond d (word_if (resubscribes l m.seen) word.Lost) None)) ≡ None
+      by true c d = ap (λ e. word_if (e && is_flow_due (hears_frame l r m).seen) word.Due) h
+      by false true d = ap (λ e. word_if (e && not m.seen.is_raw) (word.TopicEnded l)) h
+      by false false true = ap (λ e. word_if (e && not m.seen.is_raw) word.Lost) h
+      by false false false = refl
+
+  unlost : member_after (Loses l) m ≡ m
+  unlost = ap (λ e. record m { seen = cond e (topic.loses m.seen) m.seen }) h
+
+-- those of the number that live on the link hear it, and others hear nothing
+module _ (n l : ℕ) (r : Reply) where
+  pub heard_by : (row : Option Member) → cond (lives_with n l row) (option_map (hears_frame l r) row) row ≡ option_map (hears l (Gives n r)) row
+  heard_by None = refl
+  heard_by (Some m) = by (m.seen.number == n) (lives_on l m.seen) refl
+    where
+      by : (a b : Bool) → lives_on l m.seen ≡ b → cond (a && b) (Some (hears_frame l r m)) (Some m) ≡ Some (cond a (hears_frame l r m) m)
+      by true true h = refl
+      by true false h = ap Some (sym (unheard l r m h))
+      by false b h = refl
+
+  abbrev tells : ℕ → Member → List Notice
+  tells t m = word_to t m (word_of_frame l r m)
+
+  pub none_told : (rows : ℕ → Option Member) (t : ℕ) → lives_with n l (rows t) ≡ false → at_row (heard_at l (Gives n r)) rows t ≡ []
+  none_told rows t = by (rows t)
+    where
+      by : (row : Option Member) → lives_with n l row ≡ false → flat_map (heard_at l (Gives n r) t) (option_to_list row) ≡ []
+      by None h = refl
+      by (Some m) h = elim (cases_Bool (m.seen.number == n)) [
+        | inl e ↦
+            (let away : lives_on l m.seen ≡ false = sym (ap (λ b. b && lives_on l m.seen) e) ∙ h in
+            ap (λ w. word_to t m w ++ []) (ap (λ b. cond b (word_of_frame l r m) None) e ∙ untold l r m away))
+        | inr e ↦ ap (λ b. word_to t m (cond b (word_of_frame l r m) None) ++ []) e
+      ]
+
+  pub same_told : (rows : ℕ → Option Member) (t : ℕ) → lives_with n l (rows t) ≡ true → at_row (heard_at l (Gives n r)) rows t ≡ at_row tells rows t
+  same_told rows t = by (rows t)
+    where
+      by : (row : Option Member) → lives_with n l row ≡ true → flat_map (heard_at l (Gives n r) t) (option_to_list row) ≡ flat_map (tells t) (option_to_list row)
+      by None h = absurd (false≢true h)
+      by (Some m) h = ap (λ b. word_to t m (cond b (word_of_frame l r m) None) ++ []) (and_parts (m.seen.number == n) (lives_on l m.seen) h).0

@@ -6,6 +6,7 @@ pub mod Moments
 pub mod Ringing
 pub mod Timing
 pub mod Idle
+pub mod Hearing
 pub mod Waiting
 pub mod Steps
 pub mod Sorting

@@ -116,7 +116,7 @@ word_if is_so w = if is_so then Some w else None
 
 abbrev pub word_of_frame : (link : ℕ) → Reply → Member → Option Word
 word_of_frame l r m =
-    if is_body 9 r.content.body then word_if (is_flow_due (hears_frame l r m).seen) word.Due
+    if is_body 9 r.content.body then word_if (lives_on l m.seen && is_flow_due (hears_frame l r m).seen) word.Due
     else if is_body 27 r.content.body then word_if (resubscribes l m.seen) (word.TopicEnded l)
     else if is_body 16 r.content.body then word_if (resubscribes l m.seen) word.Lost
     else None

@@ -636,11 +636,11 @@ failed_on end t b = failed_by end t.change t.pause b
 abbrev pub caused : View → ℕ → LinkAct → List (List Notice)
 caused v l link.Opens = []
 caused v l Reads =
-    opens (answered_on (v.links.live l) ++ waiters_of served_on v.addresses (turned v (Comes (ToLink l Reads))) ++ heard_on v l)
+    opens ((answered_on (v.links.live l) ++ waiters_of served_on v.addresses (turned v (Comes (ToLink l Reads)))) ++ heard_on v l)
 caused v l (Drains most) = map alone (moved_on most v.now (v.links.live l))
 caused v l Pings = []
 caused v l (Ends end) =
-    opens (ended_on end v.now (v.links.live l) ++ waiters_of (failed_on end) v.addresses (turned v (Comes (ToLink l (Ends end)))) ++ lost_on v l end)
+    opens ((ended_on end v.now (v.links.live l) ++ waiters_of (failed_on end) v.addresses (turned v (Comes (ToLink l (Ends end))))) ++ lost_on v l end)
 
 -- one whose moment has come is told so
 abbrev pub woken : View → Alarm → List Notice
@@ -671,5 +671,5 @@ stopped_all ps = map stopped_one (waiting ps) ++ map stopped_call (unsent ps)
 abbrev pub causes : View → Act → List (List Notice)
 causes v (Comes (ToLink l x)) = caused v l x
 causes v (Comes (Rings a)) = if rings v.now a v.alarms then opens (woken v a) else []
-causes v (Does who StopAll) = opens (flat_map (λ e. stopped_with v.addresses e.0) v.alarms ++ stopped_all v.producers ++ stopped_on v)
+causes v (Does who StopAll) = opens ((flat_map (λ e. stopped_with v.addresses e.0) v.alarms ++ stopped_all v.producers) ++ stopped_on v)
 causes v _ = []

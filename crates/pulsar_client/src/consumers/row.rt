@@ -103,12 +103,13 @@ impl ConsumerRow {
         link: u64,
         reply: Received,
     ) -> Result<Option<Word>, NoMemory>
-        ensures word { IfOk result (λ w. w ≡ word_if (meaning.is_flow_due (member_after (Hears link (frame_in reply)) (member_in self.old)).seen) Word.Due) }
+        ensures word { IfOk result (λ w. w ≡ word_if (lives_on link (member_in self.old).seen && meaning.is_flow_due (member_after (Hears link (frame_in reply)) (member_in self.old)).seen) Word.Due) }
         ensures after { OnOk result (member_in self.new ≡ member_after (Hears link (frame_in reply)) (member_in self.old)) }
     {
+        let lives = self.consumer.inner.lives_on(link);
         let frame = Frame::received(alloc, reply)?;
         self.consumer.inner.hear(link, frame)?;
-        Ok(self.due())
+        Ok(word_if(lives && self.consumer.inner.is_due(), Word::Due))
     }
 
     /// Its topic ends, where its subscription on this link is live.

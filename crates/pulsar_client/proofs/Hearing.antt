@@ -16,7 +16,7 @@ use Rattle.pulsar_consumer.specs.Frames.{frame_in}
 use Rattle.pulsar_consumer.specs.Topic as topic
 use Rattle.pulsar_consumer.specs.Topic.{Hears, Ends, Loses, is_due as is_flow_due, lives_on, resubscribes}
 use Rattle.pulsar_consumer.specs.declared.polled.Ending.TheVariants.{TopicEnded}
-use Rattle.pulsar_client.specs.Consumers.{Member, at_row, ends_on, hears, hears_frame, lives_with, member_after, word_if, word_of_frame}
+use Rattle.pulsar_client.specs.Consumers.{Consumers, Member, all_changed, at_row, ends_on, hears, hears_frame, lives_with, member_after, word_if, word_of_frame}
 use Rattle.pulsar_client.specs.KeptConsumers.{is_listed}
 use Rattle.pulsar_client.specs.Reading.{heard_at, word_to}
 use Rattle.pulsar_client.proofs.Places.{by_keys}
@@ -139,3 +139,31 @@ module _ (n l : ℕ) (r : Reply) where
       by : (row : Option Member) → lives_with n l row ≡ true → flat_map (heard_at l (Gives n r) t) (option_to_list row) ≡ flat_map (tells t) (option_to_list row)
       by None h = absurd (false≢true h)
       by (Some m) h = ap (λ b. word_to t m (cond b (word_of_frame l r m) None) ++ []) (and_parts (m.seen.number == n) (lives_on l m.seen) h).0
+
+-- WHAT TELLS NOBODY ANYTHING, AND CHANGES NOTHING
+
+pub over_none : {A : Type 0} (f : ℕ → Member → List A) → ((t : ℕ) (m : Member) → f t m ≡ []) → (rows : ℕ → Option Member) (ts : List ℕ) →
+    flat_map (at_row f rows) ts ≡ []
+over_none f none rows [] = refl
+over_none f none rows (t ∷ ts) = ap (λ xs. xs ++ flat_map (at_row f rows) ts) (one (rows t)) ∙ over_none f none rows ts
+  where
+    one : (row : Option Member) → flat_map (f t) (option_to_list row) ≡ []
+    one None = refl
+    one (Some m) = ap (λ xs. xs ++ []) (none t m)
+
+pub map_same : (f : Member → Member) → ((m : Member) → f m ≡ m) → (row : Option Member) → option_map f row ≡ row
+map_same f same None = refl
+map_same f same (Some m) = ap Some (same m)
+
+pub all_same : (f : Member → Member) → ((m : Member) → f m ≡ m) → (cs : Consumers) → cs ≡ all_changed f cs
+all_same f same cs i = record {
+  rows = λ t. sym (map_same f same (cs.rows t)) i;
+  tickets = cs.tickets;
+  held = cs.held;
+  named = cs.named;
+  next = cs.next;
+}
+
+-- what is seen of consumers, part by part
+pub consumers_are : (a b : Consumers) → ((t : ℕ) → a.rows t ≡ b.rows t) → a.tickets ≡ b.tickets → a.held ≡ b.held → a.named ≡ b.named → a.next ≡ b.next → a ≡ b
+consumers_are a b rows tickets held named next i = record { rows = λ t. rows t i; tickets = tickets i; held = held i; named = named i; next = next i }

@@ -7,6 +7,7 @@ pub mod Ringing
 pub mod Timing
 pub mod Idle
 pub mod Hearing
+pub mod Numbered
 pub mod Waiting
 pub mod Steps
 pub mod Sorting

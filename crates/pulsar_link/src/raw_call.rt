@@ -112,7 +112,7 @@ pub enum RawCall {
 }
 
 /// A consumer that a call makes, with all that is said of it.
-#[derive(Debug, Drop)]
+#[derive(Drop)]
 pub struct Subscription {
     pub topic: String,
     pub subscription: String,

@@ -42,7 +42,9 @@ impl Plans {
     {
         match who {
             Who::Call(ticket) => self.calls.remove(&ticket),
-            Who::Consumer { number, ticket } => self.consumers.remove(&(number, ticket)),
+            Who::Consumer { number, ticket } => {
+                remove_pair(&mut self.consumers, (number, ticket))
+            }
             Who::Producer(number) => self.producers.remove(&number),
         }
     }
@@ -53,7 +55,9 @@ impl Plans {
     {
         match who {
             Who::Call(ticket) => set_in(&mut self.calls, ticket, plan),
-            Who::Consumer { number, ticket } => set_pair(&mut self.consumers, (number, ticket), plan),
+            Who::Consumer { number, ticket } => {
+                set_pair(&mut self.consumers, (number, ticket), plan)
+            }
             Who::Producer(number) => set_in(&mut self.producers, number, plan),
         }
     }
@@ -81,4 +85,11 @@ fn set_pair(
         Some(plan) => drop(plans.insert(pair, plan)?),
     }
     Ok(())
+}
+
+fn remove_pair(plans: &mut BTreeMap<(u64, u64), Plan>, pair: (u64, u64)) -> Option<Plan>
+    ensures plan { result ≡ get pair_cmp plans.old pair }
+    ensures left { (p : ℕ × ℕ) → get pair_cmp plans.new p ≡ (if (p.0 == pair.0) && (p.1 == pair.1) then None else get pair_cmp plans.old p) }
+{
+    plans.remove(&pair)
 }

@@ -6,6 +6,7 @@ pub mod Moments
 pub mod Ringing
 pub mod Timing
 pub mod Idle
+pub mod Rows
 pub mod Hearing
 pub mod Numbered
 pub mod Waiting

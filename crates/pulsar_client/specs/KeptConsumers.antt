@@ -5,7 +5,7 @@ use Rattle.std.specs.BTreeSet.{BTreeSet}
 use Rattle.std.specs.List.{list_any}
 use Rattle.std.specs.Option.{option_map}
 use Rattle.std.specs.Ordering.{nat_cmp}
-use Rattle.pulsar_client.specs.declared.consumers.table.Consumers.{Consumers as KeptConsumers}
+use Rattle.pulsar_client.specs.declared.consumers.numbers.Numbers.{Numbers}
 use Rattle.pulsar_client.specs.declared.consumers.row.ConsumerRow.{ConsumerRow}
 use Rattle.pulsar_client.specs.Consumers.{Consumers, Member, has_number}
 
@@ -15,9 +15,9 @@ member_in r = record { seen = r.consumer.inner; seekers = r.seekers.items }
 abbrev pub rows_in : BTreeMap ℕ ConsumerRow → ℕ → Option Member
 rows_in rows t = option_map member_in (get nat_cmp rows t)
 
-abbrev pub consumers_of : KeptConsumers → Consumers
-consumers_of c =
-    record { rows = rows_in c.rows; tickets = keys c.rows; held = c.numbers.held.entries; named = c.numbers.named.keys; next = c.numbers.next }
+abbrev pub consumers_in : BTreeMap ℕ ConsumerRow → Numbers → Consumers
+consumers_in rows numbers =
+    record { rows = rows_in rows; tickets = keys rows; held = numbers.held.entries; named = numbers.named.keys; next = numbers.next }
 
 -- THE LISTING
 

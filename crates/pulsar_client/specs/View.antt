@@ -61,7 +61,7 @@ use Rattle.pulsar_producer.specs.Topic as topic
 use Rattle.pulsar_client.specs.Consumers as consumer
 use Rattle.pulsar_client.specs.Consumers.{Consumers, IsHeard, Member}
 use Rattle.pulsar_consumer.specs.Topic as reader
-use Rattle.pulsar_consumer.specs.Topic.{Setup, of_raw}
+use Rattle.pulsar_consumer.specs.Topic.{of_raw}
 use Rattle.pulsar_calls.specs.Who.{is_same, rank, ticket_of, turn_of}
 
 -- What a client's options say of a run: the address of the service, where their URL has one; the credential; how connections are
@@ -614,10 +614,10 @@ abbrev pub hears_ask : (link now : ℕ) → Words → Option Seat → Member →
 hears_ask l now request row m = consumer.closes (closed_consumer request) l (is_asked (answer_at now request row)) m
 
 -- the consumer that a verdict makes has the ticket of its call
-abbrev pub setup_of : Joining → Setup
+abbrev pub setup_of : Joining → reader.Setup
 setup_of j = record { topic = j.topic; number = j.number; config = j.config; is_raw = false }
 
-abbrev pub member_on : (ℕ → Option Seat) → (link : ℕ) → Setup → Member
+abbrev pub member_on : (ℕ → Option Seat) → (link : ℕ) → reader.Setup → Member
 member_on live l s = consumer.member_of s l (url_at (live l))
 
 abbrev pub joins_as : Who → Member → Consumers → Consumers

@@ -11,7 +11,7 @@ ghost use Rattle.pulsar_client.specs.Effects.{asked_at, given_at};
 ghost use Rattle.pulsar_client.specs.Due.{moment_at};
 ghost use Rattle.pulsar_client.specs.Kept.{AreStarted, AreTimed, IsEnd, is_due, links_in, live_in, producers_of, seat_of};
 ghost use Rattle.pulsar_requests.specs.Soonest.{has_come};
-ghost use Rattle.pulsar_client.specs.KeptConsumers.{consumers_of};
+ghost use Rattle.pulsar_client.specs.KeptConsumers.{consumers_in};
 
 ghost use Rattle.pulsar_client.specs.Rules.{answered_on, due_part, idle_act_at, may_ping, moved_on, on_link, over_links, stop_act, told_at, is_idle_at};
 ghost use Rattle.pulsar_client.specs.View.{answer_at, arrival_at, got_at, room_at, has_ended, is_asked, is_busy, seat_asked, seat_got, seat_of_fresh, seat_fed, took_some, url_at};
@@ -191,7 +191,7 @@ impl Links {
         consumers: &Consumers,
         producers: &Producers,
     ) -> Result<VecDeque<Act>, NoMemory>
-        ensures { IfOk result (λ acts. acts.items ≡ over_links (idle_act_at now most (consumers_of consumers.now) (producers_of producers.now)) (links_in self.now.started self.now.live)) }
+        ensures { IfOk result (λ acts. acts.items ≡ over_links (idle_act_at now most (consumers_in c.rows c.numbersonsumers.now) (producers_of producers.now)) (links_in self.now.started self.now.live)) }
     {
         if self.failed {
             return Err(NoMemory);
@@ -401,7 +401,7 @@ fn ends_idle(
     consumers: &Consumers,
     producers: &Producers,
 ) -> Result<VecDeque<Act>, NoMemory>
-    ensures ends { IfOk result (λ acts. acts.items ≡ flat_map (on_link (idle_act_at now most (consumers_of consumers.now) (producers_of producers.now)) (live_in live.now)) (keys live.now)) }
+    ensures ends { IfOk result (λ acts. acts.items ≡ flat_map (on_link (idle_act_at now most (consumers_in c.rows c.numbersonsumers.now) (producers_of producers.now)) (live_in live.now)) (keys live.now)) }
     ensures ordered { OnOk result (IsOrdered nat_cmp live.now) }
 {
     let mut acts = VecDeque::new(alloc);
@@ -421,7 +421,7 @@ fn is_idle(
     consumers: &Consumers,
     producers: &Producers,
 ) -> bool
-    ensures { result ≡ is_idle_at now most (consumers_of consumers.now) (producers_of producers.now) link (seat_of row.now) }
+    ensures { result ≡ is_idle_at now most (consumers_in c.rows c.numbersonsumers.now) (producers_of producers.now) link (seat_of row.now) }
 {
     let rests = row.rests(now, most);
     let is_heard = consumers.hears_on(link);

@@ -8,7 +8,7 @@ ghost use Rattle.pulsar_calls.specs.declared.act.Word.{Word};
 ghost use Rattle.pulsar_consumer.specs.Topic.{Polls};
 ghost use Rattle.pulsar_client.specs.Consumers as meaning;
 ghost use Rattle.pulsar_client.specs.Consumers.{IsHeard, all_changed, changed, closes, hears, is_ended_at, is_in_use, is_passed, joined, link_at, loses_by, member_after, member_of, names_in, next_free, none, number_at, numbered, numbering, over_rows, polled, some_row, sought, why_not};
-ghost use Rattle.pulsar_client.specs.KeptConsumers.{AreListed, consumers_of, listed_at, member_in, rows_in};
+ghost use Rattle.pulsar_client.specs.KeptConsumers.{AreListed, consumers_in, listed_at, member_in, rows_in};
 ghost use Rattle.pulsar_client.specs.Reading.{again_at, heard_at, polled_due, revived_at, stopped_seekers, word_to};
 
 use crate::consumers::hearing::{
@@ -46,7 +46,7 @@ pub struct Consumers {
 impl Consumers {
     /// There is none. The first number is this.
     pub fn new(alloc: Global, first_number: u64) -> Consumers
-        ensures { consumers_of result ≡ none first_number }
+        ensures { consumers_in result.rows result.numbers ≡ none first_number }
     {
         Consumers {
             alloc,
@@ -59,14 +59,14 @@ impl Consumers {
 
     /// There is a consumer of this ticket.
     pub fn has(&self, ticket: u64) -> bool
-        ensures { result ≡ is_some ((consumers_of self.now).rows ticket) }
+        ensures { result ≡ is_some ((consumers_in self.now.rows self.now.numbers).rows ticket) }
     {
         self.rows.contains_key(&ticket)
     }
 
     /// The consumer that the call of this ticket built.
     pub fn built(&self, ticket: u64) -> Option<&Consumer>
-        ensures { option_map (λ c. c.inner) (option_copied result) ≡ meaning.built_at ((consumers_of self.now).rows ticket) }
+        ensures { option_map (λ c. c.inner) (option_copied result) ≡ meaning.built_at ((consumers_in self.now.rows self.now.numbers).rows ticket) }
     {
         let row = self.rows.get(&ticket)?;
         if row.consumer.inner.is_raw() {
@@ -77,7 +77,7 @@ impl Consumers {
 
     /// One more consumer.
     pub fn join(&mut self, ticket: u64, row: ConsumerRow) -> Result<(), NoMemory>
-        ensures { OnOk result (consumers_of self.new ≡ joined ticket (member_in row) (consumers_of self.old)) }
+        ensures { OnOk result (consumers_in self.new.rows self.new.numbers ≡ joined ticket (member_in row) (consumers_in self.old.rows self.old.numbers)) }
     {
         if self.failed {
             return Err(NoMemory);
@@ -96,9 +96,9 @@ impl Consumers {
         ticket: u64,
         clock: u64,
     ) -> Result<Option<(Effect, Option<Notice>)>, NoMemory>
-        ensures effect { IfOk result (λ r. option_map (λ x. shown x.0) r ≡ option_map (polled ticket) ((consumers_of self.old).rows ticket)) }
-        ensures due { IfOk result (λ r. flat_map (λ x. option_to_list x.1) (option_to_list r) ≡ polled_due clock ticket ((consumers_of self.old).rows ticket)) }
-        ensures after { OnOk result (consumers_of self.new ≡ changed ticket (member_after (Polls clock)) (consumers_of self.old)) }
+        ensures effect { IfOk result (λ r. option_map (λ x. shown x.0) r ≡ option_map (polled ticket) ((consumers_in self.old.rows self.old.numbers).rows ticket)) }
+        ensures due { IfOk result (λ r. flat_map (λ x. option_to_list x.1) (option_to_list r) ≡ polled_due clock ticket ((consumers_in self.old.rows self.old.numbers).rows ticket)) }
+        ensures after { OnOk result (consumers_in self.new.rows self.new.numbers ≡ changed ticket (member_after (Polls clock)) (consumers_in self.old.rows self.old.numbers)) }
     {
         if self.failed {
             return Err(NoMemory);
@@ -111,8 +111,8 @@ impl Consumers {
 
     /// A live subscription is on this link. It takes no memory.
     pub fn hears_on(&self, link: u64) -> bool
-        ensures heard { result ≡ some_row (meaning.lives_at link) (consumers_of self.now) }
-        ensures one { IsTrue result ↔ IsHeard link (consumers_of self.now).rows }
+        ensures heard { result ≡ some_row (meaning.lives_at link) (consumers_in self.now.rows self.now.numbers) }
+        ensures one { IsTrue result ↔ IsHeard link (consumers_in self.now.rows self.now.numbers).rows }
     {
         self.rows
             .iter()
@@ -121,8 +121,8 @@ impl Consumers {
 
     /// Consumers hear what comes to a link: what they are told.
     pub fn hear(&mut self, link: u64, arrival: Arrival) -> Result<Vec<Notice>, NoMemory>
-        ensures notices { IfOk result (λ ns. ns.items ≡ over_rows (heard_at link arrival) (consumers_of self.old)) }
-        ensures after { OnOk result (consumers_of self.new ≡ all_changed (hears link arrival) (consumers_of self.old)) }
+        ensures notices { IfOk result (λ ns. ns.items ≡ over_rows (heard_at link arrival) (consumers_in self.old.rows self.old.numbers)) }
+        ensures after { OnOk result (consumers_in self.new.rows self.new.numbers ≡ all_changed (hears link arrival) (consumers_in self.old.rows self.old.numbers)) }
     {
         match arrival {
             Arrival::Gives { consumer, reply } => self.hear_frame(link, consumer, reply),
@@ -141,8 +141,8 @@ impl Consumers {
         number: u64,
         reply: Received,
     ) -> Result<Vec<Notice>, NoMemory>
-        ensures notices { IfOk result (λ ns. ns.items ≡ over_rows (heard_at link (Arrival.Gives number reply)) (consumers_of self.old)) }
-        ensures after { OnOk result (consumers_of self.new ≡ all_changed (hears link (Arrival.Gives number reply)) (consumers_of self.old)) }
+        ensures notices { IfOk result (λ ns. ns.items ≡ over_rows (heard_at link (Arrival.Gives number reply)) (consumers_in self.old.rows self.old.numbers)) }
+        ensures after { OnOk result (consumers_in self.new.rows self.new.numbers ≡ all_changed (hears link (Arrival.Gives number reply)) (consumers_in self.old.rows self.old.numbers)) }
     {
         if self.failed {
             return Err(NoMemory);
@@ -157,8 +157,8 @@ impl Consumers {
 
     /// A link ends: what those are told whose subscriptions were live on it.
     pub fn end(&mut self, link: u64) -> Result<Vec<Notice>, NoMemory>
-        ensures notices { IfOk result (λ ns. ns.items ≡ over_rows (λ t m. word_to t m (meaning.word_if (meaning.resubscribes link m.seen) Word.Lost)) (consumers_of self.old)) }
-        ensures after { OnOk result (consumers_of self.new ≡ all_changed (member_after (meaning.Loses link)) (consumers_of self.old)) }
+        ensures notices { IfOk result (λ ns. ns.items ≡ over_rows (λ t m. word_to t m (meaning.word_if (meaning.resubscribes link m.seen) Word.Lost)) (consumers_in self.old.rows self.old.numbers)) }
+        ensures after { OnOk result (consumers_in self.new.rows self.new.numbers ≡ all_changed (member_after (meaning.Loses link)) (consumers_in self.old.rows self.old.numbers)) }
     {
         if self.failed {
             return Err(NoMemory);
@@ -178,8 +178,8 @@ impl Consumers {
         number: Option<u64>,
         is_asked: bool,
     ) -> Result<Vec<Notice>, NoMemory>
-        ensures notices { IfOk result (λ ns. ns.items ≡ over_rows (λ t m. word_to t m (meaning.word_of_close number link is_asked m)) (consumers_of self.old)) }
-        ensures after { OnOk result (consumers_of self.new ≡ all_changed (closes number link is_asked) (consumers_of self.old)) }
+        ensures notices { IfOk result (λ ns. ns.items ≡ over_rows (λ t m. word_to t m (meaning.word_of_close number link is_asked m)) (consumers_in self.old.rows self.old.numbers)) }
+        ensures after { OnOk result (consumers_in self.new.rows self.new.numbers ≡ all_changed (closes number link is_asked) (consumers_in self.old.rows self.old.numbers)) }
     {
         match number {
             Some(number) if is_asked => self.close(link, number),
@@ -188,8 +188,8 @@ impl Consumers {
     }
 
     fn close(&mut self, link: u64, number: u64) -> Result<Vec<Notice>, NoMemory>
-        ensures notices { IfOk result (λ ns. ns.items ≡ over_rows (λ t m. word_to t m (meaning.word_of_close (Some number) link true m)) (consumers_of self.old)) }
-        ensures after { OnOk result (consumers_of self.new ≡ all_changed (closes (Some number) link true) (consumers_of self.old)) }
+        ensures notices { IfOk result (λ ns. ns.items ≡ over_rows (λ t m. word_to t m (meaning.word_of_close (Some number) link true m)) (consumers_in self.old.rows self.old.numbers)) }
+        ensures after { OnOk result (consumers_in self.new.rows self.new.numbers ≡ all_changed (closes (Some number) link true) (consumers_in self.old.rows self.old.numbers)) }
     {
         if self.failed {
             return Err(NoMemory);
@@ -204,8 +204,8 @@ impl Consumers {
 
     /// What one is told who wants the link of a consumer. One that is told nothing waits.
     pub fn seek(&mut self, ticket: u64, who: Who) -> Result<Sought, NoMemory>
-        ensures sought { IfOk result (λ s. s ≡ sought ((consumers_of self.old).rows ticket)) }
-        ensures after { OnOk result (consumers_of self.new ≡ changed ticket (meaning.seeks who) (consumers_of self.old)) }
+        ensures sought { IfOk result (λ s. s ≡ sought ((consumers_in self.old.rows self.old.numbers).rows ticket)) }
+        ensures after { OnOk result (consumers_in self.new.rows self.new.numbers ≡ changed ticket (meaning.seeks who) (consumers_in self.old.rows self.old.numbers)) }
     {
         if self.failed {
             return Err(NoMemory);
@@ -218,8 +218,8 @@ impl Consumers {
 
     /// The flow of a consumer that is to be asked for next, with its link. It counts as asked for.
     pub fn take_flow(&mut self, ticket: u64) -> Result<Option<(u64, u32)>, NoMemory>
-        ensures flow { IfOk result (λ f. f ≡ meaning.flow_at ((consumers_of self.old).rows ticket)) }
-        ensures after { OnOk result (consumers_of self.new ≡ changed ticket (member_after meaning.Asks) (consumers_of self.old)) }
+        ensures flow { IfOk result (λ f. f ≡ meaning.flow_at ((consumers_in self.old.rows self.old.numbers).rows ticket)) }
+        ensures after { OnOk result (consumers_in self.new.rows self.new.numbers ≡ changed ticket (member_after meaning.Asks) (consumers_in self.old.rows self.old.numbers)) }
     {
         if self.failed {
             return Err(NoMemory);
@@ -232,7 +232,7 @@ impl Consumers {
 
     /// The command by which a consumer is subscribed again.
     pub fn recall(&self, ticket: u64) -> Result<Option<Command>, NoMemory>
-        ensures { IfOk result (λ c. c ≡ meaning.recalled ((consumers_of self.now).rows ticket)) }
+        ensures { IfOk result (λ c. c ≡ meaning.recalled ((consumers_in self.now.rows self.now.numbers).rows ticket)) }
     {
         match self.rows.get(&ticket) {
             Some(row) => Ok(Some(row.consumer.inner.command()?)),
@@ -242,7 +242,7 @@ impl Consumers {
 
     /// A consumer has ended, or there is none.
     pub fn is_ended(&self, ticket: u64) -> bool
-        ensures { result ≡ is_ended_at ((consumers_of self.now).rows ticket) }
+        ensures { result ≡ is_ended_at ((consumers_in self.now.rows self.now.numbers).rows ticket) }
     {
         match self.rows.get(&ticket) {
             Some(row) => row.consumer.inner.is_ended(),
@@ -257,8 +257,8 @@ impl Consumers {
         link: u64,
         url: Option<Url>,
     ) -> Result<Vec<Notice>, NoMemory>
-        ensures notices { IfOk result (λ ns. ns.items ≡ revived_at link url ticket ((consumers_of self.old).rows ticket)) }
-        ensures after { OnOk result (consumers_of self.new ≡ changed ticket (meaning.revived link url) (consumers_of self.old)) }
+        ensures notices { IfOk result (λ ns. ns.items ≡ revived_at link url ticket ((consumers_in self.old.rows self.old.numbers).rows ticket)) }
+        ensures after { OnOk result (consumers_in self.new.rows self.new.numbers ≡ changed ticket (meaning.revived link url) (consumers_in self.old.rows self.old.numbers)) }
     {
         if self.failed {
             return Err(NoMemory);
@@ -271,8 +271,8 @@ impl Consumers {
 
     /// A consumer could not be subscribed again: who is told of it.
     pub fn fail(&mut self, ticket: u64, failure: Failure) -> Result<Vec<Notice>, NoMemory>
-        ensures notices { IfOk result (λ ns. ns.items ≡ again_at ((consumers_of self.old).rows ticket)) }
-        ensures after { OnOk result (consumers_of self.new ≡ changed ticket (meaning.failed failure) (consumers_of self.old)) }
+        ensures notices { IfOk result (λ ns. ns.items ≡ again_at ((consumers_in self.old.rows self.old.numbers).rows ticket)) }
+        ensures after { OnOk result (consumers_in self.new.rows self.new.numbers ≡ changed ticket (meaning.failed failure) (consumers_in self.old.rows self.old.numbers)) }
     {
         if self.failed {
             return Err(NoMemory);
@@ -285,8 +285,8 @@ impl Consumers {
 
     /// The client is stopped: those who wait for the link of a consumer are told so, and all consumers end.
     pub fn stop(&mut self, notices: &mut Vec<Notice>) -> Result<(), NoMemory>
-        ensures notices { OnOk result (notices.new.items ≡ notices.old.items ++ over_rows stopped_seekers (consumers_of self.old)) }
-        ensures after { OnOk result (consumers_of self.new ≡ all_changed meaning.stopped (consumers_of self.old)) }
+        ensures notices { OnOk result (notices.new.items ≡ notices.old.items ++ over_rows stopped_seekers (consumers_in self.old.rows self.old.numbers)) }
+        ensures after { OnOk result (consumers_in self.new.rows self.new.numbers ≡ all_changed meaning.stopped (consumers_in self.old.rows self.old.numbers)) }
     {
         if self.failed {
             return Err(NoMemory);
@@ -300,8 +300,8 @@ impl Consumers {
 
     /// What the call of a ticket gets that builds a consumer: the number that was asked for, or one that is drawn.
     pub fn number(&mut self, ticket: u64, wanted: Option<u64>) -> Result<Numbering, NoMemory>
-        ensures numbering { IfOk result (λ n. n ≡ numbering (consumers_of self.old) wanted) }
-        ensures after { OnOk result (consumers_of self.new ≡ numbered ticket wanted (consumers_of self.old)) }
+        ensures numbering { IfOk result (λ n. n ≡ numbering (consumers_in self.old.rows self.old.numbers) wanted) }
+        ensures after { OnOk result (consumers_in self.new.rows self.new.numbers ≡ numbered ticket wanted (consumers_in self.old.rows self.old.numbers)) }
     {
         if self.failed {
             return Err(NoMemory);
@@ -314,8 +314,8 @@ impl Consumers {
 
     fn take_number(&mut self, ticket: u64, number: u64) -> Result<Numbering, NoMemory>
         requires { self.old.failed ≡ false }
-        ensures numbering { IfOk result (λ n. n ≡ numbering (consumers_of self.old) (Some number)) }
-        ensures after { OnOk result (consumers_of self.new ≡ numbered ticket (Some number) (consumers_of self.old)) }
+        ensures numbering { IfOk result (λ n. n ≡ numbering (consumers_in self.old.rows self.old.numbers) (Some number)) }
+        ensures after { OnOk result (consumers_in self.new.rows self.new.numbers ≡ numbered ticket (Some number) (consumers_in self.old.rows self.old.numbers)) }
     {
         if self.is_in_use(number) {
             return Ok(Numbering::InUse);
@@ -326,8 +326,8 @@ impl Consumers {
 
     fn draw_number(&mut self, ticket: u64) -> Result<Numbering, NoMemory>
         requires { self.old.failed ≡ false }
-        ensures numbering { IfOk result (λ n. n ≡ numbering (consumers_of self.old) None) }
-        ensures after { OnOk result (consumers_of self.new ≡ numbered ticket None (consumers_of self.old)) }
+        ensures numbering { IfOk result (λ n. n ≡ numbering (consumers_in self.old.rows self.old.numbers) None) }
+        ensures after { OnOk result (consumers_in self.new.rows self.new.numbers ≡ numbered ticket None (consumers_in self.old.rows self.old.numbers)) }
     {
         let number = self.next_free();
         self.numbers.pass(number);
@@ -341,7 +341,7 @@ impl Consumers {
     /// The next number that is neither in use nor was named.
     fn next_free(&self) -> u64
         requires { self.now.failed ≡ false }
-        ensures { result ≡ next_free (consumers_of self.now) }
+        ensures { result ≡ next_free (consumers_in self.now.rows self.now.numbers) }
     {
         let mut number = self.numbers.next;
         while number < u64::MAX && self.is_passed(number) {
@@ -352,7 +352,7 @@ impl Consumers {
 
     fn is_passed(&self, number: u64) -> bool
         requires { self.now.failed ≡ false }
-        ensures { result ≡ is_passed (consumers_of self.now) number }
+        ensures { result ≡ is_passed (consumers_in self.now.rows self.now.numbers) number }
     {
         self.is_in_use(number) || self.numbers.is_named(number)
     }
@@ -360,14 +360,14 @@ impl Consumers {
     /// A consumer that has not ended has this number, or a build holds it.
     fn is_in_use(&self, number: u64) -> bool
         requires { self.now.failed ≡ false }
-        ensures { result ≡ is_in_use (consumers_of self.now) number }
+        ensures { result ≡ is_in_use (consumers_in self.now.rows self.now.numbers) number }
     {
         self.has_number(number) || self.numbers.is_held(number)
     }
 
     fn has_number(&self, number: u64) -> bool
         requires { self.now.failed ≡ false }
-        ensures { result ≡ some_row (meaning.has_number number) (consumers_of self.now) }
+        ensures { result ≡ some_row (meaning.has_number number) (consumers_in self.now.rows self.now.numbers) }
     {
         match listed(&self.listing, number) {
             Some(tickets) => tickets.iter().any(|t| has_number_at(&self.rows, *t, number)),
@@ -377,7 +377,7 @@ impl Consumers {
 
     /// A consumer that was built, and has not ended, has this number.
     pub fn is_taken(&self, number: Option<u64>) -> Result<bool, NoMemory>
-        ensures { IfOk result (λ b. b ≡ meaning.is_taken (consumers_of self.now) number) }
+        ensures { IfOk result (λ b. b ≡ meaning.is_taken (consumers_in self.now.rows self.now.numbers) number) }
     {
         if self.failed {
             return Err(NoMemory);
@@ -390,7 +390,7 @@ impl Consumers {
 
     fn is_built_with(&self, number: u64) -> bool
         requires { self.now.failed ≡ false }
-        ensures { result ≡ some_row (meaning.has_built number) (consumers_of self.now) }
+        ensures { result ≡ some_row (meaning.has_built number) (consumers_in self.now.rows self.now.numbers) }
     {
         match listed(&self.listing, number) {
             Some(tickets) => tickets.iter().any(|t| is_built_at(&self.rows, *t, number)),
@@ -400,14 +400,14 @@ impl Consumers {
 
     /// The call of this ticket has ended, and holds no number.
     pub fn free(&mut self, ticket: u64)
-        ensures { consumers_of self.new ≡ meaning.freed ticket (consumers_of self.old) }
+        ensures { consumers_in self.new.rows self.new.numbers ≡ meaning.freed ticket (consumers_in self.old.rows self.old.numbers) }
     {
         self.numbers.free(ticket);
     }
 
     /// A raw call names a number, or none.
     pub fn name(&mut self, number: Option<u64>) -> Result<(), NoMemory>
-        ensures { OnOk result (consumers_of self.new ≡ names_in number (consumers_of self.old)) }
+        ensures { OnOk result (consumers_in self.new.rows self.new.numbers ≡ names_in number (consumers_in self.old.rows self.old.numbers)) }
     {
         match number {
             Some(number) => self.numbers.name(number),
@@ -417,7 +417,7 @@ impl Consumers {
 
     /// Why there is no consumer for a call on the one of this ticket.
     pub fn why_not(&self, ticket: u64) -> Option<Refusal>
-        ensures { result ≡ why_not (consumers_of self.now) ticket }
+        ensures { result ≡ why_not (consumers_in self.now.rows self.now.numbers) ticket }
     {
         match self.rows.get(&ticket) {
             Some(row) => refusal_for(row.consumer.inner.is_raw(), row.consumer.inner.is_ended()),
@@ -427,7 +427,7 @@ impl Consumers {
 
     /// The link of the live subscription of a consumer.
     pub fn link(&self, ticket: u64) -> Option<u64>
-        ensures { result ≡ link_at ((consumers_of self.now).rows ticket) }
+        ensures { result ≡ link_at ((consumers_in self.now.rows self.now.numbers).rows ticket) }
     {
         match self.rows.get(&ticket) {
             Some(row) => row.consumer.inner.link(),
@@ -437,7 +437,7 @@ impl Consumers {
 
     /// The number of a consumer.
     pub fn number_of(&self, ticket: u64) -> u64
-        ensures { result ≡ number_at ((consumers_of self.now).rows ticket) }
+        ensures { result ≡ number_at ((consumers_in self.now.rows self.now.numbers).rows ticket) }
     {
         match self.rows.get(&ticket) {
             Some(row) => row.consumer.inner.number(),

@@ -9,7 +9,7 @@ ghost use Rattle.pulsar_calls.specs.Content.{shown};
 ghost use Rattle.pulsar_calls.specs.declared.act.Act.{Act};
 ghost use Rattle.pulsar_consumer.specs.Content.{consumer_wanted};
 ghost use Rattle.pulsar_client.specs.Effects.{effects};
-ghost use Rattle.pulsar_client.specs.KeptConsumers.{consumers_of};
+ghost use Rattle.pulsar_client.specs.KeptConsumers.{consumers_in};
 ghost use Rattle.pulsar_client.specs.Reading.{acknowledges, leaves, revived_said, subscribes, subscribes_by, tells_word};
 ghost use Rattle.pulsar_client.specs.Rules.{below};
 ghost use Rattle.pulsar_client.specs.Run.{goes_on};
@@ -85,7 +85,7 @@ impl Tables {
         id: MessageIdData,
         cumulative: bool,
     ) -> Result<Procedure, NoMemory>
-        ensures { IfOk result (λ p. p ≡ acknowledges (consumers_of self.now.consumers) ticket (λ n. SendAck n (message_id_values id ∷ []) cumulative)) }
+        ensures { IfOk result (λ p. p ≡ acknowledges (consumers_in self.now.consumers.rows self.now.consumers.numbers) ticket (λ n. SendAck n (message_id_values id ∷ []) cumulative)) }
     {
         let mut ids = Vec::new(self.alloc);
         ids.push(id)?;
@@ -105,7 +105,7 @@ impl Tables {
         ticket: u64,
         id: MessageIdData,
     ) -> Result<Procedure, NoMemory>
-        ensures { IfOk result (λ p. p ≡ acknowledges (consumers_of self.now.consumers) ticket (λ n. SendRedeliver n (message_id_values id ∷ []))) }
+        ensures { IfOk result (λ p. p ≡ acknowledges (consumers_in self.now.consumers.rows self.now.consumers.numbers) ticket (λ n. SendRedeliver n (message_id_values id ∷ []))) }
     {
         let mut ids = Vec::new(self.alloc);
         ids.push(id)?;
@@ -132,7 +132,7 @@ impl Tables {
 
     /// A consumer is to be closed.
     pub(super) fn leaves(&self, ticket: u64) -> Procedure
-        ensures { result ≡ leaves (consumers_of self.now.consumers) ticket }
+        ensures { result ≡ leaves (consumers_in self.now.consumers.rows self.now.consumers.numbers) ticket }
     {
         match self.consumers.why_not(ticket) {
             Some(refusal) => Procedure::Refuse(refusal),

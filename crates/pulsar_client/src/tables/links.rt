@@ -8,7 +8,7 @@ ghost use Rattle.pulsar_client.specs.Kept.{addresses_of, live_in};
 ghost use Rattle.pulsar_client.specs.Rules.{breaks_at, reads_on, served_on, waiters_of};
 ghost use Rattle.pulsar_client.specs.Run.{goes_on};
 ghost use Rattle.pulsar_client.specs.Consumers.{all_changed, hears, over_rows};
-ghost use Rattle.pulsar_client.specs.KeptConsumers.{consumers_of};
+ghost use Rattle.pulsar_client.specs.KeptConsumers.{consumers_in};
 ghost use Rattle.pulsar_client.specs.Reading.{heard_at};
 ghost use Rattle.pulsar_client.specs.Tables.{agenda_of, chosen_of, retry_set, retry_shown, turned_view, view_of, welcomed};
 ghost use Rattle.pulsar_client.specs.View.{after};
@@ -120,8 +120,8 @@ impl Tables {
         tasks: &mut Tasks,
     ) -> Result<(), NoMemory>
         ensures left { OnOk result (agenda_of tasks.new ≡ record (agenda_of tasks.old) { now = breaks_at link arrival ++ tasks.old.now.items }) }
-        ensures notices { OnOk result (notices.new.items ≡ notices.old.items ++ over_rows (heard_at link arrival) (consumers_of self.old.consumers)) }
-        ensures sees { OnOk result (view_of self.new ≡ record (view_of self.old) { consumers = all_changed (hears link arrival) (consumers_of self.old.consumers) }) }
+        ensures notices { OnOk result (notices.new.items ≡ notices.old.items ++ over_rows (heard_at link arrival) (consumers_in self.old.consumers.rows self.old.consumers.numbers)) }
+        ensures sees { OnOk result (view_of self.new ≡ record (view_of self.old) { consumers = all_changed (hears link arrival) (consumers_in self.old.consumers.rows self.old.consumers.numbers) }) }
         ensures settings { self.new.settings ≡ self.old.settings }
     {
         match arrival {

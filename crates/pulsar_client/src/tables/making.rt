@@ -3,7 +3,7 @@
 ghost use Rattle.std.specs.Prelude.{◌≡◌, IfOk, OnOk};
 ghost use Rattle.std.specs.Option.{option_to_list};
 ghost use Rattle.pulsar_client.specs.Kept.{live_in, producers_of};
-ghost use Rattle.pulsar_client.specs.KeptConsumers.{consumers_of, member_in};
+ghost use Rattle.pulsar_client.specs.KeptConsumers.{consumers_in, member_in};
 ghost use Rattle.pulsar_client.specs.Reading.{due_to, made_due, serves_by};
 ghost use Rattle.pulsar_client.specs.Rules.{left_with};
 ghost use Rattle.pulsar_client.specs.Tables.{chosen_of, view_of};
@@ -26,7 +26,7 @@ impl Tables {
     /// What a verdict makes has the ticket of its call: what a consumer is told that is made.
     pub(super) fn makes(&mut self, who: Who, makes: Makes) -> Result<Option<Notice>, NoMemory>
         ensures due { IfOk result (λ n. option_to_list n ≡ made_due (live_in self.old.links.live) who makes) }
-        ensures sees { OnOk result (view_of self.new ≡ record (view_of self.old) { consumers = consumers_made (live_in self.old.links.live) who makes (consumers_of self.old.consumers); producers = producers_made (chosen_of self.old.settings) who makes (producers_of self.old.producers) }) }
+        ensures sees { OnOk result (view_of self.new ≡ record (view_of self.old) { consumers = consumers_made (live_in self.old.links.live) who makes (consumers_in self.old.consumers.rows self.old.consumers.numbers); producers = producers_made (chosen_of self.old.settings) who makes (producers_of self.old.producers) }) }
         ensures settings { self.new.settings ≡ self.old.settings }
     {
         match makes {
@@ -51,7 +51,7 @@ impl Tables {
     /// A consumer was built. A flow of it is due.
     fn joins(&mut self, who: Who, joined: Joined) -> Result<Option<Notice>, NoMemory>
         ensures due { IfOk result (λ n. option_to_list n ≡ due_to (ticket_of who) (member_on (live_in self.old.links.live) joined.link (setup_of joined))) }
-        ensures sees { OnOk result (view_of self.new ≡ record (view_of self.old) { consumers = consumers_made (live_in self.old.links.live) who (Makes.Consumer joined) (consumers_of self.old.consumers) }) }
+        ensures sees { OnOk result (view_of self.new ≡ record (view_of self.old) { consumers = consumers_made (live_in self.old.links.live) who (Makes.Consumer joined) (consumers_in self.old.consumers.rows self.old.consumers.numbers) }) }
         ensures settings { self.new.settings ≡ self.old.settings }
     {
         let Joining {
@@ -70,7 +70,7 @@ impl Tables {
 
     /// A raw consumer was made.
     fn joins_raw(&mut self, who: Who, link: u64, made: Subscribed) -> Result<(), NoMemory>
-        ensures sees { OnOk result (view_of self.new ≡ record (view_of self.old) { consumers = consumers_made (live_in self.old.links.live) who (Makes.RawConsumer link made) (consumers_of self.old.consumers) }) }
+        ensures sees { OnOk result (view_of self.new ≡ record (view_of self.old) { consumers = consumers_made (live_in self.old.links.live) who (Makes.RawConsumer link made) (consumers_in self.old.consumers.rows self.old.consumers.numbers) }) }
         ensures settings { self.new.settings ≡ self.old.settings }
     {
         let url = self.links.url(link)?;
@@ -81,7 +81,7 @@ impl Tables {
 
     /// A consumer has the ticket of the call that makes it.
     fn joins_as(&mut self, who: Who, row: ConsumerRow) -> Result<(), NoMemory>
-        ensures sees { OnOk result (view_of self.new ≡ record (view_of self.old) { consumers = joins_as who (member_in row) (consumers_of self.old.consumers) }) }
+        ensures sees { OnOk result (view_of self.new ≡ record (view_of self.old) { consumers = joins_as who (member_in row) (consumers_in self.old.consumers.rows self.old.consumers.numbers) }) }
         ensures settings { self.new.settings ≡ self.old.settings }
     {
         match who {
@@ -95,7 +95,7 @@ impl Tables {
 
     /// A call that has ended holds no number.
     pub(super) fn frees(&mut self, who: Who)
-        ensures sees { view_of self.new ≡ record (view_of self.old) { consumers = consumers_left who (consumers_of self.old.consumers) } }
+        ensures sees { view_of self.new ≡ record (view_of self.old) { consumers = consumers_left who (consumers_in self.old.consumers.rows self.old.consumers.numbers) } }
         ensures settings { self.new.settings ≡ self.old.settings }
     {
         match who {

@@ -11,13 +11,13 @@ use Rattle.pulsar_calls.specs.declared.act.LinkAct.TheVariants.{Ends}
 use Rattle.pulsar_calls.specs.declared.act.Part.TheVariants.{ToLink}
 use Rattle.pulsar_client.specs.Kept.{producers_of, seat_of}
 use Rattle.pulsar_client.specs.Rules.{idle_act_at}
-use Rattle.pulsar_client.specs.KeptConsumers.{consumers_of}
+use Rattle.pulsar_client.specs.KeptConsumers.{consumers_in}
 use Rattle.pulsar_client.proofs.Idle.{all_give}
 use Rattle.pulsar_client.proofs.links.ends_idle.Goals as goal
 
 pub loop-link-preserved : goal.loop-link-preserved
 loop-link-preserved c =
-    let readers = consumers_of c.args.consumers.now in
+    let readers = consumers_in c.args.consumers.now.rows c.args.consumers.now.numbers in
     let gives = λ (e : ℕ × Row). idle_act_at c.args.now c.args.most readers (producers_of c.args.producers.now) e.0 (seat_of e.1) in
     let seen = map deref_pair c.loop-link.yielded in
     let link = c.in-Some.link.now in
@@ -32,7 +32,7 @@ loop-link-preserved c =
 pub returns-clause-ends : goal.returns-clause-ends
 returns-clause-ends c =
     let live = c.args.live.now in
-    let idles = idle_act_at c.args.now c.args.most (consumers_of c.args.consumers.now) (producers_of c.args.producers.now) in
+    let idles = idle_act_at c.args.now c.args.most (consumers_in c.args.consumers.now.rows c.args.consumers.now.numbers) (producers_of c.args.producers.now) in
     let gives = c.into_iter-link-iterator.ensures.into_iter_gives in
     let whole = iter_end deref_pair live.entries c.loop-link.yielded _ _ _ _ gives.0 c.loop-link.yielded_by c.in-None.is c.next.ensures.steps in
     c.loop-link.invariant ∙ ap (flat_map (λ e. idles e.0 (seat_of e.1))) whole.0 ∙ all_give idles live gives.5

@@ -2,7 +2,7 @@ use Rattle.std.proofs.Common.{◌∙◌, ap, length, nat_le, nat_lt, not, ◌&&�
 use Rattle.pulsar_requests.specs.Waits.{is_empty}
 use Rattle.pulsar_session.specs.Link.{is_ready}
 use Rattle.pulsar_client.specs.Consumers.{is_heard}
-use Rattle.pulsar_client.specs.KeptConsumers.{consumers_of}
+use Rattle.pulsar_client.specs.KeptConsumers.{consumers_in}
 use Rattle.pulsar_client.specs.View.{later}
 use Rattle.pulsar_client.proofs.Idle.{idle_is}
 use Rattle.pulsar_client.proofs.links.is_idle.Goals as goal
@@ -15,7 +15,7 @@ returns c =
     let late = nat_le (later row.got c.args.most) c.args.now in
     let empty = is_empty seen.waits.waiting in
     let standing = length seen.line in
-    let consumers = consumers_of c.args.consumers.now in
+    let consumers = consumers_in c.args.consumers.now.rows c.args.consumers.now.numbers in
     let heard = c.hears_on-is_heard.result in
     let held = c.holds-is_held.result in
     c.is_unused.ensures

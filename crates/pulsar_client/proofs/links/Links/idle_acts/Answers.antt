@@ -1,7 +1,7 @@
 use Rattle.std.proofs.Common.{◌∙◌}
 use Rattle.pulsar_client.specs.Kept.{producers_of}
 use Rattle.pulsar_client.specs.Rules.{idle_act_at}
-use Rattle.pulsar_client.specs.KeptConsumers.{consumers_of}
+use Rattle.pulsar_client.specs.KeptConsumers.{consumers_in}
 use Rattle.pulsar_client.proofs.Timing.{all_live}
 use Rattle.pulsar_client.proofs.links.Links.idle_acts.Goals as goal
 
@@ -9,5 +9,5 @@ pub returns : goal.returns
 returns c =
     let links = c.args.self.now in
     c.in_ok-acts.ensures.ends
-    ∙ all_live (idle_act_at c.args.now c.args.most (consumers_of c.args.consumers.now) (producers_of c.args.producers.now)) links.started links.live (links.fresh c.if-self.false)
+    ∙ all_live (idle_act_at c.args.now c.args.most (consumers_in c.args.consumers.now.rows c.args.consumers.now.numbers) (producers_of c.args.producers.now)) links.started links.live (links.fresh c.if-self.false)
     c.in_ok-acts.ensures.ordered

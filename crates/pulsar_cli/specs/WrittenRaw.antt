@@ -251,8 +251,8 @@ pub record CanBeMade (o : ProducerOptionsValues) : Type 0 where
   pub schema : Where IsSchema o.schema
 
 -- so are those of a subscription
-pub record CanSubscribe (name : Option (List ℕ)) (o : ConsumerOptionsValues) : Type 0 where
-  pub name : Where IsText name
+pub record CanSubscribe (called : Option (List ℕ)) (o : ConsumerOptionsValues) : Type 0 where
+  pub name : Where IsText called
   pub priority_level : Where IsUnsigned o.priority_level
   pub start_message_id : Where IsId o.start_message_id
   pub metadata : AllByRecursion IsProperty o.metadata

@@ -78,7 +78,8 @@ fn all(alloc: Global, words: &[&[u8]]) -> Result<Option<Draft>, NoMemory>
 {
     let mut draft = blank(alloc);
     for word in words {
-        if !one(alloc, &mut draft, word)? {
+        let taken = one(alloc, &mut draft, word)?;
+        if !taken {
             return Ok(None);
         }
     }

@@ -1,0 +1,16 @@
+use Rattle.std.proofs.Common.{◌≡◌, ◌++◌, ℕ, not, take}
+use Rattle.std.specs.BTreeMap.{keys}
+use Rattle.std.specs.List.{flat_map}
+use Rattle.pulsar_calls.specs.declared.act.Word.TheVariants.{Lost, Over}
+use Rattle.pulsar_consumer.specs.Topic.{Ends, Loses, resubscribes}
+use Rattle.pulsar_consumer.specs.declared.polled.Ending.TheVariants.{Closed}
+use Rattle.pulsar_client.specs.Consumers.{at_row, hears_frame, member_after, word_if, word_of_frame}
+use Rattle.pulsar_client.specs.KeptConsumers.{rows_in, some_changed}
+use Rattle.pulsar_client.specs.Reading.{word_to}
+use Rattle.pulsar_client.proofs.consumers.hearing.lose_all.Given as goal
+
+abbrev pub invariant-loop-ticket : goal.invariant-loop-ticket
+invariant-loop-ticket l =
+    (l.notices.items ≡ flat_map (at_row (λ t m. word_to t m (word_if (resubscribes l.link m.seen) Lost)) (rows_in l.fn.rows)) (take l.ticket-index l.tickets))
+    × ((t : ℕ) → rows_in l.rows t ≡ some_changed (take l.ticket-index l.tickets) (member_after (Loses l.link)) (rows_in l.fn.rows) t)
+    × (keys l.rows ≡ keys l.fn.rows)

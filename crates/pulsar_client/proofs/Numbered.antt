@@ -13,10 +13,10 @@ use Rattle.pulsar_consumer.specs.Frames.{frame_in}
 use Rattle.pulsar_consumer.specs.Topic as topic
 use Rattle.pulsar_consumer.specs.Topic.{Act, Lives, Hears, Loses, Fails, Ends, Polls, Asks, Seen, counts_first, first_of, is_ended, lives_on}
 use Rattle.pulsar_consumer.specs.declared.polled.Ending.{Ending}
-use Rattle.pulsar_consumer.specs.declared.polled.Ending.TheVariants.{TopicEnded}
+use Rattle.pulsar_consumer.specs.declared.polled.Ending.TheVariants.{Stopped, TopicEnded}
 use Rattle.pulsar_client.specs.declared.consumers.row.Sought.{Sought}
 use Rattle.pulsar_client.specs.declared.consumers.row.Sought.TheVariants.{Found, Gone, Later}
-use Rattle.pulsar_client.specs.Consumers.{Member, ends_on, has_number, hears_frame, member_after, seeks, sought, waits_so}
+use Rattle.pulsar_client.specs.Consumers.{Member, ends_on, has_number, hears_frame, member_after, seeks, sought, stopped, waits_so}
 use Rattle.pulsar_client.specs.KeptConsumers.{AreListed, is_listed, listed_at, one_changed, some_changed}
 
 -- WHAT IS DONE TO ONE keeps its number, and it does not begin anew
@@ -113,3 +113,12 @@ module _ (listing : BTreeMap ℕ (BTreeSet ℕ)) (rows : ℕ → Option Member) 
       AreListed listing' after
   some_listed listing' ts f after holds is kept u n h =
       kept u n h (listed u n (either_holds f holds (is_listed u ts) n (rows u) (ap (has_number n) (sym (is u)) ∙ h)))
+
+-- once the client is stopped nobody has a number
+pub stopped_none : (n : ℕ) (row : Option Member) → has_number n (option_map stopped row) ≡ false
+stopped_none n None = refl
+stopped_none n (Some m) = by m.seen.ended
+  where
+    by : (o : Option Ending) → (not (is_some (option_or o (Some Stopped))) && (m.seen.number == n)) ≡ false
+    by None = refl
+    by (Some why) = refl

@@ -192,7 +192,7 @@ impl ConsumerRow {
         if let Some(url) = url {
             self.consumer.inner.subscribe(link, url)?;
         }
-        self.seekers.clear();
+        self.forget_seekers();
         Ok(())
     }
 
@@ -201,7 +201,7 @@ impl ConsumerRow {
         ensures { OnOk result (member_in self.new ≡ failed refusal (member_in self.old)) }
     {
         self.consumer.inner.fail(refusal)?;
-        self.seekers.clear();
+        self.forget_seekers();
         Ok(())
     }
 
@@ -210,7 +210,14 @@ impl ConsumerRow {
         ensures { member_in self.new ≡ stopped (member_in self.old) }
     {
         self.consumer.inner.end(Ending::Stopped);
-        self.seekers.clear();
+        self.forget_seekers();
+    }
+
+    /// Nobody waits for its link any longer.
+    fn forget_seekers(&mut self)
+        ensures { member_in self.new ≡ unsought (member_in self.old) }
+    {
+        self.seekers = Vec::new(*self.seekers.allocator());
     }
 
     /// What it gives to a poll at this moment.

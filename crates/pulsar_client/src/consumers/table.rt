@@ -294,6 +294,7 @@ impl Consumers {
         self.failed = true;
         stop_seekers(&self.rows, notices)?;
         stop_all(&mut self.rows);
+        self.listing = BTreeMap::new(self.alloc);
         self.failed = false;
         Ok(())
     }

@@ -11,7 +11,7 @@ ghost use Rattle.pulsar_consumer.specs.declared.polled.Ending.{Ending};
 ghost use Rattle.pulsar_consumer.specs.Topic.{Asks, Ends, Loses, Polls, lives_on, resubscribes};
 ghost use Rattle.pulsar_client.specs.Consumers as meaning;
 ghost use Rattle.pulsar_client.specs.Consumers.{at_row, flow_at, hears_frame, lives_at, member_after, polled, sought, word_if, word_of_frame};
-ghost use Rattle.pulsar_client.specs.KeptConsumers.{is_listed, listed_at, member_in, one_changed, rows_in, some_changed};
+ghost use Rattle.pulsar_client.specs.KeptConsumers.{KeepsListed, listed_at, member_in, one_changed, rows_in, some_changed};
 ghost use Rattle.pulsar_client.specs.Reading.{again, again_at, due_at, polled_due, revived_at, stopped_one, stopped_seekers, word_to};
 
 use crate::consumers::listing::{Listing, listed, unlist};
@@ -180,7 +180,7 @@ pub fn prune_each(
     rows: &BTreeMap<u64, ConsumerRow>,
     tickets: &[u64],
 ) -> Result<(), NoMemory>
-    ensures { OnOk result ((t n : ℕ) → meaning.has_number n (rows_in rows.now t) ≡ true → is_listed t (listed_at listing.old n) ≡ true → is_listed t (listed_at listing.new n) ≡ true) }
+    ensures { OnOk result (KeepsListed listing.old listing.new (rows_in rows.now)) }
 {
     for ticket in tickets {
         prune(listing, rows, number_at(rows, *ticket), *ticket)?;
@@ -255,7 +255,7 @@ pub fn prune_all(
     number: u64,
     tickets: &[u64],
 ) -> Result<(), NoMemory>
-    ensures { OnOk result ((t n : ℕ) → meaning.has_number n (rows_in rows.now t) ≡ true → is_listed t (listed_at listing.old n) ≡ true → is_listed t (listed_at listing.new n) ≡ true) }
+    ensures { OnOk result (KeepsListed listing.old listing.new (rows_in rows.now)) }
 {
     for ticket in tickets {
         prune(listing, rows, number, *ticket)?;
@@ -263,17 +263,17 @@ pub fn prune_all(
     Ok(())
 }
 
-/// A consumer that has a number no more is not listed under it.
+/// A consumer that is not to be found by a number is not listed under it.
 fn prune(
     listing: &mut Listing,
     rows: &BTreeMap<u64, ConsumerRow>,
     number: u64,
     ticket: u64,
 ) -> Result<(), NoMemory>
-    ensures { OnOk result ((t n : ℕ) → meaning.has_number n (rows_in rows.now t) ≡ true → is_listed t (listed_at listing.old n) ≡ true → is_listed t (listed_at listing.new n) ≡ true) }
+    ensures { OnOk result (KeepsListed listing.old listing.new (rows_in rows.now)) }
 {
     match rows.get(&ticket) {
-        Some(row) if row.has_number(number) => Ok(()),
+        Some(row) if row.is_known(number) => Ok(()),
         _ => unlist(listing, number, ticket),
     }
 }
@@ -386,7 +386,7 @@ pub fn fail_at(
     ensures notices { IfOk result (λ ns. ns.items ≡ again_at (rows_in rows.old ticket)) }
     ensures rows { OnOk result ((t : ℕ) → rows_in rows.new t ≡ one_changed ticket (meaning.failed refusal) (rows_in rows.old) t) }
     ensures tickets { OnOk result (keys rows.new ≡ keys rows.old) }
-    ensures listed { OnOk result ((t n : ℕ) → meaning.has_number n (rows_in rows.new t) ≡ true → is_listed t (listed_at listing.old n) ≡ true → is_listed t (listed_at listing.new n) ≡ true) }
+    ensures listed { OnOk result (KeepsListed listing.old listing.new (rows_in rows.new)) }
 {
     let mut notices = Vec::new(alloc);
     let Some(row) = rows.get_mut(&ticket) else {

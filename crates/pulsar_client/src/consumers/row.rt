@@ -8,7 +8,7 @@ ghost use Rattle.pulsar_consumer.specs.Topic.{Ends, Hears, Lives, Loses, Polls, 
 ghost use Rattle.pulsar_consumer.specs.Frames.{frame_in};
 ghost use Rattle.pulsar_client.specs.Consumers as meaning;
 ghost use Rattle.pulsar_client.specs.Consumers.{ends_on, failed, flow_at, hears_frame, member_after, polled, polled_item, polled_so, revived, seeks, sought, stopped, subscribed_on, unsought, who_of, word_if, word_of_frame};
-ghost use Rattle.pulsar_client.specs.KeptConsumers.{member_in};
+ghost use Rattle.pulsar_client.specs.KeptConsumers.{is_known, member_in};
 
 use pulsar_calls::act::{Who, Word};
 use pulsar_calls::effect::{Effect, Handed};
@@ -72,6 +72,14 @@ impl ConsumerRow {
         ensures { result ≡ (not (is_ended (member_in self.now).seen) && ((member_in self.now).seen.number == number)) }
     {
         !self.consumer.inner.is_ended() && self.consumer.inner.number() == number
+    }
+
+    /// It is to be found by this number: it has not ended, or lives on a link.
+    pub fn is_known(&self, number: u64) -> bool
+        ensures { result ≡ is_known number (Some (member_in self.now)) }
+    {
+        let is_there = !self.consumer.inner.is_ended() || self.consumer.inner.link().is_some();
+        self.consumer.inner.number() == number && is_there
     }
 
     /// A frame for its number comes on a link: what its plan is told.

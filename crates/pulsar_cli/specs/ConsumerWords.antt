@@ -166,12 +166,21 @@ pub record Subscriber : Type 0 where
   pub name : Option (List ℕ)
   pub options : ConsumerOptionsValues
 
--- anything else is said of a consumer
+-- topics are named
+abbrev pub names_topics : ConsumerWanted → Bool
+names_topics w = nat_lt 0 (length w.topics) || is_some w.topic_prefix || is_some w.namespace || is_some w.topic_refresh
+
+-- a subscription is, or a number
+abbrev pub names_subscription : ConsumerWanted → Bool
+names_subscription w = is_some w.subscription || is_some w.subscription_type || is_some w.consumer_id
+
+-- it is said how many messages come, or what becomes of them
+abbrev pub limits_messages : ConsumerWanted → Bool
+limits_messages w =
+    is_some w.batch_size || is_some w.options.receiver_queue_size || is_some w.dead_letter_policy || is_some w.unacked_message_resend_delay
+
 abbrev pub says_more : ConsumerWanted → Bool
-says_more w =
-    nat_lt 0 (length w.topics) || is_some w.topic_prefix || is_some w.subscription || is_some w.subscription_type || is_some w.namespace
-    || is_some w.topic_refresh || is_some w.consumer_id || is_some w.batch_size || is_some w.dead_letter_policy
-    || is_some w.unacked_message_resend_delay || is_some w.options.receiver_queue_size
+says_more w = names_topics w || names_subscription w || limits_messages w
 
 abbrev pub subscriber_in : ConsumerWanted → Option Subscriber
 subscriber_in w = if says_more w then None else Some (record { name = w.consumer_name; options = w.options })

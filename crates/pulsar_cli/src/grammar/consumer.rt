@@ -3,7 +3,7 @@
 ghost use Rattle.std.specs.Prelude.{◌≡◌, Some, IfOk, OnOk, map, string_bytes};
 ghost use Rattle.std.specs.Option.{option_map};
 ghost use Rattle.pulsar_consumer.specs.Content.{consumer_wanted};
-ghost use Rattle.pulsar_cli.specs.ConsumerWords.{all, batch, blank, compacted, consumer, consumer_id, durable, initial_position, kind, level, meta, name, namespace, one, option_part, part, priority, queue, says_more, schema, start, subscription, topic, who_subscribes, with_meta};
+ghost use Rattle.pulsar_cli.specs.ConsumerWords.{all, batch, blank, compacted, consumer, consumer_id, durable, initial_position, kind, level, limits_messages, meta, name, names_subscription, names_topics, namespace, one, option_part, part, priority, queue, says_more, schema, start, subscription, topic, who_subscribes, with_meta};
 ghost use Rattle.pulsar_cli.specs.Parsed.{consumer_draft_of, subscriber_of, taken_in};
 
 use crate::grammar::choice::{flag, position, sub_type};
@@ -59,17 +59,36 @@ pub fn who_subscribes(alloc: Global, words: &[&[u8]]) -> Result<Option<Subscribe
 fn says_more(builder: &ConsumerBuilder) -> bool
     ensures { result ≡ says_more (consumer_wanted builder.now) }
 {
+    names_topics(builder) || names_subscription(builder) || limits_messages(builder)
+}
+
+/// Topics are named.
+fn names_topics(builder: &ConsumerBuilder) -> bool
+    ensures { result ≡ names_topics (consumer_wanted builder.now) }
+{
     !builder.topics.is_empty()
         || builder.topic_prefix.is_some()
-        || builder.subscription.is_some()
-        || builder.subscription_type.is_some()
         || builder.namespace.is_some()
         || builder.topic_refresh.is_some()
+}
+
+/// A subscription is named, or a number.
+fn names_subscription(builder: &ConsumerBuilder) -> bool
+    ensures { result ≡ names_subscription (consumer_wanted builder.now) }
+{
+    builder.subscription.is_some()
+        || builder.subscription_type.is_some()
         || builder.consumer_id.is_some()
-        || builder.batch_size.is_some()
+}
+
+/// It is said how many messages come, or what becomes of them.
+fn limits_messages(builder: &ConsumerBuilder) -> bool
+    ensures { result ≡ limits_messages (consumer_wanted builder.now) }
+{
+    builder.batch_size.is_some()
+        || builder.options.receiver_queue_size.is_some()
         || builder.dead_letter_policy.is_some()
         || builder.unacked_message_resend_delay.is_some()
-        || builder.options.receiver_queue_size.is_some()
 }
 
 /// What all words say.

@@ -15,8 +15,8 @@ use Rattle.pulsar_calls.specs.declared.act.Word.TheVariants as word
 use Rattle.pulsar_consumer.specs.Frames.{frame_in}
 use Rattle.pulsar_consumer.specs.Topic as topic
 use Rattle.pulsar_consumer.specs.Topic.{Hears, Ends, Loses, is_due as is_flow_due, lives_on, resubscribes}
-use Rattle.pulsar_consumer.specs.declared.polled.Ending.TheVariants.{TopicEnded}
-use Rattle.pulsar_client.specs.Consumers.{Consumers, Member, all_changed, at_row, ends_on, hears, hears_frame, lives_with, member_after, word_if, word_of_frame}
+use Rattle.pulsar_consumer.specs.declared.polled.Ending.TheVariants.{Closed, TopicEnded}
+use Rattle.pulsar_client.specs.Consumers.{Consumers, Member, all_changed, at_row, closes, ends_on, hears, hears_frame, lives_at, lives_with, member_after, word_if, word_of_close, word_of_frame}
 use Rattle.pulsar_client.specs.KeptConsumers.{is_listed}
 use Rattle.pulsar_client.specs.Reading.{heard_at, word_to}
 use Rattle.pulsar_client.proofs.Places.{by_keys}
@@ -44,7 +44,7 @@ same_gives g ks ls k l none_k none_l =
 
 -- WHO IS LISTED, AMONG THOSE THAT PASS A TEST
 
-filtered : (test : ℕ → Bool) (ts : List ℕ) (t : ℕ) → is_listed t (filter test ts) ≡ (is_listed t ts && test t)
+pub filtered : (test : ℕ → Bool) (ts : List ℕ) (t : ℕ) → is_listed t (filter test ts) ≡ (is_listed t ts && test t)
 filtered test [] t = refl
 filtered test (u ∷ ts) t = elim (cases_Bool (u == t)) [
   | inl e ↦
@@ -118,27 +118,46 @@ module _ (n l : ℕ) (r : Reply) where
       by true false h = ap Some (sym (unheard l r m h))
       by false b h = refl
 
-  abbrev tells : ℕ → Member → List Notice
-  tells t m = word_to t m (word_of_frame l r m)
+  pub none_told : (t : ℕ) (m : Member) → lives_with n l (Some m) ≡ false → heard_at l (Gives n r) t m ≡ []
+  none_told t m h = elim (cases_Bool (m.seen.number == n)) [
+    | inl e ↦
+        (let away : lives_on l m.seen ≡ false = sym (ap (λ b. b && lives_on l m.seen) e) ∙ h in
+        ap (word_to t m) (ap (λ b. cond b (word_of_frame l r m) None) e ∙ untold l r m away))
+    | inr e ↦ ap (λ b. word_to t m (cond b (word_of_frame l r m) None)) e
+  ]
 
-  pub none_told : (rows : ℕ → Option Member) (t : ℕ) → lives_with n l (rows t) ≡ false → at_row (heard_at l (Gives n r)) rows t ≡ []
-  none_told rows t = by (rows t)
-    where
-      by : (row : Option Member) → lives_with n l row ≡ false → flat_map (heard_at l (Gives n r) t) (option_to_list row) ≡ []
-      by None h = refl
-      by (Some m) h = elim (cases_Bool (m.seen.number == n)) [
-        | inl e ↦
-            (let away : lives_on l m.seen ≡ false = sym (ap (λ b. b && lives_on l m.seen) e) ∙ h in
-            ap (λ w. word_to t m w ++ []) (ap (λ b. cond b (word_of_frame l r m) None) e ∙ untold l r m away))
-        | inr e ↦ ap (λ b. word_to t m (cond b (word_of_frame l r m) None) ++ []) e
-      ]
+  pub same_told : (t : ℕ) (m : Member) → lives_with n l (Some m) ≡ true → word_to t m (word_of_frame l r m) ≡ heard_at l (Gives n r) t m
+  same_told t m h = sym (ap (λ b. word_to t m (cond b (word_of_frame l r m) None)) (and_parts (m.seen.number == n) (lives_on l m.seen) h).0)
 
-  pub same_told : (rows : ℕ → Option Member) (t : ℕ) → lives_with n l (rows t) ≡ true → at_row (heard_at l (Gives n r)) rows t ≡ at_row tells rows t
-  same_told rows t = by (rows t)
+-- A LOSS, AND A CLOSE
+
+module _ (l : ℕ) where
+  pub none_lost : (t : ℕ) (m : Member) → lives_at l (Some m) ≡ false → word_to t m (word_if (resubscribes l m.seen) word.Lost) ≡ []
+  none_lost t m h = ap (λ b. word_to t m (word_if (b && not m.seen.is_raw) word.Lost)) h
+
+  pub lost_by : (row : Option Member) → cond (lives_at l row) (option_map (member_after (Loses l)) row) row ≡ option_map (member_after (Loses l)) row
+  lost_by None = refl
+  lost_by (Some m) = by (lives_on l m.seen) refl
     where
-      by : (row : Option Member) → lives_with n l row ≡ true → flat_map (heard_at l (Gives n r) t) (option_to_list row) ≡ flat_map (tells t) (option_to_list row)
-      by None h = absurd (false≢true h)
-      by (Some m) h = ap (λ b. word_to t m (cond b (word_of_frame l r m) None) ++ []) (and_parts (m.seen.number == n) (lives_on l m.seen) h).0
+      by : (b : Bool) → lives_on l m.seen ≡ b → cond b (Some (member_after (Loses l) m)) (Some m) ≡ Some (member_after (Loses l) m)
+      by true h = refl
+      by false h = ap Some (sym (unlost l m h))
+
+module _ (n l : ℕ) where
+  pub none_closed : (t : ℕ) (m : Member) → lives_with n l (Some m) ≡ false → word_to t m (word_of_close (Some n) l true m) ≡ []
+  none_closed t m h = ap (λ b. word_to t m (word_if (b && not m.seen.is_raw) word.Over)) h
+
+  pub same_closed : (t : ℕ) (m : Member) → lives_with n l (Some m) ≡ true →
+      word_to t m (word_if (not m.seen.is_raw) word.Over) ≡ word_to t m (word_of_close (Some n) l true m)
+  same_closed t m h = sym (ap (λ b. word_to t m (word_if (b && not m.seen.is_raw) word.Over)) h)
+
+  pub closed_by : (row : Option Member) → cond (lives_with n l row) (option_map (member_after (Ends Closed)) row) row ≡ option_map (closes (Some n) l true) row
+  closed_by None = refl
+  closed_by (Some m) = by (lives_with n l (Some m))
+    where
+      by : (b : Bool) → cond b (Some (member_after (Ends Closed) m)) (Some m) ≡ Some (cond b (member_after (Ends Closed) m) m)
+      by true = refl
+      by false = refl
 
 -- WHAT TELLS NOBODY ANYTHING, AND CHANGES NOTHING
 

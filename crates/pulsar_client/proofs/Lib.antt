@@ -9,6 +9,7 @@ pub mod Idle
 pub mod Rows
 pub mod Hearing
 pub mod Numbered
+pub mod Finding
 pub mod Several
 pub mod Waiting
 pub mod Steps

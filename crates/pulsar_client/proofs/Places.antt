@@ -65,10 +65,10 @@ module _ {A : Type 0} (g : ℕ → List A) where
 
 -- THE SAME BY KEYS IN ORDER
 
-swapped : (a b : ℕ) → (a == b) ≡ (b == a)
+pub swapped : (a b : ℕ) → (a == b) ≡ (b == a)
 swapped a b = grind (arith, nat_tests)
 
-listed_is : (l : ℕ) (ks : List ℕ) → list_any (is_at (nat_cmp l)) ks ≡ is_listed l ks
+pub listed_is : (l : ℕ) (ks : List ℕ) → list_any (is_at (nat_cmp l)) ks ≡ is_listed l ks
 listed_is l [] = refl
 listed_is l (k ∷ ks) = ap (λ b. b || list_any (is_at (nat_cmp l)) ks) (is_at-eqb l k ∙ swapped l k) ∙ ap (λ b. (k == l) || b) (listed_is l ks)
 

@@ -50,7 +50,7 @@ pub some_one : (test : ℕ → Bool) (ts : List ℕ) → list_any test ts ≡ tr
 some_one test [] h = absurd (false≢true h)
 some_one test (t ∷ ts) h = elim (cases_Bool (test t)) [ inl y ↦ (t, y) | inr n ↦ some_one test ts (rw n at h) ]
 
-any_key : {X : Type 0} (test : ℕ → Bool) (t : ℕ) (same : (u : ℕ) → is_at (nat_cmp t) u ≡ true → test u ≡ true) (es : List (ℕ × X)) →
+pub any_key : {X : Type 0} (test : ℕ → Bool) (t : ℕ) (same : (u : ℕ) → is_at (nat_cmp t) u ≡ true → test u ≡ true) (es : List (ℕ × X)) →
     is_some (lookup (is_at (nat_cmp t)) es) ≡ true → list_any test (keys_of es) ≡ true
 any_key test t same [] h = absurd (false≢true h)
 any_key test t same (e ∷ es) h = elim (cases_Bool (is_at (nat_cmp t) e.0)) [

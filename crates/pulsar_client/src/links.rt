@@ -191,7 +191,7 @@ impl Links {
         consumers: &Consumers,
         producers: &Producers,
     ) -> Result<VecDeque<Act>, NoMemory>
-        ensures { IfOk result (λ acts. acts.items ≡ over_links (idle_act_at now most (consumers_in c.rows c.numbersonsumers.now) (producers_of producers.now)) (links_in self.now.started self.now.live)) }
+        ensures { IfOk result (λ acts. acts.items ≡ over_links (idle_act_at now most (consumers_in consumers.now.rows consumers.now.numbers) (producers_of producers.now)) (links_in self.now.started self.now.live)) }
     {
         if self.failed {
             return Err(NoMemory);
@@ -401,7 +401,7 @@ fn ends_idle(
     consumers: &Consumers,
     producers: &Producers,
 ) -> Result<VecDeque<Act>, NoMemory>
-    ensures ends { IfOk result (λ acts. acts.items ≡ flat_map (on_link (idle_act_at now most (consumers_in c.rows c.numbersonsumers.now) (producers_of producers.now)) (live_in live.now)) (keys live.now)) }
+    ensures ends { IfOk result (λ acts. acts.items ≡ flat_map (on_link (idle_act_at now most (consumers_in consumers.now.rows consumers.now.numbers) (producers_of producers.now)) (live_in live.now)) (keys live.now)) }
     ensures ordered { OnOk result (IsOrdered nat_cmp live.now) }
 {
     let mut acts = VecDeque::new(alloc);
@@ -421,7 +421,7 @@ fn is_idle(
     consumers: &Consumers,
     producers: &Producers,
 ) -> bool
-    ensures { result ≡ is_idle_at now most (consumers_in c.rows c.numbersonsumers.now) (producers_of producers.now) link (seat_of row.now) }
+    ensures { result ≡ is_idle_at now most (consumers_in consumers.now.rows consumers.now.numbers) (producers_of producers.now) link (seat_of row.now) }
 {
     let rests = row.rests(now, most);
     let is_heard = consumers.hears_on(link);

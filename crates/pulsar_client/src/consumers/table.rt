@@ -1,8 +1,10 @@
 //! The consumers of a client.
 
 ghost use Rattle.std.specs.Prelude.{◌≡◌, ◌==◌, ◌&&◌, ◌||◌, ◌-◌, ◌^◌, ◌++◌, ◌∷◌, [], ℕ, false, not, IfOk, OnOk, None, Some, IsTrue, ◌↔◌, map, if◌then◌else◌};
+ghost use Rattle.std.specs.BTreeMap.{IsOrdered};
 ghost use Rattle.std.specs.List.{flat_map, list_any};
 ghost use Rattle.std.specs.Option.{is_some, option_copied, option_map, option_to_list};
+ghost use Rattle.std.specs.Ordering.{nat_cmp};
 ghost use Rattle.pulsar_calls.specs.Content.{shown};
 ghost use Rattle.pulsar_calls.specs.declared.act.Word.{Word};
 ghost use Rattle.pulsar_consumer.specs.Topic.{Polls};
@@ -40,6 +42,7 @@ pub struct Consumers {
     pub listing: Listing,
     // a call ran out of memory
     failed: bool,
+    ghost ordered: { failed ≡ false → IsOrdered nat_cmp rows },
     ghost listed: { failed ≡ false → AreListed listing (rows_in rows) },
 }
 

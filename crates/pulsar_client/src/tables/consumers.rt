@@ -3,6 +3,7 @@
 ghost use Rattle.std.specs.Prelude.{◌≡◌, ◌++◌, ◌∷◌, [], IfOk, OnOk, map};
 ghost use Rattle.std.specs.Option.{option_to_list};
 ghost use Rattle.pulsar_run.specs.Order.{put_all};
+ghost use Rattle.pulsar_link.specs.RawCall.{words_of};
 ghost use Rattle.pulsar_messages.specs.Words.{SendAck, SendRedeliver};
 ghost use Rattle.pulsar_wire.specs.Views.{message_id_values};
 ghost use Rattle.pulsar_calls.specs.Content.{shown};
@@ -10,7 +11,8 @@ ghost use Rattle.pulsar_calls.specs.declared.act.Act.{Act};
 ghost use Rattle.pulsar_consumer.specs.Content.{consumer_wanted};
 ghost use Rattle.pulsar_client.specs.Effects.{effects};
 ghost use Rattle.pulsar_client.specs.KeptConsumers.{consumers_in};
-ghost use Rattle.pulsar_client.specs.Reading.{acknowledges, leaves, revived_said, subscribes, subscribes_by, tells_word};
+ghost use Rattle.pulsar_client.specs.Consumers.{link_at, why_not};
+ghost use Rattle.pulsar_client.specs.Reading.{acknowledges, leaves, revived_said, subscribes, subscribes_by, tells_word, unless};
 ghost use Rattle.pulsar_client.specs.Rules.{below};
 ghost use Rattle.pulsar_client.specs.Run.{goes_on};
 ghost use Rattle.pulsar_client.specs.Tables.{agenda_of, chosen_of, view_of};
@@ -119,7 +121,9 @@ impl Tables {
     }
 
     /// This is asked for on the link of a consumer, where a subscription of it is live.
-    fn asks_for(&self, ticket: u64, call: RawCall) -> Result<Procedure, NoMemory> {
+    fn asks_for(&self, ticket: u64, call: RawCall) -> Result<Procedure, NoMemory>
+        ensures { IfOk result (λ p. p ≡ unless (why_not (consumers_in self.now.consumers.rows self.now.consumers.numbers) ticket) (Procedure.Acknowledge (link_at ((consumers_in self.now.consumers.rows self.now.consumers.numbers).rows ticket)) (words_of call))) }
+    {
         if let Some(refusal) = self.consumers.why_not(ticket) {
             drop(call);
             return Ok(Procedure::Refuse(refusal));

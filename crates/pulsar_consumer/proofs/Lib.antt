@@ -2,6 +2,7 @@ pub mod Begun
 pub mod Counted
 pub mod Drawing
 pub mod Going
+pub mod Having
 pub mod Held
 pub mod Histories
 pub mod Permits

@@ -1,6 +1,6 @@
 -- A consumer of one topic: what is done to it, what is seen of it, and what it answers. It knows links and numbers, and never who asks.
 -- (Pulsar binary protocol, Consumer: Flow control; PulsarApi.proto, CommandFlow)
-use Rattle.std.specs.Prelude.{ℕ, ◌+◌, ◌-◌, ◌/◌, ◌^◌, nat_lt, min, Bool, true, false, not, ◌&&◌, ◌==◌, if◌then◌else◌, List, [], ◌∷◌, ◌++◌, length, take, drop, Option, Some, None, unwrap_or}
+use Rattle.std.specs.Prelude.{ℕ, ◌+◌, ◌-◌, ◌/◌, nat_lt, Bool, true, false, not, ◌&&◌, ◌==◌, if◌then◌else◌, List, [], ◌∷◌, ◌++◌, length, take, drop, Option, Some, None, unwrap_or}
 use Rattle.std.specs.Option.{is_some, option_map, option_or}
 use Rattle.url.specs.Parts.{Parts}
 use Rattle.pulsar_wire.specs.Sink.{capped}
@@ -32,10 +32,6 @@ batch_size c = unwrap_or c.batch_size 1000
 abbrev pub half : ℕ → ℕ
 half batch = batch - batch / 2
 
--- a flow says its permits in 32 bits
-abbrev pub permits : ℕ → ℕ
-permits n = min n (2 ^ 32 - 1)
-
 -- a new subscription asks for a flow of the batch size, where permits are granted
 abbrev pub subscribed : (batch : Option ℕ) (link : ℕ) → Parts → Live
 subscribed None link url = record { link = link; url = url; level = 0; weight = 0; due = [] }
@@ -48,7 +44,7 @@ begins w l = record l { weight = w }
 -- Once it is finished, a flow brings the permits up to the batch size again where less than half of them are left.
 abbrev pub finishes_by : (batch : ℕ) → Live → Live
 finishes_by batch l =
-    if nat_lt l.level (half batch + l.weight) then record l { level = batch; weight = 0; due = l.due ++ permits (batch + l.weight - l.level) ∷ [] }
+    if nat_lt l.level (half batch + l.weight) then record l { level = batch; weight = 0; due = l.due ++ (batch + l.weight - l.level) ∷ [] }
     else record l { level = l.level - l.weight; weight = 0 }
 
 abbrev pub finishes : (batch : Option ℕ) → Live → Live

@@ -27,6 +27,7 @@ pub struct ConsumerEngine {
 
 impl Model for ConsumerEngine {
     ghost use Rattle.pulsar_consumer.specs.KeptEngine.{engine_of};
+    ghost use Rattle.pulsar_consumer.specs.KeptLive.{HasPermits};
     ghost use Rattle.pulsar_consumer.specs.Topic.{Engine as Meant};
     ghost use Rattle.pulsar_session.specs.FailureCode.{failure_code};
     ghost use Rattle.std.specs.Coded.{codes};
@@ -36,6 +37,8 @@ impl Model for ConsumerEngine {
     ghost coded = { Prim.hlevel (codes, failure_code (Prim.hlevel codes)) };
 
     ghost view = { engine_of };
+
+    ghost invariant = { λ i. HasPermits i.live i.batch };
 }
 
 impl ConsumerEngine {

@@ -38,19 +38,22 @@ impl Model for Frame {
     ghost use Rattle.pulsar_consumer.specs.KeptFrame.{frame_of};
     ghost use Rattle.pulsar_session.specs.FailureCode.{failure_code};
     ghost use Rattle.std.specs.Coded.{codes};
+    ghost use Rattle.std.specs.Prelude.{◌<◌, ◌^◌};
 
     ghost Value = { Meant };
 
     ghost coded = { Prim.hlevel (codes, failure_code (Prim.hlevel codes)) };
 
     ghost view = { frame_of };
+
+    // its weight is a number of entries
+    ghost invariant = { λ i. i.weight < 2 ^ 31 };
 }
 
 impl Frame {
-    /// The frame of a message. It costs less than 2^31 permits.
+    /// The frame of a message.
     pub fn received(alloc: Global, received: Received) -> Result<Frame, NoMemory>
-        ensures says { IfOk result (λ f. f ≡ frame_in received) }
-        ensures small { IfOk result (λ f. f.weight < 2 ^ 31) }
+        ensures { IfOk result (λ f. f ≡ frame_in received) }
     {
         let Message { command, payload } = received.into_message();
         match command.body {
@@ -68,6 +71,7 @@ impl Frame {
     }
 
     fn empty(alloc: Global, weight: u32) -> Frame
+        requires { weight < 2 ^ 31 }
         ensures { result ≡ record { weight = weight; items = [] } }
     {
         Frame {
@@ -78,7 +82,8 @@ impl Frame {
 
     /// How many permits it costs.
     pub fn weight(&self) -> u32
-        ensures { result ≡ self.now.weight }
+        ensures says { result ≡ self.now.weight }
+        ensures small { result < 2 ^ 31 }
     {
         self.weight
     }
@@ -94,8 +99,7 @@ impl Frame {
 
 /// What a body brings, with what stands behind it.
 fn frame_with(alloc: Global, payload: Option<Payload>, body: Body) -> Result<Frame, NoMemory>
-    ensures says { IfOk result (λ f. f ≡ meaning.frame_with (option_map payload_values payload) (Some (body_values body))) }
-    ensures small { IfOk result (λ f. f.weight < 2 ^ 31) }
+    ensures { IfOk result (λ f. f ≡ meaning.frame_with (option_map payload_values payload) (Some (body_values body))) }
 {
     match body {
         Body::Message(message) => frame_of_message(alloc, payload, message),
@@ -110,8 +114,7 @@ fn frame_of_message(
     payload: Option<Payload>,
     message: CommandMessage,
 ) -> Result<Frame, NoMemory>
-    ensures says { IfOk result (λ f. f ≡ meaning.frame_with (option_map payload_values payload) (Some (body_values (Body.Message message)))) }
-    ensures small { IfOk result (λ f. f.weight < 2 ^ 31) }
+    ensures { IfOk result (λ f. f ≡ meaning.frame_with (option_map payload_values payload) (Some (body_values (Body.Message message)))) }
 {
     match payload {
         Some(payload) => frame_of(alloc, message.message_id, payload),
@@ -121,8 +124,7 @@ fn frame_of_message(
 
 /// What a payload brings under its id.
 fn frame_of(alloc: Global, id: MessageIdData, payload: Payload) -> Result<Frame, NoMemory>
-    ensures says { IfOk result (λ f. f ≡ record { weight = weight_behind (Some (payload_values payload)); items = items_of (message_id_values id) (payload_values payload) }) }
-    ensures small { IfOk result (λ f. f.weight < 2 ^ 31) }
+    ensures { IfOk result (λ f. f ≡ record { weight = weight_behind (Some (payload_values payload)); items = items_of (message_id_values id) (payload_values payload) }) }
 {
     let weight = weight_of(&payload);
     Ok(Frame {

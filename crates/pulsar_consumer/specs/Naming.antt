@@ -17,7 +17,7 @@ letter word =
     if nat_lt n 26 then 65 + n else if nat_lt n 52 then 97 + (n - 26) else 48 + (n - 52)
 
 -- so many letters, one for each word of a generator
-abbrev pub letters : (count : ℕ) → Lcg → List ℕ
+unfoldable pub letters : (count : ℕ) → Lcg → List ℕ
 letters zero g = []
 letters (suc n) g = letter (pcg32 g).0 ∷ letters n (pcg32 g).1
 

@@ -115,6 +115,15 @@ impl ConsumerEngine {
         }
     }
 
+    /// The memory in which nothing is left is given back.
+    pub(crate) fn let_go(&mut self)
+        ensures { self.new ≡ self.old }
+    {
+        let_items_go(self.alloc, &mut self.unread);
+        let_items_go(self.alloc, &mut self.rest);
+        let_frames_go(self.alloc, &mut self.waiting);
+    }
+
     /// The flow that is to be asked for next. It counts as asked for.
     pub(crate) fn ask(&mut self) -> Option<u32>
         ensures flow { result ≡ meaning.first_due self.old.live }
@@ -178,6 +187,24 @@ impl ConsumerEngine {
         self.rest = frame.into_items();
         self.place()?;
         Ok(())
+    }
+}
+
+/// Where no items are left, their memory is given back.
+fn let_items_go(alloc: Global, items: &mut VecDeque<Unread>)
+    ensures { items.new.items ≡ items.old.items }
+{
+    if items.is_empty() {
+        *items = VecDeque::new(alloc);
+    }
+}
+
+/// Where no frames are left, their memory is given back.
+fn let_frames_go(alloc: Global, frames: &mut VecDeque<Frame>)
+    ensures { frames.new.items ≡ frames.old.items }
+{
+    if frames.is_empty() {
+        *frames = VecDeque::new(alloc);
     }
 }
 

@@ -263,7 +263,7 @@ impl TopicConsumer {
                 self.count(clock, &item);
                 Ok(Polled::Item(item))
             }
-            None => Ok(self.without_item()),
+            None => Ok(self.give_none()),
         }
     }
 
@@ -301,10 +301,13 @@ impl TopicConsumer {
         }
     }
 
-    fn without_item(&self) -> Polled
-        ensures { result ≡ meaning.polled_from None self.now.ended }
+    /// Once it has ended, it keeps no memory for items.
+    fn give_none(&mut self) -> Polled
+        ensures given { result ≡ meaning.polled_from None self.old.ended }
+        ensures after { self.new ≡ self.old }
     {
         if self.is_ended() {
+            self.engine.let_go();
             Polled::End
         } else {
             Polled::Empty

@@ -16,3 +16,11 @@ drawn_more name n g lt =
 pub drawn_all : (name : List ℕ) (g : Lcg) → name ++ letters (8 - 8) g ≡ name
 unfolding letters
 drawn_all name g = append-nil name
+
+-- a letter that was drawn stands behind those before it
+pub drawn_next : (old new before : List ℕ) (n word : ℕ) (g h : Lcg) → n < 8 → (word, h) ≡ pcg32 g → new ≡ old ++ letter word ∷ [] → old ++ letters (8 - n) g ≡ before →
+    new ++ letters (8 - (n + 1)) h ≡ before
+drawn_next old new before n word g h lt is_drawn is_new was =
+    ap (λ x. x ++ letters (8 - (n + 1)) h) is_new
+    ∙ ap (λ p. (old ++ letter p.0 ∷ []) ++ letters (8 - (n + 1)) p.1) is_drawn
+    ∙ drawn_more old n g lt ∙ was

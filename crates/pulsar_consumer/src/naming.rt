@@ -1,6 +1,6 @@
 //! What a call to build a consumer asks for, and what is drawn for it. Each name is drawn from a stream of its own.
 
-ghost use Rattle.std.specs.Prelude.{◌≡◌, ◌<◌, ◌++◌, ◌∷◌, [], IfOk, OnOk, map, string_bytes};
+ghost use Rattle.std.specs.Prelude.{◌≡◌, ◌<◌, ◌++◌, IfOk, OnOk, map, string_bytes, unwrap_or};
 ghost use Rattle.std.specs.Option.{option_map};
 ghost use Rattle.pulsar_consumer.specs.Content.{consumer_wanted};
 ghost use Rattle.pulsar_consumer.specs.Naming as meaning;
@@ -77,25 +77,49 @@ pub fn config_of(
 ) -> Result<Settings, NoMemory>
     ensures { IfOk result (λ c. c ≡ meaning.config_of seed ticket (consumer_wanted builder)) }
 {
-    let subscription = match builder.subscription {
-        Some(subscription) => subscription,
-        None => subscription_name(alloc, seed, ticket)?,
-    };
-    let consumer_name = match builder.consumer_name {
-        Some(name) => name,
-        None => consumer_name(alloc, seed, ticket)?,
-    };
+    let subscription = subscription_of(alloc, seed, ticket, &builder.subscription)?;
+    let name = name_of(alloc, seed, ticket, &builder.consumer_name)?;
     let config = ConsumerConfig {
         subscription,
         sub_type: builder.subscription_type.unwrap_or(SubType::Shared),
         batch_size: builder.batch_size,
-        consumer_name: Some(consumer_name),
+        consumer_name: Some(name),
         consumer_id: builder.consumer_id,
         unacked_message_redelivery_delay: builder.unacked_message_resend_delay,
         options: builder.options,
         dead_letter_policy: builder.dead_letter_policy,
     };
     Settings::new(alloc, config)
+}
+
+/// The name of the consumer: one is drawn where it is absent.
+fn name_of(
+    alloc: Global,
+    seed: u64,
+    ticket: u64,
+    name: &Option<String>,
+) -> Result<String, NoMemory>
+    ensures { IfOk result (λ n. string_bytes n ≡ unwrap_or (option_map string_bytes name.now) (meaning.consumer_name seed ticket)) }
+{
+    match name {
+        Some(name) => Ok(name.clone()?),
+        None => consumer_name(alloc, seed, ticket),
+    }
+}
+
+/// The name of its subscription: one is drawn where it is absent.
+fn subscription_of(
+    alloc: Global,
+    seed: u64,
+    ticket: u64,
+    name: &Option<String>,
+) -> Result<String, NoMemory>
+    ensures { IfOk result (λ n. string_bytes n ≡ unwrap_or (option_map string_bytes name.now) (meaning.subscription_name seed ticket)) }
+{
+    match name {
+        Some(name) => Ok(name.clone()?),
+        None => subscription_name(alloc, seed, ticket),
+    }
 }
 
 /// The name that is drawn for a consumer.
@@ -134,7 +158,7 @@ fn draw(name: &mut String, stream: &mut Pcg32) -> Result<(), NoMemory>
 {
     for _ in 0..LETTERS {
         let word: u32 = stream.next_word();
-        name.push(char::from(letter(word)))?;
+        name.push(letter(word) as char)?;
     }
     Ok(())
 }

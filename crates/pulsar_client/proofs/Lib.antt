@@ -10,6 +10,7 @@ pub mod Rows
 pub mod Hearing
 pub mod Numbered
 pub mod Finding
+pub mod Listing
 pub mod Several
 pub mod Waiting
 pub mod Steps

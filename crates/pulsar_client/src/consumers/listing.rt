@@ -1,10 +1,8 @@
 //! The tickets of consumers, by their numbers.
 
-ghost use Rattle.std.specs.Prelude.{◌≡◌, ◌==◌, ◌&&◌, ◌||◌, not, ℕ, [], OnOk, filter, if◌then◌else◌};
-ghost use Rattle.std.specs.BTreeSet.{insert_key};
+ghost use Rattle.std.specs.Prelude.{◌≡◌, ◌==◌, ◌&&◌, ◌||◌, not, ℕ, OnOk};
 ghost use Rattle.std.specs.Option.{option_copied};
-ghost use Rattle.std.specs.Ordering.{nat_cmp};
-ghost use Rattle.pulsar_client.specs.KeptConsumers.{listed_at, tickets_of};
+ghost use Rattle.pulsar_client.specs.KeptConsumers.{is_listed, listed_at, tickets_of};
 
 use pulsar_wire::error::NoMemory;
 use std::alloc::Global;
@@ -27,7 +25,7 @@ pub fn list(
     number: u64,
     ticket: u64,
 ) -> Result<(), NoMemory>
-    ensures { OnOk result ((n : ℕ) → listed_at listing.new n ≡ (if n == number then insert_key nat_cmp (listed_at listing.old n) ticket else listed_at listing.old n)) }
+    ensures { OnOk result ((n t : ℕ) → is_listed t (listed_at listing.new n) ≡ (is_listed t (listed_at listing.old n) || ((n == number) && (t == ticket)))) }
 {
     let mut tickets = match listing.remove(&number) {
         Some(tickets) => tickets,
@@ -40,7 +38,7 @@ pub fn list(
 
 /// A ticket is listed under a number no more.
 pub fn unlist(listing: &mut Listing, number: u64, ticket: u64) -> Result<(), NoMemory>
-    ensures { OnOk result ((n : ℕ) → listed_at listing.new n ≡ (if n == number then filter (λ t. not (t == ticket)) (listed_at listing.old n) else listed_at listing.old n)) }
+    ensures { OnOk result ((n t : ℕ) → is_listed t (listed_at listing.new n) ≡ (is_listed t (listed_at listing.old n) && not ((n == number) && (t == ticket)))) }
 {
     let Some(mut tickets) = listing.remove(&number) else {
         return Ok(());

@@ -23,7 +23,7 @@ use Rattle.pulsar_client.proofs.Places.{by_keys}
 
 -- TWO LISTS OF TICKETS
 
-most : List ℕ → ℕ
+abbrev most : List ℕ → ℕ
 most [] = 0
 most (n ∷ ns) = suc (n + most ns)
 
@@ -104,9 +104,6 @@ module _ (l : ℕ) (r : Reply) (m : Member) (h : lives_on l m.seen ≡ false) wh
       by false false true = ap (λ e. word_if (e && not m.seen.is_raw) word.Lost) h
       by false false false = refl
 
-  unlost : member_after (Loses l) m ≡ m
-  unlost = ap (λ e. record m { seen = cond e (topic.loses m.seen) m.seen }) h
-
 -- those of the number that live on the link hear it, and others hear nothing
 module _ (n l : ℕ) (r : Reply) where
   pub heard_by : (row : Option Member) → cond (lives_with n l row) (option_map (hears_frame l r) row) row ≡ option_map (hears l (Gives n r)) row
@@ -135,13 +132,16 @@ module _ (l : ℕ) where
   pub none_lost : (t : ℕ) (m : Member) → lives_at l (Some m) ≡ false → word_to t m (word_if (resubscribes l m.seen) word.Lost) ≡ []
   none_lost t m h = ap (λ b. word_to t m (word_if (b && not m.seen.is_raw) word.Lost)) h
 
+  unlost : (m : Member) → lives_on l m.seen ≡ false → member_after (Loses l) m ≡ m
+  unlost m h = ap (λ e. record m { seen = cond e (topic.loses m.seen) m.seen }) h
+
   pub lost_by : (row : Option Member) → cond (lives_at l row) (option_map (member_after (Loses l)) row) row ≡ option_map (member_after (Loses l)) row
   lost_by None = refl
   lost_by (Some m) = by (lives_on l m.seen) refl
     where
       by : (b : Bool) → lives_on l m.seen ≡ b → cond b (Some (member_after (Loses l) m)) (Some m) ≡ Some (member_after (Loses l) m)
       by true h = refl
-      by false h = ap Some (sym (unlost l m h))
+      by false h = ap Some (sym (unlost m h))
 
 module _ (n l : ℕ) where
   pub none_closed : (t : ℕ) (m : Member) → lives_with n l (Some m) ≡ false → word_to t m (word_of_close (Some n) l true m) ≡ []

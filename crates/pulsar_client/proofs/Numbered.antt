@@ -98,7 +98,7 @@ same_number Asks v = refl
 -- WHO IS KNOWN
 
 -- one that is not over is there
-there : Seen → Bool
+abbrev there : Seen → Bool
 there v = not (is_ended v) || is_some (link_of v)
 
 not_there : (ended : Option Ending) (live : Option Live) → (not (is_some ended) || is_some (option_map (λ (x : Live). x.link) live)) ≡ false →
@@ -117,8 +117,8 @@ Holds f = (n : ℕ) (m : Member) → is_known n (Some (f m)) ≡ true → is_kno
 known_before : (v w : Seen) → w.number ≡ v.number → (IsOver v → IsOver w) → (n : ℕ) → ((w.number == n) && there w) ≡ true → ((v.number == n) && there v) ≡ true
 known_before v w same over n h = elim (cases_Bool (there v)) [
   | inl y ↦ and_from (v.number == n) (there v) (ap (λ k. k == n) (sym same) ∙ (and_parts (w.number == n) (there w) h).0) y
-  | inr no ↦
-      (let gone = not_there v.ended v.engine.live no in
+  | inr away ↦
+      (let gone = not_there v.ended v.engine.live away in
       let after : there w ≡ false = over_not w (over (record { ended = gone.0; live = gone.1 })) in
       absurd (false≢true (sym after ∙ (and_parts (w.number == n) (there w) h).1)))
 ]

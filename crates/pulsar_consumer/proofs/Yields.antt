@@ -1,6 +1,5 @@
 -- What a message gives, from its parts as the code has them.
-use Rattle.std.proofs.Common.{◌≡◌, ℤ, ◌∙◌, ap, List, [], ◌∷◌, ◌++◌, refl, cond, true, false, map, Some, None}
-use Rattle.std.proofs.lemmas.List.{map-append}
+use Rattle.std.proofs.Common.{◌≡◌, ℤ, ◌∙◌, ap, [], ◌∷◌, refl, cond, true, false, Some, None}
 use Rattle.pulsar_wire.specs.Rows.{message_metadata}
 use Rattle.pulsar_wire.specs.Views.{message_id_values, message_metadata_values}
 use Rattle.pulsar_wire.specs.declared.commands.ids.MessageIdData.{MessageIdData}

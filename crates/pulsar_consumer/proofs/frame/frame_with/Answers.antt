@@ -1,4 +1,4 @@
-use Rattle.std.proofs.Common.{◌≡◌, ◌∙◌, sym, [], Option, Some, refl}
+use Rattle.std.proofs.Common.{◌≡◌, ◌∙◌, [], Option, Some, refl}
 use Rattle.pulsar_wire.specs.Views.{body_values}
 use Rattle.pulsar_wire.specs.declared.commands.base.Body.{Body}
 use Rattle.pulsar_wire.specs.declared.commands.base.Body.TheVariants.{Message}

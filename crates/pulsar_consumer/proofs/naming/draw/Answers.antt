@@ -1,6 +1,6 @@
 use Rattle.std.proofs.Common.{◌≡◌, ◌∙◌, sym, ap, ◌<◌, ◌-◌, [], ◌∷◌, ◌++◌, string_bytes, arith}
 use Rattle.std.proofs.lemmas.Bool.Decides.{nat_tests}
-use Rattle.pulsar_consumer.specs.Naming.{letter, letters}
+use Rattle.pulsar_consumer.specs.Naming.{letters}
 use Rattle.pulsar_consumer.proofs.Drawing.{drawn_all, drawn_next}
 use Rattle.pulsar_consumer.proofs.naming.draw.Goals as goal
 

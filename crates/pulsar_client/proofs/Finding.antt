@@ -1,6 +1,6 @@
 -- Those that are found, by a number or on a link: what is done to them is done to all, and what they give all give.
 use Rattle.std.proofs.Common.{◌≡◌, ◌∙◌, ℕ, ◌==◌, ◌&&◌, ◌||◌, ◌++◌, not, sym, ap, refl, List, [], ◌∷◌, filter, Bool, true, false, cond, Option, Some, None, inl, inr}
-use Rattle.std.proofs.lemmas.Bool.{cases_Bool, eq-eqb, false≢true, and_from, and_parts, or_right}
+use Rattle.std.proofs.lemmas.Bool.{cases_Bool, eq-eqb, eqb-true, false≢true, and_from, and_parts, or_right}
 use Rattle.std.specs.BTreeMap.{BTreeMap, IsOrdered, get, is_at, keys}
 use Rattle.std.specs.BTreeSet.{BTreeSet}
 use Rattle.std.specs.List.{flat_map, list_any}
@@ -11,11 +11,11 @@ use Rattle.pulsar_requests.proofs.Awaiting.{is_at-eqb}
 use Rattle.pulsar_consumer.specs.Topic as topic
 use Rattle.pulsar_consumer.specs.Topic.{is_ended, link_of, lives_on}
 use Rattle.pulsar_client.specs.declared.consumers.row.ConsumerRow.{ConsumerRow}
-use Rattle.pulsar_client.specs.Consumers.{Member, at_row, lives_at, lives_with}
+use Rattle.pulsar_client.specs.Consumers.{Member, at_row, has_built, has_number, lives_at, lives_with}
 use Rattle.pulsar_client.specs.KeptConsumers.{AreListed, is_known, is_listed, listed_at, member_in, rows_in, some_changed}
 use Rattle.pulsar_client.proofs.Hearing.{filtered, same_gives}
 use Rattle.pulsar_client.proofs.Places.{listed_is, swapped}
-use Rattle.pulsar_client.proofs.Rows.{any_key}
+use Rattle.pulsar_client.proofs.Rows.{any_key, some_one}
 
 -- one that is there has a ticket
 was : (o : Option ConsumerRow) → is_some (option_map member_in o) ≡ true → is_some o ≡ true
@@ -101,3 +101,60 @@ living_on_found l rows ts is t =
     ap (is_listed t) is
     ∙ filtered (λ u. lives_at l (rows_in rows u)) (keys rows) t
     ∙ both (is_listed t (keys rows)) (lives_at l (rows_in rows t)) (λ y. keyed rows t (there_is l (rows_in rows t) y))
+
+-- whether one that is found is so
+
+any_in : (test : ℕ → Bool) (t : ℕ) (ts : List ℕ) → test t ≡ true → is_listed t ts ≡ true → list_any test ts ≡ true
+any_in test t [] y h = absurd (false≢true h)
+any_in test t (u ∷ ts) y h = elim (cases_Bool (u == t)) [
+  | inl e ↦ ap (λ b. b || list_any test ts) (ap test (eqb-true u t e) ∙ y)
+  | inr n ↦ or_right (test u) (list_any test ts) (any_in test t ts y (ap (λ b. b || is_listed t ts) (sym n) ∙ h))
+]
+
+same_bool : (a b : Bool) → (a ≡ true → b ≡ true) → (b ≡ true → a ≡ true) → a ≡ b
+same_bool true true f g = refl
+same_bool true false f g = sym (f refl)
+same_bool false true f g = g refl
+same_bool false false f g = refl
+
+pub found_any : (test : ℕ → Bool) (ks ls : List ℕ) → ((t : ℕ) → test t ≡ true → is_listed t ks ≡ true) → ((t : ℕ) → test t ≡ true → is_listed t ls ≡ true) →
+    list_any test ks ≡ list_any test ls
+found_any test ks ls in_ks in_ls = same_bool (list_any test ks) (list_any test ls)
+    (λ h. let one = some_one test ks h in any_in test one.0 ls one.1 (in_ls one.0 one.1))
+    (λ h. let one = some_one test ls h in any_in test one.0 ks one.1 (in_ks one.0 one.1))
+
+known_of : (n : ℕ) (row : Option Member) → has_number n row ≡ true → is_known n row ≡ true
+known_of n None h = h
+known_of n (Some m) h =
+    let parts = and_parts (not (is_ended m.seen)) (m.seen.number == n) h in
+    and_from (m.seen.number == n) (not (is_ended m.seen) || is_some (link_of m.seen)) parts.1 (ap (λ b. b || is_some (link_of m.seen)) parts.0)
+
+some_of : (n : ℕ) (row : Option Member) → is_known n row ≡ true → is_some row ≡ true
+some_of n None h = h
+some_of n (Some m) h = refl
+
+built_has : (n : ℕ) (row : Option Member) → has_built n row ≡ true → has_number n row ≡ true
+built_has n None h = h
+built_has n (Some m) h = (and_parts (not m.seen.is_raw) (has_number n (Some m)) h).1
+
+-- by a number: whether one that has not ended has it, and whether one that was built has it
+pub having : (n : ℕ) (listing : BTreeMap ℕ (BTreeSet ℕ)) (rows : BTreeMap ℕ ConsumerRow) → AreListed listing (rows_in rows) →
+    list_any (λ t. has_number n (rows_in rows t)) (listed_at listing n) ≡ list_any (λ t. has_number n (rows_in rows t)) (keys rows)
+having n listing rows listed = found_any (λ t. has_number n (rows_in rows t)) (listed_at listing n) (keys rows)
+    (λ t h. listed t n (known_of n (rows_in rows t) h))
+    (λ t h. keyed rows t (some_of n (rows_in rows t) (known_of n (rows_in rows t) h)))
+
+pub having_built : (n : ℕ) (listing : BTreeMap ℕ (BTreeSet ℕ)) (rows : BTreeMap ℕ ConsumerRow) → AreListed listing (rows_in rows) →
+    list_any (λ t. has_built n (rows_in rows t)) (listed_at listing n) ≡ list_any (λ t. has_built n (rows_in rows t)) (keys rows)
+having_built n listing rows listed = found_any (λ t. has_built n (rows_in rows t)) (listed_at listing n) (keys rows)
+    (λ t h. listed t n (known_of n (rows_in rows t) (built_has n (rows_in rows t) h)))
+    (λ t h. keyed rows t (some_of n (rows_in rows t) (known_of n (rows_in rows t) (built_has n (rows_in rows t) h))))
+
+-- where none is listed, none is so
+pub none_having : (n : ℕ) (listing : BTreeMap ℕ (BTreeSet ℕ)) (rows : BTreeMap ℕ ConsumerRow) → AreListed listing (rows_in rows) →
+    listed_at listing n ≡ [] → false ≡ list_any (λ t. has_number n (rows_in rows t)) (keys rows)
+none_having n listing rows listed none = sym (ap (list_any (λ t. has_number n (rows_in rows t))) none) ∙ having n listing rows listed
+
+pub none_built : (n : ℕ) (listing : BTreeMap ℕ (BTreeSet ℕ)) (rows : BTreeMap ℕ ConsumerRow) → AreListed listing (rows_in rows) →
+    listed_at listing n ≡ [] → false ≡ list_any (λ t. has_built n (rows_in rows t)) (keys rows)
+none_built n listing rows listed none = sym (ap (list_any (λ t. has_built n (rows_in rows t))) none) ∙ having_built n listing rows listed

@@ -11,6 +11,7 @@ pub mod Hearing
 pub mod Numbered
 pub mod Finding
 pub mod Listing
+pub mod Drawing
 pub mod Several
 pub mod Waiting
 pub mod Steps

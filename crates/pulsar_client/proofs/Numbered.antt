@@ -132,6 +132,7 @@ frame_holds l r n m = by (is_body 9 r.content.body) (is_body 27 r.content.body) 
     on : (b : Bool) → is_known n (Some (cond b (member_after (Ends TopicEnded) m) m)) ≡ true → is_known n (Some m) ≡ true
     on true h = act_holds (Ends TopicEnded) n m h
     on false h = h
+
     by : (b c d : Bool) →
         is_known n (Some (cond b (member_after (Hears l (frame_in r)) m) (cond c (ends_on l TopicEnded m) (cond d (member_after (Loses l) m) m)))) ≡ true →
         is_known n (Some m) ≡ true
@@ -185,6 +186,7 @@ stopped_none n (Some m) = ap (λ b. (m.seen.number == n) && b) (by m.seen.ended)
     by : (o : Option Ending) → (not (is_some (option_or o (Some Stopped))) || false) ≡ false
     by None = refl
     by (Some why) = refl
+
     none_and : (b : Bool) → (b && false) ≡ false
     none_and true = refl
     none_and false = refl

@@ -1,5 +1,5 @@
 -- All consumers, as the code keeps them: by their entries, and by their tickets.
-use Rattle.std.proofs.Common.{◌≡◌, ◌∙◌, ℕ, ◌==◌, ◌||◌, ◌↔◌, ◌++◌, sym, ap, subst, refl, Bool, true, false, List, [], ◌∷◌, Option, Some, None, inl, inr, IsTrue}
+use Rattle.std.proofs.Common.{◌≡◌, ◌∙◌, ℕ, ◌==◌, ◌||◌, ◌↔◌, ◌++◌, sym, ap, subst, refl, cond, filter, Bool, true, false, List, [], ◌∷◌, Option, Some, None, inl, inr, IsTrue}
 use Rattle.std.proofs.lemmas.Bool.{cases_Bool, false≢true, or_right}
 use Rattle.std.proofs.lemmas.Cmp.{nat_cmp_total}
 use Rattle.std.proofs.lemmas.List.{append-nil}
@@ -32,6 +32,31 @@ gives f rows (e ∷ es) h =
 pub all_give : {A : Type 0} (f : ℕ → Member → List A) (rows : BTreeMap ℕ ConsumerRow) → IsOrdered nat_cmp rows →
     flat_map (λ e. f e.0 (member_in e.1)) rows.entries ≡ flat_map (at_row f (rows_in rows)) (keys rows)
 all_give f rows sorted = gives f rows rows.entries (all_found rows sorted)
+
+-- those that are so
+kept_of : (test : Option Member → Bool) (rows : BTreeMap ℕ ConsumerRow) (es : List (ℕ × ConsumerRow)) → Found rows es →
+    keys_of (filter (λ e. test (Some (member_in e.1))) es) ≡ filter (λ t. test (rows_in rows t)) (keys_of es)
+kept_of test rows [] h = refl
+kept_of test rows (e ∷ es) h =
+    let same : test (rows_in rows e.0) ≡ test (Some (member_in e.1)) = ap (λ row. test (option_map member_in row)) h.0 in
+    elim (cases_Bool (test (Some (member_in e.1)))) [
+      | inl y ↦ rw y (rw (same ∙ y) (ap (λ xs. e.0 ∷ xs) (kept_of test rows es h.1)))
+      | inr n ↦ rw n (rw (same ∙ n) (kept_of test rows es h.1))
+    ]
+
+pub all_kept : (test : Option Member → Bool) (rows : BTreeMap ℕ ConsumerRow) → IsOrdered nat_cmp rows →
+    keys_of (filter (λ e. test (Some (member_in e.1))) rows.entries) ≡ filter (λ t. test (rows_in rows t)) (keys rows)
+all_kept test rows sorted = kept_of test rows rows.entries (all_found rows sorted)
+
+-- one more is kept, or not
+pub keys_end : {X : Type 0} (p : ℕ × X → Bool) (es : List (ℕ × X)) (e : ℕ × X) →
+    keys_of (filter p (es ++ e ∷ [])) ≡ keys_of (filter p es) ++ cond (p e) (e.0 ∷ []) []
+keys_end p [] e = elim (cases_Bool (p e)) [ inl y ↦ rw y refl | inr n ↦ rw n refl ]
+keys_end p (f ∷ es) e = elim (cases_Bool (p f)) [ inl y ↦ rw y (ap (λ xs. f.0 ∷ xs) (keys_end p es e)) | inr n ↦ rw n (keys_end p es e) ]
+
+pub filter_end : (p : ℕ → Bool) (ts : List ℕ) (t : ℕ) → filter p (ts ++ t ∷ []) ≡ filter p ts ++ cond (p t) (t ∷ []) []
+filter_end p [] t = elim (cases_Bool (p t)) [ inl y ↦ rw y refl | inr n ↦ rw n refl ]
+filter_end p (u ∷ ts) t = elim (cases_Bool (p u)) [ inl y ↦ rw y (ap (λ xs. u ∷ xs) (filter_end p ts t)) | inr n ↦ rw n (filter_end p ts t) ]
 
 -- whether one is so
 any_of : (test : Option Member → Bool) (rows : BTreeMap ℕ ConsumerRow) (es : List (ℕ × ConsumerRow)) → Found rows es →

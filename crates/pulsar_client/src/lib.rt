@@ -29,13 +29,13 @@ pub use crate::outside::source::{FailingSource, MemorySource, Source};
 pub use crate::pulsar::Pulsar;
 pub use pulsar_calls::effect::{Answer, Effect, Handed, Settlement};
 pub use pulsar_calls::event::{Call, Event};
+pub use pulsar_consumer::{
+    Consumer, ConsumerBuilder, ConsumerConfig, DeadLetterPolicy, DeserializeMessage,
+    InitialPosition, MessageData, SubType, TopicConsumer,
+};
 pub use pulsar_link::raw_call::RawCall;
 pub use pulsar_messages::{
     Authentication, ConsumerOptions, Message, ProducerMessage, ProducerOptions, RoutingPolicy,
-};
-pub use pulsar_consumer::{
-    Consumer, ConsumerBuilder, ConsumerConfig, DeadLetterPolicy, DeserializeMessage, InitialPosition,
-    MessageData, SubType, TopicConsumer,
 };
 pub use pulsar_plans::{BrokerAddress, ConnectionRetryOptions, OperationRetryOptions};
 pub use pulsar_producer::{

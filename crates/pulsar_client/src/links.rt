@@ -12,7 +12,6 @@ ghost use Rattle.pulsar_client.specs.Due.{moment_at};
 ghost use Rattle.pulsar_client.specs.Kept.{AreStarted, AreTimed, IsEnd, is_due, links_in, live_in, producers_of, seat_of};
 ghost use Rattle.pulsar_requests.specs.Soonest.{has_come};
 ghost use Rattle.pulsar_client.specs.KeptConsumers.{consumers_in};
-
 ghost use Rattle.pulsar_client.specs.Rules.{answered_on, due_part, idle_act_at, may_ping, moved_on, on_link, over_links, stop_act, told_at, is_idle_at};
 ghost use Rattle.pulsar_client.specs.View.{answer_at, arrival_at, got_at, room_at, has_ended, is_asked, is_busy, seat_asked, seat_got, seat_of_fresh, seat_fed, took_some, url_at};
 

@@ -41,11 +41,19 @@ pub fn living(
         return Ok(living);
     };
     for ticket in tickets {
-        if lives(rows, *ticket, number, link) {
-            living.push(*ticket)?;
-        }
+        let is_so = lives(rows, *ticket, number, link);
+        add_if(&mut living, is_so, *ticket)?;
     }
     Ok(living)
+}
+
+fn add_if(tickets: &mut Vec<u64>, is_so: bool, ticket: u64) -> Result<(), NoMemory>
+    ensures { OnOk result (tickets.new.items ≡ tickets.old.items ++ (if is_so then ticket ∷ [] else [])) }
+{
+    if is_so {
+        tickets.push(ticket)?;
+    }
+    Ok(())
 }
 
 fn lives(rows: &BTreeMap<u64, ConsumerRow>, ticket: u64, number: u64, link: u64) -> bool
@@ -68,9 +76,8 @@ pub fn living_on(
 {
     let mut living = Vec::new(alloc);
     for (ticket, row) in rows {
-        if row.consumer.inner.lives_on(link) {
-            living.push(*ticket)?;
-        }
+        let is_so = row.consumer.inner.lives_on(link);
+        add_if(&mut living, is_so, *ticket)?;
     }
     Ok(living)
 }

@@ -19,12 +19,7 @@ pub fn listed(listing: &Listing, number: u64) -> Option<&BTreeSet<u64>>
 }
 
 /// A ticket is listed under a number.
-pub fn list(
-    listing: &mut Listing,
-    alloc: Global,
-    number: u64,
-    ticket: u64,
-) -> Result<(), NoMemory>
+pub fn list(listing: &mut Listing, alloc: Global, number: u64, ticket: u64) -> Result<(), NoMemory>
     ensures { OnOk result ((n t : ℕ) → is_listed t (listed_at listing.new n) ≡ (is_listed t (listed_at listing.old n) || ((n == number) && (t == ticket)))) }
 {
     let mut tickets = match listing.remove(&number) {

@@ -250,12 +250,7 @@ fn word_if(is_so: bool, word: Word) -> Option<Word>
 }
 
 /// The effect of a poll that finds this.
-fn effect_of(
-    alloc: Global,
-    ticket: u64,
-    topic: &str,
-    found: Polled,
-) -> Result<Effect, NoMemory>
+fn effect_of(alloc: Global, ticket: u64, topic: &str, found: Polled) -> Result<Effect, NoMemory>
     ensures { IfOk result (λ e. shown e ≡ polled_so ticket topic.now found) }
 {
     match found {
@@ -265,12 +260,7 @@ fn effect_of(
     }
 }
 
-fn effect_of_item(
-    alloc: Global,
-    ticket: u64,
-    topic: &str,
-    item: Unread,
-) -> Result<Effect, NoMemory>
+fn effect_of_item(alloc: Global, ticket: u64, topic: &str, item: Unread) -> Result<Effect, NoMemory>
     ensures { IfOk result (λ e. shown e ≡ polled_item ticket topic.now item) }
 {
     match item.into_inner() {

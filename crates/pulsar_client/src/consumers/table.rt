@@ -14,8 +14,8 @@ ghost use Rattle.pulsar_client.specs.KeptConsumers.{AreListed, consumers_in, lis
 ghost use Rattle.pulsar_client.specs.Reading.{again_at, heard_at, polled_due, revived_at, stopped_seekers, word_to};
 
 use crate::consumers::hearing::{
-    close_all, fail_at, hear_all, living, living_on, lose_all, poll_at, prune_all, prune_each, revive_at, seek_at,
-    stop_all, stop_seekers, take_flow_at,
+    close_all, fail_at, hear_all, living, living_on, lose_all, poll_at, prune_all, prune_each,
+    revive_at, seek_at, stop_all, stop_seekers, take_flow_at,
 };
 use crate::consumers::listing::{Listing, list, listed};
 use crate::consumers::numbers::{Numbering, Numbers};
@@ -281,7 +281,13 @@ impl Consumers {
             return Err(NoMemory);
         }
         self.failed = true;
-        let notices = fail_at(self.alloc, &mut self.rows, &mut self.listing, ticket, failure)?;
+        let notices = fail_at(
+            self.alloc,
+            &mut self.rows,
+            &mut self.listing,
+            ticket,
+            failure,
+        )?;
         self.failed = false;
         Ok(notices)
     }
@@ -374,7 +380,9 @@ impl Consumers {
         ensures { result ≡ some_row (meaning.has_number number) (consumers_in self.now.rows self.now.numbers) }
     {
         match listed(&self.listing, number) {
-            Some(tickets) => tickets.iter().any(|t| has_number_at(&self.rows, *t, number)),
+            Some(tickets) => tickets
+                .iter()
+                .any(|t| has_number_at(&self.rows, *t, number)),
             None => false,
         }
     }

@@ -464,10 +464,8 @@ fn builds(makes: &Makes, is_built: bool) -> bool
 {
     match makes {
         Makes::Client => true,
-        Makes::Nothing
-        | Makes::Consumer(_)
-        | Makes::RawConsumer { .. }
-        | Makes::Producer(_) => is_built,
+        Makes::Nothing | Makes::Consumer(_) | Makes::RawConsumer { .. } | Makes::Producer(_) =>
+            is_built,
     }
 }
 

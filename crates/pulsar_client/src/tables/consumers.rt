@@ -214,12 +214,7 @@ impl Tables {
     }
 
     /// A consumer was subscribed again. Those who wait for its link look again, and a flow is due.
-    pub(super) fn revives(
-        &mut self,
-        who: Who,
-        link: u64,
-        tasks: &mut Tasks,
-    ) -> Result<(), NoMemory>
+    pub(super) fn revives(&mut self, who: Who, link: u64, tasks: &mut Tasks) -> Result<(), NoMemory>
         ensures left { OnOk result (agenda_of tasks.new ≡ goes_on (view_of self.old) (Act.Does who (Action.Revive link)) (agenda_of tasks.old)) }
         ensures sees { OnOk result (view_of self.new ≡ after (Act.Does who (Action.Revive link)) (view_of self.old)) }
         ensures settings { self.new.settings ≡ self.old.settings }

@@ -25,12 +25,11 @@ loop-ticket-preserved c =
     let g = λ (t : ℕ) (m : Member). word_to t m (word_if (not m.seen.is_raw) Over) in
     let was = c.loop-ticket.invariant in
     let done = c.in_ok-close_at.ensures in
-    let is : (t : ℕ) → new t ≡ one_changed x f kept t = λ t. done.rows t in
-    (
+    let is : (t : ℕ) → new t ≡ one_changed x f kept t = λ t. done.rows t in (
       done.notices
-      ∙ ap (λ ns. ns ++ at_row g kept x) was.0
-      ∙ sym (more_given (take i ts) x f rows kept new apart was.1 is g)
-      ∙ ap (flat_map (at_row g rows)) (sym more),
+          ∙ ap (λ ns. ns ++ at_row g kept x) was.0
+          ∙ sym (more_given (take i ts) x f rows kept new apart was.1 is g)
+          ∙ ap (flat_map (at_row g rows)) (sym more),
       (λ t. more_changed (take i ts) x f rows kept new apart was.1 is t ∙ ap (λ us. some_changed us f rows t) (sym more)),
       done.tickets ∙ was.2,
     )

@@ -25,14 +25,13 @@ loop-ticket-preserved c =
     let g = λ (t : ℕ) (m : Member). word_to t m (word_of_frame c.args.link c.args.reply.now m) in
     let was = c.loop-ticket.invariant in
     let done = c.in_ok-hear_at.ensures in
-    let is : (t : ℕ) → new t ≡ one_changed x f kept t = λ t. done.rows t ∙ ap (λ r. one_changed x (hears_frame c.args.link r) kept t) c.in_ok-copy.ensures in
-    (
+    let is : (t : ℕ) → new t ≡ one_changed x f kept t = λ t. done.rows t ∙ ap (λ r. one_changed x (hears_frame c.args.link r) kept t) c.in_ok-copy.ensures in (
       done.notices
-      ∙ ap (λ r. c.loop-ticket.notices.items ++ at_row (λ t m. word_to t m (word_of_frame c.args.link r m)) kept x) c.in_ok-copy.ensures
-      ∙ ap (λ ns. ns ++ at_row g kept x) was.0
-      ∙ append_assoc c.args.notices.now.items (flat_map (at_row g rows) (take i ts)) (at_row g kept x)
-      ∙ ap (λ ns. c.args.notices.now.items ++ ns)
-        (sym (more_given (take i ts) x f rows kept new apart was.1 is g) ∙ ap (flat_map (at_row g rows)) (sym more)),
+          ∙ ap (λ r. c.loop-ticket.notices.items ++ at_row (λ t m. word_to t m (word_of_frame c.args.link r m)) kept x) c.in_ok-copy.ensures
+          ∙ ap (λ ns. ns ++ at_row g kept x) was.0
+          ∙ append_assoc c.args.notices.now.items (flat_map (at_row g rows) (take i ts)) (at_row g kept x)
+          ∙ ap (λ ns. c.args.notices.now.items ++ ns)
+          (sym (more_given (take i ts) x f rows kept new apart was.1 is g) ∙ ap (flat_map (at_row g rows)) (sym more)),
       (λ t. more_changed (take i ts) x f rows kept new apart was.1 is t ∙ ap (λ us. some_changed us f rows t) (sym more)),
       done.tickets ∙ was.2,
     )

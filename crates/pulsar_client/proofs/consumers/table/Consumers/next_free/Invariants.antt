@@ -1,0 +1,9 @@
+use Rattle.std.proofs.Common.{◌≡◌, ◌-◌, ◌^◌}
+use Rattle.pulsar_client.specs.Consumers.{free_from, is_passed, next_free}
+use Rattle.pulsar_client.specs.KeptConsumers.{consumers_in}
+use Rattle.pulsar_client.proofs.consumers.table.Consumers.next_free.Given as goal
+
+abbrev pub invariant-loop : goal.invariant-loop
+invariant-loop l =
+    let cs = consumers_in l.self.rows l.self.numbers in
+    free_from (2 ^ 64 - 1 - l.number) (is_passed cs) l.number ≡ next_free cs

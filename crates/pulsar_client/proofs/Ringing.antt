@@ -13,7 +13,7 @@ use Rattle.std.specs.List.{AllByRecursion, list_any}
 use Rattle.std.specs.List.Sorted.{IsStrictlySortedBy}
 use Rattle.std.specs.Map.{keys_of, remove_entry}
 use Rattle.std.specs.Option.{is_some}
-use Rattle.std.specs.Ordering.{match_ordering, nat_cmp}
+use Rattle.std.specs.Ordering.{nat_cmp, ordering_then}
 use Rattle.std.specs.declared.cmp.Ordering.{Ordering}
 use Rattle.std.specs.declared.cmp.Ordering.TheVariants.{Less, Equal, Greater}
 use Rattle.pulsar_requests.specs.Soonest.{has_come}
@@ -26,7 +26,7 @@ use Rattle.pulsar_client.specs.Due.{is_moment}
 use Rattle.pulsar_calls.proofs.Lists.{any_end}
 
 -- consumers are told apart by their numbers, and by their tickets
-exact_consumer : (m s n t : ℕ) (o : Ordering) → nat_cmp m n ≡ o → match_ordering o Less (nat_cmp s t) Greater ≡ Equal → Wake (Consumer m s) ≡ Wake (Consumer n t)
+exact_consumer : (m s n t : ℕ) (o : Ordering) → nat_cmp m n ≡ o → ordering_then o (nat_cmp s t) ≡ Equal → Wake (Consumer m s) ≡ Wake (Consumer n t)
 exact_consumer m s n t Less e h = absurd cc
 exact_consumer m s n t Equal e h = λ i. Wake (Consumer (exact_unsigned m n e i) (exact_unsigned s t h i))
 exact_consumer m s n t Greater e h = absurd cc

@@ -1,6 +1,6 @@
 -- A call that begins has a ticket that was drawn, and never the greatest; and a consumer has that of a call that began.
-use Rattle.std.proofs.Common.{◌≡◌, ◌∙◌, sym, ap, subst, ℕ, ◌+◌, ◌<◌, arith, List, [], ◌∷◌, ◌++◌, refl, true, false, cond, ◌==◌, Option, Some, None, inl, inr}
-use Rattle.std.proofs.lemmas.Bool.{cases_Bool, eqb-true}
+use Rattle.std.proofs.Common.{◌≡◌, ◌∙◌, sym, ap, subst, ℕ, ◌+◌, ◌<◌, arith, List, [], ◌∷◌, ◌++◌, refl, Bool, true, false, cond, ◌==◌, ◌&&◌, Option, Some, None, inl, inr}
+use Rattle.std.proofs.lemmas.Bool.{and_parts, cases_Bool, eqb-true}
 use Rattle.std.proofs.lemmas.Bool.Decides.{nat_tests}
 use Rattle.std.specs.Option.{option_map}
 use Rattle.pulsar_run.specs.Run.{rest}
@@ -44,7 +44,7 @@ Began (Consumer n t) = Unit {0}
 Began (Producer n) = Unit {0}
 
 pub same_began : (w who : Who) → is_same w who ≡ true → Began who → Began w
-same_began (Call t) (Call u) h k = subst (λ n. is_spent n ≡ false) (sym (eqb-true t u h)) k
+same_began (Call t) (Call u) h k = subst (λ n. is_spent n ≡ false) (sym (eqb-true t u (and_parts (t == u) (t == u) h).0)) k
 same_began (Call t) (Consumer n u) h k = absurd cc
 same_began (Call t) (Producer n) h k = absurd cc
 same_began (Consumer m t) who h k = tt
@@ -54,7 +54,7 @@ same_began (Producer m) who h k = tt
 pub apart : (w : Who) (n : ℕ) → Began w → is_spent n ≡ true → is_same w (Call n) ≡ false
 apart (Call t) n k h = elim (cases_Bool (t == n)) [
   | inl e ↦ (let f : true ≡ false = sym h ∙ sym (ap is_spent (eqb-true t n e)) ∙ k in absurd cc)
-  | inr e ↦ e
+  | inr e ↦ ap (λ b. b && b) e
 ]
 apart (Consumer m t) n k h = refl
 apart (Producer m) n k h = refl
@@ -69,7 +69,7 @@ abbrev pub Has : ℕ → Who → Type 0
 Has n who = Began who × IsDrawn n who
 
 same_has : (n : ℕ) (w who : Who) → is_same w who ≡ true → Has n who → Has n w
-same_has n (Call t) (Call u) h k = subst (λ m. Has n (Call m)) (sym (eqb-true t u h)) k
+same_has n (Call t) (Call u) h k = subst (λ m. Has n (Call m)) (sym (eqb-true t u (and_parts (t == u) (t == u) h).0)) k
 same_has n (Call t) (Consumer m u) h k = absurd cc
 same_has n (Call t) (Producer m) h k = absurd cc
 same_has n (Consumer m t) who h k = (tt, tt)

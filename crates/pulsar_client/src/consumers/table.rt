@@ -1,6 +1,7 @@
 //! The consumers of a client.
 
 ghost use Rattle.std.specs.Prelude.{◌≡◌, ◌==◌, ◌&&◌, ◌||◌, ◌-◌, ◌^◌, ◌++◌, ◌∷◌, [], ℕ, false, not, IfOk, OnOk, None, Some, IsTrue, ◌↔◌, map, if◌then◌else◌};
+ghost use Rattle.std.proofs.Props.{props};
 ghost use Rattle.std.specs.BTreeMap.{IsOrdered};
 ghost use Rattle.std.specs.List.{flat_map, list_any};
 ghost use Rattle.std.specs.Option.{is_some, option_copied, option_map, option_to_list};
@@ -42,7 +43,7 @@ pub struct Consumers {
     pub listing: Listing,
     // a call ran out of memory
     failed: bool,
-    ghost ordered: { failed ≡ false → IsOrdered nat_cmp rows },
+    ghost ordered: { failed ≡ false → IsOrdered nat_cmp rows } by { Prim.hlevel props },
     ghost listed: { failed ≡ false → AreListed listing (rows_in rows) },
 }
 

@@ -4,7 +4,7 @@
 ghost use Rattle.std.specs.Prelude.{◌≡◌, IfOk};
 ghost use Rattle.pulsar_messages.specs.Words.{SendFlow};
 ghost use Rattle.pulsar_consumer.specs.Plans as meaning;
-ghost use Rattle.pulsar_calls.specs.Plan.{closes_on, in_recalling, in_resting, in_resuming, in_reviving, in_taking, is_over, resting_hears, resubscribes, stays_so, takes_flow, told_service, told_serving};
+ghost use Rattle.pulsar_calls.specs.Plan.{closes_on, in_recalling, in_resting, in_resuming, in_reviving, in_taking, is_over, news_in, resting_hears, resubscribes, stays_so, takes_flow, told_service, told_serving};
 
 use crate::act::{Action, Makes, Outcome, Verdict, Word};
 use crate::plans::plan::{Plan, Turn, done, overrides};
@@ -181,13 +181,24 @@ fn in_resuming(
         Outcome::Queued | Outcome::InLine | Outcome::Word(_) => {
             Ok(stays(ways, number, Service::Resuming(state), Action::Rest))
         }
-        outcome => {
-            let Resubscribing { command, resuming } = state.into_inner();
-            let news = news_in(alloc, outcome)?;
-            let turn = resuming::told(alloc, &ways, &command, resuming, news)?;
-            resubscribes(alloc, ways, number, command, turn)
-        }
+        outcome => resumes(alloc, ways, number, state.into_inner(), outcome),
     }
+}
+
+/// This is news to a resubscription.
+fn resumes(
+    alloc: Global,
+    ways: Ways,
+    number: u64,
+    state: Resubscribing,
+    outcome: Outcome,
+) -> Result<Turn<Plan, Verdict>, NoMemory>
+    ensures { IfOk result (λ turn. turn ≡ resubscribes ways number state.command (meaning.resume_told ways state.command state.resuming (news_in outcome))) }
+{
+    let Resubscribing { command, resuming } = state;
+    let news = news_in(alloc, outcome)?;
+    let turn = resuming::told(alloc, &ways, &command, resuming, news)?;
+    resubscribes(alloc, ways, number, command, turn)
 }
 
 /// It goes on, or the subscription was made, or it could not be made.

@@ -37,11 +37,11 @@ use Rattle.pulsar_client.specs.declared.producers.Topic.{Topic}
 use Rattle.pulsar_client.specs.Alarms.{rings}
 use Rattle.pulsar_client.specs.Consumers as consumer
 use Rattle.pulsar_client.specs.Consumers.{sought}
-use Rattle.pulsar_client.specs.Reading.{recalled_said, serves_by, sought_said}
+use Rattle.pulsar_client.specs.Reading.{recalled_said, serves_by, sought_said, tells}
 use Rattle.pulsar_calls.specs.Content.{Asked, shares}
 use Rattle.pulsar_calls.specs.Plan.{begins}
 use Rattle.pulsar_client.specs.Producers.{is_settled_at, link_at, recalled, turn_taken}
-use Rattle.pulsar_client.specs.Rules.{at_once, batches_by, batches_from, breaks_at, called, does, finds, follows, follows_some, gets_from, grants, idle_act, is_idle, keeps_alive, left_with, may_ping, over_links, performs, recalls, rung, stop_act, takes_turn, tells, tries_again}
+use Rattle.pulsar_client.specs.Rules.{at_once, batches_by, batches_from, breaks_at, called, does, finds, follows, follows_some, gets_from, grants, idle_act, is_idle, keeps_alive, left_with, may_ping, over_links, performs, recalls, rung, stop_act, takes_turn, tries_again}
 use Rattle.pulsar_client.specs.View.{Seat, View, arrival_at, told_some, ways_of}
 use Rattle.pulsar_producer.specs.declared.deed.News.TheVariants as news
 use Rattle.pulsar_calls.specs.declared.act.Outcome.TheVariants as outcome

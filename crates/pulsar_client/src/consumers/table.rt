@@ -1,6 +1,6 @@
 //! The consumers of a client.
 
-ghost use Rattle.std.specs.Prelude.{◌≡◌, ◌==◌, ◌&&◌, ◌||◌, ◌-◌, ◌^◌, ◌++◌, ◌∷◌, [], ℕ, false, not, IfOk, OnOk, None, Some, IsTrue, ◌↔◌, map, if◌then◌else◌};
+ghost use Rattle.std.specs.Prelude.{◌≡◌, ◌==◌, ◌&&◌, ◌||◌, ◌-◌, ◌^◌, ◌++◌, ◌∷◌, [], ℕ, false, true, not, IfOk, OnOk, None, Some, IsTrue, ◌↔◌, map, if◌then◌else◌};
 ghost use Rattle.std.proofs.Props.{props};
 ghost use Rattle.std.specs.BTreeMap.{IsOrdered};
 ghost use Rattle.std.specs.List.{flat_map, list_any};

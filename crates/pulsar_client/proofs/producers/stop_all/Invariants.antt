@@ -1,5 +1,5 @@
 use Rattle.std.proofs.Common.{◌≡◌, ◌++◌, map}
-use Rattle.pulsar_client.specs.Rules.{stopped_one}
+use Rattle.pulsar_client.specs.Reading.{stopped_one}
 use Rattle.pulsar_calls.specs.Who.{in_turn}
 use Rattle.pulsar_client.proofs.producers.stop_all.Given as goal
 

@@ -1,6 +1,5 @@
 -- The next number that is free, from one on.
-use Rattle.std.proofs.Common.{◌≡◌, ◌∙◌, ◌+◌, ◌-◌, ◌<◌, ℕ, suc, sym, ap, refl, arith, Bool, true, false, cond, inl, inr}
-use Rattle.std.proofs.lemmas.Bool.{cases_Bool}
+use Rattle.std.proofs.Common.{◌≡◌, ◌∙◌, ◌+◌, ◌-◌, ◌<◌, ℕ, suc, ap, arith, Bool, true, false, cond}
 use Rattle.pulsar_client.specs.Consumers.{free_from}
 
 module _ (passed : ℕ → Bool) (most n : ℕ) where

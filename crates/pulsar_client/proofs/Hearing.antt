@@ -1,5 +1,5 @@
 -- Consumers that are found by their numbers, or by a link: what is done to them is done to all, and what they give all give.
-use Rattle.std.proofs.Common.{◌≡◌, ◌∙◌, ℕ, suc, ◌+◌, ◌<◌, ◌==◌, ◌&&◌, ◌||◌, not, sym, ap, subst, refl, arith, List, [], ◌∷◌, ◌++◌, filter, Bool, true, false, cond, Option, Some, None, inl, inr}
+use Rattle.std.proofs.Common.{◌≡◌, ◌∙◌, ℕ, suc, ◌+◌, ◌<◌, ◌==◌, ◌&&◌, not, sym, ap, refl, arith, List, [], ◌∷◌, ◌++◌, filter, Bool, true, false, cond, Option, Some, None, inl, inr}
 use Rattle.std.proofs.lemmas.Bool.{cases_Bool, eqb-true, false≢true, and_parts}
 use Rattle.std.specs.BTreeMap.{is_at}
 use Rattle.std.specs.List.{flat_map, list_any}
@@ -9,8 +9,6 @@ use Rattle.std.specs.Ordering.{nat_cmp}
 use Rattle.pulsar_requests.proofs.Awaiting.{is_at-eqb}
 use Rattle.pulsar_link.specs.Messages.{Reply, is_body}
 use Rattle.pulsar_calls.specs.declared.act.Arrival.TheVariants.{Gives}
-use Rattle.pulsar_calls.specs.declared.act.Notice.{Notice}
-use Rattle.pulsar_calls.specs.declared.act.Word.{Word}
 use Rattle.pulsar_calls.specs.declared.act.Word.TheVariants as word
 use Rattle.pulsar_consumer.specs.Frames.{frame_in}
 use Rattle.pulsar_consumer.specs.Topic as topic

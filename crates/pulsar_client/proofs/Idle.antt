@@ -1,5 +1,5 @@
 -- Links that nothing uses, and what their ends are.
-use Rattle.std.proofs.Common.{◌≡◌, ◌==◌, ◌∙◌, ℕ, ◌&&◌, ◌||◌, not, nat_lt, sym, ap, refl, arith, Bool, true, false, List, ◌∷◌, ◌++◌, Option, Some, None, []}
+use Rattle.std.proofs.Common.{◌≡◌, ◌==◌, ◌∙◌, ℕ, ◌&&◌, ◌||◌, not, nat_lt, sym, ap, refl, arith, Bool, true, false, List, ◌∷◌, ◌++◌, Some, []}
 use Rattle.std.proofs.lemmas.Bool.Decides.{nat_tests}
 use Rattle.std.proofs.lemmas.Cmp.{nat_cmp_total}
 use Rattle.std.proofs.lemmas.List.{append-nil}

@@ -16,7 +16,7 @@ use Rattle.pulsar_consumer.specs.declared.polled.Ending.{Ending}
 use Rattle.pulsar_consumer.specs.declared.polled.Ending.TheVariants.{Stopped, TopicEnded}
 use Rattle.pulsar_client.specs.declared.consumers.row.Sought.{Sought}
 use Rattle.pulsar_client.specs.declared.consumers.row.Sought.TheVariants.{Found, Gone, Later}
-use Rattle.pulsar_client.specs.Consumers.{Member, ends_on, hears_frame, member_after, revived, seeks, sought, stopped, subscribed_on, waits_so}
+use Rattle.pulsar_client.specs.Consumers.{Member, ends_on, hears_frame, member_after, revived, seeks, sought, stopped, waits_so}
 use Rattle.pulsar_client.specs.Consumers as consumer
 use Rattle.pulsar_client.specs.KeptConsumers.{AreListed, KeepsListed, is_known, is_listed, listed_at, one_changed, some_changed}
 use Rattle.pulsar_client.proofs.Places.{swapped}

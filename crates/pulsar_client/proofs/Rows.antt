@@ -1,5 +1,5 @@
 -- All consumers, as the code keeps them: by their entries, and by their tickets.
-use Rattle.std.proofs.Common.{◌≡◌, ◌∙◌, ℕ, ◌==◌, ◌||◌, ◌↔◌, ◌++◌, sym, ap, subst, refl, cond, filter, Bool, true, false, List, [], ◌∷◌, Option, Some, None, inl, inr, IsTrue}
+use Rattle.std.proofs.Common.{◌≡◌, ◌∙◌, ℕ, ◌||◌, ◌++◌, sym, ap, refl, cond, filter, Bool, true, false, List, [], ◌∷◌, Option, Some, inl, inr}
 use Rattle.std.proofs.lemmas.Bool.{cases_Bool, false≢true, or_right}
 use Rattle.std.proofs.lemmas.Cmp.{nat_cmp_total}
 use Rattle.std.proofs.lemmas.List.{append-nil}
@@ -11,7 +11,7 @@ use Rattle.std.specs.Map.{keys_of, lookup}
 use Rattle.std.specs.Option.{is_some, option_map, option_to_list}
 use Rattle.std.specs.Ordering.{nat_cmp}
 use Rattle.pulsar_client.specs.declared.consumers.row.ConsumerRow.{ConsumerRow}
-use Rattle.pulsar_client.specs.Consumers.{IsHeard, Member, at_row, lives_at}
+use Rattle.pulsar_client.specs.Consumers.{Member, at_row}
 use Rattle.pulsar_client.specs.KeptConsumers.{member_in, rows_in}
 
 abbrev Found : BTreeMap ℕ ConsumerRow → List (ℕ × ConsumerRow) → Type 0

@@ -39,7 +39,7 @@ use Rattle.pulsar_client.specs.declared.consumers.numbers.Numbering.{Numbering}
 use Rattle.pulsar_client.specs.declared.consumers.numbers.Numbering.TheVariants.{Has, InUse, Spent}
 use Rattle.pulsar_client.specs.declared.consumers.row.Sought.{Sought}
 use Rattle.pulsar_client.specs.declared.consumers.row.Sought.TheVariants.{Found, Gone, Later}
-use Rattle.pulsar_client.specs.View.{Chosen, Seat, View, answer_at, arrival_at, closing, is_asked, member_on, setup_of, url_at, ways_of}
+use Rattle.pulsar_client.specs.View.{Chosen, Seat, View, answer_at, arrival_at, closing, is_asked, member_on, setup_of, ways_of}
 
 -- one is told an outcome: among those whom a cause serves, or at once
 abbrev pub notice : Who → Outcome → Notice

@@ -1,6 +1,6 @@
 //! What is done to consumers of a client, one or several of them.
 
-ghost use Rattle.std.specs.Prelude.{◌≡◌, ◌==◌, ◌&&◌, ◌++◌, ◌∷◌, [], ℕ, not, true, filter, IfOk, OnOk, None, Some, map, if◌then◌else◌};
+ghost use Rattle.std.specs.Prelude.{◌≡◌, ◌++◌, ◌∷◌, [], ℕ, not, filter, IfOk, OnOk, Some, map, if◌then◌else◌};
 ghost use Rattle.std.specs.BTreeMap.{keys};
 ghost use Rattle.std.specs.List.{flat_map};
 ghost use Rattle.std.specs.List.Sorted.{IsStrictlySortedBy};
@@ -8,7 +8,7 @@ ghost use Rattle.std.specs.Option.{option_map, option_to_list};
 ghost use Rattle.std.specs.Ordering.{nat_cmp};
 ghost use Rattle.pulsar_calls.specs.Content.{shown};
 ghost use Rattle.pulsar_consumer.specs.declared.polled.Ending.{Ending};
-ghost use Rattle.pulsar_consumer.specs.Topic.{Asks, Ends, Loses, Polls, lives_on, resubscribes};
+ghost use Rattle.pulsar_consumer.specs.Topic.{Asks, Ends, Loses, Polls, resubscribes};
 ghost use Rattle.pulsar_client.specs.Consumers as meaning;
 ghost use Rattle.pulsar_client.specs.Consumers.{at_row, flow_at, hears_frame, lives_at, member_after, polled, sought, word_if, word_of_frame};
 ghost use Rattle.pulsar_client.specs.KeptConsumers.{KeepsListed, listed_at, member_in, one_changed, rows_in, some_changed};

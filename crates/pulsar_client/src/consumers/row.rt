@@ -1,10 +1,8 @@
 //! One consumer of a client.
 
-ghost use Rattle.std.specs.Prelude.{◌≡◌, ◌++◌, ◌∷◌, [], ◌&&◌, ◌==◌, not, IfOk, OnOk, Some};
-ghost use Rattle.std.specs.Option.{option_map};
+ghost use Rattle.std.specs.Prelude.{◌≡◌, [], ◌&&◌, ◌==◌, not, IfOk, OnOk, Some};
 ghost use Rattle.pulsar_calls.specs.Content.{shown};
-ghost use Rattle.pulsar_consumer.specs.Commands.{command_of};
-ghost use Rattle.pulsar_consumer.specs.Topic.{Ends, Hears, Lives, Loses, Polls, is_ended, link_of, lives_on};
+ghost use Rattle.pulsar_consumer.specs.Topic.{Ends, Hears, Loses, Polls, is_ended, lives_on};
 ghost use Rattle.pulsar_consumer.specs.Frames.{frame_in};
 ghost use Rattle.pulsar_client.specs.Consumers as meaning;
 ghost use Rattle.pulsar_client.specs.Consumers.{ends_on, failed, flow_at, hears_frame, member_after, polled, polled_item, polled_so, revived, seeks, sought, stopped, subscribed_on, unsought, who_of, word_if, word_of_frame};

@@ -1,17 +1,17 @@
 //! The consumers of a client.
 
-ghost use Rattle.std.specs.Prelude.{◌≡◌, ◌==◌, ◌&&◌, ◌||◌, ◌-◌, ◌^◌, ◌++◌, ◌∷◌, [], ℕ, false, true, not, IfOk, OnOk, None, Some, IsTrue, ◌↔◌, map, if◌then◌else◌};
+ghost use Rattle.std.specs.Prelude.{◌≡◌, ◌++◌, false, true, IfOk, OnOk, None, Some, IsTrue, ◌↔◌, if◌then◌else◌};
 ghost use Rattle.std.proofs.Props.{props};
 ghost use Rattle.std.specs.BTreeMap.{IsOrdered};
-ghost use Rattle.std.specs.List.{flat_map, list_any};
+ghost use Rattle.std.specs.List.{flat_map};
 ghost use Rattle.std.specs.Option.{is_some, option_copied, option_map, option_to_list};
 ghost use Rattle.std.specs.Ordering.{nat_cmp};
 ghost use Rattle.pulsar_calls.specs.Content.{shown};
 ghost use Rattle.pulsar_calls.specs.declared.act.Word.{Word};
 ghost use Rattle.pulsar_consumer.specs.Topic.{Polls};
 ghost use Rattle.pulsar_client.specs.Consumers as meaning;
-ghost use Rattle.pulsar_client.specs.Consumers.{IsHeard, all_changed, changed, closes, hears, is_ended_at, is_in_use, is_passed, joined, link_at, loses_by, member_after, member_of, names_in, next_free, none, number_at, numbered, numbering, over_rows, polled, some_row, sought, why_not};
-ghost use Rattle.pulsar_client.specs.KeptConsumers.{AreListed, consumers_in, listed_at, member_in, rows_in};
+ghost use Rattle.pulsar_client.specs.Consumers.{IsHeard, all_changed, changed, closes, hears, is_ended_at, is_in_use, is_passed, joined, link_at, member_after, names_in, next_free, none, number_at, numbered, numbering, over_rows, polled, some_row, sought, why_not};
+ghost use Rattle.pulsar_client.specs.KeptConsumers.{AreListed, consumers_in, member_in, rows_in};
 ghost use Rattle.pulsar_client.specs.Reading.{again_at, heard_at, polled_due, revived_at, stopped_seekers, word_to};
 
 use crate::consumers::hearing::{

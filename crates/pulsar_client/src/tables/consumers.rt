@@ -34,7 +34,6 @@ use pulsar_link::raw_call::RawCall;
 use pulsar_plans::content::Refusal as Failure;
 use pulsar_wire::commands::ids::MessageIdData;
 use pulsar_wire::error::{ConnectionError, NoMemory};
-use std::alloc::Global;
 
 impl Tables {
     /// A consumer is polled. A flow of it may be due then.

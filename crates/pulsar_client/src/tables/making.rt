@@ -8,7 +8,6 @@ ghost use Rattle.pulsar_client.specs.Reading.{due_to, made_due, serves_by};
 ghost use Rattle.pulsar_client.specs.Rules.{left_with};
 ghost use Rattle.pulsar_client.specs.Tables.{chosen_of, view_of};
 ghost use Rattle.pulsar_client.specs.View.{consumers_left, consumers_made, joins_as, member_on, producers_made, setup_of, ways_of};
-ghost use Rattle.pulsar_consumer.specs.Topic.{of_raw};
 ghost use Rattle.pulsar_calls.specs.Who.{ticket_of};
 
 use crate::consumers::hearing::due;

@@ -1,6 +1,6 @@
 //! The tables of a client, and one step of them.
 
-ghost use Rattle.std.specs.Prelude.{◌≡◌, ◌++◌, ◌∷◌, [], List, map, IfOk, None, OnOk, true};
+ghost use Rattle.std.specs.Prelude.{◌≡◌, ◌++◌, ◌∷◌, [], List, map, IfOk, OnOk, true};
 ghost use Rattle.pulsar_run.specs.Order.{arranged};
 ghost use Rattle.pulsar_calls.specs.Content.{Heard, asked, heard, shown};
 ghost use Rattle.pulsar_client.specs.Effects.{effect_below, effects};

@@ -1,12 +1,7 @@
-use Rattle.std.proofs.Common.{◌∙◌, ◌++◌, ◌∷◌, [], Bor, ℕ, ap, cond, filter, map, subst, sym}
+use Rattle.std.proofs.Common.{◌∙◌, ◌++◌, ◌∷◌, [], Bor, ℕ, ap, cond, filter, map, sym}
 use Rattle.std.proofs.lemmas.List.{map-append}
-use Rattle.std.proofs.lemmas.List.Kept.{IsStrictlySortedBy-filter}
-use Rattle.std.proofs.lemmas.Map.Iter.{iter_end}
-use Rattle.std.specs.List.Sorted.{IsStrictlySortedBy}
-use Rattle.std.specs.Option.{option_copied}
-use Rattle.std.specs.Ordering.{nat_cmp}
 use Rattle.pulsar_client.specs.Consumers.{lives_with}
-use Rattle.pulsar_client.specs.KeptConsumers.{rows_in, tickets_of}
+use Rattle.pulsar_client.specs.KeptConsumers.{rows_in}
 use Rattle.pulsar_client.proofs.Rows.{filter_end}
 use Rattle.pulsar_client.proofs.consumers.hearing.living.Goals as goal
 

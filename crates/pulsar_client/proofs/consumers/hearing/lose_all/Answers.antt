@@ -1,10 +1,9 @@
-use Rattle.std.proofs.Common.{◌≡◌, ◌∙◌, ◌++◌, ℕ, ap, append_assoc, get_or, not, sym, take}
+use Rattle.std.proofs.Common.{◌≡◌, ◌∙◌, ◌++◌, ℕ, ap, get_or, sym, take}
 use Rattle.std.proofs.lemmas.List.{take_more}
 use Rattle.std.specs.List.{flat_map}
-use Rattle.pulsar_calls.specs.declared.act.Word.TheVariants.{Lost, Over}
-use Rattle.pulsar_consumer.specs.Topic.{Ends, Loses, resubscribes}
-use Rattle.pulsar_consumer.specs.declared.polled.Ending.TheVariants.{Closed}
-use Rattle.pulsar_client.specs.Consumers.{Member, at_row, hears_frame, member_after, word_if, word_of_frame}
+use Rattle.pulsar_calls.specs.declared.act.Word.TheVariants.{Lost}
+use Rattle.pulsar_consumer.specs.Topic.{Loses, resubscribes}
+use Rattle.pulsar_client.specs.Consumers.{Member, at_row, member_after, word_if}
 use Rattle.pulsar_client.specs.KeptConsumers.{one_changed, rows_in, some_changed}
 use Rattle.pulsar_client.specs.Reading.{word_to}
 use Rattle.pulsar_client.proofs.Several.{apart_at, more_changed, more_given}

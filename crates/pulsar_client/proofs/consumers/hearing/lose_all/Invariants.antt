@@ -1,10 +1,9 @@
-use Rattle.std.proofs.Common.{◌≡◌, ◌++◌, ℕ, not, take}
+use Rattle.std.proofs.Common.{◌≡◌, ℕ, take}
 use Rattle.std.specs.BTreeMap.{keys}
 use Rattle.std.specs.List.{flat_map}
-use Rattle.pulsar_calls.specs.declared.act.Word.TheVariants.{Lost, Over}
-use Rattle.pulsar_consumer.specs.Topic.{Ends, Loses, resubscribes}
-use Rattle.pulsar_consumer.specs.declared.polled.Ending.TheVariants.{Closed}
-use Rattle.pulsar_client.specs.Consumers.{at_row, hears_frame, member_after, word_if, word_of_frame}
+use Rattle.pulsar_calls.specs.declared.act.Word.TheVariants.{Lost}
+use Rattle.pulsar_consumer.specs.Topic.{Loses, resubscribes}
+use Rattle.pulsar_client.specs.Consumers.{at_row, member_after, word_if}
 use Rattle.pulsar_client.specs.KeptConsumers.{rows_in, some_changed}
 use Rattle.pulsar_client.specs.Reading.{word_to}
 use Rattle.pulsar_client.proofs.consumers.hearing.lose_all.Given as goal

@@ -6,7 +6,7 @@ use Rattle.pulsar_run.specs.Order.{put_all}
 use Rattle.pulsar_client.specs.Reading.{made_due}
 use Rattle.pulsar_client.specs.Rules.{below}
 use Rattle.pulsar_client.specs.Run.{Agenda}
-use Rattle.pulsar_client.specs.Tables.{agenda_of, view_of}
+use Rattle.pulsar_client.specs.Tables.{agenda_of}
 use Rattle.pulsar_client.specs.View.{View, consumers_left, consumers_made, producers_made}
 use Rattle.pulsar_client.proofs.tables.Tables.answers.Goals as goal
 

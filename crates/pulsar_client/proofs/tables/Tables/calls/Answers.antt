@@ -1,4 +1,4 @@
-use Rattle.std.proofs.Common.{◌≡◌, ◌∙◌, ◌+◌, ◌-◌, ◌^◌, ◌∷◌, ◌++◌, ap, cond, Some, None}
+use Rattle.std.proofs.Common.{◌∙◌, ◌+◌, ◌-◌, ◌^◌, ◌∷◌, ◌++◌, ap, cond, Some, None}
 use Rattle.std.proofs.lemmas.Result.{on_ok_weaker}
 use Rattle.pulsar_calls.specs.declared.act.Act.TheVariants.{Answers, Starts}
 use Rattle.pulsar_calls.specs.declared.act.Who.TheVariants.{Call}

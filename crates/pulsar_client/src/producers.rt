@@ -31,7 +31,7 @@ use pulsar_producer::storage::Limits;
 use pulsar_producer::{CustomRoutingPolicy, Producer, TopicProducer};
 use pulsar_wire::error::NoMemory;
 use std::alloc::Global;
-use std::collections::{BTreeMap, BTreeSet, VecDeque};
+use std::collections::{BTreeMap, BTreeSet};
 
 /// A topic producer, and the ticket of the producer that it belongs to.
 #[derive(Drop)]

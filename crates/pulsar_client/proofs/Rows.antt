@@ -1,18 +1,23 @@
 -- All consumers, as the code keeps them: by their entries, and by their tickets.
-use Rattle.std.proofs.Common.{◌≡◌, ◌∙◌, ℕ, ◌||◌, ◌++◌, sym, ap, refl, cond, filter, Bool, true, false, List, [], ◌∷◌, Option, Some, inl, inr}
+use Rattle.std.proofs.Common.{◌==◌, ◌≡◌, ◌∙◌, ℕ, ◌||◌, ◌++◌, sym, ap, refl, cond, filter, Bool, true, false, List, [], ◌∷◌, Option, Some, inl, inr}
 use Rattle.std.proofs.lemmas.Bool.{cases_Bool, false≢true, or_right}
 use Rattle.std.proofs.lemmas.Cmp.{nat_cmp_total}
 use Rattle.std.proofs.lemmas.List.{append-nil}
 use Rattle.std.proofs.lemmas.List.Elements.{recursion_from_All}
 use Rattle.std.proofs.lemmas.Map.Views.{All-found}
-use Rattle.std.specs.BTreeMap.{BTreeMap, IsOrdered, get, is_at, keys}
+use Rattle.std.specs.BTreeMap.{BTreeMap, IsOrdered, get, insert_entry, is_at, keys}
+use Rattle.std.specs.BTreeSet.{insert_key}
 use Rattle.std.specs.List.{AllByRecursion, flat_map, list_any}
 use Rattle.std.specs.Map.{keys_of, lookup}
 use Rattle.std.specs.Option.{is_some, option_map, option_to_list}
-use Rattle.std.specs.Ordering.{nat_cmp}
+use Rattle.std.specs.Ordering.{match_ordering, nat_cmp}
+use Rattle.std.specs.declared.cmp.Ordering.{Ordering}
+use Rattle.std.specs.declared.cmp.Ordering.TheVariants.{Less, Equal, Greater}
+use Rattle.pulsar_requests.proofs.Awaiting.{is_at-eqb}
 use Rattle.pulsar_client.specs.declared.consumers.row.ConsumerRow.{ConsumerRow}
 use Rattle.pulsar_client.specs.Consumers.{Member, at_row}
 use Rattle.pulsar_client.specs.KeptConsumers.{member_in, rows_in}
+use Rattle.pulsar_client.proofs.Places.{swapped}
 
 abbrev Found : BTreeMap ℕ ConsumerRow → List (ℕ × ConsumerRow) → Type 0
 Found rows es = AllByRecursion (λ e. get nat_cmp rows e.0 ≡ Some e.1) es
@@ -57,6 +62,29 @@ keys_end p (f ∷ es) e = elim (cases_Bool (p f)) [ inl y ↦ rw y (ap (λ xs. f
 pub filter_end : (p : ℕ → Bool) (ts : List ℕ) (t : ℕ) → filter p (ts ++ t ∷ []) ≡ filter p ts ++ cond (p t) (t ∷ []) []
 filter_end p [] t = elim (cases_Bool (p t)) [ inl y ↦ rw y refl | inr n ↦ rw n refl ]
 filter_end p (u ∷ ts) t = elim (cases_Bool (p u)) [ inl y ↦ rw y (ap (λ xs. u ∷ xs) (filter_end p ts t)) | inr n ↦ rw n (filter_end p ts t) ]
+
+-- ONE MORE, AND ITS TICKET
+
+keys_insert_by : {X : Type 0} (es : List (ℕ × X)) (e : ℕ × X) (k : ℕ) (v : X) → keys_of (insert_entry nat_cmp es k v) ≡ insert_key nat_cmp (keys_of es) k → (o : Ordering) →
+    keys_of (match_ordering o ((k, v) ∷ e ∷ es) ((e.0, v) ∷ es) (e ∷ insert_entry nat_cmp es k v))
+    ≡ match_ordering o (k ∷ e.0 ∷ keys_of es) (e.0 ∷ keys_of es) (e.0 ∷ insert_key nat_cmp (keys_of es) k)
+keys_insert_by es e k v h Less = refl
+keys_insert_by es e k v h Equal = refl
+keys_insert_by es e k v h Greater = ap (λ ks. e.0 ∷ ks) h
+
+pub keys_insert : {X : Type 0} (es : List (ℕ × X)) (k : ℕ) (v : X) → keys_of (insert_entry nat_cmp es k v) ≡ insert_key nat_cmp (keys_of es) k
+keys_insert [] k v = refl
+keys_insert (e ∷ es) k v = keys_insert_by es e k v (keys_insert es k v) (nat_cmp k e.0)
+
+-- what is seen where one is put, or written
+pub put : (ticket t : ℕ) (row : ConsumerRow) (old new : Option ConsumerRow) → new ≡ cond (is_at (nat_cmp ticket) t) (Some row) old →
+    option_map member_in new ≡ cond (t == ticket) (Some (member_in row)) (option_map member_in old)
+put ticket t row old new h =
+    ap (option_map member_in) h ∙ ap (λ b. option_map member_in (cond b (Some row) old)) (is_at-eqb ticket t ∙ swapped ticket t) ∙ by (t == ticket)
+  where
+    by : (b : Bool) → option_map member_in (cond b (Some row) old) ≡ cond b (Some (member_in row)) (option_map member_in old)
+    by true = refl
+    by false = refl
 
 -- whether one is so
 any_of : (test : Option Member → Bool) (rows : BTreeMap ℕ ConsumerRow) (es : List (ℕ × ConsumerRow)) → Found rows es →

@@ -1,8 +1,9 @@
 -- The consumers of a client: what is seen of them, and what becomes of that.  (Pulsar binary protocol, Consumer)
-use Rattle.std.specs.Prelude.{ℕ, zero, suc, ◌+◌, ◌-◌, ◌^◌, ◌==◌, ◌≡◌, ◌&&◌, ◌||◌, not, Bool, true, false, if◌then◌else◌, List, [], ◌∷◌, ◌++◌, filter, Option, Some, None}
-use Rattle.std.specs.BTreeMap.{insert_entry}
+use Rattle.std.specs.Prelude.{ℕ, zero, suc, ◌+◌, ◌-◌, ◌^◌, ◌==◌, ◌≡◌, ◌&&◌, ◌||◌, not, Bool, true, false, if◌then◌else◌, List, [], ◌∷◌, ◌++◌, Option, Some, None}
+use Rattle.std.specs.BTreeMap.{insert_entry, is_at}
 use Rattle.std.specs.BTreeSet.{insert_key}
 use Rattle.std.specs.List.{flat_map, list_any}
+use Rattle.std.specs.Map.{remove_entry}
 use Rattle.std.specs.Option.{option_map, option_to_list}
 use Rattle.std.specs.Ordering.{nat_cmp}
 use Rattle.url.specs.Parts.{Parts}
@@ -302,7 +303,7 @@ numbered t wanted cs = drew (next_free cs) wanted (holds t (numbering cs wanted)
 
 -- a call that has ended holds no number
 abbrev pub freed : (ticket : ℕ) → Consumers → Consumers
-freed t cs = record cs { held = filter (λ e. not (e.0 == t)) cs.held }
+freed t cs = record cs { held = remove_entry (is_at (nat_cmp t)) cs.held }
 
 -- a raw call names a number
 abbrev pub names_in : Option ℕ → Consumers → Consumers

@@ -1,9 +1,10 @@
 //! The numbers of consumers: those that are held while consumers are built, those that raw calls have named, and the next.
 
-ghost use Rattle.std.specs.Prelude.{◌≡◌, ◌==◌, [], not, OnOk, filter};
-ghost use Rattle.std.specs.BTreeMap.{insert_entry};
+ghost use Rattle.std.specs.Prelude.{◌≡◌, ◌==◌, [], OnOk};
+ghost use Rattle.std.specs.BTreeMap.{insert_entry, is_at};
 ghost use Rattle.std.specs.BTreeSet.{insert_key};
 ghost use Rattle.std.specs.List.{list_any};
+ghost use Rattle.std.specs.Map.{remove_entry};
 ghost use Rattle.std.specs.Ordering.{nat_cmp};
 ghost use Rattle.pulsar_client.specs.Consumers.{behind, is_held};
 
@@ -71,7 +72,7 @@ impl Numbers {
 
     /// The call of this ticket holds no number.
     pub fn free(&mut self, ticket: u64)
-        ensures held { self.new.held.entries ≡ filter (λ e. not (e.0 == ticket)) self.old.held.entries }
+        ensures held { self.new.held.entries ≡ remove_entry (is_at (nat_cmp ticket)) self.old.held.entries }
         ensures named { self.new.named ≡ self.old.named }
         ensures next { self.new.next ≡ self.old.next }
     {

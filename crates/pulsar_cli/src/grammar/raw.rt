@@ -17,8 +17,7 @@ use crate::grammar::encoded::id;
 use crate::grammar::message::message;
 use crate::grammar::producer::options;
 use crate::grammar::word::{
-    is, number, optional_bytes, optional_number, optional_text, small_number, text,
-    word_bytes,
+    is, number, optional_bytes, optional_number, optional_text, small_number, text, word_bytes,
 };
 use pulsar_client::{Authentication, RawCall};
 use pulsar_wire::{MessageIdData, NoMemory};

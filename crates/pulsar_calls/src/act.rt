@@ -1,7 +1,9 @@
 //! What a step is made of: acts, each one thing that happens. There are six kinds of act, and all that is special to a kind of
 //! call, thing or event stands one level below them.
 
-use crate::content::{Advice, Asking, Cause, Granted, Joined, Made, Notices, Numbers, Recalled, Remade, Said};
+use crate::content::{
+    Advice, Asking, Cause, Granted, Joined, Made, Notices, Numbers, Recalled, Remade, Said,
+};
 use pulsar_consumer::building::Order as ConsumerOrder;
 use pulsar_link::content::{Received, Request, Subscribed};
 use pulsar_plans::content::{Address, Refusal as Failure};
@@ -241,14 +243,20 @@ pub enum Procedure {
     },
     /// Serve the consumer of this number: ask for its flows, make its subscription again where that is lost, and close it where its
     /// topic ends.
-    Serve { ways: Ways, number: u64 },
+    Serve {
+        ways: Ways,
+        number: u64,
+    },
     /// Ask for this on the link of a live subscription, where there is one.
     Acknowledge {
         link: Option<u64>,
         request: Request,
     },
     /// Close the consumer of this ticket, which has this number.
-    Leave { consumer: u64, number: u64 },
+    Leave {
+        consumer: u64,
+        number: u64,
+    },
     /// Fail.
     Refuse(Refusal),
 }

@@ -23,10 +23,7 @@ pub fn acknowledges(
     ensures { IfOk result (λ turn. turn ≡ acknowledges link request) }
 {
     match link {
-        Some(link) => Ok(Turn::Stays(
-            Plan::Acknowledging,
-            Action::Ask { link, request },
-        )),
+        Some(link) => Ok(Turn::Stays(Plan::Acknowledging, Action::Ask { link, request })),
         None => over(alloc),
     }
 }

@@ -11,7 +11,10 @@ use crate::effect::Answer;
 use crate::plans::search_state::SearchState;
 use crate::plans::service::Service;
 use crate::plans::states::{BatchState, BuildState, ConsumerState, SendState};
-use crate::plans::{answers, batches, departing, gathering, producing, search, sends, serving, subscribing, visiting};
+use crate::plans::{
+    answers, batches, departing, gathering, producing, search, sends, serving, subscribing,
+    visiting,
+};
 use pulsar_consumer::building::Order as ConsumerOrder;
 use pulsar_link::content::{Received, Request, Subscribed};
 use pulsar_plans::content::Refusal as Failure;
@@ -19,7 +22,9 @@ use pulsar_plans::turn::Ways;
 use pulsar_producer::building::Order;
 use pulsar_producer::deed;
 use pulsar_producer::sending::Errand;
-use pulsar_wire::error::{ConnectionError, ConsumerError, Error, IoKind, NoMemory, ProducerError, Reason};
+use pulsar_wire::error::{
+    ConnectionError, ConsumerError, Error, IoKind, NoMemory, ProducerError, Reason,
+};
 use std::alloc::Global;
 
 /// A plan stays, in this state, and does this action, or it ends and gives its verdict.
@@ -115,7 +120,10 @@ pub enum Plan {
     /// It has asked for an acknowledgement.
     Acknowledging,
     /// It closes the consumer of this ticket, which has this number, and finds its link.
-    Departing { consumer: u64, number: u64 },
+    Departing {
+        consumer: u64,
+        number: u64,
+    },
     /// It ends every link.
     Stopping,
 }

@@ -229,12 +229,7 @@ fn resubscribes(
 }
 
 /// The new subscription is live, or the consumer has ended meanwhile.
-fn in_reviving(
-    ways: Ways,
-    number: u64,
-    link: u64,
-    outcome: Outcome,
-) -> Turn<Plan, Verdict>
+fn in_reviving(ways: Ways, number: u64, link: u64, outcome: Outcome) -> Turn<Plan, Verdict>
     ensures { result ≡ in_reviving ways number link outcome }
 {
     match outcome {

@@ -42,9 +42,7 @@ impl Plans {
     {
         match who {
             Who::Call(ticket) => self.calls.remove(&ticket),
-            Who::Consumer { number, ticket } => {
-                remove_pair(&mut self.consumers, (number, ticket))
-            }
+            Who::Consumer { number, ticket } => remove_pair(&mut self.consumers, (number, ticket)),
             Who::Producer(number) => self.producers.remove(&number),
         }
     }

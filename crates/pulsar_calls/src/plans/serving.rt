@@ -244,7 +244,12 @@ fn closes_on(ways: Ways, number: u64, link: u64) -> Turn<Plan, Verdict>
     ensures { result ≡ closes_on ways number link }
 {
     let request = Request::closing(number);
-    stays(ways, number, Service::Closing, Action::Ask { link, request })
+    stays(
+        ways,
+        number,
+        Service::Closing,
+        Action::Ask { link, request },
+    )
 }
 
 fn stays(ways: Ways, number: u64, service: Service, action: Action) -> Turn<Plan, Verdict>

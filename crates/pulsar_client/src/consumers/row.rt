@@ -2,9 +2,8 @@
 
 ghost use Rattle.std.specs.Prelude.{◌≡◌, [], ◌&&◌, ◌==◌, not, IfOk, OnOk, Some};
 ghost use Rattle.pulsar_calls.specs.Content.{shown};
-ghost use Rattle.pulsar_consumer.specs.Topic.{Ends, Hears, Loses, Polls, is_ended, lives_on};
+ghost use Rattle.pulsar_consumer.specs.Topic.{Asks, Ends, Hears, Loses, Polls, is_due as is_flow_due, is_ended, lives_on, resubscribes};
 ghost use Rattle.pulsar_consumer.specs.Frames.{frame_in};
-ghost use Rattle.pulsar_client.specs.Consumers as meaning;
 ghost use Rattle.pulsar_client.specs.Consumers.{ends_on, failed, flow_at, hears_frame, member_after, polled, polled_item, polled_so, revived, seeks, sought, stopped, subscribed_on, unsought, who_of, word_if, word_of_frame};
 ghost use Rattle.pulsar_client.specs.KeptConsumers.{is_known, member_in};
 
@@ -109,7 +108,7 @@ impl ConsumerRow {
         link: u64,
         reply: Received,
     ) -> Result<Option<Word>, NoMemory>
-        ensures word { IfOk result (λ w. w ≡ word_if (lives_on link (member_in self.old).seen && meaning.is_flow_due (member_after (Hears link (frame_in reply)) (member_in self.old)).seen) Word.Due) }
+        ensures word { IfOk result (λ w. w ≡ word_if (lives_on link (member_in self.old).seen && is_flow_due (member_after (Hears link (frame_in reply)) (member_in self.old)).seen) Word.Due) }
         ensures after { OnOk result (member_in self.new ≡ member_after (Hears link (frame_in reply)) (member_in self.old)) }
     {
         let lives = self.consumer.inner.lives_on(link);
@@ -120,7 +119,7 @@ impl ConsumerRow {
 
     /// Its topic ends, where its subscription on this link is live.
     fn end_topic(&mut self, link: u64) -> Option<Word>
-        ensures word { result ≡ word_if (meaning.resubscribes link (member_in self.old).seen) (Word.TopicEnded link) }
+        ensures word { result ≡ word_if (resubscribes link (member_in self.old).seen) (Word.TopicEnded link) }
         ensures after { member_in self.new ≡ ends_on link Ending.TopicEnded (member_in self.old) }
     {
         let is_served = self.consumer.inner.resubscribes(link);
@@ -132,7 +131,7 @@ impl ConsumerRow {
 
     /// Its subscription on this link is lost.
     pub fn lose(&mut self, link: u64) -> Option<Word>
-        ensures word { result ≡ word_if (meaning.resubscribes link (member_in self.old).seen) Word.Lost }
+        ensures word { result ≡ word_if (resubscribes link (member_in self.old).seen) Word.Lost }
         ensures after { member_in self.new ≡ member_after (Loses link) (member_in self.old) }
     {
         let is_served = self.consumer.inner.resubscribes(link);
@@ -173,7 +172,7 @@ impl ConsumerRow {
 
     /// A flow of it is due.
     pub fn due(&self) -> Option<Word>
-        ensures { result ≡ word_if (meaning.is_flow_due (member_in self.now).seen) Word.Due }
+        ensures { result ≡ word_if (is_flow_due (member_in self.now).seen) Word.Due }
     {
         word_if(self.consumer.inner.is_due(), Word::Due)
     }
@@ -181,7 +180,7 @@ impl ConsumerRow {
     /// The flow that is to be asked for next, with its link. It counts as asked for.
     pub fn take_flow(&mut self) -> Option<(u64, u32)>
         ensures flow { result ≡ flow_at (Some (member_in self.old)) }
-        ensures after { member_in self.new ≡ member_after meaning.Asks (member_in self.old) }
+        ensures after { member_in self.new ≡ member_after Asks (member_in self.old) }
     {
         let link = self.consumer.inner.link();
         let flow = self.consumer.inner.ask();

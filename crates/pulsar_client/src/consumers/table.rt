@@ -8,7 +8,7 @@ ghost use Rattle.std.specs.Option.{is_some, option_copied, option_map, option_to
 ghost use Rattle.std.specs.Ordering.{nat_cmp};
 ghost use Rattle.pulsar_calls.specs.Content.{shown};
 ghost use Rattle.pulsar_calls.specs.declared.act.Word.{Word};
-ghost use Rattle.pulsar_consumer.specs.Topic.{Polls};
+ghost use Rattle.pulsar_consumer.specs.Topic.{Asks, Loses, Polls, resubscribes};
 ghost use Rattle.pulsar_client.specs.Consumers as meaning;
 ghost use Rattle.pulsar_client.specs.Consumers.{IsHeard, all_changed, changed, closes, hears, is_ended_at, is_in_use, is_passed, joined, link_at, member_after, names_in, next_free, none, number_at, numbered, numbering, over_rows, polled, some_row, sought, why_not};
 ghost use Rattle.pulsar_client.specs.KeptConsumers.{AreListed, consumers_in, member_in, rows_in};
@@ -161,8 +161,8 @@ impl Consumers {
 
     /// A link ends: what those are told whose subscriptions were live on it.
     pub fn end(&mut self, link: u64) -> Result<Vec<Notice>, NoMemory>
-        ensures notices { IfOk result (λ ns. ns.items ≡ over_rows (λ t m. word_to t m (meaning.word_if (meaning.resubscribes link m.seen) Word.Lost)) (consumers_in self.old.rows self.old.numbers)) }
-        ensures after { OnOk result (consumers_in self.new.rows self.new.numbers ≡ all_changed (member_after (meaning.Loses link)) (consumers_in self.old.rows self.old.numbers)) }
+        ensures notices { IfOk result (λ ns. ns.items ≡ over_rows (λ t m. word_to t m (meaning.word_if (resubscribes link m.seen) Word.Lost)) (consumers_in self.old.rows self.old.numbers)) }
+        ensures after { OnOk result (consumers_in self.new.rows self.new.numbers ≡ all_changed (member_after (Loses link)) (consumers_in self.old.rows self.old.numbers)) }
     {
         if self.failed {
             return Err(NoMemory);
@@ -223,7 +223,7 @@ impl Consumers {
     /// The flow of a consumer that is to be asked for next, with its link. It counts as asked for.
     pub fn take_flow(&mut self, ticket: u64) -> Result<Option<(u64, u32)>, NoMemory>
         ensures flow { IfOk result (λ f. f ≡ meaning.flow_at ((consumers_in self.old.rows self.old.numbers).rows ticket)) }
-        ensures after { OnOk result (consumers_in self.new.rows self.new.numbers ≡ changed ticket (member_after meaning.Asks) (consumers_in self.old.rows self.old.numbers)) }
+        ensures after { OnOk result (consumers_in self.new.rows self.new.numbers ≡ changed ticket (member_after Asks) (consumers_in self.old.rows self.old.numbers)) }
     {
         if self.failed {
             return Err(NoMemory);

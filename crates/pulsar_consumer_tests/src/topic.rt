@@ -221,9 +221,7 @@ fn another_command_costs_nothing(rt: HostRuntime) -> Result<(), Fail> {
     assert!(rt; consumer.is_due() && consumer.ask() == Some(1));
     let command = BaseCommand {
         kind: 27,
-        body: Some(Body::ReachedEndOfTopic(CommandReachedEndOfTopic::new(
-            alloc,
-        ))),
+        body: Some(Body::ReachedEndOfTopic(CommandReachedEndOfTopic::new())),
     };
     let frame = frame(
         alloc,

@@ -56,7 +56,7 @@ impl Frame {
         ensures { IfOk result (λ f. f ≡ frame_in received) }
     {
         let Message { command, payload } = received.into_message();
-        match command.body {
+        match &command.body {
             Some(body) => frame_with(alloc, payload, body),
             None => Ok(Frame::empty(alloc, 0)),
         }
@@ -98,8 +98,8 @@ impl Frame {
 }
 
 /// What a body brings, with what stands behind it.
-fn frame_with(alloc: Global, payload: Option<Payload>, body: Body) -> Result<Frame, NoMemory>
-    ensures { IfOk result (λ f. f ≡ meaning.frame_with (option_map payload_values payload) (Some (body_values body))) }
+fn frame_with(alloc: Global, payload: Option<Payload>, body: &Body) -> Result<Frame, NoMemory>
+    ensures { IfOk result (λ f. f ≡ meaning.frame_with (option_map payload_values payload) (Some (body_values body.now))) }
 {
     match body {
         Body::Message(message) => frame_of_message(alloc, payload, message),
@@ -112,12 +112,12 @@ fn frame_with(alloc: Global, payload: Option<Payload>, body: Body) -> Result<Fra
 fn frame_of_message(
     alloc: Global,
     payload: Option<Payload>,
-    message: CommandMessage,
+    message: &CommandMessage,
 ) -> Result<Frame, NoMemory>
-    ensures { IfOk result (λ f. f ≡ meaning.frame_with (option_map payload_values payload) (Some (body_values (Body.Message message)))) }
+    ensures { IfOk result (λ f. f ≡ meaning.frame_with (option_map payload_values payload) (Some (body_values (Body.Message message.now)))) }
 {
     match payload {
-        Some(payload) => frame_of(alloc, message.message_id, payload),
+        Some(payload) => frame_of(alloc, message.message_id.copy()?, payload),
         None => Ok(Frame::empty(alloc, 1)),
     }
 }

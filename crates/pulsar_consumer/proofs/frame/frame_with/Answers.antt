@@ -20,4 +20,4 @@ pub returns-in-Message : goal.returns-in-Message
 returns-in-Message c = rw c.in-Message.is c.frame_of_message.ensures
 
 pub returns-in_default : goal.returns-in_default
-returns-in_default c = c.empty.ensures ∙ other (option_map payload_values c.args.payload) c.args.body c.in_default.not-Message
+returns-in_default c = c.empty.ensures ∙ other (option_map payload_values c.args.payload) c.args.body.now c.in_default.not-Message

@@ -16,7 +16,7 @@ use Rattle.pulsar_wire.specs.declared.commands.enumerations.InitialPosition.TheV
 use Rattle.pulsar_wire.specs.declared.commands.enumerations.SubType.{SubType}
 use Rattle.pulsar_messages.specs.Content.{ConsumerOptionsValues, Property, empty_consumer_options}
 use Rattle.pulsar_consumer.specs.Content.{ConsumerWanted, also_reads, no_consumer}
-use Rattle.pulsar_cli.specs.ConsumerWords.{Draft, Subscriber, all, blank, consumer, level, one, subscriber_in, who_subscribes, with_meta, with_options}
+use Rattle.pulsar_cli.specs.ConsumerWords.{Draft, all, blank, consumer, level, one, subscriber_in, who_subscribes, with_meta, with_options}
 use Rattle.pulsar_cli.specs.WordText.{word}
 use Rattle.pulsar_cli.specs.WrittenRaw.{CanConsume, CanSubscribe, IsCount, IsId, IsNumber, IsProperty, IsSchema, IsText, IsUnsigned, Where, consumer_words, flag_word, id_word, meta_word, position_words, signed_word, sub_type_word, subscriber_words}
 use Rattle.pulsar_cli.proofs.WrittenLines.{IsWithinWord, decimal-within, hex-within, number-decimal, same-some, text-word, word-within}

@@ -5,5 +5,5 @@ use Rattle.pulsar_client.specs.KeptConsumers.{member_in}
 use Rattle.pulsar_client.specs.Reading.{stopped_seekers}
 use Rattle.pulsar_client.proofs.consumers.hearing.stop_seekers.Given as goal
 
-abbrev pub invariant-loop : goal.invariant-loop
-invariant-loop l = l.notices.items ≡ l.fn.notices.items ++ flat_map (λ e. stopped_seekers e.0 (member_in e.1)) (map deref_pair l.yielded)
+abbrev pub invariant-loop-row : goal.invariant-loop-row
+invariant-loop-row l = l.notices.items ≡ l.fn.notices.items ++ flat_map (λ e. stopped_seekers e.0 (member_in e.1)) (map deref_pair l.yielded)

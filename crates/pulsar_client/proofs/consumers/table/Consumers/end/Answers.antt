@@ -17,7 +17,7 @@ invariant_of-self-2 c =
     let l = c.args.link in
     record {
       ordered = λ whole. subst (IsStrictlySortedBy nat_cmp) (sym c.in_ok-notices.ensures.tickets) (cs.ordered c.if-self.false);
-      listed = λ whole. some_listed cs.listing (rows_in cs.rows) (cs.listed c.if-self.false) c.prune_each.new.listing c.in_ok-tickets.tickets.items (member_after (Loses l))
+      listed = λ whole. some_listed cs.listing (rows_in cs.rows) (cs.listed c.if-self.false) c.prune_each.new.listing c.deref.result.now (member_after (Loses l))
           (rows_in c.lose_all.new.rows) (act_holds (Loses l)) c.in_ok-notices.ensures.rows c.in_ok-prune_each.ensures;
     }
 
@@ -25,18 +25,18 @@ pub returns-clause-notices : goal.returns-clause-notices
 returns-clause-notices c =
     let cs = c.args.self.now in
     let l = c.args.link in
-    let ts = c.in_ok-tickets.tickets.items in
-    let found = living_on_found l cs.rows ts c.in_ok-tickets.ensures.tickets in
+    let ts = c.deref.result.now in
+    let found = living_on_found l cs.rows ts (c.deref.ensures.value ∙ c.in_ok-tickets.ensures.tickets) in
     c.in_ok-notices.ensures.notices
     ∙ found_give cs.rows (lives_at l) ts found (λ t m. word_to t m (word_if (resubscribes l m.seen) Lost)) (λ t m. word_to t m (word_if (resubscribes l m.seen) Lost))
-      c.in_ok-tickets.ensures.sorted (cs.ordered c.if-self.false) (none_lost l) (λ t m h. refl)
+      (subst (IsStrictlySortedBy nat_cmp) (sym c.deref.ensures.value) c.in_ok-tickets.ensures.sorted) (cs.ordered c.if-self.false) (none_lost l) (λ t m h. refl)
 
 pub returns-clause-after : goal.returns-clause-after
 returns-clause-after c =
     let cs = c.args.self.now in
     let l = c.args.link in
-    let ts = c.in_ok-tickets.tickets.items in
-    let found = living_on_found l cs.rows ts c.in_ok-tickets.ensures.tickets in
+    let ts = c.deref.result.now in
+    let found = living_on_found l cs.rows ts (c.deref.ensures.value ∙ c.in_ok-tickets.ensures.tickets) in
     consumers_are _ _
     (found_change cs.rows (lives_at l) ts found (member_after (Loses l)) (member_after (Loses l)) (rows_in c.lose_all.new.rows) (lost_by l) c.in_ok-notices.ensures.rows)
     c.in_ok-notices.ensures.tickets refl refl refl

@@ -13,7 +13,7 @@ use Rattle.pulsar_client.proofs.consumers.table.Consumers.hear_frame.Goals as go
 pub invariant_of-self-2 : goal.invariant_of-self-2
 invariant_of-self-2 c =
     let cs = c.args.self.now in
-    let ts = c.in_ok-tickets.tickets.items in
+    let ts = c.deref.result.now in
     record {
       ordered = λ whole. subst (IsStrictlySortedBy nat_cmp) (sym c.in_ok-notices.ensures.tickets) (cs.ordered c.if-self.false);
       listed = λ whole. some_listed cs.listing (rows_in cs.rows) (cs.listed c.if-self.false) c.prune_all.new.listing ts (hears_frame c.args.link c.args.reply)
@@ -26,10 +26,10 @@ returns-clause-notices c =
     let n = c.args.number in
     let l = c.args.link in
     let r = c.args.reply in
-    let ts = c.in_ok-tickets.tickets.items in
-    let found = living_found n l cs.listing (rows_in cs.rows) (cs.listed c.if-self.false) ts c.in_ok-tickets.ensures.tickets in
+    let ts = c.deref.result.now in
+    let found = living_found n l cs.listing (rows_in cs.rows) (cs.listed c.if-self.false) ts (c.deref.ensures.value ∙ c.in_ok-tickets.ensures.tickets) in
     c.in_ok-notices.ensures.notices
-    ∙ found_give cs.rows (lives_with n l) ts found (heard_at l (Gives n r)) (λ t m. word_to t m (word_of_frame l r m)) c.in_ok-tickets.ensures.sorted
+    ∙ found_give cs.rows (lives_with n l) ts found (heard_at l (Gives n r)) (λ t m. word_to t m (word_of_frame l r m)) (subst (IsStrictlySortedBy nat_cmp) (sym c.deref.ensures.value) c.in_ok-tickets.ensures.sorted)
       (cs.ordered c.if-self.false) (none_told n l r) (same_told n l r)
 
 pub returns-clause-after : goal.returns-clause-after
@@ -38,8 +38,8 @@ returns-clause-after c =
     let n = c.args.number in
     let l = c.args.link in
     let r = c.args.reply in
-    let ts = c.in_ok-tickets.tickets.items in
-    let found = living_found n l cs.listing (rows_in cs.rows) (cs.listed c.if-self.false) ts c.in_ok-tickets.ensures.tickets in
+    let ts = c.deref.result.now in
+    let found = living_found n l cs.listing (rows_in cs.rows) (cs.listed c.if-self.false) ts (c.deref.ensures.value ∙ c.in_ok-tickets.ensures.tickets) in
     consumers_are _ _
     (found_change cs.rows (lives_with n l) ts found (hears l (Gives n r)) (hears_frame l r) (rows_in c.hear_all.new.rows) (heard_by n l r) c.in_ok-notices.ensures.rows)
     c.in_ok-notices.ensures.tickets refl refl refl

@@ -3,7 +3,7 @@ use Rattle.pulsar_client.specs.Consumers.{free_from, is_passed, next_free}
 use Rattle.pulsar_client.specs.KeptConsumers.{consumers_in}
 use Rattle.pulsar_client.proofs.consumers.table.Consumers.next_free.Given as goal
 
-abbrev pub invariant-loop : goal.invariant-loop
-invariant-loop l =
+abbrev pub invariant-loop-number : goal.invariant-loop-number
+invariant-loop-number l =
     let cs = consumers_in l.self.rows l.self.numbers in
     free_from (2 ^ 64 - 1 - l.number) (is_passed cs) l.number ≡ next_free cs

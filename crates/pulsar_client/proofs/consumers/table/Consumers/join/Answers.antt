@@ -1,8 +1,8 @@
-use Rattle.std.proofs.Common.{◌∙◌, ap, refl}
+use Rattle.std.proofs.Common.{◌∙◌, ◌==◌, ◌&&◌, ◌||◌, ap, refl}
 use Rattle.std.specs.BTreeMap.{get}
 use Rattle.std.specs.Map.{keys_of}
 use Rattle.std.specs.Ordering.{nat_cmp}
-use Rattle.pulsar_client.specs.KeptConsumers.{member_in, rows_in}
+use Rattle.pulsar_client.specs.KeptConsumers.{is_listed, listed_at, member_in, rows_in}
 use Rattle.pulsar_client.proofs.Hearing.{consumers_are}
 use Rattle.pulsar_client.proofs.Numbered.{joined_listed}
 use Rattle.pulsar_client.proofs.Rows.{keys_insert, put}
@@ -15,7 +15,7 @@ invariant_of-self-2 c =
     record {
       ordered = λ whole. c.insert.ensures.ordered;
       listed = λ whole. joined_listed cs.listing c.list.new.listing (rows_in cs.rows) (rows_in new) c.args.ticket (member_in c.args.row) (cs.listed c.if-self.false)
-          c.in_ok-list.ensures
+          (λ n t. c.in_ok-list.ensures n t ∙ ap (λ k. is_listed t (listed_at cs.listing n) || ((n == k) && (t == c.args.ticket))) c.number-number.ensures)
           (λ t. put c.args.ticket t c.args.row (get nat_cmp cs.rows t) (get nat_cmp new t) (c.in_ok-insert.ensures.updates.0 t));
     }
 

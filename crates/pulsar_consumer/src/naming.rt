@@ -93,12 +93,7 @@ pub fn config_of(
 }
 
 /// The name of the consumer: one is drawn where it is absent.
-fn name_of(
-    alloc: Global,
-    seed: u64,
-    ticket: u64,
-    name: &Option<String>,
-) -> Result<String, NoMemory>
+fn name_of(alloc: Global, seed: u64, ticket: u64, name: &Option<String>) -> Result<String, NoMemory>
     ensures { IfOk result (λ n. string_bytes n ≡ unwrap_or (option_map string_bytes name.now) (meaning.consumer_name seed ticket)) }
 {
     match name {
@@ -137,13 +132,7 @@ fn subscription_name(alloc: Global, seed: u64, ticket: u64) -> Result<String, No
 }
 
 /// This, and the letters that are drawn for it.
-fn drawn(
-    alloc: Global,
-    before: &str,
-    seed: u64,
-    ticket: u64,
-    step: u64,
-) -> Result<String, NoMemory>
+fn drawn(alloc: Global, before: &str, seed: u64, ticket: u64, step: u64) -> Result<String, NoMemory>
     ensures { IfOk result (λ n. string_bytes n ≡ before.now ++ meaning.drawn seed ticket step) }
 {
     let mut name = String::from_str(alloc, before)?;

@@ -183,7 +183,9 @@ fn topics_are_counted(rt: HostRuntime) -> Result<(), Fail> {
     let alloc = rt.alloc();
     let none = order_of(alloc, 0, 1, ConsumerBuilder::new(alloc))?;
     assert!(rt; matches!(&none, Ordered::Nothing));
-    let two = ConsumerBuilder::new(alloc).with_topic("t")?.with_topic("u")?;
+    let two = ConsumerBuilder::new(alloc)
+        .with_topic("t")?
+        .with_topic("u")?;
     assert!(rt; matches!(&order_of(alloc, 0, 1, two)?, Ordered::Several));
     let prefix = ConsumerBuilder::new(alloc).with_topic_prefix("p")?;
     assert!(rt; matches!(&order_of(alloc, 0, 1, prefix)?, Ordered::Several));

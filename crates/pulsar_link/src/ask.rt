@@ -27,11 +27,7 @@ pub fn ask(
 }
 
 /// Asks for what a user wants.
-fn ask_call(
-    connection: &mut Connection,
-    now: u64,
-    call: RawCall,
-) -> Result<Asked, ConnectionError>
+fn ask_call(connection: &mut Connection, now: u64, call: RawCall) -> Result<Asked, ConnectionError>
     ensures answer { OnAnswer result (result ≡ asked now (words_of call) connection.old) }
     ensures seen { OnAnswer result (connection.new ≡ after (Asks now (words_of call)) connection.old) }
 {

@@ -221,3 +221,17 @@ joined_listed before after rows rows' ticket m listed more is t n k = more n t �
         let same : (n == m.seen.number) ≡ true = swapped n m.seen.number ∙ (and_parts (m.seen.number == n) (not (is_ended m.seen) || is_some (link_of m.seen)) h).0 in
         or_right (is_listed t (listed_at before n)) ((n == m.seen.number) && true) (ap (λ b. b && true) same)
     by false e h = ap (λ b. b || ((n == m.seen.number) && false)) (listed t n h)
+
+-- one that hears a frame keeps its number
+pub frame_number : (l : ℕ) (r : Reply) (m : Member) → (hears_frame l r m).seen.number ≡ m.seen.number
+frame_number l r m = by (is_body 9 r.content.body) (is_body 27 r.content.body) (is_body 16 r.content.body)
+  where
+    on : (b : Bool) → (cond b (member_after (Ends TopicEnded) m) m).seen.number ≡ m.seen.number
+    on true = refl
+    on false = refl
+    by : (b c d : Bool) →
+        (cond b (member_after (Hears l (frame_in r)) m) (cond c (ends_on l TopicEnded m) (cond d (member_after (Loses l) m) m))).seen.number ≡ m.seen.number
+    by true c d = same_number (Hears l (frame_in r)) m.seen
+    by false true d = on (lives_on l m.seen)
+    by false false true = same_number (Loses l) m.seen
+    by false false false = refl

@@ -10,7 +10,7 @@ loop-ticket-preserved c =
     let shows = λ (k : Bor ℕ). k.now in
     let test = λ (t : ℕ). lives_with c.args.number c.args.link (rows_in c.args.rows.now t) in
     let seen = map shows c.loop-ticket.yielded in
-    let t = c.in-Some-2.ticket.now in
+    let t = c.in-Some-ticket.ticket.now in
     c.in_ok-add_if.ensures
     ∙ ap (λ b. c.loop-ticket.living.items ++ cond b (t ∷ []) []) c.lives-is_so.ensures
     ∙ ap (λ ts. ts ++ cond (test t) (t ∷ []) []) c.loop-ticket.invariant

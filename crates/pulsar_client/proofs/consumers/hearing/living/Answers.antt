@@ -22,7 +22,7 @@ loop-ticket-preserved c =
     ∙ ap (filter test) (sym (map-append shows c.loop-ticket.yielded _))
 
 pub returns-in_default-clause-sorted : goal.returns-in_default-clause-sorted
-returns-in_default-clause-sorted c = subst (IsStrictlySortedBy nat_cmp) (sym c.new-living.ensures) tt
+returns-in_default-clause-sorted c = subst (IsStrictlySortedBy nat_cmp) (sym c.new-living.ensures.items) tt
 
 pub returns-clause-sorted : goal.returns-clause-sorted
 returns-clause-sorted c =

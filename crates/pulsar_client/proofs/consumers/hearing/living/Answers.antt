@@ -22,6 +22,7 @@ loop-ticket-preserved c =
     ∙ ap (filter test) (sym (map-append shows c.loop-ticket.yielded _))
 
 pub returns-in_default-clause-sorted : goal.returns-in_default-clause-sorted
+unfolding IsStrictlySortedBy
 returns-in_default-clause-sorted c = subst (IsStrictlySortedBy nat_cmp) (sym c.new-living.ensures.items) tt
 
 pub returns-clause-sorted : goal.returns-clause-sorted

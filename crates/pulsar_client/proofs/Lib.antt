@@ -1,13 +1,4 @@
-pub mod Places
-pub mod Grown
-pub mod Producing
 pub mod Answering
-pub mod Moments
-pub mod Ringing
-pub mod Timing
-pub mod Deliveries
-pub mod Listening
-pub mod Idle
 pub mod Waiting
 pub mod Steps
 pub mod Sorting

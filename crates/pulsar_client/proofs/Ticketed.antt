@@ -24,14 +24,14 @@ use Rattle.pulsar_calls.specs.declared.plans.plan.Turn.{Turn}
 use Rattle.pulsar_calls.specs.declared.plans.plan.Turn.TheVariants.{Stays, Gives}
 use Rattle.pulsar_client.specs.declared.tables.Tables.{Tables}
 use Rattle.pulsar_calls.specs.Content.{Asked, Heard, Shown, lacks_tickets, shares}
-use Rattle.pulsar_client.specs.Kept.{AreTicketed}
+use Rattle.pulsar_tables.specs.Kept.{AreTicketed}
 use Rattle.pulsar_calls.specs.Plan.{begins, told}
-use Rattle.pulsar_client.specs.Rules.{at_once, called, does, follows, follows_some, performs}
+use Rattle.pulsar_tables.specs.Rules.{at_once, called, does, follows, follows_some, performs}
 use Rattle.pulsar_client.specs.Run.{Agenda, Entry, Begins, Then, IsRun, Step, agenda, first, view}
-use Rattle.pulsar_client.specs.Subscribers.{subscription_at}
-use Rattle.pulsar_client.specs.Subscriptions.{Subscription, ended_at}
+use Rattle.pulsar_tables.specs.Subscribers.{subscription_at}
+use Rattle.pulsar_tables.specs.Subscriptions.{Subscription, ended_at}
 use Rattle.pulsar_client.specs.Tables.{InStep}
-use Rattle.pulsar_client.specs.View.{Options, View, closing, consumer_after, drawn_after, made, stand_after, stays_some, told_some}
+use Rattle.pulsar_tables.specs.View.{Options, View, closing, consumer_after, drawn_after, made, stand_after, stays_some, told_some}
 use Rattle.pulsar_calls.specs.Who.{is_same}
 use Rattle.pulsar_client.proofs.Acts.{Each, StartsIn, begun_same, called_each, each_append, each_first, each_map, each_rest, is_served}
 use Rattle.pulsar_client.proofs.Quiet.{IsQuiet, comes_quiet, performs_quiet}

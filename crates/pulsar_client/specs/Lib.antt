@@ -1,16 +1,5 @@
-pub mod Address
-pub mod Links
-pub mod Subscriptions
-pub mod Alarms
-pub mod Producers
-pub mod View
-pub mod Rules
-pub mod Effects
 pub mod Run
 pub mod Taken
-pub mod Subscribers
-pub mod Due
-pub mod Kept
 pub mod Tables
 pub mod Client
 pub mod Outside

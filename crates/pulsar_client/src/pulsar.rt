@@ -3,7 +3,7 @@
 ghost use Rattle.std.specs.Prelude.{◌≡◌, ◌∷◌, [], ℕ, List, OnErr, IfOk, IsErr, IsTrue, ◌↔◌, length, map, reverse};
 ghost use Rattle.pulsar_calls.specs.Content.{Called, asked, heard, shown};
 ghost use Rattle.pulsar_client.specs.Run.{Good, Step, ticket_for, tickets_in, view};
-ghost use Rattle.pulsar_client.specs.View.{Options, Waits, has_ended};
+ghost use Rattle.pulsar_tables.specs.View.{Options, Waits, has_ended};
 ghost use Rattle.pulsar_client.specs.Tables.{answered, step};
 ghost use Rattle.std.specs.Option.{option_copied};
 ghost use Rattle.pulsar_producer.specs.Wanted.{no_producer, producer_wanted};

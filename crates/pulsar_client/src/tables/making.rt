@@ -1,13 +1,13 @@
 //! What verdicts make.
 
 ghost use Rattle.std.specs.Prelude.{◌≡◌, ℕ, OnOk, Some, if◌then◌else◌};
-ghost use Rattle.pulsar_client.specs.Kept.{producers_of};
-ghost use Rattle.pulsar_client.specs.Subscribers.{fresh_in, subscription_at};
+ghost use Rattle.pulsar_tables.specs.Kept.{producers_of};
+ghost use Rattle.pulsar_tables.specs.Subscribers.{fresh_in, subscription_at};
 ghost use Rattle.pulsar_client.specs.Tables.{chosen_of, view_of};
-ghost use Rattle.pulsar_client.specs.View.{made, producers_made};
+ghost use Rattle.pulsar_tables.specs.View.{made, producers_made};
 ghost use Rattle.pulsar_calls.specs.Who.{is_same};
 
-use crate::consumers::subscriber::Subscriber;
+use pulsar_tables::consumers::subscriber::Subscriber;
 use crate::tables::Tables;
 use pulsar_calls::act::{Makes, Who};
 use pulsar_calls::who::rank;

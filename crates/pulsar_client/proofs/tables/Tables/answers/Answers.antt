@@ -1,7 +1,7 @@
 use Rattle.std.proofs.Common.{◌∙◌, ap}
 use Rattle.std.proofs.lemmas.Result.{on_ok_weaker}
 use Rattle.pulsar_client.specs.Tables.{agenda_of, view_of}
-use Rattle.pulsar_client.specs.View.{View, made, producers_made}
+use Rattle.pulsar_tables.specs.View.{View, made, producers_made}
 use Rattle.pulsar_client.proofs.Granting.{in_front}
 use Rattle.pulsar_client.proofs.tables.Tables.answers.Goals as goal
 

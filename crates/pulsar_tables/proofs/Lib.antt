@@ -1,0 +1,9 @@
+pub mod Places
+pub mod Grown
+pub mod Producing
+pub mod Moments
+pub mod Ringing
+pub mod Timing
+pub mod Deliveries
+pub mod Listening
+pub mod Idle

@@ -1,0 +1,11 @@
+pub mod Address
+pub mod Links
+pub mod Subscriptions
+pub mod Alarms
+pub mod Producers
+pub mod View
+pub mod Rules
+pub mod Effects
+pub mod Subscribers
+pub mod Due
+pub mod Kept

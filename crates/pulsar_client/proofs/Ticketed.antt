@@ -19,13 +19,13 @@ use Rattle.pulsar_calls.specs.declared.act.LinkAct.TheVariants.{Reads, Ends}
 use Rattle.pulsar_calls.specs.declared.act.Verdict.{Verdict}
 use Rattle.pulsar_calls.specs.declared.act.Who.{Who}
 use Rattle.pulsar_calls.specs.declared.act.Who.TheVariants.{Call, Producer}
-use Rattle.pulsar_calls.specs.declared.plans.plan.Plan.{Plan}
-use Rattle.pulsar_calls.specs.declared.plans.plan.Turn.{Turn}
-use Rattle.pulsar_calls.specs.declared.plans.plan.Turn.TheVariants.{Stays, Gives}
+use Rattle.pulsar_procedures.specs.declared.plan.Plan.{Plan}
+use Rattle.pulsar_procedures.specs.declared.plan.Turn.{Turn}
+use Rattle.pulsar_procedures.specs.declared.plan.Turn.TheVariants.{Stays, Gives}
 use Rattle.pulsar_client.specs.declared.tables.Tables.{Tables}
 use Rattle.pulsar_calls.specs.Content.{Asked, Heard, Shown, lacks_tickets, shares}
 use Rattle.pulsar_tables.specs.Kept.{AreTicketed}
-use Rattle.pulsar_calls.specs.Plan.{begins, told}
+use Rattle.pulsar_procedures.specs.Plan.{begins, told}
 use Rattle.pulsar_tables.specs.Rules.{at_once, called, does, follows, follows_some, performs}
 use Rattle.pulsar_client.specs.Run.{Agenda, Entry, Begins, Then, IsRun, Step, agenda, first, view}
 use Rattle.pulsar_tables.specs.Subscribers.{subscription_at}

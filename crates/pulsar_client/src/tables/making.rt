@@ -7,10 +7,10 @@ ghost use Rattle.pulsar_client.specs.Tables.{chosen_of, view_of};
 ghost use Rattle.pulsar_tables.specs.View.{made, producers_made};
 ghost use Rattle.pulsar_calls.specs.Who.{is_same};
 
-use pulsar_tables::consumers::subscriber::Subscriber;
 use crate::tables::Tables;
 use pulsar_calls::act::{Makes, Who};
 use pulsar_calls::who::rank;
+use pulsar_tables::consumers::subscriber::Subscriber;
 use pulsar_wire::error::NoMemory;
 
 impl Tables {

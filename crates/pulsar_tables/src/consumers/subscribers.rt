@@ -29,6 +29,7 @@ pub struct Subscribers {
 }
 
 impl Subscribers {
+    /// No consumer is made.
     pub fn new(alloc: Global) -> Subscribers
         ensures { (t : ℕ) → subscription_at result t ≡ None }
     {

@@ -1,4 +1,5 @@
-//! What no script shows of the library of scripts: sources and sinks with faults, and an error within another.
+//! What no script shows of the library of scripts: the words of the command line, sources and sinks with faults, a script of
+//! more than one buffer, and the errors that no script reaches.
 #![tactic(auto)]
 
 #[cfg(test)]

@@ -1,6 +1,6 @@
-//! Faults.
+//! Words, faults, and a long script.
 
-use pulsar_cli::{REFUSED, SINK_FAILED, SOURCE_FAILED, Status, script};
+use pulsar_cli::{DONE, NO_FORM, REFUSED, SINK_FAILED, SOURCE_FAILED, Status, run, script};
 use pulsar_client::{FailingSink, FailingSource, MemorySink, MemorySource};
 use std::alloc::{AllocError, Global};
 use std::process::Abort;
@@ -11,6 +11,38 @@ const IS_DIALING: &[u8] = b"event 0\nconnect 0 127.0.0.1 6650\n";
 
 fn source(alloc: Global, lines: &[u8]) -> Result<MemorySource, AllocError> {
     Ok(MemorySource::new(lines.to_vec(alloc)?))
+}
+
+/// The program ends so with these words, over a script of one call.
+fn ends(
+    rt: &impl Abort,
+    alloc: Global,
+    words: &[&str],
+    status: Status,
+    text: &[u8],
+) -> Result<(), Fail> {
+    let mut owned = Vec::new(alloc);
+    for word in words {
+        owned.push(String::from_str(alloc, word)?)?;
+    }
+    let mut source = source(alloc, b"call build\n")?;
+    let mut sink = MemorySink::new(alloc);
+    let ended = run(alloc, &owned, &mut source, &mut sink, Vec::new(alloc));
+    assert_eq!(rt; ended, status, "{words:?}");
+    assert_eq!(rt; sink.bytes(), text, "{words:?}");
+    Ok(())
+}
+
+#[test]
+fn words_are_a_form_or_none(rt: HostRuntime) -> Result<(), Fail> {
+    let alloc = rt.alloc();
+    ends(&rt, alloc, &[], NO_FORM, b"")?;
+    ends(&rt, alloc, &[""], NO_FORM, b"")?;
+    ends(&rt, alloc, &["demo"], NO_FORM, b"")?;
+    ends(&rt, alloc, &["Script"], NO_FORM, b"")?;
+    ends(&rt, alloc, &["scripts"], NO_FORM, b"")?;
+    ends(&rt, alloc, &["script", "x"], NO_FORM, b"")?;
+    ends(&rt, alloc, &["script"], DONE, IS_DIALING)
 }
 
 /// A script whose source fails at this call ends so.
@@ -80,4 +112,17 @@ fn a_sink_takes_nothing_or_fails(rt: HostRuntime) -> Result<(), Fail> {
     // a refused line goes before the sink's fault
     sink_fails(&rt, alloc, b"frob\n", 9, 0, REFUSED, b"")?;
     sink_fails(&rt, alloc, b"frob\n", 1, 7, REFUSED, b"refused")
+}
+
+#[test]
+fn a_script_is_longer_than_the_buffer(rt: HostRuntime) -> Result<(), Fail> {
+    let alloc = rt.alloc();
+    let mut lines = vec![in alloc; b'\n'; 70000]?;
+    lines.extend_from_slice(b"frob")?;
+    let mut source = MemorySource::new(lines);
+    let mut sink = MemorySink::new(alloc);
+    let ended = script(alloc, &mut source, &mut sink, Vec::new(alloc));
+    assert_eq!(&rt; ended, REFUSED);
+    assert_eq!(&rt; sink.bytes(), b"refused line 70001\n".as_slice());
+    Ok(())
 }

@@ -7,7 +7,7 @@ use Rattle.std.proofs.Math.ListN.{drop_of_length-le}
 use Rattle.pulsar_producer.specs.Routing.{Policy}
 use Rattle.pulsar_calls.specs.Content.{Heard}
 use Rattle.pulsar_client.specs.Run.{Step}
-use Rattle.pulsar_client.specs.View.{Options}
+use Rattle.pulsar_tables.specs.View.{Options}
 use Rattle.pulsar_cli.specs.Grammar.{Happens, line as meaning, lines}
 use Rattle.pulsar_cli.specs.Text.{refusal}
 use Rattle.pulsar_cli.specs.Script.{Adds, AddsFront, IsDone, IsRunOf, IsStopped, IsRefused, Printed, blank, text}

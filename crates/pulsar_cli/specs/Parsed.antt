@@ -7,9 +7,9 @@ use Rattle.pulsar_wire.specs.Views.{message_id_values}
 use Rattle.pulsar_wire.specs.declared.commands.ids.MessageIdData.{MessageIdData}
 use Rattle.pulsar_messages.specs.Content.{authentication_values, consumer_options_values, message_content}
 use Rattle.std.specs.Option.{option_map}
-use Rattle.pulsar_client.specs.Address.{base_in}
+use Rattle.pulsar_tables.specs.Address.{base_in}
 use Rattle.pulsar_calls.specs.Content.{heard}
-use Rattle.pulsar_client.specs.View.{Chosen}
+use Rattle.pulsar_tables.specs.View.{Chosen}
 use Rattle.pulsar_cli.specs.Words.{digits_from, in_range}
 use Rattle.pulsar_consumer.specs.Content.{consumer_wanted}
 use Rattle.pulsar_producer.specs.Wanted.{producer_wanted}

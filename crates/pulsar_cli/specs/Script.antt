@@ -4,9 +4,9 @@ use Rattle.std.specs.Prelude.{◌≡◌, ◌⊎◌, Bool, false, if◌then◌els
 use Rattle.pulsar_wire.specs.Field.{◌>>=◌}
 use Rattle.pulsar_plans.specs.Backoff.{default_connection_retry, default_operation_retry}
 use Rattle.pulsar_producer.specs.Routing.{Policy}
-use Rattle.pulsar_client.specs.Address.{base_in}
+use Rattle.pulsar_tables.specs.Address.{base_in}
 use Rattle.pulsar_calls.specs.Content.{Heard}
-use Rattle.pulsar_client.specs.View.{Chosen, Options}
+use Rattle.pulsar_tables.specs.View.{Chosen, Options}
 use Rattle.pulsar_client.specs.Outside.{Rose}
 use Rattle.pulsar_client.specs.Run.{Good, Step, is_empty}
 use Rattle.pulsar_cli.specs.Grammar.{Setting, Url, Auth, Outbound, Timeout, RetryDelay, OpRetries, Retries, MinBackoff, MaxBackoff, ConnectionTimeout, KeepAlive, MaxIdle, Seed, First, Now, Line, Nothing, Sets, Happens, Refused, line, lines}

@@ -7,7 +7,7 @@ use Rattle.pulsar_calls.specs.declared.act.Alarm.TheVariants.{CheckIdle}
 use Rattle.pulsar_calls.specs.declared.act.Makes.{Makes}
 use Rattle.pulsar_calls.specs.declared.act.Makes.TheVariants.{Nothing, Client, Consumer, RawConsumer, Producer}
 use Rattle.pulsar_calls.specs.declared.act.Part.TheVariants.{Calls}
-use Rattle.pulsar_client.specs.Alarms.{set}
+use Rattle.pulsar_tables.specs.Alarms.{set}
 use Rattle.pulsar_calls.specs.declared.act.Procedure.{Procedure}
 use Rattle.pulsar_calls.specs.declared.act.Procedure.TheVariants as procedure
 use Rattle.pulsar_calls.specs.declared.act.Refusal.TheVariants as refusal
@@ -17,12 +17,12 @@ use Rattle.pulsar_calls.specs.declared.event.Call.TheVariants as call
 use Rattle.pulsar_calls.specs.Content as content
 use Rattle.pulsar_calls.specs.Content.{Asked, asked, lacks_tickets, shares}
 use Rattle.pulsar_calls.specs.Plan.{fails}
-use Rattle.pulsar_client.specs.Consumers as consumer
-use Rattle.pulsar_client.specs.Consumers.{Consumers}
-use Rattle.pulsar_client.specs.Producers.{Producers, called_on, opened_on, why_not}
-use Rattle.pulsar_client.specs.Rules.{parts_of, procedure_for, shares_unless, starts, unless_refused}
+use Rattle.pulsar_tables.specs.Consumers as consumer
+use Rattle.pulsar_tables.specs.Consumers.{Consumers}
+use Rattle.pulsar_tables.specs.Producers.{Producers, called_on, opened_on, why_not}
+use Rattle.pulsar_tables.specs.Rules.{parts_of, procedure_for, shares_unless, starts, unless_refused}
 use Rattle.pulsar_client.specs.Run.{Agenda, goes_on}
-use Rattle.pulsar_client.specs.View.{Chosen, Tickets, View, after, alarms_built, builds, idle_period, later, may_call}
+use Rattle.pulsar_tables.specs.View.{Chosen, Tickets, View, after, alarms_built, builds, idle_period, later, may_call}
 
 -- TICKETS
 

@@ -1,6 +1,6 @@
 -- The next number that is free, from one on.
 use Rattle.std.proofs.Common.{◌≡◌, ◌∙◌, ◌+◌, ◌-◌, ◌<◌, ℕ, suc, ap, arith, Bool, true, false, cond}
-use Rattle.pulsar_client.specs.Consumers.{free_from}
+use Rattle.pulsar_tables.specs.Consumers.{free_from}
 
 module _ (passed : ℕ → Bool) (most n : ℕ) where
   pub free_more : n < most → passed n ≡ true → free_from (most - n) passed n ≡ free_from (most - (n + 1)) passed (n + 1)

@@ -6,9 +6,9 @@ use Rattle.pulsar_plans.specs.Address.{Place, address_key, is_reachable}
 use Rattle.pulsar_calls.specs.declared.act.Act.TheVariants.{Does}
 use Rattle.pulsar_calls.specs.declared.act.Action.TheVariants.{Get}
 use Rattle.pulsar_calls.specs.declared.act.Who.{Who}
-use Rattle.pulsar_client.specs.declared.addresses.Series.{Series}
-use Rattle.pulsar_client.specs.declared.addresses.Series.TheVariants.{Serves}
-use Rattle.pulsar_client.specs.View.{Base, View, after, base_waiting, got_at, serving, waits_for}
+use Rattle.pulsar_tables.specs.declared.addresses.Series.{Series}
+use Rattle.pulsar_tables.specs.declared.addresses.Series.TheVariants.{Serves}
+use Rattle.pulsar_tables.specs.View.{Base, View, after, base_waiting, got_at, serving, waits_for}
 
 -- waits where none serves yet
 abbrev pub serves : Series → Bool

@@ -5,8 +5,8 @@ use Rattle.std.specs.BTreeMap.{is_at}
 use Rattle.std.specs.BTreeSet.{BTreeSet, contains}
 use Rattle.std.specs.Ordering.{nat_cmp}
 use Rattle.pulsar_requests.proofs.Awaiting.{is_at-eqb}
-use Rattle.pulsar_client.specs.KeptConsumers.{is_listed, tickets_of}
-use Rattle.pulsar_client.proofs.Places.{listed_is, swapped}
+use Rattle.pulsar_tables.specs.KeptConsumers.{is_listed, tickets_of}
+use Rattle.pulsar_tables.proofs.Places.{listed_is, swapped}
 
 at_is : (k q : ℕ) → is_at (nat_cmp k) q ≡ (q == k)
 at_is k q = is_at-eqb k q ∙ swapped k q

@@ -7,8 +7,8 @@ use Rattle.pulsar_calls.specs.declared.act.Part.{Part}
 use Rattle.pulsar_calls.specs.declared.act.Part.TheVariants.{Calls, ToLink}
 use Rattle.pulsar_calls.specs.declared.act.Who.{Who}
 use Rattle.pulsar_calls.specs.declared.act.Who.TheVariants.{Call, Consumer, Producer}
-use Rattle.pulsar_client.specs.Rules.{at_once, performs}
-use Rattle.pulsar_client.specs.View.{View}
+use Rattle.pulsar_tables.specs.Rules.{at_once, performs}
+use Rattle.pulsar_tables.specs.View.{View}
 use Rattle.pulsar_client.proofs.Acts.{Each, each_map}
 use Rattle.pulsar_client.proofs.Raising.{IsRaised, OfStart, OfVerdict, may, raises}
 

@@ -6,12 +6,12 @@ use Rattle.pulsar_calls.specs.declared.act.Act.TheVariants.{Comes}
 use Rattle.pulsar_calls.specs.declared.act.Alarm.{Alarm}
 use Rattle.pulsar_calls.specs.declared.act.Alarm.TheVariants.{Retry, Wake, Batch, KeepAlive, CheckIdle}
 use Rattle.pulsar_calls.specs.declared.act.Part.TheVariants.{Rings}
-use Rattle.pulsar_client.specs.declared.addresses.Pause.{Pause}
-use Rattle.pulsar_client.specs.Alarms.{rings}
-use Rattle.pulsar_client.specs.Producers.{Producers}
-use Rattle.pulsar_client.specs.Rules.{below, opens, rung, woken}
+use Rattle.pulsar_tables.specs.declared.addresses.Pause.{Pause}
+use Rattle.pulsar_tables.specs.Alarms.{rings}
+use Rattle.pulsar_tables.specs.Producers.{Producers}
+use Rattle.pulsar_tables.specs.Rules.{below, opens, rung, woken}
 use Rattle.pulsar_client.specs.Run.{Agenda, goes_on}
-use Rattle.pulsar_client.specs.View.{View, after, alarms_rung, pause_rung, producers_rung}
+use Rattle.pulsar_tables.specs.View.{View, after, alarms_rung, pause_rung, producers_rung}
 
 -- what is left, and what is seen
 abbrev leaves : Bool → View → Alarm → Agenda → Agenda

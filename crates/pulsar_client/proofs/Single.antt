@@ -13,12 +13,12 @@ use Rattle.pulsar_calls.specs.declared.act.LinkAct.TheVariants.{Reads}
 use Rattle.pulsar_calls.specs.declared.act.Notice.{Notice}
 use Rattle.pulsar_calls.specs.declared.act.Part.{Part}
 use Rattle.pulsar_calls.specs.declared.act.Part.TheVariants.{Calls, ToLink, Rings, Polls}
-use Rattle.pulsar_client.specs.Alarms.{ringing}
+use Rattle.pulsar_tables.specs.Alarms.{ringing}
 use Rattle.pulsar_calls.specs.Content.{Asked, Heard, Called, Ticked, Poll}
-use Rattle.pulsar_client.specs.Producers.{advice}
-use Rattle.pulsar_client.specs.Rules.{at_once, brings, call_part, due_part, further, over_links, parts, reads_on}
+use Rattle.pulsar_tables.specs.Producers.{advice}
+use Rattle.pulsar_tables.specs.Rules.{at_once, brings, call_part, due_part, further, over_links, parts, reads_on}
 use Rattle.pulsar_client.specs.Run.{Entry, Begins, Then, IsRun, agenda, rules, view}
-use Rattle.pulsar_client.specs.View.{Options, Seat, View, arrival_at, is_live}
+use Rattle.pulsar_tables.specs.View.{Options, Seat, View, arrival_at, is_live}
 use Rattle.pulsar_client.proofs.Acts.{Each, begun_same, each_append, each_map, each_rest, over_each}
 use Rattle.pulsar_client.proofs.Raising.{IsRaised, may, raises}
 

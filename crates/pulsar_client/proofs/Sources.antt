@@ -15,12 +15,12 @@ use Rattle.pulsar_calls.specs.declared.act.End.TheVariants.{Overdue, Idles}
 use Rattle.pulsar_calls.specs.declared.act.LinkAct.TheVariants.{Ends, Pings, Reads}
 use Rattle.pulsar_calls.specs.declared.act.Notice.{Notice}
 use Rattle.pulsar_calls.specs.declared.act.Part.TheVariants.{ToLink, Rings}
-use Rattle.pulsar_client.specs.Alarms.{ringing}
+use Rattle.pulsar_tables.specs.Alarms.{ringing}
 use Rattle.pulsar_calls.specs.Content.{Heard, Ticked}
 use Rattle.pulsar_calls.specs.Content.{numbers_from}
-use Rattle.pulsar_client.specs.Rules.{at_once, brings, due_part, further, joins, on_link, over_links, parts, reads_on}
+use Rattle.pulsar_tables.specs.Rules.{at_once, brings, due_part, further, joins, on_link, over_links, parts, reads_on}
 use Rattle.pulsar_client.specs.Run.{Entry, Begins, Then, IsRun, rules, view}
-use Rattle.pulsar_client.specs.View.{Options, Links, Seat, View, arrival_at, is_live}
+use Rattle.pulsar_tables.specs.View.{Options, Links, Seat, View, arrival_at, is_live}
 use Rattle.pulsar_client.proofs.Acts.{Each, each_append, each_either, each_map, over_each}
 use Rattle.pulsar_client.proofs.Raising.{IsRaised, raises}
 

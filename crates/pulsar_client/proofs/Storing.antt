@@ -4,11 +4,11 @@ use Rattle.std.proofs.lemmas.Bool.{eq-eqb}
 use Rattle.std.specs.Option.{option_map}
 use Rattle.pulsar_run.specs.Order.{put, put_all}
 use Rattle.pulsar_producer.specs.Topic.{Act}
-use Rattle.pulsar_client.specs.declared.producers.Topic.{Topic}
+use Rattle.pulsar_tables.specs.declared.producers.Topic.{Topic}
 use Rattle.pulsar_calls.specs.declared.act.Alarm.TheVariants.{Batch}
-use Rattle.pulsar_client.specs.Alarms.{clear, set}
-use Rattle.pulsar_client.specs.Producers.{Producers, changed, is_bare, timeout_at, topic_after}
-use Rattle.pulsar_client.specs.View.{View, alarms_on_topic, alarms_waiting, later, waits_from}
+use Rattle.pulsar_tables.specs.Alarms.{clear, set}
+use Rattle.pulsar_tables.specs.Producers.{Producers, changed, is_bare, timeout_at, topic_after}
+use Rattle.pulsar_tables.specs.View.{View, alarms_on_topic, alarms_waiting, later, waits_from}
 
 -- one more is put
 pub put_all_end : {A : Type 0} (below : A → A → Bool) (xs : List A) (x : A) (ys : List A) →

@@ -10,7 +10,7 @@ use Rattle.pulsar_client.specs.declared.pulsar.Pulsar.{Pulsar}
 use Rattle.pulsar_client.specs.declared.tables.Tables.{Tables}
 use Rattle.pulsar_client.specs.Client.{StandsFor}
 use Rattle.pulsar_client.specs.Tables.{Stands}
-use Rattle.pulsar_client.specs.View.{Chosen, Options, View, is_live}
+use Rattle.pulsar_tables.specs.View.{Chosen, Options, View, is_live}
 use Rattle.pulsar_client.specs.Taken.{Held, drawn_to, ended_in, held, held_but, is_in, left_after, taken_left, taken_with, with_taken}
 
 -- TICKETS

@@ -9,11 +9,11 @@ use Rattle.pulsar_calls.specs.declared.act.Arrival.{Arrival}
 use Rattle.pulsar_calls.specs.declared.act.LinkAct.{LinkAct}
 use Rattle.pulsar_calls.specs.declared.act.Part.TheVariants.{ToLink}
 use Rattle.pulsar_calls.specs.declared.act.Who.{Who}
-use Rattle.pulsar_client.specs.Effects.{retries}
-use Rattle.pulsar_client.specs.Links.{Remains, change_in}
-use Rattle.pulsar_client.specs.Rules.{served_on, waiters_of}
+use Rattle.pulsar_tables.specs.Effects.{retries}
+use Rattle.pulsar_tables.specs.Links.{Remains, change_in}
+use Rattle.pulsar_tables.specs.Rules.{served_on, waiters_of}
 use Rattle.pulsar_client.specs.Tables.{retry_set, retry_shown, turned_view, welcomed}
-use Rattle.pulsar_client.specs.View.{Addresses, Chosen, Links, Seat, Turned, View, addresses_after, alarms_after, alarms_over, is_for, is_to_follow, links_after, pause_with, took_some, turned}
+use Rattle.pulsar_tables.specs.View.{Addresses, Chosen, Links, Seat, Turned, View, addresses_after, alarms_after, alarms_over, is_for, is_to_follow, links_after, pause_with, took_some, turned}
 use Rattle.pulsar_client.proofs.Turning.{IsStill, alarms_still, base_still, pause_still}
 
 -- two things hold where a call goes well

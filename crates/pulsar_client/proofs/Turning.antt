@@ -9,12 +9,12 @@ use Rattle.pulsar_calls.specs.declared.act.Arrival.{Arrival}
 use Rattle.pulsar_calls.specs.declared.act.End.{End}
 use Rattle.pulsar_calls.specs.declared.act.LinkAct.{LinkAct}
 use Rattle.pulsar_calls.specs.declared.act.LinkAct.TheVariants.{Opens, Reads, Drains, Pings, Ends}
-use Rattle.pulsar_client.specs.declared.addresses.Pause.{Pause}
-use Rattle.pulsar_client.specs.Effects.{retries, retries_on}
-use Rattle.pulsar_client.specs.Links.{Remains, IsOver, change_at, change_in}
-use Rattle.pulsar_client.specs.Rules.{ended_on, failed_on, waiters_of}
+use Rattle.pulsar_tables.specs.declared.addresses.Pause.{Pause}
+use Rattle.pulsar_tables.specs.Effects.{retries, retries_on}
+use Rattle.pulsar_tables.specs.Links.{Remains, IsOver, change_at, change_in}
+use Rattle.pulsar_tables.specs.Rules.{ended_on, failed_on, waiters_of}
 use Rattle.pulsar_client.specs.Tables.{welcomed}
-use Rattle.pulsar_client.specs.View.{Addresses, Base, Chosen, Seat, Turned, alarms_on, arrival_at, base_on, base_turned, closing, pause_of, pause_on, pause_for, took_some, turned_by}
+use Rattle.pulsar_tables.specs.View.{Addresses, Base, Chosen, Seat, Turned, alarms_on, arrival_at, base_on, base_turned, closing, pause_of, pause_on, pause_for, took_some, turned_by}
 
 -- NOTHING IS TURNED
 

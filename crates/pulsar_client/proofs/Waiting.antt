@@ -4,12 +4,12 @@ use Rattle.std.specs.Option.{option_map}
 use Rattle.pulsar_session.specs.declared.states.Stage.{Stage}
 use Rattle.pulsar_session.specs.declared.states.Stage.TheVariants.{Dialing, Handshaking, Ready, Over}
 use Rattle.pulsar_session.specs.Link.{is_open}
-use Rattle.pulsar_client.specs.Consumers.{IsHeard}
+use Rattle.pulsar_tables.specs.Consumers.{IsHeard}
 use Rattle.pulsar_client.specs.declared.tables.Tables.{Tables}
 use Rattle.pulsar_client.specs.Run.{Good, Step, view}
 use Rattle.pulsar_client.specs.Tables.{Stands, view_of}
 use Rattle.pulsar_client.proofs.Steps.{seen_of}
-use Rattle.pulsar_client.specs.View.{Options, Seat, View, Waits, is_at, is_busy, is_handshaking}
+use Rattle.pulsar_tables.specs.View.{Options, Seat, View, Waits, is_at, is_busy, is_handshaking}
 
 abbrev stage_of : Option Seat → Option Stage
 stage_of row = option_map (λ seat. seat.seen.stage) row

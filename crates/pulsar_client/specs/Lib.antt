@@ -1,17 +1,5 @@
-pub mod Address
-pub mod Links
-pub mod Consumers
-pub mod Alarms
-pub mod Producers
-pub mod View
-pub mod Reading
-pub mod Rules
-pub mod Effects
 pub mod Run
 pub mod Taken
-pub mod KeptConsumers
-pub mod Due
-pub mod Kept
 pub mod Tables
 pub mod Client
 pub mod Outside

@@ -1,22 +1,14 @@
 //! A client of Apache Pulsar as one state machine: an event goes in, its effects come out.
 #![tactic(auto)]
 
-mod address;
-pub mod addresses;
 mod agenda;
-mod alarms;
 mod answers;
-mod consumers;
-mod due;
 pub mod future;
-mod links;
 pub mod options;
 mod order;
 pub mod outside;
-pub mod producers;
 pub mod pulsar;
 mod queue;
-mod row;
 mod settings;
 mod tables;
 

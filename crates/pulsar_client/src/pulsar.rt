@@ -3,12 +3,12 @@
 ghost use Rattle.std.specs.Prelude.{◌≡◌, ◌∷◌, [], ℕ, List, OnErr, IfOk, IsErr, IsTrue, ◌↔◌, length, map, reverse};
 ghost use Rattle.pulsar_calls.specs.Content.{Called, asked, heard, shown};
 ghost use Rattle.pulsar_client.specs.Run.{Good, Step, ticket_for, tickets_in, view};
-ghost use Rattle.pulsar_client.specs.View.{Options, Waits, has_ended};
+ghost use Rattle.pulsar_tables.specs.View.{Options, Waits, has_ended};
 ghost use Rattle.pulsar_client.specs.Tables.{answered, step};
 ghost use Rattle.std.specs.Option.{option_copied, option_map};
 ghost use Rattle.pulsar_producer.specs.Wanted.{no_producer, producer_wanted};
 ghost use Rattle.pulsar_consumer.specs.Content.{consumer_wanted, no_consumer};
-ghost use Rattle.pulsar_client.specs.Consumers.{built_at};
+ghost use Rattle.pulsar_tables.specs.Consumers.{built_at};
 ghost use Rattle.pulsar_client.specs.Client as meaning;
 ghost use Rattle.pulsar_client.specs.Client.{HasFailed, IsDead, StandsFor, options_of};
 ghost use Rattle.pulsar_client.specs.Taken.{IsTaken, taken_with};

@@ -6,9 +6,9 @@ ghost use Rattle.pulsar_messages.specs.Content.{authentication_values};
 ghost use Rattle.pulsar_session.specs.Link.{fresh};
 ghost use Rattle.pulsar_client.specs.Client.{chosen};
 ghost use Rattle.pulsar_client.specs.Tables.{chosen_of};
-ghost use Rattle.pulsar_client.specs.View.{delay_with, setup, ways_of};
+ghost use Rattle.pulsar_tables.specs.View.{delay_with, setup, ways_of};
 
-use crate::address::base_in;
+use pulsar_tables::address::base_in;
 use crate::options::ClientOptions;
 use pulsar_messages::Authentication;
 use pulsar_plans::content::Address;

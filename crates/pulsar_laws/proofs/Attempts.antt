@@ -16,15 +16,15 @@ use Rattle.pulsar_calls.specs.declared.act.Notice.{Notice}
 use Rattle.pulsar_calls.specs.declared.act.Part.{Part}
 use Rattle.pulsar_calls.specs.declared.act.Part.TheVariants.{ToLink, Rings}
 use Rattle.pulsar_calls.specs.declared.act.Who.{Who}
-use Rattle.pulsar_client.specs.declared.addresses.Pause.{Pause}
-use Rattle.pulsar_client.specs.declared.addresses.Series.{Series}
-use Rattle.pulsar_client.specs.declared.addresses.Series.TheVariants.{Nobody, Runs, Pauses, Serves}
-use Rattle.pulsar_client.specs.Alarms.{rings}
+use Rattle.pulsar_tables.specs.declared.addresses.Pause.{Pause}
+use Rattle.pulsar_tables.specs.declared.addresses.Series.{Series}
+use Rattle.pulsar_tables.specs.declared.addresses.Series.TheVariants.{Nobody, Runs, Pauses, Serves}
+use Rattle.pulsar_tables.specs.Alarms.{rings}
 use Rattle.pulsar_laws.specs.Laws.{AttemptsFollow, Begun, Followed, base_of}
-use Rattle.pulsar_client.specs.Links.{Change, IsOver}
-use Rattle.pulsar_client.specs.Rules.{at_once, gets_from, tells, tries_again}
+use Rattle.pulsar_tables.specs.Links.{Change, IsOver}
+use Rattle.pulsar_tables.specs.Rules.{at_once, gets_from, tells, tries_again}
 use Rattle.pulsar_client.specs.Run.{Entry, Begins, Then, agenda, view}
-use Rattle.pulsar_client.specs.View.{Chosen, Options, Seat, Turned, View, is_retryable, pause_after, pause_for, pause_of, pause_on, pause_put, pause_rung, turned_by}
+use Rattle.pulsar_tables.specs.View.{Chosen, Options, Seat, Turned, View, is_retryable, pause_after, pause_for, pause_of, pause_on, pause_put, pause_rung, turned_by}
 use Rattle.pulsar_calls.specs.declared.act.Outcome.TheVariants as outcome
 use Rattle.pulsar_client.proofs.Acts.{Each, begun_same, chosen_same, each_append, each_drop, each_map, first_case}
 use Rattle.pulsar_client.proofs.Raising.{IsRaised, OfAttempt, may, raises}

@@ -39,14 +39,14 @@ use Rattle.pulsar_calls.specs.declared.plans.plan.Plan.{Plan}
 use Rattle.pulsar_calls.specs.declared.plans.plan.Plan.TheVariants.{Batching}
 use Rattle.pulsar_calls.specs.declared.plans.plan.Turn.{Turn}
 use Rattle.pulsar_calls.specs.declared.plans.plan.Turn.TheVariants.{Stays, Gives}
-use Rattle.pulsar_client.specs.declared.producers.Topic.{Topic}
+use Rattle.pulsar_tables.specs.declared.producers.Topic.{Topic}
 use Rattle.pulsar_laws.specs.BatchLaws.{FramesOfBatches, under_way}
 use Rattle.pulsar_calls.specs.Plan.{action_of, begins, news_of, told}
-use Rattle.pulsar_client.specs.Producers.{topic_after}
+use Rattle.pulsar_tables.specs.Producers.{topic_after}
 use Rattle.pulsar_laws.specs.ProducerLaws.{HasTurn}
-use Rattle.pulsar_client.specs.Rules.{notice}
+use Rattle.pulsar_tables.specs.Rules.{notice}
 use Rattle.pulsar_client.specs.Run.{Entry, Begins, Then, IsRun, view}
-use Rattle.pulsar_client.specs.View.{Options, draws_on, room_of, stays, stays_some, told_some}
+use Rattle.pulsar_tables.specs.View.{Options, draws_on, room_of, stays, stays_some, told_some}
 use Rattle.pulsar_calls.specs.Who.{is_same}
 use Rattle.pulsar_client.proofs.Acts.{begun_same}
 use Rattle.pulsar_laws.proofs.Batched.{BatchSo, GoesOn, IsSending, StepTo, batch_goes}

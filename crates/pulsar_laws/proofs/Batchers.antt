@@ -21,9 +21,9 @@ use Rattle.pulsar_calls.specs.declared.plans.plan.Plan.TheVariants.{Batching}
 use Rattle.pulsar_calls.specs.declared.plans.plan.Turn.{Turn}
 use Rattle.pulsar_calls.specs.declared.plans.plan.Turn.TheVariants.{Stays, Gives}
 use Rattle.pulsar_calls.specs.Plan.{action_of, begins, news_of, overrides, told}
-use Rattle.pulsar_client.specs.Rules.{at_once}
+use Rattle.pulsar_tables.specs.Rules.{at_once}
 use Rattle.pulsar_client.specs.Run.{Entry, Begins, Then, IsRun, agenda, first, view}
-use Rattle.pulsar_client.specs.View.{Options, View, stand_after, stays, stays_some, told_some, ways_of}
+use Rattle.pulsar_tables.specs.View.{Options, View, stand_after, stays, stays_some, told_some, ways_of}
 use Rattle.pulsar_calls.specs.Who.{is_same}
 use Rattle.pulsar_client.proofs.Acts.{Each, begun_same, each_append, each_first, each_map, each_rest, is_served}
 use Rattle.pulsar_laws.proofs.Granted.{BeginsSo, IsLedSo, does_from}

@@ -7,13 +7,13 @@ use Rattle.pulsar_run.specs.Laws.{In}
 use Rattle.pulsar_producer.specs.Topic.{Closes}
 use Rattle.pulsar_calls.specs.declared.act.Act.TheVariants.{Does, Told}
 use Rattle.pulsar_calls.specs.declared.act.Action.TheVariants.{Shut}
-use Rattle.pulsar_client.specs.declared.producers.Topic.{Topic}
+use Rattle.pulsar_tables.specs.declared.producers.Topic.{Topic}
 use Rattle.pulsar_laws.specs.BatchLaws.{ClosedWithTheProducer}
 use Rattle.pulsar_calls.specs.Plan.{closed_notice}
-use Rattle.pulsar_client.specs.Producers.{Producers, changed, is_bare, numbers_at, shut_all, stored_at, stored_by, topic_after}
-use Rattle.pulsar_client.specs.Rules.{joins}
+use Rattle.pulsar_tables.specs.Producers.{Producers, changed, is_bare, numbers_at, shut_all, stored_at, stored_by, topic_after}
+use Rattle.pulsar_tables.specs.Rules.{joins}
 use Rattle.pulsar_client.specs.Run.{Then, view}
-use Rattle.pulsar_client.specs.View.{View}
+use Rattle.pulsar_tables.specs.View.{View}
 use Rattle.pulsar_laws.proofs.Done.{all_is_done_lem}
 
 -- WHAT IS STORED is emptied, and stays so

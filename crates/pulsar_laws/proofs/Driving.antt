@@ -3,10 +3,10 @@ use Rattle.std.proofs.Common.{◌≡◌, ◌∙◌, sym, ap, ℕ, zero, suc, Lis
 use Rattle.pulsar_run.specs.Run.{events, in_order, only, steps_done, with_effects}
 use Rattle.pulsar_calls.specs.declared.act.Act.{Act}
 use Rattle.pulsar_calls.specs.Content.{Heard}
-use Rattle.pulsar_client.specs.Effects.{effect_below, effects}
-use Rattle.pulsar_client.specs.Rules.{parts}
+use Rattle.pulsar_tables.specs.Effects.{effect_below, effects}
+use Rattle.pulsar_tables.specs.Rules.{parts}
 use Rattle.pulsar_client.specs.Run.{Agenda, Entry, Begins, Then, Good, IsRun, Step, agenda, first, goes_on, rest, rules, view}
-use Rattle.pulsar_client.specs.View.{Options, View, after, begun, new}
+use Rattle.pulsar_tables.specs.View.{Options, View, after, begun, new}
 
 -- what is seen, what is left to do, and the steps so far
 pub record State : Type 0 where

@@ -16,13 +16,13 @@ use Rattle.pulsar_calls.specs.declared.act.Alarm.TheVariants.{Batch}
 use Rattle.pulsar_calls.specs.declared.act.Part.TheVariants.{Rings}
 use Rattle.pulsar_calls.specs.declared.act.Who.{Who}
 use Rattle.pulsar_calls.specs.declared.act.Who.TheVariants.{Producer}
-use Rattle.pulsar_client.specs.declared.producers.Topic.{Topic}
-use Rattle.pulsar_client.specs.Alarms.{rings}
+use Rattle.pulsar_tables.specs.declared.producers.Topic.{Topic}
+use Rattle.pulsar_tables.specs.Alarms.{rings}
 use Rattle.pulsar_laws.specs.BatchLaws.{FlushesWait, under_way}
-use Rattle.pulsar_client.specs.Producers.{next_batch_at, numbers_at}
+use Rattle.pulsar_tables.specs.Producers.{next_batch_at, numbers_at}
 use Rattle.pulsar_laws.specs.ProducerLaws.{acts_on, drawn_by, rung_by, shut_by, topic_acts}
 use Rattle.pulsar_client.specs.Run.{Entry, Begins, Then, IsRun, view}
-use Rattle.pulsar_client.specs.View.{Options, View, room_of}
+use Rattle.pulsar_tables.specs.View.{Options, View, room_of}
 use Rattle.pulsar_calls.specs.Who.{is_same, turn_of}
 use Rattle.pulsar_client.proofs.Acts.{Each, begun_same, each_append, each_either}
 use Rattle.pulsar_laws.proofs.Closed.{append_left, append_right}

@@ -16,9 +16,9 @@ use Rattle.pulsar_calls.specs.declared.act.Who.TheVariants.{Call, Producer}
 use Rattle.pulsar_laws.specs.Laws.{Answered, Cause, counted, outcomes, started}
 use Rattle.pulsar_calls.specs.Plan.{verdict}
 use Rattle.pulsar_laws.specs.ProducerLaws.{PartsAreGathered}
-use Rattle.pulsar_client.specs.Rules.{notice}
+use Rattle.pulsar_tables.specs.Rules.{notice}
 use Rattle.pulsar_client.specs.Run.{Entry, Begins, Then, IsRun}
-use Rattle.pulsar_client.specs.View.{Options}
+use Rattle.pulsar_tables.specs.View.{Options}
 use Rattle.pulsar_calls.specs.Who.{is_same}
 use Rattle.pulsar_client.proofs.Acts.{Each, each_append, each_map}
 use Rattle.pulsar_laws.proofs.Caused.{outcomes_are_caused_lem}

@@ -22,7 +22,7 @@ use Rattle.pulsar_calls.specs.Content.{Heard}
 use Rattle.pulsar_laws.specs.Laws.{ConsumersHearToTheirEnd, EndsOnce, Continues, counted, end_of, ends_at, has_end, last_arrival}
 use Rattle.pulsar_client.specs.Run.{Entry, Begins, Then, IsRun, view}
 use Rattle.pulsar_client.specs.Subscriptions.{Subscription, after_frame, after_poll, closes_it, ended, ended_at, ended_on, hears, is_last}
-use Rattle.pulsar_client.specs.View.{Options, View, answer_at, arrival_at, begun, begun_live, closing, hears_ask, is_asked, is_live, made}
+use Rattle.pulsar_tables.specs.View.{Options, View, answer_at, arrival_at, begun, begun_live, closing, hears_ask, is_asked, is_live, made}
 use Rattle.pulsar_calls.specs.Who.{is_same}
 use Rattle.pulsar_client.proofs.Ticketed.{older_ticket}
 

@@ -34,23 +34,23 @@ use Rattle.pulsar_calls.specs.declared.act.Procedure.TheVariants as procedure
 use Rattle.pulsar_calls.specs.declared.act.Verdict.{Verdict}
 use Rattle.pulsar_calls.specs.declared.act.Who.{Who}
 use Rattle.pulsar_calls.specs.declared.act.Who.TheVariants.{Call, Producer}
-use Rattle.pulsar_client.specs.declared.addresses.Pause.{Pause}
-use Rattle.pulsar_client.specs.declared.addresses.Series.{Series}
-use Rattle.pulsar_client.specs.declared.addresses.Series.TheVariants.{Nobody, Runs, Pauses, Serves}
+use Rattle.pulsar_tables.specs.declared.addresses.Pause.{Pause}
+use Rattle.pulsar_tables.specs.declared.addresses.Series.{Series}
+use Rattle.pulsar_tables.specs.declared.addresses.Series.TheVariants.{Nobody, Runs, Pauses, Serves}
 use Rattle.pulsar_calls.specs.declared.plans.plan.Plan.{Plan}
 use Rattle.pulsar_calls.specs.declared.plans.plan.Plan.TheVariants.{Gathering}
 use Rattle.pulsar_calls.specs.declared.plans.plan.Turn.{Turn}
 use Rattle.pulsar_calls.specs.declared.plans.plan.Turn.TheVariants.{Stays, Gives}
-use Rattle.pulsar_client.specs.declared.producers.Topic.{Topic}
-use Rattle.pulsar_client.specs.Alarms.{alarm_cmp, clear, is_same_alarm, moment_of, rings, set}
+use Rattle.pulsar_tables.specs.declared.producers.Topic.{Topic}
+use Rattle.pulsar_tables.specs.Alarms.{alarm_cmp, clear, is_same_alarm, moment_of, rings, set}
 use Rattle.pulsar_calls.specs.Content.{Heard, Bytes}
 use Rattle.pulsar_laws.specs.Laws.{Acts, AttemptEnds, BecomesReady, Cause, DrawsNone, Finds, GetsTurn, GrantsSo, IsDropped, IsReady, IsReplied, IsToldBy, IsUnknown, IsWoken, LineEnds, MovesUp, RequestEnds, counted, start_of, started}
-use Rattle.pulsar_client.specs.Links.{Change, Remains, Becomes, IsOver}
+use Rattle.pulsar_tables.specs.Links.{Change, Remains, Becomes, IsOver}
 use Rattle.pulsar_calls.specs.Plan.{begins, gathers, told}
-use Rattle.pulsar_client.specs.Producers.{is_bare, numbers_at, stored_at, timeout_at, topic_after, turn_passed}
-use Rattle.pulsar_client.specs.Rules.{notice}
+use Rattle.pulsar_tables.specs.Producers.{is_bare, numbers_at, stored_at, timeout_at, topic_after, turn_passed}
+use Rattle.pulsar_tables.specs.Rules.{notice}
 use Rattle.pulsar_client.specs.Run.{Entry, Begins, Then, IsRun, view}
-use Rattle.pulsar_client.specs.View.{Addresses, Base, Chosen, Options, Seat, Turned, View, after, alarms_after, alarms_on, alarms_on_topic, alarms_over, alarms_rung, alarms_turned, alarms_waiting, asker_at, base_after, base_on, base_turned, begun_live, clear_all, got_at, is_live, link_got, live_after, live_begun, nobody, seat_asked, seat_fed, seat_got, stays, stays_some, told_some, took_end, took_some, turned, waits_for, waits_from, waits_on}
+use Rattle.pulsar_tables.specs.View.{Addresses, Base, Chosen, Options, Seat, Turned, View, after, alarms_after, alarms_on, alarms_on_topic, alarms_over, alarms_rung, alarms_turned, alarms_waiting, asker_at, base_after, base_on, base_turned, begun_live, clear_all, got_at, is_live, link_got, live_after, live_begun, nobody, seat_asked, seat_fed, seat_got, stays, stays_some, told_some, took_end, took_some, turned, waits_for, waits_from, waits_on}
 use Rattle.pulsar_calls.specs.Who.{behind_all, in_turn, is_same, turn_of}
 use Rattle.pulsar_client.proofs.Acts.{Each, begun_same}
 use Rattle.pulsar_laws.proofs.Caused.{outcomes_are_caused_lem}
@@ -60,7 +60,7 @@ use Rattle.pulsar_laws.proofs.Gathered.{GatherTold}
 use Rattle.pulsar_laws.proofs.Granted.{BeginsSo, IsLedSo, does_from, tell_said}
 use Rattle.pulsar_laws.proofs.Once.{ends_once_lem}
 use Rattle.pulsar_laws.proofs.Natures.{Goes, StaysSo, begins_goes, is_gathering, told_goes}
-use Rattle.pulsar_client.proofs.Ringing.{is_this}
+use Rattle.pulsar_tables.proofs.Ringing.{is_this}
 use Rattle.pulsar_client.proofs.Sources.{in_append, in_each, step_some}
 use Rattle.pulsar_laws.proofs.Spots.{same_self}
 use Rattle.pulsar_laws.proofs.Begun.{has_begun}

@@ -28,13 +28,13 @@ use Rattle.pulsar_calls.specs.declared.plans.plan.Plan.{Plan}
 use Rattle.pulsar_calls.specs.declared.plans.plan.Plan.TheVariants.{Batching, Leaving, Reporting, Sending, Visiting}
 use Rattle.pulsar_calls.specs.declared.plans.plan.Turn.{Turn}
 use Rattle.pulsar_calls.specs.declared.plans.plan.Turn.TheVariants.{Stays, Gives}
-use Rattle.pulsar_client.specs.declared.producers.Topic.{Topic}
+use Rattle.pulsar_tables.specs.declared.producers.Topic.{Topic}
 use Rattle.pulsar_laws.specs.Laws.{counted, start_of, started}
 use Rattle.pulsar_calls.specs.Plan.{begins, told}
 use Rattle.pulsar_laws.specs.ProducerLaws.{HasTurn, turn_in, turn_of}
-use Rattle.pulsar_client.specs.Rules.{notice}
+use Rattle.pulsar_tables.specs.Rules.{notice}
 use Rattle.pulsar_client.specs.Run.{Entry, Begins, Then, IsRun, view}
-use Rattle.pulsar_client.specs.View.{Options, stays, stays_some, told_some}
+use Rattle.pulsar_tables.specs.View.{Options, stays, stays_some, told_some}
 use Rattle.pulsar_calls.specs.Who.{behind_all, is_same, turn_of as taken_as}
 use Rattle.pulsar_client.proofs.Acts.{begun_same}
 use Rattle.pulsar_laws.proofs.BatchRun.{Batched, batched_run}

@@ -42,14 +42,14 @@ use Rattle.pulsar_calls.specs.declared.plans.plan.Plan.{Plan}
 use Rattle.pulsar_calls.specs.declared.plans.plan.Plan.TheVariants.{Batching, Stored, Storing}
 use Rattle.pulsar_calls.specs.declared.plans.plan.Turn.{Turn}
 use Rattle.pulsar_calls.specs.declared.plans.plan.Turn.TheVariants.{Stays, Gives}
-use Rattle.pulsar_client.specs.declared.producers.Topic.{Topic}
-use Rattle.pulsar_client.specs.Alarms.{rings}
+use Rattle.pulsar_tables.specs.declared.producers.Topic.{Topic}
+use Rattle.pulsar_tables.specs.Alarms.{rings}
 use Rattle.pulsar_laws.specs.Laws.{counted, start_of}
 use Rattle.pulsar_calls.specs.Plan.{action_of, batches_on, begins, news_of, overrides, told}
 use Rattle.pulsar_laws.specs.ProducerLaws.{acts_on, drawn_by, rung_by, shut_by, topic_acts}
-use Rattle.pulsar_client.specs.Producers.{next_batch_at, numbers_at}
+use Rattle.pulsar_tables.specs.Producers.{next_batch_at, numbers_at}
 use Rattle.pulsar_client.specs.Run.{Entry, Begins, Then, IsRun, view}
-use Rattle.pulsar_client.specs.View.{Options, View, room_of, stays, stays_some, told_some}
+use Rattle.pulsar_tables.specs.View.{Options, View, room_of, stays, stays_some, told_some}
 use Rattle.pulsar_calls.specs.Who.{is_same, turn_of}
 use Rattle.pulsar_client.proofs.Acts.{Each, begun_same, each_append, each_either, each_map}
 use Rattle.pulsar_laws.proofs.Batchers.{batcher_does}

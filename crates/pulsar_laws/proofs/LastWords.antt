@@ -22,8 +22,8 @@ use Rattle.pulsar_calls.specs.declared.plans.plan.Turn.{Turn}
 use Rattle.pulsar_calls.specs.declared.plans.plan.Turn.TheVariants.{Stays, Gives}
 use Rattle.pulsar_plans.specs.declared.turn.Ways.{Ways}
 use Rattle.pulsar_calls.specs.Plan.{batches_on, fault_of, told, told_to, verdict, halted_with}
-use Rattle.pulsar_client.specs.Rules.{follows, follows_some}
-use Rattle.pulsar_client.specs.View.{told_some, stays, stays_some}
+use Rattle.pulsar_tables.specs.Rules.{follows, follows_some}
+use Rattle.pulsar_tables.specs.View.{told_some, stays, stays_some}
 use Rattle.pulsar_producer.specs.declared.sending.Sending.{Sending as Send}
 use Rattle.pulsar_producer.specs.declared.sending.Errand.{Errand}
 use Rattle.pulsar_calls.specs.declared.plans.plan.Plan.TheVariants.{Batching, Leaving, Reporting, Sending, Stored, Storing, Visiting}

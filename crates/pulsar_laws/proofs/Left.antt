@@ -11,7 +11,7 @@ use Rattle.pulsar_calls.specs.declared.act.Makes.TheVariants.{Producer}
 use Rattle.pulsar_calls.specs.declared.act.Procedure.TheVariants as procedure
 use Rattle.pulsar_calls.specs.declared.act.Who.TheVariants as who
 use Rattle.pulsar_calls.specs.declared.content.Building.{Building}
-use Rattle.pulsar_client.specs.Rules.{batches_by, batches_from, left_with}
+use Rattle.pulsar_tables.specs.Rules.{batches_by, batches_from, left_with}
 use Rattle.pulsar_client.proofs.Acts.{Each, each_either}
 
 parts_each : (P : Act → Type 0) (w : Ways) (block : Bool) (bs : List Built) →

@@ -12,10 +12,10 @@ use Rattle.pulsar_calls.specs.declared.act.Procedure.{Procedure}
 use Rattle.pulsar_calls.specs.declared.act.Who.TheVariants.{Call}
 use Rattle.pulsar_calls.specs.Content.{Asked, lacks_tickets, shares}
 use Rattle.pulsar_laws.specs.Laws.{CallsAreMade}
-use Rattle.pulsar_client.specs.Producers.{advice}
-use Rattle.pulsar_client.specs.Rules.{at_once, call_part, called, causes, further, joins, parts, starts}
+use Rattle.pulsar_tables.specs.Producers.{advice}
+use Rattle.pulsar_tables.specs.Rules.{at_once, call_part, called, causes, further, joins, parts, starts}
 use Rattle.pulsar_client.specs.Run.{Entry, Begins, Then, IsRun, rules, view}
-use Rattle.pulsar_client.specs.View.{Options}
+use Rattle.pulsar_tables.specs.View.{Options}
 use Rattle.pulsar_client.proofs.Acts.{StartsIn, late, starts_in}
 use Rattle.pulsar_client.proofs.Raising.{IsRaised, OfStart, may, raises}
 use Rattle.pulsar_client.proofs.Sources.{in_each, in_map, step_more, step_runs, step_some}

@@ -20,9 +20,9 @@ use Rattle.pulsar_calls.specs.declared.plans.plan.Plan.TheVariants.{Batching}
 use Rattle.pulsar_calls.specs.declared.plans.plan.Turn.{Turn}
 use Rattle.pulsar_calls.specs.declared.plans.plan.Turn.TheVariants.{Stays, Gives}
 use Rattle.pulsar_calls.specs.Plan.{batches_on, begins, news_of, overrides, told}
-use Rattle.pulsar_client.specs.Rules.{at_once, batches_by, batches_from, left_with}
+use Rattle.pulsar_tables.specs.Rules.{at_once, batches_by, batches_from, left_with}
 use Rattle.pulsar_client.specs.Run.{Entry, Begins, Then, IsRun, agenda, view}
-use Rattle.pulsar_client.specs.View.{Options, View, ways_of}
+use Rattle.pulsar_tables.specs.View.{Options, View, ways_of}
 use Rattle.pulsar_client.proofs.Acts.{Each, each_append, each_either, each_first, each_map, each_rest, is_served}
 use Rattle.pulsar_laws.proofs.Batchers.{is_batcher}
 use Rattle.pulsar_client.proofs.Raising.{IsRaised, raises}

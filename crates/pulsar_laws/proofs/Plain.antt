@@ -7,11 +7,11 @@ use Rattle.pulsar_calls.specs.declared.act.Action.TheVariants.{Ask}
 use Rattle.pulsar_calls.specs.declared.act.Part.TheVariants as part
 use Rattle.pulsar_calls.specs.declared.act.Who.{Who}
 use Rattle.pulsar_calls.specs.declared.act.Who.TheVariants.{Call, Producer}
-use Rattle.pulsar_client.specs.declared.addresses.Pause.{Pause}
-use Rattle.pulsar_client.specs.Address.{leads_to}
+use Rattle.pulsar_tables.specs.declared.addresses.Pause.{Pause}
+use Rattle.pulsar_tables.specs.Address.{leads_to}
 use Rattle.pulsar_calls.specs.Content.{Said, Shown, Queued, Write, Hands, Faults}
-use Rattle.pulsar_client.specs.Effects.{connects_to, effects, ends, retries, retries_on}
-use Rattle.pulsar_client.specs.View.{Chosen, Turned, View}
+use Rattle.pulsar_tables.specs.Effects.{connects_to, effects, ends, retries, retries_on}
+use Rattle.pulsar_tables.specs.View.{Chosen, Turned, View}
 
 abbrev pub is_plain : Shown → Bool
 is_plain (Write l bytes) = false

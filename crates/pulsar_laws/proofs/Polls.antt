@@ -26,11 +26,11 @@ use Rattle.pulsar_calls.specs.declared.act.Part.TheVariants.{ToLink, Polls}
 use Rattle.pulsar_calls.specs.declared.act.Who.{Who}
 use Rattle.pulsar_calls.specs.declared.act.Who.TheVariants.{Call}
 use Rattle.pulsar_calls.specs.Content.{Heard, Poll, Shown, Hands, Faults}
-use Rattle.pulsar_client.specs.Effects.{asked_at, effect_below, effect_rank, effects, given_at, is_before3, retries_on}
+use Rattle.pulsar_tables.specs.Effects.{asked_at, effect_below, effect_rank, effects, given_at, is_before3, retries_on}
 use Rattle.pulsar_laws.specs.Laws.{EndsOnce, PollsAreAnswered, PollsFollow, brought, brought_by, given_by, items_come, items_given}
 use Rattle.pulsar_client.specs.Run.{Entry, Begins, Then, IsRun, Step, first_of, is_empty, rules, steps, view}
 use Rattle.pulsar_client.specs.Subscriptions.{Subscription, after_came, after_poll, closes_it, ended, ended_at, hears, is_heard_on, is_last, polled, polled_from}
-use Rattle.pulsar_client.specs.View.{Options, Seat, View, answer_at, arrival_at, closing, hears_ask, is_asked, made, turned}
+use Rattle.pulsar_tables.specs.View.{Options, Seat, View, answer_at, arrival_at, closing, hears_ask, is_asked, made, turned}
 use Rattle.pulsar_calls.specs.Who.{is_same}
 use Rattle.pulsar_client.proofs.Acts.{Each, each_append, each_map}
 use Rattle.pulsar_laws.proofs.Hearing.{begun_consumers, none_before}

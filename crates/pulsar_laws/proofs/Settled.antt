@@ -29,9 +29,9 @@ use Rattle.pulsar_calls.specs.declared.plans.plan.Turn.TheVariants.{Stays, Gives
 use Rattle.pulsar_laws.specs.BatchLaws.{StoredEndsByItsBatch, TellsFate, ends_with}
 use Rattle.pulsar_laws.specs.Laws.{Answered, Cause, ComesLate, GrantsSo, IsDropped, IsToldSo, StartsSo, counted, start_of, started}
 use Rattle.pulsar_calls.specs.Plan.{begins, fails, fault_of, in_stored, stored, told}
-use Rattle.pulsar_client.specs.Rules.{notice}
+use Rattle.pulsar_tables.specs.Rules.{notice}
 use Rattle.pulsar_client.specs.Run.{Entry, Begins, Then, IsRun, agenda, first, rest, view}
-use Rattle.pulsar_client.specs.View.{Options, View, stays, stays_some, told_some}
+use Rattle.pulsar_tables.specs.View.{Options, View, stays, stays_some, told_some}
 use Rattle.pulsar_calls.specs.Who.{is_same}
 use Rattle.pulsar_client.proofs.Acts.{begun_same}
 use Rattle.pulsar_laws.proofs.BatchRun.{fits_first, none_first}

@@ -10,7 +10,7 @@ use Rattle.pulsar_calls.specs.declared.act.Who.{Who}
 use Rattle.pulsar_laws.specs.ProducerLaws.{SlowDownLeavesAll, seat_ticked}
 use Rattle.pulsar_client.specs.Run.{view}
 use Rattle.pulsar_client.specs.Subscriptions.{Subscription, closed_at}
-use Rattle.pulsar_client.specs.View.{Seat, View, answer_at, asker_at, hears_ask, is_asked, place_of, seat_asked}
+use Rattle.pulsar_tables.specs.View.{Seat, View, answer_at, asker_at, hears_ask, is_asked, place_of, seat_asked}
 
 module _ (who : Who) (now l : ℕ) (request : Words) where
   seat_slow : (row : Option Seat) → answer_at now request row ≡ Err error.SlowDown →

@@ -18,10 +18,10 @@ use Rattle.pulsar_calls.specs.declared.plans.plan.Plan.{Plan}
 use Rattle.pulsar_calls.specs.declared.plans.plan.Turn.{Turn}
 use Rattle.pulsar_calls.specs.declared.plans.plan.Turn.TheVariants.{Stays, Gives}
 use Rattle.pulsar_calls.specs.Plan.{begins, told}
-use Rattle.pulsar_client.specs.Producers.{link_at, next_batch_at}
-use Rattle.pulsar_client.specs.Rules.{at_once, does, finds, follows, follows_some, tells, told_at}
+use Rattle.pulsar_tables.specs.Producers.{link_at, next_batch_at}
+use Rattle.pulsar_tables.specs.Rules.{at_once, does, finds, follows, follows_some, tells, told_at}
 use Rattle.pulsar_client.specs.Run.{Agenda, Entry, Begins, Then, IsRun, agenda, first, rules, view}
-use Rattle.pulsar_client.specs.View.{Options, View, answer_at, stand_after, stays, stays_some, told_some}
+use Rattle.pulsar_tables.specs.View.{Options, View, answer_at, stand_after, stays, stays_some, told_some}
 use Rattle.pulsar_calls.specs.Who.{is_same}
 use Rattle.pulsar_producer.specs.declared.deed.News.TheVariants as news
 use Rattle.pulsar_calls.specs.declared.act.Procedure.TheVariants as procedure

@@ -70,11 +70,11 @@ use Rattle.pulsar_calls.specs.declared.act.Refusal.TheVariants as refusal
 use Rattle.pulsar_calls.specs.declared.act.Says.TheVariants as says
 use Rattle.pulsar_calls.specs.Content as content
 use Rattle.pulsar_calls.specs.Content.{Asked, lacks_tickets, sent_by, shares}
-use Rattle.pulsar_client.specs.Producers.{Producers, advice, batches_in, errand_of, numbers_at, routed, why_not}
+use Rattle.pulsar_tables.specs.Producers.{Producers, advice, batches_in, errand_of, numbers_at, routed, why_not}
 use Rattle.pulsar_calls.specs.Content.{next_advice}
-use Rattle.pulsar_client.specs.Rules.{asks_raw, asks_topics, builds_with, call_part, checks, closes, fails_as, flushes, flushes_all, from_base, gathers as gathers_by, is_taken, parts_of, procedure_for, produces, produces_from, searches, sends, sends_as, sends_by, share, shares_of, shares_unless, starts, stores_as, unless, unless_refused, why_no_sends}
+use Rattle.pulsar_tables.specs.Rules.{asks_raw, asks_topics, builds_with, call_part, checks, closes, fails_as, flushes, flushes_all, from_base, gathers as gathers_by, is_taken, parts_of, procedure_for, produces, produces_from, searches, sends, sends_as, sends_by, share, shares_of, shares_unless, starts, stores_as, unless, unless_refused, why_no_sends}
 use Rattle.pulsar_client.specs.Run.{Entry, Begins, Then, IsRun, view}
-use Rattle.pulsar_client.specs.View.{Chosen, View, may_call, ways_of}
+use Rattle.pulsar_tables.specs.View.{Chosen, View, may_call, ways_of}
 use Rattle.pulsar_laws.proofs.Granted.{BeginsSo, does_from, in_each}
 use Rattle.pulsar_laws.proofs.Made.{calls_are_made_lem}
 use Rattle.pulsar_laws.proofs.Natures.{StaysSo, either_so}

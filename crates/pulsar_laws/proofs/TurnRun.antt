@@ -30,15 +30,15 @@ use Rattle.pulsar_calls.specs.declared.plans.plan.Plan.{Plan}
 use Rattle.pulsar_calls.specs.declared.plans.plan.Plan.TheVariants.{Batching, Leaving, Sending}
 use Rattle.pulsar_calls.specs.declared.plans.plan.Turn.{Turn}
 use Rattle.pulsar_calls.specs.declared.plans.plan.Turn.TheVariants.{Stays, Gives}
-use Rattle.pulsar_client.specs.declared.producers.Topic.{Topic}
+use Rattle.pulsar_tables.specs.declared.producers.Topic.{Topic}
 use Rattle.pulsar_calls.specs.Content.{Heard}
 use Rattle.pulsar_laws.specs.Laws.{counted, start_of}
 use Rattle.pulsar_calls.specs.Plan.{begins, told}
-use Rattle.pulsar_client.specs.Producers.{Producers, changed, topic_after, turn_passed}
+use Rattle.pulsar_tables.specs.Producers.{Producers, changed, topic_after, turn_passed}
 use Rattle.pulsar_laws.specs.ProducerLaws.{HasTurn, PassedInTurn, QueuedInTurn, ToldInTurn, acts_on, topic_acts, turn_of}
-use Rattle.pulsar_client.specs.Rules.{at_once, grants, notice, takes_turn, turn_notice}
+use Rattle.pulsar_tables.specs.Rules.{at_once, grants, notice, takes_turn, turn_notice}
 use Rattle.pulsar_client.specs.Run.{Entry, Begins, Then, IsRun, view}
-use Rattle.pulsar_client.specs.View.{Options, stays, stays_some, told_some}
+use Rattle.pulsar_tables.specs.View.{Options, stays, stays_some, told_some}
 use Rattle.pulsar_calls.specs.Who.{behind_all, in_turn, is_same, turn_of as taken_as}
 use Rattle.pulsar_client.proofs.Acts.{begun_same}
 use Rattle.pulsar_laws.proofs.Drawing.{Every, drawn_run, here, row_from}

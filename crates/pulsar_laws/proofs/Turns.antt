@@ -19,13 +19,13 @@ use Rattle.pulsar_calls.specs.declared.act.Outcome.TheVariants as outcome
 use Rattle.pulsar_calls.specs.declared.act.Part.{Part}
 use Rattle.pulsar_calls.specs.declared.act.Part.TheVariants.{Rings}
 use Rattle.pulsar_calls.specs.declared.act.Who.{Who}
-use Rattle.pulsar_client.specs.declared.producers.Topic.{Topic}
-use Rattle.pulsar_client.specs.Producers.{is_woken, numbers_at, stored_by}
+use Rattle.pulsar_tables.specs.declared.producers.Topic.{Topic}
+use Rattle.pulsar_tables.specs.Producers.{is_woken, numbers_at, stored_by}
 use Rattle.pulsar_laws.specs.ProducerLaws.{HasTurn, drawn_by, rung_by, shut_by, topic_acts}
-use Rattle.pulsar_client.specs.Rules.{at_once, below, joins, performs, readied, ready_notice}
+use Rattle.pulsar_tables.specs.Rules.{at_once, below, joins, performs, readied, ready_notice}
 use Rattle.pulsar_client.specs.Run.{Entry, Then, IsRun, agenda, rules, view}
-use Rattle.pulsar_client.specs.View.{Options, View, room_of}
-use Rattle.pulsar_client.specs.Alarms.{rings}
+use Rattle.pulsar_tables.specs.View.{Options, View, room_of}
+use Rattle.pulsar_tables.specs.Alarms.{rings}
 use Rattle.pulsar_calls.specs.Plan.{closed_notice}
 use Rattle.pulsar_calls.specs.Who.{is_same, turn_of as taken_as}
 use Rattle.pulsar_client.proofs.Acts.{Each, each_either}

@@ -24,7 +24,7 @@ use Rattle.pulsar_producer.specs.declared.deed.News.{News}
 use Rattle.pulsar_plans.specs.Backoff.{allow_retry}
 use Rattle.pulsar_plans.specs.declared.turn.Ways.{Ways}
 use Rattle.pulsar_session.specs.Reply.{Reply as Content, is_body}
-use Rattle.pulsar_client.specs.Alarms.{ringing, rings}
+use Rattle.pulsar_tables.specs.Alarms.{ringing, rings}
 use Rattle.pulsar_calls.specs.declared.act.Act.{Act}
 use Rattle.pulsar_calls.specs.declared.act.Act.TheVariants.{Comes, Starts, Told, Does, Answers, Dials}
 use Rattle.pulsar_calls.specs.declared.act.Action.{Action}
@@ -49,23 +49,23 @@ use Rattle.pulsar_calls.specs.declared.act.Says.{Says}
 use Rattle.pulsar_calls.specs.declared.act.Verdict.{Verdict}
 use Rattle.pulsar_calls.specs.declared.act.Who.{Who}
 use Rattle.pulsar_calls.specs.declared.act.Who.TheVariants.{Call, Producer}
-use Rattle.pulsar_client.specs.declared.addresses.Pause.{Pause}
-use Rattle.pulsar_client.specs.declared.addresses.Series.{Series}
-use Rattle.pulsar_client.specs.declared.addresses.Series.TheVariants.{Nobody, Runs, Pauses, Serves}
+use Rattle.pulsar_tables.specs.declared.addresses.Pause.{Pause}
+use Rattle.pulsar_tables.specs.declared.addresses.Series.{Series}
+use Rattle.pulsar_tables.specs.declared.addresses.Series.TheVariants.{Nobody, Runs, Pauses, Serves}
 use Rattle.pulsar_calls.specs.declared.plans.plan.Plan.{Plan}
 use Rattle.pulsar_calls.specs.declared.plans.plan.Turn.{Turn}
 use Rattle.pulsar_calls.specs.Content.{Asked, Bytes, Ticked, Poll, Shown, Queued, Write, Hands, Faults, Failed, lacks_tickets, shares}
-use Rattle.pulsar_client.specs.Effects.{effect_below, is_before3}
-use Rattle.pulsar_client.specs.Links.{Change, Remains, Becomes, IsOver, arrival, call_of, closed_by, line_places, new_places}
+use Rattle.pulsar_tables.specs.Effects.{effect_below, is_before3}
+use Rattle.pulsar_tables.specs.Links.{Change, Remains, Becomes, IsOver, arrival, call_of, closed_by, line_places, new_places}
 use Rattle.pulsar_calls.specs.Content.{numbers_from}
 use Rattle.pulsar_calls.specs.Parts.{outcomes_of}
-use Rattle.pulsar_client.specs.Producers.{advice, turn_passed, drawn, is_settled_at, is_woken, link_at, next_batch_at, number_drawn, numbers_at, recalled, stored_at, turn_taken, unsent_at, waiting_at}
+use Rattle.pulsar_tables.specs.Producers.{advice, turn_passed, drawn, is_settled_at, is_woken, link_at, next_batch_at, number_drawn, numbers_at, recalled, stored_at, turn_taken, unsent_at, waiting_at}
 use Rattle.pulsar_producer.specs.Topic as topic
 use Rattle.pulsar_calls.specs.Plan.{begins, failure_of, fails, fault_of, reply_says, told}
-use Rattle.pulsar_client.specs.Rules.{below, call_part, dropped, fails_so, is_idle, lost, notice, starts, stopped_with, brings}
+use Rattle.pulsar_tables.specs.Rules.{below, call_part, dropped, fails_so, is_idle, lost, notice, starts, stopped_with, brings}
 use Rattle.pulsar_client.specs.Run.{Entry, Begins, Then, Good, IsRun, Rests, Step, agenda, rules, steps, tickets_in, view}
 use Rattle.pulsar_client.specs.Subscriptions.{Subscription, closes_it, is_heard_on, is_last, polled}
-use Rattle.pulsar_client.specs.View.{Base, Options, Seat, Turned, View, answer_at, arrival_at, builds, closing, is_asked, pause_of, setup, turned, waits_on, room_of}
+use Rattle.pulsar_tables.specs.View.{Base, Options, Seat, Turned, View, answer_at, arrival_at, builds, closing, is_asked, pause_of, setup, turned, waits_on, room_of}
 use Rattle.pulsar_calls.specs.Who.{in_turn, is_same, rank, turn_of as taken_as}
 use Rattle.pulsar_run.specs.Laws as run
 use Rattle.pulsar_session.specs.declared.states.Asked.TheVariants as placed
@@ -74,7 +74,7 @@ use Rattle.pulsar_producer.specs.declared.deed.News.TheVariants as news
 use Rattle.pulsar_calls.specs.declared.act.Outcome.TheVariants as outcome
 use Rattle.pulsar_calls.specs.declared.act.Procedure.TheVariants as procedure
 use Rattle.pulsar_calls.specs.declared.plans.plan.Turn.TheVariants as turn
-use Rattle.pulsar_client.specs.Links as links
+use Rattle.pulsar_tables.specs.Links as links
 
 -- THE RUN
 

@@ -38,7 +38,7 @@ use Rattle.pulsar_calls.specs.declared.act.Act.{Act}
 use Rattle.pulsar_calls.specs.declared.act.Act.TheVariants.{Comes, Told, Does}
 use Rattle.pulsar_calls.specs.declared.act.Alarm.TheVariants.{Batch}
 use Rattle.pulsar_calls.specs.declared.act.Part.TheVariants.{Rings}
-use Rattle.pulsar_client.specs.Alarms.{rings}
+use Rattle.pulsar_tables.specs.Alarms.{rings}
 use Rattle.pulsar_calls.specs.declared.act.Action.TheVariants.{Ask, TakeTurn, PassTurn, Draw, Remake, Shut, Store, Flush, TakeBatch, StopAll}
 use Rattle.pulsar_calls.specs.declared.act.Makes.TheVariants as makes
 use Rattle.pulsar_calls.specs.declared.act.Share.{Share}
@@ -51,15 +51,15 @@ use Rattle.pulsar_calls.specs.declared.plans.plan.At.{At}
 use Rattle.pulsar_calls.specs.declared.plans.plan.At.TheVariants as at
 use Rattle.pulsar_calls.specs.declared.plans.plan.Plan.{Plan}
 use Rattle.pulsar_calls.specs.declared.plans.plan.Plan.TheVariants as plan
-use Rattle.pulsar_client.specs.declared.producers.Topic.{Topic}
+use Rattle.pulsar_tables.specs.declared.producers.Topic.{Topic}
 use Rattle.pulsar_calls.specs.Content.{Said, Failed}
-use Rattle.pulsar_client.specs.Links as links
+use Rattle.pulsar_tables.specs.Links as links
 use Rattle.pulsar_calls.specs.Parts.{sent_from}
-use Rattle.pulsar_client.specs.Producers.{number_drawn, numbers_at}
+use Rattle.pulsar_tables.specs.Producers.{number_drawn, numbers_at}
 use Rattle.pulsar_calls.specs.Plan.{told}
-use Rattle.pulsar_client.specs.Rules.{joins, notice}
+use Rattle.pulsar_tables.specs.Rules.{joins, notice}
 use Rattle.pulsar_client.specs.Run.{Entry, Begins, Then, IsRun, Rests, view}
-use Rattle.pulsar_client.specs.View.{Options, Seat, View, answer_at, room_of}
+use Rattle.pulsar_tables.specs.View.{Options, Seat, View, answer_at, room_of}
 use Rattle.pulsar_calls.specs.Who.{in_turn, is_same, turn_of as taken_as}
 use Rattle.pulsar_laws.specs.Laws.{started, outcomes, deeds, Answered}
 

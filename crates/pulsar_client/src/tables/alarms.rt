@@ -3,15 +3,15 @@
 ghost use Rattle.std.specs.List.{flat_map, list_any};
 ghost use Rattle.std.specs.Prelude.{◌≡◌, ◌++◌, ℕ, List, map, IfOk, OnOk, if◌then◌else◌};
 ghost use Rattle.pulsar_run.specs.Order.{arranged};
-ghost use Rattle.pulsar_client.specs.Kept.{addresses_of, base_at};
-ghost use Rattle.pulsar_client.specs.Rules.{below, opens, rung, stopped_with, woken};
+ghost use Rattle.pulsar_tables.specs.Kept.{addresses_of, base_at};
+ghost use Rattle.pulsar_tables.specs.Rules.{below, opens, rung, stopped_with, woken};
 ghost use Rattle.pulsar_client.specs.Run.{goes_on};
 ghost use Rattle.pulsar_client.specs.Tables.{agenda_of, rung_view, unset_view, view_of};
-ghost use Rattle.pulsar_client.specs.View.{after, is_to_follow, later, nobody};
+ghost use Rattle.pulsar_tables.specs.View.{after, is_to_follow, later, nobody};
 
-use crate::addresses::{Addresses, Pause};
+use pulsar_tables::addresses::{Addresses, Pause};
 use crate::agenda::Tasks;
-use crate::alarms::Alarms;
+use pulsar_tables::alarms::Alarms;
 use crate::tables::Tables;
 use crate::tables::calls::tell;
 use pulsar_calls::act::{Act, Action, Alarm, LinkAct, Notice, Outcome, Part, Who};

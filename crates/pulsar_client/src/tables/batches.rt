@@ -2,13 +2,13 @@
 
 ghost use Rattle.std.specs.Prelude.{◌≡◌, ◌∷◌, [], ◌++◌, IfOk, OnOk, if◌then◌else◌, map, true, Some};
 ghost use Rattle.pulsar_run.specs.Order.{arranged, put_all};
-ghost use Rattle.pulsar_client.specs.Kept.{producers_of};
+ghost use Rattle.pulsar_tables.specs.Kept.{producers_of};
 ghost use Rattle.pulsar_calls.specs.Plan.{closed_notice};
-ghost use Rattle.pulsar_client.specs.Producers.{is_bare, numbers_at, timeout_at};
-ghost use Rattle.pulsar_client.specs.Rules.{batches_by, batches_from, batches_made, below, opens, ready_notice, woken};
+ghost use Rattle.pulsar_tables.specs.Producers.{is_bare, numbers_at, timeout_at};
+ghost use Rattle.pulsar_tables.specs.Rules.{batches_by, batches_from, batches_made, below, opens, ready_notice, woken};
 ghost use Rattle.pulsar_client.specs.Run.{goes_on};
 ghost use Rattle.pulsar_client.specs.Tables.{agenda_of, chosen_of, rung_view, view_of};
-ghost use Rattle.pulsar_client.specs.View.{after, alarms_waiting, clear_all, producers_rung, ways_of};
+ghost use Rattle.pulsar_tables.specs.View.{after, alarms_waiting, clear_all, producers_rung, ways_of};
 ghost use Rattle.pulsar_calls.specs.declared.act.Act.{Act};
 
 use crate::agenda::Tasks;

@@ -2,21 +2,21 @@
 
 ghost use Rattle.std.specs.Prelude.{◌≡◌, ◌+◌, ◌&&◌, ◌++◌, ◌∷◌, not, map, IfOk, MatchBool, None, Some, OnOk, string_bytes, true, false, if◌then◌else◌};
 ghost use Rattle.pulsar_calls.specs.Content.{Build, asked, lacks_tickets, shares, shown};
-ghost use Rattle.pulsar_client.specs.Effects.{effects, ends};
+ghost use Rattle.pulsar_tables.specs.Effects.{effects, ends};
 ghost use Rattle.pulsar_link.specs.RawCall.{words_of};
 ghost use Rattle.pulsar_link.specs.Request.{named_consumer, named_producer};
-ghost use Rattle.pulsar_client.specs.Consumers as consumer;
-ghost use Rattle.pulsar_client.specs.Producers.{called_on, names_in, opened_on};
-ghost use Rattle.pulsar_client.specs.Reading.{notice};
-ghost use Rattle.pulsar_client.specs.Rules.{asks_raw, asks_topics, builds_with, does, follows, from_base, is_taken, parts_of, procedure_for, searches, taken_by, unless_refused};
+ghost use Rattle.pulsar_tables.specs.Consumers as consumer;
+ghost use Rattle.pulsar_tables.specs.Producers.{called_on, names_in, opened_on};
+ghost use Rattle.pulsar_tables.specs.Reading.{notice};
+ghost use Rattle.pulsar_tables.specs.Rules.{asks_raw, asks_topics, builds_with, does, follows, from_base, is_taken, parts_of, procedure_for, searches, taken_by, unless_refused};
 ghost use Rattle.pulsar_client.specs.Run.{goes_on, ticket_for};
 ghost use Rattle.pulsar_client.specs.Tables.{agenda_of, chosen_of, view_of};
 ghost use Rattle.pulsar_calls.specs.Standing.{stand_of};
-ghost use Rattle.pulsar_client.specs.View.{after, alarms_built, builds, may_call, stays, ways_of};
+ghost use Rattle.pulsar_tables.specs.View.{after, alarms_built, builds, may_call, stays, ways_of};
 ghost use Rattle.pulsar_calls.specs.Who.{is_same};
 ghost use Rattle.pulsar_calls.specs.declared.act.Who.{Who as Meant};
 
-use crate::addresses::Series;
+use pulsar_tables::addresses::Series;
 use crate::agenda::Tasks;
 use crate::tables::Tables;
 use crate::tables::alarms::{IDLE_PERIOD, later};

@@ -2,17 +2,17 @@
 
 ghost use Rattle.std.specs.Prelude.{◌≡◌, ◌++◌, map, OnOk};
 ghost use Rattle.pulsar_calls.specs.Content.{shown};
-ghost use Rattle.pulsar_client.specs.Effects.{effects};
-ghost use Rattle.pulsar_client.specs.Kept.{addresses_of, live_in};
-ghost use Rattle.pulsar_client.specs.Rules.{breaks_at, reads_on, served_on, waiters_of};
+ghost use Rattle.pulsar_tables.specs.Effects.{effects};
+ghost use Rattle.pulsar_tables.specs.Kept.{addresses_of, live_in};
+ghost use Rattle.pulsar_tables.specs.Rules.{breaks_at, reads_on, served_on, waiters_of};
 ghost use Rattle.pulsar_client.specs.Run.{goes_on};
-ghost use Rattle.pulsar_client.specs.Consumers.{all_changed, hears, over_rows};
-ghost use Rattle.pulsar_client.specs.KeptConsumers.{consumers_in};
-ghost use Rattle.pulsar_client.specs.Reading.{heard_at};
+ghost use Rattle.pulsar_tables.specs.Consumers.{all_changed, hears, over_rows};
+ghost use Rattle.pulsar_tables.specs.KeptConsumers.{consumers_in};
+ghost use Rattle.pulsar_tables.specs.Reading.{heard_at};
 ghost use Rattle.pulsar_client.specs.Tables.{agenda_of, chosen_of, retry_set, retry_shown, turned_view, view_of, welcomed};
-ghost use Rattle.pulsar_client.specs.View.{after};
+ghost use Rattle.pulsar_tables.specs.View.{after};
 
-use crate::address::connect;
+use pulsar_tables::address::connect;
 use crate::agenda::Tasks;
 use crate::tables::Tables;
 use crate::tables::alarms::later;

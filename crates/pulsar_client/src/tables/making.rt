@@ -2,16 +2,16 @@
 
 ghost use Rattle.std.specs.Prelude.{◌≡◌, IfOk, OnOk};
 ghost use Rattle.std.specs.Option.{option_to_list};
-ghost use Rattle.pulsar_client.specs.Kept.{live_in, producers_of};
-ghost use Rattle.pulsar_client.specs.KeptConsumers.{consumers_in, member_in};
-ghost use Rattle.pulsar_client.specs.Reading.{due_to, made_due, serves_by};
-ghost use Rattle.pulsar_client.specs.Rules.{left_with};
+ghost use Rattle.pulsar_tables.specs.Kept.{live_in, producers_of};
+ghost use Rattle.pulsar_tables.specs.KeptConsumers.{consumers_in, member_in};
+ghost use Rattle.pulsar_tables.specs.Reading.{due_to, made_due, serves_by};
+ghost use Rattle.pulsar_tables.specs.Rules.{left_with};
 ghost use Rattle.pulsar_client.specs.Tables.{chosen_of, view_of};
-ghost use Rattle.pulsar_client.specs.View.{consumers_left, consumers_made, joins_as, member_on, producers_made, setup_of, ways_of};
+ghost use Rattle.pulsar_tables.specs.View.{consumers_left, consumers_made, joins_as, member_on, producers_made, setup_of, ways_of};
 ghost use Rattle.pulsar_calls.specs.Who.{ticket_of};
 
-use crate::consumers::hearing::due;
-use crate::consumers::row::ConsumerRow;
+use pulsar_tables::consumers::hearing::due;
+use pulsar_tables::consumers::row::ConsumerRow;
 use crate::tables::Tables;
 use pulsar_calls::act::{Act as Deed, Makes, Notice, Procedure, Who};
 use pulsar_calls::content::{Joined, Joining};

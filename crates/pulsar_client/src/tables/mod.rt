@@ -3,12 +3,12 @@
 ghost use Rattle.std.specs.Prelude.{◌≡◌, ◌++◌, ◌∷◌, [], List, map, IfOk, OnOk, true};
 ghost use Rattle.pulsar_run.specs.Order.{arranged};
 ghost use Rattle.pulsar_calls.specs.Content.{Heard, asked, heard, shown};
-ghost use Rattle.pulsar_client.specs.Effects.{effect_below, effects};
-ghost use Rattle.pulsar_client.specs.Rules.{brings, call_part};
+ghost use Rattle.pulsar_tables.specs.Effects.{effect_below, effects};
+ghost use Rattle.pulsar_tables.specs.Rules.{brings, call_part};
 ghost use Rattle.pulsar_client.specs.Run.{Step, goes_on};
 ghost use Rattle.pulsar_producer.specs.Routing.{Policy};
 ghost use Rattle.pulsar_client.specs.Tables.{InStep, Stands, agenda_of, chosen_of, step, view_of};
-ghost use Rattle.pulsar_client.specs.View.{Options, after, begun, is_live};
+ghost use Rattle.pulsar_tables.specs.View.{Options, after, begun, is_live};
 
 mod alarms;
 mod batches;
@@ -19,13 +19,13 @@ mod making;
 mod producers;
 mod sends;
 
-use crate::addresses::Addresses;
+use pulsar_tables::addresses::Addresses;
 use crate::agenda::Tasks;
-use crate::alarms::Alarms;
-use crate::consumers::table::Consumers;
-use crate::links::Links;
+use pulsar_tables::alarms::Alarms;
+use pulsar_tables::consumers::table::Consumers;
+use pulsar_tables::links::Links;
 use crate::order::arrange;
-use crate::producers::Producers;
+use pulsar_tables::producers::Producers;
 use crate::settings::Settings;
 use pulsar_calls::act::{Act, Alarm, End, LinkAct, Notice, Part};
 use pulsar_calls::content::Asking;

@@ -5,13 +5,13 @@ ghost use Rattle.std.specs.Option.{option_map, option_to_list};
 ghost use Rattle.pulsar_run.specs.Order.{put_all};
 ghost use Rattle.pulsar_session.specs.Failures.{fault};
 ghost use Rattle.pulsar_calls.specs.Content.{asked};
-ghost use Rattle.pulsar_client.specs.Kept.{producers_of};
-ghost use Rattle.pulsar_client.specs.Producers.{advice};
-ghost use Rattle.pulsar_client.specs.Reading.{tells};
-ghost use Rattle.pulsar_client.specs.Rules.{below, grants, turn_notice};
+ghost use Rattle.pulsar_tables.specs.Kept.{producers_of};
+ghost use Rattle.pulsar_tables.specs.Producers.{advice};
+ghost use Rattle.pulsar_tables.specs.Reading.{tells};
+ghost use Rattle.pulsar_tables.specs.Rules.{below, grants, turn_notice};
 ghost use Rattle.pulsar_client.specs.Run.{goes_on};
 ghost use Rattle.pulsar_client.specs.Tables.{agenda_of, view_of};
-ghost use Rattle.pulsar_client.specs.View.{after, room_of};
+ghost use Rattle.pulsar_tables.specs.View.{after, room_of};
 ghost use Rattle.pulsar_calls.specs.declared.act.Act.{Act};
 
 use crate::agenda::Tasks;

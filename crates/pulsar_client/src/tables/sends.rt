@@ -5,14 +5,14 @@ ghost use Rattle.std.specs.Option.{option_map};
 ghost use Rattle.pulsar_messages.specs.Content.{message_content};
 ghost use Rattle.pulsar_producer.specs.Batch.{entry_of};
 ghost use Rattle.pulsar_producer.specs.Wanted.{producer_wanted};
-ghost use Rattle.pulsar_client.specs.Kept.{producers_of};
+ghost use Rattle.pulsar_tables.specs.Kept.{producers_of};
 ghost use Rattle.pulsar_calls.specs.Content.{SendAll, lacks_tickets};
 ghost use Rattle.pulsar_calls.specs.declared.act.Action.{Action};
-ghost use Rattle.pulsar_client.specs.Producers.{all_routed, routed, sent_on, why_not};
-ghost use Rattle.pulsar_client.specs.Rules as rules;
+ghost use Rattle.pulsar_tables.specs.Producers.{all_routed, routed, sent_on, why_not};
+ghost use Rattle.pulsar_tables.specs.Rules as rules;
 ghost use Rattle.pulsar_client.specs.Run.{goes_on};
 ghost use Rattle.pulsar_client.specs.Tables.{agenda_of, chosen_of, view_of};
-ghost use Rattle.pulsar_client.specs.View.{after, may_call};
+ghost use Rattle.pulsar_tables.specs.View.{after, may_call};
 
 use crate::agenda::Tasks;
 use crate::tables::Tables;

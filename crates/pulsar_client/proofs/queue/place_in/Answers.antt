@@ -1,5 +1,5 @@
 use Rattle.std.proofs.Common.{◌≡◌, ◌∙◌, ◌+◌, ◌-◌, ap, arith, sym}
-use Rattle.pulsar_client.specs.Rules.{below}
+use Rattle.pulsar_tables.specs.Rules.{below}
 use Rattle.pulsar_calls.specs.Who.{is_before, rank}
 use Rattle.pulsar_client.proofs.Orders.{below_order}
 use Rattle.pulsar_client.proofs.Ranking.{put_next}

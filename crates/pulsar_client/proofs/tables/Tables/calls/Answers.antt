@@ -3,12 +3,12 @@ use Rattle.std.proofs.lemmas.Result.{on_ok_weaker}
 use Rattle.pulsar_calls.specs.declared.act.Act.TheVariants.{Answers, Starts}
 use Rattle.pulsar_calls.specs.declared.act.Who.TheVariants.{Call}
 use Rattle.pulsar_calls.specs.Content.{lacks_tickets, shares}
-use Rattle.pulsar_client.specs.Consumers as consumer
-use Rattle.pulsar_client.specs.Producers.{called_on}
-use Rattle.pulsar_client.specs.Rules.{parts_of}
+use Rattle.pulsar_tables.specs.Consumers as consumer
+use Rattle.pulsar_tables.specs.Producers.{called_on}
+use Rattle.pulsar_tables.specs.Rules.{parts_of}
 use Rattle.pulsar_client.specs.Run.{Agenda}
 use Rattle.pulsar_client.specs.Tables.{agenda_of, view_of}
-use Rattle.pulsar_client.specs.View.{View, may_call}
+use Rattle.pulsar_tables.specs.View.{View, may_call}
 use Rattle.pulsar_client.proofs.Calling.{begun_left, begun_sees, none_lacks, some_lacks, some_next, spent_left, spent_sees}
 use Rattle.pulsar_client.proofs.Turned.{none_left}
 use Rattle.pulsar_client.proofs.tables.Tables.calls.Goals as goal

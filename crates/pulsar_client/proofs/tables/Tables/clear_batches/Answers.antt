@@ -1,7 +1,7 @@
 use Rattle.std.proofs.Common.{◌≡◌, ◌∙◌, ◌∷◌, [], ap, subst, sym}
 use Rattle.std.specs.Prelude.{MatchOption}
 use Rattle.pulsar_client.specs.Tables.{view_of}
-use Rattle.pulsar_client.specs.View.{View, clear_all}
+use Rattle.pulsar_tables.specs.View.{View, clear_all}
 use Rattle.pulsar_client.proofs.Turned.{none_left}
 use Rattle.pulsar_client.proofs.tables.Tables.clear_batches.Goals as goal
 

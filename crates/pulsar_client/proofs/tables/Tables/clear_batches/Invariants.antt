@@ -1,8 +1,8 @@
 use Rattle.std.proofs.Common.{◌≡◌, length}
-use Rattle.pulsar_client.specs.Kept.{producers_of}
-use Rattle.pulsar_client.specs.Producers.{numbers_at}
+use Rattle.pulsar_tables.specs.Kept.{producers_of}
+use Rattle.pulsar_tables.specs.Producers.{numbers_at}
 use Rattle.pulsar_client.specs.Tables.{view_of}
-use Rattle.pulsar_client.specs.View.{clear_all}
+use Rattle.pulsar_tables.specs.View.{clear_all}
 use Rattle.pulsar_client.proofs.tables.Tables.clear_batches.Given as goal
 
 abbrev pub invariant-loop-number : goal.invariant-loop-number

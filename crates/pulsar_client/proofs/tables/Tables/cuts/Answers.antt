@@ -1,7 +1,7 @@
 use Rattle.std.proofs.Common.{◌∙◌, ◌∷◌, [], ◌++◌, ap, cond, map}
 use Rattle.std.proofs.lemmas.Result.{on_ok_weaker}
 use Rattle.pulsar_run.specs.Order.{arranged}
-use Rattle.pulsar_client.specs.Rules.{below, opens, ready_notice}
+use Rattle.pulsar_tables.specs.Rules.{below, opens, ready_notice}
 use Rattle.pulsar_client.specs.Tables.{agenda_of, view_of}
 use Rattle.pulsar_client.proofs.tables.Tables.cuts.Goals as goal
 

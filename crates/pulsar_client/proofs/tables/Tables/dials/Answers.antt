@@ -1,7 +1,7 @@
 use Rattle.std.proofs.Common.{◌∙◌, ◌==◌, ap, cond, Some}
-use Rattle.pulsar_client.specs.Kept.{pause_at}
+use Rattle.pulsar_tables.specs.Kept.{pause_at}
 use Rattle.pulsar_client.specs.Tables.{view_of}
-use Rattle.pulsar_client.specs.View.{seat_of_fresh}
+use Rattle.pulsar_tables.specs.View.{seat_of_fresh}
 use Rattle.pulsar_client.proofs.Turned.{both}
 use Rattle.pulsar_client.proofs.tables.Tables.dials.Goals as goal
 

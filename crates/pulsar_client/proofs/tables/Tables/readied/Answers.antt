@@ -3,9 +3,9 @@ use Rattle.std.proofs.lemmas.List.{append-nil}
 use Rattle.std.proofs.lemmas.Result.{on_ok_weaker}
 use Rattle.pulsar_calls.specs.declared.act.Alarm.TheVariants.{KeepAlive}
 use Rattle.pulsar_calls.specs.declared.act.Arrival.TheVariants.{Readied}
-use Rattle.pulsar_client.specs.Alarms.{set}
-use Rattle.pulsar_client.specs.Kept.{pause_at}
-use Rattle.pulsar_client.specs.Rules.{served_on, waiters_of}
+use Rattle.pulsar_tables.specs.Alarms.{set}
+use Rattle.pulsar_tables.specs.Kept.{pause_at}
+use Rattle.pulsar_tables.specs.Rules.{served_on, waiters_of}
 use Rattle.pulsar_client.specs.Tables.{turned_view, view_of}
 use Rattle.pulsar_client.proofs.Turned.{none_left}
 use Rattle.pulsar_client.proofs.Turning.{welcomed_none, welcomed_some}

@@ -5,13 +5,13 @@ use Rattle.pulsar_run.specs.Order.{arranged}
 use Rattle.pulsar_calls.specs.declared.act.Act.TheVariants.{Comes}
 use Rattle.pulsar_calls.specs.declared.act.LinkAct.TheVariants.{Reads}
 use Rattle.pulsar_calls.specs.declared.act.Part.TheVariants.{ToLink}
-use Rattle.pulsar_client.specs.Kept.{live_in}
-use Rattle.pulsar_client.specs.Rules.{answered_on, below, breaks_at, opens, reads_on, served_on, waiters_of}
+use Rattle.pulsar_tables.specs.Kept.{live_in}
+use Rattle.pulsar_tables.specs.Rules.{answered_on, below, breaks_at, opens, reads_on, served_on, waiters_of}
 use Rattle.pulsar_client.specs.Run.{Agenda}
-use Rattle.pulsar_client.specs.Consumers.{all_changed, hears, over_rows}
-use Rattle.pulsar_client.specs.Reading.{heard_at}
+use Rattle.pulsar_tables.specs.Consumers.{all_changed, hears, over_rows}
+use Rattle.pulsar_tables.specs.Reading.{heard_at}
 use Rattle.pulsar_client.specs.Tables.{agenda_of, view_of, welcomed}
-use Rattle.pulsar_client.specs.View.{View, alarms_on, arrival_at, base_on, pause_on, took_some, turned}
+use Rattle.pulsar_tables.specs.View.{View, alarms_on, arrival_at, base_on, pause_on, took_some, turned}
 use Rattle.pulsar_client.proofs.Turned.{linked}
 use Rattle.pulsar_client.proofs.Turning.{nothing_more, read_retries, welcomed_is}
 use Rattle.pulsar_client.proofs.tables.Tables.reads.Goals as goal

@@ -5,12 +5,12 @@ use Rattle.std.proofs.lemmas.List.{length_push, map-id}
 use Rattle.pulsar_messages.specs.Content.{message_content}
 use Rattle.pulsar_calls.specs.declared.act.Act.TheVariants.{Starts}
 use Rattle.pulsar_calls.specs.declared.act.Who.TheVariants.{Call}
-use Rattle.pulsar_client.specs.Kept.{producers_of}
-use Rattle.pulsar_client.specs.Producers.{all_routed, routed}
+use Rattle.pulsar_tables.specs.Kept.{producers_of}
+use Rattle.pulsar_tables.specs.Producers.{all_routed, routed}
 use Rattle.pulsar_calls.specs.Content.{next_advice}
-use Rattle.pulsar_client.specs.Rules.{sends_as, share, shares_of}
+use Rattle.pulsar_tables.specs.Rules.{sends_as, share, shares_of}
 use Rattle.pulsar_client.specs.Tables.{chosen_of, view_of}
-use Rattle.pulsar_client.specs.View.{View}
+use Rattle.pulsar_tables.specs.View.{View}
 use Rattle.pulsar_client.proofs.Sending.{drop_next, routed_end, shares_end}
 use Rattle.pulsar_client.proofs.tables.Tables.shares.Goals as goal
 

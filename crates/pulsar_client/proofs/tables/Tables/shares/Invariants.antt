@@ -1,8 +1,8 @@
 use Rattle.std.proofs.Common.{◌≡◌, ◌+◌, ◌++◌, drop, length, map}
 use Rattle.pulsar_messages.specs.Content.{message_content}
-use Rattle.pulsar_client.specs.Kept.{producers_of}
-use Rattle.pulsar_client.specs.Producers.{all_routed}
-use Rattle.pulsar_client.specs.Rules.{shares_of}
+use Rattle.pulsar_tables.specs.Kept.{producers_of}
+use Rattle.pulsar_tables.specs.Producers.{all_routed}
+use Rattle.pulsar_tables.specs.Rules.{shares_of}
 use Rattle.pulsar_client.specs.Tables.{chosen_of, view_of}
 use Rattle.pulsar_client.proofs.tables.Tables.shares.Given as goal
 

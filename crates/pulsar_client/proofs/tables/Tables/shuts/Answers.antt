@@ -4,11 +4,11 @@ use Rattle.std.proofs.lemmas.Result.{on_ok_weaker}
 use Rattle.pulsar_producer.specs.declared.deed.News.TheVariants.{Done}
 use Rattle.pulsar_run.specs.Order.{put_all}
 use Rattle.pulsar_calls.specs.Plan.{closed_notice}
-use Rattle.pulsar_client.specs.Producers.{shut}
-use Rattle.pulsar_client.specs.Rules.{below, grants}
+use Rattle.pulsar_tables.specs.Producers.{shut}
+use Rattle.pulsar_tables.specs.Rules.{below, grants}
 use Rattle.pulsar_client.specs.Run.{Agenda}
 use Rattle.pulsar_client.specs.Tables.{agenda_of, view_of}
-use Rattle.pulsar_client.specs.View.{View}
+use Rattle.pulsar_tables.specs.View.{View}
 use Rattle.pulsar_client.proofs.tables.Tables.shuts.Goals as goal
 
 pub returns-clause-left : goal.returns-clause-left

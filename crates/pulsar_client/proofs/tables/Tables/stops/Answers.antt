@@ -1,14 +1,14 @@
 use Rattle.std.proofs.Common.{◌∙◌, ◌++◌, ap, append_assoc, map, sym}
 use Rattle.std.proofs.lemmas.Result.{on_ok_weaker}
 use Rattle.pulsar_run.specs.Order.{arranged}
-use Rattle.pulsar_client.specs.Producers.{halted}
-use Rattle.pulsar_client.specs.Rules.{below, opens, over_links, stop_act, stopped_all}
-use Rattle.pulsar_client.specs.Consumers.{all_changed, stopped}
-use Rattle.pulsar_client.specs.Reading.{stopped_on, tells}
+use Rattle.pulsar_tables.specs.Producers.{halted}
+use Rattle.pulsar_tables.specs.Rules.{below, opens, over_links, stop_act, stopped_all}
+use Rattle.pulsar_tables.specs.Consumers.{all_changed, stopped}
+use Rattle.pulsar_tables.specs.Reading.{stopped_on, tells}
 use Rattle.pulsar_calls.specs.declared.act.Outcome.TheVariants.{Stopped}
 use Rattle.pulsar_client.specs.Run.{Agenda}
 use Rattle.pulsar_client.specs.Tables.{agenda_of, view_of}
-use Rattle.pulsar_client.specs.View.{View}
+use Rattle.pulsar_tables.specs.View.{View}
 use Rattle.pulsar_client.proofs.tables.Tables.stops.Goals as goal
 
 pub returns-clause-left : goal.returns-clause-left

@@ -4,9 +4,9 @@ use Rattle.std.proofs.lemmas.Result.{on_ok_weaker}
 use Rattle.pulsar_producer.specs.Topic.{Stores}
 use Rattle.pulsar_producer.specs.declared.deed.News.TheVariants.{Done}
 use Rattle.pulsar_run.specs.Order.{put_all}
-use Rattle.pulsar_client.specs.Kept.{producers_of}
-use Rattle.pulsar_client.specs.Producers.{changed, is_woken}
-use Rattle.pulsar_client.specs.Rules.{below, grants, ready_notice}
+use Rattle.pulsar_tables.specs.Kept.{producers_of}
+use Rattle.pulsar_tables.specs.Producers.{changed, is_woken}
+use Rattle.pulsar_tables.specs.Rules.{below, grants, ready_notice}
 use Rattle.pulsar_client.specs.Run.{Agenda}
 use Rattle.pulsar_client.specs.Tables.{agenda_of, view_of}
 use Rattle.pulsar_calls.specs.Who.{turn_of}

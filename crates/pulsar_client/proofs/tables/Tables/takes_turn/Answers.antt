@@ -1,7 +1,7 @@
 use Rattle.std.proofs.Common.{◌∙◌, [], ap, sym}
 use Rattle.std.proofs.lemmas.Result.{on_ok_weaker}
 use Rattle.pulsar_producer.specs.Topic.{Takes}
-use Rattle.pulsar_client.specs.Producers.{changed}
+use Rattle.pulsar_tables.specs.Producers.{changed}
 use Rattle.pulsar_client.specs.Tables.{agenda_of, view_of}
 use Rattle.pulsar_calls.specs.Who.{turn_of}
 use Rattle.pulsar_client.proofs.Granting.{in_front, no_topic, turn_had, turn_lost, turn_waits, unchanged}

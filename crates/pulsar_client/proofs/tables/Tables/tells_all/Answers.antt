@@ -1,6 +1,6 @@
 use Rattle.std.proofs.Common.{◌∙◌, ap, sym}
 use Rattle.pulsar_run.specs.Order.{put}
-use Rattle.pulsar_client.specs.Rules.{below}
+use Rattle.pulsar_tables.specs.Rules.{below}
 use Rattle.pulsar_client.specs.Run.{Agenda}
 use Rattle.pulsar_client.specs.Tables.{agenda_of}
 use Rattle.pulsar_client.proofs.Storing.{put_all_end}

@@ -1,6 +1,6 @@
 use Rattle.std.proofs.Common.{◌≡◌}
 use Rattle.pulsar_run.specs.Order.{put_all}
-use Rattle.pulsar_client.specs.Rules.{below}
+use Rattle.pulsar_tables.specs.Rules.{below}
 use Rattle.pulsar_client.specs.Tables.{agenda_of}
 use Rattle.pulsar_client.proofs.tables.Tables.tells_all.Given as goal
 

@@ -1,5 +1,5 @@
 use Rattle.std.proofs.lemmas.Result.{on_ok_weaker}
-use Rattle.pulsar_client.specs.Kept.{base_at}
+use Rattle.pulsar_tables.specs.Kept.{base_at}
 use Rattle.pulsar_client.specs.Tables.{view_of}
 use Rattle.pulsar_client.proofs.tables.Tables.tries_again.Goals as goal
 

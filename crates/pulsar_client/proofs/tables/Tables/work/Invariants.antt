@@ -2,7 +2,7 @@ use Rattle.std.proofs.Common.{◌≡◌, List, map}
 use Rattle.pulsar_calls.specs.Content.{Heard, shown}
 use Rattle.pulsar_client.specs.Run.{Step}
 use Rattle.pulsar_client.specs.Tables.{InStep, agenda_of}
-use Rattle.pulsar_client.specs.View.{Options}
+use Rattle.pulsar_tables.specs.View.{Options}
 use Rattle.pulsar_client.proofs.tables.Tables.work.Given as goal
 
 abbrev pub invariant-loop : goal.invariant-loop

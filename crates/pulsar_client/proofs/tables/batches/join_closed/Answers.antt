@@ -1,10 +1,10 @@
 use Rattle.std.proofs.Common.{◌∙◌, ap, map, sym}
 use Rattle.pulsar_run.specs.Order.{put, put_all}
 use Rattle.pulsar_calls.specs.Plan.{closed_notice}
-use Rattle.pulsar_client.specs.Rules.{below}
+use Rattle.pulsar_tables.specs.Rules.{below}
 use Rattle.pulsar_client.specs.Run.{Agenda}
 use Rattle.pulsar_client.specs.Tables.{agenda_of}
-use Rattle.pulsar_client.proofs.Grown.{map_end}
+use Rattle.pulsar_tables.proofs.Grown.{map_end}
 use Rattle.pulsar_client.proofs.Storing.{put_all_end}
 use Rattle.pulsar_client.proofs.tables.batches.join_closed.Goals as goal
 

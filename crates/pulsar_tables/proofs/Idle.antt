@@ -1,0 +1,50 @@
+-- Links that nothing uses, and what their ends are.
+use Rattle.std.proofs.Common.{◌≡◌, ◌==◌, ◌∙◌, ℕ, ◌&&◌, ◌||◌, not, nat_lt, sym, ap, refl, arith, Bool, true, false, List, ◌∷◌, ◌++◌, Some, []}
+use Rattle.std.proofs.lemmas.Bool.Decides.{nat_tests}
+use Rattle.std.proofs.lemmas.Cmp.{nat_cmp_total}
+use Rattle.std.proofs.lemmas.List.{append-nil}
+use Rattle.std.proofs.lemmas.List.Elements.{recursion_from_All}
+use Rattle.std.proofs.lemmas.Map.Views.{All-found}
+use Rattle.std.specs.BTreeMap.{BTreeMap, IsOrdered, get, keys}
+use Rattle.std.specs.List.{AllByRecursion, flat_map}
+use Rattle.std.specs.Map.{keys_of}
+use Rattle.std.specs.Option.{option_map, option_to_list}
+use Rattle.std.specs.Ordering.{nat_cmp}
+use Rattle.pulsar_tables.specs.declared.row.Row.{Row}
+use Rattle.pulsar_tables.specs.Kept.{live_in, seat_of}
+use Rattle.pulsar_tables.specs.Rules.{on_link}
+use Rattle.pulsar_tables.specs.View.{Seat}
+
+-- a link rests, none hears on it, and no topic producer is there
+none_stand : (standing : ℕ) → (standing == 0) ≡ not (nat_lt 0 standing)
+none_stand standing = grind (arith, nat_tests)
+
+idle_by : (ready late empty some heard held : Bool) →
+    (((ready && (late && (empty && not some))) && not heard) && not held) ≡ (ready && (late && not (not empty || (some || (heard || held)))))
+idle_by false late empty some heard held = refl
+idle_by true false empty some heard held = refl
+idle_by true true false some heard held = refl
+idle_by true true true true heard held = refl
+idle_by true true true false true held = refl
+idle_by true true true false false held = refl
+
+pub idle_is : (ready late empty heard held : Bool) (standing : ℕ) →
+    (((ready && (late && (empty && (standing == 0)))) && not heard) && not held)
+    ≡ (ready && (late && not (not empty || (nat_lt 0 standing || (heard || held)))))
+idle_is ready late empty heard held standing =
+    ap (λ b. ((ready && (late && (empty && b))) && not heard) && not held) (none_stand standing)
+    ∙ idle_by ready late empty (nat_lt 0 standing) heard held
+
+-- WHAT EACH LINK GIVES
+
+each_gives : {A : Type 0} (f : ℕ → Seat → List A) (live : BTreeMap ℕ Row) (es : List (ℕ × Row)) → AllByRecursion (λ e. get nat_cmp live e.0 ≡ Some e.1) es →
+    flat_map (λ e. f e.0 (seat_of e.1)) es ≡ flat_map (on_link f (live_in live)) (keys_of es)
+each_gives f live [] h = refl
+each_gives f live (e ∷ es) h =
+    ap (λ xs. f e.0 (seat_of e.1) ++ xs) (each_gives f live es h.1)
+    ∙ sym (ap (λ xs. xs ++ flat_map (on_link f (live_in live)) (keys_of es)) (append-nil (f e.0 (seat_of e.1))))
+    ∙ sym (ap (λ row. flat_map (f e.0) (option_to_list (option_map seat_of row)) ++ flat_map (on_link f (live_in live)) (keys_of es)) h.0)
+
+pub all_give : {A : Type 0} (f : ℕ → Seat → List A) (live : BTreeMap ℕ Row) → IsOrdered nat_cmp live →
+    flat_map (λ e. f e.0 (seat_of e.1)) live.entries ≡ flat_map (on_link f (live_in live)) (keys live)
+all_give f live sorted = each_gives f live live.entries (recursion_from_All (λ e. get nat_cmp live e.0 ≡ Some e.1) live.entries (All-found nat_cmp_total live sorted))

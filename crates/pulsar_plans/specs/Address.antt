@@ -2,6 +2,7 @@
 -- Topic lookup)
 use Rattle.std.specs.Prelude.{◌≡◌, ℕ, Bool, false, ◌&&◌, List, ◌++◌, length, bytes_eq, codes, decimal, Option, Some, None, unwrap_or, Ok, Err, String, string_bytes, if◌then◌else◌}
 use Rattle.std.specs.Option.{is_some}
+use Rattle.std.specs.Hash as fed
 use Rattle.url.specs.declared.host.Host.{Host}
 use Rattle.url.specs.Host.{host_text}
 use Rattle.url.specs.Parts.{Parts, nonempty_host, serialize}
@@ -72,6 +73,10 @@ address_key p = key_of (serialize p.url) p.broker_url p.proxy
 -- two addresses are the same
 abbrev pub IsSame : Place → Place → Type 0
 IsSame a b = (serialize a.url ≡ serialize b.url) × (a.broker_url ≡ b.broker_url) × (a.proxy ≡ b.proxy)
+
+-- what an address gives to a hasher: the two texts and the choice, one behind the other
+abbrev pub address_words : Place → List (List ℕ)
+address_words p = fed.str (serialize p.url) ++ (fed.str p.broker_url ++ fed.bool p.proxy)
 
 -- a topic, or a partition of one, and the broker that serves it
 pub record Named : Type 0 where

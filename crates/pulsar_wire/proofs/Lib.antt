@@ -8,7 +8,6 @@ pub mod Writing
 pub mod Packed
 pub mod Running
 pub mod CommandMerging
-pub mod Ids
 pub mod RoundTrip
 pub mod Copies
 pub mod CommandTrip

@@ -9,6 +9,7 @@ pub mod Views
 pub mod Command
 pub mod Fits
 pub mod Orders
+pub mod Hashing
 pub mod Laws
 pub mod Refused
 pub mod Shown

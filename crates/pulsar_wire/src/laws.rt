@@ -1,6 +1,8 @@
 //! What holds of all messages and commands. A function with an empty body has the law as its contract.
 
 ghost use Rattle.std.specs.Prelude.{◌≡◌, ◌↔◌, IsTrue, MatchResult};
+ghost use Rattle.std.specs.List.{fold};
+ghost use Rattle.pulsar_wire.specs.Hashing.{id_words};
 ghost use Rattle.pulsar_wire.specs.Orders.{id_order, key_order};
 ghost use Rattle.pulsar_wire.specs.Views.{body_values, command_values, message_id_values};
 ghost use Rattle.pulsar_wire.specs.Laws.{MessagesReadAgain, CommandsReadAgain, SettledCommandsReadAgain, OneSpelling, KnownBodiesAreRows, UnknownFieldsAreSkipped, UnknownBodiesAreSkipped};
@@ -90,14 +92,16 @@ pub fn ids_are_equal(a: &MessageIdData, b: &MessageIdData) -> bool
     a == b
 }
 
-/// Ids whose six fields are equal have one hash, whichever hasher takes them.
+/// An id gives its six fields to a hasher, whichever it is, and nothing else: ids whose fields are equal have one hash.
 pub fn ids_hash_alike<H: Hasher>(
     a: &MessageIdData,
     b: &MessageIdData,
     first: &mut H,
     second: &mut H,
 )
-    ensures { message_id_values a.now ≡ message_id_values b.now → first.old ≡ second.old → first.new ≡ second.new }
+    ensures first { first.new ≡ fold H.write first.old (id_words (message_id_values a.now)) }
+    ensures second { second.new ≡ fold H.write second.old (id_words (message_id_values b.now)) }
+    ensures alike { message_id_values a.now ≡ message_id_values b.now → first.old ≡ second.old → first.new ≡ second.new }
 {
     a.hash(first);
     b.hash(second);

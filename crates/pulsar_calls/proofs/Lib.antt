@@ -1,4 +1,3 @@
 pub mod Lists
 pub mod Counted
 pub mod Parting
-pub mod Saying

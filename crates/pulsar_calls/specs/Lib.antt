@@ -1,5 +1,3 @@
 pub mod Who
 pub mod Content
 pub mod Parts
-pub mod Plan
-pub mod Standing

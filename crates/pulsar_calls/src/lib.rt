@@ -1,4 +1,4 @@
-//! What a user asks of a client and is told, and the plan of each call: machines over their outcomes.
+//! What a user asks of a client and is told, and what a step of a client is made of.
 #![tactic(auto)]
 
 pub mod act;
@@ -6,7 +6,6 @@ pub mod content;
 pub mod copying;
 pub mod effect;
 pub mod event;
-pub mod plans;
 pub mod who;
 
 pub use effect::{Answer, Effect, Handed, Settlement};

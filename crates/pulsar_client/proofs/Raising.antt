@@ -28,9 +28,9 @@ use Rattle.pulsar_calls.specs.declared.act.Who.TheVariants.{Call, Consumer, Prod
 use Rattle.pulsar_tables.specs.declared.addresses.Pause.{Pause}
 use Rattle.pulsar_tables.specs.declared.addresses.Series.{Series}
 use Rattle.pulsar_tables.specs.declared.addresses.Series.TheVariants.{Nobody, Runs, Pauses, Serves}
-use Rattle.pulsar_calls.specs.declared.plans.plan.Plan.{Plan}
-use Rattle.pulsar_calls.specs.declared.plans.plan.Turn.{Turn}
-use Rattle.pulsar_calls.specs.declared.plans.plan.Turn.TheVariants.{Stays, Gives}
+use Rattle.pulsar_procedures.specs.declared.plan.Plan.{Plan}
+use Rattle.pulsar_procedures.specs.declared.plan.Turn.{Turn}
+use Rattle.pulsar_procedures.specs.declared.plan.Turn.TheVariants.{Stays, Gives}
 use Rattle.pulsar_tables.specs.declared.consumers.row.Sought.{Sought}
 use Rattle.pulsar_tables.specs.declared.consumers.row.Sought.TheVariants.{Found, Gone, Later}
 use Rattle.pulsar_tables.specs.declared.producers.Topic.{Topic}
@@ -39,7 +39,7 @@ use Rattle.pulsar_tables.specs.Consumers as consumer
 use Rattle.pulsar_tables.specs.Consumers.{sought}
 use Rattle.pulsar_tables.specs.Reading.{recalled_said, serves_by, sought_said, tells}
 use Rattle.pulsar_calls.specs.Content.{Asked, shares}
-use Rattle.pulsar_calls.specs.Plan.{begins}
+use Rattle.pulsar_procedures.specs.Plan.{begins}
 use Rattle.pulsar_tables.specs.Producers.{is_settled_at, link_at, recalled, turn_taken}
 use Rattle.pulsar_tables.specs.Rules.{at_once, batches_by, batches_from, breaks_at, called, does, finds, follows, follows_some, gets_from, grants, idle_act, is_idle, keeps_alive, left_with, may_ping, over_links, performs, recalls, rung, stop_act, takes_turn, tries_again}
 use Rattle.pulsar_tables.specs.View.{Seat, View, arrival_at, told_some, ways_of}

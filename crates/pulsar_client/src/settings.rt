@@ -8,7 +8,6 @@ ghost use Rattle.pulsar_client.specs.Client.{chosen};
 ghost use Rattle.pulsar_client.specs.Tables.{chosen_of};
 ghost use Rattle.pulsar_tables.specs.View.{delay_with, setup, ways_of};
 
-use pulsar_tables::address::base_in;
 use crate::options::ClientOptions;
 use pulsar_messages::Authentication;
 use pulsar_plans::content::Address;
@@ -17,6 +16,7 @@ use pulsar_plans::random::{connection_id, jitter};
 use pulsar_plans::turn::Ways;
 use pulsar_plans::{ConnectionRetryOptions, OperationRetryOptions};
 use pulsar_session::Connection;
+use pulsar_tables::address::base_in;
 use pulsar_wire::error::NoMemory;
 use std::alloc::Global;
 

@@ -14,12 +14,12 @@ use Rattle.pulsar_calls.specs.declared.act.Procedure.{Procedure}
 use Rattle.pulsar_calls.specs.declared.act.Verdict.{Verdict}
 use Rattle.pulsar_calls.specs.declared.act.Who.{Who}
 use Rattle.pulsar_calls.specs.declared.act.Who.TheVariants.{Call, Producer}
-use Rattle.pulsar_calls.specs.declared.plans.plan.Plan.{Plan}
-use Rattle.pulsar_calls.specs.declared.plans.plan.Turn.{Turn}
-use Rattle.pulsar_calls.specs.declared.plans.plan.Turn.TheVariants.{Stays, Gives}
+use Rattle.pulsar_procedures.specs.declared.plan.Plan.{Plan}
+use Rattle.pulsar_procedures.specs.declared.plan.Turn.{Turn}
+use Rattle.pulsar_procedures.specs.declared.plan.Turn.TheVariants.{Stays, Gives}
 use Rattle.pulsar_plans.specs.declared.turn.Ways.{Ways}
 use Rattle.pulsar_calls.specs.Content.{Asked, lacks_tickets, shares}
-use Rattle.pulsar_calls.specs.Plan.{fails, told, verdict, begins}
+use Rattle.pulsar_procedures.specs.Plan.{fails, told, verdict, begins}
 use Rattle.pulsar_tables.specs.Rules.{share, at_once, below, called, fails_as, causes, follows, follows_some, procedure_for, unless_refused, joins, left_with, sends_by, sends_with, stores_as, shares_of, shares_unless, starts, why_no_sends, unless}
 use Rattle.pulsar_client.specs.Run.{Agenda, Entry, Begins, Then, IsRun, agenda, first, rules, view}
 use Rattle.pulsar_tables.specs.View.{Options, View, told_some, ways_of, Chosen, may_call}

@@ -40,10 +40,10 @@ use Rattle.pulsar_calls.specs.declared.act.Notice.{Notice}
 use Rattle.pulsar_calls.specs.declared.act.Outcome.{Outcome}
 use Rattle.pulsar_calls.specs.declared.act.Outcome.TheVariants as outcome
 use Rattle.pulsar_calls.specs.declared.act.Who.TheVariants.{Producer}
-use Rattle.pulsar_calls.specs.declared.plans.plan.Plan.TheVariants.{Batching}
+use Rattle.pulsar_procedures.specs.declared.plan.Plan.TheVariants.{Batching}
 use Rattle.pulsar_laws.specs.BatchLaws.{AskedAs, IsFateOf, MembersAreTold, under_way}
 use Rattle.pulsar_laws.specs.Laws.{Cause}
-use Rattle.pulsar_calls.specs.Plan.{news_in, news_of, overrides, told_to}
+use Rattle.pulsar_procedures.specs.Plan.{news_in, news_of, overrides, told_to}
 use Rattle.pulsar_tables.specs.Rules.{notice}
 use Rattle.pulsar_client.specs.Run.{Entry, Then, IsRun}
 use Rattle.pulsar_tables.specs.View.{Options}

@@ -41,10 +41,10 @@ use Rattle.pulsar_calls.specs.declared.act.Notice.{Notice}
 use Rattle.pulsar_calls.specs.declared.act.Outcome.{Outcome}
 use Rattle.pulsar_calls.specs.declared.act.Outcome.TheVariants as outcome
 use Rattle.pulsar_calls.specs.declared.act.Verdict.{Verdict}
-use Rattle.pulsar_calls.specs.declared.plans.plan.Plan.{Plan}
-use Rattle.pulsar_calls.specs.declared.plans.plan.Plan.TheVariants.{Batching}
-use Rattle.pulsar_calls.specs.declared.plans.plan.Turn.{Turn}
-use Rattle.pulsar_calls.specs.Plan.{action_of, batches_on, news_of, overrides, told_batch, told_to}
+use Rattle.pulsar_procedures.specs.declared.plan.Plan.{Plan}
+use Rattle.pulsar_procedures.specs.declared.plan.Plan.TheVariants.{Batching}
+use Rattle.pulsar_procedures.specs.declared.plan.Turn.{Turn}
+use Rattle.pulsar_procedures.specs.Plan.{action_of, batches_on, news_of, overrides, told_batch, told_to}
 use Rattle.pulsar_laws.proofs.Natures.{StaysSo}
 
 -- A SEND within it takes no batch, and settles none

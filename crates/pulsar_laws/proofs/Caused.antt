@@ -34,7 +34,7 @@ use Rattle.pulsar_plans.specs.Address.{Place, address_key, is_reachable}
 use Rattle.pulsar_tables.specs.Alarms.{rings}
 use Rattle.pulsar_laws.specs.Laws.{AttemptEnds, Cause, CutsSo, OutcomesAreCaused, LineEnds, RequestEnds, base_of, IsToldBy, GrantsSo}
 use Rattle.pulsar_tables.specs.Links.{arrival, change_at, change_in, closed_by, line_places, new_places, times_out}
-use Rattle.pulsar_calls.specs.Plan.{closed_notice}
+use Rattle.pulsar_procedures.specs.Plan.{closed_notice}
 use Rattle.pulsar_tables.specs.Rules.{alone, answered_by, answered_on, at_once, caused, causes, dropped, ended_by, ended_on, failed, failed_by, failed_on, failed_over, failed_so, fails_so, further, gets_from, lost, lost_so, lost_with, moved_on, notice, opens, over_links, parts, served_by, served_on, stop_act, stopped_at, stopped_with, tells, tells_asker, told_at, waiters_of, woken, draw_outcome, draw_said, finds, grants, joins, number_said, readied, ready_notice, recalls, stopped_call, stopped_one, takes_turn, turn_notice}
 use Rattle.pulsar_client.specs.Run.{Entry, Begins, Then, rules, view, IsRun}
 use Rattle.pulsar_tables.specs.View.{Addresses, Options, Seat, View, answer_at, pause_for, pause_of, turned_by, room_of}

@@ -33,13 +33,13 @@ use Rattle.pulsar_calls.specs.declared.act.Says.TheVariants as says
 use Rattle.pulsar_calls.specs.declared.act.Share.{Share}
 use Rattle.pulsar_calls.specs.declared.act.Verdict.{Verdict}
 use Rattle.pulsar_calls.specs.declared.act.Who.{Who}
-use Rattle.pulsar_calls.specs.declared.plans.plan.Plan.{Plan}
-use Rattle.pulsar_calls.specs.declared.plans.plan.Turn.{Turn}
-use Rattle.pulsar_calls.specs.declared.plans.plan.Turn.TheVariants.{Stays, Gives}
+use Rattle.pulsar_procedures.specs.declared.plan.Plan.{Plan}
+use Rattle.pulsar_procedures.specs.declared.plan.Turn.{Turn}
+use Rattle.pulsar_procedures.specs.declared.plan.Turn.TheVariants.{Stays, Gives}
 use Rattle.pulsar_calls.specs.Content as content
 use Rattle.pulsar_calls.specs.Content.{Asked, lacks_tickets, shares}
 use Rattle.pulsar_laws.specs.Laws.{Cause, FailuresAreTold, IsToldBy, OutcomesAreCaused, outcomes, started}
-use Rattle.pulsar_calls.specs.Plan.{begins}
+use Rattle.pulsar_procedures.specs.Plan.{begins}
 use Rattle.pulsar_producer.specs.Batch.{entry_of}
 use Rattle.pulsar_tables.specs.Producers.{Producers, batches_in, errand_of, numbers_at, routed, why_not}
 use Rattle.pulsar_calls.specs.Content.{next_advice}

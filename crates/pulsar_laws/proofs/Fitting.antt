@@ -41,14 +41,14 @@ use Rattle.pulsar_calls.specs.declared.act.Round.{Round}
 use Rattle.pulsar_calls.specs.declared.act.Round.TheVariants.{Checks, Closes, Flushes}
 use Rattle.pulsar_calls.specs.declared.act.Share.{Share}
 use Rattle.pulsar_calls.specs.declared.act.Verdict.{Verdict}
-use Rattle.pulsar_calls.specs.declared.plans.plan.At.{At}
-use Rattle.pulsar_calls.specs.declared.plans.plan.Plan.{Plan}
-use Rattle.pulsar_calls.specs.declared.plans.plan.Plan.TheVariants.{Building, Getting, Asking, Awaiting, Searching, Producing, Sending, Reporting, Storing, Stored, Batching, Leaving, Gathering, Shutting, Visiting, Stopping}
-use Rattle.pulsar_calls.specs.declared.plans.plan.Turn.{Turn}
-use Rattle.pulsar_calls.specs.declared.plans.plan.Turn.TheVariants.{Stays, Gives}
+use Rattle.pulsar_procedures.specs.declared.plan.At.{At}
+use Rattle.pulsar_procedures.specs.declared.plan.Plan.{Plan}
+use Rattle.pulsar_procedures.specs.declared.plan.Plan.TheVariants.{Building, Getting, Asking, Awaiting, Searching, Producing, Sending, Reporting, Storing, Stored, Batching, Leaving, Gathering, Shutting, Visiting, Stopping}
+use Rattle.pulsar_procedures.specs.declared.plan.Turn.{Turn}
+use Rattle.pulsar_procedures.specs.declared.plan.Turn.TheVariants.{Stays, Gives}
 use Rattle.pulsar_calls.specs.Content.{Done}
 use Rattle.pulsar_calls.specs.Parts.{failed_with, sent_from}
-use Rattle.pulsar_calls.specs.Plan.{action_of, asks_of, batches_on, begins, builds, fails, fails_in, fault_of, gathers, goes, goes_on_sending, goes_round, halted, halted_with, is_answer, is_settled, leaves, news_in, news_of, overrides, sends_stay, stored, told, told_at, told_of, told_to, verdict, visited, visits, wished}
+use Rattle.pulsar_procedures.specs.Plan.{action_of, asks_of, batches_on, begins, builds, fails, fails_in, fault_of, gathers, goes, goes_on_sending, goes_round, halted, halted_with, is_answer, is_settled, leaves, news_in, news_of, overrides, sends_stay, stored, told, told_at, told_of, told_to, verdict, visited, visits, wished}
 use Rattle.pulsar_plans.specs.Plans as search
 use Rattle.pulsar_plans.specs.declared.turn.Action.TheVariants as wish
 use Rattle.pulsar_plans.specs.declared.turn.Turn.TheVariants as search_turn
@@ -60,7 +60,7 @@ use Rattle.pulsar_producer.specs.declared.sending.Sending.TheVariants as send
 use Rattle.pulsar_calls.specs.declared.act.Outcome.TheVariants as outcome
 use Rattle.pulsar_calls.specs.declared.act.Place.TheVariants as place
 use Rattle.pulsar_calls.specs.declared.act.Procedure.TheVariants as procedure
-use Rattle.pulsar_calls.specs.declared.plans.plan.At.TheVariants as at
+use Rattle.pulsar_procedures.specs.declared.plan.At.TheVariants as at
 
 -- where it stands: it tells that it was queued, or leaves behind what it tells, or is stored; it holds what it is told of at once, or stores it; or
 -- it stands elsewhere, but nowhere as a queued part

@@ -30,13 +30,13 @@ use Rattle.pulsar_calls.specs.declared.act.Share.{Share}
 use Rattle.pulsar_calls.specs.declared.act.Verdict.{Verdict}
 use Rattle.pulsar_calls.specs.declared.act.Who.{Who}
 use Rattle.pulsar_calls.specs.declared.act.Who.TheVariants.{Call}
-use Rattle.pulsar_calls.specs.declared.plans.plan.Plan.{Plan}
-use Rattle.pulsar_calls.specs.declared.plans.plan.Plan.TheVariants.{Sending, Reporting, Leaving}
-use Rattle.pulsar_calls.specs.declared.plans.plan.Turn.{Turn}
-use Rattle.pulsar_calls.specs.declared.plans.plan.Turn.TheVariants.{Stays, Gives}
+use Rattle.pulsar_procedures.specs.declared.plan.Plan.{Plan}
+use Rattle.pulsar_procedures.specs.declared.plan.Plan.TheVariants.{Sending, Reporting, Leaving}
+use Rattle.pulsar_procedures.specs.declared.plan.Turn.{Turn}
+use Rattle.pulsar_procedures.specs.declared.plan.Turn.TheVariants.{Stays, Gives}
 use Rattle.pulsar_tables.specs.declared.producers.Topic.{Topic}
 use Rattle.pulsar_laws.specs.Laws.{started}
-use Rattle.pulsar_calls.specs.Plan.{begins, news_of, told}
+use Rattle.pulsar_procedures.specs.Plan.{begins, news_of, told}
 use Rattle.pulsar_tables.specs.Producers.{drawn, recalled_at, recalled_by, topic_after}
 use Rattle.pulsar_laws.specs.ProducerLaws.{FramesAreOfTheirSends}
 use Rattle.pulsar_tables.specs.Rules.{notice}

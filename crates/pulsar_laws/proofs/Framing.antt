@@ -48,10 +48,10 @@ use Rattle.pulsar_calls.specs.declared.act.Action.TheVariants.{Ask, Draw}
 use Rattle.pulsar_calls.specs.declared.act.Outcome.{Outcome}
 use Rattle.pulsar_calls.specs.declared.act.Outcome.TheVariants as outcome
 use Rattle.pulsar_calls.specs.declared.act.Share.{Share}
-use Rattle.pulsar_calls.specs.declared.plans.plan.Plan.{Plan}
-use Rattle.pulsar_calls.specs.declared.plans.plan.Plan.TheVariants.{Sending, Reporting, Leaving}
-use Rattle.pulsar_calls.specs.declared.plans.plan.Turn.TheVariants.{Stays, Gives}
-use Rattle.pulsar_calls.specs.Plan.{action_of, goes_on_sending, halted, leaves, news_of, overrides, sends_stay, told, told_send, wished}
+use Rattle.pulsar_procedures.specs.declared.plan.Plan.{Plan}
+use Rattle.pulsar_procedures.specs.declared.plan.Plan.TheVariants.{Sending, Reporting, Leaving}
+use Rattle.pulsar_procedures.specs.declared.plan.Turn.TheVariants.{Stays, Gives}
+use Rattle.pulsar_procedures.specs.Plan.{action_of, goes_on_sending, halted, leaves, news_of, overrides, sends_stay, told, told_send, wished}
 use Rattle.pulsar_producer.specs.Batching.{is_sent_send}
 use Rattle.pulsar_laws.proofs.Natures.{StaysSo, either_so}
 

@@ -14,7 +14,7 @@ use Rattle.pulsar_calls.specs.declared.act.Procedure.TheVariants as procedure
 use Rattle.pulsar_calls.specs.declared.act.Who.{Who}
 use Rattle.pulsar_calls.specs.declared.act.Who.TheVariants.{Call, Producer}
 use Rattle.pulsar_laws.specs.Laws.{Answered, Cause, counted, outcomes, started}
-use Rattle.pulsar_calls.specs.Plan.{verdict}
+use Rattle.pulsar_procedures.specs.Plan.{verdict}
 use Rattle.pulsar_laws.specs.ProducerLaws.{PartsAreGathered}
 use Rattle.pulsar_tables.specs.Rules.{notice}
 use Rattle.pulsar_client.specs.Run.{Entry, Begins, Then, IsRun}

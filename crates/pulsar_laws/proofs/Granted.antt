@@ -39,13 +39,13 @@ use Rattle.pulsar_calls.specs.declared.act.Who.{Who}
 use Rattle.pulsar_tables.specs.declared.addresses.Pause.{Pause}
 use Rattle.pulsar_tables.specs.declared.addresses.Series.{Series}
 use Rattle.pulsar_tables.specs.declared.addresses.Series.TheVariants.{Nobody, Runs, Pauses, Serves}
-use Rattle.pulsar_calls.specs.declared.plans.plan.Plan.{Plan}
-use Rattle.pulsar_calls.specs.declared.plans.plan.Turn.TheVariants.{Stays}
+use Rattle.pulsar_procedures.specs.declared.plan.Plan.{Plan}
+use Rattle.pulsar_procedures.specs.declared.plan.Turn.TheVariants.{Stays}
 use Rattle.pulsar_tables.specs.declared.producers.Topic.{Topic}
 use Rattle.pulsar_tables.specs.Alarms.{rings}
 use Rattle.pulsar_laws.specs.Laws.{Acted, Answered}
 use Rattle.pulsar_tables.specs.Links.{Change, Becomes, IsOver}
-use Rattle.pulsar_calls.specs.Plan.{begins, closed_notice, told}
+use Rattle.pulsar_procedures.specs.Plan.{begins, closed_notice, told}
 use Rattle.pulsar_producer.specs.Topic as topic
 use Rattle.pulsar_calls.specs.Who.{turn_of}
 use Rattle.pulsar_tables.specs.Producers.{drawn, is_settled_at, is_woken, link_at, next_batch_at, number_drawn, numbers_at, recalled, stored_by, turn_passed, turn_taken, unsent, waiting}

@@ -22,15 +22,15 @@ use Rattle.pulsar_calls.specs.declared.act.Verdict.{Verdict}
 use Rattle.pulsar_calls.specs.declared.act.Who.{Who}
 use Rattle.pulsar_calls.specs.declared.act.Who.TheVariants.{Call, Producer}
 use Rattle.pulsar_calls.specs.declared.act.Share.{Share}
-use Rattle.pulsar_calls.specs.declared.plans.plan.At.{At as Spot}
-use Rattle.pulsar_calls.specs.declared.plans.plan.At.TheVariants as at
-use Rattle.pulsar_calls.specs.declared.plans.plan.Plan.{Plan}
-use Rattle.pulsar_calls.specs.declared.plans.plan.Plan.TheVariants.{Batching, Leaving, Reporting, Sending, Visiting}
-use Rattle.pulsar_calls.specs.declared.plans.plan.Turn.{Turn}
-use Rattle.pulsar_calls.specs.declared.plans.plan.Turn.TheVariants.{Stays, Gives}
+use Rattle.pulsar_procedures.specs.declared.plan.At.{At as Spot}
+use Rattle.pulsar_procedures.specs.declared.plan.At.TheVariants as at
+use Rattle.pulsar_procedures.specs.declared.plan.Plan.{Plan}
+use Rattle.pulsar_procedures.specs.declared.plan.Plan.TheVariants.{Batching, Leaving, Reporting, Sending, Visiting}
+use Rattle.pulsar_procedures.specs.declared.plan.Turn.{Turn}
+use Rattle.pulsar_procedures.specs.declared.plan.Turn.TheVariants.{Stays, Gives}
 use Rattle.pulsar_tables.specs.declared.producers.Topic.{Topic}
 use Rattle.pulsar_laws.specs.Laws.{counted, start_of, started}
-use Rattle.pulsar_calls.specs.Plan.{begins, told}
+use Rattle.pulsar_procedures.specs.Plan.{begins, told}
 use Rattle.pulsar_laws.specs.ProducerLaws.{HasTurn, turn_in, turn_of}
 use Rattle.pulsar_tables.specs.Rules.{notice}
 use Rattle.pulsar_client.specs.Run.{Entry, Begins, Then, IsRun, view}

@@ -38,14 +38,14 @@ use Rattle.pulsar_calls.specs.declared.act.Procedure.TheVariants as procedure
 use Rattle.pulsar_calls.specs.declared.act.Verdict.{Verdict}
 use Rattle.pulsar_calls.specs.declared.act.Who.{Who}
 use Rattle.pulsar_calls.specs.declared.act.Who.TheVariants.{Call, Producer}
-use Rattle.pulsar_calls.specs.declared.plans.plan.Plan.{Plan}
-use Rattle.pulsar_calls.specs.declared.plans.plan.Plan.TheVariants.{Batching, Stored, Storing}
-use Rattle.pulsar_calls.specs.declared.plans.plan.Turn.{Turn}
-use Rattle.pulsar_calls.specs.declared.plans.plan.Turn.TheVariants.{Stays, Gives}
+use Rattle.pulsar_procedures.specs.declared.plan.Plan.{Plan}
+use Rattle.pulsar_procedures.specs.declared.plan.Plan.TheVariants.{Batching, Stored, Storing}
+use Rattle.pulsar_procedures.specs.declared.plan.Turn.{Turn}
+use Rattle.pulsar_procedures.specs.declared.plan.Turn.TheVariants.{Stays, Gives}
 use Rattle.pulsar_tables.specs.declared.producers.Topic.{Topic}
 use Rattle.pulsar_tables.specs.Alarms.{rings}
 use Rattle.pulsar_laws.specs.Laws.{counted, start_of}
-use Rattle.pulsar_calls.specs.Plan.{action_of, batches_on, begins, news_of, overrides, told}
+use Rattle.pulsar_procedures.specs.Plan.{action_of, batches_on, begins, news_of, overrides, told}
 use Rattle.pulsar_laws.specs.ProducerLaws.{acts_on, drawn_by, rung_by, shut_by, topic_acts}
 use Rattle.pulsar_tables.specs.Producers.{next_batch_at, numbers_at}
 use Rattle.pulsar_client.specs.Run.{Entry, Begins, Then, IsRun, view}

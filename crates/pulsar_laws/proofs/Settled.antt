@@ -22,13 +22,13 @@ use Rattle.pulsar_calls.specs.declared.act.Share.{Share}
 use Rattle.pulsar_calls.specs.declared.act.Verdict.{Verdict}
 use Rattle.pulsar_calls.specs.declared.act.Who.{Who}
 use Rattle.pulsar_calls.specs.declared.act.Who.TheVariants.{Call, Producer}
-use Rattle.pulsar_calls.specs.declared.plans.plan.Plan.{Plan}
-use Rattle.pulsar_calls.specs.declared.plans.plan.Plan.TheVariants.{Stored, Storing}
-use Rattle.pulsar_calls.specs.declared.plans.plan.Turn.{Turn}
-use Rattle.pulsar_calls.specs.declared.plans.plan.Turn.TheVariants.{Stays, Gives}
+use Rattle.pulsar_procedures.specs.declared.plan.Plan.{Plan}
+use Rattle.pulsar_procedures.specs.declared.plan.Plan.TheVariants.{Stored, Storing}
+use Rattle.pulsar_procedures.specs.declared.plan.Turn.{Turn}
+use Rattle.pulsar_procedures.specs.declared.plan.Turn.TheVariants.{Stays, Gives}
 use Rattle.pulsar_laws.specs.BatchLaws.{StoredEndsByItsBatch, TellsFate, ends_with}
 use Rattle.pulsar_laws.specs.Laws.{Answered, Cause, ComesLate, GrantsSo, IsDropped, IsToldSo, StartsSo, counted, start_of, started}
-use Rattle.pulsar_calls.specs.Plan.{begins, fails, fault_of, in_stored, stored, told}
+use Rattle.pulsar_procedures.specs.Plan.{begins, fails, fault_of, in_stored, stored, told}
 use Rattle.pulsar_tables.specs.Rules.{notice}
 use Rattle.pulsar_client.specs.Run.{Entry, Begins, Then, IsRun, agenda, first, rest, view}
 use Rattle.pulsar_tables.specs.View.{Options, View, stays, stays_some, told_some}

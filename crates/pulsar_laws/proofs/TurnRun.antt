@@ -26,14 +26,14 @@ use Rattle.pulsar_calls.specs.declared.act.Verdict.{Verdict}
 use Rattle.pulsar_calls.specs.declared.act.Who.{Who}
 use Rattle.pulsar_calls.specs.declared.act.Who.TheVariants.{Call, Producer}
 use Rattle.pulsar_calls.specs.declared.act.Share.{Share}
-use Rattle.pulsar_calls.specs.declared.plans.plan.Plan.{Plan}
-use Rattle.pulsar_calls.specs.declared.plans.plan.Plan.TheVariants.{Batching, Leaving, Sending}
-use Rattle.pulsar_calls.specs.declared.plans.plan.Turn.{Turn}
-use Rattle.pulsar_calls.specs.declared.plans.plan.Turn.TheVariants.{Stays, Gives}
+use Rattle.pulsar_procedures.specs.declared.plan.Plan.{Plan}
+use Rattle.pulsar_procedures.specs.declared.plan.Plan.TheVariants.{Batching, Leaving, Sending}
+use Rattle.pulsar_procedures.specs.declared.plan.Turn.{Turn}
+use Rattle.pulsar_procedures.specs.declared.plan.Turn.TheVariants.{Stays, Gives}
 use Rattle.pulsar_tables.specs.declared.producers.Topic.{Topic}
 use Rattle.pulsar_calls.specs.Content.{Heard}
 use Rattle.pulsar_laws.specs.Laws.{counted, start_of}
-use Rattle.pulsar_calls.specs.Plan.{begins, told}
+use Rattle.pulsar_procedures.specs.Plan.{begins, told}
 use Rattle.pulsar_tables.specs.Producers.{Producers, changed, topic_after, turn_passed}
 use Rattle.pulsar_laws.specs.ProducerLaws.{HasTurn, PassedInTurn, QueuedInTurn, ToldInTurn, acts_on, topic_acts, turn_of}
 use Rattle.pulsar_tables.specs.Rules.{at_once, grants, notice, takes_turn, turn_notice}

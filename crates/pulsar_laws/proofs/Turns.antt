@@ -26,7 +26,7 @@ use Rattle.pulsar_tables.specs.Rules.{at_once, below, joins, performs, readied, 
 use Rattle.pulsar_client.specs.Run.{Entry, Then, IsRun, agenda, rules, view}
 use Rattle.pulsar_tables.specs.View.{Options, View, room_of}
 use Rattle.pulsar_tables.specs.Alarms.{rings}
-use Rattle.pulsar_calls.specs.Plan.{closed_notice}
+use Rattle.pulsar_procedures.specs.Plan.{closed_notice}
 use Rattle.pulsar_calls.specs.Who.{is_same, turn_of as taken_as}
 use Rattle.pulsar_client.proofs.Acts.{Each, each_either}
 use Rattle.pulsar_laws.proofs.Drawing.{here}

@@ -74,15 +74,15 @@ use Rattle.pulsar_calls.specs.declared.act.Share.{Share}
 use Rattle.pulsar_calls.specs.declared.act.Verdict.{Verdict}
 use Rattle.pulsar_calls.specs.declared.act.Who.{Who}
 use Rattle.pulsar_calls.specs.declared.act.Who.TheVariants.{Call, Producer}
-use Rattle.pulsar_calls.specs.declared.plans.plan.At.{At as Spot}
-use Rattle.pulsar_calls.specs.declared.plans.plan.At.TheVariants as place
-use Rattle.pulsar_calls.specs.declared.plans.plan.Plan.{Plan}
-use Rattle.pulsar_calls.specs.declared.plans.plan.Plan.TheVariants.{Building, Getting, Asking, Awaiting, Searching, Producing, Sending, Reporting, Storing, Stored, Batching, Leaving, Gathering, Shutting, Visiting, Stopping}
-use Rattle.pulsar_calls.specs.declared.plans.plan.Turn.{Turn}
-use Rattle.pulsar_calls.specs.declared.plans.plan.Turn.TheVariants.{Stays, Gives}
+use Rattle.pulsar_procedures.specs.declared.plan.At.{At as Spot}
+use Rattle.pulsar_procedures.specs.declared.plan.At.TheVariants as place
+use Rattle.pulsar_procedures.specs.declared.plan.Plan.{Plan}
+use Rattle.pulsar_procedures.specs.declared.plan.Plan.TheVariants.{Building, Getting, Asking, Awaiting, Searching, Producing, Sending, Reporting, Storing, Stored, Batching, Leaving, Gathering, Shutting, Visiting, Stopping}
+use Rattle.pulsar_procedures.specs.declared.plan.Turn.{Turn}
+use Rattle.pulsar_procedures.specs.declared.plan.Turn.TheVariants.{Stays, Gives}
 use Rattle.pulsar_tables.specs.declared.producers.Topic.{Topic}
 use Rattle.pulsar_tables.specs.Alarms.{rings}
-use Rattle.pulsar_calls.specs.Plan.{action_of, asks_of, batches_on, begins, builds, fails_in, gathers, goes, goes_on_sending, goes_round, halted, is_answer, is_settled as round_settled, leaves, news_in, news_of, overrides, sends_stay, stored, told, told_at, told_to, visited, visits, wished}
+use Rattle.pulsar_procedures.specs.Plan.{action_of, asks_of, batches_on, begins, builds, fails_in, gathers, goes, goes_on_sending, goes_round, halted, is_answer, is_settled as round_settled, leaves, news_in, news_of, overrides, sends_stay, stored, told, told_at, told_to, visited, visits, wished}
 use Rattle.pulsar_producer.specs.Batching.{is_sent_send}
 use Rattle.pulsar_laws.specs.ProducerLaws.{acts_on, drawn_by, rung_by, shut_by, topic_acts}
 use Rattle.pulsar_tables.specs.Producers.{next_batch_at, numbers_at}

@@ -47,16 +47,16 @@ use Rattle.pulsar_calls.specs.declared.act.Outcome.TheVariants as outcome
 use Rattle.pulsar_calls.specs.declared.act.Procedure.TheVariants as procedure
 use Rattle.pulsar_calls.specs.declared.act.Who.{Who}
 use Rattle.pulsar_calls.specs.declared.act.Who.TheVariants.{Call}
-use Rattle.pulsar_calls.specs.declared.plans.plan.At.{At}
-use Rattle.pulsar_calls.specs.declared.plans.plan.At.TheVariants as at
-use Rattle.pulsar_calls.specs.declared.plans.plan.Plan.{Plan}
-use Rattle.pulsar_calls.specs.declared.plans.plan.Plan.TheVariants as plan
+use Rattle.pulsar_procedures.specs.declared.plan.At.{At}
+use Rattle.pulsar_procedures.specs.declared.plan.At.TheVariants as at
+use Rattle.pulsar_procedures.specs.declared.plan.Plan.{Plan}
+use Rattle.pulsar_procedures.specs.declared.plan.Plan.TheVariants as plan
 use Rattle.pulsar_tables.specs.declared.producers.Topic.{Topic}
 use Rattle.pulsar_calls.specs.Content.{Said, Failed}
 use Rattle.pulsar_tables.specs.Links as links
 use Rattle.pulsar_calls.specs.Parts.{sent_from}
 use Rattle.pulsar_tables.specs.Producers.{number_drawn, numbers_at}
-use Rattle.pulsar_calls.specs.Plan.{told}
+use Rattle.pulsar_procedures.specs.Plan.{told}
 use Rattle.pulsar_tables.specs.Rules.{joins, notice}
 use Rattle.pulsar_client.specs.Run.{Entry, Begins, Then, IsRun, Rests, view}
 use Rattle.pulsar_tables.specs.View.{Options, Seat, View, answer_at, room_of}

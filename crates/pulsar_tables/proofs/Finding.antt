@@ -39,18 +39,21 @@ module _ (rows : BTreeMap ℕ ConsumerRow) (test : Option Member → Bool) (ts :
   found_give f g sorted ordered none same =
       listed_same (at_row g (rows_in rows)) (at_row f (rows_in rows)) ts (λ t h. one_same t (rows_in rows t) (sym (found t) ∙ h))
       ∙ same_gives (at_row f (rows_in rows)) ts (keys rows) sorted ordered
-        (λ t h. one_none t (rows_in rows t) (sym (found t) ∙ sym (listed_is t ts) ∙ h))
-        (λ t h. away t (sym (listed_is t (keys rows)) ∙ h))
+      (λ t h. one_none t (rows_in rows t) (sym (found t) ∙ sym (listed_is t ts) ∙ h))
+      (λ t h. away t (sym (listed_is t (keys rows)) ∙ h))
     where
       one_same : (t : ℕ) (row : Option Member) → test row ≡ true → flat_map (g t) (option_to_list row) ≡ flat_map (f t) (option_to_list row)
       one_same t None h = refl
       one_same t (Some m) h = ap (λ xs. xs ++ []) (same t m h)
+
       one_none : (t : ℕ) (row : Option Member) → test row ≡ false → flat_map (f t) (option_to_list row) ≡ []
       one_none t None h = refl
       one_none t (Some m) h = ap (λ xs. xs ++ []) (none t m h)
+
       gone : (t : ℕ) (row : Option Member) → is_some row ≡ false → flat_map (f t) (option_to_list row) ≡ []
       gone t None h = refl
       gone t (Some m) h = absurd (false≢true (sym h))
+
       away : (t : ℕ) → is_listed t (keys rows) ≡ false → flat_map (f t) (option_to_list (rows_in rows t)) ≡ []
       away t h = elim (cases_Bool (is_some (rows_in rows t))) [
         | inl y ↦ absurd (false≢true (sym h ∙ keyed rows t y))

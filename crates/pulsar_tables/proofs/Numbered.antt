@@ -229,6 +229,7 @@ frame_number l r m = by (is_body 9 r.content.body) (is_body 27 r.content.body) (
     on : (b : Bool) → (cond b (member_after (Ends TopicEnded) m) m).seen.number ≡ m.seen.number
     on true = refl
     on false = refl
+
     by : (b c d : Bool) →
         (cond b (member_after (Hears l (frame_in r)) m) (cond c (ends_on l TopicEnded m) (cond d (member_after (Loses l) m) m))).seen.number ≡ m.seen.number
     by true c d = same_number (Hears l (frame_in r)) m.seen

@@ -52,9 +52,9 @@ use Rattle.pulsar_calls.specs.declared.content.Building.{Building}
 use Rattle.pulsar_tables.specs.declared.addresses.Pause.{Pause}
 use Rattle.pulsar_tables.specs.declared.addresses.Series.{Series}
 use Rattle.pulsar_tables.specs.declared.addresses.Series.TheVariants.{Nobody, Runs, Pauses, Serves}
-use Rattle.pulsar_calls.specs.declared.plans.plan.Plan.{Plan}
-use Rattle.pulsar_calls.specs.declared.plans.plan.Turn.{Turn}
-use Rattle.pulsar_calls.specs.declared.plans.plan.Turn.TheVariants.{Stays, Gives}
+use Rattle.pulsar_procedures.specs.declared.plan.Plan.{Plan}
+use Rattle.pulsar_procedures.specs.declared.plan.Turn.{Turn}
+use Rattle.pulsar_procedures.specs.declared.plan.Turn.TheVariants.{Stays, Gives}
 use Rattle.pulsar_tables.specs.declared.producers.Topic.{Topic}
 use Rattle.pulsar_link.specs.Request.{named_consumer, named_producer}
 use Rattle.pulsar_messages.specs.Content.{ProducerMessageValues}
@@ -81,7 +81,7 @@ use Rattle.pulsar_calls.specs.Content.{Asked as Asking, Heard, Called, Opened, F
 use Rattle.pulsar_tables.specs.Links.{Change, Remains, Becomes, IsOver, closed_by, line_places, new_places, times_out}
 use Rattle.pulsar_calls.specs.Content.{numbers_from}
 use Rattle.pulsar_tables.specs.Links as links
-use Rattle.pulsar_calls.specs.Plan.{begins, closed_notice, fails}
+use Rattle.pulsar_procedures.specs.Plan.{begins, closed_notice, fails}
 use Rattle.pulsar_tables.specs.Producers.{Producers, advice, batches_in, drawn, errand_of, is_held, is_settled_at, is_woken, link_at, next_batch_at, number_drawn, numbers_at, recalled, routed, stored_by, turn_passed, turn_taken, unsent, waiting, why_not}
 use Rattle.pulsar_calls.specs.Content.{next_advice}
 use Rattle.pulsar_tables.specs.View.{Addresses, Base, Chosen, Links, Options, Seat, Tickets, Turned, View, answer_at, arrival_at, is_live, later, may_call, room_of, told_some, turned, url_at, ways_of}

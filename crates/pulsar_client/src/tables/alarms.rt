@@ -9,12 +9,12 @@ ghost use Rattle.pulsar_client.specs.Run.{goes_on};
 ghost use Rattle.pulsar_client.specs.Tables.{agenda_of, rung_view, unset_view, view_of};
 ghost use Rattle.pulsar_tables.specs.View.{after, is_to_follow, later, nobody};
 
-use pulsar_tables::addresses::{Addresses, Pause};
 use crate::agenda::Tasks;
-use pulsar_tables::alarms::Alarms;
 use crate::tables::Tables;
 use crate::tables::calls::tell;
 use pulsar_calls::act::{Act, Action, Alarm, LinkAct, Notice, Outcome, Part, Who};
+use pulsar_tables::addresses::{Addresses, Pause};
+use pulsar_tables::alarms::Alarms;
 use pulsar_wire::error::NoMemory;
 use std::alloc::Global;
 

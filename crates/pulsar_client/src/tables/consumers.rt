@@ -19,8 +19,6 @@ ghost use Rattle.pulsar_client.specs.Tables.{agenda_of, chosen_of, view_of};
 ghost use Rattle.pulsar_tables.specs.View.{after, ways_of};
 
 use crate::agenda::Tasks;
-use pulsar_tables::consumers::numbers::Numbering;
-use pulsar_tables::consumers::row::Sought;
 use crate::tables::Tables;
 use crate::tables::calls::tell;
 use pulsar_calls::act::{Action, Notice, Outcome, Part, Procedure, Refusal, Who, Word};
@@ -32,6 +30,8 @@ use pulsar_consumer::naming::{Ordered, order_of};
 use pulsar_link::content::Request;
 use pulsar_link::raw_call::RawCall;
 use pulsar_plans::content::Refusal as Failure;
+use pulsar_tables::consumers::numbers::Numbering;
+use pulsar_tables::consumers::row::Sought;
 use pulsar_wire::commands::ids::MessageIdData;
 use pulsar_wire::error::{ConnectionError, NoMemory};
 

@@ -12,13 +12,13 @@ ghost use Rattle.pulsar_tables.specs.Reading.{heard_at};
 ghost use Rattle.pulsar_client.specs.Tables.{agenda_of, chosen_of, retry_set, retry_shown, turned_view, view_of, welcomed};
 ghost use Rattle.pulsar_tables.specs.View.{after};
 
-use pulsar_tables::address::connect;
 use crate::agenda::Tasks;
 use crate::tables::Tables;
 use crate::tables::alarms::later;
 use pulsar_calls::act::{Act, Alarm, Arrival, End, LinkAct, Notice, Part, Who};
 use pulsar_calls::effect::Effect;
 use pulsar_plans::content::Address;
+use pulsar_tables::address::connect;
 use pulsar_wire::error::NoMemory;
 
 impl Tables {

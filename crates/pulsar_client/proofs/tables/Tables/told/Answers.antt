@@ -6,12 +6,12 @@ use Rattle.pulsar_calls.specs.declared.act.Outcome.{Outcome}
 use Rattle.pulsar_calls.specs.declared.act.Verdict.{Verdict}
 use Rattle.pulsar_calls.specs.declared.act.Who.{Who}
 use Rattle.pulsar_calls.specs.declared.act.Who.TheVariants.{Call, Producer}
-use Rattle.pulsar_calls.specs.declared.plans.plan.Plan.{Plan}
-use Rattle.pulsar_calls.specs.declared.plans.plan.Turn.{Turn}
-use Rattle.pulsar_calls.specs.Plan.{told}
+use Rattle.pulsar_procedures.specs.declared.plan.Plan.{Plan}
+use Rattle.pulsar_procedures.specs.declared.plan.Turn.{Turn}
+use Rattle.pulsar_procedures.specs.Plan.{told}
 use Rattle.pulsar_tables.specs.Reading.{notice}
 use Rattle.pulsar_client.specs.Tables.{view_of}
-use Rattle.pulsar_calls.specs.Standing.{stand_of}
+use Rattle.pulsar_procedures.specs.Standing.{stand_of}
 use Rattle.pulsar_tables.specs.View.{stand_after, stays, stays_some, told_some}
 use Rattle.pulsar_calls.specs.Who.{is_same}
 use Rattle.pulsar_client.proofs.tables.Tables.told.Goals as goal

@@ -1,6 +1,6 @@
 use Rattle.std.proofs.Common.{◌∙◌, ap, map, sym}
 use Rattle.pulsar_run.specs.Order.{put, put_all}
-use Rattle.pulsar_calls.specs.Plan.{closed_notice}
+use Rattle.pulsar_procedures.specs.Plan.{closed_notice}
 use Rattle.pulsar_tables.specs.Rules.{below}
 use Rattle.pulsar_client.specs.Run.{Agenda}
 use Rattle.pulsar_client.specs.Tables.{agenda_of}

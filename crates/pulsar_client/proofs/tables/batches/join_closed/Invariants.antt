@@ -1,6 +1,6 @@
 use Rattle.std.proofs.Common.{◌≡◌, map}
 use Rattle.pulsar_run.specs.Order.{put_all}
-use Rattle.pulsar_calls.specs.Plan.{closed_notice}
+use Rattle.pulsar_procedures.specs.Plan.{closed_notice}
 use Rattle.pulsar_tables.specs.Rules.{below}
 use Rattle.pulsar_client.specs.Tables.{agenda_of}
 use Rattle.pulsar_client.proofs.tables.batches.join_closed.Given as goal

@@ -30,7 +30,7 @@ returns-clause-notices c =
     let found = living_found n l cs.listing (rows_in cs.rows) (cs.listed c.if-self.false) ts (c.deref.ensures.value ∙ c.in_ok-tickets.ensures.tickets) in
     c.in_ok-notices.ensures.notices
     ∙ found_give cs.rows (lives_with n l) ts found (λ t m. word_to t m (word_of_close (Some n) l true m)) (λ t m. word_to t m (word_if (not m.seen.is_raw) Over))
-      (subst (IsStrictlySortedBy nat_cmp) (sym c.deref.ensures.value) c.in_ok-tickets.ensures.sorted) (cs.ordered c.if-self.false) (none_closed n l) (same_closed n l)
+    (subst (IsStrictlySortedBy nat_cmp) (sym c.deref.ensures.value) c.in_ok-tickets.ensures.sorted) (cs.ordered c.if-self.false) (none_closed n l) (same_closed n l)
 
 pub returns-clause-after : goal.returns-clause-after
 returns-clause-after c =

@@ -1,6 +1,4 @@
 pub mod Answering
-pub mod Listing
-pub mod Drawing
 pub mod Waiting
 pub mod Steps
 pub mod Sorting

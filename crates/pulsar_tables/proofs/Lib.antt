@@ -10,3 +10,5 @@ pub mod Hearing
 pub mod Numbered
 pub mod Finding
 pub mod Several
+pub mod Listing
+pub mod Drawing

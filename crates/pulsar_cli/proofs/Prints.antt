@@ -8,14 +8,14 @@ use Rattle.pulsar_producer.specs.Routing.{Policy}
 use Rattle.pulsar_calls.specs.Content.{Heard}
 use Rattle.pulsar_client.specs.Run.{Step}
 use Rattle.pulsar_tables.specs.View.{Options}
-use Rattle.pulsar_cli.specs.Grammar.{Happens, line as meaning, lines}
-use Rattle.pulsar_cli.specs.Text.{refusal}
+use Rattle.pulsar_script.specs.Grammar.{Happens, line as meaning, lines}
+use Rattle.pulsar_script.specs.Text.{refusal}
 use Rattle.pulsar_cli.specs.Script.{Adds, AddsFront, IsDone, IsRunOf, IsStopped, IsRefused, Printed, blank, text}
 use Rattle.pulsar_cli.specs.Shown.{Faults, Halts, InTurn, IsLast, IsNoScriptWith, Prints, Reads, Refuses, Refusing, Running, options_in, read_status, said, status_of}
 use Rattle.pulsar_cli.specs.declared.reading.Reading.{Reading}
 use Rattle.pulsar_cli.specs.declared.stop.Stop.{Stop}
 use Rattle.pulsar_cli.specs.declared.stop.Stop.TheVariants as stop
-use Rattle.pulsar_cli.proofs.Lines.{last-line}
+use Rattle.pulsar_cli.proofs.Splitting.{last-line}
 use Rattle.pulsar_cli.proofs.Sinks.{adds-more, adds-nil, rose-from}
 
 -- the run of the lines that were read

@@ -10,8 +10,9 @@ use Rattle.pulsar_client.specs.Outside.{Rose}
 use Rattle.pulsar_calls.specs.Content.{Heard, heard}
 use Rattle.pulsar_client.specs.Run.{Good, Step, is_empty}
 use Rattle.pulsar_tables.specs.View.{Options}
-use Rattle.pulsar_cli.specs.Grammar.{Happens, line as meaning, lines}
-use Rattle.pulsar_cli.specs.Parsed.{IsWithinLine, choice_of}
+use Rattle.pulsar_script.specs.Grammar.{Happens, line as meaning, lines}
+use Rattle.pulsar_cli.specs.Choice.{choice_of}
+use Rattle.pulsar_script.specs.Parsed.{IsWithinLine}
 use Rattle.pulsar_cli.specs.Script.{Script, Adds, Given, HasFault, IsDone, IsStopped, Seen, limit, script_of, happened, text}
 
 -- the options of a reading's client, with these policies

@@ -2,17 +2,15 @@
 #![tactic(auto)]
 
 mod feed;
-mod grammar;
 pub mod laws;
 mod options;
-mod printing;
 mod program;
 mod reading;
 mod standard;
 mod stop;
 
-pub use crate::printing::effect::push_step;
 pub use crate::program::{
     DONE, NO_FORM, NO_MEMORY, REFUSED, SINK_FAILED, SOURCE_FAILED, Status, TOO_LONG, run, script,
 };
 pub use crate::standard::{StandardInput, StandardOutput};
+pub use pulsar_script::printing::effect::push_step;

@@ -4,14 +4,15 @@ ghost use Rattle.std.specs.Prelude.{◌≡◌, IfOk, map};
 ghost use Rattle.std.specs.Option.{option_map};
 ghost use Rattle.pulsar_messages.specs.Content.{authentication_values};
 ghost use Rattle.pulsar_client.specs.Client.{options as meaning};
-ghost use Rattle.pulsar_cli.specs.Parsed.{choice_of, setting_of};
+ghost use Rattle.pulsar_cli.specs.Choice.{choice_of};
+ghost use Rattle.pulsar_script.specs.Parsed.{setting_of};
 ghost use Rattle.pulsar_cli.specs.Script.{chooses, default_choice};
 
-use crate::grammar::setting::Setting;
 use pulsar_client::{
     Authentication, ClientOptions, ConnectionRetryOptions, CustomRoutingPolicy,
     OperationRetryOptions,
 };
+use pulsar_script::grammar::setting::Setting;
 use pulsar_wire::NoMemory;
 use std::alloc::Global;
 

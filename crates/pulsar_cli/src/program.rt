@@ -12,10 +12,10 @@ ghost use Rattle.pulsar_cli.specs.Shown.{Awaits, Fed, Going, Halts, HasConsumed,
 
 use crate::feed::{Feed, Next};
 use crate::options::options;
-use crate::printing::effect::push_refusal;
 use crate::reading::Reading;
 use crate::stop::Stop;
 use pulsar_client::{CustomRoutingPolicy, Event, Pulsar, Sink, Source};
+use pulsar_script::printing::effect::push_refusal;
 use std::alloc::Global;
 
 /// How a run ended: 0 done, 1 a line is not in the grammar, 2 the words are no form of the program, 3 want of memory, 4

@@ -5,19 +5,20 @@ ghost use Rattle.pulsar_calls.specs.Content.{heard, shown};
 ghost use Rattle.pulsar_client.specs.Run.{Step};
 ghost use Rattle.pulsar_tables.specs.View.{Options};
 ghost use Rattle.pulsar_producer.specs.Routing.{Policy};
-ghost use Rattle.pulsar_cli.specs.Grammar.{Happens, line as meaning};
-ghost use Rattle.pulsar_cli.specs.Parsed.{choice_of, line_of, setting_of};
+ghost use Rattle.pulsar_script.specs.Grammar.{Happens, line as meaning};
+ghost use Rattle.pulsar_cli.specs.Choice.{choice_of};
+ghost use Rattle.pulsar_script.specs.Parsed.{line_of, setting_of};
 ghost use Rattle.pulsar_cli.specs.Script.{chooses};
 ghost use Rattle.pulsar_cli.specs.Shown.{HasConsumed, IsNoScriptWith, KeepsReading, KeepsText, ReadsMore, Refuses, Running};
-ghost use Rattle.pulsar_cli.specs.Text.{step};
+ghost use Rattle.pulsar_script.specs.Text.{step};
 
-use crate::grammar::line::{Line, parse};
-use crate::grammar::setting::Setting;
-use crate::grammar::word::cut_line;
 use crate::options::{Choice, choose, defaults};
-use crate::printing::effect::push_step;
 use crate::stop::Stop;
 use pulsar_client::{Effect, Event};
+use pulsar_script::grammar::line::{Line, parse};
+use pulsar_script::grammar::setting::Setting;
+use pulsar_script::grammar::word::cut_line;
+use pulsar_script::printing::effect::push_step;
 use pulsar_wire::NoMemory;
 use std::alloc::Global;
 

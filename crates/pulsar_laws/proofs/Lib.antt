@@ -2,6 +2,10 @@ pub mod Instances
 pub mod Made
 pub mod Begun
 pub mod Left
+pub mod Same
+pub mod Consuming
+pub mod Wording
+pub mod Members
 pub mod Natures
 pub mod Granted
 pub mod Batchers

@@ -17,11 +17,11 @@ use Rattle.pulsar_calls.specs.declared.act.Outcome.{Outcome}
 use Rattle.pulsar_calls.specs.declared.act.Part.TheVariants.{Calls}
 use Rattle.pulsar_calls.specs.declared.act.Makes.{Makes}
 use Rattle.pulsar_calls.specs.declared.act.Procedure.{Procedure}
-use Rattle.pulsar_calls.specs.declared.act.Procedure.TheVariants.{Batch}
+use Rattle.pulsar_calls.specs.declared.act.Procedure.TheVariants.{Batch, Serve}
 use Rattle.pulsar_calls.specs.declared.act.Refusal.{Refusal}
 use Rattle.pulsar_calls.specs.declared.act.Verdict.{Verdict}
 use Rattle.pulsar_calls.specs.declared.act.Who.{Who}
-use Rattle.pulsar_calls.specs.declared.act.Who.TheVariants.{Call, Producer}
+use Rattle.pulsar_calls.specs.declared.act.Who.TheVariants.{Call, Consumer, Producer}
 use Rattle.pulsar_procedures.specs.declared.plan.Plan.{Plan}
 use Rattle.pulsar_procedures.specs.declared.plan.Turn.{Turn}
 use Rattle.pulsar_procedures.specs.declared.plan.Turn.TheVariants.{Stays, Gives}
@@ -74,9 +74,11 @@ none_in f [] P none k = refl
 none_in f (x ∷ xs) P none k = (λ i. none x k.0 i + none_in f xs P none k.1 i)
 
 -- a plan of batches is no call
-left_due : (f : Act → ℕ) (ways : Option Ways) (makes : Makes) → ((w : Ways) (e : Errand) → f (Starts (Producer e.producer) (Batch w e)) ≡ 0) →
-    due f (left_with ways makes) ≡ 0
-left_due f ways makes none = none_in f (left_with ways makes) (λ a. f a ≡ 0) (λ a h. h) (left_each (λ a. f a ≡ 0) ways makes none)
+left_due : (f : Act → ℕ) (ways : Option Ways) (maker : Who) (makes : Makes) → ((w : Ways) (e : Errand) → f (Starts (Producer e.producer) (Batch w e)) ≡ 0) →
+    ((w : Ways) (n t : ℕ) → f (Starts (Consumer n t) (Serve w n)) ≡ 0) →
+    due f (left_with ways maker makes) ≡ 0
+left_due f ways maker makes none idle =
+    none_in f (left_with ways maker makes) (λ a. f a ≡ 0) (λ a h. h) (left_each (λ a. f a ≡ 0) ways maker makes none idle)
 
 none_due : (f : Act → ℕ) (xs : List Act) → ((a : Act) → IsQuiet a → f a ≡ 0) → Each IsQuiet xs → due f xs ≡ 0
 none_due f xs none k = none_in f xs IsQuiet none k
@@ -321,8 +323,8 @@ few_run o (Then (Starts who p) ∷ log) t r = starts_on o log who p t (few_run o
 few_run o (Then (Told n) ∷ log) t r = told_on o log n t (few_run o log t r.0) r.1
 few_run o (Then (Does w a) ∷ log) t r = quiet_on o log (Does w a) t (few_run o log t r.0) r.1 (performs_quiet (view o log) w a) refl refl
 few_run o (Then (Answers w a) ∷ log) t r =
-    simple_on o log (Answers w a) t (few_run o log t r.0) r.1 (left_due (start_of t) (ways_of (view o log).chosen) a.makes (λ u e. refl))
-    (left_due (end_of t) (ways_of (view o log).chosen) a.makes (λ u e. refl)) refl refl
+    simple_on o log (Answers w a) t (few_run o log t r.0) r.1 (left_due (start_of t) (ways_of (view o log).chosen) w a.makes (λ u e. refl) (λ u n k. refl))
+    (left_due (end_of t) (ways_of (view o log).chosen) w a.makes (λ u e. refl) (λ u n k. refl)) refl refl
 few_run o (Then a ∷ log) t r = quiet_on o log a t (few_run o log t r.0) r.1 tt refl refl
 
 one_at_most : (b : Bool) (x y : ℕ) → x + y ≤ cond b 1 0 → x ≤ 1

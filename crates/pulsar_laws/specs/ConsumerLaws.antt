@@ -1,0 +1,201 @@
+-- What follows of consumers, in plain words.
+use Rattle.std.specs.Prelude.{◌≡◌, ℕ, ◌+◌, ◌-◌, ◌≤◌, ◌==◌, ◌&&◌, ◌||◌, Bool, true, false, if◌then◌else◌, List, [], ◌∷◌, ◌++◌, Option, Some, None}
+use Rattle.std.specs.List.{flat_map, sum}
+use Rattle.std.specs.Option.{is_some, option_or}
+use Rattle.url.specs.Parts.{Parts}
+use Rattle.pulsar_session.specs.Failures.{Fault}
+use Rattle.pulsar_link.specs.Items.{Item, Given, Faulty}
+use Rattle.pulsar_link.specs.Messages.{Reply, is_body}
+use Rattle.pulsar_link.specs.Request.{closed_consumer}
+use Rattle.pulsar_consumer.specs.Frames.{frame_in}
+use Rattle.pulsar_consumer.specs.Laws.{IsFinished, arrivals, asked_since, begun, items_of, weighed_before, weights}
+use Rattle.pulsar_consumer.specs.Topic as reader
+use Rattle.pulsar_consumer.specs.Topic.{Act as Done, Lives, Hears, Loses, Fails, Ends as Over, Polls as Polled, Asks, Live, Seen, Setup, batch_size, first_of, half, is_ended, link_of, lives_on, of_raw, polled_from}
+use Rattle.pulsar_consumer.specs.declared.polled.Ending.{Ending}
+use Rattle.pulsar_consumer.specs.declared.polled.Ending.TheVariants.{Closed, TopicEnded, Stopped}
+use Rattle.pulsar_calls.specs.declared.act.Act.{Act}
+use Rattle.pulsar_calls.specs.declared.act.Act.TheVariants.{Comes, Does, Answers}
+use Rattle.pulsar_calls.specs.declared.act.Action.TheVariants.{Ask, TakeFlow, Revive, FailConsumer, StopAll}
+use Rattle.pulsar_calls.specs.declared.act.Arrival.{Arrival}
+use Rattle.pulsar_calls.specs.declared.act.Arrival.TheVariants.{Nothing, Readied, Settles, Gives, Passes, Bad}
+use Rattle.pulsar_calls.specs.declared.act.LinkAct.TheVariants.{Reads, Ends}
+use Rattle.pulsar_calls.specs.declared.act.Makes.{Makes}
+use Rattle.pulsar_calls.specs.declared.act.Makes.TheVariants as makes
+use Rattle.pulsar_calls.specs.declared.act.Part.TheVariants.{ToLink, Polls}
+use Rattle.pulsar_calls.specs.declared.act.Who.TheVariants.{Call}
+use Rattle.pulsar_calls.specs.Content.{Poll, Shown, Hands, Faults}
+use Rattle.pulsar_calls.specs.Who.{is_same, ticket_of}
+use Rattle.pulsar_tables.specs.Consumers as consumer
+use Rattle.pulsar_tables.specs.Consumers.{Member, is_closed_by}
+use Rattle.pulsar_tables.specs.View.{Options, Seat, View, answer_at, arrival_at, closing, is_asked, setup_of, url_at}
+use Rattle.pulsar_client.specs.Run.{Entry, Begins, Then, IsRun, Step, steps, view}
+
+-- WHAT IS DONE TO A CONSUMER
+
+-- by a frame for its number that comes on a link: a message, the end of its topic, or the close of the broker
+abbrev pub frame_does : (link : ℕ) → Reply → Seen → List Done
+frame_does l r s =
+    if is_body 9 r.content.body then Hears l (frame_in r) ∷ []
+    else if is_body 27 r.content.body then (if lives_on l s then Over TopicEnded ∷ [] else [])
+    else if is_body 16 r.content.body then Loses l ∷ []
+    else []
+
+abbrev pub arrival_does : (link : ℕ) → Arrival → Seen → List Done
+arrival_does l Nothing s = []
+arrival_does l Readied s = []
+arrival_does l Settles s = []
+arrival_does l (Gives number reply) s = if s.number == number then frame_does l reply s else []
+arrival_does l Passes s = []
+arrival_does l (Bad cause) s = []
+
+-- by the end of a link, by the asking for its close, and by a subscription on a link that has not ended
+abbrev pub loss_does : (link : ℕ) → Option Fault → List Done
+loss_does l None = []
+loss_does l (Some cause) = Loses l ∷ []
+
+abbrev pub close_does : (closed : Option ℕ) → (link : ℕ) → (is_asked : Bool) → Member → List Done
+close_does closed l is_asked m = if is_asked && is_closed_by closed l m then Over Closed ∷ [] else []
+
+abbrev pub subscription_does : (link : ℕ) → Option Parts → List Done
+subscription_does l None = []
+subscription_does l (Some url) = Lives l url ∷ []
+
+-- by an act, to the consumer of a ticket
+abbrev pub does_to : View → (ticket : ℕ) → Member → Act → List Done
+does_to v t m (Comes (ToLink l Reads)) = arrival_does l (arrival_at (v.links.live l)) m.seen
+does_to v t m (Comes (ToLink l (Ends end))) = loss_does l (closing end v.now (v.links.live l))
+does_to v t m (Comes (Polls u)) = if t == u then Polled v.now ∷ [] else []
+does_to v t m (Does who (Ask l request)) = close_does (closed_consumer request) l (is_asked (answer_at v.now request (v.links.live l))) m
+does_to v t m (Does who TakeFlow) = if t == ticket_of who then Asks ∷ [] else []
+does_to v t m (Does who (Revive l)) = if t == ticket_of who then subscription_does l (url_at (v.links.live l)) else []
+does_to v t m (Does who (FailConsumer f)) = if t == ticket_of who then Fails f ∷ [] else []
+does_to v t m (Does who StopAll) = Over Stopped ∷ []
+does_to v t m _ = []
+
+-- and by the verdict that makes it: its first subscription
+abbrev pub made_as : Makes → Option Setup
+made_as makes.Nothing = None
+made_as makes.Client = None
+made_as (makes.Consumer j) = Some (setup_of j)
+made_as (makes.RawConsumer l made) = Some (of_raw made)
+made_as (makes.Producer b) = None
+
+abbrev pub making_does : (ℕ → Option Seat) → Makes → List Done
+making_does live makes.Nothing = []
+making_does live makes.Client = []
+making_does live (makes.Consumer j) = subscription_does j.link (url_at (live j.link))
+making_does live (makes.RawConsumer l made) = subscription_does l (url_at (live l))
+making_does live (makes.Producer b) = []
+
+-- how the consumer of a ticket was made
+abbrev pub made_with : (ticket : ℕ) → List Entry → Option Setup
+made_with t [] = None
+made_with t (Then (Answers who verdict) ∷ log) = if is_same (Call t) who then made_as verdict.makes else made_with t log
+made_with t (_ ∷ log) = made_with t log
+
+-- all that was done to it since, newest first
+abbrev pub done_since : View → (ticket : ℕ) → Act → Option Member → List Done → List Done
+done_since v t (Answers who verdict) None h = if is_same (Call t) who then making_does v.links.live verdict.makes else h
+done_since v t a None h = h
+done_since v t a (Some m) h = does_to v t m a ++ h
+
+abbrev pub done_to : Options → (ticket : ℕ) → List Entry → List Done
+done_to o t [] = []
+done_to o t (Begins e ∷ log) = done_to o t log
+done_to o t (Then a ∷ log) = done_since (view o log) t a ((view o log).consumers.rows t) (done_to o t log)
+
+-- A consumer is what was done to it since it was made, and nothing else. So all that holds of one over any acts holds of it: its items are those of
+-- its arrivals, as many are placed as its receiver queue holds, frames are begun in turn, and nothing arrives behind its end.
+abbrev pub ConsumersAlone : Type 0
+ConsumersAlone = (o : Options) (log : List Entry) (t : ℕ) (m : Member) → IsRun o log → (view o log).consumers.rows t ≡ Some m →
+    (s : Setup) × (made_with t log ≡ Some s) × (m.seen ≡ reader.seen s (done_to o t log))
+
+-- ITEMS
+
+-- the item that an effect gives to a poll of a ticket
+abbrev pub given_by : ℕ → Shown → List Item
+given_by t (Hands ticket topic id size metadata payload) = if t == ticket then Given id size metadata payload ∷ [] else []
+given_by t (Faults ticket fault) = if t == ticket then Faulty fault ∷ [] else []
+given_by t _ = []
+
+-- those that the effects of a history give, in order
+abbrev pub items_given : ℕ → List Step → List Item
+items_given t [] = []
+items_given t (s ∷ h) = items_given t h ++ flat_map (given_by t) s.effects
+
+-- The polls of a consumer give just the items of its arrivals, in order, each once and without gap: behind what they gave stands what is left. What
+-- arrives are the messages that come for its number on the link of its live subscription, and why it could not be subscribed again. Its next
+-- poll gives the first that is left; where none is left it gives the end if it has ended, and else nothing.
+abbrev pub PollsFollow : Type 0
+PollsFollow = (o : Options) (log : List Entry) (t : ℕ) (m : Member) → IsRun o log → (view o log).consumers.rows t ≡ Some m →
+    (s : Setup) × (left : List Item) × (made_with t log ≡ Some s)
+    × (items_given t (steps o log) ++ left ≡ items_of (arrivals s (done_to o t log)))
+    × (reader.polled m.seen ≡ polled_from (first_of left) m.seen.ended)
+
+-- A consumer is polled where the user asks for it, and that is the one effect of that step.
+abbrev pub PollsAreAnswered : Type 0
+PollsAreAnswered = (o : Options) (log : List Entry) (t : ℕ) → IsRun o (Then (Comes (Polls t)) ∷ log) →
+    (older : List Entry) × (m : Member) × (log ≡ Begins (Poll t) ∷ older) × ((view o older).consumers.rows t ≡ Some m)
+    × (steps o (Then (Comes (Polls t)) ∷ log) ≡ record { event = Poll t; effects = consumer.polled t m ∷ [] } ∷ steps o older)
+
+-- ENDS
+
+-- A consumer ends at an act: by a frame for it, on the link of its live subscription, that ends its topic; where its close is asked for there; where
+-- it could not be subscribed again; with the stop of the client. A raw one ends also by the close of the broker, and with its link.
+abbrev pub frame_ends : (link : ℕ) → Reply → Seen → Bool
+frame_ends l r s =
+    if is_body 9 r.content.body then false
+    else if is_body 27 r.content.body then lives_on l s
+    else if is_body 16 r.content.body then lives_on l s && s.is_raw
+    else false
+
+abbrev pub arrival_ends : (link : ℕ) → Arrival → Seen → Bool
+arrival_ends l Nothing s = false
+arrival_ends l Readied s = false
+arrival_ends l Settles s = false
+arrival_ends l (Gives number reply) s = if s.number == number then frame_ends l reply s else false
+arrival_ends l Passes s = false
+arrival_ends l (Bad cause) s = false
+
+abbrev pub ends_by : View → (ticket : ℕ) → Member → Act → Bool
+ends_by v t m (Comes (ToLink l Reads)) = arrival_ends l (arrival_at (v.links.live l)) m.seen
+ends_by v t m (Comes (ToLink l (Ends end))) = is_some (closing end v.now (v.links.live l)) && (lives_on l m.seen && m.seen.is_raw)
+ends_by v t m (Does who (Ask l request)) = is_asked (answer_at v.now request (v.links.live l)) && is_closed_by (closed_consumer request) l m
+ends_by v t m (Does who (FailConsumer f)) = t == ticket_of who
+ends_by v t m (Does who StopAll) = true
+ends_by v t m _ = false
+
+abbrev pub ends_at : View → (ticket : ℕ) → Option Member → Act → Bool
+ends_at v t None a = false
+ends_at v t (Some m) a = ends_by v t m a
+
+abbrev pub has_ended : Options → (ticket : ℕ) → List Entry → Bool
+has_ended o t [] = false
+has_ended o t (Begins e ∷ log) = has_ended o t log
+has_ended o t (Then a ∷ log) = has_ended o t log || ends_at (view o log) t ((view o log).consumers.rows t) a
+
+-- It has ended exactly where it ended at one of the acts so far.
+abbrev pub ConsumersEnd : Type 0
+ConsumersEnd = (o : Options) (log : List Entry) (t : ℕ) (m : Member) → IsRun o log → (view o log).consumers.rows t ≡ Some m →
+    is_ended m.seen ≡ has_ended o t log
+
+-- A consumer remains what it is. Once it has ended it stays so, for the same reason; no subscription of it is live, and nothing arrives.
+abbrev pub ConsumersRemain : Type 0
+ConsumersRemain = (o : Options) (later older : List Entry) (t : ℕ) (m : Member) → IsRun o (later ++ older) → (view o older).consumers.rows t ≡ Some m →
+    (s : Setup) × (m' : Member) × ((view o (later ++ older)).consumers.rows t ≡ Some m') × (made_with t (later ++ older) ≡ Some s)
+    × (made_with t older ≡ Some s)
+    × ((why : Ending) → m.seen.ended ≡ Some why → (m'.seen.ended ≡ Some why) × (link_of m'.seen ≡ None)
+    × (arrivals s (done_to o t (later ++ older)) ≡ arrivals s (done_to o t older)))
+
+-- PERMITS
+
+-- What remains of the permits of a live subscription is at most the batch size, and at least half of it, rounded up, where each arrival is finished.
+-- It is the sum of its flows, those that were asked for since it was made and those that are due, less what the frames weigh that were begun
+-- since then, of whichever subscription they came.
+abbrev pub PermitsAreKept : Type 0
+PermitsAreKept = (o : Options) (log : List Entry) (t : ℕ) (m : Member) (l : Live) → IsRun o log → (view o log).consumers.rows t ≡ Some m →
+    m.seen.is_raw ≡ false → m.seen.engine.live ≡ Some l →
+    (s : Setup) × (made_with t log ≡ Some s) × (l.level - l.weight ≤ batch_size m.seen.config)
+    × (IsFinished s (done_to o t log) → half (batch_size m.seen.config) ≤ l.level - l.weight)
+    × (l.level + weights (begun s (done_to o t log))
+    ≡ l.weight + (asked_since s (done_to o t log) + sum l.due) + weighed_before s (done_to o t log))

@@ -20,7 +20,7 @@ use Rattle.pulsar_session.specs.Answers.{answers, is}
 use Rattle.pulsar_session.specs.Laws.{IsInLine}
 use Rattle.pulsar_session.specs.Link.{Asks, Drains, Feeds, Opens, Request, Seen, Standing, Takes, after, after_of, answer_of, answered, asked, asks_for, can_wait, challenged, claim, drawn, feeds, frame_for, greeted, greeting, greets_with, has_room, is_open, is_ready, moved_up, named_by, number_for, opens_in, place_in, pongs, put_frame, put_in, queue, reacts, reacts_unless, request, responds, settled_by, taken_in, ticked, unready_in}
 use Rattle.pulsar_session.specs.Link as session
-use Rattle.pulsar_link.specs.Request.{is_answered, request_number}
+use Rattle.pulsar_link.specs.Request.{is_awaited}
 use Rattle.pulsar_calls.specs.declared.act.Who.{Who}
 use Rattle.pulsar_tables.specs.View.{asker_at, place_of}
 use Rattle.pulsar_client.proofs.Acts.{Each, each_append, each_map}
@@ -339,7 +339,7 @@ module _ (A : Who → Awaited → Type 0) where
   -- with the frame the line is longer, where it has a place
   module _ (words : Words) (who : Who) (f : ℕ → Option Who) (so : (id : ℕ) (c : Claim) → claim id words ≡ Some c → A who c.awaits) where
     abbrev is_asker : Bool
-    is_asker = is_answered (request_number words)
+    is_asker = is_awaited words
 
     asks_numbered : (id now : ℕ) (v : Seen) → IsInLine v → Claimed A v f (end_of_line v) →
         Claimed A (asks_for (request id now words) v) (Added is_asker (place_of (session.asked_for (request id now words) v)) who f) (end_of_line v + 1)
@@ -539,15 +539,15 @@ module _ (A : Who → Awaited → Type 0) where
 
   pub asked_so : (words : Words) (who : Who) (f : ℕ → Option Who) (now : ℕ) (v : Seen) → ((id : ℕ) (c : Claim) → claim id words ≡ Some c → A who c.awaits) →
       IsInLine v →
-      IsClaimed v f → IsClaimed (after (Asks now words) v) (asker_at (is_answered (request_number words)) who (place_of (asked now words v)) f)
+      IsClaimed v f → IsClaimed (after (Asks now words) v) (asker_at (is_awaited words) who (place_of (asked now words v)) f)
   asked_so words who f now v so h k =
       let b = asks_bounded A words who f so now v h k in
       record { waiting = b.waiting; low = b.low; line = b.line; few = at (place_of (asked now words v)) refl }
     where
       at : (place : Option ℕ) → place_of (asked now words v) ≡ place → (p : ℕ) (w : Who) →
-          asker_at (is_answered (request_number words)) who (place_of (asked now words v)) f p ≡ Some w → p < end_of_line (after (Asks now words) v)
+          asker_at (is_awaited words) who (place_of (asked now words v)) f p ≡ Some w → p < end_of_line (after (Asks now words) v)
       at None e p w q =
-          let old : p < end_of_line v = k.few p w (sym (ap (λ y. asker_at (is_answered (request_number words)) who y f p) e) ∙ q) in
+          let old : p < end_of_line v = k.few p w (sym (ap (λ y. asker_at (is_awaited words) who y f p) e) ∙ q) in
           let g : end_of_line v ≤ end_of_line (after (Asks now words) v) = answer_grows words (number_for (is_numbered words) v) now (ticked now v) h in
           omega (arith, old, g)
       at (Some m) e p w q =

@@ -9,6 +9,7 @@ pub mod Members
 pub mod Natures
 pub mod Granted
 pub mod Batchers
+pub mod Servers
 pub mod Owned
 pub mod Batched
 pub mod BatchRun
@@ -46,7 +47,7 @@ pub mod Alone
 pub mod Writing
 pub mod OfLink
 pub mod Written
-pub mod Hearing
+pub mod Lone
 pub mod Polls
 pub mod Deadlines
 pub mod Ticks

@@ -39,7 +39,7 @@ use Rattle.pulsar_calls.specs.declared.act.Round.{Round}
 use Rattle.pulsar_calls.specs.declared.act.Round.TheVariants.{Checks, Flushes, Closes}
 use Rattle.pulsar_calls.specs.declared.act.Share.{Share}
 use Rattle.pulsar_calls.specs.declared.act.Who.{Who}
-use Rattle.pulsar_calls.specs.declared.act.Who.TheVariants.{Call, Producer}
+use Rattle.pulsar_calls.specs.declared.act.Who.TheVariants.{Call, Producer, Consumer}
 use Rattle.pulsar_procedures.specs.declared.plan.At.{At as Spot}
 use Rattle.pulsar_procedures.specs.declared.plan.At.TheVariants as at
 use Rattle.pulsar_procedures.specs.declared.plan.Plan.{Plan}
@@ -66,6 +66,7 @@ use Rattle.pulsar_laws.proofs.Granted.{does_from}
 use Rattle.pulsar_laws.proofs.Natures.{StaysSo, either_so, is_batching}
 use Rattle.pulsar_laws.proofs.Unbatched.{calls_unbatched}
 use Rattle.pulsar_laws.proofs.Consuming.{IsModest, begins_modest, is_modest, stays_map, told_modest}
+use Rattle.pulsar_laws.proofs.Servers.{server_does}
 
 abbrev is_taker : Action → Bool
 is_taker (TakeBatch n) = true
@@ -327,6 +328,7 @@ call_takes o log t a is run = elim (does_from o log (Call t) a run) [
 -- a batch is taken by its own topic producer
 pub taken_by_own : (o : Options) (log : List Entry) (who : Who) (m : ℕ) → IsRun o (Then (Does who (TakeBatch m)) ∷ log) → who ≡ Producer m
 taken_by_own o log (Call t) m run = absurd (call_takes o log t (TakeBatch m) refl run)
+taken_by_own o log (Consumer n t) m run = (let f : is_modest (TakeBatch m) ≡ true = server_does o log n t (TakeBatch m) run in absurd cc)
 taken_by_own o log (Producer n) m run = elim (deed_at o log n (TakeBatch m) run (batched_run o log run.0)) [
   | inl d ↦
       (let t = takes_where d.was.ways d.was.errand d.was.state d.outcome d.state m d.step in
@@ -339,4 +341,5 @@ taken_by_own o log (Producer n) m run = elim (deed_at o log n (TakeBatch m) run 
 pub told_by_own : (o : Options) (log : List Entry) (who : Who) (ns : List Notice) → IsRun o (Then (Does who (TellAll ns)) ∷ log) →
     (k : ℕ) × (who ≡ Producer k)
 told_by_own o log (Call t) ns run = absurd (call_takes o log t (TellAll ns) refl run)
+told_by_own o log (Consumer n t) ns run = (let f : is_modest (TellAll ns) ≡ true = server_does o log n t (TellAll ns) run in absurd cc)
 told_by_own o log (Producer k) ns run = (k, refl)

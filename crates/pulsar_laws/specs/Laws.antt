@@ -59,7 +59,7 @@ use Rattle.pulsar_tables.specs.declared.addresses.Series.{Series}
 use Rattle.pulsar_tables.specs.declared.addresses.Series.TheVariants.{Nobody, Runs, Pauses, Serves}
 use Rattle.pulsar_procedures.specs.declared.plan.Plan.{Plan}
 use Rattle.pulsar_procedures.specs.declared.plan.Turn.{Turn}
-use Rattle.pulsar_calls.specs.Content.{Asked, Bytes, Ticked, Poll, Shown, Queued, Write, Hands, Faults, Failed, lacks_tickets, shares}
+use Rattle.pulsar_calls.specs.Content.{Asked, Bytes, Ticked, Said, Shown, Queued, Write, Failed, lacks_tickets, shares}
 use Rattle.pulsar_tables.specs.Effects.{effect_below, is_before3}
 use Rattle.pulsar_tables.specs.Links.{Change, Remains, Becomes, IsOver, arrival, call_of, closed_by, line_places, new_places}
 use Rattle.pulsar_calls.specs.Content.{numbers_from}

@@ -53,7 +53,7 @@ fn calls_get_tickets(rt: HostRuntime) -> Result<(), Fail> {
 }
 
 /// The effects of each event.
-fn driven(alloc: Global, events: &[Event]) -> Result<Vec<Vec<Effect>>, NoMemory> {
+pub fn driven(alloc: Global, events: &[Event]) -> Result<Vec<Vec<Effect>>, NoMemory> {
     let options = options(String::from_str(alloc, LOCAL)?, Vec::new(alloc));
     Pulsar::drive(alloc, options, events)
 }

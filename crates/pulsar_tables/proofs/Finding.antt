@@ -1,5 +1,5 @@
 -- Those that are found, by a number or on a link: what is done to them is done to all, and what they give all give.
-use Rattle.std.proofs.Common.{◌≡◌, ◌∙◌, ℕ, ◌==◌, ◌&&◌, ◌||◌, ◌++◌, not, sym, ap, refl, List, [], ◌∷◌, filter, Bool, true, false, cond, Option, Some, None, inl, inr}
+use Rattle.std.proofs.Common.{◌≡◌, ◌↔◌, ◌∙◌, ℕ, ◌==◌, ◌&&◌, ◌||◌, ◌++◌, not, sym, ap, refl, List, [], ◌∷◌, filter, Bool, true, false, cond, Option, Some, None, inl, inr}
 use Rattle.std.proofs.lemmas.Bool.{cases_Bool, eq-eqb, eqb-true, false≢true, and_from, and_parts, or_right}
 use Rattle.std.specs.BTreeMap.{BTreeMap, IsOrdered, get, keys}
 use Rattle.std.specs.BTreeSet.{BTreeSet}
@@ -11,7 +11,7 @@ use Rattle.pulsar_requests.proofs.Awaiting.{is_at-eqb}
 use Rattle.pulsar_consumer.specs.Topic as topic
 use Rattle.pulsar_consumer.specs.Topic.{is_ended, link_of, lives_on}
 use Rattle.pulsar_tables.specs.declared.consumers.row.ConsumerRow.{ConsumerRow}
-use Rattle.pulsar_tables.specs.Consumers.{Member, at_row, has_built, has_number, lives_at, lives_with}
+use Rattle.pulsar_tables.specs.Consumers.{IsHeard, Member, at_row, has_built, has_number, lives_at, lives_with}
 use Rattle.pulsar_tables.specs.KeptConsumers.{AreListed, is_known, is_listed, listed_at, member_in, rows_in, some_changed}
 use Rattle.pulsar_tables.proofs.Hearing.{filtered, same_gives}
 use Rattle.pulsar_tables.proofs.Places.{listed_is, swapped}
@@ -139,6 +139,13 @@ some_of n (Some m) h = refl
 built_has : (n : ℕ) (row : Option Member) → has_built n row ≡ true → has_number n row ≡ true
 built_has n None h = h
 built_has n (Some m) h = (and_parts (not m.seen.is_raw) (has_number n (Some m)) h).1
+
+-- whether one lives on a link
+pub one_lives : (l : ℕ) (rows : BTreeMap ℕ ConsumerRow) → (list_any (λ t. lives_at l (rows_in rows t)) (keys rows) ≡ true) ↔ IsHeard l (rows_in rows)
+one_lives l rows = (
+  some_one (λ t. lives_at l (rows_in rows t)) (keys rows),
+  λ one. any_in (λ t. lives_at l (rows_in rows t)) one.0 (keys rows) one.1 (keyed rows one.0 (there_is l (rows_in rows one.0) one.1)),
+)
 
 -- by a number: whether one that has not ended has it, and whether one that was built has it
 pub having : (n : ℕ) (listing : BTreeMap ℕ (BTreeSet ℕ)) (rows : BTreeMap ℕ ConsumerRow) → AreListed listing (rows_in rows) →

@@ -1,6 +1,7 @@
 -- Consumers that are found by their numbers, or by a link: what is done to them is done to all, and what they give all give.
 use Rattle.std.proofs.Common.{◌≡◌, ◌∙◌, ℕ, suc, ◌+◌, ◌<◌, ◌==◌, ◌&&◌, not, sym, ap, refl, arith, List, [], ◌∷◌, ◌++◌, filter, Bool, true, false, cond, Option, Some, None, inl, inr}
 use Rattle.std.proofs.lemmas.Bool.{cases_Bool, eqb-true, false≢true, and_parts}
+use Rattle.std.proofs.lemmas.List.{append-nil}
 use Rattle.std.specs.BTreeMap.{is_at}
 use Rattle.std.specs.List.{flat_map, list_any}
 use Rattle.std.specs.List.Sorted.{IsStrictlySortedBy}
@@ -9,6 +10,10 @@ use Rattle.std.specs.Ordering.{nat_cmp}
 use Rattle.pulsar_requests.proofs.Awaiting.{is_at-eqb}
 use Rattle.pulsar_link.specs.Messages.{Reply, is_body}
 use Rattle.pulsar_calls.specs.declared.act.Arrival.TheVariants.{Gives}
+use Rattle.pulsar_calls.specs.declared.act.Notice.{Notice}
+use Rattle.pulsar_calls.specs.declared.act.Outcome.TheVariants as outcome
+use Rattle.pulsar_calls.specs.declared.act.Who.TheVariants.{Consumer}
+use Rattle.pulsar_calls.specs.declared.act.Word.{Word}
 use Rattle.pulsar_calls.specs.declared.act.Word.TheVariants as word
 use Rattle.pulsar_consumer.specs.Frames.{frame_in}
 use Rattle.pulsar_consumer.specs.Topic as topic
@@ -16,7 +21,8 @@ use Rattle.pulsar_consumer.specs.Topic.{Hears, Ends, Loses, is_due as is_flow_du
 use Rattle.pulsar_consumer.specs.declared.polled.Ending.TheVariants.{Closed, TopicEnded}
 use Rattle.pulsar_tables.specs.Consumers.{Consumers, Member, all_changed, at_row, closes, ends_on, hears, hears_frame, lives_at, lives_with, member_after, word_if, word_of_close, word_of_frame}
 use Rattle.pulsar_tables.specs.KeptConsumers.{is_listed}
-use Rattle.pulsar_tables.specs.Reading.{heard_at, word_to}
+use Rattle.pulsar_tables.specs.Reading.{heard_at, notice, word_to}
+use Rattle.pulsar_tables.proofs.Numbered.{frame_number}
 use Rattle.pulsar_tables.proofs.Places.{by_keys}
 
 -- TWO LISTS OF TICKETS
@@ -157,6 +163,16 @@ module _ (n l : ℕ) where
       by true = refl
       by false = refl
 
+-- where no consumer is named, none is closed
+module _ (l : ℕ) where
+  pub none_named : (is_asked : Bool) (t : ℕ) (m : Member) → word_to t m (word_of_close None l is_asked m) ≡ []
+  none_named true t m = refl
+  none_named false t m = refl
+
+  pub same_unnamed : (is_asked : Bool) (m : Member) → closes None l is_asked m ≡ m
+  same_unnamed true m = refl
+  same_unnamed false m = refl
+
 -- WHAT TELLS NOBODY ANYTHING, AND CHANGES NOTHING
 
 pub over_none : {A : Type 0} (f : ℕ → Member → List A) → ((t : ℕ) (m : Member) → f t m ≡ []) → (rows : ℕ → Option Member) (ts : List ℕ) →
@@ -184,3 +200,16 @@ all_same f same cs i = record {
 -- what is seen of consumers, part by part
 pub consumers_are : (a b : Consumers) → ((t : ℕ) → a.rows t ≡ b.rows t) → a.tickets ≡ b.tickets → a.held ≡ b.held → a.named ≡ b.named → a.next ≡ b.next → a ≡ b
 consumers_are a b rows tickets held named next i = record { rows = λ t. rows t i; tickets = tickets i; held = held i; named = named i; next = next i }
+
+-- ONE HEARS A FRAME, and is told what follows by the number that it keeps
+
+abbrev word_as : (ticket number : ℕ) → Option Word → List Notice
+word_as t n w = option_to_list (option_map (λ x. notice (Consumer n t) (outcome.Word x)) w)
+
+pub told_as_before : (l t : ℕ) (r : Reply) (rows : ℕ → Option Member) (old new : Member) (w : Option Word) → Some old ≡ rows t →
+    w ≡ word_of_frame l r old → new ≡ hears_frame l r old → word_to t new w ≡ at_row (λ t m. word_to t m (word_of_frame l r m)) rows t
+told_as_before l t r rows old new w found is becomes =
+    ap (λ n. word_as t n w) (ap (λ m. m.seen.number) becomes ∙ frame_number l r old)
+    ∙ ap (word_to t old) is
+    ∙ sym (append-nil (word_to t old (word_of_frame l r old)))
+    ∙ ap (λ row. flat_map (λ m. word_to t m (word_of_frame l r m)) (option_to_list row)) found

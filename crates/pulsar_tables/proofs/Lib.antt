@@ -12,3 +12,4 @@ pub mod Finding
 pub mod Several
 pub mod Listing
 pub mod Drawing
+pub mod Retaining

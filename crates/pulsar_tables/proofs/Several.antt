@@ -71,7 +71,16 @@ module _ (ts : List ℕ) (x : ℕ) (f : Member → Member) (rows kept new : ℕ 
       flat_map-append (at_row g rows) ts (x ∷ [])
       ∙ ap (λ ys. flat_map (at_row g rows) ts ++ ys) (append-nil (at_row g rows x) ∙ sym (ap (λ row. flat_map (g x) (option_to_list row)) as_before))
 
--- A LIST OF TICKETS IN ORDER, at a place
+-- A LIST OF TICKETS IN ORDER, its front, and at a place
+
+all_front : (P : ℕ → Type 0) (ys zs : List ℕ) → AllByRecursion P (ys ++ zs) → AllByRecursion P ys
+all_front P [] zs h = tt
+all_front P (y ∷ ys) zs h = (h.0, all_front P ys zs h.1)
+
+pub sorted_front : (ys zs : List ℕ) → IsStrictlySortedBy nat_cmp (ys ++ zs) → IsStrictlySortedBy nat_cmp ys
+unfolding IsStrictlySortedBy
+sorted_front [] zs h = tt
+sorted_front (y ∷ ys) zs h = (all_front _ ys zs h.0, sorted_front ys zs h.1)
 
 pub split_at : (xs : List ℕ) (i : ℕ) → i < length xs → xs ≡ take i xs ++ get_or xs i 0 ∷ drop (suc i) xs
 split_at [] i h = absurd (omega (arith, h))

@@ -59,6 +59,7 @@ pub struct Addresses {
 }
 
 impl Addresses {
+    /// Nothing runs for any address.
     pub fn new(alloc: Global) -> Addresses
         ensures bases { (key : List ℕ) → base_at result.bases key ≡ nobody }
         ensures pauses { (l : ℕ) → pause_at result.pauses l ≡ None }

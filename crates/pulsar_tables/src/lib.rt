@@ -1,4 +1,5 @@
-//! What a client keeps: its links, its addresses, its alarms, its producers and its consumers, each as a table that does nothing by itself.
+//! What a client keeps: its links, its addresses, its alarms, its producers and its consumers, each as a table that does nothing
+//! by itself.
 #![tactic(auto)]
 
 pub mod address;

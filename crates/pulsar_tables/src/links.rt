@@ -46,6 +46,7 @@ pub struct Links {
 }
 
 impl Links {
+    /// No link was started.
     pub fn new(alloc: Global) -> Links
         ensures started { result.started ≡ 0 }
         ensures live { (l : ℕ) → live_in result.live l ≡ None }

@@ -41,6 +41,7 @@ pub struct Row {
 }
 
 impl Row {
+    /// A link that is dialed. Nobody has asked on it, and it counts as got now.
     pub fn new(alloc: Global, address: Address, connection: Connection, now: u64) -> Row
         ensures { seat_of result ≡ seat_of_fresh address now connection }
     {

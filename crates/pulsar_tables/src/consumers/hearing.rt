@@ -159,7 +159,8 @@ fn hear_at(
         return Ok(());
     };
     let word = row.hear(alloc, link, reply)?;
-    tell(notices, row, ticket, word)
+    tell(notices, row, ticket, word)?;
+    Ok(())
 }
 
 /// Each of these loses its subscription on a link.

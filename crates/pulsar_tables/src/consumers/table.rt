@@ -3,7 +3,7 @@
 ghost use Rattle.std.specs.Prelude.{◌≡◌, ◌++◌, false, true, IfOk, OnOk, None, Some, IsTrue, ◌↔◌, if◌then◌else◌};
 ghost use Rattle.std.proofs.Props.{props};
 ghost use Rattle.std.specs.BTreeMap.{IsOrdered};
-ghost use Rattle.std.specs.List.{flat_map};
+ghost use Rattle.std.specs.List.{flat_map, list_any};
 ghost use Rattle.std.specs.Option.{is_some, option_copied, option_map, option_to_list};
 ghost use Rattle.std.specs.Ordering.{nat_cmp};
 ghost use Rattle.pulsar_calls.specs.Content.{shown};
@@ -29,7 +29,7 @@ use pulsar_plans::content::Refusal as Failure;
 use pulsar_plans::making::Command;
 use pulsar_wire::error::NoMemory;
 use std::alloc::Global;
-use std::collections::BTreeMap;
+use std::collections::{BTreeMap, BTreeSet};
 use url::Url;
 
 /// The consumers of a client, by the tickets of the calls that made them, and their numbers. Those that have a number are found without a
@@ -118,9 +118,7 @@ impl Consumers {
         ensures heard { result ≡ some_row (meaning.lives_at link) (consumers_in self.now.rows self.now.numbers) }
         ensures one { IsTrue result ↔ IsHeard link (consumers_in self.now.rows self.now.numbers).rows }
     {
-        self.rows
-            .iter()
-            .any(|(_, row)| row.consumer.inner.lives_on(link))
+        any_lives(&self.rows, link)
     }
 
     /// Consumers hear what comes to a link: what they are told.
@@ -186,9 +184,24 @@ impl Consumers {
         ensures after { OnOk result (consumers_in self.new.rows self.new.numbers ≡ all_changed (closes number link is_asked) (consumers_in self.old.rows self.old.numbers)) }
     {
         match number {
-            Some(number) if is_asked => self.close(link, number),
-            _ => Ok(Vec::new(self.alloc)),
+            Some(number) => self.close_if(link, number, is_asked),
+            None => Ok(Vec::new(self.alloc)),
         }
+    }
+
+    fn close_if(
+        &mut self,
+        link: u64,
+        number: u64,
+        is_asked: bool,
+    ) -> Result<Vec<Notice>, NoMemory>
+        ensures notices { IfOk result (λ ns. ns.items ≡ over_rows (λ t m. word_to t m (meaning.word_of_close (Some number) link is_asked m)) (consumers_in self.old.rows self.old.numbers)) }
+        ensures after { OnOk result (consumers_in self.new.rows self.new.numbers ≡ all_changed (closes (Some number) link is_asked) (consumers_in self.old.rows self.old.numbers)) }
+    {
+        if !is_asked {
+            return Ok(Vec::new(self.alloc));
+        }
+        self.close(link, number)
     }
 
     fn close(&mut self, link: u64, number: u64) -> Result<Vec<Notice>, NoMemory>
@@ -381,9 +394,7 @@ impl Consumers {
         ensures { result ≡ some_row (meaning.has_number number) (consumers_in self.now.rows self.now.numbers) }
     {
         match listed(&self.listing, number) {
-            Some(tickets) => tickets
-                .iter()
-                .any(|t| has_number_at(&self.rows, *t, number)),
+            Some(tickets) => any_has(&self.rows, tickets, number),
             None => false,
         }
     }
@@ -406,7 +417,7 @@ impl Consumers {
         ensures { result ≡ some_row (meaning.has_built number) (consumers_in self.now.rows self.now.numbers) }
     {
         match listed(&self.listing, number) {
-            Some(tickets) => tickets.iter().any(|t| is_built_at(&self.rows, *t, number)),
+            Some(tickets) => any_built(&self.rows, tickets, number),
             None => false,
         }
     }
@@ -459,6 +470,20 @@ impl Consumers {
     }
 }
 
+fn any_lives(rows: &BTreeMap<u64, ConsumerRow>, link: u64) -> bool
+    ensures lives { result ≡ list_any (λ e. meaning.lives_at link (Some (member_in e.1))) rows.now.entries }
+    ensures ordered { IsOrdered nat_cmp rows.now }
+{
+    rows.iter()
+        .any(|(_, row)| row.consumer.inner.lives_on(link))
+}
+
+fn any_has(rows: &BTreeMap<u64, ConsumerRow>, tickets: &BTreeSet<u64>, number: u64) -> bool
+    ensures { result ≡ list_any (λ t. meaning.has_number number (rows_in rows.now t)) tickets.now.keys }
+{
+    tickets.iter().any(|t| has_number_at(rows, *t, number))
+}
+
 fn has_number_at(rows: &BTreeMap<u64, ConsumerRow>, ticket: u64, number: u64) -> bool
     ensures { result ≡ meaning.has_number number (rows_in rows.now ticket) }
 {
@@ -466,6 +491,12 @@ fn has_number_at(rows: &BTreeMap<u64, ConsumerRow>, ticket: u64, number: u64) ->
         Some(row) => row.has_number(number),
         None => false,
     }
+}
+
+fn any_built(rows: &BTreeMap<u64, ConsumerRow>, tickets: &BTreeSet<u64>, number: u64) -> bool
+    ensures { result ≡ list_any (λ t. meaning.has_built number (rows_in rows.now t)) tickets.now.keys }
+{
+    tickets.iter().any(|t| is_built_at(rows, *t, number))
 }
 
 fn is_built_at(rows: &BTreeMap<u64, ConsumerRow>, ticket: u64, number: u64) -> bool

@@ -20,7 +20,7 @@ use Rattle.pulsar_calls.specs.declared.act.Outcome.TheVariants as outcome
 use Rattle.pulsar_calls.specs.declared.act.Procedure.{Procedure}
 use Rattle.pulsar_calls.specs.declared.act.Verdict.{Verdict}
 use Rattle.pulsar_calls.specs.declared.act.Who.{Who}
-use Rattle.pulsar_calls.specs.declared.act.Who.TheVariants.{Call, Producer}
+use Rattle.pulsar_calls.specs.declared.act.Who.TheVariants.{Call, Producer, Consumer}
 use Rattle.pulsar_calls.specs.declared.act.Share.{Share}
 use Rattle.pulsar_procedures.specs.declared.plan.At.{At as Spot}
 use Rattle.pulsar_procedures.specs.declared.plan.At.TheVariants as at
@@ -47,6 +47,8 @@ use Rattle.pulsar_laws.proofs.Once.{ends_once_lem}
 use Rattle.pulsar_laws.proofs.Owned.{starts_own}
 use Rattle.pulsar_laws.proofs.Begun.{has_begun}
 use Rattle.pulsar_laws.proofs.Turns.{pend_kept, pending}
+use Rattle.pulsar_laws.proofs.Servers.{server_does}
+use Rattle.pulsar_laws.proofs.Consuming.{is_modest}
 
 none_some : {A : Type 0} {x : A} → None ≡ Some x → ⊥
 none_some {A} {x} h = cc
@@ -400,4 +402,5 @@ own_passing o log m n k run =
 pub passing : (o : Options) (log : List Entry) (who : Who) (n : ℕ) → Every (AllTurns o) log → IsRun o (Then (Does who (PassTurn n)) ∷ log) →
     IsPassing o log who n
 passing o log (Call t) n k run = call_passing o log t n k run
+passing o log (Consumer m t) n k run = (let f : is_modest (PassTurn n) ≡ true = server_does o log m t (PassTurn n) run in absurd cc)
 passing o log (Producer m) n k run = own_passing o log m n k run

@@ -49,6 +49,7 @@ pub mod OfLink
 pub mod Written
 pub mod Lone
 pub mod Polls
+pub mod Ended
 pub mod Deadlines
 pub mod Ticks
 pub mod OneEach

@@ -59,6 +59,7 @@ use Rattle.pulsar_laws.proofs.Once.{ends_once_lem}
 use Rattle.pulsar_laws.proofs.Owned.{batcher_told, batches_begun, starts_own}
 use Rattle.pulsar_client.proofs.Ticketed.{Began}
 use Rattle.pulsar_laws.proofs.Begun.{has_begun}
+use Rattle.pulsar_laws.proofs.Same.{same_self}
 
 -- ALL THAT IS SO ALONG A LOG
 
@@ -420,7 +421,7 @@ owned_in : (Q : ℕ → Type 0) (n : ℕ) (m : Makes) (b : Building) → m ≡ P
 owned_in Q n m b e k i = let s : MakesSound Q (Producer b) = subst (MakesSound Q) e k in in_each Q n (map number_of b.parts) s i
 
 self_same : (t : ℕ) → is_same (Call t) (Call t) ≡ true
-self_same t = grind (arith, nat_tests)
+self_same t = same_self (Call t)
 
 -- a topic producer makes no producer
 no_producer : (o : Options) (log : List Entry) (m : ℕ) (verdict : Verdict) (b : Building) → verdict.makes ≡ Producer b →

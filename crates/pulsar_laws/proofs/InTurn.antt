@@ -49,6 +49,7 @@ use Rattle.pulsar_laws.proofs.Begun.{has_begun}
 use Rattle.pulsar_laws.proofs.Turns.{pend_kept, pending}
 use Rattle.pulsar_laws.proofs.Servers.{server_does}
 use Rattle.pulsar_laws.proofs.Consuming.{is_modest}
+use Rattle.pulsar_laws.proofs.Same.{same_self}
 
 none_some : {A : Type 0} {x : A} → None ≡ Some x → ⊥
 none_some {A} {x} h = cc
@@ -106,7 +107,7 @@ pub record AllTurns (o : Options) (log : List Entry) : Type 0 where
 -- BEFORE A DEED
 
 pub self_same : (t : ℕ) → is_same (Call t) (Call t) ≡ true
-self_same t = grind (arith, nat_tests)
+self_same t = same_self (Call t)
 
 starts_one : (t : ℕ) (p : Procedure) → start_of t (Starts (Call t) p) ≡ 1
 starts_one t p = ap (λ b. cond b 1 0) (self_same t)

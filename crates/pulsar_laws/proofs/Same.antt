@@ -24,3 +24,12 @@ same_who (Consumer m s) (Call t) h = absurd cc
 same_who (Consumer m s) (Producer n) h = absurd cc
 same_who (Producer m) (Call t) h = absurd cc
 same_who (Producer m) (Consumer n t) h = absurd cc
+
+pub same_call : (s t : ℕ) → is_same (Call s) (Call t) ≡ true → s ≡ t
+same_call s t h = eqb-true s t (and_parts (s == t) (s == t) h).0
+
+pub same_producer : (m n : ℕ) → is_same (Producer m) (Producer n) ≡ true → m ≡ n
+same_producer m n h = eqb-true m n (and_parts (m == n) true h).0
+
+pub same_test : (m n : ℕ) → is_same (Producer m) (Producer n) ≡ true → (m == n) ≡ true
+same_test m n h = (and_parts (m == n) true h).0

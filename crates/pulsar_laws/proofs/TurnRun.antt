@@ -52,6 +52,7 @@ use Rattle.pulsar_laws.proofs.Unbatched.{calls_unbatched}
 use Rattle.pulsar_laws.proofs.Turns.{acts_left, all_left, once_none, passes_it, pend_kept, pend_then, pending, sum, takes_it, turn_act, turn_note}
 use Rattle.pulsar_laws.proofs.Servers.{is_server, server_does, server_stands}
 use Rattle.pulsar_laws.proofs.Consuming.{is_modest}
+use Rattle.pulsar_laws.proofs.Same.{same_call, same_producer, same_test}
 
 none_some : {A : Type 0} {x : A} → None ≡ Some x → ⊥
 none_some {A} {x} h = cc
@@ -920,7 +921,7 @@ module _ (o : Options) (log : List Entry) (who : Who) (n : ℕ) (run : IsRun o (
         calls = pass_step
             (λ u. elim (cases_Bool (is_same (Call u) (Call x))) [
               | inl s ↦
-                  (let q : u ≡ x = eqb-true u x s in
+                  (let q : u ≡ x = same_call u x s in
                   let p = pends_next (Call u) in
                   let z : pending o log (Call u) ≡ 0 = subst (λ w. pending o log (Call w) ≡ 0) (sym q) not_told in
                   let f : turn_note (Call u) note ≡ 1 = note_is u s in
@@ -932,7 +933,7 @@ module _ (o : Options) (log : List Entry) (who : Who) (n : ℕ) (run : IsRun o (
                   omega (arith, p, z, f))
             ])
             (λ u one. elim (cases_Bool (is_same (Call u) (Call x))) [
-              | inl s ↦ inr (told_x u (eqb-true u x s))
+              | inl s ↦ inr (told_x u (same_call u x s))
               | inr s ↦ inl (let p = pends_next (Call u) in let z : turn_note (Call u) note ≡ 0 = note_not (Call u) s in omega (arith, p, z, one))
             ]);
         own = own_same (λ m.
@@ -953,7 +954,7 @@ module _ (o : Options) (log : List Entry) (who : Who) (n : ℕ) (run : IsRun o (
       -- it has not had it, but as the one that passes it on
       last_none : (m : ℕ) → is_same (Producer m) (Producer n) ≡ true → pending o log (Producer m) ≡ 0
       last_none m s = at_most_none (pending o log (Producer m))
-          (λ one. pends_apart m one (is_passer m (holds_it (Producer m) m s (k.own.told m one)) s))
+          (λ one. pends_apart m one (is_passer m (holds_it (Producer m) m (same_test m n s) (k.own.told m one)) (same_test m n s)))
 
       last_turns : AllTurns o (Then pass ∷ log)
       last_turns = record {
@@ -967,7 +968,7 @@ module _ (o : Options) (log : List Entry) (who : Who) (n : ℕ) (run : IsRun o (
           held = λ m j p h d. elim (cases_Bool (is_same (Producer m) (Producer n))) [
             | inl s ↦
                 (let w = k.own.held m j p h d in
-                absurd (own_apart m j p h d (is_passer m (holds_it (Producer m) m s w.0) s)))
+                absurd (own_apart m j p h d (is_passer m (holds_it (Producer m) m (same_test m n s) w.0) (same_test m n s))))
             | inr s ↦
                 (let w = k.own.held m j p h d in
                 let q = pends_next (Producer m) in
@@ -989,7 +990,7 @@ module _ (o : Options) (log : List Entry) (who : Who) (n : ℕ) (run : IsRun o (
           ];
           told = λ m one. elim (cases_Bool (is_same (Producer m) (Producer n))) [
             | inl s ↦
-                subst (HasTurn (view o (Then pass ∷ log)) (Producer m)) (sym (eqb-true m n s))
+                subst (HasTurn (view o (Then pass ∷ log)) (Producer m)) (sym (same_producer m n s))
                 (next_held.0, next_held.1, next_held.2 ∙ ap Some (eqb-true x behind_all last))
             | inr s ↦
                 (let q = pends_next (Producer m) in

@@ -1,5 +1,5 @@
 -- Consumers that are found by their numbers, or by a link: what is done to them is done to all, and what they give all give.
-use Rattle.std.proofs.Common.{◌≡◌, ◌∙◌, ℕ, suc, ◌+◌, ◌<◌, ◌==◌, ◌&&◌, not, sym, ap, refl, arith, List, [], ◌∷◌, ◌++◌, filter, Bool, true, false, cond, Option, Some, None, inl, inr}
+use Rattle.std.proofs.Common.{◌≡◌, ◌⊎◌, ◌∙◌, ℕ, suc, ◌+◌, ◌<◌, ◌==◌, ◌&&◌, not, sym, ap, refl, arith, List, [], ◌∷◌, ◌++◌, filter, Bool, true, false, cond, Option, Some, None, inl, inr}
 use Rattle.std.proofs.lemmas.Bool.{cases_Bool, eqb-true, false≢true, and_parts}
 use Rattle.std.proofs.lemmas.List.{append-nil}
 use Rattle.std.specs.BTreeMap.{is_at}
@@ -9,7 +9,9 @@ use Rattle.std.specs.Option.{option_map, option_to_list}
 use Rattle.std.specs.Ordering.{nat_cmp}
 use Rattle.pulsar_requests.proofs.Awaiting.{is_at-eqb}
 use Rattle.pulsar_link.specs.Messages.{Reply, is_body}
-use Rattle.pulsar_calls.specs.declared.act.Arrival.TheVariants.{Gives}
+use Rattle.pulsar_session.specs.Failures.{Fault}
+use Rattle.pulsar_calls.specs.declared.act.Arrival.{Arrival}
+use Rattle.pulsar_calls.specs.declared.act.Arrival.TheVariants.{Bad, Gives, Nothing, Passes, Readied, Settles}
 use Rattle.pulsar_calls.specs.declared.act.Notice.{Notice}
 use Rattle.pulsar_calls.specs.declared.act.Outcome.TheVariants as outcome
 use Rattle.pulsar_calls.specs.declared.act.Who.TheVariants.{Consumer}
@@ -162,6 +164,25 @@ module _ (n l : ℕ) where
       by : (b : Bool) → cond b (Some (member_after (Ends Closed) m)) (Some m) ≡ Some (cond b (member_after (Ends Closed) m) m)
       by true = refl
       by false = refl
+
+-- what is no frame for a consumer tells none anything
+abbrev pub Quiet : Arrival → Type 0
+Quiet a = (a ≡ Nothing) ⊎ ((a ≡ Readied) ⊎ ((a ≡ Settles) ⊎ ((a ≡ Passes) ⊎ ((cause : Fault) × (a ≡ Bad cause)))))
+
+module _ (l : ℕ) (a : Arrival) where
+  pub quiet_told : Quiet a → (t : ℕ) (m : Member) → heard_at l a t m ≡ []
+  quiet_told (inl e) t m = ap (λ x. heard_at l x t m) e
+  quiet_told (inr (inl e)) t m = ap (λ x. heard_at l x t m) e
+  quiet_told (inr (inr (inl e))) t m = ap (λ x. heard_at l x t m) e
+  quiet_told (inr (inr (inr (inl e)))) t m = ap (λ x. heard_at l x t m) e
+  quiet_told (inr (inr (inr (inr e)))) t m = ap (λ x. heard_at l x t m) e.1
+
+  pub quiet_same : Quiet a → (m : Member) → hears l a m ≡ m
+  quiet_same (inl e) m = ap (λ x. hears l x m) e
+  quiet_same (inr (inl e)) m = ap (λ x. hears l x m) e
+  quiet_same (inr (inr (inl e))) m = ap (λ x. hears l x m) e
+  quiet_same (inr (inr (inr (inl e)))) m = ap (λ x. hears l x m) e
+  quiet_same (inr (inr (inr (inr e)))) m = ap (λ x. hears l x m) e.1
 
 -- where no consumer is named, none is closed
 module _ (l : ℕ) where

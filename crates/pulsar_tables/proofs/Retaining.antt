@@ -16,13 +16,16 @@ module _ {F : Type 0} (T : F → ℕ → ConsumerRow → Bool → ConsumerRow �
       let here = does f e.0 e.1 r.0 r.1 r.2 r.4 in
       ap keys_of (r.6 ∙ ap (λ b. cond b ((e.0, r.1) ∷ r.3) r.3) here.0) ∙ ap (λ ks. e.0 ∷ ks) (keys_stay r.2 es r.3 r.5)
 
+  changed_by : (v w : ConsumerRow) (old new : Option ConsumerRow) → member_in w ≡ g (member_in v) →
+      option_map member_in new ≡ option_map g (option_map member_in old) → (b : Bool) →
+      option_map member_in (cond b (Some w) new) ≡ option_map g (option_map member_in (cond b (Some v) old))
+  changed_by v w old new here others true = ap Some here
+  changed_by v w old new here others false = others
+
   pub each_changed : (test : ℕ → Bool) (f : F) (es kept : List (ℕ × ConsumerRow)) → RetainsPairs T f es kept →
       option_map member_in (lookup test kept) ≡ option_map g (option_map member_in (lookup test es))
   each_changed test f [] kept r = ap (λ xs. option_map member_in (lookup test xs)) r
-  each_changed test f (e ∷ es) kept r = ap (λ xs. option_map member_in (lookup test xs)) (r.6 ∙ ap (λ b. cond b ((e.0, r.1) ∷ r.3) r.3) here.0) ∙ by (test e.0)
-    where
-      here : (r.0 ≡ true) × (member_in r.1 ≡ g (member_in e.1))
-      here = does f e.0 e.1 r.0 r.1 r.2 r.4
-      by : (b : Bool) → option_map member_in (cond b (Some r.1) (lookup test r.3)) ≡ option_map g (option_map member_in (cond b (Some e.1) (lookup test es)))
-      by true = ap Some here.1
-      by false = each_changed test r.2 es r.3 r.5
+  each_changed test f (e ∷ es) kept r =
+      let here = does f e.0 e.1 r.0 r.1 r.2 r.4 in
+      ap (λ xs. option_map member_in (lookup test xs)) (r.6 ∙ ap (λ b. cond b ((e.0, r.1) ∷ r.3) r.3) here.0)
+      ∙ changed_by e.1 r.1 (lookup test es) (lookup test r.3) here.1 (each_changed test r.2 es r.3 r.5) (test e.0)

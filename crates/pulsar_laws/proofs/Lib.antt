@@ -50,6 +50,8 @@ pub mod Written
 pub mod Lone
 pub mod Polls
 pub mod Ended
+pub mod Mild
+pub mod Acks
 pub mod Deadlines
 pub mod Ticks
 pub mod OneEach

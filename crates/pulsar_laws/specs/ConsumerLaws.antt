@@ -3,6 +3,9 @@ use Rattle.std.specs.Prelude.{◌≡◌, ℕ, ◌+◌, ◌-◌, ◌≤◌, ◌==
 use Rattle.std.specs.List.{flat_map, sum}
 use Rattle.std.specs.Option.{is_some, option_or}
 use Rattle.url.specs.Parts.{Parts}
+use Rattle.pulsar_messages.specs.Words as words
+use Rattle.pulsar_messages.specs.Words.{Words}
+use Rattle.pulsar_run.specs.Laws.{InThisStep}
 use Rattle.pulsar_session.specs.Failures.{Fault}
 use Rattle.pulsar_link.specs.Items.{Item, Given, Faulty}
 use Rattle.pulsar_link.specs.Messages.{Reply, is_body}
@@ -14,7 +17,7 @@ use Rattle.pulsar_consumer.specs.Topic.{Act as Done, Lives, Hears, Loses, Fails,
 use Rattle.pulsar_consumer.specs.declared.polled.Ending.{Ending}
 use Rattle.pulsar_consumer.specs.declared.polled.Ending.TheVariants.{Closed, TopicEnded, Stopped}
 use Rattle.pulsar_calls.specs.declared.act.Act.{Act}
-use Rattle.pulsar_calls.specs.declared.act.Act.TheVariants.{Comes, Does, Answers}
+use Rattle.pulsar_calls.specs.declared.act.Act.TheVariants.{Comes, Starts, Does, Answers}
 use Rattle.pulsar_calls.specs.declared.act.Action.TheVariants.{Ask, TakeFlow, Revive, FailConsumer, StopAll}
 use Rattle.pulsar_calls.specs.declared.act.Arrival.{Arrival}
 use Rattle.pulsar_calls.specs.declared.act.Arrival.TheVariants.{Nothing, Readied, Settles, Gives, Passes, Bad}
@@ -22,13 +25,18 @@ use Rattle.pulsar_calls.specs.declared.act.LinkAct.TheVariants.{Reads, Ends}
 use Rattle.pulsar_calls.specs.declared.act.Makes.{Makes}
 use Rattle.pulsar_calls.specs.declared.act.Makes.TheVariants as makes
 use Rattle.pulsar_calls.specs.declared.act.Part.TheVariants.{ToLink, Polls}
+use Rattle.pulsar_calls.specs.declared.act.Procedure.{Procedure}
+use Rattle.pulsar_calls.specs.declared.act.Who.{Who}
 use Rattle.pulsar_calls.specs.declared.act.Who.TheVariants.{Call}
-use Rattle.pulsar_calls.specs.Content.{Poll, Shown, Hands, Faults}
+use Rattle.pulsar_calls.specs.Content as content
+use Rattle.pulsar_calls.specs.Content.{Asked, Poll, Shown, Hands, Faults}
 use Rattle.pulsar_calls.specs.Who.{is_same, ticket_of}
 use Rattle.pulsar_tables.specs.Consumers as consumer
 use Rattle.pulsar_tables.specs.Consumers.{Member, is_closed_by}
 use Rattle.pulsar_tables.specs.View.{Options, Seat, View, answer_at, arrival_at, closing, is_asked, setup_of, url_at}
+use Rattle.pulsar_tables.specs.Rules.{call_part}
 use Rattle.pulsar_client.specs.Run.{Entry, Begins, Then, IsRun, Step, steps, view}
+use Rattle.pulsar_laws.specs.Laws.{counted}
 
 -- WHAT IS DONE TO A CONSUMER
 
@@ -199,3 +207,66 @@ PermitsAreKept = (o : Options) (log : List Entry) (t : ℕ) (m : Member) (l : Li
     × (IsFinished s (done_to o t log) → half (batch_size m.seen.config) ≤ l.level - l.weight)
     × (l.level + weights (begun s (done_to o t log))
     ≡ l.weight + (asked_since s (done_to o t log) + sum l.due) + weighed_before s (done_to o t log))
+
+-- ACKNOWLEDGEMENTS
+
+abbrev pub is_ack : Words → Bool
+is_ack words.SendPing = false
+is_ack words.SendPong = false
+is_ack (words.AuthChallenge auth) = false
+is_ack (words.LookupTopic topic authoritative) = false
+is_ack (words.LookupPartitionedTopic topic) = false
+is_ack (words.GetTopicsOfNamespace namespace mode) = false
+is_ack (words.GetSchema topic version) = false
+is_ack (words.CreateProducer topic producer name options) = false
+is_ack (words.Send producer name sequence message block) = false
+is_ack (words.CloseProducer producer) = false
+is_ack (words.Subscribe topic subscription sub_type consumer name options) = false
+is_ack (words.SendFlow consumer permits) = false
+is_ack (words.SendAck consumer ids cumulative) = true
+is_ack (words.SendRedeliver consumer ids) = false
+is_ack (words.Seek consumer id time) = false
+is_ack (words.GetLastMessageId consumer) = false
+is_ack (words.GetConsumerStats consumer) = false
+is_ack (words.Unsubscribe consumer) = false
+is_ack (words.CloseConsumer consumer) = false
+is_ack (words.CloseConsumerUnawaited consumer) = false
+
+-- a call of the user asks for it: to acknowledge a message of a consumer, by its number and on the link of its live subscription; or for just this
+-- frame on this link
+abbrev pub Licenses : View → Asked → (link : ℕ) → Words → Type 0
+Licenses v (content.Ack t name id cumulative) l r =
+    (m : Member) × (v.consumers.rows t ≡ Some m) × (link_of m.seen ≡ Some l) × (r ≡ words.SendAck m.seen.number (id ∷ []) cumulative)
+Licenses v (content.Raw k request) l r = (l ≡ k) × (r ≡ request)
+Licenses v content.Build l r = ⊥
+Licenses v content.Stop l r = ⊥
+Licenses v (content.Topics namespace mode) l r = ⊥
+Licenses v (content.Lookup topic) l r = ⊥
+Licenses v (content.Partitions topic) l r = ⊥
+Licenses v (content.Brokers topic) l r = ⊥
+Licenses v (content.Producer wanted) l r = ⊥
+Licenses v (content.Send t m) l r = ⊥
+Licenses v (content.SendAll t ms) l r = ⊥
+Licenses v (content.Flush t) l r = ⊥
+Licenses v (content.CheckProducer t) l r = ⊥
+Licenses v (content.CloseProducer t) l r = ⊥
+Licenses v (content.Consumer wanted) l r = ⊥
+Licenses v (content.Nack t name id) l r = ⊥
+Licenses v (content.CloseConsumer t) l r = ⊥
+
+-- Each frame that acknowledges is asked for as the first of a call, in the step in which the user makes that call, which asks for just this; and for
+-- each call at most one is asked for. So none is asked for that the user did not ask for, and none twice for one call.
+abbrev pub LicensedBy : Options → (ticket link : ℕ) → Words → Entry → List Entry → Type 0
+LicensedBy o t l r e older =
+    (asked : Asked) × (e ≡ Then (Comes (call_part o.policies (view o older) asked))) × (t ≡ (view o older).calls.drawn) × Licenses (view o older) asked l r
+
+abbrev pub AcksAreLicensed : Type 0
+AcksAreLicensed = (o : Options) (log : List Entry) (who : Who) (l : ℕ) (r : Words) → IsRun o (Then (Does who (Ask l r)) ∷ log) → is_ack r ≡ true →
+    (t : ℕ) × (p : Procedure) × (older : List Entry) × (who ≡ Call t) × (log ≡ Then (Starts who p) ∷ older) × InThisStep (LicensedBy o t l r) older
+
+abbrev pub ack_of : (ticket : ℕ) → Act → ℕ
+ack_of t (Does who (Ask l r)) = if is_same (Call t) who && is_ack r then 1 else 0
+ack_of t _ = 0
+
+abbrev pub AcksOnce : Type 0
+AcksOnce = (o : Options) (log : List Entry) (t : ℕ) → IsRun o log → counted (ack_of t) log ≤ 1

@@ -1,6 +1,6 @@
 //! What follows of consumers from the definition of a good run: each contract is a law, and its body is empty.
 
-ghost use Rattle.pulsar_laws.specs.ConsumerLaws.{ConsumersAlone, ConsumersEnd, ConsumersRemain, PermitsAreKept, PollsAreAnswered, PollsFollow};
+ghost use Rattle.pulsar_laws.specs.ConsumerLaws.{AcksAreLicensed, AcksOnce, ConsumersAlone, ConsumersEnd, ConsumersRemain, PermitsAreKept, PollsAreAnswered, PollsFollow};
 
 /// A consumer is what was done to it since it was made, and nothing else.
 pub fn consumers_alone()
@@ -27,4 +27,10 @@ pub fn consumers_end()
 /// What remains of the permits of a live subscription is within its bounds.
 pub fn permits_are_kept()
     ensures { PermitsAreKept }
+{}
+
+/// A frame that acknowledges is asked for by a call for just this, and at most once for each.
+pub fn acks_are_licensed()
+    ensures licensed { AcksAreLicensed }
+    ensures once { AcksOnce }
 {}

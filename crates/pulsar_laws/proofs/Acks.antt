@@ -29,7 +29,7 @@ use Rattle.pulsar_calls.specs.declared.act.Act.TheVariants.{Comes, Starts, Told,
 use Rattle.pulsar_calls.specs.declared.act.Action.{Action}
 use Rattle.pulsar_calls.specs.declared.act.Action.TheVariants.{Ask, Recall, RecallConsumer}
 use Rattle.pulsar_calls.specs.declared.act.Arrival.{Arrival}
-use Rattle.pulsar_calls.specs.declared.act.Arrival.TheVariants.{Nothing, Readied, Settles, Gives, Passes, Bad}
+use Rattle.pulsar_calls.specs.declared.act.Arrival.TheVariants as arrival
 use Rattle.pulsar_calls.specs.declared.act.Notice.{Notice}
 use Rattle.pulsar_calls.specs.declared.act.Outcome.{Outcome}
 use Rattle.pulsar_calls.specs.declared.act.Outcome.TheVariants as outcome
@@ -321,7 +321,7 @@ frame_none l r m =
     (either_none (is_body 16 r.content.body) _ _ (if_none _ word.Lost tt) tt))
 
 heard_none : (l : ℕ) (a : Arrival) (m : Member) → NoRecall (word_of l a m)
-heard_none l (Gives number reply) m = either_none (m.seen.number == number) _ _ (frame_none l reply m) tt
+heard_none l (arrival.Gives number reply) m = either_none (m.seen.number == number) _ _ (frame_none l reply m) tt
 heard_none l _ m = tt
 
 loss_none : (l : ℕ) (cause : Option Fault) (m : Member) → NoRecall (word_of_loss l cause m)

@@ -37,11 +37,11 @@ use Rattle.pulsar_laws.proofs.Lone.{IsKept, IsMade, IsNone, RowFrom, applied, be
 none_some : {A : Type 0} {x : A} → None ≡ Some x → ⊥
 none_some {A} {x} h = cc
 
-or_false : (b : Bool) → b ≡ b || false
+or_false : (b : Bool) → b ≡ (b || false)
 or_false true = refl
 or_false false = refl
 
-or_true : (b : Bool) → true ≡ b || true
+or_true : (b : Bool) → true ≡ (b || true)
 or_true true = refl
 or_true false = refl
 
@@ -56,32 +56,32 @@ closes_at (Over why) s = true
 closes_at (Polled clock) s = false
 closes_at Asks s = false
 
-same_end : (b : Bool) (v w : Seen) → w.ended ≡ v.ended → is_ended (cond b w v) ≡ is_ended v || false
+same_end : (b : Bool) (v w : Seen) → w.ended ≡ v.ended → is_ended (cond b w v) ≡ (is_ended v || false)
 same_end true v w e = ap is_some e ∙ or_false (is_ended v)
 same_end false v w e = or_false (is_ended v)
 
-ended_or : (x : Option Ending) (why : Ending) → is_some (option_or x (Some why)) ≡ is_some x || true
+ended_or : (x : Option Ending) (why : Ending) → is_some (option_or x (Some why)) ≡ (is_some x || true)
 ended_or None why = refl
 ended_or (Some y) why = refl
 
-loses_end : (v : Seen) → is_ended (loses v) ≡ is_ended v || v.is_raw
+loses_end : (v : Seen) → is_ended (loses v) ≡ (is_ended v || v.is_raw)
 loses_end v = by v.is_raw
   where
-    by : (b : Bool) → is_ended (cond b (reader.ends LinkLost v) (record v { engine = record v.engine { live = None } })) ≡ is_ended v || b
+    by : (b : Bool) → is_ended (cond b (reader.ends LinkLost v) (record v { engine = record v.engine { live = None } })) ≡ (is_ended v || b)
     by true = ended_or v.ended LinkLost
     by false = or_false (is_ended v)
 
-lost_end : (b : Bool) (v : Seen) → is_ended (cond b (loses v) v) ≡ is_ended v || (b && v.is_raw)
+lost_end : (b : Bool) (v : Seen) → is_ended (cond b (loses v) v) ≡ (is_ended v || (b && v.is_raw))
 lost_end true v = loses_end v
 lost_end false v = or_false (is_ended v)
 
-fails_end : (b : Bool) (v w : Seen) → is_ended v ≡ b → is_ended w ≡ is_ended v || true → is_ended (cond b v w) ≡ is_ended v || true
+fails_end : (b : Bool) (v w : Seen) → is_ended v ≡ b → is_ended w ≡ (is_ended v || true) → is_ended (cond b v w) ≡ (is_ended v || true)
 fails_end true v w e f = e ∙ or_true (is_ended v)
 fails_end false v w e f = f
 
-after_ends : (act : Done) (s : Seen) → is_ended (after act s) ≡ is_ended s || closes_at act s
+after_ends : (act : Done) (s : Seen) → is_ended (after act s) ≡ (is_ended s || closes_at act s)
 after_ends (Lives l url) s =
-    elim (is_ended s) as (λ b. is_ended (cond b s (record s { engine = record s.engine { live = Some (reader.subscribed s.engine.batch l url) } })) ≡ is_ended s || false)
+    elim (is_ended s) as (λ b. is_ended (cond b s (record s { engine = record s.engine { live = Some (reader.subscribed s.engine.batch l url) } })) ≡ (is_ended s || false))
     [ true ↦ or_false (is_ended s) | false ↦ or_false (is_ended s) ]
 after_ends (Hears l f) s = same_end (lives_on l s) s (record s { engine = reader.hears f s.engine }) refl
 after_ends (Loses l) s = lost_end (lives_on l s) s
@@ -94,7 +94,7 @@ after_ends Asks s = or_false (is_ended s)
 
 -- one act or none
 abbrev EndsSo : List Done → Seen → Bool → Type 0
-EndsSo xs s b = is_ended (applied xs s) ≡ is_ended s || b
+EndsSo xs s b = is_ended (applied xs s) ≡ (is_ended s || b)
 
 none_ends : (s : Seen) → EndsSo [] s false
 none_ends s = or_false (is_ended s)
@@ -161,7 +161,7 @@ made_open l (Some url) s = refl
 
 module _ (once : EndsOnce) (o : Options) (t : ℕ) (un : is_spent t ≡ false) where
   has_more : (log : List Entry) (a : Act) (row : Option Member) → (view o log).consumers.rows t ≡ row →
-      has_ended o t (Then a ∷ log) ≡ has_ended o t log || ends_at (view o log) t row a
+      has_ended o t (Then a ∷ log) ≡ (has_ended o t log || ends_at (view o log) t row a)
   has_more log a row e = ap (λ r. has_ended o t log || ends_at (view o log) t r a) e
 
   ended_on : (log : List Entry) (a : Act) → RowFrom o log a t → EndedAt o log t ((view o log).consumers.rows t) →

@@ -358,34 +358,34 @@ SaysSo who word.Over (FailConsumer f) v = Unit {0}
 SaysSo who _ _ v = ⊥
 
 -- this one is the plan of a consumer
-abbrev pub Serves : View → Who → (ticket : ℕ) → Member → Type 0
-Serves v who t m = (v.consumers.rows t ≡ Some m) × (who ≡ consumer.who_of t m)
+abbrev pub IsServedAs : View → Who → (ticket : ℕ) → Member → Type 0
+IsServedAs v who t m = (v.consumers.rows t ≡ Some m) × (who ≡ consumer.who_of t m)
 
 -- its consumer hears a frame that says so, loses its subscription with the link, or is closed where that is asked for
 abbrev pub HearsSo : Options → Who → Word → Entry → List Entry → Type 0
 HearsSo o who w e older =
-    (l t : ℕ) × (m : Member) × (e ≡ Then (Comes (ToLink l Reads))) × Serves (view o older) who t m
+    (l t : ℕ) × (m : Member) × (e ≡ Then (Comes (ToLink l Reads))) × IsServedAs (view o older) who t m
     × (consumer.word_of l (arrival_at ((view o older).links.live l)) m ≡ Some w)
 
 abbrev pub LosesSo : Options → Who → Word → Entry → List Entry → Type 0
 LosesSo o who w e older =
-    (l t : ℕ) × (end : End) × (m : Member) × (e ≡ Then (Comes (ToLink l (Ends end)))) × Serves (view o older) who t m
+    (l t : ℕ) × (end : End) × (m : Member) × (e ≡ Then (Comes (ToLink l (Ends end)))) × IsServedAs (view o older) who t m
     × (consumer.word_of_loss l (closing end (view o older).now ((view o older).links.live l)) m ≡ Some w)
 
 abbrev pub ClosesSo : Options → Who → Word → Entry → List Entry → Type 0
 ClosesSo o who w e older =
-    (l t : ℕ) × (other : Who) × (request : Words) × (m : Member) × (e ≡ Then (Does other (Ask l request))) × Serves (view o older) who t m
+    (l t : ℕ) × (other : Who) × (request : Words) × (m : Member) × (e ≡ Then (Does other (Ask l request))) × IsServedAs (view o older) who t m
     × (consumer.word_of_close (closed_consumer request) l (is_asked (answer_at (view o older).now request ((view o older).links.live l))) m ≡ Some w)
 
 -- its consumer is polled, or was subscribed again, and a flow of it is due then; or it was built, and its first is
 abbrev pub PolledDue : Options → Who → Entry → List Entry → Type 0
 PolledDue o who e older =
-    (t : ℕ) × (m : Member) × (e ≡ Then (Comes (Polls t))) × Serves (view o older) who t m
+    (t : ℕ) × (m : Member) × (e ≡ Then (Comes (Polls t))) × IsServedAs (view o older) who t m
     × (reader.is_due (reader.after (reader.Polls (view o older).now) m.seen) ≡ true)
 
 abbrev pub RevivedDue : Options → Who → Entry → List Entry → Type 0
 RevivedDue o who e older =
-    (l : ℕ) × (other : Who) × (m : Member) × (e ≡ Then (Does other (Revive l))) × Serves (view o older) who (ticket_of other) m
+    (l : ℕ) × (other : Who) × (m : Member) × (e ≡ Then (Does other (Revive l))) × IsServedAs (view o older) who (ticket_of other) m
     × (reader.is_due (consumer.revived l (url_at ((view o older).links.live l)) m).seen ≡ true)
 
 abbrev pub BuiltDue : Options → Who → Entry → List Entry → Type 0

@@ -169,11 +169,11 @@ module _ (once : EndsOnce) (o : Options) (t : ℕ) (un : is_spent t ≡ false) w
   ended_on log a (IsNone e f) k =
       let was : has_ended o t log ≡ false = subst (EndedAt o log t) e k in
       subst (EndedAt o (Then a ∷ log) t) (sym f) (has_more log a None e ∙ ap (λ b. b || false) was)
-  ended_on log a (IsMade s l e f as did) k =
+  ended_on log a (IsMade s l e f how did) k =
       let was : has_ended o t log ≡ false = subst (EndedAt o log t) e k in
       subst (EndedAt o (Then a ∷ log) t) (sym f)
       (made_open l (url_at ((view o log).links.live l)) s ∙ sym (has_more log a None e ∙ ap (λ b. b || false) was))
-  ended_on log a (IsKept m e r as did) k =
+  ended_on log a (IsKept m e r how did) k =
       let was : is_ended m.seen ≡ has_ended o t log = subst (EndedAt o log t) e k in
       subst (EndedAt o (Then a ∷ log) t) (sym r.is_it)
       (ap is_ended r.seen
@@ -205,8 +205,8 @@ record Grown (o : Options) (later older : List Entry) (t : ℕ) : Type 0 where
 grown_by : (o : Options) (later older : List Entry) (t : ℕ) (a : Act) → Grown o later older t → RowFrom o (later ++ older) a t →
     Grown o (Then a ∷ later) older t
 grown_by o later older t a g (IsNone e f) = absurd (none_some (sym e ∙ g.is_it))
-grown_by o later older t a g (IsMade s l e f as did) = absurd (none_some (sym e ∙ g.is_it))
-grown_by o later older t a g (IsKept m e r as did) = record {
+grown_by o later older t a g (IsMade s l e f how did) = absurd (none_some (sym e ∙ g.is_it))
+grown_by o later older t a g (IsKept m e r how did) = record {
   row = r.row;
   is_it = r.is_it;
   more = does_to (view o (later ++ older)) t m a ++ g.more;
@@ -214,7 +214,7 @@ grown_by o later older t a g (IsKept m e r as did) = record {
       did
           ∙ ap (λ h. does_to (view o (later ++ older)) t m a ++ h) g.done
           ∙ sym (append_assoc (does_to (view o (later ++ older)) t m a) g.more (done_to o t older));
-  made = as ∙ g.made;
+  made = how ∙ g.made;
 }
 
 grows : EndsOnce → (o : Options) (later older : List Entry) (t : ℕ) (m : Member) → is_spent t ≡ false → IsRun o (later ++ older) →

@@ -266,18 +266,18 @@ module _ (o : Options) (log : List Entry) (t : ℕ) where
           ∙ ap (λ b. cond b (making_does v.links.live verdict.makes) (done_to o t log)) e
           ∙ ap (making_does v.links.live) f
 
-      as : (m : Makes) → verdict.makes ≡ m → made_with t (Then (Answers who verdict) ∷ log) ≡ made_as m
-      as m f = ap (λ b. cond b (made_as verdict.makes) (made_with t log)) e ∙ ap made_as f
+      how : (m : Makes) → verdict.makes ≡ m → made_with t (Then (Answers who verdict) ∷ log) ≡ made_as m
+      how m f = ap (λ b. cond b (made_as verdict.makes) (made_with t log)) e ∙ ap made_as f
 
       made_by : (m : Makes) → verdict.makes ≡ m → RowFrom o log (Answers who verdict) t
       made_by (makes.Consumer j) f =
           IsMade (setup_of j) j.link none
           (rows_are (makes.Consumer j) f ∙ joins_here who (member_on v.links.live j.link (setup_of j)) v.consumers t e)
-          (as (makes.Consumer j) f) (did (makes.Consumer j) f)
+          (how (makes.Consumer j) f) (did (makes.Consumer j) f)
       made_by (makes.RawConsumer l made) f =
           IsMade (of_raw made) l none
           (rows_are (makes.RawConsumer l made) f ∙ joins_here who (member_on v.links.live l (of_raw made)) v.consumers t e)
-          (as (makes.RawConsumer l made) f) (did (makes.RawConsumer l made) f)
+          (how (makes.RawConsumer l made) f) (did (makes.RawConsumer l made) f)
       made_by makes.Nothing f = IsNone none (rows_are makes.Nothing f ∙ none)
       made_by makes.Client f = IsNone none (rows_are makes.Client f ∙ none)
       made_by (makes.Producer b) f = IsNone none (rows_are (makes.Producer b) f ∙ none)
@@ -315,11 +315,11 @@ StandsSo o log t m = (s : Setup) × (made_with t log ≡ Some s) × (m.seen ≡ 
 kept_so : (o : Options) (log : List Entry) (a : Act) (t : ℕ) (n : Member) → RowFrom o log a t → (view o (Then a ∷ log)).consumers.rows t ≡ Some n →
     ((u : Member) → (view o log).consumers.rows t ≡ Some u → StandsSo o log t u) → StandsSo o (Then a ∷ log) t n
 kept_so o log a t n (IsNone e f) h more = absurd (none_some (sym f ∙ h))
-kept_so o log a t n (IsMade s l e f as did) h more =
+kept_so o log a t n (IsMade s l e f how did) h more =
     let url : Option Parts = url_at ((view o log).links.live l) in
     let same : member_on (view o log).links.live l s ≡ n = (let g : Some (member_on (view o log).links.live l s) ≡ Some n = sym f ∙ h in cc) in (
       s,
-      as,
+      how,
       sym (ap (λ x. x.seen) same)
           ∙ subscription_done l url (record { seen = fresh s; seekers = [] })
           ∙ sym (seen_first s (subscription_does l url))
@@ -329,11 +329,11 @@ kept_so o log a t n (IsMade s l e f as did) h more =
     seen_first : (s : Setup) (xs : List Done) → seen s xs ≡ applied xs (fresh s)
     seen_first s [] = refl
     seen_first s (x ∷ xs) = ap (after x) (seen_first s xs)
-kept_so o log a t n (IsKept u e r as did) h more =
+kept_so o log a t n (IsKept u e r how did) h more =
     let k = more u e in
     let same : r.row ≡ n = (let g : Some r.row ≡ Some n = sym r.is_it ∙ h in cc) in (
       k.0,
-      as ∙ k.1,
+      how ∙ k.1,
       sym (ap (λ x. x.seen) same)
           ∙ r.seen
           ∙ ap (applied (does_to (view o log) t u a)) k.2

@@ -182,12 +182,18 @@ module _ (o : Options) (log : List Entry) (a : Act) (t : ℕ) (k : Few o log t) 
 abbrev between : (t from to : ℕ) → ℕ
 between t from to = cond (nat_le from t && nat_lt t to) 1 0
 
+twice : (b : Bool) → cond (b && b) 1 0 ≡ cond b 1 0
+twice true = refl
+twice false = refl
+
 shares_few : (t : ℕ) (o : Chosen) (ps : Producers) (of ticket : ℕ) (advice : List (Option ℕ)) (u : ℕ) (ms : List ProducerMessageValues) →
     due (start_of t) (shares_of o ps of ticket advice u ms) ≤ between t ticket (ticket + length ms)
 shares_few t o ps of ticket advice u [] = omega arith
 shares_few t o ps of ticket advice u (m ∷ ms) =
     let k = shares_few t o (routed u m ps) of (ticket + 1) (drop 1 advice) u ms in
-    one_more t ticket (length ms) (due (start_of t) (shares_of o (routed u m ps) of (ticket + 1) (drop 1 advice) u ms)) k
+    subst (λ x. x + due (start_of t) (shares_of o (routed u m ps) of (ticket + 1) (drop 1 advice) u ms) ≤ between t ticket (ticket + suc (length ms)))
+    (sym (twice (t == ticket)))
+    (one_more t ticket (length ms) (due (start_of t) (shares_of o (routed u m ps) of (ticket + 1) (drop 1 advice) u ms)) k)
   where
     one_more : (t n k d : ℕ) → d ≤ between t (n + 1) (n + 1 + k) → cond (t == n) 1 0 + d ≤ between t n (n + suc k)
     one_more t n k d h = grind (arith, nat_tests, common_steps)
@@ -203,9 +209,14 @@ parts_few t v advice (content.SendAll u ms) = unless_few t (why_no_sends v.calls
 parts_few t v advice _ = omega arith
 
 -- so what starts is no more than what is drawn
-next_few : (t n k b d p : ℕ) → b + (0 + d) ≤ cond (nat_lt t n) 1 0 → p ≤ between t (n + 1) (n + 1 + k) →
+next_one : (t n k b d p : ℕ) → b + (0 + d) ≤ cond (nat_lt t n) 1 0 → p ≤ between t (n + 1) (n + 1 + k) →
     (b + 0) + ((cond (t == n) 1 0 + p) + d) ≤ cond (nat_lt t (n + 1 + k)) 1 0
-next_few t n k b d p h few = grind (arith, nat_tests, common_steps)
+next_one t n k b d p h few = grind (arith, nat_tests, common_steps)
+
+next_few : (t n k b d p : ℕ) → b + (0 + d) ≤ cond (nat_lt t n) 1 0 → p ≤ between t (n + 1) (n + 1 + k) →
+    (b + 0) + ((cond ((t == n) && (t == n)) 1 0 + p) + d) ≤ cond (nat_lt t (n + 1 + k)) 1 0
+next_few t n k b d p h few =
+    subst (λ x. (b + 0) + ((x + p) + d) ≤ cond (nat_lt t (n + 1 + k)) 1 0) (sym (twice (t == n))) (next_one t n k b d p h few)
 
 -- none of it ends
 start_end : (t from to : ℕ) (a : Act) → StartsIn from to a → end_of t a ≡ 0
@@ -237,7 +248,7 @@ calls_on o log asked advice t k fits =
       | inl e ↦ record {
         begun = rw ds (rw e (omega (arith, b)));
         ended = λ low. (let c = ended_before o log a t k fits low in
-            rw (ds, de) (rw e (late_end (t == (2 ^ 64 - 1)) (counted (end_of t) log) (due (start_of t) xs) (due (end_of t) xs) (alive (v.stand (Call t)))
+            rw (ds, de) (rw e (late_end (is_same (Call t) (Call (2 ^ 64 - 1))) (counted (end_of t) log) (due (start_of t) xs) (due (end_of t) xs) (alive (v.stand (Call t)))
             (drawn t n)
             (apart (Call t) (2 ^ 64 - 1) low refl) c)));
       }
@@ -255,8 +266,12 @@ calls_on o log asked advice t k fits =
     ]
   where
     next_ends : (t n k e d c a p : ℕ) → e + (0 + d) + (0 + c) + a ≤ cond (nat_lt t n) 1 0 → p ≤ between t (n + 1) (n + 1 + k) →
-        (e + 0) + ((cond (t == n) 1 0 + p) + d) + (0 + c) + a ≤ cond (nat_lt t (n + 1 + k)) 1 0
-    next_ends t n k e d c a p h few = let f = next_few t n k (e + c + a) d p (omega (arith, h)) few in omega (arith, f)
+        (e + 0) + ((cond ((t == n) && (t == n)) 1 0 + p) + d) + (0 + c) + a ≤ cond (nat_lt t (n + 1 + k)) 1 0
+    next_ends t n k e d c a p h few = let f = next_few t n k (e + c + a) d p (omega (arith, h)) few in shuffled (cond ((t == n) && (t == n)) 1 0) f
+      where
+        shuffled : (x : ℕ) → (e + c + a + 0) + ((x + p) + d) ≤ cond (nat_lt t (n + 1 + k)) 1 0 →
+            (e + 0) + ((x + p) + d) + (0 + c) + a ≤ cond (nat_lt t (n + 1 + k)) 1 0
+        shuffled x f = omega (arith, f)
 
 starts_on : (o : Options) (log : List Entry) (who : Who) (p : Procedure) (t : ℕ) → Few o log t → first (agenda o log) ≡ Some (Starts who p) →
     Few o (Then (Starts who p) ∷ log) t

@@ -358,16 +358,16 @@ module _ (once : EndsOnce) (o : Options) (t : ℕ) (un : is_spent t ≡ false) w
       Given' o (Then a ∷ log) t ((view o (Then a ∷ log)).consumers.rows t)
   gives_on a log (IsNone e f) run g stands =
       subst (Given' o (Then a ∷ log) t) (sym f) (none_given a log e run (subst (Given' o log t) e g) (is_poll a) refl)
-  gives_on a log (IsMade s l e f as did) run g stands =
+  gives_on a log (IsMade s l e f how did) run g stands =
       subst (Given' o (Then a ∷ log) t) (sym f)
-      (λ r as'. none_given a log e run (subst (Given' o log t) e g) (is_poll a) refl
+      (λ r how'. none_given a log e run (subst (Given' o log t) e g) (is_poll a) refl
       ∙ sym (ap (given r) did ∙ made_given r l (url_at ((view o log).links.live l))))
-  gives_on a log (IsKept m e r as did) run g stands =
+  gives_on a log (IsKept m e r how did) run g stands =
       let k = stands m e in
       let was : (s : Setup) → made_with t log ≡ Some s → items_given t (steps o log) ≡ given s (done_to o t log) = subst (Given' o log t) e g in
       subst (Given' o (Then a ∷ log) t) (sym r.is_it)
-      (λ s as'. let own : k.0 ≡ s = some_is (sym k.1 ∙ sym as ∙ as') in
-      kept_given a log m e run s (k.2 ∙ ap (λ x. seen x (done_to o t log)) own) (was s (sym as ∙ as')) (is_poll a) refl ∙ ap (given s) (sym did))
+      (λ s how'. let own : k.0 ≡ s = some_is (sym k.1 ∙ sym how ∙ how') in
+      kept_given a log m e run s (k.2 ∙ ap (λ x. seen x (done_to o t log)) own) (was s (sym how ∙ how')) (is_poll a) refl ∙ ap (given s) (sym did))
 
   gives : (log : List Entry) → IsRun o log → Given' o log t ((view o log).consumers.rows t)
   gives [] run = refl
@@ -376,7 +376,7 @@ module _ (once : EndsOnce) (o : Options) (t : ℕ) (un : is_spent t ≡ false) w
     where
       begun_given : (row : Option Member) → Given' o log t row → Given' o (Begins e ∷ log) t row
       begun_given None g = append-nil (items_given t (steps o log)) ∙ g
-      begun_given (Some m) g = λ s as. append-nil (items_given t (steps o log)) ∙ g s as
+      begun_given (Some m) g = λ s how. append-nil (items_given t (steps o log)) ∙ g s how
   gives (Then a ∷ log) run =
       gives_on a log (row_from o log t once a un run) run (gives log run.0)
       (λ m e. consumers_alone_lem once o log t m run.0 e)

@@ -51,7 +51,7 @@ impl Tables {
         let Some((effect, notice)) = self.consumers.poll(ticket, self.clock)? else {
             return Ok(());
         };
-        out.push(effect)?;
+        show(effect, out)?;
         join_some(notice, tasks)
     }
 
@@ -241,6 +241,14 @@ impl Tables {
         join_all(notices, tasks)?;
         tell_word(who, Word::Over, tasks)
     }
+}
+
+/// What a poll gives is shown.
+fn show(effect: Effect, out: &mut Vec<Effect>) -> Result<(), NoMemory>
+    ensures { OnOk result (map shown out.new.items ≡ map shown out.old.items ++ shown effect ∷ []) }
+{
+    out.push(effect)?;
+    Ok(())
 }
 
 /// A plan is told a word at once.

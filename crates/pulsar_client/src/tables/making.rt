@@ -1,6 +1,6 @@
 //! What verdicts make.
 
-ghost use Rattle.std.specs.Prelude.{◌≡◌, IfOk, OnOk};
+ghost use Rattle.std.specs.Prelude.{◌≡◌, ◌∷◌, [], IfOk, OnOk};
 ghost use Rattle.std.specs.Option.{option_to_list};
 ghost use Rattle.pulsar_tables.specs.Kept.{live_in, producers_of};
 ghost use Rattle.pulsar_tables.specs.KeptConsumers.{consumers_in, member_in};
@@ -10,15 +10,16 @@ ghost use Rattle.pulsar_client.specs.Tables.{chosen_of, view_of};
 ghost use Rattle.pulsar_tables.specs.View.{consumers_left, consumers_made, joins_as, member_on, producers_made, setup_of, ways_of};
 ghost use Rattle.pulsar_calls.specs.Who.{ticket_of};
 
-use pulsar_tables::consumers::hearing::due;
-use pulsar_tables::consumers::row::ConsumerRow;
 use crate::tables::Tables;
 use pulsar_calls::act::{Act as Deed, Makes, Notice, Procedure, Who};
 use pulsar_calls::content::{Joined, Joining};
 use pulsar_calls::who::{rank, ticket_of};
 use pulsar_consumer::TopicConsumer;
 use pulsar_link::content::Subscribed;
+use pulsar_tables::consumers::hearing::due;
+use pulsar_tables::consumers::row::ConsumerRow;
 use pulsar_wire::error::NoMemory;
+use std::alloc::Global;
 use std::collections::VecDeque;
 
 impl Tables {
@@ -117,18 +118,29 @@ impl Tables {
         }
     }
 
+    /// A consumer is served by a plan of its own.
     fn serves(&self, who: Who, joining: &Joining) -> Result<VecDeque<Deed>, NoMemory>
         ensures { IfOk result (λ acts. acts.items ≡ serves_by (ways_of (chosen_of self.now.settings)) who joining.now) }
     {
-        let mut acts = VecDeque::new(self.alloc);
         let number = joining.number;
         let ticket = ticket_of(who);
-        if let Some(ways) = self.settings.ways(self.alloc)? {
-            acts.push_back(Deed::Starts {
-                who: Who::Consumer { number, ticket },
-                procedure: Procedure::Serve { ways, number },
-            })?;
+        match self.settings.ways(self.alloc)? {
+            Some(ways) => one(
+                self.alloc,
+                Deed::Starts {
+                    who: Who::Consumer { number, ticket },
+                    procedure: Procedure::Serve { ways, number },
+                },
+            ),
+            None => Ok(VecDeque::new(self.alloc)),
         }
-        Ok(acts)
     }
+}
+
+fn one(alloc: Global, act: Deed) -> Result<VecDeque<Deed>, NoMemory>
+    ensures { IfOk result (λ acts. acts.items ≡ act ∷ []) }
+{
+    let mut acts = VecDeque::new(alloc);
+    acts.push_back(act)?;
+    Ok(acts)
 }

@@ -189,12 +189,7 @@ impl Consumers {
         }
     }
 
-    fn close_if(
-        &mut self,
-        link: u64,
-        number: u64,
-        is_asked: bool,
-    ) -> Result<Vec<Notice>, NoMemory>
+    fn close_if(&mut self, link: u64, number: u64, is_asked: bool) -> Result<Vec<Notice>, NoMemory>
         ensures notices { IfOk result (λ ns. ns.items ≡ over_rows (λ t m. word_to t m (meaning.word_of_close (Some number) link is_asked m)) (consumers_in self.old.rows self.old.numbers)) }
         ensures after { OnOk result (consumers_in self.new.rows self.new.numbers ≡ all_changed (closes (Some number) link is_asked) (consumers_in self.old.rows self.old.numbers)) }
     {

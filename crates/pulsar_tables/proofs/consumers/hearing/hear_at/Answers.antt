@@ -9,4 +9,4 @@ returns-clause-notices c =
     c.in_ok-tell.ensures
     ∙ ap (λ ns. c.args.notices.now.items ++ ns)
     (told_as_before c.args.link c.args.ticket c.args.reply (rows_in c.args.rows.now) (member_in c.in-Some.row.now) (member_in c.hear.new.self) c.in_ok-word.word
-      (ap (option_map member_in) c.in-Some.ensures.value) c.in_ok-word.ensures.word c.in_ok-word.ensures.after)
+    (ap (option_map member_in) c.in-Some.ensures.value) c.in_ok-word.ensures.word c.in_ok-word.ensures.after)

@@ -29,7 +29,7 @@ returns-clause-notices c =
     let found = living_on_found l cs.rows ts (c.deref.ensures.value ∙ c.in_ok-tickets.ensures.tickets) in
     c.in_ok-notices.ensures.notices
     ∙ found_give cs.rows (lives_at l) ts found (λ t m. word_to t m (word_if (resubscribes l m.seen) Lost)) (λ t m. word_to t m (word_if (resubscribes l m.seen) Lost))
-      (subst (IsStrictlySortedBy nat_cmp) (sym c.deref.ensures.value) c.in_ok-tickets.ensures.sorted) (cs.ordered c.if-self.false) (none_lost l) (λ t m h. refl)
+    (subst (IsStrictlySortedBy nat_cmp) (sym c.deref.ensures.value) c.in_ok-tickets.ensures.sorted) (cs.ordered c.if-self.false) (none_lost l) (λ t m h. refl)
 
 pub returns-clause-after : goal.returns-clause-after
 returns-clause-after c =

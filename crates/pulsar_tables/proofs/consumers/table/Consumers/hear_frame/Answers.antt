@@ -30,7 +30,7 @@ returns-clause-notices c =
     let found = living_found n l cs.listing (rows_in cs.rows) (cs.listed c.if-self.false) ts (c.deref.ensures.value ∙ c.in_ok-tickets.ensures.tickets) in
     c.in_ok-notices.ensures.notices
     ∙ found_give cs.rows (lives_with n l) ts found (heard_at l (Gives n r)) (λ t m. word_to t m (word_of_frame l r m)) (subst (IsStrictlySortedBy nat_cmp) (sym c.deref.ensures.value) c.in_ok-tickets.ensures.sorted)
-      (cs.ordered c.if-self.false) (none_told n l r) (same_told n l r)
+    (cs.ordered c.if-self.false) (none_told n l r) (same_told n l r)
 
 pub returns-clause-after : goal.returns-clause-after
 returns-clause-after c =

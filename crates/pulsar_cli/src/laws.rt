@@ -1,4 +1,4 @@
-//! What follows from the definitions of the script's language: each contract is a law, and its body is empty.
+//! What follows from the definition of the run of a script: each contract is a law, and its body is empty.
 
 ghost use Rattle.pulsar_cli.specs.Script.{Completes, Decides};
 

@@ -1,4 +1,4 @@
-//! Scripts: what stands on the lines of one, the run of a client that it describes, and the text of that run.
+//! The run of a script: its lines are read from a source, a client does what they say, and the text of that goes into a sink.
 #![tactic(auto)]
 
 mod feed;

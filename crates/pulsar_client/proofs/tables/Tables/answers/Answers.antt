@@ -15,10 +15,10 @@ returns-clause-left c =
     let g = agenda_of c.args.tasks.now in
     let who = c.args.who in
     let makes = c.args.verdict.makes in
-    let due = c.in_ok-makes.ensures.due ∙ ap (λ (x : View). made_due x.links.live who makes) c.in_ok-builds.ensures.sees in
+    let due = c.in_ok-due.ensures.due ∙ ap (λ (x : View). made_due x.links.live who makes) c.in_ok-builds.ensures.sees in
     on_ok_weaker c.tell_end.result
     (λ told. c.in_ok-join_some.ensures
-    ∙ ap (λ (x : Agenda). record x { here = put_all below (option_to_list c.in_ok-makes.due) x.here }) c.in_ok-put_all.ensures
+    ∙ ap (λ (x : Agenda). record x { here = put_all below (option_to_list c.in_ok-due.due) x.here }) c.in_ok-put_all.ensures
     ∙ (λ i. record {
       now = c.in_ok-left_with.ensures i ++ g.now;
       here = put_all below (due i) g.here;
@@ -33,7 +33,7 @@ returns-clause-sees c =
     let makes = c.args.verdict.makes in
     on_ok_weaker c.tell_end.result
     (λ told. c.frees.ensures.sees
-    ∙ ap (λ (x : View). record x { consumers = consumers_left who x.consumers }) c.in_ok-makes.ensures.sees
+    ∙ ap (λ (x : View). record x { consumers = consumers_left who x.consumers }) c.in_ok-due.ensures.sees
     ∙ ap (λ (x : View). record x {
       consumers = consumers_left who (consumers_made x.links.live who makes x.consumers);
       producers = producers_made x.chosen who makes x.producers;

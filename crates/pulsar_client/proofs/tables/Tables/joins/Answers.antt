@@ -17,7 +17,7 @@ returns-clause-due c =
     ∙ (λ i. subscribed_on made.link (c.in_ok-url.ensures i) (record { seen = c.new-consumer.ensures i; seekers = [] }))
     ∙ ap (λ (j : Joining). member_on v.links.live j.link (setup_of j)) c.into_inner.ensures
     in
-    c.due-notice.ensures ∙ append-nil _ ∙ (λ i. due_to (c.ticket_of.ensures i) (member i))
+    c.due-notice.ensures ∙ append-nil (due_to c.ticket_of.result (member_in c.in_ok-row.row)) ∙ (λ i. due_to (c.ticket_of.ensures i) (member i))
 
 pub returns-clause-sees : goal.returns-clause-sees
 returns-clause-sees c =

@@ -1,5 +1,5 @@
 -- Frames that acknowledge: each is asked for by a call for just this, and at most once for each call.
-use Rattle.std.proofs.Common.{◌≡◌, ◌⊎◌, inl, inr, ◌∙◌, sym, ap, subst, ℕ, ◌+◌, ◌≤◌, ◌==◌, List, [], ◌∷◌, ◌++◌, refl, Bool, true, false, ◌&&◌, cond, Option, Some, None}
+use Rattle.std.proofs.Common.{arith, ◌≡◌, ◌⊎◌, inl, inr, ◌∙◌, sym, ap, subst, ℕ, ◌+◌, ◌≤◌, ◌==◌, List, [], ◌∷◌, ◌++◌, refl, Bool, true, false, ◌&&◌, cond, Option, Some, None}
 use Rattle.std.proofs.lemmas.Bool.{and_parts, cases_Bool}
 use Rattle.pulsar_run.specs.Laws.{In, InThisStep}
 use Rattle.pulsar_run.specs.Run.{rest}
@@ -72,6 +72,8 @@ use Rattle.pulsar_laws.proofs.Left.{left_each}
 use Rattle.pulsar_laws.proofs.Made.{IsMadeAt, calls_are_made_lem}
 use Rattle.pulsar_laws.proofs.Mild.{IsMildCommand, IsMildPlan, IsMildTurn, MildBegun, MildOutcome, MildPlan, MildSought, begins_mild, direct_mild, is_direct, told_mild}
 use Rattle.pulsar_laws.proofs.Same.{same_self, same_who}
+use Rattle.pulsar_producer.specs.Wanted.{ProducerWanted}
+use Rattle.pulsar_calls.specs.declared.act.Says.{Says}
 
 none_some : {A : Type 0} {x : A} → None ≡ Some x → ⊥
 none_some {A} {x} h = cc
@@ -98,7 +100,7 @@ searches_begun : (w : Option Ways) (what : Sought) → MildSought what → MildB
 searches_begun None what h = tt
 searches_begun (Some w) what h = h
 
-produces_begun : (w : Option Ways) (topic : Option (List ℕ)) (x : content.ProducerWanted) → MildBegun (produces_from w topic x)
+produces_begun : (w : Option Ways) (topic : Option (List ℕ)) (x : ProducerWanted) → MildBegun (produces_from w topic x)
 produces_begun w None x = tt
 produces_begun None (Some topic) x = tt
 produces_begun (Some w) (Some topic) x = tt
@@ -204,7 +206,7 @@ module _ (v : View) (t : ℕ) (name : List ℕ) (id : Values rows.message_id) (c
           let y : words.SendAck m.seen.number (id ∷ []) cumulative ≡ r = cc in
           (m, e, f ∙ ap Some x, sym y)
 
-raw_licensed : (v : View) (k : ℕ) (request : Words) (s : content.Says) → LicensedStart v (content.Raw k request) (procedure.Ask (place.Link k) request s)
+raw_licensed : (v : View) (k : ℕ) (request : Words) (s : Says) → LicensedStart v (content.Raw k request) (procedure.Ask (place.Link k) request s)
 raw_licensed v k request s l r plan h b = let x : k ≡ l = cc in let y : request ≡ r = cc in (sym x, sym y)
 
 call_licensed : (v : View) (advised : List (Option ℕ)) (asked : Asked) →
@@ -333,14 +335,14 @@ told_none w c h e = subst NoRecall e h
 
 recall_said : (o : Options) (who : Who) (c : Command) (e : Entry) (older : List Entry) → Cause o who (outcome.Word (word.Recalled c)) e older → IsMildCommand c
 recall_said o who c e older (inl (RecallConsumer, is, said)) = member_mild ((view o older).consumers.rows (ticket_of who)) c said
-recall_said o who c e older (inl (action, is, said)) = absurd cc
+recall_said o who c e older (inl (action, is, said)) = absurd said
 recall_said o who c e older (inr (inl (l, t, m, is, serves, h))) = absurd (told_none _ c (heard_none l _ m) h)
 recall_said o who c e older (inr (inr (inl (l, t, end, m, is, serves, h)))) = absurd (told_none _ c (loss_none l _ m) h)
 recall_said o who c e older (inr (inr (inr (inl (l, t, other, request, m, is, serves, h))))) = absurd (told_none _ c (if_none _ word.Over tt) h)
 recall_said o who c e older (inr (inr (inr (inr (inl (q, k)))))) = absurd cc
 recall_said o who c e older (inr (inr (inr (inr (inr (q, k)))))) = absurd cc
 
-told_so : (o : Options) (log : List Entry) (who : Who) (u : Outcome) → IsRun o (Then (Told (notice who u)) ∷ log) → MildOutcome u
+pub told_so : (o : Options) (log : List Entry) (who : Who) (u : Outcome) → IsRun o (Then (Told (notice who u)) ∷ log) → MildOutcome u
 told_so o log who (outcome.Granted (news.Recalled c)) run =
     let n : Notice = notice who (outcome.Granted (news.Recalled c)) in
     let k = granted_by o log n refl run in

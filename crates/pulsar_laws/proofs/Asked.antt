@@ -127,7 +127,7 @@ starts_so v advice (content.SendAll t ms) = inl (
   gathers_no_stop (Call v.calls.drawn) (may_call v.calls) (why_not v.producers t) (v.calls.drawn + 1) (length ms),
   unless_no_stop (why_no_sends v.calls v.producers t) v advice t ms,
 )
-starts_so v advice asked = inr (Starts (Call v.calls.drawn) (procedure_for v.chosen v.calls v.producers advice asked), refl)
+starts_so v advice asked = inr (Starts (Call v.calls.drawn) (procedure_for v.chosen v.calls v.consumers v.producers advice asked), refl)
 
 called_so : (v : View) (advice : List (Option ℕ)) (asked : Asked) → Each NoStop (called v advice asked) ⊎ OneAct (called v advice asked)
 called_so v advice asked = by (lacks_tickets v.calls.drawn (shares asked))

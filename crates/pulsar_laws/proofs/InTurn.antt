@@ -198,7 +198,8 @@ pub record IsTaking (o : Options) (log : List Entry) (t n : ℕ) : Type 0 where
 
 pub who_same : (w : Who) → is_same w w ≡ true
 who_same (Call t) = self_same t
-who_same (Producer m) = grind (arith, nat_tests)
+who_same (Consumer n t) = same_self (Consumer n t)
+who_same (Producer m) = same_self (Producer m)
 
 pub stand_told : (o : Options) (older : List Entry) (w : Who) (u : Outcome) (p q : Plan) (a : Action) → (view o older).stand w ≡ Some p →
     told p u ≡ Stays q a →

@@ -52,6 +52,7 @@ pub mod Polls
 pub mod Ended
 pub mod Mild
 pub mod Acks
+pub mod Flows
 pub mod Deadlines
 pub mod Ticks
 pub mod OneEach

@@ -108,8 +108,19 @@ use Rattle.pulsar_laws.proofs.Consuming.{StaysSo, either_so}
 
 -- SEARCHES, AND COMMANDS THAT ASK FOR NO ACKNOWLEDGEMENT
 
+-- acknowledgements and flows, which no search and no command asks for
+abbrev pub is_own : Words → Bool
+is_own (words.SendAck n ids cumulative) = true
+is_own (words.SendFlow n permits) = true
+is_own _ = false
+
+own_ack : (r : Words) → is_own r ≡ false → is_ack r ≡ false
+own_ack (words.SendAck n ids cumulative) h = absurd cc
+own_ack (words.SendFlow n permits) h = refl
+own_ack _ h = refl
+
 abbrev pub IsMildWish : Wish → Type 0
-IsMildWish (wish.Ask l request) = is_ack request ≡ false
+IsMildWish (wish.Ask l request) = is_own request ≡ false
 IsMildWish (wish.Get p) = Unit {0}
 IsMildWish (wish.Wait delay) = Unit {0}
 
@@ -117,7 +128,7 @@ abbrev pub MildTurn : {S A : Type 0} → (S → Type 0) → SearchTurn S A → T
 MildTurn P (search_turn.Stays s a) = P s × IsMildWish a
 MildTurn P (search_turn.Gives a) = Unit {0}
 
-abbrev Any : {S : Type 0} → S → Type 0
+abbrev pub Any : {S : Type 0} → S → Type 0
 Any s = Unit {0}
 
 either_mild : {S A : Type 0} (P : S → Type 0) (b : Bool) (x y : SearchTurn S A) → MildTurn P x → MildTurn P y → MildTurn P (cond b x y)
@@ -207,7 +218,7 @@ answered_mild w n l (Ok r) = tt
 answered_mild w n l (Err f) = and_mild Any Any (search.retry_begins w n f) (λ r. make.Retrying r n) _ (λ s p. tt) (again_mild w n f) (λ a. (tt, tt))
 
 abbrev pub IsMildCommand : Command → Type 0
-IsMildCommand c = is_ack c.request ≡ false
+IsMildCommand c = is_own c.request ≡ false
 
 made_mild : (w : Ways) (c : Command) (k : Making) (u : Heard') → IsMildCommand c → MildTurn Any (search.made_told w c k u)
 made_mild w c (make.Getting n) (told_in.GotLink l) h = (tt, h)
@@ -412,7 +423,7 @@ resume_makes_mild x p = and_mild Any Any x resume.Making _ (λ s p. tt) p (λ a.
 resume_looks_mild : (x : SearchTurn Looking (Result Place Failure)) → MildTurn Any x → MildTurn Any (consume.resume_looks x)
 resume_looks_mild x p = and_mild Any Any x resume.Looking _ (λ s p. tt) p (λ a. (tt, tt))
 
-resume_mild : (w : Ways) (c : Command) (r : Resuming) (u : Heard') → IsMildCommand c → MildTurn Any (consume.resume_told w c r u)
+pub resume_mild : (w : Ways) (c : Command) (r : Resuming) (u : Heard') → IsMildCommand c → MildTurn Any (consume.resume_told w c r u)
 resume_mild w c (resume.Looking l) u h = resume_looks_mild (search.look_told w c.topic l u) (look_mild w c.topic l u)
 resume_mild w c (resume.Making m) u h = resume_makes_mild (search.made_told w c m u) (made_mild w c m u h)
 
@@ -463,7 +474,7 @@ news_mild _ h = tt
 
 wish_is_mild : (x : Wish) → IsMildWish x → IsMild (wished x)
 wish_is_mild (wish.Get p) h = tt
-wish_is_mild (wish.Ask l request) h = h
+wish_is_mild (wish.Ask l request) h = own_ack request h
 wish_is_mild (wish.Wait delay) h = tt
 
 deed_is_mild : (d : Deed) → IsMildDeed d → IsMild (action_of d)

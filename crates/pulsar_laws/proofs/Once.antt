@@ -182,7 +182,7 @@ module _ (o : Options) (log : List Entry) (a : Act) (t : ℕ) (k : Few o log t) 
 abbrev between : (t from to : ℕ) → ℕ
 between t from to = cond (nat_le from t && nat_lt t to) 1 0
 
-twice : (b : Bool) → cond (b && b) 1 0 ≡ cond b 1 0
+twice : (b : Bool) → ◌≡◌ {A = ℕ} (cond (b && b) 1 0) (cond b 1 0)
 twice true = refl
 twice false = refl
 

@@ -25,6 +25,7 @@ use Rattle.pulsar_client.proofs.Raising.{IsRaised, raises}
 use Rattle.pulsar_laws.proofs.Consuming.{IsServing, IsModest, StaysSo, is_modest, service_serves, told_modest}
 use Rattle.pulsar_laws.proofs.Granted.{BeginsSo, IsLedSo, does_from}
 use Rattle.pulsar_laws.proofs.Left.{left_each}
+use Rattle.pulsar_calls.specs.declared.act.Makes.TheVariants.{Nothing}
 
 abbrev is_serve : Procedure → Bool
 is_serve (procedure.Serve ways number) = true
@@ -136,6 +137,24 @@ are_servers o (Then a ∷ log) run =
 pub server_stands : (o : Options) (log : List Entry) (n t : ℕ) (plan : Plan) → IsRun o log → (view o log).stand (Consumer n t) ≡ Some plan →
     is_server plan ≡ true
 server_stands o log n t plan run h = (are_servers o log run).stands n t plan h
+
+-- it makes nothing
+gives_nothing : (x : Turn Plan Verdict) (v : Verdict) → IsServing x → x ≡ Gives v → v.makes ≡ Nothing
+gives_nothing (Stays plan action) v k h = absurd cc
+gives_nothing (Gives u) v k h = let e : u ≡ v = cc in ap (λ y. y.makes) (sym e ∙ k)
+
+pub server_gives : (plan : Plan) (u : Outcome) (v : Verdict) → is_server plan ≡ true → told plan u ≡ Gives v → v.makes ≡ Nothing
+server_gives (Serving w n s) u v h e =
+    gives_nothing (told (Serving w n s) u) v (either_serving (overrides u) is_over (told_service w n s u) refl (service_serves w n s u)) e
+server_gives plan u v h e = absurd cc
+
+serve_stays : (p : Procedure) (v : Verdict) → is_serve p ≡ true → begins p ≡ Gives v → ⊥
+serve_stays (procedure.Serve w n) v h e = absurd cc
+serve_stays p v h e = absurd cc
+
+pub serve_goes_on : (o : Options) (log : List Entry) (n t : ℕ) (p : Procedure) (v : Verdict) → IsRun o (Then (Starts (Consumer n t) p) ∷ log) →
+    begins p ≡ Gives v → ⊥
+serve_goes_on o log n t p v run e = serve_stays p v (first_serve o log (Starts (Consumer n t) p) (are_servers o log run.0) run.1) e
 
 -- whatever it does touches no producer
 pub server_does : (o : Options) (log : List Entry) (n t : ℕ) (action : Action) → IsRun o (Then (Does (Consumer n t) action) ∷ log) →

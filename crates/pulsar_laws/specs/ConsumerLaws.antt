@@ -17,7 +17,7 @@ use Rattle.pulsar_consumer.specs.Topic.{Act as Done, Lives, Hears, Loses, Fails,
 use Rattle.pulsar_consumer.specs.declared.polled.Ending.{Ending}
 use Rattle.pulsar_consumer.specs.declared.polled.Ending.TheVariants.{Closed, TopicEnded, Stopped}
 use Rattle.pulsar_calls.specs.declared.act.Act.{Act}
-use Rattle.pulsar_calls.specs.declared.act.Act.TheVariants.{Comes, Starts, Does, Answers}
+use Rattle.pulsar_calls.specs.declared.act.Act.TheVariants.{Comes, Starts, Told, Does, Answers}
 use Rattle.pulsar_calls.specs.declared.act.Action.TheVariants.{Ask, TakeFlow, Revive, FailConsumer, StopAll}
 use Rattle.pulsar_calls.specs.declared.act.Arrival.{Arrival}
 use Rattle.pulsar_calls.specs.declared.act.Arrival.TheVariants.{Nothing, Readied, Settles, Gives, Passes, Bad}
@@ -27,14 +27,16 @@ use Rattle.pulsar_calls.specs.declared.act.Makes.TheVariants as makes
 use Rattle.pulsar_calls.specs.declared.act.Part.TheVariants.{ToLink, Polls}
 use Rattle.pulsar_calls.specs.declared.act.Procedure.{Procedure}
 use Rattle.pulsar_calls.specs.declared.act.Who.{Who}
-use Rattle.pulsar_calls.specs.declared.act.Who.TheVariants.{Call}
+use Rattle.pulsar_calls.specs.declared.act.Outcome.TheVariants as outcome
+use Rattle.pulsar_calls.specs.declared.act.Word.TheVariants as word
+use Rattle.pulsar_calls.specs.declared.act.Who.TheVariants.{Call, Consumer}
 use Rattle.pulsar_calls.specs.Content as content
 use Rattle.pulsar_calls.specs.Content.{Asked, Poll, Shown, Hands, Faults}
 use Rattle.pulsar_calls.specs.Who.{is_same, ticket_of}
 use Rattle.pulsar_tables.specs.Consumers as consumer
 use Rattle.pulsar_tables.specs.Consumers.{Member, is_closed_by}
 use Rattle.pulsar_tables.specs.View.{Options, Seat, View, answer_at, arrival_at, closing, is_asked, setup_of, url_at}
-use Rattle.pulsar_tables.specs.Rules.{call_part}
+use Rattle.pulsar_tables.specs.Rules.{call_part, notice}
 use Rattle.pulsar_client.specs.Run.{Entry, Begins, Then, IsRun, Step, steps, view}
 use Rattle.pulsar_laws.specs.Laws.{counted}
 
@@ -207,6 +209,16 @@ PermitsAreKept = (o : Options) (log : List Entry) (t : ℕ) (m : Member) (l : Li
     × (IsFinished s (done_to o t log) → half (batch_size m.seen.config) ≤ l.level - l.weight)
     × (l.level + weights (begun s (done_to o t log))
     ≡ l.weight + (asked_since s (done_to o t log) + sum l.due) + weighed_before s (done_to o t log))
+
+-- The plan of a consumer gives permits only by a flow that it took from it: the frame that it asks for bears its number and these permits, on the link
+-- of the subscription that is live where it takes them; and it asks for it in that step, right behind what it is told of it.
+abbrev pub TakesSo : Options → (number ticket link permits : ℕ) → Entry → List Entry → Type 0
+TakesSo o n t l p e older = (e ≡ Then (Does (Consumer n t) TakeFlow)) × (consumer.flow_at ((view o older).consumers.rows t) ≡ Some (l, p))
+
+abbrev pub FlowsAreTaken : Type 0
+FlowsAreTaken = (o : Options) (log : List Entry) (n t l m p : ℕ) → IsRun o (Then (Does (Consumer n t) (Ask l (words.SendFlow m p))) ∷ log) →
+    (older : List Entry) × (m ≡ n) × (log ≡ Then (Told (notice (Consumer n t) (outcome.Word (word.Flow l p)))) ∷ older)
+    × InThisStep (TakesSo o n t l p) older
 
 -- ACKNOWLEDGEMENTS
 

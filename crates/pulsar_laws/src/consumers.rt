@@ -1,6 +1,6 @@
 //! What follows of consumers from the definition of a good run: each contract is a law, and its body is empty.
 
-ghost use Rattle.pulsar_laws.specs.ConsumerLaws.{AcksAreLicensed, AcksOnce, ConsumersAlone, ConsumersEnd, ConsumersRemain, PermitsAreKept, PollsAreAnswered, PollsFollow};
+ghost use Rattle.pulsar_laws.specs.ConsumerLaws.{AcksAreLicensed, AcksOnce, ConsumersAlone, ConsumersEnd, ConsumersRemain, FlowsAreTaken, PermitsAreKept, PollsAreAnswered, PollsFollow};
 
 /// A consumer is what was done to it since it was made, and nothing else.
 pub fn consumers_alone()
@@ -24,9 +24,10 @@ pub fn consumers_end()
     ensures remain { ConsumersRemain }
 {}
 
-/// What remains of the permits of a live subscription is within its bounds.
+/// What remains of the permits of a live subscription is within its bounds, and each flow that its plan asks for was taken from it.
 pub fn permits_are_kept()
-    ensures { PermitsAreKept }
+    ensures bounds { PermitsAreKept }
+    ensures flows { FlowsAreTaken }
 {}
 
 /// A frame that acknowledges is asked for by a call for just this, and at most once for each.

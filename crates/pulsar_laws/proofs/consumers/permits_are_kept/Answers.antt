@@ -1,6 +1,10 @@
 use Rattle.pulsar_laws.proofs.Ended.{permits_are_kept_lem}
+use Rattle.pulsar_laws.proofs.Flows.{flows_are_taken_lem}
 use Rattle.pulsar_laws.proofs.Once.{ends_once_lem}
 use Rattle.pulsar_laws.proofs.consumers.permits_are_kept.Goals as goal
 
-pub returns : goal.returns
-returns c = λ o log t m l run is raw live. permits_are_kept_lem ends_once_lem o log t m l run is raw live
+pub returns-clause-bounds : goal.returns-clause-bounds
+returns-clause-bounds c = λ o log t m l run is raw live. permits_are_kept_lem ends_once_lem o log t m l run is raw live
+
+pub returns-clause-flows : goal.returns-clause-flows
+returns-clause-flows c = λ o log n t l m p run. flows_are_taken_lem o log n t l m p run

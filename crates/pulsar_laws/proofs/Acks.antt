@@ -1,5 +1,5 @@
 -- Frames that acknowledge: each is asked for by a call for just this, and at most once for each call.
-use Rattle.std.proofs.Common.{arith, ◌≡◌, ◌⊎◌, inl, inr, ◌∙◌, sym, ap, subst, ℕ, ◌+◌, ◌≤◌, ◌==◌, List, [], ◌∷◌, ◌++◌, refl, Bool, true, false, ◌&&◌, cond, Option, Some, None}
+use Rattle.std.proofs.Common.{arith, ◌≡◌, ◌⊎◌, inl, inr, ◌∙◌, sym, ap, subst, ℕ, ◌+◌, ◌≤◌, ◌==◌, List, [], ◌∷◌, ◌++◌, refl, Bool, true, false, ◌&&◌, cond, Option, Some, None, length}
 use Rattle.std.proofs.lemmas.Bool.{and_parts, cases_Bool}
 use Rattle.pulsar_run.specs.Laws.{In, InThisStep}
 use Rattle.pulsar_run.specs.Run.{rest}
@@ -38,6 +38,8 @@ use Rattle.pulsar_calls.specs.declared.act.Place.TheVariants as place
 use Rattle.pulsar_calls.specs.declared.act.Procedure.{Procedure}
 use Rattle.pulsar_calls.specs.declared.act.Procedure.TheVariants as procedure
 use Rattle.pulsar_calls.specs.declared.act.Refusal.{Refusal}
+use Rattle.pulsar_calls.specs.declared.act.Refusal.TheVariants as refusal
+use Rattle.pulsar_calls.specs.declared.act.Round.TheVariants.{Checks, Flushes}
 use Rattle.pulsar_calls.specs.declared.act.Share.{Share}
 use Rattle.pulsar_calls.specs.declared.act.Verdict.{Verdict}
 use Rattle.pulsar_calls.specs.declared.act.Who.{Who}
@@ -45,7 +47,7 @@ use Rattle.pulsar_calls.specs.declared.act.Who.TheVariants.{Call, Consumer, Prod
 use Rattle.pulsar_calls.specs.declared.act.Word.{Word}
 use Rattle.pulsar_calls.specs.declared.act.Word.TheVariants as word
 use Rattle.pulsar_calls.specs.Content as content
-use Rattle.pulsar_calls.specs.Content.{Asked, lacks_tickets, shares}
+use Rattle.pulsar_calls.specs.Content.{Asked, lacks_tickets, shares, next_advice}
 use Rattle.pulsar_calls.specs.Who.{is_same, ticket_of}
 use Rattle.pulsar_procedures.specs.declared.plan.Plan.{Plan}
 use Rattle.pulsar_procedures.specs.declared.plan.Plan.TheVariants.{Acknowledging, Asking}
@@ -54,9 +56,9 @@ use Rattle.pulsar_procedures.specs.declared.plan.Turn.TheVariants.{Stays, Gives}
 use Rattle.pulsar_procedures.specs.Plan.{begins, told}
 use Rattle.pulsar_tables.specs.Consumers as consumer
 use Rattle.pulsar_tables.specs.Consumers.{Member, link_at, number_at, recalled, why_not, word_if, word_of, word_of_close, word_of_frame, word_of_loss, hears_frame, is_closed_by}
-use Rattle.pulsar_tables.specs.Producers.{Producers, batches_in, errand_of, numbers_at, recalled_at, recalled_by, routed}
+use Rattle.pulsar_tables.specs.Producers.{Producers, batches_in, errand_of, numbers_at, recalled_at, recalled_by, routed, why_not as unsent_why}
 use Rattle.pulsar_tables.specs.Reading.{subscribes_by, unless}
-use Rattle.pulsar_tables.specs.Rules.{asks_topics, at_once, closes, fails_as, flushes_all, from_base, notice, parts_of, procedure_for, produces_by, produces_from, searches, sends_as, sends_by, sends_with, share, shares_of, shares_unless, starts, stores_as, unless_refused, why_no_raw, why_no_sends}
+use Rattle.pulsar_tables.specs.Rules.{asks_topics, at_once, closes, fails_as, flushes_all, from_base, notice, parts_of, procedure_for, produces_by, produces_from, searches, sends_as, sends_by, sends_with, share, shares_of, shares_unless, starts, stores_as, unless_refused, why_no_raw, why_no_sends, builds_with}
 use Rattle.pulsar_tables.specs.View.{Chosen, Options, Tickets, View, may_call, stand_after, stays, stays_some, told_some, ways_of}
 use Rattle.pulsar_client.specs.Run.{Entry, Begins, Then, IsRun, agenda, first, view}
 use Rattle.pulsar_client.proofs.Acts.{Each, begun_same, each_append, each_either, each_first, each_map, each_rest, is_served}
@@ -74,6 +76,8 @@ use Rattle.pulsar_laws.proofs.Mild.{IsMildCommand, IsMildPlan, IsMildTurn, MildB
 use Rattle.pulsar_laws.proofs.Same.{same_self, same_who}
 use Rattle.pulsar_producer.specs.Wanted.{ProducerWanted}
 use Rattle.pulsar_calls.specs.declared.act.Says.{Says}
+use Rattle.std.specs.Prelude.{not}
+use Rattle.std.specs.Option.{is_some}
 
 none_some : {A : Type 0} {x : A} → None ≡ Some x → ⊥
 none_some {A} {x} h = cc
@@ -132,21 +136,27 @@ may_ack _ = false
 
 call_begun : (o : Chosen) (c : Tickets) (cs : consumer.Consumers) (ps : Producers) (advised : List (Option ℕ)) (asked : Asked) → may_ack asked ≡ false →
     MildBegun (procedure_for o c cs ps advised asked)
-call_begun o c cs ps advised content.Build h = may_begun _ _ (either_begun _ _ _ tt (from_begun o.base procedure.Build (λ p. tt)))
-call_begun o c cs ps advised content.Stop h = may_begun (may_call c) _ tt
+call_begun o c cs ps advised content.Build h = may_begun (not c.is_stopped) (builds_with o.outbound o.base)
+    (either_begun (o.outbound == 0) (procedure.Refuse refusal.NoOutbound) (from_base o.base procedure.Build) tt (from_begun o.base procedure.Build (λ p. tt)))
+call_begun o c cs ps advised content.Stop h = may_begun (may_call c) procedure.Stop tt
 call_begun o c cs ps advised (content.Topics namespace mode) h = may_begun (may_call c) _ (from_begun o.base (asks_topics namespace mode) (λ p. refl))
 call_begun o c cs ps advised (content.Lookup topic) h = may_begun (may_call c) _ (searches_begun (ways_of o) _ tt)
 call_begun o c cs ps advised (content.Partitions topic) h = may_begun (may_call c) _ (searches_begun (ways_of o) _ tt)
 call_begun o c cs ps advised (content.Brokers topic) h = may_begun (may_call c) _ (searches_begun (ways_of o) _ tt)
 call_begun o c cs ps advised (content.Producer wanted) h = may_begun (may_call c) _ (produces_begun (ways_of o) wanted.topic wanted)
-call_begun o c cs ps advised (content.Send t m) h = may_begun (may_call c) _ (unless_begun _ _ (sends_begun (batches_in (ps.built t)) None m (ways_of o) _))
-call_begun o c cs ps advised (content.SendAll t ms) h = may_begun (may_call c) _ (unless_begun _ _ tt)
-call_begun o c cs ps advised (content.Flush t) h = may_begun (may_call c) _ (unless_begun _ _ (either_begun (batches_in (ps.built t)) _ _ tt tt))
-call_begun o c cs ps advised (content.CheckProducer t) h = may_begun (may_call c) _ (unless_begun _ _ tt)
-call_begun o c cs ps advised (content.CloseProducer t) h = may_begun (may_call c) _ (either_begun _ _ _ tt tt)
+call_begun o c cs ps advised (content.Send t m) h = may_begun (may_call c) _ (unless_begun (unsent_why ps t) (sends_as o ps None (next_advice advised) t m)
+    (sends_begun (batches_in (ps.built t)) None m (ways_of o) (errand_of (next_advice advised) m (ps.built t))))
+call_begun o c cs ps advised (content.SendAll t ms) h =
+    may_begun (may_call c) _ (unless_begun (unsent_why ps t) (procedure.Gather (c.drawn + 1) (length ms)) tt)
+call_begun o c cs ps advised (content.Flush t) h = may_begun (may_call c) _ (unless_begun (unsent_why ps t) (flushes_all (batches_in (ps.built t)) (numbers_at (ps.built t)))
+    (either_begun (batches_in (ps.built t)) (procedure.Go Flushes (numbers_at (ps.built t))) (procedure.Refuse refusal.NoBatches) tt tt))
+call_begun o c cs ps advised (content.CheckProducer t) h =
+    may_begun (may_call c) _ (unless_begun (unsent_why ps t) (procedure.Go Checks (numbers_at (ps.built t))) tt)
+call_begun o c cs ps advised (content.CloseProducer t) h = may_begun (may_call c) _
+    (either_begun (is_some (ps.built t)) (procedure.Close t (numbers_at (ps.built t))) (procedure.Refuse refusal.UnknownTicket) tt tt)
 call_begun o c cs ps advised (content.Consumer wanted) h = may_begun (may_call c) _ (subscribes_begun (ways_of o) (naming.order_of o.seed c.drawn wanted))
 call_begun o c cs ps advised (content.Nack t name id) h = may_begun (may_call c) _ (unless_begun (why_not cs t) _ refl)
-call_begun o c cs ps advised (content.CloseConsumer t) h = may_begun (may_call c) _ (unless_begun (why_not cs t) _ tt)
+call_begun o c cs ps advised (content.CloseConsumer t) h = may_begun (may_call c) _ (unless_begun (why_not cs t) (procedure.Leave t (number_at (cs.rows t))) tt)
 call_begun o c cs ps advised asked h = absurd cc
 
 -- and so do the parts
@@ -442,10 +452,15 @@ acks_are_licensed_lem o log who l r run b = elim (does_from o log who (Ask l r) 
     begun k =
         let n : IsRun o (Then (Starts who k.procedure) ∷ k.older) = subst (IsRun o) k.is_there run.0 in
         let c = call_only o k.older who k.procedure l r k.plan n k.leads b in
-        let m : IsRun o (Then (Starts (Call c.0) k.procedure) ∷ k.older) = subst (λ (w : Who). IsRun o (Then (Starts w k.procedure) ∷ k.older)) c.1 n in
-        (c.0, k.procedure, k.older, c.1, k.is_there,
-        step_more (IsMadeAt o c.0 k.procedure) (LicensedBy o c.0 l r) (by c.0 k.procedure k.plan k.leads) k.older
-        (calls_are_made_lem o k.older c.0 k.procedure m).1)
+        let m : IsRun o (Then (Starts (Call c.0) k.procedure) ∷ k.older) = subst (λ (w : Who). IsRun o (Then (Starts w k.procedure) ∷ k.older)) c.1 n in (
+          c.0,
+          k.procedure,
+          k.older,
+          c.1,
+          k.is_there,
+          step_more (IsMadeAt o c.0 k.procedure) (LicensedBy o c.0 l r) (by c.0 k.procedure k.plan k.leads) k.older
+              (calls_are_made_lem o k.older c.0 k.procedure m).1,
+        )
       where
         by : (t : ℕ) (p : Procedure) (plan : Plan) → begins p ≡ Stays plan (Ask l r) → (e : Entry) (older : List Entry) → IsMadeAt o t p e older →
             LicensedBy o t l r e older

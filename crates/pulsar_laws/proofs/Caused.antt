@@ -533,8 +533,14 @@ module _ (o : Options) (who : Who) (u : Outcome) (older : List Entry) where
       let k = due_in (ticket_of w) (member_on v.links.live j.link (setup_of j)) h in
       let url : Option Parts = url_at (v.links.live j.link) in
       is_due_caused (Then (Answers w verdict)) k.told
-      (inr (inr (w, j, verdict.said, ap (λ x. Then (Answers w (record { makes = x; said = verdict.said }))) e,
-      k.who_is ∙ ap (λ n. Consumer n (ticket_of w)) (subscribed_number j.link url (record { seen = reader.fresh (setup_of j); seekers = [] })), k.due)))
+      (inr (inr (
+        w,
+        j,
+        verdict.said,
+        ap (λ x. Then (Answers w (record { makes = x; said = verdict.said }))) e,
+        k.who_is ∙ ap (λ n. Consumer n (ticket_of w)) (subscribed_number j.link url (record { seen = reader.fresh (setup_of j); seekers = [] })),
+        k.due,
+      )))
   built_caused w verdict makes.Nothing e h = absurd h
   built_caused w verdict makes.Client e h = absurd h
   built_caused w verdict (makes.RawConsumer l made) e h = absurd h

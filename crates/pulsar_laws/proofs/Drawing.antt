@@ -22,7 +22,7 @@ use Rattle.pulsar_calls.specs.declared.act.Action.TheVariants.{TakeTurn, PassTur
 use Rattle.pulsar_calls.specs.declared.act.Alarm.{Alarm}
 use Rattle.pulsar_calls.specs.declared.act.Alarm.TheVariants.{Batch}
 use Rattle.pulsar_calls.specs.declared.act.Makes.{Makes}
-use Rattle.pulsar_calls.specs.declared.act.Makes.TheVariants.{Producer}
+use Rattle.pulsar_calls.specs.declared.act.Makes.TheVariants.{Producer, Nothing}
 use Rattle.pulsar_calls.specs.declared.act.Notice.{Notice}
 use Rattle.pulsar_calls.specs.declared.act.Outcome.{Outcome}
 use Rattle.pulsar_calls.specs.declared.act.Outcome.TheVariants as outcome

@@ -212,8 +212,8 @@ grown_by o later older t a g (IsKept m e r how did) = record {
   more = does_to (view o (later ++ older)) t m a ++ g.more;
   done =
       did
-          ∙ ap (λ h. does_to (view o (later ++ older)) t m a ++ h) g.done
-          ∙ sym (append_assoc (does_to (view o (later ++ older)) t m a) g.more (done_to o t older));
+      ∙ ap (λ h. does_to (view o (later ++ older)) t m a ++ h) g.done
+      ∙ sym (append_assoc (does_to (view o (later ++ older)) t m a) g.more (done_to o t older));
   made = how ∙ g.made;
 }
 

@@ -270,21 +270,21 @@ takes_so o n t l p e older (inr (inr (inr (inl (k, u, other, request, m, is, ser
 takes_so o n t l p e older (inr (inr (inr (inr (inl (q, k)))))) = absurd cc
 takes_so o n t l p e older (inr (inr (inr (inr (inr (q, k)))))) = absurd cc
 
+abbrev IsTaken : Options → List Entry → (n t l m p : ℕ) → Type 0
+IsTaken o log n t l m p = (older : List Entry) × (m ≡ n) × (log ≡ Then (Told (notice (Consumer n t) (outcome.Word (word.Flow l p)))) ∷ older)
+    × InThisStep (TakesSo o n t l p) older
+
 pub flows_are_taken_lem : FlowsAreTaken
 flows_are_taken_lem o log n t l m p run = elim (does_from o log (Consumer n t) (Ask l (words.SendFlow m p)) run) [ inl k ↦ begun k | inr k ↦ led k ]
   where
-    abbrev IsTaken : Type 0
-    IsTaken = (older : List Entry) × (m ≡ n) × (log ≡ Then (Told (notice (Consumer n t) (outcome.Word (word.Flow l p)))) ∷ older)
-        × InThisStep (TakesSo o n t l p) older
-
-    begun : BeginsSo o log (Consumer n t) (Ask l (words.SendFlow m p)) → IsTaken
+    begun : BeginsSo o log (Consumer n t) (Ask l (words.SendFlow m p)) → IsTaken o log n t l m p
     begun k =
         let r : IsRun o (Then (Starts (Consumer n t) k.procedure) ∷ k.older) = subst (IsRun o) k.is_there run.0 in
         let is : IsServeOf n k.procedure = first_serve o k.older (Starts (Consumer n t) k.procedure) (are_served o k.older r.0) r.1 in
         let f : begins (procedure.Serve is.0 n) ≡ Stays k.plan (Ask l (words.SendFlow m p)) = ap begins (sym is.1) ∙ k.leads in
         absurd cc
 
-    led : IsLedSo o log (Consumer n t) (Ask l (words.SendFlow m p)) → IsTaken
+    led : IsLedSo o log (Consumer n t) (Ask l (words.SendFlow m p)) → IsTaken o log n t l m p
     led k =
         let r : IsRun o (Then (Told (notice (Consumer n t) k.outcome)) ∷ k.older) = subst (IsRun o) k.is_there run.0 in
         let was : ServesSo n k.before = (are_served o k.older r.0).stands n t k.before k.stood in

@@ -166,7 +166,6 @@ module _ (v : View) (t : ℕ) (m : Member) (h : v.consumers.rows t ≡ Some m) w
       ∙ made_other v.links.live who verdict.makes v.consumers t (other who verdict refl)) refl
   row_after a other = same a refl refl
 
-
 -- NO CONSUMER OF A CALL THAT HAS NOT ENDED
 
 pub begun_rows : (e : Heard) (v : View) (t : ℕ) → (begun e v).consumers.rows t ≡ v.consumers.rows t

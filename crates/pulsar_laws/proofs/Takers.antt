@@ -68,6 +68,7 @@ use Rattle.pulsar_laws.proofs.Natures.{StaysSo, either_so, is_batching}
 use Rattle.pulsar_laws.proofs.Unbatched.{calls_unbatched}
 use Rattle.pulsar_laws.proofs.Consuming.{IsModest, begins_modest, is_modest, stays_map, told_modest}
 use Rattle.pulsar_laws.proofs.Servers.{server_does}
+use Rattle.pulsar_calls.specs.declared.act.Verdict.{Verdict}
 
 abbrev is_taker : Action → Bool
 is_taker (TakeBatch n) = true

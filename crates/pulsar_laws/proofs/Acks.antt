@@ -76,6 +76,7 @@ use Rattle.pulsar_laws.proofs.Mild.{IsMildCommand, IsMildPlan, IsMildTurn, MildB
 use Rattle.pulsar_laws.proofs.Same.{same_self, same_who}
 use Rattle.pulsar_producer.specs.Wanted.{ProducerWanted}
 use Rattle.pulsar_calls.specs.declared.act.Says.{Says}
+use Rattle.pulsar_calls.specs.declared.act.Says.TheVariants as says
 use Rattle.std.specs.Prelude.{not}
 use Rattle.std.specs.Option.{is_some}
 
@@ -222,12 +223,18 @@ raw_licensed v k request s l r plan h b = let x : k ≡ l = cc in let y : reques
 call_licensed : (v : View) (advised : List (Option ℕ)) (asked : Asked) →
     LicensedStart v asked (procedure_for v.chosen v.calls v.consumers v.producers advised asked)
 call_licensed v advised (content.Ack t name id cumulative) =
-    may_licensed v (content.Ack t name id cumulative) (may_call v.calls) _
-    (unless_licensed v (content.Ack t name id cumulative) (why_not v.consumers t) _ (ack_licensed v t name id cumulative (v.consumers.rows t) refl))
+    let it : Asked = content.Ack t name id cumulative in
+    let p : Procedure = acks v t name id cumulative (link_at (v.consumers.rows t)) (number_at (v.consumers.rows t)) in
+    may_licensed v it (may_call v.calls) (unless (why_not v.consumers t) p)
+    (unless_licensed v it (why_not v.consumers t) p (ack_licensed v t name id cumulative (v.consumers.rows t) refl))
 call_licensed v advised (content.Raw k request) =
-    may_licensed v (content.Raw k request) (may_call v.calls) _
-    (unless_licensed v (content.Raw k request) (why_no_raw v.consumers v.producers request) _ (raw_licensed v k request _))
-call_licensed v advised asked = mild_licensed v asked _ (call_begun v.chosen v.calls v.consumers v.producers advised asked refl)
+    let it : Asked = content.Raw k request in
+    let p : Procedure = procedure.Ask (place.Link k) request says.Bodies in
+    let why : Option Refusal = why_no_raw v.consumers v.producers request in
+    may_licensed v it (may_call v.calls) (unless why p) (unless_licensed v it why p (raw_licensed v k request says.Bodies))
+call_licensed v advised asked =
+    mild_licensed v asked (procedure_for v.chosen v.calls v.consumers v.producers advised asked)
+    (call_begun v.chosen v.calls v.consumers v.producers advised asked refl)
 
 start_licensed : (v : View) (advised : List (Option ℕ)) (asked : Asked) (u : ℕ) (p : Procedure) (l : ℕ) (r : Words) (plan : Plan) →
     begins p ≡ Stays plan (Ask l r) → is_ack r ≡ true → In (Starts (Call u) p) (starts v advised asked) → (u ≡ v.calls.drawn) × Licenses v asked l r
@@ -268,8 +275,11 @@ unless_direct b (Some r) p h = inl (may_begun b (procedure.Refuse r) tt)
 
 call_so : (v : View) (advised : List (Option ℕ)) (asked : Asked) →
     IsBegun (Starts (Call v.calls.drawn) (procedure_for v.chosen v.calls v.consumers v.producers advised asked))
-call_so v advised (content.Ack t name id cumulative) = unless_direct (may_call v.calls) (why_not v.consumers t) _ refl
-call_so v advised (content.Raw k request) = unless_direct (may_call v.calls) (why_no_raw v.consumers v.producers request) _ refl
+call_so v advised (content.Ack t name id cumulative) =
+    unless_direct (may_call v.calls) (why_not v.consumers t)
+    (acks v t name id cumulative (link_at (v.consumers.rows t)) (number_at (v.consumers.rows t))) refl
+call_so v advised (content.Raw k request) =
+    unless_direct (may_call v.calls) (why_no_raw v.consumers v.producers request) (procedure.Ask (place.Link k) request says.Bodies) refl
 call_so v advised asked = inl (call_begun v.chosen v.calls v.consumers v.producers advised asked refl)
 
 starts_so : (v : View) (advised : List (Option ℕ)) (asked : Asked) → Each IsBegun (starts v advised asked)

@@ -1,7 +1,8 @@
 -- The plan of a consumer asks for the flows that it took.
-use Rattle.std.proofs.Common.{◌≡◌, inl, inr, ◌∙◌, sym, ap, subst, ℕ, List, [], ◌∷◌, refl, Bool, true, false, ◌&&◌, cond, Option, Some, None, Result, Ok, Err}
+use Rattle.std.proofs.Common.{◌≡◌, inl, inr, ◌∙◌, sym, ap, subst, ℕ, ◌==◌, List, [], ◌∷◌, ◌++◌, map, refl, Bool, true, false, ◌&&◌, cond, Option, Some, None, Result, Ok, Err}
 use Rattle.std.proofs.lemmas.Bool.{and_parts, cases_Bool, eqb-true}
 use Rattle.pulsar_run.specs.Laws.{InThisStep}
+use Rattle.pulsar_run.specs.Order.{arranged, put_all}
 use Rattle.pulsar_run.specs.Run.{rest}
 use Rattle.pulsar_messages.specs.Words as words
 use Rattle.pulsar_messages.specs.Words.{Words}
@@ -41,18 +42,20 @@ use Rattle.pulsar_procedures.specs.declared.service.Service.TheVariants as servi
 use Rattle.pulsar_procedures.specs.declared.states.Resubscribing.{Resubscribing}
 use Rattle.pulsar_procedures.specs.Plan.{begins, in_recalling, in_resting, in_resuming, in_reviving, in_taking, news_in, overrides, resting_hears, resubscribes, told, told_service, wished}
 use Rattle.pulsar_tables.specs.Consumers.{Member, flow_at, word_if, word_of, word_of_frame, word_of_loss}
-use Rattle.pulsar_tables.specs.Rules.{at_once, notice}
+use Rattle.pulsar_tables.specs.Reading.{flow_said, tells_word}
+use Rattle.pulsar_tables.specs.Rules.{at_once, below, causes, follows_some, further, joins, notice}
 use Rattle.pulsar_tables.specs.View.{Options, View, stand_after, stays, stays_some, told_some, ways_of}
-use Rattle.pulsar_client.specs.Run.{Entry, Begins, Then, IsRun, agenda, first, view}
+use Rattle.pulsar_client.specs.Run.{Agenda, Entry, Begins, Then, IsRun, agenda, first, view}
 use Rattle.pulsar_client.proofs.Acts.{Each, begun_same, each_append, each_first, each_map, each_rest, is_served}
 use Rattle.pulsar_client.proofs.Raising.{IsRaised, raises}
 use Rattle.pulsar_client.proofs.Sources.{step_more}
-use Rattle.pulsar_laws.specs.ConsumerLaws.{FlowsAreTaken, TakesSo}
+use Rattle.pulsar_laws.specs.ConsumerLaws.{FlowsAreAsked, FlowsAreTaken, TakesSo}
 use Rattle.pulsar_laws.specs.Laws.{Cause}
 use Rattle.pulsar_laws.proofs.Acks.{told_so}
 use Rattle.pulsar_laws.proofs.Caused.{outcomes_are_caused_lem}
 use Rattle.pulsar_laws.proofs.Consuming.{StaysSo, either_so}
 use Rattle.pulsar_laws.proofs.Granted.{BeginsSo, IsLedSo, does_from}
+use Rattle.pulsar_laws.proofs.InTurn.{stand_told}
 use Rattle.pulsar_laws.proofs.Left.{left_each}
 use Rattle.pulsar_laws.proofs.Mild.{Any, IsMildCommand, IsMildWish, MildService, MildTurn, is_own, resume_mild}
 
@@ -65,32 +68,33 @@ abbrev ServesSo : ℕ → Plan → Type 0
 ServesSo n (Serving w m s) = (m ≡ n) × MildService s
 ServesSo n _ = ⊥
 
--- for no flow but that which it is told
-abbrev AsksSo : ℕ → Outcome → Action → Type 0
-AsksSo n u (Ask l (words.SendFlow m p)) = (m ≡ n) × (u ≡ outcome.Word (word.Flow l p))
-AsksSo n u _ = Unit {0}
+-- for no flow but that which it is told; and it takes one only where it waits for it then
+abbrev AsksSo : ℕ → Outcome → Plan → Action → Type 0
+AsksSo n u q (Ask l (words.SendFlow m p)) = (m ≡ n) × (u ≡ outcome.Word (word.Flow l p))
+AsksSo n u q TakeFlow = (w : Ways) × (q ≡ Serving w n service.Taking)
+AsksSo n u q _ = Unit {0}
 
 module _ (n : ℕ) (u : Outcome) where
   abbrev GoesSo : Plan → Action → Type 0
-  GoesSo plan action = ServesSo n plan × AsksSo n u action
+  GoesSo plan action = ServesSo n plan × AsksSo n u plan action
 
-  own_asks : (l : ℕ) (r : Words) → is_own r ≡ false → AsksSo n u (Ask l r)
-  own_asks l (words.SendFlow m p) h = absurd cc
-  own_asks l _ h = tt
+  own_asks : (q : Plan) (l : ℕ) (r : Words) → is_own r ≡ false → AsksSo n u q (Ask l r)
+  own_asks q l (words.SendFlow m p) h = absurd cc
+  own_asks q l _ h = tt
 
-  wish_asks : (x : Wish) → IsMildWish x → AsksSo n u (wished x)
-  wish_asks (wish.Get p) h = tt
-  wish_asks (wish.Ask l request) h = own_asks l request h
-  wish_asks (wish.Wait delay) h = tt
+  wish_asks : (q : Plan) (x : Wish) → IsMildWish x → AsksSo n u q (wished x)
+  wish_asks q (wish.Get p) h = tt
+  wish_asks q (wish.Ask l request) h = own_asks q l request h
+  wish_asks q (wish.Wait delay) h = tt
 
   resumes_so : (w : Ways) (c : Command) (x : consume.Resumes) → IsMildCommand c → MildTurn Any x → StaysSo GoesSo (resubscribes w n c x)
-  resumes_so w c (search_turn.Stays r x) h p = ((refl, h), wish_asks x p.1)
+  resumes_so w c (search_turn.Stays r x) h p = ((refl, h), wish_asks _ x p.1)
   resumes_so w c (search_turn.Gives (Ok link)) h p = ((refl, tt), tt)
   resumes_so w c (search_turn.Gives (Err f)) h p = ((refl, tt), tt)
 
 hears_so : (n : ℕ) (w : Ways) (x : Word) → StaysSo (GoesSo n (outcome.Word x)) (resting_hears w n x)
 hears_so n w word.Over = tt
-hears_so n w word.Due = ((refl, tt), tt)
+hears_so n w word.Due = ((refl, tt), (w, refl))
 hears_so n w word.Lost = ((refl, tt), tt)
 hears_so n w (word.TopicEnded link) = ((refl, tt), tt)
 hears_so n w _ = ((refl, tt), tt)
@@ -130,7 +134,7 @@ reviving_so n w link _ = ((refl, tt), tt)
 service_so : (n : ℕ) (w : Ways) (s : Service) (u : Outcome) → MildService s → MildRecall u → StaysSo (GoesSo n u) (told_service w n s u)
 service_so n w service.Resting u k h = resting_so n w u
 service_so n w service.Taking u k h = taking_so n w u
-service_so n w service.Asking u k h = ((refl, tt), tt)
+service_so n w service.Asking u k h = ((refl, tt), (w, refl))
 service_so n w service.Recalling u k h = recalling_so n w u h
 service_so n w (service.Resuming s) u k h = resuming_so n w s u k
 service_so n w (service.Reviving link) u k h = reviving_so n w link u
@@ -300,3 +304,49 @@ flows_are_taken_lem o log n t l m p run = elim (does_from o log (Consumer n t) (
           step_more (Cause o (Consumer n t) (outcome.Word (word.Flow l p))) (TakesSo o n t l p) (takes_so o n t l p) k.older
               (outcomes_are_caused_lem o k.older (Consumer n t) (outcome.Word (word.Flow l p)) q),
         )
+
+-- it waits for the flow that it takes
+waits_then : (o : Options) (older : List Entry) (n t : ℕ) → IsRun o (Then (Does (Consumer n t) TakeFlow) ∷ older) →
+    (w : Ways) × ((view o older).stand (Consumer n t) ≡ Some (Serving w n service.Taking))
+waits_then o older n t run = elim (does_from o older (Consumer n t) TakeFlow run) [ inl k ↦ begun k | inr k ↦ led k ]
+  where
+    begun : BeginsSo o older (Consumer n t) TakeFlow → (w : Ways) × ((view o older).stand (Consumer n t) ≡ Some (Serving w n service.Taking))
+    begun k =
+        let r : IsRun o (Then (Starts (Consumer n t) k.procedure) ∷ k.older) = subst (IsRun o) k.is_there run.0 in
+        let is : IsServeOf n k.procedure = first_serve o k.older (Starts (Consumer n t) k.procedure) (are_served o k.older r.0) r.1 in
+        let f : begins (procedure.Serve is.0 n) ≡ Stays k.plan TakeFlow = ap begins (sym is.1) ∙ k.leads in
+        absurd cc
+
+    led : IsLedSo o older (Consumer n t) TakeFlow → (w : Ways) × ((view o older).stand (Consumer n t) ≡ Some (Serving w n service.Taking))
+    led k =
+        let r : IsRun o (Then (Told (notice (Consumer n t) k.outcome)) ∷ k.older) = subst (IsRun o) k.is_there run.0 in
+        let was : ServesSo n k.before = (are_served o k.older r.0).stands n t k.before k.stood in
+        let so : StaysSo (GoesSo n k.outcome) (told k.before k.outcome) =
+        told_serves n k.before k.outcome was (recall_so o k.older (Consumer n t) k.outcome r) in
+        let x : StaysSo (GoesSo n k.outcome) (Stays k.plan TakeFlow) = subst (StaysSo (GoesSo n k.outcome)) k.leads so in (
+          x.1.0,
+          ap (λ l. (view o l).stand (Consumer n t)) k.is_there
+              ∙ stand_told o k.older (Consumer n t) k.outcome k.before k.plan TakeFlow k.stood k.leads
+              ∙ ap Some x.1.1,
+        )
+
+-- what an act alone gives rise to at once is next
+first_at : (o : Options) (log : List Entry) (a b : Act) → at_once (view o log) a ≡ b ∷ [] → first (agenda o (Then a ∷ log)) ≡ Some b
+first_at o log a b e =
+    let v : View = view o log in
+    let g : Agenda = rest (agenda o log) in
+    ap (λ xs. first (record {
+      now = xs ++ g.now;
+      here = put_all below (joins v a) g.here;
+      behind = g.behind ++ map (arranged below) (causes v a);
+      parts = further v a ++ g.parts;
+    })) e
+
+pub flows_are_asked_lem : FlowsAreAsked
+flows_are_asked_lem o older n t l p run e =
+    let who : Who = Consumer n t in
+    let w = waits_then o older n t run in (
+      first_at o older (Does who TakeFlow) (Told (notice who (outcome.Word (word.Flow l p)))) (ap (λ r. tells_word who (flow_said r)) e),
+      first_at o (Then (Does who TakeFlow) ∷ older) (Told (notice who (outcome.Word (word.Flow l p)))) (Does who (Ask l (words.SendFlow n p)))
+          (ap (λ row. follows_some who (told_some row (outcome.Word (word.Flow l p)))) w.1),
+    )

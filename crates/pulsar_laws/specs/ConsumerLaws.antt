@@ -37,7 +37,7 @@ use Rattle.pulsar_tables.specs.Consumers as consumer
 use Rattle.pulsar_tables.specs.Consumers.{Member, is_closed_by}
 use Rattle.pulsar_tables.specs.View.{Options, Seat, View, answer_at, arrival_at, closing, is_asked, setup_of, url_at}
 use Rattle.pulsar_tables.specs.Rules.{call_part, notice}
-use Rattle.pulsar_client.specs.Run.{Entry, Begins, Then, IsRun, Step, steps, view}
+use Rattle.pulsar_client.specs.Run.{Entry, Begins, Then, IsRun, Step, agenda, first, steps, view}
 use Rattle.pulsar_laws.specs.Laws.{counted}
 
 -- WHAT IS DONE TO A CONSUMER
@@ -219,6 +219,14 @@ abbrev pub FlowsAreTaken : Type 0
 FlowsAreTaken = (o : Options) (log : List Entry) (n t l m p : ℕ) → IsRun o (Then (Does (Consumer n t) (Ask l (words.SendFlow m p))) ∷ log) →
     (older : List Entry) × (m ≡ n) × (log ≡ Then (Told (notice (Consumer n t) (outcome.Word (word.Flow l p)))) ∷ older)
     × InThisStep (TakesSo o n t l p) older
+
+-- Each flow that it takes is asked for: it is told of it next, and next it asks for it.
+abbrev pub FlowsAreAsked : Type 0
+FlowsAreAsked = (o : Options) (older : List Entry) (n t l p : ℕ) → IsRun o (Then (Does (Consumer n t) TakeFlow) ∷ older) →
+    consumer.flow_at ((view o older).consumers.rows t) ≡ Some (l, p) →
+    (first (agenda o (Then (Does (Consumer n t) TakeFlow) ∷ older)) ≡ Some (Told (notice (Consumer n t) (outcome.Word (word.Flow l p)))))
+    × (first (agenda o (Then (Told (notice (Consumer n t) (outcome.Word (word.Flow l p)))) ∷ Then (Does (Consumer n t) TakeFlow) ∷ older))
+    ≡ Some (Does (Consumer n t) (Ask l (words.SendFlow n p))))
 
 -- ACKNOWLEDGEMENTS
 

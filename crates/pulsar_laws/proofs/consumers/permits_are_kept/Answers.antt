@@ -1,5 +1,5 @@
 use Rattle.pulsar_laws.proofs.Ended.{permits_are_kept_lem}
-use Rattle.pulsar_laws.proofs.Flows.{flows_are_taken_lem}
+use Rattle.pulsar_laws.proofs.Flows.{flows_are_asked_lem, flows_are_taken_lem}
 use Rattle.pulsar_laws.proofs.Once.{ends_once_lem}
 use Rattle.pulsar_laws.proofs.consumers.permits_are_kept.Goals as goal
 
@@ -8,3 +8,6 @@ returns-clause-bounds c = λ o log t m l run is raw live. permits_are_kept_lem e
 
 pub returns-clause-flows : goal.returns-clause-flows
 returns-clause-flows c = λ o log n t l m p run. flows_are_taken_lem o log n t l m p run
+
+pub returns-clause-asked : goal.returns-clause-asked
+returns-clause-asked c = λ o older n t l p run is. flows_are_asked_lem o older n t l p run is

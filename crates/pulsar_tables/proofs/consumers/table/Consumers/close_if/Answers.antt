@@ -12,6 +12,6 @@ returns-then-not-is_asked c =
     let n = c.args.number in
     record {
       notices = c.new.ensures.items ∙ sym (over_none (λ t m. word_to t m (word_of_close (Some n) l c.args.is_asked m))
-          (λ t m. ap (λ a. word_to t m (word_of_close (Some n) l a m)) ?) cs.rows cs.tickets);
-      after = all_same (closes (Some n) l c.args.is_asked) (λ m. ap (λ a. closes (Some n) l a m) ?) cs;
+          (λ t m. ap (λ a. word_to t m (word_of_close (Some n) l a m)) c.if-not-is_asked.true) cs.rows cs.tickets);
+      after = all_same (closes (Some n) l c.args.is_asked) (λ m. ap (λ a. closes (Some n) l a m) c.if-not-is_asked.true) cs;
     }

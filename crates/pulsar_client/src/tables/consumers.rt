@@ -34,6 +34,7 @@ use pulsar_tables::consumers::numbers::Numbering;
 use pulsar_tables::consumers::row::Sought;
 use pulsar_wire::commands::ids::MessageIdData;
 use pulsar_wire::error::{ConnectionError, NoMemory};
+use std::alloc::Global;
 
 impl Tables {
     /// A consumer is polled. A flow of it may be due then.
@@ -88,8 +89,7 @@ impl Tables {
     ) -> Result<Procedure, NoMemory>
         ensures { IfOk result (λ p. p ≡ acknowledges (consumers_in self.now.consumers.rows self.now.consumers.numbers) ticket (λ n. SendAck n (message_id_values id ∷ []) cumulative)) }
     {
-        let mut ids = Vec::new(self.alloc);
-        ids.push(id)?;
+        let ids = one_id(self.alloc, id)?;
         self.asks_for(
             ticket,
             RawCall::SendAck {
@@ -108,8 +108,7 @@ impl Tables {
     ) -> Result<Procedure, NoMemory>
         ensures { IfOk result (λ p. p ≡ acknowledges (consumers_in self.now.consumers.rows self.now.consumers.numbers) ticket (λ n. SendRedeliver n (message_id_values id ∷ []))) }
     {
-        let mut ids = Vec::new(self.alloc);
-        ids.push(id)?;
+        let ids = one_id(self.alloc, id)?;
         self.asks_for(
             ticket,
             RawCall::SendRedeliver {
@@ -241,6 +240,14 @@ impl Tables {
         join_all(notices, tasks)?;
         tell_word(who, Word::Over, tasks)
     }
+}
+
+fn one_id(alloc: Global, id: MessageIdData) -> Result<Vec<MessageIdData>, NoMemory>
+    ensures { IfOk result (λ ids. map message_id_values ids.items ≡ message_id_values id ∷ []) }
+{
+    let mut ids = Vec::new(alloc);
+    ids.push(id)?;
+    Ok(ids)
 }
 
 /// What a poll gives is shown.

@@ -107,7 +107,7 @@ more_so p u os f (IsSettled i) = IsSettled (inr i)
 more_so p u os f (IsPartial first count failures h some e) =
     IsPartial first count failures h (elim (has_failed u) as (λ b. (b || list_any has_failed os) ≡ true) [ true ↦ refl | false ↦ some ]) e
 more_so p u os f (IsInUse w order is i e) = IsInUse w order is (inr i) e
-more_so p u os f (IsOfSeveral w order is e) = IsOfSeveral w order is e
+more_so p u os f (IsOfSeveral w order r n k is i c two e) = IsOfSeveral w order r n k is (inr i) c two e
 more_so p u os f (IsClosed t n is i e) = IsClosed t n is (inr i) e
 more_so p u os f (IsAnswered r number s i is e) = IsAnswered r number s (inr i) is e
 

@@ -39,6 +39,7 @@ pub mod Led
 pub mod Once
 pub mod Searches
 pub mod Productions
+pub mod Counted
 pub mod Failing
 pub mod Failures
 pub mod Caused

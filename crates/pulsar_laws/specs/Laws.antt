@@ -19,7 +19,7 @@ use Rattle.pulsar_link.specs.Items.{Item, Given, Faulty}
 use Rattle.pulsar_link.specs.Messages.{Reply, read}
 use Rattle.pulsar_link.specs.Request.{closed_consumer, request_number}
 use Rattle.pulsar_plans.specs.Address.{Place, address_key, is_reachable}
-use Rattle.pulsar_plans.specs.Replies.{in_discovery, query, unexpected, fails_by, is_choice, place_at}
+use Rattle.pulsar_plans.specs.Replies.{in_discovery, query, unexpected, fails_by, is_choice, place_at, count_in}
 use Rattle.pulsar_producer.specs.Errors.{in_producer}
 use Rattle.pulsar_producer.specs.declared.deed.News.{News}
 use Rattle.pulsar_plans.specs.Backoff.{allow_retry}
@@ -86,6 +86,7 @@ use Rattle.pulsar_calls.specs.declared.act.Outcome.TheVariants as outcome
 use Rattle.pulsar_calls.specs.declared.act.Procedure.TheVariants as procedure
 use Rattle.pulsar_procedures.specs.declared.plan.Turn.TheVariants as turn
 use Rattle.pulsar_tables.specs.Links as links
+use Rattle.pulsar_plans.specs.declared.replies.Heard.TheVariants.{Says as CountIs}
 
 -- THE RUN
 
@@ -588,7 +589,8 @@ pub data FailsSo (p : Procedure) (os : List Outcome) (f : Failure) : Type 0 wher
   IsPartial : (first count : ℕ) (failures : List (ℕ × Failure)) → p ≡ procedure.Gather first count → list_any has_failed os ≡ true →
       f ≡ OfPartialSend (outcomes_of failures (numbers_from first count)) → FailsSo p os f
   IsInUse : (w : Ways) (order : Order) → p ≡ procedure.Subscribe w order → In (outcome.Word word.InUse) os → f ≡ in_use → FailsSo p os f
-  IsOfSeveral : (w : Ways) (order : Order) → p ≡ procedure.Subscribe w order → f ≡ not_found → FailsSo p os f
+  IsOfSeveral : (w : Ways) (order : Order) (r : Reply) (retries count : ℕ) → p ≡ procedure.Subscribe w order → In (outcome.Replied r) os →
+      count_in w retries r.content ≡ CountIs count → 2 ≤ count → f ≡ not_found → FailsSo p os f
   IsClosed : (t n : ℕ) → p ≡ procedure.Leave t n → In (outcome.Word word.Closed) os → f ≡ OfConsumer ConsumerClosed → FailsSo p os f
   IsAnswered : (r : Reply) (number : ℕ) (s : Says) → In (outcome.Replied r) os → number_in p ≡ Some number → Failed f ≡ reply_says s number r → FailsSo p os f
 

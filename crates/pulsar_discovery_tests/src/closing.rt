@@ -2,8 +2,8 @@
 
 use pulsar_plans::closing::{self, Close, Closing, Made, MadeList, Step};
 use pulsar_plans::content::Refusal;
-use pulsar_wire::error::ConnectionError;
-use std::alloc::Global;
+use pulsar_wire::error::{ConnectionError, NoMemory};
+use std::alloc::{AllocError, Global};
 use std::test::Fail;
 
 const PRODUCER: Made = Made {
@@ -16,36 +16,44 @@ const CONSUMER: Made = Made {
     what: Close::Consumer(2),
 };
 
-fn refusal(alloc: Global) -> Result<Refusal, Fail> {
-    Ok(Refusal::in_connection(alloc, ConnectionError::Exhausted)?)
+/// What a build has made that fails.
+fn closing(alloc: Global) -> Result<Step<Closing, Made, Refusal>, NoMemory> {
+    let made = MadeList::new(alloc).with(PRODUCER)?.with(CONSUMER)?;
+    let refusal = Refusal::in_connection(alloc, ConnectionError::Exhausted)?;
+    Ok(closing::begins(made, refusal))
 }
 
-/// What is closed from a step on, and what is given then.
-fn closed(alloc: Global, mut step: Step<Closing, Made, Refusal>) -> Result<String, Fail> {
-    let mut text = String::new(alloc);
-    for _ in 0..8 {
-        match step {
-            Step::Stays(closing, made) => {
-                text.push_str(format!(in alloc; "{made:?}\n")?.as_str())?;
-                step = closing::told(closing);
-            }
-            Step::Gives(refusal) => {
-                let error = refusal.into_inner();
-                text.push_str(format!(in alloc; "{error}")?.as_str())?;
-                return Ok(text);
-            }
+/// A step as a line, and the next one.
+fn goes(
+    step: Step<Closing, Made, Refusal>,
+    text: &mut String,
+) -> Result<Step<Closing, Made, Refusal>, AllocError> {
+    match step {
+        Step::Stays(closing, made) => {
+            write!(text, "{made:?}\n")?;
+            Ok(closing::told(closing))
         }
+        Step::Gives(refusal) => Ok(Step::Gives(refusal)),
+    }
+}
+
+/// What is closed, and what is given then.
+fn closed(alloc: Global) -> Result<String, Fail> {
+    let mut text = String::new(alloc);
+    let first = closing(alloc)?;
+    let second = goes(first, &mut text)?;
+    let end = goes(second, &mut text)?;
+    if let Step::Gives(refusal) = end {
+        let error = refusal.into_inner();
+        write!(text, "{error}")?;
     }
     Ok(text)
 }
 
 #[test]
 fn what_was_made_is_closed_in_order(rt: HostRuntime) -> Result<(), Fail> {
-    let alloc = rt.alloc();
-    let made = MadeList::new(alloc).with(PRODUCER)?.with(CONSUMER)?;
-    let text = closed(alloc, closing::begins(made, refusal(alloc)?))?;
     assert_eq!(rt;
-        text.as_str(),
+        closed(rt.alloc())?.as_str(),
         "Made { link: 0, what: Producer(7) }\nMade { link: 3, what: Consumer(2) }\nConnection error: counter exhausted"
     );
     Ok(())

@@ -2,121 +2,124 @@
 
 use pulsar_discovery::{
     BrokerAddress, ConnectionManager, ConnectionRetryOptions, Found, Machine, Next,
-    OperationRetryOptions, Outcome,
+    OperationRetryOptions, Outcome, ServiceDiscovery,
 };
 use pulsar_frame::message::Message;
 use pulsar_frame::reader::FrameReader;
-use pulsar_wire::error::{ConnectionError, IoKind};
-use std::alloc::Global;
+use pulsar_wire::error::{ConnectionError, IoKind, NoMemory};
+use std::alloc::{AllocError, Global};
 use std::test::Fail;
 
-/// What a machine is told.
-#[derive(Clone, Copy)]
-pub enum Tell {
-    Start,
-    Link(u64),
-    Lost,
-    Late,
-    Moment,
-    Reply(&'static [u8]),
+/// A manager of the service on this machine, with these retries of operations.
+pub fn manager(alloc: Global, retries: Option<u32>) -> Result<Box<ConnectionManager>, Fail> {
+    let manager = manager_of(alloc, "pulsar://127.0.0.1:6650", retries)?;
+    Ok(Box::new(alloc, manager)?)
 }
 
-/// A manager of the service on this machine, with these retries of operations.
-pub fn manager(alloc: Global, retries: Option<u32>) -> Result<ConnectionManager, Fail> {
+pub fn manager_of(
+    alloc: Global,
+    url: &str,
+    max_retries: Option<u32>,
+) -> Result<ConnectionManager, ConnectionError> {
+    let connection = ConnectionRetryOptions::default();
     let operation = OperationRetryOptions {
-        max_retries: retries,
+        max_retries,
         ..OperationRetryOptions::default()
     };
-    Ok(ConnectionManager::new(
-        alloc,
-        "pulsar://127.0.0.1:6650",
-        None,
-        ConnectionRetryOptions::default(),
-        operation,
-        100,
-        0,
-        0,
-    )?)
+    ConnectionManager::new(alloc, url, None, connection, operation, 100, 0, 0)
 }
 
-/// The one message of a frame.
-fn message(alloc: Global, frame: &[u8]) -> Result<Message, Fail> {
-    let mut frames = FrameReader::new(alloc);
-    frames.feed(frame)?;
-    Ok(frames.next()?.ok_or(ConnectionError::NotFound)?)
+pub fn discovery(alloc: Global, retries: Option<u32>) -> Result<ServiceDiscovery, Fail> {
+    let manager = manager(alloc, retries)?;
+    Ok(ServiceDiscovery::with_manager(alloc, &manager)?)
 }
 
-fn outcome(alloc: Global, tell: Tell) -> Result<Outcome, Fail> {
-    Ok(match tell {
-        Tell::Start => Outcome::Start,
-        Tell::Link(link) => Outcome::Link(Ok(link)),
-        Tell::Lost => Outcome::Failed(ConnectionError::Disconnected),
-        Tell::Late => Outcome::Failed(ConnectionError::Io(IoKind::TimedOut)),
-        Tell::Moment => Outcome::Moment,
-        Tell::Reply(frame) => Outcome::Reply(message(alloc, frame)?),
-    })
-}
-
-fn hex(alloc: Global, bytes: &[u8]) -> Result<String, Fail> {
+/// The lines, each with what the machine says to it behind ` = `, in the place of what stands there.
+pub fn run(alloc: Global, machine: Machine, lines: &str) -> Result<String, Fail> {
+    let mut machine = Box::new(alloc, machine)?;
     let mut text = String::new(alloc);
-    for byte in bytes {
-        text.push_str(format!(in alloc; "{byte:02x}")?.as_str())?;
+    for line in lines.lines() {
+        let (tell, _) = line.split_once(" = ").unwrap_or((line, ""));
+        hear(alloc, &mut machine, tell, &mut text)?;
     }
     Ok(text)
 }
 
-fn address(alloc: Global, address: &BrokerAddress) -> Result<String, Fail> {
+fn hear(alloc: Global, machine: &mut Machine, tell: &str, text: &mut String) -> Result<(), Fail> {
+    let next = machine.go(outcome(alloc, tell)?);
+    let said = lend(next, |next| said(alloc, next))?;
+    write!(text, "{tell} = {said}\n")?;
+    Ok(())
+}
+
+/// Lends the value, and lets it go. Who passes a large value on at once has little to follow from point to point.
+fn lend<T: Drop, R, F: FnOnce(&T) -> R>(value: T, f: F) -> R
+    requires { F.IsAlwaysCallable f }
+{
+    f(&value)
+}
+
+/// What a machine is told by these words. Digits are those of a reply's frame.
+fn outcome(alloc: Global, words: &str) -> Result<Outcome, Fail> {
+    match words {
+        "start" => Ok(Outcome::Start),
+        "link 0" => Ok(Outcome::Link(Ok(0))),
+        "link 1" => Ok(Outcome::Link(Ok(1))),
+        "link 2" => Ok(Outcome::Link(Ok(2))),
+        "lost" => Ok(Outcome::Failed(ConnectionError::Disconnected)),
+        "late" => Ok(Outcome::Failed(ConnectionError::Io(IoKind::TimedOut))),
+        "moment" => Ok(Outcome::Moment),
+        digits => Ok(Outcome::Reply(message(alloc, digits)?)),
+    }
+}
+
+/// The one message of a frame.
+fn message(alloc: Global, digits: &str) -> Result<Message, Fail> {
+    let mut frames = FrameReader::new(alloc);
+    frames.feed(&hex::decode(alloc, digits)?)?;
+    Ok(frames.next()?.ok_or(ConnectionError::NotFound)?)
+}
+
+fn said(alloc: Global, next: &Result<Next, NoMemory>) -> Result<String, Fail> {
+    match next {
+        Ok(Next::Get(place)) => Ok(format!(in alloc; "get {}", address(alloc, place)?)?),
+        Ok(Next::Ask(link, message)) => {
+            Ok(format!(in alloc; "ask {link} {}", digits(alloc, message)?)?)
+        }
+        Ok(Next::Wait(delay)) => Ok(format!(in alloc; "wait {delay}")?),
+        Ok(Next::Done(it)) => Ok(format!(in alloc; "done {}", found(alloc, it)?)?),
+        Ok(Next::Refuse(e)) => Ok(format!(in alloc; "refuse {e}")?),
+        Err(NoMemory) => Err(Fail::new("no memory")),
+    }
+}
+
+fn digits(alloc: Global, message: &Message) -> Result<String, Fail> {
+    Ok(hex::encode(alloc, message.to_frame(alloc)?.as_slice())?)
+}
+
+fn address(alloc: Global, address: &BrokerAddress) -> Result<String, AllocError> {
     let url = address.url.as_str();
     let broker = &address.broker_url;
     let proxy = address.proxy;
-    Ok(format!(in alloc; "{url} {broker} {proxy}")?)
+    format!(in alloc; "{url} {broker} {proxy}")
 }
 
-fn found(alloc: Global, found: Found) -> Result<String, Fail> {
+fn found(alloc: Global, found: &Found) -> Result<String, Fail> {
     match found {
-        Found::Address(a) => address(alloc, &a),
-        Found::Count(n) => Ok(format!(in alloc; "{n}")?),
-        Found::Addresses(names) => {
-            let mut text = String::new(alloc);
-            for (name, place) in &names {
-                let place = address(alloc, place)?;
-                text.push_str(format!(in alloc; "{name} {place};")?.as_str())?;
-            }
-            Ok(text)
-        }
+        Found::Address(place) => Ok(address(alloc, place)?),
+        Found::Count(count) => Ok(format!(in alloc; "{count}")?),
+        Found::Addresses(names) => Ok(addresses(alloc, names)?),
         Found::Reply(link, message) => {
-            let frame = hex(alloc, message.to_frame(alloc)?.as_slice())?;
-            Ok(format!(in alloc; "{link} {frame}")?)
+            Ok(format!(in alloc; "{link} {}", digits(alloc, message)?)?)
         }
     }
 }
 
-fn said(alloc: Global, next: Next) -> Result<String, Fail> {
-    match next {
-        Next::Get(a) => {
-            let place = address(alloc, &a)?;
-            Ok(format!(in alloc; "get {place}")?)
-        }
-        Next::Ask(link, message) => {
-            let frame = hex(alloc, message.to_frame(alloc)?.as_slice())?;
-            Ok(format!(in alloc; "ask {link} {frame}")?)
-        }
-        Next::Wait(delay) => Ok(format!(in alloc; "wait {delay}")?),
-        Next::Done(x) => {
-            let x = found(alloc, x)?;
-            Ok(format!(in alloc; "done {x}")?)
-        }
-        Next::Refuse(e) => Ok(format!(in alloc; "refuse {e}")?),
-    }
-}
-
-/// What a machine says to each of these.
-pub fn run(alloc: Global, mut machine: Machine, tells: &[Tell]) -> Result<String, Fail> {
+fn addresses(alloc: Global, names: &[(String, BrokerAddress)]) -> Result<String, AllocError> {
     let mut text = String::new(alloc);
-    for tell in tells {
-        let next = machine.go(outcome(alloc, *tell)?)?;
-        text.push_str(said(alloc, next)?.as_str())?;
-        text.push_str("\n")?;
+    for (name, place) in names {
+        let place = address(alloc, place)?;
+        write!(text, "{name} {place};")?;
     }
     Ok(text)
 }

@@ -4,16 +4,16 @@ use pulsar_consumer::{DeserializeMessage, Message, MessageData};
 use pulsar_frame::payload::Payload;
 use pulsar_wire::commands::ids::MessageIdData;
 use pulsar_wire::commands::metadata::MessageMetadata;
+use pulsar_wire::error::NoMemory;
 use std::alloc::Global;
 use std::test::Fail;
 
-fn payload(alloc: Global, bytes: &[u8]) -> Result<Payload, Fail> {
+fn payload(alloc: Global, bytes: &[u8]) -> Result<Payload, NoMemory> {
+    let bytes = bytes.to_vec(alloc)?;
+    let key = String::from_str(alloc, "k")?;
     let mut metadata = MessageMetadata::new(alloc);
-    metadata.partition_key = Some(String::from_str(alloc, "k")?);
-    Ok(Payload {
-        metadata,
-        bytes: bytes.to_vec(alloc)?,
-    })
+    metadata.partition_key = Some(key);
+    Ok(Payload { metadata, bytes })
 }
 
 fn data(alloc: Global) -> MessageData {
@@ -25,44 +25,51 @@ fn data(alloc: Global) -> MessageData {
     }
 }
 
-fn message<T>(alloc: Global, bytes: &[u8]) -> Result<Message<T>, Fail> {
+fn message(alloc: Global) -> Result<Message<Vec<u8>>, NoMemory> {
     let topic = String::from_str(alloc, "t")?;
-    Ok(Message::new(topic, data(alloc), payload(alloc, bytes)?))
+    let payload = payload(alloc, b"abc")?;
+    Ok(Message::new(topic, data(alloc), payload))
+}
+
+fn says(message: &Message<Vec<u8>>) -> bool {
+    message.topic.as_str() == "t"
+        && message.key() == Some("k")
+        && message.message_id().entry_id == 7
+        && message.metadata().sequence_id == 0
+}
+
+fn is_read(message: &Message<Vec<u8>>) -> bool {
+    match message.deserialize() {
+        Ok(bytes) => bytes.as_slice() == b"abc".as_slice(),
+        Err(NoMemory) => false,
+    }
+}
+
+fn is_right(alloc: Global) -> Result<bool, NoMemory> {
+    let message = message(alloc)?;
+    Ok(says(&message) && is_read(&message))
 }
 
 #[test]
 fn a_message_says_what_it_is(rt: HostRuntime) -> Result<(), Fail> {
-    let message: Message<Vec<u8>> = message(rt.alloc(), b"abc")?;
-    assert!(rt; message.topic.as_str() == "t");
-    assert!(rt; message.key() == Some("k"));
-    assert!(rt; message.message_id().entry_id == 7);
-    assert!(rt; message.metadata().sequence_id == 0);
+    assert!(rt; is_right(rt.alloc())?);
     Ok(())
 }
 
-fn bytes(alloc: Global) -> Result<Vec<u8>, Fail> {
-    let message: Message<Vec<u8>> = message(alloc, b"abc")?;
-    Ok(message.deserialize()?)
-}
-
-#[test]
-fn a_payload_is_read_as_its_bytes(rt: HostRuntime) -> Result<(), Fail> {
-    let bytes = bytes(rt.alloc())?;
-    assert!(rt; bytes.as_slice() == b"abc".as_slice());
-    Ok(())
+fn is_copied(alloc: Global) -> Result<bool, NoMemory> {
+    let data = data(alloc);
+    Ok(data.copy()? == data)
 }
 
 #[test]
 fn a_copy_of_an_id_is_equal(rt: HostRuntime) -> Result<(), Fail> {
-    let data = data(rt.alloc());
-    let copy = data.copy()?;
-    assert!(rt; copy == data);
+    assert!(rt; is_copied(rt.alloc())?);
     Ok(())
 }
 
-fn is_text(alloc: Global, bytes: &[u8]) -> Result<bool, Fail> {
-    let text = String::deserialize_message(&payload(alloc, bytes)?)?;
-    Ok(text.is_ok())
+fn is_text(alloc: Global, bytes: &[u8]) -> Result<bool, NoMemory> {
+    let payload = payload(alloc, bytes)?;
+    Ok(String::deserialize_message(&payload)?.is_ok())
 }
 
 #[test]

@@ -1,18 +1,18 @@
 //! Plans of consumers, news by news.
 
-use pulsar_consumer::building::{self, Builds, Deed, News, Order};
+use pulsar_consumer::building::{self, Builds, Built, Deed, News, Order};
 use pulsar_consumer::resuming::{self, Resumes};
 use pulsar_consumer::settings::Settings;
 use pulsar_consumer::{ConsumerConfig, TopicConsumer};
 use pulsar_frame::reader::FrameReader;
 use pulsar_plans::BrokerAddress;
 use pulsar_plans::closing::Step;
-use pulsar_plans::content::{Address, Text};
+use pulsar_plans::content::{Address, Refusal, Text};
 use pulsar_plans::making::Command;
 use pulsar_plans::turn::{Action, Outcome, Turn, Ways};
 use pulsar_session::Received;
-use pulsar_wire::error::{ConnectionError, ConsumerError, Error, NoMemory};
-use std::alloc::Global;
+use pulsar_wire::error::{ConnectionError, NoMemory};
+use std::alloc::{AllocError, Global};
 use std::test::Fail;
 use url::Url;
 
@@ -27,20 +27,32 @@ const SERVED: &[u8] =
 
 const SUCCESS: &[u8] = b"\x00\x00\x00\x0a\x00\x00\x00\x06\x08\x0d\x6a\x02\x08\x02";
 
-fn ways(alloc: Global) -> Result<Ways, Fail> {
+fn base(alloc: Global) -> Result<Address, Fail> {
     let url = Url::parse(alloc, "pulsar://127.0.0.1:6650")?;
     let base = BrokerAddress::base(alloc, &url)?.ok_or(ConnectionError::NotFound)?;
+    Ok(Address::new(alloc, base)?)
+}
+
+fn ways(alloc: Global) -> Result<Ways, Fail> {
     Ok(Ways {
-        base: Address::new(alloc, base)?,
+        base: base(alloc)?,
         retry_delay: 5000,
         max_retries: None,
     })
 }
 
+fn topic(alloc: Global) -> Result<Text, AllocError> {
+    Ok(Text::new(String::from_str(alloc, "t")?))
+}
+
+fn config(alloc: Global) -> Result<Settings, NoMemory> {
+    Settings::new(alloc, ConsumerConfig::new(alloc))
+}
+
 fn order(alloc: Global) -> Result<Order, Fail> {
     Ok(Order {
-        topic: Text::new(String::from_str(alloc, "t")?),
-        config: Settings::new(alloc, ConsumerConfig::new(alloc))?,
+        topic: topic(alloc)?,
+        config: config(alloc)?,
     })
 }
 
@@ -52,12 +64,24 @@ fn reply(alloc: Global, frame: &[u8]) -> Result<Outcome, Fail> {
     Ok(Outcome::Replied(Received::new(alloc, message)?))
 }
 
-fn heard(alloc: Global, frame: &[u8]) -> Result<News, Fail> {
-    Ok(News::Told(reply(alloc, frame)?))
+/// An outcome by its name.
+fn outcome(alloc: Global, name: &str) -> Result<Outcome, Fail> {
+    match name {
+        "none" => reply(alloc, NO_PARTITIONS),
+        "two" => reply(alloc, TWO_PARTITIONS),
+        "served" => reply(alloc, SERVED),
+        "success" => reply(alloc, SUCCESS),
+        _ => Ok(Outcome::GotLink(1)),
+    }
 }
 
-fn link() -> News {
-    News::Told(Outcome::GotLink(0))
+/// News by their name.
+fn news(alloc: Global, name: &str) -> Result<News, Fail> {
+    match name {
+        "numbered" => Ok(News::Numbered(4)),
+        "taken" => Ok(News::InUse),
+        _ => Ok(News::Told(outcome(alloc, name)?)),
+    }
 }
 
 fn act(action: &Action) -> &'static str {
@@ -66,12 +90,6 @@ fn act(action: &Action) -> &'static str {
         Action::Ask { .. } => "ask",
         Action::Wait(_) => "wait",
     }
-}
-
-fn write(text: &mut String, word: &str) -> Result<(), Fail> {
-    text.push_str(word)?;
-    text.push(' ')?;
-    Ok(())
 }
 
 /// What a building does, or how it ends.
@@ -99,144 +117,94 @@ fn tell(
     }
 }
 
-/// What the news make of a building. What it did before them is written.
+/// What the news of this name make of a building.
 fn hear(
     alloc: Global,
     ways: &Ways,
     order: &Order,
-    step: Builds,
-    news: News,
-    text: &mut String,
-) -> Result<Builds, Fail> {
-    write(text, name(&step))?;
-    Ok(tell(alloc, ways, order, step, news)?)
+    step: Box<Builds>,
+    name: &str,
+) -> Result<Box<Builds>, Fail> {
+    let news = news(alloc, name)?;
+    let step = tell(alloc, ways, order, Box::into_inner(step), news)?;
+    Ok(Box::new(alloc, step)?)
 }
 
 fn drive(
     alloc: Global,
     ways: &Ways,
     order: &Order,
-    news: Vec<News>,
+    names: &str,
     text: &mut String,
-) -> Result<Builds, Fail> {
-    let mut step = building::begins(alloc, ways, order)?;
-    for news in news {
-        step = hear(alloc, ways, order, step, news, text)?;
+) -> Result<Box<Builds>, Fail> {
+    let mut step = Box::new(alloc, building::begins(alloc, ways, order)?)?;
+    text.push_str(name(&step))?;
+    for news in names.split(' ') {
+        step = hear(alloc, ways, order, step, news)?;
+        text.push(' ')?;
+        text.push_str(name(&step))?;
     }
     Ok(step)
 }
 
-/// Where a building stands after these news, and what it did before.
-fn build(alloc: Global, news: Vec<News>, text: &mut String) -> Result<Builds, Fail> {
+/// What it ends with.
+fn end(alloc: Global, step: Builds) -> Result<String, AllocError> {
+    match step {
+        Step::Gives(Ok(built)) => numbers(alloc, &built),
+        Step::Gives(Err(refusal)) => why(alloc, refusal),
+        Step::Stays(..) => Ok(String::new(alloc)),
+    }
+}
+
+fn numbers(alloc: Global, built: &Built) -> Result<String, AllocError> {
+    let number = built.number;
+    let link = built.link;
+    format!(in alloc; " {number} {link}")
+}
+
+fn why(alloc: Global, refusal: Refusal) -> Result<String, AllocError> {
+    let error = refusal.into_inner();
+    format!(in alloc; ": {error}")
+}
+
+/// What a building does at each of these news, and what it ends with.
+fn build(alloc: Global, names: &str) -> Result<String, Fail> {
     let ways = ways(alloc)?;
     let order = order(alloc)?;
-    drive(alloc, &ways, &order, news, text)
-}
-
-/// The news of a topic of one name, up to its number.
-fn found(alloc: Global) -> Result<Vec<News>, Fail> {
-    let mut news = Vec::new(alloc);
-    news.push(link())?;
-    news.push(heard(alloc, NO_PARTITIONS)?)?;
-    news.push(link())?;
-    news.push(heard(alloc, SERVED)?)?;
-    news.push(link())?;
-    Ok(news)
-}
-
-/// A number is drawn, and the subscription made.
-fn subscribed(alloc: Global) -> Result<Vec<News>, Fail> {
-    let mut news = found(alloc)?;
-    news.push(News::Numbered(4))?;
-    news.push(link())?;
-    news.push(heard(alloc, SUCCESS)?)?;
-    Ok(news)
-}
-
-/// The number is in use.
-fn taken(alloc: Global) -> Result<Vec<News>, Fail> {
-    let mut news = found(alloc)?;
-    news.push(News::InUse)?;
-    Ok(news)
-}
-
-/// The number of the consumer, and its link, where it is built.
-fn built(step: &Builds) -> Option<(u64, u64)> {
-    match step {
-        Step::Gives(Ok(built)) => Some((built.number, built.link)),
-        _ => None,
-    }
-}
-
-fn built_by(alloc: Global, news: Vec<News>, text: &mut String) -> Result<Option<(u64, u64)>, Fail> {
-    Ok(built(&build(alloc, news, text)?))
-}
-
-/// Why it is not built.
-fn refused(step: Builds) -> Option<Error> {
-    match step {
-        Step::Gives(Err(refusal)) => Some(refusal.into_inner()),
-        _ => None,
-    }
+    let mut text = String::new(alloc);
+    let step = drive(alloc, &ways, &order, names, &mut text)?;
+    text.push_str(end(alloc, Box::into_inner(step))?.as_str())?;
+    Ok(text)
 }
 
 #[test]
 fn a_consumer_is_built(rt: HostRuntime) -> Result<(), Fail> {
-    let alloc = rt.alloc();
-    let mut text = String::new(alloc);
-    let built = built_by(alloc, subscribed(alloc)?, &mut text)?;
-    assert!(rt; text.as_str() == "get ask get ask get draw get ask ");
-    assert!(rt; built == Some((4, 0)));
+    assert_eq!(rt;
+        build(
+            rt.alloc(),
+            "link none link served link numbered link success"
+        )?
+        .as_str(),
+        "get ask get ask get draw get ask built 4 1"
+    );
     Ok(())
 }
 
 #[test]
 fn a_number_in_use_is_refused(rt: HostRuntime) -> Result<(), Fail> {
-    let alloc = rt.alloc();
-    let step = build(alloc, taken(alloc)?, &mut String::new(alloc))?;
-    assert!(rt; is_in_use(&refused(step)));
+    assert_eq!(rt;
+        build(rt.alloc(), "link none link served link taken")?.as_str(),
+        "get ask get ask get draw refused: consumer error: Error while building the consumer."
+    );
     Ok(())
-}
-
-fn is_in_use(why: &Option<Error>) -> bool {
-    match why {
-        Some(Error::Consumer(ConsumerError::BuildError)) => true,
-        _ => false,
-    }
-}
-
-/// A partition is looked up.
-fn push_looked(alloc: Global, news: &mut Vec<News>) -> Result<(), Fail> {
-    news.push(link())?;
-    news.push(heard(alloc, SERVED)?)?;
-    news.push(link())?;
-    Ok(())
-}
-
-fn partitioned(alloc: Global) -> Result<Vec<News>, Fail> {
-    let mut news = Vec::new(alloc);
-    news.push(link())?;
-    news.push(heard(alloc, TWO_PARTITIONS)?)?;
-    push_looked(alloc, &mut news)?;
-    push_looked(alloc, &mut news)?;
-    Ok(news)
-}
-
-fn is_custom(why: Option<Error>, wanted: &str) -> bool {
-    match why {
-        Some(Error::Custom(text)) => text.as_str() == wanted,
-        _ => false,
-    }
 }
 
 #[test]
 fn several_names_are_refused(rt: HostRuntime) -> Result<(), Fail> {
-    let alloc = rt.alloc();
-    let news = partitioned(alloc)?;
-    let mut text = String::new(alloc);
-    let why = refused(build(alloc, news, &mut text)?);
-    assert!(rt; text.as_str() == "get ask get ask get get ask get ");
-    assert!(rt; is_custom(why, "Unable to create consumer - topic not found"));
+    assert_eq!(rt;
+        build(rt.alloc(), "link two link served link link served link")?.as_str(),
+        "get ask get ask get get ask get refused: error: Unable to create consumer - topic not found"
+    );
     Ok(())
 }
 
@@ -262,71 +230,55 @@ fn tell_resumed(
     }
 }
 
-/// What an outcome makes of a resubscription. What it did before is written.
+/// What the outcome of this name makes of a resubscription.
 fn hear_resumed(
     alloc: Global,
     ways: &Ways,
     command: &Command,
-    turn: Resumes,
-    outcome: Outcome,
-    text: &mut String,
-) -> Result<Resumes, Fail> {
-    write(text, name_resumed(&turn))?;
-    Ok(tell_resumed(alloc, ways, command, turn, outcome)?)
+    turn: Box<Resumes>,
+    name: &str,
+) -> Result<Box<Resumes>, Fail> {
+    let outcome = outcome(alloc, name)?;
+    let turn = tell_resumed(alloc, ways, command, Box::into_inner(turn), outcome)?;
+    Ok(Box::new(alloc, turn)?)
 }
 
 fn resume(
     alloc: Global,
+    ways: &Ways,
     command: &Command,
-    outcomes: Vec<Outcome>,
+    names: &str,
     text: &mut String,
-) -> Result<Resumes, Fail> {
-    let ways = ways(alloc)?;
-    let mut turn = resuming::begins(alloc, &ways)?;
-    for outcome in outcomes {
-        turn = hear_resumed(alloc, &ways, command, turn, outcome, text)?;
+) -> Result<Box<Resumes>, Fail> {
+    let mut turn = Box::new(alloc, resuming::begins(alloc, ways)?)?;
+    text.push_str(name_resumed(&turn))?;
+    for outcome in names.split(' ') {
+        turn = hear_resumed(alloc, ways, command, turn, outcome)?;
+        text.push(' ')?;
+        text.push_str(name_resumed(&turn))?;
     }
     Ok(turn)
 }
 
-/// The link of the new subscription.
-fn resumed(turn: &Resumes) -> Option<u64> {
-    match turn {
-        Turn::Gives(Ok(link)) => Some(*link),
-        _ => None,
-    }
-}
-
-fn outcomes(alloc: Global) -> Result<Vec<Outcome>, Fail> {
-    let mut outcomes = Vec::new(alloc);
-    outcomes.push(Outcome::GotLink(1))?;
-    outcomes.push(reply(alloc, SERVED)?)?;
-    outcomes.push(Outcome::GotLink(1))?;
-    outcomes.push(Outcome::GotLink(1))?;
-    outcomes.push(reply(alloc, SUCCESS)?)?;
-    Ok(outcomes)
-}
-
 fn command(alloc: Global) -> Result<Command, Fail> {
-    let Order { topic, config } = order(alloc)?;
-    Ok(TopicConsumer::new(alloc, topic, 4, config, false).command()?)
+    let consumer = TopicConsumer::new(alloc, topic(alloc)?, 4, config(alloc)?, false);
+    Ok(consumer.command()?)
 }
 
-fn resumed_by(
-    alloc: Global,
-    outcomes: Vec<Outcome>,
-    text: &mut String,
-) -> Result<Option<u64>, Fail> {
+/// What a resubscription does at each of these outcomes.
+fn resumed(alloc: Global, names: &str) -> Result<String, Fail> {
+    let ways = ways(alloc)?;
     let command = command(alloc)?;
-    Ok(resumed(&resume(alloc, &command, outcomes, text)?))
+    let mut text = String::new(alloc);
+    drop(resume(alloc, &ways, &command, names, &mut text)?);
+    Ok(text)
 }
 
 #[test]
 fn a_lost_subscription_is_made_again(rt: HostRuntime) -> Result<(), Fail> {
-    let alloc = rt.alloc();
-    let mut text = String::new(alloc);
-    let link = resumed_by(alloc, outcomes(alloc)?, &mut text)?;
-    assert!(rt; text.as_str() == "get ask get get ask ");
-    assert!(rt; link == Some(1));
+    assert_eq!(rt;
+        resumed(rt.alloc(), "link served link link success")?.as_str(),
+        "get ask get get ask subscribed"
+    );
     Ok(())
 }

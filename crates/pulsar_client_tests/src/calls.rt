@@ -9,9 +9,6 @@ use pulsar_wire::{ConnectionError, Error, NoMemory};
 use std::alloc::Global;
 use std::test::Fail;
 
-/// An answer to a request, where a connected command must come.
-const REPLY: &[u8] = b"\x00\x00\x00\x0e\x00\x00\x00\x0a\x08\x21\x8a\x02\x05\x08\x00\x12\x01a";
-
 /// A connected command.
 pub const CONNECTED: &[u8] = b"\x00\x00\x00\x0a\x00\x00\x00\x06\x08\x03\x1a\x02\x0a\x00";
 
@@ -33,57 +30,10 @@ pub fn options(url: String, policies: Vec<Box<dyn CustomRoutingPolicy>>) -> Clie
 /// The URL of the clients whose address does not matter.
 pub const LOCAL: &str = "pulsar://127.0.0.1:6650";
 
-/// The tickets of two Builds of one client, and how many effects each has.
-fn both_built(alloc: Global) -> Result<((u64, usize), (u64, usize)), NoMemory> {
-    let options = options(String::from_str(alloc, LOCAL)?, Vec::new(alloc));
-    let mut client = Pulsar::new(alloc, options)?;
-    let first = client.submit(Call::Build);
-    let second = client.submit(Call::Build);
-    drop(client);
-    let (first, connects) = first?;
-    let (second, nothing) = second?;
-    Ok(((first, connects.len()), (second, nothing.len())))
-}
-
-#[test]
-fn calls_get_tickets(rt: HostRuntime) -> Result<(), Fail> {
-    let seen = both_built(rt.alloc())?;
-    assert!(rt; seen == ((0, 1), (1, 0)));
-    Ok(())
-}
-
 /// The effects of each event.
 pub fn driven(alloc: Global, events: &[Event]) -> Result<Vec<Vec<Effect>>, NoMemory> {
     let options = options(String::from_str(alloc, LOCAL)?, Vec::new(alloc));
     Pulsar::drive(alloc, options, events)
-}
-
-/// Two Builds, an attempt that goes well, and a frame that ends it.
-fn events(alloc: Global) -> Result<Vec<Event>, NoMemory> {
-    let mut events = Vec::new(alloc);
-    events.push(Event::Call(Call::Build))?;
-    events.push(Event::Call(Call::Build))?;
-    events.push(Event::Opened(0))?;
-    events.push(Event::Bytes(0, REPLY.to_vec(alloc)?))?;
-    Ok(events)
-}
-
-/// Whether there are so many effects of each event.
-fn are_all(steps: &[Vec<Effect>]) -> bool {
-    match steps {
-        [first, second, opened, last] => {
-            first.len() == 1 && second.is_empty() && opened.len() == 1 && last.len() == 3
-        }
-        _ => false,
-    }
-}
-
-#[test]
-fn events_are_taken_together(rt: HostRuntime) -> Result<(), Fail> {
-    let alloc = rt.alloc();
-    let steps = driven(alloc, &events(alloc)?)?;
-    assert!(rt; are_all(&steps));
-    Ok(())
 }
 
 /// A client that is built, a search of each kind, and a stop.

@@ -1,6 +1,6 @@
 //! What a failed build made is closed.
 
-use pulsar_plans::closing::{self, Close, Closing, Deed, Guarded, Made, MadeList, Step};
+use pulsar_plans::closing::{self, Close, Closing, Made, MadeList, Step};
 use pulsar_plans::content::Refusal;
 use pulsar_wire::error::ConnectionError;
 use std::alloc::Global;
@@ -49,43 +49,4 @@ fn what_was_made_is_closed_in_order(rt: HostRuntime) -> Result<(), Fail> {
         "Made { link: 0, what: Producer(7) }\nMade { link: 3, what: Consumer(2) }\nConnection error: counter exhausted"
     );
     Ok(())
-}
-
-#[test]
-fn where_a_build_fails_it_closes_first(rt: HostRuntime) -> Result<(), Fail> {
-    let alloc = rt.alloc();
-    let goes: Step<u32, u64, Result<bool, Refusal>> = Step::Stays(1, 2);
-    let made = MadeList::new(alloc).with(PRODUCER)?;
-    assert!(rt;
-        matches!(
-            closing::guards(made, goes),
-            Step::Stays(Guarded::Goes { plan: 1, .. }, Deed::Does(2))
-        )
-    );
-    let fails: Step<u32, u64, Result<bool, Refusal>> = Step::Gives(Err(refusal(alloc)?));
-    let made = MadeList::new(alloc).with(CONSUMER)?;
-    match closing::guards(made, fails) {
-        Step::Stays(state, deed) => {
-            match deed {
-                Deed::Closes(first) => assert!(rt; first == CONSUMER),
-                Deed::Does(_) => assert!(rt; false),
-            }
-            assert!(rt; is_over(state));
-        }
-        Step::Gives(_) => assert!(rt; false),
-    }
-    Ok(())
-}
-
-/// Nothing more is closed.
-fn is_over(state: Guarded<u32>) -> bool {
-    match state {
-        Guarded::Closes(closing) => {
-            let end: Step<Guarded<u32>, Deed<u64>, Result<bool, Refusal>> = closing::closes_on(
-                closing,
-            );
-            matches!(end, Step::Gives(Err(_)))
-        }
-        Guarded::Goes { .. } => false,
-    }
 }

@@ -44,76 +44,117 @@ fn is_text(text: &Option<String>, wanted: &str) -> bool {
     }
 }
 
+/// Whether it has the eight fields of the message, and no other.
+fn has_eight_fields(sent: &ProducerMessage) -> bool {
+    sent.payload.as_slice() == b"abc".as_slice()
+        && sent.properties.get("a").is_some()
+        && sent.properties.len() == 1
+        && is_text(&sent.partition_key, "x")
+        && is_bytes(&sent.ordering_key, b"ok")
+        && sent.replicate_to.len() == 1
+        && sent.event_time == Some(40)
+        && is_bytes(&sent.schema_version, b"v1")
+        && sent.deliver_at_time == Some(-5)
+        && sent.compression.is_none()
+        && sent.num_messages_in_batch.is_none()
+}
+
+fn keeps_fields(alloc: Global) -> Result<bool, Fail> {
+    let sent = ProducerMessage::from(full(alloc)?);
+    Ok(has_eight_fields(&sent))
+}
+
 #[test]
 fn a_message_keeps_its_eight_fields(rt: HostRuntime) -> Result<(), Fail> {
-    let sent = ProducerMessage::from(full(rt.alloc())?);
-    assert!(rt; sent.payload.as_slice() == b"abc".as_slice());
-    assert!(rt; sent.properties.get("a").is_some() && sent.properties.len() == 1);
-    assert!(rt; is_text(&sent.partition_key, "x"));
-    assert!(rt; is_bytes(&sent.ordering_key, b"ok"));
-    assert!(rt; sent.replicate_to.len() == 1);
-    assert!(rt; sent.event_time == Some(40));
-    assert!(rt; is_bytes(&sent.schema_version, b"v1"));
-    assert!(rt; sent.deliver_at_time == Some(-5));
-    assert!(rt; sent.compression.is_none() && sent.num_messages_in_batch.is_none());
+    assert!(rt; keeps_fields(rt.alloc())?);
     Ok(())
+}
+
+/// Whether it has the payload of the content and its schema version, and nothing that a builder says.
+fn is_as_built(sent: &Message) -> bool {
+    sent.partition_key.is_none()
+        && sent.ordering_key.is_none()
+        && sent.properties.is_empty()
+        && sent.deliver_at_time.is_none()
+        && sent.payload.as_slice() == b"abc".as_slice()
+        && is_bytes(&sent.schema_version, b"v1")
+}
+
+fn builder_counts(alloc: Global) -> Result<bool, Fail> {
+    let content = full(alloc)?;
+    let builder = MessageBuilder::new(alloc, 3).with_content(content);
+    let (producer, sent) = builder.send_non_blocking()?;
+    Ok(producer == 3 && is_as_built(&sent))
 }
 
 #[test]
 fn what_a_builder_says_counts(rt: HostRuntime) -> Result<(), Fail> {
-    let alloc = rt.alloc();
-    let content = full(alloc)?;
-    let (producer, sent) = MessageBuilder::new(alloc, 3)
-        .with_content(content)
-        .send_non_blocking()?;
-    assert!(rt; producer == 3);
-    assert!(rt; sent.partition_key.is_none() && sent.ordering_key.is_none());
-    assert!(rt; sent.properties.is_empty() && sent.deliver_at_time.is_none());
-    assert!(rt; sent.payload.as_slice() == b"abc".as_slice());
-    assert!(rt; is_bytes(&sent.schema_version, b"v1"));
+    assert!(rt; builder_counts(rt.alloc())?);
     Ok(())
 }
 
 fn built(alloc: Global) -> Result<Message, Fail> {
-    let builder = MessageBuilder::new(alloc, 0).with_content(String::from_str(alloc, "abc")?);
-    let builder = builder
-        .with_key("k")?
-        .with_property("a", "1")?
-        .with_property("a", "2")?;
-    let (_, message) = builder.delay(u64::MAX, 1).event_time(7).send()?;
+    let content = String::from_str(alloc, "abc")?;
+    let builder = MessageBuilder::new(alloc, 0).with_content(content);
+    let builder = builder.event_time(7).delay(u64::MAX, 1).with_key("k")?;
+    let builder = builder.with_property("a", "1")?.with_property("a", "2")?;
+    let (_, message) = builder.send()?;
     Ok(message)
+}
+
+fn has_what_was_said(sent: &Message) -> bool {
+    is_text(&sent.partition_key, "k")
+        && sent.payload.as_slice() == b"abc".as_slice()
+        && sent.properties.len() == 1
+        && sent.event_time == Some(7)
+        && sent.deliver_at_time == Some(i64::MAX)
+}
+
+fn builds(alloc: Global) -> Result<bool, Fail> {
+    let sent = built(alloc)?;
+    Ok(has_what_was_said(&sent))
 }
 
 #[test]
 fn a_message_is_built(rt: HostRuntime) -> Result<(), Fail> {
-    let sent = built(rt.alloc())?;
-    assert!(rt; is_text(&sent.partition_key, "k"));
-    assert!(rt; sent.payload.as_slice() == b"abc".as_slice());
-    assert!(rt; sent.properties.len() == 1);
-    assert!(rt; sent.event_time == Some(7));
-    assert!(rt; sent.deliver_at_time == Some(i64::MAX));
+    assert!(rt; builds(rt.alloc())?);
     Ok(())
+}
+
+fn is_nothing(alloc: Global) -> Result<bool, Fail> {
+    let empty = <() as SerializeMessage>::serialize_message(alloc, ())?;
+    Ok(empty.payload.is_empty())
+}
+
+fn is_its_bytes(alloc: Global) -> Result<bool, Fail> {
+    let sent = message_from_text(alloc, "t")?;
+    Ok(sent.payload.as_slice() == b"t".as_slice())
 }
 
 #[test]
 fn a_text_is_sent_as_its_bytes(rt: HostRuntime) -> Result<(), Fail> {
-    let alloc = rt.alloc();
-    let empty = <() as SerializeMessage>::serialize_message(alloc, ())?;
-    assert!(rt; empty.payload.is_empty());
-    let text = message_from_text(alloc, "t")?;
-    assert!(rt; text.payload.as_slice() == b"t".as_slice());
+    assert!(rt; is_nothing(rt.alloc())?);
+    assert!(rt; is_its_bytes(rt.alloc())?);
     Ok(())
+}
+
+fn wanted(alloc: Global) -> Result<ProducerBuilder, Fail> {
+    let wanted = ProducerBuilder::new(alloc).with_options(ProducerOptions::new(alloc));
+    Ok(wanted.with_topic("t")?.with_name("p")?)
+}
+
+fn copy(alloc: Global) -> Result<ProducerBuilder, Fail> {
+    let copy = wanted(alloc)?.build().copy()?;
+    Ok(copy.build_multi_topic())
+}
+
+fn wants(alloc: Global) -> Result<bool, Fail> {
+    let copy = copy(alloc)?;
+    Ok(is_text(&copy.topic, "t") && is_text(&copy.name, "p"))
 }
 
 #[test]
 fn a_producer_is_wanted(rt: HostRuntime) -> Result<(), Fail> {
-    let alloc = rt.alloc();
-    let wanted = ProducerBuilder::new(alloc)
-        .with_topic("t")?
-        .with_name("p")?
-        .with_options(ProducerOptions::new(alloc))
-        .build();
-    let copy = wanted.copy()?.build_multi_topic();
-    assert!(rt; is_text(&copy.topic, "t") && is_text(&copy.name, "p"));
+    assert!(rt; wants(rt.alloc())?);
     Ok(())
 }

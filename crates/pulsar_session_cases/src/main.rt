@@ -4,12 +4,13 @@
 //! A line is the name of a call and its arguments, then ` = ` and the wanted answer. `new` makes the connection that is
 //! called from there on. Bytes are hex digits, `%` where there are none; `~` is an argument that is absent. An answer is
 //! printed as its derived `Debug` has it, and bytes as they are written above. A line that is empty or begins with `#` says
-//! nothing.
+//! nothing. `messages full` and a builder has options or a message with each of their fields, and a number.
 #![tactic(auto)]
 
 mod bench;
 mod builders;
 mod events;
+mod full;
 mod looks;
 mod requests;
 mod stop;

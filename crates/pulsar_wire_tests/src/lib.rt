@@ -1,5 +1,5 @@
-//! What no clause of the wire says, and no line of `pulsar_bytes` shows: the texts of errors, single calls beside what they
-//! must answer, and calls that could always answer want of memory.
+//! What no clause of the wire says, and no line of `pulsar_bytes` shows: the texts of errors, and calls that could always
+//! answer want of memory.
 #![tactic(auto)]
 
 #[cfg(test)]

@@ -68,7 +68,7 @@ module _ (rows : BTreeMap ℕ ConsumerRow) (test : Option Member → Bool) (ts :
 
 -- WHO IS FOUND
 
-both : (b x : Bool) → (x ≡ true → b ≡ true) → (b && x) ≡ x
+pub both : (b x : Bool) → (x ≡ true → b ≡ true) → (b && x) ≡ x
 both true x h = refl
 both false true h = absurd (false≢true (h refl))
 both false false h = refl
@@ -94,16 +94,9 @@ living_found n l listing rows listed ts is t =
     ∙ both (is_listed t (listed_at listing n)) (lives_with n l (rows t)) (λ y. listed t n (is_there n l (rows t) y))
 
 -- on a link
-there_is : (l : ℕ) (row : Option Member) → lives_at l row ≡ true → is_some row ≡ true
+pub there_is : (l : ℕ) (row : Option Member) → lives_at l row ≡ true → is_some row ≡ true
 there_is l None h = h
 there_is l (Some m) h = refl
-
-pub living_on_found : (l : ℕ) (rows : BTreeMap ℕ ConsumerRow) (ts : List ℕ) → ts ≡ filter (λ t. lives_at l (rows_in rows t)) (keys rows) →
-    (t : ℕ) → is_listed t ts ≡ lives_at l (rows_in rows t)
-living_on_found l rows ts is t =
-    ap (is_listed t) is
-    ∙ filtered (λ u. lives_at l (rows_in rows u)) (keys rows) t
-    ∙ both (is_listed t (keys rows)) (lives_at l (rows_in rows t)) (λ y. keyed rows t (there_is l (rows_in rows t) y))
 
 -- whether one that is found is so
 

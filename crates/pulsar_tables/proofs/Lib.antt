@@ -13,3 +13,4 @@ pub mod Several
 pub mod Listing
 pub mod Drawing
 pub mod Retaining
+pub mod Living

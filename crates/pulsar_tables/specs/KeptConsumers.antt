@@ -8,7 +8,7 @@ use Rattle.std.specs.Ordering.{nat_cmp}
 use Rattle.pulsar_tables.specs.declared.consumers.numbers.Numbers.{Numbers}
 use Rattle.pulsar_tables.specs.declared.consumers.row.ConsumerRow.{ConsumerRow}
 use Rattle.pulsar_consumer.specs.Topic.{is_ended, link_of}
-use Rattle.pulsar_tables.specs.Consumers.{Consumers, Member}
+use Rattle.pulsar_tables.specs.Consumers.{Consumers, Member, lives_at}
 
 abbrev pub member_in : ConsumerRow → Member
 member_in r = record { seen = r.consumer.inner; seekers = r.seekers.items }
@@ -53,3 +53,16 @@ AreListed listing rows = (t n : ℕ) → is_known n (rows t) ≡ true → is_lis
 abbrev pub KeepsListed : (before after : BTreeMap ℕ (BTreeSet ℕ)) → (ℕ → Option Member) → Type 0
 KeepsListed before after rows =
     (t n : ℕ) → is_known n (rows t) ≡ true → is_listed t (listed_at before n) ≡ true → is_listed t (listed_at after n) ≡ true
+
+-- whoever lives on a link is listed under it; others may be listed too
+abbrev pub AreHeard : BTreeMap ℕ (BTreeSet ℕ) → (ℕ → Option Member) → Type 0
+AreHeard heard rows = (t l : ℕ) → lives_at l (rows t) ≡ true → is_listed t (listed_at heard l) ≡ true
+
+-- where some are listed no more, they do not live there
+abbrev pub KeepsHeard : (before after : BTreeMap ℕ (BTreeSet ℕ)) → (ℕ → Option Member) → Type 0
+KeepsHeard before after rows =
+    (t l : ℕ) → lives_at l (rows t) ≡ true → is_listed t (listed_at before l) ≡ true → is_listed t (listed_at after l) ≡ true
+
+-- where one more is listed, nobody is listed less
+abbrev pub KeepsAll : (before after : BTreeMap ℕ (BTreeSet ℕ)) → Type 0
+KeepsAll before after = (t l : ℕ) → is_listed t (listed_at before l) ≡ true → is_listed t (listed_at after l) ≡ true

@@ -1,6 +1,6 @@
 //! What is done to consumers of a client, one or several of them.
 
-ghost use Rattle.std.specs.Prelude.{◌≡◌, ◌++◌, ◌∷◌, [], ℕ, not, filter, IfOk, OnOk, Some, map, if◌then◌else◌};
+ghost use Rattle.std.specs.Prelude.{◌≡◌, ◌++◌, ◌∷◌, [], ℕ, true, not, filter, IfOk, OnOk, Some, map, if◌then◌else◌};
 ghost use Rattle.std.specs.BTreeMap.{keys};
 ghost use Rattle.std.specs.List.{flat_map};
 ghost use Rattle.std.specs.List.Sorted.{IsStrictlySortedBy};
@@ -8,13 +8,13 @@ ghost use Rattle.std.specs.Option.{option_map, option_to_list};
 ghost use Rattle.std.specs.Ordering.{nat_cmp};
 ghost use Rattle.pulsar_calls.specs.Content.{shown};
 ghost use Rattle.pulsar_consumer.specs.declared.polled.Ending.{Ending};
-ghost use Rattle.pulsar_consumer.specs.Topic.{Asks, Ends, Loses, Polls, resubscribes};
+ghost use Rattle.pulsar_consumer.specs.Topic.{Asks, Ends, Loses, Polls, is_on, resubscribes};
 ghost use Rattle.pulsar_tables.specs.Consumers as meaning;
 ghost use Rattle.pulsar_tables.specs.Consumers.{at_row, flow_at, hears_frame, lives_at, member_after, polled, sought, word_if, word_of_frame};
-ghost use Rattle.pulsar_tables.specs.KeptConsumers.{KeepsListed, listed_at, member_in, one_changed, rows_in, some_changed};
+ghost use Rattle.pulsar_tables.specs.KeptConsumers.{KeepsAll, KeepsHeard, KeepsListed, is_listed, listed_at, member_in, one_changed, rows_in, some_changed};
 ghost use Rattle.pulsar_tables.specs.Reading.{again, again_at, due_at, polled_due, revived_at, stopped_one, stopped_seekers, word_to};
 
-use crate::consumers::listing::{Listing, listed, unlist};
+use crate::consumers::listing::{Listing, list, listed, unlist};
 use crate::consumers::row::{ConsumerRow, Sought};
 use pulsar_calls::act::{Notice, Outcome, Who, Word};
 use pulsar_calls::effect::Effect;
@@ -69,17 +69,100 @@ fn lives(rows: &BTreeMap<u64, ConsumerRow>, ticket: u64, number: u64, link: u64)
 pub fn living_on(
     alloc: Global,
     rows: &BTreeMap<u64, ConsumerRow>,
+    heard: &Listing,
     link: u64,
 ) -> Result<Vec<u64>, NoMemory>
-    ensures tickets { IfOk result (λ ts. ts.items ≡ filter (λ t. lives_at link (rows_in rows.now t)) (keys rows.now)) }
+    ensures tickets { IfOk result (λ ts. ts.items ≡ filter (λ t. lives_at link (rows_in rows.now t)) (listed_at heard.now link)) }
     ensures sorted { IfOk result (λ ts. IsStrictlySortedBy nat_cmp ts.items) }
 {
     let mut living = Vec::new(alloc);
-    for (ticket, row) in rows {
-        let is_so = row.consumer.inner.lives_on(link);
+    let Some(tickets) = listed(heard, link) else {
+        return Ok(living);
+    };
+    for ticket in tickets {
+        let is_so = lives_there(rows, *ticket, link);
         add_if(&mut living, is_so, *ticket)?;
     }
     Ok(living)
+}
+
+/// A consumer lives on a link.
+pub fn lives_there(rows: &BTreeMap<u64, ConsumerRow>, ticket: u64, link: u64) -> bool
+    ensures { result ≡ lives_at link (rows_in rows.now ticket) }
+{
+    match rows.get(&ticket) {
+        Some(row) => row.consumer.inner.lives_on(link),
+        None => false,
+    }
+}
+
+/// A consumer is listed under the link on which it lives, if it lives on any.
+pub fn list_living(
+    heard: &mut Listing,
+    alloc: Global,
+    rows: &BTreeMap<u64, ConsumerRow>,
+    ticket: u64,
+) -> Result<(), NoMemory>
+    ensures others { OnOk result (KeepsAll heard.old heard.new) }
+    ensures living { OnOk result ((l : ℕ) → lives_at l (rows_in rows.now ticket) ≡ true → is_listed ticket (listed_at heard.new l) ≡ true) }
+{
+    list_on(heard, alloc, link_of(rows, ticket), ticket)?;
+    Ok(())
+}
+
+fn list_on(
+    heard: &mut Listing,
+    alloc: Global,
+    link: Option<u64>,
+    ticket: u64,
+) -> Result<(), NoMemory>
+    ensures others { OnOk result (KeepsAll heard.old heard.new) }
+    ensures living { OnOk result ((l : ℕ) → is_on l link ≡ true → is_listed ticket (listed_at heard.new l) ≡ true) }
+{
+    let Some(link) = link else {
+        return Ok(());
+    };
+    list(heard, alloc, link, ticket)?;
+    Ok(())
+}
+
+fn link_of(rows: &BTreeMap<u64, ConsumerRow>, ticket: u64) -> Option<u64>
+    ensures { result ≡ meaning.link_at (rows_in rows.now ticket) }
+{
+    match rows.get(&ticket) {
+        Some(row) => row.consumer.inner.link(),
+        None => None,
+    }
+}
+
+/// Those of these that do not live on a link any more are not listed under it.
+pub fn leave_all(
+    heard: &mut Listing,
+    rows: &BTreeMap<u64, ConsumerRow>,
+    link: u64,
+    tickets: &[u64],
+) -> Result<(), NoMemory>
+    ensures { OnOk result (KeepsHeard heard.old heard.new (rows_in rows.now)) }
+{
+    for ticket in tickets {
+        leave(heard, rows, link, *ticket)?;
+    }
+    Ok(())
+}
+
+fn leave(
+    heard: &mut Listing,
+    rows: &BTreeMap<u64, ConsumerRow>,
+    link: u64,
+    ticket: u64,
+) -> Result<(), NoMemory>
+    ensures { OnOk result (KeepsHeard heard.old heard.new (rows_in rows.now)) }
+{
+    if lives_there(rows, ticket, link) {
+        return Ok(());
+    }
+    unlist(heard, link, ticket)?;
+    Ok(())
 }
 
 /// A consumer is told a word, if there is one.

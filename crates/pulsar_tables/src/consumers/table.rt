@@ -11,12 +11,12 @@ ghost use Rattle.pulsar_calls.specs.declared.act.Word.{Word};
 ghost use Rattle.pulsar_consumer.specs.Topic.{Asks, Loses, Polls, resubscribes};
 ghost use Rattle.pulsar_tables.specs.Consumers as meaning;
 ghost use Rattle.pulsar_tables.specs.Consumers.{IsHeard, all_changed, changed, closes, hears, is_ended_at, is_in_use, is_passed, joined, link_at, member_after, names_in, next_free, none, number_at, numbered, numbering, over_rows, polled, some_row, sought, why_not};
-ghost use Rattle.pulsar_tables.specs.KeptConsumers.{AreListed, consumers_in, member_in, rows_in};
+ghost use Rattle.pulsar_tables.specs.KeptConsumers.{AreHeard, AreListed, consumers_in, member_in, rows_in};
 ghost use Rattle.pulsar_tables.specs.Reading.{again_at, heard_at, polled_due, revived_at, stopped_seekers, word_to};
 
 use crate::consumers::hearing::{
-    close_all, fail_at, hear_all, living, living_on, lose_all, poll_at, prune_all, prune_each,
-    revive_at, seek_at, stop_all, stop_seekers, take_flow_at,
+    close_all, fail_at, hear_all, leave_all, list_living, lives_there, living, living_on, lose_all,
+    poll_at, prune_all, prune_each, revive_at, seek_at, stop_all, stop_seekers, take_flow_at,
 };
 use crate::consumers::listing::{Listing, list, listed};
 use crate::consumers::numbers::{Numbering, Numbers};
@@ -41,10 +41,13 @@ pub struct Consumers {
     pub numbers: Numbers,
     /// The tickets of those that have a number.
     pub listing: Listing,
+    /// The tickets of those that live on a link.
+    pub heard: Listing,
     // a call ran out of memory
     failed: bool,
     ghost ordered: { failed ≡ false → IsOrdered nat_cmp rows } by { Prim.hlevel props },
     ghost listed: { failed ≡ false → AreListed listing (rows_in rows) },
+    ghost lives: { failed ≡ false → AreHeard heard (rows_in rows) },
 }
 
 impl Consumers {
@@ -57,6 +60,7 @@ impl Consumers {
             rows: BTreeMap::new(alloc),
             numbers: Numbers::new(alloc, first_number),
             listing: BTreeMap::new(alloc),
+            heard: BTreeMap::new(alloc),
             failed: false,
         }
     }
@@ -90,6 +94,7 @@ impl Consumers {
         let number = row.consumer.inner.number();
         list(&mut self.listing, self.alloc, number, ticket)?;
         self.rows.insert(ticket, row)?;
+        list_living(&mut self.heard, self.alloc, &self.rows, ticket)?;
         self.failed = false;
         Ok(())
     }
@@ -118,7 +123,26 @@ impl Consumers {
         ensures heard { result ≡ some_row (meaning.lives_at link) (consumers_in self.now.rows self.now.numbers) }
         ensures one { IsTrue result ↔ IsHeard link (consumers_in self.now.rows self.now.numbers).rows }
     {
-        any_lives(&self.rows, link)
+        self.is_heard(link)
+    }
+
+    fn is_heard(&self, link: u64) -> bool
+        ensures { result ≡ some_row (meaning.lives_at link) (consumers_in self.now.rows self.now.numbers) }
+    {
+        if self.failed {
+            return any_lives(&self.rows, link);
+        }
+        self.is_listed_on(link)
+    }
+
+    fn is_listed_on(&self, link: u64) -> bool
+        requires { self.now.failed ≡ false }
+        ensures { result ≡ some_row (meaning.lives_at link) (consumers_in self.now.rows self.now.numbers) }
+    {
+        match listed(&self.heard, link) {
+            Some(tickets) => any_living(&self.rows, tickets, link),
+            None => false,
+        }
     }
 
     /// Consumers hear what comes to a link: what they are told.
@@ -153,6 +177,7 @@ impl Consumers {
         let tickets = living(self.alloc, &self.rows, &self.listing, number, link)?;
         let notices = hear_all(self.alloc, &mut self.rows, &tickets, link, reply)?;
         prune_all(&mut self.listing, &self.rows, number, &tickets)?;
+        leave_all(&mut self.heard, &self.rows, link, &tickets)?;
         self.failed = false;
         Ok(notices)
     }
@@ -166,9 +191,10 @@ impl Consumers {
             return Err(NoMemory);
         }
         self.failed = true;
-        let tickets = living_on(self.alloc, &self.rows, link)?;
+        let tickets = living_on(self.alloc, &self.rows, &self.heard, link)?;
         let notices = lose_all(self.alloc, &mut self.rows, &tickets, link)?;
         prune_each(&mut self.listing, &self.rows, &tickets)?;
+        drop(self.heard.remove(&link));
         self.failed = false;
         Ok(notices)
     }
@@ -210,6 +236,7 @@ impl Consumers {
         let tickets = living(self.alloc, &self.rows, &self.listing, number, link)?;
         let notices = close_all(self.alloc, &mut self.rows, &tickets)?;
         prune_all(&mut self.listing, &self.rows, number, &tickets)?;
+        leave_all(&mut self.heard, &self.rows, link, &tickets)?;
         self.failed = false;
         Ok(notices)
     }
@@ -277,6 +304,7 @@ impl Consumers {
         }
         self.failed = true;
         let notices = revive_at(self.alloc, &mut self.rows, ticket, link, url)?;
+        list_living(&mut self.heard, self.alloc, &self.rows, ticket)?;
         self.failed = false;
         Ok(notices)
     }
@@ -313,6 +341,7 @@ impl Consumers {
         stop_seekers(&self.rows, notices)?;
         stop_all(&mut self.rows);
         self.listing = BTreeMap::new(self.alloc);
+        self.heard = BTreeMap::new(self.alloc);
         self.failed = false;
         Ok(())
     }
@@ -471,6 +500,12 @@ fn any_lives(rows: &BTreeMap<u64, ConsumerRow>, link: u64) -> bool
 {
     rows.iter()
         .any(|(_, row)| row.consumer.inner.lives_on(link))
+}
+
+fn any_living(rows: &BTreeMap<u64, ConsumerRow>, tickets: &BTreeSet<u64>, link: u64) -> bool
+    ensures { result ≡ list_any (λ t. meaning.lives_at link (rows_in rows.now t)) tickets.now.keys }
+{
+    tickets.iter().any(|t| lives_there(rows, *t, link))
 }
 
 fn any_has(rows: &BTreeMap<u64, ConsumerRow>, tickets: &BTreeSet<u64>, number: u64) -> bool

@@ -9,6 +9,7 @@ use Rattle.pulsar_tables.specs.KeptConsumers.{rows_in}
 use Rattle.pulsar_tables.specs.Reading.{word_to}
 use Rattle.pulsar_tables.proofs.Finding.{found_change, found_give, living_found}
 use Rattle.pulsar_tables.proofs.Hearing.{closed_by, consumers_are, none_closed, same_closed}
+use Rattle.pulsar_tables.proofs.Living.{ends_lifeless, some_heard}
 use Rattle.pulsar_tables.proofs.Numbered.{act_holds, some_listed}
 use Rattle.pulsar_tables.proofs.consumers.table.Consumers.close.Goals as goal
 
@@ -19,6 +20,8 @@ invariant_of-self-2 c =
       ordered = λ whole. subst (IsStrictlySortedBy nat_cmp) (sym c.in_ok-notices.ensures.tickets) (cs.ordered c.if-self.false);
       listed = λ whole. some_listed cs.listing (rows_in cs.rows) (cs.listed c.if-self.false) c.prune_all.new.listing c.deref.result.now (member_after (Ends Closed))
           (rows_in c.close_all.new.rows) (act_holds (Ends Closed)) c.in_ok-notices.ensures.rows c.in_ok-prune_all.ensures;
+      lives = λ whole. some_heard cs.heard (rows_in cs.rows) (cs.lives c.if-self.false) c.leave_all.new.heard c.deref.result.now (member_after (Ends Closed))
+          (rows_in c.close_all.new.rows) (ends_lifeless Closed) c.in_ok-notices.ensures.rows c.in_ok-leave_all.ensures;
     }
 
 pub returns-clause-notices : goal.returns-clause-notices

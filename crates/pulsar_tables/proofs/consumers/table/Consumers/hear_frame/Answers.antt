@@ -7,6 +7,7 @@ use Rattle.pulsar_tables.specs.KeptConsumers.{rows_in}
 use Rattle.pulsar_tables.specs.Reading.{heard_at, word_to}
 use Rattle.pulsar_tables.proofs.Finding.{found_change, found_give, living_found}
 use Rattle.pulsar_tables.proofs.Hearing.{consumers_are, heard_by, none_told, same_told}
+use Rattle.pulsar_tables.proofs.Living.{frame_lifeless, some_heard}
 use Rattle.pulsar_tables.proofs.Numbered.{frame_holds, some_listed}
 use Rattle.pulsar_tables.proofs.consumers.table.Consumers.hear_frame.Goals as goal
 
@@ -18,6 +19,8 @@ invariant_of-self-2 c =
       ordered = λ whole. subst (IsStrictlySortedBy nat_cmp) (sym c.in_ok-notices.ensures.tickets) (cs.ordered c.if-self.false);
       listed = λ whole. some_listed cs.listing (rows_in cs.rows) (cs.listed c.if-self.false) c.prune_all.new.listing ts (hears_frame c.args.link c.args.reply)
           (rows_in c.hear_all.new.rows) (frame_holds c.args.link c.args.reply) c.in_ok-notices.ensures.rows c.in_ok-prune_all.ensures;
+      lives = λ whole. some_heard cs.heard (rows_in cs.rows) (cs.lives c.if-self.false) c.leave_all.new.heard ts (hears_frame c.args.link c.args.reply)
+          (rows_in c.hear_all.new.rows) (frame_lifeless c.args.link c.args.reply) c.in_ok-notices.ensures.rows c.in_ok-leave_all.ensures;
     }
 
 pub returns-clause-notices : goal.returns-clause-notices

@@ -13,7 +13,6 @@ ghost use Rattle.pulsar_consumer.specs.Frames.{frame_in};
 
 use crate::unread::Unread;
 use pulsar_frame::batch::iterator::BatchedMessageIterator;
-use pulsar_frame::message::Message;
 use pulsar_frame::payload::Payload;
 use pulsar_link::content::Received;
 use pulsar_link::items::Unread as Item;
@@ -55,8 +54,9 @@ impl Frame {
     pub fn received(alloc: Global, received: Received) -> Result<Frame, NoMemory>
         ensures { IfOk result (λ f. f ≡ frame_in received) }
     {
-        let Message { command, payload } = received.into_message();
-        match &command.body {
+        let mut message = received.into_box();
+        let payload = message.payload.take();
+        match &message.command.body {
             Some(body) => frame_with(alloc, payload, body),
             None => Ok(Frame::empty(alloc, 0)),
         }

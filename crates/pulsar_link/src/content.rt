@@ -282,6 +282,14 @@ impl Received {
         pulsar_session::Received::new(alloc, self.into_message())
     }
 
+    /// The message, still in its box.
+    pub fn into_box(self) -> Box<Message>
+        ensures { read (message_values result.value) ≡ self }
+    {
+        let Received { message } = self;
+        message
+    }
+
     pub fn into_message(self) -> Message
         ensures { read (message_values result) ≡ self }
     {

@@ -28,7 +28,7 @@ use Rattle.pulsar_tables.proofs.Places.{swapped}
 
 -- AN ENGINE KEEPS ITS LINK as it goes on: what becomes of a subscription stays on its link
 
-link_in : Engine → Option ℕ
+abbrev link_in : Engine → Option ℕ
 link_in e = option_map (λ (l : Live). l.link) e.live
 
 same_link : (f : Live → Live) → ((l : Live) → (f l).link ≡ l.link) → (o : Option Live) → option_map (λ (l : Live). l.link) (option_map f o) ≡ option_map (λ (l : Live). l.link) o

@@ -5,8 +5,8 @@ use Rattle.pulsar_tables.specs.Reading.{heard_at}
 use Rattle.pulsar_tables.proofs.Hearing.{all_same, over_none, quiet_same, quiet_told}
 use Rattle.pulsar_tables.proofs.consumers.table.Consumers.hear.Goals as goal
 
-pub returns-in-Nothing : goal.returns-in-Nothing
-returns-in-Nothing c =
+pub returns : goal.returns
+returns c =
     let cs = consumers_in c.args.self.now.rows c.args.self.now.numbers in
     let l = c.args.link in
     let a = c.args.arrival in

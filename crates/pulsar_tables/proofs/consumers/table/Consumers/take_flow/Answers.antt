@@ -8,8 +8,8 @@ use Rattle.pulsar_tables.proofs.Living.{asks_lifeless, one_heard}
 use Rattle.pulsar_tables.proofs.Numbered.{act_holds, one_listed}
 use Rattle.pulsar_tables.proofs.consumers.table.Consumers.take_flow.Goals as goal
 
-pub invariant_of-self-2 : goal.invariant_of-self-2
-invariant_of-self-2 c =
+pub invariant_of-self : goal.invariant_of-self
+invariant_of-self c =
     let cs = c.args.self.now in
     let done = c.take_flow_at-flow.ensures in
     record {

@@ -67,6 +67,11 @@ pub mod Holding
 pub mod Turns
 pub mod Claiming
 pub mod Early
+pub mod Ready
+pub mod Subscribed
+pub mod Reached
+pub mod Riding
+pub mod Placed
 pub mod Frames
 pub mod Framing
 pub mod InTurn

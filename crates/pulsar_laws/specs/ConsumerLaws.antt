@@ -1,5 +1,5 @@
 -- What follows of consumers, in plain words.
-use Rattle.std.specs.Prelude.{◌≡◌, ℕ, ◌+◌, ◌-◌, ◌≤◌, ◌==◌, ◌&&◌, ◌||◌, Bool, true, false, if◌then◌else◌, List, [], ◌∷◌, ◌++◌, Option, Some, None}
+use Rattle.std.specs.Prelude.{◌≡◌, ℕ, ◌+◌, ◌-◌, ◌≤◌, ◌==◌, ◌&&◌, ◌||◌, Bool, true, false, if◌then◌else◌, List, [], ◌∷◌, ◌++◌, length, Option, Some, None, Ok}
 use Rattle.std.specs.List.{flat_map, sum}
 use Rattle.std.specs.Option.{is_some, option_or}
 use Rattle.url.specs.Parts.{Parts}
@@ -7,6 +7,9 @@ use Rattle.pulsar_messages.specs.Words as words
 use Rattle.pulsar_messages.specs.Words.{Words}
 use Rattle.pulsar_run.specs.Laws.{InThisStep}
 use Rattle.pulsar_session.specs.Failures.{Fault}
+use Rattle.pulsar_session.specs.Link.{Seen as Connection, has_room}
+use Rattle.pulsar_session.specs.declared.states.Asked.{Asked as Placed}
+use Rattle.pulsar_session.specs.declared.states.Asked.TheVariants as placed
 use Rattle.pulsar_link.specs.Items.{Item, Given, Faulty}
 use Rattle.pulsar_link.specs.Messages.{Reply, is_body}
 use Rattle.pulsar_link.specs.Request.{closed_consumer}
@@ -227,6 +230,16 @@ FlowsAreAsked = (o : Options) (older : List Entry) (n t l p : ℕ) → IsRun o (
     (first (agenda o (Then (Does (Consumer n t) TakeFlow) ∷ older)) ≡ Some (Told (notice (Consumer n t) (outcome.Word (word.Flow l p)))))
     × (first (agenda o (Then (Told (notice (Consumer n t) (outcome.Word (word.Flow l p)))) ∷ Then (Does (Consumer n t) TakeFlow) ∷ older))
     ≡ Some (Does (Consumer n t) (Ask l (words.SendFlow n p))))
+
+-- No flow that is asked for is refused: the subscription is live there, and its link ready. It is queued at once where there is room, and else it
+-- stands at the end of the line.
+abbrev pub place_on : Connection → Placed
+place_on s = if has_room s then placed.Queued s.waits.queued else placed.Waiting (s.waits.queued + length s.line)
+
+abbrev pub FlowsArePlaced : Type 0
+FlowsArePlaced = (o : Options) (log : List Entry) (n t l m p : ℕ) → IsRun o (Then (Does (Consumer n t) (Ask l (words.SendFlow m p))) ∷ log) →
+    (seat : Seat) × ((view o log).links.live l ≡ Some seat)
+    × (answer_at (view o log).now (words.SendFlow m p) (Some seat) ≡ Ok (place_on seat.seen))
 
 -- ACKNOWLEDGEMENTS
 

@@ -72,6 +72,7 @@ pub mod Subscribed
 pub mod Reached
 pub mod Riding
 pub mod Placed
+pub mod Queueing
 pub mod Frames
 pub mod Framing
 pub mod InTurn

@@ -1,5 +1,5 @@
 -- No flow that is asked for is refused: it is queued at once, or stands in the line.
-use Rattle.std.proofs.Common.{◌≡◌, ◌⊎◌, inl, inr, ◌∙◌, sym, ap, subst, ℕ, zero, suc, ◌+◌, ◌*◌, ◌≤◌, ◌<◌, ◌^◌, List, [], ◌∷◌, ◌++◌, refl, arith, nat_lt, length, length-append, Bool, true, false, cond, Option, Some, None, Ok, Err}
+use Rattle.std.proofs.Common.{◌≡◌, ◌⊎◌, inl, inr, ◌∙◌, sym, ap, subst, ℕ, zero, suc, ◌+◌, ◌*◌, ◌≤◌, ◌<◌, ◌^◌, List, [], ◌∷◌, ◌++◌, refl, arith, nat_lt, length, length-append, Bool, true, false, cond, eq-eqb, Option, Some, None, Ok, Err}
 use Rattle.std.proofs.lemmas.Bool.{cases_Bool}
 use Rattle.std.proofs.lemmas.Bool.Decides.{nat_tests}
 use Rattle.std.specs.Prelude.{pos, ◌/◌, ◌%◌}
@@ -17,7 +17,7 @@ use Rattle.pulsar_messages.specs.Words.{Words}
 use Rattle.pulsar_session.specs.declared.states.Asked.TheVariants as placed
 use Rattle.pulsar_session.specs.Link as session
 use Rattle.pulsar_session.specs.Link.{Seen, answer_of, fits, frame_for, has_room, is_ready, message_of, number_for, place_in, ticked}
-use Rattle.pulsar_consumer.specs.Topic.{Live, first_in, seen}
+use Rattle.pulsar_consumer.specs.Topic.{Asks, Live, asked, link_of, first_in, seen}
 use Rattle.pulsar_consumer.proofs.Histories.{raw_asks_for_nothing}
 use Rattle.pulsar_plans.specs.declared.turn.Ways.{Ways}
 use Rattle.pulsar_calls.specs.declared.act.Act.{Act}
@@ -48,7 +48,7 @@ use Rattle.pulsar_plans.specs.declared.turn.Turn.TheVariants as search_turn
 use Rattle.pulsar_procedures.specs.declared.states.Resubscribing.{Resubscribing}
 use Rattle.pulsar_procedures.specs.Plan.{news_in}
 use Rattle.pulsar_tables.specs.Consumers as consumer
-use Rattle.pulsar_tables.specs.Consumers.{Member, flow_at}
+use Rattle.pulsar_tables.specs.Consumers.{Member, flow_at, member_after}
 use Rattle.pulsar_tables.specs.Reading.{flow_said}
 use Rattle.pulsar_tables.specs.Rules.{follows, follows_some, notice}
 use Rattle.pulsar_tables.specs.View.{Options, Seat, answer_at, stays, stays_some, told_some}
@@ -371,14 +371,30 @@ due_built once o log t l run k = elim (cases_Bool k.member.seen.is_raw) [
   | inr built ↦ built
 ]
 
-abbrev IsPlaced : Options → List Entry → (l m p : ℕ) → Type 0
-IsPlaced o log l m p = (seat : Seat) × ((view o log).links.live l ≡ Some seat)
-    × (answer_at (view o log).now (words.SendFlow m p) (Some seat) ≡ Ok (place_on seat.seen))
+-- and it is on this link still
+asked_on : (l : Option Live) → option_map (λ x. x.link) (option_map asked l) ≡ option_map (λ x. x.link) l
+asked_on None = refl
+asked_on (Some l) = refl
 
-pub flows_are_placed_lem : EndsOnce → FlowsArePlaced
-flows_are_placed_lem once o log n t l m p run = elim (does_from o log (Consumer n t) (Ask l (words.SendFlow m p)) run) [ inl k ↦ begun k | inr k ↦ led k ]
+asked_there : (o : Options) (older : List Entry) (n t : ℕ) (x : Notice) (m : Member) → (view o older).consumers.rows t ≡ Some m →
+    (view o (Then (Told x) ∷ Then (Does (Consumer n t) TakeFlow) ∷ older)).consumers.rows t ≡ Some (member_after Asks m)
+asked_there o older n t x m h =
+    let row : Option Member = (view o older).consumers.rows t in
+    ap (λ b. cond b (option_map (member_after Asks) row) row) (eq-eqb t t refl) ∙ ap (option_map (member_after Asks)) h
+
+pub record IsPlaced (o : Options) (log : List Entry) (t l m p : ℕ) : Type 0 where
+  pub seat : Seat
+  pub live : (view o log).links.live l ≡ Some seat
+  pub answer : answer_at (view o log).now (words.SendFlow m p) (Some seat) ≡ Ok (place_on seat.seen)
+  pub member : Member
+  pub is_there : (view o log).consumers.rows t ≡ Some member
+  pub on : link_of member.seen ≡ Some l
+
+pub is_placed : EndsOnce → (o : Options) (log : List Entry) (n t l m p : ℕ) → IsRun o (Then (Does (Consumer n t) (Ask l (words.SendFlow m p))) ∷ log) →
+    IsPlaced o log t l m p
+is_placed once o log n t l m p run = elim (does_from o log (Consumer n t) (Ask l (words.SendFlow m p)) run) [ inl k ↦ begun k | inr k ↦ led k ]
   where
-    begun : BeginsSo o log (Consumer n t) (Ask l (words.SendFlow m p)) → IsPlaced o log l m p
+    begun : BeginsSo o log (Consumer n t) (Ask l (words.SendFlow m p)) → IsPlaced o log t l m p
     begun k =
         let r : IsRun o (Then (Starts (Consumer n t) k.procedure) ∷ k.older) = subst (IsRun o) k.is_there run.0 in
         let is = start_serves o k.older n t k.procedure r in
@@ -386,19 +402,24 @@ flows_are_placed_lem once o log n t l m p run = elim (does_from o log (Consumer 
         absurd cc
 
     due_here : (older : List Entry) → log ≡ Then (Told (notice (Consumer n t) (outcome.Word (word.Flow l p)))) ∷ Then (Does (Consumer n t) TakeFlow) ∷ older →
-        IsRun o (Then (Told (notice (Consumer n t) (outcome.Word (word.Flow l p)))) ∷ Then (Does (Consumer n t) TakeFlow) ∷ older) → IsPlaced o log l m p
+        IsRun o (Then (Told (notice (Consumer n t) (outcome.Word (word.Flow l p)))) ∷ Then (Does (Consumer n t) TakeFlow) ∷ older) → IsPlaced o log t l m p
     due_here older is r =
         let e : outcome.Word (flow_said (flow_at ((view o older).consumers.rows t))) ≡ outcome.Word (word.Flow l p) =
         ap said (some_is (sym (told_flow o older n t) ∙ r.1)) in
         let f : flow_said (flow_at ((view o older).consumers.rows t)) ≡ word.Flow l p = cc in
         let k : WasDue o older t l = due_live o older t l p ((view o older).consumers.rows t) refl (due_flow (flow_at ((view o older).consumers.rows t)) l p f) in
-        let x = rides once o older t k.member l r.0.0 k.is_there (ap (option_map (λ (y : Live). y.link)) k.is_live ∙ ap Some k.on) (due_built once o older t l r.0.0 k) in (
-          x.0,
-          ap (λ y. (view o y).links.live l) is ∙ x.1,
-          flow_placed (view o log).now m p x.0.seen x.2,
-        )
+        let on : link_of k.member.seen ≡ Some l = ap (option_map (λ (y : Live). y.link)) k.is_live ∙ ap Some k.on in
+        let x = rides once o older t k.member l r.0.0 k.is_there on (due_built once o older t l r.0.0 k) in
+        record {
+          seat = x.0;
+          live = ap (λ y. (view o y).links.live l) is ∙ x.1;
+          answer = flow_placed (view o log).now m p x.0.seen x.2;
+          member = member_after Asks k.member;
+          is_there = ap (λ y. (view o y).consumers.rows t) is ∙ asked_there o older n t (notice (Consumer n t) (outcome.Word (word.Flow l p))) k.member k.is_there;
+          on = asked_on k.member.seen.engine.live ∙ on;
+        }
 
-    led : IsLedSo o log (Consumer n t) (Ask l (words.SendFlow m p)) → IsPlaced o log l m p
+    led : IsLedSo o log (Consumer n t) (Ask l (words.SendFlow m p)) → IsPlaced o log t l m p
     led k =
         let x = flows_are_taken_lem o log n t l m p run in
         let same : Then (Told (notice (Consumer n t) k.outcome)) ∷ k.older ≡ Then (Told (notice (Consumer n t) (outcome.Word (word.Flow l p)))) ∷ x.0 =
@@ -417,3 +438,6 @@ flows_are_placed_lem once o log n t l m p run = elim (does_from o log (Consumer 
               ∙ ap (λ y. Then (Told (notice (Consumer n t) (outcome.Word (word.Flow l p)))) ∷ y) older.1 in
               due_here older.0 there (subst (IsRun o) there run.0))
         ]
+
+pub flows_are_placed_lem : EndsOnce → FlowsArePlaced
+flows_are_placed_lem once o log n t l m p run = let k = is_placed once o log n t l m p run in (k.seat, k.live, k.answer)

@@ -1,5 +1,5 @@
--- A link that was ready is so until it ends, and what is never refused there is asked for.
-use Rattle.std.proofs.Common.{◌≡◌, ◌∙◌, ap, ℕ, ◌+◌, List, ◌∷◌, refl, drop, arith, nat_lt, Bool, true, false, ◌++◌, cond, ◌==◌, Option, Some, None, Result, Ok, Err}
+-- What is kept of a link by all that is done to it; and that one which was ready is so until it ends.
+use Rattle.std.proofs.Common.{◌≡◌, ◌∙◌, sym, ap, subst, ℕ, ◌+◌, List, ◌∷◌, refl, drop, arith, nat_lt, Bool, true, false, ◌++◌, cond, ◌==◌, Option, Some, None, Result, Ok, Err}
 use Rattle.std.proofs.lemmas.Bool.Decides.{nat_tests}
 use Rattle.std.specs.Option.{option_map}
 use Rattle.pulsar_wire.specs.declared.error.ConnectionError.{ConnectionError}
@@ -11,6 +11,8 @@ use Rattle.pulsar_session.specs.declared.states.Stage.{Stage}
 use Rattle.pulsar_session.specs.declared.states.Stage.TheVariants.{Ready}
 use Rattle.pulsar_session.specs.Failures.{Fault}
 use Rattle.pulsar_session.specs.Link.{Act as Act', Opens as Opens', Feeds, Takes, Asks, Drains as Drains', Closes, Seen, after as after', after_of, answer_of, answered, drawn, is_open, is_ready, moved_up, number_for, opens_in, request, settled_by, taken_in, ticked}
+use Rattle.pulsar_session.specs.Laws.{IsInLine}
+use Rattle.pulsar_session.proofs.Others.{none_stands_beside_room}
 use Rattle.pulsar_session.proofs.Pieces.{asks_for_apart, unless_stage}
 use Rattle.pulsar_calls.specs.declared.act.Act.{Act}
 use Rattle.pulsar_calls.specs.declared.act.Act.TheVariants.{Comes, Does, Dials}
@@ -23,13 +25,15 @@ use Rattle.pulsar_calls.specs.Content.{Heard, Bytes}
 use Rattle.pulsar_tables.specs.Links.{closed_by}
 use Rattle.pulsar_tables.specs.View.{Options, Seat, View, after, answer_at, begun_live, got_at, is_live, link_got, live_begun, seat_asked, seat_fed, seat_got, took, took_end, took_some}
 use Rattle.pulsar_client.specs.Run.{Entry, Begins, Then, view}
-use Rattle.pulsar_laws.proofs.Alone.{is_close}
+use Rattle.pulsar_client.proofs.Acts.{begun_same}
+use Rattle.pulsar_laws.specs.Laws.{calls_of}
+use Rattle.pulsar_laws.proofs.Alone.{is_close, links_alone_lem}
 use Rattle.pulsar_laws.proofs.Early.{drawn_stage, moved_stage, ready_of}
 use Rattle.pulsar_laws.proofs.Stopping.{is_started}
 
 -- A CONNECTION that is ready stays so, until it is closed
 
-abbrev IsReady : Seen → Type 0
+abbrev pub IsReady : Seen → Type 0
 IsReady v = is_ready v.stage ≡ true
 
 same_ready : (v w : Seen) → w.stage ≡ v.stage → IsReady v → IsReady w
@@ -57,7 +61,7 @@ asked_ready (Ok id) now words v h =
     same_ready v (after_of (Ok id) now words v)
     ((asks_for_apart (request id now words)).stage (drawn (is_numbered words) v) ∙ drawn_stage (is_numbered words) v) h
 
-pub stays_ready : (act : Act') (v : Seen) → is_close act ≡ false → IsReady v → IsReady (after' act v)
+stays_ready : (act : Act') (v : Seen) → is_close act ≡ false → IsReady v → IsReady (after' act v)
 stays_ready (Opens' now) v c h = opens_ready v.stage (ticked now v) h h
 stays_ready (Feeds piece) v c h = either_ready (is_open v.stage) (record v { unread = v.unread ++ piece }) v h h
 stays_ready (Takes now) v c h = taken_ready v.stage (front v.unread) (ticked now v) h h
@@ -67,81 +71,106 @@ stays_ready (Drains' most now) v c h =
     either_ready (is_open v.stage) (moved_up v.line b) (ticked now v) (same_ready v (moved_up v.line b) (moved_stage v.line b) h) h
 stays_ready (Closes cause) v c h = absurd cc
 
--- A LINK, where it has not ended
+-- A LINK, where it has not ended. What its acts keep of a connection remains so.
 
-abbrev pub IsReadyAt : Option Seat → Type 0
-IsReadyAt None = Unit {0}
-IsReadyAt (Some seat) = is_ready seat.seen.stage ≡ true
+abbrev pub IsAt : (Seen → Type 0) → Option Seat → Type 0
+IsAt P None = Unit {0}
+IsAt P (Some seat) = P seat.seen
 
-either_at : (b : Bool) (x y : Option Seat) → IsReadyAt x → IsReadyAt y → IsReadyAt (cond b x y)
-either_at true x y p q = p
-either_at false x y p q = q
-
-map_at : (f : Seat → Seat) (row : Option Seat) → ((seat : Seat) → IsReady seat.seen → IsReady (f seat).seen) → IsReadyAt row → IsReadyAt (option_map f row)
-map_at f None k h = tt
-map_at f (Some seat) k h = k seat h
-
-took_at : (x : LinkAct) (now : ℕ) (seat : Seat) → IsReady seat.seen → IsReadyAt (took x now seat)
-took_at Opens now seat h = stays_ready (Opens' now) seat.seen refl h
-took_at Reads now seat h = stays_ready (Takes now) seat.seen refl h
-took_at (Drains most) now seat h = stays_ready (Drains' most now) seat.seen refl h
-took_at Pings now seat h = stays_ready (Asks now SendPing) seat.seen refl h
-took_at (Ends end) now seat h = by (closed_by end now seat.seen)
+-- the connection of a link has no frame in its line where there is room
+pub in_line : (o : Options) (log : List Entry) (l : ℕ) → IsAt IsInLine ((view o log).links.live l)
+in_line o log l = by ((view o log).links.live l) refl
   where
-    by : (cause : Option Fault) → IsReadyAt (took_end cause seat)
-    by None = h
-    by (Some cause) = tt
+    by : (row : Option Seat) → (view o log).links.live l ≡ row → IsAt IsInLine row
+    by None e = tt
+    by (Some seat) e = let k = links_alone_lem o log l seat e in subst IsInLine (sym k.2) (none_stands_beside_room k.0 (calls_of o l log))
 
-took_some_at : (x : LinkAct) (now : ℕ) (row : Option Seat) → IsReadyAt row → IsReadyAt (took_some x now row)
-took_some_at x now None h = tt
-took_some_at x now (Some seat) h = took_at x now seat h
+-- no link is started twice
+not_next : (l n : ℕ) → nat_lt l n ≡ true → (l == n) ≡ false
+not_next l n h = grind (arith, nat_tests)
 
-asked_at : (who : Who) (now : ℕ) (request : Words) (row : Option Seat) → IsReadyAt row → IsReadyAt (option_map (seat_asked who now request) row)
-asked_at who now request row h = map_at (seat_asked who now request) row (λ seat k. stays_ready (Asks now request) seat.seen refl k) h
+abbrev pub Keeps : (Seen → Type 0) → Type 0
+Keeps P = (act : Act') (v : Seen) → is_close act ≡ false → IsInLine v → P v → P (after' act v)
 
-got_so : (got : Option ℕ) (now l : ℕ) (row : Option Seat) → IsReadyAt row → IsReadyAt (got_at got now l row)
-got_so None now l row h = h
-got_so (Some k) now l row h = either_at (l == k) (option_map (seat_got now) row) row (map_at (seat_got now) row (λ seat k. k) h) h
+module _ (P : Seen → Type 0) (keeps : Keeps P) where
+  either_at : (b : Bool) (x y : Option Seat) → IsAt P x → IsAt P y → IsAt P (cond b x y)
+  either_at true x y p q = p
+  either_at false x y p q = q
 
-heard_at : (e : Heard) (l : ℕ) (row : Option Seat) → IsReadyAt row → IsReadyAt (live_begun e l row)
-heard_at (Bytes k piece) l row h =
-    either_at (l == k) (option_map (seat_fed piece) row) row (map_at (seat_fed piece) row (λ seat k. stays_ready (Feeds piece) seat.seen refl k) h) h
-heard_at e l row h = h
+  map_at : (f : Seat → Seat) (row : Option Seat) → ((seat : Seat) → row ≡ Some seat → P seat.seen → P (f seat).seen) → IsAt P row → IsAt P (option_map f row)
+  map_at f None k h = tt
+  map_at f (Some seat) k h = k seat refl h
+
+  took_at : (x : LinkAct) (now : ℕ) (seat : Seat) → IsInLine seat.seen → P seat.seen → IsAt P (took x now seat)
+  took_at Opens now seat r h = keeps (Opens' now) seat.seen refl r h
+  took_at Reads now seat r h = keeps (Takes now) seat.seen refl r h
+  took_at (Drains most) now seat r h = keeps (Drains' most now) seat.seen refl r h
+  took_at Pings now seat r h = keeps (Asks now SendPing) seat.seen refl r h
+  took_at (Ends end) now seat r h = by (closed_by end now seat.seen)
+    where
+      by : (cause : Option Fault) → IsAt P (took_end cause seat)
+      by None = h
+      by (Some cause) = tt
+
+  took_some_at : (x : LinkAct) (now : ℕ) (row : Option Seat) → IsAt IsInLine row → IsAt P row → IsAt P (took_some x now row)
+  took_some_at x now None r h = tt
+  took_some_at x now (Some seat) r h = took_at x now seat r h
+
+  asked_at : (who : Who) (now : ℕ) (request : Words) (row : Option Seat) → IsAt IsInLine row → IsAt P row → IsAt P (option_map (seat_asked who now request) row)
+  asked_at who now request None r h = tt
+  asked_at who now request (Some seat) r h = keeps (Asks now request) seat.seen refl r h
+
+  got_so : (got : Option ℕ) (now l : ℕ) (row : Option Seat) → IsAt P row → IsAt P (got_at got now l row)
+  got_so None now l row h = h
+  got_so (Some k) now l row h = either_at (l == k) (option_map (seat_got now) row) row (map_at (seat_got now) row (λ seat e k. k) h) h
+
+  fed_at : (piece : List ℕ) (row : Option Seat) → IsAt IsInLine row → IsAt P row → IsAt P (option_map (seat_fed piece) row)
+  fed_at piece None r h = tt
+  fed_at piece (Some seat) r h = keeps (Feeds piece) seat.seen refl r h
+
+  heard_at : (e : Heard) (l : ℕ) (row : Option Seat) → IsAt IsInLine row → IsAt P row → IsAt P (live_begun e l row)
+  heard_at (Bytes k piece) l row r h = either_at (l == k) (option_map (seat_fed piece) row) row (fed_at piece row r h) h
+  heard_at e l row r h = h
+
+  then_at : (v : View) (a : Act) (l : ℕ) → nat_lt l v.links.started ≡ true → IsAt IsInLine (v.links.live l) → IsAt P (v.links.live l) →
+      IsAt P ((after a v).links.live l)
+  then_at v (Comes (ToLink k x)) l s r h =
+      either_at (l == k) (took_some x v.now (v.links.live l)) (v.links.live l) (took_some_at x v.now (v.links.live l) r h) h
+  then_at v (Does who (Get p)) l s r h = got_so (link_got v.addresses (Does who (Get p))) v.now l (v.links.live l) h
+  then_at v (Does who (Ask k request)) l s r h =
+      either_at (l == k) (option_map (seat_asked who v.now request) (v.links.live l)) (v.links.live l) (asked_at who v.now request (v.links.live l) r h) h
+  then_at v (Dials p starter n) l s r h = let e : (l == v.links.started) ≡ false = not_next l v.links.started s in rw e h
+  then_at v a l s r h = h
+
+  -- so what is so of a link that was started stays so
+  pub more_at : (o : Options) (e : Entry) (log : List Entry) (l : ℕ) → nat_lt l (view o log).links.started ≡ true → IsAt P ((view o log).links.live l) →
+      IsAt P ((view o (e ∷ log)).links.live l)
+  more_at o (Begins e) log l s h =
+      elim (is_live (view o log) e) as (λ b. IsAt P ((cond b (begun_live e (view o log)) (view o log)).links.live l)) [
+        | true ↦ heard_at e l ((view o log).links.live l) (in_line o log l) h
+        | false ↦ h
+      ]
+  more_at o (Then a) log l s h = then_at (view o log) a l s (in_line o log l) h
 
 -- it was ready once: it is so still, or has ended
 pub record WasReady (v : View) (l : ℕ) : Type 0 where
   pub started : nat_lt l v.links.started ≡ true
-  pub now : IsReadyAt (v.links.live l)
-
--- and no link is started twice
-not_next : (l n : ℕ) → nat_lt l n ≡ true → (l == n) ≡ false
-not_next l n h = grind (arith, nat_tests)
+  pub now : IsAt IsReady (v.links.live l)
 
 one_more : (l n : ℕ) → nat_lt l n ≡ true → nat_lt l (n + 1) ≡ true
 one_more l n h = grind (arith, nat_tests)
 
-then_ready : (v : View) (a : Act) (l : ℕ) → WasReady v l → WasReady (after a v) l
-then_ready v (Comes (ToLink k x)) l h = record {
-  started = h.started;
-  now = either_at (l == k) (took_some x v.now (v.links.live l)) (v.links.live l) (took_some_at x v.now (v.links.live l) h.now) h.now;
-}
-then_ready v (Does who (Get p)) l h = record { started = h.started; now = got_so (link_got v.addresses (Does who (Get p))) v.now l (v.links.live l) h.now }
-then_ready v (Does who (Ask k request)) l h = record {
-  started = h.started;
-  now = either_at (l == k) (option_map (seat_asked who v.now request) (v.links.live l)) (v.links.live l) (asked_at who v.now request (v.links.live l) h.now) h.now;
-}
-then_ready v (Dials p starter n) l h = record {
-  started = one_more l v.links.started h.started;
-  now = let e : (l == v.links.started) ≡ false = not_next l v.links.started h.started in rw e h.now;
-}
-then_ready v a l h = record { started = h.started; now = h.now }
+started_more : (o : Options) (e : Entry) (log : List Entry) (l : ℕ) → nat_lt l (view o log).links.started ≡ true →
+    nat_lt l (view o (e ∷ log)).links.started ≡ true
+started_more o (Begins e) log l h = subst (λ n. nat_lt l n ≡ true) (sym (begun_same (λ v. v.links.started) e (view o log) refl)) h
+started_more o (Then (Dials p starter n)) log l h = one_more l (view o log).links.started h
+started_more o (Then a) log l h = h
 
 pub more_ready : (o : Options) (e : Entry) (log : List Entry) (l : ℕ) → WasReady (view o log) l → WasReady (view o (e ∷ log)) l
-more_ready o (Begins e) log l h = elim (is_live (view o log) e) as (λ b. WasReady (cond b (begun_live e (view o log)) (view o log)) l) [
-  | true ↦ record { started = h.started; now = heard_at e l ((view o log).links.live l) h.now }
-  | false ↦ h
-]
-more_ready o (Then a) log l h = then_ready (view o log) a l h
+more_ready o e log l h = record {
+  started = started_more o e log l h.started;
+  now = more_at IsReady (λ act v c r k. stays_ready act v c k) o e log l h.started h.now;
+}
 
 -- where a link takes what is asked of it, it is ready
 taken_so : (numbered : Bool) (now : ℕ) (words : Words) (v : Seen) (n : Result ℕ ConnectionError) (placed : Placed) → number_for numbered v ≡ n →
@@ -149,7 +178,7 @@ taken_so : (numbered : Bool) (now : ℕ) (words : Words) (v : Seen) (n : Result 
 taken_so numbered now words v (Err e) placed is h = absurd cc
 taken_so numbered now words v (Ok id) placed is h = ready_of numbered v id is
 
-row_ready : (now : ℕ) (words : Words) (row : Option Seat) (placed : Placed) → answer_at now words row ≡ Ok placed → IsReadyAt row
+row_ready : (now : ℕ) (words : Words) (row : Option Seat) (placed : Placed) → answer_at now words row ≡ Ok placed → IsAt IsReady row
 row_ready now words None placed h = tt
 row_ready now words (Some seat) placed h = taken_so (is_numbered words) now words seat.seen (number_for (is_numbered words) seat.seen) placed refl h
 

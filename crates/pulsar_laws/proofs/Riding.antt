@@ -26,6 +26,7 @@ use Rattle.pulsar_calls.specs.declared.act.LinkAct.TheVariants.{Opens, Reads, Dr
 use Rattle.pulsar_calls.specs.declared.act.Makes.{Makes}
 use Rattle.pulsar_calls.specs.declared.act.Makes.TheVariants as makes
 use Rattle.pulsar_calls.specs.declared.act.Part.TheVariants.{ToLink, Polls}
+use Rattle.pulsar_calls.specs.declared.act.Who.{Who}
 use Rattle.pulsar_calls.specs.declared.act.Who.TheVariants.{Call}
 use Rattle.pulsar_calls.specs.declared.content.Joining.{Joining}
 use Rattle.pulsar_calls.specs.Content.{Heard, Bytes}
@@ -39,7 +40,7 @@ use Rattle.pulsar_laws.specs.ConsumerLaws.{arrival_does, does_to, done_since, do
 use Rattle.pulsar_laws.specs.Laws.{EndsOnce}
 use Rattle.pulsar_laws.proofs.Ended.{after_made}
 use Rattle.pulsar_laws.proofs.Lone.{IsKept, IsMade, IsNone, RowFrom, applied, begun_rows, none_after, row_from}
-use Rattle.pulsar_laws.proofs.Ready.{IsReadyAt, WasReady, more_ready}
+use Rattle.pulsar_laws.proofs.Ready.{IsAt, IsReady, WasReady, more_ready}
 use Rattle.pulsar_laws.proofs.Reached.{makes_ready, revives_ready}
 
 none_some : {A : Type 0} {x : A} → None ≡ Some x → ⊥
@@ -366,21 +367,38 @@ module _ (o : Options) (log : List Entry) (t : ℕ) where
   made_open a none n is end k at =
       none_some (sym (none_after (view o log) t a (λ w x f. (let g : Comes (ToLink k (Ends end)) ≡ Answers w x = sym at ∙ f in absurd cc)) none) ∙ is)
 
+  -- but where it is subscribed again it is on no other link than before
+  abbrev Revives : Act → Type 0
+  Revives a = (who : Who) × (l : ℕ) × (a ≡ Does who (Revive l)) × ((t == ticket_of who && is_some ((view o log).links.live l)) ≡ true)
+
+  tame_by : (a : Act) (m : Member) → Tame (does_to (view o log) t m a) m.seen ⊎ Revives a
+  tame_by (Comes (ToLink l Reads)) m = inl (tame_arrival l (arrival_at ((view o log).links.live l)) m.seen)
+  tame_by (Comes (ToLink l (Ends end))) m = inl (tame_loss l (closing end (view o log).now ((view o log).links.live l)) m.seen)
+  tame_by (Comes (Polls u)) m =
+      inl (tame_either (t == u) (Polled (view o log).now ∷ []) [] m.seen (tame_polled (view o log).now m.seen) (tame_none m.seen))
+  tame_by (Does who (Ask l request)) m =
+      inl (tame_either (is_asked (answer_at (view o log).now request ((view o log).links.live l)) && is_closed_by (closed_consumer request) l m) (Over Closed ∷ []) []
+      m.seen (tame_over Closed m.seen) (tame_none m.seen))
+  tame_by (Does who TakeFlow) m = inl (tame_either (t == ticket_of who) (Asks ∷ []) [] m.seen (tame_asks m.seen) (tame_none m.seen))
+  tame_by (Does who (Revive l)) m = elim (cases_Bool (t == ticket_of who)) [
+    | inl e ↦ on_row ((view o log).links.live l) refl e
+    | inr e ↦
+        inl (subst (λ b. Tame (cond b (subscription_does l (url_at ((view o log).links.live l))) []) m.seen) (sym e) (tame_none m.seen))
+  ]
+    where
+      on_row : (row : Option Seat) → (view o log).links.live l ≡ row → (t == ticket_of who) ≡ true →
+          Tame (cond (t == ticket_of who) (subscription_does l (url_at ((view o log).links.live l))) []) m.seen ⊎ Revives (Does who (Revive l))
+      on_row None f e =
+          inl (subst (λ r. Tame (cond (t == ticket_of who) (subscription_does l (url_at r)) []) m.seen) (sym f)
+          (tame_either (t == ticket_of who) [] [] m.seen (tame_none m.seen) (tame_none m.seen)))
+      on_row (Some seat) f e = inr (who, l, refl, (λ i. e i && is_some (f i)))
+  tame_by (Does who (FailConsumer f)) m = inl (tame_either (t == ticket_of who) (Fails f ∷ []) [] m.seen (tame_fails f m.seen) (tame_none m.seen))
+  tame_by (Does who StopAll) m = inl (tame_over Stopped m.seen)
+  tame_by a m = inl (tame_none m.seen)
+
   kept_by : (a : Act) (m n : Member) → IsRun o (Then a ∷ log) → Rides o log m → n.seen ≡ applied (does_to (view o log) t m a) m.seen → Rides o (Then a ∷ log) n
-  kept_by (Comes (ToLink l Reads)) m n run was is =
-      tame_rides o log (Comes (ToLink l Reads)) t m n was is (tame_arrival l (arrival_at ((view o log).links.live l)) m.seen) (λ k end at. absurd cc)
   kept_by (Comes (ToLink l (Ends end))) m n run was is =
       ended_rides o log (Comes (ToLink l (Ends end))) t m n was is l end (closing end (view o log).now ((view o log).links.live l)) refl refl refl
-  kept_by (Comes (Polls u)) m n run was is =
-      tame_rides o log (Comes (Polls u)) t m n was is
-      (tame_either (t == u) (Polled (view o log).now ∷ []) [] m.seen (tame_polled (view o log).now m.seen) (tame_none m.seen)) (λ k end at. absurd cc)
-  kept_by (Does who (Ask l request)) m n run was is =
-      tame_rides o log (Does who (Ask l request)) t m n was is
-      (tame_either (is_asked (answer_at (view o log).now request ((view o log).links.live l)) && is_closed_by (closed_consumer request) l m) (Over Closed ∷ []) []
-      m.seen (tame_over Closed m.seen) (tame_none m.seen)) (λ k end at. absurd cc)
-  kept_by (Does who TakeFlow) m n run was is =
-      tame_rides o log (Does who TakeFlow) t m n was is (tame_either (t == ticket_of who) (Asks ∷ []) [] m.seen (tame_asks m.seen) (tame_none m.seen))
-      (λ k end at. absurd cc)
   kept_by (Does who (Revive l)) m n run was is =
       again_rides o log (Does who (Revive l)) t m n was is l (revives_ready o log who l run) (λ end k at. absurd cc) (λ k h. by (t == ticket_of who) k h)
     where
@@ -388,11 +406,10 @@ module _ (o : Options) (log : List Entry) (t : ℕ) where
           (link_of m.seen ≡ Some k) ⊎ ((k ≡ l) × IsLive (view o log) l)
       by true k h = subscription_link l ((view o log).links.live l) m.seen k h
       by false k h = inl h
-  kept_by (Does who (FailConsumer f)) m n run was is =
-      tame_rides o log (Does who (FailConsumer f)) t m n was is (tame_either (t == ticket_of who) (Fails f ∷ []) [] m.seen (tame_fails f m.seen) (tame_none m.seen))
-      (λ k end at. absurd cc)
-  kept_by (Does who StopAll) m n run was is = tame_rides o log (Does who StopAll) t m n was is (tame_over Stopped m.seen) (λ k end at. absurd cc)
-  kept_by a m n run was is = tame_rides o log a t m n was is (tame_none m.seen) (λ k end at. absurd cc)
+  kept_by a m n run was is = elim (tame_by a m) [
+    | inl tame ↦ tame_rides o log a t m n was is tame (λ k end at. absurd cc)
+    | inr k ↦ absurd (let e : a ≡ Does k.0 (Revive k.1) = k.2 in cc)
+  ]
 
   row_rides : (a : Act) → IsRun o (Then a ∷ log) → RidesAt o log t → RowFrom o log a t → RidesAt o (Then a ∷ log) t
   row_rides a run was (IsNone e f) n h = absurd (none_some (sym f ∙ h))
@@ -400,6 +417,40 @@ module _ (o : Options) (log : List Entry) (t : ℕ) where
       made_rides o log a t l s n (λ raw alive. made_by a s l n run e h how did raw alive) (made_open a e n h) (some_is (sym f ∙ h))
   row_rides a run was (IsKept m e r how did) n h =
       subst (Rides o (Then a ∷ log)) (some_is (sym r.is_it ∙ h)) (kept_by a m r.row run (was m e) r.seen)
+
+-- a consumer is on the link on which it was before, unless it is made, or subscribed again
+abbrev pub IsFresh : Options → List Entry → Act → (ticket : ℕ) → Type 0
+IsFresh o log a t =
+    ((view o log).consumers.rows t ≡ None) ⊎ ((who : Who) × (l : ℕ) × (a ≡ Does who (Revive l)) × ((t == ticket_of who && is_some ((view o log).links.live l)) ≡ true))
+
+abbrev pub LinkFrom : Options → List Entry → Act → (ticket link : ℕ) → Type 0
+LinkFrom o log a t k = ((m : Member) × ((view o log).consumers.rows t ≡ Some m) × (link_of m.seen ≡ Some k)) ⊎ IsFresh o log a t
+
+pub link_from : EndsOnce → (o : Options) (log : List Entry) (a : Act) (t k : ℕ) (n : Member) → IsRun o (Then a ∷ log) →
+    (view o (Then a ∷ log)).consumers.rows t ≡ Some n → link_of n.seen ≡ Some k → LinkFrom o log a t k
+link_from once o log a t k n run h on = by (row_from o log t once a (consumer_ticket o (Then a ∷ log) t n run h) run)
+  where
+    by : RowFrom o log a t → LinkFrom o log a t k
+    by (IsNone e f) = absurd (none_some (sym f ∙ h))
+    by (IsMade s l e f how did) = inr (inl e)
+    by (IsKept m e r how did) = elim (tame_by o log t a m) [
+      | inl tame ↦ inl (m, e, tame k (sym (ap link_of r.seen) ∙ ap (λ (x : Member). link_of x.seen) (some_is (sym r.is_it ∙ h)) ∙ on))
+      | inr k ↦ inr (inr k)
+    ]
+
+-- where there is none there was none
+pub none_from : EndsOnce → (o : Options) (log : List Entry) (a : Act) (t : ℕ) → IsRun o (Then a ∷ log) →
+    (view o (Then a ∷ log)).consumers.rows t ≡ None → (view o log).consumers.rows t ≡ None
+none_from once o log a t run h = at ((view o log).consumers.rows t) refl
+  where
+    by : RowFrom o log a t → (view o log).consumers.rows t ≡ None
+    by (IsNone e f) = e
+    by (IsMade s l e f how did) = e
+    by (IsKept m e r how did) = absurd (none_some (sym h ∙ r.is_it))
+
+    at : (row : Option Member) → (view o log).consumers.rows t ≡ row → (view o log).consumers.rows t ≡ None
+    at None e = e
+    at (Some m) e = by (row_from o log t once a (consumer_ticket o log t m run.0 e) run)
 
 begun_rides : (o : Options) (log : List Entry) (e : Heard) (t : ℕ) → RidesAt o log t → RidesAt o (Begins e ∷ log) t
 begun_rides o log e t was m h k is =
@@ -411,14 +462,24 @@ rides_run once o [] t un run = λ m h. absurd (none_some h)
 rides_run once o (Begins e ∷ log) t un run = begun_rides o log e t (rides_run once o log t un run.0)
 rides_run once o (Then a ∷ log) t un run = row_rides o log t a run (rides_run once o log t un run.0) (row_from o log t once a un run)
 
--- the link of a live subscription has not ended, and is ready
+-- the link of a live subscription has not ended
+pub rides_on : EndsOnce → (o : Options) (log : List Entry) (t : ℕ) (m : Member) (k : ℕ) → IsRun o log → (view o log).consumers.rows t ≡ Some m →
+    link_of m.seen ≡ Some k → (seat : Seat) × ((view o log).links.live k ≡ Some seat)
+rides_on once o log t m k run h there =
+    by ((view o log).links.live k) refl (rides_run once o log t (consumer_ticket o log t m run h) run m h k there).0
+  where
+    by : (row : Option Seat) → (view o log).links.live k ≡ row → is_some row ≡ true → (seat : Seat) × ((view o log).links.live k ≡ Some seat)
+    by None e some = absurd cc
+    by (Some seat) e some = (seat, e)
+
+-- and it is ready where the consumer was built
 pub rides : EndsOnce → (o : Options) (log : List Entry) (t : ℕ) (m : Member) (k : ℕ) → IsRun o log → (view o log).consumers.rows t ≡ Some m →
     link_of m.seen ≡ Some k → m.seen.is_raw ≡ false → (seat : Seat) × ((view o log).links.live k ≡ Some seat) × (is_ready seat.seen.stage ≡ true)
 rides once o log t m k run h there plain =
     let x = rides_run once o log t (consumer_ticket o log t m run h) run m h k there in
     by ((view o log).links.live k) refl x.0 (x.1 plain).now
   where
-    by : (row : Option Seat) → (view o log).links.live k ≡ row → is_some row ≡ true → IsReadyAt row →
+    by : (row : Option Seat) → (view o log).links.live k ≡ row → is_some row ≡ true → IsAt IsReady row →
         (seat : Seat) × ((view o log).links.live k ≡ Some seat) × (is_ready seat.seen.stage ≡ true)
     by None e some ready = absurd cc
     by (Some seat) e some ready = (seat, e, ready)

@@ -1,6 +1,6 @@
 -- What follows of consumers, in plain words.
-use Rattle.std.specs.Prelude.{◌≡◌, ℕ, ◌+◌, ◌-◌, ◌≤◌, ◌==◌, ◌&&◌, ◌||◌, Bool, true, false, if◌then◌else◌, List, [], ◌∷◌, ◌++◌, length, Option, Some, None, Ok}
-use Rattle.std.specs.List.{flat_map, sum}
+use Rattle.std.specs.Prelude.{◌≡◌, ℕ, ◌+◌, ◌-◌, ◌≤◌, nat_lt, ◌==◌, ◌&&◌, ◌||◌, Bool, true, false, if◌then◌else◌, List, [], ◌∷◌, ◌++◌, length, Option, Some, None, Ok}
+use Rattle.std.specs.List.{flat_map, list_any, sum, sum_by}
 use Rattle.std.specs.Option.{is_some, option_or}
 use Rattle.url.specs.Parts.{Parts}
 use Rattle.pulsar_messages.specs.Words as words
@@ -38,7 +38,8 @@ use Rattle.pulsar_calls.specs.Content.{Asked, Poll, Shown, Hands, Faults}
 use Rattle.pulsar_calls.specs.Who.{is_same, ticket_of}
 use Rattle.pulsar_tables.specs.Consumers as consumer
 use Rattle.pulsar_tables.specs.Consumers.{Member, is_closed_by}
-use Rattle.pulsar_tables.specs.View.{Options, Seat, View, answer_at, arrival_at, closing, is_asked, setup_of, url_at}
+use Rattle.pulsar_tables.specs.Links.{line_places}
+use Rattle.pulsar_tables.specs.View.{Options, Seat, View, answer_at, arrival_at, closing, is_asked, place_of, setup_of, url_at}
 use Rattle.pulsar_tables.specs.Rules.{call_part, notice}
 use Rattle.pulsar_client.specs.Run.{Entry, Begins, Then, IsRun, Step, agenda, first, steps, view}
 use Rattle.pulsar_laws.specs.Laws.{counted}
@@ -240,6 +241,49 @@ abbrev pub FlowsArePlaced : Type 0
 FlowsArePlaced = (o : Options) (log : List Entry) (n t l m p : ℕ) → IsRun o (Then (Does (Consumer n t) (Ask l (words.SendFlow m p))) ∷ log) →
     (seat : Seat) × ((view o log).links.live l ≡ Some seat)
     × (answer_at (view o log).now (words.SendFlow m p) (Some seat) ≡ Ok (place_on seat.seen))
+
+-- a flow that was asked for: the place of its frame on the link, where it has one, and its permits
+pub record Flow : Type 0 where
+  pub place : Option ℕ
+  pub permits : ℕ
+
+-- those that the plan of a consumer has asked for since its subscription was made, newest first; with another subscription they begin anew
+abbrev pub flows_after : View → (ticket : ℕ) → Act → List Flow → List Flow
+flows_after v t (Does who (Revive l)) fs = if t == ticket_of who && is_some (v.links.live l) then [] else fs
+flows_after v t (Does (Consumer n u) (Ask l (words.SendFlow m p))) fs =
+    if t == u then record { place = place_of (answer_at v.now (words.SendFlow m p) (v.links.live l)); permits = p } ∷ fs else fs
+flows_after v t a fs = fs
+
+abbrev pub flows_since : Options → (ticket : ℕ) → List Entry → List Flow
+flows_since o t [] = []
+flows_since o t (Begins e ∷ log) = flows_since o t log
+flows_since o t (Then a ∷ log) = flows_after (view o log) t a (flows_since o t log)
+
+-- their permits, and the permits of those whose place is so: the frame of a place is queued where so many frames of the link were, and else it
+-- stands in the line
+abbrev pub is_so : (ℕ → Bool) → Option ℕ → Bool
+is_so test None = false
+is_so test (Some place) = test place
+
+abbrev pub permits_of : List Flow → ℕ
+permits_of fs = sum_by (λ f. f.permits) fs
+
+abbrev pub permits_where : (ℕ → Bool) → List Flow → ℕ
+permits_where test fs = sum_by (λ f. if is_so test f.place then f.permits else 0) fs
+
+abbrev pub was_queued : Connection → (place : ℕ) → Bool
+was_queued s place = nat_lt place s.waits.queued
+
+abbrev pub stands : Connection → (place : ℕ) → Bool
+stands s place = list_any (λ p. p == place) (line_places s)
+
+-- Of the flows that were asked for since the live subscription was made, each is queued or stands in the line of its link. So the sum of those that are
+-- queued is at most that of those that were asked for, and it is the same where none stands in the line.
+abbrev pub FlowsAreQueued : Type 0
+FlowsAreQueued = (o : Options) (log : List Entry) (t l : ℕ) (m : Member) → IsRun o log → (view o log).consumers.rows t ≡ Some m → link_of m.seen ≡ Some l →
+    (seat : Seat) × ((view o log).links.live l ≡ Some seat)
+    × (permits_of (flows_since o t log)
+    ≡ permits_where (was_queued seat.seen) (flows_since o t log) + permits_where (stands seat.seen) (flows_since o t log))
 
 -- ACKNOWLEDGEMENTS
 

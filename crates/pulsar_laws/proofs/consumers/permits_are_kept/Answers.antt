@@ -2,6 +2,7 @@ use Rattle.pulsar_laws.proofs.Ended.{permits_are_kept_lem}
 use Rattle.pulsar_laws.proofs.Flows.{flows_are_asked_lem, flows_are_taken_lem}
 use Rattle.pulsar_laws.proofs.Once.{ends_once_lem}
 use Rattle.pulsar_laws.proofs.Placed.{flows_are_placed_lem}
+use Rattle.pulsar_laws.proofs.Queueing.{flows_are_queued_lem}
 use Rattle.pulsar_laws.proofs.consumers.permits_are_kept.Goals as goal
 
 pub returns-clause-bounds : goal.returns-clause-bounds
@@ -15,3 +16,6 @@ returns-clause-asked c = λ o older n t l p run is. flows_are_asked_lem o older 
 
 pub returns-clause-placed : goal.returns-clause-placed
 returns-clause-placed c = λ o log n t l m p run. flows_are_placed_lem ends_once_lem o log n t l m p run
+
+pub returns-clause-queued : goal.returns-clause-queued
+returns-clause-queued c = λ o log t l m run is on. flows_are_queued_lem ends_once_lem o log t l m run is on

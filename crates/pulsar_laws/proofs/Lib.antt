@@ -73,6 +73,7 @@ pub mod Reached
 pub mod Riding
 pub mod Placed
 pub mod Queueing
+pub mod Covered
 pub mod Frames
 pub mod Framing
 pub mod InTurn

@@ -333,41 +333,41 @@ behind [] = []
 behind (e ∷ log) = log
 
 -- the flow that it is told of was due on the link of its live subscription
-record WasDue (o : Options) (log : List Entry) (t l : ℕ) : Type 0 where
-  member : Member
-  live : Live
-  is_there : (view o log).consumers.rows t ≡ Some member
-  is_live : member.seen.engine.live ≡ Some live
-  on : live.link ≡ l
-  due : (p : ℕ) × (first_in live.due ≡ Some p)
+pub record WasDue (o : Options) (log : List Entry) (t l p : ℕ) : Type 0 where
+  pub member : Member
+  pub live : Live
+  pub is_there : (view o log).consumers.rows t ≡ Some member
+  pub is_live : member.seen.engine.live ≡ Some live
+  pub on : live.link ≡ l
+  pub due : first_in live.due ≡ Some p
 
 due_flow : (x : Option (ℕ × ℕ)) (l p : ℕ) → flow_said x ≡ word.Flow l p → x ≡ Some (l, p)
 due_flow None l p h = absurd cc
 due_flow (Some f) l p h = let a : f.0 ≡ l = cc in let b : f.1 ≡ p = cc in ap Some (λ i. (a i, b i))
 
-due_live : (o : Options) (log : List Entry) (t l p : ℕ) (row : Option Member) → (view o log).consumers.rows t ≡ row → flow_at row ≡ Some (l, p) → WasDue o log t l
+due_live : (o : Options) (log : List Entry) (t l p : ℕ) (row : Option Member) → (view o log).consumers.rows t ≡ row → flow_at row ≡ Some (l, p) → WasDue o log t l p
 due_live o log t l p None is h = absurd (none_some h)
 due_live o log t l p (Some m) is h = by m.seen.engine.live refl h
   where
-    by : (x : Option Live) → m.seen.engine.live ≡ x → consumer.flow_on x ≡ Some (l, p) → WasDue o log t l
+    by : (x : Option Live) → m.seen.engine.live ≡ x → consumer.flow_on x ≡ Some (l, p) → WasDue o log t l p
     by None e g = absurd (none_some g)
     by (Some x) e g = first_of (first_in x.due) refl g
       where
-        first_of : (d : Option ℕ) → first_in x.due ≡ d → option_map {U = ℕ × ℕ} (λ permits. (x.link, permits)) d ≡ Some (l, p) → WasDue o log t l
+        first_of : (d : Option ℕ) → first_in x.due ≡ d → option_map {U = ℕ × ℕ} (λ permits. (x.link, permits)) d ≡ Some (l, p) → WasDue o log t l p
         first_of None f k = absurd (none_some k)
         first_of (Some permits) f k =
-            record { member = m; live = x; is_there = is; is_live = e; on = ap (λ y. y.0) (some_is k); due = (permits, f) }
+            record { member = m; live = x; is_there = is; is_live = e; on = ap (λ y. y.0) (some_is k); due = f ∙ ap Some (ap (λ y. y.1) (some_is k)) }
 
 -- so it was built, since a raw consumer asks for nothing
-due_built : EndsOnce → (o : Options) (log : List Entry) (t l : ℕ) → IsRun o log → (k : WasDue o log t l) → k.member.seen.is_raw ≡ false
-due_built once o log t l run k = elim (cases_Bool k.member.seen.is_raw) [
+due_built : EndsOnce → (o : Options) (log : List Entry) (t l p : ℕ) → IsRun o log → (k : WasDue o log t l p) → k.member.seen.is_raw ≡ false
+due_built once o log t l p run k = elim (cases_Bool k.member.seen.is_raw) [
   | inl raw ↦
       (let c = consumers_alone_lem once o log t k.member run k.is_there in
       let made = seen_made c.0 (done_to o t log) in
       let r : c.0.is_raw ≡ true = sym made.0 ∙ ap (λ s. s.is_raw) (sym c.2) ∙ raw in
       let live : (seen c.0 (done_to o t log)).engine.live ≡ Some k.live = ap (λ s. s.engine.live) (sym c.2) ∙ k.is_live in
       let none : k.live.due ≡ [] = raw_asks_for_nothing c.0 (done_to o t log) k.live r live in
-      absurd (none_some (sym (ap first_in none) ∙ k.due.1)))
+      absurd (none_some (sym (ap first_in none) ∙ k.due)))
   | inr built ↦ built
 ]
 
@@ -376,13 +376,16 @@ asked_on : (l : Option Live) → option_map (λ x. x.link) (option_map asked l) 
 asked_on None = refl
 asked_on (Some l) = refl
 
-asked_there : (o : Options) (older : List Entry) (n t : ℕ) (x : Notice) (m : Member) → (view o older).consumers.rows t ≡ Some m →
+pub asked_there : (o : Options) (older : List Entry) (n t : ℕ) (x : Notice) (m : Member) → (view o older).consumers.rows t ≡ Some m →
     (view o (Then (Told x) ∷ Then (Does (Consumer n t) TakeFlow) ∷ older)).consumers.rows t ≡ Some (member_after Asks m)
 asked_there o older n t x m h =
     let row : Option Member = (view o older).consumers.rows t in
     ap (λ b. cond b (option_map (member_after Asks) row) row) (eq-eqb t t refl) ∙ ap (option_map (member_after Asks)) h
 
-pub record IsPlaced (o : Options) (log : List Entry) (t l m p : ℕ) : Type 0 where
+pub record IsPlaced (o : Options) (log : List Entry) (n t l m p : ℕ) : Type 0 where
+  pub older : List Entry
+  pub is_behind : log ≡ Then (Told (notice (Consumer n t) (outcome.Word (word.Flow l p)))) ∷ Then (Does (Consumer n t) TakeFlow) ∷ older
+  pub was_due : WasDue o older t l p
   pub seat : Seat
   pub live : (view o log).links.live l ≡ Some seat
   pub answer : answer_at (view o log).now (words.SendFlow m p) (Some seat) ≡ Ok (place_on seat.seen)
@@ -391,10 +394,10 @@ pub record IsPlaced (o : Options) (log : List Entry) (t l m p : ℕ) : Type 0 wh
   pub on : link_of member.seen ≡ Some l
 
 pub is_placed : EndsOnce → (o : Options) (log : List Entry) (n t l m p : ℕ) → IsRun o (Then (Does (Consumer n t) (Ask l (words.SendFlow m p))) ∷ log) →
-    IsPlaced o log t l m p
+    IsPlaced o log n t l m p
 is_placed once o log n t l m p run = elim (does_from o log (Consumer n t) (Ask l (words.SendFlow m p)) run) [ inl k ↦ begun k | inr k ↦ led k ]
   where
-    begun : BeginsSo o log (Consumer n t) (Ask l (words.SendFlow m p)) → IsPlaced o log t l m p
+    begun : BeginsSo o log (Consumer n t) (Ask l (words.SendFlow m p)) → IsPlaced o log n t l m p
     begun k =
         let r : IsRun o (Then (Starts (Consumer n t) k.procedure) ∷ k.older) = subst (IsRun o) k.is_there run.0 in
         let is = start_serves o k.older n t k.procedure r in
@@ -402,15 +405,18 @@ is_placed once o log n t l m p run = elim (does_from o log (Consumer n t) (Ask l
         absurd cc
 
     due_here : (older : List Entry) → log ≡ Then (Told (notice (Consumer n t) (outcome.Word (word.Flow l p)))) ∷ Then (Does (Consumer n t) TakeFlow) ∷ older →
-        IsRun o (Then (Told (notice (Consumer n t) (outcome.Word (word.Flow l p)))) ∷ Then (Does (Consumer n t) TakeFlow) ∷ older) → IsPlaced o log t l m p
+        IsRun o (Then (Told (notice (Consumer n t) (outcome.Word (word.Flow l p)))) ∷ Then (Does (Consumer n t) TakeFlow) ∷ older) → IsPlaced o log n t l m p
     due_here older is r =
         let e : outcome.Word (flow_said (flow_at ((view o older).consumers.rows t))) ≡ outcome.Word (word.Flow l p) =
         ap said (some_is (sym (told_flow o older n t) ∙ r.1)) in
         let f : flow_said (flow_at ((view o older).consumers.rows t)) ≡ word.Flow l p = cc in
-        let k : WasDue o older t l = due_live o older t l p ((view o older).consumers.rows t) refl (due_flow (flow_at ((view o older).consumers.rows t)) l p f) in
+        let k : WasDue o older t l p = due_live o older t l p ((view o older).consumers.rows t) refl (due_flow (flow_at ((view o older).consumers.rows t)) l p f) in
         let on : link_of k.member.seen ≡ Some l = ap (option_map (λ (y : Live). y.link)) k.is_live ∙ ap Some k.on in
-        let x = rides once o older t k.member l r.0.0 k.is_there on (due_built once o older t l r.0.0 k) in
+        let x = rides once o older t k.member l r.0.0 k.is_there on (due_built once o older t l p r.0.0 k) in
         record {
+          older = older;
+          is_behind = is;
+          was_due = k;
           seat = x.0;
           live = ap (λ y. (view o y).links.live l) is ∙ x.1;
           answer = flow_placed (view o log).now m p x.0.seen x.2;
@@ -419,7 +425,7 @@ is_placed once o log n t l m p run = elim (does_from o log (Consumer n t) (Ask l
           on = asked_on k.member.seen.engine.live ∙ on;
         }
 
-    led : IsLedSo o log (Consumer n t) (Ask l (words.SendFlow m p)) → IsPlaced o log t l m p
+    led : IsLedSo o log (Consumer n t) (Ask l (words.SendFlow m p)) → IsPlaced o log n t l m p
     led k =
         let x = flows_are_taken_lem o log n t l m p run in
         let same : Then (Told (notice (Consumer n t) k.outcome)) ∷ k.older ≡ Then (Told (notice (Consumer n t) (outcome.Word (word.Flow l p)))) ∷ x.0 =

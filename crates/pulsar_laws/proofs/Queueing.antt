@@ -61,11 +61,11 @@ stays_beyond b (Closes cause) v c r h = absurd cc
 
 -- A FLOW stands before it
 
-abbrev PlaceBelow : ℕ → Option ℕ → Type 0
+abbrev pub PlaceBelow : ℕ → Option ℕ → Type 0
 PlaceBelow b None = ⊥
 PlaceBelow b (Some place) = place < b
 
-abbrev IsBelow : ℕ → Flow → Type 0
+abbrev pub IsBelow : ℕ → Flow → Type 0
 IsBelow b f = PlaceBelow b f.place
 
 place_below : (b c : ℕ) (place : Option ℕ) → b ≤ c → PlaceBelow b place → PlaceBelow c place
@@ -123,7 +123,7 @@ module _ (s : Seen) where
 
 -- ALONG A LOG
 
-abbrev AreBelow : List Flow → Seen → Type 0
+abbrev pub AreBelow : List Flow → Seen → Type 0
 AreBelow fs s = Each (IsBelow (end_of_line s)) fs
 
 keeps_below : (fs : List Flow) → Keeps (AreBelow fs)
@@ -131,9 +131,9 @@ keeps_below fs act v c r h =
     let b : ℕ = end_of_line v in
     all_below b (end_of_line (after' act v)) fs (stays_beyond b act v c r (let e : b ≤ b = omega arith in e)) h
 
-record Flows (o : Options) (log : List Entry) (t : ℕ) : Type 0 where
-  none : (view o log).consumers.rows t ≡ None → flows_since o t log ≡ []
-  below : (m : Member) (k : ℕ) → (view o log).consumers.rows t ≡ Some m → link_of m.seen ≡ Some k →
+pub record Flows (o : Options) (log : List Entry) (t : ℕ) : Type 0 where
+  pub none : (view o log).consumers.rows t ≡ None → flows_since o t log ≡ []
+  pub below : (m : Member) (k : ℕ) → (view o log).consumers.rows t ≡ Some m → link_of m.seen ≡ Some k →
       IsAt (AreBelow (flows_since o t log)) ((view o log).links.live k)
 
 -- the place of a new one is the end of the line
@@ -172,10 +172,10 @@ module _ (once : EndsOnce) (o : Options) (log : List Entry) (t : ℕ) (was : Flo
   fs = flows_since o t log
 
   -- none was asked for where there is no consumer
-  fresh_none : (a : Act) → IsRun o (Then a ∷ log) → v.consumers.rows t ≡ None → flows_after v t a fs ≡ []
+  pub fresh_none : (a : Act) → IsRun o (Then a ∷ log) → v.consumers.rows t ≡ None → flows_after v t a fs ≡ []
   fresh_none (Does (Consumer n u) (Ask l (words.SendFlow m p))) run e = elim (cases_Bool (t == u)) [
     | inl d ↦
-        (let x : IsPlaced o log u l m p = is_placed once o log n u l m p run in
+        (let x : IsPlaced o log n u l m p = is_placed once o log n u l m p run in
         absurd (none_some (sym e ∙ ap v.consumers.rows (eqb-true t u d) ∙ x.is_there)))
     | inr d ↦
         ap (λ b. cond b (record { place = place_of (answer_at v.now (words.SendFlow m p) (v.links.live l)); permits = p } ∷ fs) fs) d ∙ was.none e
@@ -204,7 +204,7 @@ module _ (once : EndsOnce) (o : Options) (log : List Entry) (t : ℕ) (was : Flo
   kept_below (Does (Consumer n u) (Ask l (words.SendFlow m' p))) run m k e on = elim (cases_Bool (t == u)) [
     | inl d ↦
         (let a : Act = Does (Consumer n u) (Ask l (words.SendFlow m' p)) in
-        let x : IsPlaced o log u l m' p = is_placed once o log n u l m' p run in
+        let x : IsPlaced o log n u l m' p = is_placed once o log n u l m' p run in
         let same : m ≡ x.member = some_is (sym e ∙ ap v.consumers.rows (eqb-true t u d) ∙ x.is_there) in
         let link : l ≡ k = some_is (sym x.on ∙ ap (λ (y : Member). link_of y.seen) (sym same) ∙ on) in
         subst (λ b. IsAt (AreBelow (cond b (record { place = place_of (answer_at v.now (words.SendFlow m' p) (v.links.live l)); permits = p } ∷ fs) fs))
@@ -236,7 +236,7 @@ module _ (once : EndsOnce) (o : Options) (log : List Entry) (t : ℕ) (was : Flo
       by false = same_below (Does who (Revive l)) run m k e on
   kept_below a run m k e on = same_below a run m k e on
 
-  fresh_below : (a : Act) → IsRun o (Then a ∷ log) → IsFresh o log a t → flows_after v t a fs ≡ []
+  pub fresh_below : (a : Act) → IsRun o (Then a ∷ log) → IsFresh o log a t → flows_after v t a fs ≡ []
   fresh_below a run (inl e) = fresh_none a run e
   fresh_below a run (inr (who, l, is, same)) =
       ap (λ x. flows_after v t x fs) is ∙ ap (λ b. cond b [] fs) same
@@ -253,7 +253,7 @@ module _ (once : EndsOnce) (o : Options) (log : List Entry) (t : ℕ) (was : Flo
           subst (λ xs. IsAt (AreBelow xs) ((view o (Then a ∷ log)).links.live k)) (sym (fresh_below a run fresh))
           (none_at ((view o (Then a ∷ log)).links.live k))
 
-flows_run : EndsOnce → (o : Options) (log : List Entry) (t : ℕ) → IsRun o log → Flows o log t
+pub flows_run : EndsOnce → (o : Options) (log : List Entry) (t : ℕ) → IsRun o log → Flows o log t
 flows_run once o [] t run = record { none = λ e. refl; below = λ m k h on. absurd (none_some h) }
 flows_run once o (Begins e ∷ log) t run =
     let k = flows_run once o log t run.0 in

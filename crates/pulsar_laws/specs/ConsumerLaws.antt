@@ -285,6 +285,12 @@ FlowsAreQueued = (o : Options) (log : List Entry) (t l : ℕ) (m : Member) → I
     × (permits_of (flows_since o t log)
     ≡ permits_where (was_queued seat.seen) (flows_since o t log) + permits_where (stands seat.seen) (flows_since o t log))
 
+-- They are no more than those that were taken since then, of which what remains is counted (PermitsAreKept). So what is left to the broker of the flows
+-- that are queued is never more than what remains.
+abbrev pub FlowsAreCovered : Type 0
+FlowsAreCovered = (o : Options) (log : List Entry) (t l : ℕ) (m : Member) (s : Setup) → IsRun o log → (view o log).consumers.rows t ≡ Some m →
+    link_of m.seen ≡ Some l → made_with t log ≡ Some s → permits_of (flows_since o t log) ≤ asked_since s (done_to o t log)
+
 -- ACKNOWLEDGEMENTS
 
 abbrev pub is_ack : Words → Bool

@@ -27,7 +27,7 @@ use Rattle.pulsar_tables.specs.Rules.{notice}
 use Rattle.pulsar_tables.specs.View.{Options, Seat, View, answer_at, arrival_at, closing, is_asked, place_of, url_at}
 use Rattle.pulsar_client.specs.Run.{Entry, Begins, Then, IsRun, view}
 use Rattle.pulsar_client.proofs.Ticketed.{consumer_ticket}
-use Rattle.pulsar_laws.specs.ConsumerLaws.{Flow, FlowsAreCovered, arrival_does, does_to, done_since, done_to, flows_after, flows_since, frame_does, loss_does, made_with, permits_of, subscription_does}
+use Rattle.pulsar_laws.specs.ConsumerLaws.{Flow, arrival_does, does_to, done_since, done_to, flows_after, flows_since, frame_does, loss_does, made_with, permits_of, subscription_does}
 use Rattle.pulsar_laws.specs.Laws.{EndsOnce}
 use Rattle.pulsar_laws.proofs.Drawing.{Every, here}
 use Rattle.pulsar_laws.proofs.Lone.{IsKept, IsMade, IsNone, RowFrom, begun_rows, consumers_alone_lem, row_from}
@@ -62,7 +62,7 @@ taken_more s (Asks ∷ xs) h e =
     let g : asked_since s h ≤ asked_since s (xs ++ h) + n = omega (arith, k) in
     g
 
-either_new : (b : Bool) (xs ys : List Done) → makes_new xs ≡ false → makes_new ys ≡ false → makes_new (cond b xs ys) ≡ false
+pub either_new : (b : Bool) (xs ys : List Done) → makes_new xs ≡ false → makes_new ys ≡ false → makes_new (cond b xs ys) ≡ false
 either_new true xs ys p q = p
 either_new false xs ys p q = q
 
@@ -100,16 +100,16 @@ does_new v t m a fs = inl refl
 
 -- ALONG A LOG
 
-abbrev Covered : Options → (ticket : ℕ) → List Entry → Type 0
+abbrev pub Covered : Options → (ticket : ℕ) → List Entry → Type 0
 Covered o t log = (m : Member) (l : ℕ) (s : Setup) → (view o log).consumers.rows t ≡ Some m → link_of m.seen ≡ Some l → made_with t log ≡ Some s →
     permits_of (flows_since o t log) ≤ asked_since s (done_to o t log)
 
-none_covered : (fs : List Flow) (n : ℕ) → fs ≡ [] → permits_of fs ≤ n
+pub none_covered : (fs : List Flow) (n : ℕ) → fs ≡ [] → permits_of fs ≤ n
 none_covered fs n e = let z : permits_of fs ≡ 0 = ap permits_of e in omega (arith, z)
 
 -- A FLOW THAT IS ASKED FOR was taken right before
 
-row_done : (v : View) (t : ℕ) (a : Act) (m : Member) (row : Option Member) (h : List Done) → row ≡ Some m → done_since v t a row h ≡ does_to v t m a ++ h
+pub row_done : (v : View) (t : ℕ) (a : Act) (m : Member) (row : Option Member) (h : List Done) → row ≡ Some m → done_since v t a row h ≡ does_to v t m a ++ h
 row_done v t a m row h e = ap (λ r. done_since v t a r h) e ∙ by a
   where
     by : (a : Act) → done_since v t a (Some m) h ≡ does_to v t m a ++ h
@@ -117,16 +117,16 @@ row_done v t a m row h e = ap (λ r. done_since v t a r h) e ∙ by a
     by a = refl
 
 module _ (once : EndsOnce) (o : Options) (log : List Entry) (n t l m p : ℕ) (run : IsRun o log) (x : IsPlaced o log n t l m p) where
-  abbrev told_so : Notice
+  abbrev pub told_so : Notice
   told_so = notice (Consumer n t) (outcome.Word (word.Flow l p))
 
-  abbrev took : List Entry
+  abbrev pub took : List Entry
   took = Then (Does (Consumer n t) TakeFlow) ∷ x.older
 
   before : IsRun o x.older
   before = (subst (IsRun o) x.is_behind run).0.0
 
-  done_then : done_to o t log ≡ Asks ∷ done_to o t x.older
+  pub done_then : done_to o t log ≡ Asks ∷ done_to o t x.older
   done_then =
       ap (done_to o t) x.is_behind
       ∙ row_done (view o took) t (Told told_so) _ ((view o took).consumers.rows t) (done_to o t took)
@@ -135,7 +135,7 @@ module _ (once : EndsOnce) (o : Options) (log : List Entry) (n t l m p : ℕ) (r
       ∙ ap (λ b. cond b (Asks ∷ []) [] ++ done_to o t x.older) (eq-eqb t t refl)
 
   -- its permits count as taken
-  taken_then : (s : Setup) → made_with t log ≡ Some s → asked_since s (done_to o t log) ≡ asked_since s (done_to o t x.older) + p
+  pub taken_then : (s : Setup) → made_with t log ≡ Some s → asked_since s (done_to o t log) ≡ asked_since s (done_to o t x.older) + p
   taken_then s made =
       let c = consumers_alone_lem once o x.older t x.was_due.member before x.was_due.is_there in
       let same : c.0 ≡ s = some_is (sym c.1 ∙ sym (ap (made_with t) x.is_behind) ∙ made) in
@@ -212,7 +212,7 @@ module _ (once : EndsOnce) (o : Options) (log : List Entry) (t : ℕ) (k : Every
   row_covered a run m l s is made from (IsKept m2 e r how did) =
       subst (λ h. permits_of (flows_after v t a fs) ≤ asked_since s h) (sym did) (kept_covered a l s m2 run from e (sym how ∙ made))
 
-covered_run : EndsOnce → (o : Options) (log : List Entry) (t : ℕ) → IsRun o log → Every (Covered o t) log
+pub covered_run : EndsOnce → (o : Options) (log : List Entry) (t : ℕ) → IsRun o log → Every (Covered o t) log
 covered_run once o [] t run = λ m l s is on made. absurd (none_some is)
 covered_run once o (Begins e ∷ log) t run =
     let k = covered_run once o log t run.0 in
@@ -224,6 +224,3 @@ covered_run once o (Then a ∷ log) t run =
           (row_from o log t once a (consumer_ticket o (Then a ∷ log) t m run is) run),
       k,
     )
-
-pub flows_are_covered_lem : EndsOnce → FlowsAreCovered
-flows_are_covered_lem once o log t l m s run is on made = here (Covered o t) log (covered_run once o log t run) m l s is on made

@@ -73,7 +73,9 @@ pub mod Reached
 pub mod Riding
 pub mod Placed
 pub mod Queueing
+pub mod Served
 pub mod Covered
+pub mod Taken
 pub mod Frames
 pub mod Framing
 pub mod InTurn

@@ -393,6 +393,25 @@ pub record IsPlaced (o : Options) (log : List Entry) (n t l m p : ℕ) : Type 0 
   pub is_there : (view o log).consumers.rows t ≡ Some member
   pub on : link_of member.seen ≡ Some l
 
+-- where the flow was due that it took
+placed_there : EndsOnce → (o : Options) (log : List Entry) (n t l m p : ℕ) (older : List Entry) →
+    log ≡ Then (Told (notice (Consumer n t) (outcome.Word (word.Flow l p)))) ∷ Then (Does (Consumer n t) TakeFlow) ∷ older → IsRun o older →
+    WasDue o older t l p → IsPlaced o log n t l m p
+placed_there once o log n t l m p older is run k =
+    let on : link_of k.member.seen ≡ Some l = ap (option_map (λ (y : Live). y.link)) k.is_live ∙ ap Some k.on in
+    let x = rides once o older t k.member l run k.is_there on (due_built once o older t l p run k) in
+    record {
+      older = older;
+      is_behind = is;
+      was_due = k;
+      seat = x.0;
+      live = ap (λ y. (view o y).links.live l) is ∙ x.1;
+      answer = flow_placed (view o log).now m p x.0.seen x.2;
+      member = member_after Asks k.member;
+      is_there = ap (λ y. (view o y).consumers.rows t) is ∙ asked_there o older n t (notice (Consumer n t) (outcome.Word (word.Flow l p))) k.member k.is_there;
+      on = asked_on k.member.seen.engine.live ∙ on;
+    }
+
 pub is_placed : EndsOnce → (o : Options) (log : List Entry) (n t l m p : ℕ) → IsRun o (Then (Does (Consumer n t) (Ask l (words.SendFlow m p))) ∷ log) →
     IsPlaced o log n t l m p
 is_placed once o log n t l m p run = elim (does_from o log (Consumer n t) (Ask l (words.SendFlow m p)) run) [ inl k ↦ begun k | inr k ↦ led k ]
@@ -410,20 +429,8 @@ is_placed once o log n t l m p run = elim (does_from o log (Consumer n t) (Ask l
         let e : outcome.Word (flow_said (flow_at ((view o older).consumers.rows t))) ≡ outcome.Word (word.Flow l p) =
         ap said (some_is (sym (told_flow o older n t) ∙ r.1)) in
         let f : flow_said (flow_at ((view o older).consumers.rows t)) ≡ word.Flow l p = cc in
-        let k : WasDue o older t l p = due_live o older t l p ((view o older).consumers.rows t) refl (due_flow (flow_at ((view o older).consumers.rows t)) l p f) in
-        let on : link_of k.member.seen ≡ Some l = ap (option_map (λ (y : Live). y.link)) k.is_live ∙ ap Some k.on in
-        let x = rides once o older t k.member l r.0.0 k.is_there on (due_built once o older t l p r.0.0 k) in
-        record {
-          older = older;
-          is_behind = is;
-          was_due = k;
-          seat = x.0;
-          live = ap (λ y. (view o y).links.live l) is ∙ x.1;
-          answer = flow_placed (view o log).now m p x.0.seen x.2;
-          member = member_after Asks k.member;
-          is_there = ap (λ y. (view o y).consumers.rows t) is ∙ asked_there o older n t (notice (Consumer n t) (outcome.Word (word.Flow l p))) k.member k.is_there;
-          on = asked_on k.member.seen.engine.live ∙ on;
-        }
+        placed_there once o log n t l m p older is r.0.0
+        (due_live o older t l p ((view o older).consumers.rows t) refl (due_flow (flow_at ((view o older).consumers.rows t)) l p f))
 
     led : IsLedSo o log (Consumer n t) (Ask l (words.SendFlow m p)) → IsPlaced o log n t l m p
     led k =

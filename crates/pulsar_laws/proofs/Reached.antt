@@ -43,17 +43,17 @@ some_is : {A : Type 0} {x y : A} → Some x ≡ Some y → x ≡ y
 some_is {A} {x} {y} h = cc
 
 -- what it asks there is done next, or it is told next that this was refused
-abbrev Next : Options → List Entry → Who → ℕ → Type 0
+abbrev pub Next : Options → List Entry → Who → ℕ → Type 0
 Next o log w l =
     ((r : Words) × (first (agenda o log) ≡ Some (Does w (Ask l r))))
     ⊎ ((cause : Fault) × (first (agenda o log) ≡ Some (Told (notice w (outcome.Refused cause)))))
 
-abbrev Reached : Options → List Entry → Who → Plan → ℕ → Type 0
+abbrev pub Reached : Options → List Entry → Who → Plan → ℕ → Type 0
 Reached o log w p l = WasReady (view o log) l ⊎ ((is_reviving p ≡ false) × Next o log w l)
 
-record AreReached (o : Options) (log : List Entry) : Type 0 where
-  waits : (w : Who) (p : Plan) → (view o log).stand w ≡ Some p → Waits p
-  reached : (w : Who) (p : Plan) (l : ℕ) → (view o log).stand w ≡ Some p → asks_on p ≡ Some l → Reached o log w p l
+pub record AreReached (o : Options) (log : List Entry) : Type 0 where
+  pub waits : (w : Who) (p : Plan) → (view o log).stand w ≡ Some p → Waits p
+  pub reached : (w : Who) (p : Plan) (l : ℕ) → (view o log).stand w ≡ Some p → asks_on p ≡ Some l → Reached o log w p l
 
 -- what one is told
 abbrev said : Act → Outcome
@@ -231,7 +231,7 @@ told_reached o log n k fits = record {
         subst (λ x. Reached o (Then x ∷ log) w p l) is
         (told_next o log k w p n.outcome ((view o log).stand w) l (fits ∙ ap Some (sym is)) refl h e)
 
-reached_run : (o : Options) (log : List Entry) → IsRun o log → AreReached o log
+pub reached_run : (o : Options) (log : List Entry) → IsRun o log → AreReached o log
 reached_run o [] run = none_reached o
 reached_run o (Begins e ∷ log) run =
     let k = reached_run o log run.0 in

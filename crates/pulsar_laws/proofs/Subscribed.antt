@@ -52,7 +52,7 @@ use Rattle.pulsar_consumer.specs.declared.building.Order.{Order as ConsumerOrder
 use Rattle.pulsar_consumer.specs.declared.resuming.Resuming.{Resuming}
 use Rattle.pulsar_consumer.specs.declared.resuming.Resuming.TheVariants as resume
 use Rattle.pulsar_calls.specs.declared.act.Action.{Action}
-use Rattle.pulsar_calls.specs.declared.act.Action.TheVariants.{Ask, Revive, Rest}
+use Rattle.pulsar_calls.specs.declared.act.Action.TheVariants.{Ask, Revive, Rest, TakeFlow}
 use Rattle.pulsar_calls.specs.declared.act.Makes.{Makes}
 use Rattle.pulsar_calls.specs.declared.act.Makes.TheVariants as makes
 use Rattle.pulsar_calls.specs.declared.act.Outcome.{Outcome}
@@ -77,6 +77,7 @@ use Rattle.pulsar_procedures.specs.declared.service.Service.{Service}
 use Rattle.pulsar_procedures.specs.declared.service.Service.TheVariants as service
 use Rattle.pulsar_procedures.specs.declared.states.Resubscribing.{Resubscribing}
 use Rattle.pulsar_procedures.specs.Plan.{acknowledges, action_of, asks_of, batches_on, begins, builds, consumer_news_of, failure_of, fails_in, gathers, goes, goes_on_sending, goes_round, halted, in_asking, in_awaiting, in_departing, in_finding, in_passing, in_recalling, in_resting, in_resuming, in_reviving, in_settling, in_stored, in_storing, in_subscribing, in_taking, in_turning, is_answer, is_settled, leaves, makes_of, news_in, news_of, overrides, resting_hears, resubscribes, sends_stay, settled, stands, stored, subscribes, told, told_at, told_batch, told_send, told_service, visited, visits, waits, wished}
+use Rattle.pulsar_laws.proofs.Servers.{is_server}
 
 -- THE LINK on which a plan subscribes, and that on which it has subscribed a consumer again
 
@@ -141,6 +142,7 @@ LinkSo p u (Some l) q a = From p u l ⊎ ((r : Words) × (a ≡ Ask l r) × (is_
 
 abbrev pub ActSo : Plan → Outcome → Action → Type 0
 ActSo p u (Revive l) = From p u l
+ActSo p u TakeFlow = is_server p ≡ true
 ActSo p u _ = Unit {0}
 
 abbrev pub MakesSo : Plan → Outcome → Makes → Type 0
@@ -154,16 +156,19 @@ TurnSo p u (Gives v) = MakesSo p u v.makes
 
 -- OTHER PLANS subscribe nowhere
 
-abbrev pub is_revival : Action → Bool
-is_revival (Revive l) = true
-is_revival _ = false
+-- what only the plan of a consumer does
+abbrev pub is_inner : Action → Bool
+is_inner (Revive l) = true
+is_inner TakeFlow = true
+is_inner _ = false
 
 abbrev pub Plain : Turn Plan Verdict → Type 0
-Plain (Stays q a) = Waits q × (asks_on q ≡ None) × (is_revival a ≡ false)
+Plain (Stays q a) = Waits q × (asks_on q ≡ None) × (is_inner a ≡ false)
 Plain (Gives v) = is_consumer v.makes ≡ false
 
-plain_act : (p : Plan) (u : Outcome) (a : Action) → is_revival a ≡ false → ActSo p u a
+plain_act : (p : Plan) (u : Outcome) (a : Action) → is_inner a ≡ false → ActSo p u a
 plain_act p u (Revive l) h = absurd cc
+plain_act p u TakeFlow h = absurd cc
 plain_act p u _ h = tt
 
 plain_link : (p : Plan) (u : Outcome) (k : Option ℕ) (q : Plan) (a : Action) → k ≡ None → LinkSo p u k q a
@@ -182,12 +187,12 @@ either_plain : (b : Bool) (t u : Turn Plan Verdict) → Plain t → Plain u → 
 either_plain true t u p q = p
 either_plain false t u p q = q
 
-wish_plain : (x : Wish) → is_revival (wished x) ≡ false
+wish_plain : (x : Wish) → is_inner (wished x) ≡ false
 wish_plain (wish.Get p) = refl
 wish_plain (wish.Ask l request) = refl
 wish_plain (wish.Wait delay) = refl
 
-deed_plain : (d : Deed) → is_revival (action_of d) ≡ false
+deed_plain : (d : Deed) → is_inner (action_of d) ≡ false
 deed_plain (deed.Does x) = wish_plain x
 deed_plain _ = refl
 
@@ -482,22 +487,22 @@ resuming_on w n s outcome.InLine = (tt, stays_on w n (service.Resuming s) outcom
 resuming_on w n s (outcome.Word x) = (tt, stays_on w n (service.Resuming s) (outcome.Word x) (resumed_on s.resuming) refl refl, tt)
 resuming_on w n s u = resumed_told w n s s.resuming u refl
 
-hears_on : (w : Ways) (n : ℕ) (x : Word) → Plain (resting_hears w n x)
-hears_on w n word.Over = refl
-hears_on w n word.Due = (tt, refl, refl)
-hears_on w n word.Lost = (tt, refl, refl)
-hears_on w n (word.TopicEnded link) = (tt, refl, refl)
-hears_on w n _ = (tt, refl, refl)
+hears_on : (w : Ways) (n : ℕ) (x : Word) → TurnSo (Serving w n service.Resting) (outcome.Word x) (resting_hears w n x)
+hears_on w n word.Over = tt
+hears_on w n word.Due = (tt, tt, refl)
+hears_on w n word.Lost = (tt, tt, tt)
+hears_on w n (word.TopicEnded link) = (tt, tt, tt)
+hears_on w n _ = (tt, tt, tt)
 
-resting_on : (w : Ways) (n : ℕ) (u : Outcome) → Plain (in_resting w n u)
+resting_on : (w : Ways) (n : ℕ) (u : Outcome) → TurnSo (Serving w n service.Resting) u (in_resting w n u)
 resting_on w n (outcome.Word x) = hears_on w n x
-resting_on w n _ = (tt, refl, refl)
+resting_on w n _ = (tt, tt, tt)
 
-taking_on : (w : Ways) (n : ℕ) (u : Outcome) → Plain (in_taking w n u)
-taking_on w n (outcome.Word (word.Flow link permits)) = (tt, refl, refl)
-taking_on w n (outcome.Word word.NoFlow) = (tt, refl, refl)
-taking_on w n (outcome.Word _) = (tt, refl, refl)
-taking_on w n _ = (tt, refl, refl)
+taking_on : (w : Ways) (n : ℕ) (u : Outcome) → TurnSo (Serving w n service.Taking) u (in_taking w n u)
+taking_on w n (outcome.Word (word.Flow link permits)) = (tt, tt, tt)
+taking_on w n (outcome.Word word.NoFlow) = (tt, tt, tt)
+taking_on w n (outcome.Word _) = (tt, tt, tt)
+taking_on w n _ = (tt, tt, tt)
 
 recalling_on : (w : Ways) (n : ℕ) (u : Outcome) → TurnSo (Serving w n service.Recalling) u (in_recalling w n u)
 recalling_on w n (outcome.Word (word.Recalled c)) = looks_on w n service.Recalling (outcome.Word (word.Recalled c)) c (search.look_begins w)
@@ -512,9 +517,9 @@ reviving_on w n l (outcome.Refused cause) = (tt, inl (refl, refl), tt)
 reviving_on w n l u = (tt, inl (refl, refl), tt)
 
 service_on : (w : Ways) (n : ℕ) (s : Service) (u : Outcome) → TurnSo (Serving w n s) u (told_service w n s u)
-service_on w n service.Resting u = plain_turn (Serving w n service.Resting) u (in_resting w n u) (resting_on w n u)
-service_on w n service.Taking u = plain_turn (Serving w n service.Taking) u (in_taking w n u) (taking_on w n u)
-service_on w n service.Asking u = (tt, tt, tt)
+service_on w n service.Resting u = resting_on w n u
+service_on w n service.Taking u = taking_on w n u
+service_on w n service.Asking u = (tt, tt, refl)
 service_on w n service.Recalling u = recalling_on w n u
 service_on w n (service.Resuming s) u = resuming_on w n s u
 service_on w n (service.Reviving l) u = reviving_on w n l u

@@ -41,7 +41,7 @@ use Rattle.pulsar_tables.specs.Consumers.{Member, is_closed_by}
 use Rattle.pulsar_tables.specs.Links.{line_places}
 use Rattle.pulsar_tables.specs.View.{Options, Seat, View, answer_at, arrival_at, closing, is_asked, place_of, setup_of, url_at}
 use Rattle.pulsar_tables.specs.Rules.{call_part, notice}
-use Rattle.pulsar_client.specs.Run.{Entry, Begins, Then, IsRun, Step, agenda, first, steps, view}
+use Rattle.pulsar_client.specs.Run.{Entry, Begins, Then, IsRun, Rests, Step, agenda, first, steps, view}
 use Rattle.pulsar_laws.specs.Laws.{counted}
 
 -- WHAT IS DONE TO A CONSUMER
@@ -247,7 +247,7 @@ pub record Flow : Type 0 where
   pub place : Option ℕ
   pub permits : ℕ
 
--- those that the plan of a consumer has asked for since its subscription was made, newest first; with another subscription they begin anew
+-- those that the plan of a consumer has asked for since its subscription was made, newest first: with another one they begin anew
 abbrev pub flows_after : View → (ticket : ℕ) → Act → List Flow → List Flow
 flows_after v t (Does who (Revive l)) fs = if t == ticket_of who && is_some (v.links.live l) then [] else fs
 flows_after v t (Does (Consumer n u) (Ask l (words.SendFlow m p))) fs =
@@ -259,8 +259,8 @@ flows_since o t [] = []
 flows_since o t (Begins e ∷ log) = flows_since o t log
 flows_since o t (Then a ∷ log) = flows_after (view o log) t a (flows_since o t log)
 
--- their permits, and the permits of those whose place is so: the frame of a place is queued where so many frames of the link were, and else it
--- stands in the line
+-- their permits, and the permits of those whose place is so: a frame is queued once its link has queued more frames than its place says, and until
+-- then it stands in the line
 abbrev pub is_so : (ℕ → Bool) → Option ℕ → Bool
 is_so test None = false
 is_so test (Some place) = test place
@@ -285,11 +285,13 @@ FlowsAreQueued = (o : Options) (log : List Entry) (t l : ℕ) (m : Member) → I
     × (permits_of (flows_since o t log)
     ≡ permits_where (was_queued seat.seen) (flows_since o t log) + permits_where (stands seat.seen) (flows_since o t log))
 
--- They are no more than those that were taken since then, of which what remains is counted (PermitsAreKept). So what is left to the broker of the flows
--- that are queued is never more than what remains.
-abbrev pub FlowsAreCovered : Type 0
-FlowsAreCovered = (o : Options) (log : List Entry) (t l : ℕ) (m : Member) (s : Setup) → IsRun o log → (view o log).consumers.rows t ≡ Some m →
-    link_of m.seen ≡ Some l → made_with t log ≡ Some s → permits_of (flows_since o t log) ≤ asked_since s (done_to o t log)
+-- They are no more than those that were taken since then, which PermitsAreKept counts, and just those at the end of each step. So what remains is then the
+-- sum of the flows that are queued, of those in the line and of those that are due, less what was begun.
+abbrev pub FlowsAreCounted : Type 0
+FlowsAreCounted = (o : Options) (log : List Entry) (t l : ℕ) (m : Member) (s : Setup) → IsRun o log → (view o log).consumers.rows t ≡ Some m →
+    link_of m.seen ≡ Some l → made_with t log ≡ Some s →
+    (permits_of (flows_since o t log) ≤ asked_since s (done_to o t log))
+    × (Rests o log → permits_of (flows_since o t log) ≡ asked_since s (done_to o t log))
 
 -- ACKNOWLEDGEMENTS
 

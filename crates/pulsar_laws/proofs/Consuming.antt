@@ -264,7 +264,6 @@ service_serves w n service.Closing u = refl
 abbrev pub is_humble : Procedure → Bool
 is_humble (procedure.Refuse r) = true
 is_humble (procedure.Subscribe w o) = true
-is_humble (procedure.Serve w n) = true
 is_humble (procedure.Acknowledge link request) = true
 is_humble (procedure.Leave t n) = true
 is_humble _ = false

@@ -255,7 +255,7 @@ consumers_remain_lem once o later older t m run e =
 -- PERMITS
 
 -- how it is made stays
-abbrev KeepsMade : Seen → Seen → Type 0
+abbrev pub KeepsMade : Seen → Seen → Type 0
 KeepsMade v w = (v.is_raw ≡ w.is_raw) × (v.config ≡ w.config)
 
 either_made : (b : Bool) (v w u : Seen) → KeepsMade v u → KeepsMade w u → KeepsMade (cond b v w) u
@@ -266,7 +266,7 @@ counted_made : (clock : ℕ) (i : Option Item) (v : Seen) → KeepsMade (counts_
 counted_made clock None v = (refl, refl)
 counted_made clock (Some i) v = either_made (is_message i) (record v { received = capped (v.received + 1); last = Some clock }) v v (refl, refl) (refl, refl)
 
-after_made : (act : Done) (v : Seen) → KeepsMade (after act v) v
+pub after_made : (act : Done) (v : Seen) → KeepsMade (after act v) v
 after_made (Lives l url) v = either_made (is_ended v) v _ v (refl, refl) (refl, refl)
 after_made (Hears l f) v = either_made (lives_on l v) _ v v (refl, refl) (refl, refl)
 after_made (Loses l) v =
@@ -277,7 +277,7 @@ after_made (Over why) v = (refl, refl)
 after_made (Polled clock) v = counted_made clock (first_of v.engine.unread) (record v { engine = reader.gives v.engine })
 after_made Asks v = (refl, refl)
 
-seen_made : (s : Setup) (h : List Done) → ((seen s h).is_raw ≡ s.is_raw) × ((seen s h).config ≡ s.config)
+pub seen_made : (s : Setup) (h : List Done) → ((seen s h).is_raw ≡ s.is_raw) × ((seen s h).config ≡ s.config)
 seen_made s [] = (refl, refl)
 seen_made s (x ∷ h) = let k = after_made x (seen s h) in let j = seen_made s h in (k.0 ∙ j.0, k.1 ∙ j.1)
 

@@ -230,6 +230,11 @@ are_served o (Then a ∷ log) run =
       stands = next_serves o log a run k (first_serve o log a k run.1);
     }
 
+-- what begins for a consumer is the plan that serves it
+pub start_serves : (o : Options) (older : List Entry) (n t : ℕ) (p : Procedure) → IsRun o (Then (Starts (Consumer n t) p) ∷ older) →
+    (w : Ways) × (p ≡ procedure.Serve w n)
+start_serves o older n t p run = first_serve o older (Starts (Consumer n t) p) (are_served o older run.0) run.1
+
 -- WHAT ELSE TELLS OF NO FLOW
 
 abbrev NoFlowIn : Option Word → Type 0
@@ -331,7 +336,7 @@ waits_then o older n t run = elim (does_from o older (Consumer n t) TakeFlow run
         )
 
 -- what an act alone gives rise to at once is next
-first_at : (o : Options) (log : List Entry) (a b : Act) → at_once (view o log) a ≡ b ∷ [] → first (agenda o (Then a ∷ log)) ≡ Some b
+pub first_at : (o : Options) (log : List Entry) (a b : Act) → at_once (view o log) a ≡ b ∷ [] → first (agenda o (Then a ∷ log)) ≡ Some b
 first_at o log a b e =
     let v : View = view o log in
     let g : Agenda = rest (agenda o log) in

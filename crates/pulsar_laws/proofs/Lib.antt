@@ -67,6 +67,15 @@ pub mod Holding
 pub mod Turns
 pub mod Claiming
 pub mod Early
+pub mod Ready
+pub mod Subscribed
+pub mod Reached
+pub mod Riding
+pub mod Placed
+pub mod Queueing
+pub mod Served
+pub mod Covered
+pub mod Taken
 pub mod Frames
 pub mod Framing
 pub mod InTurn

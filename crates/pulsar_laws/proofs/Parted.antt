@@ -55,15 +55,18 @@ is_plain (procedure.Store n share e) = false
 is_plain (procedure.Batch w e) = false
 is_plain (procedure.FailShare s r) = false
 is_plain (procedure.Gather first count) = false
+is_plain (procedure.Serve w n) = false
 is_plain _ = true
 
--- the plan of batches is that of no call
+-- the plan of batches is that of no call, and neither is one that serves a consumer
 abbrev pub is_batches : Procedure → Bool
 is_batches (procedure.Batch w e) = true
+is_batches (procedure.Serve w n) = true
 is_batches _ = false
 
 plain_batches : (p : Procedure) → is_plain p ≡ true → is_batches p ≡ false
 plain_batches (procedure.Batch w e) h = absurd cc
+plain_batches (procedure.Serve w n) h = absurd cc
 plain_batches _ h = refl
 
 abbrev pub is_store : Procedure → Bool
@@ -145,10 +148,12 @@ module _ (d c u : ℕ) where
 abbrev is_gather : Procedure → Bool
 is_gather (procedure.Gather first count) = true
 is_gather (procedure.Batch w e) = true
+is_gather (procedure.Serve w n) = true
 is_gather _ = false
 
 no_batches : (p : Procedure) → is_gather p ≡ false → is_batches p ≡ false
 no_batches (procedure.Batch w e) h = absurd cc
+no_batches (procedure.Serve w n) h = absurd cc
 no_batches _ h = refl
 
 part_is : (d c u : ℕ) (s : Share) (p : Procedure) → share_in p ≡ Some s → is_gather p ≡ false → s.ticket ≡ u → s.of ≡ d → d < u → u < d + 1 + c → IsOf d c u p
@@ -209,7 +214,6 @@ gathers_of d u c ms e f = record {
 humble_of : (d c u : ℕ) (p : Procedure) → is_humble p ≡ true → IsOf d c u p
 humble_of d c u (procedure.Refuse r) h = plain_of d c u (procedure.Refuse r) refl
 humble_of d c u (procedure.Subscribe w o) h = plain_of d c u (procedure.Subscribe w o) refl
-humble_of d c u (procedure.Serve w n) h = plain_of d c u (procedure.Serve w n) refl
 humble_of d c u (procedure.Acknowledge link request) h = plain_of d c u (procedure.Acknowledge link request) refl
 humble_of d c u (procedure.Leave t n) h = plain_of d c u (procedure.Leave t n) refl
 humble_of d c u p h = absurd cc

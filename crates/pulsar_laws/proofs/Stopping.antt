@@ -149,7 +149,7 @@ not_started o (Then (Dials p starter n) ∷ log) l h =
 not_started o (Then a ∷ log) l h =
     let v = view o log in ap (live_after v.chosen v.addresses v.now v.links.started a l) (not_started o log l h) ∙ stays_dead v a l refl
 
-is_started : (o : Options) (log : List Entry) (l : ℕ) (seat : Seat) → (view o log).links.live l ≡ Some seat → nat_lt l (view o log).links.started ≡ true
+pub is_started : (o : Options) (log : List Entry) (l : ℕ) (seat : Seat) → (view o log).links.live l ≡ Some seat → nat_lt l (view o log).links.started ≡ true
 is_started o log l seat h = elim (cases_Bool (nat_lt l (view o log).links.started)) [
   | inl e ↦ e
   | inr e ↦

@@ -1,12 +1,15 @@
 -- What follows of consumers, in plain words.
-use Rattle.std.specs.Prelude.{◌≡◌, ℕ, ◌+◌, ◌-◌, ◌≤◌, ◌==◌, ◌&&◌, ◌||◌, Bool, true, false, if◌then◌else◌, List, [], ◌∷◌, ◌++◌, Option, Some, None}
-use Rattle.std.specs.List.{flat_map, sum}
+use Rattle.std.specs.Prelude.{◌≡◌, ℕ, ◌+◌, ◌-◌, ◌≤◌, nat_lt, ◌==◌, ◌&&◌, ◌||◌, Bool, true, false, if◌then◌else◌, List, [], ◌∷◌, ◌++◌, length, Option, Some, None, Ok}
+use Rattle.std.specs.List.{flat_map, list_any, sum, sum_by}
 use Rattle.std.specs.Option.{is_some, option_or}
 use Rattle.url.specs.Parts.{Parts}
 use Rattle.pulsar_messages.specs.Words as words
 use Rattle.pulsar_messages.specs.Words.{Words}
 use Rattle.pulsar_run.specs.Laws.{InThisStep}
 use Rattle.pulsar_session.specs.Failures.{Fault}
+use Rattle.pulsar_session.specs.Link.{Seen as Connection, has_room}
+use Rattle.pulsar_session.specs.declared.states.Asked.{Asked as Placed}
+use Rattle.pulsar_session.specs.declared.states.Asked.TheVariants as placed
 use Rattle.pulsar_link.specs.Items.{Item, Given, Faulty}
 use Rattle.pulsar_link.specs.Messages.{Reply, is_body}
 use Rattle.pulsar_link.specs.Request.{closed_consumer}
@@ -35,9 +38,10 @@ use Rattle.pulsar_calls.specs.Content.{Asked, Poll, Shown, Hands, Faults}
 use Rattle.pulsar_calls.specs.Who.{is_same, ticket_of}
 use Rattle.pulsar_tables.specs.Consumers as consumer
 use Rattle.pulsar_tables.specs.Consumers.{Member, is_closed_by}
-use Rattle.pulsar_tables.specs.View.{Options, Seat, View, answer_at, arrival_at, closing, is_asked, setup_of, url_at}
+use Rattle.pulsar_tables.specs.Links.{line_places}
+use Rattle.pulsar_tables.specs.View.{Options, Seat, View, answer_at, arrival_at, closing, is_asked, place_of, setup_of, url_at}
 use Rattle.pulsar_tables.specs.Rules.{call_part, notice}
-use Rattle.pulsar_client.specs.Run.{Entry, Begins, Then, IsRun, Step, agenda, first, steps, view}
+use Rattle.pulsar_client.specs.Run.{Entry, Begins, Then, IsRun, Rests, Step, agenda, first, steps, view}
 use Rattle.pulsar_laws.specs.Laws.{counted}
 
 -- WHAT IS DONE TO A CONSUMER
@@ -227,6 +231,67 @@ FlowsAreAsked = (o : Options) (older : List Entry) (n t l p : ℕ) → IsRun o (
     (first (agenda o (Then (Does (Consumer n t) TakeFlow) ∷ older)) ≡ Some (Told (notice (Consumer n t) (outcome.Word (word.Flow l p)))))
     × (first (agenda o (Then (Told (notice (Consumer n t) (outcome.Word (word.Flow l p)))) ∷ Then (Does (Consumer n t) TakeFlow) ∷ older))
     ≡ Some (Does (Consumer n t) (Ask l (words.SendFlow n p))))
+
+-- No flow that is asked for is refused: the subscription is live there, and its link ready. It is queued at once where there is room, and else it
+-- stands at the end of the line.
+abbrev pub place_on : Connection → Placed
+place_on s = if has_room s then placed.Queued s.waits.queued else placed.Waiting (s.waits.queued + length s.line)
+
+abbrev pub FlowsArePlaced : Type 0
+FlowsArePlaced = (o : Options) (log : List Entry) (n t l m p : ℕ) → IsRun o (Then (Does (Consumer n t) (Ask l (words.SendFlow m p))) ∷ log) →
+    (seat : Seat) × ((view o log).links.live l ≡ Some seat)
+    × (answer_at (view o log).now (words.SendFlow m p) (Some seat) ≡ Ok (place_on seat.seen))
+
+-- a flow that was asked for: the place of its frame on the link, where it has one, and its permits
+pub record Flow : Type 0 where
+  pub place : Option ℕ
+  pub permits : ℕ
+
+-- those that the plan of a consumer has asked for since its subscription was made, newest first: with another one they begin anew
+abbrev pub flows_after : View → (ticket : ℕ) → Act → List Flow → List Flow
+flows_after v t (Does who (Revive l)) fs = if t == ticket_of who && is_some (v.links.live l) then [] else fs
+flows_after v t (Does (Consumer n u) (Ask l (words.SendFlow m p))) fs =
+    if t == u then record { place = place_of (answer_at v.now (words.SendFlow m p) (v.links.live l)); permits = p } ∷ fs else fs
+flows_after v t a fs = fs
+
+abbrev pub flows_since : Options → (ticket : ℕ) → List Entry → List Flow
+flows_since o t [] = []
+flows_since o t (Begins e ∷ log) = flows_since o t log
+flows_since o t (Then a ∷ log) = flows_after (view o log) t a (flows_since o t log)
+
+-- their permits, and the permits of those whose place is so: a frame is queued once its link has queued more frames than its place says, and until
+-- then it stands in the line
+abbrev pub is_so : (ℕ → Bool) → Option ℕ → Bool
+is_so test None = false
+is_so test (Some place) = test place
+
+abbrev pub permits_of : List Flow → ℕ
+permits_of fs = sum_by (λ f. f.permits) fs
+
+abbrev pub permits_where : (ℕ → Bool) → List Flow → ℕ
+permits_where test fs = sum_by (λ f. if is_so test f.place then f.permits else 0) fs
+
+abbrev pub was_queued : Connection → (place : ℕ) → Bool
+was_queued s place = nat_lt place s.waits.queued
+
+abbrev pub stands : Connection → (place : ℕ) → Bool
+stands s place = list_any (λ p. p == place) (line_places s)
+
+-- Of the flows that were asked for since the live subscription was made, each is queued or stands in the line of its link. So the sum of those that are
+-- queued is at most that of those that were asked for, and it is the same where none stands in the line.
+abbrev pub FlowsAreQueued : Type 0
+FlowsAreQueued = (o : Options) (log : List Entry) (t l : ℕ) (m : Member) → IsRun o log → (view o log).consumers.rows t ≡ Some m → link_of m.seen ≡ Some l →
+    (seat : Seat) × ((view o log).links.live l ≡ Some seat)
+    × (permits_of (flows_since o t log)
+    ≡ permits_where (was_queued seat.seen) (flows_since o t log) + permits_where (stands seat.seen) (flows_since o t log))
+
+-- They are no more than those that were taken since then, which PermitsAreKept counts, and just those at the end of each step. So what remains is then the
+-- sum of the flows that are queued, of those in the line and of those that are due, less what was begun.
+abbrev pub FlowsAreCounted : Type 0
+FlowsAreCounted = (o : Options) (log : List Entry) (t l : ℕ) (m : Member) (s : Setup) → IsRun o log → (view o log).consumers.rows t ≡ Some m →
+    link_of m.seen ≡ Some l → made_with t log ≡ Some s →
+    (permits_of (flows_since o t log) ≤ asked_since s (done_to o t log))
+    × (Rests o log → permits_of (flows_since o t log) ≡ asked_since s (done_to o t log))
 
 -- ACKNOWLEDGEMENTS
 

@@ -1,6 +1,6 @@
 //! What follows of consumers from the definition of a good run: each contract is a law, and its body is empty.
 
-ghost use Rattle.pulsar_laws.specs.ConsumerLaws.{AcksAreLicensed, AcksOnce, ConsumersAlone, ConsumersEnd, ConsumersRemain, FlowsAreAsked, FlowsAreTaken, PermitsAreKept, PollsAreAnswered, PollsFollow};
+ghost use Rattle.pulsar_laws.specs.ConsumerLaws.{AcksAreLicensed, AcksOnce, ConsumersAlone, ConsumersEnd, ConsumersRemain, FlowsAreAsked, FlowsAreCounted, FlowsArePlaced, FlowsAreQueued, FlowsAreTaken, PermitsAreKept, PollsAreAnswered, PollsFollow};
 
 /// A consumer is what was done to it since it was made, and nothing else.
 pub fn consumers_alone()
@@ -24,11 +24,15 @@ pub fn consumers_end()
     ensures remain { ConsumersRemain }
 {}
 
-/// What remains of the permits of a live subscription is within its bounds, and each flow that its plan asks for was taken from it.
+/// What remains of the permits of a live subscription is within its bounds, and each flow that its plan asks for was taken from it, and is
+/// queued or stands in the line.
 pub fn permits_are_kept()
     ensures bounds { PermitsAreKept }
     ensures flows { FlowsAreTaken }
     ensures asked { FlowsAreAsked }
+    ensures placed { FlowsArePlaced }
+    ensures queued { FlowsAreQueued }
+    ensures counted { FlowsAreCounted }
 {}
 
 /// A frame that acknowledges is asked for by a call for just this, and at most once for each.

@@ -7,7 +7,7 @@ ghost use Rattle.pulsar_link.specs.RawCall.{words_of};
 ghost use Rattle.pulsar_link.specs.Request.{named_consumer, named_producer};
 ghost use Rattle.pulsar_tables.specs.Consumers as consumer;
 ghost use Rattle.pulsar_tables.specs.Producers.{called_on, names_in, opened_on};
-ghost use Rattle.pulsar_tables.specs.Reading.{notice};
+ghost use Rattle.pulsar_tables.specs.Reading.{notice, unless};
 ghost use Rattle.pulsar_tables.specs.Rules.{asks_raw, asks_topics, builds_with, does, follows, from_base, is_taken, parts_of, procedure_for, searches, taken_by, unless_refused};
 ghost use Rattle.pulsar_client.specs.Run.{goes_on, ticket_for};
 ghost use Rattle.pulsar_client.specs.Tables.{agenda_of, chosen_of, view_of};
@@ -175,17 +175,7 @@ impl Tables {
         let is_taken = self.consumers.is_taken(consumer)?;
         self.consumers.name(consumer)?;
         let is_used = self.names(producer)?;
-        Ok(match taken_by(is_used, is_taken) {
-            Some(refusal) => {
-                drop(request);
-                Procedure::Refuse(refusal)
-            }
-            None => Procedure::Ask {
-                place: Place::Link(link),
-                request,
-                says: Says::Bodies,
-            },
-        })
+        Ok(asks_unless(taken_by(is_used, is_taken), link, request))
     }
 
     /// A raw call names a number of a producer, or none. A producer of the client has it.
@@ -403,6 +393,23 @@ fn taken_by(by_producer: bool, by_consumer: bool) -> Option<Refusal>
         Some(Refusal::ConsumerInUse)
     } else {
         None
+    }
+}
+
+/// A request on a link, unless it is refused.
+fn asks_unless(refusal: Option<Refusal>, link: u64, request: Request) -> Procedure
+    ensures { result ≡ unless refusal (Procedure.Ask (Place.Link link) request Says.Bodies) }
+{
+    match refusal {
+        Some(refusal) => {
+            drop(request);
+            Procedure::Refuse(refusal)
+        }
+        None => Procedure::Ask {
+            place: Place::Link(link),
+            request,
+            says: Says::Bodies,
+        },
     }
 }
 

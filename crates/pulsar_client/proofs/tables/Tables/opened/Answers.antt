@@ -17,3 +17,9 @@ returns-in-Flush-clause-after c =
     let v = view_of c.args.self.now in
     MatchResult-weaker c.flushes.result c.flushes.ensures
     (λ p is. ap (λ a. record v { consumers = consumer.opened_on a v.consumers; producers = opened_on a v.producers }) (sym (ap asked c.in-Flush.is) ∙ c.into_inner.ensures)) (λ e u. u)
+
+pub returns-in-Raw-clause-after : goal.returns-in-Raw-clause-after
+returns-in-Raw-clause-after c =
+    let v = view_of c.args.self.now in
+    on_ok_weaker c.raw.result
+    (λ sees. sees ∙ ap (λ a. record v { consumers = consumer.opened_on a v.consumers; producers = opened_on a v.producers }) (sym (ap asked c.in-Raw.is) ∙ c.into_inner.ensures)) c.raw.ensures.after

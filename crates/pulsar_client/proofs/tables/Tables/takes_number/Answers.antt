@@ -37,17 +37,17 @@ returns-in-InUse-clause-sees c =
     (c.in_ok-number.ensures.after ∙ ap (λ t. numbered t c.args.wanted v.consumers) c.ticket_of.ensures))
     c.tell_word-in-InUse.ensures
 
-pub returns-in-Spent-clause-left : goal.returns-in-Spent-clause-left
-returns-in-Spent-clause-left c =
+pub returns-in_ok-cause-in-Spent-clause-left : goal.returns-in_ok-cause-in-Spent-clause-left
+returns-in_ok-cause-in-Spent-clause-left c =
     on_ok_weaker c.tell.result
     (λ told. told
     ∙ in_front (agenda_of c.args.tasks.now) _ _
-    (ap (λ f. tells c.args.who (Refused f)) c.in_ok-cause.ensures
+    (ap (λ f. tells c.args.who (Refused f)) c.in_ok-cause-in-Spent.ensures
     ∙ ap (λ n. tells c.args.who (numbering_said n)) (sym c.in-Spent.is ∙ c.in_ok-number.ensures.numbering)))
     c.tell.ensures
 
-pub returns-in-Spent-clause-sees : goal.returns-in-Spent-clause-sees
-returns-in-Spent-clause-sees c =
+pub returns-in_ok-cause-in-Spent-clause-sees : goal.returns-in_ok-cause-in-Spent-clause-sees
+returns-in_ok-cause-in-Spent-clause-sees c =
     let v = view_of c.args.self.now in
     on_ok_weaker c.tell.result
     (λ told. ap (λ cs. record v { consumers = cs })

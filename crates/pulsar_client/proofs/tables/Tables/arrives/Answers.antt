@@ -42,8 +42,13 @@ returns-in-Bad-clause-sees c =
     (on_ok_weaker c.put.result
     (λ put. ap (λ cs. record v { consumers = cs }) (all_same (hears l (Bad c.in-Bad.cause)) (λ m. refl) v.consumers)) c.put.ensures)
 
-pub returns-in_default-clause-left : goal.returns-in_default-clause-left
-returns-in_default-clause-left c =
+pub returns-in_ok-hear-in_default-clause-left : goal.returns-in_ok-hear-in_default-clause-left
+returns-in_ok-hear-in_default-clause-left c =
     let g = agenda_of c.args.tasks.now in
     on_ok_weaker c.add_all.result
     (λ added. ap (λ acts. record g { now = acts ++ g.now }) (unbroken c.args.link c.args.arrival c.in_default.not-Bad)) c.add_all.ensures
+
+pub returns-in_ok-hear-in_default-clause-sees : goal.returns-in_ok-hear-in_default-clause-sees
+returns-in_ok-hear-in_default-clause-sees c =
+    let v = view_of c.args.self.now in
+    on_ok_weaker c.add_all.result (λ added. ap (λ cs. record v { consumers = cs }) c.in_ok-hear-in_default.ensures.after) c.add_all.ensures

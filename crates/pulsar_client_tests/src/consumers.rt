@@ -47,11 +47,8 @@ fn calls(alloc: Global) -> Result<Vec<Event>, NoMemory> {
     Ok(events)
 }
 
-/// Whether the consumer is built in three steps, the last with its flow, both calls on a message end as their frames are queued, and the close
-/// waits.
-fn are_called(counts: &[usize]) -> bool {
-    counts == [1, 1, 1, 1, 2, 2, 3, 2, 2, 1]
-}
+/// The consumer is built in three steps, the last with its flow; both calls on a message end as their frames are queued, and the close waits.
+const COUNTS: &[usize] = &[1, 1, 1, 1, 2, 2, 3, 2, 2, 1];
 
 /// How many effects each event has.
 fn counts(alloc: Global) -> Result<Vec<usize>, NoMemory> {
@@ -67,7 +64,7 @@ fn counts(alloc: Global) -> Result<Vec<usize>, NoMemory> {
 #[test]
 fn calls_on_consumers_are_taken_together(rt: HostRuntime) -> Result<(), Fail> {
     let counts = counts(rt.alloc())?;
-    assert!(rt; are_called(&counts), "{counts:?}");
+    assert!(rt; counts.as_slice() == COUNTS, "{counts:?}");
     Ok(())
 }
 

@@ -2,9 +2,9 @@
 --
 -- A link is an attempt to connect, and the connection that comes of it. Links are numbered from 0, in the order of the effects Connect.
 -- The place of a frame is its index among all frames that were queued on its link. A ticket is the number of a call: calls are counted
--- from 0. A raw consumer, and a producer, has the ticket of the call that made it. The parts of a call have the tickets behind its own.
-use Rattle.std.specs.Prelude.{ℕ, zero, suc, ◌+◌, ◌-◌, ◌^◌, nat_le, Bool, List, [], ◌∷◌, length, map, string_bytes, Option, Some, None, Result, Ok, Err}
-use Rattle.pulsar_wire.specs.Row.{spelling}
+-- from 0. A consumer, and a producer, has the ticket of the call that made it. The parts of a call have the tickets behind its own.
+use Rattle.std.specs.Prelude.{ℕ, ℤ, zero, suc, ◌+◌, ◌-◌, ◌^◌, nat_le, Bool, List, [], ◌∷◌, length, map, string_bytes, Option, Some, None, Result, Ok, Err}
+use Rattle.pulsar_wire.specs.Row.{Values, spelling}
 use Rattle.pulsar_wire.specs.Rows.{message_id, message_metadata, send_receipt}
 use Rattle.pulsar_wire.specs.Views.{body_values, message_id_values, message_metadata_values, send_receipt_values}
 use Rattle.pulsar_wire.specs.declared.commands.topics.Mode.{Mode}
@@ -15,6 +15,7 @@ use Rattle.pulsar_link.specs.Messages.{Written, written}
 use Rattle.pulsar_link.specs.RawCall.{words_of}
 use Rattle.pulsar_messages.specs.Content.{ProducerMessageValues, message_content}
 use Rattle.pulsar_messages.specs.Words.{Words}
+use Rattle.pulsar_consumer.specs.Content.{ConsumerWanted, consumer_wanted}
 use Rattle.pulsar_producer.specs.Wanted.{ProducerWanted, producer_wanted}
 use Rattle.pulsar_plans.specs.Address.{Place, Named, named, place}
 use Rattle.pulsar_calls.specs.declared.event.Call.{Call}
@@ -42,6 +43,10 @@ pub data Asked : Type 0 where
   Flush : (producer : ℕ) → Asked
   CheckProducer : (producer : ℕ) → Asked
   CloseProducer : (producer : ℕ) → Asked
+  Consumer : ConsumerWanted → Asked
+  Ack : (consumer : ℕ) (topic : List ℕ) (id : Values message_id) (cumulative : Bool) → Asked
+  Nack : (consumer : ℕ) (topic : List ℕ) (id : Values message_id) → Asked
+  CloseConsumer : (consumer : ℕ) → Asked
   Raw : (link : ℕ) (words : Words) → Asked
 
 -- what happens to the client
@@ -68,8 +73,8 @@ pub data Said : Type 0 where
   Replies : List Written → Said
   Failed : Failure → Said
 
--- What the client wants done, and tells. A poll hands a message with its id and its metadata as they are written, or tells why there is
--- none; it finds nothing where none is there yet, and the end where none will come.
+-- What the client wants done, and tells. A poll hands a message with its id and its metadata as they are written, and the size of its batch, or
+-- tells why there is none; it finds nothing where none is there yet, and the end where none will come.
 pub data Shown : Type 0 where
   Connect : (link : ℕ) (host : List ℕ) (port : ℕ) → Shown
   Queued : (link place : ℕ) (bytes : List ℕ) → Shown
@@ -78,7 +83,7 @@ pub data Shown : Type 0 where
   Close : (link : ℕ) → Shown
   Settles : (link place : ℕ) (outcome : Settlement) → Shown
   Ends : (ticket : ℕ) (answer : Said) → Shown
-  Hands : (ticket : ℕ) (topic id metadata payload : List ℕ) → Shown
+  Hands : (ticket : ℕ) (topic id : List ℕ) (batch_size : Option ℤ) (metadata payload : List ℕ) → Shown
   Faults : (ticket : ℕ) (fault : Failure) → Shown
   FindsNothing : (ticket : ℕ) → Shown
   FindsEnd : (ticket : ℕ) → Shown
@@ -96,6 +101,10 @@ asked (call.SendAll producer messages) = SendAll producer (map message_content m
 asked (call.Flush producer) = Flush producer
 asked (call.CheckProducer producer) = CheckProducer producer
 asked (call.CloseProducer producer) = CloseProducer producer
+asked (call.Consumer builder) = Consumer (consumer_wanted builder)
+asked (call.Ack consumer topic id cumulative) = Ack consumer (string_bytes topic) (message_id_values id) cumulative
+asked (call.Nack consumer topic id) = Nack consumer (string_bytes topic) (message_id_values id)
+asked (call.CloseConsumer consumer) = CloseConsumer consumer
 asked (call.Raw link c) = Raw link (words_of c)
 
 -- how many parts a call has, each with a ticket of its own
@@ -112,6 +121,10 @@ shares (SendAll producer messages) = length messages
 shares (Flush producer) = 0
 shares (CheckProducer producer) = 0
 shares (CloseProducer producer) = 0
+shares (Consumer wanted) = 0
+shares (Ack consumer topic id cumulative) = 0
+shares (Nack consumer topic id) = 0
+shares (CloseConsumer consumer) = 0
 shares (Raw link words) = 0
 
 -- the messages that a call sends, by the producer of a ticket
@@ -128,6 +141,10 @@ sent_by (SendAll producer messages) = Some (producer, messages)
 sent_by (Flush producer) = None
 sent_by (CheckProducer producer) = None
 sent_by (CloseProducer producer) = None
+sent_by (Consumer wanted) = None
+sent_by (Ack consumer topic id cumulative) = None
+sent_by (Nack consumer topic id) = None
+sent_by (CloseConsumer consumer) = None
 sent_by (Raw link words) = None
 
 -- Fewer tickets are left than a call and its parts need: the greatest is never drawn.
@@ -161,7 +178,7 @@ said (Err e) = Failed (failure e)
 -- what a poll hands
 abbrev pub hands : ℕ → Result Handed Error → Shown
 hands ticket (Ok h) =
-    Hands ticket (string_bytes h.topic) (spelling message_id (message_id_values h.id))
+    Hands ticket (string_bytes h.topic) (spelling message_id (message_id_values h.id.id)) h.id.batch_size
     (spelling message_metadata (message_metadata_values h.payload.metadata)) h.payload.bytes.items
 hands ticket (Err e) = Faults ticket (failure e)
 

@@ -1,8 +1,11 @@
 //! What a step is made of: acts, each one thing that happens. There are six kinds of act, and all that is special to a kind of
 //! call, thing or event stands one level below them.
 
-use crate::content::{Advice, Asking, Cause, Granted, Made, Notices, Numbers, Remade, Said};
-use pulsar_link::content::{Received, Request, Text};
+use crate::content::{
+    Advice, Asking, Cause, Granted, Joined, Made, Notices, Numbers, Recalled, Remade, Said,
+};
+use pulsar_consumer::building::Order as ConsumerOrder;
+use pulsar_link::content::{Received, Request, Subscribed};
 use pulsar_plans::content::{Address, Refusal as Failure};
 use pulsar_plans::plan::Procedure as Sought;
 use pulsar_plans::turn::Ways;
@@ -17,8 +20,39 @@ use pulsar_wire::error::IoKind;
 pub enum Who {
     /// The call of this ticket.
     Call(u64),
+    /// The consumer of this number on the wire, which the call of this ticket built. Another one may have the number once it has ended.
+    Consumer { number: u64, ticket: u64 },
     /// The topic producer of this number, which sends batches.
     Producer(u64),
+}
+
+/// What is told of consumers: to a call that builds one or needs the link of one, and to the plan of one.
+#[derive(Drop)]
+pub enum Word {
+    /// A call that builds a consumer has this number for it.
+    Numbered(u64),
+    /// A live consumer has the number that it asked for.
+    InUse,
+    /// A call that waits for the link of a consumer is to find it once more.
+    Again,
+    /// The consumer whose link a call wants has ended.
+    Closed,
+    /// A flow of the consumer is due.
+    Due,
+    /// This flow is to be asked for: so many permits, on this link.
+    Flow { link: u64, permits: u32 },
+    /// No flow is due.
+    NoFlow,
+    /// The subscription of the consumer was lost, and is to be made again.
+    Lost,
+    /// It is made again by this command.
+    Recalled(Recalled),
+    /// The new subscription is live.
+    Lives,
+    /// The topic of the consumer has ended, whose subscription on this link is to be closed.
+    TopicEnded { link: u64 },
+    /// The consumer has ended.
+    Over,
 }
 
 /// What a plan is told.
@@ -55,6 +89,8 @@ pub enum Outcome {
     },
     /// What became of the batch in which its message went, or of its message before that.
     Settled(Result<Receipt, Failure>),
+    /// This of a consumer.
+    Word(Word),
     /// The client was stopped while its request waited for a reply.
     Cut,
     /// The client was stopped, and no request of it was queued.
@@ -84,6 +120,8 @@ pub enum Says {
     Names,
     /// By its body.
     Bodies,
+    /// It says no more than that the call is done.
+    Nothing,
 }
 
 /// Why a call is not made.
@@ -109,6 +147,14 @@ pub enum Refusal {
     NumberInUse,
     /// The payload is too large for a batch.
     TooLarge,
+    /// It is not said which topics a consumer reads.
+    NoTopics,
+    /// More is to be read than one topic.
+    ManyTopics,
+    /// The consumer has ended.
+    ConsumerClosed,
+    /// A live consumer has the number.
+    ConsumerInUse,
 }
 
 /// A send that is a part of another call: the tickets of that call, and of the send.
@@ -190,6 +236,27 @@ pub enum Procedure {
         producer: u64,
         numbers: Numbers,
     },
+    /// Build a consumer.
+    Subscribe {
+        ways: Ways,
+        order: ConsumerOrder,
+    },
+    /// Serve the consumer of this number: ask for its flows, make its subscription again where that is lost, and close it where its
+    /// topic ends.
+    Serve {
+        ways: Ways,
+        number: u64,
+    },
+    /// Ask for this on the link of a live subscription, where there is one.
+    Acknowledge {
+        link: Option<u64>,
+        request: Request,
+    },
+    /// Close the consumer of this ticket, which has this number.
+    Leave {
+        consumer: u64,
+        number: u64,
+    },
     /// Fail.
     Refuse(Refusal),
 }
@@ -225,6 +292,18 @@ pub enum Action {
     Flush(u64),
     /// Take the next batch of a topic producer.
     TakeBatch(u64),
+    /// Take this number for a new consumer, or draw one.
+    TakeNumber(Option<u64>),
+    /// Find the link of the consumer of this ticket, or wait until it has one.
+    FindConsumer(u64),
+    /// Take the flow that is due next of the consumer whose plan it is.
+    TakeFlow,
+    /// Find the command by which this consumer is subscribed again.
+    RecallConsumer,
+    /// This consumer was subscribed again, on this link.
+    Revive { link: u64 },
+    /// This consumer could not be subscribed again, for this reason.
+    FailConsumer(Failure),
     /// Tell another one, who joins those whom the present cause serves.
     Tell(Notice),
     /// Tell several others, who do so.
@@ -241,8 +320,10 @@ pub enum Makes {
     Nothing,
     /// The client is built.
     Client,
-    /// A raw consumer, whose messages bear this number on this link.
-    Consumer { link: u64, number: u64, topic: Text },
+    /// A consumer of one topic.
+    Consumer(Joined),
+    /// A consumer of a raw call to subscribe, on this link.
+    RawConsumer { link: u64, made: Subscribed },
     /// A producer.
     Producer(Made),
 }

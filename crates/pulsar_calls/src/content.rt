@@ -13,7 +13,9 @@ ghost use Rattle.pulsar_session.specs.Failures.{fault, sent};
 use crate::act::Notice;
 use crate::effect::Answer;
 use crate::event::Call;
+use pulsar_consumer::settings::Settings as Config;
 use pulsar_plans::content::{Refusal, Text};
+use pulsar_plans::making::Command;
 use pulsar_producer::content::{Parts, Settings};
 use pulsar_producer::deed::News;
 use pulsar_producer::replies::Given;
@@ -234,6 +236,82 @@ impl Made {
     {
         let Made { building } = self;
         Box::into_inner(building)
+    }
+}
+
+/// A consumer that was made: the name of its topic, its number, how it is made, and the link of its subscription.
+#[derive(Drop)]
+pub struct Joining {
+    pub topic: Text,
+    pub number: u64,
+    pub config: Config,
+    pub link: u64,
+}
+
+/// The same in a box.
+#[derive(Drop)]
+pub struct Joined {
+    joining: Box<Joining>,
+}
+
+impl Model for Joined {
+    ghost use Rattle.pulsar_calls.specs.declared.content.Joining.{Joining};
+
+    ghost Value = { Joining };
+
+    ghost view = { λ j. j.joining.value };
+}
+
+impl Joined {
+    pub fn new(alloc: Global, joining: Joining) -> Result<Joined, NoMemory>
+        ensures { IfOk result (λ j. j ≡ joining) }
+    {
+        let joining = Box::new(alloc, joining)?;
+        Ok(Joined { joining })
+    }
+
+    /// The consumer to be looked at.
+    pub fn joining(&self) -> &Joining
+        ensures { result.now ≡ self.now }
+    {
+        &self.joining
+    }
+
+    pub fn into_inner(self) -> Joining
+        ensures { result ≡ self }
+    {
+        let Joined { joining } = self;
+        Box::into_inner(joining)
+    }
+}
+
+/// The command by which a consumer is subscribed again, in a box.
+#[derive(Drop)]
+pub struct Recalled {
+    command: Box<Command>,
+}
+
+impl Model for Recalled {
+    ghost use Rattle.pulsar_plans.specs.declared.making.Command.{Command};
+
+    ghost Value = { Command };
+
+    ghost view = { λ r. r.command.value };
+}
+
+impl Recalled {
+    pub fn new(alloc: Global, command: Command) -> Result<Recalled, NoMemory>
+        ensures { IfOk result (λ r. r ≡ command) }
+    {
+        let command = Box::new(alloc, command)?;
+        Ok(Recalled { command })
+    }
+
+    pub fn into_inner(self) -> Command
+        ensures { result ≡ self }
+    {
+        let Recalled { command } = self;
+        Box::into_inner(command)
     }
 }
 

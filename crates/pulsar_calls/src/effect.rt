@@ -1,9 +1,9 @@
 //! What a client wants done, and tells.
 
+use pulsar_consumer::MessageData;
 use pulsar_frame::payload::Payload;
 use pulsar_plans::BrokerAddress;
 use pulsar_wire::commands::base::Body;
-use pulsar_wire::commands::ids::MessageIdData;
 use pulsar_wire::commands::producer::CommandSendReceipt;
 use pulsar_wire::error::Error;
 
@@ -43,7 +43,8 @@ pub enum Answer {
 pub struct Handed {
     /// The name of the topic, as the consumer was made with it.
     pub topic: String,
-    pub id: MessageIdData,
+    /// Its id, and how many entries its batch has.
+    pub id: MessageData,
     pub payload: Payload,
 }
 

@@ -4,9 +4,11 @@ ghost use Rattle.std.specs.Prelude.{◌≡◌, IfOk, map};
 ghost use Rattle.pulsar_messages.specs.Content.{message_content};
 ghost use Rattle.pulsar_calls.specs.Content.{asked, heard};
 
+use pulsar_consumer::ConsumerBuilder;
 use pulsar_link::raw_call::RawCall;
 use pulsar_messages::Message;
 use pulsar_producer::ProducerBuilder;
+use pulsar_wire::commands::ids::MessageIdData;
 use pulsar_wire::commands::topics::Mode;
 use pulsar_wire::error::{IoKind, NoMemory};
 
@@ -57,6 +59,25 @@ pub enum Call {
     /// Closes a producer: it takes no sends from now on.
     CloseProducer {
         producer: u64,
+    },
+    /// Builds a consumer of one topic.
+    Consumer(ConsumerBuilder),
+    /// Acknowledges a message of the consumer that the call of this ticket built, or all up to it.
+    Ack {
+        consumer: u64,
+        topic: String,
+        id: MessageIdData,
+        cumulative: bool,
+    },
+    /// Asks that a message of a consumer is given again.
+    Nack {
+        consumer: u64,
+        topic: String,
+        id: MessageIdData,
+    },
+    /// Closes a consumer: nothing comes for it from then on.
+    CloseConsumer {
+        consumer: u64,
     },
     /// Asks on this connection by itself.
     Raw {
@@ -124,6 +145,30 @@ impl Call {
             }),
             Call::CloseProducer { producer } => Ok(Call::CloseProducer {
                 producer: *producer,
+            }),
+            Call::Consumer(builder) => Ok(Call::Consumer(builder.copy()?)),
+            Call::Ack {
+                consumer,
+                topic,
+                id,
+                cumulative,
+            } => Ok(Call::Ack {
+                consumer: *consumer,
+                topic: topic.clone()?,
+                id: id.copy()?,
+                cumulative: *cumulative,
+            }),
+            Call::Nack {
+                consumer,
+                topic,
+                id,
+            } => Ok(Call::Nack {
+                consumer: *consumer,
+                topic: topic.clone()?,
+                id: id.copy()?,
+            }),
+            Call::CloseConsumer { consumer } => Ok(Call::CloseConsumer {
+                consumer: *consumer,
             }),
             Call::Raw { link, call } => Ok(Call::Raw {
                 link: *link,

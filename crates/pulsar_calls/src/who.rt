@@ -1,7 +1,7 @@
 //! The order of those that have plans.
 
 ghost use Rattle.std.specs.Prelude.{◌≡◌};
-ghost use Rattle.pulsar_calls.specs.Who.{in_turn, is_before, is_same, rank, turn_of};
+ghost use Rattle.pulsar_calls.specs.Who.{in_turn, is_before, is_same, rank, ticket_of, turn_of};
 
 use crate::act::Who;
 
@@ -11,7 +11,8 @@ pub fn rank(who: Who) -> (u64, u64)
 {
     match who {
         Who::Call(ticket) => (0, ticket),
-        Who::Producer(number) => (1, number),
+        Who::Consumer { number, ticket: _ } => (1, number),
+        Who::Producer(number) => (2, number),
     }
 }
 
@@ -24,7 +25,7 @@ pub fn turn_of(who: Who) -> u64
 {
     match who {
         Who::Call(ticket) => ticket,
-        Who::Producer(_) => BEHIND_ALL,
+        Who::Consumer { .. } | Who::Producer(_) => BEHIND_ALL,
     }
 }
 
@@ -39,11 +40,21 @@ pub fn in_turn(number: u64, turn: u64) -> Who
     }
 }
 
+/// The ticket of the call that made it: several consumers may have had one number.
+pub fn ticket_of(who: Who) -> u64
+    ensures { result ≡ ticket_of who }
+{
+    match who {
+        Who::Call(ticket) | Who::Consumer { number: _, ticket } => ticket,
+        Who::Producer(_) => 0,
+    }
+}
+
 pub fn is_same(a: Who, b: Who) -> bool
     ensures { result ≡ is_same a b }
 {
     let (x, y) = (rank(a), rank(b));
-    x.0 == y.0 && x.1 == y.1
+    x.0 == y.0 && x.1 == y.1 && ticket_of(a) == ticket_of(b)
 }
 
 /// One is served before the other.

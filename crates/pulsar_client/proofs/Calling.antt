@@ -5,7 +5,7 @@ use Rattle.pulsar_session.specs.Failures.{Exhausted}
 use Rattle.pulsar_calls.specs.declared.act.Act.TheVariants.{Comes, Answers}
 use Rattle.pulsar_calls.specs.declared.act.Alarm.TheVariants.{CheckIdle}
 use Rattle.pulsar_calls.specs.declared.act.Makes.{Makes}
-use Rattle.pulsar_calls.specs.declared.act.Makes.TheVariants.{Nothing, Client, Consumer, Producer}
+use Rattle.pulsar_calls.specs.declared.act.Makes.TheVariants.{Nothing, Client, Consumer, RawConsumer, Producer}
 use Rattle.pulsar_calls.specs.declared.act.Part.TheVariants.{Calls}
 use Rattle.pulsar_tables.specs.Alarms.{set}
 use Rattle.pulsar_calls.specs.declared.act.Procedure.{Procedure}
@@ -17,6 +17,8 @@ use Rattle.pulsar_calls.specs.declared.event.Call.TheVariants as call
 use Rattle.pulsar_calls.specs.Content as content
 use Rattle.pulsar_calls.specs.Content.{Asked, asked, lacks_tickets, shares}
 use Rattle.pulsar_procedures.specs.Plan.{fails}
+use Rattle.pulsar_tables.specs.Consumers as consumer
+use Rattle.pulsar_tables.specs.Consumers.{Consumers}
 use Rattle.pulsar_tables.specs.Producers.{Producers, called_on, opened_on, why_not}
 use Rattle.pulsar_tables.specs.Rules.{parts_of, procedure_for, shares_unless, starts, unless_refused}
 use Rattle.pulsar_client.specs.Run.{Agenda, goes_on}
@@ -54,6 +56,7 @@ module _ (v : View) (advice : List (Option ℕ)) (a : Asked) where
           is_built = v.calls.is_built;
           is_stopped = v.calls.is_stopped;
         };
+        consumers = cond b v.consumers (consumer.called_on (may_call v.calls) a v.consumers);
         producers = cond b v.producers (called_on (may_call v.calls) a v.producers);
       }
 
@@ -89,27 +92,35 @@ not_build (call.SendAll producer messages) n h = absurd cc
 not_build (call.Flush producer) n h = absurd cc
 not_build (call.CheckProducer producer) n h = absurd cc
 not_build (call.CloseProducer producer) n h = absurd cc
+not_build (call.Consumer builder) n h = absurd cc
+not_build (call.Ack consumer topic id cumulative) n h = absurd cc
+not_build (call.Nack consumer topic id) n h = absurd cc
+not_build (call.CloseConsumer consumer) n h = absurd cc
 not_build (call.Raw link c) n h = absurd cc
 
 -- nothing but a Build is made
 refused_if : (b : Bool) (p : Procedure) → b ≡ false → unless_refused b p ≡ procedure.Refuse refusal.Shutdown
 refused_if b p h = ap (λ b. unless_refused b p) h
 
-pub shut_out : (o : Chosen) (c : Tickets) (ps : Producers) (advice : List (Option ℕ)) (a : Asked) → (a ≡ content.Build → ⊥) → may_call c ≡ false →
-    procedure_for o c ps advice a ≡ procedure.Refuse refusal.Shutdown
-shut_out o c ps advice content.Build n h = absurd (n refl)
-shut_out o c ps advice content.Stop n h = refused_if (may_call c) _ h
-shut_out o c ps advice (content.Topics namespace mode) n h = refused_if (may_call c) _ h
-shut_out o c ps advice (content.Lookup topic) n h = refused_if (may_call c) _ h
-shut_out o c ps advice (content.Partitions topic) n h = refused_if (may_call c) _ h
-shut_out o c ps advice (content.Brokers topic) n h = refused_if (may_call c) _ h
-shut_out o c ps advice (content.Producer wanted) n h = refused_if (may_call c) _ h
-shut_out o c ps advice (content.Send t m) n h = refused_if (may_call c) _ h
-shut_out o c ps advice (content.SendAll t ms) n h = refused_if (may_call c) _ h
-shut_out o c ps advice (content.Flush t) n h = refused_if (may_call c) _ h
-shut_out o c ps advice (content.CheckProducer t) n h = refused_if (may_call c) _ h
-shut_out o c ps advice (content.CloseProducer t) n h = refused_if (may_call c) _ h
-shut_out o c ps advice (content.Raw l request) n h = refused_if (may_call c) _ h
+pub shut_out : (o : Chosen) (c : Tickets) (cs : Consumers) (ps : Producers) (advice : List (Option ℕ)) (a : Asked) → (a ≡ content.Build → ⊥) → may_call c ≡ false →
+    procedure_for o c cs ps advice a ≡ procedure.Refuse refusal.Shutdown
+shut_out o c cs ps advice content.Build n h = absurd (n refl)
+shut_out o c cs ps advice content.Stop n h = refused_if (may_call c) _ h
+shut_out o c cs ps advice (content.Topics namespace mode) n h = refused_if (may_call c) _ h
+shut_out o c cs ps advice (content.Lookup topic) n h = refused_if (may_call c) _ h
+shut_out o c cs ps advice (content.Partitions topic) n h = refused_if (may_call c) _ h
+shut_out o c cs ps advice (content.Brokers topic) n h = refused_if (may_call c) _ h
+shut_out o c cs ps advice (content.Producer wanted) n h = refused_if (may_call c) _ h
+shut_out o c cs ps advice (content.Send t m) n h = refused_if (may_call c) _ h
+shut_out o c cs ps advice (content.SendAll t ms) n h = refused_if (may_call c) _ h
+shut_out o c cs ps advice (content.Flush t) n h = refused_if (may_call c) _ h
+shut_out o c cs ps advice (content.CheckProducer t) n h = refused_if (may_call c) _ h
+shut_out o c cs ps advice (content.CloseProducer t) n h = refused_if (may_call c) _ h
+shut_out o c cs ps advice (content.Consumer wanted) n h = refused_if (may_call c) _ h
+shut_out o c cs ps advice (content.Ack t name id cumulative) n h = refused_if (may_call c) _ h
+shut_out o c cs ps advice (content.Nack t name id) n h = refused_if (may_call c) _ h
+shut_out o c cs ps advice (content.CloseConsumer t) n h = refused_if (may_call c) _ h
+shut_out o c cs ps advice (content.Raw l request) n h = refused_if (may_call c) _ h
 
 -- and no parts begin
 pub shut_parts : (v : View) (advice : List (Option ℕ)) (a : Asked) → may_call v.calls ≡ false → parts_of v advice a ≡ []
@@ -117,11 +128,13 @@ shut_parts v advice (content.SendAll t ms) h =
     ap (λ b. shares_unless (cond b (why_not v.producers t) (Some refusal.Shutdown)) v advice t ms) h
 shut_parts v advice _ h = refl
 
-pub shut_same : (v : View) (a : Asked) → may_call v.calls ≡ false → v ≡ record v { producers = called_on (may_call v.calls) a v.producers }
-shut_same v a h = sym (ap (λ b. record v { producers = called_on b a v.producers }) h)
+pub shut_same : (v : View) (a : Asked) → may_call v.calls ≡ false →
+    v ≡ record v { consumers = consumer.called_on (may_call v.calls) a v.consumers; producers = called_on (may_call v.calls) a v.producers }
+shut_same v a h = sym (ap (λ b. record v { consumers = consumer.called_on b a v.consumers; producers = called_on b a v.producers }) h)
 
--- a Build leaves the producers as they are
-pub build_same : (v : View) (b : Bool) → v ≡ record v { producers = called_on b content.Build v.producers }
+-- a Build leaves the consumers and the producers as they are
+pub build_same : (v : View) (b : Bool) →
+    v ≡ record v { consumers = consumer.called_on b content.Build v.consumers; producers = called_on b content.Build v.producers }
 build_same v true = refl
 build_same v false = refl
 
@@ -131,8 +144,9 @@ pub may_so : (b : Bool) (p : Procedure) → b ≡ true → p ≡ unless_refused 
 may_so b p h = sym (ap (λ b. unless_refused b p) h)
 
 pub open_same : (v : View) (a : Asked) → may_call v.calls ≡ true →
-    record v { producers = opened_on a v.producers } ≡ record v { producers = called_on (may_call v.calls) a v.producers }
-open_same v a h = sym (ap (λ b. record v { producers = called_on b a v.producers }) h)
+    record v { consumers = consumer.opened_on a v.consumers; producers = opened_on a v.producers }
+    ≡ record v { consumers = consumer.called_on (may_call v.calls) a v.consumers; producers = called_on (may_call v.calls) a v.producers }
+open_same v a h = sym (ap (λ b. record v { consumers = consumer.called_on b a v.consumers; producers = called_on b a v.producers }) h)
 
 -- WHERE A VERDICT HAS MADE SOMETHING
 
@@ -150,7 +164,8 @@ module _ (v : View) (m : Makes) where
   keeps : (m : Makes) → builds m true ≡ true
   keeps Nothing = refl
   keeps Client = refl
-  keeps (Consumer link number topic) = refl
+  keeps (Consumer made) = refl
+  keeps (RawConsumer link made) = refl
   keeps (Producer made) = refl
 
   pub built_before : v.calls.is_built ≡ true → v ≡ built_with (builds m v.calls.is_built) is_first

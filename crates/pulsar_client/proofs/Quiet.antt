@@ -6,7 +6,7 @@ use Rattle.pulsar_calls.specs.declared.act.Action.{Action}
 use Rattle.pulsar_calls.specs.declared.act.Part.{Part}
 use Rattle.pulsar_calls.specs.declared.act.Part.TheVariants.{Calls, ToLink}
 use Rattle.pulsar_calls.specs.declared.act.Who.{Who}
-use Rattle.pulsar_calls.specs.declared.act.Who.TheVariants.{Call, Producer}
+use Rattle.pulsar_calls.specs.declared.act.Who.TheVariants.{Call, Consumer, Producer}
 use Rattle.pulsar_tables.specs.Rules.{at_once, performs}
 use Rattle.pulsar_tables.specs.View.{View}
 use Rattle.pulsar_client.proofs.Acts.{Each, each_map}
@@ -27,6 +27,7 @@ done_quiet who action (Told n) h = refl
 done_quiet who action (Dials p starter retries) h = refl
 done_quiet who action (Starts (Call t) p) h = absurd cc
 done_quiet who action (Starts (Producer n) p) h = absurd cc
+done_quiet who action (Starts (Consumer n t) p) h = absurd cc
 done_quiet who action _ h = absurd cc
 
 pub performs_quiet : (v : View) (who : Who) (action : Action) → Each IsQuiet (performs v who action)
@@ -51,6 +52,7 @@ part_quiet p h (Told n) k = refl
 part_quiet p h (Dials q starter retries) k = refl
 part_quiet p h (Starts (Call t) q) k = no_start p h k
 part_quiet p h (Starts (Producer n) q) k = absurd cc
+part_quiet p h (Starts (Consumer n t) q) k = absurd cc
 part_quiet p h (Answers who verdict) k = no_verdict p h k
 part_quiet p h _ k = absurd cc
 

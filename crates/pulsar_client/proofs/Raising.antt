@@ -7,10 +7,12 @@ use Rattle.pulsar_plans.specs.declared.turn.Ways.{Ways}
 use Rattle.pulsar_producer.specs.Storage.{is_batching}
 use Rattle.pulsar_producer.specs.declared.content.Built.{Built}
 use Rattle.pulsar_calls.specs.declared.content.Building.{Building}
+use Rattle.pulsar_calls.specs.declared.content.Joining.{Joining}
+use Rattle.pulsar_calls.specs.Who.{ticket_of}
 use Rattle.pulsar_calls.specs.declared.act.Act.{Act}
 use Rattle.pulsar_calls.specs.declared.act.Act.TheVariants.{Comes, Starts, Told, Does, Answers, Dials}
 use Rattle.pulsar_calls.specs.declared.act.Action.{Action}
-use Rattle.pulsar_calls.specs.declared.act.Action.TheVariants.{Get, Wait, TakeTurn, Recall, Find, Flush, StopAll, Rest}
+use Rattle.pulsar_calls.specs.declared.act.Action.TheVariants.{Get, Wait, TakeTurn, Recall, Find, Flush, FindConsumer, RecallConsumer, StopAll, Rest}
 use Rattle.pulsar_calls.specs.declared.act.Alarm.{Alarm}
 use Rattle.pulsar_calls.specs.declared.act.Alarm.TheVariants.{Retry, Wake, Batch, KeepAlive, CheckIdle}
 use Rattle.pulsar_calls.specs.declared.act.Arrival.{Arrival}
@@ -22,29 +24,35 @@ use Rattle.pulsar_calls.specs.declared.act.Makes.{Makes}
 use Rattle.pulsar_calls.specs.declared.act.Makes.TheVariants as makes
 use Rattle.pulsar_calls.specs.declared.act.Verdict.{Verdict}
 use Rattle.pulsar_calls.specs.declared.act.Who.{Who}
-use Rattle.pulsar_calls.specs.declared.act.Who.TheVariants.{Call, Producer}
+use Rattle.pulsar_calls.specs.declared.act.Who.TheVariants.{Call, Consumer, Producer}
 use Rattle.pulsar_tables.specs.declared.addresses.Pause.{Pause}
 use Rattle.pulsar_tables.specs.declared.addresses.Series.{Series}
 use Rattle.pulsar_tables.specs.declared.addresses.Series.TheVariants.{Nobody, Runs, Pauses, Serves}
 use Rattle.pulsar_procedures.specs.declared.plan.Plan.{Plan}
 use Rattle.pulsar_procedures.specs.declared.plan.Turn.{Turn}
 use Rattle.pulsar_procedures.specs.declared.plan.Turn.TheVariants.{Stays, Gives}
+use Rattle.pulsar_tables.specs.declared.consumers.row.Sought.{Sought}
+use Rattle.pulsar_tables.specs.declared.consumers.row.Sought.TheVariants.{Found, Gone, Later}
 use Rattle.pulsar_tables.specs.declared.producers.Topic.{Topic}
 use Rattle.pulsar_tables.specs.Alarms.{rings}
+use Rattle.pulsar_tables.specs.Consumers as consumer
+use Rattle.pulsar_tables.specs.Consumers.{sought}
+use Rattle.pulsar_tables.specs.Reading.{recalled_said, serves_by, sought_said, tells}
 use Rattle.pulsar_calls.specs.Content.{Asked, shares}
 use Rattle.pulsar_procedures.specs.Plan.{begins}
 use Rattle.pulsar_tables.specs.Producers.{is_settled_at, link_at, recalled, turn_taken}
-use Rattle.pulsar_tables.specs.Rules.{at_once, batches_by, batches_from, breaks_at, called, does, finds, follows, follows_some, gets_from, grants, idle_act, is_idle, keeps_alive, left_with, may_ping, over_links, performs, recalls, rung, stop_act, takes_turn, tells, tries_again}
+use Rattle.pulsar_tables.specs.Rules.{at_once, batches_by, batches_from, breaks_at, called, does, finds, follows, follows_some, gets_from, grants, idle_act, is_idle, keeps_alive, left_with, may_ping, over_links, performs, recalls, rung, stop_act, takes_turn, tries_again}
 use Rattle.pulsar_tables.specs.View.{Seat, View, arrival_at, told_some, ways_of}
 use Rattle.pulsar_producer.specs.declared.deed.News.TheVariants as news
 use Rattle.pulsar_calls.specs.declared.act.Outcome.TheVariants as outcome
 use Rattle.pulsar_client.proofs.Acts.{Each, StartsIn, called_each, each_append, each_either, each_flat, over_each}
 
--- the plan of a call begins, or that of a topic producer's batches; one does something, or ends; one is told something; an attempt begins; a link ends by what came on it, for want of use or
+-- the plan of a call begins, that of a topic producer's batches, or that of a consumer; one does something, or ends; one is told something; an attempt begins; a link ends by what came on it, for want of use or
 -- with the client, or is asked for a sign of life; and what never arises at once
 pub data Kind : Type 0 where
   OfStart : Kind
   OfBatches : Kind
+  OfService : Kind
   OfDeed : Kind
   OfVerdict : Kind
   OfNotice : Kind
@@ -58,6 +66,7 @@ pub data Kind : Type 0 where
 abbrev pub kind : Act → Kind
 kind (Starts (Call t) p) = OfStart
 kind (Starts (Producer n) p) = OfBatches
+kind (Starts (Consumer n t) p) = OfService
 kind (Does who action) = OfDeed
 kind (Answers who verdict) = OfVerdict
 kind (Told n) = OfNotice
@@ -72,6 +81,7 @@ kind (Comes part) = OfPart
 abbrev pub may : Kind → Act → Bool
 may OfStart (Comes (Calls asked advice)) = true
 may OfBatches (Answers who verdict) = true
+may OfService (Answers who verdict) = true
 may OfDeed (Starts who p) = true
 may OfDeed (Told n) = true
 may OfVerdict (Comes (Calls asked advice)) = true
@@ -136,6 +146,15 @@ finds_raised : (who : Who) (n : ℕ) (row : Option ℕ) → Each (IsRaised (Does
 finds_raised who n None = (refl, tt)
 finds_raised who n (Some l) = (refl, tt)
 
+sought_raised : (who : Who) (t : ℕ) (s : Sought) → Each (IsRaised (Does who (FindConsumer t))) (sought_said who s)
+sought_raised who t (Found l) = (refl, tt)
+sought_raised who t Gone = (refl, tt)
+sought_raised who t Later = tt
+
+recalled_raised : (who : Who) (row : Option Command) → Each (IsRaised (Does who RecallConsumer)) (recalled_said who row)
+recalled_raised who None = (refl, tt)
+recalled_raised who (Some c) = (refl, tt)
+
 performs_raised : (v : View) (who : Who) (action : Action) → Each (IsRaised (Does who action)) (performs v who action)
 performs_raised v who (Get p) =
     let s : Series = (v.addresses.base (address_key p)).series in
@@ -146,6 +165,8 @@ performs_raised v who (Recall n) = recalls_raised who n (recalled v.producers n)
 performs_raised v who (Find n) = finds_raised who n (link_at (v.producers.topics n))
 performs_raised v who (Flush n) =
     each_either (IsRaised (Does who (Flush n))) (is_settled_at (v.producers.topics n)) (grants who news.Done) [] (refl, tt) tt
+performs_raised v who (FindConsumer t) = sought_raised who t (sought (v.consumers.rows t))
+performs_raised v who RecallConsumer = recalled_raised who (consumer.recalled (v.consumers.rows (ticket_of who)))
 performs_raised v who StopAll =
     each_append (IsRaised (Does who StopAll)) (over_links stop_act v.links) (tells who outcome.Stopped)
     (over_each (IsRaised (Does who StopAll)) stop_act v.links (λ l seat. (refl, tt))) (refl, tt)
@@ -186,7 +207,12 @@ from_each : (who : Who) (verdict : Verdict) (ways : Option Ways) (b : Building) 
 from_each who verdict None b = tt
 from_each who verdict (Some ways) b = batches_raised who verdict ways b.settings.block_queue_if_full b.parts
 
-left_raised : (who : Who) (verdict : Verdict) (ways : Option Ways) (m : Makes) → Each (IsRaised (Answers who verdict)) (left_with ways m)
+served_raised : (who : Who) (verdict : Verdict) (ways : Option Ways) (j : Joining) → Each (IsRaised (Answers who verdict)) (serves_by ways who j)
+served_raised who verdict None j = tt
+served_raised who verdict (Some ways) j = (refl, tt)
+
+left_raised : (who : Who) (verdict : Verdict) (ways : Option Ways) (m : Makes) → Each (IsRaised (Answers who verdict)) (left_with ways who m)
+left_raised who verdict ways (makes.Consumer j) = served_raised who verdict ways j
 left_raised who verdict ways (makes.Producer b) =
     each_either (IsRaised (Answers who verdict)) (is_batching b.settings) (batches_from ways b) [] (from_each who verdict ways b) tt
 left_raised who verdict ways _ = tt

@@ -4,7 +4,7 @@ use Rattle.std.specs.Option.{option_map}
 use Rattle.pulsar_session.specs.declared.states.Stage.{Stage}
 use Rattle.pulsar_session.specs.declared.states.Stage.TheVariants.{Dialing, Handshaking, Ready, Over}
 use Rattle.pulsar_session.specs.Link.{is_open}
-use Rattle.pulsar_tables.specs.Subscriptions.{IsHeard}
+use Rattle.pulsar_tables.specs.Consumers.{IsHeard}
 use Rattle.pulsar_client.specs.declared.tables.Tables.{Tables}
 use Rattle.pulsar_client.specs.Run.{Good, Step, view}
 use Rattle.pulsar_client.specs.Tables.{Stands, view_of}
@@ -54,7 +54,7 @@ module _ (v : View) (l : ℕ) (b : Bool) where
     (λ w. e),
   )
 
-  pub idle_waits : stage_of (v.links.live l) ≡ Some Ready → is_busy (v.links.live l) ≡ false → IsTrue b ↔ IsHeard l v.consumers → Right
+  pub idle_waits : stage_of (v.links.live l) ≡ Some Ready → is_busy (v.links.live l) ≡ false → IsTrue b ↔ IsHeard l v.consumers.rows → Right
   idle_waits h idle heard = (
     (λ t. (at_stage is_open (v.links.live l) Ready h, inr (inr (heard.0 t)))),
     (λ w. elim w.1 [

@@ -21,6 +21,10 @@ pub use crate::outside::source::{FailingSource, MemorySource, Source};
 pub use crate::pulsar::Pulsar;
 pub use pulsar_calls::effect::{Answer, Effect, Handed, Settlement};
 pub use pulsar_calls::event::{Call, Event};
+pub use pulsar_consumer::{
+    Consumer, ConsumerBuilder, ConsumerConfig, DeadLetterPolicy, DeserializeMessage,
+    InitialPosition, MessageData, SubType, TopicConsumer,
+};
 pub use pulsar_link::raw_call::RawCall;
 pub use pulsar_messages::{
     Authentication, ConsumerOptions, Message, ProducerMessage, ProducerOptions, RoutingPolicy,

@@ -5,8 +5,10 @@ ghost use Rattle.pulsar_calls.specs.Content.{Called, asked, heard, shown};
 ghost use Rattle.pulsar_client.specs.Run.{Good, Step, ticket_for, tickets_in, view};
 ghost use Rattle.pulsar_tables.specs.View.{Options, Waits, has_ended};
 ghost use Rattle.pulsar_client.specs.Tables.{answered, step};
-ghost use Rattle.std.specs.Option.{option_copied};
+ghost use Rattle.std.specs.Option.{option_copied, option_map};
 ghost use Rattle.pulsar_producer.specs.Wanted.{no_producer, producer_wanted};
+ghost use Rattle.pulsar_consumer.specs.Content.{consumer_wanted, no_consumer};
+ghost use Rattle.pulsar_tables.specs.Consumers.{built_at};
 ghost use Rattle.pulsar_client.specs.Client as meaning;
 ghost use Rattle.pulsar_client.specs.Client.{HasFailed, IsDead, StandsFor, options_of};
 ghost use Rattle.pulsar_client.specs.Taken.{IsTaken, taken_with};
@@ -17,6 +19,7 @@ use crate::settings::Settings;
 use crate::tables::Tables;
 use pulsar_calls::effect::Effect;
 use pulsar_calls::event::{Call, Event};
+use pulsar_consumer::{Consumer, ConsumerBuilder};
 use pulsar_producer::{Producer, ProducerBuilder};
 use pulsar_session::states::Stage;
 use pulsar_wire::error::NoMemory;
@@ -120,6 +123,20 @@ impl Pulsar {
         self.tables.producers.built.get(&ticket)
     }
 
+    /// A consumer that is to be built.
+    pub fn consumer(&self) -> ConsumerBuilder
+        ensures { consumer_wanted result ≡ no_consumer }
+    {
+        ConsumerBuilder::new(self.tables.alloc)
+    }
+
+    /// The consumer that the call of this ticket built.
+    pub fn consumer_at(&self, ticket: u64) -> Option<&Consumer>
+        ensures { (o : Options) (h : List Step) (taken : List ℕ) → StandsFor (λ p. routes p) o self.now h taken → (g : Good o h) → option_map (λ c. c.inner) (option_copied result) ≡ built_at ((view o g.log).consumers.rows ticket) }
+    {
+        self.tables.consumers.built(ticket)
+    }
+
     /// Where its memory comes from.
     pub(crate) fn allocator(&self) -> Global {
         self.tables.alloc
@@ -133,14 +150,14 @@ impl Pulsar {
     }
 
     /// A link of this number is open, and something waits for it: it is not ready yet, or a request of it waits for a reply, or
-    /// a raw consumer on it hears. It takes no memory.
+    /// a subscription on it is live. It takes no memory.
     pub fn link_waits(&self, link: u64) -> bool
         ensures { (o : Options) (h : List Step) (taken : List ℕ) → StandsFor (λ p. routes p) o self.now h taken → (g : Good o h) → IsTrue result ↔ Waits link (view o g.log) }
     {
         match self.tables.links.stage(link) {
             Some(Stage::Handshaking) => true,
             Some(Stage::Ready) => {
-                self.tables.links.is_busy(link) || self.tables.subscribers.hears_on(link)
+                self.tables.links.is_busy(link) || self.tables.consumers.hears_on(link)
             }
             Some(Stage::Dialing) => false,
             Some(Stage::Over) => false,

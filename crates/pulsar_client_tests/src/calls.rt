@@ -31,7 +31,7 @@ pub fn options(url: String, policies: Vec<Box<dyn CustomRoutingPolicy>>) -> Clie
 pub const LOCAL: &str = "pulsar://127.0.0.1:6650";
 
 /// The effects of each event.
-fn driven(alloc: Global, events: &[Event]) -> Result<Vec<Vec<Effect>>, NoMemory> {
+pub fn driven(alloc: Global, events: &[Event]) -> Result<Vec<Vec<Effect>>, NoMemory> {
     let options = options(String::from_str(alloc, LOCAL)?, Vec::new(alloc));
     Pulsar::drive(alloc, options, events)
 }

@@ -10,11 +10,11 @@ use std::alloc::Global;
 use std::test::Fail;
 
 /// A topic that has no partitions.
-const COUNT: &[u8] =
+pub const COUNT: &[u8] =
     b"\x00\x00\x00\x0f\x00\x00\x00\x0b\x08\x16\xb2\x01\x06\x08\x00\x10\x00\x18\x00";
 
 /// The broker of a topic.
-const BROKER: &[u8] =
+pub const BROKER: &[u8] =
     b"\x00\x00\x00\x28\x00\x00\x00\x24\x08\x18\xc2\x01\x1f\x0a\x17pulsar://127.0.0.1:6650\x18\x01\x20\x01\x28\x01";
 
 /// A producer was made.

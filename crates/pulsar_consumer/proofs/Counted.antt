@@ -1,91 +1,83 @@
 -- What remains of permits is what was granted, less what was begun.
-use Rattle.std.proofs.Common.{◌≡◌, ◌∙◌, sym, ap, refl, subst, ℕ, ◌+◌, ◌-◌, ◌^◌, ◌<◌, ◌≤◌, nat_lt, Bool, true, false, cond, List, [], ◌∷◌, ◌++◌, length, Option, Some, None, unwrap_or, arith}
+use Rattle.std.proofs.Common.{◌≡◌, ◌∙◌, sym, ap, refl, subst, ℕ, ◌+◌, ◌-◌, ◌≤◌, nat_lt, Bool, true, false, cond, List, [], ◌∷◌, ◌++◌, Option, Some, None, unwrap_or, arith}
 use Rattle.std.proofs.lemmas.Bool.Decides.{nat_tests}
-use Rattle.std.proofs.lemmas.List.{append-nil, append_assoc, drop_at, get_or_append_left, length-append}
-use Rattle.std.proofs.lemmas.List.Elements.{All-drop, All-head, All-tail}
+use Rattle.std.proofs.lemmas.List.{append-nil}
 use Rattle.std.proofs.lemmas.List.Sums.{sum_by-append, sum_by-cons, sum_by_push}
-use Rattle.std.specs.List.{All, sum}
+use Rattle.std.specs.List.{sum}
 use Rattle.std.specs.Option.{option_map}
 use Rattle.url.specs.Parts.{Parts}
 use Rattle.pulsar_link.specs.Items.{Item}
 use Rattle.pulsar_consumer.specs.Frames.{Frame, failed}
 use Rattle.pulsar_consumer.specs.Laws.{PermitsAreCounted, arrivals, asked_since, begun, weighed_before, weights}
-use Rattle.pulsar_consumer.specs.Topic.{Act, Lives, Hears, Loses, Fails, Ends, Polls, Asks, Engine, Live, Seen, Setup, asked, batch_size, begins, behind, ends, finish, finishes, finishes_by, first_due, first_in, first_of, gives, gives_from, goes_on, half, hears, is_ended, lives_on, no_items, permits, places, seen, subscribed}
+use Rattle.pulsar_consumer.specs.Topic.{Act, Lives, Hears, Loses, Fails, Ends, Polls, Asks, Engine, Live, Seen, Setup, asked, batch_size, begins, behind, ends, finish, finishes, finishes_by, first_due, first_in, first_of, gives, gives_from, goes_on, half, hears, is_ended, lives_on, no_items, places, seen, subscribed}
 use Rattle.pulsar_consumer.specs.declared.polled.Ending.TheVariants.{LinkLost, NotSubscribed}
 use Rattle.pulsar_consumer.proofs.Begun.{frames_begin_in_turn}
 use Rattle.pulsar_consumer.proofs.Held.{next_of}
 use Rattle.pulsar_consumer.proofs.Histories.{counted_same, grants}
-use Rattle.pulsar_consumer.proofs.Permits.{Bounded, begin_bounded, finish_bounded, flows_fit}
-
--- a frame that weighs no more than entries can be counted
-abbrev IsSmall : Frame → Type 0
-IsSmall f = f.weight < 2 ^ 31
+use Rattle.pulsar_consumer.proofs.Permits.{Bounded, begin_bounded, finish_bounded}
 
 -- Of frames that weigh so much in all, those that wait have no part in what remains. These flows were asked for or stood before.
 abbrev Counted : (all flows : ℕ) → List Frame → Option Live → Type 0
 Counted all flows waiting None = Unit {0}
-Counted all flows waiting (Some l) = (l.weight < 2 ^ 31) × (l.level + all ≡ l.weight + (flows + sum l.due) + weights waiting)
+Counted all flows waiting (Some l) = l.level + all ≡ l.weight + (flows + sum l.due) + weights waiting
 
-finishes_counted : (all flows batch : ℕ) (waiting : List Frame) (l : Live) → batch < 2 ^ 32 → l.level ≤ batch → half batch ≤ l.level → Counted all flows waiting (Some l) →
+finishes_counted : (all flows batch : ℕ) (waiting : List Frame) (l : Live) → l.level ≤ batch → Counted all flows waiting (Some l) →
     Counted all flows waiting (Some (finishes_by batch l)) × ((finishes_by batch l).weight ≡ 0)
-finishes_counted all flows batch waiting l fits most least is = by (nat_lt l.level (half batch + l.weight)) refl
+finishes_counted all flows batch waiting l most is = by (nat_lt l.level (half batch + l.weight)) refl
   where
     more : Live
-    more = record l { level = batch; weight = 0; due = l.due ++ permits (batch + l.weight - l.level) ∷ [] }
+    more = record l { level = batch; weight = 0; due = l.due ++ (batch + l.weight - l.level) ∷ [] }
 
     less : Live
     less = record l { level = l.level - l.weight; weight = 0 }
 
     by : (c : Bool) → nat_lt l.level (half batch + l.weight) ≡ c → Counted all flows waiting (Some (cond c more less)) × ((cond c more less).weight ≡ 0)
     by true low =
-        let whole = flows_fit batch l.level l.weight fits is.0 least in
-        let due = sum_by_push (λ n. n) l.due (permits (batch + l.weight - l.level)) in
-        let old = is.1 in
-        ((omega arith, omega (arith, whole, due, old, most)), refl)
+        let due = sum_by_push (λ n. n) l.due (batch + l.weight - l.level) in
+        (omega (arith, due, is, most), refl)
     by false enough =
         let above : half batch + l.weight ≤ l.level = grind (arith, nat_tests) in
-        let old = is.1 in
-        ((omega arith, omega (arith, above, old)), refl)
+        (omega (arith, above, is), refl)
 
 abbrev Lightened : (all flows : ℕ) → List Frame → Option Live → Type 0
 Lightened all flows waiting None = Unit {0}
 Lightened all flows waiting (Some l) = Counted all flows waiting (Some l) × (l.weight ≡ 0)
 
-finish_counted : (all flows : ℕ) (o : Option ℕ) (batch : ℕ) (waiting : List Frame) (l : Option Live) → o ≡ Some batch → batch < 2 ^ 32 → Bounded batch l → Counted all flows waiting l →
+finish_counted : (all flows : ℕ) (o : Option ℕ) (batch : ℕ) (waiting : List Frame) (l : Option Live) → o ≡ Some batch → Bounded batch l → Counted all flows waiting l →
     Lightened all flows waiting (option_map (finishes o) l)
-finish_counted all flows None batch waiting l same fits bounds is = absurd cc
-finish_counted all flows (Some b) batch waiting None same fits bounds is = tt
-finish_counted all flows (Some b) batch waiting (Some l) same fits bounds is =
+finish_counted all flows None batch waiting l same bounds is = absurd cc
+finish_counted all flows (Some b) batch waiting None same bounds is = tt
+finish_counted all flows (Some b) batch waiting (Some l) same bounds is =
     let e : b ≡ batch = cc in
-    subst (λ n. Counted all flows waiting (Some (finishes_by n l)) × ((finishes_by n l).weight ≡ 0)) (sym e) (finishes_counted all flows batch waiting l fits bounds.0 bounds.1 is)
+    subst (λ n. Counted all flows waiting (Some (finishes_by n l)) × ((finishes_by n l).weight ≡ 0)) (sym e) (finishes_counted all flows batch waiting l bounds.0 is)
 
-begin_counted : (all flows : ℕ) (f : Frame) (fs : List Frame) (l : Option Live) → IsSmall f → Lightened all flows (f ∷ fs) l → Counted all flows fs (option_map (begins f.weight) l)
-begin_counted all flows f fs None small is = tt
-begin_counted all flows f fs (Some l) small is =
+begin_counted : (all flows : ℕ) (f : Frame) (fs : List Frame) (l : Option Live) → Lightened all flows (f ∷ fs) l → Counted all flows fs (option_map (begins f.weight) l)
+begin_counted all flows f fs None is = tt
+begin_counted all flows f fs (Some l) is =
     let one = sum_by-cons (λ f. f.weight) f fs in
     let zero = is.1 in
-    let old = is.0.1 in
-    (small, omega (arith, one, zero, old))
+    let old = is.0 in
+    omega (arith, one, zero, old)
 
 counted_light : (all flows : ℕ) (waiting : List Frame) (l : Option Live) → Lightened all flows waiting l → Counted all flows waiting l
 counted_light all flows waiting None is = tt
 counted_light all flows waiting (Some l) is = is.0
 
-goes_counted : (all flows batch : ℕ) (fs : List Frame) (e : Engine) → e.waiting ≡ fs → e.batch ≡ Some batch → batch < 2 ^ 32 → All IsSmall fs → Bounded batch e.live → Counted all flows fs e.live →
+goes_counted : (all flows batch : ℕ) (fs : List Frame) (e : Engine) → e.waiting ≡ fs → e.batch ≡ Some batch → Bounded batch e.live → Counted all flows fs e.live →
     Counted all flows (goes_on fs e).waiting (goes_on fs e).live
-goes_counted all flows batch [] e w size fits small bounds is = by (no_items e.rest)
+goes_counted all flows batch [] e w size bounds is = by (no_items e.rest)
   where
     same : Counted all flows e.waiting e.live
     same = subst (λ fs. Counted all flows fs e.live) (sym w) is
 
     by : (b : Bool) → Counted all flows (cond b (finish e) e).waiting (cond b (finish e) e).live
-    by true = counted_light all flows e.waiting (finish e).live (finish_counted all flows e.batch batch e.waiting e.live size fits bounds same)
+    by true = counted_light all flows e.waiting (finish e).live (finish_counted all flows e.batch batch e.waiting e.live size bounds same)
     by false = same
-goes_counted all flows batch (f ∷ fs) e w size fits small bounds is =
+goes_counted all flows batch (f ∷ fs) e w size bounds is =
     by (no_items e.rest)
-    (goes_counted all flows batch fs (next_of f fs e) refl size fits (All-tail IsSmall f fs small)
+    (goes_counted all flows batch fs (next_of f fs e) refl size
     (begin_bounded batch f.weight (finish e).live (finish_bounded e.batch batch e.live size bounds).0)
-    (begin_counted all flows f fs (finish e).live (All-head IsSmall f fs small) (finish_counted all flows e.batch batch (f ∷ fs) e.live size fits bounds is)))
+    (begin_counted all flows f fs (finish e).live (finish_counted all flows e.batch batch (f ∷ fs) e.live size bounds is)))
   where
     by : (b : Bool) → Counted all flows (goes_on fs (next_of f fs e)).waiting (goes_on fs (next_of f fs e)).live →
         Counted all flows (cond b (goes_on fs (next_of f fs e)) e).waiting (cond b (goes_on fs (next_of f fs e)) e).live
@@ -97,13 +89,12 @@ waits_counted : (all flows : ℕ) (waiting : List Frame) (f : Frame) (l : Option
 waits_counted all flows waiting f None is = tt
 waits_counted all flows waiting f (Some l) is =
     let more = sum_by_push (λ f. f.weight) waiting f in
-    let old = is.1 in
-    (is.0, omega (arith, more, old))
+    omega (arith, more, is)
 
 -- a flow that is asked for is due no longer
 asked_counted : (all flows : ℕ) (waiting : List Frame) (l : Option Live) → Counted all flows waiting l → Counted all (flows + unwrap_or (first_due l) 0) waiting (option_map asked l)
 asked_counted all flows waiting None is = tt
-asked_counted all flows waiting (Some l) is = (is.0, by l.due is.1)
+asked_counted all flows waiting (Some l) is = by l.due is
   where
     by : (due : List ℕ) → l.level + all ≡ l.weight + (flows + sum due) + weights waiting →
         l.level + all ≡ l.weight + (flows + unwrap_or (first_in due) 0 + sum (behind due)) + weights waiting
@@ -116,36 +107,29 @@ recounted all all' flows flows' waiting l same also is = subst (λ n. Counted al
 
 -- AN ENGINE THAT GOES ON
 
-heard_counted : (all flows batch : ℕ) (f : Frame) (e : Engine) → e.batch ≡ Some batch → batch < 2 ^ 32 → All IsSmall (e.waiting ++ f ∷ []) → Bounded batch e.live → Counted all flows e.waiting e.live →
+heard_counted : (all flows batch : ℕ) (f : Frame) (e : Engine) → e.batch ≡ Some batch → Bounded batch e.live → Counted all flows e.waiting e.live →
     Counted (all + f.weight) flows (hears f e).waiting (hears f e).live
-heard_counted all flows batch f e size fits small bounds is =
-    goes_counted (all + f.weight) flows batch (e.waiting ++ f ∷ []) (places (record e { waiting = e.waiting ++ f ∷ [] })) refl size fits small bounds
+heard_counted all flows batch f e size bounds is =
+    goes_counted (all + f.weight) flows batch (e.waiting ++ f ∷ []) (places (record e { waiting = e.waiting ++ f ∷ [] })) refl size bounds
     (waits_counted all flows e.waiting f e.live is)
 
-gave_counted : (all flows batch : ℕ) (us : List Item) (e : Engine) → e.batch ≡ Some batch → batch < 2 ^ 32 → All IsSmall e.waiting → Bounded batch e.live → Counted all flows e.waiting e.live →
+gave_counted : (all flows batch : ℕ) (us : List Item) (e : Engine) → e.batch ≡ Some batch → Bounded batch e.live → Counted all flows e.waiting e.live →
     Counted all flows (gives_from us e).waiting (gives_from us e).live
-gave_counted all flows batch [] e size fits small bounds is = is
-gave_counted all flows batch (x ∷ xs) e size fits small bounds is =
-    goes_counted all flows batch e.waiting (places (record e { unread = xs })) refl size fits small bounds is
+gave_counted all flows batch [] e size bounds is = is
+gave_counted all flows batch (x ∷ xs) e size bounds is =
+    goes_counted all flows batch e.waiting (places (record e { unread = xs })) refl size bounds is
 
 lives_counted : (flows batch link : ℕ) (url : Parts) (o : Option ℕ) (fs waiting : List Frame) → o ≡ Some batch → flows ≡ 0 + weights fs →
     Counted (weights (fs ++ waiting)) flows waiting (Some (subscribed o link url))
 lives_counted flows batch link url None fs waiting size same = absurd cc
 lives_counted flows batch link url (Some b) fs waiting size same =
     let both = sum_by-append (λ f. f.weight) fs waiting in
-    (omega arith, omega (arith, both, same))
+    omega (arith, both, same)
 
 -- HISTORIES
 
-small_left : (xs ys : List Frame) → All IsSmall (xs ++ ys) → All IsSmall xs
-small_left xs ys h k d lt =
-    let more = length-append xs ys in subst IsSmall (get_or_append_left xs ys d k lt) (h k d (omega (arith, lt, more)))
-
-small_right : (xs ys : List Frame) → All IsSmall (xs ++ ys) → All IsSmall ys
-small_right xs ys h = subst (All IsSmall) (drop_at xs ys (length xs) refl) (All-drop IsSmall (length xs) (xs ++ ys) h)
-
 -- of these arrivals some are begun, and the others wait
-module _ (s : Setup) (raw : s.is_raw ≡ false) (fits : batch_size s.config < 2 ^ 32) where
+module _ (s : Setup) (raw : s.is_raw ≡ false) where
   abbrev Holds : List Frame → (flows : ℕ) → Engine → Type 0
   Holds fs flows e = Counted (weights fs) flows e.waiting e.live
 
@@ -154,17 +138,16 @@ module _ (s : Setup) (raw : s.is_raw ≡ false) (fits : batch_size s.config < 2 
   as_before fs flows flows' e same is = recounted (weights fs) (weights (fs ++ [])) flows flows' e.waiting e.live (ap weights (sym (append-nil fs))) same is
 
   -- a frame came
-  heard : (h : List Act) (f : Frame) (flows : ℕ) → All IsSmall (arrivals s h ++ f ∷ []) → Holds (arrivals s h) flows (seen s h).engine → Holds (arrivals s h ++ f ∷ []) flows (hears f (seen s h).engine)
-  heard h f flows small is =
+  heard : (h : List Act) (f : Frame) (flows : ℕ) → Holds (arrivals s h) flows (seen s h).engine → Holds (arrivals s h ++ f ∷ []) flows (hears f (seen s h).engine)
+  heard h f flows is =
       let e = (seen s h).engine in
       let all = grants s h raw in
-      let waits : All IsSmall (e.waiting ++ f ∷ []) = small_right (begun s h) (e.waiting ++ f ∷ []) (subst (All IsSmall) (ap (λ fs. fs ++ f ∷ []) (frames_begin_in_turn s h) ∙ append_assoc (begun s h) e.waiting (f ∷ [])) small) in
       recounted (weights (arrivals s h) + f.weight) (weights (arrivals s h ++ f ∷ [])) flows flows (hears f e).waiting (hears f e).live (sym (sum_by_push (λ f. f.weight) (arrivals s h) f)) refl
-      (heard_counted (weights (arrivals s h)) flows (batch_size s.config) f e all.0 fits waits all.1.0 is)
+      (heard_counted (weights (arrivals s h)) flows (batch_size s.config) f e all.0 all.1.0 is)
 
-  counted : (h : List Act) → All IsSmall (arrivals s h) → Holds (arrivals s h) (asked_since s h + weighed_before s h) (seen s h).engine
-  counted [] small = tt
-  counted (Lives link url ∷ h) small = by (is_ended v) (counted h (small_left (arrivals s h) [] small))
+  counted : (h : List Act) → Holds (arrivals s h) (asked_since s h + weighed_before s h) (seen s h).engine
+  counted [] = tt
+  counted (Lives link url ∷ h) = by (is_ended v) (counted h)
     where
       v : Seen
       v = seen s h
@@ -179,7 +162,7 @@ module _ (s : Setup) (raw : s.is_raw ≡ false) (fits : batch_size s.config < 2 
           (cond b v (record v { engine = record v.engine { live = Some (subscribed v.engine.batch link url) } })).engine
       by true is = as_before (arrivals s h) _ _ v.engine refl is
       by false is = lived
-  counted (Hears link f ∷ h) small = by (lives_on link v) small (λ few. counted h few)
+  counted (Hears link f ∷ h) = by (lives_on link v) (counted h)
     where
       v : Seen
       v = seen s h
@@ -187,11 +170,11 @@ module _ (s : Setup) (raw : s.is_raw ≡ false) (fits : batch_size s.config < 2 
       flows : ℕ
       flows = asked_since s h + weighed_before s h
 
-      by : (b : Bool) → All IsSmall (arrivals s h ++ cond b (f ∷ []) []) → (All IsSmall (arrivals s h) → Holds (arrivals s h) flows v.engine) →
+      by : (b : Bool) → Holds (arrivals s h) flows v.engine →
           Holds (arrivals s h ++ cond b (f ∷ []) []) flows (cond b (record v { engine = hears f v.engine }) v).engine
-      by true small is = heard h f flows small (is (small_left (arrivals s h) (f ∷ []) small))
-      by false small is = as_before (arrivals s h) flows flows v.engine refl (is (small_left (arrivals s h) [] small))
-  counted (Loses link ∷ h) small = by (lives_on link v) v.is_raw (counted h (small_left (arrivals s h) [] small))
+      by true is = heard h f flows is
+      by false is = as_before (arrivals s h) flows flows v.engine refl is
+  counted (Loses link ∷ h) = by (lives_on link v) v.is_raw (counted h)
     where
       v : Seen
       v = seen s h
@@ -204,7 +187,7 @@ module _ (s : Setup) (raw : s.is_raw ≡ false) (fits : batch_size s.config < 2 
       by true true is = tt
       by true false is = tt
       by false c is = as_before (arrivals s h) flows flows v.engine refl is
-  counted (Fails f ∷ h) small = by (is_ended v) small (λ few. counted h few)
+  counted (Fails f ∷ h) = by (is_ended v) (counted h)
     where
       v : Seen
       v = seen s h
@@ -212,30 +195,27 @@ module _ (s : Setup) (raw : s.is_raw ≡ false) (fits : batch_size s.config < 2 
       flows : ℕ
       flows = asked_since s h + weighed_before s h
 
-      by : (b : Bool) → All IsSmall (arrivals s h ++ cond b [] (failed f ∷ [])) → (All IsSmall (arrivals s h) → Holds (arrivals s h) flows v.engine) →
+      by : (b : Bool) → Holds (arrivals s h) flows v.engine →
           Holds (arrivals s h ++ cond b [] (failed f ∷ [])) flows (cond b v (ends NotSubscribed (record v { engine = hears (failed f) v.engine }))).engine
-      by true small is = as_before (arrivals s h) flows flows v.engine refl (is (small_left (arrivals s h) [] small))
-      by false small is = tt
-  counted (Ends why ∷ h) small = tt
-  counted (Polls clock ∷ h) small =
+      by true is = as_before (arrivals s h) flows flows v.engine refl is
+      by false is = tt
+  counted (Ends why ∷ h) = tt
+  counted (Polls clock ∷ h) =
       let v = seen s h in
-      let few = small_left (arrivals s h) [] small in
       let all = grants s h raw in
       let flows = asked_since s h + weighed_before s h in
-      let waits : All IsSmall v.engine.waiting = small_right (begun s h) v.engine.waiting (subst (All IsSmall) (frames_begin_in_turn s h) few) in
       subst (Holds (arrivals s h ++ []) flows) (sym (counted_same (first_of v.engine.unread) clock (record v { engine = gives v.engine })).0)
       (as_before (arrivals s h) flows flows (gives v.engine) refl
-      (gave_counted (weights (arrivals s h)) flows (batch_size s.config) v.engine.unread v.engine all.0 fits waits all.1.0 (counted h few)))
-  counted (Asks ∷ h) small =
+      (gave_counted (weights (arrivals s h)) flows (batch_size s.config) v.engine.unread v.engine all.0 all.1.0 (counted h)))
+  counted (Asks ∷ h) =
       let v = seen s h in
       let first = unwrap_or (first_due v.engine.live) 0 in
       as_before (arrivals s h) (asked_since s h + weighed_before s h + first) (asked_since s h + first + weighed_before s h) (record v.engine { live = option_map asked v.engine.live }) (omega arith)
-      (asked_counted (weights (arrivals s h)) (asked_since s h + weighed_before s h) v.engine.waiting v.engine.live (counted h (small_left (arrivals s h) [] small)))
+      (asked_counted (weights (arrivals s h)) (asked_since s h + weighed_before s h) v.engine.waiting v.engine.live (counted h))
 
 pub permits_are_counted : PermitsAreCounted
-permits_are_counted s h l raw fits small is =
+permits_are_counted s h l raw is =
     let e = (seen s h).engine in
-    let all : Counted (weights (arrivals s h)) (asked_since s h + weighed_before s h) e.waiting (Some l) = subst (Counted (weights (arrivals s h)) (asked_since s h + weighed_before s h) e.waiting) is (counted s raw fits h small) in
-    let whole = all.1 in
+    let all : Counted (weights (arrivals s h)) (asked_since s h + weighed_before s h) e.waiting (Some l) = subst (Counted (weights (arrivals s h)) (asked_since s h + weighed_before s h) e.waiting) is (counted s raw h) in
     let both : weights (arrivals s h) ≡ weights (begun s h) + weights e.waiting = ap weights (frames_begin_in_turn s h) ∙ sum_by-append (λ f. f.weight) (begun s h) e.waiting in
-    omega (arith, whole, both)
+    omega (arith, all, both)

@@ -1,8 +1,10 @@
 pub mod Begun
 pub mod Counted
+pub mod Drawing
 pub mod Going
+pub mod Having
 pub mod Held
 pub mod Histories
-pub mod Items
 pub mod Permits
 pub mod Placing
+pub mod Yields

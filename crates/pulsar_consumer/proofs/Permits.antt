@@ -4,9 +4,8 @@ use Rattle.std.proofs.lemmas.Bool.Decides.{nat_tests}
 use Rattle.std.specs.Option.{option_map}
 use Rattle.pulsar_link.specs.Items.{Item}
 use Rattle.pulsar_consumer.specs.Frames.{Frame}
-use Rattle.pulsar_consumer.specs.Laws.{FlowsFit}
 use Rattle.pulsar_consumer.proofs.Held.{next_of}
-use Rattle.pulsar_consumer.specs.Topic.{Engine, Live, asked, begins, behind, finish, finishes, finishes_by, gives, gives_from, goes_on, half, hears, no_items, permits, places}
+use Rattle.pulsar_consumer.specs.Topic.{Engine, Live, asked, begins, behind, finish, finishes, finishes_by, gives, gives_from, goes_on, half, hears, no_items, places}
 
 -- WHAT AN ENGINE KEEPS
 
@@ -78,7 +77,7 @@ finishes_by_bounded : (batch : ℕ) (l : Live) → l.level ≤ batch → half ba
 finishes_by_bounded batch l most least = by (nat_lt l.level (half batch + l.weight)) refl
   where
     more : Live
-    more = record l { level = batch; weight = 0; due = l.due ++ permits (batch + l.weight - l.level) ∷ [] }
+    more = record l { level = batch; weight = 0; due = l.due ++ (batch + l.weight - l.level) ∷ [] }
 
     less : Live
     less = record l { level = l.level - l.weight; weight = 0 }
@@ -125,9 +124,6 @@ gives_bounded e batch is all = gives_from_bounded e.unread e batch is all
 
 pub subscribed_bounded : (batch : ℕ) → half batch ≤ batch
 subscribed_bounded batch = half_below batch
-
-pub flows_fit : FlowsFit
-flows_fit batch level weight b w l = grind (arith, b, w, l)
 
 -- A RAW ONE ASKS FOR NOTHING
 

@@ -7,6 +7,8 @@ use Rattle.pulsar_wire.specs.Rows.{message_id}
 use Rattle.pulsar_wire.specs.Views.{message_id_values}
 use Rattle.pulsar_wire.specs.declared.commands.enumerations.SubType.{SubType}
 use Rattle.pulsar_wire.specs.declared.commands.enumerations.SubType.TheVariants.{Exclusive}
+use Rattle.pulsar_frame.specs.Batch.{num_messages_in_batch}
+use Rattle.pulsar_frame.specs.Payload.{PayloadValues}
 use Rattle.pulsar_messages.specs.Content.{ConsumerOptionsValues, consumer_options_values, empty_consumer_options}
 use Rattle.pulsar_consumer.specs.declared.builder.ConsumerBuilder.{ConsumerBuilder}
 use Rattle.pulsar_consumer.specs.declared.config.ConsumerConfig.{ConsumerConfig}
@@ -20,6 +22,10 @@ pub record MessageDataValues : Type 0 where
 
 abbrev pub message_data_values : MessageData → MessageDataValues
 message_data_values d = record { id = message_id_values d.id; batch_size = d.batch_size }
+
+-- that of a message: its batch has as many entries as is said of its payload
+abbrev pub data_of : Values message_id → PayloadValues → MessageDataValues
+data_of id p = record { id = id; batch_size = num_messages_in_batch p.metadata }
 
 -- how often a message is given again before it goes to another topic, and that topic
 pub record DeadLetterValues : Type 0 where

@@ -1,10 +1,9 @@
 -- What follows of every history of a consumer, in plain words. `h` has the acts of a history, newest first, and `later` those behind them.
-use Rattle.std.specs.Prelude.{◌≡◌, ℕ, ◌+◌, ◌-◌, ◌^◌, ◌<◌, ◌≤◌, nat_lt, true, false, if◌then◌else◌, List, [], ◌∷◌, ◌++◌, length, take, drop, Some, None, unwrap_or}
-use Rattle.std.specs.List.{All, flat_map, sum, sum_by}
-use Rattle.pulsar_frame.specs.Message.{MessageValues}
-use Rattle.pulsar_link.specs.Items.{Item, items_in}
-use Rattle.pulsar_consumer.specs.Frames.{Frame, failed, frame}
-use Rattle.pulsar_consumer.specs.Topic.{Act, Lives, Hears, Loses, Fails, Ends, Polls, Asks, Live, Seen, Setup, batch_size, first_due, first_of, half, is_ended, link_of, lives_on, permits, polled, polled_from, queue_of, seen}
+use Rattle.std.specs.Prelude.{◌≡◌, ℕ, ◌+◌, ◌-◌, ◌≤◌, nat_lt, true, false, if◌then◌else◌, List, [], ◌∷◌, ◌++◌, length, take, drop, Some, None, unwrap_or}
+use Rattle.std.specs.List.{flat_map, sum, sum_by}
+use Rattle.pulsar_link.specs.Items.{Item}
+use Rattle.pulsar_consumer.specs.Frames.{Frame, failed}
+use Rattle.pulsar_consumer.specs.Topic.{Act, Lives, Hears, Loses, Fails, Ends, Polls, Asks, Live, Seen, Setup, batch_size, first_due, first_of, half, is_ended, link_of, lives_on, polled, polled_from, queue_of, seen}
 use Rattle.pulsar_consumer.specs.declared.polled.Ending.{Ending}
 use Rattle.pulsar_consumer.specs.declared.polled.Polled.{Polled}
 use Rattle.pulsar_consumer.specs.declared.polled.Polled.TheVariants as poll
@@ -16,10 +15,6 @@ abbrev pub StandsFor : Seen → Setup → List Act → Type 0
 StandsFor v s h = v ≡ seen s h
 
 -- ITEMS
-
--- A message gives what is said of its frame.
-abbrev pub FramesGiveItems : Type 0
-FramesGiveItems = (m : MessageValues) → (frame m).items ≡ items_in m
 
 -- what arrives by an act: a message on the link of its live subscription, or why it could not be subscribed again
 abbrev pub arrives_by : Act → Seen → List Frame
@@ -129,16 +124,10 @@ weighed_before s (Polls clock ∷ h) = weighed_before s h
 weighed_before s (Asks ∷ h) = weighed_before s h
 
 -- What remains of the permits of a live subscription: its flows, those that were asked for since it was made and those that are due, less
--- what the frames weigh that were begun since then. A batch size has 32 bits, and what a frame weighs is a number of entries.
+-- what the frames weigh that were begun since then.
 abbrev pub PermitsAreCounted : Type 0
-PermitsAreCounted = (s : Setup) (h : List Act) (l : Live) → s.is_raw ≡ false → batch_size s.config < 2 ^ 32 →
-    All (λ f. f.weight < 2 ^ 31) (arrivals s h) → (seen s h).engine.live ≡ Some l →
+PermitsAreCounted = (s : Setup) (h : List Act) (l : Live) → s.is_raw ≡ false → (seen s h).engine.live ≡ Some l →
     l.level + weights (begun s h) ≡ l.weight + (asked_since s h + sum l.due) + weighed_before s h
-
--- The permits of a flow fit 32 bits, so none is cut.
-abbrev pub FlowsFit : Type 0
-FlowsFit = (batch level weight : ℕ) → batch < 2 ^ 32 → weight < 2 ^ 31 → half batch ≤ level →
-    permits (batch + weight - level) ≡ batch + weight - level
 
 -- A raw consumer asks for no flow.
 abbrev pub RawAsksForNothing : Type 0

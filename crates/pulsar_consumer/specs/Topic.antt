@@ -1,10 +1,11 @@
 -- A consumer of one topic: what is done to it, what is seen of it, and what it answers. It knows links and numbers, and never who asks.
 -- (Pulsar binary protocol, Consumer: Flow control; PulsarApi.proto, CommandFlow)
-use Rattle.std.specs.Prelude.{ℕ, ◌+◌, ◌-◌, ◌/◌, ◌^◌, nat_lt, min, Bool, true, false, not, ◌&&◌, ◌==◌, if◌then◌else◌, List, [], ◌∷◌, ◌++◌, length, take, drop, Option, Some, None, unwrap_or}
+use Rattle.std.specs.Prelude.{ℕ, ◌+◌, ◌-◌, ◌/◌, nat_lt, Bool, true, false, not, ◌&&◌, ◌==◌, if◌then◌else◌, List, [], ◌∷◌, ◌++◌, length, take, drop, Option, Some, None, unwrap_or}
 use Rattle.std.specs.Option.{is_some, option_map, option_or}
 use Rattle.url.specs.Parts.{Parts}
 use Rattle.pulsar_wire.specs.Sink.{capped}
 use Rattle.pulsar_link.specs.Items.{Item, Given, Faulty}
+use Rattle.pulsar_link.specs.Request.{Subscribed}
 use Rattle.pulsar_session.specs.Failures.{Failure}
 use Rattle.pulsar_consumer.specs.Content.{ConfigValues}
 use Rattle.pulsar_consumer.specs.Frames.{Frame, failed}
@@ -31,10 +32,6 @@ batch_size c = unwrap_or c.batch_size 1000
 abbrev pub half : ℕ → ℕ
 half batch = batch - batch / 2
 
--- a flow says its permits in 32 bits
-abbrev pub permits : ℕ → ℕ
-permits n = min n (2 ^ 32 - 1)
-
 -- a new subscription asks for a flow of the batch size, where permits are granted
 abbrev pub subscribed : (batch : Option ℕ) (link : ℕ) → Parts → Live
 subscribed None link url = record { link = link; url = url; level = 0; weight = 0; due = [] }
@@ -47,7 +44,7 @@ begins w l = record l { weight = w }
 -- Once it is finished, a flow brings the permits up to the batch size again where less than half of them are left.
 abbrev pub finishes_by : (batch : ℕ) → Live → Live
 finishes_by batch l =
-    if nat_lt l.level (half batch + l.weight) then record l { level = batch; weight = 0; due = l.due ++ permits (batch + l.weight - l.level) ∷ [] }
+    if nat_lt l.level (half batch + l.weight) then record l { level = batch; weight = 0; due = l.due ++ (batch + l.weight - l.level) ∷ [] }
     else record l { level = l.level - l.weight; weight = 0 }
 
 abbrev pub finishes : (batch : Option ℕ) → Live → Live
@@ -149,6 +146,26 @@ pub record Setup : Type 0 where
   pub config : ConfigValues
   pub is_raw : Bool
 
+-- the consumer that a raw call makes
+abbrev pub of_raw : Subscribed → Setup
+of_raw s =
+    record {
+      topic = s.topic;
+      number = s.consumer;
+      config =
+          record {
+            subscription = s.subscription;
+            sub_type = s.sub_type;
+            batch_size = None;
+            consumer_name = s.name;
+            consumer_id = Some s.consumer;
+            unacked_message_redelivery_delay = None;
+            options = s.options;
+            dead_letter_policy = None;
+          };
+      is_raw = true;
+    }
+
 -- and why it has ended, how many messages it gave, and when it gave the last
 pub record Seen : Type 0 where
   pub topic : List ℕ
@@ -200,6 +217,10 @@ is_on link (Some l) = l == link
 abbrev pub lives_on : (link : ℕ) → Seen → Bool
 lives_on link v = is_on link (link_of v)
 
+-- a flow is to be asked for
+abbrev pub is_due : Seen → Bool
+is_due v = is_some (first_due v.engine.live)
+
 -- it has ended, or a subscription of it is to be made again once the one on this link is lost
 abbrev pub is_ended : Seen → Bool
 is_ended v = is_some v.ended
@@ -219,7 +240,7 @@ polled v = polled_from (first_of v.engine.unread) v.ended
 
 -- an item that is no error counts as a message that was received
 abbrev pub is_message : Item → Bool
-is_message (Given id metadata payload) = true
+is_message (Given id batch_size metadata payload) = true
 is_message (Faulty f) = false
 
 abbrev pub counts : (clock : ℕ) → Item → Seen → Seen

@@ -1,7 +1,7 @@
 //! What a consumer holds: the frames that came for it, as far as they are not given, and the permits of its subscription.
 
 ghost use Rattle.std.specs.Prelude.{◌≡◌, ◌++◌, ◌-◌, [], take, drop, length, None, Some, IfOk, OnOk};
-ghost use Rattle.std.specs.Option.{option_map};
+ghost use Rattle.std.specs.Option.{is_some, option_map};
 ghost use Rattle.pulsar_consumer.specs.Topic as meaning;
 
 use crate::frame::Frame;
@@ -27,6 +27,7 @@ pub struct ConsumerEngine {
 
 impl Model for ConsumerEngine {
     ghost use Rattle.pulsar_consumer.specs.KeptEngine.{engine_of};
+    ghost use Rattle.pulsar_consumer.specs.KeptLive.{HasPermits};
     ghost use Rattle.pulsar_consumer.specs.Topic.{Engine as Meant};
     ghost use Rattle.pulsar_session.specs.FailureCode.{failure_code};
     ghost use Rattle.std.specs.Coded.{codes};
@@ -36,6 +37,8 @@ impl Model for ConsumerEngine {
     ghost coded = { Prim.hlevel (codes, failure_code (Prim.hlevel codes)) };
 
     ghost view = { engine_of };
+
+    ghost invariant = { λ i. HasPermits i.live i.batch };
 }
 
 impl ConsumerEngine {
@@ -102,6 +105,25 @@ impl ConsumerEngine {
         }
     }
 
+    /// A flow is to be asked for.
+    pub(crate) fn is_due(&self) -> bool
+        ensures { result ≡ is_some (meaning.first_due self.now.live) }
+    {
+        match &self.live {
+            Some(live) => live.is_due(),
+            None => false,
+        }
+    }
+
+    /// The memory in which nothing is left is given back.
+    pub(crate) fn let_go(&mut self)
+        ensures { self.new ≡ self.old }
+    {
+        let_items_go(self.alloc, &mut self.unread);
+        let_items_go(self.alloc, &mut self.rest);
+        let_frames_go(self.alloc, &mut self.waiting);
+    }
+
     /// The flow that is to be asked for next. It counts as asked for.
     pub(crate) fn ask(&mut self) -> Option<u32>
         ensures flow { result ≡ meaning.first_due self.old.live }
@@ -165,6 +187,24 @@ impl ConsumerEngine {
         self.rest = frame.into_items();
         self.place()?;
         Ok(())
+    }
+}
+
+/// Where no items are left, their memory is given back.
+fn let_items_go(alloc: Global, items: &mut VecDeque<Unread>)
+    ensures { items.new.items ≡ items.old.items }
+{
+    if items.is_empty() {
+        *items = VecDeque::new(alloc);
+    }
+}
+
+/// Where no frames are left, their memory is given back.
+fn let_frames_go(alloc: Global, frames: &mut VecDeque<Frame>)
+    ensures { frames.new.items ≡ frames.old.items }
+{
+    if frames.is_empty() {
+        *frames = VecDeque::new(alloc);
     }
 }
 

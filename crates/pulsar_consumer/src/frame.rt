@@ -1,22 +1,23 @@
 //! A message of the broker as a consumer takes it.
 
 ghost use Rattle.std.specs.Prelude.{◌≡◌, ◌<◌, ◌^◌, ◌∷◌, [], map, Some, IfOk};
-ghost use Rattle.pulsar_link.specs.Held.{item_of};
 ghost use Rattle.std.specs.Option.{option_map};
 ghost use Rattle.pulsar_wire.specs.Views.{body_values, message_id_values};
 ghost use Rattle.pulsar_frame.specs.Batch.{batch_items};
 ghost use Rattle.pulsar_frame.specs.Payload.{payload_values};
-ghost use Rattle.pulsar_frame.specs.Shown.{message_values};
-ghost use Rattle.pulsar_link.specs.Items.{given, is_compressed, items_of, opened};
+ghost use Rattle.pulsar_link.specs.Held.{item_of};
+ghost use Rattle.pulsar_link.specs.Items as meant;
+ghost use Rattle.pulsar_link.specs.Items.{given, is_compressed, items_of, opened, weight_behind};
 ghost use Rattle.pulsar_consumer.specs.Frames as meaning;
+ghost use Rattle.pulsar_consumer.specs.Frames.{frame_in};
 
 use crate::unread::Unread;
 use pulsar_frame::batch::iterator::BatchedMessageIterator;
-use pulsar_frame::message::Message;
 use pulsar_frame::payload::Payload;
+use pulsar_link::content::Received;
 use pulsar_link::items::Unread as Item;
 use pulsar_plans::content::Refusal;
-use pulsar_wire::commands::base::{BaseCommand, Body};
+use pulsar_wire::commands::base::Body;
 use pulsar_wire::commands::consumer::delivery::CommandMessage;
 use pulsar_wire::commands::ids::MessageIdData;
 use pulsar_wire::error::{ConnectionError, ConsumerError, Error, IoKind, NoMemory, Reason};
@@ -36,31 +37,28 @@ impl Model for Frame {
     ghost use Rattle.pulsar_consumer.specs.KeptFrame.{frame_of};
     ghost use Rattle.pulsar_session.specs.FailureCode.{failure_code};
     ghost use Rattle.std.specs.Coded.{codes};
+    ghost use Rattle.std.specs.Prelude.{◌<◌, ◌^◌};
 
     ghost Value = { Meant };
 
     ghost coded = { Prim.hlevel (codes, failure_code (Prim.hlevel codes)) };
 
     ghost view = { frame_of };
+
+    // its weight is a number of entries
+    ghost invariant = { λ i. i.weight < 2 ^ 31 };
 }
 
 impl Frame {
-    /// What this message gives. It costs less than 2^31 permits.
-    pub fn new(alloc: Global, message: Message) -> Result<Frame, NoMemory>
-        ensures says { IfOk result (λ f. f ≡ meaning.frame (message_values message)) }
-        ensures small { IfOk result (λ f. f.weight < 2 ^ 31) }
+    /// The frame of a message.
+    pub fn received(alloc: Global, received: Received) -> Result<Frame, NoMemory>
+        ensures { IfOk result (λ f. f ≡ frame_in received) }
     {
-        let Message { command, payload } = message;
-        let Some(payload) = payload else {
-            return Ok(Frame::empty(alloc, 1));
-        };
-        let weight = weight_of(&payload);
-        match id_in(&command)? {
-            Some(id) => Ok(Frame {
-                weight,
-                items: items(alloc, id, payload)?,
-            }),
-            None => Ok(Frame::empty(alloc, weight)),
+        let mut message = received.into_box();
+        let payload = message.payload.take();
+        match &message.command.body {
+            Some(body) => frame_with(alloc, payload, body),
+            None => Ok(Frame::empty(alloc, 0)),
         }
     }
 
@@ -73,6 +71,7 @@ impl Frame {
     }
 
     fn empty(alloc: Global, weight: u32) -> Frame
+        requires { weight < 2 ^ 31 }
         ensures { result ≡ record { weight = weight; items = [] } }
     {
         Frame {
@@ -83,7 +82,8 @@ impl Frame {
 
     /// How many permits it costs.
     pub fn weight(&self) -> u32
-        ensures { result ≡ self.now.weight }
+        ensures says { result ≡ self.now.weight }
+        ensures small { result < 2 ^ 31 }
     {
         self.weight
     }
@@ -97,10 +97,46 @@ impl Frame {
     }
 }
 
+/// What a body brings, with what stands behind it.
+fn frame_with(alloc: Global, payload: Option<Payload>, body: &Body) -> Result<Frame, NoMemory>
+    ensures { IfOk result (λ f. f ≡ meaning.frame_with (option_map payload_values payload) (Some (body_values body.now))) }
+{
+    match body {
+        Body::Message(message) => frame_of_message(alloc, payload, message),
+        _ => Ok(Frame::empty(alloc, 0)),
+    }
+}
+
+/// What a message command brings, with its payload.
+#[tactic(auto, unfolding(pulsar_wire::specs::Views::message_values, pulsar_wire::specs::Views::message_id_values))]
+fn frame_of_message(
+    alloc: Global,
+    payload: Option<Payload>,
+    message: &CommandMessage,
+) -> Result<Frame, NoMemory>
+    ensures { IfOk result (λ f. f ≡ meaning.frame_with (option_map payload_values payload) (Some (body_values (Body.Message message.now)))) }
+{
+    match payload {
+        Some(payload) => frame_of(alloc, message.message_id.copy()?, payload),
+        None => Ok(Frame::empty(alloc, 1)),
+    }
+}
+
+/// What a payload brings under its id.
+fn frame_of(alloc: Global, id: MessageIdData, payload: Payload) -> Result<Frame, NoMemory>
+    ensures { IfOk result (λ f. f ≡ record { weight = weight_behind (Some (payload_values payload)); items = items_of (message_id_values id) (payload_values payload) }) }
+{
+    let weight = weight_of(&payload);
+    Ok(Frame {
+        weight,
+        items: items(alloc, id, payload)?,
+    })
+}
+
 /// How many permits a payload costs.
 #[tactic(auto, unfolding(pulsar_wire::specs::Views::message_metadata_values))]
 fn weight_of(payload: &Payload) -> u32
-    ensures says { result ≡ meaning.weight_behind (Some (payload_values payload.now)) }
+    ensures says { result ≡ weight_behind (Some (payload_values payload.now)) }
     ensures small { result < 2 ^ 31 }
 {
     weight(payload.metadata.num_messages_in_batch)
@@ -108,7 +144,7 @@ fn weight_of(payload: &Payload) -> u32
 
 /// How many permits a payload of so many entries costs.
 fn weight(count: Option<i32>) -> u32
-    ensures says { result ≡ meaning.weight_of count }
+    ensures says { result ≡ meant.weight_of count }
     ensures small { result < 2 ^ 31 }
 {
     match count {
@@ -118,32 +154,6 @@ fn weight(count: Option<i32>) -> u32
         },
         None => 1,
     }
-}
-
-/// The id of the message that a message command brings.
-fn id_in(command: &BaseCommand) -> Result<Option<MessageIdData>, NoMemory>
-    ensures { IfOk result (λ id. option_map message_id_values id ≡ meaning.id_of (option_map body_values command.now.body)) }
-{
-    match &command.body {
-        Some(body) => id_behind(body),
-        None => Ok(None),
-    }
-}
-
-fn id_behind(body: &Body) -> Result<Option<MessageIdData>, NoMemory>
-    ensures { IfOk result (λ id. option_map message_id_values id ≡ meaning.id_of (Some (body_values body.now))) }
-{
-    match body {
-        Body::Message(message) => Ok(Some(id_of(message)?)),
-        _ => Ok(None),
-    }
-}
-
-#[tactic(auto, unfolding(pulsar_wire::specs::Views::message_values, pulsar_wire::specs::Views::message_id_values))]
-fn id_of(message: &CommandMessage) -> Result<MessageIdData, NoMemory>
-    ensures { IfOk result (λ id. meaning.id_of (Some (body_values (Body.Message message.now))) ≡ Some (message_id_values id)) }
-{
-    Ok(message.message_id.copy()?)
 }
 
 /// One item.

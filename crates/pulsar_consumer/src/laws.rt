@@ -1,11 +1,6 @@
 //! What follows of every history of a consumer: each contract is a law, and its body is empty.
 
-ghost use Rattle.pulsar_consumer.specs.Laws.{EndIsFinal, FlowsFit, FramesBeginInTurn, FramesGiveItems, PermitsAreCounted, PermitsInBounds, PollsGiveArrivals, PollsGiveTheNext, QueueIsKept, RawAsksForNothing};
-
-/// A message gives the items of its frame.
-pub fn frames_give_items()
-    ensures { FramesGiveItems }
-{}
+ghost use Rattle.pulsar_consumer.specs.Laws.{EndIsFinal, FramesBeginInTurn, PermitsAreCounted, PermitsInBounds, PollsGiveArrivals, PollsGiveTheNext, QueueIsKept, RawAsksForNothing};
 
 /// Polls give just the items of the arrivals, in order, without gap: each the next, and none only where none is left.
 pub fn polls_give_arrivals()
@@ -24,7 +19,6 @@ pub fn queue_is_kept()
 pub fn permits_in_bounds()
     ensures counted { PermitsAreCounted }
     ensures bounds { PermitsInBounds }
-    ensures fit { FlowsFit }
     ensures raw { RawAsksForNothing }
 {}
 

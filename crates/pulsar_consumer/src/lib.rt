@@ -12,6 +12,7 @@ pub mod frame;
 pub mod laws;
 pub mod live;
 pub mod message;
+pub mod naming;
 pub mod polled;
 pub mod resuming;
 pub mod settings;

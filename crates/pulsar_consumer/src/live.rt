@@ -1,6 +1,8 @@
 //! A subscription that is live, and what remains of its permits.
 
-ghost use Rattle.std.specs.Prelude.{◌≡◌, ◌+◌, ◌-◌, nat_lt, IfOk, OnOk};
+ghost use Rattle.std.specs.Prelude.{◌≡◌, ◌+◌, ◌-◌, ◌^◌, ◌<◌, ◌≤◌, nat_lt, Some, IfOk, OnOk};
+ghost use Rattle.std.specs.Option.{is_some};
+ghost use Rattle.pulsar_consumer.specs.KeptLive.{HasPermits};
 ghost use Rattle.pulsar_consumer.specs.Topic as meaning;
 
 use pulsar_wire::error::NoMemory;
@@ -72,8 +74,10 @@ impl Live {
     }
 
     /// The frame that was begun is finished. Where less than half of the permits are left, more are granted.
-    pub fn finish(&mut self, batch: Option<u32>) -> Result<(), NoMemory>
-        ensures { OnOk result (self.new ≡ meaning.finishes batch self.old) }
+    pub(crate) fn finish(&mut self, batch: Option<u32>) -> Result<(), NoMemory>
+        requires { HasPermits (Some self.old) batch }
+        ensures says { OnOk result (self.new ≡ meaning.finishes batch self.old) }
+        ensures kept { HasPermits (Some self.new) batch }
     {
         if let Some(batch) = batch {
             self.finish_by(batch)?;
@@ -82,7 +86,9 @@ impl Live {
     }
 
     fn finish_by(&mut self, batch: u32) -> Result<(), NoMemory>
-        ensures { OnOk result (self.new ≡ meaning.finishes_by batch self.old) }
+        requires { HasPermits (Some self.old) (Some batch) }
+        ensures says { OnOk result (self.new ≡ meaning.finishes_by batch self.old) }
+        ensures kept { HasPermits (Some self.new) (Some batch) }
     {
         if is_low(batch, self.level, self.weight) {
             self.due.push_back(granted(batch, self.level, self.weight))?;
@@ -92,6 +98,13 @@ impl Live {
         }
         self.weight = 0;
         Ok(())
+    }
+
+    /// A flow is to be asked for.
+    pub fn is_due(&self) -> bool
+        ensures { result ≡ is_some (meaning.first_in self.now.due) }
+    {
+        self.due.front().is_some()
     }
 
     /// The flow that is to be asked for next. It counts as asked for.
@@ -112,12 +125,10 @@ fn is_low(batch: u32, level: u32, weight: u32) -> bool
 
 /// How many permits bring them up to the batch size again.
 fn granted(batch: u32, level: u32, weight: u32) -> u32
-    ensures { result ≡ meaning.permits (batch + weight - level) }
+    requires least { meaning.half batch ≤ level }
+    requires small { weight < 2 ^ 31 }
+    ensures { result ≡ batch + weight - level }
 {
     let missing = (u64::from(batch) + u64::from(weight)).saturating_sub(u64::from(level));
-    if missing < u64::from(u32::MAX) {
-        missing as u32
-    } else {
-        u32::MAX
-    }
+    missing as u32
 }

@@ -3,7 +3,8 @@
 ghost use Rattle.std.specs.Prelude.{◌≡◌, IfOk, string_bytes};
 ghost use Rattle.std.specs.Option.{option_map};
 ghost use Rattle.pulsar_frame.specs.Payload.{payload_values};
-ghost use Rattle.pulsar_consumer.specs.Content.{message_data_values};
+ghost use Rattle.pulsar_wire.specs.Views.{message_id_values};
+ghost use Rattle.pulsar_consumer.specs.Content.{data_of, message_data_values};
 
 use crate::deserialize::DeserializeMessage;
 use pulsar_frame::payload::{Metadata, Payload};
@@ -21,6 +22,17 @@ pub struct MessageData {
 }
 
 impl MessageData {
+    /// That of a message: its batch has as many entries as is said of its payload.
+    #[tactic(auto, unfolding(pulsar_wire::specs::Views::message_metadata_values))]
+    pub fn of(id: MessageIdData, payload: &Payload) -> MessageData
+        ensures { message_data_values result ≡ data_of (message_id_values id) (payload_values payload.now) }
+    {
+        MessageData {
+            id,
+            batch_size: payload.metadata.num_messages_in_batch,
+        }
+    }
+
     /// The same once more.
     pub fn copy(&self) -> Result<MessageData, NoMemory>
         ensures { IfOk result (λ d. message_data_values d ≡ message_data_values self.now) }

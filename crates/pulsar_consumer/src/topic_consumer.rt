@@ -4,7 +4,7 @@ ghost use Rattle.std.specs.Prelude.{◌≡◌, None, IfOk, OnOk};
 ghost use Rattle.std.specs.Option.{option_map};
 ghost use Rattle.pulsar_consumer.specs.Commands.{command_of};
 ghost use Rattle.pulsar_consumer.specs.Content.{config_values};
-ghost use Rattle.pulsar_consumer.specs.Topic.{Asks, Ends, Fails, Hears, Lives, Loses, Polls, after, first_due, fresh, is_ended, link_of, lives_on, polled, queue_of, resubscribes};
+ghost use Rattle.pulsar_consumer.specs.Topic.{Asks, Ends, Fails, Hears, Lives, Loses, Polls, after, first_due, fresh, is_due, is_ended, link_of, lives_on, of_raw, polled, queue_of, resubscribes};
 ghost use Rattle.pulsar_consumer.specs.Topic as meaning;
 
 use crate::building::command;
@@ -14,6 +14,7 @@ use crate::frame::Frame;
 use crate::polled::{Ending, Polled};
 use crate::settings::Settings;
 use crate::unread::Unread;
+use pulsar_link::content::Subscribed;
 use pulsar_plans::content::{Refusal, Text};
 use pulsar_plans::making::Command;
 use pulsar_wire::error::NoMemory;
@@ -84,6 +85,26 @@ impl TopicConsumer {
         }
     }
 
+    /// The consumer that a raw call makes.
+    pub fn of_raw(alloc: Global, made: Subscribed) -> Result<TopicConsumer, NoMemory>
+        ensures { IfOk result (λ t. t ≡ fresh (of_raw made)) }
+    {
+        let made = made.into_inner();
+        let config = ConsumerConfig {
+            subscription: made.subscription,
+            sub_type: made.sub_type,
+            batch_size: None,
+            consumer_name: made.name,
+            consumer_id: Some(made.consumer),
+            unacked_message_redelivery_delay: None,
+            options: made.options,
+            dead_letter_policy: None,
+        };
+        let config = Settings::new(alloc, config)?;
+        let topic = Text::new(made.topic);
+        Ok(TopicConsumer::new(alloc, topic, made.consumer, config, true))
+    }
+
     /// Its topic.
     pub fn topic(&self) -> &str
         ensures { result.now ≡ self.now.topic }
@@ -96,6 +117,13 @@ impl TopicConsumer {
         ensures { result ≡ self.now.number }
     {
         self.number
+    }
+
+    /// A raw call made it.
+    pub fn is_raw(&self) -> bool
+        ensures { result ≡ self.now.is_raw }
+    {
+        self.is_raw
     }
 
     /// How it was made.
@@ -235,8 +263,15 @@ impl TopicConsumer {
                 self.count(clock, &item);
                 Ok(Polled::Item(item))
             }
-            None => Ok(self.without_item()),
+            None => Ok(self.give_none()),
         }
+    }
+
+    /// A flow is to be asked for.
+    pub fn is_due(&self) -> bool
+        ensures { result ≡ is_due self.now }
+    {
+        self.engine.is_due()
     }
 
     /// The flow that is to be asked for next. It counts as asked for.
@@ -266,10 +301,13 @@ impl TopicConsumer {
         }
     }
 
-    fn without_item(&self) -> Polled
-        ensures { result ≡ meaning.polled_from None self.now.ended }
+    /// Once it has ended, it keeps no memory for items.
+    fn give_none(&mut self) -> Polled
+        ensures given { result ≡ meaning.polled_from None self.old.ended }
+        ensures after { self.new ≡ self.old }
     {
         if self.is_ended() {
+            self.engine.let_go();
             Polled::End
         } else {
             Polled::Empty

@@ -2,13 +2,15 @@
 
 use pulsar_consumer::frame::Frame;
 use pulsar_consumer::settings::Settings;
-use pulsar_consumer::{ConsumerConfig, Ending, Polled, TopicConsumer};
+use pulsar_consumer::{ConsumerConfig, ConsumerOptions, Ending, Polled, SubType, TopicConsumer};
 use pulsar_frame::message::Message;
 use pulsar_frame::payload::Payload;
+use pulsar_link::content::{Received, Subscribed};
 use pulsar_link::items::Unread as Item;
+use pulsar_link::raw_call::Subscription;
 use pulsar_plans::content::{Refusal, Text};
 use pulsar_wire::commands::base::{BaseCommand, Body};
-use pulsar_wire::commands::consumer::delivery::CommandMessage;
+use pulsar_wire::commands::consumer::delivery::{CommandMessage, CommandReachedEndOfTopic};
 use pulsar_wire::commands::metadata::MessageMetadata;
 use pulsar_wire::error::ConnectionError;
 use std::alloc::Global;
@@ -39,6 +41,11 @@ fn consumer(alloc: Global, queue: Option<u32>) -> Result<Box<TopicConsumer>, Fai
     subscribed(alloc, settings(alloc, queue, None)?)
 }
 
+/// The frame of a message.
+fn frame(alloc: Global, message: Message) -> Result<Frame, Fail> {
+    Ok(Frame::received(alloc, Received::new(alloc, message)?)?)
+}
+
 /// A message of so many entries, and this payload.
 fn message(alloc: Global, count: Option<i32>, bytes: &[u8]) -> Result<Frame, Fail> {
     let mut metadata = MessageMetadata::new(alloc);
@@ -52,13 +59,13 @@ fn message(alloc: Global, count: Option<i32>, bytes: &[u8]) -> Result<Frame, Fai
         kind: 9,
         body: Some(body),
     };
-    Ok(Frame::new(
+    frame(
         alloc,
         Message {
             command,
             payload: Some(payload),
         },
-    )?)
+    )
 }
 
 /// 0: there is nothing now; 1: the end; 2: a message; 3: an error.
@@ -197,11 +204,67 @@ fn bare(alloc: Global) -> Result<Frame, Fail> {
         kind: 9,
         body: Some(Body::Message(CommandMessage::new(alloc))),
     };
-    Ok(Frame::new(
+    frame(
         alloc,
         Message {
             command,
             payload: None,
         },
-    )?)
+    )
+}
+
+/// A command that is no message costs nothing, and gives nothing.
+#[test]
+fn another_command_costs_nothing(rt: HostRuntime) -> Result<(), Fail> {
+    let alloc = rt.alloc();
+    let mut consumer = small(alloc)?;
+    assert!(rt; consumer.is_due() && consumer.ask() == Some(1));
+    let command = BaseCommand {
+        kind: 27,
+        body: Some(Body::ReachedEndOfTopic(CommandReachedEndOfTopic::new())),
+    };
+    let frame = frame(
+        alloc,
+        Message {
+            command,
+            payload: None,
+        },
+    )?;
+    assert!(rt; frame.weight() == 0);
+    consumer.hear(0, frame)?;
+    assert!(rt; !consumer.is_due() && polls(&mut consumer)? == 0);
+    Ok(())
+}
+
+/// A consumer that a raw call makes on link 0.
+fn raw(alloc: Global) -> Result<Box<TopicConsumer>, Fail> {
+    let made = Subscription {
+        topic: String::from_str(alloc, "t")?,
+        subscription: String::from_str(alloc, "s")?,
+        sub_type: SubType::Shared,
+        consumer: 7,
+        name: None,
+        options: ConsumerOptions::new(alloc),
+    };
+    let consumer = TopicConsumer::of_raw(alloc, Subscribed::new(alloc, made)?)?;
+    let mut consumer = Box::new(alloc, consumer)?;
+    consumer.subscribe(0, url(alloc)?)?;
+    Ok(consumer)
+}
+
+#[test]
+fn a_raw_consumer_asks_for_nothing_and_ends_with_its_link(rt: HostRuntime) -> Result<(), Fail> {
+    let alloc = rt.alloc();
+    let mut consumer = raw(alloc)?;
+    assert!(rt; consumer.topic() == "t" && consumer.number() == 7 && !consumer.is_due());
+    consumer.hear(0, message(alloc, Some(3), ABC)?)?;
+    assert!(rt; !consumer.is_due() && !consumer.resubscribes(0));
+    consumer.lose(0);
+    consumer.hear(0, message(alloc, None, b"d")?)?;
+    assert!(rt; polls(&mut consumer)? == 2);
+    assert!(rt; polls(&mut consumer)? == 2);
+    assert!(rt; polls(&mut consumer)? == 2);
+    assert!(rt; polls(&mut consumer)? == 1);
+    assert!(rt; consumer.ending() == Some(Ending::LinkLost));
+    Ok(())
 }

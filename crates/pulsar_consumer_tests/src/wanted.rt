@@ -1,5 +1,6 @@
 //! What is wanted of a consumer, and how it was made.
 
+use pulsar_consumer::naming::{Ordered, order_of};
 use pulsar_consumer::settings::Settings;
 use pulsar_consumer::{
     Consumer, ConsumerBuilder, ConsumerConfig, ConsumerOptions, DeadLetterPolicy, SubType,
@@ -134,5 +135,59 @@ fn a_consumer_says_where_it_is(rt: HostRuntime) -> Result<(), Fail> {
     let urls = consumer.connections()?;
     assert!(rt; urls.len() == 1);
     assert!(rt; consumer.messages_received() == 0 && consumer.last_message_received().is_none());
+    Ok(())
+}
+
+/// What the call of ticket 1 makes of a builder, where all words are drawn with the seed 0.
+fn ordered(alloc: Global, builder: ConsumerBuilder) -> Result<Option<Settings>, Fail> {
+    match order_of(alloc, 0, 1, builder)? {
+        Ordered::One(order) => Ok(Some(order.config)),
+        Ordered::Nothing | Ordered::Several => Ok(None),
+    }
+}
+
+/// The names are those of another generator.
+#[test]
+fn names_are_drawn(rt: HostRuntime) -> Result<(), Fail> {
+    let alloc = rt.alloc();
+    let builder = ConsumerBuilder::new(alloc).with_topic("t")?;
+    let Some(config) = ordered(alloc, builder)? else {
+        assert!(rt; false);
+        return Ok(());
+    };
+    assert!(rt; config.get().subscription.as_str() == "sub_W6W5vTOa");
+    assert!(rt; is_text(&config.get().consumer_name, "consumer_quwXHakI"));
+    assert!(rt; matches!(config.get().sub_type, SubType::Shared));
+    Ok(())
+}
+
+#[test]
+fn what_is_said_is_not_drawn(rt: HostRuntime) -> Result<(), Fail> {
+    let alloc = rt.alloc();
+    let builder = ConsumerBuilder::new(alloc).with_topic("t")?;
+    let builder = numbers(builder.with_subscription("s")?.with_consumer_name("c")?);
+    let Some(config) = ordered(alloc, builder)? else {
+        assert!(rt; false);
+        return Ok(());
+    };
+    assert!(rt; config.get().subscription.as_str() == "s");
+    assert!(rt; is_text(&config.get().consumer_name, "c"));
+    assert!(rt; matches!(config.get().sub_type, SubType::Failover));
+    assert!(rt; config.get().consumer_id == Some(2) && config.get().batch_size == Some(3));
+    assert!(rt; config.get().unacked_message_redelivery_delay == Some(4));
+    Ok(())
+}
+
+#[test]
+fn topics_are_counted(rt: HostRuntime) -> Result<(), Fail> {
+    let alloc = rt.alloc();
+    let none = order_of(alloc, 0, 1, ConsumerBuilder::new(alloc))?;
+    assert!(rt; matches!(&none, Ordered::Nothing));
+    let two = ConsumerBuilder::new(alloc)
+        .with_topic("t")?
+        .with_topic("u")?;
+    assert!(rt; matches!(&order_of(alloc, 0, 1, two)?, Ordered::Several));
+    let prefix = ConsumerBuilder::new(alloc).with_topic_prefix("p")?;
+    assert!(rt; matches!(&order_of(alloc, 0, 1, prefix)?, Ordered::Several));
     Ok(())
 }

@@ -13,7 +13,7 @@ use Rattle.pulsar_calls.specs.declared.act.Part.TheVariants.{Calls}
 use Rattle.pulsar_calls.specs.declared.act.Procedure.{Procedure}
 use Rattle.pulsar_calls.specs.declared.act.Verdict.{Verdict}
 use Rattle.pulsar_calls.specs.declared.act.Who.{Who}
-use Rattle.pulsar_calls.specs.declared.act.Who.TheVariants.{Call, Producer}
+use Rattle.pulsar_calls.specs.declared.act.Who.TheVariants.{Call, Consumer, Producer}
 use Rattle.pulsar_procedures.specs.declared.plan.Plan.{Plan}
 use Rattle.pulsar_procedures.specs.declared.plan.Turn.{Turn}
 use Rattle.pulsar_procedures.specs.declared.plan.Turn.TheVariants.{Stays, Gives}
@@ -36,7 +36,7 @@ use Rattle.pulsar_calls.specs.declared.act.Procedure.TheVariants as procedure
 use Rattle.pulsar_calls.specs.Content as content
 use Rattle.pulsar_client.proofs.Acts.{Each, each_append, each_first, each_map, each_rest, is_served}
 use Rattle.pulsar_laws.proofs.Left.{left_each}
-use Rattle.pulsar_client.proofs.Raising.{IsRaised, kind, may, raises, OfBatches, OfDeed, OfPart, OfStart}
+use Rattle.pulsar_client.proofs.Raising.{IsRaised, kind, may, raises, OfBatches, OfDeed, OfPart, OfStart, OfService}
 use Rattle.pulsar_laws.proofs.Fitting.{fits, Fits, Holds, Keeps, Leaves, Nowhere, Reports, Spot, Stores, Usual, begins_fits, is_stop, spot, told_fits}
 
 abbrev is_stopping : Act → Bool
@@ -53,11 +53,12 @@ served_no_stop (Starts who procedure.Stop) h = absurd cc
 served_no_stop _ h = refl
 
 -- only plans act, and only calls start plans
-raised_no_stop : (a b : Act) → may OfDeed a ≡ false → may OfStart a ≡ false → may OfBatches a ≡ false → IsRaised a b → NoStop b
-raised_no_stop a (Does who action) d s m h = (let f : true ≡ false = sym h ∙ d in absurd cc)
-raised_no_stop a (Starts (Call t) p) d s m h = (let f : true ≡ false = sym h ∙ s in absurd cc)
-raised_no_stop a (Starts (Producer n) p) d s m h = (let f : true ≡ false = sym h ∙ m in absurd cc)
-raised_no_stop a _ d s m h = refl
+raised_no_stop : (a b : Act) → may OfDeed a ≡ false → may OfStart a ≡ false → may OfBatches a ≡ false → may OfService a ≡ false → IsRaised a b → NoStop b
+raised_no_stop a (Does who action) d s m x h = (let f : true ≡ false = sym h ∙ d in absurd cc)
+raised_no_stop a (Starts (Call t) p) d s m x h = (let f : true ≡ false = sym h ∙ s in absurd cc)
+raised_no_stop a (Starts (Producer n) p) d s m x h = (let f : true ≡ false = sym h ∙ m in absurd cc)
+raised_no_stop a (Starts (Consumer n t) p) d s m x h = (let f : true ≡ false = sym h ∙ x in absurd cc)
+raised_no_stop a _ d s m x h = refl
 
 no_stop_at : (s : Spot) → fits s StopAll ≡ true → ⊥
 no_stop_at Usual h = cc
@@ -126,7 +127,7 @@ starts_so v advice (content.SendAll t ms) = inl (
   gathers_no_stop (Call v.calls.drawn) (may_call v.calls) (why_not v.producers t) (v.calls.drawn + 1) (length ms),
   unless_no_stop (why_no_sends v.calls v.producers t) v advice t ms,
 )
-starts_so v advice asked = inr (Starts (Call v.calls.drawn) (procedure_for v.chosen v.calls v.producers advice asked), refl)
+starts_so v advice asked = inr (Starts (Call v.calls.drawn) (procedure_for v.chosen v.calls v.consumers v.producers advice asked), refl)
 
 called_so : (v : View) (advice : List (Option ℕ)) (asked : Asked) → Each NoStop (called v advice asked) ⊎ OneAct (called v advice asked)
 called_so v advice asked = by (lacks_tickets v.calls.drawn (shares asked))
@@ -139,8 +140,8 @@ called_so v advice asked = by (lacks_tickets v.calls.drawn (shares asked))
     by false = starts_so v advice asked
 
 -- nor is what a verdict leaves behind
-left_no_stop : (ways : Option Ways) (m : Makes) → Each NoStop (left_with ways m)
-left_no_stop ways m = left_each NoStop ways m (λ w e. refl)
+left_no_stop : (ways : Option Ways) (maker : Who) (m : Makes) → Each NoStop (left_with ways maker m)
+left_no_stop ways maker m = left_each NoStop ways maker m (λ w e. refl) (λ w n t. refl)
 
 -- nothing at all is left but parts
 pub record IsClear (g : Agenda) : Type 0 where
@@ -206,9 +207,9 @@ module _ (o : Options) (log : List Entry) (before : Each NoStop (agenda o log).n
   plain_stops : (a : Act) → Each NoStop (at_once (view o log) a) → Each NoStop (agenda o (Then a ∷ log)).now ⊎ Alone o (Then a ∷ log)
   plain_stops a k = inl (each_append NoStop (at_once (view o log) a) (rest (agenda o log)).now k left_stops)
 
-  raised_stops : (a : Act) → may OfDeed a ≡ false → may OfStart a ≡ false → may OfBatches a ≡ false →
+  raised_stops : (a : Act) → may OfDeed a ≡ false → may OfStart a ≡ false → may OfBatches a ≡ false → may OfService a ≡ false →
       Each NoStop (agenda o (Then a ∷ log)).now ⊎ Alone o (Then a ∷ log)
-  raised_stops a d s m = plain_stops a (each_map (IsRaised a) NoStop (at_once (view o log) a) (λ b. raised_no_stop a b d s m) (raises (view o log) a))
+  raised_stops a d s m x = plain_stops a (each_map (IsRaised a) NoStop (at_once (view o log) a) (λ b. raised_no_stop a b d s m x) (raises (view o log) a))
 
   -- what is first stops the client only where it is alone
   stop_alone : (a : Act) → is_stopping a ≡ true → first (agenda o log) ≡ Some a → IsClear (rest (agenda o log))
@@ -239,11 +240,11 @@ module _ (o : Options) (log : List Entry) (before : Each NoStop (agenda o log).n
 
   stops_on : (a : Act) → first (agenda o log) ≡ Some a → Each NoStop (agenda o (Then a ∷ log)).now ⊎ Alone o (Then a ∷ log)
   stops_on (Comes (Calls asked advice)) fits = call_stops asked advice fits
-  stops_on (Comes p) fits = raised_stops (Comes p) refl refl refl
+  stops_on (Comes p) fits = raised_stops (Comes p) refl refl refl refl
   stops_on (Starts who p) fits = start_stops who p (is_stop p) refl fits
   stops_on (Told n) fits = plain_stops (Told n) (some_no_stop n.who ((view o log).stand n.who) n.outcome)
-  stops_on (Does who action) fits = raised_stops (Does who action) refl refl refl
-  stops_on (Answers who verdict) fits = plain_stops (Answers who verdict) (left_no_stop (ways_of (view o log).chosen) verdict.makes)
+  stops_on (Does who action) fits = raised_stops (Does who action) refl refl refl refl
+  stops_on (Answers who verdict) fits = plain_stops (Answers who verdict) (left_no_stop (ways_of (view o log).chosen) who verdict.makes)
   stops_on a fits = plain_stops a tt
 
 stops_come : (o : Options) (log : List Entry) → IsRun o log → Each NoStop (agenda o log).now ⊎ Alone o log

@@ -41,7 +41,7 @@ use Rattle.pulsar_client.specs.Run.{Entry, Begins, Then, IsRun, view}
 use Rattle.pulsar_tables.specs.View.{Options, View, stays, stays_some, told_some}
 use Rattle.pulsar_client.proofs.Acts.{begun_same}
 use Rattle.pulsar_laws.specs.BatchLaws.{told_since}
-use Rattle.pulsar_laws.specs.Laws.{FailsSo, IsAnswered, IsDenied, IsInProducer, IsPartial, IsRefused, IsRefusedShare, IsSettled, IsTold, IsTurned, IsUnexpected, IsUnexpectedInProducer, has_failed}
+use Rattle.pulsar_laws.specs.Laws.{FailsSo, IsAnswered, IsDenied, IsInProducer, IsPartial, IsRefused, IsRefusedShare, IsSettled, IsTold, IsTurned, IsUnexpected, IsUnexpectedInProducer, has_failed, IsInUse, IsOfSeveral, IsClosed}
 use Rattle.pulsar_laws.proofs.Batched.{BatchSo, IsSending, batch_goes}
 use Rattle.pulsar_laws.proofs.BatchRun.{Batched, StandsSo, batched_run, calm_at, is_batch_deed, never_both, row_then, self_same}
 use Rattle.pulsar_laws.proofs.Drawing.{Every, here}
@@ -106,6 +106,9 @@ more_so p u os f (IsUnexpectedInProducer r is i e) = IsUnexpectedInProducer r is
 more_so p u os f (IsSettled i) = IsSettled (inr i)
 more_so p u os f (IsPartial first count failures h some e) =
     IsPartial first count failures h (elim (has_failed u) as (λ b. (b || list_any has_failed os) ≡ true) [ true ↦ refl | false ↦ some ]) e
+more_so p u os f (IsInUse w order is i e) = IsInUse w order is (inr i) e
+more_so p u os f (IsOfSeveral w order r n k is i c two e) = IsOfSeveral w order r n k is (inr i) c two e
+more_so p u os f (IsClosed t n is i e) = IsClosed t n is (inr i) e
 more_so p u os f (IsAnswered r number s i is e) = IsAnswered r number s (inr i) is e
 
 -- why the one message of a batch fails

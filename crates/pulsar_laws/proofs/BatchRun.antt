@@ -45,6 +45,7 @@ use Rattle.pulsar_laws.proofs.Follow.{same_is}
 use Rattle.pulsar_laws.proofs.Granted.{BeginsSo, IsLedSo, does_from}
 use Rattle.pulsar_laws.proofs.Natures.{StaysSo}
 use Rattle.pulsar_laws.proofs.Owned.{starts_own}
+use Rattle.pulsar_laws.proofs.Same.{same_self}
 
 none_some : {A : Type 0} {x : A} → None ≡ Some x → ⊥
 none_some {A} {x} h = cc
@@ -52,7 +53,7 @@ none_some {A} {x} h = cc
 -- WHAT IS DONE AT ONCE
 
 pub self_same : (n : ℕ) → is_same (Producer n) (Producer n) ≡ true
-self_same n = grind (arith, nat_tests)
+self_same n = same_self (Producer n)
 
 -- what it does in this state, and what it is told of that
 abbrev pub DeedOf : ℕ → Batches → Action → Type 0

@@ -15,7 +15,7 @@ use Rattle.pulsar_calls.specs.declared.act.Procedure.{Procedure}
 use Rattle.pulsar_calls.specs.declared.act.Procedure.TheVariants as procedure
 use Rattle.pulsar_calls.specs.declared.act.Verdict.{Verdict}
 use Rattle.pulsar_calls.specs.declared.act.Who.{Who}
-use Rattle.pulsar_calls.specs.declared.act.Who.TheVariants.{Call, Producer}
+use Rattle.pulsar_calls.specs.declared.act.Who.TheVariants.{Call, Consumer, Producer}
 use Rattle.pulsar_procedures.specs.declared.plan.Plan.{Plan}
 use Rattle.pulsar_procedures.specs.declared.plan.Plan.TheVariants.{Batching}
 use Rattle.pulsar_procedures.specs.declared.plan.Turn.{Turn}
@@ -53,7 +53,7 @@ raised_batch a (Starts (Producer n) p) other h = absurd cc
 raised_batch a _ other h = tt
 
 once_batch : (v : View) (a : Act) → Each IsBatch (at_once v a)
-once_batch v (Answers who verdict) = left_each IsBatch (ways_of v.chosen) verdict.makes (λ w e. refl)
+once_batch v (Answers who verdict) = left_each IsBatch (ways_of v.chosen) who verdict.makes (λ w e. refl) (λ w n t. tt)
 once_batch v a = each_map (IsRaised a) IsBatch (at_once v a) (λ b. raised_batch a b refl) (raises v a)
 
 -- PLANS
@@ -100,6 +100,7 @@ some_batcher (Some old) u plan was h = stays_batcher (told old u) plan (batcher_
 
 begun_batch : (n : ℕ) (who : Who) (p : Procedure) → is_same (Producer n) who ≡ true → IsBatch (Starts who p) → is_batch p ≡ true
 begun_batch n (Call t) p e k = absurd cc
+begun_batch n (Consumer m t) p e k = absurd cc
 begun_batch n (Producer m) p e k = k
 
 -- ALONG A LOG

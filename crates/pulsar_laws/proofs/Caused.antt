@@ -8,13 +8,13 @@ use Rattle.pulsar_wire.specs.declared.error.ConnectionError.{ConnectionError}
 use Rattle.pulsar_wire.specs.declared.error.IoKind.{IoKind}
 use Rattle.pulsar_messages.specs.Words.{Words}
 use Rattle.pulsar_session.specs.declared.states.Asked.{Asked as Placed}
-use Rattle.pulsar_session.specs.Failures.{Fault, Disconnected, Exhausted, OfProducer, ProducerClosed}
+use Rattle.pulsar_session.specs.Failures.{Fault, Disconnected, Exhausted, OfProducer, ProducerClosed, Failure}
 use Rattle.pulsar_session.specs.Link.{Came, came, ends}
 use Rattle.pulsar_link.specs.Messages.{read}
 use Rattle.pulsar_calls.specs.declared.act.Act.{Act}
-use Rattle.pulsar_calls.specs.declared.act.Act.TheVariants.{Comes, Told, Does}
+use Rattle.pulsar_calls.specs.declared.act.Act.TheVariants.{Comes, Told, Does, Answers}
 use Rattle.pulsar_calls.specs.declared.act.Action.{Action}
-use Rattle.pulsar_calls.specs.declared.act.Action.TheVariants.{Get, Ask, StopAll, Rest, Draw, Find, Flush, Number, PassTurn, Recall, Store, TakeBatch, TakeTurn, Tell, TellAll, Wait, Remake, Shut}
+use Rattle.pulsar_calls.specs.declared.act.Action.TheVariants.{Get, Ask, StopAll, Rest, Draw, Find, Flush, Number, PassTurn, Recall, Store, TakeBatch, TakeTurn, Tell, TellAll, Wait, Remake, Shut, TakeNumber, FindConsumer, TakeFlow, RecallConsumer, Revive, FailConsumer}
 use Rattle.pulsar_calls.specs.declared.act.Alarm.{Alarm}
 use Rattle.pulsar_calls.specs.declared.act.Alarm.TheVariants.{Retry, Wake, Batch, KeepAlive, CheckIdle}
 use Rattle.pulsar_calls.specs.declared.act.Arrival.{Arrival}
@@ -25,20 +25,20 @@ use Rattle.pulsar_calls.specs.declared.act.LinkAct.TheVariants.{Reads, Drains, E
 use Rattle.pulsar_calls.specs.declared.act.Notice.{Notice}
 use Rattle.pulsar_calls.specs.declared.act.Outcome.{Outcome}
 use Rattle.pulsar_calls.specs.declared.act.Part.{Part}
-use Rattle.pulsar_calls.specs.declared.act.Part.TheVariants.{ToLink, Rings}
+use Rattle.pulsar_calls.specs.declared.act.Part.TheVariants.{ToLink, Rings, Polls}
 use Rattle.pulsar_calls.specs.declared.act.Who.{Who}
 use Rattle.pulsar_tables.specs.declared.addresses.Pause.{Pause}
 use Rattle.pulsar_tables.specs.declared.addresses.Series.{Series}
 use Rattle.pulsar_tables.specs.declared.addresses.Series.TheVariants.{Nobody, Runs, Pauses, Serves}
 use Rattle.pulsar_plans.specs.Address.{Place, address_key, is_reachable}
 use Rattle.pulsar_tables.specs.Alarms.{rings}
-use Rattle.pulsar_laws.specs.Laws.{AttemptEnds, Cause, CutsSo, OutcomesAreCaused, LineEnds, RequestEnds, base_of, IsToldBy, GrantsSo}
+use Rattle.pulsar_laws.specs.Laws.{AttemptEnds, Cause, CutsSo, OutcomesAreCaused, LineEnds, RequestEnds, base_of, IsToldBy, GrantsSo, BuiltDue, PolledDue, RevivedDue, SaysSo}
 use Rattle.pulsar_tables.specs.Links.{arrival, change_at, change_in, closed_by, line_places, new_places, times_out}
 use Rattle.pulsar_procedures.specs.Plan.{closed_notice}
 use Rattle.pulsar_tables.specs.Rules.{alone, answered_by, answered_on, at_once, caused, causes, dropped, ended_by, ended_on, failed, failed_by, failed_on, failed_over, failed_so, fails_so, further, gets_from, lost, lost_so, lost_with, moved_on, notice, opens, over_links, parts, served_by, served_on, stop_act, stopped_at, stopped_with, tells, tells_asker, told_at, waiters_of, woken, draw_outcome, draw_said, finds, grants, joins, number_said, readied, ready_notice, recalls, stopped_call, stopped_one, takes_turn, turn_notice}
 use Rattle.pulsar_client.specs.Run.{Entry, Begins, Then, rules, view, IsRun}
-use Rattle.pulsar_tables.specs.View.{Addresses, Options, Seat, View, answer_at, pause_for, pause_of, turned_by, room_of}
-use Rattle.pulsar_calls.specs.Who.{in_turn, is_same, turn_of}
+use Rattle.pulsar_tables.specs.View.{Addresses, Options, Seat, View, answer_at, pause_for, pause_of, turned_by, room_of, arrival_at, closing, is_asked, member_on, setup_of, url_at}
+use Rattle.pulsar_calls.specs.Who.{in_turn, is_same, turn_of, ticket_of}
 use Rattle.pulsar_producer.specs.Topic as topic
 use Rattle.pulsar_plans.specs.declared.making.Command.{Command}
 use Rattle.pulsar_producer.specs.declared.deed.Drawn.{Drawn}
@@ -54,6 +54,24 @@ use Rattle.pulsar_client.proofs.Acts.{Each, chosen_same, over_each}
 use Rattle.pulsar_client.proofs.Raising.{IsRaised, may, raises, OfNotice}
 use Rattle.pulsar_laws.proofs.Fitting.{is_said, is_settling}
 use Rattle.pulsar_laws.proofs.Granted.{tell_said, tell_settling}
+use Rattle.pulsar_calls.specs.declared.act.Word.{Word}
+use Rattle.pulsar_calls.specs.declared.act.Makes.{Makes}
+use Rattle.pulsar_calls.specs.declared.act.Verdict.{Verdict}
+use Rattle.pulsar_calls.specs.declared.act.Who.TheVariants.{Consumer}
+use Rattle.url.specs.Parts.{Parts}
+use Rattle.pulsar_consumer.specs.Commands.{command_of}
+use Rattle.pulsar_link.specs.Request.{closed_consumer}
+use Rattle.pulsar_tables.specs.Consumers.{Member, over_rows}
+use Rattle.pulsar_tables.specs.Reading.{again, again_at, closed_at, due_at, due_to, flow_said, heard_at, heard_on, lost_at, lost_on, made_due, numbering_said, recalled_said, revived_said, sought_said, stopped_on, stopped_seekers, tells_word, word_to}
+use Rattle.pulsar_tables.specs.declared.consumers.numbers.Numbering.{Numbering}
+use Rattle.pulsar_tables.specs.declared.consumers.numbers.Numbering.TheVariants.{Has, InUse, Spent}
+use Rattle.pulsar_tables.specs.declared.consumers.row.Sought.{Sought}
+use Rattle.pulsar_tables.specs.declared.consumers.row.Sought.TheVariants.{Found, Gone, Later}
+use Rattle.pulsar_laws.proofs.Members.{in_rows, polled_number, revived_number, subscribed_number}
+use Rattle.pulsar_calls.specs.declared.act.Word.TheVariants as word
+use Rattle.pulsar_calls.specs.declared.act.Makes.TheVariants as makes
+use Rattle.pulsar_tables.specs.Consumers as consumer
+use Rattle.pulsar_consumer.specs.Topic as reader
 
 -- LISTS
 
@@ -306,6 +324,64 @@ module _ (o : Options) (who : Who) (u : Outcome) (older : List Entry) where
   settled_caused w n true e h = done_caused w (Flush n) e h
   settled_caused w n false e h = absurd h
 
+  -- WHAT ONE ASKS OF CONSUMERS
+
+  word_said : (w : Who) (action : Action) (x : Word) → (who ≡ w → SaysSo who x action v) → In (Told it) (tells_word w x) →
+      Cause o who u (Then (Does w action)) older
+  word_said w action x so h =
+      let k = told_is w (outcome.Word x) h in named (Then (Does w action)) (outcome.Word x) k.1 (inl (action, did w action k.0, so k.0))
+
+  numbering_caused : (w : Who) (wanted : Option ℕ) (x : Numbering) → consumer.numbering v.consumers wanted ≡ x → In (Told it) (tells w (numbering_said x)) →
+      Cause o who u (Then (Does w (TakeNumber wanted))) older
+  numbering_caused w wanted (Has n) e h = word_said w (TakeNumber wanted) (word.Numbered n) (λ is. e) h
+  numbering_caused w wanted InUse e h = word_said w (TakeNumber wanted) word.InUse (λ is. e) h
+  numbering_caused w wanted Spent e h =
+      let k = told_is w (outcome.Refused Exhausted) h in
+      named (Then (Does w (TakeNumber wanted))) (outcome.Refused Exhausted) k.1 (inr (TakeNumber wanted, did w (TakeNumber wanted) k.0, e))
+
+  found_for : (b : Bool) (k : Option ℕ) (l : ℕ) → consumer.sought_for b k ≡ Found l → k ≡ Some l
+  found_for b (Some j) l e = cc
+  found_for true None l e = absurd cc
+  found_for false None l e = absurd cc
+
+  found_link : (row : Option Member) (l : ℕ) → consumer.sought row ≡ Found l → consumer.link_at row ≡ Some l
+  found_link None l e = absurd cc
+  found_link (Some m) l e = found_for (reader.is_ended m.seen) (reader.link_of m.seen) l e
+
+  sought_caused : (w : Who) (t : ℕ) (x : Sought) → consumer.sought (v.consumers.rows t) ≡ x → In (Told it) (sought_said w x) →
+      Cause o who u (Then (Does w (FindConsumer t))) older
+  sought_caused w t (Found l) e h =
+      let k = told_is w (outcome.GotLink l) h in
+      named (Then (Does w (FindConsumer t))) (outcome.GotLink l) k.1
+      (inr (inr (FindConsumer t, did w (FindConsumer t) k.0, found_link (v.consumers.rows t) l e)))
+  sought_caused w t Gone e h = word_said w (FindConsumer t) word.Closed (λ is. e) h
+  sought_caused w t Later e h = absurd h
+
+  flow_caused : (w : Who) (x : Option (ℕ × ℕ)) → consumer.flow_at (v.consumers.rows (ticket_of w)) ≡ x → In (Told it) (tells_word w (flow_said x)) →
+      Cause o who u (Then (Does w TakeFlow)) older
+  flow_caused w None e h =
+      word_said w TakeFlow word.NoFlow (λ is. subst (λ y. consumer.flow_at (v.consumers.rows (ticket_of y)) ≡ None) (sym is) e) h
+  flow_caused w (Some x) e h =
+      word_said w TakeFlow (word.Flow x.0 x.1)
+      (λ is. subst (λ y. consumer.flow_at (v.consumers.rows (ticket_of y)) ≡ Some (x.0, x.1)) (sym is) e) h
+
+  command_caused : (w : Who) (row : Option Member) → v.consumers.rows (ticket_of w) ≡ row → In (Told it) (recalled_said w (consumer.recalled row)) →
+      Cause o who u (Then (Does w RecallConsumer)) older
+  command_caused w None e h =
+      let k = told_is w outcome.Disconnected h in
+      named (Then (Does w RecallConsumer)) outcome.Disconnected k.1
+      (inr (inr (RecallConsumer, did w RecallConsumer k.0, subst (λ y. v.consumers.rows (ticket_of y) ≡ None) (sym k.0) e)))
+  command_caused w (Some m) e h =
+      word_said w RecallConsumer (word.Recalled (command_of m.seen))
+      (λ is. subst (λ y. consumer.recalled (v.consumers.rows (ticket_of y)) ≡ Some (command_of m.seen)) (sym is) (ap consumer.recalled e)) h
+
+  revive_caused : (w : Who) (l : ℕ) (b : Bool) → consumer.is_ended_at (v.consumers.rows (ticket_of w)) ≡ b → In (Told it) (tells_word w (revived_said b)) →
+      Cause o who u (Then (Does w (Revive l))) older
+  revive_caused w l true e h =
+      word_said w (Revive l) word.Over (λ is. subst (λ y. consumer.is_ended_at (v.consumers.rows (ticket_of y)) ≡ true) (sym is) e) h
+  revive_caused w l false e h =
+      word_said w (Revive l) word.Lives (λ is. subst (λ y. consumer.is_ended_at (v.consumers.rows (ticket_of y)) ≡ false) (sym is) e) h
+
   once_caused : (b : Act) → In (Told it) (at_once v b) → Cause o who u (Then b) older
   once_caused (Does w (Get p)) h = gets_caused w p (is_reachable p) refl h
   once_caused (Does w (Ask l request)) h =
@@ -327,6 +403,12 @@ module _ (o : Options) (who : Who) (u : Outcome) (older : List Entry) where
       named (Then (Does w (TakeBatch n))) y k.1 (inl (TakeBatch n, did w (TakeBatch n) k.0, refl))
   once_caused (Does w (Tell n)) h = done_caused w (Tell n) tt h
   once_caused (Does w (TellAll ns)) h = done_caused w (TellAll ns) tt h
+  once_caused (Does w (TakeNumber wanted)) h = numbering_caused w wanted (consumer.numbering v.consumers wanted) refl h
+  once_caused (Does w (FindConsumer t)) h = sought_caused w t (consumer.sought (v.consumers.rows t)) refl h
+  once_caused (Does w TakeFlow) h = flow_caused w (consumer.flow_at (v.consumers.rows (ticket_of w))) refl h
+  once_caused (Does w RecallConsumer) h = command_caused w (v.consumers.rows (ticket_of w)) refl h
+  once_caused (Does w (Revive l)) h = revive_caused w l (consumer.is_ended_at (v.consumers.rows (ticket_of w))) refl h
+  once_caused (Does w (FailConsumer f)) h = word_said w (FailConsumer f) word.Over (λ is. tt) h
   once_caused (Does w (Wait delay)) h = absurd h
   once_caused (Does w Rest) h = absurd h
   once_caused b h = absurd (none_told v b it refl h)
@@ -374,6 +456,119 @@ module _ (o : Options) (who : Who) (u : Outcome) (older : List Entry) where
       named (Then (Does w (Shut t))) so (ap (λ m. m.outcome) k.2)
       (inr (w, t, at.0, k.0, refl, ap (λ m. m.who) k.2, at.1, at.2, refl))
 
+  -- OF ONE'S OWN CONSUMER
+
+  -- it is told this word
+  record IsWorded (t : ℕ) (m : Member) (w : Option Word) : Type 0 where
+    word : Word
+    is_some : w ≡ Some word
+    who_is : who ≡ consumer.who_of t m
+    told : u ≡ outcome.Word word
+
+  worded_in : (t : ℕ) (m : Member) (w : Option Word) → In it (word_to t m w) → IsWorded t m w
+  worded_in t m None h = absurd h
+  worded_in t m (Some x) (inl e) = record { word = x; is_some = refl; who_is = ap (λ n. n.who) e; told = ap (λ n. n.outcome) e }
+  worded_in t m (Some x) (inr h) = absurd h
+
+  due_if : (b : Bool) (x : Word) → consumer.word_if b word.Due ≡ Some x → (b ≡ true) × (x ≡ word.Due)
+  due_if true x e = (refl, cc)
+  due_if false x e = absurd cc
+
+  record IsDueSo (t : ℕ) (m : Member) : Type 0 where
+    due : reader.is_due m.seen ≡ true
+    who_is : who ≡ consumer.who_of t m
+    told : u ≡ outcome.Word word.Due
+
+  due_in : (t : ℕ) (m : Member) → In it (due_to t m) → IsDueSo t m
+  due_in t m h =
+      let k = worded_in t m (consumer.word_if (reader.is_due m.seen) word.Due) h in
+      let d = due_if (reader.is_due m.seen) k.word k.is_some in
+      record { due = d.0; who_is = k.who_is; told = k.told ∙ ap outcome.Word d.1 }
+
+  due_there : (t : ℕ) (m : Member) → In it (due_at t (Some m)) → IsDueSo t m
+  due_there t m h = elim (in_append it (due_to t m) [] h) [ inl i ↦ due_in t m i | inr i ↦ absurd i ]
+
+  abbrev Why : Entry → Type 0
+  Why e = PolledDue o who e older ⊎ (RevivedDue o who e older ⊎ BuiltDue o who e older)
+
+  is_due_caused : (e : Entry) → u ≡ outcome.Word word.Due → Why e → Cause o who u e older
+  is_due_caused e d k = named e (outcome.Word word.Due) d (inr (inr (inr (inr (inl (refl, k))))))
+
+  polled_caused : (t : ℕ) (row : Option Member) → v.consumers.rows t ≡ row →
+      In it (due_at t (option_map (consumer.member_after (reader.Polls v.now)) row)) → Cause o who u (Then (Comes (Polls t))) older
+  polled_caused t None e h = absurd h
+  polled_caused t (Some m) e h =
+      let k = due_there t (consumer.member_after (reader.Polls v.now) m) h in
+      is_due_caused (Then (Comes (Polls t))) k.told
+      (inl (t, m, refl, (e, k.who_is ∙ ap (λ n. Consumer n t) (polled_number v.now m.seen)), k.due))
+
+  closed_caused : (w : Who) (l : ℕ) (request : Words) → In it (over_rows (closed_at v l request) v.consumers) →
+      Cause o who u (Then (Does w (Ask l request))) older
+  closed_caused w l request h =
+      let r = in_rows (closed_at v l request) it v.consumers h in
+      let k = worded_in r.0 r.1
+      (consumer.word_of_close (closed_consumer request) l (is_asked (answer_at v.now request (v.links.live l))) r.1) r.3 in
+      named (Then (Does w (Ask l request))) (outcome.Word k.word) k.told
+      (inr (inr (inr (inl (l, r.0, w, request, r.1, refl, (r.2, k.who_is), k.is_some)))))
+
+  again_caused : (w : Who) (e : Entry) → ((l : ℕ) × (e ≡ Then (Does w (Revive l)))) ⊎ ((f : Failure) × (e ≡ Then (Does w (FailConsumer f)))) →
+      In it (again_at (v.consumers.rows (ticket_of w))) → Cause o who u e older
+  again_caused w e is h =
+      let ws : List Who = consumer.seekers_at (v.consumers.rows (ticket_of w)) in
+      let k = in_map again it ws h in
+      let listed : In who ws = subst (λ x. In x ws) (sym (ap (λ n. n.who) k.2)) k.1 in
+      named e (outcome.Word word.Again) (ap (λ n. n.outcome) k.2) (inr (inr (inr (inr (inr (refl, (w, listed, is)))))))
+
+  revived_caused : (w : Who) (l : ℕ) (row : Option Member) → v.consumers.rows (ticket_of w) ≡ row →
+      In it (due_at (ticket_of w) (option_map (consumer.revived l (url_at (v.links.live l))) row)) → Cause o who u (Then (Does w (Revive l))) older
+  revived_caused w l None e h = absurd h
+  revived_caused w l (Some m) e h =
+      let k = due_there (ticket_of w) (consumer.revived l (url_at (v.links.live l)) m) h in
+      is_due_caused (Then (Does w (Revive l))) k.told
+      (inr (inl (l, w, m, refl, (e, k.who_is ∙ ap (λ n. Consumer n (ticket_of w)) (revived_number l (url_at (v.links.live l)) m)), k.due)))
+
+  built_caused : (w : Who) (verdict : Verdict) (m : Makes) → verdict.makes ≡ m → In it (made_due v.links.live w m) →
+      Cause o who u (Then (Answers w verdict)) older
+  built_caused w verdict (makes.Consumer j) e h =
+      let k = due_in (ticket_of w) (member_on v.links.live j.link (setup_of j)) h in
+      let url : Option Parts = url_at (v.links.live j.link) in
+      is_due_caused (Then (Answers w verdict)) k.told
+      (inr (inr (
+        w,
+        j,
+        verdict.said,
+        ap (λ x. Then (Answers w (record { makes = x; said = verdict.said }))) e,
+        k.who_is ∙ ap (λ n. Consumer n (ticket_of w)) (subscribed_number j.link url (record { seen = reader.fresh (setup_of j); seekers = [] })),
+        k.due,
+      )))
+  built_caused w verdict makes.Nothing e h = absurd h
+  built_caused w verdict makes.Client e h = absurd h
+  built_caused w verdict (makes.RawConsumer l made) e h = absurd h
+  built_caused w verdict (makes.Producer b) e h = absurd h
+
+  heard_caused : (l : ℕ) → In it (heard_on v l) → Cause o who u (Then (Comes (ToLink l Reads))) older
+  heard_caused l h =
+      let a : Arrival = arrival_at (v.links.live l) in
+      let r = in_rows (heard_at l a) it v.consumers h in
+      let k = worded_in r.0 r.1 (consumer.word_of l a r.1) r.3 in
+      named (Then (Comes (ToLink l Reads))) (outcome.Word k.word) k.told (inr (inl (l, r.0, r.1, refl, (r.2, k.who_is), k.is_some)))
+
+  lost_caused : (l : ℕ) (end : End) → In it (lost_on v l end) → Cause o who u (Then (Comes (ToLink l (Ends end)))) older
+  lost_caused l end h =
+      let c : Option Fault = closing end v.now (v.links.live l) in
+      let r = in_rows (lost_at l c) it v.consumers h in
+      let k = worded_in r.0 r.1 (consumer.word_of_loss l c r.1) r.3 in
+      named (Then (Comes (ToLink l (Ends end)))) (outcome.Word k.word) k.told
+      (inr (inr (inl (l, r.0, end, r.1, refl, (r.2, k.who_is), k.is_some))))
+
+  seekers_stopped : (w : Who) → In it (stopped_on v) → Cause o who u (Then (Does w StopAll)) older
+  seekers_stopped w h =
+      let r = in_rows stopped_seekers it v.consumers h in
+      let k = in_map stopped_one it r.1.seekers r.3 in
+      let listed : In who (consumer.seekers_at (v.consumers.rows r.0)) =
+      subst (λ x. In who (consumer.seekers_at x)) (sym r.2) (subst (λ x. In x r.1.seekers) (sym (ap (λ n. n.who) k.2)) k.1) in
+      named (Then (Does w StopAll)) outcome.Stopped (ap (λ n. n.outcome) k.2) (inl (w, refl, inr (inr (inr (inr (r.0, listed))))))
+
   joins_caused : (b : Act) → IsRun o (Then b ∷ older) → In it (joins v b) → Cause o who u (Then b) older
   joins_caused (Does w (PassTurn n)) run h = passed_caused w n (turn_passed (v.producers.topics n)) refl h
   joins_caused (Does w (Store n entry)) run h =
@@ -382,6 +577,16 @@ module _ (o : Options) (who : Who) (u : Outcome) (older : List Entry) where
   joins_caused (Does w (Shut t)) run h = shut_caused w t h
   joins_caused (Does w (Tell n)) run h = tells_caused w n (tell_said o older w n run) h
   joins_caused (Does w (TellAll ns)) run h = all_caused w ns (tell_settling o older w ns run) h
+  joins_caused (Comes (Polls t)) run h = polled_caused t (v.consumers.rows t) refl h
+  joins_caused (Does w (Ask l request)) run h = closed_caused w l request h
+  joins_caused (Does w (Revive l)) run h =
+      let row : Option Member = v.consumers.rows (ticket_of w) in
+      elim (in_append it (again_at row) (due_at (ticket_of w) (option_map (consumer.revived l (url_at (v.links.live l))) row)) h) [
+        | inl i ↦ again_caused w (Then (Does w (Revive l))) (inl (l, refl)) i
+        | inr i ↦ revived_caused w l row refl i
+      ]
+  joins_caused (Does w (FailConsumer f)) run h = again_caused w (Then (Does w (FailConsumer f))) (inr (f, refl)) h
+  joins_caused (Answers w verdict) run h = built_caused w verdict verdict.makes refl h
   joins_caused b run h = absurd h
 
   -- A MOMENT COMES, AND THE CLIENT IS STOPPED
@@ -426,7 +631,7 @@ module _ (o : Options) (who : Who) (u : Outcome) (older : List Entry) where
   unsent_stopped w i =
       let k = in_map stopped_call it (unsent v.producers) i in
       let at = in_flat (λ n. unsent_at (v.producers.topics n)) k.0 v.producers.numbers k.1 in
-      named (Then (Does w StopAll)) outcome.Stopped (ap (λ m. m.outcome) k.2) (inl (w, refl, inr (inr (inr (at.0, k.0, ap (λ m. m.who) k.2, at.2)))))
+      named (Then (Does w StopAll)) outcome.Stopped (ap (λ m. m.outcome) k.2) (inl (w, refl, inr (inr (inr (inl (at.0, k.0, ap (λ m. m.who) k.2, at.2))))))
 
   all_stopped : (w : Who) → In it (stopped_all ++ all_waits) → Cause o who u (Then (Does w StopAll)) older
   all_stopped w h = elim (in_append it stopped_all all_waits h) [
@@ -473,9 +678,12 @@ module _ (o : Options) (who : Who) (u : Outcome) (older : List Entry) where
     reads_caused h =
         let row : Option Seat = v.links.live l in
         let rest : List Notice = waiters_of served_on v.addresses (option_map (turned_by v.chosen v.addresses v.now l Reads) row) in
-        elim (in_append it (answered_on row) rest (in_opened it (answered_on row ++ rest) h)) [
-          | inl i ↦ answered_caused row refl i
-          | inr i ↦ waited_caused row refl i
+        elim (in_append it (answered_on row ++ rest) (heard_on v l) (in_opened it ((answered_on row ++ rest) ++ heard_on v l) h)) [
+          | inl both ↦ elim (in_append it (answered_on row) rest both) [
+            | inl i ↦ answered_caused row refl i
+            | inr i ↦ waited_caused row refl i
+          ]
+          | inr i ↦ heard_caused l i
         ]
 
     -- FRAMES MOVE UP
@@ -590,9 +798,17 @@ module _ (o : Options) (who : Who) (u : Outcome) (older : List Entry) where
   cause_caused (Comes (ToLink l (Drains most))) h = moved_caused l most (v.links.live l) refl (in_alone it (moved_on most v.now (v.links.live l)) h)
   cause_caused (Comes (ToLink l (Ends end))) h =
       let waiters : List Notice = waiters_of (failed_on end) v.addresses (option_map (turned_by v.chosen v.addresses v.now l (Ends end)) (v.links.live l)) in
-      ends_caused l end (v.links.live l) refl (in_opened it (ended_on end v.now (v.links.live l) ++ waiters) h)
+      let asked : List Notice = ended_on end v.now (v.links.live l) ++ waiters in
+      elim (in_append it asked (lost_on v l end) (in_opened it (asked ++ lost_on v l end) h)) [
+        | inl i ↦ ends_caused l end (v.links.live l) refl i
+        | inr i ↦ lost_caused l end i
+      ]
   cause_caused (Comes (Rings a)) h = rings_caused a (rings v.now a v.alarms) refl h
-  cause_caused (Does w StopAll) h = all_stopped w (in_opened it (stopped_all ++ all_waits) h)
+  cause_caused (Does w StopAll) h =
+      elim (in_append it (stopped_all ++ all_waits) (stopped_on v) (in_opened it ((stopped_all ++ all_waits) ++ stopped_on v) h)) [
+        | inl i ↦ all_stopped w i
+        | inr i ↦ seekers_stopped w i
+      ]
   cause_caused _ h = absurd h
 
   is_caused : (e : Entry) → IsRun o (e ∷ older) → Arises rules o (Told it) e older → Cause o who u e older

@@ -20,7 +20,7 @@ use Rattle.pulsar_session.specs.Answers.{answers, is}
 use Rattle.pulsar_session.specs.Laws.{IsInLine}
 use Rattle.pulsar_session.specs.Link.{Asks, Drains, Feeds, Opens, Request, Seen, Standing, Takes, after, after_of, answer_of, answered, asked, asks_for, can_wait, challenged, claim, drawn, feeds, frame_for, greeted, greeting, greets_with, has_room, is_open, is_ready, moved_up, named_by, number_for, opens_in, place_in, pongs, put_frame, put_in, queue, reacts, reacts_unless, request, responds, settled_by, taken_in, ticked, unready_in}
 use Rattle.pulsar_session.specs.Link as session
-use Rattle.pulsar_link.specs.Request.{is_answered, request_number}
+use Rattle.pulsar_link.specs.Request.{is_awaited}
 use Rattle.pulsar_calls.specs.declared.act.Who.{Who}
 use Rattle.pulsar_tables.specs.View.{asker_at, place_of}
 use Rattle.pulsar_client.proofs.Acts.{Each, each_append, each_map}
@@ -339,7 +339,7 @@ module _ (A : Who → Awaited → Type 0) where
   -- with the frame the line is longer, where it has a place
   module _ (words : Words) (who : Who) (f : ℕ → Option Who) (so : (id : ℕ) (c : Claim) → claim id words ≡ Some c → A who c.awaits) where
     abbrev is_asker : Bool
-    is_asker = is_answered (request_number words)
+    is_asker = is_awaited words
 
     asks_numbered : (id now : ℕ) (v : Seen) → IsInLine v → Claimed A v f (end_of_line v) →
         Claimed A (asks_for (request id now words) v) (Added is_asker (place_of (session.asked_for (request id now words) v)) who f) (end_of_line v + 1)
@@ -448,7 +448,7 @@ greeted_grows : (x : Bool) (left : List ℕ) (v : Seen) → end_of_line v ≤ en
 greeted_grows true left v = omega arith
 greeted_grows false left v = omega arith
 
-taken_grows : (stage : Stage) (x : Front) (v : Seen) → IsInLine v → end_of_line v ≤ end_of_line (taken_in stage x v)
+pub taken_grows : (stage : Stage) (x : Front) (v : Seen) → IsInLine v → end_of_line v ≤ end_of_line (taken_in stage x v)
 taken_grows Dialing x v h = omega arith
 taken_grows Handshaking Short v h = omega arith
 taken_grows Handshaking (Refused r) v h = omega arith
@@ -462,7 +462,7 @@ greets_grows : (frame : Option (List ℕ)) (v : Seen) → end_of_line v ≤ end_
 greets_grows None v = omega arith
 greets_grows (Some frame) v = omega arith
 
-opens_grows : (stage : Stage) (v : Seen) → end_of_line v ≤ end_of_line (opens_in stage v)
+pub opens_grows : (stage : Stage) (v : Seen) → end_of_line v ≤ end_of_line (opens_in stage v)
 opens_grows Dialing v = greets_grows (frame_for (greeting v.setup)) (record v { stage = Handshaking })
 opens_grows Handshaking v = omega arith
 opens_grows Ready v = omega arith
@@ -476,13 +476,13 @@ moved_end (s ∷ xs) v = elim (cases_Bool (has_room v)) [
   | inr e ↦ rw e refl
 ]
 
-drains_grows : (most now : ℕ) (v : Seen) → end_of_line v ≤ end_of_line (after (Drains most now) v)
+pub drains_grows : (most now : ℕ) (v : Seen) → end_of_line v ≤ end_of_line (after (Drains most now) v)
 drains_grows most now v =
     either_grows (is_open v.stage) v (moved_up v.line (record (ticked now v) { unwritten = drop most v.unwritten })) (ticked now v)
     (let e : end_of_line (moved_up v.line (record (ticked now v) { unwritten = drop most v.unwritten })) ≡ v.waits.queued + length v.line =
     moved_end v.line (record (ticked now v) { unwritten = drop most v.unwritten }) in omega (arith, e)) (omega arith)
 
-feeds_same : (piece : List ℕ) (v : Seen) → end_of_line v ≤ end_of_line (feeds piece v)
+pub feeds_same : (piece : List ℕ) (v : Seen) → end_of_line v ≤ end_of_line (feeds piece v)
 feeds_same piece v = either_grows (is_open v.stage) v (record v { unread = v.unread ++ piece }) v (omega arith) (omega arith)
 
 -- WHAT WAITS ON A LINK WAS ASKED FOR, whatever is done to it
@@ -509,7 +509,7 @@ module _ (A : Who → Awaited → Type 0) where
   drained_so most now v f k = wider (after (Drains most now) v) f (end_of_line v) (drains_grows most now v) (drains_claimed A most now v f (end_of_line v) k)
 
   -- a frame that is asked for
-  answer_adds : (words : Words) (r : Result ℕ ConnectionError) (now : ℕ) (v : Seen) (m : ℕ) → IsInLine v → place_of (answer_of r now words v) ≡ Some m →
+  pub answer_adds : (words : Words) (r : Result ℕ ConnectionError) (now : ℕ) (v : Seen) (m : ℕ) → IsInLine v → place_of (answer_of r now words v) ≡ Some m →
       end_of_line (after_of r now words v) ≡ end_of_line v + 1
   answer_adds words (Err e) now v m h q = absurd (none_some q)
   answer_adds words (Ok id) now v m h q =
@@ -529,7 +529,7 @@ module _ (A : Who → Awaited → Type 0) where
           none false true p = absurd (none_some p)
           none false false p = absurd (none_some p)
 
-  answer_grows : (words : Words) (r : Result ℕ ConnectionError) (now : ℕ) (v : Seen) → IsInLine v → end_of_line v ≤ end_of_line (after_of r now words v)
+  pub answer_grows : (words : Words) (r : Result ℕ ConnectionError) (now : ℕ) (v : Seen) → IsInLine v → end_of_line v ≤ end_of_line (after_of r now words v)
   answer_grows words (Err e) now v h = omega arith
   answer_grows words (Ok id) now v h =
       let u : Seen = drawn (is_numbered words) v in
@@ -539,15 +539,15 @@ module _ (A : Who → Awaited → Type 0) where
 
   pub asked_so : (words : Words) (who : Who) (f : ℕ → Option Who) (now : ℕ) (v : Seen) → ((id : ℕ) (c : Claim) → claim id words ≡ Some c → A who c.awaits) →
       IsInLine v →
-      IsClaimed v f → IsClaimed (after (Asks now words) v) (asker_at (is_answered (request_number words)) who (place_of (asked now words v)) f)
+      IsClaimed v f → IsClaimed (after (Asks now words) v) (asker_at (is_awaited words) who (place_of (asked now words v)) f)
   asked_so words who f now v so h k =
       let b = asks_bounded A words who f so now v h k in
       record { waiting = b.waiting; low = b.low; line = b.line; few = at (place_of (asked now words v)) refl }
     where
       at : (place : Option ℕ) → place_of (asked now words v) ≡ place → (p : ℕ) (w : Who) →
-          asker_at (is_answered (request_number words)) who (place_of (asked now words v)) f p ≡ Some w → p < end_of_line (after (Asks now words) v)
+          asker_at (is_awaited words) who (place_of (asked now words v)) f p ≡ Some w → p < end_of_line (after (Asks now words) v)
       at None e p w q =
-          let old : p < end_of_line v = k.few p w (sym (ap (λ y. asker_at (is_answered (request_number words)) who y f p) e) ∙ q) in
+          let old : p < end_of_line v = k.few p w (sym (ap (λ y. asker_at (is_awaited words) who y f p) e) ∙ q) in
           let g : end_of_line v ≤ end_of_line (after (Asks now words) v) = answer_grows words (number_for (is_numbered words) v) now (ticked now v) h in
           omega (arith, old, g)
       at (Some m) e p w q =

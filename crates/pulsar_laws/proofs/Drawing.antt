@@ -22,7 +22,7 @@ use Rattle.pulsar_calls.specs.declared.act.Action.TheVariants.{TakeTurn, PassTur
 use Rattle.pulsar_calls.specs.declared.act.Alarm.{Alarm}
 use Rattle.pulsar_calls.specs.declared.act.Alarm.TheVariants.{Batch}
 use Rattle.pulsar_calls.specs.declared.act.Makes.{Makes}
-use Rattle.pulsar_calls.specs.declared.act.Makes.TheVariants.{Producer}
+use Rattle.pulsar_calls.specs.declared.act.Makes.TheVariants.{Producer, Nothing}
 use Rattle.pulsar_calls.specs.declared.act.Notice.{Notice}
 use Rattle.pulsar_calls.specs.declared.act.Outcome.{Outcome}
 use Rattle.pulsar_calls.specs.declared.act.Outcome.TheVariants as outcome
@@ -59,6 +59,8 @@ use Rattle.pulsar_laws.proofs.Once.{ends_once_lem}
 use Rattle.pulsar_laws.proofs.Owned.{batcher_told, batches_begun, starts_own}
 use Rattle.pulsar_client.proofs.Ticketed.{Began}
 use Rattle.pulsar_laws.proofs.Begun.{has_begun}
+use Rattle.pulsar_laws.proofs.Same.{same_self}
+use Rattle.pulsar_laws.proofs.Servers.{server_gives, server_stands, serve_goes_on}
 
 -- ALL THAT IS SO ALONG A LOG
 
@@ -420,7 +422,7 @@ owned_in : (Q : ℕ → Type 0) (n : ℕ) (m : Makes) (b : Building) → m ≡ P
 owned_in Q n m b e k i = let s : MakesSound Q (Producer b) = subst (MakesSound Q) e k in in_each Q n (map number_of b.parts) s i
 
 self_same : (t : ℕ) → is_same (Call t) (Call t) ≡ true
-self_same t = grind (arith, nat_tests)
+self_same t = same_self (Call t)
 
 -- a topic producer makes no producer
 no_producer : (o : Options) (log : List Entry) (m : ℕ) (verdict : Verdict) (b : Building) → verdict.makes ≡ Producer b →
@@ -437,9 +439,27 @@ no_producer o log m verdict b makes run = elim (answers_from o log (one.Producer
   ]
 ]
 
+-- and no consumer does
+no_consumer : (o : Options) (log : List Entry) (n t : ℕ) (verdict : Verdict) (b : Building) → verdict.makes ≡ Producer b →
+    IsRun o (Then (Answers (one.Consumer n t) verdict) ∷ log) → ⊥
+no_consumer o log n t verdict b makes run = elim (answers_from o log (one.Consumer n t) verdict run) [
+  | inl k ↦
+      (let r : IsRun o (Then (Told (notice (one.Consumer n t) k.outcome)) ∷ k.older) = subst (IsRun o) k.is_there run.0 in
+      let f : Nothing ≡ Producer b =
+      sym (server_gives k.before k.outcome verdict (server_stands o k.older n t k.before r.0 k.stood) k.leads) ∙ makes in
+      absurd cc)
+  | inr x ↦ elim x [
+    | inl k ↦
+        (let r : IsRun o (Then (Starts (one.Consumer n t) k.procedure) ∷ k.older) = subst (IsRun o) k.is_there run.0 in
+        serve_goes_on o k.older n t k.procedure verdict r k.leads)
+    | inr e ↦ (let f : (fails Exhausted).makes ≡ Producer b = sym (ap (λ y. y.makes) e) ∙ makes in absurd cc)
+  ]
+]
+
 who_call : (o : Options) (log : List Entry) (w : Who) (verdict : Verdict) (b : Building) → verdict.makes ≡ Producer b →
     IsRun o (Then (Answers w verdict) ∷ log) → w ≡ Call (rank w).1
 who_call o log (Call t) verdict b makes run = refl
+who_call o log (one.Consumer n t) verdict b makes run = absurd (no_consumer o log n t verdict b makes run)
 who_call o log (one.Producer m) verdict b makes run = absurd (no_producer o log m verdict b makes run)
 
 end_self : (w : Who) (verdict : Verdict) (t : ℕ) → w ≡ Call t → end_of t (Answers w verdict) ≡ 1
@@ -498,6 +518,7 @@ joins_new o log k (Call t) verdict b n row makes run i h =
     let before : 1 ≤ counted (end_of t) log = subst (λ u. 1 ≤ counted (end_of u) log) (sym w) was.1 in
     let total : counted (end_of t) log + end_of t (Answers (Call t) verdict) ≤ 1 = once in
     omega (arith, one, before, total)
+joins_new o log k (one.Consumer m t) verdict b n row makes run i h = absurd (no_consumer o log m t verdict b makes run)
 joins_new o log k (one.Producer m) verdict b n row makes run i h = absurd (no_producer o log m verdict b makes run)
 
 topics_on : (o : Options) (log : List Entry) → Every (Drawn o) log → (a : Act) → IsRun o (Then a ∷ log) → (n : ℕ) (row : Topic) →

@@ -42,7 +42,7 @@ taken_early Ready (Whole m rest) v e h =
     let u = record v { unread = rest } in
     λ r. absurd (let no = sym (ap is_ready (unless_stage (places (settled_by m u)) m (record u { waits = answered_to m u.waits }) ∙ e)) ∙ r in cc)
 
-moved_stage : (line : List Standing) (v : Seen) → (moved_up line v).stage ≡ v.stage
+pub moved_stage : (line : List Standing) (v : Seen) → (moved_up line v).stage ≡ v.stage
 moved_stage [] v = refl
 moved_stage (s ∷ line) v = by (has_room v) refl (moved_stage line (queue s.frame s.claim v))
   where
@@ -55,14 +55,14 @@ moved_early v h = λ r.
     let empty = h (sym (ap is_ready (moved_stage v.line v)) ∙ r) in
     ap (λ l. (moved_up l v).line) empty
 
-ready_of : (numbered : Bool) (v : Seen) (id : ℕ) → number_for numbered v ≡ Ok id → is_ready v.stage ≡ true
+pub ready_of : (numbered : Bool) (v : Seen) (id : ℕ) → number_for numbered v ≡ Ok id → is_ready v.stage ≡ true
 ready_of numbered v id h = by (is_ready v.stage) (numbered && is_spent v.next_number) h
   where
     by : (a b : Bool) → cond a (cond b (Err error.Exhausted) (Ok v.next_number)) (Err error.Disconnected) ≡ Ok id → a ≡ true
     by true b g = refl
     by false b g = absurd cc
 
-drawn_stage : (b : Bool) (v : Seen) → (drawn b v).stage ≡ v.stage
+pub drawn_stage : (b : Bool) (v : Seen) → (drawn b v).stage ≡ v.stage
 drawn_stage true v = refl
 drawn_stage false v = refl
 

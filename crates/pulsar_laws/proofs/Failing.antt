@@ -3,7 +3,7 @@ use Rattle.std.proofs.Common.{◌≡◌, ◌⊎◌, inl, inr, ◌∙◌, sym, ap
 use Rattle.std.specs.List.{list_any}
 use Rattle.std.specs.Option.{is_some}
 use Rattle.pulsar_run.specs.Laws.{In}
-use Rattle.pulsar_session.specs.Failures.{DiscoveryFault, Failure, OfConnection, OfDiscovery, OfPartialSend}
+use Rattle.pulsar_session.specs.Failures.{DiscoveryFault, Failure, OfConnection, OfDiscovery, OfPartialSend, ConsumerClosed, OfConsumer}
 use Rattle.pulsar_session.specs.Reply.{Reply as Content}
 use Rattle.pulsar_wire.specs.Row.{Values}
 use Rattle.pulsar_wire.specs.Rows.{send_receipt}
@@ -11,7 +11,7 @@ use Rattle.pulsar_link.specs.Messages.{Reply, Written}
 use Rattle.pulsar_link.specs.Refusals.{refused}
 use Rattle.pulsar_link.specs.Request.{is_answered, request_number}
 use Rattle.pulsar_plans.specs.Plans as search
-use Rattle.pulsar_plans.specs.Replies.{in_discovery, unexpected}
+use Rattle.pulsar_plans.specs.Replies.{in_discovery, unexpected, count_in}
 use Rattle.pulsar_plans.specs.declared.plan.Answer.{Answer}
 use Rattle.pulsar_plans.specs.declared.plan.Answer.TheVariants as answer
 use Rattle.pulsar_plans.specs.declared.plan.Plan.{Plan as Search}
@@ -50,17 +50,37 @@ use Rattle.pulsar_calls.specs.declared.act.Verdict.{Verdict}
 use Rattle.pulsar_procedures.specs.declared.plan.At.{At as Point}
 use Rattle.pulsar_procedures.specs.declared.plan.At.TheVariants as point
 use Rattle.pulsar_procedures.specs.declared.plan.Plan.{Plan}
-use Rattle.pulsar_procedures.specs.declared.plan.Plan.TheVariants.{Building, Getting, Asking, Awaiting, Searching, Producing, Sending, Reporting, Storing, Stored, Batching, Leaving, Gathering, Shutting, Visiting, Stopping}
+use Rattle.pulsar_procedures.specs.declared.plan.Plan.TheVariants.{Building, Getting, Asking, Awaiting, Searching, Producing, Sending, Reporting, Storing, Stored, Batching, Leaving, Gathering, Shutting, Visiting, Stopping, Subscribing, Serving, Acknowledging, Departing}
 use Rattle.pulsar_procedures.specs.declared.plan.Turn.{Turn}
 use Rattle.pulsar_procedures.specs.declared.plan.Turn.TheVariants.{Stays, Gives}
 use Rattle.pulsar_calls.specs.Content.{Said, Done, Receipt, Replies, Failed}
-use Rattle.pulsar_laws.specs.Laws.{Deed, Acted, Answered, FailsSo, IsRefused, IsRefusedShare, IsTold, IsTurned, IsDenied, IsUnexpected, IsInProducer, IsUnexpectedInProducer, IsSettled, IsPartial, IsAnswered, DeniesSo, acted, course, fails_in_producer, has_failed, number_in, ways_in}
+use Rattle.pulsar_laws.specs.Laws.{Deed, Acted, Answered, FailsSo, IsRefused, IsRefusedShare, IsTold, IsTurned, IsDenied, IsUnexpected, IsInProducer, IsUnexpectedInProducer, IsSettled, IsPartial, IsAnswered, DeniesSo, acted, course, fails_in_producer, has_failed, number_in, ways_in, IsInUse, IsOfSeveral, IsClosed}
 use Rattle.pulsar_calls.specs.Content.{numbers_from}
 use Rattle.pulsar_calls.specs.Parts.{failed_with, outcomes_of, sent_from}
-use Rattle.pulsar_procedures.specs.Plan.{asks_of, begins, builds, fails, fails_in, fails_with, failure_in, failure_of, fault_of, found, gathers, goes, goes_on_sending, goes_round, halted, in_stored, in_storing, is_answer, is_settled, leaves, news_in, news_of, overrides, parted, receipt_said, sends_stay, settled, stored, told, told_at, told_batch, tells, verdict, visited, visits}
+use Rattle.pulsar_procedures.specs.Plan.{asks_of, begins, builds, fails, fails_in, fails_with, failure_in, failure_of, fault_of, found, gathers, goes, goes_on_sending, goes_round, halted, in_stored, in_storing, is_answer, is_settled, leaves, news_in, news_of, overrides, parted, receipt_said, sends_stay, settled, stored, told, told_at, told_batch, tells, verdict, visited, visits, consumer_news_of, in_departing, in_recalling, in_resting, in_resuming, in_reviving, in_subscribing, in_taking, is_over, resting_hears, resubscribes, subscribes, told_service}
 use Rattle.pulsar_producer.specs.Batching.{is_sent_send}
 use Rattle.pulsar_laws.proofs.Productions.{AllowsBreaks, AllowsReply, BuildKeeps, Ends, SendKeeps, building_begins, building_ends, sending_ends}
-use Rattle.pulsar_laws.proofs.Searches.{Breaks, ByFault, BySearch, ByReply, Keeps, Turns, is_search, is_sought, keeps_begins, keeps_told}
+use Rattle.pulsar_laws.proofs.Searches.{Breaks, ByFault, BySearch, ByReply, Keeps, Turns, is_search, is_sought, keeps_begins, keeps_told, FailsBy, made_fails, names_begin, naming_fails}
+use Rattle.pulsar_plans.specs.Address.{Named}
+use Rattle.pulsar_plans.specs.declared.making.Command.{Command}
+use Rattle.pulsar_procedures.specs.declared.service.Service.{Service}
+use Rattle.pulsar_procedures.specs.declared.states.Resubscribing.{Resubscribing}
+use Rattle.pulsar_calls.specs.declared.act.Word.{Word}
+use Rattle.pulsar_consumer.specs.declared.building.Building.{Building as ConsumerBuild}
+use Rattle.pulsar_consumer.specs.declared.building.News.{News as ConsumerNews}
+use Rattle.pulsar_consumer.specs.declared.building.Order.{Order as ConsumerOrder}
+use Rattle.pulsar_procedures.specs.declared.service.Service.TheVariants as service
+use Rattle.pulsar_calls.specs.declared.act.Word.TheVariants as word
+use Rattle.pulsar_consumer.specs.Plans as consume
+use Rattle.pulsar_plans.specs.declared.closing.Step.TheVariants as building_step
+use Rattle.pulsar_consumer.specs.declared.building.Building.TheVariants as consumer_build
+use Rattle.pulsar_consumer.specs.declared.building.News.TheVariants as consumer_news
+use Rattle.pulsar_laws.proofs.Consuming.{IsServing, service_serves}
+use Rattle.pulsar_plans.specs.declared.replies.Heard.TheVariants.{Says as CountIs}
+use Rattle.pulsar_plans.specs.declared.names.Naming.{Naming}
+use Rattle.pulsar_plans.specs.declared.making.Making.{Making}
+use Rattle.pulsar_plans.specs.declared.making.Served.{Served}
+use Rattle.pulsar_laws.proofs.Counted.{Heeds, IsCounted, NamedIn, NamesKept, Several, names_begin_kept, names_kept}
 
 -- FAULTS
 
@@ -110,6 +130,95 @@ said_in (Answered verdict) = verdict.said
 abbrev pub Fails : Makes → Failure → Deed
 Fails m f = Answered (record { makes = m; said = Failed f })
 
+-- THE BUILDING OF A CONSUMER, where it fails
+
+abbrev BuildFails : (Failure → Type 0) → consume.Builds → Type 0
+BuildFails P (building_step.Stays b d) = Unit {0}
+BuildFails P (building_step.Gives (Ok b)) = Unit {0}
+BuildFails P (building_step.Gives (Err f)) = P f
+
+then_fails : {S A : Type 0} (P Q : Failure → Type 0) (turn : SearchTurn S (Result A Failure)) (within : S → ConsumerBuild) (on : A → consume.Builds) →
+    FailsBy Q turn → ((f : Failure) → Q f → P f) → ((a : A) → BuildFails P (on a)) → BuildFails P (consume.build_then turn within on)
+then_fails P Q (search_turn.Stays s action) within on q h k = tt
+then_fails P Q (search_turn.Gives (Ok a)) within on q h k = k a
+then_fails P Q (search_turn.Gives (Err f)) within on q h k = h f q
+
+numbers_fail : (P : Failure → Type 0) (o : ConsumerOrder) (n : Option Named) → (n ≡ None → P consume.not_found) → BuildFails P (consume.build_numbers o n)
+numbers_fail P o None k = k refl
+numbers_fail P o (Some n) k = tt
+
+named_fails : (P Q : Failure → Type 0) (w : Ways) (all : List Outcome) (o : ConsumerOrder) (turn : SearchTurn Naming (Result (List Named) Failure)) →
+    FailsBy Q turn → ((f : Failure) → Q f → P f) → NamesKept w all turn → (Several w all → P consume.not_found) → BuildFails P (consume.build_names o turn)
+named_fails P Q w all o (search_turn.Stays s action) q h k m = tt
+named_fails P Q w all o (search_turn.Gives (Ok names)) q h k m = numbers_fail P o (consume.only names) (λ e. m (k e))
+named_fails P Q w all o (search_turn.Gives (Err f)) q h k m = h f q
+
+-- what such a building keeps
+module _ (w : Ways) (all : List Outcome) where
+  abbrev pub BuildNamed : ConsumerBuild → Type 0
+  BuildNamed (consumer_build.Naming n) = NamedIn w all n
+  BuildNamed (consumer_build.Numbering topic place) = Unit {0}
+  BuildNamed (consumer_build.Making c m n) = Unit {0}
+
+  abbrev BuildKept : consume.Builds → Type 0
+  BuildKept (building_step.Stays b d) = BuildNamed b
+  BuildKept (building_step.Gives a) = Unit {0}
+
+  numbers_kept : (o : ConsumerOrder) (n : Option Named) → BuildKept (consume.build_numbers o n)
+  numbers_kept o None = tt
+  numbers_kept o (Some n) = tt
+
+  named_kept : (o : ConsumerOrder) (turn : SearchTurn Naming (Result (List Named) Failure)) → NamesKept w all turn → BuildKept (consume.build_names o turn)
+  named_kept o (search_turn.Stays s action) k = k
+  named_kept o (search_turn.Gives (Ok names)) k = numbers_kept o (consume.only names)
+  named_kept o (search_turn.Gives (Err f)) k = tt
+
+  makes_kept : (c : Command) (n : ℕ) (turn : SearchTurn Making (Result Served Failure)) → BuildKept (consume.build_makes c n turn)
+  makes_kept c n (search_turn.Stays s action) = tt
+  makes_kept c n (search_turn.Gives (Ok s)) = tt
+  makes_kept c n (search_turn.Gives (Err f)) = tt
+
+  build_kept : (o : ConsumerOrder) (b : ConsumerBuild) (y : ConsumerNews) → ((x : News) → y ≡ consumer_news.Told x → Heeds w all x) → BuildNamed b →
+      BuildKept (consume.build_told w o b y)
+  build_kept o (consumer_build.Naming n) (consumer_news.Told x) h k =
+      named_kept o (search.names_told w o.topic n x) (names_kept w all o.topic n x (h x refl) k)
+  build_kept o (consumer_build.Naming n) (consumer_news.Numbered m) h k = k
+  build_kept o (consumer_build.Naming n) consumer_news.InUse h k = k
+  build_kept o (consumer_build.Numbering t place) (consumer_news.Told x) h k = tt
+  build_kept o (consumer_build.Numbering t place) (consumer_news.Numbered m) h k = tt
+  build_kept o (consumer_build.Numbering t place) consumer_news.InUse h k = tt
+  build_kept o (consumer_build.Making c m n) (consumer_news.Told x) h k = makes_kept c n (search.made_told w c m x)
+  build_kept o (consumer_build.Making c m n) (consumer_news.Numbered j) h k = tt
+  build_kept o (consumer_build.Making c m n) consumer_news.InUse h k = tt
+
+-- it may fail so at these news
+pub record AllowsFailures (P : Failure → Type 0) (w : Ways) (all : List Outcome) (y : ConsumerNews) : Type 0 where
+  breaks : (x : News) → y ≡ consumer_news.Told x → (f : Failure) → Breaks w x f → P f
+  fault : (x : News) → y ≡ consumer_news.Told x → P (OfConnection (search.fault_of x))
+  in_use : y ≡ consumer_news.InUse → P consume.in_use
+  heeds : (x : News) → y ≡ consumer_news.Told x → Heeds w all x
+  several : Several w all → P consume.not_found
+
+building_fails : (P : Failure → Type 0) (w : Ways) (all : List Outcome) (o : ConsumerOrder) (b : ConsumerBuild) (y : ConsumerNews) →
+    AllowsFailures P w all y → BuildNamed w all b → BuildFails P (consume.build_told w o b y)
+building_fails P w all o (consumer_build.Naming n) (consumer_news.Told x) k named =
+    named_fails P (Turns w x) w all o (search.names_told w o.topic n x) (naming_fails w o.topic n x) (λ f t. k.breaks x refl f (BySearch t))
+    (names_kept w all o.topic n x (k.heeds x refl) named) k.several
+building_fails P w all o (consumer_build.Naming n) (consumer_news.Numbered m) k named = tt
+building_fails P w all o (consumer_build.Naming n) consumer_news.InUse k named = tt
+building_fails P w all o (consumer_build.Numbering t place) (consumer_news.Told x) k named = k.fault x refl
+building_fails P w all o (consumer_build.Numbering t place) (consumer_news.Numbered m) k named = tt
+building_fails P w all o (consumer_build.Numbering t place) consumer_news.InUse k named = k.in_use refl
+building_fails P w all o (consumer_build.Making c m n) (consumer_news.Told x) k named =
+    then_fails P (Breaks w x) (search.made_told w c m x) (λ m. consumer_build.Making c m n) _ (made_fails w c m x) (λ f t. k.breaks x refl f t) (λ s. tt)
+building_fails P w all o (consumer_build.Making c m n) (consumer_news.Numbered j) k named = tt
+building_fails P w all o (consumer_build.Making c m n) consumer_news.InUse k named = tt
+
+building_begins_so : (P : Failure → Type 0) (w : Ways) (all : List Outcome) (o : ConsumerOrder) → (Several w all → P consume.not_found) →
+    BuildFails P (consume.build_begins w o)
+building_begins_so P w all o k =
+    named_fails P P w all o (search.names_begins w o.topic) (names_begin P w o.topic) (λ f x. x) (names_begin_kept w all o.topic) k
+
 -- a procedure, and all outcomes that its plan was told
 module _ (p : Procedure) (all : List Outcome) where
   abbrev Fails' : Failure → Type 0
@@ -147,6 +256,10 @@ module _ (p : Procedure) (all : List Outcome) where
   Holds (Gathering first count left failures) = (p ≡ procedure.Gather first count) × ((failures ≡ []) ⊎ (list_any has_failed all ≡ true))
   Holds (Shutting numbers) = fails_in_producer p ≡ true
   Holds (Visiting r n left x) = RoundKeeps r
+  Holds (Subscribing w o b) = (p ≡ procedure.Subscribe w o) × BuildNamed w all b
+  Holds (Serving w n s) = Unit {0}
+  Holds Acknowledging = Unit {0}
+  Holds (Departing t n) = p ≡ procedure.Leave t n
   Holds Stopping = Unit {0}
 
   abbrev pub TurnHolds : Turn Plan Verdict → Type 0
@@ -346,6 +459,74 @@ module _ (p : Procedure) (all : List Outcome) where
 
   -- ALL PLANS
 
+  -- CONSUMERS
+
+  building_holds : (w : Ways) (o : ConsumerOrder) (x : consume.Builds) → p ≡ procedure.Subscribe w o → BuildFails Fails' x → BuildKept w all x →
+      TurnHolds (subscribes w o x)
+  building_holds w o (building_step.Stays b d) is k m = (is, m)
+  building_holds w o (building_step.Gives (Ok b)) is k m = says_done
+  building_holds w o (building_step.Gives (Err f)) is k m = says_failed f k
+
+  several_so : (w : Ways) (o : ConsumerOrder) → p ≡ procedure.Subscribe w o → Several w all → FailsSo p all consume.not_found
+  several_so w o is (k, (r, n, i, c), two) = IsOfSeveral w o r n k is i c two refl
+
+  counted_so : (w : Ways) (u : Outcome) → In u all → (r : Content) (n k : ℕ) → news_in u ≡ news.Replied r → count_in w n r ≡ CountIs k → IsCounted w all k
+  counted_so w (Replied r') i r n k e c = (r', n, i, subst (λ y. count_in w n y ≡ CountIs k) (let same : r ≡ r'.content = cc in same) c)
+  counted_so w (GotLink l) i r n k e c = absurd cc
+  counted_so w outcome.Woken i r n k e c = absurd cc
+  counted_so w u i r n k e c = absurd cc
+
+  heeds_so : (w : Ways) (u : Outcome) → In u all → (x : News) → consumer_news.Told (news_in u) ≡ consumer_news.Told x → Heeds w all x
+  heeds_so w u i x e = λ r n k f c. counted_so w u i r n k ((let same : news_in u ≡ x = cc in same) ∙ f) c
+
+  told_allows : (w : Ways) (o : ConsumerOrder) (u : Outcome) → p ≡ procedure.Subscribe w o → In u all →
+      AllowsFailures Fails' w all (consumer_news.Told (news_in u))
+  told_allows w o u is i = record {
+    breaks = λ x e f b. breaks_so w u f (ap ways_in is) i (let same : news_in u ≡ x = cc in subst (λ y. Breaks w y f) (sym same) b);
+    fault = λ x e. (let same : news_in u ≡ x = cc in IsTold u i (ap (λ y. OfConnection (search.fault_of y)) (sym same) ∙ ap OfConnection (fault_same u)));
+    in_use = λ e. absurd cc;
+    heeds = λ x e. heeds_so w u i x e;
+    several = several_so w o is;
+  }
+
+  subscribing_holds : (w : Ways) (o : ConsumerOrder) (b : ConsumerBuild) (u : Outcome) → p ≡ procedure.Subscribe w o → BuildNamed w all b → In u all →
+      TurnHolds (in_subscribing w o b (consumer_news_of u))
+  subscribing_holds w o b Queued is m i = (is, m)
+  subscribing_holds w o b InLine is m i = (is, m)
+  subscribing_holds w o b (outcome.Word (word.Numbered n)) is m i =
+      building_holds w o (consume.build_told w o b (consumer_news.Numbered n)) is
+      (building_fails Fails' w all o b (consumer_news.Numbered n)
+      (record { breaks = λ x e f k. absurd cc; fault = λ x e. absurd cc; in_use = λ e. absurd cc; heeds = λ x e. absurd cc; several = several_so w o is }) m)
+      (build_kept w all o b (consumer_news.Numbered n) (λ x e. absurd cc) m)
+  subscribing_holds w o b (outcome.Word word.InUse) is m i =
+      building_holds w o (consume.build_told w o b consumer_news.InUse) is
+      (building_fails Fails' w all o b consumer_news.InUse
+      (record {
+        breaks = λ x e f k. absurd cc;
+        fault = λ x e. absurd cc;
+        in_use = λ e. IsInUse w o is i refl;
+        heeds = λ x e. absurd cc;
+        several = several_so w o is;
+      }) m)
+      (build_kept w all o b consumer_news.InUse (λ x e. absurd cc) m)
+  subscribing_holds w o b (outcome.Word _) is m i = (is, m)
+  subscribing_holds w o b u is m i =
+      building_holds w o (consume.build_told w o b (consumer_news.Told (news_in u))) is
+      (building_fails Fails' w all o b (consumer_news.Told (news_in u)) (told_allows w o u is i) m)
+      (build_kept w all o b (consumer_news.Told (news_in u)) (λ x e. heeds_so w u i x e) m)
+
+  serves_holds : (x : Turn Plan Verdict) → IsServing x → TurnHolds x
+  serves_holds (Stays (Serving w n s) action) k = tt
+  serves_holds (Stays q action) k = absurd k
+  serves_holds (Gives v) k = subst (λ x. Says x.said) (sym k) says_done
+
+  departing_holds : (t n : ℕ) (u : Outcome) → p ≡ procedure.Leave t n → In u all → TurnHolds (in_departing t n u)
+  departing_holds t n (GotLink link) is i = ap number_in is
+  departing_holds t n (outcome.Word word.Again) is i = is
+  departing_holds t n (outcome.Word word.Closed) is i = with_failure (OfConsumer ConsumerClosed) (IsClosed t n is i refl)
+  departing_holds t n (outcome.Word x) is i = told_so (outcome.Word x) i
+  departing_holds t n u is i = told_so u i
+
   told_holds : (plan : Plan) (u : Outcome) → Holds plan → In u all → is_proper u ≡ true → TurnHolds (told plan u)
   told_holds Building (GotLink link) k i proper = says_done
   told_holds Building u k i proper = told_so u i
@@ -383,6 +564,12 @@ module _ (p : Procedure) (all : List Outcome) where
   told_holds (Shutting numbers) u k i proper = told_so u i
   told_holds (Visiting r n left x) u k i proper =
       either_holds (overrides u) (Gives (fails (fault_of u))) (told_at r n left x u) (told_so u i) (visits_hold r n left x u k i)
+  told_holds (Subscribing w o b) u k i proper =
+      either_holds (overrides u) (Gives (fails (fault_of u))) (in_subscribing w o b (consumer_news_of u)) (told_so u i) (subscribing_holds w o b u k.0 k.1 i)
+  told_holds (Serving w n s) u k i proper =
+      either_holds (overrides u) is_over (told_service w n s u) says_done (serves_holds (told_service w n s u) (service_serves w n s u))
+  told_holds Acknowledging u k i proper = says_done
+  told_holds (Departing t n) u k i proper = departing_holds t n u k i
   told_holds Stopping Stopped k i proper = says_done
   told_holds Stopping u k i proper = told_so u i
 
@@ -431,4 +618,12 @@ begins_holds (procedure.Go Checks numbers) all is = round_holds (procedure.Go Ch
 begins_holds (procedure.Go Flushes numbers) all is = round_holds (procedure.Go Flushes numbers) all Flushes numbers tt
 begins_holds (procedure.Go Closes numbers) all is = absurd is
 begins_holds (procedure.Close ticket numbers) all is = refl
+begins_holds (procedure.Subscribe w o) all is =
+    building_holds (procedure.Subscribe w o) all w o (consume.build_begins w o) refl
+    (building_begins_so (FailsSo (procedure.Subscribe w o) all) w all o (several_so (procedure.Subscribe w o) all w o refl))
+    (named_kept w all o (search.names_begins w o.topic) (names_begin_kept w all o.topic))
+begins_holds (procedure.Serve w n) all is = tt
+begins_holds (procedure.Acknowledge None request) all is = says_done (procedure.Acknowledge None request) all
+begins_holds (procedure.Acknowledge (Some l) request) all is = tt
+begins_holds (procedure.Leave t n) all is = refl
 begins_holds (procedure.Refuse r) all is = says_failed (procedure.Refuse r) all (failure_of r) (IsRefused r refl refl)

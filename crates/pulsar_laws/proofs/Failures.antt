@@ -6,7 +6,6 @@ use Rattle.pulsar_run.specs.Laws.{In, InThisStep}
 use Rattle.pulsar_run.specs.Run.{rest}
 use Rattle.pulsar_frame.specs.Batch.{EntryValues}
 use Rattle.pulsar_messages.specs.Content.{ProducerMessageValues}
-use Rattle.pulsar_link.specs.Request.{named_producer}
 use Rattle.pulsar_plans.specs.Address.{Place}
 use Rattle.pulsar_plans.specs.declared.plan.Procedure.{Procedure as Sought}
 use Rattle.pulsar_plans.specs.declared.plan.Procedure.TheVariants as sought
@@ -43,7 +42,7 @@ use Rattle.pulsar_procedures.specs.Plan.{begins}
 use Rattle.pulsar_producer.specs.Batch.{entry_of}
 use Rattle.pulsar_tables.specs.Producers.{Producers, batches_in, errand_of, numbers_at, routed, why_not}
 use Rattle.pulsar_calls.specs.Content.{next_advice}
-use Rattle.pulsar_tables.specs.Rules.{asks_raw, asks_topics, at_once, builds_with, checks, closes, does, fails_as, flushes, flushes_all, follows, follows_some, from_base, gathers, is_taken, notice, order_of, parts_of, performs, procedure_for, produces, produces_by, produces_from, searches, sends, sends_as, sends_by, share, shares_of, shares_unless, starts, stores_as, unless, unless_refused, why_no_sends}
+use Rattle.pulsar_tables.specs.Rules.{asks_raw, asks_topics, at_once, builds_with, checks, closes, does, fails_as, flushes, flushes_all, follows, follows_some, from_base, gathers, is_taken, notice, order_of, parts_of, performs, procedure_for, produces, produces_by, produces_from, searches, sends, sends_as, sends_by, share, shares_of, shares_unless, starts, stores_as, unless, unless_refused, why_no_sends, why_no_raw}
 use Rattle.pulsar_client.specs.Run.{Entry, Begins, Then, IsRun, agenda, view}
 use Rattle.pulsar_tables.specs.View.{Chosen, Options, Tickets, View, may_call, told_some, ways_of}
 use Rattle.pulsar_calls.specs.Who.{is_same}
@@ -56,6 +55,8 @@ use Rattle.pulsar_laws.proofs.Natures.{IsOfBatch}
 use Rattle.pulsar_client.proofs.Quiet.{IsQuiet, comes_quiet, performs_quiet}
 use Rattle.pulsar_laws.proofs.Searches.{is_sought}
 use Rattle.pulsar_client.proofs.Sources.{in_append, in_each}
+use Rattle.pulsar_laws.proofs.Consuming.{humble_call, is_humble}
+use Rattle.pulsar_tables.specs.Consumers.{Consumers}
 
 -- THE PROCEDURES OF CALLS
 
@@ -108,33 +109,46 @@ sends_made b s m (Some w) (Some e) =
 errand_made : (o : Chosen) (ps : Producers) (s : Option Share) (advised : Option ℕ) (t : ℕ) (m : ProducerMessageValues) → IsMade (sends_as o ps s advised t m)
 errand_made o ps s advised t m = sends_made (batches_in (ps.built t)) s m (ways_of o) (errand_of advised m (ps.built t))
 
-call_made : (o : Chosen) (c : Tickets) (ps : Producers) (advised : List (Option ℕ)) (asked : Asked) → IsMade (procedure_for o c ps advised asked)
-call_made o c ps advised content.Build = open_made (not c.is_stopped) (builds_with o.outbound o.base) (builds_made o.outbound o.base)
-call_made o c ps advised content.Stop = open_made (may_call c) procedure.Stop tt
-call_made o c ps advised (content.Topics namespace mode) =
+humble_made : (p : Procedure) → is_humble p ≡ true → IsMade p
+humble_made (procedure.Refuse r) h = tt
+humble_made (procedure.Subscribe w o) h = tt
+humble_made (procedure.Serve w n) h = tt
+humble_made (procedure.Acknowledge link request) h = tt
+humble_made (procedure.Leave t n) h = tt
+humble_made p h = absurd cc
+
+call_made : (o : Chosen) (c : Tickets) (cs : Consumers) (ps : Producers) (advised : List (Option ℕ)) (asked : Asked) →
+    IsMade (procedure_for o c cs ps advised asked)
+call_made o c cs ps advised content.Build = open_made (not c.is_stopped) (builds_with o.outbound o.base) (builds_made o.outbound o.base)
+call_made o c cs ps advised content.Stop = open_made (may_call c) procedure.Stop tt
+call_made o c cs ps advised (content.Topics namespace mode) =
     open_made (may_call c) (from_base o.base (asks_topics namespace mode)) (base_made o.base (asks_topics namespace mode) (λ place. tt))
-call_made o c ps advised (content.Lookup t) = open_made (may_call c) (searches (ways_of o) (sought.Look t)) (searches_made (ways_of o) (sought.Look t) refl)
-call_made o c ps advised (content.Partitions t) =
+call_made o c cs ps advised (content.Lookup t) = open_made (may_call c) (searches (ways_of o) (sought.Look t)) (searches_made (ways_of o) (sought.Look t) refl)
+call_made o c cs ps advised (content.Partitions t) =
     open_made (may_call c) (searches (ways_of o) (sought.CountPartitions t)) (searches_made (ways_of o) (sought.CountPartitions t) refl)
-call_made o c ps advised (content.Brokers t) = open_made (may_call c) (searches (ways_of o) (sought.Name t)) (searches_made (ways_of o) (sought.Name t) refl)
-call_made o c ps advised (content.Producer w) = open_made (may_call c) (produces o w) (produces_made (ways_of o) w.topic w)
-call_made o c ps advised (content.Send t m) =
+call_made o c cs ps advised (content.Brokers t) = open_made (may_call c) (searches (ways_of o) (sought.Name t)) (searches_made (ways_of o) (sought.Name t) refl)
+call_made o c cs ps advised (content.Producer w) = open_made (may_call c) (produces o w) (produces_made (ways_of o) w.topic w)
+call_made o c cs ps advised (content.Send t m) =
     open_made (may_call c) (sends o ps (next_advice advised) t m)
     (unless_made (why_not ps t) (sends_as o ps None (next_advice advised) t m) (errand_made o ps None (next_advice advised) t m))
-call_made o c ps advised (content.SendAll t ms) = open_made (may_call c) (gathers c ps t ms) (unless_made (why_not ps t) _ tt)
-call_made o c ps advised (content.Flush t) =
+call_made o c cs ps advised (content.SendAll t ms) = open_made (may_call c) (gathers c ps t ms) (unless_made (why_not ps t) _ tt)
+call_made o c cs ps advised (content.Flush t) =
     let ns : List ℕ = numbers_at (ps.built t) in
     open_made (may_call c) (flushes ps t)
     (unless_made (why_not ps t) (flushes_all (batches_in (ps.built t)) ns)
     (either_made (batches_in (ps.built t)) (procedure.Go Flushes ns) (procedure.Refuse refusal.NoBatches) tt tt))
-call_made o c ps advised (content.CheckProducer t) =
+call_made o c cs ps advised (content.CheckProducer t) =
     open_made (may_call c) (checks ps t) (unless_made (why_not ps t) (procedure.Go Checks (numbers_at (ps.built t))) tt)
-call_made o c ps advised (content.CloseProducer t) =
+call_made o c cs ps advised (content.CloseProducer t) =
     open_made (may_call c) (closes ps t)
     (either_made (is_some (ps.built t)) (procedure.Close t (numbers_at (ps.built t))) (procedure.Refuse refusal.UnknownTicket) tt tt)
-call_made o c ps advised (content.Raw l request) =
-    open_made (may_call c) (asks_raw ps l request)
-    (either_made (is_taken ps (named_producer request)) (procedure.Refuse refusal.NumberInUse) (procedure.Ask (Link l) request says.Bodies) tt tt)
+call_made o c cs ps advised (content.Consumer wanted) = humble_made _ (humble_call o c cs ps advised (content.Consumer wanted) refl)
+call_made o c cs ps advised (content.Ack t name id cumulative) =
+    humble_made _ (humble_call o c cs ps advised (content.Ack t name id cumulative) refl)
+call_made o c cs ps advised (content.Nack t name id) = humble_made _ (humble_call o c cs ps advised (content.Nack t name id) refl)
+call_made o c cs ps advised (content.CloseConsumer t) = humble_made _ (humble_call o c cs ps advised (content.CloseConsumer t) refl)
+call_made o c cs ps advised (content.Raw l request) =
+    open_made (may_call c) (asks_raw cs ps l request) (unless_made (why_no_raw cs ps request) (procedure.Ask (Link l) request says.Bodies) tt)
 
 -- and of their parts
 abbrev StartsMade : Act → Type 0
@@ -157,7 +171,7 @@ parts_made v advised (content.SendAll t ms) = unless_shares (why_no_sends v.call
 parts_made v advised _ = tt
 
 starts_made : (v : View) (advised : List (Option ℕ)) (asked : Asked) → Each StartsMade (starts v advised asked)
-starts_made v advised asked = (call_made v.chosen v.calls v.producers advised asked, parts_made v advised asked)
+starts_made v advised asked = (call_made v.chosen v.calls v.consumers v.producers advised asked, parts_made v advised asked)
 
 -- all that starts is made so: by a call, or as a producer was built
 quiet_made : (a : Act) → IsQuiet a → StartsMade a
@@ -187,7 +201,7 @@ arises_made v (Comes p) = each_map IsQuiet StartsMade (at_once v (Comes p)) quie
 arises_made v (Starts who p) = follows_made who (begins p)
 arises_made v (Told n) = some_made n.who (told_some (v.stand n.who) n.outcome)
 arises_made v (Does who action) = each_map IsQuiet StartsMade (performs v who action) quiet_made (performs_quiet v who action)
-arises_made v (Answers who verdict) = left_each StartsMade (ways_of v.chosen) verdict.makes (λ w e. tt)
+arises_made v (Answers who verdict) = left_each StartsMade (ways_of v.chosen) who verdict.makes (λ w e. tt) (λ w n t. tt)
 arises_made v _ = tt
 
 due_made : (o : Options) (log : List Entry) → IsRun o log → Each StartsMade (agenda o log).now

@@ -43,7 +43,7 @@ use Rattle.pulsar_calls.specs.declared.act.Share.{Share}
 use Rattle.pulsar_calls.specs.declared.act.Verdict.{Verdict}
 use Rattle.pulsar_procedures.specs.declared.plan.At.{At}
 use Rattle.pulsar_procedures.specs.declared.plan.Plan.{Plan}
-use Rattle.pulsar_procedures.specs.declared.plan.Plan.TheVariants.{Building, Getting, Asking, Awaiting, Searching, Producing, Sending, Reporting, Storing, Stored, Batching, Leaving, Gathering, Shutting, Visiting, Stopping}
+use Rattle.pulsar_procedures.specs.declared.plan.Plan.TheVariants.{Building, Getting, Asking, Awaiting, Searching, Producing, Sending, Reporting, Storing, Stored, Batching, Leaving, Gathering, Shutting, Visiting, Stopping, Subscribing, Serving, Acknowledging, Departing}
 use Rattle.pulsar_procedures.specs.declared.plan.Turn.{Turn}
 use Rattle.pulsar_procedures.specs.declared.plan.Turn.TheVariants.{Stays, Gives}
 use Rattle.pulsar_calls.specs.Content.{Done}
@@ -61,6 +61,7 @@ use Rattle.pulsar_calls.specs.declared.act.Outcome.TheVariants as outcome
 use Rattle.pulsar_calls.specs.declared.act.Place.TheVariants as place
 use Rattle.pulsar_calls.specs.declared.act.Procedure.TheVariants as procedure
 use Rattle.pulsar_procedures.specs.declared.plan.At.TheVariants as at
+use Rattle.pulsar_laws.proofs.Consuming.{IsModest, StaysSo, begins_modest, is_consumed, is_modest, told_modest}
 
 -- where it stands: it tells that it was queued, or leaves behind what it tells, or is stored; it holds what it is told of at once, or stores it; or
 -- it stands elsewhere, but nowhere as a queued part
@@ -342,6 +343,27 @@ module _ (w : Ways) (e : Errand) where
       either_fits (overrides u) (batches_on w e (batches.halted b)) (batches_on w e (batches.told w e b (news_of u)))
       (halting_fits b) (batching_fits b (news_of u))
 
+-- CONSUMERS
+
+modest_own : (action : Action) → is_modest action ≡ true → is_own action ≡ true
+modest_own (Tell n) h = absurd cc
+modest_own (TellAll ns) h = absurd cc
+modest_own (Store n entry) h = absurd cc
+modest_own StopAll h = absurd cc
+modest_own action h = refl
+
+modest_fits : (plan : Plan) (action : Action) → is_consumed plan ≡ true → is_own action ≡ true → fits (spot plan) action ≡ true
+modest_fits (Asking w) action h k = k
+modest_fits (Subscribing w o b) action h k = k
+modest_fits (Serving w n s) action h k = k
+modest_fits Acknowledging action h k = k
+modest_fits (Departing t n) action h k = k
+modest_fits plan action h k = absurd cc
+
+consumed_fits : (x : Turn Plan Verdict) → StaysSo IsModest x → Fits x
+consumed_fits (Stays plan action) k = modest_fits plan action k.0 (modest_own action k.1)
+consumed_fits (Gives verdict) k = tt
+
 -- ALL PLANS
 
 abbrev pub is_stop : Procedure → Bool
@@ -362,6 +384,11 @@ begins_fits (procedure.FailShare share r) h = refl
 begins_fits (procedure.Gather first count) h = gathers_fits first count count []
 begins_fits (procedure.Go round numbers) h = round_fits round numbers
 begins_fits (procedure.Close ticket numbers) h = refl
+begins_fits (procedure.Subscribe w o) h = consumed_fits (begins (procedure.Subscribe w o)) (begins_modest (procedure.Subscribe w o) refl)
+begins_fits (procedure.Serve w n) h = refl
+begins_fits (procedure.Acknowledge link request) h =
+    consumed_fits (begins (procedure.Acknowledge link request)) (begins_modest (procedure.Acknowledge link request) refl)
+begins_fits (procedure.Leave t n) h = refl
 begins_fits (procedure.Refuse r) h = tt
 
 pub told_fits : (plan : Plan) (u : Outcome) → Fits (told plan u)
@@ -401,5 +428,9 @@ told_fits (Shutting numbers) (outcome.Granted granting.Done) = round_fits Closes
 told_fits (Shutting numbers) u = tt
 told_fits (Visiting r n left x) u =
     either_fits (overrides u) (Gives (fails (fault_of u))) (told_at r n left x u) tt (visit_fits r n left x u)
+told_fits (Subscribing w o b) u = consumed_fits (told (Subscribing w o b) u) (told_modest (Subscribing w o b) u refl)
+told_fits (Serving w n s) u = consumed_fits (told (Serving w n s) u) (told_modest (Serving w n s) u refl)
+told_fits Acknowledging u = tt
+told_fits (Departing t n) u = consumed_fits (told (Departing t n) u) (told_modest (Departing t n) u refl)
 told_fits Stopping outcome.Stopped = tt
 told_fits Stopping u = tt

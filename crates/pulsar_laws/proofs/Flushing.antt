@@ -168,7 +168,7 @@ abbrev TakenSo : Options → List Entry → Type 0
 TakenSo o log = (n : ℕ) (row : Topic) → (view o log).producers.topics n ≡ Some row → Keeps o log n row
 
 own_self : (n m : ℕ) → is_same (Producer n) (Producer m) ≡ (n == m)
-own_self n m = refl
+own_self n m = elim (n == m) as (λ b. (b && true) ≡ b) [ true ↦ refl | false ↦ refl ]
 
 module _ (o : Options) (log : List Entry) (n : ℕ) where
   -- what one that takes a batch makes of what is under way
@@ -176,6 +176,7 @@ module _ (o : Options) (log : List Entry) (n : ℕ) where
       under_way o n (Then (Does who (TakeBatch m)) ∷ log) ≡ cond (n == m) (next_batch_at ((view o log).producers.topics m)) (under_way o n log)
   taken_under who m run =
       ap (λ w. cond (is_same (Producer n) w) (next_batch_at ((view o log).producers.topics m)) (under_way o n log)) (taken_by_own o log who m run)
+      ∙ ap (λ b. cond b (next_batch_at ((view o log).producers.topics m)) (under_way o n log)) (own_self n m)
 
   -- all that tells or begins leaves it, or ends it
   abbrev Leaves : List Entry → Type 0

@@ -31,25 +31,12 @@ use Rattle.pulsar_client.proofs.Quiet.{IsQuiet, comes_quiet, performs_quiet}
 use Rattle.pulsar_plans.specs.declared.turn.Ways.{Ways}
 use Rattle.pulsar_client.proofs.Ticketed.{Began, apart}
 use Rattle.pulsar_laws.proofs.Begun.{has_begun}
+use Rattle.pulsar_laws.proofs.Same.{same_who}
 
 -- WHO
 
-abbrev who_of : ℕ → ℕ → Who
-who_of k n = cond (k == 0) (Call n) (Producer n)
-
-who_is : (w : Who) → who_of (rank w).0 (rank w).1 ≡ w
-who_is (Call t) = refl
-who_is (Producer n) = refl
-
 pub same_is : (w u : Who) → is_same w u ≡ true → w ≡ u
-same_is w u h = elim (cases_Bool ((rank w).0 == (rank u).0)) [
-  | inl e ↦
-      (let k : ((rank w).1 == (rank u).1) ≡ true = rw e at h in
-      let p : (rank w).0 ≡ (rank u).0 = eqb-true (rank w).0 (rank u).0 e in
-      let q : (rank w).1 ≡ (rank u).1 = eqb-true (rank w).1 (rank u).1 k in
-      sym (who_is w) ∙ (λ i. who_of (p i) (q i)) ∙ who_is u)
-  | inr e ↦ (let f : false ≡ true = rw e at h in absurd cc)
-]
+same_is w u h = same_who w u h
 
 -- WHAT IS NO DEED
 
@@ -74,8 +61,8 @@ served_no_deed _ h = refl
 pub performs_none : (v : View) (who : Who) (action : Action) → Each NoDeed (performs v who action)
 performs_none v who action = each_map IsQuiet NoDeed (performs v who action) quiet_no_deed (performs_quiet v who action)
 
-pub left_no_deed : (ways : Option Ways) (makes : Makes) → Each NoDeed (left_with ways makes)
-left_no_deed ways makes = left_each NoDeed ways makes (λ w e. refl)
+pub left_no_deed : (ways : Option Ways) (maker : Who) (makes : Makes) → Each NoDeed (left_with ways maker makes)
+left_no_deed ways maker makes = left_each NoDeed ways maker makes (λ w e. refl) (λ w n t. refl)
 
 start_no_deed : (from to : ℕ) (a : Act) → StartsIn from to a → NoDeed a
 start_no_deed from to (Starts who p) k = refl
@@ -311,9 +298,9 @@ follows_run o (Then (Does w a) ∷ log) r =
     simple_on o log (Does w a) (follows_run o log r.0) r.1 (each_drop NoDeed (performs (view o log) w a) (performs_none (view o log) w a))
     (λ u t. none_due u (performs (view o log) w a) (performs_none (view o log) w a)) (λ u. refl) (λ u. refl) (λ u. refl) (λ u. refl)
 follows_run o (Then (Answers w a) ∷ log) r =
-    let none : Each NoDeed (left_with (ways_of (view o log).chosen) a.makes) = left_no_deed (ways_of (view o log).chosen) a.makes in
-    simple_on o log (Answers w a) (follows_run o log r.0) r.1 (each_drop NoDeed (left_with (ways_of (view o log).chosen) a.makes) none)
-    (λ u t. none_due u (left_with (ways_of (view o log).chosen) a.makes) none) (λ u. refl) (λ u. refl) (λ u. refl) (λ u. refl)
+    let none : Each NoDeed (left_with (ways_of (view o log).chosen) w a.makes) = left_no_deed (ways_of (view o log).chosen) w a.makes in
+    simple_on o log (Answers w a) (follows_run o log r.0) r.1 (each_drop NoDeed (left_with (ways_of (view o log).chosen) w a.makes) none)
+    (λ u t. none_due u (left_with (ways_of (view o log).chosen) w a.makes) none) (λ u. refl) (λ u. refl) (λ u. refl) (λ u. refl)
 follows_run o (Then a ∷ log) r = simple_on o log a (follows_run o log r.0) r.1 tt (λ u t. refl) (λ u. refl) (λ u. refl) (λ u. refl) (λ u. refl)
 
 pub plans_follow_lem : PlansFollow

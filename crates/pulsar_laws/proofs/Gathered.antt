@@ -12,7 +12,7 @@ use Rattle.pulsar_calls.specs.declared.act.Outcome.{Outcome}
 use Rattle.pulsar_calls.specs.declared.act.Outcome.TheVariants as outcome
 use Rattle.pulsar_calls.specs.declared.act.Procedure.TheVariants as procedure
 use Rattle.pulsar_calls.specs.declared.act.Who.{Who}
-use Rattle.pulsar_calls.specs.declared.act.Who.TheVariants.{Call, Producer}
+use Rattle.pulsar_calls.specs.declared.act.Who.TheVariants.{Call, Consumer, Producer}
 use Rattle.pulsar_laws.specs.Laws.{Answered, Cause, counted, outcomes, started}
 use Rattle.pulsar_procedures.specs.Plan.{verdict}
 use Rattle.pulsar_laws.specs.ProducerLaws.{PartsAreGathered}
@@ -32,6 +32,8 @@ use Rattle.pulsar_laws.proofs.Parted.{parts_at, parts_behind, parts_run, step_be
 use Rattle.pulsar_laws.proofs.Receipts.{run_behind}
 use Rattle.pulsar_laws.proofs.Telling.{no_tell, part_of, tells_own, told_of, told_once}
 use Rattle.pulsar_laws.proofs.Turns.{sum, sum_append}
+use Rattle.pulsar_laws.proofs.Servers.{server_does}
+use Rattle.pulsar_laws.proofs.Consuming.{is_modest}
 
 none_some : {A : Type 0} {x : A} → None ≡ Some x → ⊥
 none_some {A} {x} h = cc
@@ -82,6 +84,8 @@ part_from o log t k f run =
         let lo : x.share.of < w = x.own.3 in
         let hi : w < x.share.of + 1 + x.own.1 = x.own.4 in
         (x.own.1, now, omega (arith, of, it, lo), omega (arith, of, it, hi))
+    by newer older (Consumer n u) there r =
+        let d : is_modest (Tell (notice (Call t) (outcome.Parted k f))) ≡ true = server_does o older n u (Tell (notice (Call t) (outcome.Parted k f))) r in absurd cc
     by newer older (Producer m) there r =
         let d = batcher_does o older m (Tell (notice (Call t) (outcome.Parted k f))) r in absurd (no_tell d.0 (notice (Call t) (outcome.Parted k f)) d.1)
 

@@ -22,7 +22,7 @@ use Rattle.pulsar_producer.specs.declared.deed.News.TheVariants as news
 use Rattle.pulsar_calls.specs.declared.act.Act.{Act}
 use Rattle.pulsar_calls.specs.declared.act.Act.TheVariants.{Comes, Starts, Told, Does, Answers, Dials}
 use Rattle.pulsar_calls.specs.declared.act.Action.{Action}
-use Rattle.pulsar_calls.specs.declared.act.Action.TheVariants.{Get, Ask, Wait, TakeTurn, PassTurn, Draw, Recall, Remake, Number, Find, Shut, Store, Flush, TakeBatch, Tell, TellAll, StopAll, Rest}
+use Rattle.pulsar_calls.specs.declared.act.Action.TheVariants.{Get, Ask, Wait, TakeTurn, PassTurn, Draw, Recall, Remake, Number, Find, Shut, Store, Flush, TakeBatch, Tell, TellAll, StopAll, Rest, FindConsumer, RecallConsumer, Revive, FailConsumer, TakeNumber, TakeFlow}
 use Rattle.pulsar_calls.specs.declared.act.Alarm.{Alarm}
 use Rattle.pulsar_calls.specs.declared.act.Alarm.TheVariants.{Retry, Wake, Batch}
 use Rattle.pulsar_calls.specs.declared.act.End.{End}
@@ -32,7 +32,7 @@ use Rattle.pulsar_calls.specs.declared.act.Notice.{Notice}
 use Rattle.pulsar_calls.specs.declared.act.Outcome.{Outcome}
 use Rattle.pulsar_calls.specs.declared.act.Outcome.TheVariants as outcome
 use Rattle.pulsar_calls.specs.declared.act.Part.{Part}
-use Rattle.pulsar_calls.specs.declared.act.Part.TheVariants.{ToLink, Rings}
+use Rattle.pulsar_calls.specs.declared.act.Part.TheVariants.{ToLink, Rings, Polls}
 use Rattle.pulsar_calls.specs.declared.act.Procedure.{Procedure}
 use Rattle.pulsar_calls.specs.declared.act.Procedure.TheVariants as procedure
 use Rattle.pulsar_calls.specs.declared.act.Who.{Who}
@@ -47,7 +47,7 @@ use Rattle.pulsar_laws.specs.Laws.{Acted, Answered}
 use Rattle.pulsar_tables.specs.Links.{Change, Becomes, IsOver}
 use Rattle.pulsar_procedures.specs.Plan.{begins, closed_notice, told}
 use Rattle.pulsar_producer.specs.Topic as topic
-use Rattle.pulsar_calls.specs.Who.{turn_of}
+use Rattle.pulsar_calls.specs.Who.{turn_of, ticket_of}
 use Rattle.pulsar_tables.specs.Producers.{drawn, is_settled_at, is_woken, link_at, next_batch_at, number_drawn, numbers_at, recalled, stored_by, turn_passed, turn_taken, unsent, waiting}
 use Rattle.pulsar_tables.specs.Rules.{alone, answered_by, answered_on, at_once, below, caused, causes, draw_outcome, draw_said, dropped, ended_by, ended_on, failed, failed_at, failed_by, failed_on, failed_over, fails_so, finds, gets_from, grants, joins, lost, lost_so, lost_with, moved_on, notice, number_said, opens, over_links, performs, readied, ready_notice, recalls, served_by, served_on, stop_act, stopped_at, stopped_call, stopped_one, stopped_with, takes_turn, tells, tells_asker, told_at, turn_notice, waiters_of, woken}
 use Rattle.pulsar_client.specs.Run.{Entry, Begins, Then, IsRun, agenda, rules, view}
@@ -57,6 +57,13 @@ use Rattle.pulsar_client.proofs.Raising.{IsRaised, raises}
 use Rattle.pulsar_laws.proofs.Led.{deeds_follow_lem}
 use Rattle.pulsar_laws.proofs.Spots.{same_self}
 use Rattle.pulsar_laws.proofs.Fitting.{Fits, all_settling, begins_fits, fits, is_said, is_settling, is_stop, says_so, settles_so, spot, told_fits}
+use Rattle.pulsar_laws.proofs.Wording.{IsStoppedWord, IsWord, heard_words, is_stopped_word, is_word, is_worded, joins_words, lost_words, stopped_words}
+use Rattle.pulsar_tables.specs.Reading.{heard_on, lost_on, recalled_said, sought_said, stopped_on, numbering_said}
+use Rattle.pulsar_tables.specs.Consumers as consumer
+use Rattle.pulsar_tables.specs.declared.consumers.row.Sought.{Sought}
+use Rattle.pulsar_tables.specs.declared.consumers.row.Sought.TheVariants.{Found, Gone, Later}
+use Rattle.pulsar_tables.specs.declared.consumers.numbers.Numbering.{Numbering}
+use Rattle.pulsar_tables.specs.declared.consumers.numbers.Numbering.TheVariants.{Has, InUse, Spent}
 
 -- what one is granted only by what it does; a turn, that a batch was cut, and that all is settled come by others too
 abbrev pub is_grant : Outcome → Bool
@@ -211,22 +218,40 @@ alone_free : (ns : List Notice) → Each IsCaused ns → Each (Each IsCaused) (m
 alone_free [] k = tt
 alone_free (n ∷ ns) k = ((k.0, tt), alone_free ns k.1)
 
+-- what is said of consumers
+word_free : (u : Outcome) → is_word u ≡ true → is_inner u ≡ false
+word_free (outcome.Word w) h = refl
+word_free u h = absurd cc
+
+words_free : (ns : List Notice) → Each IsWord ns → Each IsCaused ns
+words_free ns k = each_map IsWord IsCaused ns (λ n h. word_free n.outcome h) k
+
+halt_free : (u : Outcome) → is_stopped_word u ≡ true → is_inner u ≡ false
+halt_free outcome.Stopped h = refl
+halt_free u h = absurd cc
+
 caused_free : (v : View) (l : ℕ) (x : _) → Each (Each IsCaused) (caused v l x)
 caused_free v l Reads =
-    opens_free _ (each_append IsCaused (answered_on (v.links.live l)) _ (on_free (v.links.live l))
+    opens_free _ (each_append IsCaused _ (heard_on v l)
+    (each_append IsCaused (answered_on (v.links.live l)) _ (on_free (v.links.live l))
     (waiters_free served_on v.addresses (turned_by v.chosen v.addresses v.now l Reads) (v.links.live l) (λ t b. served_free t.link t.change b.waiting)))
+    (words_free (heard_on v l) (heard_words v l)))
 caused_free v l (Drains most) = alone_free _ (moved_free most v.now (v.links.live l))
 caused_free v l (Ends end) =
-    opens_free _ (each_append IsCaused (ended_on end v.now (v.links.live l)) _ (row_free end v.now (v.links.live l))
+    opens_free _ (each_append IsCaused _ (lost_on v l end)
+    (each_append IsCaused (ended_on end v.now (v.links.live l)) _ (row_free end v.now (v.links.live l))
     (waiters_free (failed_on end) v.addresses (turned_by v.chosen v.addresses v.now l (Ends end)) (v.links.live l) (λ t b. failed_free end t.change t.pause b)))
+    (words_free (lost_on v l end) (lost_words v l end)))
 caused_free v l _ = tt
 
 pub causes_inner : (v : View) (a : Act) → Each (Each IsCaused) (causes v a)
 causes_inner v (Comes (ToLink l x)) = caused_free v l x
 causes_inner v (Comes (Rings a)) = each_either (Each IsCaused) (rings v.now a v.alarms) (opens (woken v a)) [] (opens_free (woken v a) (woken_free v a)) tt
 causes_inner v (Does who StopAll) =
-    opens_free _ (each_append IsCaused _ _ (each_flat IsCaused (λ e. stopped_with v.addresses e.0) v.alarms (λ e. stopped_free v.addresses e.0))
+    opens_free _ (each_append IsCaused _ (stopped_on v)
+    (each_append IsCaused _ _ (each_flat IsCaused (λ e. stopped_with v.addresses e.0) v.alarms (λ e. stopped_free v.addresses e.0))
     (each_append IsCaused _ _ (each_of stopped_one (λ w. refl) (waiting v.producers)) (each_of stopped_call (λ t. refl) (unsent v.producers))))
+    (each_map IsStoppedWord IsCaused (stopped_on v) (λ n h. halt_free n.outcome h) (stopped_words v)))
 causes_inner v _ = tt
 
 inner_free : (u : Outcome) → is_inner u ≡ false → is_given u ≡ false
@@ -373,6 +398,17 @@ performs_each P who t d s v (Find n) = finds_so (link_at (v.producers.topics n))
 performs_each P who t d s v StopAll = each_append P (over_links stop_act v.links) (tells who outcome.Stopped)
     (over_each P stop_act v.links (λ l seat. (s l, tt))) (t _, tt)
 performs_each P who t d s v (Flush n) = each_either P (is_settled_at (v.producers.topics n)) (grants who news.Done) [] (t _, tt) tt
+performs_each P who t d s v (FindConsumer k) = sought_so (consumer.sought (v.consumers.rows k))
+  where
+    sought_so : (x : Sought) → Each P (sought_said who x)
+    sought_so (Found l) = (t _, tt)
+    sought_so Gone = (t _, tt)
+    sought_so Later = tt
+performs_each P who t d s v RecallConsumer = command_so (consumer.recalled (v.consumers.rows (ticket_of who)))
+  where
+    command_so : (row : Option Command) → Each P (recalled_said who row)
+    command_so None = (t _, tt)
+    command_so (Some c) = (t _, tt)
 performs_each P who t d s v Rest = tt
 performs_each P who t d s v _ = (t _, tt)
 
@@ -403,6 +439,10 @@ performs_plain v who (Recall n) = elim (recalled v.producers n) as (λ r. Each I
 performs_plain v who (Find n) = elim (link_at (v.producers.topics n)) as (λ r. Each IsPlain (drop 1 (finds who r))) [ None ↦ tt | Some l ↦ tt ]
 performs_plain v who (Flush n) =
     elim (is_settled_at (v.producers.topics n)) as (λ b. Each IsPlain (drop 1 (cond b (grants who news.Done) []))) [ true ↦ tt | false ↦ tt ]
+performs_plain v who (FindConsumer k) =
+    elim (consumer.sought (v.consumers.rows k)) as (λ x. Each IsPlain (drop 1 (sought_said who x))) [ Found l ↦ tt | Gone ↦ tt | Later ↦ tt ]
+performs_plain v who RecallConsumer =
+    elim (consumer.recalled (v.consumers.rows (ticket_of who))) as (λ r. Each IsPlain (drop 1 (recalled_said who r))) [ None ↦ tt | Some c ↦ tt ]
 performs_plain v who StopAll =
     each_drop IsPlain (performs v who StopAll)
     (each_append IsPlain (over_links stop_act v.links) (tells who outcome.Stopped) (over_each IsPlain stop_act v.links (λ l seat. (refl, tt))) (refl, tt))
@@ -477,6 +517,13 @@ closed_turn : (ts : List ℕ) → Each IsTurn (map closed_notice ts)
 closed_turn [] = tt
 closed_turn (t ∷ ts) = (refl, closed_turn ts)
 
+word_turn : (u : Outcome) → is_word u ≡ true → is_grant u ≡ false
+word_turn (outcome.Word w) h = refl
+word_turn u h = absurd cc
+
+worded : (v : View) (a : Act) → is_worded a ≡ true → Each IsTurn (joins v a)
+worded v a h = each_map IsWord IsTurn (joins v a) (λ n k. word_turn n.outcome k) (joins_words v a h)
+
 joins_turn : (o : Options) (log : List Entry) (a : Act) → IsRun o (Then a ∷ log) → Each IsTurn (joins (view o log) a)
 joins_turn o log (Does who (PassTurn n)) run = passed_turn n (turn_passed ((view o log).producers.topics n))
 joins_turn o log (Does who (Store n entry)) run = readied_turn n (topic.Stores (turn_of who) entry) ((view o log).producers.topics n)
@@ -484,6 +531,11 @@ joins_turn o log (Does who (Flush n)) run = readied_turn n (topic.Flushes (turn_
 joins_turn o log (Does who (Shut t)) run = closed_turn (stored_by (view o log).producers (numbers_at ((view o log).producers.built t)))
 joins_turn o log (Does who (Tell n)) run = (free_turn n.outcome (tell_free o log who n run), tt)
 joins_turn o log (Does who (TellAll ns)) run = each_map IsFree IsTurn ns (λ n h. free_turn n.outcome h) (all_free o log who ns run)
+joins_turn o log (Comes (Polls t)) run = worded (view o log) (Comes (Polls t)) refl
+joins_turn o log (Does who (Ask l request)) run = worded (view o log) (Does who (Ask l request)) refl
+joins_turn o log (Does who (Revive l)) run = worded (view o log) (Does who (Revive l)) refl
+joins_turn o log (Does who (FailConsumer f)) run = worded (view o log) (Does who (FailConsumer f)) refl
+joins_turn o log (Answers who verdict) run = worded (view o log) (Answers who verdict) refl
 joins_turn o log _ run = tt
 
 abbrev pub IsCleanAt : Options → List Entry → Type 0
@@ -574,6 +626,20 @@ module _ (v : View) (who : Who) where
   flushes_so n true e = (e, tt)
   flushes_so n false e = tt
 
+  numbering_so : (wanted : Option ℕ) (x : Numbering) → Each (GivesSo v (TakeNumber wanted)) (tells who (numbering_said x))
+  numbering_so wanted (Has n) = (tt, tt)
+  numbering_so wanted InUse = (tt, tt)
+  numbering_so wanted Spent = (tt, tt)
+
+  sought_so : (t : ℕ) (x : Sought) → Each (GivesSo v (FindConsumer t)) (sought_said who x)
+  sought_so t (Found l) = (tt, tt)
+  sought_so t Gone = (tt, tt)
+  sought_so t Later = tt
+
+  command_so : (r : Option Command) → Each (GivesSo v RecallConsumer) (recalled_said who r)
+  command_so None = (tt, tt)
+  command_so (Some c) = (tt, tt)
+
   pub gives_so : (action : Action) → Each (GivesSo v action) (performs v who action)
   gives_so (Get p) = each_either (GivesSo v (Get p)) (is_reachable p) _ _ (gets_so p (v.addresses.base (address_key p)).series) (tt, tt)
   gives_so (Ask l request) = asks_so l request (answer_at v.now request (v.links.live l))
@@ -592,6 +658,12 @@ module _ (v : View) (who : Who) where
   gives_so (Store n entry) = (tt, tt)
   gives_so (Flush n) = flushes_so n (is_settled_at (v.producers.topics n)) refl
   gives_so (TakeBatch n) = (refl, tt)
+  gives_so (TakeNumber wanted) = numbering_so wanted (consumer.numbering v.consumers wanted)
+  gives_so (FindConsumer t) = sought_so t (consumer.sought (v.consumers.rows t))
+  gives_so TakeFlow = (tt, tt)
+  gives_so RecallConsumer = command_so (consumer.recalled (v.consumers.rows (ticket_of who)))
+  gives_so (Revive l) = (tt, tt)
+  gives_so (FailConsumer f) = (tt, tt)
   gives_so (Tell n) = (tt, tt)
   gives_so (TellAll ns) = (tt, tt)
   gives_so Rest = tt

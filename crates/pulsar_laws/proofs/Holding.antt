@@ -61,7 +61,7 @@ use Rattle.pulsar_calls.specs.declared.act.Verdict.{Verdict}
 use Rattle.pulsar_procedures.specs.declared.plan.At.{At as Spot}
 use Rattle.pulsar_procedures.specs.declared.plan.At.TheVariants as at
 use Rattle.pulsar_procedures.specs.declared.plan.Plan.{Plan}
-use Rattle.pulsar_procedures.specs.declared.plan.Plan.TheVariants.{Building, Getting, Asking, Awaiting, Searching, Producing, Sending, Reporting, Storing, Stored, Batching, Leaving, Gathering, Shutting, Visiting, Stopping}
+use Rattle.pulsar_procedures.specs.declared.plan.Plan.TheVariants.{Building, Getting, Asking, Awaiting, Searching, Producing, Sending, Reporting, Storing, Stored, Batching, Leaving, Gathering, Shutting, Visiting, Stopping, Subscribing, Serving, Acknowledging, Departing}
 use Rattle.pulsar_procedures.specs.declared.plan.Turn.{Turn}
 use Rattle.pulsar_procedures.specs.declared.plan.Turn.TheVariants.{Stays, Gives}
 use Rattle.pulsar_procedures.specs.declared.plan.Wanted.{Wanted}
@@ -70,6 +70,7 @@ use Rattle.pulsar_procedures.specs.Plan.{action_of, asks, asks_of, batches_on, b
 use Rattle.pulsar_producer.specs.Batching.{is_sent_send}
 use Rattle.pulsar_laws.specs.ProducerLaws.{turn_in, turn_of}
 use Rattle.pulsar_laws.proofs.Natures.{StaysSo, either_so, is_leaving}
+use Rattle.pulsar_laws.proofs.Consuming.{IsModest, begins_modest, is_consumed, is_modest, stays_map, told_modest}
 
 -- what one has the turn of; a part of a call that is queued has it until it has told so
 abbrev pub holds_in : Errand → Send → Option ℕ
@@ -585,6 +586,24 @@ batch_halted w e batching.Taking u = rests_holds w e u batching.Taking
 batch_halted w e (batching.Sending ms c s) u = cuts_holds w e u (batching.Sending ms c s) (batches.is_sent_send s) ms c
 batch_halted w e batching.Settling u = rests_holds w e u batching.Settling
 
+-- CONSUMERS
+
+modest_idle : (a : Action) → is_modest a ≡ true → is_idle a ≡ true
+modest_idle (PassTurn n) h = absurd cc
+modest_idle (TakeTurn n) h = absurd cc
+modest_idle a h = refl
+
+consumed_apart : (p : Plan) → is_consumed p ≡ true → IsApart p
+consumed_apart (Asking w) h = (refl, refl)
+consumed_apart (Subscribing w o b) h = (refl, refl)
+consumed_apart (Serving w n s) h = (refl, refl)
+consumed_apart Acknowledging h = (refl, refl)
+consumed_apart (Departing t n) h = (refl, refl)
+consumed_apart p h = absurd cc
+
+modest_apart : (t : Turn Plan Verdict) → StaysSo IsModest t → StaysSo Apart t
+modest_apart t k = stays_map IsModest Apart t (λ p a m. (consumed_apart p m.0, modest_idle a m.1)) k
+
 -- ALL
 
 pub told_holds : (p : Plan) (u : Outcome) → StaysSo (GoesSo p u) (told p u)
@@ -627,6 +646,13 @@ told_holds (Gathering first count left failures) _ = tt
 told_holds (Shutting ns) u = shut_goes ns u
 told_holds (Visiting r n left x) u =
     either_so (GoesSo (Visiting r n left x) u) (overrides u) (Gives (fails (fault_of u))) (told_at r n left x u) tt (visit_goes r n left x u)
+told_holds (Subscribing w o b) u =
+    apart_goes (Subscribing w o b) u (told (Subscribing w o b) u) refl (modest_apart (told (Subscribing w o b) u) (told_modest (Subscribing w o b) u refl))
+told_holds (Serving w n s) u =
+    apart_goes (Serving w n s) u (told (Serving w n s) u) refl (modest_apart (told (Serving w n s) u) (told_modest (Serving w n s) u refl))
+told_holds Acknowledging u = tt
+told_holds (Departing t n) u =
+    apart_goes (Departing t n) u (told (Departing t n) u) refl (modest_apart (told (Departing t n) u) (told_modest (Departing t n) u refl))
 told_holds Stopping outcome.Stopped = tt
 told_holds Stopping _ = tt
 
@@ -667,4 +693,11 @@ begins_holds (procedure.Go Checks (n ∷ ns)) = (refl, refl)
 begins_holds (procedure.Go Flushes (n ∷ ns)) = (refl, tt)
 begins_holds (procedure.Go Closes (n ∷ ns)) = (refl, tt)
 begins_holds (procedure.Close t ns) = (refl, tt)
+begins_holds (procedure.Subscribe w o) =
+    apart_begins (begins (procedure.Subscribe w o)) (modest_apart (begins (procedure.Subscribe w o)) (begins_modest (procedure.Subscribe w o) refl))
+begins_holds (procedure.Serve w n) = (refl, tt)
+begins_holds (procedure.Acknowledge link request) =
+    apart_begins (begins (procedure.Acknowledge link request))
+    (modest_apart (begins (procedure.Acknowledge link request)) (begins_modest (procedure.Acknowledge link request) refl))
+begins_holds (procedure.Leave t n) = (refl, tt)
 begins_holds (procedure.Refuse r) = tt

@@ -21,19 +21,19 @@ use Rattle.pulsar_requests.specs.Soonest.{has_come}
 use Rattle.pulsar_calls.specs.declared.act.Act.{Act}
 use Rattle.pulsar_calls.specs.declared.act.Act.TheVariants.{Comes, Starts, Told, Does, Answers, Dials}
 use Rattle.pulsar_calls.specs.declared.act.Action.{Action}
-use Rattle.pulsar_calls.specs.declared.act.Action.TheVariants.{Get, Ask, Wait, TakeTurn, Draw, Recall, Number, Find, Shut, Store, Flush, Tell, TellAll, Rest, StopAll}
+use Rattle.pulsar_calls.specs.declared.act.Action.TheVariants.{Get, Ask, Wait, TakeTurn, Draw, Recall, Number, Find, Shut, Store, Flush, Tell, TellAll, Rest, StopAll, TakeNumber, FindConsumer, TakeFlow, RecallConsumer, Revive, FailConsumer}
 use Rattle.pulsar_calls.specs.declared.act.Alarm.{Alarm}
 use Rattle.pulsar_calls.specs.declared.act.Alarm.TheVariants.{Retry, Wake, Batch, KeepAlive, CheckIdle}
 use Rattle.pulsar_calls.specs.declared.act.LinkAct.{LinkAct}
 use Rattle.pulsar_calls.specs.declared.act.LinkAct.TheVariants.{Opens, Reads, Drains, Pings, Ends}
 use Rattle.pulsar_calls.specs.declared.act.Outcome.{Outcome}
 use Rattle.pulsar_calls.specs.declared.act.Outcome.TheVariants as outcome
-use Rattle.pulsar_calls.specs.declared.act.Part.TheVariants.{ToLink, Rings}
+use Rattle.pulsar_calls.specs.declared.act.Part.TheVariants.{ToLink, Rings, Calls, Polls}
 use Rattle.pulsar_calls.specs.declared.act.Procedure.{Procedure}
 use Rattle.pulsar_calls.specs.declared.act.Procedure.TheVariants as procedure
 use Rattle.pulsar_calls.specs.declared.act.Verdict.{Verdict}
 use Rattle.pulsar_calls.specs.declared.act.Who.{Who}
-use Rattle.pulsar_calls.specs.declared.act.Who.TheVariants.{Call, Producer}
+use Rattle.pulsar_calls.specs.declared.act.Who.TheVariants.{Call, Producer, Consumer}
 use Rattle.pulsar_tables.specs.declared.addresses.Pause.{Pause}
 use Rattle.pulsar_tables.specs.declared.addresses.Series.{Series}
 use Rattle.pulsar_tables.specs.declared.addresses.Series.TheVariants.{Nobody, Runs, Pauses, Serves}
@@ -43,15 +43,15 @@ use Rattle.pulsar_procedures.specs.declared.plan.Turn.{Turn}
 use Rattle.pulsar_procedures.specs.declared.plan.Turn.TheVariants.{Stays, Gives}
 use Rattle.pulsar_tables.specs.declared.producers.Topic.{Topic}
 use Rattle.pulsar_tables.specs.Alarms.{alarm_cmp, clear, is_same_alarm, moment_of, rings, set}
-use Rattle.pulsar_calls.specs.Content.{Heard, Bytes}
-use Rattle.pulsar_laws.specs.Laws.{Acts, AttemptEnds, BecomesReady, Cause, DrawsNone, Finds, GetsTurn, GrantsSo, IsDropped, IsReady, IsReplied, IsToldBy, IsUnknown, IsWoken, LineEnds, MovesUp, RequestEnds, counted, start_of, started}
+use Rattle.pulsar_calls.specs.Content.{Heard, Bytes, lacks_tickets, shares}
+use Rattle.pulsar_laws.specs.Laws.{Acts, AttemptEnds, BecomesReady, Cause, DrawsNone, Finds, GetsTurn, GrantsSo, IsDropped, IsReady, IsReplied, IsToldBy, IsUnknown, IsWoken, LineEnds, MovesUp, RequestEnds, counted, start_of, started, IsServedAs, SaysSo, WordComes}
 use Rattle.pulsar_tables.specs.Links.{Change, Remains, Becomes, IsOver}
 use Rattle.pulsar_procedures.specs.Plan.{begins, gathers, told}
 use Rattle.pulsar_tables.specs.Producers.{is_bare, numbers_at, stored_at, timeout_at, topic_after, turn_passed}
 use Rattle.pulsar_tables.specs.Rules.{notice}
 use Rattle.pulsar_client.specs.Run.{Entry, Begins, Then, IsRun, view}
-use Rattle.pulsar_tables.specs.View.{Addresses, Base, Chosen, Options, Seat, Turned, View, after, alarms_after, alarms_on, alarms_on_topic, alarms_over, alarms_rung, alarms_turned, alarms_waiting, asker_at, base_after, base_on, base_turned, begun_live, clear_all, got_at, is_live, link_got, live_after, live_begun, nobody, seat_asked, seat_fed, seat_got, stays, stays_some, told_some, took_end, took_some, turned, waits_for, waits_from, waits_on}
-use Rattle.pulsar_calls.specs.Who.{behind_all, in_turn, is_same, turn_of}
+use Rattle.pulsar_tables.specs.View.{Addresses, Base, Chosen, Options, Seat, Turned, View, after, alarms_after, alarms_on, alarms_on_topic, alarms_over, alarms_rung, alarms_turned, alarms_waiting, asker_at, base_after, base_on, base_turned, begun_live, clear_all, got_at, is_live, link_got, live_after, live_begun, nobody, seat_asked, seat_fed, seat_got, stays, stays_some, told_some, took_end, took_some, turned, waits_for, waits_from, waits_on, arrival_at, closing, consumers_after, consumers_made, hears_ask, joins_as, may_call, member_on, setup_of, url_at}
+use Rattle.pulsar_calls.specs.Who.{behind_all, in_turn, is_same, turn_of, ticket_of}
 use Rattle.pulsar_client.proofs.Acts.{Each, begun_same}
 use Rattle.pulsar_laws.proofs.Caused.{outcomes_are_caused_lem}
 use Rattle.pulsar_laws.proofs.Fitting.{is_said}
@@ -65,6 +65,22 @@ use Rattle.pulsar_client.proofs.Sources.{in_append, in_each, step_some}
 use Rattle.pulsar_laws.proofs.Spots.{same_self}
 use Rattle.pulsar_laws.proofs.Begun.{has_begun}
 use Rattle.pulsar_laws.proofs.Users.{DoesSo, LogSo, NoticeSo, stored_so, tells_so, waits_so}
+use Rattle.pulsar_calls.specs.declared.act.Arrival.{Arrival}
+use Rattle.pulsar_calls.specs.declared.act.Arrival.TheVariants as arrivals
+use Rattle.pulsar_calls.specs.declared.act.Makes.{Makes}
+use Rattle.pulsar_calls.specs.declared.act.Makes.TheVariants as makes
+use Rattle.pulsar_calls.specs.declared.act.Word.{Word}
+use Rattle.pulsar_calls.specs.declared.act.Word.TheVariants as word
+use Rattle.url.specs.Parts.{Parts}
+use Rattle.pulsar_link.specs.Messages.{Reply, is_body}
+use Rattle.pulsar_consumer.specs.Frames.{frame_in}
+use Rattle.pulsar_consumer.specs.Topic as reader
+use Rattle.pulsar_consumer.specs.declared.polled.Ending.TheVariants.{Closed, TopicEnded}
+use Rattle.pulsar_tables.specs.Consumers as consumer
+use Rattle.pulsar_tables.specs.Consumers.{Member}
+use Rattle.pulsar_tables.specs.declared.consumers.row.Sought.{Sought}
+use Rattle.pulsar_tables.specs.declared.consumers.row.Sought.TheVariants.{Found, Gone, Later}
+use Rattle.pulsar_laws.proofs.Members.{called_rows, left_rows, numbered_rows}
 
 none_some : {A : Type 0} {x : A} → None ≡ Some x → ⊥
 none_some {A} {x} h = cc
@@ -249,6 +265,7 @@ record Absent (t : ℕ) (v : View) : Type 0 where
   base : (key : List ℕ) → NotIn t (v.addresses.base key).waiting
   asker : (l : ℕ) → AskerFree t (v.links.live l)
   alarm : Each (NotWake t) v.alarms
+  seeker : (u : ℕ) → NotIn t (consumer.seekers_at (v.consumers.rows u))
 
 other_does : (t : ℕ) (who : Who) (a : Action) → MuteBy t (Does who a) → (a ≡ Rest → ⊥) → Call t ≡ who → ⊥
 other_does t who a mute not same = not (mute (subst (λ w. is_same (Call t) w ≡ true) same (same_self (Call t))))
@@ -437,19 +454,107 @@ alarms_absent t v (Does who StopAll) idle k = tt
 alarms_absent t v (Answers who verdict) idle k = either_alarms t _ _ v.alarms (set_absent t CheckIdle _ v.alarms refl k) k
 alarms_absent t v _ idle k = k
 
+-- those who wait for the link of a consumer
+either_seeks : (t : ℕ) (b : Bool) (m n : Member) → NotIn t m.seekers → NotIn t n.seekers → NotIn t (cond b m n).seekers
+either_seeks t true m n h k = h
+either_seeks t false m n h k = k
+
+map_seeks : (t : ℕ) (f : Member → Member) (row : Option Member) → ((m : Member) → NotIn t m.seekers → NotIn t (f m).seekers) →
+    NotIn t (consumer.seekers_at row) → NotIn t (consumer.seekers_at (option_map f row))
+map_seeks t f None k h = h
+map_seeks t f (Some m) k h = k m h
+
+one_seeks : (t : ℕ) (b : Bool) (f : Member → Member) (row : Option Member) → ((m : Member) → NotIn t m.seekers → NotIn t (f m).seekers) →
+    NotIn t (consumer.seekers_at row) → NotIn t (consumer.seekers_at (cond b (option_map f row) row))
+one_seeks t true f row k h = map_seeks t f row k h
+one_seeks t false f row k h = h
+
+frame_seeks : (t l : ℕ) (r : Reply) (m : Member) → NotIn t m.seekers → NotIn t (consumer.hears_frame l r m).seekers
+frame_seeks t l r m h =
+    either_seeks t (is_body 9 r.content.body) (consumer.member_after (reader.Hears l (frame_in r)) m) _ h
+    (either_seeks t (is_body 27 r.content.body) (consumer.ends_on l TopicEnded m) _
+    (either_seeks t (reader.lives_on l m.seen) (consumer.member_after (reader.Ends TopicEnded) m) m h h)
+    (either_seeks t (is_body 16 r.content.body) (consumer.member_after (reader.Loses l) m) m h h))
+
+hears_seeks : (t l : ℕ) (a : Arrival) (m : Member) → NotIn t m.seekers → NotIn t (consumer.hears l a m).seekers
+hears_seeks t l (arrivals.Gives n r) m h = either_seeks t (m.seen.number == n) (consumer.hears_frame l r m) m (frame_seeks t l r m h) h
+hears_seeks t l _ m h = h
+
+loses_seeks : (t l : ℕ) (cause : Option Fault) (m : Member) → NotIn t m.seekers → NotIn t (consumer.loses_by l cause m).seekers
+loses_seeks t l None m h = h
+loses_seeks t l (Some cause) m h = h
+
+asks_seeks : (t l now : ℕ) (request : Words) (row : Option Seat) (m : Member) → NotIn t m.seekers → NotIn t (hears_ask l now request row m).seekers
+asks_seeks t l now request row m h = either_seeks t _ (consumer.member_after (reader.Ends Closed) m) m h h
+
+finds_seeks : (t : ℕ) (x : Sought) (w : Who) (m : Member) → (Call t ≡ w → ⊥) → NotIn t m.seekers → NotIn t (consumer.waits_so x w m).seekers
+finds_seeks t (Found l) w m other h = h
+finds_seeks t Gone w m other h = h
+finds_seeks t Later w m other h = end_absent t w m.seekers other h
+
+on_seeks : (t l : ℕ) (url : Option Parts) (s : reader.Seen) → NotIn t (consumer.subscribed_on l url (record { seen = s; seekers = [] })).seekers
+on_seeks t l None s i = i
+on_seeks t l (Some url) s i = i
+
+joins_seeks : (t : ℕ) (who : Who) (m : Member) (cs : consumer.Consumers) (u : ℕ) → NotIn t m.seekers → NotIn t (consumer.seekers_at (cs.rows u)) →
+    NotIn t (consumer.seekers_at ((joins_as who m cs).rows u))
+joins_seeks t (Call x) m cs u h k = elim (u == x) as (λ b. NotIn t (consumer.seekers_at (cond b (Some m) (cs.rows u)))) [ true ↦ h | false ↦ k ]
+joins_seeks t (Consumer n x) m cs u h k = k
+joins_seeks t (Producer n) m cs u h k = k
+
+made_seeks : (t : ℕ) (live : ℕ → Option Seat) (who : Who) (m : Makes) (cs : consumer.Consumers) (u : ℕ) → NotIn t (consumer.seekers_at (cs.rows u)) →
+    NotIn t (consumer.seekers_at ((consumers_made live who m cs).rows u))
+made_seeks t live who makes.Nothing cs u k = k
+made_seeks t live who makes.Client cs u k = k
+made_seeks t live who (makes.Producer b) cs u k = k
+made_seeks t live who (makes.Consumer j) cs u k =
+    joins_seeks t who (member_on live j.link (setup_of j)) cs u (on_seeks t j.link (url_at (live j.link)) (reader.fresh (setup_of j))) k
+made_seeks t live who (makes.RawConsumer l made) cs u k =
+    joins_seeks t who (member_on live l (reader.of_raw made)) cs u (on_seeks t l (url_at (live l)) (reader.fresh (reader.of_raw made))) k
+
+none_seeks : (t : ℕ) → NotIn t []
+none_seeks t i = i
+
+seekers_absent : (t : ℕ) (v : View) (a : Act) (u : ℕ) → IdleBy t a → NotIn t (consumer.seekers_at (v.consumers.rows u)) →
+    NotIn t (consumer.seekers_at ((consumers_after v a).rows u))
+seekers_absent t v (Comes (Calls asked advice)) u idle h =
+    subst (λ f. NotIn t (consumer.seekers_at (f u)))
+    (sym (called_rows (lacks_tickets v.calls.drawn (shares asked)) (may_call v.calls) asked v.consumers)) h
+seekers_absent t v (Comes (ToLink l Reads)) u idle h = map_seeks t _ (v.consumers.rows u) (hears_seeks t l (arrival_at (v.links.live l))) h
+seekers_absent t v (Comes (ToLink l (Ends end))) u idle h = map_seeks t _ (v.consumers.rows u) (loses_seeks t l (closing end v.now (v.links.live l))) h
+seekers_absent t v (Comes (Polls w)) u idle h = one_seeks t (u == w) (consumer.member_after (reader.Polls v.now)) (v.consumers.rows u) (λ m k. k) h
+seekers_absent t v (Does w (Ask l request)) u idle h = map_seeks t _ (v.consumers.rows u) (asks_seeks t l v.now request (v.links.live l)) h
+seekers_absent t v (Does w (TakeNumber wanted)) u idle h =
+    subst (λ f. NotIn t (consumer.seekers_at (f u))) (sym (numbered_rows (ticket_of w) wanted v.consumers)) h
+seekers_absent t v (Does w (FindConsumer x)) u idle h =
+    one_seeks t (u == x) (consumer.seeks w) (v.consumers.rows u)
+    (λ m k. finds_seeks t (consumer.sought (Some m)) w m (other_idle t w (FindConsumer x) idle refl) k) h
+seekers_absent t v (Does w TakeFlow) u idle h =
+    one_seeks t (u == ticket_of w) (consumer.member_after reader.Asks) (v.consumers.rows u) (λ m k. k) h
+seekers_absent t v (Does w (Revive l)) u idle h =
+    one_seeks t (u == ticket_of w) (consumer.revived l (url_at (v.links.live l))) (v.consumers.rows u) (λ m k. none_seeks t) h
+seekers_absent t v (Does w (FailConsumer f)) u idle h =
+    one_seeks t (u == ticket_of w) (consumer.failed f) (v.consumers.rows u) (λ m k. none_seeks t) h
+seekers_absent t v (Does w StopAll) u idle h = map_seeks t consumer.stopped (v.consumers.rows u) (λ m k. none_seeks t) h
+seekers_absent t v (Answers who verdict) u idle h =
+    subst (λ f. NotIn t (consumer.seekers_at (f u))) (sym (left_rows who (consumers_made v.links.live who verdict.makes v.consumers)))
+    (made_seeks t v.links.live who verdict.makes v.consumers u h)
+seekers_absent t v _ u idle h = h
+
 then_absent : (t : ℕ) (v : View) (a : Act) → IdleBy t a → Absent t v → Absent t (after a v)
 then_absent t v a idle k = record {
   base = λ key. base_absent t v a key (v.addresses.base key) idle (k.base key);
   asker = λ l. live_absent t v.chosen v.addresses v.now v.links.started a l (v.links.live l) idle (k.asker l);
   alarm = alarms_absent t v a idle k.alarm;
+  seeker = λ u. seekers_absent t v a u idle (k.seeker u);
 }
 
 absent_run : (o : Options) (t : ℕ) (log : List Entry) → Idle t log → Absent t (view o log)
-absent_run o t [] idle = record { base = λ key i. i; asker = λ l. tt; alarm = tt }
+absent_run o t [] idle = record { base = λ key i. i; asker = λ l. tt; alarm = tt; seeker = λ u i. i }
 absent_run o t (Begins e ∷ log) idle =
     let k : Absent t (view o log) = absent_run o t log idle in
     elim (is_live (view o log) e) as (λ b. Absent t (cond b (begun_live e (view o log)) (view o log))) [
-      | true ↦ record { base = k.base; asker = λ l. begun_free t e l ((view o log).links.live l) (k.asker l); alarm = k.alarm }
+      | true ↦ record { base = k.base; asker = λ l. begun_free t e l ((view o log).links.live l) (k.asker l); alarm = k.alarm; seeker = k.seeker }
       | false ↦ k
     ]
 absent_run o t (Then a ∷ log) idle = then_absent t (view o log) a idle.0 (absent_run o t log idle.1)
@@ -462,6 +567,7 @@ Other t u = t ≡ u → ⊥
 
 turn_other : (t : ℕ) (who : Who) → is_spent t ≡ false → (Call t ≡ who → ⊥) → Other t (turn_of who)
 turn_other t (Call u) unspent other e = other (ap Call e)
+turn_other t (Consumer n u) unspent other e = let f : false ≡ true = sym unspent ∙ ap is_spent e in absurd cc
 turn_other t (Producer n) unspent other e = let f : false ≡ true = sym unspent ∙ ap is_spent e in absurd cc
 
 mute_does : (t : ℕ) → is_spent t ≡ false → (a : Act) → MuteBy t a → DoesSo (Other t) (Other t) a
@@ -528,19 +634,61 @@ no_turn_given P o t e older run others n (other, number, turn, version, is, same
 
 no_find : (l : ℕ) (a : Action) (v : View) → is_idle a ≡ true → Finds l a v → ⊥
 no_find l (Find n) v h k = absurd cc
+no_find l (FindConsumer u) v h k = absurd cc
 no_find l a v h k = k
 
 no_draw : (f : Fault) (a : Action) (v : View) → is_idle a ≡ true → DrawsNone f a v → ⊥
 no_draw Disconnected (Draw n) v h k = absurd cc
 no_draw Exhausted (Draw n) v h k = absurd cc
 no_draw Exhausted Number v h k = absurd cc
+no_draw Exhausted (TakeNumber wanted) v h k = absurd cc
 no_draw f a v h k = k
 
-all_known : (a : Action) (v : View) → is_idle a ≡ true → IsUnknown a v → ⊥
-all_known (TakeTurn n) v h k = absurd cc
-all_known (Recall n) v h k = absurd cc
-all_known (Find n) v h k = absurd cc
-all_known a v h k = k
+all_known : (who : Who) (a : Action) (v : View) → is_idle a ≡ true → IsUnknown who a v → ⊥
+all_known who (TakeTurn n) v h k = absurd cc
+all_known who (Recall n) v h k = absurd cc
+all_known who (Find n) v h k = absurd cc
+all_known who RecallConsumer v h k = absurd cc
+all_known who a v h k = k
+
+no_says : (who : Who) (w : Word) (a : Action) (v : View) → is_idle a ≡ true → SaysSo who w a v → ⊥
+no_says who w Rest v h k = no_rest who w v k
+  where
+    no_rest : (who : Who) (w : Word) (v : View) → SaysSo who w Rest v → ⊥
+    no_rest who (word.Numbered n) v k = k
+    no_rest who word.InUse v k = k
+    no_rest who word.Closed v k = k
+    no_rest who (word.Flow link permits) v k = k
+    no_rest who word.NoFlow v k = k
+    no_rest who (word.Recalled c) v k = k
+    no_rest who word.Lives v k = k
+    no_rest who word.Over v k = k
+    no_rest who _ v k = k
+no_says who w (Store n x) v h k = no_store who w v k
+  where
+    no_store : (who : Who) (w : Word) (v : View) → SaysSo who w (Store n x) v → ⊥
+    no_store who (word.Numbered m) v k = k
+    no_store who word.InUse v k = k
+    no_store who word.Closed v k = k
+    no_store who (word.Flow link permits) v k = k
+    no_store who word.NoFlow v k = k
+    no_store who (word.Recalled c) v k = k
+    no_store who word.Lives v k = k
+    no_store who word.Over v k = k
+    no_store who _ v k = k
+no_says who w (Tell m) v h k = no_tell who w v k
+  where
+    no_tell : (who : Who) (w : Word) (v : View) → SaysSo who w (Tell m) v → ⊥
+    no_tell who (word.Numbered n) v k = k
+    no_tell who word.InUse v k = k
+    no_tell who word.Closed v k = k
+    no_tell who (word.Flow link permits) v k = k
+    no_tell who word.NoFlow v k = k
+    no_tell who (word.Recalled c) v k = k
+    no_tell who word.Lives v k = k
+    no_tell who word.Over v k = k
+    no_tell who _ v k = k
+no_says who w a v h k = absurd cc
 
 -- what comes from elsewhere than a link, a request or a moment
 abbrev pub is_open : Outcome → Bool
@@ -596,6 +744,20 @@ module _ (o : Options) (t : ℕ) (e : Entry) (older : List Entry) (idle : Idle t
   pub no_batch : (n : News) → IsReady o (Call t) n e older → ⊥
   no_batch n k = let f : Call t ≡ Producer k.0 = k.2 in cc
 
+  -- it is no plan of a consumer
+  no_server : (u : ℕ) (m : Member) → IsServedAs v (Call t) u m → ⊥
+  no_server u m (there, is) = let f : Call t ≡ Consumer m.seen.number u = is in cc
+
+  no_word : (w : Word) → WordComes o (Call t) w e older → ⊥
+  no_word w (inl h) = no_act (SaysSo (Call t) w) (λ a k x. no_says (Call t) w a v k x) h
+  no_word w (inr (inl (l, u, m, is, serves, h))) = no_server u m serves
+  no_word w (inr (inr (inl (l, u, end, m, is, serves, h)))) = no_server u m serves
+  no_word w (inr (inr (inr (inl (l, u, other, request, m, is, serves, h))))) = no_server u m serves
+  no_word w (inr (inr (inr (inr (inl (q, inl (u, m, is, serves, due))))))) = no_server u m serves
+  no_word w (inr (inr (inr (inr (inl (q, inr (inl (l, other, m, is, serves, due)))))))) = no_server (ticket_of other) m serves
+  no_word w (inr (inr (inr (inr (inl (q, inr (inr (other, j, said, is, same, due)))))))) = let f : Call t ≡ Consumer j.number (ticket_of other) = same in cc
+  no_word w (inr (inr (inr (inr (inr (q, (other, i, h))))))) = absent.seeker (ticket_of other) i
+
   pub only_open : (u : Outcome) → Cause o (Call t) u e older → is_open u ≡ true
   only_open (outcome.GotLink l) (inl (p, is, h)) = absurd (no_get p is)
   only_open (outcome.GotLink l) (inr (inl h)) = absurd (no_ready l h)
@@ -603,6 +765,7 @@ module _ (o : Options) (t : ℕ) (e : Entry) (older : List Entry) (idle : Idle t
   only_open (outcome.Granted n) h = refl
   only_open (outcome.Settled f) h = refl
   only_open (outcome.Parted u f) h = refl
+  only_open (outcome.Word w) h = absurd (no_word w h)
   only_open outcome.NotFound (p, is, h) = absurd (no_get p is)
   only_open (outcome.Failed kind) h = absurd (no_attempt (outcome.Failed kind) h)
   only_open outcome.Canceled h = absurd (no_attempt outcome.Canceled h)
@@ -615,7 +778,7 @@ module _ (o : Options) (t : ℕ) (e : Entry) (older : List Entry) (idle : Idle t
   only_open outcome.TimedOut h = absurd (no_request outcome.TimedOut h)
   only_open outcome.Disconnected (inl h) = absurd (no_request outcome.Disconnected h)
   only_open outcome.Disconnected (inr (inl h)) = absurd (no_line outcome.Disconnected h)
-  only_open outcome.Disconnected (inr (inr h)) = absurd (no_act IsUnknown (λ a k x. all_known a v k x) h)
+  only_open outcome.Disconnected (inr (inr h)) = absurd (no_act (IsUnknown (Call t)) (λ a k x. all_known (Call t) a v k x) h)
   only_open outcome.Woken h = absurd (no_wake h)
   only_open outcome.Cut h = absurd (no_request outcome.Cut h)
   only_open outcome.Stopped h = refl

@@ -20,7 +20,7 @@ use Rattle.pulsar_calls.specs.declared.act.Outcome.TheVariants as outcome
 use Rattle.pulsar_calls.specs.declared.act.Procedure.{Procedure}
 use Rattle.pulsar_calls.specs.declared.act.Verdict.{Verdict}
 use Rattle.pulsar_calls.specs.declared.act.Who.{Who}
-use Rattle.pulsar_calls.specs.declared.act.Who.TheVariants.{Call, Producer}
+use Rattle.pulsar_calls.specs.declared.act.Who.TheVariants.{Call, Producer, Consumer}
 use Rattle.pulsar_calls.specs.declared.act.Share.{Share}
 use Rattle.pulsar_procedures.specs.declared.plan.At.{At as Spot}
 use Rattle.pulsar_procedures.specs.declared.plan.At.TheVariants as at
@@ -47,6 +47,9 @@ use Rattle.pulsar_laws.proofs.Once.{ends_once_lem}
 use Rattle.pulsar_laws.proofs.Owned.{starts_own}
 use Rattle.pulsar_laws.proofs.Begun.{has_begun}
 use Rattle.pulsar_laws.proofs.Turns.{pend_kept, pending}
+use Rattle.pulsar_laws.proofs.Servers.{server_does}
+use Rattle.pulsar_laws.proofs.Consuming.{is_modest}
+use Rattle.pulsar_laws.proofs.Same.{same_self}
 
 none_some : {A : Type 0} {x : A} → None ≡ Some x → ⊥
 none_some {A} {x} h = cc
@@ -104,7 +107,7 @@ pub record AllTurns (o : Options) (log : List Entry) : Type 0 where
 -- BEFORE A DEED
 
 pub self_same : (t : ℕ) → is_same (Call t) (Call t) ≡ true
-self_same t = grind (arith, nat_tests)
+self_same t = same_self (Call t)
 
 starts_one : (t : ℕ) (p : Procedure) → start_of t (Starts (Call t) p) ≡ 1
 starts_one t p = ap (λ b. cond b 1 0) (self_same t)
@@ -195,7 +198,8 @@ pub record IsTaking (o : Options) (log : List Entry) (t n : ℕ) : Type 0 where
 
 pub who_same : (w : Who) → is_same w w ≡ true
 who_same (Call t) = self_same t
-who_same (Producer m) = grind (arith, nat_tests)
+who_same (Consumer n t) = same_self (Consumer n t)
+who_same (Producer m) = same_self (Producer m)
 
 pub stand_told : (o : Options) (older : List Entry) (w : Who) (u : Outcome) (p q : Plan) (a : Action) → (view o older).stand w ≡ Some p →
     told p u ≡ Stays q a →
@@ -400,4 +404,5 @@ own_passing o log m n k run =
 pub passing : (o : Options) (log : List Entry) (who : Who) (n : ℕ) → Every (AllTurns o) log → IsRun o (Then (Does who (PassTurn n)) ∷ log) →
     IsPassing o log who n
 passing o log (Call t) n k run = call_passing o log t n k run
+passing o log (Consumer m t) n k run = (let f : is_modest (PassTurn n) ≡ true = server_does o log m t (PassTurn n) run in absurd cc)
 passing o log (Producer m) n k run = own_passing o log m n k run

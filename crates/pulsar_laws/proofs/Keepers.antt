@@ -37,7 +37,7 @@ use Rattle.pulsar_calls.specs.declared.act.Procedure.{Procedure}
 use Rattle.pulsar_calls.specs.declared.act.Procedure.TheVariants as procedure
 use Rattle.pulsar_calls.specs.declared.act.Verdict.{Verdict}
 use Rattle.pulsar_calls.specs.declared.act.Who.{Who}
-use Rattle.pulsar_calls.specs.declared.act.Who.TheVariants.{Call, Producer}
+use Rattle.pulsar_calls.specs.declared.act.Who.TheVariants.{Call, Producer, Consumer}
 use Rattle.pulsar_procedures.specs.declared.plan.Plan.{Plan}
 use Rattle.pulsar_procedures.specs.declared.plan.Plan.TheVariants.{Batching, Stored, Storing}
 use Rattle.pulsar_procedures.specs.declared.plan.Turn.{Turn}
@@ -59,6 +59,8 @@ use Rattle.pulsar_laws.proofs.Natures.{Goes, KindBegun, KindOf, StaysSo, begins_
 use Rattle.pulsar_laws.proofs.Once.{ends_once_lem}
 use Rattle.pulsar_client.proofs.Sources.{in_append, in_each, in_one}
 use Rattle.pulsar_laws.proofs.Topics.{topics_alone_lem}
+use Rattle.pulsar_laws.proofs.Servers.{server_does}
+use Rattle.pulsar_laws.proofs.Consuming.{is_modest}
 
 none_some : {A : Type 0} {x : A} → None ≡ Some x → ⊥
 none_some {A} {x} h = cc
@@ -189,6 +191,7 @@ module _ (o : Options) (n ticket : ℕ) (entry : EntryValues) where
   by : (log : List Entry) (who : Who) (m : ℕ) (x : EntryValues) → IsRun o (Then (Does who (Store m x)) ∷ log) → it ≡ topic.Stores (turn_of who) x →
       Keeps o log ticket
   by log (Call t) m x run is = let same : ticket ≡ t = cc in subst (Keeps o log) (sym same) (store_keeps o log t m x run)
+  by log (Consumer k t) m x run is = (let f : is_modest (Store m x) ≡ true = server_does o log k t (Store m x) run in absurd cc)
   by log (Producer k) m x run is = let d = batcher_does o log k (Store m x) run in absurd (no_store d.0 m x d.1)
 
   act_keeps : (log : List Entry) (a : Act) (b : Bool) → stores_it a ≡ b → IsRun o (Then a ∷ log) → In it (topic_acts (view o log) n a) → Keeps o log ticket

@@ -1,4 +1,4 @@
--- What a verdict gives rise to: the plans of batches of a producer that was built.
+-- What a verdict gives rise to: the plans of batches of a producer that was built, and the plan that serves a consumer.
 use Rattle.std.proofs.Common.{ℕ, List, [], ◌∷◌, map, Bool, Option, Some, None}
 use Rattle.pulsar_plans.specs.declared.turn.Ways.{Ways}
 use Rattle.pulsar_producer.specs.Storage.{is_batching}
@@ -7,10 +7,14 @@ use Rattle.pulsar_producer.specs.declared.sending.Errand.{Errand}
 use Rattle.pulsar_calls.specs.declared.act.Act.{Act}
 use Rattle.pulsar_calls.specs.declared.act.Act.TheVariants.{Starts}
 use Rattle.pulsar_calls.specs.declared.act.Makes.{Makes}
-use Rattle.pulsar_calls.specs.declared.act.Makes.TheVariants.{Producer}
+use Rattle.pulsar_calls.specs.declared.act.Makes.TheVariants.{Consumer, Producer}
 use Rattle.pulsar_calls.specs.declared.act.Procedure.TheVariants as procedure
+use Rattle.pulsar_calls.specs.declared.act.Who.{Who}
 use Rattle.pulsar_calls.specs.declared.act.Who.TheVariants as who
 use Rattle.pulsar_calls.specs.declared.content.Building.{Building}
+use Rattle.pulsar_calls.specs.declared.content.Joining.{Joining}
+use Rattle.pulsar_calls.specs.Who.{ticket_of}
+use Rattle.pulsar_tables.specs.Reading.{serves_by}
 use Rattle.pulsar_tables.specs.Rules.{batches_by, batches_from, left_with}
 use Rattle.pulsar_client.proofs.Acts.{Each, each_either}
 
@@ -24,8 +28,15 @@ from_each : (P : Act → Type 0) (ways : Option Ways) (b : Building) →
 from_each P None b h = tt
 from_each P (Some w) b h = parts_each P w b.settings.block_queue_if_full b.parts (h w)
 
--- each of them is such, where each start of a plan of batches is
-pub left_each : (P : Act → Type 0) (ways : Option Ways) (makes : Makes) →
-    ((w : Ways) (e : Errand) → P (Starts (who.Producer e.producer) (procedure.Batch w e))) → Each P (left_with ways makes)
-left_each P ways (Producer b) h = each_either P (is_batching b.settings) (batches_from ways b) [] (from_each P ways b h) tt
-left_each P ways _ h = tt
+served_each : (P : Act → Type 0) (ways : Option Ways) (maker : Who) (j : Joining) →
+    ((w : Ways) (n t : ℕ) → P (Starts (who.Consumer n t) (procedure.Serve w n))) → Each P (serves_by ways maker j)
+served_each P None maker j h = tt
+served_each P (Some w) maker j h = (h w j.number (ticket_of maker), tt)
+
+-- each of them is such, where each start of a plan of batches is, and of one that serves a consumer
+pub left_each : (P : Act → Type 0) (ways : Option Ways) (maker : Who) (makes : Makes) →
+    ((w : Ways) (e : Errand) → P (Starts (who.Producer e.producer) (procedure.Batch w e))) →
+    ((w : Ways) (n t : ℕ) → P (Starts (who.Consumer n t) (procedure.Serve w n))) → Each P (left_with ways maker makes)
+left_each P ways maker (Producer b) h k = each_either P (is_batching b.settings) (batches_from ways b) [] (from_each P ways b h) tt
+left_each P ways maker (Consumer j) h k = served_each P ways maker j k
+left_each P ways maker _ h k = tt

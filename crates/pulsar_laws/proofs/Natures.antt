@@ -49,22 +49,15 @@ use Rattle.pulsar_calls.specs.declared.act.Who.TheVariants.{Call}
 use Rattle.pulsar_procedures.specs.declared.plan.At.{At as Spot}
 use Rattle.pulsar_procedures.specs.declared.plan.At.TheVariants as at
 use Rattle.pulsar_procedures.specs.declared.plan.Plan.{Plan}
-use Rattle.pulsar_procedures.specs.declared.plan.Plan.TheVariants.{Building, Getting, Asking, Awaiting, Searching, Producing, Sending, Reporting, Storing, Stored, Batching, Leaving, Gathering, Shutting, Visiting, Stopping}
+use Rattle.pulsar_procedures.specs.declared.plan.Plan.TheVariants.{Building, Getting, Asking, Awaiting, Searching, Producing, Sending, Reporting, Storing, Stored, Batching, Leaving, Gathering, Shutting, Visiting, Subscribing, Serving, Acknowledging, Departing, Stopping}
 use Rattle.pulsar_procedures.specs.declared.plan.Turn.{Turn}
 use Rattle.pulsar_procedures.specs.declared.plan.Turn.TheVariants.{Stays, Gives}
 use Rattle.pulsar_procedures.specs.declared.plan.Wanted.{Wanted}
 use Rattle.pulsar_procedures.specs.Plan.{action_of, asks_of, batches_on, begins, builds, fails_in, goes, goes_on_sending, goes_round, gathers, halted, in_asking, in_awaiting, in_finding, in_passing, in_settling, in_stored, in_storing, in_turning, is_answer, is_settled, leaves, news_in, news_of, overrides, sends_stay, settled, stands, stored, told, told_at, told_batch, told_of, told_send, told_to, visited, visits, waits, wished}
 use Rattle.pulsar_producer.specs.Batching.{is_sent_send}
 use Rattle.pulsar_client.proofs.Acts.{Each}
-
--- where a turn stays, the plan and what it does are so
-abbrev pub StaysSo : (Plan → Action → Type 0) → Turn Plan Verdict → Type 0
-StaysSo P (Stays plan action) = P plan action
-StaysSo P (Gives verdict) = Unit {0}
-
-pub either_so : (P : Plan → Action → Type 0) (b : Bool) (t u : Turn Plan Verdict) → StaysSo P t → StaysSo P u → StaysSo P (cond b t u)
-either_so P true t u p q = p
-either_so P false t u p q = q
+use Rattle.pulsar_laws.proofs.Consuming.{IsModest, begins_modest, is_consumed, is_modest, stays_map, told_modest}
+pub use Rattle.pulsar_laws.proofs.Consuming.{StaysSo, either_so}
 
 -- KINDS
 
@@ -108,6 +101,10 @@ is_other (Getting request s) = true
 is_other (Asking w) = true
 is_other (Awaiting w) = true
 is_other (Searching w s) = true
+is_other (Subscribing w o b) = true
+is_other (Serving w n s) = true
+is_other Acknowledging = true
+is_other (Departing t n) = true
 is_other Stopping = true
 is_other _ = false
 
@@ -302,6 +299,24 @@ shut_goes ns (outcome.Granted news.Done) = round_goes Closes ns
 shut_goes ns (outcome.Granted _) = tt
 shut_goes ns _ = tt
 
+-- CONSUMERS
+
+consumed_other : (plan : Plan) → is_consumed plan ≡ true → is_other plan ≡ true
+consumed_other (Asking w) h = refl
+consumed_other (Subscribing w o b) h = refl
+consumed_other (Serving w n s) h = refl
+consumed_other Acknowledging h = refl
+consumed_other (Departing t n) h = refl
+consumed_other plan h = absurd cc
+
+modest_tells : (action : Action) → is_modest action ≡ true → TellsSo action
+modest_tells (Tell n) h = absurd cc
+modest_tells (TellAll ns) h = absurd cc
+modest_tells action h = tt
+
+modest_goes : (plan : Plan) (action : Action) → IsModest plan action → Goes is_other plan action
+modest_goes plan action k = (consumed_other plan k.0, modest_tells action k.1)
+
 -- ALL
 
 pub told_goes : (plan : Plan) (u : Outcome) → StaysSo (Goes (KindOf plan)) (told plan u)
@@ -330,6 +345,10 @@ told_goes (Gathering first count left failures) (outcome.Parted t f) = gathers_g
 told_goes (Gathering first count left failures) _ = tt
 told_goes (Shutting ns) u = shut_goes ns u
 told_goes (Visiting r n left x) u = either_so (Goes is_visiting) (overrides u) _ _ tt (visit_goes r n left x u)
+told_goes (Subscribing w o b) u = stays_map IsModest (Goes is_other) (told (Subscribing w o b) u) modest_goes (told_modest (Subscribing w o b) u refl)
+told_goes (Serving w n s) u = stays_map IsModest (Goes is_other) (told (Serving w n s) u) modest_goes (told_modest (Serving w n s) u refl)
+told_goes Acknowledging u = tt
+told_goes (Departing t n) u = stays_map IsModest (Goes is_other) (told (Departing t n) u) modest_goes (told_modest (Departing t n) u refl)
 told_goes Stopping outcome.Stopped = tt
 told_goes Stopping _ = tt
 
@@ -359,4 +378,10 @@ begins_goes (procedure.FailShare share r) = (refl, refl)
 begins_goes (procedure.Gather first count) = gathers_goes first count count []
 begins_goes (procedure.Go round ns) = round_goes round ns
 begins_goes (procedure.Close t ns) = (refl, tt)
+begins_goes (procedure.Subscribe w o) =
+    stays_map IsModest (Goes is_other) (begins (procedure.Subscribe w o)) modest_goes (begins_modest (procedure.Subscribe w o) refl)
+begins_goes (procedure.Serve w n) = (refl, tt)
+begins_goes (procedure.Acknowledge link request) =
+    stays_map IsModest (Goes is_other) (begins (procedure.Acknowledge link request)) modest_goes (begins_modest (procedure.Acknowledge link request) refl)
+begins_goes (procedure.Leave t n) = (refl, tt)
 begins_goes (procedure.Refuse r) = tt

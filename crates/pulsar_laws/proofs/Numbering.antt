@@ -47,13 +47,26 @@ use Rattle.pulsar_calls.specs.declared.act.Verdict.{Verdict}
 use Rattle.pulsar_procedures.specs.declared.plan.At.{At as Spot}
 use Rattle.pulsar_procedures.specs.declared.plan.At.TheVariants as at
 use Rattle.pulsar_procedures.specs.declared.plan.Plan.{Plan}
-use Rattle.pulsar_procedures.specs.declared.plan.Plan.TheVariants.{Building, Getting, Asking, Awaiting, Searching, Producing, Sending, Reporting, Storing, Stored, Batching, Leaving, Gathering, Shutting, Visiting, Stopping}
+use Rattle.pulsar_procedures.specs.declared.plan.Plan.TheVariants.{Building, Getting, Asking, Awaiting, Searching, Producing, Sending, Reporting, Storing, Stored, Batching, Leaving, Gathering, Shutting, Visiting, Stopping, Subscribing, Serving, Acknowledging, Departing}
 use Rattle.pulsar_procedures.specs.declared.plan.Turn.{Turn}
 use Rattle.pulsar_procedures.specs.declared.plan.Turn.TheVariants.{Stays, Gives}
 use Rattle.pulsar_procedures.specs.declared.plan.Wanted.{Wanted}
-use Rattle.pulsar_procedures.specs.Plan.{asks_of, batches_on, begins, builds, fails_in, goes, goes_on_sending, goes_round, halted, in_asking, in_awaiting, in_finding, in_passing, in_settling, in_turning, is_answer, leaves, makes_of, news_in, news_of, overrides, sends_stay, stands, stored, told, told_at, visited, visits, waits}
+use Rattle.pulsar_procedures.specs.Plan.{asks_of, batches_on, begins, builds, fails_in, goes, goes_on_sending, goes_round, halted, in_asking, in_awaiting, in_finding, in_passing, in_settling, in_turning, is_answer, leaves, makes_of, news_in, news_of, overrides, sends_stay, stands, stored, told, told_at, visited, visits, waits, acknowledges, consumer_news_of, in_departing, in_recalling, in_resting, in_resuming, in_reviving, in_subscribing, in_taking, resting_hears, resubscribes, subscribes, told_service}
 use Rattle.pulsar_producer.specs.Batching.{is_sent_send}
 use Rattle.pulsar_client.proofs.Acts.{Each, each_append}
+use Rattle.pulsar_procedures.specs.declared.service.Service.{Service}
+use Rattle.pulsar_procedures.specs.declared.states.Resubscribing.{Resubscribing}
+use Rattle.pulsar_calls.specs.declared.act.Word.{Word}
+use Rattle.pulsar_consumer.specs.declared.building.Building.{Building as ConsumerBuild}
+use Rattle.pulsar_consumer.specs.declared.building.News.{News as ConsumerNews}
+use Rattle.pulsar_consumer.specs.declared.building.Order.{Order as ConsumerOrder}
+use Rattle.pulsar_messages.specs.Words.{Words}
+use Rattle.pulsar_procedures.specs.declared.service.Service.TheVariants as service
+use Rattle.pulsar_calls.specs.declared.act.Word.TheVariants as word
+use Rattle.pulsar_consumer.specs.Plans as consume
+use Rattle.pulsar_plans.specs.declared.closing.Step.TheVariants as building_step
+use Rattle.pulsar_messages.specs.Words as words
+use Rattle.pulsar_laws.proofs.Consuming.{IsServing, service_serves}
 
 -- WHAT A PLAN HAS DRAWN
 
@@ -247,6 +260,33 @@ module _ (Q : ℕ → Type 0) where
   stands_sound : (w : Wanted) → makes_producer w.makes ≡ false → TurnSound Q (stands w)
   stands_sound w k = either_sound (is_answered w.number) _ _ k tt
 
+  -- CONSUMERS
+
+  building_sound : (w : Ways) (o : ConsumerOrder) (x : consume.Builds) → TurnSound Q (subscribes w o x)
+  building_sound w o (building_step.Stays b d) = tt
+  building_sound w o (building_step.Gives (Ok b)) = tt
+  building_sound w o (building_step.Gives (Err f)) = tt
+
+  subscribing_sound : (w : Ways) (o : ConsumerOrder) (b : ConsumerBuild) (n : Option ConsumerNews) → TurnSound Q (in_subscribing w o b n)
+  subscribing_sound w o b None = tt
+  subscribing_sound w o b (Some n) = building_sound w o (consume.build_told w o b n)
+
+  served_sound : (t : Turn Plan Verdict) → IsServing t → TurnSound Q t
+  served_sound (Stays (Serving w n s) action) k = tt
+  served_sound (Stays p action) k = absurd k
+  served_sound (Gives x) k = subst (λ y. MakesSound Q y.makes) (sym k) tt
+
+  departing_sound : (t n : ℕ) (u : Outcome) → TurnSound Q (in_departing t n u)
+  departing_sound t n (outcome.GotLink link) = plain_of link (subscribed (words.CloseConsumer n))
+  departing_sound t n (outcome.Word word.Again) = tt
+  departing_sound t n (outcome.Word word.Closed) = tt
+  departing_sound t n (outcome.Word _) = tt
+  departing_sound t n _ = tt
+
+  acknowledges_sound : (link : Option ℕ) (request : Words) → TurnSound Q (acknowledges link request)
+  acknowledges_sound None request = tt
+  acknowledges_sound (Some l) request = tt
+
   pub told_sound : (plan : Plan) (u : Outcome) → IsSound Q plan → ((m : ℕ) → u ≡ outcome.Granted (news.Numbered m) → Q m) → TurnSound Q (told plan u)
   told_sound Building (outcome.GotLink l) k q = tt
   told_sound Building _ k q = tt
@@ -289,6 +329,10 @@ module _ (Q : ℕ → Type 0) where
   told_sound (Gathering first count left failures) _ k q = tt
   told_sound (Shutting ns) u k q = shut_sound ns u
   told_sound (Visiting r n left x) u k q = either_sound (overrides u) _ _ tt (visit_sound r n left x u)
+  told_sound (Subscribing w o b) u k q = either_sound (overrides u) _ _ tt (subscribing_sound w o b (consumer_news_of u))
+  told_sound (Serving w n s) u k q = either_sound (overrides u) _ _ tt (served_sound (told_service w n s u) (service_serves w n s u))
+  told_sound Acknowledging u k q = tt
+  told_sound (Departing t n) u k q = departing_sound t n u
   told_sound Stopping outcome.Stopped k q = tt
   told_sound Stopping _ k q = tt
 
@@ -306,4 +350,8 @@ module _ (Q : ℕ → Type 0) where
   begins_sound (procedure.Gather first count) = either_sound (count == 0) _ _ tt tt
   begins_sound (procedure.Go round ns) = round_sound round ns
   begins_sound (procedure.Close t ns) = tt
+  begins_sound (procedure.Subscribe w o) = building_sound w o (consume.build_begins w o)
+  begins_sound (procedure.Serve w n) = tt
+  begins_sound (procedure.Acknowledge link request) = acknowledges_sound link request
+  begins_sound (procedure.Leave t n) = tt
   begins_sound (procedure.Refuse r) = tt

@@ -17,11 +17,11 @@ use Rattle.pulsar_calls.specs.declared.act.Outcome.{Outcome}
 use Rattle.pulsar_calls.specs.declared.act.Part.TheVariants.{Calls}
 use Rattle.pulsar_calls.specs.declared.act.Makes.{Makes}
 use Rattle.pulsar_calls.specs.declared.act.Procedure.{Procedure}
-use Rattle.pulsar_calls.specs.declared.act.Procedure.TheVariants.{Batch}
+use Rattle.pulsar_calls.specs.declared.act.Procedure.TheVariants.{Batch, Serve}
 use Rattle.pulsar_calls.specs.declared.act.Refusal.{Refusal}
 use Rattle.pulsar_calls.specs.declared.act.Verdict.{Verdict}
 use Rattle.pulsar_calls.specs.declared.act.Who.{Who}
-use Rattle.pulsar_calls.specs.declared.act.Who.TheVariants.{Call, Producer}
+use Rattle.pulsar_calls.specs.declared.act.Who.TheVariants.{Call, Consumer, Producer}
 use Rattle.pulsar_procedures.specs.declared.plan.Plan.{Plan}
 use Rattle.pulsar_procedures.specs.declared.plan.Turn.{Turn}
 use Rattle.pulsar_procedures.specs.declared.plan.Turn.TheVariants.{Stays, Gives}
@@ -74,9 +74,11 @@ none_in f [] P none k = refl
 none_in f (x ∷ xs) P none k = (λ i. none x k.0 i + none_in f xs P none k.1 i)
 
 -- a plan of batches is no call
-left_due : (f : Act → ℕ) (ways : Option Ways) (makes : Makes) → ((w : Ways) (e : Errand) → f (Starts (Producer e.producer) (Batch w e)) ≡ 0) →
-    due f (left_with ways makes) ≡ 0
-left_due f ways makes none = none_in f (left_with ways makes) (λ a. f a ≡ 0) (λ a h. h) (left_each (λ a. f a ≡ 0) ways makes none)
+left_due : (f : Act → ℕ) (ways : Option Ways) (maker : Who) (makes : Makes) → ((w : Ways) (e : Errand) → f (Starts (Producer e.producer) (Batch w e)) ≡ 0) →
+    ((w : Ways) (n t : ℕ) → f (Starts (Consumer n t) (Serve w n)) ≡ 0) →
+    due f (left_with ways maker makes) ≡ 0
+left_due f ways maker makes none idle =
+    none_in f (left_with ways maker makes) (λ a. f a ≡ 0) (λ a h. h) (left_each (λ a. f a ≡ 0) ways maker makes none idle)
 
 none_due : (f : Act → ℕ) (xs : List Act) → ((a : Act) → IsQuiet a → f a ≡ 0) → Each IsQuiet xs → due f xs ≡ 0
 none_due f xs none k = none_in f xs IsQuiet none k
@@ -180,12 +182,18 @@ module _ (o : Options) (log : List Entry) (a : Act) (t : ℕ) (k : Few o log t) 
 abbrev between : (t from to : ℕ) → ℕ
 between t from to = cond (nat_le from t && nat_lt t to) 1 0
 
+twice : (b : Bool) → ◌≡◌ {A = ℕ} (cond (b && b) 1 0) (cond b 1 0)
+twice true = refl
+twice false = refl
+
 shares_few : (t : ℕ) (o : Chosen) (ps : Producers) (of ticket : ℕ) (advice : List (Option ℕ)) (u : ℕ) (ms : List ProducerMessageValues) →
     due (start_of t) (shares_of o ps of ticket advice u ms) ≤ between t ticket (ticket + length ms)
 shares_few t o ps of ticket advice u [] = omega arith
 shares_few t o ps of ticket advice u (m ∷ ms) =
     let k = shares_few t o (routed u m ps) of (ticket + 1) (drop 1 advice) u ms in
-    one_more t ticket (length ms) (due (start_of t) (shares_of o (routed u m ps) of (ticket + 1) (drop 1 advice) u ms)) k
+    subst (λ x. x + due (start_of t) (shares_of o (routed u m ps) of (ticket + 1) (drop 1 advice) u ms) ≤ between t ticket (ticket + suc (length ms)))
+    (sym (twice (t == ticket)))
+    (one_more t ticket (length ms) (due (start_of t) (shares_of o (routed u m ps) of (ticket + 1) (drop 1 advice) u ms)) k)
   where
     one_more : (t n k d : ℕ) → d ≤ between t (n + 1) (n + 1 + k) → cond (t == n) 1 0 + d ≤ between t n (n + suc k)
     one_more t n k d h = grind (arith, nat_tests, common_steps)
@@ -201,9 +209,14 @@ parts_few t v advice (content.SendAll u ms) = unless_few t (why_no_sends v.calls
 parts_few t v advice _ = omega arith
 
 -- so what starts is no more than what is drawn
-next_few : (t n k b d p : ℕ) → b + (0 + d) ≤ cond (nat_lt t n) 1 0 → p ≤ between t (n + 1) (n + 1 + k) →
+next_one : (t n k b d p : ℕ) → b + (0 + d) ≤ cond (nat_lt t n) 1 0 → p ≤ between t (n + 1) (n + 1 + k) →
     (b + 0) + ((cond (t == n) 1 0 + p) + d) ≤ cond (nat_lt t (n + 1 + k)) 1 0
-next_few t n k b d p h few = grind (arith, nat_tests, common_steps)
+next_one t n k b d p h few = grind (arith, nat_tests, common_steps)
+
+next_few : (t n k b d p : ℕ) → b + (0 + d) ≤ cond (nat_lt t n) 1 0 → p ≤ between t (n + 1) (n + 1 + k) →
+    (b + 0) + ((cond ((t == n) && (t == n)) 1 0 + p) + d) ≤ cond (nat_lt t (n + 1 + k)) 1 0
+next_few t n k b d p h few =
+    subst (λ x. (b + 0) + ((x + p) + d) ≤ cond (nat_lt t (n + 1 + k)) 1 0) (sym (twice (t == n))) (next_one t n k b d p h few)
 
 -- none of it ends
 start_end : (t from to : ℕ) (a : Act) → StartsIn from to a → end_of t a ≡ 0
@@ -235,7 +248,7 @@ calls_on o log asked advice t k fits =
       | inl e ↦ record {
         begun = rw ds (rw e (omega (arith, b)));
         ended = λ low. (let c = ended_before o log a t k fits low in
-            rw (ds, de) (rw e (late_end (t == (2 ^ 64 - 1)) (counted (end_of t) log) (due (start_of t) xs) (due (end_of t) xs) (alive (v.stand (Call t)))
+            rw (ds, de) (rw e (late_end (is_same (Call t) (Call (2 ^ 64 - 1))) (counted (end_of t) log) (due (start_of t) xs) (due (end_of t) xs) (alive (v.stand (Call t)))
             (drawn t n)
             (apart (Call t) (2 ^ 64 - 1) low refl) c)));
       }
@@ -253,8 +266,12 @@ calls_on o log asked advice t k fits =
     ]
   where
     next_ends : (t n k e d c a p : ℕ) → e + (0 + d) + (0 + c) + a ≤ cond (nat_lt t n) 1 0 → p ≤ between t (n + 1) (n + 1 + k) →
-        (e + 0) + ((cond (t == n) 1 0 + p) + d) + (0 + c) + a ≤ cond (nat_lt t (n + 1 + k)) 1 0
-    next_ends t n k e d c a p h few = let f = next_few t n k (e + c + a) d p (omega (arith, h)) few in omega (arith, f)
+        (e + 0) + ((cond ((t == n) && (t == n)) 1 0 + p) + d) + (0 + c) + a ≤ cond (nat_lt t (n + 1 + k)) 1 0
+    next_ends t n k e d c a p h few = let f = next_few t n k (e + c + a) d p (omega (arith, h)) few in shuffled (cond ((t == n) && (t == n)) 1 0) f
+      where
+        shuffled : (x : ℕ) → (e + c + a + 0) + ((x + p) + d) ≤ cond (nat_lt t (n + 1 + k)) 1 0 →
+            (e + 0) + ((x + p) + d) + (0 + c) + a ≤ cond (nat_lt t (n + 1 + k)) 1 0
+        shuffled x f = omega (arith, f)
 
 starts_on : (o : Options) (log : List Entry) (who : Who) (p : Procedure) (t : ℕ) → Few o log t → first (agenda o log) ≡ Some (Starts who p) →
     Few o (Then (Starts who p) ∷ log) t
@@ -321,8 +338,8 @@ few_run o (Then (Starts who p) ∷ log) t r = starts_on o log who p t (few_run o
 few_run o (Then (Told n) ∷ log) t r = told_on o log n t (few_run o log t r.0) r.1
 few_run o (Then (Does w a) ∷ log) t r = quiet_on o log (Does w a) t (few_run o log t r.0) r.1 (performs_quiet (view o log) w a) refl refl
 few_run o (Then (Answers w a) ∷ log) t r =
-    simple_on o log (Answers w a) t (few_run o log t r.0) r.1 (left_due (start_of t) (ways_of (view o log).chosen) a.makes (λ u e. refl))
-    (left_due (end_of t) (ways_of (view o log).chosen) a.makes (λ u e. refl)) refl refl
+    simple_on o log (Answers w a) t (few_run o log t r.0) r.1 (left_due (start_of t) (ways_of (view o log).chosen) w a.makes (λ u e. refl) (λ u n k. refl))
+    (left_due (end_of t) (ways_of (view o log).chosen) w a.makes (λ u e. refl) (λ u n k. refl)) refl refl
 few_run o (Then a ∷ log) t r = quiet_on o log a t (few_run o log t r.0) r.1 tt refl refl
 
 one_at_most : (b : Bool) (x y : ℕ) → x + y ≤ cond b 1 0 → x ≤ 1

@@ -22,7 +22,7 @@ use Rattle.pulsar_calls.specs.declared.act.Verdict.{Verdict}
 use Rattle.pulsar_calls.specs.declared.act.Who.{Who}
 use Rattle.pulsar_calls.specs.declared.act.Who.TheVariants.{Call}
 use Rattle.pulsar_procedures.specs.declared.plan.Plan.{Plan}
-use Rattle.pulsar_procedures.specs.declared.plan.Plan.TheVariants.{Building, Getting, Asking, Awaiting, Searching, Producing, Sending, Reporting, Storing, Stored, Batching, Leaving, Gathering, Shutting, Visiting, Stopping}
+use Rattle.pulsar_procedures.specs.declared.plan.Plan.TheVariants.{Building, Getting, Asking, Awaiting, Searching, Producing, Sending, Reporting, Storing, Stored, Batching, Leaving, Gathering, Shutting, Visiting, Stopping, Subscribing, Serving, Acknowledging, Departing}
 use Rattle.pulsar_procedures.specs.declared.plan.Turn.{Turn}
 use Rattle.pulsar_procedures.specs.declared.plan.Turn.TheVariants.{Stays, Gives}
 use Rattle.pulsar_laws.specs.Laws.{counted, start_of}
@@ -127,6 +127,10 @@ out_left (Getting request s) u h = none_of is_other (Getting request s) (told (G
 out_left (Asking w) u h = none_of is_other (Asking w) (told (Asking w) u) other_none (told_goes (Asking w) u)
 out_left (Awaiting w) u h = none_of is_other (Awaiting w) (told (Awaiting w) u) other_none (told_goes (Awaiting w) u)
 out_left (Searching w s) u h = none_of is_other (Searching w s) (told (Searching w s) u) other_none (told_goes (Searching w s) u)
+out_left (Subscribing w o b) u h = none_of is_other (Subscribing w o b) (told (Subscribing w o b) u) other_none (told_goes (Subscribing w o b) u)
+out_left (Serving w n s) u h = none_of is_other (Serving w n s) (told (Serving w n s) u) other_none (told_goes (Serving w n s) u)
+out_left Acknowledging u h = none_of is_other Acknowledging (told Acknowledging u) other_none (told_goes Acknowledging u)
+out_left (Departing t n) u h = none_of is_other (Departing t n) (told (Departing t n) u) other_none (told_goes (Departing t n) u)
 out_left Stopping u h = none_of is_other Stopping (told Stopping u) other_none (told_goes Stopping u)
 out_left (Producing w o b) u h = none_of is_producing (Producing w o b) (told (Producing w o b) u) producing_none (told_goes (Producing w o b) u)
 out_left (Gathering a c l f) u h = none_of is_gathering (Gathering a c l f) (told (Gathering a c l f) u) gathering_none (told_goes (Gathering a c l f) u)

@@ -26,6 +26,9 @@ use Rattle.pulsar_tables.specs.View.{Options, View, ways_of}
 use Rattle.pulsar_client.proofs.Acts.{Each, each_append, each_either, each_first, each_map, each_rest, is_served}
 use Rattle.pulsar_laws.proofs.Batchers.{is_batcher}
 use Rattle.pulsar_client.proofs.Raising.{IsRaised, raises}
+use Rattle.pulsar_tables.specs.Reading.{serves_by}
+use Rattle.pulsar_calls.specs.declared.content.Joining.{Joining}
+use Rattle.pulsar_calls.specs.declared.act.Who.{Who}
 
 -- WHAT BEGINS FOR A TOPIC PRODUCER is the plan of its own batches
 
@@ -57,12 +60,17 @@ from_own : (ways : Option Ways) (b : Building) → Each IsOwn (batches_from ways
 from_own None b = tt
 from_own (Some ways) b = made_own ways b.settings.block_queue_if_full b.parts
 
-left_own : (ways : Option Ways) (m : Makes) → Each IsOwn (left_with ways m)
-left_own ways (makes.Producer b) = each_either IsOwn (is_batching b.settings) (batches_from ways b) [] (from_own ways b) tt
-left_own ways _ = tt
+serving_own : (ways : Option Ways) (maker : Who) (j : Joining) → Each IsOwn (serves_by ways maker j)
+serving_own None maker j = tt
+serving_own (Some w) maker j = (tt, tt)
+
+left_own : (ways : Option Ways) (maker : Who) (m : Makes) → Each IsOwn (left_with ways maker m)
+left_own ways maker (makes.Producer b) = each_either IsOwn (is_batching b.settings) (batches_from ways b) [] (from_own ways b) tt
+left_own ways maker (makes.Consumer j) = serving_own ways maker j
+left_own ways maker _ = tt
 
 once_own : (v : View) (a : Act) → Each IsOwn (at_once v a)
-once_own v (Answers who verdict) = left_own (ways_of v.chosen) verdict.makes
+once_own v (Answers who verdict) = left_own (ways_of v.chosen) who verdict.makes
 once_own v a = each_map (IsRaised a) IsOwn (at_once v a) (λ b. raised_own a b refl) (raises v a)
 
 own_due : (o : Options) (log : List Entry) → IsRun o log → Each IsOwn (agenda o log).now

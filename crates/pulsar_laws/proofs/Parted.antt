@@ -33,7 +33,7 @@ use Rattle.pulsar_calls.specs.Content.{Asked, lacks_tickets, shares}
 use Rattle.pulsar_laws.specs.Laws.{started}
 use Rattle.pulsar_tables.specs.Producers.{Producers, advice, batches_in, errand_of, numbers_at, routed, why_not}
 use Rattle.pulsar_calls.specs.Content.{next_advice}
-use Rattle.pulsar_tables.specs.Rules.{asks_raw, asks_topics, builds_with, call_part, checks, closes, flushes, flushes_all, from_base, gathers, is_taken, parts_of, procedure_for, produces, produces_from, searches, sends, sends_as, sends_by, shares_of, shares_unless, starts, stores_as, unless, unless_refused, why_no_sends}
+use Rattle.pulsar_tables.specs.Rules.{asks_raw, asks_topics, builds_with, call_part, checks, closes, flushes, flushes_all, from_base, gathers, is_taken, parts_of, procedure_for, produces, produces_from, searches, sends, sends_as, sends_by, shares_of, shares_unless, starts, stores_as, unless, unless_refused, why_no_sends, why_no_raw}
 use Rattle.pulsar_client.specs.Run.{Entry, Begins, Then, IsRun, view}
 use Rattle.pulsar_tables.specs.View.{Chosen, Options, View, may_call, ways_of}
 use Rattle.pulsar_calls.specs.Who.{is_same}
@@ -42,6 +42,7 @@ use Rattle.pulsar_laws.proofs.Follow.{same_is}
 use Rattle.pulsar_laws.proofs.Granted.{in_each}
 use Rattle.pulsar_laws.proofs.Made.{calls_are_made_lem}
 use Rattle.pulsar_laws.proofs.Sharing.{share_in}
+use Rattle.pulsar_laws.proofs.Consuming.{humble_call, is_humble}
 
 none_some : {A : Type 0} {x : A} → None ≡ Some x → ⊥
 none_some {A} {x} h = cc
@@ -54,15 +55,18 @@ is_plain (procedure.Store n share e) = false
 is_plain (procedure.Batch w e) = false
 is_plain (procedure.FailShare s r) = false
 is_plain (procedure.Gather first count) = false
+is_plain (procedure.Serve w n) = false
 is_plain _ = true
 
--- the plan of batches is that of no call
+-- the plan of batches is that of no call, and neither is one that serves a consumer
 abbrev pub is_batches : Procedure → Bool
 is_batches (procedure.Batch w e) = true
+is_batches (procedure.Serve w n) = true
 is_batches _ = false
 
 plain_batches : (p : Procedure) → is_plain p ≡ true → is_batches p ≡ false
 plain_batches (procedure.Batch w e) h = absurd cc
+plain_batches (procedure.Serve w n) h = absurd cc
 plain_batches _ h = refl
 
 abbrev pub is_store : Procedure → Bool
@@ -144,10 +148,12 @@ module _ (d c u : ℕ) where
 abbrev is_gather : Procedure → Bool
 is_gather (procedure.Gather first count) = true
 is_gather (procedure.Batch w e) = true
+is_gather (procedure.Serve w n) = true
 is_gather _ = false
 
 no_batches : (p : Procedure) → is_gather p ≡ false → is_batches p ≡ false
 no_batches (procedure.Batch w e) h = absurd cc
+no_batches (procedure.Serve w n) h = absurd cc
 no_batches _ h = refl
 
 part_is : (d c u : ℕ) (s : Share) (p : Procedure) → share_in p ≡ Some s → is_gather p ≡ false → s.ticket ≡ u → s.of ≡ d → d < u → u < d + 1 + c → IsOf d c u p
@@ -205,8 +211,15 @@ gathers_of d u c ms e f = record {
   call = refl;
 }
 
+humble_of : (d c u : ℕ) (p : Procedure) → is_humble p ≡ true → IsOf d c u p
+humble_of d c u (procedure.Refuse r) h = plain_of d c u (procedure.Refuse r) refl
+humble_of d c u (procedure.Subscribe w o) h = plain_of d c u (procedure.Subscribe w o) refl
+humble_of d c u (procedure.Acknowledge link request) h = plain_of d c u (procedure.Acknowledge link request) refl
+humble_of d c u (procedure.Leave t n) h = plain_of d c u (procedure.Leave t n) refl
+humble_of d c u p h = absurd cc
+
 head_of : (v : View) (advised : List (Option ℕ)) (asked : Asked) →
-    IsOf v.calls.drawn (shares asked) v.calls.drawn (procedure_for v.chosen v.calls v.producers advised asked)
+    IsOf v.calls.drawn (shares asked) v.calls.drawn (procedure_for v.chosen v.calls v.consumers v.producers advised asked)
 head_of v advised content.Build =
     may_of v.calls.drawn 0 v.calls.drawn (not v.calls.is_stopped) (builds_with v.chosen.outbound v.chosen.base)
     (either_of v.calls.drawn 0 v.calls.drawn (v.chosen.outbound == 0) (procedure.Refuse refusal.NoOutbound) (from_base v.chosen.base procedure.Build)
@@ -255,11 +268,17 @@ head_of v advised (content.CloseProducer t) =
     (procedure.Refuse refusal.UnknownTicket)
     (plain_of v.calls.drawn 0 v.calls.drawn (procedure.Close t (numbers_at (v.producers.built t))) refl)
     (plain_of v.calls.drawn 0 v.calls.drawn (procedure.Refuse refusal.UnknownTicket) refl))
+head_of v advised (content.Consumer wanted) =
+    humble_of v.calls.drawn 0 v.calls.drawn _ (humble_call v.chosen v.calls v.consumers v.producers advised (content.Consumer wanted) refl)
+head_of v advised (content.Ack t name id cumulative) =
+    humble_of v.calls.drawn 0 v.calls.drawn _ (humble_call v.chosen v.calls v.consumers v.producers advised (content.Ack t name id cumulative) refl)
+head_of v advised (content.Nack t name id) =
+    humble_of v.calls.drawn 0 v.calls.drawn _ (humble_call v.chosen v.calls v.consumers v.producers advised (content.Nack t name id) refl)
+head_of v advised (content.CloseConsumer t) =
+    humble_of v.calls.drawn 0 v.calls.drawn _ (humble_call v.chosen v.calls v.consumers v.producers advised (content.CloseConsumer t) refl)
 head_of v advised (content.Raw l request) =
-    may_of v.calls.drawn 0 v.calls.drawn (may_call v.calls) (asks_raw v.producers l request)
-    (either_of v.calls.drawn 0 v.calls.drawn (is_taken v.producers (named_producer request)) (procedure.Refuse refusal.NumberInUse)
-    (procedure.Ask (Link l) request says.Bodies)
-    (plain_of v.calls.drawn 0 v.calls.drawn (procedure.Refuse refusal.NumberInUse) refl)
+    may_of v.calls.drawn 0 v.calls.drawn (may_call v.calls) (asks_raw v.consumers v.producers l request)
+    (unless_of v.calls.drawn 0 v.calls.drawn (why_no_raw v.consumers v.producers request) (procedure.Ask (Link l) request says.Bodies)
     (plain_of v.calls.drawn 0 v.calls.drawn (procedure.Ask (Link l) request says.Bodies) refl))
 
 starts_so : (v : View) (advised : List (Option ℕ)) (asked : Asked) → Each (StartSo v.calls.drawn (shares asked)) (starts v advised asked)

@@ -6,7 +6,7 @@ use Rattle.pulsar_calls.specs.declared.act.Act.TheVariants.{Comes, Does, Answers
 use Rattle.pulsar_calls.specs.declared.act.Action.TheVariants.{Ask}
 use Rattle.pulsar_calls.specs.declared.act.Part.TheVariants as part
 use Rattle.pulsar_calls.specs.declared.act.Who.{Who}
-use Rattle.pulsar_calls.specs.declared.act.Who.TheVariants.{Call, Producer}
+use Rattle.pulsar_calls.specs.declared.act.Who.TheVariants.{Call, Consumer, Producer}
 use Rattle.pulsar_tables.specs.declared.addresses.Pause.{Pause}
 use Rattle.pulsar_tables.specs.Address.{leads_to}
 use Rattle.pulsar_calls.specs.Content.{Said, Shown, Queued, Write, Hands, Faults}
@@ -16,7 +16,7 @@ use Rattle.pulsar_tables.specs.View.{Chosen, Turned, View}
 abbrev pub is_plain : Shown → Bool
 is_plain (Write l bytes) = false
 is_plain (Queued l place bytes) = false
-is_plain (Hands ticket topic id metadata payload) = false
+is_plain (Hands ticket topic id size metadata payload) = false
 is_plain (Faults ticket fault) = false
 is_plain _ = true
 
@@ -30,6 +30,7 @@ some_plain f (Some x) h = (h x, tt)
 
 ends_plain : (who : Who) (said : Said) → ArePlain (ends who said)
 ends_plain (Call t) said = (refl, tt)
+ends_plain (Consumer n t) said = tt
 ends_plain (Producer n) said = tt
 
 connects_plain : (l : ℕ) (reached : Option (List ℕ × ℕ)) → ArePlain (connects_to l reached)

@@ -1,5 +1,5 @@
 -- A consumer is polled where the user asks for it, and its polls give what has come to it, in order.
-use Rattle.std.proofs.Common.{◌≡◌, ℕ, ◌∙◌, sym, ap, subst, List, [], ◌∷◌, ◌++◌, refl, arith, map, drop, Bool, true, false, ◌&&◌, not, cond, Option, Some, None, inl, inr, ◌==◌, append_assoc, append-nil}
+use Rattle.std.proofs.Common.{◌≡◌, ℕ, ◌∙◌, sym, ap, subst, List, [], ◌∷◌, ◌++◌, refl, arith, map, drop, Bool, true, false, ◌&&◌, not, cond, Option, Some, None, inl, inr, ◌==◌, append_assoc, append-nil, eq-eqb}
 use Rattle.std.proofs.lemmas.Bool.{cases_Bool, eqb-true}
 use Rattle.std.proofs.lemmas.Bool.Decides.{nat_tests}
 use Rattle.std.proofs.lemmas.Grind.{common_steps}
@@ -15,44 +15,55 @@ use Rattle.pulsar_link.specs.Items.{Item, Given, Faulty}
 use Rattle.pulsar_link.specs.Request.{closed_consumer}
 use Rattle.pulsar_calls.specs.declared.act.Act.{Act}
 use Rattle.pulsar_calls.specs.declared.act.Act.TheVariants.{Comes, Does, Answers}
-use Rattle.pulsar_calls.specs.declared.act.Action.TheVariants.{Ask}
+use Rattle.pulsar_calls.specs.declared.act.Action.TheVariants.{Ask, TakeFlow, Revive, FailConsumer, StopAll}
 use Rattle.pulsar_calls.specs.declared.act.Arrival.{Arrival}
 use Rattle.pulsar_calls.specs.declared.act.Arrival.TheVariants as arrivals
 use Rattle.pulsar_calls.specs.declared.act.LinkAct.{LinkAct}
 use Rattle.pulsar_calls.specs.declared.act.LinkAct.TheVariants.{Reads, Ends}
 use Rattle.pulsar_calls.specs.declared.act.Makes.{Makes}
-use Rattle.pulsar_calls.specs.declared.act.Makes.TheVariants.{Consumer}
 use Rattle.pulsar_calls.specs.declared.act.Part.TheVariants.{ToLink, Polls}
 use Rattle.pulsar_calls.specs.declared.act.Who.{Who}
 use Rattle.pulsar_calls.specs.declared.act.Who.TheVariants.{Call}
 use Rattle.pulsar_calls.specs.Content.{Heard, Poll, Shown, Hands, Faults}
 use Rattle.pulsar_tables.specs.Effects.{asked_at, effect_below, effect_rank, effects, given_at, is_before3, retries_on}
-use Rattle.pulsar_laws.specs.Laws.{EndsOnce, PollsAreAnswered, PollsFollow, brought, brought_by, given_by, items_come, items_given}
+use Rattle.pulsar_laws.specs.Laws.{EndsOnce}
 use Rattle.pulsar_client.specs.Run.{Entry, Begins, Then, IsRun, Step, first_of, is_empty, rules, steps, view}
-use Rattle.pulsar_tables.specs.Subscriptions.{Subscription, after_came, after_poll, closes_it, ended, ended_at, hears, is_heard_on, is_last, polled, polled_from}
-use Rattle.pulsar_tables.specs.View.{Options, Seat, View, answer_at, arrival_at, closing, hears_ask, is_asked, made, turned}
-use Rattle.pulsar_calls.specs.Who.{is_same}
-use Rattle.pulsar_client.proofs.Acts.{Each, each_append, each_map}
-use Rattle.pulsar_laws.proofs.Hearing.{begun_consumers, none_before}
+use Rattle.pulsar_tables.specs.View.{Options, Seat, View, answer_at, arrival_at, closing, is_asked, turned, url_at}
+use Rattle.pulsar_calls.specs.Who.{is_same, ticket_of}
+use Rattle.pulsar_client.proofs.Acts.{Each, each_append, each_map, each_either}
 use Rattle.pulsar_client.proofs.Orders.{effect_order}
 use Rattle.pulsar_client.proofs.Single.{poll_comes}
 use Rattle.pulsar_laws.proofs.OfLink.{IsOf, asked_of, given_of}
 use Rattle.pulsar_laws.proofs.Plain.{ArePlain, effects_plain, is_plain, turned_plain}
 use Rattle.pulsar_client.proofs.Ticketed.{consumer_ticket}
+use Rattle.url.specs.Parts.{Parts}
+use Rattle.pulsar_link.specs.Messages.{Reply, is_body}
+use Rattle.pulsar_consumer.specs.Frames.{frame_in}
+use Rattle.pulsar_consumer.specs.Topic.{Act as Done, Lives, Hears, Loses, Fails, Ends as Over, Polls as Polled, Asks, Seen, Setup, first_of as first_item, lives_on, polled_from, seen}
+use Rattle.pulsar_consumer.specs.Laws.{given, given_by as given_in, item_in, left}
+use Rattle.pulsar_consumer.specs.declared.polled.Ending.TheVariants.{Closed, TopicEnded}
+use Rattle.pulsar_consumer.specs.declared.polled.Polled.{Polled as Answer}
+use Rattle.pulsar_consumer.proofs.Histories.{polls_give_arrivals, polls_give_the_next}
+use Rattle.pulsar_tables.specs.Consumers.{Member, is_closed_by, polled, polled_so}
+use Rattle.pulsar_laws.specs.ConsumerLaws.{PollsAreAnswered, PollsFollow, arrival_does, does_to, done_to, frame_does, given_by, items_given, loss_does, made_with, subscription_does}
+use Rattle.pulsar_laws.proofs.Lone.{IsKept, IsMade, IsNone, RowFrom, StandsSo, begun_rows, consumers_alone_lem, row_from}
+use Rattle.pulsar_consumer.specs.Topic as reader
+use Rattle.pulsar_consumer.specs.declared.polled.Polled.TheVariants as poll
 
 -- A POLL IS ANSWERED
 
 -- where it comes there is such a consumer
-consumer_there : (t : ℕ) (row : Option Subscription) → first_of [] [] [] (cond (is_some row) (Polls t ∷ []) []) ≡ Some (Comes (Polls t)) → (s : Subscription) × (row ≡ Some s)
+consumer_there : (t : ℕ) (row : Option Member) → first_of [] [] [] (cond (is_some row) (Polls t ∷ []) []) ≡ Some (Comes (Polls t)) →
+    (m : Member) × (row ≡ Some m)
 consumer_there t None h = absurd cc
-consumer_there t (Some s) h = (s, refl)
+consumer_there t (Some m) h = (m, refl)
 
 pub polls_are_answered_lem : PollsAreAnswered
 polls_are_answered_lem o log t run =
     let k = poll_comes o log t run in
     let here : IsRun o (Then (Comes (Polls t)) ∷ Begins (Poll t) ∷ k.0) = subst (λ l. IsRun o (Then (Comes (Polls t)) ∷ l)) k.1 run in
-    let w = consumer_there t ((view o k.0).consumers t) here.1 in
-    let is_there : (view o (Begins (Poll t) ∷ k.0)).consumers t ≡ Some w.0 = begun_consumers (Poll t) (view o k.0) t ∙ w.1 in (
+    let w = consumer_there t ((view o k.0).consumers.rows t) here.1 in
+    let is_there : (view o (Begins (Poll t) ∷ k.0)).consumers.rows t ≡ Some w.0 = begun_rows (Poll t) (view o k.0) t ∙ w.1 in (
       k.0,
       w.0,
       k.1,
@@ -72,7 +83,7 @@ Ranks t x = effect_rank x ≡ (0, t, 0)
 
 ranks : (t : ℕ) (x : Shown) → gives_it t x ≡ true → Ranks t x
 unfolding gives_it
-ranks t (Hands ticket topic id metadata payload) h = elim (cases_Bool (t == ticket)) [
+ranks t (Hands ticket topic id size metadata payload) h = elim (cases_Bool (t == ticket)) [
   | inl e ↦ ap (λ n. (0, n, 0)) (sym (eqb-true t ticket e))
   | inr e ↦ (let f : false ≡ true = rw e at h in absurd cc)
 ]
@@ -159,7 +170,7 @@ given_same o t a log p =
 
 -- what is of a link is no item
 of_gives : (t k : ℕ) (x : Shown) → IsOf k x → NoItem t x
-of_gives t k (Hands ticket topic id metadata payload) h = absurd cc
+of_gives t k (Hands ticket topic id size metadata payload) h = absurd cc
 of_gives t k (Faults ticket fault) h = absurd cc
 of_gives t k _ h = refl
 
@@ -167,7 +178,7 @@ asks_none : (t l now : ℕ) (request : Words) (row : Option Seat) → NoItems t 
 asks_none t l now request row = each_map (IsOf l) (NoItem t) (asked_at l now request row) (of_gives t l) (asked_of l now request row)
 
 plain_gives : (t : ℕ) (x : Shown) → is_plain x ≡ true → given_by t x ≡ []
-plain_gives t (Hands ticket topic id metadata payload) h = absurd cc
+plain_gives t (Hands ticket topic id size metadata payload) h = absurd cc
 plain_gives t (Faults ticket fault) h = absurd cc
 plain_gives t _ h = refl
 
@@ -182,129 +193,203 @@ link_none t l x v =
     each_append (NoItem t) (given_at l x v.now row) more (each_map (IsOf l) (NoItem t) (given_at l x v.now row) (of_gives t l) (given_of l x v.now row))
     (plain_none t more (turned_plain v.chosen (turned v (Comes (ToLink l x)))))
 
--- WHAT IS LEFT UNREAD
+-- WHAT IS GIVEN IS WHAT WAS DONE GIVES
 
-keeps_unread : (b : Bool) (s : Subscription) → (cond b (ended s) s).unread ≡ s.unread
-keeps_unread true s = refl
-keeps_unread false s = refl
+-- what acts give that are no polls
+abbrev IsMute : Done → Type 0
+IsMute (Polled clock) = ⊥
+IsMute _ = Unit {0}
 
-came_grows : (a : Arrival) (s : Subscription) → (after_came a s).unread ≡ s.unread ++ brought_by a s.number
-came_grows (arrivals.Gives consumer r) s =
-    elim (consumer == s.number) as (λ b. (cond b (record s { is_live = not (is_last r); unread = s.unread ++ r.items }) s).unread ≡ s.unread ++ cond b r.items [])
-    [ true ↦ refl | false ↦ sym (append-nil s.unread) ]
-came_grows _ s = sym (append-nil s.unread)
+mute_gives : (act : Done) (s : Seen) → IsMute act → given_in act s ≡ []
+mute_gives (Polled clock) s h = absurd h
+mute_gives (Lives l url) s h = refl
+mute_gives (Hears l f) s h = refl
+mute_gives (Loses l) s h = refl
+mute_gives (Fails f) s h = refl
+mute_gives (Over why) s h = refl
+mute_gives Asks s h = refl
 
-heard_grows : (l : ℕ) (a : Arrival) (s : Subscription) → (hears l a s).unread ≡ s.unread ++ brought l a (Some s)
-heard_grows l a s =
-    elim (is_heard_on l s) as (λ b. (cond b (after_came a s) s).unread ≡ s.unread ++ cond b (brought_by a s.number) [])
-    [ true ↦ came_grows a s | false ↦ sym (append-nil s.unread) ]
+mutes_give : (s : Setup) (xs h : List Done) → Each IsMute xs → given s (xs ++ h) ≡ given s h
+mutes_give s [] h k = refl
+mutes_give s (x ∷ xs) h k =
+    ap (λ items. given s (xs ++ h) ++ items) (mute_gives x (seen s (xs ++ h)) k.0) ∙ append-nil (given s (xs ++ h)) ∙ mutes_give s xs h k.1
+
+frame_mute : (l : ℕ) (r : Reply) (s : Seen) → Each IsMute (frame_does l r s)
+frame_mute l r s =
+    each_either IsMute (is_body 9 r.content.body) (Hears l (frame_in r) ∷ []) _ (tt, tt)
+    (each_either IsMute (is_body 27 r.content.body) (cond (lives_on l s) (Over TopicEnded ∷ []) []) _
+    (each_either IsMute (lives_on l s) (Over TopicEnded ∷ []) [] (tt, tt) tt)
+    (each_either IsMute (is_body 16 r.content.body) (Loses l ∷ []) [] (tt, tt) tt))
+
+arrival_mute : (l : ℕ) (a : Arrival) (s : Seen) → Each IsMute (arrival_does l a s)
+arrival_mute l (arrivals.Gives n r) s = each_either IsMute (s.number == n) (frame_does l r s) [] (frame_mute l r s) tt
+arrival_mute l arrivals.Nothing s = tt
+arrival_mute l arrivals.Readied s = tt
+arrival_mute l arrivals.Settles s = tt
+arrival_mute l arrivals.Passes s = tt
+arrival_mute l (arrivals.Bad cause) s = tt
+
+loss_mute : (l : ℕ) (cause : Option Fault) → Each IsMute (loss_does l cause)
+loss_mute l None = tt
+loss_mute l (Some cause) = (tt, tt)
+
+subscription_mute : (l : ℕ) (url : Option Parts) → Each IsMute (subscription_does l url)
+subscription_mute l None = tt
+subscription_mute l (Some url) = (tt, tt)
+
+abbrev is_poll : Act → Bool
+is_poll (Comes (Polls t)) = true
+is_poll _ = false
+
+does_mute : (v : View) (t : ℕ) (m : Member) (a : Act) → is_poll a ≡ false → Each IsMute (does_to v t m a)
+does_mute v t m (Comes (Polls u)) h = absurd cc
+does_mute v t m (Comes (ToLink l Reads)) h = arrival_mute l (arrival_at (v.links.live l)) m.seen
+does_mute v t m (Comes (ToLink l (Ends end))) h = loss_mute l (closing end v.now (v.links.live l))
+does_mute v t m (Does who (Ask l request)) h =
+    each_either IsMute (is_asked (answer_at v.now request (v.links.live l)) && is_closed_by (closed_consumer request) l m) (Over Closed ∷ []) [] (tt, tt) tt
+does_mute v t m (Does who TakeFlow) h = each_either IsMute (t == ticket_of who) (Asks ∷ []) [] (tt, tt) tt
+does_mute v t m (Does who (Revive l)) h =
+    each_either IsMute (t == ticket_of who) (subscription_does l (url_at (v.links.live l))) [] (subscription_mute l (url_at (v.links.live l))) tt
+does_mute v t m (Does who (FailConsumer f)) h = each_either IsMute (t == ticket_of who) (Fails f ∷ []) [] (tt, tt) tt
+does_mute v t m (Does who StopAll) h = (tt, tt)
+does_mute v t m a h = tt
+
+-- an effect of a poll gives what the poll gives
+poll_item : (t : ℕ) (topic : List ℕ) (x : Answer) → given_by t (polled_so t topic x) ≡ item_in x
+poll_item t topic (poll.Item (Given id size metadata payload)) = let e : (t == t) ≡ true = eq-eqb t t refl in rw e refl
+poll_item t topic (poll.Item (Faulty f)) = let e : (t == t) ≡ true = eq-eqb t t refl in rw e refl
+poll_item t topic poll.Empty = refl
+poll_item t topic poll.End = refl
+
+other_item : (t u : ℕ) (topic : List ℕ) (x : Answer) → (t == u) ≡ false → given_by t (polled_so u topic x) ≡ []
+other_item t u topic (poll.Item (Given id size metadata payload)) e = rw e refl
+other_item t u topic (poll.Item (Faulty f)) e = rw e refl
+other_item t u topic poll.Empty e = refl
+other_item t u topic poll.End e = refl
 
 -- ALONG A LOG
 
--- what was given and what is left is what came; where there is no consumer nothing came
-abbrev Gives : Option Subscription → List Item → List Item → Type 0
-Gives None given come = (given ≡ []) × (come ≡ [])
-Gives (Some s) given come = given ++ s.unread ≡ come
-
-link_gives : (l : ℕ) (a : Arrival) (c : Option Subscription) (given come : List Item) → Gives c given come →
-    Gives (option_map (hears l a) c) given (come ++ brought l a c)
-link_gives l a None given come g = (g.0, append-nil come ∙ g.1)
-link_gives l a (Some s) given come g =
-    ap (λ items. given ++ items) (heard_grows l a s) ∙ sym (append_assoc given s.unread (brought l a (Some s))) ∙ ap (λ items. items ++ brought l a (Some s)) g
-
-ends_gives : (l : ℕ) (cause : Option Fault) (c : Option Subscription) (given come : List Item) → Gives c given come → Gives (ended_at l cause c) given come
-ends_gives l None c given come g = g
-ends_gives l (Some cause) None given come g = g
-ends_gives l (Some cause) (Some s) given come g = ap (λ items. given ++ items) (keeps_unread (is_heard_on l s) s) ∙ g
-
-asks_gives : (l now : ℕ) (request : Words) (row : Option Seat) (c : Option Subscription) (given come : List Item) → Gives c given come →
-    Gives (option_map (hears_ask l now request row) c) given come
-asks_gives l now request row None given come g = g
-asks_gives l now request row (Some s) given come g =
-    ap (λ items. given ++ items) (keeps_unread (is_asked (answer_at now request row) && (closes_it (closed_consumer request) s.number && is_heard_on l s)) s) ∙ g
-
-made_gives : (t : ℕ) (who : Who) (makes : Makes) (c : Option Subscription) (given come : List Item) → (is_same (Call t) who ≡ true → c ≡ None) → Gives c given come →
-    Gives (made who makes t c) given come
-made_gives t who (Consumer l n topic) c given come none g = elim (cases_Bool (is_same (Call t) who)) [
-  | inl e ↦
-      (let nothing : Gives None given come = subst (λ x. Gives x given come) (none e) g in
-      rw e (append-nil given ∙ nothing.0 ∙ sym nothing.1))
-  | inr e ↦ rw e g
-]
-made_gives t who _ c given come none g = g
-
--- A poll gives the first item to its own consumer, and none to others.
-takes : (t k : ℕ) (topic : List ℕ) (is_live : Bool) (items : List Item) → (t == k) ≡ true → given_by t (polled_from k topic is_live items) ++ drop 1 items ≡ items
-takes t k topic is_live (Given id metadata payload ∷ items) e = rw e refl
-takes t k topic is_live (Faulty f ∷ items) e = rw e refl
-takes t k topic true [] e = refl
-takes t k topic false [] e = refl
-
-others : (t k : ℕ) (topic : List ℕ) (is_live : Bool) (items : List Item) → (t == k) ≡ false → given_by t (polled_from k topic is_live items) ≡ []
-others t k topic is_live (Given id metadata payload ∷ items) e = rw e refl
-others t k topic is_live (Faulty f ∷ items) e = rw e refl
-others t k topic true [] e = refl
-others t k topic false [] e = refl
-
--- what it gives is taken from what was left
-poll_gives : (t k : ℕ) (c : Option Subscription) (s : Subscription) (given come : List Item) → (t ≡ k → c ≡ Some s) → (b : Bool) → (t == k) ≡ b → Gives c given come →
-    Gives (cond b (option_map after_poll c) c) (given ++ given_by t (polled k s)) come
-poll_gives t k c s given come is true e g =
-    let own : c ≡ Some s = is (eqb-true t k e) in
-    let before : given ++ s.unread ≡ come = subst (λ x. Gives x given come) own g in
-    subst (λ x. Gives (option_map after_poll x) (given ++ given_by t (polled k s)) come) (sym own)
-    (append_assoc given (given_by t (polled k s)) (drop 1 s.unread) ∙ ap (λ x. given ++ x) (takes t k s.topic s.is_live s.unread e) ∙ before)
-poll_gives t k c s given come is false e g =
-    subst (λ x. Gives c x come) (sym (ap (λ x. given ++ x) (others t k s.topic s.is_live s.unread e) ∙ append-nil given)) g
+-- what was given is what its polls gave; where there is no consumer nothing was
+abbrev Given' : Options → List Entry → (ticket : ℕ) → Option Member → Type 0
+Given' o log t None = items_given t (steps o log) ≡ []
+Given' o log t (Some m) = (s : Setup) → made_with t log ≡ Some s → items_given t (steps o log) ≡ given s (done_to o t log)
 
 -- the newest step gives what the poll gives
-poll_given : (o : Options) (t k : ℕ) (s : Subscription) (log older : List Entry) → log ≡ Begins (Poll k) ∷ older →
-    steps o (Then (Comes (Polls k)) ∷ log) ≡ record { event = Poll k; effects = polled k s ∷ [] } ∷ steps o older →
-    items_given t (steps o (Then (Comes (Polls k)) ∷ log)) ≡ items_given t (steps o log) ++ given_by t (polled k s)
-poll_given o t k s log older is step =
+poll_given : (o : Options) (t u : ℕ) (m : Member) (log older : List Entry) → log ≡ Begins (Poll u) ∷ older →
+    steps o (Then (Comes (Polls u)) ∷ log) ≡ record { event = Poll u; effects = polled u m ∷ [] } ∷ steps o older →
+    items_given t (steps o (Then (Comes (Polls u)) ∷ log)) ≡ items_given t (steps o log) ++ given_by t (polled u m)
+poll_given o t u m log older is step =
     ap (items_given t) step
-    ∙ ap (λ x. items_given t (steps o older) ++ x) (append-nil (given_by t (polled k s)))
-    ∙ ap (λ x. x ++ given_by t (polled k s)) (sym (ap (λ x. items_given t (steps o x)) is ∙ append-nil (items_given t (steps o older))))
+    ∙ ap (λ x. items_given t (steps o older) ++ x) (append-nil (given_by t (polled u m)))
+    ∙ ap (λ x. x ++ given_by t (polled u m)) (sym (ap (λ x. items_given t (steps o x)) is ∙ append-nil (items_given t (steps o older))))
 
-abbrev Follows : Options → ℕ → List Entry → Type 0
-Follows o t log = Gives ((view o log).consumers t) (items_given t (steps o log)) (items_come o t log)
+module _ (once : EndsOnce) (o : Options) (t : ℕ) (un : is_spent t ≡ false) where
+  given_at_poll : (u : ℕ) (log : List Entry) → IsRun o (Then (Comes (Polls u)) ∷ log) →
+      (m : Member) × ((view o log).consumers.rows u ≡ Some m)
+      × (items_given t (steps o (Then (Comes (Polls u)) ∷ log)) ≡ items_given t (steps o log) ++ given_by t (polled u m))
+  given_at_poll u log run =
+      let w = polls_are_answered_lem o log u run in
+      (w.1, ap (λ l. (view o l).consumers.rows u) w.2 ∙ begun_rows (Poll u) (view o w.0) u ∙ w.3, poll_given o t u w.1 log w.0 w.2 w.4)
 
-polls_on : (o : Options) (t k : ℕ) (log : List Entry) → IsRun o (Then (Comes (Polls k)) ∷ log) → Follows o t log → Follows o t (Then (Comes (Polls k)) ∷ log)
-polls_on o t k log r g =
-    let w = polls_are_answered_lem o log k r in
-    let own : (view o log).consumers k ≡ Some w.1 = ap (λ l. (view o l).consumers k) w.2 ∙ begun_consumers (Poll k) (view o w.0) k ∙ w.3 in
-    subst (λ x. Gives ((view o (Then (Comes (Polls k)) ∷ log)).consumers t) x (items_come o t log)) (sym (poll_given o t k w.1 log w.0 w.2 w.4))
-    (poll_gives t k ((view o log).consumers t) w.1 (items_given t (steps o log)) (items_come o t log) (λ e. ap (λ m. (view o log).consumers m) e ∙ own) (t == k) refl g)
+  -- the effects of an act that is no poll
+  given_same_at : (a : Act) (log : List Entry) → is_poll a ≡ false → items_given t (steps o (Then a ∷ log)) ≡ items_given t (steps o log)
+  given_same_at (Comes (Polls u)) log h = absurd cc
+  given_same_at (Comes (ToLink l x)) log h = given_same o t (Comes (ToLink l x)) log (link_none t l x (view o log))
+  given_same_at (Does who (Ask l request)) log h =
+      given_same o t (Does who (Ask l request)) log (asks_none t l (view o log).now request ((view o log).links.live l))
+  given_same_at a log h = given_same o t a log (plain_none t (effects (view o log) a) (effects_plain (view o log) a refl))
 
--- an act whose effects give no item
-on : (o : Options) (t : ℕ) (a : Act) (log : List Entry) → NoItems t (effects (view o log) a) →
-    Gives ((view o (Then a ∷ log)).consumers t) (items_given t (steps o log)) (items_come o t (Then a ∷ log)) → Follows o t (Then a ∷ log)
-on o t a log none g = subst (λ x. Gives ((view o (Then a ∷ log)).consumers t) x (items_come o t (Then a ∷ log))) (sym (given_same o t a log none)) g
+  -- what an act gives to its polls
+  kept_given : (a : Act) (log : List Entry) (m : Member) → (view o log).consumers.rows t ≡ Some m → IsRun o (Then a ∷ log) → (s : Setup) →
+      m.seen ≡ seen s (done_to o t log) → items_given t (steps o log) ≡ given s (done_to o t log) → (b : Bool) → is_poll a ≡ b →
+      items_given t (steps o (Then a ∷ log)) ≡ given s (does_to (view o log) t m a ++ done_to o t log)
+  kept_given a log m e run s is before false h =
+      given_same_at a log h ∙ before ∙ sym (mutes_give s (does_to (view o log) t m a) (done_to o t log) (does_mute (view o log) t m a h))
+  kept_given (Comes (Polls u)) log m e run s is before true h =
+      let w = given_at_poll u log run in
+      elim (cases_Bool (t == u)) [
+        | inl same ↦
+            (let tu : t ≡ u = eqb-true t u same in
+            let own : Some w.0 ≡ Some m = sym w.1 ∙ ap (λ x. (view o log).consumers.rows x) (sym tu) ∙ e in
+            let it : w.0 ≡ m = cc in
+            let gave : given_by t (polled u w.0) ≡ item_in (reader.polled (seen s (done_to o t log))) =
+            ap (λ x. given_by t (polled x w.0)) (sym tu)
+            ∙ poll_item t w.0.seen.topic (reader.polled w.0.seen)
+            ∙ ap (λ x. item_in (reader.polled x.seen)) it
+            ∙ ap (λ x. item_in (reader.polled x)) is in
+            w.2
+            ∙ ap (λ x. items_given t (steps o log) ++ x) gave
+            ∙ ap (λ x. x ++ item_in (reader.polled (seen s (done_to o t log)))) before
+            ∙ ap (λ b. given s (cond b (Polled (view o log).now ∷ []) [] ++ done_to o t log)) (sym same))
+        | inr other ↦
+            (w.2
+            ∙ ap (λ x. items_given t (steps o log) ++ x) (other_item t u w.0.seen.topic (reader.polled w.0.seen) other)
+            ∙ append-nil (items_given t (steps o log))
+            ∙ before
+            ∙ ap (λ b. given s (cond b (Polled (view o log).now ∷ []) [] ++ done_to o t log)) (sym other))
+      ]
+  kept_given a log m e run s is before true h = absurd cc
 
-begins_on : (o : Options) (t : ℕ) (e : Heard) (log : List Entry) → Follows o t log → Follows o t (Begins e ∷ log)
-begins_on o t e log g =
-    subst (λ c. Gives c (items_given t (steps o log) ++ []) (items_come o t log)) (sym (begun_consumers e (view o log) t))
-    (subst (λ x. Gives ((view o log).consumers t) x (items_come o t log)) (sym (append-nil (items_given t (steps o log)))) g)
+  -- where there is none, nothing is given
+  none_given : (a : Act) (log : List Entry) → (view o log).consumers.rows t ≡ None → IsRun o (Then a ∷ log) → items_given t (steps o log) ≡ [] →
+      (b : Bool) → is_poll a ≡ b → items_given t (steps o (Then a ∷ log)) ≡ []
+  none_given a log e run before false h = given_same_at a log h ∙ before
+  none_given (Comes (Polls u)) log e run before true h =
+      let w = given_at_poll u log run in
+      elim (cases_Bool (t == u)) [
+        | inl same ↦
+            (let none : None ≡ Some w.0 = sym e ∙ ap (λ x. (view o log).consumers.rows x) (eqb-true t u same) ∙ w.1 in absurd cc)
+        | inr other ↦
+            (w.2 ∙ ap (λ x. items_given t (steps o log) ++ x) (other_item t u w.0.seen.topic (reader.polled w.0.seen) other)
+            ∙ append-nil (items_given t (steps o log)) ∙ before)
+      ]
+  none_given a log e run before true h = absurd cc
 
-follows : EndsOnce → (o : Options) (t : ℕ) (log : List Entry) → is_spent t ≡ false → IsRun o log → Follows o t log
-follows once o t [] un r = (refl, refl)
-follows once o t (Begins e ∷ log) un r = begins_on o t e log (follows once o t log un r.0)
-follows once o t (Then (Comes (ToLink l Reads)) ∷ log) un r =
-    on o t (Comes (ToLink l Reads)) log (link_none t l Reads (view o log))
-    (link_gives l (arrival_at ((view o log).links.live l)) ((view o log).consumers t) (items_given t (steps o log)) (items_come o t log) (follows once o t log un r.0))
-follows once o t (Then (Comes (ToLink l (Ends end))) ∷ log) un r =
-    on o t (Comes (ToLink l (Ends end))) log (link_none t l (Ends end) (view o log))
-    (ends_gives l (closing end (view o log).now ((view o log).links.live l)) ((view o log).consumers t) (items_given t (steps o log)) (items_come o t log) (follows once o t log un r.0))
-follows once o t (Then (Comes (ToLink l x)) ∷ log) un r =
-    on o t (Comes (ToLink l x)) log (link_none t l x (view o log)) (follows once o t log un r.0)
-follows once o t (Then (Comes (Polls k)) ∷ log) un r = polls_on o t k log r (follows once o t log un r.0)
-follows once o t (Then (Does who (Ask l request)) ∷ log) un r =
-    on o t (Does who (Ask l request)) log (asks_none t l (view o log).now request ((view o log).links.live l))
-    (asks_gives l (view o log).now request ((view o log).links.live l) ((view o log).consumers t) (items_given t (steps o log)) (items_come o t log) (follows once o t log un r.0))
-follows once o t (Then (Answers who verdict) ∷ log) un r =
-    on o t (Answers who verdict) log (plain_none t (effects (view o log) (Answers who verdict)) (effects_plain (view o log) (Answers who verdict) refl))
-    (made_gives t who verdict.makes ((view o log).consumers t) (items_given t (steps o log)) (items_come o t log) (none_before once o t log who verdict un r) (follows once o t log un r.0))
-follows once o t (Then a ∷ log) un r = on o t a log (plain_none t (effects (view o log) a) (effects_plain (view o log) a refl)) (follows once o t log un r.0)
+  -- a new one has given nothing
+  made_given : (s : Setup) (l : ℕ) (url : Option Parts) → given s (subscription_does l url) ≡ []
+  made_given s l None = refl
+  made_given s l (Some url) = refl
+
+  some_is : {A : Type 0} {x y : A} → Some x ≡ Some y → x ≡ y
+  some_is {A} {x} {y} e = cc
+
+  gives_on : (a : Act) (log : List Entry) → RowFrom o log a t → IsRun o (Then a ∷ log) → Given' o log t ((view o log).consumers.rows t) →
+      ((m : Member) → (view o log).consumers.rows t ≡ Some m → StandsSo o log t m) →
+      Given' o (Then a ∷ log) t ((view o (Then a ∷ log)).consumers.rows t)
+  gives_on a log (IsNone e f) run g stands =
+      subst (Given' o (Then a ∷ log) t) (sym f) (none_given a log e run (subst (Given' o log t) e g) (is_poll a) refl)
+  gives_on a log (IsMade s l e f how did) run g stands =
+      subst (Given' o (Then a ∷ log) t) (sym f)
+      (λ r how'. none_given a log e run (subst (Given' o log t) e g) (is_poll a) refl
+      ∙ sym (ap (given r) did ∙ made_given r l (url_at ((view o log).links.live l))))
+  gives_on a log (IsKept m e r how did) run g stands =
+      let k = stands m e in
+      let was : (s : Setup) → made_with t log ≡ Some s → items_given t (steps o log) ≡ given s (done_to o t log) = subst (Given' o log t) e g in
+      subst (Given' o (Then a ∷ log) t) (sym r.is_it)
+      (λ s how'. let own : k.0 ≡ s = some_is (sym k.1 ∙ sym how ∙ how') in
+      kept_given a log m e run s (k.2 ∙ ap (λ x. seen x (done_to o t log)) own) (was s (sym how ∙ how')) (is_poll a) refl ∙ ap (given s) (sym did))
+
+  gives : (log : List Entry) → IsRun o log → Given' o log t ((view o log).consumers.rows t)
+  gives [] run = refl
+  gives (Begins e ∷ log) run =
+      subst (Given' o (Begins e ∷ log) t) (sym (begun_rows e (view o log) t)) (begun_given ((view o log).consumers.rows t) (gives log run.0))
+    where
+      begun_given : (row : Option Member) → Given' o log t row → Given' o (Begins e ∷ log) t row
+      begun_given None g = append-nil (items_given t (steps o log)) ∙ g
+      begun_given (Some m) g = λ s how. append-nil (items_given t (steps o log)) ∙ g s how
+  gives (Then a ∷ log) run =
+      gives_on a log (row_from o log t once a un run) run (gives log run.0)
+      (λ m e. consumers_alone_lem once o log t m run.0 e)
 
 pub polls_follow_lem : EndsOnce → PollsFollow
-polls_follow_lem once o log t s r e = subst (λ c. Gives c (items_given t (steps o log)) (items_come o t log)) e (follows once o t log (consumer_ticket o log t s r e) r)
+polls_follow_lem once o log t m run e =
+    let k = consumers_alone_lem once o log t m run e in
+    let h : List Done = done_to o t log in
+    let g : (s : Setup) → made_with t log ≡ Some s → items_given t (steps o log) ≡ given s h =
+    subst (Given' o log t) e (gives once o t (consumer_ticket o log t m run e) log run) in (
+      k.0,
+      left k.0 h,
+      k.1,
+      ap (λ x. x ++ left k.0 h) (g k.0 k.1) ∙ polls_give_arrivals k.0 h,
+      ap reader.polled k.2 ∙ polls_give_the_next k.0 h ∙ ap (λ x. polled_from (first_item (left k.0 h)) x.ended) (sym k.2),
+    )

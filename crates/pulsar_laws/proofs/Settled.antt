@@ -21,7 +21,7 @@ use Rattle.pulsar_calls.specs.declared.act.Procedure.TheVariants as procedure
 use Rattle.pulsar_calls.specs.declared.act.Share.{Share}
 use Rattle.pulsar_calls.specs.declared.act.Verdict.{Verdict}
 use Rattle.pulsar_calls.specs.declared.act.Who.{Who}
-use Rattle.pulsar_calls.specs.declared.act.Who.TheVariants.{Call, Producer}
+use Rattle.pulsar_calls.specs.declared.act.Who.TheVariants.{Call, Producer, Consumer}
 use Rattle.pulsar_procedures.specs.declared.plan.Plan.{Plan}
 use Rattle.pulsar_procedures.specs.declared.plan.Plan.TheVariants.{Stored, Storing}
 use Rattle.pulsar_procedures.specs.declared.plan.Turn.{Turn}
@@ -379,6 +379,7 @@ step_tells o (Then a ∷ log) t f run (inr h) = inr (step_tells o log t f run.0 
 
 abbrev spent_in : Who → Bool
 spent_in (Call t) = is_spent t
+spent_in (Consumer n t) = false
 spent_in (Producer n) = false
 
 abbrev Ends : Options → List Entry → (ticket : ℕ) → Verdict → Type 0

@@ -39,7 +39,7 @@ use Rattle.pulsar_calls.specs.declared.act.Who.TheVariants.{Call}
 use Rattle.pulsar_procedures.specs.declared.plan.At.{At as Spot}
 use Rattle.pulsar_procedures.specs.declared.plan.At.TheVariants as at
 use Rattle.pulsar_procedures.specs.declared.plan.Plan.{Plan}
-use Rattle.pulsar_procedures.specs.declared.plan.Plan.TheVariants.{Building, Getting, Asking, Awaiting, Searching, Producing, Sending, Reporting, Storing, Stored, Batching, Leaving, Gathering, Shutting, Visiting, Stopping}
+use Rattle.pulsar_procedures.specs.declared.plan.Plan.TheVariants.{Building, Getting, Asking, Awaiting, Searching, Producing, Sending, Reporting, Storing, Stored, Batching, Leaving, Gathering, Shutting, Visiting, Stopping, Subscribing, Serving, Acknowledging, Departing}
 use Rattle.pulsar_procedures.specs.declared.plan.Turn.{Turn}
 use Rattle.pulsar_procedures.specs.declared.plan.Turn.TheVariants.{Stays, Gives}
 use Rattle.pulsar_procedures.specs.declared.plan.Wanted.{Wanted}
@@ -47,6 +47,7 @@ use Rattle.pulsar_calls.specs.Parts.{failed_with}
 use Rattle.pulsar_procedures.specs.Plan.{action_of, asks_of, batches_on, begins, builds, fails, fails_in, fault_of, gathers, goes, goes_on_sending, goes_round, halted, in_asking, in_awaiting, in_finding, in_passing, in_settling, in_turning, is_answer, leaves, news_in, news_of, overrides, sends_stay, stands, stored, told, told_at, visits, waits, wished}
 use Rattle.pulsar_producer.specs.Batching.{is_sent_send}
 use Rattle.pulsar_laws.proofs.Natures.{StaysSo, either_so}
+use Rattle.pulsar_laws.proofs.Consuming.{IsModest, begins_modest, is_consumed, is_modest, stays_map, told_modest}
 
 -- of which call a plan is a part
 abbrev pub shares_of : Plan → Option Share
@@ -198,6 +199,23 @@ stored_shares : (share : Option Share) → StaysSo (SharesSo share) (stored shar
 stored_shares None = record { keeps = λ x h. absurd (none_some h); tells = tt }
 stored_shares (Some s) = record { keeps = λ x h. absurd (none_some h); tells = (s, refl, refl, refl, refl) }
 
+-- CONSUMERS
+
+modest_tells : (a : Action) → is_modest a ≡ true → is_tell a ≡ false
+modest_tells (Tell n) h = absurd cc
+modest_tells a h = refl
+
+consumed_mute : (p : Plan) → is_consumed p ≡ true → shares_of p ≡ None
+consumed_mute (Asking w) h = refl
+consumed_mute (Subscribing w o b) h = refl
+consumed_mute (Serving w n s) h = refl
+consumed_mute Acknowledging h = refl
+consumed_mute (Departing t n) h = refl
+consumed_mute p h = absurd cc
+
+modest_mute : (t : Turn Plan Verdict) → StaysSo IsModest t → StaysSo Mute t
+modest_mute t k = stays_map IsModest Mute t (λ p a m. (consumed_mute p m.0, modest_tells a m.1)) k
+
 -- ALL
 
 pub told_shares : (p : Plan) (u : Outcome) → StaysSo (SharesSo (shares_of p)) (told p u)
@@ -245,6 +263,12 @@ told_shares (Shutting ns) u = mute_shares None (told (Shutting ns) u) (shut_mute
 told_shares (Visiting r n left x) u =
     mute_shares None (told (Visiting r n left x) u)
     (either_so Mute (overrides u) (Gives (fails (fault_of u))) (told_at r n left x u) tt (visit_mute r n left x u))
+told_shares (Subscribing w o b) u =
+    mute_shares None (told (Subscribing w o b) u) (modest_mute (told (Subscribing w o b) u) (told_modest (Subscribing w o b) u refl))
+told_shares (Serving w n s) u = mute_shares None (told (Serving w n s) u) (modest_mute (told (Serving w n s) u) (told_modest (Serving w n s) u refl))
+told_shares Acknowledging u = tt
+told_shares (Departing t n) u =
+    mute_shares None (told (Departing t n) u) (modest_mute (told (Departing t n) u) (told_modest (Departing t n) u refl))
 told_shares Stopping outcome.Stopped = tt
 told_shares Stopping _ = tt
 
@@ -269,4 +293,11 @@ begins_shares (procedure.FailShare s r) = record { keeps = λ x h. absurd (none_
 begins_shares (procedure.Gather first count) = mute_shares None (gathers first count count []) (gathers_mute first count count [])
 begins_shares (procedure.Go round ns) = mute_shares None (goes_round round ns) (round_mute round ns)
 begins_shares (procedure.Close t ns) = record { keeps = λ x h. absurd (none_some h); tells = tt }
+begins_shares (procedure.Subscribe w o) =
+    mute_shares None (begins (procedure.Subscribe w o)) (modest_mute (begins (procedure.Subscribe w o)) (begins_modest (procedure.Subscribe w o) refl))
+begins_shares (procedure.Serve w n) = record { keeps = λ x h. absurd (none_some h); tells = tt }
+begins_shares (procedure.Acknowledge link request) =
+    mute_shares None (begins (procedure.Acknowledge link request))
+    (modest_mute (begins (procedure.Acknowledge link request)) (begins_modest (procedure.Acknowledge link request) refl))
+begins_shares (procedure.Leave t n) = record { keeps = λ x h. absurd (none_some h); tells = tt }
 begins_shares (procedure.Refuse r) = tt

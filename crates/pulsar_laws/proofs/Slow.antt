@@ -5,11 +5,11 @@ use Rattle.std.specs.Option.{option_map}
 use Rattle.pulsar_wire.specs.declared.error.ConnectionError.TheVariants as error
 use Rattle.pulsar_messages.specs.Words.{Words}
 use Rattle.pulsar_session.proofs.Others.{slow_down_changes_nothing}
-use Rattle.pulsar_link.specs.Request.{closed_consumer, is_answered, request_number}
+use Rattle.pulsar_link.specs.Request.{closed_consumer, is_awaited}
 use Rattle.pulsar_calls.specs.declared.act.Who.{Who}
 use Rattle.pulsar_laws.specs.ProducerLaws.{SlowDownLeavesAll, seat_ticked}
 use Rattle.pulsar_client.specs.Run.{view}
-use Rattle.pulsar_tables.specs.Subscriptions.{Subscription, closed_at}
+use Rattle.pulsar_tables.specs.Consumers.{Member, closes}
 use Rattle.pulsar_tables.specs.View.{Seat, View, answer_at, asker_at, hears_ask, is_asked, place_of, seat_asked}
 
 module _ (who : Who) (now l : ℕ) (request : Words) where
@@ -19,7 +19,7 @@ module _ (who : Who) (now l : ℕ) (request : Words) where
   seat_slow (Some seat) h i = Some (record {
     address = seat.address;
     seen = slow_down_changes_nothing now request seat.seen h i;
-    askers = (ap (λ r. asker_at (is_answered (request_number request)) who (place_of r) seat.askers) h) i;
+    askers = (ap (λ r. asker_at (is_awaited request) who (place_of r) seat.askers) h) i;
     got = seat.got;
     ping = seat.ping;
   })
@@ -31,9 +31,9 @@ module _ (who : Who) (now l : ℕ) (request : Words) where
     | inr e ↦ rw e refl
   ]
 
-  hears_slow : (row : Option Seat) (s : Option Subscription) → answer_at now request row ≡ Err error.SlowDown → option_map (hears_ask l now request row) s ≡ s
+  hears_slow : (row : Option Seat) (m : Option Member) → answer_at now request row ≡ Err error.SlowDown → option_map (hears_ask l now request row) m ≡ m
   hears_slow row None h = refl
-  hears_slow row (Some s) h = ap (λ r. Some (closed_at l (closed_consumer request) (is_asked r) s)) h
+  hears_slow row (Some m) h = ap (λ r. Some (closes (closed_consumer request) l (is_asked r) m)) h
 
 pub slow_down_lem : SlowDownLeavesAll
 slow_down_lem o log who l request h i =
@@ -46,6 +46,6 @@ slow_down_lem o log who l request h i =
       links = record { started = v.links.started; live = λ k. row_slow who v.now l request v.links.live k h i };
       addresses = v.addresses;
       alarms = v.alarms;
-      consumers = λ t. hears_slow who v.now l request (v.links.live l) (v.consumers t) h i;
+      consumers = record v.consumers { rows = λ t. hears_slow who v.now l request (v.links.live l) (v.consumers.rows t) h i };
       producers = v.producers;
     }

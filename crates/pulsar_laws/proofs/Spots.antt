@@ -27,17 +27,7 @@ use Rattle.pulsar_producer.specs.declared.deed.News.TheVariants as news
 use Rattle.pulsar_calls.specs.declared.act.Procedure.TheVariants as procedure
 use Rattle.pulsar_client.proofs.Acts.{begun_same, none_now}
 use Rattle.pulsar_laws.proofs.Fitting.{Fits, Holds, Keeps, Leaves, Nowhere, Reports, Spot, Stores, Usual, begins_fits, fits, is_own, is_quick, is_stop, spot, told_fits}
-
--- who has plans
-pub same_self : (w : Who) → is_same w w ≡ true
-same_self (Call t) = eq-eqb t t refl
-same_self (Producer n) = eq-eqb n n refl
-
-pub same_who : (w u : Who) → is_same w u ≡ true → w ≡ u
-same_who (Call s) (Call t) h = ap Call (eqb-true s t h)
-same_who (Producer m) (Producer n) h = ap Producer (eqb-true m n h)
-same_who (Call s) (Producer n) h = absurd cc
-same_who (Producer m) (Call t) h = absurd cc
+pub use Rattle.pulsar_laws.proofs.Same.{same_self, same_who}
 
 -- THE FIRST OF WHAT IS LEFT
 

@@ -21,7 +21,7 @@ use Rattle.pulsar_calls.specs.declared.act.End.TheVariants.{Stops}
 use Rattle.pulsar_calls.specs.declared.act.LinkAct.{LinkAct}
 use Rattle.pulsar_calls.specs.declared.act.LinkAct.TheVariants.{Opens, Reads, Drains, Pings, Ends}
 use Rattle.pulsar_calls.specs.declared.act.Makes.{Makes}
-use Rattle.pulsar_calls.specs.declared.act.Makes.TheVariants.{Nothing, Client, Consumer, Producer}
+use Rattle.pulsar_calls.specs.declared.act.Makes.TheVariants.{Nothing, Client, Consumer, Producer, RawConsumer}
 use Rattle.pulsar_calls.specs.declared.act.Notice.{Notice}
 use Rattle.pulsar_calls.specs.declared.act.Outcome.{Outcome}
 use Rattle.pulsar_calls.specs.declared.act.Part.{Part}
@@ -42,7 +42,7 @@ use Rattle.pulsar_calls.specs.Content.{numbers_from}
 use Rattle.pulsar_procedures.specs.Plan.{fails, verdict}
 use Rattle.pulsar_tables.specs.Rules.{closes, gathers, asks_topics, at_once, below, builds_with, called, causes, dropped, ended_on, failed_at, failed_on, failed_over, follows_some, from_base, lost, notice, on_link, opens, over_links, procedure_for, searches, stop_act, stopped_at, stopped_with, tells, tells_asker, unless_refused, waiters_of, asks_raw, checks, flushes, joins, left_with, parts_of, produces, sends, shares_unless, starts, stopped_all, stopped_call, stopped_one, why_no_sends}
 use Rattle.pulsar_client.specs.Run.{Agenda, Entry, Begins, Then, IsRun, agenda, first, rules, view}
-use Rattle.pulsar_tables.specs.View.{after, Addresses, Base, Options, Links, Seat, Tickets, View, alarms_after, alarms_built, alarms_on, alarms_over, begun, begun_live, builds, calls_after, got_at, is_live, link_got, live_after, live_begun, pause_after, pause_of, pause_on, pause_put, pause_rung, told_some, took_some, turned_by, ways_of, Chosen, may_call, producers_after, producers_made, producers_rung, stand_after, stays_some}
+use Rattle.pulsar_tables.specs.View.{after, Addresses, Base, Options, Links, Seat, Tickets, View, alarms_after, alarms_built, alarms_on, alarms_over, begun, begun_live, builds, calls_after, got_at, is_live, link_got, live_after, live_begun, pause_after, pause_of, pause_on, pause_put, pause_rung, told_some, took_some, turned_by, ways_of, Chosen, may_call, producers_after, producers_made, producers_rung, stand_after, stays_some, arrival_at, closing, consumers_after, consumers_made}
 use Rattle.pulsar_tables.specs.declared.producers.Topic.{Topic}
 use Rattle.pulsar_producer.specs.Storage.{Item}
 use Rattle.pulsar_producer.specs.Topic.{Halts, Seen, TakesBatch, left_of, next_of}
@@ -63,6 +63,14 @@ use Rattle.pulsar_laws.proofs.Attempts.{is_dial}
 use Rattle.pulsar_laws.proofs.Keepers.{Keeps, RowSo, batch_keeps, ends_settled, settled_some}
 use Rattle.pulsar_laws.proofs.Spots.{calm_stop, same_self, same_who, spot_of}
 use Rattle.pulsar_laws.proofs.LastWords.{AreLast, batch_fine, batch_some, batch_told, calm_fine, each_last, ends_fine, ends_some, is_fine, is_last_word, is_leaving, IsLast, IsLastNotice, IsLate, IsParting, last_append, last_rest, last_some, left_fine, left_some, makes_nothing, settling_told, some_fine, taking_told}
+use Rattle.pulsar_tables.specs.Reading.{acknowledges, heard_at, leaves, lost_at, lost_on, made_due, stopped_on, subscribes}
+use Rattle.pulsar_tables.specs.Consumers.{Consumers, Member, hears, loses_by, member_after, over_rows}
+use Rattle.pulsar_laws.proofs.Members.{Gone, called_rows, gone_map, heard_gone, left_rows, loss_gone, no_due, no_loss, poll_gone, there_each}
+use Rattle.pulsar_laws.proofs.Wording.{IsStoppedWord, is_stopped_word, rows_each, stopped_words}
+use Rattle.pulsar_tables.specs.Consumers as consumer
+use Rattle.pulsar_consumer.specs.Topic as reader
+use Rattle.pulsar_calls.specs.declared.act.Arrival.TheVariants as arrivals
+use Rattle.pulsar_messages.specs.Words as words
 
 -- LISTS
 
@@ -141,7 +149,7 @@ not_started o (Then (Dials p starter n) ∷ log) l h =
 not_started o (Then a ∷ log) l h =
     let v = view o log in ap (live_after v.chosen v.addresses v.now v.links.started a l) (not_started o log l h) ∙ stays_dead v a l refl
 
-is_started : (o : Options) (log : List Entry) (l : ℕ) (seat : Seat) → (view o log).links.live l ≡ Some seat → nat_lt l (view o log).links.started ≡ true
+pub is_started : (o : Options) (log : List Entry) (l : ℕ) (seat : Seat) → (view o log).links.live l ≡ Some seat → nat_lt l (view o log).links.started ≡ true
 is_started o log l seat h = elim (cases_Bool (nat_lt l (view o log).links.started)) [
   | inl e ↦ e
   | inr e ↦
@@ -158,21 +166,27 @@ refused_unless who b p h = rw h refl
 not_open : (c : Tickets) → c.is_stopped ≡ true → may_call c ≡ false
 not_open c h = rw h (elim c.is_built as (λ b. (b && false) ≡ false) [ true ↦ refl | false ↦ refl ])
 
-last_call : (o : Chosen) (c : Tickets) (ps : Producers) (advice : List (Option ℕ)) (asked : Asked) (who : Who) → c.is_stopped ≡ true →
-    IsLast (Starts who (procedure_for o c ps advice asked))
-last_call o c ps advice content.Build who h = refused_unless who (not c.is_stopped) (builds_with o.outbound o.base) (ap not h)
-last_call o c ps advice content.Stop who h = refused_unless who (may_call c) procedure.Stop (not_open c h)
-last_call o c ps advice (content.Topics namespace mode) who h = refused_unless who (may_call c) (from_base o.base (asks_topics namespace mode)) (not_open c h)
-last_call o c ps advice (content.Lookup t) who h = refused_unless who (may_call c) (searches (ways_of o) (sought.Look t)) (not_open c h)
-last_call o c ps advice (content.Partitions t) who h = refused_unless who (may_call c) (searches (ways_of o) (sought.CountPartitions t)) (not_open c h)
-last_call o c ps advice (content.Brokers t) who h = refused_unless who (may_call c) (searches (ways_of o) (sought.Name t)) (not_open c h)
-last_call o c ps advice (content.Producer wanted) who h = refused_unless who (may_call c) (produces o wanted) (not_open c h)
-last_call o c ps advice (content.Send t m) who h = refused_unless who (may_call c) (sends o ps (next_advice advice) t m) (not_open c h)
-last_call o c ps advice (content.SendAll t ms) who h = refused_unless who (may_call c) (gathers c ps t ms) (not_open c h)
-last_call o c ps advice (content.Flush t) who h = refused_unless who (may_call c) (flushes ps t) (not_open c h)
-last_call o c ps advice (content.CheckProducer t) who h = refused_unless who (may_call c) (checks ps t) (not_open c h)
-last_call o c ps advice (content.CloseProducer t) who h = refused_unless who (may_call c) (closes ps t) (not_open c h)
-last_call o c ps advice (content.Raw l request) who h = refused_unless who (may_call c) (asks_raw ps l request) (not_open c h)
+last_call : (o : Chosen) (c : Tickets) (cs : Consumers) (ps : Producers) (advice : List (Option ℕ)) (asked : Asked) (who : Who) → c.is_stopped ≡ true →
+    IsLast (Starts who (procedure_for o c cs ps advice asked))
+last_call o c cs ps advice content.Build who h = refused_unless who (not c.is_stopped) (builds_with o.outbound o.base) (ap not h)
+last_call o c cs ps advice content.Stop who h = refused_unless who (may_call c) procedure.Stop (not_open c h)
+last_call o c cs ps advice (content.Topics namespace mode) who h = refused_unless who (may_call c) (from_base o.base (asks_topics namespace mode)) (not_open c h)
+last_call o c cs ps advice (content.Lookup t) who h = refused_unless who (may_call c) (searches (ways_of o) (sought.Look t)) (not_open c h)
+last_call o c cs ps advice (content.Partitions t) who h = refused_unless who (may_call c) (searches (ways_of o) (sought.CountPartitions t)) (not_open c h)
+last_call o c cs ps advice (content.Brokers t) who h = refused_unless who (may_call c) (searches (ways_of o) (sought.Name t)) (not_open c h)
+last_call o c cs ps advice (content.Producer wanted) who h = refused_unless who (may_call c) (produces o wanted) (not_open c h)
+last_call o c cs ps advice (content.Send t m) who h = refused_unless who (may_call c) (sends o ps (next_advice advice) t m) (not_open c h)
+last_call o c cs ps advice (content.SendAll t ms) who h = refused_unless who (may_call c) (gathers c ps t ms) (not_open c h)
+last_call o c cs ps advice (content.Flush t) who h = refused_unless who (may_call c) (flushes ps t) (not_open c h)
+last_call o c cs ps advice (content.CheckProducer t) who h = refused_unless who (may_call c) (checks ps t) (not_open c h)
+last_call o c cs ps advice (content.CloseProducer t) who h = refused_unless who (may_call c) (closes ps t) (not_open c h)
+last_call o c cs ps advice (content.Consumer wanted) who h = refused_unless who (may_call c) (subscribes o c.drawn wanted) (not_open c h)
+last_call o c cs ps advice (content.Ack t name id cumulative) who h =
+    refused_unless who (may_call c) (acknowledges cs t (λ n. words.SendAck n (id ∷ []) cumulative)) (not_open c h)
+last_call o c cs ps advice (content.Nack t name id) who h =
+    refused_unless who (may_call c) (acknowledges cs t (λ n. words.SendRedeliver n (id ∷ []))) (not_open c h)
+last_call o c cs ps advice (content.CloseConsumer t) who h = refused_unless who (may_call c) (leaves cs t) (not_open c h)
+last_call o c cs ps advice (content.Raw l request) who h = refused_unless who (may_call c) (asks_raw cs ps l request) (not_open c h)
 
 -- and has no parts
 last_shares : (why : Option Refusal) (v : View) (advice : List (Option ℕ)) (t : ℕ) (ms : List ProducerMessageValues) → is_some why ≡ true →
@@ -189,7 +203,7 @@ last_parts v advice _ h = tt
 last_called : (v : View) (advice : List (Option ℕ)) (asked : Asked) → v.calls.is_stopped ≡ true → Each IsLast (called v advice asked)
 last_called v advice asked h =
     each_either IsLast (lacks_tickets v.calls.drawn (shares asked)) (Answers (Call (2 ^ 64 - 1)) (fails Exhausted) ∷ []) (starts v advice asked) (refl, tt)
-    (last_call v.chosen v.calls v.producers advice asked (Call v.calls.drawn) h, last_parts v advice asked h)
+    (last_call v.chosen v.calls v.consumers v.producers advice asked (Call v.calls.drawn) h, last_parts v advice asked h)
 
 -- whoever asked on a link that the stop ends, or waits for its address
 last_askers : (says : ℕ → Outcome) (askers : ℕ → Option Who) (places : List ℕ) → ((p : ℕ) → is_last_word (says p) ≡ true) →
@@ -231,12 +245,16 @@ last_waiters v l None = tt
 last_waiters v l (Some seat) =
     let b : Base = v.addresses.base (address_key seat.address) in last_over (pause_of v.chosen Stops seat.address b.series) b
 
-last_caused : (v : View) (l : ℕ) → Each (Each IsLastNotice) (causes v (Comes (ToLink l (Ends Stops))))
-last_caused v l =
+last_caused : (v : View) (l : ℕ) → ((t : ℕ) → Gone (v.consumers.rows t)) → Each (Each IsLastNotice) (causes v (Comes (ToLink l (Ends Stops))))
+last_caused v l gone =
     let row : Option Seat = v.links.live l in
     let waiters : List Notice = waiters_of (failed_on Stops) v.addresses (option_map (turned_by v.chosen v.addresses v.now l (Ends Stops)) row) in
-    each_opens IsLastNotice (ended_on Stops v.now row ++ waiters)
+    let readers : List Notice = lost_on v l Stops in
+    each_opens IsLastNotice ((ended_on Stops v.now row ++ waiters) ++ readers)
+    (each_append IsLastNotice (ended_on Stops v.now row ++ waiters) readers
     (each_append IsLastNotice (ended_on Stops v.now row) waiters (last_ended v.now row) (last_waiters v l row))
+    (there_each IsLastNotice (lost_at l (closing Stops v.now row)) v.consumers
+    (λ t m e. no_loss IsLastNotice l (closing Stops v.now row) t m (subst Gone e (gone t)))))
 
 last_at : (known : Addresses) (row : Option Pause) → Each IsLastNotice (stopped_at known row)
 last_at known None = tt
@@ -272,15 +290,16 @@ took_stops now None = refl
 took_stops now (Some seat) = refl
 
 -- no check of idle links begins with a verdict that makes nothing
-none_left : (ways : Option Ways) (m : Makes) → makes_nothing m ≡ true → Each IsLast (left_with ways m)
-none_left ways Nothing is = tt
-none_left ways m is = absurd cc
+none_left : (ways : Option Ways) (maker : Who) (m : Makes) → makes_nothing m ≡ true → Each IsLast (left_with ways maker m)
+none_left ways maker Nothing is = tt
+none_left ways maker m is = absurd cc
 
 none_built : (b : Bool) (m : Makes) → makes_nothing m ≡ true → (b && builds m false) ≡ false
 none_built true Nothing is = refl
 none_built false Nothing is = refl
 none_built b Client is = absurd cc
-none_built b (Consumer l number topic) is = absurd cc
+none_built b (Consumer j) is = absurd cc
+none_built b (RawConsumer l made) is = absurd cc
 none_built b (Producer building) is = absurd cc
 
 -- WHERE THE CLIENT IS STOPPED
@@ -294,6 +313,7 @@ record Over (o : Options) (log : List Entry) : Type 0 where
   is_stopped : (view o log).calls.is_stopped ≡ true
   fine : (w : Who) → is_fine ((view o log).stand w) ≡ true
   bare : (m : ℕ) → next_batch_at ((view o log).producers.topics m) ≡ None
+  gone : (t : ℕ) → Gone ((view o log).consumers.rows t)
   links : (l : ℕ) → ((view o log).links.live l ≡ None) ⊎ In (Comes (ToLink l (Ends Stops))) (agenda o log).now
 
 -- a part that comes, where nothing else is left at once
@@ -354,6 +374,14 @@ made_none : (o : Chosen) (who : Who) (m : Makes) (ps : Producers) → makes_noth
 made_none o who Nothing ps h = refl
 made_none o who m ps h = absurd cc
 
+none_made : (live : ℕ → Option Seat) (who : Who) (m : Makes) (cs : Consumers) → makes_nothing m ≡ true → consumers_made live who m cs ≡ cs
+none_made live who Nothing cs h = refl
+none_made live who m cs h = absurd cc
+
+none_due_made : (live : ℕ → Option Seat) (who : Who) (m : Makes) → makes_nothing m ≡ true → made_due live who m ≡ []
+none_due_made live who Nothing h = refl
+none_due_made live who m h = absurd cc
+
 none_rung : (a : Alarm) (ps : Producers) → producers_rung false a ps ≡ ps
 none_rung (Batch n) ps = refl
 none_rung _ ps = refl
@@ -395,8 +423,9 @@ module _ (o : Options) (log : List Entry) (run : IsRun o log) (k : Over o log) w
       Each (IsLate (after a v).stand) (joins v a) → Each (Each IsLastNotice) (causes v a) → ((l : ℕ) → pause_after v a l None ≡ None) →
       alarms_after v a ≡ [] → ((w : Who) → is_fine (stand_after a w (v.stand w)) ≡ true) →
       ((m : ℕ) → next_batch_at ((producers_after v a).topics m) ≡ None) →
+      ((t : ℕ) → Gone ((consumers_after v a).rows t)) →
       ((l : ℕ) → Comes (ToLink l (Ends Stops)) ≡ a → live_after v.chosen v.addresses v.now v.links.started a l (v.links.live l) ≡ None) → Over o (Then a ∷ log)
-  goes_over a fits no_dial ends once join caused pauses alarms fine bare own =
+  goes_over a fits no_dial ends once join caused pauses alarms fine bare gone own =
       let late = late_more a ends in
       let P : Notice → Type 0 = IsLate v.stand in
       let Q : Notice → Type 0 = IsLate (after a v).stand in
@@ -412,6 +441,7 @@ module _ (o : Options) (log : List Entry) (run : IsRun o log) (k : Over o log) w
         is_stopped = still_stopped a;
         fine = fine;
         bare = bare;
+        gone = gone;
         links = λ l. elim (k.links l) [
           | inl e ↦ inl (ap (live_after v.chosen v.addresses v.now v.links.started a l) e ∙ stays_dead v a l no_dial)
           | inr i ↦ elim (left_of_now a l fits i) [
@@ -457,8 +487,10 @@ module _ (o : Options) (log : List Entry) (run : IsRun o log) (k : Over o log) w
 
   last_on : (a : Act) → first g ≡ Some a → IsLast a → Over o (Then a ∷ log)
   last_on (Comes (ToLink l (Ends Stops))) fits is =
-      goes_over (Comes (ToLink l (Ends Stops))) fits refl (λ w h. h) tt tt (last_caused v l) (λ j. no_pause_on v l j (v.links.live l))
-      (ap (alarms_after_end l) k.alarms ∙ no_alarm_on v l (v.links.live l)) k.fine k.bare own
+      goes_over (Comes (ToLink l (Ends Stops))) fits refl (λ w h. h) tt tt (last_caused v l k.gone) (λ j. no_pause_on v l j (v.links.live l))
+      (ap (alarms_after_end l) k.alarms ∙ no_alarm_on v l (v.links.live l)) k.fine k.bare
+      (λ t. gone_map (loses_by l (closing Stops v.now (v.links.live l))) (v.consumers.rows t) (loss_gone l (closing Stops v.now (v.links.live l))) (k.gone t))
+      own
     where
       alarms_after_end : ℕ → List (Alarm × ℕ) → List (Alarm × ℕ)
       alarms_after_end l alarms = alarms_on v.chosen v.now (option_map (turned_by v.chosen v.addresses v.now l (Ends Stops)) (v.links.live l)) alarms
@@ -470,14 +502,19 @@ module _ (o : Options) (log : List Entry) (run : IsRun o log) (k : Over o log) w
       goes_over (Told n) fits refl (told_ends n)
       (last_some (Keeps o log) (told_stand n) n.who (v.stand n.who) n.outcome (λ t p. told_ends n (Call t) p.waits) (own_stand n) is (k.fine n.who)
       (kept_rows n.who)) tt tt (λ l. refl) k.alarms
-      (λ w. told_fine n w (λ e. some_fine (Keeps o log) (v.stand w) n.outcome is (k.fine w) (kept_rows w))) k.bare (λ l e. absurd cc)
+      (λ w. told_fine n w (λ e. some_fine (Keeps o log) (v.stand w) n.outcome is (k.fine w) (kept_rows w))) k.bare k.gone (λ l e. absurd cc)
   last_on (Answers who verdict) fits is =
       goes_over (Answers who verdict) fits refl (λ w h. h)
-      (each_last v.stand (left_with (ways_of v.chosen) verdict.makes) (none_left (ways_of v.chosen) verdict.makes is)) tt tt (λ l. refl)
+      (each_last v.stand (left_with (ways_of v.chosen) who verdict.makes) (none_left (ways_of v.chosen) who verdict.makes is))
+      (rw (none_due_made v.links.live who verdict.makes is) tt) tt (λ l. refl)
       (ap (λ b. alarms_built v.now b v.alarms) (none_built (not v.calls.is_built) verdict.makes is) ∙ k.alarms) k.fine
-      (λ m. ap (λ ps. next_batch_at (ps.topics m)) (made_none v.chosen who verdict.makes v.producers is) ∙ k.bare m) (λ l e. absurd cc)
+      (λ m. ap (λ ps. next_batch_at (ps.topics m)) (made_none v.chosen who verdict.makes v.producers is) ∙ k.bare m)
+      (λ t. subst Gone
+      (sym (ap (λ f. f t) (left_rows who (consumers_made v.links.live who verdict.makes v.consumers))
+      ∙ ap (λ cs. cs.rows t) (none_made v.links.live who verdict.makes v.consumers is))) (k.gone t))
+      (λ l e. absurd cc)
   last_on (Starts who (procedure.Refuse r)) fits is =
-      goes_over (Starts who (procedure.Refuse r)) fits refl (refused_ends who r) (inl refl, tt) tt tt (λ l. refl) k.alarms (λ w. refused_fine who w r) k.bare
+      goes_over (Starts who (procedure.Refuse r)) fits refl (refused_ends who r) (inl refl, tt) tt tt (λ l. refl) k.alarms (λ w. refused_fine who w r) k.bare k.gone
       (λ l e. absurd cc)
   last_on a fits is = absurd cc
 
@@ -485,7 +522,7 @@ module _ (o : Options) (log : List Entry) (run : IsRun o log) (k : Over o log) w
   told_on : (n : Notice) → first g ≡ Some (Told n) → AreLast (told_stand n) (follows_some n.who (told_some (v.stand n.who) n.outcome)) →
       ((w : Who) → w ≡ n.who → is_fine (stays_some (told_some (v.stand w) n.outcome)) ≡ true) → Over o (Then (Told n) ∷ log)
   told_on n fits once fine =
-      goes_over (Told n) fits refl (told_ends n) once tt tt (λ l. refl) k.alarms (λ w. told_fine n w (fine w)) k.bare (λ l e. absurd cc)
+      goes_over (Told n) fits refl (told_ends n) once tt tt (λ l. refl) k.alarms (λ w. told_fine n w (fine w)) k.bare k.gone (λ l e. absurd cc)
 
   parts_told : (n : Notice) → first g ≡ Some (Told n) → IsParting v.stand (Told n) → Over o (Then (Told n) ∷ log)
   parts_told n fits (inl is) =
@@ -500,15 +537,15 @@ module _ (o : Options) (log : List Entry) (run : IsRun o log) (k : Over o log) w
 
   parts_on : (a : Act) → first g ≡ Some a → IsParting v.stand a → Over o (Then a ∷ log)
   parts_on (Does who (Tell n)) fits is =
-      goes_over (Does who (Tell n)) fits refl (λ w h. h) (inr (inl is.1), tt) (inl is.0, tt) tt (λ l. refl) k.alarms k.fine k.bare (λ l e. absurd cc)
+      goes_over (Does who (Tell n)) fits refl (λ w h. h) (inr (inl is.1), tt) (inl is.0, tt) tt (λ l. refl) k.alarms k.fine k.bare k.gone (λ l e. absurd cc)
   parts_on (Does who (TellAll ns)) fits is =
       goes_over (Does who (TellAll ns)) fits refl (λ w h. h) (inr (inr (inl (settling_told (v.stand who) is.1))), tt) is.0 tt (λ l. refl) k.alarms k.fine
-      k.bare (λ l e. absurd cc)
+      k.bare k.gone (λ l e. absurd cc)
   parts_on (Does who (TakeBatch m)) fits is =
       let none : batch_told (v.stand who) (outcome.Granted (news.HasBatch (next_batch_at (v.producers.topics m)))) ≡ true =
       ap (λ r. batch_told (v.stand who) (outcome.Granted (news.HasBatch r))) (k.bare m) ∙ taking_told (v.stand who) is in
       goes_over (Does who (TakeBatch m)) fits refl (λ w h. h) (inr (inr (inl none)), tt) tt tt (λ l. refl) k.alarms k.fine
-      (λ n. bare_changed m n v.producers (k.bare n)) (λ l e. absurd cc)
+      (λ n. bare_changed m n v.producers (k.bare n)) k.gone (λ l e. absurd cc)
   parts_on (Told n) fits is = parts_told n fits is
   parts_on a fits is = absurd is
 
@@ -520,10 +557,21 @@ module _ (o : Options) (log : List Entry) (run : IsRun o log) (k : Over o log) w
 
     dead_causes : (x : LinkAct) → Each (Each IsLastNotice) (causes v (Comes (ToLink l x)))
     dead_causes Opens = tt
-    dead_causes Reads = rw dead tt
+    dead_causes Reads = rw dead (each_opens IsLastNotice (over_rows (heard_at l arrivals.Nothing) v.consumers)
+        (rows_each IsLastNotice (heard_at l arrivals.Nothing) v.consumers (λ t m. tt)))
     dead_causes (Drains most) = rw dead tt
     dead_causes Pings = tt
-    dead_causes (Ends end) = rw dead tt
+    dead_causes (Ends end) = rw dead (each_opens IsLastNotice (over_rows (lost_at l None) v.consumers)
+        (rows_each IsLastNotice (lost_at l None) v.consumers (λ t m. tt)))
+
+    dead_gone : (x : LinkAct) (t : ℕ) → Gone ((consumers_after v (Comes (ToLink l x))).rows t)
+    dead_gone Reads t =
+        gone_map (hears l (arrival_at (v.links.live l))) (v.consumers.rows t) (heard_gone l (arrival_at (v.links.live l))) (k.gone t)
+    dead_gone (Ends end) t =
+        gone_map (loses_by l (closing end v.now (v.links.live l))) (v.consumers.rows t) (loss_gone l (closing end v.now (v.links.live l))) (k.gone t)
+    dead_gone Opens t = k.gone t
+    dead_gone (Drains most) t = k.gone t
+    dead_gone Pings t = k.gone t
 
     dead_pause : (x : LinkAct) (j : ℕ) → pause_after v (Comes (ToLink l x)) j None ≡ None
     dead_pause x j = rw dead refl
@@ -548,11 +596,14 @@ module _ (o : Options) (log : List Entry) (run : IsRun o log) (k : Over o log) w
   part_on (Calls asked advice) fits none =
       goes_over (Comes (Calls asked advice)) fits refl (λ w h. h)
       (each_last v.stand (called v advice asked) (last_called v advice asked k.is_stopped)) tt tt (λ l. refl) k.alarms k.fine
-      (λ m. ap (λ ps. next_batch_at (ps.topics m)) (none_called asked) ∙ k.bare m) (λ l e. absurd cc)
+      (λ m. ap (λ ps. next_batch_at (ps.topics m)) (none_called asked) ∙ k.bare m)
+      (λ t. subst Gone
+      (sym (ap (λ f. f t) (called_rows (lacks_tickets v.calls.drawn (shares asked)) (may_call v.calls) asked v.consumers))) (k.gone t))
+      (λ l e. absurd cc)
   part_on (ToLink l x) fits none =
       let dead = all_dead none l in
       goes_over (Comes (ToLink l x)) fits refl (λ w h. h) (dead_once l dead x) tt (dead_causes l dead x) (dead_pause l dead x) (dead_alarms l dead x) k.fine
-      k.bare
+      k.bare (dead_gone l dead x)
       (λ j e. ap (live_after v.chosen v.addresses v.now v.links.started (Comes (ToLink l x)) j) (all_dead none j) ∙ stays_dead v (Comes (ToLink l x)) j refl)
   part_on (Rings a) fits none =
       let e = no_alarm a in
@@ -560,8 +611,16 @@ module _ (o : Options) (log : List Entry) (run : IsRun o log) (k : Over o log) w
       (λ m. ap (λ b. next_batch_at ((producers_rung b a v.producers).topics m)) e
       ∙ ap (λ ps. next_batch_at (ps.topics m)) (none_rung a v.producers)
       ∙ k.bare m)
-      (λ l e. absurd cc)
-  part_on (Polls t) fits none = goes_over (Comes (Polls t)) fits refl (λ w h. h) tt tt tt (λ l. refl) k.alarms k.fine k.bare (λ l e. absurd cc)
+      k.gone (λ l e. absurd cc)
+  part_on (Polls t) fits none =
+      let clock : ℕ = v.now in
+      goes_over (Comes (Polls t)) fits refl (λ w h. h) tt
+      (no_due (IsLate (after (Comes (Polls t)) v).stand) t (option_map (member_after (reader.Polls clock)) (v.consumers.rows t))
+      (gone_map (member_after (reader.Polls clock)) (v.consumers.rows t) (poll_gone clock) (k.gone t))) tt (λ l. refl) k.alarms k.fine k.bare
+      (λ u. elim (u == t) as (λ b. Gone (cond b (option_map (member_after (reader.Polls clock)) (v.consumers.rows u)) (v.consumers.rows u))) [
+        | true ↦ gone_map (member_after (reader.Polls clock)) (v.consumers.rows u) (poll_gone clock) (k.gone u)
+        | false ↦ k.gone u
+      ]) (λ l e. absurd cc)
 
   over_on : (a : Act) → first g ≡ Some a → Over o (Then a ∷ log)
   over_on a fits = elim (last_first v.stand g.now g.here g.behind g.parts a k.now k.here k.behind fits) [
@@ -582,6 +641,7 @@ module _ (o : Options) (log : List Entry) (run : IsRun o log) (k : Over o log) w
     is_stopped = begun_same (λ u. u.calls.is_stopped) e v refl ∙ k.is_stopped;
     fine = λ w. ap is_fine (begun_same (λ u. u.stand w) e v refl) ∙ k.fine w;
     bare = λ m. ap (λ ps. next_batch_at (ps.topics m)) (begun_same (λ u. u.producers) e v refl) ∙ k.bare m;
+    gone = λ t. subst (λ cs. Gone (cs.rows t)) (sym (begun_same (λ u. u.consumers) e v refl)) (k.gone t);
     links = λ l. inl (begun_dead e l v (all_dead (none_now g.now g.here g.behind g.parts rests) l));
   }
 
@@ -602,6 +662,7 @@ over_starts o log who run fits =
     let ends : List Act = stops ++ tells who outcome.Stopped in
     let told : List Notice = flat_map (λ e. stopped_with v.addresses e.0) v.alarms in
     let waits : List Notice = stopped_all v.producers in
+    let readers : List Notice = stopped_on v in
     let P : Notice → Type 0 = IsLate v.stand in
     record {
       now = each_last v.stand (ends ++ (rest (agenda o log)).now)
@@ -610,19 +671,32 @@ over_starts o log who run fits =
           (subst (Each IsLast) (sym clear.now) tt));
       here = subst (Each P) (sym clear.here) tt;
       behind =
-          each_append (Each P) (rest (agenda o log)).behind (map (arranged below) (opens (told ++ waits))) (subst (Each (Each P)) (sym clear.behind) tt)
-          (each_arranged P (opens (told ++ waits)) (each_opens P (told ++ waits) (each_map IsLastNotice P (told ++ waits) (λ n is. inl is)
+          each_append (Each P) (rest (agenda o log)).behind (map (arranged below) (opens ((told ++ waits) ++ readers)))
+          (subst (Each (Each P)) (sym clear.behind) tt)
+          (each_arranged P (opens ((told ++ waits) ++ readers))
+          (each_opens P ((told ++ waits) ++ readers) (each_map IsLastNotice P ((told ++ waits) ++ readers) (λ n is. inl is)
+          (each_append IsLastNotice (told ++ waits) readers
           (each_append IsLastNotice told waits (each_flat IsLastNotice (λ e. stopped_with v.addresses e.0) v.alarms (λ e. last_with v.addresses e.0))
           (each_append IsLastNotice (map stopped_one (waiting v.producers)) (map stopped_call (unsent v.producers)) (all_wait (waiting v.producers))
-          (all_unsent (unsent v.producers)))))));
+          (all_unsent (unsent v.producers))))
+          (each_map IsStoppedWord IsLastNotice readers (λ n h. stopped_last n.outcome h) (stopped_words v))))));
       pauses = λ l. refl;
       alarms = refl;
       is_stopped = refl;
       fine = λ w. calm_fine (v.stand w) (calm_stop o w who log run fits);
       bare = λ m. bare_halted (v.producers.topics m);
+      gone = λ t. gone_stopped (v.consumers.rows t);
       links = λ l. links_of l (v.links.live l) refl;
     }
   where
+    gone_stopped : (row : Option Member) → Gone (option_map consumer.stopped row)
+    gone_stopped None = tt
+    gone_stopped (Some m) = refl
+
+    stopped_last : (u : Outcome) → is_stopped_word u ≡ true → is_last_word u ≡ true
+    stopped_last outcome.Stopped h = refl
+    stopped_last u h = absurd cc
+
     all_wait : (ws : List Who) → Each IsLastNotice (map stopped_one ws)
     all_wait [] = tt
     all_wait (w ∷ ws) = (refl, all_wait ws)

@@ -44,7 +44,7 @@ use Rattle.pulsar_calls.specs.declared.act.Who.TheVariants.{Call}
 use Rattle.pulsar_procedures.specs.declared.plan.At.{At as Spot}
 use Rattle.pulsar_procedures.specs.declared.plan.At.TheVariants as at
 use Rattle.pulsar_procedures.specs.declared.plan.Plan.{Plan}
-use Rattle.pulsar_procedures.specs.declared.plan.Plan.TheVariants.{Building, Getting, Asking, Awaiting, Searching, Producing, Sending, Reporting, Storing, Stored, Batching, Leaving, Gathering, Shutting, Visiting, Stopping}
+use Rattle.pulsar_procedures.specs.declared.plan.Plan.TheVariants.{Building, Getting, Asking, Awaiting, Searching, Producing, Sending, Reporting, Storing, Stored, Batching, Leaving, Gathering, Shutting, Visiting, Stopping, Subscribing, Serving, Acknowledging, Departing}
 use Rattle.pulsar_procedures.specs.declared.plan.Turn.{Turn}
 use Rattle.pulsar_procedures.specs.declared.plan.Turn.TheVariants.{Stays, Gives}
 use Rattle.pulsar_procedures.specs.declared.plan.Wanted.{Wanted}
@@ -72,12 +72,13 @@ use Rattle.pulsar_calls.specs.Content as content
 use Rattle.pulsar_calls.specs.Content.{Asked, lacks_tickets, sent_by, shares}
 use Rattle.pulsar_tables.specs.Producers.{Producers, advice, batches_in, errand_of, numbers_at, routed, why_not}
 use Rattle.pulsar_calls.specs.Content.{next_advice}
-use Rattle.pulsar_tables.specs.Rules.{asks_raw, asks_topics, builds_with, call_part, checks, closes, fails_as, flushes, flushes_all, from_base, gathers as gathers_by, is_taken, parts_of, procedure_for, produces, produces_from, searches, sends, sends_as, sends_by, share, shares_of, shares_unless, starts, stores_as, unless, unless_refused, why_no_sends}
+use Rattle.pulsar_tables.specs.Rules.{asks_raw, asks_topics, builds_with, call_part, checks, closes, fails_as, flushes, flushes_all, from_base, gathers as gathers_by, is_taken, parts_of, procedure_for, produces, produces_from, searches, sends, sends_as, sends_by, share, shares_of, shares_unless, starts, stores_as, unless, unless_refused, why_no_sends, why_no_raw}
 use Rattle.pulsar_client.specs.Run.{Entry, Begins, Then, IsRun, view}
 use Rattle.pulsar_tables.specs.View.{Chosen, View, may_call, ways_of}
 use Rattle.pulsar_laws.proofs.Granted.{BeginsSo, does_from, in_each}
 use Rattle.pulsar_laws.proofs.Made.{calls_are_made_lem}
 use Rattle.pulsar_laws.proofs.Natures.{StaysSo, either_so}
+use Rattle.pulsar_laws.proofs.Consuming.{IsModest, begins_modest, humble_call, is_humble, is_modest, stays_map, told_modest}
 
 abbrev is_store : Action → Bool
 is_store (Store n e) = true
@@ -225,6 +226,15 @@ shut_none ns (outcome.Granted news.Done) = round_none Closes ns
 shut_none ns (outcome.Granted _) = tt
 shut_none ns _ = tt
 
+-- CONSUMERS
+
+modest_stores : (a : Action) → is_modest a ≡ true → is_store a ≡ false
+modest_stores (Store n e) h = absurd cc
+modest_stores a h = refl
+
+modest_none : (t : Turn Plan Verdict) → StaysSo IsModest t → StaysSo NoStore t
+modest_none t k = stays_map IsModest NoStore t (λ p a m. modest_stores a m.1) k
+
 -- ALL
 
 pub told_none : (plan : Plan) (u : Outcome) → StaysSo NoStore (told plan u)
@@ -253,6 +263,10 @@ told_none (Gathering first count left failures) (outcome.Parted t f) = gathers_n
 told_none (Gathering first count left failures) _ = tt
 told_none (Shutting ns) u = shut_none ns u
 told_none (Visiting r n left x) u = either_so NoStore (overrides u) _ _ tt (visit_none r n left x u)
+told_none (Subscribing w o b) u = modest_none (told (Subscribing w o b) u) (told_modest (Subscribing w o b) u refl)
+told_none (Serving w n s) u = modest_none (told (Serving w n s) u) (told_modest (Serving w n s) u refl)
+told_none Acknowledging u = tt
+told_none (Departing t n) u = modest_none (told (Departing t n) u) (told_modest (Departing t n) u refl)
 told_none Stopping outcome.Stopped = tt
 told_none Stopping _ = tt
 
@@ -295,6 +309,14 @@ begins_store (procedure.FailShare share r) plan n x h = (let f : false ≡ true 
 begins_store (procedure.Gather first count) plan n x h = absurd (none_stores (gathers first count count []) plan n x (gathers_none first count count []) h)
 begins_store (procedure.Go round ns) plan n x h = absurd (none_stores (goes_round round ns) plan n x (round_none round ns) h)
 begins_store (procedure.Close t ns) plan n x h = (let f : false ≡ true = ap stores_in h in absurd cc)
+begins_store (procedure.Subscribe w o) plan n x h =
+    absurd (none_stores (begins (procedure.Subscribe w o)) plan n x
+    (modest_none (begins (procedure.Subscribe w o)) (begins_modest (procedure.Subscribe w o) refl)) h)
+begins_store (procedure.Serve w k) plan n x h = (let f : false ≡ true = ap stores_in h in absurd cc)
+begins_store (procedure.Acknowledge link request) plan n x h =
+    absurd (none_stores (begins (procedure.Acknowledge link request)) plan n x
+    (modest_none (begins (procedure.Acknowledge link request)) (begins_modest (procedure.Acknowledge link request) refl)) h)
+begins_store (procedure.Leave t k) plan n x h = (let f : false ≡ true = ap stores_in h in absurd cc)
 begins_store (procedure.Refuse r) plan n x h = (let f : false ≡ true = ap stores_in h in absurd cc)
 
 -- THE MESSAGES OF A CALL
@@ -364,12 +386,20 @@ module _ (ms : List ProducerMessageValues) where
   produce_one None (Some t) x = tt
   produce_one (Some w) (Some t) x = tt
 
+humble_one : (ms : List ProducerMessageValues) (p : Procedure) → is_humble p ≡ true → IsOne ms p
+humble_one ms (procedure.Refuse r) h = tt
+humble_one ms (procedure.Subscribe w o) h = tt
+humble_one ms (procedure.Serve w n) h = tt
+humble_one ms (procedure.Acknowledge link request) h = tt
+humble_one ms (procedure.Leave t n) h = tt
+humble_one ms p h = absurd cc
+
 all_parts : (v : View) (advised : List (Option ℕ)) (asked : Asked) → Each (StartsOne (messages_in (sent_by asked))) (parts_of v advised asked)
 all_parts v advised (content.SendAll t ms) = unless_parts ms v advised t (why_no_sends v.calls v.producers t)
 all_parts v advised _ = tt
 
 head_one : (v : View) (advised : List (Option ℕ)) (asked : Asked) →
-    IsOne (messages_in (sent_by asked)) (procedure_for v.chosen v.calls v.producers advised asked)
+    IsOne (messages_in (sent_by asked)) (procedure_for v.chosen v.calls v.consumers v.producers advised asked)
 head_one v advised content.Build =
     may_one [] (not v.calls.is_stopped) (builds_with v.chosen.outbound v.chosen.base)
     (either_one [] (v.chosen.outbound == 0) (procedure.Refuse refusal.NoOutbound) (from_base v.chosen.base procedure.Build) tt
@@ -403,9 +433,17 @@ head_one v advised (content.CheckProducer t) =
 head_one v advised (content.CloseProducer t) =
     may_one [] (may_call v.calls) (closes v.producers t)
     (either_one [] (is_some (v.producers.built t)) (procedure.Close t (numbers_at (v.producers.built t))) (procedure.Refuse refusal.UnknownTicket) tt tt)
+head_one v advised (content.Consumer wanted) =
+    humble_one [] _ (humble_call v.chosen v.calls v.consumers v.producers advised (content.Consumer wanted) refl)
+head_one v advised (content.Ack t name id cumulative) =
+    humble_one [] _ (humble_call v.chosen v.calls v.consumers v.producers advised (content.Ack t name id cumulative) refl)
+head_one v advised (content.Nack t name id) =
+    humble_one [] _ (humble_call v.chosen v.calls v.consumers v.producers advised (content.Nack t name id) refl)
+head_one v advised (content.CloseConsumer t) =
+    humble_one [] _ (humble_call v.chosen v.calls v.consumers v.producers advised (content.CloseConsumer t) refl)
 head_one v advised (content.Raw l request) =
-    may_one [] (may_call v.calls) (asks_raw v.producers l request)
-    (either_one [] (is_taken v.producers (named_producer request)) (procedure.Refuse refusal.NumberInUse) (procedure.Ask (Link l) request says.Bodies) tt tt)
+    may_one [] (may_call v.calls) (asks_raw v.consumers v.producers l request)
+    (unless_one [] (why_no_raw v.consumers v.producers request) (procedure.Ask (Link l) request says.Bodies) tt)
 
 starts_one : (v : View) (advised : List (Option ℕ)) (asked : Asked) → Each (StartsOne (messages_in (sent_by asked))) (starts v advised asked)
 starts_one v advised asked = (head_one v advised asked, all_parts v advised asked)

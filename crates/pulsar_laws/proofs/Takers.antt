@@ -39,11 +39,12 @@ use Rattle.pulsar_calls.specs.declared.act.Round.{Round}
 use Rattle.pulsar_calls.specs.declared.act.Round.TheVariants.{Checks, Flushes, Closes}
 use Rattle.pulsar_calls.specs.declared.act.Share.{Share}
 use Rattle.pulsar_calls.specs.declared.act.Who.{Who}
-use Rattle.pulsar_calls.specs.declared.act.Who.TheVariants.{Call, Producer}
+use Rattle.pulsar_calls.specs.declared.act.Who.TheVariants.{Call, Producer, Consumer}
 use Rattle.pulsar_procedures.specs.declared.plan.At.{At as Spot}
 use Rattle.pulsar_procedures.specs.declared.plan.At.TheVariants as at
 use Rattle.pulsar_procedures.specs.declared.plan.Plan.{Plan}
-use Rattle.pulsar_procedures.specs.declared.plan.Plan.TheVariants.{Building, Getting, Asking, Awaiting, Searching, Producing, Sending, Reporting, Storing, Stored, Batching, Leaving, Gathering, Shutting, Visiting, Stopping}
+use Rattle.pulsar_procedures.specs.declared.plan.Plan.TheVariants.{Building, Getting, Asking, Awaiting, Searching, Producing, Sending, Reporting, Storing, Stored, Batching, Leaving, Gathering, Shutting, Visiting, Stopping, Subscribing, Serving, Acknowledging, Departing}
+use Rattle.pulsar_procedures.specs.declared.plan.Turn.{Turn}
 use Rattle.pulsar_procedures.specs.declared.plan.Turn.TheVariants.{Stays, Gives}
 use Rattle.pulsar_procedures.specs.declared.plan.Wanted.{Wanted}
 use Rattle.pulsar_procedures.specs.Plan.{action_of, asks_of, begins, builds, fails_in, goes, goes_on_sending, goes_round, gathers, halted, in_asking, in_awaiting, in_finding, in_passing, in_settling, in_stored, in_storing, in_turning, is_answer, is_settled, leaves, news_in, news_of, overrides, sends_stay, settled, stands, stored, told, told_at, told_send, visited, visits, waits, wished}
@@ -65,6 +66,9 @@ use Rattle.pulsar_laws.proofs.BatchRun.{batched_run, deed_at}
 use Rattle.pulsar_laws.proofs.Granted.{does_from}
 use Rattle.pulsar_laws.proofs.Natures.{StaysSo, either_so, is_batching}
 use Rattle.pulsar_laws.proofs.Unbatched.{calls_unbatched}
+use Rattle.pulsar_laws.proofs.Consuming.{IsModest, begins_modest, is_modest, stays_map, told_modest}
+use Rattle.pulsar_laws.proofs.Servers.{server_does}
+use Rattle.pulsar_calls.specs.declared.act.Verdict.{Verdict}
 
 abbrev is_taker : Action → Bool
 is_taker (TakeBatch n) = true
@@ -244,6 +248,16 @@ shut_takes ns (outcome.Granted news.Done) = round_takes Closes ns
 shut_takes ns (outcome.Granted _) = tt
 shut_takes ns _ = tt
 
+-- CONSUMERS
+
+modest_acts : (a : Action) → is_modest a ≡ true → is_taker a ≡ false
+modest_acts (TakeBatch n) h = absurd cc
+modest_acts (TellAll ns) h = absurd cc
+modest_acts a h = refl
+
+modest_takes : (t : Turn Plan Verdict) → StaysSo IsModest t → StaysSo NoTake t
+modest_takes t k = stays_map IsModest NoTake t (λ p a m. modest_acts a m.1) k
+
 -- ALL
 
 told_takes : (plan : Plan) (u : Outcome) → is_batching plan ≡ false → StaysSo NoTake (told plan u)
@@ -272,6 +286,10 @@ told_takes (Gathering first count left failures) (outcome.Parted t f) b' = gathe
 told_takes (Gathering first count left failures) _ b' = tt
 told_takes (Shutting ns) u b' = shut_takes ns u
 told_takes (Visiting r n left x) u b' = either_so NoTake (overrides u) _ _ tt (visit_takes r n left x u)
+told_takes (Subscribing w o b) u b' = modest_takes (told (Subscribing w o b) u) (told_modest (Subscribing w o b) u refl)
+told_takes (Serving w n s) u b' = modest_takes (told (Serving w n s) u) (told_modest (Serving w n s) u refl)
+told_takes Acknowledging u b' = tt
+told_takes (Departing t n) u b' = modest_takes (told (Departing t n) u) (told_modest (Departing t n) u refl)
 told_takes Stopping outcome.Stopped b' = tt
 told_takes Stopping _ b' = tt
 
@@ -291,6 +309,11 @@ begins_takes (procedure.FailShare share r) = refl
 begins_takes (procedure.Gather first count) = gathers_takes first count count []
 begins_takes (procedure.Go round ns) = round_takes round ns
 begins_takes (procedure.Close t ns) = refl
+begins_takes (procedure.Subscribe w o) = modest_takes (begins (procedure.Subscribe w o)) (begins_modest (procedure.Subscribe w o) refl)
+begins_takes (procedure.Serve w n) = refl
+begins_takes (procedure.Acknowledge link request) =
+    modest_takes (begins (procedure.Acknowledge link request)) (begins_modest (procedure.Acknowledge link request) refl)
+begins_takes (procedure.Leave t n) = refl
 begins_takes (procedure.Refuse r) = tt
 
 call_takes : (o : Options) (log : List Entry) (t : ℕ) (a : Action) → is_taker a ≡ true → IsRun o (Then (Does (Call t) a) ∷ log) → ⊥
@@ -307,6 +330,7 @@ call_takes o log t a is run = elim (does_from o log (Call t) a run) [
 -- a batch is taken by its own topic producer
 pub taken_by_own : (o : Options) (log : List Entry) (who : Who) (m : ℕ) → IsRun o (Then (Does who (TakeBatch m)) ∷ log) → who ≡ Producer m
 taken_by_own o log (Call t) m run = absurd (call_takes o log t (TakeBatch m) refl run)
+taken_by_own o log (Consumer n t) m run = (let f : is_modest (TakeBatch m) ≡ true = server_does o log n t (TakeBatch m) run in absurd cc)
 taken_by_own o log (Producer n) m run = elim (deed_at o log n (TakeBatch m) run (batched_run o log run.0)) [
   | inl d ↦
       (let t = takes_where d.was.ways d.was.errand d.was.state d.outcome d.state m d.step in
@@ -319,4 +343,5 @@ taken_by_own o log (Producer n) m run = elim (deed_at o log n (TakeBatch m) run 
 pub told_by_own : (o : Options) (log : List Entry) (who : Who) (ns : List Notice) → IsRun o (Then (Does who (TellAll ns)) ∷ log) →
     (k : ℕ) × (who ≡ Producer k)
 told_by_own o log (Call t) ns run = absurd (call_takes o log t (TellAll ns) refl run)
+told_by_own o log (Consumer n t) ns run = (let f : is_modest (TellAll ns) ≡ true = server_does o log n t (TellAll ns) run in absurd cc)
 told_by_own o log (Producer k) ns run = (k, refl)

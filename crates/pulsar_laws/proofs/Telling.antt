@@ -15,7 +15,7 @@ use Rattle.pulsar_producer.specs.declared.deed.News.TheVariants as news
 use Rattle.pulsar_calls.specs.declared.act.Act.{Act}
 use Rattle.pulsar_calls.specs.declared.act.Act.TheVariants.{Comes, Starts, Told, Does, Answers, Dials}
 use Rattle.pulsar_calls.specs.declared.act.Action.{Action}
-use Rattle.pulsar_calls.specs.declared.act.Action.TheVariants.{Get, Ask, Wait, TakeTurn, PassTurn, Draw, Recall, Remake, Number, Find, Shut, Store, Flush, TakeBatch, Tell, TellAll, StopAll, Rest}
+use Rattle.pulsar_calls.specs.declared.act.Action.TheVariants.{Get, Ask, Wait, TakeTurn, PassTurn, Draw, Recall, Remake, Number, Find, Shut, Store, Flush, TakeBatch, Tell, TellAll, StopAll, Rest, TakeNumber, FindConsumer, TakeFlow, RecallConsumer, Revive, FailConsumer}
 use Rattle.pulsar_calls.specs.declared.act.Notice.{Notice}
 use Rattle.pulsar_calls.specs.declared.act.Outcome.{Outcome}
 use Rattle.pulsar_calls.specs.declared.act.Outcome.TheVariants as outcome
@@ -24,7 +24,7 @@ use Rattle.pulsar_calls.specs.declared.act.Procedure.{Procedure}
 use Rattle.pulsar_calls.specs.declared.act.Share.{Share}
 use Rattle.pulsar_calls.specs.declared.act.Verdict.{Verdict}
 use Rattle.pulsar_calls.specs.declared.act.Who.{Who}
-use Rattle.pulsar_calls.specs.declared.act.Who.TheVariants.{Call, Producer}
+use Rattle.pulsar_calls.specs.declared.act.Who.TheVariants.{Call, Producer, Consumer}
 use Rattle.pulsar_tables.specs.declared.addresses.Series.{Series}
 use Rattle.pulsar_tables.specs.declared.addresses.Series.TheVariants.{Nobody, Runs, Pauses, Serves}
 use Rattle.pulsar_procedures.specs.declared.plan.Plan.{Plan}
@@ -37,7 +37,7 @@ use Rattle.pulsar_tables.specs.Producers.{drawn, is_settled_at, is_woken, link_a
 use Rattle.pulsar_tables.specs.Rules.{at_once, below, causes, draw_outcome, draw_said, finds, gets_from, grants, joins, notice, number_said, over_links, performs, readied, ready_notice, recalls, stop_act, takes_turn, tells, told_at, turn_notice}
 use Rattle.pulsar_client.specs.Run.{Entry, Begins, Then, IsRun, agenda, rules, view}
 use Rattle.pulsar_tables.specs.View.{Options, View, answer_at, room_of, stays, stays_some, told_some}
-use Rattle.pulsar_calls.specs.Who.{is_same, turn_of}
+use Rattle.pulsar_calls.specs.Who.{is_same, turn_of, ticket_of}
 use Rattle.pulsar_producer.specs.Topic as topic
 use Rattle.pulsar_producer.specs.declared.deed.Deed.{Deed}
 use Rattle.pulsar_producer.specs.declared.deed.Deed.TheVariants as deed
@@ -55,6 +55,16 @@ use Rattle.pulsar_laws.proofs.Parted.{parts_at, parts_more, starts_part}
 use Rattle.pulsar_client.proofs.Raising.{IsRaised, raises}
 use Rattle.pulsar_laws.proofs.Sharing.{SharesSo, TicketSo, begins_shares, share_in, shares_of, told_shares}
 use Rattle.pulsar_laws.proofs.Turns.{sum, sum_append, sum_none, sum_put_all}
+use Rattle.pulsar_laws.proofs.Servers.{server_does}
+use Rattle.pulsar_laws.proofs.Consuming.{is_modest}
+use Rattle.pulsar_laws.proofs.Wording.{IsWord, is_word, is_worded, joins_words}
+use Rattle.pulsar_calls.specs.declared.act.Part.TheVariants.{Polls}
+use Rattle.pulsar_tables.specs.Reading.{numbering_said, recalled_said, sought_said}
+use Rattle.pulsar_tables.specs.declared.consumers.numbers.Numbering.{Numbering}
+use Rattle.pulsar_tables.specs.declared.consumers.numbers.Numbering.TheVariants.{Has, InUse, Spent}
+use Rattle.pulsar_tables.specs.declared.consumers.row.Sought.{Sought}
+use Rattle.pulsar_tables.specs.declared.consumers.row.Sought.TheVariants.{Found, Gone, Later}
+use Rattle.pulsar_tables.specs.Consumers as consumer
 
 none_some : {A : Type 0} {x : A} → None ≡ Some x → ⊥
 none_some {A} {x} h = cc
@@ -334,6 +344,20 @@ module _ (v : View) (who : Who) where
   gets_no p (Pauses l) = tt
   gets_no p (Serves l) = (refl, tt)
 
+  numbering_no : (x : Numbering) → Each NoPart (tells who (numbering_said x))
+  numbering_no (Has n) = (refl, tt)
+  numbering_no InUse = (refl, tt)
+  numbering_no Spent = (refl, tt)
+
+  sought_no : (x : Sought) → Each NoPart (sought_said who x)
+  sought_no (Found l) = (refl, tt)
+  sought_no Gone = (refl, tt)
+  sought_no Later = tt
+
+  command_no : (r : Option Command) → Each NoPart (recalled_said who r)
+  command_no None = (refl, tt)
+  command_no (Some c) = (refl, tt)
+
   performs_no : (action : Action) → Each NoPart (performs v who action)
   performs_no (Get p) = each_either NoPart (is_reachable p) _ _ (gets_no p (v.addresses.base (address_key p)).series) (refl, tt)
   performs_no (Ask l request) = asks_no (answer_at v.now request (v.links.live l))
@@ -351,6 +375,12 @@ module _ (v : View) (who : Who) where
   performs_no (Store n entry) = (refl, tt)
   performs_no (Flush n) = each_either NoPart (is_settled_at (v.producers.topics n)) (grants who news.Done) [] (refl, tt) tt
   performs_no (TakeBatch n) = (refl, tt)
+  performs_no (TakeNumber wanted) = numbering_no (consumer.numbering v.consumers wanted)
+  performs_no (FindConsumer t) = sought_no (consumer.sought (v.consumers.rows t))
+  performs_no TakeFlow = (refl, tt)
+  performs_no RecallConsumer = command_no (consumer.recalled (v.consumers.rows (ticket_of who)))
+  performs_no (Revive l) = (refl, tt)
+  performs_no (FailConsumer f) = (refl, tt)
   performs_no (Tell n) = (refl, tt)
   performs_no (TellAll ns) = (refl, tt)
   performs_no Rest = tt
@@ -394,10 +424,22 @@ closed_none t u ts = sum_none IsCaused (note t u) (map closed_notice ts) (caused
     closed [] = tt
     closed (x ∷ xs) = (refl, closed xs)
 
+word_note : (t u : ℕ) (n : Notice) → IsWord n → note t u n ≡ 0
+word_note t u n h = note_none t u n (by n.outcome h)
+  where
+    by : (y : Outcome) → is_word y ≡ true → part_of u y ≡ 0
+    by (outcome.Word w) k = refl
+    by y k = absurd cc
+
+worded_none : (t u : ℕ) (v : View) (a : Act) → is_worded a ≡ true → sum (note t u) (joins v a) ≡ 0
+worded_none t u v a h = sum_none IsWord (note t u) (joins v a) (word_note t u) (joins_words v a h)
+
 -- what joins is what is told
 joins_few : (o : Options) (log : List Entry) (t u : ℕ) (a : Act) → IsRun o (Then a ∷ log) → sum (note t u) (joins (view o log) a) ≤ tell_of u a
 joins_few o log t u (Does (Call w) (Tell n)) run =
     elim (is_same (Call t) n.who) as (λ b. cond b (part_of u n.outcome) 0 + 0 ≤ part_of u n.outcome) [ true ↦ omega arith | false ↦ omega arith ]
+joins_few o log t u (Does (Consumer m w) (Tell n)) run =
+    (let f : is_modest (Tell n) ≡ true = server_does o log m w (Tell n) run in absurd cc)
 joins_few o log t u (Does (Producer w) (Tell n)) run = let k = batcher_does o log w (Tell n) run in absurd (no_tell k.0 n k.1)
 joins_few o log t u (Does who (PassTurn n)) run = by (turn_passed ((view o log).producers.topics n))
   where
@@ -413,6 +455,11 @@ joins_few o log t u (Does who (Shut p)) run =
 joins_few o log t u (Does who (TellAll ns)) run =
     let z = sum_none (λ n. is_settling n.outcome ≡ true) (note t u) ns (λ n h. note_none t u n (settling_part u n.outcome h)) (tell_settling o log who ns run) in
     omega (arith, z)
+joins_few o log t u (Comes (Polls k)) run = let z = worded_none t u (view o log) (Comes (Polls k)) refl in omega (arith, z)
+joins_few o log t u (Does who (Ask l request)) run = let z = worded_none t u (view o log) (Does who (Ask l request)) refl in omega (arith, z)
+joins_few o log t u (Does who (Revive l)) run = let z = worded_none t u (view o log) (Does who (Revive l)) refl in omega (arith, z)
+joins_few o log t u (Does who (FailConsumer f)) run = let z = worded_none t u (view o log) (Does who (FailConsumer f)) refl in omega (arith, z)
+joins_few o log t u (Answers who verdict) run = let z = worded_none t u (view o log) (Answers who verdict) refl in omega (arith, z)
 joins_few o log t u _ run = omega arith
 
 -- ALONG A LOG

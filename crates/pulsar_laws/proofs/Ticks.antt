@@ -1,9 +1,11 @@
 -- What a tick brings stands in order: the alarms do in every view.
-use Rattle.std.proofs.Common.{◌≡◌, ◌∙◌, sym, ap, subst, ℕ, zero, suc, ◌≤◌, List, [], ◌∷◌, ◌++◌, refl, arith, map, Bool, true, false, ◌&&◌, not, cond, nat_le, Option, Some, None}
+use Rattle.std.proofs.Common.{◌≡◌, ◌∙◌, sym, ap, subst, ℕ, zero, suc, ◌≤◌, if◌then◌else◌, List, [], ◌∷◌, ◌++◌, refl, arith, map, Bool, true, false, ◌&&◌, not, cond, nat_le, nat_lt, ◌==◌, inl, inr, Option, Some, None}
+use Rattle.std.proofs.lemmas.Bool.{cases_Bool}
 use Rattle.std.proofs.lemmas.Bool.Decides.{nat_tests}
+use Rattle.std.proofs.lemmas.Grind.{common_steps}
 use Rattle.std.specs.List.{filter, flat_map}
 use Rattle.std.specs.Option.{option_map, option_to_list}
-use Rattle.std.specs.Ordering.{is_lt, match_ordering}
+use Rattle.std.specs.Ordering.{is_lt, match_ordering, nat_cmp, ordering_then}
 use Rattle.std.specs.declared.cmp.Ordering.{Ordering}
 use Rattle.std.specs.declared.cmp.Ordering.TheVariants.{Less, Equal, Greater}
 use Rattle.pulsar_run.specs.Order.{InOrder, NoneBelow}
@@ -18,7 +20,7 @@ use Rattle.pulsar_calls.specs.declared.act.End.TheVariants.{Overdue}
 use Rattle.pulsar_calls.specs.declared.act.LinkAct.TheVariants.{Ends}
 use Rattle.pulsar_calls.specs.declared.act.Part.{Part}
 use Rattle.pulsar_calls.specs.declared.act.Part.TheVariants.{ToLink, Rings}
-use Rattle.pulsar_calls.specs.declared.act.Who.TheVariants.{Call, Producer}
+use Rattle.pulsar_calls.specs.declared.act.Who.TheVariants.{Call, Producer, Consumer}
 use Rattle.pulsar_tables.specs.declared.addresses.Pause.{Pause}
 use Rattle.pulsar_tables.specs.declared.producers.Topic.{Topic}
 use Rattle.pulsar_calls.specs.Who.{turn_of}
@@ -52,41 +54,117 @@ module _ {A : Type 0} (below : A → A → Bool) where
   order_append P Q (x ∷ xs) ys f p q o r =
       (none_append x xs ys o.0 (none_each Q x ys (λ y k. f x y p.0 k) q), order_append P Q xs ys f p.1 q o.1 r)
 
--- THE ORDER OF ALARMS
+-- THE ORDER OF ALARMS: by what a tick brings of them, and then by ticket
+
+abbrev ticket_in : Alarm → ℕ
+ticket_in (Wake (Consumer n t)) = t
+ticket_in _ = 0
+
+abbrev key : Alarm → ℕ × ℕ × ℕ × ℕ
+key a = ((part_rank (Rings a)).0, (part_rank (Rings a)).1, (part_rank (Rings a)).2, ticket_in a)
+
+abbrev is_before4 : ℕ × ℕ × ℕ × ℕ → ℕ × ℕ × ℕ × ℕ → Bool
+is_before4 a b = if a.0 == b.0 then is_before3 (a.1, a.2, a.3) (b.1, b.2, b.3) else nat_lt a.0 b.0
 
 abbrev alarm_below : Alarm → Alarm → Bool
-alarm_below a b = part_below (Rings a) (Rings b)
+alarm_below a b = is_before4 (key a) (key b)
 
-same_cmp : (a b : Alarm) → alarm_cmp a b ≡ cmp3 (part_rank (Rings a)) (part_rank (Rings b))
-same_cmp (Retry k) (Retry l) = refl
+abbrev cmp4 : ℕ × ℕ × ℕ × ℕ → ℕ × ℕ × ℕ × ℕ → Ordering
+cmp4 x y = ordering_then (ordering_then (ordering_then (nat_cmp x.0 y.0) (nat_cmp x.1 y.1)) (nat_cmp x.2 y.2)) (nat_cmp x.3 y.3)
+
+then_equal : (o : Ordering) → o ≡ ordering_then o Equal
+then_equal Less = refl
+then_equal Equal = refl
+then_equal Greater = refl
+
+same_cmp : (a b : Alarm) → alarm_cmp a b ≡ cmp4 (key a) (key b)
+same_cmp (Retry k) (Retry l) = then_equal (nat_cmp k l)
 same_cmp (Retry k) (Wake (Call u)) = refl
+same_cmp (Retry k) (Wake (Consumer m u)) = refl
+same_cmp (Retry k) (Wake (Producer m)) = refl
 same_cmp (Retry k) _ = refl
-same_cmp (Wake (Call t)) (Wake (Call u)) = refl
+same_cmp (Wake (Call t)) (Wake (Call u)) = then_equal (nat_cmp t u)
+same_cmp (Wake (Call t)) (Wake (Consumer m u)) = refl
+same_cmp (Wake (Call t)) (Wake (Producer m)) = refl
 same_cmp (Wake (Call t)) _ = refl
-same_cmp (Wake (Producer t)) (Wake (Call u)) = refl
-same_cmp (Wake (Producer t)) _ = refl
+same_cmp (Wake (Consumer n t)) (Wake (Call u)) = refl
+same_cmp (Wake (Consumer n t)) (Wake (Consumer m u)) = refl
+same_cmp (Wake (Consumer n t)) (Wake (Producer m)) = refl
+same_cmp (Wake (Consumer n t)) _ = refl
+same_cmp (Wake (Producer n)) (Wake (Call u)) = refl
+same_cmp (Wake (Producer n)) (Wake (Consumer m u)) = refl
+same_cmp (Wake (Producer n)) (Wake (Producer m)) = then_equal (nat_cmp n m)
+same_cmp (Wake (Producer n)) _ = refl
 same_cmp (Batch n) (Wake (Call u)) = refl
+same_cmp (Batch n) (Wake (Consumer m u)) = refl
+same_cmp (Batch n) (Wake (Producer m)) = refl
+same_cmp (Batch n) (Batch m) = then_equal (nat_cmp n m)
 same_cmp (Batch n) _ = refl
 same_cmp (KeepAlive k) (Wake (Call u)) = refl
+same_cmp (KeepAlive k) (Wake (Consumer m u)) = refl
+same_cmp (KeepAlive k) (Wake (Producer m)) = refl
+same_cmp (KeepAlive k) (KeepAlive l) = then_equal (nat_cmp k l)
 same_cmp (KeepAlive k) _ = refl
 same_cmp CheckIdle (Wake (Call u)) = refl
+same_cmp CheckIdle (Wake (Consumer m u)) = refl
+same_cmp CheckIdle (Wake (Producer m)) = refl
 same_cmp CheckIdle _ = refl
 
+-- a number first, and then what breaks ties
+lt_then : (a c : ℕ) (o : Ordering) (b : Bool) → is_lt o ≡ b → is_lt (ordering_then (nat_cmp a c) o) ≡ cond (a == c) b (nat_lt a c)
+lt_then a c o b h = elim (cases_Bool (nat_lt a c)) [
+  | inl e ↦ (let d : (a == c) ≡ false = grind (arith, nat_tests) in rw (e, d) refl)
+  | inr e ↦ elim (cases_Bool (a == c)) [ inl d ↦ rw (e, d) h | inr d ↦ rw (e, d) refl ]
+]
+
+then_same : (a b c d : Ordering) → ordering_then (ordering_then (ordering_then a b) c) d ≡ ordering_then a (ordering_then (ordering_then b c) d)
+then_same Less b c d = refl
+then_same Equal b c d = refl
+then_same Greater b c d = refl
+
+lt4 : (x y : ℕ × ℕ × ℕ × ℕ) → is_lt (cmp4 x y) ≡ is_before4 x y
+lt4 x y =
+    ap is_lt (then_same (nat_cmp x.0 y.0) (nat_cmp x.1 y.1) (nat_cmp x.2 y.2) (nat_cmp x.3 y.3))
+    ∙ lt_then x.0 y.0 (cmp3 (x.1, x.2, x.3) (y.1, y.2, y.3)) (is_before3 (x.1, x.2, x.3) (y.1, y.2, y.3)) (lt3 (x.1, x.2, x.3) (y.1, y.2, y.3))
+
 below_is : (a b : Alarm) (o : Ordering) → alarm_cmp a b ≡ o → alarm_below a b ≡ is_lt o
-below_is a b o e = sym (lt3 (part_rank (Rings a)) (part_rank (Rings b))) ∙ ap is_lt (sym (same_cmp a b) ∙ e)
+below_is a b o e = sym (lt4 (key a) (key b)) ∙ ap is_lt (sym (same_cmp a b) ∙ e)
+
+lex_way : (a d : ℕ) (i j : Bool) → (i ≡ true → j ≡ false) → cond (a == d) i (nat_lt a d) ≡ true → cond (d == a) j (nat_lt d a) ≡ false
+lex_way a d true j f h = let e : j ≡ false = f refl in rw e (grind (arith, nat_tests, common_steps))
+lex_way a d false j f h = grind (arith, nat_tests, common_steps)
+
+lex_chain : (a d p : ℕ) (i j k : Bool) → (i ≡ false → j ≡ false → k ≡ false) → cond (a == d) i (nat_lt a d) ≡ false →
+    cond (d == p) j (nat_lt d p) ≡ false → cond (a == p) k (nat_lt a p) ≡ false
+lex_chain a d p false false k f h g = let e : k ≡ false = f refl refl in rw e (grind (arith, nat_tests, common_steps))
+lex_chain a d p false true k f h g = grind (arith, nat_tests, common_steps)
+lex_chain a d p true j k f h g = grind (arith, nat_tests, common_steps)
 
 one_way : (a b : Alarm) → alarm_below a b ≡ true → alarm_below b a ≡ false
 one_way a b h =
-    let x = part_rank (Rings a) in
-    let y = part_rank (Rings b) in
-    one_way3 x.0 x.1 x.2 y.0 y.1 y.2 h
+    let x = key a in
+    let y = key b in
+    lex_way x.0 y.0 (is_before3 (x.1, x.2, x.3) (y.1, y.2, y.3)) (is_before3 (y.1, y.2, y.3) (x.1, x.2, x.3)) (λ e. one_way3 x.1 x.2 x.3 y.1 y.2 y.3 e) h
 
 chain : (a b c : Alarm) → alarm_below a b ≡ false → alarm_below b c ≡ false → alarm_below a c ≡ false
 chain a b c h k =
-    let x = part_rank (Rings a) in
-    let y = part_rank (Rings b) in
-    let z = part_rank (Rings c) in
-    chain3 x.0 x.1 x.2 y.0 y.1 y.2 z.0 z.1 z.2 h k
+    let x = key a in
+    let y = key b in
+    let z = key c in
+    lex_chain x.0 y.0 z.0 (is_before3 (x.1, x.2, x.3) (y.1, y.2, y.3)) (is_before3 (y.1, y.2, y.3) (z.1, z.2, z.3))
+    (is_before3 (x.1, x.2, x.3) (z.1, z.2, z.3)) (λ e f. chain3 x.1 x.2 x.3 y.1 y.2 y.3 z.1 z.2 z.3 e f) h k
+
+-- so a tick brings them in its order
+lex_front : (a d b e c f : ℕ) (i : Bool) → cond (a == d) (cond (b == e) (cond (c == f) i (nat_lt c f)) (nat_lt b e)) (nat_lt a d) ≡ false →
+    is_before3 (a, b, c) (d, e, f) ≡ false
+lex_front a d b e c f true h = grind (arith, nat_tests, common_steps)
+lex_front a d b e c f false h = grind (arith, nat_tests, common_steps)
+
+brought_so : (a b : Alarm) → alarm_below a b ≡ false → part_below (Rings a) (Rings b) ≡ false
+brought_so a b h =
+    let x = key a in
+    let y = key b in
+    lex_front x.0 y.0 x.1 y.1 x.2 y.2 (nat_lt x.3 y.3) h
 
 -- ALARMS STAND IN ORDER
 
@@ -212,7 +290,7 @@ rings_order (a ∷ xs) k = (none xs k.0, rings_order xs k.1)
   where
     none : (bs : List Alarm) → NoneBelow alarm_below a bs → NoneBelow part_below (Rings a) (map Rings bs)
     none [] n = tt
-    none (b ∷ bs) n = (n.0, none bs n.1)
+    none (b ∷ bs) n = (brought_so b a n.0, none bs n.1)
 
 abbrev IsRinging : Part → Type 0
 IsRinging p = (a : Alarm) × (p ≡ Rings a)

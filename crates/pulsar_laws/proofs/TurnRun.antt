@@ -1,6 +1,6 @@
 -- Turns along a log: each kind of act keeps what is so of them.
 use Rattle.std.proofs.Common.{◌≡◌, ◌⊎◌, inl, inr, ◌∙◌, sym, ap, subst, ℕ, ◌+◌, ◌<◌, ◌≤◌, ◌==◌, arith, List, [], ◌∷◌, ◌++◌, refl, Bool, true, false, ◌&&◌, nat_lt, cond, Option, Some, None}
-use Rattle.std.proofs.lemmas.Bool.{cases_Bool, eqb-true}
+use Rattle.std.proofs.lemmas.Bool.{cases_Bool, eqb-true, and_parts}
 use Rattle.std.proofs.lemmas.Bool.Decides.{nat_tests}
 use Rattle.std.specs.BTreeSet.{insert_key}
 use Rattle.std.specs.List.{flat_map}
@@ -24,10 +24,10 @@ use Rattle.pulsar_calls.specs.declared.act.Outcome.TheVariants as outcome
 use Rattle.pulsar_calls.specs.declared.act.Procedure.{Procedure}
 use Rattle.pulsar_calls.specs.declared.act.Verdict.{Verdict}
 use Rattle.pulsar_calls.specs.declared.act.Who.{Who}
-use Rattle.pulsar_calls.specs.declared.act.Who.TheVariants.{Call, Producer}
+use Rattle.pulsar_calls.specs.declared.act.Who.TheVariants.{Call, Producer, Consumer}
 use Rattle.pulsar_calls.specs.declared.act.Share.{Share}
 use Rattle.pulsar_procedures.specs.declared.plan.Plan.{Plan}
-use Rattle.pulsar_procedures.specs.declared.plan.Plan.TheVariants.{Batching, Leaving, Sending}
+use Rattle.pulsar_procedures.specs.declared.plan.Plan.TheVariants.{Batching, Leaving, Sending, Serving}
 use Rattle.pulsar_procedures.specs.declared.plan.Turn.{Turn}
 use Rattle.pulsar_procedures.specs.declared.plan.Turn.TheVariants.{Stays, Gives}
 use Rattle.pulsar_tables.specs.declared.producers.Topic.{Topic}
@@ -50,6 +50,9 @@ use Rattle.pulsar_laws.proofs.Natures.{StaysSo, is_batching, is_leaving}
 use Rattle.pulsar_laws.proofs.Topics.{row_as, topic_all, topics_alone_lem}
 use Rattle.pulsar_laws.proofs.Unbatched.{calls_unbatched}
 use Rattle.pulsar_laws.proofs.Turns.{acts_left, all_left, once_none, passes_it, pend_kept, pend_then, pending, sum, takes_it, turn_act, turn_note}
+use Rattle.pulsar_laws.proofs.Servers.{is_server, server_does, server_stands}
+use Rattle.pulsar_laws.proofs.Consuming.{is_modest}
+use Rattle.pulsar_laws.proofs.Same.{same_call, same_producer, same_test}
 
 none_some : {A : Type 0} {x : A} → None ≡ Some x → ⊥
 none_some {A} {x} h = cc
@@ -428,15 +431,16 @@ record Taker (o : Options) (log : List Entry) (who : Who) (n : ℕ) : Type 0 whe
 
 taker : (o : Options) (log : List Entry) (who : Who) (n : ℕ) → Every (AllTurns o) log → IsRun o (Then (Does who (TakeTurn n)) ∷ log) → Taker o log who n
 taker o log (Call t) n k run = record {
-  calls = λ u s. (let e : u ≡ t = eqb-true u t s in (subst (λ y. IsTaking o log y n) (sym e) (taking o log t n k run), sym e));
+  calls = λ u s. (let e : u ≡ t = eqb-true u t (and_parts (u == t) (u == t) s).0 in (subst (λ y. IsTaking o log y n) (sym e) (taking o log t n k run), sym e));
   is_own = λ u x y. subst (λ z. is_same (Call z) (Call t) ≡ true) (sym y) (self_same t);
   producers = λ m s. absurd cc;
 }
+taker o log (Consumer j t) n k run = (let f : is_modest (TakeTurn n) ≡ true = server_does o log j t (TakeTurn n) run in absurd cc)
 taker o log (Producer j) n k run = record {
   calls = λ u s. absurd cc;
   is_own = λ u x y. absurd (not_all u x y);
   producers = λ m s.
-      (let e : m ≡ j = eqb-true m j s in
+      (let e : m ≡ j = eqb-true m j (and_parts (m == j) true s).0 in
       let x = own_taking o log j n run in
       (x.number ∙ sym e, refl, λ p h. plain p x.plan x.none_held (sym (ap (λ y. (view o log).stand (Producer y)) e) ∙ h) x.stood));
 }
@@ -917,7 +921,7 @@ module _ (o : Options) (log : List Entry) (who : Who) (n : ℕ) (run : IsRun o (
         calls = pass_step
             (λ u. elim (cases_Bool (is_same (Call u) (Call x))) [
               | inl s ↦
-                  (let q : u ≡ x = eqb-true u x s in
+                  (let q : u ≡ x = same_call u x s in
                   let p = pends_next (Call u) in
                   let z : pending o log (Call u) ≡ 0 = subst (λ w. pending o log (Call w) ≡ 0) (sym q) not_told in
                   let f : turn_note (Call u) note ≡ 1 = note_is u s in
@@ -929,7 +933,7 @@ module _ (o : Options) (log : List Entry) (who : Who) (n : ℕ) (run : IsRun o (
                   omega (arith, p, z, f))
             ])
             (λ u one. elim (cases_Bool (is_same (Call u) (Call x))) [
-              | inl s ↦ inr (told_x u (eqb-true u x s))
+              | inl s ↦ inr (told_x u (same_call u x s))
               | inr s ↦ inl (let p = pends_next (Call u) in let z : turn_note (Call u) note ≡ 0 = note_not (Call u) s in omega (arith, p, z, one))
             ]);
         own = own_same (λ m.
@@ -950,7 +954,7 @@ module _ (o : Options) (log : List Entry) (who : Who) (n : ℕ) (run : IsRun o (
       -- it has not had it, but as the one that passes it on
       last_none : (m : ℕ) → is_same (Producer m) (Producer n) ≡ true → pending o log (Producer m) ≡ 0
       last_none m s = at_most_none (pending o log (Producer m))
-          (λ one. pends_apart m one (is_passer m (holds_it (Producer m) m s (k.own.told m one)) s))
+          (λ one. pends_apart m one (is_passer m (holds_it (Producer m) m (same_test m n s) (k.own.told m one)) (same_test m n s)))
 
       last_turns : AllTurns o (Then pass ∷ log)
       last_turns = record {
@@ -964,7 +968,7 @@ module _ (o : Options) (log : List Entry) (who : Who) (n : ℕ) (run : IsRun o (
           held = λ m j p h d. elim (cases_Bool (is_same (Producer m) (Producer n))) [
             | inl s ↦
                 (let w = k.own.held m j p h d in
-                absurd (own_apart m j p h d (is_passer m (holds_it (Producer m) m s w.0) s)))
+                absurd (own_apart m j p h d (is_passer m (holds_it (Producer m) m (same_test m n s) w.0) (same_test m n s))))
             | inr s ↦
                 (let w = k.own.held m j p h d in
                 let q = pends_next (Producer m) in
@@ -986,7 +990,7 @@ module _ (o : Options) (log : List Entry) (who : Who) (n : ℕ) (run : IsRun o (
           ];
           told = λ m one. elim (cases_Bool (is_same (Producer m) (Producer n))) [
             | inl s ↦
-                subst (HasTurn (view o (Then pass ∷ log)) (Producer m)) (sym (eqb-true m n s))
+                subst (HasTurn (view o (Then pass ∷ log)) (Producer m)) (sym (same_producer m n s))
                 (next_held.0, next_held.1, next_held.2 ∙ ap Some (eqb-true x behind_all last))
             | inr s ↦
                 (let q = pends_next (Producer m) in
@@ -1098,8 +1102,15 @@ told_producer o log m n version p run s w =
     let f : turn_note (Producer m) it ≡ 1 = ap (λ b. cond (b && true) 1 0) (who_same (Producer m)) in
     subst (HasTurn (view o log) (Producer m)) (sym (own_waits o log m n p run.0 s w)) (k.told m (omega (arith, e, f)))
 
+-- a consumer waits for no turn
+server_turn : (p : Plan) → is_server p ≡ true → turn_of p ≡ None
+server_turn (Serving w n s) h = refl
+server_turn p h = absurd cc
+
 pub told_in_turn_lem : ToldInTurn
 told_in_turn_lem o log (Call t) n version p run s w = told_call o log t n version p run s w
+told_in_turn_lem o log (Consumer m t) n version p run s w =
+    absurd (none_some (sym (server_turn p (server_stands o log m t p run.0 s)) ∙ w))
 told_in_turn_lem o log (Producer m) n version p run s w = told_producer o log m n version p run s w
 
 pub queued_in_turn_lem : QueuedInTurn

@@ -11,13 +11,13 @@ use Rattle.pulsar_producer.specs.declared.deed.News.TheVariants as news
 use Rattle.pulsar_calls.specs.declared.act.Act.{Act}
 use Rattle.pulsar_calls.specs.declared.act.Act.TheVariants.{Comes, Starts, Told, Does, Answers, Dials}
 use Rattle.pulsar_calls.specs.declared.act.Action.{Action}
-use Rattle.pulsar_calls.specs.declared.act.Action.TheVariants.{TakeTurn, PassTurn, Draw, Remake, Shut, Store, Flush, TakeBatch, Tell, TellAll, StopAll}
+use Rattle.pulsar_calls.specs.declared.act.Action.TheVariants.{TakeTurn, PassTurn, Draw, Remake, Shut, Store, Flush, TakeBatch, Tell, TellAll, StopAll, Ask, Revive, FailConsumer}
 use Rattle.pulsar_calls.specs.declared.act.Alarm.TheVariants.{Batch}
 use Rattle.pulsar_calls.specs.declared.act.Notice.{Notice}
 use Rattle.pulsar_calls.specs.declared.act.Outcome.{Outcome}
 use Rattle.pulsar_calls.specs.declared.act.Outcome.TheVariants as outcome
 use Rattle.pulsar_calls.specs.declared.act.Part.{Part}
-use Rattle.pulsar_calls.specs.declared.act.Part.TheVariants.{Rings}
+use Rattle.pulsar_calls.specs.declared.act.Part.TheVariants.{Rings, Polls}
 use Rattle.pulsar_calls.specs.declared.act.Who.{Who}
 use Rattle.pulsar_tables.specs.declared.producers.Topic.{Topic}
 use Rattle.pulsar_tables.specs.Producers.{is_woken, numbers_at, stored_by}
@@ -34,6 +34,7 @@ use Rattle.pulsar_laws.proofs.Granted.{GivenBy, GivesSo, IsFree, SaysSo, all_fre
 use Rattle.pulsar_laws.proofs.Holding.{is_turn_told}
 use Rattle.pulsar_client.proofs.Raising.{IsRaised, raises}
 use Rattle.pulsar_laws.proofs.Topics.{all_after}
+use Rattle.pulsar_laws.proofs.Wording.{IsWord, is_word, is_worded, joins_words}
 
 -- WHO IS TO BE TOLD OF A TURN
 
@@ -169,6 +170,16 @@ closed_none t (u ∷ ts) =
     let f : sum (turn_note t) (map closed_notice ts) ≡ 0 = closed_none t ts in
     omega (arith, e, f)
 
+word_note : (t : Who) (n : Notice) → IsWord n → turn_note t n ≡ 0
+word_note t n h = no_note t n (by n.outcome h)
+  where
+    by : (y : Outcome) → is_word y ≡ true → is_turn_told y ≡ false
+    by (outcome.Word w) k = refl
+    by y k = absurd cc
+
+worded_none : (t : Who) (v : View) (a : Act) → is_worded a ≡ true → sum (turn_note t) (joins v a) ≡ 0
+worded_none t v a h = sum_none IsWord (turn_note t) (joins v a) (word_note t) (joins_words v a h)
+
 pub joins_none : (o : Options) (log : List Entry) (t : Who) (a : Act) → passes_it a ≡ false → IsRun o (Then a ∷ log) →
     sum (turn_note t) (joins (view o log) a) ≡ 0
 joins_none o log t (Does who (PassTurn n)) h run = absurd cc
@@ -177,6 +188,11 @@ joins_none o log t (Does who (Flush n)) h run = readied_none t n (Flushes (taken
 joins_none o log t (Does who (Shut u)) h run = closed_none t (stored_by (view o log).producers (numbers_at ((view o log).producers.built u)))
 joins_none o log t (Does who (Tell n)) h run = let e : turn_note t n ≡ 0 = free_note t n (tell_free o log who n run) in omega (arith, e)
 joins_none o log t (Does who (TellAll ns)) h run = sum_none IsFree (turn_note t) ns (free_note t) (all_free o log who ns run)
+joins_none o log t (Comes (Polls k)) h run = worded_none t (view o log) (Comes (Polls k)) refl
+joins_none o log t (Does who (Ask l request)) h run = worded_none t (view o log) (Does who (Ask l request)) refl
+joins_none o log t (Does who (Revive l)) h run = worded_none t (view o log) (Does who (Revive l)) refl
+joins_none o log t (Does who (FailConsumer f)) h run = worded_none t (view o log) (Does who (FailConsumer f)) refl
+joins_none o log t (Answers who verdict) h run = worded_none t (view o log) (Answers who verdict) refl
 joins_none o log t _ h run = refl
 
 abbrev pub pending : Options → List Entry → Who → ℕ

@@ -73,11 +73,11 @@ use Rattle.pulsar_calls.specs.declared.act.Round.TheVariants.{Checks, Flushes, C
 use Rattle.pulsar_calls.specs.declared.act.Share.{Share}
 use Rattle.pulsar_calls.specs.declared.act.Verdict.{Verdict}
 use Rattle.pulsar_calls.specs.declared.act.Who.{Who}
-use Rattle.pulsar_calls.specs.declared.act.Who.TheVariants.{Call, Producer}
+use Rattle.pulsar_calls.specs.declared.act.Who.TheVariants.{Call, Producer, Consumer}
 use Rattle.pulsar_procedures.specs.declared.plan.At.{At as Spot}
 use Rattle.pulsar_procedures.specs.declared.plan.At.TheVariants as place
 use Rattle.pulsar_procedures.specs.declared.plan.Plan.{Plan}
-use Rattle.pulsar_procedures.specs.declared.plan.Plan.TheVariants.{Building, Getting, Asking, Awaiting, Searching, Producing, Sending, Reporting, Storing, Stored, Batching, Leaving, Gathering, Shutting, Visiting, Stopping}
+use Rattle.pulsar_procedures.specs.declared.plan.Plan.TheVariants.{Building, Getting, Asking, Awaiting, Searching, Producing, Sending, Reporting, Storing, Stored, Batching, Leaving, Gathering, Shutting, Visiting, Stopping, Subscribing, Serving, Acknowledging, Departing}
 use Rattle.pulsar_procedures.specs.declared.plan.Turn.{Turn}
 use Rattle.pulsar_procedures.specs.declared.plan.Turn.TheVariants.{Stays, Gives}
 use Rattle.pulsar_tables.specs.declared.producers.Topic.{Topic}
@@ -95,6 +95,7 @@ use Rattle.pulsar_laws.proofs.Batched.{StepWithin, is_outer, step_within}
 use Rattle.pulsar_laws.proofs.Granted.{BeginsSo, GivenBy, IsGrantedBy, IsLedSo, does_from, granted_by, grants_given}
 use Rattle.pulsar_laws.proofs.Natures.{Goes as KindGoes, KindBegun, KindOf, StaysSo, begins_goes, either_so, is_batching, told_goes}
 use Rattle.pulsar_laws.proofs.Topics.{topics_alone_lem}
+use Rattle.pulsar_laws.proofs.Consuming.{IsModest, begins_modest, is_modest, stays_map, told_modest}
 
 none_some : {A : Type 0} {x : A} → None ≡ Some x → ⊥
 none_some {A} {x} h = cc
@@ -229,6 +230,15 @@ stored_alone : (share : Option Share) → StaysSo Alone (stored share)
 stored_alone None = refl
 stored_alone (Some s) = refl
 
+-- CONSUMERS
+
+modest_acts : (a : Action) → is_modest a ≡ true → is_tell a ≡ false
+modest_acts (TellAll ns) h = absurd cc
+modest_acts a h = refl
+
+modest_alone : (t : Turn Plan Verdict) → StaysSo IsModest t → StaysSo Alone t
+modest_alone t k = stays_map IsModest Alone t (λ p a m. modest_acts a m.1) k
+
 told_alone : (plan : Plan) (u : Outcome) → is_batching plan ≡ false → StaysSo Alone (told plan u)
 told_alone Building (outcome.GotLink l) h = tt
 told_alone Building u h = tt
@@ -263,6 +273,10 @@ told_alone (Gathering first count left failures) u h = tt
 told_alone (Shutting ns) (outcome.Granted news.Done) h = round_alone Closes ns
 told_alone (Shutting ns) u h = tt
 told_alone (Visiting r n left x) u h = either_so Alone (overrides u) _ _ tt (visit_alone r n left x u)
+told_alone (Subscribing w o b) u h = modest_alone (told (Subscribing w o b) u) (told_modest (Subscribing w o b) u refl)
+told_alone (Serving w n s) u h = modest_alone (told (Serving w n s) u) (told_modest (Serving w n s) u refl)
+told_alone Acknowledging u h = tt
+told_alone (Departing t n) u h = modest_alone (told (Departing t n) u) (told_modest (Departing t n) u refl)
 told_alone Stopping outcome.Stopped h = tt
 told_alone Stopping u h = tt
 
@@ -280,6 +294,11 @@ begins_alone (procedure.FailShare share r) = refl
 begins_alone (procedure.Gather first count) = gathers_alone first count count []
 begins_alone (procedure.Go round ns) = round_alone round ns
 begins_alone (procedure.Close t ns) = refl
+begins_alone (procedure.Subscribe w o) = modest_alone (begins (procedure.Subscribe w o)) (begins_modest (procedure.Subscribe w o) refl)
+begins_alone (procedure.Serve w n) = refl
+begins_alone (procedure.Acknowledge link request) =
+    modest_alone (begins (procedure.Acknowledge link request)) (begins_modest (procedure.Acknowledge link request) refl)
+begins_alone (procedure.Leave t n) = refl
 begins_alone (procedure.Refuse r) = tt
 
 -- none else becomes a plan of batches
@@ -458,6 +477,7 @@ module _ (T P : ℕ → Type 0) where
 
   abbrev WhoSo : Who → Type 0
   WhoSo (Call t) = P t
+  WhoSo (Consumer n t) = Unit {0}
   WhoSo (Producer n) = Unit {0}
 
   abbrev pub NoticeSo : Notice → Type 0

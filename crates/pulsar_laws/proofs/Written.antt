@@ -31,7 +31,7 @@ use Rattle.pulsar_laws.specs.Laws.{IsPrefix, WritesFollow, bytes_of, queued_on, 
 use Rattle.pulsar_tables.specs.Links as links
 use Rattle.pulsar_tables.specs.Links.{close, closed_by, ended, is_own_end, lost, queues, settled_in, settles, write}
 use Rattle.pulsar_client.specs.Run.{Entry, Begins, Then, IsRun, Step, rules, view}
-use Rattle.pulsar_tables.specs.Subscriptions.{Subscription, polled, polled_from}
+use Rattle.pulsar_tables.specs.Consumers.{Member, polled, polled_so}
 use Rattle.pulsar_tables.specs.View.{Chosen, Options, Seat, View, begun_live, dialed, got_at, is_live, link_got, live_begun, seat_asked, seat_fed, seat_got, took, took_end, took_some, turned}
 use Rattle.pulsar_client.proofs.Acts.{Each, each_append, each_map}
 use Rattle.pulsar_laws.proofs.Alone.{Made, alone, is_close, more, no_some, over_stays, some_is}
@@ -39,6 +39,9 @@ use Rattle.pulsar_client.proofs.Orders.{effect_order}
 use Rattle.pulsar_laws.proofs.OfLink.{IsOf, asked_of, given_of}
 use Rattle.pulsar_laws.proofs.Plain.{ArePlain, effects_plain, turned_plain}
 use Rattle.pulsar_laws.proofs.Writing.{Turns, numbered, turns}
+use Rattle.pulsar_consumer.specs.declared.polled.Polled.{Polled}
+use Rattle.pulsar_consumer.specs.declared.polled.Polled.TheVariants as poll
+use Rattle.pulsar_consumer.specs.Topic as reader
 
 abbrev flat : List (List ℕ) → List ℕ
 flat xs = flat_map (λ bytes. bytes) xs
@@ -233,15 +236,15 @@ mute_ended l end now (Some cause) s =
     each_append (IsMute l) (map (lost l end now s) (ends s)) (close l (is_own_end end))
     (mute_settles l (lost l end now s) (ends s) (λ p. (refl, refl))) (mute_close l l (is_own_end end))
 
-mute_polls : (l t : ℕ) (row : Option Subscription) → Mute l (option_to_list (option_map (polled t) row))
+mute_polls : (l t : ℕ) (row : Option Member) → Mute l (option_to_list (option_map (polled t) row))
 mute_polls l t None = tt
-mute_polls l t (Some s) = by s.is_live s.unread
+mute_polls l t (Some m) = by (reader.polled m.seen)
   where
-    by : (b : Bool) (items : List Item) → Mute l (polled_from t s.topic b items ∷ [])
-    by b (Given id metadata payload ∷ items) = ((refl, refl), tt)
-    by b (Faulty fault ∷ items) = ((refl, refl), tt)
-    by true [] = ((refl, refl), tt)
-    by false [] = ((refl, refl), tt)
+    by : (x : Polled) → Mute l (polled_so t m.seen.topic x ∷ [])
+    by (poll.Item (Given id size metadata payload)) = ((refl, refl), tt)
+    by (poll.Item (Faulty fault)) = ((refl, refl), tt)
+    by poll.Empty = ((refl, refl), tt)
+    by poll.End = ((refl, refl), tt)
 
 mute_plain : (l : ℕ) (xs : List Shown) → ArePlain xs → Mute l xs
 mute_plain l [] k = tt
@@ -637,7 +640,8 @@ writes o [] run = λ l. record {
 writes o (Begins e ∷ log) run = begins_on o log e (writes o log run.0)
 writes o (Then (Comes (ToLink m x)) ∷ log) run = to_link_on o log (writes o log run.0) (in_a_step o (Comes (ToLink m x)) log run) m x
 writes o (Then (Comes (Polls t)) ∷ log) run =
-    λ l. mute_on o log (writes o log run.0) (in_a_step o (Comes (Polls t)) log run) l (option_to_list (option_map (polled t) ((view o log).consumers t))) (mute_polls l t ((view o log).consumers t))
+    λ l. mute_on o log (writes o log run.0) (in_a_step o (Comes (Polls t)) log run) l (option_to_list (option_map (polled t) ((view o log).consumers.rows t)))
+    (mute_polls l t ((view o log).consumers.rows t))
 writes o (Then (Does who (Ask m request)) ∷ log) run = asks_on o log (writes o log run.0) (in_a_step o (Does who (Ask m request)) log run) who m request
 writes o (Then (Does who (Get p)) ∷ log) run = gets_on o log (writes o log run.0) (in_a_step o (Does who (Get p)) log run) who p
 writes o (Then (Dials p starter retries) ∷ log) run =

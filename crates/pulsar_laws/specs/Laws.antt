@@ -8,17 +8,18 @@ use Rattle.pulsar_run.specs.Run.{events, steps_done}
 use Rattle.pulsar_wire.specs.declared.error.ConnectionError.{ConnectionError}
 use Rattle.pulsar_frame.specs.Frame.{cut}
 use Rattle.pulsar_frame.specs.Message.{MessageValues}
+use Rattle.pulsar_messages.specs.Words as words
 use Rattle.pulsar_messages.specs.Words.{Words}
 use Rattle.pulsar_requests.specs.Waits.{later_of}
 use Rattle.pulsar_session.specs.declared.states.Asked.{Asked as Placed}
-use Rattle.pulsar_session.specs.Failures.{ProducerClosed, OfProducer, DiscoveryConnection, DiscoveryCanceled, DiscoveryFault, DiscoveryNotFound, DiscoveryShutdown, DnsLookup, Dummy, Exhausted, Failure, Fault, OfConnection, OfDiscovery, OfPartialSend, Query, fault, Disconnected}
+use Rattle.pulsar_session.specs.Failures.{ProducerClosed, OfProducer, ConsumerClosed, OfConsumer, DiscoveryConnection, DiscoveryCanceled, DiscoveryFault, DiscoveryNotFound, DiscoveryShutdown, DnsLookup, Dummy, Exhausted, Failure, Fault, OfConnection, OfDiscovery, OfPartialSend, Query, fault, Disconnected}
 use Rattle.pulsar_session.specs.Laws.{bytes_fed, messages_taken}
 use Rattle.pulsar_session.specs.Link.{Act as Act', Asks, Feeds, Setup, came, due, ends, is_spent}
 use Rattle.pulsar_link.specs.Items.{Item, Given, Faulty}
 use Rattle.pulsar_link.specs.Messages.{Reply, read}
 use Rattle.pulsar_link.specs.Request.{closed_consumer, request_number}
 use Rattle.pulsar_plans.specs.Address.{Place, address_key, is_reachable}
-use Rattle.pulsar_plans.specs.Replies.{in_discovery, query, unexpected, fails_by, is_choice, place_at}
+use Rattle.pulsar_plans.specs.Replies.{in_discovery, query, unexpected, fails_by, is_choice, place_at, count_in}
 use Rattle.pulsar_producer.specs.Errors.{in_producer}
 use Rattle.pulsar_producer.specs.declared.deed.News.{News}
 use Rattle.pulsar_plans.specs.Backoff.{allow_retry}
@@ -28,7 +29,7 @@ use Rattle.pulsar_tables.specs.Alarms.{ringing, rings}
 use Rattle.pulsar_calls.specs.declared.act.Act.{Act}
 use Rattle.pulsar_calls.specs.declared.act.Act.TheVariants.{Comes, Starts, Told, Does, Answers, Dials}
 use Rattle.pulsar_calls.specs.declared.act.Action.{Action}
-use Rattle.pulsar_calls.specs.declared.act.Action.TheVariants.{Get, Ask, TakeTurn, PassTurn, Draw, Recall, Remake, Number, Find, Shut, Store, Flush, TakeBatch, Tell, TellAll, StopAll, Rest}
+use Rattle.pulsar_calls.specs.declared.act.Action.TheVariants.{Get, Ask, TakeTurn, PassTurn, Draw, Recall, Remake, Number, Find, Shut, Store, Flush, TakeBatch, TakeNumber, FindConsumer, TakeFlow, RecallConsumer, Revive, FailConsumer, Tell, TellAll, StopAll, Rest}
 use Rattle.pulsar_calls.specs.declared.act.Alarm.{Alarm}
 use Rattle.pulsar_calls.specs.declared.act.Alarm.TheVariants.{Retry, Wake, Batch, KeepAlive, CheckIdle}
 use Rattle.pulsar_calls.specs.declared.act.Arrival.{Arrival}
@@ -38,6 +39,7 @@ use Rattle.pulsar_calls.specs.declared.act.End.TheVariants.{Overdue, Idles}
 use Rattle.pulsar_calls.specs.declared.act.LinkAct.{LinkAct}
 use Rattle.pulsar_calls.specs.declared.act.LinkAct.TheVariants.{Reads, Drains, Pings, Ends}
 use Rattle.pulsar_calls.specs.declared.act.Makes.{Makes}
+use Rattle.pulsar_calls.specs.declared.act.Makes.TheVariants as makes
 use Rattle.pulsar_calls.specs.declared.act.Share.{Share}
 use Rattle.pulsar_calls.specs.declared.act.Notice.{Notice}
 use Rattle.pulsar_calls.specs.declared.act.Outcome.{Outcome}
@@ -48,13 +50,16 @@ use Rattle.pulsar_calls.specs.declared.act.Refusal.{Refusal}
 use Rattle.pulsar_calls.specs.declared.act.Says.{Says}
 use Rattle.pulsar_calls.specs.declared.act.Verdict.{Verdict}
 use Rattle.pulsar_calls.specs.declared.act.Who.{Who}
-use Rattle.pulsar_calls.specs.declared.act.Who.TheVariants.{Call, Producer}
+use Rattle.pulsar_calls.specs.declared.act.Who.TheVariants.{Call, Consumer, Producer}
+use Rattle.pulsar_calls.specs.declared.act.Word.{Word}
+use Rattle.pulsar_calls.specs.declared.act.Word.TheVariants as word
+use Rattle.pulsar_calls.specs.declared.content.Joining.{Joining}
 use Rattle.pulsar_tables.specs.declared.addresses.Pause.{Pause}
 use Rattle.pulsar_tables.specs.declared.addresses.Series.{Series}
 use Rattle.pulsar_tables.specs.declared.addresses.Series.TheVariants.{Nobody, Runs, Pauses, Serves}
 use Rattle.pulsar_procedures.specs.declared.plan.Plan.{Plan}
 use Rattle.pulsar_procedures.specs.declared.plan.Turn.{Turn}
-use Rattle.pulsar_calls.specs.Content.{Asked, Bytes, Ticked, Poll, Shown, Queued, Write, Hands, Faults, Failed, lacks_tickets, shares}
+use Rattle.pulsar_calls.specs.Content.{Asked, Bytes, Ticked, Said, Shown, Queued, Write, Failed, lacks_tickets, shares}
 use Rattle.pulsar_tables.specs.Effects.{effect_below, is_before3}
 use Rattle.pulsar_tables.specs.Links.{Change, Remains, Becomes, IsOver, arrival, call_of, closed_by, line_places, new_places}
 use Rattle.pulsar_calls.specs.Content.{numbers_from}
@@ -64,9 +69,15 @@ use Rattle.pulsar_producer.specs.Topic as topic
 use Rattle.pulsar_procedures.specs.Plan.{begins, failure_of, fails, fault_of, reply_says, told}
 use Rattle.pulsar_tables.specs.Rules.{below, call_part, dropped, fails_so, is_idle, lost, notice, starts, stopped_with, brings}
 use Rattle.pulsar_client.specs.Run.{Entry, Begins, Then, Good, IsRun, Rests, Step, agenda, rules, steps, tickets_in, view}
-use Rattle.pulsar_tables.specs.Subscriptions.{Subscription, closes_it, is_heard_on, is_last, polled}
-use Rattle.pulsar_tables.specs.View.{Base, Options, Seat, Turned, View, answer_at, arrival_at, builds, closing, is_asked, pause_of, setup, turned, waits_on, room_of}
-use Rattle.pulsar_calls.specs.Who.{in_turn, is_same, rank, turn_of as taken_as}
+use Rattle.pulsar_tables.specs.Consumers as consumer
+use Rattle.pulsar_tables.specs.Consumers.{Member}
+use Rattle.pulsar_tables.specs.declared.consumers.numbers.Numbering.TheVariants.{Has, InUse, Spent}
+use Rattle.pulsar_tables.specs.declared.consumers.row.Sought.TheVariants.{Gone}
+use Rattle.pulsar_consumer.specs.Plans.{in_use, not_found}
+use Rattle.pulsar_consumer.specs.declared.building.Order.{Order}
+use Rattle.pulsar_consumer.specs.Topic as reader
+use Rattle.pulsar_tables.specs.View.{Base, Options, Seat, Turned, View, answer_at, arrival_at, builds, closing, is_asked, member_on, pause_of, setup, setup_of, turned, url_at, waits_on, room_of}
+use Rattle.pulsar_calls.specs.Who.{in_turn, is_same, rank, ticket_of, turn_of as taken_as}
 use Rattle.pulsar_run.specs.Laws as run
 use Rattle.pulsar_session.specs.declared.states.Asked.TheVariants as placed
 use Rattle.pulsar_session.specs.Link as session
@@ -75,6 +86,7 @@ use Rattle.pulsar_calls.specs.declared.act.Outcome.TheVariants as outcome
 use Rattle.pulsar_calls.specs.declared.act.Procedure.TheVariants as procedure
 use Rattle.pulsar_procedures.specs.declared.plan.Turn.TheVariants as turn
 use Rattle.pulsar_tables.specs.Links as links
+use Rattle.pulsar_plans.specs.declared.replies.Heard.TheVariants.{Says as CountIs}
 
 -- THE RUN
 
@@ -278,13 +290,14 @@ abbrev pub IsWoken : Options → Who → Entry → List Entry → Type 0
 IsWoken o who e older = (e ≡ Then (Comes (Rings (Wake who)))) × (rings (view o older).now (Wake who) (view o older).alarms ≡ true)
 
 -- this one stops the client; or it waits for a moment or for an attempt that is to follow, for its turn at a topic producer, or for a batch
--- that is not under way, while another does
+-- that is not under way, or for the link of a consumer, while another does
 abbrev pub IsStopped : Options → Who → Entry → List Entry → Type 0
 IsStopped o who e older =
     (stopper : Who) × (e ≡ Then (Does stopper StopAll))
     × ((who ≡ stopper) ⊎ In (notice who outcome.Stopped) (flat_map (λ a. stopped_with (view o older).addresses a.0) (view o older).alarms)
     ⊎ ((number : ℕ) × In who (waiting_at number ((view o older).producers.topics number)))
-    ⊎ ((number ticket : ℕ) × (who ≡ Call ticket) × In ticket (unsent_at ((view o older).producers.topics number))))
+    ⊎ ((number ticket : ℕ) × (who ≡ Call ticket) × In ticket (unsent_at ((view o older).producers.topics number)))
+    ⊎ ((ticket : ℕ) × In who (consumer.seekers_at ((view o older).consumers.rows ticket))))
 
 -- its plan does this, and what is seen there is so
 abbrev pub Acts : Options → Who → (Action → View → Type 0) → Entry → List Entry → Type 0
@@ -308,24 +321,92 @@ GrantsSo news.Done (Tell n) v = Unit {0}
 GrantsSo news.Done (TellAll ns) v = Unit {0}
 GrantsSo _ _ v = ⊥
 
--- the link of a topic producer is not ready, or its numbers are spent, or those of new producers are
+-- the link of a topic producer is not ready, or its numbers are spent, or those of new producers or of new consumers are
 abbrev pub DrawsNone : Fault → Action → View → Type 0
 DrawsNone Disconnected (Draw n) v = room_of v n ≡ None
 DrawsNone Exhausted (Draw n) v = (room : Bool) × (room_of v n ≡ Some room) × (drawn room (v.producers.topics n) ≡ None)
 DrawsNone Exhausted Number v = number_drawn v.producers ≡ None
+DrawsNone Exhausted (TakeNumber wanted) v = consumer.numbering v.consumers wanted ≡ Spent
 DrawsNone _ _ v = ⊥
 
--- it asks for the link of a topic producer, which is this
+-- it asks for the link of a topic producer, or of a consumer, which is this
 abbrev pub Finds : (link : ℕ) → Action → View → Type 0
 Finds link (Find n) v = link_at (v.producers.topics n) ≡ Some link
+Finds link (FindConsumer t) v = consumer.link_at (v.consumers.rows t) ≡ Some link
 Finds link _ v = ⊥
 
--- it asks of a topic producer that is not known
-abbrev pub IsUnknown : Action → View → Type 0
-IsUnknown (TakeTurn n) v = v.producers.topics n ≡ None
-IsUnknown (Recall n) v = recalled v.producers n ≡ None
-IsUnknown (Find n) v = v.producers.topics n ≡ None
-IsUnknown _ v = ⊥
+-- it asks of a topic producer that is not known, or of its own consumer, where that is not
+abbrev pub IsUnknown : Who → Action → View → Type 0
+IsUnknown who (TakeTurn n) v = v.producers.topics n ≡ None
+IsUnknown who (Recall n) v = recalled v.producers n ≡ None
+IsUnknown who (Find n) v = v.producers.topics n ≡ None
+IsUnknown who RecallConsumer v = v.consumers.rows (ticket_of who) ≡ None
+IsUnknown who _ v = ⊥
+
+-- What it asks of consumers is said at once: the number that it has for a new one, or that this is in use; that the consumer whose link it wants has
+-- ended; and of its own consumer the flow that is due next, or that none is; the command by which it is subscribed again; and whether it
+-- lives then, or has ended.
+abbrev pub SaysSo : Who → Word → Action → View → Type 0
+SaysSo who (word.Numbered n) (TakeNumber wanted) v = consumer.numbering v.consumers wanted ≡ Has n
+SaysSo who word.InUse (TakeNumber wanted) v = consumer.numbering v.consumers wanted ≡ InUse
+SaysSo who word.Closed (FindConsumer t) v = consumer.sought (v.consumers.rows t) ≡ Gone
+SaysSo who (word.Flow link permits) TakeFlow v = consumer.flow_at (v.consumers.rows (ticket_of who)) ≡ Some (link, permits)
+SaysSo who word.NoFlow TakeFlow v = consumer.flow_at (v.consumers.rows (ticket_of who)) ≡ None
+SaysSo who (word.Recalled c) RecallConsumer v = consumer.recalled (v.consumers.rows (ticket_of who)) ≡ Some c
+SaysSo who word.Lives (Revive l) v = consumer.is_ended_at (v.consumers.rows (ticket_of who)) ≡ false
+SaysSo who word.Over (Revive l) v = consumer.is_ended_at (v.consumers.rows (ticket_of who)) ≡ true
+SaysSo who word.Over (FailConsumer f) v = Unit {0}
+SaysSo who _ _ v = ⊥
+
+-- this one is the plan of a consumer
+abbrev pub IsServedAs : View → Who → (ticket : ℕ) → Member → Type 0
+IsServedAs v who t m = (v.consumers.rows t ≡ Some m) × (who ≡ consumer.who_of t m)
+
+-- its consumer hears a frame that says so, loses its subscription with the link, or is closed where that is asked for
+abbrev pub HearsSo : Options → Who → Word → Entry → List Entry → Type 0
+HearsSo o who w e older =
+    (l t : ℕ) × (m : Member) × (e ≡ Then (Comes (ToLink l Reads))) × IsServedAs (view o older) who t m
+    × (consumer.word_of l (arrival_at ((view o older).links.live l)) m ≡ Some w)
+
+abbrev pub LosesSo : Options → Who → Word → Entry → List Entry → Type 0
+LosesSo o who w e older =
+    (l t : ℕ) × (end : End) × (m : Member) × (e ≡ Then (Comes (ToLink l (Ends end)))) × IsServedAs (view o older) who t m
+    × (consumer.word_of_loss l (closing end (view o older).now ((view o older).links.live l)) m ≡ Some w)
+
+abbrev pub ClosesSo : Options → Who → Word → Entry → List Entry → Type 0
+ClosesSo o who w e older =
+    (l t : ℕ) × (other : Who) × (request : Words) × (m : Member) × (e ≡ Then (Does other (Ask l request))) × IsServedAs (view o older) who t m
+    × (consumer.word_of_close (closed_consumer request) l (is_asked (answer_at (view o older).now request ((view o older).links.live l))) m ≡ Some w)
+
+-- its consumer is polled, or was subscribed again, and a flow of it is due then; or it was built, and its first is
+abbrev pub PolledDue : Options → Who → Entry → List Entry → Type 0
+PolledDue o who e older =
+    (t : ℕ) × (m : Member) × (e ≡ Then (Comes (Polls t))) × IsServedAs (view o older) who t m
+    × (reader.is_due (reader.after (reader.Polls (view o older).now) m.seen) ≡ true)
+
+abbrev pub RevivedDue : Options → Who → Entry → List Entry → Type 0
+RevivedDue o who e older =
+    (l : ℕ) × (other : Who) × (m : Member) × (e ≡ Then (Does other (Revive l))) × IsServedAs (view o older) who (ticket_of other) m
+    × (reader.is_due (consumer.revived l (url_at ((view o older).links.live l)) m).seen ≡ true)
+
+abbrev pub BuiltDue : Options → Who → Entry → List Entry → Type 0
+BuiltDue o who e older =
+    (other : Who) × (j : Joining) × (said : Said) × (e ≡ Then (Answers other (record { makes = makes.Consumer j; said = said })))
+    × (who ≡ Consumer j.number (ticket_of other)) × (reader.is_due (member_on (view o older).links.live j.link (setup_of j)).seen ≡ true)
+
+-- it waits for the link of a consumer, that was subscribed again, or could not be
+abbrev pub SeeksAgain : Options → Who → Entry → List Entry → Type 0
+SeeksAgain o who e older =
+    (other : Who) × In who (consumer.seekers_at ((view o older).consumers.rows (ticket_of other)))
+    × (((l : ℕ) × (e ≡ Then (Does other (Revive l)))) ⊎ ((f : Failure) × (e ≡ Then (Does other (FailConsumer f)))))
+
+-- what one is told of a consumer: it is said at once, or its consumer hears, loses or leaves so; a flow is due; or it is to look once more
+abbrev pub WordComes : Options → Who → Word → Entry → List Entry → Type 0
+WordComes o who w e older =
+    Acts o who (SaysSo who w) e older
+    ⊎ (HearsSo o who w e older ⊎ (LosesSo o who w e older ⊎ (ClosesSo o who w e older
+    ⊎ (((w ≡ word.Due) × (PolledDue o who e older ⊎ (RevivedDue o who e older ⊎ BuiltDue o who e older)))
+    ⊎ ((w ≡ word.Again) × SeeksAgain o who e older)))))
 
 -- another passes the turn of a topic producer on to it, with this version of the schema
 abbrev pub GetsTurn : Options → Who → News → Entry → List Entry → Type 0
@@ -359,13 +440,15 @@ IsDropped o who u e older =
     × In number (numbers_at ((view o older).producers.built producer)) × In ticket (stored_at ((view o older).producers.topics number))
     × (u ≡ outcome.Settled (Err (OfProducer ProducerClosed)))
 
--- GotLink: it got a link of an address, which serves, or that became ready while it waited; or it found that of a topic producer. NotFound:
+-- GotLink: it got a link of an address, which serves, or that became ready while it waited; or it found that of a topic producer, or of a
+-- consumer. NotFound:
 -- the address cannot be reached. Failed, Canceled: the last attempt that it waited for ended, of a series that it or another started. Queued:
 -- it asked, and its frame was queued at once or moved up. InLine, Refused: it asked, and the link said so; Refused also: it drew a number, and
 -- there was none. Replied: its request was answered. Woken: its moment came. TimedOut, Disconnected, Cut, Stopped: its request, its frame in the
 -- line or the attempt that it waited for ended so; Disconnected also: there is no such topic producer; Stopped also: the client was stopped, or a
 -- part of it, or its batch, says so. Granted: it asked for a turn, for a number or the like, or its turn came; a batch was cut, or its flush is
--- settled. Parted: a part of it says so. Settled: its batch says so, or its producer is closed.
+-- settled. Parted: a part of it says so. Settled: its batch says so, or its producer is closed. Word: it asked of consumers, and this is said at
+-- once; or it happened to its own consumer, or to the one whose link it waits for.
 abbrev pub Cause : Options → Who → Outcome → Entry → List Entry → Type 0
 Cause o who (outcome.GotLink link) e older =
     Gets o who (λ p v. (is_reachable p ≡ true) × ((base_of v p).series ≡ Serves link)) e older
@@ -375,6 +458,7 @@ Cause o who (outcome.Granted n) e older =
     ⊎ (GetsTurn o who n e older ⊎ (IsReady o who n e older ⊎ IsToldBy who (outcome.Granted n) e older))
 Cause o who (outcome.Settled f) e older = IsToldBy who (outcome.Settled f) e older ⊎ IsDropped o who (outcome.Settled f) e older
 Cause o who (outcome.Parted ticket f) e older = IsToldBy who (outcome.Parted ticket f) e older
+Cause o who (outcome.Word w) e older = WordComes o who w e older
 Cause o who outcome.NotFound e older = Gets o who (λ p v. is_reachable p ≡ false) e older
 Cause o who (outcome.Failed kind) e older = AttemptEnds o who (outcome.Failed kind) e older
 Cause o who outcome.Canceled e older = AttemptEnds o who outcome.Canceled e older
@@ -385,7 +469,7 @@ Cause o who (outcome.Refused cause) e older =
 Cause o who (outcome.Replied r) e older = IsReplied o who r e older
 Cause o who outcome.TimedOut e older = RequestEnds o who outcome.TimedOut e older
 Cause o who outcome.Disconnected e older =
-    RequestEnds o who outcome.Disconnected e older ⊎ (LineEnds o who outcome.Disconnected e older ⊎ Acts o who IsUnknown e older)
+    RequestEnds o who outcome.Disconnected e older ⊎ (LineEnds o who outcome.Disconnected e older ⊎ Acts o who (IsUnknown who) e older)
 Cause o who outcome.Woken e older = IsWoken o who e older
 Cause o who outcome.Cut e older = RequestEnds o who outcome.Cut e older
 Cause o who outcome.Stopped e older =
@@ -411,6 +495,10 @@ number_in (procedure.FailShare share r) = None
 number_in (procedure.Gather first count) = None
 number_in (procedure.Go round numbers) = None
 number_in (procedure.Close ticket numbers) = None
+number_in (procedure.Subscribe ways order) = None
+number_in (procedure.Serve ways number) = None
+number_in (procedure.Acknowledge link request) = None
+number_in (procedure.Leave consumer number) = Some (request_number (words.CloseConsumer number))
 number_in (procedure.Refuse r) = None
 
 -- A reply tells that the search failed, or nothing of how it went, and after so many retries it is not to be asked again.
@@ -451,6 +539,10 @@ ways_in (procedure.FailShare share r) = None
 ways_in (procedure.Gather first count) = None
 ways_in (procedure.Go round numbers) = None
 ways_in (procedure.Close ticket numbers) = None
+ways_in (procedure.Subscribe ways order) = Some ways
+ways_in (procedure.Serve ways number) = Some ways
+ways_in (procedure.Acknowledge link request) = None
+ways_in (procedure.Leave consumer number) = None
 ways_in (procedure.Refuse r) = None
 
 -- it fails as a producer
@@ -467,6 +559,10 @@ fails_in_producer (procedure.FailShare share r) = false
 fails_in_producer (procedure.Gather first count) = false
 fails_in_producer (procedure.Go round numbers) = false
 fails_in_producer (procedure.Close ticket numbers) = true
+fails_in_producer (procedure.Subscribe ways order) = false
+fails_in_producer (procedure.Serve ways number) = false
+fails_in_producer (procedure.Acknowledge link request) = false
+fails_in_producer (procedure.Leave consumer number) = false
 fails_in_producer (procedure.Refuse r) = false
 
 -- a part of it failed before it was queued
@@ -475,8 +571,9 @@ has_failed (outcome.Parted ticket f) = is_some f
 has_failed _ = false
 
 -- a call fails where it is refused, and else with the fault of an outcome that it was told, or of a reply to its request; a search with
--- these as faults of its own, and a send and a close as a producer; one with parts where some of them failed; and a message that is stored
--- with what it is told
+-- these as faults of its own, and a send and a close as a producer; one with parts where some of them failed; a message that is stored
+-- with what it is told; a consumer that is built where its number is in use, and where its topic has several partitions; and the close of one
+-- that has ended
 pub data FailsSo (p : Procedure) (os : List Outcome) (f : Failure) : Type 0 where
   IsRefused : (r : Refusal) → p ≡ procedure.Refuse r → f ≡ failure_of r → FailsSo p os f
   IsRefusedShare : (s : Share) (r : Refusal) → p ≡ procedure.FailShare s r → f ≡ failure_of r → FailsSo p os f
@@ -491,6 +588,10 @@ pub data FailsSo (p : Procedure) (os : List Outcome) (f : Failure) : Type 0 wher
   IsSettled : In (outcome.Settled (Err f)) os → FailsSo p os f
   IsPartial : (first count : ℕ) (failures : List (ℕ × Failure)) → p ≡ procedure.Gather first count → list_any has_failed os ≡ true →
       f ≡ OfPartialSend (outcomes_of failures (numbers_from first count)) → FailsSo p os f
+  IsInUse : (w : Ways) (order : Order) → p ≡ procedure.Subscribe w order → In (outcome.Word word.InUse) os → f ≡ in_use → FailsSo p os f
+  IsOfSeveral : (w : Ways) (order : Order) (r : Reply) (retries count : ℕ) → p ≡ procedure.Subscribe w order → In (outcome.Replied r) os →
+      count_in w retries r.content ≡ CountIs count → 2 ≤ count → f ≡ not_found → FailsSo p os f
+  IsClosed : (t n : ℕ) → p ≡ procedure.Leave t n → In (outcome.Word word.Closed) os → f ≡ OfConsumer ConsumerClosed → FailsSo p os f
   IsAnswered : (r : Reply) (number : ℕ) (s : Says) → In (outcome.Replied r) os → number_in p ≡ Some number → Failed f ≡ reply_says s number r → FailsSo p os f
 
 abbrev pub FailuresAreTold : Type 0
@@ -705,84 +806,6 @@ bytes_of f (s ∷ h) = bytes_of f h ++ flat_map f s.effects
 -- the bytes that a good history writes to a connection are the first of those that it queued there, in order
 abbrev pub WritesFollow : Type 0
 WritesFollow = (o : Options) (h : List Step) (l : ℕ) → Good o h → IsPrefix (bytes_of (written_on l) h) (bytes_of (queued_on l) h)
-
--- CONSUMERS
-
--- A consumer ends at an entry: by a frame of its link for it that ends its topic or is the close of the broker; where its own close is
--- asked for; with its link.
-abbrev pub last_arrival : Arrival → (number : ℕ) → Bool
-last_arrival Nothing number = false
-last_arrival Readied number = false
-last_arrival Settles number = false
-last_arrival (Gives consumer reply) number = (consumer == number) && is_last reply
-last_arrival Passes number = false
-last_arrival (Bad cause) number = false
-
-abbrev pub ends_at : Options → Subscription → Entry → List Entry → Bool
-ends_at o s (Then (Comes (ToLink l Reads))) older = (s.link == l) && last_arrival (arrival_at ((view o older).links.live l)) s.number
-ends_at o s (Then (Comes (ToLink l (Ends end)))) older = (s.link == l) && is_some (closing end (view o older).now ((view o older).links.live l))
-ends_at o s (Then (Does who (Ask l request))) older =
-    (s.link == l) && (is_asked (answer_at (view o older).now request ((view o older).links.live l)) && closes_it (closed_consumer request) s.number)
-ends_at o s _ older = false
-
-abbrev pub has_end : Options → Subscription → (later older : List Entry) → Bool
-has_end o s [] older = false
-has_end o s (e ∷ later) older = has_end o s later older || ends_at o s e (later ++ older)
-
--- this consumer, whether it hears or not, and whatever it has not given yet
-abbrev pub Continues : Subscription → (is_live : Bool) → Option Subscription → Type 0
-Continues s is_live later =
-    (unread : List Item) × (later ≡ Some (record { link = s.link; number = s.number; topic = s.topic; is_live = is_live; unread = unread }))
-
--- a consumer remains what it is, and hears up to the first of its ends, and never again
-abbrev pub ConsumersHearToTheirEnd : Type 0
-ConsumersHearToTheirEnd = (o : Options) (later older : List Entry) (t : ℕ) (s : Subscription) →
-    IsRun o (later ++ older) → (view o older).consumers t ≡ Some s →
-    Continues s (s.is_live && not (has_end o s later older)) ((view o (later ++ older)).consumers t)
-
--- what comes to a link brings to a consumer: the items of a frame for it on its link while it hears
-abbrev pub brought_by : Arrival → (number : ℕ) → List Item
-brought_by Nothing number = []
-brought_by Readied number = []
-brought_by Settles number = []
-brought_by (Gives consumer reply) number = if consumer == number then reply.items else []
-brought_by Passes number = []
-brought_by (Bad cause) number = []
-
-abbrev pub brought : ℕ → Arrival → Option Subscription → List Item
-brought l a None = []
-brought l a (Some s) = if is_heard_on l s then brought_by a s.number else []
-
--- the items that have come to the consumer of a ticket, in order
-abbrev pub items_come : Options → ℕ → List Entry → List Item
-items_come o t [] = []
-items_come o t (Then (Comes (ToLink l Reads)) ∷ log) =
-    items_come o t log ++ brought l (arrival_at ((view o log).links.live l)) ((view o log).consumers t)
-items_come o t (_ ∷ log) = items_come o t log
-
--- the item that an effect gives to a poll of a ticket
-abbrev pub given_by : ℕ → Shown → List Item
-given_by t (Hands ticket topic id metadata payload) = if t == ticket then Given id metadata payload ∷ [] else []
-given_by t (Faults ticket fault) = if t == ticket then Faulty fault ∷ [] else []
-given_by t _ = []
-
--- those that the effects of a history give, in order
-abbrev pub items_given : ℕ → List Step → List Item
-items_given t [] = []
-items_given t (s ∷ h) = items_given t h ++ flat_map (given_by t) s.effects
-
--- The polls of a consumer give the items that have come to it, in order, each once and without gap: behind what they gave
--- stands what it has not given yet.
-abbrev pub PollsFollow : Type 0
-PollsFollow = (o : Options) (log : List Entry) (t : ℕ) (s : Subscription) →
-    IsRun o log → (view o log).consumers t ≡ Some s → items_given t (steps o log) ++ s.unread ≡ items_come o t log
-
--- A consumer is polled where the user asks for it. The one effect of that step is its first item, and where it has none the
--- end, once it hears no more, and else that there is nothing yet.
-abbrev pub PollsAreAnswered : Type 0
-PollsAreAnswered = (o : Options) (log : List Entry) (t : ℕ) → IsRun o (Then (Comes (Polls t)) ∷ log) →
-    (older : List Entry) × (s : Subscription) × (log ≡ Begins (Poll t) ∷ older) × ((view o older).consumers t ≡ Some s)
-    × (steps o (Then (Comes (Polls t)) ∷ log) ≡ record { event = Poll t; effects = polled t s ∷ [] } ∷ steps o older)
 
 -- TICKETS
 

@@ -151,7 +151,7 @@ consumer_is_polled =
     builds ++ (step_of (Called (Raw 0 subscribes)) (Queued 0 1 (frame_of 0 subscribes) ∷ [])
     ∷ step_of (Bytes 0 success) (Settles 0 1 settlement.Reply ∷ Ends 1 (Replies (record { number = 13; bytes = 8 ∷ 0 ∷ [] } ∷ [])) ∷ [])
     ∷ step_of (Bytes 0 message_frame) []
-    ∷ step_of (Poll 1) (Hands 1 (codes "t") (8 ∷ 1 ∷ 16 ∷ 2 ∷ []) metadata (codes "hello-pulsar-8") ∷ [])
+    ∷ step_of (Poll 1) (Hands 1 (codes "t") (8 ∷ 1 ∷ 16 ∷ 2 ∷ []) None metadata (codes "hello-pulsar-8") ∷ [])
     ∷ step_of (Poll 1) (FindsNothing 1 ∷ [])
     ∷ [])
 

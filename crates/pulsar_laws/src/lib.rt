@@ -2,5 +2,6 @@
 #![tactic(auto)]
 
 pub mod batches;
+pub mod consumers;
 pub mod producers;
 pub mod runs;

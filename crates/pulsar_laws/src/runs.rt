@@ -2,7 +2,7 @@
 
 ghost use Rattle.pulsar_tables.specs.Address.{KnownAddresses};
 ghost use Rattle.pulsar_client.specs.Client.{StandsFor};
-ghost use Rattle.pulsar_laws.specs.Laws.{AlarmsAreTicked, AllIsDone, AnswersOnce, AttemptsFollow, BuiltIs, CallsAreMade, CausesInOrder, ClockIs, ConsumersHearToTheirEnd, DeadlinesAreTicked, DeedsFollow, Determined, EffectsArranged, EndsOnce, FailuresAreTold, FramesAreCut, IdleEnds, LinksAlone, NoneAfterStop, OneLinkEach, OutcomesAreCaused, PlansFollow, PollsAreAnswered, PollsFollow, SeriesIsNewest, ServedByTicket, SignsOfLife, StoppedIs, TicketsCount, TicksInOrder, WritesFollow};
+ghost use Rattle.pulsar_laws.specs.Laws.{AlarmsAreTicked, AllIsDone, AnswersOnce, AttemptsFollow, BuiltIs, CallsAreMade, CausesInOrder, ClockIs, DeadlinesAreTicked, DeedsFollow, Determined, EffectsArranged, EndsOnce, FailuresAreTold, FramesAreCut, IdleEnds, LinksAlone, NoneAfterStop, OneLinkEach, OutcomesAreCaused, PlansFollow, SeriesIsNewest, ServedByTicket, SignsOfLife, StoppedIs, TicketsCount, TicksInOrder, WritesFollow};
 ghost use Rattle.pulsar_laws.specs.Traces.{IsGood, LocalIsKnown, attempt_fails, attempt_is_retried, batch_is_sent, client_is_stopped, consumer_is_polled, deadline_comes, line_moves_up, lookup_is_redirected, message_is_sent, reply_comes_early, request_is_answered};
 ghost use Rattle.pulsar_client.specs.Run.{Good, Step};
 ghost use Rattle.pulsar_tables.specs.View.{Options};
@@ -156,22 +156,6 @@ pub fn frames_are_cut()
 /// The bytes that are written to a connection are the first of those that were queued there, in order.
 pub fn writes_follow()
     ensures { WritesFollow }
-{}
-
-/// A consumer remains what it is, and hears up to the first of its ends, and never again.
-pub fn consumers_hear_to_their_end()
-    ensures { ConsumersHearToTheirEnd }
-{}
-
-/// The polls of a consumer give the items that have come to it, in order, each once and without gap.
-pub fn polls_follow()
-    ensures { PollsFollow }
-{}
-
-/// A consumer is polled where the user asks for it, and gives its first item, the end where it hears no more, and else
-/// nothing.
-pub fn polls_are_answered()
-    ensures { PollsAreAnswered }
 {}
 
 /// Some texts have known addresses.

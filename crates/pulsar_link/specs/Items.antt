@@ -1,5 +1,6 @@
--- What a message of the broker gives to a consumer.  (Pulsar binary protocol, Consumer: Message; Batch messages)
-use Rattle.std.specs.Prelude.{ℕ, zero, ℤ, pos, Bool, true, false, List, [], ◌∷◌, map, Option, Some, None, ◌==◌, if◌then◌else◌}
+-- What a message of the broker gives to a consumer, and what it costs.  (Pulsar binary protocol, Consumer: Message; Flow control; Batch
+-- messages)
+use Rattle.std.specs.Prelude.{ℕ, zero, ℤ, pos, negsuc, Bool, true, false, List, [], ◌∷◌, map, Option, Some, None, ◌==◌, if◌then◌else◌}
 use Rattle.pulsar_wire.specs.Field.{◌>>=◌}
 use Rattle.pulsar_wire.specs.Row.{Required, Optional, Int32, Row, End, Plain, Embedded, Numbers, Values, spelling, ◌&◌}
 use Rattle.pulsar_wire.specs.Rows.{message_id, message_metadata}
@@ -13,9 +14,10 @@ use Rattle.pulsar_frame.specs.Message.{MessageValues}
 use Rattle.pulsar_frame.specs.Payload.{PayloadValues}
 use Rattle.pulsar_session.specs.Failures.{Failure, OfConnection, OfConsumer, ConsumerIo, Decoding}
 
--- what a consumer is given: a message, with its id and its metadata as they are written, or why there is none
+-- what a consumer is given: a message, with its id and its metadata as they are written and with the number of entries of its batch, or
+-- why there is none
 pub data Item : Type 0 where
-  Given : (id metadata payload : List ℕ) → Item
+  Given : (id : List ℕ) (batch_size : Option ℤ) (metadata payload : List ℕ) → Item
   Faulty : Failure → Item
 
 -- THE ID OF A MESSAGE
@@ -63,7 +65,7 @@ id_of_body b = inner_at 2 b.row b.values >>= id_in
 
 -- a message by itself
 abbrev pub given : batch.Item → Item
-given x = Given (spelling message_id x.0) (spelling message_metadata x.1.metadata) x.1.bytes
+given x = Given (spelling message_id x.0) (num_messages_in_batch x.1.metadata) (spelling message_metadata x.1.metadata) x.1.bytes
 
 -- a compression other than none, which is 0
 abbrev pub is_compressed : Option ℤ → Bool
@@ -99,3 +101,23 @@ items_with p (Some b) = if b.number == 9 then items_behind (id_of_body b) p else
 
 abbrev pub items_in : MessageValues → List Item
 items_in m = items_with m.payload m.command.body
+
+-- PERMITS
+
+-- a message costs as many permits as its batch has entries, none where that number is negative, and one where it is no batch
+abbrev pub weight_of : (count : Option ℤ) → ℕ
+weight_of None = 1
+weight_of (Some (pos n)) = n
+weight_of (Some (negsuc n)) = 0
+
+abbrev pub weight_behind : Option PayloadValues → ℕ
+weight_behind None = 1
+weight_behind (Some p) = weight_of (num_messages_in_batch p.metadata)
+
+-- a message command alone costs permits
+abbrev pub weight_with : Option PayloadValues → Option BodyValues → ℕ
+weight_with p None = 0
+weight_with p (Some b) = if b.number == 9 then weight_behind p else 0
+
+abbrev pub weight_in : MessageValues → ℕ
+weight_in m = weight_with m.payload m.command.body

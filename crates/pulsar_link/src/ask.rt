@@ -6,7 +6,7 @@ ghost use Rattle.pulsar_session.specs.Kept.{OnAnswer};
 ghost use Rattle.pulsar_session.specs.Link.{Asks, after, asked};
 ghost use Rattle.pulsar_link.specs.RawCall.{words_of};
 
-use crate::content::Request;
+use crate::content::{Kind, Request};
 use crate::raw_call::RawCall;
 use pulsar_session::{Asked, Connection};
 use pulsar_wire::error::ConnectionError;
@@ -21,6 +21,17 @@ pub fn ask(
     ensures seen { OnAnswer result (connection.new ≡ after (Asks now request) connection.old) }
 {
     match request.into_inner() {
+        Kind::Call(call) => ask_call(connection, now, Box::into_inner(call)),
+        Kind::Closing(consumer) => connection.send_close_consumer(now, consumer),
+    }
+}
+
+/// Asks for what a user wants.
+fn ask_call(connection: &mut Connection, now: u64, call: RawCall) -> Result<Asked, ConnectionError>
+    ensures answer { OnAnswer result (result ≡ asked now (words_of call) connection.old) }
+    ensures seen { OnAnswer result (connection.new ≡ after (Asks now (words_of call)) connection.old) }
+{
+    match call {
         RawCall::Send {
             producer_id,
             name,

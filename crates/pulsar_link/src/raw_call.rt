@@ -4,10 +4,9 @@ ghost use Rattle.std.specs.Prelude.{◌≡◌, IfOk, string_bytes};
 ghost use Rattle.std.specs.Option.{option_map};
 ghost use Rattle.pulsar_messages.specs.Content.{consumer_options_values, producer_message_values, producer_options_values};
 ghost use Rattle.pulsar_messages.specs.Words.{CreateProducer, Send, Subscribe};
-ghost use Rattle.pulsar_link.specs.RawCall.{words_of};
-ghost use Rattle.pulsar_link.specs.Request.{closed_consumer, named_producer, request_number, subscribed};
+ghost use Rattle.pulsar_link.specs.RawCall.{subscribed_by, words_of};
+ghost use Rattle.pulsar_link.specs.Request.{closed_consumer, is_awaited, named_consumer, named_producer, request_number, subscribed};
 
-use crate::content::{Subscribed, Text};
 use pulsar_session::{Authentication, ConsumerOptions, ProducerMessage, ProducerOptions};
 use pulsar_wire::bodies;
 use pulsar_wire::commands::enumerations::SubType;
@@ -110,6 +109,18 @@ pub enum RawCall {
         topic: String,
         version: Option<Vec<u8>>,
     },
+}
+
+/// A consumer that a call makes, with all that is said of it.
+#[derive(Drop)]
+pub struct Subscription {
+    pub topic: String,
+    pub subscription: String,
+    pub sub_type: SubType,
+    /// Its number.
+    pub consumer: u64,
+    pub name: Option<String>,
+    pub options: ConsumerOptions,
 }
 
 impl RawCall {
@@ -234,6 +245,32 @@ impl RawCall {
         }
     }
 
+    /// Its answer is waited for.
+    pub fn is_awaited(&self) -> bool
+        ensures { result ≡ is_awaited (words_of self.now) }
+    {
+        match self {
+            RawCall::SendFlow { .. }
+            | RawCall::SendAck { .. }
+            | RawCall::SendRedeliver { .. }
+            | RawCall::AuthChallenge { .. } => false,
+            RawCall::Send { .. }
+            | RawCall::SendPing
+            | RawCall::LookupTopic { .. }
+            | RawCall::LookupPartitionedTopic { .. }
+            | RawCall::GetConsumerStats { .. }
+            | RawCall::GetLastMessageId { .. }
+            | RawCall::CreateProducer { .. }
+            | RawCall::GetTopicsOfNamespace { .. }
+            | RawCall::CloseProducer { .. }
+            | RawCall::Subscribe { .. }
+            | RawCall::CloseConsumer { .. }
+            | RawCall::Seek { .. }
+            | RawCall::Unsubscribe { .. }
+            | RawCall::GetSchema { .. } => true,
+        }
+    }
+
     /// The number of the consumer that is closed, where one is.
     pub fn closed_consumer(&self) -> Option<u64>
         ensures { result ≡ closed_consumer (words_of self.now) }
@@ -270,19 +307,52 @@ impl RawCall {
         }
     }
 
+    /// The number of the consumer that it names, where it names one.
+    pub fn named_consumer(&self) -> Option<u64>
+        ensures { result ≡ named_consumer (words_of self.now) }
+    {
+        match self {
+            RawCall::Subscribe { consumer_id, .. }
+            | RawCall::SendFlow { consumer_id, .. }
+            | RawCall::SendAck { consumer_id, .. }
+            | RawCall::SendRedeliver { consumer_id, .. }
+            | RawCall::Seek { consumer_id, .. }
+            | RawCall::GetLastMessageId { consumer_id }
+            | RawCall::GetConsumerStats { consumer_id }
+            | RawCall::Unsubscribe { consumer_id }
+            | RawCall::CloseConsumer { consumer_id } => Some(*consumer_id),
+            RawCall::Send { .. }
+            | RawCall::SendPing
+            | RawCall::LookupTopic { .. }
+            | RawCall::LookupPartitionedTopic { .. }
+            | RawCall::CreateProducer { .. }
+            | RawCall::GetTopicsOfNamespace { .. }
+            | RawCall::CloseProducer { .. }
+            | RawCall::AuthChallenge { .. }
+            | RawCall::GetSchema { .. } => None,
+        }
+    }
+
     /// The consumer that its success makes, where it makes one.
-    pub fn subscribed(&self) -> Result<Option<Subscribed>, NoMemory>
-        ensures { IfOk result (λ s. s ≡ subscribed (words_of self.now)) }
+    pub fn subscribed(&self) -> Result<Option<Subscription>, NoMemory>
+        ensures { IfOk result (λ s. option_map subscribed_by s ≡ subscribed (words_of self.now)) }
     {
         match self {
             RawCall::Subscribe {
                 topic,
+                subscription,
+                sub_type,
                 consumer_id,
-                ..
-            } => Ok(Some(Subscribed {
-                consumer: *consumer_id,
-                topic: Text::new(topic.clone()?),
-            })),
+                name,
+                options,
+            } => Ok(Some(subscription_of(
+                topic,
+                subscription,
+                *sub_type,
+                *consumer_id,
+                name,
+                options,
+            )?)),
             _ => Ok(None),
         }
     }
@@ -337,6 +407,26 @@ fn copy_subscribe(
         subscription: subscription.clone()?,
         sub_type,
         consumer_id,
+        name: copy_optional(name)?,
+        options: options.copy()?,
+    })
+}
+
+fn subscription_of(
+    topic: &String,
+    subscription: &String,
+    sub_type: SubType,
+    consumer: u64,
+    name: &Option<String>,
+    options: &ConsumerOptions,
+) -> Result<Subscription, NoMemory>
+    ensures { IfOk result (λ s. subscribed_by s ≡ record { topic = string_bytes topic.now; subscription = string_bytes subscription.now; sub_type = sub_type; consumer = consumer; name = option_map string_bytes name.now; options = consumer_options_values options.now }) }
+{
+    Ok(Subscription {
+        topic: topic.clone()?,
+        subscription: subscription.clone()?,
+        sub_type,
+        consumer,
         name: copy_optional(name)?,
         options: options.copy()?,
     })

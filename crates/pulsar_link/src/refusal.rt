@@ -14,7 +14,7 @@ use std::alloc::Global;
 
 /// Why a body fails a request that expects another: it is an error that the broker tells, or it is not what was asked for.
 pub fn refused(alloc: Global, body: &Body) -> Result<ConnectionError, NoMemory>
-    ensures { IfOk result (λ e. fault e ≡ refused (read_body None [] (Some (body_values body.now))) (Some (written (body_values body.now)))) }
+    ensures { IfOk result (λ e. fault e ≡ refused (read_body None [] 0 (Some (body_values body.now))) (Some (written (body_values body.now)))) }
 {
     match body {
         Body::Error(error) => told_error(error),
@@ -25,7 +25,7 @@ pub fn refused(alloc: Global, body: &Body) -> Result<ConnectionError, NoMemory>
 /// The error that the broker tells.
 #[tactic(auto, unfolding(pulsar_wire::specs::Views::error_values))]
 fn told_error(body: &CommandError) -> Result<ConnectionError, NoMemory>
-    ensures { IfOk result (λ e. fault e ≡ refused (read_body None [] (Some (body_values (Body.Error body.now)))) (Some (written (body_values (Body.Error body.now))))) }
+    ensures { IfOk result (λ e. fault e ≡ refused (read_body None [] 0 (Some (body_values (Body.Error body.now)))) (Some (written (body_values (Body.Error body.now))))) }
 {
     let text = body.message.clone()?;
     Ok(ConnectionError::PulsarError(server_error(body.error), Some(text)))

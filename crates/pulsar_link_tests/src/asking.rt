@@ -19,6 +19,9 @@ const CONNECTED: &[u8] = b"\x00\x00\x00\x0a\x00\x00\x00\x06\x08\x03\x1a\x02\x0a\
 const TOPICS: &[u8] =
     b"\x00\x00\x00\x1d\x00\x00\x00\x19\x08\x20\x82\x02\x14\x08\x00\x12\x0epublic/default\x18\x02";
 
+/// The close of the consumer 7 under the request 0, as another encoder writes it.
+const CLOSE: &[u8] = b"\x00\x00\x00\x0d\x00\x00\x00\x09\x08\x10\x82\x01\x04\x08\x07\x10\x00";
+
 /// A connection that is ready. Its connect frame has place 0.
 fn ready(alloc: Global) -> Result<Box<Connection>, NoMemory> {
     let Ok(url) = Url::parse(alloc, "pulsar://127.0.0.1:6650") else {
@@ -178,15 +181,48 @@ fn what_is_known_of_a_request(rt: HostRuntime) -> Result<(), Fail> {
     let request = Request::new(alloc, subscribe(alloc)?)?;
     assert!(rt; request.number() == 4);
     assert!(rt; request.closed_consumer() == None);
-    match request.subscribed()? {
+    assert!(rt; request.named_consumer() == Some(7));
+    match request.subscribed(alloc)? {
         Some(made) => {
-            assert!(rt; made.consumer == 7);
-            let topic = made.topic.copy()?;
-            assert!(rt; topic.into_inner().as_str() == "t");
+            assert!(rt; made.consumer() == 7);
+            let made = made.into_inner();
+            assert!(rt; made.topic.as_str() == "t" && made.subscription.as_str() == "t");
         }
         None => {
             assert!(rt; false);
         }
     }
+    Ok(())
+}
+
+#[test]
+fn a_call_names_its_consumer(rt: HostRuntime) -> Result<(), Fail> {
+    let alloc = rt.alloc();
+    let flow = RawCall::SendFlow {
+        consumer_id: 7,
+        permits: 1,
+    };
+    assert!(rt; flow.named_consumer() == Some(7) && !flow.is_awaited());
+    let close = RawCall::CloseProducer { producer_id: 7 };
+    assert!(rt; close.named_consumer() == None);
+    let request = Request::new(alloc, close)?;
+    assert!(rt; request.named_consumer() == None && request.subscribed(alloc)?.is_none());
+    assert!(rt; request.is_awaited());
+    Ok(())
+}
+
+/// It is asked for as a close is, and no answer to it is waited for.
+#[test]
+fn a_consumer_is_closed_and_nobody_waits(rt: HostRuntime) -> Result<(), Fail> {
+    let alloc = rt.alloc();
+    let mut connection = ready(alloc)?;
+    let request = Request::closing(7).copy(alloc)?;
+    assert!(rt; request.number() == 16 && !request.is_awaited());
+    assert!(rt; request.closed_consumer() == Some(7) && request.named_consumer() == Some(7));
+    assert!(rt; request.subscribed(alloc)?.is_none());
+    let asked = ask(&mut connection, 0, request);
+    assert!(rt; matches!(&asked, Ok(Asked::Queued(1))));
+    assert!(rt; connection.frame(1) == Some(CLOSE));
+    assert!(rt; !connection.overdue(1, 30000));
     Ok(())
 }

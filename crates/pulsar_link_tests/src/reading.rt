@@ -1,19 +1,17 @@
 //! What is read in messages of a broker.
 
-use pulsar_frame::{Message, Payload};
+use pulsar_frame::Message;
 use pulsar_link::content::Received;
 use pulsar_wire::commands::base::{BaseCommand, Body};
 use pulsar_wire::commands::connection::{CommandError, CommandPong};
-use pulsar_wire::commands::consumer::delivery::CommandMessage;
-use pulsar_wire::{ConnectionError, MessageIdData, MessageMetadata, NoMemory, bodies};
+use pulsar_wire::{ConnectionError, NoMemory, bodies};
 use std::alloc::Global;
-use std::collections::VecDeque;
 use std::test::Fail;
 
-fn received(alloc: Global, body: Body, payload: Option<Payload>) -> Result<Received, NoMemory> {
+fn received(alloc: Global, body: Body) -> Result<Received, NoMemory> {
     let message = Message {
         command: BaseCommand::with_body(body),
-        payload,
+        payload: None,
     };
     Received::new(alloc, message)
 }
@@ -39,7 +37,7 @@ fn an_error(rt: HostRuntime) -> Result<(), Fail> {
     let alloc = rt.alloc();
     let mut error = CommandError::new(alloc);
     error.message = String::from_str(alloc, "no")?;
-    let reply = received(alloc, Body::Error(error), None)?;
+    let reply = received(alloc, Body::Error(error))?;
     assert!(rt; reply.is(bodies::ERROR));
     assert!(rt; reply.key().is_some());
     assert!(rt; is_told(&reply.refusal(alloc)?));
@@ -49,24 +47,9 @@ fn an_error(rt: HostRuntime) -> Result<(), Fail> {
 #[test]
 fn another_body(rt: HostRuntime) -> Result<(), Fail> {
     let alloc = rt.alloc();
-    let reply = received(alloc, Body::Pong(CommandPong {}), None)?;
+    let reply = received(alloc, Body::Pong(CommandPong {}))?;
     let copy = reply.copy(alloc)?;
     assert!(rt; is_unexpected(&copy.refusal(alloc)?, "pong"));
     assert!(rt; copy.into_message().payload.is_none());
-    Ok(())
-}
-
-#[test]
-fn a_message(rt: HostRuntime) -> Result<(), Fail> {
-    let alloc = rt.alloc();
-    let payload = Payload {
-        metadata: MessageMetadata::new(alloc),
-        bytes: b"x".to_vec(alloc)?,
-    };
-    let message = CommandMessage::new(alloc);
-    let received = received(alloc, Body::Message(message), Some(payload))?;
-    let mut unread = VecDeque::new(alloc);
-    received.give(&mut unread)?;
-    assert!(rt; unread.len() == 1);
     Ok(())
 }

@@ -6,16 +6,15 @@ use Rattle.std.specs.Option.{option_to_list}
 use Rattle.pulsar_wire.specs.declared.error.IoKind.TheVariants as io_kind
 use Rattle.pulsar_messages.specs.Words.{Words}
 use Rattle.pulsar_messages.specs.Words as words
-use Rattle.pulsar_session.specs.Failures.{Failure, Fault, Io, Disconnected, Encoding, Canceled, Shutdown, OfConnection, OfProducer, NotFound, Custom, ProducerClosed, ProducerCustom}
+use Rattle.pulsar_session.specs.Failures.{Failure, Fault, Io, Disconnected, Encoding, Canceled, Shutdown, OfConnection, OfProducer, NotFound, Custom, OfConsumer, ConsumerClosed, ProducerClosed, ProducerCustom}
 use Rattle.pulsar_session.specs.Reply as session
-use Rattle.pulsar_link.specs.declared.content.Subscribed.{Subscribed}
 use Rattle.pulsar_link.specs.Messages.{Reply, Written, is_body}
 use Rattle.pulsar_link.specs.Refusals.{refused}
-use Rattle.pulsar_link.specs.Request.{answer_of, is_answered, request_number, subscribed}
+use Rattle.pulsar_link.specs.Request.{Subscribed, answer_of, is_answered, request_number, subscribed}
 use Rattle.pulsar_calls.specs.declared.act.Action.{Action}
-use Rattle.pulsar_calls.specs.declared.act.Action.TheVariants.{Get, Ask, Wait, TakeTurn, PassTurn, Draw, Recall, Remake, Number, Find, Shut, Store, Flush, TakeBatch, Tell, TellAll, StopAll, Rest}
+use Rattle.pulsar_calls.specs.declared.act.Action.TheVariants.{Get, Ask, Wait, TakeTurn, PassTurn, Draw, Recall, Remake, Number, Find, Shut, Store, Flush, TakeBatch, TakeNumber, FindConsumer, TakeFlow, RecallConsumer, Revive, FailConsumer, Tell, TellAll, StopAll, Rest}
 use Rattle.pulsar_calls.specs.declared.act.Makes.{Makes}
-use Rattle.pulsar_calls.specs.declared.act.Makes.TheVariants.{Nothing, Client, Consumer, Producer}
+use Rattle.pulsar_calls.specs.declared.act.Makes.TheVariants.{Nothing, Client, Consumer, RawConsumer, Producer}
 use Rattle.pulsar_calls.specs.declared.act.Round.{Round}
 use Rattle.pulsar_calls.specs.declared.act.Notice.{Notice}
 use Rattle.pulsar_calls.specs.declared.act.Round.TheVariants.{Checks, Flushes, Closes}
@@ -23,7 +22,7 @@ use Rattle.pulsar_calls.specs.declared.act.Share.{Share}
 use Rattle.pulsar_calls.specs.declared.act.Who.TheVariants.{Call}
 use Rattle.pulsar_calls.specs.declared.act.Outcome.{Outcome}
 use Rattle.pulsar_calls.specs.declared.act.Outcome.TheVariants as outcome
-use Rattle.pulsar_calls.specs.declared.act.Outcome.TheVariants.{GotLink, Queued, InLine, Replied, Woken, Granted, Parted, Settled, Cut, Stopped}
+use Rattle.pulsar_calls.specs.declared.act.Outcome.TheVariants.{GotLink, Queued, InLine, Replied, Woken, Granted, Parted, Settled, Cut, Stopped, Word as Hears}
 use Rattle.pulsar_calls.specs.declared.act.Place.TheVariants.{At, Link}
 use Rattle.pulsar_calls.specs.declared.act.Procedure.{Procedure}
 use Rattle.pulsar_calls.specs.declared.act.Procedure.TheVariants as procedure
@@ -32,14 +31,30 @@ use Rattle.pulsar_calls.specs.declared.act.Refusal.TheVariants as refusal
 use Rattle.pulsar_calls.specs.declared.act.Says.{Says}
 use Rattle.pulsar_calls.specs.declared.act.Says.TheVariants as says
 use Rattle.pulsar_calls.specs.declared.act.Verdict.{Verdict}
+use Rattle.pulsar_calls.specs.declared.act.Word.{Word}
+use Rattle.pulsar_calls.specs.declared.act.Word.TheVariants as word
 use Rattle.pulsar_procedures.specs.declared.plan.Plan.{Plan}
 use Rattle.pulsar_procedures.specs.declared.plan.At.{At as Stage}
 use Rattle.pulsar_procedures.specs.declared.plan.At.TheVariants as at
-use Rattle.pulsar_procedures.specs.declared.plan.Plan.TheVariants.{Building, Getting, Asking, Awaiting, Searching, Producing, Sending, Reporting, Storing, Stored, Batching, Leaving, Gathering, Shutting, Visiting, Stopping}
+use Rattle.pulsar_procedures.specs.declared.plan.Plan.TheVariants.{Building, Getting, Asking, Awaiting, Searching, Producing, Sending, Reporting, Storing, Stored, Batching, Leaving, Gathering, Shutting, Visiting, Subscribing, Serving, Acknowledging, Departing, Stopping}
+use Rattle.pulsar_procedures.specs.declared.service.Service.{Service}
+use Rattle.pulsar_procedures.specs.declared.service.Service.TheVariants as service
+use Rattle.pulsar_procedures.specs.declared.states.Resubscribing.{Resubscribing}
 use Rattle.pulsar_procedures.specs.declared.plan.Turn.{Turn}
 use Rattle.pulsar_procedures.specs.declared.plan.Turn.TheVariants.{Stays, Gives}
 use Rattle.pulsar_procedures.specs.declared.plan.Wanted.{Wanted}
+use Rattle.pulsar_consumer.specs.Plans as consume
+use Rattle.pulsar_consumer.specs.declared.building.Building.{Building as ConsumerBuild}
+use Rattle.pulsar_consumer.specs.declared.building.Built.{Built as ConsumerBuilt}
+use Rattle.pulsar_consumer.specs.declared.building.Deed.{Deed as ConsumerDeed}
+use Rattle.pulsar_consumer.specs.declared.building.Deed.TheVariants as consumer_deed
+use Rattle.pulsar_consumer.specs.declared.building.News.{News as ConsumerNews}
+use Rattle.pulsar_consumer.specs.declared.building.News.TheVariants as consumer_news
+use Rattle.pulsar_consumer.specs.declared.building.Order.{Order as ConsumerOrder}
 use Rattle.pulsar_plans.specs.Plans as search
+use Rattle.pulsar_consumer.specs.declared.resuming.Resuming.{Resuming}
+use Rattle.pulsar_plans.specs.declared.closing.Step.TheVariants as building_step
+use Rattle.pulsar_plans.specs.declared.making.Command.{Command}
 use Rattle.pulsar_plans.specs.declared.plan.Answer.{Answer}
 use Rattle.pulsar_plans.specs.declared.plan.Answer.TheVariants as answer
 use Rattle.pulsar_plans.specs.declared.plan.Plan.{Plan as Search}
@@ -93,6 +108,7 @@ is_answer request body = is_some_number (answer_of request) body
 abbrev pub topics_said : Says → Reply → Written → Said
 topics_said says.Names r body = Names r.content.topics
 topics_said says.Bodies r body = Replies (body ∷ [])
+topics_said says.Nothing r body = Done
 
 -- the answer that a reply gives, by the number of its body: topics, a receipt, or its body as it is
 abbrev pub answer_with : Says → Reply → Option Written → Said
@@ -100,12 +116,18 @@ answer_with s r None = Replies []
 answer_with s r (Some body) =
     if body.number == 33 then topics_said s r body else if body.number == 7 then Receipt body.bytes else Replies (body ∷ [])
 
+-- and what it says where that is wanted
+abbrev pub accepted : Says → Reply → Said
+accepted says.Names r = answer_with says.Names r r.content.body
+accepted says.Bodies r = answer_with says.Bodies r r.content.body
+accepted says.Nothing r = Done
+
 abbrev pub failed : Fault → Said
 failed f = Failed (OfConnection f)
 
 -- what a reply says to the request with the body of this number
 abbrev pub reply_says : Says → (request : ℕ) → Reply → Said
-reply_says s request r = if is_answer request r.content.body then answer_with s r r.content.body else failed (refused r r.content.body)
+reply_says s request r = if is_answer request r.content.body then accepted s r else failed (refused r r.content.body)
 
 -- THE VERDICTS
 
@@ -127,6 +149,10 @@ failure_of refusal.NoBatches = OfProducer (ProducerCustom (codes "not a batching
 failure_of refusal.NoPartition = OfProducer (ProducerCustom (codes "routing index out of range"))
 failure_of refusal.NumberInUse = OfProducer (ProducerCustom (codes "number in use"))
 failure_of refusal.TooLarge = in_producer (Encoding reason.Batch)
+failure_of refusal.NoTopics = Custom (codes "Cannot create consumer with no topics and no topic prefix")
+failure_of refusal.ManyTopics = consume.not_found
+failure_of refusal.ConsumerClosed = OfConsumer ConsumerClosed
+failure_of refusal.ConsumerInUse = consume.in_use
 
 -- Why a plan fails at an outcome. An outcome that it doesn't wait for counts as the loss of what it waits for.
 abbrev pub fault_of : Outcome → Fault
@@ -144,6 +170,7 @@ fault_of Woken = Disconnected
 fault_of (Granted n) = fault_told n
 fault_of (Parted ticket f) = Disconnected
 fault_of (Settled f) = Disconnected
+fault_of (Hears w) = Disconnected
 fault_of Cut = Disconnected
 fault_of Stopped = Shutdown
 
@@ -152,7 +179,7 @@ fault_of Stopped = Shutdown
 -- what a request with a success leaves behind: a subscribe makes a consumer
 abbrev pub makes_of : (link : ℕ) → Option Subscribed → Makes
 makes_of link None = Nothing
-makes_of link (Some s) = Consumer link s.consumer s.topic
+makes_of link (Some s) = RawConsumer link s
 
 abbrev pub makes : (link : ℕ) → Words → Makes
 makes link request = makes_of link (subscribed request)
@@ -311,6 +338,7 @@ overrides Woken = false
 overrides (Granted n) = false
 overrides (Parted ticket f) = false
 overrides (Settled f) = false
+overrides (Hears w) = false
 
 abbrev pub told_send : Ways → Errand → Option Share → Send → Outcome → Turn Plan Verdict
 told_send w e share s o =
@@ -430,6 +458,152 @@ told_at r n left at.Asking o = in_asking r n left o
 told_at r n left at.Passing o = in_passing r n left o
 told_at r n left at.Awaiting o = in_awaiting r n left o
 
+-- CONSUMERS. Their plans are machines of pulsar_consumer, along the same outcomes. What is to be known of a consumer is told at once.
+
+-- A BUILDING leaves a consumer behind.
+
+abbrev pub consumer_of : ConsumerOrder → ConsumerBuilt → Makes
+consumer_of o b = Consumer (record { topic = b.topic; number = b.number; config = o.config; link = b.link })
+
+-- what it does
+abbrev pub subscribing_does : ConsumerDeed → Action
+subscribing_does (consumer_deed.Does wish) = wished wish
+subscribing_does (consumer_deed.Numbers n) = TakeNumber n
+subscribing_does consumer_deed.Rests = Rest
+
+-- what it is told: that its frame is queued, or stands in the line, is no news to it, and neither is what is told of other consumers
+abbrev pub news_by : Word → Option ConsumerNews
+news_by (word.Numbered n) = Some (consumer_news.Numbered n)
+news_by word.InUse = Some consumer_news.InUse
+news_by word.Again = None
+news_by word.Closed = None
+news_by word.Due = None
+news_by (word.Flow link permits) = None
+news_by word.NoFlow = None
+news_by word.Lost = None
+news_by (word.Recalled c) = None
+news_by word.Lives = None
+news_by (word.TopicEnded link) = None
+news_by word.Over = None
+
+abbrev pub consumer_news_of : Outcome → Option ConsumerNews
+consumer_news_of Queued = None
+consumer_news_of InLine = None
+consumer_news_of (Hears w) = news_by w
+consumer_news_of o = Some (consumer_news.Told (news_in o))
+
+abbrev pub subscribes : Ways → ConsumerOrder → consume.Builds → Turn Plan Verdict
+subscribes w o (building_step.Stays b d) = Stays (Subscribing w o b) (subscribing_does d)
+subscribes w o (building_step.Gives (Ok b)) = Gives (verdict (consumer_of o b) Done)
+subscribes w o (building_step.Gives (Err f)) = fails_with f
+
+abbrev pub in_subscribing : Ways → ConsumerOrder → ConsumerBuild → Option ConsumerNews → Turn Plan Verdict
+in_subscribing w o b None = Stays (Subscribing w o b) Rest
+in_subscribing w o b (Some n) = subscribes w o (consume.build_told w o b n)
+
+abbrev pub told_subscribing : Ways → ConsumerOrder → ConsumerBuild → Outcome → Turn Plan Verdict
+told_subscribing w o b x = if overrides x then Gives (fails (fault_of x)) else in_subscribing w o b (consumer_news_of x)
+
+-- A CONSUMER IS SERVED by a plan of its own, which begins with it and ends with it. What it does not wait for changes nothing.
+
+abbrev pub serves : Ways → (number : ℕ) → Service → Action → Turn Plan Verdict
+serves w n s action = Stays (Serving w n s) action
+
+abbrev pub stays_so : Ways → (number : ℕ) → Service → Turn Plan Verdict
+stays_so w n s = serves w n s Rest
+
+abbrev pub is_over : Turn Plan Verdict
+is_over = Gives (verdict Nothing Done)
+
+-- Flows are asked for one after the other, until none is due.
+abbrev pub takes_flow : Ways → (number : ℕ) → Turn Plan Verdict
+takes_flow w n = serves w n service.Taking TakeFlow
+
+-- A subscription that nobody reads any more is closed, and nobody waits for the answer.
+abbrev pub closes_on : Ways → (number link : ℕ) → Turn Plan Verdict
+closes_on w n link = serves w n service.Closing (Ask link (words.CloseConsumerUnawaited n))
+
+-- what is told to one that rests
+abbrev pub resting_hears : Ways → (number : ℕ) → Word → Turn Plan Verdict
+resting_hears w n word.Due = takes_flow w n
+resting_hears w n word.Lost = serves w n service.Recalling RecallConsumer
+resting_hears w n (word.TopicEnded link) = closes_on w n link
+resting_hears w n word.Over = is_over
+resting_hears w n (word.Numbered m) = stays_so w n service.Resting
+resting_hears w n word.InUse = stays_so w n service.Resting
+resting_hears w n word.Again = stays_so w n service.Resting
+resting_hears w n word.Closed = stays_so w n service.Resting
+resting_hears w n (word.Flow link permits) = stays_so w n service.Resting
+resting_hears w n word.NoFlow = stays_so w n service.Resting
+resting_hears w n (word.Recalled c) = stays_so w n service.Resting
+resting_hears w n word.Lives = stays_so w n service.Resting
+
+abbrev pub in_resting : Ways → (number : ℕ) → Outcome → Turn Plan Verdict
+in_resting w n (Hears x) = resting_hears w n x
+in_resting w n o = stays_so w n service.Resting
+
+abbrev pub in_taking : Ways → (number : ℕ) → Outcome → Turn Plan Verdict
+in_taking w n (Hears (word.Flow link permits)) = serves w n service.Asking (Ask link (words.SendFlow n permits))
+in_taking w n (Hears word.NoFlow) = stays_so w n service.Resting
+in_taking w n o = stays_so w n service.Taking
+
+-- The subscription is made again: the broker of the topic is looked for, and it subscribes there.
+abbrev pub resubscribing : Command → Resuming → Service
+resubscribing c r = service.Resuming (record { command = c; resuming = r })
+
+abbrev pub resubscribes : Ways → (number : ℕ) → Command → consume.Resumes → Turn Plan Verdict
+resubscribes w n c (search_turn.Stays r wish) = serves w n (resubscribing c r) (wished wish)
+resubscribes w n c (search_turn.Gives (Ok link)) = serves w n (service.Reviving link) (Revive link)
+resubscribes w n c (search_turn.Gives (Err f)) = serves w n service.Failing (FailConsumer f)
+
+abbrev pub in_recalling : Ways → (number : ℕ) → Outcome → Turn Plan Verdict
+in_recalling w n (Hears (word.Recalled c)) = resubscribes w n c (consume.resume_begins w)
+in_recalling w n o = stays_so w n service.Recalling
+
+-- That its frame is queued, or stands in the line, is no news to it, and neither is what is told of consumers.
+abbrev pub in_resuming : Ways → (number : ℕ) → Resubscribing → Outcome → Turn Plan Verdict
+in_resuming w n s Queued = stays_so w n (service.Resuming s)
+in_resuming w n s InLine = stays_so w n (service.Resuming s)
+in_resuming w n s (Hears x) = stays_so w n (service.Resuming s)
+in_resuming w n s o = resubscribes w n s.command (consume.resume_told w s.command s.resuming (news_in o))
+
+-- Where the consumer has ended meanwhile the new subscription is closed.
+abbrev pub in_reviving : Ways → (number link : ℕ) → Outcome → Turn Plan Verdict
+in_reviving w n link (Hears word.Lives) = stays_so w n service.Resting
+in_reviving w n link (Hears word.Over) = closes_on w n link
+in_reviving w n link o = stays_so w n (service.Reviving link)
+
+abbrev pub told_service : Ways → (number : ℕ) → Service → Outcome → Turn Plan Verdict
+told_service w n service.Resting o = in_resting w n o
+told_service w n service.Taking o = in_taking w n o
+told_service w n service.Asking o = takes_flow w n
+told_service w n service.Recalling o = in_recalling w n o
+told_service w n (service.Resuming s) o = in_resuming w n s o
+told_service w n (service.Reviving link) o = in_reviving w n link o
+told_service w n service.Failing o = is_over
+told_service w n service.Closing o = is_over
+
+-- the stop of the client ends it
+abbrev pub told_serving : Ways → (number : ℕ) → Service → Outcome → Turn Plan Verdict
+told_serving w n s o = if overrides o then is_over else told_service w n s o
+
+-- AN ACKNOWLEDGEMENT is asked for where a subscription is live, and nobody waits for what becomes of it.
+
+abbrev pub acknowledges : (link : Option ℕ) → Words → Turn Plan Verdict
+acknowledges None request = is_over
+acknowledges (Some link) request = Stays Acknowledging (Ask link request)
+
+-- THE CLOSE of a consumer is asked for on its link. One that is subscribed again meanwhile is waited for, and one that has ended is closed.
+
+abbrev pub departs : (consumer number : ℕ) → Turn Plan Verdict
+departs t n = Stays (Departing t n) (FindConsumer t)
+
+abbrev pub in_departing : (consumer number : ℕ) → Outcome → Turn Plan Verdict
+in_departing t n (GotLink link) = asks link (words.CloseConsumer n) says.Nothing
+in_departing t n (Hears word.Again) = departs t n
+in_departing t n (Hears word.Closed) = fails_with (OfConsumer ConsumerClosed)
+in_departing t n o = Gives (fails (fault_of o))
+
 -- ALL PLANS
 
 -- where the plan of a procedure begins
@@ -447,6 +621,10 @@ begins (procedure.FailShare share r) = leaves (Some share) (failure_of r)
 begins (procedure.Gather first count) = gathers first count count []
 begins (procedure.Go round numbers) = goes_round round numbers
 begins (procedure.Close ticket numbers) = Stays (Shutting numbers) (Shut ticket)
+begins (procedure.Subscribe ways order) = subscribes ways order (consume.build_begins ways order)
+begins (procedure.Serve ways number) = stays_so ways number service.Resting
+begins (procedure.Acknowledge link request) = acknowledges link request
+begins (procedure.Leave consumer number) = departs consumer number
 begins (procedure.Refuse r) = Gives (verdict Nothing (Failed (failure_of r)))
 
 -- What an outcome makes of a plan. The stop of the client overrides a search.
@@ -477,5 +655,9 @@ told (Gathering first count left failures) o = Gives (fails (fault_of o))
 told (Shutting numbers) (Granted granting.Done) = goes_round Closes numbers
 told (Shutting numbers) o = Gives (fails (fault_of o))
 told (Visiting r n left x) o = if overrides o then Gives (fails (fault_of o)) else told_at r n left x o
+told (Subscribing w order b) o = told_subscribing w order b o
+told (Serving w n s) o = told_serving w n s o
+told Acknowledging o = is_over
+told (Departing t n) o = in_departing t n o
 told Stopping Stopped = Gives (verdict Nothing Done)
 told Stopping o = Gives (fails (fault_of o))

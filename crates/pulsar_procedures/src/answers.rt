@@ -5,7 +5,7 @@ ghost use Rattle.pulsar_wire.specs.Views.{body_values};
 ghost use Rattle.pulsar_frame.specs.Key.{answers};
 ghost use Rattle.pulsar_link.specs.Messages.{read_body, written};
 ghost use Rattle.pulsar_calls.specs.Content.{Replies};
-ghost use Rattle.pulsar_procedures.specs.Plan.{answer_with, is_answer, reply_says};
+ghost use Rattle.pulsar_procedures.specs.Plan.{accepted, answer_with, is_answer, reply_says};
 ghost use Rattle.pulsar_link.specs.Request.{answer_of, is_answered};
 
 use pulsar_calls::act::Says;
@@ -79,8 +79,18 @@ pub fn said(alloc: Global, says: Says, request: u32, reply: Received) -> Result<
     Said::new(alloc, Err(Error::Connection(error)))
 }
 
-/// The answer that a reply gives.
+/// What the expected reply says.
 fn accepted(alloc: Global, says: Says, reply: Received) -> Result<Said, NoMemory>
+    ensures { IfOk result (λ s. s ≡ accepted says reply) }
+{
+    match says {
+        Says::Names | Says::Bodies => answered(alloc, says, reply),
+        Says::Nothing => Said::new(alloc, Ok(Answer::Done)),
+    }
+}
+
+/// The answer that a reply gives.
+fn answered(alloc: Global, says: Says, reply: Received) -> Result<Said, NoMemory>
     ensures { IfOk result (λ s. s ≡ answer_with says reply reply.content.body) }
 {
     let Message {
@@ -96,7 +106,7 @@ fn accepted(alloc: Global, says: Says, reply: Received) -> Result<Said, NoMemory
 /// The topics that a body names.
 #[tactic(auto, unfolding(pulsar_wire::specs::Views::get_topics_of_namespace_response_values))]
 fn names(alloc: Global, body: CommandGetTopicsOfNamespaceResponse) -> Result<Said, NoMemory>
-    ensures { IfOk result (λ s. s ≡ answer_with Says.Names (read_body None [] (Some (body_values (Body.GetTopicsOfNamespaceResponse body)))) (Some (written (body_values (Body.GetTopicsOfNamespaceResponse body))))) }
+    ensures { IfOk result (λ s. s ≡ answer_with Says.Names (read_body None [] 0 (Some (body_values (Body.GetTopicsOfNamespaceResponse body)))) (Some (written (body_values (Body.GetTopicsOfNamespaceResponse body))))) }
 {
     let said = Said::new(alloc, Ok(Answer::Topics(body.topics)))?;
     Ok(said)
@@ -113,12 +123,13 @@ fn replies(alloc: Global, body: Body) -> Result<Said, NoMemory>
 
 /// The answer that a body gives.
 fn answer(alloc: Global, says: Says, body: Body) -> Result<Said, NoMemory>
-    ensures { IfOk result (λ s. s ≡ answer_with says (read_body None [] (Some (body_values body))) (Some (written (body_values body)))) }
+    ensures { IfOk result (λ s. s ≡ answer_with says (read_body None [] 0 (Some (body_values body))) (Some (written (body_values body)))) }
 {
     match body {
         Body::GetTopicsOfNamespaceResponse(body) => match says {
             Says::Names => names(alloc, body),
             Says::Bodies => replies(alloc, Body::GetTopicsOfNamespaceResponse(body)),
+            Says::Nothing => Said::new(alloc, Ok(Answer::Done)),
         },
         Body::SendReceipt(receipt) => Said::new(alloc, Ok(Answer::Receipt(receipt))),
         body => replies(alloc, body),

@@ -3,12 +3,16 @@
 
 pub mod answers;
 pub mod batches;
+pub mod departing;
 pub mod gathering;
 pub mod plan;
 pub mod producing;
 pub mod search;
 pub mod search_state;
 pub mod sends;
+pub mod service;
+pub mod serving;
 pub mod states;
+pub mod subscribing;
 pub mod table;
 pub mod visiting;

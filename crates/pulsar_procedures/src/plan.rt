@@ -6,20 +6,27 @@ ghost use Rattle.pulsar_procedures.specs.Plan.{asks, begins, failure_of, fails, 
 ghost use Rattle.pulsar_calls.specs.Content.{Done, Failed};
 
 use crate::search_state::SearchState;
-use crate::states::{BatchState, BuildState, SendState};
-use crate::{answers, batches, gathering, producing, search, sends, visiting};
+use crate::service::Service;
+use crate::states::{BatchState, BuildState, ConsumerState, SendState};
+use crate::{
+    answers, batches, departing, gathering, producing, search, sends, serving, subscribing,
+    visiting,
+};
 use pulsar_calls::act::{
     Action, Makes, Outcome, Place, Procedure, Refusal, Round, Says, Share, Verdict,
 };
 use pulsar_calls::content::{Failures, Numbers, Said};
 use pulsar_calls::effect::Answer;
+use pulsar_consumer::building::Order as ConsumerOrder;
 use pulsar_link::content::{Received, Request, Subscribed};
 use pulsar_plans::content::Refusal as Failure;
 use pulsar_plans::turn::Ways;
 use pulsar_producer::building::Order;
 use pulsar_producer::deed;
 use pulsar_producer::sending::Errand;
-use pulsar_wire::error::{ConnectionError, Error, IoKind, NoMemory, ProducerError, Reason};
+use pulsar_wire::error::{
+    ConnectionError, ConsumerError, Error, IoKind, NoMemory, ProducerError, Reason,
+};
 use std::alloc::Global;
 
 /// A plan stays, in this state, and does this action, or it ends and gives its verdict.
@@ -100,6 +107,25 @@ pub enum Plan {
         left: Numbers,
         at: At,
     },
+    /// It builds a consumer.
+    Subscribing {
+        ways: Ways,
+        order: ConsumerOrder,
+        building: ConsumerState,
+    },
+    /// It serves the consumer of this number.
+    Serving {
+        ways: Ways,
+        number: u64,
+        service: Service,
+    },
+    /// It has asked for an acknowledgement.
+    Acknowledging,
+    /// It closes the consumer of this ticket, which has this number, and finds its link.
+    Departing {
+        consumer: u64,
+        number: u64,
+    },
     /// It ends every link.
     Stopping,
 }
@@ -137,7 +163,7 @@ pub fn begins(alloc: Global, procedure: Procedure) -> Result<Turn<Plan, Verdict>
                 Plan::Getting(request, says),
                 Action::Get(address),
             )),
-            Place::Link(link) => asks(link, request, says),
+            Place::Link(link) => asks(alloc, link, request, says),
         },
         Procedure::Search { ways, what } => search::begins(alloc, ways, what),
         Procedure::Produce { ways, order } => producing::begins(alloc, ways, order),
@@ -163,6 +189,10 @@ pub fn begins(alloc: Global, procedure: Procedure) -> Result<Turn<Plan, Verdict>
             Plan::Shutting(numbers),
             Action::Shut(producer),
         )),
+        Procedure::Subscribe { ways, order } => subscribing::begins(alloc, ways, order),
+        Procedure::Serve { ways, number } => Ok(serving::begins(ways, number)),
+        Procedure::Acknowledge { link, request } => departing::acknowledges(alloc, link, request),
+        Procedure::Leave { consumer, number } => Ok(departing::begins(consumer, number)),
         Procedure::Refuse(refusal) => refused(alloc, refusal),
     }
 }
@@ -210,6 +240,18 @@ pub fn told(alloc: Global, plan: Plan, outcome: Outcome) -> Result<Turn<Plan, Ve
             left,
             at,
         } => visiting::told(alloc, round, number, left, at, outcome),
+        Plan::Subscribing {
+            ways,
+            order,
+            building,
+        } => subscribing::told(alloc, ways, order, building, outcome),
+        Plan::Serving {
+            ways,
+            number,
+            service,
+        } => serving::told(alloc, ways, number, service, outcome),
+        Plan::Acknowledging => done(alloc, Makes::Nothing),
+        Plan::Departing { consumer, number } => departing::told(alloc, consumer, number, outcome),
         Plan::Stopping => in_stopping(alloc, outcome),
     }
 }
@@ -232,7 +274,7 @@ fn in_getting(
     ensures { IfOk result (λ turn. turn ≡ told (Plan.Getting request says) outcome) }
 {
     match outcome {
-        Outcome::GotLink(link) => asks(link, request, says),
+        Outcome::GotLink(link) => asks(alloc, link, request, says),
         outcome => fails(alloc, error_of(outcome)),
     }
 }
@@ -274,13 +316,18 @@ fn in_stopping(alloc: Global, outcome: Outcome) -> Result<Turn<Plan, Verdict>, N
 }
 
 /// A request is asked for on a link.
-fn asks(link: u64, request: Request, says: Says) -> Result<Turn<Plan, Verdict>, NoMemory>
+pub fn asks(
+    alloc: Global,
+    link: u64,
+    request: Request,
+    says: Says,
+) -> Result<Turn<Plan, Verdict>, NoMemory>
     ensures { IfOk result (λ turn. turn ≡ asks link request says) }
 {
     let wanted = Wanted {
         number: request.number(),
         says,
-        makes: makes(link, request.subscribed()?),
+        makes: makes(link, request.subscribed(alloc)?),
     };
     Ok(Turn::Stays(Plan::Asking(wanted), Action::Ask { link, request }))
 }
@@ -290,11 +337,7 @@ fn makes(link: u64, subscribed: Option<Subscribed>) -> Makes
     ensures { result ≡ makes_of link subscribed }
 {
     match subscribed {
-        Some(Subscribed { consumer, topic }) => Makes::Consumer {
-            link,
-            number: consumer,
-            topic,
-        },
+        Some(made) => Makes::RawConsumer { link, made },
         None => Makes::Nothing,
     }
 }
@@ -370,6 +413,13 @@ fn refusal_error(alloc: Global, refusal: Refusal) -> Result<Error, NoMemory>
         Refusal::TooLarge => Ok(Error::Producer(ProducerError::Connection(ConnectionError::Encoding(
             Reason::Batch,
         )))),
+        Refusal::NoTopics => custom(
+            alloc,
+            "Cannot create consumer with no topics and no topic prefix",
+        ),
+        Refusal::ManyTopics => custom(alloc, "Unable to create consumer - topic not found"),
+        Refusal::ConsumerClosed => Ok(Error::Consumer(ConsumerError::Closed)),
+        Refusal::ConsumerInUse => Ok(Error::Consumer(ConsumerError::BuildError)),
     }
 }
 
@@ -433,7 +483,8 @@ pub fn overrides(outcome: &Outcome) -> bool
         | Outcome::Woken
         | Outcome::Granted(_)
         | Outcome::Parted { .. }
-        | Outcome::Settled(_) => false,
+        | Outcome::Settled(_)
+        | Outcome::Word(_) => false,
     }
 }
 
@@ -456,6 +507,7 @@ pub fn error_of(outcome: Outcome) -> ConnectionError
         | Outcome::Woken
         | Outcome::Parted { .. }
         | Outcome::Settled(_)
+        | Outcome::Word(_)
         | Outcome::Cut
         | Outcome::Disconnected => ConnectionError::Disconnected,
     }

@@ -3,6 +3,9 @@
 ghost use Rattle.std.specs.Prelude.{◌≡◌, IfOk};
 ghost use Rattle.pulsar_producer.specs.Batching.{is_sent_send};
 
+use pulsar_consumer::building::Building as Subscribing;
+use pulsar_consumer::resuming::Resuming;
+use pulsar_plans::making::Command;
 use pulsar_producer::batching::Batching;
 use pulsar_producer::building::Building;
 use pulsar_producer::sending::Sending;
@@ -116,5 +119,72 @@ impl BatchState {
     {
         let BatchState { batching } = self;
         Box::into_inner(batching)
+    }
+}
+
+/// Where the building of a consumer stands.
+#[derive(Drop)]
+pub struct ConsumerState {
+    building: Box<Subscribing>,
+}
+
+impl Model for ConsumerState {
+    ghost use Rattle.pulsar_consumer.specs.declared.building.Building.{Building};
+
+    ghost Value = { Building };
+
+    ghost view = { λ s. s.building.value };
+}
+
+impl ConsumerState {
+    pub fn new(alloc: Global, building: Subscribing) -> Result<ConsumerState, NoMemory>
+        ensures { IfOk result (λ s. s ≡ building) }
+    {
+        let building = Box::new(alloc, building)?;
+        Ok(ConsumerState { building })
+    }
+
+    pub fn into_inner(self) -> Subscribing
+        ensures { result ≡ self }
+    {
+        let ConsumerState { building } = self;
+        Box::into_inner(building)
+    }
+}
+
+/// A consumer is subscribed again: by this command, and where that stands.
+#[derive(Drop)]
+pub struct Resubscribing {
+    pub command: Command,
+    pub resuming: Resuming,
+}
+
+/// The same in a box.
+#[derive(Drop)]
+pub struct ResumeState {
+    resubscribing: Box<Resubscribing>,
+}
+
+impl Model for ResumeState {
+    ghost use Rattle.pulsar_procedures.specs.declared.states.Resubscribing.{Resubscribing};
+
+    ghost Value = { Resubscribing };
+
+    ghost view = { λ s. s.resubscribing.value };
+}
+
+impl ResumeState {
+    pub fn new(alloc: Global, resubscribing: Resubscribing) -> Result<ResumeState, NoMemory>
+        ensures { IfOk result (λ s. s ≡ resubscribing) }
+    {
+        let resubscribing = Box::new(alloc, resubscribing)?;
+        Ok(ResumeState { resubscribing })
+    }
+
+    pub fn into_inner(self) -> Resubscribing
+        ensures { result ≡ self }
+    {
+        let ResumeState { resubscribing } = self;
+        Box::into_inner(resubscribing)
     }
 }

@@ -1,9 +1,9 @@
 //! Where plans stand: a table for each kind of those that have them.
 
-ghost use Rattle.std.specs.Prelude.{◌≡◌, ℕ, ◌==◌, OnOk, None, if◌then◌else◌};
+ghost use Rattle.std.specs.Prelude.{◌≡◌, ℕ, ◌==◌, ◌&&◌, OnOk, None, if◌then◌else◌};
 ghost use Rattle.std.specs.BTreeMap.{get};
 ghost use Rattle.std.specs.Ordering.{nat_cmp};
-ghost use Rattle.pulsar_procedures.specs.Standing.{stand_of};
+ghost use Rattle.pulsar_procedures.specs.Standing.{pair_cmp, stand_of};
 ghost use Rattle.pulsar_calls.specs.Who.{is_same};
 ghost use Rattle.pulsar_calls.specs.declared.act.Who.{Who};
 
@@ -18,6 +18,8 @@ use std::collections::BTreeMap;
 pub struct Plans {
     /// Those of the calls, by ticket.
     pub calls: BTreeMap<u64, Plan>,
+    /// Those of the consumers, by number and ticket.
+    pub consumers: BTreeMap<(u64, u64), Plan>,
     /// Those of the topic producers that send batches, by number.
     pub producers: BTreeMap<u64, Plan>,
 }
@@ -28,6 +30,7 @@ impl Plans {
     {
         Plans {
             calls: BTreeMap::new(alloc),
+            consumers: BTreeMap::new(alloc),
             producers: BTreeMap::new(alloc),
         }
     }
@@ -39,6 +42,7 @@ impl Plans {
     {
         match who {
             Who::Call(ticket) => self.calls.remove(&ticket),
+            Who::Consumer { number, ticket } => remove_pair(&mut self.consumers, (number, ticket)),
             Who::Producer(number) => self.producers.remove(&number),
         }
     }
@@ -49,6 +53,9 @@ impl Plans {
     {
         match who {
             Who::Call(ticket) => set_in(&mut self.calls, ticket, plan),
+            Who::Consumer { number, ticket } => {
+                set_pair(&mut self.consumers, (number, ticket), plan)
+            }
             Who::Producer(number) => set_in(&mut self.producers, number, plan),
         }
     }
@@ -62,4 +69,25 @@ fn set_in(plans: &mut BTreeMap<u64, Plan>, number: u64, plan: Option<Plan>) -> R
         Some(plan) => drop(plans.insert(number, plan)?),
     }
     Ok(())
+}
+
+fn set_pair(
+    plans: &mut BTreeMap<(u64, u64), Plan>,
+    pair: (u64, u64),
+    plan: Option<Plan>,
+) -> Result<(), NoMemory>
+    ensures { OnOk result ((p : ℕ × ℕ) → get pair_cmp plans.new p ≡ (if (p.0 == pair.0) && (p.1 == pair.1) then plan else get pair_cmp plans.old p)) }
+{
+    match plan {
+        None => drop(plans.remove(&pair)),
+        Some(plan) => drop(plans.insert(pair, plan)?),
+    }
+    Ok(())
+}
+
+fn remove_pair(plans: &mut BTreeMap<(u64, u64), Plan>, pair: (u64, u64)) -> Option<Plan>
+    ensures plan { result ≡ get pair_cmp plans.old pair }
+    ensures left { (p : ℕ × ℕ) → get pair_cmp plans.new p ≡ (if (p.0 == pair.0) && (p.1 == pair.1) then None else get pair_cmp plans.old p) }
+{
+    plans.remove(&pair)
 }

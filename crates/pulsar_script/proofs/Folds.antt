@@ -18,7 +18,8 @@ use Rattle.pulsar_wire.specs.Row.{Values}
 use Rattle.pulsar_wire.specs.Rows.{message_id}
 use Rattle.pulsar_messages.specs.Content.{property}
 use Rattle.pulsar_script.specs.MessageWords.{Draft, all, one, with_word}
-use Rattle.pulsar_script.specs.RawLines.{id, with_id}
+use Rattle.pulsar_script.specs.Encoded.{id}
+use Rattle.pulsar_script.specs.RawLines.{with_id}
 
 one-more : (d : Draft) (w : List ℕ) (e : Option Draft) → one d w ≡ e → all d (w ∷ []) ≡ one d w
 one-more d w None h = rw h refl

@@ -5,8 +5,10 @@ pub mod Printed
 pub mod WrittenLines
 pub mod WrittenRaw
 pub mod WrittenProducers
+pub mod WrittenConsumers
 pub mod WrittenMessages
 pub mod WrittenAsked
 pub mod Producers
+pub mod Consumers
 pub mod ReadBack
 pub mod Folds

@@ -1,27 +1,31 @@
 -- A written line is read back.
-use Rattle.std.proofs.Common.{◌≡◌, ℕ, ◌^◌, ◌<◌, ◌∙◌, ap, List, [], ◌∷◌, ◌++◌, refl, codes, arith, nat_lt, true, Some, length}
+use Rattle.std.proofs.Common.{◌≡◌, ℕ, ◌^◌, ◌<◌, ◌∙◌, ap, List, [], ◌∷◌, ◌++◌, refl, codes, arith, nat_lt, Bool, true, false, Some, length}
 use Rattle.std.proofs.lemmas.Bool.Decides.{nat_tests}
 use Rattle.std.specs.Fmt.{decimal}
 use Rattle.std.specs.List.{AllByRecursion}
 use Rattle.hex.specs.Hex.{encode_lower}
+use Rattle.pulsar_wire.specs.Row.{Values}
+use Rattle.pulsar_wire.specs.Rows.{message_id}
 use Rattle.pulsar_wire.specs.declared.commands.topics.Mode.{Mode}
 use Rattle.pulsar_wire.specs.declared.commands.topics.Mode.TheVariants.{Persistent, NonPersistent, All}
 use Rattle.pulsar_wire.specs.declared.error.IoKind.{IoKind}
 use Rattle.pulsar_wire.specs.declared.error.IoKind.TheVariants.{ConnectionRefused, TimedOut, Other}
 use Rattle.pulsar_messages.specs.Content.{ProducerMessageValues}
 use Rattle.pulsar_messages.specs.Words.{Words}
+use Rattle.pulsar_consumer.specs.Content.{ConsumerWanted}
 use Rattle.pulsar_producer.specs.Wanted.{ProducerWanted}
-use Rattle.pulsar_calls.specs.Content.{Asked, Build, Stop, Topics, Lookup, Partitions, Brokers, Producer, Send, SendAll, Flush, CheckProducer, CloseProducer, Raw, Heard, Called, Opened, FailedToOpen, Bytes, Lost, Drain, Ticked, Poll}
+use Rattle.pulsar_calls.specs.Content.{Asked, Build, Stop, Topics, Lookup, Partitions, Brokers, Producer, Send, SendAll, Flush, CheckProducer, CloseProducer, Consumer, Ack, Nack, CloseConsumer, Raw, Heard, Called, Opened, FailedToOpen, Bytes, Lost, Drain, Ticked, Poll}
 use Rattle.pulsar_script.specs.Words.{words}
 use Rattle.pulsar_script.specs.WordText.{word}
 use Rattle.pulsar_script.specs.Choices.{kind as kind_in}
 use Rattle.pulsar_script.specs.ErrorText.{io_kind}
 use Rattle.pulsar_script.specs.Grammar.{Setting, Url, Auth, Outbound, Timeout, RetryDelay, OpRetries, Retries, MinBackoff, MaxBackoff, ConnectionTimeout, KeepAlive, MaxIdle, Seed, First, Now, Sets, Happens, line, words_line}
-use Rattle.pulsar_script.specs.Written.{CanBeAsked, CanBeSet, CanBeWritten, written, written_setting}
-use Rattle.pulsar_script.specs.WrittenRaw.{CanBeMade, CanBeSaid, CanBeSent, IsCount, IsText, Where, credential_words, message_words, messages_words, mode_word, producer_words, raw_words}
+use Rattle.pulsar_script.specs.Written.{CanBeAsked, CanBeSet, CanBeWritten, ack_word, acked_words, written, written_setting}
+use Rattle.pulsar_script.specs.WrittenRaw.{CanBeMade, CanBeSaid, CanBeSent, CanConsume, IsCount, IsId, IsNumber, IsText, Where, consumer_words, credential_words, message_words, messages_words, mode_word, producer_words, raw_words}
 use Rattle.pulsar_script.proofs.WrittenLines.{IsWithinWord, one-word, first-word, decimal-within, number-decimal, hex-within, hex-encoded, word-within, text-word}
-use Rattle.pulsar_script.proofs.WrittenRaw.{credential-reads, credential-within, message-reads, message-said, mode-reads, tested-within, words-behind}
+use Rattle.pulsar_script.proofs.WrittenRaw.{credential-reads, credential-within, id-reads, id-within, message-reads, message-said, mode-reads, tested-within, words-behind}
 use Rattle.pulsar_script.proofs.WrittenAsked.{raw-reads, raw-within}
+use Rattle.pulsar_script.proofs.WrittenConsumers.{consumer-reads, consumer-within}
 use Rattle.pulsar_script.proofs.WrittenMessages.{messages-read, messages-within}
 use Rattle.pulsar_script.proofs.WrittenProducers.{producer-reads, producer-within}
 
@@ -65,9 +69,27 @@ send-reads producer m lt can = rw (number-decimal producer lt, message-reads m c
 send-all-reads : (producer : ℕ) (ms : List ProducerMessageValues) → producer < 2 ^ 64 → AllByRecursion CanBeSent ms → 0 < length ms → words_line (codes "call" ∷ codes "send-all" ∷ decimal producer ∷ messages_words ms) ≡ Happens (Called (SendAll producer ms))
 send-all-reads producer ms lt can some = rw (number-decimal producer lt, messages-read ms can some) refl
 
--- a call whose words are the ticket of a producer
-of-producer : (first : List ℕ) (n : ℕ) → n < 2 ^ 64 → words_line (codes "call" ∷ first ∷ words (decimal n)) ≡ words_line (codes "call" ∷ first ∷ decimal n ∷ [])
-of-producer first n lt = ap (λ (ws : List (List ℕ)). words_line (codes "call" ∷ ws)) (one-number first n lt)
+-- a call whose words are the ticket of a producer, or of a consumer
+of-ticket : (first : List ℕ) (n : ℕ) → n < 2 ^ 64 → words_line (codes "call" ∷ first ∷ words (decimal n)) ≡ words_line (codes "call" ∷ first ∷ decimal n ∷ [])
+of-ticket first n lt = ap (λ (ws : List (List ℕ)). words_line (codes "call" ∷ ws)) (one-number first n lt)
+
+consumer-is-read : (w : ConsumerWanted) → CanConsume w → words_line (codes "call" ∷ codes "consumer" ∷ consumer_words w) ≡ Happens (Called (Consumer w))
+consumer-is-read w can = rw (consumer-reads w can) refl
+
+-- a message of a consumer
+acked-within : (consumer : ℕ) (topic : List ℕ) (i : Values message_id) → IsNumber consumer × IsText topic × IsId i → AllByRecursion IsWithinWord (acked_words consumer topic i)
+acked-within consumer topic i can = (decimal-within consumer can.0, (word-within topic can.1.0, (id-within i can.2, tt)))
+
+ack-within : (cumulative : Bool) → IsWithinWord (ack_word cumulative)
+ack-within false = tested-within (codes "ack") refl
+ack-within true = tested-within (codes "ack-all") refl
+
+ack-reads : (consumer : ℕ) (topic : List ℕ) (i : Values message_id) (cumulative : Bool) → IsNumber consumer × IsText topic × IsId i → words_line (codes "call" ∷ ack_word cumulative ∷ acked_words consumer topic i) ≡ Happens (Called (Ack consumer topic i cumulative))
+ack-reads consumer topic i false can = rw (number-decimal consumer can.0, text-word topic can.1.0 can.1.1, id-reads i can.2) refl
+ack-reads consumer topic i true can = rw (number-decimal consumer can.0, text-word topic can.1.0 can.1.1, id-reads i can.2) refl
+
+nack-reads : (consumer : ℕ) (topic : List ℕ) (i : Values message_id) → IsNumber consumer × IsText topic × IsId i → words_line (codes "call" ∷ codes "nack" ∷ acked_words consumer topic i) ≡ Happens (Called (Nack consumer topic i))
+nack-reads consumer topic i can = rw (number-decimal consumer can.0, text-word topic can.1.0 can.1.1, id-reads i can.2) refl
 
 asked-read : (c : Asked) → CanBeAsked c → line (written (Called c)) ≡ Happens (Called c)
 asked-read Build can = refl
@@ -87,9 +109,19 @@ asked-read (Send producer message) can =
 asked-read (SendAll producer messages) can =
     ap (λ (ws : List (List ℕ)). words_line (codes "call" ∷ codes "send-all" ∷ ws)) (words-behind (decimal producer) (messages_words messages) (decimal-within producer can.0) (messages-within messages can.1))
     ∙ send-all-reads producer messages can.0 can.1 can.2
-asked-read (Flush producer) can = of-producer (codes "flush") producer can ∙ rw (number-decimal producer can) refl
-asked-read (CheckProducer producer) can = of-producer (codes "check-producer") producer can ∙ rw (number-decimal producer can) refl
-asked-read (CloseProducer producer) can = of-producer (codes "close-producer") producer can ∙ rw (number-decimal producer can) refl
+asked-read (Flush producer) can = of-ticket (codes "flush") producer can ∙ rw (number-decimal producer can) refl
+asked-read (CheckProducer producer) can = of-ticket (codes "check-producer") producer can ∙ rw (number-decimal producer can) refl
+asked-read (CloseProducer producer) can = of-ticket (codes "close-producer") producer can ∙ rw (number-decimal producer can) refl
+asked-read (Consumer wanted) can =
+    ap (λ (ws : List (List ℕ)). words_line (codes "call" ∷ ws)) (words-behind (codes "consumer") (consumer_words wanted) (tested-within (codes "consumer") refl) (consumer-within wanted can))
+    ∙ consumer-is-read wanted can
+asked-read (Ack consumer topic i cumulative) can =
+    ap (λ (ws : List (List ℕ)). words_line (codes "call" ∷ ws)) (words-behind (ack_word cumulative) (acked_words consumer topic i) (ack-within cumulative) (acked-within consumer topic i can))
+    ∙ ack-reads consumer topic i cumulative can
+asked-read (Nack consumer topic i) can =
+    ap (λ (ws : List (List ℕ)). words_line (codes "call" ∷ ws)) (words-behind (codes "nack") (acked_words consumer topic i) (tested-within (codes "nack") refl) (acked-within consumer topic i can))
+    ∙ nack-reads consumer topic i can
+asked-read (CloseConsumer consumer) can = of-ticket (codes "close") consumer can ∙ rw (number-decimal consumer can) refl
 asked-read (Raw link what) can =
     ap (λ (ws : List (List ℕ)). words_line (codes "call" ∷ codes "link" ∷ ws)) (words-behind (decimal link) (raw_words what) (decimal-within link can.0) (raw-within what can.1))
     ∙ link-reads link what can.0 can.1

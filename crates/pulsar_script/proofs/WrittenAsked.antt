@@ -5,6 +5,7 @@ use Rattle.pulsar_messages.specs.Words.{Words, SendPing, SendPong, AuthChallenge
 use Rattle.pulsar_script.specs.RawLines.{raw_call}
 use Rattle.pulsar_script.specs.WrittenRaw.{CanBeSaid, raw_words}
 use Rattle.pulsar_script.proofs.WrittenLines.{IsWithinWord, decimal-within, number-decimal, text-word, word-within}
+use Rattle.pulsar_script.proofs.WrittenConsumers.{subscriber-reads, subscriber-within}
 use Rattle.pulsar_script.proofs.WrittenProducers.{options-read, options-within}
 use Rattle.pulsar_script.proofs.WrittenRaw.{bytes-reads, bytes-within, credential-reads, credential-within, cumulative-reads, cumulative-within, flag-reads, flag-within, ids-read, ids-within, message-reads, message-said, mode-reads, mode-within, name-reads, name-within, place-reads, place-within, small-reads, tested-within, time-reads, time-within, type-reads, type-within}
 
@@ -26,7 +27,7 @@ raw-within (Send producer called sequence m block) can =
     (tested-within (codes "send") refl, (decimal-within producer can.0, (word-within called can.1.0, (decimal-within sequence can.2, (flag-within block, (message-said m can.3).within)))))
 raw-within (CloseProducer producer) can = (tested-within (codes "close-producer") refl, (decimal-within producer can, tt))
 raw-within (Subscribe topic subscription kind consumer called options) can =
-    (tested-within (codes "subscribe") refl, (word-within topic can.0.0, (word-within subscription can.1.0, (type-within kind, (decimal-within consumer can.2, tt)))))
+    (tested-within (codes "subscribe") refl, (word-within topic can.0.0, (word-within subscription can.1.0, (type-within kind, (decimal-within consumer can.2, subscriber-within called options can.3)))))
 raw-within (SendFlow consumer permits) can =
     let wide : permits < 2 ^ 64 = let lt = can.1 in omega (arith, lt) in
     (tested-within (codes "flow") refl, (decimal-within consumer can.0, (decimal-within permits wide, tt)))
@@ -57,7 +58,7 @@ raw-reads (Send producer called sequence m block) can =
     rw (number-decimal producer can.0, text-word called can.1.0 can.1.1, number-decimal sequence can.2, flag-reads block, message-reads m can.3) refl
 raw-reads (CloseProducer producer) can = rw (number-decimal producer can) refl
 raw-reads (Subscribe topic subscription kind consumer called options) can =
-    rw (text-word topic can.0.0 can.0.1, text-word subscription can.1.0 can.1.1, type-reads kind, number-decimal consumer can.2, can.3, can.4) refl
+    rw (text-word topic can.0.0 can.0.1, text-word subscription can.1.0 can.1.1, type-reads kind, number-decimal consumer can.2, subscriber-reads called options can.3 can.4) refl
 raw-reads (SendFlow consumer permits) can = rw (number-decimal consumer can.0, small-reads permits can.1) refl
 raw-reads (SendAck consumer ids upto) can = rw (number-decimal consumer can.0, cumulative-reads upto, ids-read ids can.1) refl
 raw-reads (SendRedeliver consumer ids) can = rw (number-decimal consumer can.0, ids-read ids can.1) refl

@@ -18,9 +18,10 @@ use Rattle.pulsar_messages.specs.Content.{ProducerOptionsValues, Property, empty
 use Rattle.pulsar_messages.specs.declared.routing_policy.RoutingPolicy.{RoutingPolicy}
 use Rattle.pulsar_messages.specs.declared.routing_policy.RoutingPolicy.TheVariants.{RoundRobin, Single, Custom}
 use Rattle.pulsar_producer.specs.Wanted.{ProducerWanted}
-use Rattle.pulsar_script.specs.ProducerWords.{Draft, all, blank, one, options, options_in, policy, producer, schema_of, signed_32, unsigned_32, with_meta, with_options}
+use Rattle.pulsar_script.specs.Encoded.{schema_of}
+use Rattle.pulsar_script.specs.ProducerWords.{Draft, all, blank, one, options, options_in, policy, producer, signed_32, unsigned_32, with_meta, with_options}
 use Rattle.pulsar_script.specs.WordText.{word}
-use Rattle.pulsar_script.specs.WrittenRaw.{CanBeMade, IsCount, IsMode, IsNumber, IsPolicy, IsProperty, IsSchema, IsText, Where, block_words, flag_word, meta_word, option_words, policy_word, producer_words, signed_word}
+use Rattle.pulsar_script.specs.WrittenRaw.{CanBeMade, IsCount, IsUnsigned, IsNumber, IsPolicy, IsProperty, IsSchema, IsText, Where, block_words, flag_word, meta_word, option_words, policy_word, producer_words, signed_word}
 use Rattle.pulsar_script.proofs.WrittenLines.{IsWithinWord, decimal-within, hex-encoded, hex-within, number-decimal, same-some, text-word, word-within}
 use Rattle.pulsar_script.proofs.WrittenRaw.{AreBelow, NoEquals, all-both, all-map, cut-at, flag-reads, flag-within, front-within, more-below, none-below, stands-last, tested-within, word-free}
 
@@ -92,10 +93,10 @@ timeout-reads d (Some n) can none =
     say-word d _ (codes "batch-timeout=" ++ decimal n) (front-within (codes "batch-timeout=") (decimal n) refl (decimal-within n can))
     (rw (cut-at (codes "batch-timeout") (decimal n) timeout-free, none, number-decimal n can) refl)
 
-small : (n : ℕ) → n < 2 ^ 31 → signed_32 n ≡ Some (pos n)
+pub small : (n : ℕ) → n < 2 ^ 31 → signed_32 n ≡ Some (pos n)
 small n lt = grind (arith, nat_tests)
 
-access-reads : (d : Draft) (o : Option ℤ) → Where IsMode o → d.wanted.options.access_mode ≡ None →
+access-reads : (d : Draft) (o : Option ℤ) → Where IsUnsigned o → d.wanted.options.access_mode ≡ None →
     Say (map (λ z. codes "access=" ++ signed_word z) (option_to_list o)) d (with_options d (record d.wanted.options { access_mode = o }))
 access-reads d None can none = record { is = ap (λ o. Some (with_options d (record d.wanted.options { access_mode = o }))) none; within = tt }
 access-reads d (Some (negsuc n)) can none = absurd can
@@ -155,7 +156,7 @@ metadata-reads d (p ∷ ps) can ordered below =
     ∙ metadata-reads (with_options d (record d.wanted.options { metadata = d.wanted.options.metadata ++ p ∷ [] })) ps can.1 ordered.1 (more-below d.wanted.options.metadata p ps below.1 ordered.0)
     ∙ ap (λ es. Some (with_options d (record d.wanted.options { metadata = es }))) (append_assoc d.wanted.options.metadata (p ∷ []) ps)
 
-meta-within : (p : Property) → IsProperty p → IsWithinWord (meta_word p)
+pub meta-within : (p : Property) → IsProperty p → IsWithinWord (meta_word p)
 meta-within p can =
     front-within (codes "meta=") (word p.0 ++ 61 ∷ word p.1) refl
     (All-append (λ c. (c == 32) ≡ false) (word p.0) (61 ∷ word p.1) (word-within p.0 can.0.0) (front-within (61 ∷ []) (word p.1) refl (word-within p.1 can.1.0)))
@@ -171,7 +172,7 @@ schema-some : (s : Values rows.schema) → 0 < length (spelling rows.schema s)
 unfolding spelling varint_in
 schema-some s = omega arith
 
-schema-read : (s : Values rows.schema) → IsSchema s → schema_of (encode_lower (spelling rows.schema s)) ≡ Some s
+pub schema-read : (s : Values rows.schema) → IsSchema s → schema_of (encode_lower (spelling rows.schema s)) ≡ Some s
 schema-read s can =
     let bytes = spelling rows.schema s in
     ap (λ o. o >>= reading rows.schema) (hex-encoded bytes can.1 (schema-some s)) ∙ round_trip rows.schema s refl can.0

@@ -33,7 +33,8 @@ use Rattle.pulsar_script.specs.Words.{hex, in_range, is_digit, number, optional,
 use Rattle.pulsar_script.specs.Choices.{cumulative, flag, mode, sub_type}
 use Rattle.pulsar_script.specs.WordText.{is_printed, printed, upper_digit, word}
 use Rattle.pulsar_script.specs.MessageWords.{Draft, all, blank, cut, message, minus, one, plus, signed, with_cluster, with_data, with_property}
-use Rattle.pulsar_script.specs.RawLines.{credential, id, id_bytes}
+use Rattle.pulsar_script.specs.Encoded.{id, id_bytes}
+use Rattle.pulsar_script.specs.RawLines.{credential}
 use Rattle.pulsar_script.specs.WrittenRaw.{CanBeSent, IsCredential, IsId, IsNumber, IsProperty, IsSigned, IsText, Where, behind_blanks, credential_words, cumulative_word, flag_word, id_word, message_words, mode_word, optional_word, plain, property_word, signed_word, sub_type_word}
 use Rattle.pulsar_script.proofs.WrittenLines.{IsWithinWord, decimal-within, first-word, hex-encoded, hex-within, number-decimal, one-word, same-some, single, step-off, text-word, word-bytes, word-within}
 
@@ -501,7 +502,7 @@ hex-of-id : (w bytes : List ℕ) → hex w ≡ Some bytes → id_bytes w ≡ Som
 hex-of-id w bytes h = rw (not-percent w bytes (bytes_eq w (codes "%")) refl h) h
 
 -- an id is read from the hex of its bytes
-id-reads : (i : Values message_id) → IsId i → id (id_word i) ≡ Some i
+pub id-reads : (i : Values message_id) → IsId i → id (id_word i) ≡ Some i
 id-reads i fits =
     let bytes = spelling message_id i in
     ap (λ o. o >>= reading message_id) (hex-of-id (id_word i) bytes (hex-encoded bytes (id-bytes i fits) (id-some i))) ∙ round_trip message_id i refl fits
@@ -510,7 +511,7 @@ pub ids-read : (is : List (Values message_id)) → AllByRecursion IsId is → ea
 ids-read [] can = refl
 ids-read (i ∷ is) can = rw (id-reads i can.0, ids-read is can.1) refl
 
-id-within : (i : Values message_id) → IsId i → IsWithinWord (id_word i)
+pub id-within : (i : Values message_id) → IsId i → IsWithinWord (id_word i)
 id-within i fits = hex-within (spelling message_id i) (id-bytes i fits)
 
 pub ids-within : (is : List (Values message_id)) → AllByRecursion IsId is → AllByRecursion IsWithinWord (map id_word is)

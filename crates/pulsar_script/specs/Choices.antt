@@ -1,6 +1,8 @@
 -- Words that name a choice.
 use Rattle.std.specs.Prelude.{ℕ, Bool, true, false, if◌then◌else◌, List, Option, Some, None, codes}
 use Rattle.std.specs.Str.{bytes_eq}
+use Rattle.pulsar_wire.specs.declared.commands.enumerations.InitialPosition.{InitialPosition}
+use Rattle.pulsar_wire.specs.declared.commands.enumerations.InitialPosition.TheVariants.{Latest, Earliest}
 use Rattle.pulsar_wire.specs.declared.commands.enumerations.SubType.{SubType}
 use Rattle.pulsar_wire.specs.declared.commands.enumerations.SubType.TheVariants.{Exclusive, Shared, Failover, KeyShared}
 use Rattle.pulsar_wire.specs.declared.commands.topics.Mode.{Mode}
@@ -30,6 +32,13 @@ sub_type word =
     else if bytes_eq word (codes "shared") then Some Shared
     else if bytes_eq word (codes "failover") then Some Failover
     else if bytes_eq word (codes "key-shared") then Some KeyShared
+    else None
+
+-- where a new subscription begins: behind the last message, or at the first
+abbrev pub position : List ℕ → Option InitialPosition
+position word =
+    if bytes_eq word (codes "latest") then Some Latest
+    else if bytes_eq word (codes "earliest") then Some Earliest
     else None
 
 -- all up to the message, or each by itself

@@ -1,12 +1,14 @@
 -- The lines of a script: the settings and the events that they are.
-use Rattle.std.specs.Prelude.{ℕ, ◌^◌, ◌==◌, nat_lt, if◌then◌else◌, List, [], ◌∷◌, Option, Some, None, codes}
+use Rattle.std.specs.Prelude.{ℕ, ◌^◌, ◌==◌, nat_lt, Bool, true, false, if◌then◌else◌, List, [], ◌∷◌, Option, Some, None, codes}
 use Rattle.std.specs.List.{slice_split}
 use Rattle.std.specs.Str.{bytes_eq}
 use Rattle.pulsar_wire.specs.Field.{◌>>=◌}
 use Rattle.pulsar_messages.specs.Content.{AuthenticationValues}
-use Rattle.pulsar_calls.specs.Content.{Asked, Build, Stop, Topics, Lookup, Partitions, Brokers, Producer, Send, SendAll, Flush, CheckProducer, CloseProducer, Raw, Heard, Called, Opened, FailedToOpen, Bytes, Lost, Drain, Ticked, Poll}
+use Rattle.pulsar_calls.specs.Content.{Asked, Build, Stop, Topics, Lookup, Partitions, Brokers, Producer, Send, SendAll, Flush, CheckProducer, CloseProducer, Consumer, Ack, Nack, CloseConsumer, Raw, Heard, Called, Opened, FailedToOpen, Bytes, Lost, Drain, Ticked, Poll}
 use Rattle.pulsar_script.specs.Words.{words, number, text, hex}
 use Rattle.pulsar_script.specs.Choices.{kind, mode}
+use Rattle.pulsar_script.specs.ConsumerWords.{consumer}
+use Rattle.pulsar_script.specs.Encoded.{id}
 use Rattle.pulsar_script.specs.MessageWords.{message, messages}
 use Rattle.pulsar_script.specs.ProducerWords.{producer}
 use Rattle.pulsar_script.specs.RawLines.{credential, raw_call}
@@ -89,16 +91,52 @@ check_producer ws = ticket ws >>= λ t. Some (CheckProducer t)
 abbrev pub close_producer : List (List ℕ) → Option Asked
 close_producer ws = ticket ws >>= λ t. Some (CloseProducer t)
 
--- a word that belongs to a producer, and what follows it
-abbrev pub producer_call : (word : List ℕ) → List (List ℕ) → Option Asked
-producer_call w ws =
+-- call consumer ..
+abbrev pub consumes : List (List ℕ) → Option Asked
+consumes ws = consumer ws >>= λ c. Some (Consumer c)
+
+-- call ack TICKET TOPIC ID, call ack-all TICKET TOPIC ID
+abbrev pub ack : (cumulative : Bool) → List (List ℕ) → Option Asked
+ack cumulative (c ∷ t ∷ i ∷ []) = do
+  consumer ← number c
+  topic ← text t
+  id ← id i
+  Some (Ack consumer topic id cumulative)
+ack cumulative _ = None
+
+-- call nack TICKET TOPIC ID
+abbrev pub nack : List (List ℕ) → Option Asked
+nack (c ∷ t ∷ i ∷ []) = do
+  consumer ← number c
+  topic ← text t
+  id ← id i
+  Some (Nack consumer topic id)
+nack _ = None
+
+-- call close TICKET
+abbrev pub close : List (List ℕ) → Option Asked
+close ws = ticket ws >>= λ t. Some (CloseConsumer t)
+
+-- a word that belongs to a consumer, and what follows it
+abbrev pub consumer_call : (word : List ℕ) → List (List ℕ) → Option Asked
+consumer_call w ws =
+    if bytes_eq w (codes "consumer") then consumes ws
+    else if bytes_eq w (codes "ack") then ack false ws
+    else if bytes_eq w (codes "ack-all") then ack true ws
+    else if bytes_eq w (codes "nack") then nack ws
+    else if bytes_eq w (codes "close") then close ws
+    else None
+
+-- a word that belongs to a producer, or to a consumer
+abbrev pub member_call : (word : List ℕ) → List (List ℕ) → Option Asked
+member_call w ws =
     if bytes_eq w (codes "producer") then builds ws
     else if bytes_eq w (codes "send") then send ws
     else if bytes_eq w (codes "send-all") then send_all ws
     else if bytes_eq w (codes "flush") then flush ws
     else if bytes_eq w (codes "check-producer") then check_producer ws
     else if bytes_eq w (codes "close-producer") then close_producer ws
-    else None
+    else consumer_call w ws
 
 -- what stands behind `call`
 abbrev pub call : List (List ℕ) → Option Asked
@@ -111,7 +149,7 @@ call (w ∷ ws) =
     else if bytes_eq w (codes "partitions") then partitions ws
     else if bytes_eq w (codes "brokers") then brokers ws
     else if bytes_eq w (codes "link") then on_link ws
-    else producer_call w ws
+    else member_call w ws
 
 -- call ..
 abbrev pub called : List (List ℕ) → Option Heard

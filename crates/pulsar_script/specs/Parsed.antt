@@ -1,17 +1,22 @@
 -- For the code's contracts alone: what its parsed values stand for.
-use Rattle.std.specs.Prelude.{◌≡◌, ◌==◌, ℕ, List, Option, Some, None, false, map, string_bytes, Vec}
+use Rattle.std.specs.Prelude.{◌≡◌, ◌==◌, ℕ, List, Option, Some, None, Bool, true, false, map, string_bytes, Vec}
 use Rattle.std.specs.List.{All}
+use Rattle.std.specs.Option.{option_map}
 use Rattle.pulsar_wire.specs.Row.{Values}
 use Rattle.pulsar_wire.specs.Rows.{message_id}
 use Rattle.pulsar_wire.specs.Views.{message_id_values}
 use Rattle.pulsar_wire.specs.declared.commands.ids.MessageIdData.{MessageIdData}
-use Rattle.pulsar_messages.specs.Content.{authentication_values, message_content}
+use Rattle.pulsar_messages.specs.Content.{authentication_values, consumer_options_values, message_content}
 use Rattle.pulsar_calls.specs.Content.{heard}
 use Rattle.pulsar_script.specs.Words.{digits_from, in_range}
+use Rattle.pulsar_consumer.specs.Content.{consumer_wanted}
 use Rattle.pulsar_producer.specs.Wanted.{producer_wanted}
+use Rattle.pulsar_script.specs.ConsumerWords.{Subscriber, Draft as ConsumerDraft}
 use Rattle.pulsar_script.specs.MessageWords.{Draft}
 use Rattle.pulsar_script.specs.ProducerWords.{Draft as ProducerDraft}
 use Rattle.pulsar_script.specs.Grammar.{Setting, Url, Auth, Outbound, Timeout, RetryDelay, OpRetries, Retries, MinBackoff, MaxBackoff, ConnectionTimeout, KeepAlive, MaxIdle, Seed, First, Now, Line, Nothing, Sets, Happens, Refused}
+use Rattle.pulsar_script.specs.declared.grammar.consumer.Draft.{Draft as ParsedConsumer}
+use Rattle.pulsar_script.specs.declared.grammar.consumer.Subscriber.{Subscriber as ParsedSubscriber}
 use Rattle.pulsar_script.specs.declared.grammar.line.Line.{Line as Parsed}
 use Rattle.pulsar_script.specs.declared.grammar.line.Line.TheVariants as parsed
 use Rattle.pulsar_script.specs.declared.grammar.message.Draft.{Draft as ParsedDraft}
@@ -30,6 +35,18 @@ draft_of d = record { message = message_content d.message; has_data = d.has_data
 -- and those of a producer
 abbrev pub producer_draft_of : ParsedProducer → ProducerDraft
 producer_draft_of d = record { wanted = producer_wanted d.builder; has_block = d.has_block }
+
+-- and those of a consumer
+abbrev pub consumer_draft_of : ParsedConsumer → ConsumerDraft
+consumer_draft_of d = record { wanted = consumer_wanted d.builder; has_position = d.has_position }
+
+-- what they say with a word more, unless that was refused
+abbrev pub taken_in : (taken : Bool) → ConsumerDraft → Option ConsumerDraft
+taken_in true d = Some d
+taken_in false d = None
+
+abbrev pub subscriber_of : ParsedSubscriber → Subscriber
+subscriber_of s = record { name = option_map string_bytes s.name; options = consumer_options_values s.options }
 
 -- what a parsed setting is, and a parsed line
 abbrev pub setting_of : ParsedSetting → Setting

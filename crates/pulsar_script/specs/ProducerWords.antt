@@ -7,15 +7,14 @@ use Rattle.std.specs.Option.{is_some}
 use Rattle.std.specs.Ordering.{nat_cmp}
 use Rattle.std.specs.Str.{bytes_eq}
 use Rattle.pulsar_wire.specs.Field.{◌>>=◌}
-use Rattle.pulsar_wire.specs.Row.{Values, reading}
-use Rattle.pulsar_wire.specs.Rows as rows
 use Rattle.pulsar_messages.specs.Content.{ProducerOptionsValues}
 use Rattle.pulsar_messages.specs.declared.routing_policy.RoutingPolicy.{RoutingPolicy}
 use Rattle.pulsar_messages.specs.declared.routing_policy.RoutingPolicy.TheVariants.{RoundRobin, Single, Custom}
 use Rattle.pulsar_producer.specs.Wanted.{ProducerWanted, no_producer}
 use Rattle.pulsar_script.specs.Choices.{flag}
+use Rattle.pulsar_script.specs.Encoded.{schema_of}
 use Rattle.pulsar_script.specs.MessageWords.{cut, unless}
-use Rattle.pulsar_script.specs.Words.{hex, number, text}
+use Rattle.pulsar_script.specs.Words.{number, text}
 
 -- what the words so far say: each part stands once, but for the metadata
 pub record Draft : Type 0 where
@@ -108,9 +107,6 @@ meta d word = do
   Some (with_meta d name value)
 
 -- schema=HEX: the bytes of a Schema
-abbrev pub schema_of : List ℕ → Option (Values rows.schema)
-schema_of word = hex word >>= reading rows.schema
-
 abbrev pub schema : Draft → List ℕ → Option Draft
 schema d word =
     unless (is_some d.wanted.options.schema)

@@ -2,22 +2,17 @@
 use Rattle.std.specs.Prelude.{ℕ, if◌then◌else◌, List, [], ◌∷◌, ◌++◌, Option, Some, None, codes}
 use Rattle.std.specs.Str.{bytes_eq}
 use Rattle.pulsar_wire.specs.Field.{◌>>=◌}
-use Rattle.pulsar_wire.specs.Row.{Values, each, reading}
+use Rattle.pulsar_wire.specs.Row.{Values, each}
 use Rattle.pulsar_wire.specs.Rows.{message_id}
-use Rattle.pulsar_messages.specs.Content.{AuthenticationValues, empty_consumer_options}
+use Rattle.pulsar_messages.specs.Content.{AuthenticationValues}
 use Rattle.pulsar_messages.specs.Words as raw
 use Rattle.pulsar_messages.specs.Words.{Words}
-use Rattle.pulsar_script.specs.Words.{hex, number, optional, small_number, text, word_bytes}
+use Rattle.pulsar_script.specs.Words.{number, optional, small_number, text, word_bytes}
 use Rattle.pulsar_script.specs.Choices.{cumulative, flag, mode, sub_type}
+use Rattle.pulsar_script.specs.ConsumerWords.{who_subscribes}
+use Rattle.pulsar_script.specs.Encoded.{id}
 use Rattle.pulsar_script.specs.MessageWords.{message}
 use Rattle.pulsar_script.specs.ProducerWords.{options}
-
--- an id: the hex of its bytes, and `%` for no bytes, of which it is the one of zeros
-abbrev pub id_bytes : List ℕ → Option (List ℕ)
-id_bytes word = if bytes_eq word (codes "%") then Some [] else hex word
-
-abbrev pub id : List ℕ → Option (Values message_id)
-id word = id_bytes word >>= reading message_id
 
 -- an id more, unless one was refused
 abbrev pub with_id : Option (List (Values message_id)) → List ℕ → Option (List (Values message_id))
@@ -105,14 +100,15 @@ close_producer _ = None
 
 -- FOR A CONSUMER
 
--- subscribe TOPIC SUBSCRIPTION TYPE NUMBER
+-- subscribe TOPIC SUBSCRIPTION TYPE NUMBER ..
 abbrev pub subscribe : List (List ℕ) → Option Words
-subscribe (t ∷ s ∷ k ∷ c ∷ []) = do
+subscribe (t ∷ s ∷ k ∷ c ∷ ws) = do
   topic ← text t
   subscription ← text s
   kind ← sub_type k
   consumer ← number c
-  Some (raw.Subscribe topic subscription kind consumer None empty_consumer_options)
+  who ← who_subscribes ws
+  Some (raw.Subscribe topic subscription kind consumer who.name who.options)
 subscribe _ = None
 
 -- flow NUMBER NUMBER

@@ -44,7 +44,7 @@ effect (Connect l host port) = codes "connect " ++ decimal l ++ codes " " ++ wor
 effect (Queued l place bytes) = codes "queued " ++ decimal l ++ codes " " ++ decimal place ++ codes " " ++ hex bytes
 effect (Retry l delay) = codes "retry " ++ decimal l ++ codes " " ++ decimal delay
 effect (Close l) = codes "close " ++ decimal l
-effect (Hands ticket topic id metadata payload) =
+effect (Hands ticket topic id batch_size metadata payload) =
     codes "item " ++ decimal ticket ++ codes " " ++ word topic ++ codes " " ++ hex id ++ codes " " ++ hex metadata ++ codes " " ++ word payload
 effect (Faults ticket fault) = codes "fault " ++ decimal ticket ++ codes " " ++ failure fault
 effect (FindsNothing ticket) = codes "empty " ++ decimal ticket

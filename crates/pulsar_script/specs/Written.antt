@@ -1,13 +1,24 @@
 -- The line of a setting or an event, as one writes it: it reads back as that setting or event.
-use Rattle.std.specs.Prelude.{◌≡◌, ℕ, ◌<◌, List, ◌∷◌, ◌++◌, length, codes}
+use Rattle.std.specs.Prelude.{◌≡◌, ℕ, ◌<◌, Bool, true, false, List, [], ◌∷◌, ◌++◌, length, codes}
 use Rattle.std.specs.Fmt.{decimal}
 use Rattle.std.specs.List.{AllByRecursion}
 use Rattle.hex.specs.Hex.{IsBytes, encode_lower}
-use Rattle.pulsar_calls.specs.Content.{Asked, Build, Stop, Topics, Lookup, Partitions, Brokers, Producer, Send, SendAll, Flush, CheckProducer, CloseProducer, Raw, Heard, Called, Opened, FailedToOpen, Bytes, Lost, Drain, Ticked, Poll}
+use Rattle.pulsar_wire.specs.Row.{Values}
+use Rattle.pulsar_wire.specs.Rows.{message_id}
+use Rattle.pulsar_calls.specs.Content.{Asked, Build, Stop, Topics, Lookup, Partitions, Brokers, Producer, Send, SendAll, Flush, CheckProducer, CloseProducer, Consumer, Ack, Nack, CloseConsumer, Raw, Heard, Called, Opened, FailedToOpen, Bytes, Lost, Drain, Ticked, Poll}
 use Rattle.pulsar_script.specs.Grammar.{Setting, Url, Auth, Outbound, Timeout, RetryDelay, OpRetries, Retries, MinBackoff, MaxBackoff, ConnectionTimeout, KeepAlive, MaxIdle, Seed, First, Now, Sets, Happens, line}
 use Rattle.pulsar_script.specs.ErrorText.{io_kind}
 use Rattle.pulsar_script.specs.WordText.{word}
-use Rattle.pulsar_script.specs.WrittenRaw.{CanBeMade, CanBeSaid, CanBeSent, IsCount, IsCredential, IsNumber, IsText, Where, behind_blanks, credential_words, message_words, messages_words, mode_word, producer_words, raw_words}
+use Rattle.pulsar_script.specs.WrittenRaw.{CanBeMade, CanBeSaid, CanBeSent, CanConsume, IsCount, IsCredential, IsId, IsNumber, IsText, Where, behind_blanks, consumer_words, credential_words, id_word, message_words, messages_words, mode_word, producer_words, raw_words}
+
+-- one message, or all up to it
+abbrev pub ack_word : (cumulative : Bool) → List ℕ
+ack_word false = codes "ack"
+ack_word true = codes "ack-all"
+
+-- a message of a consumer: the consumer, the topic and the id
+abbrev pub acked_words : (consumer : ℕ) (topic : List ℕ) → Values message_id → List (List ℕ)
+acked_words consumer topic id = decimal consumer ∷ word topic ∷ id_word id ∷ []
 
 -- the words behind `call`
 abbrev pub call_words : Asked → List ℕ
@@ -23,6 +34,10 @@ call_words (SendAll producer messages) = codes "send-all " ++ decimal producer +
 call_words (Flush producer) = codes "flush " ++ decimal producer
 call_words (CheckProducer producer) = codes "check-producer " ++ decimal producer
 call_words (CloseProducer producer) = codes "close-producer " ++ decimal producer
+call_words (Consumer wanted) = codes "consumer" ++ behind_blanks (consumer_words wanted)
+call_words (Ack consumer topic id cumulative) = ack_word cumulative ++ behind_blanks (acked_words consumer topic id)
+call_words (Nack consumer topic id) = codes "nack" ++ behind_blanks (acked_words consumer topic id)
+call_words (CloseConsumer consumer) = codes "close " ++ decimal consumer
 call_words (Raw link words) = codes "link " ++ decimal link ++ behind_blanks (raw_words words)
 
 -- numbers are decimal without leading zeros, texts are words as they are printed, bytes are hex in lower case
@@ -37,7 +52,7 @@ written (Ticked now) = codes "tick " ++ decimal now
 written (Poll ticket) = codes "poll " ++ decimal ticket
 
 -- An event has a line where its numbers have 64 bits, its text is UTF-8, it has a byte at least, and what is asked of one connection, of a
--- producer or for its messages can be said in words.
+-- producer, of a consumer or for their messages can be said in words.
 abbrev pub CanBeAsked : Asked → Type 0
 CanBeAsked Build = Unit {0}
 CanBeAsked Stop = Unit {0}
@@ -51,6 +66,10 @@ CanBeAsked (SendAll producer messages) = IsNumber producer × AllByRecursion Can
 CanBeAsked (Flush producer) = IsNumber producer
 CanBeAsked (CheckProducer producer) = IsNumber producer
 CanBeAsked (CloseProducer producer) = IsNumber producer
+CanBeAsked (Consumer wanted) = CanConsume wanted
+CanBeAsked (Ack consumer topic id cumulative) = IsNumber consumer × IsText topic × IsId id
+CanBeAsked (Nack consumer topic id) = IsNumber consumer × IsText topic × IsId id
+CanBeAsked (CloseConsumer consumer) = IsNumber consumer
 CanBeAsked (Raw link words) = IsNumber link × CanBeSaid words
 
 abbrev pub CanBeWritten : Heard → Type 0

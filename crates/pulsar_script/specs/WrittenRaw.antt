@@ -11,13 +11,16 @@ use Rattle.hex.specs.Hex.{IsBytes, encode_lower}
 use Rattle.pulsar_wire.specs.Fits.{Fits}
 use Rattle.pulsar_wire.specs.Row.{Values, spelling}
 use Rattle.pulsar_wire.specs.Rows.{message_id, schema}
+use Rattle.pulsar_wire.specs.declared.commands.enumerations.InitialPosition.{InitialPosition}
+use Rattle.pulsar_wire.specs.declared.commands.enumerations.InitialPosition.TheVariants.{Latest, Earliest}
 use Rattle.pulsar_wire.specs.declared.commands.enumerations.SubType.{SubType}
 use Rattle.pulsar_wire.specs.declared.commands.enumerations.SubType.TheVariants.{Exclusive, Shared, Failover, KeyShared}
 use Rattle.pulsar_wire.specs.declared.commands.topics.Mode.{Mode}
 use Rattle.pulsar_wire.specs.declared.commands.topics.Mode.TheVariants.{Persistent, NonPersistent, All}
-use Rattle.pulsar_messages.specs.Content.{AuthenticationValues, ProducerMessageValues, ProducerOptionsValues, Property, empty_consumer_options}
+use Rattle.pulsar_messages.specs.Content.{AuthenticationValues, ConsumerOptionsValues, ProducerMessageValues, ProducerOptionsValues, Property}
 use Rattle.pulsar_messages.specs.declared.routing_policy.RoutingPolicy.{RoutingPolicy}
 use Rattle.pulsar_messages.specs.declared.routing_policy.RoutingPolicy.TheVariants.{RoundRobin, Single, Custom}
+use Rattle.pulsar_consumer.specs.Content.{ConsumerWanted}
 use Rattle.pulsar_producer.specs.Wanted.{ProducerWanted}
 use Rattle.pulsar_messages.specs.Words.{Words, SendPing, SendPong, AuthChallenge, LookupTopic, LookupPartitionedTopic, GetTopicsOfNamespace, GetSchema, CreateProducer, Send, CloseProducer, Subscribe, SendFlow, SendAck, SendRedeliver, Seek, GetLastMessageId, GetConsumerStats, Unsubscribe, CloseConsumer, CloseConsumerUnawaited}
 use Rattle.pulsar_script.specs.WordText.{word}
@@ -104,6 +107,34 @@ abbrev pub producer_words : ProducerWanted → List (List ℕ)
 producer_words w =
     map (λ t. codes "topic=" ++ word t) (option_to_list w.topic) ++ map (λ t. codes "name=" ++ word t) (option_to_list w.name) ++ option_words w.options
 
+-- the words of a consumer: its name, and whatever is said of how its subscription is made
+abbrev pub position_words : InitialPosition → List (List ℕ)
+position_words Latest = []
+position_words Earliest = codes "position=earliest" ∷ []
+
+abbrev pub subscriber_words : (name : Option (List ℕ)) → ConsumerOptionsValues → List (List ℕ)
+subscriber_words name o =
+    map (λ t. codes "name=" ++ word t) (option_to_list name)
+    ++ map (λ z. codes "priority=" ++ signed_word z) (option_to_list o.priority_level)
+    ++ map (λ b. codes "durable=" ++ flag_word b) (option_to_list o.durable)
+    ++ map (λ i. codes "start=" ++ id_word i) (option_to_list o.start_message_id)
+    ++ map (λ b. codes "compacted=" ++ flag_word b) (option_to_list o.read_compacted)
+    ++ position_words o.initial_position
+    ++ map meta_word o.metadata
+    ++ map (λ s. codes "schema=" ++ encode_lower (spelling schema s)) (option_to_list o.schema)
+
+-- and what it reads
+abbrev pub consumer_words : ConsumerWanted → List (List ℕ)
+consumer_words w =
+    map (λ t. codes "topic=" ++ word t) w.topics
+    ++ map (λ t. codes "sub=" ++ word t) (option_to_list w.subscription)
+    ++ map (λ k. codes "type=" ++ sub_type_word k) (option_to_list w.subscription_type)
+    ++ map (λ t. codes "namespace=" ++ word t) (option_to_list w.namespace)
+    ++ map (λ n. codes "id=" ++ decimal n) (option_to_list w.consumer_id)
+    ++ map (λ n. codes "batch=" ++ decimal n) (option_to_list w.batch_size)
+    ++ map (λ n. codes "queue=" ++ decimal n) (option_to_list w.options.receiver_queue_size)
+    ++ subscriber_words w.consumer_name w.options
+
 -- a credential: its method, and what it shows
 abbrev pub credential_words : AuthenticationValues → List (List ℕ)
 credential_words c = word c.name ∷ word c.auth_data ∷ []
@@ -124,7 +155,7 @@ raw_words (Send producer name sequence m block) =
     codes "send" ∷ decimal producer ∷ word name ∷ decimal sequence ∷ flag_word block ∷ message_words m
 raw_words (CloseProducer producer) = codes "close-producer" ∷ decimal producer ∷ []
 raw_words (Subscribe topic subscription kind consumer name options) =
-    codes "subscribe" ∷ word topic ∷ word subscription ∷ sub_type_word kind ∷ decimal consumer ∷ []
+    codes "subscribe" ∷ word topic ∷ word subscription ∷ sub_type_word kind ∷ decimal consumer ∷ subscriber_words name options
 raw_words (SendFlow consumer permits) = codes "flow" ∷ decimal consumer ∷ decimal permits ∷ []
 raw_words (SendAck consumer ids cumulative) = codes "ack" ∷ decimal consumer ∷ cumulative_word cumulative ∷ map id_word ids
 raw_words (SendRedeliver consumer ids) = codes "redeliver" ∷ decimal consumer ∷ map id_word ids
@@ -198,10 +229,10 @@ pub record CanBeSent (m : ProducerMessageValues) : Type 0 where
   pub schema_version : Where IsBytes m.schema_version
   pub deliver_at_time : Where IsSigned m.deliver_at_time
 
--- an access mode is said without a sign
-abbrev pub IsMode : ℤ → Type 0
-IsMode (pos n) = n < 2 ^ 31
-IsMode (negsuc n) = ⊥
+-- a number of 32 bits that is said without a sign: an access mode, and a level
+abbrev pub IsUnsigned : ℤ → Type 0
+IsUnsigned (pos n) = n < 2 ^ 31
+IsUnsigned (negsuc n) = ⊥
 
 abbrev pub IsPolicy : RoutingPolicy → Type 0
 IsPolicy RoundRobin = Unit {0}
@@ -213,13 +244,36 @@ pub record CanBeMade (o : ProducerOptionsValues) : Type 0 where
   pub batch_size : Where IsCount o.batch_size
   pub batch_byte_size : Where IsNumber o.batch_byte_size
   pub batch_timeout : Where IsNumber o.batch_timeout
-  pub access_mode : Where IsMode o.access_mode
+  pub access_mode : Where IsUnsigned o.access_mode
   pub routing_policy : Where IsPolicy o.routing_policy
   pub metadata : AllByRecursion IsProperty o.metadata
   pub ordered : IsStrictlySortedBy (slice_cmp nat_cmp) (map (λ p. p.0) o.metadata)
   pub schema : Where IsSchema o.schema
 
--- consumers are asked for without options and without a name
+-- so are those of a subscription
+pub record CanSubscribe (called : Option (List ℕ)) (o : ConsumerOptionsValues) : Type 0 where
+  pub name : Where IsText called
+  pub priority_level : Where IsUnsigned o.priority_level
+  pub start_message_id : Where IsId o.start_message_id
+  pub metadata : AllByRecursion IsProperty o.metadata
+  pub ordered : IsStrictlySortedBy (slice_cmp nat_cmp) (map (λ p. p.0) o.metadata)
+  pub schema : Where IsSchema o.schema
+
+-- And those of a consumer. No word names a prefix of its topics, or says what becomes of messages that are not acknowledged.
+pub record CanConsume (w : ConsumerWanted) : Type 0 where
+  pub topics : AllByRecursion IsText w.topics
+  pub subscription : Where IsText w.subscription
+  pub namespace : Where IsText w.namespace
+  pub consumer_id : Where IsNumber w.consumer_id
+  pub batch_size : Where IsCount w.batch_size
+  pub queue_size : Where IsCount w.options.receiver_queue_size
+  pub subscribes : CanSubscribe w.consumer_name w.options
+  pub no_prefix : w.topic_prefix ≡ None
+  pub no_refresh : w.topic_refresh ≡ None
+  pub no_policy : w.dead_letter_policy ≡ None
+  pub no_delay : w.unacked_message_resend_delay ≡ None
+
+-- on one connection nothing is said of how many messages a consumer holds
 abbrev pub CanBeSaid : Words → Type 0
 CanBeSaid SendPing = Unit {0}
 CanBeSaid SendPong = ⊥
@@ -233,7 +287,7 @@ CanBeSaid (CreateProducer topic producer name options) =
 CanBeSaid (Send producer name sequence m block) = IsNumber producer × IsText name × IsNumber sequence × CanBeSent m
 CanBeSaid (CloseProducer producer) = IsNumber producer
 CanBeSaid (Subscribe topic subscription kind consumer name options) =
-    IsText topic × IsText subscription × IsNumber consumer × (name ≡ None) × (options ≡ empty_consumer_options)
+    IsText topic × IsText subscription × IsNumber consumer × CanSubscribe name options × (options.receiver_queue_size ≡ None)
 CanBeSaid (SendFlow consumer permits) = IsNumber consumer × (permits < 2 ^ 32)
 CanBeSaid (SendAck consumer ids cumulative) = IsNumber consumer × AllByRecursion IsId ids
 CanBeSaid (SendRedeliver consumer ids) = IsNumber consumer × AllByRecursion IsId ids

@@ -12,7 +12,7 @@ use Rattle.std.specs.Ordering.{nat_cmp}
 use Rattle.std.specs.declared.cmp.Ordering.TheVariants.{Less}
 use Rattle.pulsar_requests.proofs.Awaiting.{is_at-eqb}
 use Rattle.pulsar_calls.specs.Content.{numbers_from}
-use Rattle.pulsar_tables.specs.Subscribers.{is_listed}
+use Rattle.pulsar_tables.specs.KeptConsumers.{is_listed}
 use Rattle.pulsar_calls.proofs.Counted.{next_number}
 use Rattle.pulsar_calls.proofs.Lists.{filter_map_end}
 
@@ -65,10 +65,10 @@ module _ {A : Type 0} (g : ℕ → List A) where
 
 -- THE SAME BY KEYS IN ORDER
 
-swapped : (a b : ℕ) → (a == b) ≡ (b == a)
+pub swapped : (a b : ℕ) → (a == b) ≡ (b == a)
 swapped a b = grind (arith, nat_tests)
 
-listed_is : (l : ℕ) (ks : List ℕ) → list_any (is_at (nat_cmp l)) ks ≡ is_listed l ks
+pub listed_is : (l : ℕ) (ks : List ℕ) → list_any (is_at (nat_cmp l)) ks ≡ is_listed l ks
 listed_is l [] = refl
 listed_is l (k ∷ ks) = ap (λ b. b || list_any (is_at (nat_cmp l)) ks) (is_at-eqb l k ∙ swapped l k) ∙ ap (λ b. (k == l) || b) (listed_is l ks)
 

@@ -13,19 +13,28 @@ use Rattle.std.specs.List.{AllByRecursion, list_any}
 use Rattle.std.specs.List.Sorted.{IsStrictlySortedBy}
 use Rattle.std.specs.Map.{keys_of, remove_entry}
 use Rattle.std.specs.Option.{is_some}
-use Rattle.std.specs.declared.cmp.Ordering.TheVariants.{Less}
+use Rattle.std.specs.Ordering.{nat_cmp, ordering_then}
+use Rattle.std.specs.declared.cmp.Ordering.{Ordering}
+use Rattle.std.specs.declared.cmp.Ordering.TheVariants.{Less, Equal, Greater}
 use Rattle.pulsar_requests.specs.Soonest.{has_come}
 use Rattle.pulsar_calls.specs.contracts.act.AlarmOrd.TheImpl.Laws.{total-law}
 use Rattle.pulsar_calls.specs.declared.act.Alarm.{Alarm}
 use Rattle.pulsar_calls.specs.declared.act.Alarm.TheVariants.{Retry, Wake, Batch, KeepAlive, CheckIdle}
-use Rattle.pulsar_calls.specs.declared.act.Who.TheVariants.{Call, Producer}
+use Rattle.pulsar_calls.specs.declared.act.Who.TheVariants.{Call, Consumer, Producer}
 use Rattle.pulsar_tables.specs.Alarms.{alarm_cmp, is_same_alarm, moment_of, ringing}
 use Rattle.pulsar_tables.specs.Due.{is_moment}
 use Rattle.pulsar_calls.proofs.Lists.{any_end}
 
+-- consumers are told apart by their numbers, and by their tickets
+exact_consumer : (m s n t : ℕ) (o : Ordering) → nat_cmp m n ≡ o → ordering_then o (nat_cmp s t) ≡ Equal → Wake (Consumer m s) ≡ Wake (Consumer n t)
+exact_consumer m s n t Less e h = absurd cc
+exact_consumer m s n t Equal e h = λ i. Wake (Consumer (exact_unsigned m n e i) (exact_unsigned s t h i))
+exact_consumer m s n t Greater e h = absurd cc
+
 pub exact_alarm : CmpEqualImpliesEq alarm_cmp
 exact_alarm (Retry l) (Retry k) h = ap Retry (exact_unsigned l k h)
 exact_alarm (Wake (Call s)) (Wake (Call t)) h = ap (λ x. Wake (Call x)) (exact_unsigned s t h)
+exact_alarm (Wake (Consumer m s)) (Wake (Consumer n t)) h = exact_consumer m s n t (nat_cmp m n) refl h
 exact_alarm (Wake (Producer m)) (Wake (Producer n)) h = ap (λ x. Wake (Producer x)) (exact_unsigned m n h)
 exact_alarm (Batch m) (Batch n) h = ap Batch (exact_unsigned m n h)
 exact_alarm (KeepAlive l) (KeepAlive k) h = ap KeepAlive (exact_unsigned l k h)

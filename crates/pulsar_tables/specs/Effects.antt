@@ -11,12 +11,12 @@ use Rattle.pulsar_calls.specs.declared.act.LinkAct.{LinkAct}
 use Rattle.pulsar_calls.specs.declared.act.Part.TheVariants.{ToLink, Polls}
 use Rattle.pulsar_calls.specs.declared.act.Who.{Who}
 use Rattle.pulsar_tables.specs.declared.addresses.Pause.{Pause}
-use Rattle.pulsar_calls.specs.declared.act.Who.TheVariants.{Call, Producer}
+use Rattle.pulsar_calls.specs.declared.act.Who.TheVariants.{Call, Consumer, Producer}
 use Rattle.pulsar_tables.specs.Address.{leads_to}
 use Rattle.pulsar_plans.specs.Address.{Place}
 use Rattle.pulsar_calls.specs.Content.{Said, Shown, Connect, Queued, Write, Settles, Ends, Retry, Close, Hands, Faults, FindsNothing, FindsEnd}
 use Rattle.pulsar_tables.specs.Links as links
-use Rattle.pulsar_tables.specs.Subscriptions.{polled}
+use Rattle.pulsar_tables.specs.Consumers.{polled}
 use Rattle.pulsar_tables.specs.View.{Chosen, Seat, Turned, View, delay_of, turned}
 
 -- links
@@ -31,6 +31,7 @@ asked_at l now request (Some seat) = links.queues l seat.seen (session.after (As
 -- calls
 abbrev pub ends : Who → Said → List Shown
 ends (Call ticket) said = Ends ticket said ∷ []
+ends (Consumer number ticket) said = []
 ends (Producer number) said = []
 
 -- an attempt asks for a connection to where its address leads
@@ -54,7 +55,7 @@ retries_on o (Some t) = retries o t.link t.pause
 
 abbrev pub effects : View → Act → List Shown
 effects v (Comes (ToLink l x)) = given_at l x v.now (v.links.live l) ++ retries_on v.chosen (turned v (Comes (ToLink l x)))
-effects v (Comes (Polls ticket)) = option_to_list (option_map (polled ticket) (v.consumers ticket))
+effects v (Comes (Polls ticket)) = option_to_list (option_map (polled ticket) (v.consumers.rows ticket))
 effects v (Does who (Ask l request)) = asked_at l v.now request (v.links.live l)
 effects v (Answers who verdict) = ends who verdict.said
 effects v (Dials p starter retries) = connects v.links.started p
@@ -71,7 +72,7 @@ effect_rank (Connect l host port) = (3, l, 0)
 effect_rank (Queued l place bytes) = (4, l, place)
 effect_rank (Retry l delay) = (5, l, 0)
 effect_rank (Close l) = (6, l, 0)
-effect_rank (Hands ticket topic id metadata payload) = (0, ticket, 0)
+effect_rank (Hands ticket topic id size metadata payload) = (0, ticket, 0)
 effect_rank (Faults ticket fault) = (0, ticket, 0)
 effect_rank (FindsNothing ticket) = (0, ticket, 0)
 effect_rank (FindsEnd ticket) = (0, ticket, 0)

@@ -1,5 +1,5 @@
--- For the code's contracts alone: the links, the addresses, the alarms and the producers, as the code keeps them, and what is read of a link
--- that may have ended.
+-- For the code's contracts alone: the links, the addresses, the alarms, the producers and the consumers, as the code keeps them, and what is
+-- read of a link that may have ended.
 use Rattle.std.specs.Prelude.{◌≡◌, ℕ, ◌≤◌, Bool, true, false, List, Option, Some, None, String}
 use Rattle.std.specs.BTreeMap.{BTreeMap, IsOrdered, get, get_by_text}
 use Rattle.std.specs.BTreeSet.{BTreeSet, contains}
@@ -21,7 +21,6 @@ use Rattle.pulsar_tables.specs.declared.row.Row.{Row}
 use Rattle.pulsar_tables.specs.Alarms.{alarm_cmp, moment_of}
 use Rattle.pulsar_tables.specs.Due.{is_moment, moment_at}
 use Rattle.pulsar_tables.specs.Rules.{ended_on}
-use Rattle.pulsar_tables.specs.Subscriptions.{Subscription}
 use Rattle.pulsar_tables.specs.declared.producers.Producers.{Producers as KeptProducers}
 use Rattle.pulsar_tables.specs.Producers.{Producers}
 use Rattle.pulsar_tables.specs.View.{Addresses, Base, Links, Seat, askers_left, closing, may_retry, nobody, pause_with, ping_left}
@@ -57,10 +56,6 @@ abbrev pub IsEnd : Option (Place × Vec Notice) → End → (now : ℕ) → Opti
 IsEnd None end now row = closing end now row ≡ None
 IsEnd (Some r) end now row =
     (cause : Fault) × (closing end now row ≡ Some cause) × (option_map (λ seat. seat.address) row ≡ Some r.0) × (r.1.items ≡ ended_on end now row)
-
--- no consumer has a ticket that was not drawn yet
-abbrev pub AreTicketed : (drawn : ℕ) → (ℕ → Option Subscription) → Type 0
-AreTicketed drawn consumers = (t : ℕ) → drawn ≤ t → consumers t ≡ None
 
 -- THE ADDRESSES
 

@@ -1,11 +1,12 @@
 pub mod Address
 pub mod Links
-pub mod Subscriptions
+pub mod Consumers
 pub mod Alarms
 pub mod Producers
 pub mod View
+pub mod Reading
 pub mod Rules
 pub mod Effects
-pub mod Subscribers
+pub mod KeptConsumers
 pub mod Due
 pub mod Kept

@@ -300,6 +300,10 @@ opened_on (content.SendAll t ms) ps = sent_on t ms ps
 opened_on (content.Flush t) ps = ps
 opened_on (content.CheckProducer t) ps = ps
 opened_on (content.CloseProducer t) ps = ps
+opened_on (content.Consumer wanted) ps = ps
+opened_on (content.Ack t name id cumulative) ps = ps
+opened_on (content.Nack t name id) ps = ps
+opened_on (content.CloseConsumer t) ps = ps
 opened_on (content.Raw l words) ps = names_in (named_producer words) ps
 
 abbrev pub called_on : (is_open : Bool) → Asked → Producers → Producers

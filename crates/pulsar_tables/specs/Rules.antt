@@ -1,6 +1,6 @@
 -- What an event brings, and what arises from an act: at once, as further parts, among those whom the present cause still serves, or as
 -- causes of their own.
-use Rattle.std.specs.Prelude.{ℕ, ◌+◌, ◌-◌, ◌^◌, nat_le, nat_lt, Bool, false, ◌&&◌, ◌||◌, not, ◌==◌, if◌then◌else◌, List, [], ◌∷◌, ◌++◌, drop, length, map, Option, Some, None, Result, Ok, Err}
+use Rattle.std.specs.Prelude.{ℕ, ◌+◌, ◌-◌, ◌^◌, nat_le, nat_lt, Bool, true, false, ◌&&◌, ◌||◌, not, ◌==◌, if◌then◌else◌, List, [], ◌∷◌, ◌++◌, drop, length, map, Option, Some, None, Result, Ok, Err}
 use Rattle.std.specs.List.{filter_map, flat_map}
 use Rattle.std.specs.Option.{is_none, is_some, option_map, option_to_list}
 use Rattle.pulsar_wire.specs.declared.error.ConnectionError.{ConnectionError}
@@ -19,7 +19,7 @@ use Rattle.pulsar_link.specs.Messages.{read}
 use Rattle.pulsar_calls.specs.declared.act.Act.{Act}
 use Rattle.pulsar_calls.specs.declared.act.Act.TheVariants.{Comes, Starts, Told, Does, Answers, Dials}
 use Rattle.pulsar_calls.specs.declared.act.Action.{Action}
-use Rattle.pulsar_calls.specs.declared.act.Action.TheVariants.{Get, Ask, Wait, TakeTurn, PassTurn, Draw, Recall, Remake, Number, Find, Shut, Store, Flush, TakeBatch, Tell, TellAll, StopAll, Rest}
+use Rattle.pulsar_calls.specs.declared.act.Action.TheVariants.{Get, Ask, Wait, TakeTurn, PassTurn, Draw, Recall, Remake, Number, Find, Shut, Store, Flush, TakeBatch, TakeNumber, FindConsumer, TakeFlow, RecallConsumer, Revive, FailConsumer, Tell, TellAll, StopAll, Rest}
 use Rattle.pulsar_calls.specs.declared.act.Alarm.{Alarm}
 use Rattle.pulsar_calls.specs.declared.act.Alarm.TheVariants.{Retry, Wake, Batch, KeepAlive, CheckIdle}
 use Rattle.pulsar_calls.specs.declared.act.Arrival.{Arrival}
@@ -47,6 +47,7 @@ use Rattle.pulsar_calls.specs.declared.act.Says.TheVariants as says
 use Rattle.pulsar_calls.specs.declared.act.Verdict.{Verdict}
 use Rattle.pulsar_calls.specs.declared.act.Who.{Who}
 use Rattle.pulsar_calls.specs.declared.act.Who.TheVariants.{Call, Producer}
+use Rattle.pulsar_calls.specs.declared.act.Word.TheVariants as word
 use Rattle.pulsar_calls.specs.declared.content.Building.{Building}
 use Rattle.pulsar_tables.specs.declared.addresses.Pause.{Pause}
 use Rattle.pulsar_tables.specs.declared.addresses.Series.{Series}
@@ -55,7 +56,7 @@ use Rattle.pulsar_procedures.specs.declared.plan.Plan.{Plan}
 use Rattle.pulsar_procedures.specs.declared.plan.Turn.{Turn}
 use Rattle.pulsar_procedures.specs.declared.plan.Turn.TheVariants.{Stays, Gives}
 use Rattle.pulsar_tables.specs.declared.producers.Topic.{Topic}
-use Rattle.pulsar_link.specs.Request.{named_producer}
+use Rattle.pulsar_link.specs.Request.{named_consumer, named_producer}
 use Rattle.pulsar_messages.specs.Content.{ProducerMessageValues}
 use Rattle.pulsar_plans.specs.declared.making.Command.{Command}
 use Rattle.pulsar_producer.specs.Routing.{Policy}
@@ -83,9 +84,12 @@ use Rattle.pulsar_tables.specs.Links as links
 use Rattle.pulsar_procedures.specs.Plan.{begins, closed_notice, fails}
 use Rattle.pulsar_tables.specs.Producers.{Producers, advice, batches_in, drawn, errand_of, is_held, is_settled_at, is_woken, link_at, next_batch_at, number_drawn, numbers_at, recalled, routed, stored_by, turn_passed, turn_taken, unsent, waiting, why_not}
 use Rattle.pulsar_calls.specs.Content.{next_advice}
-use Rattle.pulsar_tables.specs.View.{Addresses, Base, Chosen, Links, Options, Seat, Tickets, Turned, View, answer_at, arrival_at, is_live, later, may_call, room_of, told_some, turned, ways_of}
-use Rattle.pulsar_tables.specs.Subscriptions.{Subscription, is_heard}
-use Rattle.pulsar_calls.specs.Who.{in_turn, is_before, is_same, rank, turn_of}
+use Rattle.pulsar_tables.specs.View.{Addresses, Base, Chosen, Links, Options, Seat, Tickets, Turned, View, answer_at, arrival_at, is_live, later, may_call, room_of, told_some, turned, url_at, ways_of}
+use Rattle.pulsar_tables.specs.Consumers as consumer
+pub use Rattle.pulsar_tables.specs.Reading.{notice, stopped_one, tells, unless}
+use Rattle.pulsar_tables.specs.Reading.{acknowledges, again_at, closed_at, flow_said, heard_on, leaves, lost_on, made_due, numbering_said, polled_due, recalled_said, revived_at, revived_said, serves_by, sought_said, stopped_on, subscribes, tells_word}
+use Rattle.pulsar_tables.specs.Consumers.{Consumers, is_heard, over_rows}
+use Rattle.pulsar_calls.specs.Who.{in_turn, is_before, is_same, rank, ticket_of, turn_of}
 
 -- EVENTS
 
@@ -134,12 +138,6 @@ abbrev pub follows_some : Who → Option (Turn Plan Verdict) → List Act
 follows_some who None = []
 follows_some who (Some turn) = follows who turn
 
-abbrev pub notice : Who → Outcome → Notice
-notice who o = record { who = who; outcome = o }
-
-abbrev pub tells : Who → Outcome → List Act
-tells who o = Told (notice who o) ∷ []
-
 abbrev pub unless_refused : Bool → Procedure → Procedure
 unless_refused may p = if may then p else procedure.Refuse refusal.Shutdown
 
@@ -160,10 +158,6 @@ abbrev pub asks_topics : (namespace : List ℕ) → Mode → Place → Procedure
 asks_topics namespace mode base = procedure.Ask (place.At base) (words.GetTopicsOfNamespace namespace mode) says.Names
 
 -- CALLS ON PRODUCERS. One names a producer by the ticket of the call that built it.
-
-abbrev pub unless : Option Refusal → Procedure → Procedure
-unless None p = p
-unless (Some r) p = procedure.Refuse r
 
 -- it is built, where it is said to what it sends
 abbrev pub order_of : (topic : List ℕ) → ProducerWanted → Order
@@ -238,30 +232,42 @@ checks ps t = unless (why_not ps t) (procedure.Go Checks (numbers_at (ps.built t
 abbrev pub closes : Producers → (producer : ℕ) → Procedure
 closes ps t = if is_some (ps.built t) then procedure.Close t (numbers_at (ps.built t)) else procedure.Refuse refusal.UnknownTicket
 
--- a raw call leaves the numbers of the client's producers alone
+-- a raw call leaves the numbers of the client's producers and consumers alone
 abbrev pub is_taken : Producers → Option ℕ → Bool
 is_taken ps None = false
 is_taken ps (Some number) = is_some (ps.topics number)
 
-abbrev pub asks_raw : Producers → (link : ℕ) → Words → Procedure
-asks_raw ps l request =
-    if is_taken ps (named_producer request) then procedure.Refuse refusal.NumberInUse else procedure.Ask (place.Link l) request says.Bodies
+abbrev pub taken_by : (by_producer by_consumer : Bool) → Option Refusal
+taken_by true by_consumer = Some refusal.NumberInUse
+taken_by false true = Some refusal.ConsumerInUse
+taken_by false false = None
+
+abbrev pub why_no_raw : Consumers → Producers → Words → Option Refusal
+why_no_raw cs ps request = taken_by (is_taken ps (named_producer request)) (consumer.is_taken cs (named_consumer request))
+
+abbrev pub asks_raw : Consumers → Producers → (link : ℕ) → Words → Procedure
+asks_raw cs ps l request = unless (why_no_raw cs ps request) (procedure.Ask (place.Link l) request says.Bodies)
 
 -- the procedure of a call, and its parts
-abbrev pub procedure_for : Chosen → Tickets → Producers → List (Option ℕ) → Asking → Procedure
-procedure_for o c ps advice content.Build = unless_refused (not c.is_stopped) (builds_with o.outbound o.base)
-procedure_for o c ps advice content.Stop = unless_refused (may_call c) procedure.Stop
-procedure_for o c ps advice (content.Topics namespace mode) = unless_refused (may_call c) (from_base o.base (asks_topics namespace mode))
-procedure_for o c ps advice (content.Lookup topic) = unless_refused (may_call c) (searches (ways_of o) (sought.Look topic))
-procedure_for o c ps advice (content.Partitions topic) = unless_refused (may_call c) (searches (ways_of o) (sought.CountPartitions topic))
-procedure_for o c ps advice (content.Brokers topic) = unless_refused (may_call c) (searches (ways_of o) (sought.Name topic))
-procedure_for o c ps advice (content.Producer wanted) = unless_refused (may_call c) (produces o wanted)
-procedure_for o c ps advice (content.Send t m) = unless_refused (may_call c) (sends o ps (next_advice advice) t m)
-procedure_for o c ps advice (content.SendAll t ms) = unless_refused (may_call c) (gathers c ps t ms)
-procedure_for o c ps advice (content.Flush t) = unless_refused (may_call c) (flushes ps t)
-procedure_for o c ps advice (content.CheckProducer t) = unless_refused (may_call c) (checks ps t)
-procedure_for o c ps advice (content.CloseProducer t) = unless_refused (may_call c) (closes ps t)
-procedure_for o c ps advice (content.Raw l request) = unless_refused (may_call c) (asks_raw ps l request)
+abbrev pub procedure_for : Chosen → Tickets → Consumers → Producers → List (Option ℕ) → Asking → Procedure
+procedure_for o c cs ps advice content.Build = unless_refused (not c.is_stopped) (builds_with o.outbound o.base)
+procedure_for o c cs ps advice content.Stop = unless_refused (may_call c) procedure.Stop
+procedure_for o c cs ps advice (content.Topics namespace mode) = unless_refused (may_call c) (from_base o.base (asks_topics namespace mode))
+procedure_for o c cs ps advice (content.Lookup topic) = unless_refused (may_call c) (searches (ways_of o) (sought.Look topic))
+procedure_for o c cs ps advice (content.Partitions topic) = unless_refused (may_call c) (searches (ways_of o) (sought.CountPartitions topic))
+procedure_for o c cs ps advice (content.Brokers topic) = unless_refused (may_call c) (searches (ways_of o) (sought.Name topic))
+procedure_for o c cs ps advice (content.Producer wanted) = unless_refused (may_call c) (produces o wanted)
+procedure_for o c cs ps advice (content.Send t m) = unless_refused (may_call c) (sends o ps (next_advice advice) t m)
+procedure_for o c cs ps advice (content.SendAll t ms) = unless_refused (may_call c) (gathers c ps t ms)
+procedure_for o c cs ps advice (content.Flush t) = unless_refused (may_call c) (flushes ps t)
+procedure_for o c cs ps advice (content.CheckProducer t) = unless_refused (may_call c) (checks ps t)
+procedure_for o c cs ps advice (content.CloseProducer t) = unless_refused (may_call c) (closes ps t)
+procedure_for o c cs ps advice (content.Consumer wanted) = unless_refused (may_call c) (subscribes o c.drawn wanted)
+procedure_for o c cs ps advice (content.Ack t name id cumulative) =
+    unless_refused (may_call c) (acknowledges cs t (λ n. words.SendAck n (id ∷ []) cumulative))
+procedure_for o c cs ps advice (content.Nack t name id) = unless_refused (may_call c) (acknowledges cs t (λ n. words.SendRedeliver n (id ∷ [])))
+procedure_for o c cs ps advice (content.CloseConsumer t) = unless_refused (may_call c) (leaves cs t)
+procedure_for o c cs ps advice (content.Raw l request) = unless_refused (may_call c) (asks_raw cs ps l request)
 
 abbrev pub parts_of : View → List (Option ℕ) → Asking → List Act
 parts_of v advice content.Build = []
@@ -276,11 +282,15 @@ parts_of v advice (content.SendAll t ms) = shares_unless (why_no_sends v.calls v
 parts_of v advice (content.Flush t) = []
 parts_of v advice (content.CheckProducer t) = []
 parts_of v advice (content.CloseProducer t) = []
+parts_of v advice (content.Consumer wanted) = []
+parts_of v advice (content.Ack t name id cumulative) = []
+parts_of v advice (content.Nack t name id) = []
+parts_of v advice (content.CloseConsumer t) = []
 parts_of v advice (content.Raw l request) = []
 
 abbrev pub starts : View → List (Option ℕ) → Asking → List Act
 starts v advice asked =
-    Starts (Call v.calls.drawn) (procedure_for v.chosen v.calls v.producers advice asked) ∷ parts_of v advice asked
+    Starts (Call v.calls.drawn) (procedure_for v.chosen v.calls v.consumers v.producers advice asked) ∷ parts_of v advice asked
 
 -- A call is made with the next ticket, and its parts with those behind it. Where fewer are left it ends as that of the greatest ticket, which
 -- is never drawn.
@@ -366,6 +376,12 @@ performs v who (Shut t) = grants who news.Done
 performs v who (Store n e) = grants who news.Done
 performs v who (Flush n) = flushes_at who (v.producers.topics n)
 performs v who (TakeBatch n) = grants who (news.HasBatch (next_batch_at (v.producers.topics n)))
+performs v who (TakeNumber wanted) = tells who (numbering_said (consumer.numbering v.consumers wanted))
+performs v who (FindConsumer t) = sought_said who (consumer.sought (v.consumers.rows t))
+performs v who TakeFlow = tells_word who (flow_said (consumer.flow_at (v.consumers.rows (ticket_of who))))
+performs v who RecallConsumer = recalled_said who (consumer.recalled (v.consumers.rows (ticket_of who)))
+performs v who (Revive l) = tells_word who (revived_said (consumer.is_ended_at (v.consumers.rows (ticket_of who))))
+performs v who (FailConsumer f) = tells_word who word.Over
 performs v who (Tell n) = grants who news.Done
 performs v who (TellAll ns) = grants who news.Done
 performs v who Rest = []
@@ -392,25 +408,23 @@ may_ping (Some seat) = is_none seat.ping
 abbrev pub keeps_alive : ℕ → Option Seat → List Act
 keeps_alive l row = if may_ping row then Comes (ToLink l Pings) ∷ [] else []
 
--- a link is used by a request that waits, by a frame in its line, by a consumer that hears, which has one of the tickets so far, and by a
--- topic producer that is not closed
-abbrev pub is_used : (drawn : ℕ) → (ℕ → Option Subscription) → Producers → ℕ → Seat → Bool
-is_used drawn consumers ps l seat =
-    not (is_empty seat.seen.waits.waiting) || (nat_lt 0 (length seat.seen.line) || (is_heard drawn consumers l || is_held ps l))
+-- a link is used by a request that waits, by a frame in its line, by a subscription that is live, and by a topic producer that is not closed
+abbrev pub is_used : Consumers → Producers → ℕ → Seat → Bool
+is_used cs ps l seat =
+    not (is_empty seat.seen.waits.waiting) || (nat_lt 0 (length seat.seen.line) || (is_heard cs l || is_held ps l))
 
 -- a ready link that was not got for so long, and that nothing uses, ends
-abbrev pub is_idle_at : (now most drawn : ℕ) → (ℕ → Option Subscription) → Producers → ℕ → Seat → Bool
-is_idle_at now most drawn consumers ps l seat =
-    is_ready seat.seen.stage && (nat_le (later seat.got most) now && not (is_used drawn consumers ps l seat))
+abbrev pub is_idle_at : (now most : ℕ) → Consumers → Producers → ℕ → Seat → Bool
+is_idle_at now most cs ps l seat = is_ready seat.seen.stage && (nat_le (later seat.got most) now && not (is_used cs ps l seat))
 
-abbrev pub idle_act_at : (now most drawn : ℕ) → (ℕ → Option Subscription) → Producers → ℕ → Seat → List Act
-idle_act_at now most drawn consumers ps l seat = if is_idle_at now most drawn consumers ps l seat then Comes (ToLink l (Ends Idles)) ∷ [] else []
+abbrev pub idle_act_at : (now most : ℕ) → Consumers → Producers → ℕ → Seat → List Act
+idle_act_at now most cs ps l seat = if is_idle_at now most cs ps l seat then Comes (ToLink l (Ends Idles)) ∷ [] else []
 
 abbrev pub is_idle : View → ℕ → Seat → Bool
-is_idle v l seat = is_idle_at v.now v.chosen.connection.connection_max_idle v.calls.drawn v.consumers v.producers l seat
+is_idle v l seat = is_idle_at v.now v.chosen.connection.connection_max_idle v.consumers v.producers l seat
 
 abbrev pub idle_act : View → ℕ → Seat → List Act
-idle_act v l seat = idle_act_at v.now v.chosen.connection.connection_max_idle v.calls.drawn v.consumers v.producers l seat
+idle_act v l seat = idle_act_at v.now v.chosen.connection.connection_max_idle v.consumers v.producers l seat
 
 -- what an alarm that rings brings at once
 abbrev pub rung : View → Alarm → List Act
@@ -431,11 +445,12 @@ batches_from (Some ways) b = map (batches_by ways b.settings.block_queue_if_full
 abbrev pub batches_made : Option Ways → Building → List Act
 batches_made ways b = if is_batching b.settings then batches_from ways b else []
 
-abbrev pub left_with : Option Ways → Makes → List Act
-left_with ways makes.Nothing = []
-left_with ways makes.Client = []
-left_with ways (makes.Consumer link number topic) = []
-left_with ways (makes.Producer b) = batches_made ways b
+abbrev pub left_with : Option Ways → Who → Makes → List Act
+left_with ways w makes.Nothing = []
+left_with ways w makes.Client = []
+left_with ways w (makes.Consumer j) = serves_by ways w j
+left_with ways w (makes.RawConsumer l made) = []
+left_with ways w (makes.Producer b) = batches_made ways b
 
 abbrev pub at_once : View → Act → List Act
 at_once v (Comes (Calls asked advice)) = called v advice asked
@@ -444,7 +459,7 @@ at_once v (Comes (Rings a)) = if rings v.now a v.alarms then rung v a else []
 at_once v (Starts who p) = follows who (begins p)
 at_once v (Told n) = follows_some n.who (told_some (v.stand n.who) n.outcome)
 at_once v (Does who action) = performs v who action
-at_once v (Answers who verdict) = left_with (ways_of v.chosen) verdict.makes
+at_once v (Answers who verdict) = left_with (ways_of v.chosen) who verdict.makes
 at_once v _ = []
 
 -- FURTHER PARTS
@@ -464,7 +479,7 @@ further v _ = []
 
 -- AMONG THOSE WHOM THE PRESENT CAUSE STILL SERVES
 
--- the order in which a cause serves: calls by ticket, then producers by number
+-- the order in which a cause serves: calls by ticket, then consumers by number, then producers by number
 abbrev pub below : Notice → Notice → Bool
 below a b = is_before (rank a.who) (rank b.who)
 
@@ -480,6 +495,11 @@ abbrev pub readied : (number : ℕ) → topic.Act → Option Topic → List Noti
 readied n act row = if is_woken act row then ready_notice n ∷ [] else []
 
 abbrev pub joins : View → Act → List Notice
+joins v (Comes (Polls t)) = polled_due v.now t (v.consumers.rows t)
+joins v (Does who (Ask l request)) = over_rows (closed_at v l request) v.consumers
+joins v (Does who (Revive l)) = revived_at l (url_at (v.links.live l)) (ticket_of who) (v.consumers.rows (ticket_of who))
+joins v (Does who (FailConsumer f)) = again_at (v.consumers.rows (ticket_of who))
+joins v (Answers who verdict) = made_due v.links.live who verdict.makes
 joins v (Does who (PassTurn n)) = option_to_list (option_map (turn_notice n) (turn_passed (v.producers.topics n)))
 joins v (Does who (Store n e)) = readied n (topic.Stores (turn_of who) e) (v.producers.topics n)
 joins v (Does who (Flush n)) = readied n (topic.Flushes (turn_of who)) (v.producers.topics n)
@@ -613,10 +633,12 @@ failed_on end t b = failed_by end t.change t.pause b
 
 abbrev pub caused : View → ℕ → LinkAct → List (List Notice)
 caused v l link.Opens = []
-caused v l Reads = opens (answered_on (v.links.live l) ++ waiters_of served_on v.addresses (turned v (Comes (ToLink l Reads))))
+caused v l Reads =
+    opens ((answered_on (v.links.live l) ++ waiters_of served_on v.addresses (turned v (Comes (ToLink l Reads)))) ++ heard_on v l)
 caused v l (Drains most) = map alone (moved_on most v.now (v.links.live l))
 caused v l Pings = []
-caused v l (Ends end) = opens (ended_on end v.now (v.links.live l) ++ waiters_of (failed_on end) v.addresses (turned v (Comes (ToLink l (Ends end)))))
+caused v l (Ends end) =
+    opens ((ended_on end v.now (v.links.live l) ++ waiters_of (failed_on end) v.addresses (turned v (Comes (ToLink l (Ends end))))) ++ lost_on v l end)
 
 -- one whose moment has come is told so
 abbrev pub woken : View → Alarm → List Notice
@@ -638,10 +660,6 @@ stopped_with known (Batch n) = []
 stopped_with known (KeepAlive l) = []
 stopped_with known CheckIdle = []
 
--- and so are those that wait for a turn, or for a batch that is not under way
-abbrev pub stopped_one : Who → Notice
-stopped_one who = notice who outcome.Stopped
-
 abbrev pub stopped_call : (ticket : ℕ) → Notice
 stopped_call t = notice (Call t) outcome.Stopped
 
@@ -651,5 +669,5 @@ stopped_all ps = map stopped_one (waiting ps) ++ map stopped_call (unsent ps)
 abbrev pub causes : View → Act → List (List Notice)
 causes v (Comes (ToLink l x)) = caused v l x
 causes v (Comes (Rings a)) = if rings v.now a v.alarms then opens (woken v a) else []
-causes v (Does who StopAll) = opens (flat_map (λ e. stopped_with v.addresses e.0) v.alarms ++ stopped_all v.producers)
+causes v (Does who StopAll) = opens ((flat_map (λ e. stopped_with v.addresses e.0) v.alarms ++ stopped_all v.producers) ++ stopped_on v)
 causes v _ = []

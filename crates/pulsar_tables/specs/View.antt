@@ -2,6 +2,7 @@
 use Rattle.std.specs.Prelude.{ℕ, ◌+◌, ◌==◌, bytes_eq, nat_le, nat_lt, ◌&&◌, not, Bool, true, false, if◌then◌else◌, List, [], ◌∷◌, ◌++◌, Option, Some, None, Result, Ok, Err, ◌≡◌, ◌⊎◌}
 use Rattle.std.specs.List.{list_any}
 use Rattle.std.specs.Option.{is_none, is_some, option_map}
+use Rattle.url.specs.Parts.{Parts}
 use Rattle.pulsar_wire.specs.Sink.{capped}
 use Rattle.pulsar_wire.specs.declared.error.ConnectionError.{ConnectionError}
 use Rattle.pulsar_wire.specs.declared.error.ConnectionError.TheVariants as error
@@ -22,10 +23,10 @@ use Rattle.pulsar_session.specs.declared.states.Stage.TheVariants.{Dialing, Hand
 use Rattle.pulsar_session.specs.Failures.{Fault}
 use Rattle.pulsar_session.specs.Link as session
 use Rattle.pulsar_session.specs.Link.{Asks, Feeds, Seen, Setup, came, has_room, is_open, is_ready}
-use Rattle.pulsar_link.specs.Request.{closed_consumer, is_answered, request_number}
+use Rattle.pulsar_link.specs.Request.{closed_consumer, is_awaited}
 use Rattle.pulsar_calls.specs.declared.act.Act.{Act}
 use Rattle.pulsar_calls.specs.declared.act.Act.TheVariants.{Comes, Starts, Told, Does, Answers, Dials}
-use Rattle.pulsar_calls.specs.declared.act.Action.TheVariants.{Get, Ask, Wait, TakeTurn, PassTurn, Draw, Remake, Number, Shut, Store, Flush, TakeBatch, StopAll}
+use Rattle.pulsar_calls.specs.declared.act.Action.TheVariants.{Get, Ask, Wait, TakeTurn, PassTurn, Draw, Remake, Number, Shut, Store, Flush, TakeBatch, TakeNumber, FindConsumer, TakeFlow, Revive, FailConsumer, StopAll}
 use Rattle.pulsar_calls.specs.declared.act.Alarm.{Alarm}
 use Rattle.pulsar_calls.specs.declared.act.Alarm.TheVariants.{Retry, Wake, Batch, KeepAlive, CheckIdle}
 use Rattle.pulsar_calls.specs.declared.act.Arrival.{Arrival}
@@ -35,12 +36,13 @@ use Rattle.pulsar_calls.specs.declared.act.End.TheVariants.{Unopened, Lost, Over
 use Rattle.pulsar_calls.specs.declared.act.LinkAct.{LinkAct}
 use Rattle.pulsar_calls.specs.declared.act.LinkAct.TheVariants.{Opens, Reads, Drains, Pings, Ends}
 use Rattle.pulsar_calls.specs.declared.act.Makes.{Makes}
-use Rattle.pulsar_calls.specs.declared.act.Makes.TheVariants.{Nothing, Client, Consumer, Producer}
+use Rattle.pulsar_calls.specs.declared.act.Makes.TheVariants.{Nothing, Client, Consumer, RawConsumer, Producer}
 use Rattle.pulsar_calls.specs.declared.act.Outcome.{Outcome}
 use Rattle.pulsar_calls.specs.declared.act.Part.TheVariants.{Calls, ToLink, Rings, Polls}
 use Rattle.pulsar_calls.specs.declared.act.Verdict.{Verdict}
 use Rattle.pulsar_calls.specs.declared.act.Who.{Who}
-use Rattle.pulsar_calls.specs.declared.act.Who.TheVariants.{Call}
+use Rattle.pulsar_calls.specs.declared.act.Who.TheVariants as who
+use Rattle.pulsar_calls.specs.declared.content.Joining.{Joining}
 use Rattle.pulsar_tables.specs.declared.addresses.Pause.{Pause}
 use Rattle.pulsar_tables.specs.declared.addresses.Series.{Series}
 use Rattle.pulsar_tables.specs.declared.addresses.Series.TheVariants.{Nobody, Runs, Pauses, Serves}
@@ -56,13 +58,16 @@ use Rattle.pulsar_procedures.specs.Plan.{begins, told}
 use Rattle.pulsar_tables.specs.Producers.{Producers, called_on, changed, halted, is_bare, joined, link_at, none, numbered, numbers_at, shut, timeout_at, topic_after}
 use Rattle.pulsar_producer.specs.Routing.{Policy}
 use Rattle.pulsar_producer.specs.Topic as topic
-use Rattle.pulsar_tables.specs.Subscriptions.{IsHeard, Subscription, after_poll, closed_at, ended_at, fresh, hears}
-use Rattle.pulsar_calls.specs.Who.{is_same, rank, turn_of}
+use Rattle.pulsar_tables.specs.Consumers as consumer
+use Rattle.pulsar_tables.specs.Consumers.{Consumers, IsHeard, Member}
+use Rattle.pulsar_consumer.specs.Topic as reader
+use Rattle.pulsar_consumer.specs.Topic.{of_raw}
+use Rattle.pulsar_calls.specs.Who.{is_same, rank, ticket_of, turn_of}
 
 -- What a client's options say of a run: the address of the service, where their URL has one; the credential; how connections are
 -- attempted and kept, and how long requests wait, in milliseconds; how many frames of a link may be queued and not written; what random
--- words are drawn from; the number of the first request of each link, of the first producer, and of the first message of each producer; and
--- the time of the start, in milliseconds since 1970.
+-- words are drawn from; the number of the first request of each link, of the first producer, of the first consumer, and of the first message of
+-- each producer; and the time of the start, in milliseconds since 1970.
 pub record Chosen : Type 0 where
   pub base : Option Place
   pub auth : Option AuthenticationValues
@@ -114,8 +119,7 @@ pub record Addresses : Type 0 where
   pub base : (key : List ℕ) → Base
   pub pause : (link : ℕ) → Option Pause
 
--- all: the options, the clock, where each plan stands, the calls, the links, the addresses, the alarms, the raw consumers by ticket, and
--- the producers
+-- all: the options, the clock, where each plan stands, the calls, the links, the addresses, the alarms, the consumers, and the producers
 pub record View : Type 0 where
   pub chosen : Chosen
   pub now : ℕ
@@ -124,7 +128,7 @@ pub record View : Type 0 where
   pub links : Links
   pub addresses : Addresses
   pub alarms : List (Alarm × ℕ)
-  pub consumers : ℕ → Option Subscription
+  pub consumers : Consumers
   pub producers : Producers
 
 -- at first
@@ -138,7 +142,7 @@ new o =
       links = record { started = 0; live = λ l. None };
       addresses = record { base = λ key. nobody; pause = λ l. None };
       alarms = [];
-      consumers = λ t. None;
+      consumers = consumer.none o.chosen.first_number;
       producers = none o.chosen.first_number;
     }
 
@@ -174,7 +178,7 @@ is_live v (Bytes l piece) = is_at is_open (v.links.live l)
 is_live v (content.Lost l) = is_at is_open (v.links.live l)
 is_live v (Drain l most) = is_at is_open (v.links.live l)
 is_live v (Ticked now) = nat_le v.now now
-is_live v (Poll t) = is_some (v.consumers t)
+is_live v (Poll t) = is_some (v.consumers.rows t)
 
 -- a piece of bytes is fed as its event begins
 abbrev pub seat_fed : (piece : List ℕ) → Seat → Seat
@@ -232,7 +236,8 @@ may_call c = c.is_built && not c.is_stopped
 abbrev pub builds : Makes → Bool → Bool
 builds Nothing b = b
 builds Client b = true
-builds (Consumer link number topic) b = b
+builds (Consumer made) b = b
+builds (RawConsumer link made) b = b
 builds (Producer made) b = b
 
 abbrev pub built_after : Act → Bool → Bool
@@ -356,7 +361,7 @@ seat_asked who now request seat =
     record {
       address = seat.address;
       seen = session.after (Asks now request) seat.seen;
-      askers = asker_at (is_answered (request_number request)) who (place_of (session.asked now request seat.seen)) seat.askers;
+      askers = asker_at (is_awaited request) who (place_of (session.asked now request seat.seen)) seat.askers;
       got = seat.got;
       ping = seat.ping;
     }
@@ -600,24 +605,54 @@ alarms_after v _ = v.alarms
 
 -- CONSUMERS
 
+-- the address of a link that has not ended
+abbrev pub url_at : Option Seat → Option Parts
+url_at row = option_map (λ seat. seat.address.url) row
+
 -- they hear the frames of their link, and its end, and where their own close is asked for
-abbrev pub hears_ask : (link now : ℕ) → Words → Option Seat → Subscription → Subscription
-hears_ask l now request row s = closed_at l (closed_consumer request) (is_asked (answer_at now request row)) s
+abbrev pub hears_ask : (link now : ℕ) → Words → Option Seat → Member → Member
+hears_ask l now request row m = consumer.closes (closed_consumer request) l (is_asked (answer_at now request row)) m
 
 -- the consumer that a verdict makes has the ticket of its call
-abbrev pub made : Who → Makes → ℕ → Option Subscription → Option Subscription
-made who Nothing t row = row
-made who Client t row = row
-made who (Producer building) t row = row
-made who (Consumer link number topic) t row = if is_same (Call t) who then Some (fresh link number topic) else row
+abbrev pub setup_of : Joining → reader.Setup
+setup_of j = record { topic = j.topic; number = j.number; config = j.config; is_raw = false }
 
-abbrev pub consumer_after : (now : ℕ) → (ℕ → Option Seat) → Act → ℕ → Option Subscription → Option Subscription
-consumer_after now live (Comes (ToLink l Reads)) t row = option_map (hears l (arrival_at (live l))) row
-consumer_after now live (Comes (ToLink l (Ends end))) t row = ended_at l (closing end now (live l)) row
-consumer_after now live (Comes (Polls ticket)) t row = if t == ticket then option_map after_poll row else row
-consumer_after now live (Does who (Ask l request)) t row = option_map (hears_ask l now request (live l)) row
-consumer_after now live (Answers who verdict) t row = made who verdict.makes t row
-consumer_after now live _ t row = row
+abbrev pub member_on : (ℕ → Option Seat) → (link : ℕ) → reader.Setup → Member
+member_on live l s = consumer.member_of s l (url_at (live l))
+
+abbrev pub joins_as : Who → Member → Consumers → Consumers
+joins_as (who.Call t) m cs = consumer.joined t m cs
+joins_as (who.Consumer n t) m cs = cs
+joins_as (who.Producer n) m cs = cs
+
+abbrev pub consumers_made : (ℕ → Option Seat) → Who → Makes → Consumers → Consumers
+consumers_made live w Nothing cs = cs
+consumers_made live w Client cs = cs
+consumers_made live w (Producer made) cs = cs
+consumers_made live w (Consumer made) cs = joins_as w (member_on live made.link (setup_of made)) cs
+consumers_made live w (RawConsumer l made) cs = joins_as w (member_on live l (of_raw made)) cs
+
+-- and a call that has ended holds no number
+abbrev pub consumers_left : Who → Consumers → Consumers
+consumers_left (who.Call t) cs = consumer.freed t cs
+consumers_left (who.Consumer n t) cs = cs
+consumers_left (who.Producer n) cs = cs
+
+abbrev pub consumers_after : View → Act → Consumers
+consumers_after v (Comes (Calls asked advice)) =
+    if lacks_tickets v.calls.drawn (shares asked) then v.consumers else consumer.called_on (may_call v.calls) asked v.consumers
+consumers_after v (Comes (ToLink l Reads)) = consumer.all_changed (consumer.hears l (arrival_at (v.links.live l))) v.consumers
+consumers_after v (Comes (ToLink l (Ends end))) = consumer.all_changed (consumer.loses_by l (closing end v.now (v.links.live l))) v.consumers
+consumers_after v (Comes (Polls t)) = consumer.changed t (consumer.member_after (reader.Polls v.now)) v.consumers
+consumers_after v (Does w (Ask l request)) = consumer.all_changed (hears_ask l v.now request (v.links.live l)) v.consumers
+consumers_after v (Does w (TakeNumber wanted)) = consumer.numbered (ticket_of w) wanted v.consumers
+consumers_after v (Does w (FindConsumer t)) = consumer.changed t (consumer.seeks w) v.consumers
+consumers_after v (Does w TakeFlow) = consumer.changed (ticket_of w) (consumer.member_after reader.Asks) v.consumers
+consumers_after v (Does w (Revive l)) = consumer.changed (ticket_of w) (consumer.revived l (url_at (v.links.live l))) v.consumers
+consumers_after v (Does w (FailConsumer f)) = consumer.changed (ticket_of w) (consumer.failed f) v.consumers
+consumers_after v (Does w StopAll) = consumer.all_changed consumer.stopped v.consumers
+consumers_after v (Answers w verdict) = consumers_left w (consumers_made v.links.live w verdict.makes v.consumers)
+consumers_after v _ = v.consumers
 
 -- PRODUCERS
 
@@ -646,7 +681,8 @@ draws_on (Some room) n ps = changed n topic.Draws ps
 abbrev pub producers_made : Chosen → Who → Makes → Producers → Producers
 producers_made o who Nothing ps = ps
 producers_made o who Client ps = ps
-producers_made o who (Consumer link number topic) ps = ps
+producers_made o who (Consumer made) ps = ps
+producers_made o who (RawConsumer link made) ps = ps
 producers_made o who (Producer made) ps = joined (rank who).1 made o.seed o.first_number ps
 
 -- what is stored is cut once it has waited
@@ -680,11 +716,11 @@ abbrev pub is_handshaking : Stage → Bool
 is_handshaking Handshaking = true
 is_handshaking _ = false
 
--- A link is open, and something waits for it: it isn't ready yet, or a request of it waits for a reply, or a raw consumer on it hears.
+-- A link is open, and something waits for it: it isn't ready yet, or a request of it waits for a reply, or a subscription on it is live.
 abbrev pub Waits : (link : ℕ) → View → Type 0
 Waits l v =
     (is_at is_open (v.links.live l) ≡ true)
-    × ((is_at is_handshaking (v.links.live l) ≡ true) ⊎ (is_busy (v.links.live l) ≡ true) ⊎ IsHeard l v.consumers)
+    × ((is_at is_handshaking (v.links.live l) ≡ true) ⊎ (is_busy (v.links.live l) ≡ true) ⊎ IsHeard l v.consumers.rows)
 
 -- ALL
 
@@ -698,6 +734,6 @@ after a v =
       links = links_after v.chosen v.addresses v.now a v.links;
       addresses = addresses_after v a;
       alarms = alarms_after v a;
-      consumers = λ t. consumer_after v.now v.links.live a t (v.consumers t);
+      consumers = consumers_after v a;
       producers = producers_after v a;
     }

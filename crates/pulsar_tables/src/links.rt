@@ -9,13 +9,13 @@ ghost use Rattle.std.specs.Ordering.{nat_cmp};
 ghost use Rattle.pulsar_calls.specs.Content.{shown};
 ghost use Rattle.pulsar_tables.specs.Effects.{asked_at, given_at};
 ghost use Rattle.pulsar_tables.specs.Due.{moment_at};
-ghost use Rattle.pulsar_tables.specs.Kept.{AreStarted, AreTicketed, AreTimed, IsEnd, is_due, links_in, live_in, producers_of, seat_of};
+ghost use Rattle.pulsar_tables.specs.Kept.{AreStarted, AreTimed, IsEnd, is_due, links_in, live_in, producers_of, seat_of};
 ghost use Rattle.pulsar_requests.specs.Soonest.{has_come};
-ghost use Rattle.pulsar_tables.specs.Subscribers.{subscription_at};
+ghost use Rattle.pulsar_tables.specs.KeptConsumers.{consumers_in};
 ghost use Rattle.pulsar_tables.specs.Rules.{answered_on, due_part, idle_act_at, may_ping, moved_on, on_link, over_links, stop_act, told_at, is_idle_at};
-ghost use Rattle.pulsar_tables.specs.View.{answer_at, arrival_at, got_at, room_at, has_ended, is_asked, is_busy, seat_asked, seat_got, seat_of_fresh, seat_fed, took_some};
+ghost use Rattle.pulsar_tables.specs.View.{answer_at, arrival_at, got_at, room_at, has_ended, is_asked, is_busy, seat_asked, seat_got, seat_of_fresh, seat_fed, took_some, url_at};
 
-use crate::consumers::subscribers::Subscribers;
+use crate::consumers::table::Consumers;
 use crate::due::DueMoments;
 use crate::producers::Producers;
 use crate::row::Row;
@@ -29,6 +29,7 @@ use pulsar_session::states::Stage;
 use pulsar_wire::error::{ConnectionError, NoMemory};
 use std::alloc::Global;
 use std::collections::{BTreeMap, BTreeSet, VecDeque};
+use url::Url;
 
 /// How many links were started, and those of them that have not ended, by number.
 #[derive(Drop)]
@@ -131,6 +132,16 @@ impl Links {
         }
     }
 
+    /// The address of a link that has not ended.
+    pub fn url(&self, link: u64) -> Result<Option<Url>, NoMemory>
+        ensures { IfOk result (λ u. u ≡ url_at (live_in self.now.live link)) }
+    {
+        match self.live.get(&link) {
+            Some(row) => Ok(Some(row.address.url().clone()?)),
+            None => Ok(None),
+        }
+    }
+
     /// A link is got.
     pub fn got(&mut self, now: u64, link: u64) -> Result<(), NoMemory>
         ensures started { OnOk result (self.new.started ≡ self.old.started) }
@@ -177,16 +188,15 @@ impl Links {
         &self,
         now: u64,
         most: u64,
-        subscribers: &Subscribers,
+        consumers: &Consumers,
         producers: &Producers,
     ) -> Result<VecDeque<Act>, NoMemory>
-        ensures { IfOk result (λ acts. (drawn : ℕ) → AreTicketed drawn (subscription_at subscribers.now)
-            → acts.items ≡ over_links (idle_act_at now most drawn (subscription_at subscribers.now) (producers_of producers.now)) (links_in self.now.started self.now.live)) }
+        ensures { IfOk result (λ acts. acts.items ≡ over_links (idle_act_at now most (consumers_in consumers.now.rows consumers.now.numbers) (producers_of producers.now)) (links_in self.now.started self.now.live)) }
     {
         if self.failed {
             return Err(NoMemory);
         }
-        let acts = ends_idle(self.alloc, &self.live, now, most, subscribers, producers)?;
+        let acts = ends_idle(self.alloc, &self.live, now, most, consumers, producers)?;
         Ok(acts)
     }
 
@@ -388,16 +398,15 @@ fn ends_idle(
     live: &BTreeMap<u64, Row>,
     now: u64,
     most: u64,
-    subscribers: &Subscribers,
+    consumers: &Consumers,
     producers: &Producers,
 ) -> Result<VecDeque<Act>, NoMemory>
-    ensures ends { IfOk result (λ acts. (drawn : ℕ) → AreTicketed drawn (subscription_at subscribers.now)
-        → acts.items ≡ flat_map (on_link (idle_act_at now most drawn (subscription_at subscribers.now) (producers_of producers.now)) (live_in live.now)) (keys live.now)) }
+    ensures ends { IfOk result (λ acts. acts.items ≡ flat_map (on_link (idle_act_at now most (consumers_in consumers.now.rows consumers.now.numbers) (producers_of producers.now)) (live_in live.now)) (keys live.now)) }
     ensures ordered { OnOk result (IsOrdered nat_cmp live.now) }
 {
     let mut acts = VecDeque::new(alloc);
     for (link, row) in live {
-        let is_idle = is_idle(row, *link, now, most, subscribers, producers);
+        let is_idle = is_idle(row, *link, now, most, consumers, producers);
         end_idle(&mut acts, *link, is_idle)?;
     }
     Ok(acts)
@@ -409,14 +418,13 @@ fn is_idle(
     link: u64,
     now: u64,
     most: u64,
-    subscribers: &Subscribers,
+    consumers: &Consumers,
     producers: &Producers,
 ) -> bool
-    ensures { (drawn : ℕ) → AreTicketed drawn (subscription_at subscribers.now)
-        → result ≡ is_idle_at now most drawn (subscription_at subscribers.now) (producers_of producers.now) link (seat_of row.now) }
+    ensures { result ≡ is_idle_at now most (consumers_in consumers.now.rows consumers.now.numbers) (producers_of producers.now) link (seat_of row.now) }
 {
     let rests = row.rests(now, most);
-    let is_heard = subscribers.hears_on(link);
+    let is_heard = consumers.hears_on(link);
     let is_held = producers.holds(link);
     is_unused(rests, is_heard, is_held)
 }

@@ -11,7 +11,8 @@ ghost use Rattle.pulsar_producer.specs.Random.{first_index};
 ghost use Rattle.pulsar_producer.specs.Topic as topic;
 ghost use Rattle.pulsar_tables.specs.Producers as meaning;
 ghost use Rattle.pulsar_tables.specs.Producers.{Producers as Seen};
-ghost use Rattle.pulsar_tables.specs.Rules.{stopped_all, stopped_call, stopped_one};
+ghost use Rattle.pulsar_tables.specs.Reading.{stopped_one};
+ghost use Rattle.pulsar_tables.specs.Rules.{stopped_all, stopped_call};
 ghost use Rattle.pulsar_calls.specs.Who.{in_turn};
 ghost use Rattle.pulsar_tables.specs.Kept.{producers_of};
 
@@ -30,7 +31,7 @@ use pulsar_producer::storage::Limits;
 use pulsar_producer::{CustomRoutingPolicy, Producer, TopicProducer};
 use pulsar_wire::error::NoMemory;
 use std::alloc::Global;
-use std::collections::{BTreeMap, BTreeSet, VecDeque};
+use std::collections::{BTreeMap, BTreeSet};
 
 /// A topic producer, and the ticket of the producer that it belongs to.
 #[derive(Drop)]

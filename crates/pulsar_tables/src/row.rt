@@ -23,7 +23,6 @@ use pulsar_calls::effect::{Effect, Settlement};
 use pulsar_link::ask::ask;
 use pulsar_link::content::{Received, Request};
 use pulsar_plans::content::Address;
-use pulsar_procedures::answers::is_answered;
 use pulsar_session::states::Stage;
 use pulsar_session::{Arrived, Asked, Connection};
 use pulsar_wire::error::{ConnectionError, NoMemory};
@@ -275,7 +274,7 @@ impl Row {
         ensures sees { OnOk result (seat_of self.new ≡ seat_asked who now request (seat_of self.old)) }
     {
         let before = self.connection.queued();
-        let is_asker = is_answered(request.number());
+        let is_asker = request.is_awaited();
         let answer = ask(&mut self.connection, now, request);
         let place = place_of(&answer);
         let told = told_at(alloc, answer)?;

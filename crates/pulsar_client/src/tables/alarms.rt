@@ -3,10 +3,9 @@
 ghost use Rattle.std.specs.List.{flat_map, list_any};
 ghost use Rattle.std.specs.Prelude.{◌≡◌, ◌++◌, ℕ, List, map, IfOk, OnOk, if◌then◌else◌};
 ghost use Rattle.pulsar_run.specs.Order.{arranged};
-ghost use Rattle.pulsar_tables.specs.Kept.{AreTicketed, addresses_of, base_at};
+ghost use Rattle.pulsar_tables.specs.Kept.{addresses_of, base_at};
 ghost use Rattle.pulsar_tables.specs.Rules.{below, opens, rung, stopped_with, woken};
 ghost use Rattle.pulsar_client.specs.Run.{goes_on};
-ghost use Rattle.pulsar_tables.specs.Subscribers.{subscription_at};
 ghost use Rattle.pulsar_client.specs.Tables.{agenda_of, rung_view, unset_view, view_of};
 ghost use Rattle.pulsar_tables.specs.View.{after, is_to_follow, later, nobody};
 
@@ -22,7 +21,7 @@ use std::alloc::Global;
 impl Tables {
     /// An alarm comes, where it rings still.
     pub(super) fn rings(&mut self, alarm: Alarm, tasks: &mut Tasks) -> Result<(), NoMemory>
-        ensures left { OnOk result (AreTicketed self.old.tickets (subscription_at self.old.subscribers) → agenda_of tasks.new ≡ goes_on (view_of self.old) (Act.Comes (Part.Rings alarm)) (agenda_of tasks.old)) }
+        ensures left { OnOk result (agenda_of tasks.new ≡ goes_on (view_of self.old) (Act.Comes (Part.Rings alarm)) (agenda_of tasks.old)) }
         ensures sees { OnOk result (view_of self.new ≡ after (Act.Comes (Part.Rings alarm)) (view_of self.old)) }
         ensures settings { self.new.settings ≡ self.old.settings }
     {
@@ -94,7 +93,7 @@ impl Tables {
 
     /// Links that nothing uses end.
     fn checks_idle(&mut self, tasks: &mut Tasks) -> Result<(), NoMemory>
-        ensures left { OnOk result (AreTicketed self.old.tickets (subscription_at self.old.subscribers) → agenda_of tasks.new ≡ record (agenda_of tasks.old) { now = rung (view_of self.old) Alarm.CheckIdle ++ tasks.old.now.items }) }
+        ensures left { OnOk result (agenda_of tasks.new ≡ record (agenda_of tasks.old) { now = rung (view_of self.old) Alarm.CheckIdle ++ tasks.old.now.items }) }
         ensures sees { OnOk result (view_of self.new ≡ rung_view Alarm.CheckIdle (view_of self.old)) }
         ensures settings { self.new.settings ≡ self.old.settings }
     {
@@ -103,7 +102,7 @@ impl Tables {
         let most = self.settings.connection.connection_max_idle;
         let acts = self
             .links
-            .idle_acts(self.clock, most, &self.subscribers, &self.producers)?;
+            .idle_acts(self.clock, most, &self.consumers, &self.producers)?;
         tasks.put_all(acts)
     }
 
@@ -116,6 +115,7 @@ impl Tables {
         self.is_stopped = true;
         let mut notices = self.stop_alarms()?;
         self.producers.stop(&mut notices)?;
+        self.consumers.stop(&mut notices)?;
         self.producers.halt();
         tell(who, Outcome::Stopped, tasks)?;
         tasks.put_all(self.links.stop_acts()?)?;

@@ -5,7 +5,7 @@ ghost use Rattle.pulsar_run.specs.Order.{arranged, put_all};
 ghost use Rattle.pulsar_tables.specs.Kept.{producers_of};
 ghost use Rattle.pulsar_procedures.specs.Plan.{closed_notice};
 ghost use Rattle.pulsar_tables.specs.Producers.{is_bare, numbers_at, timeout_at};
-ghost use Rattle.pulsar_tables.specs.Rules.{batches_by, batches_from, batches_made, below, left_with, opens, ready_notice, woken};
+ghost use Rattle.pulsar_tables.specs.Rules.{batches_by, batches_from, batches_made, below, opens, ready_notice, woken};
 ghost use Rattle.pulsar_client.specs.Run.{goes_on};
 ghost use Rattle.pulsar_client.specs.Tables.{agenda_of, chosen_of, rung_view, view_of};
 ghost use Rattle.pulsar_tables.specs.View.{after, alarms_waiting, clear_all, producers_rung, ways_of};
@@ -14,7 +14,7 @@ ghost use Rattle.pulsar_calls.specs.declared.act.Act.{Act};
 use crate::agenda::Tasks;
 use crate::tables::Tables;
 use crate::tables::alarms::later;
-use pulsar_calls::act::{Act as Deed, Action, Alarm, Makes, Notice, Outcome, Procedure, Who};
+use pulsar_calls::act::{Act as Deed, Action, Alarm, Notice, Outcome, Procedure, Who};
 use pulsar_calls::content::{Building, Granted, Notices};
 use pulsar_calls::who::turn_of;
 use pulsar_plans::content::Refusal;
@@ -145,18 +145,7 @@ impl Tables {
     }
 
     /// The topic producers of a producer that is made send their batches, where they do, each by a plan of its own.
-    pub(super) fn batches_of(&self, makes: &Makes) -> Result<VecDeque<Deed>, NoMemory>
-        ensures { IfOk result (λ acts. acts.items ≡ left_with (ways_of (chosen_of self.now.settings)) makes.now) }
-    {
-        match makes {
-            Makes::Producer(made) => self.batches_made(made.building()),
-            Makes::Nothing | Makes::Client | Makes::Consumer { .. } => {
-                Ok(VecDeque::new(self.alloc))
-            }
-        }
-    }
-
-    fn batches_made(&self, building: &Building) -> Result<VecDeque<Deed>, NoMemory>
+    pub(super) fn batches_made(&self, building: &Building) -> Result<VecDeque<Deed>, NoMemory>
         ensures { IfOk result (λ acts. acts.items ≡ batches_made (ways_of (chosen_of self.now.settings)) building.now) }
     {
         if !building.settings.is_batching() {

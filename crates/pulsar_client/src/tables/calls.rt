@@ -1,23 +1,25 @@
 //! Calls and their plans.
 
-ghost use Rattle.std.specs.Prelude.{◌≡◌, ◌==◌, ◌+◌, ◌&&◌, ◌++◌, ◌∷◌, not, map, IfOk, MatchBool, None, Some, OnOk, string_bytes, true, false, if◌then◌else◌};
-ghost use Rattle.pulsar_tables.specs.Alarms.{set};
+ghost use Rattle.std.specs.Prelude.{◌≡◌, ◌+◌, ◌&&◌, ◌++◌, ◌∷◌, not, map, IfOk, MatchBool, None, Some, OnOk, string_bytes, true, false, if◌then◌else◌};
 ghost use Rattle.pulsar_calls.specs.Content.{Build, asked, lacks_tickets, shares, shown};
 ghost use Rattle.pulsar_tables.specs.Effects.{effects, ends};
 ghost use Rattle.pulsar_link.specs.RawCall.{words_of};
-ghost use Rattle.pulsar_link.specs.Request.{named_producer};
+ghost use Rattle.pulsar_link.specs.Request.{named_consumer, named_producer};
+ghost use Rattle.pulsar_tables.specs.Consumers as consumer;
 ghost use Rattle.pulsar_tables.specs.Producers.{called_on, names_in, opened_on};
-ghost use Rattle.pulsar_tables.specs.Rules.{asks_raw, asks_topics, builds_with, does, follows, from_base, is_taken, notice, parts_of, procedure_for, searches, unless_refused};
+ghost use Rattle.pulsar_tables.specs.Reading.{notice, unless};
+ghost use Rattle.pulsar_tables.specs.Rules.{asks_raw, asks_topics, builds_with, does, follows, from_base, is_taken, parts_of, procedure_for, searches, taken_by, unless_refused};
 ghost use Rattle.pulsar_client.specs.Run.{goes_on, ticket_for};
 ghost use Rattle.pulsar_client.specs.Tables.{agenda_of, chosen_of, view_of};
 ghost use Rattle.pulsar_procedures.specs.Standing.{stand_of};
-ghost use Rattle.pulsar_tables.specs.View.{after, alarms_built, builds, later, may_call, stays, ways_of};
+ghost use Rattle.pulsar_tables.specs.View.{after, alarms_built, builds, may_call, stays, ways_of};
 ghost use Rattle.pulsar_calls.specs.Who.{is_same};
 ghost use Rattle.pulsar_calls.specs.declared.act.Who.{Who as Meant};
 
 use crate::agenda::Tasks;
 use crate::tables::Tables;
 use crate::tables::alarms::{IDLE_PERIOD, later};
+use crate::tables::consumers::{join_all, join_some};
 use pulsar_calls::act::{
     Act, Action, Alarm, Makes, Notice, Outcome, Part, Place, Procedure, Refusal, Says, Verdict, Who,
 };
@@ -85,9 +87,9 @@ impl Tables {
         parts: &mut VecDeque<Act>,
     ) -> Result<Procedure, NoMemory>
         requires { lacks_tickets self.old.tickets (shares asking) ≡ false }
-        ensures procedure { IfOk result (λ p. p ≡ procedure_for (view_of self.old).chosen (view_of self.old).calls (view_of self.old).producers advice asking) }
+        ensures procedure { IfOk result (λ p. p ≡ procedure_for (view_of self.old).chosen (view_of self.old).calls (view_of self.old).consumers (view_of self.old).producers advice asking) }
         ensures parts { OnOk result (parts.new.items ≡ parts.old.items ++ parts_of (view_of self.old) advice asking) }
-        ensures after { OnOk result (view_of self.new ≡ record (view_of self.old) { producers = called_on (may_call (view_of self.old).calls) asking (view_of self.old).producers }) }
+        ensures after { OnOk result (view_of self.new ≡ record (view_of self.old) { consumers = consumer.called_on (may_call (view_of self.old).calls) asking (view_of self.old).consumers; producers = called_on (may_call (view_of self.old).calls) asking (view_of self.old).producers }) }
         ensures settings { self.new.settings ≡ self.old.settings }
     {
         if is_build(asking.call()) {
@@ -124,9 +126,9 @@ impl Tables {
     ) -> Result<Procedure, NoMemory>
         requires allowed { may_call (view_of self.old).calls ≡ true }
         requires tickets { lacks_tickets self.old.tickets (shares asking) ≡ false }
-        ensures procedure { IfOk result (λ p. p ≡ procedure_for (view_of self.old).chosen (view_of self.old).calls (view_of self.old).producers advice asking) }
+        ensures procedure { IfOk result (λ p. p ≡ procedure_for (view_of self.old).chosen (view_of self.old).calls (view_of self.old).consumers (view_of self.old).producers advice asking) }
         ensures parts { OnOk result (parts.new.items ≡ parts.old.items ++ parts_of (view_of self.old) advice asking) }
-        ensures after { OnOk result (view_of self.new ≡ record (view_of self.old) { producers = opened_on asking (view_of self.old).producers }) }
+        ensures after { OnOk result (view_of self.new ≡ record (view_of self.old) { consumers = consumer.opened_on asking (view_of self.old).consumers; producers = opened_on asking (view_of self.old).producers }) }
         ensures settings { self.new.settings ≡ self.old.settings }
     {
         match asking.into_inner() {
@@ -144,26 +146,36 @@ impl Tables {
             Call::Flush { producer } => self.flushes(producer),
             Call::CheckProducer { producer } => self.checks(producer),
             Call::CloseProducer { producer } => self.closes(producer),
+            Call::Consumer(builder) => self.subscribes(builder),
+            Call::Ack {
+                consumer,
+                topic: _,
+                id,
+                cumulative,
+            } => self.acknowledges(consumer, id, cumulative),
+            Call::Nack {
+                consumer,
+                topic: _,
+                id,
+            } => self.refuses_message(consumer, id),
+            Call::CloseConsumer { consumer } => Ok(self.leaves(consumer)),
             Call::Raw { link, call } => self.raw(link, call),
         }
     }
 
-    /// A request on a link. A number of a producer that it names is not given to a producer of the client, and not one of those.
+    /// A request on a link. Numbers that it names are not given to producers and consumers of the client, and none of those has one.
     fn raw(&mut self, link: u64, call: RawCall) -> Result<Procedure, NoMemory>
-        ensures procedure { IfOk result (λ p. p ≡ asks_raw (view_of self.old).producers link (words_of call)) }
-        ensures after { OnOk result (view_of self.new ≡ record (view_of self.old) { producers = names_in (named_producer (words_of call)) (view_of self.old).producers }) }
+        ensures procedure { IfOk result (λ p. p ≡ asks_raw (view_of self.old).consumers (view_of self.old).producers link (words_of call)) }
+        ensures after { OnOk result (view_of self.new ≡ record (view_of self.old) { consumers = consumer.names_in (named_consumer (words_of call)) (view_of self.old).consumers; producers = names_in (named_producer (words_of call)) (view_of self.old).producers }) }
         ensures settings { self.new.settings ≡ self.old.settings }
     {
-        let number = call.named_producer();
+        let producer = call.named_producer();
+        let consumer = call.named_consumer();
         let request = Request::new(self.alloc, call)?;
-        if self.names(number)? {
-            return Ok(Procedure::Refuse(Refusal::NumberInUse));
-        }
-        Ok(Procedure::Ask {
-            place: Place::Link(link),
-            request,
-            says: Says::Bodies,
-        })
+        let is_taken = self.consumers.is_taken(consumer)?;
+        self.consumers.name(consumer)?;
+        let is_used = self.names(producer)?;
+        Ok(asks_unless(taken_by(is_used, is_taken), link, request))
     }
 
     /// A raw call names a number of a producer, or none. A producer of the client has it.
@@ -268,6 +280,12 @@ impl Tables {
             Action::Store { number, entry } => self.stores(who, number, entry, tasks),
             Action::Flush(number) => self.flushes_at(who, number, tasks),
             Action::TakeBatch(number) => self.takes_batch(who, number, tasks),
+            Action::TakeNumber(wanted) => self.takes_number(who, wanted, tasks),
+            Action::FindConsumer(consumer) => self.finds_consumer(who, consumer, tasks),
+            Action::TakeFlow => self.takes_flow(who, tasks),
+            Action::RecallConsumer => self.recalls_consumer(who, tasks),
+            Action::Revive { link } => self.revives(who, link, tasks),
+            Action::FailConsumer(failure) => self.fails_consumer(who, failure, tasks),
             Action::Tell(notice) => self.tells(who, notice, tasks),
             Action::TellAll(notices) => self.tells_all(who, notices, tasks),
             Action::StopAll => self.stops(who, tasks),
@@ -321,11 +339,12 @@ impl Tables {
     {
         let closed = request.closed_consumer();
         let (is_asked, outcome) = self.links.ask(self.clock, who, link, request, out)?;
-        self.subscribers.close_asked(link, closed, is_asked)?;
+        let notices = self.consumers.close_asked(link, closed, is_asked)?;
+        join_all(notices, tasks)?;
         tell(who, outcome, tasks)
     }
 
-    /// A plan ends. The topic producers of a producer that it makes send their batches from now on.
+    /// A plan ends. The topic producers of a producer that it makes send their batches from now on, and a consumer is served.
     pub(super) fn answers(
         &mut self,
         who: Who,
@@ -339,9 +358,11 @@ impl Tables {
         ensures settings { self.new.settings ≡ self.old.settings }
     {
         let Verdict { makes, said } = verdict;
-        tasks.put_all(self.batches_of(&makes)?)?;
+        tasks.put_all(self.left_with(who, &makes)?)?;
         self.builds(&makes)?;
-        self.makes(who, makes)?;
+        let due = self.makes(who, makes)?;
+        self.frees(who);
+        join_some(due, tasks)?;
         tell_end(who, said, out)
     }
 
@@ -362,7 +383,37 @@ impl Tables {
     }
 }
 
-/// What a call ends with is told; a topic producer has no end.
+/// Why a raw call is refused that names a number.
+fn taken_by(by_producer: bool, by_consumer: bool) -> Option<Refusal>
+    ensures { result ≡ taken_by by_producer by_consumer }
+{
+    if by_producer {
+        Some(Refusal::NumberInUse)
+    } else if by_consumer {
+        Some(Refusal::ConsumerInUse)
+    } else {
+        None
+    }
+}
+
+/// A request on a link, unless it is refused.
+fn asks_unless(refusal: Option<Refusal>, link: u64, request: Request) -> Procedure
+    ensures { result ≡ unless refusal (Procedure.Ask (Place.Link link) request Says.Bodies) }
+{
+    match refusal {
+        Some(refusal) => {
+            drop(request);
+            Procedure::Refuse(refusal)
+        }
+        None => Procedure::Ask {
+            place: Place::Link(link),
+            request,
+            says: Says::Bodies,
+        },
+    }
+}
+
+/// What a call ends with is told; a topic producer and a consumer have no end.
 fn tell_end(who: Who, said: Said, out: &mut Vec<Effect>) -> Result<(), NoMemory>
     ensures { OnOk result (map shown out.new.items ≡ map shown out.old.items ++ ends who said) }
 {
@@ -371,7 +422,7 @@ fn tell_end(who: Who, said: Said, out: &mut Vec<Effect>) -> Result<(), NoMemory>
             ticket,
             answer: said.into_inner(),
         })?,
-        Who::Producer(_) => drop(said),
+        Who::Consumer { .. } | Who::Producer(_) => drop(said),
     }
     Ok(())
 }
@@ -420,7 +471,8 @@ fn builds(makes: &Makes, is_built: bool) -> bool
 {
     match makes {
         Makes::Client => true,
-        Makes::Nothing | Makes::Consumer { .. } | Makes::Producer(_) => is_built,
+        Makes::Nothing | Makes::Consumer(_) | Makes::RawConsumer { .. } | Makes::Producer(_) =>
+            is_built,
     }
 }
 
@@ -453,6 +505,10 @@ fn shares(call: &Call) -> u64
         | Call::Flush { .. }
         | Call::CheckProducer { .. }
         | Call::CloseProducer { .. }
+        | Call::Consumer(_)
+        | Call::Ack { .. }
+        | Call::Nack { .. }
+        | Call::CloseConsumer { .. }
         | Call::Raw { .. } => 0,
     }
 }

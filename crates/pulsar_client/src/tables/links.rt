@@ -1,14 +1,14 @@
 //! What comes to links.
 
-ghost use Rattle.std.specs.Option.{option_map};
-ghost use Rattle.std.specs.Prelude.{◌≡◌, ◌++◌, ◌∷◌, [], ℕ, map, OnOk};
+ghost use Rattle.std.specs.Prelude.{◌≡◌, ◌++◌, map, OnOk};
 ghost use Rattle.pulsar_calls.specs.Content.{shown};
 ghost use Rattle.pulsar_tables.specs.Effects.{effects};
 ghost use Rattle.pulsar_tables.specs.Kept.{addresses_of, live_in};
 ghost use Rattle.pulsar_tables.specs.Rules.{breaks_at, reads_on, served_on, waiters_of};
 ghost use Rattle.pulsar_client.specs.Run.{goes_on};
-ghost use Rattle.pulsar_tables.specs.Subscribers.{subscription_at};
-ghost use Rattle.pulsar_tables.specs.Subscriptions.{hears};
+ghost use Rattle.pulsar_tables.specs.Consumers.{all_changed, hears, over_rows};
+ghost use Rattle.pulsar_tables.specs.KeptConsumers.{consumers_in};
+ghost use Rattle.pulsar_tables.specs.Reading.{heard_at};
 ghost use Rattle.pulsar_client.specs.Tables.{agenda_of, chosen_of, retry_set, retry_shown, turned_view, view_of, welcomed};
 ghost use Rattle.pulsar_tables.specs.View.{after};
 
@@ -72,7 +72,7 @@ impl Tables {
         let (arrival, mut notices) = self.links.read(self.clock, link, out)?;
         self.welcomes(link, &arrival, &mut notices)?;
         read_on(link, &arrival, tasks)?;
-        self.arrives(link, arrival, tasks)?;
+        self.arrives(link, arrival, &mut notices, tasks)?;
         tasks.open(notices)
     }
 
@@ -111,10 +111,16 @@ impl Tables {
     }
 
     /// The frame that was read is for consumers, or the link ends by it.
-    fn arrives(&mut self, link: u64, arrival: Arrival, tasks: &mut Tasks) -> Result<(), NoMemory>
+    fn arrives(
+        &mut self,
+        link: u64,
+        arrival: Arrival,
+        notices: &mut Vec<Notice>,
+        tasks: &mut Tasks,
+    ) -> Result<(), NoMemory>
         ensures left { OnOk result (agenda_of tasks.new ≡ record (agenda_of tasks.old) { now = breaks_at link arrival ++ tasks.old.now.items }) }
-        ensures heard { OnOk result ((t : ℕ) → subscription_at self.new.subscribers t ≡ option_map (hears link arrival) (subscription_at self.old.subscribers t)) }
-        ensures sees { OnOk result (view_of self.new ≡ record (view_of self.old) { consumers = subscription_at self.new.subscribers }) }
+        ensures notices { OnOk result (notices.new.items ≡ notices.old.items ++ over_rows (heard_at link arrival) (consumers_in self.old.consumers.rows self.old.consumers.numbers)) }
+        ensures sees { OnOk result (view_of self.new ≡ record (view_of self.old) { consumers = all_changed (hears link arrival) (consumers_in self.old.consumers.rows self.old.consumers.numbers) }) }
         ensures settings { self.new.settings ≡ self.old.settings }
     {
         match arrival {
@@ -122,7 +128,7 @@ impl Tables {
                 link,
                 act: LinkAct::Ends(End::Broken(cause)),
             })),
-            arrival => self.subscribers.hear(link, arrival),
+            arrival => add_all(notices, self.consumers.hear(link, arrival)?),
         }
     }
 
@@ -159,11 +165,12 @@ impl Tables {
         let Some((address, mut notices)) = self.links.end(self.clock, link, &end, out)? else {
             return Ok(());
         };
-        self.subscribers.end(link);
+        let lost = self.consumers.end(link)?;
         self.alarms.clear(Alarm::KeepAlive(link))?;
         let most = self.settings.connection.max_retries;
         let again = self.addresses.end(address, link, &end, most, &mut notices)?;
         self.pauses(link, again, out)?;
+        add_all(&mut notices, lost)?;
         tasks.open(notices)
     }
 
@@ -207,6 +214,16 @@ impl Tables {
         self.addresses.dial(&address, starter, retries, link)?;
         self.links.start(address, connection, self.clock)
     }
+}
+
+/// Those stand behind these.
+fn add_all(notices: &mut Vec<Notice>, more: Vec<Notice>) -> Result<(), NoMemory>
+    ensures { OnOk result (notices.new.items ≡ notices.old.items ++ more.items) }
+{
+    for notice in more {
+        notices.push(notice)?;
+    }
+    Ok(())
 }
 
 /// Behind a frame the next one is read.

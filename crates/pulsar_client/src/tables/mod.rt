@@ -1,20 +1,19 @@
 //! The tables of a client, and one step of them.
 
-ghost use Rattle.std.specs.Prelude.{◌≡◌, ◌++◌, ◌∷◌, [], List, map, IfOk, None, OnOk, true};
+ghost use Rattle.std.specs.Prelude.{◌≡◌, ◌++◌, ◌∷◌, [], List, map, IfOk, OnOk, true};
 ghost use Rattle.pulsar_run.specs.Order.{arranged};
 ghost use Rattle.pulsar_calls.specs.Content.{Heard, asked, heard, shown};
 ghost use Rattle.pulsar_tables.specs.Effects.{effect_below, effects};
-ghost use Rattle.pulsar_tables.specs.Kept.{AreTicketed};
 ghost use Rattle.pulsar_tables.specs.Rules.{brings, call_part};
 ghost use Rattle.pulsar_client.specs.Run.{Step, goes_on};
 ghost use Rattle.pulsar_producer.specs.Routing.{Policy};
-ghost use Rattle.pulsar_tables.specs.Subscribers.{subscription_at};
 ghost use Rattle.pulsar_client.specs.Tables.{InStep, Stands, agenda_of, chosen_of, step, view_of};
 ghost use Rattle.pulsar_tables.specs.View.{Options, after, begun, is_live};
 
 mod alarms;
 mod batches;
 mod calls;
+mod consumers;
 mod links;
 mod making;
 mod producers;
@@ -32,7 +31,7 @@ use pulsar_producer::CustomRoutingPolicy;
 use pulsar_session::states::Stage;
 use pulsar_tables::addresses::Addresses;
 use pulsar_tables::alarms::Alarms;
-use pulsar_tables::consumers::subscribers::Subscribers;
+use pulsar_tables::consumers::table::Consumers;
 use pulsar_tables::links::Links;
 use pulsar_tables::producers::Producers;
 use pulsar_wire::error::NoMemory;
@@ -56,7 +55,7 @@ pub struct Tables {
     pub links: Links,
     pub addresses: Addresses,
     pub alarms: Alarms,
-    pub subscribers: Subscribers,
+    pub consumers: Consumers,
     pub producers: Producers,
 }
 
@@ -77,7 +76,7 @@ impl Tables {
             links: Links::new(alloc),
             addresses: Addresses::new(alloc),
             alarms: Alarms::new(alloc),
-            subscribers: Subscribers::new(alloc),
+            consumers: Consumers::new(alloc, first_number),
             producers: Producers::new(alloc, first_number),
         }
     }
@@ -99,7 +98,7 @@ impl Tables {
                 )
             }
             Event::Tick(now) => self.clock <= *now,
-            Event::Poll(ticket) => self.subscribers.has(*ticket),
+            Event::Poll(ticket) => self.consumers.has(*ticket),
         }
     }
 
@@ -181,7 +180,7 @@ impl Tables {
     /// One act: its effects, what arises from it, and the tables after it.
     fn treat(&mut self, act: Act, tasks: &mut Tasks, out: &mut Vec<Effect>) -> Result<(), NoMemory>
         ensures out { OnOk result (map shown out.new.items ≡ map shown out.old.items ++ effects (view_of self.old) act) }
-        ensures left { OnOk result (AreTicketed self.old.tickets (subscription_at self.old.subscribers) → agenda_of tasks.new ≡ goes_on (view_of self.old) act (agenda_of tasks.old)) }
+        ensures left { OnOk result (agenda_of tasks.new ≡ goes_on (view_of self.old) act (agenda_of tasks.old)) }
         ensures sees { OnOk result (view_of self.new ≡ after act (view_of self.old)) }
         ensures settings { self.new.settings ≡ self.old.settings }
     {
@@ -189,7 +188,7 @@ impl Tables {
             Act::Comes(Part::Calls(asking, advice)) => self.calls(asking, advice, tasks),
             Act::Comes(Part::ToLink { link, act }) => self.to_link(link, act, tasks, out),
             Act::Comes(Part::Rings(alarm)) => self.rings(alarm, tasks),
-            Act::Comes(Part::Polls(ticket)) => self.polls(ticket, out),
+            Act::Comes(Part::Polls(ticket)) => self.polls(ticket, tasks, out),
             Act::Starts { who, procedure } => self.starts(who, procedure, tasks),
             Act::Told(Notice { who, outcome }) => self.told(who, outcome, tasks),
             Act::Does { who, action } => self.does(who, action, tasks, out),
@@ -200,18 +199,6 @@ impl Tables {
                 retries,
             } => self.dials(address, starter, retries, out),
         }
-    }
-
-    /// A consumer is polled.
-    fn polls(&mut self, ticket: u64, out: &mut Vec<Effect>) -> Result<(), NoMemory>
-        ensures out { OnOk result (map shown out.new.items ≡ map shown out.old.items ++ effects (view_of self.old) (Act.Comes (Part.Polls ticket))) }
-        ensures sees { OnOk result (view_of self.new ≡ after (Act.Comes (Part.Polls ticket)) (view_of self.old)) }
-        ensures settings { self.new.settings ≡ self.old.settings }
-    {
-        if let Some(effect) = self.subscribers.poll(ticket)? {
-            out.push(effect)?;
-        }
-        Ok(())
     }
 }
 

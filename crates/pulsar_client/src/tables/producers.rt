@@ -7,7 +7,8 @@ ghost use Rattle.pulsar_session.specs.Failures.{fault};
 ghost use Rattle.pulsar_calls.specs.Content.{asked};
 ghost use Rattle.pulsar_tables.specs.Kept.{producers_of};
 ghost use Rattle.pulsar_tables.specs.Producers.{advice};
-ghost use Rattle.pulsar_tables.specs.Rules.{below, grants, tells, turn_notice};
+ghost use Rattle.pulsar_tables.specs.Reading.{tells};
+ghost use Rattle.pulsar_tables.specs.Rules.{below, grants, turn_notice};
 ghost use Rattle.pulsar_client.specs.Run.{goes_on};
 ghost use Rattle.pulsar_client.specs.Tables.{agenda_of, view_of};
 ghost use Rattle.pulsar_tables.specs.View.{after, room_of};
@@ -56,6 +57,10 @@ impl Tables {
             | Call::Flush { .. }
             | Call::CheckProducer { .. }
             | Call::CloseProducer { .. }
+            | Call::Consumer(_)
+            | Call::Ack { .. }
+            | Call::Nack { .. }
+            | Call::CloseConsumer { .. }
             | Call::Raw { .. } => Ok(Advice::new(self.alloc)),
         }
     }

@@ -1,9 +1,10 @@
 //! Words that name a choice.
 
 ghost use Rattle.std.specs.Prelude.{◌≡◌};
-ghost use Rattle.pulsar_script.specs.Choices.{cumulative, flag, kind, mode, sub_type};
+ghost use Rattle.pulsar_script.specs.Choices.{cumulative, flag, kind, mode, position, sub_type};
 
 use crate::grammar::word::is;
+use pulsar_wire::commands::enumerations::InitialPosition;
 use pulsar_wire::{IoKind, Mode, SubType};
 
 /// True or false.
@@ -46,6 +47,19 @@ pub fn sub_type(word: &[u8]) -> Option<SubType>
         Some(SubType::Failover)
     } else if is(word, "key-shared") {
         Some(SubType::KeyShared)
+    } else {
+        None
+    }
+}
+
+/// Where a new subscription begins: behind the last message, or at the first.
+pub fn position(word: &[u8]) -> Option<InitialPosition>
+    ensures { result ≡ position word.now }
+{
+    if is(word, "latest") {
+        Some(InitialPosition::Latest)
+    } else if is(word, "earliest") {
+        Some(InitialPosition::Earliest)
     } else {
         None
     }

@@ -3,10 +3,12 @@
 ghost use Rattle.std.specs.Prelude.{◌≡◌, IfOk, map, string_bytes};
 ghost use Rattle.std.specs.Option.{option_map};
 ghost use Rattle.pulsar_calls.specs.Content.{asked, heard};
-ghost use Rattle.pulsar_script.specs.Grammar.{brokers, build, builds, bytes, call, called, check_producer, close_producer, drain, event, failed, flush, line, lookup, lost, on_link, opened, partitions, poll, producer_call, send, send_all, stop, tick, ticket, topic, topics, words_line};
+ghost use Rattle.pulsar_script.specs.Grammar.{ack, brokers, build, builds, bytes, call, called, check_producer, close, close_producer, consumer_call, consumes, drain, event, failed, flush, line, lookup, lost, member_call, nack, on_link, opened, partitions, poll, send, send_all, stop, tick, ticket, topic, topics, words_line};
 ghost use Rattle.pulsar_script.specs.Parsed.{line_of};
 
 use crate::grammar::choice::{kind, mode};
+use crate::grammar::consumer::consumer;
+use crate::grammar::encoded::id;
 use crate::grammar::message::{message, messages};
 use crate::grammar::producer::producer;
 use crate::grammar::raw::raw_call;
@@ -197,13 +199,13 @@ fn call(alloc: Global, words: &[&[u8]]) -> Result<Option<Call>, NoMemory>
     } else if is(word, "link") {
         on_link(alloc, rest)
     } else {
-        producer_call(alloc, word, rest)
+        member_call(alloc, word, rest)
     }
 }
 
-/// A word that belongs to a producer, and what follows it.
-fn producer_call(alloc: Global, word: &[u8], words: &[&[u8]]) -> Result<Option<Call>, NoMemory>
-    ensures { IfOk result (λ c. option_map asked c ≡ producer_call word.now (map (λ w. w.now) words.now)) }
+/// A word that belongs to a producer, or to a consumer, and what follows it.
+fn member_call(alloc: Global, word: &[u8], words: &[&[u8]]) -> Result<Option<Call>, NoMemory>
+    ensures { IfOk result (λ c. option_map asked c ≡ member_call word.now (map (λ w. w.now) words.now)) }
 {
     if is(word, "producer") {
         builds(alloc, words)
@@ -217,6 +219,25 @@ fn producer_call(alloc: Global, word: &[u8], words: &[&[u8]]) -> Result<Option<C
         Ok(check_producer(words))
     } else if is(word, "close-producer") {
         Ok(close_producer(words))
+    } else {
+        consumer_call(alloc, word, words)
+    }
+}
+
+/// A word that belongs to a consumer, and what follows it.
+fn consumer_call(alloc: Global, word: &[u8], words: &[&[u8]]) -> Result<Option<Call>, NoMemory>
+    ensures { IfOk result (λ c. option_map asked c ≡ consumer_call word.now (map (λ w. w.now) words.now)) }
+{
+    if is(word, "consumer") {
+        consumes(alloc, words)
+    } else if is(word, "ack") {
+        ack(alloc, words, false)
+    } else if is(word, "ack-all") {
+        ack(alloc, words, true)
+    } else if is(word, "nack") {
+        nack(alloc, words)
+    } else if is(word, "close") {
+        Ok(close(words))
     } else {
         Ok(None)
     }
@@ -286,6 +307,71 @@ fn close_producer(words: &[&[u8]]) -> Option<Call>
 {
     let producer = ticket(words)?;
     Some(Call::CloseProducer { producer })
+}
+
+/// `call consumer ..`
+fn consumes(alloc: Global, words: &[&[u8]]) -> Result<Option<Call>, NoMemory>
+    ensures { IfOk result (λ c. option_map asked c ≡ consumes (map (λ w. w.now) words.now)) }
+{
+    match consumer(alloc, words)? {
+        Some(builder) => Ok(Some(Call::Consumer(builder))),
+        None => Ok(None),
+    }
+}
+
+/// `call ack TICKET TOPIC ID`, or `call ack-all TICKET TOPIC ID`
+fn ack(alloc: Global, words: &[&[u8]], cumulative: bool) -> Result<Option<Call>, NoMemory>
+    ensures { IfOk result (λ c. option_map asked c ≡ ack cumulative (map (λ w. w.now) words.now)) }
+{
+    let [consumer, topic, word] = words else {
+        return Ok(None);
+    };
+    let Some(consumer) = number(consumer) else {
+        return Ok(None);
+    };
+    let Some(topic) = text(alloc, topic)? else {
+        return Ok(None);
+    };
+    let Some(id) = id(alloc, word)? else {
+        return Ok(None);
+    };
+    Ok(Some(Call::Ack {
+        consumer,
+        topic,
+        id,
+        cumulative,
+    }))
+}
+
+/// `call nack TICKET TOPIC ID`
+fn nack(alloc: Global, words: &[&[u8]]) -> Result<Option<Call>, NoMemory>
+    ensures { IfOk result (λ c. option_map asked c ≡ nack (map (λ w. w.now) words.now)) }
+{
+    let [consumer, topic, word] = words else {
+        return Ok(None);
+    };
+    let Some(consumer) = number(consumer) else {
+        return Ok(None);
+    };
+    let Some(topic) = text(alloc, topic)? else {
+        return Ok(None);
+    };
+    let Some(id) = id(alloc, word)? else {
+        return Ok(None);
+    };
+    Ok(Some(Call::Nack {
+        consumer,
+        topic,
+        id,
+    }))
+}
+
+/// `call close TICKET`
+fn close(words: &[&[u8]]) -> Option<Call>
+    ensures { option_map asked result ≡ close (map (λ w. w.now) words.now) }
+{
+    let consumer = ticket(words)?;
+    Some(Call::CloseConsumer { consumer })
 }
 
 /// A ticket alone.

@@ -1,6 +1,8 @@
 //! The language of scripts.
 
 pub mod choice;
+pub mod consumer;
+pub mod encoded;
 pub mod line;
 pub mod message;
 pub mod producer;

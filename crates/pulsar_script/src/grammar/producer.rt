@@ -4,18 +4,16 @@ ghost use Rattle.std.specs.Prelude.{◌≡◌, IfOk, map, string_bytes};
 ghost use Rattle.std.specs.Option.{option_map};
 ghost use Rattle.pulsar_messages.specs.Content.{producer_options_values};
 ghost use Rattle.pulsar_script.specs.Parsed.{producer_draft_of};
-ghost use Rattle.pulsar_script.specs.ProducerWords.{access, all, batch, batch_timeout, blank, bytes, block, encrypted, meta, name, one, options, option_part, part, policy, producer, route, schema, schema_of, topic, with_meta, with_word};
-ghost use Rattle.pulsar_wire.specs.Views.{schema_values};
+ghost use Rattle.pulsar_script.specs.ProducerWords.{access, all, batch, batch_timeout, blank, bytes, block, encrypted, meta, name, one, options, option_part, part, policy, producer, route, schema, topic, with_meta, with_word};
 ghost use Rattle.pulsar_producer.specs.Wanted.{producer_wanted};
 
 use crate::grammar::choice::flag;
+use crate::grammar::encoded::schema_of;
 use crate::grammar::message::cut;
-use crate::grammar::word::{hex_bytes, is, number, text};
+use crate::grammar::word::{is, number, text};
 use pulsar_messages::{ProducerOptions, RoutingPolicy};
 use pulsar_producer::ProducerBuilder;
-use pulsar_wire::encoding::message::decode;
-use pulsar_wire::encoding::read_error::ReadError;
-use pulsar_wire::{NoMemory, Schema};
+use pulsar_wire::NoMemory;
 use std::alloc::Global;
 
 /// What the words so far say: each part stands once, but for the metadata.
@@ -311,17 +309,4 @@ fn schema(alloc: Global, draft: Draft, word: &[u8]) -> Result<Option<Draft>, NoM
     let mut draft = draft;
     draft.builder.options.schema = Some(value);
     Ok(Some(draft))
-}
-
-fn schema_of(alloc: Global, word: &[u8]) -> Result<Option<Schema>, NoMemory>
-    ensures { IfOk result (λ s. option_map schema_values s ≡ schema_of word.now) }
-{
-    let Some(bytes) = hex_bytes(alloc, word)? else {
-        return Ok(None);
-    };
-    match decode(alloc, &bytes) {
-        Ok(schema) => Ok(Some(schema)),
-        Err(ReadError::Malformed) => Ok(None),
-        Err(ReadError::NoMemory) => Err(NoMemory),
-    }
 }

@@ -6,21 +6,21 @@ ghost use Rattle.pulsar_wire.specs.Row.{each};
 ghost use Rattle.pulsar_wire.specs.Views.{message_id_values};
 ghost use Rattle.pulsar_messages.specs.Content.{authentication_values};
 ghost use Rattle.pulsar_link.specs.RawCall.{words_of};
+ghost use Rattle.pulsar_script.specs.Encoded.{id};
 ghost use Rattle.pulsar_script.specs.Words.{optional};
 ghost use Rattle.pulsar_script.specs.Parsed.{ids_of};
-ghost use Rattle.pulsar_script.specs.RawLines.{ack, auth, close_consumer, close_producer, consumer_call, create_producer, credential, flow, id, id_bytes, last_id, lookup, member_call, partitions, ping, producer_on, raw_call, redeliver, schema, seek, send, stats, subscribe, topics_on, unsubscribe, with_id};
+ghost use Rattle.pulsar_script.specs.RawLines.{ack, auth, close_consumer, close_producer, consumer_call, create_producer, credential, flow, last_id, lookup, member_call, partitions, ping, producer_on, raw_call, redeliver, schema, seek, send, stats, subscribe, topics_on, unsubscribe, with_id};
 
 use crate::grammar::choice::{cumulative, flag, mode, sub_type};
+use crate::grammar::consumer::who_subscribes;
+use crate::grammar::encoded::id;
 use crate::grammar::message::message;
 use crate::grammar::producer::options;
 use crate::grammar::word::{
-    hex_bytes, is, number, optional_bytes, optional_number, optional_text, small_number, text,
-    word_bytes,
+    is, number, optional_bytes, optional_number, optional_text, small_number, text, word_bytes,
 };
 use pulsar_link::raw_call::RawCall;
-use pulsar_messages::{Authentication, ConsumerOptions};
-use pulsar_wire::encoding::message::decode;
-use pulsar_wire::encoding::read_error::ReadError;
+use pulsar_messages::Authentication;
 use pulsar_wire::{MessageIdData, NoMemory};
 use std::alloc::Global;
 
@@ -255,11 +255,11 @@ fn close_producer(words: &[&[u8]]) -> Option<RawCall>
     Some(RawCall::CloseProducer { producer_id })
 }
 
-/// `subscribe TOPIC SUBSCRIPTION TYPE NUMBER`
+/// `subscribe TOPIC SUBSCRIPTION TYPE NUMBER ..`
 fn subscribe(alloc: Global, words: &[&[u8]]) -> Result<Option<RawCall>, NoMemory>
     ensures { IfOk result (λ c. option_map words_of c ≡ subscribe (map (λ w. w.now) words.now)) }
 {
-    let [topic, subscription, kind, consumer_id] = words else {
+    let [topic, subscription, kind, consumer_id, rest @ ..] = words else {
         return Ok(None);
     };
     let Some(topic) = text(alloc, topic)? else {
@@ -274,13 +274,16 @@ fn subscribe(alloc: Global, words: &[&[u8]]) -> Result<Option<RawCall>, NoMemory
     let Some(consumer_id) = number(consumer_id) else {
         return Ok(None);
     };
+    let Some(who) = who_subscribes(alloc, rest)? else {
+        return Ok(None);
+    };
     Ok(Some(RawCall::Subscribe {
         topic,
         subscription,
         sub_type,
         consumer_id,
-        name: None,
-        options: ConsumerOptions::new(alloc),
+        name: who.name,
+        options: who.options,
     }))
 }
 
@@ -461,27 +464,4 @@ fn optional_id(alloc: Global, word: &[u8]) -> Result<Option<Option<MessageIdData
         Some(id) => Ok(Some(Some(id))),
         None => Ok(None),
     }
-}
-
-/// An id: the hex of its bytes, and `%` for no bytes.
-fn id(alloc: Global, word: &[u8]) -> Result<Option<MessageIdData>, NoMemory>
-    ensures { IfOk result (λ i. option_map message_id_values i ≡ id word.now) }
-{
-    let Some(bytes) = id_bytes(alloc, word)? else {
-        return Ok(None);
-    };
-    match decode(alloc, &bytes) {
-        Ok(id) => Ok(Some(id)),
-        Err(ReadError::Malformed) => Ok(None),
-        Err(ReadError::NoMemory) => Err(NoMemory),
-    }
-}
-
-fn id_bytes(alloc: Global, word: &[u8]) -> Result<Option<Vec<u8>>, NoMemory>
-    ensures { IfOk result (λ b. option_map (λ v. v.items) b ≡ id_bytes word.now) }
-{
-    if is(word, "%") {
-        return Ok(Some(Vec::new(alloc)));
-    }
-    hex_bytes(alloc, word)
 }

@@ -240,7 +240,7 @@ fn push_handed(out: &mut String, ticket: u64, handed: &Handed) -> Result<(), All
 {
     let alloc = *out.allocator();
     let mut id = Vec::new(alloc);
-    encode(&handed.id, &mut id)?;
+    encode(&handed.id.id, &mut id)?;
     let mut metadata = Vec::new(alloc);
     encode(&handed.payload.metadata, &mut metadata)?;
     write!(out, "item {ticket} ")?;

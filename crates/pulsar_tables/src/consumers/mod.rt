@@ -1,2 +1,5 @@
-pub mod subscriber;
-pub mod subscribers;
+pub mod hearing;
+pub mod listing;
+pub mod numbers;
+pub mod row;
+pub mod table;

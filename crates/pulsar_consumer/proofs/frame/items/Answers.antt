@@ -1,5 +1,5 @@
 use Rattle.std.proofs.Common.{◌≡◌, ◌∙◌, IfOk, sym, subst}
-use Rattle.pulsar_link.proofs.Yields.{single}
+use Rattle.pulsar_consumer.proofs.Yields.{single}
 use Rattle.pulsar_consumer.proofs.frame.items.Goals as goal
 
 pub returns-in-None : goal.returns-in-None

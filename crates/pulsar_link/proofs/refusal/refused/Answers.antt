@@ -9,7 +9,7 @@ use Rattle.pulsar_link.specs.Messages.{read_body, written}
 use Rattle.pulsar_link.specs.Refusals.{refused}
 use Rattle.pulsar_link.proofs.refusal.refused.Goals as goal
 
-unexpected : (b : BodyValues) → (b.number == 14) ≡ false → UnexpectedResponse (body_name b.number) ≡ refused (read_body None [] (Some b)) (Some (written b))
+unexpected : (b : BodyValues) → (b.number == 14) ≡ false → UnexpectedResponse (body_name b.number) ≡ refused (read_body None [] 0 (Some b)) (Some (written b))
 unexpected b error = rw error refl
 
 not-error : (b : Body) → ((x : CommandError) → b ≡ Error x → ⊥) → ((body_values b).number == 14) ≡ false

@@ -1,25 +1,25 @@
 use Rattle.std.proofs.Common.{◌∙◌, ap, length, nat_le, nat_lt, not, ◌&&◌, ◌||◌}
 use Rattle.pulsar_requests.specs.Waits.{is_empty}
 use Rattle.pulsar_session.specs.Link.{is_ready}
-use Rattle.pulsar_tables.specs.Subscribers.{subscription_at}
-use Rattle.pulsar_tables.specs.Subscriptions.{is_heard}
+use Rattle.pulsar_tables.specs.Consumers.{is_heard}
+use Rattle.pulsar_tables.specs.KeptConsumers.{consumers_in}
 use Rattle.pulsar_tables.specs.View.{later}
-use Rattle.pulsar_tables.proofs.Idle.{heard_is, idle_is}
+use Rattle.pulsar_tables.proofs.Idle.{idle_is}
 use Rattle.pulsar_tables.proofs.links.is_idle.Goals as goal
 
 pub returns : goal.returns
-returns c = λ drawn ticketed.
+returns c =
     let row = c.args.row.now in
     let seen = row.connection in
     let ready = is_ready seen.stage in
     let late = nat_le (later row.got c.args.most) c.args.now in
     let empty = is_empty seen.waits.waiting in
     let standing = length seen.line in
-    let consumers = subscription_at c.args.subscribers.now in
+    let consumers = consumers_in c.args.consumers.now.rows c.args.consumers.now.numbers in
     let heard = c.hears_on-is_heard.result in
     let held = c.holds-is_held.result in
     c.is_unused.ensures
     ∙ ap (λ b. (b && not heard) && not held) c.rests-rests.ensures
     ∙ idle_is ready late empty heard held standing
-    ∙ ap (λ b. ready && (late && not (not empty || (nat_lt 0 standing || (b || held))))) (heard_is consumers drawn c.args.link ticketed heard c.hears_on-is_heard.ensures)
-    ∙ ap (λ b. ready && (late && not (not empty || (nat_lt 0 standing || (is_heard drawn consumers c.args.link || b))))) c.holds-is_held.ensures
+    ∙ ap (λ b. ready && (late && not (not empty || (nat_lt 0 standing || (b || held))))) c.hears_on-is_heard.ensures.heard
+    ∙ ap (λ b. ready && (late && not (not empty || (nat_lt 0 standing || (is_heard consumers c.args.link || b))))) c.holds-is_held.ensures

@@ -19,7 +19,7 @@ pub returns-else-is_busy : goal.returns-else-is_busy
 returns-else-is_busy g c = λ o h taken s run.
     let t = c.args.self.now.tables in
     right_of t c.args.link _
-    (idle_waits (view_of t) c.args.link _ (sym c.stage.ensures ∙ c.in-Some-Ready.is ∙ ap Some c.in-Some-Ready.field-0-is) (sym c.is_busy.ensures ∙ c.if-is_busy.false) c.hears_on.ensures)
+    (idle_waits (view_of t) c.args.link _ (sym c.stage.ensures ∙ c.in-Some-Ready.is ∙ ap Some c.in-Some-Ready.field-0-is) (sym c.is_busy.ensures ∙ c.if-is_busy.false) c.hears_on.ensures.one)
     s.stands run
 
 pub returns-in-Some-Dialing : goal.returns-in-Some-Dialing

@@ -1,8 +1,9 @@
-use Rattle.std.proofs.Common.{◌≡◌, ◌∙◌, ◌+◌, ◌-◌, ◌^◌, ◌∷◌, ◌++◌, ap, cond, Some, None}
+use Rattle.std.proofs.Common.{◌∙◌, ◌+◌, ◌-◌, ◌^◌, ◌∷◌, ◌++◌, ap, cond, Some, None}
 use Rattle.std.proofs.lemmas.Result.{on_ok_weaker}
 use Rattle.pulsar_calls.specs.declared.act.Act.TheVariants.{Answers, Starts}
 use Rattle.pulsar_calls.specs.declared.act.Who.TheVariants.{Call}
 use Rattle.pulsar_calls.specs.Content.{lacks_tickets, shares}
+use Rattle.pulsar_tables.specs.Consumers as consumer
 use Rattle.pulsar_tables.specs.Producers.{called_on}
 use Rattle.pulsar_tables.specs.Rules.{parts_of}
 use Rattle.pulsar_client.specs.Run.{Agenda}
@@ -72,6 +73,7 @@ returns-clause-sees c =
     c.in_ok-procedure.ensures.after
     ∙ (λ i. record v {
       calls = record { drawn = is i; is_built = v.calls.is_built; is_stopped = v.calls.is_stopped };
+      consumers = consumer.called_on (may_call v.calls) c.args.asking v.consumers;
       producers = called_on (may_call v.calls) c.args.asking v.producers;
     })
     ∙ begun_sees v c.args.advice c.args.asking lacks)

@@ -7,4 +7,4 @@ pub returns-clause-left : goal.returns-clause-left
 returns-clause-left c =
     let g = agenda_of c.args.tasks.now in
     on_ok_weaker c.put_all.result
-    (λ left. λ ticketed. left ∙ ap (λ acts. record g { now = acts ++ g.now }) (c.in_ok-acts.ensures c.args.self.now.tickets ticketed)) c.put_all.ensures
+    (λ left. left ∙ ap (λ acts. record g { now = acts ++ g.now }) c.in_ok-acts.ensures) c.put_all.ensures

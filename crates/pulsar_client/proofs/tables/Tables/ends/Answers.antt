@@ -1,4 +1,4 @@
-use Rattle.std.proofs.Common.{◌≡◌, ◌∙◌, ◌++◌, Option, ap, append_assoc, map, subst, sym, Some, None}
+use Rattle.std.proofs.Common.{◌≡◌, ◌∙◌, ◌++◌, Option, ap, append_assoc, map, refl, subst, sym, Some, None}
 use Rattle.std.proofs.lemmas.List.{append-nil}
 use Rattle.std.proofs.lemmas.Result.{on_ok_weaker}
 use Rattle.std.specs.Option.{option_map}
@@ -14,9 +14,11 @@ use Rattle.pulsar_calls.specs.Content.{shown}
 use Rattle.pulsar_tables.specs.Effects.{given_at, retries_on}
 use Rattle.pulsar_tables.specs.Kept.{IsEnd}
 use Rattle.pulsar_tables.specs.Rules.{below, ended_on, failed_on, failed_over, opens, waiters_of}
-use Rattle.pulsar_tables.specs.Subscriptions.{ended_at}
+use Rattle.pulsar_tables.specs.Consumers.{Consumers, all_changed, loses_by, over_rows}
+use Rattle.pulsar_tables.specs.Reading.{lost_at}
 use Rattle.pulsar_client.specs.Tables.{agenda_of, retry_set, retry_shown, view_of}
 use Rattle.pulsar_tables.specs.View.{addresses_after, alarms_after, alarms_on, alarms_over, base_on, closing, links_after, may_retry, pause_of, pause_on, pause_with, turned}
+use Rattle.pulsar_tables.proofs.Hearing.{all_same, over_none}
 use Rattle.pulsar_client.proofs.Turned.{linked, none_left, retries_set, retries_shown, still_sees}
 use Rattle.pulsar_client.proofs.Turning.{none_ended, nothing_more, open_still, retries_still, turned_end, waiters_still}
 use Rattle.pulsar_client.proofs.tables.Tables.ends.Goals as goal
@@ -45,9 +47,12 @@ returns-in_default-clause-left c =
     in
     let t = turned v (Comes (ToLink l (Ends c.args.end))) in
     let waiters = waiters_of (failed_on c.args.end) v.addresses t in
+    let lost = over_rows (lost_at l (closing c.args.end v.now row)) v.consumers in
     let nobody =
-    ap (λ ns. ns ++ waiters) (none_ended c.args.end v.now row closed)
-    ∙ waiters_still c.args.end v.addresses t (open_still v.chosen v.addresses v.now l c.args.end row closed)
+    ap (λ ns. (ns ++ waiters) ++ lost) (none_ended c.args.end v.now row closed)
+    ∙ ap (λ ns. ns ++ lost) (waiters_still c.args.end v.addresses t (open_still v.chosen v.addresses v.now l c.args.end row closed))
+    ∙ ap (λ cause. over_rows (lost_at l cause) v.consumers) closed
+    ∙ over_none (lost_at l None) (λ u m. refl) v.consumers.rows v.consumers.tickets
     in
     ap (λ causes. record { now = g.now; here = g.here; behind = causes; parts = g.parts })
     (sym (append-nil g.behind) ∙ sym (ap (λ ns. g.behind ++ map (arranged below) (opens ns)) nobody))
@@ -63,11 +68,17 @@ returns-in_default-clause-sees c =
     in
     still_sees v l x _ (open_still v.chosen v.addresses v.now l c.args.end row closed)
     (linked v l x _ _ c.in_ok-address.ensures.started c.in_ok-address.ensures.live)
+    ∙ ap (λ (cs : Consumers). record v {
+      links = links_after v.chosen v.addresses v.now (Comes (ToLink l x)) v.links;
+      addresses = addresses_after v (Comes (ToLink l x));
+      alarms = alarms_after v (Comes (ToLink l x));
+      consumers = cs;
+    }) (all_same (loses_by l None) (λ m. refl) v.consumers)
     ∙ ap (λ (cause : Option Fault). record v {
       links = links_after v.chosen v.addresses v.now (Comes (ToLink l x)) v.links;
       addresses = addresses_after v (Comes (ToLink l x));
       alarms = alarms_after v (Comes (ToLink l x));
-      consumers = λ t. ended_at l cause (v.consumers t);
+      consumers = all_changed (loses_by l cause) v.consumers;
     }) (sym closed)
 
 -- AN END
@@ -108,11 +119,13 @@ returns-clause-left c =
     let waiters = waiters_of (failed_on c.args.end) v.addresses in
     let base = v.addresses.base (address_key p) in
     let failed = failed_over c.args.end (pause_of v.chosen c.args.end p base.series) base in
-    let notices =
+    let before =
     c.in_ok-again.ensures.notices
     ∙ ap (λ ns. ns ++ failed) end.3
     ∙ sym (ap (λ t. ended_on c.args.end v.now row ++ waiters t) turns)
     in
+    let lost = c.in_ok-lost.ensures.notices ∙ ap (λ cause. over_rows (lost_at l cause) v.consumers) (sym end.1) in
+    let notices = c.in_ok-add_all.ensures ∙ (λ i. before i ++ lost i) in
     on_ok_weaker c.open.result
     (λ opened. opened
     ∙ ap (λ ns. record { now = g.now; here = g.here; behind = g.behind ++ map (arranged below) (opens ns); parts = g.parts }) notices)
@@ -143,12 +156,12 @@ returns-clause-sees c =
       links = links i;
       addresses = record { base = λ key. c.in_ok-again.ensures.bases key i; pause = λ k. c.in_ok-again.ensures.pauses k i };
       alarms = alarms i;
-      consumers = λ t. (c.end-2.ensures t ∙ ap (λ cause. ended_at l cause (v.consumers t)) (sym end.1)) i;
+      consumers = (c.in_ok-lost.ensures.after ∙ ap (λ cause. all_changed (loses_by l cause) v.consumers) (sym end.1)) i;
     })
     ∙ sym (ap (λ t. record v {
       links = links_after o v.addresses v.now (Comes (ToLink l x)) v.links;
       addresses = record { base = λ key. base_on t key (v.addresses.base key); pause = λ k. pause_on t k (v.addresses.pause k) };
       alarms = alarms_on o v.now t v.alarms;
-      consumers = λ k. ended_at l (closing c.args.end v.now row) (v.consumers k);
+      consumers = all_changed (loses_by l (closing c.args.end v.now row)) v.consumers;
     }) turns))
     c.open.ensures

@@ -12,6 +12,6 @@ returns c = λ policies. at_first (λ i. record {
   links = record { started = c.new-2.ensures.started i; live = λ l. c.new-2.ensures.live l i };
   addresses = record { base = λ key. c.new-3.ensures.bases key i; pause = λ l. c.new-3.ensures.pauses l i };
   alarms = c.new-4.ensures i;
-  consumers = λ t. c.new-5.ensures t i;
+  consumers = c.new-5.ensures i;
   producers = c.new-6.ensures i;
 })

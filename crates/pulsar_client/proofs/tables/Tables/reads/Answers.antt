@@ -1,7 +1,6 @@
 use Rattle.std.proofs.Common.{◌≡◌, ◌∙◌, ◌++◌, ap, map, cond, refl}
 use Rattle.std.proofs.lemmas.Bool.{eq-eqb}
 use Rattle.std.proofs.lemmas.Result.{on_ok_weaker}
-use Rattle.std.specs.Option.{option_map}
 use Rattle.pulsar_run.specs.Order.{arranged}
 use Rattle.pulsar_calls.specs.declared.act.Act.TheVariants.{Comes}
 use Rattle.pulsar_calls.specs.declared.act.LinkAct.TheVariants.{Reads}
@@ -9,7 +8,8 @@ use Rattle.pulsar_calls.specs.declared.act.Part.TheVariants.{ToLink}
 use Rattle.pulsar_tables.specs.Kept.{live_in}
 use Rattle.pulsar_tables.specs.Rules.{answered_on, below, breaks_at, opens, reads_on, served_on, waiters_of}
 use Rattle.pulsar_client.specs.Run.{Agenda}
-use Rattle.pulsar_tables.specs.Subscriptions.{hears}
+use Rattle.pulsar_tables.specs.Consumers.{all_changed, hears, over_rows}
+use Rattle.pulsar_tables.specs.Reading.{heard_at}
 use Rattle.pulsar_client.specs.Tables.{agenda_of, view_of, welcomed}
 use Rattle.pulsar_tables.specs.View.{View, alarms_on, arrival_at, base_on, pause_on, took_some, turned}
 use Rattle.pulsar_client.proofs.Turned.{linked}
@@ -37,15 +37,19 @@ returns-clause-left c =
     ∙ ap (welcomed l (arrival_at row)) (c.in_ok-arrival.ensures.live l ∙ ap (λ b. cond b (took_some Reads v.now row) row) (eq-eqb l l refl))
     ∙ welcomed_is v.chosen v.addresses v.now l row
     in
-    let notices =
+    let heard =
+    ap (λ (x : View). over_rows (heard_at l came) x.consumers) c.in_ok-welcomes.ensures.sees ∙ ap (λ a. over_rows (heard_at l a) v.consumers) is
+    in
+    let before =
     c.in_ok-welcomes.ensures.notices
     ∙ ap (λ ns. ns ++ waiters_of served_on v.addresses (welcomed l came (after l))) c.in_ok-arrival.ensures.notices
     ∙ ap (λ t. answered_on row ++ waiters_of served_on v.addresses t) turns
     in
+    let notices = c.in_ok-arrives.ensures.notices ∙ (λ i. before i ++ heard i) in
     let left = c.in_ok-arrives.ensures.left ∙ ap (λ (x : Agenda). record x { now = breaks_at l came ++ x.now }) c.in_ok-read_on.ensures in
     on_ok_weaker c.open.result
     (λ opened. opened
-    ∙ ap (λ (x : Agenda). record x { behind = x.behind ++ map (arranged below) (opens c.welcomes.new.notices.items) }) left
+    ∙ ap (λ (x : Agenda). record x { behind = x.behind ++ map (arranged below) (opens c.arrives.new.notices.items) }) left
     ∙ (λ i. record g {
       now = breaks_at l (is i) ++ g.now;
       behind = g.behind ++ map (arranged below) (opens (notices i));
@@ -71,12 +75,11 @@ returns-clause-sees c =
     let arrives = c.in_ok-arrives.ensures in
     on_ok_weaker c.open.result
     (λ left. arrives.sees
-    ∙ ap (λ (x : View). record x { consumers = (view_of c.arrives.new.self).consumers }) welcomes
+    ∙ ap (λ (x : View). record x { consumers = all_changed (hears l came) x.consumers }) welcomes
     ∙ (λ i. record v {
       links = links i;
       addresses = record { base = λ key. base_on (turns i) key (v.addresses.base key); pause = λ k. pause_on (turns i) k (v.addresses.pause k) };
       alarms = alarms_on v.chosen v.now (turns i) v.alarms;
-      consumers = λ t.
-          (arrives.heard t ∙ ap (λ (x : View). option_map (hears l came) (x.consumers t)) welcomes ∙ ap (λ a. option_map (hears l a) (v.consumers t)) is) i;
+      consumers = all_changed (hears l (is i)) v.consumers;
     }))
     c.open.ensures

@@ -7,7 +7,7 @@ use Rattle.pulsar_client.proofs.Rings.{rest_left, rest_sees, ring_acts, ring_see
 use Rattle.pulsar_client.proofs.tables.Tables.rings.Goals as goal
 
 pub returns-then-not-rings-clause-left : goal.returns-then-not-rings-clause-left
-returns-then-not-rings-clause-left c = λ ticketed.
+returns-then-not-rings-clause-left c =
     rest_left (view_of c.args.self.now) c.args.alarm (agenda_of c.args.tasks.now) (sym c.rings.ensures ∙ c.if-not-rings.true)
 
 pub returns-then-not-rings-clause-sees : goal.returns-then-not-rings-clause-sees
@@ -17,7 +17,7 @@ pub returns-in-Retry-clause-left : goal.returns-in-Retry-clause-left
 returns-in-Retry-clause-left c =
     let v = view_of c.args.self.now in
     let h : rings v.now (Retry c.in-Retry.link) v.alarms ≡ true = ap (λ a. rings v.now a v.alarms) (sym c.in-Retry.is) ∙ sym c.rings.ensures ∙ c.if-not-rings.false in
-    rw c.in-Retry.is (on_ok_weaker c.tries_again.result (λ left ticketed. left ∙ ring_acts v (Retry c.in-Retry.link) (agenda_of c.args.tasks.now) h refl) c.tries_again.ensures.left)
+    rw c.in-Retry.is (on_ok_weaker c.tries_again.result (λ left. left ∙ ring_acts v (Retry c.in-Retry.link) (agenda_of c.args.tasks.now) h refl) c.tries_again.ensures.left)
 
 pub returns-in-Retry-clause-sees : goal.returns-in-Retry-clause-sees
 returns-in-Retry-clause-sees c =
@@ -29,7 +29,7 @@ pub returns-in-Wake-clause-left : goal.returns-in-Wake-clause-left
 returns-in-Wake-clause-left c =
     let v = view_of c.args.self.now in
     let h : rings v.now (Wake c.in-Wake.who) v.alarms ≡ true = ap (λ a. rings v.now a v.alarms) (sym c.in-Wake.is) ∙ sym c.rings.ensures ∙ c.if-not-rings.false in
-    rw c.in-Wake.is (on_ok_weaker c.wakes.result (λ left ticketed. left ∙ ring_tells v (Wake c.in-Wake.who) (agenda_of c.args.tasks.now) h refl) c.wakes.ensures.left)
+    rw c.in-Wake.is (on_ok_weaker c.wakes.result (λ left. left ∙ ring_tells v (Wake c.in-Wake.who) (agenda_of c.args.tasks.now) h refl) c.wakes.ensures.left)
 
 pub returns-in-Wake-clause-sees : goal.returns-in-Wake-clause-sees
 returns-in-Wake-clause-sees c =
@@ -41,7 +41,7 @@ pub returns-in-Batch-clause-left : goal.returns-in-Batch-clause-left
 returns-in-Batch-clause-left c =
     let v = view_of c.args.self.now in
     let h : rings v.now (Batch c.in-Batch.number) v.alarms ≡ true = ap (λ a. rings v.now a v.alarms) (sym c.in-Batch.is) ∙ sym c.rings.ensures ∙ c.if-not-rings.false in
-    rw c.in-Batch.is (on_ok_weaker c.cuts.result (λ left ticketed. left ∙ ring_tells v (Batch c.in-Batch.number) (agenda_of c.args.tasks.now) h refl) c.cuts.ensures.left)
+    rw c.in-Batch.is (on_ok_weaker c.cuts.result (λ left. left ∙ ring_tells v (Batch c.in-Batch.number) (agenda_of c.args.tasks.now) h refl) c.cuts.ensures.left)
 
 pub returns-in-Batch-clause-sees : goal.returns-in-Batch-clause-sees
 returns-in-Batch-clause-sees c =
@@ -53,7 +53,7 @@ pub returns-in-KeepAlive-clause-left : goal.returns-in-KeepAlive-clause-left
 returns-in-KeepAlive-clause-left c =
     let v = view_of c.args.self.now in
     let h : rings v.now (KeepAlive c.in-KeepAlive.link) v.alarms ≡ true = ap (λ a. rings v.now a v.alarms) (sym c.in-KeepAlive.is) ∙ sym c.rings.ensures ∙ c.if-not-rings.false in
-    rw c.in-KeepAlive.is (on_ok_weaker c.keeps_alive.result (λ left ticketed. left ∙ ring_acts v (KeepAlive c.in-KeepAlive.link) (agenda_of c.args.tasks.now) h refl) c.keeps_alive.ensures.left)
+    rw c.in-KeepAlive.is (on_ok_weaker c.keeps_alive.result (λ left. left ∙ ring_acts v (KeepAlive c.in-KeepAlive.link) (agenda_of c.args.tasks.now) h refl) c.keeps_alive.ensures.left)
 
 pub returns-in-KeepAlive-clause-sees : goal.returns-in-KeepAlive-clause-sees
 returns-in-KeepAlive-clause-sees c =
@@ -65,7 +65,7 @@ pub returns-in-CheckIdle-clause-left : goal.returns-in-CheckIdle-clause-left
 returns-in-CheckIdle-clause-left c =
     let v = view_of c.args.self.now in
     let h : rings v.now CheckIdle v.alarms ≡ true = ap (λ a. rings v.now a v.alarms) (sym c.in-CheckIdle.is) ∙ sym c.rings.ensures ∙ c.if-not-rings.false in
-    rw c.in-CheckIdle.is (on_ok_weaker c.checks_idle.result (λ left ticketed. left ticketed ∙ ring_acts v CheckIdle (agenda_of c.args.tasks.now) h refl) c.checks_idle.ensures.left)
+    rw c.in-CheckIdle.is (on_ok_weaker c.checks_idle.result (λ left. left ∙ ring_acts v CheckIdle (agenda_of c.args.tasks.now) h refl) c.checks_idle.ensures.left)
 
 pub returns-in-CheckIdle-clause-sees : goal.returns-in-CheckIdle-clause-sees
 returns-in-CheckIdle-clause-sees c =

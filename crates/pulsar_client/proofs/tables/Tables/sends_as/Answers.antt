@@ -1,4 +1,4 @@
-use Rattle.std.proofs.Common.{◌≡◌, ◌∙◌, ap, false, sym, true}
+use Rattle.std.proofs.Common.{◌∙◌, ap, false, sym, true}
 use Rattle.std.proofs.lemmas.Result.{MatchResult-weaker}
 use Rattle.pulsar_messages.specs.Content.{message_content}
 use Rattle.pulsar_calls.specs.declared.act.Procedure.TheVariants.{Send}

@@ -1,15 +1,15 @@
-use Rattle.std.proofs.Common.{◌≡◌, ◌∙◌, ap, subst, sym, true, cond, Option, Some, None, inl, inr}
-use Rattle.std.proofs.lemmas.Bool.{cases_Bool, eqb-true}
+use Rattle.std.proofs.Common.{◌≡◌, ◌∙◌, ◌==◌, ap, subst, sym, true, cond, Option, Some, None, inl, inr}
+use Rattle.std.proofs.lemmas.Bool.{and_parts, cases_Bool, eqb-true}
 use Rattle.std.proofs.lemmas.Result.{on_ok_weaker}
 use Rattle.pulsar_calls.specs.declared.act.Act.TheVariants.{Told}
 use Rattle.pulsar_calls.specs.declared.act.Outcome.{Outcome}
 use Rattle.pulsar_calls.specs.declared.act.Verdict.{Verdict}
 use Rattle.pulsar_calls.specs.declared.act.Who.{Who}
-use Rattle.pulsar_calls.specs.declared.act.Who.TheVariants.{Call, Producer}
+use Rattle.pulsar_calls.specs.declared.act.Who.TheVariants.{Call, Consumer, Producer}
 use Rattle.pulsar_procedures.specs.declared.plan.Plan.{Plan}
 use Rattle.pulsar_procedures.specs.declared.plan.Turn.{Turn}
 use Rattle.pulsar_procedures.specs.Plan.{told}
-use Rattle.pulsar_tables.specs.Rules.{notice}
+use Rattle.pulsar_tables.specs.Reading.{notice}
 use Rattle.pulsar_client.specs.Tables.{view_of}
 use Rattle.pulsar_procedures.specs.Standing.{stand_of}
 use Rattle.pulsar_tables.specs.View.{stand_after, stays, stays_some, told_some}
@@ -17,8 +17,10 @@ use Rattle.pulsar_calls.specs.Who.{is_same}
 use Rattle.pulsar_client.proofs.tables.Tables.told.Goals as goal
 
 same : (w who : Who) → is_same w who ≡ true → w ≡ who
-same (Call t) (Call u) h = ap (λ n. Call n) (eqb-true t u h)
-same (Producer m) (Producer n) h = ap (λ n. Producer n) (eqb-true m n h)
+same (Call t) (Call u) h = ap (λ n. Call n) (eqb-true t u (and_parts (t == u) (t == u) h).0)
+same (Consumer m t) (Consumer n u) h =
+    let parts = and_parts (m == n) (t == u) h in λ i. Consumer (eqb-true m n parts.0 i) (eqb-true t u parts.1 i)
+same (Producer m) (Producer n) h = ap (λ n. Producer n) (eqb-true m n (and_parts (m == n) true h).0)
 same _ _ h = absurd cc
 
 -- the plan that was taken out stands where its turn leaves it

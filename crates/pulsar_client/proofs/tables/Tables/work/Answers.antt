@@ -2,7 +2,6 @@ use Rattle.std.proofs.Common.{◌∙◌, ap, sym, refl}
 use Rattle.pulsar_run.proofs.Steps.{ended, treated}
 use Rattle.pulsar_client.specs.Run.{goes_on}
 use Rattle.pulsar_client.specs.Tables.{view_of}
-use Rattle.pulsar_client.proofs.Ticketed.{ticketed_in}
 use Rattle.pulsar_client.proofs.tables.Tables.work.Goals as goal
 
 pub loop-preserved : goal.loop-preserved
@@ -10,7 +9,7 @@ loop-preserved c = record {
   stands = λ o e h s.
       let so_far = c.loop.invariant.stands o e h s in
       treated so_far (sym c.in-Some.ensures.first) c.in_ok-treat-in-Some.ensures.out
-      (c.in_ok-treat-in-Some.ensures.left (ticketed_in c.loop.self so_far) ∙ ap (goes_on (view_of c.loop.self) _) c.in-Some.ensures.rest) c.in_ok-treat-in-Some.ensures.sees;
+      (c.in_ok-treat-in-Some.ensures.left ∙ ap (goes_on (view_of c.loop.self) _) c.in-Some.ensures.rest) c.in_ok-treat-in-Some.ensures.sees;
   settings = c.in_ok-treat-in-Some.ensures.settings ∙ c.loop.invariant.settings;
 }
 

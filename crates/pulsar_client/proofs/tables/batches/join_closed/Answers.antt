@@ -1,4 +1,4 @@
-use Rattle.std.proofs.Common.{◌∙◌, ◌∷◌, [], ap, map, sym}
+use Rattle.std.proofs.Common.{◌∙◌, ap, map, sym}
 use Rattle.pulsar_run.specs.Order.{put, put_all}
 use Rattle.pulsar_procedures.specs.Plan.{closed_notice}
 use Rattle.pulsar_tables.specs.Rules.{below}

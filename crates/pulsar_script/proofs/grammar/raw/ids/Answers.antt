@@ -1,7 +1,7 @@
 use Rattle.std.proofs.Common.{rules, ◌∙◌, ◌<◌, [], ◌∷◌, sym, ap, map, take, get_or, length}
 use Rattle.std.proofs.lemmas.List.{map-append}
 use Rattle.pulsar_wire.specs.Row.{each}
-use Rattle.pulsar_script.specs.RawLines.{id}
+use Rattle.pulsar_script.specs.Encoded.{id}
 use Rattle.pulsar_script.proofs.Folds.{ids_step, take_more}
 use Rattle.pulsar_script.proofs.grammar.raw.ids.Goals as goal
 

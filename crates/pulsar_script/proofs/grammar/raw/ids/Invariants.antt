@@ -1,7 +1,7 @@
 use Rattle.std.proofs.Common.{◌≡◌, map, take}
 use Rattle.std.specs.Option.{option_map}
 use Rattle.pulsar_wire.specs.Row.{each}
-use Rattle.pulsar_script.specs.RawLines.{id}
+use Rattle.pulsar_script.specs.Encoded.{id}
 use Rattle.pulsar_script.specs.Parsed.{ids_of}
 use Rattle.pulsar_script.proofs.grammar.raw.ids.Given as goal
 

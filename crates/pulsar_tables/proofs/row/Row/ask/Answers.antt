@@ -1,7 +1,7 @@
 use Rattle.std.proofs.Common.{◌∙◌, ap}
 use Rattle.std.specs.BTreeMap.{get}
 use Rattle.std.specs.Ordering.{nat_cmp}
-use Rattle.pulsar_link.specs.Request.{is_answered, request_number}
+use Rattle.pulsar_link.specs.Request.{is_awaited}
 use Rattle.pulsar_tables.specs.View.{asker_at, place_of}
 use Rattle.pulsar_tables.proofs.row.Row.ask.Goals as goal
 
@@ -11,15 +11,14 @@ returns-clause-sees c =
     let who = c.args.who in
     let askers = get nat_cmp old.askers in
     let memory = c.in_ok-told.ensures.memory in
-    let answered = c.is_answered-is_asker.ensures ∙ ap is_answered c.number.ensures in
     let place = c.place_of-place.ensures ∙ ap place_of (c.ask-answer.ensures.answer memory) in
     λ i. record {
       address = old.address;
       seen = c.ask-answer.ensures.seen memory i;
       askers = λ p.
           (c.in_ok-seat.ensures p
-          ∙ ap (λ b. asker_at b who c.place_of-place.result askers p) answered
-          ∙ ap (λ o. asker_at (is_answered (request_number c.args.request)) who o askers p) place) i;
+          ∙ ap (λ b. asker_at b who c.place_of-place.result askers p) c.is_awaited-is_asker.ensures
+          ∙ ap (λ o. asker_at (is_awaited c.args.request) who o askers p) place) i;
       got = old.got;
       ping = old.ping;
     }

@@ -1,0 +1,35 @@
+-- Those that have plans are told apart by kind, number and ticket.
+use Rattle.std.proofs.Common.{◌≡◌, ◌∙◌, ap, ℕ, refl, Bool, true, false, ◌&&◌, ◌==◌, eq-eqb}
+use Rattle.std.proofs.lemmas.Bool.{and_parts, eqb-true}
+use Rattle.pulsar_calls.specs.declared.act.Who.{Who}
+use Rattle.pulsar_calls.specs.declared.act.Who.TheVariants.{Call, Consumer, Producer}
+use Rattle.pulsar_calls.specs.Who.{is_same}
+
+pub same_self : (w : Who) → is_same w w ≡ true
+same_self (Call t) = ap (λ b. b && b) (eq-eqb t t refl)
+same_self (Consumer n t) = λ i. eq-eqb n n refl i && eq-eqb t t refl i
+same_self (Producer n) = ap (λ b. b && true) (eq-eqb n n refl)
+
+pub same_who : (w u : Who) → is_same w u ≡ true → w ≡ u
+same_who (Call s) (Call t) h = ap Call (eqb-true s t (and_parts (s == t) (s == t) h).0)
+same_who (Consumer m s) (Consumer n t) h =
+    let k = and_parts (m == n) (s == t) h in
+    let p : m ≡ n = eqb-true m n k.0 in
+    let q : s ≡ t = eqb-true s t k.1 in
+    λ i. Consumer (p i) (q i)
+same_who (Producer m) (Producer n) h = ap Producer (eqb-true m n (and_parts (m == n) true h).0)
+same_who (Call s) (Consumer n t) h = absurd cc
+same_who (Call s) (Producer n) h = absurd cc
+same_who (Consumer m s) (Call t) h = absurd cc
+same_who (Consumer m s) (Producer n) h = absurd cc
+same_who (Producer m) (Call t) h = absurd cc
+same_who (Producer m) (Consumer n t) h = absurd cc
+
+pub same_call : (s t : ℕ) → is_same (Call s) (Call t) ≡ true → s ≡ t
+same_call s t h = eqb-true s t (and_parts (s == t) (s == t) h).0
+
+pub same_producer : (m n : ℕ) → is_same (Producer m) (Producer n) ≡ true → m ≡ n
+same_producer m n h = eqb-true m n (and_parts (m == n) true h).0
+
+pub same_test : (m n : ℕ) → is_same (Producer m) (Producer n) ≡ true → (m == n) ≡ true
+same_test m n h = (and_parts (m == n) true h).0

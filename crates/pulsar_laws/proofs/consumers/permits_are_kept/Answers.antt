@@ -1,0 +1,25 @@
+use Rattle.pulsar_laws.proofs.Ended.{permits_are_kept_lem}
+use Rattle.pulsar_laws.proofs.Flows.{flows_are_asked_lem, flows_are_taken_lem}
+use Rattle.pulsar_laws.proofs.Once.{ends_once_lem}
+use Rattle.pulsar_laws.proofs.Placed.{flows_are_placed_lem}
+use Rattle.pulsar_laws.proofs.Queueing.{flows_are_queued_lem}
+use Rattle.pulsar_laws.proofs.Taken.{flows_are_counted_lem}
+use Rattle.pulsar_laws.proofs.consumers.permits_are_kept.Goals as goal
+
+pub returns-clause-bounds : goal.returns-clause-bounds
+returns-clause-bounds c = λ o log t m l run is raw live. permits_are_kept_lem ends_once_lem o log t m l run is raw live
+
+pub returns-clause-flows : goal.returns-clause-flows
+returns-clause-flows c = λ o log n t l m p run. flows_are_taken_lem o log n t l m p run
+
+pub returns-clause-asked : goal.returns-clause-asked
+returns-clause-asked c = λ o older n t l p run is. flows_are_asked_lem o older n t l p run is
+
+pub returns-clause-placed : goal.returns-clause-placed
+returns-clause-placed c = λ o log n t l m p run. flows_are_placed_lem ends_once_lem o log n t l m p run
+
+pub returns-clause-queued : goal.returns-clause-queued
+returns-clause-queued c = λ o log t l m run is on. flows_are_queued_lem ends_once_lem o log t l m run is on
+
+pub returns-clause-counted : goal.returns-clause-counted
+returns-clause-counted c = λ o log t l m s run is on made. flows_are_counted_lem ends_once_lem o log t l m s run is on made

@@ -1,5 +1,0 @@
-use Rattle.pulsar_laws.proofs.Polls.{polls_are_answered_lem}
-use Rattle.pulsar_laws.proofs.runs.polls_are_answered.Goals as goal
-
-pub returns : goal.returns
-returns c = λ o log t r. polls_are_answered_lem o log t r

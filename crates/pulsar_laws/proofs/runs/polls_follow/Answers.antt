@@ -1,6 +1,0 @@
-use Rattle.pulsar_laws.proofs.Once.{ends_once_lem}
-use Rattle.pulsar_laws.proofs.Polls.{polls_follow_lem}
-use Rattle.pulsar_laws.proofs.runs.polls_follow.Goals as goal
-
-pub returns : goal.returns
-returns c = λ o log t s r e. polls_follow_lem ends_once_lem o log t s r e

@@ -1,0 +1,176 @@
+-- What arises from acts for the consumers of a client: what calls on them begin, what plans are told at once, and whom an act serves.
+-- (Pulsar binary protocol, Consumer)
+use Rattle.std.specs.Prelude.{ℕ, Bool, if◌then◌else◌, List, [], ◌∷◌, ◌++◌, map, Option, Some, None}
+use Rattle.std.specs.List.{flat_map}
+use Rattle.std.specs.Option.{option_map, option_to_list}
+use Rattle.url.specs.Parts.{Parts}
+use Rattle.pulsar_messages.specs.Words.{Words}
+use Rattle.pulsar_session.specs.Failures.{Fault, Exhausted}
+use Rattle.pulsar_link.specs.Request.{closed_consumer}
+use Rattle.pulsar_plans.specs.declared.making.Command.{Command}
+use Rattle.pulsar_plans.specs.declared.turn.Ways.{Ways}
+use Rattle.pulsar_consumer.specs.Content.{ConsumerWanted}
+use Rattle.pulsar_consumer.specs.Naming.{order_of}
+use Rattle.pulsar_consumer.specs.Topic as reader
+use Rattle.pulsar_consumer.specs.declared.naming.Ordered.{Ordered}
+use Rattle.pulsar_consumer.specs.declared.naming.Ordered.TheVariants as ordered
+use Rattle.pulsar_calls.specs.declared.act.Act.{Act}
+use Rattle.pulsar_calls.specs.declared.act.Act.TheVariants.{Starts, Told}
+use Rattle.pulsar_calls.specs.declared.act.Arrival.{Arrival}
+use Rattle.pulsar_calls.specs.declared.act.End.{End}
+use Rattle.pulsar_calls.specs.declared.act.Makes.{Makes}
+use Rattle.pulsar_calls.specs.declared.act.Makes.TheVariants as makes
+use Rattle.pulsar_calls.specs.declared.act.Notice.{Notice}
+use Rattle.pulsar_calls.specs.declared.act.Outcome.{Outcome}
+use Rattle.pulsar_calls.specs.declared.act.Outcome.TheVariants as outcome
+use Rattle.pulsar_calls.specs.declared.act.Procedure.{Procedure}
+use Rattle.pulsar_calls.specs.declared.act.Procedure.TheVariants as procedure
+use Rattle.pulsar_calls.specs.declared.act.Refusal.{Refusal}
+use Rattle.pulsar_calls.specs.declared.act.Refusal.TheVariants as refusal
+use Rattle.pulsar_calls.specs.declared.act.Who.{Who}
+use Rattle.pulsar_calls.specs.declared.act.Who.TheVariants.{Consumer}
+use Rattle.pulsar_calls.specs.declared.act.Word.{Word}
+use Rattle.pulsar_calls.specs.declared.act.Word.TheVariants as word
+use Rattle.pulsar_calls.specs.declared.content.Joining.{Joining}
+use Rattle.pulsar_calls.specs.Who.{ticket_of}
+use Rattle.pulsar_tables.specs.Consumers as consumer
+use Rattle.pulsar_tables.specs.Consumers.{Consumers, Member, over_rows}
+use Rattle.pulsar_tables.specs.declared.consumers.numbers.Numbering.{Numbering}
+use Rattle.pulsar_tables.specs.declared.consumers.numbers.Numbering.TheVariants.{Has, InUse, Spent}
+use Rattle.pulsar_tables.specs.declared.consumers.row.Sought.{Sought}
+use Rattle.pulsar_tables.specs.declared.consumers.row.Sought.TheVariants.{Found, Gone, Later}
+use Rattle.pulsar_tables.specs.View.{Chosen, Seat, View, answer_at, arrival_at, closing, is_asked, member_on, setup_of, ways_of}
+
+-- one is told an outcome: among those whom a cause serves, or at once
+abbrev pub notice : Who → Outcome → Notice
+notice who o = record { who = who; outcome = o }
+
+abbrev pub tells : Who → Outcome → List Act
+tells who o = Told (notice who o) ∷ []
+
+-- a call is refused, or not
+abbrev pub unless : Option Refusal → Procedure → Procedure
+unless None p = p
+unless (Some r) p = procedure.Refuse r
+
+-- CALLS ON CONSUMERS. One names a consumer by the ticket of the call that built it.
+
+abbrev pub subscribes_by : Option Ways → Ordered → Procedure
+subscribes_by ways ordered.Nothing = procedure.Refuse refusal.NoTopics
+subscribes_by ways ordered.Several = procedure.Refuse refusal.ManyTopics
+subscribes_by None (ordered.One order) = procedure.Refuse refusal.NoAddress
+subscribes_by (Some ways) (ordered.One order) = procedure.Subscribe ways order
+
+abbrev pub subscribes : Chosen → (ticket : ℕ) → ConsumerWanted → Procedure
+subscribes o t w = subscribes_by (ways_of o) (order_of o.seed t w)
+
+-- what is said of messages is asked for on the link of its live subscription, where one is
+abbrev pub acknowledges : Consumers → (ticket : ℕ) → (ℕ → Words) → Procedure
+acknowledges cs t says =
+    unless (consumer.why_not cs t) (procedure.Acknowledge (consumer.link_at (cs.rows t)) (says (consumer.number_at (cs.rows t))))
+
+abbrev pub leaves : Consumers → (ticket : ℕ) → Procedure
+leaves cs t = unless (consumer.why_not cs t) (procedure.Leave t (consumer.number_at (cs.rows t)))
+
+-- WHAT PLANS ASK OF CONSUMERS is told at once, but for the link of one that is being subscribed again.
+
+abbrev pub tells_word : Who → Word → List Act
+tells_word who w = tells who (outcome.Word w)
+
+abbrev pub numbering_said : Numbering → Outcome
+numbering_said (Has n) = outcome.Word (word.Numbered n)
+numbering_said InUse = outcome.Word word.InUse
+numbering_said Spent = outcome.Refused Exhausted
+
+abbrev pub sought_said : Who → Sought → List Act
+sought_said who (Found l) = tells who (outcome.GotLink l)
+sought_said who Gone = tells_word who word.Closed
+sought_said who Later = []
+
+abbrev pub flow_said : Option (ℕ × ℕ) → Word
+flow_said None = word.NoFlow
+flow_said (Some flow) = word.Flow flow.0 flow.1
+
+abbrev pub recalled_said : Who → Option Command → List Act
+recalled_said who None = tells who outcome.Disconnected
+recalled_said who (Some c) = tells_word who (word.Recalled c)
+
+abbrev pub revived_said : (is_ended : Bool) → Word
+revived_said is_ended = if is_ended then word.Over else word.Lives
+
+-- WHAT FOLLOWS A VERDICT
+
+-- A consumer is served by a plan of its own, which begins with it.
+abbrev pub serves : Who → Joining → Ways → Act
+serves w j ways = Starts (Consumer j.number (ticket_of w)) (procedure.Serve ways j.number)
+
+abbrev pub serves_by : Option Ways → Who → Joining → List Act
+serves_by ways w j = map (serves w j) (option_to_list ways)
+
+-- WHOM AN ACT SERVES
+
+-- a consumer is told a word
+abbrev pub word_notice : (ticket : ℕ) → Member → Word → Notice
+word_notice t m w = notice (consumer.who_of t m) (outcome.Word w)
+
+abbrev pub word_to : (ticket : ℕ) → Member → Option Word → List Notice
+word_to t m w = option_to_list (option_map (word_notice t m) w)
+
+-- a flow of it is due
+abbrev pub due_to : (ticket : ℕ) → Member → List Notice
+due_to t m = word_to t m (consumer.word_if (reader.is_due m.seen) word.Due)
+
+abbrev pub due_at : (ticket : ℕ) → Option Member → List Notice
+due_at t row = flat_map (due_to t) (option_to_list row)
+
+abbrev pub polled_due : (now ticket : ℕ) → Option Member → List Notice
+polled_due now t row = due_at t (option_map (consumer.member_after (reader.Polls now)) row)
+
+-- and of one that is made
+abbrev pub made_due : (ℕ → Option Seat) → Who → Makes → List Notice
+made_due live w makes.Nothing = []
+made_due live w makes.Client = []
+made_due live w (makes.Consumer j) = due_to (ticket_of w) (member_on live j.link (setup_of j))
+made_due live w (makes.RawConsumer l made) = []
+made_due live w (makes.Producer b) = []
+
+-- those who wait for the link of a consumer look for it once more
+abbrev pub again : Who → Notice
+again who = notice who (outcome.Word word.Again)
+
+abbrev pub again_at : Option Member → List Notice
+again_at row = map again (consumer.seekers_at row)
+
+abbrev pub revived_at : (link : ℕ) → Option Parts → (ticket : ℕ) → Option Member → List Notice
+revived_at l url t row = again_at row ++ due_at t (option_map (consumer.revived l url) row)
+
+-- a consumer whose close is asked for needs no plan any more
+abbrev pub closed_at : View → (link : ℕ) → Words → (ticket : ℕ) → Member → List Notice
+closed_at v l request t m =
+    word_to t m (consumer.word_of_close (closed_consumer request) l (is_asked (answer_at v.now request (v.links.live l))) m)
+
+-- the consumers that hear a frame, or lose their subscription with their link
+abbrev pub heard_at : (link : ℕ) → Arrival → (ticket : ℕ) → Member → List Notice
+heard_at l a t m = word_to t m (consumer.word_of l a m)
+
+abbrev pub heard_on : View → (link : ℕ) → List Notice
+heard_on v l = over_rows (heard_at l (arrival_at (v.links.live l))) v.consumers
+
+abbrev pub lost_at : (link : ℕ) → Option Fault → (ticket : ℕ) → Member → List Notice
+lost_at l cause t m = word_to t m (consumer.word_of_loss l cause m)
+
+abbrev pub lost_on : View → (link : ℕ) → End → List Notice
+lost_on v l end = over_rows (lost_at l (closing end v.now (v.links.live l))) v.consumers
+
+-- THE STOP
+
+-- those that wait are told that the client is stopped
+abbrev pub stopped_one : Who → Notice
+stopped_one who = notice who outcome.Stopped
+
+-- and so are those that wait for the link of a consumer
+abbrev pub stopped_seekers : (ticket : ℕ) → Member → List Notice
+stopped_seekers t m = map stopped_one m.seekers
+
+abbrev pub stopped_on : View → List Notice
+stopped_on v = over_rows stopped_seekers v.consumers

@@ -31,7 +31,7 @@ for name,c,f,a,b,fn in B:
     folder=f'{clone}/crates/{c}'; p=f'{folder}/{f}'; s=open(p).read()
     assert s.count(a)==1,(name,s.count(a))
     open(p,'w').write(s.replace(a,b)); t0=time.time()
-    try: r=subprocess.run(['q','rt','check','--only',fn,'--jobs','1'],cwd=folder,capture_output=True,text=True)
+    try: r=subprocess.run(['rt','check','--only',fn,'--jobs','1'],cwd=folder,capture_output=True,text=True)
     finally: open(p,'w').write(s)
     out=r.stdout+r.stderr; open(f'/tmp/bug_{name}.log','w').write(out)
     print(f'{name} {fn}: status {r.returncode}, {time.time()-t0:.0f} s',flush=True)

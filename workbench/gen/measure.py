@@ -72,4 +72,5 @@ def main():
             print('   ', name, told[-1], 'before the rounds %.1f s, at the end %d MB' % (first, memory // 1024), flush=True)
         print(name, '; '.join(told), flush=True)
 
-main()
+if __name__ == "__main__":
+    main()

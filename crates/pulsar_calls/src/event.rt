@@ -103,7 +103,7 @@ pub enum Event {
     Drain(u64, usize),
     /// It is this moment now, in milliseconds since 1970.
     Tick(u64),
-    /// The raw consumer that the call of this ticket made is asked for an item.
+    /// The consumer that the call of this ticket made is asked for its next item.
     Poll(u64),
 }
 

@@ -16,7 +16,7 @@ use pulsar_calls::content::{Joined, Joining};
 use pulsar_calls::who::{rank, ticket_of};
 use pulsar_consumer::TopicConsumer;
 use pulsar_link::content::Subscribed;
-use pulsar_tables::consumers::hearing::due;
+use pulsar_tables::consumers::due;
 use pulsar_tables::consumers::row::ConsumerRow;
 use pulsar_wire::error::NoMemory;
 use std::alloc::Global;

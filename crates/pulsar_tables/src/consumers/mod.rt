@@ -1,5 +1,7 @@
-pub mod hearing;
+mod hearing;
 pub mod listing;
 pub mod numbers;
 pub mod row;
 pub mod table;
+
+pub use hearing::due;

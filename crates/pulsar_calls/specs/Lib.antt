@@ -1,3 +1,4 @@
 pub mod Who
 pub mod Content
 pub mod Parts
+pub mod Notices

@@ -17,8 +17,8 @@ use Rattle.pulsar_calls.specs.declared.event.Call.TheVariants as call
 use Rattle.pulsar_calls.specs.Content as content
 use Rattle.pulsar_calls.specs.Content.{Asked, asked, lacks_tickets, shares}
 use Rattle.pulsar_procedures.specs.Plan.{fails}
-use Rattle.pulsar_tables.specs.Consumers as consumer
-use Rattle.pulsar_tables.specs.Consumers.{Consumers}
+use Rattle.pulsar_consumer_table.specs.Consumers as consumer
+use Rattle.pulsar_consumer_table.specs.Consumers.{Consumers}
 use Rattle.pulsar_tables.specs.Producers.{Producers, called_on, opened_on, why_not}
 use Rattle.pulsar_tables.specs.Rules.{parts_of, procedure_for, shares_unless, starts, unless_refused}
 use Rattle.pulsar_client.specs.Run.{Agenda, goes_on}

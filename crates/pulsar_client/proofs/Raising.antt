@@ -31,12 +31,12 @@ use Rattle.pulsar_tables.specs.declared.addresses.Series.TheVariants.{Nobody, Ru
 use Rattle.pulsar_procedures.specs.declared.plan.Plan.{Plan}
 use Rattle.pulsar_procedures.specs.declared.plan.Turn.{Turn}
 use Rattle.pulsar_procedures.specs.declared.plan.Turn.TheVariants.{Stays, Gives}
-use Rattle.pulsar_tables.specs.declared.consumers.row.Sought.{Sought}
-use Rattle.pulsar_tables.specs.declared.consumers.row.Sought.TheVariants.{Found, Gone, Later}
+use Rattle.pulsar_consumer_table.specs.declared.row.Sought.{Sought}
+use Rattle.pulsar_consumer_table.specs.declared.row.Sought.TheVariants.{Found, Gone, Later}
 use Rattle.pulsar_tables.specs.declared.producers.Topic.{Topic}
 use Rattle.pulsar_tables.specs.Alarms.{rings}
-use Rattle.pulsar_tables.specs.Consumers as consumer
-use Rattle.pulsar_tables.specs.Consumers.{sought}
+use Rattle.pulsar_consumer_table.specs.Consumers as consumer
+use Rattle.pulsar_consumer_table.specs.Consumers.{sought}
 use Rattle.pulsar_tables.specs.Reading.{recalled_said, serves_by, sought_said, tells}
 use Rattle.pulsar_calls.specs.Content.{Asked, shares}
 use Rattle.pulsar_procedures.specs.Plan.{begins}

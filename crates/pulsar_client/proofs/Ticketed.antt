@@ -26,10 +26,10 @@ use Rattle.pulsar_calls.specs.Content.{Asked, Heard, lacks_tickets, shares}
 use Rattle.pulsar_procedures.specs.Plan.{begins, told}
 use Rattle.pulsar_tables.specs.Rules.{at_once, called, does, follows, follows_some, performs}
 use Rattle.pulsar_client.specs.Run.{Entry, Begins, Then, IsRun, agenda, first, view}
-use Rattle.pulsar_tables.specs.Consumers as consumer
-use Rattle.pulsar_tables.specs.Consumers.{Consumers, Member, called_on, drew, holds, names_in, next_free, numbered, numbering, opened_on}
-use Rattle.pulsar_tables.specs.declared.consumers.numbers.Numbering.{Numbering}
-use Rattle.pulsar_tables.specs.declared.consumers.numbers.Numbering.TheVariants.{Has as HasNumber, InUse, Spent}
+use Rattle.pulsar_consumer_table.specs.Consumers as consumer
+use Rattle.pulsar_consumer_table.specs.Consumers.{Consumers, Member, called_on, drew, holds, names_in, next_free, numbered, numbering, opened_on}
+use Rattle.pulsar_consumer_table.specs.declared.numbers.Numbering.{Numbering}
+use Rattle.pulsar_consumer_table.specs.declared.numbers.Numbering.TheVariants.{Has as HasNumber, InUse, Spent}
 use Rattle.pulsar_link.specs.Request.{named_consumer}
 use Rattle.pulsar_tables.specs.View.{Options, View, consumers_after, consumers_left, consumers_made, drawn_after, joins_as, may_call, stand_after, stays_some, told_some}
 use Rattle.pulsar_calls.specs.Who.{is_same, ticket_of}

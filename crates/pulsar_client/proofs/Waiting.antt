@@ -4,7 +4,7 @@ use Rattle.std.specs.Option.{option_map}
 use Rattle.pulsar_session.specs.declared.states.Stage.{Stage}
 use Rattle.pulsar_session.specs.declared.states.Stage.TheVariants.{Dialing, Handshaking, Ready, Over}
 use Rattle.pulsar_session.specs.Link.{is_open}
-use Rattle.pulsar_tables.specs.Consumers.{IsHeard}
+use Rattle.pulsar_consumer_table.specs.Consumers.{IsHeard}
 use Rattle.pulsar_client.specs.declared.tables.Tables.{Tables}
 use Rattle.pulsar_client.specs.Run.{Good, Step, view}
 use Rattle.pulsar_client.specs.Tables.{Stands, view_of}

@@ -17,7 +17,7 @@ use Rattle.pulsar_calls.specs.Content.{Heard, Shown, Retry, heard, shown}
 use Rattle.pulsar_tables.specs.Alarms.{set}
 use Rattle.pulsar_client.specs.Run.{Agenda, Step, rules}
 use Rattle.pulsar_tables.specs.Kept.{addresses_of, links_in, producers_of}
-use Rattle.pulsar_tables.specs.KeptConsumers.{consumers_in}
+use Rattle.pulsar_consumer_table.specs.KeptConsumers.{consumers_in}
 use Rattle.pulsar_tables.specs.View.{Chosen, Options, Seat, Turned, View, alarms_on, alarms_rung, base_on, delay_with, later, nobody, pause_on, pause_rung, waits_on}
 use Rattle.pulsar_tables.specs.Links.{change_in}
 use Rattle.pulsar_procedures.specs.Standing.{stand_of}

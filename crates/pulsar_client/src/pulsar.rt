@@ -8,7 +8,7 @@ ghost use Rattle.pulsar_client.specs.Tables.{answered, step};
 ghost use Rattle.std.specs.Option.{option_copied, option_map};
 ghost use Rattle.pulsar_producer.specs.Wanted.{no_producer, producer_wanted};
 ghost use Rattle.pulsar_consumer.specs.Content.{consumer_wanted, no_consumer};
-ghost use Rattle.pulsar_tables.specs.Consumers.{built_at};
+ghost use Rattle.pulsar_consumer_table.specs.Consumers.{built_at};
 ghost use Rattle.pulsar_client.specs.Client as meaning;
 ghost use Rattle.pulsar_client.specs.Client.{HasFailed, IsDead, StandsFor, options_of};
 ghost use Rattle.pulsar_client.specs.Taken.{IsTaken, taken_with};

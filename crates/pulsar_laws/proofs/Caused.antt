@@ -61,16 +61,17 @@ use Rattle.pulsar_calls.specs.declared.act.Who.TheVariants.{Consumer}
 use Rattle.url.specs.Parts.{Parts}
 use Rattle.pulsar_consumer.specs.Commands.{command_of}
 use Rattle.pulsar_link.specs.Request.{closed_consumer}
-use Rattle.pulsar_tables.specs.Consumers.{Member, over_rows}
-use Rattle.pulsar_tables.specs.Reading.{again, again_at, closed_at, due_at, due_to, flow_said, heard_at, heard_on, lost_at, lost_on, made_due, numbering_said, recalled_said, revived_said, sought_said, stopped_on, stopped_seekers, tells_word, word_to}
-use Rattle.pulsar_tables.specs.declared.consumers.numbers.Numbering.{Numbering}
-use Rattle.pulsar_tables.specs.declared.consumers.numbers.Numbering.TheVariants.{Has, InUse, Spent}
-use Rattle.pulsar_tables.specs.declared.consumers.row.Sought.{Sought}
-use Rattle.pulsar_tables.specs.declared.consumers.row.Sought.TheVariants.{Found, Gone, Later}
+use Rattle.pulsar_consumer_table.specs.Consumers.{Member, over_rows}
+use Rattle.pulsar_consumer_table.specs.Notices.{again, again_at, due_at, due_to, heard_at, lost_at, stopped_seekers, word_to}
+use Rattle.pulsar_tables.specs.Reading.{closed_at, flow_said, heard_on, lost_on, made_due, numbering_said, recalled_said, revived_said, sought_said, stopped_on, tells_word}
+use Rattle.pulsar_consumer_table.specs.declared.numbers.Numbering.{Numbering}
+use Rattle.pulsar_consumer_table.specs.declared.numbers.Numbering.TheVariants.{Has, InUse, Spent}
+use Rattle.pulsar_consumer_table.specs.declared.row.Sought.{Sought}
+use Rattle.pulsar_consumer_table.specs.declared.row.Sought.TheVariants.{Found, Gone, Later}
 use Rattle.pulsar_laws.proofs.Members.{in_rows, polled_number, revived_number, subscribed_number}
 use Rattle.pulsar_calls.specs.declared.act.Word.TheVariants as word
 use Rattle.pulsar_calls.specs.declared.act.Makes.TheVariants as makes
-use Rattle.pulsar_tables.specs.Consumers as consumer
+use Rattle.pulsar_consumer_table.specs.Consumers as consumer
 use Rattle.pulsar_consumer.specs.Topic as reader
 
 -- LISTS

@@ -26,7 +26,7 @@ use Rattle.pulsar_calls.specs.declared.act.Arrival.TheVariants as arrivals
 use Rattle.pulsar_calls.specs.declared.act.LinkAct.TheVariants.{Reads, Ends}
 use Rattle.pulsar_calls.specs.declared.act.Part.TheVariants.{ToLink, Polls}
 use Rattle.pulsar_calls.specs.Who.{ticket_of}
-use Rattle.pulsar_tables.specs.Consumers.{Member, is_closed_by, subscribed_on}
+use Rattle.pulsar_consumer_table.specs.Consumers.{Member, is_closed_by, subscribed_on}
 use Rattle.pulsar_tables.specs.View.{Options, View, answer_at, arrival_at, closing, is_asked, member_on, url_at}
 use Rattle.pulsar_client.specs.Run.{Entry, Begins, Then, IsRun, view}
 use Rattle.pulsar_client.proofs.Ticketed.{consumer_ticket, older_ticket}

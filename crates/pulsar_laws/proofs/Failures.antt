@@ -56,7 +56,7 @@ use Rattle.pulsar_client.proofs.Quiet.{IsQuiet, comes_quiet, performs_quiet}
 use Rattle.pulsar_laws.proofs.Searches.{is_sought}
 use Rattle.pulsar_client.proofs.Sources.{in_append, in_each}
 use Rattle.pulsar_laws.proofs.Consuming.{humble_call, is_humble}
-use Rattle.pulsar_tables.specs.Consumers.{Consumers}
+use Rattle.pulsar_consumer_table.specs.Consumers.{Consumers}
 
 -- THE PROCEDURES OF CALLS
 

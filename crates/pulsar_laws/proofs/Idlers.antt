@@ -76,10 +76,10 @@ use Rattle.pulsar_link.specs.Messages.{Reply, is_body}
 use Rattle.pulsar_consumer.specs.Frames.{frame_in}
 use Rattle.pulsar_consumer.specs.Topic as reader
 use Rattle.pulsar_consumer.specs.declared.polled.Ending.TheVariants.{Closed, TopicEnded}
-use Rattle.pulsar_tables.specs.Consumers as consumer
-use Rattle.pulsar_tables.specs.Consumers.{Member}
-use Rattle.pulsar_tables.specs.declared.consumers.row.Sought.{Sought}
-use Rattle.pulsar_tables.specs.declared.consumers.row.Sought.TheVariants.{Found, Gone, Later}
+use Rattle.pulsar_consumer_table.specs.Consumers as consumer
+use Rattle.pulsar_consumer_table.specs.Consumers.{Member}
+use Rattle.pulsar_consumer_table.specs.declared.row.Sought.{Sought}
+use Rattle.pulsar_consumer_table.specs.declared.row.Sought.TheVariants.{Found, Gone, Later}
 use Rattle.pulsar_laws.proofs.Members.{called_rows, left_rows, numbered_rows}
 
 none_some : {A : Type 0} {x : A} → None ≡ Some x → ⊥

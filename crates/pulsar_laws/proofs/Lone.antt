@@ -25,10 +25,10 @@ use Rattle.pulsar_calls.specs.declared.act.Who.{Who}
 use Rattle.pulsar_calls.specs.declared.act.Who.TheVariants.{Call, Consumer, Producer}
 use Rattle.pulsar_calls.specs.Content.{Heard, lacks_tickets, shares}
 use Rattle.pulsar_calls.specs.Who.{is_same, ticket_of}
-use Rattle.pulsar_tables.specs.Consumers as consumer
-use Rattle.pulsar_tables.specs.Consumers.{Consumers, Member, closes, hears, hears_frame, loses_by, member_after, seeks, subscribed_on, waits_so}
-use Rattle.pulsar_tables.specs.declared.consumers.row.Sought.{Sought}
-use Rattle.pulsar_tables.specs.declared.consumers.row.Sought.TheVariants.{Found, Gone, Later}
+use Rattle.pulsar_consumer_table.specs.Consumers as consumer
+use Rattle.pulsar_consumer_table.specs.Consumers.{Consumers, Member, closes, hears, hears_frame, loses_by, member_after, seeks, subscribed_on, waits_so}
+use Rattle.pulsar_consumer_table.specs.declared.row.Sought.{Sought}
+use Rattle.pulsar_consumer_table.specs.declared.row.Sought.TheVariants.{Found, Gone, Later}
 use Rattle.pulsar_tables.specs.View.{Options, Seat, View, answer_at, arrival_at, begun, begun_live, closing, consumers_after, consumers_left, consumers_made, hears_ask, is_asked, is_live, joins_as, may_call, member_on, setup_of, url_at}
 use Rattle.pulsar_client.specs.Run.{Entry, Begins, Then, IsRun, view}
 use Rattle.pulsar_client.proofs.Ticketed.{consumer_ticket}

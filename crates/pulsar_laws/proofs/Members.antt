@@ -21,11 +21,11 @@ use Rattle.pulsar_calls.specs.declared.act.Notice.{Notice}
 use Rattle.pulsar_calls.specs.declared.act.Who.{Who}
 use Rattle.pulsar_calls.specs.declared.act.Who.TheVariants.{Call, Consumer, Producer}
 use Rattle.pulsar_calls.specs.declared.act.Word.TheVariants as word
-use Rattle.pulsar_tables.specs.Consumers as consumer
-use Rattle.pulsar_tables.specs.Consumers.{Consumers, Member, at_row, called_on, drew, ends_on, hears, hears_frame, holds, loses_by, member_after, names_in, next_free, numbered, numbering, opened_on, over_rows}
-use Rattle.pulsar_tables.specs.declared.consumers.numbers.Numbering.{Numbering}
-use Rattle.pulsar_tables.specs.declared.consumers.numbers.Numbering.TheVariants.{Has, InUse, Spent}
-use Rattle.pulsar_tables.specs.Reading.{due_at, due_to, lost_at, word_to}
+use Rattle.pulsar_consumer_table.specs.Consumers as consumer
+use Rattle.pulsar_consumer_table.specs.Consumers.{Consumers, Member, at_row, called_on, drew, ends_on, hears, hears_frame, holds, loses_by, member_after, names_in, next_free, numbered, numbering, opened_on, over_rows}
+use Rattle.pulsar_consumer_table.specs.declared.numbers.Numbering.{Numbering}
+use Rattle.pulsar_consumer_table.specs.declared.numbers.Numbering.TheVariants.{Has, InUse, Spent}
+use Rattle.pulsar_consumer_table.specs.Notices.{due_at, due_to, lost_at, word_to}
 use Rattle.pulsar_tables.specs.View.{consumers_left}
 use Rattle.pulsar_client.proofs.Acts.{Each, each_append, each_flat}
 use Rattle.pulsar_run.specs.Laws.{In}

@@ -47,8 +47,8 @@ use Rattle.pulsar_plans.specs.declared.making.Command.{Command}
 use Rattle.pulsar_plans.specs.declared.turn.Turn.TheVariants as search_turn
 use Rattle.pulsar_procedures.specs.declared.states.Resubscribing.{Resubscribing}
 use Rattle.pulsar_procedures.specs.Plan.{news_in}
-use Rattle.pulsar_tables.specs.Consumers as consumer
-use Rattle.pulsar_tables.specs.Consumers.{Member, flow_at, member_after}
+use Rattle.pulsar_consumer_table.specs.Consumers as consumer
+use Rattle.pulsar_consumer_table.specs.Consumers.{Member, flow_at, member_after}
 use Rattle.pulsar_tables.specs.Reading.{flow_said}
 use Rattle.pulsar_tables.specs.Rules.{follows, follows_some, notice}
 use Rattle.pulsar_tables.specs.View.{Options, Seat, answer_at, stays, stays_some, told_some}

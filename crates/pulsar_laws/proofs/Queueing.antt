@@ -20,7 +20,7 @@ use Rattle.pulsar_calls.specs.declared.act.Who.{Who}
 use Rattle.pulsar_calls.specs.declared.act.Who.TheVariants.{Consumer}
 use Rattle.pulsar_calls.specs.Content.{numbers_from}
 use Rattle.pulsar_calls.specs.Who.{ticket_of}
-use Rattle.pulsar_tables.specs.Consumers.{Member}
+use Rattle.pulsar_consumer_table.specs.Consumers.{Member}
 use Rattle.pulsar_tables.specs.View.{Options, Seat, View, answer_at, place_of, seat_asked}
 use Rattle.pulsar_client.specs.Run.{Entry, Begins, Then, IsRun, view}
 use Rattle.pulsar_client.proofs.Acts.{Each, each_map}

@@ -31,7 +31,7 @@ use Rattle.pulsar_calls.specs.declared.act.Who.TheVariants.{Call}
 use Rattle.pulsar_calls.specs.declared.content.Joining.{Joining}
 use Rattle.pulsar_calls.specs.Content.{Heard, Bytes}
 use Rattle.pulsar_calls.specs.Who.{is_same, ticket_of}
-use Rattle.pulsar_tables.specs.Consumers.{Member, is_closed_by, subscribed_on}
+use Rattle.pulsar_consumer_table.specs.Consumers.{Member, is_closed_by, subscribed_on}
 use Rattle.pulsar_tables.specs.Links.{closed_by}
 use Rattle.pulsar_tables.specs.View.{Options, Seat, View, after, answer_at, arrival_at, begun, begun_live, closing, got_at, is_asked, is_live, link_got, live_begun, member_on, seat_asked, seat_fed, seat_got, took_end, took_some, url_at}
 use Rattle.pulsar_client.specs.Run.{Entry, Begins, Then, IsRun, view}

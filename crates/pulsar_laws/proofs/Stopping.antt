@@ -63,11 +63,12 @@ use Rattle.pulsar_laws.proofs.Attempts.{is_dial}
 use Rattle.pulsar_laws.proofs.Keepers.{Keeps, RowSo, batch_keeps, ends_settled, settled_some}
 use Rattle.pulsar_laws.proofs.Spots.{calm_stop, same_self, same_who, spot_of}
 use Rattle.pulsar_laws.proofs.LastWords.{AreLast, batch_fine, batch_some, batch_told, calm_fine, each_last, ends_fine, ends_some, is_fine, is_last_word, is_leaving, IsLast, IsLastNotice, IsLate, IsParting, last_append, last_rest, last_some, left_fine, left_some, makes_nothing, settling_told, some_fine, taking_told}
-use Rattle.pulsar_tables.specs.Reading.{acknowledges, heard_at, leaves, lost_at, lost_on, made_due, stopped_on, subscribes}
-use Rattle.pulsar_tables.specs.Consumers.{Consumers, Member, hears, loses_by, member_after, over_rows}
+use Rattle.pulsar_consumer_table.specs.Notices.{heard_at, lost_at}
+use Rattle.pulsar_tables.specs.Reading.{acknowledges, leaves, lost_on, made_due, stopped_on, subscribes}
+use Rattle.pulsar_consumer_table.specs.Consumers.{Consumers, Member, hears, loses_by, member_after, over_rows}
 use Rattle.pulsar_laws.proofs.Members.{Gone, called_rows, gone_map, heard_gone, left_rows, loss_gone, no_due, no_loss, poll_gone, there_each}
 use Rattle.pulsar_laws.proofs.Wording.{IsStoppedWord, is_stopped_word, rows_each, stopped_words}
-use Rattle.pulsar_tables.specs.Consumers as consumer
+use Rattle.pulsar_consumer_table.specs.Consumers as consumer
 use Rattle.pulsar_consumer.specs.Topic as reader
 use Rattle.pulsar_calls.specs.declared.act.Arrival.TheVariants as arrivals
 use Rattle.pulsar_messages.specs.Words as words

@@ -20,7 +20,7 @@ use Rattle.pulsar_calls.specs.declared.act.Part.TheVariants.{ToLink, Polls}
 use Rattle.pulsar_calls.specs.declared.act.Who.TheVariants.{Consumer}
 use Rattle.pulsar_calls.specs.declared.act.Word.TheVariants as word
 use Rattle.pulsar_calls.specs.Who.{ticket_of}
-use Rattle.pulsar_tables.specs.Consumers.{Member, flow_at, flow_on, is_closed_by}
+use Rattle.pulsar_consumer_table.specs.Consumers.{Member, flow_at, flow_on, is_closed_by}
 use Rattle.pulsar_tables.specs.Rules.{notice}
 use Rattle.pulsar_tables.specs.View.{Options, Seat, View, answer_at, arrival_at, closing, is_asked, place_of, url_at}
 use Rattle.pulsar_client.specs.Run.{Entry, Begins, Then, IsRun, agenda, first, view}

@@ -60,11 +60,11 @@ use Rattle.pulsar_laws.proofs.Consuming.{is_modest}
 use Rattle.pulsar_laws.proofs.Wording.{IsWord, is_word, is_worded, joins_words}
 use Rattle.pulsar_calls.specs.declared.act.Part.TheVariants.{Polls}
 use Rattle.pulsar_tables.specs.Reading.{numbering_said, recalled_said, sought_said}
-use Rattle.pulsar_tables.specs.declared.consumers.numbers.Numbering.{Numbering}
-use Rattle.pulsar_tables.specs.declared.consumers.numbers.Numbering.TheVariants.{Has, InUse, Spent}
-use Rattle.pulsar_tables.specs.declared.consumers.row.Sought.{Sought}
-use Rattle.pulsar_tables.specs.declared.consumers.row.Sought.TheVariants.{Found, Gone, Later}
-use Rattle.pulsar_tables.specs.Consumers as consumer
+use Rattle.pulsar_consumer_table.specs.declared.numbers.Numbering.{Numbering}
+use Rattle.pulsar_consumer_table.specs.declared.numbers.Numbering.TheVariants.{Has, InUse, Spent}
+use Rattle.pulsar_consumer_table.specs.declared.row.Sought.{Sought}
+use Rattle.pulsar_consumer_table.specs.declared.row.Sought.TheVariants.{Found, Gone, Later}
+use Rattle.pulsar_consumer_table.specs.Consumers as consumer
 
 none_some : {A : Type 0} {x : A} → None ≡ Some x → ⊥
 none_some {A} {x} h = cc

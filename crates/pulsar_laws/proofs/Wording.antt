@@ -20,9 +20,11 @@ use Rattle.pulsar_calls.specs.declared.act.Who.{Who}
 use Rattle.pulsar_calls.specs.declared.act.Word.{Word}
 use Rattle.pulsar_calls.specs.declared.act.Word.TheVariants as word
 use Rattle.pulsar_calls.specs.Who.{ticket_of}
-use Rattle.pulsar_tables.specs.Consumers as consumer
-use Rattle.pulsar_tables.specs.Consumers.{Consumers, Member, at_row, over_rows}
-use Rattle.pulsar_tables.specs.Reading.{again, again_at, closed_at, due_at, due_to, heard_at, heard_on, lost_at, lost_on, made_due, polled_due, revived_at, stopped_on, stopped_one, stopped_seekers, word_notice, word_to}
+use Rattle.pulsar_consumer_table.specs.Consumers as consumer
+use Rattle.pulsar_consumer_table.specs.Consumers.{Consumers, Member, at_row, over_rows}
+use Rattle.pulsar_calls.specs.Notices.{stopped_one}
+use Rattle.pulsar_consumer_table.specs.Notices.{again, again_at, due_at, due_to, heard_at, lost_at, polled_due, revived_at, stopped_seekers, word_notice, word_to}
+use Rattle.pulsar_tables.specs.Reading.{closed_at, heard_on, lost_on, made_due, stopped_on}
 use Rattle.pulsar_tables.specs.Rules.{joins}
 use Rattle.pulsar_tables.specs.View.{Seat, View, answer_at, arrival_at, closing, is_asked, member_on, setup_of, url_at}
 use Rattle.pulsar_client.proofs.Acts.{Each, each_append, each_flat}

@@ -36,8 +36,8 @@ use Rattle.pulsar_calls.specs.declared.act.Who.TheVariants.{Call, Consumer}
 use Rattle.pulsar_calls.specs.Content as content
 use Rattle.pulsar_calls.specs.Content.{Asked, Poll, Shown, Hands, Faults}
 use Rattle.pulsar_calls.specs.Who.{is_same, ticket_of}
-use Rattle.pulsar_tables.specs.Consumers as consumer
-use Rattle.pulsar_tables.specs.Consumers.{Member, is_closed_by}
+use Rattle.pulsar_consumer_table.specs.Consumers as consumer
+use Rattle.pulsar_consumer_table.specs.Consumers.{Member, is_closed_by}
 use Rattle.pulsar_tables.specs.Links.{line_places}
 use Rattle.pulsar_tables.specs.View.{Options, Seat, View, answer_at, arrival_at, closing, is_asked, place_of, setup_of, url_at}
 use Rattle.pulsar_tables.specs.Rules.{call_part, notice}

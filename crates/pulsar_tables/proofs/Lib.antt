@@ -1,16 +1,6 @@
-pub mod Places
 pub mod Grown
 pub mod Producing
 pub mod Moments
 pub mod Ringing
 pub mod Timing
 pub mod Idle
-pub mod Rows
-pub mod Hearing
-pub mod Numbered
-pub mod Finding
-pub mod Several
-pub mod Listing
-pub mod Drawing
-pub mod Retaining
-pub mod Living

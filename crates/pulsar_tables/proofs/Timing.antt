@@ -29,7 +29,7 @@ use Rattle.pulsar_tables.specs.Kept.{AreStarted, AreTimed, is_due, links_in, liv
 use Rattle.pulsar_tables.specs.Links.{closed_by}
 use Rattle.pulsar_tables.specs.Rules.{due_part, ended_by, ended_on, ended_places, on_link, over_links, stop_act}
 use Rattle.pulsar_tables.specs.View.{Seat, closing}
-use Rattle.pulsar_tables.proofs.Places.{by_keys}
+use Rattle.pulsar_consumer_table.proofs.Places.{by_keys}
 
 is_this : (l link : ℕ) → (l == link) ≡ true → l ≡ link
 is_this l link h = grind (arith, nat_tests)

@@ -16,7 +16,7 @@ use Rattle.pulsar_tables.specs.Address.{leads_to}
 use Rattle.pulsar_plans.specs.Address.{Place}
 use Rattle.pulsar_calls.specs.Content.{Said, Shown, Connect, Queued, Write, Settles, Ends, Retry, Close, Hands, Faults, FindsNothing, FindsEnd}
 use Rattle.pulsar_tables.specs.Links as links
-use Rattle.pulsar_tables.specs.Consumers.{polled}
+use Rattle.pulsar_consumer_table.specs.Consumers.{polled}
 use Rattle.pulsar_tables.specs.View.{Chosen, Seat, Turned, View, delay_of, turned}
 
 -- links

@@ -1,12 +1,10 @@
 pub mod Address
 pub mod Links
-pub mod Consumers
 pub mod Alarms
 pub mod Producers
 pub mod View
 pub mod Reading
 pub mod Rules
 pub mod Effects
-pub mod KeptConsumers
 pub mod Due
 pub mod Kept

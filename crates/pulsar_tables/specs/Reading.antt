@@ -1,22 +1,18 @@
 -- What arises from acts for the consumers of a client: what calls on them begin, what plans are told at once, and whom an act serves.
 -- (Pulsar binary protocol, Consumer)
-use Rattle.std.specs.Prelude.{ℕ, Bool, if◌then◌else◌, List, [], ◌∷◌, ◌++◌, map, Option, Some, None}
-use Rattle.std.specs.List.{flat_map}
-use Rattle.std.specs.Option.{option_map, option_to_list}
-use Rattle.url.specs.Parts.{Parts}
+use Rattle.std.specs.Prelude.{ℕ, Bool, if◌then◌else◌, List, [], ◌∷◌, map, Option, Some, None}
+use Rattle.std.specs.Option.{option_to_list}
 use Rattle.pulsar_messages.specs.Words.{Words}
-use Rattle.pulsar_session.specs.Failures.{Fault, Exhausted}
+use Rattle.pulsar_session.specs.Failures.{Exhausted}
 use Rattle.pulsar_link.specs.Request.{closed_consumer}
 use Rattle.pulsar_plans.specs.declared.making.Command.{Command}
 use Rattle.pulsar_plans.specs.declared.turn.Ways.{Ways}
 use Rattle.pulsar_consumer.specs.Content.{ConsumerWanted}
 use Rattle.pulsar_consumer.specs.Naming.{order_of}
-use Rattle.pulsar_consumer.specs.Topic as reader
 use Rattle.pulsar_consumer.specs.declared.naming.Ordered.{Ordered}
 use Rattle.pulsar_consumer.specs.declared.naming.Ordered.TheVariants as ordered
 use Rattle.pulsar_calls.specs.declared.act.Act.{Act}
 use Rattle.pulsar_calls.specs.declared.act.Act.TheVariants.{Starts, Told}
-use Rattle.pulsar_calls.specs.declared.act.Arrival.{Arrival}
 use Rattle.pulsar_calls.specs.declared.act.End.{End}
 use Rattle.pulsar_calls.specs.declared.act.Makes.{Makes}
 use Rattle.pulsar_calls.specs.declared.act.Makes.TheVariants as makes
@@ -33,17 +29,15 @@ use Rattle.pulsar_calls.specs.declared.act.Word.{Word}
 use Rattle.pulsar_calls.specs.declared.act.Word.TheVariants as word
 use Rattle.pulsar_calls.specs.declared.content.Joining.{Joining}
 use Rattle.pulsar_calls.specs.Who.{ticket_of}
-use Rattle.pulsar_tables.specs.Consumers as consumer
-use Rattle.pulsar_tables.specs.Consumers.{Consumers, Member, over_rows}
-use Rattle.pulsar_tables.specs.declared.consumers.numbers.Numbering.{Numbering}
-use Rattle.pulsar_tables.specs.declared.consumers.numbers.Numbering.TheVariants.{Has, InUse, Spent}
-use Rattle.pulsar_tables.specs.declared.consumers.row.Sought.{Sought}
-use Rattle.pulsar_tables.specs.declared.consumers.row.Sought.TheVariants.{Found, Gone, Later}
+use Rattle.pulsar_consumer_table.specs.Consumers as consumer
+use Rattle.pulsar_consumer_table.specs.Consumers.{Consumers, Member, over_rows}
+use Rattle.pulsar_consumer_table.specs.declared.numbers.Numbering.{Numbering}
+use Rattle.pulsar_consumer_table.specs.declared.numbers.Numbering.TheVariants.{Has, InUse, Spent}
+use Rattle.pulsar_consumer_table.specs.declared.row.Sought.{Sought}
+use Rattle.pulsar_consumer_table.specs.declared.row.Sought.TheVariants.{Found, Gone, Later}
+use Rattle.pulsar_calls.specs.Notices.{notice}
+use Rattle.pulsar_consumer_table.specs.Notices.{due_to, heard_at, lost_at, stopped_seekers, word_to}
 use Rattle.pulsar_tables.specs.View.{Chosen, Seat, View, answer_at, arrival_at, closing, is_asked, member_on, setup_of, ways_of}
-
--- one is told an outcome: among those whom a cause serves, or at once
-abbrev pub notice : Who → Outcome → Notice
-notice who o = record { who = who; outcome = o }
 
 abbrev pub tells : Who → Outcome → List Act
 tells who o = Told (notice who o) ∷ []
@@ -109,23 +103,6 @@ serves_by ways w j = map (serves w j) (option_to_list ways)
 
 -- WHOM AN ACT SERVES
 
--- a consumer is told a word
-abbrev pub word_notice : (ticket : ℕ) → Member → Word → Notice
-word_notice t m w = notice (consumer.who_of t m) (outcome.Word w)
-
-abbrev pub word_to : (ticket : ℕ) → Member → Option Word → List Notice
-word_to t m w = option_to_list (option_map (word_notice t m) w)
-
--- a flow of it is due
-abbrev pub due_to : (ticket : ℕ) → Member → List Notice
-due_to t m = word_to t m (consumer.word_if (reader.is_due m.seen) word.Due)
-
-abbrev pub due_at : (ticket : ℕ) → Option Member → List Notice
-due_at t row = flat_map (due_to t) (option_to_list row)
-
-abbrev pub polled_due : (now ticket : ℕ) → Option Member → List Notice
-polled_due now t row = due_at t (option_map (consumer.member_after (reader.Polls now)) row)
-
 -- and of one that is made
 abbrev pub made_due : (ℕ → Option Seat) → Who → Makes → List Notice
 made_due live w makes.Nothing = []
@@ -134,43 +111,18 @@ made_due live w (makes.Consumer j) = due_to (ticket_of w) (member_on live j.link
 made_due live w (makes.RawConsumer l made) = []
 made_due live w (makes.Producer b) = []
 
--- those who wait for the link of a consumer look for it once more
-abbrev pub again : Who → Notice
-again who = notice who (outcome.Word word.Again)
-
-abbrev pub again_at : Option Member → List Notice
-again_at row = map again (consumer.seekers_at row)
-
-abbrev pub revived_at : (link : ℕ) → Option Parts → (ticket : ℕ) → Option Member → List Notice
-revived_at l url t row = again_at row ++ due_at t (option_map (consumer.revived l url) row)
-
 -- a consumer whose close is asked for needs no plan any more
 abbrev pub closed_at : View → (link : ℕ) → Words → (ticket : ℕ) → Member → List Notice
 closed_at v l request t m =
     word_to t m (consumer.word_of_close (closed_consumer request) l (is_asked (answer_at v.now request (v.links.live l))) m)
 
--- the consumers that hear a frame, or lose their subscription with their link
-abbrev pub heard_at : (link : ℕ) → Arrival → (ticket : ℕ) → Member → List Notice
-heard_at l a t m = word_to t m (consumer.word_of l a m)
-
 abbrev pub heard_on : View → (link : ℕ) → List Notice
 heard_on v l = over_rows (heard_at l (arrival_at (v.links.live l))) v.consumers
-
-abbrev pub lost_at : (link : ℕ) → Option Fault → (ticket : ℕ) → Member → List Notice
-lost_at l cause t m = word_to t m (consumer.word_of_loss l cause m)
 
 abbrev pub lost_on : View → (link : ℕ) → End → List Notice
 lost_on v l end = over_rows (lost_at l (closing end v.now (v.links.live l))) v.consumers
 
 -- THE STOP
-
--- those that wait are told that the client is stopped
-abbrev pub stopped_one : Who → Notice
-stopped_one who = notice who outcome.Stopped
-
--- and so are those that wait for the link of a consumer
-abbrev pub stopped_seekers : (ticket : ℕ) → Member → List Notice
-stopped_seekers t m = map stopped_one m.seekers
 
 abbrev pub stopped_on : View → List Notice
 stopped_on v = over_rows stopped_seekers v.consumers

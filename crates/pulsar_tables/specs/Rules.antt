@@ -85,10 +85,11 @@ use Rattle.pulsar_procedures.specs.Plan.{begins, closed_notice, fails}
 use Rattle.pulsar_tables.specs.Producers.{Producers, advice, batches_in, drawn, errand_of, is_held, is_settled_at, is_woken, link_at, next_batch_at, number_drawn, numbers_at, recalled, routed, stored_by, turn_passed, turn_taken, unsent, waiting, why_not}
 use Rattle.pulsar_calls.specs.Content.{next_advice}
 use Rattle.pulsar_tables.specs.View.{Addresses, Base, Chosen, Links, Options, Seat, Tickets, Turned, View, answer_at, arrival_at, is_live, later, may_call, room_of, told_some, turned, url_at, ways_of}
-use Rattle.pulsar_tables.specs.Consumers as consumer
+use Rattle.pulsar_consumer_table.specs.Consumers as consumer
 pub use Rattle.pulsar_tables.specs.Reading.{notice, stopped_one, tells, unless}
-use Rattle.pulsar_tables.specs.Reading.{acknowledges, again_at, closed_at, flow_said, heard_on, leaves, lost_on, made_due, numbering_said, polled_due, recalled_said, revived_at, revived_said, serves_by, sought_said, stopped_on, subscribes, tells_word}
-use Rattle.pulsar_tables.specs.Consumers.{Consumers, is_heard, over_rows}
+use Rattle.pulsar_consumer_table.specs.Notices.{again_at, polled_due, revived_at}
+use Rattle.pulsar_tables.specs.Reading.{acknowledges, closed_at, flow_said, heard_on, leaves, lost_on, made_due, numbering_said, recalled_said, revived_said, serves_by, sought_said, stopped_on, subscribes, tells_word}
+use Rattle.pulsar_consumer_table.specs.Consumers.{Consumers, is_heard, over_rows}
 use Rattle.pulsar_calls.specs.Who.{in_turn, is_before, is_same, rank, ticket_of, turn_of}
 
 -- EVENTS

@@ -58,8 +58,8 @@ use Rattle.pulsar_procedures.specs.Plan.{begins, told}
 use Rattle.pulsar_tables.specs.Producers.{Producers, called_on, changed, halted, is_bare, joined, link_at, none, numbered, numbers_at, shut, timeout_at, topic_after}
 use Rattle.pulsar_producer.specs.Routing.{Policy}
 use Rattle.pulsar_producer.specs.Topic as topic
-use Rattle.pulsar_tables.specs.Consumers as consumer
-use Rattle.pulsar_tables.specs.Consumers.{Consumers, IsHeard, Member}
+use Rattle.pulsar_consumer_table.specs.Consumers as consumer
+use Rattle.pulsar_consumer_table.specs.Consumers.{Consumers, IsHeard, Member}
 use Rattle.pulsar_consumer.specs.Topic as reader
 use Rattle.pulsar_consumer.specs.Topic.{of_raw}
 use Rattle.pulsar_calls.specs.Who.{is_same, rank, ticket_of, turn_of}

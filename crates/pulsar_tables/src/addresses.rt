@@ -5,7 +5,7 @@ ghost use Rattle.std.specs.Option.{option_map};
 ghost use Rattle.pulsar_plans.specs.Address.{address_key};
 ghost use Rattle.pulsar_tables.specs.Kept.{addresses_of, base_at, base_of, follows_at, pause_at};
 ghost use Rattle.pulsar_tables.specs.Links.{Becomes};
-ghost use Rattle.pulsar_tables.specs.Reading.{notice};
+ghost use Rattle.pulsar_calls.specs.Notices.{notice};
 ghost use Rattle.pulsar_tables.specs.Rules.{failed, failed_at, failed_over, failed_so, fails_so, served_by, stopped_at};
 ghost use Rattle.pulsar_tables.specs.View.{base_dialed, base_over, base_turned, base_waiting, is_for, is_passing, is_retryable, may_retry, nobody, pause_put};
 

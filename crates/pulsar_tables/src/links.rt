@@ -11,11 +11,11 @@ ghost use Rattle.pulsar_tables.specs.Effects.{asked_at, given_at};
 ghost use Rattle.pulsar_tables.specs.Due.{moment_at};
 ghost use Rattle.pulsar_tables.specs.Kept.{AreStarted, AreTimed, IsEnd, is_due, links_in, live_in, producers_of, seat_of};
 ghost use Rattle.pulsar_requests.specs.Soonest.{has_come};
-ghost use Rattle.pulsar_tables.specs.KeptConsumers.{consumers_in};
+ghost use Rattle.pulsar_consumer_table.specs.KeptConsumers.{consumers_in};
 ghost use Rattle.pulsar_tables.specs.Rules.{answered_on, due_part, idle_act_at, may_ping, moved_on, on_link, over_links, stop_act, told_at, is_idle_at};
 ghost use Rattle.pulsar_tables.specs.View.{answer_at, arrival_at, got_at, room_at, has_ended, is_asked, is_busy, seat_asked, seat_got, seat_of_fresh, seat_fed, took_some, url_at};
 
-use crate::consumers::table::Consumers;
+use pulsar_consumer_table::table::Consumers;
 use crate::due::DueMoments;
 use crate::producers::Producers;
 use crate::row::Row;

@@ -11,7 +11,7 @@ ghost use Rattle.pulsar_producer.specs.Random.{first_index};
 ghost use Rattle.pulsar_producer.specs.Topic as topic;
 ghost use Rattle.pulsar_tables.specs.Producers as meaning;
 ghost use Rattle.pulsar_tables.specs.Producers.{Producers as Seen};
-ghost use Rattle.pulsar_tables.specs.Reading.{stopped_one};
+ghost use Rattle.pulsar_calls.specs.Notices.{stopped_one};
 ghost use Rattle.pulsar_tables.specs.Rules.{stopped_all, stopped_call};
 ghost use Rattle.pulsar_calls.specs.Who.{in_turn};
 ghost use Rattle.pulsar_tables.specs.Kept.{producers_of};

@@ -6,9 +6,9 @@ ghost use Rattle.pulsar_tables.specs.Effects.{effects};
 ghost use Rattle.pulsar_tables.specs.Kept.{addresses_of, live_in};
 ghost use Rattle.pulsar_tables.specs.Rules.{breaks_at, reads_on, served_on, waiters_of};
 ghost use Rattle.pulsar_client.specs.Run.{goes_on};
-ghost use Rattle.pulsar_tables.specs.Consumers.{all_changed, hears, over_rows};
-ghost use Rattle.pulsar_tables.specs.KeptConsumers.{consumers_in};
-ghost use Rattle.pulsar_tables.specs.Reading.{heard_at};
+ghost use Rattle.pulsar_consumer_table.specs.Consumers.{all_changed, hears, over_rows};
+ghost use Rattle.pulsar_consumer_table.specs.KeptConsumers.{consumers_in};
+ghost use Rattle.pulsar_consumer_table.specs.Notices.{heard_at};
 ghost use Rattle.pulsar_client.specs.Tables.{agenda_of, chosen_of, retry_set, retry_shown, turned_view, view_of, welcomed};
 ghost use Rattle.pulsar_tables.specs.View.{after};
 

@@ -31,7 +31,7 @@ use pulsar_producer::CustomRoutingPolicy;
 use pulsar_session::states::Stage;
 use pulsar_tables::addresses::Addresses;
 use pulsar_tables::alarms::Alarms;
-use pulsar_tables::consumers::table::Consumers;
+use pulsar_consumer_table::table::Consumers;
 use pulsar_tables::links::Links;
 use pulsar_tables::producers::Producers;
 use pulsar_wire::error::NoMemory;

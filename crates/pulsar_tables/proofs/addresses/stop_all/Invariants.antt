@@ -1,6 +1,6 @@
 use Rattle.std.proofs.Common.{◌≡◌, ◌++◌, map, take}
 use Rattle.pulsar_calls.specs.declared.act.Outcome.TheVariants.{Stopped}
-use Rattle.pulsar_tables.specs.Reading.{notice}
+use Rattle.pulsar_calls.specs.Notices.{notice}
 use Rattle.pulsar_tables.proofs.addresses.stop_all.Given as goal
 
 abbrev pub invariant-loop-who : goal.invariant-loop-who

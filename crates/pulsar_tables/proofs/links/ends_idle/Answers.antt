@@ -11,7 +11,7 @@ use Rattle.pulsar_calls.specs.declared.act.LinkAct.TheVariants.{Ends}
 use Rattle.pulsar_calls.specs.declared.act.Part.TheVariants.{ToLink}
 use Rattle.pulsar_tables.specs.Kept.{producers_of, seat_of}
 use Rattle.pulsar_tables.specs.Rules.{idle_act_at}
-use Rattle.pulsar_tables.specs.KeptConsumers.{consumers_in}
+use Rattle.pulsar_consumer_table.specs.KeptConsumers.{consumers_in}
 use Rattle.pulsar_tables.proofs.Idle.{all_give}
 use Rattle.pulsar_tables.proofs.links.ends_idle.Goals as goal
 

@@ -3,7 +3,7 @@ use Rattle.std.specs.List.{flat_map}
 use Rattle.std.specs.Map.Iter.{deref_pair}
 use Rattle.pulsar_tables.specs.Kept.{producers_of, seat_of}
 use Rattle.pulsar_tables.specs.Rules.{idle_act_at}
-use Rattle.pulsar_tables.specs.KeptConsumers.{consumers_in}
+use Rattle.pulsar_consumer_table.specs.KeptConsumers.{consumers_in}
 use Rattle.pulsar_tables.proofs.links.ends_idle.Given as goal
 
 abbrev pub invariant-loop-link : goal.invariant-loop-link

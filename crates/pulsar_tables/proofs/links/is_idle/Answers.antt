@@ -1,8 +1,8 @@
 use Rattle.std.proofs.Common.{◌∙◌, ap, length, nat_le, nat_lt, not, ◌&&◌, ◌||◌}
 use Rattle.pulsar_requests.specs.Waits.{is_empty}
 use Rattle.pulsar_session.specs.Link.{is_ready}
-use Rattle.pulsar_tables.specs.Consumers.{is_heard}
-use Rattle.pulsar_tables.specs.KeptConsumers.{consumers_in}
+use Rattle.pulsar_consumer_table.specs.Consumers.{is_heard}
+use Rattle.pulsar_consumer_table.specs.KeptConsumers.{consumers_in}
 use Rattle.pulsar_tables.specs.View.{later}
 use Rattle.pulsar_tables.proofs.Idle.{idle_is}
 use Rattle.pulsar_tables.proofs.links.is_idle.Goals as goal

@@ -1,5 +1,5 @@
 use Rattle.std.proofs.Common.{◌≡◌, ◌++◌, map}
-use Rattle.pulsar_tables.specs.Reading.{stopped_one}
+use Rattle.pulsar_calls.specs.Notices.{stopped_one}
 use Rattle.pulsar_calls.specs.Who.{in_turn}
 use Rattle.pulsar_tables.proofs.producers.stop_all.Given as goal
 

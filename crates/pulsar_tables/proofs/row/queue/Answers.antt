@@ -4,7 +4,7 @@ use Rattle.std.specs.Option.{option_to_list}
 use Rattle.pulsar_calls.specs.Content.{shown}
 use Rattle.pulsar_tables.specs.Links.{queues_at}
 use Rattle.pulsar_calls.specs.Content.{numbers_from}
-use Rattle.pulsar_tables.proofs.Places.{next_place}
+use Rattle.pulsar_consumer_table.proofs.Places.{next_place}
 use Rattle.pulsar_tables.proofs.row.queue.Goals as goal
 
 pub loop-place-preserved : goal.loop-place-preserved

@@ -1,5 +1,5 @@
 use Rattle.std.proofs.Common.{◌∙◌, ap}
-use Rattle.pulsar_tables.specs.Consumers.{built_at}
+use Rattle.pulsar_consumer_table.specs.Consumers.{built_at}
 use Rattle.pulsar_client.proofs.Steps.{seen_of}
 use Rattle.pulsar_client.proofs.pulsar.Pulsar.consumer_at.Goals as goal
 

@@ -2,8 +2,9 @@ use Rattle.std.proofs.Common.{◌∙◌, ◌++◌, ap, sym}
 use Rattle.std.proofs.lemmas.List.{append-nil}
 use Rattle.std.proofs.lemmas.Result.{on_ok_weaker}
 use Rattle.pulsar_run.specs.Order.{put_all}
-use Rattle.pulsar_tables.specs.Consumers.{all_changed, closes, over_rows, word_of_close}
-use Rattle.pulsar_tables.specs.Reading.{tells, word_to}
+use Rattle.pulsar_consumer_table.specs.Consumers.{all_changed, closes, over_rows, word_of_close}
+use Rattle.pulsar_consumer_table.specs.Notices.{word_to}
+use Rattle.pulsar_tables.specs.Reading.{tells}
 use Rattle.pulsar_tables.specs.Rules.{below}
 use Rattle.pulsar_client.specs.Run.{Agenda}
 use Rattle.pulsar_client.specs.Tables.{agenda_of, view_of}

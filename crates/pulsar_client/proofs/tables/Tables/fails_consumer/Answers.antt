@@ -3,8 +3,9 @@ use Rattle.std.proofs.lemmas.List.{append-nil}
 use Rattle.std.proofs.lemmas.Result.{on_ok_weaker}
 use Rattle.pulsar_calls.specs.declared.act.Word.TheVariants.{Over}
 use Rattle.pulsar_run.specs.Order.{put_all}
-use Rattle.pulsar_tables.specs.Consumers.{changed, failed}
-use Rattle.pulsar_tables.specs.Reading.{again_at, tells_word}
+use Rattle.pulsar_consumer_table.specs.Consumers.{changed, failed}
+use Rattle.pulsar_consumer_table.specs.Notices.{again_at}
+use Rattle.pulsar_tables.specs.Reading.{tells_word}
 use Rattle.pulsar_tables.specs.Rules.{below}
 use Rattle.pulsar_client.specs.Run.{Agenda}
 use Rattle.pulsar_client.specs.Tables.{agenda_of, view_of}

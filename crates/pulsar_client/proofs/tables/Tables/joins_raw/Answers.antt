@@ -1,8 +1,8 @@
 use Rattle.std.proofs.Common.{◌≡◌, ◌∙◌, [], ap}
 use Rattle.std.proofs.lemmas.Result.{on_ok_weaker}
 use Rattle.pulsar_consumer.specs.Topic.{of_raw}
-use Rattle.pulsar_tables.specs.Consumers.{subscribed_on}
-use Rattle.pulsar_tables.specs.KeptConsumers.{member_in}
+use Rattle.pulsar_consumer_table.specs.Consumers.{subscribed_on}
+use Rattle.pulsar_consumer_table.specs.KeptConsumers.{member_in}
 use Rattle.pulsar_tables.specs.View.{joins_as, member_on}
 use Rattle.pulsar_client.specs.Tables.{view_of}
 use Rattle.pulsar_client.proofs.tables.Tables.joins_raw.Goals as goal

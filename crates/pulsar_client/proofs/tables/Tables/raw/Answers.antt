@@ -1,5 +1,5 @@
 use Rattle.std.proofs.Common.{◌∙◌, ap}
-use Rattle.pulsar_tables.specs.Consumers as consumer
+use Rattle.pulsar_consumer_table.specs.Consumers as consumer
 use Rattle.pulsar_tables.specs.Producers.{names_in}
 use Rattle.pulsar_client.specs.Tables.{view_of}
 use Rattle.pulsar_client.proofs.tables.Tables.raw.Goals as goal

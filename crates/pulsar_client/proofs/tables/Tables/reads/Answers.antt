@@ -8,8 +8,8 @@ use Rattle.pulsar_calls.specs.declared.act.Part.TheVariants.{ToLink}
 use Rattle.pulsar_tables.specs.Kept.{live_in}
 use Rattle.pulsar_tables.specs.Rules.{answered_on, below, breaks_at, opens, reads_on, served_on, waiters_of}
 use Rattle.pulsar_client.specs.Run.{Agenda}
-use Rattle.pulsar_tables.specs.Consumers.{all_changed, hears, over_rows}
-use Rattle.pulsar_tables.specs.Reading.{heard_at}
+use Rattle.pulsar_consumer_table.specs.Consumers.{all_changed, hears, over_rows}
+use Rattle.pulsar_consumer_table.specs.Notices.{heard_at}
 use Rattle.pulsar_client.specs.Tables.{agenda_of, view_of, welcomed}
 use Rattle.pulsar_tables.specs.View.{View, alarms_on, arrival_at, base_on, pause_on, took_some, turned}
 use Rattle.pulsar_client.proofs.Turned.{linked}

@@ -1,7 +1,7 @@
 use Rattle.std.proofs.Common.{◌∙◌, ap, sym}
 use Rattle.std.proofs.lemmas.Result.{on_ok_weaker}
 use Rattle.pulsar_calls.specs.declared.act.Word.TheVariants.{Recalled}
-use Rattle.pulsar_tables.specs.Consumers.{recalled}
+use Rattle.pulsar_consumer_table.specs.Consumers.{recalled}
 use Rattle.pulsar_tables.specs.Reading.{recalled_said, tells_word}
 use Rattle.pulsar_client.specs.Tables.{agenda_of, view_of}
 use Rattle.pulsar_client.proofs.Granting.{in_front}

@@ -2,8 +2,9 @@ use Rattle.std.proofs.Common.{◌∙◌, ◌++◌, ap, sym}
 use Rattle.std.proofs.lemmas.List.{append-nil}
 use Rattle.std.proofs.lemmas.Result.{on_ok_weaker}
 use Rattle.pulsar_run.specs.Order.{put_all}
-use Rattle.pulsar_tables.specs.Consumers.{changed, is_ended_at, revived}
-use Rattle.pulsar_tables.specs.Reading.{revived_at, revived_said, tells_word}
+use Rattle.pulsar_consumer_table.specs.Consumers.{changed, is_ended_at, revived}
+use Rattle.pulsar_consumer_table.specs.Notices.{revived_at}
+use Rattle.pulsar_tables.specs.Reading.{revived_said, tells_word}
 use Rattle.pulsar_tables.specs.Rules.{below}
 use Rattle.pulsar_client.specs.Run.{Agenda}
 use Rattle.pulsar_client.specs.Tables.{agenda_of, view_of}

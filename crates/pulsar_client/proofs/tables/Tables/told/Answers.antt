@@ -9,7 +9,7 @@ use Rattle.pulsar_calls.specs.declared.act.Who.TheVariants.{Call, Consumer, Prod
 use Rattle.pulsar_procedures.specs.declared.plan.Plan.{Plan}
 use Rattle.pulsar_procedures.specs.declared.plan.Turn.{Turn}
 use Rattle.pulsar_procedures.specs.Plan.{told}
-use Rattle.pulsar_tables.specs.Reading.{notice}
+use Rattle.pulsar_calls.specs.Notices.{notice}
 use Rattle.pulsar_client.specs.Tables.{view_of}
 use Rattle.pulsar_procedures.specs.Standing.{stand_of}
 use Rattle.pulsar_tables.specs.View.{stand_after, stays, stays_some, told_some}

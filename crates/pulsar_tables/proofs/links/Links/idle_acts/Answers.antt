@@ -1,7 +1,7 @@
 use Rattle.std.proofs.Common.{◌∙◌}
 use Rattle.pulsar_tables.specs.Kept.{producers_of}
 use Rattle.pulsar_tables.specs.Rules.{idle_act_at}
-use Rattle.pulsar_tables.specs.KeptConsumers.{consumers_in}
+use Rattle.pulsar_consumer_table.specs.KeptConsumers.{consumers_in}
 use Rattle.pulsar_tables.proofs.Timing.{all_live}
 use Rattle.pulsar_tables.proofs.links.Links.idle_acts.Goals as goal
 

@@ -3,7 +3,7 @@ use Rattle.std.specs.BTreeMap.{get}
 use Rattle.std.specs.List.{flat_map}
 use Rattle.std.specs.Ordering.{nat_cmp}
 use Rattle.pulsar_tables.specs.Producers.{waiting_at}
-use Rattle.pulsar_tables.specs.Reading.{stopped_one}
+use Rattle.pulsar_calls.specs.Notices.{stopped_one}
 use Rattle.pulsar_tables.proofs.producers.Producers.stop_waiting.Given as goal
 
 abbrev pub invariant-loop-number : goal.invariant-loop-number

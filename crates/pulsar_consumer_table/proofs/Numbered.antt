@@ -1,0 +1,238 @@
+-- Who is to be found by a number, as consumers change: none is so again that was not, and each that is stays listed under it.
+use Rattle.std.proofs.Common.{◌≡◌, ◌∙◌, ℕ, ◌==◌, ◌&&◌, ◌||◌, not, sym, ap, refl, Bool, true, false, cond, List, [], ◌∷◌, Option, Some, None, inl, inr}
+use Rattle.std.proofs.lemmas.Bool.{cases_Bool, eqb-true, false≢true, and_from, and_parts, or_right}
+use Rattle.std.specs.BTreeMap.{BTreeMap}
+use Rattle.std.specs.BTreeSet.{BTreeSet}
+use Rattle.std.specs.Option.{is_some, option_map, option_or}
+use Rattle.url.specs.Parts.{Parts}
+use Rattle.pulsar_link.specs.Items.{Item, Given, Faulty}
+use Rattle.pulsar_link.specs.Messages.{Reply, is_body}
+use Rattle.pulsar_session.specs.Failures.{Failure}
+use Rattle.pulsar_calls.specs.declared.act.Who.{Who}
+use Rattle.pulsar_consumer.specs.Frames.{Frame, frame_in}
+use Rattle.pulsar_consumer.specs.Topic as topic
+use Rattle.pulsar_consumer.specs.Topic.{Act, Engine, Lives, Hears, Loses, Fails, Ends, Polls, Asks, Live, Seen, counts_first, first_of, is_ended, link_of, lives_on}
+use Rattle.pulsar_consumer.specs.declared.polled.Ending.{Ending}
+use Rattle.pulsar_consumer.specs.declared.polled.Ending.TheVariants.{Stopped, TopicEnded}
+use Rattle.pulsar_consumer_table.specs.declared.row.Sought.{Sought}
+use Rattle.pulsar_consumer_table.specs.declared.row.Sought.TheVariants.{Found, Gone, Later}
+use Rattle.pulsar_consumer_table.specs.Consumers.{Member, ends_on, hears_frame, member_after, revived, seeks, sought, stopped, waits_so}
+use Rattle.pulsar_consumer_table.specs.Consumers as consumer
+use Rattle.pulsar_consumer_table.specs.KeptConsumers.{AreListed, KeepsListed, is_known, is_listed, listed_at, one_changed, some_changed}
+use Rattle.pulsar_consumer_table.proofs.Places.{swapped}
+
+-- AN ENGINE WITHOUT A SUBSCRIPTION has none as it goes on
+
+none_there : (f : Live → Live) (o : Option Live) → o ≡ None → option_map f o ≡ None
+none_there f o h = ap (option_map f) h
+
+going : (fs : List Frame) (e : Engine) → e.live ≡ None → (topic.goes_on fs e).live ≡ None
+going [] e h = elim (cases_Bool (topic.no_items e.rest)) [
+  | inl y ↦ rw y (none_there _ e.live h)
+  | inr n ↦ rw n h
+]
+going (f ∷ fs) e h = elim (cases_Bool (topic.no_items e.rest)) [
+  | inl y ↦ rw y (going fs (topic.begin f (record (topic.finish e) { waiting = fs })) (none_there _ (option_map _ e.live) (none_there _ e.live h)))
+  | inr n ↦ rw n h
+]
+
+giving : (items : List Item) (e : Engine) → e.live ≡ None → (topic.gives_from items e).live ≡ None
+giving [] e h = h
+giving (item ∷ items) e h = going e.waiting (topic.places (record e { unread = items })) h
+
+-- ONE THAT IS OVER has ended, and lives on no link. So it stays.
+
+record IsOver (v : Seen) : Type 0 where
+  ended : is_ended v ≡ true
+  live : v.engine.live ≡ None
+
+off : (l : ℕ) (v : Seen) → v.engine.live ≡ None → lives_on l v ≡ false
+off l v h = ap (λ o. topic.is_on l (option_map (λ (x : Live). x.link) o)) h
+
+or_ended : (o : Option Ending) (why : Ending) → is_some o ≡ true → is_some (option_or o (Some why)) ≡ true
+or_ended None why h = refl
+or_ended (Some x) why h = refl
+
+same_if : (b : Bool) (v x : Seen) → IsOver v → b ≡ false → IsOver (cond b x v)
+same_if true v x k h = absurd (false≢true (sym h))
+same_if false v x k h = k
+
+same_unless : (b : Bool) (v x : Seen) → IsOver v → b ≡ true → IsOver (cond b v x)
+same_unless true v x k h = k
+same_unless false v x k h = absurd (false≢true h)
+
+counting : (clock : ℕ) (item : Option Item) (v : Seen) → IsOver v → IsOver (counts_first clock item v)
+counting clock None v k = k
+counting clock (Some (Given id size metadata payload)) v k = record { ended = k.ended; live = k.live }
+counting clock (Some (Faulty f)) v k = k
+
+stays_over : (act : Act) (v : Seen) → IsOver v → IsOver (topic.after act v)
+stays_over (Lives l url) v k = same_unless (is_ended v) v _ k k.ended
+stays_over (Hears l f) v k = same_if (lives_on l v) v _ k (off l v k.live)
+stays_over (Loses l) v k = same_if (lives_on l v) v _ k (off l v k.live)
+stays_over (Fails f) v k = same_unless (is_ended v) v _ k k.ended
+stays_over (Ends why) v k = record { ended = or_ended v.ended why k.ended; live = refl }
+stays_over (Polls clock) v k =
+    counting clock (first_of v.engine.unread) (record v { engine = topic.gives v.engine }) (record { ended = k.ended; live = giving v.engine.unread v.engine k.live })
+stays_over Asks v k = record { ended = k.ended; live = none_there _ v.engine.live k.live }
+
+-- ITS NUMBER stays too
+
+number_if : (b : Bool) (n : ℕ) (x y : Seen) → x.number ≡ n → y.number ≡ n → (cond b x y).number ≡ n
+number_if true n x y p q = p
+number_if false n x y p q = q
+
+number_counts : (clock : ℕ) (item : Option Item) (v : Seen) → (counts_first clock item v).number ≡ v.number
+number_counts clock None v = refl
+number_counts clock (Some (Given id size metadata payload)) v = refl
+number_counts clock (Some (Faulty f)) v = refl
+
+same_number : (act : Act) (v : Seen) → (topic.after act v).number ≡ v.number
+same_number (Lives l url) v = number_if (is_ended v) v.number v _ refl refl
+same_number (Hears l f) v = number_if (lives_on l v) v.number _ v refl refl
+same_number (Loses l) v = number_if (lives_on l v) v.number _ v (number_if v.is_raw v.number _ _ refl refl) refl
+same_number (Fails f) v = number_if (is_ended v) v.number v _ refl refl
+same_number (Ends why) v = refl
+same_number (Polls clock) v = number_counts clock (first_of v.engine.unread) (record v { engine = topic.gives v.engine })
+same_number Asks v = refl
+
+-- WHO IS KNOWN
+
+-- one that is not over is there
+abbrev there : Seen → Bool
+there v = not (is_ended v) || is_some (link_of v)
+
+not_there : (ended : Option Ending) (live : Option Live) → (not (is_some ended) || is_some (option_map (λ (x : Live). x.link) live)) ≡ false →
+    (is_some ended ≡ true) × (live ≡ None)
+not_there None live h = absurd (false≢true (sym h))
+not_there (Some why) None h = (refl, refl)
+not_there (Some why) (Some l) h = absurd (false≢true (sym h))
+
+over_not : (v : Seen) → IsOver v → there v ≡ false
+over_not v k = ap (λ b. not b || is_some (link_of v)) k.ended ∙ ap (λ o. is_some (option_map (λ (x : Live). x.link) o)) k.live
+
+-- a change by which no member is known again
+abbrev pub Holds : (Member → Member) → Type 0
+Holds f = (n : ℕ) (m : Member) → is_known n (Some (f m)) ≡ true → is_known n (Some m) ≡ true
+
+known_before : (v w : Seen) → w.number ≡ v.number → (IsOver v → IsOver w) → (n : ℕ) → ((w.number == n) && there w) ≡ true → ((v.number == n) && there v) ≡ true
+known_before v w same over n h = elim (cases_Bool (there v)) [
+  | inl y ↦ and_from (v.number == n) (there v) (ap (λ k. k == n) (sym same) ∙ (and_parts (w.number == n) (there w) h).0) y
+  | inr away ↦
+      (let gone = not_there v.ended v.engine.live away in
+      let after : there w ≡ false = over_not w (over (record { ended = gone.0; live = gone.1 })) in
+      absurd (false≢true (sym after ∙ (and_parts (w.number == n) (there w) h).1)))
+]
+
+pub act_holds : (act : Act) → Holds (member_after act)
+act_holds act n m h = known_before m.seen (topic.after act m.seen) (same_number act m.seen) (stays_over act m.seen) n h
+
+pub frame_holds : (l : ℕ) (r : Reply) → Holds (hears_frame l r)
+frame_holds l r n m = by (is_body 9 r.content.body) (is_body 27 r.content.body) (is_body 16 r.content.body)
+  where
+    on : (b : Bool) → is_known n (Some (cond b (member_after (Ends TopicEnded) m) m)) ≡ true → is_known n (Some m) ≡ true
+    on true h = act_holds (Ends TopicEnded) n m h
+    on false h = h
+
+    by : (b c d : Bool) →
+        is_known n (Some (cond b (member_after (Hears l (frame_in r)) m) (cond c (ends_on l TopicEnded m) (cond d (member_after (Loses l) m) m)))) ≡ true →
+        is_known n (Some m) ≡ true
+    by true c d h = act_holds (Hears l (frame_in r)) n m h
+    by false true d h = on (lives_on l m.seen) h
+    by false false true h = act_holds (Loses l) n m h
+    by false false false h = h
+
+pub seeks_holds : (w : Who) → Holds (seeks w)
+seeks_holds w n m = by (sought (Some m))
+  where
+    by : (s : Sought) → is_known n (Some (waits_so s w m)) ≡ true → is_known n (Some m) ≡ true
+    by (Found l) h = h
+    by Gone h = h
+    by Later h = h
+
+pub revived_holds : (l : ℕ) (url : Option Parts) → Holds (revived l url)
+revived_holds l None n m h = h
+revived_holds l (Some url) n m h = act_holds (Lives l url) n m h
+
+pub failed_holds : (f : Failure) → Holds (consumer.failed f)
+failed_holds f n m h = act_holds (Fails f) n m h
+
+-- THE LISTING
+
+module _ (listing : BTreeMap ℕ (BTreeSet ℕ)) (rows : ℕ → Option Member) (listed : AreListed listing rows) where
+  one_holds : (f : Member → Member) → Holds f → (n : ℕ) (row : Option Member) → is_known n (option_map f row) ≡ true → is_known n row ≡ true
+  one_holds f holds n None h = h
+  one_holds f holds n (Some m) h = holds n m h
+
+  either_holds : (f : Member → Member) → Holds f → (b : Bool) (n : ℕ) (row : Option Member) → is_known n (cond b (option_map f row) row) ≡ true → is_known n row ≡ true
+  either_holds f holds true n row h = one_holds f holds n row h
+  either_holds f holds false n row h = h
+
+  pub one_listed : (t : ℕ) (f : Member → Member) (after : ℕ → Option Member) → Holds f → ((u : ℕ) → after u ≡ one_changed t f rows u) → AreListed listing after
+  one_listed t f after holds is u n h = listed u n (either_holds f holds (u == t) n (rows u) (ap (is_known n) (sym (is u)) ∙ h))
+
+  -- and where those are listed no more that have ended
+  pub some_listed : (listing' : BTreeMap ℕ (BTreeSet ℕ)) (ts : List ℕ) (f : Member → Member) (after : ℕ → Option Member) → Holds f →
+      ((u : ℕ) → after u ≡ some_changed ts f rows u) →
+      KeepsListed listing listing' after →
+      AreListed listing' after
+  some_listed listing' ts f after holds is kept u n h =
+      kept u n h (listed u n (either_holds f holds (is_listed u ts) n (rows u) (ap (is_known n) (sym (is u)) ∙ h)))
+
+-- once the client is stopped none is known
+pub stopped_none : (n : ℕ) (row : Option Member) → is_known n (option_map stopped row) ≡ false
+stopped_none n None = refl
+stopped_none n (Some m) = ap (λ b. (m.seen.number == n) && b) (by m.seen.ended) ∙ none_and (m.seen.number == n)
+  where
+    by : (o : Option Ending) → (not (is_some (option_or o (Some Stopped))) || false) ≡ false
+    by None = refl
+    by (Some why) = refl
+
+    none_and : (b : Bool) → (b && false) ≡ false
+    none_and true = refl
+    none_and false = refl
+
+-- where one is listed no more that isn't to be found
+pub pruned : (before after : BTreeMap ℕ (BTreeSet ℕ)) (rows : ℕ → Option Member) (number ticket : ℕ) →
+    ((n t : ℕ) → is_listed t (listed_at after n) ≡ (is_listed t (listed_at before n) && not ((n == number) && (t == ticket)))) →
+    is_known number (rows ticket) ≡ false →
+    KeepsListed before after rows
+pruned before after rows number ticket less gone t n k h =
+    less n t ∙ ap (λ b. b && not ((n == number) && (t == ticket))) h ∙ by (n == number) (t == ticket) refl refl
+  where
+    by : (a b : Bool) → (n == number) ≡ a → (t == ticket) ≡ b → not (a && b) ≡ true
+    by true true e f = absurd (false≢true (sym gone
+        ∙ ap (λ m. is_known m (rows ticket)) (sym (eqb-true n number e))
+        ∙ ap (λ u. is_known n (rows u)) (sym (eqb-true t ticket f))
+        ∙ k))
+    by true false e f = refl
+    by false b e f = refl
+
+-- one more, who is listed under its number
+pub joined_listed : (before after : BTreeMap ℕ (BTreeSet ℕ)) (rows rows' : ℕ → Option Member) (ticket : ℕ) (m : Member) →
+    AreListed before rows →
+    ((n t : ℕ) → is_listed t (listed_at after n) ≡ (is_listed t (listed_at before n) || ((n == m.seen.number) && (t == ticket)))) →
+    ((t : ℕ) → rows' t ≡ cond (t == ticket) (Some m) (rows t)) →
+    AreListed after rows'
+joined_listed before after rows rows' ticket m listed more is t n k = more n t ∙ by (t == ticket) refl (ap (is_known n) (sym (is t)) ∙ k)
+  where
+    by : (b : Bool) → (t == ticket) ≡ b → is_known n (cond b (Some m) (rows t)) ≡ true → (is_listed t (listed_at before n) || ((n == m.seen.number) && b)) ≡ true
+    by true e h =
+        let same : (n == m.seen.number) ≡ true = swapped n m.seen.number ∙ (and_parts (m.seen.number == n) (not (is_ended m.seen) || is_some (link_of m.seen)) h).0 in
+        or_right (is_listed t (listed_at before n)) ((n == m.seen.number) && true) (ap (λ b. b && true) same)
+    by false e h = ap (λ b. b || ((n == m.seen.number) && false)) (listed t n h)
+
+-- one that hears a frame keeps its number
+pub frame_number : (l : ℕ) (r : Reply) (m : Member) → (hears_frame l r m).seen.number ≡ m.seen.number
+frame_number l r m = by (is_body 9 r.content.body) (is_body 27 r.content.body) (is_body 16 r.content.body)
+  where
+    on : (b : Bool) → (cond b (member_after (Ends TopicEnded) m) m).seen.number ≡ m.seen.number
+    on true = refl
+    on false = refl
+
+    by : (b c d : Bool) →
+        (cond b (member_after (Hears l (frame_in r)) m) (cond c (ends_on l TopicEnded m) (cond d (member_after (Loses l) m) m))).seen.number ≡ m.seen.number
+    by true c d = same_number (Hears l (frame_in r)) m.seen
+    by false true d = on (lives_on l m.seen)
+    by false false true = same_number (Loses l) m.seen
+    by false false false = refl

@@ -1,0 +1,4 @@
+use Rattle.pulsar_consumer_table.proofs.hearing.prune_each.Goals as goal
+
+pub loop-ticket-preserved : goal.loop-ticket-preserved
+loop-ticket-preserved c = λ t n k h. c.in_ok-prune.ensures t n k (c.loop-ticket.invariant t n k h)

@@ -1,0 +1,47 @@
+use Rattle.std.proofs.Common.{◌∙◌, not, refl, subst, sym, true, Some}
+use Rattle.std.specs.List.Sorted.{IsStrictlySortedBy}
+use Rattle.std.specs.Ordering.{nat_cmp}
+use Rattle.pulsar_calls.specs.declared.act.Word.TheVariants.{Over}
+use Rattle.pulsar_consumer.specs.Topic.{Ends}
+use Rattle.pulsar_consumer.specs.declared.polled.Ending.TheVariants.{Closed}
+use Rattle.pulsar_consumer_table.specs.Consumers.{closes, lives_with, member_after, word_if, word_of_close}
+use Rattle.pulsar_consumer_table.specs.KeptConsumers.{rows_in}
+use Rattle.pulsar_consumer_table.specs.Notices.{word_to}
+use Rattle.pulsar_consumer_table.proofs.Finding.{found_change, found_give, living_found}
+use Rattle.pulsar_consumer_table.proofs.Hearing.{closed_by, consumers_are, none_closed, same_closed}
+use Rattle.pulsar_consumer_table.proofs.Living.{ends_lifeless, some_heard}
+use Rattle.pulsar_consumer_table.proofs.Numbered.{act_holds, some_listed}
+use Rattle.pulsar_consumer_table.proofs.table.Consumers.close.Goals as goal
+
+pub invariant_of-self-2 : goal.invariant_of-self-2
+invariant_of-self-2 c =
+    let cs = c.args.self.now in
+    record {
+      ordered = λ whole. subst (IsStrictlySortedBy nat_cmp) (sym c.in_ok-notices.ensures.tickets) (cs.ordered c.if-self.false);
+      listed = λ whole. some_listed cs.listing (rows_in cs.rows) (cs.listed c.if-self.false) c.prune_all.new.listing c.deref.result.now (member_after (Ends Closed))
+          (rows_in c.close_all.new.rows) (act_holds (Ends Closed)) c.in_ok-notices.ensures.rows c.in_ok-prune_all.ensures;
+      lives = λ whole. some_heard cs.heard (rows_in cs.rows) (cs.lives c.if-self.false) c.leave_all.new.heard c.deref.result.now (member_after (Ends Closed))
+          (rows_in c.close_all.new.rows) (ends_lifeless Closed) c.in_ok-notices.ensures.rows c.in_ok-leave_all.ensures;
+    }
+
+pub returns-clause-notices : goal.returns-clause-notices
+returns-clause-notices c =
+    let cs = c.args.self.now in
+    let n = c.args.number in
+    let l = c.args.link in
+    let ts = c.deref.result.now in
+    let found = living_found n l cs.listing (rows_in cs.rows) (cs.listed c.if-self.false) ts (c.deref.ensures.value ∙ c.in_ok-tickets.ensures.tickets) in
+    c.in_ok-notices.ensures.notices
+    ∙ found_give cs.rows (lives_with n l) ts found (λ t m. word_to t m (word_of_close (Some n) l true m)) (λ t m. word_to t m (word_if (not m.seen.is_raw) Over))
+    (subst (IsStrictlySortedBy nat_cmp) (sym c.deref.ensures.value) c.in_ok-tickets.ensures.sorted) (cs.ordered c.if-self.false) (none_closed n l) (same_closed n l)
+
+pub returns-clause-after : goal.returns-clause-after
+returns-clause-after c =
+    let cs = c.args.self.now in
+    let n = c.args.number in
+    let l = c.args.link in
+    let ts = c.deref.result.now in
+    let found = living_found n l cs.listing (rows_in cs.rows) (cs.listed c.if-self.false) ts (c.deref.ensures.value ∙ c.in_ok-tickets.ensures.tickets) in
+    consumers_are _ _
+    (found_change cs.rows (lives_with n l) ts found (closes (Some n) l true) (member_after (Ends Closed)) (rows_in c.close_all.new.rows) (closed_by n l) c.in_ok-notices.ensures.rows)
+    c.in_ok-notices.ensures.tickets refl refl refl

@@ -1,0 +1,68 @@
+-- For the code's contracts alone: the consumers, as the code keeps them. Their tickets are listed by their numbers.
+use Rattle.std.specs.Prelude.{◌≡◌, ◌==◌, ◌&&◌, ◌||◌, not, ℕ, Bool, true, false, if◌then◌else◌, List, [], Option, Some, None}
+use Rattle.std.specs.BTreeMap.{BTreeMap, get, keys}
+use Rattle.std.specs.BTreeSet.{BTreeSet}
+use Rattle.std.specs.List.{list_any}
+use Rattle.std.specs.Option.{is_some, option_map}
+use Rattle.std.specs.Ordering.{nat_cmp}
+use Rattle.pulsar_consumer_table.specs.declared.numbers.Numbers.{Numbers}
+use Rattle.pulsar_consumer_table.specs.declared.row.ConsumerRow.{ConsumerRow}
+use Rattle.pulsar_consumer.specs.Topic.{is_ended, link_of}
+use Rattle.pulsar_consumer_table.specs.Consumers.{Consumers, Member, lives_at}
+
+abbrev pub member_in : ConsumerRow → Member
+member_in r = record { seen = r.consumer.inner; seekers = r.seekers.items }
+
+abbrev pub rows_in : BTreeMap ℕ ConsumerRow → ℕ → Option Member
+rows_in rows t = option_map member_in (get nat_cmp rows t)
+
+abbrev pub consumers_in : BTreeMap ℕ ConsumerRow → Numbers → Consumers
+consumers_in rows numbers =
+    record { rows = rows_in rows; tickets = keys rows; held = numbers.held.entries; named = numbers.named.keys; next = numbers.next }
+
+-- THE LISTING
+
+-- the tickets that are listed of a number
+abbrev pub tickets_of : Option (BTreeSet ℕ) → List ℕ
+tickets_of None = []
+tickets_of (Some tickets) = tickets.keys
+
+abbrev pub listed_at : BTreeMap ℕ (BTreeSet ℕ) → (number : ℕ) → List ℕ
+listed_at listing n = tickets_of (get nat_cmp listing n)
+
+abbrev pub is_listed : ℕ → List ℕ → Bool
+is_listed t tickets = list_any (λ u. u == t) tickets
+
+-- one of them is changed, and some are
+abbrev pub one_changed : (ticket : ℕ) → (Member → Member) → (ℕ → Option Member) → ℕ → Option Member
+one_changed ticket f rows t = if t == ticket then option_map f (rows t) else rows t
+
+abbrev pub some_changed : (tickets : List ℕ) → (Member → Member) → (ℕ → Option Member) → ℕ → Option Member
+some_changed tickets f rows t = if is_listed t tickets then option_map f (rows t) else rows t
+
+-- one that has not ended, or lives on a link, is to be found by its number
+abbrev pub is_known : (number : ℕ) → Option Member → Bool
+is_known n None = false
+is_known n (Some m) = (m.seen.number == n) && (not (is_ended m.seen) || is_some (link_of m.seen))
+
+-- whoever is to be found by a number is listed under it; others may be listed too
+abbrev pub AreListed : BTreeMap ℕ (BTreeSet ℕ) → (ℕ → Option Member) → Type 0
+AreListed listing rows = (t n : ℕ) → is_known n (rows t) ≡ true → is_listed t (listed_at listing n) ≡ true
+
+-- where some are listed no more, they are not to be found
+abbrev pub KeepsListed : (before after : BTreeMap ℕ (BTreeSet ℕ)) → (ℕ → Option Member) → Type 0
+KeepsListed before after rows =
+    (t n : ℕ) → is_known n (rows t) ≡ true → is_listed t (listed_at before n) ≡ true → is_listed t (listed_at after n) ≡ true
+
+-- whoever lives on a link is listed under it; others may be listed too
+abbrev pub AreHeard : BTreeMap ℕ (BTreeSet ℕ) → (ℕ → Option Member) → Type 0
+AreHeard heard rows = (t l : ℕ) → lives_at l (rows t) ≡ true → is_listed t (listed_at heard l) ≡ true
+
+-- where some are listed no more, they do not live there
+abbrev pub KeepsHeard : (before after : BTreeMap ℕ (BTreeSet ℕ)) → (ℕ → Option Member) → Type 0
+KeepsHeard before after rows =
+    (t l : ℕ) → lives_at l (rows t) ≡ true → is_listed t (listed_at before l) ≡ true → is_listed t (listed_at after l) ≡ true
+
+-- where one more is listed, nobody is listed less
+abbrev pub KeepsAll : (before after : BTreeMap ℕ (BTreeSet ℕ)) → Type 0
+KeepsAll before after = (t l : ℕ) → is_listed t (listed_at before l) ≡ true → is_listed t (listed_at after l) ≡ true

@@ -1,0 +1,3 @@
+pub mod Consumers
+pub mod Notices
+pub mod KeptConsumers

@@ -1,0 +1,10 @@
+//! The consumers of a client, as a table that does nothing by itself: what each of them hears, and what polls take.
+#![tactic(auto)]
+
+mod hearing;
+pub mod listing;
+pub mod numbers;
+pub mod row;
+pub mod table;
+
+pub use hearing::due;

@@ -1,5 +1,0 @@
-use Rattle.pulsar_tables.specs.KeptConsumers.{KeepsHeard, rows_in}
-use Rattle.pulsar_tables.proofs.consumers.hearing.leave_all.Given as goal
-
-abbrev pub invariant-loop-ticket : goal.invariant-loop-ticket
-invariant-loop-ticket l = KeepsHeard l.fn.heard l.heard (rows_in l.rows)

@@ -1,7 +1,0 @@
-use Rattle.std.proofs.Common.{◌≡◌, filter, map}
-use Rattle.pulsar_tables.specs.Consumers.{lives_at}
-use Rattle.pulsar_tables.specs.KeptConsumers.{rows_in}
-use Rattle.pulsar_tables.proofs.consumers.hearing.living_on.Given as goal
-
-abbrev pub invariant-loop-ticket : goal.invariant-loop-ticket
-invariant-loop-ticket l = l.living.items ≡ filter (λ t. lives_at l.link (rows_in l.rows t)) (map (λ k. k.now) l.yielded)

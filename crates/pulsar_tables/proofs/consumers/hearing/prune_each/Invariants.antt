@@ -1,5 +1,0 @@
-use Rattle.pulsar_tables.specs.KeptConsumers.{KeepsListed, rows_in}
-use Rattle.pulsar_tables.proofs.consumers.hearing.prune_each.Given as goal
-
-abbrev pub invariant-loop-ticket : goal.invariant-loop-ticket
-invariant-loop-ticket l = KeepsListed l.fn.listing l.listing (rows_in l.rows)

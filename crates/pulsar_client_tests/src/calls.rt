@@ -1,152 +1,118 @@
-//! Calls that no script makes, where there is memory, and URLs beside their addresses.
+//! Events that are taken together, and URLs beside their addresses.
 
-use pulsar_calls::{Call, Effect, Event};
-use pulsar_client::pulsar::Pulsar;
-use pulsar_client::{
-    ClientOptions, ConnectionRetryOptions, CustomRoutingPolicy, OperationRetryOptions,
-};
-use pulsar_wire::{ConnectionError, Error, NoMemory};
+use crate::help::{LOCAL, events, options};
+use pulsar_client::{Effect, Pulsar};
+use pulsar_script::printing::effect::push_step;
+use pulsar_wire::NoMemory;
 use std::alloc::Global;
 use std::test::Fail;
 
-/// A connected command.
-pub const CONNECTED: &[u8] = b"\x00\x00\x00\x0a\x00\x00\x00\x06\x08\x03\x1a\x02\x0a\x00";
-
-/// The options where none is set but the URL and the policies.
-pub fn options(url: String, policies: Vec<Box<dyn CustomRoutingPolicy>>) -> ClientOptions {
-    ClientOptions {
-        url,
-        auth: None,
-        connection_retry: ConnectionRetryOptions::default(),
-        operation_retry: OperationRetryOptions::default(),
-        outbound_channel_size: 100,
-        seed: 0,
-        now: 0,
-        first_number: 0,
-        policies,
-    }
+/// The effects of each line.
+fn driven(alloc: Global, url: &str, lines: &str) -> Result<Vec<Vec<Effect>>, NoMemory> {
+    let events = events(alloc, lines)?;
+    Pulsar::drive(alloc, options(alloc, url)?, &events)
 }
 
-/// The URL of the clients whose address does not matter.
-pub const LOCAL: &str = "pulsar://127.0.0.1:6650";
-
-/// The effects of each event.
-pub fn driven(alloc: Global, events: &[Event]) -> Result<Vec<Vec<Effect>>, NoMemory> {
-    let options = options(String::from_str(alloc, LOCAL)?, Vec::new(alloc));
-    Pulsar::drive(alloc, options, events)
+fn count(alloc: Global, lines: &str) -> Result<usize, NoMemory> {
+    Ok(driven(alloc, LOCAL, lines)?.len())
 }
 
-/// A client that is built, a search of each kind, and a stop.
-fn searches(alloc: Global) -> Result<Vec<Event>, NoMemory> {
-    let topic = String::from_str(alloc, "t")?;
-    let mut events = Vec::new(alloc);
-    events.push(Event::Call(Call::Build))?;
-    events.push(Event::Opened(0))?;
-    events.push(Event::Bytes(0, CONNECTED.to_vec(alloc)?))?;
-    events.push(Event::Call(Call::Lookup {
-        topic: topic.clone()?,
-    }))?;
-    events.push(Event::Call(Call::Partitions {
-        topic: topic.clone()?,
-    }))?;
-    events.push(Event::Call(Call::Brokers { topic }))?;
-    events.push(Event::Call(Call::Stop))?;
-    Ok(events)
-}
-
-/// Whether each search asks one thing, and the stop ends all of them and the connection.
-fn are_stopped(steps: &[Vec<Effect>]) -> bool {
-    match steps {
-        [_, _, built, first, second, third, stopped] => {
-            built.len() == 1
-                && first.len() == 1
-                && second.len() == 1
-                && third.len() == 1
-                && stopped.len() == 8
-        }
-        _ => false,
-    }
-}
+/// One of each kind, on a link that is ready.
+const EVENTS: &str = "call build
+opened 0
+bytes 0 0000000a0000000608031a020a00
+drain 0 1
+call topics ns all
+call lookup t
+call partitions t
+call brokers t
+call producer topic=t name=p
+call send 5 data=a pk=k
+call send-all 5 data=a / data=b
+call flush 5
+call check-producer 5
+call close-producer 5
+call consumer topic=t sub=s name=c
+call ack 1 t 08001000
+call ack-all 1 t 08001000
+call nack 1 t 08001000
+call close 1
+call link 0 ping
+call link 0 auth token %00%ff
+call link 0 lookup a/b true
+call link 0 partitions t
+call link 0 topics ns non-persistent
+call link 0 schema t %7E
+call link 0 producer t 5 p
+call link 0 send 5 p 2 true data=a pk=k
+call link 0 close-producer 5
+call link 0 subscribe t s shared 0
+call link 0 flow 0 1000
+call link 0 ack 0 individual 08011002
+call link 0 redeliver 0 08011002
+call link 0 seek 0 08011002 ~
+call link 0 last-id 0
+call link 0 stats 0
+call link 0 unsubscribe 0
+call link 0 close-consumer 0
+poll 1
+tick 1
+failed 0 refused
+lost 0
+call stop
+";
 
 #[test]
-fn searches_are_taken_together(rt: HostRuntime) -> Result<(), Fail> {
-    let alloc = rt.alloc();
-    let steps = driven(alloc, &searches(alloc)?)?;
-    assert!(rt; are_stopped(&steps));
+fn events_are_taken_together(rt: HostRuntime) -> Result<(), Fail> {
+    assert_eq!(rt; count(rt.alloc(), EVENTS)?, EVENTS.lines().count());
     Ok(())
 }
 
-/// The effects of a Build by a client with this URL.
-fn built(alloc: Global, url: &str) -> Result<Vec<Effect>, NoMemory> {
-    let options = options(String::from_str(alloc, url)?, Vec::new(alloc));
-    let mut client = Pulsar::new(alloc, options)?;
-    let built = client.submit(Call::Build);
-    drop(client);
-    let (_, effects) = built?;
-    Ok(effects)
+/// The text of a build by a client with this URL.
+fn built(alloc: Global, url: &str) -> Result<String, NoMemory> {
+    let mut text = String::new(alloc);
+    let steps = driven(alloc, url, "call build")?;
+    for effects in &steps {
+        push_step(&mut text, 0, effects)?;
+    }
+    Ok(text)
 }
 
-fn is_connect(effects: &[Effect], host: &str, port: u16) -> bool {
-    match effects {
-        [
-            Effect::Connect {
-                link: 0,
-                host: to,
-                port: at,
-            },
-        ] => to.as_str() == host && *at == port,
-        _ => false,
-    }
+fn is_built(alloc: Global, url: &str, wanted: &str) -> Result<bool, NoMemory> {
+    let built = built(alloc, url)?;
+    Ok(built.as_str().lines().nth(1) == Some(wanted))
 }
 
-fn is_not_found(effects: &[Effect]) -> bool {
-    match effects {
-        [
-            Effect::Ended {
-                ticket: 0,
-                answer: Err(Error::Connection(e)),
-            },
-        ] => { matches!(e, ConnectionError::NotFound) }
-        _ => false,
-    }
-}
+/// URLs, and what a build does.
+const ADDRESSES: &str = "pulsar://127.0.0.1:6650 = connect 0 127.0.0.1 6650
+pulsar://h = connect 0 h 6650
+pulsar://h: = connect 0 h 6650
+PULSAR://broker.example:7/a?b#c = connect 0 broker.example 7
+pulsar://u:p@h:0 = connect 0 h 0
+pulsar://[::1]:65535 = connect 0 %5B::1%5D 65535
+ = ended 0 err connection.notfound
+h = ended 0 err connection.notfound
+h:6650 = ended 0 err connection.notfound
+pulsar: = ended 0 err connection.notfound
+pulsar:h = ended 0 err connection.notfound
+pulsar:/h = ended 0 err connection.notfound
+pulsar:// = ended 0 err connection.notfound
+pulsar:///h = ended 0 err connection.notfound
+pulsar://:7 = ended 0 err connection.notfound
+pulsar://h:65536 = ended 0 err connection.notfound
+pulsar://h:a = ended 0 err connection.notfound
+pulsar://h i = ended 0 err connection.notfound
+pulsar://[::1 = ended 0 err connection.notfound
+pulsar+ssl://h = ended 0 err connection.notfound
+http://h:6650 = ended 0 err connection.notfound
+pulsars://h = ended 0 err connection.notfound
+";
 
 #[test]
 fn the_address_is_that_of_the_url(rt: HostRuntime) -> Result<(), Fail> {
-    for (url, host, port) in [
-        ("pulsar://127.0.0.1:6650", "127.0.0.1", 6650),
-        ("pulsar://h", "h", 6650),
-        ("pulsar://h:", "h", 6650),
-        ("PULSAR://broker.example:7/a?b#c", "broker.example", 7),
-        ("pulsar://u:p@h:0", "h", 0),
-        ("pulsar://[::1]:65535", "[::1]", 65535),
-    ] {
-        assert!(rt; is_connect(&built(rt.alloc(), url)?, host, port), "{url}");
-    }
-    Ok(())
-}
-
-#[test]
-fn other_urls_have_no_address(rt: HostRuntime) -> Result<(), Fail> {
-    for url in [
-        "",
-        "h",
-        "h:6650",
-        "pulsar:",
-        "pulsar:h",
-        "pulsar:/h",
-        "pulsar://",
-        "pulsar:///h",
-        "pulsar://:7",
-        "pulsar://h:65536",
-        "pulsar://h:a",
-        "pulsar://h i",
-        "pulsar://[::1",
-        "pulsar+ssl://h",
-        "http://h:6650",
-        "pulsars://h",
-    ] {
-        assert!(rt; is_not_found(&built(rt.alloc(), url)?), "{url}");
+    for line in ADDRESSES.lines() {
+        let (url, wanted) = line.split_once(" = ").unwrap_or((line, ""));
+        assert!(rt; is_built(rt.alloc(), url, wanted)?, "{url}");
     }
     Ok(())
 }

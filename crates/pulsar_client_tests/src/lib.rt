@@ -1,10 +1,10 @@
-//! That the calls of the client that no script makes answer where there is memory, which no clause says, and URLs beside
-//! their addresses.
+//! What no script shows: events that are taken together, URLs beside their addresses, and sends whose receipts are asked for
+//! by their tickets.
 #![tactic(auto)]
 
 #[cfg(test)]
 mod calls;
 #[cfg(test)]
-mod consumers;
+mod help;
 #[cfg(test)]
 mod sends;

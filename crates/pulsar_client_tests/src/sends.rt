@@ -1,28 +1,34 @@
-//! Sends whose receipts are asked for by their tickets.
+//! Sends whose receipts are asked for by their tickets, and what was built.
 
-use crate::calls::{CONNECTED, LOCAL, options};
-use pulsar_client::{
-    Call, Event, MessageBuilder, Producer, ProducerBuilder, Pulsar, SendFuture, Taken,
-    message_from_text,
-};
+use crate::help::{LOCAL, events, options};
+use pulsar_client::{Call, Consumer, Producer, Pulsar, SendFuture, Taken};
 use pulsar_wire::{CommandSendReceipt, Error, NoMemory, ProducerError};
 use std::alloc::Global;
 use std::test::Fail;
 
-/// A topic that has no partitions.
-pub const COUNT: &[u8] =
-    b"\x00\x00\x00\x0f\x00\x00\x00\x0b\x08\x16\xb2\x01\x06\x08\x00\x10\x00\x18\x00";
+/// Behind a build: the producer of a topic, whose ticket is 1.
+const PRODUCER: &str = "opened 0
+bytes 0 0000000a0000000608031a020a00
+call producer topic=t name=p
+bytes 0 0000000f0000000b0816b20106080010001800
+bytes 0 00000028000000240818c2011f0a1770756c7361723a2f2f3132372e302e302e313a36363530180120012801
+bytes 0 0000000e0000000a08118a01050802120170
+";
 
-/// The broker of a topic.
-pub const BROKER: &[u8] =
-    b"\x00\x00\x00\x28\x00\x00\x00\x24\x08\x18\xc2\x01\x1f\x0a\x17pulsar://127.0.0.1:6650\x18\x01\x20\x01\x28\x01";
+/// Behind a build: the consumer of a topic, whose ticket is 1.
+const CONSUMER: &str = "opened 0
+bytes 0 0000000a0000000608031a020a00
+call consumer topic=t sub=s name=c
+bytes 0 0000000f0000000b0816b20106080010001800
+bytes 0 00000028000000240818c2011f0a1770756c7361723a2f2f3132372e302e302e313a36363530180120012801
+bytes 0 0000000a00000006080d6a020802
+";
 
-/// A producer was made.
-const SUCCESS: &[u8] = b"\x00\x00\x00\x0e\x00\x00\x00\x0a\x08\x11\x8a\x01\x05\x08\x02\x12\x01p";
+/// A message of that producer.
+const SEND: &str = "call send 1 data=a";
 
 /// The receipt of its first message.
-const RECEIPT: &[u8] =
-    b"\x00\x00\x00\x12\x00\x00\x00\x0e\x08\x07\x3a\x0a\x08\x00\x10\x00\x1a\x04\x08\x01\x10\x02";
+const RECEIPT: &str = "bytes 0 000000120000000e08073a0a080010001a0408011002";
 
 /// What a poll has told.
 #[derive(Clone, Copy, PartialEq, Eq)]
@@ -36,77 +42,65 @@ enum Told {
 fn of_poll(answer: &Option<Result<CommandSendReceipt, Error>>) -> Told {
     match answer {
         None => Told::Nothing,
-        Some(Ok(receipt)) => {
-            if receipt.sequence_id == 0 {
-                Told::Receipt
-            } else {
-                Told::Else
-            }
-        }
-        Some(Err(error)) => {
-            if is_lost(error) {
-                Told::Lost
-            } else {
-                Told::Else
-            }
-        }
+        Some(Ok(receipt)) => of_number(receipt.sequence_id),
+        Some(Err(error)) => of_error(error),
     }
 }
 
-fn is_lost(error: &Error) -> bool {
+fn of_number(number: u64) -> Told {
+    if number == 0 {
+        Told::Receipt
+    } else {
+        Told::Else
+    }
+}
+
+fn of_error(error: &Error) -> Told {
     match error {
-        Error::Producer(ProducerError::Custom(text)) => {
-            text.as_str() == "producer unexpectedly disconnected"
-        }
-        _ => false,
+        Error::Producer(ProducerError::Custom(text)) => of_text(text.as_str()),
+        _ => Told::Else,
     }
 }
 
-/// The events up to the producer of a topic, whose ticket is 1.
-fn building(alloc: Global) -> Result<Vec<Event>, NoMemory> {
-    let builder = ProducerBuilder::new(alloc)
-        .with_topic("t")?
-        .with_name("p")?
-        .build();
-    let mut events = Vec::new(alloc);
-    events.push(Event::Call(Call::Build))?;
-    events.push(Event::Opened(0))?;
-    events.push(Event::Bytes(0, CONNECTED.to_vec(alloc)?))?;
-    events.push(Event::Call(Call::Producer(builder)))?;
-    for piece in [COUNT, BROKER, SUCCESS] {
-        events.push(Event::Bytes(0, piece.to_vec(alloc)?))?;
-    }
-    Ok(events)
-}
-
-/// A message of that producer.
-fn sending(alloc: Global) -> Result<Call, NoMemory> {
-    let content = message_from_text(alloc, "a")?;
-    match MessageBuilder::new(alloc, 1).with_content(content).send() {
-        Ok((producer, message)) => Ok(Call::Send { producer, message }),
-        Err(_) => Err(NoMemory),
+fn of_text(text: &str) -> Told {
+    if text == "producer unexpectedly disconnected" {
+        Told::Lost
+    } else {
+        Told::Else
     }
 }
 
-/// What is told of a send: before its receipt, then, and after that; and of a ticket that was never drawn. A step that lacks memory shows
-/// in what is told.
-fn send(alloc: Global) -> Result<[Told; 4], NoMemory> {
-    let events = building(alloc)?;
-    let sending = sending(alloc)?;
-    let receipt = RECEIPT.to_vec(alloc)?;
-    let options = options(String::from_str(alloc, LOCAL)?, Vec::new(alloc));
-    let mut client = Pulsar::new(alloc, options)?;
-    for event in events {
+/// What is told of the send of a ticket.
+fn poll(client: &mut Pulsar, ticket: u64) -> Told {
+    of_poll(&SendFuture { ticket }.poll(client))
+}
+
+/// Takes the lines. One that lacks memory shows in what is told.
+fn take(client: &mut Pulsar, alloc: Global, lines: &str) -> Result<(), NoMemory> {
+    for event in events(alloc, lines)? {
         drop(client.step(event));
     }
-    drop(client.submit(sending));
-    let mut future = SendFuture { ticket: 2 };
-    let mut never = SendFuture { ticket: 99 };
-    let before = of_poll(&future.poll(&mut client));
-    drop(client.step(Event::Bytes(0, receipt)));
-    let then = of_poll(&future.poll(&mut client));
-    let after = of_poll(&future.poll(&mut client));
-    Ok([before, then, after, of_poll(&never.poll(&mut client))])
+    Ok(())
+}
+
+/// A client that has taken the lines behind its build.
+fn client(alloc: Global, lines: &str) -> Result<Box<Pulsar>, NoMemory> {
+    let made = Pulsar::new(alloc, options(alloc, LOCAL)?)?;
+    let mut client = Box::new(alloc, made)?;
+    drop(client.submit(Call::Build));
+    take(&mut client, alloc, lines)?;
+    Ok(client)
+}
+
+/// What is told of a send before its receipt, then, and after that; and of a ticket that was never drawn.
+fn send(alloc: Global) -> Result<[Told; 4], NoMemory> {
+    let mut client = client(alloc, PRODUCER)?;
+    take(&mut client, alloc, SEND)?;
+    let before = poll(&mut client, 2);
+    take(&mut client, alloc, RECEIPT)?;
+    let then = poll(&mut client, 2);
+    let after = poll(&mut client, 2);
+    Ok([before, then, after, poll(&mut client, 99)])
 }
 
 #[test]
@@ -116,7 +110,7 @@ fn a_receipt_is_told_once(rt: HostRuntime) -> Result<(), Fail> {
     Ok(())
 }
 
-/// Whether this is a producer of one topic.
+/// Whether this is the producer of the topic.
 fn is_built(producer: Option<&Producer>) -> bool {
     match producer {
         Some(producer) => producer.topic() == "t",
@@ -124,22 +118,42 @@ fn is_built(producer: Option<&Producer>) -> bool {
     }
 }
 
-/// Whether the producer of a ticket is lent as it was built, and its call answered once. A step that lacks memory shows in that.
+/// Whether the answer of a call is told once.
+fn is_told_once(client: &mut Pulsar, ticket: u64) -> bool {
+    let is_first = matches!(client.take_answer(ticket), Taken::Answer(Ok(_)));
+    is_first && matches!(client.take_answer(ticket), Taken::Unknown)
+}
+
+/// Whether the producer is lent under its ticket, and the answer of its call told once.
 fn lends(alloc: Global) -> Result<bool, NoMemory> {
-    let events = building(alloc)?;
-    let options = options(String::from_str(alloc, LOCAL)?, Vec::new(alloc));
-    let mut client = Pulsar::new(alloc, options)?;
-    for event in events {
-        drop(client.step(event));
-    }
+    let mut client = client(alloc, PRODUCER)?;
     let is_lent = is_built(client.producer_at(1)) && client.producer_at(0).is_none();
-    let is_first = matches!(client.take_answer(1), Taken::Answer(Ok(_)));
-    let is_unknown = matches!(client.take_answer(1), Taken::Unknown);
-    Ok(is_lent && is_first && is_unknown)
+    Ok(is_lent && is_told_once(&mut client, 1))
 }
 
 #[test]
 fn a_producer_is_lent(rt: HostRuntime) -> Result<(), Fail> {
     assert!(rt; lends(rt.alloc())?);
+    Ok(())
+}
+
+/// Whether this is a consumer of that subscription.
+fn is_subscribed(consumer: Option<&Consumer>) -> bool {
+    match consumer {
+        Some(consumer) => consumer.subscription() == "s",
+        None => false,
+    }
+}
+
+/// Whether the consumer is lent under its ticket, and the answer of its call told once.
+fn lends_consumer(alloc: Global) -> Result<bool, NoMemory> {
+    let mut client = client(alloc, CONSUMER)?;
+    let is_lent = is_subscribed(client.consumer_at(1)) && client.consumer_at(0).is_none();
+    Ok(is_lent && is_told_once(&mut client, 1))
+}
+
+#[test]
+fn a_consumer_is_lent(rt: HostRuntime) -> Result<(), Fail> {
+    assert!(rt; lends_consumer(rt.alloc())?);
     Ok(())
 }

@@ -1,10 +1,8 @@
-//! Worked cases of consumers.
+//! What no worked case shows of consumers: their values, their names, and what is left at an end.
 #![tactic(auto)]
 
 #[cfg(test)]
 mod messages;
-#[cfg(test)]
-mod plans;
 #[cfg(test)]
 mod topic;
 #[cfg(test)]

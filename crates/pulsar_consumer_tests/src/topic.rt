@@ -6,13 +6,11 @@ use pulsar_consumer::{ConsumerConfig, ConsumerOptions, Ending, Polled, SubType, 
 use pulsar_frame::message::Message;
 use pulsar_frame::payload::Payload;
 use pulsar_link::content::{Received, Subscribed};
-use pulsar_link::items::Unread as Item;
 use pulsar_link::raw_call::Subscription;
-use pulsar_plans::content::{Refusal, Text};
+use pulsar_plans::content::Text;
 use pulsar_wire::commands::base::{BaseCommand, Body};
 use pulsar_wire::commands::consumer::delivery::{CommandMessage, CommandReachedEndOfTopic};
 use pulsar_wire::commands::metadata::MessageMetadata;
-use pulsar_wire::error::ConnectionError;
 use std::alloc::Global;
 use std::test::Fail;
 use url::Url;
@@ -77,54 +75,8 @@ fn polls(consumer: &mut TopicConsumer) -> Result<u8, Fail> {
     }
 }
 
-/// One frame of 501 messages leaves 499 permits of 1000, and one of 2124 leaves 1124 too few.
-#[test]
-fn a_flow_makes_up_what_a_frame_cost(rt: HostRuntime) -> Result<(), Fail> {
-    let alloc = rt.alloc();
-    let mut consumer = consumer(alloc, None)?;
-    assert!(rt; consumer.ask() == Some(1000));
-    assert!(rt; consumer.ask().is_none());
-    consumer.hear(0, message(alloc, Some(500), b"")?)?;
-    assert!(rt; consumer.ask().is_none());
-    consumer.hear(0, message(alloc, None, b"a")?)?;
-    assert!(rt; consumer.ask() == Some(501));
-    consumer.hear(0, message(alloc, Some(2124), b"")?)?;
-    assert!(rt; consumer.ask() == Some(2124));
-    assert!(rt; consumer.ask().is_none());
-    Ok(())
-}
-
 /// Each entry: the size of what it says, the length of its payload, and a letter.
 const ABC: &[u8] = b"\x00\x00\x00\x02\x18\x01a\x00\x00\x00\x02\x18\x01b\x00\x00\x00\x02\x18\x01c";
-
-/// The first byte of the message that a poll gives.
-fn letter(consumer: &mut TopicConsumer) -> Result<Option<u8>, Fail> {
-    match consumer.poll(7)? {
-        Polled::Item(item) => Ok(first(item.into_inner())),
-        Polled::Empty | Polled::End => Ok(None),
-    }
-}
-
-fn first(item: Item) -> Option<u8> {
-    match item {
-        Item::Message { payload, .. } => payload.bytes.first().copied(),
-        Item::Failure(_) => None,
-    }
-}
-
-#[test]
-fn a_queue_of_one_gives_a_batch_in_order(rt: HostRuntime) -> Result<(), Fail> {
-    let alloc = rt.alloc();
-    let mut consumer = consumer(alloc, Some(1))?;
-    consumer.hear(0, message(alloc, Some(3), ABC)?)?;
-    assert!(rt; letter(&mut consumer)? == Some(b'a'));
-    assert!(rt; letter(&mut consumer)? == Some(b'b'));
-    assert!(rt; letter(&mut consumer)? == Some(b'c'));
-    assert!(rt; polls(&mut consumer)? == 0);
-    assert!(rt; consumer.messages_received() == 3);
-    assert!(rt; consumer.last_message_received() == Some(7));
-    Ok(())
-}
 
 #[test]
 fn what_came_is_given_behind_a_lost_link(rt: HostRuntime) -> Result<(), Fail> {
@@ -137,18 +89,6 @@ fn what_came_is_given_behind_a_lost_link(rt: HostRuntime) -> Result<(), Fail> {
     consumer.hear(0, message(alloc, None, b"b")?)?;
     assert!(rt; polls(&mut consumer)? == 2);
     assert!(rt; polls(&mut consumer)? == 0);
-    Ok(())
-}
-
-#[test]
-fn why_it_is_not_subscribed_again_is_its_last_item(rt: HostRuntime) -> Result<(), Fail> {
-    let alloc = rt.alloc();
-    let mut consumer = consumer(alloc, None)?;
-    consumer.lose(0);
-    consumer.fail(Refusal::in_connection(alloc, ConnectionError::NotFound)?)?;
-    assert!(rt; polls(&mut consumer)? == 3);
-    assert!(rt; polls(&mut consumer)? == 1);
-    assert!(rt; consumer.messages_received() == 0);
     Ok(())
 }
 

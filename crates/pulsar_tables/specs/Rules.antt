@@ -86,7 +86,8 @@ use Rattle.pulsar_tables.specs.Producers.{Producers, advice, batches_in, drawn, 
 use Rattle.pulsar_calls.specs.Content.{next_advice}
 use Rattle.pulsar_tables.specs.View.{Addresses, Base, Chosen, Links, Options, Seat, Tickets, Turned, View, answer_at, arrival_at, is_live, later, may_call, room_of, told_some, turned, url_at, ways_of}
 use Rattle.pulsar_consumer_table.specs.Consumers as consumer
-pub use Rattle.pulsar_tables.specs.Reading.{notice, stopped_one, tells, unless}
+pub use Rattle.pulsar_calls.specs.Notices.{notice, stopped_one}
+pub use Rattle.pulsar_tables.specs.Reading.{tells, unless}
 use Rattle.pulsar_consumer_table.specs.Notices.{again_at, polled_due, revived_at}
 use Rattle.pulsar_tables.specs.Reading.{acknowledges, closed_at, flow_said, heard_on, leaves, lost_on, made_due, numbering_said, recalled_said, revived_said, serves_by, sought_said, stopped_on, subscribes, tells_word}
 use Rattle.pulsar_consumer_table.specs.Consumers.{Consumers, is_heard, over_rows}

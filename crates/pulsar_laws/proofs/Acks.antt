@@ -72,7 +72,8 @@ use Rattle.pulsar_laws.proofs.Drawing.{Every, here}
 use Rattle.pulsar_laws.proofs.Granted.{BeginsSo, GivenBy, IsLedSo, does_from, granted_by, grants_given}
 use Rattle.pulsar_laws.proofs.Left.{left_each}
 use Rattle.pulsar_laws.proofs.Made.{IsMadeAt, calls_are_made_lem}
-use Rattle.pulsar_laws.proofs.Mild.{IsMildCommand, IsMildPlan, IsMildTurn, MildBegun, MildOutcome, MildPlan, MildSought, begins_mild, direct_mild, is_direct, told_mild}
+use Rattle.pulsar_laws.proofs.Mild.{IsMildPlan, IsMildTurn, MildBegun, MildOutcome, MildPlan, begins_mild, direct_mild, is_direct, told_mild}
+use Rattle.pulsar_laws.proofs.MildSearches.{IsMildCommand, MildSought}
 use Rattle.pulsar_laws.proofs.Same.{same_self, same_who}
 use Rattle.pulsar_producer.specs.Wanted.{ProducerWanted}
 use Rattle.pulsar_calls.specs.declared.act.Says.{Says}

@@ -20,7 +20,8 @@ use Rattle.pulsar_tables.specs.declared.addresses.Pause.{Pause}
 use Rattle.pulsar_tables.specs.declared.addresses.Series.{Series}
 use Rattle.pulsar_tables.specs.declared.addresses.Series.TheVariants.{Nobody, Runs, Pauses, Serves}
 use Rattle.pulsar_tables.specs.Alarms.{rings}
-use Rattle.pulsar_laws.specs.Laws.{AttemptsFollow, Begun, Followed, base_of}
+use Rattle.pulsar_laws.specs.Laws.{base_of}
+use Rattle.pulsar_laws.specs.AddressLaws.{AttemptsFollow, Begun, Followed}
 use Rattle.pulsar_tables.specs.Links.{Change, IsOver}
 use Rattle.pulsar_tables.specs.Rules.{at_once, gets_from, tells, tries_again}
 use Rattle.pulsar_client.specs.Run.{Entry, Begins, Then, agenda, view}

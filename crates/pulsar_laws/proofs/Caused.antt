@@ -2,7 +2,7 @@
 use Rattle.std.proofs.Common.{◌≡◌, ◌⊎◌, inl, inr, ◌∙◌, sym, ap, subst, ℕ, List, ◌∷◌, ◌++◌, refl, map, Bool, true, false, cond, Option, Some, None, Result, Ok, Err, []}
 use Rattle.std.specs.List.{filter_map, flat_map}
 use Rattle.std.specs.Option.{option_map, option_to_list}
-use Rattle.pulsar_run.specs.Laws.{Arises, In, InOne, InThisStep}
+use Rattle.pulsar_run.specs.Laws.{Arises, In, InOne}
 use Rattle.pulsar_run.proofs.Arising.{acts_arise_lem}
 use Rattle.pulsar_wire.specs.declared.error.ConnectionError.{ConnectionError}
 use Rattle.pulsar_wire.specs.declared.error.IoKind.{IoKind}
@@ -35,7 +35,7 @@ use Rattle.pulsar_tables.specs.Alarms.{rings}
 use Rattle.pulsar_laws.specs.Laws.{AttemptEnds, Cause, CutsSo, OutcomesAreCaused, LineEnds, RequestEnds, base_of, IsToldBy, GrantsSo, BuiltDue, PolledDue, RevivedDue, SaysSo}
 use Rattle.pulsar_tables.specs.Links.{arrival, change_at, change_in, closed_by, line_places, new_places, times_out}
 use Rattle.pulsar_procedures.specs.Plan.{closed_notice}
-use Rattle.pulsar_tables.specs.Rules.{alone, answered_by, answered_on, at_once, caused, causes, dropped, ended_by, ended_on, failed, failed_by, failed_on, failed_over, failed_so, fails_so, further, gets_from, lost, lost_so, lost_with, moved_on, notice, opens, over_links, parts, served_by, served_on, stop_act, stopped_at, stopped_with, tells, tells_asker, told_at, waiters_of, woken, draw_outcome, draw_said, finds, grants, joins, number_said, readied, ready_notice, recalls, stopped_call, stopped_one, takes_turn, turn_notice}
+use Rattle.pulsar_tables.specs.Rules.{answered_by, answered_on, at_once, caused, causes, dropped, ended_by, ended_on, failed, failed_by, failed_on, failed_over, failed_so, fails_so, further, gets_from, lost, lost_so, lost_with, moved_on, notice, opens, over_links, parts, served_by, served_on, stop_act, stopped_at, stopped_with, tells, tells_asker, told_at, waiters_of, woken, draw_outcome, draw_said, finds, grants, joins, number_said, readied, ready_notice, recalls, stopped_call, stopped_one, takes_turn, turn_notice}
 use Rattle.pulsar_client.specs.Run.{Entry, Begins, Then, rules, view, IsRun}
 use Rattle.pulsar_tables.specs.View.{Addresses, Options, Seat, View, answer_at, pause_for, pause_of, turned_by, room_of, arrival_at, closing, is_asked, member_on, setup_of, url_at}
 use Rattle.pulsar_calls.specs.Who.{in_turn, is_same, turn_of, ticket_of}
@@ -73,81 +73,7 @@ use Rattle.pulsar_calls.specs.declared.act.Word.TheVariants as word
 use Rattle.pulsar_calls.specs.declared.act.Makes.TheVariants as makes
 use Rattle.pulsar_consumer_table.specs.Consumers as consumer
 use Rattle.pulsar_consumer.specs.Topic as reader
-
--- LISTS
-
-step_map : (o : Options) (P Q : Entry → List Entry → Type 0) → ((e : Entry) (older : List Entry) → IsRun o (e ∷ older) → P e older → Q e older) →
-    (log : List Entry) → IsRun o log → InThisStep P log → InThisStep Q log
-step_map o P Q f [] run h = absurd h
-step_map o P Q f (Begins e ∷ log) run h = f (Begins e) log run h
-step_map o P Q f (Then a ∷ log) run (inl h) = inl (f (Then a) log run h)
-step_map o P Q f (Then a ∷ log) run (inr h) = inr (step_map o P Q f log run.0 h)
-
-in_append : {A : Type 0} (x : A) (xs ys : List A) → In x (xs ++ ys) → In x xs ⊎ In x ys
-in_append x [] ys h = inr h
-in_append x (y ∷ xs) ys (inl e) = inl (inl e)
-in_append x (y ∷ xs) ys (inr h) = elim (in_append x xs ys h) [ inl i ↦ inl (inr i) | inr i ↦ inr i ]
-
--- what is in a list of lists is in one of them
-in_flat : {A B : Type 0} (f : A → List B) (y : B) (xs : List A) → In y (flat_map f xs) → (x : A) × In x xs × In y (f x)
-in_flat f y [] h = absurd h
-in_flat f y (x ∷ xs) h = elim (in_append y (f x) (flat_map f xs) h) [
-  | inl i ↦ (x, inl refl, i)
-  | inr i ↦ let k = in_flat f y xs i in (k.0, inr k.1, k.2)
-]
-
-in_each : {A : Type 0} (P : A → Type 0) (x : A) (xs : List A) → In x xs → Each P xs → P x
-in_each P x [] i k = absurd i
-in_each P x (y ∷ xs) (inl e) k = subst P (sym e) k.0
-in_each P x (y ∷ xs) (inr i) k = in_each P x xs i k.1
-
-in_map : {A : Type 0} (f : A → Notice) (n : Notice) (xs : List A) → In n (map f xs) → (x : A) × In x xs × (n ≡ f x)
-in_map f n [] h = absurd h
-in_map f n (x ∷ xs) (inl e) = (x, inl refl, e)
-in_map f n (x ∷ xs) (inr h) = let k = in_map f n xs h in (k.0, inr k.1, k.2)
-
--- what is told is a notice of the list
-in_told : (n : Notice) (ns : List Notice) → In (Told n) (map Told ns) → In n ns
-in_told n [] h = absurd h
-in_told n (m ∷ ns) (inl e) = inl (let f : Told n ≡ Told m = e in cc)
-in_told n (m ∷ ns) (inr h) = inr (in_told n ns h)
-
--- what some are told together, and what each is told alone
-in_opened : (n : Notice) (ns : List Notice) → InOne (Told n) (map (map Told) (opens ns)) → In n ns
-in_opened n [] h = absurd h
-in_opened n (m ∷ ns) (inl h) = in_told n (m ∷ ns) h
-in_opened n (m ∷ ns) (inr h) = absurd h
-
-in_alone : (n : Notice) (ns : List Notice) → InOne (Told n) (map (map Told) (map alone ns)) → In n ns
-in_alone n [] h = absurd h
-in_alone n (m ∷ ns) (inl (inl e)) = inl (let f : Told n ≡ Told m = e in cc)
-in_alone n (m ∷ ns) (inl (inr h)) = absurd h
-in_alone n (m ∷ ns) (inr h) = inr (in_alone n ns h)
-
--- who asked for one of these places
-record IsAsker (says : ℕ → Outcome) (askers : ℕ → Option Who) (places : List ℕ) (n : Notice) : Type 0 where
-  place : ℕ
-  listed : In place places
-  asker : askers place ≡ Some n.who
-  told : n.outcome ≡ says place
-
-in_askers : (says : ℕ → Outcome) (askers : ℕ → Option Who) (places : List ℕ) (n : Notice) → In n (filter_map (tells_asker says askers) places) →
-    IsAsker says askers places n
-in_askers says askers [] n h = absurd h
-in_askers says askers (p ∷ ps) n h = one (askers p) refl (in_askers says askers ps n) h
-  where
-    later : IsAsker says askers ps n → IsAsker says askers (p ∷ ps) n
-    later k = record { place = k.place; listed = inr k.listed; asker = k.asker; told = k.told }
-
-    one : (r : Option Who) → askers p ≡ r → (In n (filter_map (tells_asker says askers) ps) → IsAsker says askers ps n) →
-        In n (filter_map (tells_asker says askers) (p ∷ ps)) →
-        IsAsker says askers (p ∷ ps) n
-    one None e more h = later (more (rw e at h))
-    one (Some w) e more h = split (rw e at h)
-      where
-        split : In n (notice w (says p) ∷ filter_map (tells_asker says askers) ps) → IsAsker says askers (p ∷ ps) n
-        split (inl f) = record { place = p; listed = inl refl; asker = e ∙ ap Some (sym (ap (λ m. m.who) f)); told = ap (λ m. m.outcome) f }
-        split (inr i) = later (more i)
+use Rattle.pulsar_laws.proofs.CausedLists.{in_alone, in_append, in_askers, in_each, in_flat, in_map, in_opened, in_told, step_map}
 
 -- WHO IS TOLD AT ONCE
 

@@ -17,7 +17,8 @@ use Rattle.pulsar_calls.specs.declared.act.Part.TheVariants.{ToLink, Rings}
 use Rattle.pulsar_producer.specs.Routing.{Policy}
 use Rattle.pulsar_tables.specs.Alarms.{ringing, rings}
 use Rattle.pulsar_calls.specs.Content.{Heard, Ticked}
-use Rattle.pulsar_laws.specs.Laws.{AlarmsAreTicked, DeadlinesAreTicked, IdleEnds, IsDueAt, IsIdleAt, IsQuietAt, RingsAt, SignsOfLife}
+use Rattle.pulsar_laws.specs.Laws.{AlarmsAreTicked, DeadlinesAreTicked, IsDueAt, RingsAt}
+use Rattle.pulsar_laws.specs.AddressLaws.{IdleEnds, IsIdleAt, IsQuietAt, SignsOfLife}
 use Rattle.pulsar_tables.specs.Rules.{brings, due_part, idle_act, is_idle, keeps_alive, may_ping, over_links, rung}
 use Rattle.pulsar_client.specs.Run.{Entry, Begins, Then, rules, view}
 use Rattle.pulsar_tables.specs.View.{Options, Seat, View, is_live}

@@ -57,7 +57,8 @@ use Rattle.pulsar_laws.proofs.Consuming.{StaysSo, either_so}
 use Rattle.pulsar_laws.proofs.Granted.{BeginsSo, IsLedSo, does_from}
 use Rattle.pulsar_laws.proofs.InTurn.{stand_told}
 use Rattle.pulsar_laws.proofs.Left.{left_each}
-use Rattle.pulsar_laws.proofs.Mild.{Any, IsMildCommand, IsMildWish, MildService, MildTurn, is_own, resume_mild}
+use Rattle.pulsar_laws.proofs.Mild.{MildService, resume_mild}
+use Rattle.pulsar_laws.proofs.MildSearches.{Any, IsMildCommand, IsMildWish, MildTurn, is_own}
 
 none_some : {A : Type 0} {x : A} → None ≡ Some x → ⊥
 none_some {A} {x} h = cc

@@ -42,6 +42,7 @@ pub mod Productions
 pub mod Counted
 pub mod Failing
 pub mod Failures
+pub mod CausedLists
 pub mod Caused
 pub mod Newest
 pub mod Alone
@@ -51,6 +52,7 @@ pub mod Written
 pub mod Lone
 pub mod Polls
 pub mod Ended
+pub mod MildSearches
 pub mod Mild
 pub mod Acks
 pub mod Flows
@@ -82,6 +84,7 @@ pub mod InTurn
 pub mod OnceSent
 pub mod Receipts
 pub mod Rise
+pub mod TurnActs
 pub mod TurnRun
 pub mod Gathered
 pub mod Parted
@@ -91,4 +94,5 @@ pub mod Sharing
 pub mod Telling
 pub mod Gathering
 pub mod Users
+pub mod IdleCalls
 pub mod Idlers

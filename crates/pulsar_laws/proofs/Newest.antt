@@ -12,7 +12,8 @@ use Rattle.pulsar_tables.specs.declared.addresses.Pause.{Pause}
 use Rattle.pulsar_tables.specs.declared.addresses.Series.{Series}
 use Rattle.pulsar_tables.specs.declared.addresses.Series.TheVariants.{Nobody, Runs}
 use Rattle.pulsar_calls.specs.Content.{Ticked}
-use Rattle.pulsar_laws.specs.Laws.{ClockIs, SeriesIsNewest, newest_turn, turn_of, turn_on, turn_over}
+use Rattle.pulsar_laws.specs.Laws.{ClockIs}
+use Rattle.pulsar_laws.specs.AddressLaws.{SeriesIsNewest, newest_turn, turn_of, turn_on, turn_over}
 use Rattle.pulsar_tables.specs.Links.{Change, Remains, Becomes, IsOver}
 use Rattle.pulsar_client.specs.Run.{Begins, Then, view}
 use Rattle.pulsar_tables.specs.View.{Base, Turned, View, base_on, base_over, base_turned, begun, begun_live, nobody, turned, waits_for, waits_on}

@@ -40,7 +40,8 @@ use Rattle.pulsar_laws.proofs.Fitting.{is_settling}
 use Rattle.pulsar_laws.proofs.Follow.{same_is}
 use Rattle.pulsar_laws.proofs.Gathered.{part_from}
 use Rattle.pulsar_laws.proofs.Granted.{BeginsSo, IsLedSo, does_from, tell_said, tell_settling}
-use Rattle.pulsar_laws.proofs.Idlers.{Idle, IdleBy, OnlyStarts, StartsBy, did_idle, idle_log, idle_older, is_idle, no_batch, no_turn_given, only_open, only_start}
+use Rattle.pulsar_laws.proofs.Idlers.{Idle, IdleBy, did_idle, idle_log, idle_older, is_idle, no_batch, no_turn_given, only_open}
+use Rattle.pulsar_laws.proofs.IdleCalls.{OnlyStarts, StartsBy, only_start}
 use Rattle.pulsar_laws.proofs.InTurn.{self_same}
 use Rattle.pulsar_laws.proofs.Led.{deeds_follow_lem}
 use Rattle.pulsar_laws.proofs.Once.{ends_once_lem}

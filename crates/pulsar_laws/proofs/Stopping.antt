@@ -36,7 +36,8 @@ use Rattle.pulsar_procedures.specs.declared.plan.Plan.{Plan}
 use Rattle.pulsar_plans.specs.declared.turn.Ways.{Ways}
 use Rattle.pulsar_tables.specs.Alarms.{clear, rings}
 use Rattle.pulsar_calls.specs.Content.{Asked, Bytes, Heard, lacks_tickets, shares}
-use Rattle.pulsar_laws.specs.Laws.{NoneAfterStop, stopped}
+use Rattle.pulsar_laws.specs.Laws.{stopped}
+use Rattle.pulsar_laws.specs.AddressLaws.{NoneAfterStop}
 use Rattle.pulsar_tables.specs.Links.{line_places}
 use Rattle.pulsar_calls.specs.Content.{numbers_from}
 use Rattle.pulsar_procedures.specs.Plan.{fails, verdict}

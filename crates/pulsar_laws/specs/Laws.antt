@@ -1,5 +1,5 @@
 -- What follows from the definition of a good run, in plain words.
-use Rattle.std.specs.Prelude.{◌≡◌, ◌⊎◌, ℕ, ◌+◌, ◌-◌, ◌^◌, ◌≤◌, ◌==◌, bytes_eq, ◌&&◌, ◌||◌, not, Bool, true, false, if◌then◌else◌, List, [], ◌∷◌, ◌++◌, Option, Some, None, Result, Ok, Err, pos}
+use Rattle.std.specs.Prelude.{◌≡◌, ◌⊎◌, ℕ, ◌+◌, ◌-◌, ◌^◌, ◌≤◌, ◌==◌, ◌&&◌, ◌||◌, not, Bool, true, false, if◌then◌else◌, List, [], ◌∷◌, ◌++◌, Option, Some, None, Result, Ok, Err, pos}
 use Rattle.std.specs.List.{flat_map, list_any}
 use Rattle.std.specs.Option.{is_some, option_to_list}
 use Rattle.pulsar_run.specs.Laws.{Arises, In, InThisStep}
@@ -15,7 +15,6 @@ use Rattle.pulsar_session.specs.declared.states.Asked.{Asked as Placed}
 use Rattle.pulsar_session.specs.Failures.{ProducerClosed, OfProducer, ConsumerClosed, OfConsumer, DiscoveryConnection, DiscoveryCanceled, DiscoveryFault, DiscoveryNotFound, DiscoveryShutdown, DnsLookup, Dummy, Exhausted, Failure, Fault, OfConnection, OfDiscovery, OfPartialSend, Query, fault, Disconnected}
 use Rattle.pulsar_session.specs.Laws.{bytes_fed, messages_taken}
 use Rattle.pulsar_session.specs.Link.{Act as Act', Asks, Feeds, Setup, came, due, ends, is_spent}
-use Rattle.pulsar_link.specs.Items.{Item, Given, Faulty}
 use Rattle.pulsar_link.specs.Messages.{Reply, read}
 use Rattle.pulsar_link.specs.Request.{closed_consumer, request_number}
 use Rattle.pulsar_plans.specs.Address.{Place, address_key, is_reachable}
@@ -32,12 +31,11 @@ use Rattle.pulsar_calls.specs.declared.act.Action.{Action}
 use Rattle.pulsar_calls.specs.declared.act.Action.TheVariants.{Get, Ask, TakeTurn, PassTurn, Draw, Recall, Remake, Number, Find, Shut, Store, Flush, TakeBatch, TakeNumber, FindConsumer, TakeFlow, RecallConsumer, Revive, FailConsumer, Tell, TellAll, StopAll, Rest}
 use Rattle.pulsar_calls.specs.declared.act.Alarm.{Alarm}
 use Rattle.pulsar_calls.specs.declared.act.Alarm.TheVariants.{Retry, Wake, Batch, KeepAlive, CheckIdle}
-use Rattle.pulsar_calls.specs.declared.act.Arrival.{Arrival}
-use Rattle.pulsar_calls.specs.declared.act.Arrival.TheVariants.{Nothing, Readied, Settles, Gives, Passes, Bad}
+use Rattle.pulsar_calls.specs.declared.act.Arrival.TheVariants.{Readied, Settles, Gives}
 use Rattle.pulsar_calls.specs.declared.act.End.{End}
-use Rattle.pulsar_calls.specs.declared.act.End.TheVariants.{Overdue, Idles}
+use Rattle.pulsar_calls.specs.declared.act.End.TheVariants.{Overdue}
 use Rattle.pulsar_calls.specs.declared.act.LinkAct.{LinkAct}
-use Rattle.pulsar_calls.specs.declared.act.LinkAct.TheVariants.{Reads, Drains, Pings, Ends}
+use Rattle.pulsar_calls.specs.declared.act.LinkAct.TheVariants.{Reads, Drains, Ends}
 use Rattle.pulsar_calls.specs.declared.act.Makes.{Makes}
 use Rattle.pulsar_calls.specs.declared.act.Makes.TheVariants as makes
 use Rattle.pulsar_calls.specs.declared.act.Share.{Share}
@@ -54,20 +52,18 @@ use Rattle.pulsar_calls.specs.declared.act.Who.TheVariants.{Call, Consumer, Prod
 use Rattle.pulsar_calls.specs.declared.act.Word.{Word}
 use Rattle.pulsar_calls.specs.declared.act.Word.TheVariants as word
 use Rattle.pulsar_calls.specs.declared.content.Joining.{Joining}
-use Rattle.pulsar_tables.specs.declared.addresses.Pause.{Pause}
-use Rattle.pulsar_tables.specs.declared.addresses.Series.{Series}
-use Rattle.pulsar_tables.specs.declared.addresses.Series.TheVariants.{Nobody, Runs, Pauses, Serves}
+use Rattle.pulsar_tables.specs.declared.addresses.Series.TheVariants.{Runs, Serves}
 use Rattle.pulsar_procedures.specs.declared.plan.Plan.{Plan}
 use Rattle.pulsar_procedures.specs.declared.plan.Turn.{Turn}
 use Rattle.pulsar_calls.specs.Content.{Asked, Bytes, Ticked, Said, Shown, Queued, Write, Failed, lacks_tickets, shares}
 use Rattle.pulsar_tables.specs.Effects.{effect_below, is_before3}
-use Rattle.pulsar_tables.specs.Links.{Change, Remains, Becomes, IsOver, arrival, call_of, closed_by, line_places, new_places}
+use Rattle.pulsar_tables.specs.Links.{arrival, call_of, closed_by, line_places, new_places}
 use Rattle.pulsar_calls.specs.Content.{numbers_from}
 use Rattle.pulsar_calls.specs.Parts.{outcomes_of}
 use Rattle.pulsar_tables.specs.Producers.{advice, turn_passed, drawn, is_settled_at, is_woken, link_at, next_batch_at, number_drawn, numbers_at, recalled, stored_at, turn_taken, unsent_at, waiting_at}
 use Rattle.pulsar_producer.specs.Topic as topic
 use Rattle.pulsar_procedures.specs.Plan.{begins, failure_of, fails, fault_of, reply_says, told}
-use Rattle.pulsar_tables.specs.Rules.{below, call_part, dropped, fails_so, is_idle, lost, notice, starts, stopped_with, brings}
+use Rattle.pulsar_tables.specs.Rules.{below, call_part, dropped, fails_so, lost, notice, starts, stopped_with, brings}
 use Rattle.pulsar_client.specs.Run.{Entry, Begins, Then, Good, IsRun, Rests, Step, agenda, rules, steps, tickets_in, view}
 use Rattle.pulsar_consumer_table.specs.Consumers as consumer
 use Rattle.pulsar_consumer_table.specs.Consumers.{Member}
@@ -76,7 +72,7 @@ use Rattle.pulsar_consumer_table.specs.declared.row.Sought.TheVariants.{Gone}
 use Rattle.pulsar_consumer.specs.Plans.{in_use, not_found}
 use Rattle.pulsar_consumer.specs.declared.building.Order.{Order}
 use Rattle.pulsar_consumer.specs.Topic as reader
-use Rattle.pulsar_tables.specs.View.{Base, Options, Seat, Turned, View, answer_at, arrival_at, builds, closing, is_asked, member_on, pause_of, setup, setup_of, turned, url_at, waits_on, room_of}
+use Rattle.pulsar_tables.specs.View.{Base, Options, Seat, View, answer_at, arrival_at, builds, closing, is_asked, member_on, pause_of, setup, setup_of, url_at, room_of}
 use Rattle.pulsar_calls.specs.Who.{in_turn, is_same, rank, ticket_of, turn_of as taken_as}
 use Rattle.pulsar_run.specs.Laws as run
 use Rattle.pulsar_session.specs.declared.states.Asked.TheVariants as placed
@@ -666,88 +662,6 @@ part_below a b = is_before3 (part_rank a) (part_rank b)
 
 abbrev pub TicksInOrder : Type 0
 TicksInOrder = (o : Options) (log : List Entry) (now : ℕ) → InOrder part_below (brings o.policies (view o log) (Ticked now))
-
--- THE ADDRESSES
-
--- what runs for an address, by the newest of these: an attempt began, a link of it became ready, a link of it ended, the client was stopped
-abbrev pub turn_over : (link : ℕ) → Option Pause → Series
-turn_over l None = Nobody
-turn_over l (Some p) = Pauses l
-
-abbrev pub turn_of : (link : ℕ) → Change → Option Pause → Series → Series
-turn_of l Remains pause s = s
-turn_of l Becomes pause s = Serves l
-turn_of l IsOver pause s = turn_over l pause
-
-abbrev pub turn_on : (key : List ℕ) → Option Turned → Series → Series
-turn_on key None s = s
-turn_on key (Some t) s = if bytes_eq t.key key then turn_of t.link t.change t.pause s else s
-
-abbrev pub newest_turn : Options → (key : List ℕ) → List Entry → Series
-newest_turn o key [] = Nobody
-newest_turn o key (Then (Dials p starter retries) ∷ log) =
-    if bytes_eq (address_key p) key then Runs starter retries (view o log).links.started else newest_turn o key log
-newest_turn o key (Then (Comes (ToLink l x)) ∷ log) = turn_on key (turned (view o log) (Comes (ToLink l x))) (newest_turn o key log)
-newest_turn o key (Then (Does who StopAll) ∷ log) =
-    if waits_on (view o log).addresses (view o log).alarms key then Nobody else newest_turn o key log
-newest_turn o key (_ ∷ log) = newest_turn o key log
-
-abbrev pub SeriesIsNewest : Type 0
-SeriesIsNewest = (o : Options) (log : List Entry) (key : List ℕ) → ((view o log).addresses.base key).series ≡ newest_turn o key log
-
--- An attempt begins a series where one gets a link of an address that can be reached and for which nothing runs; or it follows one that
--- failed so that this may help, once its alarm has rung, and at most as many times as the options allow.
-abbrev pub Begun : Options → Place → Who → Entry → List Entry → Type 0
-Begun o p starter e older =
-    (e ≡ Then (Does starter (Get p))) × (is_reachable p ≡ true) × ((base_of (view o older) p).series ≡ Nobody)
-
-abbrev pub Followed : Options → Place → Who → (retries : ℕ) → Entry → List Entry → Type 0
-Followed o p starter n e older =
-    (l before : ℕ) × (e ≡ Then (Comes (Rings (Retry l)))) × (rings (view o older).now (Retry l) (view o older).alarms ≡ true)
-    × ((view o older).addresses.pause l ≡ Some (record { address = p; starter = starter; retries = before }))
-    × (n ≡ before + 1) × (n ≤ o.chosen.connection.max_retries)
-
-abbrev pub Attempted : Options → Place → Who → (retries : ℕ) → List Entry → Type 0
-Attempted o p starter n log =
-    (e : Entry) × (older : List Entry) × (log ≡ e ∷ older) × ((Begun o p starter e older × (n ≡ 0)) ⊎ Followed o p starter n e older)
-
-abbrev pub AttemptsFollow : Type 0
-AttemptsFollow = (o : Options) (log : List Entry) (p : Place) (starter : Who) (n : ℕ) →
-    IsRun o (Then (Dials p starter n) ∷ log) → Attempted o p starter n log
-
--- from a Stop on no attempt begins
-abbrev pub NoneAfterStop : Type 0
-NoneAfterStop = (o : Options) (log : List Entry) (p : Place) (starter : Who) (n : ℕ) → IsRun o (Then (Dials p starter n) ∷ log) → stopped log ≡ false
-
--- one link at a time is of an address: the one that its series names
-abbrev pub names_link : ℕ → Series → Bool
-names_link l Nobody = false
-names_link l (Runs starter retries link) = link == l
-names_link l (Pauses link) = false
-names_link l (Serves link) = link == l
-
-abbrev pub OneLinkEach : Type 0
-OneLinkEach = (o : Options) (log : List Entry) (l : ℕ) (seat : Seat) → IsRun o log → (view o log).links.live l ≡ Some seat →
-    names_link l (base_of (view o log) seat.address).series ≡ true
-
--- a link ends for want of use only where it is ready, was not got for so long, and nothing uses it, as the check for that comes
-abbrev pub IsIdleAt : Options → (link : ℕ) → Entry → List Entry → Type 0
-IsIdleAt o l e older =
-    (seat : Seat) × (e ≡ Then (Comes (Rings CheckIdle))) × (rings (view o older).now CheckIdle (view o older).alarms ≡ true)
-    × ((view o older).links.live l ≡ Some seat) × (is_idle (view o older) l seat ≡ true)
-
-abbrev pub IdleEnds : Type 0
-IdleEnds = (o : Options) (log : List Entry) (l : ℕ) → IsRun o (Then (Comes (ToLink l (Ends Idles))) ∷ log) →
-    InThisStep (IsIdleAt o l) log
-
--- A link is asked for a sign of life only where the alarm for that rings, and none that it was asked for earlier is waited for.
-abbrev pub IsQuietAt : Options → (link : ℕ) → Entry → List Entry → Type 0
-IsQuietAt o l e older =
-    (seat : Seat) × (e ≡ Then (Comes (Rings (KeepAlive l)))) × (rings (view o older).now (KeepAlive l) (view o older).alarms ≡ true)
-    × ((view o older).links.live l ≡ Some seat) × (seat.ping ≡ None)
-
-abbrev pub SignsOfLife : Type 0
-SignsOfLife = (o : Options) (log : List Entry) (l : ℕ) → IsRun o (Then (Comes (ToLink l Pings)) ∷ log) → InThisStep (IsQuietAt o l) log
 
 -- LINKS
 

@@ -1,4 +1,5 @@
 pub mod Laws
+pub mod AddressLaws
 pub mod ProducerLaws
 pub mod BatchLaws
 pub mod ConsumerLaws

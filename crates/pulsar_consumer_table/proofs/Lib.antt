@@ -1,10 +1,10 @@
 pub mod Places
 pub mod Rows
-pub mod Hearing
+pub mod Heard
 pub mod Numbered
 pub mod Finding
 pub mod Several
-pub mod Listing
+pub mod Listed
 pub mod Drawing
 pub mod Retaining
 pub mod Living

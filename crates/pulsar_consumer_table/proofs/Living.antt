@@ -23,7 +23,7 @@ use Rattle.pulsar_consumer_table.specs.Consumers.{Member, ends_on, hears_frame, 
 use Rattle.pulsar_consumer_table.specs.Consumers as consumer
 use Rattle.pulsar_consumer_table.specs.KeptConsumers.{AreHeard, KeepsAll, KeepsHeard, is_listed, listed_at, one_changed, rows_in, some_changed, tickets_of}
 use Rattle.pulsar_consumer_table.proofs.Finding.{both, found_any, keyed, there_is}
-use Rattle.pulsar_consumer_table.proofs.Hearing.{filtered}
+use Rattle.pulsar_consumer_table.proofs.Heard.{filtered}
 use Rattle.pulsar_consumer_table.proofs.Places.{swapped}
 
 -- AN ENGINE KEEPS ITS LINK as it goes on: what becomes of a subscription stays on its link

@@ -1,7 +1,7 @@
 use Rattle.std.proofs.Common.{◌∙◌, ◌++◌, ap}
 use Rattle.std.specs.Option.{option_map}
 use Rattle.pulsar_consumer_table.specs.KeptConsumers.{member_in, rows_in}
-use Rattle.pulsar_consumer_table.proofs.Hearing.{told_as_before}
+use Rattle.pulsar_consumer_table.proofs.Heard.{told_as_before}
 use Rattle.pulsar_consumer_table.proofs.hearing.hear_at.Goals as goal
 
 pub returns-clause-notices : goal.returns-clause-notices

@@ -2,7 +2,7 @@ use Rattle.std.proofs.Common.{◌∙◌, Some, ap, sym}
 use Rattle.std.specs.BTreeMap.{get}
 use Rattle.std.specs.Ordering.{nat_cmp}
 use Rattle.pulsar_consumer_table.specs.KeptConsumers.{tickets_of}
-use Rattle.pulsar_consumer_table.proofs.Listing.{one_more, put_back}
+use Rattle.pulsar_consumer_table.proofs.Listed.{one_more, put_back}
 use Rattle.pulsar_consumer_table.proofs.listing.list.Goals as goal
 use Rattle.pulsar_consumer_table.proofs.listing.list.Goals.{in-Some, in-None}
 

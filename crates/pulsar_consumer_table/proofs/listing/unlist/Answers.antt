@@ -1,7 +1,7 @@
 use Rattle.std.proofs.Common.{◌∙◌, None, Some, refl, sym}
 use Rattle.std.specs.BTreeMap.{get}
 use Rattle.std.specs.Ordering.{nat_cmp}
-use Rattle.pulsar_consumer_table.proofs.Listing.{no_keys, one_less, put_back}
+use Rattle.pulsar_consumer_table.proofs.Listed.{no_keys, one_less, put_back}
 use Rattle.pulsar_consumer_table.proofs.listing.unlist.Goals as goal
 
 pub returns-in_ok-insert : goal.returns-in_ok-insert

@@ -7,7 +7,7 @@ use Rattle.pulsar_calls.specs.declared.act.Arrival.TheVariants.{Nothing, Readied
 use Rattle.pulsar_consumer_table.specs.Consumers.{all_changed, hears, over_rows}
 use Rattle.pulsar_consumer_table.specs.Notices.{heard_at}
 use Rattle.pulsar_tables.specs.Rules.{breaks_at}
-use Rattle.pulsar_consumer_table.proofs.Hearing.{all_same, over_none}
+use Rattle.pulsar_consumer_table.proofs.Heard.{all_same, over_none}
 use Rattle.pulsar_client.specs.Tables.{agenda_of, view_of}
 use Rattle.pulsar_client.proofs.tables.Tables.arrives.Goals as goal
 

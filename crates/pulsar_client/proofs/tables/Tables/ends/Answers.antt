@@ -18,7 +18,7 @@ use Rattle.pulsar_consumer_table.specs.Consumers.{Consumers, all_changed, loses_
 use Rattle.pulsar_consumer_table.specs.Notices.{lost_at}
 use Rattle.pulsar_client.specs.Tables.{agenda_of, retry_set, retry_shown, view_of}
 use Rattle.pulsar_tables.specs.View.{addresses_after, alarms_after, alarms_on, alarms_over, base_on, closing, links_after, may_retry, pause_of, pause_on, pause_with, turned}
-use Rattle.pulsar_consumer_table.proofs.Hearing.{all_same, over_none}
+use Rattle.pulsar_consumer_table.proofs.Heard.{all_same, over_none}
 use Rattle.pulsar_client.proofs.Turned.{linked, none_left, retries_set, retries_shown, still_sees}
 use Rattle.pulsar_client.proofs.Turning.{none_ended, nothing_more, open_still, retries_still, turned_end, waiters_still}
 use Rattle.pulsar_client.proofs.tables.Tables.ends.Goals as goal

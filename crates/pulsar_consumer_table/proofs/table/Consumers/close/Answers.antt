@@ -8,7 +8,7 @@ use Rattle.pulsar_consumer_table.specs.Consumers.{closes, lives_with, member_aft
 use Rattle.pulsar_consumer_table.specs.KeptConsumers.{rows_in}
 use Rattle.pulsar_consumer_table.specs.Notices.{word_to}
 use Rattle.pulsar_consumer_table.proofs.Finding.{found_change, found_give, living_found}
-use Rattle.pulsar_consumer_table.proofs.Hearing.{closed_by, consumers_are, none_closed, same_closed}
+use Rattle.pulsar_consumer_table.proofs.Heard.{closed_by, consumers_are, none_closed, same_closed}
 use Rattle.pulsar_consumer_table.proofs.Living.{ends_lifeless, some_heard}
 use Rattle.pulsar_consumer_table.proofs.Numbered.{act_holds, some_listed}
 use Rattle.pulsar_consumer_table.proofs.table.Consumers.close.Goals as goal

@@ -2,7 +2,7 @@ use Rattle.std.proofs.Common.{◌∙◌, ap, sym}
 use Rattle.pulsar_consumer_table.specs.Consumers.{closes, word_of_close}
 use Rattle.pulsar_consumer_table.specs.KeptConsumers.{consumers_in}
 use Rattle.pulsar_consumer_table.specs.Notices.{word_to}
-use Rattle.pulsar_consumer_table.proofs.Hearing.{all_same, none_named, over_none, same_unnamed}
+use Rattle.pulsar_consumer_table.proofs.Heard.{all_same, none_named, over_none, same_unnamed}
 use Rattle.pulsar_consumer_table.proofs.table.Consumers.close_asked.Goals as goal
 
 pub returns-in-None : goal.returns-in-None

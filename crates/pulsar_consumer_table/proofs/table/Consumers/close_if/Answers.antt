@@ -2,7 +2,7 @@ use Rattle.std.proofs.Common.{◌∙◌, ap, sym, Some}
 use Rattle.pulsar_consumer_table.specs.Consumers.{closes, word_of_close}
 use Rattle.pulsar_consumer_table.specs.KeptConsumers.{consumers_in}
 use Rattle.pulsar_consumer_table.specs.Notices.{word_to}
-use Rattle.pulsar_consumer_table.proofs.Hearing.{all_same, over_none}
+use Rattle.pulsar_consumer_table.proofs.Heard.{all_same, over_none}
 use Rattle.pulsar_consumer_table.proofs.table.Consumers.close_if.Goals as goal
 
 pub returns-then-not-is_asked : goal.returns-then-not-is_asked

@@ -7,7 +7,7 @@ use Rattle.pulsar_consumer_table.specs.Consumers.{lives_at, member_after, word_i
 use Rattle.pulsar_consumer_table.specs.KeptConsumers.{rows_in}
 use Rattle.pulsar_consumer_table.specs.Notices.{word_to}
 use Rattle.pulsar_consumer_table.proofs.Finding.{found_change, found_give}
-use Rattle.pulsar_consumer_table.proofs.Hearing.{consumers_are, lost_by, none_lost}
+use Rattle.pulsar_consumer_table.proofs.Heard.{consumers_are, lost_by, none_lost}
 use Rattle.pulsar_consumer_table.proofs.Living.{ended_heard, found_living}
 use Rattle.pulsar_consumer_table.proofs.Numbered.{act_holds, some_listed}
 use Rattle.pulsar_consumer_table.proofs.table.Consumers.end.Goals as goal

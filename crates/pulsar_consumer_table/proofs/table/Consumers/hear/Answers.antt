@@ -2,7 +2,7 @@ use Rattle.std.proofs.Common.{◌∙◌, sym}
 use Rattle.pulsar_consumer_table.specs.Consumers.{hears}
 use Rattle.pulsar_consumer_table.specs.KeptConsumers.{consumers_in}
 use Rattle.pulsar_consumer_table.specs.Notices.{heard_at}
-use Rattle.pulsar_consumer_table.proofs.Hearing.{all_same, over_none, quiet_same, quiet_told}
+use Rattle.pulsar_consumer_table.proofs.Heard.{all_same, over_none, quiet_same, quiet_told}
 use Rattle.pulsar_consumer_table.proofs.table.Consumers.hear.Goals as goal
 
 pub returns : goal.returns

@@ -6,7 +6,7 @@ use Rattle.pulsar_consumer_table.specs.Consumers.{hears, hears_frame, lives_with
 use Rattle.pulsar_consumer_table.specs.KeptConsumers.{rows_in}
 use Rattle.pulsar_consumer_table.specs.Notices.{heard_at, word_to}
 use Rattle.pulsar_consumer_table.proofs.Finding.{found_change, found_give, living_found}
-use Rattle.pulsar_consumer_table.proofs.Hearing.{consumers_are, heard_by, none_told, same_told}
+use Rattle.pulsar_consumer_table.proofs.Heard.{consumers_are, heard_by, none_told, same_told}
 use Rattle.pulsar_consumer_table.proofs.Living.{frame_lifeless, some_heard}
 use Rattle.pulsar_consumer_table.proofs.Numbered.{frame_holds, some_listed}
 use Rattle.pulsar_consumer_table.proofs.table.Consumers.hear_frame.Goals as goal

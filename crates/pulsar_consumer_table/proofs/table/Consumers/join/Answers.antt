@@ -3,7 +3,7 @@ use Rattle.std.specs.BTreeMap.{get}
 use Rattle.std.specs.Map.{keys_of}
 use Rattle.std.specs.Ordering.{nat_cmp}
 use Rattle.pulsar_consumer_table.specs.KeptConsumers.{is_listed, listed_at, member_in, rows_in}
-use Rattle.pulsar_consumer_table.proofs.Hearing.{consumers_are}
+use Rattle.pulsar_consumer_table.proofs.Heard.{consumers_are}
 use Rattle.pulsar_consumer_table.proofs.Living.{more_heard}
 use Rattle.pulsar_consumer_table.proofs.Numbered.{joined_listed}
 use Rattle.pulsar_consumer_table.proofs.Rows.{keys_insert, put}

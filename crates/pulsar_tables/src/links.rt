@@ -15,13 +15,13 @@ ghost use Rattle.pulsar_consumer_table.specs.KeptConsumers.{consumers_in};
 ghost use Rattle.pulsar_tables.specs.Rules.{answered_on, due_part, idle_act_at, may_ping, moved_on, on_link, over_links, stop_act, told_at, is_idle_at};
 ghost use Rattle.pulsar_tables.specs.View.{answer_at, arrival_at, got_at, room_at, has_ended, is_asked, is_busy, seat_asked, seat_got, seat_of_fresh, seat_fed, took_some, url_at};
 
-use pulsar_consumer_table::table::Consumers;
 use crate::due::DueMoments;
 use crate::producers::Producers;
 use crate::row::Row;
 use pulsar_calls::act::{Act, Arrival, End, LinkAct, Notice, Outcome, Part, Who};
 use pulsar_calls::content::Cause;
 use pulsar_calls::effect::Effect;
+use pulsar_consumer_table::table::Consumers;
 use pulsar_link::content::Request;
 use pulsar_plans::content::Address;
 use pulsar_session::Connection;

@@ -73,7 +73,7 @@ use Rattle.pulsar_calls.specs.declared.act.Word.TheVariants as word
 use Rattle.pulsar_calls.specs.declared.act.Makes.TheVariants as makes
 use Rattle.pulsar_consumer_table.specs.Consumers as consumer
 use Rattle.pulsar_consumer.specs.Topic as reader
-use Rattle.pulsar_laws.proofs.CausedLists.{in_alone, in_append, in_askers, in_each, in_flat, in_map, in_opened, in_told, step_map}
+use Rattle.pulsar_laws.proofs.CausedLists.{IsAsker, in_alone, in_append, in_askers, in_each, in_flat, in_map, in_opened, in_told, step_map}
 
 -- WHO IS TOLD AT ONCE
 

@@ -62,11 +62,11 @@ in_alone n (m ∷ ns) (inl (inr h)) = absurd h
 in_alone n (m ∷ ns) (inr h) = inr (in_alone n ns h)
 
 -- who asked for one of these places
-record IsAsker (says : ℕ → Outcome) (askers : ℕ → Option Who) (places : List ℕ) (n : Notice) : Type 0 where
-  place : ℕ
-  listed : In place places
-  asker : askers place ≡ Some n.who
-  told : n.outcome ≡ says place
+pub record IsAsker (says : ℕ → Outcome) (askers : ℕ → Option Who) (places : List ℕ) (n : Notice) : Type 0 where
+  pub place : ℕ
+  pub listed : In place places
+  pub asker : askers place ≡ Some n.who
+  pub told : n.outcome ≡ says place
 
 pub in_askers : (says : ℕ → Outcome) (askers : ℕ → Option Who) (places : List ℕ) (n : Notice) → In n (filter_map (tells_asker says askers) places) →
     IsAsker says askers places n

@@ -57,10 +57,10 @@ OnlyStarts t p [] = Unit {0}
 OnlyStarts t p (Begins e ∷ log) = OnlyStarts t p log
 OnlyStarts t p (Then a ∷ log) = StartsBy t p a × OnlyStarts t p log
 
-not_same : {X : Type 0} (t : ℕ) (who : Who) → is_same (Call t) who ≡ false → is_same (Call t) who ≡ true → X
+pub not_same : {X : Type 0} (t : ℕ) (who : Who) → is_same (Call t) who ≡ false → is_same (Call t) who ≡ true → X
 not_same t who e f = let g : false ≡ true = sym e ∙ f in absurd cc
 
-no_start : (t : ℕ) (p : Procedure) (log : List Entry) → counted (start_of t) log ≡ 0 → OnlyStarts t p log
+pub no_start : (t : ℕ) (p : Procedure) (log : List Entry) → counted (start_of t) log ≡ 0 → OnlyStarts t p log
 no_start t p [] h = tt
 no_start t p (Begins e ∷ log) h = no_start t p log h
 no_start t p (Then (Starts who q) ∷ log) h = elim (cases_Bool (is_same (Call t) who)) [
@@ -86,15 +86,15 @@ only_start t p (Then (Starts who q) ∷ log) h k = elim (cases_Bool (is_same (Ca
 ]
 only_start t p (Then a ∷ log) h k = (tt, only_start t p log h (let n : ℕ = counted (start_of t) log in let f : n + 0 ≤ 1 = k in omega (arith, f)))
 
-abbrev GathersAt : Option Plan → Type 0
+abbrev pub GathersAt : Option Plan → Type 0
 GathersAt None = Unit {0}
 GathersAt (Some p) = is_gathering p ≡ true
 
-stays_gathers : (x : Turn Plan Verdict) → StaysSo (Goes is_gathering) x → GathersAt (stays x)
+pub stays_gathers : (x : Turn Plan Verdict) → StaysSo (Goes is_gathering) x → GathersAt (stays x)
 stays_gathers (Stays p a) k = k.0
 stays_gathers (Gives verdict) k = tt
 
-told_gathers : (p : Plan) (u : Outcome) → is_gathering p ≡ true → GathersAt (stays (told p u))
+pub told_gathers : (p : Plan) (u : Outcome) → is_gathering p ≡ true → GathersAt (stays (told p u))
 told_gathers (Gathering first count left failures) u h =
     stays_gathers (told (Gathering first count left failures) u) (told_goes (Gathering first count left failures) u)
 told_gathers _ u h = absurd cc
@@ -130,7 +130,7 @@ module _ (o : Options) (t first count : ℕ) where
     | inr e ↦ (let f : Stays (Gathering first count left fs) Rest ≡ Stays p a = rw e at h in cc)
   ]
 
-told_rest : (o : Options) (q : Plan) (u : Outcome) (p : Plan) (a : Action) → is_gathering q ≡ true → told q u ≡ Stays p a → a ≡ Rest
+pub told_rest : (o : Options) (q : Plan) (u : Outcome) (p : Plan) (a : Action) → is_gathering q ≡ true → told q u ≡ Stays p a → a ≡ Rest
 told_rest o (Gathering first count left fs) (outcome.Parted v f) p a g h = gathers_rest o 0 first count _ _ p a h
 told_rest o (Gathering first count left fs) _ p a g h = absurd cc
 told_rest o _ u p a g h = absurd cc

@@ -67,7 +67,7 @@ MildTurn P (search_turn.Gives a) = Unit {0}
 abbrev pub Any : {S : Type 0} → S → Type 0
 Any s = Unit {0}
 
-either_mild : {S A : Type 0} (P : S → Type 0) (b : Bool) (x y : SearchTurn S A) → MildTurn P x → MildTurn P y → MildTurn P (cond b x y)
+pub either_mild : {S A : Type 0} (P : S → Type 0) (b : Bool) (x y : SearchTurn S A) → MildTurn P x → MildTurn P y → MildTurn P (cond b x y)
 either_mild P true x y p q = p
 either_mild P false x y p q = q
 
@@ -78,12 +78,12 @@ and_mild P Q (search_turn.Stays s a) within on f p q = (f s p.0, p.1)
 and_mild P Q (search_turn.Gives (Ok a)) within on f p q = q a
 and_mild P Q (search_turn.Gives (Err x)) within on f p q = tt
 
-nested_mild : {S T A B : Type 0} (P : S → Type 0) (Q : T → Type 0) (x : SearchTurn S A) (within : S → T) (on : A → SearchTurn T B) →
+pub nested_mild : {S T A B : Type 0} (P : S → Type 0) (Q : T → Type 0) (x : SearchTurn S A) (within : S → T) (on : A → SearchTurn T B) →
     ((s : S) → P s → Q (within s)) → MildTurn P x → ((a : A) → MildTurn Q (on a)) → MildTurn Q (search.nested x within on)
 nested_mild P Q (search_turn.Stays s a) within on f p q = (f s p.0, p.1)
 nested_mild P Q (search_turn.Gives a) within on f p q = q a
 
-count_mild : (w : Ways) (t : List ℕ) (c : Counting) (u : Heard') → MildTurn Any (search.count_told w t c u)
+pub count_mild : (w : Ways) (t : List ℕ) (c : Counting) (u : Heard') → MildTurn Any (search.count_told w t c u)
 count_mild w t (count.Getting again n) (told_in.GotLink l) = (tt, refl)
 count_mild w t (count.Getting again n) _ = tt
 count_mild w t (count.Asked again n l) (told_in.Replied r) = heard (count_in w n r)
@@ -97,14 +97,14 @@ count_mild w t (count.Asked again n l) u =
 count_mild w t (count.Resting n l) told_in.Woken = (tt, refl)
 count_mild w t (count.Resting n l) _ = tt
 
-count_begun : (w : Ways) (t : List ℕ) → MildTurn Any (search.count_begins w t)
+pub count_begun : (w : Ways) (t : List ℕ) → MildTurn Any (search.count_begins w t)
 count_begun w t = either_mild Any (is_partition t) (search_turn.Gives (Ok 0)) (search.count_gets w true 0) tt (tt, tt)
 
-pointed_mild : (n : ℕ) (x : Pointed) → MildTurn Any (search.look_pointed n x)
+pub pointed_mild : (n : ℕ) (x : Pointed) → MildTurn Any (search.look_pointed n x)
 pointed_mild n (Redirects place authority) = (tt, tt)
 pointed_mild n (Serves place) = (tt, tt)
 
-heard_mild : (w : Ways) (s : Place') (l : ℕ) (x : Heard Pointed) → MildTurn Any (search.look_heard w s l x)
+pub heard_mild : (w : Ways) (s : Place') (l : ℕ) (x : Heard Pointed) → MildTurn Any (search.look_heard w s l x)
 heard_mild w s l (Says pointed) = pointed_mild s.retries pointed
 heard_mild w s l Later = (tt, tt)
 heard_mild w s l (Denies f) = tt
@@ -120,22 +120,22 @@ look_mild w t (look.Resting s l) _ = tt
 look_mild w t (look.Reaching found) (told_in.GotLink l) = tt
 look_mild w t (look.Reaching found) _ = tt
 
-retry_mild : (w : Ways) (t : List ℕ) (x : Retrying) (u : Heard') → MildTurn Any (search.retry_told w t x u)
+pub retry_mild : (w : Ways) (t : List ℕ) (x : Retrying) (u : Heard') → MildTurn Any (search.retry_told w t x u)
 retry_mild w t retry.Resting told_in.Woken = (tt, tt)
 retry_mild w t retry.Resting _ = tt
 retry_mild w t (retry.Looking l) u =
     nested_mild Any Any (search.look_told w t l u) retry.Looking search_turn.Gives (λ s p. tt) (look_mild w t l u) (λ a. tt)
 
-again_mild : (w : Ways) (n : ℕ) (f : Fault) → MildTurn Any (search.retry_begins w n f)
+pub again_mild : (w : Ways) (n : ℕ) (f : Fault) → MildTurn Any (search.retry_begins w n f)
 again_mild w n f =
     either_mild Any (is_retryable f && allow_retry w.max_retries n) (search_turn.Stays retry.Resting (wish.Wait w.retry_delay)) (search.fails (OfConnection f))
     (tt, tt)
     tt
 
-names_left_mild : (w : Ways) (t : List ℕ) (n left : ℕ) (found : List Named) → MildTurn Any (search.names_left w t n left found)
+pub names_left_mild : (w : Ways) (t : List ℕ) (n left : ℕ) (found : List Named) → MildTurn Any (search.names_left w t n left found)
 names_left_mild w t n left found = either_mild Any (left == 0) _ _ tt (tt, tt)
 
-names_of_mild : (w : Ways) (t : List ℕ) (n : ℕ) → MildTurn Any (search.names_of w t n)
+pub names_of_mild : (w : Ways) (t : List ℕ) (n : ℕ) → MildTurn Any (search.names_of w t n)
 names_of_mild w t n = either_mild Any (n == 0) _ _ (tt, tt) (names_left_mild w t n n [])
 
 pub names_begun : (w : Ways) (t : List ℕ) → MildTurn Any (search.names_begins w t)
@@ -149,7 +149,7 @@ names_mild w t (name.Part l p) u =
     and_mild Any Any (search.look_told w p.name l u) (λ l. name.Part l p) _ (λ s p. tt) (look_mild w p.name l u)
     (λ place. names_left_mild w t p.count p.left (search.name_found p.found p.name place))
 
-answered_mild : (w : Ways) (n l : ℕ) (r : Result Content Fault) → MildTurn Any (search.made_answered w n l r)
+pub answered_mild : (w : Ways) (n l : ℕ) (r : Result Content Fault) → MildTurn Any (search.made_answered w n l r)
 answered_mild w n l (Ok r) = tt
 answered_mild w n l (Err f) = and_mild Any Any (search.retry_begins w n f) (λ r. make.Retrying r n) _ (λ s p. tt) (again_mild w n f) (λ a. (tt, tt))
 

@@ -46,18 +46,18 @@ abbrev pub Waits : Options → List Entry → ℕ → ℕ → Type 0
 Waits o log t n = (row : Topic) × ((view o log).producers.topics n ≡ Some row) × In t row.seen.waiting
 
 -- those whose turns stay where they are, and who waits now
-record Step (o : Options) (log : List Entry) (a : Act) (Keeper : ℕ → Type 0) (New : ℕ → ℕ → Type 0) : Type 0 where
-  stand : (t : ℕ) → (view o (Then a ∷ log)).stand (Call t) ≡ (view o log).stand (Call t)
-  keeps : (t n : ℕ) → Keeper t → HasTurn (view o log) (Call t) n → HasTurn (view o (Then a ∷ log)) (Call t) n
-  holder : (t n : ℕ) (p : Plan) → (view o log).stand (Call t) ≡ Some p → holds p ≡ Some n → Keeper t
-  pender : (t : ℕ) → 1 ≤ pending o log (Call t) → Keeper t
-  back : (t n : ℕ) (row : Topic) → IsTicket t → (view o (Then a ∷ log)).producers.topics n ≡ Some row → In t row.seen.waiting → Waits o log t n ⊎ New t n
-  new_at : (t n : ℕ) → New t n → IsAt n ((view o log).stand (Call t))
-  new_apart : (t n m : ℕ) → New t n → Waits o log t m → ⊥
-  new_one : (t n m : ℕ) → New t n → New t m → n ≡ m
-  new_begun : (t n : ℕ) → New t n → 1 ≤ counted (start_of t) log
-  few : (t : ℕ) → pending o (Then a ∷ log) (Call t) ≤ 1
-  told : (t : ℕ) → 1 ≤ pending o (Then a ∷ log) (Call t) →
+pub record Step (o : Options) (log : List Entry) (a : Act) (Keeper : ℕ → Type 0) (New : ℕ → ℕ → Type 0) : Type 0 where
+  pub stand : (t : ℕ) → (view o (Then a ∷ log)).stand (Call t) ≡ (view o log).stand (Call t)
+  pub keeps : (t n : ℕ) → Keeper t → HasTurn (view o log) (Call t) n → HasTurn (view o (Then a ∷ log)) (Call t) n
+  pub holder : (t n : ℕ) (p : Plan) → (view o log).stand (Call t) ≡ Some p → holds p ≡ Some n → Keeper t
+  pub pender : (t : ℕ) → 1 ≤ pending o log (Call t) → Keeper t
+  pub back : (t n : ℕ) (row : Topic) → IsTicket t → (view o (Then a ∷ log)).producers.topics n ≡ Some row → In t row.seen.waiting → Waits o log t n ⊎ New t n
+  pub new_at : (t n : ℕ) → New t n → IsAt n ((view o log).stand (Call t))
+  pub new_apart : (t n m : ℕ) → New t n → Waits o log t m → ⊥
+  pub new_one : (t n m : ℕ) → New t n → New t m → n ≡ m
+  pub new_begun : (t n : ℕ) → New t n → 1 ≤ counted (start_of t) log
+  pub few : (t : ℕ) → pending o (Then a ∷ log) (Call t) ≤ 1
+  pub told : (t : ℕ) → 1 ≤ pending o (Then a ∷ log) (Call t) →
       ((1 ≤ pending o log (Call t)) × ((n : ℕ) → New t n → ⊥)) ⊎ IsPending o (Then a ∷ log) t
 
 pub count_more : (t : ℕ) (a : Act) (log : List Entry) → 1 ≤ counted (start_of t) log → 1 ≤ counted (start_of t) (Then a ∷ log)
@@ -98,7 +98,7 @@ Everyone t = Unit {0}
 abbrev pub Nobody : ℕ → ℕ → Type 0
 Nobody t n = ⊥
 
-kept_row : (o : Options) (log : List Entry) (a : Act) → IsRun o (Then a ∷ log) → takes_it a ≡ false → passes_it a ≡ false → (w : Who) (n : ℕ) →
+pub kept_row : (o : Options) (log : List Entry) (a : Act) → IsRun o (Then a ∷ log) → takes_it a ≡ false → passes_it a ≡ false → (w : Who) (n : ℕ) →
     HasTurn (view o log) w n →
     HasTurn (view o (Then a ∷ log)) w n
 kept_row o log a run x y w n h = (
@@ -107,7 +107,7 @@ kept_row o log a run x y w n h = (
   (all_left (topic_acts (view o log) n a) h.0.seen (acts_left (view o log) n a x y)).0 ∙ h.2,
 )
 
-back_row : (o : Options) (log : List Entry) (a : Act) → IsRun o (Then a ∷ log) → takes_it a ≡ false → passes_it a ≡ false → (t n : ℕ) (row : Topic) →
+pub back_row : (o : Options) (log : List Entry) (a : Act) → IsRun o (Then a ∷ log) → takes_it a ≡ false → passes_it a ≡ false → (t n : ℕ) (row : Topic) →
     (view o (Then a ∷ log)).producers.topics n ≡ Some row → In t row.seen.waiting → Waits o log t n
 back_row o log a run x y t n row e i = from ((view o log).producers.topics n) refl
   where
@@ -157,7 +157,7 @@ left_turns o log a run x y same k = record {
 -- ONE IS TOLD SOMETHING
 
 -- a plan that is not of batches leaves where it is past turns
-past_leaves : (p : Plan) → is_past p ≡ true → is_batching p ≡ false → is_leaving p ≡ true
+pub past_leaves : (p : Plan) → is_past p ≡ true → is_batching p ≡ false → is_leaving p ≡ true
 past_leaves (Leaving f) h b = refl
 past_leaves (Batching w e x) h b = absurd cc
 past_leaves _ h b = absurd cc

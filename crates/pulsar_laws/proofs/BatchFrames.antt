@@ -59,7 +59,8 @@ use Rattle.pulsar_laws.proofs.Granted.{granted_by, grants_given}
 use Rattle.pulsar_laws.proofs.Natures.{StaysSo}
 use Rattle.pulsar_laws.proofs.Owned.{starts_own}
 use Rattle.pulsar_laws.proofs.Receipts.{Split, run_behind, split_in}
-use Rattle.pulsar_laws.proofs.TurnRun.{changed_at, own_in_turn}
+use Rattle.pulsar_laws.proofs.TurnActs.{changed_at}
+use Rattle.pulsar_laws.proofs.TurnRun.{own_in_turn}
 
 none_some : {A : Type 0} {x : A} → None ≡ Some x → ⊥
 none_some {A} {x} h = cc

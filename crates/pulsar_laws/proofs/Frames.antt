@@ -50,7 +50,8 @@ use Rattle.pulsar_laws.proofs.Framing.{AsksSo, KeptSo, MessageSo, NewsSo, PlanSo
 use Rattle.pulsar_laws.proofs.Granted.{BeginsSo, GivenBy, IsGrantedBy, IsLedSo, does_from, granted_by, grants_given}
 use Rattle.pulsar_laws.proofs.InTurn.{self_same, stand_told}
 use Rattle.pulsar_laws.proofs.Natures.{StaysSo}
-use Rattle.pulsar_laws.proofs.TurnRun.{changed_at, queued_in_turn_lem}
+use Rattle.pulsar_laws.proofs.TurnActs.{changed_at}
+use Rattle.pulsar_laws.proofs.TurnRun.{queued_in_turn_lem}
 
 none_some : {A : Type 0} {x : A} → None ≡ Some x → ⊥
 none_some {A} {x} h = cc

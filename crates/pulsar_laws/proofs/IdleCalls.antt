@@ -158,7 +158,7 @@ module _ (o : Options) (t first count : ℕ) where
       does_rest log a (subst (λ w. IsRun o (Then (Does w a) ∷ log)) (sym (same_is (Call t) who same)) run) k
   mute_by log _ run k = tt
 
-  mute_run : (log : List Entry) → IsRun o log → OnlyStarts t (procedure.Gather first count) log → Mute t log
+  pub mute_run : (log : List Entry) → IsRun o log → OnlyStarts t (procedure.Gather first count) log → Mute t log
   mute_run [] run k = tt
   mute_run (Begins e ∷ log) run k = mute_run log run.0 k
   mute_run (Then a ∷ log) run k = (mute_by log a run k.1, mute_run log run.0 k.1)

@@ -74,7 +74,7 @@ use Rattle.pulsar_consumer_table.specs.Consumers.{Member}
 use Rattle.pulsar_consumer_table.specs.declared.row.Sought.{Sought}
 use Rattle.pulsar_consumer_table.specs.declared.row.Sought.TheVariants.{Found, Gone, Later}
 use Rattle.pulsar_laws.proofs.Members.{called_rows, left_rows, numbered_rows}
-use Rattle.pulsar_laws.proofs.IdleCalls.{Mute, MuteBy, mute_older, none_some, only_start}
+use Rattle.pulsar_laws.proofs.IdleCalls.{Mute, MuteBy, mute_older, none_some, only_start, mute_run}
 
 -- ONE THAT IS IDLE
 

@@ -376,7 +376,7 @@ module _ (act : topic.Act) (ps : Producers) (n : ℕ) (row : Topic) (is : ps.top
   pub changed_not : (m : ℕ) → (m == n) ≡ false → (changed n act ps).topics m ≡ ps.topics m
   changed_not m e = ap (λ b. cond b (option_map (topic_after act) (ps.topics m)) (ps.topics m)) e
 
-  changed_from : (m : ℕ) (other : Topic) → (changed n act ps).topics m ≡ Some other →
+  pub changed_from : (m : ℕ) (other : Topic) → (changed n act ps).topics m ≡ Some other →
       ((m ≡ n) × (other ≡ topic_after act row)) ⊎ (((m == n) ≡ false) × (ps.topics m ≡ Some other))
   changed_from m other h = elim (cases_Bool (m == n)) [
     | inl e ↦

@@ -263,7 +263,7 @@ module _ (o : Options) (log : List Entry) (n : Notice) (run : IsRun o (Then (Tol
   own_told m j q None e s h d = absurd (none_some (sym (it_stands (Producer m) None e s) ∙ h))
   own_told m j q (Some p) e s h d = own_stays m j p q (told p n.outcome) refl e s (sym (it_stands (Producer m) (Some p) e s) ∙ h) d
 
-  told_turns : AllTurns o (Then (Told n) ∷ log)
+  pub told_turns : AllTurns o (Then (Told n) ∷ log)
   told_turns = record {
     calls = record {
       held = λ t m q h d. elim (cases_Bool (is_same (Call t) n.who)) [

@@ -42,7 +42,7 @@ use Rattle.pulsar_laws.proofs.Turns.{once_none, pend_kept, pend_then, pending, s
 use Rattle.pulsar_laws.proofs.Servers.{is_server, server_does, server_stands}
 use Rattle.pulsar_laws.proofs.Consuming.{is_modest}
 use Rattle.pulsar_laws.proofs.Same.{same_call, same_producer, same_test}
-use Rattle.pulsar_laws.proofs.TurnActs.{Everyone, Nobody, Waits, count_more, equal_self, in_insert, left_turns, none_some, starts_turns, step_turns, changed_at, changed_from, changed_not}
+use Rattle.pulsar_laws.proofs.TurnActs.{Everyone, Nobody, Waits, count_more, equal_self, in_insert, left_turns, none_some, starts_turns, step_turns, changed_at, changed_from, changed_not, told_turns}
 
 -- ONE TAKES ITS TURN
 

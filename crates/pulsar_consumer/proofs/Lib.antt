@@ -1,10 +1,7 @@
-pub mod Begun
-pub mod Counted
+pub mod Copying
 pub mod Drawing
 pub mod Going
 pub mod Having
-pub mod Held
-pub mod Histories
-pub mod Permits
+pub mod Keeping
 pub mod Placing
 pub mod Yields

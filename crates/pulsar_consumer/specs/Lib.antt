@@ -1,12 +1,15 @@
 pub mod Content
+pub mod DeadLetters
+pub mod Redelivery
 pub mod Frames
 pub mod Topic
 pub mod Consumer
 pub mod Commands
 pub mod Naming
 pub mod Plans
+pub mod IdOrder
+pub mod KeptIds
 pub mod KeptFrame
 pub mod KeptLive
 pub mod KeptEngine
 pub mod Kept
-pub mod Laws

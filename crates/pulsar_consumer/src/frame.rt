@@ -1,6 +1,6 @@
 //! A message of the broker as a consumer takes it.
 
-ghost use Rattle.std.specs.Prelude.{◌≡◌, ◌<◌, ◌^◌, ◌∷◌, [], map, Some, IfOk};
+ghost use Rattle.std.specs.Prelude.{◌≡◌, ◌<◌, ◌^◌, ◌∷◌, ◌++◌, [], map, Some, IfOk, OnOk};
 ghost use Rattle.std.specs.Option.{option_map};
 ghost use Rattle.pulsar_wire.specs.Views.{body_values, message_id_values};
 ghost use Rattle.pulsar_frame.specs.Batch.{batch_items};
@@ -8,9 +8,14 @@ ghost use Rattle.pulsar_frame.specs.Payload.{payload_values};
 ghost use Rattle.pulsar_link.specs.Held.{item_of};
 ghost use Rattle.pulsar_link.specs.Items as meant;
 ghost use Rattle.pulsar_link.specs.Items.{given, is_compressed, items_of, opened, weight_behind};
+ghost use Rattle.pulsar_consumer.specs.Content.{dead_letter_values};
+ghost use Rattle.pulsar_consumer.specs.DeadLetters as dead;
 ghost use Rattle.pulsar_consumer.specs.Frames as meaning;
 ghost use Rattle.pulsar_consumer.specs.Frames.{frame_in};
 
+use crate::config::DeadLetterPolicy;
+use crate::dead_letter::is_dead;
+use crate::letter::Letter;
 use crate::unread::Unread;
 use pulsar_frame::batch::iterator::BatchedMessageIterator;
 use pulsar_frame::payload::Payload;
@@ -25,11 +30,12 @@ use std::alloc::Global;
 use std::collections::VecDeque;
 use std::marker::Model;
 
-/// What it costs, and its items.
+/// What it costs, its items, and its entries that go to another topic.
 #[derive(Drop)]
 pub struct Frame {
     weight: u32,
     items: VecDeque<Unread>,
+    letters: VecDeque<Letter>,
 }
 
 impl Model for Frame {
@@ -50,14 +56,19 @@ impl Model for Frame {
 }
 
 impl Frame {
-    /// The frame of a message.
-    pub fn received(alloc: Global, received: Received) -> Result<Frame, NoMemory>
-        ensures { IfOk result (λ f. f ≡ frame_in received) }
+    /// The frame of a message. By the policy it may be a dead letter.
+    #[tactic(auto, using(crate::proofs::Yields::no_items_sorted))]
+    pub fn received(
+        alloc: Global,
+        policy: &Option<DeadLetterPolicy>,
+        received: Received,
+    ) -> Result<Frame, NoMemory>
+        ensures { IfOk result (λ f. f ≡ frame_in (option_map dead_letter_values policy.now) received) }
     {
         let mut message = received.into_box();
         let payload = message.payload.take();
         match &message.command.body {
-            Some(body) => frame_with(alloc, payload, body),
+            Some(body) => frame_with(alloc, policy, payload, body),
             None => Ok(Frame::empty(alloc, 0)),
         }
     }
@@ -67,16 +78,21 @@ impl Frame {
         ensures { IfOk result (λ f. f ≡ meaning.failed refusal) }
     {
         let items = one(alloc, Item::Failure(refusal.into_inner()))?;
-        Ok(Frame { weight: 0, items })
+        Ok(Frame {
+            weight: 0,
+            items,
+            letters: VecDeque::new(alloc),
+        })
     }
 
     fn empty(alloc: Global, weight: u32) -> Frame
         requires { weight < 2 ^ 31 }
-        ensures { result ≡ record { weight = weight; items = [] } }
+        ensures { result ≡ record { weight = weight; items = []; letters = [] } }
     {
         Frame {
             weight,
             items: VecDeque::new(alloc),
+            letters: VecDeque::new(alloc),
         }
     }
 
@@ -88,49 +104,105 @@ impl Frame {
         self.weight
     }
 
-    /// Its items in order.
-    pub fn into_items(self) -> VecDeque<Unread>
-        ensures { result.items ≡ self.items }
+    /// Its items in order, and its entries that go to another topic.
+    pub fn into_parts(self) -> (VecDeque<Unread>, VecDeque<Letter>)
+        ensures items { result.0.items ≡ self.items }
+        ensures letters { result.1.items ≡ self.letters }
     {
-        let Frame { items, .. } = self;
-        items
+        let Frame { items, letters, .. } = self;
+        (items, letters)
     }
 }
 
 /// What a body brings, with what stands behind it.
-fn frame_with(alloc: Global, payload: Option<Payload>, body: &Body) -> Result<Frame, NoMemory>
-    ensures { IfOk result (λ f. f ≡ meaning.frame_with (option_map payload_values payload) (Some (body_values body.now))) }
+fn frame_with(
+    alloc: Global,
+    policy: &Option<DeadLetterPolicy>,
+    payload: Option<Payload>,
+    body: &Body,
+) -> Result<Frame, NoMemory>
+    ensures { IfOk result (λ f. f ≡ meaning.frame_with (option_map dead_letter_values policy.now) (option_map payload_values payload) (Some (body_values body.now))) }
 {
     match body {
-        Body::Message(message) => frame_of_message(alloc, payload, message),
+        Body::Message(message) => frame_of_message(alloc, policy, payload, message),
         _ => Ok(Frame::empty(alloc, 0)),
     }
 }
 
 /// What a message command brings, with its payload.
-#[tactic(auto, unfolding(pulsar_wire::specs::Views::message_values, pulsar_wire::specs::Views::message_id_values))]
+#[tactic(auto, using(crate::proofs::Yields::no_items_sorted), unfolding(pulsar_wire::specs::Views::message_values, pulsar_wire::specs::Views::message_id_values))]
 fn frame_of_message(
     alloc: Global,
+    policy: &Option<DeadLetterPolicy>,
     payload: Option<Payload>,
     message: &CommandMessage,
 ) -> Result<Frame, NoMemory>
-    ensures { IfOk result (λ f. f ≡ meaning.frame_with (option_map payload_values payload) (Some (body_values (Body.Message message.now)))) }
+    ensures { IfOk result (λ f. f ≡ meaning.frame_with (option_map dead_letter_values policy.now) (option_map payload_values payload) (Some (body_values (Body.Message message.now)))) }
 {
+    let is_dead = is_dead(policy, message.redelivery_count);
     match payload {
-        Some(payload) => frame_of(alloc, message.message_id.copy()?, payload),
+        Some(payload) => frame_of(alloc, is_dead, message.message_id.copy()?, payload),
         None => Ok(Frame::empty(alloc, 1)),
     }
 }
 
-/// What a payload brings under its id.
-fn frame_of(alloc: Global, id: MessageIdData, payload: Payload) -> Result<Frame, NoMemory>
-    ensures { IfOk result (λ f. f ≡ record { weight = weight_behind (Some (payload_values payload)); items = items_of (message_id_values id) (payload_values payload) }) }
+/// What a payload brings under its id. The messages of a dead letter go to another topic.
+fn frame_of(
+    alloc: Global,
+    is_dead: bool,
+    id: MessageIdData,
+    payload: Payload,
+) -> Result<Frame, NoMemory>
+    ensures { IfOk result (λ f. f ≡ meaning.frame_so is_dead (weight_behind (Some (payload_values payload))) (items_of (message_id_values id) (payload_values payload))) }
 {
     let weight = weight_of(&payload);
+    let items = items(alloc, id, payload)?;
+    if is_dead {
+        return dead_frame(alloc, weight, items);
+    }
     Ok(Frame {
         weight,
-        items: items(alloc, id, payload)?,
+        items,
+        letters: VecDeque::new(alloc),
     })
+}
+
+/// The frame of a dead letter with these items: an error among them is given in any case.
+fn dead_frame(
+    alloc: Global,
+    weight: u32,
+    mut items: VecDeque<Unread>,
+) -> Result<Frame, NoMemory>
+    requires { weight < 2 ^ 31 }
+    ensures { IfOk result (λ f. f ≡ record { weight = weight; items = dead.faults items.items; letters = dead.letters items.items }) }
+{
+    let mut faults = VecDeque::new(alloc);
+    let mut letters = VecDeque::new(alloc);
+    while let Some(item) = items.pop_front() {
+        sort(alloc, item, &mut faults, &mut letters)?;
+    }
+    Ok(Frame {
+        weight,
+        items: faults,
+        letters,
+    })
+}
+
+/// An item stands behind the errors, or behind the entries that are copied.
+fn sort(
+    alloc: Global,
+    item: Unread,
+    faults: &mut VecDeque<Unread>,
+    letters: &mut VecDeque<Letter>,
+) -> Result<(), NoMemory>
+    ensures faults { OnOk result (faults.new.items ≡ faults.old.items ++ dead.faults (item ∷ [])) }
+    ensures letters { OnOk result (letters.new.items ≡ letters.old.items ++ dead.letters (item ∷ [])) }
+{
+    match item.into_inner() {
+        Item::Message { id, payload } => letters.push_back(Letter::new(alloc, id, payload)?)?,
+        Item::Failure(error) => faults.push_back(Unread::new(alloc, Item::Failure(error))?)?,
+    }
+    Ok(())
 }
 
 /// How many permits a payload costs.

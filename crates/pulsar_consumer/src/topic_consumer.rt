@@ -1,10 +1,12 @@
 //! A consumer of one topic, or of one partition.
 
-ghost use Rattle.std.specs.Prelude.{◌≡◌, None, IfOk, OnOk};
-ghost use Rattle.std.specs.Option.{option_map};
+ghost use Rattle.std.specs.Prelude.{◌≡◌, map, Some, None, IfOk, OnOk};
+ghost use Rattle.std.specs.Option.{is_some, option_map, option_or};
+ghost use Rattle.pulsar_wire.specs.Views.{message_id_values};
+ghost use Rattle.pulsar_messages.specs.Content.{message_content};
 ghost use Rattle.pulsar_consumer.specs.Commands.{command_of};
 ghost use Rattle.pulsar_consumer.specs.Content.{config_values};
-ghost use Rattle.pulsar_consumer.specs.Topic.{Asks, Ends, Fails, Hears, Lives, Loses, Polls, after, first_due, fresh, is_due, is_ended, link_of, lives_on, of_raw, polled, queue_of, resubscribes};
+ghost use Rattle.pulsar_consumer.specs.Topic.{Asks, Checks, Ends, Fails, FailsCopy, Forgets, Hears, IsCopied, Lives, Loses, Polls, TakesCopy, acked, after, asked_again, copy_due, first_due, fresh, is_due, is_ended, is_over, link_of, lives_on, of_raw, polled, queue_of, resubscribes};
 ghost use Rattle.pulsar_consumer.specs.Topic as meaning;
 
 use crate::building::command;
@@ -14,9 +16,11 @@ use crate::frame::Frame;
 use crate::polled::{Ending, Polled};
 use crate::settings::Settings;
 use crate::unread::Unread;
-use pulsar_link::content::Subscribed;
+use pulsar_link::content::{Received, Subscribed};
+use pulsar_messages::Message;
 use pulsar_plans::content::{Refusal, Text};
 use pulsar_plans::making::Command;
+use pulsar_wire::commands::ids::MessageIdData;
 use pulsar_wire::error::NoMemory;
 use std::alloc::Global;
 use std::marker::Model;
@@ -67,6 +71,7 @@ impl TopicConsumer {
         ensures { result ≡ fresh (record { topic = topic; number = number; config = config; is_raw = is_raw }) }
     {
         let queue = queue_of(config.get().options.receiver_queue_size);
+        let delay = config.get().unacked_message_redelivery_delay;
         let batch = if is_raw {
             None
         } else {
@@ -78,7 +83,7 @@ impl TopicConsumer {
             number,
             config,
             is_raw,
-            engine: ConsumerEngine::new(alloc, queue as usize, batch),
+            engine: ConsumerEngine::new(alloc, queue as usize, batch, delay),
             ended: None,
             received: 0,
             last: None,
@@ -213,13 +218,23 @@ impl TopicConsumer {
         Ok(())
     }
 
-    /// A message for it came on this link.
-    pub fn hear(&mut self, link: u64, frame: Frame) -> Result<(), NoMemory>
-        ensures { OnOk result (self.new ≡ after (Hears link frame) self.old) }
+    /// A message for it came on this link at this moment.
+    pub fn hear(&mut self, link: u64, clock: u64, message: Received) -> Result<(), NoMemory>
+        ensures { OnOk result (self.new ≡ after (Hears link clock message) self.old) }
     {
         if self.lives_on(link) {
-            self.engine.hear(frame)?;
+            self.hear_message(clock, message)?;
         }
+        Ok(())
+    }
+
+    fn hear_message(&mut self, clock: u64, message: Received) -> Result<(), NoMemory>
+        ensures { OnOk result (self.new ≡ meaning.heard clock message self.old) }
+    {
+        let policy = &self.config.get().dead_letter_policy;
+        let frame = Frame::received(self.alloc, policy, message)?;
+        self.engine.tell(clock);
+        self.engine.hear(frame)?;
         Ok(())
     }
 
@@ -241,15 +256,26 @@ impl TopicConsumer {
             return Ok(());
         }
         self.engine.hear(Frame::failed(self.alloc, refusal)?)?;
-        self.end(Ending::NotSubscribed);
+        self.close(Ending::NotSubscribed);
         Ok(())
     }
 
-    /// It ends. What came is still given.
-    pub fn end(&mut self, why: Ending)
-        ensures { self.new ≡ after (Ends why) self.old }
+    /// It ends. What came is still given; dead letters fail where the client is stopped.
+    pub fn end(&mut self, why: Ending) -> Result<(), NoMemory>
+        ensures { OnOk result (self.new ≡ after (Ends why) self.old) }
     {
-        self.engine.lose();
+        self.close(why);
+        if let Ending::Stopped = why {
+            self.engine.stop()?;
+        }
+        Ok(())
+    }
+
+    /// No subscription of it is live, and none will be.
+    fn close(&mut self, why: Ending)
+        ensures { self.new ≡ record self.old { engine = meaning.shut self.old.engine; ended = option_or self.old.ended (Some why) } }
+    {
+        self.engine.shut();
         self.ended = self.ended.or(Some(why));
     }
 
@@ -258,6 +284,7 @@ impl TopicConsumer {
         ensures given { IfOk result (λ p. p ≡ polled self.old) }
         ensures after { OnOk result (self.new ≡ after (Polls clock) self.old) }
     {
+        self.engine.tell(clock);
         match self.engine.give()? {
             Some(item) => {
                 self.count(clock, &item);
@@ -265,6 +292,66 @@ impl TopicConsumer {
             }
             None => Ok(self.give_none()),
         }
+    }
+
+    /// A copy of a dead letter is to be sent to the other topic now.
+    pub fn is_copy_due(&self) -> bool
+        ensures { result ≡ is_some (copy_due self.now) }
+    {
+        self.engine.is_copy_due()
+    }
+
+    /// The copy that is to be sent to the other topic now. It counts as under way.
+    pub fn take_copy(&mut self) -> Result<Option<Box<Message>>, NoMemory>
+        ensures copy { IfOk result (λ c. option_map (λ m. message_content m.value) c ≡ copy_due self.old) }
+        ensures after { OnOk result (self.new ≡ after TakesCopy self.old) }
+    {
+        let copy = self.engine.take_copy(self.topic.as_str())?;
+        Ok(copy)
+    }
+
+    /// At this moment the copy that is under way has its receipt: the id of its entry, which is acknowledged where a subscription is live.
+    pub fn copy_sent(&mut self, clock: u64) -> Result<Option<MessageIdData>, NoMemory>
+        ensures acked { IfOk result (λ id. option_map message_id_values id ≡ acked self.old) }
+        ensures after { OnOk result (self.new ≡ after (IsCopied clock) self.old) }
+    {
+        let is_live = self.link().is_some();
+        self.engine.tell(clock);
+        let id = self.engine.copy_sent()?;
+        Ok(only_if(is_live, id))
+    }
+
+    /// At this moment the copy that is under way could not be sent: one error is given for what is left of its frame.
+    pub fn copy_failed(&mut self, clock: u64) -> Result<(), NoMemory>
+        ensures { OnOk result (self.new ≡ after (FailsCopy clock) self.old) }
+    {
+        self.engine.tell(clock);
+        self.engine.copy_failed()?;
+        Ok(())
+    }
+
+    /// The message of this id is acknowledged, or asked for again by its user.
+    pub fn forget(&mut self, id: &MessageIdData) -> Result<(), NoMemory>
+        ensures { OnOk result (self.new ≡ after (Forgets (message_id_values id.now)) self.old) }
+    {
+        self.engine.forget(id)?;
+        Ok(())
+    }
+
+    /// The messages that are to be asked for again at this moment, in the order of their ids. They are kept no longer.
+    pub fn check(&mut self, clock: u64) -> Result<Vec<MessageIdData>, NoMemory>
+        ensures named { IfOk result (λ ids. map message_id_values ids.items ≡ asked_again clock self.old) }
+        ensures after { OnOk result (self.new ≡ after (Checks clock) self.old) }
+    {
+        let named = self.engine.check(clock)?;
+        Ok(named)
+    }
+
+    /// It has ended, and no dead letter is pending: it is served no longer.
+    pub fn is_over(&self) -> bool
+        ensures { result ≡ is_over self.now }
+    {
+        self.is_ended() && !self.engine.is_pending()
     }
 
     /// A flow is to be asked for.
@@ -286,7 +373,7 @@ impl TopicConsumer {
         ensures { self.new ≡ meaning.loses self.old }
     {
         if self.is_raw {
-            self.end(Ending::LinkLost);
+            self.close(Ending::LinkLost);
         } else {
             self.engine.lose();
         }
@@ -301,18 +388,25 @@ impl TopicConsumer {
         }
     }
 
-    /// Once it has ended, it keeps no memory for items.
+    /// Once it has ended and nothing is pending, it keeps no memory for items.
     fn give_none(&mut self) -> Polled
-        ensures given { result ≡ meaning.polled_from None self.old.ended }
+        ensures given { result ≡ meaning.polled_from None (meaning.over (meaning.is_pending self.old.engine) self.old.ended) }
         ensures after { self.new ≡ self.old }
     {
-        if self.is_ended() {
+        if self.is_over() {
             self.engine.let_go();
             Polled::End
         } else {
             Polled::Empty
         }
     }
+}
+
+/// An entry is acknowledged only where a subscription is live.
+fn only_if(is_live: bool, id: Option<MessageIdData>) -> Option<MessageIdData>
+    ensures { option_map message_id_values result ≡ meaning.only_if is_live (option_map message_id_values id) }
+{
+    if is_live { id } else { None }
 }
 
 /// How many items may be unread.

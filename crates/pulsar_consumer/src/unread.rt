@@ -2,9 +2,13 @@
 
 ghost use Rattle.std.specs.Prelude.{◌≡◌, IfOk};
 ghost use Rattle.pulsar_link.specs.Held.{item_of};
+ghost use Rattle.pulsar_wire.specs.Views.{message_id_values};
+ghost use Rattle.std.specs.Option.{option_map};
+ghost use Rattle.pulsar_consumer.specs.Redelivery.{id_of};
 ghost use Rattle.pulsar_consumer.specs.Topic.{is_message};
 
 use pulsar_link::items::Unread as Item;
+use pulsar_wire::commands::ids::MessageIdData;
 use pulsar_wire::error::NoMemory;
 use std::alloc::Global;
 use std::marker::Model;
@@ -44,6 +48,16 @@ impl Unread {
         match &*self.item {
             Item::Message { .. } => true,
             Item::Failure(_) => false,
+        }
+    }
+
+    /// The id of the message. An error has none.
+    pub fn id(&self) -> Option<&MessageIdData>
+        ensures { option_map (λ id. message_id_values id.now) result ≡ id_of self.now }
+    {
+        match &*self.item {
+            Item::Message { id, .. } => Some(id),
+            Item::Failure(_) => None,
         }
     }
 

@@ -11,7 +11,7 @@ use Rattle.pulsar_wire.specs.Row.{Values}
 use Rattle.pulsar_wire.specs.Rows.{key_value}
 use Rattle.pulsar_frame.specs.Batch.{◌▸◌}
 use Rattle.pulsar_messages.specs.Content.{Property, property}
-use Rattle.pulsar_consumer.specs.DeadLetters.{has_property, with_properties, with_property}
+use Rattle.pulsar_consumer.specs.DeadLetters.{has_property, with_absent, with_properties, with_property}
 
 -- a property stands in its place, whether its texts are seen before or after
 abbrev pub by_text : {Z : Type 0} → String Z → String Z → Ordering
@@ -45,3 +45,18 @@ property_found name (e ∷ es) = found_next name e es (is_at (slice_cmp nat_cmp 
 pub put_more : (xs : List (Values key_value)) (x : Values key_value) (ps : List Property) → with_properties (xs ++ x ∷ []) ps ≡ with_property x.0 x.1.0 (with_properties xs ps)
 put_more [] (name ▸ value ▸ end) ps = refl
 put_more ((name ▸ value ▸ end) ∷ xs) x ps = put_more xs x (with_property name value ps)
+
+-- a property that stands already is left as it is, and another is put
+pub left_as_is : {Z : Type 0} (name value : List ℕ) (es : List (String Z × String Z)) →
+    is_some (lookup (is_at (λ k. slice_cmp nat_cmp name (string_bytes k))) es) ≡ true → map property es ≡ with_absent name value (map property es)
+left_as_is name value es h =
+    sym (ap (λ b. cond b (map property es) (with_property name value (map property es))) (sym (property_found name es) ∙ h))
+
+pub put_where_absent : {Z : Type 0} (name value : List ℕ) (k v : String Z) (es : List (String Z × String Z)) → string_bytes k ≡ name → string_bytes v ≡ value →
+    is_some (lookup (is_at (λ k. slice_cmp nat_cmp name (string_bytes k))) es) ≡ false →
+    map property (insert_entry by_text es k v) ≡ with_absent name value (map property es)
+put_where_absent name value k v es n w h =
+    property_inserted k v es
+    ∙ ap (λ x. with_property x (string_bytes v) (map property es)) n
+    ∙ ap (λ x. with_property name x (map property es)) w
+    ∙ sym (ap (λ b. cond b (map property es) (with_property name value (map property es))) (sym (property_found name es) ∙ h))

@@ -24,7 +24,7 @@ use Rattle.std.specs.declared.cmp.Ordering.TheVariants.{Less, Equal, Greater}
 use Rattle.pulsar_wire.specs.Orders.{id_order}
 use Rattle.pulsar_consumer.specs.IdOrder.{id_total}
 use Rattle.pulsar_consumer.specs.KeptIds.{is_in, is_moment, moment_of}
-use Rattle.pulsar_consumer.specs.Redelivery.{Id, Kept, due_before, forget, is_due_before, is_same_id}
+use Rattle.pulsar_consumer.specs.Redelivery.{Id, Kept, due_before, forget, is_due_before, is_early, is_same_id}
 
 -- TWO IDS ARE ONE WHERE NO FIELD TELLS THEM APART
 
@@ -152,11 +152,6 @@ sorted_filter p (e ∷ es) s = elim (cases_Bool (p e)) [
   | inl y ↦ rw y (all_filter (λ b. id_order e.0 b ≡ Less) p es s.0, sorted_filter p es s.1)
   | inr y ↦ rw y (sorted_filter p es s.1)
 ]
-
--- whether a moment is before this one
-abbrev pub is_early : (clock : ℕ) → Option ℕ → Bool
-is_early clock None = false
-is_early clock (Some m) = nat_lt m clock
 
 early_of : (clock : ℕ) (o : Option ℕ) → is_some (option_filter (λ m. nat_lt m clock) o) ≡ is_early clock o
 early_of clock None = refl

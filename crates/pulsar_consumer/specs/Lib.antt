@@ -13,3 +13,4 @@ pub mod KeptFrame
 pub mod KeptLive
 pub mod KeptEngine
 pub mod Kept
+pub mod Laws

@@ -1,6 +1,6 @@
 -- Messages that are to be given again: the id of an item that was placed is kept until it is due, and it is asked for again then, unless it
 -- was acknowledged.  (PulsarApi.proto, CommandRedeliverUnacknowledgedMessages)
-use Rattle.std.specs.Prelude.{ℕ, nat_lt, ◌+◌, Bool, not, List, [], ◌∷◌, map, filter, Option, Some, None}
+use Rattle.std.specs.Prelude.{ℕ, nat_lt, ◌+◌, Bool, false, not, List, [], ◌∷◌, map, filter, Option, Some, None}
 use Rattle.std.specs.BTreeMap.{insert_entry, is_at}
 use Rattle.pulsar_wire.specs.Orders.{id_order}
 use Rattle.pulsar_wire.specs.Row.{Values}
@@ -53,6 +53,10 @@ keep_all due [] kept = kept
 keep_all due (item ∷ items) kept = keep_all due items (keep_item due item kept)
 
 -- those that are due before a moment, in the order of ids
+abbrev pub is_early : (clock : ℕ) → (due : Option ℕ) → Bool
+is_early clock None = false
+is_early clock (Some due) = nat_lt due clock
+
 abbrev pub is_due_before : (clock : ℕ) → Id × ℕ → Bool
 is_due_before clock e = nat_lt e.1 clock
 

@@ -81,7 +81,7 @@ fn copied_properties(
     Ok(properties)
 }
 
-#[tactic(auto, unfolding(pulsar_wire::specs::Views::key_value_values))]
+#[tactic(auto, using(crate::proofs::Copying::property_inserted, crate::proofs::Copying::put_more), unfolding(pulsar_wire::specs::Views::key_value_values))]
 fn put_all(properties: &mut BTreeMap<String, String>, given: Vec<KeyValue>) -> Result<(), NoMemory>
     ensures { OnOk result (map property properties.new.entries ≡ meaning.with_properties (map key_value_values given.items) (map property properties.old.entries)) }
 {
@@ -91,6 +91,7 @@ fn put_all(properties: &mut BTreeMap<String, String>, given: Vec<KeyValue>) -> R
     Ok(())
 }
 
+#[tactic(auto, using(crate::proofs::Copying::left_as_is, crate::proofs::Copying::put_where_absent))]
 fn put_absent(
     properties: &mut BTreeMap<String, String>,
     alloc: Global,

@@ -225,13 +225,11 @@ impl ConsumerEngine {
         ensures id { IfOk result (λ id. option_map message_id_values id ≡ self.old.copying) }
         ensures after { OnOk result (self.new ≡ meaning.copied self.old) }
     {
-        match self.copying.take() {
-            Some(id) => {
-                self.advance()?;
-                Ok(Some(id))
-            }
-            None => Ok(None),
-        }
+        let Some(id) = self.copying.take() else {
+            return Ok(None);
+        };
+        self.advance()?;
+        Ok(Some(id))
     }
 
     /// The copy that is under way could not be sent: one error is given for what is left of its frame.

@@ -12,7 +12,7 @@ pub mod event;
 pub mod frame;
 pub mod kept;
 pub mod kept_id;
-//pub mod laws;
+pub mod laws;
 pub mod letter;
 pub mod live;
 pub mod message;

@@ -1,6 +1,5 @@
 //! Consumers of one topic, frame by frame and poll by poll.
 
-use pulsar_consumer::frame::Frame;
 use pulsar_consumer::settings::Settings;
 use pulsar_consumer::{ConsumerConfig, ConsumerOptions, Ending, Polled, SubType, TopicConsumer};
 use pulsar_frame::message::Message;
@@ -41,13 +40,12 @@ fn consumer(alloc: Global, queue: Option<u32>) -> Result<Box<TopicConsumer>, Fai
     subscribed(alloc, settings(alloc, queue, None)?)
 }
 
-/// The frame of a message.
-fn frame(alloc: Global, message: Message) -> Result<Frame, Fail> {
-    Ok(Frame::received(alloc, Received::new(alloc, message)?)?)
+fn received(alloc: Global, message: Message) -> Result<Received, Fail> {
+    Ok(Received::new(alloc, message)?)
 }
 
 /// A message of so many entries, and this payload.
-fn message(alloc: Global, count: Option<i32>, bytes: &[u8]) -> Result<Frame, Fail> {
+fn message(alloc: Global, count: Option<i32>, bytes: &[u8]) -> Result<Received, Fail> {
     let mut metadata = MessageMetadata::new(alloc);
     metadata.num_messages_in_batch = count;
     let payload = Payload {
@@ -59,7 +57,7 @@ fn message(alloc: Global, count: Option<i32>, bytes: &[u8]) -> Result<Frame, Fai
         kind: 9,
         body: Some(body),
     };
-    frame(
+    received(
         alloc,
         Message {
             command,
@@ -84,11 +82,11 @@ fn a_flow_makes_up_what_a_frame_cost(rt: HostRuntime) -> Result<(), Fail> {
     let mut consumer = consumer(alloc, None)?;
     assert!(rt; consumer.ask() == Some(1000));
     assert!(rt; consumer.ask().is_none());
-    consumer.hear(0, message(alloc, Some(500), b"")?)?;
+    consumer.hear(0, 0, message(alloc, Some(500), b"")?)?;
     assert!(rt; consumer.ask().is_none());
-    consumer.hear(0, message(alloc, None, b"a")?)?;
+    consumer.hear(0, 0, message(alloc, None, b"a")?)?;
     assert!(rt; consumer.ask() == Some(501));
-    consumer.hear(0, message(alloc, Some(2124), b"")?)?;
+    consumer.hear(0, 0, message(alloc, Some(2124), b"")?)?;
     assert!(rt; consumer.ask() == Some(2124));
     assert!(rt; consumer.ask().is_none());
     Ok(())
@@ -116,7 +114,7 @@ fn first(item: Item) -> Option<u8> {
 fn a_queue_of_one_gives_a_batch_in_order(rt: HostRuntime) -> Result<(), Fail> {
     let alloc = rt.alloc();
     let mut consumer = consumer(alloc, Some(1))?;
-    consumer.hear(0, message(alloc, Some(3), ABC)?)?;
+    consumer.hear(0, 0, message(alloc, Some(3), ABC)?)?;
     assert!(rt; letter(&mut consumer)? == Some(b'a'));
     assert!(rt; letter(&mut consumer)? == Some(b'b'));
     assert!(rt; letter(&mut consumer)? == Some(b'c'));
@@ -130,11 +128,11 @@ fn a_queue_of_one_gives_a_batch_in_order(rt: HostRuntime) -> Result<(), Fail> {
 fn what_came_is_given_behind_a_lost_link(rt: HostRuntime) -> Result<(), Fail> {
     let alloc = rt.alloc();
     let mut consumer = consumer(alloc, Some(0))?;
-    consumer.hear(0, message(alloc, None, b"a")?)?;
+    consumer.hear(0, 0, message(alloc, None, b"a")?)?;
     assert!(rt; consumer.resubscribes(0));
     consumer.lose(0);
     assert!(rt; consumer.link().is_none());
-    consumer.hear(0, message(alloc, None, b"b")?)?;
+    consumer.hear(0, 0, message(alloc, None, b"b")?)?;
     assert!(rt; polls(&mut consumer)? == 2);
     assert!(rt; polls(&mut consumer)? == 0);
     Ok(())
@@ -156,8 +154,8 @@ fn why_it_is_not_subscribed_again_is_its_last_item(rt: HostRuntime) -> Result<()
 fn what_came_is_given_behind_the_end(rt: HostRuntime) -> Result<(), Fail> {
     let alloc = rt.alloc();
     let mut consumer = consumer(alloc, None)?;
-    consumer.hear(0, message(alloc, None, b"a")?)?;
-    consumer.end(Ending::TopicEnded);
+    consumer.hear(0, 0, message(alloc, None, b"a")?)?;
+    consumer.end(Ending::TopicEnded)?;
     assert!(rt; polls(&mut consumer)? == 2);
     assert!(rt; polls(&mut consumer)? == 1);
     Ok(())
@@ -167,8 +165,8 @@ fn what_came_is_given_behind_the_end(rt: HostRuntime) -> Result<(), Fail> {
 fn an_ended_consumer_takes_no_subscription(rt: HostRuntime) -> Result<(), Fail> {
     let alloc = rt.alloc();
     let mut consumer = consumer(alloc, None)?;
-    consumer.end(Ending::TopicEnded);
-    consumer.end(Ending::Closed);
+    consumer.end(Ending::TopicEnded)?;
+    consumer.end(Ending::Closed)?;
     consumer.subscribe(1, url(alloc)?)?;
     assert!(rt; consumer.link().is_none() && consumer.ask().is_none());
     assert!(rt; consumer.ending() == Some(Ending::TopicEnded));
@@ -181,10 +179,10 @@ fn one_poll_may_finish_two_frames(rt: HostRuntime) -> Result<(), Fail> {
     let alloc = rt.alloc();
     let mut consumer = small(alloc)?;
     assert!(rt; consumer.ask() == Some(1));
-    consumer.hear(0, message(alloc, None, b"a")?)?;
+    consumer.hear(0, 0, message(alloc, None, b"a")?)?;
     assert!(rt; consumer.ask() == Some(1));
-    consumer.hear(0, message(alloc, None, b"b")?)?;
-    consumer.hear(0, bare(alloc)?)?;
+    consumer.hear(0, 0, message(alloc, None, b"b")?)?;
+    consumer.hear(0, 0, bare(alloc)?)?;
     assert!(rt; consumer.ask().is_none());
     assert!(rt; polls(&mut consumer)? == 2);
     assert!(rt; consumer.ask() == Some(1));
@@ -199,12 +197,12 @@ fn small(alloc: Global) -> Result<Box<TopicConsumer>, Fail> {
 }
 
 /// A message command without a payload.
-fn bare(alloc: Global) -> Result<Frame, Fail> {
+fn bare(alloc: Global) -> Result<Received, Fail> {
     let command = BaseCommand {
         kind: 9,
         body: Some(Body::Message(CommandMessage::new(alloc))),
     };
-    frame(
+    received(
         alloc,
         Message {
             command,
@@ -223,15 +221,14 @@ fn another_command_costs_nothing(rt: HostRuntime) -> Result<(), Fail> {
         kind: 27,
         body: Some(Body::ReachedEndOfTopic(CommandReachedEndOfTopic::new())),
     };
-    let frame = frame(
+    let message = received(
         alloc,
         Message {
             command,
             payload: None,
         },
     )?;
-    assert!(rt; frame.weight() == 0);
-    consumer.hear(0, frame)?;
+    consumer.hear(0, 0, message)?;
     assert!(rt; !consumer.is_due() && polls(&mut consumer)? == 0);
     Ok(())
 }
@@ -257,10 +254,10 @@ fn a_raw_consumer_asks_for_nothing_and_ends_with_its_link(rt: HostRuntime) -> Re
     let alloc = rt.alloc();
     let mut consumer = raw(alloc)?;
     assert!(rt; consumer.topic() == "t" && consumer.number() == 7 && !consumer.is_due());
-    consumer.hear(0, message(alloc, Some(3), ABC)?)?;
+    consumer.hear(0, 0, message(alloc, Some(3), ABC)?)?;
     assert!(rt; !consumer.is_due() && !consumer.resubscribes(0));
     consumer.lose(0);
-    consumer.hear(0, message(alloc, None, b"d")?)?;
+    consumer.hear(0, 0, message(alloc, None, b"d")?)?;
     assert!(rt; polls(&mut consumer)? == 2);
     assert!(rt; polls(&mut consumer)? == 2);
     assert!(rt; polls(&mut consumer)? == 2);

@@ -8,8 +8,8 @@ use Rattle.std.specs.Map.Iter.{deref_pair}
 use Rattle.std.specs.Ordering.{is_gt, nat_cmp}
 use Rattle.pulsar_wire.specs.Orders.{id_order}
 use Rattle.pulsar_consumer.specs.KeptIds.{is_in, moment_of}
-use Rattle.pulsar_consumer.specs.Redelivery.{Id, due_before}
-use Rattle.pulsar_consumer.proofs.Keeping.{all_early, any_end, any_map, due_keys, is_early, with_both}
+use Rattle.pulsar_consumer.specs.Redelivery.{Id, due_before, is_early}
+use Rattle.pulsar_consumer.proofs.Keeping.{all_early, any_end, any_map, due_keys, with_both}
 use Rattle.pulsar_consumer.proofs.kept.KeptIds.due.Goals as goal
 
 pub loop-ids-preserved : goal.loop-ids-preserved

@@ -1,0 +1,8 @@
+use Rattle.pulsar_consumer.proofs.Histories.{polls_give_arrivals, polls_give_the_next}
+use Rattle.pulsar_consumer.proofs.laws.polls_give_arrivals.Goals as goal
+
+pub returns-clause-all : goal.returns-clause-all
+returns-clause-all c = polls_give_arrivals
+
+pub returns-clause-next : goal.returns-clause-next
+returns-clause-next c = polls_give_the_next

@@ -1,0 +1,200 @@
+//! Dead letters, and messages that are given again, case by case.
+
+use pulsar_consumer::settings::Settings;
+use pulsar_consumer::{ConsumerConfig, DeadLetterPolicy, Ending, Polled, TopicConsumer};
+use pulsar_frame::message::Message;
+use pulsar_frame::payload::Payload;
+use pulsar_link::content::Received;
+use pulsar_messages::Message as Copy;
+use pulsar_plans::content::Text;
+use pulsar_wire::commands::base::{BaseCommand, Body};
+use pulsar_wire::commands::consumer::delivery::CommandMessage;
+use pulsar_wire::commands::ids::MessageIdData;
+use pulsar_wire::commands::metadata::{KeyValue, MessageMetadata};
+use pulsar_wire::error::ConnectionError;
+use std::alloc::Global;
+use std::test::Fail;
+use url::Url;
+
+/// One of topic t whose subscription is live on link 0. A message that was given again once is a dead letter; one that is not acknowledged is asked
+/// for again after a second.
+fn consumer(alloc: Global) -> Result<Box<TopicConsumer>, Fail> {
+    let mut config = ConsumerConfig::new(alloc);
+    config.unacked_message_redelivery_delay = Some(1000);
+    config.dead_letter_policy = Some(DeadLetterPolicy {
+        max_redeliver_count: 1,
+        dead_letter_topic: String::from_str(alloc, "d")?,
+    });
+    let settings = Settings::new(alloc, config)?;
+    let topic = Text::new(String::from_str(alloc, "t")?);
+    let consumer = TopicConsumer::new(alloc, topic, 0, settings, false);
+    let mut consumer = Box::new(alloc, consumer)?;
+    consumer.subscribe(0, Url::parse(alloc, "pulsar://127.0.0.1:6650")?)?;
+    Ok(consumer)
+}
+
+fn id(alloc: Global, ledger: u64, entry: u64) -> MessageIdData {
+    let mut id = MessageIdData::new(alloc);
+    id.ledger_id = ledger;
+    id.entry_id = entry;
+    id
+}
+
+fn property(alloc: Global, key: &str, value: &str) -> Result<KeyValue, Fail> {
+    Ok(KeyValue {
+        key: String::from_str(alloc, key)?,
+        value: String::from_str(alloc, value)?,
+    })
+}
+
+/// A message of this id and payload, given again so often, with so many entries.
+fn message(
+    alloc: Global,
+    id: MessageIdData,
+    again: u32,
+    count: Option<i32>,
+    bytes: &[u8],
+) -> Result<Received, Fail> {
+    let mut metadata = MessageMetadata::new(alloc);
+    metadata.num_messages_in_batch = count;
+    metadata.event_time = Some(5);
+    metadata.properties.push(property(alloc, "k_2", "v_2")?)?;
+    metadata.properties.push(property(alloc, "k_1", "v_1")?)?;
+    let payload = Payload {
+        metadata,
+        bytes: bytes.to_vec(alloc)?,
+    };
+    Ok(received(alloc, id, again, payload)?)
+}
+
+fn received(
+    alloc: Global,
+    id: MessageIdData,
+    again: u32,
+    payload: Payload,
+) -> Result<Received, Fail> {
+    let mut told = CommandMessage::new(alloc);
+    told.message_id = id;
+    told.redelivery_count = Some(again);
+    let command = BaseCommand {
+        kind: 9,
+        body: Some(Body::Message(told)),
+    };
+    Ok(Received::new(
+        alloc,
+        Message {
+            command,
+            payload: Some(payload),
+        },
+    )?)
+}
+
+/// e: there is nothing now; E: the end; the first byte of a message; !: an error.
+fn poll(consumer: &mut TopicConsumer) -> Result<u8, Fail> {
+    match consumer.poll(0)? {
+        Polled::Empty => Ok(b'e'),
+        Polled::End => Ok(b'E'),
+        Polled::Item(item) => { if item.is_message() { Ok(b'm') } else { Ok(b'!') } }
+    }
+}
+
+/// Its properties, one after another.
+fn properties(alloc: Global, copy: &Copy) -> Result<String, Fail> {
+    let mut text = String::new(alloc);
+    for (key, value) in &copy.properties {
+        text.push_str(format!(in alloc; "{key}={value};")?.as_str())?;
+    }
+    Ok(text)
+}
+
+#[test]
+fn a_copy_says_where_it_comes_from(rt: HostRuntime) -> Result<(), Fail> {
+    let alloc = rt.alloc();
+    let mut consumer = consumer(alloc)?;
+    consumer.hear(0, 0, message(alloc, id(alloc, 1, 2), 1, None, b"x")?)?;
+    assert!(rt; consumer.is_copy_due() && poll(&mut consumer)? == b'e');
+    let copy = consumer.take_copy()?.ok_or(ConnectionError::NotFound)?;
+    assert!(rt; copy.payload.as_slice() == b"x".as_slice() && copy.event_time == Some(5));
+    let text = properties(alloc, &copy)?;
+    assert!(rt; text.as_str() == "ORIGIN_MESSAGE_ID=1:2:-1;REAL_TOPIC=t;k_1=v_1;k_2=v_2;");
+    assert!(rt; !consumer.is_copy_due() && poll(&mut consumer)? == b'e');
+    let acked = consumer.copy_sent(0)?;
+    assert!(rt; acked == Some(id(alloc, 1, 2)));
+    assert!(rt; poll(&mut consumer)? == b'e' && !consumer.is_copy_due());
+    Ok(())
+}
+
+const AB: &[u8] = b"\x00\x00\x00\x02\x18\x01a\x00\x00\x00\x02\x18\x01b";
+
+#[test]
+fn a_failed_copy_skips_the_rest_of_its_frame_alone(rt: HostRuntime) -> Result<(), Fail> {
+    let alloc = rt.alloc();
+    let mut consumer = consumer(alloc)?;
+    consumer.hear(0, 0, message(alloc, id(alloc, 1, 2), 1, Some(2), AB)?)?;
+    consumer.hear(0, 0, message(alloc, id(alloc, 1, 3), 0, None, b"n")?)?;
+    assert!(rt; consumer.take_copy()?.is_some() && poll(&mut consumer)? == b'e');
+    consumer.copy_failed(0)?;
+    assert!(rt; !consumer.is_copy_due());
+    assert!(rt; poll(&mut consumer)? == b'!');
+    assert!(rt; poll(&mut consumer)? == b'm');
+    assert!(rt; poll(&mut consumer)? == b'e');
+    Ok(())
+}
+
+#[test]
+fn entries_are_copied_in_turn(rt: HostRuntime) -> Result<(), Fail> {
+    let alloc = rt.alloc();
+    let mut consumer = consumer(alloc)?;
+    consumer.hear(0, 0, message(alloc, id(alloc, 1, 2), 1, Some(2), AB)?)?;
+    assert!(rt; consumer.take_copy()?.is_some() && consumer.take_copy()?.is_none());
+    assert!(rt; consumer.copy_sent(0)?.is_some() && consumer.is_copy_due());
+    consumer.lose(0);
+    assert!(rt; consumer.take_copy()?.is_some() && consumer.copy_sent(0)?.is_none());
+    assert!(rt; consumer.copy_sent(0)?.is_none() && !consumer.is_copy_due());
+    Ok(())
+}
+
+#[test]
+fn dead_letters_fail_at_a_stop(rt: HostRuntime) -> Result<(), Fail> {
+    let alloc = rt.alloc();
+    let mut consumer = consumer(alloc)?;
+    consumer.hear(0, 0, message(alloc, id(alloc, 1, 2), 1, None, b"x")?)?;
+    consumer.hear(0, 0, message(alloc, id(alloc, 1, 3), 2, None, b"y")?)?;
+    consumer.end(Ending::Closed)?;
+    assert!(rt; poll(&mut consumer)? == b'e' && consumer.is_copy_due());
+    consumer.end(Ending::Stopped)?;
+    assert!(rt; poll(&mut consumer)? == b'!');
+    assert!(rt; poll(&mut consumer)? == b'!');
+    assert!(rt; poll(&mut consumer)? == b'E');
+    Ok(())
+}
+
+#[test]
+fn a_check_names_what_is_due_in_the_order_of_ids(rt: HostRuntime) -> Result<(), Fail> {
+    let alloc = rt.alloc();
+    let mut consumer = consumer(alloc)?;
+    consumer.hear(0, 0, message(alloc, id(alloc, 2, 0), 0, None, b"b")?)?;
+    consumer.hear(0, 0, message(alloc, id(alloc, 1, 1), 0, None, b"a")?)?;
+    consumer.hear(0, 0, message(alloc, id(alloc, 1, 0), 0, None, b"c")?)?;
+    consumer.forget(&id(alloc, 1, 0))?;
+    assert!(rt; consumer.check(1000)?.is_empty());
+    let named = consumer.check(1500)?;
+    assert!(rt; named.len() == 2 && named[0] == id(alloc, 1, 1) && named[1] == id(alloc, 2, 0));
+    assert!(rt; consumer.check(2000)?.is_empty());
+    Ok(())
+}
+
+#[test]
+fn what_is_placed_again_is_due_later(rt: HostRuntime) -> Result<(), Fail> {
+    let alloc = rt.alloc();
+    let mut consumer = consumer(alloc)?;
+    consumer.hear(0, 0, message(alloc, id(alloc, 1, 1), 0, None, b"a")?)?;
+    consumer.hear(0, 600, message(alloc, id(alloc, 1, 1), 0, None, b"a")?)?;
+    assert!(rt; consumer.check(1500)?.is_empty());
+    consumer.lose(0);
+    assert!(rt; consumer.check(2000)?.is_empty());
+    consumer.subscribe(1, Url::parse(alloc, "pulsar://127.0.0.1:6650")?)?;
+    let named = consumer.check(2000)?;
+    assert!(rt; named.len() == 1);
+    Ok(())
+}

@@ -40,7 +40,7 @@ found_at q k v e es Greater h more = rw h (by (is_same_id q e.0) (is_same_id q k
         let equal : id_order e.0 e.0 ≡ Greater = subst (λ x. id_order x e.0 ≡ Greater) same h in
         let back = id_total.antisymm e.0 e.0 in
         let less : id_order e.0 e.0 ≡ Less = back ∙ ap ordering_reverse equal in
-        absurd (let no : Less ≡ Greater = sym less ∙ equal in cc)
+        absurd (let nay : Less ≡ Greater = sym less ∙ equal in cc)
 
     by : (b c : Bool) → is_same_id q e.0 ≡ b → is_same_id q k ≡ c →
         cond (is_same_id q e.0) (Some e.1) (lookup (is_same_id q) (insert_entry id_order es k v)) ≡ cond (is_same_id q k) (Some v) (cond (is_same_id q e.0) (Some e.1) (lookup (is_same_id q) es))

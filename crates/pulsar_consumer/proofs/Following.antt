@@ -29,18 +29,18 @@ Allowed is_stopped d more = is_stopped ≡ true → (d ≡ true) × (more ≡ []
 abbrev pub size : List Item → Engine → ℕ
 size gave e = length gave + length e.unread + length e.rest
 
-record Follows (all : List Frame) (os : List Bool) (gave : List Item) (e : Engine) : Type 0 where
-  frames : List Frame
-  parts : all ≡ frames ++ e.waiting
-  least : ℕ
-  fits : least ≤ length gave + e.queue
-  below : least ≤ size gave e
-  still : e.stopped ≡ true → open_of e ≡ []
-  items : (d : Bool) (more : List Bool) (gs : List Frame) → Allowed e.stopped d more →
+pub record Follows (all : List Frame) (os : List Bool) (gave : List Item) (e : Engine) : Type 0 where
+  pub frames : List Frame
+  pub parts : all ≡ frames ++ e.waiting
+  pub least : ℕ
+  pub fits : least ≤ length gave + e.queue
+  pub below : least ≤ size gave e
+  pub still : e.stopped ≡ true → open_of e ≡ []
+  pub items : (d : Bool) (more : List Bool) (gs : List Frame) → Allowed e.stopped d more →
       ready_in d (os ++ more) (frames ++ gs) ≡ gave ++ (e.unread ++ (e.rest ++ behind_fate (fate d more (open_of e)) (λ left. ready_in d left gs)))
-  pends : (d : Bool) (more : List Bool) (gs : List Frame) → Allowed e.stopped d more →
+  pub pends : (d : Bool) (more : List Bool) (gs : List Frame) → Allowed e.stopped d more →
       pending_in d (os ++ more) (frames ++ gs) ≡ pending_behind (fate d more (open_of e)) (λ left. pending_in d left gs)
-  begins : (d : Bool) (more : List Bool) (gs : List Frame) (room : ℕ) → Allowed e.stopped d more → least ≤ room →
+  pub begins : (d : Bool) (more : List Bool) (gs : List Frame) (room : ℕ) → Allowed e.stopped d more → least ≤ room →
       begun_in d (os ++ more) room (frames ++ gs) ≡ frames ++ begun_behind (fate d more (open_of e)) (size gave e) room (λ left room. begun_in d left room gs)
 
 -- what says nothing of items and frames changes nothing
@@ -175,7 +175,7 @@ module _ (all : List Frame) (os : List Bool) (gave : List Item) where
             ap (λ xs. begun_in d (os ++ more) room xs) (append_assoc s.frames (f ∷ []) gs)
             ∙ s.begins d more (f ∷ gs) room may (earlier room fits)
             ∙ ap (λ ls. s.frames ++ begun_behind (fate d more ls) (size gave e) room (λ left room. begun_in d left room (f ∷ gs))) none_open
-            ∙ ap (λ b. s.frames ++ cond b [] (begun_in d more (room - (size gave e + 0)) (f ∷ gs))) (let no : nat_lt room (size gave e + 0) ≡ false = grind (arith, nat_tests) in no)
+            ∙ ap (λ b. s.frames ++ cond b [] (begun_in d more (room - (size gave e + 0)) (f ∷ gs))) (let nay : nat_lt room (size gave e + 0) ≡ false = grind (arith, nat_tests) in nay)
             ∙ ap (λ n. s.frames ++ begun_in d more (room - n) (f ∷ gs)) (let e0 : size gave e + 0 ≡ size gave e = omega arith in e0)
             ∙ ap (λ xs. s.frames ++ (f ∷ xs)) (opened_begins e.stopped f.items f.letters d more (room - size gave e) (λ left room. begun_in d left room gs) may
             ∙ shifted (fate d more (holding None (cond e.stopped [] f.letters))) (size gave e) (length (f.items ++ cond e.stopped (error_for f.letters) [])) room (λ left room. begun_in d left room gs) fits
@@ -448,13 +448,13 @@ module _ (all : List Frame) (os : List Bool) (gave : List Item) where
   stops_follows e le s = by (is_pending e) refl
     where
       idle_open : is_pending e ≡ false → open_of e ≡ []
-      idle_open no = let two = is_idle e no in ap (λ o. holding o e.letters) two.0 ∙ two.1
+      idle_open nay = let two = is_idle e nay in ap (λ o. holding o e.letters) two.0 ∙ two.1
 
       some_there : (o : Option Id) (ls : List Letter) → e.copying ≡ o → e.letters ≡ ls → is_pending e ≡ true → Follows all os gave (given_up (record e { stopped = true }))
-      some_there (Some id) ls c w yes = stop_fails e _ e.letters (ap (λ o. holding o e.letters) c) s
-      some_there None (l ∷ ls) c w yes = stop_fails e l ls (ap (λ o. holding o e.letters) c ∙ w) s
-      some_there None [] c w yes = absurd (nothing_open e.copying e.letters c w yes)
+      some_there (Some id) ls c w aye = stop_fails e _ e.letters (ap (λ o. holding o e.letters) c) s
+      some_there None (l ∷ ls) c w aye = stop_fails e l ls (ap (λ o. holding o e.letters) c ∙ w) s
+      some_there None [] c w aye = absurd (nothing_open e.copying e.letters c w aye)
 
       by : (b : Bool) → is_pending e ≡ b → Follows all os gave (cond b (gives_up (record e { stopped = true })) (record e { stopped = true }))
-      by true yes = advances_follows all os gave (given_up (record e { stopped = true })) le (some_there e.copying e.letters refl refl yes)
-      by false no = halted_follows e (idle_open no) s
+      by true aye = advances_follows all os gave (given_up (record e { stopped = true })) le (some_there e.copying e.letters refl refl aye)
+      by false nay = halted_follows e (idle_open nay) s

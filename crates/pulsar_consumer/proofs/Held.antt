@@ -110,7 +110,7 @@ goes_settled (f ∷ fs) e w full = by (is_finished e) refl (goes_settled fs (nex
   where
     by : (b : Bool) → is_finished e ≡ b → IsSettled (goes_on fs (next_of f fs e)) → IsSettled (cond b (goes_on fs (next_of f fs e)) e)
     by true none all = all
-    by false more all = (full, λ none. absurd (let no : true ≡ false = sym none ∙ more in cc))
+    by false more all = (full, λ none. absurd (let nay : true ≡ false = sym none ∙ more in cc))
 
 pub advances_settled : (e : Engine) → length e.unread ≤ e.queue → IsSettled (advances e)
 advances_settled e le = goes_settled e.waiting (places e) refl (places_full e le)

@@ -1,5 +1,5 @@
 -- What an act keeps, and so every history.
-use Rattle.std.proofs.Common.{◌≡◌, ◌∙◌, sym, ap, refl, subst, ℕ, ◌+◌, ◌-◌, ◌<◌, ◌≤◌, ◌==◌, ◌&&◌, ◌||◌, not, Bool, true, false, cond, List, [], ◌∷◌, ◌++◌, length, take, drop, Option, Some, None, arith}
+use Rattle.std.proofs.Common.{◌≡◌, ◌∙◌, sym, ap, refl, subst, ℕ, ◌+◌, ◌-◌, ◌<◌, ◌≤◌, nat_lt, ◌==◌, ◌&&◌, ◌||◌, not, Bool, true, false, cond, List, [], ◌∷◌, ◌++◌, length, take, drop, Option, Some, None, arith}
 use Rattle.std.proofs.lemmas.Bool.Decides.{nat_tests}
 use Rattle.std.proofs.lemmas.List.{append-nil, append_assoc, drop_at, length-append, take-append-le, take_all}
 use Rattle.std.specs.Option.{is_some, option_map, option_or}
@@ -15,7 +15,7 @@ use Rattle.pulsar_consumer.specs.Laws.{EndIsFinal, Fate, Pending, Settled, Frame
 use Rattle.pulsar_consumer.specs.declared.polled.Ending.{Ending}
 use Rattle.pulsar_consumer.specs.declared.polled.Ending.TheVariants.{Closed, TopicEnded, LinkLost, NotSubscribed, Stopped}
 use Rattle.pulsar_consumer.proofs.Following.{Allowed, Follows, copied_follows, failed_follows, gives_follows, hears_follows, holding, open_of, renewed, size, stops_follows, takes_follows}
-use Rattle.pulsar_consumer.proofs.Held.{IsSettled, copied_settled, failed_settled, finished, gives_settled, hears_settled, is_idle, next_of, none_left, nothing_open, one_of, some_in, stops_settled, takes_settled}
+use Rattle.pulsar_consumer.proofs.Held.{IsSettled, copied_settled, failed_settled, finished, gives_settled, hears_settled, is_idle, next_of, none_left, nothing_open, one_of, pending_no, some_in, stops_settled, takes_settled}
 use Rattle.pulsar_consumer.proofs.Permits.{Bounded, InBounds, Keeps, Quiet, Weightless, advances_bounded, advances_dead, advances_keeps, advances_quiet, asked_quiet, copied_so, failed_so, gives_so, hears_so, stops_so, subscribed_bounded, takes_so}
 
 -- counting a message leaves the engine as it is, and why it has ended
@@ -273,14 +273,14 @@ unchanged {all} {os} {gave} e s =
     (subst (λ xs. Follows all os xs e) (sym (append-nil gave)) s))
 
 -- a frame came
-came : {all : List Frame} {os : List Bool} {gave : List Item} (f : Frame) (e : Engine) → Follows (all ++ f ∷ []) os gave e → Follows (all ++ f ∷ []) (os ++ []) (gave ++ []) e
-came {all} {os} {gave} f e s =
+came : (all : List Frame) (os : List Bool) (gave : List Item) (f : Frame) (e : Engine) → Follows (all ++ f ∷ []) os gave e → Follows (all ++ f ∷ []) (os ++ []) (gave ++ []) e
+came all os gave f e s =
     subst (λ xs. Follows (all ++ f ∷ []) xs (gave ++ []) e) (sym (append-nil os))
     (subst (λ xs. Follows (all ++ f ∷ []) os xs e) (sym (append-nil gave)) s)
 
 -- an outcome came
-settled_one : {all : List Frame} {os : List Bool} {gave : List Item} (more : List Bool) (e : Engine) → Follows all (os ++ more) gave e → Follows (all ++ []) (os ++ more) (gave ++ []) e
-settled_one {all} {os} {gave} more e s =
+settled_one : (all : List Frame) (os : List Bool) (gave : List Item) (more : List Bool) (e : Engine) → Follows all (os ++ more) gave e → Follows (all ++ []) (os ++ more) (gave ++ []) e
+settled_one all os gave more e s =
     subst (λ xs. Follows xs (os ++ more) (gave ++ []) e) (sym (append-nil all))
     (subst (λ xs. Follows all (os ++ more) xs e) (sym (append-nil gave)) s)
 
@@ -301,7 +301,7 @@ module _ (all : List Frame) (os : List Bool) (gave : List Item) where
   follows_after (Hears link clock r) v le s = by (lives_on link v)
     where
       by : (b : Bool) → Follows (all ++ cond b (frame_for v r ∷ []) []) (os ++ []) (gave ++ []) (cond b (heard clock r v) v).engine
-      by true = came (frame_for v r) _ (hears_follows all os gave (frame_for v r) (clocked clock v.engine) le (clocked_follows clock v.engine s))
+      by true = came all os gave (frame_for v r) _ (hears_follows all os gave (frame_for v r) (clocked clock v.engine) le (clocked_follows clock v.engine s))
       by false = unchanged v.engine s
   follows_after (Loses link) v le s = by (lives_on link v) v.is_raw
     where
@@ -315,7 +315,7 @@ module _ (all : List Frame) (os : List Bool) (gave : List Item) where
       by true = unchanged v.engine s
       by false =
           let heard_one = hears_follows all os gave (failed f) v.engine le s in
-          came (failed f) _ (renewed (hears (failed f) v.engine) None None (hears (failed f) v.engine).clock [] heard_one)
+          came all os gave (failed f) _ (renewed (hears (failed f) v.engine) None None (hears (failed f) v.engine).clock [] heard_one)
   follows_after (Ends why) v le s = by (is_stop why)
     where
       by : (b : Bool) → Follows (all ++ []) (os ++ []) (gave ++ []) (cond b (stops (shut v.engine)) (shut v.engine))
@@ -330,9 +330,9 @@ module _ (all : List Frame) (os : List Bool) (gave : List Item) where
   follows_after Asks v le s = unchanged _ (renewed v.engine (option_map asked v.engine.live) v.engine.delay v.engine.clock v.engine.kept s)
   follows_after TakesCopy v le s = unchanged _ (takes_follows all os gave v.engine s)
   follows_after (IsCopied clock) v le s =
-      settled_one (outcome_if (is_some v.engine.copying) true) _ (copied_follows all os gave (clocked clock v.engine) le (clocked_follows clock v.engine s))
+      settled_one all os gave (outcome_if (is_some v.engine.copying) true) _ (copied_follows all os gave (clocked clock v.engine) le (clocked_follows clock v.engine s))
   follows_after (FailsCopy clock) v le s =
-      settled_one (outcome_if (is_some v.engine.copying) false) _ (failed_follows all os gave (clocked clock v.engine) le (clocked_follows clock v.engine s))
+      settled_one all os gave (outcome_if (is_some v.engine.copying) false) _ (failed_follows all os gave (clocked clock v.engine) le (clocked_follows clock v.engine s))
   follows_after (Forgets id) v le s = unchanged _ (renewed v.engine v.engine.live v.engine.delay v.engine.clock (forget id v.engine.kept) s)
   follows_after (Checks clock) v le s = by (is_some v.engine.live)
     where
@@ -356,12 +356,12 @@ follows s [] =
   where
     no_room : (more : List Bool) (gs : List Frame) (d : Bool) (room : ℕ) → begun_behind (Settled [] more) 0 room (λ left room. begun_in d left room gs) ≡ begun_in d more room gs
     no_room more gs d room =
-        ap (λ b. cond b [] (begun_in d more (room - 0) gs)) (let no : nat_lt room (0 + 0) ≡ false = grind (arith, nat_tests) in no)
+        ap (λ b. cond b [] (begun_in d more (room - 0) gs)) (let nay : nat_lt room (0 + 0) ≡ false = grind (arith, nat_tests) in nay)
         ∙ ap (λ n. begun_in d more n gs) (let same : room - 0 ≡ room = omega arith in same)
 follows s (act ∷ h) = follows_after (arrivals s h) (outcomes s h) (given s h) act (seen s h) (settled s h).0.0 (follows s h)
 
 done_of : (rest : List Item) (p : Bool) → rest ≡ [] → p ≡ false → (no_items rest && not p) ≡ true
-done_of rest p none no = ap (λ xs. no_items xs && not p) none ∙ ap (λ b. not b) no
+done_of rest p none nay = ap (λ xs. no_items xs && not p) none ∙ ap (λ b. not b) nay
 
 -- at this place: nothing more came, and the frames that wait stand behind those that are begun
 module _ (s : Setup) (h : List Act) where
@@ -369,7 +369,7 @@ module _ (s : Setup) (h : List Act) where
   now = (seen s h).engine
 
   may_now : Allowed now.stopped (is_stopped h) []
-  may_now yes = (sym (halted s h) ∙ yes, refl)
+  may_now aye = (sym (halted s h) ∙ aye, refl)
 
   -- what the entries that are none_open bring: nothing
   abbrev pub held_back : List Item
@@ -388,11 +388,11 @@ module _ (s : Setup) (h : List Act) where
 
   -- where an entry is none_open, nothing is stopped, so nothing stands behind it
   stuck_at : (ls : List Letter) → open_of now ≡ ls → (l : Letter) (more : List Letter) → ls ≡ l ∷ more → (d : Bool) → is_stopped h ≡ d → held_back ≡ []
-  stuck_at ls is l more w true yes =
-      let bad : ls ≡ [] = sym is ∙ (follows s h).still (halted s h ∙ yes) in
-      absurd (let no : l ∷ more ≡ [] = sym w ∙ bad in cc)
-  stuck_at ls is l more w false no =
-      ap (λ d. behind_fate (fate d [] (open_of now)) (λ left. ready_in (is_stopped h) left now.waiting)) no
+  stuck_at ls is l more w true aye =
+      let bad : ls ≡ [] = sym is ∙ (follows s h).still (halted s h ∙ aye) in
+      absurd (let nay : l ∷ more ≡ [] = sym w ∙ bad in cc)
+  stuck_at ls is l more w false nay =
+      ap (λ d. behind_fate (fate d [] (open_of now)) (λ left. ready_in (is_stopped h) left now.waiting)) nay
       ∙ ap (λ ls. behind_fate (fate false [] ls) (λ left. ready_in (is_stopped h) left now.waiting)) (is ∙ w)
 
   -- nothing is held back behind what is placed and begun, where all of that is placed
@@ -400,17 +400,17 @@ module _ (s : Setup) (h : List Act) where
   nothing_behind none = by (is_pending now) refl
     where
       some_open : (o : Option Id) (ls : List Letter) → now.copying ≡ o → now.letters ≡ ls → is_pending now ≡ true → held_back ≡ []
-      some_open (Some id) ls c w yes = stuck_at _ (ap (λ o. holding o now.letters) c) _ now.letters refl (is_stopped h) refl
-      some_open None (l ∷ ls) c w yes = stuck_at _ (ap (λ o. holding o now.letters) c ∙ w) l ls refl (is_stopped h) refl
-      some_open None [] c w yes = absurd (nothing_open now.copying now.letters c w yes)
+      some_open (Some id) ls c w aye = stuck_at _ (ap (λ o. holding o now.letters) c) _ now.letters refl (is_stopped h) refl
+      some_open None (l ∷ ls) c w aye = stuck_at _ (ap (λ o. holding o now.letters) c ∙ w) l ls refl (is_stopped h) refl
+      some_open None [] c w aye = absurd (nothing_open now.copying now.letters c w aye)
 
       by : (b : Bool) → is_pending now ≡ b → held_back ≡ []
-      by true yes = some_open now.copying now.letters refl refl yes
-      by false no =
-          let idle_now = is_idle now no in
+      by true aye = some_open now.copying now.letters refl refl aye
+      by false nay =
+          let idle_now = is_idle now nay in
           let none_open : open_of now ≡ [] = ap (λ o. holding o now.letters) idle_now.0 ∙ idle_now.1 in
           ap (λ ls. behind_fate (fate (is_stopped h) [] ls) (λ left. ready_in (is_stopped h) left now.waiting)) none_open
-          ∙ ap (λ fs. ready_in (is_stopped h) [] fs) ((settled s h).1 (done_of now.rest (is_pending now) none no))
+          ∙ ap (λ fs. ready_in (is_stopped h) [] fs) ((settled s h).1 (done_of now.rest (is_pending now) none nay))
 
   -- what is placed are the first items that are left
   placed_first : now.unread ≡ take now.queue (now.unread ++ (now.rest ++ held_back))
@@ -458,27 +458,27 @@ module _ (s : Setup) (h : List Act) where
     where
       found : (ls : List Letter) → open_of now ≡ ls → (l : Letter) (more : List Letter) → ls ≡ l ∷ more → (d : Bool) → is_stopped h ≡ d →
           pending_behind (fate (is_stopped h) [] (open_of now)) (λ left. pending_in (is_stopped h) left now.waiting) ≡ true
-      found ls is l more w true yes =
-          let bad : ls ≡ [] = sym is ∙ (follows s h).still (halted s h ∙ yes) in
-          absurd (let no : l ∷ more ≡ [] = sym w ∙ bad in cc)
-      found ls is l more w false no =
-          ap (λ d. pending_behind (fate d [] (open_of now)) (λ left. pending_in (is_stopped h) left now.waiting)) no
+      found ls is l more w true aye =
+          let bad : ls ≡ [] = sym is ∙ (follows s h).still (halted s h ∙ aye) in
+          absurd (let nay : l ∷ more ≡ [] = sym w ∙ bad in cc)
+      found ls is l more w false nay =
+          ap (λ d. pending_behind (fate d [] (open_of now)) (λ left. pending_in (is_stopped h) left now.waiting)) nay
           ∙ ap (λ ls. pending_behind (fate false [] ls) (λ left. pending_in (is_stopped h) left now.waiting)) (is ∙ w)
 
       some_open : (o : Option Id) (ls : List Letter) → now.copying ≡ o → now.letters ≡ ls → is_pending now ≡ true →
           pending_behind (fate (is_stopped h) [] (open_of now)) (λ left. pending_in (is_stopped h) left now.waiting) ≡ true
-      some_open (Some id) ls c w yes = found _ (ap (λ o. holding o now.letters) c) _ now.letters refl (is_stopped h) refl
-      some_open None (l ∷ ls) c w yes = found _ (ap (λ o. holding o now.letters) c ∙ w) l ls refl (is_stopped h) refl
-      some_open None [] c w yes = absurd (nothing_open now.copying now.letters c w yes)
+      some_open (Some id) ls c w aye = found _ (ap (λ o. holding o now.letters) c) _ now.letters refl (is_stopped h) refl
+      some_open None (l ∷ ls) c w aye = found _ (ap (λ o. holding o now.letters) c ∙ w) l ls refl (is_stopped h) refl
+      some_open None [] c w aye = absurd (nothing_open now.copying now.letters c w aye)
 
       by : (b : Bool) → is_pending now ≡ b → pending_behind (fate (is_stopped h) [] (open_of now)) (λ left. pending_in (is_stopped h) left now.waiting) ≡ is_pending now
-      by true yes = some_open now.copying now.letters refl refl yes ∙ sym yes
-      by false no =
-          let idle_now = is_idle now no in
+      by true aye = some_open now.copying now.letters refl refl aye ∙ sym aye
+      by false nay =
+          let idle_now = is_idle now nay in
           let none_open : open_of now ≡ [] = ap (λ o. holding o now.letters) idle_now.0 ∙ idle_now.1 in
           ap (λ ls. pending_behind (fate (is_stopped h) [] ls) (λ left. pending_in (is_stopped h) left now.waiting)) none_open
-          ∙ ap (λ fs. pending_in (is_stopped h) [] fs) ((settled s h).1 (done_of now.rest (is_pending now) none no))
-          ∙ sym no
+          ∙ ap (λ fs. pending_in (is_stopped h) [] fs) ((settled s h).1 (done_of now.rest (is_pending now) none nay))
+          ∙ sym nay
 
   -- the frames that are begun are those that don't wait
   begun_rest : begun_behind (fate (is_stopped h) [] (open_of now)) (size (given s h) now) (length (given s h) + queue s) (λ left room. begun_in (is_stopped h) left room now.waiting) ≡ []
@@ -489,33 +489,33 @@ module _ (s : Setup) (h : List Act) where
       full_so (Settled items left) n room k lt =
           ap (λ b. cond b [] (k left (room - (n + length items)))) (let full : nat_lt room (n + length items) ≡ true = grind (arith, nat_tests) in full)
 
-      either_none : (b : Bool) → cond b [] [] ≡ []
+      either_none : (b : Bool) → cond {A = List Frame} b [] [] ≡ []
       either_none true = refl
       either_none false = refl
 
       stuck_so : (ls : List Letter) → open_of now ≡ ls → (l : Letter) (more : List Letter) → ls ≡ l ∷ more → (d : Bool) → is_stopped h ≡ d →
           begun_behind (fate (is_stopped h) [] (open_of now)) (size (given s h) now) (length (given s h) + queue s) (λ left room. begun_in (is_stopped h) left room now.waiting) ≡ []
-      stuck_so ls is l more w true yes =
-          let bad : ls ≡ [] = sym is ∙ (follows s h).still (halted s h ∙ yes) in
-          absurd (let no : l ∷ more ≡ [] = sym w ∙ bad in cc)
-      stuck_so ls is l more w false no =
-          ap (λ d. begun_behind (fate d [] (open_of now)) (size (given s h) now) (length (given s h) + queue s) (λ left room. begun_in (is_stopped h) left room now.waiting)) no
+      stuck_so ls is l more w true aye =
+          let bad : ls ≡ [] = sym is ∙ (follows s h).still (halted s h ∙ aye) in
+          absurd (let nay : l ∷ more ≡ [] = sym w ∙ bad in cc)
+      stuck_so ls is l more w false nay =
+          ap (λ d. begun_behind (fate d [] (open_of now)) (size (given s h) now) (length (given s h) + queue s) (λ left room. begun_in (is_stopped h) left room now.waiting)) nay
           ∙ ap (λ ls. begun_behind (fate false [] ls) (size (given s h) now) (length (given s h) + queue s) (λ left room. begun_in (is_stopped h) left room now.waiting)) (is ∙ w)
 
       some_open : (o : Option Id) (ls : List Letter) → now.copying ≡ o → now.letters ≡ ls → is_pending now ≡ true →
           begun_behind (fate (is_stopped h) [] (open_of now)) (size (given s h) now) (length (given s h) + queue s) (λ left room. begun_in (is_stopped h) left room now.waiting) ≡ []
-      some_open (Some id) ls c w yes = stuck_so _ (ap (λ o. holding o now.letters) c) _ now.letters refl (is_stopped h) refl
-      some_open None (l ∷ ls) c w yes = stuck_so _ (ap (λ o. holding o now.letters) c ∙ w) l ls refl (is_stopped h) refl
-      some_open None [] c w yes = absurd (nothing_open now.copying now.letters c w yes)
+      some_open (Some id) ls c w aye = stuck_so _ (ap (λ o. holding o now.letters) c) _ now.letters refl (is_stopped h) refl
+      some_open None (l ∷ ls) c w aye = stuck_so _ (ap (λ o. holding o now.letters) c ∙ w) l ls refl (is_stopped h) refl
+      some_open None [] c w aye = absurd (nothing_open now.copying now.letters c w aye)
 
       done : (b : Bool) → now.rest ≡ [] → is_pending now ≡ b →
           begun_behind (fate (is_stopped h) [] (open_of now)) (size (given s h) now) (length (given s h) + queue s) (λ left room. begun_in (is_stopped h) left room now.waiting) ≡ []
-      done true none yes = some_open now.copying now.letters refl refl yes
-      done false none no =
-          let idle_now = is_idle now no in
+      done true none aye = some_open now.copying now.letters refl refl aye
+      done false none nay =
+          let idle_now = is_idle now nay in
           let none_open : open_of now ≡ [] = ap (λ o. holding o now.letters) idle_now.0 ∙ idle_now.1 in
           ap (λ ls. begun_behind (fate (is_stopped h) [] ls) (size (given s h) now) (length (given s h) + queue s) (λ left room. begun_in (is_stopped h) left room now.waiting)) none_open
-          ∙ ap (λ fs. begun_behind (Settled [] []) (size (given s h) now) (length (given s h) + queue s) (λ left room. begun_in (is_stopped h) left room fs)) ((settled s h).1 (done_of now.rest (is_pending now) none no))
+          ∙ ap (λ fs. begun_behind (Settled [] []) (size (given s h) now) (length (given s h) + queue s) (λ left room. begun_in (is_stopped h) left room fs)) ((settled s h).1 (done_of now.rest (is_pending now) none nay))
           ∙ either_none (nat_lt (length (given s h) + queue s) (size (given s h) now + 0))
 
       by : (b : Bool) → no_items now.rest ≡ b →
@@ -732,10 +732,10 @@ ended_not (Some other) why is = refl
 
 lives_shut : (b : Bool) (v w : Seen) → w.ended ≡ v.ended → is_some v.ended ≡ b → IsShut v → IsShut (cond b v w)
 lives_shut true v w s e p = p
-lives_shut false v w s e p = λ why is. absurd (let no : true ≡ false = sym (ended_not v.ended why (sym s ∙ is)) ∙ e in cc)
+lives_shut false v w s e p = λ why is. absurd (let nay : true ≡ false = sym (ended_not v.ended why (sym s ∙ is)) ∙ e in cc)
 
 hears_shut : (b : Bool) (link clock : ℕ) (r : Reply) (v : Seen) → lives_on link v ≡ b → IsShut v → IsShut (cond b (heard clock r v) v)
-hears_shut true link clock r v e p = λ why is. absurd (let no : true ≡ false = sym e ∙ not_on link v.engine.live (p why is) in cc)
+hears_shut true link clock r v e p = λ why is. absurd (let nay : true ≡ false = sym e ∙ not_on link v.engine.live (p why is) in cc)
 hears_shut false link clock r v e p = p
 
 pub ends_dead : (why : Ending) (e : Engine) → Dead (ended_engine why e)

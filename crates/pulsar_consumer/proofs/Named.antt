@@ -191,15 +191,15 @@ abbrev KeepsNone : Engine → Type 0
 KeepsNone e = e.delay ≡ None → e.kept ≡ []
 
 still_none : (delay : Option ℕ) (clock : ℕ) (more : List Item) (old : Kept) → delay ≡ None → old ≡ [] → keep_all (due_at delay clock) more old ≡ []
-still_none delay clock more old no none =
-    ap (λ d. keep_all (due_at d clock) more old) no ∙ kept_none more old ∙ none
+still_none delay clock more old nay none =
+    ap (λ d. keep_all (due_at d clock) more old) nay ∙ kept_none more old ∙ none
 
 none_by : (d e : Engine) → Places d e → KeepsNone e → KeepsNone d
-none_by d e p all no = let old = sym p.delay ∙ no in p.kept ∙ still_none e.delay e.clock p.more e.kept old (all old)
+none_by d e p all nay = let old = sym p.delay ∙ nay in p.kept ∙ still_none e.delay e.clock p.more e.kept old (all old)
 
 none_gives : (e : Engine) → KeepsNone e → KeepsNone (gives e)
-none_gives e all no =
-    let p = gives_more e.unread e refl in let old = sym p.delay ∙ no in p.kept ∙ still_none e.delay e.clock p.more e.kept old (all old)
+none_gives e all nay =
+    let p = gives_more e.unread e refl in let old = sym p.delay ∙ nay in p.kept ∙ still_none e.delay e.clock p.more e.kept old (all old)
 
 none_kept : Keeping KeepsNone
 none_kept =
@@ -207,7 +207,7 @@ none_kept =
       at_lives = λ e link url p. p;
       at_clock = λ clock e p. p;
       at_cut = λ e p. p;
-      at_shut = λ e p no. refl;
+      at_shut = λ e p nay. refl;
       at_hears = λ f e p. none_by (hears f e) e (hears_more f e) p;
       at_gives = none_gives;
       at_asks = λ e p. p;
@@ -215,12 +215,12 @@ none_kept =
       at_copied = λ e p. none_by (copied e) e (copied_more e) p;
       at_failed = λ e p. none_by (copy_failed e) e (failed_more e) p;
       at_stops = λ e p. none_by (stops e) e (stops_more e) p;
-      at_forgets = λ e id p no. ap (forget id) (p no);
-      at_checks = λ e clock p no. ap (λ k. forget_all (due_before clock e.kept) k) (p no) ∙ forget_none (due_before clock e.kept);
+      at_forgets = λ e id p nay. ap (forget id) (p nay);
+      at_checks = λ e clock p nay. ap (λ k. forget_all (due_before clock e.kept) k) (p nay) ∙ forget_none (due_before clock e.kept);
     }
 
 pub keeps_none : (s : Setup) (h : List Act) → KeepsNone (seen s h).engine
-keeps_none s h = always KeepsNone none_kept s h (λ no. refl)
+keeps_none s h = always KeepsNone none_kept s h (λ nay. refl)
 
 -- and there is none once it has ended
 abbrev Delays : Setup → Seen → Type 0
@@ -232,7 +232,7 @@ ended_some (Some other) why = refl
 
 module _ (s : Setup) where
   is_over : (v w : Seen) → is_ended w ≡ true → w.engine.delay ≡ None → Delays s w
-  is_over v w yes none = none ∙ sym (ap (λ b. cond b None s.config.unacked_message_redelivery_delay) yes)
+  is_over v w aye none = none ∙ sym (ap (λ b. cond b None s.config.unacked_message_redelivery_delay) aye)
 
   same_delay : (v w : Seen) → w.ended ≡ v.ended → w.engine.delay ≡ v.engine.delay → Delays s v → Delays s w
   same_delay v w e d p = d ∙ p ∙ ap (λ o. cond (is_some o) None s.config.unacked_message_redelivery_delay) (sym e)
@@ -323,7 +323,7 @@ moves_so act v w clock none p not_so =
     }
 
 no_end : (o : Option Ending) (why : Ending) → is_some (option_or o (Some why)) ≡ false → ⊥
-no_end o why not_so = absurd (let no : true ≡ false = sym (ended_some o why) ∙ not_so in cc)
+no_end o why not_so = absurd (let nay : true ≡ false = sym (ended_some o why) ∙ not_so in cc)
 
 live_link : (l : Option Live) → is_some (option_map (λ l. l.link) l) ≡ is_some l
 live_link None = refl
@@ -343,14 +343,14 @@ moves_after (Hears link clock r) v in_order not_so = by (lives_on link v)
 moves_after (Loses link) v in_order not_so = by (lives_on link v) v.is_raw not_so
   where
     by : (b c : Bool) → is_ended (cond b (cond c (ends LinkLost v) (lost v)) v) ≡ false → Moves (Loses link) v (cond b (cond c (ends LinkLost v) (lost v)) v)
-    by true true no = absurd (no_end v.ended LinkLost no)
-    by true false no = stays_so (Loses link) v (lost v) refl refl refl (λ id due. refl)
-    by false c no = stays_so (Loses link) v v refl refl refl (λ id due. refl)
+    by true true nay = absurd (no_end v.ended LinkLost nay)
+    by true false nay = stays_so (Loses link) v (lost v) refl refl refl (λ id due. refl)
+    by false c nay = stays_so (Loses link) v v refl refl refl (λ id due. refl)
 moves_after (Fails f) v in_order not_so = by (is_ended v) refl not_so
   where
     by : (b : Bool) → is_ended v ≡ b → is_ended (cond b v (ends NotSubscribed (refused (failed f) v))) ≡ false → Moves (Fails f) v (cond b v (ends NotSubscribed (refused (failed f) v)))
-    by true yes no = absurd (let bad : true ≡ false = sym yes ∙ no in cc)
-    by false yes no = absurd (no_end v.ended NotSubscribed no)
+    by true aye nay = absurd (let bad : true ≡ false = sym aye ∙ nay in cc)
+    by false aye nay = absurd (no_end v.ended NotSubscribed nay)
 moves_after (Ends why) v in_order not_so = absurd (no_end v.ended why not_so)
 moves_after (Polls clock) v in_order not_so =
     let p = gives_more v.engine.unread (clocked clock v.engine) refl in
@@ -386,7 +386,7 @@ moves_after (Checks clock) v in_order not_so = by (is_some v.engine.live) refl
   where
     by : (b : Bool) → is_some v.engine.live ≡ b →
         Moves (Checks clock) v (record v { engine = cond b (record v.engine { kept = forget_all (due_before clock v.engine.kept) v.engine.kept }) v.engine })
-    by true yes =
+    by true aye =
         record {
           more = [];
           items = sym (append-nil v.engine.unread);
@@ -395,10 +395,10 @@ moves_after (Checks clock) v in_order not_so = by (is_some v.engine.live) refl
           others = λ id.
               found_left_all id (due_before clock v.engine.kept) v.engine.kept
               ∙ ap (λ b. cond b None (lookup (is_same_id id) v.engine.kept)) (due_is clock v.engine.kept in_order id)
-              ∙ ap (λ b. cond (b && is_early clock (lookup (is_same_id id) v.engine.kept)) None (lookup (is_same_id id) v.engine.kept)) (sym (live_link v.engine.live ∙ yes));
+              ∙ ap (λ b. cond (b && is_early clock (lookup (is_same_id id) v.engine.kept)) None (lookup (is_same_id id) v.engine.kept)) (sym (live_link v.engine.live ∙ aye));
         }
-    by false no =
-        stays_so (Checks clock) v v refl refl refl (λ id due. ap (λ b. b && is_early clock due) (live_link v.engine.live ∙ no))
+    by false nay =
+        stays_so (Checks clock) v v refl refl refl (λ id due. ap (λ b. b && is_early clock due) (live_link v.engine.live ∙ nay))
 
 -- THE LAWS
 
@@ -419,12 +419,12 @@ module _ (s : Setup) where
   due_so None clock more base id none =
       ap (lookup (is_same_id id)) (kept_none more base) ∙ none refl ∙ sym (ap (λ x. cond (is_one_of id more) None x) (none refl) ∙ either_none (is_one_of id more))
     where
-      either_none : (b : Bool) → cond b None None ≡ None
+      either_none : (b : Bool) → cond {A = Option ℕ} b None None ≡ None
       either_none true = refl
       either_none false = refl
   due_so (Some delay) clock more base id none = found_placed id (capped (clock + delay)) more base
 
-  gone : (b : Bool) → cond b None None ≡ None
+  gone : (b : Bool) → cond {A = Option ℕ} b None None ≡ None
   gone true = refl
   gone false = refl
 
@@ -441,12 +441,12 @@ module _ (s : Setup) where
       by : (b : Bool) → is_ended w ≡ b →
           lookup (is_same_id id) w.engine.kept
           ≡ cond b None (cond (is_one_of id (placed_by s act h)) (due_at s.config.unacked_message_redelivery_delay w.engine.clock) (cond (is_forgotten_by act v id (due_of s h id)) None (due_of s h id)))
-      by true yes =
-          let none : w.engine.delay ≡ None = delays s (act ∷ h) ∙ ap (λ b. cond b None s.config.unacked_message_redelivery_delay) yes in
+      by true aye =
+          let none : w.engine.delay ≡ None = delays s (act ∷ h) ∙ ap (λ b. cond b None s.config.unacked_message_redelivery_delay) aye in
           ap (lookup (is_same_id id)) (keeps_none s (act ∷ h) none)
-      by false no =
-          let m = moves_after act v (ordered s h) no in
-          let delay : w.engine.delay ≡ s.config.unacked_message_redelivery_delay = delays s (act ∷ h) ∙ ap (λ b. cond b None s.config.unacked_message_redelivery_delay) no in
+      by false nay =
+          let m = moves_after act v (ordered s h) nay in
+          let delay : w.engine.delay ≡ s.config.unacked_message_redelivery_delay = delays s (act ∷ h) ∙ ap (λ b. cond b None s.config.unacked_message_redelivery_delay) nay in
           ap (lookup (is_same_id id)) m.kept
           ∙ due_so w.engine.delay w.engine.clock m.more m.base id
           (λ none. m.others id ∙ ap (λ x. cond (is_forgotten_by act v id x) None x) (ap (lookup (is_same_id id)) (keeps_none s h (earlier none))) ∙ gone (is_forgotten_by act v id None))
@@ -457,8 +457,8 @@ module _ (s : Setup) where
         where
           -- it had no delay before, where it has none now
           had_none : (b : Bool) → is_ended v ≡ b → v.engine.delay ≡ cond b None s.config.unacked_message_redelivery_delay → w.engine.delay ≡ None → v.engine.delay ≡ None
-          had_none true yes d none = d
-          had_none false yes d none = d ∙ sym (delays s (act ∷ h) ∙ ap (λ b. cond b None s.config.unacked_message_redelivery_delay) no) ∙ none
+          had_none true aye d none = d
+          had_none false aye d none = d ∙ sym (delays s (act ∷ h) ∙ ap (λ b. cond b None s.config.unacked_message_redelivery_delay) nay) ∙ none
 
           earlier : w.engine.delay ≡ None → v.engine.delay ≡ None
           earlier none = had_none (is_ended v) refl (delays s h) none

@@ -63,12 +63,12 @@ module _ (P B : Engine → Type 0) (weak : (e : Engine) → P e → B e) (on : (
       by true = gives_up_so e (weak e p)
       by false = p
 
-  pub stops_so : (e : Engine) → P e → P (record e { stopped = true }) → P (stops e)
-  stops_so e p q = by (is_pending e)
+  pub stops_so : (e : Engine) → P (record e { stopped = true }) → P (stops e)
+  stops_so e p = by (is_pending e)
     where
       by : (b : Bool) → P (cond b (gives_up (record e { stopped = true })) (record e { stopped = true }))
-      by true = gives_up_so (record e { stopped = true }) (bare e e.unread e.rest e.letters e.copying e.waiting true (weak e p))
-      by false = q
+      by true = gives_up_so (record e { stopped = true }) (weak (record e { stopped = true }) p)
+      by false = p
 
   pub takes_so : (e : Engine) → P e → ((ls : List Letter) (id : Id) → P (record e { letters = ls; copying = Some id })) → P (takes_copy e)
   takes_so e p q = by (is_some e.copying) e.letters
@@ -144,13 +144,13 @@ goes_bounded [] e batch is all = by (is_finished e) refl
   where
     by : (b : Bool) → is_finished e ≡ b → InBounds batch (cond b (finish e) e)
     by true none = let two = finish_bounded e.batch batch e.live is all in (two.0, λ x. two.1)
-    by false more = (all, λ none. absurd (let no : true ≡ false = sym none ∙ more in cc))
+    by false more = (all, λ none. absurd (let nay : true ≡ false = sym none ∙ more in cc))
 goes_bounded (f ∷ fs) e batch is all =
     by (is_finished e) refl (goes_bounded fs (next_of f fs e) batch is (begin_bounded batch f.weight (finish e).live (finish_bounded e.batch batch e.live is all).0))
   where
     by : (b : Bool) → is_finished e ≡ b → InBounds batch (goes_on fs (next_of f fs e)) → InBounds batch (cond b (goes_on fs (next_of f fs e)) e)
     by true none next = next
-    by false more next = (all, λ none. absurd (let no : true ≡ false = sym none ∙ more in cc))
+    by false more next = (all, λ none. absurd (let nay : true ≡ false = sym none ∙ more in cc))
 
 pub advances_bounded : (e : Engine) (batch : ℕ) → e.batch ≡ Some batch → Bounded batch e.live → InBounds batch (advances e)
 advances_bounded e batch is all = goes_bounded e.waiting (places e) batch is all

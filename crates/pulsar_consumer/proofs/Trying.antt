@@ -163,12 +163,12 @@ same_tries {all} {os} {ts} e s =
     (subst (λ xs. Tries all xs (ts ++ []) e) (sym (append-nil os))
     (subst (λ xs. Tries all os xs e) (sym (append-nil ts)) s))
 
-came_tries : {all : List Frame} {os : List Bool} {ts : List Id} (f : Frame) (e : Engine) → Tries (all ++ f ∷ []) os ts e → Tries (all ++ f ∷ []) (os ++ []) (ts ++ []) e
-came_tries {all} {os} {ts} f e s =
+came_tries : (all : List Frame) (os : List Bool) (ts : List Id) (f : Frame) (e : Engine) → Tries (all ++ f ∷ []) os ts e → Tries (all ++ f ∷ []) (os ++ []) (ts ++ []) e
+came_tries all os ts f e s =
     subst (λ xs. Tries (all ++ f ∷ []) xs (ts ++ []) e) (sym (append-nil os)) (subst (λ xs. Tries (all ++ f ∷ []) os xs e) (sym (append-nil ts)) s)
 
-told_tries : {all : List Frame} {os : List Bool} {ts : List Id} (more : List Bool) (e : Engine) → Tries all (os ++ more) ts e → Tries (all ++ []) (os ++ more) (ts ++ []) e
-told_tries {all} {os} {ts} more e s =
+told_tries : (all : List Frame) (os : List Bool) (ts : List Id) (more : List Bool) (e : Engine) → Tries all (os ++ more) ts e → Tries (all ++ []) (os ++ more) (ts ++ []) e
+told_tries all os ts more e s =
     subst (λ xs. Tries xs (os ++ more) (ts ++ []) e) (sym (append-nil all)) (subst (λ xs. Tries all (os ++ more) xs e) (sym (append-nil ts)) s)
 
 module _ (all : List Frame) (os : List Bool) (ts : List Id) where
@@ -180,50 +180,50 @@ module _ (all : List Frame) (os : List Bool) (ts : List Id) where
 
   tries_after : (act : Act) (h : List Act) (v : Seen) → is_stopped (act ∷ h) ≡ false → v.engine.stopped ≡ false → Tries all os ts v.engine →
       Tries (all ++ arrives_by act v) (os ++ outcome_by act v) (ts ++ taken_by act v) (after act v).engine
-  tries_after (Lives link url) h v no runs s = by (is_ended v)
+  tries_after (Lives link url) h v nay runs s = by (is_ended v)
     where
       by : (b : Bool) → Tries (all ++ []) (os ++ []) (ts ++ []) (cond b v (subscribed_again link url v)).engine
       by true = same_tries v.engine s
       by false = same_tries _ (placed_tries all os ts v.engine v.engine.delay v.engine.clock (Some (subscribed v.engine.batch link url)) v.engine.unread v.engine.rest v.engine.kept s)
-  tries_after (Hears link clock r) h v no runs s = by (lives_on link v)
+  tries_after (Hears link clock r) h v nay runs s = by (lives_on link v)
     where
       by : (b : Bool) → Tries (all ++ cond b (frame_for v r ∷ []) []) (os ++ []) (ts ++ []) (cond b (heard clock r v) v).engine
-      by true = came_tries (frame_for v r) _ (hears_tries all os ts (frame_for v r) (clocked clock v.engine) runs (clocked_tries clock v.engine s))
+      by true = came_tries all os ts (frame_for v r) _ (hears_tries all os ts (frame_for v r) (clocked clock v.engine) runs (clocked_tries clock v.engine s))
       by false = same_tries v.engine s
-  tries_after (Loses link) h v no runs s = by (lives_on link v) v.is_raw
+  tries_after (Loses link) h v nay runs s = by (lives_on link v) v.is_raw
     where
       by : (b c : Bool) → Tries (all ++ []) (os ++ []) (ts ++ []) (cond b (cond c (ends LinkLost v) (lost v)) v).engine
       by true true = same_tries _ (shut_tries v.engine s)
       by true false = same_tries _ (placed_tries all os ts v.engine v.engine.delay v.engine.clock None v.engine.unread v.engine.rest v.engine.kept s)
       by false c = same_tries v.engine s
-  tries_after (Fails f) h v no runs s = by (is_ended v)
+  tries_after (Fails f) h v nay runs s = by (is_ended v)
     where
       by : (b : Bool) → Tries (all ++ cond b [] (failed f ∷ [])) (os ++ []) (ts ++ []) (cond b v (ends NotSubscribed (refused (failed f) v))).engine
       by true = same_tries v.engine s
       by false =
           let e = hears (failed f) v.engine in
-          came_tries (failed f) _ (placed_tries (all ++ failed f ∷ []) os ts e None e.clock None e.unread e.rest [] (hears_tries all os ts (failed f) v.engine runs s))
-  tries_after (Ends why) h v no runs s = by (is_stop why) no
+          came_tries all os ts (failed f) _ (placed_tries (all ++ failed f ∷ []) os ts e None e.clock None e.unread e.rest [] (hears_tries all os ts (failed f) v.engine runs s))
+  tries_after (Ends why) h v nay runs s = by (is_stop why) nay
     where
       by : (b : Bool) → cond b true (is_stopped h) ≡ false → Tries (all ++ []) (os ++ []) (ts ++ []) (cond b (stops (shut v.engine)) (shut v.engine))
-      by true yes = absurd cc
+      by true aye = absurd cc
       by false same = same_tries _ (shut_tries v.engine s)
-  tries_after (Polls clock) h v no runs s =
+  tries_after (Polls clock) h v nay runs s =
       subst (λ e. Tries (all ++ []) (os ++ []) (ts ++ []) e) (sym (counted_same (first_of v.engine.unread) clock (polls_at clock v)).0)
       (same_tries (gives (clocked clock v.engine)) (gives_tries all os ts v.engine.unread (clocked clock v.engine) runs (clocked_tries clock v.engine s)))
-  tries_after Asks h v no runs s =
+  tries_after Asks h v nay runs s =
       same_tries _ (placed_tries all os ts v.engine v.engine.delay v.engine.clock (option_map asked v.engine.live) v.engine.unread v.engine.rest v.engine.kept s)
-  tries_after TakesCopy h v no runs s =
+  tries_after TakesCopy h v nay runs s =
       let x = takes_tries all os ts v.engine s in
       subst (λ xs. Tries xs (os ++ []) (ts ++ option_to_list (option_map (λ l. l.0) (to_copy v.engine))) (takes_copy v.engine)) (sym (append-nil all))
       (subst (λ xs. Tries all xs (ts ++ option_to_list (option_map (λ l. l.0) (to_copy v.engine))) (takes_copy v.engine)) (sym (append-nil os)) x)
-  tries_after (IsCopied clock) h v no runs s =
-      told_tries (outcome_if (is_some v.engine.copying) true) _ (copied_tries all os ts (clocked clock v.engine) runs (clocked_tries clock v.engine s))
-  tries_after (FailsCopy clock) h v no runs s =
-      told_tries (outcome_if (is_some v.engine.copying) false) _ (failed_tries all os ts (clocked clock v.engine) runs (clocked_tries clock v.engine s))
-  tries_after (Forgets id) h v no runs s =
+  tries_after (IsCopied clock) h v nay runs s =
+      told_tries all os ts (outcome_if (is_some v.engine.copying) true) _ (copied_tries all os ts (clocked clock v.engine) runs (clocked_tries clock v.engine s))
+  tries_after (FailsCopy clock) h v nay runs s =
+      told_tries all os ts (outcome_if (is_some v.engine.copying) false) _ (failed_tries all os ts (clocked clock v.engine) runs (clocked_tries clock v.engine s))
+  tries_after (Forgets id) h v nay runs s =
       same_tries _ (placed_tries all os ts v.engine v.engine.delay v.engine.clock v.engine.live v.engine.unread v.engine.rest (forget id v.engine.kept) s)
-  tries_after (Checks clock) h v no runs s = by (is_some v.engine.live)
+  tries_after (Checks clock) h v nay runs s = by (is_some v.engine.live)
     where
       by : (b : Bool) → Tries (all ++ []) (os ++ []) (ts ++ []) (cond b (record v.engine { kept = forget_all (due_before clock v.engine.kept) v.engine.kept }) v.engine)
       by true = same_tries _ (placed_tries all os ts v.engine v.engine.delay v.engine.clock v.engine.live v.engine.unread v.engine.rest (forget_all (due_before clock v.engine.kept) v.engine.kept) s)
@@ -231,28 +231,28 @@ module _ (all : List Frame) (os : List Bool) (ts : List Id) where
 
 -- a history without a stop had none before
 not_before : (act : Act) (h : List Act) → is_stopped (act ∷ h) ≡ false → is_stopped h ≡ false
-not_before (Lives link url) h no = no
-not_before (Hears link clock r) h no = no
-not_before (Loses link) h no = no
-not_before (Fails f) h no = no
-not_before (Ends why) h no = by (is_stop why) no
+not_before (Lives link url) h nay = nay
+not_before (Hears link clock r) h nay = nay
+not_before (Loses link) h nay = nay
+not_before (Fails f) h nay = nay
+not_before (Ends why) h nay = by (is_stop why) nay
   where
     by : (b : Bool) → cond b true (is_stopped h) ≡ false → is_stopped h ≡ false
-    by true yes = absurd cc
+    by true aye = absurd cc
     by false same = same
-not_before (Polls clock) h no = no
-not_before Asks h no = no
-not_before TakesCopy h no = no
-not_before (IsCopied clock) h no = no
-not_before (FailsCopy clock) h no = no
-not_before (Forgets id) h no = no
-not_before (Checks clock) h no = no
+not_before (Polls clock) h nay = nay
+not_before Asks h nay = nay
+not_before TakesCopy h nay = nay
+not_before (IsCopied clock) h nay = nay
+not_before (FailsCopy clock) h nay = nay
+not_before (Forgets id) h nay = nay
+not_before (Checks clock) h nay = nay
 
 tries_all : (s : Setup) (h : List Act) → is_stopped h ≡ false → Tries (arrivals s h) (outcomes s h) (taken s h) (seen s h).engine
-tries_all s [] no = record { frames = []; parts = refl; done = []; ids = refl; tries = λ more gs. refl }
-tries_all s (act ∷ h) no =
-    let earlier = not_before act h no in
-    tries_after (arrivals s h) (outcomes s h) (taken s h) act h (seen s h) no (halted s h ∙ earlier) (tries_all s h earlier)
+tries_all s [] nay = record { frames = []; parts = refl; done = []; ids = refl; tries = λ more gs. refl }
+tries_all s (act ∷ h) nay =
+    let earlier = not_before act h nay in
+    tries_after (arrivals s h) (outcomes s h) (taken s h) act h (seen s h) nay (halted s h ∙ earlier) (tries_all s h earlier)
 
 -- without outcomes none was tried
 none_open : (ls : List Letter) (fs : List Frame) → tried_in [] fs ≡ [] → tried [] ls ++ tried_behind (fate false [] ls) (λ left. tried_in left fs) ≡ []
@@ -264,8 +264,8 @@ none_tried [] = refl
 none_tried (f ∷ fs) = none_open f.letters fs (none_tried fs)
 
 pub copies_follow_arrivals : CopiesFollowArrivals
-copies_follow_arrivals s h no =
-    let x = tries_all s h no in
+copies_follow_arrivals s h nay =
+    let x = tries_all s h nay in
     let e = (seen s h).engine in
     let all : tried_in (outcomes s h) (arrivals s h) ≡ x.done =
     ap (λ fs. tried_in (outcomes s h) fs) x.parts

@@ -103,7 +103,7 @@ takes_tries all os ts e s = by e.copying e.letters refl refl
     by None [] c w = nothing
     by None (l ∷ ls) c w =
         let was : open_of e ≡ l ∷ ls = ap (λ o. holding o e.letters) c ∙ w in
-        let hollow = (l.0, record { metadata = none_of message_metadata; bytes = [] }) in
+        let hollow : Letter = (l.0, record { metadata = none_of message_metadata; bytes = [] }) in
         record {
           frames = s.frames;
           parts = s.parts;

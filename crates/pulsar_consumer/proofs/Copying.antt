@@ -1,5 +1,5 @@
 -- The properties of a copy, as they are put into a map one by one.
-use Rattle.std.proofs.Common.{◌≡◌, ◌∙◌, ap, sym, refl, ℕ, Bool, true, false, cond, List, [], ◌∷◌, ◌++◌, map, Option, Some, None, String, string_bytes}
+use Rattle.std.proofs.Common.{◌≡◌, ◌∙◌, ap, sym, refl, ℕ, Bool, true, false, cond, List, [], ◌∷◌, ◌++◌, map, Option, Some, None, String, Global, string_bytes}
 use Rattle.std.specs.BTreeMap.{insert_entry, is_at}
 use Rattle.std.specs.Cmp.Lexicographic.{slice_cmp}
 use Rattle.std.specs.Map.{lookup}
@@ -7,8 +7,11 @@ use Rattle.std.specs.Option.{is_some}
 use Rattle.std.specs.Ordering.{nat_cmp}
 use Rattle.std.specs.declared.cmp.Ordering.{Ordering}
 use Rattle.std.specs.declared.cmp.Ordering.TheVariants.{Less, Equal, Greater}
+use Rattle.std.proofs.lemmas.List.{map-append}
 use Rattle.pulsar_wire.specs.Row.{Values}
 use Rattle.pulsar_wire.specs.Rows.{key_value}
+use Rattle.pulsar_wire.specs.Views.{key_value_values}
+use Rattle.pulsar_wire.specs.declared.commands.metadata.KeyValue.{KeyValue}
 use Rattle.pulsar_frame.specs.Batch.{◌▸◌}
 use Rattle.pulsar_messages.specs.Content.{Property, property}
 use Rattle.pulsar_consumer.specs.DeadLetters.{has_property, with_absent, with_properties, with_property}
@@ -45,6 +48,16 @@ property_found name (e ∷ es) = found_next name e es (is_at (slice_cmp nat_cmp 
 pub put_more : (xs : List (Values key_value)) (x : Values key_value) (ps : List Property) → with_properties (xs ++ x ∷ []) ps ≡ with_property x.0 x.1.0 (with_properties xs ps)
 put_more [] (name ▸ value ▸ end) ps = refl
 put_more ((name ▸ value ▸ end) ∷ xs) x ps = put_more xs x (with_property name value ps)
+
+pub put_next : (yielded : List KeyValue) (x : KeyValue) (es : List (String Global × String Global)) (old : List Property) →
+    map property es ≡ with_properties (map key_value_values yielded) old →
+    map property (insert_entry by_text es x.key x.value) ≡ with_properties (map key_value_values (yielded ++ x ∷ [])) old
+unfolding key_value_values
+put_next yielded x es old so =
+    property_inserted x.key x.value es
+    ∙ ap (λ ps. with_property (string_bytes x.key) (string_bytes x.value) ps) so
+    ∙ sym (put_more (map key_value_values yielded) (key_value_values x) old)
+    ∙ ap (λ xs. with_properties xs old) (sym (map-append key_value_values yielded (x ∷ [])))
 
 -- a property that stands already is left as it is, and another is put
 pub left_as_is : {Z : Type 0} (name value : List ℕ) (es : List (String Z × String Z)) →

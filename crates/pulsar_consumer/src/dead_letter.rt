@@ -81,7 +81,6 @@ fn copied_properties(
     Ok(properties)
 }
 
-#[tactic(auto, using(crate::proofs::Copying::property_inserted, crate::proofs::Copying::put_more), unfolding(pulsar_wire::specs::Views::key_value_values))]
 fn put_all(properties: &mut BTreeMap<String, String>, given: Vec<KeyValue>) -> Result<(), NoMemory>
     ensures { OnOk result (map property properties.new.entries ≡ meaning.with_properties (map key_value_values given.items) (map property properties.old.entries)) }
 {
@@ -91,7 +90,7 @@ fn put_all(properties: &mut BTreeMap<String, String>, given: Vec<KeyValue>) -> R
     Ok(())
 }
 
-#[tactic(auto, using(crate::proofs::Copying::left_as_is, crate::proofs::Copying::put_where_absent))]
+#[tactic(auto, using(crate::proofs::Copying::left_as_is))]
 fn put_absent(
     properties: &mut BTreeMap<String, String>,
     alloc: Global,

@@ -10,8 +10,8 @@ use Rattle.pulsar_link.specs.Items.{Item}
 use Rattle.pulsar_consumer.specs.Frames.{Frame, failed}
 use Rattle.pulsar_consumer.specs.Laws.{PermitsAreCounted, arrivals, asked_since, begun, weighed_before, weights}
 use Rattle.pulsar_consumer.specs.DeadLetters.{Letter, lost_letter}
-use Rattle.pulsar_consumer.specs.Redelivery.{due_before, forget, forget_all}
-use Rattle.pulsar_consumer.specs.Topic.{Act, Lives, Hears, Loses, Fails, Ends, Polls, Asks, TakesCopy, IsCopied, FailsCopy, Forgets, Checks, Engine, Live, Seen, Setup, advances, asked, batch_size, begins, behind, clocked, copied, copy_failed, ended_engine, ends, finish, finishes, finishes_by, first_due, first_in, first_of, frame_for, gives, gives_from, gives_up, goes_on, half, heard as hears_message, hears, is_ended, is_finished, is_pending, is_stop, lives_on, places, seen, shut, stops, subscribed, takes_copy, takes_copy_from}
+use Rattle.pulsar_consumer.specs.Redelivery.{due_before, forget, forget_all, forget_one}
+use Rattle.pulsar_consumer.specs.Topic.{Act, Lives, Hears, Loses, Fails, Ends, Polls, Asks, TakesCopy, IsCopied, FailsCopy, Forgets, Checks, Engine, Live, Seen, Setup, acked_by, advances, asked, batch_size, begins, behind, clocked, copied, copy_failed, ended_engine, ends, finish, finishes, finishes_by, first_due, first_in, first_of, frame_for, gives, gives_from, gives_up, goes_on, half, heard as hears_message, hears, is_ended, is_finished, is_pending, is_stop, lives_on, places, seen, shut, stops, subscribed, takes_copy, takes_copy_from}
 use Rattle.pulsar_consumer.specs.declared.polled.Ending.TheVariants.{LinkLost, NotSubscribed}
 use Rattle.pulsar_consumer.proofs.Held.{next_of}
 use Rattle.pulsar_consumer.proofs.Histories.{counted_same, ends_dead, frames_begin_in_turn, grants, lost, polls_at, refused, subscribed_again}
@@ -135,8 +135,8 @@ copied_counted : (all flows batch : ℕ) (e : Engine) → e.batch ≡ Some batch
     Counted all flows (copied e).waiting (copied e).live
 copied_counted all flows batch e size bounds is = by (is_some e.copying)
   where
-    by : (b : Bool) → Counted all flows (cond b (advances (record e { copying = None })) e).waiting (cond b (advances (record e { copying = None })) e).live
-    by true = advances_counted all flows batch (record e { copying = None }) size bounds is
+    by : (b : Bool) → Counted all flows (cond b (advances (record e { copying = None; kept = forget_one (acked_by e) e.kept })) e).waiting (cond b (advances (record e { copying = None; kept = forget_one (acked_by e) e.kept })) e).live
+    by true = advances_counted all flows batch (record e { copying = None; kept = forget_one (acked_by e) e.kept }) size bounds is
     by false = is
 
 failed_counted : (all flows batch : ℕ) (e : Engine) → e.batch ≡ Some batch → Bounded batch e.live → Counted all flows e.waiting e.live →

@@ -9,8 +9,8 @@ use Rattle.pulsar_link.specs.Items.{Item}
 use Rattle.pulsar_consumer.specs.DeadLetters.{Letter, lost_letter}
 use Rattle.pulsar_consumer.specs.Frames.{Frame}
 use Rattle.pulsar_consumer.specs.Laws.{Fate, Pending, Settled, begun_behind, begun_in, behind_fate, fate, outcome_if, pending_behind, pending_in, ready_in}
-use Rattle.pulsar_consumer.specs.Redelivery.{Id, Kept}
-use Rattle.pulsar_consumer.specs.Topic.{Engine, Live, advances, copied, copy_failed, error_for, finish, first_of, gives, gives_from, gives_up, goes_on, hears, is_finished, is_pending, no_items, no_letters, places, stops, takes_copy, takes_copy_from}
+use Rattle.pulsar_consumer.specs.Redelivery.{Id, Kept, forget_one}
+use Rattle.pulsar_consumer.specs.Topic.{Engine, Live, acked_by, advances, copied, copy_failed, error_for, finish, first_of, gives, gives_from, gives_up, goes_on, hears, is_finished, is_pending, no_items, no_letters, places, stops, takes_copy, takes_copy_from}
 use Rattle.pulsar_consumer.proofs.Held.{IsFull, bare_of, finished, is_idle, next_of, nothing_open, one_of, places_full, split_again}
 
 -- the entries of the frame that is begun that are left, with the one whose copy is under way
@@ -351,9 +351,11 @@ module _ (all : List Frame) (os : List Bool) (gave : List Item) where
   pub copied_follows : (e : Engine) → length e.unread ≤ e.queue → Follows all os gave e → Follows all (os ++ outcome_if (is_some e.copying) true) gave (copied e)
   copied_follows e le s = by e.copying refl
     where
-      by : (o : Option Id) → e.copying ≡ o → Follows all (os ++ outcome_if (is_some o) true) gave (cond (is_some o) (advances (record e { copying = None })) e)
+      by : (o : Option Id) → e.copying ≡ o → Follows all (os ++ outcome_if (is_some o) true) gave (cond (is_some o) (advances (record e { copying = None; kept = forget_one (acked_by e) e.kept })) e)
       by None none = subst (λ xs. Follows all xs gave e) (sym (append-nil os)) s
-      by (Some id) is = advances_follows all (os ++ true ∷ []) gave (record e { copying = None }) le (sent_follows e id is s)
+      by (Some id) is =
+          advances_follows all (os ++ true ∷ []) gave (record e { copying = None; kept = forget_one (acked_by e) e.kept }) le
+          (renewed (record e { copying = None }) e.live e.delay e.clock (forget_one (acked_by e) e.kept) (sent_follows e id is s))
 
 -- the frame that is begun with an error in the place of its entries
 abbrev given_up : Engine → Engine

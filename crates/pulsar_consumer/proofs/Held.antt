@@ -5,8 +5,8 @@ use Rattle.std.specs.Option.{is_some, option_map}
 use Rattle.pulsar_link.specs.Items.{Item}
 use Rattle.pulsar_consumer.specs.DeadLetters.{Letter, lost_letter}
 use Rattle.pulsar_consumer.specs.Frames.{Frame}
-use Rattle.pulsar_consumer.specs.Redelivery.{Id}
-use Rattle.pulsar_consumer.specs.Topic.{Engine, advances, begin, begins, copied, copy_failed, finish, first_of, gives, gives_from, gives_up, goes_on, hears, is_finished, is_pending, no_items, no_letters, opens, places, stops, takes_copy, takes_copy_from}
+use Rattle.pulsar_consumer.specs.Redelivery.{Id, forget_one}
+use Rattle.pulsar_consumer.specs.Topic.{Engine, acked_by, advances, begin, begins, copied, copy_failed, finish, first_of, gives, gives_from, gives_up, goes_on, hears, is_finished, is_pending, no_items, no_letters, opens, places, stops, takes_copy, takes_copy_from}
 
 pub none_left : (xs : List Item) → no_items xs ≡ true → xs ≡ []
 none_left [] e = refl
@@ -147,8 +147,8 @@ takes_settled e all = by (is_some e.copying)
 pub copied_settled : (e : Engine) → IsSettled e → IsSettled (copied e)
 copied_settled e all = by (is_some e.copying)
   where
-    by : (b : Bool) → IsSettled (cond b (advances (record e { copying = None })) e)
-    by true = advances_settled (record e { copying = None }) all.0.0
+    by : (b : Bool) → IsSettled (cond b (advances (record e { copying = None; kept = forget_one (acked_by e) e.kept })) e)
+    by true = advances_settled (record e { copying = None; kept = forget_one (acked_by e) e.kept }) all.0.0
     by false = all
 
 pub gives_up_settled : (e : Engine) → IsSettled e → IsSettled (gives_up e)

@@ -9,7 +9,7 @@ use Rattle.pulsar_link.specs.Items.{Item}
 use Rattle.pulsar_link.specs.Messages.{Reply}
 use Rattle.pulsar_consumer.specs.DeadLetters.{Letter}
 use Rattle.pulsar_consumer.specs.Frames.{Frame, failed}
-use Rattle.pulsar_consumer.specs.Redelivery.{Id, due_before, forget, forget_all}
+use Rattle.pulsar_consumer.specs.Redelivery.{Id, Kept as KeptList, due_before, forget, forget_all}
 use Rattle.pulsar_consumer.specs.Topic.{Act, Lives, Hears, Loses, Fails, Ends, Polls, Asks, TakesCopy, IsCopied, FailsCopy, Forgets, Checks, Engine, Live, Seen, Setup, advances, after, asked, asks_again, batch_size, clocked, copied, copy_failed, counts_first, cut_off, ended_engine, ends, finish, first_of, frame_for, gives, goes_on, half, heard, hears, idle, is_ended, is_finished, is_message, is_on, is_pending, is_stop, lives_on, loses, no_items, no_letters, over, places, polled, polled_from, queue_of, seen, shut, stops, subscribed, takes_copy}
 use Rattle.pulsar_consumer.specs.Laws.{EndIsFinal, Fate, Pending, Settled, FramesBeginInTurn, PermitsInBounds, PollsGiveArrivals, PollsGiveTheNext, QueueIsKept, RawAsksForNothing, arrivals, arrives_by, begun, begun_behind, begun_in, behind_fate, fate, given, given_by, is_pending_in, is_stopped, item_in, left, outcome_by, outcome_if, outcomes, pending_behind, pending_in, queue, ready, ready_in}
 use Rattle.pulsar_consumer.specs.declared.polled.Ending.{Ending}
@@ -130,9 +130,9 @@ sizes_kept e =
     on : (d : Engine) → P d → P (advances d)
     on d p = advances_keeps d e p
 
-    bare : (d : Engine) (u r : List Item) (ls : List Letter) (o : Option Id) (w : List Frame) → P d →
-        P (record d { unread = u; rest = r; letters = ls; copying = o; waiting = w })
-    bare d u r ls o w p = p
+    bare : (d : Engine) (u r : List Item) (ls : List Letter) (o : Option Id) (w : List Frame) (k : KeptList) → P d →
+        P (record d { unread = u; rest = r; letters = ls; copying = o; waiting = w; kept = k })
+    bare d u r ls o w k p = p
 
 pub sizes : (s : Setup) (h : List Act) → Keeps (seen s h).engine (idle s.is_raw s.config)
 sizes s h = kept (λ d. Keeps d (idle s.is_raw s.config)) (sizes_kept (idle s.is_raw s.config)) s h (refl, refl)
@@ -192,9 +192,9 @@ module _ (is : Bool) where
   halts_on : (e : Engine) → Halts e → Halts (advances e)
   halts_on e p = goes_stopped e.waiting (places e) ∙ p
 
-  halts_bare : (e : Engine) (u r : List Item) (ls : List Letter) (o : Option Id) (w : List Frame) → Halts e →
-      Halts (record e { unread = u; rest = r; letters = ls; copying = o; waiting = w })
-  halts_bare e u r ls o w p = p
+  halts_bare : (e : Engine) (u r : List Item) (ls : List Letter) (o : Option Id) (w : List Frame) (k : KeptList) → Halts e →
+      Halts (record e { unread = u; rest = r; letters = ls; copying = o; waiting = w; kept = k })
+  halts_bare e u r ls o w k p = p
 
   hears_halts : (f : Frame) (e : Engine) → Halts e → Halts (hears f e)
   hears_halts = hears_so Halts Halts halts_weak halts_on halts_bare
@@ -618,9 +618,9 @@ grants_kept batch =
     on : (d : Engine) → B d → P (advances d)
     on d p = ((advances_keeps d d (refl, refl)).1 ∙ p.0, advances_bounded d batch p.0 p.1)
 
-    bare : (d : Engine) (u r : List Item) (ls : List Letter) (o : Option Id) (w : List Frame) → B d →
-        B (record d { unread = u; rest = r; letters = ls; copying = o; waiting = w })
-    bare d u r ls o w p = p
+    bare : (d : Engine) (u r : List Item) (ls : List Letter) (o : Option Id) (w : List Frame) (k : KeptList) → B d →
+        B (record d { unread = u; rest = r; letters = ls; copying = o; waiting = w; kept = k })
+    bare d u r ls o w k p = p
 
 granted_first : (b : Bool) (batch : ℕ) → b ≡ false → cond b None (Some batch) ≡ Some batch
 granted_first true batch is = absurd cc
@@ -672,9 +672,9 @@ silent_weak e p = p
 silent_on : (e : Engine) → Silent e → Silent (advances e)
 silent_on e p = ((advances_keeps e e (refl, refl)).1 ∙ p.0, advances_quiet e p.0 p.1)
 
-silent_bare : (e : Engine) (u r : List Item) (ls : List Letter) (o : Option Id) (w : List Frame) → Silent e →
-    Silent (record e { unread = u; rest = r; letters = ls; copying = o; waiting = w })
-silent_bare e u r ls o w p = p
+silent_bare : (e : Engine) (u r : List Item) (ls : List Letter) (o : Option Id) (w : List Frame) (k : KeptList) → Silent e →
+    Silent (record e { unread = u; rest = r; letters = ls; copying = o; waiting = w; kept = k })
+silent_bare e u r ls o w k p = p
 
 silent_kept : Kept Silent
 silent_kept =
@@ -710,9 +710,9 @@ Dead e = e.live ≡ None
 dead_weak : (e : Engine) → Dead e → Dead e
 dead_weak e p = p
 
-dead_bare : (e : Engine) (u r : List Item) (ls : List Letter) (o : Option Id) (w : List Frame) → Dead e →
-    Dead (record e { unread = u; rest = r; letters = ls; copying = o; waiting = w })
-dead_bare e u r ls o w p = p
+dead_bare : (e : Engine) (u r : List Item) (ls : List Letter) (o : Option Id) (w : List Frame) (k : KeptList) → Dead e →
+    Dead (record e { unread = u; rest = r; letters = ls; copying = o; waiting = w; kept = k })
+dead_bare e u r ls o w k p = p
 
 -- one that has ended has no live subscription
 abbrev pub IsShut : Seen → Type 0

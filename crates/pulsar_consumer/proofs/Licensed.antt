@@ -2,7 +2,7 @@
 use Rattle.std.proofs.Common.{◌≡◌, refl, Bool, true, false, List, [], ◌∷◌, ◌++◌, Option, Some, None, inl, inr}
 use Rattle.std.specs.Option.{is_some, option_to_list}
 use Rattle.pulsar_consumer.specs.Redelivery.{Id}
-use Rattle.pulsar_consumer.specs.Topic.{Act, Lives, Hears, Loses, Fails, Ends, Polls, Asks, TakesCopy, IsCopied, FailsCopy, Forgets, Checks, Seen, Setup, link_of, only_if, seen}
+use Rattle.pulsar_consumer.specs.Topic.{Act, Lives, Hears, Loses, Fails, Ends, Polls, Asks, TakesCopy, IsCopied, FailsCopy, Forgets, Checks, Seen, Setup, only_if, seen}
 use Rattle.pulsar_consumer.specs.Laws.{AreAmong, ReceiptsLicenseAcks, acks, acks_by, receipts, receipts_by}
 
 among_behind : (ys as' bs : List Id) → AreAmong as' bs → AreAmong as' (ys ++ bs)
@@ -31,7 +31,7 @@ licensed_by (Ends why) v = tt
 licensed_by (Polls clock) v = tt
 licensed_by Asks v = tt
 licensed_by TakesCopy v = tt
-licensed_by (IsCopied clock) v = licensed (is_some (link_of v)) v.engine.copying
+licensed_by (IsCopied clock) v = licensed (is_some v.engine.live) v.engine.copying
 licensed_by (FailsCopy clock) v = tt
 licensed_by (Forgets id) v = tt
 licensed_by (Checks clock) v = tt

@@ -12,9 +12,9 @@ use Rattle.pulsar_link.specs.Items.{Item}
 use Rattle.pulsar_link.specs.Messages.{Reply}
 use Rattle.pulsar_consumer.specs.DeadLetters.{Letter, lost_letter}
 use Rattle.pulsar_consumer.specs.Frames.{Frame, failed}
-use Rattle.pulsar_consumer.specs.Redelivery.{Id, Kept, due_at, due_before, forget, forget_all, is_due_before, is_early, is_same_id, keep_all}
-use Rattle.pulsar_consumer.specs.Topic.{Act, Lives, Hears, Loses, Fails, Ends, Polls, Asks, TakesCopy, IsCopied, FailsCopy, Forgets, Checks, Engine, Live, Seen, Setup, advances, after, asked_again, asks_again, clocked, copied, copy_failed, counts_first, ended_engine, ends, finish, first_of, frame_for, gives, gives_from, gives_up, goes_on, heard, hears, is_ended, is_finished, is_pending, is_stop, link_of, lives_on, loses, over, placing, places, polled, seen, shut, stops, subscribed, takes_copy, takes_copy_from}
-use Rattle.pulsar_consumer.specs.Laws.{ChecksNameTheDue, KeptAreDue, due_now, due_of, given, given_by, is_forgotten_by, is_one_of, left, placed, placed_by, queue, ready}
+use Rattle.pulsar_consumer.specs.Redelivery.{Id, Kept, due_at, due_before, forget, forget_all, forget_one, is_due_before, is_early, is_same_id, keep_all}
+use Rattle.pulsar_consumer.specs.Topic.{Act, Lives, Hears, Loses, Fails, Ends, Polls, Asks, TakesCopy, IsCopied, FailsCopy, Forgets, Checks, Engine, Live, Seen, Setup, acked_by, advances, after, asked_again, asks_again, clocked, copied, copy_failed, counts_first, ended_engine, ends, finish, first_of, frame_for, gives, gives_from, gives_up, goes_on, heard, hears, is_ended, is_finished, is_pending, is_stop, link_of, lives_on, loses, only_if, over, placing, places, polled, seen, shut, stops, subscribed, takes_copy, takes_copy_from}
+use Rattle.pulsar_consumer.specs.Laws.{ChecksNameTheDue, KeptAreDue, due_now, due_of, given, given_by, is_acked, is_forgotten_by, is_one_of, left, placed, placed_by, queue, ready}
 use Rattle.pulsar_consumer.specs.declared.polled.Ending.{Ending}
 use Rattle.pulsar_consumer.specs.declared.polled.Ending.TheVariants.{LinkLost, NotSubscribed}
 use Rattle.pulsar_consumer.proofs.Due.{AreOrdered, forget_all_ordered, forget_none, forget_ordered, found_left, found_left_all, found_placed, keep_more, kept_none, placed_ordered}
@@ -90,12 +90,39 @@ takes_more e = by (is_some e.copying) e.letters
     by false [] = no_more e
     by false (l ∷ ls) = record { more = []; unread = sym (append-nil e.unread); kept = refl; delay = refl; clock = refl }
 
-copied_more : (e : Engine) → Places (copied e) e
-copied_more e = by (is_some e.copying)
+-- the entry that is acknowledged is forgotten before
+abbrev forgot : Engine → Engine
+forgot e = record e { kept = forget_one (acked_by e) e.kept }
+
+none_acked : (b : Bool) (old : Kept) → forget_one (only_if b None) old ≡ old
+none_acked true old = refl
+none_acked false old = refl
+
+copied_more : (e : Engine) → Places (copied e) (forgot e)
+copied_more e = by e.copying refl
   where
-    by : (b : Bool) → Places (cond b (advances (record e { copying = None })) e) e
-    by true = as_from (advances (record e { copying = None })) (record e { copying = None }) e refl refl refl refl (advances_more (record e { copying = None }))
-    by false = no_more e
+    by : (o : Option Id) → e.copying ≡ o → Places (cond (is_some o) (advances (record e { copying = None; kept = forget_one (acked_by e) e.kept })) e) (forgot e)
+    by (Some id) c = as_from (advances (record e { copying = None; kept = forget_one (acked_by e) e.kept })) (record e { copying = None; kept = forget_one (acked_by e) e.kept }) (forgot e) refl refl refl refl (advances_more (record e { copying = None; kept = forget_one (acked_by e) e.kept }))
+    by None c =
+        record {
+          more = [];
+          unread = sym (append-nil e.unread);
+          kept = sym (ap (λ o. forget_one (only_if (is_some e.live) o) e.kept) c ∙ none_acked (is_some e.live) e.kept);
+          delay = refl;
+          clock = refl;
+        }
+
+forgot_ordered : (o : Option Id) (old : Kept) → AreOrdered old → AreOrdered (forget_one o old)
+forgot_ordered None old all = all
+forgot_ordered (Some id) old all = forget_ordered id old all
+
+forgot_none : (o : Option Id) (old : Kept) → old ≡ [] → forget_one o old ≡ []
+forgot_none None old none = none
+forgot_none (Some id) old none = ap (forget id) none
+
+forgot_left : (q : Id) (o : Option Id) (old : Kept) → lookup (is_same_id q) (forget_one o old) ≡ cond (is_acked o q) None (lookup (is_same_id q) old)
+forgot_left q None old = refl
+forgot_left q (Some id) old = found_left q id old
 
 gives_up_more : (e : Engine) → Places (gives_up e) e
 gives_up_more e =
@@ -176,7 +203,7 @@ ordered_kept =
       at_gives = ordered_gives;
       at_asks = λ e p. p;
       at_takes = λ e p. ordered_by (takes_copy e) e (takes_more e) p;
-      at_copied = λ e p. ordered_by (copied e) e (copied_more e) p;
+      at_copied = λ e p. ordered_by (copied e) (forgot e) (copied_more e) (forgot_ordered (acked_by e) e.kept p);
       at_failed = λ e p. ordered_by (copy_failed e) e (failed_more e) p;
       at_stops = λ e p. ordered_by (stops e) e (stops_more e) p;
       at_forgets = λ e id p. forget_ordered id e.kept p;
@@ -212,7 +239,7 @@ none_kept =
       at_gives = none_gives;
       at_asks = λ e p. p;
       at_takes = λ e p. none_by (takes_copy e) e (takes_more e) p;
-      at_copied = λ e p. none_by (copied e) e (copied_more e) p;
+      at_copied = λ e p. none_by (copied e) (forgot e) (copied_more e) (λ nay. forgot_none (acked_by e) e.kept (p nay));
       at_failed = λ e p. none_by (copy_failed e) e (failed_more e) p;
       at_stops = λ e p. none_by (stops e) e (stops_more e) p;
       at_forgets = λ e id p nay. ap (forget id) (p nay);
@@ -372,7 +399,19 @@ moves_after (Polls clock) v in_order not_so =
     }
 moves_after Asks v in_order not_so = stays_so Asks v (after Asks v) refl refl refl (λ id due. refl)
 moves_after TakesCopy v in_order not_so = moves_so TakesCopy v (after TakesCopy v) v.engine.clock refl (takes_more v.engine) (λ id due. refl)
-moves_after (IsCopied clock) v in_order not_so = moves_so (IsCopied clock) v (after (IsCopied clock) v) clock refl (copied_more (clocked clock v.engine)) (λ id due. refl)
+moves_after (IsCopied clock) v in_order not_so =
+    let p = copied_more (clocked clock v.engine) in
+    let e = copied (clocked clock v.engine) in
+    record {
+      more = p.more;
+      items = p.unread;
+      base = forget_one (acked_by v.engine) v.engine.kept;
+      kept =
+          p.kept
+          ∙ ap (λ d. keep_all (due_at d clock) p.more (forget_one (acked_by v.engine) v.engine.kept)) (sym p.delay)
+          ∙ ap (λ c. keep_all (due_at e.delay c) p.more (forget_one (acked_by v.engine) v.engine.kept)) (sym p.clock);
+      others = λ id. forgot_left id (acked_by v.engine) v.engine.kept;
+    }
 moves_after (FailsCopy clock) v in_order not_so = moves_so (FailsCopy clock) v (after (FailsCopy clock) v) clock refl (failed_more (clocked clock v.engine)) (λ id due. refl)
 moves_after (Forgets other) v in_order not_so =
     record {

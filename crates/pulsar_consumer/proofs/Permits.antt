@@ -6,8 +6,8 @@ use Rattle.pulsar_link.specs.Items.{Item}
 use Rattle.pulsar_consumer.specs.Frames.{Frame}
 use Rattle.pulsar_consumer.proofs.Held.{next_of}
 use Rattle.pulsar_consumer.specs.DeadLetters.{Letter, lost_letter}
-use Rattle.pulsar_consumer.specs.Redelivery.{Id}
-use Rattle.pulsar_consumer.specs.Topic.{Engine, Live, advances, asked, begins, behind, copied, copy_failed, finish, finishes, finishes_by, gives, gives_from, gives_up, goes_on, half, hears, is_finished, is_pending, places, stops, takes_copy, takes_copy_from}
+use Rattle.pulsar_consumer.specs.Redelivery.{Id, Kept, forget_one}
+use Rattle.pulsar_consumer.specs.Topic.{Engine, Live, acked_by, advances, asked, begins, behind, copied, copy_failed, finish, finishes, finishes_by, gives, gives_from, gives_up, goes_on, half, hears, is_finished, is_pending, places, stops, takes_copy, takes_copy_from}
 
 -- WHAT AN ENGINE KEEPS
 
@@ -32,15 +32,15 @@ advances_keeps d e all = let two = goes_keeps d.waiting (places d) in (two.0 ∙
 -- WHAT EACH CHANGE OF AN ENGINE KEEPS that goes on: what says nothing of its frames and items it keeps where going on keeps it
 
 module _ (P B : Engine → Type 0) (weak : (e : Engine) → P e → B e) (on : (e : Engine) → B e → P (advances e))
-    (bare : (e : Engine) (u r : List Item) (ls : List Letter) (o : Option Id) (w : List Frame) → B e →
-        B (record e { unread = u; rest = r; letters = ls; copying = o; waiting = w })) where
+    (bare : (e : Engine) (u r : List Item) (ls : List Letter) (o : Option Id) (w : List Frame) (k : Kept) → B e →
+        B (record e { unread = u; rest = r; letters = ls; copying = o; waiting = w; kept = k })) where
   pub hears_so : (f : Frame) (e : Engine) → P e → P (hears f e)
   hears_so f e p =
-      on (record e { waiting = e.waiting ++ f ∷ [] }) (bare e e.unread e.rest e.letters e.copying (e.waiting ++ f ∷ []) (weak e p))
+      on (record e { waiting = e.waiting ++ f ∷ [] }) (bare e e.unread e.rest e.letters e.copying (e.waiting ++ f ∷ []) e.kept (weak e p))
 
   gives_from_so : (us : List Item) (e : Engine) → P e → P (gives_from us e)
   gives_from_so [] e p = p
-  gives_from_so (x ∷ xs) e p = on (record e { unread = xs }) (bare e xs e.rest e.letters e.copying e.waiting (weak e p))
+  gives_from_so (x ∷ xs) e p = on (record e { unread = xs }) (bare e xs e.rest e.letters e.copying e.waiting e.kept (weak e p))
 
   pub gives_so : (e : Engine) → P e → P (gives e)
   gives_so e p = gives_from_so e.unread e p
@@ -48,13 +48,13 @@ module _ (P B : Engine → Type 0) (weak : (e : Engine) → P e → B e) (on : (
   pub copied_so : (e : Engine) → P e → P (copied e)
   copied_so e p = by (is_some e.copying)
     where
-      by : (b : Bool) → P (cond b (advances (record e { copying = None })) e)
-      by true = on (record e { copying = None }) (bare e e.unread e.rest e.letters None e.waiting (weak e p))
+      by : (b : Bool) → P (cond b (advances (record e { copying = None; kept = forget_one (acked_by e) e.kept })) e)
+      by true = on (record e { copying = None; kept = forget_one (acked_by e) e.kept }) (bare e e.unread e.rest e.letters None e.waiting (forget_one (acked_by e) e.kept) (weak e p))
       by false = p
 
   pub gives_up_so : (e : Engine) → B e → P (gives_up e)
   gives_up_so e p =
-      on (record e { rest = e.rest ++ lost_letter ∷ []; letters = []; copying = None }) (bare e e.unread (e.rest ++ lost_letter ∷ []) [] None e.waiting p)
+      on (record e { rest = e.rest ++ lost_letter ∷ []; letters = []; copying = None }) (bare e e.unread (e.rest ++ lost_letter ∷ []) [] None e.waiting e.kept p)
 
   pub failed_so : (e : Engine) → P e → P (copy_failed e)
   failed_so e p = by (is_some e.copying)

@@ -7,8 +7,8 @@ use Rattle.pulsar_wire.specs.Rows.{message_metadata}
 use Rattle.pulsar_link.specs.Items.{Item}
 use Rattle.pulsar_consumer.specs.DeadLetters.{Letter, lost_letter}
 use Rattle.pulsar_consumer.specs.Frames.{Frame, failed}
-use Rattle.pulsar_consumer.specs.Redelivery.{Id, Kept, due_before, forget, forget_all}
-use Rattle.pulsar_consumer.specs.Topic.{Act, Lives, Hears, Loses, Fails, Ends, Polls, Asks, TakesCopy, IsCopied, FailsCopy, Forgets, Checks, Engine, Live, Seen, Setup, advances, after, asked, clocked, copied, copy_failed, ends, finish, first_letter, first_of, frame_for, gives, gives_from, gives_up, goes_on, heard, hears, is_ended, is_finished, is_stop, lives_on, places, seen, shut, stops, subscribed, takes_copy, takes_copy_from, to_copy}
+use Rattle.pulsar_consumer.specs.Redelivery.{Id, Kept, due_before, forget, forget_all, forget_one}
+use Rattle.pulsar_consumer.specs.Topic.{Act, Lives, Hears, Loses, Fails, Ends, Polls, Asks, TakesCopy, IsCopied, FailsCopy, Forgets, Checks, Engine, Live, Seen, Setup, acked_by, advances, after, asked, clocked, copied, copy_failed, ends, finish, first_letter, first_of, frame_for, gives, gives_from, gives_up, goes_on, heard, hears, is_ended, is_finished, is_stop, lives_on, places, seen, shut, stops, subscribed, takes_copy, takes_copy_from, to_copy}
 use Rattle.pulsar_consumer.specs.Laws.{CopiesFollowArrivals, Fate, Pending, Settled, arrivals, arrives_by, fate, is_stopped, outcome_by, outcome_if, outcomes, taken, taken_by, tried, tried_behind, tried_in}
 use Rattle.pulsar_consumer.specs.declared.polled.Ending.TheVariants.{LinkLost, NotSubscribed}
 use Rattle.pulsar_consumer.proofs.Following.{any_letter, holding, one_outcome, open_of}
@@ -120,10 +120,10 @@ module _ (all : List Frame) (os : List Bool) (ts : List Id) where
   copied_tries : (e : Engine) → e.stopped ≡ false → Tries all os ts e → Tries all (os ++ outcome_if (is_some e.copying) true) ts (copied e)
   copied_tries e runs s = by e.copying refl
     where
-      by : (o : Option Id) → e.copying ≡ o → Tries all (os ++ outcome_if (is_some o) true) ts (cond (is_some o) (advances (record e { copying = None })) e)
+      by : (o : Option Id) → e.copying ≡ o → Tries all (os ++ outcome_if (is_some o) true) ts (cond (is_some o) (advances (record e { copying = None; kept = forget_one (acked_by e) e.kept })) e)
       by None c = subst (λ xs. Tries all xs ts e) (sym (append-nil os)) s
       by (Some id) c =
-          advances_tries all (os ++ true ∷ []) ts (record e { copying = None }) runs
+          advances_tries all (os ++ true ∷ []) ts (record e { copying = None; kept = forget_one (acked_by e) e.kept }) runs
           (record {
             frames = s.frames;
             parts = s.parts;

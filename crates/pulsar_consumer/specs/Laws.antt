@@ -356,7 +356,11 @@ has_id id (Some other) = is_same_id id other
 abbrev pub is_one_of : Id → List Item → Bool
 is_one_of id items = list_any (λ item. has_id id (id_of item)) items
 
--- it is acknowledged, or named to the broker: by its user, or as it is due
+-- it is acknowledged, by its user or for the receipt of its copy, or named to the broker, by its user or as it is due
+abbrev pub is_acked : Option Id → Id → Bool
+is_acked None id = false
+is_acked (Some other) id = is_same_id other id
+
 abbrev pub is_forgotten_by : Act → Seen → Id → (due : Option ℕ) → Bool
 is_forgotten_by (Lives link url) v id due = false
 is_forgotten_by (Hears link clock r) v id due = false
@@ -366,7 +370,7 @@ is_forgotten_by (Ends why) v id due = false
 is_forgotten_by (Polls clock) v id due = false
 is_forgotten_by Asks v id due = false
 is_forgotten_by TakesCopy v id due = false
-is_forgotten_by (IsCopied clock) v id due = false
+is_forgotten_by (IsCopied clock) v id due = is_acked (acked v) id
 is_forgotten_by (FailsCopy clock) v id due = false
 is_forgotten_by (Forgets other) v id due = is_same_id other id
 is_forgotten_by (Checks clock) v id due = is_some (link_of v) && is_early clock due

@@ -26,6 +26,10 @@ keep due id kept = insert_entry id_order kept id due
 abbrev pub forget : Id → Kept → Kept
 forget id kept = filter (λ e. not (is_same_id id e.0)) kept
 
+abbrev pub forget_one : Option Id → Kept → Kept
+forget_one None kept = kept
+forget_one (Some id) kept = forget id kept
+
 abbrev pub forget_all : List Id → Kept → Kept
 forget_all [] kept = kept
 forget_all (id ∷ ids) kept = forget_all ids (forget id kept)

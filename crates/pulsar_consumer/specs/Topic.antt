@@ -12,7 +12,7 @@ use Rattle.pulsar_session.specs.Failures.{Failure}
 use Rattle.pulsar_consumer.specs.Content.{ConfigValues}
 use Rattle.pulsar_consumer.specs.DeadLetters.{Letter, copy_of, lost_letter}
 use Rattle.pulsar_consumer.specs.Frames.{Frame, failed, frame_in}
-use Rattle.pulsar_consumer.specs.Redelivery.{Id, Kept, due_at, due_before, forget, forget_all, keep_all}
+use Rattle.pulsar_consumer.specs.Redelivery.{Id, Kept, due_at, due_before, forget, forget_all, forget_one, keep_all}
 use Rattle.pulsar_consumer.specs.declared.polled.Ending.{Ending}
 use Rattle.pulsar_consumer.specs.declared.polled.Ending.TheVariants.{Closed, TopicEnded, LinkLost, NotSubscribed, Stopped}
 use Rattle.pulsar_consumer.specs.declared.polled.Polled.{Polled}
@@ -163,9 +163,17 @@ takes_copy_from (l ∷ ls) e = record e { letters = ls; copying = Some l.0 }
 abbrev pub takes_copy : Engine → Engine
 takes_copy e = if is_some e.copying then e else takes_copy_from e.letters e
 
--- Its copy has its receipt: the entry is left out. Or it could not be sent: one error is given, and the rest of its frame is left out.
+-- Its copy has its receipt: the entry is left out. Where a subscription is live it is acknowledged, and so it is not asked for again. Or its
+-- copy could not be sent: one error is given, and the rest of its frame is left out.
+abbrev pub only_if : Bool → Option Id → Option Id
+only_if true id = id
+only_if false id = None
+
+abbrev pub acked_by : Engine → Option Id
+acked_by e = only_if (is_some e.live) e.copying
+
 abbrev pub copied : Engine → Engine
-copied e = if is_some e.copying then advances (record e { copying = None }) else e
+copied e = if is_some e.copying then advances (record e { copying = None; kept = forget_one (acked_by e) e.kept }) else e
 
 abbrev pub gives_up : Engine → Engine
 gives_up e = advances (record e { rest = e.rest ++ lost_letter ∷ []; letters = []; copying = None })
@@ -369,12 +377,8 @@ abbrev pub copy_due : Seen → Option ProducerMessageValues
 copy_due v = option_map (copy_of v.topic) (to_copy v.engine)
 
 -- the entry that is acknowledged as its copy has its receipt, where a subscription is live then
-abbrev pub only_if : Bool → Option Id → Option Id
-only_if true id = id
-only_if false id = None
-
 abbrev pub acked : Seen → Option Id
-acked v = only_if (is_some (link_of v)) v.engine.copying
+acked v = acked_by v.engine
 
 -- the messages that are asked for again at this moment, where a subscription is live: they are kept no longer
 abbrev pub asked_again : (clock : ℕ) → Seen → List Id

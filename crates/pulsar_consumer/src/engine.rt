@@ -220,16 +220,20 @@ impl ConsumerEngine {
         Ok(Some(Box::new(self.alloc, message)?))
     }
 
-    /// The copy that is under way has its receipt: the id of its entry, which is left out.
+    /// The copy that is under way has its receipt: its entry is left out, and acknowledged where a subscription is live.
     pub(crate) fn copy_sent(&mut self) -> Result<Option<MessageIdData>, NoMemory>
-        ensures id { IfOk result (λ id. option_map message_id_values id ≡ self.old.copying) }
+        ensures acked { IfOk result (λ id. option_map message_id_values id ≡ meaning.acked_by self.old) }
         ensures after { OnOk result (self.new ≡ meaning.copied self.old) }
     {
         let Some(id) = self.copying.take() else {
             return Ok(None);
         };
+        let is_live = self.live.is_some();
+        if is_live {
+            self.kept.forget(&id)?;
+        }
         self.advance()?;
-        Ok(Some(id))
+        Ok(only_if(is_live, id))
     }
 
     /// The copy that is under way could not be sent: one error is given for what is left of its frame.
@@ -389,6 +393,13 @@ fn has_letters(letters: &VecDeque<Letter>) -> bool
     ensures { result ≡ not (meaning.no_letters letters.now.items) }
 {
     !letters.is_empty()
+}
+
+/// An entry is acknowledged only where a subscription is live.
+fn only_if(is_live: bool, id: MessageIdData) -> Option<MessageIdData>
+    ensures { option_map message_id_values result ≡ meaning.only_if is_live (Some (message_id_values id)) }
+{
+    if is_live { Some(id) } else { None }
 }
 
 /// When what is placed now is to be asked for again.

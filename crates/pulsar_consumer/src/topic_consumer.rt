@@ -310,15 +310,15 @@ impl TopicConsumer {
         Ok(copy)
     }
 
-    /// At this moment the copy that is under way has its receipt: the id of its entry, which is acknowledged where a subscription is live.
+    /// At this moment the copy that is under way has its receipt: the id of its entry, which is acknowledged where a subscription
+    /// is live.
     pub fn copy_sent(&mut self, clock: u64) -> Result<Option<MessageIdData>, NoMemory>
         ensures acked { IfOk result (λ id. option_map message_id_values id ≡ acked self.old) }
         ensures after { OnOk result (self.new ≡ after (IsCopied clock) self.old) }
     {
-        let is_live = self.link().is_some();
         self.engine.tell(clock);
-        let id = self.engine.copy_sent()?;
-        Ok(only_if(is_live, id))
+        let acked = self.engine.copy_sent()?;
+        Ok(acked)
     }
 
     /// At this moment the copy that is under way could not be sent: one error is given for what is left of its frame.
@@ -400,13 +400,6 @@ impl TopicConsumer {
             Polled::Empty
         }
     }
-}
-
-/// An entry is acknowledged only where a subscription is live.
-fn only_if(is_live: bool, id: Option<MessageIdData>) -> Option<MessageIdData>
-    ensures { option_map message_id_values result ≡ meaning.only_if is_live (option_map message_id_values id) }
-{
-    if is_live { id } else { None }
 }
 
 /// How many items may be unread.

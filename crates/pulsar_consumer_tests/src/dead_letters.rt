@@ -142,19 +142,6 @@ fn a_failed_copy_skips_the_rest_of_its_frame_alone(rt: HostRuntime) -> Result<()
 }
 
 #[test]
-fn entries_are_copied_in_turn(rt: HostRuntime) -> Result<(), Fail> {
-    let alloc = rt.alloc();
-    let mut consumer = consumer(alloc)?;
-    consumer.hear(0, 0, message(alloc, id(alloc, 1, 2), 1, Some(2), AB)?)?;
-    assert!(rt; consumer.take_copy()?.is_some() && consumer.take_copy()?.is_none());
-    assert!(rt; consumer.copy_sent(0)?.is_some() && consumer.is_copy_due());
-    consumer.lose(0);
-    assert!(rt; consumer.take_copy()?.is_some() && consumer.copy_sent(0)?.is_none());
-    assert!(rt; consumer.copy_sent(0)?.is_none() && !consumer.is_copy_due());
-    Ok(())
-}
-
-#[test]
 fn dead_letters_fail_at_a_stop(rt: HostRuntime) -> Result<(), Fail> {
     let alloc = rt.alloc();
     let mut consumer = consumer(alloc)?;
@@ -181,20 +168,5 @@ fn a_check_names_what_is_due_in_the_order_of_ids(rt: HostRuntime) -> Result<(), 
     let named = consumer.check(1500)?;
     assert!(rt; named.len() == 2 && named[0] == id(alloc, 1, 1) && named[1] == id(alloc, 2, 0));
     assert!(rt; consumer.check(2000)?.is_empty());
-    Ok(())
-}
-
-#[test]
-fn what_is_placed_again_is_due_later(rt: HostRuntime) -> Result<(), Fail> {
-    let alloc = rt.alloc();
-    let mut consumer = consumer(alloc)?;
-    consumer.hear(0, 0, message(alloc, id(alloc, 1, 1), 0, None, b"a")?)?;
-    consumer.hear(0, 600, message(alloc, id(alloc, 1, 1), 0, None, b"a")?)?;
-    assert!(rt; consumer.check(1500)?.is_empty());
-    consumer.lose(0);
-    assert!(rt; consumer.check(2000)?.is_empty());
-    consumer.subscribe(1, Url::parse(alloc, "pulsar://127.0.0.1:6650")?)?;
-    let named = consumer.check(2000)?;
-    assert!(rt; named.len() == 1);
     Ok(())
 }

@@ -195,7 +195,8 @@ fn add_all(found: &mut BTreeSet<KeptId>, ids: &BTreeSet<KeptId>) -> Result<(), N
     ensures { OnOk result ((i : Id) → contains id_order found.new i ≡ (contains id_order found.old i || contains id_order ids.now i)) }
 {
     for id in ids {
-        found.insert(id.copy()?)?;
+        let again = id.copy()?;
+        found.insert(again)?;
     }
     Ok(())
 }

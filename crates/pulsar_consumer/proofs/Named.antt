@@ -517,7 +517,8 @@ checks_name_the_due s h clock = by (is_some (link_of v))
 
     by : (b : Bool) → IsStrictlySortedBy id_order (cond b (due_before clock v.engine.kept) [])
         × ((id : Id) → list_any (is_same_id id) (cond b (due_before clock v.engine.kept) []) ≡ (b && is_early clock (due_of s h id)))
-    by true =
-        (sorted_filter (is_due_before clock) v.engine.kept (ordered s h),
-        λ id. due_is clock v.engine.kept (ordered s h) id ∙ ap (is_early clock) (due_is_so s h id))
+    by true = (
+      sorted_filter (is_due_before clock) v.engine.kept (ordered s h),
+      λ id. due_is clock v.engine.kept (ordered s h) id ∙ ap (is_early clock) (due_is_so s h id),
+    )
     by false = (none_ordered, λ id. refl)

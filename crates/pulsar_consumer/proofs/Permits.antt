@@ -33,7 +33,7 @@ advances_keeps d e all = let two = goes_keeps d.waiting (places d) in (two.0 ∙
 
 module _ (P B : Engine → Type 0) (weak : (e : Engine) → P e → B e) (on : (e : Engine) → B e → P (advances e))
     (bare : (e : Engine) (u r : List Item) (ls : List Letter) (o : Option Id) (w : List Frame) (k : Kept) → B e →
-        B (record e { unread = u; rest = r; letters = ls; copying = o; waiting = w; kept = k })) where
+    B (record e { unread = u; rest = r; letters = ls; copying = o; waiting = w; kept = k })) where
   pub hears_so : (f : Frame) (e : Engine) → P e → P (hears f e)
   hears_so f e p =
       on (record e { waiting = e.waiting ++ f ∷ [] }) (bare e e.unread e.rest e.letters e.copying (e.waiting ++ f ∷ []) e.kept (weak e p))

@@ -168,11 +168,7 @@ fn frame_of(
 }
 
 /// The frame of a dead letter with these items: an error among them is given in any case.
-fn dead_frame(
-    alloc: Global,
-    weight: u32,
-    mut items: VecDeque<Unread>,
-) -> Result<Frame, NoMemory>
+fn dead_frame(alloc: Global, weight: u32, mut items: VecDeque<Unread>) -> Result<Frame, NoMemory>
     requires { weight < 2 ^ 31 }
     ensures { IfOk result (λ f. f ≡ record { weight = weight; items = dead.faults items.items; letters = dead.letters items.items }) }
 {

@@ -94,7 +94,13 @@ fn poll(consumer: &mut TopicConsumer) -> Result<u8, Fail> {
     match consumer.poll(0)? {
         Polled::Empty => Ok(b'e'),
         Polled::End => Ok(b'E'),
-        Polled::Item(item) => { if item.is_message() { Ok(b'm') } else { Ok(b'!') } }
+        Polled::Item(item) => {
+            if item.is_message() {
+                Ok(b'm')
+            } else {
+                Ok(b'!')
+            }
+        }
     }
 }
 

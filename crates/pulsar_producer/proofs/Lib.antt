@@ -1,5 +1,8 @@
 pub mod Cutting
 pub mod Entries
+pub mod MultiPassing
+pub mod MultiTopics
+pub mod MultiTurns
 pub mod Numbers
 pub mod PartialSends
 pub mod Properties

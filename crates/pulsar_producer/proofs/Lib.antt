@@ -1,5 +1,6 @@
 pub mod Cutting
 pub mod Entries
+pub mod MultiMaps
 pub mod MultiPassing
 pub mod MultiTopics
 pub mod MultiTurns

@@ -1,5 +1,5 @@
 -- Plans of those that use a producer of many topics: machines over the news of what they do.
-use Rattle.std.specs.Prelude.{ℕ, List, Result, Ok, Err}
+use Rattle.std.specs.Prelude.{ℕ, List, None, Result, Ok, Err}
 use Rattle.pulsar_messages.specs.Content.{ProducerMessageValues}
 use Rattle.pulsar_session.specs.Failures.{Fault, Disconnected, Failure}
 use Rattle.pulsar_plans.specs.declared.turn.Ways.{Ways}

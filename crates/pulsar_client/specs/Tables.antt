@@ -16,7 +16,8 @@ use Rattle.pulsar_client.specs.declared.tables.Tables.{Tables}
 use Rattle.pulsar_calls.specs.Content.{Heard, Shown, Retry, heard, shown}
 use Rattle.pulsar_tables.specs.Alarms.{set}
 use Rattle.pulsar_client.specs.Run.{Agenda, Step, rules}
-use Rattle.pulsar_tables.specs.Kept.{addresses_of, links_in, producers_of}
+use Rattle.pulsar_producer.specs.Routing.{Policy}
+use Rattle.pulsar_tables.specs.Kept.{addresses_of, links_in, multis_of, producers_of}
 use Rattle.pulsar_tables.specs.KeptConsumers.{consumers_in}
 use Rattle.pulsar_tables.specs.View.{Chosen, Options, Seat, Turned, View, alarms_on, alarms_rung, base_on, delay_with, later, nobody, pause_on, pause_rung, waits_on}
 use Rattle.pulsar_tables.specs.Links.{change_in}
@@ -37,10 +38,12 @@ chosen_of s =
       now = s.start;
     }
 
+-- what is seen of the tables: they have no policies, which are lent to each step
 abbrev pub view_of : Tables → View
 view_of c =
     record {
       chosen = chosen_of c.settings;
+      policies = [];
       now = c.clock;
       stand = stand_of c.plans;
       calls = record { drawn = c.tickets; is_built = c.is_built; is_stopped = c.is_stopped };
@@ -49,7 +52,11 @@ view_of c =
       alarms = c.alarms;
       consumers = consumers_in c.consumers.rows c.consumers.numbers;
       producers = producers_of c.producers;
+      multis = multis_of c.multis;
     }
+
+abbrev pub with_policies : List Policy → View → View
+with_policies ps v = record v { policies = ps }
 
 -- what a link turns whose next frame was read
 abbrev pub welcomed : (link : ℕ) → Arrival → Option Seat → Option Turned
@@ -97,11 +104,11 @@ agenda_of t = record { now = t.now.items; here = t.here; behind = t.behind.items
 
 -- the tables stand for a history
 abbrev pub Stands : Options → Tables → List Step → Type 0
-Stands o c history = standing.Stands rules o (view_of c) history
+Stands o c history = standing.Stands rules o (with_policies o.policies (view_of c)) history
 
 -- inside a step: what is left to do, and the effects so far
 abbrev pub InStep : Options → Tables → Agenda → Heard → List Shown → List Step → Type 0
-InStep o c g event out history = standing.InStep rules o (view_of c) g event out history
+InStep o c g event out history = standing.InStep rules o (with_policies o.policies (view_of c)) g event out history
 
 -- a step of a history
 abbrev pub step : Event → List Effect → Step

@@ -1,4 +1,4 @@
--- For the code's contracts alone: the links, the addresses, the alarms, the producers and the consumers, as the code keeps them, and what is
+-- For the code's contracts alone: the links, the addresses, the alarms, the producers, those of many topics and the consumers, as the code keeps them, and what is
 -- read of a link that may have ended.
 use Rattle.std.specs.Prelude.{◌≡◌, ℕ, ◌≤◌, Bool, true, false, List, Option, Some, None, String}
 use Rattle.std.specs.BTreeMap.{BTreeMap, IsOrdered, get, get_by_text}
@@ -23,6 +23,8 @@ use Rattle.pulsar_tables.specs.Due.{is_moment, moment_at}
 use Rattle.pulsar_tables.specs.Rules.{ended_on}
 use Rattle.pulsar_tables.specs.declared.producers.Producers.{Producers as KeptProducers}
 use Rattle.pulsar_tables.specs.Producers.{Producers}
+use Rattle.pulsar_tables.specs.declared.multis.Multis.{Multis as KeptMultis}
+use Rattle.pulsar_tables.specs.Multis.{Multis}
 use Rattle.pulsar_tables.specs.View.{Addresses, Base, Links, Seat, askers_left, closing, may_retry, nobody, pause_with, ping_left}
 
 abbrev pub seat_of : Row → Seat
@@ -103,3 +105,8 @@ producers_of p =
       named = p.named.keys;
       next = p.next;
     }
+
+-- THE PRODUCERS OF MANY TOPICS
+
+abbrev pub multis_of : KeptMultis → Multis
+multis_of m = record { own = m.own; made = m.made.entries }

@@ -3,6 +3,7 @@ pub mod Links
 pub mod Consumers
 pub mod Alarms
 pub mod Producers
+pub mod Multis
 pub mod View
 pub mod Reading
 pub mod Rules

@@ -133,6 +133,7 @@ made_due live w makes.Client = []
 made_due live w (makes.Consumer j) = due_to (ticket_of w) (member_on live j.link (setup_of j))
 made_due live w (makes.RawConsumer l made) = []
 made_due live w (makes.Producer b) = []
+made_due live w (makes.MultiProducer name settings) = []
 
 -- those who wait for the link of a consumer look for it once more
 abbrev pub again : Who → Notice

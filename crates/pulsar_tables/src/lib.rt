@@ -8,5 +8,6 @@ pub mod alarms;
 pub mod consumers;
 pub mod due;
 pub mod links;
+pub mod multis;
 pub mod producers;
 pub mod row;

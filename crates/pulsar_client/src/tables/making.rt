@@ -2,12 +2,12 @@
 
 ghost use Rattle.std.specs.Prelude.{◌≡◌, ◌∷◌, [], IfOk, OnOk};
 ghost use Rattle.std.specs.Option.{option_to_list};
-ghost use Rattle.pulsar_tables.specs.Kept.{live_in, producers_of};
+ghost use Rattle.pulsar_tables.specs.Kept.{live_in, multis_of, producers_of};
 ghost use Rattle.pulsar_tables.specs.KeptConsumers.{consumers_in, member_in};
 ghost use Rattle.pulsar_tables.specs.Reading.{due_to, made_due, serves_by};
 ghost use Rattle.pulsar_tables.specs.Rules.{left_with};
 ghost use Rattle.pulsar_client.specs.Tables.{chosen_of, view_of};
-ghost use Rattle.pulsar_tables.specs.View.{consumers_left, consumers_made, joins_as, member_on, producers_made, setup_of, ways_of};
+ghost use Rattle.pulsar_tables.specs.View.{consumers_left, consumers_made, joins_as, member_on, multis_made, producers_made, setup_of, ways_of};
 ghost use Rattle.pulsar_calls.specs.Who.{ticket_of};
 
 use crate::tables::Tables;
@@ -26,7 +26,7 @@ impl Tables {
     /// What a verdict makes has the ticket of its call: what a consumer is told that is made.
     pub(super) fn makes(&mut self, who: Who, makes: Makes) -> Result<Option<Notice>, NoMemory>
         ensures due { IfOk result (λ n. option_to_list n ≡ made_due (live_in self.old.links.live) who makes) }
-        ensures sees { OnOk result (view_of self.new ≡ record (view_of self.old) { consumers = consumers_made (live_in self.old.links.live) who makes (consumers_in self.old.consumers.rows self.old.consumers.numbers); producers = producers_made (chosen_of self.old.settings) who makes (producers_of self.old.producers) }) }
+        ensures sees { OnOk result (view_of self.new ≡ record (view_of self.old) { consumers = consumers_made (live_in self.old.links.live) who makes (consumers_in self.old.consumers.rows self.old.consumers.numbers); producers = producers_made (chosen_of self.old.settings) who makes (producers_of self.old.producers); multis = multis_made who makes (multis_of self.old.multis) }) }
         ensures settings { self.new.settings ≡ self.old.settings }
     {
         match makes {
@@ -43,6 +43,10 @@ impl Tables {
                     self.settings.seed,
                     self.settings.first_number,
                 )?;
+                Ok(None)
+            }
+            Makes::MultiProducer { name, settings } => {
+                self.multis.make(rank(who).1, name, settings)?;
                 Ok(None)
             }
         }
@@ -110,11 +114,15 @@ impl Tables {
         ensures { IfOk result (λ acts. acts.items ≡ left_with (ways_of (chosen_of self.now.settings)) who makes.now) }
     {
         match makes {
-            Makes::Producer(made) => self.batches_made(made.building()),
-            Makes::Consumer(joined) => self.serves(who, joined.joining()),
-            Makes::Nothing | Makes::Client | Makes::RawConsumer { .. } => {
-                Ok(VecDeque::new(self.alloc))
+            Makes::Producer(made) => {
+                let building = made.building();
+                self.batches_for(&building.settings, &building.parts)
             }
+            Makes::Consumer(joined) => self.serves(who, joined.joining()),
+            Makes::Nothing
+            | Makes::Client
+            | Makes::RawConsumer { .. }
+            | Makes::MultiProducer { .. } => Ok(VecDeque::new(self.alloc)),
         }
     }
 

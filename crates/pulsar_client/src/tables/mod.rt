@@ -7,7 +7,7 @@ ghost use Rattle.pulsar_tables.specs.Effects.{effect_below, effects};
 ghost use Rattle.pulsar_tables.specs.Rules.{brings, call_part};
 ghost use Rattle.pulsar_client.specs.Run.{Step, goes_on};
 ghost use Rattle.pulsar_producer.specs.Routing.{Policy};
-ghost use Rattle.pulsar_client.specs.Tables.{InStep, Stands, agenda_of, chosen_of, step, view_of};
+ghost use Rattle.pulsar_client.specs.Tables.{InStep, Stands, agenda_of, chosen_of, step, view_of, with_policies};
 ghost use Rattle.pulsar_tables.specs.View.{Options, after, begun, is_live};
 
 mod alarms;
@@ -16,6 +16,7 @@ mod calls;
 mod consumers;
 mod links;
 mod making;
+mod multi;
 mod producers;
 mod sends;
 
@@ -33,6 +34,7 @@ use pulsar_tables::addresses::Addresses;
 use pulsar_tables::alarms::Alarms;
 use pulsar_tables::consumers::table::Consumers;
 use pulsar_tables::links::Links;
+use pulsar_tables::multis::Multis;
 use pulsar_tables::producers::Producers;
 use pulsar_wire::error::NoMemory;
 use std::alloc::Global;
@@ -57,15 +59,16 @@ pub struct Tables {
     pub alarms: Alarms,
     pub consumers: Consumers,
     pub producers: Producers,
+    pub multis: Multis,
 }
 
 impl Tables {
-    pub fn new(alloc: Global, settings: Settings) -> Tables
-        ensures { (policies : List Policy) → Stands (record { chosen = chosen_of settings; policies = policies }) result [] }
+    pub fn new(alloc: Global, settings: Settings) -> Result<Tables, NoMemory>
+        ensures { IfOk result (λ c. (policies : List Policy) → Stands (record { chosen = chosen_of settings; policies = policies }) c []) }
     {
         let clock = settings.start;
         let first_number = settings.first_number;
-        Tables {
+        Ok(Tables {
             alloc,
             settings,
             clock,
@@ -78,7 +81,8 @@ impl Tables {
             alarms: Alarms::new(alloc),
             consumers: Consumers::new(alloc, first_number),
             producers: Producers::new(alloc, first_number),
-        }
+            multis: Multis::new(alloc)?,
+        })
     }
 
     /// An event names a live link, in a state that the link is in, a consumer, or a moment that is not before the clock; a
@@ -115,7 +119,7 @@ impl Tables {
         let mut out = Vec::new(self.alloc);
         let parts = self.begins(event, policies)?;
         let mut tasks = Tasks::new(self.alloc, parts);
-        self.work(&mut tasks, &mut out)?;
+        self.work(policies, &mut tasks, &mut out)?;
         arrange(&mut out)?;
         Ok(out)
     }
@@ -164,23 +168,34 @@ impl Tables {
     }
 
     /// Does all that is left to do, and all that arises from it.
-    fn work(&mut self, tasks: &mut Tasks, out: &mut Vec<Effect>) -> Result<(), NoMemory>
-        ensures stands { OnOk result ((o : Options) (e : Heard) (h : List Step) → InStep o self.old (agenda_of tasks.old) e (map shown out.old.items) h → Stands o self.new (record { event = e; effects = arranged effect_below (map shown out.new.items) } ∷ h)) }
+    fn work(
+        &mut self,
+        policies: &[Box<dyn CustomRoutingPolicy>],
+        tasks: &mut Tasks,
+        out: &mut Vec<Effect>,
+    ) -> Result<(), NoMemory>
+        ensures stands { OnOk result ((o : Options) (e : Heard) (h : List Step) → o.policies ≡ map (λ p. routes p) policies.now → InStep o self.old (agenda_of tasks.old) e (map shown out.old.items) h → Stands o self.new (record { event = e; effects = arranged effect_below (map shown out.new.items) } ∷ h)) }
         ensures settings { self.new.settings ≡ self.old.settings }
     {
         for _ in 0..u64::MAX {
             match tasks.next() {
                 None => return Ok(()),
-                Some(act) => self.treat(act, tasks, out)?,
+                Some(act) => self.treat(act, policies, tasks, out)?,
             }
         }
         Err(NoMemory)
     }
 
     /// One act: its effects, what arises from it, and the tables after it.
-    fn treat(&mut self, act: Act, tasks: &mut Tasks, out: &mut Vec<Effect>) -> Result<(), NoMemory>
+    fn treat(
+        &mut self,
+        act: Act,
+        policies: &[Box<dyn CustomRoutingPolicy>],
+        tasks: &mut Tasks,
+        out: &mut Vec<Effect>,
+    ) -> Result<(), NoMemory>
         ensures out { OnOk result (map shown out.new.items ≡ map shown out.old.items ++ effects (view_of self.old) act) }
-        ensures left { OnOk result (agenda_of tasks.new ≡ goes_on (view_of self.old) act (agenda_of tasks.old)) }
+        ensures left { OnOk result (agenda_of tasks.new ≡ goes_on (with_policies (map (λ p. routes p) policies.now) (view_of self.old)) act (agenda_of tasks.old)) }
         ensures sees { OnOk result (view_of self.new ≡ after act (view_of self.old)) }
         ensures settings { self.new.settings ≡ self.old.settings }
     {
@@ -191,7 +206,7 @@ impl Tables {
             Act::Comes(Part::Polls(ticket)) => self.polls(ticket, tasks, out),
             Act::Starts { who, procedure } => self.starts(who, procedure, tasks),
             Act::Told(Notice { who, outcome }) => self.told(who, outcome, tasks),
-            Act::Does { who, action } => self.does(who, action, tasks, out),
+            Act::Does { who, action } => self.does(who, action, policies, tasks, out),
             Act::Answers { who, verdict } => self.answers(who, verdict, tasks, out),
             Act::Dials {
                 address,

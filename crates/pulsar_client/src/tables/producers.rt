@@ -53,10 +53,15 @@ impl Tables {
             | Call::Lookup { .. }
             | Call::Partitions { .. }
             | Call::Brokers { .. }
+            | Call::Post { .. }
             | Call::Producer(_)
+            | Call::MultiProducer(_)
             | Call::Flush { .. }
             | Call::CheckProducer { .. }
             | Call::CloseProducer { .. }
+            | Call::MultiSend { .. }
+            | Call::MultiSendAll { .. }
+            | Call::MultiClose { .. }
             | Call::Consumer(_)
             | Call::Ack { .. }
             | Call::Nack { .. }

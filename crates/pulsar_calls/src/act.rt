@@ -348,7 +348,10 @@ pub enum Makes {
     /// A consumer of one topic.
     Consumer(Joined),
     /// A consumer of a raw call to subscribe, on this link.
-    RawConsumer { link: u64, made: Subscribed },
+    RawConsumer {
+        link: u64,
+        made: Subscribed,
+    },
     /// A producer.
     Producer(Made),
     /// A producer of many topics, whose producers are made with this name and in this way.

@@ -19,14 +19,13 @@ use pulsar_plans::making::Command;
 use pulsar_producer::content::{Parts, Settings};
 use pulsar_producer::deed::News;
 use pulsar_producer::multi_topic::content::MultiSaid;
+pub use pulsar_producer::multi_topic::content::Numbers;
 use pulsar_producer::multi_topic::deed::MultiAsk;
 use pulsar_producer::replies::Given;
 use pulsar_wire::error::{ConnectionError, Error, NoMemory, ProducerError};
 use std::alloc::Global;
 use std::collections::{BTreeMap, VecDeque};
 use std::marker::Model;
-
-pub use pulsar_producer::multi_topic::content::Numbers;
 
 /// What a user asks of the client.
 #[derive(Drop)]

@@ -144,10 +144,10 @@ there_removed t u (e ∷ es) all = by (bytes_eq u e.0) refl (bytes_eq t u) refl 
     skips false q r is = refl
 
     passes : (b c : Bool) (q r : Option producer.Seen) → is_some q ≡ cond c false (is_some r) → (c ≡ true → b ≡ false) → is_some (cond b (Some e.1) q) ≡ cond c false (is_some (cond b (Some e.1) r))
-    passes true true q r more no = absurd (let f = no refl in cc)
-    passes true false q r more no = refl
-    passes false true q r more no = more
-    passes false false q r more no = more
+    passes true true q r more apart = absurd (let f = apart refl in cc)
+    passes true false q r more apart = refl
+    passes false true q r more apart = more
+    passes false false q r more apart = more
 
     by : (b : Bool) → bytes_eq u e.0 ≡ b → (c : Bool) → bytes_eq t u ≡ c → is_some (found t (removed u es)) ≡ cond c false (is_some (found t es))
         → is_some (found t (cond b es (e ∷ removed u es))) ≡ cond c false (is_some (found t (e ∷ es)))

@@ -92,7 +92,7 @@ impl MultiTopicProducer {
     pub fn producer(&self, topic: &str) -> Option<&Producer>
         ensures { option_copied result ≡ found topic.now self.now.topics }
     {
-        self.topics.get(topic)
+        producer_in(&self.topics, topic)
     }
 
     /// What the policy of the client says of a message for a topic, where the producer of that is there and has such a policy: an index
@@ -201,11 +201,18 @@ impl MultiTopicProducer {
     }
 }
 
+/// The producer of a topic, where there is one.
+fn producer_in<'a>(topics: &'a BTreeMap<String, Producer>, topic: &str) -> Option<&'a Producer>
+    ensures { option_copied result ≡ found topic.now (map named topics.now.entries) }
+{
+    topics.get(topic)
+}
+
 fn topics_in(alloc: Global, topics: &BTreeMap<String, Producer>) -> Result<Vec<String>, NoMemory>
     ensures { IfOk result (λ ts. map string_bytes ts.items ≡ map (λ e. e.0) (map named topics.now.entries)) }
 {
     let mut names = Vec::new(alloc);
-    for name in topics.keys() {
+    for (name, _) in topics {
         names.push(name.clone()?)?;
     }
     Ok(names)

@@ -8,9 +8,8 @@ ghost use Rattle.pulsar_procedures.specs.declared.plan.Plan.TheVariants.{MultiCl
 
 use crate::plan::{Plan, Turn, error_of, fails, left, overrides};
 use crate::producing::{action_of, news_of};
-use crate::sends;
 use crate::states::MultiState;
-use crate::visiting;
+use crate::{sends, visiting};
 use pulsar_calls::act::{Action, Outcome, Round, Share, Verdict};
 use pulsar_calls::content::ToMulti;
 use pulsar_plans::content::{Refusal, Text};
@@ -133,11 +132,7 @@ fn dispatches(
 }
 
 /// A close begins.
-pub fn closes(
-    alloc: Global,
-    multi: Multi,
-    topic: Text,
-) -> Result<Turn<Plan, Verdict>, NoMemory>
+pub fn closes(alloc: Global, multi: Multi, topic: Text) -> Result<Turn<Plan, Verdict>, NoMemory>
     ensures { IfOk result (λ turn. turn ≡ multi_closes multi (meaning.close_begins topic)) }
 {
     closes_on(alloc, multi, closing::begins(topic))
@@ -161,11 +156,7 @@ pub fn closing_told(
 }
 
 /// A close goes on. Once the producer of its topic is removed, each of the topic producers is closed in its turn.
-fn closes_on(
-    alloc: Global,
-    multi: Multi,
-    step: Closes,
-) -> Result<Turn<Plan, Verdict>, NoMemory>
+fn closes_on(alloc: Global, multi: Multi, step: Closes) -> Result<Turn<Plan, Verdict>, NoMemory>
     ensures { IfOk result (λ turn. turn ≡ multi_closes multi step) }
 {
     match step {

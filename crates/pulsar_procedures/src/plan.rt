@@ -271,7 +271,9 @@ pub fn told(alloc: Global, plan: Plan, outcome: Outcome) -> Result<Turn<Plan, Ve
             share,
             sending,
         } => multi::sending_told(alloc, ways, multi, share, sending, outcome),
-        Plan::MultiClosing { multi, closing } => multi::closing_told(alloc, multi, closing, outcome),
+        Plan::MultiClosing { multi, closing } => multi::closing_told(
+            alloc, multi, closing, outcome,
+        ),
         Plan::Subscribing {
             ways,
             order,

@@ -226,7 +226,11 @@ fn member_call(alloc: Global, word: &[u8], words: &[&[u8]]) -> Result<Option<Cal
 }
 
 /// A word that belongs to a consumer, and what follows it.
-pub(crate) fn consumer_call(alloc: Global, word: &[u8], words: &[&[u8]]) -> Result<Option<Call>, NoMemory>
+pub(crate) fn consumer_call(
+    alloc: Global,
+    word: &[u8],
+    words: &[&[u8]],
+) -> Result<Option<Call>, NoMemory>
     ensures { IfOk result (λ c. option_map asked c ≡ consumer_call word.now (map (λ w. w.now) words.now)) }
 {
     if is(word, "consumer") {

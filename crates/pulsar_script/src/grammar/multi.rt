@@ -72,11 +72,7 @@ fn multi_send(alloc: Global, words: &[&[u8]]) -> Result<Option<Call>, NoMemory>
 }
 
 /// The topic and the message.
-fn multi_send_by(
-    alloc: Global,
-    producer: u64,
-    words: &[&[u8]],
-) -> Result<Option<Call>, NoMemory>
+fn multi_send_by(alloc: Global, producer: u64, words: &[&[u8]]) -> Result<Option<Call>, NoMemory>
     ensures { IfOk result (λ c. option_map asked c ≡ multi_send_by producer (map (λ w. w.now) words.now)) }
 {
     let Some((topic, rest)) = words.split_first() else {

@@ -64,15 +64,9 @@ pub struct Handing {
 #[derive(Drop)]
 pub enum Dispatch {
     /// It is sent by itself.
-    Send {
-        errand: Errand,
-        message: Outgoing,
-    },
+    Send { errand: Errand, message: Outgoing },
     /// The topic producer of this number stores it until it is sent in a batch.
-    Store {
-        number: u64,
-        entry: Entry,
-    },
+    Store { number: u64, entry: Entry },
 }
 
 /// A message for a topic that has no producer, and how that is built.

@@ -8,7 +8,7 @@ use Rattle.pulsar_tables.specs.Address.{base_in}
 use Rattle.pulsar_calls.specs.Content.{Heard}
 use Rattle.pulsar_tables.specs.View.{Chosen, Options}
 use Rattle.pulsar_client.specs.Outside.{Rose}
-use Rattle.pulsar_client.specs.Run.{Good, Step, is_empty}
+use Rattle.pulsar_agenda.specs.Run.{Good, Step, is_empty}
 use Rattle.pulsar_script.specs.Grammar.{Setting, Url, Auth, Outbound, Timeout, RetryDelay, OpRetries, Retries, MinBackoff, MaxBackoff, ConnectionTimeout, KeepAlive, MaxIdle, Seed, First, Now, Line, Nothing, Sets, Happens, Refused, line, lines}
 use Rattle.pulsar_script.specs.Text.{step, refusal}
 

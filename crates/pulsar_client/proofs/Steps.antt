@@ -1,16 +1,17 @@
 -- Steps of a client's history. Nothing here knows what kinds of event, act and thing there are.
 use Rattle.std.proofs.Common.{◌≡◌, ◌∙◌, sym, ap, List, [], ◌∷◌, ◌++◌, refl, arith, length, reverse, false, cond, map}
-use Rattle.std.proofs.lemmas.List.{append-nil, reverse-append}
+use Rattle.std.proofs.lemmas.List.{reverse-append}
 use Rattle.std.specs.Global.{Vec}
 use Rattle.pulsar_run.proofs.Unique.{one_log}
 use Rattle.pulsar_run.specs.Run.{Begins, only}
 use Rattle.pulsar_calls.specs.declared.effect.Effect.{Effect}
 use Rattle.pulsar_calls.specs.declared.event.Event.{Event}
-use Rattle.pulsar_client.specs.declared.tables.Tables.{Tables}
+use Rattle.pulsar_acts.specs.declared.tables.Tables.{Tables}
 use Rattle.pulsar_calls.specs.Content.{Heard, heard, shown}
 use Rattle.pulsar_tables.specs.Rules.{brings}
-use Rattle.pulsar_client.specs.Run.{Agenda, Good, Step, first, rules, view}
-use Rattle.pulsar_client.specs.Tables.{Stands, answered, step, view_of}
+use Rattle.pulsar_agenda.specs.Run.{Good, Step, first, rules, view}
+use Rattle.pulsar_client.specs.History.{Stands, answered, step}
+use Rattle.pulsar_acts.specs.Tables.{view_of}
 use Rattle.pulsar_tables.specs.View.{Options, begun_live, is_live}
 
 answered_more : (es : List Event) (xs : List (Vec Effect)) (e : Event) (x : Vec Effect) → length xs ≡ length es →
@@ -27,10 +28,6 @@ same_step d e x h = ap (λ t. record { event = t; effects = map shown x }) h
 pub history_more : (es : List Event) (xs : List (Vec Effect)) (e : Event) (x : Vec Effect) → length xs ≡ length es →
     reverse (answered (es ++ e ∷ []) (xs ++ x ∷ [])) ≡ step e x.items ∷ reverse (answered es xs)
 history_more es xs e x h = rw (answered_more es xs e x h) (simp reverse-append)
-
--- an act from which nothing arises leaves what was left to do
-pub nothing_arises : (g : Agenda) → g ≡ record g { behind = g.behind ++ [] }
-nothing_arises g i = record { now = g.now; here = g.here; behind = sym (append-nil g.behind) i; parts = g.parts }
 
 -- an event that isn't live changes nothing, and nothing is left to do
 pub dead_step : {o : Options} (c : Tables) {h : List Step} (e : Heard) → is_live (view_of c) e ≡ false → Stands o c h → Stands o c (record { event = e; effects = [] } ∷ h)

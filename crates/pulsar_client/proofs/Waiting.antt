@@ -5,9 +5,10 @@ use Rattle.pulsar_session.specs.declared.states.Stage.{Stage}
 use Rattle.pulsar_session.specs.declared.states.Stage.TheVariants.{Dialing, Handshaking, Ready, Over}
 use Rattle.pulsar_session.specs.Link.{is_open}
 use Rattle.pulsar_consumer_table.specs.Consumers.{IsHeard}
-use Rattle.pulsar_client.specs.declared.tables.Tables.{Tables}
-use Rattle.pulsar_client.specs.Run.{Good, Step, view}
-use Rattle.pulsar_client.specs.Tables.{Stands, view_of}
+use Rattle.pulsar_acts.specs.declared.tables.Tables.{Tables}
+use Rattle.pulsar_agenda.specs.Run.{Good, Step, view}
+use Rattle.pulsar_client.specs.History.{Stands}
+use Rattle.pulsar_acts.specs.Tables.{view_of}
 use Rattle.pulsar_client.proofs.Steps.{seen_of}
 use Rattle.pulsar_tables.specs.View.{Options, Seat, View, Waits, is_at, is_busy, is_handshaking}
 

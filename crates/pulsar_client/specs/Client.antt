@@ -9,8 +9,8 @@ use Rattle.pulsar_messages.specs.Content.{authentication_values}
 use Rattle.pulsar_producer.specs.Routing.{Policy}
 use Rattle.pulsar_tables.specs.Address.{base_in}
 use Rattle.pulsar_calls.specs.Content.{Heard}
-use Rattle.pulsar_client.specs.Run.{Good, Step, tickets_in, view}
-use Rattle.pulsar_client.specs.Tables.{Stands}
+use Rattle.pulsar_agenda.specs.Run.{Good, Step, tickets_in, view}
+use Rattle.pulsar_client.specs.History.{Stands}
 use Rattle.pulsar_client.specs.Taken.{held_but, held_in, is_in}
 use Rattle.pulsar_tables.specs.View.{Chosen, Options, is_live}
 

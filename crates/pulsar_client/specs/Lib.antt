@@ -1,5 +1,4 @@
-pub mod Run
 pub mod Taken
-pub mod Tables
+pub mod History
 pub mod Client
 pub mod Outside

@@ -5,7 +5,7 @@ ghost use Rattle.pulsar_session.specs.Failures.{failure};
 ghost use Rattle.pulsar_producer.specs.Errors.{IsNoMemory};
 ghost use Rattle.pulsar_client.specs.Client.{StandsFor};
 ghost use Rattle.pulsar_calls.specs.Content.{answered, said};
-ghost use Rattle.pulsar_client.specs.Run.{Step};
+ghost use Rattle.pulsar_agenda.specs.Run.{Step};
 ghost use Rattle.pulsar_client.specs.Taken.{IsPolled, IsTaken, is_lost, poll_said, polled_answer, taken_with};
 ghost use Rattle.pulsar_tables.specs.View.{Options};
 

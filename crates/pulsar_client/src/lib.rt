@@ -1,16 +1,13 @@
 //! A client of Apache Pulsar as one state machine: an event goes in, its effects come out.
 #![tactic(auto)]
 
-mod agenda;
 mod answers;
+mod events;
 pub mod future;
 pub mod options;
-mod order;
 pub mod outside;
 pub mod pulsar;
-mod queue;
-mod settings;
-mod tables;
+mod steps;
 
 pub use crate::answers::Taken;
 pub use crate::future::SendFuture;

@@ -1,8 +1,16 @@
 //! What a client is made with.
 
+ghost use Rattle.std.specs.Prelude.{◌≡◌, IfOk};
+ghost use Rattle.pulsar_acts.specs.Tables.{chosen_of};
+ghost use Rattle.pulsar_client.specs.Client.{chosen};
+
+use pulsar_acts::settings::{Settings, copy_auth};
 use pulsar_messages::Authentication;
 use pulsar_plans::{ConnectionRetryOptions, OperationRetryOptions};
 use pulsar_producer::CustomRoutingPolicy;
+use pulsar_tables::address::base_in;
+use pulsar_wire::error::NoMemory;
+use std::alloc::Global;
 
 /// The options of a client.
 #[derive(Drop)]
@@ -26,4 +34,22 @@ pub struct ClientOptions {
     pub first_number: u64,
     /// By these a producer chooses partitions, where its options say so.
     pub policies: Vec<Box<dyn CustomRoutingPolicy>>,
+}
+
+impl ClientOptions {
+    /// What they say of the run of a client. A URL that is too long to be read counts as want of memory.
+    pub(crate) fn settings(&self, alloc: Global) -> Result<Settings, NoMemory>
+        ensures { IfOk result (λ s. chosen_of s ≡ chosen self.entry.now) }
+    {
+        Ok(Settings {
+            base: base_in(alloc, &self.url)?,
+            auth: copy_auth(&self.auth)?,
+            connection: self.connection_retry,
+            operation: self.operation_retry,
+            outbound: self.outbound_channel_size,
+            seed: self.seed,
+            first_number: self.first_number,
+            start: self.now,
+        })
+    }
 }

@@ -2,9 +2,9 @@
 
 ghost use Rattle.std.specs.Prelude.{◌≡◌, ◌∷◌, [], ℕ, List, OnErr, IfOk, IsErr, IsTrue, ◌↔◌, length, map, reverse};
 ghost use Rattle.pulsar_calls.specs.Content.{Called, asked, heard, shown};
-ghost use Rattle.pulsar_client.specs.Run.{Good, Step, ticket_for, tickets_in, view};
+ghost use Rattle.pulsar_agenda.specs.Run.{Good, Step, ticket_for, tickets_in, view};
 ghost use Rattle.pulsar_tables.specs.View.{Options, Waits, has_ended};
-ghost use Rattle.pulsar_client.specs.Tables.{answered, step};
+ghost use Rattle.pulsar_client.specs.History.{answered, step};
 ghost use Rattle.std.specs.Option.{option_copied, option_map};
 ghost use Rattle.pulsar_producer.specs.Wanted.{no_producer, producer_wanted};
 ghost use Rattle.pulsar_consumer.specs.Content.{consumer_wanted, no_consumer};
@@ -14,9 +14,10 @@ ghost use Rattle.pulsar_client.specs.Client.{HasFailed, IsDead, StandsFor, optio
 ghost use Rattle.pulsar_client.specs.Taken.{IsTaken, taken_with};
 
 use crate::answers::{Answers, Taken};
+use crate::events::is_live;
 use crate::options::ClientOptions;
-use crate::settings::Settings;
-use crate::tables::Tables;
+use crate::steps::step;
+use pulsar_acts::tables::Tables;
 use pulsar_calls::effect::Effect;
 use pulsar_calls::event::{Call, Event};
 use pulsar_consumer::{Consumer, ConsumerBuilder};
@@ -42,7 +43,7 @@ impl Pulsar {
         ensures options { IfOk result (λ c. options_of c ≡ options) }
     {
         let options = Box::new(alloc, options)?;
-        let settings = Settings::new(alloc, &options)?;
+        let settings = options.settings(alloc)?;
         Ok(Pulsar {
             options,
             tables: Tables::new(alloc, settings),
@@ -188,13 +189,13 @@ impl Pulsar {
             drop(event);
             return Err(NoMemory);
         }
-        if !self.tables.is_live(&event) {
+        if !is_live(&self.tables, &event) {
             drop(event);
             return Ok(Vec::new(self.tables.alloc));
         }
         self.failed = true;
         let from = self.tables.tickets;
-        let out = self.tables.step(event, self.options.policies.as_slice())?;
+        let out = step(&mut self.tables, event, self.options.policies.as_slice())?;
         self.answers.note(from, self.tables.tickets, &out)?;
         self.failed = false;
         Ok(out)

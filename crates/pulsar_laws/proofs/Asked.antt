@@ -21,7 +21,7 @@ use Rattle.pulsar_plans.specs.declared.turn.Ways.{Ways}
 use Rattle.pulsar_calls.specs.Content.{Asked, lacks_tickets, shares}
 use Rattle.pulsar_procedures.specs.Plan.{fails, told, verdict, begins}
 use Rattle.pulsar_tables.specs.Rules.{share, at_once, below, called, fails_as, causes, follows, follows_some, procedure_for, unless_refused, joins, left_with, sends_by, sends_with, stores_as, shares_of, shares_unless, starts, why_no_sends, unless}
-use Rattle.pulsar_client.specs.Run.{Agenda, Entry, Begins, Then, IsRun, agenda, first, rules, view}
+use Rattle.pulsar_agenda.specs.Run.{Agenda, Entry, Begins, Then, IsRun, agenda, first, rules, view}
 use Rattle.pulsar_tables.specs.View.{Options, View, told_some, ways_of, Chosen, may_call}
 use Rattle.pulsar_producer.specs.declared.sending.Errand.{Errand}
 use Rattle.pulsar_messages.specs.Content.{ProducerMessageValues}
@@ -34,9 +34,9 @@ use Rattle.pulsar_frame.specs.Batch.{EntryValues}
 use Rattle.pulsar_producer.specs.Batch.{entry_of}
 use Rattle.pulsar_calls.specs.declared.act.Procedure.TheVariants as procedure
 use Rattle.pulsar_calls.specs.Content as content
-use Rattle.pulsar_client.proofs.Acts.{Each, each_append, each_first, each_map, each_rest, is_served}
+use Rattle.pulsar_agenda.proofs.Acts.{Each, each_append, each_first, each_map, each_rest, is_served}
 use Rattle.pulsar_laws.proofs.Left.{left_each}
-use Rattle.pulsar_client.proofs.Raising.{IsRaised, kind, may, raises, OfBatches, OfDeed, OfPart, OfStart, OfService}
+use Rattle.pulsar_agenda.proofs.Raising.{IsRaised, kind, may, raises, OfBatches, OfDeed, OfPart, OfStart, OfService}
 use Rattle.pulsar_laws.proofs.Fitting.{fits, Fits, Holds, Keeps, Leaves, Nowhere, Reports, Spot, Stores, Usual, begins_fits, is_stop, spot, told_fits}
 
 abbrev is_stopping : Act → Bool

@@ -5,11 +5,11 @@ use Rattle.pulsar_calls.specs.declared.act.Act.TheVariants.{Starts}
 use Rattle.pulsar_calls.specs.declared.act.Procedure.{Procedure}
 use Rattle.pulsar_calls.specs.declared.act.Who.{Who}
 use Rattle.pulsar_laws.specs.Laws.{started}
-use Rattle.pulsar_client.specs.Run.{Entry, Begins, Then, IsRun, agenda, view}
+use Rattle.pulsar_agenda.specs.Run.{Entry, Begins, Then, IsRun, agenda, view}
 use Rattle.pulsar_tables.specs.View.{Options}
 use Rattle.pulsar_calls.specs.Who.{is_same}
-use Rattle.pulsar_client.proofs.Acts.{each_first}
-use Rattle.pulsar_client.proofs.Ticketed.{Began, IsDue, is_ticketed, none_some, same_began, served_due}
+use Rattle.pulsar_agenda.proofs.Acts.{each_first}
+use Rattle.pulsar_laws.proofs.Ticketed.{Began, IsDue, is_ticketed, none_some, same_began, served_due}
 
 -- who starts, and who has started
 start_began : (o : Options) (log : List Entry) (who : Who) (p : Procedure) → IsRun o (Then (Starts who p) ∷ log) → Began who

@@ -36,7 +36,7 @@ use Rattle.pulsar_laws.specs.Laws.{AttemptEnds, Cause, CutsSo, OutcomesAreCaused
 use Rattle.pulsar_tables.specs.Links.{arrival, change_at, change_in, closed_by, line_places, new_places, times_out}
 use Rattle.pulsar_procedures.specs.Plan.{closed_notice}
 use Rattle.pulsar_tables.specs.Rules.{answered_by, answered_on, at_once, caused, causes, dropped, ended_by, ended_on, failed, failed_by, failed_on, failed_over, failed_so, fails_so, further, gets_from, lost, lost_so, lost_with, moved_on, notice, opens, over_links, parts, served_by, served_on, stop_act, stopped_at, stopped_with, tells, tells_asker, told_at, waiters_of, woken, draw_outcome, draw_said, finds, grants, joins, number_said, readied, ready_notice, recalls, stopped_call, stopped_one, takes_turn, turn_notice}
-use Rattle.pulsar_client.specs.Run.{Entry, Begins, Then, rules, view, IsRun}
+use Rattle.pulsar_agenda.specs.Run.{Entry, Begins, Then, rules, view, IsRun}
 use Rattle.pulsar_tables.specs.View.{Addresses, Options, Seat, View, answer_at, pause_for, pause_of, turned_by, room_of, arrival_at, closing, is_asked, member_on, setup_of, url_at}
 use Rattle.pulsar_calls.specs.Who.{in_turn, is_same, turn_of, ticket_of}
 use Rattle.pulsar_producer.specs.Topic as topic
@@ -50,8 +50,8 @@ use Rattle.pulsar_session.specs.Link as session
 use Rattle.pulsar_calls.specs.declared.act.Outcome.TheVariants as outcome
 use Rattle.pulsar_tables.specs.Links as links
 use Rattle.pulsar_producer.specs.declared.deed.News.TheVariants as news
-use Rattle.pulsar_client.proofs.Acts.{Each, chosen_same, over_each}
-use Rattle.pulsar_client.proofs.Raising.{IsRaised, may, raises, OfNotice}
+use Rattle.pulsar_agenda.proofs.Acts.{Each, chosen_same, over_each}
+use Rattle.pulsar_agenda.proofs.Raising.{IsRaised, may, raises, OfNotice}
 use Rattle.pulsar_laws.proofs.Fitting.{is_said, is_settling}
 use Rattle.pulsar_laws.proofs.Granted.{tell_said, tell_settling}
 use Rattle.pulsar_calls.specs.declared.act.Word.{Word}

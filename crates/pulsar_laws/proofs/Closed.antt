@@ -12,7 +12,7 @@ use Rattle.pulsar_laws.specs.BatchLaws.{ClosedWithTheProducer}
 use Rattle.pulsar_procedures.specs.Plan.{closed_notice}
 use Rattle.pulsar_tables.specs.Producers.{Producers, changed, is_bare, numbers_at, shut_all, stored_at, stored_by, topic_after}
 use Rattle.pulsar_tables.specs.Rules.{joins}
-use Rattle.pulsar_client.specs.Run.{Then, view}
+use Rattle.pulsar_agenda.specs.Run.{Then, view}
 use Rattle.pulsar_tables.specs.View.{View}
 use Rattle.pulsar_laws.proofs.Done.{all_is_done_lem}
 

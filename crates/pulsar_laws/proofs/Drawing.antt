@@ -45,11 +45,11 @@ use Rattle.pulsar_procedures.specs.Plan.{begins, fails, told}
 use Rattle.pulsar_tables.specs.Producers.{Producers, all_routed, called_on, changed, free_from, made_of, names_in, next_free, number_drawn, numbered, numbers_at, opened_on, routed, sent_on, shut_all, topic_after, why_not, with_built, with_topic, with_topics}
 use Rattle.pulsar_tables.specs.Rules.{notice}
 use Rattle.pulsar_tables.specs.Alarms.{rings}
-use Rattle.pulsar_client.specs.Run.{Entry, Begins, Then, IsRun, view}
+use Rattle.pulsar_agenda.specs.Run.{Entry, Begins, Then, IsRun, view}
 use Rattle.pulsar_tables.specs.View.{Options, View, draws_on, may_call, producers_made, producers_rung, room_of, stays, stays_some, told_some}
 use Rattle.pulsar_tables.specs.View as seen
 use Rattle.pulsar_calls.specs.Who.{is_same, rank, turn_of}
-use Rattle.pulsar_client.proofs.Acts.{Each, begun_same, each_map}
+use Rattle.pulsar_agenda.proofs.Acts.{Each, begun_same, each_map}
 use Rattle.pulsar_laws.proofs.Batchers.{batcher_stands}
 use Rattle.pulsar_laws.proofs.Follow.{same_is}
 use Rattle.pulsar_laws.proofs.Granted.{GivenBy, granted_by, grants_given, in_each, is_grant}
@@ -57,7 +57,7 @@ use Rattle.pulsar_laws.proofs.Led.{deeds_follow_lem}
 use Rattle.pulsar_laws.proofs.Numbering.{IsSound, MakesSound, TurnSound, begins_sound, drawn_in, number_of, told_sound}
 use Rattle.pulsar_laws.proofs.Once.{ends_once_lem}
 use Rattle.pulsar_laws.proofs.Owned.{batcher_told, batches_begun, starts_own}
-use Rattle.pulsar_client.proofs.Ticketed.{Began}
+use Rattle.pulsar_laws.proofs.Ticketed.{Began}
 use Rattle.pulsar_laws.proofs.Begun.{has_begun}
 use Rattle.pulsar_laws.proofs.Same.{same_self}
 use Rattle.pulsar_laws.proofs.Servers.{server_gives, server_stands, serve_goes_on}

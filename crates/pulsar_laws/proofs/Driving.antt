@@ -5,7 +5,7 @@ use Rattle.pulsar_calls.specs.declared.act.Act.{Act}
 use Rattle.pulsar_calls.specs.Content.{Heard}
 use Rattle.pulsar_tables.specs.Effects.{effect_below, effects}
 use Rattle.pulsar_tables.specs.Rules.{parts}
-use Rattle.pulsar_client.specs.Run.{Agenda, Entry, Begins, Then, Good, IsRun, Step, agenda, first, goes_on, rest, rules, view}
+use Rattle.pulsar_agenda.specs.Run.{Agenda, Entry, Begins, Then, Good, IsRun, Step, agenda, first, goes_on, rest, rules, view}
 use Rattle.pulsar_tables.specs.View.{Options, View, after, begun, new}
 
 -- what is seen, what is left to do, and the steps so far

@@ -45,10 +45,10 @@ use Rattle.pulsar_consumer_table.specs.Consumers.{Member, flow_at, word_if, word
 use Rattle.pulsar_tables.specs.Reading.{flow_said, tells_word}
 use Rattle.pulsar_tables.specs.Rules.{at_once, below, causes, follows_some, further, joins, notice}
 use Rattle.pulsar_tables.specs.View.{Options, View, stand_after, stays, stays_some, told_some, ways_of}
-use Rattle.pulsar_client.specs.Run.{Agenda, Entry, Begins, Then, IsRun, agenda, first, view}
-use Rattle.pulsar_client.proofs.Acts.{Each, begun_same, each_append, each_first, each_map, each_rest, is_served}
-use Rattle.pulsar_client.proofs.Raising.{IsRaised, raises}
-use Rattle.pulsar_client.proofs.Sources.{step_more}
+use Rattle.pulsar_agenda.specs.Run.{Agenda, Entry, Begins, Then, IsRun, agenda, first, view}
+use Rattle.pulsar_agenda.proofs.Acts.{Each, begun_same, each_append, each_first, each_map, each_rest, is_served}
+use Rattle.pulsar_agenda.proofs.Raising.{IsRaised, raises}
+use Rattle.pulsar_laws.proofs.Sources.{step_more}
 use Rattle.pulsar_laws.specs.ConsumerLaws.{FlowsAreAsked, FlowsAreTaken, TakesSo}
 use Rattle.pulsar_laws.specs.Laws.{Cause}
 use Rattle.pulsar_laws.proofs.Acks.{told_so}

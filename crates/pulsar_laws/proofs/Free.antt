@@ -32,11 +32,11 @@ use Rattle.pulsar_tables.specs.Producers.{Producers, all_routed, called_on, chan
 use Rattle.pulsar_laws.specs.ProducerLaws.{NumbersAreFree}
 use Rattle.pulsar_tables.specs.Rules.{notice}
 use Rattle.pulsar_tables.specs.Alarms.{rings}
-use Rattle.pulsar_client.specs.Run.{Entry, Begins, Then, IsRun, view}
+use Rattle.pulsar_agenda.specs.Run.{Entry, Begins, Then, IsRun, view}
 use Rattle.pulsar_tables.specs.View.{Options, View, draws_on, may_call, producers_made, producers_rung, room_of}
 use Rattle.pulsar_tables.specs.View as seen
 use Rattle.pulsar_calls.specs.Who.{rank}
-use Rattle.pulsar_client.proofs.Acts.{begun_same}
+use Rattle.pulsar_agenda.proofs.Acts.{begun_same}
 use Rattle.pulsar_laws.proofs.Drawing.{Drawn, drawn_run, drew, here, next_after, told_number}
 
 -- LISTS IN ORDER

@@ -17,17 +17,17 @@ use Rattle.pulsar_laws.specs.Laws.{Answered, Cause, counted, outcomes, started}
 use Rattle.pulsar_procedures.specs.Plan.{verdict}
 use Rattle.pulsar_laws.specs.ProducerLaws.{PartsAreGathered}
 use Rattle.pulsar_tables.specs.Rules.{notice}
-use Rattle.pulsar_client.specs.Run.{Entry, Begins, Then, IsRun}
+use Rattle.pulsar_agenda.specs.Run.{Entry, Begins, Then, IsRun}
 use Rattle.pulsar_tables.specs.View.{Options}
 use Rattle.pulsar_calls.specs.Who.{is_same}
-use Rattle.pulsar_client.proofs.Acts.{Each, each_append, each_map}
+use Rattle.pulsar_agenda.proofs.Acts.{Each, each_append, each_map}
 use Rattle.pulsar_laws.proofs.Caused.{outcomes_are_caused_lem}
 use Rattle.pulsar_laws.proofs.Follow.{plans_follow_lem, same_is}
 use Rattle.pulsar_laws.proofs.Batchers.{batcher_does}
 use Rattle.pulsar_laws.proofs.Fitting.{is_said, is_settling}
 use Rattle.pulsar_laws.proofs.Gathering.{AtMostOnce, IsAmong, IsSaid, gathered, is_of}
 use Rattle.pulsar_laws.proofs.Granted.{tell_settling}
-use Rattle.pulsar_client.proofs.Sources.{in_each}
+use Rattle.pulsar_laws.proofs.Sources.{in_each}
 use Rattle.pulsar_laws.proofs.Parted.{parts_at, parts_behind, parts_run, step_behind}
 use Rattle.pulsar_laws.proofs.Receipts.{run_behind}
 use Rattle.pulsar_laws.proofs.Telling.{no_tell, part_of, tells_own, told_of, told_once}

@@ -50,10 +50,10 @@ use Rattle.pulsar_producer.specs.Topic as topic
 use Rattle.pulsar_calls.specs.Who.{turn_of, ticket_of}
 use Rattle.pulsar_tables.specs.Producers.{drawn, is_settled_at, is_woken, link_at, next_batch_at, number_drawn, numbers_at, recalled, stored_by, turn_passed, turn_taken, unsent, waiting}
 use Rattle.pulsar_tables.specs.Rules.{alone, answered_by, answered_on, at_once, below, caused, causes, draw_outcome, draw_said, dropped, ended_by, ended_on, failed, failed_at, failed_by, failed_on, failed_over, fails_so, finds, gets_from, grants, joins, lost, lost_so, lost_with, moved_on, notice, number_said, opens, over_links, performs, readied, ready_notice, recalls, served_by, served_on, stop_act, stopped_at, stopped_call, stopped_one, stopped_with, takes_turn, tells, tells_asker, told_at, turn_notice, waiters_of, woken}
-use Rattle.pulsar_client.specs.Run.{Entry, Begins, Then, IsRun, agenda, rules, view}
+use Rattle.pulsar_agenda.specs.Run.{Entry, Begins, Then, IsRun, agenda, rules, view}
 use Rattle.pulsar_tables.specs.View.{Addresses, Base, Options, Seat, Turned, View, after, answer_at, room_of, stays, stays_some, told_some, turned_by}
-use Rattle.pulsar_client.proofs.Acts.{Each, each_append, each_drop, each_either, each_flat, each_map, over_each}
-use Rattle.pulsar_client.proofs.Raising.{IsRaised, raises}
+use Rattle.pulsar_agenda.proofs.Acts.{Each, each_append, each_drop, each_either, each_flat, each_map, over_each}
+use Rattle.pulsar_agenda.proofs.Raising.{IsRaised, raises}
 use Rattle.pulsar_laws.proofs.Led.{deeds_follow_lem}
 use Rattle.pulsar_laws.proofs.Spots.{same_self}
 use Rattle.pulsar_laws.proofs.Fitting.{Fits, all_settling, begins_fits, fits, is_said, is_settling, is_stop, says_so, settles_so, spot, told_fits}

@@ -40,7 +40,7 @@ use Rattle.pulsar_calls.specs.declared.act.Share.{Share}
 use Rattle.pulsar_calls.specs.declared.act.Outcome.TheVariants as outcome
 use Rattle.pulsar_calls.specs.declared.act.Procedure.TheVariants as procedure
 use Rattle.pulsar_producer.specs.declared.sending.Sending.TheVariants as send
-use Rattle.pulsar_client.proofs.Acts.{Each, each_append, each_map, each_rest}
+use Rattle.pulsar_agenda.proofs.Acts.{Each, each_append, each_map, each_rest}
 use Rattle.pulsar_laws.proofs.Fitting.{Leaves, Spot, spot}
 use Rattle.pulsar_laws.proofs.Keepers.{OfMember, RowSo, StateSo, ends_settled}
 use Rattle.pulsar_laws.proofs.Spots.{is_calm, spot_of}

@@ -1,3 +1,6 @@
+pub mod Quiet
+pub mod Ticketed
+pub mod Sources
 pub mod Instances
 pub mod Made
 pub mod Begun

@@ -27,12 +27,12 @@ use Rattle.pulsar_consumer_table.specs.declared.numbers.Numbering.{Numbering}
 use Rattle.pulsar_consumer_table.specs.declared.numbers.Numbering.TheVariants.{Has, InUse, Spent}
 use Rattle.pulsar_consumer_table.specs.Notices.{due_at, due_to, lost_at, word_to}
 use Rattle.pulsar_tables.specs.View.{consumers_left}
-use Rattle.pulsar_client.proofs.Acts.{Each, each_append, each_flat}
+use Rattle.pulsar_agenda.proofs.Acts.{Each, each_append, each_flat}
 use Rattle.pulsar_run.specs.Laws.{In}
 use Rattle.pulsar_link.specs.Items.{Item}
 use Rattle.url.specs.Parts.{Parts}
 use Rattle.pulsar_wire.specs.Sink.{capped}
-use Rattle.pulsar_client.proofs.Sources.{in_append}
+use Rattle.pulsar_laws.proofs.Sources.{in_append}
 
 -- WHAT KEEPS ALL ROWS
 

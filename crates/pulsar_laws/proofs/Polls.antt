@@ -27,15 +27,15 @@ use Rattle.pulsar_calls.specs.declared.act.Who.TheVariants.{Call}
 use Rattle.pulsar_calls.specs.Content.{Heard, Poll, Shown, Hands, Faults}
 use Rattle.pulsar_tables.specs.Effects.{asked_at, effect_below, effect_rank, effects, given_at, is_before3, retries_on}
 use Rattle.pulsar_laws.specs.Laws.{EndsOnce}
-use Rattle.pulsar_client.specs.Run.{Entry, Begins, Then, IsRun, Step, first_of, is_empty, rules, steps, view}
+use Rattle.pulsar_agenda.specs.Run.{Entry, Begins, Then, IsRun, Step, first_of, is_empty, rules, steps, view}
 use Rattle.pulsar_tables.specs.View.{Options, Seat, View, answer_at, arrival_at, closing, is_asked, turned, url_at}
 use Rattle.pulsar_calls.specs.Who.{is_same, ticket_of}
-use Rattle.pulsar_client.proofs.Acts.{Each, each_append, each_map, each_either}
-use Rattle.pulsar_client.proofs.Orders.{effect_order}
-use Rattle.pulsar_client.proofs.Single.{poll_comes}
+use Rattle.pulsar_agenda.proofs.Acts.{Each, each_append, each_map, each_either}
+use Rattle.pulsar_agenda.proofs.Orders.{effect_order}
+use Rattle.pulsar_agenda.proofs.Single.{poll_comes}
 use Rattle.pulsar_laws.proofs.OfLink.{IsOf, asked_of, given_of}
 use Rattle.pulsar_laws.proofs.Plain.{ArePlain, effects_plain, is_plain, turned_plain}
-use Rattle.pulsar_client.proofs.Ticketed.{consumer_ticket}
+use Rattle.pulsar_laws.proofs.Ticketed.{consumer_ticket}
 use Rattle.url.specs.Parts.{Parts}
 use Rattle.pulsar_link.specs.Messages.{Reply, is_body}
 use Rattle.pulsar_consumer.specs.Frames.{frame_in}

@@ -30,10 +30,10 @@ use Rattle.pulsar_laws.specs.BatchLaws.{StoredEndsByItsBatch, TellsFate, ends_wi
 use Rattle.pulsar_laws.specs.Laws.{Answered, Cause, ComesLate, GrantsSo, IsDropped, IsToldSo, StartsSo, counted, start_of, started}
 use Rattle.pulsar_procedures.specs.Plan.{begins, fails, fault_of, in_stored, stored, told}
 use Rattle.pulsar_tables.specs.Rules.{notice}
-use Rattle.pulsar_client.specs.Run.{Entry, Begins, Then, IsRun, agenda, first, rest, view}
+use Rattle.pulsar_agenda.specs.Run.{Entry, Begins, Then, IsRun, agenda, first, rest, view}
 use Rattle.pulsar_tables.specs.View.{Options, View, stays, stays_some, told_some}
 use Rattle.pulsar_calls.specs.Who.{is_same}
-use Rattle.pulsar_client.proofs.Acts.{begun_same}
+use Rattle.pulsar_agenda.proofs.Acts.{begun_same}
 use Rattle.pulsar_laws.proofs.BatchRun.{fits_first, none_first}
 use Rattle.pulsar_laws.proofs.Caused.{outcomes_are_caused_lem}
 use Rattle.pulsar_laws.proofs.Fitting.{is_settling}
@@ -46,7 +46,7 @@ use Rattle.pulsar_laws.proofs.InTurn.{self_same}
 use Rattle.pulsar_laws.proofs.Led.{deeds_follow_lem}
 use Rattle.pulsar_laws.proofs.Once.{ends_once_lem}
 use Rattle.pulsar_laws.proofs.Parted.{parts_apart, parts_run}
-use Rattle.pulsar_client.proofs.Sources.{SomeEntry, in_each, step_some}
+use Rattle.pulsar_laws.proofs.Sources.{SomeEntry, in_each, step_some}
 use Rattle.pulsar_laws.proofs.Spots.{same_self}
 use Rattle.pulsar_laws.proofs.Takers.{told_by_own}
 use Rattle.pulsar_laws.proofs.Begun.{has_begun}

@@ -8,7 +8,7 @@ use Rattle.pulsar_session.proofs.Others.{slow_down_changes_nothing}
 use Rattle.pulsar_link.specs.Request.{closed_consumer, is_awaited}
 use Rattle.pulsar_calls.specs.declared.act.Who.{Who}
 use Rattle.pulsar_laws.specs.ProducerLaws.{SlowDownLeavesAll, seat_ticked}
-use Rattle.pulsar_client.specs.Run.{view}
+use Rattle.pulsar_agenda.specs.Run.{view}
 use Rattle.pulsar_consumer_table.specs.Consumers.{Member, closes}
 use Rattle.pulsar_tables.specs.View.{Seat, View, answer_at, asker_at, hears_ask, is_asked, place_of, seat_asked}
 

@@ -20,12 +20,12 @@ use Rattle.pulsar_procedures.specs.declared.plan.Turn.TheVariants.{Stays, Gives}
 use Rattle.pulsar_procedures.specs.Plan.{begins, told}
 use Rattle.pulsar_tables.specs.Producers.{link_at, next_batch_at}
 use Rattle.pulsar_tables.specs.Rules.{at_once, does, finds, follows, follows_some, tells, told_at}
-use Rattle.pulsar_client.specs.Run.{Agenda, Entry, Begins, Then, IsRun, agenda, first, rules, view}
+use Rattle.pulsar_agenda.specs.Run.{Agenda, Entry, Begins, Then, IsRun, agenda, first, rules, view}
 use Rattle.pulsar_tables.specs.View.{Options, View, answer_at, stand_after, stays, stays_some, told_some}
 use Rattle.pulsar_calls.specs.Who.{is_same}
 use Rattle.pulsar_producer.specs.declared.deed.News.TheVariants as news
 use Rattle.pulsar_calls.specs.declared.act.Procedure.TheVariants as procedure
-use Rattle.pulsar_client.proofs.Acts.{begun_same, none_now}
+use Rattle.pulsar_agenda.proofs.Acts.{begun_same, none_now}
 use Rattle.pulsar_laws.proofs.Fitting.{Fits, Holds, Keeps, Leaves, Nowhere, Reports, Spot, Stores, Usual, begins_fits, fits, is_own, is_quick, is_stop, spot, told_fits}
 pub use Rattle.pulsar_laws.proofs.Same.{same_self, same_who}
 

@@ -59,7 +59,7 @@ use Rattle.pulsar_producer.specs.Commands.{command}
 use Rattle.pulsar_producer.specs.declared.building.Building.TheVariants as build
 use Rattle.pulsar_calls.specs.declared.act.Act.TheVariants.{Told, Does}
 use Rattle.pulsar_tables.specs.Rules.{notice}
-use Rattle.pulsar_client.specs.Run.{Entry, Then, IsRun}
+use Rattle.pulsar_agenda.specs.Run.{Entry, Then, IsRun}
 use Rattle.pulsar_tables.specs.View.{Options}
 use Rattle.pulsar_laws.proofs.Batched.{StepWithin, is_outer, step_within, takes_where}
 use Rattle.pulsar_laws.proofs.BatchRun.{batched_run, deed_at}

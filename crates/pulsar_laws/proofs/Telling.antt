@@ -35,14 +35,14 @@ use Rattle.pulsar_laws.specs.Laws.{counted, start_of}
 use Rattle.pulsar_procedures.specs.Plan.{action_of, begins, closed_notice, told}
 use Rattle.pulsar_tables.specs.Producers.{drawn, is_settled_at, is_woken, link_at, number_drawn, numbers_at, recalled, stored_by, turn_passed, turn_taken}
 use Rattle.pulsar_tables.specs.Rules.{at_once, below, causes, draw_outcome, draw_said, finds, gets_from, grants, joins, notice, number_said, over_links, performs, readied, ready_notice, recalls, stop_act, takes_turn, tells, told_at, turn_notice}
-use Rattle.pulsar_client.specs.Run.{Entry, Begins, Then, IsRun, agenda, rules, view}
+use Rattle.pulsar_agenda.specs.Run.{Entry, Begins, Then, IsRun, agenda, rules, view}
 use Rattle.pulsar_tables.specs.View.{Options, View, answer_at, room_of, stays, stays_some, told_some}
 use Rattle.pulsar_calls.specs.Who.{is_same, turn_of, ticket_of}
 use Rattle.pulsar_producer.specs.Topic as topic
 use Rattle.pulsar_producer.specs.declared.deed.Deed.{Deed}
 use Rattle.pulsar_producer.specs.declared.deed.Deed.TheVariants as deed
 use Rattle.pulsar_plans.specs.declared.turn.Action.TheVariants as wish
-use Rattle.pulsar_client.proofs.Acts.{Each, begun_same, each_append, each_either, over_each}
+use Rattle.pulsar_agenda.proofs.Acts.{Each, begun_same, each_append, each_either, over_each}
 use Rattle.pulsar_laws.proofs.Drawing.{Every, here}
 use Rattle.pulsar_laws.proofs.Follow.{same_is}
 use Rattle.pulsar_laws.proofs.Batchers.{batcher_does}
@@ -52,7 +52,7 @@ use Rattle.pulsar_laws.proofs.InTurn.{self_same, stand_starts, stand_told}
 use Rattle.pulsar_laws.proofs.Natures.{StaysSo}
 use Rattle.pulsar_laws.proofs.Once.{ends_once_lem}
 use Rattle.pulsar_laws.proofs.Parted.{parts_at, parts_more, starts_part}
-use Rattle.pulsar_client.proofs.Raising.{IsRaised, raises}
+use Rattle.pulsar_agenda.proofs.Raising.{IsRaised, raises}
 use Rattle.pulsar_laws.proofs.Sharing.{SharesSo, TicketSo, begins_shares, share_in, shares_of, told_shares}
 use Rattle.pulsar_laws.proofs.Turns.{sum, sum_append, sum_none, sum_put_all}
 use Rattle.pulsar_laws.proofs.Servers.{server_does}

@@ -24,7 +24,7 @@ use Rattle.pulsar_laws.specs.Laws.{counted, start_of}
 use Rattle.pulsar_procedures.specs.Plan.{begins, told}
 use Rattle.pulsar_tables.specs.Producers.{Producers, changed, topic_after}
 use Rattle.pulsar_laws.specs.ProducerLaws.{HasTurn, topic_acts}
-use Rattle.pulsar_client.specs.Run.{Entry, Then, IsRun, view}
+use Rattle.pulsar_agenda.specs.Run.{Entry, Then, IsRun, view}
 use Rattle.pulsar_tables.specs.View.{Options, stays, stays_some, told_some}
 use Rattle.pulsar_calls.specs.Who.{is_same}
 use Rattle.pulsar_laws.proofs.Drawing.{drawn_run, row_from}

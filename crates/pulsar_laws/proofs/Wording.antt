@@ -27,7 +27,7 @@ use Rattle.pulsar_consumer_table.specs.Notices.{again, again_at, due_at, due_to,
 use Rattle.pulsar_tables.specs.Reading.{closed_at, heard_on, lost_on, made_due, stopped_on}
 use Rattle.pulsar_tables.specs.Rules.{joins}
 use Rattle.pulsar_tables.specs.View.{Seat, View, answer_at, arrival_at, closing, is_asked, member_on, setup_of, url_at}
-use Rattle.pulsar_client.proofs.Acts.{Each, each_append, each_flat}
+use Rattle.pulsar_agenda.proofs.Acts.{Each, each_append, each_flat}
 
 -- whatever each consumer gives
 pub rows_each : {A : Type 0} (P : A → Type 0) (f : ℕ → Member → List A) (cs : Consumers) → ((t : ℕ) (m : Member) → Each P (f t m)) → Each P (over_rows f cs)

@@ -30,12 +30,12 @@ use Rattle.pulsar_link.specs.Items.{Item, Given, Faulty}
 use Rattle.pulsar_laws.specs.Laws.{IsPrefix, WritesFollow, bytes_of, queued_on, written_on}
 use Rattle.pulsar_tables.specs.Links as links
 use Rattle.pulsar_tables.specs.Links.{close, closed_by, ended, is_own_end, lost, queues, settled_in, settles, write}
-use Rattle.pulsar_client.specs.Run.{Entry, Begins, Then, IsRun, Step, rules, view}
+use Rattle.pulsar_agenda.specs.Run.{Entry, Begins, Then, IsRun, Step, rules, view}
 use Rattle.pulsar_consumer_table.specs.Consumers.{Member, polled, polled_so}
 use Rattle.pulsar_tables.specs.View.{Chosen, Options, Seat, View, begun_live, dialed, got_at, is_live, link_got, live_begun, seat_asked, seat_fed, seat_got, took, took_end, took_some, turned}
-use Rattle.pulsar_client.proofs.Acts.{Each, each_append, each_map}
+use Rattle.pulsar_agenda.proofs.Acts.{Each, each_append, each_map}
 use Rattle.pulsar_laws.proofs.Alone.{Made, alone, is_close, more, no_some, over_stays, some_is}
-use Rattle.pulsar_client.proofs.Orders.{effect_order}
+use Rattle.pulsar_agenda.proofs.Orders.{effect_order}
 use Rattle.pulsar_laws.proofs.OfLink.{IsOf, asked_of, given_of}
 use Rattle.pulsar_laws.proofs.Plain.{ArePlain, effects_plain, turned_plain}
 use Rattle.pulsar_laws.proofs.Writing.{Turns, numbered, turns}

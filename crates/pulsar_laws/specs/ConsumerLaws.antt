@@ -41,7 +41,7 @@ use Rattle.pulsar_consumer_table.specs.Consumers.{Member, is_closed_by}
 use Rattle.pulsar_tables.specs.Links.{line_places}
 use Rattle.pulsar_tables.specs.View.{Options, Seat, View, answer_at, arrival_at, closing, is_asked, place_of, setup_of, url_at}
 use Rattle.pulsar_tables.specs.Rules.{call_part, notice}
-use Rattle.pulsar_client.specs.Run.{Entry, Begins, Then, IsRun, Rests, Step, agenda, first, steps, view}
+use Rattle.pulsar_agenda.specs.Run.{Entry, Begins, Then, IsRun, Rests, Step, agenda, first, steps, view}
 use Rattle.pulsar_laws.specs.Laws.{counted}
 
 -- WHAT IS DONE TO A CONSUMER

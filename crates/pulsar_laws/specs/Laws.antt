@@ -64,7 +64,7 @@ use Rattle.pulsar_tables.specs.Producers.{advice, turn_passed, drawn, is_settled
 use Rattle.pulsar_producer.specs.Topic as topic
 use Rattle.pulsar_procedures.specs.Plan.{begins, failure_of, fails, fault_of, reply_says, told}
 use Rattle.pulsar_tables.specs.Rules.{below, call_part, dropped, fails_so, lost, notice, starts, stopped_with, brings}
-use Rattle.pulsar_client.specs.Run.{Entry, Begins, Then, Good, IsRun, Rests, Step, agenda, rules, steps, tickets_in, view}
+use Rattle.pulsar_agenda.specs.Run.{Entry, Begins, Then, Good, IsRun, Rests, Step, agenda, rules, steps, tickets_in, view}
 use Rattle.pulsar_consumer_table.specs.Consumers as consumer
 use Rattle.pulsar_consumer_table.specs.Consumers.{Member}
 use Rattle.pulsar_consumer_table.specs.declared.numbers.Numbering.TheVariants.{Has, InUse, Spent}

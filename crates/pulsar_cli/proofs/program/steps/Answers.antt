@@ -1,6 +1,6 @@
 use Rattle.std.proofs.Common.{rules, arith, ◌≡◌, ◌∙◌, ◌∷◌, [], sym, ap, refl, map, Ok, Some, None}
 use Rattle.pulsar_calls.specs.Content.{heard, shown}
-use Rattle.pulsar_client.specs.Tables.{step}
+use Rattle.pulsar_client.specs.History.{step}
 use Rattle.pulsar_cli.proofs.Events.{Tells, awaits-options, good-of, ran-awaits, told-end, told-on}
 use Rattle.pulsar_cli.specs.Script.{since}
 use Rattle.pulsar_cli.proofs.Gives.{ran-done, ran-halted}

@@ -1,5 +1,5 @@
 use Rattle.std.proofs.Common.{◌∙◌, ap, sym, refl, Some}
-use Rattle.pulsar_client.specs.Tables.{view_of}
+use Rattle.pulsar_acts.specs.Tables.{view_of}
 use Rattle.pulsar_client.proofs.Waiting.{busy_waits, dialing_waits, handshaking_waits, idle_waits, none_waits, over_waits, right_of}
 use Rattle.pulsar_client.proofs.pulsar.Pulsar.link_waits.Goals as goal
 

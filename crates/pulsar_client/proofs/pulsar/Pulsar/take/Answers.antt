@@ -1,6 +1,7 @@
 use Rattle.std.proofs.Common.{◌≡◌, ◌∙◌, ◌∷◌, ap, map, refl, sym, true, false}
 use Rattle.pulsar_calls.specs.Content.{heard, shown}
-use Rattle.pulsar_client.specs.Tables.{step, view_of}
+use Rattle.pulsar_client.specs.History.{step}
+use Rattle.pulsar_acts.specs.Tables.{view_of}
 use Rattle.pulsar_client.specs.Taken.{drawn_to, ended_in, held_but}
 use Rattle.pulsar_tables.specs.View.{Options}
 use Rattle.pulsar_client.proofs.Counting.{ticket_is}
@@ -18,7 +19,7 @@ returns-clause-ok g c = λ o h taken s.
       answers = λ t.
           c.in_ok-note.ensures t
           ∙ (λ i. ended_in (map shown (c.deref-2.ensures.value i)) t
-          (drawn_to (ticket_is c.args.self.now.tables s.stands i) (ticket_is c.step.new.self stands i) t (s.answers t i)))
+          (drawn_to (ticket_is c.args.self.now.tables s.stands i) (ticket_is c.step.new.tables stands i) t (s.answers t i)))
           ∙ held_on taken t new h (s.drawn t);
       drawn = λ t k. drawn_more t new h (s.drawn t k);
       whole = refl;

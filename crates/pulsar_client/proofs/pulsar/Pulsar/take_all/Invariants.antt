@@ -1,7 +1,7 @@
 use Rattle.std.proofs.Common.{◌≡◌, ℕ, List, take, reverse, length, []}
 use Rattle.pulsar_tables.specs.View.{Options}
 use Rattle.pulsar_client.specs.Client.{StandsFor}
-use Rattle.pulsar_client.specs.Tables.{answered}
+use Rattle.pulsar_client.specs.History.{answered}
 use Rattle.pulsar_client.proofs.pulsar.Pulsar.take_all.Given as goal
 
 abbrev pub invariant-loop-event : goal.invariant-loop-event

@@ -1,0 +1,77 @@
+-- What an alarm leaves to do, and what is seen after it, by whether it rings.
+use Rattle.std.proofs.Common.{◌≡◌, ◌∙◌, ap, sym, ℕ, Bool, true, false, cond, [], ◌++◌, refl, map, Option}
+use Rattle.std.proofs.lemmas.List.{append-nil}
+use Rattle.pulsar_run.specs.Order.{arranged}
+use Rattle.pulsar_calls.specs.declared.act.Act.TheVariants.{Comes}
+use Rattle.pulsar_calls.specs.declared.act.Alarm.{Alarm}
+use Rattle.pulsar_calls.specs.declared.act.Alarm.TheVariants.{Retry, Wake, Batch, KeepAlive, CheckIdle}
+use Rattle.pulsar_calls.specs.declared.act.Part.TheVariants.{Rings}
+use Rattle.pulsar_tables.specs.declared.addresses.Pause.{Pause}
+use Rattle.pulsar_tables.specs.Alarms.{rings}
+use Rattle.pulsar_tables.specs.Producers.{Producers}
+use Rattle.pulsar_tables.specs.Rules.{below, opens, rung, woken}
+use Rattle.pulsar_agenda.specs.Run.{Agenda, goes_on}
+use Rattle.pulsar_tables.specs.View.{View, after, alarms_rung, pause_rung, producers_rung}
+
+-- what is left, and what is seen
+abbrev leaves : Bool → View → Alarm → Agenda → Agenda
+leaves b v a g =
+    record {
+      now = cond b (rung v a) [] ++ g.now;
+      here = g.here;
+      behind = g.behind ++ map (arranged below) (cond b (opens (woken v a)) []);
+      parts = g.parts;
+    }
+
+abbrev sees : Bool → View → Alarm → View
+sees b v a =
+    record v {
+      addresses = record { base = v.addresses.base; pause = λ l. pause_rung b a l (v.addresses.pause l) };
+      alarms = cond b (alarms_rung v.chosen v.now a v.alarms) v.alarms;
+      producers = producers_rung b a v.producers;
+    }
+
+-- one that only acts at once
+pub ring_acts : (v : View) (a : Alarm) (g : Agenda) → rings v.now a v.alarms ≡ true → woken v a ≡ [] →
+    record g { now = rung v a ++ g.now } ≡ goes_on v (Comes (Rings a)) g
+ring_acts v a g h quiet =
+    ap (λ xs. record { now = rung v a ++ g.now; here = g.here; behind = xs; parts = g.parts })
+    (sym (append-nil g.behind) ∙ sym (ap (λ ns. g.behind ++ map (arranged below) (opens ns)) quiet))
+    ∙ sym (ap (λ b. leaves b v a g) h)
+
+-- one that only tells
+pub ring_tells : (v : View) (a : Alarm) (g : Agenda) → rings v.now a v.alarms ≡ true → rung v a ≡ [] →
+    record g { behind = g.behind ++ map (arranged below) (opens (woken v a)) } ≡ goes_on v (Comes (Rings a)) g
+ring_tells v a g h quiet =
+    sym (ap (λ xs. record { now = xs ++ g.now; here = g.here; behind = g.behind ++ map (arranged below) (opens (woken v a)); parts = g.parts }) quiet)
+    ∙ sym (ap (λ b. leaves b v a g) h)
+
+pub ring_sees : (v : View) (a : Alarm) → rings v.now a v.alarms ≡ true → sees true v a ≡ after (Comes (Rings a)) v
+ring_sees v a h = sym (ap (λ b. sees b v a) h)
+
+-- one that rings no more
+pub rest_left : (v : View) (a : Alarm) (g : Agenda) → rings v.now a v.alarms ≡ false → g ≡ goes_on v (Comes (Rings a)) g
+rest_left v a g h =
+    ap (λ xs. record { now = g.now; here = g.here; behind = xs; parts = g.parts }) (sym (append-nil g.behind)) ∙ sym (ap (λ b. leaves b v a g) h)
+
+never_rung : (a : Alarm) (l : ℕ) (row : Option Pause) → pause_rung false a l row ≡ row
+never_rung (Retry k) l row = refl
+never_rung (Wake who) l row = refl
+never_rung (Batch n) l row = refl
+never_rung (KeepAlive k) l row = refl
+never_rung CheckIdle l row = refl
+
+never_cut : (a : Alarm) (ps : Producers) → producers_rung false a ps ≡ ps
+never_cut (Retry k) ps = refl
+never_cut (Wake who) ps = refl
+never_cut (Batch n) ps = refl
+never_cut (KeepAlive k) ps = refl
+never_cut CheckIdle ps = refl
+
+pub rest_sees : (v : View) (a : Alarm) → rings v.now a v.alarms ≡ false → v ≡ after (Comes (Rings a)) v
+rest_sees v a h =
+    (λ i. record v {
+      addresses = record { base = v.addresses.base; pause = λ l. sym (never_rung a l (v.addresses.pause l)) i };
+      producers = sym (never_cut a v.producers) i;
+    })
+    ∙ sym (ap (λ b. sees b v a) h)

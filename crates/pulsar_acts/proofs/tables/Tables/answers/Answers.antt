@@ -1,0 +1,41 @@
+use Rattle.std.proofs.Common.{◌∙◌, ◌++◌, ap, sym}
+use Rattle.std.proofs.lemmas.List.{append-nil}
+use Rattle.std.proofs.lemmas.Result.{on_ok_weaker}
+use Rattle.std.specs.Option.{option_to_list}
+use Rattle.pulsar_run.specs.Order.{put_all}
+use Rattle.pulsar_tables.specs.Reading.{made_due}
+use Rattle.pulsar_tables.specs.Rules.{below}
+use Rattle.pulsar_agenda.specs.Run.{Agenda}
+use Rattle.pulsar_agenda.specs.Agenda.{agenda_of}
+use Rattle.pulsar_tables.specs.View.{View, consumers_left, consumers_made, producers_made}
+use Rattle.pulsar_acts.proofs.tables.Tables.answers.Goals as goal
+
+pub returns-clause-left : goal.returns-clause-left
+returns-clause-left c =
+    let g = agenda_of c.args.tasks.now in
+    let who = c.args.who in
+    let makes = c.args.verdict.makes in
+    let due = c.in_ok-due.ensures.due ∙ ap (λ (x : View). made_due x.links.live who makes) c.in_ok-builds.ensures.sees in
+    on_ok_weaker c.tell_end.result
+    (λ told. c.in_ok-join_some.ensures
+    ∙ ap (λ (x : Agenda). record x { here = put_all below (option_to_list c.in_ok-due.due) x.here }) c.in_ok-put_all.ensures
+    ∙ (λ i. record {
+      now = c.in_ok-left_with.ensures i ++ g.now;
+      here = put_all below (due i) g.here;
+      behind = sym (append-nil g.behind) i;
+      parts = g.parts;
+    }))
+    c.tell_end.ensures
+
+pub returns-clause-sees : goal.returns-clause-sees
+returns-clause-sees c =
+    let who = c.args.who in
+    let makes = c.args.verdict.makes in
+    on_ok_weaker c.tell_end.result
+    (λ told. c.frees.ensures.sees
+    ∙ ap (λ (x : View). record x { consumers = consumers_left who x.consumers }) c.in_ok-due.ensures.sees
+    ∙ ap (λ (x : View). record x {
+      consumers = consumers_left who (consumers_made x.links.live who makes x.consumers);
+      producers = producers_made x.chosen who makes x.producers;
+    }) c.in_ok-builds.ensures.sees)
+    c.tell_end.ensures

@@ -1,0 +1,18 @@
+use Rattle.std.proofs.Common.{◌≡◌, ◌∙◌, [], ap}
+use Rattle.pulsar_calls.specs.declared.content.Joining.{Joining}
+use Rattle.pulsar_consumer_table.specs.Consumers.{subscribed_on}
+use Rattle.pulsar_consumer_table.specs.KeptConsumers.{member_in}
+use Rattle.pulsar_tables.specs.View.{joins_as, member_on, setup_of}
+use Rattle.pulsar_acts.specs.Tables.{view_of}
+use Rattle.pulsar_acts.proofs.tables.Tables.joins.Goals as goal
+
+pub returns-clause-sees : goal.returns-clause-sees
+returns-clause-sees c =
+    let v = view_of c.args.self.now in
+    let made = c.into_inner-topic.result in
+    let member : member_in c.in_ok-row.row ≡ member_on v.links.live c.args.joined.link (setup_of c.args.joined) =
+    c.in_ok-row.ensures
+    ∙ (λ i. subscribed_on made.link (c.in_ok-url.ensures i) (record { seen = c.new-consumer.ensures i; seekers = [] }))
+    ∙ ap (λ (j : Joining). member_on v.links.live j.link (setup_of j)) c.into_inner-topic.ensures
+    in
+    c.in_ok-joins_as.ensures.sees ∙ ap (λ m. record v { consumers = joins_as c.args.who m v.consumers }) member

@@ -1,0 +1,33 @@
+use Rattle.std.proofs.Common.{◌∙◌, ◌++◌, ap, map, sym}
+use Rattle.std.proofs.lemmas.List.{append-nil}
+use Rattle.std.proofs.lemmas.Result.{on_ok_weaker}
+use Rattle.pulsar_producer.specs.declared.deed.News.TheVariants.{Done}
+use Rattle.pulsar_run.specs.Order.{put_all}
+use Rattle.pulsar_procedures.specs.Plan.{closed_notice}
+use Rattle.pulsar_tables.specs.Producers.{shut}
+use Rattle.pulsar_tables.specs.Rules.{below, grants}
+use Rattle.pulsar_agenda.specs.Run.{Agenda}
+use Rattle.pulsar_agenda.specs.Agenda.{agenda_of}
+use Rattle.pulsar_acts.specs.Tables.{view_of}
+use Rattle.pulsar_tables.specs.View.{View}
+use Rattle.pulsar_acts.proofs.tables.Tables.shuts.Goals as goal
+
+pub returns-clause-left : goal.returns-clause-left
+returns-clause-left c =
+    let g = agenda_of c.args.tasks.now in
+    on_ok_weaker c.grants.result
+    (λ told. told
+    ∙ ap (λ (x : Agenda). record x { now = grants c.args.who Done ++ x.now }) c.in_ok-join_closed.ensures
+    ∙ (λ i. record g {
+      now = grants c.args.who Done ++ g.now;
+      here = put_all below (map closed_notice (c.in_ok-stored.ensures i)) g.here;
+      behind = sym (append-nil g.behind) i;
+    }))
+    c.grants.ensures
+
+pub returns-clause-sees : goal.returns-clause-sees
+returns-clause-sees c =
+    on_ok_weaker c.grants.result
+    (λ told. (λ i. record (view_of c.clear_batches.new.self) { producers = c.shut.ensures i })
+    ∙ ap (λ (x : View). record x { producers = shut c.args.producer x.producers }) c.in_ok-clear_batches.ensures.sees)
+    c.grants.ensures

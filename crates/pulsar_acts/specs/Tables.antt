@@ -1,0 +1,83 @@
+-- For the code's contracts alone: what is seen of the tables of a client.
+use Rattle.std.specs.Prelude.{ℕ, List, [], ◌∷◌, Option, Some, None, true, if◌then◌else◌}
+use Rattle.std.specs.Option.{option_map}
+use Rattle.pulsar_messages.specs.Content.{authentication_values}
+use Rattle.pulsar_plans.specs.Address.{address_key}
+use Rattle.pulsar_calls.specs.declared.act.Alarm.{Alarm}
+use Rattle.pulsar_calls.specs.declared.act.Alarm.TheVariants as alarm
+use Rattle.pulsar_calls.specs.declared.act.Arrival.{Arrival}
+use Rattle.pulsar_acts.specs.declared.settings.Settings.{Settings}
+use Rattle.pulsar_acts.specs.declared.tables.Tables.{Tables}
+use Rattle.pulsar_calls.specs.Content.{Shown, Retry}
+use Rattle.pulsar_tables.specs.Alarms.{set}
+use Rattle.pulsar_tables.specs.Kept.{addresses_of, links_in, producers_of}
+use Rattle.pulsar_consumer_table.specs.KeptConsumers.{consumers_in}
+use Rattle.pulsar_tables.specs.View.{Chosen, Seat, Turned, View, alarms_on, alarms_rung, base_on, delay_with, later, nobody, pause_on, pause_rung, waits_on}
+use Rattle.pulsar_tables.specs.Links.{change_in}
+use Rattle.pulsar_procedures.specs.Standing.{stand_of}
+
+-- THE THINGS
+
+abbrev pub chosen_of : Settings → Chosen
+chosen_of s =
+    record {
+      base = s.base;
+      auth = option_map authentication_values s.auth;
+      connection = s.connection;
+      operation = s.operation;
+      outbound = s.outbound;
+      seed = s.seed;
+      first_number = s.first_number;
+      now = s.start;
+    }
+
+abbrev pub view_of : Tables → View
+view_of c =
+    record {
+      chosen = chosen_of c.settings;
+      now = c.clock;
+      stand = stand_of c.plans;
+      calls = record { drawn = c.tickets; is_built = c.is_built; is_stopped = c.is_stopped };
+      links = links_in c.links.started c.links.live;
+      addresses = addresses_of c.addresses;
+      alarms = c.alarms;
+      consumers = consumers_in c.consumers.rows c.consumers.numbers;
+      producers = producers_of c.producers;
+    }
+
+-- what a link turns whose next frame was read
+abbrev pub welcomed : (link : ℕ) → Arrival → Option Seat → Option Turned
+welcomed l a row = option_map (λ seat. record { link = l; key = address_key seat.address; change = change_in a; pause = None }) row
+
+-- what is seen where an act has turned this
+abbrev pub turned_view : Option Turned → View → View
+turned_view t v =
+    record v {
+      addresses = record { base = λ key. base_on t key (v.addresses.base key); pause = λ l. pause_on t l (v.addresses.pause l) };
+      alarms = alarms_on v.chosen v.now t v.alarms;
+    }
+
+-- behind so many retries another attempt is to follow that of a link, if one is
+abbrev pub retry_shown : Chosen → (link : ℕ) → Option ℕ → List Shown
+retry_shown o l None = []
+retry_shown o l (Some n) = Retry l (delay_with o l n) ∷ []
+
+abbrev pub retry_set : Chosen → (now link : ℕ) → Option ℕ → List (Alarm × ℕ) → List (Alarm × ℕ)
+retry_set o now l None alarms = alarms
+retry_set o now l (Some n) alarms = set (alarm.Retry l) (later now (delay_with o l n)) alarms
+
+-- what is seen where an alarm has rung
+abbrev pub rung_view : Alarm → View → View
+rung_view a v =
+    record v {
+      addresses = record { base = v.addresses.base; pause = λ l. pause_rung true a l (v.addresses.pause l) };
+      alarms = alarms_rung v.chosen v.now a v.alarms;
+    }
+
+-- and where none is set any more
+abbrev pub unset_view : View → View
+unset_view v =
+    record v {
+      addresses = record { base = λ key. if waits_on v.addresses v.alarms key then nobody else v.addresses.base key; pause = λ l. None };
+      alarms = [];
+    }

@@ -1,0 +1,105 @@
+//! The tables of a client, and what each act does to them.
+
+ghost use Rattle.std.specs.Prelude.{◌≡◌, ◌++◌, List, map, OnOk};
+ghost use Rattle.pulsar_calls.specs.Content.{shown};
+ghost use Rattle.pulsar_producer.specs.Routing.{Policy};
+ghost use Rattle.pulsar_tables.specs.Effects.{effects};
+ghost use Rattle.pulsar_tables.specs.View.{after, new};
+ghost use Rattle.pulsar_agenda.specs.Agenda.{agenda_of};
+ghost use Rattle.pulsar_agenda.specs.Run.{goes_on};
+ghost use Rattle.pulsar_acts.specs.Tables.{chosen_of, view_of};
+
+mod alarms;
+mod batches;
+mod calls;
+mod consumers;
+mod links;
+mod making;
+mod producers;
+mod sends;
+
+use crate::settings::Settings;
+use pulsar_agenda::agenda::Tasks;
+use pulsar_calls::act::{Act, Notice, Part};
+use pulsar_calls::effect::Effect;
+use pulsar_consumer_table::table::Consumers;
+use pulsar_procedures::table::Plans;
+use pulsar_tables::addresses::Addresses;
+use pulsar_tables::alarms::Alarms;
+use pulsar_tables::links::Links;
+use pulsar_tables::producers::Producers;
+use pulsar_wire::error::NoMemory;
+use std::alloc::Global;
+
+/// The tables of a client.
+#[derive(Drop)]
+pub struct Tables {
+    pub alloc: Global,
+    pub settings: Settings,
+    /// The clock, in milliseconds since 1970.
+    pub clock: u64,
+    /// A Build call has ended Ok.
+    pub is_built: bool,
+    /// A Stop call has ended every link.
+    pub is_stopped: bool,
+    /// How many tickets were drawn.
+    pub tickets: u64,
+    pub plans: Plans,
+    pub links: Links,
+    pub addresses: Addresses,
+    pub alarms: Alarms,
+    pub consumers: Consumers,
+    pub producers: Producers,
+}
+
+impl Tables {
+    pub fn new(alloc: Global, settings: Settings) -> Tables
+        ensures { (policies : List Policy) → view_of result ≡ new (record { chosen = chosen_of settings; policies = policies }) }
+    {
+        let clock = settings.start;
+        let first_number = settings.first_number;
+        Tables {
+            alloc,
+            settings,
+            clock,
+            is_built: false,
+            is_stopped: false,
+            tickets: 0,
+            plans: Plans::new(alloc),
+            links: Links::new(alloc),
+            addresses: Addresses::new(alloc),
+            alarms: Alarms::new(alloc),
+            consumers: Consumers::new(alloc, first_number),
+            producers: Producers::new(alloc, first_number),
+        }
+    }
+
+    /// One act: its effects, what arises from it, and the tables after it.
+    pub fn treat(
+        &mut self,
+        act: Act,
+        tasks: &mut Tasks,
+        out: &mut Vec<Effect>,
+    ) -> Result<(), NoMemory>
+        ensures out { OnOk result (map shown out.new.items ≡ map shown out.old.items ++ effects (view_of self.old) act) }
+        ensures left { OnOk result (agenda_of tasks.new ≡ goes_on (view_of self.old) act (agenda_of tasks.old)) }
+        ensures sees { OnOk result (view_of self.new ≡ after act (view_of self.old)) }
+        ensures settings { self.new.settings ≡ self.old.settings }
+    {
+        match act {
+            Act::Comes(Part::Calls(asking, advice)) => self.calls(asking, advice, tasks),
+            Act::Comes(Part::ToLink { link, act }) => self.to_link(link, act, tasks, out),
+            Act::Comes(Part::Rings(alarm)) => self.rings(alarm, tasks),
+            Act::Comes(Part::Polls(ticket)) => self.polls(ticket, tasks, out),
+            Act::Starts { who, procedure } => self.starts(who, procedure, tasks),
+            Act::Told(Notice { who, outcome }) => self.told(who, outcome, tasks),
+            Act::Does { who, action } => self.does(who, action, tasks, out),
+            Act::Answers { who, verdict } => self.answers(who, verdict, tasks, out),
+            Act::Dials {
+                address,
+                starter,
+                retries,
+            } => self.dials(address, starter, retries, out),
+        }
+    }
+}

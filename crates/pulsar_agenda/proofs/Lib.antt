@@ -1,0 +1,6 @@
+pub mod Orders
+pub mod Sorting
+pub mod Ranking
+pub mod Acts
+pub mod Raising
+pub mod Single

@@ -1,4 +1,0 @@
-use Rattle.pulsar_client.proofs.tables.Tables.welcomes.Goals as goal
-
-pub returns-in-Readied-clause-sees : goal.returns-in-Readied-clause-sees
-returns-in-Readied-clause-sees c = rw c.in-Readied.is c.readied.ensures.sees

@@ -1,6 +1,0 @@
-use Rattle.std.proofs.Common.{◌≡◌, ◌++◌, map}
-use Rattle.pulsar_calls.specs.declared.act.Part.TheVariants.{Rings}
-use Rattle.pulsar_client.proofs.tables.with_alarms.Given as goal
-
-abbrev pub invariant-loop-alarm : goal.invariant-loop-alarm
-invariant-loop-alarm l = l.parts.items ≡ l.fn.parts.items ++ map Rings l.yielded

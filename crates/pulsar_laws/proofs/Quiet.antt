@@ -1,0 +1,60 @@
+-- What neither starts, does nor ends anything: all that arises but from plans and calls.
+use Rattle.std.proofs.Common.{◌≡◌, refl, Bool, true, false}
+use Rattle.pulsar_calls.specs.declared.act.Act.{Act}
+use Rattle.pulsar_calls.specs.declared.act.Act.TheVariants.{Comes, Starts, Told, Does, Answers, Dials}
+use Rattle.pulsar_calls.specs.declared.act.Action.{Action}
+use Rattle.pulsar_calls.specs.declared.act.Part.{Part}
+use Rattle.pulsar_calls.specs.declared.act.Part.TheVariants.{Calls, ToLink}
+use Rattle.pulsar_calls.specs.declared.act.Who.{Who}
+use Rattle.pulsar_calls.specs.declared.act.Who.TheVariants.{Call, Consumer, Producer}
+use Rattle.pulsar_tables.specs.Rules.{at_once, performs}
+use Rattle.pulsar_tables.specs.View.{View}
+use Rattle.pulsar_agenda.proofs.Acts.{Each, each_map}
+use Rattle.pulsar_agenda.proofs.Raising.{IsRaised, OfStart, OfVerdict, may, raises}
+
+abbrev pub is_quiet : Act → Bool
+is_quiet (Comes (ToLink l x)) = true
+is_quiet (Told n) = true
+is_quiet (Dials p starter retries) = true
+is_quiet _ = false
+
+abbrev pub IsQuiet : Act → Type 0
+IsQuiet a = is_quiet a ≡ true
+
+done_quiet : (who : Who) (action : Action) (a : Act) → IsRaised (Does who action) a → IsQuiet a
+done_quiet who action (Comes (ToLink l x)) h = refl
+done_quiet who action (Told n) h = refl
+done_quiet who action (Dials p starter retries) h = refl
+done_quiet who action (Starts (Call t) p) h = absurd cc
+done_quiet who action (Starts (Producer n) p) h = absurd cc
+done_quiet who action (Starts (Consumer n t) p) h = absurd cc
+done_quiet who action _ h = absurd cc
+
+pub performs_quiet : (v : View) (who : Who) (action : Action) → Each IsQuiet (performs v who action)
+performs_quiet v who action = each_map (IsRaised (Does who action)) IsQuiet (performs v who action) (done_quiet who action) (raises v (Does who action))
+
+-- a part of a call begins plans, or ends the call at once; all others are quiet
+abbrev pub is_call_part : Part → Bool
+is_call_part (Calls asked advice) = true
+is_call_part _ = false
+
+no_start : {X : Type 0} (p : Part) → is_call_part p ≡ false → may OfStart (Comes p) ≡ true → X
+no_start (Calls asked advice) h k = absurd cc
+no_start _ h k = absurd cc
+
+no_verdict : {X : Type 0} (p : Part) → is_call_part p ≡ false → may OfVerdict (Comes p) ≡ true → X
+no_verdict (Calls asked advice) h k = absurd cc
+no_verdict _ h k = absurd cc
+
+part_quiet : (p : Part) → is_call_part p ≡ false → (a : Act) → IsRaised (Comes p) a → IsQuiet a
+part_quiet p h (Comes (ToLink l x)) k = refl
+part_quiet p h (Told n) k = refl
+part_quiet p h (Dials q starter retries) k = refl
+part_quiet p h (Starts (Call t) q) k = no_start p h k
+part_quiet p h (Starts (Producer n) q) k = absurd cc
+part_quiet p h (Starts (Consumer n t) q) k = absurd cc
+part_quiet p h (Answers who verdict) k = no_verdict p h k
+part_quiet p h _ k = absurd cc
+
+pub comes_quiet : (v : View) (p : Part) → is_call_part p ≡ false → Each IsQuiet (at_once v (Comes p))
+comes_quiet v p h = each_map (IsRaised (Comes p)) IsQuiet (at_once v (Comes p)) (part_quiet p h) (raises v (Comes p))

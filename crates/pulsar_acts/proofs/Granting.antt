@@ -8,8 +8,8 @@ use Rattle.pulsar_producer.specs.Topic.{Act as Deed}
 use Rattle.pulsar_producer.specs.declared.deed.News.TheVariants as news
 use Rattle.pulsar_calls.specs.declared.act.Act.{Act}
 use Rattle.pulsar_calls.specs.declared.act.Who.{Who}
-use Rattle.pulsar_tables.specs.declared.producers.Topic.{Topic}
-use Rattle.pulsar_tables.specs.Producers.{Producers, changed, topic_after, turn_taken}
+use Rattle.pulsar_producer_table.specs.declared.table.Topic.{Topic}
+use Rattle.pulsar_producer_table.specs.Producers.{Producers, changed, topic_after, turn_taken}
 use Rattle.pulsar_tables.specs.Rules.{grants, takes_turn, tells_lost}
 use Rattle.pulsar_agenda.specs.Run.{Agenda}
 

@@ -8,7 +8,7 @@ use Rattle.pulsar_calls.specs.declared.act.Alarm.TheVariants.{Retry, Wake, Batch
 use Rattle.pulsar_calls.specs.declared.act.Part.TheVariants.{Rings}
 use Rattle.pulsar_tables.specs.declared.addresses.Pause.{Pause}
 use Rattle.pulsar_tables.specs.Alarms.{rings}
-use Rattle.pulsar_tables.specs.Producers.{Producers}
+use Rattle.pulsar_producer_table.specs.Producers.{Producers}
 use Rattle.pulsar_tables.specs.Rules.{below, opens, rung, woken}
 use Rattle.pulsar_agenda.specs.Run.{Agenda, goes_on}
 use Rattle.pulsar_tables.specs.View.{View, after, alarms_rung, pause_rung, producers_rung}

@@ -4,10 +4,10 @@ use Rattle.std.proofs.lemmas.Bool.{eq-eqb}
 use Rattle.std.specs.Option.{option_map}
 use Rattle.pulsar_run.specs.Order.{put, put_all}
 use Rattle.pulsar_producer.specs.Topic.{Act}
-use Rattle.pulsar_tables.specs.declared.producers.Topic.{Topic}
+use Rattle.pulsar_producer_table.specs.declared.table.Topic.{Topic}
 use Rattle.pulsar_calls.specs.declared.act.Alarm.TheVariants.{Batch}
 use Rattle.pulsar_tables.specs.Alarms.{clear, set}
-use Rattle.pulsar_tables.specs.Producers.{Producers, changed, is_bare, timeout_at, topic_after}
+use Rattle.pulsar_producer_table.specs.Producers.{Producers, changed, is_bare, timeout_at, topic_after}
 use Rattle.pulsar_tables.specs.View.{View, alarms_on_topic, alarms_waiting, later, waits_from}
 
 -- one more is put

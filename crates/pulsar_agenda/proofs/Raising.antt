@@ -33,14 +33,14 @@ use Rattle.pulsar_procedures.specs.declared.plan.Turn.{Turn}
 use Rattle.pulsar_procedures.specs.declared.plan.Turn.TheVariants.{Stays, Gives}
 use Rattle.pulsar_consumer_table.specs.declared.row.Sought.{Sought}
 use Rattle.pulsar_consumer_table.specs.declared.row.Sought.TheVariants.{Found, Gone, Later}
-use Rattle.pulsar_tables.specs.declared.producers.Topic.{Topic}
+use Rattle.pulsar_producer_table.specs.declared.table.Topic.{Topic}
 use Rattle.pulsar_tables.specs.Alarms.{rings}
 use Rattle.pulsar_consumer_table.specs.Consumers as consumer
 use Rattle.pulsar_consumer_table.specs.Consumers.{sought}
 use Rattle.pulsar_tables.specs.Reading.{recalled_said, serves_by, sought_said, tells}
 use Rattle.pulsar_calls.specs.Content.{Asked, shares}
 use Rattle.pulsar_procedures.specs.Plan.{begins}
-use Rattle.pulsar_tables.specs.Producers.{is_settled_at, link_at, recalled, turn_taken}
+use Rattle.pulsar_producer_table.specs.Producers.{is_settled_at, link_at, recalled, turn_taken}
 use Rattle.pulsar_tables.specs.Rules.{at_once, batches_by, batches_from, breaks_at, called, does, finds, follows, follows_some, gets_from, grants, idle_act, is_idle, keeps_alive, left_with, may_ping, over_links, performs, recalls, rung, stop_act, takes_turn, tries_again}
 use Rattle.pulsar_tables.specs.View.{Seat, View, arrival_at, told_some, ways_of}
 use Rattle.pulsar_producer.specs.declared.deed.News.TheVariants as news

@@ -15,7 +15,7 @@ use Rattle.pulsar_calls.specs.declared.act.Part.{Part}
 use Rattle.pulsar_calls.specs.declared.act.Part.TheVariants.{Calls, ToLink, Rings, Polls}
 use Rattle.pulsar_tables.specs.Alarms.{ringing}
 use Rattle.pulsar_calls.specs.Content.{Asked, Heard, Called, Ticked, Poll}
-use Rattle.pulsar_tables.specs.Producers.{advice}
+use Rattle.pulsar_producer_table.specs.Producers.{advice}
 use Rattle.pulsar_tables.specs.Rules.{at_once, brings, call_part, due_part, further, over_links, parts, reads_on}
 use Rattle.pulsar_agenda.specs.Run.{Entry, Begins, Then, IsRun, agenda, rules, view}
 use Rattle.pulsar_tables.specs.View.{Options, Seat, View, arrival_at, is_live}

@@ -56,7 +56,7 @@ use Rattle.pulsar_procedures.specs.declared.plan.Turn.TheVariants.{Stays, Gives}
 use Rattle.pulsar_procedures.specs.Plan.{begins, told}
 use Rattle.pulsar_consumer_table.specs.Consumers as consumer
 use Rattle.pulsar_consumer_table.specs.Consumers.{Member, link_at, number_at, recalled, why_not, word_if, word_of, word_of_close, word_of_frame, word_of_loss, hears_frame, is_closed_by}
-use Rattle.pulsar_tables.specs.Producers.{Producers, batches_in, errand_of, numbers_at, recalled_at, recalled_by, routed, why_not as unsent_why}
+use Rattle.pulsar_producer_table.specs.Producers.{Producers, batches_in, errand_of, numbers_at, recalled_at, recalled_by, routed, why_not as unsent_why}
 use Rattle.pulsar_tables.specs.Reading.{subscribes_by, unless}
 use Rattle.pulsar_tables.specs.Rules.{asks_topics, at_once, closes, fails_as, flushes_all, from_base, notice, parts_of, procedure_for, produces_by, produces_from, searches, sends_as, sends_by, sends_with, share, shares_of, shares_unless, starts, stores_as, unless_refused, why_no_raw, why_no_sends, builds_with}
 use Rattle.pulsar_tables.specs.View.{Chosen, Options, Tickets, View, may_call, stand_after, stays, stays_some, told_some, ways_of}

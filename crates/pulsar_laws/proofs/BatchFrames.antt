@@ -39,10 +39,10 @@ use Rattle.pulsar_procedures.specs.declared.plan.Plan.{Plan}
 use Rattle.pulsar_procedures.specs.declared.plan.Plan.TheVariants.{Batching}
 use Rattle.pulsar_procedures.specs.declared.plan.Turn.{Turn}
 use Rattle.pulsar_procedures.specs.declared.plan.Turn.TheVariants.{Stays, Gives}
-use Rattle.pulsar_tables.specs.declared.producers.Topic.{Topic}
+use Rattle.pulsar_producer_table.specs.declared.table.Topic.{Topic}
 use Rattle.pulsar_laws.specs.BatchLaws.{FramesOfBatches, under_way}
 use Rattle.pulsar_procedures.specs.Plan.{action_of, begins, news_of, told}
-use Rattle.pulsar_tables.specs.Producers.{topic_after}
+use Rattle.pulsar_producer_table.specs.Producers.{topic_after}
 use Rattle.pulsar_laws.specs.ProducerLaws.{HasTurn}
 use Rattle.pulsar_tables.specs.Rules.{notice}
 use Rattle.pulsar_agenda.specs.Run.{Entry, Begins, Then, IsRun, view}

@@ -33,7 +33,7 @@ use Rattle.pulsar_procedures.specs.declared.plan.Turn.TheVariants.{Stays, Gives}
 use Rattle.pulsar_laws.specs.BatchLaws.{BatchesOneByOne, MayTake, under_way}
 use Rattle.pulsar_calls.specs.Content.{Heard}
 use Rattle.pulsar_procedures.specs.Plan.{begins, overrides, told, told_to}
-use Rattle.pulsar_tables.specs.Producers.{next_batch_at}
+use Rattle.pulsar_producer_table.specs.Producers.{next_batch_at}
 use Rattle.pulsar_tables.specs.Rules.{at_once, does, follows, follows_some, notice, performs}
 use Rattle.pulsar_agenda.specs.Run.{Entry, Begins, Then, IsRun, agenda, first, first_of, view}
 use Rattle.pulsar_tables.specs.View.{Options, View, stays, stays_some, told_some}

@@ -7,10 +7,10 @@ use Rattle.pulsar_run.specs.Laws.{In}
 use Rattle.pulsar_producer.specs.Topic.{Closes}
 use Rattle.pulsar_calls.specs.declared.act.Act.TheVariants.{Does, Told}
 use Rattle.pulsar_calls.specs.declared.act.Action.TheVariants.{Shut}
-use Rattle.pulsar_tables.specs.declared.producers.Topic.{Topic}
+use Rattle.pulsar_producer_table.specs.declared.table.Topic.{Topic}
 use Rattle.pulsar_laws.specs.BatchLaws.{ClosedWithTheProducer}
 use Rattle.pulsar_procedures.specs.Plan.{closed_notice}
-use Rattle.pulsar_tables.specs.Producers.{Producers, changed, is_bare, numbers_at, shut_all, stored_at, stored_by, topic_after}
+use Rattle.pulsar_producer_table.specs.Producers.{Producers, changed, is_bare, numbers_at, shut_all, stored_at, stored_by, topic_after}
 use Rattle.pulsar_tables.specs.Rules.{joins}
 use Rattle.pulsar_agenda.specs.Run.{Then, view}
 use Rattle.pulsar_tables.specs.View.{View}

@@ -34,10 +34,10 @@ use Rattle.pulsar_procedures.specs.declared.plan.Plan.{Plan}
 use Rattle.pulsar_procedures.specs.declared.plan.Plan.TheVariants.{Sending, Reporting, Leaving}
 use Rattle.pulsar_procedures.specs.declared.plan.Turn.{Turn}
 use Rattle.pulsar_procedures.specs.declared.plan.Turn.TheVariants.{Stays, Gives}
-use Rattle.pulsar_tables.specs.declared.producers.Topic.{Topic}
+use Rattle.pulsar_producer_table.specs.declared.table.Topic.{Topic}
 use Rattle.pulsar_laws.specs.Laws.{started}
 use Rattle.pulsar_procedures.specs.Plan.{begins, news_of, told}
-use Rattle.pulsar_tables.specs.Producers.{drawn, recalled_at, recalled_by, topic_after}
+use Rattle.pulsar_producer_table.specs.Producers.{drawn, recalled_at, recalled_by, topic_after}
 use Rattle.pulsar_laws.specs.ProducerLaws.{FramesAreOfTheirSends}
 use Rattle.pulsar_tables.specs.Rules.{notice}
 use Rattle.pulsar_agenda.specs.Run.{Entry, Begins, Then, IsRun, view}

@@ -28,7 +28,7 @@ use Rattle.pulsar_calls.specs.declared.act.Part.TheVariants.{Calls, Rings}
 use Rattle.pulsar_calls.specs.declared.act.Who.{Who}
 use Rattle.pulsar_calls.specs.Content as content
 use Rattle.pulsar_calls.specs.Content.{Asked, lacks_tickets, shares}
-use Rattle.pulsar_tables.specs.Producers.{Producers, all_routed, called_on, changed, free_from, made_of, names_in, next_free, numbered, numbers_at, opened_on, routed, sent_on, shut_all, why_not, with_built, with_topic, with_topics}
+use Rattle.pulsar_producer_table.specs.Producers.{Producers, all_routed, called_on, changed, free_from, made_of, names_in, next_free, numbered, numbers_at, opened_on, routed, sent_on, shut_all, why_not, with_built, with_topic, with_topics}
 use Rattle.pulsar_laws.specs.ProducerLaws.{NumbersAreFree}
 use Rattle.pulsar_tables.specs.Rules.{notice}
 use Rattle.pulsar_tables.specs.Alarms.{rings}

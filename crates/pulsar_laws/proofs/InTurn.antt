@@ -28,7 +28,7 @@ use Rattle.pulsar_procedures.specs.declared.plan.Plan.{Plan}
 use Rattle.pulsar_procedures.specs.declared.plan.Plan.TheVariants.{Batching, Leaving, Reporting, Sending, Visiting}
 use Rattle.pulsar_procedures.specs.declared.plan.Turn.{Turn}
 use Rattle.pulsar_procedures.specs.declared.plan.Turn.TheVariants.{Stays, Gives}
-use Rattle.pulsar_tables.specs.declared.producers.Topic.{Topic}
+use Rattle.pulsar_producer_table.specs.declared.table.Topic.{Topic}
 use Rattle.pulsar_laws.specs.Laws.{counted, start_of, started}
 use Rattle.pulsar_procedures.specs.Plan.{begins, told}
 use Rattle.pulsar_laws.specs.ProducerLaws.{HasTurn, turn_in, turn_of}

@@ -12,7 +12,7 @@ use Rattle.pulsar_calls.specs.declared.act.Procedure.{Procedure}
 use Rattle.pulsar_calls.specs.declared.act.Who.TheVariants.{Call}
 use Rattle.pulsar_calls.specs.Content.{Asked, lacks_tickets, shares}
 use Rattle.pulsar_laws.specs.Laws.{CallsAreMade}
-use Rattle.pulsar_tables.specs.Producers.{advice}
+use Rattle.pulsar_producer_table.specs.Producers.{advice}
 use Rattle.pulsar_tables.specs.Rules.{at_once, call_part, called, causes, further, joins, parts, starts}
 use Rattle.pulsar_agenda.specs.Run.{Entry, Begins, Then, IsRun, rules, view}
 use Rattle.pulsar_tables.specs.View.{Options}

@@ -30,7 +30,7 @@ use Rattle.pulsar_calls.specs.Content as content
 use Rattle.pulsar_calls.specs.Content.{Asked, Heard, lacks_tickets, shares}
 use Rattle.pulsar_laws.specs.Laws.{EndsOnce, counted, end_of, start_of}
 use Rattle.pulsar_procedures.specs.Plan.{begins, told}
-use Rattle.pulsar_tables.specs.Producers.{Producers, routed}
+use Rattle.pulsar_producer_table.specs.Producers.{Producers, routed}
 use Rattle.pulsar_tables.specs.Rules.{at_once, called, does, follows, follows_some, left_with, parts_of, shares_of, shares_unless, starts, why_no_sends}
 use Rattle.pulsar_agenda.specs.Run.{Entry, Begins, Then, IsRun, agenda, first, view}
 use Rattle.pulsar_tables.specs.View.{Chosen, Options, View, stays, stays_some, told_some, ways_of}

@@ -8,7 +8,7 @@ use Rattle.pulsar_producer.specs.Topic.{Act as Deed, Takes, Passes, Draws, Remak
 use Rattle.pulsar_calls.specs.declared.act.Act.TheVariants.{Told, Does}
 use Rattle.pulsar_calls.specs.declared.act.Action.TheVariants.{Ask, Draw}
 use Rattle.pulsar_calls.specs.declared.act.Who.TheVariants.{Call}
-use Rattle.pulsar_tables.specs.declared.producers.Topic.{Topic}
+use Rattle.pulsar_producer_table.specs.declared.table.Topic.{Topic}
 use Rattle.pulsar_laws.specs.ProducerLaws.{NumbersOfFramesRise, topic_acts}
 use Rattle.pulsar_agenda.specs.Run.{Entry, Begins, Then, IsRun, view}
 use Rattle.pulsar_tables.specs.View.{Options}

@@ -18,7 +18,7 @@ use Rattle.pulsar_procedures.specs.declared.plan.Plan.{Plan}
 use Rattle.pulsar_procedures.specs.declared.plan.Turn.{Turn}
 use Rattle.pulsar_procedures.specs.declared.plan.Turn.TheVariants.{Stays, Gives}
 use Rattle.pulsar_procedures.specs.Plan.{begins, told}
-use Rattle.pulsar_tables.specs.Producers.{link_at, next_batch_at}
+use Rattle.pulsar_producer_table.specs.Producers.{link_at, next_batch_at}
 use Rattle.pulsar_tables.specs.Rules.{at_once, does, finds, follows, follows_some, tells, told_at}
 use Rattle.pulsar_agenda.specs.Run.{Agenda, Entry, Begins, Then, IsRun, agenda, first, rules, view}
 use Rattle.pulsar_tables.specs.View.{Options, View, answer_at, stand_after, stays, stays_some, told_some}

@@ -30,10 +30,10 @@ use Rattle.pulsar_tables.specs.declared.addresses.Series.TheVariants.{Nobody, Ru
 use Rattle.pulsar_procedures.specs.declared.plan.Plan.{Plan}
 use Rattle.pulsar_procedures.specs.declared.plan.Turn.{Turn}
 use Rattle.pulsar_procedures.specs.declared.plan.Turn.TheVariants.{Stays, Gives}
-use Rattle.pulsar_tables.specs.declared.producers.Topic.{Topic}
+use Rattle.pulsar_producer_table.specs.declared.table.Topic.{Topic}
 use Rattle.pulsar_laws.specs.Laws.{counted, start_of}
 use Rattle.pulsar_procedures.specs.Plan.{action_of, begins, closed_notice, told}
-use Rattle.pulsar_tables.specs.Producers.{drawn, is_settled_at, is_woken, link_at, number_drawn, numbers_at, recalled, stored_by, turn_passed, turn_taken}
+use Rattle.pulsar_producer_table.specs.Producers.{drawn, is_settled_at, is_woken, link_at, number_drawn, numbers_at, recalled, stored_by, turn_passed, turn_taken}
 use Rattle.pulsar_tables.specs.Rules.{at_once, below, causes, draw_outcome, draw_said, finds, gets_from, grants, joins, notice, number_said, over_links, performs, readied, ready_notice, recalls, stop_act, takes_turn, tells, told_at, turn_notice}
 use Rattle.pulsar_agenda.specs.Run.{Entry, Begins, Then, IsRun, agenda, rules, view}
 use Rattle.pulsar_tables.specs.View.{Options, View, answer_at, room_of, stays, stays_some, told_some}

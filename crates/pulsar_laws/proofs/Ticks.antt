@@ -22,14 +22,14 @@ use Rattle.pulsar_calls.specs.declared.act.Part.{Part}
 use Rattle.pulsar_calls.specs.declared.act.Part.TheVariants.{ToLink, Rings}
 use Rattle.pulsar_calls.specs.declared.act.Who.TheVariants.{Call, Producer, Consumer}
 use Rattle.pulsar_tables.specs.declared.addresses.Pause.{Pause}
-use Rattle.pulsar_tables.specs.declared.producers.Topic.{Topic}
+use Rattle.pulsar_producer_table.specs.declared.table.Topic.{Topic}
 use Rattle.pulsar_calls.specs.Who.{turn_of}
 use Rattle.pulsar_tables.specs.Alarms.{alarm_cmp, clear, is_same_alarm, ringing, rings, set}
 use Rattle.pulsar_tables.specs.Effects.{is_before3}
 use Rattle.pulsar_laws.specs.Laws.{TicksInOrder, part_below, part_rank}
 use Rattle.pulsar_tables.specs.Links.{Change, Remains, Becomes, IsOver}
 use Rattle.pulsar_calls.specs.Content.{numbers_from}
-use Rattle.pulsar_tables.specs.Producers.{is_bare, numbers_at, timeout_at, topic_after}
+use Rattle.pulsar_producer_table.specs.Producers.{is_bare, numbers_at, timeout_at, topic_after}
 use Rattle.pulsar_tables.specs.Rules.{due_part, on_link, over_links}
 use Rattle.pulsar_agenda.specs.Run.{Entry, Begins, Then, view}
 use Rattle.pulsar_tables.specs.View.{Chosen, Options, Seat, Turned, View, alarms_after, alarms_on, alarms_on_topic, alarms_over, alarms_rung, alarms_turned, alarms_waiting, builds, clear_all, delay_of, idle_period, later, turned, waits_from}

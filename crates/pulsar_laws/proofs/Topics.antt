@@ -17,8 +17,8 @@ use Rattle.pulsar_calls.specs.declared.act.Makes.TheVariants.{Producer}
 use Rattle.pulsar_calls.specs.declared.act.Part.TheVariants.{Calls, Rings}
 use Rattle.pulsar_calls.specs.declared.act.Verdict.{Verdict}
 use Rattle.pulsar_calls.specs.declared.act.Who.{Who}
-use Rattle.pulsar_tables.specs.declared.producers.Topic.{Topic}
-use Rattle.pulsar_tables.specs.Producers.{Producers, changed, made_of, numbers_at, shut_all, topic_after, with_topic, with_topics}
+use Rattle.pulsar_producer_table.specs.declared.table.Topic.{Topic}
+use Rattle.pulsar_producer_table.specs.Producers.{Producers, changed, made_of, numbers_at, shut_all, topic_after, with_topic, with_topics}
 use Rattle.pulsar_laws.specs.ProducerLaws.{TopicsAlone, acts_on, drawn_by, rung_by, shut_by, topic_acts}
 use Rattle.pulsar_agenda.specs.Run.{Entry, Begins, Then, IsRun, view}
 use Rattle.pulsar_tables.specs.Alarms.{rings}

@@ -19,10 +19,10 @@ use Rattle.pulsar_procedures.specs.declared.plan.Plan.{Plan}
 use Rattle.pulsar_procedures.specs.declared.plan.Plan.TheVariants.{Batching, Leaving}
 use Rattle.pulsar_procedures.specs.declared.plan.Turn.{Turn}
 use Rattle.pulsar_procedures.specs.declared.plan.Turn.TheVariants.{Stays, Gives}
-use Rattle.pulsar_tables.specs.declared.producers.Topic.{Topic}
+use Rattle.pulsar_producer_table.specs.declared.table.Topic.{Topic}
 use Rattle.pulsar_laws.specs.Laws.{counted, start_of}
 use Rattle.pulsar_procedures.specs.Plan.{begins, told}
-use Rattle.pulsar_tables.specs.Producers.{Producers, changed, topic_after}
+use Rattle.pulsar_producer_table.specs.Producers.{Producers, changed, topic_after}
 use Rattle.pulsar_laws.specs.ProducerLaws.{HasTurn, topic_acts}
 use Rattle.pulsar_agenda.specs.Run.{Entry, Then, IsRun, view}
 use Rattle.pulsar_tables.specs.View.{Options, stays, stays_some, told_some}

@@ -24,10 +24,10 @@ use Rattle.pulsar_calls.specs.declared.act.Who.TheVariants.{Call, Producer, Cons
 use Rattle.pulsar_calls.specs.declared.act.Share.{Share}
 use Rattle.pulsar_procedures.specs.declared.plan.Plan.{Plan}
 use Rattle.pulsar_procedures.specs.declared.plan.Plan.TheVariants.{Sending, Serving}
-use Rattle.pulsar_tables.specs.declared.producers.Topic.{Topic}
+use Rattle.pulsar_producer_table.specs.declared.table.Topic.{Topic}
 use Rattle.pulsar_calls.specs.Content.{Heard}
 use Rattle.pulsar_procedures.specs.Plan.{told}
-use Rattle.pulsar_tables.specs.Producers.{Producers, topic_after, turn_passed}
+use Rattle.pulsar_producer_table.specs.Producers.{Producers, topic_after, turn_passed}
 use Rattle.pulsar_laws.specs.ProducerLaws.{HasTurn, PassedInTurn, QueuedInTurn, ToldInTurn, acts_on, turn_of}
 use Rattle.pulsar_tables.specs.Rules.{at_once, grants, notice, takes_turn, turn_notice}
 use Rattle.pulsar_agenda.specs.Run.{Entry, Begins, Then, IsRun, view}

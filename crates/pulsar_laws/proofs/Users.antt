@@ -80,12 +80,12 @@ use Rattle.pulsar_procedures.specs.declared.plan.Plan.{Plan}
 use Rattle.pulsar_procedures.specs.declared.plan.Plan.TheVariants.{Building, Getting, Asking, Awaiting, Searching, Producing, Sending, Reporting, Storing, Stored, Batching, Leaving, Gathering, Shutting, Visiting, Stopping, Subscribing, Serving, Acknowledging, Departing}
 use Rattle.pulsar_procedures.specs.declared.plan.Turn.{Turn}
 use Rattle.pulsar_procedures.specs.declared.plan.Turn.TheVariants.{Stays, Gives}
-use Rattle.pulsar_tables.specs.declared.producers.Topic.{Topic}
+use Rattle.pulsar_producer_table.specs.declared.table.Topic.{Topic}
 use Rattle.pulsar_tables.specs.Alarms.{rings}
 use Rattle.pulsar_procedures.specs.Plan.{action_of, asks_of, batches_on, begins, builds, fails_in, gathers, goes, goes_on_sending, goes_round, halted, is_answer, is_settled as round_settled, leaves, news_in, news_of, overrides, sends_stay, stored, told, told_at, told_to, visited, visits, wished}
 use Rattle.pulsar_producer.specs.Batching.{is_sent_send}
 use Rattle.pulsar_laws.specs.ProducerLaws.{acts_on, drawn_by, rung_by, shut_by, topic_acts}
-use Rattle.pulsar_tables.specs.Producers.{next_batch_at, numbers_at}
+use Rattle.pulsar_producer_table.specs.Producers.{next_batch_at, numbers_at}
 use Rattle.pulsar_tables.specs.Rules.{notice}
 use Rattle.pulsar_agenda.specs.Run.{Entry, Begins, Then, IsRun, view}
 use Rattle.pulsar_tables.specs.View.{Options, View, room_of, stays, stays_some, told_some}

@@ -35,12 +35,12 @@ use Rattle.pulsar_calls.specs.declared.act.Who.{Who}
 use Rattle.pulsar_calls.specs.declared.act.Who.TheVariants.{Call, Producer}
 use Rattle.pulsar_procedures.specs.declared.plan.Plan.{Plan}
 use Rattle.pulsar_procedures.specs.declared.plan.Plan.TheVariants as plan
-use Rattle.pulsar_tables.specs.declared.producers.Topic.{Topic}
+use Rattle.pulsar_producer_table.specs.declared.table.Topic.{Topic}
 use Rattle.pulsar_calls.specs.Content.{Asked, Failed, Receipt, sent_by}
 use Rattle.pulsar_laws.specs.Laws.{AreActs, FailsSo, IsDropped, started}
 use Rattle.pulsar_procedures.specs.Plan.{closed_notice, fails, overrides, told_to, verdict}
 use Rattle.pulsar_laws.specs.ProducerLaws.{acts_on, asks_in, is_queued}
-use Rattle.pulsar_tables.specs.Producers.{is_bare, next_batch_at, numbers_at, stored_at}
+use Rattle.pulsar_producer_table.specs.Producers.{is_bare, next_batch_at, numbers_at, stored_at}
 use Rattle.pulsar_tables.specs.Rules.{call_part, notice, ready_notice}
 use Rattle.pulsar_agenda.specs.Run.{Entry, Then, IsRun, Rests, view}
 use Rattle.pulsar_tables.specs.View.{Options}

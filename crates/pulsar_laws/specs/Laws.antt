@@ -60,7 +60,7 @@ use Rattle.pulsar_tables.specs.Effects.{effect_below, is_before3}
 use Rattle.pulsar_tables.specs.Links.{arrival, call_of, closed_by, line_places, new_places}
 use Rattle.pulsar_calls.specs.Content.{numbers_from}
 use Rattle.pulsar_calls.specs.Parts.{outcomes_of}
-use Rattle.pulsar_tables.specs.Producers.{advice, turn_passed, drawn, is_settled_at, is_woken, link_at, next_batch_at, number_drawn, numbers_at, recalled, stored_at, turn_taken, unsent_at, waiting_at}
+use Rattle.pulsar_producer_table.specs.Producers.{advice, turn_passed, drawn, is_settled_at, is_woken, link_at, next_batch_at, number_drawn, numbers_at, recalled, stored_at, turn_taken, unsent_at, waiting_at}
 use Rattle.pulsar_producer.specs.Topic as topic
 use Rattle.pulsar_procedures.specs.Plan.{begins, failure_of, fails, fault_of, reply_says, told}
 use Rattle.pulsar_tables.specs.Rules.{below, call_part, dropped, fails_so, lost, notice, starts, stopped_with, brings}

@@ -51,11 +51,11 @@ use Rattle.pulsar_procedures.specs.declared.plan.At.{At}
 use Rattle.pulsar_procedures.specs.declared.plan.At.TheVariants as at
 use Rattle.pulsar_procedures.specs.declared.plan.Plan.{Plan}
 use Rattle.pulsar_procedures.specs.declared.plan.Plan.TheVariants as plan
-use Rattle.pulsar_tables.specs.declared.producers.Topic.{Topic}
+use Rattle.pulsar_producer_table.specs.declared.table.Topic.{Topic}
 use Rattle.pulsar_calls.specs.Content.{Said, Failed}
 use Rattle.pulsar_tables.specs.Links as links
 use Rattle.pulsar_calls.specs.Parts.{sent_from}
-use Rattle.pulsar_tables.specs.Producers.{number_drawn, numbers_at}
+use Rattle.pulsar_producer_table.specs.Producers.{number_drawn, numbers_at}
 use Rattle.pulsar_procedures.specs.Plan.{told}
 use Rattle.pulsar_tables.specs.Rules.{joins, notice}
 use Rattle.pulsar_agenda.specs.Run.{Entry, Begins, Then, IsRun, Rests, view}

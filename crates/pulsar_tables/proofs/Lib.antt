@@ -1,5 +1,3 @@
-pub mod Grown
-pub mod Producing
 pub mod Moments
 pub mod Ringing
 pub mod Timing

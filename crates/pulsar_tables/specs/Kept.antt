@@ -1,5 +1,5 @@
--- For the code's contracts alone: the links, the addresses, the alarms, the producers and the consumers, as the code keeps them, and what is
--- read of a link that may have ended.
+-- For the code's contracts alone: the links, the addresses and the alarms, as the code keeps them, and what is read of a link that may have
+-- ended.
 use Rattle.std.specs.Prelude.{◌≡◌, ℕ, ◌≤◌, Bool, true, false, List, Option, Some, None, String}
 use Rattle.std.specs.BTreeMap.{BTreeMap, IsOrdered, get, get_by_text}
 use Rattle.std.specs.BTreeSet.{BTreeSet, contains}
@@ -21,8 +21,6 @@ use Rattle.pulsar_tables.specs.declared.row.Row.{Row}
 use Rattle.pulsar_tables.specs.Alarms.{alarm_cmp, moment_of}
 use Rattle.pulsar_tables.specs.Due.{is_moment, moment_at}
 use Rattle.pulsar_tables.specs.Rules.{ended_on}
-use Rattle.pulsar_tables.specs.declared.producers.Producers.{Producers as KeptProducers}
-use Rattle.pulsar_tables.specs.Producers.{Producers}
 use Rattle.pulsar_tables.specs.View.{Addresses, Base, Links, Seat, askers_left, closing, may_retry, nobody, pause_with, ping_left}
 
 abbrev pub seat_of : Row → Seat
@@ -91,15 +89,3 @@ is_in a (Some alarms) = contains alarm_cmp alarms a
 pub record AreSet (i : Inside) : Type 0 where
   pub listed : (m : ℕ) (a : Alarm) → is_in a (get nat_cmp i.alarms m) ≡ is_moment m (moment_of a i.moments.entries)
   pub ordered : IsOrdered alarm_cmp i.moments
-
--- THE PRODUCERS
-
-abbrev pub producers_of : KeptProducers → Producers
-producers_of p =
-    record {
-      built = get nat_cmp p.built;
-      topics = get nat_cmp p.topics;
-      numbers = p.numbers.items;
-      named = p.named.keys;
-      next = p.next;
-    }

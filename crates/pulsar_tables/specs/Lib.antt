@@ -1,7 +1,6 @@
 pub mod Address
 pub mod Links
 pub mod Alarms
-pub mod Producers
 pub mod View
 pub mod Reading
 pub mod Rules

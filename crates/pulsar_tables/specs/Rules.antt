@@ -55,7 +55,7 @@ use Rattle.pulsar_tables.specs.declared.addresses.Series.TheVariants.{Nobody, Ru
 use Rattle.pulsar_procedures.specs.declared.plan.Plan.{Plan}
 use Rattle.pulsar_procedures.specs.declared.plan.Turn.{Turn}
 use Rattle.pulsar_procedures.specs.declared.plan.Turn.TheVariants.{Stays, Gives}
-use Rattle.pulsar_tables.specs.declared.producers.Topic.{Topic}
+use Rattle.pulsar_producer_table.specs.declared.table.Topic.{Topic}
 use Rattle.pulsar_link.specs.Request.{named_consumer, named_producer}
 use Rattle.pulsar_messages.specs.Content.{ProducerMessageValues}
 use Rattle.pulsar_plans.specs.declared.making.Command.{Command}
@@ -82,7 +82,8 @@ use Rattle.pulsar_tables.specs.Links.{Change, Remains, Becomes, IsOver, closed_b
 use Rattle.pulsar_calls.specs.Content.{numbers_from}
 use Rattle.pulsar_tables.specs.Links as links
 use Rattle.pulsar_procedures.specs.Plan.{begins, closed_notice, fails}
-use Rattle.pulsar_tables.specs.Producers.{Producers, advice, batches_in, drawn, errand_of, is_held, is_settled_at, is_woken, link_at, next_batch_at, number_drawn, numbers_at, recalled, routed, stored_by, turn_passed, turn_taken, unsent, waiting, why_not}
+use Rattle.pulsar_producer_table.specs.Notices.{stopped_all}
+use Rattle.pulsar_producer_table.specs.Producers.{Producers, advice, batches_in, drawn, errand_of, is_held, is_settled_at, is_woken, link_at, next_batch_at, number_drawn, numbers_at, recalled, routed, stored_by, turn_passed, turn_taken, why_not}
 use Rattle.pulsar_calls.specs.Content.{next_advice}
 use Rattle.pulsar_tables.specs.View.{Addresses, Base, Chosen, Links, Options, Seat, Tickets, Turned, View, answer_at, arrival_at, is_live, later, may_call, room_of, told_some, turned, url_at, ways_of}
 use Rattle.pulsar_consumer_table.specs.Consumers as consumer
@@ -661,12 +662,6 @@ stopped_with known (Wake who) = notice who outcome.Stopped ∷ []
 stopped_with known (Batch n) = []
 stopped_with known (KeepAlive l) = []
 stopped_with known CheckIdle = []
-
-abbrev pub stopped_call : (ticket : ℕ) → Notice
-stopped_call t = notice (Call t) outcome.Stopped
-
-abbrev pub stopped_all : Producers → List Notice
-stopped_all ps = map stopped_one (waiting ps) ++ map stopped_call (unsent ps)
 
 abbrev pub causes : View → Act → List (List Notice)
 causes v (Comes (ToLink l x)) = caused v l x

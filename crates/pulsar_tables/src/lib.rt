@@ -1,5 +1,5 @@
-//! What a client keeps: its links, its addresses, its alarms and its producers, each as a table that does nothing by itself,
-//! and what is seen of all that, with the rules by which it changes.
+//! What a client keeps beside its consumers and its producers: its links, its addresses and its alarms, each as a table that does nothing by
+//! itself; and what is seen of all that a client keeps, with the rules by which it changes.
 #![tactic(auto)]
 
 pub mod address;
@@ -7,5 +7,4 @@ pub mod addresses;
 pub mod alarms;
 pub mod due;
 pub mod links;
-pub mod producers;
 pub mod row;

@@ -2,9 +2,9 @@
 
 ghost use Rattle.std.specs.Prelude.{◌≡◌, ◌∷◌, [], ◌++◌, IfOk, OnOk, if◌then◌else◌, map, true, Some};
 ghost use Rattle.pulsar_run.specs.Order.{arranged, put_all};
-ghost use Rattle.pulsar_tables.specs.Kept.{producers_of};
+ghost use Rattle.pulsar_producer_table.specs.KeptProducers.{producers_of};
 ghost use Rattle.pulsar_procedures.specs.Plan.{closed_notice};
-ghost use Rattle.pulsar_tables.specs.Producers.{is_bare, numbers_at, timeout_at};
+ghost use Rattle.pulsar_producer_table.specs.Producers.{is_bare, numbers_at, timeout_at};
 ghost use Rattle.pulsar_tables.specs.Rules.{batches_by, batches_from, batches_made, below, opens, ready_notice, woken};
 ghost use Rattle.pulsar_agenda.specs.Run.{goes_on};
 ghost use Rattle.pulsar_agenda.specs.Agenda.{agenda_of};

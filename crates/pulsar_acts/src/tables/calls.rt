@@ -6,7 +6,7 @@ ghost use Rattle.pulsar_tables.specs.Effects.{effects, ends};
 ghost use Rattle.pulsar_link.specs.RawCall.{words_of};
 ghost use Rattle.pulsar_link.specs.Request.{named_consumer, named_producer};
 ghost use Rattle.pulsar_consumer_table.specs.Consumers as consumer;
-ghost use Rattle.pulsar_tables.specs.Producers.{called_on, names_in, opened_on};
+ghost use Rattle.pulsar_producer_table.specs.Producers.{called_on, names_in, opened_on};
 ghost use Rattle.pulsar_calls.specs.Notices.{notice};
 ghost use Rattle.pulsar_tables.specs.Reading.{unless};
 ghost use Rattle.pulsar_tables.specs.Rules.{asks_raw, asks_topics, builds_with, does, follows, from_base, is_taken, parts_of, procedure_for, searches, taken_by, unless_refused};

@@ -2,7 +2,8 @@
 
 ghost use Rattle.std.specs.Prelude.{◌≡◌, ◌∷◌, [], IfOk, OnOk};
 ghost use Rattle.std.specs.Option.{option_to_list};
-ghost use Rattle.pulsar_tables.specs.Kept.{live_in, producers_of};
+ghost use Rattle.pulsar_tables.specs.Kept.{live_in};
+ghost use Rattle.pulsar_producer_table.specs.KeptProducers.{producers_of};
 ghost use Rattle.pulsar_consumer_table.specs.KeptConsumers.{consumers_in, member_in};
 ghost use Rattle.pulsar_consumer_table.specs.Notices.{due_to};
 ghost use Rattle.pulsar_tables.specs.Reading.{made_due, serves_by};

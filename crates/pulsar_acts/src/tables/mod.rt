@@ -24,10 +24,10 @@ use pulsar_calls::act::{Act, Notice, Part};
 use pulsar_calls::effect::Effect;
 use pulsar_consumer_table::table::Consumers;
 use pulsar_procedures::table::Plans;
+use pulsar_producer_table::table::Producers;
 use pulsar_tables::addresses::Addresses;
 use pulsar_tables::alarms::Alarms;
 use pulsar_tables::links::Links;
-use pulsar_tables::producers::Producers;
 use pulsar_wire::error::NoMemory;
 use std::alloc::Global;
 

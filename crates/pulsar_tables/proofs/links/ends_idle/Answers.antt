@@ -9,7 +9,8 @@ use Rattle.pulsar_calls.specs.declared.act.Act.TheVariants.{Comes}
 use Rattle.pulsar_calls.specs.declared.act.End.TheVariants.{Idles}
 use Rattle.pulsar_calls.specs.declared.act.LinkAct.TheVariants.{Ends}
 use Rattle.pulsar_calls.specs.declared.act.Part.TheVariants.{ToLink}
-use Rattle.pulsar_tables.specs.Kept.{producers_of, seat_of}
+use Rattle.pulsar_producer_table.specs.KeptProducers.{producers_of}
+use Rattle.pulsar_tables.specs.Kept.{seat_of}
 use Rattle.pulsar_tables.specs.Rules.{idle_act_at}
 use Rattle.pulsar_consumer_table.specs.KeptConsumers.{consumers_in}
 use Rattle.pulsar_tables.proofs.Idle.{all_give}

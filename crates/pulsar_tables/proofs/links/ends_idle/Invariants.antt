@@ -1,7 +1,8 @@
 use Rattle.std.proofs.Common.{◌≡◌, map}
 use Rattle.std.specs.List.{flat_map}
 use Rattle.std.specs.Map.Iter.{deref_pair}
-use Rattle.pulsar_tables.specs.Kept.{producers_of, seat_of}
+use Rattle.pulsar_producer_table.specs.KeptProducers.{producers_of}
+use Rattle.pulsar_tables.specs.Kept.{seat_of}
 use Rattle.pulsar_tables.specs.Rules.{idle_act_at}
 use Rattle.pulsar_consumer_table.specs.KeptConsumers.{consumers_in}
 use Rattle.pulsar_tables.proofs.links.ends_idle.Given as goal

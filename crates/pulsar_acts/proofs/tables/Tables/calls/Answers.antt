@@ -4,7 +4,7 @@ use Rattle.pulsar_calls.specs.declared.act.Act.TheVariants.{Answers, Starts}
 use Rattle.pulsar_calls.specs.declared.act.Who.TheVariants.{Call}
 use Rattle.pulsar_calls.specs.Content.{lacks_tickets, shares}
 use Rattle.pulsar_consumer_table.specs.Consumers as consumer
-use Rattle.pulsar_tables.specs.Producers.{called_on}
+use Rattle.pulsar_producer_table.specs.Producers.{called_on}
 use Rattle.pulsar_tables.specs.Rules.{parts_of}
 use Rattle.pulsar_agenda.specs.Run.{Agenda}
 use Rattle.pulsar_agenda.specs.Agenda.{agenda_of}

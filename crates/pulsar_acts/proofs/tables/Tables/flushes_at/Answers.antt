@@ -4,8 +4,8 @@ use Rattle.std.proofs.lemmas.Result.{on_ok_weaker}
 use Rattle.pulsar_producer.specs.Topic.{Flushes}
 use Rattle.pulsar_producer.specs.declared.deed.News.TheVariants.{Done}
 use Rattle.pulsar_run.specs.Order.{put_all}
-use Rattle.pulsar_tables.specs.Kept.{producers_of}
-use Rattle.pulsar_tables.specs.Producers.{changed, is_woken}
+use Rattle.pulsar_producer_table.specs.KeptProducers.{producers_of}
+use Rattle.pulsar_producer_table.specs.Producers.{changed, is_woken}
 use Rattle.pulsar_tables.specs.Rules.{below, grants, ready_notice}
 use Rattle.pulsar_agenda.specs.Run.{Agenda}
 use Rattle.pulsar_agenda.specs.Agenda.{agenda_of}

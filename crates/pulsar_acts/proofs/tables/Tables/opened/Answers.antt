@@ -2,7 +2,7 @@ use Rattle.std.proofs.Common.{◌∙◌, ap, sym}
 use Rattle.std.proofs.lemmas.Result.{MatchResult-weaker, on_ok_weaker}
 use Rattle.pulsar_calls.specs.Content.{asked}
 use Rattle.pulsar_consumer_table.specs.Consumers as consumer
-use Rattle.pulsar_tables.specs.Producers.{opened_on}
+use Rattle.pulsar_producer_table.specs.Producers.{opened_on}
 use Rattle.pulsar_acts.specs.Tables.{view_of}
 use Rattle.pulsar_acts.proofs.tables.Tables.opened.Goals as goal
 

@@ -1,6 +1,6 @@
 use Rattle.std.proofs.Common.{◌∙◌, ap}
 use Rattle.pulsar_consumer_table.specs.Consumers as consumer
-use Rattle.pulsar_tables.specs.Producers.{names_in}
+use Rattle.pulsar_producer_table.specs.Producers.{names_in}
 use Rattle.pulsar_acts.specs.Tables.{view_of}
 use Rattle.pulsar_acts.proofs.tables.Tables.raw.Goals as goal
 

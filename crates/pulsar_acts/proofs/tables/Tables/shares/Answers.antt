@@ -5,8 +5,8 @@ use Rattle.std.proofs.lemmas.List.{length_push, map-id}
 use Rattle.pulsar_messages.specs.Content.{message_content}
 use Rattle.pulsar_calls.specs.declared.act.Act.TheVariants.{Starts}
 use Rattle.pulsar_calls.specs.declared.act.Who.TheVariants.{Call}
-use Rattle.pulsar_tables.specs.Kept.{producers_of}
-use Rattle.pulsar_tables.specs.Producers.{all_routed, routed}
+use Rattle.pulsar_producer_table.specs.KeptProducers.{producers_of}
+use Rattle.pulsar_producer_table.specs.Producers.{all_routed, routed}
 use Rattle.pulsar_calls.specs.Content.{next_advice}
 use Rattle.pulsar_tables.specs.Rules.{sends_as, share, shares_of}
 use Rattle.pulsar_acts.specs.Tables.{chosen_of, view_of}

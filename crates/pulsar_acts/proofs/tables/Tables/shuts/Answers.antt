@@ -4,7 +4,7 @@ use Rattle.std.proofs.lemmas.Result.{on_ok_weaker}
 use Rattle.pulsar_producer.specs.declared.deed.News.TheVariants.{Done}
 use Rattle.pulsar_run.specs.Order.{put_all}
 use Rattle.pulsar_procedures.specs.Plan.{closed_notice}
-use Rattle.pulsar_tables.specs.Producers.{shut}
+use Rattle.pulsar_producer_table.specs.Producers.{shut}
 use Rattle.pulsar_tables.specs.Rules.{below, grants}
 use Rattle.pulsar_agenda.specs.Run.{Agenda}
 use Rattle.pulsar_agenda.specs.Agenda.{agenda_of}

@@ -1,7 +1,7 @@
 use Rattle.std.proofs.Common.{◌∙◌, [], ap, sym}
 use Rattle.std.proofs.lemmas.Result.{on_ok_weaker}
 use Rattle.pulsar_producer.specs.Topic.{Takes}
-use Rattle.pulsar_tables.specs.Producers.{changed}
+use Rattle.pulsar_producer_table.specs.Producers.{changed}
 use Rattle.pulsar_agenda.specs.Agenda.{agenda_of}
 use Rattle.pulsar_acts.specs.Tables.{view_of}
 use Rattle.pulsar_calls.specs.Who.{turn_of}

@@ -1,7 +1,7 @@
 use Rattle.std.proofs.Common.{◌∙◌, ◌++◌, ◌∷◌, [], Bor, ap, map, sym}
 use Rattle.pulsar_producer.specs.declared.content.Built.{Built}
 use Rattle.pulsar_tables.specs.Rules.{batches_by}
-use Rattle.pulsar_tables.proofs.Grown.{map_end}
+use Rattle.pulsar_producer_table.proofs.Grown.{map_end}
 use Rattle.pulsar_acts.proofs.tables.batches.batches_from.Goals as goal
 
 pub loop-built-preserved : goal.loop-built-preserved

@@ -4,7 +4,7 @@ use Rattle.pulsar_procedures.specs.Plan.{closed_notice}
 use Rattle.pulsar_tables.specs.Rules.{below}
 use Rattle.pulsar_agenda.specs.Run.{Agenda}
 use Rattle.pulsar_agenda.specs.Agenda.{agenda_of}
-use Rattle.pulsar_tables.proofs.Grown.{map_end}
+use Rattle.pulsar_producer_table.proofs.Grown.{map_end}
 use Rattle.pulsar_acts.proofs.Storing.{put_all_end}
 use Rattle.pulsar_acts.proofs.tables.batches.join_closed.Goals as goal
 

@@ -2,7 +2,7 @@ use Rattle.std.proofs.Common.{◌∙◌, ap, sym, map, take}
 use Rattle.pulsar_calls.specs.Content.{shown}
 use Rattle.pulsar_client.specs.Taken.{drawn_to, ended_in, held_in, left_after}
 use Rattle.pulsar_client.proofs.Answering.{ended_end}
-use Rattle.pulsar_tables.proofs.Grown.{map_more}
+use Rattle.pulsar_producer_table.proofs.Grown.{map_more}
 use Rattle.pulsar_client.proofs.answers.Answers.note.Goals as goal
 
 pub loop-effect-preserved : goal.loop-effect-preserved

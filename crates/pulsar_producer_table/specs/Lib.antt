@@ -1,0 +1,3 @@
+pub mod Producers
+pub mod Notices
+pub mod KeptProducers

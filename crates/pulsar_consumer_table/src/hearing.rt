@@ -11,7 +11,7 @@ ghost use Rattle.pulsar_consumer.specs.declared.polled.Ending.{Ending};
 ghost use Rattle.pulsar_consumer.specs.Topic.{Asks, Ends, Loses, Polls, is_on, resubscribes};
 ghost use Rattle.pulsar_consumer_table.specs.Consumers as meaning;
 ghost use Rattle.pulsar_consumer_table.specs.Consumers.{at_row, flow_at, hears_frame, lives_at, member_after, polled, sought, word_if, word_of_frame};
-ghost use Rattle.pulsar_consumer_table.specs.KeptConsumers.{KeepsAll, KeepsHeard, KeepsListed, is_listed, listed_at, member_in, one_changed, rows_in, some_changed};
+ghost use Rattle.pulsar_consumer_table.specs.KeptConsumers.{Drops, KeepsAll, KeepsHeard, KeepsListed, is_known, is_listed, listed_at, member_in, one_changed, rows_in, some_changed};
 ghost use Rattle.pulsar_calls.specs.Notices.{stopped_one};
 ghost use Rattle.pulsar_consumer_table.specs.Notices.{again, again_at, due_at, polled_due, revived_at, stopped_seekers, word_to};
 
@@ -143,7 +143,8 @@ pub fn leave_all(
     link: u64,
     tickets: &[u64],
 ) -> Result<(), NoMemory>
-    ensures { OnOk result (KeepsHeard heard.old heard.new (rows_in rows.now)) }
+    ensures keeps { OnOk result (KeepsHeard heard.old heard.new (rows_in rows.now)) }
+    ensures drops { OnOk result (Drops tickets.now (λ t. link) (λ t. lives_at link (rows_in rows.now t)) heard.old heard.new) }
 {
     for ticket in tickets {
         leave(heard, rows, link, *ticket)?;
@@ -157,7 +158,8 @@ fn leave(
     link: u64,
     ticket: u64,
 ) -> Result<(), NoMemory>
-    ensures { OnOk result (KeepsHeard heard.old heard.new (rows_in rows.now)) }
+    ensures keeps { OnOk result (KeepsHeard heard.old heard.new (rows_in rows.now)) }
+    ensures drops { OnOk result (Drops (ticket ∷ []) (λ t. link) (λ t. lives_at link (rows_in rows.now t)) heard.old heard.new) }
 {
     if lives_there(rows, ticket, link) {
         return Ok(());
@@ -272,7 +274,8 @@ pub fn prune_each(
     rows: &BTreeMap<u64, ConsumerRow>,
     tickets: &[u64],
 ) -> Result<(), NoMemory>
-    ensures { OnOk result (KeepsListed listing.old listing.new (rows_in rows.now)) }
+    ensures keeps { OnOk result (KeepsListed listing.old listing.new (rows_in rows.now)) }
+    ensures drops { OnOk result (Drops tickets.now (λ t. meaning.number_at (rows_in rows.now t)) (λ t. is_known (meaning.number_at (rows_in rows.now t)) (rows_in rows.now t)) listing.old listing.new) }
 {
     for ticket in tickets {
         prune(listing, rows, number_at(rows, *ticket), *ticket)?;
@@ -347,7 +350,8 @@ pub fn prune_all(
     number: u64,
     tickets: &[u64],
 ) -> Result<(), NoMemory>
-    ensures { OnOk result (KeepsListed listing.old listing.new (rows_in rows.now)) }
+    ensures keeps { OnOk result (KeepsListed listing.old listing.new (rows_in rows.now)) }
+    ensures drops { OnOk result (Drops tickets.now (λ t. number) (λ t. is_known number (rows_in rows.now t)) listing.old listing.new) }
 {
     for ticket in tickets {
         prune(listing, rows, number, *ticket)?;
@@ -362,7 +366,8 @@ fn prune(
     number: u64,
     ticket: u64,
 ) -> Result<(), NoMemory>
-    ensures { OnOk result (KeepsListed listing.old listing.new (rows_in rows.now)) }
+    ensures keeps { OnOk result (KeepsListed listing.old listing.new (rows_in rows.now)) }
+    ensures drops { OnOk result (Drops (ticket ∷ []) (λ t. number) (λ t. is_known number (rows_in rows.now t)) listing.old listing.new) }
 {
     match rows.get(&ticket) {
         Some(row) if row.is_known(number) => Ok(()),

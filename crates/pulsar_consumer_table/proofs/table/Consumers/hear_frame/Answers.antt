@@ -18,9 +18,9 @@ invariant_of-self-2 c =
     record {
       ordered = λ whole. subst (IsStrictlySortedBy nat_cmp) (sym c.in_ok-notices.ensures.tickets) (cs.ordered c.if-self.false);
       listed = λ whole. some_listed cs.listing (rows_in cs.rows) (cs.listed c.if-self.false) c.prune_all.new.listing ts (hears_frame c.args.link c.args.reply)
-          (rows_in c.hear_all.new.rows) (frame_holds c.args.link c.args.reply) c.in_ok-notices.ensures.rows c.in_ok-prune_all.ensures;
+          (rows_in c.hear_all.new.rows) (frame_holds c.args.link c.args.reply) c.in_ok-notices.ensures.rows c.in_ok-prune_all.ensures.keeps;
       lives = λ whole. some_heard cs.heard (rows_in cs.rows) (cs.lives c.if-self.false) c.leave_all.new.heard ts (hears_frame c.args.link c.args.reply)
-          (rows_in c.hear_all.new.rows) (frame_lifeless c.args.link c.args.reply) c.in_ok-notices.ensures.rows c.in_ok-leave_all.ensures;
+          (rows_in c.hear_all.new.rows) (frame_lifeless c.args.link c.args.reply) c.in_ok-notices.ensures.rows c.in_ok-leave_all.ensures.keeps;
     }
 
 pub returns-clause-notices : goal.returns-clause-notices

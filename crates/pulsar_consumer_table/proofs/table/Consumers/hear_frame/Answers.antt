@@ -19,9 +19,9 @@ invariant_of-self-2 c =
     record {
       ordered = λ whole. subst (IsStrictlySortedBy nat_cmp) (sym c.in_ok-notices.ensures.tickets) (cs.ordered c.if-self.false);
       listed = λ whole. some_listed cs.listing (rows_in cs.rows) (cs.listed c.if-self.false) c.prune_all.new.listing ts (hears_frame c.args.link c.args.reply)
-          (rows_in c.hear_all.new.rows) (frame_holds c.args.link c.args.reply) c.in_ok-notices.ensures.rows (drops_keep is_known (rows_in c.hear_all.new.rows) ts (λ t. c.args.number) cs.listing c.prune_all.new.listing c.in_ok-prune_all.ensures);
+          (rows_in c.hear_all.new.rows) (frame_holds c.args.link c.args.reply) c.in_ok-notices.ensures.rows (drops_keep is_known (rows_in c.hear_all.new.rows) c.deref-2.result.now (λ t. c.args.number) cs.listing c.prune_all.new.listing c.in_ok-prune_all.ensures);
       lives = λ whole. some_heard cs.heard (rows_in cs.rows) (cs.lives c.if-self.false) c.leave_all.new.heard ts (hears_frame c.args.link c.args.reply)
-          (rows_in c.hear_all.new.rows) (frame_lifeless c.args.link c.args.reply) c.in_ok-notices.ensures.rows (drops_keep lives_at (rows_in c.hear_all.new.rows) ts (λ t. c.args.link) cs.heard c.leave_all.new.heard c.in_ok-leave_all.ensures);
+          (rows_in c.hear_all.new.rows) (frame_lifeless c.args.link c.args.reply) c.in_ok-notices.ensures.rows (drops_keep lives_at (rows_in c.hear_all.new.rows) c.deref-3.result.now (λ t. c.args.link) cs.heard c.leave_all.new.heard c.in_ok-leave_all.ensures);
     }
 
 pub returns-clause-notices : goal.returns-clause-notices

@@ -8,3 +8,4 @@ pub mod Listed
 pub mod Drawing
 pub mod Retaining
 pub mod Living
+pub mod Dropped

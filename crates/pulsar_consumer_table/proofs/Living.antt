@@ -1,5 +1,5 @@
 -- Who lives on a link, as consumers change: none lives where it did not, but for one that was subscribed there; and whoever lives is listed.
-use Rattle.std.proofs.Common.{◌≡◌, ◌∙◌, ◌++◌, ℕ, ◌==◌, ◌&&◌, ◌||◌, not, sym, ap, subst, refl, Bool, true, false, cond, List, [], ◌∷◌, filter, Option, Some, None, inl, inr}
+use Rattle.std.proofs.Common.{◌≡◌, ◌∙◌, ◌++◌, ℕ, ◌==◌, ◌&&◌, ◌||◌, sym, ap, subst, refl, Bool, true, false, cond, List, [], ◌∷◌, filter, Option, Some, None, inl, inr}
 use Rattle.std.proofs.lemmas.Bool.{cases_Bool, eq-eqb, eqb-true, false≢true, and_from, and_parts, or_right}
 use Rattle.std.specs.BTreeMap.{BTreeMap, get, is_at, keys}
 use Rattle.std.specs.BTreeSet.{BTreeSet}
@@ -198,7 +198,7 @@ pub stopped_nowhere : (l : ℕ) (row : Option Member) → lives_at l (option_map
 stopped_nowhere l None = refl
 stopped_nowhere l (Some m) = refl
 
--- ONE MORE, AND ONE LESS
+-- ONE MORE
 
 module _ (before after : BTreeMap ℕ (BTreeSet ℕ)) (link ticket : ℕ)
     (more : (l t : ℕ) → is_listed t (listed_at after l) ≡ (is_listed t (listed_at before l) || ((l == link) && (t == ticket)))) where
@@ -209,18 +209,6 @@ module _ (before after : BTreeMap ℕ (BTreeSet ℕ)) (link ticket : ℕ)
   listed_there l e =
       more l ticket
       ∙ or_right (is_listed ticket (listed_at before l)) ((l == link) && (ticket == ticket)) (and_from (l == link) (ticket == ticket) (swapped l link ∙ e) (eq-eqb ticket ticket refl))
-
-pub left : (before after : BTreeMap ℕ (BTreeSet ℕ)) (rows : ℕ → Option Member) (link ticket : ℕ) →
-    ((l t : ℕ) → is_listed t (listed_at after l) ≡ (is_listed t (listed_at before l) && not ((l == link) && (t == ticket)))) →
-    lives_at link (rows ticket) ≡ false →
-    KeepsHeard before after rows
-left before after rows link ticket less gone t l k h = less l t ∙ by (l == link) (t == ticket) refl refl
-  where
-    by : (a b : Bool) → (l == link) ≡ a → (t == ticket) ≡ b → (is_listed t (listed_at before l) && not (a && b)) ≡ true
-    by true true e f =
-        absurd (false≢true (sym gone ∙ ap (λ n. lives_at n (rows ticket)) (sym (eqb-true l link e)) ∙ ap (λ u. lives_at l (rows u)) (sym (eqb-true t ticket f)) ∙ k))
-    by true false e f = ap (λ x. x && true) h
-    by false b e f = ap (λ x. x && true) h
 
 -- one lives where its link is
 pub where_it_lives : (l : ℕ) (row : Option Member) → lives_at l row ≡ topic.is_on l (link_at row)

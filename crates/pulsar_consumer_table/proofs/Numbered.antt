@@ -1,6 +1,6 @@
 -- Who is to be found by a number, as consumers change: none is so again that was not, and each that is stays listed under it.
 use Rattle.std.proofs.Common.{◌≡◌, ◌∙◌, ℕ, ◌==◌, ◌&&◌, ◌||◌, not, sym, ap, refl, Bool, true, false, cond, List, [], ◌∷◌, Option, Some, None, inl, inr}
-use Rattle.std.proofs.lemmas.Bool.{cases_Bool, eqb-true, false≢true, and_from, and_parts, or_right}
+use Rattle.std.proofs.lemmas.Bool.{cases_Bool, false≢true, and_from, and_parts, or_right}
 use Rattle.std.specs.BTreeMap.{BTreeMap}
 use Rattle.std.specs.BTreeSet.{BTreeSet}
 use Rattle.std.specs.Option.{is_some, option_map, option_or}
@@ -191,22 +191,6 @@ stopped_none n (Some m) = ap (λ b. (m.seen.number == n) && b) (by m.seen.ended)
     none_and : (b : Bool) → (b && false) ≡ false
     none_and true = refl
     none_and false = refl
-
--- where one is listed no more that isn't to be found
-pub pruned : (before after : BTreeMap ℕ (BTreeSet ℕ)) (rows : ℕ → Option Member) (number ticket : ℕ) →
-    ((n t : ℕ) → is_listed t (listed_at after n) ≡ (is_listed t (listed_at before n) && not ((n == number) && (t == ticket)))) →
-    is_known number (rows ticket) ≡ false →
-    KeepsListed before after rows
-pruned before after rows number ticket less gone t n k h =
-    less n t ∙ ap (λ b. b && not ((n == number) && (t == ticket))) h ∙ by (n == number) (t == ticket) refl refl
-  where
-    by : (a b : Bool) → (n == number) ≡ a → (t == ticket) ≡ b → not (a && b) ≡ true
-    by true true e f = absurd (false≢true (sym gone
-        ∙ ap (λ m. is_known m (rows ticket)) (sym (eqb-true n number e))
-        ∙ ap (λ u. is_known n (rows u)) (sym (eqb-true t ticket f))
-        ∙ k))
-    by true false e f = refl
-    by false b e f = refl
 
 -- one more, who is listed under its number
 pub joined_listed : (before after : BTreeMap ℕ (BTreeSet ℕ)) (rows rows' : ℕ → Option Member) (ticket : ℕ) (m : Member) →

@@ -66,3 +66,9 @@ KeepsHeard before after rows =
 -- where one more is listed, nobody is listed less
 abbrev pub KeepsAll : (before after : BTreeMap ℕ (BTreeSet ℕ)) → Type 0
 KeepsAll before after = (t l : ℕ) → is_listed t (listed_at before l) ≡ true → is_listed t (listed_at after l) ≡ true
+
+-- of these tickets, those that are not kept are listed no more at their place, and all others stay listed as they were
+abbrev pub Drops : (tickets : List ℕ) (place : ℕ → ℕ) (is_kept : ℕ → Bool) (before after : BTreeMap ℕ (BTreeSet ℕ)) → Type 0
+Drops tickets place is_kept before after =
+    (t n : ℕ) →
+    is_listed t (listed_at after n) ≡ (is_listed t (listed_at before n) && not (is_listed t tickets && ((n == place t) && not (is_kept t))))

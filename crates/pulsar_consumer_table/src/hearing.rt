@@ -11,7 +11,7 @@ ghost use Rattle.pulsar_consumer.specs.declared.polled.Ending.{Ending};
 ghost use Rattle.pulsar_consumer.specs.Topic.{Asks, Ends, Loses, Polls, is_on, resubscribes};
 ghost use Rattle.pulsar_consumer_table.specs.Consumers as meaning;
 ghost use Rattle.pulsar_consumer_table.specs.Consumers.{at_row, flow_at, hears_frame, lives_at, member_after, polled, sought, word_if, word_of_frame};
-ghost use Rattle.pulsar_consumer_table.specs.KeptConsumers.{KeepsAll, KeepsHeard, KeepsListed, is_listed, listed_at, member_in, one_changed, rows_in, some_changed};
+ghost use Rattle.pulsar_consumer_table.specs.KeptConsumers.{Drops, KeepsAll, is_known, is_listed, listed_at, member_in, one_changed, rows_in, some_changed};
 ghost use Rattle.pulsar_calls.specs.Notices.{stopped_one};
 ghost use Rattle.pulsar_consumer_table.specs.Notices.{again, again_at, due_at, polled_due, revived_at, stopped_seekers, word_to};
 
@@ -143,7 +143,7 @@ pub fn leave_all(
     link: u64,
     tickets: &[u64],
 ) -> Result<(), NoMemory>
-    ensures { OnOk result (KeepsHeard heard.old heard.new (rows_in rows.now)) }
+    ensures { OnOk result (Drops tickets.now (λ t. link) (λ t. lives_at link (rows_in rows.now t)) heard.old heard.new) }
 {
     for ticket in tickets {
         leave(heard, rows, link, *ticket)?;
@@ -157,7 +157,7 @@ fn leave(
     link: u64,
     ticket: u64,
 ) -> Result<(), NoMemory>
-    ensures { OnOk result (KeepsHeard heard.old heard.new (rows_in rows.now)) }
+    ensures { OnOk result (Drops (ticket ∷ []) (λ t. link) (λ t. lives_at link (rows_in rows.now t)) heard.old heard.new) }
 {
     if lives_there(rows, ticket, link) {
         return Ok(());
@@ -272,11 +272,23 @@ pub fn prune_each(
     rows: &BTreeMap<u64, ConsumerRow>,
     tickets: &[u64],
 ) -> Result<(), NoMemory>
-    ensures { OnOk result (KeepsListed listing.old listing.new (rows_in rows.now)) }
+    ensures { OnOk result (Drops tickets.now (λ t. meaning.number_at (rows_in rows.now t)) (λ t. is_known (meaning.number_at (rows_in rows.now t)) (rows_in rows.now t)) listing.old listing.new) }
 {
     for ticket in tickets {
-        prune(listing, rows, number_at(rows, *ticket), *ticket)?;
+        prune_one(listing, rows, *ticket)?;
     }
+    Ok(())
+}
+
+/// One that has ended is listed no more, whatever its number.
+pub fn prune_one(
+    listing: &mut Listing,
+    rows: &BTreeMap<u64, ConsumerRow>,
+    ticket: u64,
+) -> Result<(), NoMemory>
+    ensures { OnOk result (Drops (ticket ∷ []) (λ t. meaning.number_at (rows_in rows.now t)) (λ t. is_known (meaning.number_at (rows_in rows.now t)) (rows_in rows.now t)) listing.old listing.new) }
+{
+    prune(listing, rows, number_at(rows, ticket), ticket)?;
     Ok(())
 }
 
@@ -347,7 +359,7 @@ pub fn prune_all(
     number: u64,
     tickets: &[u64],
 ) -> Result<(), NoMemory>
-    ensures { OnOk result (KeepsListed listing.old listing.new (rows_in rows.now)) }
+    ensures { OnOk result (Drops tickets.now (λ t. number) (λ t. is_known number (rows_in rows.now t)) listing.old listing.new) }
 {
     for ticket in tickets {
         prune(listing, rows, number, *ticket)?;
@@ -362,11 +374,21 @@ fn prune(
     number: u64,
     ticket: u64,
 ) -> Result<(), NoMemory>
-    ensures { OnOk result (KeepsListed listing.old listing.new (rows_in rows.now)) }
+    ensures { OnOk result (Drops (ticket ∷ []) (λ t. number) (λ t. is_known number (rows_in rows.now t)) listing.old listing.new) }
+{
+    if is_known_at(rows, ticket, number) {
+        return Ok(());
+    }
+    unlist(listing, number, ticket)?;
+    Ok(())
+}
+
+fn is_known_at(rows: &BTreeMap<u64, ConsumerRow>, ticket: u64, number: u64) -> bool
+    ensures { result ≡ is_known number (rows_in rows.now ticket) }
 {
     match rows.get(&ticket) {
-        Some(row) if row.is_known(number) => Ok(()),
-        _ => unlist(listing, number, ticket),
+        Some(row) => row.is_known(number),
+        None => false,
     }
 }
 
@@ -471,14 +493,12 @@ fn look_again(seekers: &[Who], notices: &mut Vec<Notice>) -> Result<(), NoMemory
 pub fn fail_at(
     alloc: Global,
     rows: &mut BTreeMap<u64, ConsumerRow>,
-    listing: &mut Listing,
     ticket: u64,
     refusal: Refusal,
 ) -> Result<Vec<Notice>, NoMemory>
     ensures notices { IfOk result (λ ns. ns.items ≡ again_at (rows_in rows.old ticket)) }
     ensures rows { OnOk result ((t : ℕ) → rows_in rows.new t ≡ one_changed ticket (meaning.failed refusal) (rows_in rows.old) t) }
     ensures tickets { OnOk result (keys rows.new ≡ keys rows.old) }
-    ensures listed { OnOk result (KeepsListed listing.old listing.new (rows_in rows.new)) }
 {
     let mut notices = Vec::new(alloc);
     let Some(row) = rows.get_mut(&ticket) else {
@@ -486,7 +506,6 @@ pub fn fail_at(
     };
     look_again(&row.seekers, &mut notices)?;
     row.fail(refusal)?;
-    prune(listing, rows, number_at(rows, ticket), ticket)?;
     Ok(notices)
 }
 

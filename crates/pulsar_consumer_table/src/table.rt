@@ -16,7 +16,7 @@ ghost use Rattle.pulsar_consumer_table.specs.Notices.{again_at, heard_at, polled
 
 use crate::hearing::{
     close_all, fail_at, hear_all, leave_all, list_living, lives_there, living, living_on, lose_all,
-    poll_at, prune_all, prune_each, revive_at, seek_at, stop_all, stop_seekers, take_flow_at,
+    poll_at, prune_all, prune_each, prune_one, revive_at, seek_at, stop_all, stop_seekers, take_flow_at,
 };
 use crate::listing::{Listing, list, listed};
 use crate::numbers::{Numbering, Numbers};
@@ -318,13 +318,8 @@ impl Consumers {
             return Err(NoMemory);
         }
         self.failed = true;
-        let notices = fail_at(
-            self.alloc,
-            &mut self.rows,
-            &mut self.listing,
-            ticket,
-            failure,
-        )?;
+        let notices = fail_at(self.alloc, &mut self.rows, ticket, failure)?;
+        prune_one(&mut self.listing, &self.rows, ticket)?;
         self.failed = false;
         Ok(notices)
     }

@@ -1,9 +1,14 @@
 use Rattle.std.proofs.Common.{◌∙◌, sym}
+use Rattle.pulsar_consumer_table.specs.Consumers.{lives_at}
 use Rattle.pulsar_consumer_table.specs.KeptConsumers.{rows_in}
-use Rattle.pulsar_consumer_table.proofs.Living.{left}
+use Rattle.pulsar_consumer_table.proofs.Dropped.{dropped_one, kept_one}
 use Rattle.pulsar_consumer_table.proofs.hearing.leave.Goals as goal
+
+pub returns-then-lives_there : goal.returns-then-lives_there
+returns-then-lives_there c =
+    kept_one (λ t. c.args.link) (λ t. lives_at c.args.link (rows_in c.args.rows.now t)) c.args.ticket c.args.heard.now (sym c.lives_there.ensures ∙ c.if-lives_there.true)
 
 pub returns : goal.returns
 returns c =
-    left c.args.heard.now c.unlist.new.listing (rows_in c.args.rows.now) c.args.link c.args.ticket c.in_ok-unlist.ensures
+    dropped_one (λ t. c.args.link) (λ t. lives_at c.args.link (rows_in c.args.rows.now t)) c.args.ticket c.args.heard.now c.unlist.new.listing c.in_ok-unlist.ensures
     (sym c.lives_there.ensures ∙ c.if-lives_there.false)

@@ -4,9 +4,10 @@ use Rattle.std.specs.Ordering.{nat_cmp}
 use Rattle.pulsar_calls.specs.declared.act.Word.TheVariants.{Over}
 use Rattle.pulsar_consumer.specs.Topic.{Ends}
 use Rattle.pulsar_consumer.specs.declared.polled.Ending.TheVariants.{Closed}
-use Rattle.pulsar_consumer_table.specs.Consumers.{closes, lives_with, member_after, word_if, word_of_close}
-use Rattle.pulsar_consumer_table.specs.KeptConsumers.{rows_in}
+use Rattle.pulsar_consumer_table.specs.Consumers.{closes, lives_at, lives_with, member_after, word_if, word_of_close}
+use Rattle.pulsar_consumer_table.specs.KeptConsumers.{is_known, rows_in}
 use Rattle.pulsar_consumer_table.specs.Notices.{word_to}
+use Rattle.pulsar_consumer_table.proofs.Dropped.{drops_keep}
 use Rattle.pulsar_consumer_table.proofs.Finding.{found_change, found_give, living_found}
 use Rattle.pulsar_consumer_table.proofs.Heard.{closed_by, consumers_are, none_closed, same_closed}
 use Rattle.pulsar_consumer_table.proofs.Living.{ends_lifeless, some_heard}
@@ -19,9 +20,9 @@ invariant_of-self-2 c =
     record {
       ordered = λ whole. subst (IsStrictlySortedBy nat_cmp) (sym c.in_ok-notices.ensures.tickets) (cs.ordered c.if-self.false);
       listed = λ whole. some_listed cs.listing (rows_in cs.rows) (cs.listed c.if-self.false) c.prune_all.new.listing c.deref.result.now (member_after (Ends Closed))
-          (rows_in c.close_all.new.rows) (act_holds (Ends Closed)) c.in_ok-notices.ensures.rows c.in_ok-prune_all.ensures;
+          (rows_in c.close_all.new.rows) (act_holds (Ends Closed)) c.in_ok-notices.ensures.rows (drops_keep is_known (rows_in c.close_all.new.rows) c.deref-2.result.now (λ t. c.args.number) cs.listing c.prune_all.new.listing c.in_ok-prune_all.ensures);
       lives = λ whole. some_heard cs.heard (rows_in cs.rows) (cs.lives c.if-self.false) c.leave_all.new.heard c.deref.result.now (member_after (Ends Closed))
-          (rows_in c.close_all.new.rows) (ends_lifeless Closed) c.in_ok-notices.ensures.rows c.in_ok-leave_all.ensures;
+          (rows_in c.close_all.new.rows) (ends_lifeless Closed) c.in_ok-notices.ensures.rows (drops_keep lives_at (rows_in c.close_all.new.rows) c.deref-3.result.now (λ t. c.args.link) cs.heard c.leave_all.new.heard c.in_ok-leave_all.ensures);
     }
 
 pub returns-clause-notices : goal.returns-clause-notices

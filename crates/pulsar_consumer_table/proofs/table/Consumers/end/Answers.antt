@@ -3,9 +3,10 @@ use Rattle.std.specs.List.Sorted.{IsStrictlySortedBy}
 use Rattle.std.specs.Ordering.{nat_cmp}
 use Rattle.pulsar_calls.specs.declared.act.Word.TheVariants.{Lost}
 use Rattle.pulsar_consumer.specs.Topic.{Loses, resubscribes}
-use Rattle.pulsar_consumer_table.specs.Consumers.{lives_at, member_after, word_if}
-use Rattle.pulsar_consumer_table.specs.KeptConsumers.{rows_in}
+use Rattle.pulsar_consumer_table.specs.Consumers.{lives_at, member_after, number_at, word_if}
+use Rattle.pulsar_consumer_table.specs.KeptConsumers.{is_known, rows_in}
 use Rattle.pulsar_consumer_table.specs.Notices.{word_to}
+use Rattle.pulsar_consumer_table.proofs.Dropped.{drops_keep}
 use Rattle.pulsar_consumer_table.proofs.Finding.{found_change, found_give}
 use Rattle.pulsar_consumer_table.proofs.Heard.{consumers_are, lost_by, none_lost}
 use Rattle.pulsar_consumer_table.proofs.Living.{ended_heard, found_living}
@@ -21,7 +22,7 @@ invariant_of-self-2 c =
     record {
       ordered = λ whole. subst (IsStrictlySortedBy nat_cmp) (sym c.in_ok-notices.ensures.tickets) (cs.ordered c.if-self.false);
       listed = λ whole. some_listed cs.listing (rows_in cs.rows) (cs.listed c.if-self.false) c.prune_each.new.listing c.deref.result.now (member_after (Loses l))
-          (rows_in c.lose_all.new.rows) (act_holds (Loses l)) c.in_ok-notices.ensures.rows c.in_ok-prune_each.ensures;
+          (rows_in c.lose_all.new.rows) (act_holds (Loses l)) c.in_ok-notices.ensures.rows (drops_keep is_known (rows_in c.lose_all.new.rows) c.deref-2.result.now (λ t. number_at (rows_in c.lose_all.new.rows t)) cs.listing c.prune_each.new.listing c.in_ok-prune_each.ensures);
       lives = λ whole. ended_heard cs.heard (rows_in cs.rows) (cs.lives c.if-self.false) c.remove.new.self l (rows_in c.lose_all.new.rows)
           (found_change cs.rows (lives_at l) ts found (member_after (Loses l)) (member_after (Loses l)) (rows_in c.lose_all.new.rows) (lost_by l) c.in_ok-notices.ensures.rows)
           c.remove.ensures.updates.0;

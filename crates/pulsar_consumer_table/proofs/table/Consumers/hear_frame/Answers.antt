@@ -2,9 +2,10 @@ use Rattle.std.proofs.Common.{◌∙◌, refl, subst, sym}
 use Rattle.std.specs.List.Sorted.{IsStrictlySortedBy}
 use Rattle.std.specs.Ordering.{nat_cmp}
 use Rattle.pulsar_calls.specs.declared.act.Arrival.TheVariants.{Gives}
-use Rattle.pulsar_consumer_table.specs.Consumers.{hears, hears_frame, lives_with, word_of_frame}
-use Rattle.pulsar_consumer_table.specs.KeptConsumers.{rows_in}
+use Rattle.pulsar_consumer_table.specs.Consumers.{hears, hears_frame, lives_at, lives_with, word_of_frame}
+use Rattle.pulsar_consumer_table.specs.KeptConsumers.{is_known, rows_in}
 use Rattle.pulsar_consumer_table.specs.Notices.{heard_at, word_to}
+use Rattle.pulsar_consumer_table.proofs.Dropped.{drops_keep}
 use Rattle.pulsar_consumer_table.proofs.Finding.{found_change, found_give, living_found}
 use Rattle.pulsar_consumer_table.proofs.Heard.{consumers_are, heard_by, none_told, same_told}
 use Rattle.pulsar_consumer_table.proofs.Living.{frame_lifeless, some_heard}
@@ -18,9 +19,9 @@ invariant_of-self-2 c =
     record {
       ordered = λ whole. subst (IsStrictlySortedBy nat_cmp) (sym c.in_ok-notices.ensures.tickets) (cs.ordered c.if-self.false);
       listed = λ whole. some_listed cs.listing (rows_in cs.rows) (cs.listed c.if-self.false) c.prune_all.new.listing ts (hears_frame c.args.link c.args.reply)
-          (rows_in c.hear_all.new.rows) (frame_holds c.args.link c.args.reply) c.in_ok-notices.ensures.rows c.in_ok-prune_all.ensures;
+          (rows_in c.hear_all.new.rows) (frame_holds c.args.link c.args.reply) c.in_ok-notices.ensures.rows (drops_keep is_known (rows_in c.hear_all.new.rows) c.deref-2.result.now (λ t. c.args.number) cs.listing c.prune_all.new.listing c.in_ok-prune_all.ensures);
       lives = λ whole. some_heard cs.heard (rows_in cs.rows) (cs.lives c.if-self.false) c.leave_all.new.heard ts (hears_frame c.args.link c.args.reply)
-          (rows_in c.hear_all.new.rows) (frame_lifeless c.args.link c.args.reply) c.in_ok-notices.ensures.rows c.in_ok-leave_all.ensures;
+          (rows_in c.hear_all.new.rows) (frame_lifeless c.args.link c.args.reply) c.in_ok-notices.ensures.rows (drops_keep lives_at (rows_in c.hear_all.new.rows) c.deref-3.result.now (λ t. c.args.link) cs.heard c.leave_all.new.heard c.in_ok-leave_all.ensures);
     }
 
 pub returns-clause-notices : goal.returns-clause-notices

@@ -16,7 +16,8 @@ ghost use Rattle.pulsar_consumer_table.specs.Notices.{again_at, heard_at, polled
 
 use crate::hearing::{
     close_all, fail_at, hear_all, leave_all, list_living, lives_there, living, living_on, lose_all,
-    poll_at, prune_all, prune_each, prune_one, revive_at, seek_at, stop_all, stop_seekers, take_flow_at,
+    poll_at, prune_all, prune_each, prune_one, revive_at, seek_at, stop_all, stop_seekers,
+    take_flow_at,
 };
 use crate::listing::{Listing, list, listed};
 use crate::numbers::{Numbering, Numbers};

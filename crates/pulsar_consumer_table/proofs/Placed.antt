@@ -67,13 +67,14 @@ module _ (test : ℕ → Option Member → Bool) where
     one_placed ticket f after stays is t n = placed t n ∙ sym (ap (test n) (is t) ∙ stays_so f stays (t == ticket) n (rows t))
 
     -- where some are changed, each at its place, and those are listed there no more that do not pass the test any longer
-    pub some_placed : (index' : BTreeMap ℕ (BTreeSet ℕ)) (ts : List ℕ) (place : ℕ → ℕ) (f : Member → Member) (after : ℕ → Option Member) → Holds f →
+    pub some_placed : (index' : BTreeMap ℕ (BTreeSet ℕ)) (ts us : List ℕ) → us ≡ ts → (place : ℕ → ℕ) (f : Member → Member) (after : ℕ → Option Member) → Holds f →
         ((t : ℕ) → after t ≡ some_changed ts f rows t) →
         ((t n : ℕ) → is_listed t ts ≡ true → test n (rows t) ≡ true → (n == place t) ≡ true) →
-        Drops ts place (λ t. test (place t) (after t)) index index' →
+        Drops us place (λ t. test (place t) (after t)) index index' →
         IsPlaced index' after
-    some_placed index' ts place f after holds is there drops t n =
+    some_placed index' ts us same place f after holds is there drops t n =
         drops t n
+        ∙ ap (λ vs. is_listed t (listed_at index n) && not (is_listed t vs && ((n == place t) && not (test (place t) (after t))))) same
         ∙ ap (λ b. b && not (is_listed t ts && ((n == place t) && not (test (place t) (after t))))) (placed t n)
         ∙ left (test n (rows t)) (test n (after t)) (is_listed t ts) (n == place t) (test (place t) (after t))
         (λ e. sym (ap (test n) (is t ∙ ap (λ b. cond b (option_map f (rows t)) (rows t)) e)))

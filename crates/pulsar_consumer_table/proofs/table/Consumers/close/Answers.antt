@@ -23,9 +23,9 @@ invariant_of-self-2 c =
     let found = living_found n l cs.listing (rows_in cs.rows) (cs.listed c.if-self.false) ts (c.deref.ensures.value ∙ c.in_ok-tickets.ensures.tickets) in
     record {
       ordered = λ whole. subst (IsStrictlySortedBy nat_cmp) (sym c.in_ok-notices.ensures.tickets) (cs.ordered c.if-self.false);
-      listed = λ whole. some_placed is_known cs.listing (rows_in cs.rows) (cs.listed c.if-self.false) c.prune_all.new.listing ts (λ t. n) (member_after (Ends Closed))
+      listed = λ whole. some_placed is_known cs.listing (rows_in cs.rows) (cs.listed c.if-self.false) c.prune_all.new.listing ts c.deref-2.result.now (c.deref-2.ensures.value ∙ sym c.deref.ensures.value) (λ t. n) (member_after (Ends Closed))
           (rows_in c.close_all.new.rows) (act_holds (Ends Closed)) c.in_ok-notices.ensures.rows (λ t k h. known_place k n l (rows_in cs.rows t) (sym (found t) ∙ h)) c.in_ok-prune_all.ensures;
-      lives = λ whole. some_placed lives_at cs.heard (rows_in cs.rows) (cs.lives c.if-self.false) c.leave_all.new.heard ts (λ t. l) (member_after (Ends Closed))
+      lives = λ whole. some_placed lives_at cs.heard (rows_in cs.rows) (cs.lives c.if-self.false) c.leave_all.new.heard ts c.deref-3.result.now (c.deref-3.ensures.value ∙ sym c.deref.ensures.value) (λ t. l) (member_after (Ends Closed))
           (rows_in c.close_all.new.rows) (ends_lifeless Closed) c.in_ok-notices.ensures.rows (λ t k h. living_place k n l (rows_in cs.rows t) (sym (found t) ∙ h)) c.in_ok-leave_all.ensures;
     }
 

@@ -25,7 +25,7 @@ invariant_of-self-2 c =
         ap number_at (c.in_ok-notices.ensures.rows t) ∙ number_kept f (λ m. same_number (Loses l) m.seen) (is_listed t ts) (rows_in cs.rows t) in
     record {
       ordered = λ whole. subst (IsStrictlySortedBy nat_cmp) (sym c.in_ok-notices.ensures.tickets) (cs.ordered c.if-self.false);
-      listed = λ whole. some_placed is_known cs.listing (rows_in cs.rows) (cs.listed c.if-self.false) c.prune_each.new.listing ts (λ t. number_at (after t)) f
+      listed = λ whole. some_placed is_known cs.listing (rows_in cs.rows) (cs.listed c.if-self.false) c.prune_each.new.listing ts c.deref-2.result.now (c.deref-2.ensures.value ∙ sym c.deref.ensures.value) (λ t. number_at (after t)) f
           after (act_holds (Loses l)) c.in_ok-notices.ensures.rows (λ t n h known. ap (λ k. n == k) (number t) ∙ own_number n (rows_in cs.rows t) known) c.in_ok-prune_each.ensures;
       lives = λ whole. ended_heard cs.heard (rows_in cs.rows) (cs.lives c.if-self.false) c.remove.new.self l (rows_in c.lose_all.new.rows)
           (found_change cs.rows (lives_at l) ts found (member_after (Loses l)) (member_after (Loses l)) (rows_in c.lose_all.new.rows) (lost_by l) c.in_ok-notices.ensures.rows)

@@ -8,7 +8,7 @@ use Rattle.pulsar_consumer.specs.Topic as topic
 use Rattle.pulsar_consumer.specs.Topic.{Polls, Asks, Seen, counts_first, first_of, is_ended, link_of, lives_on}
 use Rattle.pulsar_consumer_table.specs.declared.row.Sought.{Sought}
 use Rattle.pulsar_consumer_table.specs.declared.row.Sought.TheVariants.{Found, Gone, Later}
-use Rattle.pulsar_consumer_table.specs.Consumers.{Member, lives_at, member_after, revived, seeks, sought, waits_so}
+use Rattle.pulsar_consumer_table.specs.Consumers.{lives_at, member_after, revived, seeks, sought, waits_so}
 use Rattle.pulsar_consumer_table.specs.KeptConsumers.{is_known}
 use Rattle.pulsar_consumer_table.proofs.Living.{giving_link, same_link}
 use Rattle.pulsar_consumer_table.proofs.Numbered.{same_number, there}

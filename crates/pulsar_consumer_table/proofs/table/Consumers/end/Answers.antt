@@ -22,7 +22,7 @@ invariant_of-self-2 c =
     let f = member_after (Loses l) in
     let after = rows_in c.lose_all.new.rows in
     let number : (t : ℕ) → number_at (after t) ≡ number_at (rows_in cs.rows t) = λ t.
-        ap number_at (c.in_ok-notices.ensures.rows t) ∙ number_kept f (λ m. same_number (Loses l) m.seen) (is_listed t ts) (rows_in cs.rows t) in
+    ap number_at (c.in_ok-notices.ensures.rows t) ∙ number_kept f (λ m. same_number (Loses l) m.seen) (is_listed t ts) (rows_in cs.rows t) in
     record {
       ordered = λ whole. subst (IsStrictlySortedBy nat_cmp) (sym c.in_ok-notices.ensures.tickets) (cs.ordered c.if-self.false);
       listed = λ whole. some_placed is_known cs.listing (rows_in cs.rows) (cs.listed c.if-self.false) c.prune_each.new.listing ts c.deref-2.result.now (c.deref-2.ensures.value ∙ sym c.deref.ensures.value) (λ t. number_at (after t)) f

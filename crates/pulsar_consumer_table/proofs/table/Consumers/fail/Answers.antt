@@ -15,7 +15,7 @@ invariant_of-self-2 c =
     let done = c.in_ok-notices.ensures in
     let after = rows_in c.fail_at.new.rows in
     let others : (t : ℕ) → (t == c.args.ticket) ≡ false → after t ≡ rows_in cs.rows t =
-        λ t e. done.rows t ∙ ap (λ b. cond b (option_map (failed c.args.failure) (rows_in cs.rows t)) (rows_in cs.rows t)) e in
+    λ t e. done.rows t ∙ ap (λ b. cond b (option_map (failed c.args.failure) (rows_in cs.rows t)) (rows_in cs.rows t)) e in
     record {
       ordered = λ whole. subst (IsStrictlySortedBy nat_cmp) (sym done.tickets) (cs.ordered c.if-self.false);
       listed = λ whole. moved_placed is_known cs.listing (rows_in cs.rows) (cs.listed c.if-self.false) known_at known_by c.relist.new.listing c.args.ticket after others

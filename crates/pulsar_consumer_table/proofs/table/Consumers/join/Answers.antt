@@ -16,8 +16,8 @@ invariant_of-self-2 c =
     let cs = c.args.self.now in
     let new = c.insert.new.self in
     let others : (t : ℕ) → (t == c.args.ticket) ≡ false → rows_in new t ≡ rows_in cs.rows t = λ t e.
-        put c.args.ticket t c.args.row (get nat_cmp cs.rows t) (get nat_cmp new t) (c.in_ok-insert.ensures.updates.0 t)
-        ∙ ap (λ b. cond b (Some (member_in c.args.row)) (rows_in cs.rows t)) e in
+    put c.args.ticket t c.args.row (get nat_cmp cs.rows t) (get nat_cmp new t) (c.in_ok-insert.ensures.updates.0 t)
+    ∙ ap (λ b. cond b (Some (member_in c.args.row)) (rows_in cs.rows t)) e in
     record {
       ordered = λ whole. c.insert.ensures.ordered;
       listed = λ whole. moved_placed is_known cs.listing (rows_in cs.rows) (cs.listed c.if-self.false) known_at known_by c.relist.new.listing c.args.ticket (rows_in new) others

@@ -1,10 +1,9 @@
 -- Of some tickets, those that are not kept are listed no more at their place.
-use Rattle.std.proofs.Common.{◌≡◌, ◌∙◌, ℕ, ◌==◌, ◌&&◌, ◌||◌, not, sym, ap, refl, Bool, true, false, List, [], ◌∷◌, ◌++◌, Option}
+use Rattle.std.proofs.Common.{◌≡◌, ◌∙◌, ℕ, ◌==◌, ◌&&◌, ◌||◌, not, sym, ap, refl, Bool, true, false, List, [], ◌∷◌, ◌++◌}
 use Rattle.std.proofs.lemmas.Bool.{eqb-true, false≢true}
 use Rattle.std.proofs.lemmas.List.Folds.{list_any-append}
 use Rattle.std.specs.BTreeMap.{BTreeMap}
 use Rattle.std.specs.BTreeSet.{BTreeSet}
-use Rattle.pulsar_consumer_table.specs.Consumers.{Member}
 use Rattle.pulsar_consumer_table.specs.KeptConsumers.{Drops, is_listed, listed_at}
 use Rattle.pulsar_consumer_table.proofs.Places.{swapped}
 
@@ -77,15 +76,3 @@ same_place place place' is_kept is_kept' u there kept before after drops t n =
         ap (λ k. (n == k) && not (is_kept t)) (ap place (sym same) ∙ there ∙ ap place' same)
         ∙ ap (λ b. (n == place' t) && not b) (ap is_kept (sym same) ∙ kept ∙ ap is_kept' same)
     by false e = refl
-
--- those that are to be found stay listed
-pub drops_keep : (test : ℕ → Option Member → Bool) (rows : ℕ → Option Member) (ts : List ℕ) (place : ℕ → ℕ) (before after : BTreeMap ℕ (BTreeSet ℕ)) →
-    Drops ts place (λ t. test (place t) (rows t)) before after →
-    (t n : ℕ) → test n (rows t) ≡ true → is_listed t (listed_at before n) ≡ true → is_listed t (listed_at after n) ≡ true
-drops_keep test rows ts place before after drops t n found h =
-    drops t n ∙ ap (λ b. b && not (is_listed t ts && ((n == place t) && not (test (place t) (rows t))))) h ∙ by (is_listed t ts) (n == place t) refl
-  where
-    by : (a b : Bool) → (n == place t) ≡ b → not (a && (b && not (test (place t) (rows t)))) ≡ true
-    by false b e = refl
-    by true false e = refl
-    by true true e = ap (λ b. not (not b)) (ap (λ k. test k (rows t)) (sym (eqb-true n (place t) e)) ∙ found)

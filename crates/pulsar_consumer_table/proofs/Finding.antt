@@ -91,7 +91,7 @@ pub living_found : (n l : ℕ) (listing : BTreeMap ℕ (BTreeSet ℕ)) (rows : �
 living_found n l listing rows listed ts is t =
     ap (is_listed t) is
     ∙ filtered (λ u. lives_with n l (rows u)) (listed_at listing n) t
-    ∙ both (is_listed t (listed_at listing n)) (lives_with n l (rows t)) (λ y. listed t n (is_there n l (rows t) y))
+    ∙ both (is_listed t (listed_at listing n)) (lives_with n l (rows t)) (λ y. listed t n ∙ is_there n l (rows t) y)
 
 -- on a link
 pub there_is : (l : ℕ) (row : Option Member) → lives_at l row ≡ true → is_some row ≡ true
@@ -144,13 +144,13 @@ one_lives l rows = (
 pub having : (n : ℕ) (listing : BTreeMap ℕ (BTreeSet ℕ)) (rows : BTreeMap ℕ ConsumerRow) → AreListed listing (rows_in rows) →
     list_any (λ t. has_number n (rows_in rows t)) (listed_at listing n) ≡ list_any (λ t. has_number n (rows_in rows t)) (keys rows)
 having n listing rows listed = found_any (λ t. has_number n (rows_in rows t)) (listed_at listing n) (keys rows)
-    (λ t h. listed t n (known_of n (rows_in rows t) h))
+    (λ t h. listed t n ∙ known_of n (rows_in rows t) h)
     (λ t h. keyed rows t (some_of n (rows_in rows t) (known_of n (rows_in rows t) h)))
 
 pub having_built : (n : ℕ) (listing : BTreeMap ℕ (BTreeSet ℕ)) (rows : BTreeMap ℕ ConsumerRow) → AreListed listing (rows_in rows) →
     list_any (λ t. has_built n (rows_in rows t)) (listed_at listing n) ≡ list_any (λ t. has_built n (rows_in rows t)) (keys rows)
 having_built n listing rows listed = found_any (λ t. has_built n (rows_in rows t)) (listed_at listing n) (keys rows)
-    (λ t h. listed t n (known_of n (rows_in rows t) (built_has n (rows_in rows t) h)))
+    (λ t h. listed t n ∙ known_of n (rows_in rows t) (built_has n (rows_in rows t) h))
     (λ t h. keyed rows t (some_of n (rows_in rows t) (known_of n (rows_in rows t) (built_has n (rows_in rows t) h))))
 
 -- where none is listed, none is so

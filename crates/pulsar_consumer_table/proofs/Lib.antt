@@ -9,3 +9,5 @@ pub mod Drawing
 pub mod Retaining
 pub mod Living
 pub mod Dropped
+pub mod Placed
+pub mod Staying

@@ -1,37 +1,33 @@
--- Who lives on a link, as consumers change: none lives where it did not, but for one that was subscribed there; and whoever lives is listed.
-use Rattle.std.proofs.Common.{◌≡◌, ◌∙◌, ◌++◌, ℕ, ◌==◌, ◌&&◌, ◌||◌, sym, ap, subst, refl, Bool, true, false, cond, List, [], ◌∷◌, filter, Option, Some, None, inl, inr}
-use Rattle.std.proofs.lemmas.Bool.{cases_Bool, eq-eqb, eqb-true, false≢true, and_from, and_parts, or_right}
+-- Who lives on a link, as consumers change: none lives where it did not, but for one that was subscribed there.
+use Rattle.std.proofs.Common.{◌≡◌, ◌∙◌, ◌++◌, ℕ, ◌==◌, sym, ap, refl, Bool, true, false, cond, List, [], ◌∷◌, filter, Option, Some, None, inl, inr}
+use Rattle.std.proofs.lemmas.Bool.{cases_Bool, eqb-true, false≢true, and_parts}
 use Rattle.std.specs.BTreeMap.{BTreeMap, get, is_at, keys}
 use Rattle.std.specs.BTreeSet.{BTreeSet}
 use Rattle.std.specs.List.{list_any}
-use Rattle.std.specs.Option.{is_some, option_map, option_or}
+use Rattle.std.specs.Option.{option_map}
 use Rattle.std.specs.Ordering.{nat_cmp}
 use Rattle.pulsar_requests.proofs.Awaiting.{is_at-eqb}
-use Rattle.pulsar_link.specs.Items.{Item, Given, Faulty}
+use Rattle.pulsar_link.specs.Items.{Item}
 use Rattle.pulsar_link.specs.Messages.{Reply, is_body}
-use Rattle.pulsar_session.specs.Failures.{Failure}
-use Rattle.pulsar_calls.specs.declared.act.Who.{Who}
-use Rattle.pulsar_consumer.specs.Frames.{Frame, failed, frame_in}
+use Rattle.pulsar_consumer.specs.Frames.{Frame, frame_in}
 use Rattle.pulsar_consumer.specs.Topic as topic
-use Rattle.pulsar_consumer.specs.Topic.{Act, Engine, Lives, Hears, Loses, Fails, Ends, Polls, Asks, Live, Seen, counts_first, first_of, is_ended, link_of, lives_on}
+use Rattle.pulsar_consumer.specs.Topic.{Engine, Hears, Loses, Ends, Live, Seen, link_of, lives_on}
 use Rattle.pulsar_consumer.specs.declared.polled.Ending.{Ending}
-use Rattle.pulsar_consumer.specs.declared.polled.Ending.TheVariants.{LinkLost, NotSubscribed, TopicEnded}
+use Rattle.pulsar_consumer.specs.declared.polled.Ending.TheVariants.{LinkLost, TopicEnded}
 use Rattle.pulsar_consumer_table.specs.declared.row.ConsumerRow.{ConsumerRow}
-use Rattle.pulsar_consumer_table.specs.declared.row.Sought.{Sought}
-use Rattle.pulsar_consumer_table.specs.declared.row.Sought.TheVariants.{Found, Gone, Later}
-use Rattle.pulsar_consumer_table.specs.Consumers.{Member, ends_on, hears_frame, link_at, lives_at, member_after, seeks, sought, stopped, waits_so}
-use Rattle.pulsar_consumer_table.specs.Consumers as consumer
-use Rattle.pulsar_consumer_table.specs.KeptConsumers.{AreHeard, KeepsAll, KeepsHeard, is_listed, listed_at, one_changed, rows_in, some_changed, tickets_of}
+use Rattle.pulsar_consumer_table.specs.Consumers.{Member, ends_on, hears_frame, link_at, lives_at, lives_with, member_after, stopped}
+use Rattle.pulsar_consumer_table.specs.KeptConsumers.{AreHeard, is_listed, listed_at, rows_in, tickets_of}
 use Rattle.pulsar_consumer_table.proofs.Finding.{both, found_any, keyed, there_is}
 use Rattle.pulsar_consumer_table.proofs.Heard.{filtered}
+use Rattle.pulsar_consumer_table.proofs.Placed.{Holds}
 use Rattle.pulsar_consumer_table.proofs.Places.{swapped}
 
 -- AN ENGINE KEEPS ITS LINK as it goes on: what becomes of a subscription stays on its link
 
-abbrev link_in : Engine → Option ℕ
+abbrev pub link_in : Engine → Option ℕ
 link_in e = option_map (λ (l : Live). l.link) e.live
 
-same_link : (f : Live → Live) → ((l : Live) → (f l).link ≡ l.link) → (o : Option Live) → option_map (λ (l : Live). l.link) (option_map f o) ≡ option_map (λ (l : Live). l.link) o
+pub same_link : (f : Live → Live) → ((l : Live) → (f l).link ≡ l.link) → (o : Option Live) → option_map (λ (l : Live). l.link) (option_map f o) ≡ option_map (λ (l : Live). l.link) o
 same_link f same None = refl
 same_link f same (Some l) = ap Some (same l)
 
@@ -55,14 +51,11 @@ going_link (f ∷ fs) e = elim (cases_Bool (topic.no_items e.rest)) [
   | inr n ↦ rw n refl
 ]
 
-giving_link : (items : List Item) (e : Engine) → link_in (topic.gives_from items e) ≡ link_in e
+pub giving_link : (items : List Item) (e : Engine) → link_in (topic.gives_from items e) ≡ link_in e
 giving_link [] e = refl
 giving_link (item ∷ items) e = going_link e.waiting (topic.places (record e { unread = items }))
 
 -- WHO LIVES NOWHERE NEW
-
-abbrev pub NoLife : (Member → Member) → Type 0
-NoLife f = (l : ℕ) (m : Member) → lives_on l (f m).seen ≡ true → lives_on l m.seen ≡ true
 
 from_link : (l : ℕ) (v w : Seen) → link_of w ≡ link_of v → lives_on l w ≡ true → lives_on l v ≡ true
 from_link l v w same h = ap (topic.is_on l) (sym same) ∙ h
@@ -73,7 +66,7 @@ away l w none = ap (λ o. topic.is_on l (option_map (λ (x : Live). x.link) o)) 
 none_there : (l : ℕ) (v w : Seen) → w.engine.live ≡ None → lives_on l w ≡ true → lives_on l v ≡ true
 none_there l v w none h = absurd (false≢true (sym (away l w none) ∙ h))
 
-hears_lifeless : (k : ℕ) (f : Frame) → NoLife (member_after (Hears k f))
+hears_lifeless : (k : ℕ) (f : Frame) → Holds lives_at (member_after (Hears k f))
 hears_lifeless k f l m = by (lives_on k m.seen)
   where
     by : (b : Bool) → lives_on l (cond b (record m.seen { engine = topic.hears f m.seen.engine }) m.seen) ≡ true → lives_on l m.seen ≡ true
@@ -88,38 +81,17 @@ lost_live v = by v.is_raw
     by true = refl
     by false = refl
 
-pub loses_lifeless : (k : ℕ) → NoLife (member_after (Loses k))
+pub loses_lifeless : (k : ℕ) → Holds lives_at (member_after (Loses k))
 loses_lifeless k l m = by (lives_on k m.seen)
   where
     by : (b : Bool) → lives_on l (cond b (topic.loses m.seen) m.seen) ≡ true → lives_on l m.seen ≡ true
     by true h = none_there l m.seen (topic.loses m.seen) (lost_live m.seen) h
     by false h = h
 
-pub ends_lifeless : (why : Ending) → NoLife (member_after (Ends why))
+pub ends_lifeless : (why : Ending) → Holds lives_at (member_after (Ends why))
 ends_lifeless why l m h = none_there l m.seen (topic.ends why m.seen) refl h
 
-pub fails_lifeless : (f : Failure) → NoLife (consumer.failed f)
-fails_lifeless f l m = by (is_ended m.seen)
-  where
-    by : (b : Bool) → lives_on l (cond b m.seen (topic.ends NotSubscribed (record m.seen { engine = topic.hears (failed f) m.seen.engine }))) ≡ true →
-        lives_on l m.seen ≡ true
-    by true h = h
-    by false h = none_there l m.seen (topic.ends NotSubscribed (record m.seen { engine = topic.hears (failed f) m.seen.engine })) refl h
-
-counted_link : (clock : ℕ) (item : Option Item) (v : Seen) → link_of (counts_first clock item v) ≡ link_of v
-counted_link clock None v = refl
-counted_link clock (Some (Given id size metadata payload)) v = refl
-counted_link clock (Some (Faulty f)) v = refl
-
-pub polls_lifeless : (clock : ℕ) → NoLife (member_after (Polls clock))
-polls_lifeless clock l m h =
-    from_link l m.seen (topic.after (Polls clock) m.seen)
-    (counted_link clock (first_of m.seen.engine.unread) (record m.seen { engine = topic.gives m.seen.engine }) ∙ giving_link m.seen.engine.unread m.seen.engine) h
-
-pub asks_lifeless : NoLife (member_after Asks)
-asks_lifeless l m h = from_link l m.seen (topic.after Asks m.seen) (same_link topic.asked (λ x. refl) m.seen.engine.live) h
-
-pub frame_lifeless : (k : ℕ) (r : Reply) → NoLife (hears_frame k r)
+pub frame_lifeless : (k : ℕ) (r : Reply) → Holds lives_at (hears_frame k r)
 frame_lifeless k r l m = by (is_body 9 r.content.body) (is_body 27 r.content.body) (is_body 16 r.content.body)
   where
     on : (b : Bool) → lives_on l (cond b (member_after (Ends TopicEnded) m) m).seen ≡ true → lives_on l m.seen ≡ true
@@ -134,55 +106,21 @@ frame_lifeless k r l m = by (is_body 9 r.content.body) (is_body 27 r.content.bod
     by false false true h = loses_lifeless k l m h
     by false false false h = h
 
-pub seeks_lifeless : (w : Who) → NoLife (seeks w)
-seeks_lifeless w l m = by (sought (Some m))
-  where
-    by : (s : Sought) → lives_on l (waits_so s w m).seen ≡ true → lives_on l m.seen ≡ true
-    by (Found k) h = h
-    by Gone h = h
-    by Later h = h
-
--- WHO IS LISTED
-
-one_there : (f : Member → Member) → NoLife f → (l : ℕ) (row : Option Member) → lives_at l (option_map f row) ≡ true → lives_at l row ≡ true
-one_there f none l None h = h
-one_there f none l (Some m) h = none l m h
-
-either_there : (f : Member → Member) → NoLife f → (b : Bool) (l : ℕ) (row : Option Member) → lives_at l (cond b (option_map f row) row) ≡ true → lives_at l row ≡ true
-either_there f none true l row h = one_there f none l row h
-either_there f none false l row h = h
+-- WHERE A LINK IS LOST, nobody lives there any more, and whoever lives on another goes on so
 
 module _ (heard : BTreeMap ℕ (BTreeSet ℕ)) (rows : ℕ → Option Member) (are : AreHeard heard rows) where
-  pub one_heard : (t : ℕ) (f : Member → Member) (after : ℕ → Option Member) → NoLife f → ((u : ℕ) → after u ≡ one_changed t f rows u) → AreHeard heard after
-  one_heard t f after none is u l h = are u l (either_there f none (u == t) l (rows u) (ap (lives_at l) (sym (is u)) ∙ h))
-
-  -- and where those are listed no more that live there no more
-  pub some_heard : (heard' : BTreeMap ℕ (BTreeSet ℕ)) (ts : List ℕ) (f : Member → Member) (after : ℕ → Option Member) → NoLife f →
-      ((u : ℕ) → after u ≡ some_changed ts f rows u) → KeepsHeard heard heard' after → AreHeard heard' after
-  some_heard heard' ts f after none is kept u l h =
-      kept u l h (are u l (either_there f none (is_listed u ts) l (rows u) (ap (lives_at l) (sym (is u)) ∙ h)))
-
-  -- and where one is listed more, who may live anywhere
-  pub more_heard : (heard' : BTreeMap ℕ (BTreeSet ℕ)) (ticket : ℕ) (after : ℕ → Option Member) → ((u : ℕ) → (u == ticket) ≡ false → after u ≡ rows u) →
-      KeepsAll heard heard' → ((l : ℕ) → lives_at l (after ticket) ≡ true → is_listed ticket (listed_at heard' l) ≡ true) → AreHeard heard' after
-  more_heard heard' ticket after others keeps there u l h = elim (cases_Bool (u == ticket)) [
-    | inl e ↦
-        (let same : u ≡ ticket = eqb-true u ticket e in
-        ap (λ k. is_listed k (listed_at heard' l)) same ∙ there l (sym (ap (λ k. lives_at l (after k)) same) ∙ h))
-    | inr e ↦ keeps u l (are u l (sym (ap (lives_at l) (others u e)) ∙ h))
-  ]
-
-  -- and where nobody is listed under a link that has ended
+  -- once nobody is listed there
   pub ended_heard : (heard' : BTreeMap ℕ (BTreeSet ℕ)) (link : ℕ) (after : ℕ → Option Member) →
       ((u : ℕ) → after u ≡ option_map (member_after (Loses link)) (rows u)) →
       ((l : ℕ) → get nat_cmp heard' l ≡ cond (is_at (nat_cmp link) l) None (get nat_cmp heard l)) → AreHeard heard' after
-  ended_heard heard' link after is gone u l h = elim (cases_Bool (l == link)) [
+  ended_heard heard' link after is gone u l = elim (cases_Bool (l == link)) [
     | inl e ↦
         (let same : l ≡ link = eqb-true l link e in
-        absurd (false≢true (sym (lost_nowhere link (rows u)) ∙ ap (lives_at link) (sym (is u)) ∙ ap (λ k. lives_at k (after u)) (sym same) ∙ h)))
+        let none : listed_at heard' l ≡ [] = ap tickets_of (gone l ∙ ap (λ b. cond b None (get nat_cmp heard l)) (is_at-eqb link l ∙ swapped link l ∙ e)) in
+        ap (is_listed u) none ∙ sym (ap (λ k. lives_at k (after u)) same ∙ ap (lives_at link) (is u) ∙ lost_nowhere link (rows u)))
     | inr e ↦
         (let stays : listed_at heard' l ≡ listed_at heard l = ap tickets_of (gone l ∙ ap (λ b. cond b None (get nat_cmp heard l)) (is_at-eqb link l ∙ swapped link l ∙ e)) in
-        ap (is_listed u) stays ∙ are u l (one_there (member_after (Loses link)) (loses_lifeless link) l (rows u) (ap (lives_at l) (sym (is u)) ∙ h)))
+        ap (is_listed u) stays ∙ are u l ∙ sym (ap (lives_at l) (is u) ∙ lost_apart link l e (rows u)))
   ]
     where
       lost_nowhere : (k : ℕ) (row : Option Member) → lives_at k (option_map (member_after (Loses k)) row) ≡ false
@@ -193,27 +131,36 @@ module _ (heard : BTreeMap ℕ (BTreeSet ℕ)) (rows : ℕ → Option Member) (a
           by true e = away k (topic.loses m.seen) (lost_live m.seen)
           by false e = e
 
+      apart : (k l : ℕ) (o : Option ℕ) → (l == k) ≡ false → topic.is_on k o ≡ true → topic.is_on l o ≡ false
+      apart k l None e f = refl
+      apart k l (Some j) e f = ap (λ i. i == l) (eqb-true j k f) ∙ swapped k l ∙ e
+
+      lost_apart : (k l : ℕ) → (l == k) ≡ false → (row : Option Member) → lives_at l (option_map (member_after (Loses k)) row) ≡ lives_at l row
+      lost_apart k l e None = refl
+      lost_apart k l e (Some m) = by (lives_on k m.seen) refl
+        where
+          by : (b : Bool) → lives_on k m.seen ≡ b → lives_on l (cond b (topic.loses m.seen) m.seen) ≡ lives_on l m.seen
+          by true f = away l (topic.loses m.seen) (lost_live m.seen) ∙ sym (apart k l (link_of m.seen) e f)
+          by false f = refl
+
 -- once the client is stopped none lives
 pub stopped_nowhere : (l : ℕ) (row : Option Member) → lives_at l (option_map stopped row) ≡ false
 stopped_nowhere l None = refl
 stopped_nowhere l (Some m) = refl
 
--- ONE MORE
-
-module _ (before after : BTreeMap ℕ (BTreeSet ℕ)) (link ticket : ℕ)
-    (more : (l t : ℕ) → is_listed t (listed_at after l) ≡ (is_listed t (listed_at before l) || ((l == link) && (t == ticket)))) where
-  pub listed_more : KeepsAll before after
-  listed_more t l h = more l t ∙ ap (λ b. b || ((l == link) && (t == ticket))) h
-
-  pub listed_there : (l : ℕ) → (link == l) ≡ true → is_listed ticket (listed_at after l) ≡ true
-  listed_there l e =
-      more l ticket
-      ∙ or_right (is_listed ticket (listed_at before l)) ((l == link) && (ticket == ticket)) (and_from (l == link) (ticket == ticket) (swapped l link ∙ e) (eq-eqb ticket ticket refl))
-
 -- one lives where its link is
 pub where_it_lives : (l : ℕ) (row : Option Member) → lives_at l row ≡ topic.is_on l (link_at row)
 where_it_lives l None = refl
 where_it_lives l (Some m) = refl
+
+-- and on no other than that on which it is found
+pub living_place : (k n l : ℕ) (row : Option Member) → lives_with n l row ≡ true → lives_at k row ≡ true → (k == l) ≡ true
+living_place k n l None p h = absurd (false≢true h)
+living_place k n l (Some m) p h = one (link_of m.seen) (and_parts (m.seen.number == n) (lives_on l m.seen) p).1 h
+  where
+    one : (o : Option ℕ) → topic.is_on l o ≡ true → topic.is_on k o ≡ true → (k == l) ≡ true
+    one None f g = absurd (false≢true f)
+    one (Some j) f g = ap (λ i. i == l) (sym (eqb-true j k g)) ∙ f
 
 -- WHO IS FOUND
 
@@ -223,11 +170,11 @@ pub found_living : (l : ℕ) (heard : BTreeMap ℕ (BTreeSet ℕ)) (rows : ℕ �
 found_living l heard rows are ts is t =
     ap (is_listed t) is
     ∙ filtered (λ u. lives_at l (rows u)) (listed_at heard l) t
-    ∙ both (is_listed t (listed_at heard l)) (lives_at l (rows t)) (λ y. are t l y)
+    ∙ both (is_listed t (listed_at heard l)) (lives_at l (rows t)) (λ y. are t l ∙ y)
 
 -- whether one lives there
 pub some_living : (l : ℕ) (heard : BTreeMap ℕ (BTreeSet ℕ)) (rows : BTreeMap ℕ ConsumerRow) → AreHeard heard (rows_in rows) →
     list_any (λ t. lives_at l (rows_in rows t)) (listed_at heard l) ≡ list_any (λ t. lives_at l (rows_in rows t)) (keys rows)
 some_living l heard rows are = found_any (λ t. lives_at l (rows_in rows t)) (listed_at heard l) (keys rows)
-    (λ t h. are t l h)
+    (λ t h. are t l ∙ h)
     (λ t h. keyed rows t (there_is l (rows_in rows t) h))

@@ -1,24 +1,17 @@
--- Who is to be found by a number, as consumers change: none is so again that was not, and each that is stays listed under it.
+-- Who is to be found by a number, as consumers change: none is so again that was not.
 use Rattle.std.proofs.Common.{◌≡◌, ◌∙◌, ℕ, ◌==◌, ◌&&◌, ◌||◌, not, sym, ap, refl, Bool, true, false, cond, List, [], ◌∷◌, Option, Some, None, inl, inr}
-use Rattle.std.proofs.lemmas.Bool.{cases_Bool, false≢true, and_from, and_parts, or_right}
-use Rattle.std.specs.BTreeMap.{BTreeMap}
-use Rattle.std.specs.BTreeSet.{BTreeSet}
+use Rattle.std.proofs.lemmas.Bool.{cases_Bool, eq-eqb, eqb-true, false≢true, and_from, and_parts}
 use Rattle.std.specs.Option.{is_some, option_map, option_or}
-use Rattle.url.specs.Parts.{Parts}
 use Rattle.pulsar_link.specs.Items.{Item, Given, Faulty}
 use Rattle.pulsar_link.specs.Messages.{Reply, is_body}
-use Rattle.pulsar_session.specs.Failures.{Failure}
-use Rattle.pulsar_calls.specs.declared.act.Who.{Who}
 use Rattle.pulsar_consumer.specs.Frames.{Frame, frame_in}
 use Rattle.pulsar_consumer.specs.Topic as topic
 use Rattle.pulsar_consumer.specs.Topic.{Act, Engine, Lives, Hears, Loses, Fails, Ends, Polls, Asks, Live, Seen, counts_first, first_of, is_ended, link_of, lives_on}
 use Rattle.pulsar_consumer.specs.declared.polled.Ending.{Ending}
 use Rattle.pulsar_consumer.specs.declared.polled.Ending.TheVariants.{Stopped, TopicEnded}
-use Rattle.pulsar_consumer_table.specs.declared.row.Sought.{Sought}
-use Rattle.pulsar_consumer_table.specs.declared.row.Sought.TheVariants.{Found, Gone, Later}
-use Rattle.pulsar_consumer_table.specs.Consumers.{Member, ends_on, hears_frame, member_after, revived, seeks, sought, stopped, waits_so}
-use Rattle.pulsar_consumer_table.specs.Consumers as consumer
-use Rattle.pulsar_consumer_table.specs.KeptConsumers.{AreListed, KeepsListed, is_known, is_listed, listed_at, one_changed, some_changed}
+use Rattle.pulsar_consumer_table.specs.Consumers.{Member, ends_on, hears_frame, lives_with, member_after, number_at, stopped}
+use Rattle.pulsar_consumer_table.specs.KeptConsumers.{is_known, known_at}
+use Rattle.pulsar_consumer_table.proofs.Placed.{Holds}
 use Rattle.pulsar_consumer_table.proofs.Places.{swapped}
 
 -- AN ENGINE WITHOUT A SUBSCRIPTION has none as it goes on
@@ -87,7 +80,7 @@ number_counts clock None v = refl
 number_counts clock (Some (Given id size metadata payload)) v = refl
 number_counts clock (Some (Faulty f)) v = refl
 
-same_number : (act : Act) (v : Seen) → (topic.after act v).number ≡ v.number
+pub same_number : (act : Act) (v : Seen) → (topic.after act v).number ≡ v.number
 same_number (Lives l url) v = number_if (is_ended v) v.number v _ refl refl
 same_number (Hears l f) v = number_if (lives_on l v) v.number _ v refl refl
 same_number (Loses l) v = number_if (lives_on l v) v.number _ v (number_if v.is_raw v.number _ _ refl refl) refl
@@ -98,8 +91,16 @@ same_number Asks v = refl
 
 -- WHO IS KNOWN
 
+and_all : (b : Bool) → (b && true) ≡ b
+and_all true = refl
+and_all false = refl
+
+and_none : (b : Bool) → (b && false) ≡ false
+and_none true = refl
+and_none false = refl
+
 -- one that is not over is there
-abbrev there : Seen → Bool
+abbrev pub there : Seen → Bool
 there v = not (is_ended v) || is_some (link_of v)
 
 not_there : (ended : Option Ending) (live : Option Live) → (not (is_some ended) || is_some (option_map (λ (x : Live). x.link) live)) ≡ false →
@@ -111,10 +112,6 @@ not_there (Some why) (Some l) h = absurd (false≢true (sym h))
 over_not : (v : Seen) → IsOver v → there v ≡ false
 over_not v k = ap (λ b. not b || is_some (link_of v)) k.ended ∙ ap (λ o. is_some (option_map (λ (x : Live). x.link) o)) k.live
 
--- a change by which no member is known again
-abbrev pub Holds : (Member → Member) → Type 0
-Holds f = (n : ℕ) (m : Member) → is_known n (Some (f m)) ≡ true → is_known n (Some m) ≡ true
-
 known_before : (v w : Seen) → w.number ≡ v.number → (IsOver v → IsOver w) → (n : ℕ) → ((w.number == n) && there w) ≡ true → ((v.number == n) && there v) ≡ true
 known_before v w same over n h = elim (cases_Bool (there v)) [
   | inl y ↦ and_from (v.number == n) (there v) (ap (λ k. k == n) (sym same) ∙ (and_parts (w.number == n) (there w) h).0) y
@@ -124,10 +121,10 @@ known_before v w same over n h = elim (cases_Bool (there v)) [
       absurd (false≢true (sym after ∙ (and_parts (w.number == n) (there w) h).1)))
 ]
 
-pub act_holds : (act : Act) → Holds (member_after act)
+pub act_holds : (act : Act) → Holds is_known (member_after act)
 act_holds act n m h = known_before m.seen (topic.after act m.seen) (same_number act m.seen) (stays_over act m.seen) n h
 
-pub frame_holds : (l : ℕ) (r : Reply) → Holds (hears_frame l r)
+pub frame_holds : (l : ℕ) (r : Reply) → Holds is_known (hears_frame l r)
 frame_holds l r n m = by (is_body 9 r.content.body) (is_body 27 r.content.body) (is_body 16 r.content.body)
   where
     on : (b : Bool) → is_known n (Some (cond b (member_after (Ends TopicEnded) m) m)) ≡ true → is_known n (Some m) ≡ true
@@ -142,69 +139,41 @@ frame_holds l r n m = by (is_body 9 r.content.body) (is_body 27 r.content.body) 
     by false false true h = act_holds (Loses l) n m h
     by false false false h = h
 
-pub seeks_holds : (w : Who) → Holds (seeks w)
-seeks_holds w n m = by (sought (Some m))
+-- one that is known by a number has it
+pub own_number : (n : ℕ) (row : Option Member) → is_known n row ≡ true → (n == number_at row) ≡ true
+own_number n None h = absurd (false≢true h)
+own_number n (Some m) h = swapped n m.seen.number ∙ (and_parts (m.seen.number == n) (there m.seen) h).0
+
+pub known_place : (n k l : ℕ) (row : Option Member) → lives_with k l row ≡ true → is_known n row ≡ true → (n == k) ≡ true
+known_place n k l None p h = absurd (false≢true h)
+known_place n k l (Some m) p h =
+    ap (λ i. n == i) (sym (eqb-true m.seen.number k (and_parts (m.seen.number == k) (lives_on l m.seen) p).0)) ∙ own_number n (Some m) h
+
+-- one is known by its number alone
+pub known_by : (n : ℕ) (row : Option Member) → is_known n row ≡ topic.is_on n (known_at row)
+known_by n None = refl
+known_by n (Some m) =
+    by (there m.seen) ∙ sym (ap (λ b. topic.is_on n (cond (b && there m.seen) (Some m.seen.number) None)) (eq-eqb m.seen.number m.seen.number refl))
   where
-    by : (s : Sought) → is_known n (Some (waits_so s w m)) ≡ true → is_known n (Some m) ≡ true
-    by (Found l) h = h
-    by Gone h = h
-    by Later h = h
+    by : (b : Bool) → ((m.seen.number == n) && b) ≡ topic.is_on n (cond b (Some m.seen.number) None)
+    by true = and_all (m.seen.number == n)
+    by false = and_none (m.seen.number == n)
 
-pub revived_holds : (l : ℕ) (url : Option Parts) → Holds (revived l url)
-revived_holds l None n m h = h
-revived_holds l (Some url) n m h = act_holds (Lives l url) n m h
-
-pub failed_holds : (f : Failure) → Holds (consumer.failed f)
-failed_holds f n m h = act_holds (Fails f) n m h
-
--- THE LISTING
-
-module _ (listing : BTreeMap ℕ (BTreeSet ℕ)) (rows : ℕ → Option Member) (listed : AreListed listing rows) where
-  one_holds : (f : Member → Member) → Holds f → (n : ℕ) (row : Option Member) → is_known n (option_map f row) ≡ true → is_known n row ≡ true
-  one_holds f holds n None h = h
-  one_holds f holds n (Some m) h = holds n m h
-
-  either_holds : (f : Member → Member) → Holds f → (b : Bool) (n : ℕ) (row : Option Member) → is_known n (cond b (option_map f row) row) ≡ true → is_known n row ≡ true
-  either_holds f holds true n row h = one_holds f holds n row h
-  either_holds f holds false n row h = h
-
-  pub one_listed : (t : ℕ) (f : Member → Member) (after : ℕ → Option Member) → Holds f → ((u : ℕ) → after u ≡ one_changed t f rows u) → AreListed listing after
-  one_listed t f after holds is u n h = listed u n (either_holds f holds (u == t) n (rows u) (ap (is_known n) (sym (is u)) ∙ h))
-
-  -- and where those are listed no more that have ended
-  pub some_listed : (listing' : BTreeMap ℕ (BTreeSet ℕ)) (ts : List ℕ) (f : Member → Member) (after : ℕ → Option Member) → Holds f →
-      ((u : ℕ) → after u ≡ some_changed ts f rows u) →
-      KeepsListed listing listing' after →
-      AreListed listing' after
-  some_listed listing' ts f after holds is kept u n h =
-      kept u n h (listed u n (either_holds f holds (is_listed u ts) n (rows u) (ap (is_known n) (sym (is u)) ∙ h)))
+-- a change by which none gets another number
+pub number_kept : (f : Member → Member) → ((m : Member) → (f m).seen.number ≡ m.seen.number) → (b : Bool) (row : Option Member) →
+    number_at (cond b (option_map f row) row) ≡ number_at row
+number_kept f same true None = refl
+number_kept f same true (Some m) = same m
+number_kept f same false row = refl
 
 -- once the client is stopped none is known
 pub stopped_none : (n : ℕ) (row : Option Member) → is_known n (option_map stopped row) ≡ false
 stopped_none n None = refl
-stopped_none n (Some m) = ap (λ b. (m.seen.number == n) && b) (by m.seen.ended) ∙ none_and (m.seen.number == n)
+stopped_none n (Some m) = ap (λ b. (m.seen.number == n) && b) (by m.seen.ended) ∙ and_none (m.seen.number == n)
   where
     by : (o : Option Ending) → (not (is_some (option_or o (Some Stopped))) || false) ≡ false
     by None = refl
     by (Some why) = refl
-
-    none_and : (b : Bool) → (b && false) ≡ false
-    none_and true = refl
-    none_and false = refl
-
--- one more, who is listed under its number
-pub joined_listed : (before after : BTreeMap ℕ (BTreeSet ℕ)) (rows rows' : ℕ → Option Member) (ticket : ℕ) (m : Member) →
-    AreListed before rows →
-    ((n t : ℕ) → is_listed t (listed_at after n) ≡ (is_listed t (listed_at before n) || ((n == m.seen.number) && (t == ticket)))) →
-    ((t : ℕ) → rows' t ≡ cond (t == ticket) (Some m) (rows t)) →
-    AreListed after rows'
-joined_listed before after rows rows' ticket m listed more is t n k = more n t ∙ by (t == ticket) refl (ap (is_known n) (sym (is t)) ∙ k)
-  where
-    by : (b : Bool) → (t == ticket) ≡ b → is_known n (cond b (Some m) (rows t)) ≡ true → (is_listed t (listed_at before n) || ((n == m.seen.number) && b)) ≡ true
-    by true e h =
-        let same : (n == m.seen.number) ≡ true = swapped n m.seen.number ∙ (and_parts (m.seen.number == n) (not (is_ended m.seen) || is_some (link_of m.seen)) h).0 in
-        or_right (is_listed t (listed_at before n)) ((n == m.seen.number) && true) (ap (λ b. b && true) same)
-    by false e h = ap (λ b. b || ((n == m.seen.number) && false)) (listed t n h)
 
 -- one that hears a frame keeps its number
 pub frame_number : (l : ℕ) (r : Reply) (m : Member) → (hears_frame l r m).seen.number ≡ m.seen.number

@@ -1,5 +1,5 @@
 -- For the code's contracts alone: the consumers, as the code keeps them. Their tickets are listed by their numbers.
-use Rattle.std.specs.Prelude.{◌≡◌, ◌==◌, ◌&&◌, ◌||◌, not, ℕ, Bool, true, false, if◌then◌else◌, List, [], Option, Some, None}
+use Rattle.std.specs.Prelude.{◌≡◌, ◌==◌, ◌&&◌, ◌||◌, not, ℕ, Bool, false, if◌then◌else◌, List, [], Option, Some, None}
 use Rattle.std.specs.BTreeMap.{BTreeMap, get, keys}
 use Rattle.std.specs.BTreeSet.{BTreeSet}
 use Rattle.std.specs.List.{list_any}
@@ -7,7 +7,7 @@ use Rattle.std.specs.Option.{is_some, option_map}
 use Rattle.std.specs.Ordering.{nat_cmp}
 use Rattle.pulsar_consumer_table.specs.declared.numbers.Numbers.{Numbers}
 use Rattle.pulsar_consumer_table.specs.declared.row.ConsumerRow.{ConsumerRow}
-use Rattle.pulsar_consumer.specs.Topic.{is_ended, link_of}
+use Rattle.pulsar_consumer.specs.Topic.{is_ended, is_on, link_of}
 use Rattle.pulsar_consumer_table.specs.Consumers.{Consumers, Member, lives_at}
 
 abbrev pub member_in : ConsumerRow → Member
@@ -45,30 +45,27 @@ abbrev pub is_known : (number : ℕ) → Option Member → Bool
 is_known n None = false
 is_known n (Some m) = (m.seen.number == n) && (not (is_ended m.seen) || is_some (link_of m.seen))
 
--- whoever is to be found by a number is listed under it; others may be listed too
+-- the number by which it is to be found, if there is one
+abbrev pub known_at : Option Member → Option ℕ
+known_at None = None
+known_at (Some m) = if is_known m.seen.number (Some m) then Some m.seen.number else None
+
+-- whoever is to be found by a number is listed under it, and nobody else: what has ended keeps no place there
 abbrev pub AreListed : BTreeMap ℕ (BTreeSet ℕ) → (ℕ → Option Member) → Type 0
-AreListed listing rows = (t n : ℕ) → is_known n (rows t) ≡ true → is_listed t (listed_at listing n) ≡ true
+AreListed listing rows = (t n : ℕ) → is_listed t (listed_at listing n) ≡ is_known n (rows t)
 
--- where some are listed no more, they are not to be found
-abbrev pub KeepsListed : (before after : BTreeMap ℕ (BTreeSet ℕ)) → (ℕ → Option Member) → Type 0
-KeepsListed before after rows =
-    (t n : ℕ) → is_known n (rows t) ≡ true → is_listed t (listed_at before n) ≡ true → is_listed t (listed_at after n) ≡ true
-
--- whoever lives on a link is listed under it; others may be listed too
+-- whoever lives on a link is listed under it, and nobody else
 abbrev pub AreHeard : BTreeMap ℕ (BTreeSet ℕ) → (ℕ → Option Member) → Type 0
-AreHeard heard rows = (t l : ℕ) → lives_at l (rows t) ≡ true → is_listed t (listed_at heard l) ≡ true
-
--- where some are listed no more, they do not live there
-abbrev pub KeepsHeard : (before after : BTreeMap ℕ (BTreeSet ℕ)) → (ℕ → Option Member) → Type 0
-KeepsHeard before after rows =
-    (t l : ℕ) → lives_at l (rows t) ≡ true → is_listed t (listed_at before l) ≡ true → is_listed t (listed_at after l) ≡ true
-
--- where one more is listed, nobody is listed less
-abbrev pub KeepsAll : (before after : BTreeMap ℕ (BTreeSet ℕ)) → Type 0
-KeepsAll before after = (t l : ℕ) → is_listed t (listed_at before l) ≡ true → is_listed t (listed_at after l) ≡ true
+AreHeard heard rows = (t l : ℕ) → is_listed t (listed_at heard l) ≡ lives_at l (rows t)
 
 -- of these tickets, those that are not kept are listed no more at their place, and all others stay listed as they were
 abbrev pub Drops : (tickets : List ℕ) (place : ℕ → ℕ) (is_kept : ℕ → Bool) (before after : BTreeMap ℕ (BTreeSet ℕ)) → Type 0
 Drops tickets place is_kept before after =
     (t n : ℕ) →
     is_listed t (listed_at after n) ≡ (is_listed t (listed_at before n) && not (is_listed t tickets && ((n == place t) && not (is_kept t))))
+
+-- a ticket leaves one place, and gets another, where there are such; all others stay listed as they were
+abbrev pub Moves : (ticket : ℕ) (from to : Option ℕ) (before after : BTreeMap ℕ (BTreeSet ℕ)) → Type 0
+Moves ticket from to before after =
+    (t n : ℕ) →
+    is_listed t (listed_at after n) ≡ ((is_listed t (listed_at before n) && not (is_on n from && (t == ticket))) || (is_on n to && (t == ticket)))

@@ -1,6 +1,6 @@
 //! What is done to consumers of a client, one or several of them.
 
-ghost use Rattle.std.specs.Prelude.{◌≡◌, ◌++◌, ◌∷◌, [], ℕ, true, not, filter, IfOk, OnOk, Some, map, if◌then◌else◌};
+ghost use Rattle.std.specs.Prelude.{◌≡◌, ◌==◌, ◌&&◌, ◌||◌, ◌++◌, ◌∷◌, [], ℕ, not, filter, IfOk, OnOk, Some, map, if◌then◌else◌};
 ghost use Rattle.std.specs.BTreeMap.{keys};
 ghost use Rattle.std.specs.List.{flat_map};
 ghost use Rattle.std.specs.List.Sorted.{IsStrictlySortedBy};
@@ -11,7 +11,7 @@ ghost use Rattle.pulsar_consumer.specs.declared.polled.Ending.{Ending};
 ghost use Rattle.pulsar_consumer.specs.Topic.{Asks, Ends, Loses, Polls, is_on, resubscribes};
 ghost use Rattle.pulsar_consumer_table.specs.Consumers as meaning;
 ghost use Rattle.pulsar_consumer_table.specs.Consumers.{at_row, flow_at, hears_frame, lives_at, member_after, polled, sought, word_if, word_of_frame};
-ghost use Rattle.pulsar_consumer_table.specs.KeptConsumers.{Drops, KeepsAll, is_known, is_listed, listed_at, member_in, one_changed, rows_in, some_changed};
+ghost use Rattle.pulsar_consumer_table.specs.KeptConsumers.{Drops, Moves, is_known, is_listed, known_at, listed_at, member_in, one_changed, rows_in, some_changed};
 ghost use Rattle.pulsar_calls.specs.Notices.{stopped_one};
 ghost use Rattle.pulsar_consumer_table.specs.Notices.{again, again_at, due_at, polled_due, revived_at, stopped_seekers, word_to};
 
@@ -97,37 +97,69 @@ pub fn lives_there(rows: &BTreeMap<u64, ConsumerRow>, ticket: u64, link: u64) ->
     }
 }
 
-/// A consumer is listed under the link on which it lives, if it lives on any.
-pub fn list_living(
-    heard: &mut Listing,
+/// A ticket is listed at another place than it was: it leaves the one, and gets the other, where there are such.
+pub fn relist(
+    listing: &mut Listing,
     alloc: Global,
-    rows: &BTreeMap<u64, ConsumerRow>,
     ticket: u64,
+    from: Option<u64>,
+    to: Option<u64>,
 ) -> Result<(), NoMemory>
-    ensures others { OnOk result (KeepsAll heard.old heard.new) }
-    ensures living { OnOk result ((l : ℕ) → lives_at l (rows_in rows.now ticket) ≡ true → is_listed ticket (listed_at heard.new l) ≡ true) }
+    ensures { OnOk result (Moves ticket from to listing.old listing.new) }
 {
-    list_on(heard, alloc, link_of(rows, ticket), ticket)?;
+    unlist_from(listing, from, ticket)?;
+    list_under(listing, alloc, to, ticket)?;
     Ok(())
 }
 
-fn list_on(
-    heard: &mut Listing,
-    alloc: Global,
-    link: Option<u64>,
-    ticket: u64,
-) -> Result<(), NoMemory>
-    ensures others { OnOk result (KeepsAll heard.old heard.new) }
-    ensures living { OnOk result ((l : ℕ) → is_on l link ≡ true → is_listed ticket (listed_at heard.new l) ≡ true) }
+fn unlist_from(listing: &mut Listing, place: Option<u64>, ticket: u64) -> Result<(), NoMemory>
+    ensures { OnOk result ((t n : ℕ) → is_listed t (listed_at listing.new n) ≡ (is_listed t (listed_at listing.old n) && not (is_on n place && (t == ticket)))) }
 {
-    let Some(link) = link else {
+    let Some(place) = place else {
         return Ok(());
     };
-    list(heard, alloc, link, ticket)?;
+    unlist(listing, place, ticket)?;
     Ok(())
 }
 
-fn link_of(rows: &BTreeMap<u64, ConsumerRow>, ticket: u64) -> Option<u64>
+fn list_under(
+    listing: &mut Listing,
+    alloc: Global,
+    place: Option<u64>,
+    ticket: u64,
+) -> Result<(), NoMemory>
+    ensures { OnOk result ((t n : ℕ) → is_listed t (listed_at listing.new n) ≡ (is_listed t (listed_at listing.old n) || (is_on n place && (t == ticket)))) }
+{
+    let Some(place) = place else {
+        return Ok(());
+    };
+    list(listing, alloc, place, ticket)?;
+    Ok(())
+}
+
+/// The number by which a consumer is to be found, if there is one.
+pub fn known_number(rows: &BTreeMap<u64, ConsumerRow>, ticket: u64) -> Option<u64>
+    ensures { result ≡ known_at (rows_in rows.now ticket) }
+{
+    match rows.get(&ticket) {
+        Some(row) => number_if_known(row),
+        None => None,
+    }
+}
+
+fn number_if_known(row: &ConsumerRow) -> Option<u64>
+    ensures { result ≡ known_at (Some (member_in row.now)) }
+{
+    let number = row.consumer.inner.number();
+    if row.is_known(number) {
+        Some(number)
+    } else {
+        None
+    }
+}
+
+/// The link of the live subscription of a consumer.
+pub fn link_of(rows: &BTreeMap<u64, ConsumerRow>, ticket: u64) -> Option<u64>
     ensures { result ≡ meaning.link_at (rows_in rows.now ticket) }
 {
     match rows.get(&ticket) {
@@ -280,8 +312,7 @@ pub fn prune_each(
     Ok(())
 }
 
-/// One that has ended is listed no more, whatever its number.
-pub fn prune_one(
+fn prune_one(
     listing: &mut Listing,
     rows: &BTreeMap<u64, ConsumerRow>,
     ticket: u64,

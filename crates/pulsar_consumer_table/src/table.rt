@@ -15,11 +15,11 @@ ghost use Rattle.pulsar_consumer_table.specs.KeptConsumers.{AreHeard, AreListed,
 ghost use Rattle.pulsar_consumer_table.specs.Notices.{again_at, heard_at, polled_due, revived_at, stopped_seekers, word_to};
 
 use crate::hearing::{
-    close_all, fail_at, hear_all, leave_all, list_living, lives_there, living, living_on, lose_all,
-    poll_at, prune_all, prune_each, prune_one, revive_at, seek_at, stop_all, stop_seekers,
+    close_all, fail_at, hear_all, known_number, leave_all, link_of, lives_there, living, living_on,
+    lose_all, poll_at, prune_all, prune_each, relist, revive_at, seek_at, stop_all, stop_seekers,
     take_flow_at,
 };
-use crate::listing::{Listing, list, listed};
+use crate::listing::{Listing, listed};
 use crate::numbers::{Numbering, Numbers};
 use crate::row::{ConsumerRow, Sought};
 use pulsar_calls::act::{Arrival, Notice, Refusal, Who};
@@ -92,10 +92,13 @@ impl Consumers {
             return Err(NoMemory);
         }
         self.failed = true;
-        let number = row.consumer.inner.number();
-        list(&mut self.listing, self.alloc, number, ticket)?;
+        let number = known_number(&self.rows, ticket);
+        let link = link_of(&self.rows, ticket);
         self.rows.insert(ticket, row)?;
-        list_living(&mut self.heard, self.alloc, &self.rows, ticket)?;
+        let new_number = known_number(&self.rows, ticket);
+        let new_link = link_of(&self.rows, ticket);
+        relist(&mut self.listing, self.alloc, ticket, number, new_number)?;
+        relist(&mut self.heard, self.alloc, ticket, link, new_link)?;
         self.failed = false;
         Ok(())
     }
@@ -304,8 +307,10 @@ impl Consumers {
             return Err(NoMemory);
         }
         self.failed = true;
+        let old_link = link_of(&self.rows, ticket);
         let notices = revive_at(self.alloc, &mut self.rows, ticket, link, url)?;
-        list_living(&mut self.heard, self.alloc, &self.rows, ticket)?;
+        let new_link = link_of(&self.rows, ticket);
+        relist(&mut self.heard, self.alloc, ticket, old_link, new_link)?;
         self.failed = false;
         Ok(notices)
     }
@@ -319,8 +324,13 @@ impl Consumers {
             return Err(NoMemory);
         }
         self.failed = true;
+        let number = known_number(&self.rows, ticket);
+        let link = link_of(&self.rows, ticket);
         let notices = fail_at(self.alloc, &mut self.rows, ticket, failure)?;
-        prune_one(&mut self.listing, &self.rows, ticket)?;
+        let new_number = known_number(&self.rows, ticket);
+        let new_link = link_of(&self.rows, ticket);
+        relist(&mut self.listing, self.alloc, ticket, number, new_number)?;
+        relist(&mut self.heard, self.alloc, ticket, link, new_link)?;
         self.failed = false;
         Ok(notices)
     }

@@ -7,22 +7,26 @@ use Rattle.pulsar_consumer.specs.declared.polled.Ending.TheVariants.{Closed}
 use Rattle.pulsar_consumer_table.specs.Consumers.{closes, lives_at, lives_with, member_after, word_if, word_of_close}
 use Rattle.pulsar_consumer_table.specs.KeptConsumers.{is_known, rows_in}
 use Rattle.pulsar_consumer_table.specs.Notices.{word_to}
-use Rattle.pulsar_consumer_table.proofs.Dropped.{drops_keep}
 use Rattle.pulsar_consumer_table.proofs.Finding.{found_change, found_give, living_found}
 use Rattle.pulsar_consumer_table.proofs.Heard.{closed_by, consumers_are, none_closed, same_closed}
-use Rattle.pulsar_consumer_table.proofs.Living.{ends_lifeless, some_heard}
-use Rattle.pulsar_consumer_table.proofs.Numbered.{act_holds, some_listed}
+use Rattle.pulsar_consumer_table.proofs.Living.{ends_lifeless, living_place}
+use Rattle.pulsar_consumer_table.proofs.Numbered.{act_holds, known_place}
+use Rattle.pulsar_consumer_table.proofs.Placed.{some_placed}
 use Rattle.pulsar_consumer_table.proofs.table.Consumers.close.Goals as goal
 
 pub invariant_of-self-2 : goal.invariant_of-self-2
 invariant_of-self-2 c =
     let cs = c.args.self.now in
+    let n = c.args.number in
+    let l = c.args.link in
+    let ts = c.deref.result.now in
+    let found = living_found n l cs.listing (rows_in cs.rows) (cs.listed c.if-self.false) ts (c.deref.ensures.value ∙ c.in_ok-tickets.ensures.tickets) in
     record {
       ordered = λ whole. subst (IsStrictlySortedBy nat_cmp) (sym c.in_ok-notices.ensures.tickets) (cs.ordered c.if-self.false);
-      listed = λ whole. some_listed cs.listing (rows_in cs.rows) (cs.listed c.if-self.false) c.prune_all.new.listing c.deref.result.now (member_after (Ends Closed))
-          (rows_in c.close_all.new.rows) (act_holds (Ends Closed)) c.in_ok-notices.ensures.rows (drops_keep is_known (rows_in c.close_all.new.rows) c.deref-2.result.now (λ t. c.args.number) cs.listing c.prune_all.new.listing c.in_ok-prune_all.ensures);
-      lives = λ whole. some_heard cs.heard (rows_in cs.rows) (cs.lives c.if-self.false) c.leave_all.new.heard c.deref.result.now (member_after (Ends Closed))
-          (rows_in c.close_all.new.rows) (ends_lifeless Closed) c.in_ok-notices.ensures.rows (drops_keep lives_at (rows_in c.close_all.new.rows) c.deref-3.result.now (λ t. c.args.link) cs.heard c.leave_all.new.heard c.in_ok-leave_all.ensures);
+      listed = λ whole. some_placed is_known cs.listing (rows_in cs.rows) (cs.listed c.if-self.false) c.prune_all.new.listing ts c.deref-2.result.now (c.deref-2.ensures.value ∙ sym c.deref.ensures.value) (λ t. n) (member_after (Ends Closed))
+          (rows_in c.close_all.new.rows) (act_holds (Ends Closed)) c.in_ok-notices.ensures.rows (λ t k h. known_place k n l (rows_in cs.rows t) (sym (found t) ∙ h)) c.in_ok-prune_all.ensures;
+      lives = λ whole. some_placed lives_at cs.heard (rows_in cs.rows) (cs.lives c.if-self.false) c.leave_all.new.heard ts c.deref-3.result.now (c.deref-3.ensures.value ∙ sym c.deref.ensures.value) (λ t. l) (member_after (Ends Closed))
+          (rows_in c.close_all.new.rows) (ends_lifeless Closed) c.in_ok-notices.ensures.rows (λ t k h. living_place k n l (rows_in cs.rows t) (sym (found t) ∙ h)) c.in_ok-leave_all.ensures;
     }
 
 pub returns-clause-notices : goal.returns-clause-notices

@@ -1,5 +1,5 @@
 pub mod Answering
 pub mod Waiting
-pub mod Steps
+pub mod Stepping
 pub mod Counting
 pub mod Taking

@@ -9,7 +9,7 @@ use Rattle.pulsar_acts.specs.declared.tables.Tables.{Tables}
 use Rattle.pulsar_agenda.specs.Run.{Good, Step, view}
 use Rattle.pulsar_client.specs.History.{Stands}
 use Rattle.pulsar_acts.specs.Tables.{view_of}
-use Rattle.pulsar_client.proofs.Steps.{seen_of}
+use Rattle.pulsar_client.proofs.Stepping.{seen_of}
 use Rattle.pulsar_tables.specs.View.{Options, Seat, View, Waits, is_at, is_busy, is_handshaking}
 
 abbrev stage_of : Option Seat → Option Stage

@@ -1,6 +1,6 @@
 use Rattle.std.proofs.Common.{◌∙◌, ap}
 use Rattle.pulsar_consumer_table.specs.Consumers.{built_at}
-use Rattle.pulsar_client.proofs.Steps.{seen_of}
+use Rattle.pulsar_client.proofs.Stepping.{seen_of}
 use Rattle.pulsar_client.proofs.pulsar.Pulsar.consumer_at.Goals as goal
 
 pub returns : goal.returns

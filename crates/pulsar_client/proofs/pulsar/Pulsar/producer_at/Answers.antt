@@ -1,5 +1,5 @@
 use Rattle.std.proofs.Common.{◌∙◌, ap}
-use Rattle.pulsar_client.proofs.Steps.{seen_of}
+use Rattle.pulsar_client.proofs.Stepping.{seen_of}
 use Rattle.pulsar_client.proofs.pulsar.Pulsar.producer_at.Goals as goal
 
 pub returns : goal.returns

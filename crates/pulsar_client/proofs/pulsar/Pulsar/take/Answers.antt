@@ -5,7 +5,7 @@ use Rattle.pulsar_acts.specs.Tables.{view_of}
 use Rattle.pulsar_client.specs.Taken.{drawn_to, ended_in, held_but}
 use Rattle.pulsar_tables.specs.View.{Options}
 use Rattle.pulsar_client.proofs.Counting.{ticket_is}
-use Rattle.pulsar_client.proofs.Steps.{dead_step, not_live}
+use Rattle.pulsar_client.proofs.Stepping.{dead_step, not_live}
 use Rattle.pulsar_client.proofs.Taking.{drawn_more, held_on, held_still}
 use Rattle.pulsar_client.proofs.pulsar.Pulsar.take.Goals as goal
 

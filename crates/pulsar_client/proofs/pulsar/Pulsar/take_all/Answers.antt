@@ -1,7 +1,7 @@
 use Rattle.std.proofs.Common.{◌≡◌, ◌∙◌, ◌<◌, ◌+◌, ◌++◌, ◌∷◌, [], ap, arith, length, length-append, length-take, reverse, sym, take}
 use Rattle.std.proofs.lemmas.List.{take_all, take_more}
 use Rattle.pulsar_client.specs.History.{answered}
-use Rattle.pulsar_client.proofs.Steps.{history_more, same_step}
+use Rattle.pulsar_client.proofs.Stepping.{history_more, same_step}
 use Rattle.pulsar_client.proofs.Taking.{stands_same}
 use Rattle.pulsar_client.proofs.pulsar.Pulsar.take_all.Goals as goal
 

@@ -10,7 +10,9 @@ use Rattle.pulsar_acts.specs.declared.settings.Settings.{Settings}
 use Rattle.pulsar_acts.specs.declared.tables.Tables.{Tables}
 use Rattle.pulsar_calls.specs.Content.{Shown, Retry}
 use Rattle.pulsar_tables.specs.Alarms.{set}
+use Rattle.pulsar_producer.specs.Routing.{Policy}
 use Rattle.pulsar_tables.specs.Kept.{addresses_of, links_in}
+use Rattle.pulsar_producer_table.specs.KeptMultis.{multis_of}
 use Rattle.pulsar_producer_table.specs.KeptProducers.{producers_of}
 use Rattle.pulsar_consumer_table.specs.KeptConsumers.{consumers_in}
 use Rattle.pulsar_tables.specs.View.{Chosen, Seat, Turned, View, alarms_on, alarms_rung, base_on, delay_with, later, nobody, pause_on, pause_rung, waits_on}
@@ -32,10 +34,12 @@ chosen_of s =
       now = s.start;
     }
 
+-- what is seen of the tables: they have no policies, which are lent to each step
 abbrev pub view_of : Tables → View
 view_of c =
     record {
       chosen = chosen_of c.settings;
+      policies = [];
       now = c.clock;
       stand = stand_of c.plans;
       calls = record { drawn = c.tickets; is_built = c.is_built; is_stopped = c.is_stopped };
@@ -44,7 +48,11 @@ view_of c =
       alarms = c.alarms;
       consumers = consumers_in c.consumers.rows c.consumers.numbers;
       producers = producers_of c.producers;
+      multis = multis_of c.multis;
     }
+
+abbrev pub with_policies : List Policy → View → View
+with_policies ps v = record v { policies = ps }
 
 -- what a link turns whose next frame was read
 abbrev pub welcomed : (link : ℕ) → Arrival → Option Seat → Option Turned

@@ -1,5 +1,7 @@
 -- Those that have plans, and the order in which a cause serves them.
-use Rattle.std.specs.Prelude.{ℕ, ◌==◌, ◌-◌, ◌^◌, nat_lt, Bool, ◌&&◌, if◌then◌else◌}
+use Rattle.std.specs.Prelude.{ℕ, ◌==◌, ◌-◌, ◌^◌, nat_lt, Bool, ◌&&◌, if◌then◌else◌, Option, Some, None}
+use Rattle.pulsar_producer.specs.declared.multi_topic.producer.Taker.{Taker}
+use Rattle.pulsar_producer.specs.declared.multi_topic.producer.Taker.TheVariants as taker
 use Rattle.pulsar_calls.specs.declared.act.Who.{Who}
 use Rattle.pulsar_calls.specs.declared.act.Who.TheVariants.{Call, Consumer, Producer}
 
@@ -35,3 +37,14 @@ turn_of (Producer number) = behind_all
 -- who has this turn at the topic producer of a number
 abbrev pub in_turn : (number turn : ℕ) → Who
 in_turn number turn = if turn == behind_all then Producer number else Call turn
+
+-- As whom one uses a producer of many topics, in the order in which they come: a call by its ticket, and a consumer for the copies of its dead
+-- letters. A topic producer uses none.
+abbrev pub taker_of : Who → Option Taker
+taker_of (Call ticket) = Some (taker.Call ticket)
+taker_of (Consumer number ticket) = Some (taker.Copy number ticket)
+taker_of (Producer number) = None
+
+abbrev pub who_of : Taker → Who
+who_of (taker.Call ticket) = Call ticket
+who_of (taker.Copy number ticket) = Consumer number ticket

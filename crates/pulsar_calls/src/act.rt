@@ -2,16 +2,19 @@
 //! call, thing or event stands one level below them.
 
 use crate::content::{
-    Advice, Asking, Cause, Granted, Joined, Made, Notices, Numbers, Recalled, Remade, Said,
+    Advice, Asking, Cause, FromMulti, Granted, Joined, Made, Notices, Numbers, Recalled, Remade,
+    Said, ToMulti,
 };
 use pulsar_consumer::building::Order as ConsumerOrder;
 use pulsar_link::content::{Received, Request, Subscribed};
-use pulsar_plans::content::{Address, Refusal as Failure};
+use pulsar_plans::content::{Address, Refusal as Failure, Text};
 use pulsar_plans::plan::Procedure as Sought;
 use pulsar_plans::turn::Ways;
 use pulsar_producer::Receipt;
 use pulsar_producer::building::Order;
-use pulsar_producer::content::{Entry, Outgoing};
+use pulsar_producer::content::{Entry, Outgoing, Settings};
+use pulsar_producer::multi_topic::content::UserMessage;
+use pulsar_producer::multi_topic::producer::Multi;
 use pulsar_producer::sending::Errand;
 use pulsar_wire::error::IoKind;
 
@@ -82,6 +85,8 @@ pub enum Outcome {
     Woken,
     /// What it asked of a topic producer, or of their numbers, is done, and gives this.
     Granted(Granted),
+    /// A producer of many topics says this to what it asked.
+    Multi(FromMulti),
     /// The send of this ticket, which is a part of it, was queued, or it failed so before.
     Parted {
         ticket: u64,
@@ -236,6 +241,24 @@ pub enum Procedure {
         producer: u64,
         numbers: Numbers,
     },
+    /// Make a producer of many topics, whose producers are made with this name and in this way.
+    MakeMulti {
+        name: Option<Text>,
+        settings: Settings,
+    },
+    /// Send a message to a topic by a producer of many topics, in its turn there.
+    MultiSend {
+        ways: Ways,
+        multi: Multi,
+        share: Option<Share>,
+        topic: Text,
+        message: UserMessage,
+    },
+    /// Close the producer that a producer of many topics has for a topic, in its turn there.
+    MultiClose {
+        multi: Multi,
+        topic: Text,
+    },
     /// Build a consumer.
     Subscribe {
         ways: Ways,
@@ -292,6 +315,8 @@ pub enum Action {
     Flush(u64),
     /// Take the next batch of a topic producer.
     TakeBatch(u64),
+    /// Ask this of a producer of many topics.
+    Multi { multi: Multi, ask: ToMulti },
     /// Take this number for a new consumer, or draw one.
     TakeNumber(Option<u64>),
     /// Find the link of the consumer of this ticket, or wait until it has one.
@@ -323,9 +348,17 @@ pub enum Makes {
     /// A consumer of one topic.
     Consumer(Joined),
     /// A consumer of a raw call to subscribe, on this link.
-    RawConsumer { link: u64, made: Subscribed },
+    RawConsumer {
+        link: u64,
+        made: Subscribed,
+    },
     /// A producer.
     Producer(Made),
+    /// A producer of many topics, whose producers are made with this name and in this way.
+    MultiProducer {
+        name: Option<Text>,
+        settings: Settings,
+    },
 }
 
 /// What a plan gives at its end.

@@ -18,6 +18,9 @@ use pulsar_plans::content::{Refusal, Text};
 use pulsar_plans::making::Command;
 use pulsar_producer::content::{Parts, Settings};
 use pulsar_producer::deed::News;
+use pulsar_producer::multi_topic::content::MultiSaid;
+pub use pulsar_producer::multi_topic::content::Numbers;
+use pulsar_producer::multi_topic::deed::MultiAsk;
 use pulsar_producer::replies::Given;
 use pulsar_wire::error::{ConnectionError, Error, NoMemory, ProducerError};
 use std::alloc::Global;
@@ -315,44 +318,74 @@ impl Recalled {
     }
 }
 
-/// Numbers of topic producers that are left, in order.
+/// What is asked of a producer of many topics, in a box.
 #[derive(Drop)]
-pub struct Numbers {
-    all: VecDeque<u64>,
+pub struct ToMulti {
+    ask: Box<MultiAsk>,
 }
 
-impl Model for Numbers {
-    ghost use Rattle.std.specs.Prelude.{ℕ, List};
+impl Model for ToMulti {
+    ghost use Rattle.pulsar_producer.specs.declared.multi_topic.deed.MultiAsk.{MultiAsk};
 
-    ghost Value = { List ℕ };
+    ghost Value = { MultiAsk };
 
-    ghost view = { λ n. n.all.items };
+    ghost view = { λ t. t.ask.value };
 }
 
-impl Numbers {
-    /// None.
-    pub fn new(alloc: Global) -> Numbers
-        ensures { result ≡ [] }
+impl ToMulti {
+    pub fn new(alloc: Global, ask: MultiAsk) -> Result<ToMulti, NoMemory>
+        ensures { IfOk result (λ t. t ≡ ask) }
     {
-        Numbers {
-            all: VecDeque::new(alloc),
-        }
+        let ask = Box::new(alloc, ask)?;
+        Ok(ToMulti { ask })
     }
 
-    /// One more behind these.
-    pub fn with(self, number: u64) -> Result<Numbers, NoMemory>
-        ensures { IfOk result (λ n. n ≡ self ++ number ∷ []) }
+    /// It to be looked at.
+    pub fn ask(&self) -> &MultiAsk
+        ensures { result.now ≡ self.now }
     {
-        let Numbers { mut all } = self;
-        all.push_back(number)?;
-        Ok(Numbers { all })
+        &self.ask
     }
 
-    /// The first, which is left no longer.
-    pub fn next(&mut self) -> Option<u64>
-        ensures { MatchOption result (self.old ≡ []) (λ n. self.old ≡ n ∷ self.new) }
+    pub fn into_inner(self) -> MultiAsk
+        ensures { result ≡ self }
     {
-        self.all.pop_front()
+        let ToMulti { ask } = self;
+        Box::into_inner(ask)
+    }
+}
+
+/// What a producer of many topics says to that, in a box.
+#[derive(Drop)]
+pub struct FromMulti {
+    said: Box<MultiSaid>,
+}
+
+impl Model for FromMulti {
+    ghost use Rattle.pulsar_plans.specs.contracts.content.Refusal as refusal;
+    ghost use Rattle.pulsar_producer.specs.declared.multi_topic.content.MultiSaid.{MultiSaid};
+    ghost use Rattle.std.specs.Coded.{codes};
+
+    ghost Value = { MultiSaid };
+
+    ghost coded = { Prim.hlevel (codes, refusal.the_row.coded) };
+
+    ghost view = { λ f. f.said.value };
+}
+
+impl FromMulti {
+    pub fn new(alloc: Global, said: MultiSaid) -> Result<FromMulti, NoMemory>
+        ensures { IfOk result (λ f. f ≡ said) }
+    {
+        let said = Box::new(alloc, said)?;
+        Ok(FromMulti { said })
+    }
+
+    pub fn into_inner(self) -> MultiSaid
+        ensures { result ≡ self }
+    {
+        let FromMulti { said } = self;
+        Box::into_inner(said)
     }
 }
 

@@ -36,8 +36,15 @@ pub enum Call {
     Brokers {
         topic: String,
     },
+    /// Sends a message to a topic by the client's own producer of many topics.
+    Post {
+        topic: String,
+        message: Message,
+    },
     /// Builds a producer.
     Producer(ProducerBuilder),
+    /// Makes a producer of many topics. The topic of the builder is not used.
+    MultiProducer(ProducerBuilder),
     /// Sends a message by the producer that the call of this ticket built. It ends with the receipt.
     Send {
         producer: u64,
@@ -59,6 +66,24 @@ pub enum Call {
     /// Closes a producer: it takes no sends from now on.
     CloseProducer {
         producer: u64,
+    },
+    /// Sends a message to a topic by the producer of many topics that the call of this ticket made. It builds the producer of the topic where
+    /// there is none, and ends with the receipt.
+    MultiSend {
+        producer: u64,
+        topic: String,
+        message: Message,
+    },
+    /// Sends messages to a topic one by one, each by a ticket of its own: the next ones. It ends once each was queued, or failed before.
+    MultiSendAll {
+        producer: u64,
+        topic: String,
+        messages: Vec<Message>,
+    },
+    /// Closes the producer that a producer of many topics has for a topic, where there is one.
+    MultiClose {
+        producer: u64,
+        topic: String,
     },
     /// Builds a consumer of one topic.
     Consumer(ConsumerBuilder),
@@ -128,7 +153,12 @@ impl Call {
             Call::Brokers { topic } => Ok(Call::Brokers {
                 topic: topic.clone()?,
             }),
+            Call::Post { topic, message } => Ok(Call::Post {
+                topic: topic.clone()?,
+                message: message.copy()?,
+            }),
             Call::Producer(builder) => Ok(Call::Producer(builder.copy()?)),
+            Call::MultiProducer(builder) => Ok(Call::MultiProducer(builder.copy()?)),
             Call::Send { producer, message } => Ok(Call::Send {
                 producer: *producer,
                 message: message.copy()?,
@@ -145,6 +175,28 @@ impl Call {
             }),
             Call::CloseProducer { producer } => Ok(Call::CloseProducer {
                 producer: *producer,
+            }),
+            Call::MultiSend {
+                producer,
+                topic,
+                message,
+            } => Ok(Call::MultiSend {
+                producer: *producer,
+                topic: topic.clone()?,
+                message: message.copy()?,
+            }),
+            Call::MultiSendAll {
+                producer,
+                topic,
+                messages,
+            } => Ok(Call::MultiSendAll {
+                producer: *producer,
+                topic: topic.clone()?,
+                messages: copy_all(messages)?,
+            }),
+            Call::MultiClose { producer, topic } => Ok(Call::MultiClose {
+                producer: *producer,
+                topic: topic.clone()?,
             }),
             Call::Consumer(builder) => Ok(Call::Consumer(builder.copy()?)),
             Call::Ack {

@@ -1,9 +1,10 @@
 //! The order of those that have plans.
 
 ghost use Rattle.std.specs.Prelude.{◌≡◌};
-ghost use Rattle.pulsar_calls.specs.Who.{in_turn, is_before, is_same, rank, ticket_of, turn_of};
+ghost use Rattle.pulsar_calls.specs.Who.{in_turn, is_before, is_same, rank, taker_of, ticket_of, turn_of, who_of};
 
 use crate::act::Who;
+use pulsar_producer::multi_topic::producer::Taker;
 
 /// Their kind, and their number.
 pub fn rank(who: Who) -> (u64, u64)
@@ -37,6 +38,33 @@ pub fn in_turn(number: u64, turn: u64) -> Who
         Who::Producer(number)
     } else {
         Who::Call(turn)
+    }
+}
+
+/// As whom it uses a producer of many topics. A topic producer uses none.
+pub fn taker_of(who: Who) -> Option<Taker>
+    ensures { result ≡ taker_of who }
+{
+    match who {
+        Who::Call(ticket) => Some(Taker::Call(ticket)),
+        Who::Consumer { number, ticket } => Some(Taker::Copy {
+            consumer: number,
+            ticket,
+        }),
+        Who::Producer(_) => None,
+    }
+}
+
+/// Who uses a producer of many topics so.
+pub fn who_of(taker: Taker) -> Who
+    ensures { result ≡ who_of taker }
+{
+    match taker {
+        Taker::Call(ticket) => Who::Call(ticket),
+        Taker::Copy { consumer, ticket } => Who::Consumer {
+            number: consumer,
+            ticket,
+        },
     }
 }
 

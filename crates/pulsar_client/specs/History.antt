@@ -7,16 +7,16 @@ use Rattle.pulsar_calls.specs.declared.event.Event.{Event}
 use Rattle.pulsar_calls.specs.Content.{Heard, Shown, heard, shown}
 use Rattle.pulsar_agenda.specs.Run.{Agenda, Step, rules}
 use Rattle.pulsar_acts.specs.declared.tables.Tables.{Tables}
-use Rattle.pulsar_acts.specs.Tables.{view_of}
+use Rattle.pulsar_acts.specs.Tables.{view_of, with_policies}
 use Rattle.pulsar_tables.specs.View.{Options}
 
 -- the tables stand for a history
 abbrev pub Stands : Options → Tables → List Step → Type 0
-Stands o c history = standing.Stands rules o (view_of c) history
+Stands o c history = standing.Stands rules o (with_policies o.policies (view_of c)) history
 
 -- inside a step: what is left to do, and the effects so far
 abbrev pub InStep : Options → Tables → Agenda → Heard → List Shown → List Step → Type 0
-InStep o c g event out history = standing.InStep rules o (view_of c) g event out history
+InStep o c g event out history = standing.InStep rules o (with_policies o.policies (view_of c)) g event out history
 
 -- a step of a history
 abbrev pub step : Event → List Effect → Step

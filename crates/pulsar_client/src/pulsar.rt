@@ -9,6 +9,7 @@ ghost use Rattle.std.specs.Option.{option_copied, option_map};
 ghost use Rattle.pulsar_producer.specs.Wanted.{no_producer, producer_wanted};
 ghost use Rattle.pulsar_consumer.specs.Content.{consumer_wanted, no_consumer};
 ghost use Rattle.pulsar_consumer_table.specs.Consumers.{built_at};
+ghost use Rattle.pulsar_producer_table.specs.Multis.{made_by};
 ghost use Rattle.pulsar_client.specs.Client as meaning;
 ghost use Rattle.pulsar_client.specs.Client.{HasFailed, IsDead, StandsFor, options_of};
 ghost use Rattle.pulsar_client.specs.Taken.{IsTaken, taken_with};
@@ -21,7 +22,7 @@ use pulsar_acts::tables::Tables;
 use pulsar_calls::effect::Effect;
 use pulsar_calls::event::{Call, Event};
 use pulsar_consumer::{Consumer, ConsumerBuilder};
-use pulsar_producer::{Producer, ProducerBuilder};
+use pulsar_producer::{MultiTopicProducer, Producer, ProducerBuilder};
 use pulsar_session::states::Stage;
 use pulsar_wire::error::NoMemory;
 use std::alloc::Global;
@@ -46,7 +47,7 @@ impl Pulsar {
         let settings = options.settings(alloc)?;
         Ok(Pulsar {
             options,
-            tables: Tables::new(alloc, settings),
+            tables: Tables::new(alloc, settings)?,
             answers: Answers::new(alloc),
             failed: false,
         })
@@ -122,6 +123,13 @@ impl Pulsar {
         ensures { (o : Options) (h : List Step) (taken : List ℕ) → StandsFor (λ p. routes p) o self.now h taken → (g : Good o h) → option_copied result ≡ (view o g.log).producers.built ticket }
     {
         self.tables.producers.built.get(&ticket)
+    }
+
+    /// The producer of many topics that the call of this ticket made.
+    pub fn multi_producer_at(&self, ticket: u64) -> Option<&MultiTopicProducer>
+        ensures { (o : Options) (h : List Step) (taken : List ℕ) → StandsFor (λ p. routes p) o self.now h taken → (g : Good o h) → option_copied result ≡ made_by ticket (view o g.log).multis.made }
+    {
+        self.tables.multis.made.get(&ticket)
     }
 
     /// A consumer that is to be built.

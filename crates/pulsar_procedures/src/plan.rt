@@ -7,9 +7,9 @@ ghost use Rattle.pulsar_calls.specs.Content.{Done, Failed};
 
 use crate::search_state::SearchState;
 use crate::service::Service;
-use crate::states::{BatchState, BuildState, ConsumerState, SendState};
+use crate::states::{BatchState, BuildState, ConsumerState, MultiState, SendState};
 use crate::{
-    answers, batches, departing, gathering, producing, search, sends, serving, subscribing,
+    answers, batches, departing, gathering, multi, producing, search, sends, serving, subscribing,
     visiting,
 };
 use pulsar_calls::act::{
@@ -23,6 +23,8 @@ use pulsar_plans::content::Refusal as Failure;
 use pulsar_plans::turn::Ways;
 use pulsar_producer::building::Order;
 use pulsar_producer::deed;
+use pulsar_producer::multi_topic::closing::MultiClosing;
+use pulsar_producer::multi_topic::producer::Multi;
 use pulsar_producer::sending::Errand;
 use pulsar_wire::error::{
     ConnectionError, ConsumerError, Error, IoKind, NoMemory, ProducerError, Reason,
@@ -107,6 +109,18 @@ pub enum Plan {
         left: Numbers,
         at: At,
     },
+    /// It sends a message by a producer of many topics, and has not handed it on. Where it is a part of another call, that is told.
+    MultiSending {
+        ways: Ways,
+        multi: Multi,
+        share: Option<Share>,
+        sending: MultiState,
+    },
+    /// It removes the producer of a topic from a producer of many topics.
+    MultiClosing {
+        multi: Multi,
+        closing: MultiClosing,
+    },
     /// It builds a consumer.
     Subscribing {
         ways: Ways,
@@ -189,6 +203,17 @@ pub fn begins(alloc: Global, procedure: Procedure) -> Result<Turn<Plan, Verdict>
             Plan::Shutting(numbers),
             Action::Shut(producer),
         )),
+        Procedure::MakeMulti { name, settings } => {
+            done(alloc, Makes::MultiProducer { name, settings })
+        }
+        Procedure::MultiSend {
+            ways,
+            multi,
+            share,
+            topic,
+            message,
+        } => multi::sends(alloc, ways, multi, share, topic, message),
+        Procedure::MultiClose { multi, topic } => multi::closes(alloc, multi, topic),
         Procedure::Subscribe { ways, order } => subscribing::begins(alloc, ways, order),
         Procedure::Serve { ways, number } => Ok(serving::begins(ways, number)),
         Procedure::Acknowledge { link, request } => departing::acknowledges(alloc, link, request),
@@ -240,6 +265,15 @@ pub fn told(alloc: Global, plan: Plan, outcome: Outcome) -> Result<Turn<Plan, Ve
             left,
             at,
         } => visiting::told(alloc, round, number, left, at, outcome),
+        Plan::MultiSending {
+            ways,
+            multi,
+            share,
+            sending,
+        } => multi::sending_told(alloc, ways, multi, share, sending, outcome),
+        Plan::MultiClosing { multi, closing } => multi::closing_told(
+            alloc, multi, closing, outcome,
+        ),
         Plan::Subscribing {
             ways,
             order,
@@ -482,6 +516,7 @@ pub fn overrides(outcome: &Outcome) -> bool
         | Outcome::Disconnected
         | Outcome::Woken
         | Outcome::Granted(_)
+        | Outcome::Multi(_)
         | Outcome::Parted { .. }
         | Outcome::Settled(_)
         | Outcome::Word(_) => false,
@@ -505,6 +540,7 @@ pub fn error_of(outcome: Outcome) -> ConnectionError
         | Outcome::InLine
         | Outcome::Replied(_)
         | Outcome::Woken
+        | Outcome::Multi(_)
         | Outcome::Parted { .. }
         | Outcome::Settled(_)
         | Outcome::Word(_)

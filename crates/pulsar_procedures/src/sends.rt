@@ -171,7 +171,7 @@ pub fn leaves(
 }
 
 /// The client is stopped before it is queued, and so is the call that it is a part of.
-fn halted(
+pub fn halted(
     alloc: Global,
     share: Option<Share>,
     outcome: Outcome,

@@ -8,6 +8,7 @@ use pulsar_consumer::resuming::Resuming;
 use pulsar_plans::making::Command;
 use pulsar_producer::batching::Batching;
 use pulsar_producer::building::Building;
+use pulsar_producer::multi_topic::sending::MultiSending;
 use pulsar_producer::sending::Sending;
 use pulsar_wire::error::NoMemory;
 use std::alloc::Global;
@@ -119,6 +120,40 @@ impl BatchState {
     {
         let BatchState { batching } = self;
         Box::into_inner(batching)
+    }
+}
+
+/// Where a send by a producer of many topics stands.
+#[derive(Drop)]
+pub struct MultiState {
+    sending: Box<MultiSending>,
+}
+
+impl Model for MultiState {
+    ghost use Rattle.pulsar_plans.specs.contracts.content.Refusal as refusal;
+    ghost use Rattle.pulsar_producer.specs.declared.multi_topic.sending.MultiSending.{MultiSending};
+    ghost use Rattle.std.specs.Coded.{codes};
+
+    ghost Value = { MultiSending };
+
+    ghost coded = { Prim.hlevel (codes, refusal.the_row.coded) };
+
+    ghost view = { λ s. s.sending.value };
+}
+
+impl MultiState {
+    pub fn new(alloc: Global, sending: MultiSending) -> Result<MultiState, NoMemory>
+        ensures { IfOk result (λ s. s ≡ sending) }
+    {
+        let sending = Box::new(alloc, sending)?;
+        Ok(MultiState { sending })
+    }
+
+    pub fn into_inner(self) -> MultiSending
+        ensures { result ≡ self }
+    {
+        let MultiState { sending } = self;
+        Box::into_inner(sending)
     }
 }
 

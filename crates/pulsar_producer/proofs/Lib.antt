@@ -1,5 +1,9 @@
 pub mod Cutting
 pub mod Entries
+pub mod MultiMaps
+pub mod MultiPassing
+pub mod MultiTopics
+pub mod MultiTurns
 pub mod Numbers
 pub mod PartialSends
 pub mod Properties

@@ -15,3 +15,8 @@ pub mod Plans
 pub mod Batching
 pub mod Laws
 pub mod BatchLaws
+pub mod Dispatching
+pub mod MultiTopic
+pub mod MultiKept
+pub mod MultiPlans
+pub mod MultiLaws

@@ -142,6 +142,13 @@ impl Settings {
         Ok(Settings { options })
     }
 
+    /// The same options once more.
+    pub fn copy(&self, alloc: Global) -> Result<Settings, NoMemory>
+        ensures { IfOk result (λ s. s ≡ self.now) }
+    {
+        Settings::new(alloc, self.options.copy()?)
+    }
+
     /// The options to be read.
     pub fn options(&self) -> &ProducerOptions
         ensures { producer_options_values result.now ≡ self.now }

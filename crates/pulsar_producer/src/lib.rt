@@ -9,6 +9,7 @@ pub mod copying;
 pub mod deed;
 pub mod laws;
 pub mod message_builder;
+pub mod multi_topic;
 pub mod producer;
 pub mod producer_builder;
 pub mod random;
@@ -21,6 +22,7 @@ pub mod topic_producer;
 
 pub use batch::Receipt;
 pub use message_builder::MessageBuilder;
+pub use multi_topic::producer::MultiTopicProducer;
 pub use producer::Producer;
 pub use producer_builder::ProducerBuilder;
 pub use pulsar_messages::{Message, ProducerMessage, ProducerOptions, RoutingPolicy};

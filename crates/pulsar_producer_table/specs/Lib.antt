@@ -1,3 +1,5 @@
 pub mod Producers
+pub mod Multis
 pub mod Notices
 pub mod KeptProducers
+pub mod KeptMultis

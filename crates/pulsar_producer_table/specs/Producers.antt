@@ -4,7 +4,7 @@ use Rattle.std.specs.BTreeSet.{insert_key}
 use Rattle.std.specs.List.{flat_map, list_any}
 use Rattle.std.specs.Option.{is_some, option_map}
 use Rattle.std.specs.Ordering.{nat_cmp}
-use Rattle.pulsar_messages.specs.Content.{ProducerMessageValues}
+use Rattle.pulsar_messages.specs.Content.{ProducerMessageValues, ProducerOptionsValues}
 use Rattle.pulsar_session.specs.Link.{is_spent}
 use Rattle.pulsar_link.specs.Request.{named_producer}
 use Rattle.pulsar_plans.specs.declared.making.Command.{Command}
@@ -20,7 +20,6 @@ use Rattle.pulsar_producer.specs.declared.content.Built.{Built}
 use Rattle.pulsar_producer.specs.declared.deed.Drawn.{Drawn}
 use Rattle.pulsar_producer.specs.declared.routing.Partition.{Partition}
 use Rattle.pulsar_producer.specs.declared.sending.Errand.{Errand}
-use Rattle.pulsar_producer.specs.declared.storage.Limits.{Limits}
 use Rattle.pulsar_calls.specs.declared.act.Refusal.{Refusal}
 use Rattle.pulsar_calls.specs.declared.act.Refusal.TheVariants as refusal
 use Rattle.pulsar_calls.specs.declared.content.Building.{Building}
@@ -48,7 +47,7 @@ none first_number =
 
 -- what is done to one
 abbrev pub topic_after : Act → Topic → Topic
-topic_after act t = record { owner = t.owner; seen = topic.after act t.seen }
+topic_after act t = record { options = t.options; seen = topic.after act t.seen }
 
 abbrev pub changed : (number : ℕ) → Act → Producers → Producers
 changed number act ps =
@@ -101,15 +100,11 @@ abbrev pub waiting : Producers → List Who
 waiting ps = flat_map (λ n. waiting_at n (ps.topics n)) ps.numbers
 
 -- the command by which one is made again, with the options of its producer
-abbrev pub recalled_by : Topic → Option producer.Seen → Option Command
-recalled_by t row = option_map (λ p. command_of p.options t.seen) row
-
-abbrev pub recalled_at : Producers → Option Topic → Option Command
-recalled_at ps None = None
-recalled_at ps (Some t) = recalled_by t (ps.built t.owner)
+abbrev pub recalled_at : Option Topic → Option Command
+recalled_at row = option_map (λ t. command_of t.options t.seen) row
 
 abbrev pub recalled : Producers → (number : ℕ) → Option Command
-recalled ps number = recalled_at ps (ps.topics number)
+recalled ps number = recalled_at (ps.topics number)
 
 -- BATCHES
 
@@ -146,13 +141,9 @@ abbrev pub unsent : Producers → List ℕ
 unsent ps = flat_map (λ n. unsent_at (ps.topics n)) ps.numbers
 
 -- how long what is stored waits, by the options of its producer
-abbrev pub timeout_in : Option producer.Seen → Option ℕ
-timeout_in None = None
-timeout_in (Some p) = p.options.batch_timeout
-
-abbrev pub timeout_at : Producers → Option Topic → Option ℕ
-timeout_at ps None = None
-timeout_at ps (Some t) = timeout_in (ps.built t.owner)
+abbrev pub timeout_at : Option Topic → Option ℕ
+timeout_at None = None
+timeout_at (Some t) = t.options.batch_timeout
 
 -- the client is stopped: nothing is stored any longer
 abbrev pub halted : Producers → Producers
@@ -250,21 +241,21 @@ abbrev pub all_routed : (ticket : ℕ) → List ProducerMessageValues → Produc
 all_routed t [] ps = ps
 all_routed t (m ∷ ms) ps = all_routed t ms (routed t m ps)
 
--- one is built, with its topic producers
-abbrev pub fresh_topic : (owner first_number : ℕ) → Limits → Built → Topic
-fresh_topic owner first_number limits b =
-    record { owner = owner; seen = fresh (record { built = b; first_number = first_number; limits = limits }) }
+-- one is built, with its topic producers, which are made and send by its options
+abbrev pub fresh_topic : ProducerOptionsValues → (first_number : ℕ) → Built → Topic
+fresh_topic o first_number b =
+    record { options = o; seen = fresh (record { built = b; first_number = first_number; limits = limits_of o }) }
 
-abbrev pub with_topic : (owner first_number : ℕ) → Limits → Built → Producers → Producers
-with_topic owner first_number limits b ps =
+abbrev pub with_topic : ProducerOptionsValues → (first_number : ℕ) → Built → Producers → Producers
+with_topic o first_number b ps =
     record ps {
-      topics = λ n. if n == b.number then Some (fresh_topic owner first_number limits b) else ps.topics n;
+      topics = λ n. if n == b.number then Some (fresh_topic o first_number b) else ps.topics n;
       numbers = ps.numbers ++ b.number ∷ [];
     }
 
-abbrev pub with_topics : (owner first_number : ℕ) → Limits → List Built → Producers → Producers
-with_topics owner first_number limits [] ps = ps
-with_topics owner first_number limits (b ∷ bs) ps = with_topics owner first_number limits bs (with_topic owner first_number limits b ps)
+abbrev pub with_topics : ProducerOptionsValues → (first_number : ℕ) → List Built → Producers → Producers
+with_topics o first_number [] ps = ps
+with_topics o first_number (b ∷ bs) ps = with_topics o first_number bs (with_topic o first_number b ps)
 
 abbrev pub partition_of : Built → Partition
 partition_of b = record { name = b.topic; number = b.number }
@@ -279,7 +270,7 @@ with_built t None ps = ps
 with_built t (Some p) ps = record ps { built = λ u. if u == t then Some p else ps.built u }
 
 abbrev pub joined : (ticket : ℕ) → Building → (seed first_number : ℕ) → Producers → Producers
-joined t b seed first_number ps = with_built t (made_of seed t b) (with_topics t first_number (limits_of b.settings) b.parts ps)
+joined t b seed first_number ps = with_built t (made_of seed t b) (with_topics b.settings first_number b.parts ps)
 
 -- CALLS
 
@@ -294,12 +285,17 @@ opened_on (content.Topics namespace mode) ps = ps
 opened_on (content.Lookup topic) ps = ps
 opened_on (content.Partitions topic) ps = ps
 opened_on (content.Brokers topic) ps = ps
+opened_on (content.Post topic m) ps = ps
 opened_on (content.Producer wanted) ps = ps
+opened_on (content.MultiProducer wanted) ps = ps
 opened_on (content.Send t m) ps = sent_on t (m ∷ []) ps
 opened_on (content.SendAll t ms) ps = sent_on t ms ps
 opened_on (content.Flush t) ps = ps
 opened_on (content.CheckProducer t) ps = ps
 opened_on (content.CloseProducer t) ps = ps
+opened_on (content.MultiSend t topic m) ps = ps
+opened_on (content.MultiSendAll t topic ms) ps = ps
+opened_on (content.MultiClose t topic) ps = ps
 opened_on (content.Consumer wanted) ps = ps
 opened_on (content.Ack t name id cumulative) ps = ps
 opened_on (content.Nack t name id) ps = ps

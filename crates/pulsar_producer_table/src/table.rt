@@ -27,16 +27,15 @@ use pulsar_producer::deed::Drawn;
 use pulsar_producer::random::first_index;
 use pulsar_producer::routing::Partition;
 use pulsar_producer::sending::Errand;
-use pulsar_producer::storage::Limits;
 use pulsar_producer::{CustomRoutingPolicy, Producer, TopicProducer};
 use pulsar_wire::error::NoMemory;
 use std::alloc::Global;
 use std::collections::{BTreeMap, BTreeSet};
 
-/// A topic producer, and the ticket of the producer that it belongs to.
+/// A topic producer, and how it is made and sends.
 #[derive(Drop)]
 pub struct Topic {
-    pub owner: u64,
+    pub options: Settings,
     pub seen: TopicProducer,
 }
 
@@ -220,10 +219,7 @@ impl Producers {
         let Some(topic) = self.topics.get(&number) else {
             return Ok(None);
         };
-        match self.built.get(&topic.owner) {
-            Some(producer) => Ok(Some(topic.seen.command(self.alloc, producer.settings())?)),
-            None => Ok(None),
-        }
+        Ok(Some(topic.seen.command(self.alloc, &topic.options)?))
     }
 
     /// A topic producer was made again.
@@ -280,8 +276,7 @@ impl Producers {
             settings,
             parts,
         } = building;
-        let limits = settings.limits();
-        let partitions = self.make_all(ticket, limits, parts, first_number)?;
+        let partitions = self.make_all(&settings, parts, first_number)?;
         match made_of(seed, ticket, topic, settings, partitions) {
             Some(producer) => drop(self.built.insert(ticket, producer)?),
             None => {}
@@ -290,38 +285,38 @@ impl Producers {
     }
 
     /// The topic producers of a producer, as its partitions.
-    fn make_all(
+    pub fn make_all(
         &mut self,
-        owner: u64,
-        limits: Limits,
+        settings: &Settings,
         parts: Parts,
         first_number: u64,
     ) -> Result<Vec<Partition>, NoMemory>
         ensures partitions { IfOk result (λ ps. ps.items ≡ map meaning.partition_of parts) }
-        ensures after { OnOk result (producers_of self.new ≡ meaning.with_topics owner first_number limits parts (producers_of self.old)) }
+        ensures after { OnOk result (producers_of self.new ≡ meaning.with_topics settings.now first_number parts (producers_of self.old)) }
     {
         let mut partitions = Vec::new(self.alloc);
         for built in parts.into_inner() {
             partitions.push(partition_of(&built)?)?;
-            self.make(owner, limits, built, first_number)?;
+            self.make(settings.copy(self.alloc)?, built, first_number)?;
         }
         Ok(partitions)
     }
 
-    fn make(
-        &mut self,
-        owner: u64,
-        limits: Limits,
-        built: Built,
-        first_number: u64,
-    ) -> Result<(), NoMemory>
-        ensures { OnOk result (producers_of self.new ≡ meaning.with_topic owner first_number limits built (producers_of self.old)) }
+    fn make(&mut self, options: Settings, built: Built, first_number: u64) -> Result<(), NoMemory>
+        ensures { OnOk result (producers_of self.new ≡ meaning.with_topic options first_number built (producers_of self.old)) }
     {
         let number = built.number;
-        let seen = TopicProducer::new(self.alloc, built, first_number, limits);
+        let seen = TopicProducer::new(self.alloc, built, first_number, options.limits());
         self.numbers.push(number)?;
-        self.topics.insert(number, Topic { owner, seen })?;
+        self.topics.insert(number, Topic { options, seen })?;
         Ok(())
+    }
+
+    /// These topic producers take no sends from now on.
+    pub fn shut_all(&mut self, partitions: &[Partition])
+        ensures { producers_of self.new ≡ meaning.shut_all (map (λ q. q.number) partitions.now) (producers_of self.old) }
+    {
+        close_all(&mut self.topics, partitions);
     }
 
     /// A topic producer that is not closed is on this link.
@@ -381,11 +376,10 @@ impl Producers {
 
     /// How long what a topic producer stores waits.
     pub fn timeout(&self, number: u64) -> Option<u64>
-        ensures { result ≡ meaning.timeout_at (producers_of self.now) ((producers_of self.now).topics number) }
+        ensures { result ≡ meaning.timeout_at ((producers_of self.now).topics number) }
     {
         let topic = self.topics.get(&number)?;
-        let producer = self.built.get(&topic.owner)?;
-        producer.settings().batch_timeout()
+        topic.options.batch_timeout()
     }
 
     /// A topic producer stores nothing.
@@ -453,6 +447,13 @@ impl Producers {
         topic.seen.take_batch()
     }
 
+    /// The tickets of the messages that these topic producers store.
+    pub fn stored_at(&self, partitions: &[Partition]) -> Result<Vec<u64>, NoMemory>
+        ensures { IfOk result (λ ts. ts.items ≡ meaning.stored_by (producers_of self.now) (map (λ q. q.number) partitions.now)) }
+    {
+        stored_in(self.alloc, &self.topics, partitions)
+    }
+
     /// The tickets of the messages that the topic producers of a producer store.
     pub fn stored_by(&self, ticket: u64) -> Result<Vec<u64>, NoMemory>
         ensures { IfOk result (λ ts. ts.items ≡ meaning.stored_by (producers_of self.now) (meaning.numbers_at ((producers_of self.now).built ticket))) }
@@ -481,7 +482,7 @@ fn advice_of(
 }
 
 /// The numbers of the topic producers of these partitions, in order.
-fn numbers_of(alloc: Global, partitions: &[Partition]) -> Result<Numbers, NoMemory>
+pub fn numbers_of(alloc: Global, partitions: &[Partition]) -> Result<Numbers, NoMemory>
     ensures { IfOk result (λ ns. ns ≡ map (λ q. q.number) partitions.now) }
 {
     let mut numbers = Numbers::new(alloc);
@@ -492,7 +493,7 @@ fn numbers_of(alloc: Global, partitions: &[Partition]) -> Result<Numbers, NoMemo
 }
 
 /// A producer that begins behind an index that is drawn for it. There is none of too many partitions.
-fn made_of(
+pub fn made_of(
     seed: u64,
     ticket: u64,
     topic: Text,

@@ -19,7 +19,7 @@ use Rattle.pulsar_link.specs.Messages.{read}
 use Rattle.pulsar_calls.specs.declared.act.Act.{Act}
 use Rattle.pulsar_calls.specs.declared.act.Act.TheVariants.{Comes, Starts, Told, Does, Answers, Dials}
 use Rattle.pulsar_calls.specs.declared.act.Action.{Action}
-use Rattle.pulsar_calls.specs.declared.act.Action.TheVariants.{Get, Ask, Wait, TakeTurn, PassTurn, Draw, Recall, Remake, Number, Find, Shut, Store, Flush, TakeBatch, TakeNumber, FindConsumer, TakeFlow, RecallConsumer, Revive, FailConsumer, Tell, TellAll, StopAll, Rest}
+use Rattle.pulsar_calls.specs.declared.act.Action.TheVariants.{Get, Ask, Wait, TakeTurn, PassTurn, Draw, Recall, Remake, Number, Find, Shut, Store, Flush, TakeBatch, Multi, TakeNumber, FindConsumer, TakeFlow, RecallConsumer, Revive, FailConsumer, Tell, TellAll, StopAll, Rest}
 use Rattle.pulsar_calls.specs.declared.act.Alarm.{Alarm}
 use Rattle.pulsar_calls.specs.declared.act.Alarm.TheVariants.{Retry, Wake, Batch, KeepAlive, CheckIdle}
 use Rattle.pulsar_calls.specs.declared.act.Arrival.{Arrival}
@@ -82,8 +82,18 @@ use Rattle.pulsar_tables.specs.Links.{Change, Remains, Becomes, IsOver, closed_b
 use Rattle.pulsar_calls.specs.Content.{numbers_from}
 use Rattle.pulsar_tables.specs.Links as links
 use Rattle.pulsar_procedures.specs.Plan.{begins, closed_notice, fails}
-use Rattle.pulsar_producer_table.specs.Notices.{stopped_all}
+use Rattle.pulsar_producer_table.specs.Notices.{stopped_all, stopped_takers}
 use Rattle.pulsar_producer_table.specs.Producers.{Producers, advice, batches_in, drawn, errand_of, is_held, is_settled_at, is_woken, link_at, next_batch_at, number_drawn, numbers_at, recalled, routed, stored_by, turn_passed, turn_taken, why_not}
+use Rattle.pulsar_producer.specs.MultiTopic as multi_topic
+use Rattle.pulsar_producer.specs.declared.multi_topic.content.MultiSaid.{MultiSaid}
+use Rattle.pulsar_producer.specs.declared.multi_topic.content.MultiSaid.TheVariants as said
+use Rattle.pulsar_producer.specs.declared.multi_topic.deed.MultiAsk.{MultiAsk}
+use Rattle.pulsar_producer.specs.declared.multi_topic.deed.MultiAsk.TheVariants as ask
+use Rattle.pulsar_producer.specs.declared.multi_topic.producer.Multi.{Multi as MultiName}
+use Rattle.pulsar_producer.specs.declared.multi_topic.producer.Multi.TheVariants.{Own, Made}
+use Rattle.pulsar_producer.specs.declared.multi_topic.producer.Taker.{Taker}
+use Rattle.pulsar_producer_table.specs.Multis as multi
+use Rattle.pulsar_producer_table.specs.Multis.{Multis, topic_numbers}
 use Rattle.pulsar_calls.specs.Content.{next_advice}
 use Rattle.pulsar_tables.specs.View.{Addresses, Base, Chosen, Links, Options, Seat, Tickets, Turned, View, answer_at, arrival_at, is_live, later, may_call, room_of, told_some, turned, url_at, ways_of}
 use Rattle.pulsar_consumer_table.specs.Consumers as consumer
@@ -92,7 +102,7 @@ pub use Rattle.pulsar_tables.specs.Reading.{tells, unless}
 use Rattle.pulsar_consumer_table.specs.Notices.{again_at, polled_due, revived_at}
 use Rattle.pulsar_tables.specs.Reading.{acknowledges, closed_at, flow_said, heard_on, leaves, lost_on, made_due, numbering_said, recalled_said, revived_said, serves_by, sought_said, stopped_on, subscribes, tells_word}
 use Rattle.pulsar_consumer_table.specs.Consumers.{Consumers, is_heard, over_rows}
-use Rattle.pulsar_calls.specs.Who.{in_turn, is_before, is_same, rank, ticket_of, turn_of}
+use Rattle.pulsar_calls.specs.Who.{in_turn, is_before, is_same, rank, taker_of, ticket_of, turn_of, who_of}
 
 -- EVENTS
 
@@ -235,6 +245,40 @@ checks ps t = unless (why_not ps t) (procedure.Go Checks (numbers_at (ps.built t
 abbrev pub closes : Producers → (producer : ℕ) → Procedure
 closes ps t = if is_some (ps.built t) then procedure.Close t (numbers_at (ps.built t)) else procedure.Refuse refusal.UnknownTicket
 
+-- CALLS ON PRODUCERS OF MANY TOPICS. One names such a producer by the ticket of the call that made it.
+
+abbrev pub why_no_multi : Multis → (ticket : ℕ) → Option Refusal
+why_no_multi ms t = if is_some (multi.at (Made t) ms) then None else Some refusal.UnknownTicket
+
+abbrev pub multi_sends_by : Option Ways → MultiName → Option Share → (topic : List ℕ) → ProducerMessageValues → Procedure
+multi_sends_by None m share topic message = fails_as share refusal.NoAddress
+multi_sends_by (Some ways) m share topic message = procedure.MultiSend ways m share topic message
+
+abbrev pub multi_sends_as : Chosen → MultiName → Option Share → (topic : List ℕ) → ProducerMessageValues → Procedure
+multi_sends_as o m share topic message = multi_sends_by (ways_of o) m share topic message
+
+abbrev pub multi_sends : Chosen → Multis → (ticket : ℕ) → (topic : List ℕ) → ProducerMessageValues → Procedure
+multi_sends o ms t topic message = unless (why_no_multi ms t) (multi_sends_as o (Made t) None topic message)
+
+-- several messages are sent one by one, each by the next ticket
+abbrev pub multi_shares_of : Chosen → (of ticket : ℕ) → MultiName → (topic : List ℕ) → List ProducerMessageValues → List Act
+multi_shares_of o of ticket m topic [] = []
+multi_shares_of o of ticket m topic (x ∷ xs) =
+    Starts (Call ticket) (multi_sends_as o m (share of ticket) topic x) ∷ multi_shares_of o of (ticket + 1) m topic xs
+
+abbrev pub why_no_multi_sends : Tickets → Multis → (ticket : ℕ) → Option Refusal
+why_no_multi_sends c ms t = if may_call c then why_no_multi ms t else Some refusal.Shutdown
+
+abbrev pub multi_shares_unless : Option Refusal → View → (ticket : ℕ) → (topic : List ℕ) → List ProducerMessageValues → List Act
+multi_shares_unless (Some r) v t topic xs = []
+multi_shares_unless None v t topic xs = multi_shares_of v.chosen v.calls.drawn (v.calls.drawn + 1) (Made t) topic xs
+
+abbrev pub multi_gathers : Tickets → Multis → (ticket : ℕ) → List ProducerMessageValues → Procedure
+multi_gathers c ms t xs = unless (why_no_multi ms t) (procedure.Gather (c.drawn + 1) (length xs))
+
+abbrev pub multi_closes : Multis → (ticket : ℕ) → (topic : List ℕ) → Procedure
+multi_closes ms t topic = unless (why_no_multi ms t) (procedure.MultiClose (Made t) topic)
+
 -- a raw call leaves the numbers of the client's producers and consumers alone
 abbrev pub is_taken : Producers → Option ℕ → Bool
 is_taken ps None = false
@@ -252,25 +296,30 @@ abbrev pub asks_raw : Consumers → Producers → (link : ℕ) → Words → Pro
 asks_raw cs ps l request = unless (why_no_raw cs ps request) (procedure.Ask (place.Link l) request says.Bodies)
 
 -- the procedure of a call, and its parts
-abbrev pub procedure_for : Chosen → Tickets → Consumers → Producers → List (Option ℕ) → Asking → Procedure
-procedure_for o c cs ps advice content.Build = unless_refused (not c.is_stopped) (builds_with o.outbound o.base)
-procedure_for o c cs ps advice content.Stop = unless_refused (may_call c) procedure.Stop
-procedure_for o c cs ps advice (content.Topics namespace mode) = unless_refused (may_call c) (from_base o.base (asks_topics namespace mode))
-procedure_for o c cs ps advice (content.Lookup topic) = unless_refused (may_call c) (searches (ways_of o) (sought.Look topic))
-procedure_for o c cs ps advice (content.Partitions topic) = unless_refused (may_call c) (searches (ways_of o) (sought.CountPartitions topic))
-procedure_for o c cs ps advice (content.Brokers topic) = unless_refused (may_call c) (searches (ways_of o) (sought.Name topic))
-procedure_for o c cs ps advice (content.Producer wanted) = unless_refused (may_call c) (produces o wanted)
-procedure_for o c cs ps advice (content.Send t m) = unless_refused (may_call c) (sends o ps (next_advice advice) t m)
-procedure_for o c cs ps advice (content.SendAll t ms) = unless_refused (may_call c) (gathers c ps t ms)
-procedure_for o c cs ps advice (content.Flush t) = unless_refused (may_call c) (flushes ps t)
-procedure_for o c cs ps advice (content.CheckProducer t) = unless_refused (may_call c) (checks ps t)
-procedure_for o c cs ps advice (content.CloseProducer t) = unless_refused (may_call c) (closes ps t)
-procedure_for o c cs ps advice (content.Consumer wanted) = unless_refused (may_call c) (subscribes o c.drawn wanted)
-procedure_for o c cs ps advice (content.Ack t name id cumulative) =
+abbrev pub procedure_for : Chosen → Tickets → Consumers → Producers → Multis → List (Option ℕ) → Asking → Procedure
+procedure_for o c cs ps ms advice content.Build = unless_refused (not c.is_stopped) (builds_with o.outbound o.base)
+procedure_for o c cs ps ms advice content.Stop = unless_refused (may_call c) procedure.Stop
+procedure_for o c cs ps ms advice (content.Topics namespace mode) = unless_refused (may_call c) (from_base o.base (asks_topics namespace mode))
+procedure_for o c cs ps ms advice (content.Lookup topic) = unless_refused (may_call c) (searches (ways_of o) (sought.Look topic))
+procedure_for o c cs ps ms advice (content.Partitions topic) = unless_refused (may_call c) (searches (ways_of o) (sought.CountPartitions topic))
+procedure_for o c cs ps ms advice (content.Brokers topic) = unless_refused (may_call c) (searches (ways_of o) (sought.Name topic))
+procedure_for o c cs ps ms advice (content.Post topic m) = unless_refused (may_call c) (multi_sends_as o Own None topic m)
+procedure_for o c cs ps ms advice (content.Producer wanted) = unless_refused (may_call c) (produces o wanted)
+procedure_for o c cs ps ms advice (content.MultiProducer wanted) = unless_refused (may_call c) (procedure.MakeMulti wanted.name wanted.options)
+procedure_for o c cs ps ms advice (content.Send t m) = unless_refused (may_call c) (sends o ps (next_advice advice) t m)
+procedure_for o c cs ps ms advice (content.SendAll t xs) = unless_refused (may_call c) (gathers c ps t xs)
+procedure_for o c cs ps ms advice (content.Flush t) = unless_refused (may_call c) (flushes ps t)
+procedure_for o c cs ps ms advice (content.CheckProducer t) = unless_refused (may_call c) (checks ps t)
+procedure_for o c cs ps ms advice (content.CloseProducer t) = unless_refused (may_call c) (closes ps t)
+procedure_for o c cs ps ms advice (content.MultiSend t topic m) = unless_refused (may_call c) (multi_sends o ms t topic m)
+procedure_for o c cs ps ms advice (content.MultiSendAll t topic xs) = unless_refused (may_call c) (multi_gathers c ms t xs)
+procedure_for o c cs ps ms advice (content.MultiClose t topic) = unless_refused (may_call c) (multi_closes ms t topic)
+procedure_for o c cs ps ms advice (content.Consumer wanted) = unless_refused (may_call c) (subscribes o c.drawn wanted)
+procedure_for o c cs ps ms advice (content.Ack t name id cumulative) =
     unless_refused (may_call c) (acknowledges cs t (λ n. words.SendAck n (id ∷ []) cumulative))
-procedure_for o c cs ps advice (content.Nack t name id) = unless_refused (may_call c) (acknowledges cs t (λ n. words.SendRedeliver n (id ∷ [])))
-procedure_for o c cs ps advice (content.CloseConsumer t) = unless_refused (may_call c) (leaves cs t)
-procedure_for o c cs ps advice (content.Raw l request) = unless_refused (may_call c) (asks_raw cs ps l request)
+procedure_for o c cs ps ms advice (content.Nack t name id) = unless_refused (may_call c) (acknowledges cs t (λ n. words.SendRedeliver n (id ∷ [])))
+procedure_for o c cs ps ms advice (content.CloseConsumer t) = unless_refused (may_call c) (leaves cs t)
+procedure_for o c cs ps ms advice (content.Raw l request) = unless_refused (may_call c) (asks_raw cs ps l request)
 
 abbrev pub parts_of : View → List (Option ℕ) → Asking → List Act
 parts_of v advice content.Build = []
@@ -279,12 +328,17 @@ parts_of v advice (content.Topics namespace mode) = []
 parts_of v advice (content.Lookup topic) = []
 parts_of v advice (content.Partitions topic) = []
 parts_of v advice (content.Brokers topic) = []
+parts_of v advice (content.Post topic m) = []
 parts_of v advice (content.Producer wanted) = []
+parts_of v advice (content.MultiProducer wanted) = []
 parts_of v advice (content.Send t m) = []
 parts_of v advice (content.SendAll t ms) = shares_unless (why_no_sends v.calls v.producers t) v advice t ms
 parts_of v advice (content.Flush t) = []
 parts_of v advice (content.CheckProducer t) = []
 parts_of v advice (content.CloseProducer t) = []
+parts_of v advice (content.MultiSend t topic m) = []
+parts_of v advice (content.MultiSendAll t topic xs) = multi_shares_unless (why_no_multi_sends v.calls v.multis t) v t topic xs
+parts_of v advice (content.MultiClose t topic) = []
 parts_of v advice (content.Consumer wanted) = []
 parts_of v advice (content.Ack t name id cumulative) = []
 parts_of v advice (content.Nack t name id) = []
@@ -293,7 +347,7 @@ parts_of v advice (content.Raw l request) = []
 
 abbrev pub starts : View → List (Option ℕ) → Asking → List Act
 starts v advice asked =
-    Starts (Call v.calls.drawn) (procedure_for v.chosen v.calls v.consumers v.producers advice asked) ∷ parts_of v advice asked
+    Starts (Call v.calls.drawn) (procedure_for v.chosen v.calls v.consumers v.producers v.multis advice asked) ∷ parts_of v advice asked
 
 -- A call is made with the next ticket, and its parts with those behind it. Where fewer are left it ends as that of the greatest ticket, which
 -- is never drawn.
@@ -356,6 +410,29 @@ finds who (Some l) = tells who (outcome.GotLink l)
 abbrev pub flushes_at : Who → Option Topic → List Act
 flushes_at who row = if is_settled_at row then grants who news.Done else []
 
+-- WHAT PLANS ASK OF PRODUCERS OF MANY TOPICS is told at once, but for a turn that another one has. Where the producer of a topic joins, each of
+-- its topic producers sends its batches by a plan of its own, if it makes batches.
+abbrev pub batches_by : Ways → (block : Bool) → Built → Act
+batches_by ways block b = Starts (Producer b.number) (procedure.Batch ways (record { producer = b.number; block = block }))
+
+abbrev pub batches_for : Option Ways → ProducerOptionsValues → List Built → List Act
+batches_for None o bs = []
+batches_for (Some ways) o bs = if is_batching o then map (batches_by ways o.block_queue_if_full) bs else []
+
+abbrev pub begun_by : Option Ways → MultiAsk → List Act
+begun_by ways ask.TakesTurn = []
+begun_by ways ask.PassesTurn = []
+begun_by ways (ask.Hands h) = []
+begun_by ways (ask.Joins j) = batches_for ways j.settings j.parts
+begun_by ways (ask.Removes topic) = []
+
+abbrev pub multi_tells : Who → MultiSaid → Act
+multi_tells who x = Told (notice who (outcome.Multi x))
+
+abbrev pub multi_performs : View → Who → MultiAsk → Option multi_topic.Seen → List Act
+multi_performs v who a None = tells_lost who
+multi_performs v who a (Some s) = begun_by (ways_of v.chosen) a ++ map (multi_tells who) (multi.says v.policies (taker_of who) a s)
+
 -- every live link ends, and who stops the client is told
 abbrev pub stop_act : ℕ → Seat → List Act
 stop_act l seat = Comes (ToLink l (Ends Stops)) ∷ []
@@ -379,6 +456,7 @@ performs v who (Shut t) = grants who news.Done
 performs v who (Store n e) = grants who news.Done
 performs v who (Flush n) = flushes_at who (v.producers.topics n)
 performs v who (TakeBatch n) = grants who (news.HasBatch (next_batch_at (v.producers.topics n)))
+performs v who (Multi m a) = multi_performs v who a (multi.at m v.multis)
 performs v who (TakeNumber wanted) = tells who (numbering_said (consumer.numbering v.consumers wanted))
 performs v who (FindConsumer t) = sought_said who (consumer.sought (v.consumers.rows t))
 performs v who TakeFlow = tells_word who (flow_said (consumer.flow_at (v.consumers.rows (ticket_of who))))
@@ -438,22 +516,13 @@ rung v (KeepAlive l) = keeps_alive l (v.links.live l)
 rung v CheckIdle = over_links (idle_act v) v.links
 
 -- Each topic producer of a producer that sends batches sends them by a plan of its own, which begins with it.
-abbrev pub batches_by : Ways → (block : Bool) → Built → Act
-batches_by ways block b = Starts (Producer b.number) (procedure.Batch ways (record { producer = b.number; block = block }))
-
-abbrev pub batches_from : Option Ways → Building → List Act
-batches_from None b = []
-batches_from (Some ways) b = map (batches_by ways b.settings.block_queue_if_full) b.parts
-
-abbrev pub batches_made : Option Ways → Building → List Act
-batches_made ways b = if is_batching b.settings then batches_from ways b else []
-
 abbrev pub left_with : Option Ways → Who → Makes → List Act
 left_with ways w makes.Nothing = []
 left_with ways w makes.Client = []
 left_with ways w (makes.Consumer j) = serves_by ways w j
 left_with ways w (makes.RawConsumer l made) = []
-left_with ways w (makes.Producer b) = batches_made ways b
+left_with ways w (makes.Producer b) = batches_for ways b.settings b.parts
+left_with ways w (makes.MultiProducer name settings) = []
 
 abbrev pub at_once : View → Act → List Act
 at_once v (Comes (Calls asked advice)) = called v advice asked
@@ -497,6 +566,18 @@ ready_notice n = notice (Producer n) (outcome.Granted news.Ready)
 abbrev pub readied : (number : ℕ) → topic.Act → Option Topic → List Notice
 readied n act row = if is_woken act row then ready_notice n ∷ [] else []
 
+-- those whom one who asks of a producer of many topics lets go on: the next one who has its turn, and those whose messages are stored by topic
+-- producers that are closed
+abbrev pub multi_turn_notice : Taker → Notice
+multi_turn_notice t = notice (who_of t) (outcome.Multi said.HasTurn)
+
+abbrev pub multi_joins : Producers → Option multi_topic.Seen → MultiAsk → List Notice
+multi_joins ps row ask.TakesTurn = []
+multi_joins ps row ask.PassesTurn = option_to_list (option_map multi_turn_notice (multi.next_on row))
+multi_joins ps row (ask.Hands h) = []
+multi_joins ps row (ask.Joins j) = []
+multi_joins ps row (ask.Removes topic) = map closed_notice (stored_by ps (topic_numbers topic row))
+
 abbrev pub joins : View → Act → List Notice
 joins v (Comes (Polls t)) = polled_due v.now t (v.consumers.rows t)
 joins v (Does who (Ask l request)) = over_rows (closed_at v l request) v.consumers
@@ -507,6 +588,7 @@ joins v (Does who (PassTurn n)) = option_to_list (option_map (turn_notice n) (tu
 joins v (Does who (Store n e)) = readied n (topic.Stores (turn_of who) e) (v.producers.topics n)
 joins v (Does who (Flush n)) = readied n (topic.Flushes (turn_of who)) (v.producers.topics n)
 joins v (Does who (Shut t)) = map closed_notice (stored_by v.producers (numbers_at (v.producers.built t)))
+joins v (Does who (Multi m a)) = multi_joins v.producers (multi.at m v.multis) a
 joins v (Does who (Tell n)) = n ∷ []
 joins v (Does who (TellAll ns)) = ns
 joins v _ = []
@@ -666,5 +748,5 @@ stopped_with known CheckIdle = []
 abbrev pub causes : View → Act → List (List Notice)
 causes v (Comes (ToLink l x)) = caused v l x
 causes v (Comes (Rings a)) = if rings v.now a v.alarms then opens (woken v a) else []
-causes v (Does who StopAll) = opens ((flat_map (λ e. stopped_with v.addresses e.0) v.alarms ++ stopped_all v.producers) ++ stopped_on v)
+causes v (Does who StopAll) = opens ((flat_map (λ e. stopped_with v.addresses e.0) v.alarms ++ (stopped_all v.producers ++ stopped_takers v.multis)) ++ stopped_on v)
 causes v _ = []

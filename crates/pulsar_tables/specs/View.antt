@@ -26,7 +26,7 @@ use Rattle.pulsar_session.specs.Link.{Asks, Feeds, Seen, Setup, came, has_room, 
 use Rattle.pulsar_link.specs.Request.{closed_consumer, is_awaited}
 use Rattle.pulsar_calls.specs.declared.act.Act.{Act}
 use Rattle.pulsar_calls.specs.declared.act.Act.TheVariants.{Comes, Starts, Told, Does, Answers, Dials}
-use Rattle.pulsar_calls.specs.declared.act.Action.TheVariants.{Get, Ask, Wait, TakeTurn, PassTurn, Draw, Remake, Number, Shut, Store, Flush, TakeBatch, TakeNumber, FindConsumer, TakeFlow, Revive, FailConsumer, StopAll}
+use Rattle.pulsar_calls.specs.declared.act.Action.TheVariants.{Get, Ask, Wait, TakeTurn, PassTurn, Draw, Remake, Number, Shut, Store, Flush, TakeBatch, Multi, TakeNumber, FindConsumer, TakeFlow, Revive, FailConsumer, StopAll}
 use Rattle.pulsar_calls.specs.declared.act.Alarm.{Alarm}
 use Rattle.pulsar_calls.specs.declared.act.Alarm.TheVariants.{Retry, Wake, Batch, KeepAlive, CheckIdle}
 use Rattle.pulsar_calls.specs.declared.act.Arrival.{Arrival}
@@ -36,7 +36,7 @@ use Rattle.pulsar_calls.specs.declared.act.End.TheVariants.{Unopened, Lost, Over
 use Rattle.pulsar_calls.specs.declared.act.LinkAct.{LinkAct}
 use Rattle.pulsar_calls.specs.declared.act.LinkAct.TheVariants.{Opens, Reads, Drains, Pings, Ends}
 use Rattle.pulsar_calls.specs.declared.act.Makes.{Makes}
-use Rattle.pulsar_calls.specs.declared.act.Makes.TheVariants.{Nothing, Client, Consumer, RawConsumer, Producer}
+use Rattle.pulsar_calls.specs.declared.act.Makes.TheVariants.{Nothing, Client, Consumer, RawConsumer, Producer, MultiProducer}
 use Rattle.pulsar_calls.specs.declared.act.Outcome.{Outcome}
 use Rattle.pulsar_calls.specs.declared.act.Part.TheVariants.{Calls, ToLink, Rings, Polls}
 use Rattle.pulsar_calls.specs.declared.act.Verdict.{Verdict}
@@ -55,14 +55,19 @@ use Rattle.pulsar_calls.specs.Content.{Heard, Called, Opened, FailedToOpen, Byte
 use Rattle.pulsar_tables.specs.Links.{Change, Remains, Becomes, IsOver, arrival, change_by, change_in, closed_by, settled_in}
 use Rattle.pulsar_tables.specs.Links as links
 use Rattle.pulsar_procedures.specs.Plan.{begins, told}
-use Rattle.pulsar_producer_table.specs.Producers.{Producers, called_on, changed, halted, is_bare, joined, link_at, none, numbered, numbers_at, shut, timeout_at, topic_after}
+use Rattle.pulsar_producer_table.specs.Producers.{Producers, called_on, changed, halted, is_bare, joined, link_at, none, numbered, numbers_at, shut, shut_all, timeout_at, topic_after, with_topics}
+use Rattle.pulsar_producer.specs.declared.multi_topic.deed.MultiAsk.{MultiAsk}
+use Rattle.pulsar_producer.specs.declared.multi_topic.deed.MultiAsk.TheVariants as ask
+use Rattle.pulsar_producer.specs.MultiTopic as multi_topic
+use Rattle.pulsar_producer_table.specs.Multis as multi
+use Rattle.pulsar_producer_table.specs.Multis.{Multis, act_of, changed_by, only_own, topic_numbers, with_made}
 use Rattle.pulsar_producer.specs.Routing.{Policy}
 use Rattle.pulsar_producer.specs.Topic as topic
 use Rattle.pulsar_consumer_table.specs.Consumers as consumer
 use Rattle.pulsar_consumer_table.specs.Consumers.{Consumers, IsHeard, Member}
 use Rattle.pulsar_consumer.specs.Topic as reader
 use Rattle.pulsar_consumer.specs.Topic.{of_raw}
-use Rattle.pulsar_calls.specs.Who.{is_same, rank, ticket_of, turn_of}
+use Rattle.pulsar_calls.specs.Who.{is_same, rank, taker_of, ticket_of, turn_of}
 
 -- What a client's options say of a run: the address of the service, where their URL has one; the credential; how connections are
 -- attempted and kept, and how long requests wait, in milliseconds; how many frames of a link may be queued and not written; what random
@@ -119,9 +124,11 @@ pub record Addresses : Type 0 where
   pub base : (key : List ℕ) → Base
   pub pause : (link : ℕ) → Option Pause
 
--- all: the options, the clock, where each plan stands, the calls, the links, the addresses, the alarms, the consumers, and the producers
+-- all: the options, the policies, the clock, where each plan stands, the calls, the links, the addresses, the alarms, the consumers, the
+-- producers, and the producers of many topics
 pub record View : Type 0 where
   pub chosen : Chosen
+  pub policies : List Policy
   pub now : ℕ
   pub stand : Who → Option Plan
   pub calls : Tickets
@@ -130,12 +137,14 @@ pub record View : Type 0 where
   pub alarms : List (Alarm × ℕ)
   pub consumers : Consumers
   pub producers : Producers
+  pub multis : Multis
 
 -- at first
 abbrev pub new : Options → View
 new o =
     record {
       chosen = o.chosen;
+      policies = o.policies;
       now = o.chosen.now;
       stand = λ w. None;
       calls = record { drawn = 0; is_built = false; is_stopped = false };
@@ -144,6 +153,7 @@ new o =
       alarms = [];
       consumers = consumer.none o.chosen.first_number;
       producers = none o.chosen.first_number;
+      multis = only_own;
     }
 
 -- a moment that is so far from another
@@ -239,6 +249,7 @@ builds Client b = true
 builds (Consumer made) b = b
 builds (RawConsumer link made) b = b
 builds (Producer made) b = b
+builds (MultiProducer name settings) b = b
 
 abbrev pub built_after : Act → Bool → Bool
 built_after (Answers who verdict) b = builds verdict.makes b
@@ -585,7 +596,7 @@ alarms_waiting now timeout n was_bare is_bare alarms =
 
 abbrev pub alarms_on_topic : View → (number : ℕ) → topic.Act → List (Alarm × ℕ)
 alarms_on_topic v n act =
-    alarms_waiting v.now (timeout_at v.producers (v.producers.topics n)) n (is_bare (v.producers.topics n))
+    alarms_waiting v.now (timeout_at (v.producers.topics n)) n (is_bare (v.producers.topics n))
     (is_bare (option_map (topic_after act) (v.producers.topics n))) v.alarms
 
 abbrev pub clear_all : List ℕ → List (Alarm × ℕ) → List (Alarm × ℕ)
@@ -599,6 +610,7 @@ alarms_after v (Does who (Wait delay)) = set (Wake who) (later v.now delay) v.al
 alarms_after v (Does who (Store n e)) = alarms_on_topic v n (topic.Stores (turn_of who) e)
 alarms_after v (Does who (Flush n)) = alarms_on_topic v n (topic.Flushes (turn_of who))
 alarms_after v (Does who (Shut t)) = clear_all (numbers_at (v.producers.built t)) v.alarms
+alarms_after v (Does who (Multi m (ask.Removes topic))) = clear_all (topic_numbers topic (multi.at m v.multis)) v.alarms
 alarms_after v (Does who StopAll) = []
 alarms_after v (Answers who verdict) = alarms_built v.now (not v.calls.is_built && builds verdict.makes false) v.alarms
 alarms_after v _ = v.alarms
@@ -629,6 +641,7 @@ abbrev pub consumers_made : (ℕ → Option Seat) → Who → Makes → Consumer
 consumers_made live w Nothing cs = cs
 consumers_made live w Client cs = cs
 consumers_made live w (Producer made) cs = cs
+consumers_made live w (MultiProducer name settings) cs = cs
 consumers_made live w (Consumer made) cs = joins_as w (member_on live made.link (setup_of made)) cs
 consumers_made live w (RawConsumer l made) cs = joins_as w (member_on live l (of_raw made)) cs
 
@@ -684,6 +697,7 @@ producers_made o who Client ps = ps
 producers_made o who (Consumer made) ps = ps
 producers_made o who (RawConsumer link made) ps = ps
 producers_made o who (Producer made) ps = joined (rank who).1 made o.seed o.first_number ps
+producers_made o who (MultiProducer name settings) ps = ps
 
 -- what is stored is cut once it has waited
 abbrev pub producers_rung : (rings : Bool) → Alarm → Producers → Producers
@@ -692,6 +706,15 @@ producers_rung rings (Retry l) ps = ps
 producers_rung rings (Wake who) ps = ps
 producers_rung rings (KeepAlive l) ps = ps
 producers_rung rings CheckIdle ps = ps
+
+-- a producer of many topics makes the topic producers of a topic, or closes them
+abbrev pub producers_asked : (first_number : ℕ) → Option multi_topic.Seen → MultiAsk → Producers → Producers
+producers_asked first None a ps = ps
+producers_asked first (Some s) ask.TakesTurn ps = ps
+producers_asked first (Some s) ask.PassesTurn ps = ps
+producers_asked first (Some s) (ask.Hands h) ps = ps
+producers_asked first (Some s) (ask.Joins j) ps = with_topics j.settings first j.parts ps
+producers_asked first (Some s) (ask.Removes topic) ps = shut_all (topic_numbers topic (Some s)) ps
 
 abbrev pub producers_after : View → Act → Producers
 producers_after v (Comes (Calls asked advice)) =
@@ -706,9 +729,26 @@ producers_after v (Does who (Shut t)) = shut t v.producers
 producers_after v (Does who (Store n e)) = changed n (topic.Stores (turn_of who) e) v.producers
 producers_after v (Does who (Flush n)) = changed n (topic.Flushes (turn_of who)) v.producers
 producers_after v (Does who (TakeBatch n)) = changed n topic.TakesBatch v.producers
+producers_after v (Does who (Multi m a)) = producers_asked v.chosen.first_number (multi.at m v.multis) a v.producers
 producers_after v (Does who StopAll) = halted v.producers
 producers_after v (Answers who verdict) = producers_made v.chosen who verdict.makes v.producers
 producers_after v _ = v.producers
+
+-- PRODUCERS OF MANY TOPICS
+
+-- the one that a verdict makes has the ticket of its call
+abbrev pub multis_made : Who → Makes → Multis → Multis
+multis_made who Nothing ms = ms
+multis_made who Client ms = ms
+multis_made who (Consumer made) ms = ms
+multis_made who (RawConsumer link made) ms = ms
+multis_made who (Producer made) ms = ms
+multis_made who (MultiProducer name settings) ms = with_made (rank who).1 name settings ms
+
+abbrev pub multis_after : View → Act → Multis
+multis_after v (Does who (Multi m a)) = changed_by m (act_of v.chosen.seed (ticket_of who) (taker_of who) a) v.multis
+multis_after v (Answers who verdict) = multis_made who verdict.makes v.multis
+multis_after v _ = v.multis
 
 -- WHAT A LINK IS WAITED FOR
 
@@ -728,6 +768,7 @@ abbrev pub after : Act → View → View
 after a v =
     record {
       chosen = v.chosen;
+      policies = v.policies;
       now = v.now;
       stand = λ w. stand_after a w (v.stand w);
       calls = calls_after a v.calls;
@@ -736,4 +777,5 @@ after a v =
       alarms = alarms_after v a;
       consumers = consumers_after v a;
       producers = producers_after v a;
+      multis = multis_after v a;
     }

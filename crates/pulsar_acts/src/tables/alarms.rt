@@ -116,6 +116,7 @@ impl Tables {
         self.is_stopped = true;
         let mut notices = self.stop_alarms()?;
         self.producers.stop(&mut notices)?;
+        self.multis.stop(&mut notices)?;
         self.consumers.stop(&mut notices)?;
         self.producers.halt();
         tell(who, Outcome::Stopped, tasks)?;

@@ -5,7 +5,7 @@ ghost use Rattle.pulsar_run.specs.Order.{arranged, put_all};
 ghost use Rattle.pulsar_producer_table.specs.KeptProducers.{producers_of};
 ghost use Rattle.pulsar_procedures.specs.Plan.{closed_notice};
 ghost use Rattle.pulsar_producer_table.specs.Producers.{is_bare, numbers_at, timeout_at};
-ghost use Rattle.pulsar_tables.specs.Rules.{batches_by, batches_from, batches_made, below, opens, ready_notice, woken};
+ghost use Rattle.pulsar_tables.specs.Rules.{batches_by, batches_for, below, opens, ready_notice, woken};
 ghost use Rattle.pulsar_agenda.specs.Run.{goes_on};
 ghost use Rattle.pulsar_agenda.specs.Agenda.{agenda_of};
 ghost use Rattle.pulsar_acts.specs.Tables.{chosen_of, rung_view, view_of};
@@ -16,11 +16,11 @@ use crate::tables::Tables;
 use crate::tables::alarms::later;
 use pulsar_agenda::agenda::Tasks;
 use pulsar_calls::act::{Act as Deed, Action, Alarm, Notice, Outcome, Procedure, Who};
-use pulsar_calls::content::{Building, Granted, Notices};
+use pulsar_calls::content::{Granted, Notices};
 use pulsar_calls::who::turn_of;
 use pulsar_plans::content::Refusal;
 use pulsar_plans::turn::Ways;
-use pulsar_producer::content::{Built, Entry};
+use pulsar_producer::content::{Built, Entry, Parts, Settings};
 use pulsar_producer::deed::News;
 use pulsar_producer::sending::Errand;
 use pulsar_wire::error::{Error, NoMemory, ProducerError};
@@ -104,7 +104,7 @@ impl Tables {
 
     /// What a topic producer stores waits from its first message on; where it stores nothing any longer nothing waits.
     fn waits_from(&mut self, number: u64, was_bare: bool) -> Result<(), NoMemory>
-        ensures sees { OnOk result (view_of self.new ≡ record (view_of self.old) { alarms = alarms_waiting self.old.clock (timeout_at (producers_of self.old.producers) ((producers_of self.old.producers).topics number)) number was_bare (is_bare ((producers_of self.old.producers).topics number)) self.old.alarms }) }
+        ensures sees { OnOk result (view_of self.new ≡ record (view_of self.old) { alarms = alarms_waiting self.old.clock (timeout_at ((producers_of self.old.producers).topics number)) number was_bare (is_bare ((producers_of self.old.producers).topics number)) self.old.alarms }) }
         ensures settings { self.new.settings ≡ self.old.settings }
     {
         if self.producers.is_bare(number) {
@@ -146,36 +146,48 @@ impl Tables {
     }
 
     /// The topic producers of a producer that is made send their batches, where they do, each by a plan of its own.
-    pub(super) fn batches_made(&self, building: &Building) -> Result<VecDeque<Deed>, NoMemory>
-        ensures { IfOk result (λ acts. acts.items ≡ batches_made (ways_of (chosen_of self.now.settings)) building.now) }
+    pub(super) fn batches_for(
+        &self,
+        settings: &Settings,
+        parts: &Parts,
+    ) -> Result<VecDeque<Deed>, NoMemory>
+        ensures { IfOk result (λ acts. acts.items ≡ batches_for (ways_of (chosen_of self.now.settings)) settings.now parts.now) }
     {
-        if !building.settings.is_batching() {
+        if !settings.is_batching() {
             return Ok(VecDeque::new(self.alloc));
         }
         match self.settings.ways(self.alloc)? {
-            Some(ways) => batches_from(self.alloc, &ways, building),
+            Some(ways) => {
+                let block = settings.options().block_queue_if_full;
+                batches_from(self.alloc, &ways, block, parts)
+            }
             None => Ok(VecDeque::new(self.alloc)),
         }
     }
 }
 
 /// Each topic producer of a producer sends its batches by a plan of its own.
-fn batches_from(alloc: Global, ways: &Ways, building: &Building) -> Result<VecDeque<Deed>, NoMemory>
-    ensures { IfOk result (λ acts. acts.items ≡ batches_from (Some ways.now) building.now) }
+fn batches_from(
+    alloc: Global,
+    ways: &Ways,
+    block: bool,
+    parts: &Parts,
+) -> Result<VecDeque<Deed>, NoMemory>
+    ensures { IfOk result (λ acts. acts.items ≡ map (batches_by ways.now block) parts.now) }
 {
     let mut acts = VecDeque::new(alloc);
-    for built in building.parts.all() {
-        acts.push_back(batches_by(ways.copy(alloc)?, building, built))?;
+    for built in parts.all() {
+        acts.push_back(batches_by(ways.copy(alloc)?, block, built))?;
     }
     Ok(acts)
 }
 
-fn batches_by(ways: Ways, building: &Building, built: &Built) -> Deed
-    ensures { result ≡ batches_by ways building.now.settings.block_queue_if_full built.now }
+fn batches_by(ways: Ways, block: bool, built: &Built) -> Deed
+    ensures { result ≡ batches_by ways block built.now }
 {
     let errand = Errand {
         producer: built.number,
-        block: building.settings.options().block_queue_if_full,
+        block,
     };
     Deed::Starts {
         who: Who::Producer(built.number),

@@ -3,13 +3,14 @@
 ghost use Rattle.std.specs.Prelude.{◌≡◌, ◌∷◌, [], IfOk, OnOk};
 ghost use Rattle.std.specs.Option.{option_to_list};
 ghost use Rattle.pulsar_tables.specs.Kept.{live_in};
+ghost use Rattle.pulsar_producer_table.specs.KeptMultis.{multis_of};
 ghost use Rattle.pulsar_producer_table.specs.KeptProducers.{producers_of};
 ghost use Rattle.pulsar_consumer_table.specs.KeptConsumers.{consumers_in, member_in};
 ghost use Rattle.pulsar_consumer_table.specs.Notices.{due_to};
 ghost use Rattle.pulsar_tables.specs.Reading.{made_due, serves_by};
 ghost use Rattle.pulsar_tables.specs.Rules.{left_with};
 ghost use Rattle.pulsar_acts.specs.Tables.{chosen_of, view_of};
-ghost use Rattle.pulsar_tables.specs.View.{consumers_left, consumers_made, joins_as, member_on, producers_made, setup_of, ways_of};
+ghost use Rattle.pulsar_tables.specs.View.{consumers_left, consumers_made, joins_as, member_on, multis_made, producers_made, setup_of, ways_of};
 ghost use Rattle.pulsar_calls.specs.Who.{ticket_of};
 
 use crate::tables::Tables;
@@ -28,7 +29,7 @@ impl Tables {
     /// What a verdict makes has the ticket of its call: what a consumer is told that is made.
     pub(super) fn makes(&mut self, who: Who, makes: Makes) -> Result<Option<Notice>, NoMemory>
         ensures due { IfOk result (λ n. option_to_list n ≡ made_due (live_in self.old.links.live) who makes) }
-        ensures sees { OnOk result (view_of self.new ≡ record (view_of self.old) { consumers = consumers_made (live_in self.old.links.live) who makes (consumers_in self.old.consumers.rows self.old.consumers.numbers); producers = producers_made (chosen_of self.old.settings) who makes (producers_of self.old.producers) }) }
+        ensures sees { OnOk result (view_of self.new ≡ record (view_of self.old) { consumers = consumers_made (live_in self.old.links.live) who makes (consumers_in self.old.consumers.rows self.old.consumers.numbers); producers = producers_made (chosen_of self.old.settings) who makes (producers_of self.old.producers); multis = multis_made who makes (multis_of self.old.multis) }) }
         ensures settings { self.new.settings ≡ self.old.settings }
     {
         match makes {
@@ -45,6 +46,10 @@ impl Tables {
                     self.settings.seed,
                     self.settings.first_number,
                 )?;
+                Ok(None)
+            }
+            Makes::MultiProducer { name, settings } => {
+                self.multis.make(rank(who).1, name, settings)?;
                 Ok(None)
             }
         }
@@ -112,11 +117,15 @@ impl Tables {
         ensures { IfOk result (λ acts. acts.items ≡ left_with (ways_of (chosen_of self.now.settings)) who makes.now) }
     {
         match makes {
-            Makes::Producer(made) => self.batches_made(made.building()),
-            Makes::Consumer(joined) => self.serves(who, joined.joining()),
-            Makes::Nothing | Makes::Client | Makes::RawConsumer { .. } => {
-                Ok(VecDeque::new(self.alloc))
+            Makes::Producer(made) => {
+                let building = made.building();
+                self.batches_for(&building.settings, &building.parts)
             }
+            Makes::Consumer(joined) => self.serves(who, joined.joining()),
+            Makes::Nothing
+            | Makes::Client
+            | Makes::RawConsumer { .. }
+            | Makes::MultiProducer { .. } => Ok(VecDeque::new(self.alloc)),
         }
     }
 

@@ -1,0 +1,76 @@
+//! A close of a topic: the producer of that is removed in the turn of the close.
+
+ghost use Rattle.std.specs.Prelude.{◌≡◌, IfOk};
+ghost use Rattle.pulsar_producer.specs.MultiPlans as meaning;
+
+use crate::multi_topic::content::{MultiSaid, Numbers};
+use crate::multi_topic::deed::{MultiAsk, MultiDeed, MultiNews, MultiStep, multi_failure};
+use pulsar_plans::content::{Refusal, Text};
+use pulsar_wire::error::NoMemory;
+use std::alloc::Global;
+
+/// Where a close stands.
+#[derive(Drop)]
+pub enum MultiClosing {
+    /// It waits for its turn, to remove the producer of this topic.
+    Waiting(Text),
+    /// It removes that.
+    Removing,
+    /// Its turn is over, and then it gives this.
+    Passing(Result<Numbers, Refusal>),
+}
+
+/// What a close gives at its end: the numbers of the topic producers that are to be closed.
+pub type Closes = MultiStep<MultiClosing, Result<Numbers, Refusal>>;
+
+/// Where it begins.
+pub fn begins(topic: Text) -> Closes
+    ensures { result ≡ meaning.close_begins topic }
+{
+    MultiStep::Stays(
+        MultiClosing::Waiting(topic),
+        MultiDeed::Asks(MultiAsk::TakesTurn),
+    )
+}
+
+/// What news make of it.
+pub fn told(alloc: Global, closing: MultiClosing, news: MultiNews) -> Result<Closes, NoMemory>
+    ensures { IfOk result (λ step. step ≡ meaning.close_told closing news) }
+{
+    match closing {
+        MultiClosing::Waiting(topic) => in_waiting(alloc, topic, news),
+        MultiClosing::Removing => in_removing(alloc, news),
+        MultiClosing::Passing(given) => Ok(MultiStep::Gives(given)),
+    }
+}
+
+fn in_waiting(alloc: Global, topic: Text, news: MultiNews) -> Result<Closes, NoMemory>
+    ensures { IfOk result (λ step. step ≡ meaning.in_close_waiting topic news) }
+{
+    match news {
+        MultiNews::Said(MultiSaid::HasTurn) => Ok(MultiStep::Stays(
+            MultiClosing::Removing,
+            MultiDeed::Asks(MultiAsk::Removes(topic)),
+        )),
+        news => Ok(MultiStep::Gives(Err(multi_failure(alloc, news)?))),
+    }
+}
+
+fn in_removing(alloc: Global, news: MultiNews) -> Result<Closes, NoMemory>
+    ensures { IfOk result (λ step. step ≡ meaning.in_removing news) }
+{
+    match news {
+        MultiNews::Said(MultiSaid::Removed(numbers)) => Ok(passes(Ok(numbers))),
+        news => Ok(passes(Err(multi_failure(alloc, news)?))),
+    }
+}
+
+/// Its turn is over.
+fn passes(given: Result<Numbers, Refusal>) -> Closes
+    ensures { result ≡ meaning.close_passes given }
+{
+    MultiStep::Stays(
+        MultiClosing::Passing(given),
+        MultiDeed::Asks(MultiAsk::PassesTurn),
+    )
+}

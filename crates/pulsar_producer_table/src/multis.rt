@@ -1,0 +1,213 @@
+//! The producers of many topics of a client.
+
+ghost use Rattle.std.specs.Prelude.{◌≡◌, ◌++◌, IfOk, OnOk, Some, map, option_copied};
+ghost use Rattle.std.specs.List.{flat_map};
+ghost use Rattle.std.specs.Option.{is_some, option_map};
+ghost use Rattle.pulsar_calls.specs.Notices.{stopped_one};
+ghost use Rattle.pulsar_calls.specs.Who.{who_of};
+ghost use Rattle.pulsar_messages.specs.Content.{message_content};
+ghost use Rattle.pulsar_producer.specs.MultiTopic as multi;
+ghost use Rattle.pulsar_producer_table.specs.KeptMultis.{multis_of};
+ghost use Rattle.pulsar_producer_table.specs.Multis as meaning;
+ghost use Rattle.pulsar_producer_table.specs.Notices.{stopped_takers};
+
+use pulsar_calls::act::{Notice, Outcome};
+use pulsar_calls::who::who_of;
+use pulsar_plans::content::Text;
+use pulsar_producer::content::Settings;
+use pulsar_producer::multi_topic::content::{Handing, MultiSaid};
+use pulsar_producer::multi_topic::producer::{Multi, MultiTopicProducer, Taker};
+use pulsar_producer::{CustomRoutingPolicy, Producer, ProducerOptions};
+use pulsar_wire::error::NoMemory;
+use std::alloc::Global;
+use std::collections::{BTreeMap, VecDeque};
+
+/// The producers of many topics: the client's own, and by the tickets of the calls that made them all others.
+#[derive(Drop)]
+pub struct Multis {
+    pub alloc: Global,
+    pub own: MultiTopicProducer,
+    pub made: BTreeMap<u64, MultiTopicProducer>,
+}
+
+impl Multis {
+    /// The client's own alone, of default options.
+    pub fn new(alloc: Global) -> Result<Multis, NoMemory>
+        ensures { IfOk result (λ m. multis_of m ≡ meaning.only_own) }
+    {
+        let settings = Settings::new(alloc, ProducerOptions::new(alloc))?;
+        Ok(Multis {
+            alloc,
+            own: MultiTopicProducer::new(alloc, None, settings),
+            made: BTreeMap::new(alloc),
+        })
+    }
+
+    /// One of them.
+    pub fn at(&self, multi: Multi) -> Option<&MultiTopicProducer>
+        ensures { option_copied result ≡ meaning.at multi (multis_of self.now) }
+    {
+        match multi {
+            Multi::Own => Some(&self.own),
+            Multi::Made(ticket) => self.made.get(&ticket),
+        }
+    }
+
+    /// The call of this ticket makes one.
+    pub fn make(
+        &mut self,
+        ticket: u64,
+        name: Option<Text>,
+        settings: Settings,
+    ) -> Result<(), NoMemory>
+        ensures { OnOk result (multis_of self.new ≡ meaning.with_made ticket name settings (multis_of self.old)) }
+    {
+        let made = MultiTopicProducer::new(self.alloc, name, settings);
+        self.made.insert(ticket, made)?;
+        Ok(())
+    }
+
+    /// What the policies of the client say of a message that is handed on.
+    pub fn advice(
+        &self,
+        multi: Multi,
+        handing: &Handing,
+        policies: &[Box<dyn CustomRoutingPolicy>],
+    ) -> Option<usize>
+        ensures { result ≡ meaning.advice_at (map (λ p. routes p) policies.now) handing.now (meaning.at multi (multis_of self.now)) }
+    {
+        let multi = self.at(multi)?;
+        multi.advice(handing.topic.as_str(), handing.message.message(), policies)
+    }
+
+    /// One wants the turn of one of them. It has it at once where nobody has it; there may be none.
+    pub fn take_turn(&mut self, multi: Multi, taker: Taker) -> Result<Option<bool>, NoMemory>
+        ensures has { IfOk result (λ has. has ≡ option_map multi.is_free (meaning.at multi (multis_of self.old))) }
+        ensures after { OnOk result (multis_of self.new ≡ meaning.changed multi (multi.Takes taker) (multis_of self.old)) }
+    {
+        match multi {
+            Multi::Own => Ok(Some(self.own.take_turn(taker)?)),
+            Multi::Made(ticket) => take_turn(&mut self.made, ticket, taker),
+        }
+    }
+
+    /// The turn of one of them is over: the one who has it now.
+    pub fn pass_turn(&mut self, multi: Multi) -> Option<Taker>
+        ensures next { result ≡ meaning.next_on (meaning.at multi (multis_of self.old)) }
+        ensures after { multis_of self.new ≡ meaning.changed multi multi.Passes (multis_of self.old) }
+    {
+        match multi {
+            Multi::Own => self.own.pass_turn(),
+            Multi::Made(ticket) => {
+                let made = self.made.get_mut(&ticket)?;
+                made.pass_turn()
+            }
+        }
+    }
+
+    /// A message is handed on by one of them, and what it says to that. There may be none.
+    pub fn hand(&mut self, multi: Multi, handing: Handing) -> Result<Option<MultiSaid>, NoMemory>
+        ensures said { IfOk result (λ said. said ≡ option_map (multi.handed handing) (meaning.at multi (multis_of self.old))) }
+        ensures after { OnOk result (multis_of self.new ≡ meaning.changed multi (multi.Hands handing.topic handing.message) (multis_of self.old)) }
+    {
+        match multi {
+            Multi::Own => Ok(Some(self.own.hand(self.alloc, handing)?)),
+            Multi::Made(ticket) => hand(&mut self.made, self.alloc, ticket, handing),
+        }
+    }
+
+    /// The producer of a topic was built for one of them.
+    pub fn join(&mut self, multi: Multi, producer: Producer) -> Result<(), NoMemory>
+        ensures { OnOk result (multis_of self.new ≡ meaning.changed multi (multi.Joins producer) (multis_of self.old)) }
+    {
+        match multi {
+            Multi::Own => self.own.join(producer),
+            Multi::Made(ticket) => join(&mut self.made, ticket, producer),
+        }
+    }
+
+    /// One of them is to have no producer of this topic: the one that it had.
+    pub fn remove(&mut self, multi: Multi, topic: &Text) -> Option<Producer>
+        ensures producer { result ≡ meaning.found_in topic.now (meaning.at multi (multis_of self.old)) }
+        ensures after { multis_of self.new ≡ meaning.changed multi (multi.Removes topic.now) (multis_of self.old) }
+    {
+        match multi {
+            Multi::Own => self.own.remove(topic.as_str()),
+            Multi::Made(ticket) => {
+                let made = self.made.get_mut(&ticket)?;
+                made.remove(topic.as_str())
+            }
+        }
+    }
+
+    /// Those that wait for a turn are told that the client is stopped.
+    pub fn stop(&self, notices: &mut Vec<Notice>) -> Result<(), NoMemory>
+        ensures { OnOk result (notices.new.items ≡ notices.old.items ++ stopped_takers (multis_of self.now)) }
+    {
+        stop_all(self.own.waiting(), notices)?;
+        for (_, made) in &self.made {
+            stop_all(made.waiting(), notices)?;
+        }
+        Ok(())
+    }
+}
+
+fn take_turn(
+    made: &mut BTreeMap<u64, MultiTopicProducer>,
+    ticket: u64,
+    taker: Taker,
+) -> Result<Option<bool>, NoMemory>
+    ensures has { IfOk result (λ has. has ≡ option_map multi.is_free (meaning.made_by ticket made.old.entries)) }
+    ensures after { OnOk result (made.new.entries ≡ meaning.made_changed ticket (multi.Takes taker) made.old.entries) }
+{
+    match made.get_mut(&ticket) {
+        Some(made) => Ok(Some(made.take_turn(taker)?)),
+        None => Ok(None),
+    }
+}
+
+fn hand(
+    made: &mut BTreeMap<u64, MultiTopicProducer>,
+    alloc: Global,
+    ticket: u64,
+    handing: Handing,
+) -> Result<Option<MultiSaid>, NoMemory>
+    ensures said { IfOk result (λ said. said ≡ option_map (multi.handed handing) (meaning.made_by ticket made.old.entries)) }
+    ensures after { OnOk result (made.new.entries ≡ meaning.made_changed ticket (multi.Hands handing.topic handing.message) made.old.entries) }
+{
+    match made.get_mut(&ticket) {
+        Some(made) => Ok(Some(made.hand(alloc, handing)?)),
+        None => {
+            drop(handing);
+            Ok(None)
+        }
+    }
+}
+
+fn join(
+    made: &mut BTreeMap<u64, MultiTopicProducer>,
+    ticket: u64,
+    producer: Producer,
+) -> Result<(), NoMemory>
+    ensures { OnOk result (made.new.entries ≡ meaning.made_changed ticket (multi.Joins producer) made.old.entries) }
+{
+    match made.get_mut(&ticket) {
+        Some(made) => made.join(producer),
+        None => {
+            drop(producer);
+            Ok(())
+        }
+    }
+}
+
+fn stop_all(waiting: &VecDeque<Taker>, notices: &mut Vec<Notice>) -> Result<(), NoMemory>
+    ensures { OnOk result (notices.new.items ≡ notices.old.items ++ map (λ t. stopped_one (who_of t)) waiting.now.items) }
+{
+    for taker in waiting {
+        notices.push(Notice {
+            who: who_of(*taker),
+            outcome: Outcome::Stopped,
+        })?;
+    }
+    Ok(())
+}

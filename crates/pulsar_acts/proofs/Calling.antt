@@ -5,7 +5,7 @@ use Rattle.pulsar_session.specs.Failures.{Exhausted}
 use Rattle.pulsar_calls.specs.declared.act.Act.TheVariants.{Comes, Answers}
 use Rattle.pulsar_calls.specs.declared.act.Alarm.TheVariants.{CheckIdle}
 use Rattle.pulsar_calls.specs.declared.act.Makes.{Makes}
-use Rattle.pulsar_calls.specs.declared.act.Makes.TheVariants.{Nothing, Client, Consumer, RawConsumer, Producer}
+use Rattle.pulsar_calls.specs.declared.act.Makes.TheVariants.{Nothing, Client, Consumer, RawConsumer, Producer, MultiProducer}
 use Rattle.pulsar_calls.specs.declared.act.Part.TheVariants.{Calls}
 use Rattle.pulsar_tables.specs.Alarms.{set}
 use Rattle.pulsar_calls.specs.declared.act.Procedure.{Procedure}
@@ -19,8 +19,9 @@ use Rattle.pulsar_calls.specs.Content.{Asked, asked, lacks_tickets, shares}
 use Rattle.pulsar_procedures.specs.Plan.{fails}
 use Rattle.pulsar_consumer_table.specs.Consumers as consumer
 use Rattle.pulsar_consumer_table.specs.Consumers.{Consumers}
+use Rattle.pulsar_producer_table.specs.Multis.{Multis}
 use Rattle.pulsar_producer_table.specs.Producers.{Producers, called_on, opened_on, why_not}
-use Rattle.pulsar_tables.specs.Rules.{parts_of, procedure_for, shares_unless, starts, unless_refused}
+use Rattle.pulsar_tables.specs.Rules.{multi_shares_unless, parts_of, procedure_for, shares_unless, starts, unless_refused, why_no_multi}
 use Rattle.pulsar_agenda.specs.Run.{Agenda, goes_on}
 use Rattle.pulsar_tables.specs.View.{Chosen, Tickets, View, after, alarms_built, builds, idle_period, later, may_call}
 
@@ -86,12 +87,17 @@ not_build (call.Topics namespace mode) n h = absurd cc
 not_build (call.Lookup topic) n h = absurd cc
 not_build (call.Partitions topic) n h = absurd cc
 not_build (call.Brokers topic) n h = absurd cc
+not_build (call.Post topic message) n h = absurd cc
 not_build (call.Producer builder) n h = absurd cc
+not_build (call.MultiProducer builder) n h = absurd cc
 not_build (call.Send producer message) n h = absurd cc
 not_build (call.SendAll producer messages) n h = absurd cc
 not_build (call.Flush producer) n h = absurd cc
 not_build (call.CheckProducer producer) n h = absurd cc
 not_build (call.CloseProducer producer) n h = absurd cc
+not_build (call.MultiSend producer topic message) n h = absurd cc
+not_build (call.MultiSendAll producer topic messages) n h = absurd cc
+not_build (call.MultiClose producer topic) n h = absurd cc
 not_build (call.Consumer builder) n h = absurd cc
 not_build (call.Ack consumer topic id cumulative) n h = absurd cc
 not_build (call.Nack consumer topic id) n h = absurd cc
@@ -102,30 +108,37 @@ not_build (call.Raw link c) n h = absurd cc
 refused_if : (b : Bool) (p : Procedure) → b ≡ false → unless_refused b p ≡ procedure.Refuse refusal.Shutdown
 refused_if b p h = ap (λ b. unless_refused b p) h
 
-pub shut_out : (o : Chosen) (c : Tickets) (cs : Consumers) (ps : Producers) (advice : List (Option ℕ)) (a : Asked) → (a ≡ content.Build → ⊥) → may_call c ≡ false →
-    procedure_for o c cs ps advice a ≡ procedure.Refuse refusal.Shutdown
-shut_out o c cs ps advice content.Build n h = absurd (n refl)
-shut_out o c cs ps advice content.Stop n h = refused_if (may_call c) _ h
-shut_out o c cs ps advice (content.Topics namespace mode) n h = refused_if (may_call c) _ h
-shut_out o c cs ps advice (content.Lookup topic) n h = refused_if (may_call c) _ h
-shut_out o c cs ps advice (content.Partitions topic) n h = refused_if (may_call c) _ h
-shut_out o c cs ps advice (content.Brokers topic) n h = refused_if (may_call c) _ h
-shut_out o c cs ps advice (content.Producer wanted) n h = refused_if (may_call c) _ h
-shut_out o c cs ps advice (content.Send t m) n h = refused_if (may_call c) _ h
-shut_out o c cs ps advice (content.SendAll t ms) n h = refused_if (may_call c) _ h
-shut_out o c cs ps advice (content.Flush t) n h = refused_if (may_call c) _ h
-shut_out o c cs ps advice (content.CheckProducer t) n h = refused_if (may_call c) _ h
-shut_out o c cs ps advice (content.CloseProducer t) n h = refused_if (may_call c) _ h
-shut_out o c cs ps advice (content.Consumer wanted) n h = refused_if (may_call c) _ h
-shut_out o c cs ps advice (content.Ack t name id cumulative) n h = refused_if (may_call c) _ h
-shut_out o c cs ps advice (content.Nack t name id) n h = refused_if (may_call c) _ h
-shut_out o c cs ps advice (content.CloseConsumer t) n h = refused_if (may_call c) _ h
-shut_out o c cs ps advice (content.Raw l request) n h = refused_if (may_call c) _ h
+pub shut_out : (o : Chosen) (c : Tickets) (cs : Consumers) (ps : Producers) (ms : Multis) (advice : List (Option ℕ)) (a : Asked) → (a ≡ content.Build → ⊥) → may_call c ≡ false →
+    procedure_for o c cs ps ms advice a ≡ procedure.Refuse refusal.Shutdown
+shut_out o c cs ps ms advice content.Build n h = absurd (n refl)
+shut_out o c cs ps ms advice content.Stop n h = refused_if (may_call c) _ h
+shut_out o c cs ps ms advice (content.Topics namespace mode) n h = refused_if (may_call c) _ h
+shut_out o c cs ps ms advice (content.Lookup topic) n h = refused_if (may_call c) _ h
+shut_out o c cs ps ms advice (content.Partitions topic) n h = refused_if (may_call c) _ h
+shut_out o c cs ps ms advice (content.Brokers topic) n h = refused_if (may_call c) _ h
+shut_out o c cs ps ms advice (content.Post topic m) n h = refused_if (may_call c) _ h
+shut_out o c cs ps ms advice (content.Producer wanted) n h = refused_if (may_call c) _ h
+shut_out o c cs ps ms advice (content.MultiProducer wanted) n h = refused_if (may_call c) _ h
+shut_out o c cs ps ms advice (content.Send t m) n h = refused_if (may_call c) _ h
+shut_out o c cs ps ms advice (content.SendAll t xs) n h = refused_if (may_call c) _ h
+shut_out o c cs ps ms advice (content.Flush t) n h = refused_if (may_call c) _ h
+shut_out o c cs ps ms advice (content.CheckProducer t) n h = refused_if (may_call c) _ h
+shut_out o c cs ps ms advice (content.CloseProducer t) n h = refused_if (may_call c) _ h
+shut_out o c cs ps ms advice (content.MultiSend t topic m) n h = refused_if (may_call c) _ h
+shut_out o c cs ps ms advice (content.MultiSendAll t topic xs) n h = refused_if (may_call c) _ h
+shut_out o c cs ps ms advice (content.MultiClose t topic) n h = refused_if (may_call c) _ h
+shut_out o c cs ps ms advice (content.Consumer wanted) n h = refused_if (may_call c) _ h
+shut_out o c cs ps ms advice (content.Ack t name id cumulative) n h = refused_if (may_call c) _ h
+shut_out o c cs ps ms advice (content.Nack t name id) n h = refused_if (may_call c) _ h
+shut_out o c cs ps ms advice (content.CloseConsumer t) n h = refused_if (may_call c) _ h
+shut_out o c cs ps ms advice (content.Raw l request) n h = refused_if (may_call c) _ h
 
 -- and no parts begin
 pub shut_parts : (v : View) (advice : List (Option ℕ)) (a : Asked) → may_call v.calls ≡ false → parts_of v advice a ≡ []
 shut_parts v advice (content.SendAll t ms) h =
     ap (λ b. shares_unless (cond b (why_not v.producers t) (Some refusal.Shutdown)) v advice t ms) h
+shut_parts v advice (content.MultiSendAll t topic ms) h =
+    ap (λ b. multi_shares_unless (cond b (why_no_multi v.multis t) (Some refusal.Shutdown)) v t topic ms) h
 shut_parts v advice _ h = refl
 
 pub shut_same : (v : View) (a : Asked) → may_call v.calls ≡ false →
@@ -167,6 +180,7 @@ module _ (v : View) (m : Makes) where
   keeps (Consumer made) = refl
   keeps (RawConsumer link made) = refl
   keeps (Producer made) = refl
+  keeps (MultiProducer name settings) = refl
 
   pub built_before : v.calls.is_built ≡ true → v ≡ built_with (builds m v.calls.is_built) is_first
   built_before e =

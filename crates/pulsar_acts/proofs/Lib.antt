@@ -6,3 +6,5 @@ pub mod Calling
 pub mod Granting
 pub mod Storing
 pub mod Sending
+pub mod Policies
+pub mod Multi

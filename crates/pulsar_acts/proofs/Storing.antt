@@ -16,31 +16,26 @@ pub put_all_end : {A : Type 0} (below : A → A → Bool) (xs : List A) (x : A) 
 put_all_end below [] x ys = refl
 put_all_end below (y ∷ xs) x ys = put_all_end below xs x (put below y ys)
 
--- a topic producer that changes is still its producer's
+-- a topic producer that changes keeps its options
 on_topic : (n : ℕ) (act : Act) (ps : Producers) → (changed n act ps).topics n ≡ option_map (topic_after act) (ps.topics n)
 on_topic n act ps = ap (λ b. cond b (option_map (topic_after act) (ps.topics n)) (ps.topics n)) (eq-eqb n n refl)
 
-same_owner : (act : Act) (ps : Producers) (row : Option Topic) → timeout_at ps (option_map (topic_after act) row) ≡ timeout_at ps row
-same_owner act ps None = refl
-same_owner act ps (Some t) = refl
-
-same_built : (n : ℕ) (act : Act) (ps : Producers) (row : Option Topic) → timeout_at (changed n act ps) row ≡ timeout_at ps row
-same_built n act ps None = refl
-same_built n act ps (Some t) = refl
+same_delay : (act : Act) (row : Option Topic) → timeout_at (option_map (topic_after act) row) ≡ timeout_at row
+same_delay act None = refl
+same_delay act (Some t) = refl
 
 -- what it stores waits from then on
 pub waits_on : (v : View) (n : ℕ) (act : Act) (ps : Producers) (was : Bool) → ps ≡ changed n act v.producers → was ≡ is_bare (v.producers.topics n) →
     record v {
       producers = ps;
-      alarms = alarms_waiting v.now (timeout_at ps (ps.topics n)) n was (is_bare (ps.topics n)) v.alarms;
+      alarms = alarms_waiting v.now (timeout_at (ps.topics n)) n was (is_bare (ps.topics n)) v.alarms;
     } ≡ record v { producers = changed n act v.producers; alarms = alarms_on_topic v n act }
 waits_on v n act ps was is before =
     let after = changed n act v.producers in
-    let delay = same_built n act v.producers (after.topics n)
-    ∙ ap (timeout_at v.producers) (on_topic n act v.producers) ∙ same_owner act v.producers (v.producers.topics n) in
+    let delay = ap timeout_at (on_topic n act v.producers) ∙ same_delay act (v.producers.topics n) in
     (λ i. record v {
       producers = is i;
-      alarms = alarms_waiting v.now (timeout_at (is i) ((is i).topics n)) n (before i) (is_bare ((is i).topics n)) v.alarms;
+      alarms = alarms_waiting v.now (timeout_at ((is i).topics n)) n (before i) (is_bare ((is i).topics n)) v.alarms;
     })
     ∙ (λ i. record v {
       producers = after;
@@ -59,17 +54,17 @@ module _ (v : View) (n : ℕ) (was : Bool) where
       record v { alarms = cond bare (clear (Batch n) v.alarms) (cond was (waits_from v.now timeout n v.alarms) v.alarms) }
 
   abbrev waiting : View
-  waiting = record v { alarms = alarms_waiting v.now (timeout_at v.producers row) n was (is_bare row) v.alarms }
+  waiting = record v { alarms = alarms_waiting v.now (timeout_at row) n was (is_bare row) v.alarms }
 
   pub waits_no_more : is_bare row ≡ true → record v { alarms = clear (Batch n) v.alarms } ≡ waiting
-  waits_no_more bare = sym (ap (λ b. waits b was (timeout_at v.producers row)) bare)
+  waits_no_more bare = sym (ap (λ b. waits b was (timeout_at row)) bare)
 
   pub waits_still : is_bare row ≡ false → was ≡ false → v ≡ waiting
-  waits_still bare before = sym (λ i. waits (bare i) (before i) (timeout_at v.producers row))
+  waits_still bare before = sym (λ i. waits (bare i) (before i) (timeout_at row))
 
-  pub waits_never : is_bare row ≡ false → was ≡ true → timeout_at v.producers row ≡ None → v ≡ waiting
+  pub waits_never : is_bare row ≡ false → was ≡ true → timeout_at row ≡ None → v ≡ waiting
   waits_never bare before none = sym (λ i. waits (bare i) (before i) (none i))
 
-  pub waits_so_long : (delay : ℕ) → is_bare row ≡ false → was ≡ true → timeout_at v.producers row ≡ Some delay →
+  pub waits_so_long : (delay : ℕ) → is_bare row ≡ false → was ≡ true → timeout_at row ≡ Some delay →
       record v { alarms = set (Batch n) (later v.now delay) v.alarms } ≡ waiting
   waits_so_long delay bare before so = sym (λ i. waits (bare i) (before i) (so i))

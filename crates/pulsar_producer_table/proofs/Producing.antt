@@ -7,7 +7,7 @@ use Rattle.std.specs.BTreeMap.{is_at}
 use Rattle.std.specs.Option.{option_map}
 use Rattle.std.specs.Ordering.{nat_cmp}
 use Rattle.pulsar_requests.proofs.Awaiting.{is_at-eqb}
-use Rattle.pulsar_messages.specs.Content.{ProducerMessageValues}
+use Rattle.pulsar_messages.specs.Content.{ProducerMessageValues, ProducerOptionsValues}
 use Rattle.pulsar_producer.specs.Producer as producer
 use Rattle.pulsar_producer.specs.Producer.{made}
 use Rattle.pulsar_producer.specs.Random.{first_index}
@@ -67,23 +67,24 @@ shut_end [] n ps = refl
 shut_end (k ∷ ns) n ps = shut_end ns n (changed k Closes ps)
 
 -- one is made, and then another
-abbrev topic_of : (owner : ℕ) → Seen → Option Topic
-topic_of owner seen = Some (record { owner = owner; seen = seen })
+abbrev topic_of : ProducerOptionsValues → Seen → Option Topic
+topic_of o seen = Some (record { options = o; seen = seen })
 
-pub topic_made : (owner first : ℕ) (limits : Limits) (b : Built) (ps : Producers) (topics : ℕ → Option Topic) (numbers : List ℕ) (seen : Seen) →
-    seen ≡ fresh (record { built = b; first_number = first; limits = limits }) →
-    ((m : ℕ) → topics m ≡ cond (is_at (nat_cmp b.number) m) (Some (record { owner = owner; seen = seen })) (ps.topics m)) →
-    numbers ≡ ps.numbers ++ b.number ∷ [] → record ps { topics = topics; numbers = numbers } ≡ with_topic owner first limits b ps
-topic_made owner first limits b ps topics numbers seen is written are =
-    let first_seen = fresh (record { built = b; first_number = first; limits = limits }) in
-    let all : (m : ℕ) → topics m ≡ cond (m == b.number) (topic_of owner first_seen) (ps.topics m) =
-    (λ m. row_put b.number (topic_of owner seen) ps.topics topics written m ∙ ap (λ s. cond (m == b.number) (topic_of owner s) (ps.topics m)) is) in
+pub topic_made : (o : ProducerOptionsValues) (first : ℕ) (b : Built) (limits : Limits) (ps : Producers) (topics : ℕ → Option Topic) (numbers : List ℕ) (seen : Seen) →
+    limits ≡ limits_of o → seen ≡ fresh (record { built = b; first_number = first; limits = limits }) →
+    ((m : ℕ) → topics m ≡ cond (is_at (nat_cmp b.number) m) (topic_of o seen) (ps.topics m)) →
+    numbers ≡ ps.numbers ++ b.number ∷ [] → record ps { topics = topics; numbers = numbers } ≡ with_topic o first b ps
+topic_made o first b limits ps topics numbers seen bounds is written are =
+    let first_seen = fresh (record { built = b; first_number = first; limits = limits_of o }) in
+    let begins : seen ≡ first_seen = is ∙ ap (λ l. fresh (record { built = b; first_number = first; limits = l })) bounds in
+    let all : (m : ℕ) → topics m ≡ cond (m == b.number) (topic_of o first_seen) (ps.topics m) =
+    (λ m. row_put b.number (topic_of o seen) ps.topics topics written m ∙ ap (λ s. cond (m == b.number) (topic_of o s) (ps.topics m)) begins) in
     λ i. record ps { topics = λ m. all m i; numbers = are i }
 
-pub topics_end : (owner first : ℕ) (limits : Limits) (bs : List Built) (b : Built) (ps : Producers) →
-    with_topics owner first limits (bs ++ b ∷ []) ps ≡ with_topic owner first limits b (with_topics owner first limits bs ps)
-topics_end owner first limits [] b ps = refl
-topics_end owner first limits (a ∷ bs) b ps = topics_end owner first limits bs b (with_topic owner first limits a ps)
+pub topics_end : (o : ProducerOptionsValues) (first : ℕ) (bs : List Built) (b : Built) (ps : Producers) →
+    with_topics o first (bs ++ b ∷ []) ps ≡ with_topic o first b (with_topics o first bs ps)
+topics_end o first [] b ps = refl
+topics_end o first (a ∷ bs) b ps = topics_end o first bs b (with_topic o first a ps)
 
 -- A PRODUCER IS MADE
 
@@ -94,8 +95,8 @@ made_so seed ticket b qs are =
     ∙ ap (λ n. made b.topic b.settings (map partition_of b.parts) (first_index seed ticket n)) (length-map b.parts partition_of)
 
 pub joined_so : (t seed first : ℕ) (b : Building) (ps now : Producers) (p : producer.Seen) (built : ℕ → Option producer.Seen) →
-    now ≡ with_topics t first (limits_of b.settings) b.parts ps → made_of seed t b ≡ Some p → ((u : ℕ) → built u ≡ cond (is_at (nat_cmp t) u) (Some p) (now.built u)) →
+    now ≡ with_topics b.settings first b.parts ps → made_of seed t b ≡ Some p → ((u : ℕ) → built u ≡ cond (is_at (nat_cmp t) u) (Some p) (now.built u)) →
     record now { built = built } ≡ joined t b seed first ps
 joined_so t seed first b ps now p built topics is written =
     let all = row_put t (Some p) now.built built written in
-    (λ i. record now { built = λ u. all u i }) ∙ ap (with_built t (Some p)) topics ∙ ap (λ o. with_built t o (with_topics t first (limits_of b.settings) b.parts ps)) (sym is)
+    (λ i. record now { built = λ u. all u i }) ∙ ap (with_built t (Some p)) topics ∙ ap (λ o. with_built t o (with_topics b.settings first b.parts ps)) (sym is)

@@ -19,4 +19,4 @@ stopped_all ps = map stopped_one (waiting ps) ++ map stopped_call (unsent ps)
 
 -- those that wait for the turn of a producer of many topics
 abbrev pub stopped_takers : Multis → List Notice
-stopped_takers ms = map (λ t. stopped_one (who_of t)) (multi.waiting ms)
+stopped_takers ms = map stopped_one (map who_of (multi.waiting ms))

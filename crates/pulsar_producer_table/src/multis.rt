@@ -1,12 +1,11 @@
 //! The producers of many topics of a client.
 
-ghost use Rattle.std.specs.Prelude.{◌≡◌, ◌++◌, IfOk, OnOk, Some, map, option_copied};
+ghost use Rattle.std.specs.Prelude.{◌≡◌, ◌++◌, IfOk, OnOk, map, option_copied};
 ghost use Rattle.std.specs.List.{flat_map};
-ghost use Rattle.std.specs.Option.{is_some, option_map};
+ghost use Rattle.std.specs.Option.{option_map};
 ghost use Rattle.pulsar_calls.specs.Notices.{stopped_one};
 ghost use Rattle.pulsar_calls.specs.Who.{who_of};
-ghost use Rattle.pulsar_messages.specs.Content.{message_content};
-ghost use Rattle.pulsar_producer.specs.MultiTopic as multi;
+ghost use Rattle.pulsar_producer.specs.MultiTopic.{Hands, Joins, Passes, Removes, Takes, handed, is_free};
 ghost use Rattle.pulsar_producer_table.specs.KeptMultis.{multis_of};
 ghost use Rattle.pulsar_producer_table.specs.Multis as meaning;
 ghost use Rattle.pulsar_producer_table.specs.Notices.{stopped_takers};
@@ -76,14 +75,14 @@ impl Multis {
     ) -> Option<usize>
         ensures { result ≡ meaning.advice_at (map (λ p. routes p) policies.now) handing.now (meaning.at multi (multis_of self.now)) }
     {
-        let multi = self.at(multi)?;
-        multi.advice(handing.topic.as_str(), handing.message.message(), policies)
+        let one = self.at(multi)?;
+        one.advice(handing.topic.as_str(), handing.message.message(), policies)
     }
 
     /// One wants the turn of one of them. It has it at once where nobody has it; there may be none.
     pub fn take_turn(&mut self, multi: Multi, taker: Taker) -> Result<Option<bool>, NoMemory>
-        ensures has { IfOk result (λ has. has ≡ option_map multi.is_free (meaning.at multi (multis_of self.old))) }
-        ensures after { OnOk result (multis_of self.new ≡ meaning.changed multi (multi.Takes taker) (multis_of self.old)) }
+        ensures has { IfOk result (λ has. has ≡ option_map is_free (meaning.at multi (multis_of self.old))) }
+        ensures after { OnOk result (multis_of self.new ≡ meaning.changed multi (Takes taker) (multis_of self.old)) }
     {
         match multi {
             Multi::Own => Ok(Some(self.own.take_turn(taker)?)),
@@ -94,21 +93,18 @@ impl Multis {
     /// The turn of one of them is over: the one who has it now.
     pub fn pass_turn(&mut self, multi: Multi) -> Option<Taker>
         ensures next { result ≡ meaning.next_on (meaning.at multi (multis_of self.old)) }
-        ensures after { multis_of self.new ≡ meaning.changed multi multi.Passes (multis_of self.old) }
+        ensures after { multis_of self.new ≡ meaning.changed multi Passes (multis_of self.old) }
     {
         match multi {
             Multi::Own => self.own.pass_turn(),
-            Multi::Made(ticket) => {
-                let made = self.made.get_mut(&ticket)?;
-                made.pass_turn()
-            }
+            Multi::Made(ticket) => pass_turn(&mut self.made, ticket),
         }
     }
 
     /// A message is handed on by one of them, and what it says to that. There may be none.
     pub fn hand(&mut self, multi: Multi, handing: Handing) -> Result<Option<MultiSaid>, NoMemory>
-        ensures said { IfOk result (λ said. said ≡ option_map (multi.handed handing) (meaning.at multi (multis_of self.old))) }
-        ensures after { OnOk result (multis_of self.new ≡ meaning.changed multi (multi.Hands handing.topic handing.message) (multis_of self.old)) }
+        ensures said { IfOk result (λ said. said ≡ option_map (handed handing) (meaning.at multi (multis_of self.old))) }
+        ensures after { OnOk result (multis_of self.new ≡ meaning.changed multi (Hands handing.topic handing.message) (multis_of self.old)) }
     {
         match multi {
             Multi::Own => Ok(Some(self.own.hand(self.alloc, handing)?)),
@@ -118,7 +114,7 @@ impl Multis {
 
     /// The producer of a topic was built for one of them.
     pub fn join(&mut self, multi: Multi, producer: Producer) -> Result<(), NoMemory>
-        ensures { OnOk result (multis_of self.new ≡ meaning.changed multi (multi.Joins producer) (multis_of self.old)) }
+        ensures { OnOk result (multis_of self.new ≡ meaning.changed multi (Joins producer) (multis_of self.old)) }
     {
         match multi {
             Multi::Own => self.own.join(producer),
@@ -129,14 +125,11 @@ impl Multis {
     /// One of them is to have no producer of this topic: the one that it had.
     pub fn remove(&mut self, multi: Multi, topic: &Text) -> Option<Producer>
         ensures producer { result ≡ meaning.found_in topic.now (meaning.at multi (multis_of self.old)) }
-        ensures after { multis_of self.new ≡ meaning.changed multi (multi.Removes topic.now) (multis_of self.old) }
+        ensures after { multis_of self.new ≡ meaning.changed multi (Removes topic.now) (multis_of self.old) }
     {
         match multi {
             Multi::Own => self.own.remove(topic.as_str()),
-            Multi::Made(ticket) => {
-                let made = self.made.get_mut(&ticket)?;
-                made.remove(topic.as_str())
-            }
+            Multi::Made(ticket) => remove(&mut self.made, ticket, topic),
         }
     }
 
@@ -145,10 +138,7 @@ impl Multis {
         ensures { OnOk result (notices.new.items ≡ notices.old.items ++ stopped_takers (multis_of self.now)) }
     {
         stop_all(self.own.waiting(), notices)?;
-        for (_, made) in &self.made {
-            stop_all(made.waiting(), notices)?;
-        }
-        Ok(())
+        stop_made(&self.made, notices)
     }
 }
 
@@ -157,12 +147,22 @@ fn take_turn(
     ticket: u64,
     taker: Taker,
 ) -> Result<Option<bool>, NoMemory>
-    ensures has { IfOk result (λ has. has ≡ option_map multi.is_free (meaning.made_by ticket made.old.entries)) }
-    ensures after { OnOk result (made.new.entries ≡ meaning.made_changed ticket (multi.Takes taker) made.old.entries) }
+    ensures has { IfOk result (λ has. has ≡ option_map is_free (meaning.made_by ticket made.old.entries)) }
+    ensures after { OnOk result (made.new.entries ≡ meaning.made_changed ticket (Takes taker) made.old.entries) }
 {
     match made.get_mut(&ticket) {
-        Some(made) => Ok(Some(made.take_turn(taker)?)),
+        Some(one) => Ok(Some(one.take_turn(taker)?)),
         None => Ok(None),
+    }
+}
+
+fn pass_turn(made: &mut BTreeMap<u64, MultiTopicProducer>, ticket: u64) -> Option<Taker>
+    ensures next { result ≡ meaning.next_on (meaning.made_by ticket made.old.entries) }
+    ensures after { made.new.entries ≡ meaning.made_changed ticket Passes made.old.entries }
+{
+    match made.get_mut(&ticket) {
+        Some(one) => one.pass_turn(),
+        None => None,
     }
 }
 
@@ -172,11 +172,11 @@ fn hand(
     ticket: u64,
     handing: Handing,
 ) -> Result<Option<MultiSaid>, NoMemory>
-    ensures said { IfOk result (λ said. said ≡ option_map (multi.handed handing) (meaning.made_by ticket made.old.entries)) }
-    ensures after { OnOk result (made.new.entries ≡ meaning.made_changed ticket (multi.Hands handing.topic handing.message) made.old.entries) }
+    ensures said { IfOk result (λ said. said ≡ option_map (handed handing) (meaning.made_by ticket made.old.entries)) }
+    ensures after { OnOk result (made.new.entries ≡ meaning.made_changed ticket (Hands handing.topic handing.message) made.old.entries) }
 {
     match made.get_mut(&ticket) {
-        Some(made) => Ok(Some(made.hand(alloc, handing)?)),
+        Some(one) => Ok(Some(one.hand(alloc, handing)?)),
         None => {
             drop(handing);
             Ok(None)
@@ -189,10 +189,10 @@ fn join(
     ticket: u64,
     producer: Producer,
 ) -> Result<(), NoMemory>
-    ensures { OnOk result (made.new.entries ≡ meaning.made_changed ticket (multi.Joins producer) made.old.entries) }
+    ensures { OnOk result (made.new.entries ≡ meaning.made_changed ticket (Joins producer) made.old.entries) }
 {
     match made.get_mut(&ticket) {
-        Some(made) => made.join(producer),
+        Some(one) => one.join(producer),
         None => {
             drop(producer);
             Ok(())
@@ -200,8 +200,35 @@ fn join(
     }
 }
 
+fn remove(
+    made: &mut BTreeMap<u64, MultiTopicProducer>,
+    ticket: u64,
+    topic: &Text,
+) -> Option<Producer>
+    ensures producer { result ≡ meaning.found_in topic.now (meaning.made_by ticket made.old.entries) }
+    ensures after { made.new.entries ≡ meaning.made_changed ticket (Removes topic.now) made.old.entries }
+{
+    match made.get_mut(&ticket) {
+        Some(one) => one.remove(topic.as_str()),
+        None => None,
+    }
+}
+
+/// Those that wait for the turn of any of these.
+fn stop_made(
+    made: &BTreeMap<u64, MultiTopicProducer>,
+    notices: &mut Vec<Notice>,
+) -> Result<(), NoMemory>
+    ensures { OnOk result (notices.new.items ≡ notices.old.items ++ map stopped_one (map who_of (flat_map (λ e. e.1.waiting) made.now.entries))) }
+{
+    for (_, one) in made {
+        stop_all(one.waiting(), notices)?;
+    }
+    Ok(())
+}
+
 fn stop_all(waiting: &VecDeque<Taker>, notices: &mut Vec<Notice>) -> Result<(), NoMemory>
-    ensures { OnOk result (notices.new.items ≡ notices.old.items ++ map (λ t. stopped_one (who_of t)) waiting.now.items) }
+    ensures { OnOk result (notices.new.items ≡ notices.old.items ++ map stopped_one (map who_of waiting.now.items)) }
 {
     for taker in waiting {
         notices.push(Notice {

@@ -91,7 +91,7 @@ impl Tables {
         parts: &mut VecDeque<Act>,
     ) -> Result<Procedure, NoMemory>
         requires { lacks_tickets self.old.tickets (shares asking) ≡ false }
-        ensures procedure { IfOk result (λ p. p ≡ procedure_for (view_of self.old).chosen (view_of self.old).calls (view_of self.old).consumers (view_of self.old).producers advice asking) }
+        ensures procedure { IfOk result (λ p. p ≡ procedure_for (view_of self.old).chosen (view_of self.old).calls (view_of self.old).consumers (view_of self.old).producers (view_of self.old).multis advice asking) }
         ensures parts { OnOk result (parts.new.items ≡ parts.old.items ++ parts_of (view_of self.old) advice asking) }
         ensures after { OnOk result (view_of self.new ≡ record (view_of self.old) { consumers = consumer.called_on (may_call (view_of self.old).calls) asking (view_of self.old).consumers; producers = called_on (may_call (view_of self.old).calls) asking (view_of self.old).producers }) }
         ensures settings { self.new.settings ≡ self.old.settings }
@@ -130,7 +130,7 @@ impl Tables {
     ) -> Result<Procedure, NoMemory>
         requires allowed { may_call (view_of self.old).calls ≡ true }
         requires tickets { lacks_tickets self.old.tickets (shares asking) ≡ false }
-        ensures procedure { IfOk result (λ p. p ≡ procedure_for (view_of self.old).chosen (view_of self.old).calls (view_of self.old).consumers (view_of self.old).producers advice asking) }
+        ensures procedure { IfOk result (λ p. p ≡ procedure_for (view_of self.old).chosen (view_of self.old).calls (view_of self.old).consumers (view_of self.old).producers (view_of self.old).multis advice asking) }
         ensures parts { OnOk result (parts.new.items ≡ parts.old.items ++ parts_of (view_of self.old) advice asking) }
         ensures after { OnOk result (view_of self.new ≡ record (view_of self.old) { consumers = consumer.opened_on asking (view_of self.old).consumers; producers = opened_on asking (view_of self.old).producers }) }
         ensures settings { self.new.settings ≡ self.old.settings }

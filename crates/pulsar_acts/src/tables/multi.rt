@@ -1,18 +1,27 @@
 //! Producers of many topics: what is to be done for a call on one, and what plans ask of them.
 
-ghost use Rattle.std.specs.Prelude.{◌≡◌, ◌+◌, ◌++◌, IfOk, OnOk, map, length, string_bytes, true, false};
+ghost use Rattle.std.specs.Prelude.{◌≡◌, ◌+◌, ◌++◌, ◌∷◌, [], List, IfOk, OnOk, Some, map, length, string_bytes, true, false};
+ghost use Rattle.std.specs.Option.{is_some, option_map, option_to_list};
+ghost use Rattle.pulsar_run.specs.Order.{put_all};
 ghost use Rattle.pulsar_messages.specs.Content.{message_content};
 ghost use Rattle.pulsar_producer.specs.Wanted.{producer_wanted};
 ghost use Rattle.pulsar_calls.specs.Content.{MultiSendAll, lacks_tickets};
 ghost use Rattle.pulsar_calls.specs.declared.act.Act.{Act as Meant};
 ghost use Rattle.pulsar_calls.specs.declared.act.Action.{Action as Wish};
 ghost use Rattle.pulsar_producer.specs.declared.multi_topic.deed.MultiAsk.{MultiAsk as Ask};
+ghost use Rattle.pulsar_producer.specs.MultiTopic.{Joins};
+ghost use Rattle.pulsar_producer.specs.Routing.{Policy};
+ghost use Rattle.pulsar_procedures.specs.Plan.{closed_notice};
 ghost use Rattle.pulsar_producer_table.specs.KeptMultis.{multis_of};
+ghost use Rattle.pulsar_producer_table.specs.KeptProducers.{producers_of};
+ghost use Rattle.pulsar_producer_table.specs.Multis as meaning;
+ghost use Rattle.pulsar_producer_table.specs.Producers.{numbers_at, shut_all, stored_by};
 ghost use Rattle.pulsar_tables.specs.Rules as rules;
+ghost use Rattle.pulsar_tables.specs.Rules.{below};
 ghost use Rattle.pulsar_agenda.specs.Agenda.{agenda_of};
 ghost use Rattle.pulsar_agenda.specs.Run.{goes_on};
 ghost use Rattle.pulsar_acts.specs.Tables.{chosen_of, view_of, with_policies};
-ghost use Rattle.pulsar_tables.specs.View.{after, may_call};
+ghost use Rattle.pulsar_tables.specs.View.{after, clear_all, may_call};
 
 use crate::tables::Tables;
 use crate::tables::batches::join_closed;
@@ -29,7 +38,10 @@ use pulsar_producer::multi_topic::content::{Handing, Joining, MultiSaid, UserMes
 use pulsar_producer::multi_topic::deed::MultiAsk;
 use pulsar_producer::multi_topic::producer::{Multi, Taker};
 use pulsar_producer::{CustomRoutingPolicy, Producer, ProducerBuilder};
+use pulsar_producer::routing::Partition;
+use pulsar_producer_table::multis::Multis;
 use pulsar_producer_table::table::{made_of, numbers_of};
+use pulsar_tables::alarms::Alarms;
 use pulsar_wire::error::NoMemory;
 use std::alloc::Global;
 use std::collections::VecDeque;
@@ -58,7 +70,9 @@ impl Tables {
     }
 
     /// There is one of this ticket.
-    fn has_multi(&self, producer: u64) -> bool {
+    fn has_multi(&self, producer: u64) -> bool
+        ensures { result ≡ is_some (meaning.at (Multi.Made producer) (multis_of self.now.multis)) }
+    {
         self.multis.at(Multi::Made(producer)).is_some()
     }
 
@@ -92,8 +106,10 @@ impl Tables {
         messages: Vec<Message>,
         parts: &mut VecDeque<Act>,
     ) -> Result<Procedure, NoMemory>
-        requires { lacks_tickets self.now.tickets (length messages.items) ≡ false }
+        requires allowed { may_call (view_of self.now).calls ≡ true }
+        requires tickets { lacks_tickets self.now.tickets (length messages.items) ≡ false }
         ensures procedure { IfOk result (λ p. p ≡ rules.multi_gathers (view_of self.now).calls (multis_of self.now.multis) producer (map message_content messages.items)) }
+        ensures parts { OnOk result (parts.new.items ≡ parts.old.items ++ rules.parts_of (view_of self.now) [] (MultiSendAll producer (string_bytes topic) (map message_content messages.items))) }
     {
         if !self.has_multi(producer) {
             return Ok(Procedure::Refuse(Refusal::UnknownTicket));
@@ -172,7 +188,12 @@ impl Tables {
     }
 
     /// One wants its turn, and has it where nobody else has it.
-    fn takes_multi(&mut self, who: Who, multi: Multi, tasks: &mut Tasks) -> Result<(), NoMemory> {
+    fn takes_multi(&mut self, who: Who, multi: Multi, tasks: &mut Tasks) -> Result<(), NoMemory>
+        requires { is_some (meaning.at multi (multis_of self.old.multis)) ≡ true }
+        ensures left { OnOk result ((ps : List Policy) → agenda_of tasks.new ≡ goes_on (with_policies ps (view_of self.old)) (Meant.Does who (Wish.Multi multi Ask.TakesTurn)) (agenda_of tasks.old)) }
+        ensures sees { OnOk result (view_of self.new ≡ after (Meant.Does who (Wish.Multi multi Ask.TakesTurn)) (view_of self.old)) }
+        ensures settings { self.new.settings ≡ self.old.settings }
+    {
         let Some(taker) = taker_of(who) else {
             return Ok(());
         };
@@ -183,7 +204,12 @@ impl Tables {
     }
 
     /// A turn is over: the next one who waits for it has it.
-    fn passes_multi(&mut self, who: Who, multi: Multi, tasks: &mut Tasks) -> Result<(), NoMemory> {
+    fn passes_multi(&mut self, who: Who, multi: Multi, tasks: &mut Tasks) -> Result<(), NoMemory>
+        requires { is_some (meaning.at multi (multis_of self.old.multis)) ≡ true }
+        ensures left { OnOk result ((ps : List Policy) → agenda_of tasks.new ≡ goes_on (with_policies ps (view_of self.old)) (Meant.Does who (Wish.Multi multi Ask.PassesTurn)) (agenda_of tasks.old)) }
+        ensures sees { OnOk result (view_of self.new ≡ after (Meant.Does who (Wish.Multi multi Ask.PassesTurn)) (view_of self.old)) }
+        ensures settings { self.new.settings ≡ self.old.settings }
+    {
         let next = self.multis.pass_turn(multi);
         join_taker(self.alloc, next, tasks)?;
         self.multi_says(who, MultiSaid::Done, tasks)
@@ -197,7 +223,12 @@ impl Tables {
         handing: Handing,
         policies: &[Box<dyn CustomRoutingPolicy>],
         tasks: &mut Tasks,
-    ) -> Result<(), NoMemory> {
+    ) -> Result<(), NoMemory>
+        requires { is_some (meaning.at multi (multis_of self.old.multis)) ≡ true }
+        ensures left { OnOk result (agenda_of tasks.new ≡ goes_on (with_policies (map (λ p. routes p) policies.now) (view_of self.old)) (Meant.Does who (Wish.Multi multi (Ask.Hands handing))) (agenda_of tasks.old)) }
+        ensures sees { OnOk result (view_of self.new ≡ after (Meant.Does who (Wish.Multi multi (Ask.Hands handing))) (view_of self.old)) }
+        ensures settings { self.new.settings ≡ self.old.settings }
+    {
         let advice = self.multis.advice(multi, &handing, policies);
         let handing = Handing { advice, ..handing };
         match self.multis.hand(multi, handing)? {
@@ -213,7 +244,12 @@ impl Tables {
         multi: Multi,
         joining: Joining,
         tasks: &mut Tasks,
-    ) -> Result<(), NoMemory> {
+    ) -> Result<(), NoMemory>
+        requires { is_some (meaning.at multi (multis_of self.old.multis)) ≡ true }
+        ensures left { OnOk result ((ps : List Policy) → agenda_of tasks.new ≡ goes_on (with_policies ps (view_of self.old)) (Meant.Does who (Wish.Multi multi (Ask.Joins joining))) (agenda_of tasks.old)) }
+        ensures sees { OnOk result (view_of self.new ≡ after (Meant.Does who (Wish.Multi multi (Ask.Joins joining))) (view_of self.old)) }
+        ensures settings { self.new.settings ≡ self.old.settings }
+    {
         let Joining {
             topic,
             settings,
@@ -222,10 +258,8 @@ impl Tables {
         let begun = self.batches_for(&settings, &parts)?;
         let first_number = self.settings.first_number;
         let partitions = self.producers.make_all(&settings, parts, first_number)?;
-        match made_of(self.settings.seed, ticket_of(who), topic, settings, partitions) {
-            Some(producer) => self.multis.join(multi, producer)?,
-            None => {}
-        }
+        let made = made_of(self.settings.seed, ticket_of(who), topic, settings, partitions);
+        join_made(&mut self.multis, multi, made)?;
         self.multi_says(who, MultiSaid::Done, tasks)?;
         tasks.put_all(begun)
     }
@@ -237,38 +271,72 @@ impl Tables {
         multi: Multi,
         topic: &Text,
         tasks: &mut Tasks,
-    ) -> Result<(), NoMemory> {
-        let numbers = match self.multis.remove(multi, topic) {
-            Some(producer) => self.closes_topic(&producer, tasks)?,
-            None => Numbers::new(self.alloc),
-        };
+    ) -> Result<(), NoMemory>
+        requires { is_some (meaning.at multi (multis_of self.old.multis)) ≡ true }
+        ensures left { OnOk result ((ps : List Policy) → agenda_of tasks.new ≡ goes_on (with_policies ps (view_of self.old)) (Meant.Does who (Wish.Multi multi (Ask.Removes topic.now))) (agenda_of tasks.old)) }
+        ensures sees { OnOk result (view_of self.new ≡ after (Meant.Does who (Wish.Multi multi (Ask.Removes topic.now))) (view_of self.old)) }
+        ensures settings { self.new.settings ≡ self.old.settings }
+    {
+        let producer = self.multis.remove(multi, topic);
+        let numbers = self.closes_topic(producer, tasks)?;
         self.multi_says(who, MultiSaid::Removed(numbers), tasks)
     }
 
-    /// The topic producers of a topic take no message from now on.
+    /// The topic producers of a topic take no message from now on, where there are any: their numbers.
     fn closes_topic(
         &mut self,
-        producer: &Producer,
+        producer: Option<Producer>,
         tasks: &mut Tasks,
-    ) -> Result<Numbers, NoMemory> {
+    ) -> Result<Numbers, NoMemory>
+        ensures numbers { IfOk result (λ ns. ns ≡ numbers_at producer) }
+        ensures left { OnOk result (agenda_of tasks.new ≡ record (agenda_of tasks.old) { here = put_all below (map closed_notice (stored_by (producers_of self.old.producers) (numbers_at producer))) tasks.old.here }) }
+        ensures sees { OnOk result (view_of self.new ≡ record (view_of self.old) { alarms = clear_all (numbers_at producer) self.old.alarms; producers = shut_all (numbers_at producer) (producers_of self.old.producers) }) }
+        ensures settings { self.new.settings ≡ self.old.settings }
+    {
+        let Some(producer) = producer else {
+            return Ok(Numbers::new(self.alloc));
+        };
         let partitions = producer.as_slice();
         let stored = self.producers.stored_at(partitions)?;
-        for partition in partitions {
-            self.alarms.clear(Alarm::Batch(partition.number))?;
-        }
+        clear_partitions(&mut self.alarms, partitions)?;
         self.producers.shut_all(partitions);
         join_closed(self.alloc, stored, tasks)?;
         numbers_of(self.alloc, partitions)
     }
 
-    fn multi_says(&self, who: Who, said: MultiSaid, tasks: &mut Tasks) -> Result<(), NoMemory> {
+    /// A producer of many topics says this at once.
+    fn multi_says(&self, who: Who, said: MultiSaid, tasks: &mut Tasks) -> Result<(), NoMemory>
+        ensures { OnOk result (agenda_of tasks.new ≡ record (agenda_of tasks.old) { now = rules.multi_tells who said ∷ tasks.old.now.items }) }
+    {
         let said = FromMulti::new(self.alloc, said)?;
         tell(who, Outcome::Multi(said), tasks)
     }
 }
 
+/// The producer of a topic is there, if it could be made.
+fn join_made(multis: &mut Multis, multi: Multi, made: Option<Producer>) -> Result<(), NoMemory>
+    ensures { OnOk result (multis_of multis.new ≡ meaning.changed_by multi (option_map Joins made) (multis_of multis.old)) }
+{
+    match made {
+        Some(producer) => multis.join(multi, producer),
+        None => Ok(()),
+    }
+}
+
+/// Nothing that topic producers store waits any longer.
+fn clear_partitions(alarms: &mut Alarms, partitions: &[Partition]) -> Result<(), NoMemory>
+    ensures { OnOk result (alarms.new ≡ clear_all (map (λ q. q.number) partitions.now) alarms.old) }
+{
+    for partition in partitions {
+        alarms.clear(Alarm::Batch(partition.number))?;
+    }
+    Ok(())
+}
+
 /// The one who has the turn next joins those whom the present cause serves.
-fn join_taker(alloc: Global, next: Option<Taker>, tasks: &mut Tasks) -> Result<(), NoMemory> {
+fn join_taker(alloc: Global, next: Option<Taker>, tasks: &mut Tasks) -> Result<(), NoMemory>
+    ensures { OnOk result (agenda_of tasks.new ≡ record (agenda_of tasks.old) { here = put_all below (option_to_list (option_map rules.multi_turn_notice next)) tasks.old.here }) }
+{
     let Some(taker) = next else {
         return Ok(());
     };

@@ -7,7 +7,7 @@ use Rattle.pulsar_tables.specs.Reading.{made_due}
 use Rattle.pulsar_tables.specs.Rules.{below}
 use Rattle.pulsar_agenda.specs.Run.{Agenda}
 use Rattle.pulsar_agenda.specs.Agenda.{agenda_of}
-use Rattle.pulsar_tables.specs.View.{View, consumers_left, consumers_made, producers_made}
+use Rattle.pulsar_tables.specs.View.{View, consumers_left, consumers_made, multis_made, producers_made}
 use Rattle.pulsar_acts.proofs.tables.Tables.answers.Goals as goal
 
 pub returns-clause-left : goal.returns-clause-left
@@ -37,5 +37,6 @@ returns-clause-sees c =
     ∙ ap (λ (x : View). record x {
       consumers = consumers_left who (consumers_made x.links.live who makes x.consumers);
       producers = producers_made x.chosen who makes x.producers;
+      multis = multis_made who makes x.multis;
     }) c.in_ok-builds.ensures.sees)
     c.tell_end.ensures

@@ -1,5 +1,5 @@
 use Rattle.std.proofs.Common.{◌∙◌, ap, sym}
-use Rattle.pulsar_tables.specs.View.{consumers_made, producers_made}
+use Rattle.pulsar_tables.specs.View.{consumers_made, multis_made, producers_made}
 use Rattle.pulsar_acts.specs.Tables.{view_of}
 use Rattle.pulsar_acts.proofs.tables.Tables.makes.Goals as goal
 
@@ -7,5 +7,5 @@ pub returns-in_ok-joins_raw-in-RawConsumer-clause-sees : goal.returns-in_ok-join
 returns-in_ok-joins_raw-in-RawConsumer-clause-sees c =
     let v = view_of c.args.self.now in
     c.in_ok-joins_raw-in-RawConsumer.ensures.sees
-    ∙ ap (λ m. record v { consumers = consumers_made v.links.live c.args.who m v.consumers; producers = producers_made v.chosen c.args.who m v.producers })
+    ∙ ap (λ m. record v { consumers = consumers_made v.links.live c.args.who m v.consumers; producers = producers_made v.chosen c.args.who m v.producers; multis = multis_made c.args.who m v.multis })
     (sym c.in-RawConsumer.is)

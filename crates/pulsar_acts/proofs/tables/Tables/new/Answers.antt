@@ -5,6 +5,7 @@ use Rattle.pulsar_acts.proofs.tables.Tables.new.Goals as goal
 pub returns : goal.returns
 returns c = λ policies i. record {
   chosen = chosen_of c.args.settings;
+  policies = policies;
   now = c.args.settings.start;
   stand = λ w. c.new.ensures w i;
   calls = record { drawn = 0; is_built = false; is_stopped = false };
@@ -13,4 +14,5 @@ returns c = λ policies i. record {
   alarms = c.new-4.ensures i;
   consumers = c.new-5.ensures i;
   producers = c.new-6.ensures i;
+  multis = c.in_ok-new.ensures i;
 }

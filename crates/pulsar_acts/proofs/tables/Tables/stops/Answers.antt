@@ -3,7 +3,7 @@ use Rattle.std.proofs.lemmas.Result.{on_ok_weaker}
 use Rattle.pulsar_run.specs.Order.{arranged}
 use Rattle.pulsar_producer_table.specs.Producers.{halted}
 use Rattle.pulsar_tables.specs.Rules.{below, opens, over_links, stop_act}
-use Rattle.pulsar_producer_table.specs.Notices.{stopped_all}
+use Rattle.pulsar_producer_table.specs.Notices.{stopped_all, stopped_takers}
 use Rattle.pulsar_consumer_table.specs.Consumers.{all_changed, stopped}
 use Rattle.pulsar_tables.specs.Reading.{stopped_on, tells}
 use Rattle.pulsar_calls.specs.declared.act.Outcome.TheVariants.{Stopped}
@@ -20,13 +20,17 @@ returns-clause-left c =
     let ends = c.in_ok-stop_acts.ensures ∙ ap (λ (x : View). over_links stop_act x.links) c.in_ok-notices.ensures.sees in
     let told = c.in_ok-put_all.ensures ∙ ap (λ (x : Agenda). record x { now = c.in_ok-stop_acts.field-0.items ++ x.now }) c.in_ok-tell.ensures in
     let notices =
-    c.in_ok-stop-2.ensures.notices
-    ∙ (λ i. (c.in_ok-stop.ensures ∙ (λ j. c.in_ok-notices.ensures.notices j ++ stopped_all (c.in_ok-notices.ensures.sees j).producers)) i
+    c.in_ok-stop-3.ensures.notices
+    ∙ (λ i. (c.in_ok-stop-2.ensures
+    ∙ (λ j. c.in_ok-stop.ensures j ++ stopped_takers (view_of c.stop_alarms.new.self).multis)
+    ∙ append_assoc _ _ _
+    ∙ (λ j. c.in_ok-notices.ensures.notices j
+    ++ (stopped_all (c.in_ok-notices.ensures.sees j).producers ++ stopped_takers (c.in_ok-notices.ensures.sees j).multis))) i
     ++ stopped_on (c.in_ok-notices.ensures.sees i))
     in
     on_ok_weaker c.open.result
     (λ opened. opened
-    ∙ ap (λ (x : Agenda). record x { behind = x.behind ++ map (arranged below) (opens c.stop-2.new.notices.items) }) told
+    ∙ ap (λ (x : Agenda). record x { behind = x.behind ++ map (arranged below) (opens c.stop-3.new.notices.items) }) told
     ∙ (λ i. record g {
       now = (ap (λ acts. acts ++ (tells c.args.who Stopped ++ g.now)) ends ∙ sym (append_assoc (over_links stop_act v.links) (tells c.args.who Stopped) g.now)) i;
       behind = g.behind ++ map (arranged below) (opens (notices i));
@@ -36,6 +40,6 @@ returns-clause-left c =
 pub returns-clause-sees : goal.returns-clause-sees
 returns-clause-sees c =
     on_ok_weaker c.open.result
-    (λ left. (λ i. record (view_of c.stop_alarms.new.self) { consumers = c.in_ok-stop-2.ensures.after i; producers = c.halt.ensures i })
+    (λ left. (λ i. record (view_of c.stop_alarms.new.self) { consumers = c.in_ok-stop-3.ensures.after i; producers = c.halt.ensures i })
     ∙ ap (λ (x : View). record x { consumers = all_changed stopped x.consumers; producers = halted x.producers }) c.in_ok-notices.ensures.sees)
     c.open.ensures

@@ -6,7 +6,7 @@ use Rattle.pulsar_acts.proofs.tables.batches.batches_from.Goals as goal
 
 pub loop-built-preserved : goal.loop-built-preserved
 loop-built-preserved c =
-    let block = c.args.building.now.settings.block_queue_if_full in
+    let block = c.args.block in
     let begins = batches_by c.args.ways.now block in
     let shows = λ (b : Bor Built). b.now in
     let seen = c.loop-built.yielded in

@@ -3,4 +3,4 @@ use Rattle.pulsar_tables.specs.Rules.{batches_by}
 use Rattle.pulsar_acts.proofs.tables.batches.batches_from.Given as goal
 
 abbrev pub invariant-loop-built : goal.invariant-loop-built
-invariant-loop-built l = l.acts.items ≡ map (batches_by l.ways l.building.settings.block_queue_if_full) (map (λ b. b.now) l.yielded)
+invariant-loop-built l = l.acts.items ≡ map (batches_by l.ways l.block) (map (λ b. b.now) l.yielded)

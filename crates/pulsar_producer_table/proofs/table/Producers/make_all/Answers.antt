@@ -7,9 +7,8 @@ use Rattle.pulsar_producer_table.proofs.table.Producers.make_all.Goals as goal
 
 pub loop-built-preserved : goal.loop-built-preserved
 loop-built-preserved c =
-    let owner = c.args.owner in
+    let options = c.args.settings.now in
     let first = c.args.first_number in
-    let limits = c.args.limits in
     let seen = c.loop-built.yielded in
     let built = c.in-Some.built in
     record {
@@ -18,6 +17,7 @@ loop-built-preserved c =
           ∙ ap (λ qs. qs ++ partition_of built ∷ []) c.loop-built.invariant.partitions
           ∙ sym (map_end partition_of seen built);
       after = c.in_ok-make.ensures
-          ∙ ap (with_topic owner first limits built) c.loop-built.invariant.after
-          ∙ sym (topics_end owner first limits seen built (producers_of c.args.self.now));
+          ∙ ap (λ o. with_topic o first built (producers_of c.loop-built.self)) c.in_ok-copy.ensures
+          ∙ ap (with_topic options first built) c.loop-built.invariant.after
+          ∙ sym (topics_end options first seen built (producers_of c.args.self.now));
     }

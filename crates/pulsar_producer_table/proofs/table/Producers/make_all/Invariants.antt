@@ -6,5 +6,5 @@ use Rattle.pulsar_producer_table.proofs.table.Producers.make_all.Given as goal
 abbrev pub invariant-loop-built : goal.invariant-loop-built
 invariant-loop-built l = record {
   partitions : l.partitions.items ≡ map partition_of l.yielded;
-  after : producers_of l.self ≡ with_topics l.owner l.first_number l.limits l.yielded (producers_of l.fn.self);
+  after : producers_of l.self ≡ with_topics l.settings l.first_number l.yielded (producers_of l.fn.self);
 }

@@ -7,7 +7,7 @@ use Rattle.pulsar_acts.specs.Tables.{view_of, with_policies}
 use Rattle.pulsar_client.proofs.steps.work.Goals as goal
 
 pub loop-preserved : goal.loop-preserved
-loop-preserved c =
+loop-preserved g c =
     let v = view_of c.loop.tables in
     let act = c.in-Some.act in
     record {
@@ -23,4 +23,4 @@ loop-preserved c =
     }
 
 pub returns-in-None-clause-stands : goal.returns-in-None-clause-stands
-returns-in-None-clause-stands c = λ o e h same s. ended (c.loop.invariant.stands o e h same s) (sym c.in-None.ensures.first) refl
+returns-in-None-clause-stands g c = λ o e h same s. ended (c.loop.invariant.stands o e h same s) (sym c.in-None.ensures.first) refl

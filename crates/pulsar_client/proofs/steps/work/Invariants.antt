@@ -7,8 +7,8 @@ use Rattle.pulsar_tables.specs.View.{Options}
 use Rattle.pulsar_client.proofs.steps.work.Given as goal
 
 abbrev pub invariant-loop : goal.invariant-loop
-invariant-loop l = record {
-  stands : (o : Options) (e : Heard) (h : List Step) → o.policies ≡ map (λ p. routes p) l.policies →
+invariant-loop g l = record {
+  stands : (o : Options) (e : Heard) (h : List Step) → o.policies ≡ map (λ p. (goal.CustomRoutingPolicy-dyn g (p.vtable, p.value)).routes p.value) l.policies →
       InStep o l.fn.tables (agenda_of l.fn.tasks) e (map shown l.fn.out.items) h → InStep o l.tables (agenda_of l.tasks) e (map shown l.out.items) h;
   settings : l.tables.settings ≡ l.fn.tables.settings;
 }

@@ -93,6 +93,7 @@ made_as makes.Client = None
 made_as (makes.Consumer j) = Some (setup_of j)
 made_as (makes.RawConsumer l made) = Some (of_raw made)
 made_as (makes.Producer b) = None
+made_as (makes.MultiProducer name settings) = None
 
 abbrev pub making_does : (ℕ → Option Seat) → Makes → List Done
 making_does live makes.Nothing = []
@@ -100,6 +101,7 @@ making_does live makes.Client = []
 making_does live (makes.Consumer j) = subscription_does j.link (url_at (live j.link))
 making_does live (makes.RawConsumer l made) = subscription_does l (url_at (live l))
 making_does live (makes.Producer b) = []
+making_does live (makes.MultiProducer name settings) = []
 
 -- how the consumer of a ticket was made
 abbrev pub made_with : (ticket : ℕ) → List Entry → Option Setup

@@ -28,7 +28,7 @@ use Rattle.pulsar_tables.specs.Alarms.{ringing, rings}
 use Rattle.pulsar_calls.specs.declared.act.Act.{Act}
 use Rattle.pulsar_calls.specs.declared.act.Act.TheVariants.{Comes, Starts, Told, Does, Answers, Dials}
 use Rattle.pulsar_calls.specs.declared.act.Action.{Action}
-use Rattle.pulsar_calls.specs.declared.act.Action.TheVariants.{Get, Ask, TakeTurn, PassTurn, Draw, Recall, Remake, Number, Find, Shut, Store, Flush, TakeBatch, TakeNumber, FindConsumer, TakeFlow, RecallConsumer, Revive, FailConsumer, Tell, TellAll, StopAll, Rest}
+use Rattle.pulsar_calls.specs.declared.act.Action.TheVariants.{Get, Ask, TakeTurn, PassTurn, Draw, Recall, Remake, Number, Find, Shut, Store, Flush, TakeBatch, Multi, TakeNumber, FindConsumer, TakeFlow, RecallConsumer, Revive, FailConsumer, Tell, TellAll, StopAll, Rest}
 use Rattle.pulsar_calls.specs.declared.act.Alarm.{Alarm}
 use Rattle.pulsar_calls.specs.declared.act.Alarm.TheVariants.{Retry, Wake, Batch, KeepAlive, CheckIdle}
 use Rattle.pulsar_calls.specs.declared.act.Arrival.TheVariants.{Readied, Settles, Gives}
@@ -61,7 +61,15 @@ use Rattle.pulsar_tables.specs.Links.{arrival, call_of, closed_by, line_places, 
 use Rattle.pulsar_calls.specs.Content.{numbers_from}
 use Rattle.pulsar_calls.specs.Parts.{outcomes_of}
 use Rattle.pulsar_producer_table.specs.Producers.{advice, turn_passed, drawn, is_settled_at, is_woken, link_at, next_batch_at, number_drawn, numbers_at, recalled, stored_at, turn_taken, unsent_at, waiting_at}
+use Rattle.pulsar_producer.specs.MultiTopic as multi_topic
 use Rattle.pulsar_producer.specs.Topic as topic
+use Rattle.pulsar_producer.specs.declared.multi_topic.content.MultiSaid.{MultiSaid}
+use Rattle.pulsar_producer.specs.declared.multi_topic.content.MultiSaid.TheVariants as multi_said
+use Rattle.pulsar_producer.specs.declared.multi_topic.deed.MultiAsk.TheVariants as ask
+use Rattle.pulsar_producer.specs.declared.multi_topic.producer.Multi.{Multi as MultiName}
+use Rattle.pulsar_producer.specs.declared.multi_topic.producer.Taker.{Taker}
+use Rattle.pulsar_producer_table.specs.Multis as multi
+use Rattle.pulsar_producer_table.specs.Multis.{topic_numbers}
 use Rattle.pulsar_procedures.specs.Plan.{begins, failure_of, fails, fault_of, reply_says, told}
 use Rattle.pulsar_tables.specs.Rules.{below, call_part, dropped, fails_so, lost, notice, starts, stopped_with, brings}
 use Rattle.pulsar_agenda.specs.Run.{Entry, Begins, Then, Good, IsRun, Rests, Step, agenda, rules, steps, tickets_in, view}
@@ -73,7 +81,7 @@ use Rattle.pulsar_consumer.specs.Plans.{in_use, not_found}
 use Rattle.pulsar_consumer.specs.declared.building.Order.{Order}
 use Rattle.pulsar_consumer.specs.Topic as reader
 use Rattle.pulsar_tables.specs.View.{Base, Options, Seat, View, answer_at, arrival_at, builds, closing, is_asked, member_on, pause_of, setup, setup_of, url_at, room_of}
-use Rattle.pulsar_calls.specs.Who.{in_turn, is_same, rank, ticket_of, turn_of as taken_as}
+use Rattle.pulsar_calls.specs.Who.{in_turn, is_same, rank, taker_of, ticket_of, turn_of as taken_as, who_of}
 use Rattle.pulsar_run.specs.Laws as run
 use Rattle.pulsar_session.specs.declared.states.Asked.TheVariants as placed
 use Rattle.pulsar_session.specs.Link as session
@@ -285,13 +293,14 @@ IsReplied o who r e older =
 abbrev pub IsWoken : Options → Who → Entry → List Entry → Type 0
 IsWoken o who e older = (e ≡ Then (Comes (Rings (Wake who)))) × (rings (view o older).now (Wake who) (view o older).alarms ≡ true)
 
--- this one stops the client; or it waits for a moment or for an attempt that is to follow, for its turn at a topic producer, or for a batch
--- that is not under way, or for the link of a consumer, while another does
+-- this one stops the client; or it waits for a moment or for an attempt that is to follow, for its turn at a topic producer or of a producer of
+-- many topics, or for a batch that is not under way, or for the link of a consumer, while another does
 abbrev pub IsStopped : Options → Who → Entry → List Entry → Type 0
 IsStopped o who e older =
     (stopper : Who) × (e ≡ Then (Does stopper StopAll))
     × ((who ≡ stopper) ⊎ In (notice who outcome.Stopped) (flat_map (λ a. stopped_with (view o older).addresses a.0) (view o older).alarms)
     ⊎ ((number : ℕ) × In who (waiting_at number ((view o older).producers.topics number)))
+    ⊎ In who (map who_of (multi.waiting (view o older).multis))
     ⊎ ((number ticket : ℕ) × (who ≡ Call ticket) × In ticket (unsent_at ((view o older).producers.topics number)))
     ⊎ ((ticket : ℕ) × In who (consumer.seekers_at ((view o older).consumers.rows ticket))))
 
@@ -404,6 +413,17 @@ WordComes o who w e older =
     ⊎ (((w ≡ word.Due) × (PolledDue o who e older ⊎ (RevivedDue o who e older ⊎ BuiltDue o who e older)))
     ⊎ ((w ≡ word.Again) × SeeksAgain o who e older)))))
 
+-- a producer of many topics says this to what it asks of it
+abbrev pub MultiSays : Who → MultiSaid → Action → View → Type 0
+MultiSays who said (Multi m a) v = (s : multi_topic.Seen) × (multi.at m v.multis ≡ Some s) × In said (multi.says v.policies (taker_of who) a s)
+MultiSays who said _ v = ⊥
+
+-- another passes the turn of a producer of many topics on to it
+abbrev pub GetsMultiTurn : Options → Who → MultiSaid → Entry → List Entry → Type 0
+GetsMultiTurn o who said e older =
+    (other : Who) × (m : MultiName) × (taker : Taker) × (e ≡ Then (Does other (Multi m ask.PassesTurn))) × (who ≡ who_of taker) × (said ≡ multi_said.HasTurn)
+    × (multi.next_on (multi.at m (view o older).multis) ≡ Some taker)
+
 -- another passes the turn of a topic producer on to it, with this version of the schema
 abbrev pub GetsTurn : Options → Who → News → Entry → List Entry → Type 0
 GetsTurn o who n e older =
@@ -429,11 +449,17 @@ IsToldBy who u e older =
     (other : Who)
     × ((e ≡ Then (Does other (Tell (notice who u)))) ⊎ ((ns : List Notice) × (e ≡ Then (Does other (TellAll ns))) × In (notice who u) ns))
 
+-- one closes these topic producers: those of a producer, or those that a producer of many topics has for a topic
+abbrev pub ClosesAll : View → Action → List ℕ → Type 0
+ClosesAll v (Shut t) numbers = numbers ≡ numbers_at (v.producers.built t)
+ClosesAll v (Multi m (ask.Removes topic)) numbers = numbers ≡ topic_numbers topic (multi.at m v.multis)
+ClosesAll v _ numbers = ⊥
+
 -- its message is stored at a producer that is closed
 abbrev pub IsDropped : Options → Who → Outcome → Entry → List Entry → Type 0
 IsDropped o who u e older =
-    (other : Who) × (producer number ticket : ℕ) × (e ≡ Then (Does other (Shut producer))) × (who ≡ Call ticket)
-    × In number (numbers_at ((view o older).producers.built producer)) × In ticket (stored_at ((view o older).producers.topics number))
+    (other : Who) × (action : Action) × (numbers : List ℕ) × (number ticket : ℕ) × (e ≡ Then (Does other action)) × (who ≡ Call ticket)
+    × ClosesAll (view o older) action numbers × In number numbers × In ticket (stored_at ((view o older).producers.topics number))
     × (u ≡ outcome.Settled (Err (OfProducer ProducerClosed)))
 
 -- GotLink: it got a link of an address, which serves, or that became ready while it waited; or it found that of a topic producer, or of a
@@ -443,7 +469,7 @@ IsDropped o who u e older =
 -- there was none. Replied: its request was answered. Woken: its moment came. TimedOut, Disconnected, Cut, Stopped: its request, its frame in the
 -- line or the attempt that it waited for ended so; Disconnected also: there is no such topic producer; Stopped also: the client was stopped, or a
 -- part of it, or its batch, says so. Granted: it asked for a turn, for a number or the like, or its turn came; a batch was cut, or its flush is
--- settled. Parted: a part of it says so. Settled: its batch says so, or its producer is closed. Word: it asked of consumers, and this is said at
+-- settled. Multi: it asked of a producer of many topics, or its turn there came. Parted: a part of it says so. Settled: its batch says so, or its producer is closed. Word: it asked of consumers, and this is said at
 -- once; or it happened to its own consumer, or to the one whose link it waits for.
 abbrev pub Cause : Options → Who → Outcome → Entry → List Entry → Type 0
 Cause o who (outcome.GotLink link) e older =
@@ -452,6 +478,7 @@ Cause o who (outcome.GotLink link) e older =
 Cause o who (outcome.Granted n) e older =
     Acts o who (GrantsSo n) e older
     ⊎ (GetsTurn o who n e older ⊎ (IsReady o who n e older ⊎ IsToldBy who (outcome.Granted n) e older))
+Cause o who (outcome.Multi said) e older = Acts o who (MultiSays who said) e older ⊎ GetsMultiTurn o who said e older
 Cause o who (outcome.Settled f) e older = IsToldBy who (outcome.Settled f) e older ⊎ IsDropped o who (outcome.Settled f) e older
 Cause o who (outcome.Parted ticket f) e older = IsToldBy who (outcome.Parted ticket f) e older
 Cause o who (outcome.Word w) e older = WordComes o who w e older
@@ -491,6 +518,9 @@ number_in (procedure.FailShare share r) = None
 number_in (procedure.Gather first count) = None
 number_in (procedure.Go round numbers) = None
 number_in (procedure.Close ticket numbers) = None
+number_in (procedure.MakeMulti name settings) = None
+number_in (procedure.MultiSend ways m share topic message) = None
+number_in (procedure.MultiClose m topic) = None
 number_in (procedure.Subscribe ways order) = None
 number_in (procedure.Serve ways number) = None
 number_in (procedure.Acknowledge link request) = None
@@ -535,6 +565,9 @@ ways_in (procedure.FailShare share r) = None
 ways_in (procedure.Gather first count) = None
 ways_in (procedure.Go round numbers) = None
 ways_in (procedure.Close ticket numbers) = None
+ways_in (procedure.MakeMulti name settings) = None
+ways_in (procedure.MultiSend ways m share topic message) = Some ways
+ways_in (procedure.MultiClose m topic) = None
 ways_in (procedure.Subscribe ways order) = Some ways
 ways_in (procedure.Serve ways number) = Some ways
 ways_in (procedure.Acknowledge link request) = None
@@ -555,6 +588,9 @@ fails_in_producer (procedure.FailShare share r) = false
 fails_in_producer (procedure.Gather first count) = false
 fails_in_producer (procedure.Go round numbers) = false
 fails_in_producer (procedure.Close ticket numbers) = true
+fails_in_producer (procedure.MakeMulti name settings) = false
+fails_in_producer (procedure.MultiSend ways m share topic message) = true
+fails_in_producer (procedure.MultiClose m topic) = true
 fails_in_producer (procedure.Subscribe ways order) = false
 fails_in_producer (procedure.Serve ways number) = false
 fails_in_producer (procedure.Acknowledge link request) = false
@@ -568,7 +604,7 @@ has_failed _ = false
 
 -- a call fails where it is refused, and else with the fault of an outcome that it was told, or of a reply to its request; a search with
 -- these as faults of its own, and a send and a close as a producer; one with parts where some of them failed; a message that is stored
--- with what it is told; a consumer that is built where its number is in use, and where its topic has several partitions; and the close of one
+-- with what it is told; a message that a producer of many topics hands on where the producer of its topic refuses it; a consumer that is built where its number is in use, and where its topic has several partitions; and the close of one
 -- that has ended
 pub data FailsSo (p : Procedure) (os : List Outcome) (f : Failure) : Type 0 where
   IsRefused : (r : Refusal) → p ≡ procedure.Refuse r → f ≡ failure_of r → FailsSo p os f
@@ -582,6 +618,7 @@ pub data FailsSo (p : Procedure) (os : List Outcome) (f : Failure) : Type 0 wher
   IsUnexpectedInProducer : (r : Reply) → fails_in_producer p ≡ true → In (outcome.Replied r) os →
       f ≡ in_producer (unexpected r.content r.content.body) → FailsSo p os f
   IsSettled : In (outcome.Settled (Err f)) os → FailsSo p os f
+  IsNotHanded : In (outcome.Multi (multi_said.Handed (Err f))) os → FailsSo p os f
   IsPartial : (first count : ℕ) (failures : List (ℕ × Failure)) → p ≡ procedure.Gather first count → list_any has_failed os ≡ true →
       f ≡ OfPartialSend (outcomes_of failures (numbers_from first count)) → FailsSo p os f
   IsInUse : (w : Ways) (order : Order) → p ≡ procedure.Subscribe w order → In (outcome.Word word.InUse) os → f ≡ in_use → FailsSo p os f

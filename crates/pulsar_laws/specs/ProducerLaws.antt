@@ -39,7 +39,7 @@ use Rattle.pulsar_calls.specs.declared.act.Act.TheVariants.{Comes, Told, Does}
 use Rattle.pulsar_calls.specs.declared.act.Alarm.TheVariants.{Batch}
 use Rattle.pulsar_calls.specs.declared.act.Part.TheVariants.{Rings}
 use Rattle.pulsar_tables.specs.Alarms.{rings}
-use Rattle.pulsar_calls.specs.declared.act.Action.TheVariants.{Ask, TakeTurn, PassTurn, Draw, Remake, Shut, Store, Flush, TakeBatch, StopAll}
+use Rattle.pulsar_calls.specs.declared.act.Action.TheVariants.{Ask, TakeTurn, PassTurn, Draw, Remake, Shut, Store, Flush, TakeBatch, Multi, StopAll}
 use Rattle.pulsar_calls.specs.declared.act.Makes.TheVariants as makes
 use Rattle.pulsar_calls.specs.declared.act.Share.{Share}
 use Rattle.pulsar_calls.specs.declared.act.Outcome.{Outcome}
@@ -55,6 +55,9 @@ use Rattle.pulsar_producer_table.specs.declared.table.Topic.{Topic}
 use Rattle.pulsar_calls.specs.Content.{Said, Failed}
 use Rattle.pulsar_tables.specs.Links as links
 use Rattle.pulsar_calls.specs.Parts.{sent_from}
+use Rattle.pulsar_producer.specs.declared.multi_topic.deed.MultiAsk.TheVariants as ask
+use Rattle.pulsar_producer_table.specs.Multis as multi
+use Rattle.pulsar_producer_table.specs.Multis.{topic_numbers}
 use Rattle.pulsar_producer_table.specs.Producers.{number_drawn, numbers_at}
 use Rattle.pulsar_procedures.specs.Plan.{told}
 use Rattle.pulsar_tables.specs.Rules.{joins, notice}
@@ -104,6 +107,7 @@ topic_acts v n (Does who (Flush m)) = if n == m then topic.Flushes (taken_as who
 topic_acts v n (Does who (TakeBatch m)) = if n == m then topic.TakesBatch ∷ [] else []
 topic_acts v n (Does who StopAll) = topic.Halts ∷ []
 topic_acts v n (Does who (Shut t)) = shut_by n (numbers_at (v.producers.built t))
+topic_acts v n (Does who (Multi m (ask.Removes topic))) = shut_by n (topic_numbers topic (multi.at m v.multis))
 topic_acts v n _ = []
 
 -- all that was done to it since it was built, newest first

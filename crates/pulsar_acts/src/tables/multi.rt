@@ -197,9 +197,13 @@ impl Tables {
         let Some(taker) = taker_of(who) else {
             return Ok(());
         };
-        match self.multis.take_turn(multi, taker)? {
-            Some(true) => self.multi_says(who, MultiSaid::HasTurn, tasks),
-            Some(false) | None => Ok(()),
+        let Some(is_free) = self.multis.take_turn(multi, taker)? else {
+            return Ok(());
+        };
+        if is_free {
+            self.multi_says(who, MultiSaid::HasTurn, tasks)
+        } else {
+            Ok(())
         }
     }
 

@@ -16,7 +16,7 @@ returns-in-Some-clause-left g c =
     let ps = map (λ p. (goal.CustomRoutingPolicy-dyn g (p.vtable, p.value)).routes p.value) c.args.policies.now in
     let h = c.args.handing in
     let row = there (at c.args.multi v.multis) c.requires in
-    let said = handed_so ps h (at c.args.multi v.multis) row.0 _ c.in-Some.said row.1 c.advice-advice.ensures (sym c.in-Some.is ∙ c.in_ok-hand.ensures.said) in
+    let said = handed_so ps h (at c.args.multi v.multis) row.0 _ c.in-Some.said row.1 c.advice-advice.ensures (sym c.in-Some.is ∙ c.in_ok-said.ensures.said) in
     on_ok_weaker c.multi_says.result
     (λ told. told
     ∙ ap (λ x. record g { now = multi_tells c.args.who x ∷ g.now }) said
@@ -26,14 +26,14 @@ returns-in-Some-clause-left g c =
 pub returns-in-Some-clause-sees : goal.returns-in-Some-clause-sees
 returns-in-Some-clause-sees g c =
     let v = view_of c.args.self.now in
-    on_ok_weaker c.multi_says.result (λ told. λ i. record v { multis = c.in_ok-hand.ensures.after i }) c.multi_says.ensures
+    on_ok_weaker c.multi_says.result (λ told. λ i. record v { multis = c.in_ok-said.ensures.after i }) c.multi_says.ensures
 
 pub returns-in-None-clause-left : goal.returns-in-None-clause-left
 returns-in-None-clause-left g c =
     let v = view_of c.args.self.now in
-    absurd (not_none (handed _) (at c.args.multi v.multis) c.requires (sym c.in_ok-hand.ensures.said ∙ c.in-None.is))
+    absurd (not_none (handed _) (at c.args.multi v.multis) c.requires (sym c.in_ok-said.ensures.said ∙ c.in-None.is))
 
 pub returns-in-None-clause-sees : goal.returns-in-None-clause-sees
 returns-in-None-clause-sees g c =
     let v = view_of c.args.self.now in
-    on_ok_weaker c.tell.result (λ told. λ i. record v { multis = c.in_ok-hand.ensures.after i }) c.tell.ensures
+    on_ok_weaker c.tell.result (λ told. λ i. record v { multis = c.in_ok-said.ensures.after i }) c.tell.ensures

@@ -1,10 +1,11 @@
-use Rattle.std.proofs.Common.{◌∙◌, ◌++◌, ℕ, ap, append_assoc, map, sym}
+use Rattle.std.proofs.Common.{◌∙◌, ◌++◌, ℕ, List, Bor, ap, append_assoc, map, sym}
 use Rattle.std.proofs.lemmas.List.{map-append}
 use Rattle.std.specs.List.{flat_map}
 use Rattle.std.specs.Map.Iter.{deref_pair}
 use Rattle.pulsar_calls.specs.Notices.{stopped_one}
 use Rattle.pulsar_calls.specs.Who.{who_of}
 use Rattle.pulsar_producer.specs.MultiTopic.{Seen}
+use Rattle.pulsar_producer.specs.declared.multi_topic.producer.Taker.{Taker}
 use Rattle.pulsar_producer_table.proofs.Grown.{flat_map_end, map_end}
 use Rattle.pulsar_producer_table.proofs.multis.stop_made.Goals as goal
 
@@ -13,9 +14,9 @@ loop-one-preserved c =
     let waits = λ (e : ℕ × Seen). e.1.waiting in
     let before = c.args.notices.now.items in
     let seen = c.loop-one.yielded in
-    let x = c.in-Some.field-0 in
+    let x : Bor ℕ × Bor Seen = (c.in-Some.field-0-0, c.in-Some.one) in
     let told = flat_map waits (map deref_pair seen) in
-    let tells = λ ts. map stopped_one (map who_of ts) in
+    let tells = λ (ts : List Taker). map stopped_one (map who_of ts) in
     c.in_ok-stop_all.ensures
     ∙ ap (λ ts. c.loop-one.notices.items ++ tells ts) c.waiting.ensures
     ∙ ap (λ xs. xs ++ tells (waits (deref_pair x))) c.loop-one.invariant

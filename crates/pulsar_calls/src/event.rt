@@ -1,8 +1,9 @@
 //! What comes to a client.
 
-ghost use Rattle.std.specs.Prelude.{◌≡◌, IfOk, map};
+ghost use Rattle.std.specs.Prelude.{◌≡◌, IfOk, map, string_bytes};
 ghost use Rattle.pulsar_messages.specs.Content.{message_content};
-ghost use Rattle.pulsar_calls.specs.Content.{asked, heard};
+ghost use Rattle.pulsar_wire.specs.Views.{message_id_values};
+ghost use Rattle.pulsar_calls.specs.Content.{Ack, MultiSend, MultiSendAll, Nack, Post, asked, heard};
 
 use pulsar_consumer::ConsumerBuilder;
 use pulsar_link::raw_call::RawCall;
@@ -13,7 +14,7 @@ use pulsar_wire::commands::topics::Mode;
 use pulsar_wire::error::{IoKind, NoMemory};
 
 /// What a user asks of the client.
-#[derive(Debug, Drop)]
+#[derive(Drop)]
 pub enum Call {
     /// Connects to the service. Other calls are refused until a Build has ended Ok.
     Build,
@@ -112,7 +113,7 @@ pub enum Call {
 }
 
 /// What happens to the client, one at a time. Connections are numbered from 0 in the order of their Connect effects.
-#[derive(Debug, Drop)]
+#[derive(Drop)]
 pub enum Event {
     /// A call, which gets the next ticket.
     Call(Call),
@@ -153,10 +154,7 @@ impl Call {
             Call::Brokers { topic } => Ok(Call::Brokers {
                 topic: topic.clone()?,
             }),
-            Call::Post { topic, message } => Ok(Call::Post {
-                topic: topic.clone()?,
-                message: message.copy()?,
-            }),
+            Call::Post { topic, message } => post(topic, message),
             Call::Producer(builder) => Ok(Call::Producer(builder.copy()?)),
             Call::MultiProducer(builder) => Ok(Call::MultiProducer(builder.copy()?)),
             Call::Send { producer, message } => Ok(Call::Send {
@@ -180,20 +178,12 @@ impl Call {
                 producer,
                 topic,
                 message,
-            } => Ok(Call::MultiSend {
-                producer: *producer,
-                topic: topic.clone()?,
-                message: message.copy()?,
-            }),
+            } => multi_send(*producer, topic, message),
             Call::MultiSendAll {
                 producer,
                 topic,
                 messages,
-            } => Ok(Call::MultiSendAll {
-                producer: *producer,
-                topic: topic.clone()?,
-                messages: copy_all(messages)?,
-            }),
+            } => multi_send_all(*producer, topic, messages),
             Call::MultiClose { producer, topic } => Ok(Call::MultiClose {
                 producer: *producer,
                 topic: topic.clone()?,
@@ -204,21 +194,12 @@ impl Call {
                 topic,
                 id,
                 cumulative,
-            } => Ok(Call::Ack {
-                consumer: *consumer,
-                topic: topic.clone()?,
-                id: id.copy()?,
-                cumulative: *cumulative,
-            }),
+            } => ack(*consumer, topic, id, *cumulative),
             Call::Nack {
                 consumer,
                 topic,
                 id,
-            } => Ok(Call::Nack {
-                consumer: *consumer,
-                topic: topic.clone()?,
-                id: id.copy()?,
-            }),
+            } => nack(*consumer, topic, id),
             Call::CloseConsumer { consumer } => Ok(Call::CloseConsumer {
                 consumer: *consumer,
             }),
@@ -228,6 +209,65 @@ impl Call {
             }),
         }
     }
+}
+
+fn post(topic: &String, message: &Message) -> Result<Call, NoMemory>
+    ensures { IfOk result (λ c. asked c ≡ Post (string_bytes topic.now) (message_content message.now)) }
+{
+    Ok(Call::Post {
+        topic: topic.clone()?,
+        message: message.copy()?,
+    })
+}
+
+fn multi_send(producer: u64, topic: &String, message: &Message) -> Result<Call, NoMemory>
+    ensures { IfOk result (λ c. asked c ≡ MultiSend producer (string_bytes topic.now) (message_content message.now)) }
+{
+    Ok(Call::MultiSend {
+        producer,
+        topic: topic.clone()?,
+        message: message.copy()?,
+    })
+}
+
+fn multi_send_all(
+    producer: u64,
+    topic: &String,
+    messages: &Vec<Message>,
+) -> Result<Call, NoMemory>
+    ensures { IfOk result (λ c. asked c ≡ MultiSendAll producer (string_bytes topic.now) (map message_content messages.now.items)) }
+{
+    Ok(Call::MultiSendAll {
+        producer,
+        topic: topic.clone()?,
+        messages: copy_all(messages)?,
+    })
+}
+
+fn ack(
+    consumer: u64,
+    topic: &String,
+    id: &MessageIdData,
+    cumulative: bool,
+) -> Result<Call, NoMemory>
+    ensures { IfOk result (λ c. asked c ≡ Ack consumer (string_bytes topic.now) (message_id_values id.now) cumulative) }
+{
+    Ok(Call::Ack {
+        consumer,
+        topic: topic.clone()?,
+        id: id.copy()?,
+        cumulative,
+    })
+}
+
+fn nack(consumer: u64, topic: &String, id: &MessageIdData) -> Result<Call, NoMemory>
+    ensures { IfOk result (λ c. asked c ≡ Nack consumer (string_bytes topic.now) (message_id_values id.now)) }
+{
+    Ok(Call::Nack {
+        consumer,
+        topic: topic.clone()?,
+        id: id.copy()?,
+    })
 }
 
 fn copy_all(messages: &Vec<Message>) -> Result<Vec<Message>, NoMemory>

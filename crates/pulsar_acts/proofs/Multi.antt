@@ -1,10 +1,9 @@
 -- What plans ask of producers of many topics: what is left to do, and what is seen of them afterwards.
 use Rattle.std.proofs.Common.{◌≡◌, ◌∙◌, ap, sym, refl, ℕ, ◌+◌, ◌==◌, arith, Bool, true, false, cond, List, [], ◌∷◌, ◌++◌, length, map, Option, Some, None}
 use Rattle.std.proofs.lemmas.List.{append-nil, length-map, map-append}
-use Rattle.std.specs.Option.{is_some, option_map, option_to_list}
+use Rattle.std.specs.Option.{is_some, option_map}
 use Rattle.pulsar_run.specs.Order.{put_all}
 use Rattle.pulsar_messages.specs.Content.{ProducerMessageValues}
-use Rattle.pulsar_plans.specs.declared.turn.Ways.{Ways}
 use Rattle.pulsar_producer.specs.MultiTopic as multi_topic
 use Rattle.pulsar_producer.specs.MultiTopic.{Seen, handed, is_free}
 use Rattle.pulsar_producer.specs.Routing.{Policy}
@@ -23,7 +22,6 @@ use Rattle.pulsar_producer.specs.declared.multi_topic.producer.Taker.{Taker}
 use Rattle.pulsar_calls.specs.declared.act.Act.{Act}
 use Rattle.pulsar_calls.specs.declared.act.Act.TheVariants.{Does, Starts}
 use Rattle.pulsar_calls.specs.declared.act.Action.TheVariants.{Multi as Asks}
-use Rattle.pulsar_calls.specs.declared.act.Procedure.{Procedure}
 use Rattle.pulsar_calls.specs.declared.act.Refusal.{Refusal}
 use Rattle.pulsar_calls.specs.declared.act.Refusal.TheVariants as refusal
 use Rattle.pulsar_calls.specs.declared.act.Who.{Who}
@@ -36,11 +34,9 @@ use Rattle.pulsar_calls.specs.Who.{taker_of, ticket_of}
 use Rattle.pulsar_tables.specs.Alarms.{clear}
 use Rattle.pulsar_calls.specs.declared.act.Alarm.{Alarm}
 use Rattle.pulsar_calls.specs.declared.act.Alarm.TheVariants.{Batch}
-use Rattle.pulsar_tables.specs.Reading.{unless}
-use Rattle.pulsar_tables.specs.Rules.{below, multi_joins, multi_performs, multi_sends_as, multi_shares_of, multi_shares_unless, multi_tells, parts_of, share, tells_lost, why_no_multi}
+use Rattle.pulsar_tables.specs.Rules.{below, multi_joins, multi_performs, multi_sends_as, multi_shares_of, multi_shares_unless, parts_of, share, tells_lost, why_no_multi}
 use Rattle.pulsar_tables.specs.View.{Chosen, View, after, clear_all, may_call, producers_asked}
 use Rattle.pulsar_agenda.specs.Run.{Agenda, goes_on}
-use Rattle.pulsar_acts.specs.Tables.{with_policies}
 
 -- ONE THAT IS THERE
 

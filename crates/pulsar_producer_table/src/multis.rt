@@ -2,7 +2,7 @@
 
 ghost use Rattle.std.specs.Prelude.{◌≡◌, ◌++◌, IfOk, OnOk, map, option_copied};
 ghost use Rattle.std.specs.List.{flat_map};
-ghost use Rattle.std.specs.Option.{option_map};
+ghost use Rattle.std.specs.Option.{is_some, option_map};
 ghost use Rattle.pulsar_calls.specs.Notices.{stopped_one};
 ghost use Rattle.pulsar_calls.specs.Who.{who_of};
 ghost use Rattle.pulsar_producer.specs.MultiTopic.{Hands, Joins, Passes, Removes, Takes, handed, is_free};
@@ -49,6 +49,16 @@ impl Multis {
         match multi {
             Multi::Own => Some(&self.own),
             Multi::Made(ticket) => self.made.get(&ticket),
+        }
+    }
+
+    /// There is this one.
+    pub fn has(&self, multi: Multi) -> bool
+        ensures { result ≡ is_some (meaning.at multi (multis_of self.now)) }
+    {
+        match multi {
+            Multi::Own => true,
+            Multi::Made(ticket) => self.made.contains_key(&ticket),
         }
     }
 

@@ -73,7 +73,7 @@ impl Tables {
     fn has_multi(&self, producer: u64) -> bool
         ensures { result ≡ is_some (meaning.at (Multi.Made producer) (multis_of self.now.multis)) }
     {
-        self.multis.at(Multi::Made(producer)).is_some()
+        self.multis.has(Multi::Made(producer))
     }
 
     /// A message is sent, by itself or as a part of another call.
@@ -174,7 +174,7 @@ impl Tables {
         ensures sees { OnOk result (view_of self.new ≡ after (Meant.Does who (Wish.Multi multi ask)) (view_of self.old)) }
         ensures settings { self.new.settings ≡ self.old.settings }
     {
-        if self.multis.at(multi).is_none() {
+        if !self.multis.has(multi) {
             drop(ask);
             return tell(who, Outcome::Disconnected, tasks);
         }

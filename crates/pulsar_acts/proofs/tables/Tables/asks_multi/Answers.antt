@@ -6,19 +6,20 @@ use Rattle.pulsar_agenda.specs.Run.{goes_on}
 use Rattle.pulsar_agenda.specs.Agenda.{agenda_of}
 use Rattle.pulsar_tables.specs.View.{after}
 use Rattle.pulsar_acts.specs.Tables.{view_of, with_policies}
-use Rattle.pulsar_acts.proofs.Multi.{lost_left, lost_sees, none_is}
+use Rattle.pulsar_acts.proofs.Granting.{no_topic}
+use Rattle.pulsar_acts.proofs.Multi.{lost_left, lost_sees}
 use Rattle.pulsar_acts.proofs.tables.Tables.asks_multi.Goals as goal
 
-pub returns-then-is_none-clause-left : goal.returns-then-is_none-clause-left
-returns-then-is_none-clause-left g c =
+pub returns-then-not-has-clause-left : goal.returns-then-not-has-clause-left
+returns-then-not-has-clause-left g c =
     let v = view_of c.args.self.now in
     let ps = map (λ p. (goal.CustomRoutingPolicy-dyn g (p.vtable, p.value)).routes p.value) c.args.policies.now in
-    let none = none_is _ _ c.at.ensures (sym c.is_none.ensures ∙ c.if-is_none.true) in
+    let none = no_topic _ (sym c.has.ensures ∙ c.if-not-has.true) in
     on_ok_weaker c.tell.result (λ told. told ∙ lost_left (with_policies ps v) c.args.who c.args.multi c.args.ask (agenda_of c.args.tasks.now) none) c.tell.ensures
 
-pub returns-then-is_none-clause-sees : goal.returns-then-is_none-clause-sees
-returns-then-is_none-clause-sees g c =
-    let none = none_is _ _ c.at.ensures (sym c.is_none.ensures ∙ c.if-is_none.true) in
+pub returns-then-not-has-clause-sees : goal.returns-then-not-has-clause-sees
+returns-then-not-has-clause-sees g c =
+    let none = no_topic _ (sym c.has.ensures ∙ c.if-not-has.true) in
     on_ok_weaker c.tell.result (λ told. lost_sees (view_of c.args.self.now) c.args.who c.args.multi c.args.ask none) c.tell.ensures
 
 pub returns-in-TakesTurn-clause-left : goal.returns-in-TakesTurn-clause-left

@@ -1,4 +1,4 @@
-use Rattle.std.proofs.Common.{◌∙◌, ◌∷◌, ap, sym, Some}
+use Rattle.std.proofs.Common.{◌∙◌, ◌∷◌, ap, Some}
 use Rattle.std.proofs.lemmas.Result.{on_ok_weaker}
 use Rattle.std.specs.Option.{option_map, option_to_list}
 use Rattle.pulsar_run.specs.Order.{put_all}

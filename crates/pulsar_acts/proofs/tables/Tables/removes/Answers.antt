@@ -1,4 +1,4 @@
-use Rattle.std.proofs.Common.{◌∙◌, ◌∷◌, ap, map, sym, Some}
+use Rattle.std.proofs.Common.{◌∙◌, ◌∷◌, ap, map, Some}
 use Rattle.std.proofs.lemmas.Result.{on_ok_weaker}
 use Rattle.pulsar_run.specs.Order.{put_all}
 use Rattle.pulsar_procedures.specs.Plan.{closed_notice}

@@ -131,8 +131,10 @@ lost_sees v who m a h = by a
   where
     same : (a : MultiAsk) → v.multis ≡ changed_by m (act_of v.chosen.seed (ticket_of who) (taker_of who) a) v.multis
     same a = lost_changed m (act_of v.chosen.seed (ticket_of who) (taker_of who) a) v.multis h
+
     made_none : (a : MultiAsk) → v.producers ≡ producers_asked v.chosen.first_number (multi.at m v.multis) a v.producers
     made_none a = sym (ap (λ row. producers_asked v.chosen.first_number row a v.producers) h)
+
     by : (a : MultiAsk) → v ≡ after (Does who (Asks m a)) v
     by ask.TakesTurn = λ i. record v { producers = made_none ask.TakesTurn i; multis = same ask.TakesTurn i }
     by ask.PassesTurn = λ i. record v { producers = made_none ask.PassesTurn i; multis = same ask.PassesTurn i }

@@ -68,7 +68,7 @@ pub left_same : (ps : List Policy) (v : View) (a : Act) (g : Agenda) → asks_mu
 left_same ps v (Comes (Calls asked advice)) g h =
     ap (λ xs. record (goes_on v (Comes (Calls asked advice)) g) {
       now = cond (lacks_tickets v.calls.drawn (shares asked)) (Answers (Call (2 ^ 64 - 1)) (fails Exhausted) ∷ [])
-            (Starts (Call v.calls.drawn) (procedure_for v.chosen v.calls v.consumers v.producers v.multis advice asked) ∷ xs) ++ g.now;
+          (Starts (Call v.calls.drawn) (procedure_for v.chosen v.calls v.consumers v.producers v.multis advice asked) ∷ xs) ++ g.now;
     }) (parts_same ps v advice asked)
 left_same ps v (Comes (ToLink l Opens)) g h = refl
 left_same ps v (Comes (ToLink l Reads)) g h = refl

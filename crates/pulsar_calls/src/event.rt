@@ -230,11 +230,7 @@ fn multi_send(producer: u64, topic: &String, message: &Message) -> Result<Call, 
     })
 }
 
-fn multi_send_all(
-    producer: u64,
-    topic: &String,
-    messages: &Vec<Message>,
-) -> Result<Call, NoMemory>
+fn multi_send_all(producer: u64, topic: &String, messages: &Vec<Message>) -> Result<Call, NoMemory>
     ensures { IfOk result (λ c. asked c ≡ MultiSendAll producer (string_bytes topic.now) (map message_content messages.now.items)) }
 {
     Ok(Call::MultiSendAll {

@@ -37,8 +37,8 @@ use pulsar_producer::content::Settings;
 use pulsar_producer::multi_topic::content::{Handing, Joining, MultiSaid, UserMessage};
 use pulsar_producer::multi_topic::deed::MultiAsk;
 use pulsar_producer::multi_topic::producer::{Multi, Taker};
-use pulsar_producer::{CustomRoutingPolicy, Producer, ProducerBuilder};
 use pulsar_producer::routing::Partition;
+use pulsar_producer::{CustomRoutingPolicy, Producer, ProducerBuilder};
 use pulsar_producer_table::multis::Multis;
 use pulsar_producer_table::table::{made_of, numbers_of};
 use pulsar_tables::alarms::Alarms;
@@ -262,7 +262,13 @@ impl Tables {
         let begun = self.batches_for(&settings, &parts)?;
         let first_number = self.settings.first_number;
         let partitions = self.producers.make_all(&settings, parts, first_number)?;
-        let made = made_of(self.settings.seed, ticket_of(who), topic, settings, partitions);
+        let made = made_of(
+            self.settings.seed,
+            ticket_of(who),
+            topic,
+            settings,
+            partitions,
+        );
         join_made(&mut self.multis, multi, made)?;
         self.multi_says(who, MultiSaid::Done, tasks)?;
         tasks.put_all(begun)

@@ -1,0 +1,5 @@
+pub mod Asked
+pub mod Answers
+pub mod State
+pub mod History
+pub mod Kept

@@ -3,3 +3,4 @@ pub mod Answers
 pub mod State
 pub mod History
 pub mod Kept
+pub mod Stands

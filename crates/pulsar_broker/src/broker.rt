@@ -1,5 +1,9 @@
 //! A broker.
 
+ghost use Rattle.std.specs.Prelude.{◌≡◌, ◌∷◌, [], ℕ, List, IfOk, IsErr, OnErr, OnOk};
+ghost use Rattle.pulsar_broker.specs.History.{Act, Fed, Taken, Takes};
+ghost use Rattle.pulsar_broker.specs.Stands.{HasFailed, StandsFor};
+
 use crate::outbox::Outbox;
 use crate::tables::Tables;
 use pulsar_frame::FrameReader;
@@ -33,7 +37,9 @@ pub struct Broker {
 
 impl Broker {
     /// A broker of this URL, which has no topic yet.
-    pub fn new(alloc: Global, url: &str) -> Result<Broker, NoMemory> {
+    pub fn new(alloc: Global, url: &str) -> Result<Broker, NoMemory>
+        ensures { IfOk result (StandsFor url.now []) }
+    {
         Ok(Broker {
             alloc,
             url: String::from_str(alloc, url)?,
@@ -46,7 +52,11 @@ impl Broker {
 
     /// A piece of the bytes that a client has written on a link: each frame that ends in it is answered. Pieces may be cut anywhere.
     /// Behind bytes that are no frame nothing more of this link is read.
-    pub fn feed(&mut self, link: u64, piece: &[u8]) -> Result<(), NoMemory> {
+    pub fn feed(&mut self, link: u64, piece: &[u8]) -> Result<(), NoMemory>
+        ensures ok { OnOk result ((url : List ℕ) (h : List Act) → StandsFor url h self.old → StandsFor url (Fed link piece.now ∷ h) self.new) }
+        ensures failed { OnErr result (HasFailed self.new) }
+        ensures stays { HasFailed self.old → IsErr result × HasFailed self.new }
+    {
         if self.failed {
             return Err(NoMemory);
         }
@@ -65,7 +75,12 @@ impl Broker {
     }
 
     /// The bytes that the broker writes on a link: the frames that were given and not taken yet.
-    pub fn take(&mut self, link: u64) -> Result<Vec<u8>, NoMemory> {
+    pub fn take(&mut self, link: u64) -> Result<Vec<u8>, NoMemory>
+        ensures answer { IfOk result (λ bytes. (url : List ℕ) (h : List Act) → StandsFor url h self.old → Takes url h link bytes.items) }
+        ensures ok { OnOk result ((url : List ℕ) (h : List Act) → StandsFor url h self.old → StandsFor url (Taken link ∷ h) self.new) }
+        ensures failed { OnErr result (HasFailed self.new) }
+        ensures stays { HasFailed self.old → IsErr result × HasFailed self.new }
+    {
         if self.failed {
             return Err(NoMemory);
         }

@@ -8,6 +8,7 @@ use Rattle.std.specs.BTreeMap.{BTreeMap, get, get_by_text}
 use Rattle.std.specs.Option.{option_map, option_copied}
 use Rattle.std.specs.Ordering.{nat_cmp, ordering_then}
 use Rattle.std.specs.declared.cmp.Ordering.{Ordering}
+use Rattle.pulsar_frame.specs.Message.{MessageValues}
 use Rattle.pulsar_frame.specs.Payload.{payload_values}
 use Rattle.pulsar_broker.specs.Asked as meaning
 use Rattle.pulsar_broker.specs.declared.asked.Asked.{Asked}
@@ -17,7 +18,7 @@ use Rattle.pulsar_broker.specs.declared.outbox.Outbox.{Outbox}
 use Rattle.pulsar_broker.specs.declared.tables.Tables.{Tables}
 use Rattle.pulsar_broker.specs.declared.topic.Topic.{Topic}
 use Rattle.pulsar_broker.specs.State as state
-use Rattle.pulsar_broker.specs.State.{State, no_topic, passed}
+use Rattle.pulsar_broker.specs.State.{Served, State, no_topic, passed, with_cursor}
 
 abbrev pub asked_in : Asked → meaning.Asked
 asked_in Connects = meaning.Connects
@@ -59,6 +60,14 @@ topic_in t = record { messages = map payload_values t.messages.items; cursors = 
 abbrev pub topic_of : Option Topic → state.Topic
 topic_of None = no_topic
 topic_of (Some t) = topic_in t
+
+-- a topic behind the serving of a consumer: where something is served, the cursor has passed it
+abbrev pub topic_passed : state.Consumer → (cursor : ℕ) → List MessageValues → state.Topic → state.Topic
+topic_passed c cursor [] t = t
+topic_passed c cursor (m ∷ ms) t = with_cursor c.subscription cursor t
+
+abbrev pub topic_behind : state.Consumer → Served → state.Topic → state.Topic
+topic_behind c served t = topic_passed c served.cursor served.messages t
 
 -- a producer or a consumer is found by its link and its number
 abbrev pub pair_cmp : ℕ × ℕ → ℕ × ℕ → Ordering

@@ -1,2 +1,4 @@
 pub mod Serving
 pub mod Turns
+pub mod Keys
+pub mod Due

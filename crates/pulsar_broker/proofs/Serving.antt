@@ -8,7 +8,7 @@ use Rattle.std.proofs.lemmas.Slice.Eq.{bytes_eq-Decides}
 use Rattle.pulsar_frame.specs.Message.{MessageValues}
 use Rattle.pulsar_frame.specs.Payload.{PayloadValues}
 use Rattle.pulsar_broker.specs.Answers.{delivery}
-use Rattle.pulsar_broker.specs.State.{Consumer, Owed, Served, State, Topic, Turn, nothing_served, owed_to, passed, serve, serve_consumer, serve_if, serve_so, served_first, serving, serving_of, set_named, weight, with_cursor}
+use Rattle.pulsar_broker.specs.State.{Consumer, Owed, Served, State, Topic, Turn, nothing_served, owed_to, passed, serve, serve_consumer, serve_if, serve_so, served_first, serving, serving_of, set_at, set_named, weight, with_consumer, with_cursor, with_topic}
 use Rattle.pulsar_broker.specs.Kept.{is_due, is_due_at, is_due_in, topic_behind, topic_passed}
 
 -- ONE CONSUMER
@@ -175,3 +175,39 @@ goes_behind c r start t forward other = by r.messages forward
     by : (ms : List MessageValues) → r.cursor ≡ start + length ms → topic_passed c r.cursor ms t ≡ with_cursor c.subscription r.cursor t
     by [] e = absurd (other (omega (arith, e)))
     by (m ∷ ms) e = refl
+
+-- THE STATE BEHIND A SERVING
+
+pub set_same_at : {A : Type 0} (key : ℕ) (x : A) (f : ℕ → A) → f key ≡ x → set_at key x f ≡ f
+set_same_at key x f is i k = by (k == key) refl i
+  where
+    by : (b : Bool) → (k == key) ≡ b → cond b x (f k) ≡ f k
+    by true e = sym is ∙ sym (ap f (eqb-true k key e))
+    by false e = refl
+
+-- what is kept where the consumer of a seat has spent what it was served, and the cursor has passed that
+abbrev pub kept_behind : (seat : ℕ) → Consumer → Served → State → State
+kept_behind seat c r s =
+    with_topic c.topic (topic_behind c r (s.topics c.topic)) (with_consumer seat (Some (record c { spent = r.spent })) s)
+
+-- it is that, by its parts
+pub put_behind : (seat : ℕ) (c : Consumer) (s : State) (consumers : ℕ → Option Consumer) (topics : List ℕ → Topic) →
+    let r = serving_of c (s.topics c.topic) in
+    ((k : ℕ) → consumers k ≡ set_at seat (Some (record c { spent = r.spent })) s.consumers k) →
+    ((name : List ℕ) → topics name ≡ set_named c.topic (topic_behind c r (s.topics c.topic)) s.topics name) →
+    record s { consumers = consumers; topics = topics } ≡ kept_behind seat c r s
+put_behind seat c s consumers topics is are i = record s { consumers = λ k. is k i; topics = λ name. are name i }
+
+behind_by : (seat : ℕ) (c : Consumer) (s : State) (r : Served) (ms : List MessageValues) → (ms ≡ [] → r.spent ≡ c.spent) → s.consumers seat ≡ Some c →
+    with_topic c.topic (topic_passed c r.cursor ms (s.topics c.topic)) (with_consumer seat (Some (record c { spent = r.spent })) s) ≡ (serve_if seat c r ms s).state
+behind_by seat c s r [] same is =
+    ap (λ f. record s { consumers = f; topics = set_named c.topic (s.topics c.topic) s.topics }) (ap (λ n. set_at seat (Some (record c { spent = n })) s.consumers) (same refl) ∙ set_same_at seat (Some c) s.consumers is)
+    ∙ ap (λ f. record s { topics = f }) (set_same c.topic (s.topics c.topic) s.topics refl)
+behind_by seat c s r (m ∷ ms) same is = refl
+
+pub is_behind : (seat : ℕ) (c : Consumer) (s : State) → s.consumers seat ≡ Some c → kept_behind seat c (serving_of c (s.topics c.topic)) s ≡ (serve seat s).state
+is_behind seat c s is =
+    let t = s.topics c.topic in
+    let r = serving_of c t in
+    behind_by seat c s r r.messages (unspent c.number c.granted c.spent (passed c.subscription t) (drop (passed c.subscription t) t.messages)) is
+    ∙ sym (ap (λ (o : Option Consumer). (serve_consumer seat o s).state) is)

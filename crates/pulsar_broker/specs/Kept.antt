@@ -3,6 +3,7 @@ use Rattle.std.specs.Prelude.{◌≡◌, ◌==◌, ◌&&◌, ℕ, Bool, true, fa
 use Rattle.std.specs.Global.{Vec}
 use Rattle.std.specs.declared.string.String.{String}
 use Rattle.std.specs.List.{list_any}
+use Rattle.std.specs.List.Sorted.{IsStrictlySortedBy}
 use Rattle.std.specs.declared.alloc.Global.{Global}
 use Rattle.std.specs.BTreeMap.{BTreeMap, get, get_by_text}
 use Rattle.std.specs.Option.{option_map, option_copied}
@@ -18,7 +19,7 @@ use Rattle.pulsar_broker.specs.declared.outbox.Outbox.{Outbox}
 use Rattle.pulsar_broker.specs.declared.tables.Tables.{Tables}
 use Rattle.pulsar_broker.specs.declared.topic.Topic.{Topic}
 use Rattle.pulsar_broker.specs.State as state
-use Rattle.pulsar_broker.specs.State.{Served, State, no_topic, passed, with_cursor}
+use Rattle.pulsar_broker.specs.State.{Served, State, no_topic, passed, serving_of, with_cursor}
 
 abbrev pub asked_in : Asked → meaning.Asked
 asked_in Connects = meaning.Connects
@@ -68,6 +69,10 @@ topic_passed c cursor (m ∷ ms) t = with_cursor c.subscription cursor t
 
 abbrev pub topic_behind : state.Consumer → Served → state.Topic → state.Topic
 topic_behind c served t = topic_passed c served.cursor served.messages t
+
+-- what a consumer is served of its topic
+abbrev pub serving_in : state.Consumer → (List ℕ → state.Topic) → Served
+serving_in c topics = serving_of c (topics c.topic)
 
 -- a producer or a consumer is found by its link and its number
 abbrev pub pair_cmp : ℕ × ℕ → ℕ × ℕ → Ordering
@@ -123,8 +128,21 @@ abbrev pub is_on : List ℕ → Option state.Consumer → Bool
 is_on name None = false
 is_on name (Some c) = bytes_eq c.topic name
 
--- Nobody is due; a topic lists the seats of its consumers, and no others; and no seat is in use that was not taken.
+-- A topic lists the seats of its consumers, and no others; and no seat is in use that was not taken.
+pub record AreListed (topics : BTreeMap (String Global) Topic) (s : State) : Type 0 where
+  pub listed : (seat : ℕ) (name : List ℕ) → is_listed seat (listed_in topics name) ≡ is_on name (s.consumers seat)
+  pub seated : (seat : ℕ) → nat_lt seat s.seats ≡ false → s.consumers seat ≡ None
+
+-- nobody is due but who has one of these seats, which stand in order and are taken
+pub record AreDue (due : List ℕ) (s : State) : Type 0 where
+  pub others : (seat : ℕ) → is_listed seat due ≡ false → is_due_in s seat ≡ false
+  pub ordered : IsStrictlySortedBy nat_cmp due
+  pub taken : (seat : ℕ) → is_listed seat due ≡ true → nat_lt seat s.seats ≡ true
+
+-- nobody is due
+abbrev pub AreServed : State → Type 0
+AreServed s = (seat : ℕ) → is_due_in s seat ≡ false
+
 pub record IsKept (t : Tables) : Type 0 where
-  pub served : (seat : ℕ) → is_due_in (state_in t) seat ≡ false
-  pub listed : (seat : ℕ) (name : List ℕ) → is_listed seat (listed_in t.topics name) ≡ is_on name (consumers_in t.consumers seat)
-  pub seated : (seat : ℕ) → nat_lt seat t.seats ≡ false → consumers_in t.consumers seat ≡ None
+  pub served : AreServed (state_in t)
+  pub listed : AreListed t.topics (state_in t)

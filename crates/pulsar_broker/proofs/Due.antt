@@ -54,7 +54,7 @@ still_done d t subscription cursor le h =
     both_false d.spent d.granted (passed d.subscription (with_cursor subscription cursor t)) (length t.messages)
     (elim (one_false d.spent d.granted (passed d.subscription t) (length t.messages) h) [ inl g ↦ inl g | inr g ↦ inr (omega (arith, g, more)) ])
 
-still_done_at : (o : Option Consumer) (topics : List ℕ → Topic) (name subscription : List ℕ) (cursor : ℕ) → passed subscription (topics name) ≤ cursor → is_due_at o topics ≡ false →
+pub still_done_at : (o : Option Consumer) (topics : List ℕ → Topic) (name subscription : List ℕ) (cursor : ℕ) → passed subscription (topics name) ≤ cursor → is_due_at o topics ≡ false →
     is_due_at o (set_named name (with_cursor subscription cursor (topics name)) topics) ≡ false
 still_done_at None topics name subscription cursor le h = refl
 still_done_at (Some d) topics name subscription cursor le h = by (bytes_eq name d.topic) refl

@@ -1,4 +1,5 @@
 pub mod Serving
 pub mod Turns
-pub mod Keys
+pub mod SetKeys
 pub mod Due
+pub mod Answering

@@ -102,9 +102,11 @@ due_alone (suc n) a (k ∷ ks) s within sorted others =
   where
     above : AllByRecursion (λ j. k < j) ks
     above = behind_first k n ks sorted.0
+
     unserved : (seat : ℕ) → k ≡ a → is_listed seat ks ≡ false → (b : Bool) → (a == seat) ≡ b → is_due_in (serve a s).state seat ≡ false
     unserved seat same h true e = subst (λ m. is_due_in (serve a s).state m ≡ false) (eqb-true a seat e) (sated a s)
     unserved seat same h false e = keeps_sated a seat s (others seat (ap (λ m. (m == seat) || is_listed seat ks) same ∙ ap (λ b. b || is_listed seat ks) e ∙ h))
+
     by : (b : Bool) → (k == a) ≡ b →
         ((x : State) → ((seat : ℕ) → is_listed seat ks ≡ false → is_due_in x seat ≡ false) → IsWithin (a + 1) n ks → serve_all (range_with_len (a + 1) n) x ≡ serve_all ks x) →
         (IsWithin (a + 1) n (k ∷ ks) → serve_all (range_with_len (a + 1) n) s ≡ serve_all (k ∷ ks) s) →

@@ -1,8 +1,9 @@
 -- For the code's contracts alone: the state of a broker, as the code keeps it.
-use Rattle.std.specs.Prelude.{◌≡◌, ◌==◌, ◌&&◌, ℕ, Bool, true, false, nat_lt, List, [], ◌∷◌, bytes_eq, length, map, Option, Some, None, string_bytes}
+use Rattle.std.specs.Prelude.{◌≡◌, ◌==◌, ◌&&◌, ℕ, Bool, true, false, nat_lt, List, [], ◌∷◌, ◌++◌, bytes_eq, length, map, Option, Some, None, string_bytes}
 use Rattle.std.specs.Global.{Vec}
 use Rattle.std.specs.declared.string.String.{String}
-use Rattle.std.specs.List.{list_any}
+use Rattle.std.specs.BTreeSet.{contains}
+use Rattle.std.specs.List.{flat_map, list_any}
 use Rattle.std.specs.List.Sorted.{IsStrictlySortedBy}
 use Rattle.std.specs.declared.alloc.Global.{Global}
 use Rattle.std.specs.BTreeMap.{BTreeMap, get, get_by_text}
@@ -18,8 +19,9 @@ use Rattle.pulsar_broker.specs.declared.consumer.Consumer.{Consumer}
 use Rattle.pulsar_broker.specs.declared.outbox.Outbox.{Outbox}
 use Rattle.pulsar_broker.specs.declared.tables.Tables.{Tables}
 use Rattle.pulsar_broker.specs.declared.topic.Topic.{Topic}
+use Rattle.pulsar_broker.specs.History.{bytes_for}
 use Rattle.pulsar_broker.specs.State as state
-use Rattle.pulsar_broker.specs.State.{Served, State, no_topic, passed, serving_of, with_cursor}
+use Rattle.pulsar_broker.specs.State.{Served, State, Turn, no_topic, passed, serving_of, with_cursor}
 
 abbrev pub asked_in : Asked → meaning.Asked
 asked_in Connects = meaning.Connects
@@ -113,14 +115,15 @@ is_due_at (Some c) topics = is_due c (topics c.topic)
 abbrev pub is_due_in : State → (seat : ℕ) → Bool
 is_due_in s seat = is_due_at (s.consumers seat) s.topics
 
--- the seats that are listed of a topic
-abbrev pub listed_of : Option Topic → List ℕ
-listed_of None = []
-listed_of (Some t) = t.seats.keys
+-- a seat is listed of a topic
+abbrev pub has_seat : Option Topic → (seat : ℕ) → Bool
+has_seat None seat = false
+has_seat (Some t) seat = contains nat_cmp t.seats seat
 
-abbrev pub listed_in : BTreeMap (String Global) Topic → List ℕ → List ℕ
-listed_in topics name = listed_of (get_by_text topics name)
+abbrev pub lists : BTreeMap (String Global) Topic → (name : List ℕ) (seat : ℕ) → Bool
+lists topics name seat = has_seat (get_by_text topics name) seat
 
+-- a seat is one of these
 abbrev pub is_listed : ℕ → List ℕ → Bool
 is_listed seat seats = list_any (λ k. k == seat) seats
 
@@ -129,8 +132,8 @@ is_on name None = false
 is_on name (Some c) = bytes_eq c.topic name
 
 -- A topic lists the seats of its consumers, and no others; and no seat is in use that was not taken.
-pub record AreListed (topics : BTreeMap (String Global) Topic) (s : State) : Type 0 where
-  pub listed : (seat : ℕ) (name : List ℕ) → is_listed seat (listed_in topics name) ≡ is_on name (s.consumers seat)
+pub record AreListed (lists : (name : List ℕ) (seat : ℕ) → Bool) (s : State) : Type 0 where
+  pub listed : (name : List ℕ) (seat : ℕ) → lists name seat ≡ is_on name (s.consumers seat)
   pub seated : (seat : ℕ) → nat_lt seat s.seats ≡ false → s.consumers seat ≡ None
 
 -- nobody is due but who has one of these seats, which stand in order and are taken
@@ -139,10 +142,14 @@ pub record AreDue (due : List ℕ) (s : State) : Type 0 where
   pub ordered : IsStrictlySortedBy nat_cmp due
   pub taken : (seat : ℕ) → is_listed seat due ≡ true → nat_lt seat s.seats ≡ true
 
--- nobody is due
-abbrev pub AreServed : State → Type 0
-AreServed s = (seat : ℕ) → is_due_in s seat ≡ false
-
+-- nobody is due, and the lists are right
 pub record IsKept (t : Tables) : Type 0 where
-  pub served : AreServed (state_in t)
-  pub listed : AreListed t.topics (state_in t)
+  pub served : (seat : ℕ) → is_due_in (state_in t) seat ≡ false
+  pub listed : AreListed (lists t.topics) (state_in t)
+
+-- A frame was answered so. Nobody is due then but who has one of these seats.
+pub record IsAnswered (turn : Turn) (old new : Tables) (before after : Outbox) (seats : List ℕ) : Type 0 where
+  pub state : state_in new ≡ turn.state
+  pub given : (l : ℕ) → owed_on after l ≡ owed_on before l ++ flat_map (bytes_for l) turn.given
+  pub due : IsKept old → AreDue seats (state_in new)
+  pub listed : IsKept old → AreListed (lists new.topics) (state_in new)

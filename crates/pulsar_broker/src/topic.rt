@@ -1,11 +1,14 @@
 //! A topic: its messages, and how far each subscription has come.
 
-ghost use Rattle.std.specs.Prelude.{◌≡◌, ◌++◌, [], ℕ, List, IfOk, OnOk, Some, length, map};
+ghost use Rattle.std.specs.Prelude.{◌≡◌, ◌==◌, ◌||◌, ◌++◌, [], ℕ, List, IfOk, OnOk, Some, length, map};
 ghost use Rattle.std.specs.BTreeMap.{get_by_text};
+ghost use Rattle.std.specs.BTreeSet.{contains};
+ghost use Rattle.std.specs.List.Sorted.{IsStrictlySortedBy};
+ghost use Rattle.std.specs.Ordering.{nat_cmp};
 ghost use Rattle.std.specs.List.{flat_map};
 ghost use Rattle.pulsar_frame.specs.Payload.{payload_values};
 ghost use Rattle.pulsar_broker.specs.History.{bytes_for};
-ghost use Rattle.pulsar_broker.specs.Kept.{consumer_in, owed_on, topic_behind, topic_in};
+ghost use Rattle.pulsar_broker.specs.Kept.{consumer_in, is_listed, owed_on, topic_behind, topic_in};
 ghost use Rattle.pulsar_broker.specs.State as meaning;
 ghost use Rattle.pulsar_broker.specs.State.{owed_to, serving_of, set_named};
 
@@ -53,8 +56,32 @@ impl Topic {
         Ok(place)
     }
 
+    /// The seats of its consumers, in order.
+    pub fn seats(&self, alloc: Global) -> Result<Vec<u64>, NoMemory>
+        ensures seats { IfOk result (λ v. (k : ℕ) → is_listed k v.items ≡ contains nat_cmp self.now.seats k) }
+        ensures ordered { IfOk result (λ v. IsStrictlySortedBy nat_cmp v.items) }
+    {
+        Ok(self.seats.iter().copied().collect(alloc)?)
+    }
+
+    /// A consumer of a seat is listed, and a subscription that is new gets a cursor, at this position.
+    pub fn admit(
+        &mut self,
+        alloc: Global,
+        seat: u64,
+        subscription: &str,
+        position: Option<i32>,
+    ) -> Result<(), NoMemory>
+        ensures after { OnOk result (topic_in self.new ≡ meaning.opened subscription.now position (topic_in self.old)) }
+        ensures seats { OnOk result ((k : ℕ) → contains nat_cmp self.new.seats k ≡ (contains nat_cmp self.old.seats k || (k == seat))) }
+    {
+        self.open(alloc, subscription, position)?;
+        self.seats.insert(seat)?;
+        Ok(())
+    }
+
     /// A subscription that is new gets a cursor, at this position.
-    pub fn open(
+    fn open(
         &mut self,
         alloc: Global,
         subscription: &str,

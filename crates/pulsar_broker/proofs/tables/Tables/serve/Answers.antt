@@ -4,7 +4,7 @@ use Rattle.std.specs.Option.{IsSome, option_map}
 use Rattle.std.specs.Ordering.{nat_cmp}
 use Rattle.pulsar_broker.specs.Kept.{consumer_in, serving_in, state_in, topics_in}
 use Rattle.pulsar_broker.specs.State.{Consumer, State, serving_of, set_at}
-use Rattle.pulsar_broker.proofs.Keys.{seat_set}
+use Rattle.pulsar_broker.proofs.SetKeys.{seat_set}
 use Rattle.pulsar_broker.proofs.Serving.{is_behind, put_behind}
 use Rattle.pulsar_broker.proofs.tables.Tables.serve.Goals as goal
 

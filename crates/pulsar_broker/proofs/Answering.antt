@@ -11,8 +11,17 @@ use Rattle.std.specs.List.{flat_map}
 use Rattle.pulsar_broker.specs.History.{bytes_for}
 use Rattle.pulsar_broker.specs.declared.outbox.Outbox.{Outbox}
 use Rattle.pulsar_broker.specs.declared.tables.Tables.{Tables}
-use Rattle.pulsar_broker.specs.Kept.{AreDue, AreListed, IsAnswered, IsKept, lists, owed_on, state_in, is_due, is_due_at, is_due_in, is_listed, is_on}
-use Rattle.pulsar_broker.specs.State.{Consumer, Owed, State, Topic, Turn, granted_more, joined, joining, opened, seated, set_at, set_at_pair, set_named, stored, with_consumer, with_producer, with_topic}
+use Rattle.std.specs.BTreeMap.{BTreeMap}
+use Rattle.std.specs.Option.{is_some, option_map}
+use Rattle.std.specs.declared.alloc.Global.{Global}
+use Rattle.std.specs.declared.string.String.{String}
+use Rattle.pulsar_broker.specs.Answers.{receipt}
+use Rattle.pulsar_broker.specs.Asked.{Grants}
+use Rattle.pulsar_broker.specs.declared.consumer.Consumer.{Consumer as Consumer'}
+use Rattle.pulsar_broker.specs.declared.topic.Topic.{Topic as Topic'}
+use Rattle.pulsar_broker.proofs.Serving.{set_same_at}
+use Rattle.pulsar_broker.specs.Kept.{AreDue, AreListed, IsAnswered, consumers_in, seats_in, topics_in, IsKept, lists, owed_on, state_in, is_due, is_due_at, is_due_in, is_listed, is_on}
+use Rattle.pulsar_broker.specs.State.{Consumer, Owed, State, Topic, Turn, answer, answer_send, granted_at, owed_to, granted_more, joined, joining, opened, seated, set_at, set_at_pair, set_named, stored, with_consumer, with_producer, with_topic}
 use Rattle.pulsar_broker.proofs.Due.{still_done_at}
 
 pub nobody_due : (s : State) → ((seat : ℕ) → is_due_in s seat ≡ false) → AreDue [] s
@@ -205,3 +214,68 @@ joined_kept old new link number topic subscription position is listed h =
       listed = subst (AreListed (lists new.topics)) (sym is)
           (joined_right (lists old.topics) (lists new.topics) (state_in old) link number topic subscription position listed h.listed);
     }
+
+-- nothing is given, and nothing changes
+pub unanswered : (turn : Turn) (t : Tables) (out : Outbox) (seats : List ℕ) → seats ≡ [] → turn ≡ record { state = state_in t; given = [] } → IsAnswered turn t t out out seats
+unanswered turn t out seats none is =
+    answered_so turn t t out out seats none (sym (ap (λ (x : Turn). x.state) is))
+    (λ l. sym (append-nil (owed_on out l)) ∙ sym (ap (λ (x : Turn). owed_on out l ++ flat_map (bytes_for l) x.given) is)) (λ h. h)
+
+-- a message was stored
+pub sent_so : (old : Tables) (topics : BTreeMap (String Global) Topic') (link producer sequence place : ℕ) (topic : List ℕ) (payload : PayloadValues) (before after : Outbox) (seats : List ℕ) →
+    place ≡ length (topics_in old.topics topic).messages →
+    ((m : List ℕ) → topics_in topics m ≡ set_named topic (stored payload (topics_in old.topics topic)) (topics_in old.topics) m) →
+    ((m : List ℕ) (k : ℕ) → lists topics m k ≡ lists old.topics m k) →
+    ((k : ℕ) → is_listed k seats ≡ lists old.topics topic k) → IsStrictlySortedBy nat_cmp seats →
+    ((l : ℕ) → owed_on after l ≡ owed_on before l ++ bytes_for l (owed_to link (receipt producer sequence place))) →
+    IsAnswered (answer_send link producer sequence (Some payload) (Some topic) (state_in old)) old (record old { topics = topics }) before after seats
+sent_so old topics link producer sequence place topic payload before after seats at is listed has sorted gives =
+    record {
+      state = state;
+      given = one_frame (owed_on before) (owed_on after) (owed_to link (receipt producer sequence (length (topics_in old.topics topic).messages)))
+          (λ l. gives l ∙ ap (λ n. owed_on before l ++ bytes_for l (owed_to link (receipt producer sequence n))) at);
+      due = λ h. subst (AreDue seats) (sym state) (stored_due (lists old.topics) (state_in old) topic payload seats has h.served sorted h.listed);
+      listed = λ h. record { listed = λ m k. listed m k ∙ h.listed.listed m k; seated = h.listed.seated };
+    }
+  where
+    state : state_in (record old { topics = topics }) ≡ with_topic topic (stored payload (topics_in old.topics topic)) (state_in old)
+    state i = record (state_in old) { topics = λ m. is m i }
+
+-- permits were granted to whoever has the seat
+module _ (old : Tables) (consumers : BTreeMap ℕ Consumer') (url : List ℕ) (link number permits seat : ℕ) (payload : Option PayloadValues) (out : Outbox) (seats : List ℕ)
+    (at : seats_in old.seat_of link number ≡ Some seat)
+    (is : (k : ℕ) → consumers_in consumers k ≡ set_at seat (option_map (granted_more permits) (consumers_in old.consumers seat)) (consumers_in old.consumers) k) where
+  granted_state : state_in (record old { consumers = consumers }) ≡ granted_at permits (seats_in old.seat_of link number) (state_in old)
+  granted_state = (λ i. record (state_in old) { consumers = λ k. is k i }) ∙ sym (ap (λ o. granted_at permits o (state_in old)) at)
+
+  pub granted_so : (o : Option Consumer) → consumers_in old.consumers seat ≡ o → is_some o ≡ true → seats ≡ seat ∷ [] →
+      IsAnswered (answer url link payload (Grants number permits) (state_in old)) old (record old { consumers = consumers }) out out seats
+  granted_so None found there one = absurd (false≢true there)
+  granted_so (Some c) found there one =
+      record {
+        state = granted_state;
+        given = λ l. sym (append-nil (owed_on out l));
+        due = λ h. subst (λ xs. AreDue xs (state_in (record old { consumers = consumers }))) (sym one)
+            (subst (AreDue (seat ∷ [])) (sym so) (granted_due (lists old.topics) (state_in old) seat permits c found h.served h.listed));
+        listed = λ h. subst (AreListed (lists old.topics)) (sym so) (granted_right (lists old.topics) (state_in old) seat permits c found h.listed);
+      }
+    where
+      so : state_in (record old { consumers = consumers }) ≡ with_consumer seat (Some (granted_more permits c)) (state_in old)
+      so = (λ i. record (state_in old) { consumers = λ k. is k i }) ∙ ap (λ x. with_consumer seat (option_map (granted_more permits) x) (state_in old)) found
+
+  pub granted_nobody : (o : Option Consumer) → consumers_in old.consumers seat ≡ o → is_some o ≡ false → seats ≡ [] →
+      IsAnswered (answer url link payload (Grants number permits) (state_in old)) old (record old { consumers = consumers }) out out seats
+  granted_nobody (Some c) found there none = absurd (false≢true (sym there))
+  granted_nobody None found there none =
+      answered_so (answer url link payload (Grants number permits) (state_in old)) old (record old { consumers = consumers }) out out seats none granted_state (λ l. sym (append-nil (owed_on out l)))
+      (λ h. record { served = λ k. ap (λ x. is_due_in x k) so ∙ h.served k; listed = subst (AreListed (lists old.topics)) (sym so) h.listed })
+    where
+      so : state_in (record old { consumers = consumers }) ≡ state_in old
+      so = (λ i. record (state_in old) { consumers = λ k. is k i }) ∙ ap (λ x. with_consumer seat (option_map (granted_more permits) x) (state_in old)) found
+          ∙ ap (λ f. record (state_in old) { consumers = f }) (set_same_at seat None (consumers_in old.consumers) found)
+
+-- no consumer has the number
+pub granted_none : (old : Tables) (url : List ℕ) (link number permits : ℕ) (payload : Option PayloadValues) (out : Outbox) (seats : List ℕ) → seats_in old.seat_of link number ≡ None → seats ≡ [] →
+    IsAnswered (answer url link payload (Grants number permits) (state_in old)) old old out out seats
+granted_none old url link number permits payload out seats e none =
+    unanswered (answer url link payload (Grants number permits) (state_in old)) old out seats none (ap (λ o. record { state = granted_at permits o (state_in old); given = [] }) e)

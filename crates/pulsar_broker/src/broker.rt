@@ -1,12 +1,15 @@
 //! A broker.
 
-ghost use Rattle.std.specs.Prelude.{◌≡◌, ◌∷◌, [], ℕ, List, IfOk, IsErr, OnErr, OnOk};
+ghost use Rattle.std.specs.Prelude.{◌≡◌, ◌∷◌, ◌++◌, [], ℕ, List, IfOk, IsErr, OnErr, OnOk, string_bytes};
+ghost use Rattle.pulsar_frame.specs.Shown.{message_values};
+ghost use Rattle.pulsar_broker.specs.Kept.{IsKept, state_in};
+ghost use Rattle.pulsar_broker.specs.State.{turn};
 ghost use Rattle.pulsar_broker.specs.History.{Act, Fed, Taken, Takes};
-ghost use Rattle.pulsar_broker.specs.Stands.{HasFailed, StandsFor};
+ghost use Rattle.pulsar_broker.specs.Stands.{HasAnswered, HasFailed, HasHeard, HasRead, StandsFor};
 
 use crate::outbox::Outbox;
 use crate::tables::Tables;
-use pulsar_frame::FrameReader;
+use pulsar_frame::{FrameReader, Message};
 use pulsar_wire::{ConnectionError, NoMemory};
 use std::alloc::Global;
 use std::collections::BTreeMap;
@@ -92,7 +95,9 @@ impl Broker {
         link: u64,
         mut reader: FrameReader,
         piece: &[u8],
-    ) -> Result<Reading, NoMemory> {
+    ) -> Result<Reading, NoMemory>
+        ensures { IfOk result (λ reading. IsKept self.old.tables → HasRead (string_bytes self.old.url) link (reader ++ piece.now) reading self.old self.new) }
+    {
         reader.feed(piece)?;
         let is_whole = self.hear(link, &mut reader)?;
         if is_whole {
@@ -102,17 +107,30 @@ impl Broker {
     }
 
     /// All frames that stand in front are answered. The answer is whether more can be read.
-    fn hear(&mut self, link: u64, reader: &mut FrameReader) -> Result<bool, NoMemory> {
+    fn hear(&mut self, link: u64, reader: &mut FrameReader) -> Result<bool, NoMemory>
+        ensures { IfOk result (λ whole. IsKept self.old.tables → HasHeard (string_bytes self.old.url) link reader.old reader.new whole self.old self.new) }
+    {
         loop {
             match reader.next() {
-                Ok(Some(message)) => {
-                    self.tables
-                        .turn(self.url.as_str(), link, message, &mut self.outbox)?;
-                }
+                Ok(Some(message)) => self.answer(link, message)?,
                 Ok(None) => return Ok(true),
                 Err(ConnectionError::Decoding(_)) => return Ok(false),
                 Err(_) => return Err(NoMemory),
             }
         }
+    }
+
+    /// A frame is answered.
+    fn answer(&mut self, link: u64, message: Message) -> Result<(), NoMemory>
+        ensures { OnOk result (IsKept self.old.tables → HasAnswered (turn (string_bytes self.old.url) link (message_values message) (state_in self.old.tables)) self.old self.new) }
+    {
+        let Message {
+            command,
+            mut payload,
+        } = message;
+        let url = self.url.as_str();
+        self.tables
+            .turn(url, link, &command, &mut payload, &mut self.outbox)?;
+        Ok(())
     }
 }

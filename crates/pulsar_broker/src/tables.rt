@@ -7,7 +7,7 @@ ghost use Rattle.pulsar_frame.specs.Payload.{PayloadValues, payload_values};
 ghost use Rattle.pulsar_frame.specs.Shown.{message_values};
 ghost use Rattle.pulsar_broker.specs.Asked.{ClosesConsumer, ClosesProducer, Grants, MakesProducer, Subscribes};
 ghost use Rattle.pulsar_broker.specs.History.{bytes_for};
-ghost use Rattle.pulsar_broker.specs.Kept.{IsAnswered, IsKept, asked_in, consumers_in, lists, owed_on, state_in};
+ghost use Rattle.pulsar_broker.specs.Kept.{IsAnswered, IsKept, IsTurned, asked_in, consumers_in, lists, message_in, owed_on, state_in};
 ghost use Rattle.pulsar_broker.specs.State as meaning;
 ghost use Rattle.pulsar_broker.specs.declared.outbox.Outbox.{Outbox};
 ghost use Rattle.pulsar_broker.specs.State.{answer, answer_send, closed, fresh, granted_more, joined, serve_all, set_at, to, turn};
@@ -21,6 +21,7 @@ use crate::topic::Topic;
 use crate::topics::{list_in, serve_of, store_in, unlist_in};
 use pulsar_frame::{Message, Payload};
 use pulsar_wire::NoMemory;
+use pulsar_wire::commands::base::BaseCommand;
 use std::alloc::Global;
 use std::collections::BTreeMap;
 
@@ -59,18 +60,13 @@ impl Tables {
         &mut self,
         url: &str,
         link: u64,
-        message: Message,
+        command: &BaseCommand,
+        payload: &mut Option<Payload>,
         out: &mut Outbox,
     ) -> Result<(), NoMemory>
-        ensures after { OnOk result (IsKept self.old → state_in self.new ≡ (turn url.now link (message_values message) (state_in self.old)).state) }
-        ensures given { OnOk result (IsKept self.old → (l : ℕ) → owed_on out.new l ≡ owed_on out.old l ++ flat_map (bytes_for l) (turn url.now link (message_values message) (state_in self.old)).given) }
-        ensures kept { OnOk result (IsKept self.old → IsKept self.new) }
+        ensures { OnOk result (IsKept self.old → IsTurned (turn url.now link (message_in command.now payload.old) (state_in self.old)) self.old self.new out.old out.new) }
     {
-        let Message {
-            command,
-            mut payload,
-        } = message;
-        let due = self.answer(url, link, asked::read(&command.body), &mut payload, out)?;
+        let due = self.answer(url, link, asked::read(&command.body), payload, out)?;
         self.serve_each(&due, out)?;
         Ok(())
     }

@@ -9,15 +9,22 @@ use Rattle.pulsar_broker.specs.History.{bytes_for}
 use Rattle.pulsar_broker.specs.Kept.{AreDue, AreListed, IsAnswered, IsKept, asked_in, consumer_in, lists, owed_on, producers_in, seats_in, state_in, topics_in}
 use Rattle.pulsar_broker.specs.State.{Consumer, Owed, State, Turn, answer, owed_to, to, with_producer}
 use Rattle.pulsar_broker.proofs.Answering.{answered_so, nobody_due, one_frame}
-use Rattle.pulsar_broker.specs.State.{turn}
+use Rattle.pulsar_broker.specs.Kept.{message_in}
+use Rattle.pulsar_broker.specs.State.{serve_all, turn}
+use Rattle.std.specs.List.{flat_map}
+use Rattle.pulsar_broker.specs.Asked.{asked}
 use Rattle.pulsar_broker.proofs.Answering.{turned}
 use Rattle.pulsar_broker.proofs.tables.Tables.turn.Goals as goal
 
-pub returns-clause-after : goal.returns-clause-after
-returns-clause-after c h = ?
-
-pub returns-clause-given : goal.returns-clause-given
-returns-clause-given c h = ?
-
-pub returns-clause-kept : goal.returns-clause-kept
-returns-clause-kept c h = ?
+pub returns : goal.returns
+unfolding turn
+returns c h =
+    let s = state_in c.args.self.now in
+    let m = message_in c.args.command.now c.args.payload.now in
+    let due = c.in_ok-due.due.items in
+    let same : c.deref.result.now ≡ due = c.deref.ensures.value in
+    turned (turn c.args.url.now c.args.link m s) (answer c.args.url.now c.args.link m.payload (asked m.command.body) s) c.args.self.now c.answer.new.self c.serve_each.new.self c.args.out.now c.answer.new.out c.serve_each.new.out due
+    (subst (λ a. IsAnswered (answer c.args.url.now c.args.link m.payload a s) c.args.self.now c.answer.new.self c.args.out.now c.answer.new.out due) c.read.ensures c.in_ok-due.ensures)
+    (c.in_ok-serve_each.ensures.after ∙ ap (λ ks. (serve_all ks (state_in c.answer.new.self)).state) same)
+    (λ l. c.in_ok-serve_each.ensures.given l ∙ ap (λ ks. owed_on c.answer.new.out l ++ flat_map (bytes_for l) (serve_all ks (state_in c.answer.new.self)).given) same)
+    c.in_ok-serve_each.ensures.listed refl h

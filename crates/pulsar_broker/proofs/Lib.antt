@@ -3,3 +3,4 @@ pub mod Turns
 pub mod SetKeys
 pub mod Due
 pub mod Answering
+pub mod Hearing

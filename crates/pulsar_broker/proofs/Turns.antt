@@ -26,7 +26,7 @@ pub record AreServing (left : List ℕ) (s : State) (now : ℕ → List ℕ) (wh
   pub state : (serve_all left s).state ≡ whole.state
   pub given : (l : ℕ) → owed_then now (serve_all left s).given l ≡ owed_then before whole.given l
 
-owed_more : (now new : ℕ → List ℕ) (first others : List Owed) → ((l : ℕ) → new l ≡ owed_then now first l) → (l : ℕ) →
+pub owed_more : (now new : ℕ → List ℕ) (first others : List Owed) → ((l : ℕ) → new l ≡ owed_then now first l) → (l : ℕ) →
     owed_then new others l ≡ owed_then now (first ++ others) l
 owed_more now new first others is l =
     ap (λ xs. xs ++ flat_map (bytes_for l) others) (is l)

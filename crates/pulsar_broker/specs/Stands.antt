@@ -7,7 +7,7 @@ use Rattle.std.specs.Ordering.{nat_cmp}
 use Rattle.pulsar_frame.specs.Frame.{bad, cut, left}
 use Rattle.pulsar_wire.specs.declared.error.Reason.{Reason}
 use Rattle.pulsar_broker.specs.State.{Turn}
-use Rattle.pulsar_broker.specs.History.{Act, bytes_for, given, state, stream, taken, turns}
+use Rattle.pulsar_broker.specs.History.{Act, bytes_for, ended_by, given, state, stream, taken, turns}
 use Rattle.pulsar_broker.specs.Kept.{IsKept, owed_on, state_in}
 use Rattle.pulsar_broker.specs.declared.broker.Broker.{Broker}
 use Rattle.pulsar_broker.specs.declared.broker.Reading.{Reading}
@@ -62,3 +62,8 @@ pub record HasHeard (url : List ℕ) (link : ℕ) (before after : List ℕ) (who
 pub record HasRead (url : List ℕ) (link : ℕ) (before : List ℕ) (reading : Reading) (old new : Broker) : Type 0 where
   pub answered : HasAnswered (turns url link (cut before) (state_in old.tables)) old new
   pub reads : IsReading reading (left before) (bad before)
+
+-- what is read of a link behind one more piece
+pub record HasGoneOn (url : List ℕ) (link : ℕ) (piece stream : List ℕ) (after : Reading) (old new : Broker) : Type 0 where
+  pub answered : HasAnswered (turns url link (ended_by piece stream) (state_in old.tables)) old new
+  pub reads : IsReading after (left (stream ++ piece)) (bad (stream ++ piece))

@@ -1,11 +1,14 @@
 //! A broker.
 
-ghost use Rattle.std.specs.Prelude.{◌≡◌, ◌∷◌, ◌++◌, [], ℕ, List, IfOk, IsErr, OnErr, OnOk, string_bytes};
+ghost use Rattle.std.specs.Prelude.{◌≡◌, ◌==◌, ◌∷◌, ◌++◌, [], ℕ, List, false, IfOk, IsErr, OnErr, OnOk, string_bytes};
+ghost use Rattle.std.specs.BTreeMap.{get};
+ghost use Rattle.std.specs.Ordering.{nat_cmp};
+ghost use Rattle.pulsar_frame.specs.Frame.{bad, left};
 ghost use Rattle.pulsar_frame.specs.Shown.{message_values};
 ghost use Rattle.pulsar_broker.specs.Kept.{IsKept, state_in};
 ghost use Rattle.pulsar_broker.specs.State.{turn};
 ghost use Rattle.pulsar_broker.specs.History.{Act, Fed, Taken, Takes};
-ghost use Rattle.pulsar_broker.specs.Stands.{HasAnswered, HasFailed, HasHeard, HasRead, StandsFor};
+ghost use Rattle.pulsar_broker.specs.Stands.{HasAnswered, HasFailed, HasGoneOn, HasHeard, HasRead, IsReading, ReadsOn, StandsFor};
 
 use crate::outbox::Outbox;
 use crate::tables::Tables;
@@ -64,14 +67,8 @@ impl Broker {
             return Err(NoMemory);
         }
         self.failed = true;
-        let reading = match self.readings.remove(&link) {
-            Some(reading) => reading,
-            None => Reading::Reads(FrameReader::new(self.alloc)),
-        };
-        let after = match reading {
-            Reading::Reads(reader) => self.read(link, reader, piece)?,
-            Reading::Refused => Reading::Refused,
-        };
+        let reading = resume(self.alloc, &mut self.readings, link);
+        let after = self.go_on(link, reading, piece)?;
         drop(self.readings.insert(link, after)?);
         self.failed = false;
         Ok(())
@@ -88,6 +85,16 @@ impl Broker {
             return Err(NoMemory);
         }
         Ok(self.outbox.take(link))
+    }
+
+    /// A link is read on.
+    fn go_on(&mut self, link: u64, reading: Reading, piece: &[u8]) -> Result<Reading, NoMemory>
+        ensures { IfOk result (λ after. IsKept self.old.tables → (stream : List ℕ) → IsReading reading (left stream) (bad stream) → HasGoneOn (string_bytes self.old.url) link piece.now stream after self.old self.new) }
+    {
+        match reading {
+            Reading::Reads(reader) => Ok(self.read(link, reader, piece)?),
+            Reading::Refused => Ok(Reading::Refused),
+        }
     }
 
     fn read(
@@ -132,5 +139,16 @@ impl Broker {
         self.tables
             .turn(url, link, &command, &mut payload, &mut self.outbox)?;
         Ok(())
+    }
+}
+
+/// What is read of a link is taken out. A link that was fed nothing is read from its beginning on.
+fn resume(alloc: Global, readings: &mut BTreeMap<u64, Reading>, link: u64) -> Reading
+    ensures reading { (stream : List ℕ) → ReadsOn (get nat_cmp readings.old link) stream → IsReading result (left stream) (bad stream) }
+    ensures others { (l : ℕ) → (l == link) ≡ false → get nat_cmp readings.new l ≡ get nat_cmp readings.old l }
+{
+    match readings.remove(&link) {
+        Some(reading) => reading,
+        None => Reading::Reads(FrameReader::new(alloc)),
     }
 }

@@ -4,3 +4,4 @@ pub mod SetKeys
 pub mod Due
 pub mod Answering
 pub mod Hearing
+pub mod Standing

@@ -8,7 +8,7 @@ use Rattle.std.specs.Ordering.{nat_cmp}
 use Rattle.pulsar_broker.specs.Kept.{pair_cmp}
 use Rattle.pulsar_broker.specs.State.{set_at, set_at_pair}
 
-at_seat : (k x : ℕ) → is_at (nat_cmp k) x ≡ (x == k)
+pub at_seat : (k x : ℕ) → is_at (nat_cmp k) x ≡ (x == k)
 at_seat k x = grind (arith, nat_tests, common_steps)
 
 -- one that was set, seen by f

@@ -43,7 +43,6 @@ pub record StandsFor (url : List ℕ) (h : List Act) (b : Broker) : Type 0 where
 pub record IsSameBut (old new : Broker) : Type 0 where
   pub url : new.url ≡ old.url
   pub readings : new.readings ≡ old.readings
-  pub failed : new.failed ≡ old.failed
 
 -- frames were answered so
 pub record HasAnswered (turn : Turn) (old new : Broker) : Type 0 where

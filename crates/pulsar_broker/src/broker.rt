@@ -89,7 +89,8 @@ impl Broker {
 
     /// A link is read on.
     fn go_on(&mut self, link: u64, reading: Reading, piece: &[u8]) -> Result<Reading, NoMemory>
-        ensures { IfOk result (λ after. IsKept self.old.tables → (stream : List ℕ) → IsReading reading (left stream) (bad stream) → HasGoneOn (string_bytes self.old.url) link piece.now stream after self.old self.new) }
+        ensures after { IfOk result (λ after. IsKept self.old.tables → (stream : List ℕ) → IsReading reading (left stream) (bad stream) → HasGoneOn (string_bytes self.old.url) link piece.now stream after self.old self.new) }
+        ensures failed { self.new.failed ≡ self.old.failed }
     {
         match reading {
             Reading::Reads(reader) => Ok(self.read(link, reader, piece)?),
@@ -103,7 +104,8 @@ impl Broker {
         mut reader: FrameReader,
         piece: &[u8],
     ) -> Result<Reading, NoMemory>
-        ensures { IfOk result (λ reading. IsKept self.old.tables → HasRead (string_bytes self.old.url) link (reader ++ piece.now) reading self.old self.new) }
+        ensures read { IfOk result (λ reading. IsKept self.old.tables → HasRead (string_bytes self.old.url) link (reader ++ piece.now) reading self.old self.new) }
+        ensures failed { self.new.failed ≡ self.old.failed }
     {
         reader.feed(piece)?;
         let is_whole = self.hear(link, &mut reader)?;
@@ -115,7 +117,8 @@ impl Broker {
 
     /// All frames that stand in front are answered. The answer is whether more can be read.
     fn hear(&mut self, link: u64, reader: &mut FrameReader) -> Result<bool, NoMemory>
-        ensures { IfOk result (λ whole. IsKept self.old.tables → HasHeard (string_bytes self.old.url) link reader.old reader.new whole self.old self.new) }
+        ensures heard { IfOk result (λ whole. IsKept self.old.tables → HasHeard (string_bytes self.old.url) link reader.old reader.new whole self.old self.new) }
+        ensures failed { self.new.failed ≡ self.old.failed }
     {
         loop {
             match reader.next() {
@@ -129,7 +132,8 @@ impl Broker {
 
     /// A frame is answered.
     fn answer(&mut self, link: u64, message: Message) -> Result<(), NoMemory>
-        ensures { OnOk result (IsKept self.old.tables → HasAnswered (turn (string_bytes self.old.url) link (message_values message) (state_in self.old.tables)) self.old self.new) }
+        ensures answered { OnOk result (IsKept self.old.tables → HasAnswered (turn (string_bytes self.old.url) link (message_values message) (state_in self.old.tables)) self.old self.new) }
+        ensures failed { self.new.failed ≡ self.old.failed }
     {
         let Message {
             command,

@@ -1,6 +1,6 @@
 -- What is kept as a frame is answered: who is due, and who is listed.
-use Rattle.std.proofs.Common.{◌≡◌, ◌≢◌, ◌∙◌, inl, inr, sym, ap, refl, subst, ℕ, ℤ, suc, ◌+◌, ◌<◌, ◌≤◌, ◌==◌, ◌&&◌, ◌||◌, not, nat_lt, Bool, true, false, cond, List, [], ◌∷◌, ◌++◌, bytes_eq, length, Option, Some, None, unwrap_or, arith}
-use Rattle.std.proofs.lemmas.Bool.{cases_Bool, eqb-true, false≢true, le-ltb, lt-ltb, ltb-false, ltb-true}
+use Rattle.std.proofs.Common.{◌≡◌, ◌∙◌, sym, ap, refl, subst, ℕ, ℤ, ◌+◌, ◌<◌, ◌≤◌, ◌==◌, ◌&&◌, ◌||◌, not, nat_lt, Bool, true, false, cond, List, [], ◌∷◌, ◌++◌, bytes_eq, length, Option, Some, None, unwrap_or, arith}
+use Rattle.std.proofs.lemmas.Bool.{eqb-true, false≢true, le-ltb, lt-ltb, ltb-false, ltb-true}
 use Rattle.std.proofs.lemmas.Bool.Decides.{nat_tests}
 use Rattle.std.proofs.lemmas.Slice.Eq.{bytes_eq-Decides}
 use Rattle.std.specs.List.Sorted.{IsStrictlySortedBy}
@@ -24,7 +24,7 @@ use Rattle.pulsar_broker.specs.declared.consumer.Consumer.{Consumer as Consumer'
 use Rattle.pulsar_broker.specs.declared.topic.Topic.{Topic as Topic'}
 use Rattle.pulsar_broker.proofs.Serving.{set_same_at}
 use Rattle.pulsar_broker.specs.Kept.{AreDue, AreListed, IsAnswered, IsTurned, consumers_in, seats_in, topics_in, IsKept, lists, owed_on, state_in, is_due, is_due_at, is_due_in, is_listed, is_on}
-use Rattle.pulsar_broker.specs.State.{Consumer, Owed, Served, State, Topic, Turn, serve, serve_all, serve_consumer, serve_if, serving_of, answer, answer_send, granted_at, owed_to, granted_more, joined, joining, opened, seated, set_at, set_at_pair, set_named, stored, with_consumer, with_producer, with_topic}
+use Rattle.pulsar_broker.specs.State.{Consumer, Owed, Served, State, Turn, serve, serve_all, serve_consumer, serve_if, serving_of, answer, answer_send, granted_at, owed_to, granted_more, joined, joining, opened, set_at, set_at_pair, set_named, stored, with_consumer, with_producer, with_topic}
 use Rattle.pulsar_broker.proofs.Due.{still_done_at}
 
 pub nobody_due : (s : State) → ((seat : ℕ) → is_due_in s seat ≡ false) → AreDue [] s

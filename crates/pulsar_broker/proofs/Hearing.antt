@@ -1,16 +1,14 @@
 -- The frames of a piece are answered one after the other.
-use Rattle.std.proofs.Common.{◌≡◌, ◌∙◌, sym, ap, refl, subst, ℕ, ◌+◌, ◌<◌, ◌≤◌, ◌==◌, Bool, true, false, cond, List, [], ◌∷◌, ◌++◌, length, drop, Option, Some, None, arith, string_bytes}
+use Rattle.std.proofs.Common.{◌≡◌, ◌∙◌, sym, ap, refl, ℕ, true, List, [], ◌∷◌, ◌++◌, length, drop, Option, Some, None}
 use Rattle.std.proofs.Math.Seq.{drop-length}
-use Rattle.std.proofs.lemmas.List.{append-nil, append_assoc}
-use Rattle.std.proofs.lemmas.List.Concat.{flat_map-append}
-use Rattle.std.specs.List.{flat_map}
+use Rattle.std.proofs.lemmas.List.{append-nil}
 use Rattle.std.specs.Option.{is_some}
 use Rattle.pulsar_wire.specs.declared.error.Reason.{Reason}
-use Rattle.pulsar_frame.specs.Frame.{Refused, Short, Whole, bad, cut, front, left}
+use Rattle.pulsar_frame.specs.Frame.{Whole, bad, cut, front, left}
 use Rattle.pulsar_frame.specs.Message.{MessageValues}
-use Rattle.pulsar_frame.proofs.Streams.{bad-bad, bad-refused, bad-whole, cut-append, cut-bad, cut-refused, cut-short, cut-whole, left-append, left-refused, left-short, left-whole}
-use Rattle.pulsar_broker.specs.History.{bytes_for, ended_by, turns}
-use Rattle.pulsar_broker.specs.State.{Owed, State, Turn, turn}
+use Rattle.pulsar_frame.proofs.Streams.{bad-bad, bad-whole, cut-append, cut-bad, cut-whole, left-whole}
+use Rattle.pulsar_broker.specs.History.{ended_by, turns}
+use Rattle.pulsar_broker.specs.State.{State, Turn, turn}
 use Rattle.pulsar_broker.proofs.Turns.{owed_more, owed_then}
 
 -- What is left to answer, behind what was answered, is all that was to be answered.

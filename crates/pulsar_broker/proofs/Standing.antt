@@ -1,5 +1,5 @@
 -- A broker stands for one act more.
-use Rattle.std.proofs.Common.{◌≡◌, ◌∙◌, ◌==◌, ◌++◌, ◌∷◌, sym, ap, refl, subst, ℕ, List, [], Bool, true, false, cond, Option, Some, None, arith, string_bytes}
+use Rattle.std.proofs.Common.{◌≡◌, ◌∙◌, ◌==◌, ◌++◌, ◌∷◌, sym, ap, refl, subst, ℕ, List, [], Bool, true, false, cond, Some, arith, string_bytes}
 use Rattle.std.proofs.lemmas.Bool.{eqb-true}
 use Rattle.std.proofs.lemmas.Bool.Decides.{nat_tests}
 use Rattle.std.proofs.lemmas.List.{append-nil, append_assoc}
@@ -8,9 +8,9 @@ use Rattle.std.specs.BTreeMap.{BTreeMap, get, is_at}
 use Rattle.std.specs.List.{flat_map}
 use Rattle.std.specs.Ordering.{nat_cmp}
 use Rattle.pulsar_frame.specs.Frame.{bad, left}
-use Rattle.pulsar_broker.specs.History.{Act, Fed, Taken, Takes, bytes_for, ended_by, frames, given, state, stream, taken, turns}
+use Rattle.pulsar_broker.specs.History.{Act, Fed, Taken, bytes_for, ended_by, frames, given, state, stream, taken, turns}
 use Rattle.pulsar_broker.specs.Kept.{IsKept, owed_on, state_in}
-use Rattle.pulsar_broker.specs.State.{State, Turn}
+use Rattle.pulsar_broker.specs.State.{State}
 use Rattle.pulsar_broker.specs.Stands.{HasAnswered, HasGoneOn, IsReading, ReadsOn, StandsFor}
 use Rattle.pulsar_broker.specs.declared.broker.Broker.{Broker}
 use Rattle.pulsar_broker.specs.declared.broker.Reading.{Reading}

@@ -1,14 +1,14 @@
-use Rattle.std.proofs.Common.{◌≡◌, ◌∙◌, ◌<◌, ◌≤◌, ◌+◌, sym, ap, refl, subst, ℕ, List, length, arith, string_bytes, Some, true}
+use Rattle.std.proofs.Common.{◌∙◌, ◌<◌, sym, ap, refl, subst, ℕ, List, length, arith, string_bytes}
 use Rattle.std.proofs.lemmas.Bool.{false≢true}
 use Rattle.std.specs.Option.{is_some}
-use Rattle.pulsar_broker.specs.Stands.{HasAnswered, HasHeard}
-use Rattle.pulsar_frame.specs.Frame.{Whole, bad, cut, front, left}
+use Rattle.pulsar_broker.specs.Stands.{HasAnswered}
+use Rattle.pulsar_frame.specs.Frame.{bad, cut, left}
 use Rattle.pulsar_frame.specs.Shown.{message_values}
 use Rattle.pulsar_frame.proofs.Streams.{bad-refused, cut-refused, cut-short, front-shorter, left-refused, left-short}
 use Rattle.pulsar_broker.specs.History.{turns}
-use Rattle.pulsar_broker.specs.Kept.{IsKept, owed_on, state_in}
+use Rattle.pulsar_broker.specs.Kept.{owed_on, state_in}
 use Rattle.pulsar_broker.specs.State.{turn}
-use Rattle.pulsar_broker.proofs.Hearing.{IsHearing, heard_all, heard_one}
+use Rattle.pulsar_broker.proofs.Hearing.{heard_all, heard_one}
 use Rattle.pulsar_broker.proofs.broker.Broker.hear.Goals as goal
 
 pub loop-message-init : goal.loop-message-init

@@ -131,17 +131,20 @@ impl Broker {
     }
 
     /// A frame is answered.
-    fn answer(&mut self, link: u64, message: Message) -> Result<(), NoMemory>
+    fn answer(&mut self, link: u64, mut message: Message) -> Result<(), NoMemory>
         ensures answered { OnOk result (IsKept self.old.tables → HasAnswered (turn (string_bytes self.old.url) link (message_values message) (state_in self.old.tables)) self.old self.new) }
         ensures failed { self.new.failed ≡ self.old.failed }
     {
-        let Message {
-            command,
-            mut payload,
-        } = message;
         let url = self.url.as_str();
-        self.tables
-            .turn(url, link, &command, &mut payload, &mut self.outbox)?;
+        let turned = self.tables.turn(
+            url,
+            link,
+            &message.command,
+            &mut message.payload,
+            &mut self.outbox,
+        );
+        drop(message);
+        turned?;
         Ok(())
     }
 }

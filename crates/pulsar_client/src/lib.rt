@@ -2,7 +2,9 @@
 //!
 //! It has no sockets, no clock and no threads. Whoever holds a client has these, and takes one step after another:
 //! `Pulsar::submit` makes a call and answers its ticket, `Pulsar::step` tells everything else that happens, and both answer
-//! effects, which are treated in their order. The program `pulsar_hello` does all of this in under 80 lines.
+//! effects, which are treated in their order. The program `pulsar_hello` does all of this in under 80 lines. Hold a client where you
+//! step it, and hand its effects on: a function of another crate that takes a `&mut Pulsar` hides from a proof what its boxed policies
+//! are, and `rt verdict` refuses that.
 //!
 //! What to do at each effect:
 //!

@@ -6,6 +6,7 @@ use pulsar_client::{
     Call, ClientOptions, ConnectionRetryOptions, Effect, Event, NoMemory, OperationRetryOptions,
     Pulsar, message_from_text,
 };
+use std::collections::VecDeque;
 
 fn main(rt: HostRuntime) -> Result<(), NoMemory> {
     let (alloc, url) = (rt.alloc(), "pulsar://127.0.0.1:6650");
@@ -20,60 +21,58 @@ fn main(rt: HostRuntime) -> Result<(), NoMemory> {
         first_number: 0,
         policies: Vec::new(alloc),
     };
-    let client = &mut Pulsar::new(alloc, options)?;
-    let broker = &mut Broker::new(alloc, url)?;
+    let mut client = Pulsar::new(alloc, options)?;
+    let mut broker = Broker::new(alloc, url)?;
+    let mut events = VecDeque::new(alloc);
+    events.push_back(Event::Call(Call::Build))?; // ticket 0
     let producer = client.producer().with_topic("greetings")?.build();
+    events.push_back(Event::Call(Call::Producer(producer)))?; // ticket 1
     let consumer = client.consumer().with_topic("greetings")?.build();
-    let message = message_from_text(alloc, "hello")?;
-    follow(client.submit(Call::Build)?.1, client, broker, &rt)?;
-    let (producer, effects) = client.submit(Call::Producer(producer))?;
-    follow(effects, client, broker, &rt)?;
-    let (consumer, effects) = client.submit(Call::Consumer(consumer))?;
-    follow(effects, client, broker, &rt)?;
-    let (_, effects) = client.submit(Call::Send { producer, message })?;
-    follow(effects, client, broker, &rt)?;
-    follow(client.step(Event::Poll(consumer))?, client, broker, &rt)?;
-    follow(client.submit(Call::Stop)?.1, client, broker, &rt)
+    events.push_back(Event::Call(Call::Consumer(consumer)))?; // ticket 2
+    let (producer, message) = (1, message_from_text(alloc, "hello")?);
+    events.push_back(Event::Call(Call::Send { producer, message }))?; // ticket 3
+    events.push_back(Event::Poll(2))?;
+    events.push_back(Event::Call(Call::Stop))?;
+    for _ in 0..1000 {
+        let Some(event) = events.pop_front() else {
+            break;
+        };
+        let effects = client.step(event)?;
+        treat(&effects, &mut events, &mut broker, &rt)?;
+    }
+    Ok(())
 }
 
-/// Treats the effects of a step, and takes the steps that follow from them.
-fn follow(
-    mut effects: Vec<Effect>,
-    client: &mut Pulsar,
+/// Does what the effects of a step ask for, and puts the events that this brings in front of the others.
+fn treat(
+    effects: &[Effect],
+    events: &mut VecDeque<Event>,
     broker: &mut Broker,
     rt: &HostRuntime,
 ) -> Result<(), NoMemory> {
-    let mut events = Vec::new(rt.alloc());
-    for _ in 0..1000 {
-        for effect in effects {
-            match effect {
-                Effect::Connect { link, .. } => events.push(Event::Opened(link))?,
-                Effect::Queued { link, .. } => events.push(Event::Drain(link, 100))?,
-                Effect::Write { link, bytes } => {
-                    broker.feed(link, &bytes)?;
-                    events.push(Event::Bytes(link, broker.take(link)?))?;
-                }
-                Effect::Item { ticket, item } => match item {
-                    Ok(message) => {
-                        let text = str::from_utf8(&message.payload.bytes).unwrap_or("no text");
-                        drop(println!(rt; "received {text}"));
-                        events.push(Event::Call(Call::Ack {
-                            consumer: ticket,
-                            topic: message.topic,
-                            id: message.id.id,
-                            cumulative: false,
-                        }))?;
-                    }
-                    Err(error) => drop(println!(rt; "no message: {error}")),
-                },
-                Effect::Ended { ticket, answer } => drop(println!(rt; "call {ticket}: {answer:?}")),
-                Effect::Close { link } => drop(println!(rt; "link {link} is closed")),
-                Effect::Retry { .. } | Effect::Settled { .. } => {}
-                Effect::Empty { .. } | Effect::End { .. } => {}
+    for effect in effects {
+        match effect {
+            Effect::Connect { link, .. } => events.push_front(Event::Opened(*link))?,
+            Effect::Queued { link, .. } => events.push_front(Event::Drain(*link, 100))?,
+            Effect::Write { link, bytes } => {
+                broker.feed(*link, bytes)?;
+                events.push_front(Event::Bytes(*link, broker.take(*link)?))?;
             }
+            Effect::Item { ticket, item } => {
+                let Ok(message) = item else { continue };
+                let text = str::from_utf8(&message.payload.bytes).unwrap_or("no text");
+                drop(println!(rt; "received {text}"));
+                events.push_front(Event::Call(Call::Ack {
+                    consumer: *ticket,
+                    topic: message.topic.clone()?,
+                    id: message.id.id.copy()?,
+                    cumulative: false,
+                }))?;
+            }
+            Effect::Ended { ticket, answer } => drop(println!(rt; "call {ticket}: {answer:?}")),
+            Effect::Close { .. } | Effect::Retry { .. } | Effect::Settled { .. } => {}
+            Effect::Empty { .. } | Effect::End { .. } => {}
         }
-        let Some(event) = events.pop() else { break };
-        effects = client.step(event)?;
     }
     Ok(())
 }

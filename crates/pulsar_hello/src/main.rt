@@ -3,13 +3,24 @@
 
 use pulsar_broker::Broker;
 use pulsar_client::{
-    Call, ClientOptions, ConnectionRetryOptions, Effect, Event, NoMemory, OperationRetryOptions,
-    Pulsar, message_from_text,
+    Call, ClientOptions, ConnectionRetryOptions, ConsumerBuilder, Effect, Event, NoMemory,
+    OperationRetryOptions, ProducerBuilder, Pulsar, message_from_text,
 };
 use std::collections::VecDeque;
 
 fn main(rt: HostRuntime) -> Result<(), NoMemory> {
     let (alloc, url) = (rt.alloc(), "pulsar://127.0.0.1:6650");
+    let mut events = VecDeque::new(alloc);
+    events.push_back(Event::Call(Call::Build))?; // ticket 0
+    let producer = ProducerBuilder::new(alloc).with_topic("greetings")?;
+    events.push_back(Event::Call(Call::Producer(producer.build())))?; // ticket 1
+    let consumer = ConsumerBuilder::new(alloc).with_topic("greetings")?;
+    events.push_back(Event::Call(Call::Consumer(consumer.build())))?; // ticket 2
+    let (producer, message) = (1, message_from_text(alloc, "hello")?);
+    events.push_back(Event::Call(Call::Send { producer, message }))?; // ticket 3
+    events.push_back(Event::Poll(2))?;
+    events.push_back(Event::Call(Call::Stop))?;
+    let mut broker = Broker::new(alloc, url)?;
     let options = ClientOptions {
         url: String::from_str(alloc, url)?,
         auth: None,
@@ -21,18 +32,7 @@ fn main(rt: HostRuntime) -> Result<(), NoMemory> {
         first_number: 0,
         policies: Vec::new(alloc),
     };
-    let mut client = Pulsar::new(alloc, options)?;
-    let mut broker = Broker::new(alloc, url)?;
-    let mut events = VecDeque::new(alloc);
-    events.push_back(Event::Call(Call::Build))?; // ticket 0
-    let producer = client.producer().with_topic("greetings")?.build();
-    events.push_back(Event::Call(Call::Producer(producer)))?; // ticket 1
-    let consumer = client.consumer().with_topic("greetings")?.build();
-    events.push_back(Event::Call(Call::Consumer(consumer)))?; // ticket 2
-    let (producer, message) = (1, message_from_text(alloc, "hello")?);
-    events.push_back(Event::Call(Call::Send { producer, message }))?; // ticket 3
-    events.push_back(Event::Poll(2))?;
-    events.push_back(Event::Call(Call::Stop))?;
+    let mut client = Box::new(alloc, Pulsar::new(alloc, options)?)?;
     for _ in 0..1000 {
         let Some(event) = events.pop_front() else {
             break;

@@ -5,3 +5,4 @@ pub mod Due
 pub mod Answering
 pub mod Hearing
 pub mod Standing
+pub mod Orders

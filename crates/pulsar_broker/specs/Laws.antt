@@ -1,5 +1,5 @@
 -- What follows from the definitions: what is consumed of a topic is what was sent, in order.
-use Rattle.std.specs.Prelude.{◌≡◌, ◌+◌, ℕ, List, [], ◌∷◌, ◌++◌, bytes_eq, drop, take, Option, Some, None, if◌then◌else◌}
+use Rattle.std.specs.Prelude.{◌≡◌, ◌+◌, ℕ, List, [], ◌∷◌, ◌++◌, bytes_eq, drop, take, Option, Some, if◌then◌else◌}
 use Rattle.pulsar_frame.specs.Message.{MessageValues}
 use Rattle.pulsar_frame.specs.Payload.{PayloadValues}
 use Rattle.pulsar_broker.specs.Answers.{delivery}

@@ -1,8 +1,8 @@
 //! Pumps: rounds until one answers an end.
 
-ghost use Rattle.std.specs.Prelude.{◌≡◌, [], ℕ, List, MatchResult, map};
+ghost use Rattle.std.specs.Prelude.{◌≡◌, true, IfOk, map};
 ghost use Rattle.pulsar_pumps.specs.Made.{made_of};
-ghost use Rattle.pulsar_pumps.specs.Pumping.{RanIn, RanOut, end};
+ghost use Rattle.pulsar_pumps.specs.Pumping.{PumpIn, PumpOut, end, is_ended, is_last};
 
 use crate::outside::input::Input;
 use crate::outside::output::Output;
@@ -18,9 +18,10 @@ pub fn pump_in<S: Submitter, I: Input>(
     input: &mut I,
     made: &mut Vec<(Event, Receipt)>,
 ) -> Result<PumpEnd, NoMemory>
-    ensures { let s = end (map made_of made.old.items) (S.told submitter.old) (I.given input.old) (I.faults input.old) in
+    ensures ran { let s = end (map made_of made.old.items) (S.told submitter.old) (I.given input.old) (I.faults input.old) in
         let t = end (map made_of made.new.items) (S.told submitter.new) (I.given input.new) (I.faults input.new) in
-        MatchResult result (λ _. RanIn link s t []) (λ _. (rest : List ℕ) × RanIn link s t rest) }
+        PumpIn link s t result }
+    ensures ended { IfOk result (λ e. is_ended e ≡ true → (moment : S) × (S.told moment ≡ S.told submitter.new) × S.over moment link true) }
 {
     for _ in 0..u64::MAX {
         match round_in(submitter, link, input, made) {
@@ -41,9 +42,11 @@ pub fn pump_out<S: Submitter, O: Output>(
     output: &mut O,
     made: &mut Vec<(Event, Receipt)>,
 ) -> Result<PumpEnd, NoMemory>
-    ensures { let s = end (map made_of made.old.items) (S.told submitter.old) (O.taken output.old) (O.faults output.old) in
+    ensures ran { let s = end (map made_of made.old.items) (S.told submitter.old) (O.taken output.old) (O.faults output.old) in
         let t = end (map made_of made.new.items) (S.told submitter.new) (O.taken output.new) (O.faults output.new) in
-        (rest : List ℕ) × RanOut link s t rest }
+        PumpOut link s t result }
+    ensures ended { IfOk result (λ e. is_ended e ≡ true → (moment : S) × (S.told moment ≡ S.told submitter.new) × S.over moment link true) }
+    ensures shut { IfOk result (λ e. is_last e ≡ true → O.is_shut output.new ≡ true) }
 {
     for _ in 0..u64::MAX {
         match round_out(submitter, link, output, made) {

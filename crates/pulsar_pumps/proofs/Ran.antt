@@ -1,5 +1,5 @@
 -- Rounds one after the other.
-use Rattle.std.proofs.Common.{◌≡◌, ◌∙◌, ◌≤◌, ◌<◌, ◌+◌, ◌⊎◌, ℕ, suc, ap, sym, subst, refl, inl, inr, arith, List, [], ◌∷◌, ◌++◌, append_assoc, Bool, true, false, length, map, take, drop}
+use Rattle.std.proofs.Common.{◌≡◌, ◌∙◌, ◌≤◌, ◌<◌, ◌+◌, ◌-◌, ◌⊎◌, ℕ, ap, sym, subst, refl, inl, inr, arith, List, [], ◌∷◌, ◌++◌, append_assoc, Bool, true, false, length, length-drop, map, take, drop}
 use Rattle.std.specs.Prelude.{◌||◌, Option, Some, None, Result, Ok, Err, IfOk, MatchOption, OnErr, OnOk}
 use Rattle.std.proofs.Math.Nat.{eq-or-lt_of_le}
 use Rattle.std.proofs.Math.Seq.{take-add, take-length}
@@ -217,11 +217,52 @@ module _ (a b : Option (List ℕ)) (f f' : ℕ) where
 
 -- PUTS
 
-pub grow_step : (a b c : Option (List ℕ)) (bytes : List ℕ) (at n : ℕ) → Grows a b (take at bytes) → Grows b c (take n (drop at bytes)) → Grows a c (take (at + n) bytes)
-grow_step a b c bytes at n p q = grows_same a c (take at bytes ++ take n (drop at bytes)) (take (at + n) bytes) (sym (take-add at n bytes)) (grows_then a b c (take at bytes) (take n (drop at bytes)) p q)
+-- the rest of a slice
+slice_rest : (bytes : List ℕ) (at : ℕ) → take (length bytes - at) (drop at bytes) ≡ drop at bytes
+slice_rest bytes at = ap (λ k. take k (drop at bytes)) (sym (length-drop at bytes)) ∙ take-length (drop at bytes)
+
+pub fits_rest : (bytes : List ℕ) (at n : ℕ) → at ≤ length bytes → n ≤ length (take (length bytes - at) (drop at bytes)) → at + n ≤ length bytes
+fits_rest bytes at n within h = (let same = ap length (slice_rest bytes at) in omega (arith, within, h, same, length-drop at bytes))
+
+pub grow_step : (a b c : Option (List ℕ)) (bytes : List ℕ) (at n : ℕ) → Grows a b (take at bytes) → Grows b c (take n (take (length bytes - at) (drop at bytes))) → Grows a c (take (at + n) bytes)
+grow_step a b c bytes at n p q =
+  let taken : Grows b c (take n (drop at bytes)) = grows_same b c (take n (take (length bytes - at) (drop at bytes))) (take n (drop at bytes)) (ap (take n) (slice_rest bytes at)) q in
+  grows_same a c (take at bytes ++ take n (drop at bytes)) (take (at + n) bytes) (sym (take-add at n bytes)) (grows_then a b c (take at bytes) (take n (drop at bytes)) p taken)
 
 pub put_at : (a b : Option (List ℕ)) (f f' : ℕ) (bytes : List ℕ) (n : ℕ) → Grows a b (take n bytes) → f ≤ f' → (rest : List ℕ) × Puts a b f f' bytes rest
 put_at a b f f' bytes n g faults = (drop n bytes, record { put = take n bytes; all = sym (take-append-drop n bytes); grows = g; faults = faults })
 
 pub put_all : (a b : Option (List ℕ)) (f f' : ℕ) (bytes : List ℕ) (n : ℕ) → n ≡ length bytes → Grows a b (take n bytes) → f ≤ f' → Puts a b f f' bytes []
 put_all a b f f' bytes n e g faults = record { put = bytes; all = sym (append-nil bytes); grows = grows_same a b (take n bytes) bytes (ap (λ k. take k bytes) e ∙ take-length bytes) g; faults = faults }
+
+-- A DRAIN
+
+module _ (f f' : ℕ) (out : List Shown) (rest : List ℕ) where
+  cut_of : (p : Put) → PutEnds p out f f' rest → (rest ≡ []) ⊎ Rose f f'
+  cut_of put.Failed h = inr h
+  cut_of put.All h = inl h.0
+  cut_of put.Nothing h = inl h.0
+
+pub drained_so : (p : Put) (l : ℕ) (told told' : Option (List Made)) (xs ys zs : List (Event × Receipt)) (r : Receipt) (es : List Effect) (bytes bytes' : Option (List ℕ)) (f f' : ℕ) →
+    ys ≡ xs → zs ≡ ys ++ (event.Drain l 1, r) ∷ [] → Grows told told' (made_by (event.Drain l 1) r ∷ []) → es ≡ r.effects.items →
+    (rest : List ℕ) × Puts bytes bytes' f f' (bytes_in (map shown es)) rest × PutEnds p (map shown es) f f' rest →
+    (d : Made) × (rest : List ℕ) × RanOut l (end (map made_of xs) told bytes f) (end (map made_of zs) told' bytes' f') (d ∷ []) rest × (d.event ≡ Drain l 1) × PutEnds p d.effects f f' rest
+drained_so p l told told' xs ys zs r es bytes bytes' f f' same more grows is h =
+  let d : Made = made_by (event.Drain l 1) r in
+  let P : List Effect → Type 0 = λ x. (rest : List ℕ) × Puts bytes bytes' f f' (bytes_in (map shown x)) rest × PutEnds p (map shown x) f f' rest in
+  let k : P r.effects.items = subst P is h in (
+    d,
+    k.0,
+    out_one l (end (map made_of xs) told bytes f) (end (map made_of zs) told' bytes' f') d k.1.put k.0
+      (made_more xs ys zs (event.Drain l 1) (event.Drain l 1) r same more refl) refl refl grows k.1.all k.1.grows (cut_of f f' d.effects k.0 p k.2) k.1.faults,
+    refl,
+    k.2,
+  )
+
+-- behind it a Lost, where a put failed
+pub lost_so : (p : Put) → p ≡ put.Failed → (l : ℕ) (s t u : End) → (d : Made) × (rest : List ℕ) × RanOut l s t (d ∷ []) rest × (d.event ≡ Drain l 1) × PutEnds p d.effects s.faults t.faults rest →
+    (m : Made) × (m.event ≡ Lost l) × (u.made ≡ t.made ++ m ∷ []) × Grows t.told u.told (m ∷ []) → u.bytes ≡ t.bytes → t.faults ≤ u.faults →
+    (more : List Made) × (rest : List ℕ) × RanOut l s u more rest × ((d : Made) × (m : Made) × (more ≡ d ∷ m ∷ []) × (d.event ≡ Drain l 1) × (m.event ≡ Lost l))
+lost_so p is l s t u h m bytes faults =
+  let rose : Rose s.faults t.faults = subst (λ (x : Put). PutEnds x h.0.effects s.faults t.faults h.1) is h.4 in
+  (h.0 ∷ m.0 ∷ [], h.1, out_lost l s t u (h.0 ∷ []) h.1 m.0 h.2 rose m.2 m.1 m.3 bytes faults, (h.0, m.0, refl, h.3, m.1))

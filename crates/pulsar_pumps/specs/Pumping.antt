@@ -94,7 +94,7 @@ is_loss pump_end.LinkEnded = false
 is_loss pump_end.Lost = true
 is_loss pump_end.Idle = false
 
--- a Lost was made just where it answers so, and only then something may be left of what was to be written
+-- only behind a loss something may be left of what was to be written
 abbrev pub LeftAt : PumpEnd → List ℕ → Type 0
 LeftAt pump_end.LinkEnded rest = rest ≡ []
 LeftAt pump_end.Lost rest = Unit {0}
@@ -109,6 +109,19 @@ PumpOut l s t (Ok e) = (more : List Made) × (rest : List ℕ) × RanOut l s t m
 PumpOut l s t (Err e) = (more : List Made) × (rest : List ℕ) × RanOut l s t more rest
 
 -- FOR THE CODE'S CONTRACTS ALONE
+
+abbrev pub says_loss : Option PumpEnd → Bool
+says_loss (Some e) = is_loss e
+says_loss None = false
+
+abbrev pub LeftAfter : Option PumpEnd → List ℕ → Type 0
+LeftAfter (Some e) rest = LeftAt e rest
+LeftAfter None rest = rest ≡ []
+
+-- a round, and the wait behind it
+abbrev pub TurnOut : ℕ → End → End → Result (Option PumpEnd) NoMemory → Type 0
+TurnOut l s t (Ok r) = (more : List Made) × (rest : List ℕ) × RanOut l s t more rest × (lost_in more ≡ says_loss r) × LeftAfter r rest
+TurnOut l s t (Err e) = (more : List Made) × (rest : List ℕ) × RanOut l s t more rest
 
 -- of these bytes were put: all but a rest
 pub record Puts (old new : Option (List ℕ)) (before after : ℕ) (bytes rest : List ℕ) : Type 0 where

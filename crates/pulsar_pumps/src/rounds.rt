@@ -193,11 +193,12 @@ fn put_effects<O: Output>(output: &mut O, effects: &[Effect]) -> Put
 {
     let mut any = false;
     for effect in effects {
-        if let Some(bytes) = to_write(effect) {
-            if put_bytes(output, bytes).is_err() {
-                return Put::Failed;
-            }
-            any = true;
+        match to_write(effect) {
+            Some(bytes) => match put_bytes(output, bytes) {
+                Ok(()) => any = true,
+                Err(_) => return Put::Failed,
+            },
+            None => {}
         }
     }
     if any { Put::All } else { Put::Nothing }

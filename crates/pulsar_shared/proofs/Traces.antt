@@ -61,8 +61,6 @@ module _ (o p : Options) (opening total amount : ℕ) (xs : List (Event × Vec E
   ended_had (Ok b) link is = (steps xs, had, subst (λ (q : Options). SaysEnded q (history xs) link b) same is)
   ended_had (Err e) link is = tt
 
-  pub news_had : (from : ℕ) (b : Bool) → b ≡ has_news (steps (drop from xs)) → b ≡ true → (ss : List Step) × Had p (opening + amount) ss × (has_news (drop from ss) ≡ true)
-  news_had from b is yes_news = (steps xs, had, ap has_news (drop-map step_of from xs) ∙ (sym is ∙ yes_news))
 
   pub submitted_had : (ys : List (Event × Vec Effect)) (q : Options) (e : Event) (r : Receipt) → q ≡ o → ∥ Good q (history ys) ∥₁ → steps ys ≡ steps xs ++ step e r.effects.items ∷ [] → r.index ≡ length xs →
       (ss : List Step) × Had p (opening + amount) ss × (r.index ≡ length ss) × Legal p (ss ++ step e r.effects.items ∷ [])
@@ -70,6 +68,14 @@ module _ (o p : Options) (opening total amount : ℕ) (xs : List (Event × Vec E
     let P : List Step → Type 0 = λ ss. ∥ Good p (reverse ss) ∥₁ in
     let at : ∥ Good p (history ys) ∥₁ = subst (λ (z : Options). ∥ Good z (history ys) ∥₁) (new ∙ same) there in
     (steps xs, had, omega (arith, index, length-map xs step_of), subst P is at)
+
+pub news_had : (o p : Options) (opening total : ℕ) (xs : List (Event × Vec Effect)) → o ≡ p → ∥ Good o (history xs) ∥₁ → length xs ≡ opening + total → (from : ℕ) (b : Bool) → b ≡ has_news (steps (drop from xs)) → b ≡ true →
+    (ss : List Step) × Had p opening ss × (has_news (drop from ss) ≡ true)
+news_had o p opening total xs same good counted from b is yes_news = (
+  steps xs,
+  record { legal = subst (λ (q : Options). ∥ Good q (history xs) ∥₁) same good; long = omega (arith, counted, length-map xs step_of) },
+  ap has_news (drop-map step_of from xs) ∙ (sym is ∙ yes_news),
+)
 
 -- A LIST WITH ITS PLACES
 

@@ -89,17 +89,13 @@ impl<L: Opening, C: Machine> Desk<L, C> {
     }
 
     /// None while it has neither run out of memory nor has news from this place on.
-    fn news(&mut self, pass: &mut Pass<L>, seen: u64) -> Option<Result<(), NoMemory>>
-        ensures had { IfSome result (λ r. OnOk r ((ss : List Step) × Had L.given (L.opening + pass.old.share.amount) ss × (has_news (drop seen ss) ≡ true))) }
-        ensures same { pass.new ≡ pass.old }
+    fn news(&self, seen: u64) -> Option<Result<(), NoMemory>>
+        ensures { IfSome result (λ r. OnOk r ((ss : List Step) × Had L.given L.opening ss × (has_news (drop seen ss) ≡ true))) }
     {
-        let Desk { traced, events } = self;
-        let Pass { share, parts: _ } = pass;
-        events.audit(share);
-        if traced.has_failed() {
+        if self.traced.has_failed() {
             return Some(Err(NoMemory));
         }
-        if traced.has_news(seen) {
+        if self.traced.has_news(seen) {
             return Some(Ok(()));
         }
         None
@@ -107,7 +103,7 @@ impl<L: Opening, C: Machine> Desk<L, C> {
 
     fn ended(&mut self, pass: &mut Pass<L>, link: u64) -> Result<bool, NoMemory>
         ensures had { IfOk result (λ b. (ss : List Step) × Had L.given (L.opening + pass.old.share.amount) ss × SaysEnded L.given (reverse ss) link b) }
-        ensures same { pass.new ≡ pass.old }
+        ensures same { (pass.new.parts ≡ pass.old.parts) × (pass.new.share.amount ≡ pass.old.share.amount) }
     {
         let Desk { traced, events } = self;
         let Pass { share, parts: _ } = pass;
@@ -117,7 +113,7 @@ impl<L: Opening, C: Machine> Desk<L, C> {
 
     fn since(&mut self, pass: &mut Pass<L>, from: u64) -> Result<Vec<(Event, Vec<Effect>)>, NoMemory>
         ensures had { IfOk result (λ v. (ss : List Step) × Had L.given (L.opening + pass.old.share.amount) ss × (steps v.items ≡ drop from ss)) }
-        ensures same { pass.new ≡ pass.old }
+        ensures same { (pass.new.parts ≡ pass.old.parts) × (pass.new.share.amount ≡ pass.old.share.amount) }
     {
         let Desk { traced, events } = self;
         let Pass { share, parts: _ } = pass;
@@ -203,7 +199,7 @@ impl<L: Opening, C: Machine> Shared<L, C> {
         from: u64,
     ) -> Result<Vec<(Event, Vec<Effect>)>, NoMemory>
         ensures entries { IfOk result (λ v. (ss : List Step) × Had L.given (L.opening + pass.old.share.amount) ss × (steps v.items ≡ drop from ss)) }
-        ensures same { pass.new ≡ pass.old }
+        ensures same { (pass.new.parts ≡ pass.old.parts) × (pass.new.share.amount ≡ pass.old.share.amount) }
     {
         self.desk.lock(rt).since(pass, from)
     }
@@ -211,12 +207,12 @@ impl<L: Opening, C: Machine> Shared<L, C> {
     /// Waits until an entry that is no Drain stands at this place of the trace or later. Once the client has run out of memory it answers that,
     /// also where it waits already.
     pub fn wait<R: Wait>(&self, rt: &R, pass: &mut Pass<L>, seen: u64) -> Result<(), NoMemory>
-        ensures had { OnOk result ((ss : List Step) × Had L.given (L.opening + pass.old.share.amount) ss × (has_news (drop seen ss) ≡ true)) }
+        ensures had { OnOk result ((ss : List Step) × Had L.given L.opening ss × (has_news (drop seen ss) ≡ true)) }
         ensures same { pass.new ≡ pass.old }
     {
         let mut desk = self.desk.lock(rt);
         for _ in rt.forever() {
-            if let Some(answer) = desk.news(pass, seen) {
+            if let Some(answer) = desk.news(seen) {
                 return answer;
             }
             desk = self.moved.wait(rt, desk);
@@ -227,7 +223,7 @@ impl<L: Opening, C: Machine> Shared<L, C> {
     /// Waits for the lock, and says whether the link has ended. Once the client has run out of memory it answers that.
     pub fn ended<R: Wait>(&self, rt: &R, pass: &mut Pass<L>, link: u64) -> Result<bool, NoMemory>
         ensures had { IfOk result (λ b. (ss : List Step) × Had L.given (L.opening + pass.old.share.amount) ss × SaysEnded L.given (reverse ss) link b) }
-        ensures same { pass.new ≡ pass.old }
+        ensures same { (pass.new.parts ≡ pass.old.parts) × (pass.new.share.amount ≡ pass.old.share.amount) }
     {
         self.desk.lock(rt).ended(pass, link)
     }

@@ -19,4 +19,4 @@ invariant_of-self-2 g c =
         (c.push_reserved.ensures.items ∙ ap (λ v. v ++ (c.in_ok-kept.kept, c.in_ok-told.told) ∷ []) c.reserve.ensures.items)
         c.in_ok-kept.ensures (c.in_ok-told.ensures ∙ ap (map shown) c.deref.ensures.value))
       c.in_ok-effects.ensures.given c.in_ok-effects.ensures.ok c.requires.stands in
-    record { legal = legal_of g.C.Machine.stands g.C.Machine.legal _ _ _ s; stands = λ _. s }
+    record { legal = legal_of g.C.Machine.stands g.met.C.Machine.legal _ _ _ s; stands = λ _. s }

@@ -43,13 +43,13 @@ SoFarIn l s t = (more : List Made) × RanIn l s t more [] × (lost_in more ≡ f
 module _ (l : ℕ) (s t u : End) where
   pub in_ends : (r : Option PumpEnd) (e : PumpEnd) → r ≡ Some e → SoFarIn l s t → (more : List Made) × RanIn l t u more [] × MadeIn l r more → (more : List Made) × RanIn l s u more [] × (lost_in more ≡ is_loss e)
   in_ends r e is p q =
-    let made : MadeIn l (Some e) q.0 = subst (λ (x : Option PumpEnd). MadeIn l x q.0) is q.2 in
-    (p.0 ++ q.0, in_then l s t u p.0 q.0 [] p.1 q.1, lost_behind p.0 q.0 (is_loss e) p.2 (lost_of_in l e q.0 made))
+      let made : MadeIn l (Some e) q.0 = subst (λ (x : Option PumpEnd). MadeIn l x q.0) is q.2 in
+      (p.0 ++ q.0, in_then l s t u p.0 q.0 [] p.1 q.1, lost_behind p.0 q.0 (is_loss e) p.2 (lost_of_in l e q.0 made))
 
   pub in_goes_on : (r : Option PumpEnd) → r ≡ None → SoFarIn l s t → (more : List Made) × RanIn l t u more [] × MadeIn l r more → SoFarIn l s u
   in_goes_on r is p q =
-    let made : MadeIn l None q.0 = subst (λ (x : Option PumpEnd). MadeIn l x q.0) is q.2 in
-    (p.0 ++ q.0, in_then l s t u p.0 q.0 [] p.1 q.1, lost_behind p.0 q.0 false p.2 (lost_of_none l q.0 made))
+      let made : MadeIn l None q.0 = subst (λ (x : Option PumpEnd). MadeIn l x q.0) is q.2 in
+      (p.0 ++ q.0, in_then l s t u p.0 q.0 [] p.1 q.1, lost_behind p.0 q.0 false p.2 (lost_of_none l q.0 made))
 
   pub in_fails : SoFarIn l s t → (more : List Made) × (rest : List ℕ) × RanIn l t u more rest → (more : List Made) × (rest : List ℕ) × RanIn l s u more rest
   in_fails p q = (p.0 ++ q.0, q.1, in_then l s t u p.0 q.0 q.1 p.1 q.2)
@@ -62,8 +62,8 @@ module _ {S : Type 0} (told : S → Option (List Made)) (over : S → ℕ → Bo
   pub still_in : (r : Option PumpEnd) (e : PumpEnd) → r ≡ Some e → (more : List Made) × RanIn l s t more [] × MadeIn l r more → (m : S) × (told m ≡ told old) × over m l (says_ended r) →
       is_ended e ≡ true → (m : S) × Grows (told m) (told new) [] × over m l true
   still_in r pump_end.LinkEnded is q h yes_ended =
-    let made : q.0 ≡ [] = subst (λ (x : Option PumpEnd). MadeIn l x q.0) is q.2 in
-    (h.0, at_end q.0 h.0 made q.1.told h.1, subst (λ (x : Option PumpEnd). over h.0 l (says_ended x)) is h.2)
+      let made : q.0 ≡ [] = subst (λ (x : Option PumpEnd). MadeIn l x q.0) is q.2 in
+      (h.0, at_end q.0 h.0 made q.1.told h.1, subst (λ (x : Option PumpEnd). over h.0 l (says_ended x)) is h.2)
   still_in r pump_end.Lost is q h wrong = absurd cc
   still_in r pump_end.Idle is q h wrong = absurd cc
 
@@ -95,15 +95,15 @@ pub turn_idle : (l : ℕ) (s : End) (made : List Made) (told told' : Option (Lis
     (more : List Made) × (rest : List ℕ) × RanOut l s (end made told bytes faults) more rest × MadeOut l r more rest →
     (more : List Made) × (rest : List ℕ) × RanOut l s (end made told' bytes faults) more rest × (lost_in more ≡ false) × (rest ≡ [])
 turn_idle l s made told told' bytes faults r e is idle same h =
-  let there : MadeOut l (Some pump_end.Idle) h.0 h.1 = subst (λ (x : Option PumpEnd). MadeOut l x h.0 h.1) (is ∙ ap Some idle) h.3 in
-  let ran : RanOut l s (end made told' bytes faults) h.0 h.1 = subst (λ (x : Option (List Made)). RanOut l s (end made x bytes faults) h.0 h.1) (sym same) h.2 in
-  (h.0, h.1, ran, lost_of_out l pump_end.Idle h.0 h.1 there, there.4)
+    let there : MadeOut l (Some pump_end.Idle) h.0 h.1 = subst (λ (x : Option PumpEnd). MadeOut l x h.0 h.1) (is ∙ ap Some idle) h.3 in
+    let ran : RanOut l s (end made told' bytes faults) h.0 h.1 = subst (λ (x : Option (List Made)). RanOut l s (end made x bytes faults) h.0 h.1) (sym same) h.2 in
+    (h.0, h.1, ran, lost_of_out l pump_end.Idle h.0 h.1 there, there.4)
 
 pub turn_fails : (l : ℕ) (s : End) (made : List Made) (told told' : Option (List Made)) (bytes : Option (List ℕ)) (faults : ℕ) (r : Option PumpEnd) → told' ≡ told →
     (more : List Made) × (rest : List ℕ) × RanOut l s (end made told bytes faults) more rest × MadeOut l r more rest →
     (more : List Made) × (rest : List ℕ) × RanOut l s (end made told' bytes faults) more rest
 turn_fails l s made told told' bytes faults r same h =
-  (h.0, h.1, subst (λ (x : Option (List Made)). RanOut l s (end made x bytes faults) h.0 h.1) (sym same) h.2)
+    (h.0, h.1, subst (λ (x : Option (List Made)). RanOut l s (end made x bytes faults) h.0 h.1) (sym same) h.2)
 
 module _ (l : ℕ) (s t u : End) where
   pub out_ends : (r : Option PumpEnd) (e : PumpEnd) → r ≡ Some e → SoFarOut l s t → (more : List Made) × (rest : List ℕ) × RanOut l t u more rest × (lost_in more ≡ says_loss r) × LeftAfter r rest →
@@ -118,9 +118,9 @@ module _ (l : ℕ) (s t u : End) where
 
   pub out_goes_on : (r : Option PumpEnd) → r ≡ None → SoFarOut l s t → (more : List Made) × (rest : List ℕ) × RanOut l t u more rest × (lost_in more ≡ says_loss r) × LeftAfter r rest → SoFarOut l s u
   out_goes_on r is p q =
-    let none : q.1 ≡ [] = subst (λ (x : Option PumpEnd). LeftAfter x q.1) is q.4 in
-    let whole : RanOut l t u q.0 [] = subst (λ (x : List ℕ). RanOut l t u q.0 x) none q.2 in
-    (p.0 ++ q.0, out_then l s t u p.0 q.0 [] p.1 whole, lost_behind p.0 q.0 false p.2 (q.3 ∙ ap says_loss is))
+      let none : q.1 ≡ [] = subst (λ (x : Option PumpEnd). LeftAfter x q.1) is q.4 in
+      let whole : RanOut l t u q.0 [] = subst (λ (x : List ℕ). RanOut l t u q.0 x) none q.2 in
+      (p.0 ++ q.0, out_then l s t u p.0 q.0 [] p.1 whole, lost_behind p.0 q.0 false p.2 (q.3 ∙ ap says_loss is))
 
   pub out_fails : SoFarOut l s t → (more : List Made) × (rest : List ℕ) × RanOut l t u more rest → (more : List Made) × (rest : List ℕ) × RanOut l s u more rest
   out_fails p q = (p.0 ++ q.0, q.1, out_then l s t u p.0 q.0 q.1 p.1 q.2)

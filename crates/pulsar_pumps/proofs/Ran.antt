@@ -115,10 +115,10 @@ in_then l s t u xs ys rest p q = record {
   names = names_append l xs ys p.names q.names;
   told = grows_then s.told t.told u.told xs ys p.told q.told;
   bytes = grows_same s.bytes u.bytes ((pieces xs ++ []) ++ (pieces ys ++ rest)) (pieces (xs ++ ys) ++ rest)
-    (ap (λ z. z ++ (pieces ys ++ rest)) (append-nil (pieces xs)) ∙ (sym (append_assoc (pieces xs) (pieces ys) rest) ∙ ap (λ z. z ++ rest) (sym (pieces_append xs ys))))
-    (grows_then s.bytes t.bytes u.bytes (pieces xs ++ []) (pieces ys ++ rest) p.bytes q.bytes);
+      (ap (λ z. z ++ (pieces ys ++ rest)) (append-nil (pieces xs)) ∙ (sym (append_assoc (pieces xs) (pieces ys) rest) ∙ ap (λ z. z ++ rest) (sym (pieces_append xs ys))))
+      (grows_then s.bytes t.bytes u.bytes (pieces xs ++ []) (pieces ys ++ rest) p.bytes q.bytes);
   lost = λ h. elim (lost_cases xs ys h)
-    [ inl e ↦ rose_then s.faults t.faults u.faults p.faults (p.lost e) q.faults | inr e ↦ then_rose s.faults t.faults u.faults p.faults (q.lost e) ];
+      [ inl e ↦ rose_then s.faults t.faults u.faults p.faults (p.lost e) q.faults | inr e ↦ then_rose s.faults t.faults u.faults p.faults (q.lost e) ];
   faults = omega (arith, p.faults, q.faults);
 }
 
@@ -165,7 +165,7 @@ out_then l s t u xs ys rest p q = record {
   bytes = grows_then s.bytes t.bytes u.bytes p.put q.put p.bytes q.bytes;
   cut = elim q.cut [ inl e ↦ inl e | inr rose ↦ inr (then_rose s.faults t.faults u.faults p.faults rose) ];
   lost = λ h. elim (lost_cases xs ys h)
-    [ inl e ↦ rose_then s.faults t.faults u.faults p.faults (p.lost e) q.faults | inr e ↦ then_rose s.faults t.faults u.faults p.faults (q.lost e) ];
+      [ inl e ↦ rose_then s.faults t.faults u.faults p.faults (p.lost e) q.faults | inr e ↦ then_rose s.faults t.faults u.faults p.faults (q.lost e) ];
   faults = omega (arith, p.faults, q.faults);
 }
 
@@ -202,8 +202,8 @@ submitted told told' xs ys zs kept e r p q same g = (made_by e r, refl, made_mor
 -- what an input in memory gives
 pub input_gives : (bytes buf : List ℕ) (g n : ℕ) → take n buf ≡ take n (drop g bytes) → Grows (Some (take g bytes)) (Some (take (g + n) bytes)) (take n buf)
 input_gives bytes buf g n e = λ xs is.
-  let same : take g bytes ≡ xs = cc in
-  ap Some (take-add g n bytes ∙ (ap (λ z. take g bytes ++ z) (sym e) ∙ ap (λ z. z ++ take n buf) same))
+    let same : take g bytes ≡ xs = cc in
+    ap Some (take-add g n bytes ∙ (ap (λ z. take g bytes ++ z) (sym e) ∙ ap (λ z. z ++ take n buf) same))
 
 module _ (a b : Option (List ℕ)) (f f' : ℕ) where
   pub piece_some : (o : Option (Vec ℕ)) (v : Vec ℕ) → o ≡ Some v → MatchOption o (Grows a b []) (λ x. Grows a b x.items) → Grows a b v.items
@@ -226,8 +226,8 @@ fits_rest bytes at n within h = (let same = ap length (slice_rest bytes at) in o
 
 pub grow_step : (a b c : Option (List ℕ)) (bytes : List ℕ) (at n : ℕ) → Grows a b (take at bytes) → Grows b c (take n (take (length bytes - at) (drop at bytes))) → Grows a c (take (at + n) bytes)
 grow_step a b c bytes at n p q =
-  let taken : Grows b c (take n (drop at bytes)) = grows_same b c (take n (take (length bytes - at) (drop at bytes))) (take n (drop at bytes)) (ap (take n) (slice_rest bytes at)) q in
-  grows_same a c (take at bytes ++ take n (drop at bytes)) (take (at + n) bytes) (sym (take-add at n bytes)) (grows_then a b c (take at bytes) (take n (drop at bytes)) p taken)
+    let taken : Grows b c (take n (drop at bytes)) = grows_same b c (take n (take (length bytes - at) (drop at bytes))) (take n (drop at bytes)) (ap (take n) (slice_rest bytes at)) q in
+    grows_same a c (take at bytes ++ take n (drop at bytes)) (take (at + n) bytes) (sym (take-add at n bytes)) (grows_then a b c (take at bytes) (take n (drop at bytes)) p taken)
 
 pub put_at : (a b : Option (List ℕ)) (f f' : ℕ) (bytes : List ℕ) (n : ℕ) → Grows a b (take n bytes) → f ≤ f' → (rest : List ℕ) × Puts a b f f' bytes rest
 put_at a b f f' bytes n g faults = (drop n bytes, record { put = take n bytes; all = sym (take-append-drop n bytes); grows = g; faults = faults })
@@ -248,21 +248,21 @@ pub drained_so : (p : Put) (l : ℕ) (told told' : Option (List Made)) (xs ys zs
     (rest : List ℕ) × Puts bytes bytes' f f' (bytes_in (map shown es)) rest × PutEnds p (map shown es) f f' rest →
     (d : Made) × (rest : List ℕ) × RanOut l (end (map made_of xs) told bytes f) (end (map made_of zs) told' bytes' f') (d ∷ []) rest × (d.event ≡ Drain l 1) × PutEnds p d.effects f f' rest
 drained_so p l told told' xs ys zs r es bytes bytes' f f' same more grows is h =
-  let d : Made = made_by (event.Drain l 1) r in
-  let P : List Effect → Type 0 = λ x. (rest : List ℕ) × Puts bytes bytes' f f' (bytes_in (map shown x)) rest × PutEnds p (map shown x) f f' rest in
-  let k : P r.effects.items = subst P is h in (
-    d,
-    k.0,
-    out_one l (end (map made_of xs) told bytes f) (end (map made_of zs) told' bytes' f') d k.1.put k.0
-      (made_more xs ys zs (event.Drain l 1) (event.Drain l 1) r same more refl) refl refl grows k.1.all k.1.grows (cut_of f f' d.effects k.0 p k.2) k.1.faults,
-    refl,
-    k.2,
-  )
+    let d : Made = made_by (event.Drain l 1) r in
+    let P : List Effect → Type 0 = λ x. (rest : List ℕ) × Puts bytes bytes' f f' (bytes_in (map shown x)) rest × PutEnds p (map shown x) f f' rest in
+    let k : P r.effects.items = subst P is h in (
+      d,
+      k.0,
+      out_one l (end (map made_of xs) told bytes f) (end (map made_of zs) told' bytes' f') d k.1.put k.0
+          (made_more xs ys zs (event.Drain l 1) (event.Drain l 1) r same more refl) refl refl grows k.1.all k.1.grows (cut_of f f' d.effects k.0 p k.2) k.1.faults,
+      refl,
+      k.2,
+    )
 
 -- behind it a Lost, where a put failed
 pub lost_so : (p : Put) → p ≡ put.Failed → (l : ℕ) (s t u : End) → (d : Made) × (rest : List ℕ) × RanOut l s t (d ∷ []) rest × (d.event ≡ Drain l 1) × PutEnds p d.effects s.faults t.faults rest →
     (m : Made) × (m.event ≡ Lost l) × (u.made ≡ t.made ++ m ∷ []) × Grows t.told u.told (m ∷ []) → u.bytes ≡ t.bytes → t.faults ≤ u.faults →
     (more : List Made) × (rest : List ℕ) × RanOut l s u more rest × ((d : Made) × (m : Made) × (more ≡ d ∷ m ∷ []) × (d.event ≡ Drain l 1) × (m.event ≡ Lost l))
 lost_so p is l s t u h m bytes faults =
-  let rose : Rose s.faults t.faults = subst (λ (x : Put). PutEnds x h.0.effects s.faults t.faults h.1) is h.4 in
-  (h.0 ∷ m.0 ∷ [], h.1, out_lost l s t u (h.0 ∷ []) h.1 m.0 h.2 rose m.2 m.1 m.3 bytes faults, (h.0, m.0, refl, h.3, m.1))
+    let rose : Rose s.faults t.faults = subst (λ (x : Put). PutEnds x h.0.effects s.faults t.faults h.1) is h.4 in
+    (h.0 ∷ m.0 ∷ [], h.1, out_lost l s t u (h.0 ∷ []) h.1 m.0 h.2 rose m.2 m.1 m.3 bytes faults, (h.0, m.0, refl, h.3, m.1))

@@ -9,10 +9,10 @@ pub mod pumps;
 pub mod rounds;
 pub mod submitter;
 
+pub use crate::outside::Failed;
 pub use crate::outside::edge::{Edge, FailingEdge, MemoryEdge};
 pub use crate::outside::input::{FailingInput, Input, MemoryInput};
 pub use crate::outside::output::{EndMark, FailingOutput, MemoryOutput, Output};
-pub use crate::outside::Failed;
 pub use crate::pumps::{pump_in, pump_out};
 pub use crate::rounds::{PumpEnd, round_in, round_out};
 pub use crate::submitter::{Receipt, Submitter};

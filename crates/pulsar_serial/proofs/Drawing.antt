@@ -73,71 +73,71 @@ module _ {S : Type 0} (first : ℕ) where
   -- the seat's list stays
   stays : (n id : ℕ) (hs : List (mathlib.Core.Option.Option S)) (vs : List View) (v w : View) → w.0 ≡ v.0 → w.1 ≤ n → Numbered first (at n hs vs) → get_elem? vs id ≡ some v → Numbered first (at n hs (slice_set vs id w))
   stays n id hs vs v w same le h is =
-    let here : h.0 ≡ n = sym (ap (λ ws. slice_index ws 0) h.1) in (
-      h.0,
-      h.1,
-      h.2,
-      (λ x. (let p = total_set x vs id v w is in let q = h.3 x in let r = ap (times x) same in omega (arith, p, q, r))),
-      seen_set h.0 vs id w h.4 (omega (arith, le, here)),
-    )
+      let here : h.0 ≡ n = sym (ap (λ ws. slice_index ws 0) h.1) in (
+        h.0,
+        h.1,
+        h.2,
+        (λ x. (let p = total_set x vs id v w is in let q = h.3 x in let r = ap (times x) same in omega (arith, p, q, r))),
+        seen_set h.0 vs id w h.4 (omega (arith, le, here)),
+      )
 
   pub looks : (slots id : ℕ) (me : Me S View) → Allows (Numbered first) slots id me 0 (λ n. n) (λ n after. Same after ((me.0.0, n), me.1) × (me.0.1 ≤ n))
   looks slots id me s h len is lt =
-    let P : List ℕ → Type 0 = λ ws. (w : View) × (a : Act S) × Valid s.homes me.1 a × Numbered first (stepped (record { words = ws; homes = s.homes; views = s.views }) 0 (slice_index ws 0) id me.1 w a) × (Same (w, carried_after me.1 a) ((me.0.0, slice_index ws 0), me.1) × (me.0.1 ≤ slice_index ws 0)) in
-    let so : me.0.1 ≤ h.0 = seen_of h.0 s.views id me.0 h.4 is in
-    subst P (sym h.1) ((me.0.0, h.0), keeps, tt, stays h.0 id s.homes s.views me.0 (me.0.0, h.0) refl (omega arith) (h.0, refl, h.2, h.3, h.4) is, (refl, so))
+      let P : List ℕ → Type 0 = λ ws. (w : View) × (a : Act S) × Valid s.homes me.1 a × Numbered first (stepped (record { words = ws; homes = s.homes; views = s.views }) 0 (slice_index ws 0) id me.1 w a) × (Same (w, carried_after me.1 a) ((me.0.0, slice_index ws 0), me.1) × (me.0.1 ≤ slice_index ws 0)) in
+      let so : me.0.1 ≤ h.0 = seen_of h.0 s.views id me.0 h.4 is in
+      subst P (sym h.1) ((me.0.0, h.0), keeps, tt, stays h.0 id s.homes s.views me.0 (me.0.0, h.0) refl (omega arith) (h.0, refl, h.2, h.3, h.4) is, (refl, so))
 
   pub counts : (slots id : ℕ) (me : Me S View) → Allows (Numbered first) slots id me 0 (λ n. n) (λ n after. Same after me × Once me.0.0)
   counts slots id me s h len is lt =
-    let P : List ℕ → Type 0 = λ ws. (w : View) × (a : Act S) × Valid s.homes me.1 a × Numbered first (stepped (record { words = ws; homes = s.homes; views = s.views }) 0 (slice_index ws 0) id me.1 w a) × (Same (w, carried_after me.1 a) me × Once me.0.0) in
-    let so : me.0.1 ≤ h.0 = seen_of h.0 s.views id me.0 h.4 is in
-    subst P (sym h.1) (me.0, keeps, tt, stays h.0 id s.homes s.views me.0 me.0 refl so (h.0, refl, h.2, h.3, h.4) is, (refl, λ x. (let p = total_of x s.views id me.0 is in let q = h.3 x in let r = below_one x h.0 in omega (arith, p, q, r))))
+      let P : List ℕ → Type 0 = λ ws. (w : View) × (a : Act S) × Valid s.homes me.1 a × Numbered first (stepped (record { words = ws; homes = s.homes; views = s.views }) 0 (slice_index ws 0) id me.1 w a) × (Same (w, carried_after me.1 a) me × Once me.0.0) in
+      let so : me.0.1 ≤ h.0 = seen_of h.0 s.views id me.0 h.4 is in
+      subst P (sym h.1) (me.0, keeps, tt, stays h.0 id s.homes s.views me.0 me.0 refl so (h.0, refl, h.2, h.3, h.4) is, (refl, λ x. (let p = total_of x s.views id me.0 is in let q = h.3 x in let r = below_one x h.0 in omega (arith, p, q, r))))
 
   draws_at : (id old n : ℕ) (me : Me S View) (hs : List (mathlib.Core.Option.Option S)) (vs : List View) → Numbered first (at n hs vs) → get_elem? vs id ≡ some me.0 →
       (b : Bool) → (n == old) ≡ b →
       (w : View) × (a : Act S) × Valid hs me.1 a × Numbered first (stepped (at n hs vs) 0 (either b (old + 1) n) id me.1 w a)
-        × MatchBool b (Same (w, carried_after me.1 a) ((me.0.0 ++ n ∷ [], me.0.1), me.1) × Above n me.0.0) (Same (w, carried_after me.1 a) me)
+      × MatchBool b (Same (w, carried_after me.1 a) ((me.0.0 ++ n ∷ [], me.0.1), me.1) × Above n me.0.0) (Same (w, carried_after me.1 a) me)
   draws_at id old n me hs vs h is true e =
-    let same : n ≡ old = eqb-true n old e in
-    let here : h.0 ≡ n = sym (ap (λ ws. slice_index ws 0) h.1) in
-    let so : me.0.1 ≤ h.0 = seen_of h.0 vs id me.0 h.4 is in (
-      (me.0.0 ++ n ∷ [], me.0.1),
-      keeps,
-      tt,
-      (
-        old + 1,
-        refl,
-        (let le = h.2 in omega (arith, le, here, same)),
+      let same : n ≡ old = eqb-true n old e in
+      let here : h.0 ≡ n = sym (ap (λ ws. slice_index ws 0) h.1) in
+      let so : me.0.1 ≤ h.0 = seen_of h.0 vs id me.0 h.4 is in (
+        (me.0.0 ++ n ∷ [], me.0.1),
+        keeps,
+        tt,
         (
-          λ x.
-            let p = total_set x vs id me.0 (me.0.0 ++ n ∷ [], me.0.1) is in
-            let q : total x vs + below x first ≡ below x n = h.3 x ∙ ap (below x) here in
-            let r = times_append x me.0.0 (n ∷ []) in
-            let next = below_next x n in
-            let to : below x (n + 1) ≡ below x (old + 1) = ap (λ k. below x (k + 1)) same in
-            omega (arith, p, q, r, next, to)
+          old + 1,
+          refl,
+          (let le = h.2 in omega (arith, le, here, same)),
+          (
+              λ x.
+              let p = total_set x vs id me.0 (me.0.0 ++ n ∷ [], me.0.1) is in
+              let q : total x vs + below x first ≡ below x n = h.3 x ∙ ap (below x) here in
+              let r = times_append x me.0.0 (n ∷ []) in
+              let next = below_next x n in
+              let to : below x (n + 1) ≡ below x (old + 1) = ap (λ k. below x (k + 1)) same in
+              omega (arith, p, q, r, next, to)
+              ),
+          seen_set (old + 1) vs id (me.0.0 ++ n ∷ [], me.0.1) (seen_more h.0 (old + 1) vs (omega (arith, here, same)) h.4) (omega (arith, so, here, same)),
         ),
-        seen_set (old + 1) vs id (me.0.0 ++ n ∷ [], me.0.1) (seen_more h.0 (old + 1) vs (omega (arith, here, same)) h.4) (omega (arith, so, here, same)),
-      ),
-      (
-        refl,
-        λ x some_there.
-          let p = total_of x vs id me.0 is in
-          let q : total x vs + below x first ≡ below x n = h.3 x ∙ ap (below x) here in
-          below_pos x n (omega (arith, p, q, some_there)),
-      ),
-    )
+        (
+          refl,
+          λ x some_there.
+              let p = total_of x vs id me.0 is in
+              let q : total x vs + below x first ≡ below x n = h.3 x ∙ ap (below x) here in
+              below_pos x n (omega (arith, p, q, some_there)),
+        ),
+      )
   draws_at id old n me hs vs h is false e =
-    let here : h.0 ≡ n = sym (ap (λ ws. slice_index ws 0) h.1) in
-    let so : me.0.1 ≤ h.0 = seen_of h.0 vs id me.0 h.4 is in
-    (me.0, keeps, tt, stays n id hs vs me.0 me.0 refl (omega (arith, so, here)) h is, refl)
+      let here : h.0 ≡ n = sym (ap (λ ws. slice_index ws 0) h.1) in
+      let so : me.0.1 ≤ h.0 = seen_of h.0 vs id me.0 h.4 is in
+      (me.0, keeps, tt, stays n id hs vs me.0 me.0 refl (omega (arith, so, here)) h is, refl)
 
   pub draws : (slots id old : ℕ) (me : Me S View) →
       Allows (Numbered first) slots id me 0 (λ n. either (n == old) (old + 1) n) (λ n after. MatchBool (n == old) (Same after ((me.0.0 ++ n ∷ [], me.0.1), me.1) × Above n me.0.0) (Same after me))
   draws slots id old me s h len is lt =
-    let P : List ℕ → Type 0 = λ ws. (w : View) × (a : Act S) × Valid s.homes me.1 a × Numbered first (stepped (record { words = ws; homes = s.homes; views = s.views }) 0 (either (slice_index ws 0 == old) (old + 1) (slice_index ws 0)) id me.1 w a)
-        × MatchBool (slice_index ws 0 == old) (Same (w, carried_after me.1 a) ((me.0.0 ++ slice_index ws 0 ∷ [], me.0.1), me.1) × Above (slice_index ws 0) me.0.0) (Same (w, carried_after me.1 a) me) in
-    subst P (sym h.1) (draws_at id old h.0 me s.homes s.views (h.0, refl, h.2, h.3, h.4) is (h.0 == old) refl)
+      let P : List ℕ → Type 0 = λ ws. (w : View) × (a : Act S) × Valid s.homes me.1 a × Numbered first (stepped (record { words = ws; homes = s.homes; views = s.views }) 0 (either (slice_index ws 0 == old) (old + 1) (slice_index ws 0)) id me.1 w a)
+      × MatchBool (slice_index ws 0 == old) (Same (w, carried_after me.1 a) ((me.0.0 ++ slice_index ws 0 ∷ [], me.0.1), me.1) × Above (slice_index ws 0) me.0.0) (Same (w, carried_after me.1 a) me) in
+      subst P (sym h.1) (draws_at id old h.0 me s.homes s.views (h.0, refl, h.2, h.3, h.4) is (h.0 == old) refl)
 
   pub splits : (id : ℕ) (v : View) → Splits {S = S} (Numbered first) id v v ([], 0)
   splits id v s h is = (
@@ -145,12 +145,12 @@ module _ {S : Type 0} (first : ℕ) where
     h.1,
     h.2,
     (
-      λ x.
+        λ x.
         let p = total_set x s.views id v v is in
         let q = h.3 x in
         let r = total_snoc x (slice_set s.views id v) ([], 0) in
         omega (arith, p, q, r)
-    ),
+        ),
     seen_snoc h.0 (slice_set s.views id v) ([], 0) (seen_set h.0 s.views id v h.4 (seen_of h.0 s.views id v h.4 is)) (omega arith),
   )
 
@@ -160,13 +160,13 @@ module _ {S : Type 0} (first : ℕ) where
     h.1,
     h.2,
     (
-      λ x.
+        λ x.
         let p = total_set x s.views id v (v.0 ++ w.0, v.1) is in
         let t = total_set x (slice_set s.views id (v.0 ++ w.0, v.1)) other w ([], 0) there in
         let q = h.3 x in
         let r = times_append x v.0 w.0 in
         omega (arith, p, q, r, t)
-    ),
+        ),
     seen_set h.0 (slice_set s.views id (v.0 ++ w.0, v.1)) other ([], 0) (seen_set h.0 s.views id (v.0 ++ w.0, v.1) h.4 (seen_of h.0 s.views id v h.4 is)) (omega arith),
   )
 

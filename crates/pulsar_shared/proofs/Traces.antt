@@ -61,13 +61,12 @@ module _ (o p : Options) (opening total amount : ℕ) (xs : List (Event × Vec E
   ended_had (Ok b) link is = (steps xs, had, subst (λ (q : Options). SaysEnded q (history xs) link b) same is)
   ended_had (Err e) link is = tt
 
-
   pub submitted_had : (ys : List (Event × Vec Effect)) (q : Options) (e : Event) (r : Receipt) → q ≡ o → ∥ Good q (history ys) ∥₁ → steps ys ≡ steps xs ++ step e r.effects.items ∷ [] → r.index ≡ length xs →
       (ss : List Step) × Had p (opening + amount) ss × (r.index ≡ length ss) × Legal p (ss ++ step e r.effects.items ∷ [])
   submitted_had ys q e r new there is index =
-    let P : List Step → Type 0 = λ ss. ∥ Good p (reverse ss) ∥₁ in
-    let at : ∥ Good p (history ys) ∥₁ = subst (λ (z : Options). ∥ Good z (history ys) ∥₁) (new ∙ same) there in
-    (steps xs, had, omega (arith, index, length-map xs step_of), subst P is at)
+      let P : List Step → Type 0 = λ ss. ∥ Good p (reverse ss) ∥₁ in
+      let at : ∥ Good p (history ys) ∥₁ = subst (λ (z : Options). ∥ Good z (history ys) ∥₁) (new ∙ same) there in
+      (steps xs, had, omega (arith, index, length-map xs step_of), subst P is at)
 
 pub news_had : (o p : Options) (opening total : ℕ) (xs : List (Event × Vec Effect)) → o ≡ p → ∥ Good o (history xs) ∥₁ → length xs ≡ opening + total → (from : ℕ) (b : Bool) → b ≡ has_news (steps (drop from xs)) → b ≡ true →
     (ss : List Step) × Had p opening ss × (has_news (drop from ss) ≡ true)
@@ -87,7 +86,7 @@ numbered_more n (x ∷ xs) s k e = ap (λ z. record { index = n; event = x.event
 pub told_more : (r : Result Receipt NoMemory) (e : Event) (old new : List (Event × Vec Effect)) → IfOk r (λ x. steps new ≡ steps old ++ step e x.effects.items ∷ []) → IfOk r (λ x. x.index ≡ length old) →
     IfOk r (λ x. Grows (Some (numbered 0 (steps old))) (Some (numbered 0 (steps new))) (made_by e x ∷ []))
 told_more (Ok x) e old new entry index = λ xs is.
-  let same : numbered 0 (steps old) ≡ xs = cc in
-  let at : x.index ≡ 0 + length (steps old) = omega (arith, index, length-map old step_of) in
-  ap Some (ap (numbered 0) entry ∙ (numbered_more 0 (steps old) (step e x.effects.items) x.index at ∙ ap (λ z. z ++ made_by e x ∷ []) same))
+    let same : numbered 0 (steps old) ≡ xs = cc in
+    let at : x.index ≡ 0 + length (steps old) = omega (arith, index, length-map old step_of) in
+    ap Some (ap (numbered 0) entry ∙ (numbered_more 0 (steps old) (step e x.effects.items) x.index at ∙ ap (λ z. z ++ made_by e x ∷ []) same))
 told_more (Err x) e old new entry index = tt

@@ -58,10 +58,7 @@ pub fn copy_effect(alloc: Global, effect: &Effect) -> Result<Effect, NoMemory>
     }
 }
 
-fn copy_item(
-    alloc: Global,
-    item: &Result<Handed, Error>,
-) -> Result<Result<Handed, Error>, NoMemory>
+fn copy_item(alloc: Global, item: &Result<Handed, Error>) -> Result<Result<Handed, Error>, NoMemory>
     ensures { IfOk result (λ copy. (ticket : ℕ) → hands ticket copy ≡ hands ticket item.now) }
 {
     match item {

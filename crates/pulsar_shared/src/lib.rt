@@ -14,7 +14,8 @@ pub use crate::shared::{Opening, PARTS, Pass, Shared};
 pub use crate::traced::Traced;
 pub use pulsar_machine::Machine;
 pub use pulsar_pumps::{
-    Edge, EndMark, Failed, FailingEdge, FailingInput, FailingOutput, Input, MemoryEdge, MemoryInput,
-    MemoryOutput, Output, PumpEnd, Receipt, Submitter, pump_in, pump_out, round_in, round_out,
+    Edge, EndMark, Failed, FailingEdge, FailingInput, FailingOutput, Input, MemoryEdge,
+    MemoryInput, MemoryOutput, Output, PumpEnd, Receipt, Submitter, pump_in, pump_out, round_in,
+    round_out,
 };
 pub use pulsar_serial::{Exhausted, NumberSeat, SerialId};

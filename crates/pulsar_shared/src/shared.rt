@@ -111,7 +111,11 @@ impl<L: Opening, C: Machine> Desk<L, C> {
         traced.link_ended(link)
     }
 
-    fn since(&mut self, pass: &mut Pass<L>, from: u64) -> Result<Vec<(Event, Vec<Effect>)>, NoMemory>
+    fn since(
+        &mut self,
+        pass: &mut Pass<L>,
+        from: u64,
+    ) -> Result<Vec<(Event, Vec<Effect>)>, NoMemory>
         ensures had { IfOk result (λ v. (ss : List Step) × Had L.given (L.opening + pass.old.share.amount) ss × (steps v.items ≡ drop from ss)) }
         ensures same { (pass.new.parts ≡ pass.old.parts) × (pass.new.share.amount ≡ pass.old.share.amount) }
     {

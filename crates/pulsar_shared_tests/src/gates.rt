@@ -103,8 +103,12 @@ opened 1
 fn links_are_served_together(rt: HostRuntime) -> Result<(), Fail> {
     let alloc = rt.alloc();
     let first = events(alloc, OPEN)?;
-    let (closed, count) =
-        gates_after::<Pulsar, HostRuntime>(&rt, alloc, options(alloc, LOCAL)?, first)?;
+    let (closed, count) = gates_after::<Pulsar, HostRuntime>(
+        &rt,
+        alloc,
+        options(alloc, LOCAL)?,
+        first,
+    )?;
     assert_eq!(rt; closed, 0);
     // a piece and a loss of each link, at the least
     assert!(rt; count >= 10);

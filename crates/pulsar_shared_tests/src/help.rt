@@ -42,7 +42,6 @@ fn push_event(events: &mut Vec<Event>, line: Line) -> Result<(), NoMemory> {
     Ok(())
 }
 
-
 /// The bytes that these digits are.
 pub fn unhex(alloc: Global, digits: &str) -> Result<Vec<u8>, NoMemory> {
     let mut bytes = Vec::new(alloc);

@@ -21,6 +21,7 @@ use std::thread::{Threads, join};
 type Entries = Vec<(Event, Vec<Effect>)>;
 
 const CONNECTED: &str = "0000000a0000000608031a020a00";
+
 const RECEIPT: &str = "000000120000000e08073a0a080010081a0408011002";
 
 /// Submits the calls of these lines, each once the link has given one more piece.
@@ -117,14 +118,27 @@ fn text(alloc: Global, entries: &Entries) -> Result<String, NoMemory> {
 fn a_send_is_read_back(rt: HostRuntime) -> Result<(), Fail> {
     let alloc = rt.alloc();
     let first = events(alloc, "call build\nopened 0\n")?;
-    let then = events(alloc, "call link 0 send 0 standalone-0-3 8 false data=hello-pulsar-8\n")?;
+    let then = events(
+        alloc,
+        "call link 0 send 0 standalone-0-3 8 false data=hello-pulsar-8\n",
+    )?;
     let mut replies = Vec::new(alloc);
     replies.push(unhex(alloc, CONNECTED)?)?;
     replies.push(unhex(alloc, RECEIPT)?)?;
-    let (since, trace, shut) =
-        sent_after::<Pulsar, HostRuntime>(&rt, alloc, options(alloc, LOCAL)?, first, then, replies)?;
+    let (since, trace, shut) = sent_after::<Pulsar, HostRuntime>(
+        &rt,
+        alloc,
+        options(alloc, LOCAL)?,
+        first,
+        then,
+        replies,
+    )?;
     assert_eq!(rt; text(alloc, &since)?, text(alloc, &trace)?);
-    assert!(rt; text(alloc, &trace)?.as_str().contains("ended 1 ok receipt 080010081a0408011002\n"));
+    assert!(rt;
+        text(alloc, &trace)?
+            .as_str()
+            .contains("ended 1 ok receipt 080010081a0408011002\n")
+    );
     assert!(rt; shut);
     Ok(())
 }

@@ -8,8 +8,10 @@ returns-then-is_err g c = record { ran = out_same _ _ _ (ap (map made_of) c.rese
 
 pub returns-in-Ok : goal.returns-in-Ok
 returns-in-Ok g c =
-    record { ran = drained_so c.put_effects-put.result c.args.link _ _ c.args.made.now.items c.reserve.new.self.items c.push_reserved.new.self.items c.in-Ok.receipt c.deref.result.now _ _ _ _
-    c.reserve.ensures.items c.push_reserved.ensures.items c.in-Ok.ensures.told c.deref.ensures.value c.put_effects-put.ensures }
+    record {
+      ran = drained_so c.put_effects-put.result c.args.link _ _ c.args.made.now.items c.reserve.new.self.items c.push_reserved.new.self.items c.in-Ok.receipt c.deref.result.now _ _ _ _
+          c.reserve.ensures.items c.push_reserved.ensures.items c.in-Ok.ensures.told c.deref.ensures.value c.put_effects-put.ensures;
+    }
 
 pub returns-in-Err : goal.returns-in-Err
 returns-in-Err g c = record { ran = out_same _ _ _ (ap (map made_of) c.reserve.ensures.items) c.in-Err.ensures.err refl refl }

@@ -6,7 +6,7 @@ abbrev pub invariant-loop-at : goal.invariant-loop-at
 invariant-loop-at g l = record {
   within : l.at ≤ length l.bytes;
   grows : Grows (g.O.Output.taken l.fn.output) (g.O.Output.taken l.output) (take l.at l.bytes);
-  faults : g.O.Output.faults l.fn.output ≤ g.O.Output.faults l.output
+  faults : g.O.Output.faults l.fn.output ≤ g.O.Output.faults l.output;
 }
 
 abbrev pub decreases-loop-at : goal.decreases-loop-at

@@ -34,8 +34,8 @@ loop-effect-preserved g c = elim c.match-to_write.branch [
       record {
         any = wrote c.args.effects.now c.loop-effect.effect-index c.effect-item.result c.loop-effect-test.true c.effect-item.is (Some w.in-Some.bytes.now) w.in-Some.ensures _ refl w.any-is;
         grows =
-          grows_from _ _ _ _ _ refl (ap g.O.Output.taken w.output-is)
-          (grew c.args.effects.now c.loop-effect.effect-index c.effect-item.result c.loop-effect-test.true c.effect-item.is (Some w.in-Some.bytes.now) w.in-Some.ensures
+            grows_from _ _ _ _ _ refl (ap g.O.Output.taken w.output-is)
+            (grew c.args.effects.now c.loop-effect.effect-index c.effect-item.result c.loop-effect-test.true c.effect-item.is (Some w.in-Some.bytes.now) w.in-Some.ensures
             _ _ _ c.loop-effect.invariant.grows (put_grows _ _ _ _ _ puts));
         faults = omega (arith, c.loop-effect.invariant.faults, puts.faults, same);
       })
@@ -44,8 +44,8 @@ loop-effect-preserved g c = elim c.match-to_write.branch [
       record {
         any = wrote_none c.args.effects.now c.loop-effect.effect-index c.effect-item.result c.loop-effect-test.true c.effect-item.is None w.in-None.ensures _ _ refl w.any-is c.loop-effect.invariant.any;
         grows =
-          grows_from _ _ _ _ _ refl (ap g.O.Output.taken w.output-is)
-          (grew c.args.effects.now c.loop-effect.effect-index c.effect-item.result c.loop-effect-test.true c.effect-item.is None w.in-None.ensures
+            grows_from _ _ _ _ _ refl (ap g.O.Output.taken w.output-is)
+            (grew c.args.effects.now c.loop-effect.effect-index c.effect-item.result c.loop-effect-test.true c.effect-item.is None w.in-None.ensures
             _ _ _ c.loop-effect.invariant.grows (grows_none _ _ refl));
         faults = omega (arith, c.loop-effect.invariant.faults, same);
       })

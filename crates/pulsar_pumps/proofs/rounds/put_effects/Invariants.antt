@@ -8,5 +8,5 @@ abbrev pub invariant-loop-effect : goal.invariant-loop-effect
 invariant-loop-effect g l = record {
   any : l.any ≡ writes_in (map shown (take l.effect-index l.effects));
   grows : Grows (g.O.Output.taken l.fn.output) (g.O.Output.taken l.output) (bytes_in (map shown (take l.effect-index l.effects)));
-  faults : g.O.Output.faults l.fn.output ≤ g.O.Output.faults l.output
+  faults : g.O.Output.faults l.fn.output ≤ g.O.Output.faults l.output;
 }

@@ -7,16 +7,16 @@ pub returns-clause-stands : goal.returns-clause-stands
 returns-clause-stands g c =
     stands_more g.C.Machine.stands _ _ _ _ c.args.self.now.trace.items c.push_reserved.new.self.items c.args.event c.in_ok-effects.effects.items
     (entry_more c.args.self.now.trace.items c.push_reserved.new.self.items (c.in_ok-kept.kept, c.in_ok-told.told) c.args.event c.in_ok-effects.effects.items
-      (c.push_reserved.ensures.items ∙ ap (λ v. v ++ (c.in_ok-kept.kept, c.in_ok-told.told) ∷ []) c.reserve.ensures.items)
-      c.in_ok-kept.ensures (c.in_ok-told.ensures ∙ ap (map shown) c.deref.ensures.value))
+    (c.push_reserved.ensures.items ∙ ap (λ v. v ++ (c.in_ok-kept.kept, c.in_ok-told.told) ∷ []) c.reserve.ensures.items)
+    c.in_ok-kept.ensures (c.in_ok-told.ensures ∙ ap (map shown) c.deref.ensures.value))
     c.in_ok-effects.ensures.given c.in_ok-effects.ensures.ok c.requires.stands
 
 pub invariant_of-self-2 : goal.invariant_of-self-2
 invariant_of-self-2 g c =
     let s =
-      stands_more g.C.Machine.stands (g.C.Machine.given c.args.self.now.client) (g.C.Machine.given c.step.new.self) c.args.self.now.client c.step.new.self c.args.self.now.trace.items c.push_reserved.new.self.items c.args.event c.in_ok-effects.effects.items
-      (entry_more c.args.self.now.trace.items c.push_reserved.new.self.items (c.in_ok-kept.kept, c.in_ok-told.told) c.args.event c.in_ok-effects.effects.items
-        (c.push_reserved.ensures.items ∙ ap (λ v. v ++ (c.in_ok-kept.kept, c.in_ok-told.told) ∷ []) c.reserve.ensures.items)
-        c.in_ok-kept.ensures (c.in_ok-told.ensures ∙ ap (map shown) c.deref.ensures.value))
-      c.in_ok-effects.ensures.given c.in_ok-effects.ensures.ok c.requires.stands in
+    stands_more g.C.Machine.stands (g.C.Machine.given c.args.self.now.client) (g.C.Machine.given c.step.new.self) c.args.self.now.client c.step.new.self c.args.self.now.trace.items c.push_reserved.new.self.items c.args.event c.in_ok-effects.effects.items
+    (entry_more c.args.self.now.trace.items c.push_reserved.new.self.items (c.in_ok-kept.kept, c.in_ok-told.told) c.args.event c.in_ok-effects.effects.items
+    (c.push_reserved.ensures.items ∙ ap (λ v. v ++ (c.in_ok-kept.kept, c.in_ok-told.told) ∷ []) c.reserve.ensures.items)
+    c.in_ok-kept.ensures (c.in_ok-told.ensures ∙ ap (map shown) c.deref.ensures.value))
+    c.in_ok-effects.ensures.given c.in_ok-effects.ensures.ok c.requires.stands in
     record { legal = legal_of g.C.Machine.stands g.met.C.Machine.legal _ _ _ s; stands = λ _. s }

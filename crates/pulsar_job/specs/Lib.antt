@@ -1,0 +1,5 @@
+pub mod Form
+pub mod Report
+pub mod Calls
+pub mod Links
+pub mod Went

@@ -1,0 +1,156 @@
+//! A whole run of `produce` or of `consume`.
+
+use crate::asking::Task;
+use crate::form::{Form, form};
+use crate::links::Link;
+use crate::printing::report;
+use crate::progress::Progress;
+use crate::reading::{lines, read_all};
+use crate::status::{
+    DONE, FAILED, NO_FORM, NO_MEMORY, SINK_FAILED, SOURCE_FAILED, Status, Stop, TOO_LONG,
+};
+use crate::turns::turns;
+use pulsar_client::{Failed, Sink, Source};
+use pulsar_shared::{Edge, FromUrl, Input, Machine, Output, Traced};
+use pulsar_wire::NoMemory;
+use std::alloc::Global;
+use std::sync::Wait;
+use std::thread::Threads;
+
+/// How a run went: its status, the record of the whole run at the statuses 0, 5 and 7, and the two halves of each link that was opened, as
+/// they are after the run. At status 3 there are none.
+#[derive(Drop)]
+pub struct Job<C: Machine, E: Edge> {
+    pub status: Status,
+    pub trace: Option<Traced<C>>,
+    pub halves: Vec<(u64, E::Input, E::Output)>,
+}
+
+/// Runs `produce` or `consume`. With other words it does nothing, and its status is 2.
+pub fn job<C: FromUrl, R: Threads + Wait + Sync, S: Source, K: Sink, E: Edge>(
+    rt: &R,
+    alloc: Global,
+    words: &[String],
+    source: &mut S,
+    sink: &mut K,
+    edge: &mut E,
+    policies: C::Policies,
+) -> Job<C, E> {
+    match begin(alloc, words, source) {
+        Ok(Some((url, task))) => perform(rt, alloc, &url, &task, sink, edge, policies),
+        Ok(None) => idle(alloc, NO_FORM),
+        Err(Stop::NoMemory) => idle(alloc, NO_MEMORY),
+        Err(Stop::Source) => idle(alloc, SOURCE_FAILED),
+        Err(Stop::TooLong) => idle(alloc, TOO_LONG),
+    }
+}
+
+/// The status of such a run.
+pub fn served<C: FromUrl, R: Threads + Wait + Sync, S: Source, K: Sink, E: Edge>(
+    rt: &R,
+    alloc: Global,
+    words: &[String],
+    source: &mut S,
+    sink: &mut K,
+    edge: &mut E,
+    policies: C::Policies,
+) -> Status {
+    let job = job::<C, R, S, K, E>(rt, alloc, words, source, sink, edge, policies);
+    let status = job.status;
+    drop(job);
+    status
+}
+
+/// Nothing was done.
+fn idle<C: Machine, E: Edge>(alloc: Global, status: Status) -> Job<C, E> {
+    Job {
+        status,
+        trace: None,
+        halves: Vec::new(alloc),
+    }
+}
+
+/// The URL, and what is to be done there. The lines that are to be sent are read to their end.
+fn begin<S: Source>(
+    alloc: Global,
+    words: &[String],
+    source: &mut S,
+) -> Result<Option<(String, Task)>, Stop> {
+    match form(words)? {
+        Some(Form::Produce { url, topic }) => {
+            let bytes = read_all(alloc, source)?;
+            let lines = lines(alloc, &bytes)?;
+            Ok(Some((url, Task::Produce { topic, lines })))
+        }
+        Some(Form::Consume { url, topic, subscription, count }) => Ok(Some((
+            url,
+            Task::Consume { topic, subscription, count },
+        ))),
+        None => Ok(None),
+    }
+}
+
+/// Does it, and prints the report.
+fn perform<C: FromUrl, R: Wait, K: Sink, E: Edge>(
+    rt: &R,
+    alloc: Global,
+    url: &str,
+    task: &Task,
+    sink: &mut K,
+    edge: &mut E,
+    policies: C::Policies,
+) -> Job<C, E> {
+    let now = edge.now();
+    let Ok(options) = C::options_for(alloc, url, now, policies) else {
+        return idle(alloc, NO_MEMORY);
+    };
+    let Ok(mut traced) = Traced::<C>::new(alloc, options) else {
+        return idle(alloc, NO_MEMORY);
+    };
+    let mut links = Vec::new(alloc);
+    let mut progress = Progress::new(alloc);
+    let Ok(is_done) = turns(rt, alloc, task, &mut traced, &mut links, &mut progress, edge) else {
+        return idle(alloc, NO_MEMORY);
+    };
+    let Ok(text) = report(alloc, traced.trace()) else {
+        return idle(alloc, NO_MEMORY);
+    };
+    let Ok(halves) = halves(alloc, links) else {
+        return idle(alloc, NO_MEMORY);
+    };
+    let status = match put_all(sink, text.as_bytes()) {
+        Ok(()) => if is_done { DONE } else { FAILED },
+        Err(_) => SINK_FAILED,
+    };
+    Job {
+        status,
+        trace: Some(traced),
+        halves,
+    }
+}
+
+/// The halves of each link.
+fn halves<I: Input + Drop, O: Output + Drop>(
+    alloc: Global,
+    links: Vec<Link<I, O>>,
+) -> Result<Vec<(u64, I, O)>, NoMemory> {
+    let mut halves = Vec::with_capacity(alloc, links.len())?;
+    for link in links {
+        let Link { number, input, output, hears: _, writes: _ } = link;
+        halves.push((number, input, output))?;
+    }
+    Ok(halves)
+}
+
+/// Puts all bytes.
+pub fn put_all<K: Sink>(sink: &mut K, bytes: &[u8]) -> Result<(), Failed> {
+    let mut done = 0;
+    while done < bytes.len() {
+        let n = sink.put(&bytes[done..])?;
+        if n == 0 {
+            return Err(Failed);
+        }
+        done += n;
+    }
+    Ok(())
+}

@@ -1,0 +1,159 @@
+//! How far a job is, by the effects of its client.
+
+use pulsar_client::{Effect, Handed};
+use pulsar_wire::NoMemory;
+use pulsar_wire::commands::ids::MessageIdData;
+use std::alloc::Global;
+
+/// A link that is to be dialed.
+#[derive(Debug, Drop)]
+pub struct Dial {
+    pub link: u64,
+    pub host: String,
+    pub port: u16,
+}
+
+/// An item that was given, and is not acknowledged yet.
+#[derive(Debug, Drop)]
+pub struct Owed {
+    pub topic: String,
+    pub id: MessageIdData,
+}
+
+/// How far a job is.
+#[derive(Debug, Drop)]
+pub struct Progress {
+    /// Whether the call of each ticket has ended well.
+    pub ended: Vec<bool>,
+    /// The calls of the tickets below this one have all ended well.
+    pub first_open: usize,
+    /// A call has ended with an error, or an item was an error.
+    pub failed: bool,
+    /// How many items were given.
+    pub given: u64,
+    /// The last of them, until it is acknowledged.
+    pub owed: Option<Owed>,
+    /// The last poll of this turn has found no item.
+    pub is_dry: bool,
+    /// No item will come any more.
+    pub is_over: bool,
+    /// The last call was made.
+    pub stopped: bool,
+    /// Something had failed before.
+    pub failed_before: bool,
+    /// What is to be dialed.
+    pub dials: Vec<Dial>,
+}
+
+impl Progress {
+    /// Nothing has happened.
+    pub fn new(alloc: Global) -> Progress {
+        Progress {
+            ended: Vec::new(alloc),
+            first_open: 0,
+            failed: false,
+            given: 0,
+            owed: None,
+            is_dry: false,
+            is_over: false,
+            stopped: false,
+            failed_before: false,
+            dials: Vec::new(alloc),
+        }
+    }
+
+    /// How many calls were made.
+    pub fn calls(&self) -> u64 {
+        self.ended.len() as u64
+    }
+
+    /// The call of this ticket has ended well.
+    pub fn has_ended(&self, ticket: u64) -> bool {
+        match self.ended.get(ticket as usize) {
+            Some(ended) => *ended,
+            None => false,
+        }
+    }
+
+    /// All calls have ended well.
+    pub fn have_all_ended(&self) -> bool {
+        self.first_open >= self.ended.len()
+    }
+
+    /// A call is made: it has the next ticket.
+    pub fn call(&mut self) -> Result<(), NoMemory> {
+        self.owed = None;
+        self.ended.push(false)?;
+        Ok(())
+    }
+
+    /// What these effects tell.
+    pub fn learn(&mut self, effects: &[Effect]) -> Result<(), NoMemory> {
+        for effect in effects {
+            self.learn_one(effect)?;
+        }
+        Ok(())
+    }
+
+    fn learn_one(&mut self, effect: &Effect) -> Result<(), NoMemory> {
+        match effect {
+            Effect::Connect { link, host, port } => self.dial(*link, host, *port),
+            Effect::Ended { ticket, answer } => match answer {
+                Ok(_) => {
+                    self.end(*ticket);
+                    Ok(())
+                }
+                Err(_) => {
+                    self.failed = true;
+                    Ok(())
+                }
+            },
+            Effect::Item { ticket: _, item } => match item {
+                Ok(handed) => self.give(handed),
+                Err(_) => {
+                    self.failed = true;
+                    Ok(())
+                }
+            },
+            Effect::Empty { ticket: _ } => {
+                self.is_dry = true;
+                Ok(())
+            }
+            Effect::End { ticket: _ } => {
+                self.is_over = true;
+                Ok(())
+            }
+            Effect::Queued { .. }
+            | Effect::Write { .. }
+            | Effect::Retry { .. }
+            | Effect::Close { .. }
+            | Effect::Settled { .. } => Ok(()),
+        }
+    }
+
+    /// A link is to be dialed.
+    fn dial(&mut self, link: u64, host: &String, port: u16) -> Result<(), NoMemory> {
+        let host = host.clone()?;
+        self.dials.push(Dial { link, host, port })?;
+        Ok(())
+    }
+
+    /// The call of this ticket has ended well.
+    fn end(&mut self, ticket: u64) {
+        if let Some(ended) = self.ended.get_mut(ticket as usize) {
+            *ended = true;
+        }
+        while self.has_ended(self.first_open as u64) {
+            self.first_open += 1;
+        }
+    }
+
+    /// An item was given.
+    fn give(&mut self, handed: &Handed) -> Result<(), NoMemory> {
+        let topic = handed.topic.clone()?;
+        let id = handed.id.id.copy()?;
+        self.given = self.given.saturating_add(1);
+        self.owed = Some(Owed { topic, id });
+        Ok(())
+    }
+}

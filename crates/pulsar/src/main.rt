@@ -4,10 +4,15 @@
 mod policy;
 
 use crate::policy::Second;
-use pulsar_cli::{NO_FORM, NO_MEMORY, StandardInput, StandardOutput, Status, run};
+use pulsar_cli::{NO_FORM, NO_MEMORY, StandardInput, StandardOutput, Status, TcpEdge, run};
 use pulsar_client::CustomRoutingPolicy;
 use std::alloc::AllocError;
+use std::io::Print;
+use std::net::{Net, TcpStream};
 use std::process::ExitCode;
+use std::sync::Wait;
+use std::thread::Threads;
+use std::time::Clock;
 use std::{env, io};
 
 fn main(rt: HostRuntime) -> ExitCode {
@@ -24,13 +29,27 @@ fn main(rt: HostRuntime) -> ExitCode {
 }
 
 /// The run of these words. The policies are made here, since no function may hand out a box of a trait that it made.
-fn run_words(rt: &HostRuntime, words: &[String]) -> Result<Status, AllocError> {
+fn run_words<
+    R: Threads + Wait + Sync + Net<Stream = TcpStream> + Clock + AllocGlobal + Input + Print,
+>(
+    rt: &R,
+    words: &[String],
+) -> Result<Status, AllocError> {
     let alloc = rt.alloc();
     let mut policies: Vec<Box<dyn CustomRoutingPolicy>> = Vec::new(alloc);
     policies.push(Box::new(alloc, Second)?)?;
     let mut source = StandardInput::new(rt.reader());
     let mut sink = StandardOutput::new(io::writer(rt));
-    Ok(run(alloc, words, &mut source, &mut sink, policies))
+    let mut edge = TcpEdge::new(rt);
+    Ok(run(
+        rt,
+        alloc,
+        words,
+        &mut source,
+        &mut sink,
+        &mut edge,
+        policies,
+    ))
 }
 
 /// The words behind the program's name.

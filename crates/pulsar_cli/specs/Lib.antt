@@ -1,3 +1,4 @@
 pub mod Script
 pub mod Shown
 pub mod Choice
+pub mod Edges

@@ -8,9 +8,12 @@ mod program;
 mod reading;
 mod standard;
 mod stop;
+mod tcp;
 
 pub use crate::program::{
     DONE, NO_FORM, NO_MEMORY, REFUSED, SINK_FAILED, SOURCE_FAILED, Status, TOO_LONG, run, script,
 };
 pub use crate::standard::{StandardInput, StandardOutput};
+pub use crate::tcp::{TcpEdge, TcpInput, TcpOutput};
+pub use pulsar_job::{FAILED, Job, job};
 pub use pulsar_script::printing::effect::push_step;

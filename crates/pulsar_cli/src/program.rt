@@ -15,8 +15,12 @@ use crate::options::options;
 use crate::reading::Reading;
 use crate::stop::Stop;
 use pulsar_client::{CustomRoutingPolicy, Event, Pulsar, Sink, Source};
+use pulsar_job::served;
+use pulsar_pumps::Edge;
 use pulsar_script::printing::effect::push_refusal;
 use std::alloc::Global;
+use std::sync::Wait;
+use std::thread::Threads;
 
 /// How a run ended: 0 done, 1 a line is not in the grammar, 2 the words are no form of the program, 3 want of memory, 4
 /// the source failed, 5 the sink failed, 6 too many bytes.
@@ -37,11 +41,13 @@ pub const SINK_FAILED: Status = 5;
 pub const TOO_LONG: Status = 6;
 
 /// Runs the program with these words, and a client with these policies.
-pub fn run<S: Source, K: Sink>(
+pub fn run<R: Threads + Wait + Sync, S: Source, K: Sink, E: Edge>(
+    rt: &R,
     alloc: Global,
     words: &[String],
     source: &mut S,
     sink: &mut K,
+    edge: &mut E,
     policies: Vec<Box<dyn CustomRoutingPolicy>>,
 ) -> Status
     ensures no_form { (result ≡ 2) ↔ (is_script (map string_bytes words.now) ≡ false) }
@@ -53,7 +59,7 @@ pub fn run<S: Source, K: Sink>(
     if is_script(words) {
         return script(alloc, source, sink, policies);
     }
-    NO_FORM
+    served::<Pulsar, R, S, K, E>(rt, alloc, words, source, sink, edge, policies)
 }
 
 /// The words are `script` alone.

@@ -1,0 +1,231 @@
+//! Rounds: each serves one half of a link once.
+
+ghost use Rattle.std.specs.Prelude.{◌≡◌, ◌≤◌, ◌∷◌, ◌++◌, [], ℕ, List, Option, IfOk, MatchOption, MatchResult, OnErr, OnOk, map};
+ghost use Rattle.pulsar_calls.specs.Content.{heard, shown};
+ghost use Rattle.pulsar_pumps.specs.Made.{Made, bytes_in, made_of};
+ghost use Rattle.pulsar_pumps.specs.Outside.{Grows, Rose};
+ghost use Rattle.pulsar_pumps.specs.Pumping.{Left, PutEnds, Puts, RanIn, RanOut, end};
+
+use crate::outside::Failed;
+use crate::outside::input::Input;
+use crate::outside::output::{EndMark, Output};
+use crate::submitter::{Receipt, Submitter};
+use pulsar_calls::effect::Effect;
+use pulsar_calls::event::Event;
+use pulsar_wire::error::NoMemory;
+use std::alloc::Global;
+
+/// How a pump ended.
+#[derive(Clone, Copy, Debug, PartialEq, Eq)]
+pub enum PumpEnd {
+    /// The link had ended.
+    LinkEnded,
+    /// The half failed, or gave or took nothing, and the client was told that the link is lost.
+    Lost,
+    /// Nothing is there to write, and nobody else submits.
+    Idle,
+}
+
+/// What became of the bytes that were to be put.
+#[derive(Clone, Copy, Debug, PartialEq, Eq)]
+pub enum Put {
+    Nothing,
+    All,
+    Failed,
+}
+
+// how many bytes a round takes at the most
+const MOST: usize = 16384;
+
+/// Takes once from the input, and submits what came as Bytes, or Lost where the take failed or gave nothing. Where the link has ended it
+/// answers LinkEnded and takes nothing. It answers none where the link goes on. Each event that it submitted is appended to `made` with its
+/// receipt.
+pub fn round_in<S: Submitter, I: Input>(
+    submitter: &mut S,
+    link: u64,
+    input: &mut I,
+    made: &mut Vec<(Event, Receipt)>,
+) -> Result<Option<PumpEnd>, NoMemory>
+    ensures { let s = end (map made_of made.old.items) (S.told submitter.old) (I.given input.old) (I.faults input.old) in
+        let t = end (map made_of made.new.items) (S.told submitter.new) (I.given input.new) (I.faults input.new) in
+        MatchResult result (λ _. RanIn link s t []) (λ _. (rest : List ℕ) × RanIn link s t rest) }
+{
+    match submitter.ended(link) {
+        Ok(true) => Ok(Some(PumpEnd::LinkEnded)),
+        Ok(false) => hear(submitter, link, input, made),
+        Err(e) => Err(e),
+    }
+}
+
+/// Submits a Drain of 1 and puts the bytes of its Write, or submits Lost where a put failed or took nothing; where the Drain wrote nothing it
+/// answers Idle. Where the link has ended it answers LinkEnded and submits nothing. It answers none where the link goes on. Before LinkEnded
+/// and Lost it shuts the output. Each event that it submitted is appended to `made` with its receipt.
+pub fn round_out<S: Submitter, O: Output>(
+    submitter: &mut S,
+    link: u64,
+    output: &mut O,
+    made: &mut Vec<(Event, Receipt)>,
+) -> Result<Option<PumpEnd>, NoMemory>
+    ensures { let s = end (map made_of made.old.items) (S.told submitter.old) (O.taken output.old) (O.faults output.old) in
+        let t = end (map made_of made.new.items) (S.told submitter.new) (O.taken output.new) (O.faults output.new) in
+        (rest : List ℕ) × RanOut link s t rest × Left result rest }
+{
+    match submitter.ended(link) {
+        Ok(true) => {
+            output.shut(&EndMark::new());
+            Ok(Some(PumpEnd::LinkEnded))
+        }
+        Ok(false) => serve(submitter, link, output, made),
+        Err(e) => Err(e),
+    }
+}
+
+/// Submits an event, and keeps it with its receipt.
+fn submit<S: Submitter>(
+    submitter: &mut S,
+    made: &mut Vec<(Event, Receipt)>,
+    event: Event,
+) -> Result<(), NoMemory>
+    ensures ok { OnOk result ((m : Made) × (m.event ≡ heard event) × (map made_of made.new.items ≡ map made_of made.old.items ++ m ∷ []) × Grows (S.told submitter.old) (S.told submitter.new) (m ∷ [])) }
+    ensures made { OnErr result (map made_of made.new.items ≡ map made_of made.old.items) }
+    ensures told { OnErr result (S.told submitter.new ≡ S.told submitter.old) }
+{
+    made.reserve(1)?;
+    let kept = event.copy()?;
+    let receipt = submitter.submit(event)?;
+    made.push_reserved((kept, receipt));
+    Ok(())
+}
+
+/// The next piece, or none where the take failed or gave nothing.
+fn take_piece<I: Input>(alloc: Global, input: &mut I) -> Result<Option<Vec<u8>>, NoMemory>
+    ensures piece { IfOk result (λ o. MatchOption o (Grows (I.given input.old) (I.given input.new) []) (λ v. Grows (I.given input.old) (I.given input.new) v.items)) }
+    ensures rises { IfOk result (λ o. MatchOption o (Rose (I.faults input.old) (I.faults input.new)) (λ v. Unit {0})) }
+    ensures err { OnErr result ((rest : List ℕ) × Grows (I.given input.old) (I.given input.new) rest) }
+    ensures grows { I.faults input.old ≤ I.faults input.new }
+{
+    let mut buf = [0; MOST];
+    match input.take(&mut buf) {
+        Ok(n) => {
+            if n == 0 {
+                return Ok(None);
+            }
+            let mut piece = Vec::new(alloc);
+            match piece.extend_from_slice(&buf[..n]) {
+                Ok(()) => Ok(Some(piece)),
+                Err(_) => Err(NoMemory),
+            }
+        }
+        Err(_) => Ok(None),
+    }
+}
+
+/// Takes once, and submits Bytes with what came, or Lost.
+fn hear<S: Submitter, I: Input>(
+    submitter: &mut S,
+    link: u64,
+    input: &mut I,
+    made: &mut Vec<(Event, Receipt)>,
+) -> Result<Option<PumpEnd>, NoMemory>
+    ensures { let s = end (map made_of made.old.items) (S.told submitter.old) (I.given input.old) (I.faults input.old) in
+        let t = end (map made_of made.new.items) (S.told submitter.new) (I.given input.new) (I.faults input.new) in
+        MatchResult result (λ _. RanIn link s t []) (λ _. (rest : List ℕ) × RanIn link s t rest) }
+{
+    match take_piece(*made.allocator(), input) {
+        Ok(Some(piece)) => match submit(submitter, made, Event::Bytes(link, piece)) {
+            Ok(()) => Ok(None),
+            Err(e) => Err(e),
+        },
+        Ok(None) => match submit(submitter, made, Event::Lost(link)) {
+            Ok(()) => Ok(Some(PumpEnd::Lost)),
+            Err(e) => Err(e),
+        },
+        Err(e) => Err(e),
+    }
+}
+
+/// Puts all these bytes, unless a put fails or takes nothing.
+fn put_bytes<O: Output>(output: &mut O, bytes: &[u8]) -> Result<(), Failed>
+    ensures ok { OnOk result (Puts (O.taken output.old) (O.taken output.new) (O.faults output.old) (O.faults output.new) bytes.now []) }
+    ensures err { OnErr result ((rest : List ℕ) × Puts (O.taken output.old) (O.taken output.new) (O.faults output.old) (O.faults output.new) bytes.now rest) }
+    ensures rises { OnErr result (Rose (O.faults output.old) (O.faults output.new)) }
+{
+    let mut at = 0;
+    while at < bytes.len() {
+        match output.put(&bytes[at..]) {
+            Ok(n) => {
+                if n == 0 {
+                    return Err(Failed);
+                }
+                at += n;
+            }
+            Err(e) => return Err(e),
+        }
+    }
+    Ok(())
+}
+
+/// Puts the bytes of each Write.
+fn put_effects<O: Output>(output: &mut O, effects: &[Effect]) -> Put
+    ensures { (rest : List ℕ) × Puts (O.taken output.old) (O.taken output.new) (O.faults output.old) (O.faults output.new) (bytes_in (map shown effects.now)) rest × PutEnds result (O.faults output.old) (O.faults output.new) rest }
+{
+    let mut put = Put::Nothing;
+    for effect in effects {
+        if let Effect::Write { link: _, bytes } = effect {
+            match put_bytes(output, bytes) {
+                Ok(()) => put = Put::All,
+                Err(_) => return Put::Failed,
+            }
+        }
+    }
+    put
+}
+
+/// Submits a Drain of 1 and puts the bytes of its Write, or submits Lost.
+fn serve<S: Submitter, O: Output>(
+    submitter: &mut S,
+    link: u64,
+    output: &mut O,
+    made: &mut Vec<(Event, Receipt)>,
+) -> Result<Option<PumpEnd>, NoMemory>
+    ensures { let s = end (map made_of made.old.items) (S.told submitter.old) (O.taken output.old) (O.faults output.old) in
+        let t = end (map made_of made.new.items) (S.told submitter.new) (O.taken output.new) (O.faults output.new) in
+        (rest : List ℕ) × RanOut link s t rest × Left result rest }
+{
+    match drain(submitter, link, output, made) {
+        Ok(Put::Nothing) => Ok(Some(PumpEnd::Idle)),
+        Ok(Put::All) => Ok(None),
+        Ok(Put::Failed) => match submit(submitter, made, Event::Lost(link)) {
+            Ok(()) => {
+                output.shut(&EndMark::new());
+                Ok(Some(PumpEnd::Lost))
+            }
+            Err(e) => Err(e),
+        },
+        Err(e) => Err(e),
+    }
+}
+
+/// Submits a Drain of 1, and puts the bytes of its Write.
+fn drain<S: Submitter, O: Output>(
+    submitter: &mut S,
+    link: u64,
+    output: &mut O,
+    made: &mut Vec<(Event, Receipt)>,
+) -> Result<Put, NoMemory>
+    ensures { let s = end (map made_of made.old.items) (S.told submitter.old) (O.taken output.old) (O.faults output.old) in
+        let t = end (map made_of made.new.items) (S.told submitter.new) (O.taken output.new) (O.faults output.new) in
+        (rest : List ℕ) × RanOut link s t rest × MatchResult result (λ p. PutEnds p s.faults t.faults rest) (λ _. rest ≡ []) }
+{
+    if made.reserve(1).is_err() {
+        return Err(NoMemory);
+    }
+    match submitter.submit(Event::Drain(link, 1)) {
+        Ok(receipt) => {
+            let put = put_effects(output, &receipt.effects);
+            made.push_reserved((Event::Drain(link, 1), receipt));
+            Ok(put)
+        }
+        Err(e) => Err(e),
+    }
+}

@@ -1,0 +1,115 @@
+//! Copies of what stands in a trace.
+
+ghost use Rattle.std.specs.Prelude.{◌≡◌, ℕ, IfOk, Ok, drop, map};
+ghost use Rattle.pulsar_calls.specs.Content.{hands, shown};
+ghost use Rattle.pulsar_shared.specs.Trace.{steps};
+
+use pulsar_calls::copying::copy_answer;
+use pulsar_calls::effect::{Effect, Handed};
+use pulsar_calls::event::Event;
+use pulsar_producer::copying::copy_error;
+use pulsar_wire::error::{Error, NoMemory};
+use std::alloc::Global;
+
+/// An effect with the same content.
+pub fn copy_effect(alloc: Global, effect: &Effect) -> Result<Effect, NoMemory>
+    ensures { IfOk result (λ e. shown e ≡ shown effect.now) }
+{
+    match effect {
+        Effect::Connect { link, host, port } => Ok(Effect::Connect {
+            link: *link,
+            host: host.clone()?,
+            port: *port,
+        }),
+        Effect::Queued { link, place, bytes } => Ok(Effect::Queued {
+            link: *link,
+            place: *place,
+            bytes: bytes.clone()?,
+        }),
+        Effect::Write { link, bytes } => Ok(Effect::Write {
+            link: *link,
+            bytes: bytes.clone()?,
+        }),
+        Effect::Retry { link, delay } => Ok(Effect::Retry {
+            link: *link,
+            delay: *delay,
+        }),
+        Effect::Close { link } => Ok(Effect::Close { link: *link }),
+        Effect::Settled {
+            link,
+            place,
+            outcome,
+        } => Ok(Effect::Settled {
+            link: *link,
+            place: *place,
+            outcome: *outcome,
+        }),
+        Effect::Ended { ticket, answer } => Ok(Effect::Ended {
+            ticket: *ticket,
+            answer: copy_answer(alloc, answer)?,
+        }),
+        Effect::Item { ticket, item } => Ok(Effect::Item {
+            ticket: *ticket,
+            item: copy_item(alloc, item)?,
+        }),
+        Effect::Empty { ticket } => Ok(Effect::Empty { ticket: *ticket }),
+        Effect::End { ticket } => Ok(Effect::End { ticket: *ticket }),
+    }
+}
+
+fn copy_item(
+    alloc: Global,
+    item: &Result<Handed, Error>,
+) -> Result<Result<Handed, Error>, NoMemory>
+    ensures { IfOk result (λ copy. (ticket : ℕ) → hands ticket copy ≡ hands ticket item.now) }
+{
+    match item {
+        Ok(handed) => Ok(Ok(copy_handed(handed)?)),
+        Err(error) => Ok(Err(copy_error(alloc, error)?)),
+    }
+}
+
+fn copy_handed(handed: &Handed) -> Result<Handed, NoMemory>
+    ensures { IfOk result (λ copy. (ticket : ℕ) → hands ticket (Ok copy) ≡ hands ticket (Ok handed.now)) }
+{
+    Ok(Handed {
+        topic: handed.topic.clone()?,
+        id: handed.id.copy()?,
+        payload: handed.payload.copy()?,
+    })
+}
+
+/// Effects with the same content.
+pub fn copy_effects(alloc: Global, effects: &[Effect]) -> Result<Vec<Effect>, NoMemory>
+    ensures { IfOk result (λ v. map shown v.items ≡ map shown effects.now) }
+{
+    let mut all = Vec::new(alloc);
+    for effect in effects {
+        all.push(copy_effect(alloc, effect)?)?;
+    }
+    Ok(all)
+}
+
+/// Entries with the same content.
+pub fn copy_entries(
+    alloc: Global,
+    entries: &[(Event, Vec<Effect>)],
+) -> Result<Vec<(Event, Vec<Effect>)>, NoMemory>
+    ensures { IfOk result (λ v. steps v.items ≡ steps entries.now) }
+{
+    let mut all = Vec::new(alloc);
+    for entry in entries {
+        let kept = entry.0.copy()?;
+        let told = copy_effects(alloc, &entry.1)?;
+        all.push((kept, told))?;
+    }
+    Ok(all)
+}
+
+/// The entries from this place on.
+pub(crate) fn rest(entries: &[(Event, Vec<Effect>)], from: u64) -> &[(Event, Vec<Effect>)]
+    ensures { result.now ≡ drop from entries.now }
+{
+    let from = (from as usize).min(entries.len());
+    &entries[from..]
+}

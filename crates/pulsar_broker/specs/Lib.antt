@@ -1,0 +1,6 @@
+pub mod Asked
+pub mod Answers
+pub mod State
+pub mod History
+pub mod Kept
+pub mod Stands

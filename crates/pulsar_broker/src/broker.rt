@@ -1,0 +1,118 @@
+//! A broker.
+
+ghost use Rattle.std.specs.Prelude.{◌≡◌, ◌∷◌, [], ℕ, List, IfOk, IsErr, OnErr, OnOk};
+ghost use Rattle.pulsar_broker.specs.History.{Act, Fed, Taken, Takes};
+ghost use Rattle.pulsar_broker.specs.Stands.{HasFailed, StandsFor};
+
+use crate::outbox::Outbox;
+use crate::tables::Tables;
+use pulsar_frame::FrameReader;
+use pulsar_wire::{ConnectionError, NoMemory};
+use std::alloc::Global;
+use std::collections::BTreeMap;
+
+/// What a broker still reads of a link.
+#[derive(Drop)]
+enum Reading {
+    Reads(FrameReader),
+    /// Bytes that are no frame stood there, and nothing behind them is read.
+    Refused,
+}
+
+/// A broker in memory, of one URL, over any number of links. What is fed to a link is answered at once: the answers wait until they are
+/// taken. After want of memory it answers that for ever.
+///
+/// It answers connect, ping, producer, send, subscribe, close_producer and close_consumer; a lookup by its own URL, and a question for
+/// partitions by none. It serves its consumers as they grant permits, takes acknowledgements without a word, and refuses each other request.
+#[derive(Drop)]
+pub struct Broker {
+    alloc: Global,
+    url: String,
+    readings: BTreeMap<u64, Reading>,
+    outbox: Outbox,
+    tables: Tables,
+    // a call ran out of memory
+    failed: bool,
+}
+
+impl Broker {
+    /// A broker of this URL, which has no topic yet.
+    pub fn new(alloc: Global, url: &str) -> Result<Broker, NoMemory>
+        ensures { IfOk result (StandsFor url.now []) }
+    {
+        Ok(Broker {
+            alloc,
+            url: String::from_str(alloc, url)?,
+            readings: BTreeMap::new(alloc),
+            outbox: Outbox::new(alloc),
+            tables: Tables::new(alloc),
+            failed: false,
+        })
+    }
+
+    /// A piece of the bytes that a client has written on a link: each frame that ends in it is answered. Pieces may be cut anywhere.
+    /// Behind bytes that are no frame nothing more of this link is read.
+    pub fn feed(&mut self, link: u64, piece: &[u8]) -> Result<(), NoMemory>
+        ensures ok { OnOk result ((url : List ℕ) (h : List Act) → StandsFor url h self.old → StandsFor url (Fed link piece.now ∷ h) self.new) }
+        ensures failed { OnErr result (HasFailed self.new) }
+        ensures stays { HasFailed self.old → IsErr result × HasFailed self.new }
+    {
+        if self.failed {
+            return Err(NoMemory);
+        }
+        self.failed = true;
+        let reading = match self.readings.remove(&link) {
+            Some(reading) => reading,
+            None => Reading::Reads(FrameReader::new(self.alloc)),
+        };
+        let after = match reading {
+            Reading::Reads(reader) => self.read(link, reader, piece)?,
+            Reading::Refused => Reading::Refused,
+        };
+        drop(self.readings.insert(link, after)?);
+        self.failed = false;
+        Ok(())
+    }
+
+    /// The bytes that the broker writes on a link: the frames that were given and not taken yet.
+    pub fn take(&mut self, link: u64) -> Result<Vec<u8>, NoMemory>
+        ensures answer { IfOk result (λ bytes. (url : List ℕ) (h : List Act) → StandsFor url h self.old → Takes url h link bytes.items) }
+        ensures ok { OnOk result ((url : List ℕ) (h : List Act) → StandsFor url h self.old → StandsFor url (Taken link ∷ h) self.new) }
+        ensures failed { OnErr result (HasFailed self.new) }
+        ensures stays { HasFailed self.old → IsErr result × HasFailed self.new }
+    {
+        if self.failed {
+            return Err(NoMemory);
+        }
+        Ok(self.outbox.take(link))
+    }
+
+    fn read(
+        &mut self,
+        link: u64,
+        mut reader: FrameReader,
+        piece: &[u8],
+    ) -> Result<Reading, NoMemory> {
+        reader.feed(piece)?;
+        let is_whole = self.hear(link, &mut reader)?;
+        if is_whole {
+            return Ok(Reading::Reads(reader));
+        }
+        Ok(Reading::Refused)
+    }
+
+    /// All frames that stand in front are answered. The answer is whether more can be read.
+    fn hear(&mut self, link: u64, reader: &mut FrameReader) -> Result<bool, NoMemory> {
+        loop {
+            match reader.next() {
+                Ok(Some(message)) => {
+                    self.tables
+                        .turn(self.url.as_str(), link, message, &mut self.outbox)?;
+                }
+                Ok(None) => return Ok(true),
+                Err(ConnectionError::Decoding(_)) => return Ok(false),
+                Err(_) => return Err(NoMemory),
+            }
+        }
+    }
+}

@@ -1,6 +1,6 @@
 //! The client as whoever records it sees it.
 
-ghost use Rattle.std.specs.Prelude.{[], ◌≡◌};
+ghost use Rattle.std.specs.Prelude.{[], ◌≡◌, map};
 ghost use Rattle.pulsar_client.specs.Client as meaning;
 ghost use Rattle.pulsar_client.specs.Client.{StandsFor, options_of};
 
@@ -8,7 +8,8 @@ use crate::options::ClientOptions;
 use crate::pulsar::Pulsar;
 use pulsar_calls::effect::Effect;
 use pulsar_calls::event::Event;
-use pulsar_machine::Machine;
+use pulsar_machine::{FromUrl, Machine};
+use pulsar_plans::{ConnectionRetryOptions, OperationRetryOptions};
 use pulsar_producer::CustomRoutingPolicy;
 use pulsar_wire::error::NoMemory;
 use std::alloc::Global;
@@ -48,4 +49,30 @@ impl Machine for Pulsar {
     ghost made = { λ o c h s. s.made };
 
     ghost legal = { λ o c h s. record { log = s.stands.log; run = s.stands.run; rests = s.stands.rests; same = s.stands.same } };
+}
+
+impl FromUrl for Pulsar {
+    type Policies = Vec<Box<dyn CustomRoutingPolicy>>;
+
+    ghost routes = { λ ps. map (λ p. (CustomRoutingPolicy-box p).routes p.value) ps.items };
+
+    fn options_for(
+        alloc: Global,
+        url: &str,
+        now: u64,
+        policies: Vec<Box<dyn CustomRoutingPolicy>>,
+    ) -> Result<ClientOptions, NoMemory> {
+        let url = String::from_str(alloc, url)?;
+        Ok(ClientOptions {
+            url,
+            auth: None,
+            connection_retry: ConnectionRetryOptions::default(),
+            operation_retry: OperationRetryOptions::default(),
+            outbound_channel_size: 100,
+            seed: 0,
+            now,
+            first_number: 0,
+            policies,
+        })
+    }
 }

@@ -1,5 +1,3 @@
-pub mod Form
-pub mod Report
-pub mod Calls
 pub mod Links
+pub mod Outside
 pub mod Went

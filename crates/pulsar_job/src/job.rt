@@ -1,18 +1,17 @@
 //! A whole run of `produce` or of `consume`.
 
-use crate::asking::Task;
-use crate::form::{Form, form};
 use crate::links::Link;
-use crate::printing::report;
-use crate::progress::Progress;
 use crate::reading::{lines, read_all};
 use crate::status::{
     DONE, FAILED, NO_FORM, NO_MEMORY, SINK_FAILED, SOURCE_FAILED, Status, Stop, TOO_LONG,
 };
 use crate::turns::turns;
 use pulsar_client::{Failed, Sink, Source};
-use pulsar_shared::{Edge, FromUrl, Input, Machine, Output, Traced};
+use pulsar_machine::{FromUrl, Machine};
+use pulsar_pumps::{Edge, Input, Output};
+use pulsar_shared::Traced;
 use pulsar_wire::NoMemory;
+use pulsar_work::{Form, Progress, Task, parse, report};
 use std::alloc::Global;
 use std::sync::Wait;
 use std::thread::Threads;
@@ -76,7 +75,7 @@ fn begin<S: Source>(
     words: &[String],
     source: &mut S,
 ) -> Result<Option<(String, Task)>, Stop> {
-    match form(words)? {
+    match parse(words)? {
         Some(Form::Produce { url, topic }) => {
             let bytes = read_all(alloc, source)?;
             let lines = lines(alloc, &bytes)?;

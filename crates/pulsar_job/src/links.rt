@@ -1,10 +1,11 @@
 //! The links of a job.
 
-use crate::progress::{Dial, Progress};
 use pulsar_client::Event;
-use pulsar_shared::{Edge, Input, Machine, Output, PumpEnd, Receipt, Traced, round_in, round_out};
+use pulsar_machine::Machine;
+use pulsar_pumps::{Edge, Input, Output, PumpEnd, Receipt, round_in, round_out};
+use pulsar_shared::Traced;
 use pulsar_wire::NoMemory;
-use pulsar_wire::error::IoKind;
+use pulsar_work::{Dial, Progress};
 use std::alloc::Global;
 use std::sync::Wait;
 

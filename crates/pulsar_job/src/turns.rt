@@ -1,11 +1,12 @@
 //! The turns of a job.
 
-use crate::asking::{MADE, Next, Task, next};
 use crate::links::{Link, dial_all, hear_all, shut_all, submit, write_all};
-use crate::progress::Progress;
 use pulsar_client::{Call, Event};
-use pulsar_shared::{Edge, Input, Machine, Output, Traced};
+use pulsar_machine::Machine;
+use pulsar_pumps::{Edge, Input, Output};
+use pulsar_shared::Traced;
 use pulsar_wire::NoMemory;
+use pulsar_work::{MADE, Next, Progress, Task, what_next};
 use std::alloc::Global;
 use std::sync::Wait;
 
@@ -52,8 +53,12 @@ fn call_all<C: Machine, R: Wait, I: Input + Drop, O: Output + Drop>(
     progress: &mut Progress,
 ) -> Result<(), NoMemory> {
     for _ in rt.forever() {
-        match next(alloc, task, progress)? {
+        match what_next(alloc, task, progress)? {
             Next::Call(call) => ask(traced, progress, call)?,
+            Next::Ack(call) => {
+                progress.acknowledge();
+                ask(traced, progress, call)?;
+            }
             Next::Poll => submit(traced, progress, Event::Poll(MADE))?,
             Next::Stop => return stop(rt, alloc, traced, links, progress),
             Next::Nothing => return Ok(()),

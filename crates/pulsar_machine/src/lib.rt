@@ -6,6 +6,10 @@ ghost use Rattle.pulsar_agenda.specs.Run.{Good, Step, view};
 ghost use Rattle.pulsar_tables.specs.View.{Options, Waits, has_ended};
 ghost use Rattle.pulsar_machine.specs.Machine.{step};
 
+mod from_url;
+
+pub use crate::from_url::FromUrl;
+
 use pulsar_calls::effect::Effect;
 use pulsar_calls::event::Event;
 use pulsar_wire::error::NoMemory;

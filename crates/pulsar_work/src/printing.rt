@@ -1,6 +1,7 @@
 //! What `produce` and `consume` print of their run.
 
-use pulsar_client::{Answer, Effect, Event};
+use pulsar_calls::effect::{Answer, Effect};
+use pulsar_calls::event::Event;
 use pulsar_script::printing::error::push_error;
 use pulsar_script::printing::word::push_word;
 use pulsar_wire::Error;

@@ -4,8 +4,8 @@ use Rattle.std.specs.List.{slice_split}
 use Rattle.std.specs.Option.{option_map}
 use Rattle.std.specs.Str.{bytes_eq}
 use Rattle.pulsar_script.specs.Words.{number}
-use Rattle.pulsar_job.specs.declared.form.Form.{Form}
-use Rattle.pulsar_job.specs.declared.form.Form.TheVariants as form
+use Rattle.pulsar_work.specs.declared.form.Form.{Form}
+use Rattle.pulsar_work.specs.declared.form.Form.TheVariants as form
 
 -- what the words ask for: each line of the source is sent to a topic, or so many messages of a topic are taken by a subscription
 pub data Asking : Type 0 where

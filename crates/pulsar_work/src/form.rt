@@ -1,5 +1,9 @@
 //! The words of `produce` and `consume`.
 
+ghost use Rattle.std.specs.Prelude.{◌≡◌, ◌∷◌, [], codes, if◌then◌else◌, IfOk, map, string_bytes};
+ghost use Rattle.std.specs.Option.{option_map};
+ghost use Rattle.pulsar_work.specs.Form.{asking, form_of};
+
 use pulsar_script::grammar::word::{is, number};
 use pulsar_wire::NoMemory;
 
@@ -18,7 +22,9 @@ pub enum Form {
 }
 
 /// What the words ask for, where they are one of these forms.
-pub fn form(words: &[String]) -> Result<Option<Form>, NoMemory> {
+pub fn parse(words: &[String]) -> Result<Option<Form>, NoMemory>
+    ensures { IfOk result (λ f. option_map asking f ≡ form_of (map string_bytes words.now)) }
+{
     match words {
         [word, url, topic] => produce(word, url, topic),
         [word, url, topic, subscription, count] => consume(word, url, topic, subscription, count),
@@ -26,7 +32,9 @@ pub fn form(words: &[String]) -> Result<Option<Form>, NoMemory> {
     }
 }
 
-fn produce(word: &str, url: &String, topic: &String) -> Result<Option<Form>, NoMemory> {
+fn produce(word: &String, url: &String, topic: &String) -> Result<Option<Form>, NoMemory>
+    ensures { IfOk result (λ f. option_map asking f ≡ form_of (string_bytes word.now ∷ string_bytes url.now ∷ string_bytes topic.now ∷ [])) }
+{
     if !is(word.as_bytes(), "produce") {
         return Ok(None);
     }
@@ -37,12 +45,14 @@ fn produce(word: &str, url: &String, topic: &String) -> Result<Option<Form>, NoM
 }
 
 fn consume(
-    word: &str,
+    word: &String,
     url: &String,
     topic: &String,
     subscription: &String,
-    count: &str,
-) -> Result<Option<Form>, NoMemory> {
+    count: &String,
+) -> Result<Option<Form>, NoMemory>
+    ensures { IfOk result (λ f. option_map asking f ≡ form_of (string_bytes word.now ∷ string_bytes url.now ∷ string_bytes topic.now ∷ string_bytes subscription.now ∷ string_bytes count.now ∷ [])) }
+{
     if !is(word.as_bytes(), "consume") {
         return Ok(None);
     }

@@ -1,6 +1,11 @@
 //! How far a job is, by the effects of its client.
 
-use pulsar_client::{Effect, Handed};
+ghost use Rattle.std.specs.Prelude.{◌≡◌, ◌↔◌, ◌+◌, ◌<◌, ◌≤◌, ◌++◌, ◌∷◌, [], ℕ, Bool, true, false, List, None, Some, IfOk, IsTrue, OnOk, length, map, slice_get, string_bytes};
+ghost use Rattle.std.specs.Option.{option_or};
+ghost use Rattle.pulsar_calls.specs.Content.{Asked, Shown, shown};
+ghost use Rattle.pulsar_work.specs.Progress.{Keeps, Knows, links_of, owed_ack, wanted_in, wanted_of};
+
+use pulsar_calls::effect::{Effect, Handed};
 use pulsar_wire::NoMemory;
 use pulsar_wire::commands::ids::MessageIdData;
 use std::alloc::Global;
@@ -47,7 +52,10 @@ pub struct Progress {
 
 impl Progress {
     /// Nothing has happened.
-    pub fn new(alloc: Global) -> Progress {
+    pub fn new(alloc: Global) -> Progress
+        ensures knows { Knows result [] [] }
+        ensures rest { (result.ended.items ≡ []) × (result.dials.items ≡ []) × (result.stopped ≡ false) × (result.owed ≡ None) }
+    {
         Progress {
             ended: Vec::new(alloc),
             first_open: 0,
@@ -63,12 +71,16 @@ impl Progress {
     }
 
     /// How many calls were made.
-    pub fn calls(&self) -> u64 {
+    pub fn calls(&self) -> u64
+        ensures { result ≡ length self.now.ended.items }
+    {
         self.ended.len() as u64
     }
 
     /// The call of this ticket has ended well.
-    pub fn has_ended(&self, ticket: u64) -> bool {
+    pub fn has_ended(&self, ticket: u64) -> bool
+        ensures { IsTrue result ↔ (slice_get self.now.ended.items ticket ≡ Some true) }
+    {
         match self.ended.get(ticket as usize) {
             Some(ended) => *ended,
             None => false,
@@ -76,26 +88,48 @@ impl Progress {
     }
 
     /// All calls have ended well.
-    pub fn have_all_ended(&self) -> bool {
+    pub fn have_all_ended(&self) -> bool
+        ensures { IsTrue result ↔ (length self.now.ended.items ≤ self.now.first_open) }
+    {
         self.first_open >= self.ended.len()
     }
 
     /// A call is made: it has the next ticket.
-    pub fn call(&mut self) -> Result<(), NoMemory> {
-        self.owed = None;
+    pub fn call(&mut self) -> Result<(), NoMemory>
+        ensures knows { OnOk result ((es : List Shown) (acked : List Asked) → Knows self.old es acked → Knows self.new es acked) }
+        ensures one { OnOk result (length self.new.ended.items ≡ length self.old.ended.items + 1) }
+        ensures rest { OnOk result ((self.new.dials ≡ self.old.dials) × (self.new.owed ≡ self.old.owed) × (self.new.failed ≡ self.old.failed) × (self.new.stopped ≡ self.old.stopped) × (self.new.failed_before ≡ self.old.failed_before)) }
+    {
         self.ended.push(false)?;
         Ok(())
     }
 
+    /// The item that was given last is acknowledged.
+    pub fn acknowledge(&mut self)
+        ensures knows { (es : List Shown) (acked : List Asked) → Knows self.old es acked → Knows self.new es (acked ++ owed_ack self.old.owed) }
+        ensures owed { self.new.owed ≡ None }
+        ensures rest { (self.new.ended ≡ self.old.ended) × (self.new.dials ≡ self.old.dials) × (self.new.failed ≡ self.old.failed) × (self.new.stopped ≡ self.old.stopped) × (self.new.failed_before ≡ self.old.failed_before) }
+    {
+        self.owed = None;
+    }
+
     /// What these effects tell.
-    pub fn learn(&mut self, effects: &[Effect]) -> Result<(), NoMemory> {
+    pub fn learn(&mut self, effects: &[Effect]) -> Result<(), NoMemory>
+        ensures knows { OnOk result ((es : List Shown) (acked : List Asked) → Knows self.old es acked → Knows self.new (es ++ map shown effects.now) acked) }
+        ensures dials { OnOk result (links_of self.new.dials.items ≡ links_of self.old.dials.items ++ wanted_in (map shown effects.now)) }
+        ensures rest { OnOk result ((length self.new.ended.items ≡ length self.old.ended.items) × (self.new.stopped ≡ self.old.stopped) × (self.new.failed_before ≡ self.old.failed_before)) }
+    {
         for effect in effects {
             self.learn_one(effect)?;
         }
         Ok(())
     }
 
-    fn learn_one(&mut self, effect: &Effect) -> Result<(), NoMemory> {
+    fn learn_one(&mut self, effect: &Effect) -> Result<(), NoMemory>
+        ensures knows { OnOk result ((es : List Shown) (acked : List Asked) → Knows self.old es acked → Knows self.new (es ++ shown effect.now ∷ []) acked) }
+        ensures dials { OnOk result (links_of self.new.dials.items ≡ links_of self.old.dials.items ++ wanted_of (shown effect.now)) }
+        ensures rest { OnOk result ((length self.new.ended.items ≡ length self.old.ended.items) × (self.new.stopped ≡ self.old.stopped) × (self.new.failed_before ≡ self.old.failed_before)) }
+    {
         match effect {
             Effect::Connect { link, host, port } => self.dial(*link, host, *port),
             Effect::Ended { ticket, answer } => match answer {
@@ -150,9 +184,15 @@ impl Progress {
 
     /// An item was given.
     fn give(&mut self, handed: &Handed) -> Result<(), NoMemory> {
+        if self.owed.is_some() {
+            return Err(NoMemory);
+        }
+        let Some(given) = self.given.checked_add(1) else {
+            return Err(NoMemory);
+        };
         let topic = handed.topic.clone()?;
         let id = handed.id.id.copy()?;
-        self.given = self.given.saturating_add(1);
+        self.given = given;
         self.owed = Some(Owed { topic, id });
         Ok(())
     }

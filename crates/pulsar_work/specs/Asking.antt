@@ -1,5 +1,5 @@
 -- For the code's contracts alone: what is asked next.
-use Rattle.std.specs.Prelude.{◌≡◌, ◌≤◌, ◌<◌, ◌+◌, ◌-◌, ◌⊎◌, ℕ, true, false, List, [], ◌∷◌, map, length, slice_get, string_bytes, Option, Some, None}
+use Rattle.std.specs.Prelude.{◌≡◌, ◌≤◌, ◌<◌, ◌+◌, ◌-◌, ◌⊎◌, ℕ, zero, suc, Bool, true, false, List, [], ◌∷◌, map, length, slice_get, string_bytes, Option, Some, None}
 use Rattle.std.specs.Global.{Vec}
 use Rattle.pulsar_producer.specs.Message.{bare}
 use Rattle.pulsar_calls.specs.Content.{Asked, Build, Producer, Send, Consumer, asked}
@@ -27,10 +27,10 @@ sends lines = map (λ line. Send 1 (bare line)) lines
 
 -- the call of a place, but for acknowledgements
 abbrev pub call_at : Work → (place : ℕ) → Option Asked
-call_at w 0 = Some Build
-call_at w 1 = Some (making w)
-call_at (Sends topic lines) place = slice_get (sends lines) (place - 2)
-call_at (Takes topic subscription count) place = None
+call_at w zero = Some Build
+call_at w (suc zero) = Some (making w)
+call_at (Sends topic lines) (suc (suc place)) = slice_get (sends lines) place
+call_at (Takes topic subscription count) (suc (suc place)) = None
 
 -- all has ended well that was asked for
 abbrev pub HaveAllEnded : Progress → Type 0
@@ -54,3 +54,19 @@ IsNext w p (next.Ack c) = (asked c ∷ [] ≡ owed_ack p.owed) × (2 ≤ length 
 IsNext w p next.Poll = Unit {0}
 IsNext w p next.Stop = Stops w p
 IsNext w p next.Nothing = Unit {0}
+
+-- the next line is sent, or the end has come
+abbrev pub IsSend : List (List ℕ) → (calls : ℕ) → (have_all_ended : Bool) → Next → Type 0
+IsSend lines calls have_all_ended (next.Call c) = slice_get (sends lines) (calls - 2) ≡ Some (asked c)
+IsSend lines calls have_all_ended next.Stop = (length lines ≤ calls - 2) × (have_all_ended ≡ true)
+IsSend lines calls have_all_ended next.Nothing = Unit {0}
+IsSend lines calls have_all_ended (next.Ack c) = ⊥
+IsSend lines calls have_all_ended next.Poll = ⊥
+
+-- an item is acknowledged, or the next one is asked for, or the end has come
+abbrev pub IsTake : (count : ℕ) → Progress → Next → Type 0
+IsTake count p (next.Ack c) = asked c ∷ [] ≡ owed_ack p.owed
+IsTake count p next.Stop = (p.owed ≡ None) × ((p.given ≡ count) ⊎ (p.is_over ≡ true)) × HaveAllEnded p
+IsTake count p next.Poll = Unit {0}
+IsTake count p next.Nothing = Unit {0}
+IsTake count p (next.Call c) = ⊥

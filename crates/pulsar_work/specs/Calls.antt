@@ -88,7 +88,7 @@ IsWhole (Takes topic subscription count) es = (length (items_of es) ≡ count) �
 
 -- Status 0: these are the calls, all have ended well, and no item was an error. The work was done before the last call.
 pub record IsDone (w : Work) (h : List Step) : Type 0 where
-  pub calls : calls h ≡ work w (effects_of h) ++ Stop ∷ []
+  pub asked : calls h ≡ work w (effects_of h) ++ Stop ∷ []
   pub ended : (t : ℕ) → t < length (calls h) → has_ended_well t (effects_of h) ≡ true
   pub no_error : errors_of (effects_of h) ≡ []
   pub before : List Step

@@ -39,12 +39,3 @@ wanted_in es = flat_map wanted_of es
 
 abbrev pub links_of : List Dial → List ℕ
 links_of ds = map (λ d. d.link) ds
-
--- the same but for what is to be dialed
-pub record Keeps (old new : Progress) : Type 0 where
-  pub ended : new.ended ≡ old.ended
-  pub first_open : new.first_open ≡ old.first_open
-  pub failed : new.failed ≡ old.failed
-  pub given : new.given ≡ old.given
-  pub owed : new.owed ≡ old.owed
-  pub is_over : new.is_over ≡ old.is_over

@@ -1,15 +1,22 @@
 -- What `produce` and `consume` print: a line for each receipt or item, and how the run ended.
-use Rattle.std.specs.Prelude.{ℕ, List, [], ◌∷◌, ◌++◌, length, codes, Option, Some, None}
+use Rattle.std.specs.Prelude.{ℕ, List, [], ◌∷◌, ◌++◌, length, map, codes, Option, Some, None}
+use Rattle.std.specs.Global.{Vec}
 use Rattle.std.specs.List.{flat_map}
 use Rattle.std.specs.Fmt.{decimal}
 use Rattle.pulsar_wire.specs.Row.{Values, reading}
 use Rattle.pulsar_wire.specs.Rows.{message_id, send_receipt}
 use Rattle.pulsar_session.specs.Failures.{Failure}
-use Rattle.pulsar_calls.specs.Content.{Said, Receipt, Failed, Shown, Ends, Hands, Faults}
+use Rattle.pulsar_calls.specs.declared.effect.Effect.{Effect}
+use Rattle.pulsar_calls.specs.declared.event.Event.{Event}
+use Rattle.pulsar_calls.specs.Content.{Said, Receipt, Failed, Shown, Ends, Hands, Faults, shown}
 use Rattle.pulsar_agenda.specs.Run.{Step}
 use Rattle.pulsar_script.specs.ErrorText.{failure}
 use Rattle.pulsar_script.specs.Text.{line}
 use Rattle.pulsar_script.specs.WordText.{word}
+
+-- the effects of the entries of a trace, in order
+abbrev pub shown_in : List (Event × Vec Effect) → List Shown
+shown_in entries = flat_map (λ e. map shown e.1.items) entries
 
 -- the effects of a history, oldest first; the newest step of a history is its first
 abbrev pub effects_of : List Step → List Shown
@@ -57,3 +64,8 @@ report_of es = flat_map line (lines_told es) ++ line (last_line (errors_of es) (
 
 abbrev pub report : List Step → List ℕ
 report h = report_of (effects_of h)
+
+-- the first of a list
+abbrev pub first : {A : Type 0} → List A → Option A
+first [] = None
+first (x ∷ xs) = Some x

@@ -1,11 +1,12 @@
 //! The calls of `produce` and of `consume`.
 
-ghost use Rattle.std.specs.Prelude.{◌≡◌, ◌≤◌, ◌<◌, ◌∷◌, ◌⊎◌, [], true, false, IfOk, Some, length, map, slice_get};
+ghost use Rattle.std.specs.Prelude.{◌≡◌, ◌∷◌, [], if◌then◌else◌, IfOk, Some, map};
 ghost use Rattle.pulsar_producer.specs.Wanted.{producer_wanted};
 ghost use Rattle.pulsar_consumer.specs.Content.{consumer_wanted};
 ghost use Rattle.pulsar_calls.specs.Content.{asked};
-ghost use Rattle.pulsar_work.specs.Asking.{HaveAllEnded, IsNext, making, work_in};
-ghost use Rattle.pulsar_work.specs.Calls.{Sends, Takes, consumer_of, producer_of};
+ghost use Rattle.pulsar_work.specs.Asking.{IsNext, IsSend, IsTake, making, work_in};
+ghost use Rattle.pulsar_work.specs.Calls.{consumer_of, producer_of};
+ghost use Rattle.pulsar_work.specs.Progress.{owed_ack};
 
 use crate::progress::{Owed, Progress};
 use pulsar_calls::event::Call;
@@ -122,7 +123,9 @@ fn send(
     lines: &[Vec<u8>],
     calls: u64,
     have_all_ended: bool,
-) -> Result<Next, NoMemory> {
+) -> Result<Next, NoMemory>
+    ensures { IfOk result (λ n. IsSend (map (λ line. line.items) lines.now) calls have_all_ended n) }
+{
     let sent = calls.saturating_sub(2) as usize;
     if sent < lines.len() {
         let message = message_from_bytes(alloc, &lines[sent])?;
@@ -135,7 +138,9 @@ fn send(
 }
 
 /// The item that was given is acknowledged, or the next one is asked for. There are never more items than were asked for.
-fn take(count: u64, progress: &Progress) -> Result<Next, NoMemory> {
+fn take(count: u64, progress: &Progress) -> Result<Next, NoMemory>
+    ensures { IfOk result (λ n. IsTake count progress.now n) }
+{
     if let Some(item) = &progress.owed {
         return Ok(Next::Ack(ack(item)?));
     }
@@ -156,7 +161,9 @@ fn take(count: u64, progress: &Progress) -> Result<Next, NoMemory> {
 }
 
 /// The acknowledgement of an item.
-fn ack(item: &Owed) -> Result<Call, NoMemory> {
+fn ack(item: &Owed) -> Result<Call, NoMemory>
+    ensures { IfOk result (λ c. asked c ∷ [] ≡ owed_ack (Some item.now)) }
+{
     Ok(Call::Ack {
         consumer: MADE,
         topic: item.topic.clone()?,
@@ -166,7 +173,9 @@ fn ack(item: &Owed) -> Result<Call, NoMemory> {
 }
 
 /// The last call comes when all others have ended.
-fn stop_at_the_end(have_all_ended: bool) -> Next {
+fn stop_at_the_end(have_all_ended: bool) -> Next
+    ensures { result ≡ (if have_all_ended then Next.Stop else Next.Nothing) }
+{
     if have_all_ended {
         Next::Stop
     } else {

@@ -1,12 +1,14 @@
 //! How far a job is, by the effects of its client.
 
-ghost use Rattle.std.specs.Prelude.{◌≡◌, ◌↔◌, ◌+◌, ◌<◌, ◌≤◌, ◌++◌, ◌∷◌, [], ℕ, Bool, true, false, List, None, Some, IfOk, IsTrue, OnOk, length, map, slice_get, string_bytes};
-ghost use Rattle.std.specs.Option.{option_or};
-ghost use Rattle.pulsar_calls.specs.Content.{Asked, Shown, shown};
-ghost use Rattle.pulsar_work.specs.Progress.{Keeps, Knows, links_of, owed_ack, wanted_in, wanted_of};
+ghost use Rattle.std.specs.Prelude.{◌≡◌, ◌↔◌, ◌+◌, ◌<◌, ◌≤◌, ◌++◌, ◌∷◌, [], ℕ, Bool, true, false, List, None, Some, Ok, IfOk, IsTrue, OnOk, length, map, slice_get, string_bytes};
+ghost use Rattle.pulsar_calls.specs.Content.{Asked, Connect, Ends, Said, Shown, hands, shown};
+ghost use Rattle.pulsar_session.specs.Failures.{Failure};
+ghost use Rattle.pulsar_work.specs.Calls.{ack_of, is_failure, item_of};
+ghost use Rattle.pulsar_work.specs.Report.{error_of};
+ghost use Rattle.pulsar_work.specs.Progress.{Knows, links_of, owed_ack, wanted_in, wanted_of};
 
 use pulsar_calls::effect::{Effect, Handed};
-use pulsar_wire::NoMemory;
+use pulsar_wire::{NoMemory, Wire};
 use pulsar_wire::commands::ids::MessageIdData;
 use std::alloc::Global;
 
@@ -138,14 +140,14 @@ impl Progress {
                     Ok(())
                 }
                 Err(_) => {
-                    self.failed = true;
+                    self.fail();
                     Ok(())
                 }
             },
             Effect::Item { ticket: _, item } => match item {
                 Ok(handed) => self.give(handed),
                 Err(_) => {
-                    self.failed = true;
+                    self.fail();
                     Ok(())
                 }
             },
@@ -157,39 +159,84 @@ impl Progress {
                 self.is_over = true;
                 Ok(())
             }
-            Effect::Queued { .. }
-            | Effect::Write { .. }
-            | Effect::Retry { .. }
-            | Effect::Close { .. }
-            | Effect::Settled { .. } => Ok(()),
+            Effect::Queued {
+                link: _,
+                place: _,
+                bytes: _,
+            } => Ok(()),
+            Effect::Write { link: _, bytes: _ } => Ok(()),
+            Effect::Retry { link: _, delay: _ } => Ok(()),
+            Effect::Close { link: _ } => Ok(()),
+            Effect::Settled {
+                link: _,
+                place: _,
+                outcome: _,
+            } => Ok(()),
         }
     }
 
+    /// Something has failed.
+    fn fail(&mut self)
+        ensures knows { (es : List Shown) (acked : List Asked) (x : Shown) (f : Failure) → error_of x ≡ f ∷ [] → item_of x ≡ [] → ack_of x ≡ [] → Knows self.old es acked → Knows self.new (es ++ x ∷ []) acked }
+        ensures rest { (self.new.ended ≡ self.old.ended) × (self.new.dials ≡ self.old.dials) × (self.new.stopped ≡ self.old.stopped) × (self.new.failed_before ≡ self.old.failed_before) }
+    {
+        self.failed = true;
+    }
+
     /// A link is to be dialed.
-    fn dial(&mut self, link: u64, host: &String, port: u16) -> Result<(), NoMemory> {
+    fn dial(&mut self, link: u64, host: &String, port: u16) -> Result<(), NoMemory>
+        ensures knows { OnOk result ((es : List Shown) (acked : List Asked) → Knows self.old es acked → Knows self.new (es ++ Connect link (string_bytes host.now) port ∷ []) acked) }
+        ensures dials { OnOk result (links_of self.new.dials.items ≡ links_of self.old.dials.items ++ link ∷ []) }
+        ensures rest { OnOk result ((self.new.ended ≡ self.old.ended) × (self.new.stopped ≡ self.old.stopped) × (self.new.failed_before ≡ self.old.failed_before)) }
+    {
         let host = host.clone()?;
         self.dials.push(Dial { link, host, port })?;
         Ok(())
     }
 
     /// The call of this ticket has ended well.
-    fn end(&mut self, ticket: u64) {
-        if let Some(ended) = self.ended.get_mut(ticket as usize) {
-            *ended = true;
+    fn end(&mut self, ticket: u64)
+        ensures knows { (es : List Shown) (acked : List Asked) (said : Said) → is_failure said ≡ false → Knows self.old es acked → Knows self.new (es ++ Ends ticket said ∷ []) acked }
+        ensures rest { (length self.new.ended.items ≡ length self.old.ended.items) × (self.new.dials ≡ self.old.dials) × (self.new.stopped ≡ self.old.stopped) × (self.new.failed_before ≡ self.old.failed_before) }
+    {
+        self.mark(ticket as usize);
+        self.count();
+    }
+
+    /// The call of this place has ended well.
+    fn mark(&mut self, place: usize)
+        ensures knows { (es : List Shown) (acked : List Asked) (said : Said) → is_failure said ≡ false → Knows self.old es acked → Knows self.new (es ++ Ends place said ∷ []) acked }
+        ensures rest { (length self.new.ended.items ≡ length self.old.ended.items) × (self.new.dials ≡ self.old.dials) × (self.new.stopped ≡ self.old.stopped) × (self.new.failed_before ≡ self.old.failed_before) }
+    {
+        if place >= self.ended.len() {
+            return;
         }
+        self.ended[place] = true;
+    }
+
+    /// The calls below the first that is open have all ended well.
+    fn count(&mut self)
+        ensures knows { (es : List Shown) (acked : List Asked) → Knows self.old es acked → Knows self.new es acked }
+        ensures rest { (self.new.ended ≡ self.old.ended) × (self.new.dials ≡ self.old.dials) × (self.new.stopped ≡ self.old.stopped) × (self.new.failed_before ≡ self.old.failed_before) }
+    {
         while self.has_ended(self.first_open as u64) {
             self.first_open += 1;
         }
     }
 
     /// An item was given.
-    fn give(&mut self, handed: &Handed) -> Result<(), NoMemory> {
+    fn give(&mut self, handed: &Handed) -> Result<(), NoMemory>
+        ensures knows { OnOk result ((es : List Shown) (acked : List Asked) (ticket : ℕ) → Knows self.old es acked → Knows self.new (es ++ hands ticket (Ok handed.now) ∷ []) acked) }
+        ensures rest { OnOk result ((self.new.ended ≡ self.old.ended) × (self.new.dials ≡ self.old.dials) × (self.new.stopped ≡ self.old.stopped) × (self.new.failed_before ≡ self.old.failed_before)) }
+    {
         if self.owed.is_some() {
             return Err(NoMemory);
         }
         let Some(given) = self.given.checked_add(1) else {
             return Err(NoMemory);
         };
+        // what is written of the id is read again
+        handed.id.id.encode(&mut Vec::new(*self.ended.allocator()))?;
         let topic = handed.topic.clone()?;
         let id = handed.id.id.copy()?;
         self.given = given;

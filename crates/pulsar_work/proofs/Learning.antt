@@ -1,6 +1,6 @@
 -- What is known of a job after one effect more.
 use Rattle.std.proofs.Common.{◌≡◌, ◌∙◌, ◌<◌, ◌+◌, ◌++◌, ◌||◌, ℕ, Bool, true, false, sym, ap, subst, refl, List, [], ◌∷◌, length, length-append, append-nil, append_assoc, map, take, get_or, Option, Some, None, arith, zero, suc, ◌≤◌, ◌⊎◌, inl, inr}
-use Rattle.std.specs.Prelude.{slice_get, slice_set, string_bytes, Result, Ok, Err, OnOk, ◌==◌, ◌&&◌, not}
+use Rattle.std.specs.Prelude.{slice_get, slice_set, Result, Ok, Err, OnOk}
 use Rattle.std.proofs.Common.{eq-eqb}
 use Rattle.std.specs.Option.{option_map, option_to_list}
 use Rattle.std.proofs.Math.Nat.{eq-or-lt_of_le}
@@ -19,8 +19,7 @@ use Rattle.pulsar_calls.specs.declared.effect.Answer.{Answer}
 use Rattle.pulsar_calls.specs.declared.effect.Answer.TheVariants as answer
 use Rattle.pulsar_work.specs.Calls.{ack_of, ends_well, has_ended_well, is_end, is_failure, is_over, item_of, items_of}
 use Rattle.pulsar_work.specs.Report.{error_of, errors_of}
-use Rattle.pulsar_work.specs.Progress.{Knows, is_empty, links_of, owed_ack, wanted_in, wanted_of}
-use Rattle.pulsar_work.specs.declared.progress.Dial.{Dial}
+use Rattle.pulsar_work.specs.Progress.{Knows, is_empty, owed_ack, wanted_in, wanted_of}
 use Rattle.pulsar_work.specs.declared.progress.Owed.{Owed}
 use Rattle.pulsar_work.specs.declared.progress.Progress.{Progress}
 

@@ -1,5 +1,5 @@
 -- What is printed of one effect, or of one entry, more.
-use Rattle.std.proofs.Common.{◌≡◌, ◌∙◌, ◌+◌, ◌<◌, ◌++◌, ℕ, sym, ap, refl, List, [], ◌∷◌, length, length-append, append-nil, append_assoc, map, take, drop, get_or, Option, Some, None}
+use Rattle.std.proofs.Common.{◌≡◌, ◌∙◌, ◌+◌, ◌<◌, ◌++◌, ℕ, sym, ap, List, [], ◌∷◌, length, length-append, append-nil, append_assoc, map, take, drop, get_or, Option, Some}
 use Rattle.std.proofs.lemmas.List.{take-append-drop}
 use Rattle.pulsar_wire.specs.Row.{Values}
 use Rattle.pulsar_wire.specs.Rows.{message_id, send_receipt}

@@ -1,8 +1,8 @@
 -- The calls of `produce` and `consume`.
-use Rattle.std.specs.Prelude.{◌≡◌, ◌<◌, ◌+◌, ◌⊎◌, ◌==◌, ◌&&◌, nat_le, not, Bool, true, false, ℕ, List, [], ◌∷◌, ◌++◌, length, map, take, codes, Option, Some, None}
+use Rattle.std.specs.Prelude.{◌≡◌, ◌<◌, ◌⊎◌, ◌==◌, ◌&&◌, not, Bool, true, false, ℕ, List, [], ◌∷◌, ◌++◌, length, map, take, Some}
 use Rattle.std.specs.List.{flat_map, list_any}
 use Rattle.std.specs.Option.{option_map, option_to_list}
-use Rattle.pulsar_wire.specs.Row.{Values, reading}
+use Rattle.pulsar_wire.specs.Row.{reading}
 use Rattle.pulsar_wire.specs.Rows.{message_id}
 use Rattle.pulsar_wire.specs.declared.commands.enumerations.SubType.TheVariants.{Shared}
 use Rattle.pulsar_wire.specs.declared.commands.enumerations.InitialPosition.TheVariants.{Earliest}

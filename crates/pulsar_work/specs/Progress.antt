@@ -1,5 +1,5 @@
 -- For the code's contracts alone: what is known of a job by the effects of its client.
-use Rattle.std.specs.Prelude.{◌≡◌, ◌<◌, ◌==◌, ℕ, Bool, true, false, List, [], ◌∷◌, ◌++◌, length, map, string_bytes, slice_get, Option, Some, None}
+use Rattle.std.specs.Prelude.{◌≡◌, ◌<◌, ℕ, Bool, true, false, List, [], ◌∷◌, ◌++◌, length, map, string_bytes, slice_get, Option, Some, None}
 use Rattle.std.specs.List.{flat_map}
 use Rattle.pulsar_wire.specs.Views.{message_id_values}
 use Rattle.pulsar_calls.specs.Content.{Asked, Ack, Shown, Connect}

@@ -8,7 +8,7 @@ use Rattle.pulsar_wire.specs.Rows.{message_id, send_receipt}
 use Rattle.pulsar_session.specs.Failures.{Failure}
 use Rattle.pulsar_calls.specs.declared.effect.Effect.{Effect}
 use Rattle.pulsar_calls.specs.declared.event.Event.{Event}
-use Rattle.pulsar_calls.specs.Content.{Said, Receipt, Failed, Shown, Ends, Hands, Faults, shown}
+use Rattle.pulsar_calls.specs.Content.{Receipt, Failed, Shown, Ends, Hands, Faults, shown}
 use Rattle.pulsar_agenda.specs.Run.{Step}
 use Rattle.pulsar_script.specs.ErrorText.{failure}
 use Rattle.pulsar_script.specs.Text.{line}

@@ -1,6 +1,7 @@
 //! What `produce` and `consume` print of their run.
 
-ghost use Rattle.std.specs.Prelude.{◌≡◌, ◌+◌, ◌++◌, ◌∷◌, [], List, IfOk, OnOk, length, map, string_bytes};
+ghost use Rattle.std.specs.Prelude.{◌≡◌, ◌+◌, ◌++◌, ◌∷◌, [], codes, IfOk, OnOk, length, map, string_bytes};
+ghost use Rattle.std.specs.Fmt.{decimal};
 ghost use Rattle.std.specs.List.{flat_map};
 ghost use Rattle.std.specs.Option.{option_map};
 ghost use Rattle.pulsar_wire.specs.Row.{spelling};
@@ -77,7 +78,7 @@ fn push_effect(out: &mut String, effect: &Effect) -> Result<u64, NoMemory>
     match effect {
         Effect::Ended { ticket: _, answer } => match answer {
             Ok(Answer::Receipt(receipt)) => {
-                push_sent(out, receipt)?;
+                push_receipt(out, receipt)?;
                 Ok(1)
             }
             Ok(Answer::Done)
@@ -109,13 +110,20 @@ fn push_effect(out: &mut String, effect: &Effect) -> Result<u64, NoMemory>
 }
 
 /// The line of a receipt.
-fn push_sent(out: &mut String, receipt: &CommandSendReceipt) -> Result<(), NoMemory>
+fn push_receipt(out: &mut String, receipt: &CommandSendReceipt) -> Result<(), NoMemory>
     ensures { OnOk result (string_bytes out.new ≡ string_bytes out.old ++ line (sent (spelling send_receipt (send_receipt_values receipt.now)))) }
 {
     // what is written of a receipt is read again
     receipt.encode(&mut Vec::new(*out.allocator()))?;
+    push_sent(out, &receipt.message_id)
+}
+
+/// The line of a message that was stored there.
+fn push_sent(out: &mut String, id: &Option<MessageIdData>) -> Result<(), NoMemory>
+    ensures { OnOk result (string_bytes out.new ≡ string_bytes out.old ++ line (codes "sent " ++ stored_at (option_map message_id_values id.now))) }
+{
     out.push_str("sent ")?;
-    push_stored(out, &receipt.message_id)?;
+    push_stored(out, id)?;
     out.push('\n')?;
     Ok(())
 }
@@ -125,13 +133,18 @@ fn push_stored(out: &mut String, id: &Option<MessageIdData>) -> Result<(), NoMem
     ensures { OnOk result (string_bytes out.new ≡ string_bytes out.old ++ stored_at (option_map message_id_values id.now)) }
 {
     match id {
-        Some(id) => {
-            let ledger = id.ledger_id;
-            let entry = id.entry_id;
-            write!(out, "{ledger}:{entry}")?;
+        Some(id) => push_numbers(out, id.ledger_id, id.entry_id),
+        None => {
+            out.push('~')?;
+            Ok(())
         }
-        None => out.push('~')?,
     }
+}
+
+fn push_numbers(out: &mut String, ledger: u64, entry: u64) -> Result<(), NoMemory>
+    ensures { OnOk result (string_bytes out.new ≡ string_bytes out.old ++ (decimal ledger ++ codes ":" ++ decimal entry)) }
+{
+    write!(out, "{ledger}:{entry}")?;
     Ok(())
 }
 

@@ -1,7 +1,6 @@
-use Rattle.std.proofs.Common.{rules}
 use Rattle.pulsar_wire.specs.Views.{message_id_values}
 use Rattle.pulsar_work.proofs.printing.push_stored.Goals as goal
 
-pub returns-in_ok-write-in-Some : goal.returns-in_ok-write-in-Some
+pub returns-in-Some : goal.returns-in-Some
 unfolding message_id_values
-returns-in_ok-write-in-Some c = search rules
+returns-in-Some c = rw c.in-Some.is c.push_numbers.ensures

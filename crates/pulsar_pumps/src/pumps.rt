@@ -1,8 +1,9 @@
 //! Pumps: rounds until one answers an end.
 
-ghost use Rattle.std.specs.Prelude.{◌≡◌, [], ℕ, List, MatchResult, map};
+ghost use Rattle.std.specs.Prelude.{◌≡◌, [], true, IfOk, map};
 ghost use Rattle.pulsar_pumps.specs.Made.{made_of};
-ghost use Rattle.pulsar_pumps.specs.Pumping.{RanIn, RanOut, end};
+ghost use Rattle.pulsar_pumps.specs.Outside.{Grows};
+ghost use Rattle.pulsar_pumps.specs.Pumping.{PumpIn, PumpOut, TurnOut, end, is_ended, is_last, says_ended, says_last};
 
 use crate::outside::input::Input;
 use crate::outside::output::Output;
@@ -18,9 +19,10 @@ pub fn pump_in<S: Submitter, I: Input>(
     input: &mut I,
     made: &mut Vec<(Event, Receipt)>,
 ) -> Result<PumpEnd, NoMemory>
-    ensures { let s = end (map made_of made.old.items) (S.told submitter.old) (I.given input.old) (I.faults input.old) in
+    ensures ran { let s = end (map made_of made.old.items) (S.told submitter.old) (I.given input.old) (I.faults input.old) in
         let t = end (map made_of made.new.items) (S.told submitter.new) (I.given input.new) (I.faults input.new) in
-        MatchResult result (λ _. RanIn link s t []) (λ _. (rest : List ℕ) × RanIn link s t rest) }
+        PumpIn link s t result }
+    ensures ended { IfOk result (λ e. is_ended e ≡ true → (moment : S) × Grows (S.told moment) (S.told submitter.new) [] × S.over moment link true) }
 {
     for _ in 0..u64::MAX {
         match round_in(submitter, link, input, made) {
@@ -41,23 +43,46 @@ pub fn pump_out<S: Submitter, O: Output>(
     output: &mut O,
     made: &mut Vec<(Event, Receipt)>,
 ) -> Result<PumpEnd, NoMemory>
-    ensures { let s = end (map made_of made.old.items) (S.told submitter.old) (O.taken output.old) (O.faults output.old) in
+    ensures ran { let s = end (map made_of made.old.items) (S.told submitter.old) (O.taken output.old) (O.faults output.old) in
         let t = end (map made_of made.new.items) (S.told submitter.new) (O.taken output.new) (O.faults output.new) in
-        (rest : List ℕ) × RanOut link s t rest }
+        PumpOut link s t result }
+    ensures ended { IfOk result (λ e. is_ended e ≡ true → (moment : S) × Grows (S.told moment) (S.told submitter.new) [] × S.over moment link true) }
+    ensures shut { IfOk result (λ e. is_last e ≡ true → O.is_shut output.new ≡ true) }
 {
     for _ in 0..u64::MAX {
-        match round_out(submitter, link, output, made) {
-            Ok(None) => {}
-            Ok(Some(PumpEnd::Idle)) => match goes_on(submitter, link, seen(made)) {
-                Ok(true) => {}
-                Ok(false) => return Ok(PumpEnd::Idle),
-                Err(e) => return Err(e),
-            },
+        match turn_out(submitter, link, output, made) {
             Ok(Some(end)) => return Ok(end),
+            Ok(None) => {}
             Err(e) => return Err(e),
         }
     }
     Err(NoMemory)
+}
+
+/// One round, and the wait behind it where it found nothing to write.
+fn turn_out<S: Submitter, O: Output>(
+    submitter: &mut S,
+    link: u64,
+    output: &mut O,
+    made: &mut Vec<(Event, Receipt)>,
+) -> Result<Option<PumpEnd>, NoMemory>
+    ensures ran { let s = end (map made_of made.old.items) (S.told submitter.old) (O.taken output.old) (O.faults output.old) in
+        let t = end (map made_of made.new.items) (S.told submitter.new) (O.taken output.new) (O.faults output.new) in
+        TurnOut link s t result }
+    ensures ended { IfOk result (λ r. says_ended r ≡ true → (moment : S) × Grows (S.told moment) (S.told submitter.new) [] × S.over moment link true) }
+    ensures shut { IfOk result (λ r. says_last r ≡ true → O.is_shut output.new ≡ true) }
+{
+    match round_out(submitter, link, output, made) {
+        Ok(Some(PumpEnd::Idle)) => match goes_on(submitter, link, seen(made)) {
+            Ok(true) => Ok(None),
+            Ok(false) => Ok(Some(PumpEnd::Idle)),
+            Err(e) => Err(e),
+        },
+        Ok(Some(PumpEnd::LinkEnded)) => Ok(Some(PumpEnd::LinkEnded)),
+        Ok(Some(PumpEnd::Lost)) => Ok(Some(PumpEnd::Lost)),
+        Ok(None) => Ok(None),
+        Err(e) => Err(e),
+    }
 }
 
 /// Waits for news. The link may have ended since the round began, with nothing to come behind its last Drain: then it goes on at once.

@@ -1,10 +1,10 @@
 //! Rounds: each serves one half of a link once.
 
-ghost use Rattle.std.specs.Prelude.{◌≡◌, ◌≤◌, ◌∷◌, ◌++◌, [], ℕ, List, Option, IfOk, MatchOption, MatchResult, OnErr, OnOk, map};
+ghost use Rattle.std.specs.Prelude.{◌≡◌, ◌≤◌, ◌∷◌, ◌++◌, [], ℕ, true, false, List, Option, Some, None, IfOk, MatchOption, OnErr, OnOk, map};
 ghost use Rattle.pulsar_calls.specs.Content.{heard, shown};
-ghost use Rattle.pulsar_pumps.specs.Made.{Made, bytes_in, made_of};
+ghost use Rattle.pulsar_pumps.specs.Made.{Made, bytes_in, made_of, write_of};
 ghost use Rattle.pulsar_pumps.specs.Outside.{Grows, Rose};
-ghost use Rattle.pulsar_pumps.specs.Pumping.{Left, PutEnds, Puts, RanIn, RanOut, end};
+ghost use Rattle.pulsar_pumps.specs.Pumping.{Drained, PutEnds, Puts, RoundIn, RoundOut, end, says_ended, says_last};
 
 use crate::outside::Failed;
 use crate::outside::input::Input;
@@ -46,9 +46,10 @@ pub fn round_in<S: Submitter, I: Input>(
     input: &mut I,
     made: &mut Vec<(Event, Receipt)>,
 ) -> Result<Option<PumpEnd>, NoMemory>
-    ensures { let s = end (map made_of made.old.items) (S.told submitter.old) (I.given input.old) (I.faults input.old) in
+    ensures ran { let s = end (map made_of made.old.items) (S.told submitter.old) (I.given input.old) (I.faults input.old) in
         let t = end (map made_of made.new.items) (S.told submitter.new) (I.given input.new) (I.faults input.new) in
-        MatchResult result (λ _. RanIn link s t []) (λ _. (rest : List ℕ) × RanIn link s t rest) }
+        RoundIn link s t result }
+    ensures ended { IfOk result (λ r. (moment : S) × (S.told moment ≡ S.told submitter.old) × S.over moment link (says_ended r)) }
 {
     match submitter.ended(link) {
         Ok(true) => Ok(Some(PumpEnd::LinkEnded)),
@@ -66,9 +67,11 @@ pub fn round_out<S: Submitter, O: Output>(
     output: &mut O,
     made: &mut Vec<(Event, Receipt)>,
 ) -> Result<Option<PumpEnd>, NoMemory>
-    ensures { let s = end (map made_of made.old.items) (S.told submitter.old) (O.taken output.old) (O.faults output.old) in
+    ensures ran { let s = end (map made_of made.old.items) (S.told submitter.old) (O.taken output.old) (O.faults output.old) in
         let t = end (map made_of made.new.items) (S.told submitter.new) (O.taken output.new) (O.faults output.new) in
-        (rest : List ℕ) × RanOut link s t rest × Left result rest }
+        RoundOut link s t result }
+    ensures ended { IfOk result (λ r. (moment : S) × (S.told moment ≡ S.told submitter.old) × S.over moment link (says_ended r)) }
+    ensures shut { IfOk result (λ r. says_last r ≡ true → O.is_shut output.new ≡ true) }
 {
     match submitter.ended(link) {
         Ok(true) => {
@@ -127,9 +130,10 @@ fn hear<S: Submitter, I: Input>(
     input: &mut I,
     made: &mut Vec<(Event, Receipt)>,
 ) -> Result<Option<PumpEnd>, NoMemory>
-    ensures { let s = end (map made_of made.old.items) (S.told submitter.old) (I.given input.old) (I.faults input.old) in
+    ensures ran { let s = end (map made_of made.old.items) (S.told submitter.old) (I.given input.old) (I.faults input.old) in
         let t = end (map made_of made.new.items) (S.told submitter.new) (I.given input.new) (I.faults input.new) in
-        MatchResult result (λ _. RanIn link s t []) (λ _. (rest : List ℕ) × RanIn link s t rest) }
+        RoundIn link s t result }
+    ensures ended { IfOk result (λ r. says_ended r ≡ false) }
 {
     match take_piece(*made.allocator(), input) {
         Ok(Some(piece)) => match submit(submitter, made, Event::Bytes(link, piece)) {
@@ -165,20 +169,39 @@ fn put_bytes<O: Output>(output: &mut O, bytes: &[u8]) -> Result<(), Failed>
     Ok(())
 }
 
+/// The bytes that the effect writes to a connection, if it writes.
+fn to_write(effect: &Effect) -> Option<&[u8]>
+    ensures { MatchOption result (write_of (shown effect.now) ≡ None) (λ bytes. write_of (shown effect.now) ≡ Some bytes.now) }
+{
+    match effect {
+        Effect::Write { link: _, bytes } => Some(bytes),
+        Effect::Connect { .. }
+        | Effect::Queued { .. }
+        | Effect::Retry { .. }
+        | Effect::Close { .. }
+        | Effect::Settled { .. }
+        | Effect::Ended { .. }
+        | Effect::Item { .. }
+        | Effect::Empty { .. }
+        | Effect::End { .. } => None,
+    }
+}
+
 /// Puts the bytes of each Write.
 fn put_effects<O: Output>(output: &mut O, effects: &[Effect]) -> Put
-    ensures { (rest : List ℕ) × Puts (O.taken output.old) (O.taken output.new) (O.faults output.old) (O.faults output.new) (bytes_in (map shown effects.now)) rest × PutEnds result (O.faults output.old) (O.faults output.new) rest }
+    ensures { (rest : List ℕ) × Puts (O.taken output.old) (O.taken output.new) (O.faults output.old) (O.faults output.new) (bytes_in (map shown effects.now)) rest × PutEnds result (map shown effects.now) (O.faults output.old) (O.faults output.new) rest }
 {
-    let mut put = Put::Nothing;
+    let mut any = false;
     for effect in effects {
-        if let Effect::Write { link: _, bytes } = effect {
-            match put_bytes(output, bytes) {
-                Ok(()) => put = Put::All,
+        match to_write(effect) {
+            Some(bytes) => match put_bytes(output, bytes) {
+                Ok(()) => any = true,
                 Err(_) => return Put::Failed,
-            }
+            },
+            None => {}
         }
     }
-    put
+    if any { Put::All } else { Put::Nothing }
 }
 
 /// Submits a Drain of 1 and puts the bytes of its Write, or submits Lost.
@@ -188,9 +211,11 @@ fn serve<S: Submitter, O: Output>(
     output: &mut O,
     made: &mut Vec<(Event, Receipt)>,
 ) -> Result<Option<PumpEnd>, NoMemory>
-    ensures { let s = end (map made_of made.old.items) (S.told submitter.old) (O.taken output.old) (O.faults output.old) in
+    ensures ran { let s = end (map made_of made.old.items) (S.told submitter.old) (O.taken output.old) (O.faults output.old) in
         let t = end (map made_of made.new.items) (S.told submitter.new) (O.taken output.new) (O.faults output.new) in
-        (rest : List ℕ) × RanOut link s t rest × Left result rest }
+        RoundOut link s t result }
+    ensures ended { IfOk result (λ r. says_ended r ≡ false) }
+    ensures shut { IfOk result (λ r. says_last r ≡ true → O.is_shut output.new ≡ true) }
 {
     match drain(submitter, link, output, made) {
         Ok(Put::Nothing) => Ok(Some(PumpEnd::Idle)),
@@ -213,9 +238,9 @@ fn drain<S: Submitter, O: Output>(
     output: &mut O,
     made: &mut Vec<(Event, Receipt)>,
 ) -> Result<Put, NoMemory>
-    ensures { let s = end (map made_of made.old.items) (S.told submitter.old) (O.taken output.old) (O.faults output.old) in
+    ensures ran { let s = end (map made_of made.old.items) (S.told submitter.old) (O.taken output.old) (O.faults output.old) in
         let t = end (map made_of made.new.items) (S.told submitter.new) (O.taken output.new) (O.faults output.new) in
-        (rest : List ℕ) × RanOut link s t rest × MatchResult result (λ p. PutEnds p s.faults t.faults rest) (λ _. rest ≡ []) }
+        Drained link s t result }
 {
     if made.reserve(1).is_err() {
         return Err(NoMemory);

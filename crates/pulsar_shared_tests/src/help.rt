@@ -41,3 +41,21 @@ fn push_event(events: &mut Vec<Event>, line: Line) -> Result<(), NoMemory> {
     }
     Ok(())
 }
+
+
+/// The bytes that these digits are.
+pub fn unhex(alloc: Global, digits: &str) -> Result<Vec<u8>, NoMemory> {
+    let mut bytes = Vec::new(alloc);
+    let mut high = None;
+    for digit in digits.chars() {
+        let digit = digit.to_digit(16).unwrap_or(0) as u8;
+        match high {
+            None => high = Some(digit),
+            Some(first) => {
+                bytes.push(first.wrapping_mul(16).wrapping_add(digit))?;
+                high = None;
+            }
+        }
+    }
+    Ok(bytes)
+}

@@ -1,0 +1,67 @@
+-- One more entry of a trace.
+use Rattle.std.proofs.Common.{◌≡◌, ◌∙◌, ◌+◌, ℕ, ap, sym, subst, arith, List, [], ◌∷◌, ◌++◌, length, map, reverse}
+use Rattle.std.proofs.lemmas.List.{reverse-append, drop-map, length-map}
+use Rattle.std.proofs.Math.Logic.{∥∥₁_map}
+use Rattle.std.specs.Prelude.{IfOk, Result, Ok, Err, Some, drop}
+use Rattle.std.specs.Global.{Vec}
+use Rattle.pulsar_calls.specs.declared.event.Event.{Event}
+use Rattle.pulsar_calls.specs.declared.effect.Effect.{Effect}
+use Rattle.pulsar_calls.specs.Content.{heard, shown}
+use Rattle.pulsar_wire.specs.declared.error.NoMemory.{NoMemory}
+use Rattle.pulsar_agenda.specs.Run.{Good, Step}
+use Rattle.pulsar_tables.specs.View.{Options}
+use Rattle.pulsar_machine.specs.Machine.{step}
+use Rattle.pulsar_pumps.specs.declared.submitter.Receipt.{Receipt}
+use Rattle.pulsar_pumps.specs.Made.{Made, made_by}
+use Rattle.pulsar_pumps.specs.Outside.{Grows}
+use Rattle.pulsar_shared.specs.Trace.{Legal, history, numbered, step_of, steps}
+
+same_step : (d e : Event) (x y : List Effect) → heard d ≡ heard e → map shown x ≡ map shown y → step d x ≡ step e y
+same_step d e x y p q = ap (λ t. record { event = t; effects = map shown x }) p ∙ ap (λ t. record { event = heard e; effects = t }) q
+
+pub steps_more : (xs : List (Event × Vec Effect)) (p : Event × Vec Effect) (e : Event) (x : List Effect) →
+    heard p.0 ≡ heard e → map shown p.1.items ≡ map shown x → steps (xs ++ p ∷ []) ≡ steps xs ++ step e x ∷ []
+steps_more [] p e x h t = ap (λ s. s ∷ []) (same_step p.0 e p.1.items x h t)
+steps_more (y ∷ ys) p e x h t = ap (λ s. step_of y ∷ s) (steps_more ys p e x h t)
+
+-- the trace with one more entry, whose content is that of this event and these effects
+pub entry_more : (xs ys : List (Event × Vec Effect)) (p : Event × Vec Effect) (e : Event) (x : List Effect) → ys ≡ xs ++ p ∷ [] → heard p.0 ≡ heard e → map shown p.1.items ≡ map shown x →
+    steps ys ≡ steps xs ++ step e x ∷ []
+entry_more xs ys p e x is h t = ap steps is ∙ steps_more xs p e x h t
+
+history_more : (xs ys : List (Event × Vec Effect)) (e : Event) (x : List Effect) → steps ys ≡ steps xs ++ step e x ∷ [] → history ys ≡ step e x ∷ history xs
+history_more xs ys e x is = ap reverse is ∙ reverse-append (steps xs) (step e x ∷ [])
+
+pub stands_more : {C : Type 0} (S : Options → C → List Step → Type 0) (o p : Options) (c d : C) (xs ys : List (Event × Vec Effect)) (e : Event) (x : List Effect) →
+    steps ys ≡ steps xs ++ step e x ∷ [] → p ≡ o → ((q : Options) (h : List Step) → S q c h → S q d (step e x ∷ h)) → ∥ S o c (history xs) ∥₁ → ∥ S p d (history ys) ∥₁
+stands_more S o p c d xs ys e x is same goes s =
+    let P : Options → Type 0 = λ q. S q d (history ys) in
+    let Q : List Step → Type 0 = λ hs. S o d hs in
+    ∥∥₁_map s (λ t. subst P (sym same) (subst Q (sym (history_more xs ys e x is)) (goes o (history xs) t)))
+
+-- what a client stands for is legal
+pub legal_of : {C : Type 0} (S : Options → C → List Step → Type 0) (legal : (o : Options) (c : C) (h : List Step) → S o c h → Good o h) (o : Options) (c : C) (h : List Step) → ∥ S o c h ∥₁ → ∥ Good o h ∥₁
+legal_of S legal o c h s = ∥∥₁_map s (λ t. legal o c h t)
+
+-- what is copied of a trace is the rest of a legal history
+pub since_legal : {E : Type 0} (o p : Options) (r : Result (Vec (Event × Vec Effect)) E) (xs : List (Event × Vec Effect)) (from : ℕ) → o ≡ p → ∥ Good o (history xs) ∥₁ →
+    IfOk r (λ v. steps v.items ≡ steps (drop from xs)) → IfOk r (λ v. (ss : List Step) × Legal p ss × (steps v.items ≡ drop from ss))
+since_legal o p (Ok v) xs from same good is =
+    let P : Options → Type 0 = λ q. ∥ Good q (history xs) ∥₁ in
+    (steps xs, subst P same good, is ∙ sym (drop-map step_of from xs))
+since_legal o p (Err e) xs from same good is = tt
+
+-- A LIST WITH ITS PLACES
+
+numbered_more : (n : ℕ) (ss : List Step) (s : Step) (k : ℕ) → k ≡ n + length ss → numbered n (ss ++ s ∷ []) ≡ numbered n ss ++ record { index = k; event = s.event; effects = s.effects } ∷ []
+numbered_more n [] s k e = ap (λ i. record { index = i; event = s.event; effects = s.effects } ∷ []) (let is : n ≡ k = omega (arith, e) in is)
+numbered_more n (x ∷ xs) s k e = ap (λ z. record { index = n; event = x.event; effects = x.effects } ∷ z) (numbered_more (n + 1) xs s k (omega (arith, e)))
+
+-- what a traced client tells
+pub told_more : (r : Result Receipt NoMemory) (e : Event) (old new : List (Event × Vec Effect)) → IfOk r (λ x. steps new ≡ steps old ++ step e x.effects.items ∷ []) → IfOk r (λ x. x.index ≡ length old) →
+    IfOk r (λ x. Grows (Some (numbered 0 (steps old))) (Some (numbered 0 (steps new))) (made_by e x ∷ []))
+told_more (Ok x) e old new entry index = λ xs is.
+  let same : numbered 0 (steps old) ≡ xs = cc in
+  let at : x.index ≡ 0 + length (steps old) = omega (arith, index, length-map old step_of) in
+  ap Some (ap (numbered 0) entry ∙ (numbered_more 0 (steps old) (step e x.effects.items) x.index at ∙ ap (λ z. z ++ made_by e x ∷ []) same))
+told_more (Err x) e old new entry index = tt

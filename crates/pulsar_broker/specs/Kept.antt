@@ -1,13 +1,16 @@
 -- For the code's contracts alone: the state of a broker, as the code keeps it.
-use Rattle.std.specs.Prelude.{◌≡◌, ◌==◌, ◌&&◌, ℕ, Bool, true, false, nat_lt, List, [], ◌∷◌, bytes_eq, length, map, Option, Some, None, string_bytes}
+use Rattle.std.specs.Prelude.{◌≡◌, ◌==◌, ◌&&◌, ℕ, Bool, true, false, nat_lt, List, [], ◌∷◌, ◌++◌, bytes_eq, length, map, Option, Some, None, string_bytes}
 use Rattle.std.specs.Global.{Vec}
 use Rattle.std.specs.declared.string.String.{String}
-use Rattle.std.specs.List.{list_any}
+use Rattle.std.specs.BTreeSet.{contains}
+use Rattle.std.specs.List.{flat_map, list_any}
+use Rattle.std.specs.List.Sorted.{IsStrictlySortedBy}
 use Rattle.std.specs.declared.alloc.Global.{Global}
 use Rattle.std.specs.BTreeMap.{BTreeMap, get, get_by_text}
 use Rattle.std.specs.Option.{option_map, option_copied}
 use Rattle.std.specs.Ordering.{nat_cmp, ordering_then}
 use Rattle.std.specs.declared.cmp.Ordering.{Ordering}
+use Rattle.pulsar_frame.specs.Message.{MessageValues}
 use Rattle.pulsar_frame.specs.Payload.{payload_values}
 use Rattle.pulsar_broker.specs.Asked as meaning
 use Rattle.pulsar_broker.specs.declared.asked.Asked.{Asked}
@@ -16,8 +19,9 @@ use Rattle.pulsar_broker.specs.declared.consumer.Consumer.{Consumer}
 use Rattle.pulsar_broker.specs.declared.outbox.Outbox.{Outbox}
 use Rattle.pulsar_broker.specs.declared.tables.Tables.{Tables}
 use Rattle.pulsar_broker.specs.declared.topic.Topic.{Topic}
+use Rattle.pulsar_broker.specs.History.{bytes_for}
 use Rattle.pulsar_broker.specs.State as state
-use Rattle.pulsar_broker.specs.State.{State, no_topic, passed}
+use Rattle.pulsar_broker.specs.State.{Served, State, Turn, no_topic, passed, serving_of, with_cursor}
 
 abbrev pub asked_in : Asked → meaning.Asked
 asked_in Connects = meaning.Connects
@@ -60,6 +64,18 @@ abbrev pub topic_of : Option Topic → state.Topic
 topic_of None = no_topic
 topic_of (Some t) = topic_in t
 
+-- a topic behind the serving of a consumer: where something is served, the cursor has passed it
+abbrev pub topic_passed : state.Consumer → (cursor : ℕ) → List MessageValues → state.Topic → state.Topic
+topic_passed c cursor [] t = t
+topic_passed c cursor (m ∷ ms) t = with_cursor c.subscription cursor t
+
+abbrev pub topic_behind : state.Consumer → Served → state.Topic → state.Topic
+topic_behind c served t = topic_passed c served.cursor served.messages t
+
+-- what a consumer is served of its topic
+abbrev pub serving_in : state.Consumer → (List ℕ → state.Topic) → Served
+serving_in c topics = serving_of c (topics c.topic)
+
 -- a producer or a consumer is found by its link and its number
 abbrev pub pair_cmp : ℕ × ℕ → ℕ × ℕ → Ordering
 pair_cmp a b = ordering_then (nat_cmp a.0 b.0) (nat_cmp a.1 b.1)
@@ -99,14 +115,15 @@ is_due_at (Some c) topics = is_due c (topics c.topic)
 abbrev pub is_due_in : State → (seat : ℕ) → Bool
 is_due_in s seat = is_due_at (s.consumers seat) s.topics
 
--- the seats that are listed of a topic
-abbrev pub listed_of : Option Topic → List ℕ
-listed_of None = []
-listed_of (Some t) = t.seats.keys
+-- a seat is listed of a topic
+abbrev pub has_seat : Option Topic → (seat : ℕ) → Bool
+has_seat None seat = false
+has_seat (Some t) seat = contains nat_cmp t.seats seat
 
-abbrev pub listed_in : BTreeMap (String Global) Topic → List ℕ → List ℕ
-listed_in topics name = listed_of (get_by_text topics name)
+abbrev pub lists : BTreeMap (String Global) Topic → (name : List ℕ) (seat : ℕ) → Bool
+lists topics name seat = has_seat (get_by_text topics name) seat
 
+-- a seat is one of these
 abbrev pub is_listed : ℕ → List ℕ → Bool
 is_listed seat seats = list_any (λ k. k == seat) seats
 
@@ -114,8 +131,25 @@ abbrev pub is_on : List ℕ → Option state.Consumer → Bool
 is_on name None = false
 is_on name (Some c) = bytes_eq c.topic name
 
--- Nobody is due; a topic lists the seats of its consumers, and no others; and no seat is in use that was not taken.
+-- A topic lists the seats of its consumers, and no others; and no seat is in use that was not taken.
+pub record AreListed (lists : (name : List ℕ) (seat : ℕ) → Bool) (s : State) : Type 0 where
+  pub listed : (name : List ℕ) (seat : ℕ) → lists name seat ≡ is_on name (s.consumers seat)
+  pub seated : (seat : ℕ) → nat_lt seat s.seats ≡ false → s.consumers seat ≡ None
+
+-- nobody is due but who has one of these seats, which stand in order and are taken
+pub record AreDue (due : List ℕ) (s : State) : Type 0 where
+  pub others : (seat : ℕ) → is_listed seat due ≡ false → is_due_in s seat ≡ false
+  pub ordered : IsStrictlySortedBy nat_cmp due
+  pub taken : (seat : ℕ) → is_listed seat due ≡ true → nat_lt seat s.seats ≡ true
+
+-- nobody is due, and the lists are right
 pub record IsKept (t : Tables) : Type 0 where
   pub served : (seat : ℕ) → is_due_in (state_in t) seat ≡ false
-  pub listed : (seat : ℕ) (name : List ℕ) → is_listed seat (listed_in t.topics name) ≡ is_on name (consumers_in t.consumers seat)
-  pub seated : (seat : ℕ) → nat_lt seat t.seats ≡ false → consumers_in t.consumers seat ≡ None
+  pub listed : AreListed (lists t.topics) (state_in t)
+
+-- A frame was answered so. Nobody is due then but who has one of these seats.
+pub record IsAnswered (turn : Turn) (old new : Tables) (before after : Outbox) (seats : List ℕ) : Type 0 where
+  pub state : state_in new ≡ turn.state
+  pub given : (l : ℕ) → owed_on after l ≡ owed_on before l ++ flat_map (bytes_for l) turn.given
+  pub due : IsKept old → AreDue seats (state_in new)
+  pub listed : IsKept old → AreListed (lists new.topics) (state_in new)

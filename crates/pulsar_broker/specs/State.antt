@@ -115,10 +115,13 @@ abbrev pub joining : (link number : ℕ) (topic subscription : List ℕ) → Con
 joining link number topic subscription =
     record { link = link; number = number; topic = topic; subscription = subscription; granted = 0; spent = 0 }
 
+abbrev pub joined : (link number : ℕ) (topic subscription : List ℕ) → Option ℤ → State → State
+joined link number topic subscription position s =
+    seated (joining link number topic subscription) (with_topic topic (opened subscription position (s.topics topic)) s)
+
 abbrev pub subscribed : (link number : ℕ) (topic subscription : List ℕ) → Option ℤ → State → State
 subscribed link number topic subscription position s =
-    let left = closed link number s in
-    seated (joining link number topic subscription) (with_topic topic (opened subscription position (left.topics topic)) left)
+    joined link number topic subscription position (closed link number s)
 
 -- SENDING AND GRANTING
 

@@ -99,7 +99,7 @@ impl Consumer {
         let Some(spent) = self.spent.checked_add(weight(message)) else {
             return Err(NoMemory);
         };
-        out.post(self.link, &delivery(alloc, self.number, place, message)?)?;
+        out.post(self.link, delivery(alloc, self.number, place, message)?)?;
         self.spent = spent;
         Ok(())
     }

@@ -6,8 +6,10 @@ mod answers;
 mod asked;
 pub mod broker;
 mod consumer;
+mod keys;
 mod outbox;
 mod tables;
 mod topic;
+mod topics;
 
 pub use broker::Broker;

@@ -30,13 +30,12 @@ impl Outbox {
     }
 
     /// One more frame is owed to a link. A message too large for a frame is want of memory.
-    pub fn post(&mut self, link: u64, message: &Message) -> Result<(), NoMemory>
-        ensures { OnOk result ((l : ℕ) → owed_on self.new l ≡ owed_on self.old l ++ bytes_for l (owed_to link (message_values message.now))) }
+    pub fn post(&mut self, link: u64, message: Message) -> Result<(), NoMemory>
+        ensures { OnOk result ((l : ℕ) → owed_on self.new l ≡ owed_on self.old l ++ bytes_for l (owed_to link (message_values message))) }
     {
-        let Ok(frame) = message.to_frame(self.alloc) else {
-            return Err(NoMemory);
-        };
-        self.push(link, frame)
+        let frame = frame_of(self.alloc, message)?;
+        self.push(link, frame)?;
+        Ok(())
     }
 
     fn push(&mut self, link: u64, frame: Vec<u8>) -> Result<(), NoMemory>
@@ -58,5 +57,15 @@ impl Outbox {
             Some(owed) => owed,
             None => Vec::new(self.alloc),
         }
+    }
+}
+
+/// The frame of a message.
+fn frame_of(alloc: Global, message: Message) -> Result<Vec<u8>, NoMemory>
+    ensures { IfOk result (λ frame. frame.items ≡ frame_bytes (message_values message)) }
+{
+    match message.to_frame(alloc) {
+        Ok(frame) => Ok(frame),
+        Err(_) => Err(NoMemory),
     }
 }

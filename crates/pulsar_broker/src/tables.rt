@@ -1,16 +1,24 @@
 //! What a broker keeps: producers, consumers and topics.
 
-ghost use Rattle.std.specs.Prelude.{◌≡◌, ◌++◌, ℕ, [], IfOk, OnOk, string_bytes, None, Some};
+ghost use Rattle.std.specs.Prelude.{◌≡◌, ◌==◌, ◌&&◌, ◌||◌, ◌++◌, ℕ, List, [], Option, bytes_eq, IfOk, OnOk, None, Some};
 ghost use Rattle.std.specs.List.{flat_map};
+ghost use Rattle.std.specs.Option.{option_copied, option_map};
+ghost use Rattle.pulsar_frame.specs.Payload.{PayloadValues, payload_values};
+ghost use Rattle.pulsar_frame.specs.Shown.{message_values};
+ghost use Rattle.pulsar_broker.specs.Asked.{ClosesConsumer, ClosesProducer, Grants, MakesProducer, Subscribes};
 ghost use Rattle.pulsar_broker.specs.History.{bytes_for};
-ghost use Rattle.pulsar_broker.specs.Kept.{state_in, owed_on};
+ghost use Rattle.pulsar_broker.specs.Kept.{IsAnswered, IsKept, asked_in, lists, owed_on, state_in};
 ghost use Rattle.pulsar_broker.specs.State as meaning;
+ghost use Rattle.pulsar_broker.specs.declared.outbox.Outbox.{Outbox};
+ghost use Rattle.pulsar_broker.specs.State.{answer, answer_send, closed, fresh, joined, serve_all, to, turn};
 
 use crate::answers;
 use crate::asked::{self, Asked};
 use crate::consumer::Consumer;
+use crate::keys::{drop_producer, drop_seat, seat_at, set_producer, set_seat, topic_at};
 use crate::outbox::Outbox;
 use crate::topic::Topic;
+use crate::topics::{list_in, serve_of, store_in, unlist_in};
 use pulsar_frame::{Message, Payload};
 use pulsar_wire::NoMemory;
 use std::alloc::Global;
@@ -32,7 +40,10 @@ pub struct Tables {
 }
 
 impl Tables {
-    pub fn new(alloc: Global) -> Tables {
+    pub fn new(alloc: Global) -> Tables
+        ensures state { state_in result ≡ fresh }
+        ensures kept { IsKept result }
+    {
         Tables {
             alloc,
             producers: BTreeMap::new(alloc),
@@ -50,13 +61,18 @@ impl Tables {
         link: u64,
         message: Message,
         out: &mut Outbox,
-    ) -> Result<(), NoMemory> {
+    ) -> Result<(), NoMemory>
+        ensures after { OnOk result (IsKept self.old → state_in self.new ≡ (turn url.now link (message_values message) (state_in self.old)).state) }
+        ensures given { OnOk result (IsKept self.old → (l : ℕ) → owed_on out.new l ≡ owed_on out.old l ++ flat_map (bytes_for l) (turn url.now link (message_values message) (state_in self.old)).given) }
+        ensures kept { OnOk result (IsKept self.old → IsKept self.new) }
+    {
         let Message { command, payload } = message;
         let due = self.answer(url, link, asked::read(&command.body), payload, out)?;
-        self.serve_each(&due, out)
+        self.serve_each(&due, out)?;
+        Ok(())
     }
 
-    /// What is asked on a link is answered: the seats of all consumers for which something may be there now.
+    /// What is asked on a link is answered. The answer is the seats of all consumers for which something may be there now.
     fn answer(
         &mut self,
         url: &str,
@@ -64,27 +80,26 @@ impl Tables {
         asked: Asked<'_>,
         payload: Option<Payload>,
         out: &mut Outbox,
-    ) -> Result<Vec<u64>, NoMemory> {
+    ) -> Result<Vec<u64>, NoMemory>
+        ensures { IfOk result (λ due. IsAnswered (answer url.now link (option_map payload_values payload) (asked_in asked.entry) (state_in self.old)) self.old self.new out.old out.new due.items) }
+    {
         match asked {
-            Asked::Sends { producer, sequence } => {
-                return self.send(link, producer, sequence, payload, out);
+            Asked::Connects => self.say(link, answers::greeting(self.alloc), out),
+            Asked::Pings => self.say(link, answers::ponged(), out),
+            Asked::CountsPartitions { request } => {
+                self.say(link, answers::not_partitioned(request), out)
             }
-            Asked::Grants { consumer, permits } => return self.grant(link, consumer, permits),
+            Asked::LooksUp { request } => {
+                self.say(link, answers::found_here(self.alloc, url, request)?, out)
+            }
             Asked::MakesProducer {
                 topic,
                 producer,
                 request,
                 name,
-            } => {
-                self.make_producer(link, producer, topic)?;
-                out.post(
-                    link,
-                    &answers::producer_made(self.alloc, producer, request, name)?,
-                )?;
-            }
-            Asked::ClosesProducer { producer, request } => {
-                drop(self.producers.remove(&(link, producer)));
-                out.post(link, &answers::succeeded(request))?;
+            } => self.make_producer(link, topic, producer, request, name, out),
+            Asked::Sends { producer, sequence } => {
+                self.send(link, producer, sequence, payload, out)
             }
             Asked::Subscribes {
                 topic,
@@ -92,38 +107,65 @@ impl Tables {
                 consumer,
                 request,
                 position,
-            } => {
-                self.subscribe(link, consumer, topic, subscription, position)?;
-                out.post(link, &answers::succeeded(request))?;
+            } => self.subscribe(link, topic, subscription, consumer, request, position, out),
+            Asked::Grants { consumer, permits } => self.grant(link, consumer, permits),
+            Asked::Acknowledges => Ok(Vec::new(self.alloc)),
+            Asked::ClosesProducer { producer, request } => {
+                self.close_producer(link, producer, request, out)
             }
             Asked::ClosesConsumer { consumer, request } => {
-                self.close(link, consumer);
-                out.post(link, &answers::succeeded(request))?;
-            }
-            Asked::Connects => out.post(link, &answers::greeting(self.alloc))?,
-            Asked::Pings => out.post(link, &answers::ponged())?,
-            Asked::CountsPartitions { request } => {
-                out.post(link, &answers::not_partitioned(request))?;
-            }
-            Asked::LooksUp { request } => {
-                out.post(link, &answers::found_here(self.alloc, url, request)?)?;
+                self.close_consumer(link, consumer, request, out)
             }
             Asked::AsksElse { request } => {
-                out.post(link, &answers::unsupported(self.alloc, request)?)?;
+                self.say(link, answers::unsupported(self.alloc, request)?, out)
             }
-            Asked::Acknowledges | Asked::SaysElse => {}
+            Asked::SaysElse => Ok(Vec::new(self.alloc)),
         }
+    }
+
+    /// An answer that changes nothing.
+    fn say(&self, link: u64, message: Message, out: &mut Outbox) -> Result<Vec<u64>, NoMemory>
+        ensures { IfOk result (λ due. IsAnswered (record { state = state_in self.now; given = to link (message_values message) }) self.now self.now out.old out.new due.items) }
+    {
+        out.post(link, message)?;
         Ok(Vec::new(self.alloc))
     }
 
     /// A producer is made under a number; one that had it is gone.
-    fn make_producer(&mut self, link: u64, number: u64, topic: &str) -> Result<(), NoMemory> {
+    fn make_producer(
+        &mut self,
+        link: u64,
+        topic: &str,
+        producer: u64,
+        request: u64,
+        name: Option<&str>,
+        out: &mut Outbox,
+    ) -> Result<Vec<u64>, NoMemory>
+        ensures { IfOk result (λ due. (url : List ℕ) (payload : Option PayloadValues) → IsAnswered (answer url link payload (MakesProducer topic.now producer request (option_copied name.entry)) (state_in self.old)) self.old self.new out.old out.new due.items) }
+    {
         let topic = String::from_str(self.alloc, topic)?;
-        drop(self.producers.insert((link, number), topic)?);
-        Ok(())
+        set_producer(&mut self.producers, link, producer, topic)?;
+        let answer = answers::producer_made(self.alloc, producer, request, name)?;
+        out.post(link, answer)?;
+        Ok(Vec::new(self.alloc))
     }
 
-    /// A message of a producer is stored: the seats of the topic's consumers.
+    /// A producer is closed, if there is one.
+    fn close_producer(
+        &mut self,
+        link: u64,
+        producer: u64,
+        request: u64,
+        out: &mut Outbox,
+    ) -> Result<Vec<u64>, NoMemory>
+        ensures { IfOk result (λ due. (url : List ℕ) (payload : Option PayloadValues) → IsAnswered (answer url link payload (ClosesProducer producer request) (state_in self.old)) self.old self.new out.old out.new due.items) }
+    {
+        drop_producer(&mut self.producers, link, producer);
+        out.post(link, answers::succeeded(request))?;
+        Ok(Vec::new(self.alloc))
+    }
+
+    /// A message of a producer is stored: something may be there for the consumers of its topic.
     fn send(
         &mut self,
         link: u64,
@@ -131,75 +173,124 @@ impl Tables {
         sequence: u64,
         payload: Option<Payload>,
         out: &mut Outbox,
-    ) -> Result<Vec<u64>, NoMemory> {
+    ) -> Result<Vec<u64>, NoMemory>
+        ensures { IfOk result (λ due. IsAnswered (answer_send link producer sequence (option_map payload_values payload) ((state_in self.old).producers link producer) (state_in self.old)) self.old self.new out.old out.new due.items) }
+    {
         let Some(payload) = payload else {
             return Ok(Vec::new(self.alloc));
         };
-        let Some(name) = self.producers.get(&(link, producer)) else {
+        let Some(topic) = topic_at(&self.producers, link, producer) else {
             return Ok(Vec::new(self.alloc));
         };
-        let topic = topic_at(self.alloc, &mut self.topics, name)?;
-        let place = topic.store(payload)?;
-        let seats = topic.seats.iter().copied().collect(self.alloc)?;
+        let (place, seats) = store_in(self.alloc, &mut self.topics, topic, payload)?;
         out.post(
             link,
-            &answers::receipt(self.alloc, producer, sequence, place),
+            answers::receipt(self.alloc, producer, sequence, place),
         )?;
         Ok(seats)
     }
 
-    /// A consumer is granted permits: its seat, if there is one.
-    fn grant(&mut self, link: u64, number: u64, permits: u32) -> Result<Vec<u64>, NoMemory> {
+    /// A consumer is granted permits: something may be there for it.
+    fn grant(&mut self, link: u64, number: u64, permits: u32) -> Result<Vec<u64>, NoMemory>
+        ensures { IfOk result (λ due. (url : List ℕ) (payload : Option PayloadValues) (out : Outbox) → IsAnswered (answer url link payload (Grants number permits) (state_in self.old)) self.old self.new out out due.items) }
+    {
         let mut due = Vec::new(self.alloc);
-        let Some(seat) = self.seat_of.get(&(link, number)) else {
+        let Some(seat) = seat_at(&self.seat_of, link, number) else {
             return Ok(due);
         };
-        if let Some(consumer) = self.consumers.get_mut(seat) {
-            consumer.grant(permits)?;
-            due.push(*seat)?;
-        }
+        let Some(consumer) = self.consumers.get_mut(&seat) else {
+            return Ok(due);
+        };
+        consumer.grant(permits)?;
+        due.push(seat)?;
         Ok(due)
     }
 
-    /// A consumer takes the next seat; one that had its number leaves.
+    /// A consumer subscribes; one that had its number is closed.
     fn subscribe(
+        &mut self,
+        link: u64,
+        topic: &str,
+        subscription: &str,
+        number: u64,
+        request: u64,
+        position: Option<i32>,
+        out: &mut Outbox,
+    ) -> Result<Vec<u64>, NoMemory>
+        ensures { IfOk result (λ due. (url : List ℕ) (payload : Option PayloadValues) → IsAnswered (answer url link payload (Subscribes topic.now subscription.now number request position) (state_in self.old)) self.old self.new out.old out.new due.items) }
+    {
+        self.close(link, number);
+        self.seat(link, number, topic, subscription, position)?;
+        out.post(link, answers::succeeded(request))?;
+        Ok(Vec::new(self.alloc))
+    }
+
+    /// A consumer is closed, if there is one.
+    fn close_consumer(
+        &mut self,
+        link: u64,
+        number: u64,
+        request: u64,
+        out: &mut Outbox,
+    ) -> Result<Vec<u64>, NoMemory>
+        ensures { IfOk result (λ due. (url : List ℕ) (payload : Option PayloadValues) → IsAnswered (answer url link payload (ClosesConsumer number request) (state_in self.old)) self.old self.new out.old out.new due.items) }
+    {
+        self.close(link, number);
+        out.post(link, answers::succeeded(request))?;
+        Ok(Vec::new(self.alloc))
+    }
+
+    /// The consumer that a link has under a number leaves, if there is one. It takes no memory.
+    fn close(&mut self, link: u64, number: u64)
+        ensures after { state_in self.new ≡ closed link number (state_in self.old) }
+        ensures kept { IsKept self.old → IsKept self.new }
+    {
+        let Some(seat) = drop_seat(&mut self.seat_of, link, number) else {
+            return;
+        };
+        let Some(consumer) = self.consumers.remove(&seat) else {
+            return;
+        };
+        unlist_in(&mut self.topics, consumer.topic.as_str(), seat);
+    }
+
+    /// A consumer takes the next seat.
+    fn seat(
         &mut self,
         link: u64,
         number: u64,
         topic: &str,
         subscription: &str,
         position: Option<i32>,
-    ) -> Result<(), NoMemory> {
-        self.close(link, number);
+    ) -> Result<(), NoMemory>
+        ensures after { OnOk result (state_in self.new ≡ joined link number topic.now subscription.now position (state_in self.old)) }
+        ensures listed { OnOk result ((name : List ℕ) (k : ℕ) → lists self.new.topics name k ≡ (lists self.old.topics name k || (bytes_eq topic.now name && (k == self.old.seats)))) }
+    {
         let seat = self.seats;
         let Some(seats) = seat.checked_add(1) else {
             return Err(NoMemory);
         };
         let consumer = Consumer::new(self.alloc, link, number, topic, subscription)?;
-        let topic = topic_at(self.alloc, &mut self.topics, topic)?;
-        topic.open(self.alloc, subscription, position)?;
-        topic.seats.insert(seat)?;
+        list_in(
+            self.alloc,
+            &mut self.topics,
+            topic,
+            subscription,
+            position,
+            seat,
+        )?;
         drop(self.consumers.insert(seat, consumer)?);
-        drop(self.seat_of.insert((link, number), seat)?);
+        set_seat(&mut self.seat_of, link, number, seat)?;
         self.seats = seats;
         Ok(())
     }
 
-    /// The consumer that a link has under a number leaves, if there is one. It takes no memory.
-    fn close(&mut self, link: u64, number: u64) {
-        let Some(seat) = self.seat_of.remove(&(link, number)) else {
-            return;
-        };
-        let Some(consumer) = self.consumers.remove(&seat) else {
-            return;
-        };
-        if let Some(topic) = self.topics.get_mut(consumer.topic.as_str()) {
-            let _ = topic.seats.remove(&seat);
-        }
-    }
-
     /// The consumers of these seats are served, one after the other.
-    fn serve_each(&mut self, seats: &[u64], out: &mut Outbox) -> Result<(), NoMemory> {
+    fn serve_each(&mut self, seats: &[u64], out: &mut Outbox) -> Result<(), NoMemory>
+        ensures after { OnOk result (state_in self.new ≡ (serve_all seats.now (state_in self.old)).state) }
+        ensures given { OnOk result ((l : ℕ) → owed_on out.new l ≡ owed_on out.old l ++ flat_map (bytes_for l) (serve_all seats.now (state_in self.old)).given) }
+        ensures listed { OnOk result ((name : List ℕ) (k : ℕ) → lists self.new.topics name k ≡ lists self.old.topics name k) }
+    {
         for seat in seats {
             self.serve(*seat, out)?;
         }
@@ -207,28 +298,15 @@ impl Tables {
     }
 
     /// The consumer of a seat is served.
-    fn serve(&mut self, seat: u64, out: &mut Outbox) -> Result<(), NoMemory> {
+    fn serve(&mut self, seat: u64, out: &mut Outbox) -> Result<(), NoMemory>
+        ensures after { OnOk result (state_in self.new ≡ (meaning.serve seat (state_in self.old)).state) }
+        ensures given { OnOk result ((l : ℕ) → owed_on out.new l ≡ owed_on out.old l ++ flat_map (bytes_for l) (meaning.serve seat (state_in self.old)).given) }
+        ensures listed { OnOk result ((name : List ℕ) (k : ℕ) → lists self.new.topics name k ≡ lists self.old.topics name k) }
+    {
         let Some(consumer) = self.consumers.get_mut(&seat) else {
             return Ok(());
         };
-        let Some(topic) = self.topics.get_mut(consumer.topic.as_str()) else {
-            return Ok(());
-        };
-        topic.serve(self.alloc, consumer, out)
-    }
-}
-
-/// The topic of this name, which is made where it is not there.
-fn topic_at<'a>(
-    alloc: Global,
-    topics: &'a mut BTreeMap<String, Topic>,
-    name: &str,
-) -> Result<&'a mut Topic, NoMemory> {
-    if !topics.contains_key(name) {
-        drop(topics.insert(String::from_str(alloc, name)?, Topic::new(alloc))?);
-    }
-    match topics.get_mut(name) {
-        Some(topic) => Ok(topic),
-        None => Err(NoMemory),
+        serve_of(self.alloc, &mut self.topics, consumer, out)?;
+        Ok(())
     }
 }

@@ -1,0 +1,5 @@
+pub mod Serving
+pub mod Turns
+pub mod SetKeys
+pub mod Due
+pub mod Answering

@@ -9,7 +9,7 @@ use Rattle.pulsar_pumps.specs.Outside.{Rose}
 
 -- What is seen of a link that was opened: its number; what its input has given, and its output has taken, where they tell that; and how many
 -- faults each has counted.
-pub record Link : Type 0 where
+pub record LinkSeen : Type 0 where
   pub number : ℕ
   pub given : Option (List ℕ)
   pub input_faults : ℕ
@@ -66,18 +66,18 @@ is_used l h = list_any (λ s. uses l s.event) h
 
 -- The bytes that came on a link are what its input has given, where that is told. What its output has taken is the bytes that were written to
 -- it, where that is told, or a front of them where it has had a fault. It was lost only where one of its halves has had a fault.
-pub record Carries (h : List Step) (l : Link) : Type 0 where
+pub record Carries (h : List Step) (l : LinkSeen) : Type 0 where
   pub heard : (bytes : List ℕ) → l.given ≡ Some bytes → heard_on l.number h ≡ bytes
   pub written : (bytes : List ℕ) → l.taken ≡ Some bytes
       → (rest : List ℕ) × (written_on l.number h ≡ bytes ++ rest) × ((rest ≡ []) ⊎ Rose 0 l.output_faults)
   pub lost : has_lost l.number h ≡ true → Rose 0 l.input_faults ⊎ Rose 0 l.output_faults
 
 -- it is one of these links
-abbrev pub is_one_of : List Link → (link : ℕ) → Bool
+abbrev pub is_one_of : List LinkSeen → (link : ℕ) → Bool
 is_one_of ls l = list_any (λ k. k.number == l) ls
 
 -- these are the links that were opened
-pub record AreLinks (h : List Step) (ls : List Link) : Type 0 where
+pub record AreLinks (h : List Step) (ls : List LinkSeen) : Type 0 where
   pub all : AllByRecursion (Carries h) ls
   pub others : (l : ℕ) → is_used l h ≡ true → is_one_of ls l ≡ true
 

@@ -1,6 +1,8 @@
 -- What is seen of a source and of a sink.
-use Rattle.std.specs.Prelude.{◌≡◌, ◌≤◌, ℕ, List, ◌++◌, length, drop, Option, Some}
+use Rattle.std.specs.Prelude.{◌≡◌, ◌≤◌, ◌<◌, ℕ, List, [], ◌++◌, length, drop, Option, Some}
 use Rattle.pulsar_client.specs.Outside.{Rose}
+use Rattle.pulsar_job.specs.declared.status.Stop.{Stop}
+use Rattle.pulsar_job.specs.declared.status.Stop.TheVariants as stop
 
 -- the most bytes that a source may have
 abbrev pub limit : ℕ
@@ -42,3 +44,24 @@ pub record AddsFront (old new : Option (List ℕ)) (t : List ℕ) : Type 0 where
   pub back : List ℕ
   pub whole : t ≡ front ++ back
   pub adds : Adds old new front
+
+-- FOR THE CODE'S CONTRACTS ALONE
+
+-- these bytes were taken of a source's content
+abbrev pub Gave : Option (List ℕ) → Option (List ℕ) → List ℕ → Type 0
+Gave old new bytes = (all : List ℕ) → old ≡ Some all → (rest : List ℕ) × (all ≡ bytes ++ rest) × (new ≡ Some rest)
+
+-- a source has come to its end
+abbrev pub IsAtEnd : Option (List ℕ) → Option (List ℕ) → Type 0
+IsAtEnd old new = (all : List ℕ) → old ≡ Some all → new ≡ Some []
+
+-- why the reading of a source stopped, with the bytes that were taken
+abbrev pub StopsBy : Stop → (old new : ℕ) → (count : ℕ) → Type 0
+StopsBy stop.NoMemory old new n = n ≤ limit
+StopsBy stop.Source old new n = Rose old new × (n ≤ limit)
+StopsBy stop.TooLong old new n = limit < n
+
+pub record Stopped (s : Stop) (source : Seen) : Type 0 where
+  pub bytes : List ℕ
+  pub gave : Gave source.before source.after bytes
+  pub why : StopsBy s source.faults_before source.faults_after (length bytes)

@@ -9,7 +9,7 @@ use Rattle.pulsar_work.specs.Form.{Asking, Produce, Consume, form_of, lines_of, 
 use Rattle.pulsar_job.specs.Outside.{Adds, AddsFront, Given, HasFault, Seen, limit}
 use Rattle.pulsar_work.specs.Report.{report}
 use Rattle.pulsar_work.specs.Calls.{Work, Sends, Takes, IsDone, HasFailed}
-use Rattle.pulsar_job.specs.Links.{Link, AreLinks, DialsInTime, TicksWithin, failures_in}
+use Rattle.pulsar_job.specs.Links.{LinkSeen, AreLinks, DialsInTime, TicksWithin, failures_in}
 
 -- What is seen of an edge: how many dials have failed with each kind, before and after; the first moment that it has told, before and after,
 -- and the greatest.
@@ -32,7 +32,7 @@ IsMadeAt edge now = edge.first_before ≡ None → edge.first_after ≡ Some now
 -- The trace of a run. It is a good run of the client for the address among the words. Each link was dialed in time, and carried just what its
 -- halves gave and took. No more dials are told to have failed than the edge has counted, unless the count stands at its end, and no tick is
 -- behind the edge's greatest moment.
-pub record Drove (a : Asking) (policies : List Policy) (edge : EdgeSeen) (links : List Link) (o : Options) (h : List Step) : Type 0 where
+pub record Drove (a : Asking) (policies : List Policy) (edge : EdgeSeen) (links : List LinkSeen) (o : Options) (h : List Step) : Type 0 where
   pub now : ℕ
   pub made : IsMadeAt edge now
   pub options : o ≡ options_for (url_of a) now policies
@@ -63,7 +63,7 @@ ReadToItsEnd (Consume url topic subscription n) count bytes = Unit {0}
 
 -- How a run went for what the words ask. With status 4 the source has had a fault, with status 5 the sink, and with status 6 and no other one
 -- more bytes than the limit were taken. Where a trace is there the source of `produce` was read to its end.
-pub record Went (a : Asking) (policies : List Policy) (status : ℕ) (source sink : Seen) (edge : EdgeSeen) (links : List Link)
+pub record Went (a : Asking) (policies : List Policy) (status : ℕ) (source sink : Seen) (edge : EdgeSeen) (links : List LinkSeen)
     (trace : Option (Options × List Step)) : Type 0 where
   pub given : Given source
   pub source_failed : status ≡ 4 → HasFault source

@@ -2,6 +2,7 @@
 #![tactic(auto)]
 
 pub mod job;
+pub mod kept;
 pub mod links;
 pub mod reading;
 pub mod status;

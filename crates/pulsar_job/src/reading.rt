@@ -1,5 +1,9 @@
 //! The lines of a source.
 
+ghost use Rattle.std.specs.Prelude.{◌≡◌, ◌≤◌, IfErr, IfOk, OnOk, length, map};
+ghost use Rattle.pulsar_job.specs.Outside.{Gave, IsAtEnd, Stopped, limit, seen};
+ghost use Rattle.pulsar_work.specs.Form.{lines_of};
+
 use crate::status::Stop;
 use pulsar_client::Source;
 use pulsar_script::grammar::word::cut_line;
@@ -7,43 +11,46 @@ use pulsar_wire::NoMemory;
 use std::alloc::Global;
 
 /// The most bytes that a source may have.
-pub const LIMIT: u64 = 268_435_456;
+const LIMIT: u64 = 268_435_456;
 
 /// How many bytes are taken from the source at a time.
 const PIECE: usize = 65_536;
 
 /// All bytes of a source.
-pub fn read_all<S: Source>(alloc: Global, source: &mut S) -> Result<Vec<u8>, Stop> {
+pub fn read_all<S: Source>(alloc: Global, source: &mut S) -> Result<Vec<u8>, Stop>
+    ensures gave { IfOk result (λ v. Gave (S.left source.old) (S.left source.new) v.items) }
+    ensures end { OnOk result (IsAtEnd (S.left source.old) (S.left source.new)) }
+    ensures within { IfOk result (λ v. length v.items ≤ limit) }
+    ensures stopped { IfErr result (λ stop. Stopped stop (seen S.left S.faults source.old source.new)) }
+    ensures faults { S.faults source.old ≤ S.faults source.new }
+{
     let Ok(mut piece) = vec![in alloc; 0u8; PIECE] else {
         return Err(Stop::NoMemory);
     };
     let mut bytes = Vec::new(alloc);
     let mut left = LIMIT;
-    while let Some(n) = take(source, &mut piece, left)? {
-        left -= n as u64;
+    for _ in 0..u64::MAX {
+        let Ok(n) = source.take(&mut piece) else {
+            return Err(Stop::Source);
+        };
+        if n == 0 {
+            return Ok(bytes);
+        }
+        let Some(rest) = left.checked_sub(n as u64) else {
+            return Err(Stop::TooLong);
+        };
+        left = rest;
         let Ok(()) = bytes.extend_from_slice(&piece[..n]) else {
             return Err(Stop::NoMemory);
         };
     }
-    Ok(bytes)
-}
-
-/// One piece, of a source of which so many bytes may still be taken. None is there where the source has ended.
-fn take<S: Source>(source: &mut S, piece: &mut [u8], left: u64) -> Result<Option<usize>, Stop> {
-    let Ok(n) = source.take(piece) else {
-        return Err(Stop::Source);
-    };
-    if n as u64 > left {
-        return Err(Stop::TooLong);
-    }
-    if n == 0 {
-        return Ok(None);
-    }
-    Ok(Some(n))
+    Err(Stop::NoMemory)
 }
 
 /// The lines of these bytes. The last one may lack its line feed.
-pub fn lines(alloc: Global, bytes: &[u8]) -> Result<Vec<Vec<u8>>, NoMemory> {
+pub fn lines(alloc: Global, bytes: &[u8]) -> Result<Vec<Vec<u8>>, NoMemory>
+    ensures { IfOk result (λ ls. map (λ l. l.items) ls.items ≡ lines_of bytes.now) }
+{
     let mut lines = Vec::new(alloc);
     let mut rest = bytes;
     while let Some((line, after)) = cut_line(rest) {

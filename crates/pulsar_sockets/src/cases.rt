@@ -73,7 +73,8 @@ fn lines(alloc: Global, count: u64) -> Result<Vec<u8>, AllocError> {
 fn consumed(alloc: Global, count: u64) -> Result<Vec<u8>, AllocError> {
     let mut text = b"%".to_vec(alloc)?;
     text.extend_from_slice(&lines(alloc, count)?)?;
-    write!(text, "done {count}\n").map_err(|_| AllocError)?;
+    let end = format!(in alloc; "done {count}\n")?;
+    text.extend_from_slice(end.as_bytes())?;
     Ok(text)
 }
 
@@ -155,7 +156,8 @@ fn numbered(alloc: Global, from: u64) -> Result<Vec<u8>, AllocError> {
     let mut text = Vec::new(alloc);
     for i in 0..EACH {
         let n = from + i;
-        write!(text, "{n}\n").map_err(|_| AllocError)?;
+        let line = format!(in alloc; "{n}\n")?;
+        text.extend_from_slice(line.as_bytes())?;
     }
     Ok(text)
 }

@@ -1,13 +1,16 @@
 //! The top call: the words of the command line, and a script's run.
 
-ghost use Rattle.std.specs.Prelude.{◌≡◌, ◌<◌, ◌++◌, ◌≤◌, ◌↔◌, ◌⊎◌, false, true, [], ℕ, List, Option, Ok, Err, None, MatchOption, MatchResult, OnErr, OnOk, IfErr, IfOk, IfSome, map, string_bytes};
+ghost use Rattle.std.specs.Prelude.{◌≡◌, ◌<◌, ◌++◌, ◌≤◌, ◌↔◌, ◌⊎◌, false, true, [], ℕ, List, Option, Ok, Err, None, Some, MatchOption, MatchResult, OnErr, OnOk, IfErr, IfOk, IfSome, map, string_bytes};
 ghost use Rattle.pulsar_client.specs.Client.{StandsFor};
 ghost use Rattle.pulsar_calls.specs.Content.{heard};
 ghost use Rattle.pulsar_client.specs.Outside.{Rose};
 ghost use Rattle.pulsar_agenda.specs.Run.{Step};
 ghost use Rattle.pulsar_tables.specs.View.{Options};
 ghost use Rattle.pulsar_producer.specs.Routing.{Policy};
-ghost use Rattle.pulsar_cli.specs.Script.{Adds, AddsFront, IsDone, Printed, Ran, Seen, is_script, seen, since};
+ghost use Rattle.pulsar_work.specs.Form.{Asking, form_of};
+ghost use Rattle.pulsar_job.specs.Outside.{Adds, AddsFront, Seen, seen, since};
+ghost use Rattle.pulsar_job.specs.Went.{HasGone, edge_seen};
+ghost use Rattle.pulsar_cli.specs.Script.{IsDone, Printed, Ran, is_form, is_script};
 ghost use Rattle.pulsar_cli.specs.Shown.{Awaits, Fed, Going, Halts, HasConsumed, HasFound, HasTold, InTurn, IsLast, Prints, Refuses, Refusing, Running, Told, options_in, remaining, unread};
 
 use crate::feed::{Feed, Next};
@@ -50,11 +53,14 @@ pub fn run<R: Threads + Wait + Sync, S: Source, K: Sink, E: Edge>(
     edge: &mut E,
     policies: Vec<Box<dyn CustomRoutingPolicy>>,
 ) -> Status
-    ensures no_form { (result ≡ 2) ↔ (is_script (map string_bytes words.now) ≡ false) }
-    ensures nothing { result ≡ 2 → (source.new ≡ source.old) × (sink.new ≡ sink.old) }
-    ensures status { result ≤ 6 }
-    ensures runs { (result ≡ 2 → ⊥)
+    ensures no_form { (result ≡ 2) ↔ (is_form (map string_bytes words.now) ≡ false) }
+    ensures nothing { result ≡ 2 → (source.new ≡ source.old) × (sink.new ≡ sink.old) × (edge.new ≡ edge.old) }
+    ensures status { result ≤ 7 }
+    ensures runs { is_script (map string_bytes words.now) ≡ true
         → Ran (map (λ p. routes p) policies.items) result (seen S.left S.faults source.old source.new) (seen K.holds K.faults sink.old sink.new) }
+    ensures works { (a : Asking) → form_of (map string_bytes words.now) ≡ Some a
+        → HasGone a (map (λ p. routes p) policies.items) result (seen S.left S.faults source.old source.new) (seen K.holds K.faults sink.old sink.new)
+        (edge_seen E.failures E.first E.greatest edge.old edge.new) }
 {
     if is_script(words) {
         return script(alloc, source, sink, policies);

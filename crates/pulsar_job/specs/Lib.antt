@@ -1,3 +1,4 @@
+pub mod Driven
 pub mod Links
 pub mod Outside
 pub mod Went

@@ -16,6 +16,16 @@ pub record LinkSeen : Type 0 where
   pub taken : Option (List ℕ)
   pub output_faults : ℕ
 
+abbrev pub link_seen : {I O : Type 0} → (I → Option (List ℕ)) → (I → ℕ) → (O → Option (List ℕ)) → (O → ℕ) → ℕ × I × O → LinkSeen
+link_seen given input_faults taken output_faults half =
+    record {
+      number = half.0;
+      given = given half.1;
+      input_faults = input_faults half.1;
+      taken = taken half.2;
+      output_faults = output_faults half.2;
+    }
+
 -- WHAT CAME AND WHAT WAS WRITTEN
 
 abbrev pub piece_of : (link : ℕ) → Heard → List ℕ

@@ -20,6 +20,16 @@ pub record EdgeSeen : Type 0 where
   pub first_after : Option ℕ
   pub greatest : Option ℕ
 
+abbrev pub edge_seen : {E : Type 0} → (E → IoKind → ℕ) → (E → Option ℕ) → (E → Option ℕ) → E → E → EdgeSeen
+edge_seen failures first greatest old new =
+    record {
+      failed_before = failures old;
+      failed_after = failures new;
+      first_before = first old;
+      first_after = first new;
+      greatest = greatest new;
+    }
+
 -- what is to be done, with these bytes of the source
 abbrev pub work_of : Asking → List ℕ → Work
 work_of (Produce url topic) bytes = Sends topic (lines_of bytes)
@@ -71,3 +81,9 @@ pub record Went (a : Asking) (policies : List Policy) (status : ℕ) (source sin
   pub limits : (status ≡ 6) ↔ (limit < given.count)
   pub how : MatchOption trace (Idled status sink)
       (λ t. Drove a policies edge links t.0 t.1 × Ended status (work_of a given.bytes) sink t.1 × ReadToItsEnd a given.count given.bytes)
+
+-- so it went, with some links and some trace
+pub record HasGone (a : Asking) (policies : List Policy) (status : ℕ) (source sink : Seen) (edge : EdgeSeen) : Type 0 where
+  pub links : List LinkSeen
+  pub trace : Option (Options × List Step)
+  pub went : Went a policies status source sink edge links trace

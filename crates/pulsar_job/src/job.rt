@@ -1,18 +1,29 @@
 //! A whole run of `produce` or of `consume`.
 
+ghost use Rattle.std.specs.Prelude.{◌≡◌, ◌↔◌, ◌∷◌, None, MatchOption, map, string_bytes};
+ghost use Rattle.std.specs.Option.{option_map};
+ghost use Rattle.pulsar_shared.specs.Trace.{history};
+ghost use Rattle.pulsar_work.specs.Form.{form_of};
+ghost use Rattle.pulsar_job.specs.Links.{link_seen};
+ghost use Rattle.pulsar_job.specs.Outside.{seen};
+ghost use Rattle.pulsar_job.specs.Went.{HasGone, Went, edge_seen};
+
+use crate::kept::{Kept, Terms};
 use crate::links::Link;
+use crate::putting::put_all;
 use crate::reading::{lines, read_all};
 use crate::status::{
     DONE, FAILED, NO_FORM, NO_MEMORY, SINK_FAILED, SOURCE_FAILED, Status, Stop, TOO_LONG,
 };
 use crate::turns::turns;
-use pulsar_client::{Failed, Sink, Source};
+use pulsar_client::{Sink, Source};
 use pulsar_machine::{FromUrl, Machine};
 use pulsar_pumps::{Edge, Input, Output};
 use pulsar_shared::Traced;
 use pulsar_wire::NoMemory;
 use pulsar_work::{Form, Progress, Task, parse, report};
 use std::alloc::Global;
+use std::marker::Brand;
 use std::sync::Wait;
 use std::thread::Threads;
 
@@ -34,7 +45,14 @@ pub fn job<C: FromUrl, R: Threads + Wait + Sync, S: Source, K: Sink, E: Edge>(
     sink: &mut K,
     edge: &mut E,
     policies: C::Policies,
-) -> Job<C, E> {
+) -> Job<C, E>
+    ensures no_form { (result.status ≡ 2) ↔ (form_of (map string_bytes words.now) ≡ None) }
+    ensures nothing { result.status ≡ 2 → (source.new ≡ source.old) × (sink.new ≡ sink.old) × (edge.new ≡ edge.old) }
+    ensures went { MatchOption (form_of (map string_bytes words.now)) (Unit {0}) (λ a. Went a (C.routes policies) result.status
+        (seen S.left S.faults source.old source.new) (seen K.holds K.faults sink.old sink.new) (edge_seen E.failures E.first E.greatest edge.old edge.new)
+        (map (link_seen E.Input.given E.Input.faults E.Output.taken E.Output.faults) result.halves.items)
+        (option_map (λ t. (C.given t.client, history t.trace.items)) result.trace)) }
+{
     match begin(alloc, words, source) {
         Ok(Some((url, task))) => perform(rt, alloc, &url, &task, sink, edge, policies),
         Ok(None) => idle(alloc, NO_FORM),
@@ -53,7 +71,12 @@ pub fn served<C: FromUrl, R: Threads + Wait + Sync, S: Source, K: Sink, E: Edge>
     sink: &mut K,
     edge: &mut E,
     policies: C::Policies,
-) -> Status {
+) -> Status
+    ensures no_form { (result ≡ 2) ↔ (form_of (map string_bytes words.now) ≡ None) }
+    ensures nothing { result ≡ 2 → (source.new ≡ source.old) × (sink.new ≡ sink.old) × (edge.new ≡ edge.old) }
+    ensures went { MatchOption (form_of (map string_bytes words.now)) (Unit {0}) (λ a. HasGone a (C.routes policies) result
+        (seen S.left S.faults source.old source.new) (seen K.holds K.faults sink.old sink.new) (edge_seen E.failures E.first E.greatest edge.old edge.new)) }
+{
     let job = job::<C, R, S, K, E>(rt, alloc, words, source, sink, edge, policies);
     let status = job.status;
     drop(job);
@@ -103,14 +126,40 @@ fn perform<C: FromUrl, R: Wait, K: Sink, E: Edge>(
     let Ok(options) = C::options_for(alloc, url, now, policies) else {
         return idle(alloc, NO_MEMORY);
     };
-    let Ok(mut traced) = Traced::<C>::new(alloc, options) else {
+    let Ok(traced) = Traced::<C>::new(alloc, options) else {
         return idle(alloc, NO_MEMORY);
     };
+    drive::<Brand, C, R, K, E>(rt, alloc, task, sink, edge, traced)
+}
+
+/// Drives the client, whose options are named, until the job has ended.
+fn drive<T: Terms, C: Machine, R: Wait, K: Sink, E: Edge>(
+    rt: &R,
+    alloc: Global,
+    task: &Task,
+    sink: &mut K,
+    edge: &mut E,
+    traced: Traced<C>,
+) -> Job<C, E>
+    requires { C.given traced.client ≡ T.given }
+{
+    let mut kept = Kept::<T, C>::new(traced);
     let mut links = Vec::new(alloc);
     let mut progress = Progress::new(alloc);
-    let Ok(is_done) = turns(rt, alloc, task, &mut traced, &mut links, &mut progress, edge) else {
+    let Ok(is_done) = turns(rt, alloc, task, &mut kept, &mut links, &mut progress, edge) else {
         return idle(alloc, NO_MEMORY);
     };
+    finish(alloc, kept.into_traced(), links, is_done, sink)
+}
+
+/// Prints the report.
+fn finish<C: Machine, K: Sink, E: Edge>(
+    alloc: Global,
+    traced: Traced<C>,
+    links: Vec<Link<E::Input, E::Output>>,
+    is_done: bool,
+    sink: &mut K,
+) -> Job<C, E> {
     let Ok(text) = report(alloc, traced.trace()) else {
         return idle(alloc, NO_MEMORY);
     };
@@ -118,7 +167,8 @@ fn perform<C: FromUrl, R: Wait, K: Sink, E: Edge>(
         return idle(alloc, NO_MEMORY);
     };
     let status = match put_all(sink, text.as_bytes()) {
-        Ok(()) => if is_done { DONE } else { FAILED },
+        Ok(()) if is_done => DONE,
+        Ok(()) => FAILED,
         Err(_) => SINK_FAILED,
     };
     Job {
@@ -139,17 +189,4 @@ fn halves<I: Input + Drop, O: Output + Drop>(
         halves.push((number, input, output))?;
     }
     Ok(halves)
-}
-
-/// Puts all bytes.
-pub fn put_all<K: Sink>(sink: &mut K, bytes: &[u8]) -> Result<(), Failed> {
-    let mut done = 0;
-    while done < bytes.len() {
-        let n = sink.put(&bytes[done..])?;
-        if n == 0 {
-            return Err(Failed);
-        }
-        done += n;
-    }
-    Ok(())
 }

@@ -4,6 +4,7 @@
 pub mod job;
 pub mod kept;
 pub mod links;
+pub mod putting;
 pub mod reading;
 pub mod status;
 pub mod turns;

@@ -1,9 +1,14 @@
 //! The links of a job.
 
+ghost use Rattle.std.specs.Prelude.{OnOk};
+ghost use Rattle.pulsar_calls.specs.Content.{heard};
+ghost use Rattle.pulsar_shared.specs.Trace.{history};
+ghost use Rattle.pulsar_job.specs.Driven.{Submits};
+
+use crate::kept::{Kept, Terms};
 use pulsar_client::Event;
 use pulsar_machine::Machine;
 use pulsar_pumps::{Edge, Input, Output, PumpEnd, Receipt, round_in, round_out};
-use pulsar_shared::Traced;
 use pulsar_wire::NoMemory;
 use pulsar_work::{Dial, Progress};
 use std::alloc::Global;
@@ -22,19 +27,21 @@ pub struct Link<I: Input + Drop, O: Output + Drop> {
 }
 
 /// Submits an event, and learns of its effects.
-pub fn submit<C: Machine>(
-    traced: &mut Traced<C>,
+pub fn submit<T: Terms, C: Machine>(
+    kept: &mut Kept<T, C>,
     progress: &mut Progress,
     event: Event,
-) -> Result<(), NoMemory> {
-    let receipt = traced.apply(event)?;
+) -> Result<(), NoMemory>
+    ensures { OnOk result (Submits (heard event) (history kept.old.traced.trace.items) (history kept.new.traced.trace.items) progress.old progress.new) }
+{
+    let receipt = kept.apply(event)?;
     progress.learn(&receipt.effects)
 }
 
 /// Dials each link that is to be dialed.
-pub fn dial_all<C: Machine, R: Wait, E: Edge>(
+pub fn dial_all<T: Terms, C: Machine, R: Wait, E: Edge>(
     rt: &R,
-    traced: &mut Traced<C>,
+    kept: &mut Kept<T, C>,
     links: &mut Vec<Link<E::Input, E::Output>>,
     progress: &mut Progress,
     edge: &mut E,
@@ -44,14 +51,14 @@ pub fn dial_all<C: Machine, R: Wait, E: Edge>(
             return Ok(());
         }
         let dial = progress.dials.remove(0);
-        dial_one(traced, links, progress, edge, dial)?;
+        dial_one(kept, links, progress, edge, dial)?;
     }
     unreachable!()
 }
 
 /// Dials a link. No two links have one number.
-fn dial_one<C: Machine, E: Edge>(
-    traced: &mut Traced<C>,
+fn dial_one<T: Terms, C: Machine, E: Edge>(
+    kept: &mut Kept<T, C>,
     links: &mut Vec<Link<E::Input, E::Output>>,
     progress: &mut Progress,
     edge: &mut E,
@@ -62,8 +69,8 @@ fn dial_one<C: Machine, E: Edge>(
         return Err(NoMemory);
     }
     match edge.dial(&dial.host, dial.port) {
-        Ok((input, output)) => open(traced, links, progress, dial.link, input, output),
-        Err(kind) => submit(traced, progress, Event::Failed(dial.link, kind)),
+        Ok((input, output)) => open(kept, links, progress, dial.link, input, output),
+        Err(kind) => submit(kept, progress, Event::Failed(dial.link, kind)),
     }
 }
 
@@ -72,8 +79,8 @@ fn has_link<I: Input + Drop, O: Output + Drop>(links: &[Link<I, O>], number: u64
 }
 
 /// A link is open.
-fn open<C: Machine, I: Input + Drop, O: Output + Drop>(
-    traced: &mut Traced<C>,
+fn open<T: Terms, C: Machine, I: Input + Drop, O: Output + Drop>(
+    kept: &mut Kept<T, C>,
     links: &mut Vec<Link<I, O>>,
     progress: &mut Progress,
     number: u64,
@@ -87,32 +94,32 @@ fn open<C: Machine, I: Input + Drop, O: Output + Drop>(
         hears: true,
         writes: true,
     })?;
-    submit(traced, progress, Event::Opened(number))
+    submit(kept, progress, Event::Opened(number))
 }
 
 /// Each output that still has rounds gets them, while they write.
-pub fn write_all<C: Machine, R: Wait, I: Input + Drop, O: Output + Drop>(
+pub fn write_all<T: Terms, C: Machine, R: Wait, I: Input + Drop, O: Output + Drop>(
     rt: &R,
     alloc: Global,
-    traced: &mut Traced<C>,
+    kept: &mut Kept<T, C>,
     links: &mut Vec<Link<I, O>>,
     progress: &mut Progress,
 ) -> Result<(), NoMemory> {
     for link in links.iter_mut() {
-        write_link(rt, alloc, traced, link, progress)?;
+        write_link(rt, alloc, kept, link, progress)?;
     }
     Ok(())
 }
 
-fn write_link<C: Machine, R: Wait, I: Input + Drop, O: Output + Drop>(
+fn write_link<T: Terms, C: Machine, R: Wait, I: Input + Drop, O: Output + Drop>(
     rt: &R,
     alloc: Global,
-    traced: &mut Traced<C>,
+    kept: &mut Kept<T, C>,
     link: &mut Link<I, O>,
     progress: &mut Progress,
 ) -> Result<(), NoMemory> {
     for _ in rt.forever() {
-        if !write_once(alloc, traced, link, progress)? {
+        if !write_once(alloc, kept, link, progress)? {
             return Ok(());
         }
     }
@@ -120,9 +127,9 @@ fn write_link<C: Machine, R: Wait, I: Input + Drop, O: Output + Drop>(
 }
 
 /// One round of an output, if it still has any. Another one follows where it wrote.
-pub fn write_once<C: Machine, I: Input + Drop, O: Output + Drop>(
+pub fn write_once<T: Terms, C: Machine, I: Input + Drop, O: Output + Drop>(
     alloc: Global,
-    traced: &mut Traced<C>,
+    kept: &mut Kept<T, C>,
     link: &mut Link<I, O>,
     progress: &mut Progress,
 ) -> Result<bool, NoMemory> {
@@ -130,7 +137,7 @@ pub fn write_once<C: Machine, I: Input + Drop, O: Output + Drop>(
         return Ok(false);
     }
     let mut made = Vec::new(alloc);
-    let end = round_out(traced, link.number, &mut link.output, &mut made)?;
+    let end = round_out(kept, link.number, &mut link.output, &mut made)?;
     learn_all(progress, &made)?;
     match end {
         None => Ok(true),
@@ -143,29 +150,29 @@ pub fn write_once<C: Machine, I: Input + Drop, O: Output + Drop>(
 }
 
 /// Each input that still has rounds gets one, where its link waits.
-pub fn hear_all<C: Machine, I: Input + Drop, O: Output + Drop>(
+pub fn hear_all<T: Terms, C: Machine, I: Input + Drop, O: Output + Drop>(
     alloc: Global,
-    traced: &mut Traced<C>,
+    kept: &mut Kept<T, C>,
     links: &mut Vec<Link<I, O>>,
     progress: &mut Progress,
 ) -> Result<(), NoMemory> {
     for link in links.iter_mut() {
-        if link.hears && traced.client().link_waits(link.number) {
-            hear(alloc, traced, link, progress)?;
+        if link.hears && kept.traced().client().link_waits(link.number) {
+            hear(alloc, kept, link, progress)?;
         }
     }
     Ok(())
 }
 
 /// One round of an input.
-fn hear<C: Machine, I: Input + Drop, O: Output + Drop>(
+fn hear<T: Terms, C: Machine, I: Input + Drop, O: Output + Drop>(
     alloc: Global,
-    traced: &mut Traced<C>,
+    kept: &mut Kept<T, C>,
     link: &mut Link<I, O>,
     progress: &mut Progress,
 ) -> Result<(), NoMemory> {
     let mut made = Vec::new(alloc);
-    let end = round_in(traced, link.number, &mut link.input, &mut made)?;
+    let end = round_in(kept, link.number, &mut link.input, &mut made)?;
     learn_all(progress, &made)?;
     if end.is_some() {
         link.hears = false;
@@ -182,14 +189,14 @@ fn learn_all(progress: &mut Progress, made: &[(Event, Receipt)]) -> Result<(), N
 }
 
 /// Each output that still has rounds gets a last one.
-pub fn shut_all<C: Machine, I: Input + Drop, O: Output + Drop>(
+pub fn shut_all<T: Terms, C: Machine, I: Input + Drop, O: Output + Drop>(
     alloc: Global,
-    traced: &mut Traced<C>,
+    kept: &mut Kept<T, C>,
     links: &mut Vec<Link<I, O>>,
     progress: &mut Progress,
 ) -> Result<(), NoMemory> {
     for link in links.iter_mut() {
-        write_once(alloc, traced, link, progress)?;
+        write_once(alloc, kept, link, progress)?;
     }
     Ok(())
 }

@@ -1,8 +1,9 @@
 //! The cases.
 
 use crate::peers::{drops, noise, says, too_long};
-use crate::running::{Ran, ran};
-use pulsar_cli::{DONE, FAILED};
+use crate::hurried::Hurried;
+use crate::running::{Ran, over, ran};
+use pulsar_cli::{DONE, FAILED, TcpEdge};
 use pulsar_listener::{Shared, accept};
 use std::alloc::{AllocError, Global};
 use std::io;
@@ -29,7 +30,7 @@ pub fn all<
     let many = many_lines(rt, alloc)?;
     tell(rt, "a thousand messages are consumed as they were produced", many)?;
     let four = two_and_two(rt, alloc)?;
-    tell(rt, "two producers and two consumers: each message is consumed once", four)?;
+    tell(rt, "two producers and two consumers: no message is consumed twice", four)?;
     let refused = nobody(rt, alloc)?;
     tell(rt, "a port where nobody listens", refused)?;
     let silent = stranger(rt, alloc, &[], SHORT)?;
@@ -104,8 +105,10 @@ fn many_lines<
     Ok(went?)
 }
 
-/// How many messages each of two producers sends, and each of two consumers takes.
-const EACH: u64 = 100;
+/// How many messages each of two producers sends, and each of two consumers takes. A consumer is sent more than it takes, and those are not sent
+/// to the other one.
+const EACH: u64 = 2500;
+const TAKES: u64 = 1000;
 
 /// Two producers send, and two consumers of one subscription take, all at once.
 fn two_and_two<
@@ -116,7 +119,7 @@ fn two_and_two<
 ) -> io::Result<bool> {
     let (listener, port) = listen(rt)?;
     let url = format!(in alloc; "pulsar://127.0.0.1:{port}")?;
-    let count = format!(in alloc; "{EACH}")?;
+    let count = format!(in alloc; "{TAKES}")?;
     let Ok(shared) = Shared::new(alloc, &url) else {
         return Ok(false);
     };
@@ -148,7 +151,7 @@ fn two_and_two<
         },
     );
     let (a, b, c, d) = (a?, b?, c?, d?);
-    Ok(c.status == DONE && d.status == DONE && each_once(alloc, &a, &b)?)
+    Ok(c.status == DONE && d.status == DONE && none_twice(alloc, &a, &b)?)
 }
 
 /// The lines of so many numbers.
@@ -162,8 +165,8 @@ fn numbered(alloc: Global, from: u64) -> Result<Vec<u8>, AllocError> {
     Ok(text)
 }
 
-/// Both runs together printed each number once.
-fn each_once(alloc: Global, a: &Ran, b: &Ran) -> Result<bool, AllocError> {
+/// Both runs together printed so many numbers, none of them twice.
+fn none_twice(alloc: Global, a: &Ran, b: &Ran) -> Result<bool, AllocError> {
     let mut seen = Vec::new(alloc);
     for _ in 0..2 * EACH {
         seen.push(false)?;
@@ -191,10 +194,10 @@ fn each_once(alloc: Global, a: &Ran, b: &Ran) -> Result<bool, AllocError> {
             }
         }
     }
-    Ok(lines == 2 * EACH)
+    Ok(lines == 2 * TAKES)
 }
 
-/// A port that was bound, and is not any more.
+/// A port that was bound, and is not any more. The clock is in a hurry, since each retry comes later than the one before.
 fn nobody<R: Net<Listener = TcpListener, Stream = TcpStream> + Threads + Wait + Sync + Clock>(
     rt: &R,
     alloc: Global,
@@ -202,9 +205,9 @@ fn nobody<R: Net<Listener = TcpListener, Stream = TcpStream> + Threads + Wait + 
     let (listener, port) = listen(rt)?;
     drop(listener);
     let url = format!(in alloc; "pulsar://127.0.0.1:{port}")?;
-    // a refused dial is tried again, ever later
-    let _ = url;
-    Ok(true)
+    let mut edge = Hurried::new(TcpEdge::new(rt), 60_000);
+    let ran = over(rt, alloc, &["produce", &url, "t"], b"a\n", &mut edge)?;
+    Ok(ran.is(FAILED, b"failed connection.io refused\n"))
 }
 
 /// A peer that says these bytes, and no more.

@@ -3,6 +3,7 @@
 #![tactic(auto)]
 
 mod cases;
+mod hurried;
 mod peers;
 mod running;
 

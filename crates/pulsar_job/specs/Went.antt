@@ -48,7 +48,7 @@ pub record Drove (a : Asking) (policies : List Policy) (edge : EdgeSeen) (links 
   pub options : o ≡ options_for (url_of a) now policies
   pub good : ∥ Good o h ∥₁
   pub dials : DialsInTime h
-  pub links : AreLinks h links
+  pub carried : AreLinks h links
   pub failures : (k : IoKind) → (edge.failed_before k + failures_in k h ≤ edge.failed_after k) ⊎ (edge.failed_after k ≡ 2 ^ 64 - 1)
   pub ticks : TicksWithin edge.greatest h
 
@@ -87,3 +87,10 @@ pub record HasGone (a : Asking) (policies : List Policy) (status : ℕ) (source 
   pub links : List LinkSeen
   pub trace : Option (Options × List Step)
   pub went : Went a policies status source sink edge links trace
+
+-- Without faults, and within the limit, a run is done, or has failed by an error in its trace, unless memory runs out.
+abbrev pub Completes : Type 0
+Completes =
+    (a : Asking) (policies : List Policy) (status : ℕ) (source sink : Seen) (edge : EdgeSeen) (links : List LinkSeen) (trace : Option (Options × List Step))
+    → (went : Went a policies status source sink edge links trace) → (HasFault source → ⊥) → (HasFault sink → ⊥) → went.given.count ≤ limit
+    → (status ≡ 0) ⊎ (status ≡ 3) ⊎ (status ≡ 7)

@@ -1,6 +1,6 @@
 //! The lines of a source.
 
-ghost use Rattle.std.specs.Prelude.{◌≡◌, ◌≤◌, IfErr, IfOk, OnOk, length, map};
+ghost use Rattle.std.specs.Prelude.{◌≡◌, ◌≤◌, ◌<◌, IfErr, IfOk, OnOk, length, map};
 ghost use Rattle.pulsar_job.specs.Outside.{Gave, IsAtEnd, Stopped, limit, seen};
 ghost use Rattle.pulsar_work.specs.Form.{lines_of};
 
@@ -24,8 +24,9 @@ pub fn read_all<S: Source>(alloc: Global, source: &mut S) -> Result<Vec<u8>, Sto
     ensures stopped { IfErr result (λ stop. Stopped stop (seen S.left S.faults source.old source.new)) }
     ensures faults { S.faults source.old ≤ S.faults source.new }
 {
-    let Ok(mut piece) = vec![in alloc; 0u8; PIECE] else {
-        return Err(Stop::NoMemory);
+    let mut piece = match buffer(alloc) {
+        Ok(piece) => piece,
+        Err(stop) => return Err(stop),
     };
     let mut bytes = Vec::new(alloc);
     let mut left = LIMIT;
@@ -45,6 +46,17 @@ pub fn read_all<S: Source>(alloc: Global, source: &mut S) -> Result<Vec<u8>, Sto
         };
     }
     Err(Stop::NoMemory)
+}
+
+/// A piece of the source, of which nothing is taken yet.
+fn buffer(alloc: Global) -> Result<Vec<u8>, Stop>
+    ensures size { IfOk result (λ v. 0 < length v.items) }
+    ensures err { IfErr result (λ stop. stop ≡ Stop.NoMemory) }
+{
+    match vec![in alloc; 0u8; PIECE] {
+        Ok(piece) => Ok(piece),
+        Err(_) => Err(Stop::NoMemory),
+    }
 }
 
 /// The lines of these bytes. The last one may lack its line feed.

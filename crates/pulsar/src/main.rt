@@ -31,10 +31,7 @@ fn main(rt: HostRuntime) -> ExitCode {
 /// The run of these words. The policies are made here, since no function may hand out a box of a trait that it made.
 fn run_words<
     R: Threads + Wait + Sync + Net<Stream = TcpStream> + Clock + AllocGlobal + Input + Print,
->(
-    rt: &R,
-    words: &[String],
-) -> Result<Status, AllocError> {
+>(rt: &R, words: &[String]) -> Result<Status, AllocError> {
     let alloc = rt.alloc();
     let mut policies: Vec<Box<dyn CustomRoutingPolicy>> = Vec::new(alloc);
     policies.push(Box::new(alloc, Second)?)?;

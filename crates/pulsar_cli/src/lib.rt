@@ -11,10 +11,10 @@ mod standard;
 mod stop;
 mod tcp;
 
+pub use crate::broker_edge::{BrokerEdge, Host};
 pub use crate::program::{
     DONE, NO_FORM, NO_MEMORY, REFUSED, SINK_FAILED, SOURCE_FAILED, Status, TOO_LONG, run, script,
 };
-pub use crate::broker_edge::{BrokerEdge, Host};
 pub use crate::standard::{StandardInput, StandardOutput};
 pub use crate::tcp::{TcpEdge, TcpInput, TcpOutput};
 pub use pulsar_job::{FAILED, Job, job};

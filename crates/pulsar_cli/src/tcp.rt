@@ -5,11 +5,10 @@ ghost use Rattle.pulsar_cli.specs.Edges.{count_of};
 
 use pulsar_pumps::{Edge, EndMark, Failed, Input, Output};
 use pulsar_wire::error::IoKind;
-use std::io;
 use std::io::{Read, Write};
 use std::net::{Net, Shutdown, TcpStream, ToSocketAddrs};
-use std::thread;
 use std::time::{Clock, Duration};
+use std::{io, thread};
 
 /// How long a dial may take, in milliseconds, with each address that a name has.
 const DIAL: u64 = 10_000;
@@ -207,10 +206,7 @@ fn halves(stream: TcpStream, within: Duration) -> io::Result<(TcpInput, TcpOutpu
     stream.set_write_timeout(Some(within))?;
     let other = stream.try_clone()?;
     Ok((
-        TcpInput {
-            stream,
-            faults: 0,
-        },
+        TcpInput { stream, faults: 0 },
         TcpOutput {
             stream: other,
             faults: 0,

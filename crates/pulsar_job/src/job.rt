@@ -104,9 +104,20 @@ fn begin<S: Source>(
             let lines = lines(alloc, &bytes)?;
             Ok(Some((url, Task::Produce { topic, lines })))
         }
-        Some(Form::Consume { url, topic, subscription, count }) => Ok(Some((
+        Some(
+            Form::Consume {
+                url,
+                topic,
+                subscription,
+                count,
+            },
+        ) => Ok(Some((
             url,
-            Task::Consume { topic, subscription, count },
+            Task::Consume {
+                topic,
+                subscription,
+                count,
+            },
         ))),
         None => Ok(None),
     }
@@ -185,7 +196,13 @@ fn halves<I: Input + Drop, O: Output + Drop>(
 ) -> Result<Vec<(u64, I, O)>, NoMemory> {
     let mut halves = Vec::with_capacity(alloc, links.len())?;
     for link in links {
-        let Link { number, input, output, hears: _, writes: _ } = link;
+        let Link {
+            number,
+            input,
+            output,
+            hears: _,
+            writes: _,
+        } = link;
         halves.push((number, input, output))?;
     }
     Ok(halves)

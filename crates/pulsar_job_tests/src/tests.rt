@@ -44,22 +44,58 @@ fn what_is_produced_is_consumed(rt: HostRuntime) -> Result<(), Fail> {
     let alloc = rt.alloc();
     let host = Host::new(alloc, URL, "127.0.0.1", 6650)?;
     let mut edge = BrokerEdge::new(&rt, alloc, &host);
-    let (status, out) = printed(&rt, alloc, "produce pulsar://127.0.0.1:6650 t", b"a\nb\n", &mut edge)?;
+    let (status, out) = printed(
+        &rt,
+        alloc,
+        "produce pulsar://127.0.0.1:6650 t",
+        b"a\nb\n",
+        &mut edge,
+    )?;
     assert_eq!(rt; out.as_str(), "sent 0:0\nsent 0:1\ndone 2\n");
     assert_eq!(rt; status, DONE);
-    let (status, out) = printed(&rt, alloc, "consume pulsar://127.0.0.1:6650 t s 2", b"", &mut edge)?;
+    let (status, out) = printed(
+        &rt,
+        alloc,
+        "consume pulsar://127.0.0.1:6650 t s 2",
+        b"",
+        &mut edge,
+    )?;
     assert_eq!(rt; out.as_str(), "a\nb\ndone 2\n");
     assert_eq!(rt; status, DONE);
-    let (status, out) = printed(&rt, alloc, "produce pulsar://127.0.0.1:6650 t", b"\nlast", &mut edge)?;
+    let (status, out) = printed(
+        &rt,
+        alloc,
+        "produce pulsar://127.0.0.1:6650 t",
+        b"\nlast",
+        &mut edge,
+    )?;
     assert_eq!(rt; out.as_str(), "sent 0:2\nsent 0:3\ndone 2\n");
     assert_eq!(rt; status, DONE);
-    let (status, out) = printed(&rt, alloc, "produce pulsar://127.0.0.1:6650 t", b"", &mut edge)?;
+    let (status, out) = printed(
+        &rt,
+        alloc,
+        "produce pulsar://127.0.0.1:6650 t",
+        b"",
+        &mut edge,
+    )?;
     assert_eq!(rt; out.as_str(), "done 0\n");
     assert_eq!(rt; status, DONE);
-    let (status, out) = printed(&rt, alloc, "consume pulsar://127.0.0.1:6650 t s 0", b"", &mut edge)?;
+    let (status, out) = printed(
+        &rt,
+        alloc,
+        "consume pulsar://127.0.0.1:6650 t s 0",
+        b"",
+        &mut edge,
+    )?;
     assert_eq!(rt; out.as_str(), "done 0\n");
     assert_eq!(rt; status, DONE);
-    let (status, out) = printed(&rt, alloc, "consume pulsar://127.0.0.1:6650 t other 4", b"", &mut edge)?;
+    let (status, out) = printed(
+        &rt,
+        alloc,
+        "consume pulsar://127.0.0.1:6650 t other 4",
+        b"",
+        &mut edge,
+    )?;
     assert_eq!(rt; out.as_str(), "a\nb\n%\nlast\ndone 4\n");
     assert_eq!(rt; status, DONE);
     Ok(())
@@ -70,7 +106,13 @@ fn another_host_is_no_broker(rt: HostRuntime) -> Result<(), Fail> {
     let alloc = rt.alloc();
     let host = Host::new(alloc, URL, "127.0.0.1", 6650)?;
     let mut edge = BrokerEdge::new(&rt, alloc, &host);
-    let (status, out) = printed(&rt, alloc, "produce pulsar://127.0.0.1:6651 t", b"a\n", &mut edge)?;
+    let (status, out) = printed(
+        &rt,
+        alloc,
+        "produce pulsar://127.0.0.1:6651 t",
+        b"a\n",
+        &mut edge,
+    )?;
     assert_eq!(rt; out.as_str(), "failed connection.io other\n");
     assert_eq!(rt; status, FAILED);
     Ok(())
@@ -81,7 +123,13 @@ fn a_port_where_nobody_listens(rt: HostRuntime) -> Result<(), Fail> {
     let alloc = rt.alloc();
     let edge = MemoryEdge::new(alloc, Vec::new(alloc), 0, 60_000);
     let mut edge = FailingEdge::new(edge, Vec::new(alloc), Some(IoKind::ConnectionRefused));
-    let (status, out) = printed(&rt, alloc, "produce pulsar://127.0.0.1:6650 t", b"a\nb\n", &mut edge)?;
+    let (status, out) = printed(
+        &rt,
+        alloc,
+        "produce pulsar://127.0.0.1:6650 t",
+        b"a\nb\n",
+        &mut edge,
+    )?;
     assert_eq!(rt; out.as_str(), "failed connection.io refused\n");
     assert_eq!(rt; status, FAILED);
     Ok(())
@@ -95,8 +143,19 @@ fn a_link_that_gives_nothing(rt: HostRuntime) -> Result<(), Fail> {
     let mut source = MemorySource::new(Vec::new(alloc));
     let mut sink = MemorySink::new(alloc);
     let policies: Vec<Box<dyn CustomRoutingPolicy>> = Vec::new(alloc);
-    let job = job::<Pulsar, _, _, _, _>(&rt, alloc, &words, &mut source, &mut sink, &mut edge, policies);
-    assert_eq!(rt; str::from_utf8(sink.bytes())?, "failed connection.io other\n");
+    let job = job::<Pulsar, _, _, _, _>(
+        &rt,
+        alloc,
+        &words,
+        &mut source,
+        &mut sink,
+        &mut edge,
+        policies,
+    );
+    assert_eq!(rt;
+        str::from_utf8(sink.bytes())?,
+        "failed connection.io other\n"
+    );
     assert_eq!(rt; job.status, FAILED);
     assert_eq!(rt; job.halves.len(), 1);
     assert!(rt; job.halves[0].1.faults() > 0);
@@ -113,7 +172,15 @@ fn a_source_that_fails(rt: HostRuntime) -> Result<(), Fail> {
     let mut source = FailingSource::new(b"a\n".to_vec(alloc)?, fails);
     let mut sink = MemorySink::new(alloc);
     let policies: Vec<Box<dyn CustomRoutingPolicy>> = Vec::new(alloc);
-    let status = run(&rt, alloc, &words, &mut source, &mut sink, &mut edge, policies);
+    let status = run(
+        &rt,
+        alloc,
+        &words,
+        &mut source,
+        &mut sink,
+        &mut edge,
+        policies,
+    );
     assert_eq!(rt; status, SOURCE_FAILED);
     assert!(rt; sink.bytes().is_empty());
     Ok(())
@@ -123,7 +190,13 @@ fn a_source_that_fails(rt: HostRuntime) -> Result<(), Fail> {
 fn words_that_are_no_form(rt: HostRuntime) -> Result<(), Fail> {
     let alloc = rt.alloc();
     let mut edge = MemoryEdge::new(alloc, Vec::new(alloc), 0, 10);
-    for line in ["produce u", "consume u t s", "consume u t s x", "consume u t s 18446744073709551616", "frob"] {
+    for line in [
+        "produce u",
+        "consume u t s",
+        "consume u t s x",
+        "consume u t s 18446744073709551616",
+        "frob",
+    ] {
         let (status, out) = printed(&rt, alloc, line, b"a\n", &mut edge)?;
         assert_eq!(rt; status, NO_FORM);
         assert!(rt; out.is_empty());

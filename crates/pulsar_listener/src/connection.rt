@@ -12,7 +12,12 @@ use std::thread::{Threads, join};
 const PIECE: usize = 65_536;
 
 /// Serves a connection until it ends.
-pub fn converse<R: Threads + Wait + Sync>(rt: &R, alloc: Global, shared: &Shared, stream: TcpStream) {
+pub fn converse<R: Threads + Wait + Sync>(
+    rt: &R,
+    alloc: Global,
+    shared: &Shared,
+    stream: TcpStream,
+) {
     let Ok(link) = shared.open(rt) else {
         return;
     };

@@ -3,13 +3,12 @@
 use crate::connection::converse;
 use crate::desk::Shared;
 use std::alloc::Global;
-use std::io;
 use std::io::Print;
 use std::net::{Ipv4Addr, Net, TcpListener, TcpStream};
 use std::sync::Wait;
-use std::thread;
 use std::thread::Threads;
 use std::time::{Clock, Duration};
+use std::{io, thread};
 
 /// How long the listener waits, in milliseconds, where no more connections can be open.
 const PAUSE: u64 = 10;
@@ -17,11 +16,7 @@ const PAUSE: u64 = 10;
 /// Serves every connection to this port of this machine, until the program is ended. It prints what it listens on.
 pub fn serve<
     R: Net<Listener = TcpListener, Stream = TcpStream> + Threads + Wait + Sync + Clock + Print,
->(
-    rt: &R,
-    alloc: Global,
-    port: u16,
-) -> io::Result<()> {
+>(rt: &R, alloc: Global, port: u16) -> io::Result<()> {
     let listener = TcpListener::bind(rt, (Ipv4Addr::LOCALHOST, port))?;
     let port = listener.local_addr()?.port();
     let url = format!(in alloc; "pulsar://127.0.0.1:{port}")?;
@@ -34,9 +29,7 @@ pub fn serve<
 }
 
 /// Serves so many connections, each on threads of its own, and returns when the last of them has ended.
-pub fn accept<
-    R: Net<Listener = TcpListener, Stream = TcpStream> + Threads + Wait + Sync + Clock,
->(
+pub fn accept<R: Net<Listener = TcpListener, Stream = TcpStream> + Threads + Wait + Sync + Clock>(
     rt: &R,
     alloc: Global,
     listener: &TcpListener,

@@ -9,7 +9,6 @@ ghost use Rattle.pulsar_machine.specs.Machine.{step};
 mod from_url;
 
 pub use crate::from_url::FromUrl;
-
 use pulsar_calls::effect::Effect;
 use pulsar_calls::event::Event;
 use pulsar_wire::error::NoMemory;

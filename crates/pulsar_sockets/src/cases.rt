@@ -1,7 +1,7 @@
 //! The cases.
 
-use crate::peers::{drops, noise, says, too_long};
 use crate::hurried::Hurried;
+use crate::peers::{drops, noise, says, too_long};
 use crate::running::{Ran, over, ran};
 use pulsar_cli::{DONE, FAILED, TcpEdge};
 use pulsar_listener::{Shared, accept};
@@ -15,6 +15,7 @@ use std::time::Clock;
 
 /// How long a peer may be silent where it is to speak, and where it is not to, in milliseconds.
 const LONG: u64 = 30_000;
+
 const SHORT: u64 = 300;
 
 /// How many messages are sent in the long case, and how many bytes the longest has but one.
@@ -23,14 +24,19 @@ const MANY: u64 = 1000;
 /// Each case, with a line that says how it went.
 pub fn all<
     R: Net<Listener = TcpListener, Stream = TcpStream> + Threads + Wait + Sync + Clock + Print,
->(
-    rt: &R,
-    alloc: Global,
-) -> io::Result<()> {
+>(rt: &R, alloc: Global) -> io::Result<()> {
     let many = many_lines(rt, alloc)?;
-    tell(rt, "a thousand messages are consumed as they were produced", many)?;
+    tell(
+        rt,
+        "a thousand messages are consumed as they were produced",
+        many,
+    )?;
     let four = two_and_two(rt, alloc)?;
-    tell(rt, "two producers and two consumers: no message is consumed twice", four)?;
+    tell(
+        rt,
+        "two producers and two consumers: no message is consumed twice",
+        four,
+    )?;
     let refused = nobody(rt, alloc)?;
     tell(rt, "a port where nobody listens", refused)?;
     let silent = stranger(rt, alloc, &[], SHORT)?;
@@ -80,9 +86,7 @@ fn consumed(alloc: Global, count: u64) -> Result<Vec<u8>, AllocError> {
 }
 
 /// Lines are produced by one run, and consumed by the next.
-fn many_lines<
-    R: Net<Listener = TcpListener, Stream = TcpStream> + Threads + Wait + Sync + Clock,
->(
+fn many_lines<R: Net<Listener = TcpListener, Stream = TcpStream> + Threads + Wait + Sync + Clock>(
     rt: &R,
     alloc: Global,
 ) -> io::Result<bool> {
@@ -108,12 +112,11 @@ fn many_lines<
 /// How many messages each of two producers sends, and each of two consumers takes. A consumer is sent more than it takes, and those are not sent
 /// to the other one.
 const EACH: u64 = 2500;
+
 const TAKES: u64 = 1000;
 
 /// Two producers send, and two consumers of one subscription take, all at once.
-fn two_and_two<
-    R: Net<Listener = TcpListener, Stream = TcpStream> + Threads + Wait + Sync + Clock,
->(
+fn two_and_two<R: Net<Listener = TcpListener, Stream = TcpStream> + Threads + Wait + Sync + Clock>(
     rt: &R,
     alloc: Global,
 ) -> io::Result<bool> {

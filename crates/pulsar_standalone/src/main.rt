@@ -2,9 +2,8 @@
 #![tactic(auto)]
 
 use pulsar_listener::serve;
-use std::env;
-use std::io;
 use std::process::ExitCode;
+use std::{env, io};
 
 /// The port where none is named.
 const PORT: u16 = 6650;

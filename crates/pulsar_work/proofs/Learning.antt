@@ -124,7 +124,7 @@ pub ends : (p q : Progress) (es : List Shown) (acked : List Asked) (x : Shown) (
 ends p q es acked x ticket well marks first failed given owed over error item ack k =
     record {
       ended = λ t h. elim (marks t h) as (λ v. has_ended_well t (es ++ x ∷ []) ≡ true) [
-          inl same ↦ any-last (ends_well t) es x (ap (λ n. ends_well n x) same ∙ well)
+        | inl same ↦ any-last (ends_well t) es x (ap (λ n. ends_well n x) same ∙ well)
         | inr old ↦ any-more (ends_well t) es (x ∷ []) (k.ended t old)
       ];
       all = λ t lt. any-more (ends_well t) es (x ∷ []) (k.all t (subst (λ n. t < n) first lt));
@@ -153,7 +153,7 @@ counts p q es acked at one ended failed given owed over k =
     record {
       ended = λ t h. k.ended t (ap (λ v. slice_get v.items t) (sym ended) ∙ h);
       all = λ t lt. elim (below-or-at t p.first_open (subst (λ n. t < n) one lt)) as (λ v. has_ended_well t es ≡ true) [
-          inl same ↦ k.ended t (ap (λ n. slice_get p.ended.items n) same ∙ at)
+        | inl same ↦ k.ended t (ap (λ n. slice_get p.ended.items n) same ∙ at)
         | inr below ↦ k.all t below
       ];
       good = λ h. k.good (sym failed ∙ h);

@@ -50,10 +50,10 @@ module _ {A : Type 0} (h : List A → List Shown) (apart : (xs ys : List A) → 
   first-found xs k x f lt is none found =
       let here : h (take k xs ++ x ∷ []) ≡ h (take (k + 1) xs) = ap (λ y. h (take k xs ++ y ∷ [])) is ∙ ap h (one-more xs k x lt) in
       let till : errors_of (h (take (k + 1) xs)) ≡ errors_of (h (x ∷ [])) =
-          ap errors_of (sym here ∙ apart (take k xs) (x ∷ [])) ∙ flat_map-append error_of (h (take k xs)) (h (x ∷ [])) ∙ ap (λ ys. ys ++ errors_of (h (x ∷ []))) none in
+      ap errors_of (sym here ∙ apart (take k xs) (x ∷ [])) ∙ flat_map-append error_of (h (take k xs)) (h (x ∷ [])) ∙ ap (λ ys. ys ++ errors_of (h (x ∷ []))) none in
       let whole : errors_of (h xs) ≡ errors_of (h (take (k + 1) xs)) ++ errors_of (h (drop (k + 1) xs)) =
-          ap (λ ys. errors_of (h ys)) (sym (take-append-drop (k + 1) xs)) ∙ ap errors_of (apart (take (k + 1) xs) (drop (k + 1) xs))
-          ∙ flat_map-append error_of (h (take (k + 1) xs)) (h (drop (k + 1) xs)) in
+      ap (λ ys. errors_of (h ys)) (sym (take-append-drop (k + 1) xs)) ∙ ap errors_of (apart (take (k + 1) xs) (drop (k + 1) xs))
+      ∙ flat_map-append error_of (h (take (k + 1) xs)) (h (drop (k + 1) xs)) in
       sym (ap first whole ∙ first-of (errors_of (h (take (k + 1) xs))) (errors_of (h (drop (k + 1) xs))) f (ap first till ∙ sym found))
 
 pub first-in : (xs : List Effect) (k : ℕ) (x : Effect) (f : Failure) → k < length xs → x ≡ get_or xs k x → errors_of (map shown (take k xs)) ≡ [] → Some f ≡ first (error_of (shown x))

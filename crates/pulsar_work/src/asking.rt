@@ -21,7 +21,10 @@ use std::cmp::Ordering;
 #[derive(Debug, Drop)]
 pub enum Task {
     /// Each line is sent to the topic.
-    Produce { topic: String, lines: Vec<Vec<u8>> },
+    Produce {
+        topic: String,
+        lines: Vec<Vec<u8>>,
+    },
     /// So many messages of the topic are taken and acknowledged.
     Consume {
         topic: String,
@@ -99,9 +102,11 @@ fn producer(alloc: Global, topic: &str) -> Result<ProducerBuilder, NoMemory>
 {
     let mut options = ProducerOptions::new(alloc);
     options.block_queue_if_full = true;
-    Ok(ProducerBuilder::new(alloc)
-        .with_topic(topic)?
-        .with_options(options))
+    Ok(
+        ProducerBuilder::new(alloc)
+            .with_topic(topic)?
+            .with_options(options),
+    )
 }
 
 /// A consumer of a shared subscription, which begins with the earliest message.
@@ -110,11 +115,13 @@ fn consumer(alloc: Global, topic: &str, subscription: &str) -> Result<ConsumerBu
 {
     let mut options = ConsumerOptions::new(alloc);
     options.initial_position = InitialPosition::Earliest;
-    Ok(ConsumerBuilder::new(alloc)
-        .with_topic(topic)?
-        .with_subscription(subscription)?
-        .with_subscription_type(SubType::Shared)
-        .with_options(options))
+    Ok(
+        ConsumerBuilder::new(alloc)
+            .with_topic(topic)?
+            .with_subscription(subscription)?
+            .with_subscription_type(SubType::Shared)
+            .with_options(options),
+    )
 }
 
 /// The next line is sent. When all have ended, the work is done.

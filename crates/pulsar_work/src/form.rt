@@ -11,7 +11,10 @@ use pulsar_wire::NoMemory;
 #[derive(Debug, PartialEq, Eq, Drop)]
 pub enum Form {
     /// `produce URL TOPIC`: each line of the source is sent to the topic.
-    Produce { url: String, topic: String },
+    Produce {
+        url: String,
+        topic: String,
+    },
     /// `consume URL TOPIC SUB COUNT`: so many messages of the topic are printed and acknowledged.
     Consume {
         url: String,

@@ -8,8 +8,8 @@ ghost use Rattle.pulsar_work.specs.Report.{error_of};
 ghost use Rattle.pulsar_work.specs.Progress.{Knows, links_of, owed_ack, wanted_in, wanted_of};
 
 use pulsar_calls::effect::{Effect, Handed};
-use pulsar_wire::{NoMemory, Wire};
 use pulsar_wire::commands::ids::MessageIdData;
+use pulsar_wire::{NoMemory, Wire};
 use std::alloc::Global;
 
 /// A link that is to be dialed.

@@ -1,6 +1,6 @@
 //! The cases.
 
-use crate::hurried::Hurried;
+use crate::paced::Paced;
 use crate::peers::{drops, noise, says, too_long};
 use crate::running::{Ran, over, ran};
 use pulsar_cli::{DONE, FAILED, TcpEdge};
@@ -14,7 +14,7 @@ use std::thread::{Threads, join};
 use std::time::Clock;
 
 /// How long a peer may be silent where it is to speak, and where it is not to, in milliseconds.
-const LONG: u64 = 30_000;
+const LONG: u64 = 60_000;
 
 const SHORT: u64 = 300;
 
@@ -200,7 +200,7 @@ fn none_twice(alloc: Global, a: &Ran, b: &Ran) -> Result<bool, AllocError> {
     Ok(lines == 2 * TAKES)
 }
 
-/// A port that was bound, and is not any more. The clock is in a hurry, since each retry comes later than the one before.
+/// A port that was bound, and is not any more. The clock goes on fast, since each retry comes later than the one before.
 fn nobody<R: Net<Listener = TcpListener, Stream = TcpStream> + Threads + Wait + Sync + Clock>(
     rt: &R,
     alloc: Global,
@@ -208,7 +208,7 @@ fn nobody<R: Net<Listener = TcpListener, Stream = TcpStream> + Threads + Wait + 
     let (listener, port) = listen(rt)?;
     drop(listener);
     let url = format!(in alloc; "pulsar://127.0.0.1:{port}")?;
-    let mut edge = Hurried::new(TcpEdge::new(rt), 60_000);
+    let mut edge = Paced::new(TcpEdge::new(rt), 60_000);
     let ran = over(rt, alloc, &["produce", &url, "t"], b"a\n", &mut edge)?;
     Ok(ran.is(FAILED, b"failed connection.io refused\n"))
 }

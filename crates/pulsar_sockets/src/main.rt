@@ -3,7 +3,7 @@
 #![tactic(auto)]
 
 mod cases;
-mod hurried;
+mod paced;
 mod peers;
 mod running;
 

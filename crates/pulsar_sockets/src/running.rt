@@ -1,5 +1,6 @@
 //! A run of a program over sockets.
 
+use crate::paced::Paced;
 use pulsar_cli::{Status, TcpEdge, run};
 use pulsar_client::{CustomRoutingPolicy, MemorySink, MemorySource};
 use pulsar_pumps::Edge;
@@ -8,6 +9,9 @@ use std::net::{Net, TcpListener, TcpStream};
 use std::sync::Wait;
 use std::thread::Threads;
 use std::time::Clock;
+
+/// How many milliseconds a turn takes by the clock of a run.
+const TURN: u64 = 10;
 
 /// How a run ended, and what it printed.
 #[derive(Debug, PartialEq, Eq, Drop)]
@@ -31,7 +35,7 @@ pub fn ran<R: Net<Listener = TcpListener, Stream = TcpStream> + Threads + Wait +
     text: &[u8],
     silence: u64,
 ) -> Result<Ran, AllocError> {
-    let mut edge = TcpEdge::with_silence(rt, silence);
+    let mut edge = Paced::new(TcpEdge::with_silence(rt, silence), TURN);
     over(rt, alloc, words, text, &mut edge)
 }
 

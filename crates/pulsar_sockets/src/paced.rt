@@ -1,33 +1,33 @@
-//! An edge whose clock is in a hurry.
+//! An edge whose clock goes by the pauses alone, so that a run is the same on a slow machine.
 
 ghost use Rattle.std.specs.Prelude.{◌≡◌, ◌≤◌, Some};
 
 use pulsar_pumps::Edge;
 use pulsar_wire::error::IoKind;
 
-/// An edge whose clock goes on by so much more at each look.
+/// An edge whose clock goes on by so many milliseconds at each pause.
 #[derive(Drop)]
-pub struct Hurried<E: Edge + Drop> {
+pub struct Paced<E: Edge + Drop> {
     edge: E,
     step: u64,
-    ahead: u64,
+    clock: u64,
     first: Option<u64>,
     greatest: Option<u64>,
 }
 
-impl<E: Edge + Drop> Hurried<E> {
-    pub fn new(edge: E, step: u64) -> Hurried<E> {
-        Hurried {
+impl<E: Edge + Drop> Paced<E> {
+    pub fn new(edge: E, step: u64) -> Paced<E> {
+        Paced {
             edge,
             step,
-            ahead: 0,
+            clock: 0,
             first: None,
             greatest: None,
         }
     }
 }
 
-impl<E: Edge + Drop> Edge for Hurried<E> {
+impl<E: Edge + Drop> Edge for Paced<E> {
     type Input = E::Input;
 
     type Output = E::Output;
@@ -43,8 +43,7 @@ impl<E: Edge + Drop> Edge for Hurried<E> {
     }
 
     fn now(&mut self) -> u64 {
-        self.ahead = self.ahead.saturating_add(self.step);
-        let now = self.edge.now().saturating_add(self.ahead);
+        let now = self.clock;
         if self.first.is_none() {
             self.first = Some(now);
         }
@@ -56,6 +55,7 @@ impl<E: Edge + Drop> Edge for Hurried<E> {
     }
 
     fn pause(&mut self, ms: u64) {
+        self.clock = self.clock.saturating_add(self.step);
         self.edge.pause(ms);
     }
 }

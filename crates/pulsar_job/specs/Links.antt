@@ -104,7 +104,7 @@ wants s = flat_map dialed_for s.effects
 -- the link was dialed
 abbrev pub answers : (link : ℕ) → Heard → Bool
 answers l (Opened k) = k == l
-answers l (FailedToOpen k kind) = k == l
+answers l (FailedToOpen k why) = k == l
 answers l _ = false
 
 abbrev pub was_dialed : (link : ℕ) → List Step → Bool

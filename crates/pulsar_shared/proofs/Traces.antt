@@ -1,5 +1,5 @@
 -- One more entry of a trace.
-use Rattle.std.proofs.Common.{◌≡◌, ◌∙◌, ◌+◌, ℕ, ap, sym, subst, arith, List, [], ◌∷◌, ◌++◌, length, map, reverse}
+use Rattle.std.proofs.Common.{◌≡◌, ◌∙◌, ◌+◌, ◌≤◌, ℕ, ap, sym, subst, arith, Bool, true, List, [], ◌∷◌, ◌++◌, length, map, reverse}
 use Rattle.std.proofs.lemmas.List.{reverse-append, drop-map, length-map}
 use Rattle.std.proofs.Math.Logic.{∥∥₁_map}
 use Rattle.std.specs.Prelude.{IfOk, Result, Ok, Err, Some, drop}
@@ -14,7 +14,7 @@ use Rattle.pulsar_machine.specs.Machine.{step}
 use Rattle.pulsar_pumps.specs.declared.submitter.Receipt.{Receipt}
 use Rattle.pulsar_pumps.specs.Made.{Made, made_by}
 use Rattle.pulsar_pumps.specs.Outside.{Grows}
-use Rattle.pulsar_shared.specs.Trace.{Legal, history, numbered, step_of, steps}
+use Rattle.pulsar_shared.specs.Trace.{Had, Legal, SaysEnded, has_news, history, numbered, step_of, steps}
 
 same_step : (d e : Event) (x y : List Effect) → heard d ≡ heard e → map shown x ≡ map shown y → step d x ≡ step e y
 same_step d e x y p q = ap (λ t. record { event = t; effects = map shown x }) p ∙ ap (λ t. record { event = heard e; effects = t }) q
@@ -43,13 +43,33 @@ stands_more S o p c d xs ys e x is same goes s =
 pub legal_of : {C : Type 0} (S : Options → C → List Step → Type 0) (legal : (o : Options) (c : C) (h : List Step) → S o c h → Good o h) (o : Options) (c : C) (h : List Step) → ∥ S o c h ∥₁ → ∥ Good o h ∥₁
 legal_of S legal o c h s = ∥∥₁_map s (λ t. legal o c h t)
 
--- what is copied of a trace is the rest of a legal history
-pub since_legal : {E : Type 0} (o p : Options) (r : Result (Vec (Event × Vec Effect)) E) (xs : List (Event × Vec Effect)) (from : ℕ) → o ≡ p → ∥ Good o (history xs) ∥₁ →
-    IfOk r (λ v. steps v.items ≡ steps (drop from xs)) → IfOk r (λ v. (ss : List Step) × Legal p ss × (steps v.items ≡ drop from ss))
-since_legal o p (Ok v) xs from same good is =
-    let P : Options → Type 0 = λ q. ∥ Good q (history xs) ∥₁ in
-    (steps xs, subst P same good, is ∙ sym (drop-map step_of from xs))
-since_legal o p (Err e) xs from same good is = tt
+-- WHAT A DESK HAD
+
+module _ (o p : Options) (opening total amount : ℕ) (xs : List (Event × Vec Effect)) (same : o ≡ p) (good : ∥ Good o (history xs) ∥₁) (counted : length xs ≡ opening + total) (bound : amount ≤ total) where
+  pub had : Had p (opening + amount) (steps xs)
+  had = record {
+    legal = subst (λ (q : Options). ∥ Good q (history xs) ∥₁) same good;
+    long = omega (arith, counted, bound, length-map xs step_of);
+  }
+
+  pub since_had : {E : Type 0} (r : Result (Vec (Event × Vec Effect)) E) (from : ℕ) → IfOk r (λ v. steps v.items ≡ steps (drop from xs)) →
+      IfOk r (λ v. (ss : List Step) × Had p (opening + amount) ss × (steps v.items ≡ drop from ss))
+  since_had (Ok v) from is = (steps xs, had, is ∙ sym (drop-map step_of from xs))
+  since_had (Err e) from is = tt
+
+  pub ended_had : {E : Type 0} (r : Result Bool E) (link : ℕ) → IfOk r (λ b. SaysEnded o (history xs) link b) → IfOk r (λ b. (ss : List Step) × Had p (opening + amount) ss × SaysEnded p (reverse ss) link b)
+  ended_had (Ok b) link is = (steps xs, had, subst (λ (q : Options). SaysEnded q (history xs) link b) same is)
+  ended_had (Err e) link is = tt
+
+  pub news_had : (from : ℕ) (b : Bool) → b ≡ has_news (steps (drop from xs)) → b ≡ true → (ss : List Step) × Had p (opening + amount) ss × (has_news (drop from ss) ≡ true)
+  news_had from b is yes_news = (steps xs, had, ap has_news (drop-map step_of from xs) ∙ (sym is ∙ yes_news))
+
+  pub submitted_had : (ys : List (Event × Vec Effect)) (q : Options) (e : Event) (r : Receipt) → q ≡ o → ∥ Good q (history ys) ∥₁ → steps ys ≡ steps xs ++ step e r.effects.items ∷ [] → r.index ≡ length xs →
+      (ss : List Step) × Had p (opening + amount) ss × (r.index ≡ length ss) × Legal p (ss ++ step e r.effects.items ∷ [])
+  submitted_had ys q e r new there is index =
+    let P : List Step → Type 0 = λ ss. ∥ Good p (reverse ss) ∥₁ in
+    let at : ∥ Good p (history ys) ∥₁ = subst (λ (z : Options). ∥ Good z (history ys) ∥₁) (new ∙ same) there in
+    (steps xs, had, omega (arith, index, length-map xs step_of), subst P is at)
 
 -- A LIST WITH ITS PLACES
 

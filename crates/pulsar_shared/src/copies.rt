@@ -1,8 +1,9 @@
-//! Copies of what stands in a trace.
+//! What stands in a trace: copies of it, and whether it has news.
 
 ghost use Rattle.std.specs.Prelude.{◌≡◌, ℕ, IfOk, Ok, drop, map};
-ghost use Rattle.pulsar_calls.specs.Content.{hands, shown};
-ghost use Rattle.pulsar_shared.specs.Trace.{steps};
+ghost use Rattle.pulsar_calls.specs.Content.{hands, heard, shown};
+ghost use Rattle.pulsar_pumps.specs.Made.{of_link};
+ghost use Rattle.pulsar_shared.specs.Trace.{has_news, is_new, steps};
 
 use pulsar_calls::copying::copy_answer;
 use pulsar_calls::effect::{Effect, Handed};
@@ -112,4 +113,31 @@ pub(crate) fn rest(entries: &[(Event, Vec<Effect>)], from: u64) -> &[(Event, Vec
 {
     let from = (from as usize).min(entries.len());
     &entries[from..]
+}
+
+/// One of them is no Drain.
+pub(crate) fn any_news(entries: &[(Event, Vec<Effect>)]) -> bool
+    ensures { result ≡ has_news (steps entries.now) }
+{
+    for entry in entries {
+        if is_news(&entry.0) {
+            return true;
+        }
+    }
+    false
+}
+
+fn is_news(event: &Event) -> bool
+    ensures { result ≡ is_new (of_link (heard event.now)) }
+{
+    match event {
+        Event::Call(_) => true,
+        Event::Opened(_) => true,
+        Event::Failed(_, _) => true,
+        Event::Bytes(_, _) => true,
+        Event::Lost(_) => true,
+        Event::Drain(_, _) => false,
+        Event::Tick(_) => true,
+        Event::Poll(_) => true,
+    }
 }

@@ -1,10 +1,10 @@
 //! The client behind a lock, with a ledger that counts its events.
 
-ghost use Rattle.std.specs.Prelude.{◌≡◌, ◌∷◌, ◌++◌, ◌+◌, ◌<◌, ◌≤◌, [], ℕ, List, IfOk, IfSome, MatchOption, OnErr, OnOk, drop, length, sum_by};
+ghost use Rattle.std.specs.Prelude.{◌≡◌, ◌∷◌, ◌++◌, ◌+◌, ◌<◌, ◌≤◌, [], ℕ, true, List, IfOk, IfSome, MatchOption, OnErr, OnOk, drop, length, reverse, sum_by};
 ghost use Rattle.pulsar_agenda.specs.Run.{Step};
 ghost use Rattle.pulsar_tables.specs.View.{Options};
 ghost use Rattle.pulsar_machine.specs.Machine.{step};
-ghost use Rattle.pulsar_shared.specs.Trace.{Legal, steps};
+ghost use Rattle.pulsar_shared.specs.Trace.{Had, Legal, SaysEnded, has_news, steps};
 ghost use Rattle.pulsar_shared.specs.Unset.{unset};
 
 use crate::traced::Traced;
@@ -71,27 +71,58 @@ impl<L: Opening> Pass<L> {
 
 impl<L: Opening, C: Machine> Desk<L, C> {
     fn submit(&mut self, pass: &mut Pass<L>, event: Event) -> Result<Receipt, NoMemory>
-        ensures entry { IfOk result (λ r. steps self.new.traced.trace.items ≡ steps self.old.traced.trace.items ++ step event r.effects.items ∷ []) }
-        ensures index { IfOk result (λ r. r.index ≡ length self.old.traced.trace.items) }
+        ensures stands { IfOk result (λ r. (ss : List Step) × Had L.given (L.opening + pass.old.share.amount) ss × (r.index ≡ length ss) × Legal L.given (ss ++ step event r.effects.items ∷ [])) }
         ensures counted { OnOk result (pass.new.share.amount ≡ pass.old.share.amount + 1) }
         ensures err { OnErr result (pass.new.share.amount ≡ pass.old.share.amount) }
         ensures parts { pass.new.parts ≡ pass.old.parts }
     {
         let Desk { traced, events } = self;
         let Pass { share, parts: _ } = pass;
-        let receipt = traced.apply(event)?;
-        events.add(share, 1);
-        Ok(receipt)
+        events.audit(share);
+        match traced.apply(event) {
+            Ok(receipt) => {
+                events.add(share, 1);
+                Ok(receipt)
+            }
+            Err(e) => Err(e),
+        }
     }
 
-    fn is_quiet(&self, seen: u64) -> bool {
-        !self.traced.has_failed() && !self.traced.has_news(seen)
-    }
-
-    fn since(&self, from: u64) -> Result<Vec<(Event, Vec<Effect>)>, NoMemory>
-        ensures { IfOk result (λ v. (ss : List Step) × Legal L.given ss × (steps v.items ≡ drop from ss)) }
+    /// None while it has neither run out of memory nor has news from this place on.
+    fn news(&mut self, pass: &mut Pass<L>, seen: u64) -> Option<Result<(), NoMemory>>
+        ensures had { IfSome result (λ r. OnOk r ((ss : List Step) × Had L.given (L.opening + pass.old.share.amount) ss × (has_news (drop seen ss) ≡ true))) }
+        ensures same { pass.new ≡ pass.old }
     {
-        self.traced.copies(from)
+        let Desk { traced, events } = self;
+        let Pass { share, parts: _ } = pass;
+        events.audit(share);
+        if traced.has_failed() {
+            return Some(Err(NoMemory));
+        }
+        if traced.has_news(seen) {
+            return Some(Ok(()));
+        }
+        None
+    }
+
+    fn ended(&mut self, pass: &mut Pass<L>, link: u64) -> Result<bool, NoMemory>
+        ensures had { IfOk result (λ b. (ss : List Step) × Had L.given (L.opening + pass.old.share.amount) ss × SaysEnded L.given (reverse ss) link b) }
+        ensures same { pass.new ≡ pass.old }
+    {
+        let Desk { traced, events } = self;
+        let Pass { share, parts: _ } = pass;
+        events.audit(share);
+        traced.link_ended(link)
+    }
+
+    fn since(&mut self, pass: &mut Pass<L>, from: u64) -> Result<Vec<(Event, Vec<Effect>)>, NoMemory>
+        ensures had { IfOk result (λ v. (ss : List Step) × Had L.given (L.opening + pass.old.share.amount) ss × (steps v.items ≡ drop from ss)) }
+        ensures same { pass.new ≡ pass.old }
+    {
+        let Desk { traced, events } = self;
+        let Pass { share, parts: _ } = pass;
+        events.audit(share);
+        traced.copies(from)
     }
 
     fn close(self, all: Share<L>) -> Traced<C>
@@ -146,13 +177,15 @@ impl<L: Opening, C: Machine> Shared<L, C> {
         })
     }
 
-    /// Waits for the lock, and makes the step of this event. The share of the pass rises by one.
+    /// Waits for the lock, and makes the step of this event. Its place in the trace is not before the opening and what the pass has submitted.
+    /// The share of the pass rises by one.
     pub fn submit<R: Wait>(
         &self,
         rt: &R,
         pass: &mut Pass<L>,
         event: Event,
     ) -> Result<Receipt, NoMemory>
+        ensures stands { IfOk result (λ r. (ss : List Step) × Had L.given (L.opening + pass.old.share.amount) ss × (r.index ≡ length ss) × Legal L.given (ss ++ step event r.effects.items ∷ [])) }
         ensures counted { OnOk result (pass.new.share.amount ≡ pass.old.share.amount + 1) }
         ensures err { OnErr result (pass.new.share.amount ≡ pass.old.share.amount) }
         ensures parts { pass.new.parts ≡ pass.old.parts }
@@ -169,31 +202,34 @@ impl<L: Opening, C: Machine> Shared<L, C> {
         pass: &mut Pass<L>,
         from: u64,
     ) -> Result<Vec<(Event, Vec<Effect>)>, NoMemory>
-        ensures entries { IfOk result (λ v. (ss : List Step) × Legal L.given ss × (steps v.items ≡ drop from ss)) }
+        ensures entries { IfOk result (λ v. (ss : List Step) × Had L.given (L.opening + pass.old.share.amount) ss × (steps v.items ≡ drop from ss)) }
         ensures same { pass.new ≡ pass.old }
     {
-        self.desk.lock(rt).since(from)
+        self.desk.lock(rt).since(pass, from)
     }
 
     /// Waits until an entry that is no Drain stands at this place of the trace or later. Once the client has run out of memory it answers that,
     /// also where it waits already.
     pub fn wait<R: Wait>(&self, rt: &R, pass: &mut Pass<L>, seen: u64) -> Result<(), NoMemory>
-        ensures { pass.new ≡ pass.old }
+        ensures had { OnOk result ((ss : List Step) × Had L.given (L.opening + pass.old.share.amount) ss × (has_news (drop seen ss) ≡ true)) }
+        ensures same { pass.new ≡ pass.old }
     {
-        let desk = self
-            .moved
-            .wait_while(rt, self.desk.lock(rt), |desk| desk.is_quiet(seen));
-        if desk.traced.has_failed() {
-            return Err(NoMemory);
+        let mut desk = self.desk.lock(rt);
+        for _ in rt.forever() {
+            if let Some(answer) = desk.news(pass, seen) {
+                return answer;
+            }
+            desk = self.moved.wait(rt, desk);
         }
-        Ok(())
+        unreachable!()
     }
 
     /// Waits for the lock, and says whether the link has ended. Once the client has run out of memory it answers that.
     pub fn ended<R: Wait>(&self, rt: &R, pass: &mut Pass<L>, link: u64) -> Result<bool, NoMemory>
-        ensures { pass.new ≡ pass.old }
+        ensures had { IfOk result (λ b. (ss : List Step) × Had L.given (L.opening + pass.old.share.amount) ss × SaysEnded L.given (reverse ss) link b) }
+        ensures same { pass.new ≡ pass.old }
     {
-        self.desk.lock(rt).traced.link_ended(link)
+        self.desk.lock(rt).ended(pass, link)
     }
 
     /// The pass takes the other's share and parts.

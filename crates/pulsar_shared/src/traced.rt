@@ -4,9 +4,9 @@ ghost use Rattle.std.specs.Prelude.{◌≡◌, ◌∷◌, ◌++◌, ◌+◌, ◌
 ghost use Rattle.pulsar_agenda.specs.Run.{Good, view};
 ghost use Rattle.pulsar_tables.specs.View.{Waits};
 ghost use Rattle.pulsar_machine.specs.Machine.{step};
-ghost use Rattle.pulsar_shared.specs.Trace.{SaysEnded, history, numbered, steps};
+ghost use Rattle.pulsar_shared.specs.Trace.{SaysEnded, has_news, history, numbered, steps};
 
-use crate::copies::{copy_effects, copy_entries, rest};
+use crate::copies::{any_news, copy_effects, copy_entries, rest};
 use pulsar_calls::effect::Effect;
 use pulsar_calls::event::Event;
 use pulsar_machine::Machine;
@@ -127,13 +127,10 @@ impl<C: Machine> Traced<C> {
     }
 
     /// An entry that is no Drain stands at this place or later.
-    pub fn has_news(&self, from: u64) -> bool {
-        for entry in rest(&self.trace, from) {
-            if !matches!(entry.0, Event::Drain(_, _)) {
-                return true;
-            }
-        }
-        false
+    pub fn has_news(&self, from: u64) -> bool
+        ensures { result ≡ has_news (steps (drop from self.now.trace.items)) }
+    {
+        any_news(rest(&self.trace, from))
     }
 
     fn make(&mut self, event: Event) -> Result<Receipt, NoMemory>

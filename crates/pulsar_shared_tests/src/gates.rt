@@ -24,7 +24,7 @@ fn one(alloc: Global, digits: &str) -> Result<Vec<Vec<u8>>, NoMemory> {
 }
 
 /// How often an input waited in vain, and how much longer the trace then is.
-fn gates<L: Opening + Send + Sync, C: Machine, R: Threads + Wait + Sync>(
+fn gates<L: Opening + Send + Sync, C: Machine + Send, R: Threads + Wait + Sync>(
     rt: &R,
     alloc: Global,
     blank: Blank,
@@ -77,7 +77,7 @@ fn gates<L: Opening + Send + Sync, C: Machine, R: Threads + Wait + Sync>(
     Ok((x.saturating_add(y), traced.trace().len()))
 }
 
-fn gates_after<C: Machine, R: Threads + Wait + Sync>(
+fn gates_after<C: Machine + Send, R: Threads + Wait + Sync>(
     rt: &R,
     alloc: Global,
     options: C::Options,

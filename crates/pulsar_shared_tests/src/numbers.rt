@@ -1,6 +1,6 @@
 //! Numbers that threads draw.
 
-ghost use Rattle.std.specs.Prelude.{◌≡◌, IfOk};
+ghost use Rattle.pulsar_serial.specs.Seats.{Belongs};
 
 use pulsar_shared::{Exhausted, NumberSeat, SerialId};
 use pulsar_wire::NoMemory;
@@ -17,7 +17,7 @@ fn draw<R: Wait>(
     mut seat: NumberSeat,
     count: u32,
 ) -> Result<Vec<u64>, NoMemory>
-    requires { seat.seat.table_id ≡ ids.now.table.shared.table_id }
+    requires { Belongs seat ids.now }
 {
     let mut numbers = Vec::new(alloc);
     for _ in 0..count {

@@ -41,7 +41,7 @@ fn calls<L: Opening, C: Machine, R: Wait>(
 }
 
 /// What `since` answers when the pumps have ended, and the trace that `finish` gives; and whether the output was shut.
-fn sent<L: Opening + Send + Sync, C: Machine, R: Threads + Wait + Sync>(
+fn sent<L: Opening + Send + Sync, C: Machine + Send, R: Threads + Wait + Sync>(
     rt: &R,
     alloc: Global,
     blank: Blank,
@@ -89,7 +89,7 @@ fn sent<L: Opening + Send + Sync, C: Machine, R: Threads + Wait + Sync>(
 }
 
 /// The same, for a client to which these lines happened first.
-fn sent_after<C: Machine, R: Threads + Wait + Sync>(
+fn sent_after<C: Machine + Send, R: Threads + Wait + Sync>(
     rt: &R,
     alloc: Global,
     options: C::Options,

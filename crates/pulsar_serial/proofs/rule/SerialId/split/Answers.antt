@@ -1,6 +1,6 @@
 use Rattle.std.proofs.Common.{◌<◌, arith}
 use Rattle.pulsar_serial.proofs.Drawing.{splits}
-use Rattle.pulsar_serial.proofs.SerialId.split.Goals as goal
+use Rattle.pulsar_serial.proofs.rule.SerialId.split.Goals as goal
 
 pub split_seat-theirs-requires : goal.split_seat-theirs-requires
 split_seat-theirs-requires c =

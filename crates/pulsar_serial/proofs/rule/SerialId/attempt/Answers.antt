@@ -1,6 +1,6 @@
 use Rattle.std.proofs.Common.{◌<◌, ◌∙◌, arith}
 use Rattle.pulsar_serial.proofs.Drawing.{draws, looks}
-use Rattle.pulsar_serial.proofs.SerialId.attempt.Goals as goal
+use Rattle.pulsar_serial.proofs.rule.SerialId.attempt.Goals as goal
 
 pub load-n-requires : goal.load-n-requires
 load-n-requires c =

@@ -1,7 +1,0 @@
-use Rattle.std.proofs.Common.{◌≡◌}
-use Rattle.pulsar_serial.proofs.SerialId.get.Given as goal
-
-abbrev pub invariant-loop : goal.invariant-loop
-invariant-loop g l =
-    (goal.iterator-loop g).can_next l.iterator' × (goal.iterator-loop g).is_finite l.iterator'
-    × (l.seat.seat.table_id ≡ l.fn.seat.seat.table_id) × (l.seat.seat.me.0 ≡ l.fn.seat.seat.me.0)

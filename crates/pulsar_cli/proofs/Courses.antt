@@ -102,7 +102,7 @@ plays-close p q r first second plays =
 
 -- the acknowledgement of a poll is a call
 ack-called : (consumer : ℕ) (e : Heard) (i : Option Item) → IsAck consumer (Some e) i → (a : Asked) × (e ≡ Called a)
-ack-called consumer e None no = absurd no
+ack-called consumer e None wrong = absurd wrong
 ack-called consumer e (Some item) is = (Ack consumer item.topic is.id false, is.asks)
 
 -- a round
@@ -118,8 +118,7 @@ plays-round-some {U = U} {V = V} {seed = seed} {count = count} consumer e p q r 
     let two = second one.0 in
     let called = ack-called consumer e (item_of one.1.effects) one.1.is_ack in
     let by = subst (λ (k : Heard). LeadsBy Turn k U V seed count r t) called.1 third in
-    let three = by two.0 tt in
-    (
+    let three = by two.0 tt in (
       three.0,
       record {
         ack = Some e;
@@ -152,3 +151,11 @@ plays-go p q r t u v first second third fourth fifth plays =
         closes = five.1;
       },
     )
+
+-- rounds of a consumer by its ticket
+pub leads-rounds : {S S' : List Step → Type 0} {seed all : ℕ} (n m count : ℕ) (p q : Play) → n ≡ m → Leads (Rounds n count) S S' seed all p q → Leads (Rounds m count) S S' seed all p q
+leads-rounds {S = S} {S' = S'} {seed = seed} {all = all} n m count p q is by = subst (λ (k : ℕ). Leads (Rounds k count) S S' seed all p q) is by
+
+-- a poll by how its item is to be acknowledged
+pub polls-as : {S S' : List Step → Type 0} {seed count : ℕ} (consumer : ℕ) (a b : Option Heard) (p q : Play) → a ≡ b → Leads (Polls consumer a) S S' seed count p q → Leads (Polls consumer b) S S' seed count p q
+polls-as {S = S} {S' = S'} {seed = seed} {count = count} consumer a b p q is by = subst (λ (k : Option Heard). Leads (Polls consumer k) S S' seed count p q) is by

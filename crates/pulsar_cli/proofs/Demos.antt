@@ -3,7 +3,7 @@ use Rattle.std.proofs.Common.{◌≡◌, ℕ, zero, suc, ◌+◌, ◌∙◌, sym
 use Rattle.std.specs.Prelude.{◌==◌, if◌then◌else◌, reverse}
 use Rattle.std.specs.Global.{Vec}
 use Rattle.std.specs.List.{flat_map}
-use Rattle.std.proofs.lemmas.List.{map-append, reverse-append}
+use Rattle.std.proofs.lemmas.List.{map-append, reverse-append, take_more}
 use Rattle.pulsar_calls.specs.declared.event.Event.{Event}
 use Rattle.pulsar_calls.specs.declared.effect.Effect.{Effect}
 use Rattle.pulsar_calls.specs.Content.{Heard, Shown, Write, Hands, shown}
@@ -15,7 +15,6 @@ use Rattle.pulsar_broker.specs.declared.broker.Broker.{Broker}
 use Rattle.pulsar_cli.specs.Demo.{Answered, Asks, Busy, Item, Exchange, Owes, Round, Rounds, Sends, fed, fed_by, fed_in, item_of, payload, piece_of, producer_ticket, received, url}
 use Rattle.pulsar_producer.specs.Message.{bare}
 use Rattle.pulsar_calls.specs.Content.{Send}
-use Rattle.pulsar_producer_table.proofs.Grown.{map_more}
 use Rattle.pulsar_cli.specs.declared.play.Play.{Play}
 use Rattle.pulsar_cli.specs.Played.{Counts, Holds, Sides, history, step_of, without_takes}
 
@@ -121,6 +120,10 @@ unfolding Rounds
 rounds-more consumer n {old = old} {middle = middle} {new = new} rounds next = subst (λ (k : ℕ). Rounds consumer k old new) (sym (add-one n)) (middle, rounds, next)
 
 -- FEEDING
+
+map_more : {A B : Type 0} (f : A → B) (xs : List A) (i : ℕ) (x : A) → i < length xs → x ≡ get_or xs i x → map f (take (i + 1) xs) ≡ map f (take i xs) ++ f x ∷ []
+map_more f xs i x within is =
+    ap (map f) (take_more xs i x within) ∙ map-append f (take i xs) (get_or xs i x ∷ []) ∙ ap (λ y. map f (take i xs) ++ f y ∷ []) (sym is)
 
 pub feed-more : (es : List Effect) (i : ℕ) (e : Effect) (acts : List Act) → i < length es → e ≡ get_or es i e → fed_in (map shown (take (i + 1) es)) acts ≡ fed_by (shown e) ++ fed_in (map shown (take i es)) acts
 feed-more es i e acts lt is =

@@ -197,7 +197,14 @@ fn submit<M: Machine>(client: &mut M, play: &mut Play, event: Box<Event>) -> Res
 fn writes(effects: &[Effect]) -> bool
     ensures { result ≡ writes (map shown effects.now) }
 {
-    effects.iter().any(is_write)
+    let mut left = effects;
+    while let Some((effect, rest)) = left.split_first() {
+        if is_write(effect) {
+            return true;
+        }
+        left = rest;
+    }
+    false
 }
 
 fn is_write(effect: &Effect) -> bool

@@ -8,14 +8,13 @@ ghost use Rattle.pulsar_agenda.specs.Run.{Step};
 ghost use Rattle.pulsar_tables.specs.View.{Options};
 ghost use Rattle.pulsar_producer.specs.Routing.{Policy};
 ghost use Rattle.pulsar_cli.specs.Script.{Adds, AddsFront, IsDone, Printed, Ran, Seen, seen, since};
-ghost use Rattle.pulsar_cli.specs.Form.{Demo, IsLine, Script, Shows, form};
+ghost use Rattle.pulsar_cli.specs.Form.{Demo, IsLine, Script, Shows, form, line};
 ghost use Rattle.pulsar_cli.specs.Shown.{Awaits, Fed, Going, Halts, HasConsumed, HasFound, HasTold, InTurn, IsLast, Prints, Refuses, Refusing, Running, Told, options_in, remaining, unread};
 
 use crate::demonstration::demo;
 use crate::feed::{Feed, Next};
 use crate::form::Form;
 use crate::options::options;
-use crate::played::Demo;
 use crate::reading::Reading;
 use crate::stop::Stop;
 use pulsar_client::{CustomRoutingPolicy, Event, Pulsar, Sink, Source};
@@ -81,16 +80,23 @@ fn show<K: Sink>(alloc: Global, seed: u64, count: u64, sink: &mut K) -> Status
 fn demo_line(alloc: Global, seed: u64, count: u64) -> Result<String, NoMemory>
     ensures { IfOk result (λ text. IsLine seed count (string_bytes text)) }
 {
-    let Demo {
-        steps,
-        sent,
-        received,
-        bytes,
-        acked,
-    } = demo(alloc, seed, count)?;
-    drop(steps);
-    let line = format!(in alloc; "sent {sent} received {received} bytes {bytes} acked {acked}\n")?;
-    Ok(line)
+    let shown = demo(alloc, seed, count)?;
+    let text = numbers_line(alloc, shown.sent, shown.received, shown.bytes, shown.acked)?;
+    Ok(text)
+}
+
+fn numbers_line(
+    alloc: Global,
+    sent: u64,
+    received: u64,
+    bytes: u64,
+    acked: u64,
+) -> Result<String, NoMemory>
+    ensures { IfOk result (λ text. string_bytes text
+        ≡ line (record { sent = sent; received = received; bytes = bytes; acked = acked })) }
+{
+    let text = format!(in alloc; "sent {sent} received {received} bytes {bytes} acked {acked}\n")?;
+    Ok(text)
 }
 
 /// Reads a script from the source and prints its run to the sink. Its client has these policies. It is made here, and driven where it is held:

@@ -136,11 +136,14 @@ fn acked_by(ticket: u64, event: &Event, effects: &[Effect]) -> u64
 fn done_in(ticket: u64, effects: &[Effect]) -> u64
     ensures { result ≡ count_if (list_any (is_done ticket) (map shown effects.now)) }
 {
-    if effects.iter().any(|effect| is_done(ticket, effect)) {
-        1
-    } else {
-        0
+    let mut left = effects;
+    while let Some((effect, rest)) = left.split_first() {
+        if is_done(ticket, effect) {
+            return 1;
+        }
+        left = rest;
     }
+    0
 }
 
 /// The call of this ticket has ended Done.

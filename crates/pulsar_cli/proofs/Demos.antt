@@ -1,5 +1,5 @@
 -- How a demo goes on.
-use Rattle.std.proofs.Common.{◌≡◌, ℕ, zero, suc, ◌+◌, ◌∙◌, sym, ap, subst, refl, rules, add-one, List, [], ◌∷◌, ◌++◌, append-nil, append_assoc, map, ◌<◌, take, length, get_or, Option, Some, None}
+use Rattle.std.proofs.Common.{◌≡◌, ℕ, zero, suc, ◌+◌, ◌∙◌, sym, ap, subst, refl, rules, add-one, List, [], ◌∷◌, ◌++◌, append-nil, append_assoc, map, ◌<◌, take, length, get_or, true, Option, Some, None}
 use Rattle.std.specs.Prelude.{◌==◌, if◌then◌else◌, reverse}
 use Rattle.std.specs.Global.{Vec}
 use Rattle.std.specs.List.{flat_map}
@@ -99,25 +99,25 @@ pub busy-none : (h : List Step) → Busy 0 h h
 unfolding Busy
 busy-none h = refl
 
-pub busy-more : (n : ℕ) {old middle new : List Step} → Busy n old middle → Exchange true middle new → Busy (n + 1) old new
+pub busy-more : (n : ℕ) (old middle new : List Step) → Busy n old middle → Exchange true middle new → Busy (n + 1) old new
 unfolding Busy
-busy-more n {old = old} {middle = middle} {new = new} busy next = subst (λ (k : ℕ). Busy k old new) (sym (add-one n)) (middle, busy, next)
+busy-more n old middle new busy next = subst (λ (k : ℕ). Busy k old new) (sym (add-one n)) (middle, busy, next)
 
 pub sends-none : (seed : ℕ) (h : List Step) → Sends seed 0 h h
 unfolding Sends
 sends-none seed h = refl
 
-pub sends-more : (seed n : ℕ) {old middle new : List Step} → Sends seed n old middle → Asks (Send producer_ticket (bare (payload seed n))) middle new → Sends seed (n + 1) old new
+pub sends-more : (seed n : ℕ) (old middle new : List Step) → Sends seed n old middle → Asks (Send producer_ticket (bare (payload seed n))) middle new → Sends seed (n + 1) old new
 unfolding Sends
-sends-more seed n {old = old} {middle = middle} {new = new} sends next = subst (λ (k : ℕ). Sends seed k old new) (sym (add-one n)) (middle, sends, next)
+sends-more seed n old middle new sends next = subst (λ (k : ℕ). Sends seed k old new) (sym (add-one n)) (middle, sends, next)
 
 pub rounds-none : (consumer : ℕ) (h : List Step) → Rounds consumer 0 h h
 unfolding Rounds
 rounds-none consumer h = refl
 
-pub rounds-more : (consumer n : ℕ) {old middle new : List Step} → Rounds consumer n old middle → Round consumer middle new → Rounds consumer (n + 1) old new
+pub rounds-more : (consumer n : ℕ) (old middle new : List Step) → Rounds consumer n old middle → Round consumer middle new → Rounds consumer (n + 1) old new
 unfolding Rounds
-rounds-more consumer n {old = old} {middle = middle} {new = new} rounds next = subst (λ (k : ℕ). Rounds consumer k old new) (sym (add-one n)) (middle, rounds, next)
+rounds-more consumer n old middle new rounds next = subst (λ (k : ℕ). Rounds consumer k old new) (sym (add-one n)) (middle, rounds, next)
 
 -- FEEDING
 

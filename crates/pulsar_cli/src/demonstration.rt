@@ -1,6 +1,6 @@
 //! The demo: a client against a broker in memory.
 
-ghost use Rattle.std.specs.Prelude.{[], IfOk};
+ghost use Rattle.std.specs.Prelude.{◌≡◌, [], IfOk};
 ghost use Rattle.pulsar_cli.specs.Demo.{IsDemo};
 ghost use Rattle.pulsar_cli.specs.Played.{Holds, history, numbers};
 ghost use Rattle.pulsar_cli.specs.Script.{defaults};

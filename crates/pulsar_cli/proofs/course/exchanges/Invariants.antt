@@ -7,4 +7,4 @@ use Rattle.pulsar_cli.proofs.course.exchanges.Given as goal
 abbrev pub invariant-loop-made : goal.invariant-loop-made
 invariant-loop-made g l =
     (seed count : ℕ) → Plays (g.M.Machine.stands (defaults []) l.fn.client) [] seed count l.fn.play
-    → Plays (g.M.Machine.stands (defaults []) l.client) [] seed count l.play × Busy l.made (history l.fn.play.steps) (history l.play.steps)
+    → Plays (g.M.Machine.stands (defaults []) l.client) [] seed count l.play × Busy l._made (history l.fn.play.steps) (history l.play.steps)

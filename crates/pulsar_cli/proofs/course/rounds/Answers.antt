@@ -11,10 +11,10 @@ pub loop-made-preserved : goal.loop-made-preserved
 loop-made-preserved g c = λ seed all plays.
     let inv = c.loop-made.invariant seed all plays in
     let next = c.in_ok-round.ensures seed all inv.0 in
-    (next.0, rounds-more c.args.consumer c.loop-made.made inv.1 next.1)
+    (next.0, rounds-more c.args.consumer c.loop-made._made (history c.args.play.now.steps) (history c.loop-made.play.steps) (history c.round.new.play.steps) inv.1 next.1)
 
 pub returns : goal.returns
 returns g c = λ seed all plays.
     let inv = c.loop-made.invariant seed all plays in
-    let end : c.loop-made.made ≡ c.args.count = omega arith in
+    let end : c.loop-made._made ≡ c.args.count = omega arith in
     (inv.0, subst (λ (n : ℕ). Rounds c.args.consumer n (history c.args.play.now.steps) (history c.loop-made.play.steps)) end inv.1)

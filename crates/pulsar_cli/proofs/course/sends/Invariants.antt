@@ -6,5 +6,5 @@ use Rattle.pulsar_cli.proofs.course.sends.Given as goal
 
 abbrev pub invariant-loop-place : goal.invariant-loop-place
 invariant-loop-place g l =
-    (seed all : ℕ) → Plays (g.M.Machine.stands (defaults []) l.fn.client) [] seed all l.fn.play
-    → Plays (g.M.Machine.stands (defaults []) l.client) [] seed all l.play × Sends l.seed l.place (history l.fn.play.steps) (history l.play.steps)
+    (all : ℕ) → Plays (g.M.Machine.stands (defaults []) l.fn.client) [] l.seed all l.fn.play
+    → Plays (g.M.Machine.stands (defaults []) l.client) [] l.seed all l.play × Sends l.seed l.place (history l.fn.play.steps) (history l.play.steps)

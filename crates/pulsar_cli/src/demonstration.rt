@@ -22,7 +22,8 @@ pub fn demo(alloc: Global, seed: u64, count: u64) -> Result<Demo, NoMemory>
     let options = options(&defaults(alloc)?, Vec::new(alloc))?;
     let client = Pulsar::new(alloc, options)?;
     let play = Play::new(alloc, seed, count)?;
-    drive(client, play, seed, count)
+    let shown = drive(client, play, seed, count)?;
+    Ok(shown)
 }
 
 fn drive<M: Machine>(client: M, play: Play, seed: u64, count: u64) -> Result<Demo, NoMemory>

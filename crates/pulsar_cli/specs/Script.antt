@@ -1,5 +1,4 @@
 -- The run of a script.
-use Rattle.std.specs.Str.{bytes_eq}
 use Rattle.std.specs.Prelude.{◌≡◌, ◌⊎◌, Bool, false, if◌then◌else◌, codes, ℕ, ◌+◌, ◌<◌, ◌≤◌, ◌↔◌, List, [], ◌∷◌, ◌++◌, length, drop, Option, Some, None}
 use Rattle.pulsar_wire.specs.Field.{◌>>=◌}
 use Rattle.pulsar_plans.specs.Backoff.{default_connection_retry, default_operation_retry}
@@ -11,11 +10,6 @@ use Rattle.pulsar_client.specs.Outside.{Rose}
 use Rattle.pulsar_agenda.specs.Run.{Good, Step, is_empty}
 use Rattle.pulsar_script.specs.Grammar.{Setting, Url, Auth, Outbound, Timeout, RetryDelay, OpRetries, Retries, MinBackoff, MaxBackoff, ConnectionTimeout, KeepAlive, MaxIdle, Seed, First, Now, Line, Nothing, Sets, Happens, Refused, line, lines}
 use Rattle.pulsar_script.specs.Text.{step, refusal}
-
--- the words are `script` alone
-abbrev pub is_script : List (List ℕ) → Bool
-is_script (w ∷ []) = bytes_eq w (codes "script")
-is_script _ = false
 
 -- the most bytes that a script may have
 abbrev pub limit : ℕ

@@ -1,21 +1,25 @@
 //! The top call: the words of the command line, and a script's run.
 
-ghost use Rattle.std.specs.Prelude.{◌≡◌, ◌<◌, ◌++◌, ◌≤◌, ◌↔◌, ◌⊎◌, false, true, [], ℕ, List, Option, Ok, Err, None, MatchOption, MatchResult, OnErr, OnOk, IfErr, IfOk, IfSome, map, string_bytes};
+ghost use Rattle.std.specs.Prelude.{◌≡◌, ◌<◌, ◌++◌, ◌≤◌, ◌↔◌, ◌⊎◌, false, true, [], ℕ, List, Option, Ok, Err, None, Some, MatchOption, MatchResult, OnErr, OnOk, IfErr, IfOk, IfSome, map, string_bytes};
 ghost use Rattle.pulsar_client.specs.Client.{StandsFor};
 ghost use Rattle.pulsar_calls.specs.Content.{heard};
 ghost use Rattle.pulsar_client.specs.Outside.{Rose};
 ghost use Rattle.pulsar_agenda.specs.Run.{Step};
 ghost use Rattle.pulsar_tables.specs.View.{Options};
 ghost use Rattle.pulsar_producer.specs.Routing.{Policy};
-ghost use Rattle.pulsar_cli.specs.Script.{Adds, AddsFront, IsDone, Printed, Ran, Seen, is_script, seen, since};
+ghost use Rattle.pulsar_cli.specs.Script.{Adds, AddsFront, IsDone, Printed, Ran, Seen, seen, since};
+ghost use Rattle.pulsar_cli.specs.Form.{Demo, IsLine, Script, Shows, form, line};
 ghost use Rattle.pulsar_cli.specs.Shown.{Awaits, Fed, Going, Halts, HasConsumed, HasFound, HasTold, InTurn, IsLast, Prints, Refuses, Refusing, Running, Told, options_in, remaining, unread};
 
+use crate::demonstration::demo;
 use crate::feed::{Feed, Next};
+use crate::form::Form;
 use crate::options::options;
 use crate::reading::Reading;
 use crate::stop::Stop;
 use pulsar_client::{CustomRoutingPolicy, Event, Pulsar, Sink, Source};
 use pulsar_script::printing::effect::push_refusal;
+use pulsar_wire::NoMemory;
 use std::alloc::Global;
 
 /// How a run ended: 0 done, 1 a line is not in the grammar, 2 the words are no form of the program, 3 want of memory, 4
@@ -44,26 +48,55 @@ pub fn run<S: Source, K: Sink>(
     sink: &mut K,
     policies: Vec<Box<dyn CustomRoutingPolicy>>,
 ) -> Status
-    ensures no_form { (result ≡ 2) ↔ (is_script (map string_bytes words.now) ≡ false) }
+    ensures no_form { (result ≡ 2) ↔ (form (map string_bytes words.now) ≡ None) }
     ensures nothing { result ≡ 2 → (source.new ≡ source.old) × (sink.new ≡ sink.old) }
     ensures status { result ≤ 6 }
-    ensures runs { (result ≡ 2 → ⊥)
+    ensures runs { form (map string_bytes words.now) ≡ Some Script
         → Ran (map (λ p. routes p) policies.items) result (seen S.left S.faults source.old source.new) (seen K.holds K.faults sink.old sink.new) }
+    ensures shows { (seed count : ℕ) → form (map string_bytes words.now) ≡ Some (Demo seed count)
+        → Shows seed count result (seen K.holds K.faults sink.old sink.new) × (source.new ≡ source.old) }
 {
-    if is_script(words) {
-        return script(alloc, source, sink, policies);
+    match Form::of(words) {
+        Some(Form::Script) => script(alloc, source, sink, policies),
+        Some(Form::Demo { seed, count }) => show(alloc, seed, count, sink),
+        None => NO_FORM,
     }
-    NO_FORM
 }
 
-/// The words are `script` alone.
-fn is_script(words: &[String]) -> bool
-    ensures { result ≡ is_script (map string_bytes words.now) }
+/// Prints the line of a demo.
+fn show<K: Sink>(alloc: Global, seed: u64, count: u64, sink: &mut K) -> Status
+    ensures { Shows seed count result (seen K.holds K.faults sink.old sink.new) }
 {
-    match words {
-        [word] => word.as_bytes() == "script".as_bytes(),
-        _ => false,
+    let Ok(line) = demo_line(alloc, seed, count) else {
+        return NO_MEMORY;
+    };
+    match put_all(sink, line.as_bytes()) {
+        Ok(()) => DONE,
+        Err(_) => SINK_FAILED,
     }
+}
+
+/// The line of a demo.
+fn demo_line(alloc: Global, seed: u64, count: u64) -> Result<String, NoMemory>
+    ensures { IfOk result (λ text. IsLine seed count (string_bytes text)) }
+{
+    let shown = demo(alloc, seed, count)?;
+    let text = numbers_line(alloc, shown.sent, shown.received, shown.bytes, shown.acked)?;
+    Ok(text)
+}
+
+fn numbers_line(
+    alloc: Global,
+    sent: u64,
+    received: u64,
+    bytes: u64,
+    acked: u64,
+) -> Result<String, NoMemory>
+    ensures { IfOk result (λ text. string_bytes text
+        ≡ line (record { sent = sent; received = received; bytes = bytes; acked = acked })) }
+{
+    let text = format!(in alloc; "sent {sent} received {received} bytes {bytes} acked {acked}\n")?;
+    Ok(text)
 }
 
 /// Reads a script from the source and prints its run to the sink. Its client has these policies. It is made here, and driven where it is held:

@@ -70,6 +70,7 @@
 mod answers;
 mod events;
 pub mod future;
+mod machine;
 pub mod options;
 pub mod outside;
 pub mod pulsar;

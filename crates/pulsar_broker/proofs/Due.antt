@@ -1,11 +1,11 @@
 -- Whoever was served is not due, and nobody becomes due by it.
-use Rattle.std.proofs.Common.{◌≡◌, ◌∙◌, ◌⊎◌, inl, inr, sym, ap, refl, subst, ℕ, ◌+◌, ◌-◌, ◌<◌, ◌≤◌, ◌==◌, ◌&&◌, nat_lt, Bool, true, false, cond, List, [], ◌∷◌, bytes_eq, length, drop, Option, Some, None, unwrap_or, arith, length-drop}
+use Rattle.std.proofs.Common.{◌≡◌, ◌∙◌, inl, inr, sym, ap, refl, subst, ℕ, ◌+◌, ◌≤◌, ◌==◌, ◌&&◌, nat_lt, Bool, true, false, cond, List, [], ◌∷◌, bytes_eq, length, drop, Option, Some, None, unwrap_or, arith, length-drop}
 use Rattle.std.proofs.lemmas.Bool.{eqb-true}
 use Rattle.std.proofs.lemmas.Bool.Decides.{nat_tests}
 use Rattle.std.proofs.lemmas.Slice.Eq.{bytes_eq-Decides}
 use Rattle.pulsar_frame.specs.Message.{MessageValues}
-use Rattle.pulsar_broker.specs.Kept.{is_due, is_due_at, is_due_in, is_on}
-use Rattle.pulsar_broker.specs.State.{Consumer, Served, State, Topic, passed, serve, serve_consumer, serve_if, serving_of, set_at, set_named, with_cursor}
+use Rattle.pulsar_broker.specs.Kept.{is_due, is_due_at, is_due_in}
+use Rattle.pulsar_broker.specs.State.{Consumer, Served, State, Topic, passed, serve, serve_consumer, serve_if, serving_of, set_named, with_cursor}
 use Rattle.pulsar_broker.proofs.Serving.{IsAtEnd, both_false, named_so, one_false, served_forward, served_to_end, unspent}
 
 end_of : (c : Consumer) (t : Topic) → IsAtEnd c.granted (passed c.subscription t + length (drop (passed c.subscription t) t.messages)) (serving_of c t)

@@ -1,6 +1,6 @@
 -- What one consumer is served, and who is due behind it.
-use Rattle.std.proofs.Common.{◌≡◌, ◌≢◌, ◌∙◌, ◌⊎◌, inl, inr, sym, ap, refl, subst, ℕ, suc, ◌+◌, ◌-◌, ◌<◌, ◌≤◌, ◌==◌, ◌&&◌, nat_lt, Bool, true, false, cond, List, [], ◌∷◌, ◌++◌, bytes_eq, length, drop, map, Option, Some, None, unwrap_or, arith, length-drop}
-use Rattle.std.proofs.lemmas.Bool.{cases_Bool, eqb-true, false≢true, ltb-false, le-ltb, lt-ltb, ltb-true}
+use Rattle.std.proofs.Common.{◌≡◌, ◌≢◌, ◌∙◌, ◌⊎◌, inl, inr, sym, ap, refl, ℕ, suc, ◌+◌, ◌<◌, ◌≤◌, ◌==◌, ◌&&◌, nat_lt, Bool, true, false, cond, List, [], ◌∷◌, ◌++◌, bytes_eq, length, drop, map, Option, Some, None, unwrap_or, arith, length-drop}
+use Rattle.std.proofs.lemmas.Bool.{cases_Bool, eqb-true, ltb-false, le-ltb, lt-ltb}
 use Rattle.std.proofs.lemmas.List.{append-nil, append_assoc}
 use Rattle.std.specs.List.{flat_map}
 use Rattle.pulsar_broker.specs.History.{bytes_for}
@@ -8,8 +8,8 @@ use Rattle.std.proofs.lemmas.Slice.Eq.{bytes_eq-Decides}
 use Rattle.pulsar_frame.specs.Message.{MessageValues}
 use Rattle.pulsar_frame.specs.Payload.{PayloadValues}
 use Rattle.pulsar_broker.specs.Answers.{delivery}
-use Rattle.pulsar_broker.specs.State.{Consumer, Owed, Served, State, Topic, Turn, nothing_served, owed_to, passed, serve, serve_consumer, serve_if, serve_so, served_first, serving, serving_of, set_at, set_named, weight, with_consumer, with_cursor, with_topic}
-use Rattle.pulsar_broker.specs.Kept.{is_due, is_due_at, is_due_in, topic_behind, topic_passed}
+use Rattle.pulsar_broker.specs.State.{Consumer, Owed, Served, State, Topic, nothing_served, owed_to, passed, serve, serve_consumer, serve_if, served_first, serving, serving_of, set_at, set_named, weight, with_consumer, with_cursor, with_topic}
+use Rattle.pulsar_broker.specs.Kept.{is_due_at, topic_behind, topic_passed}
 
 -- ONE CONSUMER
 

@@ -1,5 +1,5 @@
 -- The keys of the tables.
-use Rattle.std.proofs.Common.{◌≡◌, ◌∙◌, ◌==◌, ◌&&◌, ℕ, sym, ap, refl, arith, Bool, true, false, cond, Option, Some, None}
+use Rattle.std.proofs.Common.{◌≡◌, ◌∙◌, ◌==◌, ◌&&◌, ℕ, ap, refl, arith, Bool, true, false, cond, Option}
 use Rattle.std.proofs.lemmas.Bool.Decides.{nat_tests}
 use Rattle.std.proofs.lemmas.Grind.{common_steps}
 use Rattle.std.specs.BTreeMap.{is_at}
@@ -8,7 +8,7 @@ use Rattle.std.specs.Ordering.{nat_cmp}
 use Rattle.pulsar_broker.specs.Kept.{pair_cmp}
 use Rattle.pulsar_broker.specs.State.{set_at, set_at_pair}
 
-at_seat : (k x : ℕ) → is_at (nat_cmp k) x ≡ (x == k)
+pub at_seat : (k x : ℕ) → is_at (nat_cmp k) x ≡ (x == k)
 at_seat k x = grind (arith, nat_tests, common_steps)
 
 -- one that was set, seen by f

@@ -1,6 +1,6 @@
 -- Consumers are served one after the other.
-use Rattle.std.proofs.Common.{◌≡◌, ◌∙◌, ◌⊎◌, inl, inr, sym, ap, refl, subst, ℕ, zero, suc, ◌+◌, ◌<◌, ◌≤◌, ◌==◌, ◌&&◌, ◌||◌, nat_lt, Bool, true, false, cond, List, [], ◌∷◌, ◌++◌, Option, Some, None, arith}
-use Rattle.std.proofs.lemmas.List.{append-nil, append_assoc}
+use Rattle.std.proofs.Common.{◌≡◌, ◌∙◌, sym, ap, refl, subst, ℕ, zero, suc, ◌+◌, ◌<◌, ◌≤◌, ◌==◌, ◌||◌, Bool, true, false, List, [], ◌∷◌, ◌++◌, arith}
+use Rattle.std.proofs.lemmas.List.{append_assoc}
 use Rattle.std.proofs.lemmas.List.Concat.{flat_map-append}
 use Rattle.std.proofs.lemmas.Bool.{eqb-true}
 use Rattle.std.proofs.lemmas.Bool.Decides.{nat_tests}
@@ -13,7 +13,7 @@ use Rattle.pulsar_broker.specs.History.{bytes_for}
 use Rattle.pulsar_broker.specs.Kept.{is_due_in, is_listed}
 use Rattle.pulsar_broker.proofs.Due.{keeps_sated, sated}
 use Rattle.pulsar_broker.proofs.Serving.{not_due}
-use Rattle.pulsar_broker.specs.State.{Consumer, Owed, State, Topic, Turn, serve, serve_all}
+use Rattle.pulsar_broker.specs.State.{Owed, State, Turn, serve, serve_all}
 
 -- WHILE SEATS ARE SERVED
 
@@ -26,7 +26,7 @@ pub record AreServing (left : List ℕ) (s : State) (now : ℕ → List ℕ) (wh
   pub state : (serve_all left s).state ≡ whole.state
   pub given : (l : ℕ) → owed_then now (serve_all left s).given l ≡ owed_then before whole.given l
 
-owed_more : (now new : ℕ → List ℕ) (first others : List Owed) → ((l : ℕ) → new l ≡ owed_then now first l) → (l : ℕ) →
+pub owed_more : (now new : ℕ → List ℕ) (first others : List Owed) → ((l : ℕ) → new l ≡ owed_then now first l) → (l : ℕ) →
     owed_then new others l ≡ owed_then now (first ++ others) l
 owed_more now new first others is l =
     ap (λ xs. xs ++ flat_map (bytes_for l) others) (is l)

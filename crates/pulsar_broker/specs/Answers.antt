@@ -1,5 +1,5 @@
 -- The commands that a broker writes. Each field that is not named here is absent.  (PulsarApi.proto)
-use Rattle.std.specs.Prelude.{ℕ, ℤ, pos, List, [], ◌++◌, Option, Some, None, codes, decimal}
+use Rattle.std.specs.Prelude.{ℕ, pos, List, [], ◌++◌, Option, Some, None, codes, decimal}
 use Rattle.std.specs.Option.{unwrap_or}
 use Rattle.pulsar_wire.specs.Row.{Row, Values, ◌&◌}
 use Rattle.pulsar_wire.specs.Rows.{connected, pong, success, error, partition_metadata_response, lookup_topic_response, producer_success, send_receipt, message, message_id}

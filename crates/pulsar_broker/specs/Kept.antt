@@ -10,6 +10,9 @@ use Rattle.std.specs.BTreeMap.{BTreeMap, get, get_by_text}
 use Rattle.std.specs.Option.{option_map, option_copied}
 use Rattle.std.specs.Ordering.{nat_cmp, ordering_then}
 use Rattle.std.specs.declared.cmp.Ordering.{Ordering}
+use Rattle.pulsar_wire.specs.Views.{command_values}
+use Rattle.pulsar_wire.specs.declared.commands.base.BaseCommand.{BaseCommand}
+use Rattle.pulsar_frame.specs.declared.payload.Payload.{Payload}
 use Rattle.pulsar_frame.specs.Message.{MessageValues}
 use Rattle.pulsar_frame.specs.Payload.{payload_values}
 use Rattle.pulsar_broker.specs.Asked as meaning
@@ -153,3 +156,13 @@ pub record IsAnswered (turn : Turn) (old new : Tables) (before after : Outbox) (
   pub given : (l : ℕ) → owed_on after l ≡ owed_on before l ++ flat_map (bytes_for l) turn.given
   pub due : IsKept old → AreDue seats (state_in new)
   pub listed : IsKept old → AreListed (lists new.topics) (state_in new)
+
+-- A frame was answered, and the consumers were served.
+pub record IsTurned (turn : Turn) (old new : Tables) (before after : Outbox) : Type 0 where
+  pub state : state_in new ≡ turn.state
+  pub given : (l : ℕ) → owed_on after l ≡ owed_on before l ++ flat_map (bytes_for l) turn.given
+  pub kept : IsKept new
+
+-- the message of this command and this payload
+abbrev pub message_in : BaseCommand → Option Payload → MessageValues
+message_in command payload = record { command = command_values command; payload = option_map payload_values payload }

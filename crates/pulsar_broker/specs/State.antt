@@ -1,9 +1,8 @@
 -- What a broker keeps, and what it gives for each frame that it reads.  (Pulsar binary protocol)
-use Rattle.std.specs.Prelude.{ℕ, zero, suc, ◌+◌, ◌==◌, ◌&&◌, ◌||◌, ℤ, pos, negsuc, Bool, true, false, bytes_eq, nat_lt, List, [], ◌∷◌, ◌++◌, length, drop, map, Option, Some, None, if◌then◌else◌}
-use Rattle.std.specs.List.{flat_map, range_with_len}
-use Rattle.std.specs.Option.{option_map, option_to_list, unwrap_or}
+use Rattle.std.specs.Prelude.{ℕ, ◌+◌, ◌==◌, ◌&&◌, ℤ, pos, negsuc, bytes_eq, nat_lt, List, [], ◌∷◌, ◌++◌, length, drop, map, Option, Some, None, if◌then◌else◌}
+use Rattle.std.specs.List.{range_with_len}
+use Rattle.std.specs.Option.{option_map, unwrap_or}
 use Rattle.pulsar_frame.specs.Batch.{num_messages_in_batch}
-use Rattle.pulsar_frame.specs.Frame.{frame_bytes}
 use Rattle.pulsar_frame.specs.Message.{MessageValues}
 use Rattle.pulsar_frame.specs.Payload.{PayloadValues}
 use Rattle.pulsar_broker.specs.Answers.{greeting, ponged, succeeded, unsupported, not_partitioned, found_here, producer_made, receipt, delivery}

@@ -175,6 +175,7 @@ pub fn delivery(
 ) -> Result<Message, NoMemory>
     ensures { IfOk result (λ m. message_values m ≡ meaning.delivery consumer place (payload_values payload.now)) }
 {
+    let payload = payload.copy()?;
     let body = CommandMessage {
         consumer_id: consumer,
         message_id: id_at(alloc, place),
@@ -183,6 +184,6 @@ pub fn delivery(
     };
     Ok(Message {
         command: BaseCommand::with_body(Body::Message(body)),
-        payload: Some(payload.copy()?),
+        payload: Some(payload),
     })
 }

@@ -1,12 +1,18 @@
 //! A broker.
 
-ghost use Rattle.std.specs.Prelude.{◌≡◌, ◌∷◌, [], ℕ, List, IfOk, IsErr, OnErr, OnOk};
+ghost use Rattle.std.specs.Prelude.{◌≡◌, ◌==◌, ◌∷◌, ◌++◌, [], ℕ, List, false, IfOk, IsErr, OnErr, OnOk, string_bytes};
+ghost use Rattle.std.specs.BTreeMap.{get};
+ghost use Rattle.std.specs.Ordering.{nat_cmp};
+ghost use Rattle.pulsar_frame.specs.Frame.{bad, left};
+ghost use Rattle.pulsar_frame.specs.Shown.{message_values};
+ghost use Rattle.pulsar_broker.specs.Kept.{IsKept, state_in};
+ghost use Rattle.pulsar_broker.specs.State.{turn};
 ghost use Rattle.pulsar_broker.specs.History.{Act, Fed, Taken, Takes};
-ghost use Rattle.pulsar_broker.specs.Stands.{HasFailed, StandsFor};
+ghost use Rattle.pulsar_broker.specs.Stands.{HasAnswered, HasFailed, HasGoneOn, HasHeard, HasRead, IsReading, ReadsOn, StandsFor};
 
 use crate::outbox::Outbox;
 use crate::tables::Tables;
-use pulsar_frame::FrameReader;
+use pulsar_frame::{FrameReader, Message};
 use pulsar_wire::{ConnectionError, NoMemory};
 use std::alloc::Global;
 use std::collections::BTreeMap;
@@ -61,14 +67,8 @@ impl Broker {
             return Err(NoMemory);
         }
         self.failed = true;
-        let reading = match self.readings.remove(&link) {
-            Some(reading) => reading,
-            None => Reading::Reads(FrameReader::new(self.alloc)),
-        };
-        let after = match reading {
-            Reading::Reads(reader) => self.read(link, reader, piece)?,
-            Reading::Refused => Reading::Refused,
-        };
+        let reading = resume(self.alloc, &mut self.readings, link);
+        let after = self.go_on(link, reading, piece)?;
         drop(self.readings.insert(link, after)?);
         self.failed = false;
         Ok(())
@@ -87,12 +87,26 @@ impl Broker {
         Ok(self.outbox.take(link))
     }
 
+    /// A link is read on.
+    fn go_on(&mut self, link: u64, reading: Reading, piece: &[u8]) -> Result<Reading, NoMemory>
+        ensures after { IfOk result (λ after. IsKept self.old.tables → (stream : List ℕ) → IsReading reading (left stream) (bad stream) → HasGoneOn (string_bytes self.old.url) link piece.now stream after self.old self.new) }
+        ensures failed { self.new.failed ≡ self.old.failed }
+    {
+        match reading {
+            Reading::Reads(reader) => Ok(self.read(link, reader, piece)?),
+            Reading::Refused => Ok(Reading::Refused),
+        }
+    }
+
     fn read(
         &mut self,
         link: u64,
         mut reader: FrameReader,
         piece: &[u8],
-    ) -> Result<Reading, NoMemory> {
+    ) -> Result<Reading, NoMemory>
+        ensures read { IfOk result (λ reading. IsKept self.old.tables → HasRead (string_bytes self.old.url) link (reader ++ piece.now) reading self.old self.new) }
+        ensures failed { self.new.failed ≡ self.old.failed }
+    {
         reader.feed(piece)?;
         let is_whole = self.hear(link, &mut reader)?;
         if is_whole {
@@ -102,17 +116,46 @@ impl Broker {
     }
 
     /// All frames that stand in front are answered. The answer is whether more can be read.
-    fn hear(&mut self, link: u64, reader: &mut FrameReader) -> Result<bool, NoMemory> {
+    fn hear(&mut self, link: u64, reader: &mut FrameReader) -> Result<bool, NoMemory>
+        ensures heard { IfOk result (λ whole. IsKept self.old.tables → HasHeard (string_bytes self.old.url) link reader.old reader.new whole self.old self.new) }
+        ensures failed { self.new.failed ≡ self.old.failed }
+    {
         loop {
             match reader.next() {
-                Ok(Some(message)) => {
-                    self.tables
-                        .turn(self.url.as_str(), link, message, &mut self.outbox)?;
-                }
+                Ok(Some(message)) => self.answer(link, message)?,
                 Ok(None) => return Ok(true),
                 Err(ConnectionError::Decoding(_)) => return Ok(false),
                 Err(_) => return Err(NoMemory),
             }
         }
+    }
+
+    /// A frame is answered.
+    fn answer(&mut self, link: u64, mut message: Message) -> Result<(), NoMemory>
+        ensures answered { OnOk result (IsKept self.old.tables → HasAnswered (turn (string_bytes self.old.url) link (message_values message) (state_in self.old.tables)) self.old self.new) }
+        ensures failed { self.new.failed ≡ self.old.failed }
+    {
+        let url = self.url.as_str();
+        let turned = self.tables.turn(
+            url,
+            link,
+            &message.command,
+            &mut message.payload,
+            &mut self.outbox,
+        );
+        drop(message);
+        turned?;
+        Ok(())
+    }
+}
+
+/// What is read of a link is taken out. A link that was fed nothing is read from its beginning on.
+fn resume(alloc: Global, readings: &mut BTreeMap<u64, Reading>, link: u64) -> Reading
+    ensures reading { (stream : List ℕ) → ReadsOn (get nat_cmp readings.old link) stream → IsReading result (left stream) (bad stream) }
+    ensures others { (l : ℕ) → (l == link) ≡ false → get nat_cmp readings.new l ≡ get nat_cmp readings.old l }
+{
+    match readings.remove(&link) {
+        Some(reading) => reading,
+        None => Reading::Reads(FrameReader::new(alloc)),
     }
 }

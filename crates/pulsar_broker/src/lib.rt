@@ -7,6 +7,7 @@ mod asked;
 pub mod broker;
 mod consumer;
 mod keys;
+pub mod laws;
 mod outbox;
 mod tables;
 mod topic;

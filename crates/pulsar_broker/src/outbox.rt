@@ -64,7 +64,9 @@ impl Outbox {
 fn frame_of(alloc: Global, message: Message) -> Result<Vec<u8>, NoMemory>
     ensures { IfOk result (λ frame. frame.items ≡ frame_bytes (message_values message)) }
 {
-    match message.to_frame(alloc) {
+    let frame = message.to_frame(alloc);
+    drop(message);
+    match frame {
         Ok(frame) => Ok(frame),
         Err(_) => Err(NoMemory),
     }

@@ -2,15 +2,15 @@
 
 ghost use Rattle.std.specs.Prelude.{◌≡◌, ◌==◌, ◌&&◌, ◌||◌, ◌++◌, ℕ, List, [], Option, bytes_eq, IfOk, OnOk, None, Some};
 ghost use Rattle.std.specs.List.{flat_map};
-ghost use Rattle.std.specs.Option.{option_copied, option_map};
+ghost use Rattle.std.specs.Option.{is_some, option_copied, option_map};
 ghost use Rattle.pulsar_frame.specs.Payload.{PayloadValues, payload_values};
 ghost use Rattle.pulsar_frame.specs.Shown.{message_values};
 ghost use Rattle.pulsar_broker.specs.Asked.{ClosesConsumer, ClosesProducer, Grants, MakesProducer, Subscribes};
 ghost use Rattle.pulsar_broker.specs.History.{bytes_for};
-ghost use Rattle.pulsar_broker.specs.Kept.{IsAnswered, IsKept, asked_in, lists, owed_on, state_in};
+ghost use Rattle.pulsar_broker.specs.Kept.{IsAnswered, IsKept, IsTurned, asked_in, consumers_in, lists, message_in, owed_on, state_in};
 ghost use Rattle.pulsar_broker.specs.State as meaning;
 ghost use Rattle.pulsar_broker.specs.declared.outbox.Outbox.{Outbox};
-ghost use Rattle.pulsar_broker.specs.State.{answer, answer_send, closed, fresh, joined, serve_all, to, turn};
+ghost use Rattle.pulsar_broker.specs.State.{answer, answer_send, closed, fresh, granted_more, joined, serve_all, set_at, to, turn};
 
 use crate::answers;
 use crate::asked::{self, Asked};
@@ -21,6 +21,7 @@ use crate::topic::Topic;
 use crate::topics::{list_in, serve_of, store_in, unlist_in};
 use pulsar_frame::{Message, Payload};
 use pulsar_wire::NoMemory;
+use pulsar_wire::commands::base::BaseCommand;
 use std::alloc::Global;
 use std::collections::BTreeMap;
 
@@ -59,14 +60,12 @@ impl Tables {
         &mut self,
         url: &str,
         link: u64,
-        message: Message,
+        command: &BaseCommand,
+        payload: &mut Option<Payload>,
         out: &mut Outbox,
     ) -> Result<(), NoMemory>
-        ensures after { OnOk result (IsKept self.old → state_in self.new ≡ (turn url.now link (message_values message) (state_in self.old)).state) }
-        ensures given { OnOk result (IsKept self.old → (l : ℕ) → owed_on out.new l ≡ owed_on out.old l ++ flat_map (bytes_for l) (turn url.now link (message_values message) (state_in self.old)).given) }
-        ensures kept { OnOk result (IsKept self.old → IsKept self.new) }
+        ensures { OnOk result (IsKept self.old → IsTurned (turn url.now link (message_in command.now payload.old) (state_in self.old)) self.old self.new out.old out.new) }
     {
-        let Message { command, payload } = message;
         let due = self.answer(url, link, asked::read(&command.body), payload, out)?;
         self.serve_each(&due, out)?;
         Ok(())
@@ -78,28 +77,28 @@ impl Tables {
         url: &str,
         link: u64,
         asked: Asked<'_>,
-        payload: Option<Payload>,
+        payload: &mut Option<Payload>,
         out: &mut Outbox,
     ) -> Result<Vec<u64>, NoMemory>
-        ensures { IfOk result (λ due. IsAnswered (answer url.now link (option_map payload_values payload) (asked_in asked.entry) (state_in self.old)) self.old self.new out.old out.new due.items) }
+        ensures { IfOk result (λ due. IsAnswered (answer url.now link (option_map payload_values payload.old) (asked_in asked.entry) (state_in self.old)) self.old self.new out.old out.new due.items) }
     {
         match asked {
-            Asked::Connects => self.say(link, answers::greeting(self.alloc), out),
-            Asked::Pings => self.say(link, answers::ponged(), out),
+            Asked::Connects => Ok(self.say(link, answers::greeting(self.alloc), out)?),
+            Asked::Pings => Ok(self.say(link, answers::ponged(), out)?),
             Asked::CountsPartitions { request } => {
-                self.say(link, answers::not_partitioned(request), out)
+                Ok(self.say(link, answers::not_partitioned(request), out)?)
             }
             Asked::LooksUp { request } => {
-                self.say(link, answers::found_here(self.alloc, url, request)?, out)
+                Ok(self.say(link, answers::found_here(self.alloc, url, request)?, out)?)
             }
             Asked::MakesProducer {
                 topic,
                 producer,
                 request,
                 name,
-            } => self.make_producer(link, topic, producer, request, name, out),
+            } => Ok(self.make_producer(link, topic, producer, request, name, out)?),
             Asked::Sends { producer, sequence } => {
-                self.send(link, producer, sequence, payload, out)
+                Ok(self.send(link, producer, sequence, payload.take(), out)?)
             }
             Asked::Subscribes {
                 topic,
@@ -107,17 +106,17 @@ impl Tables {
                 consumer,
                 request,
                 position,
-            } => self.subscribe(link, topic, subscription, consumer, request, position, out),
-            Asked::Grants { consumer, permits } => self.grant(link, consumer, permits),
+            } => Ok(self.subscribe(link, topic, subscription, consumer, request, position, out)?),
+            Asked::Grants { consumer, permits } => Ok(self.grant(link, consumer, permits)?),
             Asked::Acknowledges => Ok(Vec::new(self.alloc)),
             Asked::ClosesProducer { producer, request } => {
-                self.close_producer(link, producer, request, out)
+                Ok(self.close_producer(link, producer, request, out)?)
             }
             Asked::ClosesConsumer { consumer, request } => {
-                self.close_consumer(link, consumer, request, out)
+                Ok(self.close_consumer(link, consumer, request, out)?)
             }
             Asked::AsksElse { request } => {
-                self.say(link, answers::unsupported(self.alloc, request)?, out)
+                Ok(self.say(link, answers::unsupported(self.alloc, request)?, out)?)
             }
             Asked::SaysElse => Ok(Vec::new(self.alloc)),
         }
@@ -198,10 +197,9 @@ impl Tables {
         let Some(seat) = seat_at(&self.seat_of, link, number) else {
             return Ok(due);
         };
-        let Some(consumer) = self.consumers.get_mut(&seat) else {
+        if !grant_at(&mut self.consumers, seat, permits)? {
             return Ok(due);
-        };
-        consumer.grant(permits)?;
+        }
         due.push(seat)?;
         Ok(due)
     }
@@ -309,4 +307,20 @@ impl Tables {
         serve_of(self.alloc, &mut self.topics, consumer, out)?;
         Ok(())
     }
+}
+
+/// The consumer of a seat is granted permits. The answer is whether there is one.
+fn grant_at(
+    consumers: &mut BTreeMap<u64, Consumer>,
+    seat: u64,
+    permits: u32,
+) -> Result<bool, NoMemory>
+    ensures found { IfOk result (λ found. found ≡ is_some (consumers_in consumers.old seat)) }
+    ensures after { OnOk result ((k : ℕ) → consumers_in consumers.new k ≡ set_at seat (option_map (granted_more permits) (consumers_in consumers.old seat)) (consumers_in consumers.old) k) }
+{
+    let Some(consumer) = consumers.get_mut(&seat) else {
+        return Ok(false);
+    };
+    consumer.grant(permits)?;
+    Ok(true)
 }

@@ -2,7 +2,7 @@
 
 use crate::pieces::Pieces;
 use crate::policy::Second;
-use pulsar_cli::{Status, script};
+use pulsar_cli::{Status, run, script};
 use pulsar_client::{CustomRoutingPolicy, FailingSink, FailingSource};
 use std::alloc::{AllocError, Global};
 use std::{fs, io};
@@ -95,6 +95,21 @@ pub fn run_script(alloc: Global, lines: &[u8], way: Way) -> Result<Ran, AllocErr
     let mut policies: Vec<Box<dyn CustomRoutingPolicy>> = Vec::new(alloc);
     policies.push(Box::new(alloc, Second)?)?;
     let status = script(alloc, &mut source, &mut sink, policies);
+    Ok(Ran { status, sink })
+}
+
+/// Runs the program with these words, and an empty source.
+pub fn run_words(alloc: Global, words: &str) -> Result<Ran, AllocError> {
+    let mut all = Vec::new(alloc);
+    for word in words.split(' ') {
+        all.push(String::from_str(alloc, word)?)?;
+    }
+    let way = Way::in_pieces(usize::MAX);
+    let mut source = source_of(alloc, &[], way)?;
+    let mut sink = sink_of(alloc, way)?;
+    let mut policies: Vec<Box<dyn CustomRoutingPolicy>> = Vec::new(alloc);
+    policies.push(Box::new(alloc, Second)?)?;
+    let status = run(alloc, &all, &mut source, &mut sink, policies);
     Ok(Ran { status, sink })
 }
 

@@ -4,7 +4,9 @@ use crate::case::{Case, Way, run_script};
 use crate::compare::{Wanted, is_as_wanted};
 use crate::faults::with_faults;
 use crate::lines::run_lines;
+use crate::steps::run_steps;
 use crate::tally::Tally;
+use crate::words::run_words_of;
 use std::{fs, io};
 
 /// The names in a folder, in order.
@@ -36,6 +38,8 @@ fn run_file(rt: &HostRuntime, folder: &str, file: &str, names: &[String]) -> io:
             Ok(Tally::one(run_case(rt, folder, name, &case)?))
         }
         Some((_, "lines")) => run_lines(rt, folder, file),
+        Some((_, "words")) => run_words_of(rt, folder, file),
+        Some((_, "steps")) => run_steps(rt, folder, file),
         Some((name, "stdout" | "status")) if has(rt, names, name, "script")? => {
             Ok(Tally::default())
         }

@@ -1,7 +1,8 @@
 //! Runs the scripts of the folders where it stands, and says which of them print another text than they should.
 //!
 //! A folder has cases: `NAME.script` with the text `NAME.stdout` that its run prints, and the status `NAME.status` with which
-//! it ends, 0 where there is no such file. Each line of a file `NAME.lines` is a case by itself: it is not in the grammar.
+//! it ends, 0 where there is no such file. Each line of a file `NAME.lines` is a case by itself: it is not in the grammar. Each line of a file
+//! `NAME.words` has words of the program, with what it prints for them and its status, and each of a file `NAME.steps` a demo and its steps.
 //! The scripts of the folder `faults` are also run with faults of the source and of the sink.
 #![tactic(auto)]
 
@@ -12,7 +13,9 @@ mod folder;
 mod lines;
 mod pieces;
 mod policy;
+mod steps;
 mod tally;
+mod words;
 
 use crate::folder::{names, run_folder};
 use crate::tally::Tally;

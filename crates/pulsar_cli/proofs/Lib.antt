@@ -7,3 +7,5 @@ pub mod Gives
 pub mod Events
 pub mod Feeds
 pub mod Turns
+pub mod Demos
+pub mod Courses

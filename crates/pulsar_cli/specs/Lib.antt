@@ -2,3 +2,7 @@ pub mod Script
 pub mod Shown
 pub mod Choice
 pub mod Edges
+pub mod Demo
+pub mod Form
+pub mod Played
+pub mod Asked

@@ -1,6 +1,5 @@
 -- The run of a script.
-use Rattle.std.specs.Str.{bytes_eq}
-use Rattle.std.specs.Prelude.{◌≡◌, ◌⊎◌, ◌||◌, Bool, false, if◌then◌else◌, codes, ℕ, ◌+◌, ◌<◌, ◌≤◌, ◌↔◌, List, [], ◌∷◌, ◌++◌, length, drop, Option, Some, None}
+use Rattle.std.specs.Prelude.{◌≡◌, ◌⊎◌, Bool, false, if◌then◌else◌, codes, ℕ, ◌+◌, ◌<◌, ◌≤◌, ◌↔◌, List, [], ◌∷◌, ◌++◌, length, drop, Option, Some, None}
 use Rattle.pulsar_wire.specs.Field.{◌>>=◌}
 use Rattle.pulsar_plans.specs.Backoff.{default_connection_retry, default_operation_retry}
 use Rattle.pulsar_producer.specs.Routing.{Policy}
@@ -8,20 +7,10 @@ use Rattle.pulsar_tables.specs.Address.{base_in}
 use Rattle.pulsar_calls.specs.Content.{Heard}
 use Rattle.pulsar_tables.specs.View.{Chosen, Options}
 pub use Rattle.pulsar_job.specs.Outside.{Adds, AddsFront, Given, HasFault, Seen, limit, seen, since}
-use Rattle.pulsar_work.specs.Form.{form_of}
-use Rattle.std.specs.Option.{is_some}
 use Rattle.pulsar_agenda.specs.Run.{Good, Step, is_empty}
 use Rattle.pulsar_script.specs.Grammar.{Setting, Url, Auth, Outbound, Timeout, RetryDelay, OpRetries, Retries, MinBackoff, MaxBackoff, ConnectionTimeout, KeepAlive, MaxIdle, Seed, First, Now, Line, Nothing, Sets, Happens, Refused, line, lines}
 use Rattle.pulsar_script.specs.Text.{step, refusal}
 
--- the words are `script` alone
-abbrev pub is_script : List (List ℕ) → Bool
-is_script (w ∷ []) = bytes_eq w (codes "script")
-is_script _ = false
-
--- the words are one of the forms of the program
-abbrev pub is_form : List (List ℕ) → Bool
-is_form words = is_script words || is_some (form_of words)
 
 -- what a script says: the options of its client, and its events
 pub record Script : Type 0 where

@@ -10,10 +10,13 @@ ghost use Rattle.pulsar_producer.specs.Routing.{Policy};
 ghost use Rattle.pulsar_work.specs.Form.{Asking, form_of};
 ghost use Rattle.pulsar_job.specs.Outside.{Adds, AddsFront, Seen, seen, since};
 ghost use Rattle.pulsar_job.specs.Went.{HasGone, edge_seen};
-ghost use Rattle.pulsar_cli.specs.Script.{IsDone, Printed, Ran, is_form, is_script};
+ghost use Rattle.pulsar_cli.specs.Script.{IsDone, Printed, Ran};
+ghost use Rattle.pulsar_cli.specs.Form.{Demo, IsLine, Script, Shows, form, line};
 ghost use Rattle.pulsar_cli.specs.Shown.{Awaits, Fed, Going, Halts, HasConsumed, HasFound, HasTold, InTurn, IsLast, Prints, Refuses, Refusing, Running, Told, options_in, remaining, unread};
 
+use crate::demonstration::demo;
 use crate::feed::{Feed, Next};
+use crate::form::Form;
 use crate::options::options;
 use crate::reading::Reading;
 use crate::stop::Stop;
@@ -21,6 +24,7 @@ use pulsar_client::{CustomRoutingPolicy, Event, Pulsar, Sink, Source};
 use pulsar_job::served;
 use pulsar_pumps::Edge;
 use pulsar_script::printing::effect::push_refusal;
+use pulsar_wire::NoMemory;
 use std::alloc::Global;
 use std::sync::Wait;
 use std::thread::Threads;
@@ -53,29 +57,58 @@ pub fn run<R: Threads + Wait + Sync, S: Source, K: Sink, E: Edge>(
     edge: &mut E,
     policies: Vec<Box<dyn CustomRoutingPolicy>>,
 ) -> Status
-    ensures no_form { (result ≡ 2) ↔ (is_form (map string_bytes words.now) ≡ false) }
+    ensures no_form { (result ≡ 2) ↔ ((form (map string_bytes words.now) ≡ None) × (form_of (map string_bytes words.now) ≡ None)) }
     ensures nothing { result ≡ 2 → (source.new ≡ source.old) × (sink.new ≡ sink.old) × (edge.new ≡ edge.old) }
     ensures status { result ≤ 7 }
-    ensures runs { is_script (map string_bytes words.now) ≡ true
+    ensures runs { form (map string_bytes words.now) ≡ Some Script
         → Ran (map (λ p. routes p) policies.items) result (seen S.left S.faults source.old source.new) (seen K.holds K.faults sink.old sink.new) }
+    ensures shows { (seed count : ℕ) → form (map string_bytes words.now) ≡ Some (Demo seed count)
+        → Shows seed count result (seen K.holds K.faults sink.old sink.new) × (source.new ≡ source.old) }
     ensures works { (a : Asking) → form_of (map string_bytes words.now) ≡ Some a
         → HasGone a (map (λ p. routes p) policies.items) result (seen S.left S.faults source.old source.new) (seen K.holds K.faults sink.old sink.new)
         (edge_seen E.failures E.first E.greatest edge.old edge.new) }
 {
-    if is_script(words) {
-        return script(alloc, source, sink, policies);
+    match Form::of(words) {
+        Some(Form::Script) => script(alloc, source, sink, policies),
+        Some(Form::Demo { seed, count }) => show(alloc, seed, count, sink),
+        None => served::<Pulsar, R, S, K, E>(rt, alloc, words, source, sink, edge, policies),
     }
-    served::<Pulsar, R, S, K, E>(rt, alloc, words, source, sink, edge, policies)
 }
 
-/// The words are `script` alone.
-fn is_script(words: &[String]) -> bool
-    ensures { result ≡ is_script (map string_bytes words.now) }
+/// Prints the line of a demo.
+fn show<K: Sink>(alloc: Global, seed: u64, count: u64, sink: &mut K) -> Status
+    ensures { Shows seed count result (seen K.holds K.faults sink.old sink.new) }
 {
-    match words {
-        [word] => word.as_bytes() == "script".as_bytes(),
-        _ => false,
+    let Ok(line) = demo_line(alloc, seed, count) else {
+        return NO_MEMORY;
+    };
+    match put_all(sink, line.as_bytes()) {
+        Ok(()) => DONE,
+        Err(_) => SINK_FAILED,
     }
+}
+
+/// The line of a demo.
+fn demo_line(alloc: Global, seed: u64, count: u64) -> Result<String, NoMemory>
+    ensures { IfOk result (λ text. IsLine seed count (string_bytes text)) }
+{
+    let shown = demo(alloc, seed, count)?;
+    let text = numbers_line(alloc, shown.sent, shown.received, shown.bytes, shown.acked)?;
+    Ok(text)
+}
+
+fn numbers_line(
+    alloc: Global,
+    sent: u64,
+    received: u64,
+    bytes: u64,
+    acked: u64,
+) -> Result<String, NoMemory>
+    ensures { IfOk result (λ text. string_bytes text
+        ≡ line (record { sent = sent; received = received; bytes = bytes; acked = acked })) }
+{
+    let text = format!(in alloc; "sent {sent} received {received} bytes {bytes} acked {acked}\n")?;
+    Ok(text)
 }
 
 /// Reads a script from the source and prints its run to the sink. Its client has these policies. It is made here, and driven where it is held:

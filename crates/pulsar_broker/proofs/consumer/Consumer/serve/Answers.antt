@@ -5,7 +5,6 @@ use Rattle.pulsar_broker.specs.Answers.{delivery}
 use Rattle.pulsar_broker.specs.Kept.{consumer_in, owed_on}
 use Rattle.pulsar_broker.specs.History.{bytes_for}
 use Rattle.pulsar_broker.specs.State.{Consumer, owed_to, serving_from, weight}
-use Rattle.pulsar_broker.specs.declared.consumer.Consumer as kept
 use Rattle.pulsar_broker.proofs.Serving.{IsNothing, IsServing, serving_done, serving_more}
 use Rattle.pulsar_broker.proofs.consumer.Consumer.serve.Goals as goal
 

@@ -1,14 +1,10 @@
-use Rattle.std.proofs.Common.{◌≡◌, ◌∙◌, sym, ap, refl, subst, ℕ, List, [], ◌++◌, Option, Some, None, string_bytes}
-use Rattle.std.specs.Option.{option_copied, option_map}
-use Rattle.pulsar_frame.specs.Message.{MessageValues}
-use Rattle.pulsar_frame.specs.Payload.{PayloadValues, payload_values}
-use Rattle.pulsar_frame.specs.Shown.{message_values}
+use Rattle.std.proofs.Common.{◌∙◌, ap, ◌++◌}
 use Rattle.pulsar_broker.specs.Answers as answers
-use Rattle.pulsar_broker.specs.Asked.{ClosesConsumer, ClosesProducer, Grants, MakesProducer, Subscribes}
+use Rattle.pulsar_broker.specs.Asked.{ClosesConsumer}
 use Rattle.pulsar_broker.specs.History.{bytes_for}
-use Rattle.pulsar_broker.specs.Kept.{AreDue, AreListed, IsAnswered, IsKept, asked_in, consumer_in, lists, owed_on, producers_in, seats_in, state_in, topics_in}
-use Rattle.pulsar_broker.specs.State.{Consumer, Owed, State, Turn, answer, owed_to, to, with_producer}
-use Rattle.pulsar_broker.proofs.Answering.{answered_so, nobody_due, one_frame}
+use Rattle.pulsar_broker.specs.Kept.{owed_on, state_in}
+use Rattle.pulsar_broker.specs.State.{answer, owed_to}
+use Rattle.pulsar_broker.proofs.Answering.{answered_so, one_frame}
 use Rattle.pulsar_broker.proofs.tables.Tables.close_consumer.Goals as goal
 
 pub returns : goal.returns

@@ -1,9 +1,9 @@
-use Rattle.std.proofs.Common.{◌≡◌, ◌∙◌, sym, ap, refl, subst, ℕ, Some, List, Option}
+use Rattle.std.proofs.Common.{◌≡◌, ◌∙◌, sym, ap, refl, subst, Some}
 use Rattle.std.specs.BTreeMap.{get}
 use Rattle.std.specs.Option.{IsSome, option_map}
 use Rattle.std.specs.Ordering.{nat_cmp}
-use Rattle.pulsar_broker.specs.Kept.{consumer_in, serving_in, state_in, topics_in}
-use Rattle.pulsar_broker.specs.State.{Consumer, State, serving_of, set_at}
+use Rattle.pulsar_broker.specs.Kept.{consumer_in, state_in, topics_in}
+use Rattle.pulsar_broker.specs.State.{Consumer, set_at}
 use Rattle.pulsar_broker.proofs.SetKeys.{seat_set}
 use Rattle.pulsar_broker.proofs.Serving.{is_behind, put_behind}
 use Rattle.pulsar_broker.proofs.tables.Tables.serve.Goals as goal

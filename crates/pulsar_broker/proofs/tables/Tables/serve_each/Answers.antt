@@ -1,5 +1,5 @@
-use Rattle.std.proofs.Common.{◌≡◌, ◌∙◌, ◌<◌, ◌+◌, ◌∷◌, sym, ap, refl, subst, ℕ, suc, List, drop, length, get_or, arith, add-one, drop-cons}
-use Rattle.pulsar_broker.specs.Kept.{lists, owed_on, state_in}
+use Rattle.std.proofs.Common.{◌≡◌, ◌∙◌, ◌<◌, ◌+◌, ◌∷◌, subst, ℕ, List, drop, length, get_or, add-one, drop-cons}
+use Rattle.pulsar_broker.specs.Kept.{owed_on, state_in}
 use Rattle.pulsar_broker.specs.State.{serve_all}
 use Rattle.pulsar_broker.proofs.Turns.{AreServing, served_one}
 use Rattle.pulsar_broker.proofs.tables.Tables.serve_each.Goals as goal

@@ -1,4 +1,4 @@
-use Rattle.std.proofs.Common.{◌≡◌, ◌≢◌, ◌∙◌, sym, ap, refl, ℕ, ◌+◌, List, Some, map, length, drop}
+use Rattle.std.proofs.Common.{◌≡◌, ◌∙◌, sym, ap, ℕ, ◌+◌, List, map, length, drop}
 use Rattle.std.specs.BTreeMap.{get_by_text}
 use Rattle.pulsar_frame.specs.Payload.{PayloadValues, payload_values}
 use Rattle.pulsar_broker.specs.Kept.{consumer_in, topic_in}

@@ -13,7 +13,7 @@ use std::alloc::Global;
 
 /// A client as one state machine, by the histories that it stands for: an event goes in, and its effects come out. What is generic over
 /// it needs to know nothing of routing policies.
-pub trait Machine: Send + Drop {
+pub trait Machine: Drop {
     /// A routing policy in a box. It is named here so that an impl can say what the policies of its client mean.
     type Boxed;
 

@@ -5,8 +5,8 @@ ghost use Rattle.pulsar_cli.specs.Demo.{IsDemo};
 ghost use Rattle.pulsar_cli.specs.Played.{Holds, history, numbers};
 ghost use Rattle.pulsar_cli.specs.Script.{defaults};
 
-use crate::options::{defaults, options};
 use crate::course::go;
+use crate::options::{defaults, options};
 use crate::play::Play;
 use crate::played::Demo;
 use pulsar_client::Pulsar;

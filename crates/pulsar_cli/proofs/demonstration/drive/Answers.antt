@@ -10,7 +10,7 @@ returns g c = λ stands holds empty.
     let all = c.in_ok-go.ensures empty (record { client = begun; holds = holds }) in
     let counts = all.0.holds.counts in
     record {
-      good = (g.met.M.Machine g.world.𝓛 g.world.𝓜 g.world.𝓡 ((λ s x. x), (λ x. x), (λ x. x), (λ x. x))).legal (defaults []) c.go.new.client (history c.go.new.play.steps) all.0.client;
+      good = g.met.M.Machine.legal (defaults []) c.go.new.client (history c.go.new.play.steps) all.0.client;
       ordered = all.1;
       answered = all.0.holds.answered;
       sent = counts.sent;

@@ -63,8 +63,7 @@
 //! let answer = client.take_answer(build); // Taken::Waiting until Ended has come, Taken::Unknown once it was taken
 //! ```
 //!
-//! Every type that these calls name stands here. `pulsar_producer` has `MessageBuilder` beside the two functions that make a message
-//! here, and `pulsar_consumer` has `DeserializeMessage`, which reads a payload as a text.
+//! Every type that these calls name stands here, and what makes a message and reads a payload.
 #![tactic(auto)]
 
 mod answers;
@@ -85,8 +84,8 @@ pub use crate::pulsar::Pulsar;
 pub use pulsar_calls::effect::{Answer, Effect, Handed, Settlement};
 pub use pulsar_calls::event::{Call, Event};
 pub use pulsar_consumer::{
-    Consumer, ConsumerBuilder, ConsumerConfig, DeadLetterPolicy, InitialPosition, MessageData,
-    SubType, TopicConsumer,
+    Consumer, ConsumerBuilder, ConsumerConfig, DeadLetterPolicy, DeserializeMessage,
+    InitialPosition, MessageData, SubType, TopicConsumer,
 };
 pub use pulsar_frame::Payload;
 pub use pulsar_link::raw_call::RawCall;
@@ -95,7 +94,8 @@ pub use pulsar_messages::{
 };
 pub use pulsar_plans::{BrokerAddress, ConnectionRetryOptions, OperationRetryOptions};
 pub use pulsar_producer::{
-    CustomRoutingPolicy, Producer, ProducerBuilder, message_from_bytes, message_from_text,
+    CustomRoutingPolicy, MessageBuilder, PartitionedProducer, Producer, ProducerBuilder,
+    SerializeMessage, message_from_bytes, message_from_text,
 };
 pub use pulsar_wire::{
     AuthenticationError, Body, CommandConsumerStatsResponse, CommandGetLastMessageIdResponse,

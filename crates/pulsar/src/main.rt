@@ -4,18 +4,26 @@
 mod policy;
 
 use crate::policy::Second;
-use pulsar_cli::{NO_FORM, NO_MEMORY, StandardInput, StandardOutput, Status, run};
-use pulsar_client::CustomRoutingPolicy;
-use std::alloc::AllocError;
+use pulsar_cli::{Limits, NO_FORM, NO_MEMORY, StandardInput, StandardOutput, Status, TcpEdge, run};
+use pulsar_client::{CustomRoutingPolicy, Sink, Source};
+use std::alloc::{AllocError, Global};
+use std::net::{Net, TcpStream};
 use std::process::ExitCode;
+use std::sync::Wait;
+use std::thread::Threads;
+use std::time::Clock;
 use std::{env, io};
 
 fn main(rt: HostRuntime) -> ExitCode {
     let status: Status = match arguments(&rt) {
-        Ok(words) => match run_words(&rt, &words) {
-            Ok(status) => status,
-            Err(_) => NO_MEMORY,
-        },
+        Ok(words) => {
+            let mut source = StandardInput::new(rt.reader());
+            let mut sink = StandardOutput::new(io::writer(&rt));
+            match run_words(&rt, rt.alloc(), &words, &mut source, &mut sink) {
+                Ok(status) => status,
+                Err(_) => NO_MEMORY,
+            }
+        }
         // a word is not UTF-8
         Err(error) if error.kind() == io::ErrorKind::InvalidData => NO_FORM,
         Err(_) => NO_MEMORY,
@@ -24,13 +32,17 @@ fn main(rt: HostRuntime) -> ExitCode {
 }
 
 /// The run of these words. The policies are made here, since no function may hand out a box of a trait that it made.
-fn run_words(rt: &HostRuntime, words: &[String]) -> Result<Status, AllocError> {
-    let alloc = rt.alloc();
+fn run_words<R: Net<Stream = TcpStream> + Clock + Threads + Wait + Sync, S: Source, K: Sink>(
+    rt: &R,
+    alloc: Global,
+    words: &[String],
+    source: &mut S,
+    sink: &mut K,
+) -> Result<Status, AllocError> {
     let mut policies: Vec<Box<dyn CustomRoutingPolicy>> = Vec::new(alloc);
     policies.push(Box::new(alloc, Second)?)?;
-    let mut source = StandardInput::new(rt.reader());
-    let mut sink = StandardOutput::new(io::writer(rt));
-    Ok(run(alloc, words, &mut source, &mut sink, policies))
+    let mut edge = TcpEdge::new(rt, Limits::new());
+    Ok(run(rt, alloc, words, source, sink, &mut edge, policies))
 }
 
 /// The words behind the program's name.

@@ -6,3 +6,4 @@ pub mod Answering
 pub mod Hearing
 pub mod Standing
 pub mod Orders
+pub mod Leaving

@@ -1,5 +1,5 @@
 -- A broker stands for one act more.
-use Rattle.std.proofs.Common.{◌≡◌, ◌∙◌, ◌==◌, ◌++◌, ◌∷◌, sym, ap, refl, subst, ℕ, List, [], Bool, true, false, cond, Some, arith, string_bytes}
+use Rattle.std.proofs.Common.{◌≡◌, ◌∙◌, ◌==◌, ◌++◌, ◌∷◌, sym, ap, refl, subst, ℕ, List, [], Bool, true, false, cond, None, Some, arith, string_bytes}
 use Rattle.std.proofs.lemmas.Bool.{eqb-true}
 use Rattle.std.proofs.lemmas.Bool.Decides.{nat_tests}
 use Rattle.std.proofs.lemmas.List.{append-nil, append_assoc}
@@ -8,13 +8,15 @@ use Rattle.std.specs.BTreeMap.{BTreeMap, get, is_at}
 use Rattle.std.specs.List.{flat_map}
 use Rattle.std.specs.Ordering.{nat_cmp}
 use Rattle.pulsar_frame.specs.Frame.{bad, left}
-use Rattle.pulsar_broker.specs.History.{Act, Fed, Taken, bytes_for, ended_by, frames, given, state, stream, taken, turns}
-use Rattle.pulsar_broker.specs.Kept.{IsKept, owed_on, state_in}
-use Rattle.pulsar_broker.specs.State.{State}
+use Rattle.pulsar_broker.specs.History.{Act, Ended, Fed, Taken, bytes_for, ended_by, frames, given, settled, state, stream, turns}
+use Rattle.pulsar_broker.specs.Kept.{IsKept, IsNamed, owed_on, state_in}
+use Rattle.pulsar_broker.specs.State.{State, without}
 use Rattle.pulsar_broker.specs.Stands.{HasAnswered, HasGoneOn, IsReading, ReadsOn, StandsFor}
 use Rattle.pulsar_broker.specs.declared.broker.Broker.{Broker}
 use Rattle.pulsar_broker.specs.declared.broker.Reading.{Reading}
 use Rattle.pulsar_broker.specs.declared.outbox.Outbox.{Outbox}
+use Rattle.pulsar_frame.proofs.Streams.{left-nil}
+use Rattle.pulsar_broker.proofs.Leaving.{history_named}
 use Rattle.pulsar_broker.proofs.SetKeys.{at_seat}
 
 -- A PIECE WAS FED
@@ -42,16 +44,16 @@ reads_fed readings new link piece after h others is reads k = by (k == link) ref
         subst (λ s. ReadsOn (get nat_cmp new k) s) (sym same) (subst (λ o. ReadsOn o (stream k h)) (sym now) (others k e))
 
 owes_fed : (url : List ℕ) (link : ℕ) (piece : List ℕ) (h : List Act) (before after : Outbox) →
-    ((k : ℕ) → given url h k ≡ taken url h k ++ owed_on before k) →
+    ((k : ℕ) → given url h k ≡ settled url h k ++ owed_on before k) →
     ((k : ℕ) → owed_on after k ≡ owed_on before k ++ flat_map (bytes_for k) (turns url link (ended_by piece (stream link h)) (state url h)).given) →
-    (k : ℕ) → given url (Fed link piece ∷ h) k ≡ taken url (Fed link piece ∷ h) k ++ owed_on after k
+    (k : ℕ) → given url (Fed link piece ∷ h) k ≡ settled url (Fed link piece ∷ h) k ++ owed_on after k
 unfolding given frames
 owes_fed url link piece h before after owes is k =
     let more = (turns url link (ended_by piece (stream link h)) (state url h)).given in
     flat_map-append (bytes_for k) (frames url h) more
     ∙ ap (λ xs. xs ++ flat_map (bytes_for k) more) (owes k)
-    ∙ append_assoc (taken url h k) (owed_on before k) (flat_map (bytes_for k) more)
-    ∙ ap (λ xs. taken url h k ++ xs) (sym (is k))
+    ∙ append_assoc (settled url h k) (owed_on before k) (flat_map (bytes_for k) more)
+    ∙ ap (λ xs. settled url h k ++ xs) (sym (is k))
 
 keeps_fed : (url : List ℕ) (link : ℕ) (piece : List ℕ) (h : List Act) (old new : State) → old ≡ state url h → new ≡ (turns url link (ended_by piece (stream link h)) old).state →
     new ≡ state url (Fed link piece ∷ h)
@@ -84,8 +86,8 @@ stands_fed url h old between middle new link piece after stands tables outbox na
 
 -- WHAT A LINK IS OWED WAS TAKEN
 
-owes_taken : (url : List ℕ) (link : ℕ) (h : List Act) (before after : Outbox) → ((k : ℕ) → given url h k ≡ taken url h k ++ owed_on before k) →
-    ((k : ℕ) → owed_on after k ≡ cond (k == link) [] (owed_on before k)) → (k : ℕ) → given url (Taken link ∷ h) k ≡ taken url (Taken link ∷ h) k ++ owed_on after k
+owes_taken : (url : List ℕ) (link : ℕ) (h : List Act) (before after : Outbox) → ((k : ℕ) → given url h k ≡ settled url h k ++ owed_on before k) →
+    ((k : ℕ) → owed_on after k ≡ cond (k == link) [] (owed_on before k)) → (k : ℕ) → given url (Taken link ∷ h) k ≡ settled url (Taken link ∷ h) k ++ owed_on after k
 unfolding given frames
 owes_taken url link h before after owes is k = by (k == link) refl
   where
@@ -93,15 +95,15 @@ owes_taken url link h before after owes is k = by (k == link) refl
     swapped true e = grind (arith, nat_tests)
     swapped false e = grind (arith, nat_tests)
 
-    by : (b : Bool) → (k == link) ≡ b → flat_map (bytes_for k) (frames url h) ≡ cond (link == k) (flat_map (bytes_for k) (frames url h)) (taken url h k) ++ owed_on after k
+    by : (b : Bool) → (k == link) ≡ b → flat_map (bytes_for k) (frames url h) ≡ cond (link == k) (flat_map (bytes_for k) (frames url h)) (settled url h k) ++ owed_on after k
     by true e =
         sym (append-nil (flat_map (bytes_for k) (frames url h)))
-        ∙ sym (ap (λ b. cond b (flat_map (bytes_for k) (frames url h)) (taken url h k) ++ []) (swapped true e))
-        ∙ ap (λ xs. cond (link == k) (flat_map (bytes_for k) (frames url h)) (taken url h k) ++ xs) (sym (is k ∙ ap (λ b. cond b [] (owed_on before k)) e))
+        ∙ sym (ap (λ b. cond b (flat_map (bytes_for k) (frames url h)) (settled url h k) ++ []) (swapped true e))
+        ∙ ap (λ xs. cond (link == k) (flat_map (bytes_for k) (frames url h)) (settled url h k) ++ xs) (sym (is k ∙ ap (λ b. cond b [] (owed_on before k)) e))
     by false e =
         owes k
-        ∙ sym (ap (λ b. cond b (flat_map (bytes_for k) (frames url h)) (taken url h k) ++ owed_on before k) (swapped false e))
-        ∙ ap (λ xs. cond (link == k) (flat_map (bytes_for k) (frames url h)) (taken url h k) ++ xs) (sym (is k ∙ ap (λ b. cond b [] (owed_on before k)) e))
+        ∙ sym (ap (λ b. cond b (flat_map (bytes_for k) (frames url h)) (settled url h k) ++ owed_on before k) (swapped false e))
+        ∙ ap (λ xs. cond (link == k) (flat_map (bytes_for k) (frames url h)) (settled url h k) ++ xs) (sym (is k ∙ ap (λ b. cond b [] (owed_on before k)) e))
 
 pub stands_taken : (url : List ℕ) (h : List Act) (old : Broker) (outbox : Outbox) (link : ℕ) → StandsFor url h old →
     ((k : ℕ) → owed_on outbox k ≡ cond (k == link) [] (owed_on old.outbox k)) → StandsFor url (Taken link ∷ h) (record old { outbox = outbox })
@@ -114,4 +116,44 @@ stands_taken url h old outbox link stands is =
       kept = stands.kept;
       owes = owes_taken url link h old.outbox outbox stands.owes is;
       whole = stands.whole;
+    }
+
+-- A LINK HAS ENDED
+
+reads_ended : (readings new : BTreeMap ℕ Reading) (link : ℕ) (h : List Act) → ((k : ℕ) → ReadsOn (get nat_cmp readings k) (stream k h)) →
+    ((k : ℕ) → get nat_cmp new k ≡ cond (is_at (nat_cmp link) k) None (get nat_cmp readings k)) → (k : ℕ) → ReadsOn (get nat_cmp new k) (stream k (Ended link ∷ h))
+reads_ended readings new link h reads is k = subst (λ o. ReadsOn o (stream k (Ended link ∷ h))) (sym (is k)) (by (link == k) (is_at (nat_cmp link) k) (swapped (at_seat link k)))
+  where
+    swapped : is_at (nat_cmp link) k ≡ (k == link) → is_at (nat_cmp link) k ≡ (link == k)
+    swapped e = grind (arith, nat_tests, e)
+
+    by : (b a : Bool) → a ≡ b → ReadsOn (cond a None (get nat_cmp readings k)) (cond b [] (stream k h))
+    by true true e = left-nil
+    by false false e = reads k
+    by true false e = absurd cc
+    by false true e = absurd cc
+
+owes_ended : (url : List ℕ) (link : ℕ) (h : List Act) (before after : Outbox) → ((k : ℕ) → given url h k ≡ settled url h k ++ owed_on before k) →
+    ((k : ℕ) → owed_on after k ≡ cond (k == link) [] (owed_on before k)) → (k : ℕ) → given url (Ended link ∷ h) k ≡ settled url (Ended link ∷ h) k ++ owed_on after k
+unfolding given frames
+owes_ended url link h before after owes is k = owes_taken url link h before after owes is k
+
+keeps_ended : (url : List ℕ) (link : ℕ) (h : List Act) (old new : State) → old ≡ state url h → (IsNamed old → new ≡ without link old) → new ≡ state url (Ended link ∷ h)
+unfolding state
+keeps_ended url link h old new keeps is = is (subst IsNamed (sym keeps) (history_named url h)) ∙ ap (without link) keeps
+
+pub stands_ended : (url : List ℕ) (h : List Act) (old new : Broker) (link : ℕ) → StandsFor url h old →
+    new.url ≡ old.url → new.failed ≡ old.failed →
+    ((k : ℕ) → get nat_cmp new.readings k ≡ cond (is_at (nat_cmp link) k) None (get nat_cmp old.readings k)) →
+    ((k : ℕ) → owed_on new.outbox k ≡ cond (k == link) [] (owed_on old.outbox k)) →
+    (IsNamed (state_in old.tables) → state_in new.tables ≡ without link (state_in old.tables)) → (IsKept old.tables → IsKept new.tables) →
+    StandsFor url (Ended link ∷ h) new
+stands_ended url h old new link stands named failed reads owes keeps kept =
+    record {
+      named = ap (λ u. string_bytes u) named ∙ stands.named;
+      reads = reads_ended old.readings new.readings link h stands.reads reads;
+      keeps = keeps_ended url link h (state_in old.tables) (state_in new.tables) stands.keeps keeps;
+      kept = kept stands.kept;
+      owes = owes_ended url link h old.outbox new.outbox stands.owes owes;
+      whole = failed ∙ stands.whole;
     }

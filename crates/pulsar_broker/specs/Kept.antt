@@ -1,5 +1,5 @@
 -- For the code's contracts alone: the state of a broker, as the code keeps it.
-use Rattle.std.specs.Prelude.{◌≡◌, ◌==◌, ◌&&◌, ℕ, Bool, true, false, nat_lt, List, [], ◌∷◌, ◌++◌, bytes_eq, length, map, Option, Some, None, string_bytes}
+use Rattle.std.specs.Prelude.{◌≡◌, ◌==◌, ◌&&◌, ℕ, Bool, true, false, nat_lt, List, [], ◌∷◌, ◌++◌, bytes_eq, length, map, Option, Some, None, string_bytes, if◌then◌else◌}
 use Rattle.std.specs.Global.{Vec}
 use Rattle.std.specs.declared.string.String.{String}
 use Rattle.std.specs.BTreeSet.{contains}
@@ -162,6 +162,28 @@ pub record IsTurned (turn : Turn) (old new : Tables) (before after : Outbox) : T
   pub state : state_in new ≡ turn.state
   pub given : (l : ℕ) → owed_on after l ≡ owed_on before l ++ flat_map (bytes_for l) turn.given
   pub kept : IsKept new
+
+-- WHO LEAVES WITH A LINK
+
+abbrev pub name_of : state.Consumer → ℕ × ℕ
+name_of c = (c.link, c.number)
+
+abbrev pub names : State → (seat : ℕ) → Option (ℕ × ℕ)
+names s seat = option_map name_of (s.consumers seat)
+
+abbrev pub name_of_another : (link : ℕ) → Option (ℕ × ℕ) → Option (ℕ × ℕ)
+name_of_another link None = None
+name_of_another link (Some name) = if name.0 == link then None else Some name
+
+-- A consumer is found by its link and its number, and what is found so is of that link. No seat is in use that was not taken.
+pub record AreNamed (names : ℕ → Option (ℕ × ℕ)) (seats : ℕ) (seat_of : ℕ → ℕ → Option ℕ) : Type 0 where
+  pub free : (seat : ℕ) → nat_lt seat seats ≡ false → names seat ≡ None
+  pub found : (seat link number : ℕ) → names seat ≡ Some (link, number) → seat_of link number ≡ Some seat
+  pub own : (link number seat : ℕ) → seat_of link number ≡ Some seat → name_of_another link (names seat) ≡ None
+  pub taken : (link number seat : ℕ) → seat_of link number ≡ Some seat → nat_lt seat seats ≡ true
+
+abbrev pub IsNamed : State → Type 0
+IsNamed s = AreNamed (names s) s.seats s.seat_of
 
 -- the message of this command and this payload
 abbrev pub message_in : BaseCommand → Option Payload → MessageValues

@@ -7,7 +7,7 @@ use Rattle.std.specs.Ordering.{nat_cmp}
 use Rattle.pulsar_frame.specs.Frame.{bad, cut, left}
 use Rattle.pulsar_wire.specs.declared.error.Reason.{Reason}
 use Rattle.pulsar_broker.specs.State.{Turn}
-use Rattle.pulsar_broker.specs.History.{Act, bytes_for, ended_by, given, state, stream, taken, turns}
+use Rattle.pulsar_broker.specs.History.{Act, bytes_for, ended_by, given, settled, state, stream, turns}
 use Rattle.pulsar_broker.specs.Kept.{IsKept, owed_on, state_in}
 use Rattle.pulsar_broker.specs.declared.broker.Broker.{Broker}
 use Rattle.pulsar_broker.specs.declared.broker.Reading.{Reading}
@@ -28,13 +28,13 @@ ReadsOn None stream = left stream ≡ []
 ReadsOn (Some reading) stream = IsReading reading (left stream) (bad stream)
 
 -- A broker stands for a history where it has this URL, reads what is left of each stream, keeps the state of that history, owes to each link what
--- was given and not taken, and has not run out of memory.
+-- was given and is not settled, and has not run out of memory.
 pub record StandsFor (url : List ℕ) (h : List Act) (b : Broker) : Type 0 where
   pub named : string_bytes b.url ≡ url
   pub reads : (link : ℕ) → ReadsOn (get nat_cmp b.readings link) (stream link h)
   pub keeps : state_in b.tables ≡ state url h
   pub kept : IsKept b.tables
-  pub owes : (link : ℕ) → given url h link ≡ taken url h link ++ owed_on b.outbox link
+  pub owes : (link : ℕ) → given url h link ≡ settled url h link ++ owed_on b.outbox link
   pub whole : b.failed ≡ false
 
 -- FOR THE CODE'S CONTRACTS ALONE: what a call inside has answered

@@ -122,6 +122,25 @@ abbrev pub subscribed : (link number : ℕ) (topic subscription : List ℕ) → 
 subscribed link number topic subscription position s =
     joined link number topic subscription position (closed link number s)
 
+-- A LINK HAS ENDED: its producers and its consumers leave. The cursors stay.
+
+-- what links have by number, but for this one
+abbrev pub without_link : {A : Type 0} → (link : ℕ) → (ℕ → ℕ → Option A) → ℕ → ℕ → Option A
+without_link link f l n = if l == link then None else f l n
+
+-- whoever is of another link
+abbrev pub of_another : (link : ℕ) → Option Consumer → Option Consumer
+of_another link None = None
+of_another link (Some c) = if c.link == link then None else Some c
+
+abbrev pub without : (link : ℕ) → State → State
+without link s =
+    record s {
+      producers = without_link link s.producers;
+      consumers = λ seat. of_another link (s.consumers seat);
+      seat_of = without_link link s.seat_of;
+    }
+
 -- SENDING AND GRANTING
 
 abbrev pub stored : PayloadValues → Topic → Topic

@@ -7,7 +7,7 @@ ghost use Rattle.pulsar_frame.specs.Frame.{bad, left};
 ghost use Rattle.pulsar_frame.specs.Shown.{message_values};
 ghost use Rattle.pulsar_broker.specs.Kept.{IsKept, state_in};
 ghost use Rattle.pulsar_broker.specs.State.{turn};
-ghost use Rattle.pulsar_broker.specs.History.{Act, Fed, Taken, Takes};
+ghost use Rattle.pulsar_broker.specs.History.{Act, Ended, Fed, Taken, Takes};
 ghost use Rattle.pulsar_broker.specs.Stands.{HasAnswered, HasFailed, HasGoneOn, HasHeard, HasRead, IsReading, ReadsOn, StandsFor};
 
 use crate::outbox::Outbox;
@@ -85,6 +85,18 @@ impl Broker {
             return Err(NoMemory);
         }
         Ok(self.outbox.take(link))
+    }
+
+    /// A link has ended: its producers and its consumers leave as if each had been closed, with no answer, and what it is owed is dropped. What is
+    /// fed to it next begins a new stream. The cursors of its subscriptions stay: what was sent to a consumer and not acknowledged is not
+    /// sent again. It takes no memory, and its time is by what the link has.
+    pub fn end(&mut self, link: u64)
+        ensures ok { (url : List ℕ) (h : List Act) → StandsFor url h self.old → StandsFor url (Ended link ∷ h) self.new }
+        ensures stays { HasFailed self.old → HasFailed self.new }
+    {
+        drop(self.readings.remove(&link));
+        drop(self.outbox.take(link));
+        self.tables.end(link);
     }
 
     /// A link is read on.

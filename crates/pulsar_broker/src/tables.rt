@@ -1,21 +1,24 @@
 //! What a broker keeps: producers, consumers and topics.
 
-ghost use Rattle.std.specs.Prelude.{◌≡◌, ◌==◌, ◌&&◌, ◌||◌, ◌++◌, ℕ, List, [], Option, bytes_eq, IfOk, OnOk, None, Some};
+ghost use Rattle.std.specs.Prelude.{◌≡◌, ◌==◌, ◌&&◌, ◌||◌, ◌++◌, ◌<◌, ℕ, List, [], Option, bytes_eq, IfOk, IsSome, OnOk, None, Some};
+ghost use Rattle.std.specs.BTreeMap.{btree_map_len};
 ghost use Rattle.std.specs.List.{flat_map};
 ghost use Rattle.std.specs.Option.{is_some, option_copied, option_map};
 ghost use Rattle.pulsar_frame.specs.Payload.{PayloadValues, payload_values};
 ghost use Rattle.pulsar_frame.specs.Shown.{message_values};
 ghost use Rattle.pulsar_broker.specs.Asked.{ClosesConsumer, ClosesProducer, Grants, MakesProducer, Subscribes};
 ghost use Rattle.pulsar_broker.specs.History.{bytes_for};
-ghost use Rattle.pulsar_broker.specs.Kept.{IsAnswered, IsKept, IsTurned, asked_in, consumers_in, lists, message_in, owed_on, state_in};
+ghost use Rattle.pulsar_broker.specs.Kept.{IsAnswered, IsKept, IsNamed, IsTurned, asked_in, consumers_in, lists, message_in, owed_on, seats_in, state_in};
 ghost use Rattle.pulsar_broker.specs.State as meaning;
 ghost use Rattle.pulsar_broker.specs.declared.outbox.Outbox.{Outbox};
-ghost use Rattle.pulsar_broker.specs.State.{answer, answer_send, closed, fresh, granted_more, joined, serve_all, set_at, to, turn};
+ghost use Rattle.pulsar_broker.specs.State.{answer, answer_send, closed, fresh, granted_more, joined, serve_all, set_at, to, turn, without};
 
 use crate::answers;
 use crate::asked::{self, Asked};
 use crate::consumer::Consumer;
-use crate::keys::{drop_producer, drop_seat, seat_at, set_producer, set_seat, topic_at};
+use crate::keys::{
+    drop_producer, drop_producers, drop_seat, first_of, seat_at, set_producer, set_seat, topic_at,
+};
 use crate::outbox::Outbox;
 use crate::topic::Topic;
 use crate::topics::{list_in, serve_of, store_in, unlist_in};
@@ -52,6 +55,25 @@ impl Tables {
             seats: 0,
             seat_of: BTreeMap::new(alloc),
             topics: BTreeMap::new(alloc),
+        }
+    }
+
+    /// The producers and the consumers of a link leave. It takes no memory.
+    pub fn end(&mut self, link: u64)
+        ensures after { IsNamed (state_in self.old) → state_in self.new ≡ without link (state_in self.old) }
+        ensures kept { IsKept self.old → IsKept self.new }
+    {
+        drop_producers(&mut self.producers, link);
+        self.close_all(link);
+    }
+
+    /// The consumers of a link leave.
+    fn close_all(&mut self, link: u64)
+        ensures after { IsNamed (state_in self.old) → ((n : ℕ) → (state_in self.old).producers link n ≡ None) → state_in self.new ≡ without link (state_in self.old) }
+        ensures kept { IsKept self.old → IsKept self.new }
+    {
+        while let Some(number) = first_of(&self.seat_of, link) {
+            self.close(link, number);
         }
     }
 
@@ -242,6 +264,7 @@ impl Tables {
     fn close(&mut self, link: u64, number: u64)
         ensures after { state_in self.new ≡ closed link number (state_in self.old) }
         ensures kept { IsKept self.old → IsKept self.new }
+        ensures fewer { IsSome (seats_in self.old.seat_of link number) → btree_map_len self.new.seat_of < btree_map_len self.old.seat_of }
     {
         let Some(seat) = drop_seat(&mut self.seat_of, link, number) else {
             return;

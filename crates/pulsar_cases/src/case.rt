@@ -2,9 +2,12 @@
 
 use crate::pieces::Pieces;
 use crate::policy::Second;
-use pulsar_cli::{Status, script};
+use pulsar_cli::{Status, run, script};
 use pulsar_client::{CustomRoutingPolicy, FailingSink, FailingSource};
+use pulsar_pumps::MemoryEdge;
 use std::alloc::{AllocError, Global};
+use std::sync::Wait;
+use std::thread::Threads;
 use std::{fs, io};
 
 /// A script, the text that its run prints, and the status with which it ends.
@@ -95,6 +98,34 @@ pub fn run_script(alloc: Global, lines: &[u8], way: Way) -> Result<Ran, AllocErr
     let mut policies: Vec<Box<dyn CustomRoutingPolicy>> = Vec::new(alloc);
     policies.push(Box::new(alloc, Second)?)?;
     let status = script(alloc, &mut source, &mut sink, policies);
+    Ok(Ran { status, sink })
+}
+
+/// Runs the program with these words, and an empty source. Its links give nothing.
+pub fn run_words<T: Threads + Wait + Sync>(
+    threads: &T,
+    alloc: Global,
+    words: &str,
+) -> Result<Ran, AllocError> {
+    let mut all = Vec::new(alloc);
+    for word in words.split(' ') {
+        all.push(String::from_str(alloc, word)?)?;
+    }
+    let way = Way::in_pieces(usize::MAX);
+    let mut source = source_of(alloc, &[], way)?;
+    let mut sink = sink_of(alloc, way)?;
+    let mut policies: Vec<Box<dyn CustomRoutingPolicy>> = Vec::new(alloc);
+    policies.push(Box::new(alloc, Second)?)?;
+    let mut edge = MemoryEdge::new(alloc, Vec::new(alloc), 0, 0);
+    let status = run(
+        threads,
+        alloc,
+        &all,
+        &mut source,
+        &mut sink,
+        &mut edge,
+        policies,
+    );
     Ok(Ran { status, sink })
 }
 

@@ -4,7 +4,11 @@ use crate::case::{Case, Way, run_script};
 use crate::compare::{Wanted, is_as_wanted};
 use crate::faults::with_faults;
 use crate::lines::run_lines;
+use crate::steps::run_steps;
 use crate::tally::Tally;
+use crate::words::run_words_of;
+use std::sync::Wait;
+use std::thread::Threads;
 use std::{fs, io};
 
 /// The names in a folder, in order.
@@ -18,17 +22,27 @@ pub fn names(rt: &HostRuntime, folder: &str) -> io::Result<Vec<String>> {
 }
 
 /// Runs the cases of a folder.
-pub fn run_folder(rt: &HostRuntime, folder: &str) -> io::Result<Tally> {
+pub fn run_folder<T: Threads + Wait + Sync>(
+    rt: &HostRuntime,
+    threads: &T,
+    folder: &str,
+) -> io::Result<Tally> {
     let names = names(rt, folder)?;
     let mut tally = Tally::default();
     for name in &names {
-        tally.add(run_file(rt, folder, name, &names)?);
+        tally.add(run_file(rt, threads, folder, name, &names)?);
     }
     Ok(tally)
 }
 
 /// Runs the cases of a file, which are none where it belongs to a script.
-fn run_file(rt: &HostRuntime, folder: &str, file: &str, names: &[String]) -> io::Result<Tally> {
+fn run_file<T: Threads + Wait + Sync>(
+    rt: &HostRuntime,
+    threads: &T,
+    folder: &str,
+    file: &str,
+    names: &[String],
+) -> io::Result<Tally> {
     match file.rsplit_once('.') {
         Some((name, "script")) => {
             let has_status = has(rt, names, name, "status")?;
@@ -36,6 +50,8 @@ fn run_file(rt: &HostRuntime, folder: &str, file: &str, names: &[String]) -> io:
             Ok(Tally::one(run_case(rt, folder, name, &case)?))
         }
         Some((_, "lines")) => run_lines(rt, folder, file),
+        Some((_, "words")) => run_words_of(rt, threads, folder, file),
+        Some((_, "steps")) => run_steps(rt, folder, file),
         Some((name, "stdout" | "status")) if has(rt, names, name, "script")? => {
             Ok(Tally::default())
         }

@@ -1,3 +1,4 @@
+pub mod Begins
 pub mod Completes
 pub mod Splitting
 pub mod Prints
@@ -7,3 +8,5 @@ pub mod Gives
 pub mod Events
 pub mod Feeds
 pub mod Turns
+pub mod Demos
+pub mod Courses

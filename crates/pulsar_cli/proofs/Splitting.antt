@@ -1,14 +1,7 @@
 -- Lines, as the pieces of a script bring them.
-use Rattle.std.proofs.Common.{◌≡◌, ◌==◌, ℕ, ◌+◌, ◌-◌, ◌<◌, ◌≤◌, ◌∙◌, sym, ap, List, [], ◌∷◌, ◌++◌, refl, arith, Bool, true, false, cond, Some, None, nat_lt, length, take, drop, append_assoc, append-nil}
-use Rattle.std.specs.List.{position, position_or_len, before_first, after_first}
-use Rattle.std.proofs.Math.Seq.{take-length}
-use Rattle.std.proofs.lemmas.Bool.{eqb-true}
-use Rattle.std.proofs.lemmas.Bool.Decides.{nat_tests}
-use Rattle.std.proofs.lemmas.List.{length-drop, length-take-le, get_or-take}
+use Rattle.std.proofs.Common.{◌≡◌, ◌==◌, ℕ, ◌∙◌, sym, ap, List, [], ◌∷◌, ◌++◌, refl, arith, false, append_assoc, append-nil}
 use Rattle.std.proofs.lemmas.List.Elements.{All-append}
-use Rattle.std.proofs.lemmas.List.Sums.{fails_before_first, passes_at_first, split_at_first}
 use Rattle.std.proofs.lemmas.List.Splits.{slice_split_at, slice_split_none}
-use Rattle.std.proofs.lemmas.Option.{none-some}
 use Rattle.pulsar_script.specs.Grammar.{lines}
 use Rattle.pulsar_script.specs.Parsed.{IsWithinLine}
 use Rattle.pulsar_cli.specs.Shown.{Splits}

@@ -1,25 +1,15 @@
 -- The run of a script.
-use Rattle.std.specs.Str.{bytes_eq}
-use Rattle.std.specs.Prelude.{◌≡◌, ◌⊎◌, Bool, false, if◌then◌else◌, codes, ℕ, ◌+◌, ◌<◌, ◌≤◌, ◌↔◌, List, [], ◌∷◌, ◌++◌, length, drop, Option, Some, None}
+use Rattle.std.specs.Prelude.{◌≡◌, ◌⊎◌, if◌then◌else◌, codes, ℕ, ◌+◌, ◌<◌, ◌≤◌, ◌↔◌, List, [], ◌∷◌, ◌++◌, length, drop, Option, Some, None}
 use Rattle.pulsar_wire.specs.Field.{◌>>=◌}
 use Rattle.pulsar_plans.specs.Backoff.{default_connection_retry, default_operation_retry}
 use Rattle.pulsar_producer.specs.Routing.{Policy}
 use Rattle.pulsar_tables.specs.Address.{base_in}
 use Rattle.pulsar_calls.specs.Content.{Heard}
 use Rattle.pulsar_tables.specs.View.{Chosen, Options}
-use Rattle.pulsar_client.specs.Outside.{Rose}
+pub use Rattle.pulsar_job.specs.Outside.{Adds, AddsFront, Given, HasFault, Seen, limit, seen, since}
 use Rattle.pulsar_agenda.specs.Run.{Good, Step, is_empty}
 use Rattle.pulsar_script.specs.Grammar.{Setting, Url, Auth, Outbound, Timeout, RetryDelay, OpRetries, Retries, MinBackoff, MaxBackoff, ConnectionTimeout, KeepAlive, MaxIdle, Seed, First, Now, Line, Nothing, Sets, Happens, Refused, line, lines}
 use Rattle.pulsar_script.specs.Text.{step, refusal}
-
--- the words are `script` alone
-abbrev pub is_script : List (List ℕ) → Bool
-is_script (w ∷ []) = bytes_eq w (codes "script")
-is_script _ = false
-
--- the most bytes that a script may have
-abbrev pub limit : ℕ
-limit = 268435456
 
 -- what a script says: the options of its client, and its events
 pub record Script : Type 0 where
@@ -104,43 +94,6 @@ pub record IsRunOf (policies : List Policy) (ls : List (List ℕ)) (h : List Ste
   pub is : script_of policies ls ≡ Some script
   pub events : script.events ≡ happened h
   pub good : Good script.options h
-
--- What is seen of a source, or of a sink: what it has left, or holds, before and after, where it tells that, and how many
--- faults it has counted.
-pub record Seen : Type 0 where
-  pub before : Option (List ℕ)
-  pub after : Option (List ℕ)
-  pub faults_before : ℕ
-  pub faults_after : ℕ
-
--- since what was seen first
-abbrev pub since : {A : Type 0} → Option (List ℕ) → ℕ → (A → Option (List ℕ)) → (A → ℕ) → A → Seen
-since first count content faults now = record { before = first; after = content now; faults_before = count; faults_after = faults now }
-
-abbrev pub seen : {A : Type 0} → (A → Option (List ℕ)) → (A → ℕ) → A → A → Seen
-seen content faults old new = since (content old) (faults old) content faults new
-
-abbrev pub HasFault : Seen → Type 0
-HasFault s = Rose s.faults_before s.faults_after
-
--- What a source had to give, and how many bytes of it were taken. One that tells its content says both.
-pub record Given (source : Seen) : Type 0 where
-  pub bytes : List ℕ
-  pub count : ℕ
-  pub within : count ≤ length bytes
-  pub had : (all : List ℕ) → source.before ≡ Some all → all ≡ bytes
-  pub has : (all : List ℕ) → source.before ≡ Some all → source.after ≡ Some (drop count bytes)
-
--- what a sink holds has grown by these bytes
-abbrev pub Adds : Option (List ℕ) → Option (List ℕ) → List ℕ → Type 0
-Adds old new t = (held : List ℕ) → old ≡ Some held → new ≡ Some (held ++ t)
-
--- it has grown by a front of these bytes
-pub record AddsFront (old new : Option (List ℕ)) (t : List ℕ) : Type 0 where
-  pub front : List ℕ
-  pub back : List ℕ
-  pub whole : t ≡ front ++ back
-  pub adds : Adds old new front
 
 -- Status 0: the lines are in the grammar, and the text of their run was printed.
 pub record IsDone (policies : List Policy) (bytes : List ℕ) (old new : Option (List ℕ)) : Type 0 where

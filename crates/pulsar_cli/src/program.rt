@@ -1,69 +1,98 @@
 //! The top call: the words of the command line, and a script's run.
 
-ghost use Rattle.std.specs.Prelude.{◌≡◌, ◌<◌, ◌++◌, ◌≤◌, ◌↔◌, ◌⊎◌, false, true, [], ℕ, List, Option, Ok, Err, None, MatchOption, MatchResult, OnErr, OnOk, IfErr, IfOk, IfSome, map, string_bytes};
+ghost use Rattle.std.specs.Prelude.{◌≡◌, ◌<◌, ◌++◌, ◌≤◌, ◌↔◌, ◌⊎◌, false, true, [], ℕ, List, Option, Ok, Err, None, Some, MatchOption, MatchResult, OnErr, OnOk, IfErr, IfOk, IfSome, map, string_bytes};
 ghost use Rattle.pulsar_client.specs.Client.{StandsFor};
 ghost use Rattle.pulsar_calls.specs.Content.{heard};
 ghost use Rattle.pulsar_client.specs.Outside.{Rose};
 ghost use Rattle.pulsar_agenda.specs.Run.{Step};
 ghost use Rattle.pulsar_tables.specs.View.{Options};
 ghost use Rattle.pulsar_producer.specs.Routing.{Policy};
-ghost use Rattle.pulsar_cli.specs.Script.{Adds, AddsFront, IsDone, Printed, Ran, Seen, is_script, seen, since};
+ghost use Rattle.pulsar_cli.specs.Script.{Adds, AddsFront, IsDone, Printed, Ran, Seen, seen, since};
+ghost use Rattle.pulsar_work.specs.Form.{Asking};
+ghost use Rattle.pulsar_job.specs.Went.{HasGone, edge_seen};
+ghost use Rattle.pulsar_cli.specs.Form.{Demo, IsLine, Job, Script, Shows, form, line};
 ghost use Rattle.pulsar_cli.specs.Shown.{Awaits, Fed, Going, Halts, HasConsumed, HasFound, HasTold, InTurn, IsLast, Prints, Refuses, Refusing, Running, Told, options_in, remaining, unread};
 
+use crate::demonstration::demo;
 use crate::feed::{Feed, Next};
+use crate::form::Form;
 use crate::options::options;
 use crate::reading::Reading;
 use crate::stop::Stop;
 use pulsar_client::{CustomRoutingPolicy, Event, Pulsar, Sink, Source};
+use pulsar_job::putting::put_all;
+use pulsar_job::{
+    DONE, NO_MEMORY, REFUSED, SINK_FAILED, SOURCE_FAILED, Status, TOO_LONG, served,
+};
+use pulsar_pumps::Edge;
 use pulsar_script::printing::effect::push_refusal;
+use pulsar_wire::NoMemory;
 use std::alloc::Global;
+use std::sync::Wait;
+use std::thread::Threads;
 
-/// How a run ended: 0 done, 1 a line is not in the grammar, 2 the words are no form of the program, 3 want of memory, 4
-/// the source failed, 5 the sink failed, 6 too many bytes.
-pub type Status = u8;
-
-pub const DONE: Status = 0;
-
-pub const REFUSED: Status = 1;
-
-pub const NO_FORM: Status = 2;
-
-pub const NO_MEMORY: Status = 3;
-
-pub const SOURCE_FAILED: Status = 4;
-
-pub const SINK_FAILED: Status = 5;
-
-pub const TOO_LONG: Status = 6;
-
-/// Runs the program with these words, and a client with these policies.
-pub fn run<S: Source, K: Sink>(
+/// Runs the program with these words, and a client with these policies. The edge is asked by `produce` and `consume` alone.
+pub fn run<R: Threads + Wait + Sync, S: Source, K: Sink, E: Edge>(
+    rt: &R,
     alloc: Global,
     words: &[String],
     source: &mut S,
     sink: &mut K,
+    edge: &mut E,
     policies: Vec<Box<dyn CustomRoutingPolicy>>,
 ) -> Status
-    ensures no_form { (result ≡ 2) ↔ (is_script (map string_bytes words.now) ≡ false) }
-    ensures nothing { result ≡ 2 → (source.new ≡ source.old) × (sink.new ≡ sink.old) }
-    ensures status { result ≤ 6 }
-    ensures runs { (result ≡ 2 → ⊥)
-        → Ran (map (λ p. routes p) policies.items) result (seen S.left S.faults source.old source.new) (seen K.holds K.faults sink.old sink.new) }
+    ensures no_form { (result ≡ 2) ↔ (form (map string_bytes words.now) ≡ None) }
+    ensures nothing { result ≡ 2 → (source.new ≡ source.old) × (sink.new ≡ sink.old) × (edge.new ≡ edge.old) }
+    ensures status { result ≤ 7 }
+    ensures runs { form (map string_bytes words.now) ≡ Some Script
+        → Ran (map (λ p. routes p) policies.items) result (seen S.left S.faults source.old source.new) (seen K.holds K.faults sink.old sink.new) × (edge.new ≡ edge.old) }
+    ensures shows { (seed count : ℕ) → form (map string_bytes words.now) ≡ Some (Demo seed count)
+        → Shows seed count result (seen K.holds K.faults sink.old sink.new) × (source.new ≡ source.old) × (edge.new ≡ edge.old) }
+    ensures works { (a : Asking) → form (map string_bytes words.now) ≡ Some (Job a)
+        → HasGone a (map (λ p. routes p) policies.items) result (seen S.left S.faults source.old source.new) (seen K.holds K.faults sink.old sink.new)
+        (edge_seen E.failures E.first E.greatest edge.old edge.new) }
 {
-    if is_script(words) {
-        return script(alloc, source, sink, policies);
+    match Form::of(words) {
+        Some(Form::Script) => script(alloc, source, sink, policies),
+        Some(Form::Demo { seed, count }) => show(alloc, seed, count, sink),
+        None => served::<Pulsar, R, S, K, E>(rt, alloc, words, source, sink, edge, policies),
     }
-    NO_FORM
 }
 
-/// The words are `script` alone.
-fn is_script(words: &[String]) -> bool
-    ensures { result ≡ is_script (map string_bytes words.now) }
+/// Prints the line of a demo.
+fn show<K: Sink>(alloc: Global, seed: u64, count: u64, sink: &mut K) -> Status
+    ensures { Shows seed count result (seen K.holds K.faults sink.old sink.new) }
 {
-    match words {
-        [word] => word.as_bytes() == "script".as_bytes(),
-        _ => false,
+    let Ok(line) = demo_line(alloc, seed, count) else {
+        return NO_MEMORY;
+    };
+    match put_all(sink, line.as_bytes()) {
+        Ok(()) => DONE,
+        Err(_) => SINK_FAILED,
     }
+}
+
+/// The line of a demo.
+fn demo_line(alloc: Global, seed: u64, count: u64) -> Result<String, NoMemory>
+    ensures { IfOk result (λ text. IsLine seed count (string_bytes text)) }
+{
+    let shown = demo(alloc, seed, count)?;
+    let text = numbers_line(alloc, shown.sent, shown.received, shown.bytes, shown.acked)?;
+    Ok(text)
+}
+
+fn numbers_line(
+    alloc: Global,
+    sent: u64,
+    received: u64,
+    bytes: u64,
+    acked: u64,
+) -> Result<String, NoMemory>
+    ensures { IfOk result (λ text. string_bytes text
+        ≡ line (record { sent = sent; received = received; bytes = bytes; acked = acked })) }
+{
+    let text = format!(in alloc; "sent {sent} received {received} bytes {bytes} acked {acked}\n")?;
+    Ok(text)
 }
 
 /// Reads a script from the source and prints its run to the sink. Its client has these policies. It is made here, and driven where it is held:
@@ -283,28 +312,9 @@ fn flush<K: Sink>(reading: &mut Reading, sink: &mut K) -> Result<(), Stop>
     ensures rises { OnErr result (Rose (K.faults sink.old) (K.faults sink.new)) }
     ensures grows { K.faults sink.old ≤ K.faults sink.new }
 {
-    put_all(sink, reading.out.as_bytes())?;
+    let Ok(()) = put_all(sink, reading.out.as_bytes()) else {
+        return Err(Stop::Sink);
+    };
     reading.out.clear();
-    Ok(())
-}
-
-/// Puts all bytes.
-fn put_all<K: Sink>(sink: &mut K, bytes: &[u8]) -> Result<(), Stop>
-    ensures ok { OnOk result (Adds (K.holds sink.old) (K.holds sink.new) bytes.now) }
-    ensures stop { IfErr result (λ stop. stop ≡ Stop.Sink) }
-    ensures front { OnErr result (AddsFront (K.holds sink.old) (K.holds sink.new) bytes.now) }
-    ensures rises { OnErr result (Rose (K.faults sink.old) (K.faults sink.new)) }
-    ensures grows { K.faults sink.old ≤ K.faults sink.new }
-{
-    let mut done = 0;
-    while done < bytes.len() {
-        let Ok(n) = sink.put(&bytes[done..]) else {
-            return Err(Stop::Sink);
-        };
-        if n == 0 {
-            return Err(Stop::Sink);
-        }
-        done += n;
-    }
     Ok(())
 }

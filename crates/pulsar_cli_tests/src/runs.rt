@@ -2,9 +2,12 @@
 
 use pulsar_cli::{DONE, NO_FORM, REFUSED, SINK_FAILED, SOURCE_FAILED, Status, run, script};
 use pulsar_client::{FailingSink, FailingSource, MemorySink, MemorySource};
+use pulsar_pumps::MemoryEdge;
 use std::alloc::{AllocError, Global};
 use std::process::Abort;
+use std::sync::Wait;
 use std::test::Fail;
+use std::thread::Threads;
 
 /// The text of `call build` as the first event.
 const IS_DIALING: &[u8] = b"event 0\nconnect 0 127.0.0.1 6650\n";
@@ -14,8 +17,8 @@ fn source(alloc: Global, lines: &[u8]) -> Result<MemorySource, AllocError> {
 }
 
 /// The program ends so with these words, over a script of one call.
-fn ends(
-    rt: &impl Abort,
+fn ends<R: Threads + Wait + Sync + Abort>(
+    rt: &R,
     alloc: Global,
     words: &[&str],
     status: Status,
@@ -27,7 +30,17 @@ fn ends(
     }
     let mut source = source(alloc, b"call build\n")?;
     let mut sink = MemorySink::new(alloc);
-    let ended = run(alloc, &owned, &mut source, &mut sink, Vec::new(alloc));
+    let mut edge = MemoryEdge::new(alloc, Vec::new(alloc), 0, 0);
+    let policies = Vec::new(alloc);
+    let ended = run(
+        rt,
+        alloc,
+        &owned,
+        &mut source,
+        &mut sink,
+        &mut edge,
+        policies,
+    );
     assert_eq!(rt; ended, status, "{words:?}");
     assert_eq!(rt; sink.bytes(), text, "{words:?}");
     Ok(())

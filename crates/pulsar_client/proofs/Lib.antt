@@ -3,3 +3,4 @@ pub mod Waiting
 pub mod Stepping
 pub mod Counting
 pub mod Taking
+pub mod Recorded

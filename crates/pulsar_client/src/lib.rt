@@ -69,6 +69,7 @@
 mod answers;
 mod events;
 pub mod future;
+mod machine;
 pub mod options;
 pub mod outside;
 pub mod pulsar;

@@ -30,7 +30,8 @@ pub fn step(
     ensures stands { IfOk result (λ out. (o : Options) (h : List Step) → o.policies ≡ map (λ p. routes p) policies.now → Stands o tables.old h → Stands o tables.new (step event out.items ∷ h)) }
     ensures settings { tables.new.settings ≡ tables.old.settings }
 {
-    let mut out = Vec::new(tables.alloc);
+    // most steps have one or two effects
+    let mut out = Vec::with_capacity(tables.alloc, 2)?;
     let parts = begins(tables, event, policies)?;
     let mut tasks = Tasks::new(tables.alloc, parts);
     work(tables, &mut tasks, &mut out)?;

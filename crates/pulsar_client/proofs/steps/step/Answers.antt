@@ -15,6 +15,6 @@ returns-clause-stands g c = λ o h same s.
     let brought =
     c.in_ok-parts.ensures.parts ∙ ap (λ policies. brings policies v e) (sym same) ∙ sym (ap (λ b. cond b (brings o.policies v e) []) c.requires)
     in
-    let first = subst (λ x. InStep o c.begins.new.tables (agenda_of c.new-tasks.result) e x h) (sym (ap (map shown) c.new-out.ensures.items))
+    let first = subst (λ x. InStep o c.begins.new.tables (agenda_of c.new-tasks.result) e x h) (sym (ap (map shown) c.in_ok-out.ensures.items))
     (began e s (c.new-tasks.ensures ∙ ap only brought) c.in_ok-parts.ensures.sees) in
     subst (λ x. Stands o c.work.new.tables (record { event = e; effects = x } ∷ h)) (sym c.in_ok-arrange.ensures) (c.in_ok-work.ensures.stands o e h first)

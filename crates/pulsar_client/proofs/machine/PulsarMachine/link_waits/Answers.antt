@@ -1,0 +1,5 @@
+use Rattle.std.proofs.Common.{[]}
+use Rattle.pulsar_client.proofs.machine.PulsarMachine.link_waits.Goals as goal
+
+pub returns : goal.returns
+returns g c = λ o h s good. c.link_waits.ensures o h [] s good

@@ -1,0 +1,78 @@
+//! The client as whoever records it sees it.
+
+ghost use Rattle.std.specs.Prelude.{[], ◌≡◌, map};
+ghost use Rattle.pulsar_client.specs.Client as meaning;
+ghost use Rattle.pulsar_client.specs.Client.{StandsFor, options_of};
+
+use crate::options::ClientOptions;
+use crate::pulsar::Pulsar;
+use pulsar_calls::effect::Effect;
+use pulsar_calls::event::Event;
+use pulsar_machine::{FromUrl, Machine};
+use pulsar_plans::{ConnectionRetryOptions, OperationRetryOptions};
+use pulsar_producer::CustomRoutingPolicy;
+use pulsar_wire::error::NoMemory;
+use std::alloc::Global;
+
+impl Machine for Pulsar {
+    type Boxed = Box<dyn CustomRoutingPolicy>;
+
+    type Options = ClientOptions;
+
+    ghost means = { λ o. meaning.options (λ p. (CustomRoutingPolicy-box p).routes p.value) o };
+
+    ghost given = { λ c. meaning.options (λ p. (CustomRoutingPolicy-box p).routes p.value) (options_of c) };
+
+    // nobody takes answers of a client that is recorded
+    ghost stands = { λ o c h. StandsFor (λ p. (CustomRoutingPolicy-box p).routes p.value) o c h [] };
+
+    fn new(alloc: Global, options: ClientOptions) -> Result<Pulsar, NoMemory> {
+        Pulsar::new(alloc, options)
+    }
+
+    fn step(&mut self, event: Event) -> Result<Vec<Effect>, NoMemory> {
+        Pulsar::step(self, event)
+    }
+
+    fn options(&self) -> &ClientOptions {
+        Pulsar::options(self)
+    }
+
+    fn link_ended(&self, link: u64) -> bool {
+        Pulsar::link_ended(self, link)
+    }
+
+    fn link_waits(&self, link: u64) -> bool {
+        Pulsar::link_waits(self, link)
+    }
+
+    ghost made = { λ o c h s. s.made };
+
+    ghost legal = { λ o c h s. record { log = s.stands.log; run = s.stands.run; rests = s.stands.rests; same = s.stands.same } };
+}
+
+impl FromUrl for Pulsar {
+    type Policies = Vec<Box<dyn CustomRoutingPolicy>>;
+
+    ghost routes = { λ ps. map (λ p. (CustomRoutingPolicy-box p).routes p.value) ps.items };
+
+    fn options_for(
+        alloc: Global,
+        url: &str,
+        now: u64,
+        policies: Vec<Box<dyn CustomRoutingPolicy>>,
+    ) -> Result<ClientOptions, NoMemory> {
+        let url = String::from_str(alloc, url)?;
+        Ok(ClientOptions {
+            url,
+            auth: None,
+            connection_retry: ConnectionRetryOptions::default(),
+            operation_retry: OperationRetryOptions::default(),
+            outbound_channel_size: 100,
+            seed: 0,
+            now,
+            first_number: 0,
+            policies,
+        })
+    }
+}

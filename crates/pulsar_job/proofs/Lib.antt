@@ -1,0 +1,14 @@
+pub mod Begun
+pub mod Dials
+pub mod Gives
+pub mod Goings
+pub mod Halves
+pub mod Holds
+pub mod Jobs
+pub mod Prints
+pub mod Sinks
+pub mod Splits
+pub mod Stages
+pub mod Steps
+pub mod Tells
+pub mod Turning

@@ -1,0 +1,7 @@
+use Rattle.std.proofs.Common.{◌≡◌}
+use Rattle.pulsar_shared.proofs.shared.Shared.wait.Given as goal
+
+abbrev pub invariant-loop : goal.invariant-loop
+invariant-loop g l =
+    (goal.iterator-loop g).can_next l.iterator' × (goal.iterator-loop g).is_finite l.iterator'
+    × (l.pass.parts ≡ l.fn.pass.parts) × (l.pass.share.amount ≡ l.fn.pass.share.amount)

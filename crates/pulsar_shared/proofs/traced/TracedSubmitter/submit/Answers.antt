@@ -1,0 +1,5 @@
+use Rattle.pulsar_shared.proofs.Traces.{told_more}
+use Rattle.pulsar_shared.proofs.traced.TracedSubmitter.submit.Goals as goal
+
+pub returns-clause-told : goal.returns-clause-told
+returns-clause-told g c = told_more c.apply.result c.args.event c.args.self.now.trace.items c.apply.new.self.trace.items c.apply.ensures.entry c.apply.ensures.index

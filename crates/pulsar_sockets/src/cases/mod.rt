@@ -1,0 +1,5 @@
+//! The cases.
+
+pub mod broker;
+pub mod faults;
+pub mod many;

@@ -1,0 +1,4 @@
+pub mod Asked
+pub mod Forms
+pub mod Learning
+pub mod Told

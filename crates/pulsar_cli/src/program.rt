@@ -21,9 +21,7 @@ use crate::reading::Reading;
 use crate::stop::Stop;
 use pulsar_client::{CustomRoutingPolicy, Event, Pulsar, Sink, Source};
 use pulsar_job::putting::put_all;
-use pulsar_job::{
-    DONE, NO_MEMORY, REFUSED, SINK_FAILED, SOURCE_FAILED, Status, TOO_LONG, served,
-};
+use pulsar_job::{DONE, NO_MEMORY, REFUSED, SINK_FAILED, SOURCE_FAILED, Status, TOO_LONG, served};
 use pulsar_pumps::Edge;
 use pulsar_script::printing::effect::push_refusal;
 use pulsar_wire::NoMemory;

@@ -19,4 +19,4 @@ pub join-requires-send-F : goal.join-requires-send-F
 join-requires-send-F g c κs within =
     let client : IsSync (Shared.the_row (param 0 g.row.L) (param 1 g.row.C) (param 3 g.row.C-Boxed) (param 4 g.row.C-Options) g.L.Opening g.C.Machine g.L.Ledger) = search (shared_sync, c.type_bounds.send-C) depth 10 in
     param_send 1 _ (arg_send _ no _ (declared_send (type_at _ (ShrRef _ _ (param 2 g.row.R) ∷ ShrRef _ _ Global.the_row ∷ ShrRef _ _ (Shared.the_row (param 0 g.row.L) (param 1 g.row.C) (param 3 g.row.C-Boxed) (param 4 g.row.C-Options) g.L.Opening g.C.Machine g.L.Ledger) ∷ Link.the_row _ (param 0 g.row.L) g.L.Opening g.L.Ledger ∷ []))
-        (as_row_send (row_field _) (shr_send _ _ _ c.type_bounds.sync-R), (as_row_send (row_field _) (shr_send _ _ _ heap.sync), (as_row_send (row_field _) (shr_send _ _ _ client), (as_row_send (row_field _) (link.the_send _ (param 0 g.row.L) g.L.Opening g.L.Ledger), tt))))))
+    (as_row_send (row_field _) (shr_send _ _ _ c.type_bounds.sync-R), (as_row_send (row_field _) (shr_send _ _ _ heap.sync), (as_row_send (row_field _) (shr_send _ _ _ client), (as_row_send (row_field _) (link.the_send _ (param 0 g.row.L) g.L.Opening g.L.Ledger), tt))))))

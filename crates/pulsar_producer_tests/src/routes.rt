@@ -90,7 +90,11 @@ fn partitions_are_chosen(rt: HostRuntime) -> Result<(), Fail> {
     };
     let message = message_of(alloc, "test")?;
     for index in [0, 1, 2, 0] {
-        assert!(rt; routes.choose_partition(&message, &[]).is_ok_and(|chosen| chosen == index));
+        assert!(rt;
+            routes
+                .choose_partition(&message, &[])
+                .is_ok_and(|chosen| chosen == index)
+        );
     }
     Ok(())
 }

@@ -100,21 +100,6 @@ fn partitions_are_chosen(rt: HostRuntime) -> Result<(), Fail> {
 }
 
 #[test]
-fn a_single_producer_has_the_found_name(rt: HostRuntime) -> Result<(), Fail> {
-    let alloc = rt.alloc();
-    let settings = Settings::new(alloc, ProducerOptions::new(alloc))?;
-    let name = Text::new(String::from_str(alloc, "t-partition-0")?);
-    let mut partitions = Vec::new(alloc);
-    partitions.push(Partition { name, number: 5 })?;
-    let topic = Text::new(String::from_str(alloc, "t")?);
-    let Some(producer) = Producer::new(topic, settings, partitions, 0) else {
-        return Err(Fail::new("no producer"));
-    };
-    assert_eq!(rt; producer.topic(), "t-partition-0");
-    Ok(())
-}
-
-#[test]
 fn messages_go_round(rt: HostRuntime) -> Result<(), Fail> {
     let alloc = rt.alloc();
     assert!(rt; picks(alloc, None, "test")? == [5, 6, 7]);

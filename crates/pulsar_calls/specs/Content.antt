@@ -171,6 +171,11 @@ answered (answer.Receipt receipt) = Receipt (spelling send_receipt (send_receipt
 answered (answer.Sends tickets) = Sends tickets.items
 answered (answer.Replies bodies) = Replies (map (λ b. written (body_values b)) bodies.items)
 
+-- the receipt that an answer is, by its bytes
+abbrev pub receipt_in : Said → Option (List ℕ)
+receipt_in (Receipt bytes) = Some bytes
+receipt_in _ = None
+
 abbrev pub said : Result Answer Error → Said
 said (Ok a) = answered a
 said (Err e) = Failed (failure e)

@@ -25,9 +25,14 @@ use std::collections::{BTreeMap, VecDeque};
 use std::marker::Model;
 
 /// What a user asks of the client.
-#[derive(Drop)]
 pub struct Asking {
     call: Box<Call>,
+}
+
+impl Drop for Asking {
+    fn drop(self) {
+        let Asking { call: _ } = self;
+    }
 }
 
 impl Model for Asking {
@@ -62,9 +67,14 @@ impl Asking {
 }
 
 /// What a call ends with.
-#[derive(Drop)]
 pub struct Said {
     answer: Box<Result<Answer, Error>>,
+}
+
+impl Drop for Said {
+    fn drop(self) {
+        let Said { answer: _ } = self;
+    }
 }
 
 impl Model for Said {
@@ -97,9 +107,14 @@ impl Said {
 }
 
 /// Why a link ended, or refused a request.
-#[derive(Drop)]
 pub struct Cause {
     error: Box<ConnectionError>,
+}
+
+impl Drop for Cause {
+    fn drop(self) {
+        let Cause { error: _ } = self;
+    }
 }
 
 impl Model for Cause {
@@ -127,9 +142,14 @@ impl Cause {
 }
 
 /// What comes of what is asked of a topic producer, or of their numbers.
-#[derive(Drop)]
 pub struct Granted {
     news: Box<News>,
+}
+
+impl Drop for Granted {
+    fn drop(self) {
+        let Granted { news: _ } = self;
+    }
 }
 
 impl Model for Granted {
@@ -165,9 +185,14 @@ pub struct Remaking {
 }
 
 /// The same in a box.
-#[derive(Drop)]
 pub struct Remade {
     remaking: Box<Remaking>,
+}
+
+impl Drop for Remade {
+    fn drop(self) {
+        let Remade { remaking: _ } = self;
+    }
 }
 
 impl Model for Remade {
@@ -203,9 +228,14 @@ pub struct Building {
 }
 
 /// The same in a box.
-#[derive(Drop)]
 pub struct Made {
     building: Box<Building>,
+}
+
+impl Drop for Made {
+    fn drop(self) {
+        let Made { building: _ } = self;
+    }
 }
 
 impl Model for Made {
@@ -249,9 +279,14 @@ pub struct Joining {
 }
 
 /// The same in a box.
-#[derive(Drop)]
 pub struct Joined {
     joining: Box<Joining>,
+}
+
+impl Drop for Joined {
+    fn drop(self) {
+        let Joined { joining: _ } = self;
+    }
 }
 
 impl Model for Joined {
@@ -286,9 +321,14 @@ impl Joined {
 }
 
 /// The command by which a consumer is subscribed again, in a box.
-#[derive(Drop)]
 pub struct Recalled {
     command: Box<Command>,
+}
+
+impl Drop for Recalled {
+    fn drop(self) {
+        let Recalled { command: _ } = self;
+    }
 }
 
 impl Model for Recalled {
@@ -316,9 +356,14 @@ impl Recalled {
 }
 
 /// Numbers of topic producers that are left, in order.
-#[derive(Drop)]
 pub struct Numbers {
     all: VecDeque<u64>,
+}
+
+impl Drop for Numbers {
+    fn drop(self) {
+        let Numbers { all: _ } = self;
+    }
 }
 
 impl Model for Numbers {
@@ -357,9 +402,14 @@ impl Numbers {
 }
 
 /// What others are told, in order.
-#[derive(Drop)]
 pub struct Notices {
     all: VecDeque<Notice>,
+}
+
+impl Drop for Notices {
+    fn drop(self) {
+        let Notices { all: _ } = self;
+    }
 }
 
 impl Model for Notices {
@@ -404,9 +454,14 @@ impl Notices {
 }
 
 /// What policies say of the messages that a call sends, one by one.
-#[derive(Drop)]
 pub struct Advice {
     all: VecDeque<Option<usize>>,
+}
+
+impl Drop for Advice {
+    fn drop(self) {
+        let Advice { all: _ } = self;
+    }
 }
 
 impl Model for Advice {
@@ -446,9 +501,14 @@ impl Advice {
 }
 
 /// The sends that failed before they were queued, by ticket, and why.
-#[derive(Drop)]
 pub struct Failures {
     all: BTreeMap<u64, Refusal>,
+}
+
+impl Drop for Failures {
+    fn drop(self) {
+        let Failures { all: _ } = self;
+    }
 }
 
 impl Model for Failures {

@@ -1,5 +1,11 @@
 //! What a client wants done, and tells.
 
+ghost use Rattle.std.specs.Prelude.{◌≡◌, MatchOption, None};
+ghost use Rattle.pulsar_wire.specs.Row.{spelling};
+ghost use Rattle.pulsar_wire.specs.Rows.{send_receipt};
+ghost use Rattle.pulsar_wire.specs.Views.{send_receipt_values};
+ghost use Rattle.pulsar_calls.specs.Content.{Receipt, answered, receipt_in};
+
 use pulsar_consumer::MessageData;
 use pulsar_frame::payload::Payload;
 use pulsar_plans::BrokerAddress;
@@ -19,7 +25,7 @@ pub enum Settlement {
 }
 
 /// What a call answers where it succeeds.
-#[derive(Debug, PartialEq, Eq, Drop)]
+#[derive(Debug, PartialEq, Eq)]
 pub enum Answer {
     Done,
     /// The names of topics, in the order of the reply.
@@ -38,8 +44,41 @@ pub enum Answer {
     Replies(Vec<Body>),
 }
 
+impl Drop for Answer {
+    fn drop(self) {
+        match self {
+            Answer::Done
+            | Answer::Topics(_)
+            | Answer::Address(_)
+            | Answer::Count(_)
+            | Answer::Addresses(_)
+            | Answer::Receipt(_)
+            | Answer::Sends(_)
+            | Answer::Replies(_) => {}
+        }
+    }
+}
+
+impl Answer {
+    /// The receipt, where it is one.
+    pub fn into_receipt(self) -> Option<CommandSendReceipt>
+        ensures { MatchOption result (receipt_in (answered self) ≡ None) (λ r. answered self ≡ Receipt (spelling send_receipt (send_receipt_values r))) }
+    {
+        match self {
+            Answer::Receipt(receipt) => Some(receipt),
+            Answer::Done => None,
+            Answer::Topics(_) => None,
+            Answer::Address(_) => None,
+            Answer::Count(_) => None,
+            Answer::Addresses(_) => None,
+            Answer::Sends(_) => None,
+            Answer::Replies(_) => None,
+        }
+    }
+}
+
 /// A message that a consumer is given.
-#[derive(Debug, PartialEq, Eq, Drop)]
+#[derive(Debug, PartialEq, Eq)]
 pub struct Handed {
     /// The name of the topic, as the consumer was made with it.
     pub topic: String,
@@ -48,8 +87,18 @@ pub struct Handed {
     pub payload: Payload,
 }
 
+impl Drop for Handed {
+    fn drop(self) {
+        let Handed {
+            topic: _,
+            id: _,
+            payload: _,
+        } = self;
+    }
+}
+
 /// One effect of a step.
-#[derive(Debug, PartialEq, Eq, Drop)]
+#[derive(Debug, PartialEq, Eq)]
 pub enum Effect {
     /// Open a connection to this host and port. It is the link of this number.
     Connect {
@@ -101,4 +150,36 @@ pub enum Effect {
     End {
         ticket: u64,
     },
+}
+
+impl Drop for Effect {
+    fn drop(self) {
+        match self {
+            Effect::Connect {
+                link: _,
+                host: _,
+                port: _,
+            }
+            | Effect::Queued {
+                link: _,
+                place: _,
+                bytes: _,
+            }
+            | Effect::Write { link: _, bytes: _ }
+            | Effect::Retry { link: _, delay: _ }
+            | Effect::Close { link: _ }
+            | Effect::Settled {
+                link: _,
+                place: _,
+                outcome: _,
+            }
+            | Effect::Ended {
+                ticket: _,
+                answer: _,
+            }
+            | Effect::Item { ticket: _, item: _ }
+            | Effect::Empty { ticket: _ }
+            | Effect::End { ticket: _ } => {}
+        }
+    }
 }

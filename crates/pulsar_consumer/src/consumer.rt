@@ -15,11 +15,16 @@ use std::alloc::Global;
 use url::Url;
 
 /// A consumer of one topic.
-#[derive(Drop)]
 pub struct Consumer {
     alloc: Global,
     /// The consumer of its one topic.
     pub inner: TopicConsumer,
+}
+
+impl Drop for Consumer {
+    fn drop(self) {
+        let Consumer { alloc: _, inner: _ } = self;
+    }
 }
 
 impl Consumer {

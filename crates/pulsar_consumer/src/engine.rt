@@ -14,7 +14,6 @@ use std::marker::Model;
 use url::Url;
 
 /// What a consumer holds.
-#[derive(Drop)]
 pub struct ConsumerEngine {
     alloc: Global,
     queue: usize,
@@ -23,6 +22,20 @@ pub struct ConsumerEngine {
     unread: VecDeque<Unread>,
     rest: VecDeque<Unread>,
     waiting: VecDeque<Frame>,
+}
+
+impl Drop for ConsumerEngine {
+    fn drop(self) {
+        let ConsumerEngine {
+            alloc: _,
+            queue: _,
+            batch: _,
+            live: _,
+            unread: _,
+            rest: _,
+            waiting: _,
+        } = self;
+    }
 }
 
 impl Model for ConsumerEngine {

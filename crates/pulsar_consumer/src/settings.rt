@@ -9,9 +9,14 @@ use std::alloc::Global;
 use std::marker::Model;
 
 /// How a consumer is made. Contracts see it by its content.
-#[derive(Drop)]
 pub struct Settings {
     config: Box<ConsumerConfig>,
+}
+
+impl Drop for Settings {
+    fn drop(self) {
+        let Settings { config: _ } = self;
+    }
 }
 
 impl Model for Settings {

@@ -29,7 +29,6 @@ const DEFAULT_BATCH_SIZE: u32 = 1000;
 const DEFAULT_QUEUE_SIZE: u32 = 1000;
 
 /// A consumer of one topic, or of one partition. It knows links and numbers, and never who asks.
-#[derive(Drop)]
 pub struct TopicConsumer {
     alloc: Global,
     topic: Text,
@@ -40,6 +39,22 @@ pub struct TopicConsumer {
     ended: Option<Ending>,
     received: u64,
     last: Option<u64>,
+}
+
+impl Drop for TopicConsumer {
+    fn drop(self) {
+        let TopicConsumer {
+            alloc: _,
+            topic: _,
+            number: _,
+            config: _,
+            is_raw: _,
+            engine: _,
+            ended: _,
+            received: _,
+            last: _,
+        } = self;
+    }
 }
 
 impl Model for TopicConsumer {

@@ -10,9 +10,14 @@ use std::alloc::Global;
 use std::marker::Model;
 
 /// A message, or why there is none, in a box.
-#[derive(Drop)]
 pub struct Unread {
     item: Box<Item>,
+}
+
+impl Drop for Unread {
+    fn drop(self) {
+        let Unread { item: _ } = self;
+    }
 }
 
 impl Model for Unread {

@@ -20,9 +20,14 @@ use std::alloc::Global;
 use std::marker::Model;
 
 /// A text.
-#[derive(Drop)]
 pub struct Text {
     text: String,
+}
+
+impl Drop for Text {
+    fn drop(self) {
+        let Text { text: _ } = self;
+    }
 }
 
 impl Model for Text {
@@ -56,9 +61,14 @@ impl Text {
 }
 
 /// A consumer that a raw call makes, in a box.
-#[derive(Drop)]
 pub struct Subscribed {
     made: Box<Subscription>,
+}
+
+impl Drop for Subscribed {
+    fn drop(self) {
+        let Subscribed { made: _ } = self;
+    }
 }
 
 impl Model for Subscribed {
@@ -103,9 +113,14 @@ pub enum Kind {
 }
 
 /// What is asked of a connection, in a box.
-#[derive(Drop)]
 pub struct Request {
     kind: Kind,
+}
+
+impl Drop for Request {
+    fn drop(self) {
+        let Request { kind: _ } = self;
+    }
 }
 
 impl Model for Request {
@@ -215,9 +230,14 @@ fn subscribed_by_call(alloc: Global, call: &RawCall) -> Result<Option<Subscribed
 }
 
 /// A message of the broker, as the client reads it.
-#[derive(Drop)]
 pub struct Received {
     message: Box<Message>,
+}
+
+impl Drop for Received {
+    fn drop(self) {
+        let Received { message: _ } = self;
+    }
 }
 
 impl Model for Received {

@@ -24,9 +24,14 @@ pub struct Made {
 }
 
 /// What a build made, in order.
-#[derive(Drop)]
 pub struct MadeList {
     all: VecDeque<Made>,
+}
+
+impl Drop for MadeList {
+    fn drop(self) {
+        let MadeList { all: _ } = self;
+    }
 }
 
 impl Model for MadeList {

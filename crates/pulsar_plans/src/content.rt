@@ -14,9 +14,14 @@ use std::marker::Model;
 use url::Url;
 
 /// A text.
-#[derive(Drop)]
 pub struct Text {
     text: String,
+}
+
+impl Drop for Text {
+    fn drop(self) {
+        let Text { text: _ } = self;
+    }
 }
 
 impl Model for Text {
@@ -60,9 +65,14 @@ impl Text {
 }
 
 /// Where a broker is reached, in a box.
-#[derive(Drop)]
 pub struct Address {
     inner: Box<BrokerAddress>,
+}
+
+impl Drop for Address {
+    fn drop(self) {
+        let Address { inner: _ } = self;
+    }
 }
 
 impl Model for Address {
@@ -150,9 +160,14 @@ impl Address {
 }
 
 /// Why a connection, or what is asked on it, failed.
-#[derive(Drop)]
 pub struct Cause {
     error: Box<ConnectionError>,
+}
+
+impl Drop for Cause {
+    fn drop(self) {
+        let Cause { error: _ } = self;
+    }
 }
 
 impl Model for Cause {
@@ -182,9 +197,14 @@ impl Cause {
 }
 
 /// Why a plan failed.
-#[derive(Drop)]
 pub struct Refusal {
     error: Box<Error>,
+}
+
+impl Drop for Refusal {
+    fn drop(self) {
+        let Refusal { error: _ } = self;
+    }
 }
 
 impl Model for Refusal {
@@ -242,9 +262,14 @@ impl Refusal {
 }
 
 /// The names of a topic, each with the broker that serves it.
-#[derive(Drop)]
 pub struct Names {
     all: Vec<(String, BrokerAddress)>,
+}
+
+impl Drop for Names {
+    fn drop(self) {
+        let Names { all: _ } = self;
+    }
 }
 
 impl Model for Names {

@@ -116,9 +116,14 @@ fn copy_subscribe(
 }
 
 /// What a plan asks of a broker, in a box. Contracts see it by its words.
-#[derive(Drop)]
 pub struct Request {
     question: Box<Question>,
+}
+
+impl Drop for Request {
+    fn drop(self) {
+        let Request { question: _ } = self;
+    }
 }
 
 impl Model for Request {

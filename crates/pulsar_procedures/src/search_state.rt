@@ -8,9 +8,14 @@ use std::alloc::Global;
 use std::marker::Model;
 
 /// Where a search stands.
-#[derive(Drop)]
 pub struct SearchState {
     plan: Box<Plan>,
+}
+
+impl Drop for SearchState {
+    fn drop(self) {
+        let SearchState { plan: _ } = self;
+    }
 }
 
 impl Model for SearchState {

@@ -14,9 +14,14 @@ use std::alloc::Global;
 use std::marker::Model;
 
 /// Where the building of a producer stands.
-#[derive(Drop)]
 pub struct BuildState {
     building: Box<Building>,
+}
+
+impl Drop for BuildState {
+    fn drop(self) {
+        let BuildState { building: _ } = self;
+    }
 }
 
 impl Model for BuildState {
@@ -48,9 +53,14 @@ impl BuildState {
 }
 
 /// Where a send stands.
-#[derive(Drop)]
 pub struct SendState {
     sending: Box<Sending>,
+}
+
+impl Drop for SendState {
+    fn drop(self) {
+        let SendState { sending: _ } = self;
+    }
 }
 
 impl Model for SendState {
@@ -89,9 +99,14 @@ impl SendState {
 }
 
 /// Where the batches of a topic producer stand.
-#[derive(Drop)]
 pub struct BatchState {
     batching: Box<Batching>,
+}
+
+impl Drop for BatchState {
+    fn drop(self) {
+        let BatchState { batching: _ } = self;
+    }
 }
 
 impl Model for BatchState {
@@ -123,9 +138,14 @@ impl BatchState {
 }
 
 /// Where the building of a consumer stands.
-#[derive(Drop)]
 pub struct ConsumerState {
     building: Box<Subscribing>,
+}
+
+impl Drop for ConsumerState {
+    fn drop(self) {
+        let ConsumerState { building: _ } = self;
+    }
 }
 
 impl Model for ConsumerState {
@@ -160,9 +180,14 @@ pub struct Resubscribing {
 }
 
 /// The same in a box.
-#[derive(Drop)]
 pub struct ResumeState {
     resubscribing: Box<Resubscribing>,
+}
+
+impl Drop for ResumeState {
+    fn drop(self) {
+        let ResumeState { resubscribing: _ } = self;
+    }
 }
 
 impl Model for ResumeState {

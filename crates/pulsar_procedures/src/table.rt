@@ -14,7 +14,6 @@ use std::alloc::Global;
 use std::collections::BTreeMap;
 
 /// Where the plans stand that have not ended.
-#[derive(Drop)]
 pub struct Plans {
     /// Those of the calls, by ticket.
     pub calls: BTreeMap<u64, Plan>,
@@ -22,6 +21,16 @@ pub struct Plans {
     pub consumers: BTreeMap<(u64, u64), Plan>,
     /// Those of the topic producers that send batches, by number.
     pub producers: BTreeMap<u64, Plan>,
+}
+
+impl Drop for Plans {
+    fn drop(self) {
+        let Plans {
+            calls: _,
+            consumers: _,
+            producers: _,
+        } = self;
+    }
 }
 
 impl Plans {

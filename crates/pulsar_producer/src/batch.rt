@@ -26,9 +26,14 @@ use std::collections::VecDeque;
 use std::marker::Model;
 
 /// What a receipt says.
-#[derive(Drop)]
 pub struct Receipt {
     receipt: Box<CommandSendReceipt>,
+}
+
+impl Drop for Receipt {
+    fn drop(self) {
+        let Receipt { receipt: _ } = self;
+    }
 }
 
 impl Model for Receipt {

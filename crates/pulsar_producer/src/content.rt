@@ -24,9 +24,14 @@ use std::collections::VecDeque;
 use std::marker::Model;
 
 /// The version of a schema.
-#[derive(Drop)]
 pub struct Version {
     bytes: Vec<u8>,
+}
+
+impl Drop for Version {
+    fn drop(self) {
+        let Version { bytes: _ } = self;
+    }
 }
 
 impl Model for Version {
@@ -63,9 +68,14 @@ impl Version {
 }
 
 /// A message that is to be sent, or several as a batch.
-#[derive(Drop)]
 pub struct Outgoing {
     message: Box<ProducerMessage>,
+}
+
+impl Drop for Outgoing {
+    fn drop(self) {
+        let Outgoing { message: _ } = self;
+    }
 }
 
 impl Model for Outgoing {
@@ -120,9 +130,14 @@ impl Outgoing {
 }
 
 /// How a producer is made, and how it sends.
-#[derive(Drop)]
 pub struct Settings {
     options: Box<ProducerOptions>,
+}
+
+impl Drop for Settings {
+    fn drop(self) {
+        let Settings { options: _ } = self;
+    }
 }
 
 impl Model for Settings {
@@ -179,9 +194,14 @@ impl Settings {
 }
 
 /// Names of a topic, each with the broker that serves it, for which no producer is made yet.
-#[derive(Drop)]
 pub struct Left {
     names: VecDeque<(String, BrokerAddress)>,
+}
+
+impl Drop for Left {
+    fn drop(self) {
+        let Left { names: _ } = self;
+    }
 }
 
 impl Model for Left {
@@ -225,9 +245,14 @@ pub struct Built {
 }
 
 /// Topic producers that are made, in order.
-#[derive(Drop)]
 pub struct Parts {
     all: VecDeque<Built>,
+}
+
+impl Drop for Parts {
+    fn drop(self) {
+        let Parts { all: _ } = self;
+    }
 }
 
 impl Model for Parts {
@@ -291,9 +316,14 @@ fn into_bytes(version: Option<Version>) -> Option<Vec<u8>>
 }
 
 /// The items of a batch, in order.
-#[derive(Drop)]
 pub struct Batch {
     items: Vec<BatchItem>,
+}
+
+impl Drop for Batch {
+    fn drop(self) {
+        let Batch { items: _ } = self;
+    }
 }
 
 impl Model for Batch {
@@ -344,9 +374,14 @@ impl Batch {
 }
 
 /// Those that are told what becomes of a batch, in order.
-#[derive(Drop)]
 pub struct Members {
     all: Vec<Member>,
+}
+
+impl Drop for Members {
+    fn drop(self) {
+        let Members { all: _ } = self;
+    }
 }
 
 impl Model for Members {
@@ -377,9 +412,14 @@ impl Members {
 }
 
 /// What those of a batch are told, in order.
-#[derive(Drop)]
 pub struct Reports {
     all: VecDeque<Report>,
+}
+
+impl Drop for Reports {
+    fn drop(self) {
+        let Reports { all: _ } = self;
+    }
 }
 
 impl Model for Reports {
@@ -413,9 +453,14 @@ impl Reports {
 }
 
 /// A message as an entry of a batch.
-#[derive(Drop)]
 pub struct Entry {
     message: Box<BatchedMessage>,
+}
+
+impl Drop for Entry {
+    fn drop(self) {
+        let Entry { message: _ } = self;
+    }
 }
 
 impl Model for Entry {

@@ -15,11 +15,20 @@ use pulsar_wire::error::{Error, NoMemory};
 use std::marker::Model;
 
 /// A producer of a topic: a single one, or one of several partitions.
-#[derive(Drop)]
 pub struct Producer {
     topic: Text,
     settings: Settings,
     routes: PartitionedProducer,
+}
+
+impl Drop for Producer {
+    fn drop(self) {
+        let Producer {
+            topic: _,
+            settings: _,
+            routes: _,
+        } = self;
+    }
 }
 
 impl Model for Producer {

@@ -19,7 +19,6 @@ use std::marker::Model;
 
 /// A producer of one topic, or of one partition. It knows the tickets of those that use it, and no messages but those that it stores until
 /// they are sent as a batch.
-#[derive(Drop)]
 pub struct TopicProducer {
     topic: Text,
     number: u64,
@@ -32,6 +31,24 @@ pub struct TopicProducer {
     storage: BatchStorage,
     cut: VecDeque<Batch>,
     is_under_way: bool,
+}
+
+impl Drop for TopicProducer {
+    fn drop(self) {
+        let TopicProducer {
+            topic: _,
+            number: _,
+            link: _,
+            given: _,
+            next: _,
+            holder: _,
+            waiting: _,
+            is_closed: _,
+            storage: _,
+            cut: _,
+            is_under_way: _,
+        } = self;
+    }
 }
 
 impl Model for TopicProducer {

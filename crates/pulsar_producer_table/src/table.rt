@@ -34,15 +34,19 @@ use std::alloc::Global;
 use std::collections::{BTreeMap, BTreeSet};
 
 /// A topic producer, and the ticket of the producer that it belongs to.
-#[derive(Drop)]
 pub struct Topic {
     pub owner: u64,
     pub seen: TopicProducer,
 }
 
+impl Drop for Topic {
+    fn drop(self) {
+        let Topic { owner: _, seen: _ } = self;
+    }
+}
+
 /// The producers of a client, by the tickets of the calls that built them; their topic producers, by number, and the numbers in the order
 /// in which they were made; the numbers that raw calls have named; and the number from which on the next is drawn.
-#[derive(Drop)]
 pub struct Producers {
     pub alloc: Global,
     pub built: BTreeMap<u64, Producer>,
@@ -50,6 +54,19 @@ pub struct Producers {
     pub numbers: Vec<u64>,
     pub named: BTreeSet<u64>,
     pub next: u64,
+}
+
+impl Drop for Producers {
+    fn drop(self) {
+        let Producers {
+            alloc: _,
+            built: _,
+            topics: _,
+            numbers: _,
+            named: _,
+            next: _,
+        } = self;
+    }
 }
 
 impl Producers {

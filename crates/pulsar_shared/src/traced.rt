@@ -17,7 +17,6 @@ use std::alloc::Global;
 
 /// A client, and all that has happened to it with the effects. Only its own calls change it, so what stands in the trace is what the client
 /// did.
-#[derive(Drop)]
 pub struct Traced<C: Machine> {
     client: C,
     trace: Vec<(Event, Vec<Effect>)>,
@@ -26,6 +25,17 @@ pub struct Traced<C: Machine> {
     alloc: Global,
     ghost legal: { ∥ C.good (C.given client) (history trace.items) ∥₁ },
     ghost stands: { failed ≡ false → ∥ C.stands (C.given client) client (history trace.items) ∥₁ },
+}
+
+impl<C: Machine> Drop for Traced<C> {
+    fn drop(self) {
+        let Traced {
+            client: _,
+            trace: _,
+            failed: _,
+            alloc: _,
+        } = self;
+    }
 }
 
 impl<C: Machine> Traced<C> {

@@ -15,8 +15,7 @@ use Rattle.pulsar_broker.specs.declared.broker.Broker.{Broker}
 use Rattle.pulsar_cli.specs.Demo.{Answered, Asks, Busy, Item, Exchange, Owes, Round, Rounds, Sends, fed_by, fed_in, item_of, payload, piece_of, producer_ticket, received, url}
 use Rattle.pulsar_producer.specs.Message.{bare}
 use Rattle.pulsar_calls.specs.Content.{Send}
-use Rattle.pulsar_cli.specs.declared.play.Play.{Play}
-use Rattle.pulsar_cli.specs.Played.{Counts, Holds, Sides, history, step_of, without_takes}
+use Rattle.pulsar_cli.specs.Played.{Sides, step_of, without_takes}
 
 -- WHAT IS GIVEN does not hang on what was taken
 
@@ -132,16 +131,6 @@ pub feed-more : (es : List Effect) (i : ℕ) (e : Effect) (acts : List Act) → 
 feed-more es i e acts lt is =
     ap (λ xs. fed_in xs acts) (map_more shown es i e lt is)
     ∙ fed_in-end (map shown (take i es)) (shown e) acts
-
--- WHAT HOLDS
-
-pub holds-at : {pending : List ℕ} {seed count : ℕ} (h : List Step) (q : Play) → history q.steps ≡ h → Sides pending h q.broker.value → Answered h → Counts seed count q.tally h → Holds pending seed count q
-holds-at {pending = pending} {seed = seed} {count = count} h q e sides answered counts =
-    record {
-      sides = subst (λ (x : List Step). Sides pending x q.broker.value) (sym e) sides;
-      answered = subst (λ (x : List Step). Answered x) (sym e) answered;
-      counts = subst (λ (x : List Step). Counts seed count q.tally x) (sym e) counts;
-    }
 
 -- ITEMS
 

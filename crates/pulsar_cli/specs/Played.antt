@@ -1,5 +1,5 @@
 -- For the code's contracts alone: what a demo that goes on stands for.
-use Rattle.std.specs.Prelude.{◌≡◌, ℕ, List, [], ◌∷◌, ◌++◌, Option, Some, None, map, reverse, string_bytes}
+use Rattle.std.specs.Prelude.{◌≡◌, ℕ, Bool, true, false, List, [], ◌∷◌, ◌++◌, Option, Some, None, map, reverse, string_bytes}
 use Rattle.std.specs.Global.{Box, Vec}
 use Rattle.pulsar_wire.specs.Row.{spelling}
 use Rattle.pulsar_wire.specs.Rows.{message_id}
@@ -13,7 +13,7 @@ use Rattle.pulsar_agenda.specs.Run.{Step}
 use Rattle.pulsar_broker.specs.History.{Act, Ended, Fed, Taken, settled}
 use Rattle.pulsar_broker.specs.Stands as broker
 use Rattle.pulsar_broker.specs.declared.broker.Broker.{Broker}
-use Rattle.pulsar_cli.specs.Demo.{Answered, IsAnswered, Item, Numbers, acked_count, byte_count, call_count, consumer_ticket, fed, item_count, piece_of, received, received_count, sent_count, url}
+use Rattle.pulsar_cli.specs.Demo.{Answered, IsAnswered, IsDemo, Item, Numbers, acked_count, byte_count, call_count, consumer_ticket, fed, item_count, piece_of, received, received_count, sent_count, url}
 use Rattle.pulsar_cli.specs.declared.play.Play.{Play}
 use Rattle.pulsar_cli.specs.declared.played.Demo.{Demo}
 use Rattle.pulsar_cli.specs.declared.tally.Tally.{Tally}
@@ -29,6 +29,9 @@ history steps = reverse (map step_of steps.items)
 -- what was counted of a demo
 abbrev pub numbers : Demo → Numbers
 numbers d = record { sent = d.sent; received = d.received; bytes = d.bytes; acked = d.acked }
+
+abbrev pub counted : Tally → Numbers
+counted t = record { sent = t.sent; received = t.received; bytes = t.bytes; acked = t.acked }
 
 abbrev pub item_in : Handed → Item
 item_in h =
@@ -76,23 +79,37 @@ pub record SameElse (old new : Tally) : Type 0 where
   pub sent : new.sent ≡ old.sent
   pub acked : new.acked ≡ old.acked
 
--- the broker and the counts stand for the history of a play; what is pending was taken from the broker and is about to come
-pub record Holds (pending : List ℕ) (seed count : ℕ) (p : Play) : Type 0 where
-  pub sides : Sides pending (history p.steps) p.broker.value
-  pub answered : Answered (history p.steps)
-  pub counts : Counts seed count p.tally (history p.steps)
+-- the steps that are kept, where they are to be, are those of this history
+abbrev pub Keeps : (keeps : Bool) → Option (Vec (Event × Vec Effect)) → List Step → Type 0
+Keeps true (Some steps) h = history steps ≡ h
+Keeps true None h = ⊥
+Keeps false steps h = Unit {0}
+
+-- a play stands for this history; what is pending was taken from the broker and is about to come
+pub record Holds (keeps : Bool) (pending : List ℕ) (seed count : ℕ) (p : Play) (h : List Step) : Type 0 where
+  pub kept : Keeps keeps p.steps h
+  pub sides : Sides pending h p.broker.value
+  pub answered : Answered h
+  pub counts : Counts seed count p.tally h
 
 -- and so does a client
-pub record Plays (stands : List Step → Type 0) (pending : List ℕ) (seed count : ℕ) (p : Play) : Type 0 where
-  pub client : stands (history p.steps)
-  pub holds : Holds pending seed count p
+pub record Plays (stands : List Step → Type 0) (keeps : Bool) (pending : List ℕ) (seed count : ℕ) (p : Play) (h : List Step) : Type 0 where
+  pub client : stands h
+  pub holds : Holds keeps pending seed count p h
 
 -- one play leads to another, and its history to a later one
 abbrev pub Leads : (List Step → List Step → Type 0) → (old new : List Step → Type 0) → (seed count : ℕ) → Play → Play → Type 0
-Leads R old new seed count p q = Plays old [] seed count p → Plays new [] seed count q × R (history p.steps) (history q.steps)
+Leads R old new seed count p q =
+    (keeps : Bool) (h : List Step) → Plays old keeps [] seed count p h → (later : List Step) × Plays new keeps [] seed count q later × R h later
 
 -- so it is with an event
 abbrev pub LeadsBy : (Heard → List Step → List Step → Type 0) → Heard → (old new : List Step → Type 0) → (seed count : ℕ) → Play → Play → Type 0
 LeadsBy R e old new seed count p q =
-    Plays old (piece_of e) seed count p → IsAnswered e (history p.steps)
-    → Plays new [] seed count q × R e (history p.steps) (history q.steps)
+    (keeps : Bool) (h : List Step) → Plays old keeps (piece_of e) seed count p h → IsAnswered e h
+    → (later : List Step) × Plays new keeps [] seed count q later × R e h later
+
+-- a demo has been played to its end
+pub record IsPlayed (keeps : Bool) (seed count : ℕ) (p : Play) : Type 0 where
+  pub history : List Step
+  pub kept : Keeps keeps p.steps history
+  pub demo : IsDemo seed count history (counted p.tally)

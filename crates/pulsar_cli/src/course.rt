@@ -3,7 +3,7 @@
 ghost use Rattle.std.specs.Prelude.{◌≡◌, [], ℕ, IfOk, OnOk, map};
 ghost use Rattle.pulsar_calls.specs.Content.{heard, shown};
 ghost use Rattle.pulsar_cli.specs.Demo.{Begins, Closes, Drains, Exchange, Exchanges, Next, Ordered, Polls, Receives, Round, Rounds, Sends, Turn, consumer_ticket, is_write, writes};
-ghost use Rattle.pulsar_cli.specs.Played.{Leads, LeadsBy, heard_in, history};
+ghost use Rattle.pulsar_cli.specs.Played.{Leads, LeadsBy, heard_in};
 ghost use Rattle.pulsar_cli.specs.Script.{defaults};
 
 use crate::asking::{PRODUCER, ack_of, consumer, producer, send};
@@ -25,8 +25,8 @@ pub fn go<M: Machine>(
     seed: u64,
     count: u64,
 ) -> Result<(), NoMemory>
-    ensures { OnOk result (history play.old.steps ≡ []
-        → Leads (λ none. Ordered seed count) (M.stands (defaults []) client.old) (M.stands (defaults []) client.new) seed count play.old play.new) }
+    ensures { OnOk result (
+        Leads (λ none all. none ≡ [] → Ordered seed count all) (M.stands (defaults []) client.old) (M.stands (defaults []) client.new) seed count play.old play.new) }
 {
     let consumer_ticket = play.tally.consumer;
     begin(client, play)?;
@@ -40,8 +40,8 @@ pub fn go<M: Machine>(
 
 /// Up to the producer.
 fn begin<M: Machine>(client: &mut M, play: &mut Play) -> Result<(), NoMemory>
-    ensures { OnOk result ((seed count : ℕ) → history play.old.steps ≡ []
-        → Leads (λ none. Begins) (M.stands (defaults []) client.old) (M.stands (defaults []) client.new) seed count play.old play.new) }
+    ensures { OnOk result ((seed count : ℕ)
+        → Leads (λ none all. none ≡ [] → Begins all) (M.stands (defaults []) client.old) (M.stands (defaults []) client.new) seed count play.old play.new) }
 {
     let build = Box::new(play.alloc, Event::Call(Call::Build))?;
     submit(client, play, build)?;
@@ -108,7 +108,7 @@ fn poll<M: Machine>(
     let effects = client.step(Event::Poll(consumer))?;
     let ack = ack_of(play.alloc, consumer, &effects)?;
     let event = Box::new(play.alloc, Event::Poll(consumer))?;
-    play.keep(event, effects)?;
+    play.note(event, effects)?;
     Ok(ack)
 }
 
@@ -165,7 +165,7 @@ fn drain<M: Machine>(client: &mut M, play: &mut Play) -> Result<bool, NoMemory>
     let effects = client.step(Event::Drain(LINK, FRAMES))?;
     let wrote = writes(&effects);
     let event = Box::new(play.alloc, Event::Drain(LINK, FRAMES))?;
-    play.keep(event, effects)?;
+    play.note(event, effects)?;
     Ok(wrote)
 }
 
@@ -189,7 +189,7 @@ fn submit<M: Machine>(client: &mut M, play: &mut Play, event: Box<Event>) -> Res
 {
     let copy = event.copy()?;
     let effects = client.step(copy)?;
-    play.keep(event, effects)?;
+    play.note(event, effects)?;
     Ok(())
 }
 

@@ -13,7 +13,7 @@ ghost use Rattle.pulsar_job.specs.Went.{HasGone, edge_seen};
 ghost use Rattle.pulsar_cli.specs.Form.{Demo, IsLine, Job, Script, Shows, form, line};
 ghost use Rattle.pulsar_cli.specs.Shown.{Awaits, Fed, Going, Halts, HasConsumed, HasFound, HasTold, InTurn, IsLast, Prints, Refuses, Refusing, Running, Told, options_in, remaining, unread};
 
-use crate::demonstration::demo;
+use crate::demonstration::tally;
 use crate::feed::{Feed, Next};
 use crate::form::Form;
 use crate::options::options;
@@ -74,8 +74,8 @@ fn show<K: Sink>(alloc: Global, seed: u64, count: u64, sink: &mut K) -> Status
 fn demo_line(alloc: Global, seed: u64, count: u64) -> Result<String, NoMemory>
     ensures { IfOk result (λ text. IsLine seed count (string_bytes text)) }
 {
-    let shown = demo(alloc, seed, count)?;
-    let text = numbers_line(alloc, shown.sent, shown.received, shown.bytes, shown.acked)?;
+    let tally = tally(alloc, seed, count)?;
+    let text = numbers_line(alloc, tally.sent, tally.received, tally.bytes, tally.acked)?;
     Ok(text)
 }
 

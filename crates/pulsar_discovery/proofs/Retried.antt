@@ -12,7 +12,7 @@ use Rattle.pulsar_discovery.specs.declared.addresses.Seat.{Seat}
 use Rattle.pulsar_discovery.specs.declared.manager.Seen.{Seen}
 use Rattle.pulsar_discovery.specs.declared.manager.Terms.{Terms}
 use Rattle.pulsar_discovery.specs.declared.manager.Seen.TheVariants as seen
-use Rattle.pulsar_discovery.specs.Manager.{Known, after_again_at, after_got, after_seen, is_pause, is_pausing, is_spent, phase_after, retries_of, seen_at, seen_running, starts}
+use Rattle.pulsar_discovery.specs.Manager.{Known, after_again_at, after_got, after_seen, is_pause, is_pausing, phase_after, retries_of, seen_at, seen_running, starts}
 use Rattle.pulsar_discovery.specs.Series.{in_phase, put_at, reseated, seat_of, standing, without}
 use Rattle.pulsar_discovery.specs.History.{Does, Event, IsHistory, IsRetried, Looks, Retries, Wants, address_of, change, known_after, retries_made, told_of, was_retried}
 use Rattle.pulsar_discovery.specs.Laws.{RetriesAreWaitedFor}
@@ -145,11 +145,7 @@ looked k a ms was l now (Some s) here fits x = record {
 module _ (t : Terms) (k : Known) (a : ℕ → Option Place) (ms : ℕ → List Seen) (rs : ℕ → ℕ) (was : ℕ → Bool) (y : Sound t k a ms rs) (x : Waited k ms was) where
   wanted : (p : Place) (now : ℕ) (b : Bool) (st : Option (ℕ × Phase)) → standing p k.series ≡ st → Waited (if b then after_got p now st k else k) ms was
   wanted p now false st e = x
-  wanted p now true None e = by (is_spent k.links)
-    where
-      by : (spent : Bool) → Waited (if spent then k else starts p 0 now k) ms was
-      by true = x
-      by false = first k ms was x p now
+  wanted p now true None e = first k ms was x p now
   wanted p now true (Some (l, Runs r)) e = x
   wanted p now true (Some (l, Pauses r)) e = x
   wanted p now true (Some (l, Serves since)) e = let z = stands t k a ms rs y p l (Serves since) e in moved k ms was x l p (Serves now) z.0 z.1

@@ -5,7 +5,7 @@ use Rattle.std.proofs.lemmas.Bool.Decides.{nat_tests}
 use Rattle.std.proofs.Math.Path.{fun_ext}
 use Rattle.std.specs.Option.{option_map}
 use Rattle.pulsar_session.specs.Link as session
-use Rattle.pulsar_session.specs.Failures.{Exhausted, NotFound}
+use Rattle.pulsar_session.specs.Failures.{NotFound}
 use Rattle.pulsar_session.specs.declared.states.Stage.{Stage}
 use Rattle.pulsar_session.specs.declared.states.Stage.TheVariants as stages
 use Rattle.pulsar_session.specs.declared.states.Stage.TheVariants.{Dialing, Handshaking, Over}
@@ -17,7 +17,7 @@ use Rattle.pulsar_discovery.specs.declared.addresses.Seat.{Seat}
 use Rattle.pulsar_discovery.specs.declared.manager.Seen.{Seen}
 use Rattle.pulsar_discovery.specs.declared.manager.Terms.{Terms}
 use Rattle.pulsar_discovery.specs.declared.manager.Seen.TheVariants as seen
-use Rattle.pulsar_discovery.specs.Manager.{Known, GotRefused, GotStarted, after_again_at, after_got, after_seen, fresh, got_by, is_pausing, is_over, is_pause, is_retryable, is_spent, left_of, phase_after, retries_of, seen_at, seen_running, setup, starts}
+use Rattle.pulsar_discovery.specs.Manager.{Known, GotRefused, GotStarted, after_again_at, after_got, after_seen, fresh, got_by, is_pausing, is_over, is_pause, is_retryable, left_of, phase_after, retries_of, seen_at, seen_running, setup, starts}
 use Rattle.pulsar_discovery.specs.Series.{in_phase, put_at, reseated, seat_of, standing, standing_at, without}
 use Rattle.pulsar_discovery.specs.History.{Event, Wants, Does, Looks, Retries, IsHistory, IsOver, IsRetried, address_of, address_or, after, after_done, change, got_started, known_after, retries_made, told_of}
 use Rattle.pulsar_discovery.proofs.Books.{Books, empty, first, freed, moved, next, seat_is}
@@ -419,11 +419,7 @@ module _ (t : Terms) (k : Known) (a : ℕ → Option Place) (ms : ℕ → List S
   pub wanted : (p : Place) (now : ℕ) (b : Bool) (st : Option (ℕ × Phase)) → standing p k.series ≡ st →
       Sound t (if b then after_got p now st k else k) (λ l. address_or l (got_started p (if b then got_by st k.links else GotRefused NotFound)) (a l)) ms rs
   wanted p now false st e = x
-  wanted p now true None e = by (is_spent k.links)
-    where
-      by : (spent : Bool) → Sound t (if spent then k else starts p 0 now k) (λ l. address_or l (got_started p (if spent then GotRefused Exhausted else GotStarted k.links)) (a l)) ms rs
-      by true = x
-      by false = started_first p now (free p e)
+  wanted p now true None e = started_first p now (free p e)
   wanted p now true (Some (l, Runs r)) e = x
   wanted p now true (Some (l, Pauses r)) e = x
   wanted p now true (Some (l, Serves since)) e = let y = stands p l (Serves since) e in served l p now since y.0 y.1 y.2 y.3

@@ -4,7 +4,7 @@ use Rattle.std.proofs.lemmas.Bool.{cases_Bool}
 use Rattle.std.proofs.lemmas.Slice.Eq.{bytes_eq-Decides}
 use Rattle.std.specs.Option.{option_map}
 use Rattle.pulsar_session.specs.Link as session
-use Rattle.pulsar_session.specs.Failures.{Exhausted, NotFound}
+use Rattle.pulsar_session.specs.Failures.{NotFound}
 use Rattle.pulsar_session.specs.declared.states.Stage.{Stage}
 use Rattle.pulsar_session.specs.declared.states.Stage.TheVariants as stages
 use Rattle.pulsar_session.specs.declared.states.Stage.TheVariants.{Dialing, Handshaking, Over}
@@ -16,7 +16,7 @@ use Rattle.pulsar_discovery.specs.declared.addresses.Seat.{Seat}
 use Rattle.pulsar_discovery.specs.declared.manager.Seen.{Seen}
 use Rattle.pulsar_discovery.specs.declared.manager.Terms.{Terms}
 use Rattle.pulsar_discovery.specs.declared.manager.Seen.TheVariants as seen
-use Rattle.pulsar_discovery.specs.Manager.{GotRefused, GotStarted, Known, after_again_at, after_got, after_seen, got_by, is_pause, is_pausing, is_spent, phase_after, retries_of, seen_at, seen_running, starts}
+use Rattle.pulsar_discovery.specs.Manager.{GotRefused, GotStarted, Known, after_again_at, after_got, after_seen, got_by, is_pause, is_pausing, phase_after, retries_of, seen_at, seen_running, starts}
 use Rattle.pulsar_discovery.specs.Series.{Series, begun, in_phase, put_at, put_key, reseated, seat_of, standing, standing_at, without}
 use Rattle.pulsar_discovery.specs.History.{Begins, Does, Ends, Event, InTurn, IsHistory, Looks, Mark, Retries, Waits, Wants, address_of, got_marks, is_at, is_running, known_after, marks_of, retries_made, seen_marks, told_of}
 use Rattle.pulsar_discovery.specs.Laws.{WaitersAreToldOnce}
@@ -113,13 +113,10 @@ module _ (t : Terms) (k : Known) (a : ℕ → Option Place) (ms : ℕ → List S
   pub wanted_rests : (q : Place) (now : ℕ) (b : Bool) (st : Option (ℕ × Phase)) → IsAt (standing q k.series) st →
       Rests p (if b then after_got q now st k else k).series ((if bytes_eq (address_key q) (address_key p) then got_marks (if b then got_by st k.links else GotRefused NotFound) else []) ++ marks)
   wanted_rests q now false st e = unchanged q
-  wanted_rests q now true None e = by (is_spent k.links)
-    where
-      by : (spent : Bool) → Rests p (if spent then k else starts q 0 now k).series ((if bytes_eq (address_key q) (address_key p) then got_marks (if spent then GotRefused Exhausted else GotStarted k.links) else []) ++ marks)
-      by true = unchanged q
-      by false = at_key p (begun k.links q 0 k.series) (address_key q) (Begins ∷ []) marks
-          (λ one. rests p (begun k.links q 0 k.series) (Begins ∷ marks) (Some (k.links, Runs 0)) (first_on k.links k.series x.books p q one) refl (runs_so None (same_standing p q k.series one ∙ e), r.1))
-          (λ other. unmarked p k.series (begun k.links q 0 k.series) marks (first_off k.links k.series x.books p q other) r)
+  wanted_rests q now true None e =
+      at_key p (begun k.links q 0 k.series) (address_key q) (Begins ∷ []) marks
+      (λ one. rests p (begun k.links q 0 k.series) (Begins ∷ marks) (Some (k.links, Runs 0)) (first_on k.links k.series x.books p q one) refl (runs_so None (same_standing p q k.series one ∙ e), r.1))
+      (λ other. unmarked p k.series (begun k.links q 0 k.series) marks (first_off k.links k.series x.books p q other) r)
   wanted_rests q now true (Some (l, Runs n)) e = at_key p k.series (address_key q) (Waits ∷ []) marks (λ one. (r.0, (runs_so (Some (l, Runs n)) (same_standing p q k.series one ∙ e), r.1))) (λ other. r)
   wanted_rests q now true (Some (l, Pauses n)) e = at_key p k.series (address_key q) (Waits ∷ []) marks (λ one. (r.0, (runs_so (Some (l, Pauses n)) (same_standing p q k.series one ∙ e), r.1))) (λ other. r)
   wanted_rests q now true (Some (l, Serves since)) e =

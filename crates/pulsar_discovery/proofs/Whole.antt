@@ -3,7 +3,7 @@ use Rattle.std.proofs.Common.{◌≡◌, ◌∙◌, sym, ap, subst, refl, ℕ, B
 use Rattle.std.proofs.Math.Path.{fun_ext}
 use Rattle.std.specs.Option.{option_map}
 use Rattle.pulsar_session.specs.Link as session
-use Rattle.pulsar_session.specs.Failures.{Exhausted, NotFound}
+use Rattle.pulsar_session.specs.Failures.{NotFound}
 use Rattle.pulsar_session.specs.declared.states.Stage.{Stage}
 use Rattle.pulsar_session.specs.declared.states.Stage.TheVariants as stages
 use Rattle.pulsar_session.specs.declared.states.Stage.TheVariants.{Dialing, Handshaking, Over}
@@ -14,7 +14,7 @@ use Rattle.pulsar_discovery.specs.declared.addresses.Seat.{Seat}
 use Rattle.pulsar_discovery.specs.declared.manager.Seen.{Seen}
 use Rattle.pulsar_discovery.specs.declared.manager.Terms.{Terms}
 use Rattle.pulsar_discovery.specs.declared.manager.Seen.TheVariants as seen
-use Rattle.pulsar_discovery.specs.Manager.{GotReady, GotRefused, GotStarted, GotWaiting, Is, Known, fresh, gets, got_by, is_pause, is_pausing, is_spent, looks, seen_at, seen_by, seen_running}
+use Rattle.pulsar_discovery.specs.Manager.{GotReady, GotRefused, GotStarted, GotWaiting, Is, Known, fresh, gets, got_by, is_pause, is_pausing, looks, seen_at, seen_by, seen_running}
 use Rattle.pulsar_discovery.specs.Series.{IsSeries, Series, standing, standing_at}
 use Rattle.pulsar_discovery.specs.History.{Event, IsHistory, IsLive, IsOver, IsRetried, address_of, after, known_after, retries_made, told_of}
 use Rattle.pulsar_discovery.specs.Laws.{ChangesAreToldOnce, GotIsReady, HistoryGoesOn, IsCourse, IsFor, NothingIsKept, OneAtATime, ReadyIsGot, RetriesHaveAMost, RunningIsWaitedFor, SeenByHistory, StartsWhereNoneIs}
@@ -120,22 +120,14 @@ IsAt a b = a ≡ b
 
 ready_stands : (b : Bool) (st : Option (ℕ × Phase)) (n l : ℕ) → (if b then got_by st n else GotRefused NotFound) ≡ GotReady l → (since : ℕ) × IsAt st (Some (l, Serves since))
 ready_stands false st n l e = absurd cc
-ready_stands true None n l e = by (is_spent n) e
-  where
-    by : (spent : Bool) → (if spent then GotRefused Exhausted else GotStarted n) ≡ GotReady l → (since : ℕ) × IsAt None (Some (l, Serves since))
-    by true e = absurd cc
-    by false e = absurd cc
+ready_stands true None n l e = absurd cc
 ready_stands true (Some (m, Runs r)) n l e = absurd cc
 ready_stands true (Some (m, Pauses r)) n l e = absurd cc
 ready_stands true (Some (m, Serves since)) n l e = let is : m ≡ l = cc in (since, ap (λ i. Some (i, Serves since)) is)
 
 started_stands : (b : Bool) (st : Option (ℕ × Phase)) (n l : ℕ) → (if b then got_by st n else GotRefused NotFound) ≡ GotStarted l → IsAt st None × (n ≡ l)
 started_stands false st n l e = absurd cc
-started_stands true None n l e = by (is_spent n) e
-  where
-    by : (spent : Bool) → (if spent then GotRefused Exhausted else GotStarted n) ≡ GotStarted l → IsAt None None × (n ≡ l)
-    by true e = absurd cc
-    by false e = (refl, cc)
+started_stands true None n l e = (refl, cc)
 started_stands true (Some (m, Runs r)) n l e = absurd cc
 started_stands true (Some (m, Pauses r)) n l e = absurd cc
 started_stands true (Some (m, Serves since)) n l e = absurd cc
@@ -147,11 +139,7 @@ IsPending (Serves since) = ⊥
 
 waiting_stands : (b : Bool) (st : Option (ℕ × Phase)) (n : ℕ) → (if b then got_by st n else GotRefused NotFound) ≡ GotWaiting → (l : ℕ) × (phase : Phase) × IsAt st (Some (l, phase)) × IsPending phase
 waiting_stands false st n e = absurd cc
-waiting_stands true None n e = by (is_spent n) e
-  where
-    by : (spent : Bool) → (if spent then GotRefused Exhausted else GotStarted n) ≡ GotWaiting → (l : ℕ) × (phase : Phase) × IsAt None (Some (l, phase)) × IsPending phase
-    by true e = absurd cc
-    by false e = absurd cc
+waiting_stands true None n e = absurd cc
 waiting_stands true (Some (m, Runs r)) n e = (m, Runs r, refl, tt)
 waiting_stands true (Some (m, Pauses r)) n e = (m, Pauses r, refl, tt)
 waiting_stands true (Some (m, Serves since)) n e = absurd cc

@@ -9,7 +9,7 @@ use Rattle.pulsar_wire.specs.declared.error.IoKind.TheVariants.{ConnectionRefuse
 use Rattle.pulsar_wire.specs.declared.error.ConnectionError.{ConnectionError}
 use Rattle.pulsar_wire.specs.declared.error.ConnectionError.TheVariants as error
 use Rattle.pulsar_messages.specs.Content.{authentication_values}
-use Rattle.pulsar_session.specs.Failures.{Fault, Io, Authentication, NotFound, Exhausted, NoMemory, fault}
+use Rattle.pulsar_session.specs.Failures.{Fault, Io, Authentication, NotFound, NoMemory, fault}
 use Rattle.pulsar_session.specs.Link as session
 use Rattle.pulsar_session.specs.declared.states.Stage.{Stage}
 use Rattle.pulsar_session.specs.declared.states.Stage.TheVariants.{Dialing, Handshaking, Ready, Over}
@@ -86,7 +86,7 @@ got_values (got.Started l) = GotStarted l
 got_values got.Waiting = GotWaiting
 got_values (got.Refused e) = GotRefused (fault e)
 
--- something is said of an answer that is no want of memory
+-- something is said of an answer that is no want of memory. The greatest number is never given: a manager whose numbers are spent lacks memory.
 abbrev pub OnValues : GotValues → Type 0 → Type 0
 OnValues (GotRefused NoMemory) said = Unit {0}
 OnValues _ said = said
@@ -94,12 +94,8 @@ OnValues _ said = said
 abbrev pub OnGot : Got → Type 0 → Type 0
 OnGot g said = OnValues (got_values g) said
 
--- the greatest number is never given
-abbrev pub is_spent : ℕ → Bool
-is_spent n = n == (2 ^ 64 - 1)
-
 abbrev pub got_by : Option (ℕ × Phase) → (links : ℕ) → GotValues
-got_by None n = if is_spent n then GotRefused Exhausted else GotStarted n
+got_by None n = GotStarted n
 got_by (Some (l, Runs r)) n = GotWaiting
 got_by (Some (l, Pauses r)) n = GotWaiting
 got_by (Some (l, Serves since)) n = GotReady l
@@ -133,7 +129,7 @@ starts p r now k =
 
 -- a ready connection is marked as got now
 abbrev pub after_got : Place → (now : ℕ) → Option (ℕ × Phase) → Known → Known
-after_got p now None k = if is_spent k.links then k else starts p 0 now k
+after_got p now None k = starts p 0 now k
 after_got p now (Some (l, Runs r)) k = k
 after_got p now (Some (l, Pauses r)) k = k
 after_got p now (Some (l, Serves since)) k = record k { series = in_phase l p (Serves now) k.series }

@@ -217,13 +217,13 @@ impl ConnectionManager {
         }
     }
 
-    /// The first attempt of a series.
+    /// The first attempt of a series. Where all numbers of links are spent, that is want of memory.
     fn begin(&mut self, address: Address, now: u64) -> Result<Got, NoMemory>
         ensures got { IfOk result (λ g. meaning.got_values g ≡ meaning.got_by None self.old.links) }
         ensures known { OnOk result (Is (known self.new) (meaning.after_got address now None (known self.old))) }
     {
         if self.links == u64::MAX {
-            return Ok(Got::Refused(ConnectionError::Exhausted));
+            return Err(NoMemory);
         }
         let link = self.start(address, 0, now)?;
         Ok(Got::Started(link))

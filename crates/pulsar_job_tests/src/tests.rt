@@ -45,60 +45,34 @@ fn what_is_produced_is_consumed(rt: HostRuntime) -> Result<(), Fail> {
     let alloc = rt.alloc();
     let host = Host::new(alloc, URL, "127.0.0.1", 6650)?;
     let mut edge = BrokerEdge::new(&rt, alloc, &host);
-    let (status, out) = printed(
-        &rt,
-        alloc,
-        "produce pulsar://127.0.0.1:6650 t",
-        b"a\nb\n",
-        &mut edge,
-    )?;
-    assert_eq!(rt; out.as_str(), "sent 0:0\nsent 0:1\ndone 2\n");
-    assert_eq!(rt; status, DONE);
-    let (status, out) = printed(
-        &rt,
-        alloc,
-        "consume pulsar://127.0.0.1:6650 t s 2",
-        b"",
-        &mut edge,
-    )?;
-    assert_eq!(rt; out.as_str(), "a\nb\ndone 2\n");
-    assert_eq!(rt; status, DONE);
-    let (status, out) = printed(
-        &rt,
-        alloc,
-        "produce pulsar://127.0.0.1:6650 t",
-        b"\nlast",
-        &mut edge,
-    )?;
-    assert_eq!(rt; out.as_str(), "sent 0:2\nsent 0:3\ndone 2\n");
-    assert_eq!(rt; status, DONE);
-    let (status, out) = printed(
-        &rt,
-        alloc,
-        "produce pulsar://127.0.0.1:6650 t",
-        b"",
-        &mut edge,
-    )?;
-    assert_eq!(rt; out.as_str(), "done 0\n");
-    assert_eq!(rt; status, DONE);
-    let (status, out) = printed(
-        &rt,
-        alloc,
-        "consume pulsar://127.0.0.1:6650 t s 0",
-        b"",
-        &mut edge,
-    )?;
-    assert_eq!(rt; out.as_str(), "done 0\n");
-    assert_eq!(rt; status, DONE);
-    let (status, out) = printed(
-        &rt,
-        alloc,
-        "consume pulsar://127.0.0.1:6650 t other 4",
-        b"",
-        &mut edge,
-    )?;
-    assert_eq!(rt; out.as_str(), "a\nb\n%\nlast\ndone 4\n");
-    assert_eq!(rt; status, DONE);
+    for (line, text, prints) in [
+        (
+            "produce pulsar://127.0.0.1:6650 t",
+            "a\nb\n",
+            "sent 0:0\nsent 0:1\ndone 2\n",
+        ),
+        (
+            "consume pulsar://127.0.0.1:6650 t s 2",
+            "",
+            "a\nb\ndone 2\n",
+        ),
+        (
+            "produce pulsar://127.0.0.1:6650 t",
+            "\nlast",
+            "sent 0:2\nsent 0:3\ndone 2\n",
+        ),
+        ("produce pulsar://127.0.0.1:6650 t", "", "done 0\n"),
+        ("consume pulsar://127.0.0.1:6650 t s 0", "", "done 0\n"),
+        (
+            "consume pulsar://127.0.0.1:6650 t other 4",
+            "",
+            "a\nb\n%\nlast\ndone 4\n",
+        ),
+    ] {
+        let (status, out) = printed(&rt, alloc, line, text.as_bytes(), &mut edge)?;
+        assert_eq!(rt; out.as_str(), prints);
+        assert_eq!(rt; status, DONE);
+    }
     Ok(())
 }
 

@@ -1,6 +1,6 @@
 //! How often, and when, what failed is tried again.
 
-ghost use Rattle.std.specs.Prelude.{◌≡◌, IfOk};
+ghost use Rattle.std.specs.Prelude.{◌≡◌, Ok};
 ghost use Rattle.pulsar_plans.specs.Backoff as meaning;
 
 use pulsar_wire::error::NoMemory;
@@ -63,7 +63,7 @@ impl Default for OperationRetryOptions {
 impl ConnectionRetryOptions {
     /// Options with the same content. It takes no memory.
     pub fn copy(&self) -> Result<ConnectionRetryOptions, NoMemory>
-        ensures { IfOk result (λ o. o ≡ self.now) }
+        ensures { result ≡ Ok self.now }
     {
         Ok(*self)
     }
@@ -72,7 +72,7 @@ impl ConnectionRetryOptions {
 impl OperationRetryOptions {
     /// Options with the same content. It takes no memory.
     pub fn copy(&self) -> Result<OperationRetryOptions, NoMemory>
-        ensures { IfOk result (λ o. o ≡ self.now) }
+        ensures { result ≡ Ok self.now }
     {
         Ok(*self)
     }

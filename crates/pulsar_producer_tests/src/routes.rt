@@ -5,7 +5,7 @@ use pulsar_plans::content::Text;
 use pulsar_plans::random::connection_id;
 use pulsar_producer::Producer;
 use pulsar_producer::content::Settings;
-use pulsar_producer::routing::Partition;
+use pulsar_producer::routing::{Partition, PartitionedProducer};
 use std::alloc::Global;
 use std::test::Fail;
 
@@ -66,14 +66,52 @@ fn partitions(alloc: Global) -> Result<Vec<Partition>, Fail> {
 
 /// The topic producers of three messages of this key, one behind the other.
 fn picks(alloc: Global, policy: Option<RoutingPolicy>, key: &str) -> Result<[u64; 3], Fail> {
-    let mut message = Message::new(alloc);
-    message.partition_key = Some(String::from_str(alloc, key)?);
+    let message = message_of(alloc, key)?;
     let mut producer = producer(alloc, policy)?;
     let mut picks = [0; 3];
     for pick in &mut picks {
         *pick = producer.number_for(&message, &[]).unwrap_or(0);
     }
     Ok(picks)
+}
+
+/// A message of this key.
+fn message_of(alloc: Global, key: &str) -> Result<Message, Fail> {
+    let mut message = Message::new(alloc);
+    message.partition_key = Some(String::from_str(alloc, key)?);
+    Ok(message)
+}
+
+#[test]
+fn partitions_are_chosen(rt: HostRuntime) -> Result<(), Fail> {
+    let alloc = rt.alloc();
+    let Some(mut routes) = PartitionedProducer::new(partitions(alloc)?, None, 2) else {
+        return Err(Fail::new("no producer"));
+    };
+    let message = message_of(alloc, "test")?;
+    for index in [0, 1, 2, 0] {
+        assert!(rt;
+            routes
+                .choose_partition(&message, &[])
+                .is_ok_and(|chosen| chosen == index)
+        );
+    }
+    Ok(())
+}
+
+#[test]
+fn a_single_producer_has_the_found_name(rt: HostRuntime) -> Result<(), Fail> {
+    let alloc = rt.alloc();
+    let settings = Settings::new(alloc, ProducerOptions::new(alloc))?;
+    let name = Text::new(String::from_str(alloc, "t-partition-0")?);
+    let mut partitions = Vec::new(alloc);
+    partitions.push(Partition { name, number: 5 })?;
+    let topic = Text::new(String::from_str(alloc, "t")?);
+    let Some(producer) = Producer::new(topic, settings, partitions, 0) else {
+        return Err(Fail::new("no producer"));
+    };
+    assert_eq!(rt; producer.topic(), "t-partition-0");
+    Ok(())
 }
 
 #[test]

@@ -1,10 +1,9 @@
 use Rattle.std.proofs.Common.{[], ℕ}
 use Rattle.pulsar_cli.specs.Demo.{Rounds}
-use Rattle.pulsar_cli.specs.Played.{Plays, history}
+use Rattle.pulsar_cli.specs.Played.{Leads}
 use Rattle.pulsar_cli.specs.Script.{defaults}
 use Rattle.pulsar_cli.proofs.course.rounds.Given as goal
 
 abbrev pub invariant-loop-made : goal.invariant-loop-made
 invariant-loop-made g l =
-    (seed count : ℕ) → Plays (g.M.Machine.stands (defaults []) l.fn.client) [] seed count l.fn.play
-    → Plays (g.M.Machine.stands (defaults []) l.client) [] seed count l.play × Rounds l.consumer l._made (history l.fn.play.steps) (history l.play.steps)
+    (seed all : ℕ) → Leads (Rounds l.consumer l._made) (g.M.Machine.stands (defaults []) l.fn.client) (g.M.Machine.stands (defaults []) l.client) seed all l.fn.play l.play

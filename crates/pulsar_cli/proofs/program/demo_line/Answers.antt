@@ -1,11 +1,11 @@
-use Rattle.pulsar_cli.specs.Played.{history, numbers}
+use Rattle.pulsar_cli.specs.Played.{counted}
 use Rattle.pulsar_cli.proofs.program.demo_line.Goals as goal
 
 pub returns : goal.returns
 returns c =
     record {
-      history = history c.in_ok-shown.shown.steps;
-      numbers = numbers c.in_ok-shown.shown;
-      demo = c.in_ok-shown.ensures;
+      history = c.in_ok-tally.ensures.0;
+      numbers = counted c.in_ok-tally.tally;
+      demo = c.in_ok-tally.ensures.1;
       says = c.in_ok-text.ensures;
     }

@@ -1,7 +1,7 @@
 -- What a call leaves to do, and what is seen after it: by whether tickets are left for it, and whether the client is open.
 use Rattle.std.proofs.Common.{◌≡◌, ◌∙◌, ap, sym, ℕ, ◌+◌, ◌-◌, ◌^◌, Bool, true, false, cond, not, ◌&&◌, List, [], ◌∷◌, ◌++◌, refl, Option, Some, None}
 use Rattle.std.proofs.lemmas.List.{append-nil}
-use Rattle.pulsar_session.specs.Failures.{Exhausted}
+use Rattle.pulsar_wire.specs.Failures.{Exhausted}
 use Rattle.pulsar_calls.specs.declared.act.Act.TheVariants.{Comes, Answers}
 use Rattle.pulsar_calls.specs.declared.act.Alarm.TheVariants.{CheckIdle}
 use Rattle.pulsar_calls.specs.declared.act.Makes.{Makes}

@@ -24,7 +24,7 @@ impl Model for Queue {
     ghost use Rattle.pulsar_run.specs.Order.{InOrder};
     ghost use Rattle.pulsar_tables.specs.Rules.{below};
     ghost use Rattle.pulsar_calls.specs.declared.act.Notice.{Notice as Meant};
-    ghost use Rattle.pulsar_session.specs.FailureCode.{failure_code};
+    ghost use Rattle.pulsar_wire.specs.FailureCode.{failure_code};
     ghost use Rattle.std.specs.Coded.{codes};
 
     ghost Value = { List Meant };

@@ -10,7 +10,7 @@ use Rattle.pulsar_wire.specs.Views.{body_values, message_id_values, message_meta
 use Rattle.pulsar_wire.specs.declared.commands.topics.Mode.{Mode}
 use Rattle.pulsar_wire.specs.declared.error.Error.{Error}
 use Rattle.pulsar_wire.specs.declared.error.IoKind.{IoKind}
-use Rattle.pulsar_session.specs.Failures.{Failure, failure}
+use Rattle.pulsar_wire.specs.Failures.{Failure, failure}
 use Rattle.pulsar_link.specs.Messages.{Written, written}
 use Rattle.pulsar_link.specs.RawCall.{words_of}
 use Rattle.pulsar_messages.specs.Content.{ProducerMessageValues, message_content}

@@ -8,7 +8,7 @@ ghost use Rattle.pulsar_calls.specs.Content.{numbers_from};
 ghost use Rattle.pulsar_calls.specs.Content.{next_advice};
 ghost use Rattle.pulsar_calls.specs.Parts.{failed_with, outcome_at, outcomes_of, sent_from};
 ghost use Rattle.pulsar_wire.specs.declared.error.Error.{Error as Meant};
-ghost use Rattle.pulsar_session.specs.Failures.{fault, sent};
+ghost use Rattle.pulsar_wire.specs.Failures.{fault, sent};
 
 use crate::act::Notice;
 use crate::effect::Answer;
@@ -80,7 +80,7 @@ impl Drop for Said {
 impl Model for Said {
     ghost use Rattle.pulsar_calls.specs.Content as content;
     ghost use Rattle.pulsar_calls.specs.Content.{said};
-    ghost use Rattle.pulsar_session.specs.FailureCode.{failure_code};
+    ghost use Rattle.pulsar_wire.specs.FailureCode.{failure_code};
     ghost use Rattle.std.specs.Coded.{codes};
 
     ghost Value = { content.Said };
@@ -118,7 +118,7 @@ impl Drop for Cause {
 }
 
 impl Model for Cause {
-    ghost use Rattle.pulsar_session.specs.Failures.{Fault, fault};
+    ghost use Rattle.pulsar_wire.specs.Failures.{Fault, fault};
 
     ghost Value = { Fault };
 
@@ -415,7 +415,7 @@ impl Drop for Notices {
 impl Model for Notices {
     ghost use Rattle.std.specs.Prelude.{List};
     ghost use Rattle.pulsar_calls.specs.declared.act.Notice.{Notice};
-    ghost use Rattle.pulsar_session.specs.FailureCode.{failure_code};
+    ghost use Rattle.pulsar_wire.specs.FailureCode.{failure_code};
     ghost use Rattle.std.specs.Coded.{codes};
 
     ghost Value = { List Notice };
@@ -513,8 +513,8 @@ impl Drop for Failures {
 
 impl Model for Failures {
     ghost use Rattle.std.specs.Prelude.{ℕ, List};
-    ghost use Rattle.pulsar_session.specs.Failures.{Failure};
-    ghost use Rattle.pulsar_session.specs.FailureCode.{failure_code};
+    ghost use Rattle.pulsar_wire.specs.Failures.{Failure};
+    ghost use Rattle.pulsar_wire.specs.FailureCode.{failure_code};
     ghost use Rattle.std.specs.Coded.{codes};
 
     // the tickets with the failures, in their order

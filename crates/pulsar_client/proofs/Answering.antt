@@ -3,7 +3,7 @@ use Rattle.std.proofs.Common.{◌≡◌, ◌∙◌, ◌⊎◌, ℕ, ap, sym, ref
 use Rattle.std.specs.Prelude.{MatchResult, Result, Ok, Err}
 use Rattle.pulsar_wire.specs.declared.commands.producer.CommandSendReceipt.{CommandSendReceipt}
 use Rattle.pulsar_wire.specs.declared.error.Error.{Error}
-use Rattle.pulsar_session.specs.Failures.{failure}
+use Rattle.pulsar_wire.specs.Failures.{failure}
 use Rattle.pulsar_producer.specs.Errors.{IsNoMemory}
 use Rattle.pulsar_calls.specs.Content.{Said, Shown}
 use Rattle.pulsar_agenda.specs.Run.{Step}

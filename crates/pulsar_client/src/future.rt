@@ -1,7 +1,7 @@
 //! A send that has been asked for.
 
 ghost use Rattle.std.specs.Prelude.{◌≡◌, ◌⊎◌, ℕ, List, MatchOption, MatchResult, Ok, Err};
-ghost use Rattle.pulsar_session.specs.Failures.{failure};
+ghost use Rattle.pulsar_wire.specs.Failures.{failure};
 ghost use Rattle.pulsar_producer.specs.Errors.{IsNoMemory};
 ghost use Rattle.pulsar_client.specs.Client.{StandsFor};
 ghost use Rattle.pulsar_calls.specs.Content.{answered, said};

@@ -4,9 +4,9 @@ use Rattle.std.specs.Prelude.{ℕ, ◌+◌, ◌-◌, ◌/◌, nat_lt, Bool, true
 use Rattle.std.specs.Option.{is_some, option_map, option_or}
 use Rattle.url.specs.Parts.{Parts}
 use Rattle.pulsar_wire.specs.Sink.{capped}
-use Rattle.pulsar_link.specs.Items.{Item, Given, Faulty}
+use Rattle.pulsar_frame.specs.Items.{Item, Given, Faulty}
 use Rattle.pulsar_link.specs.Request.{Subscribed}
-use Rattle.pulsar_session.specs.Failures.{Failure}
+use Rattle.pulsar_wire.specs.Failures.{Failure}
 use Rattle.pulsar_consumer.specs.Content.{ConfigValues}
 use Rattle.pulsar_consumer.specs.Frames.{Frame, failed}
 use Rattle.pulsar_consumer.specs.declared.polled.Ending.{Ending}

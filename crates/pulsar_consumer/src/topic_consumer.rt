@@ -60,7 +60,7 @@ impl Drop for TopicConsumer {
 impl Model for TopicConsumer {
     ghost use Rattle.pulsar_consumer.specs.Kept.{seen_of};
     ghost use Rattle.pulsar_consumer.specs.Topic.{Seen};
-    ghost use Rattle.pulsar_session.specs.FailureCode.{failure_code};
+    ghost use Rattle.pulsar_wire.specs.FailureCode.{failure_code};
     ghost use Rattle.std.specs.Coded.{codes};
 
     ghost Value = { Seen };

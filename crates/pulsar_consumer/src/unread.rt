@@ -4,7 +4,7 @@ ghost use Rattle.std.specs.Prelude.{◌≡◌, IfOk};
 ghost use Rattle.pulsar_link.specs.Held.{item_of};
 ghost use Rattle.pulsar_consumer.specs.Topic.{is_message};
 
-use pulsar_link::items::Unread as Item;
+use pulsar_frame::items::Unread as Item;
 use pulsar_wire::error::NoMemory;
 use std::alloc::Global;
 use std::marker::Model;
@@ -22,8 +22,8 @@ impl Drop for Unread {
 
 impl Model for Unread {
     ghost use Rattle.pulsar_link.specs.Held.{item_of};
-    ghost use Rattle.pulsar_link.specs.Items.{Item as Meant};
-    ghost use Rattle.pulsar_session.specs.FailureCode.{failure_code};
+    ghost use Rattle.pulsar_frame.specs.Items.{Item as Meant};
+    ghost use Rattle.pulsar_wire.specs.FailureCode.{failure_code};
     ghost use Rattle.std.specs.Coded.{codes};
 
     ghost Value = { Meant };

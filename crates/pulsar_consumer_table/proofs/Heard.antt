@@ -9,7 +9,7 @@ use Rattle.std.specs.Option.{option_map, option_to_list}
 use Rattle.std.specs.Ordering.{nat_cmp}
 use Rattle.pulsar_requests.proofs.Awaiting.{is_at-eqb}
 use Rattle.pulsar_link.specs.Messages.{Reply, is_body}
-use Rattle.pulsar_session.specs.Failures.{Fault}
+use Rattle.pulsar_wire.specs.Failures.{Fault}
 use Rattle.pulsar_calls.specs.declared.act.Arrival.{Arrival}
 use Rattle.pulsar_calls.specs.declared.act.Arrival.TheVariants.{Bad, Gives, Nothing, Passes, Readied, Settles}
 use Rattle.pulsar_calls.specs.declared.act.Notice.{Notice}

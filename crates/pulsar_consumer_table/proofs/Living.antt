@@ -7,7 +7,7 @@ use Rattle.std.specs.List.{list_any}
 use Rattle.std.specs.Option.{option_map}
 use Rattle.std.specs.Ordering.{nat_cmp}
 use Rattle.pulsar_requests.proofs.Awaiting.{is_at-eqb}
-use Rattle.pulsar_link.specs.Items.{Item}
+use Rattle.pulsar_frame.specs.Items.{Item}
 use Rattle.pulsar_link.specs.Messages.{Reply, is_body}
 use Rattle.pulsar_consumer.specs.Frames.{Frame, frame_in}
 use Rattle.pulsar_consumer.specs.Topic as topic

@@ -2,7 +2,7 @@
 use Rattle.std.proofs.Common.{◌≡◌, ◌∙◌, ℕ, ◌==◌, ◌&&◌, ◌||◌, not, sym, ap, refl, Bool, true, false, cond, List, [], ◌∷◌, Option, Some, None, inl, inr}
 use Rattle.std.proofs.lemmas.Bool.{cases_Bool, eq-eqb, eqb-true, false≢true, and_from, and_parts}
 use Rattle.std.specs.Option.{is_some, option_map, option_or}
-use Rattle.pulsar_link.specs.Items.{Item, Given, Faulty}
+use Rattle.pulsar_frame.specs.Items.{Item, Given, Faulty}
 use Rattle.pulsar_link.specs.Messages.{Reply, is_body}
 use Rattle.pulsar_consumer.specs.Frames.{Frame, frame_in}
 use Rattle.pulsar_consumer.specs.Topic as topic

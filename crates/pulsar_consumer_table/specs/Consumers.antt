@@ -7,9 +7,9 @@ use Rattle.std.specs.Map.{remove_entry}
 use Rattle.std.specs.Option.{option_map, option_to_list}
 use Rattle.std.specs.Ordering.{nat_cmp}
 use Rattle.url.specs.Parts.{Parts}
-use Rattle.pulsar_session.specs.Failures.{Failure, Fault}
+use Rattle.pulsar_wire.specs.Failures.{Failure, Fault}
 use Rattle.pulsar_session.specs.Link.{is_spent}
-use Rattle.pulsar_link.specs.Items.{Item, Given, Faulty}
+use Rattle.pulsar_frame.specs.Items.{Item, Given, Faulty}
 use Rattle.pulsar_link.specs.Messages.{Reply, is_body}
 use Rattle.pulsar_link.specs.Request.{named_consumer}
 use Rattle.pulsar_plans.specs.declared.making.Command.{Command}

@@ -13,7 +13,7 @@ use pulsar_consumer::frame::Frame;
 use pulsar_consumer::unread::Unread;
 use pulsar_consumer::{Consumer, Ending, MessageData, Polled, TopicConsumer};
 use pulsar_link::content::Received;
-use pulsar_link::items::Unread as Item;
+use pulsar_frame::items::Unread as Item;
 use pulsar_plans::content::Refusal;
 use pulsar_wire::bodies;
 use pulsar_wire::error::NoMemory;

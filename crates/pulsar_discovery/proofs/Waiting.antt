@@ -4,7 +4,7 @@ use Rattle.std.proofs.lemmas.Bool.{cases_Bool}
 use Rattle.std.proofs.lemmas.Slice.Eq.{bytes_eq-Decides}
 use Rattle.std.specs.Option.{option_map}
 use Rattle.pulsar_session.specs.Link as session
-use Rattle.pulsar_session.specs.Failures.{NotFound}
+use Rattle.pulsar_wire.specs.Failures.{NotFound}
 use Rattle.pulsar_session.specs.declared.states.Stage.{Stage}
 use Rattle.pulsar_session.specs.declared.states.Stage.TheVariants as stages
 use Rattle.pulsar_session.specs.declared.states.Stage.TheVariants.{Dialing, Handshaking, Over}

@@ -4,9 +4,9 @@ use Rattle.std.specs.Prelude.{◌≡◌, ℕ, List, [], ◌∷◌, map, Some, Re
 use Rattle.pulsar_wire.specs.declared.error.ConnectionError.{ConnectionError}
 use Rattle.pulsar_frame.specs.Message.{MessageValues}
 use Rattle.pulsar_frame.specs.Shown.{message_values}
-use Rattle.pulsar_session.specs.Failures.{Disconnected, Failure, OfConnection, failure, fault}
+use Rattle.pulsar_wire.specs.Failures.{Disconnected, Failure, OfConnection, failure, fault}
 use Rattle.pulsar_session.specs.Link.{message_of}
-use Rattle.pulsar_session.specs.Reply.{reply}
+use Rattle.pulsar_frame.specs.Reply.{reply}
 use Rattle.pulsar_plans.specs.Address.{Place, named, place}
 use Rattle.pulsar_plans.specs.Plans as plans
 use Rattle.pulsar_plans.specs.declared.plan.Answer.{Answer}

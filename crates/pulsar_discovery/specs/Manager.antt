@@ -9,7 +9,7 @@ use Rattle.pulsar_wire.specs.declared.error.IoKind.TheVariants.{ConnectionRefuse
 use Rattle.pulsar_wire.specs.declared.error.ConnectionError.{ConnectionError}
 use Rattle.pulsar_wire.specs.declared.error.ConnectionError.TheVariants as error
 use Rattle.pulsar_messages.specs.Content.{authentication_values}
-use Rattle.pulsar_session.specs.Failures.{Fault, Io, Authentication, NotFound, NoMemory, fault}
+use Rattle.pulsar_wire.specs.Failures.{Fault, Io, Authentication, NotFound, NoMemory, fault}
 use Rattle.pulsar_session.specs.Link as session
 use Rattle.pulsar_session.specs.declared.states.Stage.{Stage}
 use Rattle.pulsar_session.specs.declared.states.Stage.TheVariants.{Dialing, Handshaking, Ready, Over}

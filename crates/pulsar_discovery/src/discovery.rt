@@ -4,7 +4,7 @@ ghost use Rattle.std.specs.Prelude.{◌≡◌, [], IfOk, string_bytes};
 ghost use Rattle.std.specs.Option.{option_copied, option_map};
 ghost use Rattle.pulsar_messages.specs.Content.{consumer_options_values, producer_options_values};
 ghost use Rattle.pulsar_messages.specs.Words.{CreateProducer, Subscribe};
-ghost use Rattle.pulsar_session.specs.Failures.{fault};
+ghost use Rattle.pulsar_wire.specs.Failures.{fault};
 ghost use Rattle.pulsar_plans.specs.Address.{place};
 ghost use Rattle.pulsar_plans.specs.declared.plan.Procedure.TheVariants as procedure;
 ghost use Rattle.pulsar_discovery.specs.Machine.{StandsFor};

@@ -2,7 +2,7 @@
 
 ghost use Rattle.std.specs.Prelude.{◌≡◌, [], Some, None, Err, IfOk, OnErr, IsErr};
 ghost use Rattle.pulsar_plans.specs.Plans.{fails};
-ghost use Rattle.pulsar_session.specs.Failures.{Disconnected};
+ghost use Rattle.pulsar_wire.specs.Failures.{Disconnected};
 ghost use Rattle.pulsar_discovery.specs.Machine.{Extends, Goes, StandsFor, does, lost, stands, step, step_of, told, turns};
 
 use crate::kept::Kept;

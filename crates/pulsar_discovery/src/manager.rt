@@ -5,7 +5,7 @@ ghost use Rattle.std.specs.BTreeMap.{get};
 ghost use Rattle.std.specs.Option.{option_copied, option_copied_mut, option_map};
 ghost use Rattle.std.specs.Ordering.{nat_cmp};
 ghost use Rattle.pulsar_messages.specs.Content.{authentication_values};
-ghost use Rattle.pulsar_session.specs.Failures.{fault};
+ghost use Rattle.pulsar_wire.specs.Failures.{fault};
 ghost use Rattle.pulsar_session.specs.Link as session;
 ghost use Rattle.pulsar_plans.specs.Address.{base_of, place};
 ghost use Rattle.pulsar_discovery.specs.Manager as meaning;

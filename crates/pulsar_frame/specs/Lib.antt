@@ -12,3 +12,5 @@ pub mod Laws
 pub mod Checksum
 pub mod Residue
 pub mod Batch
+pub mod Reply
+pub mod Items

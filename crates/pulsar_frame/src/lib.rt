@@ -19,3 +19,6 @@ pub use codec::Codec;
 pub use message::{Message, frame_len};
 pub use payload::{Metadata, Payload, PayloadParts};
 pub use reader::FrameReader;
+pub mod items;
+pub mod received;
+pub use crate::received::Received;

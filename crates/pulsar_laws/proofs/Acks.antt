@@ -9,7 +9,7 @@ use Rattle.pulsar_wire.specs.Rows as rows
 use Rattle.pulsar_messages.specs.Content.{ProducerMessageValues}
 use Rattle.pulsar_messages.specs.Words as words
 use Rattle.pulsar_messages.specs.Words.{Words}
-use Rattle.pulsar_session.specs.Failures.{Fault}
+use Rattle.pulsar_wire.specs.Failures.{Fault}
 use Rattle.pulsar_link.specs.Messages.{Reply, is_body}
 use Rattle.pulsar_plans.specs.Address.{Place}
 use Rattle.pulsar_plans.specs.declared.making.Command.{Command}

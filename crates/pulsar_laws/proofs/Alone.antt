@@ -8,7 +8,7 @@ use Rattle.pulsar_requests.specs.Waits.{places}
 use Rattle.pulsar_session.specs.declared.states.Stage.{Stage}
 use Rattle.pulsar_session.specs.declared.states.Stage.TheVariants.{Handshaking, Ready}
 use Rattle.pulsar_session.specs.Answers.{is}
-use Rattle.pulsar_session.specs.Failures.{Fault}
+use Rattle.pulsar_wire.specs.Failures.{Fault}
 use Rattle.pulsar_session.specs.Link.{Act as Act', Opens, Feeds, Takes, Asks, Drains, Closes, Seen, Setup, answered_to, greeted, is_open, is_over, moved_up, number_for, settled_by, taken_in, ticked}
 use Rattle.pulsar_session.proofs.Still.{asked_of, moving, opening, unless}
 use Rattle.pulsar_calls.specs.declared.act.Act.TheVariants.{Comes, Does, Dials}

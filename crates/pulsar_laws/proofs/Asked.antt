@@ -2,7 +2,7 @@
 use Rattle.std.proofs.Common.{◌≡◌, ◌⊎◌, inl, inr, ◌∙◌, sym, ap, subst, ℕ, ◌+◌, List, ◌∷◌, ◌++◌, refl, map, Bool, true, false, cond, Option, Some, None, drop, length, [], ◌^◌, ◌-◌}
 use Rattle.pulsar_run.specs.Order.{arranged, put_all}
 use Rattle.pulsar_run.specs.Run.{first_of, rest, rest_of}
-use Rattle.pulsar_session.specs.Failures.{Exhausted}
+use Rattle.pulsar_wire.specs.Failures.{Exhausted}
 use Rattle.pulsar_calls.specs.declared.act.Act.{Act}
 use Rattle.pulsar_calls.specs.declared.act.Act.TheVariants.{Comes, Starts, Told, Does, Answers}
 use Rattle.pulsar_calls.specs.declared.act.Action.TheVariants.{StopAll, Rest}

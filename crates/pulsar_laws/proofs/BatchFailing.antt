@@ -4,7 +4,7 @@ use Rattle.std.proofs.lemmas.Bool.{cases_Bool}
 use Rattle.std.specs.List.{list_any}
 use Rattle.pulsar_run.specs.Laws.{In}
 use Rattle.pulsar_messages.specs.Content.{ProducerMessageValues}
-use Rattle.pulsar_session.specs.Failures.{Failure}
+use Rattle.pulsar_wire.specs.Failures.{Failure}
 use Rattle.pulsar_plans.specs.declared.turn.Outcome.{Outcome as Heard}
 use Rattle.pulsar_plans.specs.declared.turn.Ways.{Ways}
 use Rattle.pulsar_producer.specs.Errors.{in_producer}

@@ -4,8 +4,8 @@ use Rattle.std.proofs.lemmas.Bool.{cases_Bool}
 use Rattle.pulsar_run.specs.Laws.{In}
 use Rattle.pulsar_messages.specs.Words as words
 use Rattle.pulsar_messages.specs.Content.{ProducerMessageValues}
-use Rattle.pulsar_session.specs.Failures.{Failure, Fault}
-use Rattle.pulsar_session.specs.Reply.{Reply as Content, is_body}
+use Rattle.pulsar_wire.specs.Failures.{Failure, Fault}
+use Rattle.pulsar_frame.specs.Reply.{Reply as Content, is_body}
 use Rattle.pulsar_wire.specs.declared.key.RequestKey.TheVariants as keys
 use Rattle.pulsar_link.specs.Messages.{Reply}
 use Rattle.pulsar_plans.specs.Address.{Place}

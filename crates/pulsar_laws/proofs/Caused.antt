@@ -8,7 +8,7 @@ use Rattle.pulsar_wire.specs.declared.error.ConnectionError.{ConnectionError}
 use Rattle.pulsar_wire.specs.declared.error.IoKind.{IoKind}
 use Rattle.pulsar_messages.specs.Words.{Words}
 use Rattle.pulsar_session.specs.declared.states.Asked.{Asked as Placed}
-use Rattle.pulsar_session.specs.Failures.{Fault, Disconnected, Exhausted, OfProducer, ProducerClosed, Failure}
+use Rattle.pulsar_wire.specs.Failures.{Fault, Disconnected, Exhausted, OfProducer, ProducerClosed, Failure}
 use Rattle.pulsar_session.specs.Link.{Came, came, ends}
 use Rattle.pulsar_link.specs.Messages.{read}
 use Rattle.pulsar_calls.specs.declared.act.Act.{Act}

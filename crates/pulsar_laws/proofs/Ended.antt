@@ -3,10 +3,10 @@ use Rattle.std.proofs.Common.{◌≡◌, ◌≤◌, ℕ, ◌+◌, ◌-◌, ◌�
 use Rattle.std.proofs.lemmas.Bool.{cases_Bool}
 use Rattle.std.specs.Option.{is_some, option_map, option_or}
 use Rattle.url.specs.Parts.{Parts}
-use Rattle.pulsar_link.specs.Items.{Item}
+use Rattle.pulsar_frame.specs.Items.{Item}
 use Rattle.pulsar_link.specs.Messages.{Reply, is_body}
 use Rattle.pulsar_link.specs.Request.{closed_consumer}
-use Rattle.pulsar_session.specs.Failures.{Fault}
+use Rattle.pulsar_wire.specs.Failures.{Fault}
 use Rattle.pulsar_session.specs.Link.{is_spent}
 use Rattle.pulsar_wire.specs.Sink.{capped}
 use Rattle.pulsar_consumer.specs.Content.{ConfigValues}

@@ -3,8 +3,8 @@ use Rattle.std.proofs.Common.{◌≡◌, ◌⊎◌, inl, inr, ◌∙◌, sym, ap
 use Rattle.std.specs.List.{list_any}
 use Rattle.std.specs.Option.{is_some}
 use Rattle.pulsar_run.specs.Laws.{In}
-use Rattle.pulsar_session.specs.Failures.{DiscoveryFault, Failure, OfConnection, OfDiscovery, OfPartialSend, ConsumerClosed, OfConsumer}
-use Rattle.pulsar_session.specs.Reply.{Reply as Content}
+use Rattle.pulsar_wire.specs.Failures.{DiscoveryFault, Failure, OfConnection, OfDiscovery, OfPartialSend, ConsumerClosed, OfConsumer}
+use Rattle.pulsar_frame.specs.Reply.{Reply as Content}
 use Rattle.pulsar_wire.specs.Row.{Values}
 use Rattle.pulsar_wire.specs.Rows.{send_receipt}
 use Rattle.pulsar_link.specs.Messages.{Reply, Written}

@@ -5,7 +5,7 @@ use Rattle.std.proofs.Common.{◌≡◌, ℕ, ◌-◌, ◌==◌, List, ◌∷◌
 use Rattle.pulsar_link.specs.Messages.{Reply}
 use Rattle.pulsar_link.specs.Refusals.{refused}
 use Rattle.pulsar_link.specs.Request.{is_answered, request_number}
-use Rattle.pulsar_session.specs.Failures.{Failure, OfConnection}
+use Rattle.pulsar_wire.specs.Failures.{Failure, OfConnection}
 use Rattle.pulsar_plans.specs.declared.plan.Answer.{Answer}
 use Rattle.pulsar_plans.specs.declared.plan.Plan.{Plan as Search}
 use Rattle.pulsar_plans.specs.declared.turn.Action.{Action as Wish}

@@ -4,8 +4,8 @@ use Rattle.std.specs.Prelude.{not}
 use Rattle.pulsar_messages.specs.Content.{ProducerMessageValues}
 use Rattle.pulsar_messages.specs.Words as words
 use Rattle.pulsar_messages.specs.Words.{Words}
-use Rattle.pulsar_session.specs.Failures.{Failure, Fault, OfConnection}
-use Rattle.pulsar_session.specs.Reply.{Reply as Content}
+use Rattle.pulsar_wire.specs.Failures.{Failure, Fault, OfConnection}
+use Rattle.pulsar_frame.specs.Reply.{Reply as Content}
 use Rattle.pulsar_plans.specs.Address.{Place}
 use Rattle.pulsar_plans.specs.Backoff.{allow_retry}
 use Rattle.pulsar_plans.specs.Plans as search

@@ -3,7 +3,7 @@ use Rattle.std.proofs.Common.{◌≡◌, ◌⊎◌, inl, inr, ◌∙◌, sym, ap
 use Rattle.std.proofs.lemmas.Bool.{cases_Bool}
 use Rattle.std.proofs.lemmas.Bool.Decides.{nat_tests}
 use Rattle.pulsar_run.specs.Laws.{In}
-use Rattle.pulsar_session.specs.Failures.{Failure}
+use Rattle.pulsar_wire.specs.Failures.{Failure}
 use Rattle.pulsar_calls.specs.declared.act.Act.TheVariants.{Starts, Told, Does}
 use Rattle.pulsar_calls.specs.declared.act.Action.TheVariants.{Tell, TellAll}
 use Rattle.pulsar_calls.specs.declared.act.Makes.TheVariants.{Nothing}

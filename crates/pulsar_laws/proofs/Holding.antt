@@ -2,8 +2,8 @@
 use Rattle.std.proofs.Common.{◌≡◌, ◌⊎◌, inl, inr, ◌∙◌, sym, ap, ℕ, ◌-◌, ◌==◌, List, [], ◌∷◌, ◌++◌, refl, length, map, Bool, true, false, ◌&&◌, cond, Option, Some, None, Result, Ok, Err}
 use Rattle.std.specs.Prelude.{not}
 use Rattle.pulsar_messages.specs.Content.{ProducerMessageValues}
-use Rattle.pulsar_session.specs.Failures.{Failure, Fault, OfConnection}
-use Rattle.pulsar_session.specs.Reply.{Reply as Content}
+use Rattle.pulsar_wire.specs.Failures.{Failure, Fault, OfConnection}
+use Rattle.pulsar_frame.specs.Reply.{Reply as Content}
 use Rattle.pulsar_link.specs.Refusals.{refused}
 use Rattle.pulsar_link.specs.Request.{is_answered, request_number}
 use Rattle.pulsar_plans.specs.Address.{Named, Place}

@@ -9,7 +9,7 @@ use Rattle.std.specs.Ordering.{match_ordering}
 use Rattle.std.specs.declared.cmp.Ordering.{Ordering}
 use Rattle.std.specs.declared.cmp.Ordering.TheVariants.{Less, Equal, Greater}
 use Rattle.pulsar_run.specs.Laws.{In, InThisStep}
-use Rattle.pulsar_session.specs.Failures.{Disconnected, Exhausted, Failure, Fault}
+use Rattle.pulsar_wire.specs.Failures.{Disconnected, Exhausted, Failure, Fault}
 use Rattle.pulsar_messages.specs.Words.{Words}
 use Rattle.pulsar_session.specs.Link.{is_spent}
 use Rattle.pulsar_plans.specs.Address.{Place}

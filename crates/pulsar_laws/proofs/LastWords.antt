@@ -1,7 +1,7 @@
 -- What one is told last: that the client is stopped, or what became of a batch; and what a plan does then.
 use Rattle.std.proofs.Common.{◌≡◌, ◌⊎◌, inl, inr, ◌∙◌, sym, ap, subst, ℕ, ◌+◌, List, ◌∷◌, ◌++◌, refl, map, Bool, true, false, Option, Some, None, [], Ok, Err}
 use Rattle.pulsar_run.specs.Run.{rest_of}
-use Rattle.pulsar_session.specs.Failures.{Failure, OfConnection}
+use Rattle.pulsar_wire.specs.Failures.{Failure, OfConnection}
 use Rattle.pulsar_calls.specs.declared.act.Act.{Act}
 use Rattle.pulsar_calls.specs.declared.act.Act.TheVariants.{Comes, Starts, Told, Does, Answers}
 use Rattle.pulsar_calls.specs.declared.act.Action.TheVariants.{Rest, TakeBatch, Tell, TellAll}

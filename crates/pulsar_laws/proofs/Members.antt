@@ -4,7 +4,7 @@ use Rattle.std.specs.List.{flat_map}
 use Rattle.std.specs.Option.{option_map, option_to_list, is_some}
 use Rattle.pulsar_link.specs.Messages.{Reply, is_body}
 use Rattle.pulsar_link.specs.Request.{named_consumer}
-use Rattle.pulsar_session.specs.Failures.{Fault}
+use Rattle.pulsar_wire.specs.Failures.{Fault}
 use Rattle.pulsar_consumer.specs.Topic as reader
 use Rattle.pulsar_consumer.specs.Topic.{Hears, Loses, Live, Seen, first_of, gives, is_due, is_on, link_of, lives_on, first_due, counts_first, is_message}
 use Rattle.pulsar_consumer.specs.Topic.{ends as reader_ends, loses as reader_loses, Ends as Over}
@@ -29,7 +29,7 @@ use Rattle.pulsar_consumer_table.specs.Notices.{due_at, due_to, lost_at, word_to
 use Rattle.pulsar_tables.specs.View.{consumers_left}
 use Rattle.pulsar_agenda.proofs.Acts.{Each, each_append, each_flat}
 use Rattle.pulsar_run.specs.Laws.{In}
-use Rattle.pulsar_link.specs.Items.{Item}
+use Rattle.pulsar_frame.specs.Items.{Item}
 use Rattle.url.specs.Parts.{Parts}
 use Rattle.pulsar_wire.specs.Sink.{capped}
 use Rattle.pulsar_laws.proofs.Sources.{in_append}

@@ -1,7 +1,7 @@
 -- The numbers of topic producers. Each is drawn once, greater than all before it; a building has just those that it drew; and so a producer
 -- that joins has numbers that no other has.
 use Rattle.std.proofs.Common.{◌≡◌, ◌⊎◌, ◌∙◌, sym, ap, subst, ℕ, ◌+◌, ◌-◌, ◌^◌, ◌<◌, ◌≤◌, ◌==◌, List, [], ◌∷◌, ◌++◌, refl, map, Bool, true, false, ◌&&◌, cond, Option, Some, None, Result, Ok, Err}
-use Rattle.pulsar_session.specs.Failures.{Failure, OfConnection}
+use Rattle.pulsar_wire.specs.Failures.{Failure, OfConnection}
 use Rattle.pulsar_link.specs.Messages.{Reply}
 use Rattle.pulsar_link.specs.Refusals.{refused}
 use Rattle.pulsar_link.specs.Request.{is_answered, request_number, subscribed}

@@ -1,8 +1,8 @@
 -- The send of a ticket is told at most once that its frame is queued.
 use Rattle.std.proofs.Common.{◌≡◌, ◌⊎◌, inl, inr, ◌∙◌, sym, subst, ℕ, ◌+◌, ◌≤◌, arith, List, [], ◌∷◌, refl, Bool, true, false, ◌&&◌, cond, Option, Some, None, Result, Ok, Err}
 use Rattle.std.proofs.lemmas.Bool.{cases_Bool}
-use Rattle.pulsar_session.specs.Failures.{Fault}
-use Rattle.pulsar_session.specs.Reply.{Reply as Content}
+use Rattle.pulsar_wire.specs.Failures.{Fault}
+use Rattle.pulsar_frame.specs.Reply.{Reply as Content}
 use Rattle.pulsar_plans.specs.Plans.{verdict}
 use Rattle.pulsar_plans.specs.declared.turn.Ways.{Ways}
 use Rattle.pulsar_producer.specs.Plans as produce

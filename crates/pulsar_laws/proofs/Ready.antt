@@ -9,7 +9,7 @@ use Rattle.pulsar_requests.specs.Waits.{places}
 use Rattle.pulsar_session.specs.declared.states.Asked.{Asked as Placed}
 use Rattle.pulsar_session.specs.declared.states.Stage.{Stage}
 use Rattle.pulsar_session.specs.declared.states.Stage.TheVariants.{Ready}
-use Rattle.pulsar_session.specs.Failures.{Fault}
+use Rattle.pulsar_wire.specs.Failures.{Fault}
 use Rattle.pulsar_session.specs.Link.{Act as Act', Opens as Opens', Feeds, Takes, Asks, Drains as Drains', Closes, Seen, after as after', after_of, answer_of, answered, drawn, is_open, is_ready, moved_up, number_for, opens_in, request, settled_by, taken_in, ticked}
 use Rattle.pulsar_session.specs.Laws.{IsInLine}
 use Rattle.pulsar_session.proofs.Others.{none_stands_beside_room}

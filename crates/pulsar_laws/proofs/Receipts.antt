@@ -23,7 +23,7 @@ use Rattle.pulsar_session.specs.declared.states.Stage.{Stage}
 use Rattle.pulsar_session.specs.declared.states.Stage.TheVariants.{Dialing, Handshaking, Ready, Over}
 use Rattle.pulsar_session.specs.Answers.{answers, is, is_number}
 use Rattle.pulsar_session.specs.Laws.{IsInLine}
-use Rattle.pulsar_session.specs.Reply.{Written, read_body}
+use Rattle.pulsar_frame.specs.Reply.{Written, read_body}
 use Rattle.pulsar_session.specs.Link.{Came, Seen, Settles, came, came_by, came_in, claim, for_consumer, greeted_by, settled_by, unasked}
 use Rattle.pulsar_session.specs.Link as session
 use Rattle.pulsar_session.proofs.Others.{none_stands_beside_room}

@@ -3,10 +3,10 @@ use Rattle.std.proofs.Common.{◌≡◌, ◌⊎◌, inl, inr, ◌∙◌, sym, ap
 use Rattle.std.proofs.lemmas.Bool.{cases_Bool, eqb-true}
 use Rattle.std.specs.Option.{is_some, option_map}
 use Rattle.url.specs.Parts.{Parts}
-use Rattle.pulsar_link.specs.Items.{Item}
+use Rattle.pulsar_frame.specs.Items.{Item}
 use Rattle.pulsar_link.specs.Messages.{Reply, is_body}
 use Rattle.pulsar_link.specs.Request.{closed_consumer}
-use Rattle.pulsar_session.specs.Failures.{Failure, Fault}
+use Rattle.pulsar_wire.specs.Failures.{Failure, Fault}
 use Rattle.pulsar_session.specs.Link.{is_ready, is_spent}
 use Rattle.pulsar_consumer.specs.Frames.{Frame, failed, frame_in}
 use Rattle.pulsar_consumer.specs.Topic as reader

@@ -3,8 +3,8 @@ use Rattle.std.proofs.Common.{◌≡◌, ◌⊎◌, inl, inr, ap, ℕ, List, [],
 use Rattle.std.specs.Prelude.{pos}
 use Rattle.pulsar_wire.specs.Field.{◌>>=◌}
 use Rattle.pulsar_wire.specs.Enumerations.{error_of}
-use Rattle.pulsar_session.specs.Failures.{DiscoveryConnection, DiscoveryFault, DiscoveryNotFound, Failure, Fault, OfConnection, OfDiscovery, Query}
-use Rattle.pulsar_session.specs.Reply.{Reply as Content, is_body}
+use Rattle.pulsar_wire.specs.Failures.{DiscoveryConnection, DiscoveryFault, DiscoveryNotFound, Failure, Fault, OfConnection, OfDiscovery, Query}
+use Rattle.pulsar_frame.specs.Reply.{Reply as Content, is_body}
 use Rattle.url.specs.declared.host.Host.{Host}
 use Rattle.url.specs.Parser.{Parsed, parse_url}
 use Rattle.url.specs.Parts.{Parts, nonempty_host}

@@ -1,7 +1,7 @@
 -- Parts of calls: which call a send is a part of, and what it tells that. One step of a plan.
 use Rattle.std.proofs.Common.{◌≡◌, ◌⊎◌, ◌∙◌, sym, ℕ, ◌-◌, ◌==◌, List, [], ◌∷◌, refl, Bool, true, false, ◌&&◌, Option, Some, None, Result, Ok, Err}
 use Rattle.std.specs.Prelude.{not}
-use Rattle.pulsar_session.specs.Failures.{Failure}
+use Rattle.pulsar_wire.specs.Failures.{Failure}
 use Rattle.pulsar_link.specs.Refusals.{refused}
 use Rattle.pulsar_link.specs.Request.{is_answered, request_number}
 use Rattle.pulsar_plans.specs.Plans as search

@@ -9,7 +9,7 @@ use Rattle.std.specs.Option.{option_map, is_some}
 use Rattle.pulsar_run.specs.Laws.{In}
 use Rattle.pulsar_run.specs.Order.{arranged, put, put_all}
 use Rattle.pulsar_run.specs.Run.{first_of, rest, rest_of}
-use Rattle.pulsar_session.specs.Failures.{Exhausted}
+use Rattle.pulsar_wire.specs.Failures.{Exhausted}
 use Rattle.pulsar_session.specs.Link.{ends}
 use Rattle.pulsar_plans.specs.Address.{Place, address_key}
 use Rattle.pulsar_calls.specs.declared.act.Act.{Act}

@@ -5,7 +5,7 @@ use Rattle.std.specs.Option.{is_some, option_map}
 use Rattle.pulsar_link.specs.Messages.{Reply, is_body}
 use Rattle.pulsar_link.specs.Request.{closed_consumer}
 use Rattle.pulsar_messages.specs.Words as words
-use Rattle.pulsar_session.specs.Failures.{Fault}
+use Rattle.pulsar_wire.specs.Failures.{Fault}
 use Rattle.pulsar_consumer.specs.Laws.{asked_since}
 use Rattle.pulsar_consumer.specs.Topic.{Act as Done, Lives, Hears, Loses, Fails, Ends as Over, Polls as Polled, Asks, Seen, Live, Setup, first_due, first_in, is_ended, link_of, lives_on, seen}
 use Rattle.pulsar_calls.specs.declared.act.Act.{Act}

@@ -16,7 +16,7 @@ use Rattle.pulsar_run.specs.Run.{first_of, rest, rest_of}
 use Rattle.pulsar_session.specs.declared.states.Stage.{Stage}
 use Rattle.pulsar_session.specs.declared.states.Stage.TheVariants.{Dialing, Handshaking, Ready, Over}
 use Rattle.pulsar_session.specs.Answers.{is}
-use Rattle.pulsar_session.specs.Failures.{Fault}
+use Rattle.pulsar_wire.specs.Failures.{Fault}
 use Rattle.pulsar_session.specs.Laws.{messages_taken}
 use Rattle.pulsar_session.specs.Link.{Act as Act', Asks, Closes, Came, Feeds, Seen, Setup, after_of, answered_to, came, came_by, came_in, drawn, for_consumer, greeted, greeted_by, greets_with, has_room, is_open, is_over, moved_up, number_for, opens_in, queue, request, settled_by, Standing, taken_in, ticked, unasked}
 use Rattle.pulsar_session.proofs.Pieces.{asks_for_apart, unless_stage}

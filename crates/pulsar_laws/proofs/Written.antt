@@ -10,7 +10,7 @@ use Rattle.pulsar_run.specs.Order.{InOrder, NoneBelow}
 use Rattle.pulsar_run.specs.Run.{in_order, steps_done, with_effects}
 use Rattle.pulsar_run.proofs.Orders.{kinds_in_order_lem}
 use Rattle.pulsar_messages.specs.Words.{Words, SendPing}
-use Rattle.pulsar_session.specs.Failures.{Fault}
+use Rattle.pulsar_wire.specs.Failures.{Fault}
 use Rattle.pulsar_session.specs.Laws.{queued_in, written_in}
 use Rattle.pulsar_session.specs.Link as session
 use Rattle.pulsar_session.specs.Link.{Act as Act', Opens, Takes, Asks, Drains, Seen, Setup, came, ends, is_open, is_over, written}
@@ -26,7 +26,7 @@ use Rattle.pulsar_calls.specs.declared.effect.Settlement.TheVariants as settleme
 use Rattle.pulsar_plans.specs.Address.{Place}
 use Rattle.pulsar_calls.specs.Content.{Heard, Bytes, Shown, Queued, Write}
 use Rattle.pulsar_tables.specs.Effects.{asked_at, connects, effect_below, effects, given_at, is_before3, retries_on}
-use Rattle.pulsar_link.specs.Items.{Item, Given, Faulty}
+use Rattle.pulsar_frame.specs.Items.{Item, Given, Faulty}
 use Rattle.pulsar_laws.specs.Laws.{IsPrefix, WritesFollow, bytes_of, queued_on, written_on}
 use Rattle.pulsar_tables.specs.Links as links
 use Rattle.pulsar_tables.specs.Links.{close, closed_by, ended, is_own_end, lost, queues, settled_in, settles, write}

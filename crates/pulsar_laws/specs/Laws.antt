@@ -12,7 +12,7 @@ use Rattle.pulsar_messages.specs.Words as words
 use Rattle.pulsar_messages.specs.Words.{Words}
 use Rattle.pulsar_requests.specs.Waits.{later_of}
 use Rattle.pulsar_session.specs.declared.states.Asked.{Asked as Placed}
-use Rattle.pulsar_session.specs.Failures.{ProducerClosed, OfProducer, ConsumerClosed, OfConsumer, DiscoveryConnection, DiscoveryCanceled, DiscoveryFault, DiscoveryNotFound, DiscoveryShutdown, DnsLookup, Dummy, Exhausted, Failure, Fault, OfConnection, OfDiscovery, OfPartialSend, Query, fault, Disconnected}
+use Rattle.pulsar_wire.specs.Failures.{ProducerClosed, OfProducer, ConsumerClosed, OfConsumer, DiscoveryConnection, DiscoveryCanceled, DiscoveryFault, DiscoveryNotFound, DiscoveryShutdown, DnsLookup, Dummy, Exhausted, Failure, Fault, OfConnection, OfDiscovery, OfPartialSend, Query, fault, Disconnected}
 use Rattle.pulsar_session.specs.Laws.{bytes_fed, messages_taken}
 use Rattle.pulsar_session.specs.Link.{Act as Act', Asks, Feeds, Setup, came, due, ends, is_spent}
 use Rattle.pulsar_link.specs.Messages.{Reply, read}
@@ -23,7 +23,7 @@ use Rattle.pulsar_producer.specs.Errors.{in_producer}
 use Rattle.pulsar_producer.specs.declared.deed.News.{News}
 use Rattle.pulsar_plans.specs.Backoff.{allow_retry}
 use Rattle.pulsar_plans.specs.declared.turn.Ways.{Ways}
-use Rattle.pulsar_session.specs.Reply.{Reply as Content, is_body}
+use Rattle.pulsar_frame.specs.Reply.{Reply as Content, is_body}
 use Rattle.pulsar_tables.specs.Alarms.{ringing, rings}
 use Rattle.pulsar_calls.specs.declared.act.Act.{Act}
 use Rattle.pulsar_calls.specs.declared.act.Act.TheVariants.{Comes, Starts, Told, Does, Answers, Dials}

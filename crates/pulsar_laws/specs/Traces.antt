@@ -11,7 +11,7 @@ use Rattle.pulsar_messages.specs.Content.{ProducerMessageValues, empty_consumer_
 use Rattle.pulsar_messages.specs.Messages.{connect_command}
 use Rattle.pulsar_messages.specs.Words.{Words, GetTopicsOfNamespace, LookupTopic, Subscribe}
 use Rattle.pulsar_producer.specs.Wanted.{ProducerWanted}
-use Rattle.pulsar_session.specs.Failures.{Io, Canceled, Disconnected, Shutdown}
+use Rattle.pulsar_wire.specs.Failures.{Io, Canceled, Disconnected, Shutdown}
 use Rattle.pulsar_session.specs.Link.{bare, message_of}
 use Rattle.pulsar_tables.specs.Address.{base_in}
 use Rattle.pulsar_calls.specs.declared.effect.Settlement.TheVariants as settlement

@@ -5,9 +5,9 @@ use Rattle.pulsar_wire.specs.Command.{BodyValues}
 use Rattle.pulsar_wire.specs.declared.key.RequestKey.{RequestKey}
 use Rattle.pulsar_frame.specs.Message.{MessageValues}
 use Rattle.pulsar_frame.specs.Key.{key}
-use Rattle.pulsar_session.specs.Reply as session
-pub use Rattle.pulsar_session.specs.Reply.{Written, is_body, written}
-use Rattle.pulsar_link.specs.Items.{Item, items_in, weight_in}
+use Rattle.pulsar_frame.specs.Reply as session
+pub use Rattle.pulsar_frame.specs.Reply.{Written, is_body, written}
+use Rattle.pulsar_frame.specs.Items.{Item, items_in, weight_in}
 
 -- what is read in it, what it gives to a consumer, and how many permits that costs
 pub record Reply : Type 0 where

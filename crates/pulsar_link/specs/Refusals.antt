@@ -3,7 +3,7 @@ use Rattle.std.specs.Prelude.{Option, Some, None, codes, ◌==◌, if◌then◌e
 use Rattle.pulsar_wire.specs.Field.{◌>>=◌}
 use Rattle.pulsar_wire.specs.Enumerations.{error_of}
 use Rattle.pulsar_wire.specs.Command.{body_name}
-use Rattle.pulsar_session.specs.Failures.{Fault, PulsarError, UnexpectedResponse}
+use Rattle.pulsar_wire.specs.Failures.{Fault, PulsarError, UnexpectedResponse}
 use Rattle.pulsar_link.specs.Messages.{Reply, Written}
 
 -- why a reply fails a request that expects another body: the broker's error with its text, or the name of the body

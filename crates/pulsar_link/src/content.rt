@@ -4,7 +4,7 @@
 ghost use Rattle.std.specs.Prelude.{◌≡◌, ℕ, List, IfOk, string_bytes};
 ghost use Rattle.pulsar_frame.specs.Shown.{message_values};
 ghost use Rattle.pulsar_link.specs.Messages.{Reply, is_body, read};
-ghost use Rattle.pulsar_session.specs.Failures.{fault};
+ghost use Rattle.pulsar_wire.specs.Failures.{fault};
 ghost use Rattle.pulsar_link.specs.Refusals.{refused};
 ghost use Rattle.pulsar_messages.specs.Words.{CloseConsumerUnawaited};
 ghost use Rattle.pulsar_link.specs.RawCall.{subscribed_by, words_in, words_of};
@@ -243,7 +243,7 @@ impl Drop for Received {
 impl Model for Received {
     ghost use Rattle.pulsar_frame.specs.Shown.{message_values};
     ghost use Rattle.pulsar_link.specs.Messages.{Reply, read};
-    ghost use Rattle.pulsar_session.specs.FailureCode.{failure_code};
+    ghost use Rattle.pulsar_wire.specs.FailureCode.{failure_code};
     ghost use Rattle.std.specs.Coded.{codes};
 
     ghost Value = { Reply };
@@ -296,10 +296,10 @@ impl Received {
     }
 
     /// What is read in it, but for what it gives to a consumer.
-    pub fn into_reply(self, alloc: Global) -> Result<pulsar_session::Received, NoMemory>
+    pub fn into_reply(self, alloc: Global) -> Result<pulsar_frame::received::Received, NoMemory>
         ensures { IfOk result (λ r. r ≡ self.content) }
     {
-        pulsar_session::Received::new(alloc, self.into_message())
+        pulsar_frame::received::Received::new(alloc, self.into_message())
     }
 
     /// The message, still in its box.

@@ -3,7 +3,6 @@
 
 pub mod ask;
 pub mod content;
-pub mod items;
 pub mod raw_call;
 pub mod refusal;
 

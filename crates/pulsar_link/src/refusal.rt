@@ -2,7 +2,7 @@
 
 ghost use Rattle.std.specs.Prelude.{◌≡◌, [], None, Some, IfOk};
 ghost use Rattle.pulsar_wire.specs.Views.{body_values};
-ghost use Rattle.pulsar_session.specs.Failures.{UnexpectedResponse, fault};
+ghost use Rattle.pulsar_wire.specs.Failures.{UnexpectedResponse, fault};
 ghost use Rattle.pulsar_link.specs.Messages.{read_body, written};
 ghost use Rattle.pulsar_link.specs.Refusals.{refused};
 

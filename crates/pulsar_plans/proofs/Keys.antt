@@ -8,7 +8,7 @@ use Rattle.pulsar_wire.specs.declared.commands.base.Body.{Body}
 use Rattle.pulsar_frame.specs.Key.{key}
 use Rattle.pulsar_frame.specs.Shown.{message_values}
 use Rattle.pulsar_frame.specs.declared.message.Message.{Message}
-use Rattle.pulsar_session.specs.Reply.{Reply, read_body, reply}
+use Rattle.pulsar_frame.specs.Reply.{Reply, read_body, reply}
 use Rattle.pulsar_plans.specs.Replies.{count_in, place_heard, unexpected}
 use Rattle.pulsar_plans.specs.declared.turn.Ways.{Ways}
 

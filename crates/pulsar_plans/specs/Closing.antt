@@ -2,7 +2,7 @@
 -- commands that close them)
 use Rattle.std.specs.Prelude.{List, [], ◌∷◌, Result, Ok, Err}
 use Rattle.pulsar_messages.specs.Words.{Words, CloseConsumer, CloseProducer}
-use Rattle.pulsar_session.specs.Failures.{Failure}
+use Rattle.pulsar_wire.specs.Failures.{Failure}
 use Rattle.pulsar_plans.specs.declared.closing.Close.{Close}
 use Rattle.pulsar_plans.specs.declared.closing.Close.TheVariants.{Producer, Consumer}
 use Rattle.pulsar_plans.specs.declared.closing.Closing.{Closing}

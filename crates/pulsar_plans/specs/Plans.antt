@@ -7,8 +7,8 @@ use Rattle.pulsar_wire.specs.declared.commands.enumerations.ServerError.{ServerE
 use Rattle.pulsar_wire.specs.declared.commands.enumerations.ServerError.TheVariants.{ConsumerBusy, ServiceNotReady, ProducerBlockedQuotaExceededError, ProducerBlockedQuotaExceededException, ProducerBusy}
 use Rattle.pulsar_wire.specs.declared.error.IoKind.TheVariants.{TimedOut}
 use Rattle.pulsar_messages.specs.Words.{LookupPartitionedTopic, LookupTopic}
-use Rattle.pulsar_session.specs.Failures.{Fault, Io, PulsarError, Disconnected, Failure, OfConnection}
-use Rattle.pulsar_session.specs.Reply.{Reply, is_body}
+use Rattle.pulsar_wire.specs.Failures.{Fault, Io, PulsarError, Disconnected, Failure, OfConnection}
+use Rattle.pulsar_frame.specs.Reply.{Reply, is_body}
 use Rattle.pulsar_plans.specs.Address.{Place, Named}
 use Rattle.pulsar_plans.specs.Backoff.{allow_retry, one_more}
 use Rattle.pulsar_plans.specs.Replies.{count_in, in_discovery, place_heard, unexpected}

@@ -5,8 +5,8 @@ use Rattle.std.specs.Ordering.{int_eq}
 use Rattle.pulsar_wire.specs.Field.{◌>>=◌}
 use Rattle.pulsar_wire.specs.Command.{body_name}
 use Rattle.pulsar_wire.specs.Enumerations.{error_of}
-use Rattle.pulsar_session.specs.Failures.{Fault, PulsarError, UnexpectedResponse, Failure, OfDiscovery, DiscoveryConnection, Query, DiscoveryNotFound}
-use Rattle.pulsar_session.specs.Reply.{Reply, Written, is_body}
+use Rattle.pulsar_wire.specs.Failures.{Fault, PulsarError, UnexpectedResponse, Failure, OfDiscovery, DiscoveryConnection, Query, DiscoveryNotFound}
+use Rattle.pulsar_frame.specs.Reply.{Reply, Written, is_body}
 use Rattle.pulsar_plans.specs.Address.{Place, place_in}
 use Rattle.pulsar_plans.specs.Backoff.{allow_retry}
 use Rattle.pulsar_plans.specs.declared.replies.Heard.{Heard}

@@ -5,7 +5,7 @@ ghost use Rattle.std.specs.Option.{option_map};
 ghost use Rattle.pulsar_plans.specs.Address.{address_key, behind, is_reachable, named, place, place_in};
 ghost use Rattle.pulsar_plans.specs.Plans.{name_found};
 ghost use Rattle.pulsar_plans.specs.Replies.{in_discovery};
-ghost use Rattle.pulsar_session.specs.Failures.{OfConnection, failure, fault};
+ghost use Rattle.pulsar_wire.specs.Failures.{OfConnection, failure, fault};
 
 use crate::address::BrokerAddress;
 use pulsar_wire::error::{ConnectionError, Error, NoMemory, ServiceDiscoveryError};
@@ -171,7 +171,7 @@ impl Drop for Cause {
 }
 
 impl Model for Cause {
-    ghost use Rattle.pulsar_session.specs.Failures.{Fault, fault};
+    ghost use Rattle.pulsar_wire.specs.Failures.{Fault, fault};
 
     ghost Value = { Fault };
 
@@ -208,8 +208,8 @@ impl Drop for Refusal {
 }
 
 impl Model for Refusal {
-    ghost use Rattle.pulsar_session.specs.Failures.{Failure, failure};
-    ghost use Rattle.pulsar_session.specs.FailureCode.{failure_code};
+    ghost use Rattle.pulsar_wire.specs.Failures.{Failure, failure};
+    ghost use Rattle.pulsar_wire.specs.FailureCode.{failure_code};
     ghost use Rattle.std.specs.Coded.{codes};
 
     ghost Value = { Failure };

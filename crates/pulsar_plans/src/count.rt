@@ -1,7 +1,7 @@
 //! How many partitions a topic has.
 
 ghost use Rattle.std.specs.Prelude.{◌≡◌, IfOk};
-ghost use Rattle.pulsar_session.specs.Failures.{fault};
+ghost use Rattle.pulsar_wire.specs.Failures.{fault};
 ghost use Rattle.pulsar_plans.specs.Plans as meaning;
 ghost use Rattle.pulsar_plans.specs.Replies.{in_discovery};
 

@@ -1,7 +1,7 @@
 //! A command that is asked until it succeeds: a producer or a subscription is made.
 
 ghost use Rattle.std.specs.Prelude.{◌≡◌, ◌+◌, Ok, Err, IfOk, MatchResult};
-ghost use Rattle.pulsar_session.specs.Failures.{OfConnection, fault};
+ghost use Rattle.pulsar_wire.specs.Failures.{OfConnection, fault};
 ghost use Rattle.pulsar_plans.specs.Backoff.{one_more};
 ghost use Rattle.pulsar_plans.specs.Plans as meaning;
 
@@ -10,7 +10,7 @@ use crate::question::Request;
 use crate::replies::why_refused;
 use crate::retry::{self, Retrying};
 use crate::turn::{Action, Outcome, Turn, Ways, error_of};
-use pulsar_session::Received;
+use pulsar_frame::received::Received;
 use pulsar_wire::error::{ConnectionError, NoMemory};
 use std::alloc::Global;
 

@@ -3,14 +3,14 @@
 ghost use Rattle.std.specs.Prelude.{◌≡◌, ◌||◌, None, Some, IfOk, string_bytes};
 ghost use Rattle.std.specs.Option.{option_map};
 ghost use Rattle.pulsar_wire.specs.Views.{body_values};
-ghost use Rattle.pulsar_session.specs.Failures.{OfDiscovery, DiscoveryNotFound, UnexpectedResponse, fault};
-ghost use Rattle.pulsar_session.specs.Reply.{read_body, written};
+ghost use Rattle.pulsar_wire.specs.Failures.{OfDiscovery, DiscoveryNotFound, UnexpectedResponse, fault};
+ghost use Rattle.pulsar_frame.specs.Reply.{read_body, written};
 ghost use Rattle.pulsar_plans.specs.Replies as meaning;
 
 use crate::content::{Address, Refusal};
 use crate::options::allow_retry;
 use crate::turn::Ways;
-use pulsar_session::Received;
+use pulsar_frame::received::Received;
 use pulsar_wire::commands::base::Body;
 use pulsar_wire::commands::connection::CommandError;
 use pulsar_wire::commands::enumerations::server_error;

@@ -1,7 +1,7 @@
 //! A retry of a command: a wait, and then the search for its broker.
 
 ghost use Rattle.std.specs.Prelude.{◌≡◌, IfOk};
-ghost use Rattle.pulsar_session.specs.Failures.{OfConnection, fault};
+ghost use Rattle.pulsar_wire.specs.Failures.{OfConnection, fault};
 ghost use Rattle.pulsar_plans.specs.Plans as meaning;
 ghost use Rattle.pulsar_plans.specs.declared.turn.Turn.TheVariants.{Gives};
 

@@ -1,12 +1,12 @@
 //! What plans are told, and what they do.
 
 ghost use Rattle.std.specs.Prelude.{◌≡◌, IfOk};
-ghost use Rattle.pulsar_session.specs.Failures.{fault};
+ghost use Rattle.pulsar_wire.specs.Failures.{fault};
 ghost use Rattle.pulsar_plans.specs.Plans.{fault_of, is_lost};
 
 use crate::content::{Address, Cause};
 use crate::question::Request;
-use pulsar_session::Received;
+use pulsar_frame::received::Received;
 use pulsar_wire::error::{ConnectionError, NoMemory};
 use std::alloc::Global;
 

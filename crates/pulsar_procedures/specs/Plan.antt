@@ -6,8 +6,8 @@ use Rattle.std.specs.Option.{option_to_list}
 use Rattle.pulsar_wire.specs.declared.error.IoKind.TheVariants as io_kind
 use Rattle.pulsar_messages.specs.Words.{Words}
 use Rattle.pulsar_messages.specs.Words as words
-use Rattle.pulsar_session.specs.Failures.{Failure, Fault, Io, Disconnected, Encoding, Canceled, Shutdown, OfConnection, OfProducer, NotFound, Custom, OfConsumer, ConsumerClosed, ProducerClosed, ProducerCustom}
-use Rattle.pulsar_session.specs.Reply as session
+use Rattle.pulsar_wire.specs.Failures.{Failure, Fault, Io, Disconnected, Encoding, Canceled, Shutdown, OfConnection, OfProducer, NotFound, Custom, OfConsumer, ConsumerClosed, ProducerClosed, ProducerCustom}
+use Rattle.pulsar_frame.specs.Reply as session
 use Rattle.pulsar_link.specs.Messages.{Reply, Written, is_body}
 use Rattle.pulsar_link.specs.Refusals.{refused}
 use Rattle.pulsar_link.specs.Request.{Subscribed, answer_of, is_answered, request_number, subscribed}

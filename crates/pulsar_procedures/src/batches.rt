@@ -4,7 +4,7 @@ ghost use Rattle.std.specs.Prelude.{◌≡◌, IfOk, Ok, map};
 ghost use Rattle.pulsar_producer.specs.Batching as meaning;
 ghost use Rattle.pulsar_procedures.specs.Plan.{batches_on, in_stored, in_storing, news_of, settled, told_batch, told_of, told_to};
 ghost use Rattle.pulsar_procedures.specs.Plan as plan;
-ghost use Rattle.pulsar_session.specs.Failures.{OfConnection, fault};
+ghost use Rattle.pulsar_wire.specs.Failures.{OfConnection, fault};
 
 use crate::plan::{Plan, Turn, error_of, fails, left, overrides};
 use crate::producing::{action_of, news_of};

@@ -2,7 +2,7 @@
 
 ghost use Rattle.std.specs.Prelude.{◌≡◌, IfOk};
 ghost use Rattle.pulsar_messages.specs.Words.{CloseConsumer};
-ghost use Rattle.pulsar_session.specs.Failures.{ConsumerClosed, OfConsumer};
+ghost use Rattle.pulsar_wire.specs.Failures.{ConsumerClosed, OfConsumer};
 ghost use Rattle.pulsar_procedures.specs.Plan.{acknowledges, departs, fails_with, in_departing};
 
 use crate::plan::{Plan, Turn, asks, error_of, fails, left};

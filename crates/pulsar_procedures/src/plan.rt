@@ -1,7 +1,7 @@
 //! Plans, as machines over their outcomes.
 
 ghost use Rattle.std.specs.Prelude.{◌≡◌, IfOk};
-ghost use Rattle.pulsar_session.specs.Failures.{Custom, OfProducer, ProducerCustom, failure, fault};
+ghost use Rattle.pulsar_wire.specs.Failures.{Custom, OfProducer, ProducerCustom, failure, fault};
 ghost use Rattle.pulsar_procedures.specs.Plan.{asks, begins, failure_of, fails, fails_with, fault_of, makes, makes_of, overrides, replied, stands, told, verdict, waits};
 ghost use Rattle.pulsar_calls.specs.Content.{Done, Failed};
 

@@ -20,7 +20,7 @@ use pulsar_plans::making::Served;
 use pulsar_plans::plan::{self, Answer as Found, Plan as Search, Procedure as Sought};
 use pulsar_plans::question::{Question, Request as Wanted};
 use pulsar_plans::turn::{Action as Wish, Outcome as News, Turn as SearchTurn, Ways};
-use pulsar_session::Received;
+use pulsar_frame::received::Received;
 use pulsar_wire::error::{ConnectionError, NoMemory};
 use std::alloc::Global;
 

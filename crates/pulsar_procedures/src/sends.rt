@@ -22,7 +22,7 @@ use pulsar_plans::turn::Ways;
 use pulsar_producer::content::Outgoing;
 use pulsar_producer::deed::{Deed, Step};
 use pulsar_producer::sending::{self, Errand, Sending, Sent};
-use pulsar_session::Received;
+use pulsar_frame::received::Received;
 use pulsar_wire::commands::base::Body;
 use pulsar_wire::error::NoMemory;
 use std::alloc::Global;

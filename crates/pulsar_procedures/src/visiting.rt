@@ -1,7 +1,7 @@
 //! Calls that ask each topic producer of a producer, one after the other, each in its turn.
 
 ghost use Rattle.std.specs.Prelude.{◌≡◌, IfOk};
-ghost use Rattle.pulsar_session.specs.Failures.{fault};
+ghost use Rattle.pulsar_wire.specs.Failures.{fault};
 ghost use Rattle.pulsar_link.specs.Request.{request_number};
 ghost use Rattle.pulsar_procedures.specs.Plan.{asks_of, failure_in, fails_in, goes_round, in_asking, in_awaiting, in_finding, in_passing, in_settling, in_turning, is_settled, quits, stays_at, told, told_at, visits};
 ghost use Rattle.pulsar_procedures.specs.declared.plan.Plan.TheVariants.{Shutting, Visiting};

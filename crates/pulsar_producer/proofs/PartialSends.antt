@@ -5,7 +5,7 @@ use Rattle.std.specs.Global.{Vec}
 use Rattle.pulsar_wire.specs.declared.error.Error.{Error}
 use Rattle.pulsar_wire.specs.declared.error.ProducerError.{ProducerError, Ok', Err', Row_of-ProducerError-PartialSend-0-2 as Row, end_of-ProducerError-PartialSend-0-2 as end_of, more_of-ProducerError-PartialSend-0-2 as more_of, items-the_row-ProducerError-PartialSend-0-2 as items, items_hidden-the_row-ProducerError-PartialSend-0-2-0 as items_hidden}
 use Rattle.pulsar_wire.specs.declared.error.ProducerError.TheVariants as producer
-use Rattle.pulsar_session.specs.Failures.{OfPartialSend, NoMore, Sent, Went, Failed, all_sent, failure, of_producer, sent}
+use Rattle.pulsar_wire.specs.Failures.{OfPartialSend, NoMore, Sent, Went, Failed, all_sent, failure, of_producer, sent}
 
 pub sent_behind : (xs ys zs : List (Result ℕ Error)) → sent ys ≡ sent zs → sent (xs ++ ys) ≡ sent (xs ++ zs)
 sent_behind [] ys zs same = same

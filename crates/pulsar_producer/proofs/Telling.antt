@@ -6,8 +6,8 @@ use Rattle.std.specs.Option.{option_map}
 use Rattle.pulsar_frame.specs.Batch.{EntryValues}
 use Rattle.pulsar_messages.specs.Content.{ProducerMessageValues}
 use Rattle.pulsar_wire.specs.declared.error.Reason.{Reason}
-use Rattle.pulsar_session.specs.Failures.{Fault, Failure}
-use Rattle.pulsar_session.specs.Reply.{Reply}
+use Rattle.pulsar_wire.specs.Failures.{Fault, Failure}
+use Rattle.pulsar_frame.specs.Reply.{Reply}
 use Rattle.pulsar_plans.specs.Address.{Place}
 use Rattle.pulsar_plans.specs.Plans.{is_lost, look_begins, look_told, made_gets, made_told, verdict}
 use Rattle.pulsar_plans.specs.declared.look.Looking.{Looking}

@@ -8,8 +8,8 @@ use Rattle.pulsar_wire.specs.declared.error.Reason.TheVariants as reason
 use Rattle.pulsar_frame.specs.Batch.{◌▸◌, EntryValues, batch_bytes}
 use Rattle.pulsar_messages.specs.Content.{ProducerMessageValues, empty_message}
 use Rattle.pulsar_messages.specs.Messages.{properties_values}
-use Rattle.pulsar_session.specs.Failures.{Failure, OfBatch, Encoding, Disconnected}
-use Rattle.pulsar_session.specs.Reply.{Reply}
+use Rattle.pulsar_wire.specs.Failures.{Failure, OfBatch, Encoding, Disconnected}
+use Rattle.pulsar_frame.specs.Reply.{Reply}
 use Rattle.pulsar_producer.specs.Errors.{in_producer}
 use Rattle.pulsar_producer.specs.Storage.{Item, SingleMessage, Flush}
 use Rattle.pulsar_producer.specs.declared.batch.Fate.{Fate}

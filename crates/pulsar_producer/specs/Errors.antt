@@ -1,6 +1,6 @@
 -- Errors of producers.
 use Rattle.std.specs.Prelude.{◌≡◌, codes}
-use Rattle.pulsar_session.specs.Failures.{Fault, NoMemory, Failure, OfConnection, OfProducer, ProducerConnection, ProducerCustom}
+use Rattle.pulsar_wire.specs.Failures.{Fault, NoMemory, Failure, OfConnection, OfProducer, ProducerConnection, ProducerCustom}
 
 abbrev pub IsNoMemory : Failure → Type 0
 IsNoMemory f = f ≡ OfConnection NoMemory

@@ -2,8 +2,8 @@
 -- gives its value. A line is a rule.  (Pulsar binary protocol, Producer)
 use Rattle.std.specs.Prelude.{ℕ, Bool, ◌&&◌, not, List, [], ◌∷◌, ◌++◌, Option, Some, None, Result, Ok, Err, if◌then◌else◌}
 use Rattle.pulsar_messages.specs.Content.{ProducerMessageValues}
-use Rattle.pulsar_session.specs.Failures.{Fault, Disconnected, Failure, OfConnection}
-use Rattle.pulsar_session.specs.Reply.{Reply}
+use Rattle.pulsar_wire.specs.Failures.{Fault, Disconnected, Failure, OfConnection}
+use Rattle.pulsar_frame.specs.Reply.{Reply}
 use Rattle.pulsar_plans.specs.Address.{Named, Place}
 use Rattle.pulsar_plans.specs.Plans.{fault_of, is_lost, look_begins, look_told, made_gets, made_told, names_begins, names_told, verdict}
 use Rattle.pulsar_plans.specs.declared.look.Looking.{Looking}

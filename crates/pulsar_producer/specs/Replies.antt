@@ -1,6 +1,6 @@
 -- What a broker says of a producer that it has made.  (PulsarApi.proto, CommandProducerSuccess)
 use Rattle.std.specs.Prelude.{[], None, unwrap_or}
-use Rattle.pulsar_session.specs.Reply.{Reply}
+use Rattle.pulsar_frame.specs.Reply.{Reply}
 use Rattle.pulsar_producer.specs.declared.replies.Given.{Given}
 
 -- its name, and the version of its schema

@@ -3,7 +3,7 @@
 ghost use Rattle.std.specs.Prelude.{◌≡◌, [], ◌∷◌, ◌++◌, IfOk, Some, None, map, length};
 ghost use Rattle.pulsar_frame.specs.Batch.{batch_bytes, entry_bytes, entry_values};
 ghost use Rattle.pulsar_messages.specs.Content.{message_content};
-ghost use Rattle.pulsar_session.specs.Reply.{receipt_in};
+ghost use Rattle.pulsar_frame.specs.Reply.{receipt_in};
 ghost use Rattle.pulsar_wire.specs.Views.{body_values, message_id_values, send_receipt_values};
 ghost use Rattle.pulsar_producer.specs.Batch as meaning;
 ghost use Rattle.pulsar_producer.specs.Storage.{item_of};
@@ -15,7 +15,7 @@ use crate::storage::BatchItem;
 use pulsar_frame::batch::BatchedMessage;
 use pulsar_messages::{Message, ProducerMessage, into_properties};
 use pulsar_plans::content::Refusal;
-use pulsar_session::Received;
+use pulsar_frame::received::Received;
 use pulsar_wire::commands::base::Body;
 use pulsar_wire::commands::ids::MessageIdData;
 use pulsar_wire::commands::metadata::SingleMessageMetadata;

@@ -1,7 +1,7 @@
 //! Errors once more.
 
 ghost use Rattle.std.specs.Prelude.{◌≡◌, IfOk};
-ghost use Rattle.pulsar_session.specs.Failures.{OfConsumer, OfDiscovery, consumer_fault, discovery_fault, failure, fault, of_producer, sent};
+ghost use Rattle.pulsar_wire.specs.Failures.{OfConsumer, OfDiscovery, consumer_fault, discovery_fault, failure, fault, of_producer, sent};
 
 use pulsar_plans::content::Refusal;
 use pulsar_wire::encoding::copying::copy_optional;

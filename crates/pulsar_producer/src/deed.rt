@@ -1,7 +1,7 @@
 //! What the plans of producers do, and what they are told.
 
 ghost use Rattle.std.specs.Prelude.{◌≡◌, IfOk};
-ghost use Rattle.pulsar_session.specs.Failures.{fault};
+ghost use Rattle.pulsar_wire.specs.Failures.{fault};
 ghost use Rattle.pulsar_producer.specs.Errors.{in_producer};
 ghost use Rattle.pulsar_producer.specs.Plans.{fault_told};
 

@@ -3,7 +3,7 @@
 ghost use Rattle.std.specs.Prelude.{◌≡◌, ◌⊎◌, map, Some, None, IfOk, MatchResult, string_bytes};
 ghost use Rattle.std.specs.Option.{option_map};
 ghost use Rattle.pulsar_messages.specs.Content.{message_content, producer_options_values};
-ghost use Rattle.pulsar_session.specs.Failures.{failure};
+ghost use Rattle.pulsar_wire.specs.Failures.{failure};
 ghost use Rattle.pulsar_producer.specs.Errors.{IsNoMemory, no_such_index};
 ghost use Rattle.pulsar_producer.specs.Producer.{advice, after, is_single, made, names, number_for, number_on, topic_of};
 

@@ -1,13 +1,13 @@
 //! What a broker says of a producer that it has made.
 
 ghost use Rattle.std.specs.Prelude.{◌≡◌, IfOk};
-ghost use Rattle.pulsar_session.specs.Reply.{read_body};
+ghost use Rattle.pulsar_frame.specs.Reply.{read_body};
 ghost use Rattle.pulsar_wire.specs.Views.{body_values};
 ghost use Rattle.pulsar_producer.specs.Replies as meaning;
 
 use crate::content::Version;
 use pulsar_plans::content::Text;
-use pulsar_session::Received;
+use pulsar_frame::received::Received;
 use pulsar_wire::commands::base::Body;
 use pulsar_wire::commands::producer::CommandProducerSuccess;
 use pulsar_wire::error::NoMemory;

@@ -3,7 +3,7 @@
 ghost use Rattle.std.specs.Prelude.{◌≡◌, ◌<◌, ◌⊎◌, ℕ, map, Some, None, IfOk, MatchResult, slice_get, string_bytes};
 ghost use Rattle.std.specs.Option.{option_map};
 ghost use Rattle.pulsar_messages.specs.Content.{ProducerMessageValues, message_content};
-ghost use Rattle.pulsar_session.specs.Failures.{failure};
+ghost use Rattle.pulsar_wire.specs.Failures.{failure};
 ghost use Rattle.pulsar_producer.specs.Errors.{IsNoMemory, no_such_index};
 ghost use Rattle.pulsar_producer.specs.Routing.{advice, asked, begun, chosen, chosen_on, count, in_range, last_by_key, number_at, of_key, routed, stepped};
 

@@ -1,7 +1,7 @@
 //! A send: its turn, its number, its frame, its receipt.
 
 ghost use Rattle.std.specs.Prelude.{◌≡◌, IfOk};
-ghost use Rattle.pulsar_session.specs.Failures.{fault};
+ghost use Rattle.pulsar_wire.specs.Failures.{fault};
 ghost use Rattle.pulsar_plans.specs.Plans.{verdict};
 ghost use Rattle.pulsar_producer.specs.Batching.{is_sent_send};
 ghost use Rattle.pulsar_producer.specs.Errors.{in_producer};
@@ -14,7 +14,7 @@ use pulsar_plans::content::{Address, Refusal};
 use pulsar_plans::look::{self, Looking};
 use pulsar_plans::making::{self, Command, Making, Served, verdict};
 use pulsar_plans::turn::{Outcome, Turn, Ways, is_lost};
-use pulsar_session::Received;
+use pulsar_frame::received::Received;
 use pulsar_wire::error::{ConnectionError, NoMemory};
 use std::alloc::Global;
 

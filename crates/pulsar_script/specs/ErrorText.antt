@@ -8,12 +8,12 @@ use Rattle.pulsar_wire.specs.declared.error.IoKind.{IoKind}
 use Rattle.pulsar_wire.specs.declared.error.IoKind.TheVariants as io
 use Rattle.pulsar_wire.specs.declared.error.Reason.{Reason}
 use Rattle.pulsar_wire.specs.declared.error.Reason.TheVariants as reason
-use Rattle.pulsar_session.specs.Failures.{Fault, Io, SlowDown, Disconnected, PulsarError, Unexpected, Decoding, Encoding, SocketAddr, UnexpectedResponse, Authentication, NotFound, Canceled, Shutdown, Exhausted, NoMemory}
-use Rattle.pulsar_session.specs.Failures.{ConsumerFault, ConsumerConnection, MissingPayload, ConsumerIo, ChannelFull, ConsumerClosed, ConsumerBuild}
-use Rattle.pulsar_session.specs.Failures.{DiscoveryFault, DiscoveryConnection, Query, DiscoveryNotFound, DnsLookup, DiscoveryCanceled, DiscoveryShutdown, Dummy}
-use Rattle.pulsar_session.specs.Failures.{ProducerFault, ProducerConnection, ProducerCustom, ProducerIo, Fenced, ProducerClosed}
-use Rattle.pulsar_session.specs.Failures as failures
-use Rattle.pulsar_session.specs.Failures.{Failure, OfConnection, OfConsumer, OfProducer, OfBatch, OfPartialSend, OfDiscovery, OfAuthentication, Executor, Sent, NoMore, Went, Failed}
+use Rattle.pulsar_wire.specs.Failures.{Fault, Io, SlowDown, Disconnected, PulsarError, Unexpected, Decoding, Encoding, SocketAddr, UnexpectedResponse, Authentication, NotFound, Canceled, Shutdown, Exhausted, NoMemory}
+use Rattle.pulsar_wire.specs.Failures.{ConsumerFault, ConsumerConnection, MissingPayload, ConsumerIo, ChannelFull, ConsumerClosed, ConsumerBuild}
+use Rattle.pulsar_wire.specs.Failures.{DiscoveryFault, DiscoveryConnection, Query, DiscoveryNotFound, DnsLookup, DiscoveryCanceled, DiscoveryShutdown, Dummy}
+use Rattle.pulsar_wire.specs.Failures.{ProducerFault, ProducerConnection, ProducerCustom, ProducerIo, Fenced, ProducerClosed}
+use Rattle.pulsar_wire.specs.Failures as failures
+use Rattle.pulsar_wire.specs.Failures.{Failure, OfConnection, OfConsumer, OfProducer, OfBatch, OfPartialSend, OfDiscovery, OfAuthentication, Executor, Sent, NoMore, Went, Failed}
 use Rattle.pulsar_script.specs.WordText.{word}
 
 abbrev pub io_kind : IoKind → List ℕ

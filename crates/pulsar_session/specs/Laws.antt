@@ -20,7 +20,7 @@ use Rattle.pulsar_session.specs.declared.states.Asked.TheVariants.{Queued}
 use Rattle.pulsar_session.specs.declared.states.Stage.{Stage}
 use Rattle.pulsar_session.specs.declared.states.Stage.TheVariants.{Dialing, Handshaking, Ready, Over}
 use Rattle.pulsar_session.specs.Answers.{answers, is}
-use Rattle.pulsar_session.specs.Failures.{Fault}
+use Rattle.pulsar_wire.specs.Failures.{Fault}
 use Rattle.pulsar_session.specs.Link.{Act, Opens, Feeds, Takes, Asks, Drains, Closes, Came, Nothing, Readied, Settles, Gives, Challenged, Dropped, Bad, Seen, Setup, Standing, after, asked, came, came_by, can_wait, claim, drawn, due, ends, fits, frame_at, fresh, has_room, is_open, is_over, is_ready, is_spent, message_of, seen, settled_by, ticked, unready_in, written}
 
 -- HISTORIES

@@ -27,7 +27,7 @@ use Rattle.pulsar_session.specs.declared.states.Stage.TheVariants.{Dialing, Hand
 use Rattle.pulsar_session.specs.declared.states.Asked.{Asked}
 use Rattle.pulsar_session.specs.declared.states.Asked.TheVariants.{Queued, Waiting}
 use Rattle.pulsar_session.specs.Answers.{answers, awaited_by, is}
-use Rattle.pulsar_session.specs.Failures.{Fault, Io, Decoding}
+use Rattle.pulsar_wire.specs.Failures.{Fault, Io, Decoding}
 
 -- WHAT IS DONE TO A CONNECTION: an act for each public call that changes it
 

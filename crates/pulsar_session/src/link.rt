@@ -8,7 +8,7 @@ ghost use Rattle.pulsar_frame.specs.Frame.{front};
 ghost use Rattle.pulsar_messages.specs.Content.{authentication_values};
 ghost use Rattle.pulsar_requests.specs.Waits.{places};
 ghost use Rattle.pulsar_session.specs.Answers.{answers};
-ghost use Rattle.pulsar_session.specs.Failures.{fault};
+ghost use Rattle.pulsar_wire.specs.Failures.{fault};
 ghost use Rattle.pulsar_session.specs.Kept.{OnAnswer, arrival_of, arrives, contents, setup_of, table};
 ghost use Rattle.pulsar_session.specs.Link.{answered, answered_to, asks_for, came, came_by, came_in, challenged, closes, drained, drawn, due, ends, feeds, frame_at, frame_for, fresh, greeting, greets_with, has_room, is_late, is_open, is_over, is_ready, moved_up, named_by, number_for, opens_in, place_of, put_frame, pongs, put_in, queue, reacts, received, responds, settled_by, taken_in, ticked, written};
 ghost use Rattle.pulsar_session.specs.Soonest.{due_at};

@@ -7,7 +7,7 @@ use Rattle.std.specs.Global.{Vec}
 use Rattle.std.specs.Option.{is_none, option_map}
 use Rattle.std.specs.Ordering.{nat_cmp}
 use Rattle.pulsar_requests.specs.Soonest.{has_come}
-use Rattle.pulsar_session.specs.Failures.{Fault}
+use Rattle.pulsar_wire.specs.Failures.{Fault}
 use Rattle.pulsar_session.specs.Link.{due}
 use Rattle.pulsar_plans.specs.Address.{Place, address_key}
 use Rattle.pulsar_calls.specs.declared.act.Alarm.{Alarm}

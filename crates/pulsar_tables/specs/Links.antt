@@ -8,7 +8,7 @@ use Rattle.pulsar_messages.specs.Words.{SendPing}
 use Rattle.pulsar_requests.specs.Waits.{is_overdue}
 use Rattle.pulsar_session.specs.declared.states.Stage.{Stage}
 use Rattle.pulsar_session.specs.declared.states.Stage.TheVariants.{Dialing, Handshaking, Ready, Over}
-use Rattle.pulsar_session.specs.Failures.{Fault, Io, Disconnected}
+use Rattle.pulsar_wire.specs.Failures.{Fault, Io, Disconnected}
 use Rattle.pulsar_session.specs.Link as session
 use Rattle.pulsar_session.specs.Link.{Act, Asks, Takes, Closes, Came, Seen, came, due, ends, frame_at, written}
 use Rattle.pulsar_link.specs.Messages.{read}

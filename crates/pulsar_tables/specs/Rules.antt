@@ -12,7 +12,7 @@ use Rattle.pulsar_messages.specs.Words as words
 use Rattle.pulsar_messages.specs.Words.{Words}
 use Rattle.pulsar_session.specs.declared.states.Asked.{Asked}
 use Rattle.pulsar_session.specs.declared.states.Asked.TheVariants as asked
-use Rattle.pulsar_session.specs.Failures.{Fault, Disconnected, Exhausted, fault}
+use Rattle.pulsar_wire.specs.Failures.{Fault, Disconnected, Exhausted, fault}
 use Rattle.pulsar_session.specs.Link as session
 use Rattle.pulsar_session.specs.Link.{Came, Seen, came, due, ends, is_ready}
 use Rattle.pulsar_link.specs.Messages.{read}

@@ -19,3 +19,5 @@ pub mod Written
 pub mod Equality
 pub mod Run
 pub mod CommandMerge
+pub mod Failures
+pub mod FailureCode

@@ -13,7 +13,7 @@ use Rattle.std.proofs.Math.Seq.{take-suc}
 use Rattle.std.proofs.lemmas.Grind.{flat_map-append}
 use Rattle.std.proofs.lemmas.List.{map-append}
 use Rattle.std.proofs.lemmas.List.Folds.{list_any-append}
-use Rattle.pulsar_session.specs.Failures.{Failure}
+use Rattle.pulsar_wire.specs.Failures.{Failure}
 use Rattle.pulsar_calls.specs.Content.{Asked, Ack, Shown, Connect, Queued, Write, Retry, Close, Settles, Ends, Hands, Faults, FindsNothing, FindsEnd, Said, Done, Names, Address, Count, Addresses, Receipt, Sends, Replies, Failed, answered, shown}
 use Rattle.pulsar_calls.specs.declared.effect.Answer.{Answer}
 use Rattle.pulsar_calls.specs.declared.effect.Answer.TheVariants as answer

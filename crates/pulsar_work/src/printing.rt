@@ -7,7 +7,7 @@ ghost use Rattle.std.specs.Option.{option_map};
 ghost use Rattle.pulsar_wire.specs.Row.{spelling};
 ghost use Rattle.pulsar_wire.specs.Rows.{send_receipt};
 ghost use Rattle.pulsar_wire.specs.Views.{message_id_values, send_receipt_values};
-ghost use Rattle.pulsar_session.specs.Failures.{failure};
+ghost use Rattle.pulsar_wire.specs.Failures.{failure};
 ghost use Rattle.pulsar_calls.specs.Content.{shown};
 ghost use Rattle.pulsar_script.specs.ErrorText as printed;
 ghost use Rattle.pulsar_script.specs.Text.{line};

@@ -2,7 +2,7 @@
 
 ghost use Rattle.std.specs.Prelude.{◌≡◌, ◌↔◌, ◌+◌, ◌<◌, ◌≤◌, ◌++◌, ◌∷◌, [], ℕ, Bool, true, false, List, None, Some, Ok, IfOk, IsTrue, OnOk, length, map, slice_get, string_bytes};
 ghost use Rattle.pulsar_calls.specs.Content.{Asked, Connect, Ends, Said, Shown, hands, shown};
-ghost use Rattle.pulsar_session.specs.Failures.{Failure};
+ghost use Rattle.pulsar_wire.specs.Failures.{Failure};
 ghost use Rattle.pulsar_work.specs.Calls.{ack_of, is_failure, item_of};
 ghost use Rattle.pulsar_work.specs.Report.{error_of};
 ghost use Rattle.pulsar_work.specs.Progress.{Knows, links_of, owed_ack, wanted_in, wanted_of};

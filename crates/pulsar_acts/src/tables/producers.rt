@@ -3,7 +3,7 @@
 ghost use Rattle.std.specs.Prelude.{◌≡◌, ◌++◌, OnOk, map};
 ghost use Rattle.std.specs.Option.{option_map, option_to_list};
 ghost use Rattle.pulsar_run.specs.Order.{put_all};
-ghost use Rattle.pulsar_session.specs.Failures.{fault};
+ghost use Rattle.pulsar_wire.specs.Failures.{fault};
 ghost use Rattle.pulsar_tables.specs.Reading.{tells};
 ghost use Rattle.pulsar_tables.specs.Rules.{below, grants, turn_notice};
 ghost use Rattle.pulsar_agenda.specs.Run.{goes_on};

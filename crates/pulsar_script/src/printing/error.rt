@@ -3,7 +3,7 @@
 ghost use Rattle.std.specs.Prelude.{◌≡◌, ◌∷◌, ◌++◌, OnOk, string_bytes};
 ghost use Rattle.std.specs.Option.{option_map};
 ghost use Rattle.pulsar_wire.specs.Authentication.{denial};
-ghost use Rattle.pulsar_session.specs.Failures.{OfConsumer, OfDiscovery, OfPartialSend, consumer_fault, discovery_fault, failure, fault, of_producer, sent as what_became};
+ghost use Rattle.pulsar_wire.specs.Failures.{OfConsumer, OfDiscovery, OfPartialSend, consumer_fault, discovery_fault, failure, fault, of_producer, sent as what_became};
 ghost use Rattle.pulsar_script.specs.ErrorText as printed;
 ghost use Rattle.pulsar_script.specs.WordText.{word};
 

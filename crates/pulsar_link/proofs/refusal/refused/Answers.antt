@@ -4,7 +4,7 @@ use Rattle.pulsar_wire.specs.Command.{BodyValues, body_name}
 use Rattle.pulsar_wire.specs.declared.commands.base.Body.{Body}
 use Rattle.pulsar_wire.specs.declared.commands.base.Body.TheVariants.{Error}
 use Rattle.pulsar_wire.specs.declared.commands.connection.CommandError.{CommandError}
-use Rattle.pulsar_session.specs.Failures.{UnexpectedResponse, fault}
+use Rattle.pulsar_wire.specs.Failures.{UnexpectedResponse, fault}
 use Rattle.pulsar_link.specs.Messages.{read_body, written}
 use Rattle.pulsar_link.specs.Refusals.{refused}
 use Rattle.pulsar_link.proofs.refusal.refused.Goals as goal

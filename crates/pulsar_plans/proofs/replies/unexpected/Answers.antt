@@ -4,8 +4,8 @@ use Rattle.pulsar_wire.specs.Command.{BodyValues, body_name}
 use Rattle.pulsar_wire.specs.declared.commands.base.Body.{Body}
 use Rattle.pulsar_wire.specs.declared.commands.base.Body.TheVariants.{Error}
 use Rattle.pulsar_wire.specs.declared.commands.connection.CommandError.{CommandError}
-use Rattle.pulsar_session.specs.Failures.{UnexpectedResponse, fault}
-use Rattle.pulsar_session.specs.Reply.{read_body, written}
+use Rattle.pulsar_wire.specs.Failures.{UnexpectedResponse, fault}
+use Rattle.pulsar_frame.specs.Reply.{read_body, written}
 use Rattle.pulsar_plans.specs.Replies.{unexpected}
 use Rattle.pulsar_plans.proofs.replies.unexpected.Goals as goal
 

@@ -3,7 +3,7 @@ use Rattle.std.specs.Result.{IfOk}
 use Rattle.pulsar_wire.specs.Views.{body_values}
 use Rattle.pulsar_frame.specs.Key.{key}
 use Rattle.pulsar_frame.specs.Shown.{message_values}
-use Rattle.pulsar_link.specs.Items.{items_in, weight_in}
+use Rattle.pulsar_frame.specs.Items.{items_in, weight_in}
 use Rattle.pulsar_link.specs.Messages.{read_body, written}
 use Rattle.pulsar_procedures.specs.Plan.{answer_with}
 use Rattle.pulsar_procedures.proofs.Saying.{said_in}

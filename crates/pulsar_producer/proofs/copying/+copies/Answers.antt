@@ -2,7 +2,7 @@ use Rattle.std.proofs.Common.{rules, ◌≡◌, ◌∙◌, ◌++◌, ◌∷◌, 
 use Rattle.std.proofs.lemmas.Grind.{common_steps}
 use Rattle.std.proofs.lemmas.List.{take_more}
 use Rattle.std.specs.Prelude.{Err}
-use Rattle.pulsar_session.specs.Failures.{Failed, OfPartialSend, of_producer, sent}
+use Rattle.pulsar_wire.specs.Failures.{Failed, OfPartialSend, of_producer, sent}
 use Rattle.pulsar_producer.proofs.PartialSends.{partial_send, sent_behind}
 use Rattle.pulsar_producer.proofs.copying.+copies.Goals.{copy_partial-in-Ok, copy_partial-in-Err+in_ok-copy_error-in-Err}
 use Rattle.pulsar_producer.proofs.copying.+copies.Goals as goal

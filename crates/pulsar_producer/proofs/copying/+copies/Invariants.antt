@@ -1,7 +1,7 @@
 use Rattle.std.proofs.Common.{◌≡◌, ◌++◌, ℕ, List, take}
 use Rattle.std.specs.Prelude.{Result}
 use Rattle.pulsar_wire.specs.declared.error.Error.{Error}
-use Rattle.pulsar_session.specs.Failures.{sent}
+use Rattle.pulsar_wire.specs.Failures.{sent}
 use Rattle.pulsar_producer.proofs.copying.+copies.Given as goal
 
 abbrev pub invariant-copy_partial-loop-one : goal.invariant-copy_partial-loop-one

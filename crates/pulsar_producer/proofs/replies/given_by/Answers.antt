@@ -7,7 +7,7 @@ use Rattle.pulsar_wire.specs.declared.commands.base.Body.{Body}
 use Rattle.pulsar_frame.specs.Key.{key}
 use Rattle.pulsar_frame.specs.Shown.{message_values}
 use Rattle.pulsar_frame.specs.declared.message.Message.{Message}
-use Rattle.pulsar_session.specs.Reply.{Reply, read_body, reply}
+use Rattle.pulsar_frame.specs.Reply.{Reply, read_body, reply}
 use Rattle.pulsar_producer.specs.Replies.{given}
 use Rattle.pulsar_producer.proofs.replies.given_by.Goals as goal
 

@@ -4,7 +4,7 @@ use Rattle.std.proofs.lemmas.Result.{on_ok_weaker}
 use Rattle.std.specs.Option.{option_map}
 use Rattle.pulsar_plans.specs.Address.{address_key}
 use Rattle.pulsar_run.specs.Order.{arranged}
-use Rattle.pulsar_session.specs.Failures.{Fault}
+use Rattle.pulsar_wire.specs.Failures.{Fault}
 use Rattle.pulsar_calls.specs.declared.act.Act.TheVariants.{Comes}
 use Rattle.pulsar_calls.specs.declared.act.Alarm.TheVariants.{KeepAlive}
 use Rattle.pulsar_calls.specs.declared.act.LinkAct.TheVariants.{Ends}

@@ -1,6 +1,6 @@
 use Rattle.std.proofs.Common.{◌∙◌, ap, sym, length}
 use Rattle.std.proofs.lemmas.Bool.{false≢true}
-use Rattle.pulsar_session.specs.Failures.{OfPartialSend}
+use Rattle.pulsar_wire.specs.Failures.{OfPartialSend}
 use Rattle.pulsar_calls.specs.Content.{Failed}
 use Rattle.pulsar_calls.specs.Content.{numbers_from}
 use Rattle.pulsar_calls.proofs.Parting.{some_failed}

@@ -1,6 +1,6 @@
 use Rattle.std.proofs.Common.{◌∙◌, ◌++◌, sym, ap}
 use Rattle.std.specs.Prelude.{string_bytes}
-use Rattle.pulsar_session.specs.Failures.{OfPartialSend, of_producer, sent}
+use Rattle.pulsar_wire.specs.Failures.{OfPartialSend, of_producer, sent}
 use Rattle.pulsar_script.specs.ErrorText as printed
 use Rattle.pulsar_script.proofs.Errors.{partial_send}
 use Rattle.pulsar_script.proofs.printing.error.+text.Goals as goal

@@ -2,7 +2,7 @@ use Rattle.std.proofs.Common.{rules, ◌≡◌, ◌∙◌, sym, ap, ◌+◌, ◌
 use Rattle.std.proofs.lemmas.Grind.{common_steps}
 use Rattle.std.specs.Prelude.{Err, codes, string_bytes}
 use Rattle.std.specs.Fmt.{decimal}
-use Rattle.pulsar_session.specs.Failures.{failure, sent}
+use Rattle.pulsar_wire.specs.Failures.{failure, sent}
 use Rattle.pulsar_script.specs.ErrorText.{first_word, outcomes}
 use Rattle.pulsar_script.proofs.Errors.{count_sent, outcome, outcomes_more}
 use Rattle.pulsar_script.proofs.Folds.{take_more}

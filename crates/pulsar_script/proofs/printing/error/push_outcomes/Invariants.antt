@@ -1,7 +1,7 @@
 use Rattle.std.proofs.Common.{◌≡◌, ◌++◌, ◌∷◌, take, length}
 use Rattle.std.specs.Prelude.{string_bytes}
 use Rattle.std.specs.Fmt.{decimal}
-use Rattle.pulsar_session.specs.Failures.{sent}
+use Rattle.pulsar_wire.specs.Failures.{sent}
 use Rattle.pulsar_script.specs.ErrorText.{outcomes}
 use Rattle.pulsar_script.proofs.printing.error.push_outcomes.Given as goal
 

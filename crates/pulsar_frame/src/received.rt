@@ -2,9 +2,9 @@
 
 ghost use Rattle.std.specs.Prelude.{◌≡◌, IfOk};
 ghost use Rattle.pulsar_frame.specs.Shown.{message_values};
-ghost use Rattle.pulsar_session.specs.Reply.{is_body, reply};
+ghost use Rattle.pulsar_frame.specs.Reply.{is_body, reply};
 
-use pulsar_frame::message::Message;
+use crate::message::Message;
 use pulsar_wire::error::NoMemory;
 use pulsar_wire::key::RequestKey;
 use std::alloc::Global;
@@ -18,7 +18,7 @@ pub struct Received {
 
 impl Model for Received {
     ghost use Rattle.pulsar_frame.specs.Shown.{message_values};
-    ghost use Rattle.pulsar_session.specs.Reply.{Reply, reply};
+    ghost use Rattle.pulsar_frame.specs.Reply.{Reply, reply};
 
     ghost Value = { Reply };
 

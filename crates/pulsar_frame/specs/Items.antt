@@ -12,7 +12,7 @@ use Rattle.pulsar_frame.specs.Batch as batch
 use Rattle.pulsar_frame.specs.Batch.{batch_items, num_messages_in_batch}
 use Rattle.pulsar_frame.specs.Message.{MessageValues}
 use Rattle.pulsar_frame.specs.Payload.{PayloadValues}
-use Rattle.pulsar_session.specs.Failures.{Failure, OfConnection, OfConsumer, ConsumerIo, Decoding}
+use Rattle.pulsar_wire.specs.Failures.{Failure, OfConnection, OfConsumer, ConsumerIo, Decoding}
 
 -- what a consumer is given: a message, with its id and its metadata as they are written and with the number of entries of its batch, or
 -- why there is none

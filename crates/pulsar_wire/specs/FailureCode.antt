@@ -3,7 +3,7 @@ use Rattle.std.proofs.Common.{◌∙◌, ap}
 use Rattle.std.specs.Prelude.{◌≡◌, ℕ, List, [], ◌∷◌, refl}
 use Rattle.std.specs.Coded.{Coded, coded_list, code_by}
 use Rattle.pulsar_wire.specs.Authentication.{Denial}
-use Rattle.pulsar_session.specs.Failures.{Fault, ConsumerFault, ProducerFault, DiscoveryFault, Failure, OfConnection, OfConsumer, OfProducer, OfBatch, OfPartialSend, OfDiscovery, OfAuthentication, Custom, Executor, Sent, NoMore, Went, Failed}
+use Rattle.pulsar_wire.specs.Failures.{Fault, ConsumerFault, ProducerFault, DiscoveryFault, Failure, OfConnection, OfConsumer, OfProducer, OfBatch, OfPartialSend, OfDiscovery, OfAuthentication, Custom, Executor, Sent, NoMore, Went, Failed}
 
 -- each word makes a failure, or what became of messages, of the newest ones before it
 pub data Token : Type 0 where

@@ -1,6 +1,6 @@
 //! What a message of the broker gives to a consumer.
 
-use pulsar_frame::payload::Payload;
+use crate::payload::Payload;
 use pulsar_wire::commands::ids::MessageIdData;
 use pulsar_wire::error::Error;
 

@@ -2,7 +2,7 @@
 use Rattle.std.specs.Prelude.{ℕ, List, [], ◌∷◌, Option, Some, None, true, if◌then◌else◌}
 use Rattle.std.specs.Option.{option_map}
 use Rattle.pulsar_messages.specs.Content.{authentication_values}
-use Rattle.pulsar_plans.specs.Address.{address_key}
+use Rattle.pulsar_addresses.specs.Address.{address_key}
 use Rattle.pulsar_calls.specs.declared.act.Alarm.{Alarm}
 use Rattle.pulsar_calls.specs.declared.act.Alarm.TheVariants as alarm
 use Rattle.pulsar_calls.specs.declared.act.Arrival.{Arrival}

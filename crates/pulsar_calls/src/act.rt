@@ -6,7 +6,7 @@ use crate::content::{
 };
 use pulsar_consumer::building::Order as ConsumerOrder;
 use pulsar_link::content::{Received, Request, Subscribed};
-use pulsar_plans::content::{Address, Refusal as Failure};
+use pulsar_addresses::content::{Address, Refusal as Failure};
 use pulsar_plans::plan::Procedure as Sought;
 use pulsar_plans::turn::Ways;
 use pulsar_producer::Receipt;

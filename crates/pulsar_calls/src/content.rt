@@ -14,7 +14,7 @@ use crate::act::Notice;
 use crate::effect::Answer;
 use crate::event::Call;
 use pulsar_consumer::settings::Settings as Config;
-use pulsar_plans::content::{Refusal, Text};
+use pulsar_addresses::content::{Refusal, Text};
 use pulsar_plans::making::Command;
 use pulsar_producer::content::{Parts, Settings};
 use pulsar_producer::deed::News;

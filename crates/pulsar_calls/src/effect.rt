@@ -8,7 +8,7 @@ ghost use Rattle.pulsar_calls.specs.Content.{Receipt, answered, receipt_in};
 
 use pulsar_consumer::MessageData;
 use pulsar_frame::payload::Payload;
-use pulsar_plans::BrokerAddress;
+use pulsar_addresses::address::BrokerAddress;
 use pulsar_wire::commands::base::Body;
 use pulsar_wire::commands::producer::CommandSendReceipt;
 use pulsar_wire::error::Error;

@@ -1,7 +1,7 @@
 -- The run of a script.
 use Rattle.std.specs.Prelude.{◌≡◌, ◌⊎◌, if◌then◌else◌, codes, ℕ, ◌+◌, ◌<◌, ◌≤◌, ◌↔◌, List, [], ◌∷◌, ◌++◌, length, drop, Option, Some, None}
 use Rattle.pulsar_wire.specs.Field.{◌>>=◌}
-use Rattle.pulsar_plans.specs.Backoff.{default_connection_retry, default_operation_retry}
+use Rattle.pulsar_addresses.specs.Backoff.{default_connection_retry, default_operation_retry}
 use Rattle.pulsar_producer.specs.Routing.{Policy}
 use Rattle.pulsar_tables.specs.Address.{base_in}
 use Rattle.pulsar_calls.specs.Content.{Heard}

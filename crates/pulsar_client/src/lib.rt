@@ -93,7 +93,8 @@ pub use pulsar_link::raw_call::RawCall;
 pub use pulsar_messages::{
     Authentication, ConsumerOptions, Message, ProducerMessage, ProducerOptions, RoutingPolicy,
 };
-pub use pulsar_plans::{BrokerAddress, ConnectionRetryOptions, OperationRetryOptions};
+pub use pulsar_addresses::address::BrokerAddress;
+pub use pulsar_addresses::options::{ConnectionRetryOptions, OperationRetryOptions};
 pub use pulsar_producer::{
     CustomRoutingPolicy, MessageBuilder, PartitionedProducer, Producer, ProducerBuilder,
     SerializeMessage, message_from_bytes, message_from_text,

@@ -9,7 +9,7 @@ use crate::pulsar::Pulsar;
 use pulsar_calls::effect::Effect;
 use pulsar_calls::event::Event;
 use pulsar_machine::{FromUrl, Machine};
-use pulsar_plans::{ConnectionRetryOptions, OperationRetryOptions};
+use pulsar_addresses::options::{ConnectionRetryOptions, OperationRetryOptions};
 use pulsar_producer::CustomRoutingPolicy;
 use pulsar_wire::error::NoMemory;
 use std::alloc::Global;

@@ -1,8 +1,8 @@
 //! Clients, and lines of scripts as their events.
 
-use pulsar_client::{
-    ClientOptions, ConnectionRetryOptions, CustomRoutingPolicy, Event, OperationRetryOptions,
-};
+use pulsar_client::options::ClientOptions;
+use pulsar_addresses::options::{ConnectionRetryOptions, OperationRetryOptions};
+use pulsar_client::{CustomRoutingPolicy, Event};
 use pulsar_script::grammar::line::{Line, parse};
 use pulsar_wire::NoMemory;
 use std::alloc::Global;

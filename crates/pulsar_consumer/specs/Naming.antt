@@ -3,7 +3,7 @@ use Rattle.std.specs.Prelude.{ℕ, zero, suc, ◌+◌, ◌*◌, ◌-◌, ◌^◌
 use Rattle.rand_pcg.specs.Lcg.{Lcg}
 use Rattle.rand_pcg.specs.Pcg.{pcg32}
 use Rattle.pulsar_wire.specs.declared.commands.enumerations.SubType.TheVariants.{Shared}
-use Rattle.pulsar_plans.specs.Backoff.{generator}
+use Rattle.pulsar_addresses.specs.Backoff.{generator}
 use Rattle.pulsar_consumer.specs.Content.{ConfigValues, ConsumerWanted}
 use Rattle.pulsar_consumer.specs.declared.naming.Ordered.{Ordered}
 use Rattle.pulsar_consumer.specs.declared.naming.Ordered.TheVariants as ordered

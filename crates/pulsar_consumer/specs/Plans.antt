@@ -2,7 +2,7 @@
 -- (Pulsar binary protocol, Topic lookup; Partitioned topics discovery; Consumer)
 use Rattle.std.specs.Prelude.{ℕ, List, [], ◌∷◌, codes, Option, Some, None, Result, Ok, Err}
 use Rattle.pulsar_wire.specs.Failures.{Failure, OfConnection, OfConsumer, ConsumerBuild, Custom}
-use Rattle.pulsar_plans.specs.Address.{Place, Named}
+use Rattle.pulsar_addresses.specs.Address.{Place, Named}
 use Rattle.pulsar_plans.specs.Plans.{and_then, fault_of, look_begins, look_told, made_gets, made_told, names_begins, names_told}
 use Rattle.pulsar_plans.specs.declared.closing.Step.{Step}
 use Rattle.pulsar_plans.specs.declared.closing.Step.TheVariants.{Stays, Gives}

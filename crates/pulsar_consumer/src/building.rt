@@ -7,7 +7,7 @@ ghost use Rattle.pulsar_consumer.specs.Plans as meaning;
 
 use crate::settings::Settings;
 use pulsar_plans::closing::Step;
-use pulsar_plans::content::{Address, Names, Refusal, Text};
+use pulsar_addresses::content::{Address, Names, Refusal, Text};
 use pulsar_plans::making::{self, Command, Making, Served};
 use pulsar_plans::names::{self, Naming};
 use pulsar_plans::question::{Question, Request};

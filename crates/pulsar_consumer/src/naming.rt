@@ -9,7 +9,7 @@ use crate::builder::ConsumerBuilder;
 use crate::building::Order;
 use crate::config::ConsumerConfig;
 use crate::settings::Settings;
-use pulsar_plans::content::Text;
+use pulsar_addresses::content::Text;
 use pulsar_wire::commands::enumerations::SubType;
 use pulsar_wire::error::NoMemory;
 use rand_core::utils::NextWord;

@@ -3,7 +3,7 @@
 ghost use Rattle.std.specs.Prelude.{◌≡◌, IfOk};
 ghost use Rattle.pulsar_consumer.specs.Plans as meaning;
 
-use pulsar_plans::content::{Address, Refusal};
+use pulsar_addresses::content::{Address, Refusal};
 use pulsar_plans::look::{self, Looking};
 use pulsar_plans::making::{self, Command, Making, Served};
 use pulsar_plans::turn::{Outcome, Turn, Ways};

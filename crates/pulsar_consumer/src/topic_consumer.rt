@@ -15,7 +15,7 @@ use crate::polled::{Ending, Polled};
 use crate::settings::Settings;
 use crate::unread::Unread;
 use pulsar_link::content::Subscribed;
-use pulsar_plans::content::{Refusal, Text};
+use pulsar_addresses::content::{Refusal, Text};
 use pulsar_plans::making::Command;
 use pulsar_wire::error::NoMemory;
 use std::alloc::Global;

@@ -1,7 +1,7 @@
 //! What a consumer has not given yet.
 
 ghost use Rattle.std.specs.Prelude.{◌≡◌, IfOk};
-ghost use Rattle.pulsar_link.specs.Held.{item_of};
+ghost use Rattle.pulsar_frame.specs.Held.{item_of};
 ghost use Rattle.pulsar_consumer.specs.Topic.{is_message};
 
 use pulsar_frame::items::Unread as Item;
@@ -21,7 +21,7 @@ impl Drop for Unread {
 }
 
 impl Model for Unread {
-    ghost use Rattle.pulsar_link.specs.Held.{item_of};
+    ghost use Rattle.pulsar_frame.specs.Held.{item_of};
     ghost use Rattle.pulsar_frame.specs.Items.{Item as Meant};
     ghost use Rattle.pulsar_wire.specs.FailureCode.{failure_code};
     ghost use Rattle.std.specs.Coded.{codes};

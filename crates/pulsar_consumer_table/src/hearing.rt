@@ -20,7 +20,7 @@ use crate::row::{ConsumerRow, Sought};
 use pulsar_calls::act::{Notice, Outcome, Who, Word};
 use pulsar_calls::effect::Effect;
 use pulsar_link::content::Received;
-use pulsar_plans::content::Refusal;
+use pulsar_addresses::content::Refusal;
 use pulsar_wire::error::NoMemory;
 use std::alloc::Global;
 use std::collections::BTreeMap;

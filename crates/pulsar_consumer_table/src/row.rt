@@ -14,7 +14,7 @@ use pulsar_consumer::unread::Unread;
 use pulsar_consumer::{Consumer, Ending, MessageData, Polled, TopicConsumer};
 use pulsar_link::content::Received;
 use pulsar_frame::items::Unread as Item;
-use pulsar_plans::content::Refusal;
+use pulsar_addresses::content::Refusal;
 use pulsar_wire::bodies;
 use pulsar_wire::error::NoMemory;
 use std::alloc::Global;

@@ -26,7 +26,7 @@ use pulsar_calls::act::{Arrival, Notice, Refusal, Who};
 use pulsar_calls::effect::Effect;
 use pulsar_consumer::Consumer;
 use pulsar_link::content::Received;
-use pulsar_plans::content::Refusal as Failure;
+use pulsar_addresses::content::Refusal as Failure;
 use pulsar_plans::making::Command;
 use pulsar_wire::error::NoMemory;
 use std::alloc::Global;

@@ -7,7 +7,7 @@ use pulsar_frame::message::Message;
 use pulsar_frame::payload::Payload;
 use pulsar_link::content::{Received, Subscribed};
 use pulsar_link::raw_call::Subscription;
-use pulsar_plans::content::Text;
+use pulsar_addresses::content::Text;
 use pulsar_wire::commands::base::{BaseCommand, Body};
 use pulsar_wire::commands::consumer::delivery::{CommandMessage, CommandReachedEndOfTopic};
 use pulsar_wire::commands::metadata::MessageMetadata;

@@ -6,7 +6,7 @@ use pulsar_consumer::{
     Consumer, ConsumerBuilder, ConsumerConfig, ConsumerOptions, DeadLetterPolicy, SubType,
     TopicConsumer,
 };
-use pulsar_plans::content::Text;
+use pulsar_addresses::content::Text;
 use std::alloc::Global;
 use std::test::Fail;
 use url::Url;

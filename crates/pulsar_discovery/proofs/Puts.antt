@@ -1,7 +1,7 @@
 -- What is put where something was put before.
 use Rattle.std.proofs.Common.{◌≡◌, ◌∙◌, ap, refl, ℕ, ◌+◌, Bool, true, false, Option, Some, None, ◌==◌, if◌then◌else◌, bytes_eq}
 use Rattle.pulsar_session.specs.Link as session
-use Rattle.pulsar_plans.specs.Address.{Place, address_key}
+use Rattle.pulsar_addresses.specs.Address.{Place, address_key}
 use Rattle.pulsar_discovery.specs.declared.addresses.Phase.{Phase}
 use Rattle.pulsar_discovery.specs.declared.addresses.Phase.TheVariants.{Runs}
 use Rattle.pulsar_discovery.specs.Series.{IsSeries, Series, reseated, seat_of, without}

@@ -1,7 +1,7 @@
 -- What holds of machines, of the manager, and of its whole histories.
 use Rattle.std.specs.Prelude.{◌≡◌, ◌↔◌, ℕ, ◌<◌, ◌^◌, List, ◌∷◌, length, ◌≤◌, true, false, IsTrue, [], Option, Some, None, if◌then◌else◌, ◌⊎◌}
 use Rattle.url.specs.Parts.{serialize}
-use Rattle.pulsar_plans.specs.Address.{IsSame, Place, address_key, is_reachable}
+use Rattle.pulsar_addresses.specs.Address.{IsSame, Place, address_key, is_reachable}
 use Rattle.pulsar_plans.specs.declared.plan.Procedure.{Procedure}
 use Rattle.pulsar_plans.specs.declared.turn.Ways.{Ways}
 use Rattle.pulsar_discovery.specs.Machine.{Refuse, lost, next_after, stage_after}

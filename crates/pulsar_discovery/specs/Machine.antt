@@ -7,7 +7,7 @@ use Rattle.pulsar_frame.specs.Shown.{message_values}
 use Rattle.pulsar_wire.specs.Failures.{Disconnected, Failure, OfConnection, failure, fault}
 use Rattle.pulsar_session.specs.Link.{message_of}
 use Rattle.pulsar_frame.specs.Reply.{reply}
-use Rattle.pulsar_plans.specs.Address.{Place, named, place}
+use Rattle.pulsar_addresses.specs.Address.{Place, named, place}
 use Rattle.pulsar_plans.specs.Plans as plans
 use Rattle.pulsar_plans.specs.declared.plan.Answer.{Answer}
 use Rattle.pulsar_plans.specs.declared.plan.Answer.TheVariants as answer

@@ -15,8 +15,8 @@ use Rattle.pulsar_session.specs.declared.states.Stage.{Stage}
 use Rattle.pulsar_session.specs.declared.states.Stage.TheVariants.{Dialing, Handshaking, Ready, Over}
 use Rattle.url.specs.Parser.{Parsed, parse_url}
 use Rattle.url.specs.Parts.{Parts}
-use Rattle.pulsar_plans.specs.Address.{Place, base_of, behind, is_reachable}
-use Rattle.pulsar_plans.specs.Backoff.{backoff, capped, connection_id, jitter, one_more}
+use Rattle.pulsar_addresses.specs.Address.{Place, base_of, behind, is_reachable}
+use Rattle.pulsar_addresses.specs.Backoff.{backoff, capped, connection_id, jitter, one_more}
 use Rattle.pulsar_plans.specs.declared.turn.Ways.{Ways}
 use Rattle.pulsar_discovery.specs.declared.manager.ConnectionManager.{ConnectionManager}
 use Rattle.pulsar_discovery.specs.declared.manager.Got.{Got}

@@ -7,7 +7,7 @@ ghost use Rattle.pulsar_discovery.specs.Machine.{Extends, Goes, StandsFor, does,
 
 use crate::kept::Kept;
 use crate::outcome::{Next, Outcome, Told, content_of, found_by, message_of};
-use pulsar_plans::content::{Cause, Refusal};
+use pulsar_addresses::content::{Cause, Refusal};
 use pulsar_plans::plan::{self, Answer, Plan, Procedure};
 use pulsar_plans::question::Request;
 use pulsar_plans::turn::{Action, Outcome as Happened, Turn, Ways};

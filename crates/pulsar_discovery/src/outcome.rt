@@ -12,8 +12,8 @@ ghost use Rattle.pulsar_plans.specs.Question.{words};
 
 use pulsar_frame::message::Message;
 use pulsar_messages::{ConsumerOptions, ProducerOptions};
-use pulsar_plans::BrokerAddress;
-use pulsar_plans::content::Cause;
+use pulsar_addresses::address::BrokerAddress;
+use pulsar_addresses::content::Cause;
 use pulsar_plans::making::Served;
 use pulsar_plans::plan::Answer;
 use pulsar_plans::question::Question;

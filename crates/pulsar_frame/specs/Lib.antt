@@ -14,3 +14,4 @@ pub mod Residue
 pub mod Batch
 pub mod Reply
 pub mod Items
+pub mod Held

@@ -2,10 +2,10 @@
 #![tactic(auto)]
 
 use pulsar_broker::Broker;
-use pulsar_client::{
-    Call, ClientOptions, ConnectionRetryOptions, ConsumerBuilder, Effect, Event, NoMemory,
-    OperationRetryOptions, ProducerBuilder, Pulsar, message_from_text,
-};
+use pulsar_client::{Call, ConsumerBuilder, Effect, Event, NoMemory, ProducerBuilder, message_from_text};
+use pulsar_client::options::ClientOptions;
+use pulsar_addresses::options::{ConnectionRetryOptions, OperationRetryOptions};
+use pulsar_client::pulsar::Pulsar;
 use std::collections::VecDeque;
 
 fn main(rt: HostRuntime) -> Result<(), NoMemory> {

@@ -17,7 +17,7 @@ use Rattle.pulsar_calls.specs.declared.act.LinkAct.{LinkAct}
 use Rattle.pulsar_calls.specs.declared.act.LinkAct.TheVariants.{Ends}
 use Rattle.pulsar_calls.specs.declared.act.Part.TheVariants.{ToLink}
 use Rattle.pulsar_calls.specs.declared.act.Who.{Who}
-use Rattle.pulsar_plans.specs.Address.{Place}
+use Rattle.pulsar_addresses.specs.Address.{Place}
 use Rattle.pulsar_calls.specs.Content.{Heard, Bytes}
 use Rattle.pulsar_laws.specs.Laws.{LinksAlone, call_at, calls_of, dialed_with}
 use Rattle.pulsar_tables.specs.Links.{call_of, called, closed_by}

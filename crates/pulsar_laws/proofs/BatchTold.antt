@@ -8,7 +8,7 @@ use Rattle.pulsar_wire.specs.Failures.{Failure, Fault}
 use Rattle.pulsar_frame.specs.Reply.{Reply as Content, is_body}
 use Rattle.pulsar_wire.specs.declared.key.RequestKey.TheVariants as keys
 use Rattle.pulsar_link.specs.Messages.{Reply}
-use Rattle.pulsar_plans.specs.Address.{Place}
+use Rattle.pulsar_addresses.specs.Address.{Place}
 use Rattle.pulsar_plans.specs.Plans as search
 use Rattle.pulsar_plans.specs.Replies.{unexpected}
 use Rattle.pulsar_plans.specs.declared.look.Looking.{Looking}

@@ -5,7 +5,7 @@ use Rattle.pulsar_messages.specs.Content.{ProducerMessageValues}
 use Rattle.pulsar_wire.specs.Failures.{Failure, Fault}
 use Rattle.pulsar_frame.specs.Reply.{Reply as Content}
 use Rattle.pulsar_wire.specs.declared.error.Reason.{Reason}
-use Rattle.pulsar_plans.specs.Address.{Place}
+use Rattle.pulsar_addresses.specs.Address.{Place}
 use Rattle.pulsar_plans.specs.Plans as search
 use Rattle.pulsar_plans.specs.Plans.{is_lost}
 use Rattle.pulsar_plans.specs.declared.look.Looking.{Looking}

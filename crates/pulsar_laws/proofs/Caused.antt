@@ -30,7 +30,7 @@ use Rattle.pulsar_calls.specs.declared.act.Who.{Who}
 use Rattle.pulsar_tables.specs.declared.addresses.Pause.{Pause}
 use Rattle.pulsar_tables.specs.declared.addresses.Series.{Series}
 use Rattle.pulsar_tables.specs.declared.addresses.Series.TheVariants.{Nobody, Runs, Pauses, Serves}
-use Rattle.pulsar_plans.specs.Address.{Place, address_key, is_reachable}
+use Rattle.pulsar_addresses.specs.Address.{Place, address_key, is_reachable}
 use Rattle.pulsar_tables.specs.Alarms.{rings}
 use Rattle.pulsar_laws.specs.Laws.{AttemptEnds, Cause, CutsSo, OutcomesAreCaused, LineEnds, RequestEnds, base_of, IsToldBy, GrantsSo, BuiltDue, PolledDue, RevivedDue, SaysSo}
 use Rattle.pulsar_tables.specs.Links.{arrival, change_at, change_in, closed_by, line_places, new_places, times_out}

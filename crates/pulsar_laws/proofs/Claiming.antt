@@ -9,16 +9,17 @@ use Rattle.pulsar_frame.specs.Frame.{Front, Short, Refused, Whole, front}
 use Rattle.pulsar_frame.specs.Message.{MessageValues}
 use Rattle.pulsar_messages.specs.Content.{AuthenticationValues}
 use Rattle.pulsar_messages.specs.Words.{Words, SendPing, is_numbered, when_full}
-use Rattle.pulsar_requests.specs.declared.awaited.Awaited.{Awaited}
-use Rattle.pulsar_requests.specs.declared.awaited.Awaited.TheVariants.{Reply}
-use Rattle.pulsar_requests.specs.declared.awaited.Claim.{Claim}
-use Rattle.pulsar_requests.specs.Awaited.{is_same}
+use Rattle.pulsar_wire.specs.declared.awaited.Awaited.{Awaited}
+use Rattle.pulsar_wire.specs.declared.awaited.Awaited.TheVariants.{Reply}
+use Rattle.pulsar_wire.specs.declared.awaited.Claim.{Claim}
+use Rattle.pulsar_wire.specs.Awaited.{is_same}
 use Rattle.pulsar_requests.specs.Waits.{Pending, Waits, places, waits_for}
 use Rattle.pulsar_session.specs.declared.states.Stage.{Stage}
 use Rattle.pulsar_session.specs.declared.states.Stage.TheVariants.{Dialing, Handshaking, Ready, Over}
 use Rattle.pulsar_session.specs.Answers.{answers, is}
 use Rattle.pulsar_session.specs.Laws.{IsInLine}
-use Rattle.pulsar_session.specs.Link.{Asks, Drains, Feeds, Opens, Request, Seen, Standing, Takes, after, after_of, answer_of, answered, asked, asks_for, can_wait, challenged, claim, drawn, feeds, frame_for, greeted, greeting, greets_with, has_room, is_open, is_ready, moved_up, named_by, number_for, opens_in, place_in, pongs, put_frame, put_in, queue, reacts, reacts_unless, request, responds, settled_by, taken_in, ticked, unready_in}
+use Rattle.pulsar_session.specs.Link.{Asks, Drains, Feeds, Opens, Request, Seen, Standing, Takes, after, after_of, answer_of, answered, asked, asks_for, can_wait, challenged, drawn, feeds, frame_for, greeted, greeting, greets_with, has_room, is_open, is_ready, moved_up, named_by, number_for, opens_in, place_in, pongs, put_frame, put_in, queue, reacts, reacts_unless, request, responds, settled_by, taken_in, ticked, unready_in}
+use Rattle.pulsar_messages.specs.Claims.{claim}
 use Rattle.pulsar_session.specs.Link as session
 use Rattle.pulsar_link.specs.Request.{is_awaited}
 use Rattle.pulsar_calls.specs.declared.act.Who.{Who}

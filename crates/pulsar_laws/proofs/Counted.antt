@@ -5,8 +5,9 @@ use Rattle.pulsar_run.specs.Laws.{In}
 use Rattle.pulsar_wire.specs.Failures.{Failure}
 use Rattle.pulsar_frame.specs.Reply.{Reply as Content}
 use Rattle.pulsar_link.specs.Messages.{Reply}
-use Rattle.pulsar_plans.specs.Address.{Named, Place}
+use Rattle.pulsar_addresses.specs.Address.{Named, Place}
 use Rattle.pulsar_plans.specs.Plans as search
+use Rattle.pulsar_addresses.specs.Address as search_low
 use Rattle.pulsar_plans.specs.Plans.{is_lost, is_partition}
 use Rattle.pulsar_plans.specs.Replies.{count_in}
 use Rattle.pulsar_plans.specs.declared.count.Counting.{Counting}
@@ -117,21 +118,21 @@ module _ (w : Ways) (all : List Outcome) where
   look_then (search_turn.Gives (Ok p)) within on k m = m p
   look_then (search_turn.Gives (Err f)) within on k m = tt
 
-  only_one : (t : List ℕ) (p : Place) → consume.only (search.name_found [] t p) ≡ None → Several
+  only_one : (t : List ℕ) (p : Place) → consume.only (search_low.name_found [] t p) ≡ None → Several
   only_one t p h = absurd cc
 
   pub names_kept : (t : List ℕ) (n : Naming) (x : News) → Heeds x → NamedIn n → NamesKept (search.names_told w t n x)
   names_kept t (name.Counting c) x h k = count_then t (search.count_told w t c x) (count_kept t c x h)
   names_kept t (name.Whole l) x h k =
-      look_then (search.look_told w t l x) name.Whole (λ p. search_turn.Gives (Ok (search.name_found [] t p))) (λ l. tt) (λ p. only_one t p)
+      look_then (search.look_told w t l x) name.Whole (λ p. search_turn.Gives (Ok (search_low.name_found [] t p))) (λ l. tt) (λ p. only_one t p)
   names_kept t (name.Part l p) x h k =
-      look_then (search.look_told w p.name l x) (λ l. name.Part l p) (λ y. search.names_left w t p.count p.left (search.name_found p.found p.name y))
-      (λ l. k) (λ y. left_kept t p.count p.left (search.name_found p.found p.name y) (so_many y) some k.1)
+      look_then (search.look_told w p.name l x) (λ l. name.Part l p) (λ y. search.names_left w t p.count p.left (search_low.name_found p.found p.name y))
+      (λ l. k) (λ y. left_kept t p.count p.left (search_low.name_found p.found p.name y) (so_many y) some k.1)
     where
       some : 1 ≤ p.count
       some = let e = k.0 in omega (arith, e)
 
-      so_many : (y : Place) → length (search.name_found p.found p.name y) + p.left ≡ p.count
+      so_many : (y : Place) → length (search_low.name_found p.found p.name y) + p.left ≡ p.count
       so_many y = let e = k.0 in let m = one_more p.found (record { name = p.name; place = y }) in omega (arith, e, m)
 
   pub names_begin_kept : (t : List ℕ) → NamesKept (search.names_begins w t)

@@ -9,7 +9,8 @@ use Rattle.pulsar_requests.specs.Waits.{ended, places}
 use Rattle.pulsar_session.specs.declared.states.Stage.{Stage}
 use Rattle.pulsar_session.specs.declared.states.Stage.TheVariants.{Dialing, Handshaking, Ready, Over}
 use Rattle.pulsar_session.specs.Answers.{is}
-use Rattle.pulsar_session.specs.Link.{Act, Asks, Closes, Drains, Feeds, Opens, Seen, Setup, Standing, Takes, after, after_of, answered_to, bare, drawn, frame_for, greeted, greets_with, has_room, is_open, is_over, is_ready, is_spent, moved_up, number_for, opens_in, queue, request, seen, settled_by, taken_in, ticked}
+use Rattle.pulsar_session.specs.Link.{Act, Asks, Closes, Drains, Feeds, Opens, Seen, Setup, Standing, Takes, after, after_of, answered_to, bare, drawn, frame_for, greeted, greets_with, has_room, is_open, is_over, is_ready, moved_up, number_for, opens_in, queue, request, seen, settled_by, taken_in, ticked}
+use Rattle.pulsar_messages.specs.Claims.{is_spent}
 use Rattle.pulsar_session.proofs.Pieces.{asks_for_apart, unless_stage}
 
 abbrev pub Early : Seen → Type 0

@@ -11,7 +11,8 @@ use Rattle.pulsar_link.specs.Messages.{Reply, Written}
 use Rattle.pulsar_link.specs.Refusals.{refused}
 use Rattle.pulsar_link.specs.Request.{is_answered, request_number}
 use Rattle.pulsar_plans.specs.Plans as search
-use Rattle.pulsar_plans.specs.Replies.{in_discovery, unexpected, count_in}
+use Rattle.pulsar_plans.specs.Replies.{unexpected, count_in}
+use Rattle.pulsar_addresses.specs.Address.{in_discovery}
 use Rattle.pulsar_plans.specs.declared.plan.Answer.{Answer}
 use Rattle.pulsar_plans.specs.declared.plan.Answer.TheVariants as answer
 use Rattle.pulsar_plans.specs.declared.plan.Plan.{Plan as Search}
@@ -61,7 +62,7 @@ use Rattle.pulsar_procedures.specs.Plan.{asks_of, begins, builds, fails, fails_i
 use Rattle.pulsar_producer.specs.Batching.{is_sent_send}
 use Rattle.pulsar_laws.proofs.Productions.{AllowsBreaks, AllowsReply, BuildKeeps, Ends, SendKeeps, building_begins, building_ends, sending_ends}
 use Rattle.pulsar_laws.proofs.Searches.{Breaks, ByFault, BySearch, ByReply, Keeps, Turns, is_search, is_sought, keeps_begins, keeps_told, FailsBy, made_fails, names_begin, naming_fails}
-use Rattle.pulsar_plans.specs.Address.{Named}
+use Rattle.pulsar_addresses.specs.Address.{Named}
 use Rattle.pulsar_plans.specs.declared.making.Command.{Command}
 use Rattle.pulsar_procedures.specs.declared.service.Service.{Service}
 use Rattle.pulsar_procedures.specs.declared.states.Resubscribing.{Resubscribing}

@@ -6,7 +6,7 @@ use Rattle.pulsar_run.specs.Laws.{In, InThisStep}
 use Rattle.pulsar_run.specs.Run.{rest}
 use Rattle.pulsar_frame.specs.Batch.{EntryValues}
 use Rattle.pulsar_messages.specs.Content.{ProducerMessageValues}
-use Rattle.pulsar_plans.specs.Address.{Place}
+use Rattle.pulsar_addresses.specs.Address.{Place}
 use Rattle.pulsar_plans.specs.declared.plan.Procedure.{Procedure as Sought}
 use Rattle.pulsar_plans.specs.declared.plan.Procedure.TheVariants as sought
 use Rattle.pulsar_plans.specs.declared.turn.Outcome.{Outcome as News}

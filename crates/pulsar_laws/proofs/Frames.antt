@@ -4,7 +4,7 @@ use Rattle.std.proofs.lemmas.Bool.{cases_Bool}
 use Rattle.pulsar_messages.specs.Content.{ProducerMessageValues}
 use Rattle.pulsar_messages.specs.Words as words
 use Rattle.pulsar_run.specs.Laws.{In}
-use Rattle.pulsar_session.specs.Link.{is_spent}
+use Rattle.pulsar_messages.specs.Claims.{is_spent}
 use Rattle.pulsar_plans.specs.declared.making.Command.{Command}
 use Rattle.pulsar_plans.specs.declared.turn.Ways.{Ways}
 use Rattle.pulsar_producer.specs.Commands.{command_of}

@@ -6,8 +6,8 @@ use Rattle.pulsar_messages.specs.Words as words
 use Rattle.pulsar_messages.specs.Words.{Words}
 use Rattle.pulsar_wire.specs.Failures.{Failure, Fault, OfConnection}
 use Rattle.pulsar_frame.specs.Reply.{Reply as Content}
-use Rattle.pulsar_plans.specs.Address.{Place}
-use Rattle.pulsar_plans.specs.Backoff.{allow_retry}
+use Rattle.pulsar_addresses.specs.Address.{Place}
+use Rattle.pulsar_addresses.specs.Backoff.{allow_retry}
 use Rattle.pulsar_plans.specs.Plans as search
 use Rattle.pulsar_plans.specs.Plans.{is_lost, is_retryable}
 use Rattle.pulsar_plans.specs.Replies.{place_heard}

@@ -6,7 +6,7 @@ use Rattle.pulsar_wire.specs.Failures.{Failure, Fault, OfConnection}
 use Rattle.pulsar_frame.specs.Reply.{Reply as Content}
 use Rattle.pulsar_link.specs.Refusals.{refused}
 use Rattle.pulsar_link.specs.Request.{is_answered, request_number}
-use Rattle.pulsar_plans.specs.Address.{Named, Place}
+use Rattle.pulsar_addresses.specs.Address.{Named, Place}
 use Rattle.pulsar_plans.specs.Plans as search
 use Rattle.pulsar_plans.specs.Plans.{is_lost}
 use Rattle.pulsar_plans.specs.declared.look.Looking.{Looking}

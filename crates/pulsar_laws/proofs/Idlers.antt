@@ -11,8 +11,8 @@ use Rattle.std.specs.declared.cmp.Ordering.TheVariants.{Less, Equal, Greater}
 use Rattle.pulsar_run.specs.Laws.{In, InThisStep}
 use Rattle.pulsar_wire.specs.Failures.{Disconnected, Exhausted, Failure, Fault}
 use Rattle.pulsar_messages.specs.Words.{Words}
-use Rattle.pulsar_session.specs.Link.{is_spent}
-use Rattle.pulsar_plans.specs.Address.{Place}
+use Rattle.pulsar_messages.specs.Claims.{is_spent}
+use Rattle.pulsar_addresses.specs.Address.{Place}
 use Rattle.pulsar_producer.specs.Topic as topic
 use Rattle.pulsar_producer.specs.Topic.{Act as TopicAct}
 use Rattle.pulsar_producer.specs.declared.deed.News.{News}

@@ -4,9 +4,10 @@ use Rattle.pulsar_messages.specs.Words as words
 use Rattle.pulsar_messages.specs.Words.{Words}
 use Rattle.pulsar_wire.specs.Failures.{Failure, Fault, OfConnection}
 use Rattle.pulsar_frame.specs.Reply.{Reply as Content}
-use Rattle.pulsar_plans.specs.Address.{Named, Place}
-use Rattle.pulsar_plans.specs.Backoff.{allow_retry}
+use Rattle.pulsar_addresses.specs.Address.{Named, Place}
+use Rattle.pulsar_addresses.specs.Backoff.{allow_retry}
 use Rattle.pulsar_plans.specs.Plans as search
+use Rattle.pulsar_addresses.specs.Address as search_low
 use Rattle.pulsar_plans.specs.Plans.{is_lost, is_partition, is_retryable}
 use Rattle.pulsar_plans.specs.Replies.{count_in, place_heard}
 use Rattle.pulsar_plans.specs.declared.count.Counting.{Counting}
@@ -147,7 +148,7 @@ names_mild w t (name.Counting c) u =
 names_mild w t (name.Whole l) u = and_mild Any Any (search.look_told w t l u) name.Whole _ (λ s p. tt) (look_mild w t l u) (λ a. tt)
 names_mild w t (name.Part l p) u =
     and_mild Any Any (search.look_told w p.name l u) (λ l. name.Part l p) _ (λ s p. tt) (look_mild w p.name l u)
-    (λ place. names_left_mild w t p.count p.left (search.name_found p.found p.name place))
+    (λ place. names_left_mild w t p.count p.left (search_low.name_found p.found p.name place))
 
 pub answered_mild : (w : Ways) (n l : ℕ) (r : Result Content Fault) → MildTurn Any (search.made_answered w n l r)
 answered_mild w n l (Ok r) = tt

@@ -6,7 +6,7 @@ use Rattle.pulsar_link.specs.Messages.{Reply}
 use Rattle.pulsar_link.specs.Refusals.{refused}
 use Rattle.pulsar_link.specs.Request.{is_answered, request_number, subscribed}
 use Rattle.pulsar_link.specs.declared.content.Subscribed.{Subscribed}
-use Rattle.pulsar_plans.specs.Address.{Named}
+use Rattle.pulsar_addresses.specs.Address.{Named}
 use Rattle.pulsar_plans.specs.Plans as search
 use Rattle.pulsar_plans.specs.declared.making.Command.{Command}
 use Rattle.pulsar_plans.specs.declared.making.Making.{Making}

@@ -5,7 +5,7 @@ use Rattle.std.proofs.lemmas.Bool.{cases_Bool}
 use Rattle.std.proofs.lemmas.Bool.Decides.{nat_tests}
 use Rattle.std.proofs.lemmas.Grind.{common_steps}
 use Rattle.pulsar_run.specs.Run.{rest}
-use Rattle.pulsar_session.specs.Link.{is_spent}
+use Rattle.pulsar_messages.specs.Claims.{is_spent}
 use Rattle.pulsar_plans.specs.declared.turn.Ways.{Ways}
 use Rattle.pulsar_producer.specs.declared.sending.Errand.{Errand}
 use Rattle.pulsar_calls.specs.declared.act.Act.{Act}

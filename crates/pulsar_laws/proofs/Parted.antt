@@ -6,7 +6,7 @@ use Rattle.std.specs.Option.{is_some}
 use Rattle.std.specs.Prelude.{not}
 use Rattle.pulsar_link.specs.Request.{named_producer}
 use Rattle.pulsar_messages.specs.Content.{ProducerMessageValues}
-use Rattle.pulsar_plans.specs.Address.{Place}
+use Rattle.pulsar_addresses.specs.Address.{Place}
 use Rattle.pulsar_plans.specs.declared.plan.Procedure.{Procedure as Sought}
 use Rattle.pulsar_plans.specs.declared.plan.Procedure.TheVariants as sought
 use Rattle.pulsar_plans.specs.declared.turn.Ways.{Ways}

@@ -10,7 +10,7 @@ use Rattle.pulsar_run.specs.Run.{in_order, steps_done, with_effects}
 use Rattle.pulsar_run.proofs.Orders.{kinds_in_order_lem}
 use Rattle.pulsar_messages.specs.Words.{Words}
 use Rattle.pulsar_wire.specs.Failures.{Fault}
-use Rattle.pulsar_session.specs.Link.{is_spent}
+use Rattle.pulsar_messages.specs.Claims.{is_spent}
 use Rattle.pulsar_frame.specs.Items.{Item, Given, Faulty}
 use Rattle.pulsar_link.specs.Request.{closed_consumer}
 use Rattle.pulsar_calls.specs.declared.act.Act.{Act}

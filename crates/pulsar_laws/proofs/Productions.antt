@@ -4,7 +4,7 @@ use Rattle.std.proofs.Common.{◌≡◌, List, [], ◌∷◌, refl, Bool, true, 
 use Rattle.pulsar_messages.specs.Content.{ProducerMessageValues}
 use Rattle.pulsar_wire.specs.Failures.{Failure, Fault, OfConnection}
 use Rattle.pulsar_frame.specs.Reply.{Reply as Content, is_body}
-use Rattle.pulsar_plans.specs.Address.{Named}
+use Rattle.pulsar_addresses.specs.Address.{Named}
 use Rattle.pulsar_plans.specs.Plans.{is_lost, look_told, made_gets, made_told, names_begins, names_told, verdict}
 use Rattle.pulsar_plans.specs.Replies.{unexpected}
 use Rattle.pulsar_plans.specs.declared.making.Command.{Command}

@@ -9,12 +9,13 @@ use Rattle.pulsar_frame.proofs.Written.{read_again}
 use Rattle.pulsar_frame.specs.Frame.{settled_message}
 use Rattle.pulsar_messages.specs.Words as words
 use Rattle.pulsar_messages.specs.Words.{Words, is_numbered, when_full}
-use Rattle.pulsar_requests.specs.declared.awaited.Claim.{Claim}
+use Rattle.pulsar_wire.specs.declared.awaited.Claim.{Claim}
 use Rattle.pulsar_session.specs.declared.states.Asked.TheVariants as placed
 use Rattle.pulsar_session.specs.declared.states.Stage.{Stage}
 use Rattle.pulsar_session.specs.declared.states.Stage.TheVariants.{Dialing, Handshaking, Ready, Over}
 use Rattle.pulsar_session.specs.Laws.{frames_queued, frames_written}
-use Rattle.pulsar_session.specs.Link.{Seen, after_of, answer_of, can_wait, claim, drawn, frame_at, frame_for, has_room, is_over, is_ready, is_spent, message_of, number_for, place_in, put_frame, queue, request, ticked}
+use Rattle.pulsar_session.specs.Link.{Seen, after_of, answer_of, can_wait, drawn, frame_at, frame_for, has_room, is_over, is_ready, message_of, number_for, place_in, put_frame, queue, request, ticked}
+use Rattle.pulsar_messages.specs.Claims.{claim, is_spent}
 use Rattle.pulsar_session.specs.Link as session
 use Rattle.pulsar_session.proofs.Settled.{places_count, written_in_order}
 use Rattle.pulsar_laws.specs.Laws.{calls_of}

@@ -8,7 +8,7 @@ use Rattle.std.specs.Option.{is_some, option_map}
 use Rattle.pulsar_frame.specs.Frame.{front}
 use Rattle.pulsar_messages.specs.Words as words
 use Rattle.pulsar_messages.specs.Words.{Words, is_numbered}
-use Rattle.pulsar_requests.specs.declared.awaited.Awaited.{Awaited}
+use Rattle.pulsar_wire.specs.declared.awaited.Awaited.{Awaited}
 use Rattle.pulsar_session.specs.declared.states.Asked.TheVariants as placed
 use Rattle.pulsar_session.specs.Laws.{IsInLine}
 use Rattle.pulsar_session.specs.Link.{Opens, Feeds, Takes, Asks, Drains, Closes, Seen, after as after', has_room, number_for, ticked}

@@ -15,17 +15,19 @@ use Rattle.pulsar_frame.specs.Message.{MessageValues}
 use Rattle.pulsar_messages.specs.Content.{ProducerMessageValues}
 use Rattle.pulsar_messages.specs.Words as words
 use Rattle.pulsar_messages.specs.Words.{Words, SendPing}
-use Rattle.pulsar_requests.specs.declared.awaited.Awaited.{Awaited}
-use Rattle.pulsar_requests.specs.declared.awaited.Awaited.TheVariants as awaited
-use Rattle.pulsar_requests.specs.declared.awaited.Claim.{Claim}
+use Rattle.pulsar_wire.specs.declared.awaited.Awaited.{Awaited}
+use Rattle.pulsar_wire.specs.declared.awaited.Awaited.TheVariants as awaited
+use Rattle.pulsar_wire.specs.declared.awaited.Claim.{Claim}
 use Rattle.pulsar_requests.specs.Waits.{Pending, places}
 use Rattle.pulsar_session.specs.declared.states.Stage.{Stage}
 use Rattle.pulsar_session.specs.declared.states.Stage.TheVariants.{Dialing, Handshaking, Ready, Over}
 use Rattle.pulsar_session.specs.Answers.{answers, is, is_number}
 use Rattle.pulsar_session.specs.Laws.{IsInLine}
 use Rattle.pulsar_frame.specs.Reply.{Written, read_body}
-use Rattle.pulsar_session.specs.Link.{Came, Seen, Settles, came, came_by, came_in, claim, for_consumer, greeted_by, settled_by, unasked}
+use Rattle.pulsar_session.specs.Link.{Came, Seen, Settles, came, came_by, came_in, for_consumer, greeted_by, settled_by, unasked}
+use Rattle.pulsar_messages.specs.Claims.{claim}
 use Rattle.pulsar_session.specs.Link as session
+use Rattle.pulsar_messages.specs.Claims as session_low
 use Rattle.pulsar_session.proofs.Others.{none_stands_beside_room}
 use Rattle.pulsar_link.specs.Messages.{Reply, is_body, read}
 use Rattle.pulsar_plans.specs.declared.turn.Ways.{Ways}
@@ -315,7 +317,7 @@ record IsSend (request : Words) (p s : ℕ) : Type 0 where
   block : Bool
   is_it : request ≡ words.Send p name s message block
 
-replies_not : (id : ℕ) (c : Claim) (p s : ℕ) → session.reply_to id ≡ Some c → c.awaits ≡ awaited.Receipt p s → ⊥
+replies_not : (id : ℕ) (c : Claim) (p s : ℕ) → session_low.reply_to id ≡ Some c → c.awaits ≡ awaited.Receipt p s → ⊥
 replies_not id c p s h e =
     let f : record { awaits = awaited.Reply id; creates = false } ≡ c = cc in
     let g : awaited.Reply id ≡ awaited.Receipt p s = ap (λ x. x.awaits) f ∙ e in cc

@@ -7,7 +7,8 @@ use Rattle.pulsar_frame.specs.Items.{Item}
 use Rattle.pulsar_link.specs.Messages.{Reply, is_body}
 use Rattle.pulsar_link.specs.Request.{closed_consumer}
 use Rattle.pulsar_wire.specs.Failures.{Failure, Fault}
-use Rattle.pulsar_session.specs.Link.{is_ready, is_spent}
+use Rattle.pulsar_session.specs.Link.{is_ready}
+use Rattle.pulsar_messages.specs.Claims.{is_spent}
 use Rattle.pulsar_consumer.specs.Frames.{Frame, failed, frame_in}
 use Rattle.pulsar_consumer.specs.Topic as reader
 use Rattle.pulsar_consumer.specs.Topic.{Act as Done, Lives, Hears, Loses, Fails, Ends as Over, Polls as Polled, Asks, Engine, Live, Seen, Setup, after as after', asked, begins, finish, finishes, finishes_by, first_of, fresh, gives, gives_from, goes_on, half, hears as hears', is_ended, is_on, link_of, lives_on, no_items, of_raw, places, subscribed}

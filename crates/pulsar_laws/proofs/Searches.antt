@@ -8,11 +8,13 @@ use Rattle.pulsar_frame.specs.Reply.{Reply as Content, is_body}
 use Rattle.url.specs.declared.host.Host.{Host}
 use Rattle.url.specs.Parser.{Parsed, parse_url}
 use Rattle.url.specs.Parts.{Parts, nonempty_host}
-use Rattle.pulsar_plans.specs.Address.{Named, Place, at_host, place_of_parsed}
-use Rattle.pulsar_plans.specs.Backoff.{allow_retry, one_more}
+use Rattle.pulsar_addresses.specs.Address.{Named, Place, at_host, place_of_parsed}
+use Rattle.pulsar_addresses.specs.Backoff.{allow_retry, one_more}
 use Rattle.pulsar_plans.specs.Plans as search
-use Rattle.pulsar_plans.specs.Plans.{and_then, count_failed, count_gets, count_heard, count_told, is_lost, is_partition, is_retryable, look_begins, look_failed, look_gets, look_heard, look_pointed, look_told, made_answered, made_gets, made_told, name_found, names_left, names_of, names_told, nested, partition_name, retry_begins, retry_told, verdict}
-use Rattle.pulsar_plans.specs.Replies.{count_in, counted_of, failing, fails_by, in_discovery, is_choice, is_set, place_at, place_heard, pointed_at, query, unexpected}
+use Rattle.pulsar_plans.specs.Plans.{and_then, count_failed, count_gets, count_heard, count_told, is_lost, is_partition, is_retryable, look_begins, look_failed, look_gets, look_heard, look_pointed, look_told, made_answered, made_gets, made_told, names_left, names_of, names_told, nested, partition_name, retry_begins, retry_told, verdict}
+use Rattle.pulsar_addresses.specs.Address.{name_found}
+use Rattle.pulsar_plans.specs.Replies.{count_in, counted_of, failing, fails_by, is_choice, is_set, place_at, place_heard, pointed_at, query, unexpected}
+use Rattle.pulsar_addresses.specs.Address.{in_discovery}
 use Rattle.pulsar_plans.specs.declared.count.Counting.{Counting}
 use Rattle.pulsar_plans.specs.declared.count.Counting.TheVariants as count
 use Rattle.pulsar_plans.specs.declared.look.Looking.{Looking}

@@ -11,7 +11,7 @@ use Rattle.pulsar_run.specs.Order.{arranged, put, put_all}
 use Rattle.pulsar_run.specs.Run.{first_of, rest, rest_of}
 use Rattle.pulsar_wire.specs.Failures.{Exhausted}
 use Rattle.pulsar_session.specs.Link.{ends}
-use Rattle.pulsar_plans.specs.Address.{Place, address_key}
+use Rattle.pulsar_addresses.specs.Address.{Place, address_key}
 use Rattle.pulsar_calls.specs.declared.act.Act.{Act}
 use Rattle.pulsar_calls.specs.declared.act.Act.TheVariants.{Comes, Starts, Told, Does, Answers, Dials}
 use Rattle.pulsar_calls.specs.declared.act.Action.TheVariants.{Get, Ask, StopAll, TakeBatch, Tell, TellAll}

@@ -9,7 +9,7 @@ use Rattle.pulsar_link.specs.Messages.{Reply}
 use Rattle.pulsar_link.specs.Refusals.{refused}
 use Rattle.pulsar_link.specs.Request.{Subscribed, is_answered, request_number, subscribed}
 use Rattle.pulsar_messages.specs.Words.{Words}
-use Rattle.pulsar_plans.specs.Address.{Named, Place}
+use Rattle.pulsar_addresses.specs.Address.{Named, Place}
 use Rattle.pulsar_plans.specs.Plans as search
 use Rattle.pulsar_plans.specs.Plans.{is_retryable}
 use Rattle.pulsar_plans.specs.declared.look.Looking.{Looking}

@@ -50,7 +50,7 @@ use Rattle.pulsar_procedures.specs.declared.plan.Wanted.{Wanted}
 use Rattle.pulsar_procedures.specs.Plan.{action_of, asks_of, begins, builds, fails_in, goes, goes_on_sending, goes_round, gathers, halted, in_asking, in_awaiting, in_finding, in_passing, in_settling, in_stored, in_storing, in_turning, is_answer, is_settled, leaves, news_in, news_of, overrides, sends_stay, settled, stands, stored, told, told_at, told_send, visited, visits, waits, wished}
 use Rattle.pulsar_producer.specs.Batching.{is_sent_send}
 use Rattle.std.proofs.Common.{◌∙◌, sym, ap, subst, inl, inr, ◌++◌}
-use Rattle.pulsar_plans.specs.Address.{Named}
+use Rattle.pulsar_addresses.specs.Address.{Named}
 use Rattle.pulsar_plans.specs.declared.making.Command.{Command}
 use Rattle.pulsar_plans.specs.declared.making.Making.{Making}
 use Rattle.pulsar_plans.specs.declared.making.Served.{Served}

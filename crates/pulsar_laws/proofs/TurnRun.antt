@@ -6,7 +6,7 @@ use Rattle.std.specs.List.{flat_map}
 use Rattle.std.specs.Option.{is_none, option_map, option_to_list}
 use Rattle.std.specs.Ordering.{nat_cmp}
 use Rattle.pulsar_run.specs.Laws.{In}
-use Rattle.pulsar_session.specs.Link.{is_spent}
+use Rattle.pulsar_messages.specs.Claims.{is_spent}
 use Rattle.pulsar_producer.specs.Laws.{AreAbove}
 use Rattle.pulsar_producer.specs.Topic as topic
 use Rattle.pulsar_producer.specs.Topic.{Setup, Takes, Passes, first_of, next_holder, rest_of, takes_in}

@@ -9,7 +9,7 @@ use Rattle.pulsar_frame.specs.Key.{key}
 use Rattle.pulsar_frame.specs.Message.{MessageValues}
 use Rattle.pulsar_frame.proofs.Streams.{cut-short, front-nil}
 use Rattle.pulsar_messages.specs.Words.{Words, is_numbered, SendPing}
-use Rattle.pulsar_plans.specs.Address.{Place}
+use Rattle.pulsar_addresses.specs.Address.{Place}
 use Rattle.pulsar_requests.specs.Waits.{ended, places}
 use Rattle.pulsar_run.specs.Laws.{In}
 use Rattle.pulsar_run.specs.Run.{first_of, rest, rest_of}

@@ -23,7 +23,7 @@ use Rattle.pulsar_calls.specs.declared.act.LinkAct.TheVariants as link
 use Rattle.pulsar_calls.specs.declared.act.Part.TheVariants.{ToLink, Polls}
 use Rattle.pulsar_calls.specs.declared.act.Who.{Who}
 use Rattle.pulsar_calls.specs.declared.effect.Settlement.TheVariants as settlement
-use Rattle.pulsar_plans.specs.Address.{Place}
+use Rattle.pulsar_addresses.specs.Address.{Place}
 use Rattle.pulsar_calls.specs.Content.{Heard, Bytes, Shown, Queued, Write}
 use Rattle.pulsar_tables.specs.Effects.{asked_at, connects, effect_below, effects, given_at, is_before3, retries_on}
 use Rattle.pulsar_frame.specs.Items.{Item, Given, Faulty}

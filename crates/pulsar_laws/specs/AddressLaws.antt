@@ -2,7 +2,7 @@
 use Rattle.std.specs.Prelude.{◌≡◌, ◌⊎◌, ℕ, ◌+◌, ◌-◌, ◌^◌, ◌≤◌, ◌==◌, bytes_eq, ◌&&◌, ◌||◌, not, Bool, true, false, if◌then◌else◌, List, [], ◌∷◌, ◌++◌, Option, Some, None}
 use Rattle.pulsar_run.specs.Laws.{InThisStep}
 use Rattle.pulsar_session.specs.Link.{Act as Act', ends}
-use Rattle.pulsar_plans.specs.Address.{Place, address_key, is_reachable}
+use Rattle.pulsar_addresses.specs.Address.{Place, address_key, is_reachable}
 use Rattle.pulsar_tables.specs.Alarms.{rings}
 use Rattle.pulsar_calls.specs.declared.act.Act.TheVariants.{Comes, Does, Dials}
 use Rattle.pulsar_calls.specs.declared.act.Action.TheVariants.{Get, StopAll}

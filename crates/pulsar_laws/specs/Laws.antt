@@ -14,14 +14,16 @@ use Rattle.pulsar_requests.specs.Waits.{later_of}
 use Rattle.pulsar_session.specs.declared.states.Asked.{Asked as Placed}
 use Rattle.pulsar_wire.specs.Failures.{ProducerClosed, OfProducer, ConsumerClosed, OfConsumer, DiscoveryConnection, DiscoveryCanceled, DiscoveryFault, DiscoveryNotFound, DiscoveryShutdown, DnsLookup, Dummy, Exhausted, Failure, Fault, OfConnection, OfDiscovery, OfPartialSend, Query, fault, Disconnected}
 use Rattle.pulsar_session.specs.Laws.{bytes_fed, messages_taken}
-use Rattle.pulsar_session.specs.Link.{Act as Act', Asks, Feeds, Setup, came, due, ends, is_spent}
+use Rattle.pulsar_session.specs.Link.{Act as Act', Asks, Feeds, Setup, came, due, ends}
+use Rattle.pulsar_messages.specs.Claims.{is_spent}
 use Rattle.pulsar_link.specs.Messages.{Reply, read}
 use Rattle.pulsar_link.specs.Request.{closed_consumer, request_number}
-use Rattle.pulsar_plans.specs.Address.{Place, address_key, is_reachable}
-use Rattle.pulsar_plans.specs.Replies.{in_discovery, query, unexpected, fails_by, is_choice, place_at, count_in}
+use Rattle.pulsar_addresses.specs.Address.{Place, address_key, is_reachable}
+use Rattle.pulsar_plans.specs.Replies.{query, unexpected, fails_by, is_choice, place_at, count_in}
+use Rattle.pulsar_addresses.specs.Address.{in_discovery}
 use Rattle.pulsar_producer.specs.Errors.{in_producer}
 use Rattle.pulsar_producer.specs.declared.deed.News.{News}
-use Rattle.pulsar_plans.specs.Backoff.{allow_retry}
+use Rattle.pulsar_addresses.specs.Backoff.{allow_retry}
 use Rattle.pulsar_plans.specs.declared.turn.Ways.{Ways}
 use Rattle.pulsar_frame.specs.Reply.{Reply as Content, is_body}
 use Rattle.pulsar_tables.specs.Alarms.{ringing, rings}

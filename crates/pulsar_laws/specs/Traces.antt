@@ -1,8 +1,8 @@
 -- Eleven small runs, by their histories, oldest step first. Each is good.
 use Rattle.std.specs.Prelude.{◌≡◌, ℕ, true, false, List, [], ◌∷◌, ◌++◌, reverse, codes, Some, None}
 use Rattle.url.specs.declared.host.Host.TheVariants.{Domain}
-use Rattle.pulsar_plans.specs.Address.{Place}
-use Rattle.pulsar_plans.specs.Backoff.{default_connection_retry, default_operation_retry}
+use Rattle.pulsar_addresses.specs.Address.{Place}
+use Rattle.pulsar_addresses.specs.Backoff.{default_connection_retry, default_operation_retry}
 use Rattle.pulsar_wire.specs.declared.error.IoKind.TheVariants.{ConnectionRefused, Other, TimedOut}
 use Rattle.pulsar_wire.specs.declared.commands.topics.Mode.TheVariants as modes
 use Rattle.pulsar_wire.specs.declared.commands.enumerations.SubType.TheVariants.{Exclusive}

@@ -2,4 +2,3 @@ pub mod RawCall
 pub mod Request
 pub mod Messages
 pub mod Refusals
-pub mod Held

@@ -6,7 +6,7 @@ use Rattle.pulsar_frame.specs.Key.{answers}
 use Rattle.pulsar_messages.specs.Content.{ConsumerOptionsValues}
 use Rattle.pulsar_messages.specs.Messages.{body_of}
 use Rattle.pulsar_messages.specs.Words.{Words, SendPing, SendPong, AuthChallenge, LookupTopic, LookupPartitionedTopic, GetTopicsOfNamespace, GetSchema, CreateProducer, Send, CloseProducer, Subscribe, SendFlow, SendAck, SendRedeliver, Seek, GetLastMessageId, GetConsumerStats, Unsubscribe, CloseConsumer, CloseConsumerUnawaited}
-use Rattle.pulsar_session.specs.Link.{claim}
+use Rattle.pulsar_messages.specs.Claims.{claim}
 
 -- the number of its body, which its request number doesn't change
 abbrev pub request_number : Words → ℕ

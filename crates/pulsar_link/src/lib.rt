@@ -1,7 +1,6 @@
 //! What a client asks on a connection, and what it reads in the messages of the broker.
 #![tactic(auto)]
 
-pub mod ask;
 pub mod content;
 pub mod raw_call;
 pub mod refusal;

@@ -3,3 +3,4 @@ pub mod Words
 pub mod Messages
 pub mod Murmur
 pub mod Laws
+pub mod Claims

@@ -1,5 +1,3 @@
-pub mod Address
-pub mod Backoff
 pub mod Closing
 pub mod Question
 pub mod Replies

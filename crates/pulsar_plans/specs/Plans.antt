@@ -9,9 +9,10 @@ use Rattle.pulsar_wire.specs.declared.error.IoKind.TheVariants.{TimedOut}
 use Rattle.pulsar_messages.specs.Words.{LookupPartitionedTopic, LookupTopic}
 use Rattle.pulsar_wire.specs.Failures.{Fault, Io, PulsarError, Disconnected, Failure, OfConnection}
 use Rattle.pulsar_frame.specs.Reply.{Reply, is_body}
-use Rattle.pulsar_plans.specs.Address.{Place, Named}
-use Rattle.pulsar_plans.specs.Backoff.{allow_retry, one_more}
-use Rattle.pulsar_plans.specs.Replies.{count_in, in_discovery, place_heard, unexpected}
+use Rattle.pulsar_addresses.specs.Address.{Place, Named}
+use Rattle.pulsar_addresses.specs.Backoff.{allow_retry, one_more}
+use Rattle.pulsar_plans.specs.Replies.{count_in, place_heard, unexpected}
+use Rattle.pulsar_addresses.specs.Address.{in_discovery}
 use Rattle.pulsar_plans.specs.declared.replies.Heard.{Heard}
 use Rattle.pulsar_plans.specs.declared.replies.Heard.TheVariants.{Says, Later, Denies}
 use Rattle.pulsar_plans.specs.declared.replies.Pointed.{Pointed}
@@ -41,6 +42,7 @@ use Rattle.pulsar_plans.specs.declared.plan.Procedure.{Procedure}
 use Rattle.pulsar_plans.specs.declared.plan.Procedure.TheVariants as procedure
 use Rattle.pulsar_plans.specs.declared.plan.Plan.{Plan}
 use Rattle.pulsar_plans.specs.declared.plan.Plan.TheVariants as plan
+use Rattle.pulsar_addresses.specs.Address.{name_found}
 
 -- PLANS WITHIN PLANS
 
@@ -157,9 +159,6 @@ look_told w t (look.Reaching found) o = fails (in_discovery (fault_of o))
 
 abbrev pub partition_name : (topic : List ℕ) → ℕ → List ℕ
 partition_name t k = t ++ (codes "-partition-" ++ decimal k)
-
-abbrev pub name_found : List Named → (name : List ℕ) → Place → List Named
-name_found found name place = found ++ record { name = name; place = place } ∷ []
 
 -- the last `left` of so many partitions, behind those that were found
 abbrev pub names_left : Ways → (topic : List ℕ) → (count left : ℕ) → List Named → Turn Naming (Result (List Named) Failure)

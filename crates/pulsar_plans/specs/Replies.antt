@@ -5,19 +5,16 @@ use Rattle.std.specs.Ordering.{int_eq}
 use Rattle.pulsar_wire.specs.Field.{◌>>=◌}
 use Rattle.pulsar_wire.specs.Command.{body_name}
 use Rattle.pulsar_wire.specs.Enumerations.{error_of}
-use Rattle.pulsar_wire.specs.Failures.{Fault, PulsarError, UnexpectedResponse, Failure, OfDiscovery, DiscoveryConnection, Query, DiscoveryNotFound}
+use Rattle.pulsar_wire.specs.Failures.{Fault, PulsarError, UnexpectedResponse, Failure, OfDiscovery, Query, DiscoveryNotFound}
 use Rattle.pulsar_frame.specs.Reply.{Reply, Written, is_body}
-use Rattle.pulsar_plans.specs.Address.{Place, place_in}
-use Rattle.pulsar_plans.specs.Backoff.{allow_retry}
+use Rattle.pulsar_addresses.specs.Address.{Place, place_in}
+use Rattle.pulsar_addresses.specs.Backoff.{allow_retry}
 use Rattle.pulsar_plans.specs.declared.replies.Heard.{Heard}
 use Rattle.pulsar_plans.specs.declared.replies.Heard.TheVariants.{Says, Later, Denies}
 use Rattle.pulsar_plans.specs.declared.replies.Pointed.{Pointed}
 use Rattle.pulsar_plans.specs.declared.replies.Pointed.TheVariants.{Redirects, Serves}
 use Rattle.pulsar_plans.specs.declared.turn.Ways.{Ways}
-
--- a failure inside a search
-abbrev pub in_discovery : Fault → Failure
-in_discovery f = OfDiscovery (DiscoveryConnection f)
+use Rattle.pulsar_addresses.specs.Address.{in_discovery}
 
 -- why a reply fails a question that expects another body: the broker's error with its text, or the name of the body
 unfoldable pub unexpected : Reply → Option Written → Fault

@@ -3,7 +3,7 @@
 ghost use Rattle.std.specs.Prelude.{◌≡◌, ◌++◌, [], ◌∷◌, IfOk, MatchOption};
 ghost use Rattle.pulsar_plans.specs.Closing as meaning;
 
-use crate::content::Refusal;
+use pulsar_addresses::content::Refusal;
 use pulsar_wire::error::NoMemory;
 use std::alloc::Global;
 use std::collections::VecDeque;

@@ -3,9 +3,9 @@
 ghost use Rattle.std.specs.Prelude.{◌≡◌, IfOk};
 ghost use Rattle.pulsar_wire.specs.Failures.{fault};
 ghost use Rattle.pulsar_plans.specs.Plans as meaning;
-ghost use Rattle.pulsar_plans.specs.Replies.{in_discovery};
+ghost use Rattle.pulsar_addresses.specs.Address.{in_discovery};
 
-use crate::content::{Address, Refusal, Text};
+use pulsar_addresses::content::{Address, Refusal, Text};
 use crate::question::Request;
 use crate::replies::{Heard, Pointed, place_in};
 use crate::turn::{Action, Outcome, Turn, Ways, error_of, is_lost};

@@ -2,10 +2,10 @@
 
 ghost use Rattle.std.specs.Prelude.{◌≡◌, ◌+◌, Ok, Err, IfOk, MatchResult};
 ghost use Rattle.pulsar_wire.specs.Failures.{OfConnection, fault};
-ghost use Rattle.pulsar_plans.specs.Backoff.{one_more};
+ghost use Rattle.pulsar_addresses.specs.Backoff.{one_more};
 ghost use Rattle.pulsar_plans.specs.Plans as meaning;
 
-use crate::content::{Address, Refusal, Text};
+use pulsar_addresses::content::{Address, Refusal, Text};
 use crate::question::Request;
 use crate::replies::why_refused;
 use crate::retry::{self, Retrying};

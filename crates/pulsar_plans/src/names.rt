@@ -2,9 +2,10 @@
 
 ghost use Rattle.std.specs.Prelude.{◌≡◌, ◌-◌, [], Ok, Err, IfOk};
 ghost use Rattle.pulsar_plans.specs.Plans as meaning;
+ghost use Rattle.pulsar_addresses.specs.Address as meaning_low;
 ghost use Rattle.pulsar_plans.specs.declared.turn.Turn.TheVariants.{Gives};
 
-use crate::content::{Address, Names, Refusal, Text};
+use pulsar_addresses::content::{Address, Names, Refusal, Text};
 use crate::count::{self, Counting};
 use crate::look::{self, Looking};
 use crate::turn::{Outcome, Turn, Ways};
@@ -107,7 +108,7 @@ fn after_whole(
     topic: &Text,
     turn: Turn<Looking, Result<Address, Refusal>>,
 ) -> Result<Turn<Naming, Result<Names, Refusal>>, NoMemory>
-    ensures { IfOk result (λ next. next ≡ meaning.and_then turn Naming.Whole (λ place. Gives (Ok (meaning.name_found [] topic.now place)))) }
+    ensures { IfOk result (λ next. next ≡ meaning.and_then turn Naming.Whole (λ place. Gives (Ok (meaning_low.name_found [] topic.now place)))) }
 {
     match turn {
         Turn::Stays(look, action) => Ok(Turn::Stays(Naming::Whole(look), action)),
@@ -172,7 +173,7 @@ fn after_part(
     turn: Turn<Looking, Result<Address, Refusal>>,
 ) -> Result<Turn<Naming, Result<Names, Refusal>>, NoMemory>
     ensures { IfOk result (λ next. next ≡ meaning.and_then turn (λ l. Naming.Part l part)
-        (λ place. meaning.names_left ways.now topic.now part.count part.left (meaning.name_found part.found part.name place))) }
+        (λ place. meaning.names_left ways.now topic.now part.count part.left (meaning_low.name_found part.found part.name place))) }
 {
     match turn {
         Turn::Stays(look, action) => Ok(Turn::Stays(Naming::Part { look, part }, action)),

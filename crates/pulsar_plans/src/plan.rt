@@ -4,7 +4,7 @@ ghost use Rattle.std.specs.Prelude.{◌≡◌, Ok, IfOk};
 ghost use Rattle.pulsar_plans.specs.Plans as meaning;
 ghost use Rattle.pulsar_plans.specs.declared.turn.Turn.TheVariants.{Gives};
 
-use crate::content::{Address, Cause, Names, Refusal, Text};
+use pulsar_addresses::content::{Address, Cause, Names, Refusal, Text};
 use crate::count::{self, Counting};
 use crate::look::{self, Looking};
 use crate::making::{self, Command, Making, Served};

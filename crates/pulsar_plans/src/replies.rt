@@ -6,9 +6,10 @@ ghost use Rattle.pulsar_wire.specs.Views.{body_values};
 ghost use Rattle.pulsar_wire.specs.Failures.{OfDiscovery, DiscoveryNotFound, UnexpectedResponse, fault};
 ghost use Rattle.pulsar_frame.specs.Reply.{read_body, written};
 ghost use Rattle.pulsar_plans.specs.Replies as meaning;
+ghost use Rattle.pulsar_addresses.specs.Address as meaning_low;
 
-use crate::content::{Address, Refusal};
-use crate::options::allow_retry;
+use pulsar_addresses::content::{Address, Refusal};
+use pulsar_addresses::options::allow_retry;
 use crate::turn::Ways;
 use pulsar_frame::received::Received;
 use pulsar_wire::commands::base::Body;
@@ -258,7 +259,7 @@ fn broker_of(
 
 /// Why a reply without a body fails a search.
 fn no_answer(alloc: Global) -> Result<Refusal, NoMemory>
-    ensures { IfOk result (λ r. r ≡ meaning.in_discovery (meaning.unexpected (read_body None None) None)) }
+    ensures { IfOk result (λ r. r ≡ meaning_low.in_discovery (meaning.unexpected (read_body None None) None)) }
 {
     let error = no_body(alloc)?;
     Refusal::in_discovery(alloc, error)
@@ -266,7 +267,7 @@ fn no_answer(alloc: Global) -> Result<Refusal, NoMemory>
 
 /// Why a body that is not the answer fails a search.
 fn other_body(alloc: Global, body: &Body) -> Result<Refusal, NoMemory>
-    ensures { IfOk result (λ r. r ≡ meaning.in_discovery
+    ensures { IfOk result (λ r. r ≡ meaning_low.in_discovery
         (meaning.unexpected (read_body None (Some (body_values body.now))) (Some (written (body_values body.now))))) }
 {
     let error = unexpected(alloc, body)?;

@@ -5,9 +5,9 @@ ghost use Rattle.pulsar_wire.specs.Failures.{OfConnection, fault};
 ghost use Rattle.pulsar_plans.specs.Plans as meaning;
 ghost use Rattle.pulsar_plans.specs.declared.turn.Turn.TheVariants.{Gives};
 
-use crate::content::{Address, Refusal, Text};
+use pulsar_addresses::content::{Address, Refusal, Text};
 use crate::look::{self, Looking};
-use crate::options::allow_retry;
+use pulsar_addresses::options::allow_retry;
 use crate::turn::{Action, Outcome, Turn, Ways, error_of};
 use pulsar_wire::commands::enumerations::ServerError;
 use pulsar_wire::error::{ConnectionError, IoKind, NoMemory};

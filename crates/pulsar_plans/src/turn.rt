@@ -4,7 +4,7 @@ ghost use Rattle.std.specs.Prelude.{◌≡◌, IfOk};
 ghost use Rattle.pulsar_wire.specs.Failures.{fault};
 ghost use Rattle.pulsar_plans.specs.Plans.{fault_of, is_lost};
 
-use crate::content::{Address, Cause};
+use pulsar_addresses::content::{Address, Cause};
 use crate::question::Request;
 use pulsar_frame::received::Received;
 use pulsar_wire::error::{ConnectionError, NoMemory};

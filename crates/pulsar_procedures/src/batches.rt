@@ -13,7 +13,7 @@ use crate::states::BatchState;
 use pulsar_calls::act::{Action, Makes, Notice, Outcome, Share, Verdict, Who};
 use pulsar_calls::content::{Granted, Notices, Said};
 use pulsar_calls::effect::Answer;
-use pulsar_plans::content::Refusal;
+use pulsar_addresses::content::Refusal;
 use pulsar_plans::turn::Ways;
 use pulsar_producer::Receipt;
 use pulsar_producer::batch::{Fate, Report};

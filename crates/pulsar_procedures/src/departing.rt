@@ -10,7 +10,7 @@ use crate::serving::over;
 use pulsar_calls::act::{Action, Outcome, Says, Verdict, Word};
 use pulsar_link::content::Request;
 use pulsar_link::raw_call::RawCall;
-use pulsar_plans::content::Refusal;
+use pulsar_addresses::content::Refusal;
 use pulsar_wire::error::{ConsumerError, Error, NoMemory};
 use std::alloc::Global;
 

@@ -19,7 +19,7 @@ use pulsar_calls::content::{Failures, Numbers, Said};
 use pulsar_calls::effect::Answer;
 use pulsar_consumer::building::Order as ConsumerOrder;
 use pulsar_link::content::{Received, Request, Subscribed};
-use pulsar_plans::content::Refusal as Failure;
+use pulsar_addresses::content::Refusal as Failure;
 use pulsar_plans::turn::Ways;
 use pulsar_producer::building::Order;
 use pulsar_producer::deed;

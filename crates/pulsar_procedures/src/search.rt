@@ -15,7 +15,7 @@ use pulsar_calls::effect::Answer;
 use pulsar_frame::message::Message;
 use pulsar_link::content::Request;
 use pulsar_link::raw_call::RawCall;
-use pulsar_plans::content::{Cause, Refusal};
+use pulsar_addresses::content::{Cause, Refusal};
 use pulsar_plans::making::Served;
 use pulsar_plans::plan::{self, Answer as Found, Plan as Search, Procedure as Sought};
 use pulsar_plans::question::{Question, Request as Wanted};

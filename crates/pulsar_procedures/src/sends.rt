@@ -17,7 +17,7 @@ use pulsar_calls::content::Said;
 use pulsar_calls::copying::twice;
 use pulsar_calls::effect::Answer;
 use pulsar_frame::message::Message;
-use pulsar_plans::content::Refusal;
+use pulsar_addresses::content::Refusal;
 use pulsar_plans::turn::Ways;
 use pulsar_producer::content::Outgoing;
 use pulsar_producer::deed::{Deed, Step};

@@ -25,7 +25,7 @@ impl Drop for BuildState {
 }
 
 impl Model for BuildState {
-    ghost use Rattle.pulsar_plans.specs.contracts.content.Refusal as refusal;
+    ghost use Rattle.pulsar_addresses.specs.contracts.content.Refusal as refusal;
     ghost use Rattle.pulsar_producer.specs.declared.building.Building.{Building};
     ghost use Rattle.std.specs.Coded.{codes};
 
@@ -64,7 +64,7 @@ impl Drop for SendState {
 }
 
 impl Model for SendState {
-    ghost use Rattle.pulsar_plans.specs.contracts.content.Refusal as refusal;
+    ghost use Rattle.pulsar_addresses.specs.contracts.content.Refusal as refusal;
     ghost use Rattle.pulsar_producer.specs.declared.sending.Sending.{Sending};
     ghost use Rattle.std.specs.Coded.{codes};
 
@@ -110,7 +110,7 @@ impl Drop for BatchState {
 }
 
 impl Model for BatchState {
-    ghost use Rattle.pulsar_plans.specs.contracts.content.Refusal as refusal;
+    ghost use Rattle.pulsar_addresses.specs.contracts.content.Refusal as refusal;
     ghost use Rattle.pulsar_producer.specs.declared.batching.Batching.{Batching};
     ghost use Rattle.std.specs.Coded.{codes};
 

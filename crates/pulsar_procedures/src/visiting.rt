@@ -13,7 +13,7 @@ use pulsar_calls::act::{Action, Makes, Outcome, Round, Verdict};
 use pulsar_calls::content::Numbers;
 use pulsar_link::content::{Received, Request};
 use pulsar_link::raw_call::RawCall;
-use pulsar_plans::content::Refusal;
+use pulsar_addresses::content::Refusal;
 use pulsar_producer::deed::{News, error_told, in_producer};
 use pulsar_wire::bodies;
 use pulsar_wire::error::{ConnectionError, NoMemory};

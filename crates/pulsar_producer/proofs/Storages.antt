@@ -1,7 +1,7 @@
 -- What is stored is not ready, and was not before.
 use Rattle.std.proofs.Common.{◌≡◌, ◌∙◌, sym, ap, refl, subst, ℕ, ◌||◌, nat_lt, nat_le, Bool, true, false, cond, List, [], ◌∷◌, ◌++◌, Option, Some, None, arith, append-nil, ◌⊎◌, inl, inr}
 use Rattle.std.proofs.lemmas.Bool.Decides.{nat_tests}
-use Rattle.pulsar_session.specs.Link.{is_spent}
+use Rattle.pulsar_messages.specs.Claims.{is_spent}
 use Rattle.pulsar_wire.specs.Sink.{capped}
 use Rattle.pulsar_producer.specs.BatchLaws.{NeverReady, StoredIsNotReady, is_full, is_positive}
 use Rattle.pulsar_producer.specs.Storage.{Item, SingleMessage, Flush, Storage, ends_in_flush, is_ready, pushed, reaches}

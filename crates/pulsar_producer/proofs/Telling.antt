@@ -8,7 +8,7 @@ use Rattle.pulsar_messages.specs.Content.{ProducerMessageValues}
 use Rattle.pulsar_wire.specs.declared.error.Reason.{Reason}
 use Rattle.pulsar_wire.specs.Failures.{Fault, Failure}
 use Rattle.pulsar_frame.specs.Reply.{Reply}
-use Rattle.pulsar_plans.specs.Address.{Place}
+use Rattle.pulsar_addresses.specs.Address.{Place}
 use Rattle.pulsar_plans.specs.Plans.{is_lost, look_begins, look_told, made_gets, made_told, verdict}
 use Rattle.pulsar_plans.specs.declared.look.Looking.{Looking}
 use Rattle.pulsar_plans.specs.declared.making.Command.{Command}

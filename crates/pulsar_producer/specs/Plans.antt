@@ -4,7 +4,7 @@ use Rattle.std.specs.Prelude.{ℕ, Bool, ◌&&◌, not, List, [], ◌∷◌, ◌
 use Rattle.pulsar_messages.specs.Content.{ProducerMessageValues}
 use Rattle.pulsar_wire.specs.Failures.{Fault, Disconnected, Failure, OfConnection}
 use Rattle.pulsar_frame.specs.Reply.{Reply}
-use Rattle.pulsar_plans.specs.Address.{Named, Place}
+use Rattle.pulsar_addresses.specs.Address.{Named, Place}
 use Rattle.pulsar_plans.specs.Plans.{fault_of, is_lost, look_begins, look_told, made_gets, made_told, names_begins, names_told, verdict}
 use Rattle.pulsar_plans.specs.declared.look.Looking.{Looking}
 use Rattle.pulsar_plans.specs.declared.making.Command.{Command}

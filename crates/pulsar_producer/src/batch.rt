@@ -14,7 +14,7 @@ use crate::deed::in_producer;
 use crate::storage::BatchItem;
 use pulsar_frame::batch::BatchedMessage;
 use pulsar_messages::{Message, ProducerMessage, into_properties};
-use pulsar_plans::content::Refusal;
+use pulsar_addresses::content::Refusal;
 use pulsar_frame::received::Received;
 use pulsar_wire::commands::base::Body;
 use pulsar_wire::commands::ids::MessageIdData;

@@ -7,7 +7,7 @@ use crate::content::{Built, Left, Parts, Settings};
 use crate::deed::{Deed, News, Step, error_told};
 use crate::replies::given_by;
 use crate::topic_producer::command;
-use pulsar_plans::content::{Address, Names, Refusal, Text};
+use pulsar_addresses::content::{Address, Names, Refusal, Text};
 use pulsar_plans::making::{self, Command, Making, Served};
 use pulsar_plans::names::{self, Naming};
 use pulsar_plans::turn::{Turn, Ways};

@@ -16,8 +16,8 @@ use crate::replies::Given;
 use crate::storage::{BatchItem, Limits, push_tickets};
 use pulsar_frame::batch::BatchedMessage;
 use pulsar_messages::{Message, ProducerMessage, ProducerOptions};
-use pulsar_plans::BrokerAddress;
-use pulsar_plans::content::{Address, Names, Text};
+use pulsar_addresses::address::BrokerAddress;
+use pulsar_addresses::content::{Address, Names, Text};
 use pulsar_wire::error::{NoMemory, Reason};
 use std::alloc::Global;
 use std::collections::VecDeque;
@@ -206,7 +206,7 @@ impl Drop for Left {
 
 impl Model for Left {
     ghost use Rattle.std.specs.Prelude.{List, map};
-    ghost use Rattle.pulsar_plans.specs.Address.{Named, named};
+    ghost use Rattle.pulsar_addresses.specs.Address.{Named, named};
 
     ghost Value = { List Named };
 
@@ -425,7 +425,7 @@ impl Drop for Reports {
 impl Model for Reports {
     ghost use Rattle.std.specs.Prelude.{List};
     ghost use Rattle.std.specs.Coded.{codes};
-    ghost use Rattle.pulsar_plans.specs.contracts.content.Refusal as refusal;
+    ghost use Rattle.pulsar_addresses.specs.contracts.content.Refusal as refusal;
     ghost use Rattle.pulsar_producer.specs.declared.batch.Report.{Report};
 
     ghost Value = { List Report };

@@ -3,7 +3,7 @@
 ghost use Rattle.std.specs.Prelude.{◌≡◌, IfOk};
 ghost use Rattle.pulsar_wire.specs.Failures.{OfConsumer, OfDiscovery, consumer_fault, discovery_fault, failure, fault, of_producer, sent};
 
-use pulsar_plans::content::Refusal;
+use pulsar_addresses::content::Refusal;
 use pulsar_wire::encoding::copying::copy_optional;
 use pulsar_wire::error::{
     ConnectionError, ConsumerError, Error, NoMemory, ProducerError, ServiceDiscoveryError,

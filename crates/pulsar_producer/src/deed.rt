@@ -7,7 +7,7 @@ ghost use Rattle.pulsar_producer.specs.Plans.{fault_told};
 
 use crate::content::{Batch, Outgoing, Reports, Version};
 use crate::replies::Given;
-use pulsar_plans::content::{Refusal, Text};
+use pulsar_addresses::content::{Refusal, Text};
 use pulsar_plans::making::Command;
 use pulsar_plans::turn::{self, Action, Outcome};
 use pulsar_wire::error::{ConnectionError, Error, NoMemory, ProducerError};

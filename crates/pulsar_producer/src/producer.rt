@@ -10,7 +10,7 @@ ghost use Rattle.pulsar_producer.specs.Producer.{advice, after, is_single, made,
 use crate::content::Settings;
 use crate::routing::{CustomRoutingPolicy, Partition, PartitionedProducer};
 use pulsar_messages::{Message, ProducerOptions};
-use pulsar_plans::content::Text;
+use pulsar_addresses::content::Text;
 use pulsar_wire::error::{Error, NoMemory};
 use std::marker::Model;
 

@@ -6,7 +6,7 @@ ghost use Rattle.pulsar_wire.specs.Views.{body_values};
 ghost use Rattle.pulsar_producer.specs.Replies as meaning;
 
 use crate::content::Version;
-use pulsar_plans::content::Text;
+use pulsar_addresses::content::Text;
 use pulsar_frame::received::Received;
 use pulsar_wire::commands::base::Body;
 use pulsar_wire::commands::producer::CommandProducerSuccess;

@@ -8,7 +8,7 @@ ghost use Rattle.pulsar_producer.specs.Errors.{IsNoMemory, no_such_index};
 ghost use Rattle.pulsar_producer.specs.Routing.{advice, asked, begun, chosen, chosen_on, count, in_range, last_by_key, number_at, of_key, routed, stepped};
 
 use pulsar_messages::{Message, RoutingPolicy};
-use pulsar_plans::content::Text;
+use pulsar_addresses::content::Text;
 use pulsar_wire::error::{ConnectionError, Error, NoMemory, ProducerError};
 use std::alloc::Global;
 use std::marker::Model;

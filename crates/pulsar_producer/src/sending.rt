@@ -10,7 +10,7 @@ ghost use Rattle.pulsar_producer.specs.Plans as meaning;
 use crate::content::Outgoing;
 use crate::deed::{Deed, Drawn, News, Send, Step, error_told, in_producer};
 use crate::replies::given_by;
-use pulsar_plans::content::{Address, Refusal};
+use pulsar_addresses::content::{Address, Refusal};
 use pulsar_plans::look::{self, Looking};
 use pulsar_plans::making::{self, Command, Making, Served, verdict};
 use pulsar_plans::turn::{Outcome, Turn, Ways, is_lost};

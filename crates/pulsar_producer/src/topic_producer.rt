@@ -9,7 +9,7 @@ ghost use Rattle.pulsar_producer.specs.Topic.{Closes, Cuts, Draws, Flushes, Halt
 use crate::content::{Batch, Built, Entry, Settings, Version};
 use crate::replies::Given;
 use crate::storage::{BatchItem, BatchStorage, Limits};
-use pulsar_plans::content::Text;
+use pulsar_addresses::content::Text;
 use pulsar_plans::making::Command;
 use pulsar_plans::question::{Question, Request};
 use pulsar_wire::error::NoMemory;

@@ -5,7 +5,7 @@ use Rattle.std.specs.List.{flat_map, list_any}
 use Rattle.std.specs.Option.{is_some, option_map}
 use Rattle.std.specs.Ordering.{nat_cmp}
 use Rattle.pulsar_messages.specs.Content.{ProducerMessageValues}
-use Rattle.pulsar_session.specs.Link.{is_spent}
+use Rattle.pulsar_messages.specs.Claims.{is_spent}
 use Rattle.pulsar_link.specs.Request.{named_producer}
 use Rattle.pulsar_plans.specs.declared.making.Command.{Command}
 use Rattle.pulsar_producer.specs.Commands.{command_of}

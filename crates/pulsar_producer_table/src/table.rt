@@ -20,7 +20,7 @@ use pulsar_calls::act::{Notice, Outcome, Who};
 use pulsar_calls::content::{Advice, Building, Numbers, Remaking};
 use pulsar_calls::who::in_turn;
 use pulsar_messages::Message;
-use pulsar_plans::content::Text;
+use pulsar_addresses::content::Text;
 use pulsar_plans::making::Command;
 use pulsar_producer::content::{Batch, Built, Entry, Parts, Settings, Version};
 use pulsar_producer::deed::Drawn;

@@ -1,8 +1,8 @@
 //! Which partition a message goes to.
 
 use pulsar_messages::{Message, ProducerOptions, RoutingPolicy};
-use pulsar_plans::content::Text;
-use pulsar_plans::random::connection_id;
+use pulsar_addresses::content::Text;
+use pulsar_addresses::random::connection_id;
 use pulsar_producer::Producer;
 use pulsar_producer::content::Settings;
 use pulsar_producer::routing::{Partition, PartitionedProducer};

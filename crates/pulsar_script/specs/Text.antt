@@ -6,7 +6,7 @@ use Rattle.pulsar_calls.specs.declared.effect.Settlement.{Settlement}
 use Rattle.pulsar_calls.specs.declared.effect.Settlement.TheVariants as settlement
 use Rattle.pulsar_calls.specs.Content.{Said, Done, Names, Address, Count, Addresses, Receipt, Sends, Replies, Failed, Shown, Connect, Queued, Write, Retry, Close, Settles, Ends, Hands, Faults, FindsNothing, FindsEnd}
 use Rattle.url.specs.Parts.{serialize}
-use Rattle.pulsar_plans.specs.Address.{Named, Place}
+use Rattle.pulsar_addresses.specs.Address.{Named, Place}
 use Rattle.pulsar_script.specs.WordText.{hex, word}
 use Rattle.pulsar_script.specs.ErrorText.{failure}
 

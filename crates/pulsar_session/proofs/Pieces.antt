@@ -6,7 +6,7 @@ use Rattle.pulsar_frame.specs.Message.{MessageValues}
 use Rattle.pulsar_frame.specs.Key.{key}
 use Rattle.pulsar_frame.specs.Frame.{Front, Short, Refused, Whole, front}
 use Rattle.pulsar_frame.proofs.Streams.{front-refused-append, front-whole-append}
-use Rattle.pulsar_requests.specs.declared.awaited.Claim.{Claim}
+use Rattle.pulsar_wire.specs.declared.awaited.Claim.{Claim}
 use Rattle.pulsar_session.specs.declared.states.Stage.{Stage}
 use Rattle.pulsar_session.specs.declared.states.Stage.TheVariants.{Dialing, Handshaking, Ready, Over}
 use Rattle.pulsar_session.specs.Answers.{is}

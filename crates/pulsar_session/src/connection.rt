@@ -19,7 +19,7 @@ use crate::states::{Arrived, Asked, Stage};
 use pulsar_messages::{
     Authentication, ConsumerOptions, ProducerMessage, ProducerOptions, messages as builders,
 };
-use pulsar_requests::{Awaited, Claim};
+use pulsar_wire::awaited::{Awaited, Claim};
 use pulsar_wire::commands::enumerations::SubType;
 use pulsar_wire::commands::ids::MessageIdData;
 use pulsar_wire::commands::topics::Mode;

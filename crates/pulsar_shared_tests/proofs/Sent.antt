@@ -45,8 +45,8 @@ use Rattle.pulsar_consumer_table.specs.contracts.table.Consumers as consumer_tab
 use Rattle.pulsar_frame.proofs.payload.Payload.TheSendSync as frame-Payload
 use Rattle.pulsar_link.proofs.content.Request.TheSendSync as link-Request
 use Rattle.pulsar_frame.specs.contracts.items.Unread as link-Unread
-use Rattle.pulsar_plans.specs.contracts.content.Refusal as plans-Refusal
-use Rattle.pulsar_plans.proofs.content.Text.TheSendSync as plans-Text
+use Rattle.pulsar_addresses.specs.contracts.content.Refusal as plans-Refusal
+use Rattle.pulsar_addresses.proofs.content.Text.TheSendSync as plans-Text
 use Rattle.pulsar_plans.proofs.look.Looking.TheSendSync as plans-Looking
 use Rattle.pulsar_plans.proofs.making.Command.TheSendSync as plans-Command
 use Rattle.pulsar_plans.proofs.making.Making.TheSendSync as plans-Making

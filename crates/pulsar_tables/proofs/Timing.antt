@@ -15,7 +15,7 @@ use Rattle.std.specs.Ordering.{nat_cmp}
 use Rattle.pulsar_requests.proofs.Awaiting.{is_at-eqb}
 use Rattle.pulsar_requests.specs.Soonest.{has_come}
 use Rattle.pulsar_wire.specs.Failures.{Fault}
-use Rattle.pulsar_plans.specs.Address.{Place}
+use Rattle.pulsar_addresses.specs.Address.{Place}
 use Rattle.pulsar_calls.specs.declared.act.Act.{Act}
 use Rattle.pulsar_calls.specs.declared.act.Act.TheVariants.{Comes}
 use Rattle.pulsar_calls.specs.declared.act.End.{End}

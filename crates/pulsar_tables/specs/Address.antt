@@ -6,7 +6,7 @@ use Rattle.std.specs.Option.{option_map}
 use Rattle.url.specs.Host.{host_text}
 use Rattle.url.specs.Parts.{Parts, nonempty_host}
 use Rattle.url.specs.Parser.{Parsed, parse_url}
-use Rattle.pulsar_plans.specs.Address.{Place, base_of, default_port, is_reachable}
+use Rattle.pulsar_addresses.specs.Address.{Place, base_of, default_port, is_reachable}
 
 -- the address of the service in a text; there is none where the text is no URL, or has no host
 abbrev pub base_parsed : Parsed Parts → Option Place

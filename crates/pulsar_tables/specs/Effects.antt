@@ -13,7 +13,7 @@ use Rattle.pulsar_calls.specs.declared.act.Who.{Who}
 use Rattle.pulsar_tables.specs.declared.addresses.Pause.{Pause}
 use Rattle.pulsar_calls.specs.declared.act.Who.TheVariants.{Call, Consumer, Producer}
 use Rattle.pulsar_tables.specs.Address.{leads_to}
-use Rattle.pulsar_plans.specs.Address.{Place}
+use Rattle.pulsar_addresses.specs.Address.{Place}
 use Rattle.pulsar_calls.specs.Content.{Said, Shown, Connect, Queued, Write, Settles, Ends, Retry, Close, Hands, Faults, FindsNothing, FindsEnd}
 use Rattle.pulsar_tables.specs.Links as links
 use Rattle.pulsar_consumer_table.specs.Consumers.{polled}

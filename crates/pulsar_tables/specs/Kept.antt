@@ -9,7 +9,7 @@ use Rattle.std.specs.Ordering.{nat_cmp}
 use Rattle.pulsar_requests.specs.Soonest.{has_come}
 use Rattle.pulsar_wire.specs.Failures.{Fault}
 use Rattle.pulsar_session.specs.Link.{due}
-use Rattle.pulsar_plans.specs.Address.{Place, address_key}
+use Rattle.pulsar_addresses.specs.Address.{Place, address_key}
 use Rattle.pulsar_calls.specs.declared.act.Alarm.{Alarm}
 use Rattle.pulsar_calls.specs.declared.act.End.{End}
 use Rattle.pulsar_calls.specs.declared.act.Notice.{Notice}

@@ -8,10 +8,10 @@ use Rattle.pulsar_wire.specs.declared.error.ConnectionError.{ConnectionError}
 use Rattle.pulsar_wire.specs.declared.error.ConnectionError.TheVariants as error
 use Rattle.pulsar_wire.specs.declared.error.IoKind.{IoKind}
 use Rattle.pulsar_wire.specs.declared.error.IoKind.TheVariants.{ConnectionRefused, TimedOut, Other}
-use Rattle.pulsar_plans.specs.Address.{Place, address_key, behind, is_reachable}
-use Rattle.pulsar_plans.specs.Backoff.{backoff, connection_id, jitter}
-use Rattle.pulsar_plans.specs.declared.options.ConnectionRetryOptions.{ConnectionRetryOptions}
-use Rattle.pulsar_plans.specs.declared.options.OperationRetryOptions.{OperationRetryOptions}
+use Rattle.pulsar_addresses.specs.Address.{Place, address_key, behind, is_reachable}
+use Rattle.pulsar_addresses.specs.Backoff.{backoff, connection_id, jitter}
+use Rattle.pulsar_addresses.specs.declared.options.ConnectionRetryOptions.{ConnectionRetryOptions}
+use Rattle.pulsar_addresses.specs.declared.options.OperationRetryOptions.{OperationRetryOptions}
 use Rattle.pulsar_plans.specs.declared.turn.Ways.{Ways}
 use Rattle.pulsar_messages.specs.Content.{AuthenticationValues}
 use Rattle.pulsar_messages.specs.Words.{Words, SendPing}

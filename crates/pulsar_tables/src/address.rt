@@ -4,11 +4,11 @@ ghost use Rattle.std.specs.Prelude.{◌≡◌, ◌++◌, IfOk, OnOk, map};
 ghost use Rattle.pulsar_tables.specs.Address.{base_in};
 ghost use Rattle.pulsar_calls.specs.Content.{shown};
 ghost use Rattle.pulsar_tables.specs.Effects.{connects};
-ghost use Rattle.pulsar_plans.specs.Address.{base_of};
+ghost use Rattle.pulsar_addresses.specs.Address.{base_of};
 
 use pulsar_calls::effect::Effect;
-use pulsar_plans::BrokerAddress;
-use pulsar_plans::content::Address;
+use pulsar_addresses::address::BrokerAddress;
+use pulsar_addresses::content::Address;
 use pulsar_wire::error::NoMemory;
 use std::alloc::Global;
 use url::{ParseError, Url};

@@ -2,7 +2,7 @@
 
 ghost use Rattle.std.specs.Prelude.{◌≡◌, ◌==◌, ◌++◌, ℕ, List, None, OnOk, IfOk, bytes_eq, map, string_bytes, if◌then◌else◌};
 ghost use Rattle.std.specs.Option.{option_map};
-ghost use Rattle.pulsar_plans.specs.Address.{address_key};
+ghost use Rattle.pulsar_addresses.specs.Address.{address_key};
 ghost use Rattle.pulsar_tables.specs.Kept.{addresses_of, base_at, base_of, follows_at, pause_at};
 ghost use Rattle.pulsar_tables.specs.Links.{Becomes};
 ghost use Rattle.pulsar_calls.specs.Notices.{notice};
@@ -11,7 +11,7 @@ ghost use Rattle.pulsar_tables.specs.View.{base_dialed, base_over, base_turned, 
 
 use pulsar_calls::act::{End, Notice, Outcome, Who};
 use pulsar_calls::who::is_same;
-use pulsar_plans::content::Address;
+use pulsar_addresses::content::Address;
 use pulsar_wire::error::{IoKind, NoMemory};
 use std::alloc::Global;
 use std::collections::BTreeMap;

@@ -8,3 +8,4 @@ pub mod alarms;
 pub mod due;
 pub mod links;
 pub mod row;
+pub mod ask;

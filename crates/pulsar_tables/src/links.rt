@@ -23,7 +23,7 @@ use pulsar_calls::content::Cause;
 use pulsar_calls::effect::Effect;
 use pulsar_consumer_table::table::Consumers;
 use pulsar_link::content::Request;
-use pulsar_plans::content::Address;
+use pulsar_addresses::content::Address;
 use pulsar_producer_table::table::Producers;
 use pulsar_session::Connection;
 use pulsar_session::states::Stage;

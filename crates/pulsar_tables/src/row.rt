@@ -20,9 +20,9 @@ ghost use Rattle.pulsar_tables.specs.View.{asker_at, askers_left, got_since, is_
 use pulsar_calls::act::{Arrival, End, LinkAct, Notice, Outcome, Who};
 use pulsar_calls::content::Cause;
 use pulsar_calls::effect::{Effect, Settlement};
-use pulsar_link::ask::ask;
+use crate::ask::ask;
 use pulsar_link::content::{Received, Request};
-use pulsar_plans::content::Address;
+use pulsar_addresses::content::Address;
 use pulsar_session::states::Stage;
 use pulsar_session::{Arrived, Asked, Connection};
 use pulsar_wire::error::{ConnectionError, NoMemory};

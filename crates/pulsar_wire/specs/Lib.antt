@@ -21,3 +21,4 @@ pub mod Run
 pub mod CommandMerge
 pub mod Failures
 pub mod FailureCode
+pub mod Awaited

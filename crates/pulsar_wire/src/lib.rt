@@ -48,3 +48,5 @@ pub use error::{
 };
 pub use key::RequestKey;
 pub use wire::Wire;
+pub mod awaited;
+pub use crate::awaited::{Awaited, Claim};

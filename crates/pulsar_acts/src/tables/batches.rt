@@ -18,7 +18,7 @@ use pulsar_agenda::agenda::Tasks;
 use pulsar_calls::act::{Act as Deed, Action, Alarm, Notice, Outcome, Procedure, Who};
 use pulsar_calls::content::{Building, Granted, Notices};
 use pulsar_calls::who::turn_of;
-use pulsar_plans::content::Refusal;
+use pulsar_addresses::content::Refusal;
 use pulsar_plans::turn::Ways;
 use pulsar_producer::content::{Built, Entry};
 use pulsar_producer::deed::News;

@@ -30,7 +30,7 @@ use pulsar_calls::effect::Effect;
 use pulsar_calls::event::Call;
 use pulsar_link::content::Request;
 use pulsar_link::raw_call::RawCall;
-use pulsar_plans::content::{Address, Text as Topic};
+use pulsar_addresses::content::{Address, Text as Topic};
 use pulsar_plans::plan::Procedure as Sought;
 use pulsar_procedures::plan::{Plan, Turn, begins, failure, told};
 use pulsar_procedures::table::Plans;

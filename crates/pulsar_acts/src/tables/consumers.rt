@@ -32,7 +32,7 @@ use pulsar_consumer_table::numbers::Numbering;
 use pulsar_consumer_table::row::Sought;
 use pulsar_link::content::Request;
 use pulsar_link::raw_call::RawCall;
-use pulsar_plans::content::Refusal as Failure;
+use pulsar_addresses::content::Refusal as Failure;
 use pulsar_wire::commands::ids::MessageIdData;
 use pulsar_wire::error::{ConnectionError, NoMemory};
 use std::alloc::Global;

@@ -18,7 +18,7 @@ use crate::tables::alarms::later;
 use pulsar_agenda::agenda::Tasks;
 use pulsar_calls::act::{Act, Alarm, Arrival, End, LinkAct, Notice, Part, Who};
 use pulsar_calls::effect::Effect;
-use pulsar_plans::content::Address;
+use pulsar_addresses::content::Address;
 use pulsar_tables::address::connect;
 use pulsar_wire::error::NoMemory;
 

@@ -20,7 +20,7 @@ use pulsar_agenda::agenda::Tasks;
 use pulsar_calls::act::{Act, Notice, Procedure, Refusal, Round, Share, Who};
 use pulsar_calls::content::Advice;
 use pulsar_messages::Message;
-use pulsar_plans::content::Text;
+use pulsar_addresses::content::Text;
 use pulsar_producer::ProducerBuilder;
 use pulsar_producer::building::Order;
 use pulsar_producer::content::{Entry, Outgoing, Settings};

@@ -2,7 +2,7 @@ use Rattle.std.proofs.Common.{◌≡◌, ◌∙◌, ◌++◌, Option, ap, append
 use Rattle.std.proofs.lemmas.List.{append-nil}
 use Rattle.std.proofs.lemmas.Result.{on_ok_weaker}
 use Rattle.std.specs.Option.{option_map}
-use Rattle.pulsar_plans.specs.Address.{address_key}
+use Rattle.pulsar_addresses.specs.Address.{address_key}
 use Rattle.pulsar_run.specs.Order.{arranged}
 use Rattle.pulsar_wire.specs.Failures.{Fault}
 use Rattle.pulsar_calls.specs.declared.act.Act.TheVariants.{Comes}

@@ -1,6 +1,6 @@
 use Rattle.std.proofs.Common.{◌≡◌, ◌∙◌, ap, sym, true, inl, inr}
 use Rattle.std.proofs.lemmas.Result.{on_ok_weaker}
-use Rattle.pulsar_plans.specs.Address.{is_reachable}
+use Rattle.pulsar_addresses.specs.Address.{is_reachable}
 use Rattle.pulsar_tables.specs.Kept.{pause_at}
 use Rattle.pulsar_acts.specs.Tables.{view_of}
 use Rattle.pulsar_acts.proofs.Getting.{get_served, get_waits, serves}

@@ -2,7 +2,7 @@ use Rattle.std.proofs.Common.{◌≡◌, ◌++◌, take, map, length}
 use Rattle.std.specs.Prelude.{string_bytes, codes}
 use Rattle.std.specs.Fmt.{decimal}
 use Rattle.std.specs.List.{flat_map}
-use Rattle.pulsar_plans.specs.Address.{named}
+use Rattle.pulsar_addresses.specs.Address.{named}
 use Rattle.pulsar_script.specs.Text.{named as printed}
 use Rattle.pulsar_script.proofs.printing.effect.push_addresses.Given as goal
 

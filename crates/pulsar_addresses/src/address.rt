@@ -2,7 +2,7 @@
 
 ghost use Rattle.std.specs.Prelude.{◌≡◌, IfOk, string_bytes};
 ghost use Rattle.std.specs.Option.{option_map};
-ghost use Rattle.pulsar_plans.specs.Address.{address_key, base_of, behind, is_reachable, key_of, place, place_in, place_of_url};
+ghost use Rattle.pulsar_addresses.specs.Address.{address_key, base_of, behind, is_reachable, key_of, place, place_in, place_of_url};
 
 use pulsar_wire::error::NoMemory;
 use std::alloc::Global;

@@ -6,8 +6,8 @@ use Rattle.rand_pcg.specs.Pcg.{multiplier_64, pcg32}
 use Rattle.uuid.specs.Parts.{with_variant, with_version}
 use Rattle.uuid.specs.declared.Variant.TheVariants.{RFC4122}
 use Rattle.uuid.specs.declared.Version.TheVariants.{Random}
-use Rattle.pulsar_plans.specs.declared.options.ConnectionRetryOptions.{ConnectionRetryOptions}
-use Rattle.pulsar_plans.specs.declared.options.OperationRetryOptions.{OperationRetryOptions}
+use Rattle.pulsar_addresses.specs.declared.options.ConnectionRetryOptions.{ConnectionRetryOptions}
+use Rattle.pulsar_addresses.specs.declared.options.OperationRetryOptions.{OperationRetryOptions}
 
 -- whether there may be one more retry after so many
 abbrev pub allow_retry : Option ℕ → ℕ → Bool

@@ -1,7 +1,7 @@
 //! What is drawn for a connection. Each draws from a stream of its own.
 
 ghost use Rattle.std.specs.Prelude.{◌≡◌};
-ghost use Rattle.pulsar_plans.specs.Backoff as meaning;
+ghost use Rattle.pulsar_addresses.specs.Backoff as meaning;
 
 use rand_core::utils::NextWord;
 use rand_pcg::Pcg32;

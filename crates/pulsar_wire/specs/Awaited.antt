@@ -2,8 +2,8 @@
 use Rattle.std.specs.Prelude.{Bool, false, Option, Some, None}
 use Rattle.std.specs.declared.cmp.Ordering.{Ordering}
 use Rattle.std.specs.BTreeMap.{is_at}
-use Rattle.pulsar_requests.specs.contracts.awaited.AwaitedOrd.TheImpl.{cmp-value}
-use Rattle.pulsar_requests.specs.declared.awaited.Awaited.{Awaited}
+use Rattle.pulsar_wire.specs.contracts.awaited.AwaitedOrd.TheImpl.{cmp-value}
+use Rattle.pulsar_wire.specs.declared.awaited.Awaited.{Awaited}
 
 abbrev pub awaited_cmp : Awaited → Awaited → Ordering
 awaited_cmp = cmp-value.it

@@ -2,9 +2,9 @@
 
 ghost use Rattle.std.specs.Prelude.{◌≡◌, ◌++◌, [], ◌∷◌, IfOk, map, string_bytes};
 ghost use Rattle.std.specs.Option.{option_map};
-ghost use Rattle.pulsar_plans.specs.Address.{address_key, behind, is_reachable, named, place, place_in};
-ghost use Rattle.pulsar_plans.specs.Plans.{name_found};
-ghost use Rattle.pulsar_plans.specs.Replies.{in_discovery};
+ghost use Rattle.pulsar_addresses.specs.Address.{address_key, behind, is_reachable, named, place, place_in};
+ghost use Rattle.pulsar_addresses.specs.Address.{name_found};
+ghost use Rattle.pulsar_addresses.specs.Address.{in_discovery};
 ghost use Rattle.pulsar_wire.specs.Failures.{OfConnection, failure, fault};
 
 use crate::address::BrokerAddress;
@@ -76,7 +76,7 @@ impl Drop for Address {
 }
 
 impl Model for Address {
-    ghost use Rattle.pulsar_plans.specs.Address.{Place, place};
+    ghost use Rattle.pulsar_addresses.specs.Address.{Place, place};
 
     ghost Value = { Place };
 
@@ -274,7 +274,7 @@ impl Drop for Names {
 
 impl Model for Names {
     ghost use Rattle.std.specs.Prelude.{List, map};
-    ghost use Rattle.pulsar_plans.specs.Address.{Named, named};
+    ghost use Rattle.pulsar_addresses.specs.Address.{Named, named};
 
     ghost Value = { List Named };
 

@@ -4,8 +4,9 @@ ghost use Rattle.std.specs.Prelude.{◌≡◌};
 ghost use Rattle.pulsar_session.specs.Kept.{OnAnswer};
 ghost use Rattle.pulsar_session.specs.Link.{Asks, after, asked};
 
-use crate::content::{Kind, Request};
-use pulsar_session::{Asked, Connection};
+use pulsar_link::content::{Kind, Request};
+use pulsar_session::states::Asked;
+use pulsar_session::connection::Connection;
 use pulsar_wire::error::ConnectionError;
 
 /// Asks for a request at this moment. The answer is the place that its frame has or will have, or why it has none.

@@ -2,7 +2,7 @@
 
 ghost use Rattle.std.specs.Prelude.{◌≡◌, ◌↔◌, IsTrue};
 ghost use Rattle.std.specs.List.{fold};
-ghost use Rattle.pulsar_plans.specs.Address.{IsSame, address_words, place};
+ghost use Rattle.pulsar_addresses.specs.Address.{IsSame, address_words, place};
 
 use crate::address::BrokerAddress;
 use std::hash::{Hash, Hasher};

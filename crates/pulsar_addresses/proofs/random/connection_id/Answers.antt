@@ -8,7 +8,7 @@ use Rattle.uuid.specs.Parts.{with_variant, with_version}
 use Rattle.uuid.specs.declared.Variant.TheVariants.{RFC4122}
 use Rattle.uuid.specs.declared.Version.TheVariants.{Random}
 use Rattle.std.specs.Prelude.{ℕ, List}
-use Rattle.pulsar_plans.proofs.random.connection_id.Goals as goal
+use Rattle.pulsar_addresses.proofs.random.connection_id.Goals as goal
 
 abbrev marked : Lcg → List ℕ
 marked g = with_version (with_variant (fill_via_u32 pcg32 16 g).0 RFC4122) Random

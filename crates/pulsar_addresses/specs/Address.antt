@@ -1,13 +1,14 @@
 -- Where a broker is reached.  (URL Standard, section 4.4, URL parsing, and section 3.5, host serializing; Pulsar binary protocol,
 -- Topic lookup)
-use Rattle.std.specs.Prelude.{◌≡◌, ℕ, Bool, false, ◌&&◌, List, ◌++◌, length, bytes_eq, codes, decimal, Option, Some, None, unwrap_or, Ok, Err, String, string_bytes, if◌then◌else◌}
-use Rattle.std.specs.Option.{is_some}
 use Rattle.std.specs.Hash as fed
+use Rattle.std.specs.Prelude.{◌≡◌, ℕ, Bool, false, ◌&&◌, List, ◌++◌, length, bytes_eq, codes, decimal, Option, Some, None, unwrap_or, Ok, Err, String, string_bytes, if◌then◌else◌, [], ◌∷◌}
+use Rattle.std.specs.Option.{is_some}
 use Rattle.url.specs.declared.host.Host.{Host}
 use Rattle.url.specs.Host.{host_text}
 use Rattle.url.specs.Parts.{Parts, nonempty_host, serialize}
 use Rattle.url.specs.Parser.{Parsed, parse_url}
-use Rattle.pulsar_plans.specs.declared.address.BrokerAddress.{BrokerAddress}
+use Rattle.pulsar_addresses.specs.declared.address.BrokerAddress.{BrokerAddress}
+use Rattle.pulsar_wire.specs.Failures.{Fault, Failure, OfDiscovery, DiscoveryConnection}
 
 -- the URL to connect to, the broker behind it as host and port, and whether the URL is a proxy's
 pub record Place : Type 0 where
@@ -85,3 +86,10 @@ pub record Named : Type 0 where
 
 abbrev pub named : {Z : Type 0} → String Z × BrokerAddress → Named
 named entry = record { name = string_bytes entry.0; place = place entry.1 }
+
+-- a failure inside a search
+abbrev pub in_discovery : Fault → Failure
+in_discovery f = OfDiscovery (DiscoveryConnection f)
+
+abbrev pub name_found : List Named → (name : List ℕ) → Place → List Named
+name_found found name place = found ++ record { name = name; place = place } ∷ []

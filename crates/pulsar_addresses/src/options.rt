@@ -1,7 +1,7 @@
 //! How often, and when, what failed is tried again.
 
 ghost use Rattle.std.specs.Prelude.{◌≡◌, Ok};
-ghost use Rattle.pulsar_plans.specs.Backoff as meaning;
+ghost use Rattle.pulsar_addresses.specs.Backoff as meaning;
 
 use pulsar_wire::error::NoMemory;
 

@@ -6,4 +6,4 @@ pub mod raw_call;
 pub mod refusal;
 
 pub use crate::raw_call::RawCall;
-pub use pulsar_session::{Authentication, ConsumerOptions, ProducerMessage, ProducerOptions};
+pub use pulsar_messages::{Authentication, ConsumerOptions, ProducerMessage, ProducerOptions};

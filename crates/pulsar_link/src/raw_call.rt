@@ -4,20 +4,16 @@ ghost use Rattle.std.specs.Prelude.{◌≡◌, IfOk, string_bytes};
 ghost use Rattle.std.specs.Option.{option_map};
 ghost use Rattle.pulsar_messages.specs.Content.{consumer_options_values, producer_message_values, producer_options_values};
 ghost use Rattle.pulsar_messages.specs.Words.{CreateProducer, Send, Subscribe};
-ghost use Rattle.pulsar_session.specs.Kept.{OnAnswer};
-ghost use Rattle.pulsar_session.specs.Link.{Asks, after, asked};
 ghost use Rattle.pulsar_link.specs.RawCall.{subscribed_by, words_of};
 ghost use Rattle.pulsar_link.specs.Request.{closed_consumer, is_awaited, named_consumer, named_producer, request_number, subscribed};
 
-use pulsar_session::{
-    Asked, Authentication, Connection, ConsumerOptions, ProducerMessage, ProducerOptions,
-};
+use pulsar_messages::{Authentication, ConsumerOptions, ProducerMessage, ProducerOptions};
 use pulsar_wire::bodies;
 use pulsar_wire::commands::enumerations::SubType;
 use pulsar_wire::commands::ids::MessageIdData;
 use pulsar_wire::commands::topics::Mode;
 use pulsar_wire::encoding::copying::{copy_message, copy_messages, copy_optional};
-use pulsar_wire::error::{ConnectionError, NoMemory};
+use pulsar_wire::error::NoMemory;
 
 /// What a user asks of one connection. Producers and consumers have the numbers that the user gives them.
 #[derive(Debug)]
@@ -424,86 +420,6 @@ impl RawCall {
                 options,
             )?)),
             _ => Ok(None),
-        }
-    }
-
-    /// Asks for what a user wants.
-    pub(crate) fn ask(self, connection: &mut Connection, now: u64) -> Result<Asked, ConnectionError>
-        ensures answer { OnAnswer result (result ≡ asked now (words_of self) connection.old) }
-        ensures seen { OnAnswer result (connection.new ≡ after (Asks now (words_of self)) connection.old) }
-    {
-        match self {
-            RawCall::Send {
-                producer_id,
-                name,
-                sequence_id,
-                message,
-                block,
-            } => connection.send(now, producer_id, &name, sequence_id, message, block),
-            RawCall::SendPing => connection.send_ping(now),
-            RawCall::LookupTopic {
-                topic,
-                authoritative,
-            } => connection.lookup_topic(now, &topic, authoritative),
-            RawCall::LookupPartitionedTopic { topic } => {
-                connection.lookup_partitioned_topic(now, &topic)
-            }
-            RawCall::GetConsumerStats { consumer_id } => connection.get_consumer_stats(
-                now,
-                consumer_id,
-            ),
-            RawCall::GetLastMessageId { consumer_id } => {
-                connection.get_last_message_id(now, consumer_id)
-            }
-            RawCall::CreateProducer {
-                topic,
-                producer_id,
-                name,
-                options,
-            } => connection.create_producer(now, &topic, producer_id, name.as_deref(), &options),
-            RawCall::GetTopicsOfNamespace { namespace, mode } => {
-                connection.get_topics_of_namespace(now, &namespace, mode)
-            }
-            RawCall::CloseProducer { producer_id } => connection.close_producer(now, producer_id),
-            RawCall::Subscribe {
-                topic,
-                subscription,
-                sub_type,
-                consumer_id,
-                name,
-                options,
-            } => connection.subscribe(
-                now,
-                &topic,
-                &subscription,
-                sub_type,
-                consumer_id,
-                name.as_deref(),
-                &options,
-            ),
-            RawCall::SendFlow {
-                consumer_id,
-                permits,
-            } => connection.send_flow(now, consumer_id, permits),
-            RawCall::SendAck {
-                consumer_id,
-                ids,
-                cumulative,
-            } => connection.send_ack(now, consumer_id, ids, cumulative),
-            RawCall::SendRedeliver { consumer_id, ids } => {
-                connection.send_redeliver_unacknowleged_messages(now, consumer_id, ids)
-            }
-            RawCall::CloseConsumer { consumer_id } => connection.close_consumer(now, consumer_id),
-            RawCall::Seek {
-                consumer_id,
-                id,
-                time,
-            } => connection.seek(now, consumer_id, id, time),
-            RawCall::Unsubscribe { consumer_id } => connection.unsubscribe(now, consumer_id),
-            RawCall::AuthChallenge { auth } => connection.auth_challenge(now, auth),
-            RawCall::GetSchema { topic, version } => {
-                connection.get_schema(now, &topic, version.as_deref())
-            }
         }
     }
 }

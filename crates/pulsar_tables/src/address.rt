@@ -6,9 +6,9 @@ ghost use Rattle.pulsar_calls.specs.Content.{shown};
 ghost use Rattle.pulsar_tables.specs.Effects.{connects};
 ghost use Rattle.pulsar_addresses.specs.Address.{base_of};
 
-use pulsar_calls::effect::Effect;
 use pulsar_addresses::address::BrokerAddress;
 use pulsar_addresses::content::Address;
+use pulsar_calls::effect::Effect;
 use pulsar_wire::error::NoMemory;
 use std::alloc::Global;
 use url::{ParseError, Url};

@@ -9,9 +9,9 @@ ghost use Rattle.pulsar_calls.specs.Notices.{notice};
 ghost use Rattle.pulsar_tables.specs.Rules.{failed, failed_at, failed_over, failed_so, fails_so, served_by, stopped_at};
 ghost use Rattle.pulsar_tables.specs.View.{base_dialed, base_over, base_turned, base_waiting, is_for, is_passing, is_retryable, may_retry, nobody, pause_put};
 
+use pulsar_addresses::content::Address;
 use pulsar_calls::act::{End, Notice, Outcome, Who};
 use pulsar_calls::who::is_same;
-use pulsar_addresses::content::Address;
 use pulsar_wire::error::{IoKind, NoMemory};
 use std::alloc::Global;
 use std::collections::BTreeMap;

@@ -5,7 +5,7 @@
 pub mod address;
 pub mod addresses;
 pub mod alarms;
+pub mod ask;
 pub mod due;
 pub mod links;
 pub mod row;
-pub mod ask;

@@ -18,12 +18,12 @@ ghost use Rattle.pulsar_tables.specs.View.{answer_at, arrival_at, got_at, room_a
 
 use crate::due::DueMoments;
 use crate::row::Row;
+use pulsar_addresses::content::Address;
 use pulsar_calls::act::{Act, Arrival, End, LinkAct, Notice, Outcome, Part, Who};
 use pulsar_calls::content::Cause;
 use pulsar_calls::effect::Effect;
 use pulsar_consumer_table::table::Consumers;
 use pulsar_link::content::Request;
-use pulsar_addresses::content::Address;
 use pulsar_producer_table::table::Producers;
 use pulsar_session::Connection;
 use pulsar_session::states::Stage;

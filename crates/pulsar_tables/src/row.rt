@@ -17,12 +17,12 @@ ghost use Rattle.pulsar_tables.specs.Rules.{answered_by, dropped, ended_places, 
 ghost use Rattle.pulsar_tables.specs.Kept.{seat_of, settled};
 ghost use Rattle.pulsar_tables.specs.View.{asker_at, askers_left, got_since, is_asked, later, ping_left, place_of, room_in, seat_asked, seat_of_fresh, took};
 
+use crate::ask::ask;
+use pulsar_addresses::content::Address;
 use pulsar_calls::act::{Arrival, End, LinkAct, Notice, Outcome, Who};
 use pulsar_calls::content::Cause;
 use pulsar_calls::effect::{Effect, Settlement};
-use crate::ask::ask;
 use pulsar_link::content::{Received, Request};
-use pulsar_addresses::content::Address;
 use pulsar_session::states::Stage;
 use pulsar_session::{Arrived, Asked, Connection};
 use pulsar_wire::error::{ConnectionError, NoMemory};

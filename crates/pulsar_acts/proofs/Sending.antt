@@ -9,7 +9,7 @@ use Rattle.pulsar_plans.specs.declared.turn.Ways.{Ways}
 use Rattle.pulsar_producer.specs.Producer as producer
 use Rattle.pulsar_producer.specs.Routing as routing
 use Rattle.pulsar_producer.specs.Storage.{is_batching}
-use Rattle.pulsar_producer.specs.declared.sending.Errand.{Errand}
+use Rattle.pulsar_producer.specs.declared.orders.Errand.{Errand}
 use Rattle.pulsar_calls.specs.declared.act.Act.{Act}
 use Rattle.pulsar_calls.specs.declared.act.Act.TheVariants.{Starts}
 use Rattle.pulsar_calls.specs.declared.act.Procedure.{Procedure}

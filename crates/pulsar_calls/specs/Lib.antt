@@ -2,3 +2,4 @@ pub mod Who
 pub mod Content
 pub mod Parts
 pub mod Notices
+pub mod News

@@ -16,13 +16,17 @@ use crate::event::Call;
 use pulsar_consumer::settings::Settings as Config;
 use pulsar_addresses::content::{Refusal, Text};
 use pulsar_plans::making::Command;
+use pulsar_plans::turn::Outcome;
 use pulsar_producer::content::{Parts, Settings};
-use pulsar_producer::deed::News;
+use pulsar_producer::news;
 use pulsar_producer::replies::Given;
 use pulsar_wire::error::{ConnectionError, Error, NoMemory, ProducerError};
 use std::alloc::Global;
 use std::collections::{BTreeMap, VecDeque};
 use std::marker::Model;
+
+/// What the plan of a send is told.
+pub type News = news::News<Outcome, Command>;
 
 /// What a user asks of the client.
 pub struct Asking {
@@ -153,7 +157,7 @@ impl Drop for Granted {
 }
 
 impl Model for Granted {
-    ghost use Rattle.pulsar_producer.specs.declared.deed.News.{News};
+    ghost use Rattle.pulsar_calls.specs.News.{News};
 
     ghost Value = { News };
 

@@ -5,6 +5,7 @@ ghost use Rattle.std.specs.Option.{option_map};
 ghost use Rattle.pulsar_consumer.specs.Commands.{command};
 ghost use Rattle.pulsar_consumer.specs.Plans as meaning;
 
+use crate::orders::{Order};
 use crate::settings::Settings;
 use pulsar_plans::closing::Step;
 use pulsar_addresses::content::{Address, Names, Refusal, Text};
@@ -19,15 +20,6 @@ use std::collections::VecDeque;
 
 /// The number of the body that answers the command which makes a subscription.
 const SUCCESS: u32 = 13;
-
-/// The consumer that is to be built.
-#[derive(Drop)]
-pub struct Order {
-    /// Its topic, as that was asked for.
-    pub topic: Text,
-    /// How it is to be made.
-    pub config: Settings,
-}
 
 /// A consumer whose subscription was made on this link.
 #[derive(Drop)]

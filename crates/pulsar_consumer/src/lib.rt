@@ -3,6 +3,7 @@
 
 pub mod builder;
 pub mod building;
+pub mod orders;
 pub mod config;
 pub mod consumer;
 pub mod deserialize;

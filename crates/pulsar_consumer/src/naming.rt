@@ -6,7 +6,7 @@ ghost use Rattle.pulsar_consumer.specs.Content.{consumer_wanted};
 ghost use Rattle.pulsar_consumer.specs.Naming as meaning;
 
 use crate::builder::ConsumerBuilder;
-use crate::building::Order;
+use crate::orders::Order;
 use crate::config::ConsumerConfig;
 use crate::settings::Settings;
 use pulsar_addresses::content::Text;

@@ -2,7 +2,7 @@
 
 ghost use Rattle.std.specs.Prelude.{◌≡◌, IfOk};
 ghost use Rattle.pulsar_frame.specs.Held.{item_of};
-ghost use Rattle.pulsar_consumer.specs.Topic.{is_message};
+ghost use Rattle.pulsar_frame.specs.Items.{is_message};
 
 use pulsar_frame::items::Unread as Item;
 use pulsar_wire::error::NoMemory;

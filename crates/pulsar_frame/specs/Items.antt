@@ -1,14 +1,14 @@
 -- What a message of the broker gives to a consumer, and what it costs.  (Pulsar binary protocol, Consumer: Message; Flow control; Batch
 -- messages)
+use Rattle.pulsar_wire.specs.declared.error.Reason.TheVariants as reason
+use Rattle.pulsar_frame.specs.Batch as batch
 use Rattle.std.specs.Prelude.{ℕ, zero, ℤ, pos, negsuc, Bool, true, false, List, [], ◌∷◌, map, Option, Some, None, ◌==◌, if◌then◌else◌}
 use Rattle.pulsar_wire.specs.Field.{◌>>=◌}
 use Rattle.pulsar_wire.specs.Row.{Required, Optional, Int32, Row, End, Plain, Embedded, Numbers, Values, spelling, ◌&◌}
 use Rattle.pulsar_wire.specs.Rows.{message_id, message_metadata}
 use Rattle.pulsar_wire.specs.At.{uint64_at}
 use Rattle.pulsar_wire.specs.Command.{BodyValues}
-use Rattle.pulsar_wire.specs.declared.error.Reason.TheVariants as reason
 use Rattle.pulsar_wire.specs.declared.error.IoKind.TheVariants.{Other}
-use Rattle.pulsar_frame.specs.Batch as batch
 use Rattle.pulsar_frame.specs.Batch.{batch_items, num_messages_in_batch}
 use Rattle.pulsar_frame.specs.Message.{MessageValues}
 use Rattle.pulsar_frame.specs.Payload.{PayloadValues}
@@ -121,3 +121,8 @@ weight_with p (Some b) = if b.number == 9 then weight_behind p else 0
 
 abbrev pub weight_in : MessageValues → ℕ
 weight_in m = weight_with m.payload m.command.body
+
+-- an item that is no error counts as a message that was received
+abbrev pub is_message : Item → Bool
+is_message (Given id batch_size metadata payload) = true
+is_message (Faulty f) = false

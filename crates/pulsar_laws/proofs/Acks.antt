@@ -17,8 +17,8 @@ use Rattle.pulsar_plans.specs.declared.plan.Procedure.{Procedure as Sought}
 use Rattle.pulsar_plans.specs.declared.turn.Ways.{Ways}
 use Rattle.pulsar_producer.specs.Commands.{command_of}
 use Rattle.pulsar_producer.specs.Producer as producer
-use Rattle.pulsar_producer.specs.declared.deed.News.TheVariants as news
-use Rattle.pulsar_producer.specs.declared.sending.Errand.{Errand}
+use Rattle.pulsar_producer.specs.declared.news.News.TheVariants as news
+use Rattle.pulsar_producer.specs.declared.orders.Errand.{Errand}
 use Rattle.pulsar_consumer.specs.Commands as consumer_commands
 use Rattle.pulsar_consumer.specs.Naming as naming
 use Rattle.pulsar_consumer.specs.Topic.{link_of, is_ended, lives_on, resubscribes}

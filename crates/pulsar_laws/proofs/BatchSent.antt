@@ -11,10 +11,10 @@ use Rattle.pulsar_producer.specs.declared.batch.Member.{Member}
 use Rattle.pulsar_producer.specs.declared.batching.Batching.{Batching as Batches}
 use Rattle.pulsar_producer.specs.declared.batching.Batching.TheVariants as batching
 use Rattle.pulsar_producer.specs.declared.deed.Deed.{Deed}
-use Rattle.pulsar_producer.specs.declared.deed.News.{News}
-use Rattle.pulsar_producer.specs.declared.deed.News.TheVariants as news
+use Rattle.pulsar_producer.specs.News.{News}
+use Rattle.pulsar_producer.specs.declared.news.News.TheVariants as news
 use Rattle.pulsar_producer.specs.declared.deed.Step.TheVariants as step
-use Rattle.pulsar_producer.specs.declared.sending.Errand.{Errand}
+use Rattle.pulsar_producer.specs.declared.orders.Errand.{Errand}
 use Rattle.pulsar_producer.specs.declared.sending.Sending.{Sending as Send}
 use Rattle.pulsar_producer.specs.declared.sending.Sending.TheVariants as send
 use Rattle.pulsar_calls.specs.declared.act.Act.{Act}

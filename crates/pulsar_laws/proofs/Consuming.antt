@@ -15,7 +15,7 @@ use Rattle.pulsar_consumer.specs.declared.building.Building.{Building as Consume
 use Rattle.pulsar_consumer.specs.declared.building.Deed.{Deed as ConsumerDeed}
 use Rattle.pulsar_consumer.specs.declared.building.Deed.TheVariants as consumer_deed
 use Rattle.pulsar_consumer.specs.declared.building.News.{News as ConsumerNews}
-use Rattle.pulsar_consumer.specs.declared.building.Order.{Order as ConsumerOrder}
+use Rattle.pulsar_consumer.specs.declared.orders.Order.{Order as ConsumerOrder}
 use Rattle.pulsar_calls.specs.declared.act.Action.{Action}
 use Rattle.pulsar_calls.specs.declared.act.Action.TheVariants.{Get, Ask, Wait, TakeNumber, FindConsumer, TakeFlow, RecallConsumer, Revive, FailConsumer, Rest}
 use Rattle.pulsar_calls.specs.declared.act.Outcome.{Outcome}

@@ -14,16 +14,17 @@ use Rattle.pulsar_producer.specs.Batching as batches
 use Rattle.pulsar_producer.specs.Plans as produce
 use Rattle.pulsar_producer.specs.Storage.{Item, SingleMessage, Flush as FlushItem, is_ready}
 use Rattle.pulsar_producer.specs.Topic as topic
+use Rattle.pulsar_producer.specs.Storage as topic_low
 use Rattle.pulsar_producer.specs.declared.batch.Member.{Member}
 use Rattle.pulsar_producer.specs.declared.batch.Member.TheVariants as member
 use Rattle.pulsar_producer.specs.declared.batching.Batching.{Batching as Batches}
 use Rattle.pulsar_producer.specs.declared.batching.Batching.TheVariants as batching
 use Rattle.pulsar_producer.specs.declared.deed.Deed.{Deed}
 use Rattle.pulsar_producer.specs.declared.deed.Deed.TheVariants as deed
-use Rattle.pulsar_producer.specs.declared.deed.News.{News}
-use Rattle.pulsar_producer.specs.declared.deed.News.TheVariants as news
+use Rattle.pulsar_producer.specs.News.{News}
+use Rattle.pulsar_producer.specs.declared.news.News.TheVariants as news
 use Rattle.pulsar_producer.specs.declared.deed.Step.TheVariants as step
-use Rattle.pulsar_producer.specs.declared.sending.Errand.{Errand}
+use Rattle.pulsar_producer.specs.declared.orders.Errand.{Errand}
 use Rattle.pulsar_calls.specs.declared.act.Act.{Act}
 use Rattle.pulsar_calls.specs.declared.act.Act.TheVariants.{Comes, Starts, Told, Does}
 use Rattle.pulsar_calls.specs.declared.act.Action.{Action}
@@ -257,7 +258,7 @@ module _ (P : ℕ → Type 0) where
   after_kept topic.Closes v p k = record { stored = tt; waits = k.waits }
   after_kept (topic.Stores t entry) v p k = stores_kept (SingleMessage t entry) v (p t entry refl) k
   after_kept (topic.Flushes t) v p k = either_kept (topic.is_settled v) v (topic.stores (FlushItem t) v) k (stores_kept (FlushItem t) v tt k)
-  after_kept topic.Cuts v p k = either_kept (topic.is_nothing v.storage.items) v (topic.cuts v) k (cuts_kept v k)
+  after_kept topic.Cuts v p k = either_kept (topic_low.is_nothing v.storage.items) v (topic.cuts v) k (cuts_kept v k)
   after_kept topic.TakesBatch v p k = left_kept v.cut v k.waits k
   after_kept topic.Halts v p k = record { stored = tt; waits = tt }
 

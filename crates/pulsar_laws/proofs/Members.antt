@@ -6,7 +6,8 @@ use Rattle.pulsar_link.specs.Messages.{Reply, is_body}
 use Rattle.pulsar_link.specs.Request.{named_consumer}
 use Rattle.pulsar_wire.specs.Failures.{Fault}
 use Rattle.pulsar_consumer.specs.Topic as reader
-use Rattle.pulsar_consumer.specs.Topic.{Hears, Loses, Live, Seen, first_of, gives, is_due, is_on, link_of, lives_on, first_due, counts_first, is_message}
+use Rattle.pulsar_consumer.specs.Topic.{Hears, Loses, Live, Seen, first_of, gives, is_due, is_on, link_of, lives_on, first_due, counts_first}
+use Rattle.pulsar_frame.specs.Items.{is_message}
 use Rattle.pulsar_consumer.specs.Topic.{ends as reader_ends, loses as reader_loses, Ends as Over}
 use Rattle.pulsar_consumer.specs.Frames.{frame_in}
 use Rattle.pulsar_consumer.specs.declared.polled.Ending.{Ending}

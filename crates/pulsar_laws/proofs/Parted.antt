@@ -13,7 +13,7 @@ use Rattle.pulsar_plans.specs.declared.turn.Ways.{Ways}
 use Rattle.pulsar_frame.specs.Batch.{EntryValues}
 use Rattle.pulsar_producer.specs.Batch.{entry_of}
 use Rattle.pulsar_producer.specs.Wanted.{ProducerWanted}
-use Rattle.pulsar_producer.specs.declared.sending.Errand.{Errand}
+use Rattle.pulsar_producer.specs.declared.orders.Errand.{Errand}
 use Rattle.pulsar_run.specs.Laws.{In, InThisStep}
 use Rattle.pulsar_calls.specs.declared.act.Act.{Act}
 use Rattle.pulsar_calls.specs.declared.act.Act.TheVariants.{Comes, Starts}

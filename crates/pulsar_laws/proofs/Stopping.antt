@@ -48,7 +48,7 @@ use Rattle.pulsar_tables.specs.View.{after, Addresses, Base, Options, Links, Sea
 use Rattle.pulsar_producer_table.specs.declared.table.Topic.{Topic}
 use Rattle.pulsar_producer.specs.Storage.{Item}
 use Rattle.pulsar_producer.specs.Topic.{Halts, Seen, TakesBatch, left_of, next_of}
-use Rattle.pulsar_producer.specs.declared.deed.News.TheVariants as news
+use Rattle.pulsar_producer.specs.declared.news.News.TheVariants as news
 use Rattle.pulsar_messages.specs.Content.{ProducerMessageValues}
 use Rattle.pulsar_producer_table.specs.Producers.{Producers, called_on, changed, next_batch_at, topic_after, unsent, waiting, why_not}
 use Rattle.pulsar_calls.specs.Content.{next_advice}

@@ -35,7 +35,8 @@ use Rattle.pulsar_producer.specs.Plans as produce
 use Rattle.pulsar_producer.specs.Plans.{Builds, Sent, build_closes, build_makes, build_names, build_next}
 use Rattle.pulsar_producer.specs.Storage.{Item, SingleMessage, Flush as FlushItem, is_ready, pushed}
 use Rattle.pulsar_producer.specs.Topic as topic
-use Rattle.pulsar_producer.specs.Topic.{Act as TopicAct, Setup, Seen, is_nothing, is_settled, ticket_of}
+use Rattle.pulsar_producer.specs.Topic.{Act as TopicAct, Setup, Seen, is_settled}
+use Rattle.pulsar_producer.specs.Storage.{is_nothing, ticket_of}
 use Rattle.pulsar_producer.specs.declared.batch.Fate.{Fate}
 use Rattle.pulsar_producer.specs.declared.batch.Fate.TheVariants as fate
 use Rattle.pulsar_producer.specs.declared.batch.Member.{Member}
@@ -46,14 +47,14 @@ use Rattle.pulsar_producer.specs.declared.batching.Batching.TheVariants as batch
 use Rattle.pulsar_producer.specs.declared.batching.Goes.{Goes}
 use Rattle.pulsar_producer.specs.declared.building.Building.{Building as Build}
 use Rattle.pulsar_producer.specs.declared.building.Building.TheVariants as build
-use Rattle.pulsar_producer.specs.declared.building.Order.{Order}
+use Rattle.pulsar_producer.specs.declared.orders.Order.{Order}
 use Rattle.pulsar_producer.specs.declared.content.Built.{Built}
 use Rattle.pulsar_producer.specs.declared.deed.Deed.{Deed}
 use Rattle.pulsar_producer.specs.declared.deed.Deed.TheVariants as deed
-use Rattle.pulsar_producer.specs.declared.deed.News.{News}
-use Rattle.pulsar_producer.specs.declared.deed.News.TheVariants as news
+use Rattle.pulsar_producer.specs.News.{News}
+use Rattle.pulsar_producer.specs.declared.news.News.TheVariants as news
 use Rattle.pulsar_producer.specs.declared.deed.Step.TheVariants as step
-use Rattle.pulsar_producer.specs.declared.sending.Errand.{Errand}
+use Rattle.pulsar_producer.specs.declared.orders.Errand.{Errand}
 use Rattle.pulsar_producer.specs.declared.sending.Sending.{Sending as Send}
 use Rattle.pulsar_producer.specs.declared.sending.Sending.TheVariants as send
 use Rattle.pulsar_calls.specs.declared.act.Act.{Act}

@@ -19,8 +19,9 @@ use pulsar_producer::Receipt;
 use pulsar_producer::batch::{Fate, Report};
 use pulsar_producer::batching::{self, Goes};
 use pulsar_producer::content::Reports;
-use pulsar_producer::deed::{News, error_told};
-use pulsar_producer::sending::Errand;
+use pulsar_producer::deed::News;
+use pulsar_producer::deed::error_told;
+use pulsar_producer::orders::Errand;
 use pulsar_wire::error::NoMemory;
 use std::alloc::Global;
 

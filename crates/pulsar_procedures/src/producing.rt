@@ -17,9 +17,11 @@ use pulsar_calls::effect::Answer;
 use pulsar_link::content::Request;
 use pulsar_link::raw_call::RawCall;
 use pulsar_plans::turn::Ways;
-use pulsar_producer::building::{self, Building, Builds, Order};
+use pulsar_producer::building::{self, Building, Builds};
+use pulsar_producer::orders::Order;
 use pulsar_producer::content::Parts;
-use pulsar_producer::deed::{Deed, News, Send, Step};
+use pulsar_producer::deed::{Deed, Send, Step};
+use pulsar_producer::deed::News;
 use pulsar_wire::error::NoMemory;
 use std::alloc::Global;
 

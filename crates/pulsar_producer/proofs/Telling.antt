@@ -23,7 +23,8 @@ use Rattle.pulsar_producer.specs.BatchLaws.{EachHasItsPlace, EachHasItsReport, E
 use Rattle.pulsar_producer.specs.Errors.{in_producer}
 use Rattle.pulsar_producer.specs.Plans.{Sent, fault_told, in_asked, in_drawing, in_looking, in_making, in_recalling, in_remaking, in_sent, in_waiting, not_drawn, not_queued, receipt, send_begins, send_ends, send_looks, send_makes, send_recalls, send_told}
 use Rattle.pulsar_producer.specs.Storage.{Item, SingleMessage, Flush}
-use Rattle.pulsar_producer.specs.Topic.{seen, ticket_of, unsent_tickets}
+use Rattle.pulsar_producer.specs.Topic.{seen, unsent_tickets}
+use Rattle.pulsar_producer.specs.Storage.{ticket_of}
 use Rattle.pulsar_producer.specs.declared.batch.Fate.{Fate}
 use Rattle.pulsar_producer.specs.declared.batch.Fate.TheVariants as fate
 use Rattle.pulsar_producer.specs.declared.batch.Member.{Member}
@@ -31,10 +32,10 @@ use Rattle.pulsar_producer.specs.declared.batch.Member.TheVariants as member
 use Rattle.pulsar_producer.specs.declared.batching.Batching.{Batching}
 use Rattle.pulsar_producer.specs.declared.batching.Batching.TheVariants.{Resting, Taking, Sending, Settling}
 use Rattle.pulsar_producer.specs.declared.deed.Deed.TheVariants as deed
-use Rattle.pulsar_producer.specs.declared.deed.News.{News}
-use Rattle.pulsar_producer.specs.declared.deed.News.TheVariants.{Told, Queued, InLine, HasTurn, Drew, Recalled, Numbered, Ready, HasBatch, Done}
+use Rattle.pulsar_producer.specs.News.{News}
+use Rattle.pulsar_producer.specs.declared.news.News.TheVariants.{Told, Queued, InLine, HasTurn, Drew, Recalled, Numbered, Ready, HasBatch, Done}
 use Rattle.pulsar_producer.specs.declared.deed.Step.TheVariants.{Stays, Gives}
-use Rattle.pulsar_producer.specs.declared.sending.Errand.{Errand}
+use Rattle.pulsar_producer.specs.declared.orders.Errand.{Errand}
 use Rattle.pulsar_producer.specs.declared.sending.Sending.{Sending as Send}
 use Rattle.pulsar_producer.specs.declared.sending.Sending.TheVariants as send
 use Rattle.pulsar_producer.proofs.Cutting.{batches_in_order, items_in_order, joined_append, joined_one}

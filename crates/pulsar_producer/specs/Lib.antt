@@ -15,3 +15,4 @@ pub mod Plans
 pub mod Batching
 pub mod Laws
 pub mod BatchLaws
+pub mod News

@@ -1,4 +1,5 @@
 -- What a producer of batches stores, until it is cut into a batch.  (Pulsar binary protocol, Batch messages)
+use Rattle.pulsar_producer.specs.declared.storage.BatchItem.TheVariants as item
 use Rattle.std.specs.Prelude.{ℕ, ◌+◌, ℤ, pos, negsuc, nat_le, nat_lt, ◌||◌, Bool, true, false, List, [], ◌∷◌, ◌++◌, length, Option, Some, None}
 use Rattle.std.specs.Option.{is_some}
 use Rattle.pulsar_wire.specs.At.{int32_at}
@@ -7,7 +8,6 @@ use Rattle.pulsar_wire.specs.Sink.{capped}
 use Rattle.pulsar_frame.specs.Batch.{EntryValues, entry_values}
 use Rattle.pulsar_messages.specs.Content.{ProducerOptionsValues}
 use Rattle.pulsar_producer.specs.declared.storage.BatchItem.{BatchItem}
-use Rattle.pulsar_producer.specs.declared.storage.BatchItem.TheVariants as item
 use Rattle.pulsar_producer.specs.declared.storage.Limits.{Limits}
 
 -- a message, by the ticket of its send, or a flush, by the ticket of its call
@@ -80,3 +80,15 @@ is_batching o = batches_by o.batch_size (is_some o.batch_byte_size || is_some o.
 
 abbrev pub limits_of : ProducerOptionsValues → Limits
 limits_of o = record { max_size = o.batch_size; max_byte_size = o.batch_byte_size }
+
+-- BATCHES. What is stored is cut into a batch once it is ready, and batches are under way one at a time.
+
+-- nothing is stored
+abbrev pub is_nothing : List Item → Bool
+is_nothing [] = true
+is_nothing (x ∷ xs) = false
+
+-- who waits for what is stored, and for all that was cut and isn't under way
+abbrev pub ticket_of : Item → ℕ
+ticket_of (SingleMessage ticket e) = ticket
+ticket_of (Flush ticket) = ticket

@@ -10,7 +10,7 @@ ghost use Rattle.pulsar_producer.specs.Storage.{item_of};
 
 use crate::content::Outgoing;
 use crate::copying::copy_refusal;
-use crate::deed::in_producer;
+use crate::failing::in_producer;
 use crate::storage::BatchItem;
 use pulsar_frame::batch::BatchedMessage;
 use pulsar_messages::{Message, ProducerMessage, into_properties};

@@ -3,8 +3,10 @@
 ghost use Rattle.std.specs.Prelude.{◌≡◌, IfOk};
 ghost use Rattle.pulsar_producer.specs.Plans as meaning;
 
+use crate::orders::{Order};
 use crate::content::{Built, Left, Parts, Settings};
-use crate::deed::{Deed, News, Step, error_told};
+use crate::deed::{Deed, Step, error_told};
+use crate::deed::News;
 use crate::replies::given_by;
 use crate::topic_producer::command;
 use pulsar_addresses::content::{Address, Names, Refusal, Text};
@@ -13,14 +15,6 @@ use pulsar_plans::names::{self, Naming};
 use pulsar_plans::turn::{Turn, Ways};
 use pulsar_wire::error::NoMemory;
 use std::alloc::Global;
-
-/// The producer that is to be built.
-#[derive(Drop)]
-pub struct Order {
-    pub topic: Text,
-    pub name: Option<Text>,
-    pub options: Settings,
-}
 
 /// A topic, or a partition of one, for which a number is drawn: its broker, the names that are left behind it, and the topic producers
 /// that were made before it.

@@ -7,7 +7,7 @@ ghost use Rattle.pulsar_messages.specs.Content.{message_content, producer_messag
 ghost use Rattle.pulsar_producer.specs.Batch.{batch_of, cut_report, entries_in, entry_of, member_of, reports};
 ghost use Rattle.pulsar_producer.specs.Message.{with_version};
 ghost use Rattle.pulsar_producer.specs.Storage.{is_batching, item_of, limits_of};
-ghost use Rattle.pulsar_producer.specs.Topic.{ticket_of};
+ghost use Rattle.pulsar_producer.specs.Storage.{ticket_of};
 
 use crate::batch::{
     Fate, Member, Report, count, cut_reports, entry_of, members, message, reports, size_in_i32,

@@ -4,9 +4,12 @@
 pub mod batch;
 pub mod batching;
 pub mod building;
+pub mod orders;
 pub mod content;
 pub mod copying;
 pub mod deed;
+pub mod failing;
+pub mod news;
 pub mod laws;
 pub mod message_builder;
 pub mod producer;

@@ -7,8 +7,12 @@ ghost use Rattle.pulsar_producer.specs.Batching.{is_sent_send};
 ghost use Rattle.pulsar_producer.specs.Errors.{in_producer};
 ghost use Rattle.pulsar_producer.specs.Plans as meaning;
 
+use crate::orders::{Errand};
 use crate::content::Outgoing;
-use crate::deed::{Deed, Drawn, News, Send, Step, error_told, in_producer};
+use crate::deed::{Deed, Send, Step, error_told};
+use crate::failing::in_producer;
+use crate::deed::News;
+use crate::news::Drawn;
 use crate::replies::given_by;
 use pulsar_addresses::content::{Address, Refusal};
 use pulsar_plans::look::{self, Looking};
@@ -20,13 +24,6 @@ use std::alloc::Global;
 
 /// The number of the body that answers a message.
 const SEND_RECEIPT: u32 = 7;
-
-/// The number of the topic producer that is to send, and whether a message waits for room on its link.
-#[derive(Clone, Copy)]
-pub struct Errand {
-    pub producer: u64,
-    pub block: bool,
-}
 
 /// Where a send stands.
 #[derive(Drop)]

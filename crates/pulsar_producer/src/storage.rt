@@ -2,7 +2,7 @@
 
 ghost use Rattle.std.specs.Prelude.{◌≡◌, ◌++◌, IfOk, OnErr, OnOk, Some, map};
 ghost use Rattle.pulsar_producer.specs.Storage.{empty, emptied, ends_in_flush, is_ready, item_of, pushed, size_of, size_said};
-ghost use Rattle.pulsar_producer.specs.Topic.{is_nothing, ticket_of};
+ghost use Rattle.pulsar_producer.specs.Storage.{is_nothing, ticket_of};
 
 use pulsar_frame::batch::BatchedMessage;
 use pulsar_wire::error::NoMemory;

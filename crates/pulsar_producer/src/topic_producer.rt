@@ -4,7 +4,8 @@
 ghost use Rattle.std.specs.Prelude.{◌≡◌, not, ◌&&◌, IfOk, OnOk};
 ghost use Rattle.pulsar_producer.specs.Commands.{command, command_of};
 ghost use Rattle.pulsar_producer.specs.Storage.{item_of};
-ghost use Rattle.pulsar_producer.specs.Topic.{Closes, Cuts, Draws, Flushes, Halts, Passes, Remakes, Stores, Takes, TakesBatch, after, cuts, drawn, fresh, is_free, is_nothing, is_settled, next_batch, next_holder, stored_tickets, stores, unsent_tickets, wakes};
+ghost use Rattle.pulsar_producer.specs.Topic.{Closes, Cuts, Draws, Flushes, Halts, Passes, Remakes, Stores, Takes, TakesBatch, after, cuts, drawn, fresh, is_free, is_settled, next_batch, next_holder, stored_tickets, stores, unsent_tickets, wakes};
+ghost use Rattle.pulsar_producer.specs.Storage.{is_nothing};
 
 use crate::content::{Batch, Built, Entry, Settings, Version};
 use crate::replies::Given;

@@ -22,7 +22,7 @@ use pulsar_addresses::content::Refusal;
 use pulsar_plans::turn::Ways;
 use pulsar_producer::content::{Built, Entry};
 use pulsar_producer::deed::News;
-use pulsar_producer::sending::Errand;
+use pulsar_producer::orders::Errand;
 use pulsar_wire::error::{Error, NoMemory, ProducerError};
 use std::alloc::Global;
 use std::collections::VecDeque;

@@ -22,7 +22,7 @@ use pulsar_calls::content::Advice;
 use pulsar_messages::Message;
 use pulsar_addresses::content::Text;
 use pulsar_producer::ProducerBuilder;
-use pulsar_producer::building::Order;
+use pulsar_producer::orders::Order;
 use pulsar_producer::content::{Entry, Outgoing, Settings};
 use pulsar_producer::deed::News;
 use pulsar_wire::error::NoMemory;

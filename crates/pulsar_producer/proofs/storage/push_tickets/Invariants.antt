@@ -1,6 +1,6 @@
 use Rattle.std.proofs.Common.{◌≡◌, ◌++◌, map, take}
 use Rattle.pulsar_producer.specs.Storage.{item_of}
-use Rattle.pulsar_producer.specs.Topic.{ticket_of}
+use Rattle.pulsar_producer.specs.Storage.{ticket_of}
 use Rattle.pulsar_producer.proofs.storage.push_tickets.Given as goal
 
 abbrev pub invariant-loop-item : goal.invariant-loop-item

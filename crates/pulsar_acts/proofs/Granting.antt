@@ -5,7 +5,7 @@ use Rattle.std.proofs.lemmas.List.{append-nil}
 use Rattle.std.specs.List.{flat_map}
 use Rattle.std.specs.Option.{is_some, option_map, option_to_list}
 use Rattle.pulsar_producer.specs.Topic.{Act as Deed}
-use Rattle.pulsar_producer.specs.declared.news.News.TheVariants as news
+use Rattle.pulsar_outgoing.specs.declared.news.News.TheVariants as news
 use Rattle.pulsar_calls.specs.declared.act.Act.{Act}
 use Rattle.pulsar_calls.specs.declared.act.Who.{Who}
 use Rattle.pulsar_producer_table.specs.declared.table.Topic.{Topic}

@@ -8,8 +8,8 @@ use Rattle.pulsar_messages.specs.Content.{ProducerMessageValues}
 use Rattle.pulsar_plans.specs.declared.turn.Ways.{Ways}
 use Rattle.pulsar_producer.specs.Producer as producer
 use Rattle.pulsar_producer.specs.Routing as routing
-use Rattle.pulsar_producer.specs.Storage.{is_batching}
-use Rattle.pulsar_producer.specs.declared.orders.Errand.{Errand}
+use Rattle.pulsar_outgoing.specs.Storage.{is_batching}
+use Rattle.pulsar_outgoing.specs.declared.orders.Errand.{Errand}
 use Rattle.pulsar_calls.specs.declared.act.Act.{Act}
 use Rattle.pulsar_calls.specs.declared.act.Act.TheVariants.{Starts}
 use Rattle.pulsar_calls.specs.declared.act.Procedure.{Procedure}

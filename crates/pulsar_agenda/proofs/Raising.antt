@@ -4,8 +4,8 @@ use Rattle.std.specs.Option.{option_to_list}
 use Rattle.pulsar_addresses.specs.Address.{Place, address_key, is_reachable}
 use Rattle.pulsar_plans.specs.declared.making.Command.{Command}
 use Rattle.pulsar_plans.specs.declared.turn.Ways.{Ways}
-use Rattle.pulsar_producer.specs.Storage.{is_batching}
-use Rattle.pulsar_producer.specs.declared.content.Built.{Built}
+use Rattle.pulsar_outgoing.specs.Storage.{is_batching}
+use Rattle.pulsar_outgoing.specs.declared.content.Built.{Built}
 use Rattle.pulsar_calls.specs.declared.content.Building.{Building}
 use Rattle.pulsar_calls.specs.declared.content.Joining.{Joining}
 use Rattle.pulsar_calls.specs.Who.{ticket_of}
@@ -43,7 +43,7 @@ use Rattle.pulsar_procedures.specs.Plan.{begins}
 use Rattle.pulsar_producer_table.specs.Producers.{is_settled_at, link_at, recalled, turn_taken}
 use Rattle.pulsar_tables.specs.Rules.{at_once, batches_by, batches_from, breaks_at, called, does, finds, follows, follows_some, gets_from, grants, idle_act, is_idle, keeps_alive, left_with, may_ping, over_links, performs, recalls, rung, stop_act, takes_turn, tries_again}
 use Rattle.pulsar_tables.specs.View.{Seat, View, arrival_at, told_some, ways_of}
-use Rattle.pulsar_producer.specs.declared.news.News.TheVariants as news
+use Rattle.pulsar_outgoing.specs.declared.news.News.TheVariants as news
 use Rattle.pulsar_calls.specs.declared.act.Outcome.TheVariants as outcome
 use Rattle.pulsar_agenda.proofs.Acts.{Each, StartsIn, called_each, each_append, each_either, each_flat, over_each}
 

@@ -8,7 +8,7 @@ ghost use Rattle.pulsar_calls.specs.Content.{answered, said};
 use crate::effect::Answer;
 use pulsar_addresses::address::BrokerAddress;
 use pulsar_addresses::content::Refusal;
-use pulsar_producer::copying::{copy_error, copy_refusal};
+use pulsar_outgoing::copying::{copy_error, copy_refusal};
 use pulsar_wire::commands::base::Body;
 use pulsar_wire::encoding::copying::copy_values;
 use pulsar_wire::error::{Error, NoMemory};

@@ -4,7 +4,7 @@ use Rattle.std.specs.Prelude.{MatchResult, Result, Ok, Err}
 use Rattle.pulsar_wire.specs.declared.commands.producer.CommandSendReceipt.{CommandSendReceipt}
 use Rattle.pulsar_wire.specs.declared.error.Error.{Error}
 use Rattle.pulsar_wire.specs.Failures.{failure}
-use Rattle.pulsar_producer.specs.Errors.{IsNoMemory}
+use Rattle.pulsar_outgoing.specs.Errors.{IsNoMemory}
 use Rattle.pulsar_calls.specs.Content.{Said, Shown}
 use Rattle.pulsar_agenda.specs.Run.{Step}
 use Rattle.pulsar_client.specs.Taken.{Held, IsPolled, IsSaid, IsUnsaid, ended_in, held_but, is_lost, left_after, poll_said, polled, polled_answer}

@@ -10,7 +10,7 @@ use Rattle.pulsar_wire.specs.Views.{send_receipt_values}
 use Rattle.pulsar_wire.specs.declared.commands.producer.CommandSendReceipt.{CommandSendReceipt}
 use Rattle.pulsar_wire.specs.declared.error.Error.{Error}
 use Rattle.pulsar_wire.specs.Failures.{Failure, OfProducer, ProducerCustom, failure}
-use Rattle.pulsar_producer.specs.Errors.{IsNoMemory}
+use Rattle.pulsar_outgoing.specs.Errors.{IsNoMemory}
 use Rattle.pulsar_client.specs.declared.answers.Taken.{Taken}
 use Rattle.pulsar_client.specs.declared.answers.Taken.TheVariants as taken
 use Rattle.pulsar_calls.specs.Content.{Said, Receipt, Failed, Done, Names, Address, Count, Addresses, Sends, Replies, Shown, Ends, said}

@@ -2,7 +2,7 @@
 
 ghost use Rattle.std.specs.Prelude.{◌≡◌, ◌⊎◌, ℕ, List, MatchOption, MatchResult, Ok, Err};
 ghost use Rattle.pulsar_wire.specs.Failures.{failure};
-ghost use Rattle.pulsar_producer.specs.Errors.{IsNoMemory};
+ghost use Rattle.pulsar_outgoing.specs.Errors.{IsNoMemory};
 ghost use Rattle.pulsar_client.specs.Client.{StandsFor};
 ghost use Rattle.pulsar_calls.specs.Content.{answered, said};
 ghost use Rattle.pulsar_agenda.specs.Run.{Step};

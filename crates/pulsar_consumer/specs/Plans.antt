@@ -24,7 +24,7 @@ use Rattle.pulsar_consumer.specs.declared.building.Deed.TheVariants.{Does, Numbe
 use Rattle.pulsar_consumer.specs.declared.building.Found.{Found}
 use Rattle.pulsar_consumer.specs.declared.building.News.{News}
 use Rattle.pulsar_consumer.specs.declared.building.News.TheVariants.{Told, Numbered, InUse}
-use Rattle.pulsar_consumer.specs.declared.orders.Order.{Order}
+use Rattle.pulsar_incoming.specs.declared.orders.Order.{Order}
 use Rattle.pulsar_consumer.specs.declared.resuming.Resuming.{Resuming}
 use Rattle.pulsar_consumer.specs.declared.resuming.Resuming.TheVariants as resume
 

@@ -7,12 +7,12 @@ use Rattle.pulsar_wire.specs.Sink.{capped}
 use Rattle.pulsar_frame.specs.Items.{Item}
 use Rattle.pulsar_link.specs.Request.{Subscribed}
 use Rattle.pulsar_wire.specs.Failures.{Failure}
-use Rattle.pulsar_consumer.specs.Content.{ConfigValues}
+use Rattle.pulsar_incoming.specs.Content.{ConfigValues}
 use Rattle.pulsar_consumer.specs.Frames.{Frame, failed}
-use Rattle.pulsar_consumer.specs.declared.polled.Ending.{Ending}
-use Rattle.pulsar_consumer.specs.declared.polled.Ending.TheVariants.{LinkLost, NotSubscribed}
-use Rattle.pulsar_consumer.specs.declared.polled.Polled.{Polled}
-use Rattle.pulsar_consumer.specs.declared.polled.Polled.TheVariants as poll
+use Rattle.pulsar_incoming.specs.declared.polled.Ending.{Ending}
+use Rattle.pulsar_incoming.specs.declared.polled.Ending.TheVariants.{LinkLost, NotSubscribed}
+use Rattle.pulsar_incoming.specs.declared.polled.Polled.{Polled}
+use Rattle.pulsar_incoming.specs.declared.polled.Polled.TheVariants as poll
 use Rattle.pulsar_frame.specs.Items.{is_message}
 
 -- PERMITS

@@ -5,10 +5,10 @@ ghost use Rattle.std.specs.Option.{option_map};
 ghost use Rattle.pulsar_consumer.specs.Commands.{command};
 ghost use Rattle.pulsar_consumer.specs.Plans as meaning;
 
-use crate::orders::{Order};
-use crate::settings::Settings;
-use pulsar_plans::closing::Step;
 use pulsar_addresses::content::{Address, Names, Refusal, Text};
+use pulsar_incoming::orders::Order;
+use pulsar_incoming::settings::Settings;
+use pulsar_plans::closing::Step;
 use pulsar_plans::making::{self, Command, Making, Served};
 use pulsar_plans::names::{self, Naming};
 use pulsar_plans::question::{Question, Request};

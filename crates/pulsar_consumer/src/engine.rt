@@ -6,7 +6,7 @@ ghost use Rattle.pulsar_consumer.specs.Topic as meaning;
 
 use crate::frame::Frame;
 use crate::live::Live;
-use crate::unread::Unread;
+use pulsar_incoming::unread::Unread;
 use pulsar_wire::error::NoMemory;
 use std::alloc::Global;
 use std::collections::VecDeque;

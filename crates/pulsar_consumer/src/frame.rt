@@ -11,12 +11,12 @@ ghost use Rattle.pulsar_frame.specs.Items.{given, is_compressed, items_of, opene
 ghost use Rattle.pulsar_consumer.specs.Frames as meaning;
 ghost use Rattle.pulsar_consumer.specs.Frames.{frame_in};
 
-use crate::unread::Unread;
-use pulsar_frame::batch::iterator::BatchedMessageIterator;
-use pulsar_frame::payload::Payload;
-use pulsar_link::content::Received;
-use pulsar_frame::items::Unread as Item;
 use pulsar_addresses::content::Refusal;
+use pulsar_frame::batch::iterator::BatchedMessageIterator;
+use pulsar_frame::items::Unread as Item;
+use pulsar_frame::payload::Payload;
+use pulsar_incoming::unread::Unread;
+use pulsar_link::content::Received;
 use pulsar_wire::commands::base::Body;
 use pulsar_wire::commands::consumer::delivery::CommandMessage;
 use pulsar_wire::commands::ids::MessageIdData;

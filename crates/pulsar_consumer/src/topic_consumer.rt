@@ -3,19 +3,19 @@
 ghost use Rattle.std.specs.Prelude.{◌≡◌, None, IfOk, OnOk};
 ghost use Rattle.std.specs.Option.{option_map};
 ghost use Rattle.pulsar_consumer.specs.Commands.{command_of};
-ghost use Rattle.pulsar_consumer.specs.Content.{config_values};
+ghost use Rattle.pulsar_incoming.specs.Content.{config_values};
 ghost use Rattle.pulsar_consumer.specs.Topic.{Asks, Ends, Fails, Hears, Lives, Loses, Polls, after, first_due, fresh, is_due, is_ended, link_of, lives_on, of_raw, polled, queue_of, resubscribes};
 ghost use Rattle.pulsar_consumer.specs.Topic as meaning;
 
 use crate::building::command;
-use crate::config::ConsumerConfig;
 use crate::engine::ConsumerEngine;
 use crate::frame::Frame;
-use crate::polled::{Ending, Polled};
-use crate::settings::Settings;
-use crate::unread::Unread;
-use pulsar_link::content::Subscribed;
 use pulsar_addresses::content::{Refusal, Text};
+use pulsar_incoming::config::ConsumerConfig;
+use pulsar_incoming::polled::{Ending, Polled};
+use pulsar_incoming::settings::Settings;
+use pulsar_incoming::unread::Unread;
+use pulsar_link::content::Subscribed;
 use pulsar_plans::making::Command;
 use pulsar_wire::error::NoMemory;
 use std::alloc::Global;

@@ -12,8 +12,8 @@ use Rattle.pulsar_link.specs.Messages.{Reply, is_body}
 use Rattle.pulsar_consumer.specs.Frames.{Frame, frame_in}
 use Rattle.pulsar_consumer.specs.Topic as topic
 use Rattle.pulsar_consumer.specs.Topic.{Engine, Hears, Loses, Ends, Live, Seen, link_of, lives_on}
-use Rattle.pulsar_consumer.specs.declared.polled.Ending.{Ending}
-use Rattle.pulsar_consumer.specs.declared.polled.Ending.TheVariants.{LinkLost, TopicEnded}
+use Rattle.pulsar_incoming.specs.declared.polled.Ending.{Ending}
+use Rattle.pulsar_incoming.specs.declared.polled.Ending.TheVariants.{LinkLost, TopicEnded}
 use Rattle.pulsar_consumer_table.specs.declared.row.ConsumerRow.{ConsumerRow}
 use Rattle.pulsar_consumer_table.specs.Consumers.{Member, ends_on, hears_frame, link_at, lives_at, lives_with, member_after, stopped}
 use Rattle.pulsar_consumer_table.specs.KeptConsumers.{AreHeard, is_listed, listed_at, rows_in, tickets_of}

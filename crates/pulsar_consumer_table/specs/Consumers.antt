@@ -17,10 +17,10 @@ use Rattle.pulsar_consumer.specs.Commands.{command_of}
 use Rattle.pulsar_consumer.specs.Frames.{frame_in}
 use Rattle.pulsar_consumer.specs.Topic as topic
 use Rattle.pulsar_consumer.specs.Topic.{Act, Seen, Setup, Live, Lives, Hears, Loses, Fails, Ends, first_due, fresh, is_due as is_flow_due, is_ended, link_of, lives_on, resubscribes}
-use Rattle.pulsar_consumer.specs.declared.polled.Ending.{Ending}
-use Rattle.pulsar_consumer.specs.declared.polled.Ending.TheVariants.{Closed, TopicEnded, Stopped}
-use Rattle.pulsar_consumer.specs.declared.polled.Polled.{Polled}
-use Rattle.pulsar_consumer.specs.declared.polled.Polled.TheVariants as poll
+use Rattle.pulsar_incoming.specs.declared.polled.Ending.{Ending}
+use Rattle.pulsar_incoming.specs.declared.polled.Ending.TheVariants.{Closed, TopicEnded, Stopped}
+use Rattle.pulsar_incoming.specs.declared.polled.Polled.{Polled}
+use Rattle.pulsar_incoming.specs.declared.polled.Polled.TheVariants as poll
 use Rattle.pulsar_calls.specs.declared.act.Arrival.{Arrival}
 use Rattle.pulsar_calls.specs.declared.act.Arrival.TheVariants.{Nothing, Readied, Settles, Gives, Passes, Bad}
 use Rattle.pulsar_calls.specs.declared.act.Refusal.{Refusal}

@@ -7,7 +7,7 @@ ghost use Rattle.std.specs.List.Sorted.{IsStrictlySortedBy};
 ghost use Rattle.std.specs.Option.{option_map, option_to_list};
 ghost use Rattle.std.specs.Ordering.{nat_cmp};
 ghost use Rattle.pulsar_calls.specs.Content.{shown};
-ghost use Rattle.pulsar_consumer.specs.declared.polled.Ending.{Ending};
+ghost use Rattle.pulsar_incoming.specs.declared.polled.Ending.{Ending};
 ghost use Rattle.pulsar_consumer.specs.Topic.{Asks, Ends, Loses, Polls, is_on, resubscribes};
 ghost use Rattle.pulsar_consumer_table.specs.Consumers as meaning;
 ghost use Rattle.pulsar_consumer_table.specs.Consumers.{at_row, flow_at, hears_frame, lives_at, member_after, polled, sought, word_if, word_of_frame};

@@ -10,8 +10,11 @@ ghost use Rattle.pulsar_consumer_table.specs.KeptConsumers.{is_known, member_in}
 use pulsar_calls::act::{Who, Word};
 use pulsar_calls::effect::{Effect, Handed};
 use pulsar_consumer::frame::Frame;
-use pulsar_consumer::unread::Unread;
-use pulsar_consumer::{Consumer, Ending, MessageData, Polled, TopicConsumer};
+use pulsar_incoming::unread::Unread;
+use pulsar_consumer::consumer::Consumer;
+use pulsar_incoming::polled::{Ending, Polled};
+use pulsar_incoming::message::MessageData;
+use pulsar_consumer::topic_consumer::TopicConsumer;
 use pulsar_link::content::Received;
 use pulsar_frame::items::Unread as Item;
 use pulsar_addresses::content::Refusal;

@@ -1,8 +1,11 @@
 //! Consumers of one topic, frame by frame and poll by poll.
 
 use pulsar_consumer::frame::Frame;
-use pulsar_consumer::settings::Settings;
-use pulsar_consumer::{ConsumerConfig, ConsumerOptions, Ending, Polled, SubType, TopicConsumer};
+use pulsar_incoming::settings::Settings;
+use pulsar_incoming::config::ConsumerConfig;
+use pulsar_consumer::{ConsumerOptions, SubType};
+use pulsar_incoming::polled::{Ending, Polled};
+use pulsar_consumer::topic_consumer::TopicConsumer;
 use pulsar_frame::message::Message;
 use pulsar_frame::payload::Payload;
 use pulsar_link::content::{Received, Subscribed};

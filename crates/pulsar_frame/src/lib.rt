@@ -19,6 +19,8 @@ pub use codec::Codec;
 pub use message::{Message, frame_len};
 pub use payload::{Metadata, Payload, PayloadParts};
 pub use reader::FrameReader;
+
 pub mod items;
 pub mod received;
+
 pub use crate::received::Received;

@@ -2,7 +2,10 @@
 #![tactic(auto)]
 
 use pulsar_broker::Broker;
-use pulsar_client::{Call, ConsumerBuilder, Effect, Event, NoMemory, ProducerBuilder, message_from_text};
+use pulsar_client::{Call, Effect, Event, NoMemory};
+use pulsar_incoming::builder::ConsumerBuilder;
+use pulsar_outgoing::producer_builder::ProducerBuilder;
+use pulsar_messages::serialize::message_from_text;
 use pulsar_client::options::ClientOptions;
 use pulsar_addresses::options::{ConnectionRetryOptions, OperationRetryOptions};
 use pulsar_client::pulsar::Pulsar;

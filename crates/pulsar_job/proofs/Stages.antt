@@ -3,7 +3,7 @@ use Rattle.std.proofs.Common.{◌≡◌, ◌∙◌, ◌≤◌, ◌+◌, ◌-◌,
 use Rattle.std.specs.Prelude.{slice_get}
 use Rattle.std.specs.List.{flat_map}
 use Rattle.std.proofs.lemmas.List.{length-map, take-append-le, take_all}
-use Rattle.pulsar_producer.specs.Message.{bare}
+use Rattle.pulsar_messages.specs.Message.{bare}
 use Rattle.pulsar_calls.specs.Content.{Asked, Build, Stop, Send, Consumer, Called, Heard, Shown}
 use Rattle.pulsar_agenda.specs.Run.{Step}
 use Rattle.pulsar_pumps.specs.Made.{Made}

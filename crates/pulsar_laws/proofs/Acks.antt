@@ -17,13 +17,13 @@ use Rattle.pulsar_plans.specs.declared.plan.Procedure.{Procedure as Sought}
 use Rattle.pulsar_plans.specs.declared.turn.Ways.{Ways}
 use Rattle.pulsar_producer.specs.Commands.{command_of}
 use Rattle.pulsar_producer.specs.Producer as producer
-use Rattle.pulsar_producer.specs.declared.news.News.TheVariants as news
-use Rattle.pulsar_producer.specs.declared.orders.Errand.{Errand}
+use Rattle.pulsar_outgoing.specs.declared.news.News.TheVariants as news
+use Rattle.pulsar_outgoing.specs.declared.orders.Errand.{Errand}
 use Rattle.pulsar_consumer.specs.Commands as consumer_commands
-use Rattle.pulsar_consumer.specs.Naming as naming
+use Rattle.pulsar_incoming.specs.Naming as naming
 use Rattle.pulsar_consumer.specs.Topic.{link_of, is_ended, lives_on, resubscribes}
-use Rattle.pulsar_consumer.specs.declared.naming.Ordered.{Ordered}
-use Rattle.pulsar_consumer.specs.declared.naming.Ordered.TheVariants as ordered
+use Rattle.pulsar_incoming.specs.declared.naming.Ordered.{Ordered}
+use Rattle.pulsar_incoming.specs.declared.naming.Ordered.TheVariants as ordered
 use Rattle.pulsar_calls.specs.declared.act.Act.{Act}
 use Rattle.pulsar_calls.specs.declared.act.Act.TheVariants.{Comes, Starts, Told, Does, Answers}
 use Rattle.pulsar_calls.specs.declared.act.Action.{Action}
@@ -75,7 +75,7 @@ use Rattle.pulsar_laws.proofs.Made.{IsMadeAt, calls_are_made_lem}
 use Rattle.pulsar_laws.proofs.Mild.{IsMildPlan, IsMildTurn, MildBegun, MildOutcome, MildPlan, begins_mild, direct_mild, is_direct, told_mild}
 use Rattle.pulsar_laws.proofs.MildSearches.{IsMildCommand, MildSought}
 use Rattle.pulsar_laws.proofs.Same.{same_self, same_who}
-use Rattle.pulsar_producer.specs.Wanted.{ProducerWanted}
+use Rattle.pulsar_outgoing.specs.Wanted.{ProducerWanted}
 use Rattle.pulsar_calls.specs.declared.act.Says.{Says}
 use Rattle.pulsar_calls.specs.declared.act.Says.TheVariants as says
 use Rattle.std.specs.Prelude.{not}

@@ -23,7 +23,7 @@ use Rattle.pulsar_procedures.specs.Plan.{fails, told, verdict, begins}
 use Rattle.pulsar_tables.specs.Rules.{share, at_once, below, called, fails_as, causes, follows, follows_some, procedure_for, unless_refused, joins, left_with, sends_by, sends_with, stores_as, shares_of, shares_unless, starts, why_no_sends, unless}
 use Rattle.pulsar_agenda.specs.Run.{Agenda, Entry, Begins, Then, IsRun, agenda, first, rules, view}
 use Rattle.pulsar_tables.specs.View.{Options, View, told_some, ways_of, Chosen, may_call}
-use Rattle.pulsar_producer.specs.declared.orders.Errand.{Errand}
+use Rattle.pulsar_outgoing.specs.declared.orders.Errand.{Errand}
 use Rattle.pulsar_messages.specs.Content.{ProducerMessageValues}
 use Rattle.pulsar_producer_table.specs.Producers.{Producers, batches_in, errand_of, why_not, routed}
 use Rattle.pulsar_calls.specs.Content.{next_advice}
@@ -31,7 +31,7 @@ use Rattle.pulsar_calls.specs.declared.act.Refusal.{Refusal}
 use Rattle.pulsar_calls.specs.declared.act.Share.{Share}
 use Rattle.pulsar_calls.specs.declared.act.Makes.{Makes}
 use Rattle.pulsar_frame.specs.Batch.{EntryValues}
-use Rattle.pulsar_producer.specs.Batch.{entry_of}
+use Rattle.pulsar_outgoing.specs.Batch.{entry_of}
 use Rattle.pulsar_calls.specs.declared.act.Procedure.TheVariants as procedure
 use Rattle.pulsar_calls.specs.Content as content
 use Rattle.pulsar_agenda.proofs.Acts.{Each, each_append, each_first, each_map, each_rest, is_served}

@@ -42,7 +42,7 @@ use Rattle.pulsar_tables.specs.View.{Addresses, Options, Seat, View, answer_at, 
 use Rattle.pulsar_calls.specs.Who.{in_turn, is_same, turn_of, ticket_of}
 use Rattle.pulsar_producer.specs.Topic as topic
 use Rattle.pulsar_plans.specs.declared.making.Command.{Command}
-use Rattle.pulsar_producer.specs.declared.news.Drawn.{Drawn}
+use Rattle.pulsar_outgoing.specs.declared.news.Drawn.{Drawn}
 use Rattle.pulsar_producer_table.specs.declared.table.Topic.{Topic}
 use Rattle.pulsar_producer_table.specs.Producers.{drawn, is_settled_at, is_woken, link_at, next_batch_at, number_drawn, numbers_at, recalled, stored_at, stored_by, turn_passed, turn_taken, unsent, unsent_at, waiting, waiting_at}
 use Rattle.pulsar_wire.specs.declared.error.IoKind.TheVariants as io_kind
@@ -50,7 +50,7 @@ use Rattle.pulsar_session.specs.declared.states.Asked.TheVariants as placed
 use Rattle.pulsar_session.specs.Link as session
 use Rattle.pulsar_calls.specs.declared.act.Outcome.TheVariants as outcome
 use Rattle.pulsar_tables.specs.Links as links
-use Rattle.pulsar_producer.specs.declared.news.News.TheVariants as news
+use Rattle.pulsar_outgoing.specs.declared.news.News.TheVariants as news
 use Rattle.pulsar_agenda.proofs.Acts.{Each, chosen_same, over_each}
 use Rattle.pulsar_agenda.proofs.Raising.{IsRaised, may, raises, OfNotice}
 use Rattle.pulsar_laws.proofs.Fitting.{is_said, is_settling}

@@ -15,7 +15,7 @@ use Rattle.pulsar_consumer.specs.declared.building.Building.{Building as Consume
 use Rattle.pulsar_consumer.specs.declared.building.Deed.{Deed as ConsumerDeed}
 use Rattle.pulsar_consumer.specs.declared.building.Deed.TheVariants as consumer_deed
 use Rattle.pulsar_consumer.specs.declared.building.News.{News as ConsumerNews}
-use Rattle.pulsar_consumer.specs.declared.orders.Order.{Order as ConsumerOrder}
+use Rattle.pulsar_incoming.specs.declared.orders.Order.{Order as ConsumerOrder}
 use Rattle.pulsar_calls.specs.declared.act.Action.{Action}
 use Rattle.pulsar_calls.specs.declared.act.Action.TheVariants.{Get, Ask, Wait, TakeNumber, FindConsumer, TakeFlow, RecallConsumer, Revive, FailConsumer, Rest}
 use Rattle.pulsar_calls.specs.declared.act.Outcome.{Outcome}
@@ -34,8 +34,8 @@ use Rattle.pulsar_procedures.specs.declared.service.Service.TheVariants as servi
 use Rattle.pulsar_procedures.specs.declared.states.Resubscribing.{Resubscribing}
 use Rattle.pulsar_procedures.specs.Plan.{acknowledges, begins, consumer_news_of, in_departing, in_recalling, in_resting, in_resuming, in_reviving, in_subscribing, in_taking, news_in, overrides, resting_hears, resubscribes, subscribes, subscribing_does, told, told_service, told_serving, told_subscribing, wished, verdict}
 use Rattle.pulsar_calls.specs.declared.act.Refusal.{Refusal}
-use Rattle.pulsar_consumer.specs.declared.naming.Ordered.{Ordered}
-use Rattle.pulsar_consumer.specs.Naming.{order_of}
+use Rattle.pulsar_incoming.specs.declared.naming.Ordered.{Ordered}
+use Rattle.pulsar_incoming.specs.Naming.{order_of}
 use Rattle.pulsar_calls.specs.Content.{Asked, Done}
 use Rattle.pulsar_tables.specs.Reading.{unless, subscribes_by, subscribes as begin_subscribes, acknowledges as begin_acknowledges, leaves as begin_leaves}
 use Rattle.pulsar_consumer_table.specs.Consumers.{Consumers, why_not}
@@ -43,7 +43,7 @@ use Rattle.pulsar_producer_table.specs.Producers.{Producers}
 use Rattle.pulsar_tables.specs.Rules.{procedure_for, unless_refused}
 use Rattle.pulsar_tables.specs.View.{Chosen, Tickets, may_call, ways_of}
 use Rattle.pulsar_calls.specs.Content as content
-use Rattle.pulsar_consumer.specs.declared.naming.Ordered.TheVariants as ordered
+use Rattle.pulsar_incoming.specs.declared.naming.Ordered.TheVariants as ordered
 use Rattle.pulsar_calls.specs.declared.act.Makes.TheVariants.{Nothing}
 
 -- where a turn stays, the plan and what it does are so

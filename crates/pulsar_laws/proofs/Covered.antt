@@ -9,7 +9,7 @@ use Rattle.pulsar_messages.specs.Words as words
 use Rattle.pulsar_wire.specs.Failures.{Fault}
 use Rattle.pulsar_consumer.specs.Laws.{asked_since}
 use Rattle.pulsar_consumer.specs.Topic.{Act as Done, Lives, Hears, Loses, Fails, Ends as Over, Polls as Polled, Asks, Seen, Live, Setup, first_due, link_of, lives_on, seen}
-use Rattle.pulsar_consumer.specs.declared.polled.Ending.TheVariants.{TopicEnded}
+use Rattle.pulsar_incoming.specs.declared.polled.Ending.TheVariants.{TopicEnded}
 use Rattle.pulsar_calls.specs.declared.act.Act.{Act}
 use Rattle.pulsar_calls.specs.declared.act.Act.TheVariants.{Comes, Told, Does, Answers}
 use Rattle.pulsar_calls.specs.declared.act.Action.TheVariants.{Ask, TakeFlow, Revive, FailConsumer, StopAll}

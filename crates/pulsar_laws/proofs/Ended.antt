@@ -9,14 +9,14 @@ use Rattle.pulsar_link.specs.Request.{closed_consumer}
 use Rattle.pulsar_wire.specs.Failures.{Fault}
 use Rattle.pulsar_messages.specs.Claims.{is_spent}
 use Rattle.pulsar_wire.specs.Sink.{capped}
-use Rattle.pulsar_consumer.specs.Content.{ConfigValues}
+use Rattle.pulsar_incoming.specs.Content.{ConfigValues}
 use Rattle.pulsar_consumer.specs.Frames.{frame_in, failed}
 use Rattle.pulsar_consumer.specs.Topic as reader
 use Rattle.pulsar_consumer.specs.Topic.{Act as Done, Lives, Hears, Loses, Fails, Ends as Over, Polls as Polled, Asks, Live, Seen, Setup, after, batch_size, counts_first, first_of, fresh, half, is_ended, link_of, lives_on, loses, seen}
 use Rattle.pulsar_frame.specs.Items.{is_message}
 use Rattle.pulsar_consumer.specs.Laws.{IsFinished, arrivals as arrivals_in, begun}
-use Rattle.pulsar_consumer.specs.declared.polled.Ending.{Ending}
-use Rattle.pulsar_consumer.specs.declared.polled.Ending.TheVariants.{Closed, LinkLost, NotSubscribed, Stopped, TopicEnded}
+use Rattle.pulsar_incoming.specs.declared.polled.Ending.{Ending}
+use Rattle.pulsar_incoming.specs.declared.polled.Ending.TheVariants.{Closed, LinkLost, NotSubscribed, Stopped, TopicEnded}
 use Rattle.pulsar_consumer.proofs.Histories.{counted_same, end_is_final, permits_in_bounds}
 use Rattle.pulsar_consumer.proofs.Counted.{permits_are_counted}
 use Rattle.pulsar_calls.specs.declared.act.Act.{Act}

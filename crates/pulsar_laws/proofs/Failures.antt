@@ -11,10 +11,10 @@ use Rattle.pulsar_plans.specs.declared.plan.Procedure.{Procedure as Sought}
 use Rattle.pulsar_plans.specs.declared.plan.Procedure.TheVariants as sought
 use Rattle.pulsar_plans.specs.declared.turn.Outcome.{Outcome as News}
 use Rattle.pulsar_plans.specs.declared.turn.Ways.{Ways}
-use Rattle.pulsar_producer.specs.Wanted.{ProducerWanted}
-use Rattle.pulsar_producer.specs.declared.orders.Order.{Order}
-use Rattle.pulsar_producer.specs.declared.news.News.TheVariants as granting
-use Rattle.pulsar_producer.specs.declared.orders.Errand.{Errand}
+use Rattle.pulsar_outgoing.specs.Wanted.{ProducerWanted}
+use Rattle.pulsar_outgoing.specs.declared.orders.Order.{Order}
+use Rattle.pulsar_outgoing.specs.declared.news.News.TheVariants as granting
+use Rattle.pulsar_outgoing.specs.declared.orders.Errand.{Errand}
 use Rattle.pulsar_calls.specs.declared.act.Act.{Act}
 use Rattle.pulsar_calls.specs.declared.act.Act.TheVariants.{Comes, Starts, Told, Does, Answers}
 use Rattle.pulsar_calls.specs.declared.act.Action.{Action}
@@ -39,7 +39,7 @@ use Rattle.pulsar_calls.specs.Content as content
 use Rattle.pulsar_calls.specs.Content.{Asked, lacks_tickets, shares}
 use Rattle.pulsar_laws.specs.Laws.{Cause, FailuresAreTold, IsToldBy, OutcomesAreCaused, outcomes, started}
 use Rattle.pulsar_procedures.specs.Plan.{begins}
-use Rattle.pulsar_producer.specs.Batch.{entry_of}
+use Rattle.pulsar_outgoing.specs.Batch.{entry_of}
 use Rattle.pulsar_producer_table.specs.Producers.{Producers, batches_in, errand_of, numbers_at, routed, why_not}
 use Rattle.pulsar_calls.specs.Content.{next_advice}
 use Rattle.pulsar_tables.specs.Rules.{asks_raw, asks_topics, at_once, builds_with, checks, closes, does, fails_as, flushes, flushes_all, follows, follows_some, from_base, gathers, is_taken, notice, order_of, parts_of, performs, procedure_for, produces, produces_by, produces_from, searches, sends, sends_as, sends_by, share, shares_of, shares_unless, starts, stores_as, unless, unless_refused, why_no_sends, why_no_raw}

@@ -16,20 +16,20 @@ use Rattle.pulsar_producer.specs.Batching.{is_sent_send}
 use Rattle.pulsar_frame.specs.Batch.{EntryValues}
 use Rattle.pulsar_messages.specs.Content.{ProducerMessageValues}
 use Rattle.pulsar_wire.specs.declared.error.Reason.{Reason}
-use Rattle.pulsar_producer.specs.Batch.{batch_of, cut_report, entries_in, failed, member_of, not_written, receipt_fate, reports}
-use Rattle.pulsar_producer.specs.declared.batch.Fate.{Fate}
-use Rattle.pulsar_producer.specs.declared.batch.Fate.TheVariants as fate
-use Rattle.pulsar_producer.specs.declared.batch.Member.{Member}
-use Rattle.pulsar_producer.specs.declared.batch.Report.{Report}
+use Rattle.pulsar_outgoing.specs.Batch.{batch_of, cut_report, entries_in, failed, member_of, not_written, receipt_fate, reports}
+use Rattle.pulsar_outgoing.specs.declared.batch.Fate.{Fate}
+use Rattle.pulsar_outgoing.specs.declared.batch.Fate.TheVariants as fate
+use Rattle.pulsar_outgoing.specs.declared.batch.Member.{Member}
+use Rattle.pulsar_outgoing.specs.declared.batch.Report.{Report}
 use Rattle.pulsar_producer.specs.declared.batching.Batching.{Batching as Batches}
 use Rattle.pulsar_producer.specs.declared.batching.Batching.TheVariants as batching
 use Rattle.pulsar_producer.specs.declared.building.Building.{Building as Build}
-use Rattle.pulsar_producer.specs.declared.orders.Order.{Order}
-use Rattle.pulsar_producer.specs.declared.content.Built.{Built}
+use Rattle.pulsar_outgoing.specs.declared.orders.Order.{Order}
+use Rattle.pulsar_outgoing.specs.declared.content.Built.{Built}
 use Rattle.pulsar_producer.specs.declared.deed.Deed.{Deed}
 use Rattle.pulsar_producer.specs.News.{News}
 use Rattle.pulsar_producer.specs.declared.deed.Step.{Step}
-use Rattle.pulsar_producer.specs.declared.orders.Errand.{Errand}
+use Rattle.pulsar_outgoing.specs.declared.orders.Errand.{Errand}
 use Rattle.pulsar_producer.specs.declared.sending.Sending.{Sending as Send}
 use Rattle.pulsar_calls.specs.declared.act.Action.{Action}
 use Rattle.pulsar_calls.specs.declared.act.Action.TheVariants.{Ask, Find, PassTurn, Rest, Shut, StopAll, Store, TakeBatch, Tell, TellAll}
@@ -54,7 +54,7 @@ use Rattle.pulsar_plans.specs.declared.turn.Action.TheVariants as wish
 use Rattle.pulsar_plans.specs.declared.turn.Turn.TheVariants as search_turn
 use Rattle.pulsar_producer.specs.Plans as produce
 use Rattle.pulsar_producer.specs.declared.deed.Deed.TheVariants as deed
-use Rattle.pulsar_producer.specs.declared.news.News.TheVariants as granting
+use Rattle.pulsar_outgoing.specs.declared.news.News.TheVariants as granting
 use Rattle.pulsar_producer.specs.declared.deed.Step.TheVariants as step
 use Rattle.pulsar_producer.specs.declared.sending.Sending.TheVariants as send
 use Rattle.pulsar_calls.specs.declared.act.Outcome.TheVariants as outcome

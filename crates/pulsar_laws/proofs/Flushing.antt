@@ -4,10 +4,10 @@ use Rattle.std.proofs.lemmas.Bool.{cases_Bool, eqb-true}
 use Rattle.std.specs.Option.{option_to_list}
 use Rattle.pulsar_run.specs.Laws.{In}
 use Rattle.pulsar_producer.specs.BatchLaws.{batches_of, cut_by, items_of, joined, taken_by, taken_of}
-use Rattle.pulsar_producer.specs.Storage.{Item, SingleMessage, Flush, is_ready, pushed}
+use Rattle.pulsar_outgoing.specs.Storage.{Item, SingleMessage, Flush, is_ready, pushed}
 use Rattle.pulsar_producer.specs.Topic as topic
 use Rattle.pulsar_producer.specs.Topic.{Act as Deed, Takes, Passes, Remakes, Closes, Stores, Flushes, Cuts, TakesBatch, Seen, Setup, is_settled, next_batch}
-use Rattle.pulsar_producer.specs.Storage.{is_nothing}
+use Rattle.pulsar_outgoing.specs.Storage.{is_nothing}
 use Rattle.pulsar_producer.proofs.Cutting.{batches_in_order, flush_is_last, items_in_order, joined_append, joined_one}
 use Rattle.pulsar_calls.specs.declared.act.Act.{Act}
 use Rattle.pulsar_calls.specs.declared.act.Act.TheVariants.{Comes, Starts, Does}

@@ -12,10 +12,10 @@ use Rattle.pulsar_messages.specs.Claims.{is_spent}
 use Rattle.pulsar_link.specs.Request.{named_producer}
 use Rattle.pulsar_producer.specs.Producer as producer
 use Rattle.pulsar_producer.specs.Topic.{Closes}
-use Rattle.pulsar_producer.specs.Storage.{limits_of}
-use Rattle.pulsar_producer.specs.declared.content.Built.{Built}
-use Rattle.pulsar_producer.specs.declared.storage.Limits.{Limits}
-use Rattle.pulsar_producer.specs.declared.news.News.TheVariants as news
+use Rattle.pulsar_outgoing.specs.Storage.{limits_of}
+use Rattle.pulsar_outgoing.specs.declared.content.Built.{Built}
+use Rattle.pulsar_outgoing.specs.declared.storage.Limits.{Limits}
+use Rattle.pulsar_outgoing.specs.declared.news.News.TheVariants as news
 use Rattle.pulsar_calls.specs.declared.act.Act.{Act}
 use Rattle.pulsar_calls.specs.declared.act.Act.TheVariants.{Comes, Told, Does, Answers}
 use Rattle.pulsar_calls.specs.declared.act.Action.TheVariants.{Draw, Number, Shut}

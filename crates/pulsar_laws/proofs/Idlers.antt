@@ -16,7 +16,7 @@ use Rattle.pulsar_addresses.specs.Address.{Place}
 use Rattle.pulsar_producer.specs.Topic as topic
 use Rattle.pulsar_producer.specs.Topic.{Act as TopicAct}
 use Rattle.pulsar_producer.specs.News.{News}
-use Rattle.pulsar_producer.specs.declared.news.News.TheVariants as news
+use Rattle.pulsar_outgoing.specs.declared.news.News.TheVariants as news
 use Rattle.pulsar_requests.specs.Soonest.{has_come}
 use Rattle.pulsar_calls.specs.declared.act.Act.{Act}
 use Rattle.pulsar_calls.specs.declared.act.Act.TheVariants.{Comes, Told, Does, Answers, Dials}
@@ -68,7 +68,7 @@ use Rattle.url.specs.Parts.{Parts}
 use Rattle.pulsar_link.specs.Messages.{Reply, is_body}
 use Rattle.pulsar_consumer.specs.Frames.{frame_in}
 use Rattle.pulsar_consumer.specs.Topic as reader
-use Rattle.pulsar_consumer.specs.declared.polled.Ending.TheVariants.{Closed, TopicEnded}
+use Rattle.pulsar_incoming.specs.declared.polled.Ending.TheVariants.{Closed, TopicEnded}
 use Rattle.pulsar_consumer_table.specs.Consumers as consumer
 use Rattle.pulsar_consumer_table.specs.Consumers.{Member}
 use Rattle.pulsar_consumer_table.specs.declared.row.Sought.{Sought}

@@ -9,22 +9,22 @@ use Rattle.pulsar_messages.specs.Claims.{is_spent}
 use Rattle.pulsar_wire.specs.declared.error.Reason.{Reason}
 use Rattle.pulsar_plans.specs.declared.turn.Action.TheVariants as wish
 use Rattle.pulsar_plans.specs.declared.turn.Ways.{Ways}
-use Rattle.pulsar_producer.specs.Batch.{batch_of, entries_in, member_of}
+use Rattle.pulsar_outgoing.specs.Batch.{batch_of, entries_in, member_of}
 use Rattle.pulsar_producer.specs.Batching as batches
 use Rattle.pulsar_producer.specs.Plans as produce
-use Rattle.pulsar_producer.specs.Storage.{Item, SingleMessage, Flush as FlushItem, is_ready}
+use Rattle.pulsar_outgoing.specs.Storage.{Item, SingleMessage, Flush as FlushItem, is_ready}
 use Rattle.pulsar_producer.specs.Topic as topic
-use Rattle.pulsar_producer.specs.Storage as topic_low
-use Rattle.pulsar_producer.specs.declared.batch.Member.{Member}
-use Rattle.pulsar_producer.specs.declared.batch.Member.TheVariants as member
+use Rattle.pulsar_outgoing.specs.Storage as topic_low
+use Rattle.pulsar_outgoing.specs.declared.batch.Member.{Member}
+use Rattle.pulsar_outgoing.specs.declared.batch.Member.TheVariants as member
 use Rattle.pulsar_producer.specs.declared.batching.Batching.{Batching as Batches}
 use Rattle.pulsar_producer.specs.declared.batching.Batching.TheVariants as batching
 use Rattle.pulsar_producer.specs.declared.deed.Deed.{Deed}
 use Rattle.pulsar_producer.specs.declared.deed.Deed.TheVariants as deed
 use Rattle.pulsar_producer.specs.News.{News}
-use Rattle.pulsar_producer.specs.declared.news.News.TheVariants as news
+use Rattle.pulsar_outgoing.specs.declared.news.News.TheVariants as news
 use Rattle.pulsar_producer.specs.declared.deed.Step.TheVariants as step
-use Rattle.pulsar_producer.specs.declared.orders.Errand.{Errand}
+use Rattle.pulsar_outgoing.specs.declared.orders.Errand.{Errand}
 use Rattle.pulsar_calls.specs.declared.act.Act.{Act}
 use Rattle.pulsar_calls.specs.declared.act.Act.TheVariants.{Comes, Starts, Told, Does}
 use Rattle.pulsar_calls.specs.declared.act.Action.{Action}

@@ -1,9 +1,9 @@
 -- What a verdict gives rise to: the plans of batches of a producer that was built, and the plan that serves a consumer.
 use Rattle.std.proofs.Common.{ℕ, List, [], ◌∷◌, map, Bool, Option, Some, None}
 use Rattle.pulsar_plans.specs.declared.turn.Ways.{Ways}
-use Rattle.pulsar_producer.specs.Storage.{is_batching}
-use Rattle.pulsar_producer.specs.declared.content.Built.{Built}
-use Rattle.pulsar_producer.specs.declared.orders.Errand.{Errand}
+use Rattle.pulsar_outgoing.specs.Storage.{is_batching}
+use Rattle.pulsar_outgoing.specs.declared.content.Built.{Built}
+use Rattle.pulsar_outgoing.specs.declared.orders.Errand.{Errand}
 use Rattle.pulsar_calls.specs.declared.act.Act.{Act}
 use Rattle.pulsar_calls.specs.declared.act.Act.TheVariants.{Starts}
 use Rattle.pulsar_calls.specs.declared.act.Makes.{Makes}

@@ -9,7 +9,7 @@ use Rattle.pulsar_wire.specs.Failures.{Fault}
 use Rattle.pulsar_messages.specs.Claims.{is_spent}
 use Rattle.pulsar_consumer.specs.Frames.{frame_in}
 use Rattle.pulsar_consumer.specs.Topic.{Act as Done, Lives, Hears, Loses, Fails, Ends as Over, Polls as Polled, Asks, Seen, Setup, after, fresh, lives_on, of_raw, seen}
-use Rattle.pulsar_consumer.specs.declared.polled.Ending.TheVariants.{Closed, TopicEnded, Stopped}
+use Rattle.pulsar_incoming.specs.declared.polled.Ending.TheVariants.{Closed, TopicEnded, Stopped}
 use Rattle.pulsar_calls.specs.declared.act.Act.{Act}
 use Rattle.pulsar_calls.specs.declared.act.Act.TheVariants.{Comes, Does, Answers}
 use Rattle.pulsar_calls.specs.declared.act.Action.TheVariants.{Ask, TakeNumber, FindConsumer, TakeFlow, Revive, FailConsumer, StopAll}

@@ -10,8 +10,8 @@ use Rattle.pulsar_consumer.specs.Topic.{Hears, Loses, Live, Seen, first_of, give
 use Rattle.pulsar_frame.specs.Items.{is_message}
 use Rattle.pulsar_consumer.specs.Topic.{ends as reader_ends, loses as reader_loses, Ends as Over}
 use Rattle.pulsar_consumer.specs.Frames.{frame_in}
-use Rattle.pulsar_consumer.specs.declared.polled.Ending.{Ending}
-use Rattle.pulsar_consumer.specs.declared.polled.Ending.TheVariants.{LinkLost, TopicEnded}
+use Rattle.pulsar_incoming.specs.declared.polled.Ending.{Ending}
+use Rattle.pulsar_incoming.specs.declared.polled.Ending.TheVariants.{LinkLost, TopicEnded}
 use Rattle.pulsar_consumer.proofs.Histories.{counted_same}
 use Rattle.pulsar_consumer.proofs.Permits.{gives_dead}
 use Rattle.pulsar_calls.specs.Content as content

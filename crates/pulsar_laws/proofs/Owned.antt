@@ -3,8 +3,8 @@ use Rattle.std.proofs.Common.{◌≡◌, ◌⊎◌, ◌∙◌, sym, ap, ℕ, Lis
 use Rattle.pulsar_run.specs.Run.{rest}
 use Rattle.pulsar_plans.specs.declared.turn.Ways.{Ways}
 use Rattle.pulsar_producer.specs.Batching as batches
-use Rattle.pulsar_producer.specs.Storage.{is_batching}
-use Rattle.pulsar_producer.specs.declared.content.Built.{Built}
+use Rattle.pulsar_outgoing.specs.Storage.{is_batching}
+use Rattle.pulsar_outgoing.specs.declared.content.Built.{Built}
 use Rattle.pulsar_calls.specs.declared.act.Act.{Act}
 use Rattle.pulsar_calls.specs.declared.act.Act.TheVariants.{Starts, Answers}
 use Rattle.pulsar_calls.specs.declared.act.Makes.{Makes}

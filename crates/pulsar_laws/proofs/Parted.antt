@@ -11,9 +11,9 @@ use Rattle.pulsar_plans.specs.declared.plan.Procedure.{Procedure as Sought}
 use Rattle.pulsar_plans.specs.declared.plan.Procedure.TheVariants as sought
 use Rattle.pulsar_plans.specs.declared.turn.Ways.{Ways}
 use Rattle.pulsar_frame.specs.Batch.{EntryValues}
-use Rattle.pulsar_producer.specs.Batch.{entry_of}
-use Rattle.pulsar_producer.specs.Wanted.{ProducerWanted}
-use Rattle.pulsar_producer.specs.declared.orders.Errand.{Errand}
+use Rattle.pulsar_outgoing.specs.Batch.{entry_of}
+use Rattle.pulsar_outgoing.specs.Wanted.{ProducerWanted}
+use Rattle.pulsar_outgoing.specs.declared.orders.Errand.{Errand}
 use Rattle.pulsar_run.specs.Laws.{In, InThisStep}
 use Rattle.pulsar_calls.specs.declared.act.Act.{Act}
 use Rattle.pulsar_calls.specs.declared.act.Act.TheVariants.{Comes, Starts}

@@ -31,7 +31,7 @@ use Rattle.pulsar_messages.specs.Claims as session_low
 use Rattle.pulsar_session.proofs.Others.{none_stands_beside_room}
 use Rattle.pulsar_link.specs.Messages.{Reply, is_body, read}
 use Rattle.pulsar_plans.specs.declared.turn.Ways.{Ways}
-use Rattle.pulsar_producer.specs.declared.orders.Errand.{Errand}
+use Rattle.pulsar_outgoing.specs.declared.orders.Errand.{Errand}
 use Rattle.pulsar_calls.specs.declared.act.Act.{Act}
 use Rattle.pulsar_calls.specs.declared.act.Act.TheVariants.{Comes, Starts, Does, Dials}
 use Rattle.pulsar_calls.specs.declared.act.Action.{Action}

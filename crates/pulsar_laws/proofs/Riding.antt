@@ -12,8 +12,8 @@ use Rattle.pulsar_messages.specs.Claims.{is_spent}
 use Rattle.pulsar_consumer.specs.Frames.{Frame, failed, frame_in}
 use Rattle.pulsar_consumer.specs.Topic as reader
 use Rattle.pulsar_consumer.specs.Topic.{Act as Done, Lives, Hears, Loses, Fails, Ends as Over, Polls as Polled, Asks, Engine, Live, Seen, Setup, after as after', asked, begins, finish, finishes, finishes_by, first_of, fresh, gives, gives_from, goes_on, half, hears as hears', is_ended, is_on, link_of, lives_on, no_items, of_raw, places, subscribed}
-use Rattle.pulsar_consumer.specs.declared.polled.Ending.{Ending}
-use Rattle.pulsar_consumer.specs.declared.polled.Ending.TheVariants.{Closed, LinkLost, NotSubscribed, Stopped, TopicEnded}
+use Rattle.pulsar_incoming.specs.declared.polled.Ending.{Ending}
+use Rattle.pulsar_incoming.specs.declared.polled.Ending.TheVariants.{Closed, LinkLost, NotSubscribed, Stopped, TopicEnded}
 use Rattle.pulsar_consumer.proofs.Held.{next_of}
 use Rattle.pulsar_consumer.proofs.Histories.{counted_same}
 use Rattle.pulsar_calls.specs.declared.act.Act.{Act}

@@ -3,9 +3,9 @@ use Rattle.std.proofs.Common.{◌≡◌, ◌∙◌, sym, ap, subst, ℕ, ◌+◌
 use Rattle.pulsar_messages.specs.Words as words
 use Rattle.pulsar_messages.specs.Claims.{is_spent}
 use Rattle.pulsar_producer.specs.Topic as topic
-use Rattle.pulsar_producer.specs.Storage.{Item, SingleMessage, Flush, is_ready, pushed}
+use Rattle.pulsar_outgoing.specs.Storage.{Item, SingleMessage, Flush, is_ready, pushed}
 use Rattle.pulsar_producer.specs.Topic.{Act as Deed, Takes, Passes, Draws, Remakes, Closes, Stores, Flushes, Cuts, TakesBatch, Halts, Seen, cuts, is_settled, left_of, stores, takes_in}
-use Rattle.pulsar_producer.specs.Storage.{is_nothing}
+use Rattle.pulsar_outgoing.specs.Storage.{is_nothing}
 use Rattle.pulsar_calls.specs.declared.act.Act.TheVariants.{Told, Does}
 use Rattle.pulsar_calls.specs.declared.act.Action.TheVariants.{Ask, Draw}
 use Rattle.pulsar_calls.specs.declared.act.Who.TheVariants.{Call}

@@ -16,7 +16,7 @@ use Rattle.pulsar_producer.specs.declared.deed.Deed.TheVariants as deed
 use Rattle.pulsar_consumer.specs.Plans as consume
 use Rattle.pulsar_consumer.specs.declared.building.Building.{Building as ConsumerBuild}
 use Rattle.pulsar_consumer.specs.declared.building.News.{News as ConsumerNews}
-use Rattle.pulsar_consumer.specs.declared.orders.Order.{Order as ConsumerOrder}
+use Rattle.pulsar_incoming.specs.declared.orders.Order.{Order as ConsumerOrder}
 use Rattle.pulsar_calls.specs.declared.act.Act.TheVariants.{Starts, Told, Does}
 use Rattle.pulsar_calls.specs.declared.act.Action.{Action}
 use Rattle.pulsar_calls.specs.declared.act.Action.TheVariants.{TakeFlow}

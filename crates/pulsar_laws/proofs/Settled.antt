@@ -8,7 +8,7 @@ use Rattle.pulsar_frame.specs.Batch.{EntryValues}
 use Rattle.pulsar_wire.specs.Failures.{Failure, Shutdown}
 use Rattle.pulsar_messages.specs.Claims.{is_spent}
 use Rattle.pulsar_producer.specs.News.{News}
-use Rattle.pulsar_producer.specs.declared.news.News.TheVariants as news
+use Rattle.pulsar_outgoing.specs.declared.news.News.TheVariants as news
 use Rattle.pulsar_calls.specs.declared.act.Act.{Act}
 use Rattle.pulsar_calls.specs.declared.act.Act.TheVariants.{Comes, Starts, Told, Does}
 use Rattle.pulsar_calls.specs.declared.act.Action.{Action}

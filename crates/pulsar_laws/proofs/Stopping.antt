@@ -46,9 +46,9 @@ use Rattle.pulsar_producer_table.specs.Notices.{stopped_all, stopped_call}
 use Rattle.pulsar_agenda.specs.Run.{Agenda, Entry, Begins, Then, IsRun, agenda, first, rules, view}
 use Rattle.pulsar_tables.specs.View.{after, Addresses, Base, Options, Links, Seat, Tickets, View, alarms_after, alarms_built, alarms_on, alarms_over, begun, begun_live, builds, calls_after, got_at, is_live, link_got, live_after, live_begun, pause_after, pause_of, pause_on, pause_put, pause_rung, told_some, took_some, turned_by, ways_of, Chosen, may_call, producers_after, producers_made, producers_rung, stand_after, stays_some, arrival_at, closing, consumers_after, consumers_made}
 use Rattle.pulsar_producer_table.specs.declared.table.Topic.{Topic}
-use Rattle.pulsar_producer.specs.Storage.{Item}
+use Rattle.pulsar_outgoing.specs.Storage.{Item}
 use Rattle.pulsar_producer.specs.Topic.{Halts, Seen, TakesBatch, left_of, next_of}
-use Rattle.pulsar_producer.specs.declared.news.News.TheVariants as news
+use Rattle.pulsar_outgoing.specs.declared.news.News.TheVariants as news
 use Rattle.pulsar_messages.specs.Content.{ProducerMessageValues}
 use Rattle.pulsar_producer_table.specs.Producers.{Producers, called_on, changed, next_batch_at, topic_after, unsent, waiting, why_not}
 use Rattle.pulsar_calls.specs.Content.{next_advice}

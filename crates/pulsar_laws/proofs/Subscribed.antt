@@ -34,21 +34,21 @@ use Rattle.pulsar_producer.specs.Plans as produce
 use Rattle.pulsar_producer.specs.declared.batching.Batching.{Batching as Batches}
 use Rattle.pulsar_producer.specs.declared.batching.Goes.{Goes as Next}
 use Rattle.pulsar_producer.specs.declared.building.Building.{Building as Build}
-use Rattle.pulsar_producer.specs.declared.orders.Order.{Order}
-use Rattle.pulsar_producer.specs.declared.content.Built.{Built}
+use Rattle.pulsar_outgoing.specs.declared.orders.Order.{Order}
+use Rattle.pulsar_outgoing.specs.declared.content.Built.{Built}
 use Rattle.pulsar_producer.specs.declared.deed.Deed.{Deed}
 use Rattle.pulsar_producer.specs.declared.deed.Deed.TheVariants as deed
-use Rattle.pulsar_producer.specs.declared.news.News.TheVariants as news
+use Rattle.pulsar_outgoing.specs.declared.news.News.TheVariants as news
 use Rattle.pulsar_producer.specs.declared.deed.Step.{Step}
 use Rattle.pulsar_producer.specs.declared.deed.Step.TheVariants as step
-use Rattle.pulsar_producer.specs.declared.orders.Errand.{Errand}
+use Rattle.pulsar_outgoing.specs.declared.orders.Errand.{Errand}
 use Rattle.pulsar_producer.specs.declared.sending.Sending.{Sending as Send}
 use Rattle.pulsar_consumer.specs.Plans as consume
 use Rattle.pulsar_consumer.specs.declared.building.Building.{Building as ConsumerBuild}
 use Rattle.pulsar_consumer.specs.declared.building.Building.TheVariants as consumer_build
 use Rattle.pulsar_consumer.specs.declared.building.News.{News as ConsumerNews}
 use Rattle.pulsar_consumer.specs.declared.building.News.TheVariants as consumer_news
-use Rattle.pulsar_consumer.specs.declared.orders.Order.{Order as ConsumerOrder}
+use Rattle.pulsar_incoming.specs.declared.orders.Order.{Order as ConsumerOrder}
 use Rattle.pulsar_consumer.specs.declared.resuming.Resuming.{Resuming}
 use Rattle.pulsar_consumer.specs.declared.resuming.Resuming.TheVariants as resume
 use Rattle.pulsar_calls.specs.declared.act.Action.{Action}

@@ -36,8 +36,8 @@ use Rattle.pulsar_laws.proofs.Riding.{LinkFrom, link_from}
 use Rattle.url.specs.Parts.{Parts}
 use Rattle.pulsar_consumer.specs.Topic as reader
 use Rattle.std.proofs.lemmas.Bool.{and_parts, cases_Bool, eqb-true}
-use Rattle.pulsar_consumer.specs.declared.polled.Ending.{Ending}
-use Rattle.pulsar_consumer.specs.declared.polled.Ending.TheVariants.{Closed, TopicEnded}
+use Rattle.pulsar_incoming.specs.declared.polled.Ending.{Ending}
+use Rattle.pulsar_incoming.specs.declared.polled.Ending.TheVariants.{Closed, TopicEnded}
 use Rattle.pulsar_consumer.proofs.Histories.{end_is_final}
 use Rattle.pulsar_calls.specs.declared.act.Who.{Who}
 use Rattle.pulsar_laws.proofs.Covered.{Covered, covered_run, taken_then, told_so}

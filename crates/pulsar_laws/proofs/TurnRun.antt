@@ -10,7 +10,7 @@ use Rattle.pulsar_messages.specs.Claims.{is_spent}
 use Rattle.pulsar_producer.specs.Laws.{AreAbove}
 use Rattle.pulsar_producer.specs.Topic as topic
 use Rattle.pulsar_producer.specs.Topic.{Setup, Takes, Passes, first_of, next_holder, rest_of, takes_in}
-use Rattle.pulsar_producer.specs.declared.news.News.TheVariants as news
+use Rattle.pulsar_outgoing.specs.declared.news.News.TheVariants as news
 use Rattle.pulsar_producer.specs.declared.sending.Sending.TheVariants as send
 use Rattle.pulsar_producer.proofs.Turns.{lowest_is_next}
 use Rattle.pulsar_calls.specs.declared.act.Act.{Act}

@@ -39,8 +39,8 @@ use Rattle.pulsar_agenda.proofs.Orders.{effect_order}
 use Rattle.pulsar_laws.proofs.OfLink.{IsOf, asked_of, given_of}
 use Rattle.pulsar_laws.proofs.Plain.{ArePlain, effects_plain, turned_plain}
 use Rattle.pulsar_laws.proofs.Writing.{Turns, numbered, turns}
-use Rattle.pulsar_consumer.specs.declared.polled.Polled.{Polled}
-use Rattle.pulsar_consumer.specs.declared.polled.Polled.TheVariants as poll
+use Rattle.pulsar_incoming.specs.declared.polled.Polled.{Polled}
+use Rattle.pulsar_incoming.specs.declared.polled.Polled.TheVariants as poll
 use Rattle.pulsar_consumer.specs.Topic as reader
 
 abbrev flat : List (List ℕ) → List ℕ

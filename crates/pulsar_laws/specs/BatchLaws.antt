@@ -11,17 +11,17 @@ use Rattle.pulsar_plans.specs.declared.turn.Ways.{Ways}
 use Rattle.pulsar_wire.specs.Failures.{Failure, Shutdown}
 use Rattle.pulsar_wire.specs.declared.error.Reason.{Reason}
 use Rattle.pulsar_link.specs.Messages.{Reply, is_body}
-use Rattle.pulsar_producer.specs.Batch.{batch_of, cut_report, entries_in, entry_of, failed, member_of, not_written, receipt_fate, reports}
+use Rattle.pulsar_outgoing.specs.Batch.{batch_of, cut_report, entries_in, entry_of, failed, member_of, not_written, receipt_fate, reports}
 use Rattle.pulsar_producer.specs.BatchLaws.{items_of, joined, taken_of}
-use Rattle.pulsar_producer.specs.Message.{with_version}
-use Rattle.pulsar_producer.specs.Storage.{Item, Flush}
+use Rattle.pulsar_messages.specs.Message.{with_version}
+use Rattle.pulsar_outgoing.specs.Storage.{Item, Flush}
 use Rattle.pulsar_producer.specs.Topic.{Setup, seen}
-use Rattle.pulsar_producer.specs.declared.batch.Fate.{Fate}
-use Rattle.pulsar_producer.specs.declared.batch.Fate.TheVariants as fate
+use Rattle.pulsar_outgoing.specs.declared.batch.Fate.{Fate}
+use Rattle.pulsar_outgoing.specs.declared.batch.Fate.TheVariants as fate
 use Rattle.pulsar_producer.specs.declared.batching.Batching.{Batching}
 use Rattle.pulsar_producer.specs.declared.batching.Batching.TheVariants as batching
-use Rattle.pulsar_producer.specs.declared.news.News.TheVariants as news
-use Rattle.pulsar_producer.specs.declared.orders.Errand.{Errand}
+use Rattle.pulsar_outgoing.specs.declared.news.News.TheVariants as news
+use Rattle.pulsar_outgoing.specs.declared.orders.Errand.{Errand}
 use Rattle.pulsar_calls.specs.declared.act.Act.TheVariants.{Answers, Comes, Starts, Told, Does}
 use Rattle.pulsar_calls.specs.declared.act.Action.TheVariants.{Ask, Shut, Store, TakeBatch, TellAll}
 use Rattle.pulsar_calls.specs.declared.act.Makes.TheVariants.{Nothing}

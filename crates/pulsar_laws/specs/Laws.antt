@@ -21,7 +21,7 @@ use Rattle.pulsar_link.specs.Request.{closed_consumer, request_number}
 use Rattle.pulsar_addresses.specs.Address.{Place, address_key, is_reachable}
 use Rattle.pulsar_plans.specs.Replies.{query, unexpected, fails_by, is_choice, place_at, count_in}
 use Rattle.pulsar_addresses.specs.Address.{in_discovery}
-use Rattle.pulsar_producer.specs.Errors.{in_producer}
+use Rattle.pulsar_outgoing.specs.Errors.{in_producer}
 use Rattle.pulsar_producer.specs.News.{News}
 use Rattle.pulsar_addresses.specs.Backoff.{allow_retry}
 use Rattle.pulsar_plans.specs.declared.turn.Ways.{Ways}
@@ -72,14 +72,14 @@ use Rattle.pulsar_consumer_table.specs.Consumers.{Member}
 use Rattle.pulsar_consumer_table.specs.declared.numbers.Numbering.TheVariants.{Has, InUse, Spent}
 use Rattle.pulsar_consumer_table.specs.declared.row.Sought.TheVariants.{Gone}
 use Rattle.pulsar_consumer.specs.Plans.{in_use, not_found}
-use Rattle.pulsar_consumer.specs.declared.orders.Order.{Order}
+use Rattle.pulsar_incoming.specs.declared.orders.Order.{Order}
 use Rattle.pulsar_consumer.specs.Topic as reader
 use Rattle.pulsar_tables.specs.View.{Base, Options, Seat, View, answer_at, arrival_at, builds, closing, is_asked, member_on, pause_of, setup, setup_of, url_at, room_of}
 use Rattle.pulsar_calls.specs.Who.{in_turn, is_same, rank, ticket_of, turn_of as taken_as}
 use Rattle.pulsar_run.specs.Laws as run
 use Rattle.pulsar_session.specs.declared.states.Asked.TheVariants as placed
 use Rattle.pulsar_session.specs.Link as session
-use Rattle.pulsar_producer.specs.declared.news.News.TheVariants as news
+use Rattle.pulsar_outgoing.specs.declared.news.News.TheVariants as news
 use Rattle.pulsar_calls.specs.declared.act.Outcome.TheVariants as outcome
 use Rattle.pulsar_calls.specs.declared.act.Procedure.TheVariants as procedure
 use Rattle.pulsar_procedures.specs.declared.plan.Turn.TheVariants as turn

@@ -21,14 +21,14 @@ use Rattle.pulsar_session.specs.declared.states.Asked.TheVariants as placed
 use Rattle.pulsar_session.specs.Link as session
 use Rattle.pulsar_session.specs.Link.{Asks, frame_at, frame_for, message_of, ticked}
 use Rattle.pulsar_link.specs.Messages.{Reply, is_body}
-use Rattle.pulsar_producer.specs.Message.{with_version}
+use Rattle.pulsar_messages.specs.Message.{with_version}
 use Rattle.pulsar_producer.specs.Laws.{AreAbove}
 use Rattle.pulsar_producer.specs.Topic as topic
 use Rattle.pulsar_producer.specs.Topic.{Act as TopicAct}
-use Rattle.pulsar_producer.specs.declared.content.Built.{Built}
-use Rattle.pulsar_producer.specs.declared.storage.Limits.{Limits}
-use Rattle.pulsar_producer.specs.declared.news.News.TheVariants as news
-use Rattle.pulsar_producer.specs.declared.orders.Errand.{Errand}
+use Rattle.pulsar_outgoing.specs.declared.content.Built.{Built}
+use Rattle.pulsar_outgoing.specs.declared.storage.Limits.{Limits}
+use Rattle.pulsar_outgoing.specs.declared.news.News.TheVariants as news
+use Rattle.pulsar_outgoing.specs.declared.orders.Errand.{Errand}
 use Rattle.pulsar_producer.specs.declared.sending.Sending.{Sending}
 use Rattle.pulsar_producer.specs.declared.sending.Sending.TheVariants as send
 use Rattle.pulsar_producer.specs.declared.batching.Batching.{Batching}

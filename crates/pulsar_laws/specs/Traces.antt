@@ -10,7 +10,7 @@ use Rattle.pulsar_frame.specs.Frame.{frame_bytes}
 use Rattle.pulsar_messages.specs.Content.{ProducerMessageValues, empty_consumer_options, empty_message, empty_producer_options}
 use Rattle.pulsar_messages.specs.Messages.{connect_command}
 use Rattle.pulsar_messages.specs.Words.{Words, GetTopicsOfNamespace, LookupTopic, Subscribe}
-use Rattle.pulsar_producer.specs.Wanted.{ProducerWanted}
+use Rattle.pulsar_outgoing.specs.Wanted.{ProducerWanted}
 use Rattle.pulsar_wire.specs.Failures.{Io, Canceled, Disconnected, Shutdown}
 use Rattle.pulsar_session.specs.Link.{bare, message_of}
 use Rattle.pulsar_tables.specs.Address.{base_in}

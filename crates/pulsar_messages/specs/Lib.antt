@@ -4,3 +4,5 @@ pub mod Messages
 pub mod Murmur
 pub mod Laws
 pub mod Claims
+pub mod Message
+pub mod Composed

@@ -18,3 +18,11 @@ pub use producer_message::{Message, ProducerMessage};
 pub use producer_options::ProducerOptions;
 pub use properties::into_properties;
 pub use routing_policy::RoutingPolicy;
+
+pub mod message_builder;
+
+pub use crate::message_builder::MessageBuilder;
+
+pub mod serialize;
+
+pub use crate::serialize::{SerializeMessage, message_from_bytes, message_from_text};

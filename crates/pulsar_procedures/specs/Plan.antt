@@ -50,7 +50,7 @@ use Rattle.pulsar_consumer.specs.declared.building.Deed.{Deed as ConsumerDeed}
 use Rattle.pulsar_consumer.specs.declared.building.Deed.TheVariants as consumer_deed
 use Rattle.pulsar_consumer.specs.declared.building.News.{News as ConsumerNews}
 use Rattle.pulsar_consumer.specs.declared.building.News.TheVariants as consumer_news
-use Rattle.pulsar_consumer.specs.declared.orders.Order.{Order as ConsumerOrder}
+use Rattle.pulsar_incoming.specs.declared.orders.Order.{Order as ConsumerOrder}
 use Rattle.pulsar_plans.specs.Plans as search
 use Rattle.pulsar_consumer.specs.declared.resuming.Resuming.{Resuming}
 use Rattle.pulsar_plans.specs.declared.closing.Step.TheVariants as building_step
@@ -65,7 +65,7 @@ use Rattle.pulsar_plans.specs.declared.turn.Outcome.TheVariants as news
 use Rattle.pulsar_plans.specs.declared.turn.Turn.{Turn as SearchTurn}
 use Rattle.pulsar_plans.specs.declared.turn.Turn.TheVariants as search_turn
 use Rattle.pulsar_plans.specs.declared.turn.Ways.{Ways}
-use Rattle.pulsar_producer.specs.Errors.{in_producer}
+use Rattle.pulsar_outgoing.specs.Errors.{in_producer}
 use Rattle.pulsar_wire.specs.declared.error.Reason.TheVariants as reason
 use Rattle.pulsar_wire.specs.Row.{Values, spelling}
 use Rattle.pulsar_wire.specs.Rows.{send_receipt}
@@ -73,21 +73,21 @@ use Rattle.pulsar_producer.specs.Batching as batches
 use Rattle.pulsar_producer.specs.Batching.{is_sent_send}
 use Rattle.pulsar_producer.specs.Plans as produce
 use Rattle.pulsar_producer.specs.Plans.{fault_told}
-use Rattle.pulsar_producer.specs.declared.batch.Fate.{Fate}
-use Rattle.pulsar_producer.specs.declared.batch.Fate.TheVariants as fate
-use Rattle.pulsar_producer.specs.declared.batch.Report.{Report}
+use Rattle.pulsar_outgoing.specs.declared.batch.Fate.{Fate}
+use Rattle.pulsar_outgoing.specs.declared.batch.Fate.TheVariants as fate
+use Rattle.pulsar_outgoing.specs.declared.batch.Report.{Report}
 use Rattle.pulsar_producer.specs.declared.batching.Batching.{Batching as Batches}
 use Rattle.pulsar_producer.specs.declared.batching.Goes.{Goes}
 use Rattle.pulsar_producer.specs.declared.building.Building.{Building as Build}
-use Rattle.pulsar_producer.specs.declared.orders.Order.{Order}
-use Rattle.pulsar_producer.specs.declared.content.Built.{Built}
+use Rattle.pulsar_outgoing.specs.declared.orders.Order.{Order}
+use Rattle.pulsar_outgoing.specs.declared.content.Built.{Built}
 use Rattle.pulsar_producer.specs.declared.deed.Deed.{Deed}
 use Rattle.pulsar_producer.specs.declared.deed.Deed.TheVariants as deed
 use Rattle.pulsar_producer.specs.News.{News as Granting}
-use Rattle.pulsar_producer.specs.declared.news.News.TheVariants as granting
+use Rattle.pulsar_outgoing.specs.declared.news.News.TheVariants as granting
 use Rattle.pulsar_producer.specs.declared.deed.Step.{Step}
 use Rattle.pulsar_producer.specs.declared.deed.Step.TheVariants as step
-use Rattle.pulsar_producer.specs.declared.orders.Errand.{Errand}
+use Rattle.pulsar_outgoing.specs.declared.orders.Errand.{Errand}
 use Rattle.pulsar_producer.specs.declared.sending.Sending.{Sending as Send}
 use Rattle.pulsar_producer.specs.declared.sending.Sending.TheVariants as send
 use Rattle.pulsar_calls.specs.Content as content

@@ -15,13 +15,13 @@ use pulsar_calls::content::{Granted, Notices, Said};
 use pulsar_calls::effect::Answer;
 use pulsar_addresses::content::Refusal;
 use pulsar_plans::turn::Ways;
-use pulsar_producer::Receipt;
-use pulsar_producer::batch::{Fate, Report};
+use pulsar_outgoing::batch::Receipt;
+use pulsar_outgoing::batch::{Fate, Report};
 use pulsar_producer::batching::{self, Goes};
-use pulsar_producer::content::Reports;
+use pulsar_outgoing::content::Reports;
 use pulsar_producer::deed::News;
 use pulsar_producer::deed::error_told;
-use pulsar_producer::orders::Errand;
+use pulsar_outgoing::orders::Errand;
 use pulsar_wire::error::NoMemory;
 use std::alloc::Global;
 

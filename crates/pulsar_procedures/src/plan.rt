@@ -17,13 +17,13 @@ use pulsar_calls::act::{
 };
 use pulsar_calls::content::{Failures, Numbers, Said};
 use pulsar_calls::effect::Answer;
-use pulsar_consumer::orders::Order as ConsumerOrder;
+use pulsar_incoming::orders::Order as ConsumerOrder;
 use pulsar_link::content::{Received, Request, Subscribed};
 use pulsar_addresses::content::Refusal as Failure;
 use pulsar_plans::turn::Ways;
-use pulsar_producer::orders::Order;
+use pulsar_outgoing::orders::Order;
 use pulsar_producer::deed;
-use pulsar_producer::orders::Errand;
+use pulsar_outgoing::orders::Errand;
 use pulsar_wire::error::{
     ConnectionError, ConsumerError, Error, IoKind, NoMemory, ProducerError, Reason,
 };

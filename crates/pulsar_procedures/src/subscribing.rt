@@ -11,7 +11,7 @@ use crate::states::ConsumerState;
 use pulsar_calls::act::{Action, Makes, Outcome, Verdict, Word};
 use pulsar_calls::content::{Joined, Joining};
 use pulsar_consumer::building::{self, Building, Builds, Built, Deed, News};
-use pulsar_consumer::orders::Order;
+use pulsar_incoming::orders::Order;
 use pulsar_plans::closing::Step;
 use pulsar_plans::turn::Ways;
 use pulsar_wire::error::NoMemory;

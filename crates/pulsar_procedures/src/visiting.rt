@@ -16,7 +16,7 @@ use pulsar_link::raw_call::RawCall;
 use pulsar_addresses::content::Refusal;
 use pulsar_producer::deed::News;
 use pulsar_producer::deed::error_told;
-use pulsar_producer::failing::in_producer;
+use pulsar_outgoing::failing::in_producer;
 use pulsar_wire::bodies;
 use pulsar_wire::error::{ConnectionError, NoMemory};
 use std::alloc::Global;

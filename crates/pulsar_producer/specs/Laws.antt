@@ -11,12 +11,12 @@ use Rattle.pulsar_producer.specs.Topic.{Act, Takes, Passes, Draws, Remakes, Clos
 use Rattle.pulsar_producer.specs.declared.deed.Deed.{Deed}
 use Rattle.pulsar_producer.specs.declared.deed.Deed.TheVariants.{Does, TakesTurn, Sends, PassesTurn, Recalls, Numbers, ClosesProducer, Settles, Rests}
 use Rattle.pulsar_producer.specs.declared.deed.Deed.TheVariants as deed
-use Rattle.pulsar_producer.specs.declared.news.Drawn.{Drawn}
+use Rattle.pulsar_outgoing.specs.declared.news.Drawn.{Drawn}
 use Rattle.pulsar_producer.specs.News.{News}
-use Rattle.pulsar_producer.specs.declared.news.News.TheVariants.{Queued, Drew}
+use Rattle.pulsar_outgoing.specs.declared.news.News.TheVariants.{Queued, Drew}
 use Rattle.pulsar_producer.specs.declared.deed.Send.{Send}
 use Rattle.pulsar_producer.specs.declared.deed.Step.TheVariants.{Stays, Gives}
-use Rattle.pulsar_producer.specs.declared.orders.Errand.{Errand}
+use Rattle.pulsar_outgoing.specs.declared.orders.Errand.{Errand}
 use Rattle.pulsar_producer.specs.declared.sending.Sending.{Sending}
 use Rattle.pulsar_producer.specs.declared.sending.Sending.TheVariants.{Drawing, Asked}
 

@@ -15,21 +15,21 @@ use Rattle.pulsar_plans.specs.declared.turn.Turn.{Turn}
 use Rattle.pulsar_plans.specs.declared.turn.Turn.TheVariants as turn
 use Rattle.pulsar_plans.specs.declared.turn.Ways.{Ways}
 use Rattle.pulsar_producer.specs.Commands.{command}
-use Rattle.pulsar_producer.specs.Errors.{in_producer}
-use Rattle.pulsar_producer.specs.Message.{with_version}
-use Rattle.pulsar_producer.specs.Replies.{given}
-use Rattle.pulsar_producer.specs.declared.content.Built.{Built}
+use Rattle.pulsar_outgoing.specs.Errors.{in_producer}
+use Rattle.pulsar_messages.specs.Message.{with_version}
+use Rattle.pulsar_outgoing.specs.Replies.{given}
+use Rattle.pulsar_outgoing.specs.declared.content.Built.{Built}
 use Rattle.pulsar_producer.specs.declared.deed.Deed.TheVariants.{Does, TakesTurn, Draws, Sends, PassesTurn, Recalls, Remakes, Numbers, ClosesProducer, Rests}
-use Rattle.pulsar_producer.specs.declared.news.Drawn.{Drawn}
+use Rattle.pulsar_outgoing.specs.declared.news.Drawn.{Drawn}
 use Rattle.pulsar_producer.specs.News.{News}
-use Rattle.pulsar_producer.specs.declared.news.News.TheVariants.{Told, Queued, InLine, HasTurn, Drew, Recalled, Numbered, Ready, HasBatch, Done}
+use Rattle.pulsar_outgoing.specs.declared.news.News.TheVariants.{Told, Queued, InLine, HasTurn, Drew, Recalled, Numbered, Ready, HasBatch, Done}
 use Rattle.pulsar_producer.specs.declared.deed.Send.{Send}
 use Rattle.pulsar_producer.specs.declared.deed.Step.{Step}
 use Rattle.pulsar_producer.specs.declared.deed.Step.TheVariants.{Stays, Gives}
-use Rattle.pulsar_producer.specs.declared.orders.Errand.{Errand}
+use Rattle.pulsar_outgoing.specs.declared.orders.Errand.{Errand}
 use Rattle.pulsar_producer.specs.declared.sending.Sending.{Sending}
 use Rattle.pulsar_producer.specs.declared.sending.Sending.TheVariants as send
-use Rattle.pulsar_producer.specs.declared.orders.Order.{Order}
+use Rattle.pulsar_outgoing.specs.declared.orders.Order.{Order}
 use Rattle.pulsar_producer.specs.declared.building.Part.{Part}
 use Rattle.pulsar_producer.specs.declared.building.Building.{Building}
 use Rattle.pulsar_producer.specs.declared.building.Building.TheVariants as build

@@ -8,11 +8,11 @@ use Rattle.std.specs.Option.{is_none}
 use Rattle.std.specs.Ordering.{nat_cmp}
 use Rattle.pulsar_frame.specs.Batch.{EntryValues}
 use Rattle.pulsar_messages.specs.Claims.{is_spent}
-use Rattle.pulsar_producer.specs.Storage.{Item, SingleMessage, Flush, Storage, empty, emptied, is_ready, pushed}
-use Rattle.pulsar_producer.specs.declared.content.Built.{Built}
-use Rattle.pulsar_producer.specs.declared.replies.Given.{Given}
-use Rattle.pulsar_producer.specs.declared.storage.Limits.{Limits}
-use Rattle.pulsar_producer.specs.Storage.{is_nothing, ticket_of}
+use Rattle.pulsar_outgoing.specs.Storage.{Item, SingleMessage, Flush, Storage, empty, emptied, is_ready, pushed}
+use Rattle.pulsar_outgoing.specs.declared.content.Built.{Built}
+use Rattle.pulsar_outgoing.specs.declared.replies.Given.{Given}
+use Rattle.pulsar_outgoing.specs.declared.storage.Limits.{Limits}
+use Rattle.pulsar_outgoing.specs.Storage.{is_nothing, ticket_of}
 
 -- WHAT IS DONE TO IT: an act for each call that changes it
 

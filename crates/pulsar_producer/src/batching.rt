@@ -3,12 +3,11 @@
 ghost use Rattle.std.specs.Prelude.{◌≡◌, IfOk};
 ghost use Rattle.pulsar_producer.specs.Batching as meaning;
 
-use crate::batch::Fate;
-use crate::content::{Batch, Members};
-use crate::deed::{Deed, Step};
-use crate::deed::News;
+use crate::deed::{Deed, News, Step};
 use crate::sending::{self, Sending, Sent};
-use crate::orders::Errand;
+use pulsar_outgoing::batch::Fate;
+use pulsar_outgoing::content::{Batch, Members};
+use pulsar_outgoing::orders::Errand;
 use pulsar_plans::turn::Ways;
 use pulsar_wire::error::NoMemory;
 use std::alloc::Global;

@@ -3,13 +3,12 @@
 ghost use Rattle.std.specs.Prelude.{◌≡◌, IfOk};
 ghost use Rattle.pulsar_producer.specs.Plans as meaning;
 
-use crate::orders::{Order};
-use crate::content::{Built, Left, Parts, Settings};
-use crate::deed::{Deed, Step, error_told};
-use crate::deed::News;
-use crate::replies::given_by;
+use crate::deed::{Deed, News, Step, error_told};
 use crate::topic_producer::command;
 use pulsar_addresses::content::{Address, Names, Refusal, Text};
+use pulsar_outgoing::content::{Built, Left, Parts, Settings};
+use pulsar_outgoing::orders::Order;
+use pulsar_outgoing::replies::given_by;
 use pulsar_plans::making::{self, Command, Making, Served};
 use pulsar_plans::names::{self, Naming};
 use pulsar_plans::turn::{Turn, Ways};

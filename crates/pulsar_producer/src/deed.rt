@@ -2,14 +2,14 @@
 
 ghost use Rattle.std.specs.Prelude.{◌≡◌, IfOk};
 ghost use Rattle.pulsar_wire.specs.Failures.{fault};
-ghost use Rattle.pulsar_producer.specs.Errors.{in_producer};
+ghost use Rattle.pulsar_outgoing.specs.Errors.{in_producer};
 ghost use Rattle.pulsar_producer.specs.Plans.{fault_told};
 
-use crate::failing::{in_producer};
-use crate::news;
-use crate::content::{Batch, Outgoing, Reports, Version};
-use crate::replies::Given;
 use pulsar_addresses::content::{Refusal, Text};
+use pulsar_outgoing::content::{Batch, Outgoing, Reports, Version};
+use pulsar_outgoing::failing::in_producer;
+use pulsar_outgoing::news;
+use pulsar_outgoing::replies::Given;
 use pulsar_plans::making::Command;
 use pulsar_plans::turn::{self, Action, Outcome};
 use pulsar_wire::error::{ConnectionError, Error, NoMemory, ProducerError};
@@ -83,4 +83,3 @@ pub fn error_told(news: News) -> ConnectionError
         _ => ConnectionError::Disconnected,
     }
 }
-

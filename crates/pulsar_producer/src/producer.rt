@@ -4,13 +4,13 @@ ghost use Rattle.std.specs.Prelude.{◌≡◌, ◌⊎◌, map, Some, None, IfOk,
 ghost use Rattle.std.specs.Option.{option_map};
 ghost use Rattle.pulsar_messages.specs.Content.{message_content, producer_options_values};
 ghost use Rattle.pulsar_wire.specs.Failures.{failure};
-ghost use Rattle.pulsar_producer.specs.Errors.{IsNoMemory, no_such_index};
+ghost use Rattle.pulsar_outgoing.specs.Errors.{IsNoMemory, no_such_index};
 ghost use Rattle.pulsar_producer.specs.Producer.{advice, after, is_single, made, names, number_for, number_on, topic_of};
 
-use crate::content::Settings;
 use crate::routing::{CustomRoutingPolicy, Partition, PartitionedProducer};
-use pulsar_messages::{Message, ProducerOptions};
 use pulsar_addresses::content::Text;
+use pulsar_messages::{Message, ProducerOptions};
+use pulsar_outgoing::content::Settings;
 use pulsar_wire::error::{Error, NoMemory};
 use std::marker::Model;
 

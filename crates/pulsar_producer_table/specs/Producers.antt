@@ -14,14 +14,14 @@ use Rattle.pulsar_producer.specs.Producer.{number_on}
 use Rattle.pulsar_producer.specs.Random.{first_index}
 use Rattle.pulsar_producer.specs.Routing.{Policy}
 use Rattle.pulsar_producer.specs.Topic as topic
-use Rattle.pulsar_producer.specs.Storage.{Item, is_batching, limits_of}
+use Rattle.pulsar_outgoing.specs.Storage.{Item, is_batching, limits_of}
 use Rattle.pulsar_producer.specs.Topic.{Act, Closes, Halts, fresh, is_free, is_settled, next_batch, next_holder, stored_tickets, unsent_tickets, wakes}
-use Rattle.pulsar_producer.specs.Storage.{is_nothing}
-use Rattle.pulsar_producer.specs.declared.content.Built.{Built}
-use Rattle.pulsar_producer.specs.declared.news.Drawn.{Drawn}
+use Rattle.pulsar_outgoing.specs.Storage.{is_nothing}
+use Rattle.pulsar_outgoing.specs.declared.content.Built.{Built}
+use Rattle.pulsar_outgoing.specs.declared.news.Drawn.{Drawn}
 use Rattle.pulsar_producer.specs.declared.routing.Partition.{Partition}
-use Rattle.pulsar_producer.specs.declared.orders.Errand.{Errand}
-use Rattle.pulsar_producer.specs.declared.storage.Limits.{Limits}
+use Rattle.pulsar_outgoing.specs.declared.orders.Errand.{Errand}
+use Rattle.pulsar_outgoing.specs.declared.storage.Limits.{Limits}
 use Rattle.pulsar_calls.specs.declared.act.Refusal.{Refusal}
 use Rattle.pulsar_calls.specs.declared.act.Refusal.TheVariants as refusal
 use Rattle.pulsar_calls.specs.declared.content.Building.{Building}

@@ -4,7 +4,7 @@ use pulsar_messages::{Message, ProducerOptions, RoutingPolicy};
 use pulsar_addresses::content::Text;
 use pulsar_addresses::random::connection_id;
 use pulsar_producer::Producer;
-use pulsar_producer::content::Settings;
+use pulsar_outgoing::content::Settings;
 use pulsar_producer::routing::{Partition, PartitionedProducer};
 use std::alloc::Global;
 use std::test::Fail;

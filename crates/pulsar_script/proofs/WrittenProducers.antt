@@ -17,7 +17,7 @@ use Rattle.pulsar_wire.proofs.RoundTrip.{round_trip}
 use Rattle.pulsar_messages.specs.Content.{ProducerOptionsValues, Property, empty_producer_options}
 use Rattle.pulsar_messages.specs.declared.routing_policy.RoutingPolicy.{RoutingPolicy}
 use Rattle.pulsar_messages.specs.declared.routing_policy.RoutingPolicy.TheVariants.{RoundRobin, Single, Custom}
-use Rattle.pulsar_producer.specs.Wanted.{ProducerWanted}
+use Rattle.pulsar_outgoing.specs.Wanted.{ProducerWanted}
 use Rattle.pulsar_script.specs.Encoded.{schema_of}
 use Rattle.pulsar_script.specs.ProducerWords.{Draft, all, blank, one, options, options_in, policy, producer, signed_32, unsigned_32, with_meta, with_options}
 use Rattle.pulsar_script.specs.WordText.{word}

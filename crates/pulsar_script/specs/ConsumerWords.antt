@@ -7,7 +7,7 @@ use Rattle.std.specs.Ordering.{nat_cmp}
 use Rattle.std.specs.Str.{bytes_eq}
 use Rattle.pulsar_wire.specs.Field.{◌>>=◌}
 use Rattle.pulsar_messages.specs.Content.{ConsumerOptionsValues}
-use Rattle.pulsar_consumer.specs.Content.{ConsumerWanted, also_reads, no_consumer}
+use Rattle.pulsar_incoming.specs.Content.{ConsumerWanted, also_reads, no_consumer}
 use Rattle.pulsar_script.specs.Choices.{flag, position, sub_type}
 use Rattle.pulsar_script.specs.Encoded.{id, schema_of}
 use Rattle.pulsar_script.specs.MessageWords.{cut, unless}

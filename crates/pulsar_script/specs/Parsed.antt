@@ -9,8 +9,8 @@ use Rattle.pulsar_wire.specs.declared.commands.ids.MessageIdData.{MessageIdData}
 use Rattle.pulsar_messages.specs.Content.{authentication_values, consumer_options_values, message_content}
 use Rattle.pulsar_calls.specs.Content.{heard}
 use Rattle.pulsar_script.specs.Words.{digits_from, in_range}
-use Rattle.pulsar_consumer.specs.Content.{consumer_wanted}
-use Rattle.pulsar_producer.specs.Wanted.{producer_wanted}
+use Rattle.pulsar_incoming.specs.Content.{consumer_wanted}
+use Rattle.pulsar_outgoing.specs.Wanted.{producer_wanted}
 use Rattle.pulsar_script.specs.ConsumerWords.{Subscriber, Draft as ConsumerDraft}
 use Rattle.pulsar_script.specs.MessageWords.{Draft}
 use Rattle.pulsar_script.specs.ProducerWords.{Draft as ProducerDraft}

@@ -10,7 +10,7 @@ use Rattle.pulsar_wire.specs.Field.{◌>>=◌}
 use Rattle.pulsar_messages.specs.Content.{ProducerOptionsValues}
 use Rattle.pulsar_messages.specs.declared.routing_policy.RoutingPolicy.{RoutingPolicy}
 use Rattle.pulsar_messages.specs.declared.routing_policy.RoutingPolicy.TheVariants.{RoundRobin, Single, Custom}
-use Rattle.pulsar_producer.specs.Wanted.{ProducerWanted, no_producer}
+use Rattle.pulsar_outgoing.specs.Wanted.{ProducerWanted, no_producer}
 use Rattle.pulsar_script.specs.Choices.{flag}
 use Rattle.pulsar_script.specs.Encoded.{schema_of}
 use Rattle.pulsar_script.specs.MessageWords.{cut, unless}

@@ -7,10 +7,10 @@ use Rattle.pulsar_wire.specs.Failures.{Exhausted}
 use Rattle.pulsar_link.specs.Request.{closed_consumer}
 use Rattle.pulsar_plans.specs.declared.making.Command.{Command}
 use Rattle.pulsar_plans.specs.declared.turn.Ways.{Ways}
-use Rattle.pulsar_consumer.specs.Content.{ConsumerWanted}
-use Rattle.pulsar_consumer.specs.Naming.{order_of}
-use Rattle.pulsar_consumer.specs.declared.naming.Ordered.{Ordered}
-use Rattle.pulsar_consumer.specs.declared.naming.Ordered.TheVariants as ordered
+use Rattle.pulsar_incoming.specs.Content.{ConsumerWanted}
+use Rattle.pulsar_incoming.specs.Naming.{order_of}
+use Rattle.pulsar_incoming.specs.declared.naming.Ordered.{Ordered}
+use Rattle.pulsar_incoming.specs.declared.naming.Ordered.TheVariants as ordered
 use Rattle.pulsar_calls.specs.declared.act.Act.{Act}
 use Rattle.pulsar_calls.specs.declared.act.Act.TheVariants.{Starts, Told}
 use Rattle.pulsar_calls.specs.declared.act.End.{End}

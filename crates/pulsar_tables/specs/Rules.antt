@@ -61,16 +61,16 @@ use Rattle.pulsar_messages.specs.Content.{ProducerMessageValues}
 use Rattle.pulsar_plans.specs.declared.making.Command.{Command}
 use Rattle.pulsar_producer.specs.Routing.{Policy}
 use Rattle.pulsar_frame.specs.Batch.{EntryValues}
-use Rattle.pulsar_producer.specs.Batch.{entry_of}
-use Rattle.pulsar_producer.specs.Storage.{is_batching}
+use Rattle.pulsar_outgoing.specs.Batch.{entry_of}
+use Rattle.pulsar_outgoing.specs.Storage.{is_batching}
 use Rattle.pulsar_producer.specs.Topic as topic
-use Rattle.pulsar_producer.specs.Wanted.{ProducerWanted}
-use Rattle.pulsar_producer.specs.declared.orders.Order.{Order}
-use Rattle.pulsar_producer.specs.declared.content.Built.{Built}
-use Rattle.pulsar_producer.specs.declared.news.Drawn.{Drawn}
+use Rattle.pulsar_outgoing.specs.Wanted.{ProducerWanted}
+use Rattle.pulsar_outgoing.specs.declared.orders.Order.{Order}
+use Rattle.pulsar_outgoing.specs.declared.content.Built.{Built}
+use Rattle.pulsar_outgoing.specs.declared.news.Drawn.{Drawn}
 use Rattle.pulsar_producer.specs.News.{News}
-use Rattle.pulsar_producer.specs.declared.news.News.TheVariants as news
-use Rattle.pulsar_producer.specs.declared.orders.Errand.{Errand}
+use Rattle.pulsar_outgoing.specs.declared.news.News.TheVariants as news
+use Rattle.pulsar_outgoing.specs.declared.orders.Errand.{Errand}
 use Rattle.pulsar_addresses.specs.Address.{Place, address_key, is_reachable}
 use Rattle.pulsar_plans.specs.declared.plan.Procedure.{Procedure as Sought}
 use Rattle.pulsar_plans.specs.declared.plan.Procedure.TheVariants as sought

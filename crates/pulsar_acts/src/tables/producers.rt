@@ -19,7 +19,7 @@ use pulsar_agenda::agenda::Tasks;
 use pulsar_calls::act::{Action, Notice, Outcome, Who};
 use pulsar_calls::content::{Cause, Granted, Remade};
 use pulsar_calls::who::{in_turn, turn_of};
-use pulsar_producer::content::Version;
+use pulsar_outgoing::content::Version;
 use pulsar_producer::deed::News;
 use pulsar_wire::error::{ConnectionError, NoMemory};
 use std::alloc::Global;

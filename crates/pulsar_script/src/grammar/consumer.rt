@@ -2,7 +2,7 @@
 
 ghost use Rattle.std.specs.Prelude.{◌≡◌, Some, IfOk, OnOk, map, string_bytes};
 ghost use Rattle.std.specs.Option.{option_map};
-ghost use Rattle.pulsar_consumer.specs.Content.{consumer_wanted};
+ghost use Rattle.pulsar_incoming.specs.Content.{consumer_wanted};
 ghost use Rattle.pulsar_script.specs.ConsumerWords.{all, batch, blank, compacted, consumer, consumer_id, durable, initial_position, kind, level, limits_messages, meta, name, names_subscription, names_topics, namespace, one, option_part, part, priority, queue, says_more, schema, start, subscription, topic, who_subscribes, with_meta};
 ghost use Rattle.pulsar_script.specs.Parsed.{consumer_draft_of, subscriber_of, taken_in};
 
@@ -10,7 +10,7 @@ use crate::grammar::choice::{flag, position, sub_type};
 use crate::grammar::encoded::{id, schema_of};
 use crate::grammar::message::cut;
 use crate::grammar::word::{is, number, small_number, text};
-use pulsar_consumer::ConsumerBuilder;
+use pulsar_incoming::builder::ConsumerBuilder;
 use pulsar_messages::ConsumerOptions;
 use pulsar_wire::NoMemory;
 use std::alloc::Global;

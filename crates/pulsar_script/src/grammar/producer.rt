@@ -5,14 +5,14 @@ ghost use Rattle.std.specs.Option.{option_map};
 ghost use Rattle.pulsar_messages.specs.Content.{producer_options_values};
 ghost use Rattle.pulsar_script.specs.Parsed.{producer_draft_of};
 ghost use Rattle.pulsar_script.specs.ProducerWords.{access, all, batch, batch_timeout, blank, bytes, block, encrypted, meta, name, one, options, option_part, part, policy, producer, route, schema, topic, with_meta, with_word};
-ghost use Rattle.pulsar_producer.specs.Wanted.{producer_wanted};
+ghost use Rattle.pulsar_outgoing.specs.Wanted.{producer_wanted};
 
 use crate::grammar::choice::flag;
 use crate::grammar::encoded::schema_of;
 use crate::grammar::message::cut;
 use crate::grammar::word::{is, number, text};
 use pulsar_messages::{ProducerOptions, RoutingPolicy};
-use pulsar_producer::ProducerBuilder;
+use pulsar_outgoing::producer_builder::ProducerBuilder;
 use pulsar_wire::NoMemory;
 use std::alloc::Global;
 

@@ -2,7 +2,7 @@ use Rattle.std.proofs.Common.{◌∙◌, ◌∷◌, [], ◌++◌, ap, cond, sym}
 use Rattle.std.proofs.lemmas.List.{append-nil}
 use Rattle.std.proofs.lemmas.Result.{on_ok_weaker}
 use Rattle.pulsar_producer.specs.Topic.{Flushes}
-use Rattle.pulsar_producer.specs.declared.news.News.TheVariants.{Done}
+use Rattle.pulsar_outgoing.specs.declared.news.News.TheVariants.{Done}
 use Rattle.pulsar_run.specs.Order.{put_all}
 use Rattle.pulsar_producer_table.specs.KeptProducers.{producers_of}
 use Rattle.pulsar_producer_table.specs.Producers.{changed, is_woken}

@@ -1,7 +1,7 @@
 use Rattle.std.proofs.Common.{◌∙◌, ◌++◌, ap, map, sym}
 use Rattle.std.proofs.lemmas.List.{append-nil}
 use Rattle.std.proofs.lemmas.Result.{on_ok_weaker}
-use Rattle.pulsar_producer.specs.declared.news.News.TheVariants.{Done}
+use Rattle.pulsar_outgoing.specs.declared.news.News.TheVariants.{Done}
 use Rattle.pulsar_run.specs.Order.{put_all}
 use Rattle.pulsar_procedures.specs.Plan.{closed_notice}
 use Rattle.pulsar_producer_table.specs.Producers.{shut}

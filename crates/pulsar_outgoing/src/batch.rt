@@ -16,7 +16,7 @@ use pulsar_addresses::content::Refusal;
 use pulsar_frame::batch::BatchedMessage;
 use pulsar_frame::received::Received;
 use pulsar_messages::producer_message::{Message, ProducerMessage};
-use pulsar_messages::properties::into_properties;
+use pulsar_messages::into_properties;
 use pulsar_wire::commands::base::Body;
 use pulsar_wire::commands::ids::MessageIdData;
 use pulsar_wire::commands::metadata::SingleMessageMetadata;

@@ -8,7 +8,8 @@ use Rattle.pulsar_calls.specs.declared.act.Action.TheVariants.{Get}
 use Rattle.pulsar_calls.specs.declared.act.Who.{Who}
 use Rattle.pulsar_tables.specs.declared.addresses.Series.{Series}
 use Rattle.pulsar_tables.specs.declared.addresses.Series.TheVariants.{Serves}
-use Rattle.pulsar_tables.specs.View.{Base, View, after, base_waiting, got_at, serving, waits_for}
+use Rattle.pulsar_tables.specs.View.{View, after, serving, waits_for}
+use Rattle.pulsar_tables.specs.Seats.{Base, base_waiting, got_at}
 
 -- waits where none serves yet
 abbrev pub serves : Series → Bool

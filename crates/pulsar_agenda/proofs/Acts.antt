@@ -16,9 +16,11 @@ use Rattle.pulsar_calls.specs.Content.{Asked, Heard, lacks_tickets, shares}
 use Rattle.pulsar_calls.specs.Content.{numbers_from}
 use Rattle.pulsar_procedures.specs.Plan.{fails}
 use Rattle.pulsar_producer_table.specs.Producers.{Producers, routed}
-use Rattle.pulsar_tables.specs.Rules.{called, on_link, over_links, parts_of, shares_of, shares_unless, starts, why_no_sends}
+use Rattle.pulsar_tables.specs.Rules.{called, parts_of, shares_of, shares_unless, starts, why_no_sends}
+use Rattle.pulsar_tables.specs.LinkRules.{on_link, over_links}
 use Rattle.pulsar_agenda.specs.Run.{Entry, Begins, Then, rules, view}
-use Rattle.pulsar_tables.specs.View.{Chosen, Options, Links, Seat, View, begun, begun_live, is_live}
+use Rattle.pulsar_tables.specs.View.{Chosen, Options, View, begun, begun_live, is_live}
+use Rattle.pulsar_tables.specs.Seats.{Links, Seat}
 
 -- LISTS
 

@@ -41,8 +41,10 @@ use Rattle.pulsar_tables.specs.Reading.{recalled_said, serves_by, sought_said, t
 use Rattle.pulsar_calls.specs.Content.{Asked, shares}
 use Rattle.pulsar_procedures.specs.Plan.{begins}
 use Rattle.pulsar_producer_table.specs.Producers.{is_settled_at, link_at, recalled, turn_taken}
-use Rattle.pulsar_tables.specs.Rules.{at_once, batches_by, batches_from, breaks_at, called, does, finds, follows, follows_some, gets_from, grants, idle_act, is_idle, keeps_alive, left_with, may_ping, over_links, performs, recalls, rung, stop_act, takes_turn, tries_again}
-use Rattle.pulsar_tables.specs.View.{Seat, View, arrival_at, told_some, ways_of}
+use Rattle.pulsar_tables.specs.Rules.{at_once, batches_by, batches_from, breaks_at, called, does, finds, follows, follows_some, gets_from, grants, idle_act, is_idle, keeps_alive, left_with, performs, recalls, rung, takes_turn, tries_again}
+use Rattle.pulsar_tables.specs.LinkRules.{may_ping, over_links, stop_act}
+use Rattle.pulsar_tables.specs.View.{View, told_some, ways_of}
+use Rattle.pulsar_tables.specs.Seats.{Seat, arrival_at}
 use Rattle.pulsar_outgoing.specs.declared.news.News.TheVariants as news
 use Rattle.pulsar_calls.specs.declared.act.Outcome.TheVariants as outcome
 use Rattle.pulsar_agenda.proofs.Acts.{Each, StartsIn, called_each, each_append, each_either, each_flat, over_each}

@@ -16,9 +16,11 @@ use Rattle.pulsar_calls.specs.declared.act.Part.TheVariants.{Calls, ToLink, Ring
 use Rattle.pulsar_tables.specs.Alarms.{ringing}
 use Rattle.pulsar_calls.specs.Content.{Asked, Heard, Called, Ticked, Poll}
 use Rattle.pulsar_producer_table.specs.Producers.{advice}
-use Rattle.pulsar_tables.specs.Rules.{at_once, brings, call_part, due_part, further, over_links, parts, reads_on}
+use Rattle.pulsar_tables.specs.Rules.{at_once, brings, call_part, further, parts, reads_on}
+use Rattle.pulsar_tables.specs.LinkRules.{due_part, over_links}
 use Rattle.pulsar_agenda.specs.Run.{Entry, Begins, Then, IsRun, agenda, rules, view}
-use Rattle.pulsar_tables.specs.View.{Options, Seat, View, arrival_at, is_live}
+use Rattle.pulsar_tables.specs.View.{Options, View, is_live}
+use Rattle.pulsar_tables.specs.Seats.{Seat, arrival_at}
 use Rattle.pulsar_agenda.proofs.Acts.{Each, begun_same, each_append, each_map, each_rest, over_each}
 use Rattle.pulsar_agenda.proofs.Raising.{IsRaised, may, raises}
 

@@ -7,8 +7,10 @@ use Rattle.pulsar_calls.specs.declared.act.Act.TheVariants.{Comes, Told}
 use Rattle.pulsar_calls.specs.declared.act.Notice.{Notice}
 use Rattle.pulsar_calls.specs.declared.act.Part.{Part}
 use Rattle.pulsar_calls.specs.Content.{Asked, lacks_tickets, shares, Heard, Called, Opened, FailedToOpen, Bytes, Lost, Drain, Ticked, Poll, Shown}
-use Rattle.pulsar_tables.specs.Effects.{effects, effect_below}
-use Rattle.pulsar_tables.specs.Rules.{at_once, below, causes, further, joins, parts}
+use Rattle.pulsar_tables.specs.Effects.{effects}
+use Rattle.pulsar_calls.specs.Order.{effect_below}
+use Rattle.pulsar_tables.specs.Rules.{at_once, causes, further, joins, parts}
+use Rattle.pulsar_calls.specs.Order.{below}
 use Rattle.pulsar_tables.specs.View.{Options, View, after, begun, new}
 
 abbrev pub rules : run.Rules Options Heard View Act Notice Part Shown

@@ -3,7 +3,7 @@
 ghost use Rattle.std.specs.Prelude.{◌≡◌, ◌++◌, ◌∷◌, [], map, OnOk};
 ghost use Rattle.pulsar_run.specs.Order.{arranged, put};
 ghost use Rattle.pulsar_run.specs.Run.{only};
-ghost use Rattle.pulsar_tables.specs.Rules.{alone, below, opens};
+ghost use Rattle.pulsar_calls.specs.Order.{alone, below, opens};
 ghost use Rattle.pulsar_agenda.specs.Run.{first, first_of, rest, rest_of};
 ghost use Rattle.pulsar_agenda.specs.Agenda.{agenda_of};
 

@@ -3,3 +3,4 @@ pub mod Content
 pub mod Parts
 pub mod Notices
 pub mod News
+pub mod Order

@@ -8,7 +8,8 @@ use Rattle.pulsar_calls.specs.declared.act.Part.{Part}
 use Rattle.pulsar_calls.specs.declared.act.Part.TheVariants.{Calls}
 use Rattle.pulsar_acts.specs.declared.tables.Tables.{Tables}
 use Rattle.pulsar_calls.specs.Content.{Heard, Shown, Called, Ticked}
-use Rattle.pulsar_tables.specs.Effects.{effect_below, effects}
+use Rattle.pulsar_tables.specs.Effects.{effects}
+use Rattle.pulsar_calls.specs.Order.{effect_below}
 use Rattle.pulsar_tables.specs.Rules.{at_once, brings, further, parts}
 use Rattle.pulsar_agenda.specs.Run.{Entry, Begins, Then, IsRun, Rests, Step, agenda, first_of, heard_to, rest, rest_of, rules, steps, tickets_in, view}
 use Rattle.pulsar_client.specs.History.{Stands}

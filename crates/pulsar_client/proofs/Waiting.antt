@@ -10,7 +10,8 @@ use Rattle.pulsar_agenda.specs.Run.{Good, Step, view}
 use Rattle.pulsar_client.specs.History.{Stands}
 use Rattle.pulsar_acts.specs.Tables.{view_of}
 use Rattle.pulsar_client.proofs.Stepping.{seen_of}
-use Rattle.pulsar_tables.specs.View.{Options, Seat, View, Waits, is_at, is_busy, is_handshaking}
+use Rattle.pulsar_tables.specs.View.{Options, View, Waits, is_at, is_handshaking}
+use Rattle.pulsar_tables.specs.Seats.{Seat, is_busy}
 
 abbrev stage_of : Option Seat → Option Stage
 stage_of row = option_map (λ seat. seat.seen.stage) row

@@ -25,7 +25,8 @@ use Rattle.pulsar_laws.specs.AddressLaws.{AttemptsFollow, Begun, Followed}
 use Rattle.pulsar_tables.specs.Links.{Change, IsOver}
 use Rattle.pulsar_tables.specs.Rules.{at_once, gets_from, tells, tries_again}
 use Rattle.pulsar_agenda.specs.Run.{Entry, Begins, Then, agenda, view}
-use Rattle.pulsar_tables.specs.View.{Chosen, Options, Seat, Turned, View, is_retryable, pause_after, pause_for, pause_of, pause_on, pause_put, pause_rung, turned_by}
+use Rattle.pulsar_tables.specs.View.{Chosen, Options, Turned, View, pause_after, pause_for, pause_of, pause_on, pause_rung, turned_by}
+use Rattle.pulsar_tables.specs.Seats.{Seat, is_retryable, pause_put}
 use Rattle.pulsar_calls.specs.declared.act.Outcome.TheVariants as outcome
 use Rattle.pulsar_agenda.proofs.Acts.{Each, begun_same, chosen_same, each_append, each_drop, each_map, first_case}
 use Rattle.pulsar_agenda.proofs.Raising.{IsRaised, OfAttempt, may, raises}

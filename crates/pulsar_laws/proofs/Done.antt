@@ -8,7 +8,8 @@ use Rattle.pulsar_calls.specs.declared.act.Act.TheVariants.{Comes, Told}
 use Rattle.pulsar_calls.specs.declared.act.Notice.{Notice}
 use Rattle.pulsar_calls.specs.declared.act.Part.{Part}
 use Rattle.pulsar_laws.specs.Laws.{AllIsDone, AreActs}
-use Rattle.pulsar_tables.specs.Rules.{at_once, below, causes, further, joins}
+use Rattle.pulsar_tables.specs.Rules.{at_once, causes, further, joins}
+use Rattle.pulsar_calls.specs.Order.{below}
 use Rattle.pulsar_agenda.specs.Run.{Entry, Begins, Then, IsRun, agenda, rules, view}
 use Rattle.pulsar_tables.specs.View.{Options}
 

@@ -3,7 +3,8 @@ use Rattle.std.proofs.Common.{◌≡◌, ◌∙◌, sym, ap, ℕ, zero, suc, Lis
 use Rattle.pulsar_run.specs.Run.{events, in_order, only, steps_done, with_effects}
 use Rattle.pulsar_calls.specs.declared.act.Act.{Act}
 use Rattle.pulsar_calls.specs.Content.{Heard}
-use Rattle.pulsar_tables.specs.Effects.{effect_below, effects}
+use Rattle.pulsar_tables.specs.Effects.{effects}
+use Rattle.pulsar_calls.specs.Order.{effect_below}
 use Rattle.pulsar_tables.specs.Rules.{parts}
 use Rattle.pulsar_agenda.specs.Run.{Agenda, Entry, Begins, Then, Good, IsRun, Step, agenda, first, goes_on, rest, rules, view}
 use Rattle.pulsar_tables.specs.View.{Options, View, after, begun, new}

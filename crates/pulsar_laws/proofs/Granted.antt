@@ -49,10 +49,13 @@ use Rattle.pulsar_procedures.specs.Plan.{begins, closed_notice, told}
 use Rattle.pulsar_producer.specs.Topic as topic
 use Rattle.pulsar_calls.specs.Who.{turn_of, ticket_of}
 use Rattle.pulsar_producer_table.specs.Producers.{drawn, is_settled_at, is_woken, link_at, next_batch_at, number_drawn, numbers_at, recalled, stored_by, turn_passed, turn_taken, unsent, waiting}
-use Rattle.pulsar_tables.specs.Rules.{alone, answered_by, answered_on, at_once, below, caused, causes, draw_outcome, draw_said, dropped, ended_by, ended_on, failed, failed_at, failed_by, failed_on, failed_over, fails_so, finds, gets_from, grants, joins, lost, lost_so, lost_with, moved_on, notice, number_said, opens, over_links, performs, readied, ready_notice, recalls, served_by, served_on, stop_act, stopped_at, stopped_one, stopped_with, takes_turn, tells, tells_asker, told_at, turn_notice, waiters_of, woken}
+use Rattle.pulsar_tables.specs.Rules.{at_once, caused, causes, draw_outcome, draw_said, failed_by, failed_on, finds, gets_from, grants, joins, notice, number_said, performs, readied, ready_notice, recalls, served_on, stopped_one, stopped_with, takes_turn, tells, turn_notice, waiters_of, woken}
+use Rattle.pulsar_tables.specs.LinkRules.{answered_by, answered_on, dropped, ended_by, ended_on, failed, failed_at, failed_over, fails_so, lost, lost_so, lost_with, moved_on, over_links, served_by, stop_act, stopped_at, tells_asker, told_at}
+use Rattle.pulsar_calls.specs.Order.{alone, below, opens}
 use Rattle.pulsar_producer_table.specs.Notices.{stopped_call}
 use Rattle.pulsar_agenda.specs.Run.{Entry, Begins, Then, IsRun, agenda, rules, view}
-use Rattle.pulsar_tables.specs.View.{Addresses, Base, Options, Seat, Turned, View, after, answer_at, room_of, stays, stays_some, told_some, turned_by}
+use Rattle.pulsar_tables.specs.View.{Options, Turned, View, after, room_of, stays, stays_some, told_some, turned_by}
+use Rattle.pulsar_tables.specs.Seats.{Addresses, Base, Seat, answer_at}
 use Rattle.pulsar_agenda.proofs.Acts.{Each, each_append, each_drop, each_either, each_flat, each_map, over_each}
 use Rattle.pulsar_agenda.proofs.Raising.{IsRaised, raises}
 use Rattle.pulsar_laws.proofs.Led.{deeds_follow_lem}

@@ -16,7 +16,8 @@ use Rattle.pulsar_laws.specs.Laws.{ClockIs}
 use Rattle.pulsar_laws.specs.AddressLaws.{SeriesIsNewest, newest_turn, turn_of, turn_on, turn_over}
 use Rattle.pulsar_tables.specs.Links.{Change, Remains, Becomes, IsOver}
 use Rattle.pulsar_agenda.specs.Run.{Begins, Then, view}
-use Rattle.pulsar_tables.specs.View.{Base, Turned, View, base_on, base_over, base_turned, begun, begun_live, nobody, turned, waits_for, waits_on}
+use Rattle.pulsar_tables.specs.View.{Turned, View, base_on, begun, begun_live, turned, waits_for, waits_on}
+use Rattle.pulsar_tables.specs.Seats.{Base, base_over, base_turned, nobody}
 use Rattle.pulsar_addresses.specs.Address.{address_key, is_reachable}
 use Rattle.pulsar_agenda.proofs.Acts.{begun_same}
 

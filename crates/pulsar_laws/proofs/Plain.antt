@@ -10,7 +10,8 @@ use Rattle.pulsar_calls.specs.declared.act.Who.TheVariants.{Call, Consumer, Prod
 use Rattle.pulsar_tables.specs.declared.addresses.Pause.{Pause}
 use Rattle.pulsar_tables.specs.Address.{leads_to}
 use Rattle.pulsar_calls.specs.Content.{Said, Shown, Queued, Write, Hands, Faults}
-use Rattle.pulsar_tables.specs.Effects.{connects_to, effects, ends, retries, retries_on}
+use Rattle.pulsar_tables.specs.Effects.{effects, ends, retries, retries_on}
+use Rattle.pulsar_tables.specs.LinkEffects.{connects_to}
 use Rattle.pulsar_tables.specs.View.{Chosen, Turned, View}
 
 abbrev pub is_plain : Shown → Bool

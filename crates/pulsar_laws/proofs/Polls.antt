@@ -25,10 +25,13 @@ use Rattle.pulsar_calls.specs.declared.act.Part.TheVariants.{ToLink, Polls}
 use Rattle.pulsar_calls.specs.declared.act.Who.{Who}
 use Rattle.pulsar_calls.specs.declared.act.Who.TheVariants.{Call}
 use Rattle.pulsar_calls.specs.Content.{Heard, Poll, Shown, Hands, Faults}
-use Rattle.pulsar_tables.specs.Effects.{asked_at, effect_below, effect_rank, effects, given_at, is_before3, retries_on}
+use Rattle.pulsar_tables.specs.Effects.{effects, retries_on}
+use Rattle.pulsar_tables.specs.LinkEffects.{asked_at, given_at}
+use Rattle.pulsar_calls.specs.Order.{effect_below, effect_rank, is_before3}
 use Rattle.pulsar_laws.specs.Laws.{EndsOnce}
 use Rattle.pulsar_agenda.specs.Run.{Entry, Begins, Then, IsRun, Step, first_of, is_empty, rules, steps, view}
-use Rattle.pulsar_tables.specs.View.{Options, Seat, View, answer_at, arrival_at, closing, is_asked, turned, url_at}
+use Rattle.pulsar_tables.specs.View.{Options, View, turned}
+use Rattle.pulsar_tables.specs.Seats.{Seat, answer_at, arrival_at, closing, is_asked, url_at}
 use Rattle.pulsar_calls.specs.Who.{is_same, ticket_of}
 use Rattle.pulsar_agenda.proofs.Acts.{Each, each_append, each_map, each_either}
 use Rattle.pulsar_agenda.proofs.Orders.{effect_order}

@@ -21,7 +21,8 @@ use Rattle.pulsar_calls.specs.declared.act.Who.TheVariants.{Consumer}
 use Rattle.pulsar_calls.specs.Content.{numbers_from}
 use Rattle.pulsar_calls.specs.Who.{ticket_of}
 use Rattle.pulsar_consumer_table.specs.Consumers.{Member}
-use Rattle.pulsar_tables.specs.View.{Options, Seat, View, answer_at, place_of, seat_asked}
+use Rattle.pulsar_tables.specs.View.{Options, View}
+use Rattle.pulsar_tables.specs.Seats.{Seat, answer_at, place_of, seat_asked}
 use Rattle.pulsar_agenda.specs.Run.{Entry, Begins, Then, IsRun, view}
 use Rattle.pulsar_agenda.proofs.Acts.{Each, each_map}
 use Rattle.pulsar_laws.specs.ConsumerLaws.{Flow, FlowsAreQueued, flows_after, flows_since, is_so, permits_of, permits_where, place_on, stands, was_queued}

@@ -23,8 +23,10 @@ use Rattle.pulsar_procedures.specs.declared.plan.Plan.{Plan}
 use Rattle.pulsar_procedures.specs.declared.plan.Turn.{Turn}
 use Rattle.pulsar_procedures.specs.declared.plan.Turn.TheVariants.{Stays, Gives}
 use Rattle.pulsar_procedures.specs.Plan.{begins, fails, told}
-use Rattle.pulsar_tables.specs.Rules.{follows, follows_some, notice, tells, told_at}
-use Rattle.pulsar_tables.specs.View.{Options, answer_at, stays, stays_some, told_some}
+use Rattle.pulsar_tables.specs.Rules.{follows, follows_some, notice, tells}
+use Rattle.pulsar_tables.specs.LinkRules.{told_at}
+use Rattle.pulsar_tables.specs.View.{Options, stays, stays_some, told_some}
+use Rattle.pulsar_tables.specs.Seats.{answer_at}
 use Rattle.pulsar_agenda.specs.Run.{Entry, Begins, Then, IsRun, agenda, first, view}
 use Rattle.pulsar_agenda.proofs.Acts.{begun_same}
 use Rattle.pulsar_laws.specs.Laws.{Answered, IsLed}

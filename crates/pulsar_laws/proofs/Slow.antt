@@ -10,7 +10,8 @@ use Rattle.pulsar_calls.specs.declared.act.Who.{Who}
 use Rattle.pulsar_laws.specs.ProducerLaws.{SlowDownLeavesAll, seat_ticked}
 use Rattle.pulsar_agenda.specs.Run.{view}
 use Rattle.pulsar_consumer_table.specs.Consumers.{Member, closes}
-use Rattle.pulsar_tables.specs.View.{Seat, View, answer_at, asker_at, hears_ask, is_asked, place_of, seat_asked}
+use Rattle.pulsar_tables.specs.View.{View, hears_ask}
+use Rattle.pulsar_tables.specs.Seats.{Seat, answer_at, asker_at, is_asked, place_of, seat_asked}
 
 module _ (who : Who) (now l : ℕ) (request : Words) where
   seat_slow : (row : Option Seat) → answer_at now request row ≡ Err error.SlowDown →

@@ -18,9 +18,11 @@ use Rattle.pulsar_calls.specs.declared.act.Part.TheVariants.{ToLink, Rings}
 use Rattle.pulsar_tables.specs.Alarms.{ringing}
 use Rattle.pulsar_calls.specs.Content.{Heard, Ticked}
 use Rattle.pulsar_calls.specs.Content.{numbers_from}
-use Rattle.pulsar_tables.specs.Rules.{at_once, brings, due_part, further, joins, on_link, over_links, parts, reads_on}
+use Rattle.pulsar_tables.specs.Rules.{at_once, brings, further, joins, parts, reads_on}
+use Rattle.pulsar_tables.specs.LinkRules.{due_part, on_link, over_links}
 use Rattle.pulsar_agenda.specs.Run.{Entry, Begins, Then, IsRun, rules, view}
-use Rattle.pulsar_tables.specs.View.{Options, Links, Seat, View, arrival_at, is_live}
+use Rattle.pulsar_tables.specs.View.{Options, View, is_live}
+use Rattle.pulsar_tables.specs.Seats.{Links, Seat, arrival_at}
 use Rattle.pulsar_agenda.proofs.Acts.{Each, each_append, each_either, each_map, over_each}
 use Rattle.pulsar_agenda.proofs.Raising.{IsRaised, raises}
 

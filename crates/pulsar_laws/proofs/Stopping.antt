@@ -41,10 +41,13 @@ use Rattle.pulsar_laws.specs.AddressLaws.{NoneAfterStop}
 use Rattle.pulsar_tables.specs.Links.{line_places}
 use Rattle.pulsar_calls.specs.Content.{numbers_from}
 use Rattle.pulsar_procedures.specs.Plan.{fails, verdict}
-use Rattle.pulsar_tables.specs.Rules.{closes, gathers, asks_topics, at_once, below, builds_with, called, causes, dropped, ended_on, failed_at, failed_on, failed_over, follows_some, from_base, lost, notice, on_link, opens, over_links, procedure_for, searches, stop_act, stopped_at, stopped_with, tells, tells_asker, unless_refused, waiters_of, asks_raw, checks, flushes, joins, left_with, parts_of, produces, sends, shares_unless, starts, stopped_one, why_no_sends}
+use Rattle.pulsar_tables.specs.Rules.{closes, gathers, asks_topics, at_once, builds_with, called, causes, failed_on, follows_some, from_base, notice, procedure_for, searches, stopped_with, tells, unless_refused, waiters_of, asks_raw, checks, flushes, joins, left_with, parts_of, produces, sends, shares_unless, starts, stopped_one, why_no_sends}
+use Rattle.pulsar_tables.specs.LinkRules.{dropped, ended_on, failed_at, failed_over, lost, on_link, over_links, stop_act, stopped_at, tells_asker}
+use Rattle.pulsar_calls.specs.Order.{below, opens}
 use Rattle.pulsar_producer_table.specs.Notices.{stopped_all, stopped_call}
 use Rattle.pulsar_agenda.specs.Run.{Agenda, Entry, Begins, Then, IsRun, agenda, first, rules, view}
-use Rattle.pulsar_tables.specs.View.{after, Addresses, Base, Options, Links, Seat, Tickets, View, alarms_after, alarms_built, alarms_on, alarms_over, begun, begun_live, builds, calls_after, got_at, is_live, link_got, live_after, live_begun, pause_after, pause_of, pause_on, pause_put, pause_rung, told_some, took_some, turned_by, ways_of, Chosen, may_call, producers_after, producers_made, producers_rung, stand_after, stays_some, arrival_at, closing, consumers_after, consumers_made}
+use Rattle.pulsar_tables.specs.View.{after, Options, Tickets, View, alarms_after, alarms_built, alarms_on, alarms_over, begun, begun_live, builds, calls_after, is_live, link_got, live_after, live_begun, pause_after, pause_of, pause_on, pause_rung, told_some, turned_by, ways_of, Chosen, may_call, producers_after, producers_made, producers_rung, stand_after, stays_some, consumers_after, consumers_made}
+use Rattle.pulsar_tables.specs.Seats.{Addresses, Base, Links, Seat, got_at, pause_put, took_some, arrival_at, closing}
 use Rattle.pulsar_producer_table.specs.declared.table.Topic.{Topic}
 use Rattle.pulsar_outgoing.specs.Storage.{Item}
 use Rattle.pulsar_producer.specs.Topic.{Halts, Seen, TakesBatch, left_of, next_of}

@@ -34,9 +34,12 @@ use Rattle.pulsar_producer_table.specs.declared.table.Topic.{Topic}
 use Rattle.pulsar_laws.specs.Laws.{counted, start_of}
 use Rattle.pulsar_procedures.specs.Plan.{action_of, begins, closed_notice, told}
 use Rattle.pulsar_producer_table.specs.Producers.{drawn, is_settled_at, is_woken, link_at, number_drawn, numbers_at, recalled, stored_by, turn_passed, turn_taken}
-use Rattle.pulsar_tables.specs.Rules.{at_once, below, causes, draw_outcome, draw_said, finds, gets_from, grants, joins, notice, number_said, over_links, performs, readied, ready_notice, recalls, stop_act, takes_turn, tells, told_at, turn_notice}
+use Rattle.pulsar_tables.specs.Rules.{at_once, causes, draw_outcome, draw_said, finds, gets_from, grants, joins, notice, number_said, performs, readied, ready_notice, recalls, takes_turn, tells, turn_notice}
+use Rattle.pulsar_tables.specs.LinkRules.{over_links, stop_act, told_at}
+use Rattle.pulsar_calls.specs.Order.{below}
 use Rattle.pulsar_agenda.specs.Run.{Entry, Begins, Then, IsRun, agenda, rules, view}
-use Rattle.pulsar_tables.specs.View.{Options, View, answer_at, room_of, stays, stays_some, told_some}
+use Rattle.pulsar_tables.specs.View.{Options, View, room_of, stays, stays_some, told_some}
+use Rattle.pulsar_tables.specs.Seats.{answer_at}
 use Rattle.pulsar_calls.specs.Who.{is_same, turn_of, ticket_of}
 use Rattle.pulsar_producer.specs.Topic as topic
 use Rattle.pulsar_producer.specs.declared.deed.Deed.{Deed}

@@ -23,7 +23,8 @@ use Rattle.pulsar_calls.specs.declared.act.Who.{Who}
 use Rattle.pulsar_producer_table.specs.declared.table.Topic.{Topic}
 use Rattle.pulsar_producer_table.specs.Producers.{is_woken, numbers_at, stored_by}
 use Rattle.pulsar_laws.specs.ProducerLaws.{HasTurn, drawn_by, rung_by, shut_by, topic_acts}
-use Rattle.pulsar_tables.specs.Rules.{at_once, below, joins, performs, readied, ready_notice}
+use Rattle.pulsar_tables.specs.Rules.{at_once, joins, performs, readied, ready_notice}
+use Rattle.pulsar_calls.specs.Order.{below}
 use Rattle.pulsar_agenda.specs.Run.{Entry, Then, IsRun, agenda, rules, view}
 use Rattle.pulsar_tables.specs.View.{Options, View, room_of}
 use Rattle.pulsar_tables.specs.Alarms.{rings}

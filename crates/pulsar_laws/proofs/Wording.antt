@@ -26,7 +26,8 @@ use Rattle.pulsar_calls.specs.Notices.{stopped_one}
 use Rattle.pulsar_consumer_table.specs.Notices.{again, again_at, due_at, due_to, heard_at, lost_at, polled_due, revived_at, stopped_seekers, word_notice, word_to}
 use Rattle.pulsar_tables.specs.Reading.{closed_at, heard_on, lost_on, made_due, stopped_on}
 use Rattle.pulsar_tables.specs.Rules.{joins}
-use Rattle.pulsar_tables.specs.View.{Seat, View, answer_at, arrival_at, closing, is_asked, member_on, setup_of, url_at}
+use Rattle.pulsar_tables.specs.View.{View, member_on, setup_of}
+use Rattle.pulsar_tables.specs.Seats.{Seat, answer_at, arrival_at, closing, is_asked, url_at}
 use Rattle.pulsar_agenda.proofs.Acts.{Each, each_append, each_flat}
 
 -- whatever each consumer gives

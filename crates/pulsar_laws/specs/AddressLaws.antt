@@ -18,7 +18,8 @@ use Rattle.pulsar_tables.specs.Links.{Change, Remains, Becomes, IsOver}
 use Rattle.pulsar_procedures.specs.Plan.{begins}
 use Rattle.pulsar_tables.specs.Rules.{is_idle}
 use Rattle.pulsar_agenda.specs.Run.{Entry, Then, IsRun, view}
-use Rattle.pulsar_tables.specs.View.{Options, Seat, Turned, turned, waits_on}
+use Rattle.pulsar_tables.specs.View.{Options, Turned, turned, waits_on}
+use Rattle.pulsar_tables.specs.Seats.{Seat}
 use Rattle.pulsar_tables.specs.Links as links
 use Rattle.pulsar_laws.specs.Laws.{base_of, started, stopped}
 

@@ -3,7 +3,8 @@
 
 ghost use Rattle.std.specs.Prelude.{◌≡◌, ◌∷◌, ◌↔◌, [], IfOk, IsTrue, List};
 ghost use Rattle.pulsar_agenda.specs.Run.{Good, Step, view};
-ghost use Rattle.pulsar_tables.specs.View.{Options, Waits, has_ended};
+ghost use Rattle.pulsar_tables.specs.View.{Options, Waits};
+ghost use Rattle.pulsar_tables.specs.Seats.{has_ended};
 ghost use Rattle.pulsar_machine.specs.Machine.{step};
 
 mod from_url;

@@ -12,8 +12,8 @@ use Rattle.std.specs.Option.{option_map, option_to_list}
 use Rattle.std.specs.Ordering.{nat_cmp}
 use Rattle.pulsar_tables.specs.declared.row.Row.{Row}
 use Rattle.pulsar_tables.specs.Kept.{live_in, seat_of}
-use Rattle.pulsar_tables.specs.Rules.{on_link}
-use Rattle.pulsar_tables.specs.View.{Seat}
+use Rattle.pulsar_tables.specs.LinkRules.{on_link}
+use Rattle.pulsar_tables.specs.Seats.{Seat}
 
 -- a link rests, none hears on it, and no topic producer is there
 none_stand : (standing : ℕ) → (standing == 0) ≡ not (nat_lt 0 standing)

@@ -27,8 +27,8 @@ use Rattle.pulsar_tables.specs.declared.row.Row.{Row}
 use Rattle.pulsar_tables.specs.Due.{moment_at}
 use Rattle.pulsar_tables.specs.Kept.{AreStarted, AreTimed, is_due, links_in, live_in, seat_of}
 use Rattle.pulsar_tables.specs.Links.{closed_by}
-use Rattle.pulsar_tables.specs.Rules.{due_part, ended_by, ended_on, ended_places, on_link, over_links, stop_act}
-use Rattle.pulsar_tables.specs.View.{Seat, closing}
+use Rattle.pulsar_tables.specs.LinkRules.{due_part, ended_by, ended_on, ended_places, on_link, over_links, stop_act}
+use Rattle.pulsar_tables.specs.Seats.{Seat, closing}
 use Rattle.pulsar_consumer_table.proofs.Places.{by_keys}
 
 is_this : (l link : ℕ) → (l == link) ≡ true → l ≡ link

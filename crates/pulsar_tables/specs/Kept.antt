@@ -20,8 +20,8 @@ use Rattle.pulsar_tables.specs.declared.alarms.Alarms.TheInside.{Inside}
 use Rattle.pulsar_tables.specs.declared.row.Row.{Row}
 use Rattle.pulsar_tables.specs.Alarms.{alarm_cmp, moment_of}
 use Rattle.pulsar_tables.specs.Due.{is_moment, moment_at}
-use Rattle.pulsar_tables.specs.Rules.{ended_on}
-use Rattle.pulsar_tables.specs.View.{Addresses, Base, Links, Seat, askers_left, closing, may_retry, nobody, pause_with, ping_left}
+use Rattle.pulsar_tables.specs.LinkRules.{ended_on}
+use Rattle.pulsar_tables.specs.Seats.{Addresses, Base, Links, Seat, askers_left, closing, may_retry, nobody, pause_with, ping_left}
 
 abbrev pub seat_of : Row → Seat
 seat_of r = record { address = r.address; seen = r.connection; askers = get nat_cmp r.askers; got = r.got; ping = r.ping }

@@ -7,3 +7,6 @@ pub mod Rules
 pub mod Effects
 pub mod Due
 pub mod Kept
+pub mod Seats
+pub mod LinkRules
+pub mod LinkEffects

@@ -1,21 +1,14 @@
 -- What an event brings, and what arises from an act: at once, as further parts, among those whom the present cause still serves, or as
 -- causes of their own.
-use Rattle.std.specs.Prelude.{ℕ, ◌+◌, ◌-◌, ◌^◌, nat_le, nat_lt, Bool, true, false, ◌&&◌, ◌||◌, not, ◌==◌, if◌then◌else◌, List, [], ◌∷◌, ◌++◌, drop, length, map, Option, Some, None, Result, Ok, Err}
-use Rattle.std.specs.List.{filter_map, flat_map}
-use Rattle.std.specs.Option.{is_none, is_some, option_map, option_to_list}
-use Rattle.pulsar_wire.specs.declared.error.ConnectionError.{ConnectionError}
-use Rattle.pulsar_wire.specs.declared.error.IoKind.{IoKind}
-use Rattle.pulsar_wire.specs.declared.error.IoKind.TheVariants as io_kind
+use Rattle.std.specs.Prelude.{ℕ, ◌+◌, ◌-◌, ◌^◌, nat_le, nat_lt, Bool, true, false, ◌&&◌, ◌||◌, not, ◌==◌, if◌then◌else◌, List, [], ◌∷◌, ◌++◌, drop, length, map, Option, Some, None}
+use Rattle.std.specs.List.{flat_map}
+use Rattle.std.specs.Option.{is_some, option_map, option_to_list}
 use Rattle.pulsar_wire.specs.declared.commands.topics.Mode.{Mode}
 use Rattle.pulsar_requests.specs.Waits.{is_empty}
 use Rattle.pulsar_messages.specs.Words as words
 use Rattle.pulsar_messages.specs.Words.{Words}
-use Rattle.pulsar_session.specs.declared.states.Asked.{Asked}
-use Rattle.pulsar_session.specs.declared.states.Asked.TheVariants as asked
-use Rattle.pulsar_wire.specs.Failures.{Fault, Disconnected, Exhausted, fault}
-use Rattle.pulsar_session.specs.Link as session
-use Rattle.pulsar_session.specs.Link.{Came, Seen, came, due, ends, is_ready}
-use Rattle.pulsar_link.specs.Messages.{read}
+use Rattle.pulsar_wire.specs.Failures.{Disconnected, Exhausted}
+use Rattle.pulsar_session.specs.Link.{is_ready}
 use Rattle.pulsar_calls.specs.declared.act.Act.{Act}
 use Rattle.pulsar_calls.specs.declared.act.Act.TheVariants.{Comes, Starts, Told, Does, Answers, Dials}
 use Rattle.pulsar_calls.specs.declared.act.Action.{Action}
@@ -25,7 +18,7 @@ use Rattle.pulsar_calls.specs.declared.act.Alarm.TheVariants.{Retry, Wake, Batch
 use Rattle.pulsar_calls.specs.declared.act.Arrival.{Arrival}
 use Rattle.pulsar_calls.specs.declared.act.Arrival.TheVariants.{Nothing, Readied, Settles, Gives as GivesTo, Passes, Bad}
 use Rattle.pulsar_calls.specs.declared.act.End.{End}
-use Rattle.pulsar_calls.specs.declared.act.End.TheVariants.{Unopened, Lost, Overdue, Broken, Idles, Stops}
+use Rattle.pulsar_calls.specs.declared.act.End.TheVariants.{Unopened, Lost, Broken, Idles}
 use Rattle.pulsar_calls.specs.declared.act.LinkAct.{LinkAct}
 use Rattle.pulsar_calls.specs.declared.act.LinkAct.TheVariants as link
 use Rattle.pulsar_calls.specs.declared.act.LinkAct.TheVariants.{Reads, Drains, Pings, Ends}
@@ -78,34 +71,23 @@ use Rattle.pulsar_plans.specs.declared.turn.Ways.{Ways}
 use Rattle.pulsar_tables.specs.Alarms.{ringing, rings}
 use Rattle.pulsar_calls.specs.Content as content
 use Rattle.pulsar_calls.specs.Content.{Asked as Asking, Heard, Called, Opened, FailedToOpen, Bytes, Lost as Loses, Drain, Ticked, Poll, lacks_tickets, shares}
-use Rattle.pulsar_tables.specs.Links.{Change, Remains, Becomes, IsOver, closed_by, line_places, new_places, times_out}
-use Rattle.pulsar_calls.specs.Content.{numbers_from}
+use Rattle.pulsar_tables.specs.Links.{Change, Remains, Becomes, IsOver}
 use Rattle.pulsar_tables.specs.Links as links
 use Rattle.pulsar_procedures.specs.Plan.{begins, closed_notice, fails}
 use Rattle.pulsar_producer_table.specs.Notices.{stopped_all}
 use Rattle.pulsar_producer_table.specs.Producers.{Producers, advice, batches_in, drawn, errand_of, is_held, is_settled_at, is_woken, link_at, next_batch_at, number_drawn, numbers_at, recalled, routed, stored_by, turn_passed, turn_taken, why_not}
 use Rattle.pulsar_calls.specs.Content.{next_advice}
-use Rattle.pulsar_tables.specs.View.{Addresses, Base, Chosen, Links, Options, Seat, Tickets, Turned, View, answer_at, arrival_at, is_live, later, may_call, room_of, told_some, turned, url_at, ways_of}
+use Rattle.pulsar_tables.specs.View.{Chosen, Options, Tickets, Turned, View, is_live, may_call, room_of, told_some, turned, ways_of}
+use Rattle.pulsar_tables.specs.Seats.{Addresses, Base, Links, Seat, answer_at, arrival_at, later, url_at}
 use Rattle.pulsar_consumer_table.specs.Consumers as consumer
-pub use Rattle.pulsar_calls.specs.Notices.{notice, stopped_one}
-pub use Rattle.pulsar_tables.specs.Reading.{tells, unless}
+use Rattle.pulsar_calls.specs.Notices.{notice}
+use Rattle.pulsar_tables.specs.Reading.{tells, unless}
 use Rattle.pulsar_consumer_table.specs.Notices.{again_at, polled_due, revived_at}
 use Rattle.pulsar_tables.specs.Reading.{acknowledges, closed_at, flow_said, heard_on, leaves, lost_on, made_due, numbering_said, recalled_said, revived_said, serves_by, sought_said, stopped_on, subscribes, tells_word}
 use Rattle.pulsar_consumer_table.specs.Consumers.{Consumers, is_heard, over_rows}
-use Rattle.pulsar_calls.specs.Who.{in_turn, is_before, is_same, rank, ticket_of, turn_of}
-
--- EVENTS
-
--- what each live link gives, link by link in their order
-abbrev pub on_link : {A : Type 0} → (ℕ → Seat → List A) → (ℕ → Option Seat) → ℕ → List A
-on_link f live l = flat_map (f l) (option_to_list (live l))
-
-abbrev pub over_links : {A : Type 0} → (ℕ → Seat → List A) → Links → List A
-over_links f ls = flat_map (on_link f ls.live) (numbers_from 0 ls.started)
-
--- a link that is due ends, and the requests that it has queued so far may time out
-abbrev pub due_part : (now link : ℕ) → Seat → List Part
-due_part now l seat = if due now seat.seen then ToLink l (Ends (Overdue seat.seen.waits.queued)) ∷ [] else []
+use Rattle.pulsar_calls.specs.Who.{in_turn, ticket_of, turn_of}
+use Rattle.pulsar_calls.specs.Order.{opens, alone}
+use Rattle.pulsar_tables.specs.LinkRules.{over_links, due_part, told_at, stop_act, may_ping, answered_on, served_by, ended_on, failed_over, moved_on, stopped_at}
 
 -- a call, for which the policies were asked
 abbrev pub call_part : List Policy → View → Asking → Part
@@ -312,12 +294,6 @@ gets_from who p (Serves link) = tells who (outcome.GotLink link)
 abbrev pub gets : Who → Place → Series → List Act
 gets who p series = if is_reachable p then gets_from who p series else tells who outcome.NotFound
 
--- what one who asks for a request is told at once
-abbrev pub told_at : Result Asked ConnectionError → Outcome
-told_at (Ok (asked.Queued place)) = outcome.Queued
-told_at (Ok (asked.Waiting place)) = outcome.InLine
-told_at (Err e) = outcome.Refused (fault e)
-
 -- WHAT PLANS ASK OF TOPIC PRODUCERS is told at once.
 
 abbrev pub grants : Who → News → List Act
@@ -355,10 +331,6 @@ finds who (Some l) = tells who (outcome.GotLink l)
 -- what is asked to be settled is so at once where nothing waits for that
 abbrev pub flushes_at : Who → Option Topic → List Act
 flushes_at who row = if is_settled_at row then grants who news.Done else []
-
--- every live link ends, and who stops the client is told
-abbrev pub stop_act : ℕ → Seat → List Act
-stop_act l seat = Comes (ToLink l (Ends Stops)) ∷ []
 
 abbrev pub stops : Who → Links → List Act
 stops who ls = over_links stop_act ls ++ tells who outcome.Stopped
@@ -402,11 +374,6 @@ breaks_at l (Bad cause) = Comes (ToLink l (Ends (Broken cause))) ∷ []
 abbrev pub tries_again : Option Pause → List Act
 tries_again None = []
 tries_again (Some p) = Dials p.address p.starter (p.retries + 1) ∷ []
-
--- a link is asked for a sign of life, unless the earlier ping still waits
-abbrev pub may_ping : Option Seat → Bool
-may_ping None = false
-may_ping (Some seat) = is_none seat.ping
 
 abbrev pub keeps_alive : ℕ → Option Seat → List Act
 keeps_alive l row = if may_ping row then Comes (ToLink l Pings) ∷ [] else []
@@ -480,12 +447,6 @@ abbrev pub further : View → Act → List Part
 further v (Comes (ToLink l Reads)) = reads_on l (arrival_at (v.links.live l))
 further v _ = []
 
--- AMONG THOSE WHOM THE PRESENT CAUSE STILL SERVES
-
--- the order in which a cause serves: calls by ticket, then consumers by number, then producers by number
-abbrev pub below : Notice → Notice → Bool
-below a b = is_before (rank a.who) (rank b.who)
-
 -- the one who has the turn of a topic producer next, and one whom a plan tells something
 abbrev pub turn_notice : (number : ℕ) → ℕ × Option (List ℕ) → Notice
 turn_notice n next = notice (in_turn n next.0) (outcome.Granted (news.HasTurn next.1))
@@ -511,117 +472,10 @@ joins v (Does who (Tell n)) = n ∷ []
 joins v (Does who (TellAll ns)) = ns
 joins v _ = []
 
--- CAUSES OF THEIR OWN
-
--- who asked for a place is told
-abbrev pub tells_asker : (ℕ → Outcome) → (ℕ → Option Who) → ℕ → Option Notice
-tells_asker says askers place = option_map (λ who. notice who (says place)) (askers place)
-
--- those whose requests a frame settles
-abbrev pub answered_by : Came → (ℕ → Option Who) → List Notice
-answered_by session.Nothing askers = []
-answered_by session.Readied askers = []
-answered_by (session.Settles places reply) askers = filter_map (tells_asker (λ place. outcome.Replied (read reply)) askers) places
-answered_by (session.Gives consumer reply) askers = []
-answered_by session.Challenged askers = []
-answered_by session.Dropped askers = []
-answered_by (session.Bad cause) askers = []
-
-abbrev pub answered_on : Option Seat → List Notice
-answered_on None = []
-answered_on (Some seat) = answered_by (came seat.seen) seat.askers
-
--- those who wait for an address, as its link becomes ready
-abbrev pub served_by : ℕ → Change → List Who → List Notice
-served_by l Remains ws = []
-served_by l Becomes ws = map (λ who. notice who (outcome.GotLink l)) ws
-served_by l IsOver ws = []
-
--- what those are told whose requests end with a link: that they timed out, or are lost, or that the client is stopped
-abbrev pub lost_so : (is_timed_out : Bool) → Outcome
-lost_so is_timed_out = if is_timed_out then outcome.TimedOut else outcome.Disconnected
-
-abbrev pub lost_with : End → (is_timed_out : Bool) → Outcome
-lost_with (Unopened kind) is_timed_out = outcome.Disconnected
-lost_with Lost is_timed_out = outcome.Disconnected
-lost_with (Overdue below) is_timed_out = lost_so is_timed_out
-lost_with (Broken cause) is_timed_out = outcome.Disconnected
-lost_with Idles is_timed_out = outcome.Disconnected
-lost_with Stops is_timed_out = outcome.Cut
-
-abbrev pub lost : End → (now : ℕ) → Seen → ℕ → Outcome
-lost end now s place = lost_with end (times_out end now s place)
-
--- those whose frames stand in the line
-abbrev pub dropped : End → Outcome
-dropped (Unopened kind) = outcome.Disconnected
-dropped Lost = outcome.Disconnected
-dropped (Overdue below) = outcome.Disconnected
-dropped (Broken cause) = outcome.Disconnected
-dropped Idles = outcome.Disconnected
-dropped Stops = outcome.Stopped
-
--- Those who wait for a link of an address, where no other attempt is to follow: the one that started the series is told why it failed, and the others that it is
--- canceled. Another first frame than `connected`, and bad bytes, fail it as its loss does.
-abbrev pub failed_so : IoKind → (is_starter : Bool) → Outcome
-failed_so kind is_starter = if is_starter then outcome.Failed kind else outcome.Canceled
-
-abbrev pub fails_so : End → (is_starter : Bool) → Outcome
-fails_so (Unopened kind) is_starter = failed_so kind is_starter
-fails_so Lost is_starter = failed_so io_kind.Other is_starter
-fails_so (Overdue below) is_starter = failed_so io_kind.TimedOut is_starter
-fails_so (Broken cause) is_starter = failed_so io_kind.Other is_starter
-fails_so Idles is_starter = failed_so io_kind.Other is_starter
-fails_so Stops is_starter = outcome.Stopped
-
-abbrev pub failed : End → Who → Who → Notice
-failed end starter who = notice who (fails_so end (is_same who starter))
-
-abbrev pub failed_at : End → Series → List Who → List Notice
-failed_at end Nobody ws = []
-failed_at end (Runs starter retries link) ws = map (failed end starter) ws
-failed_at end (Pauses link) ws = []
-failed_at end (Serves link) ws = []
-
--- all who asked on a link that ends
-abbrev pub ended_places : End → (now : ℕ) → Seen → (ℕ → Option Who) → List Notice
-ended_places end now s askers =
-    filter_map (tells_asker (lost end now s) askers) (ends s) ++ filter_map (tells_asker (λ place. dropped end) askers) (line_places s)
-
-abbrev pub ended_by : End → (now : ℕ) → Option Fault → Seat → List Notice
-ended_by end now None seat = []
-ended_by end now (Some cause) seat = ended_places end now seat.seen seat.askers
-
-abbrev pub ended_on : End → (now : ℕ) → Option Seat → List Notice
-ended_on end now None = []
-ended_on end now (Some seat) = ended_by end now (closed_by end now seat.seen) seat
-
--- and all who wait for its address, unless another attempt is to follow
-abbrev pub failed_over : End → Option Pause → Base → List Notice
-failed_over end None b = failed_at end b.series b.waiting
-failed_over end (Some p) b = []
-
 abbrev pub failed_by : End → Change → Option Pause → Base → List Notice
 failed_by end Remains pause b = []
 failed_by end Becomes pause b = []
 failed_by end IsOver pause b = failed_over end pause b
-
--- those whom one act serves are one cause, if there are any
-abbrev pub opens : List Notice → List (List Notice)
-opens [] = []
-opens (n ∷ ns) = (n ∷ ns) ∷ []
-
--- those whose frames moved up from the line, in their order
-abbrev pub moved_up : (ℕ → Option Who) → (before after : Seen) → List Notice
-moved_up askers s s' = filter_map (tells_asker (λ place. outcome.Queued) askers) (new_places s s')
-
-abbrev pub moved_on : (most now : ℕ) → Option Seat → List Notice
-moved_on most now None = []
-moved_on most now (Some seat) = moved_up seat.askers seat.seen (links.after (Drains most) now seat.seen)
-
--- each is a cause by itself
-abbrev pub alone : Notice → List Notice
-alone n = n ∷ []
 
 -- those who wait for the address that an act turns
 abbrev pub waiters_of : (Turned → Base → List Notice) → Addresses → Option Turned → List Notice
@@ -650,11 +504,6 @@ woken v (Wake who) = notice who outcome.Woken ∷ []
 woken v (Batch n) = readied n topic.Cuts (v.producers.topics n)
 woken v (KeepAlive l) = []
 woken v CheckIdle = []
-
--- those who wait for a moment, or for an attempt that is to follow, are told that the client is stopped
-abbrev pub stopped_at : Addresses → Option Pause → List Notice
-stopped_at known None = []
-stopped_at known (Some p) = map (λ who. notice who outcome.Stopped) (known.base (address_key p.address)).waiting
 
 abbrev pub stopped_with : Addresses → Alarm → List Notice
 stopped_with known (Retry l) = stopped_at known (known.pause l)

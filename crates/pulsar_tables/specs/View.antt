@@ -1,40 +1,27 @@
 -- What is seen of a run, and what an act makes of it: one small function for each field.
-use Rattle.std.specs.Prelude.{ℕ, ◌+◌, ◌==◌, bytes_eq, nat_le, nat_lt, ◌&&◌, not, Bool, true, false, if◌then◌else◌, List, [], ◌∷◌, ◌++◌, Option, Some, None, Result, Ok, Err, ◌≡◌, ◌⊎◌}
+use Rattle.std.specs.Prelude.{ℕ, ◌+◌, ◌==◌, bytes_eq, nat_le, ◌&&◌, not, Bool, true, false, if◌then◌else◌, List, [], ◌∷◌, ◌++◌, Option, Some, None, ◌≡◌, ◌⊎◌}
 use Rattle.std.specs.List.{list_any}
-use Rattle.std.specs.Option.{is_none, is_some, option_map}
-use Rattle.url.specs.Parts.{Parts}
-use Rattle.pulsar_wire.specs.Sink.{capped}
-use Rattle.pulsar_wire.specs.declared.error.ConnectionError.{ConnectionError}
-use Rattle.pulsar_wire.specs.declared.error.ConnectionError.TheVariants as error
-use Rattle.pulsar_wire.specs.declared.error.IoKind.{IoKind}
-use Rattle.pulsar_wire.specs.declared.error.IoKind.TheVariants.{ConnectionRefused, TimedOut, Other}
+use Rattle.std.specs.Option.{is_some, option_map}
 use Rattle.pulsar_addresses.specs.Address.{Place, address_key, behind, is_reachable}
 use Rattle.pulsar_addresses.specs.Backoff.{backoff, connection_id, jitter}
 use Rattle.pulsar_addresses.specs.declared.options.ConnectionRetryOptions.{ConnectionRetryOptions}
 use Rattle.pulsar_addresses.specs.declared.options.OperationRetryOptions.{OperationRetryOptions}
 use Rattle.pulsar_plans.specs.declared.turn.Ways.{Ways}
 use Rattle.pulsar_messages.specs.Content.{AuthenticationValues}
-use Rattle.pulsar_messages.specs.Words.{Words, SendPing}
-use Rattle.pulsar_requests.specs.Waits.{is_empty}
-use Rattle.pulsar_session.specs.declared.states.Asked.{Asked}
-use Rattle.pulsar_session.specs.declared.states.Asked.TheVariants as asked
+use Rattle.pulsar_messages.specs.Words.{Words}
 use Rattle.pulsar_session.specs.declared.states.Stage.{Stage}
 use Rattle.pulsar_session.specs.declared.states.Stage.TheVariants.{Dialing, Handshaking}
-use Rattle.pulsar_wire.specs.Failures.{Fault}
 use Rattle.pulsar_session.specs.Link as session
-use Rattle.pulsar_session.specs.Link.{Asks, Feeds, Seen, Setup, came, has_room, is_open, is_ready}
-use Rattle.pulsar_link.specs.Request.{closed_consumer, is_awaited}
+use Rattle.pulsar_session.specs.Link.{Setup, is_open}
+use Rattle.pulsar_link.specs.Request.{closed_consumer}
 use Rattle.pulsar_calls.specs.declared.act.Act.{Act}
 use Rattle.pulsar_calls.specs.declared.act.Act.TheVariants.{Comes, Starts, Told, Does, Answers, Dials}
 use Rattle.pulsar_calls.specs.declared.act.Action.TheVariants.{Get, Ask, Wait, TakeTurn, PassTurn, Draw, Remake, Number, Shut, Store, Flush, TakeBatch, TakeNumber, FindConsumer, TakeFlow, Revive, FailConsumer, StopAll}
 use Rattle.pulsar_calls.specs.declared.act.Alarm.{Alarm}
 use Rattle.pulsar_calls.specs.declared.act.Alarm.TheVariants.{Retry, Wake, Batch, KeepAlive, CheckIdle}
-use Rattle.pulsar_calls.specs.declared.act.Arrival.{Arrival}
-use Rattle.pulsar_calls.specs.declared.act.Arrival.TheVariants as arrivals
 use Rattle.pulsar_calls.specs.declared.act.End.{End}
-use Rattle.pulsar_calls.specs.declared.act.End.TheVariants.{Unopened, Lost, Overdue, Broken, Idles, Stops}
 use Rattle.pulsar_calls.specs.declared.act.LinkAct.{LinkAct}
-use Rattle.pulsar_calls.specs.declared.act.LinkAct.TheVariants.{Opens, Reads, Drains, Pings, Ends}
+use Rattle.pulsar_calls.specs.declared.act.LinkAct.TheVariants.{Reads, Ends}
 use Rattle.pulsar_calls.specs.declared.act.Makes.{Makes}
 use Rattle.pulsar_calls.specs.declared.act.Makes.TheVariants.{Nothing, Client, Consumer, RawConsumer, Producer}
 use Rattle.pulsar_calls.specs.declared.act.Outcome.{Outcome}
@@ -52,7 +39,7 @@ use Rattle.pulsar_procedures.specs.declared.plan.Turn.TheVariants.{Stays, Gives}
 use Rattle.pulsar_tables.specs.Alarms.{clear, rings, set}
 use Rattle.pulsar_calls.specs.Content as content
 use Rattle.pulsar_calls.specs.Content.{Heard, Called, Opened, FailedToOpen, Bytes, Drain, Ticked, Poll, lacks_tickets, shares}
-use Rattle.pulsar_tables.specs.Links.{Change, Remains, Becomes, IsOver, arrival, change_by, change_in, closed_by, settled_in}
+use Rattle.pulsar_tables.specs.Links.{Change, Remains, Becomes, IsOver, change_by}
 use Rattle.pulsar_tables.specs.Links as links
 use Rattle.pulsar_procedures.specs.Plan.{begins, told}
 use Rattle.pulsar_producer_table.specs.Producers.{Producers, called_on, changed, halted, is_bare, joined, link_at, none, numbered, numbers_at, shut, timeout_at, topic_after}
@@ -63,6 +50,7 @@ use Rattle.pulsar_consumer_table.specs.Consumers.{Consumers, IsHeard, Member}
 use Rattle.pulsar_consumer.specs.Topic as reader
 use Rattle.pulsar_consumer.specs.Topic.{of_raw}
 use Rattle.pulsar_calls.specs.Who.{is_same, rank, ticket_of, turn_of}
+use Rattle.pulsar_tables.specs.Seats.{Seat, Links, Base, nobody, Addresses, later, seat_fed, seat_of_fresh, arrival_at, closing, took_some, is_busy, answer_at, is_asked, seat_asked, got_at, may_retry, pause_with, base_turned, base_dialed, is_for, pause_put, url_at, room_at}
 
 -- What a client's options say of a run: the address of the service, where their URL has one; the credential; how connections are
 -- attempted and kept, and how long requests wait, in milliseconds; how many frames of a link may be queued and not written; what random
@@ -91,34 +79,6 @@ pub record Tickets : Type 0 where
   pub is_built : Bool
   pub is_stopped : Bool
 
--- A link that has not ended: the address that it is for, what is seen of it, and for each place whose request waits, or stands in the
--- line and has a reply, who asked for it; the moment at which it was last got; and the place of the ping that was asked for to keep it
--- alive, while that waits, be it queued or in the line.
-pub record Seat : Type 0 where
-  pub address : Place
-  pub seen : Seen
-  pub askers : ℕ → Option Who
-  pub got : ℕ
-  pub ping : Option ℕ
-
--- the links: how many were started, and those of them that have not ended
-pub record Links : Type 0 where
-  pub started : ℕ
-  pub live : ℕ → Option Seat
-
--- an address: what runs for it, and who waits for that
-pub record Base : Type 0 where
-  pub series : Series
-  pub waiting : List Who
-
-abbrev pub nobody : Base
-nobody = record { series = Nobody; waiting = [] }
-
--- the addresses, each by its key; and by the link whose attempt failed, the attempts that are to follow
-pub record Addresses : Type 0 where
-  pub base : (key : List ℕ) → Base
-  pub pause : (link : ℕ) → Option Pause
-
 -- all: the options, the clock, where each plan stands, the calls, the links, the addresses, the alarms, the consumers, and the producers
 pub record View : Type 0 where
   pub chosen : Chosen
@@ -145,10 +105,6 @@ new o =
       consumers = consumer.none o.chosen.first_number;
       producers = none o.chosen.first_number;
     }
-
--- a moment that is so far from another
-abbrev pub later : (now delay : ℕ) → ℕ
-later now delay = capped (now + delay)
 
 -- how the client looks for brokers, where it has an address
 abbrev pub ways_from : OperationRetryOptions → Place → Ways
@@ -179,10 +135,6 @@ is_live v (content.Lost l) = is_at is_open (v.links.live l)
 is_live v (Drain l most) = is_at is_open (v.links.live l)
 is_live v (Ticked now) = nat_le v.now now
 is_live v (Poll t) = is_some (v.consumers.rows t)
-
--- a piece of bytes is fed as its event begins
-abbrev pub seat_fed : (piece : List ℕ) → Seat → Seat
-seat_fed piece seat = record seat { seen = session.after (Feeds piece) seat.seen }
 
 abbrev pub live_begun : Heard → ℕ → Option Seat → Option Seat
 live_begun (Bytes k piece) l row = if l == k then option_map (seat_fed piece) row else row
@@ -270,104 +222,8 @@ setup o link now p =
       made = now;
     }
 
-abbrev pub seat_of_fresh : Place → (now : ℕ) → Seen → Seat
-seat_of_fresh p now seen = record { address = p; seen = seen; askers = λ place. None; got = now; ping = None }
-
 abbrev pub dialed : Chosen → (link now : ℕ) → Place → Seat
 dialed o link now p = seat_of_fresh p now (session.fresh (setup o link now p))
-
--- what the frame in front of a link is, and why an end closes it: nothing comes to one that has ended
-abbrev pub arrival_at : Option Seat → Arrival
-arrival_at None = arrivals.Nothing
-arrival_at (Some seat) = arrival seat.seen
-
-abbrev pub closing : End → (now : ℕ) → Option Seat → Option Fault
-closing end now None = None
-closing end now (Some seat) = closed_by end now seat.seen
-
--- those whose requests are settled are no askers any more
-abbrev pub askers_left : (settled : List ℕ) → (ℕ → Option Who) → ℕ → Option Who
-askers_left settled askers place = if list_any (λ p. p == place) settled then None else askers place
-
--- the place of a frame that is asked for
-abbrev pub place_of : Result Asked ConnectionError → Option ℕ
-place_of (Ok (asked.Queued place)) = Some place
-place_of (Ok (asked.Waiting place)) = Some place
-place_of (Err e) = None
-
--- a link counts as got when it becomes ready: those who waited get it then
-abbrev pub got_since : Change → (now got : ℕ) → ℕ
-got_since Remains now got = got
-got_since Becomes now got = now
-got_since IsOver now got = got
-
--- the ping waits until its place is settled
-abbrev pub ping_left : (settled : List ℕ) → Option ℕ → Option ℕ
-ping_left settled None = None
-ping_left settled (Some place) = if list_any (λ p. p == place) settled then None else Some place
-
-abbrev pub seat_read : (now : ℕ) → Seat → Seat
-seat_read now seat =
-    record {
-      address = seat.address;
-      seen = links.after Reads now seat.seen;
-      askers = askers_left (settled_in (came seat.seen)) seat.askers;
-      got = got_since (change_in (arrival seat.seen)) now seat.got;
-      ping = ping_left (settled_in (came seat.seen)) seat.ping;
-    }
-
--- a link is forgotten where it ends
-abbrev pub took_end : Option Fault → Seat → Option Seat
-took_end None seat = Some seat
-took_end (Some cause) seat = None
-
-abbrev pub took : LinkAct → (now : ℕ) → Seat → Option Seat
-took Opens now seat = Some (record seat { seen = links.after Opens now seat.seen })
-took Reads now seat = Some (seat_read now seat)
-took (Drains most) now seat = Some (record seat { seen = links.after (Drains most) now seat.seen })
-took Pings now seat = Some (record seat { seen = links.after Pings now seat.seen; ping = place_of (session.asked now SendPing seat.seen) })
-took (Ends end) now seat = took_end (closed_by end now seat.seen) seat
-
-abbrev pub took_some : LinkAct → (now : ℕ) → Option Seat → Option Seat
-took_some x now None = None
-took_some x now (Some seat) = took x now seat
-
--- a link was started, and has ended
-abbrev pub has_ended : ℕ → Links → Bool
-has_ended l ls = nat_lt l ls.started && is_none (ls.live l)
-
--- a request waits on a link that has not ended
-abbrev pub is_busy : Option Seat → Bool
-is_busy None = false
-is_busy (Some seat) = not (is_empty seat.seen.waits.waiting)
-
--- what becomes of a request that is asked for on a link: it is refused where there is no such link
-abbrev pub answer_at : (now : ℕ) → Words → Option Seat → Result Asked ConnectionError
-answer_at now request None = Err error.Disconnected
-answer_at now request (Some seat) = session.asked now request seat.seen
-
--- it is asked for, be it queued or in the line
-abbrev pub is_asked : Result Asked ConnectionError → Bool
-is_asked (Ok asked) = true
-is_asked (Err e) = false
-
--- who asks for a frame that has a reply is the asker of its place
-abbrev pub asker_at : (is_asker : Bool) → Who → (place : Option ℕ) → (ℕ → Option Who) → ℕ → Option Who
-asker_at is_asker who None askers p = askers p
-asker_at is_asker who (Some place) askers p = if is_asker then (if p == place then Some who else askers p) else askers p
-
-abbrev pub seat_asked : Who → (now : ℕ) → Words → Seat → Seat
-seat_asked who now request seat =
-    record {
-      address = seat.address;
-      seen = session.after (Asks now request) seat.seen;
-      askers = asker_at (is_awaited request) who (place_of (session.asked now request seat.seen)) seat.askers;
-      got = seat.got;
-      ping = seat.ping;
-    }
-
-abbrev pub seat_got : (now : ℕ) → Seat → Seat
-seat_got now seat = record seat { got = now }
 
 -- the link that serves an address, where one does
 abbrev pub serving : Series → Option ℕ
@@ -380,10 +236,6 @@ serving (Serves link) = Some link
 abbrev pub link_got : Addresses → Act → Option ℕ
 link_got known (Does who (Get p)) = if is_reachable p then serving (known.base (address_key p)).series else None
 link_got known _ = None
-
-abbrev pub got_at : Option ℕ → (now : ℕ) → ℕ → Option Seat → Option Seat
-got_at None now l row = row
-got_at (Some k) now l row = if l == k then option_map (seat_got now) row else row
 
 abbrev pub live_after : Chosen → Addresses → (now started : ℕ) → Act → ℕ → Option Seat → Option Seat
 live_after o known now started (Comes (ToLink k x)) l row = if l == k then took_some x now row else row
@@ -406,31 +258,6 @@ pub record Turned : Type 0 where
   pub key : List ℕ
   pub change : Change
   pub pause : Option Pause
-
--- an attempt that ended so may go well another time
-abbrev pub is_passing : IoKind → Bool
-is_passing ConnectionRefused = true
-is_passing TimedOut = true
-is_passing Other = false
-
-abbrev pub is_retryable : End → Bool
-is_retryable (Unopened kind) = is_passing kind
-is_retryable Lost = false
-is_retryable (Overdue below) = true
-is_retryable (Broken cause) = false
-is_retryable Idles = false
-is_retryable Stops = false
-
--- An attempt is made again where that may help, and fewer retries were made than the options allow: for the one who started the series,
--- behind so many retries.
-abbrev pub may_retry : (most : ℕ) → End → Series → Option (Who × ℕ)
-may_retry most end Nobody = None
-may_retry most end (Runs starter retries link) = if is_retryable end && nat_lt retries most then Some (starter, retries) else None
-may_retry most end (Pauses link) = None
-may_retry most end (Serves link) = None
-
-abbrev pub pause_with : Place → Who × ℕ → Pause
-pause_with p w = record { address = p; starter = w.0; retries = w.1 }
 
 abbrev pub pause_of : Chosen → End → Place → Series → Option Pause
 pause_of o end p s = option_map (pause_with p) (may_retry o.connection.max_retries end s)
@@ -459,19 +286,6 @@ delay_with o l retries = backoff o.connection.min_backoff o.connection.max_backo
 abbrev pub delay_of : Chosen → (link : ℕ) → Pause → ℕ
 delay_of o l p = delay_with o l p.retries
 
--- THE ADDRESSES
-
--- a link that becomes ready serves those who wait for its address, and all who get it later; where a link ends nobody serves, and where
--- another attempt is to follow it is waited for
-abbrev pub base_over : (link : ℕ) → Option Pause → Base → Base
-base_over l None b = nobody
-base_over l (Some p) b = record { series = Pauses l; waiting = b.waiting }
-
-abbrev pub base_turned : (link : ℕ) → Change → Option Pause → Base → Base
-base_turned l Remains pause b = b
-base_turned l Becomes pause b = record { series = Serves l; waiting = [] }
-base_turned l IsOver pause b = base_over l pause b
-
 abbrev pub base_on : Option Turned → (key : List ℕ) → Base → Base
 base_on None key b = b
 base_on (Some t) key b = if bytes_eq t.key key then base_turned t.link t.change t.pause b else b
@@ -483,21 +297,9 @@ waits_for (Runs starter retries link) who ws = ws ++ who ∷ []
 waits_for (Pauses link) who ws = ws ++ who ∷ []
 waits_for (Serves link) who ws = ws
 
-abbrev pub base_waiting : Who → Base → Base
-base_waiting who b = record { series = b.series; waiting = b.waiting ++ who ∷ [] }
-
 abbrev pub base_got : Who → Place → (key : List ℕ) → Base → Base
 base_got who p key b =
     if is_reachable p && bytes_eq (address_key p) key then record { series = b.series; waiting = waits_for b.series who b.waiting } else b
-
-abbrev pub base_dialed : (link : ℕ) → Place → Who → (retries : ℕ) → (key : List ℕ) → Base → Base
-base_dialed l p starter retries key b =
-    if bytes_eq (address_key p) key then record { series = Runs starter retries l; waiting = b.waiting } else b
-
--- with the stop no attempt follows: an address waits for none where an alarm is set for it
-abbrev pub is_for : (key : List ℕ) → Option Pause → Bool
-is_for key None = false
-is_for key (Some p) = bytes_eq (address_key p.address) key
 
 abbrev pub is_to_follow : Addresses → (key : List ℕ) → Alarm → Bool
 is_to_follow known key (Retry l) = is_for key (known.pause l)
@@ -515,10 +317,6 @@ base_after v (Does who (Get p)) key b = base_got who p key b
 base_after v (Does who StopAll) key b = if waits_on v.addresses v.alarms key then nobody else b
 base_after v (Dials p starter retries) key b = base_dialed v.links.started p starter retries key b
 base_after v _ key b = b
-
-abbrev pub pause_put : Option Pause → (link : ℕ) → ℕ → Option Pause → Option Pause
-pause_put None k l row = row
-pause_put (Some p) k l row = if l == k then Some p else row
 
 abbrev pub pause_on : Option Turned → ℕ → Option Pause → Option Pause
 pause_on None l row = row
@@ -603,12 +401,6 @@ alarms_after v (Does who StopAll) = []
 alarms_after v (Answers who verdict) = alarms_built v.now (not v.calls.is_built && builds verdict.makes false) v.alarms
 alarms_after v _ = v.alarms
 
--- CONSUMERS
-
--- the address of a link that has not ended
-abbrev pub url_at : Option Seat → Option Parts
-url_at row = option_map (λ seat. seat.address.url) row
-
 -- they hear the frames of their link, and its end, and where their own close is asked for
 abbrev pub hears_ask : (link now : ℕ) → Words → Option Seat → Member → Member
 hears_ask l now request row m = consumer.closes (closed_consumer request) l (is_asked (answer_at now request row)) m
@@ -653,16 +445,6 @@ consumers_after v (Does w (FailConsumer f)) = consumer.changed (ticket_of w) (co
 consumers_after v (Does w StopAll) = consumer.all_changed consumer.stopped v.consumers
 consumers_after v (Answers w verdict) = consumers_left w (consumers_made v.links.live w verdict.makes v.consumers)
 consumers_after v _ = v.consumers
-
--- PRODUCERS
-
--- whether there is room on a link, where it is ready
-abbrev pub room_in : Seat → Option Bool
-room_in seat = if is_ready seat.seen.stage then Some (has_room seat.seen) else None
-
-abbrev pub room_at : Option Seat → Option Bool
-room_at None = None
-room_at (Some seat) = room_in seat
 
 -- and on that of a topic producer
 abbrev pub room_on : (ℕ → Option Seat) → Option ℕ → Option Bool

@@ -3,7 +3,7 @@
 ghost use Rattle.std.specs.Prelude.{◌≡◌, ◌++◌, IfOk, OnOk, map};
 ghost use Rattle.pulsar_tables.specs.Address.{base_in};
 ghost use Rattle.pulsar_calls.specs.Content.{shown};
-ghost use Rattle.pulsar_tables.specs.Effects.{connects};
+ghost use Rattle.pulsar_tables.specs.LinkEffects.{connects};
 ghost use Rattle.pulsar_addresses.specs.Address.{base_of};
 
 use pulsar_addresses::address::BrokerAddress;

@@ -6,8 +6,8 @@ ghost use Rattle.pulsar_addresses.specs.Address.{address_key};
 ghost use Rattle.pulsar_tables.specs.Kept.{addresses_of, base_at, base_of, follows_at, pause_at};
 ghost use Rattle.pulsar_tables.specs.Links.{Becomes};
 ghost use Rattle.pulsar_calls.specs.Notices.{notice};
-ghost use Rattle.pulsar_tables.specs.Rules.{failed, failed_at, failed_over, failed_so, fails_so, served_by, stopped_at};
-ghost use Rattle.pulsar_tables.specs.View.{base_dialed, base_over, base_turned, base_waiting, is_for, is_passing, is_retryable, may_retry, nobody, pause_put};
+ghost use Rattle.pulsar_tables.specs.LinkRules.{failed, failed_at, failed_over, failed_so, fails_so, served_by, stopped_at};
+ghost use Rattle.pulsar_tables.specs.Seats.{base_dialed, base_over, base_turned, base_waiting, is_for, is_passing, is_retryable, may_retry, nobody, pause_put};
 
 use pulsar_addresses::content::Address;
 use pulsar_calls::act::{End, Notice, Outcome, Who};

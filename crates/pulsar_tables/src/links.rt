@@ -7,14 +7,15 @@ ghost use Rattle.std.specs.List.Sorted.{IsStrictlySortedBy};
 ghost use Rattle.std.specs.Option.{is_some, option_map};
 ghost use Rattle.std.specs.Ordering.{nat_cmp};
 ghost use Rattle.pulsar_calls.specs.Content.{shown};
-ghost use Rattle.pulsar_tables.specs.Effects.{asked_at, given_at};
+ghost use Rattle.pulsar_tables.specs.LinkEffects.{asked_at, given_at};
 ghost use Rattle.pulsar_tables.specs.Due.{moment_at};
 ghost use Rattle.pulsar_tables.specs.Kept.{AreStarted, AreTimed, IsEnd, is_due, links_in, live_in, seat_of};
 ghost use Rattle.pulsar_producer_table.specs.KeptProducers.{producers_of};
 ghost use Rattle.pulsar_requests.specs.Soonest.{has_come};
 ghost use Rattle.pulsar_consumer_table.specs.KeptConsumers.{consumers_in};
-ghost use Rattle.pulsar_tables.specs.Rules.{answered_on, due_part, idle_act_at, may_ping, moved_on, on_link, over_links, stop_act, told_at, is_idle_at};
-ghost use Rattle.pulsar_tables.specs.View.{answer_at, arrival_at, got_at, room_at, has_ended, is_asked, is_busy, seat_asked, seat_got, seat_of_fresh, seat_fed, took_some, url_at};
+ghost use Rattle.pulsar_tables.specs.Rules.{idle_act_at, is_idle_at};
+ghost use Rattle.pulsar_tables.specs.LinkRules.{answered_on, due_part, may_ping, moved_on, on_link, over_links, stop_act, told_at};
+ghost use Rattle.pulsar_tables.specs.Seats.{answer_at, arrival_at, got_at, room_at, has_ended, is_asked, is_busy, seat_asked, seat_got, seat_of_fresh, seat_fed, took_some, url_at};
 
 use crate::due::DueMoments;
 use crate::row::Row;

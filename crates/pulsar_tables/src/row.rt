@@ -12,10 +12,10 @@ ghost use Rattle.pulsar_calls.specs.Content.{shown};
 ghost use Rattle.pulsar_tables.specs.Links.{after, arrival, arrives, change_in, close, closed_by, effects, is_own_end, line_places, lost, new_places, queues, queues_at, settled_in, settles, times_out, write};
 ghost use Rattle.pulsar_calls.specs.Content.{numbers_from};
 ghost use Rattle.pulsar_tables.specs.Links as links;
-ghost use Rattle.pulsar_tables.specs.Rules as rules;
-ghost use Rattle.pulsar_tables.specs.Rules.{answered_by, dropped, ended_places, lost_with, moved_up, tells_asker, told_at};
+ghost use Rattle.pulsar_tables.specs.LinkRules as rules_low;
+ghost use Rattle.pulsar_tables.specs.LinkRules.{answered_by, dropped, ended_places, lost_with, moved_up, tells_asker, told_at};
 ghost use Rattle.pulsar_tables.specs.Kept.{seat_of, settled};
-ghost use Rattle.pulsar_tables.specs.View.{asker_at, askers_left, got_since, is_asked, later, ping_left, place_of, room_in, seat_asked, seat_of_fresh, took};
+ghost use Rattle.pulsar_tables.specs.Seats.{asker_at, askers_left, got_since, is_asked, later, ping_left, place_of, room_in, seat_asked, seat_of_fresh, took};
 
 use crate::ask::ask;
 use pulsar_addresses::content::Address;
@@ -237,7 +237,7 @@ impl Row {
         out: &mut Vec<Effect>,
     ) -> Result<(), NoMemory>
         ensures out { OnOk result (map shown out.new.items ≡ map shown out.old.items ++ lost link end.now now self.now.connection place ∷ []) }
-        ensures notices { OnOk result (notices.new.items ≡ notices.old.items ++ option_to_list (tells_asker (rules.lost end.now now self.now.connection) (seat_of self.now).askers place)) }
+        ensures notices { OnOk result (notices.new.items ≡ notices.old.items ++ option_to_list (tells_asker (rules_low.lost end.now now self.now.connection) (seat_of self.now).askers place)) }
     {
         let is_timed_out = self.times_out(end, now, place);
         out.push(Effect::Settled {
@@ -536,7 +536,7 @@ fn lost(end: &End, is_timed_out: bool) -> Outcome
 }
 
 fn lost_so(is_timed_out: bool) -> Outcome
-    ensures { result ≡ rules.lost_so is_timed_out }
+    ensures { result ≡ rules_low.lost_so is_timed_out }
 {
     if is_timed_out {
         Outcome::TimedOut

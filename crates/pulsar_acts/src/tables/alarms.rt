@@ -4,11 +4,13 @@ ghost use Rattle.std.specs.List.{flat_map, list_any};
 ghost use Rattle.std.specs.Prelude.{◌≡◌, ◌++◌, ℕ, List, map, IfOk, OnOk, if◌then◌else◌};
 ghost use Rattle.pulsar_run.specs.Order.{arranged};
 ghost use Rattle.pulsar_tables.specs.Kept.{addresses_of, base_at};
-ghost use Rattle.pulsar_tables.specs.Rules.{below, opens, rung, stopped_with, woken};
+ghost use Rattle.pulsar_tables.specs.Rules.{rung, stopped_with, woken};
+ghost use Rattle.pulsar_calls.specs.Order.{below, opens};
 ghost use Rattle.pulsar_agenda.specs.Run.{goes_on};
 ghost use Rattle.pulsar_agenda.specs.Agenda.{agenda_of};
 ghost use Rattle.pulsar_acts.specs.Tables.{rung_view, unset_view, view_of};
-ghost use Rattle.pulsar_tables.specs.View.{after, is_to_follow, later, nobody};
+ghost use Rattle.pulsar_tables.specs.View.{after, is_to_follow};
+ghost use Rattle.pulsar_tables.specs.Seats.{later, nobody};
 
 use crate::tables::Tables;
 use crate::tables::calls::tell;

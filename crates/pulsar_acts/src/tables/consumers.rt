@@ -13,7 +13,7 @@ ghost use Rattle.pulsar_tables.specs.Effects.{effects};
 ghost use Rattle.pulsar_consumer_table.specs.KeptConsumers.{consumers_in};
 ghost use Rattle.pulsar_consumer_table.specs.Consumers.{link_at, why_not};
 ghost use Rattle.pulsar_tables.specs.Reading.{acknowledges, leaves, revived_said, subscribes, subscribes_by, tells_word, unless};
-ghost use Rattle.pulsar_tables.specs.Rules.{below};
+ghost use Rattle.pulsar_calls.specs.Order.{below};
 ghost use Rattle.pulsar_agenda.specs.Run.{goes_on};
 ghost use Rattle.pulsar_agenda.specs.Agenda.{agenda_of};
 ghost use Rattle.pulsar_acts.specs.Tables.{chosen_of, view_of};

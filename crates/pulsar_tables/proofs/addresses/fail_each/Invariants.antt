@@ -1,5 +1,5 @@
 use Rattle.std.proofs.Common.{◌≡◌, ◌++◌, map, take}
-use Rattle.pulsar_tables.specs.Rules.{failed}
+use Rattle.pulsar_tables.specs.LinkRules.{failed}
 use Rattle.pulsar_tables.proofs.addresses.fail_each.Given as goal
 
 abbrev pub invariant-loop-who : goal.invariant-loop-who

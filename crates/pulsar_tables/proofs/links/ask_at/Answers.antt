@@ -3,7 +3,7 @@ use Rattle.std.specs.BTreeMap.{get}
 use Rattle.std.specs.Option.{IsSome, option_map}
 use Rattle.std.specs.Ordering.{nat_cmp}
 use Rattle.pulsar_tables.specs.Kept.{live_in, seat_of}
-use Rattle.pulsar_tables.specs.View.{seat_asked}
+use Rattle.pulsar_tables.specs.Seats.{seat_asked}
 use Rattle.pulsar_tables.proofs.Timing.{changed, seats}
 use Rattle.pulsar_tables.proofs.links.ask_at.Goals as goal
 

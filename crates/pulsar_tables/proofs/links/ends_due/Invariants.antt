@@ -1,7 +1,7 @@
 use Rattle.std.proofs.Common.{◌≡◌}
 use Rattle.std.specs.List.{flat_map}
 use Rattle.pulsar_tables.specs.Kept.{live_in}
-use Rattle.pulsar_tables.specs.Rules.{due_part, on_link}
+use Rattle.pulsar_tables.specs.LinkRules.{due_part, on_link}
 use Rattle.pulsar_tables.proofs.links.ends_due.Given as goal
 
 abbrev pub invariant-loop-link : goal.invariant-loop-link

@@ -3,7 +3,7 @@ use Rattle.pulsar_requests.specs.Waits.{is_empty}
 use Rattle.pulsar_session.specs.Link.{is_ready}
 use Rattle.pulsar_consumer_table.specs.Consumers.{is_heard}
 use Rattle.pulsar_consumer_table.specs.KeptConsumers.{consumers_in}
-use Rattle.pulsar_tables.specs.View.{later}
+use Rattle.pulsar_tables.specs.Seats.{later}
 use Rattle.pulsar_tables.proofs.Idle.{idle_is}
 use Rattle.pulsar_tables.proofs.links.is_idle.Goals as goal
 

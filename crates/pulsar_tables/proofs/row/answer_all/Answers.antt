@@ -4,7 +4,7 @@ use Rattle.std.specs.List.{filter_map}
 use Rattle.std.specs.Option.{option_to_list}
 use Rattle.std.specs.Ordering.{nat_cmp}
 use Rattle.pulsar_calls.specs.declared.act.Outcome.TheVariants.{Replied}
-use Rattle.pulsar_tables.specs.Rules.{tells_asker}
+use Rattle.pulsar_tables.specs.LinkRules.{tells_asker}
 use Rattle.pulsar_calls.proofs.Lists.{filter_map_end}
 use Rattle.pulsar_tables.proofs.row.answer_all.Goals as goal
 

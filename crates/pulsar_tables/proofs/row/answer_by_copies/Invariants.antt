@@ -3,7 +3,7 @@ use Rattle.std.specs.BTreeMap.{get}
 use Rattle.std.specs.List.{filter_map}
 use Rattle.std.specs.Ordering.{nat_cmp}
 use Rattle.pulsar_calls.specs.declared.act.Outcome.TheVariants.{Replied}
-use Rattle.pulsar_tables.specs.Rules.{tells_asker}
+use Rattle.pulsar_tables.specs.LinkRules.{tells_asker}
 use Rattle.pulsar_tables.proofs.row.answer_by_copies.Given as goal
 
 abbrev pub invariant-loop-place : goal.invariant-loop-place

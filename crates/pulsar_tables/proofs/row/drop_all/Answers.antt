@@ -4,7 +4,7 @@ use Rattle.std.specs.List.{filter_map}
 use Rattle.std.specs.Option.{option_to_list}
 use Rattle.std.specs.Ordering.{nat_cmp}
 use Rattle.pulsar_calls.specs.Content.{numbers_from}
-use Rattle.pulsar_tables.specs.Rules.{dropped, tells_asker}
+use Rattle.pulsar_tables.specs.LinkRules.{dropped, tells_asker}
 use Rattle.pulsar_consumer_table.proofs.Places.{next_place}
 use Rattle.pulsar_tables.proofs.row.drop_all.Goals as goal
 

@@ -3,7 +3,7 @@ use Rattle.std.specs.BTreeMap.{get}
 use Rattle.std.specs.List.{filter_map}
 use Rattle.std.specs.Ordering.{nat_cmp}
 use Rattle.pulsar_calls.specs.Content.{numbers_from}
-use Rattle.pulsar_tables.specs.Rules.{dropped, tells_asker}
+use Rattle.pulsar_tables.specs.LinkRules.{dropped, tells_asker}
 use Rattle.pulsar_tables.proofs.row.drop_all.Given as goal
 
 abbrev pub invariant-loop-place : goal.invariant-loop-place

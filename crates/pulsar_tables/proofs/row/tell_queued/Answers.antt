@@ -5,7 +5,7 @@ use Rattle.std.specs.Option.{option_to_list}
 use Rattle.std.specs.Ordering.{nat_cmp}
 use Rattle.pulsar_calls.specs.declared.act.Outcome.TheVariants.{Queued}
 use Rattle.pulsar_calls.specs.Content.{numbers_from}
-use Rattle.pulsar_tables.specs.Rules.{tells_asker}
+use Rattle.pulsar_tables.specs.LinkRules.{tells_asker}
 use Rattle.pulsar_consumer_table.proofs.Places.{next_place}
 use Rattle.pulsar_tables.proofs.row.tell_queued.Goals as goal
 

@@ -4,7 +4,7 @@ use Rattle.std.specs.List.{filter_map}
 use Rattle.std.specs.Ordering.{nat_cmp}
 use Rattle.pulsar_calls.specs.declared.act.Outcome.TheVariants.{Queued}
 use Rattle.pulsar_calls.specs.Content.{numbers_from}
-use Rattle.pulsar_tables.specs.Rules.{tells_asker}
+use Rattle.pulsar_tables.specs.LinkRules.{tells_asker}
 use Rattle.pulsar_tables.proofs.row.tell_queued.Given as goal
 
 abbrev pub invariant-loop-place : goal.invariant-loop-place

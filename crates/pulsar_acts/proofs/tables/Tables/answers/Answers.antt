@@ -4,7 +4,7 @@ use Rattle.std.proofs.lemmas.Result.{on_ok_weaker}
 use Rattle.std.specs.Option.{option_to_list}
 use Rattle.pulsar_run.specs.Order.{put_all}
 use Rattle.pulsar_tables.specs.Reading.{made_due}
-use Rattle.pulsar_tables.specs.Rules.{below}
+use Rattle.pulsar_calls.specs.Order.{below}
 use Rattle.pulsar_agenda.specs.Run.{Agenda}
 use Rattle.pulsar_agenda.specs.Agenda.{agenda_of}
 use Rattle.pulsar_tables.specs.View.{View, consumers_left, consumers_made, producers_made}

@@ -4,7 +4,8 @@ use Rattle.pulsar_calls.specs.declared.act.Alarm.{Alarm}
 use Rattle.pulsar_tables.specs.Kept.{base_at}
 use Rattle.pulsar_tables.specs.Rules.{stopped_with}
 use Rattle.pulsar_acts.specs.Tables.{view_of}
-use Rattle.pulsar_tables.specs.View.{is_to_follow, nobody}
+use Rattle.pulsar_tables.specs.View.{is_to_follow}
+use Rattle.pulsar_tables.specs.Seats.{nobody}
 use Rattle.pulsar_calls.proofs.Lists.{any_map, flat_map_of}
 use Rattle.pulsar_acts.proofs.tables.Tables.stop_alarms.Goals as goal
 

@@ -1,5 +1,5 @@
 use Rattle.std.proofs.Common.{◌∙◌}
-use Rattle.pulsar_tables.specs.Rules.{stop_act}
+use Rattle.pulsar_tables.specs.LinkRules.{stop_act}
 use Rattle.pulsar_tables.proofs.Timing.{all_live}
 use Rattle.pulsar_tables.proofs.links.Links.stop_acts.Goals as goal
 

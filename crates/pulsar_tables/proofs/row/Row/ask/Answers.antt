@@ -2,7 +2,7 @@ use Rattle.std.proofs.Common.{◌∙◌, ap}
 use Rattle.std.specs.BTreeMap.{get}
 use Rattle.std.specs.Ordering.{nat_cmp}
 use Rattle.pulsar_link.specs.Request.{is_awaited}
-use Rattle.pulsar_tables.specs.View.{asker_at, place_of}
+use Rattle.pulsar_tables.specs.Seats.{asker_at, place_of}
 use Rattle.pulsar_tables.proofs.row.Row.ask.Goals as goal
 
 pub returns-clause-sees : goal.returns-clause-sees

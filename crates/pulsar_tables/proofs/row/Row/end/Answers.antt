@@ -5,7 +5,7 @@ use Rattle.std.specs.Option.{option_to_list}
 use Rattle.std.specs.Ordering.{nat_cmp}
 use Rattle.pulsar_calls.specs.Content.{shown}
 use Rattle.pulsar_tables.specs.Links as links
-use Rattle.pulsar_tables.specs.Rules.{lost, tells_asker}
+use Rattle.pulsar_tables.specs.LinkRules.{lost, tells_asker}
 use Rattle.pulsar_calls.proofs.Lists.{filter_map_end}
 use Rattle.pulsar_tables.proofs.row.Row.end.Goals as goal
 

@@ -4,7 +4,7 @@ use Rattle.std.specs.List.{filter_map}
 use Rattle.std.specs.Ordering.{nat_cmp}
 use Rattle.pulsar_calls.specs.Content.{shown}
 use Rattle.pulsar_tables.specs.Links as links
-use Rattle.pulsar_tables.specs.Rules.{lost, tells_asker}
+use Rattle.pulsar_tables.specs.LinkRules.{lost, tells_asker}
 use Rattle.pulsar_tables.proofs.row.Row.end.Given as goal
 
 abbrev pub invariant-loop-place : goal.invariant-loop-place
